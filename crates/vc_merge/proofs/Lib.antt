@@ -1,0 +1,5 @@
+pub mod Lists
+pub mod Scripts
+pub mod Chains
+pub mod Runs
+pub mod Extending

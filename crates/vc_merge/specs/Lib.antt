@@ -1,0 +1,7 @@
+pub mod Ascending
+pub mod Script
+pub mod Chain
+pub mod Count
+pub mod Building
+pub mod Both
+pub mod Progress

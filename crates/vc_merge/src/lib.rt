@@ -1,0 +1,7 @@
+// The merge of two ascending lists, event by event, and what stands around it.
+#![tactic(auto)]
+
+pub mod iterators;
+mod linear;
+pub mod merge;
+pub mod states;
