@@ -7,6 +7,10 @@ use std::alloc::{AllocError, Allocator};
 use std::marker::Model;
 use std::mem;
 
+mod small;
+
+pub use small::{close, open};
+
 /// A list that is built out of another one: its elements are taken over from the front, dropped or handed out,
 /// and new ones are put between.
 ///
