@@ -18,3 +18,10 @@ module _ {T : Type 0} where
       let left : drop (i + 1) xs ≡ drop 1 (drop i xs) = grind (arith, common_steps, drop-drop 1 i xs) in
       let same : room + 1 - 1 ≡ room = omega arith in
       rw (more, left, same, append_assoc) refl
+
+  -- one more element was dropped
+  pub dropped-next : (built xs : List T) (room i : ℕ) → builder built (drop 1 (drop i xs)) (room + i + 1) ≡ builder built (drop (i + 1) xs) (room + (i + 1))
+  dropped-next built xs room i =
+      let left : drop (i + 1) xs ≡ drop 1 (drop i xs) = grind (arith, common_steps, drop-drop 1 i xs) in
+      let same : room + (i + 1) ≡ room + i + 1 = omega arith in
+      rw (left, same) refl

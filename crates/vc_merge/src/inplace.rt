@@ -3,10 +3,12 @@ ghost use Rattle.std.specs.Prelude.{◌≡◌, ◌+◌, ◌-◌, ◌^◌, ◌<�
 ghost use Rattle.std.specs.Borrow.{sem};
 ghost use Rattle.vc_merge.specs.Builder.{builder};
 
+use block::Block;
 use std::alloc::{AllocError, Allocator};
 use std::marker::Model;
-use std::mem;
 
+mod block;
+mod places;
 mod small;
 
 pub use small::{close, open};
@@ -29,24 +31,25 @@ pub use small::{close, open};
 /// both.take(1);
 /// assert!(rt; both.finish().as_slice() == [1, 10, 4].as_slice());
 /// ```
-#[derive(Drop)]
 pub struct InPlace<T, A: Allocator> {
-    built: Vec<T, A>,
-    rest: Vec<T, A>,
-    room: usize,
+    block: Block<T, A>,
+    // Empty, with room for all that the block holds, so that `finish` takes no memory.
+    finished: Vec<T, A>,
 }
 
 impl<T, A: Allocator> Model for InPlace<T, A> {
-    ghost use Rattle.std.specs.Prelude.{◌+◌, ◌≤◌, vec_len, vec_capacity};
-    ghost use Rattle.vc_merge.specs.Builder.{Builder, builder, builder_code};
+    ghost use Rattle.std.specs.Prelude.{◌≡◌, ◌≤◌, [], vec_capacity};
+    ghost use Rattle.vc_merge.specs.Builder.{Builder, builder_code};
 
     ghost Value = { Builder T };
 
     ghost coded = { builder_code T.code };
 
-    ghost view = { λ s. builder s.built.items s.rest.items s.room };
+    ghost use Rattle.vc_merge.specs.Block.{IsBlock, block_view};
 
-    ghost invariant = { λ s. vec_len s.built + vec_len s.rest + s.room ≤ vec_capacity s.built };
+    ghost view = { λ s. block_view s.block };
+
+    ghost invariant = { λ s. IsBlock s.block × (s.finished.items ≡ []) × (s.block.capacity ≤ vec_capacity s.finished) };
 }
 
 impl<T, A: Allocator> InPlace<T, A> {
@@ -70,13 +73,11 @@ impl<T, A: Allocator> InPlace<T, A> {
         if usize::MAX - list.len() < extra {
             return Err(AllocError);
         }
-        let built = Vec::with_capacity(alloc, list.len() + extra)?;
-        let rest = mem::replace(list, Vec::new(alloc));
-        Ok(InPlace {
-            built,
-            rest,
-            room: extra,
-        })
+        let capacity = list.len() + extra;
+        let finished = Vec::with_capacity(alloc, capacity)?;
+        let mut block = Block::with_capacity(alloc, capacity)?;
+        block.fill(list);
+        Ok(InPlace { block, finished })
     }
 
     /// The elements that are left, in their order.
@@ -84,7 +85,7 @@ impl<T, A: Allocator> InPlace<T, A> {
         ensures value { result.now ≡ self.now.rest }
         ensures fits { length self.now.built + length self.now.rest + self.now.room < 2 ^ 63 }
     {
-        self.rest.as_slice()
+        self.block.rest()
     }
 
     /// The elements that are left, for writing.
@@ -92,7 +93,12 @@ impl<T, A: Allocator> InPlace<T, A> {
         ensures* writes_back { sem 𝓛 (lends_rest T.row A.row A.Allocator self.entry result) }
         ensures value { result.now ≡ self.old.rest }
     {
-        self.rest.as_mut_slice()
+        let (base, start, count) = (
+            self.block.base,
+            self.block.start,
+            self.block.capacity - self.block.start,
+        );
+        self.block.places.slice_mut(base, start, count)
     }
 
     /// How many more elements fit: the extra places, and one for each element that was handed out or dropped,
@@ -100,7 +106,7 @@ impl<T, A: Allocator> InPlace<T, A> {
     pub fn room(&self) -> usize
         ensures { result ≡ self.now.room }
     {
-        self.room
+        self.block.start - self.block.built
     }
 
     /// Hands out the first element that is left, which makes room for one more. `None` where none is left.
@@ -109,10 +115,10 @@ impl<T, A: Allocator> InPlace<T, A> {
         ensures some { IfSome result (λ x. self.old.rest ≡ x ∷ self.new.rest) }
         ensures others { OnSome result (self.new ≡ builder self.old.built (drop 1 self.old.rest) (self.old.room + 1)) }
     {
-        if self.rest.is_empty() {
+        if self.block.start == self.block.capacity {
             return None;
         }
-        Some(self.pop_first())
+        Some(self.block.take_rest())
     }
 
     fn pop_first(&mut self) -> T
@@ -120,8 +126,7 @@ impl<T, A: Allocator> InPlace<T, A> {
         ensures value { self.old.rest ≡ result ∷ drop 1 self.old.rest }
         ensures others { self.new ≡ builder self.old.built (drop 1 self.old.rest) (self.old.room + 1) }
     {
-        self.room += 1;
-        self.rest.remove(0)
+        self.block.take_rest()
     }
 
     /// Moves the first `n` elements that are left to the end of the built ones.
@@ -129,6 +134,10 @@ impl<T, A: Allocator> InPlace<T, A> {
         requires { n ≤ length self.old.rest }
         ensures { self.new ≡ builder (self.old.built ++ take n self.old.rest) (drop n self.old.rest) self.old.room }
     {
+        if self.room() == 0 {
+            self.block.pass(n);
+            return;
+        }
         for taken in 0..n {
             let first = self.pop_first();
             self.push(first);
@@ -142,8 +151,9 @@ impl<T, A: Allocator> InPlace<T, A> {
         requires { n ≤ length self.old.rest }
         ensures { self.new ≡ builder self.old.built (drop n self.old.rest) (self.old.room + n) }
     {
-        self.rest.drain(..n);
-        self.room += n;
+        for dropped in 0..n {
+            drop(self.pop_first());
+        }
     }
 
     /// Puts an element behind the built ones.
@@ -151,8 +161,7 @@ impl<T, A: Allocator> InPlace<T, A> {
         requires { 0 < self.old.room }
         ensures { self.new ≡ builder (self.old.built ++ value ∷ []) self.old.rest (self.old.room - 1) }
     {
-        self.built.push_reserved(value);
-        self.room -= 1;
+        self.block.put_built(value);
     }
 
     /// The built elements as a list. Those that are left are dropped.
@@ -162,10 +171,19 @@ impl<T, A: Allocator> InPlace<T, A> {
         ensures { result.items ≡ self.built }
     {
         let InPlace {
-            built,
-            rest: _,
-            room: _,
+            mut block,
+            mut finished,
         } = self;
-        built
+        block.drop_rest();
+        block.pour(&mut finished);
+        block.destroy_empty();
+        finished
+    }
+}
+
+/// Each element that was built or is left is dropped once.
+impl<T: Drop, A: Allocator> Drop for InPlace<T, A> {
+    fn drop(self) {
+        let _built = self.finish();
     }
 }

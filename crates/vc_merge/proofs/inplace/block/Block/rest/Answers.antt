@@ -1,0 +1,13 @@
+use Rattle.std.proofs.Common.{sym, ◌∙◌, arith}
+use Rattle.vc_merge.specs.Block.{block_rest}
+use Rattle.vc_merge.proofs.PlacesLaid.{same_values}
+use Rattle.vc_merge.proofs.BlockSteps.{rest_run}
+use Rattle.vc_merge.proofs.inplace.block.Block.rest.Goals as goal
+
+pub slice-requires : goal.slice-requires
+slice-requires g c =
+    let b = c.args.self.now in let h = c.requires in
+    (sym h.owns.0, (omega (arith, h.bounds.1, h.bounds.3), (block_rest b, rest_run b h)))
+
+pub returns : goal.returns
+returns g c = let b = c.args.self.now in same_values c.slice.result.now (block_rest b) (sym c.slice.ensures ∙ rest_run b c.requires)
