@@ -1,5 +1,5 @@
 -- How the two lists of a builder lie in the places of its block.
-use Rattle.std.specs.Prelude.{◌≡◌, ℕ, ◌+◌, ◌-◌, ◌^◌, ◌<◌, ◌≤◌, List, length, take, drop}
+use Rattle.std.specs.Prelude.{◌≡◌, ◌+◌, ◌-◌, ◌^◌, ◌<◌, ◌≤◌, List, length, take, drop}
 use Rattle.vc_merge.specs.Builder.{Builder, builder}
 use Rattle.vc_merge.specs.Places.{values, laid}
 use Rattle.vc_merge.specs.declared.inplace.block.Block.{Block}
@@ -19,8 +19,10 @@ module _ {X A : Type 0} where
 
   -- the fields belong to one block, and the places hold the built values, a hole and the values that are left
   pub record IsBlock (b : Block X A) : Type 0 where
-    pub owns : (b.places.at ≡ b.base.ptr) × (b.deed.at ≡ b.base.ptr) × (b.deed.count ≡ b.capacity) × (b.deed.alloc ≡ b.alloc)
-    pub bounds : (b.built ≤ b.start) × (b.start ≤ b.capacity) × (b.capacity < 2 ^ 63) × (length b.places.row ≡ b.capacity)
+    pub owns : (b.places.at ≡ b.base.ptr) × (b.deed.at ≡ b.base.ptr) × (b.deed.count ≡ b.capacity) ×
+        (b.deed.alloc ≡ b.alloc)
+    pub bounds : (b.built ≤ b.start) × (b.start ≤ b.capacity) × (b.capacity < 2 ^ 63) ×
+        (length b.places.row ≡ b.capacity)
     pub counts : (b.built ≡ length (block_built b)) × (b.start + length (block_rest b) ≡ b.capacity)
     pub lies : b.places.row ≡ laid (block_built b) (b.start - b.built) (block_rest b)
 

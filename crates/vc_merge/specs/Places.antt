@@ -14,7 +14,8 @@ module _ {X : Type 0} where
 
   -- the count places from the index on hold values
   abbrev pub IsRun : List (Option X) → ℕ → ℕ → Type 0
-  IsRun places from count = (from + count ≤ length places) × ((xs : List X) × (take count (drop from places) ≡ map Some xs))
+  IsRun places from count = (from + count ≤ length places) × ((xs : List X) × (take count
+      (drop from places) ≡ map Some xs))
 
   -- the places with the values xs written over the count of them from the index on
   abbrev pub spliced : List (Option X) → ℕ → ℕ → List X → List (Option X)

@@ -13,4 +13,5 @@ with_row p row = record { mark = p.mark; at = p.at; row = row }
 -- the run of places holds what was last written through the borrow, and nothing else changes
 abbrev pub lends_run : (R : RattleType) → MutBor (Places R.Denot) → ℕ → ℕ → MutBor (List R.Denot) → Fml
 lends_run R p from count r =
-    Lends (the_row R) (Array R 0) p r (λ xs. with_row p.now (spliced p.now.row from count (refill count (values (take count (drop from p.now.row))) xs)))
+    Lends (the_row R) (Array R 0) p r (λ xs. with_row p.now (spliced p.now.row from count (refill count (values
+    (take count (drop from p.now.row))) xs)))

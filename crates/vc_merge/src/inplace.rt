@@ -187,3 +187,6 @@ impl<T: Drop, A: Allocator> Drop for InPlace<T, A> {
         let _built = self.finish();
     }
 }
+
+#[cfg(test)]
+mod tests;
