@@ -1,4 +1,8 @@
-//! The merge engine of the vector collections, and the list builder that its in-place states stand on.
+// The merge of two ascending lists, event by event, and what stands around it.
 #![tactic(auto)]
 
 pub mod inplace;
+pub mod iterators;
+mod linear;
+pub mod merge;
+pub mod states;

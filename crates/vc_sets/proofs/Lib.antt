@@ -1,0 +1,5 @@
+pub mod Members
+pub mod Selected
+pub mod Combined
+pub mod Searching
+pub mod Editing

@@ -1,0 +1,3 @@
+pub mod SetOf
+pub mod Select
+pub mod Place
