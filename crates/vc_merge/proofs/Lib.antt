@@ -9,3 +9,5 @@ pub mod PlacesShared
 pub mod Runs
 pub mod Scripts
 pub mod WalkNames
+pub mod MovesDownLemmas
+pub mod ClonesLemmas

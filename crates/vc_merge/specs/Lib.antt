@@ -11,3 +11,6 @@ pub mod PlacesLend
 pub mod PlacesOwned
 pub mod Progress
 pub mod Script
+pub mod MovesDown
+pub mod SiftViews
+pub mod InPlaceViews

@@ -5,4 +5,5 @@ pub mod inplace;
 pub mod iterators;
 mod linear;
 pub mod merge;
+pub mod moving;
 pub mod states;
