@@ -1,5 +1,13 @@
-pub mod Lists
-pub mod Scripts
+pub mod BlockSteps
+pub mod BuilderTakes
 pub mod Chains
-pub mod Runs
 pub mod Extending
+pub mod Lists
+pub mod PlacesLaid
+pub mod PlacesMemory
+pub mod PlacesShared
+pub mod Runs
+pub mod Scripts
+pub mod WalkNames
+pub mod MovesDownLemmas
+pub mod ClonesLemmas
