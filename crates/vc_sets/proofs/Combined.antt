@@ -1,5 +1,6 @@
 -- A merge whose operation appends what it selects leaves what the set operation makes of the two lists.
-use Rattle.std.proofs.Common.{◌≡◌, Bool, true, false, not, List, [], ◌∷◌, ◌++◌, map, length, take, Ok, Err, ◌⊎◌, inl, inr, refl, sym, ap, subst, ◌∙◌, append_assoc, ⊎_elim}
+use Rattle.std.proofs.Common.{◌≡◌, ℕ, Result, IsOk, Bool, true, false, not, List, [], ◌∷◌, ◌++◌, map, length, take, Ok, Err, ◌⊎◌, inl, inr, refl, sym, ap, subst, ◌∙◌, append_assoc, ⊎_elim}
+use Rattle.std.specs.declared.alloc.AllocError.{AllocError}
 use mathlib.Core.Bool.{true≢false}
 use Rattle.std.proofs.lemmas.List.{append-nil}
 use Rattle.std.proofs.Math.Seq.{take-append_seam}
@@ -8,7 +9,7 @@ use Rattle.std.specs.Cmp.{IsTotalOrder}
 use Rattle.std.specs.declared.cmp.Ordering.{Ordering}
 use Rattle.std.specs.declared.cmp.Ordering.TheVariants.{Equal}
 use Rattle.vc_merge.specs.Script.{Event, left_alone, right_alone, collision, IsScript}
-use Rattle.vc_merge.specs.Chain.{Answer, Allows, allows, Run, of_left, of_right, of_both, run_events, events, IsAllowed, Step, Steps, Finishes, Stops}
+use Rattle.vc_merge.specs.Chain.{Answer, Allows, allows, Run, of_left, of_right, of_both, run_events, events, IsAllowed, Step, Steps, Finishes, Stops, IsMerged}
 use Rattle.vc_merge.specs.Both.{Both, Follows}
 use Rattle.vc_merge.specs.Building.{Extends, Built, Advances, Skips}
 use Rattle.vc_sets.specs.SetOf.{IsSetOf}
@@ -150,55 +151,107 @@ module _ {X M N : Type 0} (cmp : X → X → Ordering) (total : IsTotalOrder cmp
         (subst (λ z. AllZip (ComesFrom L R) (selected f (events w.runs)) z) (sym i) p.0.come))
         (λ w. absurd (g w.before t w.last w.allowed)) m
 
-  module _ (left right : M → List X) (both : Bool) where
-    -- the two calls at a collision
-    abbrev Meets : M → Answer → M → Type 0
-    Meets s answer t = Both (λ p r q. Advances built name L left p 1 both r q) (λ p r q. Skips built name p r q) s answer t
+  -- the two calls at a collision
+  abbrev pub Meets : (M → List X) → Bool → M → Answer → M → Type 0
+  Meets left both s answer t = Both (λ p r q. Advances built name L left p 1 both r q) (λ p r q. Skips built name p r q) s answer t
+
+  module _ (op : Allows M X X) (both : Bool) where
+    meets-adds : (f : Bool → Bool → Bool) → f true true ≡ both → (s t : M) (x y : X) (rest : List X) → op.left s ≡ x ∷ rest → Meets op.left both s (Ok true) t
+        → Adds L R (selected f (collision x y ∷ [])) (built s) (built t) × (name t ≡ name s)
+    meets-adds f e s t x y rest a h =
+        let w = both-true (λ p r q. Advances built name L op.left p 1 both r q) (λ p r q. Skips built name p r q) s t h in
+        (subst (λ l. Adds L R (selected f (collision x y ∷ [])) (built s) l) (sym w.2.2) (adds-both L R f both e (op.left s) x y rest (built s) (built w.0) a w.1.2), w.2.1 ∙ w.1.1)
+
+    meets-goes_on : (s t : M) → Meets op.left both s (Ok false) t → ⊥
+    meets-goes_on s t h = both-false (λ p r q. Advances built name L op.left p 1 both r q) (λ p r q. Skips built name p r q) (λ s t k. true≢false (sym k.0)) (λ s t k. true≢false (sym k.0)) s t h
 
     -- an operation that keeps what stands on either side alone
-    abbrev pub either_allows : Allows M X X
-    either_allows = allows left right (record { from_a = λ s n answer t. Advances built name L left s n true answer t; from_b = λ s n answer t. Advances built name R right s n true answer t; collision = Meets })
+    module _ (from_a : (s t : M) (n : ℕ) (r : Answer) → op.gives.from_a s n r t → Advances built name L op.left s n true r t)
+        (from_b : (s t : M) (n : ℕ) (r : Answer) → op.gives.from_b s n r t → Advances built name R op.right s n true r t)
+        (meets : (s t : M) (r : Answer) → op.gives.collision s r t → Meets op.left both s r t) where
+      either-adds : (s t : M) (r : Run X X) → Step op s r t → RunAdds op (keeps true true both) refl s (run_events r) t
+      unfolding RunAdds
+      either-adds s t (of_left xs) p = let d = from_a s t (length xs) (Ok true) p.allowed in (adds-lefts L R (keeps true true both) true refl (op.left s) xs (op.left t) (built s) (built t) p.front.1 d.2, d.1)
+      either-adds s t (of_right ys) p = let d = from_b s t (length ys) (Ok true) p.allowed in (adds-rights L R (keeps true true both) refl (op.right s) ys (op.right t) (built s) (built t) p.front.2 d.2, d.1)
+      either-adds s t (of_both x y) p = meets-adds (keeps true true both) refl s t x y (op.left t) p.front.0 (meets s t (Ok true) p.allowed)
+
+      either-goes_on : (s t : M) (r : Run X X) → IsAllowed op s r (Ok false) t → ⊥
+      either-goes_on s t (of_left xs) h = true≢false (sym (from_a s t (length xs) (Ok false) h).0)
+      either-goes_on s t (of_right ys) h = true≢false (sym (from_b s t (length ys) (Ok false) h).0)
+      either-goes_on s t (of_both x y) h = meets-goes_on s t (meets s t (Ok false) h)
 
     -- an operation that keeps nothing of the right side
-    abbrev pub left_allows : Allows M X X
-    left_allows = allows left right (record { from_a = λ s n answer t. Advances built name L left s n (not both) answer t; from_b = λ s n answer t. Skips built name s answer t; collision = Meets })
+    module _ (from_a : (s t : M) (n : ℕ) (r : Answer) → op.gives.from_a s n r t → Advances built name L op.left s n (not both) r t)
+        (from_b : (s t : M) (n : ℕ) (r : Answer) → op.gives.from_b s n r t → Skips built name s r t)
+        (meets : (s t : M) (r : Answer) → op.gives.collision s r t → Meets op.left both s r t) where
+      left-adds : (s t : M) (r : Run X X) → Step op s r t → RunAdds op (keeps (not both) false both) refl s (run_events r) t
+      unfolding RunAdds
+      left-adds s t (of_left xs) p = let d = from_a s t (length xs) (Ok true) p.allowed in (adds-lefts L R (keeps (not both) false both) (not both) refl (op.left s) xs (op.left t) (built s) (built t) p.front.1 d.2, d.1)
+      left-adds s t (of_right ys) p = let d = from_b s t (length ys) (Ok true) p.allowed in (adds-no_rights L R (keeps (not both) false both) refl ys (built s) (built t) d.2, d.1)
+      left-adds s t (of_both x y) p = meets-adds (keeps (not both) false both) refl s t x y (op.left t) p.front.0 (meets s t (Ok true) p.allowed)
 
-    meets-adds : (f : Bool → Bool → Bool) → f true true ≡ both → (s t : M) (x y : X) (rest : List X) → left s ≡ x ∷ rest → Meets s (Ok true) t → Adds L R (selected f (collision x y ∷ [])) (built s) (built t) × (name t ≡ name s)
-    meets-adds f e s t x y rest a h =
-        let w = both-true (λ p r q. Advances built name L left p 1 both r q) (λ p r q. Skips built name p r q) s t h in
-        (subst (λ l. Adds L R (selected f (collision x y ∷ [])) (built s) l) (sym w.2.2) (adds-both L R f both e (left s) x y rest (built s) (built w.0) a w.1.2), w.2.1 ∙ w.1.1)
+      left-goes_on : (s t : M) (r : Run X X) → IsAllowed op s r (Ok false) t → ⊥
+      left-goes_on s t (of_left xs) h = true≢false (sym (from_a s t (length xs) (Ok false) h).0)
+      left-goes_on s t (of_right ys) h = true≢false (sym (from_b s t (length ys) (Ok false) h).0)
+      left-goes_on s t (of_both x y) h = meets-goes_on s t (meets s t (Ok false) h)
 
-    meets-goes_on : (s t : M) → Meets s (Ok false) t → ⊥
-    meets-goes_on s t h = both-false (λ p r q. Advances built name L left p 1 both r q) (λ p r q. Skips built name p r q) (λ s t k. true≢false (sym k.0)) (λ s t k. true≢false (sym k.0)) s t h
+  -- what is left by a merge that keeps what stands on either side alone
+  pub either-set_of : (op : Allows M X X) (both : Bool) (s t : M) (a b c : List X) → Finishes op (both_sides cmp) s t ⊎ Stops op (both_sides cmp) s (Ok false) t
+      → ((s t : M) (n : ℕ) (r : Answer) → op.gives.from_a s n r t → Advances built name L op.left s n true r t)
+      → ((s t : M) (n : ℕ) (r : Answer) → op.gives.from_b s n r t → Advances built name R op.right s n true r t)
+      → ((s t : M) (r : Answer) → op.gives.collision s r t → Meets op.left both s r t)
+      → op.left s ≡ a → op.right s ≡ b → built s ≡ [] → (name t ≡ name s → c ≡ built t) → IsSetOf cmp L R (keeps true true both) a b c
+  either-set_of op both s t a b c m from_a from_b meets l r e k =
+      merged-set_of op (keeps true true both) refl (either-adds op both from_a from_b meets) (either-goes_on op both from_a from_b meets) s t a b c l r e k m
 
-    either-adds : (s t : M) (r : Run X X) → Step either_allows s r t → RunAdds either_allows (keeps true true both) refl s (run_events r) t
-    unfolding RunAdds
-    either-adds s t (of_left xs) p = (adds-lefts L R (keeps true true both) true refl (left s) xs (left t) (built s) (built t) p.front.1 p.allowed.2, p.allowed.1)
-    either-adds s t (of_right ys) p = (adds-rights L R (keeps true true both) refl (right s) ys (right t) (built s) (built t) p.front.2 p.allowed.2, p.allowed.1)
-    either-adds s t (of_both x y) p = meets-adds (keeps true true both) refl s t x y (left t) p.front.0 p.allowed
+  -- what is left by a merge that keeps nothing of the right side
+  pub left-set_of : (op : Allows M X X) (both : Bool) (s t : M) (a b c : List X) → Finishes op (both_sides cmp) s t ⊎ Stops op (both_sides cmp) s (Ok false) t
+      → ((s t : M) (n : ℕ) (r : Answer) → op.gives.from_a s n r t → Advances built name L op.left s n (not both) r t)
+      → ((s t : M) (n : ℕ) (r : Answer) → op.gives.from_b s n r t → Skips built name s r t)
+      → ((s t : M) (r : Answer) → op.gives.collision s r t → Meets op.left both s r t)
+      → op.left s ≡ a → op.right s ≡ b → built s ≡ [] → (name t ≡ name s → c ≡ built t) → IsSetOf cmp L R (keeps (not both) false both) a b c
+  left-set_of op both s t a b c m from_a from_b meets l r e k =
+      merged-set_of op (keeps (not both) false both) refl (left-adds op both from_a from_b meets) (left-goes_on op both from_a from_b meets) s t a b c l r e k m
 
-    either-goes_on : (s t : M) (r : Run X X) → IsAllowed either_allows s r (Ok false) t → ⊥
-    either-goes_on s t (of_left xs) h = true≢false (sym h.0)
-    either-goes_on s t (of_right ys) h = true≢false (sym h.0)
-    either-goes_on s t (of_both x y) h = meets-goes_on s t h
+-- ---- merges that are never refused
 
-    left-adds : (s t : M) (r : Run X X) → Step left_allows s r t → RunAdds left_allows (keeps (not both) false both) refl s (run_events r) t
-    unfolding RunAdds
-    left-adds s t (of_left xs) p = (adds-lefts L R (keeps (not both) false both) (not both) refl (left s) xs (left t) (built s) (built t) p.front.1 p.allowed.2, p.allowed.1)
-    left-adds s t (of_right ys) p = (adds-no_rights L R (keeps (not both) false both) refl ys (built s) (built t) p.allowed.2, p.allowed.1)
-    left-adds s t (of_both x y) p = meets-adds (keeps (not both) false both) refl s t x y (left t) p.front.0 p.allowed
+module _ {M : Type 0} (first second third fourth : M → Answer → M → Type 0) (one : (s t : M) (r : Answer) → first s r t → third s r t) (two : (s t : M) (r : Answer) → second s r t → fourth s r t) where
+  follows-weaker : (s t : M) (a r : Answer) → Follows second s a r t → Follows fourth s a r t
+  follows-weaker s t (Ok true) r h = two s t r h
+  follows-weaker s t (Ok false) r h = h
+  follows-weaker s t (Err e) r h = h
 
-    left-goes_on : (s t : M) (r : Run X X) → IsAllowed left_allows s r (Ok false) t → ⊥
-    left-goes_on s t (of_left xs) h = true≢false (sym h.0)
-    left-goes_on s t (of_right ys) h = true≢false (sym h.0)
-    left-goes_on s t (of_both x y) h = meets-goes_on s t h
+  weaker : (s t : M) (r : Answer) → Both first second s r t → Both third fourth s r t
+  weaker s t r h = record { between = h.between; answered = h.answered; first = one s h.between h.answered h.first; second = follows-weaker h.between t h.answered r h.second }
 
-    -- what is left by a merge that keeps what stands on either side alone
-    pub either-set_of : (s t : M) (a b c : List X) → left s ≡ a → right s ≡ b → built s ≡ [] → (name t ≡ name s → c ≡ built t)
-        → Finishes either_allows (both_sides cmp) s t ⊎ Stops either_allows (both_sides cmp) s (Ok false) t → IsSetOf cmp L R (keeps true true both) a b c
-    either-set_of = merged-set_of either_allows (keeps true true both) refl either-adds either-goes_on
+module _ {M : Type 0} (first second : M → Answer → M → Type 0) (one : (s t : M) (r : Answer) → first s r t → IsOk r) (two : (s t : M) (r : Answer) → second s r t → IsOk r) where
+  follows-is_ok : (s t : M) (a r : Answer) → IsOk a → Follows second s a r t → IsOk r
+  follows-is_ok s t (Ok true) r i h = two s t r h
+  follows-is_ok s t (Ok false) r i h = subst (λ a. IsOk a) (sym h.0) refl
+  follows-is_ok s t (Err e) r i h = absurd (true≢false (sym i))
 
-    -- what is left by a merge that keeps nothing of the right side
-    pub left-set_of : (s t : M) (a b c : List X) → left s ≡ a → right s ≡ b → built s ≡ [] → (name t ≡ name s → c ≡ built t)
-        → Finishes left_allows (both_sides cmp) s t ⊎ Stops left_allows (both_sides cmp) s (Ok false) t → IsSetOf cmp L R (keeps (not both) false both) a b c
-    left-set_of = merged-set_of left_allows (keeps (not both) false both) refl left-adds left-goes_on
+  is_ok : (s t : M) (r : Answer) → Both first second s r t → IsOk r
+  is_ok s t r h = follows-is_ok h.between t h.answered r (one s h.between h.answered h.first) h.second
+
+module _ {M : Type 0} (first second : M → Answer → M → Type 0) (s t : M) (r : Answer) (h : Both first second s r t) where
+  -- two calls that are never refused
+  pub both-is_ok : ((s t : M) (r : Answer) → first s r t → IsOk r) → ((s t : M) (r : Answer) → second s r t → IsOk r) → IsOk r
+  both-is_ok one two = is_ok first second one two s t r h
+
+  -- what two calls say under weaker clauses
+  pub both-weaker : (third fourth : M → Answer → M → Type 0) → ((s t : M) (r : Answer) → first s r t → third s r t) → ((s t : M) (r : Answer) → second s r t → fourth s r t) → Both third fourth s r t
+  both-weaker third fourth one two = weaker first second third fourth one two s t r h
+
+module _ {M X : Type 0} (op : Allows M X X) (order : X ⊎ X → X ⊎ X → Ordering) where
+  allowed-is_ok : ((s t : M) (n : ℕ) (r : Answer) → op.gives.from_a s n r t → IsOk r) → ((s t : M) (n : ℕ) (r : Answer) → op.gives.from_b s n r t → IsOk r) → ((s t : M) (r : Answer) → op.gives.collision s r t → IsOk r)
+      → (s t : M) (run : Run X X) (r : Answer) → IsAllowed op s run r t → IsOk r
+  allowed-is_ok a b c s t (of_left xs) r h = a s t (length xs) r h
+  allowed-is_ok a b c s t (of_right ys) r h = b s t (length ys) r h
+  allowed-is_ok a b c s t (of_both x y) r h = c s t r h
+
+  -- a merge whose events are never refused is not refused
+  pub merged-is_ok : (s t : M) (r : Result (Unit {0}) AllocError) → IsMerged op order s r t
+      → ((s t : M) (n : ℕ) (r : Answer) → op.gives.from_a s n r t → IsOk r) → ((s t : M) (n : ℕ) (r : Answer) → op.gives.from_b s n r t → IsOk r) → ((s t : M) (r : Answer) → op.gives.collision s r t → IsOk r)
+      → Finishes op order s t ⊎ Stops op order s (Ok false) t
+  merged-is_ok s t (Ok u) m a b c = m
+  merged-is_ok s t (Err e) m a b c = absurd (true≢false (sym (allowed-is_ok a b c m.before t m.last (Err e) m.allowed)))

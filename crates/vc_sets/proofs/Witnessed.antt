@@ -33,6 +33,11 @@ not_found_or : (a b : Bool) → b ≡ false → (a || b) ≡ a
 not_found_or true b e = refl
 not_found_or false b e = e
 
+module _ {X : Type 0} (cmp : X → X → Ordering) (total : IsTotalOrder cmp) where
+  -- an element itself is equal
+  pub same-equal : (x z : X) → x ≡ z → cmp x z ≡ Equal
+  same-equal x z e = subst (λ w. cmp x w ≡ Equal) e (tied_itself total x)
+
 module _ {X : Type 0} (cmp : X → X → Ordering) (total : IsTotalOrder cmp) (l r both : Bool) where
   -- whether an element is a witness
   abbrev witness : Bool → Bool → Bool
@@ -40,16 +45,13 @@ module _ {X : Type 0} (cmp : X → X → Ordering) (total : IsTotalOrder cmp) (l
 
   -- ---- the selected elements are the witnesses
 
-  same-equal : (x z : X) → x ≡ z → cmp x z ≡ Equal
-  same-equal x z e = subst (λ w. cmp x w ≡ Equal) e (tied_itself total x)
-
   come-either : (us : List (X ⊎ X)) → AllZip (ComesFrom (λ x z. x ≡ z) (λ x z. x ≡ z)) us (map (λ u. either u) us)
   come-either [] = tt
   come-either (inl x ∷ us) = (refl, come-either us)
   come-either (inr y ∷ us) = (refl, come-either us)
 
   witnesses : (a b : List X) (es : List (Event X X)) → IsScript (both_sides cmp) a b es → IsSetOf cmp (λ x z. x ≡ z) (λ x z. x ≡ z) witness a b (map (λ u. either u) (selected witness es))
-  witnesses a b es s = set_of cmp total (λ x z. x ≡ z) (λ x z. x ≡ z) same-equal same-equal witness refl a b (map (λ u. either u) (selected witness es)) es s (come-either (selected witness es))
+  witnesses a b es s = set_of cmp total (λ x z. x ≡ z) (λ x z. x ≡ z) (same-equal cmp total) (same-equal cmp total) witness refl a b (map (λ u. either u) (selected witness es)) es s (come-either (selected witness es))
 
   none_selected : (a b : List X) (es : List (Event X X)) → IsScript (both_sides cmp) a b es → selected witness es ≡ [] → (x : X) → witness (member cmp a x) (member cmp b x) ≡ false
   none_selected a b es s e x = sym ((witnesses a b es s).members x) ∙ ap (λ us. member cmp (map (λ u. either u) us) x) e

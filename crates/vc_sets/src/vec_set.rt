@@ -5,6 +5,7 @@ ghost use Rattle.vc_merge.specs.Ascending.{Ascends, member, element_at};
 ghost use Rattle.vc_sets.specs.Tests.{IsDisjoint, IsSubset};
 
 mod algebra;
+mod in_place;
 
 pub use algebra::{SetOp, SetTest, difference, intersection, symmetric_difference, union};
 use smallvec::SmallVec;

@@ -7,8 +7,8 @@ merge-requires-clause-ascend g c = rw (c.new-state.ensures.a, c.new-state.ensure
 
 pub returns-clause-combined : goal.returns-clause-combined
 returns-clause-combined g c =
-    either-set_of g.T.Ord.cmp g.met.T.Ord.total g.T.Clone.is_clone g.T.Clone.is_clone c.requires.clones c.requires.clones (λ s. s.built.now.items) (λ s. s.built.ghost_name) _ _ _ _ _ _ _ _
+    either-set_of g.T.Ord.cmp g.met.T.Ord.total g.T.Clone.is_clone g.T.Clone.is_clone c.requires.clones c.requires.clones (λ s. s.built.now.items) (λ s. s.built.ghost_name) _ _ _ _ _ _ _
+    c.in_ok-merge.ensures.merged (λ s t n r h. h) (λ s t n r h. h) (λ s t r h. h)
     c.new-state.ensures.a c.new-state.ensures.b
     (rw c.new-state.ensures.same_reference c.in_ok-built.ensures.items)
     (λ e. let k = c.new-state.ensures.same_reference in let n = ap (λ r. r.ghost_name) k in grind arith)
-    c.in_ok-merge.ensures.merged

@@ -1,0 +1,123 @@
+//! The set operations in place. Elements of the left set are moved and never cloned; of two equal elements the left one itself is kept.
+ghost use Rattle.std.specs.Prelude.{◌≡◌, ◌+◌, ◌≤◌, ◌||◌, ◌&&◌, false, true, not, take, length, OnErr, OnOk};
+ghost use Rattle.vc_merge.specs.Ascending.{Ascends};
+ghost use Rattle.vc_sets.specs.SetOf.{ClonesAreEqual, IsSetOf, and_not, exactly_one};
+ghost use Rattle.vc_sets.specs.Select.{keeps};
+
+use crate::operations::{EitherOp, LeftOp};
+use crate::vec_set::{AbstractVecSet, VecSet};
+use smallvec::SmallVec;
+use std::alloc::{AllocError, Allocator};
+use std::default::MadeWith;
+use std::ops::{BitAndAssign, SubAssign};
+use vc_merge::merge::merge;
+use vc_merge::moving::{InPlaceState, SiftState};
+use vc_merge::states::Uncounted;
+
+/// Moves what stands in the left list alone or, if `BOTH`, what stands in both, to the front of the left list. Answers how many they are.
+fn sift<const BOTH: bool, T: Ord>(list: &mut [T], that: &[T]) -> usize
+    requires left_ascends { Ascends T.cmp list.old }
+    requires right_ascends { Ascends T.cmp that.now }
+    ensures { IsSetOf T.cmp (λ x y. x ≡ y) (λ x y. x ≡ y) (keeps (not BOTH) false BOTH) list.old that.now (take result list.new) }
+{
+    let mut state = SiftState::new(list, that);
+    let _never_refused = merge(&mut state, &LeftOp::<BOTH>, &mut Uncounted);
+    state.kept()
+}
+
+/// Puts what stands in either list alone and, if `BOTH`, the left one of what stands in both, in the place of the left list.
+///
+/// The elements of the right list come in as clones. All growths and clones are made before the first element is moved.
+fn unite<const BOTH: bool, T: Ord + Clone + MadeWith<A> + Drop, const N: usize, A: Allocator + Copy>(
+    list: &mut SmallVec<T, N, A>,
+    that: &[T],
+) -> Result<(), AllocError>
+    requires left_ascends { Ascends T.cmp list.old.items }
+    requires right_ascends { Ascends T.cmp that.now }
+    requires clones { ClonesAreEqual T.cmp T.is_clone }
+    ensures ok { OnOk result (IsSetOf T.cmp (λ x y. x ≡ y) T.is_clone (keeps true true BOTH) list.old.items that.now list.new.items) }
+    ensures err { OnErr result (list.new.items ≡ list.old.items) }
+{
+    let mut state = InPlaceState::open(list, that)?;
+    let _never_refused = merge(&mut state, &EitherOp::<BOTH>, &mut Uncounted);
+    state.finish(list);
+    Ok(())
+}
+
+impl<T: Ord + MadeWith<A> + Drop, const N: usize, A: Allocator + Copy> VecSet<T, N, A> {
+    /// Keeps what is in the other set too. Takes no memory.
+    pub fn intersection_with<S: AbstractVecSet<T>>(&mut self, that: &S)
+        ensures { IsSetOf T.cmp (λ x y. x ≡ y) (λ x y. x ≡ y) ◌&&◌ self.old (S.elements that.now) self.new }
+    {
+        let kept = sift::<true, _>(self.elements.as_mut_slice(), that.as_slice());
+        self.elements.truncate(kept);
+    }
+
+    /// Keeps what is not in the other set. Takes no memory.
+    pub fn difference_with<S: AbstractVecSet<T>>(&mut self, that: &S)
+        ensures { IsSetOf T.cmp (λ x y. x ≡ y) (λ x y. x ≡ y) and_not self.old (S.elements that.now) self.new }
+    {
+        let kept = sift::<false, _>(self.elements.as_mut_slice(), that.as_slice());
+        self.elements.truncate(kept);
+    }
+}
+
+impl<T: Ord + Clone + MadeWith<A> + Drop, const N: usize, A: Allocator + Copy> VecSet<T, N, A> {
+    /// Adds what is in the other set, as clones. Of two equal elements the left one stays.
+    ///
+    /// Refused, it leaves the set as it was: all growths and clones come before the first element is moved.
+    pub fn union_with<S: AbstractVecSet<T>>(&mut self, that: &S) -> Result<(), AllocError>
+        requires clones { ClonesAreEqual T.cmp T.is_clone }
+        ensures union { OnOk result (IsSetOf T.cmp (λ x y. x ≡ y) T.is_clone ◌||◌ self.old (S.elements that.now) self.new) }
+        ensures err { OnErr result (self.new ≡ self.old) }
+    {
+        unite::<true, _, _, _>(&mut self.elements, that.as_slice())
+    }
+
+    /// Keeps what is in exactly one of the sets: drops what is in both, and adds clones of what is in the other set alone.
+    ///
+    /// Refused, it leaves the set as it was: all growths and clones come before the first element is moved.
+    pub fn xor_with<S: AbstractVecSet<T>>(&mut self, that: &S) -> Result<(), AllocError>
+        requires clones { ClonesAreEqual T.cmp T.is_clone }
+        ensures symmetric_difference { OnOk result (IsSetOf T.cmp (λ x y. x ≡ y) T.is_clone exactly_one self.old (S.elements that.now) self.new) }
+        ensures err { OnErr result (self.new ≡ self.old) }
+    {
+        unite::<false, _, _, _>(&mut self.elements, that.as_slice())
+    }
+}
+
+impl<'b, T: Ord + MadeWith<A> + Drop, const N: usize, const M: usize, A: Allocator + Copy>
+    BitAndAssign<&'b VecSet<T, M, A>> for VecSet<T, N, A> {
+    ghost bitand_assign_gives = { λ a b c. IsSetOf T.cmp (λ x y. x ≡ y) (λ x y. x ≡ y) ◌&&◌ a b.now c };
+
+    fn bitand_assign(&mut self, that: &'b VecSet<T, M, A>) {
+        self.intersection_with(that);
+    }
+}
+
+impl<'b, T: Ord + MadeWith<A> + Drop, const N: usize, const M: usize, A: Allocator + Copy>
+    SubAssign<&'b VecSet<T, M, A>> for VecSet<T, N, A> {
+    ghost sub_assign_gives = { λ a b c. IsSetOf T.cmp (λ x y. x ≡ y) (λ x y. x ≡ y) and_not a b.now c };
+
+    fn sub_assign(&mut self, that: &'b VecSet<T, M, A>) {
+        self.difference_with(that);
+    }
+}
+
+impl<T: Ord + MadeWith<A> + Drop, const N: usize, const M: usize, A: Allocator + Copy>
+    BitAndAssign<VecSet<T, M, A>> for VecSet<T, N, A> {
+    ghost bitand_assign_gives = { λ a b c. IsSetOf T.cmp (λ x y. x ≡ y) (λ x y. x ≡ y) ◌&&◌ a b c };
+
+    fn bitand_assign(&mut self, that: VecSet<T, M, A>) {
+        self.intersection_with(&that);
+    }
+}
+
+impl<T: Ord + MadeWith<A> + Drop, const N: usize, const M: usize, A: Allocator + Copy>
+    SubAssign<VecSet<T, M, A>> for VecSet<T, N, A> {
+    ghost sub_assign_gives = { λ a b c. IsSetOf T.cmp (λ x y. x ≡ y) (λ x y. x ≡ y) and_not a b c };
+
+    fn sub_assign(&mut self, that: VecSet<T, M, A>) {
+        self.difference_with(&that);
+    }
+}
