@@ -1,5 +1,5 @@
 -- A merge whose operation appends what it selects leaves what the set operation makes of the two lists.
-use Rattle.std.proofs.Common.{◌≡◌, Bool, true, false, not, ◌||◌, List, [], ◌∷◌, ◌++◌, map, length, take, Ok, Err, ◌⊎◌, inl, inr, refl, sym, ap, subst, ◌∙◌, append_assoc, ⊎_elim, IsSomeAnd, MatchBool, Option, Some, None, is_some}
+use Rattle.std.proofs.Common.{◌≡◌, Bool, true, false, not, List, [], ◌∷◌, ◌++◌, map, length, take, Ok, Err, ◌⊎◌, inl, inr, refl, sym, ap, subst, ◌∙◌, append_assoc, ⊎_elim}
 use mathlib.Core.Bool.{true≢false}
 use Rattle.std.proofs.lemmas.List.{append-nil}
 use Rattle.std.proofs.Math.Seq.{take-append_seam}
@@ -7,12 +7,11 @@ use Rattle.std.specs.List.{AllZip}
 use Rattle.std.specs.Cmp.{IsTotalOrder}
 use Rattle.std.specs.declared.cmp.Ordering.{Ordering}
 use Rattle.std.specs.declared.cmp.Ordering.TheVariants.{Equal}
-use Rattle.vc_merge.specs.Ascending.{member, element_at}
 use Rattle.vc_merge.specs.Script.{Event, left_alone, right_alone, collision, IsScript}
 use Rattle.vc_merge.specs.Chain.{Answer, Allows, allows, Run, of_left, of_right, of_both, run_events, events, IsAllowed, Step, Steps, Finishes, Stops}
 use Rattle.vc_merge.specs.Both.{Both, Follows}
 use Rattle.vc_merge.specs.Building.{Extends, Built, Advances, Skips}
-use Rattle.vc_sets.specs.SetOf.{Keeps, IsSetOf}
+use Rattle.vc_sets.specs.SetOf.{IsSetOf}
 use Rattle.vc_sets.specs.Select.{both_sides, push_if, selected, ComesFrom, Adds, keeps}
 use Rattle.vc_sets.proofs.Selected.{set_of}
 
@@ -23,7 +22,7 @@ module _ {X : Type 0} (f : Bool → Bool → Bool) where
   push_if-append true u us vs ws e = ap (λ l. u ∷ l) e
   push_if-append false u us vs ws e = e
 
-  selected-append : (es fs : List (Event X X)) → selected f (es ++ fs) ≡ selected f es ++ selected f fs
+  pub selected-append : (es fs : List (Event X X)) → selected f (es ++ fs) ≡ selected f es ++ selected f fs
   selected-append [] fs = refl
   selected-append (left_alone x ∷ es) fs = push_if-append (f true false) (inl x) (selected f es) (selected f fs) (selected f (es ++ fs)) (selected-append es fs)
   selected-append (right_alone y ∷ es) fs = push_if-append (f false true) (inr y) (selected f es) (selected f fs) (selected f (es ++ fs)) (selected-append es fs)
@@ -33,7 +32,7 @@ module _ {X : Type 0} (f : Bool → Bool → Bool) where
   selected-lefts e [] = refl
   selected-lefts e (x ∷ xs) = ap (λ b. push_if b (inl x) (selected f (map (λ x. left_alone x) xs))) e ∙ ap (λ l. inl x ∷ l) (selected-lefts e xs)
 
-  selected-no_lefts : f true false ≡ false → (xs : List X) → selected f (map (λ x. left_alone x) xs) ≡ []
+  pub selected-no_lefts : f true false ≡ false → (xs : List X) → selected f (map (λ x. left_alone x) xs) ≡ []
   selected-no_lefts e [] = refl
   selected-no_lefts e (x ∷ xs) = ap (λ b. push_if b (inl x) (selected f (map (λ x. left_alone x) xs))) e ∙ selected-no_lefts e xs
 
@@ -41,7 +40,7 @@ module _ {X : Type 0} (f : Bool → Bool → Bool) where
   selected-rights e [] = refl
   selected-rights e (x ∷ xs) = ap (λ b. push_if b (inr x) (selected f (map (λ x. right_alone x) xs))) e ∙ ap (λ l. inr x ∷ l) (selected-rights e xs)
 
-  selected-no_rights : f false true ≡ false → (xs : List X) → selected f (map (λ x. right_alone x) xs) ≡ []
+  pub selected-no_rights : f false true ≡ false → (xs : List X) → selected f (map (λ x. right_alone x) xs) ≡ []
   selected-no_rights e [] = refl
   selected-no_rights e (x ∷ xs) = ap (λ b. push_if b (inr x) (selected f (map (λ x. right_alone x) xs))) e ∙ selected-no_rights e xs
 
@@ -203,20 +202,3 @@ module _ {X M N : Type 0} (cmp : X → X → Ordering) (total : IsTotalOrder cmp
     pub left-set_of : (s t : M) (a b c : List X) → left s ≡ a → right s ≡ b → built s ≡ [] → (name t ≡ name s → c ≡ built t)
         → Finishes left_allows (both_sides cmp) s t ⊎ Stops left_allows (both_sides cmp) s (Ok false) t → IsSetOf cmp L R (keeps (not both) false both) a b c
     left-set_of = merged-set_of left_allows (keeps (not both) false both) refl left-adds left-goes_on
-
--- ---- operations that say the same
-
-module _ {X : Type 0} (f g : Bool → Bool → Bool) (same : (x y : Bool) → f x y ≡ g x y) (L R : X → X → Type 0) where
-  keeps-of_same : (o p q : Option X) → Keeps f L R o p q → Keeps g L R o p q
-  keeps-of_same (Some x) p q h = subst (λ b. MatchBool b (IsSomeAnd q (L x)) (q ≡ None)) (same true (is_some p)) h
-  keeps-of_same None (Some y) q h = subst (λ b. MatchBool b (IsSomeAnd q (R y)) (q ≡ None)) (same false true) h
-  keeps-of_same None None q h = h
-
-  pub set_of-same : (cmp : X → X → Ordering) (a b c : List X) → IsSetOf cmp L R f a b c → IsSetOf cmp L R g a b c
-  set_of-same cmp a b c s = record { ascends = s.ascends; members = λ x. s.members x ∙ same (member cmp a x) (member cmp b x); kept = λ x. keeps-of_same (element_at cmp a x) (element_at cmp b x) (element_at cmp c x) (s.kept x) }
-
-pub keeps-union : (x y : Bool) → keeps true true true x y ≡ (x || y)
-keeps-union true true = refl
-keeps-union true false = refl
-keeps-union false true = refl
-keeps-union false false = refl

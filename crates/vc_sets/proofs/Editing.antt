@@ -95,6 +95,3 @@ module _ {X : Type 0} (cmp : X → X → Ordering) (total : IsTotalOrder cmp) wh
 
   pub new-answer : (xs : List X) (x : X) (i : ℕ) → IsPlace cmp xs x (Err i) → true ≡ not (member cmp xs x)
   new-answer xs x i p = ap not (place-is_ok cmp total xs x (Err i) p)
-
-  pub known-answer : (xs : List X) (x : X) (i : ℕ) → IsPlace cmp xs x (Ok i) → false ≡ not (member cmp xs x)
-  known-answer xs x i p = ap not (place-is_ok cmp total xs x (Ok i) p)

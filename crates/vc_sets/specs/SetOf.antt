@@ -21,5 +21,10 @@ pub record IsSetOf {X : Type 0} (cmp : X → X → Ordering) (from_left from_rig
   pub kept : (x : X) → Keeps f from_left from_right (element_at cmp a x) (element_at cmp b x) (element_at cmp c x)
 
 -- in the left one and not in the right one
-abbrev pub less : Bool → Bool → Bool
-less a b = a && not b
+abbrev pub and_not : Bool → Bool → Bool
+and_not a b = a && not b
+
+-- in the left one or in the right one, and not in both
+abbrev pub exactly_one : Bool → Bool → Bool
+exactly_one true b = not b
+exactly_one false b = b

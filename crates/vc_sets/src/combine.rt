@@ -3,9 +3,11 @@ ghost use Rattle.std.specs.Prelude.{◌+◌, ◌≤◌, true, false, not, length
 ghost use Rattle.vc_merge.specs.Ascending.{Ascends};
 ghost use Rattle.vc_merge.specs.Count.{bound};
 ghost use Rattle.vc_sets.specs.SetOf.{ClonesAreEqual, IsSetOf};
+ghost use Rattle.vc_sets.specs.Algebra.{made_by};
 ghost use Rattle.vc_sets.specs.Select.{keeps};
 
 use crate::operations::{EitherOp, LeftOp};
+use crate::vec_set::SetOp;
 use smallvec::SmallVec;
 use std::alloc::{AllocError, Allocator};
 use std::default::MadeWith;
@@ -50,4 +52,26 @@ pub fn combine_left<
     let mut state = SmallVecMergeState::new(a, b, &mut built);
     merge(&mut state, &LeftOp::<BOTH>, steps)?;
     Ok(built)
+}
+
+/// The operation `op` of two ascending lists.
+pub fn combine<T: Ord + Clone + MadeWith<A>, C: Count, const N: usize, A: Allocator + Copy>(
+    alloc: A,
+    a: &[T],
+    b: &[T],
+    op: SetOp,
+    steps: &mut C,
+) -> Result<SmallVec<T, N, A>, AllocError>
+    requires a_ascends { Ascends T.cmp a.now }
+    requires b_ascends { Ascends T.cmp b.now }
+    requires clones { ClonesAreEqual T.cmp T.is_clone }
+    ensures combined { IfOk result (λ v. IsSetOf T.cmp T.is_clone T.is_clone (made_by op) a.now b.now v.items) }
+    ensures counted { C.counted steps.new ≤ C.counted steps.old + bound (length a.now) (length b.now) }
+{
+    match op {
+        SetOp::Union => combine_either::<true, _, _, _, _>(alloc, a, b, steps),
+        SetOp::Intersection => combine_left::<true, _, _, _, _>(alloc, a, b, steps),
+        SetOp::SymmetricDifference => combine_either::<false, _, _, _, _>(alloc, a, b, steps),
+        SetOp::Difference => combine_left::<false, _, _, _, _>(alloc, a, b, steps),
+    }
 }

@@ -4,3 +4,4 @@
 mod combine;
 mod operations;
 pub mod vec_set;
+mod witness;

@@ -2,14 +2,15 @@
 ghost use Rattle.std.specs.Prelude.{◌≡◌, ◌<◌, ◌||◌, ◌↔◌, [], ◌==◌, List, not, cond, Some, length, IfOk, IsOk, OnErr, IsTrue};
 ghost use Rattle.std.specs.Ordering.{eq_by_cmp};
 ghost use Rattle.vc_merge.specs.Ascending.{Ascends, member, element_at};
-ghost use Rattle.vc_sets.specs.SetOf.{ClonesAreEqual, IsSetOf};
+ghost use Rattle.vc_sets.specs.Tests.{IsDisjoint, IsSubset};
 
-use crate::combine::combine_either;
+mod algebra;
+
+pub use algebra::{SetOp, SetTest, difference, intersection, symmetric_difference, union};
 use smallvec::SmallVec;
 use std::alloc::{AllocError, Allocator, Global};
 use std::default::MadeWith;
 use std::marker::Model;
-use vc_merge::states::Uncounted;
 
 /// A set, as a list of its elements in ascending order, the first `N` of them without an allocation.
 ///
@@ -104,28 +105,9 @@ impl<T: Ord + MadeWith<A> + Drop, const N: usize, A: Allocator + Copy> VecSet<T,
     }
 }
 
-impl<T: Ord + Clone + MadeWith<A>, const N: usize, A: Allocator + Copy> VecSet<T, N, A> {
-    /// What is in either set, as clones. Of two equal elements the left one is kept.
-    ///
-    /// One growth, at the start, for as many elements as both sets have; comparisons at most as many.
-    pub fn union<S: AbstractVecSet<T>>(&self, that: &S) -> Result<Self, AllocError>
-        requires clones { ClonesAreEqual T.cmp T.is_clone }
-        ensures union { IfOk result (IsSetOf T.cmp T.is_clone T.is_clone ◌||◌ self.now (S.elements that.now)) }
-    {
-        let alloc = *self.elements.allocator();
-        let elements = combine_either::<true, _, _, _, _>(
-            alloc,
-            self.as_ref(),
-            that.as_slice(),
-            &mut Uncounted,
-        )?;
-        Ok(VecSet { elements })
-    }
-}
-
 /// A set whose elements can be read as one ascending list.
 ///
-/// An implementation writes `as_slice` alone.
+/// An implementation writes `as_slice` alone, and the elements that it shows.
 pub trait AbstractVecSet<T: Ord> {
     ghost elements: { Self → List T };
 
@@ -139,6 +121,27 @@ pub trait AbstractVecSet<T: Ord> {
         ensures { result ≡ member T.cmp (elements self.now) value.now }
     {
         self.as_slice().binary_search(value).is_ok()
+    }
+
+    /// Whether no element is in both sets. It stops at the first that is, and takes no memory.
+    final fn is_disjoint<S: AbstractVecSet<T>>(&self, that: &S) -> bool
+        ensures { IsTrue result ↔ IsDisjoint T.cmp (elements self.now) (S.elements that.now) }
+    {
+        algebra::is_disjoint(self, that)
+    }
+
+    /// Whether each element of this set is in the other. It stops at the first that is not, and takes no memory.
+    final fn is_subset<S: AbstractVecSet<T>>(&self, that: &S) -> bool
+        ensures { IsTrue result ↔ IsSubset T.cmp (elements self.now) (S.elements that.now) }
+    {
+        algebra::is_subset(self, that)
+    }
+
+    /// Whether each element of the other set is in this one. It stops at the first that is not, and takes no memory.
+    final fn is_superset<S: AbstractVecSet<T>>(&self, that: &S) -> bool
+        ensures { IsTrue result ↔ IsSubset T.cmp (S.elements that.now) (elements self.now) }
+    {
+        algebra::is_superset(self, that)
     }
 }
 
