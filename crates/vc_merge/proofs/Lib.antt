@@ -3,3 +3,5 @@ pub mod Scripts
 pub mod Chains
 pub mod Runs
 pub mod Extending
+pub mod OneScript
+pub mod OneList

@@ -2,6 +2,7 @@
 #![tactic(auto)]
 
 pub mod iterators;
+pub mod laws;
 mod linear;
 pub mod merge;
 pub mod states;
