@@ -11,3 +11,5 @@ pub mod Scripts
 pub mod WalkNames
 pub mod MovesDownLemmas
 pub mod ClonesLemmas
+pub mod OneScript
+pub mod OneList

@@ -14,3 +14,4 @@ pub mod Script
 pub mod MovesDown
 pub mod SiftViews
 pub mod InPlaceViews
+pub mod Laws

@@ -3,6 +3,7 @@
 
 pub mod inplace;
 pub mod iterators;
+pub mod laws;
 mod linear;
 pub mod merge;
 pub mod moving;

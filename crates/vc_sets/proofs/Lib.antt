@@ -5,3 +5,4 @@ pub mod Searching
 pub mod Editing
 pub mod Witnessed
 pub mod Sifted
+mod OneSet

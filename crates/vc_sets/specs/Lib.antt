@@ -3,3 +3,4 @@ pub mod Tests
 pub mod Algebra
 pub mod Select
 pub mod Place
+pub mod Laws

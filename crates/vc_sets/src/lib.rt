@@ -2,6 +2,7 @@
 #![tactic(auto)]
 
 mod combine;
+pub mod laws;
 mod operations;
 pub mod vec_set;
 mod witness;

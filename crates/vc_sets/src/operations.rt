@@ -1,6 +1,7 @@
 //! The merge operations of sets. Of two equal elements both kinds keep the left one, or none.
-ghost use Rattle.std.specs.Prelude.{true, false, not};
+ghost use Rattle.std.specs.Prelude.{◌≡◌, true, false, not};
 ghost use Rattle.vc_merge.specs.Both.{Both};
+ghost use Rattle.vc_merge.specs.Count.{ticked};
 ghost use Rattle.vc_sets.specs.Select.{both_sides, both_sides-total};
 
 use std::alloc::AllocError;
@@ -28,8 +29,7 @@ impl<const BOTH: bool, T: Ord, M: MergeFromRight<A = T, B = T>, C: Count> MergeO
     ghost total = { λ _. both_sides-total T.cmp T.total };
 
     fn cmp(&self, a: &T, b: &T, steps: &mut C) -> Ordering {
-        steps.tick();
-        a.cmp(b)
+        compare(a, b, steps)
     }
 
     fn from_a(&self, state: &mut M, n: usize) -> Result<bool, AllocError> {
@@ -64,8 +64,7 @@ impl<const BOTH: bool, T: Ord, M: MergeStateMut<A = T, B = T>, C: Count> MergeOp
     ghost total = { λ _. both_sides-total T.cmp T.total };
 
     fn cmp(&self, a: &T, b: &T, steps: &mut C) -> Ordering {
-        steps.tick();
-        a.cmp(b)
+        compare(a, b, steps)
     }
 
     fn from_a(&self, state: &mut M, n: usize) -> Result<bool, AllocError> {
@@ -83,4 +82,13 @@ impl<const BOTH: bool, T: Ord, M: MergeStateMut<A = T, B = T>, C: Count> MergeOp
             Ok(false)
         }
     }
+}
+
+/// Compares two elements, and counts that.
+fn compare<T: Ord, C: Count>(a: &T, b: &T, steps: &mut C) -> Ordering
+    ensures value { result ≡ T.cmp a.now b.now }
+    ensures ticks { C.counted steps.new ≡ ticked (C.counted steps.old) }
+{
+    steps.tick();
+    a.cmp(b)
 }

@@ -1,0 +1,111 @@
+-- An operation makes one list of two sets, and its members are those that its name says.
+use Rattle.std.proofs.Common.{◌≡◌, ◌↔◌, Bool, true, false, ◌||◌, ◌&&◌, List, [], ◌∷◌, ◌⊎◌, inl, inr, ⊎_elim, Option, Some, None, IsSomeAnd, MatchBool, IsTrue, is_some, refl, sym, ap, subst, ◌∙◌}
+use mathlib.Core.Bool.{true≢false}
+use Rattle.std.specs.Cmp.{IsTotalOrder, tied_itself}
+use Rattle.std.specs.Ordering.{is_eq}
+use Rattle.std.specs.declared.cmp.Ordering.{Ordering}
+use Rattle.vc_merge.specs.Ascending.{member, element_at}
+use Rattle.vc_merge.proofs.OneList.{members_tell_the_list}
+use Rattle.vc_sets.specs.SetOf.{Keeps, IsSetOf, and_not, exactly_one}
+use Rattle.vc_sets.specs.Laws.{SetOfIsOne, SetOfIsOneUpToEqual, OperationsInWords, UnionKeepsTheLeft, TestsAreOfOperations}
+
+-- ---- the words on two tests
+
+not_true : false ≡ true → ⊥
+not_true e = true≢false (sym e)
+
+or_in_words : (p q : Bool) → IsTrue (p || q) ↔ (IsTrue p ⊎ IsTrue q)
+or_in_words true q = (λ e. inl refl, λ h. refl)
+or_in_words false true = (λ e. inr refl, λ h. refl)
+or_in_words false false = (λ e. absurd (not_true e), λ h. ⊎_elim (λ e. e) (λ e. e) h)
+
+and_in_words : (p q : Bool) → IsTrue (p && q) ↔ (IsTrue p × IsTrue q)
+and_in_words true true = (λ e. (refl, refl), λ h. refl)
+and_in_words true false = (λ e. absurd (not_true e), λ h. h.1)
+and_in_words false q = (λ e. absurd (not_true e), λ h. h.0)
+
+and_not_in_words : (p q : Bool) → IsTrue (and_not p q) ↔ (IsTrue p × (IsTrue q → ⊥))
+and_not_in_words true true = (λ e. absurd (not_true e), λ h. absurd (h.1 refl))
+and_not_in_words true false = (λ e. (refl, λ k. not_true k), λ h. refl)
+and_not_in_words false q = (λ e. absurd (not_true e), λ h. h.0)
+
+exactly_one_in_words : (p q : Bool) → IsTrue (exactly_one p q) ↔ ((IsTrue p × (IsTrue q → ⊥)) ⊎ ((IsTrue p → ⊥) × IsTrue q))
+exactly_one_in_words true true = (λ e. absurd (not_true e), λ h. ⊎_elim (λ k. absurd (k.1 refl)) (λ k. absurd (k.0 refl)) h)
+exactly_one_in_words true false = (λ e. inl (refl, λ k. not_true k), λ h. refl)
+exactly_one_in_words false true = (λ e. inr ((λ k. not_true k), refl), λ h. refl)
+exactly_one_in_words false false = (λ e. absurd (not_true e), λ h. ⊎_elim (λ k. k.0) (λ k. k.1) h)
+
+by_words : {P : Type 0} {m n : Bool} → m ≡ n → IsTrue n ↔ P → IsTrue m ↔ P
+by_words {P} e h = subst (λ b. IsTrue b ↔ P) (sym e) h
+
+-- ---- what is kept
+
+module _ {X : Type 0} (f : Bool → Bool → Bool) where
+  one_by : (b : Bool) (x : X) (p q : Option X) → MatchBool b (IsSomeAnd p (λ z. x ≡ z)) (p ≡ None) → MatchBool b (IsSomeAnd q (λ z. x ≡ z)) (q ≡ None) → p ≡ q
+  one_by true x (Some y) (Some z) h k = ap (λ w. Some w) (sym h ∙ k)
+  one_by true x (Some y) None h k = absurd k
+  one_by true x None q h k = absurd h
+  one_by false x p q h k = h ∙ sym k
+
+  one_kept : (left right p q : Option X) → Keeps f (λ x z. x ≡ z) (λ y z. y ≡ z) left right p → Keeps f (λ x z. x ≡ z) (λ y z. y ≡ z) left right q → p ≡ q
+  one_kept (Some x) right p q h k = one_by (f true (is_some right)) x p q h k
+  one_kept None (Some y) p q h k = one_by (f false true) y p q h k
+  one_kept None None p q h k = h ∙ sym k
+
+module _ {X : Type 0} (cmp : X → X → Ordering) (total : IsTotalOrder cmp) where
+  -- an operation that takes elements as they are makes one list of two sets
+  pub set_of_is_one : SetOfIsOne cmp
+  set_of_is_one f a b c d s t =
+      (members_tell_the_list cmp total).elements c d s.ascends t.ascends
+      (λ x. one_kept f (element_at cmp a x) (element_at cmp b x) (element_at cmp c x) (element_at cmp d x) (s.kept x) (t.kept x))
+
+  module _ (L R : X → X → Type 0) where
+    -- what an operation makes of two sets is one list up to equality
+    pub set_of_is_one_up_to_equal : SetOfIsOneUpToEqual cmp L R
+    set_of_is_one_up_to_equal f a b c d s t = (members_tell_the_list cmp total).members c d s.ascends t.ascends (λ x. s.members x ∙ sym (t.members x))
+
+    -- the four operations are as named
+    pub operations_in_words : OperationsInWords cmp L R
+    operations_in_words = record {
+      union = λ a b c s x. by_words (s.members x) (or_in_words (member cmp a x) (member cmp b x));
+      intersection = λ a b c s x. by_words (s.members x) (and_in_words (member cmp a x) (member cmp b x));
+      difference = λ a b c s x. by_words (s.members x) (and_not_in_words (member cmp a x) (member cmp b x));
+      symmetric_difference = λ a b c s x. by_words (s.members x) (exactly_one_in_words (member cmp a x) (member cmp b x));
+    }
+
+    -- a union keeps the left one of equal elements
+    pub union_keeps_the_left : UnionKeepsTheLeft cmp L R
+    union_keeps_the_left = record {
+      left = λ a b c s x y e. subst (λ o. Keeps ◌||◌ L R o (element_at cmp b x) (element_at cmp c x)) e (s.kept x);
+      right = λ a b c s x y e h. subst (λ o. Keeps ◌||◌ L R None o (element_at cmp c x)) h (subst (λ o. Keeps ◌||◌ L R o (element_at cmp b x) (element_at cmp c x)) e (s.kept x));
+    }
+
+    -- ---- nothing is in a list that has no member
+
+    no_members : (c : List X) → ((x : X) → IsTrue (member cmp c x) → ⊥) → c ≡ []
+    no_members [] h = refl
+    no_members (z ∷ zs) h = absurd (h z (ap (λ o. is_eq o || member cmp zs z) (tied_itself total z)))
+
+    empty_member : (c : List X) (x : X) → c ≡ [] → IsTrue (member cmp c x) → ⊥
+    empty_member c x e h = not_true (sym (ap (λ l. member cmp l x) e) ∙ h)
+
+    in_both : (a b c : List X) → IsSetOf cmp L R ◌&&◌ a b c → (x : X) → IsTrue (member cmp c x) ↔ (IsTrue (member cmp a x) × IsTrue (member cmp b x))
+    in_both a b c s = operations_in_words.intersection a b c s
+
+    in_left_alone : (a b c : List X) → IsSetOf cmp L R and_not a b c → (x : X) → IsTrue (member cmp c x) ↔ (IsTrue (member cmp a x) × (IsTrue (member cmp b x) → ⊥))
+    in_left_alone a b c s = operations_in_words.difference a b c s
+
+    member_or_not : (b : Bool) → ((IsTrue b → ⊥) → ⊥) → IsTrue b
+    member_or_not true h = refl
+    member_or_not false h = absurd (h not_true)
+
+    -- the tests are of operations
+    pub tests_are_of_operations : TestsAreOfOperations cmp L R
+    tests_are_of_operations = record {
+      disjoint = λ a b c s. (
+        (λ h. no_members c (λ x m. let w = (in_both a b c s x).0 m in h x w.0 w.1)),
+        λ e x p q. empty_member c x e ((in_both a b c s x).1 (p, q)));
+      subset = λ a b c s. (
+        (λ h. no_members c (λ x m. let w = (in_left_alone a b c s x).0 m in w.1 (h x w.0))),
+        λ e x p. member_or_not (member cmp b x) (λ n. empty_member c x e ((in_left_alone a b c s x).1 (p, n))));
+    }
