@@ -1,0 +1,5 @@
+-- Lemmas on the lines of the program.
+mod Cutting
+mod Reading
+mod Printing
+mod Ascending

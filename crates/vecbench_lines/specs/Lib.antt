@@ -1,0 +1,6 @@
+-- What the contracts of the program's lines cite.
+pub mod Fault
+pub mod Parts
+pub mod PartsLeft
+pub mod Numbers
+pub mod Judged

@@ -1,0 +1,155 @@
+//! Lines from a reader, each answered to a writer.
+ghost use Rattle.std.specs.Prelude.{◌≤◌, length, IfOk};
+
+use crate::command::answer_line;
+use crate::fault::Fault;
+use crate::parts::{Parts, Separator};
+use std::alloc::{AllocError, Global};
+use std::io;
+use std::io::{ErrorKind, Read, Write};
+
+/// No line had a fault.
+pub const ANSWERED: u8 = 0;
+/// Some line had a fault.
+pub const FAULTY: u8 = 1;
+/// Reading or writing failed, or there was no memory for a buffer.
+pub const FAILED: u8 = 2;
+
+/// How many bytes are read at once.
+const CHUNK: usize = 8192;
+/// How many bytes of a line, and of an answer, there is room for from the start.
+const ROOM: usize = 256;
+
+/// What is known between two pieces of the input. The two buffers are used again from line to line.
+#[derive(Drop)]
+struct Session {
+    alloc: Global,
+    /// What was read of the line so far, if there was memory for it.
+    line: Vec<u8>,
+    is_stored: bool,
+    /// How many lines came before it.
+    lines: u64,
+    answer: String,
+    has_fault: bool,
+}
+
+impl Session {
+    fn new(alloc: Global) -> Result<Session, AllocError> {
+        Ok(Session {
+            alloc,
+            line: Vec::with_capacity(alloc, ROOM)?,
+            is_stored: true,
+            lines: 0,
+            answer: String::with_capacity(alloc, ROOM)?,
+            has_fault: false,
+        })
+    }
+
+    /// Takes a piece of the line.
+    fn take(&mut self, piece: &[u8]) {
+        if self.is_stored && self.line.extend_from_slice(piece).is_err() {
+            self.is_stored = false;
+        }
+    }
+
+    /// Whether a piece of a line was taken.
+    fn is_within_line(&self) -> bool {
+        !self.is_stored || !self.line.is_empty()
+    }
+
+    /// Answers the line that was taken, and begins the next one.
+    fn answer_taken<O: Write>(&mut self, output: &mut O) -> io::Result<()> {
+        self.lines = self.lines.saturating_add(1);
+        self.answer.clear();
+        let result = if self.is_stored {
+            answer_line(self.alloc, self.line.as_slice(), &mut self.answer)
+        } else {
+            Err(Fault::NoMemory)
+        };
+        self.line.clear();
+        self.is_stored = true;
+        match result {
+            Ok(true) => output.write_all(self.answer.as_bytes()),
+            Ok(false) => Ok(()),
+            Err(fault) => {
+                self.has_fault = true;
+                fault.write(self.lines, output)
+            }
+        }
+    }
+
+    /// Answers the line that was taken, at the LF that ends it: a CR before that is no part of it.
+    fn end_line<O: Write>(&mut self, output: &mut O) -> io::Result<()> {
+        if self.line.last() == Some(&b'\r') {
+            self.line.pop();
+        }
+        self.answer_taken(output)
+    }
+
+    /// Answers the lines that end within `chunk`, and takes the piece that is left.
+    fn take_chunk<O: Write>(&mut self, chunk: &[u8], output: &mut O) -> io::Result<()> {
+        let mut pieces = Parts::new(Separator::Newline, chunk);
+        if let Some(piece) = pieces.next() {
+            self.take(piece);
+        }
+        for piece in pieces {
+            self.end_line(output)?;
+            self.take(piece);
+        }
+        Ok(())
+    }
+
+    /// Answers the lines of `input` up to its end. What is answered is flushed before more is read.
+    fn run<I: Read, O: Write>(
+        &mut self,
+        chunk: &mut [u8],
+        input: &mut I,
+        output: &mut O,
+    ) -> io::Result<()> {
+        for _ in 0..u64::MAX {
+            output.flush()?;
+            let count = read_some(input, chunk)?;
+            if count == 0 {
+                if self.is_within_line() {
+                    self.answer_taken(output)?;
+                }
+                return output.flush();
+            }
+            self.take_chunk(&chunk[..count], output)?;
+        }
+        Err(io::Error::from(ErrorKind::Other))
+    }
+}
+
+/// Reads the next bytes into `chunk`, and again where the read was interrupted.
+fn read_some<I: Read>(input: &mut I, chunk: &mut [u8]) -> io::Result<usize>
+    ensures { IfOk result (λ count. count ≤ length chunk.new) }
+{
+    for _ in 0..u64::MAX {
+        match input.read(chunk) {
+            Err(error) if error.kind() == ErrorKind::Interrupted => {}
+            result => return result,
+        }
+    }
+    Err(io::Error::from(ErrorKind::Other))
+}
+
+/// Answers each line of `input` on `output`, in the order of the lines, and says how it went: `ANSWERED`, `FAULTY` or
+/// `FAILED`.
+///
+/// The buffers are made before the first read. Where reading or writing fails, what was answered before stands.
+pub fn serve<I: Read, O: Write>(alloc: Global, input: &mut I, output: &mut O) -> u8
+    ensures { result ≤ 2 }
+{
+    let Ok(mut chunk) = vec![in alloc; 0u8; CHUNK] else {
+        return FAILED;
+    };
+    let Ok(mut session) = Session::new(alloc) else {
+        return FAILED;
+    };
+    match session.run(chunk.as_mut_slice(), input, output) {
+        Ok(()) if session.has_fault => FAULTY,
+        Ok(()) => ANSWERED,
+        Err(_) => FAILED,
+    }
+}
