@@ -4,3 +4,4 @@ pub mod Parts
 pub mod PartsLeft
 pub mod Numbers
 pub mod Judged
+pub mod Answers

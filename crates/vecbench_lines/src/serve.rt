@@ -69,8 +69,7 @@ impl Session {
         self.line.clear();
         self.is_stored = true;
         match result {
-            Ok(true) => output.write_all(self.answer.as_bytes()),
-            Ok(false) => Ok(()),
+            Ok(()) => output.write_all(self.answer.as_bytes()),
             Err(fault) => {
                 self.has_fault = true;
                 fault.write(self.lines, output)
