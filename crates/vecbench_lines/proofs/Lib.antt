@@ -3,3 +3,4 @@ mod Cutting
 mod Reading
 mod Printing
 mod Ascending
+mod Answering
