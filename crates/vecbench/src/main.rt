@@ -5,6 +5,9 @@ use std::io::BufWriter;
 use std::process::ExitCode;
 use vecbench_lines::serve::{FAILED, serve};
 
+#[cfg(test)]
+mod tests;
+
 fn main(rt: HostRuntime) -> ExitCode {
     let Ok(mut output) = BufWriter::new(rt.alloc(), rt.stdout()) else {
         return ExitCode::from(FAILED);

@@ -4,3 +4,5 @@ mod Reading
 mod Printing
 mod Ascending
 mod Answering
+mod Replying
+mod Chunks

@@ -5,3 +5,4 @@ pub mod PartsLeft
 pub mod Numbers
 pub mod Judged
 pub mod Answers
+pub mod Served

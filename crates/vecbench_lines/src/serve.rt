@@ -1,9 +1,10 @@
 //! Lines from a reader, each answered to a writer.
-ghost use Rattle.std.specs.Prelude.{◌≤◌, length, IfOk};
+ghost use Rattle.std.specs.Prelude.{◌≡◌, ◌+◌, ◌≤◌, ◌<◌, ◌++◌, ◌∷◌, [], List, ℕ, Option, Some, true, false, length, OnOk, IfOk};
+ghost use Rattle.std.specs.Io.KnownBytes.{Appends, ReadConsumes};
 
 use crate::command::answer_line;
 use crate::fault::Fault;
-use crate::parts::{Parts, Separator};
+use crate::parts::Separator;
 use std::alloc::{AllocError, Global};
 use std::io;
 use std::io::{ErrorKind, Read, Write};
@@ -34,7 +35,19 @@ struct Session {
 }
 
 impl Session {
-    fn new(alloc: Global) -> Result<Session, AllocError> {
+    ghost use Rattle.std.specs.Prelude.{◌≡◌, ◌+◌, ◌≤◌, ◌<◌, ◌++◌, ◌∷◌, [], List, ℕ, Option, Some, true, false, length, OnOk, IfOk, IsTrue, ◌↔◌};
+    ghost use Rattle.std.specs.Str.Lines.{strip_carriage_return};
+    ghost use Rattle.vecbench_lines.specs.Served.{Progress, Holds, MissesSome, Stands, ended_in, left_of};
+    ghost use Rattle.std.specs.Prelude.{None, MatchResult};
+    ghost use Rattle.std.specs.String.{string_bytes};
+    ghost use Rattle.vecbench_lines.specs.Judged.{fault_in_words, IsFault};
+    ghost use Rattle.vecbench_lines.specs.Answers.{AnswersWords};
+    ghost use Rattle.vecbench_lines.specs.Parts.{parts_of, words_of};
+    ghost use Rattle.vecbench_lines.specs.declared.parts.Separator.TheVariants.{Newline};
+
+    fn new(alloc: Global) -> Result<Session, AllocError>
+        ensures { IfOk result (λ s. (s.is_stored ≡ true) × (s.line.items ≡ []) × (s.lines ≡ 0) × (s.has_fault ≡ false)) }
+    {
         Ok(Session {
             alloc,
             line: Vec::with_capacity(alloc, ROOM)?,
@@ -46,26 +59,46 @@ impl Session {
     }
 
     /// Takes a piece of the line.
-    fn take(&mut self, piece: &[u8]) {
+    fn take(&mut self, piece: &[u8])
+        ensures holds { (taken : List ℕ) → Holds self.old taken → Holds self.new (taken ++ piece.now) }
+        ensures misses { (taken : List ℕ) → MissesSome self.old taken → MissesSome self.new (taken ++ piece.now) }
+        ensures same { (self.new.lines ≡ self.old.lines) × (self.new.has_fault ≡ self.old.has_fault) }
+    {
         if self.is_stored && self.line.extend_from_slice(piece).is_err() {
             self.is_stored = false;
         }
     }
 
     /// Whether a piece of a line was taken.
-    fn is_within_line(&self) -> bool {
+    fn is_within_line(&self) -> bool
+        ensures { (taken : List ℕ) → Holds self.now taken → MissesSome self.now taken → IsTrue result ↔ (0 < length taken) }
+    {
         !self.is_stored || !self.line.is_empty()
     }
 
-    /// Answers the line that was taken, and begins the next one.
-    fn answer_taken<O: Write>(&mut self, output: &mut O) -> io::Result<()> {
-        self.lines = self.lines.saturating_add(1);
+    /// Makes the answer to the line that was taken, or says its fault.
+    fn make_answer(&mut self) -> Result<(), Fault>
+        ensures answers { (taken : List ℕ) → Holds self.old taken → OnOk result (AnswersWords (words_of taken) (string_bytes self.new.answer)) }
+        ensures judged { (taken : List ℕ) → Holds self.old taken → MatchResult result (λ _. fault_in_words (words_of taken) ≡ None)
+            (λ fault. IsFault (fault_in_words (words_of taken)) fault) }
+        ensures same { (self.new.lines ≡ self.old.lines) × (self.new.has_fault ≡ self.old.has_fault) }
+    {
+        if !self.is_stored {
+            return Err(Fault::NoMemory);
+        }
         self.answer.clear();
-        let result = if self.is_stored {
-            answer_line(self.alloc, self.line.as_slice(), &mut self.answer)
-        } else {
-            Err(Fault::NoMemory)
-        };
+        answer_line(self.alloc, self.line.as_slice(), &mut self.answer)
+    }
+
+    /// Answers the line that was taken, and begins the next one.
+    fn answer_taken<O: Write>(&mut self, output: &mut O) -> io::Result<()>
+        ensures replies { (taken : List ℕ) → (lines : List (List ℕ)) → (start : Option (List ℕ)) → Holds self.old taken
+            → Progress lines start (O.contents output.old) self.old
+            → OnOk result (Progress (lines ++ taken ∷ []) start (O.contents output.new) self.new) }
+        ensures begins { (self.new.is_stored ≡ true) × (self.new.line.items ≡ []) }
+    {
+        let result = self.make_answer();
+        self.lines = self.lines.saturating_add(1);
         self.line.clear();
         self.is_stored = true;
         match result {
@@ -78,7 +111,12 @@ impl Session {
     }
 
     /// Answers the line that was taken, at the LF that ends it: a CR before that is no part of it.
-    fn end_line<O: Write>(&mut self, output: &mut O) -> io::Result<()> {
+    fn end_line<O: Write>(&mut self, output: &mut O) -> io::Result<()>
+        ensures replies { (taken : List ℕ) → (lines : List (List ℕ)) → (start : Option (List ℕ)) → Holds self.old taken
+            → Progress lines start (O.contents output.old) self.old
+            → OnOk result (Progress (lines ++ strip_carriage_return taken ∷ []) start (O.contents output.new) self.new) }
+        ensures begins { (self.new.is_stored ≡ true) × (self.new.line.items ≡ []) }
+    {
         if self.line.last() == Some(&b'\r') {
             self.line.pop();
         }
@@ -86,14 +124,19 @@ impl Session {
     }
 
     /// Answers the lines that end within `chunk`, and takes the piece that is left.
-    fn take_chunk<O: Write>(&mut self, chunk: &[u8], output: &mut O) -> io::Result<()> {
-        let mut pieces = Parts::new(Separator::Newline, chunk);
-        if let Some(piece) = pieces.next() {
-            self.take(piece);
-        }
-        for piece in pieces {
+    fn take_chunk<O: Write>(&mut self, chunk: &[u8], output: &mut O) -> io::Result<()>
+        ensures { (lines : List (List ℕ)) → (taken : List ℕ) → (start : Option (List ℕ))
+            → Stands lines taken start (O.contents output.old) self.old
+            → OnOk result (Stands (lines ++ ended_in taken (parts_of Newline chunk.now)) (left_of taken (parts_of Newline chunk.now))
+                start (O.contents output.new) self.new) }
+    {
+        let (piece, mut rest) = Separator::Newline.cut(chunk);
+        self.take(piece);
+        while let Some(text) = rest {
             self.end_line(output)?;
+            let (piece, behind) = Separator::Newline.cut(text);
             self.take(piece);
+            rest = behind;
         }
         Ok(())
     }
