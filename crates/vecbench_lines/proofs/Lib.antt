@@ -6,3 +6,4 @@ mod Ascending
 mod Answering
 mod Replying
 mod Chunks
+mod Joining

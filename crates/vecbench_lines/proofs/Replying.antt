@@ -55,3 +55,7 @@ Progress-snoc lines start old new s t line reply this before is written fault co
 pub on_ok-map : {E P Q : Type 0} (r : Result (Unit {0}) E) → (P → Q) → OnOk r P → OnOk r Q
 on_ok-map (Ok _) f p = f p
 on_ok-map (Err _) f p = p
+
+pub on_ok : {E P : Type 0} (r : Result (Unit {0}) E) → P → OnOk r P
+on_ok (Ok _) p = p
+on_ok (Err _) p = tt

@@ -1,7 +1,7 @@
 -- What a whole input is answered.
-use Rattle.std.specs.Prelude.{◌≡◌, ℕ, ◌+◌, ◌-◌, ◌^◌, ◌<◌, ◌||◌, min, Bool, true, false, List, [], ◌∷◌, ◌++◌, length, Option, None, Some}
+use Rattle.std.specs.Prelude.{◌≡◌, ℕ, ◌+◌, ◌-◌, ◌^◌, ◌<◌, ◌||◌, min, Bool, true, false, List, [], ◌∷◌, ◌++◌, length, Option, None, if◌then◌else◌}
 use Rattle.std.specs.Io.KnownBytes.{Appends}
-use Rattle.std.specs.Str.Lines.{strip_carriage_return}
+use Rattle.std.specs.Str.Lines.{lines, strip_carriage_return}
 use Rattle.vecbench_lines.specs.declared.fault.Fault.{Fault}
 use Rattle.vecbench_lines.specs.declared.serve.Session.{Session}
 use Rattle.vecbench_lines.specs.Parts.{words_of}
@@ -24,6 +24,11 @@ AreReplies n [] text faulty = (text ≡ []) × (faulty ≡ false)
 AreReplies n (line ∷ lines) text faulty =
     (reply : List ℕ) × (others : List ℕ) × (this : Bool) × (later : Bool) × IsReply (counted (n + 1)) line reply this × AreReplies (n + 1) lines others later
     × (text ≡ reply ++ others) × (faulty ≡ (this || later))
+
+-- the text was answered, where a run ended with this status: the replies to its lines were written, and nothing else
+abbrev pub IsServed : List ℕ → Option (List ℕ) → Option (List ℕ) → ℕ → Type 0
+IsServed text old new status =
+    (replies : List ℕ) × (faulty : Bool) × AreReplies 0 (lines text) replies faulty × Appends old new replies × (status ≡ (if faulty then 1 else 0))
 
 -- the session has replied to these lines, and nothing else was written since `old`
 pub record Progress (lines : List (List ℕ)) (old new : Option (List ℕ)) (s : Session) : Type 0 where

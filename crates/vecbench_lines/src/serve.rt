@@ -1,6 +1,7 @@
 //! Lines from a reader, each answered to a writer.
 ghost use Rattle.std.specs.Prelude.{◌≡◌, ◌+◌, ◌≤◌, ◌<◌, ◌++◌, ◌∷◌, [], List, ℕ, Option, Some, true, false, length, OnOk, IfOk};
-ghost use Rattle.std.specs.Io.KnownBytes.{Appends, ReadConsumes};
+ghost use Rattle.std.specs.Io.KnownBytes.{ReadConsumes};
+ghost use Rattle.vecbench_lines.specs.Served.{IsServed};
 
 use crate::command::answer_line;
 use crate::fault::Fault;
@@ -36,9 +37,9 @@ struct Session {
 
 impl Session {
     ghost use Rattle.std.specs.Prelude.{◌≡◌, ◌+◌, ◌≤◌, ◌<◌, ◌++◌, ◌∷◌, [], List, ℕ, Option, Some, true, false, length, OnOk, IfOk, IsTrue, ◌↔◌};
-    ghost use Rattle.std.specs.Str.Lines.{strip_carriage_return};
+    ghost use Rattle.std.specs.Str.Lines.{strip_carriage_return, lines, lines_of_parts};
     ghost use Rattle.vecbench_lines.specs.Served.{Progress, Holds, MissesSome, Stands, ended_in, left_of};
-    ghost use Rattle.std.specs.Prelude.{None, MatchResult};
+    ghost use Rattle.std.specs.Prelude.{None, MatchResult, if◌then◌else◌};
     ghost use Rattle.std.specs.String.{string_bytes};
     ghost use Rattle.vecbench_lines.specs.Judged.{fault_in_words, IsFault};
     ghost use Rattle.vecbench_lines.specs.Answers.{AnswersWords};
@@ -56,6 +57,13 @@ impl Session {
             answer: String::with_capacity(alloc, ROOM)?,
             has_fault: false,
         })
+    }
+
+    /// The status for what was answered.
+    fn status(&self) -> u8
+        ensures { result ≡ (if self.now.has_fault then 1 else 0) }
+    {
+        if self.has_fault { FAULTY } else { ANSWERED }
     }
 
     /// Takes a piece of the line.
@@ -141,21 +149,36 @@ impl Session {
         Ok(())
     }
 
+    /// Answers the last line, if no LF ends it, and flushes what is written.
+    fn finish<O: Write>(&mut self, output: &mut O) -> io::Result<()>
+        ensures { (lines : List (List ℕ)) → (taken : List ℕ) → (start : Option (List ℕ))
+            → Stands lines taken start (O.contents output.old) self.old
+            → OnOk result (Progress (lines ++ lines_of_parts (taken ∷ [])) start (O.contents output.new) self.new) }
+    {
+        if !self.is_within_line() {
+            return output.flush();
+        }
+        self.answer_taken(output)?;
+        output.flush()
+    }
+
     /// Answers the lines of `input` up to its end. What is answered is flushed before more is read.
     fn run<I: Read, O: Write>(
         &mut self,
         chunk: &mut [u8],
         input: &mut I,
         output: &mut O,
-    ) -> io::Result<()> {
+    ) -> io::Result<()>
+        requires { 0 < length chunk.old }
+        ensures { (text : List ℕ) → I.remaining input.old ≡ Some text
+            → Stands [] [] (O.contents output.old) (O.contents output.old) self.old
+            → OnOk result (Progress (lines text) (O.contents output.old) (O.contents output.new) self.new) }
+    {
         for _ in 0..u64::MAX {
             output.flush()?;
             let count = read_some(input, chunk)?;
             if count == 0 {
-                if self.is_within_line() {
-                    self.answer_taken(output)?;
-                }
-                return output.flush();
+                return self.finish(output);
             }
             self.take_chunk(&chunk[..count], output)?;
         }
@@ -163,9 +186,17 @@ impl Session {
     }
 }
 
+/// The buffer into which the input is read.
+fn new_chunk(alloc: Global) -> Result<Vec<u8>, AllocError>
+    ensures { IfOk result (λ chunk. 0 < length chunk.items) }
+{
+    vec![in alloc; 0; CHUNK]
+}
+
 /// Reads the next bytes into `chunk`, and again where the read was interrupted.
 fn read_some<I: Read>(input: &mut I, chunk: &mut [u8]) -> io::Result<usize>
-    ensures { IfOk result (λ count. count ≤ length chunk.new) }
+    ensures within { IfOk result (λ count. count ≤ length chunk.new) }
+    ensures bytes { ReadConsumes (I.remaining input.old) (I.remaining input.new) result chunk.new }
 {
     for _ in 0..u64::MAX {
         match input.read(chunk) {
@@ -181,17 +212,18 @@ fn read_some<I: Read>(input: &mut I, chunk: &mut [u8]) -> io::Result<usize>
 ///
 /// The buffers are made before the first read. Where reading or writing fails, what was answered before stands.
 pub fn serve<I: Read, O: Write>(alloc: Global, input: &mut I, output: &mut O) -> u8
-    ensures { result ≤ 2 }
+    ensures status { result ≤ 2 }
+    ensures served { (text : List ℕ) → I.remaining input.old ≡ Some text → result < 2
+        → IsServed text (O.contents output.old) (O.contents output.new) result }
 {
-    let Ok(mut chunk) = vec![in alloc; 0u8; CHUNK] else {
+    let Ok(mut chunk) = new_chunk(alloc) else {
         return FAILED;
     };
     let Ok(mut session) = Session::new(alloc) else {
         return FAILED;
     };
     match session.run(chunk.as_mut_slice(), input, output) {
-        Ok(()) if session.has_fault => FAULTY,
-        Ok(()) => ANSWERED,
+        Ok(()) => session.status(),
         Err(_) => FAILED,
     }
 }
