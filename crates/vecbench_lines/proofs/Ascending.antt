@@ -1,5 +1,5 @@
 -- A list of numbers ascends where each number is less than the next.
-use Rattle.std.proofs.Common.{arith, ◌≡◌, ◌∙◌, refl, sym, ℕ, ◌<◌, ◌↔◌, Bool, true, false, ◌&&◌, nat_lt, IsTrue, List, [], ◌∷◌}
+use Rattle.std.proofs.Common.{arith, ◌≡◌, refl, sym, ℕ, ◌<◌, ◌↔◌, Bool, true, false, ◌&&◌, nat_lt, IsTrue, List, [], ◌∷◌}
 use Rattle.std.proofs.lemmas.Bool.{ltb-true, lt-ltb, true≢false}
 use Rattle.std.specs.Ordering.{nat_cmp}
 use Rattle.std.specs.Cmp.{nat_cmp_is, ranked}

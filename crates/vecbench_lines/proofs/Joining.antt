@@ -1,16 +1,16 @@
 -- The lines of a text that comes in two pieces.
-use Rattle.std.proofs.Common.{arith, ◌≡◌, ◌∙◌, ap, sym, refl, subst, ℕ, ◌+◌, ◌<◌, ◌==◌, Bool, true, false, cond, List, [], ◌∷◌, ◌++◌, length, if◌then◌else◌, Option, Some, None}
+use Rattle.std.proofs.Common.{arith, ◌≡◌, ◌∙◌, ap, sym, refl, subst, ℕ, ◌<◌, ◌==◌, Bool, true, false, cond, List, [], ◌∷◌, ◌++◌, length, if◌then◌else◌, Option, Some, None}
 use Rattle.std.proofs.lemmas.List.{append_assoc, append-nil}
 use Rattle.std.proofs.lemmas.Bool.{true≢false}
 use Rattle.std.proofs.lemmas.List.Splits.{length-slice_split}
-use Rattle.std.specs.List.{slice_split, onto_first}
+use Rattle.std.specs.List.{onto_first}
 use Rattle.std.specs.Str.Lines.{lines, lines_of_parts, strip_carriage_return}
 use Rattle.std.specs.Io.KnownBytes.{Consumes, Keeps, IsAtEnd}
 use Rattle.std.proofs.KnownBytes.{Appends-kept, Appends-nil}
 use Rattle.vecbench_lines.specs.declared.serve.Session.{Session}
 use Rattle.vecbench_lines.specs.declared.parts.Separator.TheVariants.{Newline}
 use Rattle.vecbench_lines.specs.Parts.{parts_of, parts_at}
-use Rattle.vecbench_lines.specs.Served.{Progress, Stands, ended_lines, last_part, ended_in, left_of}
+use Rattle.vecbench_lines.specs.Served.{Progress, Stands, ended_in, left_of}
 
 -- the parts, the first of which stands behind what was taken
 abbrev pub onto : List ℕ → List (List ℕ) → List (List ℕ)
@@ -70,7 +70,7 @@ lines_of_parts-glue taken (p ∷ r ∷ others) qs some more =
     let there : 0 < length (glue (r ∷ others) qs) = glue-some (r ∷ others) qs (omega arith) in
     lines_of_parts-cons (taken ++ p) (glue (r ∷ others) qs) there ∙
     ap (λ ls. strip_carriage_return (taken ++ p) ∷ ls)
-      (ap lines_of_parts (sym (onto-nil (glue (r ∷ others) qs) there)) ∙ lines_of_parts-glue [] (r ∷ others) qs (omega arith) more)
+    (ap lines_of_parts (sym (onto-nil (glue (r ∷ others) qs) there)) ∙ lines_of_parts-glue [] (r ∷ others) qs (omega arith) more)
 
 -- the lines behind what was taken, where a chunk of the text is taken next
 pub lines_behind-append : (taken chunk rest : List ℕ) → lines_behind taken (chunk ++ rest) ≡ ended_in taken (parts_of Newline chunk) ++ lines_behind (left_of taken (parts_of Newline chunk)) rest
@@ -124,10 +124,10 @@ Progress-kept ls start old new s kept p =
 -- a session that begins
 pub Stands-fresh : (start : Option (List ℕ)) (s : Session) → (s.is_stored ≡ true) × (s.line.items ≡ []) × (s.lines ≡ 0) × (s.has_fault ≡ false) → Stands [] [] start start s
 Stands-fresh start s fresh = record {
-    progress = record { text = []; replies = (refl, fresh.3); count = fresh.2; written = Appends-nil start };
-    holds = λ stored. fresh.1;
-    misses = λ lost. absurd (true≢false (sym fresh.0 ∙ lost))
-  }
+  progress = record { text = []; replies = (refl, fresh.3); count = fresh.2; written = Appends-nil start };
+  holds = λ stored. fresh.1;
+  misses = λ lost. absurd (true≢false (sym fresh.0 ∙ lost));
+}
 
 -- what stands with a writer stands where that is flushed
 pub Stands-kept : (ls : List (List ℕ)) (taken : List ℕ) (start old new : Option (List ℕ)) (s : Session) → Keeps old new → Stands ls taken start old s → Stands ls taken start new s
@@ -146,7 +146,7 @@ Reading-chunk text chunk before after start old new s t r took stands =
       reader = read.1;
       stands = stands;
       whole = r.whole ∙ ap (λ bs. r.done ++ lines_behind r.taken bs) read.2 ∙ ap (λ ls. r.done ++ ls) (lines_behind-append r.taken chunk read.0) ∙
-        sym (append_assoc r.done (ended_in r.taken (parts_of Newline chunk)) (lines_behind (left_of r.taken (parts_of Newline chunk)) read.0))
+          sym (append_assoc r.done (ended_in r.taken (parts_of Newline chunk)) (lines_behind (left_of r.taken (parts_of Newline chunk)) read.0));
     }
 
 -- at the end of the text its last line is left

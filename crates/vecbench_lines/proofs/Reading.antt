@@ -1,5 +1,5 @@
 -- Numbers that are read digit by digit.
-use Rattle.std.proofs.Common.{arith, ◌≡◌, ◌∙◌, ap, refl, ℕ, ◌+◌, ◌*◌, ◌^◌, ◌<◌, ◌≤◌, Bool, true, false, ◌&&◌, if◌then◌else◌, nat_lt, IsTrue, List, [], ◌∷◌, Option, Some, None, length, slice_index}
+use Rattle.std.proofs.Common.{arith, ◌≡◌, ap, refl, ℕ, ◌+◌, ◌*◌, ◌^◌, ◌<◌, ◌≤◌, Bool, true, false, ◌&&◌, if◌then◌else◌, nat_lt, IsTrue, List, [], ◌∷◌, Option, Some, None, length, slice_index}
 use Rattle.std.proofs.lemmas.Bool.{le-ltb}
 use Rattle.std.specs.Char.{is_ascii_digit, digit_value}
 use Rattle.std.specs.Str.{all_ascii_digits}
@@ -27,6 +27,6 @@ pub number_after-refused : (n : ℕ) (word : List ℕ) → 1 ≤ length word →
 number_after-refused n [] some refused = absurd (omega (arith, some))
 number_after-refused n (c ∷ cs) some refused =
     no_number (is_ascii_digit c) (all_ascii_digits cs) (digits_value_after 10 (n * 10 + digit_value c) cs) (λ is.
-      let more : n * 10 + digit_value c ≤ digits_value_after 10 (n * 10 + digit_value c) cs = digits_value_after-le (n * 10 + digit_value c) cs in
-      let big : ¬ (n * 10 + digit_value c < 2 ^ 64) = λ fits. refused (is, fits) in
-      omega (arith, more, big))
+    let more : n * 10 + digit_value c ≤ digits_value_after 10 (n * 10 + digit_value c) cs = digits_value_after-le (n * 10 + digit_value c) cs in
+    let big : ¬ (n * 10 + digit_value c < 2 ^ 64) = λ fits. refused (is, fits) in
+    omega (arith, more, big))

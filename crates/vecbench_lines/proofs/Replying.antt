@@ -1,5 +1,5 @@
 -- Replies to lines, one after another.
-use Rattle.std.proofs.Common.{arith, ◌≡◌, ◌∙◌, ap, sym, refl, subst, ℕ, ◌+◌, ◌-◌, ◌^◌, ◌||◌, min, Bool, true, false, List, [], ◌∷◌, ◌++◌, length, Option, Result, Ok, Err, OnOk}
+use Rattle.std.proofs.Common.{arith, ◌≡◌, ◌∙◌, ap, sym, refl, subst, ℕ, ◌+◌, ◌||◌, Bool, true, false, List, [], ◌∷◌, ◌++◌, length, Option, Result, Ok, Err, OnOk}
 use Rattle.std.proofs.lemmas.List.{append-nil, append_assoc, length-append}
 use Rattle.std.proofs.KnownBytes.{Appends-trans}
 use Rattle.std.specs.Io.KnownBytes.{Appends}
@@ -27,11 +27,16 @@ AreReplies-snoc n [] line text reply faulty this before is =
     (reply, [], this, false, subst (λ m. IsReply m line reply this) number is, (refl, refl), ap (λ t. t ++ reply) before.0 ∙ sym (append-nil reply), ap (λ b. b || this) before.1 ∙ sym (or-false this))
 AreReplies-snoc n (first ∷ lines) line text reply faulty this before is =
     let sum : n + length (first ∷ lines) ≡ n + 1 + length lines = omega arith in
-    let number : counted (n + length (first ∷ lines) + 1) ≡ counted (n + 1 + length lines + 1) = ap (λ m. counted (m + 1)) sum in
-    (before.0, before.1 ++ reply, before.2, before.3 || this, before.4,
+    let number : counted (n + length (first ∷ lines) + 1) ≡ counted (n + 1 + length lines + 1) = ap (λ m. counted (m + 1)) sum in (
+      before.0,
+      before.1 ++ reply,
+      before.2,
+      before.3 || this,
+      before.4,
       AreReplies-snoc (n + 1) lines line before.1 reply before.3 this before.5 (subst (λ m. IsReply m line reply this) number is),
       ap (λ t. t ++ reply) before.6 ∙ append_assoc before.0 before.1 reply,
-      ap (λ b. b || this) before.7 ∙ or-assoc before.2 before.3 this)
+      ap (λ b. b || this) before.7 ∙ or-assoc before.2 before.3 this,
+    )
 
 -- counting one line more
 pub counted-step : (n : ℕ) → counted (counted n + 1) ≡ counted (n + 1)
@@ -46,9 +51,9 @@ Progress-snoc lines start old new s t line reply this before is written fault co
     record {
       text = before.text ++ reply;
       replies = subst (λ b. AreReplies 0 (lines ++ line ∷ []) (before.text ++ reply) b) (sym fault)
-        (AreReplies-snoc 0 lines line before.text reply s.has_fault this before.replies (subst (λ m. IsReply m line reply this) number is));
+          (AreReplies-snoc 0 lines line before.text reply s.has_fault this before.replies (subst (λ m. IsReply m line reply this) number is));
       count = count ∙ more ∙ ap counted (sym (length-append lines (line ∷ [])));
-      written = Appends-trans start old new before.text reply before.written written
+      written = Appends-trans start old new before.text reply before.written written;
     }
 
 -- what follows where a call succeeds

@@ -136,7 +136,7 @@ impl Session {
         ensures { (lines : List (List ℕ)) → (taken : List ℕ) → (start : Option (List ℕ))
             → Stands lines taken start (O.contents output.old) self.old
             → OnOk result (Stands (lines ++ ended_in taken (parts_of Newline chunk.now)) (left_of taken (parts_of Newline chunk.now))
-                start (O.contents output.new) self.new) }
+            start (O.contents output.new) self.new) }
     {
         let (piece, mut rest) = Separator::Newline.cut(chunk);
         self.take(piece);

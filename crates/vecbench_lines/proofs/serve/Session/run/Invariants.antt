@@ -8,5 +8,5 @@ abbrev pub invariant-loop : goal.invariant-loop
 invariant-loop g l =
     (0 < length l.chunk) ×
     ((text : List ℕ) → g.I.Read.remaining l.initial.input ≡ Some text
-      → Stands [] [] (g.O.Write.contents l.initial.output) (g.O.Write.contents l.initial.output) l.initial.self
-      → Reading text (g.I.Read.remaining l.input) (g.O.Write.contents l.initial.output) (g.O.Write.contents l.output) l.self)
+    → Stands [] [] (g.O.Write.contents l.initial.output) (g.O.Write.contents l.initial.output) l.initial.self
+    → Reading text (g.I.Read.remaining l.input) (g.O.Write.contents l.initial.output) (g.O.Write.contents l.output) l.self)

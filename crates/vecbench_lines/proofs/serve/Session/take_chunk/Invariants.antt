@@ -1,4 +1,4 @@
-use Rattle.std.proofs.Common.{◌≡◌, ◌++◌, List, ℕ, Option, length}
+use Rattle.std.proofs.Common.{List, ℕ, Option, length}
 use Rattle.vecbench_lines.specs.declared.parts.Separator.TheVariants.{Newline}
 use Rattle.vecbench_lines.specs.Parts.{parts_of_rest}
 use Rattle.vecbench_lines.specs.Served.{Stands}
