@@ -1,0 +1,13 @@
+pub mod BlockSteps
+pub mod BuilderTakes
+pub mod Chains
+pub mod Extending
+pub mod Lists
+pub mod PlacesLaid
+pub mod PlacesMemory
+pub mod PlacesShared
+pub mod Runs
+pub mod Scripts
+pub mod WalkNames
+pub mod MovesDownLemmas
+pub mod ClonesLemmas

@@ -1,0 +1,16 @@
+pub mod Ascending
+pub mod Block
+pub mod Both
+pub mod Builder
+pub mod BuilderLends
+pub mod Building
+pub mod Chain
+pub mod Count
+pub mod Places
+pub mod PlacesLend
+pub mod PlacesOwned
+pub mod Progress
+pub mod Script
+pub mod MovesDown
+pub mod SiftViews
+pub mod InPlaceViews

@@ -1,0 +1,97 @@
+-- An ascending list with an element put in, replaced or taken out.
+use Rattle.std.proofs.Common.{◌≡◌, ℕ, zero, suc, ◌<◌, Bool, true, false, not, cond, ◌||◌, List, [], ◌∷◌, ◌++◌, length, take, drop, get_or, insert, set, Option, Some, is_some, Ok, Err, refl, sym, ap, subst, ◌∙◌, arith}
+use Rattle.std.proofs.Math.ListN.{take-append-drop}
+use Rattle.std.specs.List.{AllByRecursion}
+use Rattle.std.specs.List.Sorted.{IsStrictlySortedBy}
+use Rattle.std.specs.Cmp.{IsTotalOrder, alike_right}
+use Rattle.std.specs.Option.{option_or}
+use Rattle.std.specs.Ordering.{eq_by_cmp, is_eq}
+use Rattle.std.specs.declared.cmp.Ordering.{Ordering}
+use Rattle.std.specs.declared.cmp.Ordering.TheVariants.{Less, Equal}
+use Rattle.vc_merge.specs.Ascending.{Ascends, member, element_at}
+use Rattle.vc_merge.proofs.Lists.{each-weaker, each-at, ascends-append}
+use Rattle.vc_sets.specs.Place.{IsPlace}
+use Rattle.vc_sets.proofs.Members.{member-is_some, element_at-append, equal-alike, equal_from_is_eq}
+use Rattle.vc_sets.proofs.Searching.{none_below, place-is_ok}
+
+module _ {X : Type 0} where
+  each-front : (P : X → Type 0) (xs ys : List X) → AllByRecursion P (xs ++ ys) → AllByRecursion P xs
+  each-front P [] ys p = tt
+  each-front P (x ∷ xs) ys p = (p.0, each-front P xs ys p.1)
+
+  each-append : (P : X → Type 0) (xs ys : List X) → AllByRecursion P xs → AllByRecursion P ys → AllByRecursion P (xs ++ ys)
+  each-append P [] ys p q = q
+  each-append P (x ∷ xs) ys p q = (p.0, each-append P xs ys p.1 q)
+
+  each-set : (P : X → Type 0) (xs : List X) (i : ℕ) (x : X) → P x → AllByRecursion P xs → AllByRecursion P (set xs i x)
+  each-set P [] i x h p = tt
+  each-set P (y ∷ ys) zero x h p = (h, p.1)
+  each-set P (y ∷ ys) (suc i) x h p = (p.0, each-set P ys i x h p.1)
+
+module _ {X : Type 0} (cmp : X → X → Ordering) (total : IsTotalOrder cmp) where
+  ascends-front : (xs ys : List X) → Ascends cmp (xs ++ ys) → Ascends cmp xs
+  unfolding IsStrictlySortedBy
+  ascends-front [] ys p = tt
+  ascends-front (x ∷ xs) ys p = (each-front (λ y. cmp x y ≡ Less) xs ys p.0, ascends-front xs ys p.1)
+
+  ascends-between : (xs : List X) (x : X) (ys : List X) → Ascends cmp xs → AllByRecursion (λ y. cmp y x ≡ Less) xs → Ascends cmp ys → AllByRecursion (λ y. cmp x y ≡ Less) ys → Ascends cmp (xs ++ x ∷ ys)
+  unfolding IsStrictlySortedBy
+  ascends-between [] x ys p q r s = (s, r)
+  ascends-between (a ∷ xs) x ys p q r s =
+      (each-append (λ y. cmp a y ≡ Less) xs (x ∷ ys) p.0 (q.0, each-weaker (λ y. cmp x y ≡ Less) (λ y. cmp a y ≡ Less) (λ y e. total.trans a x y q.0 e) ys s), ascends-between xs x ys p.1 q.1 r s)
+
+  -- ---- a new element
+
+  pub ascends-insert : (xs ys : List X) (x : X) (i : ℕ) → IsPlace cmp xs x (Err i) → Ascends cmp xs → ys ≡ insert xs i x → Ascends cmp ys
+  ascends-insert xs ys x i p q e =
+      let parts : Ascends cmp (take i xs ++ drop i xs) = subst (λ l. Ascends cmp l) (sym (take-append-drop i xs)) q in
+      subst (λ l. Ascends cmp l) (sym e) (ascends-between (take i xs) x (drop i xs) (ascends-front (take i xs) (drop i xs) parts) p.1 (ascends-append cmp (take i xs) (drop i xs) parts) p.2)
+
+  inserted_by : (b : Bool) (xs : List X) (x z : X) (i : ℕ) → AllByRecursion (λ y. cmp y x ≡ Less) (take i xs) → eq_by_cmp cmp x z ≡ b
+      → option_or (element_at cmp (take i xs) z) (cond b (Some x) (element_at cmp (drop i xs) z)) ≡ cond b (Some x) (element_at cmp xs z)
+  inserted_by true xs x z i p e = ap (λ o. option_or o (Some x)) (none_below cmp total (take i xs) x z p (equal_from_is_eq (cmp x z) e))
+  inserted_by false xs x z i p e = sym (element_at-append cmp (take i xs) (drop i xs) z) ∙ ap (λ l. element_at cmp l z) (take-append-drop i xs)
+
+  pub element_at-insert : (xs ys : List X) (x : X) (i : ℕ) → IsPlace cmp xs x (Err i) → ys ≡ insert xs i x → (z : X) → element_at cmp ys z ≡ cond (eq_by_cmp cmp x z) (Some x) (element_at cmp xs z)
+  element_at-insert xs ys x i p e z = ap (λ l. element_at cmp l z) e ∙ element_at-append cmp (take i xs) (x ∷ drop i xs) z ∙ inserted_by (eq_by_cmp cmp x z) xs x z i p.1 refl
+
+  -- ---- a new element in the place of an equal one
+
+  pub ascends-set : (xs : List X) (x : X) (i : ℕ) → IsPlace cmp xs x (Ok i) → Ascends cmp xs → Ascends cmp (set xs i x)
+  unfolding IsStrictlySortedBy
+  ascends-set [] x i h p = tt
+  ascends-set (y ∷ ys) x zero h p = (each-weaker (λ z. cmp y z ≡ Less) (λ z. cmp x z ≡ Less) (λ z k. sym (total.congr y x z (h.1 x)) ∙ k) ys p.0, p.1)
+  ascends-set (y ∷ ys) x (suc i) h p =
+      let k : i < length ys = omega (arith, h.0) in
+      (each-set (λ z. cmp y z ≡ Less) ys i x (sym (alike_right total (get_or ys i x) x y (h.1 x)) ∙ each-at (λ z. cmp y z ≡ Less) ys i x k p.0) p.0, ascends-set ys x i (k, h.1) p.1)
+
+  replaced_by : (b : Bool) (x y z : X) (o : Option X) → cmp y x ≡ Equal → eq_by_cmp cmp x z ≡ b → cond b (Some x) o ≡ cond b (Some x) (cond (eq_by_cmp cmp y z) (Some y) o)
+  replaced_by true x y z o e f = refl
+  replaced_by false x y z o e f = sym (ap (λ c. cond c (Some y) o) (sym (equal-alike cmp total y x z e) ∙ f))
+
+  passed_by : (b : Bool) (x y z : X) (o : Option X) → cmp y x ≡ Less → eq_by_cmp cmp x z ≡ b → cond (eq_by_cmp cmp y z) (Some y) (cond b (Some x) o) ≡ cond b (Some x) (cond (eq_by_cmp cmp y z) (Some y) o)
+  passed_by true x y z o e f = ap (λ c. cond c (Some y) (Some x)) (ap is_eq (sym (alike_right total x z y (equal_from_is_eq (cmp x z) f)) ∙ e))
+  passed_by false x y z o e f = refl
+
+  pub element_at-set : (xs : List X) (x : X) (i : ℕ) → IsPlace cmp xs x (Ok i) → Ascends cmp xs → (z : X) → element_at cmp (set xs i x) z ≡ cond (eq_by_cmp cmp x z) (Some x) (element_at cmp xs z)
+  unfolding IsStrictlySortedBy
+  element_at-set [] x i h p z = absurd (omega (arith, h.0))
+  element_at-set (y ∷ ys) x zero h p z = replaced_by (eq_by_cmp cmp x z) x y z (element_at cmp ys z) (h.1 x) refl
+  element_at-set (y ∷ ys) x (suc i) h p z =
+      let k : i < length ys = omega (arith, h.0) in
+      let below : cmp y x ≡ Less = sym (alike_right total (get_or ys i x) x y (h.1 x)) ∙ each-at (λ z. cmp y z ≡ Less) ys i x k p.0 in
+      ap (λ o. cond (eq_by_cmp cmp y z) (Some y) o) (element_at-set ys x i (k, h.1) p.1 z) ∙ passed_by (eq_by_cmp cmp x z) x y z (element_at cmp ys z) below refl
+
+  -- ---- members follow from what is kept
+
+  some_by : (b : Bool) (x : X) (o : Option X) → is_some (cond b (Some x) o) ≡ (b || is_some o)
+  some_by true x o = refl
+  some_by false x o = refl
+
+  pub members-put : (xs ys : List X) (x : X) → ((z : X) → element_at cmp ys z ≡ cond (eq_by_cmp cmp x z) (Some x) (element_at cmp xs z)) → (z : X) → member cmp ys z ≡ (eq_by_cmp cmp x z || member cmp xs z)
+  members-put xs ys x h z = member-is_some cmp ys z ∙ ap is_some (h z) ∙ some_by (eq_by_cmp cmp x z) x (element_at cmp xs z) ∙ ap (λ b. eq_by_cmp cmp x z || b) (sym (member-is_some cmp xs z))
+
+  -- ---- the answer
+
+  pub new-answer : (xs : List X) (x : X) (i : ℕ) → IsPlace cmp xs x (Err i) → true ≡ not (member cmp xs x)
+  new-answer xs x i p = ap not (place-is_ok cmp total xs x (Err i) p)

@@ -1,0 +1,6 @@
+pub mod Members
+pub mod Selected
+pub mod Combined
+pub mod Searching
+pub mod Editing
+pub mod Witnessed

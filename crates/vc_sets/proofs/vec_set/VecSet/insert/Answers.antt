@@ -1,0 +1,69 @@
+use Rattle.std.proofs.Common.{sym, ap, ◌∙◌, ◌≡◌, length, arith, Ok, Err, Some, cond, true, not, set, is_ok, ℕ, List}
+use Rattle.std.specs.Ordering.{eq_by_cmp}
+use mathlib.Core.Bool.{true≢false}
+use Rattle.std.proofs.lemmas.List.{length-set}
+use Rattle.smallvec.proofs.SmallVecLemmas.{items-with_items}
+use Rattle.std.specs.List.{refill}
+use Rattle.vc_merge.specs.Ascending.{member, element_at}
+use Rattle.vc_sets.proofs.Searching.{found_place}
+use Rattle.vc_sets.proofs.Editing.{ascends-insert, element_at-insert, ascends-set, element_at-set, members-put, new-answer}
+use Rattle.vc_sets.proofs.vec_set.VecSet.insert.Goals as goal
+
+-- the list, once an element was written through its slice
+written : {X : Type 0} (xs ys : List X) (i : ℕ) (x : X) → ys ≡ xs → refill (length xs) xs (set ys i x) ≡ set xs i x
+written xs ys i x e =
+    ap (λ l. refill (length xs) xs (set l i x)) e
+    ∙ items-with_items (record { items = xs; capacity = 0 }) (set xs i x) (length-set xs i x)
+
+-- ---- an equal element was found
+
+pub invariant_of-self : goal.invariant_of-self
+invariant_of-self g c =
+    let p = found_place g.T.Ord.cmp g.met.T.Ord.total c.self.inside.elements.items c.as_slice.result.now c.args.that (Ok c.in-Ok.index) c.as_slice.ensures c.self.invariant c.in-Ok.ensures.bound c.in-Ok.ensures.position in
+    rw (written _ _ c.in-Ok.index c.args.that c.as_mut_slice.ensures.value) (ascends-set g.T.Ord.cmp g.met.T.Ord.total _ c.args.that c.in-Ok.index p c.self.invariant)
+
+pub returns-in-Ok-clause-kept : goal.returns-in-Ok-clause-kept
+returns-in-Ok-clause-kept g c =
+    let p = found_place g.T.Ord.cmp g.met.T.Ord.total c.self.inside.elements.items c.as_slice.result.now c.args.that (Ok c.in-Ok.index) c.as_slice.ensures c.self.invariant c.in-Ok.ensures.bound c.in-Ok.ensures.position in
+    λ z. ap (λ l. element_at g.T.Ord.cmp l z) (written _ _ c.in-Ok.index c.args.that c.as_mut_slice.ensures.value)
+    ∙ element_at-set g.T.Ord.cmp g.met.T.Ord.total _ c.args.that c.in-Ok.index p c.self.invariant z
+    ∙ ap (λ l. cond (eq_by_cmp g.T.Ord.cmp c.args.that z) (Some c.args.that) (element_at g.T.Ord.cmp l z)) c.self.view_is
+
+pub returns-in-Ok-clause-members : goal.returns-in-Ok-clause-members
+returns-in-Ok-clause-members g c = members-put g.T.Ord.cmp g.met.T.Ord.total _ _ c.args.that (returns-in-Ok-clause-kept g c)
+
+-- ---- a new element
+
+pub invariant_of-self-in-Err : goal.invariant_of-self-in-Err
+invariant_of-self-in-Err g c =
+    let p = found_place g.T.Ord.cmp g.met.T.Ord.total c.self.inside.elements.items c.as_slice.result.now c.args.that (Err c.in-Err.index) c.as_slice.ensures c.self.invariant c.in-Err.ensures.bound c.in-Err.ensures.position in
+    ascends-insert g.T.Ord.cmp g.met.T.Ord.total c.self.inside.elements.items c.insert.new.self.items c.args.that c.in-Err.index p c.self.invariant c.in_ok-insert-in-Err.ensures.ok
+
+pub returns-in_ok-insert-in-Err-clause-answer : goal.returns-in_ok-insert-in-Err-clause-answer
+returns-in_ok-insert-in-Err-clause-answer g c =
+    let p = found_place g.T.Ord.cmp g.met.T.Ord.total c.self.inside.elements.items c.as_slice.result.now c.args.that (Err c.in-Err.index) c.as_slice.ensures c.self.invariant c.in-Err.ensures.bound c.in-Err.ensures.position in
+    new-answer g.T.Ord.cmp g.met.T.Ord.total _ c.args.that c.in-Err.index p ∙ ap (λ l. not (member g.T.Ord.cmp l c.args.that)) c.self.view_is
+
+pub returns-in_ok-insert-in-Err-clause-kept : goal.returns-in_ok-insert-in-Err-clause-kept
+returns-in_ok-insert-in-Err-clause-kept g c =
+    let p = found_place g.T.Ord.cmp g.met.T.Ord.total c.self.inside.elements.items c.as_slice.result.now c.args.that (Err c.in-Err.index) c.as_slice.ensures c.self.invariant c.in-Err.ensures.bound c.in-Err.ensures.position in
+    λ z. element_at-insert g.T.Ord.cmp g.met.T.Ord.total c.self.inside.elements.items c.insert.new.self.items c.args.that c.in-Err.index p c.in_ok-insert-in-Err.ensures.ok z
+    ∙ ap (λ l. cond (eq_by_cmp g.T.Ord.cmp c.args.that z) (Some c.args.that) (element_at g.T.Ord.cmp l z)) c.self.view_is
+
+pub returns-in_ok-insert-in-Err-clause-members : goal.returns-in_ok-insert-in-Err-clause-members
+returns-in_ok-insert-in-Err-clause-members g c = members-put g.T.Ord.cmp g.met.T.Ord.total _ _ c.args.that (returns-in_ok-insert-in-Err-clause-kept g c)
+
+pub returns-in_err-insert-in-Err-clause-room : goal.returns-in_err-insert-in-Err-clause-room
+returns-in_err-insert-in-Err-clause-room g c =
+    λ h.
+    let v : length c.self.inside.elements.items ≡ length c.args.self.now = ap length c.self.view_is in
+    let n = c.capacity-capacity.ensures.at_least_inline in
+    let e = c.capacity-capacity.ensures.value in
+    let o : is_ok c.insert.result ≡ true = c.insert.ensures.succeeds (omega arith) in
+    absurd (true≢false (sym o ∙ ap is_ok (c.in_err-insert-in-Err.was {u = tt})))
+
+pub returns-in_err-insert-in-Err-clause-known : goal.returns-in_err-insert-in-Err-clause-known
+returns-in_err-insert-in-Err-clause-known g c =
+    let p = found_place g.T.Ord.cmp g.met.T.Ord.total c.self.inside.elements.items c.as_slice.result.now c.args.that (Err c.in-Err.index) c.as_slice.ensures c.self.invariant c.in-Err.ensures.bound c.in-Err.ensures.position in
+    let n : true ≡ not (member g.T.Ord.cmp c.args.self.now c.args.that) = new-answer g.T.Ord.cmp g.met.T.Ord.total _ c.args.that c.in-Err.index p ∙ ap (λ l. not (member g.T.Ord.cmp l c.args.that)) c.self.view_is in
+    λ h. absurd (true≢false (n ∙ ap not h))

@@ -1,0 +1,5 @@
+pub mod SetOf
+pub mod Tests
+pub mod Algebra
+pub mod Select
+pub mod Place

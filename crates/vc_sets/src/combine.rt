@@ -1,0 +1,77 @@
+//! Set operations on two ascending lists that build a fresh one.
+ghost use Rattle.std.specs.Prelude.{◌+◌, ◌≤◌, true, false, not, length, IfOk};
+ghost use Rattle.vc_merge.specs.Ascending.{Ascends};
+ghost use Rattle.vc_merge.specs.Count.{bound};
+ghost use Rattle.vc_sets.specs.SetOf.{ClonesAreEqual, IsSetOf};
+ghost use Rattle.vc_sets.specs.Algebra.{made_by};
+ghost use Rattle.vc_sets.specs.Select.{keeps};
+
+use crate::operations::{EitherOp, LeftOp};
+use crate::vec_set::SetOp;
+use smallvec::SmallVec;
+use std::alloc::{AllocError, Allocator};
+use std::default::MadeWith;
+use vc_merge::merge::{Count, merge};
+use vc_merge::states::SmallVecMergeState;
+
+/// What stands in either list alone and, if `BOTH`, the left one of what stands in both. It reserves room for all of it at the start.
+pub fn combine_either<
+    const BOTH: bool,
+    T: Ord + Clone + MadeWith<A>,
+    C: Count,
+    const N: usize,
+    A: Allocator + Copy,
+>(alloc: A, a: &[T], b: &[T], steps: &mut C) -> Result<SmallVec<T, N, A>, AllocError>
+    requires a_ascends { Ascends T.cmp a.now }
+    requires b_ascends { Ascends T.cmp b.now }
+    requires clones { ClonesAreEqual T.cmp T.is_clone }
+    ensures combined { IfOk result (λ v. IsSetOf T.cmp T.is_clone T.is_clone (keeps true true BOTH) a.now b.now v.items) }
+    ensures counted { C.counted steps.new ≤ C.counted steps.old + bound (length a.now) (length b.now) }
+{
+    let mut built = SmallVec::with_capacity(alloc, a.len().saturating_add(b.len()))?;
+    let mut state = SmallVecMergeState::new(a, b, &mut built);
+    merge(&mut state, &EitherOp::<BOTH>, steps)?;
+    Ok(built)
+}
+
+/// What stands in the left list alone or, if `BOTH`, the left one of what stands in both.
+pub fn combine_left<
+    const BOTH: bool,
+    T: Ord + Clone + MadeWith<A>,
+    C: Count,
+    const N: usize,
+    A: Allocator + Copy,
+>(alloc: A, a: &[T], b: &[T], steps: &mut C) -> Result<SmallVec<T, N, A>, AllocError>
+    requires a_ascends { Ascends T.cmp a.now }
+    requires b_ascends { Ascends T.cmp b.now }
+    requires clones { ClonesAreEqual T.cmp T.is_clone }
+    ensures combined { IfOk result (λ v. IsSetOf T.cmp T.is_clone T.is_clone (keeps (not BOTH) false BOTH) a.now b.now v.items) }
+    ensures counted { C.counted steps.new ≤ C.counted steps.old + bound (length a.now) (length b.now) }
+{
+    let mut built = SmallVec::new(alloc);
+    let mut state = SmallVecMergeState::new(a, b, &mut built);
+    merge(&mut state, &LeftOp::<BOTH>, steps)?;
+    Ok(built)
+}
+
+/// The operation `op` of two ascending lists.
+pub fn combine<T: Ord + Clone + MadeWith<A>, C: Count, const N: usize, A: Allocator + Copy>(
+    alloc: A,
+    a: &[T],
+    b: &[T],
+    op: SetOp,
+    steps: &mut C,
+) -> Result<SmallVec<T, N, A>, AllocError>
+    requires a_ascends { Ascends T.cmp a.now }
+    requires b_ascends { Ascends T.cmp b.now }
+    requires clones { ClonesAreEqual T.cmp T.is_clone }
+    ensures combined { IfOk result (λ v. IsSetOf T.cmp T.is_clone T.is_clone (made_by op) a.now b.now v.items) }
+    ensures counted { C.counted steps.new ≤ C.counted steps.old + bound (length a.now) (length b.now) }
+{
+    match op {
+        SetOp::Union => combine_either::<true, _, _, _, _>(alloc, a, b, steps),
+        SetOp::Intersection => combine_left::<true, _, _, _, _>(alloc, a, b, steps),
+        SetOp::SymmetricDifference => combine_either::<false, _, _, _, _>(alloc, a, b, steps),
+        SetOp::Difference => combine_left::<false, _, _, _, _>(alloc, a, b, steps),
+    }
+}

@@ -1,0 +1,86 @@
+//! The merge operations of sets. Of two equal elements both kinds keep the left one, or none.
+ghost use Rattle.std.specs.Prelude.{true, false, not};
+ghost use Rattle.vc_merge.specs.Both.{Both};
+ghost use Rattle.vc_sets.specs.Select.{both_sides, both_sides-total};
+
+use std::alloc::AllocError;
+use std::cmp::Ordering;
+use vc_merge::merge::{Count, MergeFromRight, MergeOperation, MergeStateMut};
+
+/// Keeps what stands on either side alone, and what stands on both if `BOTH`: the union, or the symmetric difference.
+pub struct EitherOp<const BOTH: bool>;
+
+/// Keeps what stands on the left alone, or, if `BOTH`, what stands on both: the difference, or the intersection.
+pub struct LeftOp<const BOTH: bool>;
+
+impl<const BOTH: bool, T: Ord, M: MergeFromRight<A = T, B = T>, C: Count> MergeOperation<M, C>
+    for EitherOp<BOTH> {
+    ghost order = { λ _. both_sides T.cmp };
+
+    ghost ready = { λ _ s. M.ready s };
+
+    ghost gives = { λ _. record {
+      from_a = λ s n answer t. M.advances_a s n true answer t;
+      from_b = λ s n answer t. M.takes_b s n answer t;
+      collision = λ s answer t. Both (λ p r q. M.advances_a p 1 BOTH r q) (λ p r q. M.skips_b p 1 r q) s answer t;
+    } };
+
+    ghost total = { λ _. both_sides-total T.cmp T.total };
+
+    fn cmp(&self, a: &T, b: &T, steps: &mut C) -> Ordering {
+        steps.tick();
+        a.cmp(b)
+    }
+
+    fn from_a(&self, state: &mut M, n: usize) -> Result<bool, AllocError> {
+        state.advance_a(n, true)
+    }
+
+    fn from_b(&self, state: &mut M, n: usize) -> Result<bool, AllocError> {
+        state.take_b(n)
+    }
+
+    fn collision(&self, state: &mut M) -> Result<bool, AllocError> {
+        if state.advance_a(1, BOTH)? {
+            state.skip_b(1)
+        } else {
+            Ok(false)
+        }
+    }
+}
+
+impl<const BOTH: bool, T: Ord, M: MergeStateMut<A = T, B = T>, C: Count> MergeOperation<M, C>
+    for LeftOp<BOTH> {
+    ghost order = { λ _. both_sides T.cmp };
+
+    ghost ready = { λ _ s. M.ready s };
+
+    ghost gives = { λ _. record {
+      from_a = λ s n answer t. M.advances_a s n (not BOTH) answer t;
+      from_b = λ s n answer t. M.skips_b s n answer t;
+      collision = λ s answer t. Both (λ p r q. M.advances_a p 1 BOTH r q) (λ p r q. M.skips_b p 1 r q) s answer t;
+    } };
+
+    ghost total = { λ _. both_sides-total T.cmp T.total };
+
+    fn cmp(&self, a: &T, b: &T, steps: &mut C) -> Ordering {
+        steps.tick();
+        a.cmp(b)
+    }
+
+    fn from_a(&self, state: &mut M, n: usize) -> Result<bool, AllocError> {
+        state.advance_a(n, !BOTH)
+    }
+
+    fn from_b(&self, state: &mut M, n: usize) -> Result<bool, AllocError> {
+        state.skip_b(n)
+    }
+
+    fn collision(&self, state: &mut M) -> Result<bool, AllocError> {
+        if state.advance_a(1, BOTH)? {
+            state.skip_b(1)
+        } else {
+            Ok(false)
+        }
+    }
+}

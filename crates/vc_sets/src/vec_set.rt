@@ -1,0 +1,154 @@
+//! `VecSet`, a small set as an ascending list.
+ghost use Rattle.std.specs.Prelude.{◌≡◌, ◌<◌, ◌||◌, ◌↔◌, [], ◌==◌, List, not, cond, Some, length, IfOk, IsOk, OnErr, IsTrue};
+ghost use Rattle.std.specs.Ordering.{eq_by_cmp};
+ghost use Rattle.vc_merge.specs.Ascending.{Ascends, member, element_at};
+ghost use Rattle.vc_sets.specs.Tests.{IsDisjoint, IsSubset};
+
+mod algebra;
+
+pub use algebra::{SetOp, SetTest, difference, intersection, symmetric_difference, union};
+use smallvec::SmallVec;
+use std::alloc::{AllocError, Allocator, Global};
+use std::default::MadeWith;
+use std::marker::Model;
+
+/// A set, as a list of its elements in ascending order, the first `N` of them without an allocation.
+///
+/// Contracts see it as that list.
+#[derive(Drop)]
+pub struct VecSet<T: Ord, const N: usize, A: Allocator = Global> {
+    elements: SmallVec<T, N, A>,
+}
+
+/// A set with room for two elements in place.
+pub type VecSet2<T> = VecSet<T, 2>;
+
+impl<T: Ord, const N: usize, A: Allocator> Model for VecSet<T, N, A> {
+    ghost use Rattle.std.specs.Prelude.{List};
+    ghost use Rattle.vc_merge.specs.Ascending.{Ascends};
+
+    ghost Value = { List T };
+
+    ghost view = { λ s. s.elements.items };
+
+    ghost invariant = { λ s. Ascends T.cmp s.elements.items };
+}
+
+impl<T: Ord, const N: usize, A: Allocator> VecSet<T, N, A> {
+    /// The number of elements.
+    pub fn len(&self) -> usize
+        ensures { result ≡ length self.now }
+    {
+        self.elements.len()
+    }
+
+    /// Whether there is no element.
+    pub fn is_empty(&self) -> bool
+        ensures { IsTrue result ↔ (self.now ≡ []) }
+    {
+        self.elements.is_empty()
+    }
+
+    /// The elements in ascending order.
+    pub fn as_ref(&self) -> &[T]
+        ensures elements { result.now ≡ self.now }
+        ensures ascends { Ascends T.cmp self.now }
+    {
+        self.elements.as_slice()
+    }
+}
+
+impl<T: Ord + MadeWith<A> + Drop, const N: usize, A: Allocator + Copy> VecSet<T, N, A> {
+    /// The set with no element. Takes no memory.
+    pub fn empty(alloc: A) -> Self
+        ensures { result ≡ [] }
+    {
+        VecSet {
+            elements: SmallVec::new(alloc),
+        }
+    }
+
+    /// The set of a list that ascends strictly, as [`ascends`](vc_merge::iterators::ascends) tells. The elements are moved.
+    pub fn from_vec(alloc: A, vec: Vec<T>) -> Result<Self, AllocError>
+        requires { Ascends T.cmp vec.items }
+        ensures { IfOk result (λ s. s ≡ vec.items) }
+    {
+        let elements = vec.into_iter().collect(alloc)?;
+        Ok(VecSet { elements })
+    }
+
+    /// Puts an element in, in the place of an equal one if there is one, and answers whether there was none.
+    ///
+    /// It takes memory only for a new element, where `N` or more are held. Refused, it leaves the set as it was and drops the element.
+    pub fn insert(&mut self, that: T) -> Result<bool, AllocError>
+        ensures answer { IfOk result (λ is_new. is_new ≡ not (member T.cmp self.old that)) }
+        ensures members { IfOk result (λ _. (x : T) → member T.cmp self.new x ≡ (eq_by_cmp T.cmp that x || member T.cmp self.old x)) }
+        ensures kept { IfOk result (λ _. (x : T) → element_at T.cmp self.new x ≡ cond (eq_by_cmp T.cmp that x) (Some that) (element_at T.cmp self.old x)) }
+
+        // It succeeds on a known element, and where fewer than `N` are held.
+        ensures known { IsTrue (member T.cmp self.old that) → IsOk result }
+        ensures room { length self.old < N → IsOk result }
+        ensures err { OnErr result (self.new ≡ self.old) }
+    {
+        // At least `N`, on which the success of an insert into a short set rests.
+        let _capacity = self.elements.capacity();
+        match self.elements.as_slice().binary_search(&that) {
+            Ok(index) => {
+                self.elements.as_mut_slice()[index] = that;
+                Ok(false)
+            }
+            Err(index) => {
+                self.elements.insert(index, that)?;
+                Ok(true)
+            }
+        }
+    }
+}
+
+/// A set whose elements can be read as one ascending list.
+///
+/// An implementation writes `as_slice` alone, and the elements that it shows.
+pub trait AbstractVecSet<T: Ord> {
+    ghost elements: { Self → List T };
+
+    /// The elements in ascending order.
+    fn as_slice(&self) -> &[T]
+        ensures elements { result.now ≡ elements self.now }
+        ensures ascends { Ascends T.cmp (elements self.now) };
+
+    /// Whether an element is equal to `value`. Searches by halving, and takes no memory.
+    fn contains(&self, value: &T) -> bool
+        ensures { result ≡ member T.cmp (elements self.now) value.now }
+    {
+        self.as_slice().binary_search(value).is_ok()
+    }
+
+    /// Whether no element is in both sets. It stops at the first that is, and takes no memory.
+    final fn is_disjoint<S: AbstractVecSet<T>>(&self, that: &S) -> bool
+        ensures { IsTrue result ↔ IsDisjoint T.cmp (elements self.now) (S.elements that.now) }
+    {
+        algebra::is_disjoint(self, that)
+    }
+
+    /// Whether each element of this set is in the other. It stops at the first that is not, and takes no memory.
+    final fn is_subset<S: AbstractVecSet<T>>(&self, that: &S) -> bool
+        ensures { IsTrue result ↔ IsSubset T.cmp (elements self.now) (S.elements that.now) }
+    {
+        algebra::is_subset(self, that)
+    }
+
+    /// Whether each element of the other set is in this one. It stops at the first that is not, and takes no memory.
+    final fn is_superset<S: AbstractVecSet<T>>(&self, that: &S) -> bool
+        ensures { IsTrue result ↔ IsSubset T.cmp (S.elements that.now) (elements self.now) }
+    {
+        algebra::is_superset(self, that)
+    }
+}
+
+impl<T: Ord, const N: usize, A: Allocator> AbstractVecSet<T> for VecSet<T, N, A> {
+    ghost elements = { λ s. s };
+
+    fn as_slice(&self) -> &[T] {
+        self.as_ref()
+    }
+}
