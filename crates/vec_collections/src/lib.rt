@@ -4,7 +4,9 @@
 //! those of `vec_set` also at its root.
 #![tactic(auto)]
 
-pub use vc_merge::iterators;
-pub use vc_merge::merge;
+pub use vc_merge::{iterators, merge};
 pub use vc_sets::vec_set;
-pub use vc_sets::vec_set::{AbstractVecSet, VecSet};
+pub use vc_sets::vec_set::{
+    AbstractVecSet, SetOp, SetTest, VecSet, VecSet2, difference, intersection,
+    symmetric_difference, union,
+};

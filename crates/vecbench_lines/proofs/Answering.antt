@@ -2,7 +2,7 @@
 use Rattle.std.proofs.Common.{◌≡◌, ◌∙◌, ap, refl, ℕ, ◌||◌, List, ◌++◌, Result, Ok, Err, OnOk}
 use Rattle.std.specs.Ordering.{nat_cmp}
 use Rattle.std.specs.declared.alloc.AllocError.{AllocError}
-use Rattle.vec_collections.specs.Members.{IsSetOf}
+use Rattle.vec_collections.specs.SetOf.{IsSetOf}
 use Rattle.vecbench_lines.specs.declared.set_line.SetOperation.{SetOperation}
 use Rattle.vecbench_lines.specs.declared.set_line.SetOperation.TheVariants.{Union}
 use Rattle.vecbench_lines.specs.Numbers.{list_text}
@@ -10,7 +10,7 @@ use Rattle.vecbench_lines.specs.Answers.{IsUnion, AnswersSets}
 use Rattle.vecbench_lines.proofs.Ascending.{test-from_Ascends}
 
 -- the union that the library makes is one
-pub IsUnion-from_set : {copy : ℕ → ℕ → Type 0} (left right both : List ℕ) → IsSetOf nat_cmp copy ◌||◌ left right both → IsUnion left right both
+pub IsUnion-from_set : {copy : ℕ → ℕ → Type 0} (left right both : List ℕ) → IsSetOf nat_cmp copy copy ◌||◌ left right both → IsUnion left right both
 IsUnion-from_set left right both set = record { ascends = test-from_Ascends both set.ascends; members = set.members }
 
 -- where the list that was written is the union, the text grew by an answer

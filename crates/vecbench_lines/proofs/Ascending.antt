@@ -4,8 +4,9 @@ use Rattle.std.proofs.lemmas.Bool.{ltb-true, lt-ltb, true≢false}
 use Rattle.std.specs.Ordering.{nat_cmp}
 use Rattle.std.specs.Cmp.{nat_cmp_is, ranked}
 use Rattle.std.specs.List.{AllByRecursion}
+use Rattle.std.specs.List.Sorted.{IsStrictlySortedBy}
 use Rattle.std.specs.declared.cmp.Ordering.TheVariants.{Less}
-use Rattle.vec_collections.specs.Script.{Ascends}
+use Rattle.vec_collections.specs.Ascending.{Ascends}
 use Rattle.vecbench_lines.specs.Judged.{is_ascending}
 use Rattle.vecbench_lines.proofs.Cutting.{test_fails}
 
@@ -28,6 +29,7 @@ below_all x y (z ∷ zs) below all =
 
 -- a list that passes the test ascends
 pub Ascends-from_test : (xs : List ℕ) → is_ascending xs ≡ true → Ascends nat_cmp xs
+unfolding IsStrictlySortedBy
 Ascends-from_test [] is = tt
 Ascends-from_test (x ∷ []) is = (tt, tt)
 Ascends-from_test (x ∷ y ∷ ys) is =
@@ -38,6 +40,7 @@ Ascends-from_test (x ∷ y ∷ ys) is =
 
 -- and one that ascends passes it
 pub test-from_Ascends : (xs : List ℕ) → Ascends nat_cmp xs → is_ascending xs ≡ true
+unfolding IsStrictlySortedBy
 test-from_Ascends [] ascends = refl
 test-from_Ascends (x ∷ []) ascends = refl
 test-from_Ascends (x ∷ y ∷ ys) ascends =

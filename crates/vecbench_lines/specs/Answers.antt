@@ -2,7 +2,7 @@
 use Rattle.std.specs.Prelude.{◌≡◌, ℕ, ◌||◌, true, List, [], ◌∷◌, ◌++◌, codes, Some}
 use Rattle.std.specs.Ordering.{nat_cmp}
 use Rattle.std.specs.Str.{bytes_eq}
-use Rattle.vec_collections.specs.Members.{member}
+use Rattle.vec_collections.specs.Ascending.{member}
 use Rattle.vecbench_lines.specs.declared.set_line.SetLine.{SetLine}
 use Rattle.vecbench_lines.specs.declared.set_line.SetOperation.{SetOperation}
 use Rattle.vecbench_lines.specs.declared.set_line.SetOperation.TheVariants.{Union}

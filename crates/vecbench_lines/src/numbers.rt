@@ -11,11 +11,11 @@ use crate::fault::Fault;
 use crate::parts::{Parts, Separator};
 use std::alloc::{AllocError, Global};
 use std::fmt::Write;
-use vec_collections::VecSet;
+use vec_collections::VecSet2;
 use vec_collections::iterators::ascends;
 
 /// A set of numbers, of which the first two stand in place.
-pub type NumberSet = VecSet<u64, 2>;
+pub type NumberSet = VecSet2<u64>;
 
 /// The number whose digits are those of `value` and one more, if that is a digit and the number fits.
 fn append_digit(value: u64, digit: u8) -> Option<u64>
