@@ -1,0 +1,9 @@
+-- Lemmas on the lines of the program.
+mod Cutting
+mod Reading
+mod Printing
+mod Ascending
+mod Answering
+mod Replying
+mod Chunks
+mod Joining

@@ -1,0 +1,47 @@
+-- How lines are judged: which fault a line has, if any.
+use Rattle.std.specs.Prelude.{◌≡◌, ℕ, ◌⊎◌, ◌&&◌, Bool, true, if◌then◌else◌, nat_lt, List, [], ◌∷◌, codes, Option, None, Some}
+use Rattle.std.specs.Option.{option_map_or}
+use Rattle.std.specs.Str.{bytes_eq}
+use Rattle.vecbench_lines.specs.declared.fault.Fault.{Fault}
+use Rattle.vecbench_lines.specs.declared.fault.Fault.TheVariants.{UnknownCommand, NotAscending, NotANumberOrKey, WrongCount, NoMemory}
+use Rattle.vecbench_lines.specs.declared.set_line.SetOperation.{SetOperation}
+use Rattle.vecbench_lines.specs.declared.set_line.SetOperation.TheVariants.{Union}
+use Rattle.vecbench_lines.specs.Numbers.{numbers_in}
+
+-- whether each number is less than the next
+abbrev pub is_ascending : List ℕ → Bool
+is_ascending [] = true
+is_ascending (x ∷ []) = true
+is_ascending (x ∷ y ∷ ys) = nat_lt x y && is_ascending (y ∷ ys)
+
+-- the fault of a list of numbers: a member that is no number comes before the order
+abbrev pub fault_in_list : List ℕ → Option Fault
+fault_in_list word = option_map_or (λ numbers. if is_ascending numbers then None else Some NotAscending) (numbers_in word) (Some NotANumberOrKey)
+
+-- the first fault of the two
+abbrev pub first_fault : Option Fault → Option Fault → Option Fault
+first_fault None second = second
+first_fault (Some fault) second = Some fault
+
+-- the operation on sets of this name
+abbrev pub set_operation_named : List ℕ → Option SetOperation
+set_operation_named name = if bytes_eq name (codes "union") then Some Union else None
+
+-- the fault of a word that is to name an operation on sets
+abbrev pub fault_in_set_operation : List ℕ → Option Fault
+fault_in_set_operation name = option_map_or (λ _. None) (set_operation_named name) (Some UnknownCommand)
+
+-- the fault of the words behind `set`: first their count, then the operation, the left list and the right list
+abbrev pub fault_in_set : List (List ℕ) → Option Fault
+fault_in_set (operation ∷ left ∷ right ∷ []) =
+    first_fault (fault_in_set_operation operation) (first_fault (fault_in_list left) (fault_in_list right))
+fault_in_set _ = Some WrongCount
+
+-- the fault of a line with these words: first its first word, then those behind it
+abbrev pub fault_in_words : List (List ℕ) → Option Fault
+fault_in_words [] = None
+fault_in_words (name ∷ words) = if bytes_eq name (codes "set") then fault_in_set words else Some UnknownCommand
+
+-- the fault that was judged, unless a request for memory was refused before
+abbrev pub IsFault : Option Fault → Fault → Type 0
+IsFault judged fault = (judged ≡ Some fault) ⊎ (fault ≡ NoMemory)

@@ -1,0 +1,8 @@
+-- What the contracts of the program's lines cite.
+pub mod Fault
+pub mod Parts
+pub mod PartsLeft
+pub mod Numbers
+pub mod Judged
+pub mod Answers
+pub mod Served

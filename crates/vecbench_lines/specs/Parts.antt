@@ -1,0 +1,29 @@
+-- How a text is taken apart into parts, and a line into words.
+use Rattle.std.specs.Prelude.{ℕ, ◌==◌, ◌||◌, Bool, not, List, [], length, filter, Option, None, Some}
+use Rattle.std.specs.Borrow.{Bor}
+use Rattle.std.specs.List.{slice_split}
+use Rattle.vecbench_lines.specs.declared.parts.Separator.{Separator}
+use Rattle.vecbench_lines.specs.declared.parts.Separator.TheVariants.{Newline, Gap, Comma}
+
+-- whether texts are parted at the byte
+abbrev pub parts_at : Separator → ℕ → Bool
+parts_at Newline byte = byte == 10
+parts_at Gap byte = byte == 32 || byte == 9
+parts_at Comma byte = byte == 44
+
+-- what stands between the separators of a text, one part more than there are separators
+abbrev pub parts_of : Separator → List ℕ → List (List ℕ)
+parts_of separator text = slice_split (parts_at separator) text
+
+-- the parts of a text, if there is one
+abbrev pub parts_of_rest : Separator → Option (Bor (List ℕ)) → List (List ℕ)
+parts_of_rest separator None = []
+parts_of_rest separator (Some text) = parts_of separator text.now
+
+-- whether there is a byte
+abbrev pub is_some_text : List ℕ → Bool
+is_some_text text = not (length text == 0)
+
+-- the words of a line: what stands between spaces and tabs, but for the empty texts
+abbrev pub words_of : List ℕ → List (List ℕ)
+words_of line = filter is_some_text (parts_of Gap line)

@@ -1,0 +1,9 @@
+//! The lines of the program `vecbench`: how they are read, judged and answered.
+#![tactic(auto)]
+
+pub mod command;
+pub mod fault;
+pub mod numbers;
+pub mod parts;
+pub mod serve;
+pub mod set_line;
