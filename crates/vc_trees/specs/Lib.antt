@@ -1,0 +1,5 @@
+pub mod Tree
+pub mod Alike
+pub mod Children
+pub mod Places
+pub mod Parting

@@ -1,0 +1,29 @@
+-- Where a key parts from a prefix.
+use Rattle.std.specs.Prelude.{◌≡◌, ℕ, ◌<◌, ◌≤◌, true, List, length, Some, slice_get, take}
+use Rattle.std.specs.declared.cmp.Ordering.{Ordering}
+use Rattle.std.specs.declared.cmp.Ordering.TheVariants.{Less, Greater}
+use Rattle.vc_trees.specs.declared.radix_tree.parting.Parting.{Parting}
+use Rattle.vc_trees.specs.declared.radix_tree.parting.Parting.TheVariants.{Behind, Inside, Lower, Higher}
+use Rattle.vc_trees.specs.Tree.{same_key}
+
+module _ {K : Type 0} (cmp : K → K → Ordering) where
+  -- the first n components of the prefix and of the key are there and equal
+  pub record Agree (prefix key : List K) (n : ℕ) : Type 0 where
+    pub within_prefix : n ≤ length prefix
+    pub within_key : n ≤ length key
+    pub same : same_key cmp (take n prefix) (take n key) ≡ true
+
+  -- they agree up to n, and there the prefix's component compares so with the key's
+  pub record PartsAt (order : Ordering) (prefix key : List K) (n : ℕ) : Type 0 where
+    pub agree : Agree prefix key n
+    pub old : K
+    pub new : K
+    pub old_at : slice_get prefix n ≡ Some old
+    pub new_at : slice_get key n ≡ Some new
+    pub ordered : cmp old new ≡ order
+
+  abbrev pub IsParting : List K → List K → Parting → Type 0
+  IsParting prefix key Behind = Agree prefix key (length prefix)
+  IsParting prefix key (Inside n) = Agree prefix key n × (n ≡ length key) × (n < length prefix)
+  IsParting prefix key (Lower n) = PartsAt Less prefix key n
+  IsParting prefix key (Higher n) = PartsAt Greater prefix key n

@@ -1,0 +1,4 @@
+//! Radix trees that are always canonical, plain and with shared children.
+#![tactic(auto)]
+
+pub mod radix_tree;

@@ -1,0 +1,42 @@
+//! The place of a component among the first components of children.
+
+ghost use Rattle.std.specs.Prelude.{map, MatchOption, MatchResult, length, ◌≤◌};
+ghost use Rattle.vc_trees.specs.Tree.{forest, AreChildren, IsFoundChild, IsNoChild};
+ghost use Rattle.vc_trees.specs.Places.{BeginsAt, IsGapAt, child_first};
+
+use crate::radix_tree::reading::{AbstractRadixTree, TKey, TValue};
+use std::cmp::Ordering;
+
+/// Where the child stands that begins with the component, or where one that begins so would stand. Halves what is left at each
+/// comparison.
+pub(crate) fn child_place<K: TKey, V: TValue, T: AbstractRadixTree<K, V>>(children: &[T], first: &K) -> Result<usize, usize>
+    requires { AreChildren K.cmp (forest (map T.tree children.now)) }
+    ensures { MatchResult result (BeginsAt K.cmp (forest (map T.tree children.now)) first.now) (IsGapAt K.cmp (forest (map T.tree children.now)) first.now) }
+{
+    let mut low = 0;
+    let mut high = children.len();
+    while low < high {
+        let middle = low + (high - low) / 2;
+        let Some(start) = children[middle].prefix().first() else {
+            unreachable!()
+        };
+        match start.cmp(first) {
+            Ordering::Less => low = middle + 1,
+            Ordering::Equal => return Ok(middle),
+            Ordering::Greater => high = middle,
+        }
+    }
+    Err(low)
+}
+
+/// The child that begins with the component.
+pub(crate) fn child_at<'a, K: TKey, V: TValue, T: AbstractRadixTree<K, V>>(children: &'a [T], first: &K) -> Option<&'a T>
+    requires { AreChildren K.cmp (forest (map T.tree children.now)) }
+    ensures { MatchOption result (IsNoChild K.cmp (forest (map T.tree children.now)) first.now)
+        (λ child. IsFoundChild K.cmp (forest (map T.tree children.now)) first.now (T.tree child.now)) }
+{
+    match child_place(children, first) {
+        Ok(i) => Some(&children[i]),
+        Err(_) => None,
+    }
+}
