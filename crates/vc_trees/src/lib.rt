@@ -1,0 +1,2 @@
+//! Radix trees that are always canonical: each map of keys to values has one tree.
+#![tactic(auto)]
