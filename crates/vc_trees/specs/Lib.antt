@@ -9,3 +9,4 @@ pub mod Conditions
 pub mod Same
 pub mod OneTree
 pub mod Walk
+pub mod Laws
