@@ -1,0 +1,5 @@
+pub mod KeyLemmas
+pub mod ValueLemmas
+pub mod AlikeLemmas
+pub mod Reading
+pub mod Halving

@@ -1,20 +1,15 @@
--- What a node's children are, as they are stored: their list, how they are lent, and a node made of its parts.
+-- A node's children as they are stored: their list, and how they are lent.
 use Rattle.std.specs.Prelude.{◌≡◌, List, [], Result, Option, None, Some, Vec}
 use Rattle.std.specs.Borrow.{LendsSoOk, Fml, RattleType, MutBor}
 use Rattle.std.specs.declared.alloc.Allocator.{Ghosts}
 use Rattle.std.specs.declared.alloc.Global.{Global}
 use Rattle.std.specs.contracts.alloc.Global.{the_row as global_row}
 use Rattle.std.specs.contracts.vec.Vec.{the_row as vec_row}
-use Rattle.vc_trees.specs.Tree.{Tree, forest}
 
 -- the list of children, which is empty where none are stored
 abbrev pub listed : {C T : Type 0} → (C → List T) → Option C → List T
 listed items None = []
 listed items (Some c) = items c
-
--- a tree of its root's parts
-abbrev pub node : {K V : Type 0} → List K → Option V → List (Tree K V) → Tree K V
-node p v ts = record { prefix = p; value = v; children = forest ts }
 
 -- once the borrow r ends, the children are those that r shows last; at `Err` they are what `kept` allows of the old ones
 abbrev pub LendsChildren : (C T : RattleType) (heap : Ghosts Global) → (C.Denot → List T.Denot) → (List T.Denot → List T.Denot → Type 0) → MutBor C.Denot → {E : Type 0} → Result (MutBor (Vec T.Denot Global)) E → Fml

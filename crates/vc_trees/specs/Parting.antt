@@ -1,17 +1,17 @@
 -- Where a key parts from a prefix.
-use Rattle.std.specs.Prelude.{◌≡◌, ℕ, ◌<◌, ◌≤◌, true, List, length, Some, slice_get, take}
+use Rattle.std.specs.Prelude.{◌≡◌, ℕ, ◌<◌, ◌≤◌, IsTrue, List, length, Some, slice_get, take}
 use Rattle.std.specs.declared.cmp.Ordering.{Ordering}
 use Rattle.std.specs.declared.cmp.Ordering.TheVariants.{Less, Greater}
 use Rattle.vc_trees.specs.declared.radix_tree.parting.Parting.{Parting}
 use Rattle.vc_trees.specs.declared.radix_tree.parting.Parting.TheVariants.{Behind, Inside, Lower, Higher}
-use Rattle.vc_trees.specs.Tree.{same_key}
+use Rattle.vc_trees.specs.Key.{same_key}
 
 module _ {K : Type 0} (cmp : K → K → Ordering) where
   -- the first n components of the prefix and of the key are there and equal
   pub record Agree (prefix key : List K) (n : ℕ) : Type 0 where
     pub within_prefix : n ≤ length prefix
     pub within_key : n ≤ length key
-    pub same : same_key cmp (take n prefix) (take n key) ≡ true
+    pub same : IsTrue (same_key cmp (take n prefix) (take n key))
 
   -- they agree up to n, and there the prefix's component compares so with the key's
   pub record PartsAt (order : Ordering) (prefix key : List K) (n : ℕ) : Type 0 where

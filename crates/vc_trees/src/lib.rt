@@ -1,4 +1,4 @@
-//! Radix trees that are always canonical, plain and with shared children.
+//! Radix trees that are always canonical, plain and with shared children: each map of keys to values has one tree.
 #![tactic(auto)]
 
 pub mod radix_tree;

@@ -2,9 +2,12 @@
 
 ghost use Rattle.std.specs.Prelude.{◌≡◌, List, map, refl};
 ghost use Rattle.std.proofs.Common.{◌∙◌};
-ghost use Rattle.vc_trees.specs.Tree.{forest, no_tree, Copies, itself, copies_trans, IsAlikeIn, IsCanonical};
-ghost use Rattle.vc_trees.specs.Children.{listed, node};
-ghost use Rattle.vc_trees.specs.Alike.{alike_same, kept_alike as alike_kept};
+ghost use Rattle.vc_trees.specs.Tree.{forest, made, no_tree};
+ghost use Rattle.vc_trees.specs.Value.{Copies, itself, copies_trans};
+ghost use Rattle.vc_trees.specs.Canonical.{IsCanonical};
+ghost use Rattle.vc_trees.specs.Same.{IsAlikeIn};
+ghost use Rattle.vc_trees.specs.Children.{listed};
+ghost use Rattle.vc_trees.specs.Snapshot.{alike_same, kept_alike as copies_alike};
 
 use crate::radix_tree::children::{ChildList, Fragment, OwnedChildren, Parts, SharedChildren};
 use crate::radix_tree::plain::RadixTree;
@@ -47,8 +50,8 @@ pub trait Build<K: TKey, V: TValue>: AbstractRadixTree<K, V> + Drop {
 
     /// The tree of these parts.
     fn assemble(prefix: Self::Prefix, value: Option<V>, children: Option<Self::Children>, seal: Seal) -> Self
-        requires { IsCanonical K.cmp (node (Self.Prefix.items prefix) value (map Self.tree (listed Self.Children.items children))) }
-        ensures { Self.tree result ≡ node (Self.Prefix.items prefix) value (map Self.tree (listed Self.Children.items children)) };
+        requires { IsCanonical K.cmp (made (Self.Prefix.items prefix) value (map Self.tree (listed Self.Children.items children))) }
+        ensures { Self.tree result ≡ made (Self.Prefix.items prefix) value (map Self.tree (listed Self.Children.items children)) };
 
     ghost keeps_refl: { (v : V) → keeps v v };
 
@@ -86,8 +89,8 @@ impl<K: TKey + MadeWith<Global>, V: TValue> Build<K, V> for RadixTree<K, V> {
         children: Option<OwnedChildren<RadixTree<K, V>>>,
         seal: Seal,
     ) -> Self
-        requires { IsCanonical K.cmp (node prefix.items value (map (λ t. t) (listed (λ own. own.list.items) children))) }
-        ensures { result ≡ node prefix.items value (map (λ t. t) (listed (λ own. own.list.items) children)) }
+        requires { IsCanonical K.cmp (made prefix.items value (map (λ t. t) (listed (λ own. own.list.items) children))) }
+        ensures { result ≡ made prefix.items value (map (λ t. t) (listed (λ own. own.list.items) children)) }
     {
         let _ = seal;
         RadixTree::from_parts(prefix, value, children)
@@ -105,7 +108,7 @@ impl<K: TKey + MadeWith<Global>, V: TValue> Build<K, V> for ArcRadixTree<K, V> {
 
     ghost keeps_trans = { λ u v w p q. copies_trans p q };
 
-    ghost kept_alike = { alike_kept V.is_clone };
+    ghost kept_alike = { copies_alike V.is_clone };
 
     fn blank(alloc: Global, seal: Seal) -> Self {
         let _ = seal;
@@ -123,8 +126,8 @@ impl<K: TKey + MadeWith<Global>, V: TValue> Build<K, V> for ArcRadixTree<K, V> {
         children: Option<SharedChildren<ArcRadixTree<K, V>>>,
         seal: Seal,
     ) -> Self
-        requires { IsCanonical K.cmp (node prefix.items value (map (λ t. t) (listed (λ held. held.shared.value.items) children))) }
-        ensures { result ≡ node prefix.items value (map (λ t. t) (listed (λ held. held.shared.value.items) children)) }
+        requires { IsCanonical K.cmp (made prefix.items value (map (λ t. t) (listed (λ held. held.shared.value.items) children))) }
+        ensures { result ≡ made prefix.items value (map (λ t. t) (listed (λ held. held.shared.value.items) children)) }
     {
         let _ = seal;
         ArcRadixTree::from_parts(prefix, value, children)

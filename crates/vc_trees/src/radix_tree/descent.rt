@@ -2,7 +2,8 @@
 
 ghost use Rattle.std.specs.Prelude.{◌≡◌};
 ghost use Rattle.std.specs.Option.{option_copied};
-ghost use Rattle.vc_trees.specs.Tree.{behind, lookup};
+ghost use Rattle.vc_trees.specs.Key.{behind};
+ghost use Rattle.vc_trees.specs.Map.{lookup};
 
 use crate::radix_tree::places::child_at;
 use crate::radix_tree::reading::{AbstractRadixTree, TKey, TValue};

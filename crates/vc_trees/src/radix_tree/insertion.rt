@@ -1,8 +1,9 @@
 //! How a key is bound to a value in a tree.
 
 ghost use Rattle.std.specs.Prelude.{◌≡◌, [], Some, IfOk, OnOk, OnErr};
-ghost use Rattle.vc_trees.specs.Tree.{IsAlike, IsUpdated, lookup};
-ghost use Rattle.vc_trees.specs.Children.{node};
+ghost use Rattle.vc_trees.specs.Tree.{made};
+ghost use Rattle.vc_trees.specs.Map.{IsUpdated, lookup};
+ghost use Rattle.vc_trees.specs.Same.{IsAlike};
 
 use crate::radix_tree::building::{Build, Seal};
 use crate::radix_tree::children::{ChildList, Fragment, Parts};
@@ -12,7 +13,7 @@ use std::mem;
 
 /// The tree that binds the empty key alone.
 pub(crate) fn leaf<K: TKey, V: TValue, T: Build<K, V>>(alloc: Global, value: V) -> T
-    ensures { T.tree result ≡ node [] (Some value) [] }
+    ensures { T.tree result ≡ made [] (Some value) [] }
 {
     let Parts {
         prefix,
@@ -24,7 +25,7 @@ pub(crate) fn leaf<K: TKey, V: TValue, T: Build<K, V>>(alloc: Global, value: V) 
 
 /// The tree that binds this key alone.
 pub(crate) fn single<K: TKey, V: TValue, T: Build<K, V>>(alloc: Global, key: &[K], value: V) -> Result<T, AllocError>
-    ensures { IfOk result (λ made. T.tree made ≡ node key.now (Some value) []) }
+    ensures { IfOk result (λ one. T.tree one ≡ made key.now (Some value) []) }
 {
     let prefix = T::Prefix::from_slice(alloc, key)?;
     Ok(T::assemble(prefix, Some(value), None, Seal::new()))

@@ -1,8 +1,9 @@
 //! The place of a component among the first components of children.
 
-ghost use Rattle.std.specs.Prelude.{map, MatchOption, MatchResult, length, ◌≤◌};
-ghost use Rattle.vc_trees.specs.Tree.{forest, AreChildren, IsFoundChild, IsNoChild};
-ghost use Rattle.vc_trees.specs.Places.{BeginsAt, IsGapAt, child_first};
+ghost use Rattle.std.specs.Prelude.{map, MatchOption, MatchResult};
+ghost use Rattle.vc_trees.specs.Tree.{forest};
+ghost use Rattle.vc_trees.specs.Canonical.{AreChildren};
+ghost use Rattle.vc_trees.specs.Places.{BeginsAt, IsGapAt, IsFoundChild, IsNoChild};
 
 use crate::radix_tree::reading::{AbstractRadixTree, TKey, TValue};
 use std::cmp::Ordering;

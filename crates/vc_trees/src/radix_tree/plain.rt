@@ -17,15 +17,17 @@ pub struct RadixTree<K: TKey, V: TValue> {
 
 impl<K: TKey, V: TValue> Model for RadixTree<K, V> {
     ghost use Rattle.std.proofs.Common.{arith};
-    ghost use Rattle.vc_trees.specs.Tree.{Tree, forest, nodes, most_le-nodes, tree_code, IsCanonical};
+    ghost use Rattle.vc_trees.specs.Tree.{Tree, made, nodes};
+    ghost use Rattle.vc_trees.specs.TreeCode.{tree_code, most_le-nodes};
+    ghost use Rattle.vc_trees.specs.Canonical.{IsCanonical};
 
     ghost Value = { Tree K V };
 
     ghost coded = { tree_code K.code V.code };
 
-    ghost view = { λ a. record { prefix = a.prefix.items; value = a.value; children = forest a.children.items } };
+    ghost view = { λ a. made a.prefix.items a.value a.children.items };
 
-    ghost invariant = { λ a. IsCanonical K.cmp (record { prefix = a.prefix.items; value = a.value; children = forest a.children.items }) };
+    ghost invariant = { λ a. IsCanonical K.cmp (made a.prefix.items a.value a.children.items) };
 
     ghost size = { nodes };
 
@@ -34,8 +36,9 @@ impl<K: TKey, V: TValue> Model for RadixTree<K, V> {
 
 impl<K: TKey + MadeWith<Global>, V: TValue> RadixTree<K, V> {
     ghost use Rattle.std.specs.Prelude.{◌≡◌, map};
-    ghost use Rattle.vc_trees.specs.Tree.{forest, no_tree, IsCanonical};
-    ghost use Rattle.vc_trees.specs.Children.{listed, node};
+    ghost use Rattle.vc_trees.specs.Tree.{forest, made, no_tree};
+    ghost use Rattle.vc_trees.specs.Canonical.{IsCanonical};
+    ghost use Rattle.vc_trees.specs.Children.{listed};
 
     /// The empty tree. Takes no memory.
     pub fn empty(alloc: Global) -> Self
@@ -73,8 +76,8 @@ impl<K: TKey + MadeWith<Global>, V: TValue> RadixTree<K, V> {
         value: Option<V>,
         children: Option<OwnedChildren<RadixTree<K, V>>>,
     ) -> Self
-        requires { IsCanonical K.cmp (node prefix.items value (map (λ t. t) (listed (λ own. own.list.items) children))) }
-        ensures { result ≡ node prefix.items value (map (λ t. t) (listed (λ own. own.list.items) children)) }
+        requires { IsCanonical K.cmp (made prefix.items value (map (λ t. t) (listed (λ own. own.list.items) children))) }
+        ensures { result ≡ made prefix.items value (map (λ t. t) (listed (λ own. own.list.items) children)) }
     {
         let children = match children {
             Some(own) => own.list,

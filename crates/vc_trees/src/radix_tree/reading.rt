@@ -2,7 +2,9 @@
 
 ghost use Rattle.std.specs.Prelude.{◌≡◌, map};
 ghost use Rattle.std.specs.Option.{option_copied};
-ghost use Rattle.vc_trees.specs.Tree.{lookup, forest, IsCanonical, is_bare};
+ghost use Rattle.vc_trees.specs.Tree.{forest, is_bare};
+ghost use Rattle.vc_trees.specs.Map.{lookup};
+ghost use Rattle.vc_trees.specs.Canonical.{IsCanonical};
 
 use crate::radix_tree::descent;
 use std::alloc::Global;

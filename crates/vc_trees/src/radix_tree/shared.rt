@@ -1,7 +1,7 @@
 //! The shared flavour: several trees may hold the children of one node, and a write copies those that are shared.
 
 ghost use Rattle.std.specs.Prelude.{◌≡◌, IfOk};
-ghost use Rattle.vc_trees.specs.Tree.{IsKept};
+ghost use Rattle.vc_trees.specs.Value.{IsKept};
 
 use crate::radix_tree::children::{Parts, SharedChildren};
 use crate::radix_tree::reading::{AbstractRadixTree, TKey, TValue};
@@ -22,15 +22,17 @@ pub struct ArcRadixTree<K: TKey, V: TValue> {
 
 impl<K: TKey, V: TValue> Model for ArcRadixTree<K, V> {
     ghost use Rattle.std.specs.Prelude.{refl};
-    ghost use Rattle.vc_trees.specs.Tree.{Tree, shared_forest, nodes, tree_code, IsCanonical, shared_falls};
+    ghost use Rattle.vc_trees.specs.Tree.{Tree, node, shared_forest, nodes};
+    ghost use Rattle.vc_trees.specs.TreeCode.{tree_code, shared_falls};
+    ghost use Rattle.vc_trees.specs.Canonical.{IsCanonical};
 
     ghost Value = { Tree K V };
 
     ghost coded = { tree_code K.code V.code };
 
-    ghost view = { λ a. record { prefix = a.prefix.items; value = a.value; children = shared_forest (λ rc. rc.value.items) a.children } };
+    ghost view = { λ a. node a.prefix.items a.value (shared_forest (λ rc. rc.value.items) a.children) };
 
-    ghost invariant = { λ a. IsCanonical K.cmp (record { prefix = a.prefix.items; value = a.value; children = shared_forest (λ rc. rc.value.items) a.children }) };
+    ghost invariant = { λ a. IsCanonical K.cmp (node a.prefix.items a.value (shared_forest (λ rc. rc.value.items) a.children)) };
 
     ghost size = { nodes };
 
@@ -39,8 +41,9 @@ impl<K: TKey, V: TValue> Model for ArcRadixTree<K, V> {
 
 impl<K: TKey + MadeWith<Global>, V: TValue> ArcRadixTree<K, V> {
     ghost use Rattle.std.specs.Prelude.{map};
-    ghost use Rattle.vc_trees.specs.Tree.{forest, no_tree, IsCanonical};
-    ghost use Rattle.vc_trees.specs.Children.{listed, node};
+    ghost use Rattle.vc_trees.specs.Tree.{forest, made, no_tree};
+    ghost use Rattle.vc_trees.specs.Canonical.{IsCanonical};
+    ghost use Rattle.vc_trees.specs.Children.{listed};
 
     /// The empty tree. Takes no memory.
     pub fn empty(alloc: Global) -> Self
@@ -85,8 +88,8 @@ impl<K: TKey + MadeWith<Global>, V: TValue> ArcRadixTree<K, V> {
         value: Option<V>,
         children: Option<SharedChildren<ArcRadixTree<K, V>>>,
     ) -> Self
-        requires { IsCanonical K.cmp (node prefix.items value (map (λ t. t) (listed (λ held. held.shared.value.items) children))) }
-        ensures { result ≡ node prefix.items value (map (λ t. t) (listed (λ held. held.shared.value.items) children)) }
+        requires { IsCanonical K.cmp (made prefix.items value (map (λ t. t) (listed (λ held. held.shared.value.items) children))) }
+        ensures { result ≡ made prefix.items value (map (λ t. t) (listed (λ held. held.shared.value.items) children)) }
     {
         match children {
             Some(held) => ArcRadixTree {
@@ -124,9 +127,9 @@ fn share<T: Drop>(children: &Option<Rc<T>>) -> Result<Option<Rc<T>>, AllocError>
 }
 
 impl<K: TKey + MadeWith<Global>, V: TValue> Clone for ArcRadixTree<K, V> {
-    ghost use Rattle.vc_trees.specs.Alike.{IsTreeClone};
+    ghost use Rattle.vc_trees.specs.Snapshot.{IsSnapshot};
 
-    ghost is_clone = { IsTreeClone V.is_clone };
+    ghost is_clone = { IsSnapshot V.is_clone };
 
     fn clone(&self) -> Result<Self, AllocError> {
         let prefix = SmallVec::from_slice(*self.prefix.allocator(), self.prefix.as_slice())?;

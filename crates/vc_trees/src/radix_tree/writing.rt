@@ -1,8 +1,9 @@
 //! The trait by which the two flavours are made and changed.
 
 ghost use Rattle.std.specs.Prelude.{◌≡◌, [], Some, IfOk, OnOk, OnErr};
-ghost use Rattle.vc_trees.specs.Tree.{no_tree, IsAlike, IsUpdated, lookup};
-ghost use Rattle.vc_trees.specs.Children.{node};
+ghost use Rattle.vc_trees.specs.Tree.{made, no_tree};
+ghost use Rattle.vc_trees.specs.Map.{IsUpdated, lookup};
+ghost use Rattle.vc_trees.specs.Same.{IsAlike};
 
 use crate::radix_tree::building::{Build, Seal};
 use crate::radix_tree::insertion;
@@ -27,7 +28,7 @@ pub trait AbstractRadixTreeMut<K: TKey, V: TValue>: Build<K, V> {
 
     /// The tree that binds the empty key alone. Takes no memory.
     final fn leaf(alloc: Global, value: V) -> Self
-        ensures { Self.tree result ≡ node [] (Some value) [] }
+        ensures { Self.tree result ≡ made [] (Some value) [] }
     {
         insertion::leaf(alloc, value)
     }
@@ -36,7 +37,7 @@ pub trait AbstractRadixTreeMut<K: TKey, V: TValue>: Build<K, V> {
     ///
     /// Fails only where memory is refused.
     final fn single(alloc: Global, key: &[K], value: V) -> Result<Self, AllocError>
-        ensures { IfOk result (λ made. Self.tree made ≡ node key.now (Some value) []) }
+        ensures { IfOk result (λ one. Self.tree one ≡ made key.now (Some value) []) }
     {
         insertion::single(alloc, key, value)
     }

@@ -1,6 +1,7 @@
 -- The node binds what is left of the key to what the tree binds the key to.
 use Rattle.std.proofs.Common.{◌≡◌}
-use Rattle.vc_trees.specs.Tree.{lookup, nodes}
+use Rattle.vc_trees.specs.Tree.{nodes}
+use Rattle.vc_trees.specs.Map.{lookup}
 use Rattle.vc_trees.proofs.radix_tree.descent.get.Given as goal
 
 abbrev pub invariant-loop-left : goal.invariant-loop-left

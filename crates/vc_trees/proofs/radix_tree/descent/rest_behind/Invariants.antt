@@ -1,6 +1,6 @@
 -- What is left of the key behind what is left of the prefix stays the same.
 use Rattle.std.proofs.Common.{◌≡◌, length}
-use Rattle.vc_trees.specs.Tree.{behind}
+use Rattle.vc_trees.specs.Key.{behind}
 use Rattle.vc_trees.proofs.radix_tree.descent.rest_behind.Given as goal
 
 abbrev pub invariant-loop-x : goal.invariant-loop-x
