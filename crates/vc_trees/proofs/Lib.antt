@@ -1,0 +1,4 @@
+pub mod KeyLemmas
+pub mod ValueLemmas
+pub mod LookupLemmas
+pub mod Uniqueness
