@@ -1,5 +1,9 @@
 pub mod KeyLemmas
 pub mod ValueLemmas
+pub mod LookupLemmas
+pub mod Uniqueness
+pub mod Binding
+pub mod Mending
 pub mod AlikeLemmas
 pub mod Reading
 pub mod Halving
