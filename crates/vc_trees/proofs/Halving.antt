@@ -1,7 +1,7 @@
 -- A component's place among children, found by halving.
---     firsts_ascend, child_first-map, child_begins        the first components of children
+--     firsts_ascend, child_first-map, first_here, child_begins        the first components of children
 --     IsHalving, halve_start, halve_below, halve_above        what the search knows, and how it goes on
---     halved, halved_at        what it finds
+--     halved        what it finds
 use Rattle.std.proofs.Common.{◌≡◌, ℕ, ◌+◌, ◌<◌, ◌≤◌, [], ◌∷◌, List, Option, ◌⊎◌, None, Some, refl, sym, ap, ◌∙◌, arith, zero, suc, get_or, map, length, inl, inr, true, below_more}
 use Rattle.std.proofs.Math.Nat.{eq-or-lt_of_le}
 use Rattle.std.specs.Cmp.{IsTotalOrder}
@@ -59,6 +59,10 @@ module _ {K V : Type 0} (cmp : K → K → Ordering) where
     child_first-map [] i d h = absurd (omega arith)
     child_first-map (t ∷ ts) zero d h = refl
     child_first-map (t ∷ ts) (suc i) d h = child_first-map ts i d (omega arith)
+
+    -- it is what the prefix of the tree there begins with
+    pub first_here : (xs : List T) (i : ℕ) (child : T) (prefix : List K) (o : Option K) → child ≡ get_or xs i child → i < length xs → prefix ≡ (tree child).prefix → o ≡ slice_get prefix 0 → child_first (forest (map tree xs)) i ≡ o
+    first_here xs i child prefix o e h p q = child_first-map xs i child h ∙ ap (λ t. slice_get (tree t).prefix 0) (sym e) ∙ ap (λ l. slice_get l 0) (sym p) ∙ sym q
 
     -- each child begins with a component
     pub child_begins : (xs : List T) (i : ℕ) → AreChildren cmp (forest (map tree xs)) → i < length xs → child_first (forest (map tree xs)) i ≡ None → ⊥

@@ -7,3 +7,5 @@ pub mod Mending
 pub mod AlikeLemmas
 pub mod Reading
 pub mod Halving
+pub mod PartingLemmas
+pub mod Finding

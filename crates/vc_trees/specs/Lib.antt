@@ -14,3 +14,4 @@ pub mod Snapshot
 pub mod Children
 pub mod Places
 pub mod Parting
+pub mod Growth
