@@ -9,3 +9,5 @@ pub mod Reading
 pub mod Halving
 pub mod PartingLemmas
 pub mod Finding
+pub mod Updating
+pub mod Growing
