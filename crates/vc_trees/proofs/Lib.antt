@@ -11,3 +11,4 @@ pub mod PartingLemmas
 pub mod Finding
 pub mod Updating
 pub mod Growing
+pub mod Events

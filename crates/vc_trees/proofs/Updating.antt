@@ -98,7 +98,7 @@ module _ {K V : Type 0} (cmp : K → K → Ordering) (keeps : V → V → Type 0
   if-leaf true value o s h = h
   if-leaf false value o s h = refl
 
-  lookup-leaf : (key k : List K) (value : V) → lookup cmp (node key (Some value) bare) k ≡ cond (same_key cmp key k) (Some value) None
+  pub lookup-leaf : (key k : List K) (value : V) → lookup cmp (node key (Some value) bare) k ≡ cond (same_key cmp key k) (Some value) None
   lookup-leaf [] [] value = refl
   lookup-leaf [] (z ∷ k) value = refl
   lookup-leaf (y ∷ key) [] value = refl

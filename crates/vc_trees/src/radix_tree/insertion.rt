@@ -44,6 +44,8 @@ pub(crate) fn insert<K: TKey, V: TValue, T: Build<K, V>>(tree: &mut T, key: &[K]
     ensures err { OnErr result (IsAlike T.keeps (T.tree tree.old) (T.tree tree.new)) }
 {
     let alloc = tree.allocator();
+    // The law of trees, that they are canonical, comes with the prefix.
+    let _ = tree.prefix();
     if tree.is_empty() {
         *tree = single(alloc, key, value)?;
         return Ok(());

@@ -1,16 +1,10 @@
-use Rattle.std.proofs.Common.{rules, ◌≡◌, ◌+◌, ◌<◌, ◌≤◌, ◌++◌, [], ◌∷◌, length, map, take, drop}
-use Rattle.std.proofs.Common.{insert as list_insert}
-use Rattle.std.proofs.Common.{vec_len, vec_capacity, Some, IfOk, OnOk, OnErr, ℕ, ◌-◌, ◌*◌, ◌/◌, ◌%◌, Bool, true, false, nat_eq, nat_lt, List, slice_index_or, slice_set, bit_and, bit_or, Fits, w8, w32, w64, Bor, MutBor}
-use Rattle.vc_trees.specs.Tree.{forest, made, node}
-use Rattle.vc_trees.specs.Map.{IsUpdated, lookup, lookup_in}
-use Rattle.vc_trees.specs.Canonical.{AreChildren, IsCanonical, IsSolid}
-use Rattle.vc_trees.specs.Same.{IsAlike, IsAlikeIn}
-use Rattle.vc_trees.specs.Children.{listed}
-use Rattle.vc_trees.specs.Growth.{IsBranch, IsGrown, Adds}
-use Rattle.vc_trees.specs.Parting.{Agree, SplitsAt}
-use Rattle.vc_trees.specs.Places.{FitsAt, LeadsTo}
+-- The list to be written is as long as the one that was there.
+use Rattle.std.proofs.Common.{arith}
+use Rattle.vc_trees.proofs.Events.{length_kept}
 use Rattle.vc_trees.proofs.radix_tree.insertion.add_to_some.Goals as goal
 
--- src/radix_tree/insertion.rt:225:5
 pub insert-requires : goal.insert-requires
-insert-requires g c = ?
+insert-requires g c =
+    let kept = g.met.T.Build.kept_alike _ _ c.in_ok-list.ensures.value in
+    let long = length_kept g.T.Build.keeps g.T.AbstractRadixTree.tree _ _ kept in
+    omega (arith, long, c.in_ok-list.list.now.ok.0)

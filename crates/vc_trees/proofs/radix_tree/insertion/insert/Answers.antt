@@ -1,20 +1,13 @@
-use Rattle.std.proofs.Common.{rules, ◌≡◌, ◌+◌, ◌<◌, ◌≤◌, ◌++◌, [], ◌∷◌, length, map, take, drop}
-use Rattle.std.proofs.Common.{insert as list_insert}
-use Rattle.std.proofs.Common.{vec_len, vec_capacity, Some, IfOk, OnOk, OnErr, ℕ, ◌-◌, ◌*◌, ◌/◌, ◌%◌, Bool, true, false, nat_eq, nat_lt, List, slice_index_or, slice_set, bit_and, bit_or, Fits, w8, w32, w64, Bor, MutBor}
-use Rattle.vc_trees.specs.Tree.{forest, made, node}
-use Rattle.vc_trees.specs.Map.{IsUpdated, lookup, lookup_in}
-use Rattle.vc_trees.specs.Canonical.{AreChildren, IsCanonical, IsSolid}
-use Rattle.vc_trees.specs.Same.{IsAlike, IsAlikeIn}
-use Rattle.vc_trees.specs.Children.{listed}
-use Rattle.vc_trees.specs.Growth.{IsBranch, IsGrown, Adds}
-use Rattle.vc_trees.specs.Parting.{Agree, SplitsAt}
-use Rattle.vc_trees.specs.Places.{FitsAt, LeadsTo}
+-- The empty tree becomes a leaf; any other grows.
+use Rattle.std.proofs.Common.{sym, ◌∙◌}
+use Rattle.vc_trees.proofs.Events.{leaf_made}
+use Rattle.vc_trees.proofs.Growing.{not_bare_solid}
 use Rattle.vc_trees.proofs.radix_tree.insertion.insert.Goals as goal
 
--- src/radix_tree/insertion.rt:49:9
 pub returns-then-is_empty-clause-ok : goal.returns-then-is_empty-clause-ok
-returns-then-is_empty-clause-ok g c = ?
+returns-then-is_empty-clause-ok g c =
+    let tree = g.T.AbstractRadixTree.tree in
+    leaf_made g.K.Ord.cmp g.T.Build.keeps (tree c.args.tree.now) (tree c.in_ok-tree.field-0) c.args.key.now c.args.value (sym c.is_empty.ensures ∙ c.if-is_empty.true) c.in_ok-tree.ensures
 
--- src/radix_tree/insertion.rt:51:5
 pub insert_from-requires-clause-solid : goal.insert_from-requires-clause-solid
-insert_from-requires-clause-solid g c = ?
+insert_from-requires-clause-solid g c = not_bare_solid (g.T.AbstractRadixTree.tree c.args.tree.now) c.prefix.ensures.canonical.0 (sym c.is_empty.ensures ∙ c.if-is_empty.false)
