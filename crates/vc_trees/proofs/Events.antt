@@ -6,20 +6,22 @@ use Rattle.std.proofs.Common.{◌≡◌, ℕ, zero, suc, ◌+◌, ◌<◌, ◌�
 use Rattle.std.proofs.lemmas.List.{take-append-drop, take_all}
 use Rattle.std.specs.Cmp.{IsTotalOrder, Equal-is}
 use Rattle.std.specs.List.{insert}
-use Rattle.std.specs.Prelude.{Result, Ok, Err, OnOk, OnErr}
+use Rattle.std.specs.Prelude.{Result, Ok, Err, OnOk, OnErr, slice_get}
 use Rattle.std.specs.declared.cmp.Ordering.{Ordering}
 use Rattle.vc_trees.specs.Value.{IsKept}
 use Rattle.vc_trees.specs.Key.{behind}
-use Rattle.vc_trees.specs.Tree.{Tree, Forest, bare, grow, forest, node, made, is_bare}
+use Rattle.vc_trees.specs.Tree.{Tree, Forest, bare, grow, forest, node, made, is_bare, nodes, forest_nodes}
 use Rattle.vc_trees.specs.Map.{node_lookup, lookup, lookup_in, IsUpdated}
 use Rattle.vc_trees.specs.Canonical.{IsSolid, IsWhole, AreChildren, IsCanonical}
 use Rattle.vc_trees.specs.Same.{IsAlike, IsAlikeIn}
 use Rattle.vc_trees.specs.Growth.{IsBranch, IsGrown, Adds}
-use Rattle.vc_trees.specs.Parting.{SplitsAt}
+use Rattle.vc_trees.specs.Parting.{Agree, SplitsAt}
 use Rattle.vc_trees.specs.Places.{BeginsAt, FitsAt, IsGapAt, LeadsTo, child_first}
 use Rattle.vc_trees.specs.Snapshot.{kept_itself}
-use Rattle.vc_trees.proofs.AlikeLemmas.{alike_children, alike_solid, alike_trans, alike_first, alike_lookup, alike_canonical}
-use Rattle.vc_trees.proofs.Finding.{begins_below}
+use Rattle.vc_trees.proofs.AlikeLemmas.{alike_children, alike_solid, alike_trans, alike_first, alike_lookup, alike_canonical, alike_nodes}
+use Rattle.vc_trees.proofs.Finding.{begins_below, child_nodes}
+use Rattle.vc_trees.proofs.Halving.{child_first-map, rest_children}
+use Rattle.vc_trees.proofs.Parted.{agree_one}
 use Rattle.vc_trees.proofs.Growing.{solid_canonical, pair_solid, solid_insert, solid_length, gap_alike, gap_within, children_insert, children_set, alike_set}
 use Rattle.vc_trees.proofs.Updating.{lookup-leaf, updated_behind, updated_value, updated_children, updated_split, updated_insert, updated_set, updated_alike}
 
@@ -80,6 +82,11 @@ module _ {K V : Type 0} (cmp : K → K → Ordering) (keeps : V → V → Type 0
       t.prefix t.prefix (t.prefix ++ y ∷ q) (sym (append-nil t.prefix)) refl;
     branch = record { prefix = refl; solid = s; children = a };
   }
+
+  -- the first of canonical children has a value or at least two children
+  first_solid : (p : List K) (v : Option V) (f rest : Forest K V) → AreChildren cmp (grow p v f rest) → IsSolid v f
+  first_solid [] v f rest a = absurd a
+  first_solid (x ∷ p) v f rest a = a.0
 
   module _ {T : Type 0} (tree : T → Tree K V) where
     -- one more child, at its place
@@ -193,6 +200,12 @@ module _ {K V : Type 0} (cmp : K → K → Ordering) (keeps : V → V → Type 0
 
     -- ---- one tree of a list
 
+    -- a canonical child has a value or at least two children
+    child_solid : (ts : List T) (i : ℕ) (d : T) → AreChildren cmp (forest (map tree ts)) → i < length ts → IsSolid (tree (get_or ts i d)).value (tree (get_or ts i d)).children
+    child_solid [] i d a h = absurd (omega arith)
+    child_solid (t ∷ ts) zero d a h = first_solid (tree t).prefix (tree t).value (tree t).children (forest (map tree ts)) a
+    child_solid (t ∷ ts) (suc i) d a h = child_solid ts i d (rest_children cmp (tree t).prefix (tree t).value (tree t).children (forest (map tree ts)) a) (omega arith)
+
     module _ (old kept : List T) (i : ℕ) (rest : List K) (leads : LeadsTo cmp (forest (map tree old)) rest i)
         (alike : IsAlikeIn keeps (forest (map tree old)) (forest (map tree kept))) (canonical : AreChildren cmp (forest (map tree old))) where
       -- the tree that the key leads to begins as the old one
@@ -203,9 +216,26 @@ module _ {K V : Type 0} (cmp : K → K → Ordering) (keeps : V → V → Type 0
       pub leads_within : i < length kept
       leads_within = begins_below cmp tree kept leads.first i (record { here = leads.begins.here; at = leads_kept; equal = leads.begins.equal })
 
+      -- it agrees with the key in one component
+      pub leads_agree : (child : T) → child ≡ get_or kept i child → Agree cmp (tree child).prefix rest 1
+      leads_agree child is =
+          agree_one cmp (tree child).prefix rest leads.begins.here leads.first leads.others
+            (ap (λ c. slice_get (tree c).prefix 0) is ∙ sym (child_first-map cmp tree kept i child leads_within) ∙ leads_kept) leads.begins.equal leads.key_is
+
       -- the children that were copied are canonical
       pub kept_children : AreChildren cmp (forest (map tree kept))
       kept_children = alike_children keeps cmp (forest (map tree old)) (forest (map tree kept)) alike canonical
+
+      -- the tree has a value or at least two children
+      pub leads_solid : (child : T) → child ≡ get_or kept i child → IsSolid (tree child).value (tree child).children
+      leads_solid child is = subst (λ c. IsSolid (tree c).value (tree c).children) (sym is) (child_solid kept i child kept_children leads_within)
+
+      -- and no more nodes than the list
+      pub leads_nodes : (child : T) → child ≡ get_or kept i child → nodes (tree child) ≤ forest_nodes (forest (map tree old))
+      leads_nodes child is =
+          let n = child_nodes cmp tree kept i child leads_within in
+          let m = alike_nodes keeps (forest (map tree old)) (forest (map tree kept)) alike in
+          rw (is, m) n
 
       module _ (child item : T) (new : List T) (value : V) (is : child ≡ get_or kept i child) (set_is : new ≡ set kept i item) where
         -- the map of the list, where the tree that the key leads to was updated
@@ -229,16 +259,17 @@ module _ {K V : Type 0} (cmp : K → K → Ordering) (keeps : V → V → Type 0
               (alike_set keeps r tree kept i item child (subst (λ c. IsAlike keeps (tree c) (tree item)) is h)))
 
 module _ {K V : Type 0} (cmp : K → K → Ordering) (keeps : V → V → Type 0) where
-  -- a node with neither value nor children binds no key
+  -- there is nothing behind a node with neither value nor children
+  nothing : (left : Option (List K)) → node_lookup {K = K} {V = V} None (λ k. None) left ≡ None
+  nothing None = refl
+  nothing (Some []) = refl
+  nothing (Some (x ∷ rest)) = refl
+
+  -- such a node binds no key
   bare_none : (p : List K) (v : Option V) (f : Forest K V) (k : List K) → is_bare (node p v f) ≡ true → lookup cmp (node p v f) k ≡ None
   bare_none p (Some v) f k e = absurd (true≢false (sym e))
   bare_none p None (grow q w more rest) k e = absurd (true≢false (sym e))
   bare_none p None bare k e = nothing (behind cmp p k)
-    where
-      nothing : (o : Option (List K)) → node_lookup None (λ k. None) o ≡ None
-      nothing None = refl
-      nothing (Some []) = refl
-      nothing (Some (x ∷ rest)) = refl
 
   -- a leaf in the place of the empty tree
   pub leaf_made : (t u : Tree K V) (key : List K) (value : V) → is_bare t ≡ true → u ≡ made key (Some value) [] → IsUpdated cmp keeps key value (lookup cmp t) (lookup cmp u)

@@ -12,3 +12,4 @@ pub mod Finding
 pub mod Updating
 pub mod Growing
 pub mod Events
+pub mod Parted

@@ -87,7 +87,8 @@ fn insert_behind<K: TKey, V: TValue, T: Build<K, V>>(
     rest: &[K],
     value: V,
 ) -> Result<(), AllocError>
-    requires { IsSolid (T.tree tree.old).value (T.tree tree.old).children }
+    requires solid { IsSolid (T.tree tree.old).value (T.tree tree.old).children }
+    requires canonical { AreChildren K.cmp (T.tree tree.old).children }
     ensures ok { OnOk result (IsUpdated K.cmp T.keeps ((T.tree tree.old).prefix ++ rest.now) value (lookup K.cmp (T.tree tree.old)) (lookup K.cmp (T.tree tree.new))) }
     ensures branch { OnOk result (IsBranch K.cmp (T.tree tree.old).prefix (T.tree tree.new)) }
     ensures err { OnErr result (IsAlike T.keeps (T.tree tree.old) (T.tree tree.new)) }
