@@ -1,5 +1,5 @@
 -- The recursion of an insertion: each return is one event's, and each call goes to a child that the key leads to.
-use Rattle.std.proofs.Common.{refl, sym, ap, subst, ◌∙◌, arith, is_ok, length, map}
+use Rattle.std.proofs.Common.{refl, sym, ap, subst, ◌∙◌, arith, is_ok, length, map, rules}
 use Rattle.std.proofs.Math.ListN.{length-set}
 use Rattle.vc_trees.specs.Canonical.{AreChildren, IsCanonical}
 use Rattle.vc_trees.specs.Children.{listed}
@@ -145,7 +145,7 @@ insert_into-insert_from-requires g t c =
       (g.T.Children.ChildList.items c.args.children.now) c.in_ok-list.list.now.items c.args.i c.args.rest.now c.requires.leads (g.met.T.Build.kept_alike _ _ c.in_ok-list.ensures.value) c.requires.canonical c.index_mut.result.now c.index_mut.ensures.value in
     let fewer = leads_nodes g.K.Ord.cmp g.T.Build.keeps g.met.T.Build.keeps_refl g.met.T.Build.keeps_trans g.met.K.Ord.total g.T.AbstractRadixTree.tree
       (g.T.Children.ChildList.items c.args.children.now) c.in_ok-list.list.now.items c.args.i c.args.rest.now c.requires.leads (g.met.T.Build.kept_alike _ _ c.in_ok-list.ensures.value) c.requires.canonical c.index_mut.result.now c.index_mut.ensures.value in
-    ?
+    search rules
 
 pub insert_into-returns-clause-ok : goal.insert_into-returns-clause-ok
 insert_into-returns-clause-ok g t c =
