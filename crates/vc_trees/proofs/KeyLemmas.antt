@@ -1,6 +1,6 @@
 -- Keys: what is left behind a prefix, equal keys, and the order on keys.
 --     behind_itself, behind_same, behind-append        what is left behind a prefix, also of one in two parts
---     same-slice_cmp, same_itself, same_flip, same_trans, same-append        equal keys
+--     same-slice_cmp, same_itself, same_flip, same_trans, same-append, same_prepended        equal keys
 --     same_behind, behind_joins, left_behind        equal keys and what is left of one
 --     keys_ordered, left_is_rest        the laws on keys
 use Rattle.std.proofs.Common.{◌≡◌, ℕ, zero, suc, [], ◌∷◌, ◌++◌, take, drop, List, Option, None, Some, is_some, refl, sym, ap, ◌∙◌, true, false, Bool, cond, true≢false, append-nil}
@@ -181,6 +181,15 @@ module _ {K : Type 0} (cmp : K → K → Ordering) where
     same_trans j k l h g =
         let equal = (Equal-is (slice_cmp cmp j k)).0 (sym (same-slice_cmp j k) ∙ h) in
         same-slice_cmp j l ∙ ap is_eq ((lists_total o).congr j k l equal) ∙ sym (same-slice_cmp k l) ∙ g
+
+    -- equal keys stay equal behind one prefix
+    pub same_prepended : (p j k : List K) → same_key cmp j k ≡ true → same_key cmp (p ++ j) (p ++ k) ≡ true
+    same_prepended p j k h = same-append p j (p ++ k) ∙ ap (then_same j) (behind_itself p k) ∙ h
+
+    -- keys keep their order behind one prefix
+    pub less_prepended : (p k j : List K) → slice_cmp cmp k j ≡ Less → slice_cmp cmp (p ++ k) (p ++ j) ≡ Less
+    less_prepended [] k j h = h
+    less_prepended (x ∷ p) k j h = ap (λ r. ordering_then r (slice_cmp cmp (p ++ k) (p ++ j))) (tied_itself o x) ∙ less_prepended p k j h
 
     -- a prefix joined with what is left behind it makes up the key
     pub behind_joins : (p k rest : List K) → behind cmp p k ≡ Some rest → same_key cmp (p ++ rest) k ≡ true

@@ -4,3 +4,6 @@ pub mod LookupLemmas
 pub mod Uniqueness
 pub mod Binding
 pub mod Mending
+pub mod FourConditions
+pub mod Smallness
+pub mod Walking
