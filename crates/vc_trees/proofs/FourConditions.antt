@@ -2,16 +2,15 @@
 --     ordered_meets, meets_ordered        the two conditions on prefixes
 --     canonical_meets, meets_canonical        all four
 --     canonical_conditions        both ways
-use Rattle.std.proofs.Common.{◌≡◌, ◌≢◌, ℕ, zero, suc, ◌<◌, [], ◌∷◌, List, length, get_or, Option, None, Some, refl, sym, ap, ◌∙◌, subst, true, true≢false, ◌⊎◌, inl, inr, ◌↔◌, suc-le-suc, not-suc-le-zero, arith}
+use Rattle.std.proofs.Common.{◌≡◌, ◌≢◌, ℕ, suc, ◌<◌, [], ◌∷◌, List, length, get_or, Option, None, Some, refl, sym, ap, ◌∙◌, subst, true, true≢false, inl, inr, ◌↔◌, suc-le-suc, not-suc-le-zero, arith}
 use Rattle.std.specs.Prelude.{All, AllPairs, IsNone}
 use Rattle.std.proofs.lemmas.List.Elements.{All-cons, All-nil}
 use Rattle.std.proofs.lemmas.List.Kept.{AllPairs-cons}
 use Rattle.std.specs.declared.cmp.Ordering.{Ordering}
-use Rattle.std.specs.declared.cmp.Ordering.TheVariants.{Less}
 use Rattle.vc_trees.specs.Key.{BeginsBelow}
 use Rattle.vc_trees.specs.Tree.{Tree, Forest, bare, grow, node, trees, lacks_both, is_bare}
 use Rattle.vc_trees.specs.Canonical.{AllAbove, AreOrdered, AreChildren, IsSolid, IsWhole, IsCanonical}
-use Rattle.vc_trees.specs.Conditions.{IsBelow, IsNodeOf, BareIsWhole, HavePrefixes, ChildrenAscend, NoLoneChild, MeetsConditions, IsOrdered}
+use Rattle.vc_trees.specs.Conditions.{IsBelow, BareIsWhole, HavePrefixes, ChildrenAscend, NoLoneChild, MeetsConditions, IsOrdered}
 use Rattle.vc_trees.proofs.LookupLemmas.{children_ordered}
 
 module _ {K V : Type 0} where
@@ -193,7 +192,7 @@ module _ {K V : Type 0} where
     meets_canonical t m = (
       whole_from t.prefix t.value t.children (λ h. (m.bare_is_whole t (inl refl) h).1) (m.no_lone_child t (inl refl)),
       children_from t.children (meets_ordered t (record { prefixes = m.prefixes; ascending = m.ascending }))
-      (λ n b. solid_from n.value n.children (bare_not_below t m.bare_is_whole n b) (m.no_lone_child n (inr b))),
+          (λ n b. solid_from n.value n.children (bare_not_below t m.bare_is_whole n b) (m.no_lone_child n (inr b))),
     )
 
     -- a tree is canonical exactly where it meets the four conditions

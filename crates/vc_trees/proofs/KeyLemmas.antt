@@ -2,13 +2,14 @@
 --     behind_itself, behind_same, behind-append        what is left behind a prefix, also of one in two parts
 --     same-slice_cmp, same_itself, same_flip, same_trans, same-append, same_prepended        equal keys
 --     same_behind, behind_joins, left_behind        equal keys and what is left of one
+--     not_before, not_both_before, less_prepended        which of two keys comes first
 --     keys_ordered, left_is_rest        the laws on keys
-use Rattle.std.proofs.Common.{◌≡◌, ℕ, zero, suc, [], ◌∷◌, ◌++◌, take, drop, List, Option, None, Some, is_some, refl, sym, ap, ◌∙◌, true, false, Bool, cond, true≢false, append-nil}
+use Rattle.std.proofs.Common.{◌≡◌, ℕ, zero, suc, [], ◌∷◌, ◌++◌, take, drop, List, Option, None, Some, is_some, refl, sym, ap, ◌∙◌, true, false, Bool, cond, true≢false}
 use Rattle.std.specs.List.{AllZip}
 use Rattle.std.specs.declared.cmp.Ordering.{Ordering}
 use Rattle.std.specs.declared.cmp.Ordering.TheVariants.{Less, Equal, Greater}
-use Rattle.std.specs.Ordering.{is_eq, is_lt, is_gt, ordering_reverse, ordering_then}
-use Rattle.std.specs.Cmp.{IsTotalOrder, Equal-is, tied_back, tied_itself, eq_by_cmp_equiv}
+use Rattle.std.specs.Ordering.{is_eq, is_lt, ordering_reverse, ordering_then}
+use Rattle.std.specs.Cmp.{IsTotalOrder, Equal-is, tied_itself, eq_by_cmp_equiv}
 use Rattle.std.specs.Cmp.Lexicographic.{slice_cmp, lists_total}
 use Rattle.vc_trees.specs.Key.{same_key, behind, Starts, BeginsBelow, IsLess}
 use Rattle.vc_trees.specs.Laws.{KeysAreOrdered, LeftBehindIsRest}
@@ -89,6 +90,10 @@ module _ {K : Type 0} (cmp : K → K → Ordering) where
   same-slice_cmp [] (y ∷ k) = refl
   same-slice_cmp (x ∷ j) [] = refl
   same-slice_cmp (x ∷ j) (y ∷ k) = ap (λ b. cond (is_eq (cmp x y)) b false) (same-slice_cmp j k) ∙ both-is_eq (cmp x y) (slice_cmp cmp j k)
+
+  -- no key comes before an equal one
+  pub not_before : (j k : List K) → slice_cmp cmp j k ≡ Less → same_key cmp j k ≡ true → ⊥
+  not_before j k l e = true≢false (sym e ∙ same-slice_cmp j k ∙ ap is_eq l)
 
   -- equal keys are equal place by place
   same_places : (j k : List K) → same_key cmp j k ≡ true → AllZip (λ x y. cmp x y ≡ Equal) j k
@@ -185,6 +190,10 @@ module _ {K : Type 0} (cmp : K → K → Ordering) where
     -- equal keys stay equal behind one prefix
     pub same_prepended : (p j k : List K) → same_key cmp j k ≡ true → same_key cmp (p ++ j) (p ++ k) ≡ true
     same_prepended p j k h = same-append p j (p ++ k) ∙ ap (then_same j) (behind_itself p k) ∙ h
+
+    -- no two keys come before each other
+    pub not_both_before : (j k : List K) → slice_cmp cmp j k ≡ Less → slice_cmp cmp k j ≡ Less → ⊥
+    not_both_before j k l m = true≢false (sym (ap is_lt m) ∙ ap is_lt ((lists_total o).antisymm k j ∙ ap ordering_reverse l))
 
     -- keys keep their order behind one prefix
     pub less_prepended : (p k j : List K) → slice_cmp cmp k j ≡ Less → slice_cmp cmp (p ++ k) (p ++ j) ≡ Less

@@ -7,3 +7,4 @@ pub mod Mending
 pub mod FourConditions
 pub mod Smallness
 pub mod Walking
+pub mod OneWalk

@@ -8,13 +8,13 @@ use Rattle.std.proofs.lemmas.List.{length-map}
 use Rattle.std.specs.declared.cmp.Ordering.{Ordering}
 use Rattle.std.specs.declared.cmp.Ordering.TheVariants.{Less}
 use Rattle.std.specs.Ordering.{ordering_then}
-use Rattle.std.specs.Cmp.{IsTotalOrder, tied_itself}
+use Rattle.std.specs.Cmp.{IsTotalOrder}
 use Rattle.std.specs.Cmp.Lexicographic.{slice_cmp}
 use Rattle.std.specs.List.{AllByRecursion}
 use Rattle.std.specs.List.Sorted.{IsStrictlySortedBy}
 use Rattle.std.specs.Map.{keys_of}
 use Rattle.vc_trees.specs.Key.{same_key}
-use Rattle.vc_trees.specs.Tree.{Tree, Forest, bare, grow, node, own_count, key_count, forest_key_count}
+use Rattle.vc_trees.specs.Tree.{Tree, Forest, bare, grow, own_count, key_count, forest_key_count}
 use Rattle.vc_trees.specs.Map.{lookup}
 use Rattle.vc_trees.specs.Binds.{NodeBinds, BindsIn, Binds}
 use Rattle.vc_trees.specs.Canonical.{AllAbove, AreOrdered}
