@@ -30,7 +30,8 @@ module _ {K V : Type 0} where
   solid_not_lone None (grow p v kids (grow q w more rest)) s n e = omega (arith, e)
 
   -- a node is solid where it has a value or a child, and no lone child without a value
-  solid_from : (v : Option V) (f : Forest K V) → (lacks_both v f ≡ true → ⊥) → (IsNone v → length (trees f) ≢ 1) → IsSolid v f
+  solid_from : (v : Option V) (f : Forest K V) → (lacks_both v f ≡ true → ⊥) → (IsNone v → length (trees f) ≢ 1)
+      → IsSolid v f
   solid_from (Some v) f b l = tt
   solid_from None bare b l = b refl
   solid_from None (grow p v kids bare) b l = l refl refl
@@ -45,7 +46,8 @@ module _ {K V : Type 0} where
   -- ---- what holds of each tree of a list and of all below
 
   -- a fact on the parts of a node holds of the node that has them
-  on_node : (P : List K → Option V → Forest K V → Type 0) (n : Tree K V) (p : List K) (v : Option V) (f : Forest K V) → n ≡ node p v f → P p v f → P n.prefix n.value n.children
+  on_node : (P : List K → Option V → Forest K V → Type 0) (n : Tree K V) (p : List K) (v : Option V) (f : Forest K V)
+      → n ≡ node p v f → P p v f → P n.prefix n.value n.children
   on_node P n p v f e h = subst (λ m. P m.prefix m.value m.children) (sym e) h
 
   module _ (cmp : K → K → Ordering) where
@@ -64,7 +66,8 @@ module _ {K V : Type 0} where
     below_ordered : (f : Forest K V) → AreOrdered cmp f → (n : Tree K V) → IsBelow n f → AreOrdered cmp n.children
     below_ordered bare a n b = absurd b
     below_ordered (grow [] v kids rest) a n b = absurd a
-    below_ordered (grow (x ∷ p) v kids rest) a n (inl (inl e)) = on_node (λ p v f. AreOrdered cmp f) n (x ∷ p) v kids e a.0
+    below_ordered (grow (x ∷ p) v kids rest) a n (inl (inl e)) =
+        on_node (λ p v f. AreOrdered cmp f) n (x ∷ p) v kids e a.0
     below_ordered (grow (x ∷ p) v kids rest) a n (inl (inr b)) = below_ordered kids a.0 n b
     below_ordered (grow (x ∷ p) v kids rest) a n (inr b) = below_ordered rest a.2 n b
 
@@ -83,23 +86,31 @@ module _ {K V : Type 0} where
     Ascends c d = BeginsBelow cmp c.prefix d.prefix
 
     -- what begins with x begins below each tree above x
-    above_all : (c : Tree K V) (x : K) (p : List K) (f : Forest K V) → c.prefix ≡ x ∷ p → AllAbove cmp x f → All (Ascends c) (trees f)
+    above_all : (c : Tree K V) (x : K) (p : List K) (f : Forest K V) → c.prefix ≡ x ∷ p → AllAbove cmp x f
+        → All (Ascends c) (trees f)
     above_all c x p bare e a = All-nil (Ascends c)
     above_all c x p (grow [] v kids rest) e a = absurd a
-    above_all c x p (grow (y ∷ q) v kids rest) e a = All-cons (Ascends c) (node (y ∷ q) v kids) (trees rest) (rw e a.0) (above_all c x p rest e a.1)
+    above_all c x p (grow (y ∷ q) v kids rest) e a =
+        All-cons (Ascends c) (node (y ∷ q) v kids) (trees rest) (rw e a.0) (above_all c x p rest e a.1)
 
     -- trees in order ascend
     ordered_ascend : (f : Forest K V) → AreOrdered cmp f → AllPairs Ascends (trees f)
     ordered_ascend bare a = λ i j d l m. absurd (not-suc-le-zero m)
     ordered_ascend (grow [] v kids rest) a = absurd a
-    ordered_ascend (grow (x ∷ p) v kids rest) a = AllPairs-cons Ascends (node (x ∷ p) v kids) (trees rest) (above_all (node (x ∷ p) v kids) x p rest refl a.1) (ordered_ascend rest a.2)
+    ordered_ascend (grow (x ∷ p) v kids rest) a =
+        AllPairs-cons Ascends (node (x ∷ p) v kids) (trees rest) (above_all (node (x ∷ p) v kids) x p rest refl a.1)
+        (ordered_ascend rest a.2)
 
     -- trees that all begin above x, where no prefix is empty
     all_above : (x : K) (p : List K) (f : Forest K V) → ((n : Tree K V) → IsBelow n f → n.prefix ≢ [])
-        → ((j : ℕ) (d : Tree K V) → j < length (trees f) → BeginsBelow cmp (x ∷ p) (get_or (trees f) j d).prefix) → AllAbove cmp x f
+        → ((j : ℕ) (d : Tree K V) → j < length (trees f) → BeginsBelow cmp (x ∷ p) (get_or (trees f) j d).prefix)
+        → AllAbove cmp x f
     all_above x p bare e h = tt
     all_above x p (grow [] v kids rest) e h = absurd (e (node [] v kids) (inl (inl refl)) refl)
-    all_above x p (grow (y ∷ q) v kids rest) e h = (h 0 (node (y ∷ q) v kids) (omega arith), all_above x p rest (λ n b. e n (inr b)) (λ j d l. h (suc j) d (suc-le-suc l)))
+    all_above x p (grow (y ∷ q) v kids rest) e h = (
+      h 0 (node (y ∷ q) v kids) (omega arith),
+      all_above x p rest (λ n b. e n (inr b)) (λ j d l. h (suc j) d (suc-le-suc l)),
+    )
 
     -- trees are in order where no prefix below is empty, and siblings ascend everywhere
     ordered_from : (f : Forest K V) → ((n : Tree K V) → IsBelow n f → n.prefix ≢ []) → AllPairs Ascends (trees f)
@@ -107,17 +118,24 @@ module _ {K V : Type 0} where
     ordered_from bare e a h = tt
     ordered_from (grow [] v kids rest) e a h = absurd (e (node [] v kids) (inl (inl refl)) refl)
     ordered_from (grow (x ∷ p) v kids rest) e a h = (
-      ordered_from kids (λ n b. e n (inl (inr b))) (h (node (x ∷ p) v kids) (inl (inl refl))) (λ n b. h n (inl (inr b))),
+      ordered_from kids (λ n b. e n (inl (inr b))) (h (node (x ∷ p) v kids) (inl (inl refl)))
+          (λ n b. h n (inl (inr b))),
       all_above x p rest (λ n b. e n (inr b)) (λ j d l. a 0 (suc j) d (omega arith) (suc-le-suc l)),
-      ordered_from rest (λ n b. e n (inr b)) (λ i j d l m. a (suc i) (suc j) d (suc-le-suc l) (suc-le-suc m)) (λ n b. h n (inr b)),
+      ordered_from rest (λ n b. e n (inr b)) (λ i j d l m. a (suc i) (suc j) d (suc-le-suc l) (suc-le-suc m))
+          (λ n b. h n (inr b)),
     )
 
     -- trees in order whose nodes are all solid are canonical children
-    children_from : (f : Forest K V) → AreOrdered cmp f → ((n : Tree K V) → IsBelow n f → IsSolid n.value n.children) → AreChildren cmp f
+    children_from : (f : Forest K V) → AreOrdered cmp f → ((n : Tree K V) → IsBelow n f → IsSolid n.value n.children)
+        → AreChildren cmp f
     children_from bare a s = tt
     children_from (grow [] v kids rest) a s = absurd a
-    children_from (grow (x ∷ p) v kids rest) a s =
-        (s (node (x ∷ p) v kids) (inl (inl refl)), children_from kids a.0 (λ n b. s n (inl (inr b))), a.1, children_from rest a.2 (λ n b. s n (inr b)))
+    children_from (grow (x ∷ p) v kids rest) a s = (
+      s (node (x ∷ p) v kids) (inl (inl refl)),
+      children_from kids a.0 (λ n b. s n (inl (inr b))),
+      a.1,
+      children_from rest a.2 (λ n b. s n (inr b)),
+    )
 
     -- ---- the two conditions on prefixes
 
@@ -127,7 +145,8 @@ module _ {K V : Type 0} where
 
     -- and siblings ascend
     ordered_ascending : (t : Tree K V) → AreOrdered cmp t.children → ChildrenAscend cmp t
-    ordered_ascending t a n (inl e) = ordered_ascend n.children (on_node (λ p v f. AreOrdered cmp f) n t.prefix t.value t.children e a)
+    ordered_ascending t a n (inl e) =
+        ordered_ascend n.children (on_node (λ p v f. AreOrdered cmp f) n t.prefix t.value t.children e a)
     ordered_ascending t a n (inr b) = ordered_ascend n.children (below_ordered t.children a n b)
 
     -- so both conditions are met
@@ -154,12 +173,17 @@ module _ {K V : Type 0} where
 
     -- in a canonical tree a bare node is the whole
     canonical_bare : (t : Tree K V) → IsCanonical cmp t → BareIsWhole t
-    canonical_bare t c n (inl e) h = (e, on_node (λ p v f. lacks_both v f ≡ true → p ≡ []) n t.prefix t.value t.children e (whole_prefix t.prefix t.value t.children c.0) h)
+    canonical_bare t c n (inl e) h = (
+      e,
+      on_node (λ p v f. lacks_both v f ≡ true → p ≡ []) n t.prefix t.value t.children e (whole_prefix t.prefix t.value t.children c.0) h,
+    )
     canonical_bare t c n (inr b) h = absurd (solid_not_bare n.value n.children (below_solid t.children c.1 n b) h)
 
     -- and none without a value has a lone child
     canonical_no_lone : (t : Tree K V) → IsCanonical cmp t → NoLoneChild t
-    canonical_no_lone t c n (inl e) = on_node (λ p v f. IsNone v → length (trees f) ≢ 1) n t.prefix t.value t.children e (whole_not_lone t.prefix t.value t.children c.0)
+    canonical_no_lone t c n (inl e) =
+        on_node (λ p v f. IsNone v → length (trees f) ≢ 1) n t.prefix t.value t.children e
+        (whole_not_lone t.prefix t.value t.children c.0)
     canonical_no_lone t c n (inr b) = solid_not_lone n.value n.children (below_solid t.children c.1 n b)
 
     -- a canonical tree meets the four conditions
@@ -178,7 +202,8 @@ module _ {K V : Type 0} where
         subst (λ f. IsBelow n f) none b
 
     -- a whole tree, from two of the conditions
-    whole_from : (p : List K) (v : Option V) (f : Forest K V) → (lacks_both v f ≡ true → p ≡ []) → (IsNone v → length (trees f) ≢ 1) → IsWhole p v f
+    whole_from : (p : List K) (v : Option V) (f : Forest K V) → (lacks_both v f ≡ true → p ≡ [])
+        → (IsNone v → length (trees f) ≢ 1) → IsWhole p v f
     whole_from [] (Some v) f b l = tt
     whole_from [] None bare b l = tt
     whole_from [] None (grow q u more rest) b l = solid_from None (grow q u more rest) (λ h. true≢false (sym h)) l

@@ -37,7 +37,8 @@ module _ {K : Type 0} (cmp : K → K → Ordering) where
   then_behind q (Some rest) = behind cmp q rest
 
   -- a test before a look behind a further prefix
-  if-then_behind : (b : Bool) (q : List K) (o : Option (List K)) → cond b (then_behind q o) None ≡ then_behind q (cond b o None)
+  if-then_behind : (b : Bool) (q : List K) (o : Option (List K))
+      → cond b (then_behind q o) None ≡ then_behind q (cond b o None)
   if-then_behind true q o = refl
   if-then_behind false q o = refl
 
@@ -45,10 +46,13 @@ module _ {K : Type 0} (cmp : K → K → Ordering) where
   pub behind-append : (p q k : List K) → behind cmp (p ++ q) k ≡ then_behind q (behind cmp p k)
   behind-append [] q k = refl
   behind-append (x ∷ p) q [] = refl
-  behind-append (x ∷ p) q (y ∷ k) = ap (λ o. cond (is_eq (cmp x y)) o None) (behind-append p q k) ∙ if-then_behind (is_eq (cmp x y)) q (behind cmp p k)
+  behind-append (x ∷ p) q (y ∷ k) =
+      ap (λ o. cond (is_eq (cmp x y)) o None) (behind-append p q k)
+      ∙ if-then_behind (is_eq (cmp x y)) q (behind cmp p k)
 
   -- a test before a comparison of what is left
-  if-then_same : (b : Bool) (j : List K) (o : Option (List K)) → cond b (then_same j o) false ≡ then_same j (cond b o None)
+  if-then_same : (b : Bool) (j : List K) (o : Option (List K))
+      → cond b (then_same j o) false ≡ then_same j (cond b o None)
   if-then_same true j o = refl
   if-then_same false j o = refl
 
@@ -56,7 +60,8 @@ module _ {K : Type 0} (cmp : K → K → Ordering) where
   pub same-append : (p j k : List K) → same_key cmp (p ++ j) k ≡ then_same j (behind cmp p k)
   same-append [] j k = refl
   same-append (x ∷ p) j [] = refl
-  same-append (x ∷ p) j (y ∷ k) = ap (λ o. cond (is_eq (cmp x y)) o false) (same-append p j k) ∙ if-then_same (is_eq (cmp x y)) j (behind cmp p k)
+  same-append (x ∷ p) j (y ∷ k) =
+      ap (λ o. cond (is_eq (cmp x y)) o false) (same-append p j k) ∙ if-then_same (is_eq (cmp x y)) j (behind cmp p k)
 
   -- nothing is left of a key behind an equal one
   pub same_behind : (p k : List K) → same_key cmp p k ≡ true → behind cmp p k ≡ Some []
@@ -69,10 +74,12 @@ module _ {K : Type 0} (cmp : K → K → Ordering) where
       λ i. cond (both.0 i) (rest i) None
 
   -- of a key that equals p joined with j, what is left behind p equals j
-  pub left_behind : (p j k : List K) → same_key cmp (p ++ j) k ≡ true → (rest : List K) × (behind cmp p k ≡ Some rest) × (same_key cmp j rest ≡ true)
+  pub left_behind : (p j k : List K) → same_key cmp (p ++ j) k ≡ true
+      → (rest : List K) × (behind cmp p k ≡ Some rest) × (same_key cmp j rest ≡ true)
   left_behind p j k h = by (behind cmp p k) refl (sym (same-append p j k) ∙ h)
     where
-      by : (o : Option (List K)) → behind cmp p k ≡ o → then_same j (behind cmp p k) ≡ true → (rest : List K) × (behind cmp p k ≡ Some rest) × (same_key cmp j rest ≡ true)
+      by : (o : Option (List K)) → behind cmp p k ≡ o → then_same j (behind cmp p k) ≡ true
+          → (rest : List K) × (behind cmp p k ≡ Some rest) × (same_key cmp j rest ≡ true)
       by None e g = absurd (true≢false (sym (ap (then_same j) (sym e) ∙ g)))
       by (Some rest) e g = (rest, e, ap (then_same j) (sym e) ∙ g)
 
@@ -89,7 +96,8 @@ module _ {K : Type 0} (cmp : K → K → Ordering) where
   same-slice_cmp [] [] = refl
   same-slice_cmp [] (y ∷ k) = refl
   same-slice_cmp (x ∷ j) [] = refl
-  same-slice_cmp (x ∷ j) (y ∷ k) = ap (λ b. cond (is_eq (cmp x y)) b false) (same-slice_cmp j k) ∙ both-is_eq (cmp x y) (slice_cmp cmp j k)
+  same-slice_cmp (x ∷ j) (y ∷ k) =
+      ap (λ b. cond (is_eq (cmp x y)) b false) (same-slice_cmp j k) ∙ both-is_eq (cmp x y) (slice_cmp cmp j k)
 
   -- no key comes before an equal one
   pub not_before : (j k : List K) → slice_cmp cmp j k ≡ Less → same_key cmp j k ≡ true → ⊥
@@ -121,7 +129,8 @@ module _ {K : Type 0} (cmp : K → K → Ordering) where
   below_end (suc n) (x ∷ k) h = h
 
   -- where keys are equal up to a place and the first begins below there, it comes first
-  less_from : (n : ℕ) (k j : List K) → same_key cmp (take n k) (take n j) ≡ true → BeginsBelow cmp (drop n k) (drop n j) → slice_cmp cmp k j ≡ Less
+  less_from : (n : ℕ) (k j : List K) → same_key cmp (take n k) (take n j) ≡ true
+      → BeginsBelow cmp (drop n k) (drop n j) → slice_cmp cmp k j ≡ Less
   less_from n k [] h g = absurd (below_end n (drop n k) g)
   less_from n [] (y ∷ j) h g = refl
   less_from zero (x ∷ k) (y ∷ j) h g = ap (λ r. ordering_then r (slice_cmp cmp k j)) g
@@ -140,7 +149,8 @@ module _ {K : Type 0} (cmp : K → K → Ordering) where
   less_place (x ∷ k) [] h = absurd (true≢false (sym (ap is_lt h)))
   less_place (x ∷ k) (y ∷ j) h = by (cmp x y) refl h (less_place k j)
     where
-      by : (r : Ordering) → cmp x y ≡ r → ordering_then r (slice_cmp cmp k j) ≡ Less → (slice_cmp cmp k j ≡ Less → IsLess cmp k j) → IsLess cmp (x ∷ k) (y ∷ j)
+      by : (r : Ordering) → cmp x y ≡ r → ordering_then r (slice_cmp cmp k j) ≡ Less
+          → (slice_cmp cmp k j ≡ Less → IsLess cmp k j) → IsLess cmp (x ∷ k) (y ∷ j)
       by Less e g f = record { place = zero; before = refl; at = e }
       by Equal e g f = less_next x y k j e (f g)
       by Greater e g f = absurd (true≢false (sym (ap is_lt g)))
@@ -193,12 +203,14 @@ module _ {K : Type 0} (cmp : K → K → Ordering) where
 
     -- no two keys come before each other
     pub not_both_before : (j k : List K) → slice_cmp cmp j k ≡ Less → slice_cmp cmp k j ≡ Less → ⊥
-    not_both_before j k l m = true≢false (sym (ap is_lt m) ∙ ap is_lt ((lists_total o).antisymm k j ∙ ap ordering_reverse l))
+    not_both_before j k l m =
+        true≢false (sym (ap is_lt m) ∙ ap is_lt ((lists_total o).antisymm k j ∙ ap ordering_reverse l))
 
     -- keys keep their order behind one prefix
     pub less_prepended : (p k j : List K) → slice_cmp cmp k j ≡ Less → slice_cmp cmp (p ++ k) (p ++ j) ≡ Less
     less_prepended [] k j h = h
-    less_prepended (x ∷ p) k j h = ap (λ r. ordering_then r (slice_cmp cmp (p ++ k) (p ++ j))) (tied_itself o x) ∙ less_prepended p k j h
+    less_prepended (x ∷ p) k j h =
+        ap (λ r. ordering_then r (slice_cmp cmp (p ++ k) (p ++ j))) (tied_itself o x) ∙ less_prepended p k j h
 
     -- a prefix joined with what is left behind it makes up the key
     pub behind_joins : (p k rest : List K) → behind cmp p k ≡ Some rest → same_key cmp (p ++ rest) k ≡ true
@@ -210,7 +222,8 @@ module _ {K : Type 0} (cmp : K → K → Ordering) where
     behind_starts k p (Some rest) e h = (rest, behind_joins p k rest e)
 
     -- what else makes up the key with the prefix equals what is left
-    rest_one : (k p q rest : List K) → behind cmp p k ≡ Some rest → same_key cmp (p ++ q) k ≡ true → same_key cmp q rest ≡ true
+    rest_one : (k p q rest : List K) → behind cmp p k ≡ Some rest → same_key cmp (p ++ q) k ≡ true
+        → same_key cmp q rest ≡ true
     rest_one k p q rest e h = ap (then_same q) (sym e) ∙ sym (same-append p q k) ∙ h
 
     -- what is left behind a prefix is the one rest
@@ -225,7 +238,8 @@ module _ {K : Type 0} (cmp : K → K → Ordering) where
     pub keys_ordered : KeysAreOrdered cmp
     keys_ordered = record {
       total = lists_total o;
-      equal = λ j k. (λ e. same-slice_cmp j k ∙ ap is_eq e, λ e. (Equal-is (slice_cmp cmp j k)).0 (sym (same-slice_cmp j k) ∙ e));
+      equal =
+          λ j k. (λ e. same-slice_cmp j k ∙ ap is_eq e, λ e. (Equal-is (slice_cmp cmp j k)).0 (sym (same-slice_cmp j k) ∙ e));
       less = λ j k. (less_place j k, λ l. less_from l.place j k l.before l.at);
       components = λ j k. (same_places j k, places_same j k);
     }

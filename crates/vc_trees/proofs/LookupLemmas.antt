@@ -38,25 +38,32 @@ module _ {K V : Type 0} (cmp : K → K → Ordering) where
   -- ---- one component
 
   -- an equal first component is taken off
-  pub lookup-equal : (x y : K) (p k : List K) (v : Option V) (f : Forest K V) → cmp x y ≡ Equal → lookup cmp (node (x ∷ p) v f) (y ∷ k) ≡ lookup cmp (node p v f) k
+  pub lookup-equal : (x y : K) (p k : List K) (v : Option V) (f : Forest K V) → cmp x y ≡ Equal
+      → lookup cmp (node (x ∷ p) v f) (y ∷ k) ≡ lookup cmp (node p v f) k
   lookup-equal x y p k v f e = ap (λ r. node_lookup v (lookup_in cmp f) (cond (is_eq r) (behind cmp p k) None)) e
 
   -- at another first component nothing is bound
-  pub lookup-other : (x y : K) (p k : List K) (v : Option V) (f : Forest K V) → is_eq (cmp x y) ≡ false → lookup cmp (node (x ∷ p) v f) (y ∷ k) ≡ None
+  pub lookup-other : (x y : K) (p k : List K) (v : Option V) (f : Forest K V) → is_eq (cmp x y) ≡ false
+      → lookup cmp (node (x ∷ p) v f) (y ∷ k) ≡ None
   lookup-other x y p k v f e = ap (λ b. node_lookup v (lookup_in cmp f) (cond b (behind cmp p k) None)) e
 
   -- what is bound behind a test, is bound where the test holds
-  test_held : (b : Bool) (o : Option (List K)) (v : Option V) (f : List K → Option V) (a : V) → node_lookup v f (cond b o None) ≡ Some a → b ≡ true
+  test_held : (b : Bool) (o : Option (List K)) (v : Option V) (f : List K → Option V) (a : V)
+      → node_lookup v f (cond b o None) ≡ Some a → b ≡ true
   test_held true o v f a h = refl
   test_held false o v f a h = none_some a h
 
   -- a bound key begins as the prefix does
-  pub lookup_begins : (x y : K) (p k : List K) (v : Option V) (f : Forest K V) (a : V) → lookup cmp (node (x ∷ p) v f) (y ∷ k) ≡ Some a → cmp x y ≡ Equal
-  lookup_begins x y p k v f a h = (Equal-is (cmp x y)).0 (test_held (is_eq (cmp x y)) (behind cmp p k) v (lookup_in cmp f) a h)
+  pub lookup_begins : (x y : K) (p k : List K) (v : Option V) (f : Forest K V) (a : V)
+      → lookup cmp (node (x ∷ p) v f) (y ∷ k) ≡ Some a → cmp x y ≡ Equal
+  lookup_begins x y p k v f a h =
+      (Equal-is (cmp x y)).0 (test_held (is_eq (cmp x y)) (behind cmp p k) v (lookup_in cmp f) a h)
 
   -- beside a tree that begins with another component, the others alone are asked
-  pub lookup_in-skip : (x y : K) (p k : List K) (v : Option V) (kids rest : Forest K V) → is_eq (cmp x y) ≡ false → lookup_in cmp (grow (x ∷ p) v kids rest) (y ∷ k) ≡ lookup_in cmp rest (y ∷ k)
-  lookup_in-skip x y p k v kids rest e = ap (λ o. or_else o (lookup_in cmp rest (y ∷ k))) (lookup-other x y p k v kids e)
+  pub lookup_in-skip : (x y : K) (p k : List K) (v : Option V) (kids rest : Forest K V) → is_eq (cmp x y) ≡ false
+      → lookup_in cmp (grow (x ∷ p) v kids rest) (y ∷ k) ≡ lookup_in cmp rest (y ∷ k)
+  lookup_in-skip x y p k v kids rest e =
+      ap (λ o. or_else o (lookup_in cmp rest (y ∷ k))) (lookup-other x y p k v kids e)
 
   module _ (o : IsTotalOrder cmp) where
     -- ---- components below those of a list of trees
@@ -88,11 +95,13 @@ module _ {K V : Type 0} (cmp : K → K → Ordering) where
     FirstBound (grow (x ∷ p) v kids rest) = Bound (λ k. lookup_in cmp (grow (x ∷ p) v kids rest) (x ∷ k))
 
     -- a solid node binds its prefix, or what its first child binds behind it
-    node_bound : (p : List K) (v : Option V) (f : Forest K V) → IsSolid v f → AreChildren cmp f → FirstBound f → Bound (λ k. lookup cmp (node p v f) (p ++ k))
+    node_bound : (p : List K) (v : Option V) (f : Forest K V) → IsSolid v f → AreChildren cmp f → FirstBound f
+        → Bound (λ k. lookup cmp (node p v f) (p ++ k))
     node_bound p (Some v) f s a b = record { key = []; value = v; is = rw (behind_itself cmp o p []) refl }
     node_bound p None bare s a b = absurd s
     node_bound p None (grow [] w more rest) s a b = absurd a
-    node_bound p None (grow (x ∷ q) w more rest) s a b = record { key = x ∷ b.key; value = b.value; is = rw (behind_itself cmp o p (x ∷ b.key)) b.is }
+    node_bound p None (grow (x ∷ q) w more rest) s a b =
+        record { key = x ∷ b.key; value = b.value; is = rw (behind_itself cmp o p (x ∷ b.key)) b.is }
 
     -- canonical children bind a key that begins as the first of them
     pub first_bound : (f : Forest K V) → AreChildren cmp f → FirstBound f
@@ -100,10 +109,12 @@ module _ {K V : Type 0} (cmp : K → K → Ordering) where
     first_bound (grow [] v kids rest) a = tt
     first_bound (grow (x ∷ p) v kids rest) a =
         let b = node_bound (x ∷ p) v kids a.0 a.1 (first_bound kids a.1) in
-        record { key = p ++ b.key; value = b.value; is = ap (λ m. or_else m (lookup_in cmp rest (x ∷ p ++ b.key))) b.is }
+        record
+        { key = p ++ b.key; value = b.value; is = ap (λ m. or_else m (lookup_in cmp rest (x ∷ p ++ b.key))) b.is }
 
     -- a solid node over canonical children binds a key that starts with its prefix
-    pub tree_bound : (p : List K) (v : Option V) (f : Forest K V) → IsSolid v f → AreChildren cmp f → Bound (λ k. lookup cmp (node p v f) (p ++ k))
+    pub tree_bound : (p : List K) (v : Option V) (f : Forest K V) → IsSolid v f → AreChildren cmp f
+        → Bound (λ k. lookup cmp (node p v f) (p ++ k))
     tree_bound p v f s a = node_bound p v f s a (first_bound f a)
 
   -- the three parts of the empty tree
@@ -123,5 +134,6 @@ module _ {K V : Type 0} (cmp : K → K → Ordering) where
   no_tree_binds (x ∷ k) = refl
 
   -- nor does one of its parts
-  pub nothing_bound : (p : List K) (v : Option V) (f : Forest K V) → AreNothing p v f → (k : List K) → lookup cmp (node p v f) k ≡ None
+  pub nothing_bound : (p : List K) (v : Option V) (f : Forest K V) → AreNothing p v f → (k : List K)
+      → lookup cmp (node p v f) k ≡ None
   nothing_bound p v f e k = (λ i. lookup cmp (node (e.0 i) (e.1 i) (e.2 i)) k) ∙ no_tree_binds k

@@ -22,7 +22,8 @@ module _ {K V : Type 0} where
   width (grow p v kids rest) = width rest + 1
 
   -- a solid node leaves one node to spare below it, a value for itself or a second child
-  node_le : (v : Option V) (f : Forest K V) → IsSolid v f → forest_nodes f + width f ≤ 2 * forest_key_count f → forest_nodes f + 2 ≤ 2 * (own_count v + forest_key_count f)
+  node_le : (v : Option V) (f : Forest K V) → IsSolid v f → forest_nodes f + width f ≤ 2 * forest_key_count f
+      → forest_nodes f + 2 ≤ 2 * (own_count v + forest_key_count f)
   node_le (Some v) f s h = omega (arith, h)
   node_le None bare s h = absurd s
   node_le None (grow p v kids bare) s h = absurd s
@@ -39,9 +40,11 @@ module _ {K V : Type 0} where
         omega (arith, here, beside)
 
     -- a whole tree with a key is solid
-    whole_le : (p : List K) (v : Option V) (f : Forest K V) → IsWhole p v f → AreChildren cmp f → 1 ≤ own_count v + forest_key_count f → forest_nodes f + 2 ≤ 2 * (own_count v + forest_key_count f)
+    whole_le : (p : List K) (v : Option V) (f : Forest K V) → IsWhole p v f → AreChildren cmp f
+        → 1 ≤ own_count v + forest_key_count f → forest_nodes f + 2 ≤ 2 * (own_count v + forest_key_count f)
     whole_le [] None bare w a k = absurd (omega (arith, k))
-    whole_le [] None (grow q u more rest) w a k = node_le None (grow q u more rest) w (nodes_le_in (grow q u more rest) a)
+    whole_le [] None (grow q u more rest) w a k =
+        node_le None (grow q u more rest) w (nodes_le_in (grow q u more rest) a)
     whole_le [] (Some v) f w a k = node_le (Some v) f tt (nodes_le_in f a)
     whole_le (x ∷ p) v f w a k = node_le v f w (nodes_le_in f a)
 
@@ -59,7 +62,8 @@ module _ {K V : Type 0} where
           let below = same_nodes_in kids more h.2 in let beside = same_nodes_in rest others h.3 in omega (arith, below, beside)
 
       -- a tree of an equal map whose children are in order, mended, is the canonical one
-      pub canonical_fewest : IsTotalOrder cmp → (t u : Tree K V) → IsCanonical cmp t → AreOrdered cmp u.children → IsEqualMap matches (lookup cmp t) (lookup cmp u) → nodes t ≤ nodes u
+      pub canonical_fewest : IsTotalOrder cmp → (t u : Tree K V) → IsCanonical cmp t → AreOrdered cmp u.children
+          → IsEqualMap matches (lookup cmp t) (lookup cmp u) → nodes t ≤ nodes u
       canonical_fewest o t u c d h =
           let same = canonical_same cmp o matches t (mended u) c (mended_canonical cmp u d) (λ k. kept_by matches _ _ _ _ refl (sym (lookup-mended cmp u d k)) (h k)) in
           let equal = same_nodes_in t.children (mended u).children same.2 in
@@ -68,4 +72,6 @@ module _ {K V : Type 0} where
 
       -- a canonical tree is the smallest of its map
       pub canonical_smallest : IsTotalOrder cmp → (t : Tree K V) → IsCanonical cmp t → IsSmallest cmp matches t
-      canonical_smallest o t c = record { two_a_key = canonical_le t c; fewest = λ u m h. canonical_fewest o t u c (meets_ordered cmp u m) h }
+      canonical_smallest o t c =
+          record
+          { two_a_key = canonical_le t c; fewest = λ u m h. canonical_fewest o t u c (meets_ordered cmp u m) h }

@@ -28,7 +28,8 @@ module _ {V : Type 0} (matches : V → V → Type 0) where
   kept_refl r (Some v) = r v
 
   -- what keeps a kept value keeps the first, where the relation says so
-  pub kept_trans : ((u v w : V) → matches u v → matches v w → matches u w) → (a b c : Option V) → IsKept matches a b → IsKept matches b c → IsKept matches a c
+  pub kept_trans : ((u v w : V) → matches u v → matches v w → matches u w) → (a b c : Option V) → IsKept matches a b
+      → IsKept matches b c → IsKept matches a c
   kept_trans t None None c h k = k
   kept_trans t (Some u) (Some v) (Some w) h k = t u v w h k
   kept_trans t (Some u) (Some v) None h k = absurd k
@@ -36,7 +37,8 @@ module _ {V : Type 0} (matches : V → V → Type 0) where
   kept_trans t (Some u) None c h k = absurd h
 
   -- the first of two matches the first of two
-  pub kept_else : (a b c d : Option V) → IsKept matches a b → IsKept matches c d → IsKept matches (or_else a c) (or_else b d)
+  pub kept_else : (a b c d : Option V) → IsKept matches a b → IsKept matches c d
+      → IsKept matches (or_else a c) (or_else b d)
   kept_else None None c d h k = k
   kept_else (Some v) (Some w) c d h k = h
   kept_else None (Some w) c d h k = absurd h

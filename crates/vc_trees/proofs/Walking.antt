@@ -43,7 +43,8 @@ module _ {K V : Type 0} where
   AllKeys P l = AllByRecursion P (keys_of l)
 
   -- a fact on keys that follows from another
-  keys_mono : (P Q : List K → Type 0) → ((k : List K) → P k → Q k) → (l : List (List K × V)) → AllKeys P l → AllKeys Q l
+  keys_mono : (P Q : List K → Type 0) → ((k : List K) → P k → Q k) → (l : List (List K × V)) → AllKeys P l
+      → AllKeys Q l
   keys_mono P Q f [] h = tt
   keys_mono P Q f (b ∷ l) h = (f b.0 h.0, keys_mono P Q f l h.1)
 
@@ -53,7 +54,8 @@ module _ {K V : Type 0} where
   keys_append P (b ∷ l) m h g = (h.0, keys_append P l m h.1 g)
 
   -- of keys with a prefix before them
-  keys_prepended : (Q : List K → Type 0) (p : List K) → (l : List (List K × V)) → AllKeys (λ k. Q (p ++ k)) l → AllKeys Q (map (prepended p) l)
+  keys_prepended : (Q : List K → Type 0) (p : List K) → (l : List (List K × V)) → AllKeys (λ k. Q (p ++ k)) l
+      → AllKeys Q (map (prepended p) l)
   keys_prepended Q p [] h = tt
   keys_prepended Q p (b ∷ l) h = (h.0, keys_prepended Q p l h.1)
 
@@ -67,17 +69,20 @@ module _ {K V : Type 0} where
   AllBound P l = AllByRecursion (λ b. P b.0 b.1) l
 
   -- of two lists joined
-  pairs_append : (P : List K → V → Type 0) (l m : List (List K × V)) → AllBound P l → AllBound P m → AllBound P (l ++ m)
+  pairs_append : (P : List K → V → Type 0) (l m : List (List K × V)) → AllBound P l → AllBound P m
+      → AllBound P (l ++ m)
   pairs_append P [] m h g = g
   pairs_append P (b ∷ l) m h g = (h.0, pairs_append P l m h.1 g)
 
   -- a fact that follows from another
-  pairs_mono : (P Q : List K → V → Type 0) → ((k : List K) (a : V) → P k a → Q k a) → (l : List (List K × V)) → AllBound P l → AllBound Q l
+  pairs_mono : (P Q : List K → V → Type 0) → ((k : List K) (a : V) → P k a → Q k a) → (l : List (List K × V))
+      → AllBound P l → AllBound Q l
   pairs_mono P Q f [] h = tt
   pairs_mono P Q f (b ∷ l) h = (f b.0 b.1 h.0, pairs_mono P Q f l h.1)
 
   -- of keys with a prefix before them
-  pairs_prepended : (Q : List K → V → Type 0) (p : List K) (l : List (List K × V)) → AllBound (λ k a. Q (p ++ k) a) l → AllBound Q (map (prepended p) l)
+  pairs_prepended : (Q : List K → V → Type 0) (p : List K) (l : List (List K × V)) → AllBound (λ k a. Q (p ++ k) a) l
+      → AllBound Q (map (prepended p) l)
   pairs_prepended Q p [] h = tt
   pairs_prepended Q p (b ∷ l) h = (h.0, pairs_prepended Q p l h.1)
 
@@ -96,7 +101,8 @@ module _ {K V : Type 0} where
     ascend_append : (l m : List (List K × V)) → Ascend l → Ascend m → AllKeys (λ k. Before k m) l → Ascend (l ++ m)
     unfolding IsStrictlySortedBy
     ascend_append [] m h g a = g
-    ascend_append (b ∷ l) m h g a = (keys_append (λ j. slice_cmp cmp b.0 j ≡ Less) l m h.0 a.0, ascend_append l m h.1 g a.1)
+    ascend_append (b ∷ l) m h g a =
+        (keys_append (λ j. slice_cmp cmp b.0 j ≡ Less) l m h.0 a.0, ascend_append l m h.1 g a.1)
 
     -- each key of trees above x begins above x
     walk_above : (x : K) (f : Forest K V) → AllAbove cmp x f → AllKeys (Above cmp x) (walk_in f)
@@ -112,12 +118,14 @@ module _ {K V : Type 0} where
     empty_before bare a = tt
     empty_before (grow [] v kids rest) a = absurd a
     empty_before (grow (y ∷ p) v kids rest) a =
-        keys_append (λ j. slice_cmp cmp [] j ≡ Less) (map (prepended (y ∷ p)) (own_pair v ++ walk_in kids)) (walk_in rest)
+        keys_append (λ j. slice_cmp cmp [] j ≡ Less) (map (prepended (y ∷ p)) (own_pair v ++ walk_in kids))
+        (walk_in rest)
         (keys_prepended (λ j. slice_cmp cmp [] j ≡ Less) (y ∷ p) (own_pair v ++ walk_in kids) (keys_any (λ k. Less ≡ Less) (λ k. refl) (own_pair v ++ walk_in kids)))
         (empty_before rest a.2)
 
     -- a node's own pair comes before those of its children
-    ascend_own : (v : Option V) (f : Forest K V) → AreOrdered cmp f → Ascend (walk_in f) → Ascend (own_pair v ++ walk_in f)
+    ascend_own : (v : Option V) (f : Forest K V) → AreOrdered cmp f → Ascend (walk_in f)
+        → Ascend (own_pair v ++ walk_in f)
     unfolding IsStrictlySortedBy
     ascend_own None f a h = h
     ascend_own (Some v) f a h = (empty_before f a, h)
@@ -128,7 +136,8 @@ module _ {K V : Type 0} where
       unfolding IsStrictlySortedBy
       ascend_prepended p [] h = tt
       ascend_prepended p (b ∷ l) h = (
-        keys_prepended (λ j. slice_cmp cmp (p ++ b.0) j ≡ Less) p l (keys_mono (λ j. slice_cmp cmp b.0 j ≡ Less) (λ j. slice_cmp cmp (p ++ b.0) (p ++ j) ≡ Less) (less_prepended cmp o p b.0) l h.0),
+        keys_prepended (λ j. slice_cmp cmp (p ++ b.0) j ≡ Less) p l
+            (keys_mono (λ j. slice_cmp cmp b.0 j ≡ Less) (λ j. slice_cmp cmp (p ++ b.0) (p ++ j) ≡ Less) (less_prepended cmp o p b.0) l h.0),
         ascend_prepended p l h.1,
       )
 
@@ -147,12 +156,15 @@ module _ {K V : Type 0} where
 
       -- the walk of a tree whose children are in order ascends
       pub walk_ascends : (t : Tree K V) → AreOrdered cmp t.children → Ascend (walk t)
-      walk_ascends t a = ascend_prepended t.prefix (own_pair t.value ++ walk_in t.children) (ascend_own t.value t.children a (walk_in_ascends t.children a))
+      walk_ascends t a =
+          ascend_prepended t.prefix (own_pair t.value ++ walk_in t.children)
+          (ascend_own t.value t.children a (walk_in_ascends t.children a))
 
     -- ---- each pair of the walk is bound
 
     -- what a list has at a key, it has at an equal key of which the fact holds
-    lists_bound : (P : List K → V → Type 0) (l : List (List K × V)) → AllBound P l → (k : List K) (a : V) → Lists cmp l k a → (j : List K) × P j a × (same_key cmp j k ≡ true)
+    lists_bound : (P : List K → V → Type 0) (l : List (List K × V)) → AllBound P l → (k : List K) (a : V)
+        → Lists cmp l k a → (j : List K) × P j a × (same_key cmp j k ≡ true)
     lists_bound P [] h k a e = absurd e
     lists_bound P (b ∷ l) h k a (inl e) = (b.0, subst (P b.0) e.1 h.0, e.0)
     lists_bound P (b ∷ l) h k a (inr e) = lists_bound P l h.1 k a e
@@ -172,60 +184,76 @@ module _ {K V : Type 0} where
 
     module _ (o : IsTotalOrder cmp) where
       -- the pairs of a node are bound where those of its children are
-      node_bound : (p : List K) (v : Option V) (below : List K → V → Type 0) (l : List (List K × V)) → AllBound below l → AllBound (NodeBinds cmp p v below) (map (prepended p) (own_pair v ++ l))
+      node_bound : (p : List K) (v : Option V) (below : List K → V → Type 0) (l : List (List K × V))
+          → AllBound below l → AllBound (NodeBinds cmp p v below) (map (prepended p) (own_pair v ++ l))
       node_bound p None below l h =
-          pairs_prepended (NodeBinds cmp p None below) p l (pairs_mono below (λ k a. NodeBinds cmp p None below (p ++ k) a) (λ k a g. inr (k, same_itself cmp o (p ++ k), g)) l h)
+          pairs_prepended (NodeBinds cmp p None below) p l
+          (pairs_mono below (λ k a. NodeBinds cmp p None below (p ++ k) a) (λ k a g. inr (k, same_itself cmp o (p ++ k), g)) l h)
       node_bound p (Some v) below l h = (
         inl (subst (λ q. same_key cmp p q ≡ true) (sym (append-nil p)) (same_itself cmp o p), refl),
-        pairs_prepended (NodeBinds cmp p (Some v) below) p l (pairs_mono below (λ k a. NodeBinds cmp p (Some v) below (p ++ k) a) (λ k a g. inr (k, same_itself cmp o (p ++ k), g)) l h),
+        pairs_prepended (NodeBinds cmp p (Some v) below) p l
+            (pairs_mono below (λ k a. NodeBinds cmp p (Some v) below (p ++ k) a) (λ k a g. inr (k, same_itself cmp o (p ++ k), g)) l h),
       )
 
       -- each pair of a list of trees is bound by one
       walk_in_bound : (f : Forest K V) → AllBound (BindsIn cmp f) (walk_in f)
       walk_in_bound bare = tt
       walk_in_bound (grow p v kids rest) =
-          pairs_append (BindsIn cmp (grow p v kids rest)) (map (prepended p) (own_pair v ++ walk_in kids)) (walk_in rest)
+          pairs_append (BindsIn cmp (grow p v kids rest)) (map (prepended p) (own_pair v ++ walk_in kids))
+          (walk_in rest)
           (pairs_mono (NodeBinds cmp p v (BindsIn cmp kids)) (BindsIn cmp (grow p v kids rest)) (λ k a h. inl h) _ (node_bound p v (BindsIn cmp kids) (walk_in kids) (walk_in_bound kids)))
           (pairs_mono (BindsIn cmp rest) (BindsIn cmp (grow p v kids rest)) (λ k a h. inr h) _ (walk_in_bound rest))
 
       -- each pair of the walk is bound
       pub walk_bound : (t : Tree K V) → AllByRecursion (λ b. Binds cmp t b.0 b.1) (walk t)
-      walk_bound t = node_bound t.prefix t.value (BindsIn cmp t.children) (walk_in t.children) (walk_in_bound t.children)
+      walk_bound t =
+          node_bound t.prefix t.value (BindsIn cmp t.children) (walk_in t.children) (walk_in_bound t.children)
 
       -- a pair is still listed behind a prefix
-      lists_prepended : (p : List K) (l : List (List K × V)) (rest k : List K) (a : V) → same_key cmp (p ++ rest) k ≡ true → Lists cmp l rest a → Lists cmp (map (prepended p) l) k a
+      lists_prepended : (p : List K) (l : List (List K × V)) (rest k : List K) (a : V)
+          → same_key cmp (p ++ rest) k ≡ true → Lists cmp l rest a → Lists cmp (map (prepended p) l) k a
       lists_prepended p [] rest k a e h = absurd h
-      lists_prepended p (b ∷ l) rest k a e (inl h) = inl (same_trans cmp o (p ++ b.0) (p ++ rest) k (same_prepended cmp o p b.0 rest h.0) e, h.1)
+      lists_prepended p (b ∷ l) rest k a e (inl h) =
+          inl (same_trans cmp o (p ++ b.0) (p ++ rest) k (same_prepended cmp o p b.0 rest h.0) e, h.1)
       lists_prepended p (b ∷ l) rest k a e (inr h) = inr (lists_prepended p l rest k a e h)
 
       -- a node's own pair is listed
-      own_listed : (p : List K) (v : Option V) (l : List (List K × V)) (k : List K) (a : V) → same_key cmp p k ≡ true → v ≡ Some a → Lists cmp (map (prepended p) (own_pair v ++ l)) k a
+      own_listed : (p : List K) (v : Option V) (l : List (List K × V)) (k : List K) (a : V) → same_key cmp p k ≡ true
+          → v ≡ Some a → Lists cmp (map (prepended p) (own_pair v ++ l)) k a
       own_listed p None l k a e h = none_some a h
       own_listed p (Some v) l k a e h = inl (ap (λ q. same_key cmp q k) (append-nil p) ∙ e, cc)
 
       -- what a node binds is listed where what its children bind is
-      node_listed : (p : List K) (v : Option V) (below : List K → V → Type 0) (l : List (List K × V)) → ((k : List K) (a : V) → below k a → Lists cmp l k a)
+      node_listed : (p : List K) (v : Option V) (below : List K → V → Type 0) (l : List (List K × V))
+          → ((k : List K) (a : V) → below k a → Lists cmp l k a)
           → (k : List K) (a : V) → NodeBinds cmp p v below k a → Lists cmp (map (prepended p) (own_pair v ++ l)) k a
       node_listed p v below l f k a (inl h) = own_listed p v l k a h.0 h.1
-      node_listed p v below l f k a (inr h) = lists_prepended p (own_pair v ++ l) h.0 k a h.1 (lists_right (own_pair v) l h.0 a (f h.0 a h.2))
+      node_listed p v below l f k a (inr h) =
+          lists_prepended p (own_pair v ++ l) h.0 k a h.1 (lists_right (own_pair v) l h.0 a (f h.0 a h.2))
 
       -- what one of a list of trees binds is listed
       binds_in_listed : (f : Forest K V) (k : List K) (a : V) → BindsIn cmp f k a → Lists cmp (walk_in f) k a
       binds_in_listed bare k a h = absurd h
       binds_in_listed (grow p v kids rest) k a (inl h) =
-          lists_left (map (prepended p) (own_pair v ++ walk_in kids)) (walk_in rest) k a (node_listed p v (BindsIn cmp kids) (walk_in kids) (binds_in_listed kids) k a h)
-      binds_in_listed (grow p v kids rest) k a (inr h) = lists_right (map (prepended p) (own_pair v ++ walk_in kids)) (walk_in rest) k a (binds_in_listed rest k a h)
+          lists_left (map (prepended p) (own_pair v ++ walk_in kids)) (walk_in rest) k a
+          (node_listed p v (BindsIn cmp kids) (walk_in kids) (binds_in_listed kids) k a h)
+      binds_in_listed (grow p v kids rest) k a (inr h) =
+          lists_right (map (prepended p) (own_pair v ++ walk_in kids)) (walk_in rest) k a (binds_in_listed rest k a h)
 
       -- what a tree binds is listed
       pub binds_listed : (t : Tree K V) (k : List K) (a : V) → Binds cmp t k a → Lists cmp (walk t) k a
-      binds_listed t = node_listed t.prefix t.value (BindsIn cmp t.children) (walk_in t.children) (binds_in_listed t.children)
+      binds_listed t =
+          node_listed t.prefix t.value (BindsIn cmp t.children) (walk_in t.children) (binds_in_listed t.children)
 
       -- what is listed is looked up
-      listed_lookup : (t : Tree K V) → AreOrdered cmp t.children → (k : List K) (a : V) → Lists cmp (walk t) k a → lookup cmp t k ≡ Some a
-      listed_lookup t d k a h = let b = lists_bound (Binds cmp t) (walk t) (walk_bound t) k a h in binds_lookup_same cmp o t d b.0 k a b.1 b.2
+      listed_lookup : (t : Tree K V) → AreOrdered cmp t.children → (k : List K) (a : V) → Lists cmp (walk t) k a
+          → lookup cmp t k ≡ Some a
+      listed_lookup t d k a h =
+          let b = lists_bound (Binds cmp t) (walk t) (walk_bound t) k a h in binds_lookup_same cmp o t d b.0 k a b.1 b.2
 
       -- the walk lists exactly what the tree binds
-      pub walk_lists : (t : Tree K V) → AreOrdered cmp t.children → (k : List K) (a : V) → Lists cmp (walk t) k a ↔ (lookup cmp t k ≡ Some a)
+      pub walk_lists : (t : Tree K V) → AreOrdered cmp t.children → (k : List K) (a : V)
+          → Lists cmp (walk t) k a ↔ (lookup cmp t k ≡ Some a)
       walk_lists t d k a = (listed_lookup t d k a, λ h. binds_listed t k a (lookup_binds cmp o t k a h))
 
       -- the walk of a tree is that of its map
@@ -252,4 +280,7 @@ module _ {K V : Type 0} where
 
   -- a tree has as many pairs as values
   pub length-walk : (t : Tree K V) → length (walk t) ≡ key_count t
-  length-walk t = length-map (own_pair t.value ++ walk_in t.children) (prepended t.prefix) ∙ length-own_pair t.value (walk_in t.children) ∙ ap (λ n. own_count t.value + n) (length-walk_in t.children)
+  length-walk t =
+      length-map (own_pair t.value ++ walk_in t.children) (prepended t.prefix)
+      ∙ length-own_pair t.value (walk_in t.children)
+      ∙ ap (λ n. own_count t.value + n) (length-walk_in t.children)

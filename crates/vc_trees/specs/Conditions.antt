@@ -28,7 +28,8 @@ module _ {K V : Type 0} where
 
   -- the children of each node ascend strictly by the first components of their prefixes
   abbrev pub ChildrenAscend : (K → K → Ordering) → Tree K V → Type 0
-  ChildrenAscend cmp t = (n : Tree K V) → IsNodeOf n t → AllPairs (λ c d. BeginsBelow cmp c.prefix d.prefix) (trees n.children)
+  ChildrenAscend cmp t =
+      (n : Tree K V) → IsNodeOf n t → AllPairs (λ c d. BeginsBelow cmp c.prefix d.prefix) (trees n.children)
 
   -- no node without a value has exactly one child
   abbrev pub NoLoneChild : Tree K V → Type 0

@@ -26,12 +26,14 @@ pub record KeysAreOrdered {K : Type 0} (cmp : K → K → Ordering) : Type 0 whe
 pub record LeftBehindIsRest {K : Type 0} (cmp : K → K → Ordering) : Type 0 where
   pub starts : (k p : List K) → Starts cmp k p ↔ IsSome (behind cmp p k)
   pub joins : (k p rest : List K) → behind cmp p k ≡ Some rest → IsTrue (same_key cmp (p ++ rest) k)
-  pub one : (k p q rest : List K) → behind cmp p k ≡ Some rest → IsTrue (same_key cmp (p ++ q) k) → IsTrue (same_key cmp q rest)
+  pub one : (k p q rest : List K) → behind cmp p k ≡ Some rest → IsTrue (same_key cmp (p ++ q) k)
+      → IsTrue (same_key cmp q rest)
 
 module _ (K V : Type 0) (cmp : K → K → Ordering) where
   -- a canonical tree binds a key to a value exactly where the look-up of the key gives the value
   abbrev pub BindsIsLookup : Type 0
-  BindsIsLookup = (t : Tree K V) → IsCanonical cmp t → (k : List K) (a : V) → Binds cmp t k a ↔ (lookup cmp t k ≡ Some a)
+  BindsIsLookup =
+      (t : Tree K V) → IsCanonical cmp t → (k : List K) (a : V) → Binds cmp t k a ↔ (lookup cmp t k ≡ Some a)
 
   -- a tree is canonical exactly where the four conditions hold of all its nodes
   abbrev pub CanonicalIsConditions : Type 0
@@ -43,16 +45,22 @@ module _ (K V : Type 0) (cmp : K → K → Ordering) where
 
   -- a map has one walk, up to equal keys
   abbrev pub WalkIsOne : Type 0
-  WalkIsOne = (f : List K → Option V) (l m : List (List K × V)) → IsWalk cmp f l → IsWalk cmp f m → AllZip (IsSamePair cmp) l m
+  WalkIsOne =
+      (f : List K → Option V) (l m : List (List K × V)) → IsWalk cmp f l → IsWalk cmp f m → AllZip (IsSamePair cmp) l
+      m
 
   -- the number of keys of a canonical tree is that of the pairs of its map
   abbrev pub KeyCountIsLength : Type 0
-  KeyCountIsLength = (t : Tree K V) → IsCanonical cmp t → (l : List (List K × V)) → IsWalk cmp (lookup cmp t) l → length l ≡ key_count t
+  KeyCountIsLength =
+      (t : Tree K V) → IsCanonical cmp t → (l : List (List K × V)) → IsWalk cmp (lookup cmp t) l → length l ≡
+      key_count t
 
   module _ (matches : V → V → Type 0) where
     -- canonical trees are the same exactly where their maps are equal
     abbrev pub CanonicalIsUnique : Type 0
-    CanonicalIsUnique = (t u : Tree K V) → IsCanonical cmp t → IsCanonical cmp u → IsSame cmp matches t u ↔ IsEqualMap matches (lookup cmp t) (lookup cmp u)
+    CanonicalIsUnique =
+        (t u : Tree K V) → IsCanonical cmp t → IsCanonical cmp u → IsSame cmp matches t u ↔ IsEqualMap matches
+        (lookup cmp t) (lookup cmp u)
 
     -- a canonical tree is the one of its map, and the smallest
     abbrev pub CanonicalIsSmallest : Type 0
