@@ -1,6 +1,6 @@
 -- The relation by cases agrees with the look-up.
 --     lookup_binds        what is looked up is bound, in any tree
---     binds_lookup, binds_lookup_same        what is bound is looked up where children are in order, also at an equal key
+--     binds_lookup, binds_lookup_same        where children are in order, what is bound is looked up, also at an equal key
 --     canonical_binds        both, of a canonical tree
 use Rattle.std.proofs.Common.{◌≡◌, [], ◌∷◌, ◌++◌, List, Option, None, Some, refl, sym, ap, ◌∙◌, true, false, Bool, append-nil, ◌⊎◌, inl, inr, ◌↔◌}
 use Rattle.std.specs.declared.cmp.Ordering.{Ordering}
@@ -38,8 +38,7 @@ module _ {K V : Type 0} (cmp : K → K → Ordering) (o : IsTotalOrder cmp) wher
   binds_in bare k a h = none_some a h
   binds_in (grow p v kids rest) k a h =
       elim (else_cases _ _ a h) [
-        | inl e ↦ inl
-            (node_binds p k v (lookup_in cmp kids) (BindsIn cmp kids) (binds_in kids) (behind cmp p k) a refl e)
+        | inl e ↦ inl (node_binds p k v (lookup_in cmp kids) _ (binds_in kids) (behind cmp p k) a refl e)
         | inr e ↦ inr (binds_in rest k a e)
       ]
 

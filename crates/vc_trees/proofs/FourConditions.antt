@@ -175,7 +175,8 @@ module _ {K V : Type 0} where
     canonical_bare : (t : Tree K V) → IsCanonical cmp t → BareIsWhole t
     canonical_bare t c n (inl e) h = (
       e,
-      on_node (λ p v f. lacks_both v f ≡ true → p ≡ []) n t.prefix t.value t.children e (whole_prefix t.prefix t.value t.children c.0) h,
+      on_node (λ p v f. lacks_both v f ≡ true → p ≡ []) n t.prefix t.value t.children e
+          (whole_prefix t.prefix t.value t.children c.0) h,
     )
     canonical_bare t c n (inr b) h = absurd (solid_not_bare n.value n.children (below_solid t.children c.1 n b) h)
 

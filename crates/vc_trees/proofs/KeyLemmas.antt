@@ -234,12 +234,15 @@ module _ {K : Type 0} (cmp : K → K → Ordering) where
       one = rest_one;
     }
 
+    -- equal keys are not told apart
+    tied_where_same : (j k : List K) → same_key cmp j k ≡ true → slice_cmp cmp j k ≡ Equal
+    tied_where_same j k e = (Equal-is (slice_cmp cmp j k)).0 (sym (same-slice_cmp j k) ∙ e)
+
     -- the order on keys is total, and is told by the first difference
     pub keys_ordered : KeysAreOrdered cmp
     keys_ordered = record {
       total = lists_total o;
-      equal =
-          λ j k. (λ e. same-slice_cmp j k ∙ ap is_eq e, λ e. (Equal-is (slice_cmp cmp j k)).0 (sym (same-slice_cmp j k) ∙ e));
+      equal = λ j k. (λ e. same-slice_cmp j k ∙ ap is_eq e, tied_where_same j k);
       less = λ j k. (less_place j k, λ l. less_from l.place j k l.before l.at);
       components = λ j k. (same_places j k, places_same j k);
     }

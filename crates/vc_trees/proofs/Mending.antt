@@ -1,7 +1,7 @@
 -- A tree whose children are in order is mended into the canonical one of its map: a node that binds nothing is taken
 -- out, and one without a value is joined to its only child.
 --     mend, mend_root        one node over mended children, among siblings and as the whole tree
---     mend_nodes, mend_above, mend_children, lookup_in-mend        what becomes of the number of nodes, the order and the map
+--     mend_nodes, mend_above, mend_children, lookup_in-mend        what becomes of the nodes, the order and the map
 --     mend_root_nodes, mend_root_canonical, lookup-mend_root        the same of the whole tree
 --     mended, mended_nodes, mended_canonical, lookup-mended        every node of a tree
 use Rattle.std.proofs.Common.{◌≡◌, ◌+◌, ◌≤◌, [], ◌∷◌, ◌++◌, List, Option, None, Some, refl, sym, ap, ◌∙◌, arith}
@@ -15,7 +15,7 @@ use Rattle.vc_trees.proofs.KeyLemmas.{then_behind, behind-append}
 use Rattle.vc_trees.proofs.ValueLemmas.{or_else-none}
 
 module _ {K V : Type 0} where
-  -- a node over mended children, before mended siblings: none where it binds nothing, joined to its child where it has but one
+  -- a node over mended children, before mended siblings: taken out where it binds nothing, else joined to a lone child
   abbrev pub mend : List K → Option V → Forest K V → Forest K V → Forest K V
   mend p (Some v) kids rest = grow p (Some v) kids rest
   mend p None bare rest = rest
@@ -67,7 +67,9 @@ module _ {K V : Type 0} where
   -- a mended tree has no more nodes than before
   pub mended_nodes : (t : Tree K V) → nodes (mended t) ≤ nodes t
   mended_nodes t =
-      let root = mend_root_nodes t.prefix t.value (mended_in t.children) in let below = mended_nodes_in t.children in omega (arith, root, below)
+      let root = mend_root_nodes t.prefix t.value (mended_in t.children) in
+      let below = mended_nodes_in t.children in
+      omega (arith, root, below)
 
 module _ {K V : Type 0} (cmp : K → K → Ordering) where
   -- ---- mended trees are canonical
@@ -131,7 +133,8 @@ module _ {K V : Type 0} (cmp : K → K → Ordering) where
   -- an only child whose prefix is joined to its parent's binds what it bound below it
   node_lookup-joined : (q : List K) (w : Option V) (more : Forest K V) (left : Option (List K))
       → AreChildren cmp (grow q w more bare)
-      → node_lookup w (lookup_in cmp more) (then_behind cmp q left) ≡ node_lookup None (lookup_in cmp (grow q w more bare)) left
+      → node_lookup w (lookup_in cmp more) (then_behind cmp q left)
+      ≡ node_lookup None (lookup_in cmp (grow q w more bare)) left
   node_lookup-joined [] w more left a = absurd a
   node_lookup-joined (y ∷ q) w more None a = refl
   node_lookup-joined (y ∷ q) w more (Some []) a = refl
@@ -146,12 +149,14 @@ module _ {K V : Type 0} (cmp : K → K → Ordering) where
 
   -- a mended node binds what it bound
   pub lookup_in-mend : (p : List K) (v : Option V) (kids rest : Forest K V) (k : List K) → AreChildren cmp kids
-      → lookup_in cmp (mend p v kids rest) k ≡ or_else (node_lookup v (lookup_in cmp kids) (behind cmp p k)) (lookup_in cmp rest k)
+      → lookup_in cmp (mend p v kids rest) k
+      ≡ or_else (node_lookup v (lookup_in cmp kids) (behind cmp p k)) (lookup_in cmp rest k)
   lookup_in-mend p (Some v) kids rest k a = refl
   lookup_in-mend p None bare rest k a = ap (λ m. or_else m (lookup_in cmp rest k)) (node_lookup-bare (behind cmp p k))
   lookup_in-mend p None (grow q w more bare) rest k a =
       ap (λ m. or_else m (lookup_in cmp rest k))
-      (ap (node_lookup w (lookup_in cmp more)) (behind-append cmp p q k) ∙ node_lookup-joined q w more (behind cmp p k) a)
+      (ap (node_lookup w (lookup_in cmp more)) (behind-append cmp p q k)
+      ∙ node_lookup-joined q w more (behind cmp p k) a)
   lookup_in-mend p None (grow q w more (grow r u most others)) rest k a = refl
 
   -- so do all of a list
@@ -160,7 +165,8 @@ module _ {K V : Type 0} (cmp : K → K → Ordering) where
   lookup_in-mended bare a k = refl
   lookup_in-mended (grow [] v kids rest) a k = absurd a
   lookup_in-mended (grow (x ∷ p) v kids rest) a k =
-      let here = node_lookup-same v (lookup_in cmp (mended_in kids)) (lookup_in cmp kids) (behind cmp (x ∷ p) k) (lookup_in-mended kids a.0) in
+      let left = behind cmp (x ∷ p) k in
+      let here = node_lookup-same v (lookup_in cmp (mended_in kids)) (lookup_in cmp kids) left (lookup_in-mended kids a.0) in
       let beside = lookup_in-mended rest a.2 k in
       lookup_in-mend (x ∷ p) v (mended_in kids) (mended_in rest) k (mended_children kids a.0)
       ∙ (λ i. or_else (here i) (beside i))

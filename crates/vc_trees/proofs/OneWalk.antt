@@ -63,11 +63,12 @@ module _ {K V : Type 0} (cmp : K → K → Ordering) (o : IsTotalOrder cmp) wher
   same_pairs [] (c ∷ m) p q f g = absurd (g c.0 c.1 (inl (same_itself cmp o c.0, refl)))
   same_pairs (b ∷ l) [] p q f g = absurd (f b.0 b.1 (inl (same_itself cmp o b.0, refl)))
   same_pairs (b ∷ l) (c ∷ m) p q f g =
-      let same = same_firsts b c l m p q (f b.0 b.1 (inl (same_itself cmp o b.0, refl))) (g c.0 c.1 (inl (same_itself cmp o c.0, refl))) in
-      let back = same_flip cmp o c.0 b.0 ∙ same.0 in (
-        same,
-        same_pairs l m (others_ascend b l p) (others_ascend c m q) (others b c l m p same.0 f) (others c b m l q back g),
-      )
+      let left = f b.0 b.1 (inl (same_itself cmp o b.0, refl)) in
+      let right = g c.0 c.1 (inl (same_itself cmp o c.0, refl)) in
+      let same = same_firsts b c l m p q left right in
+      let back = same_flip cmp o c.0 b.0 ∙ same.0 in
+      let beside = same_pairs l m (others_ascend b l p) (others_ascend c m q) in
+      (same, beside (others b c l m p same.0 f) (others c b m l q back g))
 
   -- a map has one walk
   pub one_walk : (f : List K → Option V) (l m : List (List K × V)) → IsWalk cmp f l → IsWalk cmp f m

@@ -2,7 +2,7 @@
 --     canonical_le        at most two nodes a key but one
 --     same_nodes_in        trees that are the same have equally many nodes
 --     canonical_fewest, canonical_smallest        no tree of an equal map whose prefixes are in order has fewer
-use Rattle.std.proofs.Common.{◌≡◌, ℕ, ◌+◌, ◌*◌, ◌≤◌, ◌-◌, [], ◌∷◌, List, Option, None, Some, refl, sym, arith}
+use Rattle.std.proofs.Common.{◌≡◌, ℕ, ◌+◌, ◌*◌, ◌≤◌, ◌-◌, [], ◌∷◌, List, Option, None, Some, refl, arith}
 use Rattle.std.specs.declared.cmp.Ordering.{Ordering}
 use Rattle.std.specs.Cmp.{IsTotalOrder}
 use Rattle.vc_trees.specs.Tree.{Tree, Forest, bare, grow, nodes, forest_nodes, own_count, key_count, forest_key_count}
@@ -10,7 +10,7 @@ use Rattle.vc_trees.specs.Map.{lookup, IsEqualMap}
 use Rattle.vc_trees.specs.Canonical.{AreOrdered, AreChildren, IsSolid, IsWhole, IsCanonical}
 use Rattle.vc_trees.specs.Same.{IsSameIn}
 use Rattle.vc_trees.specs.OneTree.{IsSmallest}
-use Rattle.vc_trees.proofs.ValueLemmas.{kept_by}
+use Rattle.vc_trees.proofs.ValueLemmas.{maps_by}
 use Rattle.vc_trees.proofs.Uniqueness.{canonical_same}
 use Rattle.vc_trees.proofs.Mending.{mended, mended_nodes, mended_canonical, lookup-mended}
 use Rattle.vc_trees.proofs.FourConditions.{meets_ordered}
@@ -59,13 +59,16 @@ module _ {K V : Type 0} where
       same_nodes_in bare (grow q w more others) h = absurd h
       same_nodes_in (grow p v kids rest) bare h = absurd h
       same_nodes_in (grow p v kids rest) (grow q w more others) h =
-          let below = same_nodes_in kids more h.2 in let beside = same_nodes_in rest others h.3 in omega (arith, below, beside)
+          let below = same_nodes_in kids more h.2 in
+          let beside = same_nodes_in rest others h.3 in
+          omega (arith, below, beside)
 
       -- a tree of an equal map whose children are in order, mended, is the canonical one
       pub canonical_fewest : IsTotalOrder cmp → (t u : Tree K V) → IsCanonical cmp t → AreOrdered cmp u.children
           → IsEqualMap matches (lookup cmp t) (lookup cmp u) → nodes t ≤ nodes u
       canonical_fewest o t u c d h =
-          let same = canonical_same cmp o matches t (mended u) c (mended_canonical cmp u d) (λ k. kept_by matches _ _ _ _ refl (sym (lookup-mended cmp u d k)) (h k)) in
+          let maps = maps_by matches _ _ (lookup cmp (mended u)) h (lookup-mended cmp u d) in
+          let same = canonical_same cmp o matches t (mended u) c (mended_canonical cmp u d) maps in
           let equal = same_nodes_in t.children (mended u).children same.2 in
           let fewer = mended_nodes u in
           omega (arith, equal, fewer)

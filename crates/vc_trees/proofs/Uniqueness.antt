@@ -17,7 +17,7 @@ use Rattle.vc_trees.specs.Canonical.{AllAbove, AreChildren, IsSolid, IsCanonical
 use Rattle.vc_trees.specs.Same.{IsSameIn, IsSame}
 use Rattle.vc_trees.specs.OneTree.{IsOneTree}
 use Rattle.vc_trees.proofs.KeyLemmas.{none_some, less, behind_same}
-use Rattle.vc_trees.proofs.ValueLemmas.{or_else-none, kept_by, kept_flip, kept_else, bound_left, not_lost}
+use Rattle.vc_trees.proofs.ValueLemmas.{or_else-none, kept_by, kept_else, bound_left, not_lost, maps_flip}
 use Rattle.vc_trees.proofs.LookupLemmas.{children_ordered, lookup_in-empty, lookup-equal, lookup-other, lookup_begins, lookup_in-skip, above_less, above_equal, lookup_in-above, first_bound, tree_bound, AreNothing, whole_cases, nothing_bound}
 
 module _ {K V : Type 0} (cmp : K → K → Ordering) (o : IsTotalOrder cmp) where
@@ -27,8 +27,8 @@ module _ {K V : Type 0} (cmp : K → K → Ordering) (o : IsTotalOrder cmp) wher
     -- two children bind keys that begin differently, and a prefix begins in one way
     two_firsts : (x y z : K) (p q r : List K) (v w u : Option V) (f more most rest : Forest K V)
         → AreChildren cmp (grow (y ∷ q) w more (grow (z ∷ r) u most rest))
-        → IsEqualMap matches (lookup cmp (node (x ∷ p) v f)) (lookup cmp (node [] None (grow (y ∷ q) w more (grow (z ∷ r) u most rest))))
-        → ⊥
+        → IsEqualMap matches (lookup cmp (node (x ∷ p) v f))
+        (lookup cmp (node [] None (grow (y ∷ q) w more (grow (z ∷ r) u most rest)))) → ⊥
     two_firsts x y z p q r v w u f more most rest a h =
         let b = first_bound cmp o (grow (y ∷ q) w more (grow (z ∷ r) u most rest)) a in
         let c = first_bound cmp o (grow (z ∷ r) u most rest) a.3 in
@@ -70,7 +70,7 @@ module _ {K V : Type 0} (cmp : K → K → Ordering) (o : IsTotalOrder cmp) wher
     no_longer_right : (y : K) (q : List K) (w v : Option V) (g f : Forest K V) → IsSolid v f → AreChildren cmp f
         → IsEqualMap matches (lookup cmp (node [] v f)) (lookup cmp (node (y ∷ q) w g)) → ⊥
     no_longer_right y q w v g f s a h =
-        no_longer (λ v w. matches w v) y q w v g f s a (λ k. kept_flip matches _ _ (h k))
+        no_longer (λ v w. matches w v) y q w v g f s a (maps_flip matches _ _ h)
 
     -- equal prefixes, values that match, and equal maps of the children
     pub record Parts (p q : List K) (v w : Option V) (f g : Forest K V) : Type 0 where
@@ -126,8 +126,8 @@ module _ {K V : Type 0} (cmp : K → K → Ordering) (o : IsTotalOrder cmp) wher
         absurd (first_not_less matches x y p q v w f g rest others a b h e)
     firsts_alike Equal x y p q v w f g rest others a b h e = e
     firsts_alike Greater x y p q v w f g rest others a b h e =
-        absurd
-        (first_not_less (λ v w. matches w v) y x q p w v g f others rest b a (λ k. kept_flip matches _ _ (h k)) (less cmp o x y e))
+        let flipped = maps_flip matches _ _ h in
+        absurd (first_not_less (λ v w. matches w v) y x q p w v g f others rest b a flipped (less cmp o x y e))
 
     -- at a key, the first trees bind what matches, and so do the others
     pub record Apart (t u : Tree K V) (rest others : Forest K V) (k : List K) : Type 0 where
@@ -137,7 +137,8 @@ module _ {K V : Type 0} (cmp : K → K → Ordering) (o : IsTotalOrder cmp) wher
     -- a key that begins as the first trees is none of the others', and a key that begins otherwise is none of theirs
     apart_at : (b : Bool) (x y z : K) (p q k : List K) (v w : Option V) (f g rest others : Forest K V)
         → AllAbove cmp x rest → AllAbove cmp y others → cmp x y ≡ Equal → is_eq (cmp x z) ≡ b
-        → IsKept matches (lookup_in cmp (grow (x ∷ p) v f rest) (z ∷ k)) (lookup_in cmp (grow (y ∷ q) w g others) (z ∷ k))
+        → IsKept matches (lookup_in cmp (grow (x ∷ p) v f rest) (z ∷ k))
+        (lookup_in cmp (grow (y ∷ q) w g others) (z ∷ k))
         → Apart (node (x ∷ p) v f) (node (y ∷ q) w g) rest others (z ∷ k)
     apart_at true x y z p q k v w f g rest others a b e i h =
         let xz = (Equal-is (cmp x z)).0 i in
@@ -243,8 +244,9 @@ module _ {K V : Type 0} (cmp : K → K → Ordering) (o : IsTotalOrder cmp) wher
     equal_in bare (grow q w more others) h k = absurd h
     equal_in (grow p v kids rest) bare h k = absurd h
     equal_in (grow p v kids rest) (grow q w more others) h k =
+        let left = behind_same cmp o p q k h.0 in
         kept_else matches _ _ _ _
-        (kept_node v w (lookup_in cmp kids) (lookup_in cmp more) _ _ h.1 (equal_in kids more h.2) (behind_same cmp o p q k h.0))
+        (kept_node v w (lookup_in cmp kids) (lookup_in cmp more) _ _ h.1 (equal_in kids more h.2) left)
         (equal_in rest others h.3 k)
 
     -- trees that are the same have equal maps

@@ -53,16 +53,17 @@ module _ {K V : Type 0} where
   keys_append P [] m h g = g
   keys_append P (b ∷ l) m h g = (h.0, keys_append P l m h.1 g)
 
-  -- of keys with a prefix before them
-  keys_prepended : (Q : List K → Type 0) (p : List K) → (l : List (List K × V)) → AllKeys (λ k. Q (p ++ k)) l
-      → AllKeys Q (map (prepended p) l)
-  keys_prepended Q p [] h = tt
-  keys_prepended Q p (b ∷ l) h = (h.0, keys_prepended Q p l h.1)
+  -- of keys with a prefix before them, where it follows from another of the keys without it
+  keys_prepended : (P Q : List K → Type 0) (p : List K) → ((k : List K) → P k → Q (p ++ k)) → (l : List (List K × V))
+      → AllKeys P l → AllKeys Q (map (prepended p) l)
+  keys_prepended P Q p f [] h = tt
+  keys_prepended P Q p f (b ∷ l) h = (f b.0 h.0, keys_prepended P Q p f l h.1)
 
-  -- a fact on all keys
-  keys_any : (P : List K → Type 0) → ((k : List K) → P k) → (l : List (List K × V)) → AllKeys P l
-  keys_any P f [] = tt
-  keys_any P f (b ∷ l) = (f b.0, keys_any P f l)
+  -- of keys with a prefix before them, where it holds of all such keys
+  keys_under : (P : List K → Type 0) (p : List K) → ((k : List K) → P (p ++ k)) → (l : List (List K × V))
+      → AllKeys P (map (prepended p) l)
+  keys_under P p f [] = tt
+  keys_under P p f (b ∷ l) = (f b.0, keys_under P p f l)
 
   -- a fact on a key and a value holds of each pair of the list
   abbrev AllBound : (List K → V → Type 0) → List (List K × V) → Type 0
@@ -80,11 +81,11 @@ module _ {K V : Type 0} where
   pairs_mono P Q f [] h = tt
   pairs_mono P Q f (b ∷ l) h = (f b.0 b.1 h.0, pairs_mono P Q f l h.1)
 
-  -- of keys with a prefix before them
-  pairs_prepended : (Q : List K → V → Type 0) (p : List K) (l : List (List K × V)) → AllBound (λ k a. Q (p ++ k) a) l
-      → AllBound Q (map (prepended p) l)
-  pairs_prepended Q p [] h = tt
-  pairs_prepended Q p (b ∷ l) h = (h.0, pairs_prepended Q p l h.1)
+  -- of keys with a prefix before them, where it follows from another of the keys without it
+  pairs_prepended : (P Q : List K → V → Type 0) (p : List K) → ((k : List K) (a : V) → P k a → Q (p ++ k) a)
+      → (l : List (List K × V)) → AllBound P l → AllBound Q (map (prepended p) l)
+  pairs_prepended P Q p f [] h = tt
+  pairs_prepended P Q p f (b ∷ l) h = (f b.0 b.1 h.0, pairs_prepended P Q p f l h.1)
 
   module _ (cmp : K → K → Ordering) where
     -- ---- the walk ascends
@@ -109,19 +110,19 @@ module _ {K V : Type 0} where
     walk_above x bare a = tt
     walk_above x (grow [] v kids rest) a = absurd a
     walk_above x (grow (y ∷ p) v kids rest) a =
-        keys_append (Above cmp x) (map (prepended (y ∷ p)) (own_pair v ++ walk_in kids)) (walk_in rest)
-        (keys_prepended (Above cmp x) (y ∷ p) (own_pair v ++ walk_in kids) (keys_any (λ k. cmp x y ≡ Less) (λ k. a.0) (own_pair v ++ walk_in kids)))
-        (walk_above x rest a.1)
+        let here = own_pair v ++ walk_in kids in
+        keys_append (Above cmp x) (map (prepended (y ∷ p)) here) (walk_in rest)
+        (keys_under (Above cmp x) (y ∷ p) (λ k. a.0) here) (walk_above x rest a.1)
 
     -- the empty key comes before each key of children
     empty_before : (f : Forest K V) → AreOrdered cmp f → Before [] (walk_in f)
     empty_before bare a = tt
     empty_before (grow [] v kids rest) a = absurd a
     empty_before (grow (y ∷ p) v kids rest) a =
-        keys_append (λ j. slice_cmp cmp [] j ≡ Less) (map (prepended (y ∷ p)) (own_pair v ++ walk_in kids))
-        (walk_in rest)
-        (keys_prepended (λ j. slice_cmp cmp [] j ≡ Less) (y ∷ p) (own_pair v ++ walk_in kids) (keys_any (λ k. Less ≡ Less) (λ k. refl) (own_pair v ++ walk_in kids)))
-        (empty_before rest a.2)
+        let here = own_pair v ++ walk_in kids in
+        let first = λ (j : List K). slice_cmp cmp [] j ≡ Less in
+        keys_append first (map (prepended (y ∷ p)) here) (walk_in rest)
+        (keys_under first (y ∷ p) (λ k. refl) here) (empty_before rest a.2)
 
     -- a node's own pair comes before those of its children
     ascend_own : (v : Option V) (f : Forest K V) → AreOrdered cmp f → Ascend (walk_in f)
@@ -136,10 +137,18 @@ module _ {K V : Type 0} where
       unfolding IsStrictlySortedBy
       ascend_prepended p [] h = tt
       ascend_prepended p (b ∷ l) h = (
-        keys_prepended (λ j. slice_cmp cmp (p ++ b.0) j ≡ Less) p l
-            (keys_mono (λ j. slice_cmp cmp b.0 j ≡ Less) (λ j. slice_cmp cmp (p ++ b.0) (p ++ j) ≡ Less) (less_prepended cmp o p b.0) l h.0),
+        keys_prepended (λ j. slice_cmp cmp b.0 j ≡ Less) (λ j. slice_cmp cmp (p ++ b.0) j ≡ Less) p
+            (less_prepended cmp o p b.0) l h.0,
         ascend_prepended p l h.1,
       )
+
+      -- each key of a tree that begins with x comes before each key of trees above x
+      tree_before : (x : K) (p : List K) (rest : Forest K V) → AllAbove cmp x rest → (l : List (List K × V))
+          → AllKeys (λ k. Before k (walk_in rest)) (map (prepended (x ∷ p)) l)
+      tree_before x p rest a l =
+          keys_under (λ k. Before k (walk_in rest)) (x ∷ p)
+          (λ k. keys_mono (Above cmp x) (λ j. slice_cmp cmp (x ∷ p ++ k) j ≡ Less) (less_above cmp x (p ++ k)) _ (walk_above x rest a))
+          l
 
       -- the walk of a list of trees in order ascends
       walk_in_ascends : (f : Forest K V) → AreOrdered cmp f → Ascend (walk_in f)
@@ -151,8 +160,7 @@ module _ {K V : Type 0} where
           ascend_append (map (prepended (x ∷ p)) here) (walk_in rest)
           (ascend_prepended (x ∷ p) here (ascend_own v kids a.0 (walk_in_ascends kids a.0)))
           (walk_in_ascends rest a.2)
-          (keys_prepended (λ k. Before k (walk_in rest)) (x ∷ p) here
-          (keys_any (λ k. Before (x ∷ p ++ k) (walk_in rest)) (λ k. keys_mono (Above cmp x) (λ j. slice_cmp cmp (x ∷ p ++ k) j ≡ Less) (less_above cmp x (p ++ k)) (walk_in rest) (walk_above x rest a.1)) here))
+          (tree_before x p rest a.1 here)
 
       -- the walk of a tree whose children are in order ascends
       pub walk_ascends : (t : Tree K V) → AreOrdered cmp t.children → Ascend (walk t)
@@ -187,22 +195,21 @@ module _ {K V : Type 0} where
       node_bound : (p : List K) (v : Option V) (below : List K → V → Type 0) (l : List (List K × V))
           → AllBound below l → AllBound (NodeBinds cmp p v below) (map (prepended p) (own_pair v ++ l))
       node_bound p None below l h =
-          pairs_prepended (NodeBinds cmp p None below) p l
-          (pairs_mono below (λ k a. NodeBinds cmp p None below (p ++ k) a) (λ k a g. inr (k, same_itself cmp o (p ++ k), g)) l h)
+          pairs_prepended below (NodeBinds cmp p None below) p (λ k a g. inr (k, same_itself cmp o (p ++ k), g)) l h
       node_bound p (Some v) below l h = (
         inl (subst (λ q. same_key cmp p q ≡ true) (sym (append-nil p)) (same_itself cmp o p), refl),
-        pairs_prepended (NodeBinds cmp p (Some v) below) p l
-            (pairs_mono below (λ k a. NodeBinds cmp p (Some v) below (p ++ k) a) (λ k a g. inr (k, same_itself cmp o (p ++ k), g)) l h),
+        pairs_prepended below (NodeBinds cmp p (Some v) below) p (λ k a g. inr (k, same_itself cmp o (p ++ k), g)) l h,
       )
 
       -- each pair of a list of trees is bound by one
       walk_in_bound : (f : Forest K V) → AllBound (BindsIn cmp f) (walk_in f)
       walk_in_bound bare = tt
       walk_in_bound (grow p v kids rest) =
-          pairs_append (BindsIn cmp (grow p v kids rest)) (map (prepended p) (own_pair v ++ walk_in kids))
-          (walk_in rest)
-          (pairs_mono (NodeBinds cmp p v (BindsIn cmp kids)) (BindsIn cmp (grow p v kids rest)) (λ k a h. inl h) _ (node_bound p v (BindsIn cmp kids) (walk_in kids) (walk_in_bound kids)))
-          (pairs_mono (BindsIn cmp rest) (BindsIn cmp (grow p v kids rest)) (λ k a h. inr h) _ (walk_in_bound rest))
+          let all = BindsIn cmp (grow p v kids rest) in
+          let own = node_bound p v (BindsIn cmp kids) (walk_in kids) (walk_in_bound kids) in
+          pairs_append all (map (prepended p) (own_pair v ++ walk_in kids)) (walk_in rest)
+          (pairs_mono (NodeBinds cmp p v (BindsIn cmp kids)) all (λ k a h. inl h) _ own)
+          (pairs_mono (BindsIn cmp rest) all (λ k a h. inr h) _ (walk_in_bound rest))
 
       -- each pair of the walk is bound
       pub walk_bound : (t : Tree K V) → AllByRecursion (λ b. Binds cmp t b.0 b.1) (walk t)

@@ -15,7 +15,7 @@ use Rattle.vc_trees.specs.Same.{IsSame}
 use Rattle.vc_trees.specs.OneTree.{IsOneTree, IsSmallest}
 use Rattle.vc_trees.specs.Walk.{IsWalk, IsSamePair, walk}
 
--- the order of slices is a total order on keys: its "equal" is that of keys, and its "less" is that of the first difference
+-- the order of slices is total on keys, and it tells equal keys, and which key is less
 pub record KeysAreOrdered {K : Type 0} (cmp : K → K → Ordering) : Type 0 where
   pub total : IsTotalOrder (slice_cmp cmp)
   pub equal : (j k : List K) → (slice_cmp cmp j k ≡ Equal) ↔ IsTrue (same_key cmp j k)

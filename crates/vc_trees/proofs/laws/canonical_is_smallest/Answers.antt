@@ -3,4 +3,8 @@ use Rattle.vc_trees.proofs.Smallness.{canonical_smallest}
 use Rattle.vc_trees.proofs.laws.canonical_is_smallest.Goals as goal
 
 pub returns : goal.returns
-returns g c = λ t canonical. (canonical_one g.K.Ord.cmp g.met.K.Ord.total g.M.Matching.matches t canonical, canonical_smallest g.K.Ord.cmp g.M.Matching.matches g.met.K.Ord.total t canonical)
+returns g c t canonical =
+    let cmp = g.K.Ord.cmp in
+    let total = g.met.K.Ord.total in
+    let matches = g.M.Matching.matches in
+    (canonical_one cmp total matches t canonical, canonical_smallest cmp matches total t canonical)
