@@ -1,6 +1,6 @@
 -- The relation by cases agrees with the look-up.
 --     lookup_binds        what is looked up is bound, in any tree
---     binds_lookup, binds_lookup_same        where children are in order, what is bound is looked up, also at an equal key
+--     binds_lookup, binds_lookup_same        the other way round where children are in order, also at an equal key
 --     canonical_binds        both, of a canonical tree
 use Rattle.std.proofs.Common.{◌≡◌, [], ◌∷◌, ◌++◌, List, Option, None, Some, refl, sym, ap, ◌∙◌, true, false, Bool, append-nil, ◌⊎◌, inl, inr, ◌↔◌}
 use Rattle.std.specs.declared.cmp.Ordering.{Ordering}

@@ -8,3 +8,4 @@ pub mod FourConditions
 pub mod Smallness
 pub mod Walking
 pub mod OneWalk
+pub mod Examples

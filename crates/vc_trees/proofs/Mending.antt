@@ -166,7 +166,8 @@ module _ {K V : Type 0} (cmp : K → K → Ordering) where
   lookup_in-mended (grow [] v kids rest) a k = absurd a
   lookup_in-mended (grow (x ∷ p) v kids rest) a k =
       let left = behind cmp (x ∷ p) k in
-      let here = node_lookup-same v (lookup_in cmp (mended_in kids)) (lookup_in cmp kids) left (lookup_in-mended kids a.0) in
+      let below = lookup_in-mended kids a.0 in
+      let here = node_lookup-same v (lookup_in cmp (mended_in kids)) (lookup_in cmp kids) left below in
       let beside = lookup_in-mended rest a.2 k in
       lookup_in-mend (x ∷ p) v (mended_in kids) (mended_in rest) k (mended_children kids a.0)
       ∙ (λ i. or_else (here i) (beside i))

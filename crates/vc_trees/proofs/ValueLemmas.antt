@@ -60,5 +60,6 @@ module _ {K V : Type 0} (matches : V → V → Type 0) where
   maps_flip f g h k = kept_flip matches (f k) (g k) (h k)
 
   -- what is the same as an equal map is an equal map
-  pub maps_by : (f g h : List K → Option V) → IsEqualMap matches f g → ((k : List K) → h k ≡ g k) → IsEqualMap matches f h
+  pub maps_by : (f g h : List K → Option V) → IsEqualMap matches f g → ((k : List K) → h k ≡ g k)
+      → IsEqualMap matches f h
   maps_by f g h e s k = rw (s k) (e k)

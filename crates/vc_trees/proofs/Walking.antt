@@ -147,7 +147,7 @@ module _ {K V : Type 0} where
           → AllKeys (λ k. Before k (walk_in rest)) (map (prepended (x ∷ p)) l)
       tree_before x p rest a l =
           keys_under (λ k. Before k (walk_in rest)) (x ∷ p)
-          (λ k. keys_mono (Above cmp x) (λ j. slice_cmp cmp (x ∷ p ++ k) j ≡ Less) (less_above cmp x (p ++ k)) _ (walk_above x rest a))
+          (λ k. keys_mono _ (λ j. slice_cmp cmp (x ∷ p ++ k) j ≡ Less) (less_above cmp x (p ++ k)) _ (walk_above x rest a))
           l
 
       -- the walk of a list of trees in order ascends
