@@ -1,5 +1,5 @@
 -- Keys: what is left behind a prefix, equal keys, and the order on keys.
---     behind_itself, behind_same, behind-append        what is left behind a prefix, also of one in two parts
+--     behind_itself, behind_same, behind_of_same, behind-append        what is left behind a prefix
 --     same-slice_cmp, same_itself, same_flip, same_trans, same-append, same_prepended        equal keys
 --     same_behind, behind_joins, left_behind        equal keys and what is left of one
 --     not_before, not_both_before, less_prepended        which of two keys comes first
@@ -9,9 +9,10 @@ use Rattle.std.specs.List.{AllZip}
 use Rattle.std.specs.declared.cmp.Ordering.{Ordering}
 use Rattle.std.specs.declared.cmp.Ordering.TheVariants.{Less, Equal, Greater}
 use Rattle.std.specs.Ordering.{is_eq, is_lt, ordering_reverse, ordering_then}
-use Rattle.std.specs.Cmp.{IsTotalOrder, Equal-is, tied_itself, eq_by_cmp_equiv}
+use Rattle.std.specs.Cmp.{IsTotalOrder, Equal-is, alike_right, tied_itself, eq_by_cmp_equiv}
 use Rattle.std.specs.Cmp.Lexicographic.{slice_cmp, lists_total}
 use Rattle.vc_trees.specs.Key.{same_key, behind, Starts, BeginsBelow, IsLess}
+use Rattle.vc_trees.specs.Value.{IsKept}
 use Rattle.vc_trees.specs.Laws.{KeysAreOrdered, LeftBehindIsRest}
 
 -- two tests in a row hold where both do
@@ -182,6 +183,25 @@ module _ {K : Type 0} (cmp : K → K → Ordering) where
         let first = o.congr x y z ((Equal-is (cmp x y)).0 both.0) in
         let rest = behind_same p q k both.1 in
         λ i. cond (is_eq (first i)) (rest i) None
+
+    -- behind one test or its equal, what is left is equal
+    if_left : (a b : Bool) (u v : Option (List K)) → a ≡ b → IsKept (λ j k. same_key cmp j k ≡ true) u v
+        → IsKept (λ j k. same_key cmp j k ≡ true) (cond a u None) (cond b v None)
+    if_left true b u v e h = rw (← e) h
+    if_left false b u v e h = rw (← e) tt
+
+    -- equal keys are left behind a prefix of equal keys, or nothing of both
+    pub behind_of_same : (p j k : List K) → same_key cmp j k ≡ true
+        → IsKept (λ j k. same_key cmp j k ≡ true) (behind cmp p j) (behind cmp p k)
+    behind_of_same [] j k h = h
+    behind_of_same (x ∷ p) [] [] h = tt
+    behind_of_same (x ∷ p) [] (z ∷ k) h = absurd (true≢false (sym h))
+    behind_of_same (x ∷ p) (y ∷ j) [] h = absurd (true≢false (sym h))
+    behind_of_same (x ∷ p) (y ∷ j) (z ∷ k) h =
+        let both = both_true (is_eq (cmp y z)) (same_key cmp j k) h in
+        let first = ap is_eq (alike_right o y z x ((Equal-is (cmp y z)).0 both.0)) in
+        if_left (is_eq (cmp x y)) (is_eq (cmp x z)) (behind cmp p j) (behind cmp p k) first
+        (behind_of_same p j k both.1)
 
     -- a key equals itself
     pub same_itself : (k : List K) → same_key cmp k k ≡ true

@@ -2,19 +2,21 @@
 --     lookup-equal, lookup-other, lookup_begins        one component of a key and of a prefix
 --     lookup_in-empty, lookup_in-above, lookup_in-skip        what a list of trees doesn't bind
 --     above_less, above_equal        components below those of a list of trees
+--     lookup_same, lookup_in_same        equal keys
 --     children_ordered        canonical children are in order
 --     first_bound, tree_bound        each canonical child, and each node that is solid, binds a key
 --     whole_cases, nothing_bound        the empty tree binds none
-use Rattle.std.proofs.Common.{◌≡◌, [], ◌∷◌, ◌++◌, List, Option, None, Some, refl, sym, ap, ◌∙◌, true, false, Bool, cond, ◌⊎◌, inl, inr}
+use Rattle.std.proofs.Common.{◌≡◌, [], ◌∷◌, ◌++◌, List, Option, None, Some, refl, sym, ap, ◌∙◌, true, false, true≢false, Bool, cond, ◌⊎◌, inl, inr}
 use Rattle.std.specs.declared.cmp.Ordering.{Ordering}
 use Rattle.std.specs.declared.cmp.Ordering.TheVariants.{Less, Equal}
 use Rattle.std.specs.Ordering.{is_eq}
 use Rattle.std.specs.Cmp.{IsTotalOrder, Equal-is}
-use Rattle.vc_trees.specs.Key.{behind}
-use Rattle.vc_trees.specs.Tree.{Forest, bare, grow, node}
+use Rattle.vc_trees.specs.Key.{behind, same_key}
+use Rattle.vc_trees.specs.Value.{IsKept}
+use Rattle.vc_trees.specs.Tree.{Tree, Forest, bare, grow, node}
 use Rattle.vc_trees.specs.Map.{or_else, node_lookup, lookup, lookup_in}
 use Rattle.vc_trees.specs.Canonical.{AllAbove, AreOrdered, AreChildren, IsSolid, IsWhole}
-use Rattle.vc_trees.proofs.KeyLemmas.{none_some, greater, behind_itself}
+use Rattle.vc_trees.proofs.KeyLemmas.{none_some, greater, behind_itself, behind_of_same}
 
 -- a key that a map binds, and its value
 pub record Bound {K V : Type 0} (f : List K → Option V) : Type 0 where
@@ -85,6 +87,36 @@ module _ {K V : Type 0} (cmp : K → K → Ordering) where
     lookup_in-above x bare k a = refl
     lookup_in-above x (grow [] v kids rest) k a = absurd a
     lookup_in-above x (grow (z ∷ p) v kids rest) k a = rw (greater cmp o x z a.0) (lookup_in-above x rest k a.1)
+
+    -- ---- equal keys
+
+    -- what a node has at equal rests of a key is the same
+    node_lookup_of_same : (v : Option V) (f : List K → Option V)
+        → ((j k : List K) → same_key cmp j k ≡ true → f j ≡ f k)
+        → (a b : Option (List K)) → IsKept (λ j k. same_key cmp j k ≡ true) a b
+        → node_lookup v f a ≡ node_lookup v f b
+    node_lookup_of_same v f g None None h = refl
+    node_lookup_of_same v f g None (Some k) h = absurd h
+    node_lookup_of_same v f g (Some j) None h = absurd h
+    node_lookup_of_same v f g (Some []) (Some []) h = refl
+    node_lookup_of_same v f g (Some []) (Some (y ∷ k)) h = absurd (true≢false (sym h))
+    node_lookup_of_same v f g (Some (x ∷ j)) (Some []) h = absurd (true≢false (sym h))
+    node_lookup_of_same v f g (Some (x ∷ j)) (Some (y ∷ k)) h = g (x ∷ j) (y ∷ k) h
+
+    -- a list of trees has one value at equal keys
+    pub lookup_in_same : (f : Forest K V) (j k : List K) → same_key cmp j k ≡ true
+        → lookup_in cmp f j ≡ lookup_in cmp f k
+    lookup_in_same bare j k h = refl
+    lookup_in_same (grow p v kids rest) j k h =
+        let here = node_lookup_of_same v (lookup_in cmp kids) (lookup_in_same kids) _ _ (behind_of_same cmp o p j k h) in
+        let beside = lookup_in_same rest j k h in
+        λ i. or_else (here i) (beside i)
+
+    -- a tree has one value at equal keys
+    pub lookup_same : (t : Tree K V) (j k : List K) → same_key cmp j k ≡ true → lookup cmp t j ≡ lookup cmp t k
+    lookup_same t j k h =
+        node_lookup_of_same t.value (lookup_in cmp t.children) (lookup_in_same t.children) _ _
+        (behind_of_same cmp o t.prefix j k h)
 
     -- ---- which keys are bound
 

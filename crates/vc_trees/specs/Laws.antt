@@ -35,6 +35,10 @@ module _ (K V : Type 0) (cmp : K → K → Ordering) where
   BindsIsLookup =
       (t : Tree K V) → IsCanonical cmp t → (k : List K) (a : V) → Binds cmp t k a ↔ (lookup cmp t k ≡ Some a)
 
+  -- a tree has one value at equal keys
+  abbrev pub LookupIsMap : Type 0
+  LookupIsMap = (t : Tree K V) (j k : List K) → IsTrue (same_key cmp j k) → lookup cmp t j ≡ lookup cmp t k
+
   -- a tree is canonical exactly where the four conditions hold of all its nodes
   abbrev pub CanonicalIsConditions : Type 0
   CanonicalIsConditions = (t : Tree K V) → IsCanonical cmp t ↔ MeetsConditions cmp t

@@ -5,7 +5,7 @@
 
 ghost use Rattle.std.specs.Prelude.{IsTrue};
 ghost use Rattle.vc_trees.specs.Value.{Copies};
-ghost use Rattle.vc_trees.specs.Laws.{KeysAreOrdered, LeftBehindIsRest, BindsIsLookup, CanonicalIsConditions, CanonicalIsUnique, CanonicalIsSmallest, WalkListsMap, WalkIsOne, KeyCountIsLength};
+ghost use Rattle.vc_trees.specs.Laws.{KeysAreOrdered, LeftBehindIsRest, BindsIsLookup, LookupIsMap, CanonicalIsConditions, CanonicalIsUnique, CanonicalIsSmallest, WalkListsMap, WalkIsOne, KeyCountIsLength};
 
 /// When a value of one tree stands for a value of another: any relation will do.
 pub trait Matching<V> {
@@ -44,9 +44,11 @@ pub fn canonical_is_conditions<K: Ord, V>()
     ensures { CanonicalIsConditions K V K.cmp }
 {}
 
-/// A canonical tree binds a key to a value, as said by cases, exactly where the look-up of the key gives the value.
+/// A canonical tree binds a key to a value, as said by cases, exactly where the look-up of the key gives the value. The
+/// look-up gives one value at equal keys, in any tree.
 pub fn binds_is_lookup<K: Ord, V>()
-    ensures { BindsIsLookup K V K.cmp }
+    ensures agree { BindsIsLookup K V K.cmp }
+    ensures map { LookupIsMap K V K.cmp }
 {}
 
 /// Canonical trees are the same exactly where their maps are equal.
