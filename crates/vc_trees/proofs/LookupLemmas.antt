@@ -108,7 +108,8 @@ module _ {K V : Type 0} (cmp : K → K → Ordering) where
         → lookup_in cmp f j ≡ lookup_in cmp f k
     lookup_in_same bare j k h = refl
     lookup_in_same (grow p v kids rest) j k h =
-        let here = node_lookup_of_same v (lookup_in cmp kids) (lookup_in_same kids) _ _ (behind_of_same cmp o p j k h) in
+        let left = behind_of_same cmp o p j k h in
+        let here = node_lookup_of_same v (lookup_in cmp kids) (lookup_in_same kids) _ _ left in
         let beside = lookup_in_same rest j k h in
         λ i. or_else (here i) (beside i)
 
