@@ -146,8 +146,9 @@ module _ {K V : Type 0} where
       tree_before : (x : K) (p : List K) (rest : Forest K V) → AllAbove cmp x rest → (l : List (List K × V))
           → AllKeys (λ k. Before k (walk_in rest)) (map (prepended (x ∷ p)) l)
       tree_before x p rest a l =
+          let above = walk_above x rest a in
           keys_under (λ k. Before k (walk_in rest)) (x ∷ p)
-          (λ k. keys_mono _ (λ j. slice_cmp cmp (x ∷ p ++ k) j ≡ Less) (less_above cmp x (p ++ k)) _ (walk_above x rest a))
+          (λ k. keys_mono (Above cmp x) (λ j. slice_cmp cmp (x ∷ p ++ k) j ≡ Less) (less_above cmp x (p ++ k)) _ above)
           l
 
       -- the walk of a list of trees in order ascends

@@ -42,7 +42,7 @@ module _ {K V : Type 0} where
     pub ascending : ChildrenAscend cmp t
     pub no_lone_child : NoLoneChild t
 
-  -- the two conditions on prefixes, under which a key is bound at one node at most
+  -- the two conditions on prefixes, under which the look-up finds whatever is bound
   pub record IsOrdered (cmp : K → K → Ordering) (t : Tree K V) : Type 0 where
     pub prefixes : HavePrefixes t
     pub ascending : ChildrenAscend cmp t

@@ -33,7 +33,7 @@ module _ (K V : Type 0) (cmp : K → K → Ordering) where
   -- a canonical tree binds a key to a value exactly where the look-up of the key gives the value
   abbrev pub BindsIsLookup : Type 0
   BindsIsLookup =
-      (t : Tree K V) → IsCanonical cmp t → (k : List K) (a : V) → Binds cmp t k a ↔ (lookup cmp t k ≡ Some a)
+      (t : Tree K V) → IsCanonical cmp t → (k : List K) (a : V) → (Binds cmp t k a ↔ (lookup cmp t k ≡ Some a))
 
   -- a tree has one value at equal keys
   abbrev pub LookupIsMap : Type 0
@@ -41,7 +41,7 @@ module _ (K V : Type 0) (cmp : K → K → Ordering) where
 
   -- a tree is canonical exactly where the four conditions hold of all its nodes
   abbrev pub CanonicalIsConditions : Type 0
-  CanonicalIsConditions = (t : Tree K V) → IsCanonical cmp t ↔ MeetsConditions cmp t
+  CanonicalIsConditions = (t : Tree K V) → (IsCanonical cmp t ↔ MeetsConditions cmp t)
 
   -- the walk of a canonical tree is that of its map
   abbrev pub WalkListsMap : Type 0
@@ -50,21 +50,21 @@ module _ (K V : Type 0) (cmp : K → K → Ordering) where
   -- a map has one walk, up to equal keys
   abbrev pub WalkIsOne : Type 0
   WalkIsOne =
-      (f : List K → Option V) (l m : List (List K × V)) → IsWalk cmp f l → IsWalk cmp f m → AllZip (IsSamePair cmp) l
-      m
+      (f : List K → Option V) (l m : List (List K × V)) → IsWalk cmp f l → IsWalk cmp f m
+      → AllZip (IsSamePair cmp) l m
 
   -- the number of keys of a canonical tree is that of the pairs of its map
   abbrev pub KeyCountIsLength : Type 0
   KeyCountIsLength =
-      (t : Tree K V) → IsCanonical cmp t → (l : List (List K × V)) → IsWalk cmp (lookup cmp t) l → length l ≡
-      key_count t
+      (t : Tree K V) → IsCanonical cmp t → (l : List (List K × V)) → IsWalk cmp (lookup cmp t) l
+      → length l ≡ key_count t
 
   module _ (matches : V → V → Type 0) where
     -- canonical trees are the same exactly where their maps are equal
     abbrev pub CanonicalIsUnique : Type 0
     CanonicalIsUnique =
-        (t u : Tree K V) → IsCanonical cmp t → IsCanonical cmp u → IsSame cmp matches t u ↔ IsEqualMap matches
-        (lookup cmp t) (lookup cmp u)
+        (t u : Tree K V) → IsCanonical cmp t → IsCanonical cmp u
+        → (IsSame cmp matches t u ↔ IsEqualMap matches (lookup cmp t) (lookup cmp u))
 
     -- a canonical tree is the one of its map, and the smallest
     abbrev pub CanonicalIsSmallest : Type 0
