@@ -13,3 +13,8 @@ pub mod Updating
 pub mod Growing
 pub mod Events
 pub mod Parted
+pub mod FourConditions
+pub mod Smallness
+pub mod Walking
+pub mod OneWalk
+pub mod Examples

@@ -1,9 +1,10 @@
 -- Values that are kept or match, as optional ones.
 --     kept_by, kept_flip, kept_refl, kept_trans, kept_else        how they match
 --     bound_left, not_lost        where one is there, so is the other
-use Rattle.std.proofs.Common.{◌≡◌, Option, None, Some, refl}
+--     maps_flip, maps_by        equal maps
+use Rattle.std.proofs.Common.{◌≡◌, List, Option, None, Some, refl}
 use Rattle.vc_trees.specs.Value.{IsKept}
-use Rattle.vc_trees.specs.Map.{or_else}
+use Rattle.vc_trees.specs.Map.{or_else, IsEqualMap}
 
 -- nothing in the second place changes nothing
 pub or_else-none : {V : Type 0} (o : Option V) → or_else o None ≡ o
@@ -28,7 +29,8 @@ module _ {V : Type 0} (matches : V → V → Type 0) where
   kept_refl r (Some v) = r v
 
   -- what keeps a kept value keeps the first, where the relation says so
-  pub kept_trans : ((u v w : V) → matches u v → matches v w → matches u w) → (a b c : Option V) → IsKept matches a b → IsKept matches b c → IsKept matches a c
+  pub kept_trans : ((u v w : V) → matches u v → matches v w → matches u w) → (a b c : Option V) → IsKept matches a b
+      → IsKept matches b c → IsKept matches a c
   kept_trans t None None c h k = k
   kept_trans t (Some u) (Some v) (Some w) h k = t u v w h k
   kept_trans t (Some u) (Some v) None h k = absurd k
@@ -36,7 +38,8 @@ module _ {V : Type 0} (matches : V → V → Type 0) where
   kept_trans t (Some u) None c h k = absurd h
 
   -- the first of two matches the first of two
-  pub kept_else : (a b c d : Option V) → IsKept matches a b → IsKept matches c d → IsKept matches (or_else a c) (or_else b d)
+  pub kept_else : (a b c d : Option V) → IsKept matches a b → IsKept matches c d
+      → IsKept matches (or_else a c) (or_else b d)
   kept_else None None c d h k = k
   kept_else (Some v) (Some w) c d h k = h
   kept_else None (Some w) c d h k = absurd h
@@ -50,3 +53,13 @@ module _ {V : Type 0} (matches : V → V → Type 0) where
   -- what the left one has, the right one does not lack
   pub not_lost : {A : Type 0} (a b : Option V) (v : V) → IsKept matches a b → a ≡ Some v → b ≡ None → A
   not_lost a b v h p q = absurd (kept_by a b (Some v) None p q h)
+
+module _ {K V : Type 0} (matches : V → V → Type 0) where
+  -- the sides of equal maps may be turned with the relation
+  pub maps_flip : (f g : List K → Option V) → IsEqualMap matches f g → IsEqualMap (λ v w. matches w v) g f
+  maps_flip f g h k = kept_flip matches (f k) (g k) (h k)
+
+  -- what is the same as an equal map is an equal map
+  pub maps_by : (f g h : List K → Option V) → IsEqualMap matches f g → ((k : List K) → h k ≡ g k)
+      → IsEqualMap matches f h
+  maps_by f g h e s k = rw (s k) (e k)

@@ -28,7 +28,8 @@ module _ {K V : Type 0} where
 
   -- the children of each node ascend strictly by the first components of their prefixes
   abbrev pub ChildrenAscend : (K → K → Ordering) → Tree K V → Type 0
-  ChildrenAscend cmp t = (n : Tree K V) → IsNodeOf n t → AllPairs (λ c d. BeginsBelow cmp c.prefix d.prefix) (trees n.children)
+  ChildrenAscend cmp t =
+      (n : Tree K V) → IsNodeOf n t → AllPairs (λ c d. BeginsBelow cmp c.prefix d.prefix) (trees n.children)
 
   -- no node without a value has exactly one child
   abbrev pub NoLoneChild : Tree K V → Type 0
@@ -41,7 +42,7 @@ module _ {K V : Type 0} where
     pub ascending : ChildrenAscend cmp t
     pub no_lone_child : NoLoneChild t
 
-  -- the two conditions on prefixes, under which a key is bound at one node at most
+  -- the two conditions on prefixes, under which the look-up finds whatever is bound
   pub record IsOrdered (cmp : K → K → Ordering) (t : Tree K V) : Type 0 where
     pub prefixes : HavePrefixes t
     pub ascending : ChildrenAscend cmp t

@@ -14,11 +14,13 @@ module _ {K V : Type 0} where
     IsSameIn bare bare = ⊤
     IsSameIn bare (grow q w more others) = ⊥
     IsSameIn (grow p v kids rest) bare = ⊥
-    IsSameIn (grow p v kids rest) (grow q w more others) = IsTrue (same_key cmp p q) × IsKept matches v w × IsSameIn kids more × IsSameIn rest others
+    IsSameIn (grow p v kids rest) (grow q w more others) =
+        IsTrue (same_key cmp p q) × IsKept matches v w × IsSameIn kids more × IsSameIn rest others
 
     -- equal prefixes, both without a value or with values that match, and the same children pairwise
     abbrev pub IsSame : Tree K V → Tree K V → Type 0
-    IsSame t u = IsTrue (same_key cmp t.prefix u.prefix) × IsKept matches t.value u.value × IsSameIn t.children u.children
+    IsSame t u =
+        IsTrue (same_key cmp t.prefix u.prefix) × IsKept matches t.value u.value × IsSameIn t.children u.children
 
   module _ (keeps : V → V → Type 0) where
     -- equally many trees, alike pairwise
@@ -26,7 +28,8 @@ module _ {K V : Type 0} where
     IsAlikeIn bare bare = ⊤
     IsAlikeIn bare (grow q w more others) = ⊥
     IsAlikeIn (grow p v kids rest) bare = ⊥
-    IsAlikeIn (grow p v kids rest) (grow q w more others) = (p ≡ q) × IsKept keeps v w × IsAlikeIn kids more × IsAlikeIn rest others
+    IsAlikeIn (grow p v kids rest) (grow q w more others) =
+        (p ≡ q) × IsKept keeps v w × IsAlikeIn kids more × IsAlikeIn rest others
 
     -- one prefix, both without a value or with one that is kept, and children alike pairwise
     abbrev pub IsAlike : Tree K V → Tree K V → Type 0

@@ -32,7 +32,8 @@ module _ {K V : Type 0} where
   top (f ∷ stack) = f
 
   -- the tokens of a forest put it on the stack
-  build-tokens : (f : Forest K V) (ts : List (Option (List K × Option V))) (stack : List (Forest K V)) → build (tokens f ++ ts) stack ≡ build ts (f ∷ stack)
+  build-tokens : (f : Forest K V) (ts : List (Option (List K × Option V))) (stack : List (Forest K V))
+      → build (tokens f ++ ts) stack ≡ build ts (f ∷ stack)
   build-tokens bare ts stack = refl
   build-tokens (grow p v kids rest) ts stack =
       ap (λ l. build l stack) (append_assoc (tokens kids) (tokens rest ++ Some (p, v) ∷ []) ts)
@@ -46,7 +47,9 @@ module _ {K V : Type 0} where
 
   -- a forest is stored as its tokens
   abbrev pub forest_code : Coded K → Coded V → Coded (Forest K V)
-  forest_code k v = code_by (List (Option (List K × Option V))) (coded_list (coded_option (coded× (coded_list k) (coded_option v)))) tokens (λ l. top (build l [])) top-build
+  forest_code k v =
+      code_by (List (Option (List K × Option V))) (coded_list (coded_option (coded× (coded_list k) (coded_option v))))
+      tokens (λ l. top (build l [])) top-build
 
   -- a tree is stored as its three parts
   abbrev pub tree_code : Coded K → Coded V → Coded (Tree K V)
@@ -64,4 +67,5 @@ module _ {K V : Type 0} where
       → ((r : R) → weight (Some r) ≡ max (max (most (λ t. nodes t + 1) (items r)) 0) 0)
       → (o : Option R) → weight o ≤ forest_nodes (shared_forest items o) + 1
   shared_falls items weight none some None = omega arith
-  shared_falls items weight none some (Some r) = let w = some r in let m = most_le-nodes (items r) in omega (arith, m, w)
+  shared_falls items weight none some (Some r) =
+      let w = some r in let m = most_le-nodes (items r) in omega (arith, m, w)

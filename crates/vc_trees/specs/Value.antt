@@ -16,6 +16,7 @@ pub data Copies {V : Type 0} (is_clone : V → V → Type 0) : V → V → Type 
   cloned : {u v w : V} → is_clone u v → Copies is_clone v w → Copies is_clone u w
 
 -- a copy of a copy is a copy
-pub copies_trans : {V : Type 0} {is_clone : V → V → Type 0} {u v w : V} → Copies is_clone u v → Copies is_clone v w → Copies is_clone u w
+pub copies_trans : {V : Type 0} {is_clone : V → V → Type 0} {u v w : V} → Copies is_clone u v → Copies is_clone v w
+    → Copies is_clone u w
 copies_trans itself q = q
 copies_trans (cloned c p) q = cloned c (copies_trans p q)

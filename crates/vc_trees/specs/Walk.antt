@@ -1,5 +1,6 @@
 -- The walk of a tree: all of its pairs, their keys ascending.
 --     IsWalk cmp f l        l lists all pairs of the map f, keys strictly ascending
+--     IsSamePair cmp b c        two pairs have equal keys and one value
 --     walk t        the pairs of a tree, each node's before those of its children
 use Rattle.std.specs.Prelude.{◌≡◌, ◌⊎◌, ◌↔◌, List, [], ◌∷◌, ◌++◌, map, Option, Some, None, IsTrue}
 use Rattle.std.specs.declared.cmp.Ordering.{Ordering}
@@ -33,6 +34,10 @@ module _ {K V : Type 0} where
     abbrev pub Lists : List (List K × V) → List K → V → Type 0
     Lists [] k a = ⊥
     Lists (b ∷ l) k a = (IsTrue (same_key cmp b.0 k) × (b.1 ≡ a)) ⊎ Lists l k a
+
+    -- two pairs have equal keys and one value
+    abbrev pub IsSamePair : List K × V → List K × V → Type 0
+    IsSamePair b c = IsTrue (same_key cmp b.0 c.0) × (b.1 ≡ c.1)
 
     -- l lists all pairs of the map f, and its keys ascend strictly
     pub record IsWalk (f : List K → Option V) (l : List (List K × V)) : Type 0 where
