@@ -1,6 +1,6 @@
 -- Trees that are alike: the same nodes with the very same prefixes, and values that are kept.
 --     alike_trans        how trees are alike
---     alike_solid, alike_children, alike_canonical, alike_nodes, alike_lookup        what two that are alike share
+--     alike_solid, alike_children, alike_canonical, tree_alike_canonical, alike_nodes, alike_first, alike_lookup, tree_alike_lookup        what two that are alike share
 --     snapshot_canonical        what a snapshot of a canonical tree is
 use Rattle.std.proofs.Common.{◌≡◌, ℕ, zero, suc, ◌+◌, List, [], ◌∷◌, Option, Some, None, refl, ap, ◌∙◌, arith}
 use Rattle.std.specs.Prelude.{slice_get}
@@ -8,9 +8,9 @@ use Rattle.std.specs.declared.cmp.Ordering.{Ordering}
 use Rattle.vc_trees.specs.Key.{behind}
 use Rattle.vc_trees.specs.Value.{IsKept}
 use Rattle.vc_trees.specs.Tree.{Tree, Forest, bare, grow, forest, node, shared_forest, forest_nodes}
-use Rattle.vc_trees.specs.Map.{node_lookup, lookup_in}
+use Rattle.vc_trees.specs.Map.{node_lookup, lookup, lookup_in, IsEqualMap}
 use Rattle.vc_trees.specs.Canonical.{IsSolid, IsWhole, AllAbove, AreChildren, IsCanonical}
-use Rattle.vc_trees.specs.Same.{IsAlikeIn}
+use Rattle.vc_trees.specs.Same.{IsAlike, IsAlikeIn}
 use Rattle.vc_trees.specs.Places.{child_first}
 use Rattle.vc_trees.proofs.ValueLemmas.{kept_trans, kept_else}
 
@@ -88,6 +88,10 @@ module _ {K V : Type 0} (keeps : V → V → Type 0) where
     pub alike_canonical : (p : List K) (v w : Option V) (f g : Forest K V) → IsKept keeps v w → IsAlikeIn keeps f g → IsCanonical cmp (node p v f) → IsCanonical cmp (node p w g)
     alike_canonical p v w f g k a h = (alike_whole p v w f g k a h.0, alike_children f g a h.1)
 
+    -- and so of a tree
+    pub tree_alike_canonical : (t u : Tree K V) → IsAlike keeps t u → IsCanonical cmp t → IsCanonical cmp u
+    tree_alike_canonical t u h c = rw (← h.0) (alike_canonical t.prefix t.value u.value t.children u.children h.1 h.2 c)
+
     -- what a node has at what is left of a key
     pub kept_lookup : (o : Option (List K)) (v w : Option V) (f g : List K → Option V) → IsKept keeps v w → ((k : List K) → IsKept keeps (f k) (g k)) → IsKept keeps (node_lookup v f o) (node_lookup w g o)
     kept_lookup None v w f g h k = tt
@@ -101,6 +105,11 @@ module _ {K V : Type 0} (keeps : V → V → Type 0) where
     alike_lookup (grow p v kids rest) bare h k = absurd h
     alike_lookup (grow p v kids rest) (grow q w more others) h k =
         rw (← h.0) (kept_else keeps _ _ _ _ (kept_lookup (behind cmp p k) v w (lookup_in cmp kids) (lookup_in cmp more) h.1 (alike_lookup kids more h.2)) (alike_lookup rest others h.3 k))
+
+    -- the map of a tree
+    pub tree_alike_lookup : (t u : Tree K V) → IsAlike keeps t u → IsEqualMap keeps (lookup cmp t) (lookup cmp u)
+    tree_alike_lookup t u h k =
+        rw (← h.0) (kept_lookup (behind cmp t.prefix k) t.value u.value (lookup_in cmp t.children) (lookup_in cmp u.children) h.1 (alike_lookup t.children u.children h.2))
 
 -- ---- snapshots
 

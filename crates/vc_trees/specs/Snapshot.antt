@@ -1,9 +1,9 @@
 -- Copies of trees: what a clone of a tree of the shared flavour is, and that copied children are alike.
 --     IsSnapshot is_clone t c        c is a clone of t that shares its children
---     alike_refl, tree_alike_refl, alike_same, kept_alike        how each flavour keeps children: its laws
+--     same_copies, alike_refl, tree_alike_refl, alike_same, kept_alike        how each flavour keeps values and children: its laws
 use Rattle.std.specs.Prelude.{◌≡◌, ◌⊎◌, List, [], ◌∷◌, map, Option, Some, None, refl}
 use Rattle.std.specs.List.{AllZip}
-use Rattle.std.proofs.Common.{sym, inl, inr}
+use Rattle.std.proofs.Common.{sym, subst, inl, inr}
 use Rattle.vc_trees.specs.Value.{IsKept, Copies, itself, cloned}
 use Rattle.vc_trees.specs.Tree.{Tree, Forest, bare, grow, forest}
 use Rattle.vc_trees.specs.Same.{IsAlike, IsAlikeIn}
@@ -30,6 +30,10 @@ module _ {K V : Type 0} (keeps : V → V → Type 0) where
   -- equal lists are alike
   pub alike_same : ((v : V) → keeps v v) → (xs ys : List (Tree K V)) → ys ≡ xs → IsAlikeIn keeps (forest (map (λ t. t) xs)) (forest (map (λ t. t) ys))
   alike_same r xs ys e = rw e (alike_refl r (forest (map (λ t. t) xs)))
+
+-- what is the same is a copy
+pub same_copies : {V : Type 0} (is_clone : V → V → Type 0) (v w : V) → v ≡ w → Copies is_clone v w
+same_copies is_clone v w e = subst (Copies is_clone v) e itself
 
 -- a clone is a copy
 kept_copies : {V : Type 0} (is_clone : V → V → Type 0) (v w : Option V) → IsKept is_clone v w → IsKept (Copies is_clone) v w

@@ -7,7 +7,7 @@ ghost use Rattle.vc_trees.specs.Value.{Copies, itself, copies_trans};
 ghost use Rattle.vc_trees.specs.Canonical.{IsCanonical};
 ghost use Rattle.vc_trees.specs.Same.{IsAlikeIn};
 ghost use Rattle.vc_trees.specs.Children.{listed};
-ghost use Rattle.vc_trees.specs.Snapshot.{alike_same, kept_alike as copies_alike};
+ghost use Rattle.vc_trees.specs.Snapshot.{same_copies, alike_same, kept_alike as copies_alike};
 
 use crate::radix_tree::children::{ChildList, Fragment, OwnedChildren, Parts, SharedChildren};
 use crate::radix_tree::plain::RadixTree;
@@ -57,6 +57,8 @@ pub trait Build<K: TKey, V: TValue>: AbstractRadixTree<K, V> + Drop {
 
     ghost keeps_trans: { (u v w : V) → keeps u v → keeps v w → keeps u w };
 
+    ghost keeps_copies: { (v w : V) → keeps v w → Copies V.is_clone v w };
+
     ghost kept_alike: { (xs ys : List Self) → Self.Children.kept xs ys → IsAlikeIn keeps (forest (map Self.tree xs)) (forest (map Self.tree ys)) };
 }
 
@@ -70,6 +72,8 @@ impl<K: TKey + MadeWith<Global>, V: TValue> Build<K, V> for RadixTree<K, V> {
     ghost keeps_refl = { λ v. refl };
 
     ghost keeps_trans = { λ u v w p q. p ∙ q };
+
+    ghost keeps_copies = { λ v w. same_copies V.is_clone v w };
 
     ghost kept_alike = { λ xs ys e. alike_same (λ v w. v ≡ w) (λ v. refl) xs ys e };
 
@@ -107,6 +111,8 @@ impl<K: TKey + MadeWith<Global>, V: TValue> Build<K, V> for ArcRadixTree<K, V> {
     ghost keeps_refl = { λ v. itself };
 
     ghost keeps_trans = { λ u v w p q. copies_trans p q };
+
+    ghost keeps_copies = { λ v w p. p };
 
     ghost kept_alike = { copies_alike V.is_clone };
 

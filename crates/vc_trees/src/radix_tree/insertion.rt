@@ -2,7 +2,7 @@
 
 ghost use Rattle.std.specs.Prelude.{◌≡◌, ◌+◌, ◌<◌, ◌≤◌, ◌++◌, [], ◌∷◌, length, map, take, drop, insert as list_insert, vec_len, vec_capacity, Some, IfOk, OnOk, OnErr};
 ghost use Rattle.vc_trees.specs.Tree.{forest, made, node};
-ghost use Rattle.vc_trees.specs.Map.{IsUpdated, lookup, lookup_in};
+ghost use Rattle.vc_trees.specs.Map.{IsEqualMap, IsUpdated, lookup, lookup_in};
 ghost use Rattle.vc_trees.specs.Canonical.{AreChildren, IsCanonical, IsSolid};
 ghost use Rattle.vc_trees.specs.Same.{IsAlike, IsAlikeIn};
 ghost use Rattle.vc_trees.specs.Children.{listed};
@@ -41,7 +41,9 @@ pub(crate) fn single<K: TKey, V: TValue, T: Build<K, V>>(alloc: Global, key: &[K
 /// Binds the key to the value.
 pub(crate) fn insert<K: TKey, V: TValue, T: Build<K, V>>(tree: &mut T, key: &[K], value: V) -> Result<(), AllocError>
     ensures ok { OnOk result (IsUpdated K.cmp T.keeps key.now value (lookup K.cmp (T.tree tree.old)) (lookup K.cmp (T.tree tree.new))) }
-    ensures err { OnErr result (IsAlike T.keeps (T.tree tree.old) (T.tree tree.new)) }
+    ensures err { OnErr result (IsEqualMap T.keeps (lookup K.cmp (T.tree tree.old)) (lookup K.cmp (T.tree tree.new))) }
+    ensures err_nodes { OnErr result (IsAlike T.keeps (T.tree tree.old) (T.tree tree.new)) }
+    ensures canonical { IsCanonical K.cmp (T.tree tree.new) }
 {
     let alloc = tree.allocator();
     // The law of trees, that they are canonical, comes with the prefix.

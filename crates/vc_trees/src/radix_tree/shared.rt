@@ -2,6 +2,7 @@
 
 ghost use Rattle.std.specs.Prelude.{◌≡◌, IfOk};
 ghost use Rattle.vc_trees.specs.Value.{IsKept};
+ghost use Rattle.vc_trees.specs.Children.{listed};
 
 use crate::radix_tree::children::{Parts, SharedChildren};
 use crate::radix_tree::reading::{AbstractRadixTree, TKey, TValue};
@@ -91,19 +92,23 @@ impl<K: TKey + MadeWith<Global>, V: TValue> ArcRadixTree<K, V> {
         requires { IsCanonical K.cmp (made prefix.items value (map (λ t. t) (listed (λ held. held.shared.value.items) children))) }
         ensures { result ≡ made prefix.items value (map (λ t. t) (listed (λ held. held.shared.value.items) children)) }
     {
-        match children {
-            Some(held) => ArcRadixTree {
-                prefix,
-                value,
-                children: Some(held.shared),
-            },
-            None => ArcRadixTree {
-                prefix,
-                value,
-                children: None,
-            },
+        let children = match children {
+            Some(held) => some_unless_empty(held.shared),
+            None => None,
+        };
+        ArcRadixTree {
+            prefix,
+            value,
+            children,
         }
     }
+}
+
+/// The children, or `None` where there are none.
+fn some_unless_empty<T: Drop>(list: Rc<Vec<T>>) -> Option<Rc<Vec<T>>>
+    ensures { listed (λ rc. rc.value.items) result ≡ list.value.items }
+{
+    if list.is_empty() { None } else { Some(list) }
 }
 
 /// A clone of the value, if there is one.
@@ -126,12 +131,16 @@ fn share<T: Drop>(children: &Option<Rc<T>>) -> Result<Option<Rc<T>>, AllocError>
     }
 }
 
-impl<K: TKey + MadeWith<Global>, V: TValue> Clone for ArcRadixTree<K, V> {
+impl<K: TKey + MadeWith<Global>, V: TValue> ArcRadixTree<K, V> {
     ghost use Rattle.vc_trees.specs.Snapshot.{IsSnapshot};
 
-    ghost is_clone = { IsSnapshot V.is_clone };
-
-    fn clone(&self) -> Result<Self, AllocError> {
+    /// A snapshot: a tree of its own with the same prefix, a clone of the root's value, and the very same children, which both
+    /// trees hold. A later change of either tree copies what it writes, and leaves the other as it is.
+    ///
+    /// Clones no value but the root's. Fails where memory is refused, or the value's own clone.
+    pub fn clone(&self) -> Result<Self, AllocError>
+        ensures { IfOk result (IsSnapshot V.is_clone self.now) }
+    {
         let prefix = SmallVec::from_slice(*self.prefix.allocator(), self.prefix.as_slice())?;
         let value = clone_value(&self.value)?;
         let children = share(&self.children)?;
@@ -140,6 +149,16 @@ impl<K: TKey + MadeWith<Global>, V: TValue> Clone for ArcRadixTree<K, V> {
             value,
             children,
         })
+    }
+}
+
+impl<K: TKey + MadeWith<Global>, V: TValue> Clone for ArcRadixTree<K, V> {
+    ghost use Rattle.vc_trees.specs.Snapshot.{IsSnapshot};
+
+    ghost is_clone = { IsSnapshot V.is_clone };
+
+    fn clone(&self) -> Result<Self, AllocError> {
+        ArcRadixTree::clone(self)
     }
 }
 

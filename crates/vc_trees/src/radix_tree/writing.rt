@@ -2,7 +2,8 @@
 
 ghost use Rattle.std.specs.Prelude.{◌≡◌, [], Some, IfOk, OnOk, OnErr};
 ghost use Rattle.vc_trees.specs.Tree.{made, no_tree};
-ghost use Rattle.vc_trees.specs.Map.{IsUpdated, lookup};
+ghost use Rattle.vc_trees.specs.Map.{IsEqualMap, IsUpdated, lookup};
+ghost use Rattle.vc_trees.specs.Canonical.{IsCanonical};
 ghost use Rattle.vc_trees.specs.Same.{IsAlike};
 
 use crate::radix_tree::building::{Build, Seal};
@@ -48,7 +49,9 @@ pub trait AbstractRadixTreeMut<K: TKey, V: TValue>: Build<K, V> {
     /// what it bound. A key keeps the spelling that the tree has of it.
     final fn insert(&mut self, key: &[K], value: V) -> Result<(), AllocError>
         ensures ok { OnOk result (IsUpdated K.cmp Self.keeps key.now value (lookup K.cmp (Self.tree self.old)) (lookup K.cmp (Self.tree self.new))) }
-        ensures err { OnErr result (IsAlike Self.keeps (Self.tree self.old) (Self.tree self.new)) }
+        ensures err { OnErr result (IsEqualMap Self.keeps (lookup K.cmp (Self.tree self.old)) (lookup K.cmp (Self.tree self.new))) }
+        ensures err_nodes { OnErr result (IsAlike Self.keeps (Self.tree self.old) (Self.tree self.new)) }
+        ensures canonical { IsCanonical K.cmp (Self.tree self.new) }
     {
         insertion::insert(self, key, value)
     }

@@ -1,7 +1,7 @@
 -- The clone of a canonical tree is canonical.
 use Rattle.std.proofs.Common.{◌∙◌}
 use Rattle.vc_trees.proofs.AlikeLemmas.{snapshot_canonical}
-use Rattle.vc_trees.proofs.radix_tree.shared.ArcRadixTreeClone.clone.Goals as goal
+use Rattle.vc_trees.proofs.radix_tree.shared.ArcRadixTree.clone.Goals as goal
 
 pub invariant_of-result : goal.invariant_of-result
 invariant_of-result g c =
