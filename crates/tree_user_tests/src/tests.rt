@@ -1,0 +1,294 @@
+//! What no clause says: that calls succeed with ample memory, printed shapes, clones and drops of values.
+
+use super::Word;
+use std::alloc::{AllocError, Global};
+use std::cell::Cell;
+use std::fmt;
+use std::test::Fail;
+use vc_trees::radix_tree::{AbstractRadixTree, AbstractRadixTreeMut, ArcRadixTree, RadixTree, TKey, TValue};
+
+/// How deep the shapes of these tests are read.
+const DEPTH: u8 = 9;
+
+/// Prints the shape of a tree of letters: each prefix, `*` behind one that has a value, and the children in parentheses.
+fn print_shape<V: TValue, T: AbstractRadixTree<u8, V>>(tree: &T, text: &mut String, depth: u8) -> Result<(), AllocError> {
+    for letter in tree.prefix() {
+        text.push(char::from(*letter))?;
+    }
+    if tree.value().is_some() {
+        text.push('*')?;
+    }
+    if tree.children().is_empty() || depth == 0 {
+        return Ok(());
+    }
+    text.push('(')?;
+    for (i, child) in tree.children().iter().enumerate() {
+        if i > 0 {
+            text.push(' ')?;
+        }
+        print_shape(child, text, depth - 1)?;
+    }
+    text.push(')')
+}
+
+/// The shape of the tree of the keys, inserted in order.
+fn shape_of<T: AbstractRadixTreeMut<u8, usize>>(alloc: Global, keys: &[&str]) -> Result<String, AllocError> {
+    let mut tree = T::empty(alloc);
+    for (i, key) in keys.iter().enumerate() {
+        tree.insert(key.as_bytes(), i)?;
+    }
+    let mut text = String::new(alloc);
+    print_shape(&tree, &mut text, DEPTH)?;
+    Ok(text)
+}
+
+#[test]
+fn shapes_are_those_of_the_keys(rt: HostRuntime) -> Result<(), Fail> {
+    let rows: [(&[&str], &str); 9] = [
+        (&[], ""),
+        (&[""], "*"),
+        (&["aabbcc", "aabb"], "aabb*(cc*)"),
+        (&["", "a"], "*(a*)"),
+        (&["b", "a", "b"], "(a* b*)"),
+        (&["abc", "abd", "ab"], "ab*(c* d*)"),
+        (&["ab", "ac"], "a(b* c*)"),
+        (&["aabbcc", "aabb", "aabbee"], "aabb*(cc* ee*)"),
+        (&["eeeef", "bc", "aa", "b", "a", "ab", "eeeee", "aaa"], "(a*(a*(a*) b*) b*(c*) eeee(e* f*))"),
+    ];
+    for (keys, shape) in rows {
+        let plain = shape_of::<RadixTree<u8, usize>>(rt.alloc(), keys)?;
+        assert_eq!(rt; plain.as_str(), shape);
+        let shared = shape_of::<ArcRadixTree<u8, usize>>(rt.alloc(), keys)?;
+        assert_eq!(rt; shared.as_str(), shape);
+    }
+    Ok(())
+}
+
+/// Makes trees in each way and looks keys up in them.
+fn makes_and_finds<T: AbstractRadixTreeMut<u8, u32>>(alloc: Global, rt: &impl std::process::Abort) -> Result<(), AllocError> {
+    let none = T::empty(alloc);
+    assert!(rt; none.is_empty());
+    assert_eq!(rt; none.get(b"a"), None);
+    let leaf = T::leaf(alloc, 3);
+    assert!(rt; !leaf.is_empty());
+    assert_eq!(rt; leaf.get(b"").copied(), Some(3));
+    assert_eq!(rt; leaf.get(b"a"), None);
+    let mut tree = T::single(alloc, b"abc", 1)?;
+    assert_eq!(rt; tree.get(b"abc").copied(), Some(1));
+    assert_eq!(rt; tree.get(b"ab"), None);
+    assert_eq!(rt; tree.get(b"abcd"), None);
+    for (key, value) in [("abd", 2u32), ("ab", 3), ("x", 4), ("", 5), ("abc", 6), ("a", 7)] {
+        tree.insert(key.as_bytes(), value)?;
+    }
+    for (key, value) in [("abd", 2u32), ("ab", 3), ("x", 4), ("", 5), ("abc", 6), ("a", 7)] {
+        assert_eq!(rt; tree.get(key.as_bytes()).copied(), Some(value), "at {key}");
+    }
+    for key in ["b", "abcd", "abe", "xx"] {
+        assert_eq!(rt; tree.get(key.as_bytes()), None, "at {key}");
+    }
+    Ok(())
+}
+
+#[test]
+fn both_flavours_are_made_and_read(rt: HostRuntime) -> Result<(), Fail> {
+    makes_and_finds::<RadixTree<u8, u32>>(rt.alloc(), &rt)?;
+    makes_and_finds::<ArcRadixTree<u8, u32>>(rt.alloc(), &rt)?;
+    Ok(())
+}
+
+#[test]
+fn a_tree_of_another_crate_is_read(rt: HostRuntime) -> Result<(), Fail> {
+    let word = Word::new(b"abc".to_vec(rt.alloc())?, 7);
+    assert_eq!(rt; word.get(b"abc").copied(), Some(7));
+    assert_eq!(rt; word.get(b"ab"), None);
+    assert_eq!(rt; word.get(b"abcd"), None);
+    assert!(rt; !word.is_empty());
+    let mut text = String::new(rt.alloc());
+    print_shape(&word, &mut text, DEPTH)?;
+    assert_eq!(rt; text.as_str(), "abc*");
+    Ok(())
+}
+
+/// A letter whose case does not count.
+#[derive(Clone, Copy)]
+#[derive_where(Debug, PartialEq, Eq, PartialOrd, Ord)]
+struct Letter {
+    place: u8,
+    #[derive_where(skip)]
+    is_capital: bool,
+}
+
+impl Default for Letter {
+    fn default() -> Letter {
+        Letter {
+            place: 0,
+            is_capital: false,
+        }
+    }
+}
+
+const fn small(place: u8) -> Letter {
+    Letter {
+        place,
+        is_capital: false,
+    }
+}
+
+const fn capital(place: u8) -> Letter {
+    Letter {
+        place,
+        is_capital: true,
+    }
+}
+
+/// Components that are equal but spelled differently lead to one value.
+fn finds_each_spelling<T: AbstractRadixTreeMut<Letter, u32>>(alloc: Global, rt: &impl std::process::Abort) -> Result<(), AllocError> {
+    let mut tree = T::single(alloc, &[small(1), small(2)], 1)?;
+    tree.insert(&[capital(1), capital(2), small(3)], 2)?;
+    tree.insert(&[capital(1), small(4)], 3)?;
+    tree.insert(&[capital(1), capital(2)], 4)?;
+    assert_eq!(rt; tree.get(&[small(1), capital(2)]).copied(), Some(4));
+    assert_eq!(rt; tree.get(&[small(1), small(2), capital(3)]).copied(), Some(2));
+    assert_eq!(rt; tree.get(&[small(1), capital(4)]).copied(), Some(3));
+    assert_eq!(rt; tree.prefix().len(), 1);
+    assert_eq!(rt; tree.children().len(), 2);
+    Ok(())
+}
+
+#[test]
+fn components_are_compared_by_their_order(rt: HostRuntime) -> Result<(), Fail> {
+    finds_each_spelling::<RadixTree<Letter, u32>>(rt.alloc(), &rt)?;
+    finds_each_spelling::<ArcRadixTree<Letter, u32>>(rt.alloc(), &rt)?;
+    Ok(())
+}
+
+/// How often values were cloned and dropped, and whether a clone is refused.
+#[derive(Drop)]
+struct Tally {
+    clones: Cell<u32>,
+    drops: Cell<u32>,
+    refuses: Cell<bool>,
+}
+
+impl Tally {
+    fn new() -> Tally {
+        Tally {
+            clones: Cell::new(0),
+            drops: Cell::new(0),
+            refuses: Cell::new(false),
+        }
+    }
+}
+
+/// A value that counts its clones and drops.
+struct Counted<'a> {
+    number: u32,
+    tally: &'a Tally,
+}
+
+impl fmt::Debug for Counted<'_> {
+    fn fmt<W: fmt::Write>(&self, f: &mut fmt::Formatter<W>) -> fmt::Result {
+        let number = self.number;
+        write!(f, "{number}")
+    }
+}
+
+impl Clone for Counted<'_> {
+    fn clone(&self) -> Result<Self, AllocError> {
+        if self.tally.refuses.get() {
+            return Err(AllocError);
+        }
+        self.tally.clones.set(self.tally.clones.get().saturating_add(1));
+        Ok(Counted {
+            number: self.number,
+            tally: self.tally,
+        })
+    }
+}
+
+impl Drop for Counted<'_> {
+    fn drop(self) {
+        self.tally.drops.set(self.tally.drops.get().saturating_add(1));
+        let Counted { number: _, tally: _ } = self;
+    }
+}
+
+/// Inserts eight keys, of which one is inserted twice.
+fn insert_eight<'a, T: AbstractRadixTreeMut<u8, Counted<'a>>>(tree: &mut T, tally: &'a Tally) -> Result<(), AllocError> {
+    for (number, key) in ["a", "aa", "aaa", "ab", "b", "bc", "eeeee", "eeeef", "aa"].iter().enumerate() {
+        let number = u32::try_from(number).unwrap_or(0);
+        tree.insert(key.as_bytes(), Counted { number, tally })?;
+    }
+    Ok(())
+}
+
+#[test]
+fn insert_clones_no_value_of_a_plain_tree(rt: HostRuntime) -> Result<(), Fail> {
+    let tally = Tally::new();
+    tally.refuses.set(true);
+    let mut tree = RadixTree::empty(rt.alloc());
+    insert_eight(&mut tree, &tally)?;
+    assert_eq!(rt; tally.drops.get(), 1);
+    assert_eq!(rt; tree.get(b"aa").map(|value| value.number), Some(8));
+    drop(tree);
+    assert_eq!(rt; tally.drops.get(), 9);
+    Ok(())
+}
+
+#[test]
+fn insert_clones_no_value_of_a_tree_that_no_other_shares(rt: HostRuntime) -> Result<(), Fail> {
+    let tally = Tally::new();
+    tally.refuses.set(true);
+    let mut tree = ArcRadixTree::empty(rt.alloc());
+    insert_eight(&mut tree, &tally)?;
+    assert_eq!(rt; tally.drops.get(), 1);
+    assert_eq!(rt; tree.get(b"aa").map(|value| value.number), Some(8));
+    drop(tree);
+    assert_eq!(rt; tally.drops.get(), 9);
+    Ok(())
+}
+
+#[test]
+fn insert_leaves_a_snapshot_as_it_was(rt: HostRuntime) -> Result<(), Fail> {
+    let tally = Tally::new();
+    let mut tree = ArcRadixTree::empty(rt.alloc());
+    insert_eight(&mut tree, &tally)?;
+    let snapshot = tree.clone()?;
+    assert_eq!(rt; tally.clones.get(), 0);
+    tree.insert(
+        b"bcd",
+        Counted {
+            number: 9,
+            tally: &tally,
+        },
+    )?;
+    assert!(rt; tally.clones.get() <= 3);
+    assert_eq!(rt; tree.get(b"bcd").map(|value| value.number), Some(9));
+    assert!(rt; snapshot.get(b"bcd").is_none());
+    assert_eq!(rt; snapshot.get(b"bc").map(|value| value.number), Some(5));
+    Ok(())
+}
+
+#[test]
+fn a_refused_copy_leaves_the_same_map(rt: HostRuntime) -> Result<(), Fail> {
+    let tally = Tally::new();
+    let mut tree = ArcRadixTree::empty(rt.alloc());
+    insert_eight(&mut tree, &tally)?;
+    let snapshot = tree.clone()?;
+    tally.refuses.set(true);
+    let refused = tree.insert(
+        b"bcd",
+        Counted {
+            number: 9,
+            tally: &tally,
+        },
+    );
+    assert!(rt; refused.is_err());
+    for key in ["a", "aa", "aaa", "ab", "b", "bc", "eeeee", "eeeef"] {
+        let left = tree.get(key.as_bytes()).map(|value| value.number);
+        assert!(rt; left.is_some(), "at {key}");
+        assert_eq!(rt; left, snapshot.get(key.as_bytes()).map(|value| value.number), "at {key}");
+    }
+    assert!(rt; tree.get(b"bcd").is_none());
+    Ok(())
+}
