@@ -1,9 +1,9 @@
 //! A crate that uses radix trees from outside: a tree of its own, generic code, and each call at both flavours.
 #![tactic(auto)]
 
-ghost use Rattle.std.specs.Prelude.{◌≡◌, Some, None, OnOk, OnErr};
+ghost use Rattle.std.specs.Prelude.{◌≡◌, Some, None, IsSome, OnOk, OnErr};
 ghost use Rattle.vc_trees.specs.Tree.{bare, node};
-ghost use Rattle.vc_trees.specs.Map.{IsUpdated, IsEqualMap, lookup};
+ghost use Rattle.vc_trees.specs.Map.{HaveEqualMaps, IsInserted, lookup};
 
 use std::alloc::{AllocError, Global};
 use vc_trees::radix_tree::{AbstractRadixTree, AbstractRadixTreeMut, TKey, TValue};
@@ -45,14 +45,19 @@ impl AbstractRadixTree<u8, u32> for Word {
     }
 }
 
-/// Binds two keys in a tree of any flavour. What stands after a refusal is known: the first key may be bound, the second is not.
-pub fn insert_both<K: TKey, V: TValue, T: AbstractRadixTreeMut<K, V>>(
+/// Binds the key to the value in a tree of any flavour, unless the tree binds the key already.
+pub fn insert_missing<K: TKey, V: TValue, T: AbstractRadixTreeMut<K, V>>(
     tree: &mut T,
-    first: (&[K], V),
-    second: (&[K], V),
+    key: &[K],
+    value: V,
 ) -> Result<(), AllocError>
-    ensures { OnOk result (lookup K.cmp (T.tree tree.new) second.0.now ≡ Some second.1) }
+    ensures known { IsSome (lookup K.cmp (T.tree tree.old) key.now) → T.tree tree.new ≡ T.tree tree.old }
+    ensures missing { lookup K.cmp (T.tree tree.old) key.now ≡ None
+        → OnOk result (IsInserted K.cmp T.keeps key.now value (T.tree tree.old) (T.tree tree.new)) }
+    ensures err { OnErr result (HaveEqualMaps K.cmp T.keeps (T.tree tree.old) (T.tree tree.new)) }
 {
-    tree.insert(first.0, first.1)?;
-    tree.insert(second.0, second.1)
+    if tree.get(key).is_some() {
+        return Ok(());
+    }
+    tree.insert(key, value)
 }

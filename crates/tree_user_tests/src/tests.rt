@@ -213,60 +213,82 @@ impl Drop for Counted<'_> {
     }
 }
 
-/// Inserts eight keys, of which one is inserted twice.
+/// The number of the key's value, or 0 where the tree has none.
+fn number_at<'a, T: AbstractRadixTree<u8, Counted<'a>>>(tree: &T, key: &[u8]) -> u32 {
+    match tree.get(key) {
+        Some(value) => value.number,
+        None => 0,
+    }
+}
+
+/// Eight keys and the numbers that `insert_eight` leaves there.
+const KEYS: [(&str, u32); 8] = [
+    ("a", 1),
+    ("aa", 9),
+    ("aaa", 3),
+    ("ab", 4),
+    ("b", 5),
+    ("bc", 6),
+    ("eeeee", 7),
+    ("eeeef", 8),
+];
+
+/// Inserts the eight keys, one of them twice.
 fn insert_eight<'a, T: AbstractRadixTreeMut<u8, Counted<'a>>>(tree: &mut T, tally: &'a Tally) -> Result<(), AllocError> {
-    for (number, key) in ["a", "aa", "aaa", "ab", "b", "bc", "eeeee", "eeeef", "aa"].iter().enumerate() {
-        let number = u32::try_from(number).unwrap_or(0);
+    tree.insert(b"aa", Counted { number: 2, tally })?;
+    for (key, number) in KEYS {
         tree.insert(key.as_bytes(), Counted { number, tally })?;
     }
     Ok(())
 }
 
-#[test]
-fn insert_clones_no_value_of_a_plain_tree(rt: HostRuntime) -> Result<(), Fail> {
-    let tally = Tally::new();
-    tally.refuses.set(true);
-    let mut tree = RadixTree::empty(rt.alloc());
-    insert_eight(&mut tree, &tally)?;
-    assert_eq!(rt; tally.drops.get(), 1);
-    assert_eq!(rt; tree.get(b"aa").map(|value| value.number), Some(8));
-    drop(tree);
-    assert_eq!(rt; tally.drops.get(), 9);
-    Ok(())
+/// Makes the tree of the eight keys, and says how many values were dropped by then.
+fn drops_of_eight<'a, T: AbstractRadixTreeMut<u8, Counted<'a>>>(alloc: Global, tally: &'a Tally) -> Result<u32, AllocError> {
+    let mut tree = T::empty(alloc);
+    insert_eight(&mut tree, tally)?;
+    Ok(tally.drops.get())
 }
 
 #[test]
-fn insert_clones_no_value_of_a_tree_that_no_other_shares(rt: HostRuntime) -> Result<(), Fail> {
+fn insert_clones_no_value_that_is_not_shared(rt: HostRuntime) -> Result<(), Fail> {
     let tally = Tally::new();
     tally.refuses.set(true);
-    let mut tree = ArcRadixTree::empty(rt.alloc());
-    insert_eight(&mut tree, &tally)?;
-    assert_eq!(rt; tally.drops.get(), 1);
-    assert_eq!(rt; tree.get(b"aa").map(|value| value.number), Some(8));
-    drop(tree);
-    assert_eq!(rt; tally.drops.get(), 9);
+    let plain = drops_of_eight::<RadixTree<u8, Counted>>(rt.alloc(), &tally)?;
+    assert_eq!(rt; plain, 1);
+    let dropped = tally.drops.get();
+    assert_eq!(rt; dropped, 9);
+    let shared = drops_of_eight::<ArcRadixTree<u8, Counted>>(rt.alloc(), &tally)?;
+    assert_eq!(rt; shared, 10);
+    let dropped = tally.drops.get();
+    assert_eq!(rt; dropped, 18);
     Ok(())
 }
 
-#[test]
-fn insert_leaves_a_snapshot_as_it_was(rt: HostRuntime) -> Result<(), Fail> {
-    let tally = Tally::new();
-    let mut tree = ArcRadixTree::empty(rt.alloc());
-    insert_eight(&mut tree, &tally)?;
+/// Inserts a key into a tree of which a snapshot is kept. Answers the numbers there in the tree and in the snapshot.
+fn insert_beside_snapshot<'a>(tree: &mut ArcRadixTree<u8, Counted<'a>>, tally: &'a Tally) -> Result<(u32, u32), AllocError> {
     let snapshot = tree.clone()?;
-    assert_eq!(rt; tally.clones.get(), 0);
-    tree.insert(
-        b"bcd",
-        Counted {
-            number: 9,
-            tally: &tally,
-        },
-    )?;
-    assert!(rt; tally.clones.get() <= 3);
-    assert_eq!(rt; tree.get(b"bcd").map(|value| value.number), Some(9));
-    assert!(rt; snapshot.get(b"bcd").is_none());
-    assert_eq!(rt; snapshot.get(b"bc").map(|value| value.number), Some(5));
+    tree.insert(b"bcd", Counted { number: 10, tally })?;
+    Ok((number_at(tree, b"bcd"), number_at(&snapshot, b"bcd")))
+}
+
+#[test]
+fn a_snapshot_stays_and_few_values_are_copied(rt: HostRuntime) -> Result<(), Fail> {
+    let tally = Tally::new();
+    let mut tree = ArcRadixTree::empty(rt.alloc());
+    insert_eight(&mut tree, &tally)?;
+    let numbers = insert_beside_snapshot(&mut tree, &tally)?;
+    assert_eq!(rt; numbers, (10, 0));
+    let clones = tally.clones.get();
+    assert!(rt; clones <= 3);
     Ok(())
+}
+
+/// Tries to insert a key into a tree of which a snapshot is kept, where each clone of a value is refused.
+fn is_refused<'a>(tree: &mut ArcRadixTree<u8, Counted<'a>>, tally: &'a Tally) -> Result<bool, AllocError> {
+    let snapshot = tree.clone()?;
+    tally.refuses.set(true);
+    let refused = tree.insert(b"bcd", Counted { number: 10, tally }).is_err();
+    Ok(refused && number_at(&snapshot, b"bc") == 6)
 }
 
 #[test]
@@ -274,21 +296,13 @@ fn a_refused_copy_leaves_the_same_map(rt: HostRuntime) -> Result<(), Fail> {
     let tally = Tally::new();
     let mut tree = ArcRadixTree::empty(rt.alloc());
     insert_eight(&mut tree, &tally)?;
-    let snapshot = tree.clone()?;
-    tally.refuses.set(true);
-    let refused = tree.insert(
-        b"bcd",
-        Counted {
-            number: 9,
-            tally: &tally,
-        },
-    );
-    assert!(rt; refused.is_err());
-    for key in ["a", "aa", "aaa", "ab", "b", "bc", "eeeee", "eeeef"] {
-        let left = tree.get(key.as_bytes()).map(|value| value.number);
-        assert!(rt; left.is_some(), "at {key}");
-        assert_eq!(rt; left, snapshot.get(key.as_bytes()).map(|value| value.number), "at {key}");
+    let refused = is_refused(&mut tree, &tally)?;
+    assert!(rt; refused);
+    for (key, number) in KEYS {
+        let left = number_at(&tree, key.as_bytes());
+        assert_eq!(rt; left, number, "at {key}");
     }
-    assert!(rt; tree.get(b"bcd").is_none());
+    let added = number_at(&tree, b"bcd");
+    assert_eq!(rt; added, 0);
     Ok(())
 }

@@ -123,9 +123,9 @@ module _ {K V : Type 0} (is_clone : V → V → Type 0) where
 
   -- a snapshot of a canonical tree is canonical
   pub snapshot_canonical : {R X : Type 0} (val : R → X) (list : X → List (Tree K V)) (cmp : K → K → Ordering) (p q : List K) (v w : Option V) (o u : Option R)
-    → q ≡ p → IsKept is_clone v w → IsKept (λ a b. val b ≡ val a) o u
-    → IsCanonical cmp (node p v (shared_forest (λ r. list (val r)) o))
-    → IsCanonical cmp (node q w (shared_forest (λ r. list (val r)) u))
+      → q ≡ p → IsKept is_clone v w → IsKept (λ a b. val b ≡ val a) o u
+      → IsCanonical cmp (node p v (shared_forest (λ r. list (val r)) o))
+      → IsCanonical cmp (node q w (shared_forest (λ r. list (val r)) u))
   snapshot_canonical val list cmp p q v w o u e k s h =
       let kids = shared_forest (λ r. list (val r)) o in
       rw (e, shared_same val list o u s) (kept_whole p v w kids k h.0, h.1)

@@ -70,16 +70,16 @@ module _ {K V : Type 0} (cmp : K → K → Ordering) (keeps : V → V → Type 0
   value_set t u p f value a b e =
       subst (λ u. IsUpdated cmp keeps t.prefix value (lookup cmp t) (lookup cmp u)) (sym (e ∙ node-equal p t.prefix (Some value) (Some value) f t.children a refl b))
       (updated_behind cmp keeps [] value [] t.value (Some value) t.children t.children (updated_value cmp keeps r value t.value t.children)
-        t.prefix t.prefix t.prefix (sym (append-nil t.prefix)) (sym (append-nil t.prefix)))
+      t.prefix t.prefix t.prefix (sym (append-nil t.prefix)) (sym (append-nil t.prefix)))
 
   -- ---- a node's children
 
   -- the children are changed below a node that stays
   children_changed : (t : Tree K V) (y : K) (q : List K) (value : V) (g : Forest K V) → IsSolid t.value g → AreChildren cmp g → IsUpdated cmp keeps (y ∷ q) value (lookup_in cmp t.children) (lookup_in cmp g)
-    → Inserted cmp keeps t (t.prefix ++ y ∷ q) value t.prefix (node t.prefix t.value g)
+      → Inserted cmp keeps t (t.prefix ++ y ∷ q) value t.prefix (node t.prefix t.value g)
   children_changed t y q value g s a u = record {
     updated = updated_behind cmp keeps (y ∷ q) value [] t.value t.value t.children g (updated_children cmp keeps r y q value t.value t.value t.children g (kept_itself keeps r t.value) u)
-      t.prefix t.prefix (t.prefix ++ y ∷ q) (sym (append-nil t.prefix)) refl;
+        t.prefix t.prefix (t.prefix ++ y ∷ q) (sym (append-nil t.prefix)) refl;
     branch = record { prefix = refl; solid = s; children = a };
   }
 
@@ -91,9 +91,9 @@ module _ {K V : Type 0} (cmp : K → K → Ordering) (keeps : V → V → Type 0
   module _ {T : Type 0} (tree : T → Tree K V) where
     -- one more child, at its place
     pub child_added : (t u : Tree K V) (p : List K) (v : Option V) (old new : List T) (i : ℕ) (item : T) (rest : List K) (value : V)
-      → p ≡ t.prefix → v ≡ t.value → forest (map tree old) ≡ t.children → u ≡ node p v (forest (map tree new))
-      → IsCanonical cmp t → IsSolid t.value t.children → FitsAt cmp t.children rest i → tree item ≡ made rest (Some value) [] → Adds keeps tree old i item new
-      → Inserted cmp keeps t (t.prefix ++ rest) value t.prefix u
+        → p ≡ t.prefix → v ≡ t.value → forest (map tree old) ≡ t.children → u ≡ node p v (forest (map tree new))
+        → IsCanonical cmp t → IsSolid t.value t.children → FitsAt cmp t.children rest i → tree item ≡ made rest (Some value) [] → Adds keeps tree old i item new
+        → Inserted cmp keeps t (t.prefix ++ rest) value t.prefix u
     child_added t u p v old new i item rest value a b c e canonical solid fits leaf added =
         let f = forest (map tree old) in
         let g = forest (map tree added.kept) in
@@ -102,39 +102,39 @@ module _ {K V : Type 0} (cmp : K → K → Ordering) (keeps : V → V → Type 0
         let kids : AreChildren cmp g = alike_children keeps cmp f g added.alike (subst (AreChildren cmp) (sym c) canonical.1) in
         let firm : IsSolid t.value g = alike_solid keeps t.value t.value f g (kept_itself keeps r t.value) added.alike (subst (IsSolid t.value) (sym c) solid) in
         subst (λ u. Inserted cmp keeps t (t.prefix ++ rest) value t.prefix u)
-          (sym (e ∙ node-equal p t.prefix v t.value (forest (map tree new)) (forest (map tree (insert added.kept i item))) a b (ap (λ l. forest (map tree l)) added.is)))
+        (sym (e ∙ node-equal p t.prefix v t.value (forest (map tree new)) (forest (map tree (insert added.kept i item))) a b (ap (λ l. forest (map tree l)) added.is)))
         (subst (λ k. Inserted cmp keeps t (t.prefix ++ k) value t.prefix (node t.prefix t.value (forest (map tree (insert added.kept i item))))) (sym fits.key_is)
         (children_changed t fits.first fits.others value (forest (map tree (insert added.kept i item)))
-          (solid_insert tree t.value added.kept i item firm)
-          (children_insert cmp tree added.kept i item fits.first fits.others value one gap kids)
-          (subst (λ h. IsUpdated cmp keeps (fits.first ∷ fits.others) value (lookup_in cmp h) (lookup_in cmp (forest (map tree (insert added.kept i item))))) c
-          (updated_alike cmp keeps trans (fits.first ∷ fits.others) value (lookup_in cmp f) (lookup_in cmp g) (lookup_in cmp (forest (map tree (insert added.kept i item))))
-            (alike_lookup keeps cmp f g added.alike)
-            (updated_insert cmp keeps o r tree added.kept i item fits.first fits.others value one gap)))))
+        (solid_insert tree t.value added.kept i item firm)
+        (children_insert cmp tree added.kept i item fits.first fits.others value one gap kids)
+        (subst (λ h. IsUpdated cmp keeps (fits.first ∷ fits.others) value (lookup_in cmp h) (lookup_in cmp (forest (map tree (insert added.kept i item))))) c
+        (updated_alike cmp keeps trans (fits.first ∷ fits.others) value (lookup_in cmp f) (lookup_in cmp g) (lookup_in cmp (forest (map tree (insert added.kept i item))))
+        (alike_lookup keeps cmp f g added.alike)
+        (updated_insert cmp keeps o r tree added.kept i item fits.first fits.others value one gap)))))
 
     -- children that changed
     pub child_grown : (t u : Tree K V) (p : List K) (v : Option V) (old new : List T) (rest : List K) (value : V) (y : K) (q : List K)
-      → p ≡ t.prefix → v ≡ t.value → forest (map tree old) ≡ t.children → u ≡ node p v (forest (map tree new))
-      → IsSolid t.value t.children → rest ≡ y ∷ q → length new ≡ length old → AreChildren cmp (forest (map tree new))
-      → IsUpdated cmp keeps rest value (lookup_in cmp (forest (map tree old))) (lookup_in cmp (forest (map tree new)))
-      → Inserted cmp keeps t (t.prefix ++ rest) value t.prefix u
+        → p ≡ t.prefix → v ≡ t.value → forest (map tree old) ≡ t.children → u ≡ node p v (forest (map tree new))
+        → IsSolid t.value t.children → rest ≡ y ∷ q → length new ≡ length old → AreChildren cmp (forest (map tree new))
+        → IsUpdated cmp keeps rest value (lookup_in cmp (forest (map tree old))) (lookup_in cmp (forest (map tree new)))
+        → Inserted cmp keeps t (t.prefix ++ rest) value t.prefix u
     child_grown t u p v old new rest value y q a b c e solid key n kids w =
         subst (λ u. Inserted cmp keeps t (t.prefix ++ rest) value t.prefix u) (sym (e ∙ node-equal p t.prefix v t.value (forest (map tree new)) (forest (map tree new)) a b refl))
         (subst (λ k. Inserted cmp keeps t (t.prefix ++ k) value t.prefix (node t.prefix t.value (forest (map tree new)))) (sym key)
         (children_changed t y q value (forest (map tree new)) (solid_length tree t.value old new (sym n) (subst (IsSolid t.value) (sym c) solid)) kids
-          (subst (λ h. IsUpdated cmp keeps (y ∷ q) value (lookup_in cmp h) (lookup_in cmp (forest (map tree new)))) c
-          (subst (λ k. IsUpdated cmp keeps k value (lookup_in cmp (forest (map tree old))) (lookup_in cmp (forest (map tree new)))) key w))))
+        (subst (λ h. IsUpdated cmp keeps (y ∷ q) value (lookup_in cmp h) (lookup_in cmp (forest (map tree new)))) c
+        (subst (λ k. IsUpdated cmp keeps k value (lookup_in cmp (forest (map tree old))) (lookup_in cmp (forest (map tree new)))) key w))))
 
     -- children that stayed alike
     pub parts_alike : (t u : Tree K V) (p : List K) (v : Option V) (old new : List T)
-      → p ≡ t.prefix → v ≡ t.value → forest (map tree old) ≡ t.children → u ≡ node p v (forest (map tree new)) → IsAlikeIn keeps (forest (map tree old)) (forest (map tree new)) → IsAlike keeps t u
+        → p ≡ t.prefix → v ≡ t.value → forest (map tree old) ≡ t.children → u ≡ node p v (forest (map tree new)) → IsAlikeIn keeps (forest (map tree old)) (forest (map tree new)) → IsAlike keeps t u
     parts_alike t u p v old new a b c e alike =
         subst (λ u. IsAlike keeps t u) (sym (e ∙ node-equal p t.prefix v t.value (forest (map tree new)) (forest (map tree new)) a b refl))
         (refl, kept_itself keeps r t.value, subst (λ f. IsAlikeIn keeps f (forest (map tree new))) c alike)
 
     -- and then the tree is canonical
     pub parts_canonical : (t : Tree K V) (p : List K) (v : Option V) (old new : List T)
-      → p ≡ t.prefix → v ≡ t.value → forest (map tree old) ≡ t.children → IsCanonical cmp t → IsAlikeIn keeps (forest (map tree old)) (forest (map tree new)) → IsCanonical cmp (node p v (forest (map tree new)))
+        → p ≡ t.prefix → v ≡ t.value → forest (map tree old) ≡ t.children → IsCanonical cmp t → IsAlikeIn keeps (forest (map tree old)) (forest (map tree new)) → IsCanonical cmp (node p v (forest (map tree new)))
     parts_canonical t p v old new a b c canonical alike =
         alike_canonical keeps cmp p v v (forest (map tree old)) (forest (map tree new)) (kept_itself keeps r v) alike (rw (a, b, c) canonical)
 
@@ -152,32 +152,32 @@ module _ {K V : Type 0} (cmp : K → K → Ordering) (keeps : V → V → Type 0
 
     -- the half below, put below a new node, reads as before
     split_updated : (t : Tree K V) (n : ℕ) (low : T) (rest : List K) (value : V) (w : Option V) (g : Forest K V) → n < length t.prefix → tree low ≡ node (drop n t.prefix) t.value t.children
-      → IsUpdated cmp keeps rest value (lookup cmp (node [] None (forest (map tree (low ∷ []))))) (lookup cmp (node [] w g))
-      → IsUpdated cmp keeps (take n t.prefix ++ rest) value (lookup cmp t) (lookup cmp (node (take n t.prefix) w g))
+        → IsUpdated cmp keeps rest value (lookup cmp (node [] None (forest (map tree (low ∷ []))))) (lookup cmp (node [] w g))
+        → IsUpdated cmp keeps (take n t.prefix ++ rest) value (lookup cmp t) (lookup cmp (node (take n t.prefix) w g))
     split_updated t n low rest value w g h e u =
         updated_behind cmp keeps rest value (drop n t.prefix) t.value w t.children g
-          (updated_split cmp keeps rest value (drop n t.prefix) t.value t.children (lookup cmp (node [] w g)) (omega (arith, length-drop {A = K} n t.prefix))
-            (subst (λ l. IsUpdated cmp keeps rest value (lookup cmp (node [] None (grow l.prefix l.value l.children bare))) (lookup cmp (node [] w g))) e u))
-          (take n t.prefix) t.prefix (take n t.prefix ++ rest) (sym (take-append-drop n t.prefix)) refl
+        (updated_split cmp keeps rest value (drop n t.prefix) t.value t.children (lookup cmp (node [] w g)) (omega (arith, length-drop {A = K} n t.prefix))
+        (subst (λ l. IsUpdated cmp keeps rest value (lookup cmp (node [] None (grow l.prefix l.value l.children bare))) (lookup cmp (node [] w g))) e u))
+        (take n t.prefix) t.prefix (take n t.prefix ++ rest) (sym (take-append-drop n t.prefix)) refl
 
     -- a new node of the value above the half below
     pub top_made : (t u : Tree K V) (n : ℕ) (p : List K) (low : T) (new : List T) (value : V)
-      → n < length t.prefix → IsCanonical cmp t → p ≡ take n t.prefix → tree low ≡ node (drop n t.prefix) t.value t.children → new ≡ low ∷ [] → u ≡ node p (Some value) (forest (map tree new))
-      → Inserted cmp keeps t (take n t.prefix) value (take n t.prefix) u
+        → n < length t.prefix → IsCanonical cmp t → p ≡ take n t.prefix → tree low ≡ node (drop n t.prefix) t.value t.children → new ≡ low ∷ [] → u ≡ node p (Some value) (forest (map tree new))
+        → Inserted cmp keeps t (take n t.prefix) value (take n t.prefix) u
     top_made t u n p low new value h canonical a e l d =
         let f = forest (map tree (low ∷ [])) in
         subst (λ u. Inserted cmp keeps t (take n t.prefix) value (take n t.prefix) u)
-          (sym (d ∙ node-equal p (take n t.prefix) (Some value) (Some value) (forest (map tree new)) f a refl (ap (λ l. forest (map tree l)) l)))
+        (sym (d ∙ node-equal p (take n t.prefix) (Some value) (Some value) (forest (map tree new)) f a refl (ap (λ l. forest (map tree l)) l)))
         (record {
           updated = subst (λ k. IsUpdated cmp keeps k value (lookup cmp t) (lookup cmp (node (take n t.prefix) (Some value) f))) (append-nil (take n t.prefix))
-            (split_updated t n low [] value (Some value) f h e (updated_value cmp keeps r value None f));
+              (split_updated t n low [] value (Some value) f h e (updated_value cmp keeps r value None f));
           branch = record { prefix = refl; solid = tt; children = low_children t n low h canonical e };
         })
 
     -- a new node above the half below and a leaf beside it
     pub pair_made : (t u : Tree K V) (n : ℕ) (rest : List K) (i : ℕ) (p : List K) (low leaf : T) (new : List T) (value : V)
-      → SplitsAt cmp t n rest i → IsCanonical cmp t → p ≡ take n t.prefix → tree low ≡ node (drop n t.prefix) t.value t.children → tree leaf ≡ made rest (Some value) [] → new ≡ insert (low ∷ []) i leaf → u ≡ node p None (forest (map tree new))
-      → Inserted cmp keeps t (take n t.prefix ++ rest) value (take n t.prefix) u
+        → SplitsAt cmp t n rest i → IsCanonical cmp t → p ≡ take n t.prefix → tree low ≡ node (drop n t.prefix) t.value t.children → tree leaf ≡ made rest (Some value) [] → new ≡ insert (low ∷ []) i leaf → u ≡ node p None (forest (map tree new))
+        → Inserted cmp keeps t (take n t.prefix ++ rest) value (take n t.prefix) u
     pair_made t u n rest i p low leaf new value s canonical a e b l d =
         let f = forest (map tree (low ∷ [])) in
         let g = forest (map tree (insert (low ∷ []) i leaf)) in
@@ -186,11 +186,11 @@ module _ {K V : Type 0} (cmp : K → K → Ordering) (keeps : V → V → Type 0
         let gap : IsGapAt cmp f y i = subst (λ l. IsGapAt cmp (grow l.prefix l.value l.children bare) y i) (sym e) s.fits.gap in
         let one : tree leaf ≡ node (y ∷ q) (Some value) bare = b ∙ ap (λ k. node k (Some value) bare) s.fits.key_is in
         subst (λ u. Inserted cmp keeps t (take n t.prefix ++ rest) value (take n t.prefix) u)
-          (sym (d ∙ node-equal p (take n t.prefix) None None (forest (map tree new)) g a refl (ap (λ l. forest (map tree l)) l)))
+        (sym (d ∙ node-equal p (take n t.prefix) None None (forest (map tree new)) g a refl (ap (λ l. forest (map tree l)) l)))
         (record {
           updated = split_updated t n low rest value None g s.within e
-            (subst (λ k. IsUpdated cmp keeps k value (lookup cmp (node [] None f)) (lookup cmp (node [] None g))) (sym s.fits.key_is)
-            (updated_children cmp keeps r y q value None None f g tt (updated_insert cmp keeps o r tree (low ∷ []) i leaf y q value one gap)));
+              (subst (λ k. IsUpdated cmp keeps k value (lookup cmp (node [] None f)) (lookup cmp (node [] None g))) (sym s.fits.key_is)
+              (updated_children cmp keeps r y q value None None f g tt (updated_insert cmp keeps o r tree (low ∷ []) i leaf y q value one gap)));
           branch = record {
             prefix = refl;
             solid = pair_solid tree low [] i leaf;
@@ -220,7 +220,7 @@ module _ {K V : Type 0} (cmp : K → K → Ordering) (keeps : V → V → Type 0
       pub leads_agree : (child : T) → child ≡ get_or kept i child → Agree cmp (tree child).prefix rest 1
       leads_agree child is =
           agree_one cmp (tree child).prefix rest leads.begins.here leads.first leads.others
-            (ap (λ c. slice_get (tree c).prefix 0) is ∙ sym (child_first-map cmp tree kept i child leads_within) ∙ leads_kept) leads.begins.equal leads.key_is
+          (ap (λ c. slice_get (tree c).prefix 0) is ∙ sym (child_first-map cmp tree kept i child leads_within) ∙ leads_kept) leads.begins.equal leads.key_is
 
       -- the children that were copied are canonical
       pub kept_children : AreChildren cmp (forest (map tree kept))
@@ -243,10 +243,10 @@ module _ {K V : Type 0} (cmp : K → K → Ordering) (keeps : V → V → Type 0
         list_updated u =
             rw (leads.key_is, set_is)
             (updated_alike cmp keeps trans (leads.first ∷ leads.others) value (lookup_in cmp (forest (map tree old))) (lookup_in cmp (forest (map tree kept))) (lookup_in cmp (forest (map tree (set kept i item))))
-              (alike_lookup keeps cmp (forest (map tree old)) (forest (map tree kept)) alike)
-              (updated_set cmp keeps o r tree kept i item child leads.begins.here leads.first leads.others value leads_kept ((Equal-is (cmp leads.begins.here leads.first)).0 leads.begins.equal) kept_children
-                (subst (λ c. IsUpdated cmp keeps (leads.first ∷ leads.others) value (lookup cmp (tree c)) (lookup cmp (tree item))) is
-                (subst (λ k. IsUpdated cmp keeps k value (lookup cmp (tree child)) (lookup cmp (tree item))) leads.key_is u))))
+            (alike_lookup keeps cmp (forest (map tree old)) (forest (map tree kept)) alike)
+            (updated_set cmp keeps o r tree kept i item child leads.begins.here leads.first leads.others value leads_kept ((Equal-is (cmp leads.begins.here leads.first)).0 leads.begins.equal) kept_children
+            (subst (λ c. IsUpdated cmp keeps (leads.first ∷ leads.others) value (lookup cmp (tree c)) (lookup cmp (tree item))) is
+            (subst (λ k. IsUpdated cmp keeps k value (lookup cmp (tree child)) (lookup cmp (tree item))) leads.key_is u))))
 
         -- the trees are canonical children where that one has grown
         pub list_grown : IsGrown cmp 1 (tree child) (tree item) → AreChildren cmp (forest (map tree new))
@@ -256,7 +256,7 @@ module _ {K V : Type 0} (cmp : K → K → Ordering) (keeps : V → V → Type 0
         pub list_alike : IsAlike keeps (tree child) (tree item) → IsAlikeIn keeps (forest (map tree old)) (forest (map tree new))
         list_alike h =
             rw set_is (alike_trans keeps trans (forest (map tree old)) (forest (map tree kept)) (forest (map tree (set kept i item))) alike
-              (alike_set keeps r tree kept i item child (subst (λ c. IsAlike keeps (tree c) (tree item)) is h)))
+            (alike_set keeps r tree kept i item child (subst (λ c. IsAlike keeps (tree c) (tree item)) is h)))
 
 module _ {K V : Type 0} (cmp : K → K → Ordering) (keeps : V → V → Type 0) where
   -- there is nothing behind a node with neither value nor children

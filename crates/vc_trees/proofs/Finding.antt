@@ -27,7 +27,7 @@ module _ {K V : Type 0} (cmp : K → K → Ordering) where
 
   -- the first of these trees begins with x: the others do not
   first_found : IsTotalOrder cmp → (p : List K) (v : Option V) (kids others : Forest K V) (y x : K) (rest : List K) → AreChildren cmp (grow p v kids others) → slice_get p 0 ≡ Some y → cmp y x ≡ Equal
-    → lookup_in cmp (grow p v kids others) (x ∷ rest) ≡ lookup cmp (node p v kids) (x ∷ rest)
+      → lookup_in cmp (grow p v kids others) (x ∷ rest) ≡ lookup cmp (node p v kids) (x ∷ rest)
   first_found o [] v kids others y x rest a e h = absurd a
   first_found o (z ∷ p) v kids others y x rest a e h =
       let k : z ≡ y = cc in
@@ -36,7 +36,7 @@ module _ {K V : Type 0} (cmp : K → K → Ordering) where
 
   -- a later one begins with x: the first does not
   first_skipped : IsTotalOrder cmp → (p : List K) (v : Option V) (kids others : Forest K V) (i : ℕ) (y x : K) (rest : List K) → AreChildren cmp (grow p v kids others) → child_first others i ≡ Some y → cmp y x ≡ Equal
-    → lookup cmp (node p v kids) (x ∷ rest) ≡ None
+      → lookup cmp (node p v kids) (x ∷ rest) ≡ None
   first_skipped o [] v kids others i y x rest a e h = absurd a
   first_skipped o (z ∷ p) v kids others i y x rest a e h =
       let l : cmp z x ≡ Less = sym (alike_right o y x z h) ∙ above_at cmp z others i y a.2 e in
@@ -60,7 +60,7 @@ module _ {K V : Type 0} (cmp : K → K → Ordering) where
 
     -- the child that begins with x binds what the list binds of the keys that begin so
     pub lookup_in-at : IsTotalOrder cmp → (xs : List T) (i : ℕ) (d : T) (y x : K) (rest : List K) → AreChildren cmp (forest (map tree xs)) → child_first (forest (map tree xs)) i ≡ Some y → cmp y x ≡ Equal
-      → lookup_in cmp (forest (map tree xs)) (x ∷ rest) ≡ lookup cmp (tree (get_or xs i d)) (x ∷ rest)
+        → lookup_in cmp (forest (map tree xs)) (x ∷ rest) ≡ lookup cmp (tree (get_or xs i d)) (x ∷ rest)
     lookup_in-at o [] i d y x rest a e h = none_some y e
     lookup_in-at o (t ∷ ts) zero d y x rest a e h = first_found o (tree t).prefix (tree t).value (tree t).children (forest (map tree ts)) y x rest a e h
     lookup_in-at o (t ∷ ts) (suc i) d y x rest a e h =

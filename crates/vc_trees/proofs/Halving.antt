@@ -119,15 +119,15 @@ module _ {K V : Type 0} (cmp : K → K → Ordering) where
 
     -- with nothing left to search, x has its place there
     gap_at : (xs : List T) (x : K) (i : ℕ) → AreChildren cmp (forest (map tree xs)) → i ≤ length xs
-      → ((j : ℕ) → j < i → (y : K) → child_first (forest (map tree xs)) j ≡ Some y → cmp y x ≡ Less)
-      → ((j : ℕ) → i ≤ j → (y : K) → child_first (forest (map tree xs)) j ≡ Some y → cmp x y ≡ Less)
-      → IsGapAt cmp (forest (map tree xs)) x i
+        → ((j : ℕ) → j < i → (y : K) → child_first (forest (map tree xs)) j ≡ Some y → cmp y x ≡ Less)
+        → ((j : ℕ) → i ≤ j → (y : K) → child_first (forest (map tree xs)) j ≡ Some y → cmp x y ≡ Less)
+        → IsGapAt cmp (forest (map tree xs)) x i
     gap_at xs x zero a h l u = all_above x (forest (map tree xs)) a (λ j y e. u j (omega arith) y e)
     gap_at [] x (suc i) a h l u = absurd (omega arith)
     gap_at (t ∷ ts) x (suc i) a h l u =
         gap_more (tree t).prefix (tree t).value (tree t).children (forest (map tree ts)) x i a (λ y e. l 0 (omega arith) y e)
         (gap_at ts x i (rest_children (tree t).prefix (tree t).value (tree t).children (forest (map tree ts)) a) (omega arith)
-          (λ j b y e. l (suc j) (omega arith) y e) (λ j b y e. u (suc j) (omega arith) y e))
+        (λ j b y e. l (suc j) (omega arith) y e) (λ j b y e. u (suc j) (omega arith) y e))
 
     pub halved : (xs : List T) (x : K) (low high : ℕ) → AreChildren cmp (forest (map tree xs)) → IsHalving xs x low high → high ≤ low → IsGapAt cmp (forest (map tree xs)) x low
     halved xs x low high a s h =

@@ -19,7 +19,7 @@ get_at (y ∷ xs) (suc i) x h e = get_at xs i x (omega arith) e
 module _ {K : Type 0} (cmp : K → K → Ordering) where
   -- keys that agree up to a place, and there too
   same_more : (p k : List K) (n : ℕ) (x y : K) → same_key cmp (take n p) (take n k) ≡ true → slice_get p n ≡ Some x → slice_get k n ≡ Some y → cmp x y ≡ Equal
-    → same_key cmp (take (suc n) p) (take (suc n) k) ≡ true
+      → same_key cmp (take (suc n) p) (take (suc n) k) ≡ true
   same_more [] k n x y s d e h = none_some x d
   same_more (a ∷ p) [] n x y s d e h = none_some y e
   same_more (a ∷ p) (b ∷ k) zero x y s d e h = let f : a ≡ x = cc in let g : b ≡ y = cc in rw (f, g, h) refl

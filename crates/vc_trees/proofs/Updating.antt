@@ -44,7 +44,7 @@ module _ {K V : Type 0} (cmp : K → K → Ordering) (keeps : V → V → Type 0
     updated_behind p q key d e = record {
       at = λ k s. at_left (behind cmp p k) (sym (same-append cmp p rest k) ∙ ap (λ l. same_key cmp l k) (sym e) ∙ s);
       others = λ k s.
-        subst (λ b. IsKept keeps (node_lookup v (lookup_in cmp f) b) (node_lookup w (lookup_in cmp g) (behind cmp p k)))
+          subst (λ b. IsKept keeps (node_lookup v (lookup_in cmp f) b) (node_lookup w (lookup_in cmp g) (behind cmp p k)))
           (sym (ap (λ l. behind cmp l k) d ∙ behind-append cmp p tail k))
           (others_left (behind cmp p k) (sym (same-append cmp p rest k) ∙ ap (λ l. same_key cmp l k) (sym e) ∙ s));
     }
@@ -59,19 +59,21 @@ module _ {K V : Type 0} (cmp : K → K → Ordering) (keeps : V → V → Type 0
         at : (k : List K) → same_key cmp [] k ≡ true → lookup cmp (node [] (Some value) f) k ≡ Some value
         at [] s = refl
         at (x ∷ k) s = absurd (true≢false (sym s))
+
         others : (k : List K) → same_key cmp [] k ≡ false → IsKept keeps (lookup cmp (node [] v f) k) (lookup cmp (node [] (Some value) f) k)
         others [] s = absurd (true≢false s)
         others (x ∷ k) s = kept_refl keeps r (lookup_in cmp f (x ∷ k))
 
     -- a node's children are changed
     pub updated_children : (y : K) (q : List K) (value : V) (v w : Option V) (f g : Forest K V) → IsKept keeps v w
-      → IsUpdated cmp keeps (y ∷ q) value (lookup_in cmp f) (lookup_in cmp g)
-      → IsUpdated cmp keeps (y ∷ q) value (lookup cmp (node [] v f)) (lookup cmp (node [] w g))
+        → IsUpdated cmp keeps (y ∷ q) value (lookup_in cmp f) (lookup_in cmp g)
+        → IsUpdated cmp keeps (y ∷ q) value (lookup cmp (node [] v f)) (lookup cmp (node [] w g))
     updated_children y q value v w f g kept u = record { at = at; others = others }
       where
         at : (k : List K) → same_key cmp (y ∷ q) k ≡ true → lookup cmp (node [] w g) k ≡ Some value
         at [] s = absurd (true≢false (sym s))
         at (x ∷ k) s = u.at (x ∷ k) s
+
         others : (k : List K) → same_key cmp (y ∷ q) k ≡ false → IsKept keeps (lookup cmp (node [] v f) k) (lookup cmp (node [] w g) k)
         others [] s = kept
         others (x ∷ k) s = u.others (x ∷ k) s
@@ -83,8 +85,8 @@ module _ {K V : Type 0} (cmp : K → K → Ordering) (keeps : V → V → Type 0
 
   -- a change of a node that was put below another
   pub updated_split : (rest : List K) (value : V) (p : List K) (v : Option V) (f : Forest K V) (g : List K → Option V) → 0 < length p
-    → IsUpdated cmp keeps rest value (lookup cmp (node [] None (grow p v f bare))) g
-    → IsUpdated cmp keeps rest value (lookup cmp (node p v f)) g
+      → IsUpdated cmp keeps rest value (lookup cmp (node [] None (grow p v f bare))) g
+      → IsUpdated cmp keeps rest value (lookup cmp (node p v f)) g
   updated_split rest value [] v f g h u = absurd (omega arith)
   updated_split rest value (x ∷ p) v f g h u = record {
     at = u.at;
@@ -118,13 +120,13 @@ module _ {K V : Type 0} (cmp : K → K → Ordering) (keeps : V → V → Type 0
     insert_first y q value f = record {
       at = λ k s. ap (λ m. or_else m (lookup_in cmp f k)) (lookup-leaf (y ∷ q) k value ∙ ap (λ b. cond b (Some value) None) s);
       others = λ k s.
-        subst (λ m. IsKept keeps (lookup_in cmp f k) (or_else m (lookup_in cmp f k))) (sym (lookup-leaf (y ∷ q) k value ∙ ap (λ b. cond b (Some value) None) s)) (kept_refl keeps r (lookup_in cmp f k));
+          subst (λ m. IsKept keeps (lookup_in cmp f k) (or_else m (lookup_in cmp f k))) (sym (lookup-leaf (y ∷ q) k value ∙ ap (λ b. cond b (Some value) None) s)) (kept_refl keeps r (lookup_in cmp f k));
     }
 
     -- a change of the later trees, which begin above the first
     change_later : (p : List K) (v : Option V) (kids rest more : Forest K V) (y : K) (q : List K) (value : V) → ((z : K) → slice_get p 0 ≡ Some z → cmp z y ≡ Less) → (slice_get p 0 ≡ None → ⊥)
-      → IsUpdated cmp keeps (y ∷ q) value (lookup_in cmp rest) (lookup_in cmp more)
-      → IsUpdated cmp keeps (y ∷ q) value (lookup_in cmp (grow p v kids rest)) (lookup_in cmp (grow p v kids more))
+        → IsUpdated cmp keeps (y ∷ q) value (lookup_in cmp rest) (lookup_in cmp more)
+        → IsUpdated cmp keeps (y ∷ q) value (lookup_in cmp (grow p v kids rest)) (lookup_in cmp (grow p v kids more))
     change_later [] v kids rest more y q value l n u = absurd (n refl)
     change_later (z ∷ p) v kids rest more y q value l n u = record {
       at = λ k s. ap (λ m. or_else m (lookup_in cmp more k)) (misses o z p v kids y q k (l z refl) s) ∙ u.at k s;
@@ -133,7 +135,7 @@ module _ {K V : Type 0} (cmp : K → K → Ordering) (keeps : V → V → Type 0
 
     -- one more leaf of a list, at the place of its key
     pub updated_insert : {T : Type 0} (tree : T → Tree K V) (ts : List T) (i : ℕ) (item : T) (y : K) (q : List K) (value : V) → tree item ≡ node (y ∷ q) (Some value) bare → IsGapAt cmp (forest (map tree ts)) y i
-      → IsUpdated cmp keeps (y ∷ q) value (lookup_in cmp (forest (map tree ts))) (lookup_in cmp (forest (map tree (insert ts i item))))
+        → IsUpdated cmp keeps (y ∷ q) value (lookup_in cmp (forest (map tree ts))) (lookup_in cmp (forest (map tree (insert ts i item))))
     updated_insert tree ts zero item y q value e gap =
         subst (λ t. IsUpdated cmp keeps (y ∷ q) value (lookup_in cmp (forest (map tree ts))) (lookup_in cmp (grow t.prefix t.value t.children (forest (map tree ts))))) (sym e)
         (insert_first y q value (forest (map tree ts)))
@@ -142,15 +144,15 @@ module _ {K V : Type 0} (cmp : K → K → Ordering) (keeps : V → V → Type 0
         later (tree t).prefix (tree t).value (tree t).children (forest (map tree ts)) (forest (map tree (insert ts i item))) gap (updated_insert tree ts i item y q value e)
       where
         later : (p : List K) (v : Option V) (kids rest more : Forest K V) → IsGapAt cmp (grow p v kids rest) y (suc i)
-          → (IsGapAt cmp rest y i → IsUpdated cmp keeps (y ∷ q) value (lookup_in cmp rest) (lookup_in cmp more))
-          → IsUpdated cmp keeps (y ∷ q) value (lookup_in cmp (grow p v kids rest)) (lookup_in cmp (grow p v kids more))
+            → (IsGapAt cmp rest y i → IsUpdated cmp keeps (y ∷ q) value (lookup_in cmp rest) (lookup_in cmp more))
+            → IsUpdated cmp keeps (y ∷ q) value (lookup_in cmp (grow p v kids rest)) (lookup_in cmp (grow p v kids more))
         later [] v kids rest more gap u = absurd gap
         later (z ∷ p) v kids rest more gap u = change_later (z ∷ p) v kids rest more y q value (λ w e. let k : w ≡ z = cc in ap (λ m. cmp m y) k ∙ gap.0) (λ n. none_some z (sym n)) (u gap.1)
 
     -- one tree of a list is changed, which begins as the key does
     pub updated_set : {T : Type 0} (tree : T → Tree K V) (ts : List T) (i : ℕ) (item d : T) (x y : K) (q : List K) (value : V) → child_first (forest (map tree ts)) i ≡ Some x → cmp x y ≡ Equal → AreChildren cmp (forest (map tree ts))
-      → IsUpdated cmp keeps (y ∷ q) value (lookup cmp (tree (get_or ts i d))) (lookup cmp (tree item))
-      → IsUpdated cmp keeps (y ∷ q) value (lookup_in cmp (forest (map tree ts))) (lookup_in cmp (forest (map tree (set ts i item))))
+        → IsUpdated cmp keeps (y ∷ q) value (lookup cmp (tree (get_or ts i d))) (lookup cmp (tree item))
+        → IsUpdated cmp keeps (y ∷ q) value (lookup_in cmp (forest (map tree ts))) (lookup_in cmp (forest (map tree (set ts i item))))
     updated_set tree [] i item d x y q value e h a u = none_some x e
     updated_set tree (t ∷ ts) zero item d x y q value e h a u = record {
       at = λ k s. ap (λ m. or_else m (lookup_in cmp (forest (map tree ts)) k)) (u.at k s);
@@ -158,13 +160,14 @@ module _ {K V : Type 0} (cmp : K → K → Ordering) (keeps : V → V → Type 0
     }
     updated_set tree (t ∷ ts) (suc i) item d x y q value e h a u =
         change_later (tree t).prefix (tree t).value (tree t).children (forest (map tree ts)) (forest (map tree (set ts i item))) y q value
-          (λ z f. below (tree t).prefix (tree t).value (tree t).children (forest (map tree ts)) z a f e)
-          (λ n. some (tree t).prefix (tree t).value (tree t).children (forest (map tree ts)) a n)
-          (updated_set tree ts i item d x y q value e h (rest_children cmp (tree t).prefix (tree t).value (tree t).children (forest (map tree ts)) a) u)
+        (λ z f. below (tree t).prefix (tree t).value (tree t).children (forest (map tree ts)) z a f e)
+        (λ n. some (tree t).prefix (tree t).value (tree t).children (forest (map tree ts)) a n)
+        (updated_set tree ts i item d x y q value e h (rest_children cmp (tree t).prefix (tree t).value (tree t).children (forest (map tree ts)) a) u)
       where
         below : (p : List K) (v : Option V) (kids rest : Forest K V) (z : K) → AreChildren cmp (grow p v kids rest) → slice_get p 0 ≡ Some z → child_first rest i ≡ Some x → cmp z y ≡ Less
         below [] v kids rest z a f e = none_some z f
         below (w ∷ p) v kids rest z a f e = let k : z ≡ w = cc in ap (λ m. cmp m y) k ∙ sym (alike_right o x y w h) ∙ above_at cmp w rest i x a.2 e
+
         some : (p : List K) (v : Option V) (kids rest : Forest K V) → AreChildren cmp (grow p v kids rest) → slice_get p 0 ≡ None → ⊥
         some [] v kids rest a n = a
         some (w ∷ p) v kids rest a n = none_some w (sym n)

@@ -2,11 +2,12 @@
 --     IsBranch cmp p t        t has the prefix p and may be a child if p is not empty
 --     IsGrown cmp n t u        u goes on as t for n components, and may be a child if n is not 0
 --     Adds keeps tree old i item new        the new list is the old one, kept, with the item put at place i
-use Rattle.std.specs.Prelude.{◌≡◌, ℕ, List, take, insert, map}
+use Rattle.std.specs.Prelude.{◌≡◌, ℕ, List, take, insert}
 use Rattle.std.specs.declared.cmp.Ordering.{Ordering}
-use Rattle.vc_trees.specs.Tree.{Tree, forest}
+use Rattle.vc_trees.specs.Tree.{Tree}
 use Rattle.vc_trees.specs.Canonical.{IsSolid, AreChildren}
 use Rattle.vc_trees.specs.Same.{IsAlikeIn}
+use Rattle.vc_trees.specs.Children.{seen}
 
 module _ {K V : Type 0} where
   -- a node with this prefix, a value or at least two children, and canonical children
@@ -22,7 +23,8 @@ module _ {K V : Type 0} where
     pub children : AreChildren cmp u.children
 
   -- the list is an old one's alike, with one more tree at place i
-  pub record Adds (keeps : V → V → Type 0) {T : Type 0} (tree : T → Tree K V) (old : List T) (i : ℕ) (item : T) (new : List T) : Type 0 where
+  pub record Adds (keeps : V → V → Type 0) {T : Type 0} (tree : T → Tree K V)
+      (old : List T) (i : ℕ) (item : T) (new : List T) : Type 0 where
     pub kept : List T
-    pub alike : IsAlikeIn keeps (forest (map tree old)) (forest (map tree kept))
+    pub alike : IsAlikeIn keeps (seen tree old) (seen tree kept)
     pub is : new ≡ insert kept i item

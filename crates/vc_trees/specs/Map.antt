@@ -2,6 +2,7 @@
 --     lookup cmp t k, lookup_in cmp f k        the value of a key in a tree, and in a list of trees
 --     IsEqualMap matches f g        at each key both maps bind nothing, or both bind values that match
 --     IsUpdated cmp keeps key value f g        g binds the key to the value, and keeps what f binds at every other key
+--     IsInserted cmp keeps key value t u, HaveEqualMaps cmp keeps t u        the same of the maps of two trees
 use Rattle.std.specs.Prelude.{◌≡◌, List, [], ◌∷◌, Option, Some, None, IsTrue, IsFalse}
 use Rattle.std.specs.declared.cmp.Ordering.{Ordering}
 use Rattle.vc_trees.specs.Key.{same_key, behind}
@@ -37,3 +38,12 @@ module _ {K V : Type 0} (cmp : K → K → Ordering) where
 -- at each key both maps bind nothing, or both bind values that match
 abbrev pub IsEqualMap : {K V : Type 0} → (V → V → Type 0) → (List K → Option V) → (List K → Option V) → Type 0
 IsEqualMap {K} matches f g = (k : List K) → IsKept matches (f k) (g k)
+
+module _ {K V : Type 0} (cmp : K → K → Ordering) (keeps : V → V → Type 0) where
+  -- the tree u binds the key to the value, and keeps what the tree t binds at every other key
+  abbrev pub IsInserted : List K → V → Tree K V → Tree K V → Type 0
+  IsInserted key value t u = IsUpdated cmp keeps key value (lookup cmp t) (lookup cmp u)
+
+  -- at each key both trees bind nothing, or the second binds what the first does, kept
+  abbrev pub HaveEqualMaps : Tree K V → Tree K V → Type 0
+  HaveEqualMaps t u = IsEqualMap keeps (lookup cmp t) (lookup cmp u)

@@ -55,4 +55,3 @@ module _ {K V : Type 0} (is_clone : V → V → Type 0) where
   pub kept_alike : (xs ys : List (Tree K V)) → (ys ≡ xs) ⊎ AllZip (IsSnapshot is_clone) xs ys → IsAlikeIn (Copies is_clone) (forest (map (λ t. t) xs)) (forest (map (λ t. t) ys))
   kept_alike xs ys (inl e) = alike_same (Copies is_clone) (λ v. itself) xs ys e
   kept_alike xs ys (inr h) = snapshots_alike xs ys h
-

@@ -2,11 +2,11 @@
 
 ghost use Rattle.std.specs.Prelude.{◌≡◌, List, map, refl};
 ghost use Rattle.std.proofs.Common.{◌∙◌};
-ghost use Rattle.vc_trees.specs.Tree.{forest, made, no_tree};
+ghost use Rattle.vc_trees.specs.Tree.{made, no_tree};
 ghost use Rattle.vc_trees.specs.Value.{Copies, itself, copies_trans};
 ghost use Rattle.vc_trees.specs.Canonical.{IsCanonical};
 ghost use Rattle.vc_trees.specs.Same.{IsAlikeIn};
-ghost use Rattle.vc_trees.specs.Children.{listed};
+ghost use Rattle.vc_trees.specs.Children.{listed, seen};
 ghost use Rattle.vc_trees.specs.Snapshot.{same_copies, alike_same, kept_alike as copies_alike};
 
 use crate::radix_tree::children::{ChildList, Fragment, OwnedChildren, Parts, SharedChildren};
@@ -45,13 +45,20 @@ pub trait Build<K: TKey, V: TValue>: AbstractRadixTree<K, V> + Drop {
     fn take_apart(self, seal: Seal) -> Parts<Self::Prefix, V, Self::Children>
         ensures prefix { Self.Prefix.items result.prefix ≡ (Self.tree self).prefix }
         ensures value { result.value ≡ (Self.tree self).value }
-        ensures children { forest (map Self.tree (listed Self.Children.items result.children)) ≡ (Self.tree self).children }
+        ensures children { seen Self.tree (listed Self.Children.items result.children) ≡ (Self.tree self).children }
         ensures canonical { IsCanonical K.cmp (Self.tree self) };
 
     /// The tree of these parts.
-    fn assemble(prefix: Self::Prefix, value: Option<V>, children: Option<Self::Children>, seal: Seal) -> Self
-        requires { IsCanonical K.cmp (made (Self.Prefix.items prefix) value (map Self.tree (listed Self.Children.items children))) }
-        ensures { Self.tree result ≡ made (Self.Prefix.items prefix) value (map Self.tree (listed Self.Children.items children)) };
+    fn assemble(
+        prefix: Self::Prefix,
+        value: Option<V>,
+        children: Option<Self::Children>,
+        seal: Seal,
+    ) -> Self
+        requires { IsCanonical K.cmp
+            (made (Self.Prefix.items prefix) value (map Self.tree (listed Self.Children.items children))) }
+        ensures { Self.tree result
+            ≡ made (Self.Prefix.items prefix) value (map Self.tree (listed Self.Children.items children)) };
 
     ghost keeps_refl: { (v : V) → keeps v v };
 
@@ -59,7 +66,8 @@ pub trait Build<K: TKey, V: TValue>: AbstractRadixTree<K, V> + Drop {
 
     ghost keeps_copies: { (v w : V) → keeps v w → Copies V.is_clone v w };
 
-    ghost kept_alike: { (xs ys : List Self) → Self.Children.kept xs ys → IsAlikeIn keeps (forest (map Self.tree xs)) (forest (map Self.tree ys)) };
+    ghost kept_alike: { (xs ys : List Self) → Self.Children.kept xs ys
+        → IsAlikeIn keeps (seen Self.tree xs) (seen Self.tree ys) };
 }
 
 impl<K: TKey + MadeWith<Global>, V: TValue> Build<K, V> for RadixTree<K, V> {
@@ -93,7 +101,8 @@ impl<K: TKey + MadeWith<Global>, V: TValue> Build<K, V> for RadixTree<K, V> {
         children: Option<OwnedChildren<RadixTree<K, V>>>,
         seal: Seal,
     ) -> Self
-        requires { IsCanonical K.cmp (made prefix.items value (map (λ t. t) (listed (λ own. own.list.items) children))) }
+        requires { IsCanonical K.cmp
+            (made prefix.items value (map (λ t. t) (listed (λ own. own.list.items) children))) }
         ensures { result ≡ made prefix.items value (map (λ t. t) (listed (λ own. own.list.items) children)) }
     {
         let _ = seal;
@@ -121,7 +130,10 @@ impl<K: TKey + MadeWith<Global>, V: TValue> Build<K, V> for ArcRadixTree<K, V> {
         ArcRadixTree::empty(alloc)
     }
 
-    fn take_apart(self, seal: Seal) -> Parts<SmallVec<K, 16>, V, SharedChildren<ArcRadixTree<K, V>>> {
+    fn take_apart(
+        self,
+        seal: Seal,
+    ) -> Parts<SmallVec<K, 16>, V, SharedChildren<ArcRadixTree<K, V>>> {
         let _ = seal;
         self.into_parts()
     }
@@ -132,7 +144,8 @@ impl<K: TKey + MadeWith<Global>, V: TValue> Build<K, V> for ArcRadixTree<K, V> {
         children: Option<SharedChildren<ArcRadixTree<K, V>>>,
         seal: Seal,
     ) -> Self
-        requires { IsCanonical K.cmp (made prefix.items value (map (λ t. t) (listed (λ held. held.shared.value.items) children))) }
+        requires { IsCanonical K.cmp
+            (made prefix.items value (map (λ t. t) (listed (λ held. held.shared.value.items) children))) }
         ensures { result ≡ made prefix.items value (map (λ t. t) (listed (λ held. held.shared.value.items) children)) }
     {
         let _ = seal;

@@ -26,7 +26,10 @@ fn rest_behind<'k, K: Ord>(prefix: &[K], key: &'k [K]) -> Option<&'k [K]>
 }
 
 /// The value that the tree binds the key to.
-pub(crate) fn get<'a, K: TKey, V: TValue, T: AbstractRadixTree<K, V>>(tree: &'a T, key: &[K]) -> Option<&'a V>
+pub(crate) fn get<'a, K: TKey, V: TValue, T: AbstractRadixTree<K, V>>(
+    tree: &'a T,
+    key: &[K],
+) -> Option<&'a V>
     ensures { option_copied result ≡ lookup K.cmp (T.tree tree.now) key.now }
 {
     let mut node = tree;

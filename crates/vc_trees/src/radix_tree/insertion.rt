@@ -1,11 +1,12 @@
 //! How a key is bound to a value in a tree.
 
-ghost use Rattle.std.specs.Prelude.{◌≡◌, ◌+◌, ◌<◌, ◌≤◌, ◌++◌, [], ◌∷◌, length, map, take, drop, insert as list_insert, vec_len, vec_capacity, Some, IfOk, OnOk, OnErr};
-ghost use Rattle.vc_trees.specs.Tree.{forest, made, node};
-ghost use Rattle.vc_trees.specs.Map.{IsEqualMap, IsUpdated, lookup, lookup_in};
+ghost use Rattle.std.specs.Prelude.{◌≡◌, ◌+◌, ◌<◌, ◌≤◌, ◌++◌, [], length, take, vec_len, vec_capacity, Some, IfOk, OnOk, OnErr};
+ghost use Rattle.std.specs.List.{insert as list_insert};
+ghost use Rattle.vc_trees.specs.Tree.{made, node};
+ghost use Rattle.vc_trees.specs.Map.{HaveEqualMaps, IsInserted, IsUpdated, lookup_in};
 ghost use Rattle.vc_trees.specs.Canonical.{AreChildren, IsCanonical, IsSolid};
 ghost use Rattle.vc_trees.specs.Same.{IsAlike, IsAlikeIn};
-ghost use Rattle.vc_trees.specs.Children.{listed};
+ghost use Rattle.vc_trees.specs.Children.{listed, seen};
 ghost use Rattle.vc_trees.specs.Growth.{IsBranch, IsGrown, Adds};
 ghost use Rattle.vc_trees.specs.Parting.{Agree, SplitsAt};
 ghost use Rattle.vc_trees.specs.Places.{FitsAt, LeadsTo};
@@ -31,7 +32,11 @@ pub(crate) fn leaf<K: TKey, V: TValue, T: Build<K, V>>(alloc: Global, value: V) 
 }
 
 /// The tree that binds this key alone.
-pub(crate) fn single<K: TKey, V: TValue, T: Build<K, V>>(alloc: Global, key: &[K], value: V) -> Result<T, AllocError>
+pub(crate) fn single<K: TKey, V: TValue, T: Build<K, V>>(
+    alloc: Global,
+    key: &[K],
+    value: V,
+) -> Result<T, AllocError>
     ensures { IfOk result (λ one. T.tree one ≡ made key.now (Some value) []) }
 {
     let prefix = T::Prefix::from_slice(alloc, key)?;
@@ -39,9 +44,13 @@ pub(crate) fn single<K: TKey, V: TValue, T: Build<K, V>>(alloc: Global, key: &[K
 }
 
 /// Binds the key to the value.
-pub(crate) fn insert<K: TKey, V: TValue, T: Build<K, V>>(tree: &mut T, key: &[K], value: V) -> Result<(), AllocError>
-    ensures ok { OnOk result (IsUpdated K.cmp T.keeps key.now value (lookup K.cmp (T.tree tree.old)) (lookup K.cmp (T.tree tree.new))) }
-    ensures err { OnErr result (IsEqualMap T.keeps (lookup K.cmp (T.tree tree.old)) (lookup K.cmp (T.tree tree.new))) }
+pub(crate) fn insert<K: TKey, V: TValue, T: Build<K, V>>(
+    tree: &mut T,
+    key: &[K],
+    value: V,
+) -> Result<(), AllocError>
+    ensures ok { OnOk result (IsInserted K.cmp T.keeps key.now value (T.tree tree.old) (T.tree tree.new)) }
+    ensures err { OnErr result (HaveEqualMaps K.cmp T.keeps (T.tree tree.old) (T.tree tree.new)) }
     ensures err_nodes { OnErr result (IsAlike T.keeps (T.tree tree.old) (T.tree tree.new)) }
     ensures canonical { IsCanonical K.cmp (T.tree tree.new) }
 {
@@ -67,7 +76,7 @@ fn insert_from<K: TKey, V: TValue, T: Build<K, V>>(
 ) -> Result<(), AllocError>
     requires known { Agree K.cmp (T.tree tree.old).prefix key.now known }
     requires solid { IsSolid (T.tree tree.old).value (T.tree tree.old).children }
-    ensures ok { OnOk result (IsUpdated K.cmp T.keeps key.now value (lookup K.cmp (T.tree tree.old)) (lookup K.cmp (T.tree tree.new))) }
+    ensures ok { OnOk result (IsInserted K.cmp T.keeps key.now value (T.tree tree.old) (T.tree tree.new)) }
     ensures grown { OnOk result (IsGrown K.cmp known (T.tree tree.old) (T.tree tree.new)) }
     ensures err { OnErr result (IsAlike T.keeps (T.tree tree.old) (T.tree tree.new)) }
 {
@@ -91,7 +100,8 @@ fn insert_behind<K: TKey, V: TValue, T: Build<K, V>>(
 ) -> Result<(), AllocError>
     requires solid { IsSolid (T.tree tree.old).value (T.tree tree.old).children }
     requires canonical { AreChildren K.cmp (T.tree tree.old).children }
-    ensures ok { OnOk result (IsUpdated K.cmp T.keeps ((T.tree tree.old).prefix ++ rest.now) value (lookup K.cmp (T.tree tree.old)) (lookup K.cmp (T.tree tree.new))) }
+    ensures ok { OnOk result
+        (IsInserted K.cmp T.keeps ((T.tree tree.old).prefix ++ rest.now) value (T.tree tree.old) (T.tree tree.new)) }
     ensures branch { OnOk result (IsBranch K.cmp (T.tree tree.old).prefix (T.tree tree.new)) }
     ensures err { OnErr result (IsAlike T.keeps (T.tree tree.old) (T.tree tree.new)) }
 {
@@ -116,7 +126,8 @@ fn insert_below<K: TKey, V: TValue, T: Build<K, V>>(
 ) -> Result<(), AllocError>
     requires leads { LeadsTo K.cmp (T.tree tree.old).children rest.now i }
     requires solid { IsSolid (T.tree tree.old).value (T.tree tree.old).children }
-    ensures ok { OnOk result (IsUpdated K.cmp T.keeps ((T.tree tree.old).prefix ++ rest.now) value (lookup K.cmp (T.tree tree.old)) (lookup K.cmp (T.tree tree.new))) }
+    ensures ok { OnOk result
+        (IsInserted K.cmp T.keeps ((T.tree tree.old).prefix ++ rest.now) value (T.tree tree.old) (T.tree tree.new)) }
     ensures branch { OnOk result (IsBranch K.cmp (T.tree tree.old).prefix (T.tree tree.new)) }
     ensures err { OnErr result (IsAlike T.keeps (T.tree tree.old) (T.tree tree.new)) }
 {
@@ -143,12 +154,16 @@ fn insert_into<K: TKey, V: TValue, T: Build<K, V>>(
     rest: &[K],
     value: V,
 ) -> Result<(), AllocError>
-    requires leads { LeadsTo K.cmp (forest (map T.tree (T.Children.items children.old))) rest.now i }
-    requires canonical { AreChildren K.cmp (forest (map T.tree (T.Children.items children.old))) }
-    ensures ok { OnOk result (IsUpdated K.cmp T.keeps rest.now value (lookup_in K.cmp (forest (map T.tree (T.Children.items children.old)))) (lookup_in K.cmp (forest (map T.tree (T.Children.items children.new))))) }
-    ensures canonical { AreChildren K.cmp (forest (map T.tree (T.Children.items children.new))) }
+    requires leads { LeadsTo K.cmp (seen T.tree (T.Children.items children.old)) rest.now i }
+    requires canonical { AreChildren K.cmp (seen T.tree (T.Children.items children.old)) }
+    ensures ok { OnOk result
+        (IsUpdated K.cmp T.keeps rest.now value
+            (lookup_in K.cmp (seen T.tree (T.Children.items children.old)))
+            (lookup_in K.cmp (seen T.tree (T.Children.items children.new)))) }
+    ensures canonical { AreChildren K.cmp (seen T.tree (T.Children.items children.new)) }
     ensures as_many { length (T.Children.items children.new) ≡ length (T.Children.items children.old) }
-    ensures err { OnErr result (IsAlikeIn T.keeps (forest (map T.tree (T.Children.items children.old))) (forest (map T.tree (T.Children.items children.new)))) }
+    ensures err { OnErr result
+        (IsAlikeIn T.keeps (seen T.tree (T.Children.items children.old)) (seen T.tree (T.Children.items children.new))) }
 {
     let list = children.make_mut()?;
     insert_from(alloc, &mut list[i], rest, 1, value)
@@ -156,7 +171,7 @@ fn insert_into<K: TKey, V: TValue, T: Build<K, V>>(
 
 /// Binds the prefix itself.
 fn set_value<K: TKey, V: TValue, T: Build<K, V>>(alloc: Global, tree: &mut T, value: V)
-    ensures updated { IsUpdated K.cmp T.keeps (T.tree tree.old).prefix value (lookup K.cmp (T.tree tree.old)) (lookup K.cmp (T.tree tree.new)) }
+    ensures updated { IsInserted K.cmp T.keeps (T.tree tree.old).prefix value (T.tree tree.old) (T.tree tree.new) }
     ensures branch { IsBranch K.cmp (T.tree tree.old).prefix (T.tree tree.new) }
 {
     let node = mem::replace(tree, T::blank(alloc, Seal::new()));
@@ -178,7 +193,8 @@ fn add_child<K: TKey, V: TValue, T: Build<K, V>>(
 ) -> Result<(), AllocError>
     requires fits { FitsAt K.cmp (T.tree tree.old).children rest.now i }
     requires solid { IsSolid (T.tree tree.old).value (T.tree tree.old).children }
-    ensures ok { OnOk result (IsUpdated K.cmp T.keeps ((T.tree tree.old).prefix ++ rest.now) value (lookup K.cmp (T.tree tree.old)) (lookup K.cmp (T.tree tree.new))) }
+    ensures ok { OnOk result
+        (IsInserted K.cmp T.keeps ((T.tree tree.old).prefix ++ rest.now) value (T.tree tree.old) (T.tree tree.new)) }
     ensures branch { OnOk result (IsBranch K.cmp (T.tree tree.old).prefix (T.tree tree.new)) }
     ensures err { OnErr result (IsAlike T.keeps (T.tree tree.old) (T.tree tree.new)) }
 {
@@ -202,8 +218,10 @@ fn add_to<K: TKey, V: TValue, T: Build<K, V>>(
     item: T,
 ) -> Result<(), AllocError>
     requires { i ≤ length (listed T.Children.items children.old) }
-    ensures ok { OnOk result (Adds T.keeps T.tree (listed T.Children.items children.old) i item (listed T.Children.items children.new)) }
-    ensures err { OnErr result (IsAlikeIn T.keeps (forest (map T.tree (listed T.Children.items children.old))) (forest (map T.tree (listed T.Children.items children.new)))) }
+    ensures ok { OnOk result
+        (Adds T.keeps T.tree (listed T.Children.items children.old) i item (listed T.Children.items children.new)) }
+    ensures err { OnErr result
+        (IsAlikeIn T.keeps (seen T.tree (listed T.Children.items children.old)) (seen T.tree (listed T.Children.items children.new))) }
 {
     match children {
         Some(children) => add_to_some::<K, V, T>(children, i, item),
@@ -224,7 +242,8 @@ fn add_to_some<K: TKey, V: TValue, T: Build<K, V>>(
 ) -> Result<(), AllocError>
     requires { i ≤ length (T.Children.items children.old) }
     ensures ok { OnOk result (Adds T.keeps T.tree (T.Children.items children.old) i item (T.Children.items children.new)) }
-    ensures err { OnErr result (IsAlikeIn T.keeps (forest (map T.tree (T.Children.items children.old))) (forest (map T.tree (T.Children.items children.new)))) }
+    ensures err { OnErr result
+        (IsAlikeIn T.keeps (seen T.tree (T.Children.items children.old)) (seen T.tree (T.Children.items children.new))) }
 {
     let list = children.make_mut()?;
     list.insert(i, item)?;
@@ -239,7 +258,8 @@ fn split_above<K: TKey, V: TValue, T: Build<K, V>>(
     value: V,
 ) -> Result<(), AllocError>
     requires { n < length (T.tree tree.old).prefix }
-    ensures ok { OnOk result (IsUpdated K.cmp T.keeps (take n (T.tree tree.old).prefix) value (lookup K.cmp (T.tree tree.old)) (lookup K.cmp (T.tree tree.new))) }
+    ensures ok { OnOk result
+        (IsInserted K.cmp T.keeps (take n (T.tree tree.old).prefix) value (T.tree tree.old) (T.tree tree.new)) }
     ensures branch { OnOk result (IsBranch K.cmp (take n (T.tree tree.old).prefix) (T.tree tree.new)) }
     ensures err { OnErr result (T.tree tree.new ≡ T.tree tree.old) }
 {
@@ -266,7 +286,8 @@ fn split_beside<K: TKey, V: TValue, T: Build<K, V>>(
     value: V,
 ) -> Result<(), AllocError>
     requires { SplitsAt K.cmp (T.tree tree.old) n rest.now i }
-    ensures ok { OnOk result (IsUpdated K.cmp T.keeps (take n (T.tree tree.old).prefix ++ rest.now) value (lookup K.cmp (T.tree tree.old)) (lookup K.cmp (T.tree tree.new))) }
+    ensures ok { OnOk result
+        (IsInserted K.cmp T.keeps (take n (T.tree tree.old).prefix ++ rest.now) value (T.tree tree.old) (T.tree tree.new)) }
     ensures branch { OnOk result (IsBranch K.cmp (take n (T.tree tree.old).prefix) (T.tree tree.new)) }
     ensures err { OnErr result (T.tree tree.new ≡ T.tree tree.old) }
 {

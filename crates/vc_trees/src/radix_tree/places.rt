@@ -1,8 +1,8 @@
 //! The place of a component among the first components of children.
 
-ghost use Rattle.std.specs.Prelude.{map, MatchOption, MatchResult};
-ghost use Rattle.vc_trees.specs.Tree.{forest};
+ghost use Rattle.std.specs.Prelude.{MatchOption, MatchResult};
 ghost use Rattle.vc_trees.specs.Canonical.{AreChildren};
+ghost use Rattle.vc_trees.specs.Children.{seen};
 ghost use Rattle.vc_trees.specs.Places.{BeginsAt, IsGapAt, IsFoundChild, IsNoChild};
 
 use crate::radix_tree::reading::{AbstractRadixTree, TKey, TValue};
@@ -10,9 +10,13 @@ use std::cmp::Ordering;
 
 /// Where the child stands that begins with the component, or where one that begins so would stand. Halves what is left at each
 /// comparison.
-pub(crate) fn child_place<K: TKey, V: TValue, T: AbstractRadixTree<K, V>>(children: &[T], first: &K) -> Result<usize, usize>
-    requires { AreChildren K.cmp (forest (map T.tree children.now)) }
-    ensures { MatchResult result (BeginsAt K.cmp (forest (map T.tree children.now)) first.now) (IsGapAt K.cmp (forest (map T.tree children.now)) first.now) }
+pub(crate) fn child_place<K: TKey, V: TValue, T: AbstractRadixTree<K, V>>(
+    children: &[T],
+    first: &K,
+) -> Result<usize, usize>
+    requires { AreChildren K.cmp (seen T.tree children.now) }
+    ensures { let kids = seen T.tree children.now in
+        MatchResult result (BeginsAt K.cmp kids first.now) (IsGapAt K.cmp kids first.now) }
 {
     let mut low = 0;
     let mut high = children.len();
@@ -31,10 +35,13 @@ pub(crate) fn child_place<K: TKey, V: TValue, T: AbstractRadixTree<K, V>>(childr
 }
 
 /// The child that begins with the component.
-pub(crate) fn child_at<'a, K: TKey, V: TValue, T: AbstractRadixTree<K, V>>(children: &'a [T], first: &K) -> Option<&'a T>
-    requires { AreChildren K.cmp (forest (map T.tree children.now)) }
-    ensures { MatchOption result (IsNoChild K.cmp (forest (map T.tree children.now)) first.now)
-        (λ child. IsFoundChild K.cmp (forest (map T.tree children.now)) first.now (T.tree child.now)) }
+pub(crate) fn child_at<'a, K: TKey, V: TValue, T: AbstractRadixTree<K, V>>(
+    children: &'a [T],
+    first: &K,
+) -> Option<&'a T>
+    requires { AreChildren K.cmp (seen T.tree children.now) }
+    ensures { let kids = seen T.tree children.now in
+        MatchOption result (IsNoChild K.cmp kids first.now) (λ child. IsFoundChild K.cmp kids first.now (T.tree child.now)) }
 {
     match child_place(children, first) {
         Ok(i) => Some(&children[i]),

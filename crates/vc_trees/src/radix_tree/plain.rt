@@ -36,9 +36,9 @@ impl<K: TKey, V: TValue> Model for RadixTree<K, V> {
 
 impl<K: TKey + MadeWith<Global>, V: TValue> RadixTree<K, V> {
     ghost use Rattle.std.specs.Prelude.{◌≡◌, map};
-    ghost use Rattle.vc_trees.specs.Tree.{forest, made, no_tree};
+    ghost use Rattle.vc_trees.specs.Tree.{made, no_tree};
     ghost use Rattle.vc_trees.specs.Canonical.{IsCanonical};
-    ghost use Rattle.vc_trees.specs.Children.{listed};
+    ghost use Rattle.vc_trees.specs.Children.{listed, seen};
 
     /// The empty tree. Takes no memory.
     pub fn empty(alloc: Global) -> Self
@@ -55,7 +55,7 @@ impl<K: TKey + MadeWith<Global>, V: TValue> RadixTree<K, V> {
     pub(crate) fn into_parts(self) -> Parts<SmallVec<K, 16>, V, OwnedChildren<RadixTree<K, V>>>
         ensures prefix { result.prefix.items ≡ self.prefix }
         ensures value { result.value ≡ self.value }
-        ensures children { forest (map (λ t. t) (listed (λ own. own.list.items) result.children)) ≡ self.children }
+        ensures children { seen (λ t. t) (listed (λ own. own.list.items) result.children) ≡ self.children }
         ensures canonical { IsCanonical K.cmp self }
     {
         let RadixTree {
@@ -76,7 +76,8 @@ impl<K: TKey + MadeWith<Global>, V: TValue> RadixTree<K, V> {
         value: Option<V>,
         children: Option<OwnedChildren<RadixTree<K, V>>>,
     ) -> Self
-        requires { IsCanonical K.cmp (made prefix.items value (map (λ t. t) (listed (λ own. own.list.items) children))) }
+        requires { IsCanonical K.cmp
+            (made prefix.items value (map (λ t. t) (listed (λ own. own.list.items) children))) }
         ensures { result ≡ made prefix.items value (map (λ t. t) (listed (λ own. own.list.items) children)) }
     {
         let children = match children {

@@ -1,10 +1,11 @@
 //! The trait by which every radix tree is read.
 
-ghost use Rattle.std.specs.Prelude.{◌≡◌, map};
+ghost use Rattle.std.specs.Prelude.{◌≡◌};
 ghost use Rattle.std.specs.Option.{option_copied};
-ghost use Rattle.vc_trees.specs.Tree.{forest, is_bare};
+ghost use Rattle.vc_trees.specs.Tree.{is_bare};
 ghost use Rattle.vc_trees.specs.Map.{lookup};
 ghost use Rattle.vc_trees.specs.Canonical.{IsCanonical};
+ghost use Rattle.vc_trees.specs.Children.{seen};
 
 use crate::radix_tree::descent;
 use std::alloc::Global;
@@ -40,7 +41,7 @@ pub trait AbstractRadixTree<K: TKey, V: TValue>: Sized {
 
     /// The trees of what is left of the longer keys behind the prefix.
     fn children(&self) -> &[Self]
-        ensures { forest (map tree result.now) ≡ (tree self.now).children };
+        ensures { seen tree result.now ≡ (tree self.now).children };
 
     /// The allocator that a tree made of this one takes.
     fn allocator(&self) -> Global;

@@ -33,18 +33,20 @@ impl<K: TKey, V: TValue> Model for ArcRadixTree<K, V> {
 
     ghost view = { λ a. node a.prefix.items a.value (shared_forest (λ rc. rc.value.items) a.children) };
 
-    ghost invariant = { λ a. IsCanonical K.cmp (node a.prefix.items a.value (shared_forest (λ rc. rc.value.items) a.children)) };
+    ghost invariant = { λ a. IsCanonical K.cmp
+        (node a.prefix.items a.value (shared_forest (λ rc. rc.value.items) a.children)) };
 
     ghost size = { nodes };
 
-    ghost size_decreases = { λ a h. shared_falls (λ rc. rc.value.items) (λ o. child_size (record a { children = o })) refl (λ r. refl) a.children };
+    ghost size_decreases = { λ a h.
+        shared_falls (λ rc. rc.value.items) (λ o. child_size (record a { children = o })) refl (λ r. refl) a.children };
 }
 
 impl<K: TKey + MadeWith<Global>, V: TValue> ArcRadixTree<K, V> {
     ghost use Rattle.std.specs.Prelude.{map};
-    ghost use Rattle.vc_trees.specs.Tree.{forest, made, no_tree};
+    ghost use Rattle.vc_trees.specs.Tree.{made, no_tree};
     ghost use Rattle.vc_trees.specs.Canonical.{IsCanonical};
-    ghost use Rattle.vc_trees.specs.Children.{listed};
+    ghost use Rattle.vc_trees.specs.Children.{listed, seen};
 
     /// The empty tree. Takes no memory.
     pub fn empty(alloc: Global) -> Self
@@ -61,7 +63,7 @@ impl<K: TKey + MadeWith<Global>, V: TValue> ArcRadixTree<K, V> {
     pub(crate) fn into_parts(self) -> Parts<SmallVec<K, 16>, V, SharedChildren<ArcRadixTree<K, V>>>
         ensures prefix { result.prefix.items ≡ self.prefix }
         ensures value { result.value ≡ self.value }
-        ensures children { forest (map (λ t. t) (listed (λ held. held.shared.value.items) result.children)) ≡ self.children }
+        ensures children { seen (λ t. t) (listed (λ held. held.shared.value.items) result.children) ≡ self.children }
         ensures canonical { IsCanonical K.cmp self }
     {
         let ArcRadixTree {
@@ -89,7 +91,8 @@ impl<K: TKey + MadeWith<Global>, V: TValue> ArcRadixTree<K, V> {
         value: Option<V>,
         children: Option<SharedChildren<ArcRadixTree<K, V>>>,
     ) -> Self
-        requires { IsCanonical K.cmp (made prefix.items value (map (λ t. t) (listed (λ held. held.shared.value.items) children))) }
+        requires { IsCanonical K.cmp
+            (made prefix.items value (map (λ t. t) (listed (λ held. held.shared.value.items) children))) }
         ensures { result ≡ made prefix.items value (map (λ t. t) (listed (λ held. held.shared.value.items) children)) }
     {
         let children = match children {

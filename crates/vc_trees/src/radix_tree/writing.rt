@@ -2,7 +2,7 @@
 
 ghost use Rattle.std.specs.Prelude.{◌≡◌, [], Some, IfOk, OnOk, OnErr};
 ghost use Rattle.vc_trees.specs.Tree.{made, no_tree};
-ghost use Rattle.vc_trees.specs.Map.{IsEqualMap, IsUpdated, lookup};
+ghost use Rattle.vc_trees.specs.Map.{HaveEqualMaps, IsInserted};
 ghost use Rattle.vc_trees.specs.Canonical.{IsCanonical};
 ghost use Rattle.vc_trees.specs.Same.{IsAlike};
 
@@ -48,8 +48,8 @@ pub trait AbstractRadixTreeMut<K: TKey, V: TValue>: Build<K, V> {
     /// Fails only where memory is refused, for a prefix, for children or for the copy of shared children; the tree then binds
     /// what it bound. A key keeps the spelling that the tree has of it.
     final fn insert(&mut self, key: &[K], value: V) -> Result<(), AllocError>
-        ensures ok { OnOk result (IsUpdated K.cmp Self.keeps key.now value (lookup K.cmp (Self.tree self.old)) (lookup K.cmp (Self.tree self.new))) }
-        ensures err { OnErr result (IsEqualMap Self.keeps (lookup K.cmp (Self.tree self.old)) (lookup K.cmp (Self.tree self.new))) }
+        ensures ok { OnOk result (IsInserted K.cmp Self.keeps key.now value (Self.tree self.old) (Self.tree self.new)) }
+        ensures err { OnErr result (HaveEqualMaps K.cmp Self.keeps (Self.tree self.old) (Self.tree self.new)) }
         ensures err_nodes { OnErr result (IsAlike Self.keeps (Self.tree self.old) (Self.tree self.new)) }
         ensures canonical { IsCanonical K.cmp (Self.tree self.new) }
     {

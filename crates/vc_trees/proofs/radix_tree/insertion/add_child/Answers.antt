@@ -25,8 +25,8 @@ assemble-requires g c =
     let canonical = subst (λ t. IsCanonical g.K.Ord.cmp (tree t)) c.replace-node.ensures.value c.take_apart-prefix.ensures.canonical in
     on_both c.add_to-done.result c.add_to-done.ensures.ok c.add_to-done.ensures.err
     (λ added. inserted_canonical g.K.Ord.cmp g.T.Build.keeps (tree c.args.tree.now) _ c.args.value _ _
-      (child_added g.K.Ord.cmp g.T.Build.keeps g.met.T.Build.keeps_refl g.met.T.Build.keeps_trans g.met.K.Ord.total tree (tree c.args.tree.now) _ _ _ _ _ c.args.i c.in_ok-leaf.leaf c.args.rest.now c.args.value
-        prefix value children refl canonical c.requires.solid c.requires.fits c.in_ok-leaf.ensures added))
+    (child_added g.K.Ord.cmp g.T.Build.keeps g.met.T.Build.keeps_refl g.met.T.Build.keeps_trans g.met.K.Ord.total tree (tree c.args.tree.now) _ _ _ _ _ c.args.i c.in_ok-leaf.leaf c.args.rest.now c.args.value
+    prefix value children refl canonical c.requires.solid c.requires.fits c.in_ok-leaf.ensures added))
     (λ alike. parts_canonical g.K.Ord.cmp g.T.Build.keeps g.met.T.Build.keeps_refl g.met.T.Build.keeps_trans g.met.K.Ord.total tree (tree c.args.tree.now) _ _ _ _ prefix value children canonical alike)
 
 pub returns-clause-ok : goal.returns-clause-ok
@@ -38,7 +38,7 @@ returns-clause-ok g c =
     let canonical = subst (λ t. IsCanonical g.K.Ord.cmp (tree t)) c.replace-node.ensures.value c.take_apart-prefix.ensures.canonical in
     on_ok c.add_to-done.result
     (λ added. (child_added g.K.Ord.cmp g.T.Build.keeps g.met.T.Build.keeps_refl g.met.T.Build.keeps_trans g.met.K.Ord.total tree (tree c.args.tree.now) _ _ _ _ _ c.args.i c.in_ok-leaf.leaf c.args.rest.now c.args.value
-        prefix value children c.assemble.ensures canonical c.requires.solid c.requires.fits c.in_ok-leaf.ensures added).updated)
+    prefix value children c.assemble.ensures canonical c.requires.solid c.requires.fits c.in_ok-leaf.ensures added).updated)
     c.add_to-done.ensures.ok
 
 pub returns-clause-branch : goal.returns-clause-branch
@@ -50,5 +50,5 @@ returns-clause-branch g c =
     let canonical = subst (λ t. IsCanonical g.K.Ord.cmp (tree t)) c.replace-node.ensures.value c.take_apart-prefix.ensures.canonical in
     on_ok c.add_to-done.result
     (λ added. (child_added g.K.Ord.cmp g.T.Build.keeps g.met.T.Build.keeps_refl g.met.T.Build.keeps_trans g.met.K.Ord.total tree (tree c.args.tree.now) _ _ _ _ _ c.args.i c.in_ok-leaf.leaf c.args.rest.now c.args.value
-        prefix value children c.assemble.ensures canonical c.requires.solid c.requires.fits c.in_ok-leaf.ensures added).branch)
+    prefix value children c.assemble.ensures canonical c.requires.solid c.requires.fits c.in_ok-leaf.ensures added).branch)
     c.add_to-done.ensures.ok
