@@ -1,0 +1,13 @@
+-- The node binds what is left of the key to what the tree binds the key to.
+use Rattle.std.proofs.Common.{◌≡◌}
+use Rattle.vc_trees.specs.Tree.{nodes}
+use Rattle.vc_trees.specs.Map.{lookup}
+use Rattle.vc_trees.proofs.radix_tree.descent.get.Given as goal
+
+abbrev pub invariant-loop-left : goal.invariant-loop-left
+invariant-loop-left g l =
+    let tree = g.T.AbstractRadixTree.tree in
+    lookup g.K.Ord.cmp (tree l.tree) l.key ≡ lookup g.K.Ord.cmp (tree l.node) l.rest
+
+abbrev pub decreases-loop-left : goal.decreases-loop-left
+decreases-loop-left g l = nodes (g.T.AbstractRadixTree.tree l.node)

@@ -1,0 +1,62 @@
+//! The trait by which the two flavours are made and changed.
+
+ghost use Rattle.std.specs.Prelude.{◌≡◌, [], Some, IfOk, OnOk, OnErr};
+ghost use Rattle.vc_trees.specs.Tree.{made, no_tree};
+ghost use Rattle.vc_trees.specs.Map.{HaveEqualMaps, IsInserted};
+ghost use Rattle.vc_trees.specs.Canonical.{IsCanonical};
+ghost use Rattle.vc_trees.specs.Same.{IsAlike};
+
+use crate::radix_tree::building::{Build, Seal};
+use crate::radix_tree::insertion;
+use crate::radix_tree::plain::RadixTree;
+use crate::radix_tree::reading::{TKey, TValue};
+use crate::radix_tree::shared::ArcRadixTree;
+use std::alloc::{AllocError, Global};
+use std::default::MadeWith;
+
+/// A radix tree to be made and changed: the two flavours of this crate, and no other type.
+///
+/// A clause says by `keeps` how a value that a call leaves in place is kept. In a [`RadixTree`] it is the old value itself. In
+/// an [`ArcRadixTree`] it is the old value, or a clone of it over any number of clones, since shared children are copied before
+/// they are written.
+pub trait AbstractRadixTreeMut<K: TKey, V: TValue>: Build<K, V> {
+    /// The empty tree. Takes no memory.
+    final fn empty(alloc: Global) -> Self
+        ensures { Self.tree result ≡ no_tree }
+    {
+        Self::blank(alloc, Seal::new())
+    }
+
+    /// The tree that binds the empty key alone. Takes no memory.
+    final fn leaf(alloc: Global, value: V) -> Self
+        ensures { Self.tree result ≡ made [] (Some value) [] }
+    {
+        insertion::leaf(alloc, value)
+    }
+
+    /// The tree that binds this key alone.
+    ///
+    /// Fails only where memory is refused.
+    final fn single(alloc: Global, key: &[K], value: V) -> Result<Self, AllocError>
+        ensures { IfOk result (λ one. Self.tree one ≡ made key.now (Some value) []) }
+    {
+        insertion::single(alloc, key, value)
+    }
+
+    /// Binds the key to the value, in the place of the value that it had. The other keys keep their values.
+    ///
+    /// Fails only where memory is refused, for a prefix, for children or for the copy of shared children; the tree then binds
+    /// what it bound. A key keeps the spelling that the tree has of it.
+    final fn insert(&mut self, key: &[K], value: V) -> Result<(), AllocError>
+        ensures ok { OnOk result (IsInserted K.cmp Self.keeps key.now value (Self.tree self.old) (Self.tree self.new)) }
+        ensures err { OnErr result (HaveEqualMaps K.cmp Self.keeps (Self.tree self.old) (Self.tree self.new)) }
+        ensures err_nodes { OnErr result (IsAlike Self.keeps (Self.tree self.old) (Self.tree self.new)) }
+        ensures canonical { IsCanonical K.cmp (Self.tree self.new) }
+    {
+        insertion::insert(self, key, value)
+    }
+}
+
+impl<K: TKey + MadeWith<Global>, V: TValue> AbstractRadixTreeMut<K, V> for RadixTree<K, V> {}
+
+impl<K: TKey + MadeWith<Global>, V: TValue> AbstractRadixTreeMut<K, V> for ArcRadixTree<K, V> {}
