@@ -5,3 +5,4 @@ pub mod Count
 pub mod Building
 pub mod Both
 pub mod Progress
+pub mod Yielded
