@@ -3,3 +3,4 @@ pub mod Scripts
 pub mod Chains
 pub mod Runs
 pub mod Extending
+pub mod Running

@@ -44,7 +44,8 @@ kept_all [] = refl
 kept_all (x ∷ xs) = ap (λ l. x ∷ l) (kept_all xs)
 
 module _ {S X : Type 0} (steps : S → Option X → S → Type 0) (cmp : X → X → Ordering) where
-  plain_steps : (s t : S) (xs : List X) → Yields (gives_ascending steps cmp) s xs t → Yields steps s xs t
+  -- they are steps of the iterator
+  pub plain_steps : (s t : S) (xs : List X) → Yields (gives_ascending steps cmp) s xs t → Yields steps s xs t
   plain_steps s t [] y = y
   plain_steps s t (x ∷ xs) y = (y.0, y.1.0, plain_steps y.0 t xs y.2)
 

@@ -3,3 +3,4 @@ pub mod Selected
 pub mod Combined
 pub mod Searching
 pub mod Editing
+pub mod Removing

@@ -1,3 +1,4 @@
 pub mod SetOf
 pub mod Select
 pub mod Place
+pub mod Iterating
