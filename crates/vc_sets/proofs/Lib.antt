@@ -4,3 +4,4 @@ pub mod Combined
 pub mod Searching
 pub mod Editing
 pub mod Removing
+pub mod Keeping

@@ -1,12 +1,11 @@
 //! Elements taken out of a set, and the list made smaller.
-ghost use Rattle.std.specs.Prelude.{◌≡◌, ◌&&◌, not, cond, None, IsOk};
+ghost use Rattle.std.specs.Prelude.{◌≡◌, ◌≤◌, ◌&&◌, not, cond, None, IsOk, length, take};
 ghost use Rattle.std.specs.Fn.{CalledAt};
 ghost use Rattle.std.specs.List.Retain.{IsFiltered};
 ghost use Rattle.std.specs.Ordering.{eq_by_cmp};
 ghost use Rattle.vc_merge.specs.Ascending.{member, element_at};
 
 use super::VecSet;
-use smallvec::SmallVec;
 use std::alloc::{AllocError, Allocator};
 use std::default::MadeWith;
 
@@ -31,12 +30,13 @@ impl<T: Ord + MadeWith<A> + Drop, const N: usize, A: Allocator + Copy> VecSet<T,
     /// Keeps the elements at which `f` answers true, and drops the others. `f` is asked once at each element, in
     /// ascending order.
     ///
-    /// Each element is moved at most once. Takes no memory.
+    /// Each element is asked at where it stands, and moved at most twice. Takes no memory.
     pub fn retain<F: FnMut(&T) -> bool>(&mut self, f: F)
         requires { F.IsAlwaysCallable f }
         ensures { IsFiltered (CalledAt F.FnMut) f self.old self.new }
     {
-        keep_accepted(&mut self.elements, f);
+        let kept = keep_in_front(self.elements.as_mut_slice(), f);
+        self.elements.truncate(kept);
     }
 
     /// Gives back memory that the elements do not need. A refusal leaves the list where it is, so the call succeeds
@@ -50,18 +50,18 @@ impl<T: Ord + MadeWith<A> + Drop, const N: usize, A: Allocator + Copy> VecSet<T,
     }
 }
 
-/// Keeps the elements at which `f` answers true.
-fn keep_accepted<
-    T: MadeWith<A> + Drop,
-    F: FnMut(&T) -> bool,
-    const N: usize,
-    A: Allocator + Copy,
->(
-    list: &mut SmallVec<T, N, A>,
-    mut f: F,
-)
+/// Moves the elements at which `f` answers true to the front, in their order, and answers how many these are.
+fn keep_in_front<T, F: FnMut(&T) -> bool>(list: &mut [T], mut f: F) -> usize
     requires { F.IsAlwaysCallable f }
-    ensures { IsFiltered (CalledAt F.FnMut) f list.old.items list.new.items }
+    ensures within { result ≤ length list.new }
+    ensures kept { IsFiltered (CalledAt F.FnMut) f list.old (take result list.new) }
 {
-    list.retain(|element| f(element));
+    let mut kept = 0;
+    'elements: for at in 0..list.len() {
+        if f(&list[at]) {
+            list.swap(kept, at);
+            kept += 1;
+        }
+    }
+    kept
 }

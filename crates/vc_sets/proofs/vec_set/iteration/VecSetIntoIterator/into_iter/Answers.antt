@@ -13,5 +13,7 @@ vec_set_iter-requires g c =
 
 pub returns : goal.returns
 returns g c =
-    (c.vec_set_iter.ensures ∙ c.into_iter.ensures.into_iter_gives.0 ∙ c.self.view_is,
-    inside-every (YieldsFirst (λ rest. rest)) g.T.Ord.cmp (λ p. ItemsAre p p.from) c.into_iter.ensures.into_iter_gives.1)
+    record {
+      into_iter_gives = (c.vec_set_iter.ensures ∙ c.into_iter.ensures.into_iter_gives.0 ∙ c.self.view_is,
+      inside-every (YieldsFirst (λ rest. rest)) g.T.Ord.cmp (λ p. ItemsAre p p.from) c.into_iter.ensures.into_iter_gives.1)
+    }
