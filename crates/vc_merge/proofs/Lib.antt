@@ -13,3 +13,4 @@ pub mod MovesDownLemmas
 pub mod ClonesLemmas
 pub mod OneScript
 pub mod OneList
+pub mod Running

@@ -15,3 +15,4 @@ pub mod MovesDown
 pub mod SiftViews
 pub mod InPlaceViews
 pub mod Laws
+pub mod Yielded

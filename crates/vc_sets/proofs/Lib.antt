@@ -6,3 +6,5 @@ pub mod Editing
 pub mod Witnessed
 pub mod Sifted
 mod OneSet
+pub mod Removing
+pub mod Keeping

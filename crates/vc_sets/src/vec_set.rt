@@ -2,16 +2,24 @@
 ghost use Rattle.std.specs.Prelude.{◌≡◌, ◌<◌, ◌||◌, ◌↔◌, [], ◌==◌, List, not, cond, Some, length, IfOk, IsOk, OnErr, IsTrue};
 ghost use Rattle.std.specs.Ordering.{eq_by_cmp};
 ghost use Rattle.vc_merge.specs.Ascending.{Ascends, member, element_at};
+ghost use Rattle.vc_sets.specs.Iterating.{Shows};
 ghost use Rattle.vc_sets.specs.Tests.{IsDisjoint, IsSubset};
 
 mod algebra;
+mod comparisons;
+pub mod conversions;
 mod in_place;
+mod iteration;
+mod removal;
 
 pub use algebra::{SetOp, SetTest, difference, intersection, symmetric_difference, union};
+use iteration::elements_of;
 use smallvec::SmallVec;
 use std::alloc::{AllocError, Allocator, Global};
 use std::default::MadeWith;
 use std::marker::Model;
+use std::slice;
+use vc_merge::iterators::VecSetIter;
 
 /// A set, as a list of its elements in ascending order, the first `N` of them without an allocation.
 ///
@@ -116,6 +124,20 @@ pub trait AbstractVecSet<T: Ord> {
     fn as_slice(&self) -> &[T]
         ensures elements { result.now ≡ elements self.now }
         ensures ascends { Ascends T.cmp (elements self.now) };
+
+    /// Whether there is no element. Takes no memory.
+    fn is_empty(&self) -> bool
+        ensures { IsTrue result ↔ (elements self.now ≡ []) }
+    {
+        self.as_slice().is_empty()
+    }
+
+    /// The elements in ascending order, by reference. Takes no memory.
+    fn iter(&self) -> VecSetIter<slice::Iter<'_, T>>
+        ensures { Shows T.cmp (elements self.now) result }
+    {
+        elements_of(self.as_slice())
+    }
 
     /// Whether an element is equal to `value`. Searches by halving, and takes no memory.
     fn contains(&self, value: &T) -> bool

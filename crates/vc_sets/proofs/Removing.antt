@@ -1,0 +1,120 @@
+-- An ascending list with elements taken out, and the clones of its elements.
+use Rattle.std.proofs.Common.{◌≡◌, ℕ, zero, suc, ◌<◌, Bool, true, false, not, cond, ◌&&◌, List, [], ◌∷◌, ◌++◌, length, take, drop, get_or, Option, Some, None, is_some, Err, refl, sym, ap, ◌∙◌, arith}
+use mathlib.Core.Bool.{true≢false}
+use Rattle.std.proofs.lemmas.List.{append-nil}
+use Rattle.std.specs.Iterator.{Yields}
+use Rattle.std.specs.Map.Iter.{TakesFirst}
+use Rattle.std.specs.List.{AllByRecursion, AllZip, items_where_true}
+use Rattle.std.specs.List.Sorted.{IsStrictlySortedBy}
+use Rattle.std.specs.Cmp.{IsTotalOrder, alike_right}
+use Rattle.std.specs.Ordering.{eq_by_cmp, is_eq}
+use Rattle.std.specs.declared.cmp.Ordering.{Ordering}
+use Rattle.std.specs.declared.cmp.Ordering.TheVariants.{Less, Equal}
+use Rattle.vc_merge.specs.Ascending.{Ascends, member, element_at}
+use Rattle.vc_merge.specs.Yielded.{taken}
+use Rattle.vc_merge.proofs.Lists.{each-at}
+use Rattle.vc_sets.specs.Place.{IsPlace}
+use Rattle.vc_sets.proofs.Members.{member-is_some, element_at-none, equal-alike, equal_from_is_eq}
+use Rattle.vc_sets.proofs.Searching.{place-is_ok}
+
+-- ---- an iterator that moves the elements of a list out
+
+-- all of the list has come
+pub all_taken : {X : Type 0} (s t xs : List X) (u : List X) → Yields (TakesFirst (λ x. x)) s xs t → TakesFirst (λ x. x) t None u → xs ≡ s
+all_taken s t xs u y n = sym (taken s t xs y ∙ ap (λ l. xs ++ l) n.0 ∙ append-nil xs)
+
+-- ---- elements that go
+
+module _ {X : Type 0} (P : X → Type 0) where
+  each-without : (xs : List X) (i : ℕ) → AllByRecursion P xs → AllByRecursion P (take i xs ++ drop (suc i) xs)
+  each-without [] zero p = tt
+  each-without [] (suc i) p = tt
+  each-without (x ∷ xs) zero p = p.1
+  each-without (x ∷ xs) (suc i) p = (p.0, each-without xs i p.1)
+
+  each-chosen : (bs : List Bool) (xs : List X) → AllByRecursion P xs → AllByRecursion P (items_where_true bs xs)
+  each-chosen [] xs p = tt
+  each-chosen (b ∷ bs) [] p = tt
+  each-chosen (true ∷ bs) (x ∷ xs) p = (p.0, each-chosen bs xs p.1)
+  each-chosen (false ∷ bs) (x ∷ xs) p = each-chosen bs xs p.1
+
+module _ {X : Type 0} (cmp : X → X → Ordering) where
+  -- what is left without one element ascends
+  pub ascends-without : (xs : List X) (i : ℕ) → Ascends cmp xs → Ascends cmp (take i xs ++ drop (suc i) xs)
+  unfolding IsStrictlySortedBy
+  ascends-without [] zero p = tt
+  ascends-without [] (suc i) p = tt
+  ascends-without (x ∷ xs) zero p = p.1
+  ascends-without (x ∷ xs) (suc i) p = (each-without (λ y. cmp x y ≡ Less) xs i p.0, ascends-without xs i p.1)
+
+  -- what a test chooses ascends
+  pub ascends-chosen : (bs : List Bool) (xs : List X) → Ascends cmp xs → Ascends cmp (items_where_true bs xs)
+  unfolding IsStrictlySortedBy
+  ascends-chosen [] xs p = tt
+  ascends-chosen (b ∷ bs) [] p = tt
+  ascends-chosen (true ∷ bs) (x ∷ xs) p = (each-chosen (λ y. cmp x y ≡ Less) bs xs p.0, ascends-chosen bs xs p.1)
+  ascends-chosen (false ∷ bs) (x ∷ xs) p = ascends-chosen bs xs p.1
+
+  module _ (total : IsTotalOrder cmp) where
+    -- ---- clones
+
+    module _ (is_clone : X → X → Type 0) (equal : (x y : X) → is_clone x y → cmp x y ≡ Equal) where
+      above-clones : (x y : X) (xs ys : List X) → cmp x y ≡ Equal → AllZip is_clone xs ys → AllByRecursion (λ z. cmp x z ≡ Less) xs → AllByRecursion (λ z. cmp y z ≡ Less) ys
+      above-clones x y [] [] e z p = tt
+      above-clones x y [] (w ∷ ys) e z p = absurd z
+      above-clones x y (v ∷ xs) [] e z p = absurd z
+      above-clones x y (v ∷ xs) (w ∷ ys) e z p = (sym (total.congr x y w e) ∙ sym (alike_right total v w x (equal v w z.0)) ∙ p.0, above-clones x y xs ys e z.1 p.1)
+
+      -- the clones of an ascending list ascend
+      pub ascends-clones : (xs ys : List X) → AllZip is_clone xs ys → Ascends cmp xs → Ascends cmp ys
+      unfolding IsStrictlySortedBy
+      ascends-clones [] [] z p = tt
+      ascends-clones [] (y ∷ ys) z p = absurd z
+      ascends-clones (x ∷ xs) [] z p = absurd z
+      ascends-clones (x ∷ xs) (y ∷ ys) z p = (above-clones x y xs ys (equal x y z.0) z.1 p.0, ascends-clones xs ys z.1 p.1)
+
+    -- ---- an equal element is taken out
+
+    first_by : (b : Bool) (y z : X) (ys : List X) → AllByRecursion (λ w. cmp y w ≡ Less) ys → eq_by_cmp cmp y z ≡ b → element_at cmp ys z ≡ cond b None (cond b (Some y) (element_at cmp ys z))
+    first_by true y z ys p e = element_at-none cmp total y z ys p e
+    first_by false y z ys p e = refl
+
+    later_by : (b : Bool) (x y z : X) (o : Option X) → cmp y x ≡ Less → eq_by_cmp cmp x z ≡ b → cond (eq_by_cmp cmp y z) (Some y) (cond b None o) ≡ cond b None (cond (eq_by_cmp cmp y z) (Some y) o)
+    later_by true x y z o e f = ap (λ c. cond c (Some y) None) (ap is_eq (sym (alike_right total x z y (equal_from_is_eq (cmp x z) f)) ∙ e))
+    later_by false x y z o e f = refl
+
+    pub element_at-without : (xs : List X) (x : X) (i : ℕ) → i < length xs → ((d : X) → cmp (get_or xs i d) x ≡ Equal) → Ascends cmp xs → (z : X) → element_at cmp (take i xs ++ drop (suc i) xs) z ≡ cond (eq_by_cmp cmp x z) None (element_at cmp xs z)
+    unfolding IsStrictlySortedBy
+    element_at-without [] x i h e p z = absurd (omega arith)
+    element_at-without (y ∷ ys) x zero h e p z =
+        first_by (eq_by_cmp cmp y z) y z ys p.0 refl ∙ ap (λ b. cond b None (cond (eq_by_cmp cmp y z) (Some y) (element_at cmp ys z))) (sym (equal-alike cmp total y x z (e x)))
+    element_at-without (y ∷ ys) x (suc i) h e p z =
+        let k : i < length ys = omega arith in
+        let below : cmp y x ≡ Less = sym (alike_right total (get_or ys i x) x y (e x)) ∙ each-at (λ z. cmp y z ≡ Less) ys i x k p.0 in
+        ap (λ o. cond (eq_by_cmp cmp y z) (Some y) o) (element_at-without ys x i k e p.1 z) ∙ later_by (eq_by_cmp cmp x z) x y z (element_at cmp ys z) below refl
+
+    -- ---- no equal element stands there
+
+    element_at-alike : (xs : List X) (x z : X) → cmp x z ≡ Equal → element_at cmp xs x ≡ element_at cmp xs z
+    element_at-alike [] x z e = refl
+    element_at-alike (y ∷ ys) x z e = (λ i. cond (is_eq (alike_right total x z y e i)) (Some y) (element_at-alike ys x z e i))
+
+    none_from_not : (o : Option X) → is_some o ≡ false → o ≡ None
+    none_from_not (Some x) e = absurd (true≢false e)
+    none_from_not None e = refl
+
+    nothing_by : (b : Bool) (xs : List X) (x z : X) → element_at cmp xs x ≡ None → eq_by_cmp cmp x z ≡ b → element_at cmp xs z ≡ cond b None (element_at cmp xs z)
+    nothing_by true xs x z n e = sym (element_at-alike xs x z (equal_from_is_eq (cmp x z) e)) ∙ n
+    nothing_by false xs x z n e = refl
+
+    pub element_at-not_there : (xs : List X) (x : X) (i : ℕ) → IsPlace cmp xs x (Err i) → (z : X) → element_at cmp xs z ≡ cond (eq_by_cmp cmp x z) None (element_at cmp xs z)
+    element_at-not_there xs x i p z = nothing_by (eq_by_cmp cmp x z) xs x z (none_from_not (element_at cmp xs x) (sym (member-is_some cmp xs x) ∙ sym (place-is_ok cmp total xs x (Err i) p))) refl
+
+    -- ---- members follow from what is kept
+
+    none_by : (b : Bool) (o : Option X) → is_some (cond b None o) ≡ (not b && is_some o)
+    none_by true o = refl
+    none_by false o = refl
+
+    pub members-taken : (xs ys : List X) (x : X) → ((z : X) → element_at cmp ys z ≡ cond (eq_by_cmp cmp x z) None (element_at cmp xs z)) → (z : X) → member cmp ys z ≡ (not (eq_by_cmp cmp x z) && member cmp xs z)
+    members-taken xs ys x h z = member-is_some cmp ys z ∙ ap is_some (h z) ∙ none_by (eq_by_cmp cmp x z) (element_at cmp xs z) ∙ ap (λ b. not (eq_by_cmp cmp x z) && b) (sym (member-is_some cmp xs z))

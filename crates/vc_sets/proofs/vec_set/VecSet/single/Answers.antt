@@ -1,0 +1,7 @@
+use Rattle.std.proofs.Common.{◌∙◌, ap, ◌++◌, ◌∷◌, []}
+use Rattle.std.specs.List.Sorted.{IsStrictlySortedBy}
+use Rattle.vc_sets.proofs.vec_set.VecSet.single.Goals as goal
+
+pub invariant_of-result : goal.invariant_of-result
+unfolding IsStrictlySortedBy
+invariant_of-result g c = rw (c.in_ok-push.ensures.ok, c.new-elements.ensures.items) (tt, tt)

@@ -1,0 +1,67 @@
+//! Elements taken out of a set, and the list made smaller.
+ghost use Rattle.std.specs.Prelude.{◌≡◌, ◌≤◌, ◌&&◌, not, cond, None, IsOk, length, take};
+ghost use Rattle.std.specs.Fn.{CalledAt};
+ghost use Rattle.std.specs.List.Retain.{IsFiltered};
+ghost use Rattle.std.specs.Ordering.{eq_by_cmp};
+ghost use Rattle.vc_merge.specs.Ascending.{member, element_at};
+
+use super::VecSet;
+use std::alloc::{AllocError, Allocator};
+use std::default::MadeWith;
+
+impl<T: Ord + MadeWith<A> + Drop, const N: usize, A: Allocator + Copy> VecSet<T, N, A> {
+    /// Takes out and drops the element that is equal to `that`, and answers whether there was one.
+    ///
+    /// Searches by halving, moves the elements behind it, and takes no memory.
+    pub fn remove(&mut self, that: &T) -> bool
+        ensures answer { result ≡ member T.cmp self.old that.now }
+        ensures members { (x : T) → member T.cmp self.new x ≡ (not (eq_by_cmp T.cmp that.now x) && member T.cmp self.old x) }
+        ensures kept { (x : T) → element_at T.cmp self.new x ≡ cond (eq_by_cmp T.cmp that.now x) None (element_at T.cmp self.old x) }
+    {
+        match self.elements.as_slice().binary_search(that) {
+            Ok(index) => {
+                self.elements.remove(index);
+                true
+            }
+            Err(_) => false,
+        }
+    }
+
+    /// Keeps the elements at which `f` answers true, and drops the others. `f` is asked once at each element, in
+    /// ascending order.
+    ///
+    /// Each element is asked at where it stands, and moved at most twice. Takes no memory.
+    pub fn retain<F: FnMut(&T) -> bool>(&mut self, f: F)
+        requires { F.IsAlwaysCallable f }
+        ensures { IsFiltered (CalledAt F.FnMut) f self.old self.new }
+    {
+        let kept = keep_in_front(self.elements.as_mut_slice(), f);
+        self.elements.truncate(kept);
+    }
+
+    /// Gives back memory that the elements do not need. A refusal leaves the list where it is, so the call succeeds
+    /// always.
+    pub fn shrink_to_fit(&mut self) -> Result<(), AllocError>
+        ensures elements { self.new ≡ self.old }
+        ensures succeeds { IsOk result }
+    {
+        self.elements.shrink_to_fit();
+        Ok(())
+    }
+}
+
+/// Moves the elements at which `f` answers true to the front, in their order, and answers how many these are.
+fn keep_in_front<T, F: FnMut(&T) -> bool>(list: &mut [T], mut f: F) -> usize
+    requires { F.IsAlwaysCallable f }
+    ensures within { result ≤ length list.new }
+    ensures kept { IsFiltered (CalledAt F.FnMut) f list.old (take result list.new) }
+{
+    let mut kept = 0;
+    'elements: for at in 0..list.len() {
+        if f(&list[at]) {
+            list.swap(kept, at);
+            kept += 1;
+        }
+    }
+    kept
+}

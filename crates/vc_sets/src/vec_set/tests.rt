@@ -1,0 +1,79 @@
+//! The public calls at concrete types: what they print, and what is dropped.
+use super::conversions::set_of_list;
+use super::{AbstractVecSet, VecSet};
+use smallvec::SmallVec;
+use std::cell::Cell;
+use std::cmp::{Ordering, Reverse};
+use std::collections::BTreeSet;
+use std::default::MadeWith;
+use std::test::Fail;
+
+type Numbers = VecSet<u32, 2>;
+
+fn numbers(rt: &HostRuntime, list: &[u32]) -> Result<Numbers, Fail> {
+    let mut set = Numbers::empty(rt.alloc());
+    for x in list {
+        set.insert(*x)?;
+    }
+    Ok(set)
+}
+
+#[test]
+fn conversions_keep_the_elements(rt: HostRuntime) -> Result<(), Fail> {
+    let set = numbers(&rt, &[3, 1, 2])?;
+    assert_eq!(rt; Numbers::from_iter(rt.alloc(), 1..4)?, set);
+    let mut tree = BTreeSet::new(rt.alloc());
+    for x in set.iter() {
+        tree.insert(*x)?;
+    }
+    assert_eq!(rt; Numbers::from_btree_set(rt.alloc(), tree)?, set);
+    assert_eq!(rt; Numbers::from_iter(rt.alloc(), set.clone()?.into_iter())?, set);
+    assert_eq!(rt; set.clone()?.into_vec()?.as_slice(), [1, 2, 3].as_slice());
+    let list: SmallVec<u32, 2> = set.clone()?.into();
+    assert_eq!(rt; set_of_list(list).as_ref(), set.as_ref());
+    Ok(())
+}
+
+#[test]
+fn a_single_set_shrinks(rt: HostRuntime) -> Result<(), Fail> {
+    let mut set = Numbers::single(rt.alloc(), 7)?;
+    set.shrink_to_fit()?;
+    assert_eq!(rt; set.into_inner().as_slice(), [7].as_slice());
+    Ok(())
+}
+
+#[test]
+fn elements_are_taken_out(rt: HostRuntime) -> Result<(), Fail> {
+    let mut set = numbers(&rt, &[1, 2, 3, 4, 5])?;
+    assert!(rt; set.remove(&3));
+    assert!(rt; !set.remove(&3));
+    set.retain(|x| *x != 1);
+    assert_eq!(rt; set.as_ref(), [2, 4, 5].as_slice());
+    assert!(rt; !AbstractVecSet::is_empty(&set));
+    Ok(())
+}
+
+#[test]
+fn debug_is_a_set(rt: HostRuntime) -> Result<(), Fail> {
+    let set = numbers(&rt, &[2, 1])?;
+    assert_eq!(rt; format!(in rt.alloc(); "{set:?}")?.as_str(), "{1, 2}");
+    Ok(())
+}
+
+#[test]
+fn an_order_may_run_backwards(rt: HostRuntime) -> Result<(), Fail> {
+    let mut set = VecSet::<Reverse<u32>, 2>::empty(rt.alloc());
+    for x in 1..4 {
+        set.insert(Reverse(x))?;
+    }
+    assert_eq!(rt; format!(in rt.alloc(); "{set:?}")?.as_str(), "{Reverse(3), Reverse(2), Reverse(1)}");
+    Ok(())
+}
+
+#[test]
+fn sets_are_ordered_as_their_lists(rt: HostRuntime) -> Result<(), Fail> {
+    let low = numbers(&rt, &[1, 2])?;
+    let high = numbers(&rt, &[1, 3])?;
+    assert_eq!(rt; low.cmp(&high), Ordering::Less);
+    Ok(())
+}
