@@ -5,13 +5,19 @@ use std::alloc::{AllocError, Global};
 use std::cell::Cell;
 use std::fmt;
 use std::test::Fail;
-use vc_trees::radix_tree::{AbstractRadixTree, AbstractRadixTreeMut, ArcRadixTree, RadixTree, TKey, TValue};
+use vc_trees::radix_tree::{
+    AbstractRadixTree, AbstractRadixTreeMut, ArcRadixTree, RadixTree, TKey, TValue,
+};
 
 /// How deep the shapes of these tests are read.
 const DEPTH: u8 = 9;
 
 /// Prints the shape of a tree of letters: each prefix, `*` behind one that has a value, and the children in parentheses.
-fn print_shape<V: TValue, T: AbstractRadixTree<u8, V>>(tree: &T, text: &mut String, depth: u8) -> Result<(), AllocError> {
+fn print_shape<V: TValue, T: AbstractRadixTree<u8, V>>(
+    tree: &T,
+    text: &mut String,
+    depth: u8,
+) -> Result<(), AllocError> {
     for letter in tree.prefix() {
         text.push(char::from(*letter))?;
     }
@@ -32,7 +38,10 @@ fn print_shape<V: TValue, T: AbstractRadixTree<u8, V>>(tree: &T, text: &mut Stri
 }
 
 /// The shape of the tree of the keys, inserted in order.
-fn shape_of<T: AbstractRadixTreeMut<u8, usize>>(alloc: Global, keys: &[&str]) -> Result<String, AllocError> {
+fn shape_of<T: AbstractRadixTreeMut<u8, usize>>(
+    alloc: Global,
+    keys: &[&str],
+) -> Result<String, AllocError> {
     let mut tree = T::empty(alloc);
     for (i, key) in keys.iter().enumerate() {
         tree.insert(key.as_bytes(), i)?;
@@ -53,7 +62,10 @@ fn shapes_are_those_of_the_keys(rt: HostRuntime) -> Result<(), Fail> {
         (&["abc", "abd", "ab"], "ab*(c* d*)"),
         (&["ab", "ac"], "a(b* c*)"),
         (&["aabbcc", "aabb", "aabbee"], "aabb*(cc* ee*)"),
-        (&["eeeef", "bc", "aa", "b", "a", "ab", "eeeee", "aaa"], "(a*(a*(a*) b*) b*(c*) eeee(e* f*))"),
+        (
+            &["eeeef", "bc", "aa", "b", "a", "ab", "eeeee", "aaa"],
+            "(a*(a*(a*) b*) b*(c*) eeee(e* f*))",
+        ),
     ];
     for (keys, shape) in rows {
         let plain = shape_of::<RadixTree<u8, usize>>(rt.alloc(), keys)?;
@@ -65,7 +77,10 @@ fn shapes_are_those_of_the_keys(rt: HostRuntime) -> Result<(), Fail> {
 }
 
 /// Makes trees in each way and looks keys up in them.
-fn makes_and_finds<T: AbstractRadixTreeMut<u8, u32>>(alloc: Global, rt: &impl std::process::Abort) -> Result<(), AllocError> {
+fn makes_and_finds<T: AbstractRadixTreeMut<u8, u32>>(
+    alloc: Global,
+    rt: &impl std::process::Abort,
+) -> Result<(), AllocError> {
     let none = T::empty(alloc);
     assert!(rt; none.is_empty());
     assert_eq!(rt; none.get(b"a"), None);
@@ -77,10 +92,24 @@ fn makes_and_finds<T: AbstractRadixTreeMut<u8, u32>>(alloc: Global, rt: &impl st
     assert_eq!(rt; tree.get(b"abc").copied(), Some(1));
     assert_eq!(rt; tree.get(b"ab"), None);
     assert_eq!(rt; tree.get(b"abcd"), None);
-    for (key, value) in [("abd", 2u32), ("ab", 3), ("x", 4), ("", 5), ("abc", 6), ("a", 7)] {
+    for (key, value) in [
+        ("abd", 2u32),
+        ("ab", 3),
+        ("x", 4),
+        ("", 5),
+        ("abc", 6),
+        ("a", 7),
+    ] {
         tree.insert(key.as_bytes(), value)?;
     }
-    for (key, value) in [("abd", 2u32), ("ab", 3), ("x", 4), ("", 5), ("abc", 6), ("a", 7)] {
+    for (key, value) in [
+        ("abd", 2u32),
+        ("ab", 3),
+        ("x", 4),
+        ("", 5),
+        ("abc", 6),
+        ("a", 7),
+    ] {
         assert_eq!(rt; tree.get(key.as_bytes()).copied(), Some(value), "at {key}");
     }
     for key in ["b", "abcd", "abe", "xx"] {
@@ -142,13 +171,19 @@ const fn capital(place: u8) -> Letter {
 }
 
 /// Components that are equal but spelled differently lead to one value.
-fn finds_each_spelling<T: AbstractRadixTreeMut<Letter, u32>>(alloc: Global, rt: &impl std::process::Abort) -> Result<(), AllocError> {
+fn finds_each_spelling<T: AbstractRadixTreeMut<Letter, u32>>(
+    alloc: Global,
+    rt: &impl std::process::Abort,
+) -> Result<(), AllocError> {
     let mut tree = T::single(alloc, &[small(1), small(2)], 1)?;
     tree.insert(&[capital(1), capital(2), small(3)], 2)?;
     tree.insert(&[capital(1), small(4)], 3)?;
     tree.insert(&[capital(1), capital(2)], 4)?;
     assert_eq!(rt; tree.get(&[small(1), capital(2)]).copied(), Some(4));
-    assert_eq!(rt; tree.get(&[small(1), small(2), capital(3)]).copied(), Some(2));
+    assert_eq!(rt;
+        tree.get(&[small(1), small(2), capital(3)]).copied(),
+        Some(2)
+    );
     assert_eq!(rt; tree.get(&[small(1), capital(4)]).copied(), Some(3));
     assert_eq!(rt; tree.prefix().len(), 1);
     assert_eq!(rt; tree.children().len(), 2);
@@ -198,7 +233,9 @@ impl Clone for Counted<'_> {
         if self.tally.refuses.get() {
             return Err(AllocError);
         }
-        self.tally.clones.set(self.tally.clones.get().saturating_add(1));
+        self.tally
+            .clones
+            .set(self.tally.clones.get().saturating_add(1));
         Ok(Counted {
             number: self.number,
             tally: self.tally,
@@ -208,8 +245,13 @@ impl Clone for Counted<'_> {
 
 impl Drop for Counted<'_> {
     fn drop(self) {
-        self.tally.drops.set(self.tally.drops.get().saturating_add(1));
-        let Counted { number: _, tally: _ } = self;
+        self.tally
+            .drops
+            .set(self.tally.drops.get().saturating_add(1));
+        let Counted {
+            number: _,
+            tally: _,
+        } = self;
     }
 }
 
@@ -234,7 +276,10 @@ const KEYS: [(&str, u32); 8] = [
 ];
 
 /// Inserts the eight keys, one of them twice.
-fn insert_eight<'a, T: AbstractRadixTreeMut<u8, Counted<'a>>>(tree: &mut T, tally: &'a Tally) -> Result<(), AllocError> {
+fn insert_eight<'a, T: AbstractRadixTreeMut<u8, Counted<'a>>>(
+    tree: &mut T,
+    tally: &'a Tally,
+) -> Result<(), AllocError> {
     tree.insert(b"aa", Counted { number: 2, tally })?;
     for (key, number) in KEYS {
         tree.insert(key.as_bytes(), Counted { number, tally })?;
@@ -243,7 +288,10 @@ fn insert_eight<'a, T: AbstractRadixTreeMut<u8, Counted<'a>>>(tree: &mut T, tall
 }
 
 /// Makes the tree of the eight keys, and says how many values were dropped by then.
-fn drops_of_eight<'a, T: AbstractRadixTreeMut<u8, Counted<'a>>>(alloc: Global, tally: &'a Tally) -> Result<u32, AllocError> {
+fn drops_of_eight<'a, T: AbstractRadixTreeMut<u8, Counted<'a>>>(
+    alloc: Global,
+    tally: &'a Tally,
+) -> Result<u32, AllocError> {
     let mut tree = T::empty(alloc);
     insert_eight(&mut tree, tally)?;
     Ok(tally.drops.get())
@@ -264,45 +312,64 @@ fn insert_clones_no_value_that_is_not_shared(rt: HostRuntime) -> Result<(), Fail
     Ok(())
 }
 
-/// Inserts a key into a tree of which a snapshot is kept. Answers the numbers there in the tree and in the snapshot.
-fn insert_beside_snapshot<'a>(tree: &mut ArcRadixTree<u8, Counted<'a>>, tally: &'a Tally) -> Result<(u32, u32), AllocError> {
-    let snapshot = tree.clone()?;
+/// Inserts a key into the tree of the eight keys, of which a copy is kept. Answers the numbers there in the tree and in the copy.
+fn insert_beside_copy<'a, T: AbstractRadixTreeMut<u8, Counted<'a>> + Clone>(
+    alloc: Global,
+    tally: &'a Tally,
+) -> Result<(u32, u32), AllocError> {
+    let mut tree = T::empty(alloc);
+    insert_eight(&mut tree, tally)?;
+    let copy = tree.clone()?;
     tree.insert(b"bcd", Counted { number: 10, tally })?;
-    Ok((number_at(tree, b"bcd"), number_at(&snapshot, b"bcd")))
+    Ok((number_at(&tree, b"bcd"), number_at(&copy, b"bcd")))
 }
 
 #[test]
 fn a_snapshot_stays_and_few_values_are_copied(rt: HostRuntime) -> Result<(), Fail> {
     let tally = Tally::new();
-    let mut tree = ArcRadixTree::empty(rt.alloc());
-    insert_eight(&mut tree, &tally)?;
-    let numbers = insert_beside_snapshot(&mut tree, &tally)?;
-    assert_eq!(rt; numbers, (10, 0));
+    let numbers = insert_beside_copy::<ArcRadixTree<u8, Counted>>(rt.alloc(), &tally)?;
+    assert_eq!(rt; numbers.0, 10);
+    assert_eq!(rt; numbers.1, 0);
     let clones = tally.clones.get();
     assert!(rt; clones <= 3);
     Ok(())
 }
 
-/// Tries to insert a key into a tree of which a snapshot is kept, where each clone of a value is refused.
-fn is_refused<'a>(tree: &mut ArcRadixTree<u8, Counted<'a>>, tally: &'a Tally) -> Result<bool, AllocError> {
-    let snapshot = tree.clone()?;
+/// Inserts a key into the tree of the eight keys, of which a copy is kept, where each clone of a value is refused. Answers
+/// whether that was refused and left both as they were.
+fn is_refused_and_unchanged<'a, T: AbstractRadixTreeMut<u8, Counted<'a>> + Clone>(
+    alloc: Global,
+    tally: &'a Tally,
+) -> Result<bool, AllocError> {
+    let mut tree = T::empty(alloc);
+    insert_eight(&mut tree, tally)?;
+    let copy = tree.clone()?;
     tally.refuses.set(true);
-    let refused = tree.insert(b"bcd", Counted { number: 10, tally }).is_err();
-    Ok(refused && number_at(&snapshot, b"bc") == 6)
+    let mut unchanged = tree.insert(b"bcd", Counted { number: 10, tally }).is_err();
+    for (key, number) in KEYS {
+        unchanged = unchanged
+            && number_at(&tree, key.as_bytes()) == number
+            && number_at(&copy, key.as_bytes()) == number;
+    }
+    Ok(unchanged && number_at(&tree, b"bcd") == 0)
 }
 
 #[test]
 fn a_refused_copy_leaves_the_same_map(rt: HostRuntime) -> Result<(), Fail> {
     let tally = Tally::new();
-    let mut tree = ArcRadixTree::empty(rt.alloc());
-    insert_eight(&mut tree, &tally)?;
-    let refused = is_refused(&mut tree, &tally)?;
-    assert!(rt; refused);
-    for (key, number) in KEYS {
-        let left = number_at(&tree, key.as_bytes());
-        assert_eq!(rt; left, number, "at {key}");
-    }
-    let added = number_at(&tree, b"bcd");
-    assert_eq!(rt; added, 0);
+    let unchanged = is_refused_and_unchanged::<ArcRadixTree<u8, Counted>>(rt.alloc(), &tally)?;
+    assert!(rt; unchanged);
+    Ok(())
+}
+
+/// A snapshot of a tree.
+fn snapshot_of(tree: &ArcRadixTree<u8, u32>) -> Result<ArcRadixTree<u8, u32>, AllocError> {
+    tree.clone()
+}
+
+#[test]
+fn a_snapshot_has_the_value_of_the_root(rt: HostRuntime) -> Result<(), Fail> {
+    let snapshot = snapshot_of(&ArcRadixTree::leaf(rt.alloc(), 5))?;
+    assert_eq!(rt; snapshot.get(b"").copied(), Some(5));
     Ok(())
 }
