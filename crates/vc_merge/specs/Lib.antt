@@ -14,5 +14,6 @@ pub mod Script
 pub mod MovesDown
 pub mod SiftViews
 pub mod InPlaceViews
+pub mod MovedViews
 pub mod Laws
 pub mod Yielded

@@ -121,7 +121,8 @@ impl<T, A: Allocator> InPlace<T, A> {
         Some(self.block.take_rest())
     }
 
-    fn pop_first(&mut self) -> T
+    /// Hands out the first element that is left, where there is one.
+    pub(crate) fn pop_first(&mut self) -> T
         requires { 0 < length self.old.rest }
         ensures value { self.old.rest ≡ result ∷ drop 1 self.old.rest }
         ensures others { self.new ≡ builder self.old.built (drop 1 self.old.rest) (self.old.room + 1) }
