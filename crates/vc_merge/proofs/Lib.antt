@@ -5,3 +5,4 @@ pub mod Runs
 pub mod Extending
 pub mod OneScript
 pub mod OneList
+mod Examples
