@@ -14,3 +14,4 @@ pub mod ClonesLemmas
 pub mod OneScript
 pub mod OneList
 pub mod Running
+mod Examples

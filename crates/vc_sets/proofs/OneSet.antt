@@ -11,42 +11,50 @@ use Rattle.vc_sets.specs.Laws.{SetOfIsOne, SetOfIsOneUpToEqual, OperationsInWord
 
 -- ---- the words on two tests
 
+-- false is not true
 not_true : false ≡ true → ⊥
 not_true e = true≢false (sym e)
 
+-- either of two
 or_in_words : (p q : Bool) → IsTrue (p || q) ↔ (IsTrue p ⊎ IsTrue q)
 or_in_words true q = (λ e. inl refl, λ h. refl)
 or_in_words false true = (λ e. inr refl, λ h. refl)
 or_in_words false false = (λ e. absurd (not_true e), λ h. ⊎_elim (λ e. e) (λ e. e) h)
 
+-- both of two
 and_in_words : (p q : Bool) → IsTrue (p && q) ↔ (IsTrue p × IsTrue q)
 and_in_words true true = (λ e. (refl, refl), λ h. refl)
 and_in_words true false = (λ e. absurd (not_true e), λ h. h.1)
 and_in_words false q = (λ e. absurd (not_true e), λ h. h.0)
 
+-- the first and not the second
 and_not_in_words : (p q : Bool) → IsTrue (and_not p q) ↔ (IsTrue p × (IsTrue q → ⊥))
 and_not_in_words true true = (λ e. absurd (not_true e), λ h. absurd (h.1 refl))
 and_not_in_words true false = (λ e. (refl, λ k. not_true k), λ h. refl)
 and_not_in_words false q = (λ e. absurd (not_true e), λ h. h.0)
 
+-- one of two and not the other
 exactly_one_in_words : (p q : Bool) → IsTrue (exactly_one p q) ↔ ((IsTrue p × (IsTrue q → ⊥)) ⊎ ((IsTrue p → ⊥) × IsTrue q))
 exactly_one_in_words true true = (λ e. absurd (not_true e), λ h. ⊎_elim (λ k. absurd (k.1 refl)) (λ k. absurd (k.0 refl)) h)
 exactly_one_in_words true false = (λ e. inl (refl, λ k. not_true k), λ h. refl)
 exactly_one_in_words false true = (λ e. inr ((λ k. not_true k), refl), λ h. refl)
 exactly_one_in_words false false = (λ e. absurd (not_true e), λ h. ⊎_elim (λ k. k.0) (λ k. k.1) h)
 
+-- a test that is the same as one in words
 by_words : {P : Type 0} {m n : Bool} → m ≡ n → IsTrue n ↔ P → IsTrue m ↔ P
 by_words {P} e h = subst (λ b. IsTrue b ↔ P) (sym e) h
 
 -- ---- what is kept
 
 module _ {X : Type 0} (f : Bool → Bool → Bool) where
+  -- where an element is taken as it is, one is kept
   one_by : (b : Bool) (x : X) (p q : Option X) → MatchBool b (IsSomeAnd p (λ z. x ≡ z)) (p ≡ None) → MatchBool b (IsSomeAnd q (λ z. x ≡ z)) (q ≡ None) → p ≡ q
   one_by true x (Some y) (Some z) h k = ap (λ w. Some w) (sym h ∙ k)
   one_by true x (Some y) None h k = absurd k
   one_by true x None q h k = absurd h
   one_by false x p q h k = h ∙ sym k
 
+  -- what is kept in one place is one
   one_kept : (left right p q : Option X) → Keeps f (λ x z. x ≡ z) (λ y z. y ≡ z) left right p → Keeps f (λ x z. x ≡ z) (λ y z. y ≡ z) left right q → p ≡ q
   one_kept (Some x) right p q h k = one_by (f true (is_some right)) x p q h k
   one_kept None (Some y) p q h k = one_by (f false true) y p q h k
@@ -82,19 +90,24 @@ module _ {X : Type 0} (cmp : X → X → Ordering) (total : IsTotalOrder cmp) wh
 
     -- ---- nothing is in a list that has no member
 
+    -- a list without members is empty
     no_members : (c : List X) → ((x : X) → IsTrue (member cmp c x) → ⊥) → c ≡ []
     no_members [] h = refl
     no_members (z ∷ zs) h = absurd (h z (ap (λ o. is_eq o || member cmp zs z) (tied_itself total z)))
 
+    -- an empty list has no member
     empty_member : (c : List X) (x : X) → c ≡ [] → IsTrue (member cmp c x) → ⊥
     empty_member c x e h = not_true (sym (ap (λ l. member cmp l x) e) ∙ h)
 
+    -- the members of an intersection
     in_both : (a b c : List X) → IsSetOf cmp L R ◌&&◌ a b c → (x : X) → IsTrue (member cmp c x) ↔ (IsTrue (member cmp a x) × IsTrue (member cmp b x))
     in_both a b c s = operations_in_words.intersection a b c s
 
+    -- the members of a difference
     in_left_alone : (a b c : List X) → IsSetOf cmp L R and_not a b c → (x : X) → IsTrue (member cmp c x) ↔ (IsTrue (member cmp a x) × (IsTrue (member cmp b x) → ⊥))
     in_left_alone a b c s = operations_in_words.difference a b c s
 
+    -- a test that is not false is true
     member_or_not : (b : Bool) → ((IsTrue b → ⊥) → ⊥) → IsTrue b
     member_or_not true h = refl
     member_or_not false h = absurd (h not_true)
@@ -104,8 +117,10 @@ module _ {X : Type 0} (cmp : X → X → Ordering) (total : IsTotalOrder cmp) wh
     tests_are_of_operations = record {
       disjoint = λ a b c s. (
         (λ h. no_members c (λ x m. let w = (in_both a b c s x).0 m in h x w.0 w.1)),
-        λ e x p q. empty_member c x e ((in_both a b c s x).1 (p, q)));
+        λ e x p q. empty_member c x e ((in_both a b c s x).1 (p, q)),
+      );
       subset = λ a b c s. (
         (λ h. no_members c (λ x m. let w = (in_left_alone a b c s x).0 m in w.1 (h x w.0))),
-        λ e x p. member_or_not (member cmp b x) (λ n. empty_member c x e ((in_left_alone a b c s x).1 (p, n))));
+        λ e x p. member_or_not (member cmp b x) (λ n. empty_member c x e ((in_left_alone a b c s x).1 (p, n))),
+      );
     }
