@@ -9,6 +9,8 @@ mod comparisons;
 pub mod conversions;
 mod iteration;
 mod removal;
+#[cfg(test)]
+mod tests;
 
 use crate::combine::combine_either;
 use iteration::elements_of;
