@@ -2,10 +2,9 @@
 use super::conversions::set_of_list;
 use super::{AbstractVecSet, VecSet};
 use smallvec::SmallVec;
-use std::cell::Cell;
 use std::cmp::{Ordering, Reverse};
 use std::collections::BTreeSet;
-use std::default::MadeWith;
+use std::rc::Rc;
 use std::test::Fail;
 
 type Numbers = VecSet<u32, 2>;
@@ -75,5 +74,34 @@ fn sets_are_ordered_as_their_lists(rt: HostRuntime) -> Result<(), Fail> {
     let low = numbers(&rt, &[1, 2])?;
     let high = numbers(&rt, &[1, 3])?;
     assert_eq!(rt; low.cmp(&high), Ordering::Less);
+    Ok(())
+}
+
+type Shared = Option<Rc<u32>>;
+
+fn count_of(element: &Shared) -> usize {
+    element.as_ref().map_or(0, |rc| Rc::strong_count(rc))
+}
+
+#[test]
+fn each_element_is_dropped_once(rt: HostRuntime) -> Result<(), Fail> {
+    let first: Shared = Some(Rc::new(rt.alloc(), 1)?);
+    let second: Shared = Some(Rc::new(rt.alloc(), 2)?);
+    let third: Shared = Some(Rc::new(rt.alloc(), 3)?);
+    let mut set = VecSet::<Shared, 1>::empty(rt.alloc());
+    set.insert(first.clone()?)?;
+    set.insert(second.clone()?)?;
+    set.insert(third.clone()?)?;
+    assert_eq!(rt; count_of(&second), 2);
+    set.remove(&second);
+    assert_eq!(rt; count_of(&second), 1);
+    set.retain(|element| *element != third);
+    assert_eq!(rt; count_of(&third), 1);
+    set.insert(second.clone()?)?;
+    let mut elements = set.into_iter();
+    drop(elements.next());
+    assert_eq!(rt; (count_of(&first), count_of(&second)), (1, 2));
+    drop(elements);
+    assert_eq!(rt; count_of(&second), 1);
     Ok(())
 }
