@@ -1,5 +1,6 @@
 //! The set operations in place. Elements of the left set are moved and never cloned; of two equal elements the left one itself is kept.
-ghost use Rattle.std.specs.Prelude.{◌≡◌, ◌+◌, ◌≤◌, ◌||◌, ◌&&◌, false, true, not, take, length, OnErr, OnOk};
+ghost use Rattle.std.specs.Prelude.{◌≡◌, ◌+◌, ◌≤◌, ◌||◌, ◌&&◌, false, true, not, take, length, List, OnErr, OnOk};
+ghost use Rattle.std.specs.Iterator.{Drains, IsFinite};
 ghost use Rattle.vc_merge.specs.Ascending.{Ascends};
 ghost use Rattle.vc_sets.specs.SetOf.{ClonesAreEqual, IsSetOf, and_not, exactly_one};
 ghost use Rattle.vc_sets.specs.Select.{keeps};
@@ -10,7 +11,9 @@ use smallvec::SmallVec;
 use std::alloc::{AllocError, Allocator};
 use std::default::MadeWith;
 use std::ops::{BitAndAssign, SubAssign};
+use vc_merge::iterators::SortedByItem;
 use vc_merge::merge::merge;
+use vc_merge::moved::MovedState;
 use vc_merge::moving::{InPlaceState, SiftState};
 use vc_merge::states::Uncounted;
 
@@ -44,7 +47,57 @@ fn unite<const BOTH: bool, T: Ord + Clone + MadeWith<A> + Drop, const N: usize, 
     Ok(())
 }
 
+/// The same with the elements of the right list moved. All growths are made before the first element is moved.
+fn absorb<const BOTH: bool, T: Ord + MadeWith<A> + Drop, const N: usize, const M: usize, A: Allocator + Copy>(
+    list: &mut SmallVec<T, N, A>,
+    that: SmallVec<T, M, A>,
+) -> Result<(), AllocError>
+    requires left_ascends { Ascends T.cmp list.old.items }
+    requires right_ascends { Ascends T.cmp that.items }
+    ensures ok { OnOk result (IsSetOf T.cmp (λ x y. x ≡ y) (λ x y. x ≡ y) (keeps true true BOTH) list.old.items that.items list.new.items) }
+    ensures err { OnErr result (list.new.items ≡ list.old.items) }
+{
+    let mut state = MovedState::open(list, that)?;
+    let _never_refused = merge(&mut state, &EitherOp::<BOTH>, &mut Uncounted);
+    state.finish(list);
+    Ok(())
+}
+
 impl<T: Ord + MadeWith<A> + Drop, const N: usize, A: Allocator + Copy> VecSet<T, N, A> {
+    /// Adds the elements of the other set, which are moved. Of two equal elements the left one stays.
+    ///
+    /// Refused, it leaves this set as it was and drops the other one: all growths come before the first element is moved.
+    pub fn bitor_assign<const M: usize>(&mut self, that: VecSet<T, M, A>) -> Result<(), AllocError>
+        ensures union { OnOk result (IsSetOf T.cmp (λ x y. x ≡ y) (λ x y. x ≡ y) ◌||◌ self.old that self.new) }
+        ensures err { OnErr result (self.new ≡ self.old) }
+    {
+        absorb::<true, _, _, _, _>(&mut self.elements, that.into_inner())
+    }
+
+    /// Keeps what is in exactly one of the sets: drops what is in both, and moves in what is in the other set alone.
+    ///
+    /// Refused, it leaves this set as it was and drops the other one: all growths come before the first element is moved.
+    pub fn bitxor_assign<const M: usize>(&mut self, that: VecSet<T, M, A>) -> Result<(), AllocError>
+        ensures symmetric_difference { OnOk result (IsSetOf T.cmp (λ x y. x ≡ y) (λ x y. x ≡ y) exactly_one self.old that self.new) }
+        ensures err { OnErr result (self.new ≡ self.old) }
+    {
+        absorb::<false, _, _, _, _>(&mut self.elements, that.into_inner())
+    }
+
+    /// Adds the items of an iterator that ascends strictly and ends, which are moved. Of two equal elements the left one stays.
+    ///
+    /// Refused, it leaves the set as it was, and drops the items that came and the iterator.
+    pub fn extend<I: Iterator<Item = T> + SortedByItem>(&mut self, iter: I) -> Result<(), AllocError>
+        requires can { I.can_next iter }
+        requires ends { IsFinite (I.remaining iter) }
+        requires sorted { I.is_sorted iter }
+        ensures union { OnOk result ((items : List T) × Drains I.next_gives iter items × IsSetOf T.cmp (λ x y. x ≡ y) (λ x y. x ≡ y) ◌||◌ self.old items self.new) }
+        ensures err { OnErr result (self.new ≡ self.old) }
+    {
+        let that: VecSet<T, N, A> = VecSet::from_iter(*self.elements.allocator(), iter)?;
+        self.bitor_assign(that)
+    }
+
     /// Keeps what is in the other set too. Takes no memory.
     pub fn intersection_with<S: AbstractVecSet<T>>(&mut self, that: &S)
         ensures { IsSetOf T.cmp (λ x y. x ≡ y) (λ x y. x ≡ y) ◌&&◌ self.old (S.elements that.now) self.new }
