@@ -6,6 +6,7 @@ use Rattle.smallvec.proofs.SmallVecLemmas.{items-with_items}
 use Rattle.std.specs.List.Retain.{IsFiltered, ReturnsInTurn}
 
 module _ {X : Type 0} where
+  -- a write changes nothing behind it
   drop-set_before : (l : List X) (i j : ℕ) (b : X) → i < j → drop j (set l i b) ≡ drop j l
   drop-set_before [] i j b h = refl
   drop-set_before (x ∷ l) i zero b h = absurd (omega arith)
@@ -21,6 +22,7 @@ module _ {X : Type 0} where
   front-swapped (y ∷ ys) (suc k) (suc i) d le lt = ap (λ l. y ∷ l) (front-swapped ys k i d (omega arith) (omega arith))
 
 module _ {S X : Type 0} (R : S → X → Bool → S → Type 0) where
+  -- what is chosen of a list, by its first element
   chosen-cons : (b : Bool) (bs : List Bool) (x : X) (xs : List X) → cond b (x ∷ items_where_true bs xs) (items_where_true bs xs) ≡ items_where_true (b ∷ bs) (x ∷ xs)
   chosen-cons true bs x xs = refl
   chosen-cons false bs x xs = refl
@@ -36,13 +38,16 @@ module _ {S X : Type 0} (R : S → X → Bool → S → Type 0) where
     pub rest : drop i ys ≡ drop i xs
     pub going : (zs : List X) → IsFiltered R s (drop i xs) zs → IsFiltered R s₀ xs (take k ys ++ zs)
 
+  -- before the first question
   pub KeepsInFront-start : (s : S) (xs : List X) → KeepsInFront s xs s xs 0 0
   KeepsInFront-start s xs = record { behind = omega arith; long = refl; rest = refl; going = λ zs f. f }
 
   module _ (s₀ : S) (xs : List X) (s t : S) (ys : List X) (k i : ℕ) (x : X) (h : KeepsInFront s₀ xs s ys k i) (lt : i < length ys) (is : x ≡ get_or ys i x) where
+    -- the element at i, and what stands behind it, are what is left of the list
     both : x ∷ drop (suc i) ys ≡ drop i xs
     both = ap (λ y. y ∷ drop (suc i) ys) is ∙ sym (drop-cons ys i x lt) ∙ h.rest
 
+    -- behind it, nothing was moved
     later : drop (i + 1) ys ≡ drop (i + 1) xs
     later =
         let n : i < length xs = omega (arith, h.long) in
@@ -54,9 +59,11 @@ module _ {S X : Type 0} (R : S → X → Bool → S → Type 0) where
         let g : IsFiltered R t (drop (suc i) ys) zs = subst (λ l. IsFiltered R t l zs) (sym later ∙ ap (λ j. drop j ys) (add-one i)) f in
         h.going (cond b (x ∷ zs) zs) (subst (λ l. IsFiltered R s l (cond b (x ∷ zs) zs)) both (filtered-cons s t x b (drop (suc i) ys) zs r g))
 
+    -- an element is refused, and stays where it is
     pub KeepsInFront-refused : R s x false t → KeepsInFront s₀ xs t ys k (i + 1)
     KeepsInFront-refused r = record { behind = omega (arith, h.behind); long = h.long; rest = later; going = λ zs f. asked false zs r f }
 
+    -- an element is accepted, and swapped to the end of those in front
     pub KeepsInFront-accepted : (ws : List X) → R s x true t → length ws ≡ length ys → SwappedAt ys ws k i → KeepsInFront s₀ xs t ws (k + 1) (i + 1)
     KeepsInFront-accepted ws r same swapped =
         let n : k < i + 1 = omega (arith, h.behind) in
@@ -70,12 +77,14 @@ module _ {S X : Type 0} (R : S → X → Bool → S → Type 0) where
           going = λ zs f. subst (λ l. IsFiltered R s₀ xs l) (sym (ap (λ l. l ++ zs) front ∙ append_assoc (take k ys) (x ∷ []) zs)) (asked true zs r f);
         }
 
+  -- nothing is left behind the end
   drop_past : (xs : List X) (i : ℕ) → length xs ≤ i → drop i xs ≡ []
   drop_past [] zero le = refl
   drop_past [] (suc i) le = refl
   drop_past (x ∷ xs) zero le = absurd (omega arith)
   drop_past (x ∷ xs) (suc i) le = drop_past xs i (omega arith)
 
+  -- all were asked
   pub KeepsInFront-all : (s₀ : S) (xs : List X) (s : S) (ys : List X) (k i : ℕ) → KeepsInFront s₀ xs s ys k i → length xs ≤ i → IsFiltered R s₀ xs (take k ys)
   KeepsInFront-all s₀ xs s ys k i h le =
       let none : IsFiltered R s (drop i xs) [] = subst (λ l. IsFiltered R s l []) (sym (drop_past xs i le)) ([], s, refl, refl, refl) in

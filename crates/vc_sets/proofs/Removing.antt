@@ -26,12 +26,14 @@ all_taken s t xs u y n = sym (taken s t xs y ∙ ap (λ l. xs ++ l) n.0 ∙ appe
 -- ---- elements that go
 
 module _ {X : Type 0} (P : X → Type 0) where
+  -- what holds of each element holds of those that are left without one
   each-without : (xs : List X) (i : ℕ) → AllByRecursion P xs → AllByRecursion P (take i xs ++ drop (suc i) xs)
   each-without [] zero p = tt
   each-without [] (suc i) p = tt
   each-without (x ∷ xs) zero p = p.1
   each-without (x ∷ xs) (suc i) p = (p.0, each-without xs i p.1)
 
+  -- and of those that a test chooses
   each-chosen : (bs : List Bool) (xs : List X) → AllByRecursion P xs → AllByRecursion P (items_where_true bs xs)
   each-chosen [] xs p = tt
   each-chosen (b ∷ bs) [] p = tt
@@ -59,6 +61,7 @@ module _ {X : Type 0} (cmp : X → X → Ordering) where
     -- ---- clones
 
     module _ (is_clone : X → X → Type 0) (equal : (x y : X) → is_clone x y → cmp x y ≡ Equal) where
+      -- the clones of what is above an element are above its clone
       above-clones : (x y : X) (xs ys : List X) → cmp x y ≡ Equal → AllZip is_clone xs ys → AllByRecursion (λ z. cmp x z ≡ Less) xs → AllByRecursion (λ z. cmp y z ≡ Less) ys
       above-clones x y [] [] e z p = tt
       above-clones x y [] (w ∷ ys) e z p = absurd z
@@ -75,14 +78,17 @@ module _ {X : Type 0} (cmp : X → X → Ordering) where
 
     -- ---- an equal element is taken out
 
+    -- the element in front is the one that is taken out
     first_by : (b : Bool) (y z : X) (ys : List X) → AllByRecursion (λ w. cmp y w ≡ Less) ys → eq_by_cmp cmp y z ≡ b → element_at cmp ys z ≡ cond b None (cond b (Some y) (element_at cmp ys z))
     first_by true y z ys p e = element_at-none cmp total y z ys p e
     first_by false y z ys p e = refl
 
+    -- the one that is taken out stands behind
     later_by : (b : Bool) (x y z : X) (o : Option X) → cmp y x ≡ Less → eq_by_cmp cmp x z ≡ b → cond (eq_by_cmp cmp y z) (Some y) (cond b None o) ≡ cond b None (cond (eq_by_cmp cmp y z) (Some y) o)
     later_by true x y z o e f = ap (λ c. cond c (Some y) None) (ap is_eq (sym (alike_right total x z y (equal_from_is_eq (cmp x z) f)) ∙ e))
     later_by false x y z o e f = refl
 
+    -- what stands where, without the element that is equal to x
     pub element_at-without : (xs : List X) (x : X) (i : ℕ) → i < length xs → ((d : X) → cmp (get_or xs i d) x ≡ Equal) → Ascends cmp xs → (z : X) → element_at cmp (take i xs ++ drop (suc i) xs) z ≡ cond (eq_by_cmp cmp x z) None (element_at cmp xs z)
     unfolding IsStrictlySortedBy
     element_at-without [] x i h e p z = absurd (omega arith)
@@ -95,26 +101,32 @@ module _ {X : Type 0} (cmp : X → X → Ordering) where
 
     -- ---- no equal element stands there
 
+    -- the same element stands at equal ones
     element_at-alike : (xs : List X) (x z : X) → cmp x z ≡ Equal → element_at cmp xs x ≡ element_at cmp xs z
     element_at-alike [] x z e = refl
     element_at-alike (y ∷ ys) x z e = (λ i. cond (is_eq (alike_right total x z y e i)) (Some y) (element_at-alike ys x z e i))
 
+    -- not something is nothing
     none_from_not : (o : Option X) → is_some o ≡ false → o ≡ None
     none_from_not (Some x) e = absurd (true≢false e)
     none_from_not None e = refl
 
+    -- nothing stands at what is equal to an element that is not there
     nothing_by : (b : Bool) (xs : List X) (x z : X) → element_at cmp xs x ≡ None → eq_by_cmp cmp x z ≡ b → element_at cmp xs z ≡ cond b None (element_at cmp xs z)
     nothing_by true xs x z n e = sym (element_at-alike xs x z (equal_from_is_eq (cmp x z) e)) ∙ n
     nothing_by false xs x z n e = refl
 
+    -- what stands where, if no element is equal to x
     pub element_at-not_there : (xs : List X) (x : X) (i : ℕ) → IsPlace cmp xs x (Err i) → (z : X) → element_at cmp xs z ≡ cond (eq_by_cmp cmp x z) None (element_at cmp xs z)
     element_at-not_there xs x i p z = nothing_by (eq_by_cmp cmp x z) xs x z (none_from_not (element_at cmp xs x) (sym (member-is_some cmp xs x) ∙ sym (place-is_ok cmp total xs x (Err i) p))) refl
 
     -- ---- members follow from what is kept
 
+    -- something is left where it was there and was not taken out
     none_by : (b : Bool) (o : Option X) → is_some (cond b None o) ≡ (not b && is_some o)
     none_by true o = refl
     none_by false o = refl
 
+    -- the members, once what is equal to x was taken out
     pub members-taken : (xs ys : List X) (x : X) → ((z : X) → element_at cmp ys z ≡ cond (eq_by_cmp cmp x z) None (element_at cmp xs z)) → (z : X) → member cmp ys z ≡ (not (eq_by_cmp cmp x z) && member cmp xs z)
     members-taken xs ys x h z = member-is_some cmp ys z ∙ ap is_some (h z) ∙ none_by (eq_by_cmp cmp x z) (element_at cmp xs z) ∙ ap (λ b. not (eq_by_cmp cmp x z) && b) (sym (member-is_some cmp xs z))

@@ -1,6 +1,7 @@
 //! Sets from elements and lists, and lists from sets.
 ghost use Rattle.std.specs.Prelude.{◌≡◌, ◌≤◌, [], ◌∷◌, IsOk, IfOk};
 ghost use Rattle.std.specs.Iterator.{Drains, IsFinite};
+ghost use Rattle.std.specs.Iterator.Runs.{WholeRun};
 ghost use Rattle.std.specs.List.{AllZip};
 ghost use Rattle.vc_merge.specs.Ascending.{Ascends};
 ghost use Rattle.vc_sets.specs.SetOf.{ClonesAreEqual};
@@ -53,7 +54,8 @@ impl<T: Ord + MadeWith<A> + Drop, const N: usize, A: Allocator + Copy> VecSet<T,
         requires can { I.can_next iter }
         requires ends { IsFinite (I.remaining iter) }
         requires sorted { I.is_sorted iter }
-        ensures { IfOk result (λ s. Drains I.next_gives iter s) }
+        ensures items { IfOk result (λ s. Drains I.next_gives iter s) }
+        ensures runs { IfOk result (λ s. WholeRun I.next_gives iter (λ p. s ≡ p.items)) }
     {
         let elements = iter.collect(alloc)?;
         Ok(VecSet { elements })

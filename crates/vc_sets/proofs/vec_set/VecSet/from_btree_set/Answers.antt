@@ -10,4 +10,4 @@ drained ks keys (Ok s) e d = all_taken ks d.1.0 s d.0 d.1.1 d.1.2 ∙ e
 drained ks keys (Err x) e d = tt
 
 pub returns : goal.returns
-returns g c = drained _ _ _ c.into_iter.ensures.into_iter_gives.0 c.from_iter.ensures
+returns g c = drained _ _ _ c.into_iter.ensures.into_iter_gives.0 c.from_iter.ensures.items
