@@ -3,7 +3,7 @@
 --     known_within        what is known to agree lies before the place
 --     splits_lower, splits_higher, grown_from        how the node is split there, and how it has grown
 --     agree_one        a child that begins as a key agrees with it in one component
-use Rattle.std.proofs.Common.{◌≡◌, ℕ, zero, suc, ◌+◌, ◌-◌, ◌<◌, ◌≤◌, [], ◌∷◌, ◌++◌, List, ◌⊎◌, inl, inr, Some, refl, sym, ap, subst, ◌∙◌, arith, take, drop, length, length-drop, true, false, true≢false, cond}
+use Rattle.std.proofs.Common.{◌≡◌, ℕ, zero, suc, ◌-◌, ◌<◌, ◌≤◌, [], ◌∷◌, ◌++◌, List, ◌⊎◌, inl, inr, Some, refl, sym, ap, subst, ◌∙◌, arith, take, drop, length, length-drop, true, false, true≢false, cond}
 use Rattle.std.proofs.lemmas.Bool.{cases_lt}
 use Rattle.std.proofs.lemmas.List.{take-take, take_all, take-append-drop}
 use Rattle.std.specs.Cmp.{IsTotalOrder}
@@ -47,24 +47,32 @@ module _ {K : Type 0} (cmp : K → K → Ordering) where
       λ i. cond (both.0 i) (rest i) false
 
   -- the prefix as far as it agrees, and the rest of the key, make up the key
-  pub same_joined : IsTotalOrder cmp → (p q key : List K) (n : ℕ) → p ≡ q → Agree cmp p key n → same_key cmp (take n q ++ take (length key - n) (drop n key)) key ≡ true
+  pub same_joined : IsTotalOrder cmp → (p q key : List K) (n : ℕ) → p ≡ q → Agree cmp p key n
+      → same_key cmp (take n q ++ take (length key - n) (drop n key)) key ≡ true
   same_joined o p q key n e a =
-      let s = same_before o (take n q) (take n key) (drop n key) (subst (λ l. same_key cmp (take n l) (take n key) ≡ true) e a.same) in
+      let s =
+      same_before o (take n q) (take n key) (drop n key)
+      (subst (λ l. same_key cmp (take n l) (take n key) ≡ true) e a.same) in
       rw (drop_all key n) (subst (λ k. same_key cmp (take n q ++ drop n key) k ≡ true) (take-append-drop n key) s)
 
   -- the whole prefix and the rest of the key
-  pub same_behind_whole : IsTotalOrder cmp → (p q key : List K) → p ≡ q → Agree cmp p key (length p) → same_key cmp (q ++ take (length key - length p) (drop (length p) key)) key ≡ true
+  pub same_behind_whole : IsTotalOrder cmp → (p q key : List K) → p ≡ q → Agree cmp p key (length p)
+      → same_key cmp (q ++ take (length key - length p) (drop (length p) key)) key ≡ true
   same_behind_whole o p q key e a =
-      subst (λ l. same_key cmp (l ++ take (length key - length p) (drop (length p) key)) key ≡ true) (ap (take (length p)) (sym e) ∙ take_all (length p) p (omega arith) ∙ e)
+      subst (λ l. same_key cmp (l ++ take (length key - length p) (drop (length p) key)) key ≡ true)
+      (ap (take (length p)) (sym e) ∙ take_all (length p) p (omega arith) ∙ e)
       (same_joined o p q key (length p) e a)
 
   -- a key that ends where it agrees is the prefix as far as that
-  pub same_ended : (p q key : List K) (n : ℕ) → p ≡ q → Agree cmp p key n → n ≡ length key → same_key cmp (take n q) key ≡ true
+  pub same_ended : (p q key : List K) (n : ℕ) → p ≡ q → Agree cmp p key n → n ≡ length key
+      → same_key cmp (take n q) key ≡ true
   same_ended p q key n e a h =
-      subst (λ k. same_key cmp (take n q) k ≡ true) (take_all n key (omega arith)) (subst (λ l. same_key cmp (take n l) (take n key) ≡ true) e a.same)
+      subst (λ k. same_key cmp (take n q) k ≡ true) (take_all n key (omega arith))
+      (subst (λ l. same_key cmp (take n l) (take n key) ≡ true) e a.same)
 
   -- where keys agree beyond a place, they agree at it
-  agree_at : (p k : List K) (m n : ℕ) (x y : K) → same_key cmp (take m p) (take m k) ≡ true → n < m → slice_get p n ≡ Some x → slice_get k n ≡ Some y → is_eq (cmp x y) ≡ true
+  agree_at : (p k : List K) (m n : ℕ) (x y : K) → same_key cmp (take m p) (take m k) ≡ true → n < m
+      → slice_get p n ≡ Some x → slice_get k n ≡ Some y → is_eq (cmp x y) ≡ true
   agree_at [] k m n x y s h d e = none_some x d
   agree_at (a ∷ p) [] m n x y s h d e = none_some y e
   agree_at (a ∷ p) (b ∷ k) zero n x y s h d e = absurd (omega arith)
@@ -72,18 +80,23 @@ module _ {K : Type 0} (cmp : K → K → Ordering) where
       let f : a ≡ x = cc in
       let g : b ≡ y = cc in
       rw (← f, ← g) ((both_true (is_eq (cmp a b)) (same_key cmp (take m p) (take m k)) s).0)
-  agree_at (a ∷ p) (b ∷ k) (suc m) (suc n) x y s h d e = agree_at p k m n x y ((both_true (is_eq (cmp a b)) (same_key cmp (take m p) (take m k)) s).1) (omega arith) d e
+  agree_at (a ∷ p) (b ∷ k) (suc m) (suc n) x y s h d e =
+      agree_at p k m n x y ((both_true (is_eq (cmp a b)) (same_key cmp (take m p) (take m k)) s).1) (omega arith) d e
 
   -- what is known to agree lies before the place where the key parts
-  pub known_within : (order : Ordering) (p q key : List K) (known n : ℕ) → p ≡ q → is_eq order ≡ false → Agree cmp q key known → PartsAt cmp order p key n → known ≤ n
+  pub known_within : (order : Ordering) (p q key : List K) (known n : ℕ) → p ≡ q → is_eq order ≡ false
+      → Agree cmp q key known → PartsAt cmp order p key n → known ≤ n
   known_within order p q key known n e b a s = by (cases_lt n known)
     where
       by : (n < known) ⊎ (known ≤ n) → known ≤ n
-      by (inl h) = absurd (true≢false (sym (agree_at q key known n s.old s.new a.same h (ap (λ l. slice_get l n) (sym e) ∙ s.old_at) s.new_at) ∙ ap is_eq s.ordered ∙ b))
+      by (inl h) =
+          absurd (true≢false (sym (agree_at q key known n s.old s.new a.same h
+          (ap (λ l. slice_get l n) (sym e) ∙ s.old_at) s.new_at) ∙ ap is_eq s.ordered ∙ b))
       by (inr h) = h
 
   -- a child that begins as a key agrees with it in one component
-  pub agree_one : (p key : List K) (x y : K) (q : List K) → slice_get p 0 ≡ Some x → is_eq (cmp x y) ≡ true → key ≡ y ∷ q → Agree cmp p key 1
+  pub agree_one : (p key : List K) (x y : K) (q : List K) → slice_get p 0 ≡ Some x → is_eq (cmp x y) ≡ true
+      → key ≡ y ∷ q → Agree cmp p key 1
   agree_one [] key x y q d e k = none_some x d
   agree_one (a ∷ p) key x y q d e k =
       let f : a ≡ x = cc in
@@ -95,7 +108,8 @@ module _ {K : Type 0} (cmp : K → K → Ordering) where
 
   module _ {V : Type 0} where
     -- the prefix goes on with a lesser component: the leaf comes after the half below
-    pub splits_lower : (t : Tree K V) (p key : List K) (n : ℕ) → p ≡ t.prefix → PartsAt cmp Less p key n → IsSolid t.value t.children → SplitsAt cmp t n (take (length key - n) (drop n key)) 1
+    pub splits_lower : (t : Tree K V) (p key : List K) (n : ℕ) → p ≡ t.prefix → PartsAt cmp Less p key n
+        → IsSolid t.value t.children → SplitsAt cmp t n (take (length key - n) (drop n key)) 1
     splits_lower t p key n e s solid =
         let old = ap (λ l. slice_get l n) (sym e) ∙ s.old_at in
         record {
@@ -106,12 +120,15 @@ module _ {K : Type 0} (cmp : K → K → Ordering) where
             first = s.new;
             others = drop (suc n) key;
             key_is = drop_all key n ∙ drop_at key n s.new s.new_at;
-            gap = subst (λ l. IsGapAt cmp (grow l t.value t.children bare) s.new 1) (sym (drop_at t.prefix n s.old old)) (s.ordered, tt);
+            gap =
+                subst (λ l. IsGapAt cmp (grow l t.value t.children bare) s.new 1) (sym (drop_at t.prefix n s.old old))
+                (s.ordered, tt);
           };
         }
 
     -- it goes on with a greater one: the leaf comes before
-    pub splits_higher : IsTotalOrder cmp → (t : Tree K V) (p key : List K) (n : ℕ) → p ≡ t.prefix → PartsAt cmp Greater p key n → IsSolid t.value t.children → SplitsAt cmp t n (take (length key - n) (drop n key)) 0
+    pub splits_higher : IsTotalOrder cmp → (t : Tree K V) (p key : List K) (n : ℕ) → p ≡ t.prefix
+        → PartsAt cmp Greater p key n → IsSolid t.value t.children → SplitsAt cmp t n (take (length key - n) (drop n key)) 0
     splits_higher o t p key n e s solid =
         let old = ap (λ l. slice_get l n) (sym e) ∙ s.old_at in
         record {
@@ -122,7 +139,9 @@ module _ {K : Type 0} (cmp : K → K → Ordering) where
             first = s.new;
             others = drop (suc n) key;
             key_is = drop_all key n ∙ drop_at key n s.new s.new_at;
-            gap = subst (λ l. IsGapAt cmp (grow l t.value t.children bare) s.new 0) (sym (drop_at t.prefix n s.old old)) (less cmp o s.old s.new s.ordered, tt);
+            gap =
+                subst (λ l. IsGapAt cmp (grow l t.value t.children bare) s.new 0) (sym (drop_at t.prefix n s.old old))
+                (less cmp o s.old s.new s.ordered, tt);
           };
         }
 

@@ -18,7 +18,8 @@ get_at (y ∷ xs) (suc i) x h e = get_at xs i x (omega arith) e
 
 module _ {K : Type 0} (cmp : K → K → Ordering) where
   -- keys that agree up to a place, and there too
-  same_more : (p k : List K) (n : ℕ) (x y : K) → same_key cmp (take n p) (take n k) ≡ true → slice_get p n ≡ Some x → slice_get k n ≡ Some y → cmp x y ≡ Equal
+  same_more : (p k : List K) (n : ℕ) (x y : K) → same_key cmp (take n p) (take n k) ≡ true → slice_get p n ≡ Some x
+      → slice_get k n ≡ Some y → cmp x y ≡ Equal
       → same_key cmp (take (suc n) p) (take (suc n) k) ≡ true
   same_more [] k n x y s d e h = none_some x d
   same_more (a ∷ p) [] n x y s d e h = none_some y e
@@ -29,7 +30,8 @@ module _ {K : Type 0} (cmp : K → K → Ordering) where
       λ i. cond (both.0 i) (rest i) false
 
   -- one more component agrees
-  pub agree_more : (p k : List K) (n : ℕ) (x y : K) → Agree cmp p k n → n < length p → n < length k → x ≡ get_or p n x → y ≡ get_or k n y → cmp x y ≡ Equal → Agree cmp p k (n + 1)
+  pub agree_more : (p k : List K) (n : ℕ) (x y : K) → Agree cmp p k n → n < length p → n < length k → x ≡ get_or p n x
+      → y ≡ get_or k n y → cmp x y ≡ Equal → Agree cmp p k (n + 1)
   agree_more p k n x y a g h d e c = record {
     within_prefix = omega arith;
     within_key = omega arith;
@@ -37,7 +39,8 @@ module _ {K : Type 0} (cmp : K → K → Ordering) where
   }
 
   -- the next component does not agree
-  pub parts_here : (order : Ordering) (p k : List K) (n : ℕ) (x y : K) → Agree cmp p k n → n < length p → n < length k → x ≡ get_or p n x → y ≡ get_or k n y → cmp x y ≡ order → PartsAt cmp order p k n
+  pub parts_here : (order : Ordering) (p k : List K) (n : ℕ) (x y : K) → Agree cmp p k n → n < length p → n < length k
+      → x ≡ get_or p n x → y ≡ get_or k n y → cmp x y ≡ order → PartsAt cmp order p k n
   parts_here order p k n x y a g h d e c = record {
     agree = a;
     old = x;

@@ -28,7 +28,8 @@ module _ {K V : Type 0} (keeps : V → V → Type 0) where
   tree_alike_refl r t = (refl, kept_itself keeps r t.value, alike_refl r t.children)
 
   -- equal lists are alike
-  pub alike_same : ((v : V) → keeps v v) → (xs ys : List (Tree K V)) → ys ≡ xs → IsAlikeIn keeps (forest (map (λ t. t) xs)) (forest (map (λ t. t) ys))
+  pub alike_same : ((v : V) → keeps v v) → (xs ys : List (Tree K V)) → ys ≡ xs
+      → IsAlikeIn keeps (forest (map (λ t. t) xs)) (forest (map (λ t. t) ys))
   alike_same r xs ys e = rw e (alike_refl r (forest (map (λ t. t) xs)))
 
 -- what is the same is a copy
@@ -44,14 +45,21 @@ kept_copies is_clone (Some v) None h = absurd h
 
 module _ {K V : Type 0} (is_clone : V → V → Type 0) where
   -- snapshots of trees are alike to them
-  snapshots_alike : (xs ys : List (Tree K V)) → AllZip (IsSnapshot is_clone) xs ys → IsAlikeIn (Copies is_clone) (forest (map (λ t. t) xs)) (forest (map (λ t. t) ys))
+  snapshots_alike : (xs ys : List (Tree K V)) → AllZip (IsSnapshot is_clone) xs ys
+      → IsAlikeIn (Copies is_clone) (forest (map (λ t. t) xs)) (forest (map (λ t. t) ys))
   snapshots_alike [] [] h = tt
-  snapshots_alike (x ∷ xs) (y ∷ ys) h =
-      (sym h.0.0, kept_copies is_clone x.value y.value h.0.1, rw h.0.2 (alike_refl (Copies is_clone) (λ v. itself) x.children), snapshots_alike xs ys h.1)
+  snapshots_alike (x ∷ xs) (y ∷ ys) h = (
+    sym h.0.0,
+    kept_copies is_clone x.value y.value h.0.1,
+    rw h.0.2
+        (alike_refl (Copies is_clone) (λ v. itself) x.children),
+    snapshots_alike xs ys h.1,
+  )
   snapshots_alike [] (y ∷ ys) h = absurd h
   snapshots_alike (x ∷ xs) [] h = absurd h
 
   -- children that were shared are copied to snapshots of them
-  pub kept_alike : (xs ys : List (Tree K V)) → (ys ≡ xs) ⊎ AllZip (IsSnapshot is_clone) xs ys → IsAlikeIn (Copies is_clone) (forest (map (λ t. t) xs)) (forest (map (λ t. t) ys))
+  pub kept_alike : (xs ys : List (Tree K V)) → (ys ≡ xs) ⊎ AllZip (IsSnapshot is_clone) xs ys
+      → IsAlikeIn (Copies is_clone) (forest (map (λ t. t) xs)) (forest (map (λ t. t) ys))
   kept_alike xs ys (inl e) = alike_same (Copies is_clone) (λ v. itself) xs ys e
   kept_alike xs ys (inr h) = snapshots_alike xs ys h

@@ -87,7 +87,7 @@ impl<K: TKey + MadeWith<Global>, V: TValue> Build<K, V> for RadixTree<K, V> {
 
     fn blank(alloc: Global, seal: Seal) -> Self {
         let _ = seal;
-        RadixTree::empty(alloc)
+        RadixTree::bare(alloc)
     }
 
     fn take_apart(self, seal: Seal) -> Parts<SmallVec<K, 16>, V, OwnedChildren<RadixTree<K, V>>> {
@@ -127,7 +127,7 @@ impl<K: TKey + MadeWith<Global>, V: TValue> Build<K, V> for ArcRadixTree<K, V> {
 
     fn blank(alloc: Global, seal: Seal) -> Self {
         let _ = seal;
-        ArcRadixTree::empty(alloc)
+        ArcRadixTree::bare(alloc)
     }
 
     fn take_apart(

@@ -158,8 +158,8 @@ fn insert_into<K: TKey, V: TValue, T: Build<K, V>>(
     requires canonical { AreChildren K.cmp (seen T.tree (T.Children.items children.old)) }
     ensures ok { OnOk result
         (IsUpdated K.cmp T.keeps rest.now value
-            (lookup_in K.cmp (seen T.tree (T.Children.items children.old)))
-            (lookup_in K.cmp (seen T.tree (T.Children.items children.new)))) }
+        (lookup_in K.cmp (seen T.tree (T.Children.items children.old)))
+        (lookup_in K.cmp (seen T.tree (T.Children.items children.new)))) }
     ensures canonical { AreChildren K.cmp (seen T.tree (T.Children.items children.new)) }
     ensures as_many { length (T.Children.items children.new) ≡ length (T.Children.items children.old) }
     ensures err { OnErr result

@@ -40,8 +40,8 @@ impl<K: TKey + MadeWith<Global>, V: TValue> RadixTree<K, V> {
     ghost use Rattle.vc_trees.specs.Canonical.{IsCanonical};
     ghost use Rattle.vc_trees.specs.Children.{listed, seen};
 
-    /// The empty tree. Takes no memory.
-    pub fn empty(alloc: Global) -> Self
+    /// The empty tree.
+    pub(crate) fn bare(alloc: Global) -> Self
         ensures { result ≡ no_tree }
     {
         RadixTree {

@@ -36,7 +36,7 @@ pub trait AbstractRadixTreeMut<K: TKey, V: TValue>: Build<K, V> {
 
     /// The tree that binds this key alone.
     ///
-    /// Fails only where memory is refused.
+    /// Fails only where memory is refused for a long key. The value is then dropped.
     final fn single(alloc: Global, key: &[K], value: V) -> Result<Self, AllocError>
         ensures { IfOk result (λ one. Self.tree one ≡ made key.now (Some value) []) }
     {
@@ -45,8 +45,9 @@ pub trait AbstractRadixTreeMut<K: TKey, V: TValue>: Build<K, V> {
 
     /// Binds the key to the value, in the place of the value that it had. The other keys keep their values.
     ///
-    /// Fails only where memory is refused, for a prefix, for children or for the copy of shared children; the tree then binds
-    /// what it bound. A key keeps the spelling that the tree has of it.
+    /// Fails only where memory is refused, for a prefix, for children or for the copy of shared children, or where the clone of
+    /// a value of those is refused; the tree then has the nodes that it had, and binds what it bound. The value that was handed
+    /// in is dropped. Where components are equal, a key keeps the spelling that the tree has of them.
     final fn insert(&mut self, key: &[K], value: V) -> Result<(), AllocError>
         ensures ok { OnOk result (IsInserted K.cmp Self.keeps key.now value (Self.tree self.old) (Self.tree self.new)) }
         ensures err { OnErr result (HaveEqualMaps K.cmp Self.keeps (Self.tree self.old) (Self.tree self.new)) }

@@ -13,4 +13,5 @@ abbrev pub decreases-insert_below : goal.decreases-insert_below
 decreases-insert_below g l = 4 * nodes (g.T.AbstractRadixTree.tree l.tree.now) + 1
 
 abbrev pub decreases-insert_into : goal.decreases-insert_into
-decreases-insert_into g l = 4 * forest_nodes (forest (map g.T.AbstractRadixTree.tree (g.T.Children.ChildList.items l.children.now))) + 4
+decreases-insert_into g l =
+    4 * forest_nodes (forest (map g.T.AbstractRadixTree.tree (g.T.Children.ChildList.items l.children.now))) + 4

@@ -5,14 +5,18 @@ use Rattle.vc_trees.proofs.radix_tree.places.child_at.Goals as goal
 
 pub offset_bounds-children-i : goal.offset_bounds-children-i
 offset_bounds-children-i g c =
-    let h = begins_below g.K.Ord.cmp g.T.AbstractRadixTree.tree c.args.children.now c.args.first.now c.in-Ok.i c.in-Ok.ensures in omega (arith, h)
+    let h =
+    begins_below g.K.Ord.cmp g.T.AbstractRadixTree.tree c.args.children.now c.args.first.now c.in-Ok.i
+    c.in-Ok.ensures in omega (arith, h)
 
 pub bounds-children-i : goal.bounds-children-i
-bounds-children-i g c = begins_below g.K.Ord.cmp g.T.AbstractRadixTree.tree c.args.children.now c.args.first.now c.in-Ok.i c.in-Ok.ensures
+bounds-children-i g c =
+    begins_below g.K.Ord.cmp g.T.AbstractRadixTree.tree c.args.children.now c.args.first.now c.in-Ok.i c.in-Ok.ensures
 
 pub returns-in-Ok : goal.returns-in-Ok
 returns-in-Ok g c =
-    found_at g.K.Ord.cmp g.T.AbstractRadixTree.tree g.met.K.Ord.total c.args.children.now c.in-Ok.i c.args.first.now c.index-children-i.result
+    found_at g.K.Ord.cmp g.T.AbstractRadixTree.tree g.met.K.Ord.total c.args.children.now c.in-Ok.i c.args.first.now
+    c.index-children-i.result
     c.requires c.in-Ok.ensures c.index-children-i.is
 
 pub returns-in-Err : goal.returns-in-Err

@@ -13,7 +13,8 @@ unreachable-requires g c =
     let middle = c.loop-low.low + (c.loop-low.high - c.loop-low.low) / 2 in
     let within : middle < length c.args.children.now = omega (arith, c.loop-low.invariant.within) in
     child_begins g.K.Ord.cmp g.T.AbstractRadixTree.tree c.args.children.now middle c.requires within
-    (first_here g.K.Ord.cmp g.T.AbstractRadixTree.tree c.args.children.now middle c.index-children-middle.result c.prefix.result.now None c.index-children-middle.is within c.prefix.ensures.value
+    (first_here g.K.Ord.cmp g.T.AbstractRadixTree.tree c.args.children.now middle c.index-children-middle.result
+    c.prefix.result.now None c.index-children-middle.is within c.prefix.ensures.value
     (sym (ap option_copied c.in_default.is) ∙ c.first.ensures.value))
 
 pub loop-low-preserved-in-Less : goal.loop-low-preserved-in-Less
@@ -23,7 +24,8 @@ loop-low-preserved-in-Less g c =
     let within : middle < length c.args.children.now = omega (arith, c.loop-low.invariant.within) in
     halve_below g.K.Ord.cmp g.T.AbstractRadixTree.tree g.met.K.Ord.total c.args.children.now c.args.first.now c.requires
     c.loop-low.low c.loop-low.high middle c.in-Some.start.now c.loop-low.invariant before
-    (first_here g.K.Ord.cmp g.T.AbstractRadixTree.tree c.args.children.now middle c.index-children-middle.result c.prefix.result.now (Some c.in-Some.start.now) c.index-children-middle.is within c.prefix.ensures.value
+    (first_here g.K.Ord.cmp g.T.AbstractRadixTree.tree c.args.children.now middle c.index-children-middle.result
+    c.prefix.result.now (Some c.in-Some.start.now) c.index-children-middle.is within c.prefix.ensures.value
     (sym (ap option_copied c.in-Some.is) ∙ c.first.ensures.value))
     (sym c.cmp.ensures ∙ c.in-Less.is)
 
@@ -33,7 +35,9 @@ returns-in-Equal g c =
     let within : middle < length c.args.children.now = omega (arith, c.loop-low.invariant.within) in
     record {
       here = c.in-Some.start.now;
-      at = first_here g.K.Ord.cmp g.T.AbstractRadixTree.tree c.args.children.now middle c.index-children-middle.result c.prefix.result.now (Some c.in-Some.start.now) c.index-children-middle.is within c.prefix.ensures.value
+      at =
+          first_here g.K.Ord.cmp g.T.AbstractRadixTree.tree c.args.children.now middle c.index-children-middle.result
+          c.prefix.result.now (Some c.in-Some.start.now) c.index-children-middle.is within c.prefix.ensures.value
           (sym (ap option_copied c.in-Some.is) ∙ c.first.ensures.value);
       equal = ap is_eq (sym c.cmp.ensures ∙ c.in-Equal.is);
     }
@@ -46,9 +50,12 @@ loop-low-preserved g c =
     let within : middle < length c.args.children.now = omega (arith, c.loop-low.invariant.within) in
     halve_above g.K.Ord.cmp g.T.AbstractRadixTree.tree g.met.K.Ord.total c.args.children.now c.args.first.now c.requires
     c.loop-low.low c.loop-low.high middle c.in-Some.start.now c.loop-low.invariant from before
-    (first_here g.K.Ord.cmp g.T.AbstractRadixTree.tree c.args.children.now middle c.index-children-middle.result c.prefix.result.now (Some c.in-Some.start.now) c.index-children-middle.is within c.prefix.ensures.value
+    (first_here g.K.Ord.cmp g.T.AbstractRadixTree.tree c.args.children.now middle c.index-children-middle.result
+    c.prefix.result.now (Some c.in-Some.start.now) c.index-children-middle.is within c.prefix.ensures.value
     (sym (ap option_copied c.in-Some.is) ∙ c.first.ensures.value))
     (sym c.cmp.ensures ∙ c.in-Greater.is)
 
 pub returns : goal.returns
-returns g c = halved g.K.Ord.cmp g.T.AbstractRadixTree.tree c.args.children.now c.args.first.now c.loop-low.low c.loop-low.high c.requires c.loop-low.invariant c.loop-low-test.false
+returns g c =
+    halved g.K.Ord.cmp g.T.AbstractRadixTree.tree c.args.children.now c.args.first.now c.loop-low.low c.loop-low.high
+    c.requires c.loop-low.invariant c.loop-low-test.false

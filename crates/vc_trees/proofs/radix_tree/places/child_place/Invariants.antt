@@ -1,7 +1,5 @@
 -- The children before `low` begin below the component, those from `high` on above it.
 use Rattle.std.proofs.Common.{◌-◌}
-use Rattle.vc_trees.specs.Tree.{forest}
-use Rattle.std.proofs.Common.{map}
 use Rattle.vc_trees.proofs.Halving.{IsHalving}
 use Rattle.vc_trees.proofs.radix_tree.places.child_place.Given as goal
 

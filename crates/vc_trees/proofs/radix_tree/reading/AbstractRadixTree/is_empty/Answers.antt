@@ -8,4 +8,5 @@ pub returns-in-None : goal.returns-in-None
 returns-in-None g c =
     let t = g.Self.AbstractRadixTree.tree c.args.self.now in
     c.is_empty.ensures
-    ∙ is_bare-by g.Self.AbstractRadixTree.tree c.children.result.now t.prefix t.value t.children (sym (ap option_copied c.in-None.is) ∙ c.value.ensures) c.children.ensures
+    ∙ is_bare-by g.Self.AbstractRadixTree.tree c.children.result.now t.prefix t.value t.children
+    (sym (ap option_copied c.in-None.is) ∙ c.value.ensures) c.children.ensures
