@@ -11,8 +11,6 @@ pub mod conversions;
 mod in_place;
 mod iteration;
 mod removal;
-#[cfg(test)]
-mod tests;
 
 pub use algebra::{SetOp, SetTest, difference, intersection, symmetric_difference, union};
 use iteration::elements_of;

@@ -1,8 +1,8 @@
 //! A builder on its happy path, and each of its elements dropped once, also where it is dropped early.
-use crate::inplace::{InPlace, close, open};
 use smallvec::SmallVec;
 use std::rc::Rc;
 use std::test::*;
+use vc_merge::inplace::{InPlace, close, open};
 
 #[test]
 fn builds_in_front_of_what_is_left(rt: HostRuntime) -> Result<(), Fail> {

@@ -1,11 +1,11 @@
 //! The public calls at concrete types: what they print, and what is dropped.
-use super::conversions::set_of_list;
-use super::{AbstractVecSet, VecSet};
 use smallvec::SmallVec;
 use std::cmp::{Ordering, Reverse};
 use std::collections::BTreeSet;
 use std::rc::Rc;
 use std::test::Fail;
+use vc_sets::vec_set::conversions::set_of_list;
+use vc_sets::vec_set::{AbstractVecSet, VecSet};
 
 type Numbers = VecSet<u32, 2>;
 
