@@ -26,7 +26,10 @@ fn conversions_keep_the_elements(rt: HostRuntime) -> Result<(), Fail> {
         tree.insert(*x)?;
     }
     assert_eq!(rt; Numbers::from_btree_set(rt.alloc(), tree)?, set);
-    assert_eq!(rt; Numbers::from_iter(rt.alloc(), set.clone()?.into_iter())?, set);
+    assert_eq!(rt;
+        Numbers::from_iter(rt.alloc(), set.clone()?.into_iter())?,
+        set
+    );
     assert_eq!(rt; set.clone()?.into_vec()?.as_slice(), [1, 2, 3].as_slice());
     let list: SmallVec<u32, 2> = set.clone()?.into();
     assert_eq!(rt; set_of_list(list).as_ref(), set.as_ref());
@@ -65,7 +68,10 @@ fn an_order_may_run_backwards(rt: HostRuntime) -> Result<(), Fail> {
     for x in 1..4 {
         set.insert(Reverse(x))?;
     }
-    assert_eq!(rt; format!(in rt.alloc(); "{set:?}")?.as_str(), "{Reverse(3), Reverse(2), Reverse(1)}");
+    assert_eq!(rt;
+        format!(in rt.alloc(); "{set:?}")?.as_str(),
+        "{Reverse(3), Reverse(2), Reverse(1)}"
+    );
     Ok(())
 }
 

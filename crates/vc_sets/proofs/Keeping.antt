@@ -1,9 +1,9 @@
 -- A loop over a list that asks a test at each element and moves what it accepts to the front.
 use Rattle.std.proofs.Common.{◌≡◌, ℕ, zero, suc, ◌+◌, ◌<◌, ◌≤◌, Bool, true, false, cond, List, [], ◌∷◌, ◌++◌, length, take, drop, set, get_or, refl, sym, ap, ◌∙◌, subst, arith, append_assoc, add-one, drop-cons}
-use Rattle.std.proofs.lemmas.List.{length-set, append-nil}
+use Rattle.std.proofs.lemmas.List.{append-nil}
 use Rattle.std.specs.List.{SwappedAt, items_where_true, refill}
 use Rattle.smallvec.proofs.SmallVecLemmas.{items-with_items}
-use Rattle.std.specs.List.Retain.{IsFiltered, ReturnsInTurn}
+use Rattle.std.specs.List.Retain.{IsFiltered}
 
 module _ {X : Type 0} where
   -- a write changes nothing behind it

@@ -1,6 +1,6 @@
-use Rattle.std.proofs.Common.{◌≡◌, ap, sym, ◌∙◌, Ok, Err, cond, None}
+use Rattle.std.proofs.Common.{ap, sym, ◌∙◌, Ok, Err, cond, None}
 use Rattle.std.specs.Ordering.{eq_by_cmp}
-use Rattle.vc_merge.specs.Ascending.{Ascends, member, element_at}
+use Rattle.vc_merge.specs.Ascending.{member, element_at}
 use Rattle.vc_sets.proofs.Searching.{found_place, place-is_ok}
 use Rattle.vc_sets.proofs.Removing.{ascends-without, element_at-without, element_at-not_there, members-taken}
 use Rattle.vc_sets.proofs.vec_set.VecSet.remove.Goals as goal

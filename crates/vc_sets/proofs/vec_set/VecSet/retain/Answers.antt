@@ -1,4 +1,4 @@
-use Rattle.std.proofs.Common.{◌≡◌, ◌∙◌, length, take, sym, ap, subst}
+use Rattle.std.proofs.Common.{◌∙◌, length, take, sym, ap, subst}
 use Rattle.std.specs.Fn.{CalledAt}
 use Rattle.std.specs.List.Retain.{IsFiltered}
 use Rattle.vc_merge.specs.Ascending.{Ascends}

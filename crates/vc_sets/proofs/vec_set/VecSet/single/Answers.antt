@@ -1,4 +1,3 @@
-use Rattle.std.proofs.Common.{◌∙◌, ap, ◌++◌, ◌∷◌, []}
 use Rattle.std.specs.List.Sorted.{IsStrictlySortedBy}
 use Rattle.vc_sets.proofs.vec_set.VecSet.single.Goals as goal
 

@@ -1,4 +1,4 @@
-use Rattle.std.proofs.Common.{◌≡◌, ◌<◌, ◌^◌, ap, sym, ◌∙◌, subst, length}
+use Rattle.std.proofs.Common.{◌<◌, ◌^◌, ap, sym, ◌∙◌, subst, length}
 use Rattle.std.specs.Iterator.Runs.{ItemsMapTo}
 use Rattle.std.specs.Slice.Iter.{iter_rest, iter_steps}
 use Rattle.vc_merge.specs.Ascending.{Ascends}
@@ -12,7 +12,8 @@ vec_set_iter-requires g c =
     (subst (λ l. Ascends g.T.Ord.cmp l) (sym c.iter.ensures.rest) c.requires)
 
 pub returns : goal.returns
-returns g c =
-    (ap iter_rest c.vec_set_iter.ensures ∙ c.iter.ensures.rest,
-    subst (λ it. length (iter_rest it) < 2 ^ 64) (sym c.vec_set_iter.ensures) c.iter.ensures.bound,
-    inside-every iter_steps (λ x y. g.T.Ord.cmp x.now y.now) (λ p. ItemsMapTo p (λ x. x.now) (iter_rest p.from)) c.iter.ensures.runs)
+returns g c = (
+  ap iter_rest c.vec_set_iter.ensures ∙ c.iter.ensures.rest,
+  subst (λ it. length (iter_rest it) < 2 ^ 64) (sym c.vec_set_iter.ensures) c.iter.ensures.bound,
+  inside-every iter_steps (λ x y. g.T.Ord.cmp x.now y.now) (λ p. ItemsMapTo p (λ x. x.now) (iter_rest p.from)) c.iter.ensures.runs,
+)

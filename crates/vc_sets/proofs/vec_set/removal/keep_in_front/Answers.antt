@@ -1,6 +1,6 @@
-use Rattle.std.proofs.Common.{◌≡◌, ◌<◌, Bool, true, false, length, sym, subst, arith, rules, of_calls}
+use Rattle.std.proofs.Common.{◌<◌, Bool, length, sym, subst, arith, rules, of_calls}
 use Rattle.std.specs.Fn.{CalledAt}
-use Rattle.vc_sets.proofs.Keeping.{KeepsInFront, KeepsInFront-start, KeepsInFront-refused, KeepsInFront-accepted, KeepsInFront-all}
+use Rattle.vc_sets.proofs.Keeping.{KeepsInFront-start, KeepsInFront-refused, KeepsInFront-accepted, KeepsInFront-all}
 use Rattle.vc_sets.proofs.vec_set.removal.keep_in_front.Goals as goal
 use Rattle.vc_sets.proofs.vec_set.removal.keep_in_front.Goals.{then-f, else-f}
 

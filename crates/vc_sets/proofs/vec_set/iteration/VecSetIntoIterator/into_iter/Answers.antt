@@ -1,4 +1,4 @@
-use Rattle.std.proofs.Common.{◌≡◌, ap, sym, ◌∙◌, subst}
+use Rattle.std.proofs.Common.{sym, ◌∙◌, subst}
 use Rattle.std.specs.Iterator.{YieldsFirst}
 use Rattle.std.specs.Iterator.Runs.{ItemsAre}
 use Rattle.vc_merge.specs.Ascending.{Ascends}
@@ -14,6 +14,8 @@ vec_set_iter-requires g c =
 pub returns : goal.returns
 returns g c =
     record {
-      into_iter_gives = (c.vec_set_iter.ensures ∙ c.into_iter.ensures.into_iter_gives.0 ∙ c.self.view_is,
-      inside-every (YieldsFirst (λ rest. rest)) g.T.Ord.cmp (λ p. ItemsAre p p.from) c.into_iter.ensures.into_iter_gives.1)
+      into_iter_gives = (
+        c.vec_set_iter.ensures ∙ c.into_iter.ensures.into_iter_gives.0 ∙ c.self.view_is,
+        inside-every (YieldsFirst (λ rest. rest)) g.T.Ord.cmp (λ p. ItemsAre p p.from) c.into_iter.ensures.into_iter_gives.1,
+      );
     }
