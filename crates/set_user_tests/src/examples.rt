@@ -33,6 +33,16 @@ struct Row {
     difference: &'static [u32],
 }
 
+impl Row {
+    /// Whether the sets are what the row says.
+    fn is_made(&self, either: &Numbers, both: &Numbers, one: &Numbers, rest: &Numbers) -> bool {
+        either.as_ref() == self.union
+            && both.as_ref() == self.intersection
+            && one.as_ref() == self.symmetric_difference
+            && rest.as_ref() == self.difference
+    }
+}
+
 const ROWS: [Row; 7] = [
     Row {
         left: &[],
@@ -92,123 +102,118 @@ const ROWS: [Row; 7] = [
     },
 ];
 
+/// Whether the four operations make of the sets what the row says.
+fn makes_fresh(left: &Numbers, right: &Numbers, row: &Row) -> Result<bool, AllocError> {
+    let either = left.union(right)?;
+    let both = left.intersection(right)?;
+    let one = left.symmetric_difference(right)?;
+    let rest = left.difference(right)?;
+    Ok(row.is_made(&either, &both, &one, &rest))
+}
+
+/// Whether the four operators make of the sets what the row says.
+fn makes_by_operators(left: &Numbers, right: &Numbers, row: &Row) -> Result<bool, AllocError> {
+    let either = (left | right)?;
+    let both = (left & right)?;
+    let one = (left ^ right)?;
+    let rest = (left - right)?;
+    Ok(row.is_made(&either, &both, &one, &rest))
+}
+
+/// Whether the four free functions make of the sets what the row says.
+fn makes_by_functions(
+    alloc: Global,
+    left: &Numbers,
+    right: &Numbers,
+    row: &Row,
+) -> Result<bool, AllocError> {
+    let either = union(alloc, left, right)?;
+    let both = intersection(alloc, left, right)?;
+    let one = symmetric_difference(alloc, left, right)?;
+    let rest = difference(alloc, left, right)?;
+    Ok(row.is_made(&either, &both, &one, &rest))
+}
+
+/// Whether the four operations in place make of the sets what the row says.
+fn changes_in_place(left: &Numbers, right: &Numbers, row: &Row) -> Result<bool, AllocError> {
+    let mut either = left.clone()?;
+    either.union_with(right)?;
+    let mut both = left.clone()?;
+    both.intersection_with(right);
+    let mut one = left.clone()?;
+    one.xor_with(right)?;
+    let mut rest = left.clone()?;
+    rest.difference_with(right);
+    Ok(row.is_made(&either, &both, &one, &rest))
+}
+
+/// Whether the operations that move the right set in make of the sets what the row says.
+fn moves_in(left: &Numbers, right: &Numbers, row: &Row) -> Result<bool, AllocError> {
+    let mut either = left.clone()?;
+    either.bitor_assign(right.clone()?)?;
+    let mut one = left.clone()?;
+    one.bitxor_assign(right.clone()?)?;
+    Ok(either.as_ref() == row.union && one.as_ref() == row.symmetric_difference)
+}
+
+/// Whether the assignments with a reference make of the sets what the row says.
+fn assigns_references(left: &Numbers, right: &Numbers, row: &Row) -> Result<bool, AllocError> {
+    let mut both = left.clone()?;
+    both &= right;
+    let mut rest = left.clone()?;
+    rest -= right;
+    Ok(both.as_ref() == row.intersection && rest.as_ref() == row.difference)
+}
+
+/// Whether the assignments with a value make of the sets what the row says.
+fn assigns_values(left: &Numbers, right: &Numbers, row: &Row) -> Result<bool, AllocError> {
+    let mut both = left.clone()?;
+    both &= right.clone()?;
+    let mut rest = left.clone()?;
+    rest -= right.clone()?;
+    Ok(both.as_ref() == row.intersection && rest.as_ref() == row.difference)
+}
+
+/// Whether `extend` with the elements of the right set makes of the sets what the row says.
+fn extends(left: &Numbers, right: &Numbers, row: &Row) -> Result<bool, AllocError> {
+    let mut either = left.clone()?;
+    either.extend(right.clone()?.into_iter())?;
+    Ok(either.as_ref() == row.union)
+}
+
+/// Whether the three tests answer what the row says.
+fn tests_agree(left: &Numbers, right: &Numbers, row: &Row) -> Result<bool, AllocError> {
+    let either = (left | right)?;
+    Ok(left.is_disjoint(right) == row.intersection.is_empty()
+        && left.is_subset(right) == (either == *right)
+        && left.is_superset(right) == (either == *left)
+        && left.is_subset(&either)
+        && either.is_superset(right))
+}
+
 #[test]
 fn fresh_sets_are_as_worked_out(rt: HostRuntime) -> Result<(), Fail> {
-    for row in ROWS {
+    for row in &ROWS {
         let left = numbers(rt.alloc(), row.left)?;
         let right = numbers(rt.alloc(), row.right)?;
-        assert_eq!(rt; left.union(&right)?.as_ref(), row.union);
-        assert_eq!(rt; left.intersection(&right)?.as_ref(), row.intersection);
-        assert_eq!(rt; left.symmetric_difference(&right)?.as_ref(), row.symmetric_difference);
-        assert_eq!(rt; left.difference(&right)?.as_ref(), row.difference);
-    }
-    Ok(())
-}
-
-#[test]
-fn operators_are_as_worked_out(rt: HostRuntime) -> Result<(), Fail> {
-    for row in ROWS {
-        let left = numbers(rt.alloc(), row.left)?;
-        let right = numbers(rt.alloc(), row.right)?;
-        assert_eq!(rt; (&left | &right)?.as_ref(), row.union);
-        assert_eq!(rt; (&left & &right)?.as_ref(), row.intersection);
-        assert_eq!(rt; (&left ^ &right)?.as_ref(), row.symmetric_difference);
-        assert_eq!(rt; (&left - &right)?.as_ref(), row.difference);
-    }
-    Ok(())
-}
-
-#[test]
-fn free_functions_are_as_worked_out(rt: HostRuntime) -> Result<(), Fail> {
-    for row in ROWS {
-        let left = numbers(rt.alloc(), row.left)?;
-        let right = numbers(rt.alloc(), row.right)?;
-        let either: Numbers = union(rt.alloc(), &left, &right)?;
-        assert_eq!(rt; either.as_ref(), row.union);
-        let both: Numbers = intersection(rt.alloc(), &left, &right)?;
-        assert_eq!(rt; both.as_ref(), row.intersection);
-        let one: Numbers = symmetric_difference(rt.alloc(), &left, &right)?;
-        assert_eq!(rt; one.as_ref(), row.symmetric_difference);
-        let rest: Numbers = difference(rt.alloc(), &left, &right)?;
-        assert_eq!(rt; rest.as_ref(), row.difference);
+        assert!(rt; makes_fresh(&left, &right, row)?);
+        assert!(rt; makes_by_operators(&left, &right, row)?);
+        assert!(rt; makes_by_functions(rt.alloc(), &left, &right, row)?);
+        assert!(rt; tests_agree(&left, &right, row)?);
     }
     Ok(())
 }
 
 #[test]
 fn sets_change_in_place_as_worked_out(rt: HostRuntime) -> Result<(), Fail> {
-    for row in ROWS {
-        let right = numbers(rt.alloc(), row.right)?;
-        let mut set = numbers(rt.alloc(), row.left)?;
-        set.union_with(&right)?;
-        assert_eq!(rt; set.as_ref(), row.union);
-        let mut set = numbers(rt.alloc(), row.left)?;
-        set.xor_with(&right)?;
-        assert_eq!(rt; set.as_ref(), row.symmetric_difference);
-        let mut set = numbers(rt.alloc(), row.left)?;
-        set.intersection_with(&right);
-        assert_eq!(rt; set.as_ref(), row.intersection);
-        let mut set = numbers(rt.alloc(), row.left)?;
-        set.difference_with(&right);
-        assert_eq!(rt; set.as_ref(), row.difference);
-    }
-    Ok(())
-}
-
-#[test]
-fn assignments_of_references_are_as_worked_out(rt: HostRuntime) -> Result<(), Fail> {
-    for row in ROWS {
-        let right = numbers(rt.alloc(), row.right)?;
-        let mut set = numbers(rt.alloc(), row.left)?;
-        set &= &right;
-        assert_eq!(rt; set.as_ref(), row.intersection);
-        let mut set = numbers(rt.alloc(), row.left)?;
-        set -= &right;
-        assert_eq!(rt; set.as_ref(), row.difference);
-    }
-    Ok(())
-}
-
-#[test]
-fn assignments_of_values_are_as_worked_out(rt: HostRuntime) -> Result<(), Fail> {
-    for row in ROWS {
-        let mut set = numbers(rt.alloc(), row.left)?;
-        set &= numbers(rt.alloc(), row.right)?;
-        assert_eq!(rt; set.as_ref(), row.intersection);
-        let mut set = numbers(rt.alloc(), row.left)?;
-        set -= numbers(rt.alloc(), row.right)?;
-        assert_eq!(rt; set.as_ref(), row.difference);
-    }
-    Ok(())
-}
-
-#[test]
-fn sets_that_are_moved_in_are_as_worked_out(rt: HostRuntime) -> Result<(), Fail> {
-    for row in ROWS {
-        let mut set = numbers(rt.alloc(), row.left)?;
-        set.bitor_assign(numbers(rt.alloc(), row.right)?)?;
-        assert_eq!(rt; set.as_ref(), row.union);
-        let mut set = numbers(rt.alloc(), row.left)?;
-        set.bitxor_assign(numbers(rt.alloc(), row.right)?)?;
-        assert_eq!(rt; set.as_ref(), row.symmetric_difference);
-        let mut set = numbers(rt.alloc(), row.left)?;
-        set.extend(numbers(rt.alloc(), row.right)?.into_iter())?;
-        assert_eq!(rt; set.as_ref(), row.union);
-    }
-    Ok(())
-}
-
-#[test]
-fn tests_agree_with_the_operations(rt: HostRuntime) -> Result<(), Fail> {
-    for row in ROWS {
+    for row in &ROWS {
         let left = numbers(rt.alloc(), row.left)?;
         let right = numbers(rt.alloc(), row.right)?;
-        let either = numbers(rt.alloc(), row.union)?;
-        assert_eq!(rt; left.is_disjoint(&right), row.intersection.is_empty());
-        assert_eq!(rt; left.is_subset(&right), either == right);
-        assert_eq!(rt; left.is_superset(&right), either == left);
-        assert!(rt; left.is_subset(&either));
-        assert!(rt; either.is_superset(&right));
+        assert!(rt; changes_in_place(&left, &right, row)?);
+        assert!(rt; moves_in(&left, &right, row)?);
+        assert!(rt; assigns_references(&left, &right, row)?);
+        assert!(rt; assigns_values(&left, &right, row)?);
+        assert!(rt; extends(&left, &right, row)?);
     }
     Ok(())
 }
@@ -224,14 +229,24 @@ fn a_disjoint_set_is_added(rt: HostRuntime) -> Result<(), Fail> {
     Ok(())
 }
 
-#[test]
-fn steps_are_at_most_both_lengths(rt: HostRuntime) -> Result<(), Fail> {
-    let operations = [
+/// The most comparisons that one of the operations makes.
+fn most_steps(a: &Numbers, b: &Numbers) -> Result<u128, AllocError> {
+    let mut most = 0;
+    for op in [
         SetOp::Union,
         SetOp::Intersection,
         SetOp::SymmetricDifference,
         SetOp::Difference,
-    ];
+    ] {
+        let mut steps = Steps::new();
+        let _made = a.combine_counted(b, op, &mut steps)?;
+        most = most.max(steps.count());
+    }
+    Ok(most)
+}
+
+#[test]
+fn steps_are_at_most_both_lengths(rt: HostRuntime) -> Result<(), Fail> {
     let rows: [(&[u32], &[u32], u128); 4] = [
         (&[0, 2, 4, 6, 8, 10, 12, 14], &[1, 3, 5, 7, 9, 11, 13, 15], 16),
         (&[0, 1, 2, 3, 4, 5, 6, 7], &[0, 1, 2, 3, 4, 5, 6, 7], 16),
@@ -241,11 +256,7 @@ fn steps_are_at_most_both_lengths(rt: HostRuntime) -> Result<(), Fail> {
     for (left, right, bound) in rows {
         let a = numbers(rt.alloc(), left)?;
         let b = numbers(rt.alloc(), right)?;
-        for op in operations {
-            let mut steps = Steps::new();
-            let _made = a.combine_counted(&b, op, &mut steps)?;
-            assert!(rt; steps.count() <= bound);
-        }
+        assert!(rt; most_steps(&a, &b)? <= bound);
     }
     Ok(())
 }
@@ -260,5 +271,83 @@ fn a_test_counts_its_steps(rt: HostRuntime) -> Result<(), Fail> {
     assert!(rt; !a.test_counted(&b, SetTest::Superset, &mut steps));
     assert!(rt; 1 <= steps.count());
     assert!(rt; steps.count() <= 12);
+    Ok(())
+}
+
+/// A number with a mark that does not count in comparisons.
+#[derive(Clone, Copy)]
+#[derive_where(Debug, PartialEq, Eq, PartialOrd, Ord)]
+struct Marked {
+    number: u32,
+    #[derive_where(skip)]
+    mark: char,
+}
+
+impl Default for Marked {
+    fn default() -> Marked {
+        Marked {
+            number: 0,
+            mark: ' ',
+        }
+    }
+}
+
+/// The mark of the only element, or a blank.
+fn only_mark(set: &VecSet<Marked, 2>) -> char {
+    match set.as_ref() {
+        [element] => element.mark,
+        _ => ' ',
+    }
+}
+
+#[test]
+fn insert_takes_the_new_and_union_the_left(rt: HostRuntime) -> Result<(), Fail> {
+    let mut set = VecSet::single(rt.alloc(), Marked { number: 1, mark: 'a' })?;
+    assert!(rt; !set.insert(Marked { number: 1, mark: 'b' })?);
+    assert_eq!(rt; only_mark(&set), 'b');
+    let that: VecSet<Marked, 2> = VecSet::single(rt.alloc(), Marked { number: 1, mark: 'c' })?;
+    set.union_with(&that)?;
+    assert_eq!(rt; only_mark(&set), 'b');
+    set.bitor_assign(that)?;
+    assert_eq!(rt; only_mark(&set), 'b');
+    Ok(())
+}
+
+#[test]
+fn sets_come_from_lists_and_trees(rt: HostRuntime) -> Result<(), Fail> {
+    let list = vec![in rt.alloc(); 1, 2, 3]?;
+    assert!(rt; ascends(list.as_slice()));
+    let set = Numbers::from_vec(rt.alloc(), list)?;
+    let range = Numbers::from_iter(rt.alloc(), 1..4)?;
+    assert_eq!(rt; set, range);
+    let mut tree = BTreeSet::new(rt.alloc());
+    for x in &set {
+        tree.insert(*x)?;
+    }
+    let from_tree = Numbers::from_btree_set(rt.alloc(), tree)?;
+    assert_eq!(rt; from_tree, set);
+    Ok(())
+}
+
+#[test]
+fn sets_turn_into_lists(rt: HostRuntime) -> Result<(), Fail> {
+    let set = Numbers::from_iter(rt.alloc(), 1..4)?;
+    let copy = set.clone()?;
+    assert_eq!(rt; copy.into_vec()?.as_slice(), [1, 2, 3].as_slice());
+    let copy = set.clone()?;
+    assert_eq!(rt; copy.into_inner().as_slice(), [1, 2, 3].as_slice());
+    let list: SmallVec<u32, 2> = set.into();
+    assert_eq!(rt; list.as_slice(), [1, 2, 3].as_slice());
+    Ok(())
+}
+
+#[test]
+fn an_order_may_run_backwards(rt: HostRuntime) -> Result<(), Fail> {
+    let mut low = VecSet::<Reverse<u32>, 2>::single(rt.alloc(), Reverse(1))?;
+    let high = VecSet::<Reverse<u32>, 1>::single(rt.alloc(), Reverse(2))?;
+    low.union_with(&high)?;
+    assert!(rt; high.is_subset(&low));
+    let Reverse(first) = low.as_ref()[0];
+    assert_eq!(rt; first, 2);
     Ok(())
 }

@@ -3,3 +3,4 @@
 
 #[cfg(test)]
 mod examples;
+pub mod nth;
