@@ -3,7 +3,16 @@ pub use Rattle.vc_merge.specs.Ascending
 pub use Rattle.vc_merge.specs.Chain
 pub use Rattle.vc_merge.specs.Count
 pub use Rattle.vc_merge.specs.Script
+pub use Rattle.vc_merge.specs.Yielded
 pub use Rattle.vc_sets.specs.Algebra
-pub use Rattle.vc_sets.specs.Place
+pub use Rattle.vc_sets.specs.Iterating
 pub use Rattle.vc_sets.specs.SetOf
 pub use Rattle.vc_sets.specs.Tests
+pub use Rattle.vc_trees.specs.Canonical
+pub use Rattle.vc_trees.specs.Children
+pub use Rattle.vc_trees.specs.Key
+pub use Rattle.vc_trees.specs.Map
+pub use Rattle.vc_trees.specs.Same
+pub use Rattle.vc_trees.specs.Snapshot
+pub use Rattle.vc_trees.specs.Tree
+pub use Rattle.vc_trees.specs.Value
