@@ -8,6 +8,8 @@ pub use Rattle.vc_sets.specs.Algebra
 pub use Rattle.vc_sets.specs.Iterating
 pub use Rattle.vc_sets.specs.SetOf
 pub use Rattle.vc_sets.specs.Tests
+pub use Rattle.vc_sets.specs.declared.vec_set.algebra.SetOp
+pub use Rattle.vc_sets.specs.declared.vec_set.algebra.SetTest
 pub use Rattle.vc_trees.specs.Canonical
 pub use Rattle.vc_trees.specs.Children
 pub use Rattle.vc_trees.specs.Key
