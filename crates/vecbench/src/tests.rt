@@ -25,8 +25,16 @@ fn unites(rt: HostRuntime) {
             ("set union - -\n", "-\n", 0),
             ("set union - 7\n", "7\n", 0),
             ("set union 1,2,3,4,5 3,9\n", "1,2,3,4,5,9\n", 0),
-            ("set union 18446744073709551615 0\n", "0,18446744073709551615\n", 0),
-            ("set union 007 000018446744073709551615\n", "7,18446744073709551615\n", 0),
+            (
+                "set union 18446744073709551615 0\n",
+                "0,18446744073709551615\n",
+                0,
+            ),
+            (
+                "set union 007 000018446744073709551615\n",
+                "7,18446744073709551615\n",
+                0,
+            ),
         ],
     );
 }
@@ -83,15 +91,51 @@ fn answers_each_fault(rt: HostRuntime) {
             ("set fly 1 2\n", "line 1: fault 1: unknown command\n", 1),
             ("set union 3,1 2\n", "line 1: fault 2: not ascending\n", 1),
             ("set union 1 2,2\n", "line 1: fault 2: not ascending\n", 1),
-            ("set union 18446744073709551616 0\n", "line 1: fault 3: not a number or key\n", 1),
-            ("set union 99999999999999999999999 0\n", "line 1: fault 3: not a number or key\n", 1),
-            ("set union 1, 2\n", "line 1: fault 3: not a number or key\n", 1),
-            ("set union 1,,2 2\n", "line 1: fault 3: not a number or key\n", 1),
-            ("set union 1,- 2\n", "line 1: fault 3: not a number or key\n", 1),
-            ("set union +1 2\n", "line 1: fault 3: not a number or key\n", 1),
-            ("set union 1 2a\n", "line 1: fault 3: not a number or key\n", 1),
-            ("set union 1\n", "line 1: fault 4: wrong count of words\n", 1),
-            ("set union 1 2 3\n", "line 1: fault 4: wrong count of words\n", 1),
+            (
+                "set union 18446744073709551616 0\n",
+                "line 1: fault 3: not a number or key\n",
+                1,
+            ),
+            (
+                "set union 99999999999999999999999 0\n",
+                "line 1: fault 3: not a number or key\n",
+                1,
+            ),
+            (
+                "set union 1, 2\n",
+                "line 1: fault 3: not a number or key\n",
+                1,
+            ),
+            (
+                "set union 1,,2 2\n",
+                "line 1: fault 3: not a number or key\n",
+                1,
+            ),
+            (
+                "set union 1,- 2\n",
+                "line 1: fault 3: not a number or key\n",
+                1,
+            ),
+            (
+                "set union +1 2\n",
+                "line 1: fault 3: not a number or key\n",
+                1,
+            ),
+            (
+                "set union 1 2a\n",
+                "line 1: fault 3: not a number or key\n",
+                1,
+            ),
+            (
+                "set union 1\n",
+                "line 1: fault 4: wrong count of words\n",
+                1,
+            ),
+            (
+                "set union 1 2 3\n",
+                "line 1: fault 4: wrong count of words\n",
+                1,
+            ),
             ("set\n", "line 1: fault 4: wrong count of words\n", 1),
         ],
     );
@@ -105,16 +149,36 @@ fn answers_the_first_fault(rt: HostRuntime) {
             // The first word before the count of words.
             ("fly union\n", "line 1: fault 1: unknown command\n", 1),
             // The count before the operation and the lists.
-            ("set fly 3,1\n", "line 1: fault 4: wrong count of words\n", 1),
-            ("set union 3,1 x 1\n", "line 1: fault 4: wrong count of words\n", 1),
+            (
+                "set fly 3,1\n",
+                "line 1: fault 4: wrong count of words\n",
+                1,
+            ),
+            (
+                "set union 3,1 x 1\n",
+                "line 1: fault 4: wrong count of words\n",
+                1,
+            ),
             // The operation before the lists.
             ("set fly 3,1 x\n", "line 1: fault 1: unknown command\n", 1),
             // The left list before the right one.
             ("set union 3,1 x\n", "line 1: fault 2: not ascending\n", 1),
-            ("set union x 3,1\n", "line 1: fault 3: not a number or key\n", 1),
+            (
+                "set union x 3,1\n",
+                "line 1: fault 3: not a number or key\n",
+                1,
+            ),
             // In one list the numbers before their order.
-            ("set union 3,1,x 2\n", "line 1: fault 3: not a number or key\n", 1),
-            ("set union 2 3,1,18446744073709551616\n", "line 1: fault 3: not a number or key\n", 1),
+            (
+                "set union 3,1,x 2\n",
+                "line 1: fault 3: not a number or key\n",
+                1,
+            ),
+            (
+                "set union 2 3,1,18446744073709551616\n",
+                "line 1: fault 3: not a number or key\n",
+                1,
+            ),
         ],
     );
 }
@@ -129,12 +193,28 @@ fn takes_lines_apart(rt: HostRuntime) {
             ("\nfly\n", "line 2: fault 1: unknown command\n", 1),
             ("set union 1,3 2,3", "1,2,3\n", 0),
             ("set union 1 2\r\nset union 3 4\r\n", "1,2\n3,4\n", 0),
-            ("\r\n \t\r\nfly\r\n", "line 3: fault 1: unknown command\n", 1),
+            (
+                "\r\n \t\r\nfly\r\n",
+                "line 3: fault 1: unknown command\n",
+                1,
+            ),
             ("\tset\t union  1 \t 2 \n", "1,2\n", 0),
             // Only the CR that an LF follows ends a line.
-            ("set union 1 2\r", "line 1: fault 3: not a number or key\n", 1),
-            ("set union 1 2\r\r\n", "line 1: fault 3: not a number or key\n", 1),
-            ("set union 3,1 2\nset union 1 2\nfly", "line 1: fault 2: not ascending\n1,2\nline 3: fault 1: unknown command\n", 1),
+            (
+                "set union 1 2\r",
+                "line 1: fault 3: not a number or key\n",
+                1,
+            ),
+            (
+                "set union 1 2\r\r\n",
+                "line 1: fault 3: not a number or key\n",
+                1,
+            ),
+            (
+                "set union 3,1 2\nset union 1 2\nfly",
+                "line 1: fault 2: not ascending\n1,2\nline 3: fault 1: unknown command\n",
+                1,
+            ),
         ],
     );
 }
@@ -199,7 +279,11 @@ fn ends_where_reading_fails(rt: HostRuntime) {
         let mut output = Vec::new(rt.alloc());
         let status = serve(rt.alloc(), &mut input, &mut output);
         assert_eq!(rt; status, 2, "after {calls} calls");
-        assert_eq!(rt; output.as_slice(), answers.as_bytes(), "after {calls} calls");
+        assert_eq!(rt;
+            output.as_slice(),
+            answers.as_bytes(),
+            "after {calls} calls"
+        );
     }
 }
 
@@ -239,7 +323,11 @@ fn ends_where_writing_fails(rt: HostRuntime) {
             calls_left: calls,
         };
         let ended = serve(rt.alloc(), &mut input, &mut output);
-        assert_eq!(rt; output.written.as_slice(), answers.as_bytes(), "after {calls} calls");
+        assert_eq!(rt;
+            output.written.as_slice(),
+            answers.as_bytes(),
+            "after {calls} calls"
+        );
         assert_eq!(rt; ended, status, "after {calls} calls");
     }
 }
