@@ -40,6 +40,48 @@ fn unites(rt: HostRuntime) {
 }
 
 #[test]
+fn answers_each_set_operation(rt: HostRuntime) {
+    check_all(
+        &rt,
+        &[
+            ("set intersection 1,3,5 3,4,5\n", "3,5\n", 0),
+            ("set intersection 1 2\n", "-\n", 0),
+            ("set xor 1,2 2,3\n", "1,3\n", 0),
+            ("set xor - -\n", "-\n", 0),
+            ("set difference 1,2,3 2\n", "1,3\n", 0),
+            ("set subset 1,3 1,2,3\n", "true\n", 0),
+            ("set subset 1,2,3 1,3\n", "false\n", 0),
+            ("set superset 1,3 1,2,3\n", "false\n", 0),
+            ("set superset 1,2,3 1,3\n", "true\n", 0),
+            ("set disjoint - -\n", "true\n", 0),
+            ("set disjoint 1,2 2,3\n", "false\n", 0),
+        ],
+    );
+}
+
+#[test]
+fn prints_shapes(rt: HostRuntime) {
+    check_all(
+        &rt,
+        &[
+            ("shape -\n", ".\n", 0),
+            ("shape .\n", ".*\n", 0),
+            ("shape ab,ac\n", "a(b* c*)\n", 0),
+            ("shape aabbcc,aabb\n", "aabb*(cc*)\n", 0),
+            ("shape .,a\n", ".*(a*)\n", 0),
+            ("shape b,a,b\n", ".(a* b*)\n", 0),
+            ("shape abc,abd,ab\n", "ab*(c* d*)\n", 0),
+            ("shape a,A\n", "line 1: fault 3: not a number or key\n", 1),
+            ("shape a,\n", "line 1: fault 3: not a number or key\n", 1),
+            ("shape a,-\n", "line 1: fault 3: not a number or key\n", 1),
+            ("shape a,.b\n", "line 1: fault 3: not a number or key\n", 1),
+            ("shape\n", "line 1: fault 4: wrong count of words\n", 1),
+            ("shape a b\n", "line 1: fault 4: wrong count of words\n", 1),
+        ],
+    );
+}
+
+#[test]
 fn answers_each_fault(rt: HostRuntime) {
     check_all(
         &rt,

@@ -36,5 +36,5 @@ slice_split-cut test xs rest k found is =
     ap (λ behind. take k xs ∷ slice_split test behind) (sym (is ∙ ap (λ n. drop n xs) next))
 
 -- what stands behind n elements, as a slice from there to the end
-pub take-drop_rest : (n : ℕ) (xs : List ℕ) → take (length xs - n) (drop n xs) ≡ drop n xs
+pub take-drop_rest : {X : Type 0} (n : ℕ) (xs : List X) → take (length xs - n) (drop n xs) ≡ drop n xs
 take-drop_rest n xs = ap (λ m. take m (drop n xs)) (sym (length-drop n xs)) ∙ take-length (drop n xs)

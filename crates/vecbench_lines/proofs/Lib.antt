@@ -7,3 +7,5 @@ mod Answering
 mod Replying
 mod Chunks
 mod Joining
+mod Binding
+mod Shaping

@@ -1,14 +1,18 @@
 -- What lines are answered.
-use Rattle.std.specs.Prelude.{◌≡◌, ℕ, ◌||◌, true, List, [], ◌∷◌, ◌++◌, codes, Some}
+use Rattle.std.specs.Prelude.{◌≡◌, ◌↔◌, ℕ, Bool, true, IsTrue, List, [], ◌∷◌, ◌++◌, codes, Some}
 use Rattle.std.specs.Ordering.{nat_cmp}
 use Rattle.std.specs.Str.{bytes_eq}
+use Rattle.vec_collections.specs.Algebra.{made_by, IsTestedBy}
 use Rattle.vec_collections.specs.Ascending.{member}
 use Rattle.vecbench_lines.specs.declared.set_line.SetLine.{SetLine}
 use Rattle.vecbench_lines.specs.declared.set_line.SetOperation.{SetOperation}
-use Rattle.vecbench_lines.specs.declared.set_line.SetOperation.TheVariants.{Union}
+use Rattle.vecbench_lines.specs.declared.set_line.SetOperation.TheVariants.{Combine, Test}
+use Rattle.vecbench_lines.specs.declared.shape_line.ShapeLine.{ShapeLine}
 use Rattle.vecbench_lines.specs.declared.command.Command.{Command}
-use Rattle.vecbench_lines.specs.declared.command.Command.TheVariants.{Set}
-use Rattle.vecbench_lines.specs.Numbers.{numbers_in, list_text}
+use Rattle.vecbench_lines.specs.declared.command.Command.TheVariants.{Set, Shape}
+use Rattle.vecbench_lines.specs.Keys.{keys_in, HasKeys}
+use Rattle.vecbench_lines.specs.Numbers.{numbers_in, list_text, truth_text}
+use Rattle.vecbench_lines.specs.Shapes.{shape_text}
 use Rattle.vecbench_lines.specs.Judged.{is_ascending, set_operation_named}
 
 -- the words behind `set` say this line
@@ -17,23 +21,31 @@ SaysSetLine (operation ∷ left ∷ right ∷ []) line =
     (set_operation_named operation ≡ Some line.operation) × (numbers_in left ≡ Some line.left) × (numbers_in right ≡ Some line.right)
 SaysSetLine _ line = ⊥
 
+-- the word behind `shape` says this line
+abbrev pub SaysShapeLine : List (List ℕ) → ShapeLine → Type 0
+SaysShapeLine (word ∷ []) line = (keys : List (List ℕ)) × (keys_in word ≡ Some keys) × HasKeys keys line.tree
+SaysShapeLine _ line = ⊥
+
 -- the words say this command
 abbrev pub SaysCommand : List (List ℕ) → Command → Type 0
 SaysCommand [] command = ⊥
 SaysCommand (name ∷ words) (Set line) = (bytes_eq name (codes "set") ≡ true) × SaysSetLine words line
+SaysCommand (name ∷ words) (Shape line) = (bytes_eq name (codes "shape") ≡ true) × SaysShapeLine words line
 
--- an ascending list of the numbers that stand in either list
-pub record IsUnion (left right both : List ℕ) : Type 0 where
-  pub ascends : is_ascending both ≡ true
-  pub members : (n : ℕ) → member nat_cmp both n ≡ (member nat_cmp left n || member nat_cmp right n)
+-- an ascending list of the numbers that f picks, by whether they stand in the left list and in the right one
+pub record IsPicked (f : Bool → Bool → Bool) (left right picked : List ℕ) : Type 0 where
+  pub ascends : is_ascending picked ≡ true
+  pub members : (n : ℕ) → member nat_cmp picked n ≡ f (member nat_cmp left n) (member nat_cmp right n)
 
--- the text answers the operation on two sets
+-- the text answers the operation on two sets: what it makes of them, or whether its test holds
 abbrev pub AnswersSets : SetOperation → List ℕ → List ℕ → List ℕ → Type 0
-AnswersSets Union left right text = (both : List ℕ) × IsUnion left right both × (text ≡ list_text both)
+AnswersSets (Combine op) left right text = (picked : List ℕ) × IsPicked (made_by op) left right picked × (text ≡ list_text picked)
+AnswersSets (Test test) left right text = (holds : Bool) × (IsTrue holds ↔ IsTestedBy test nat_cmp left right) × (text ≡ truth_text holds)
 
 -- the text answers the command
 abbrev pub Answers : Command → List ℕ → Type 0
 Answers (Set line) text = AnswersSets line.operation line.left line.right text
+Answers (Shape line) text = text ≡ shape_text line.tree
 
 -- the text, with its LF, answers the words of a line; without words nothing does
 abbrev pub AnswersWords : List (List ℕ) → List ℕ → Type 0

@@ -5,7 +5,10 @@ use Rattle.std.specs.Str.{bytes_eq}
 use Rattle.vecbench_lines.specs.declared.fault.Fault.{Fault}
 use Rattle.vecbench_lines.specs.declared.fault.Fault.TheVariants.{UnknownCommand, NotAscending, NotANumberOrKey, WrongCount, NoMemory}
 use Rattle.vecbench_lines.specs.declared.set_line.SetOperation.{SetOperation}
-use Rattle.vecbench_lines.specs.declared.set_line.SetOperation.TheVariants.{Union}
+use Rattle.vecbench_lines.specs.declared.set_line.SetOperation.TheVariants.{Combine, Test}
+use Rattle.vec_collections.specs.SetOp.TheVariants.{Union, Intersection, SymmetricDifference, Difference}
+use Rattle.vec_collections.specs.SetTest.TheVariants.{Disjoint, Subset, Superset}
+use Rattle.vecbench_lines.specs.Keys.{keys_in}
 use Rattle.vecbench_lines.specs.Numbers.{numbers_in}
 
 -- whether each number is less than the next
@@ -25,7 +28,14 @@ first_fault (Some fault) second = Some fault
 
 -- the operation on sets of this name
 abbrev pub set_operation_named : List ℕ → Option SetOperation
-set_operation_named name = if bytes_eq name (codes "union") then Some Union else None
+set_operation_named name =
+    if bytes_eq name (codes "union") then Some (Combine Union) else
+    if bytes_eq name (codes "intersection") then Some (Combine Intersection) else
+    if bytes_eq name (codes "xor") then Some (Combine SymmetricDifference) else
+    if bytes_eq name (codes "difference") then Some (Combine Difference) else
+    if bytes_eq name (codes "subset") then Some (Test Subset) else
+    if bytes_eq name (codes "superset") then Some (Test Superset) else
+    if bytes_eq name (codes "disjoint") then Some (Test Disjoint) else None
 
 -- the fault of a word that is to name an operation on sets
 abbrev pub fault_in_set_operation : List ℕ → Option Fault
@@ -37,10 +47,20 @@ fault_in_set (operation ∷ left ∷ right ∷ []) =
     first_fault (fault_in_set_operation operation) (first_fault (fault_in_list left) (fault_in_list right))
 fault_in_set _ = Some WrongCount
 
+-- the fault of a list of keys: a member that is no key
+abbrev pub fault_in_keys : List ℕ → Option Fault
+fault_in_keys word = option_map_or (λ _. None) (keys_in word) (Some NotANumberOrKey)
+
+-- the fault of the words behind `shape`: first their count, then the list
+abbrev pub fault_in_shape : List (List ℕ) → Option Fault
+fault_in_shape (keys ∷ []) = fault_in_keys keys
+fault_in_shape _ = Some WrongCount
+
 -- the fault of a line with these words: first its first word, then those behind it
 abbrev pub fault_in_words : List (List ℕ) → Option Fault
 fault_in_words [] = None
-fault_in_words (name ∷ words) = if bytes_eq name (codes "set") then fault_in_set words else Some UnknownCommand
+fault_in_words (name ∷ words) =
+    if bytes_eq name (codes "set") then fault_in_set words else if bytes_eq name (codes "shape") then fault_in_shape words else Some UnknownCommand
 
 -- the fault that was judged, unless a request for memory was refused before
 abbrev pub IsFault : Option Fault → Fault → Type 0

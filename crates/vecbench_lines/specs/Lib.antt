@@ -3,6 +3,8 @@ pub mod Fault
 pub mod Parts
 pub mod PartsLeft
 pub mod Numbers
+pub mod Keys
+pub mod Shapes
 pub mod Judged
 pub mod Answers
 pub mod Served

@@ -1,5 +1,5 @@
 -- What a word says as a number or as a list of numbers, and how a list is printed.
-use Rattle.std.specs.Prelude.{ℕ, ◌^◌, ◌&&◌, if◌then◌else◌, nat_lt, List, [], ◌∷◌, map, codes, decimal, Option, None, Some}
+use Rattle.std.specs.Prelude.{ℕ, ◌^◌, ◌&&◌, Bool, true, false, if◌then◌else◌, nat_lt, List, [], ◌∷◌, map, codes, decimal, Option, None, Some}
 use Rattle.std.specs.List.{join_with_byte}
 use Rattle.std.specs.Option.{option_map, option_and_then}
 use Rattle.std.specs.Str.{all_ascii_digits, bytes_eq}
@@ -25,3 +25,8 @@ numbers_in word = if bytes_eq word (codes "-") then Some [] else numbers_in_all 
 abbrev pub list_text : List ℕ → List ℕ
 list_text [] = codes "-"
 list_text (n ∷ ns) = join_with_byte 44 (map decimal (n ∷ ns))
+
+-- how it is printed whether a test holds
+abbrev pub truth_text : Bool → List ℕ
+truth_text true = codes "true"
+truth_text false = codes "false"

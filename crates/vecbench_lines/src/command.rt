@@ -8,6 +8,7 @@ ghost use Rattle.vecbench_lines.specs.Answers.{AnswersWords};
 use crate::fault::Fault;
 use crate::parts::Words;
 use crate::set_line::SetLine;
+use crate::shape_line::ShapeLine;
 use std::alloc::{AllocError, Global};
 
 /// What a line asks for, once its words are judged.
@@ -15,6 +16,8 @@ use std::alloc::{AllocError, Global};
 pub enum Command {
     /// `set OP A B`
     Set(SetLine),
+    /// `shape A`
+    Shape(ShapeLine),
 }
 
 impl Command {
@@ -32,6 +35,8 @@ impl Command {
     {
         if name == b"set".as_slice() {
             Ok(Command::Set(SetLine::read(alloc, words)?))
+        } else if name == b"shape".as_slice() {
+            Ok(Command::Shape(ShapeLine::read(alloc, words)?))
         } else {
             Err(Fault::UnknownCommand)
         }
@@ -43,6 +48,7 @@ impl Command {
     {
         match self {
             Command::Set(line) => line.answer(text),
+            Command::Shape(line) => line.answer(text),
         }
     }
 }

@@ -3,7 +3,9 @@
 
 pub mod command;
 pub mod fault;
+pub mod keys;
 pub mod numbers;
 pub mod parts;
 pub mod serve;
 pub mod set_line;
+pub mod shape_line;

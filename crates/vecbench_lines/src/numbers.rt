@@ -3,7 +3,7 @@ ghost use Rattle.std.specs.Prelude.{◌≡◌, ◌+◌, ◌*◌, ◌<◌, ◌^�
 ghost use Rattle.std.specs.Option.{SomeIff, option_map_or};
 ghost use Rattle.std.specs.Char.{is_ascii_digit, digit_value};
 ghost use Rattle.std.specs.String.{string_bytes};
-ghost use Rattle.vecbench_lines.specs.Numbers.{number_in, numbers_in, list_text};
+ghost use Rattle.vecbench_lines.specs.Numbers.{number_in, numbers_in, list_text, truth_text};
 ghost use Rattle.vecbench_lines.specs.Judged.{fault_in_list, IsFault};
 ghost use Rattle.vecbench_lines.specs.declared.fault.Fault.TheVariants.{NotANumberOrKey};
 
@@ -88,4 +88,11 @@ pub fn put_numbers(text: &mut String, numbers: &[u64]) -> Result<(), AllocError>
         write!(text, ",{number}")?;
     }
     Ok(())
+}
+
+/// Puts `true` or `false` behind `text`.
+pub fn put_truth(text: &mut String, holds: bool) -> Result<(), AllocError>
+    ensures { OnOk result (string_bytes text.new ≡ string_bytes text.old ++ truth_text holds) }
+{
+    text.push_str(if holds { "true" } else { "false" })
 }

@@ -100,6 +100,17 @@ impl<'a> Words<'a> {
         }
     }
 
+    /// The word, if there is one alone.
+    pub fn one(mut self) -> Option<&'a [u8]>
+        ensures { MatchOption result (length (words_left self.entry) ≢ 1) (λ word. words_left self.entry ≡ word.now ∷ []) }
+    {
+        let word = self.next()?;
+        if self.next().is_some() {
+            return None;
+        }
+        Some(word)
+    }
+
     /// The words, if they are three.
     pub fn three(mut self) -> Option<(&'a [u8], &'a [u8], &'a [u8])>
         ensures { MatchOption result (length (words_left self.entry) ≢ 3)

@@ -1,14 +1,17 @@
 //! Lines that begin with `set`.
 use crate::fault::Fault;
-use crate::numbers::{NumberSet, put_numbers, read_set};
+use crate::numbers::{NumberSet, put_numbers, put_truth, read_set};
 use crate::parts::Words;
 use std::alloc::{AllocError, Global};
+use vec_collections::{AbstractVecSet, SetOp, SetTest};
 
 /// What is asked of two sets.
-#[derive(Clone, Copy, Debug, PartialEq, Eq)]
+#[derive(Clone, Copy)]
 pub enum SetOperation {
-    /// The elements of either set.
-    Union,
+    /// The set that is made of them.
+    Combine(SetOp),
+    /// Whether a test of them holds.
+    Test(SetTest),
 }
 
 impl SetOperation {
@@ -20,7 +23,19 @@ impl SetOperation {
         ensures { result ≡ set_operation_named name.now }
     {
         if name == b"union".as_slice() {
-            Some(SetOperation::Union)
+            Some(SetOperation::Combine(SetOp::Union))
+        } else if name == b"intersection".as_slice() {
+            Some(SetOperation::Combine(SetOp::Intersection))
+        } else if name == b"xor".as_slice() {
+            Some(SetOperation::Combine(SetOp::SymmetricDifference))
+        } else if name == b"difference".as_slice() {
+            Some(SetOperation::Combine(SetOp::Difference))
+        } else if name == b"subset".as_slice() {
+            Some(SetOperation::Test(SetTest::Subset))
+        } else if name == b"superset".as_slice() {
+            Some(SetOperation::Test(SetTest::Superset))
+        } else if name == b"disjoint".as_slice() {
+            Some(SetOperation::Test(SetTest::Disjoint))
         } else {
             None
         }
@@ -39,11 +54,13 @@ pub struct SetLine {
 }
 
 impl SetLine {
-    ghost use Rattle.std.specs.Prelude.{◌≡◌, ◌++◌, List, ℕ, None, MatchResult, IfOk, OnOk};
+    ghost use Rattle.std.specs.Prelude.{◌≡◌, ◌↔◌, ◌++◌, List, ℕ, None, MatchResult, IfOk, OnOk, IsTrue};
     ghost use Rattle.std.specs.String.{string_bytes};
     ghost use Rattle.vecbench_lines.specs.PartsLeft.{words_left};
     ghost use Rattle.vecbench_lines.specs.Judged.{fault_in_set, IsFault};
-    ghost use Rattle.vecbench_lines.specs.Answers.{SaysSetLine, AnswersSets};
+    ghost use Rattle.std.specs.Ordering.{nat_cmp};
+    ghost use Rattle.vec_collections.specs.Algebra.{made_by, IsTestedBy};
+    ghost use Rattle.vecbench_lines.specs.Answers.{SaysSetLine, IsPicked, AnswersSets};
 
     /// The line whose words behind the first are `words`. Their count is judged first, then the operation, the left
     /// list and the right list.
@@ -63,16 +80,40 @@ impl SetLine {
         })
     }
 
+    /// What `op` makes of the two sets.
+    fn combine(&self, op: SetOp) -> Result<NumberSet, AllocError>
+        ensures { IfOk result (IsPicked (made_by op) self.now.left self.now.right) }
+    {
+        match op {
+            SetOp::Union => self.left.union(&self.right),
+            SetOp::Intersection => self.left.intersection(&self.right),
+            SetOp::SymmetricDifference => self.left.symmetric_difference(&self.right),
+            SetOp::Difference => self.left.difference(&self.right),
+        }
+    }
+
+    /// Whether `test` holds of the two sets.
+    fn holds(&self, test: SetTest) -> bool
+        ensures { IsTrue result ↔ IsTestedBy test nat_cmp self.now.left self.now.right }
+    {
+        match test {
+            SetTest::Disjoint => self.left.is_disjoint(&self.right),
+            SetTest::Subset => self.left.is_subset(&self.right),
+            SetTest::Superset => self.left.is_superset(&self.right),
+        }
+    }
+
     /// Puts the answer behind `text`.
     pub fn answer(&self, text: &mut String) -> Result<(), AllocError>
         ensures { OnOk result ((answer : List ℕ) × AnswersSets self.now.operation self.now.left self.now.right answer
             × (string_bytes text.new ≡ string_bytes text.old ++ answer)) }
     {
         match self.operation {
-            SetOperation::Union => {
-                let union = self.left.union(&self.right)?;
-                put_numbers(text, union.as_ref())
+            SetOperation::Combine(op) => {
+                let picked = self.combine(op)?;
+                put_numbers(text, picked.as_ref())
             }
+            SetOperation::Test(test) => put_truth(text, self.holds(test)),
         }
     }
 }
