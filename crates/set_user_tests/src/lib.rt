@@ -2,5 +2,7 @@
 #![tactic(auto)]
 
 #[cfg(test)]
+mod clones;
+#[cfg(test)]
 mod examples;
 pub mod nth;
