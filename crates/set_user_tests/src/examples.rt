@@ -184,11 +184,13 @@ fn extends(left: &Numbers, right: &Numbers, row: &Row) -> Result<bool, AllocErro
 /// Whether the three tests answer what the row says.
 fn tests_agree(left: &Numbers, right: &Numbers, row: &Row) -> Result<bool, AllocError> {
     let either = (left | right)?;
-    Ok(left.is_disjoint(right) == row.intersection.is_empty()
-        && left.is_subset(right) == (either == *right)
-        && left.is_superset(right) == (either == *left)
-        && left.is_subset(&either)
-        && either.is_superset(right))
+    Ok(
+        left.is_disjoint(right) == row.intersection.is_empty()
+            && left.is_subset(right) == (either == *right)
+            && left.is_superset(right) == (either == *left)
+            && left.is_subset(&either)
+            && either.is_superset(right),
+    )
 }
 
 #[test]
@@ -248,7 +250,11 @@ fn most_steps(a: &Numbers, b: &Numbers) -> Result<u128, AllocError> {
 #[test]
 fn steps_are_at_most_both_lengths(rt: HostRuntime) -> Result<(), Fail> {
     let rows: [(&[u32], &[u32], u128); 4] = [
-        (&[0, 2, 4, 6, 8, 10, 12, 14], &[1, 3, 5, 7, 9, 11, 13, 15], 16),
+        (
+            &[0, 2, 4, 6, 8, 10, 12, 14],
+            &[1, 3, 5, 7, 9, 11, 13, 15],
+            16,
+        ),
         (&[0, 1, 2, 3, 4, 5, 6, 7], &[0, 1, 2, 3, 4, 5, 6, 7], 16),
         (&[2], &[1, 2, 3], 4),
         (&[], &[1, 2, 3, 4, 5], 5),
@@ -302,10 +308,27 @@ fn only_mark(set: &VecSet<Marked, 2>) -> char {
 
 #[test]
 fn insert_takes_the_new_and_union_the_left(rt: HostRuntime) -> Result<(), Fail> {
-    let mut set = VecSet::single(rt.alloc(), Marked { number: 1, mark: 'a' })?;
-    assert!(rt; !set.insert(Marked { number: 1, mark: 'b' })?);
+    let mut set = VecSet::single(
+        rt.alloc(),
+        Marked {
+            number: 1,
+            mark: 'a',
+        },
+    )?;
+    assert!(rt;
+        !set.insert(Marked {
+            number: 1,
+            mark: 'b'
+        })?
+    );
     assert_eq!(rt; only_mark(&set), 'b');
-    let that: VecSet<Marked, 2> = VecSet::single(rt.alloc(), Marked { number: 1, mark: 'c' })?;
+    let that: VecSet<Marked, 2> = VecSet::single(
+        rt.alloc(),
+        Marked {
+            number: 1,
+            mark: 'c',
+        },
+    )?;
     set.union_with(&that)?;
     assert_eq!(rt; only_mark(&set), 'b');
     set.bitor_assign(that)?;

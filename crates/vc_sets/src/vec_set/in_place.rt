@@ -31,10 +31,12 @@ fn sift<const BOTH: bool, T: Ord>(list: &mut [T], that: &[T]) -> usize
 /// Puts what stands in either list alone and, if `BOTH`, the left one of what stands in both, in the place of the left list.
 ///
 /// The elements of the right list come in as clones. All growths and clones are made before the first element is moved.
-fn unite<const BOTH: bool, T: Ord + Clone + MadeWith<A> + Drop, const N: usize, A: Allocator + Copy>(
-    list: &mut SmallVec<T, N, A>,
-    that: &[T],
-) -> Result<(), AllocError>
+fn unite<
+    const BOTH: bool,
+    T: Ord + Clone + MadeWith<A> + Drop,
+    const N: usize,
+    A: Allocator + Copy,
+>(list: &mut SmallVec<T, N, A>, that: &[T]) -> Result<(), AllocError>
     requires left_ascends { Ascends T.cmp list.old.items }
     requires right_ascends { Ascends T.cmp that.now }
     requires clones { ClonesAreEqual T.cmp T.is_clone }
@@ -48,10 +50,13 @@ fn unite<const BOTH: bool, T: Ord + Clone + MadeWith<A> + Drop, const N: usize, 
 }
 
 /// The same with the elements of the right list moved. All growths are made before the first element is moved.
-fn absorb<const BOTH: bool, T: Ord + MadeWith<A> + Drop, const N: usize, const M: usize, A: Allocator + Copy>(
-    list: &mut SmallVec<T, N, A>,
-    that: SmallVec<T, M, A>,
-) -> Result<(), AllocError>
+fn absorb<
+    const BOTH: bool,
+    T: Ord + MadeWith<A> + Drop,
+    const N: usize,
+    const M: usize,
+    A: Allocator + Copy,
+>(list: &mut SmallVec<T, N, A>, that: SmallVec<T, M, A>) -> Result<(), AllocError>
     requires left_ascends { Ascends T.cmp list.old.items }
     requires right_ascends { Ascends T.cmp that.items }
     ensures ok { OnOk result (IsSetOf T.cmp (λ x y. x ≡ y) (λ x y. x ≡ y) (keeps true true BOTH) list.old.items that.items list.new.items) }
@@ -87,7 +92,10 @@ impl<T: Ord + MadeWith<A> + Drop, const N: usize, A: Allocator + Copy> VecSet<T,
     /// Adds the items of an iterator that ascends strictly and ends, which are moved. Of two equal elements the left one stays.
     ///
     /// Refused, it leaves the set as it was, and drops the items that came and the iterator.
-    pub fn extend<I: Iterator<Item = T> + SortedByItem>(&mut self, iter: I) -> Result<(), AllocError>
+    pub fn extend<I: Iterator<Item = T> + SortedByItem>(
+        &mut self,
+        iter: I,
+    ) -> Result<(), AllocError>
         requires can { I.can_next iter }
         requires ends { IsFinite (I.remaining iter) }
         requires sorted { I.is_sorted iter }
@@ -139,8 +147,13 @@ impl<T: Ord + Clone + MadeWith<A> + Drop, const N: usize, A: Allocator + Copy> V
     }
 }
 
-impl<'b, T: Ord + MadeWith<A> + Drop, const N: usize, const M: usize, A: Allocator + Copy>
-    BitAndAssign<&'b VecSet<T, M, A>> for VecSet<T, N, A> {
+impl<
+    'b,
+    T: Ord + MadeWith<A> + Drop,
+    const N: usize,
+    const M: usize,
+    A: Allocator + Copy,
+> BitAndAssign<&'b VecSet<T, M, A>> for VecSet<T, N, A> {
     ghost bitand_assign_gives = { λ a b c. IsSetOf T.cmp (λ x y. x ≡ y) (λ x y. x ≡ y) ◌&&◌ a b.now c };
 
     fn bitand_assign(&mut self, that: &'b VecSet<T, M, A>) {
@@ -148,8 +161,13 @@ impl<'b, T: Ord + MadeWith<A> + Drop, const N: usize, const M: usize, A: Allocat
     }
 }
 
-impl<'b, T: Ord + MadeWith<A> + Drop, const N: usize, const M: usize, A: Allocator + Copy>
-    SubAssign<&'b VecSet<T, M, A>> for VecSet<T, N, A> {
+impl<
+    'b,
+    T: Ord + MadeWith<A> + Drop,
+    const N: usize,
+    const M: usize,
+    A: Allocator + Copy,
+> SubAssign<&'b VecSet<T, M, A>> for VecSet<T, N, A> {
     ghost sub_assign_gives = { λ a b c. IsSetOf T.cmp (λ x y. x ≡ y) (λ x y. x ≡ y) and_not a b.now c };
 
     fn sub_assign(&mut self, that: &'b VecSet<T, M, A>) {
@@ -157,8 +175,9 @@ impl<'b, T: Ord + MadeWith<A> + Drop, const N: usize, const M: usize, A: Allocat
     }
 }
 
-impl<T: Ord + MadeWith<A> + Drop, const N: usize, const M: usize, A: Allocator + Copy>
-    BitAndAssign<VecSet<T, M, A>> for VecSet<T, N, A> {
+impl<T: Ord + MadeWith<A> + Drop, const N: usize, const M: usize, A: Allocator + Copy> BitAndAssign<
+    VecSet<T, M, A>,
+> for VecSet<T, N, A> {
     ghost bitand_assign_gives = { λ a b c. IsSetOf T.cmp (λ x y. x ≡ y) (λ x y. x ≡ y) ◌&&◌ a b c };
 
     fn bitand_assign(&mut self, that: VecSet<T, M, A>) {
@@ -166,8 +185,9 @@ impl<T: Ord + MadeWith<A> + Drop, const N: usize, const M: usize, A: Allocator +
     }
 }
 
-impl<T: Ord + MadeWith<A> + Drop, const N: usize, const M: usize, A: Allocator + Copy>
-    SubAssign<VecSet<T, M, A>> for VecSet<T, N, A> {
+impl<T: Ord + MadeWith<A> + Drop, const N: usize, const M: usize, A: Allocator + Copy> SubAssign<
+    VecSet<T, M, A>,
+> for VecSet<T, N, A> {
     ghost sub_assign_gives = { λ a b c. IsSetOf T.cmp (λ x y. x ≡ y) (λ x y. x ≡ y) and_not a b c };
 
     fn sub_assign(&mut self, that: VecSet<T, M, A>) {
