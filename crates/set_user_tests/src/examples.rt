@@ -248,7 +248,7 @@ fn most_steps(a: &Numbers, b: &Numbers) -> Result<u128, AllocError> {
 }
 
 #[test]
-fn steps_are_at_most_both_lengths(rt: HostRuntime) -> Result<(), Fail> {
+fn steps_are_counted_and_at_most_both_lengths(rt: HostRuntime) -> Result<(), Fail> {
     let rows: [(&[u32], &[u32], u128); 4] = [
         (
             &[0, 2, 4, 6, 8, 10, 12, 14],
@@ -262,7 +262,9 @@ fn steps_are_at_most_both_lengths(rt: HostRuntime) -> Result<(), Fail> {
     for (left, right, bound) in rows {
         let a = numbers(rt.alloc(), left)?;
         let b = numbers(rt.alloc(), right)?;
-        assert!(rt; most_steps(&a, &b)? <= bound);
+        let most = most_steps(&a, &b)?;
+        assert!(rt; most <= bound);
+        assert!(rt; left.is_empty() || 1 <= most);
     }
     Ok(())
 }
