@@ -13,6 +13,7 @@ pub mod Progress
 pub mod Script
 pub mod MovesDown
 pub mod SiftViews
+pub mod SmallVecViews
 pub mod InPlaceViews
 pub mod MovedViews
 pub mod Laws

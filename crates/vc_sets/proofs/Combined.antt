@@ -9,7 +9,7 @@ use Rattle.std.specs.Cmp.{IsTotalOrder}
 use Rattle.std.specs.declared.cmp.Ordering.{Ordering}
 use Rattle.std.specs.declared.cmp.Ordering.TheVariants.{Equal}
 use Rattle.vc_merge.specs.Script.{Event, left_alone, right_alone, collision, IsScript}
-use Rattle.vc_merge.specs.Chain.{Answer, Allows, allows, Run, of_left, of_right, of_both, run_events, events, IsAllowed, Step, Steps, Finishes, Stops, IsMerged}
+use Rattle.vc_merge.specs.Chain.{Answer, Allows, Run, of_left, of_right, of_both, run_events, events, IsAllowed, Step, Steps, Finishes, Stops, IsMerged}
 use Rattle.vc_merge.specs.Both.{Both, Follows}
 use Rattle.vc_merge.specs.Building.{Extends, Built, Advances, Skips}
 use Rattle.vc_sets.specs.SetOf.{IsSetOf}

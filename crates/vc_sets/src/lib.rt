@@ -1,4 +1,4 @@
-// Sets as ascending lists.
+//! Sets as ascending lists.
 #![tactic(auto)]
 
 mod combine;

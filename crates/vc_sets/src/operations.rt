@@ -1,5 +1,5 @@
 //! The merge operations of sets. Of two equal elements both kinds keep the left one, or none.
-ghost use Rattle.std.specs.Prelude.{◌≡◌, true, false, not};
+ghost use Rattle.std.specs.Prelude.{◌≡◌, ◌<◌, true, false, not, drop, length, IfOk};
 ghost use Rattle.vc_merge.specs.Both.{Both};
 ghost use Rattle.vc_merge.specs.Count.{ticked};
 ghost use Rattle.vc_sets.specs.Select.{both_sides, both_sides-total};
@@ -41,11 +41,7 @@ impl<const BOTH: bool, T: Ord, M: MergeFromRight<A = T, B = T>, C: Count> MergeO
     }
 
     fn collision(&self, state: &mut M) -> Result<bool, AllocError> {
-        if state.advance_a(1, BOTH)? {
-            state.skip_b(1)
-        } else {
-            Ok(false)
-        }
+        keep_left::<BOTH, _>(state)
     }
 }
 
@@ -76,16 +72,27 @@ impl<const BOTH: bool, T: Ord, M: MergeStateMut<A = T, B = T>, C: Count> MergeOp
     }
 
     fn collision(&self, state: &mut M) -> Result<bool, AllocError> {
-        if state.advance_a(1, BOTH)? {
-            state.skip_b(1)
-        } else {
-            Ok(false)
-        }
+        keep_left::<BOTH, _>(state)
+    }
+}
+
+/// Passes an element that stands on both sides, and takes the left one if `BOTH`.
+fn keep_left<const BOTH: bool, M: MergeStateMut>(state: &mut M) -> Result<bool, AllocError>
+    requires ready { M.ready state.old }
+    requires some_left { 0 < length (M.left state.old) }
+    requires some_right { 0 < length (M.right state.old) }
+    ensures gives { Both (λ p r q. M.advances_a p 1 BOTH r q) (λ p r q. M.skips_b p 1 r q) state.old result state.new }
+    ensures takes { IfOk result (λ go_on. go_on ≡ true → (M.left state.new ≡ drop 1 (M.left state.old)) × (M.right state.new ≡ drop 1 (M.right state.old)) × M.ready state.new) }
+{
+    if state.advance_a(1, BOTH)? {
+        state.skip_b(1)
+    } else {
+        Ok(false)
     }
 }
 
 /// Compares two elements, and counts that.
-fn compare<T: Ord, C: Count>(a: &T, b: &T, steps: &mut C) -> Ordering
+pub fn compare<T: Ord, C: Count>(a: &T, b: &T, steps: &mut C) -> Ordering
     ensures value { result ≡ T.cmp a.now b.now }
     ensures ticks { C.counted steps.new ≡ ticked (C.counted steps.old) }
 {

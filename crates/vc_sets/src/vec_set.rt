@@ -21,9 +21,15 @@ use std::marker::Model;
 use std::slice;
 use vc_merge::iterators::VecSetIter;
 
-/// A set, as a list of its elements in ascending order, the first `N` of them without an allocation.
+/// A set, as a list of its elements in ascending order. Up to `N` of them stand in place, without an allocation.
 ///
 /// Contracts see it as that list.
+///
+/// ```
+/// let mut primes: VecSet<u32, 4> = VecSet::single(alloc, 5)?;
+/// assert!(primes.insert(2)?);
+/// assert!(primes.as_ref() == [2, 5].as_slice());
+/// ```
 #[derive(Drop)]
 pub struct VecSet<T: Ord, const N: usize, A: Allocator = Global> {
     elements: SmallVec<T, N, A>,
@@ -44,21 +50,21 @@ impl<T: Ord, const N: usize, A: Allocator> Model for VecSet<T, N, A> {
 }
 
 impl<T: Ord, const N: usize, A: Allocator> VecSet<T, N, A> {
-    /// The number of elements.
+    /// The number of elements. Takes no memory.
     pub fn len(&self) -> usize
         ensures { result ≡ length self.now }
     {
         self.elements.len()
     }
 
-    /// Whether there is no element.
+    /// Whether there is no element. Takes no memory.
     pub fn is_empty(&self) -> bool
         ensures { IsTrue result ↔ (self.now ≡ []) }
     {
         self.elements.is_empty()
     }
 
-    /// The elements in ascending order.
+    /// The elements in ascending order. Takes no memory.
     pub fn as_ref(&self) -> &[T]
         ensures elements { result.now ≡ self.now }
         ensures ascends { Ascends T.cmp self.now }
@@ -78,6 +84,8 @@ impl<T: Ord + MadeWith<A> + Drop, const N: usize, A: Allocator + Copy> VecSet<T,
     }
 
     /// The set of a list that ascends strictly, as [`ascends`](vc_merge::iterators::ascends) tells. The elements are moved.
+    ///
+    /// Takes memory where there are more than `N`; refused, it drops the elements.
     pub fn from_vec(alloc: A, vec: Vec<T>) -> Result<Self, AllocError>
         requires { Ascends T.cmp vec.items }
         ensures { IfOk result (λ s. s ≡ vec.items) }
@@ -88,7 +96,8 @@ impl<T: Ord + MadeWith<A> + Drop, const N: usize, A: Allocator + Copy> VecSet<T,
 
     /// Puts an element in, in the place of an equal one if there is one, and answers whether there was none.
     ///
-    /// It takes memory only for a new element, where `N` or more are held. Refused, it leaves the set as it was and drops the element.
+    /// Searches by halving, and moves the elements behind a new one. It takes memory only for a new element, where `N` or more are held;
+    /// refused, it leaves the set as it was and drops the element.
     pub fn insert(&mut self, that: T) -> Result<bool, AllocError>
         ensures answer { IfOk result (λ is_new. is_new ≡ not (member T.cmp self.old that)) }
         ensures members { IfOk result (λ _. (x : T) → member T.cmp self.new x ≡ (eq_by_cmp T.cmp that x || member T.cmp self.old x)) }
@@ -120,7 +129,7 @@ impl<T: Ord + MadeWith<A> + Drop, const N: usize, A: Allocator + Copy> VecSet<T,
 pub trait AbstractVecSet<T: Ord> {
     ghost elements: { Self → List T };
 
-    /// The elements in ascending order.
+    /// The elements in ascending order. Takes no memory.
     fn as_slice(&self) -> &[T]
         ensures elements { result.now ≡ elements self.now }
         ensures ascends { Ascends T.cmp (elements self.now) };

@@ -4,6 +4,7 @@ ghost use Rattle.vc_merge.specs.Ascending.{Ascends, member};
 ghost use Rattle.vc_merge.specs.Count.{bound};
 ghost use Rattle.vc_sets.specs.Select.{both_sides, both_sides-total, keeps};
 
+use crate::operations::compare;
 use std::alloc::AllocError;
 use std::cmp::Ordering;
 use vc_merge::merge::{Count, MergeOperation, MergeState, merge};
@@ -54,8 +55,7 @@ impl<'a, const LEFT: bool, const RIGHT: bool, const BOTH: bool, T: Ord, C: Count
     ghost total = { λ _. both_sides-total T.cmp T.total };
 
     fn cmp(&self, a: &T, b: &T, steps: &mut C) -> Ordering {
-        steps.tick();
-        a.cmp(b)
+        compare(a, b, steps)
     }
 
     fn from_a(&self, state: &mut Witnesses<'a, T>, n: usize) -> Result<bool, AllocError> {

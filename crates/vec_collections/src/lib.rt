@@ -4,6 +4,8 @@
 //! those of `vec_set` also at its root.
 #![tactic(auto)]
 
+mod example;
+
 /// The engine of all operations on sorted lists: a merge of two ascending lists, event by event.
 pub mod merge {
     pub use vc_merge::merge::{

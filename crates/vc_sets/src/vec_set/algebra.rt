@@ -41,7 +41,13 @@ pub enum SetTest {
 
 /// What is in either of two sets, as clones. Of two equal elements the left one is kept.
 ///
-/// It grows once, at the start, for as many elements as both sets have, and compares at most as often.
+/// It grows once, at the start, for as many elements as both sets have, and compares at most as often. Refused there or at a clone, it
+/// drops what it built.
+///
+/// ```
+/// let tags: VecSet<u32, 4> = union(alloc, &ours, &theirs)?;
+/// assert!(ours.is_subset(&tags) && theirs.is_subset(&tags));
+/// ```
 pub fn union<
     T: Ord + Clone + MadeWith<A>,
     S: AbstractVecSet<T>,
@@ -62,6 +68,8 @@ pub fn union<
 }
 
 /// What is in both of two sets, as clones of the left elements.
+///
+/// It grows as it goes, and compares at most as often as both sets have elements. Refused at a growth or a clone, it drops what it built.
 pub fn intersection<
     T: Ord + Clone + MadeWith<A>,
     S: AbstractVecSet<T>,
@@ -82,6 +90,9 @@ pub fn intersection<
 }
 
 /// What is in exactly one of two sets, as clones.
+///
+/// It grows once, at the start, for as many elements as both sets have, and compares at most as often. Refused there or at a clone, it
+/// drops what it built.
 pub fn symmetric_difference<
     T: Ord + Clone + MadeWith<A>,
     S: AbstractVecSet<T>,
@@ -102,6 +113,8 @@ pub fn symmetric_difference<
 }
 
 /// What is in the left one of two sets and not in the right one, as clones.
+///
+/// It grows as it goes, and compares at most as often as both sets have elements. Refused at a growth or a clone, it drops what it built.
 pub fn difference<
     T: Ord + Clone + MadeWith<A>,
     S: AbstractVecSet<T>,
@@ -152,9 +165,10 @@ pub(crate) fn is_superset<T: Ord, S: AbstractVecSet<T>, U: AbstractVecSet<T>>(
 }
 
 impl<T: Ord + Clone + MadeWith<A>, const N: usize, A: Allocator + Copy> VecSet<T, N, A> {
-    /// What is in either set, as clones. Of two equal elements the left one is kept.
+    /// What is in either set, as clones, with the allocator of this set. Of two equal elements the left one is kept.
     ///
-    /// It grows once, at the start, for as many elements as both sets have, and compares at most as often.
+    /// It grows once, at the start, for as many elements as both sets have, and compares at most as often. Refused there or at a clone, it
+    /// drops what it built.
     pub fn union<S: AbstractVecSet<T>>(&self, that: &S) -> Result<Self, AllocError>
         requires clones { ClonesAreEqual T.cmp T.is_clone }
         ensures union { IfOk result (IsSetOf T.cmp T.is_clone T.is_clone ◌||◌ self.now (S.elements that.now)) }
@@ -162,7 +176,10 @@ impl<T: Ord + Clone + MadeWith<A>, const N: usize, A: Allocator + Copy> VecSet<T
         union(*self.elements.allocator(), self, that)
     }
 
-    /// What is in both sets, as clones of the left elements.
+    /// What is in both sets, as clones of the left elements, with the allocator of this set.
+    ///
+    /// It grows as it goes, and compares at most as often as both sets have elements. Refused at a growth or a clone, it drops what it
+    /// built.
     pub fn intersection<S: AbstractVecSet<T>>(&self, that: &S) -> Result<Self, AllocError>
         requires clones { ClonesAreEqual T.cmp T.is_clone }
         ensures intersection { IfOk result (IsSetOf T.cmp T.is_clone T.is_clone ◌&&◌ self.now (S.elements that.now)) }
@@ -170,7 +187,10 @@ impl<T: Ord + Clone + MadeWith<A>, const N: usize, A: Allocator + Copy> VecSet<T
         intersection(*self.elements.allocator(), self, that)
     }
 
-    /// What is in exactly one of the sets, as clones.
+    /// What is in exactly one of the sets, as clones, with the allocator of this set.
+    ///
+    /// It grows once, at the start, for as many elements as both sets have, and compares at most as often. Refused there or at a clone, it
+    /// drops what it built.
     pub fn symmetric_difference<S: AbstractVecSet<T>>(&self, that: &S) -> Result<Self, AllocError>
         requires clones { ClonesAreEqual T.cmp T.is_clone }
         ensures symmetric_difference { IfOk result (IsSetOf T.cmp T.is_clone T.is_clone exactly_one self.now (S.elements that.now)) }
@@ -178,7 +198,10 @@ impl<T: Ord + Clone + MadeWith<A>, const N: usize, A: Allocator + Copy> VecSet<T
         symmetric_difference(*self.elements.allocator(), self, that)
     }
 
-    /// What is in this set and not in the other, as clones.
+    /// What is in this set and not in the other, as clones, with the allocator of this set.
+    ///
+    /// It grows as it goes, and compares at most as often as both sets have elements. Refused at a growth or a clone, it drops what it
+    /// built.
     pub fn difference<S: AbstractVecSet<T>>(&self, that: &S) -> Result<Self, AllocError>
         requires clones { ClonesAreEqual T.cmp T.is_clone }
         ensures difference { IfOk result (IsSetOf T.cmp T.is_clone T.is_clone and_not self.now (S.elements that.now)) }
@@ -186,7 +209,16 @@ impl<T: Ord + Clone + MadeWith<A>, const N: usize, A: Allocator + Copy> VecSet<T
         difference(*self.elements.allocator(), self, that)
     }
 
-    /// The operation `op` of the two sets, as clones, with its comparisons added to `steps`: at most as many as both sets have elements.
+    /// The operation `op` of the two sets, as clones, with its comparisons added to `steps`: at most as many as both sets have elements. Of
+    /// two equal elements the left one is kept.
+    ///
+    /// Refused at a growth or a clone, it drops what it built; the comparisons until then are counted.
+    ///
+    /// ```
+    /// let mut steps = Steps::new();
+    /// let both = ours.combine_counted(&theirs, SetOp::Intersection, &mut steps)?;
+    /// assert!(steps.count() <= (ours.len() + theirs.len()) as u128);
+    /// ```
     pub fn combine_counted<S: AbstractVecSet<T>>(
         &self,
         that: &S,
@@ -223,6 +255,7 @@ impl<T: Ord, const N: usize, A: Allocator> VecSet<T, N, A> {
     }
 }
 
+/// `&a | &b` is the union, as by [`union`](VecSet::union).
 impl<
     'a,
     'b,
@@ -242,6 +275,7 @@ impl<
     }
 }
 
+/// `&a & &b` is the intersection, as by [`intersection`](VecSet::intersection).
 impl<
     'a,
     'b,
@@ -261,6 +295,7 @@ impl<
     }
 }
 
+/// `&a ^ &b` is what is in exactly one set, as by [`symmetric_difference`](VecSet::symmetric_difference).
 impl<
     'a,
     'b,
@@ -280,6 +315,7 @@ impl<
     }
 }
 
+/// `&a - &b` is what is in `a` and not in `b`, as by [`difference`](VecSet::difference).
 impl<'a, 'b, T: Ord + Clone + MadeWith<A>, const N: usize, const M: usize, A: Allocator + Copy> Sub<
     &'b VecSet<T, M, A>,
 > for &'a VecSet<T, N, A> {

@@ -82,7 +82,9 @@ impl<T: Ord + MadeWith<A> + Drop, const N: usize, A: Allocator + Copy> VecSet<T,
 }
 
 impl<T: Ord + Clone + MadeWith<A>, const N: usize, A: Allocator + Copy> VecSet<T, N, A> {
-    /// A copy, element by element. Takes memory where there are more than `N`, and as the clones of the elements do.
+    /// A copy, element by element, with the allocator of this set.
+    ///
+    /// Takes memory where there are more than `N`, and as the clones of the elements do; refused, it drops what was copied.
     pub fn clone(&self) -> Result<Self, AllocError>
         requires { ClonesAreEqual T.cmp T.is_clone }
         ensures { IfOk result (λ copy. AllZip T.is_clone self.now copy) }

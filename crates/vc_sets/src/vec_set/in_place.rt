@@ -106,7 +106,7 @@ impl<T: Ord + MadeWith<A> + Drop, const N: usize, A: Allocator + Copy> VecSet<T,
         self.bitor_assign(that)
     }
 
-    /// Keeps what is in the other set too. Takes no memory.
+    /// Keeps what is in the other set too, and drops the rest. An element that stays is the old one. Takes no memory.
     pub fn intersection_with<S: AbstractVecSet<T>>(&mut self, that: &S)
         ensures { IsSetOf T.cmp (λ x y. x ≡ y) (λ x y. x ≡ y) ◌&&◌ self.old (S.elements that.now) self.new }
     {
@@ -114,7 +114,7 @@ impl<T: Ord + MadeWith<A> + Drop, const N: usize, A: Allocator + Copy> VecSet<T,
         self.elements.truncate(kept);
     }
 
-    /// Keeps what is not in the other set. Takes no memory.
+    /// Keeps what is not in the other set, and drops the rest. Takes no memory.
     pub fn difference_with<S: AbstractVecSet<T>>(&mut self, that: &S)
         ensures { IsSetOf T.cmp (λ x y. x ≡ y) (λ x y. x ≡ y) and_not self.old (S.elements that.now) self.new }
     {
@@ -127,6 +127,11 @@ impl<T: Ord + Clone + MadeWith<A> + Drop, const N: usize, A: Allocator + Copy> V
     /// Adds what is in the other set, as clones. Of two equal elements the left one stays.
     ///
     /// Refused, it leaves the set as it was: all growths and clones come before the first element is moved.
+    ///
+    /// ```
+    /// tags.union_with(&more)?;
+    /// assert!(more.is_subset(&tags));
+    /// ```
     pub fn union_with<S: AbstractVecSet<T>>(&mut self, that: &S) -> Result<(), AllocError>
         requires clones { ClonesAreEqual T.cmp T.is_clone }
         ensures union { OnOk result (IsSetOf T.cmp (λ x y. x ≡ y) T.is_clone ◌||◌ self.old (S.elements that.now) self.new) }
@@ -147,6 +152,7 @@ impl<T: Ord + Clone + MadeWith<A> + Drop, const N: usize, A: Allocator + Copy> V
     }
 }
 
+/// `a &= &b` keeps what is in `b` too, as [`intersection_with`](VecSet::intersection_with) does. Takes no memory.
 impl<
     'b,
     T: Ord + MadeWith<A> + Drop,
@@ -161,6 +167,7 @@ impl<
     }
 }
 
+/// `a -= &b` keeps what is not in `b`, as [`difference_with`](VecSet::difference_with) does. Takes no memory.
 impl<
     'b,
     T: Ord + MadeWith<A> + Drop,
@@ -175,6 +182,7 @@ impl<
     }
 }
 
+/// `a &= b` keeps what is in `b` too, and drops `b`. Takes no memory.
 impl<T: Ord + MadeWith<A> + Drop, const N: usize, const M: usize, A: Allocator + Copy> BitAndAssign<
     VecSet<T, M, A>,
 > for VecSet<T, N, A> {
@@ -185,6 +193,7 @@ impl<T: Ord + MadeWith<A> + Drop, const N: usize, const M: usize, A: Allocator +
     }
 }
 
+/// `a -= b` keeps what is not in `b`, and drops `b`. Takes no memory.
 impl<T: Ord + MadeWith<A> + Drop, const N: usize, const M: usize, A: Allocator + Copy> SubAssign<
     VecSet<T, M, A>,
 > for VecSet<T, N, A> {

@@ -1,4 +1,3 @@
-use Rattle.std.proofs.Common.{ap, ◌∙◌, sym}
 use Rattle.vc_sets.proofs.Sifted.{sifted-and_not}
 use Rattle.vc_sets.proofs.vec_set.VecSet.difference_with.Goals as goal
 

@@ -1,4 +1,3 @@
-use Rattle.std.proofs.Common.{ap, ◌∙◌, sym}
 use Rattle.vc_sets.proofs.Sifted.{sifted-and}
 use Rattle.vc_sets.proofs.vec_set.VecSet.intersection_with.Goals as goal
 

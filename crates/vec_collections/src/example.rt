@@ -1,0 +1,40 @@
+//! The example of the README, as a user writes it who names this crate alone. Its contracts are in the words of the subject.
+ghost use Rattle.std.specs.Prelude.{◌≡◌, ◌||◌, ◌↔◌, IfOk, OnOk, IsTrue, ℕ};
+ghost use Rattle.std.specs.Ordering.{nat_cmp};
+ghost use Rattle.vec_collections.specs.Ascending.{member};
+ghost use Rattle.vec_collections.specs.Map.{lookup, IsInserted};
+
+use crate::radix_tree::{AbstractRadixTree, AbstractRadixTreeMut, RadixTree};
+use crate::{AbstractVecSet, VecSet, union};
+use std::alloc::{AllocError, Global};
+
+/// The tags of an article, of which four need no allocation.
+pub type Tags = VecSet<u32, 4>;
+
+/// The tags that two articles have between them.
+pub fn all_tags(alloc: Global, a: &Tags, b: &Tags) -> Result<Tags, AllocError>
+    ensures { IfOk result (λ all. (tag : ℕ) → member nat_cmp all tag ≡ (member nat_cmp a.now tag || member nat_cmp b.now tag)) }
+{
+    union(alloc, a, b)
+}
+
+/// Whether an article has all tags that are asked for.
+pub fn has_tags(tags: &Tags, asked: &Tags) -> bool
+    ensures { IsTrue result ↔ ((tag : ℕ) → IsTrue (member nat_cmp asked.now tag) → IsTrue (member nat_cmp tags.now tag)) }
+{
+    asked.is_subset(tags)
+}
+
+/// Sets the port of a server, and answers the one that it had.
+pub fn set_port(
+    ports: &mut RadixTree<u8, u32>,
+    server: &[u8],
+    port: u32,
+) -> Result<Option<u32>, AllocError>
+    ensures had { IfOk result (λ had. had ≡ lookup nat_cmp ports.old server.now) }
+    ensures set { OnOk result (IsInserted nat_cmp (λ x y. x ≡ y) server.now port ports.old ports.new) }
+{
+    let had = ports.get(server).copied();
+    ports.insert(server, port)?;
+    Ok(had)
+}
