@@ -9,5 +9,7 @@ mod clones;
 #[cfg(test)]
 mod conversions;
 #[cfg(test)]
+mod counted;
+#[cfg(test)]
 mod examples;
 pub mod nth;
