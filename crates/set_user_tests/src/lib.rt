@@ -11,3 +11,5 @@ mod conversions;
 #[cfg(test)]
 mod examples;
 pub mod nth;
+#[cfg(test)]
+mod refused;

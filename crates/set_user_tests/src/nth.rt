@@ -23,6 +23,11 @@ impl<B: Allocator> Nth<B> {
         self.left.get() == 0
     }
 
+    /// Refuses the request of that number, counted from now on from 1. At 0 it grants each.
+    pub fn refuse(&self, number: u64) {
+        self.left.set(number);
+    }
+
     /// Grants each request from now on.
     pub fn grant_all(&self) {
         self.left.set(0);
