@@ -1,4 +1,4 @@
-//! Each call of sets that takes memory, with each of its requests refused in turn.
+//! Each call of sets that takes memory, with each of its requests refused in turn, alone and with the next one.
 
 use crate::nth::Nth;
 use std::alloc::{AllocError, Global};
@@ -8,8 +8,8 @@ use std::test::Fail;
 use vc_merge::merge::Steps;
 use vc_sets::vec_set::{SetOp, VecSet, difference, intersection, symmetric_difference, union};
 
-/// A set of numbers whose memory can be refused.
-type Numbers<'a, const N: usize> = VecSet<u32, N, &'a Nth<Global>>;
+/// A set of numbers of whose requests for memory one, or two in a row, can be refused.
+type Numbers<'a, const N: usize> = VecSet<u32, N, &'a Nth<Nth<Global>>>;
 
 /// The lengths that the left and the right set have.
 const LENGTHS: [u32; 5] = [0, 1, 2, 3, 8];
@@ -154,7 +154,7 @@ enum Which {
 #[derive(Clone, Copy)]
 struct Case<'a> {
     alloc: Global,
-    memory: &'a Nth<Global>,
+    memory: &'a Nth<Nth<Global>>,
     left: u32,
     right: u32,
 }
@@ -307,39 +307,38 @@ impl<'a> Case<'a> {
         }
     }
 
-    /// Refuses each request of the call in turn, and says whether there was one. Refused, the call leaves the sets as
-    /// they were, and then succeeds.
+    /// Refuses each request of the call in turn, alone or with the next one, and says whether there was one. Refused,
+    /// the call leaves the sets as they were, and then succeeds.
     fn is_refused<const N: usize>(
         self,
         rt: &impl Abort,
         call: Call,
+        with_next: bool,
         right: &Numbers<'a, N>,
     ) -> Result<bool, AllocError> {
         for number in 1..LIMIT {
-            let at = (self.left, self.right, number);
+            let at = (self.left, self.right, number, with_next);
             let mut left = self.set(Which::Left)?;
             let moved = self.set(Which::Right)?;
-            self.memory.refuse(number);
+            if with_next {
+                self.memory.refuse_two(number);
+            } else {
+                self.memory.refuse(number);
+            }
             let outcome = self.succeeds(call, &mut left, right, moved);
             let has_come = self.memory.is_done();
-            self.memory.grant_all();
+            self.memory.refuse_two(0);
             if let Ok(is_right) = outcome {
                 assert!(rt; is_right, "{call:?} at {at:?}");
                 if !has_come {
                     return Ok(1 < number);
                 }
-                assert!(rt; call.has_hint(), "{call:?} at {at:?}");
+                assert!(rt; call.has_hint() && !with_next, "{call:?} at {at:?}");
                 continue;
             }
-            assert!(rt; has_come, "{call:?} at {at:?}");
-            assert!(rt;
-                self.lists(Which::Left, left.as_ref()),
-                "{call:?} at {at:?}"
-            );
-            assert!(rt;
-                self.lists(Which::Right, right.as_ref()),
-                "{call:?} at {at:?}"
-            );
+            let stands = self.lists(Which::Left, left.as_ref())
+                && self.lists(Which::Right, right.as_ref());
+            assert!(rt; has_come && stands, "{call:?} at {at:?}");
             let moved = self.set(Which::Right)?;
             assert!(rt;
                 self.succeeds(call, &mut left, right, moved)?,
@@ -369,7 +368,7 @@ impl<'a> Case<'a> {
 
 /// Whether a request of the call is refused, over all lengths and sizes.
 fn is_refused(rt: &impl Abort, alloc: Global, call: Call) -> Result<bool, AllocError> {
-    let memory = Nth::new(alloc, 0);
+    let memory = Nth::new(Nth::new(alloc, 0), 0);
     let mut is_refused = false;
     for left in LENGTHS {
         for right in LENGTHS {
@@ -379,9 +378,11 @@ fn is_refused(rt: &impl Abort, alloc: Global, call: Call) -> Result<bool, AllocE
                 left,
                 right,
             };
-            is_refused |= case.is_refused(rt, call, &case.set::<0>(Which::Right)?)?;
-            is_refused |= case.is_refused(rt, call, &case.set::<1>(Which::Right)?)?;
-            is_refused |= case.is_refused(rt, call, &case.set::<2>(Which::Right)?)?;
+            for with_next in [false, true] {
+                is_refused |= case.is_refused(rt, call, with_next, &case.set::<0>(Which::Right)?)?;
+                is_refused |= case.is_refused(rt, call, with_next, &case.set::<1>(Which::Right)?)?;
+                is_refused |= case.is_refused(rt, call, with_next, &case.set::<2>(Which::Right)?)?;
+            }
         }
     }
     Ok(is_refused)
@@ -426,7 +427,7 @@ fn refused_conversions_leave_the_set(rt: HostRuntime) -> Result<(), Fail> {
 
 #[test]
 fn a_set_that_is_refused_still_shrinks(rt: HostRuntime) -> Result<(), Fail> {
-    let memory = Nth::new(rt.alloc(), 0);
+    let memory = Nth::new(Nth::new(rt.alloc(), 0), 0);
     let mut is_refused = false;
     for left in LENGTHS {
         let case = Case {
