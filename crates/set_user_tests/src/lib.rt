@@ -13,3 +13,5 @@ mod counted;
 #[cfg(test)]
 mod examples;
 pub mod nth;
+#[cfg(test)]
+mod refused;

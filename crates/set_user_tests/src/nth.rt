@@ -23,9 +23,22 @@ impl<B: Allocator> Nth<B> {
         self.left.get() == 0
     }
 
+    /// Refuses the request of that number, counted from now on from 1. At 0 it grants each.
+    pub fn refuse(&self, number: u64) {
+        self.left.set(number);
+    }
+
     /// Grants each request from now on.
     pub fn grant_all(&self) {
         self.left.set(0);
+    }
+}
+
+impl<B: Allocator> Nth<Nth<B>> {
+    /// Refuses the request of that number, counted from now on from 1, and the next one. At 0 it grants each.
+    pub fn refuse_two(&self, number: u64) {
+        self.refuse(number);
+        self.inner.refuse(number);
     }
 }
 
