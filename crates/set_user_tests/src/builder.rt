@@ -1,5 +1,8 @@
 //! A builder on its happy path, and each of its elements dropped once, also where it is dropped early.
+
+use crate::nth::Nth;
 use smallvec::SmallVec;
+use std::alloc::{AllocError, Global};
 use std::rc::Rc;
 use std::test::*;
 use vc_merge::inplace::{InPlace, close, open};
@@ -70,5 +73,30 @@ fn drops_each_element_once_where_it_is_dropped_early(rt: HostRuntime) -> Result<
     assert_eq!(rt; Rc::strong_count(&counted), 5);
     drop(both);
     assert_eq!(rt; Rc::strong_count(&counted), 1);
+    Ok(())
+}
+
+/// Builds in a list of eight numbers with three extra places, where the request of that number is refused. Says whether
+/// the builder was made, and whether that request had come once it was finished.
+fn finish(memory: &Nth<Global>, number: u64) -> Result<(bool, bool), AllocError> {
+    let mut list = vec![in memory; 1, 2, 3, 4, 5, 6, 7, 8]?;
+    memory.refuse(number);
+    let is_granted = match InPlace::new(&mut list, 3) {
+        Ok(mut both) => {
+            both.take(8);
+            both.push(9);
+            both.finish().len() == 9
+        }
+        Err(_) => list.len() != 8,
+    };
+    Ok((is_granted, memory.is_done()))
+}
+
+#[test]
+fn takes_memory_twice_and_at_the_start(rt: HostRuntime) -> Result<(), Fail> {
+    let memory = Nth::new(rt.alloc(), 0);
+    assert_eq!(rt; finish(&memory, 1)?, (false, true));
+    assert_eq!(rt; finish(&memory, 2)?, (false, true));
+    assert_eq!(rt; finish(&memory, 3)?, (true, false));
     Ok(())
 }

@@ -96,7 +96,22 @@ const LISTS: [(&[u32], &[u32]); 6] = [
     (&[5, 6], &[]),
 ];
 
-/// Whether each operation on the two sets counts the comparisons that its elements counted.
+/// What the operation makes of the two sets, by the call without a counter.
+fn uncounted<'s, 'a>(
+    a: &'s Compareds<'a>,
+    b: &'s Compareds<'a>,
+    op: SetOp,
+) -> Result<Compareds<'a>, AllocError> {
+    match op {
+        SetOp::Union => a.union(b),
+        SetOp::Intersection => a.intersection(b),
+        SetOp::SymmetricDifference => a.symmetric_difference(b),
+        SetOp::Difference => a.difference(b),
+    }
+}
+
+/// Whether each operation on the two sets counts the comparisons that its elements counted, and makes as many where it
+/// counts none.
 fn operations_agree<'s, 'a>(
     a: &'s Compareds<'a>,
     b: &'s Compareds<'a>,
@@ -112,6 +127,9 @@ fn operations_agree<'s, 'a>(
         let mut steps = Steps::new();
         count.set(0);
         let _made = a.combine_counted(b, op, &mut steps)?;
+        agree &= steps.count() == count.get();
+        count.set(0);
+        let _made = uncounted(a, b, op)?;
         agree &= steps.count() == count.get();
     }
     Ok(agree)

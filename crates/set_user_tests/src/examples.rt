@@ -249,7 +249,7 @@ fn most_steps(a: &Numbers, b: &Numbers) -> Result<u128, AllocError> {
 
 #[test]
 fn steps_are_counted_and_at_most_both_lengths(rt: HostRuntime) -> Result<(), Fail> {
-    let rows: [(&[u32], &[u32], u128); 4] = [
+    let rows: [(&[u32], &[u32], u128); 5] = [
         (
             &[0, 2, 4, 6, 8, 10, 12, 14],
             &[1, 3, 5, 7, 9, 11, 13, 15],
@@ -257,7 +257,8 @@ fn steps_are_counted_and_at_most_both_lengths(rt: HostRuntime) -> Result<(), Fai
         ),
         (&[0, 1, 2, 3, 4, 5, 6, 7], &[0, 1, 2, 3, 4, 5, 6, 7], 16),
         (&[2], &[1, 2, 3], 4),
-        (&[], &[1, 2, 3, 4, 5], 5),
+        (&[], &[1, 2, 3, 4, 5], 0),
+        (&[1], &[2, 3, 4, 5], 1),
     ];
     for (left, right, bound) in rows {
         let a = numbers(rt.alloc(), left)?;

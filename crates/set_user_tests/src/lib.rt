@@ -11,6 +11,8 @@ mod conversions;
 #[cfg(test)]
 mod counted;
 #[cfg(test)]
+mod drops;
+#[cfg(test)]
 mod examples;
 pub mod nth;
 #[cfg(test)]

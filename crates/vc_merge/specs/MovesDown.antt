@@ -1,4 +1,4 @@
--- Elements that move down their list.
+-- Elements that move down their list. No public clause cites these words.
 use Rattle.std.specs.Prelude.{◌≡◌, ℕ, ◌+◌, List, ◌++◌, take, drop, length}
 
 -- the n elements of the list from the place `at` on moved down to the place `kept`; those before and behind stayed

@@ -1,5 +1,5 @@
 -- A merge whose operation appends what it selects leaves what the set operation makes of the two lists.
-use Rattle.std.proofs.Common.{◌≡◌, ℕ, Result, IsOk, Bool, true, false, not, List, [], ◌∷◌, ◌++◌, map, length, take, Ok, Err, ◌⊎◌, inl, inr, refl, sym, ap, subst, ◌∙◌, append_assoc, ⊎_elim}
+use Rattle.std.proofs.Common.{◌≡◌, ℕ, Result, IsOk, Bool, true, false, not, Option, Some, None, List, [], ◌∷◌, ◌++◌, map, length, take, Ok, Err, ◌⊎◌, inl, inr, refl, sym, ap, subst, ◌∙◌, append_assoc, ⊎_elim}
 use Rattle.std.specs.declared.alloc.AllocError.{AllocError}
 use mathlib.Core.Bool.{true≢false}
 use Rattle.std.proofs.lemmas.List.{append-nil}
@@ -10,9 +10,10 @@ use Rattle.std.specs.declared.cmp.Ordering.{Ordering}
 use Rattle.std.specs.declared.cmp.Ordering.TheVariants.{Equal}
 use Rattle.vc_merge.specs.Script.{Event, left_alone, right_alone, collision, IsScript}
 use Rattle.vc_merge.specs.Chain.{Answer, Allows, Run, of_left, of_right, of_both, run_events, events, IsAllowed, Step, Steps, Finishes, Stops, IsMerged}
+use Rattle.vc_merge.specs.Ascending.{Ascends, member, element_at}
 use Rattle.vc_merge.specs.Both.{Both, Follows}
 use Rattle.vc_merge.specs.Building.{Extends, Built, Advances, Skips}
-use Rattle.vc_sets.specs.SetOf.{IsSetOf}
+use Rattle.vc_sets.specs.SetOf.{Keeps, IsSetOf}
 use Rattle.vc_sets.specs.Select.{both_sides, push_if, selected, ComesFrom, Adds, keeps}
 use Rattle.vc_sets.proofs.Selected.{set_of}
 
@@ -255,3 +256,24 @@ module _ {M X : Type 0} (op : Allows M X X) (order : X ⊎ X → X ⊎ X → Ord
       → Finishes op order s t ⊎ Stops op order s (Ok false) t
   merged-is_ok s t (Ok u) m a b c = m
   merged-is_ok s t (Err e) m a b c = absurd (true≢false (sym (allowed-is_ok a b c m.before t m.last (Err e) m.allowed)))
+
+-- ---- an empty right list
+
+module _ {X : Type 0} (cmp : X → X → Ordering) (R : X → X → Type 0) (both : Bool) where
+  -- nothing is added to what is kept
+  kept_alone : (o : Option X) → Keeps (keeps true true both) (λ x y. x ≡ y) R o None o
+  kept_alone (Some x) = refl
+  kept_alone None = refl
+
+  -- what is a member of the left list, or of nothing
+  member_alone : (b : Bool) → b ≡ keeps true true both b false
+  member_alone true = refl
+  member_alone false = refl
+
+  -- with an empty list the left one is the union, and the symmetric difference
+  pub with_nothing : (a b : List X) → Ascends cmp a → b ≡ [] → IsSetOf cmp (λ x y. x ≡ y) R (keeps true true both) a b a
+  with_nothing a b p e = subst (λ l. IsSetOf cmp (λ x y. x ≡ y) R (keeps true true both) a l a) (sym e) (record {
+    ascends = p;
+    members = λ x. member_alone (member cmp a x);
+    kept = λ x. kept_alone (element_at cmp a x);
+  })

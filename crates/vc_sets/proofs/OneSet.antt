@@ -2,12 +2,14 @@
 use Rattle.std.proofs.Common.{◌≡◌, ◌↔◌, Bool, true, false, ◌||◌, ◌&&◌, List, [], ◌∷◌, ◌⊎◌, inl, inr, ⊎_elim, Option, Some, None, IsSomeAnd, MatchBool, IsTrue, is_some, refl, sym, ap, subst, ◌∙◌}
 use mathlib.Core.Bool.{true≢false}
 use Rattle.std.specs.Cmp.{IsTotalOrder, tied_itself}
+use Rattle.std.specs.List.{AllZip}
 use Rattle.std.specs.Ordering.{is_eq}
 use Rattle.std.specs.declared.cmp.Ordering.{Ordering}
+use Rattle.std.specs.declared.cmp.Ordering.TheVariants.{Equal}
 use Rattle.vc_merge.specs.Ascending.{member, element_at}
 use Rattle.vc_merge.proofs.OneList.{members_tell_the_list}
 use Rattle.vc_sets.specs.SetOf.{Keeps, IsSetOf, and_not, exactly_one}
-use Rattle.vc_sets.specs.Laws.{SetOfIsOne, SetOfIsOneUpToEqual, OperationsInWords, UnionKeepsTheLeft, TestsAreOfOperations}
+use Rattle.vc_sets.specs.Laws.{InEachWay, SetOfIsOne, SetOfIsOneUpToEqual, OperationsInWords, UnionKeepsTheLeft, TestsAreOfOperations}
 
 -- ---- the words on two tests
 
@@ -39,6 +41,11 @@ exactly_one_in_words true true = (λ e. absurd (not_true e), λ h. ⊎_elim (λ 
 exactly_one_in_words true false = (λ e. inl (refl, λ k. not_true k), λ h. refl)
 exactly_one_in_words false true = (λ e. inr ((λ k. not_true k), refl), λ h. refl)
 exactly_one_in_words false false = (λ e. absurd (not_true e), λ h. ⊎_elim (λ k. k.0) (λ k. k.1) h)
+
+-- what the second has, if it has all of the first
+or_of_less : (p q : Bool) → (IsTrue p → IsTrue q) → (p || q) ≡ q
+or_of_less true q h = sym (h refl)
+or_of_less false q h = refl
 
 -- a test that is the same as one in words
 by_words : {P : Type 0} {m n : Bool} → m ≡ n → IsTrue n ↔ P → IsTrue m ↔ P
@@ -112,6 +119,17 @@ module _ {X : Type 0} (cmp : X → X → Ordering) (total : IsTotalOrder cmp) wh
     member_or_not true h = refl
     member_or_not false h = absurd (h not_true)
 
+    -- the members of a union
+    in_either : (a b c : List X) → IsSetOf cmp L R ◌||◌ a b c → (x : X) → IsTrue (member cmp c x) ↔ (IsTrue (member cmp a x) ⊎ IsTrue (member cmp b x))
+    in_either a b c s = operations_in_words.union a b c s
+
+    -- lists that are equal place by place have the same members
+    equal_members : (xs ys : List X) → AllZip (λ x y. cmp x y ≡ Equal) xs ys → (w : X) → member cmp xs w ≡ member cmp ys w
+    equal_members [] [] h w = refl
+    equal_members (x ∷ xs) (y ∷ ys) h w = ap (λ o. is_eq o || member cmp xs w) (total.congr x y w h.0) ∙ ap (λ b. is_eq (cmp y w) || b) (equal_members xs ys h.1 w)
+    equal_members [] (y ∷ ys) h w = absurd h
+    equal_members (x ∷ xs) [] h w = absurd h
+
     -- the tests are of operations
     pub tests_are_of_operations : TestsAreOfOperations cmp L R
     tests_are_of_operations = record {
@@ -123,4 +141,13 @@ module _ {X : Type 0} (cmp : X → X → Ordering) (total : IsTotalOrder cmp) wh
         (λ h. no_members c (λ x m. let w = (in_left_alone a b c s x).0 m in w.1 (h x w.0))),
         λ e x p. member_or_not (member cmp b x) (λ n. empty_member c x e ((in_left_alone a b c s x).1 (p, n))),
       );
+      subset_by_union = λ a b c p s. (
+        (λ h. (members_tell_the_list cmp total).members c b s.ascends p (λ x. s.members x ∙ or_of_less (member cmp a x) (member cmp b x) (h x))),
+        λ e x m. sym (equal_members c b e x) ∙ (in_either a b c s x).1 (inl m),
+      );
     }
+
+-- a law of all relations holds in each way
+pub in_each_way : {X : Type 0} (is_clone : X → X → Type 0) (Law : (X → X → Type 0) → (X → X → Type 0) → Type 0)
+    → ((L R : X → X → Type 0) → Law L R) → InEachWay is_clone Law
+in_each_way is_clone Law h = record { fresh = h is_clone is_clone; in_place = h (λ x z. x ≡ z) is_clone; moved = h (λ x z. x ≡ z) (λ y z. y ≡ z) }

@@ -3,7 +3,7 @@ use Rattle.std.specs.Prelude.{◌≡◌, ◌↔◌, Bool, ◌||◌, ◌&&◌, Li
 use Rattle.std.specs.List.{AllZip}
 use Rattle.std.specs.declared.cmp.Ordering.{Ordering}
 use Rattle.std.specs.declared.cmp.Ordering.TheVariants.{Equal}
-use Rattle.vc_merge.specs.Ascending.{member, element_at}
+use Rattle.vc_merge.specs.Ascending.{Ascends, member, element_at}
 use Rattle.vc_sets.specs.SetOf.{IsSetOf, and_not, exactly_one}
 use Rattle.vc_sets.specs.Tests.{IsDisjoint, IsSubset}
 
@@ -41,7 +41,17 @@ module _ {X : Type 0} (cmp : X → X → Ordering) where
       pub right : (a b c : List X) → IsSetOf cmp from_left from_right ◌||◌ a b c → (x y : X)
           → element_at cmp a x ≡ None → element_at cmp b x ≡ Some y → IsSomeAnd (element_at cmp c x) (from_right y)
 
-    -- sets are disjoint where nothing is in their intersection, and one is a subset where nothing is in the difference
+    -- sets are disjoint where nothing is in their intersection, and one is a subset where nothing is in the difference, and where
+    -- the union equals the other one
     pub record TestsAreOfOperations : Type 0 where
       pub disjoint : (a b c : List X) → IsSetOf cmp from_left from_right ◌&&◌ a b c → IsDisjoint cmp a b ↔ (c ≡ [])
       pub subset : (a b c : List X) → IsSetOf cmp from_left from_right and_not a b c → IsSubset cmp a b ↔ (c ≡ [])
+      pub subset_by_union : (a b c : List X) → Ascends cmp b → IsSetOf cmp from_left from_right ◌||◌ a b c
+          → IsSubset cmp a b ↔ AllZip (λ x y. cmp x y ≡ Equal) c b
+
+-- a law of each way in which calls take elements: fresh calls clone both sides; calls in place keep the left ones, and clone or
+-- move the right ones
+pub record InEachWay {X : Type 0} (is_clone : X → X → Type 0) (Law : (X → X → Type 0) → (X → X → Type 0) → Type 0) : Type 0 where
+  pub fresh : Law is_clone is_clone
+  pub in_place : Law (λ x z. x ≡ z) is_clone
+  pub moved : Law (λ x z. x ≡ z) (λ y z. y ≡ z)

@@ -1,4 +1,4 @@
--- What an insertion makes of a node and of its children.
+-- What an insertion makes of a node and of its children. No public clause cites these words.
 --     IsBranch cmp p t        t has the prefix p and may be a child if p is not empty
 --     IsGrown cmp n t u        u goes on as t for n components, and may be a child if n is not 0
 --     Adds keeps tree old i item new        the new list is the old one, kept, with the item put at place i

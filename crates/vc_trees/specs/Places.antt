@@ -1,4 +1,4 @@
--- The place of a component, or of a key, among the first components of a list of trees.
+-- The place of a component, or of a key, among the first components of a list of trees. No public clause cites these words.
 --     child_first f i        the first component of the tree at a place
 --     BeginsAt cmp f x i, IsGapAt cmp f x i        the tree at place i begins with x; one that begins with x would stand at i
 --     LeadsTo cmp f key i, FitsAt cmp f key i        the same of a key's first component

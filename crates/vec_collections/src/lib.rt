@@ -1,7 +1,7 @@
-//! Small sorted sets and maps, and radix trees that are always canonical.
+//! Small sorted sets, and radix trees that are always canonical.
 //!
-//! A user names this crate alone: it exports the public items of the crates below it under their modules' names, and
-//! those of `vec_set` also at its root.
+//! A user names this crate alone: it exports the modules `merge`, `iterators`, `vec_set` and `radix_tree` of the crates below
+//! it, and the items of `vec_set` also at its root.
 #![tactic(auto)]
 
 mod example;

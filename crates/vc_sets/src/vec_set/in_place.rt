@@ -43,6 +43,9 @@ fn unite<
     ensures ok { OnOk result (IsSetOf T.cmp (λ x y. x ≡ y) T.is_clone (keeps true true BOTH) list.old.items that.now list.new.items) }
     ensures err { OnErr result (list.new.items ≡ list.old.items) }
 {
+    if that.is_empty() {
+        return Ok(());
+    }
     let mut state = InPlaceState::open(list, that)?;
     let _never_refused = merge(&mut state, &EitherOp::<BOTH>, &mut Uncounted);
     state.finish(list);
@@ -62,6 +65,9 @@ fn absorb<
     ensures ok { OnOk result (IsSetOf T.cmp (λ x y. x ≡ y) (λ x y. x ≡ y) (keeps true true BOTH) list.old.items that.items list.new.items) }
     ensures err { OnErr result (list.new.items ≡ list.old.items) }
 {
+    if that.is_empty() {
+        return Ok(());
+    }
     let mut state = MovedState::open(list, that)?;
     let _never_refused = merge(&mut state, &EitherOp::<BOTH>, &mut Uncounted);
     state.finish(list);

@@ -30,7 +30,8 @@ impl<T: Ord + MadeWith<A> + Drop, const N: usize, A: Allocator + Copy> VecSet<T,
     /// Keeps the elements at which `f` answers true, and drops the others. `f` is asked once at each element, in
     /// ascending order.
     ///
-    /// Each element is asked at where it stands, and moved at most twice. Takes no memory.
+    /// Each element is asked at where it stands. Makes at most one swap for each, so that one that stays moves at most once. Takes no
+    /// memory.
     pub fn retain<F: FnMut(&T) -> bool>(&mut self, f: F)
         requires { F.IsAlwaysCallable f }
         ensures { IsFiltered (CalledAt F.FnMut) f self.old self.new }

@@ -1,10 +1,15 @@
+use Rattle.std.proofs.Common.{arith}
+use Rattle.std.proofs.lemmas.List.{nil_from_length}
 use Rattle.vc_merge.specs.InPlaceViews.{built_items, no_name}
 use Rattle.vc_sets.proofs.Witnessed.{same-equal}
-use Rattle.vc_sets.proofs.Combined.{either-set_of, merged-is_ok, both-is_ok, both-weaker}
+use Rattle.vc_sets.proofs.Combined.{with_nothing, either-set_of, merged-is_ok, both-is_ok, both-weaker}
 use Rattle.vc_sets.proofs.vec_set.in_place.unite.Goals as goal
 
 pub merge-never_refused-requires-clause-ascend : goal.merge-never_refused-requires-clause-ascend
 merge-never_refused-requires-clause-ascend g c = rw (c.in_ok-state.ensures.left, c.in_ok-state.ensures.right) (record { left = c.requires.left_ascends; right = c.requires.right_ascends })
+
+pub returns-then-is_empty-clause-ok : goal.returns-then-is_empty-clause-ok
+returns-then-is_empty-clause-ok g c = with_nothing g.T.Ord.cmp _ _ _ _ c.requires.left_ascends (nil_from_length _ (grind arith))
 
 pub returns-clause-ok : goal.returns-clause-ok
 returns-clause-ok g c =
