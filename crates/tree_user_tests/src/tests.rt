@@ -197,21 +197,28 @@ fn components_are_compared_by_their_order(rt: HostRuntime) -> Result<(), Fail> {
     Ok(())
 }
 
-/// How often values were cloned and dropped, and whether a clone is refused.
+/// How often values were made, cloned and dropped, and how many more clones are granted.
 #[derive(Drop)]
 struct Tally {
+    made: Cell<u32>,
     clones: Cell<u32>,
     drops: Cell<u32>,
-    refuses: Cell<bool>,
+    clones_left: Cell<u32>,
 }
 
 impl Tally {
     fn new() -> Tally {
         Tally {
+            made: Cell::new(0),
             clones: Cell::new(0),
             drops: Cell::new(0),
-            refuses: Cell::new(false),
+            clones_left: Cell::new(u32::MAX),
         }
+    }
+
+    /// How often a value was made, by itself or as a clone.
+    fn made_and_cloned(&self) -> u32 {
+        self.made.get().saturating_add(self.clones.get())
     }
 }
 
@@ -219,6 +226,13 @@ impl Tally {
 struct Counted<'a> {
     number: u32,
     tally: &'a Tally,
+}
+
+impl<'a> Counted<'a> {
+    fn new(number: u32, tally: &'a Tally) -> Counted<'a> {
+        tally.made.set(tally.made.get().saturating_add(1));
+        Counted { number, tally }
+    }
 }
 
 impl fmt::Debug for Counted<'_> {
@@ -230,9 +244,11 @@ impl fmt::Debug for Counted<'_> {
 
 impl Clone for Counted<'_> {
     fn clone(&self) -> Result<Self, AllocError> {
-        if self.tally.refuses.get() {
+        let left = self.tally.clones_left.get();
+        if left == 0 {
             return Err(AllocError);
         }
+        self.tally.clones_left.set(left - 1);
         self.tally
             .clones
             .set(self.tally.clones.get().saturating_add(1));
@@ -275,14 +291,17 @@ const KEYS: [(&str, u32); 8] = [
     ("eeeef", 8),
 ];
 
+/// How many values an insert at `bcd` copies where a snapshot holds the eight keys too: those at `a`, `b` and `bc`.
+const COPIED: u32 = 3;
+
 /// Inserts the eight keys, one of them twice.
 fn insert_eight<'a, T: AbstractRadixTreeMut<u8, Counted<'a>>>(
     tree: &mut T,
     tally: &'a Tally,
 ) -> Result<(), AllocError> {
-    tree.insert(b"aa", Counted { number: 2, tally })?;
+    tree.insert(b"aa", Counted::new(2, tally))?;
     for (key, number) in KEYS {
-        tree.insert(key.as_bytes(), Counted { number, tally })?;
+        tree.insert(key.as_bytes(), Counted::new(number, tally))?;
     }
     Ok(())
 }
@@ -300,7 +319,7 @@ fn drops_of_eight<'a, T: AbstractRadixTreeMut<u8, Counted<'a>>>(
 #[test]
 fn insert_clones_no_value_that_is_not_shared(rt: HostRuntime) -> Result<(), Fail> {
     let tally = Tally::new();
-    tally.refuses.set(true);
+    tally.clones_left.set(0);
     let plain = drops_of_eight::<RadixTree<u8, Counted>>(rt.alloc(), &tally)?;
     assert_eq!(rt; plain, 1);
     let dropped = tally.drops.get();
@@ -320,7 +339,7 @@ fn insert_beside_copy<'a, T: AbstractRadixTreeMut<u8, Counted<'a>> + Clone>(
     let mut tree = T::empty(alloc);
     insert_eight(&mut tree, tally)?;
     let copy = tree.clone()?;
-    tree.insert(b"bcd", Counted { number: 10, tally })?;
+    tree.insert(b"bcd", Counted::new(10, tally))?;
     Ok((number_at(&tree, b"bcd"), number_at(&copy, b"bcd")))
 }
 
@@ -331,34 +350,98 @@ fn a_snapshot_stays_and_few_values_are_copied(rt: HostRuntime) -> Result<(), Fai
     assert_eq!(rt; numbers.0, 10);
     assert_eq!(rt; numbers.1, 0);
     let clones = tally.clones.get();
-    assert!(rt; clones <= 3);
+    assert!(rt; clones <= COPIED);
+    let dropped = tally.drops.get();
+    assert_eq!(rt; dropped, tally.made_and_cloned());
     Ok(())
 }
 
-/// Inserts a key into the tree of the eight keys, of which a copy is kept, where each clone of a value is refused. Answers
-/// whether that was refused and left both as they were.
+/// Whether a tree binds the eight keys to their numbers, and no other key of these tests.
+fn has_eight<'a, T: AbstractRadixTree<u8, Counted<'a>>>(tree: &T) -> bool {
+    let mut has_all = number_at(tree, b"bcd") == 0;
+    for (key, number) in KEYS {
+        has_all = has_all && number_at(tree, key.as_bytes()) == number;
+    }
+    has_all
+}
+
+/// Inserts a key into the tree of the eight keys, of which a copy is kept, where all clones of a value but the first few are
+/// refused. Answers whether that was refused, left both as they were and dropped the value that was handed in, once.
 fn is_refused_and_unchanged<'a, T: AbstractRadixTreeMut<u8, Counted<'a>> + Clone>(
     alloc: Global,
+    granted: u32,
     tally: &'a Tally,
+    of_new: &'a Tally,
 ) -> Result<bool, AllocError> {
     let mut tree = T::empty(alloc);
     insert_eight(&mut tree, tally)?;
     let copy = tree.clone()?;
-    tally.refuses.set(true);
-    let mut unchanged = tree.insert(b"bcd", Counted { number: 10, tally }).is_err();
-    for (key, number) in KEYS {
-        unchanged = unchanged
-            && number_at(&tree, key.as_bytes()) == number
-            && number_at(&copy, key.as_bytes()) == number;
-    }
-    Ok(unchanged && number_at(&tree, b"bcd") == 0)
+    tally.clones_left.set(granted);
+    let is_refused = tree.insert(b"bcd", Counted::new(10, of_new)).is_err();
+    let is_dropped = of_new.drops.get() == 1;
+    Ok(is_refused && is_dropped && has_eight(&tree) && has_eight(&copy))
+}
+
+/// Inserts a key twice into the tree of the eight keys, where all clones of a value but the first few are refused: beside a
+/// copy, and when the copy is gone. Answers whether only the first was refused.
+fn is_refused_beside_a_copy_alone<'a, T: AbstractRadixTreeMut<u8, Counted<'a>> + Clone>(
+    alloc: Global,
+    granted: u32,
+    tally: &'a Tally,
+    of_new: &'a Tally,
+) -> Result<bool, AllocError> {
+    let mut tree = T::empty(alloc);
+    insert_eight(&mut tree, tally)?;
+    let copy = tree.clone()?;
+    tally.clones_left.set(granted);
+    let is_refused = tree.insert(b"bcd", Counted::new(10, of_new)).is_err();
+    drop(copy);
+    let is_granted = tree.insert(b"bcd", Counted::new(11, of_new)).is_ok();
+    let is_dropped = of_new.drops.get() == 1;
+    Ok(is_refused && is_granted && is_dropped && number_at(&tree, b"bcd") == 11)
 }
 
 #[test]
 fn a_refused_copy_leaves_the_same_map(rt: HostRuntime) -> Result<(), Fail> {
-    let tally = Tally::new();
-    let unchanged = is_refused_and_unchanged::<ArcRadixTree<u8, Counted>>(rt.alloc(), &tally)?;
-    assert!(rt; unchanged);
+    for granted in 0..COPIED {
+        let tally = Tally::new();
+        let of_new = Tally::new();
+        let unchanged = is_refused_and_unchanged::<ArcRadixTree<u8, Counted>>(
+            rt.alloc(),
+            granted,
+            &tally,
+            &of_new,
+        )?;
+        assert!(rt; unchanged, "at {granted}");
+        let clones = tally.clones.get();
+        assert_eq!(rt; clones, granted);
+        let dropped = tally.drops.get();
+        assert_eq!(rt; dropped, tally.made_and_cloned(), "at {granted}");
+        let dropped = of_new.drops.get();
+        assert_eq!(rt; dropped, 1, "at {granted}");
+    }
+    Ok(())
+}
+
+#[test]
+fn no_copy_is_needed_when_the_snapshot_is_gone(rt: HostRuntime) -> Result<(), Fail> {
+    for granted in 0..COPIED {
+        let tally = Tally::new();
+        let of_new = Tally::new();
+        let alone = is_refused_beside_a_copy_alone::<ArcRadixTree<u8, Counted>>(
+            rt.alloc(),
+            granted,
+            &tally,
+            &of_new,
+        )?;
+        assert!(rt; alone, "at {granted}");
+        let clones = tally.clones.get();
+        assert_eq!(rt; clones, granted);
+        let dropped = tally.drops.get();
+        assert_eq!(rt; dropped, tally.made_and_cloned(), "at {granted}");
+        let dropped = of_new.drops.get();
+        assert_eq!(rt; dropped, 2, "at {granted}");
+    }
     Ok(())
 }
 
@@ -368,7 +451,7 @@ fn snapshot_of(tree: &ArcRadixTree<u8, u32>) -> Result<ArcRadixTree<u8, u32>, Al
 }
 
 /// Makes a leaf, and says whether the value of its snapshot is the leaf's.
-fn is_shared(alloc: Global) -> Result<bool, AllocError> {
+fn has_value_of_leaf(alloc: Global) -> Result<bool, AllocError> {
     let snapshot = snapshot_of(&ArcRadixTree::leaf(alloc, 5))?;
     let value = snapshot.get(b"").copied().unwrap_or(0);
     Ok(value == 5)
@@ -376,7 +459,7 @@ fn is_shared(alloc: Global) -> Result<bool, AllocError> {
 
 #[test]
 fn a_snapshot_has_the_value_of_the_root(rt: HostRuntime) -> Result<(), Fail> {
-    let shared = is_shared(rt.alloc())?;
-    assert!(rt; shared);
+    let has_value = has_value_of_leaf(rt.alloc())?;
+    assert!(rt; has_value);
     Ok(())
 }

@@ -1,7 +1,7 @@
 -- The relation by cases agrees with the look-up.
 --     lookup_binds        what is looked up is bound, in any tree
 --     binds_lookup, binds_lookup_same        the other way round where children are in order, also at an equal key
---     canonical_binds        both, of a canonical tree
+--     ordered_binds        both, of a tree whose prefixes are in order
 use Rattle.std.proofs.Common.{◌≡◌, [], ◌∷◌, ◌++◌, List, Option, None, Some, refl, sym, ap, ◌∙◌, true, false, Bool, append-nil, ◌⊎◌, inl, inr, ◌↔◌}
 use Rattle.std.specs.declared.cmp.Ordering.{Ordering}
 use Rattle.std.specs.Ordering.{is_eq}
@@ -10,9 +10,11 @@ use Rattle.vc_trees.specs.Key.{same_key, behind}
 use Rattle.vc_trees.specs.Tree.{Tree, Forest, bare, grow, node}
 use Rattle.vc_trees.specs.Map.{or_else, node_lookup, lookup, lookup_in}
 use Rattle.vc_trees.specs.Binds.{NodeBinds, BindsIn, Binds}
-use Rattle.vc_trees.specs.Canonical.{AllAbove, AreOrdered, IsCanonical}
+use Rattle.vc_trees.specs.Canonical.{AllAbove, AreOrdered}
+use Rattle.vc_trees.specs.Conditions.{IsOrdered}
 use Rattle.vc_trees.proofs.KeyLemmas.{none_some, behind_joins, same_behind, left_behind, same_itself, same_trans}
-use Rattle.vc_trees.proofs.LookupLemmas.{children_ordered, lookup_in-empty, lookup-other, lookup_in-above, above_equal}
+use Rattle.vc_trees.proofs.LookupLemmas.{lookup_in-empty, lookup-other, lookup_in-above, above_equal}
+use Rattle.vc_trees.proofs.FourConditions.{meets_ordered}
 
 module _ {K V : Type 0} (cmp : K → K → Ordering) (o : IsTotalOrder cmp) where
   -- ---- what is looked up is bound, in any tree
@@ -99,7 +101,7 @@ module _ {K V : Type 0} (cmp : K → K → Ordering) (o : IsTotalOrder cmp) wher
       → lookup cmp t k ≡ Some a
   binds_lookup t d k a h = binds_lookup_same t d k k a h (same_itself cmp o k)
 
-  -- a canonical tree binds what it looks up
-  pub canonical_binds : (t : Tree K V) → IsCanonical cmp t → (k : List K) (a : V)
+  -- a tree whose prefixes are in order binds what it looks up
+  pub ordered_binds : (t : Tree K V) → IsOrdered cmp t → (k : List K) (a : V)
       → Binds cmp t k a ↔ (lookup cmp t k ≡ Some a)
-  canonical_binds t c k a = (binds_lookup t (children_ordered cmp t.children c.1) k a, lookup_binds t k a)
+  ordered_binds t m k a = (binds_lookup t (meets_ordered cmp t m) k a, lookup_binds t k a)

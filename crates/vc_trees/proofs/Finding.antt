@@ -2,12 +2,13 @@
 --     begins_below        a child that begins with a component is there
 --     found_at, gap_none        what a found child binds; that no child binds what has a gap for its place
 --     child_nodes        a child has no more nodes than the list
-use Rattle.std.proofs.Common.{◌≡◌, ℕ, zero, suc, ◌<◌, ◌≤◌, [], ◌∷◌, List, Option, None, Some, sym, ap, ◌∙◌, arith, get_or, map, length}
+use Rattle.std.proofs.Common.{◌≡◌, ℕ, zero, suc, ◌<◌, ◌≤◌, [], ◌∷◌, List, Option, None, Some, refl, sym, ap, ◌∙◌, arith, get_or, map, length, take, true}
 use Rattle.std.specs.Cmp.{IsTotalOrder, Equal-is, alike_right}
 use Rattle.std.specs.Ordering.{is_eq}
 use Rattle.std.specs.Prelude.{slice_get}
 use Rattle.std.specs.declared.cmp.Ordering.{Ordering}
 use Rattle.std.specs.declared.cmp.Ordering.TheVariants.{Less, Equal}
+use Rattle.vc_trees.specs.Key.{same_key}
 use Rattle.vc_trees.specs.Tree.{Tree, Forest, bare, grow, forest, node, nodes, forest_nodes}
 use Rattle.vc_trees.specs.Map.{or_else, lookup, lookup_in}
 use Rattle.vc_trees.specs.Canonical.{AreChildren}
@@ -15,7 +16,7 @@ use Rattle.vc_trees.specs.Places.{child_first, BeginsAt, IsGapAt, IsFoundChild}
 use Rattle.vc_trees.proofs.KeyLemmas.{none_some}
 use Rattle.vc_trees.proofs.ValueLemmas.{or_else-none}
 use Rattle.vc_trees.proofs.LookupLemmas.{lookup-other, lookup_in-above, lookup_in-skip, above_equal}
-use Rattle.vc_trees.proofs.Halving.{above_at, rest_children}
+use Rattle.vc_trees.proofs.Halving.{above_at, rest_children, child_first-map}
 
 module _ {K V : Type 0} (cmp : K → K → Ordering) where
   -- what has a gap for its place is not bound
@@ -77,11 +78,20 @@ module _ {K V : Type 0} (cmp : K → K → Ordering) where
         ∙ lookup_in-at o ts i d y x rest (rest_children cmp (tree t).prefix (tree t).value (tree t).children
         (forest (map tree ts)) a) e h
 
+    -- it begins with a component equal to x
+    begins_at : (p : List K) (y x : K) → slice_get p 0 ≡ Some y → is_eq (cmp y x) ≡ true
+        → same_key cmp (take 1 p) (x ∷ []) ≡ true
+    begins_at [] y x e h = none_some y e
+    begins_at (z ∷ p) y x e h = let k : z ≡ y = cc in rw (k, h) refl
+
     -- it is found
     pub found_at : IsTotalOrder cmp → (xs : List T) (i : ℕ) (x : K) (child : T)
         → AreChildren cmp (forest (map tree xs)) → BeginsAt cmp (forest (map tree xs)) x i → child ≡ get_or xs i child
         → IsFoundChild cmp (forest (map tree xs)) x (tree child)
     found_at o xs i x child a b e = record {
+      begins =
+          begins_at (tree child).prefix b.here x (ap (λ t. slice_get (tree t).prefix 0) e
+          ∙ sym (child_first-map cmp tree xs i child (begins_below xs x i b)) ∙ b.at) b.equal;
       same =
           λ rest. lookup_in-at o xs i child b.here x rest a b.at ((Equal-is (cmp b.here x)).0 b.equal) ∙ ap
           (λ t. lookup cmp (tree t) (x ∷ rest)) (sym e);

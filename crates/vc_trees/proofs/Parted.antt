@@ -3,7 +3,8 @@
 --     known_within        what is known to agree lies before the place
 --     splits_lower, splits_higher, grown_from        how the node is split there, and how it has grown
 --     agree_one        a child that begins as a key agrees with it in one component
-use Rattle.std.proofs.Common.{◌≡◌, ℕ, zero, suc, ◌-◌, ◌<◌, ◌≤◌, [], ◌∷◌, ◌++◌, List, ◌⊎◌, inl, inr, Some, refl, sym, ap, subst, ◌∙◌, arith, take, drop, length, length-drop, true, false, true≢false, cond}
+--     behind_whole, behind_parted        what is left of the key behind the prefix
+use Rattle.std.proofs.Common.{◌≡◌, ◌≢◌, ℕ, zero, suc, ◌-◌, ◌<◌, ◌≤◌, [], ◌∷◌, ◌++◌, List, ◌⊎◌, inl, inr, Option, None, Some, Bool, refl, sym, ap, subst, ◌∙◌, arith, take, drop, length, length-drop, true, false, true≢false, cond}
 use Rattle.std.proofs.lemmas.Bool.{cases_lt}
 use Rattle.std.proofs.lemmas.List.{take-take, take_all, take-append-drop}
 use Rattle.std.specs.Cmp.{IsTotalOrder}
@@ -11,11 +12,13 @@ use Rattle.std.specs.Ordering.{is_eq}
 use Rattle.std.specs.Prelude.{slice_get}
 use Rattle.std.specs.declared.cmp.Ordering.{Ordering}
 use Rattle.std.specs.declared.cmp.Ordering.TheVariants.{Less, Greater}
-use Rattle.vc_trees.specs.Key.{same_key}
+use Rattle.vc_trees.specs.declared.radix_tree.parting.Parting.{Parting}
+use Rattle.vc_trees.specs.declared.radix_tree.parting.Parting.TheVariants.{Behind, Inside, Lower, Higher}
+use Rattle.vc_trees.specs.Key.{same_key, behind}
 use Rattle.vc_trees.specs.Tree.{Tree, bare, grow}
 use Rattle.vc_trees.specs.Canonical.{IsSolid}
 use Rattle.vc_trees.specs.Growth.{IsBranch, IsGrown}
-use Rattle.vc_trees.specs.Parting.{Agree, PartsAt, SplitsAt}
+use Rattle.vc_trees.specs.Parting.{Agree, PartsAt, IsParting, SplitsAt}
 use Rattle.vc_trees.specs.Places.{IsGapAt}
 use Rattle.vc_trees.proofs.KeyLemmas.{none_some, both_true, same_itself, less}
 
@@ -105,6 +108,53 @@ module _ {K : Type 0} (cmp : K → K → Ordering) where
         within_key = rw k (omega arith);
         same = rw (k, f, e) refl;
       }
+
+  -- ---- what is left behind a prefix
+
+  -- behind a prefix that agrees, the rest of the key
+  left_whole : (p k : List K) → same_key cmp (take (length p) p) (take (length p) k) ≡ true
+      → behind cmp p k ≡ Some (drop (length p) k)
+  left_whole [] k h = refl
+  left_whole (x ∷ p) [] h = absurd (true≢false (sym h))
+  left_whole (x ∷ p) (y ∷ k) h =
+      let both = both_true (is_eq (cmp x y)) (same_key cmp (take (length p) p) (take (length p) k)) h in
+      let rest = left_whole p k both.1 in
+      λ i. cond (both.0 i) (rest i) None
+
+  -- a test before nothing
+  if_none : (b : Bool) (o : Option (List K)) → o ≡ None → cond b o None ≡ None
+  if_none true o h = h
+  if_none false o h = refl
+
+  -- nothing where the key is shorter
+  none_longer : (p k : List K) → length k < length p → behind cmp p k ≡ None
+  none_longer [] k h = absurd (omega arith)
+  none_longer (x ∷ p) [] h = refl
+  none_longer (x ∷ p) (y ∷ k) h = if_none (is_eq (cmp x y)) (behind cmp p k) (none_longer p k (omega arith))
+
+  -- nothing where they differ at a place
+  none_parted : (p k : List K) (n : ℕ) (x y : K) → slice_get p n ≡ Some x → slice_get k n ≡ Some y
+      → is_eq (cmp x y) ≡ false → behind cmp p k ≡ None
+  none_parted [] k n x y d e h = none_some x d
+  none_parted (a ∷ p) [] n x y d e h = none_some y e
+  none_parted (a ∷ p) (b ∷ k) zero x y d e h = let f : a ≡ x = cc in let g : b ≡ y = cc in rw (f, g, h) refl
+  none_parted (a ∷ p) (b ∷ k) (suc n) x y d e h =
+      if_none (is_eq (cmp a b)) (behind cmp p k) (none_parted p k n x y d e h)
+
+  -- the rest of the key, copied from the slice of it
+  pub behind_whole : (p key : List K) → Agree cmp p key (length p)
+      → Some (take (length key - length p) (drop (length p) key)) ≡ behind cmp p key
+  behind_whole p key a = ap Some (drop_all key (length p)) ∙ sym (left_whole p key a.same)
+
+  -- nothing is left where the key parts from the prefix
+  pub behind_parted : (p key : List K) (parting : Parting) → IsParting cmp p key parting → parting ≢ Behind
+      → None ≡ behind cmp p key
+  behind_parted p key Behind a h = absurd (h refl)
+  behind_parted p key (Inside n) a h = sym (none_longer p key (rw (← a.1) a.2))
+  behind_parted p key (Lower n) s h =
+      sym (none_parted p key n s.old s.new s.old_at s.new_at (ap is_eq s.ordered))
+  behind_parted p key (Higher n) s h =
+      sym (none_parted p key n s.old s.new s.old_at s.new_at (ap is_eq s.ordered))
 
   module _ {V : Type 0} where
     -- the prefix goes on with a lesser component: the leaf comes after the half below

@@ -10,7 +10,7 @@ use Rattle.vc_trees.specs.Tree.{Tree, key_count}
 use Rattle.vc_trees.specs.Map.{lookup, IsEqualMap}
 use Rattle.vc_trees.specs.Binds.{Binds}
 use Rattle.vc_trees.specs.Canonical.{IsCanonical}
-use Rattle.vc_trees.specs.Conditions.{MeetsConditions}
+use Rattle.vc_trees.specs.Conditions.{MeetsConditions, IsOrdered}
 use Rattle.vc_trees.specs.Same.{IsSame}
 use Rattle.vc_trees.specs.OneTree.{IsOneTree, IsSmallest}
 use Rattle.vc_trees.specs.Walk.{IsWalk, IsSamePair, walk}
@@ -30,10 +30,10 @@ pub record LeftBehindIsRest {K : Type 0} (cmp : K → K → Ordering) : Type 0 w
       → IsTrue (same_key cmp q rest)
 
 module _ (K V : Type 0) (cmp : K → K → Ordering) where
-  -- a canonical tree binds a key to a value exactly where the look-up of the key gives the value
+  -- a tree whose prefixes are in order binds a key to a value exactly where the look-up of the key gives the value
   abbrev pub BindsIsLookup : Type 0
   BindsIsLookup =
-      (t : Tree K V) → IsCanonical cmp t → (k : List K) (a : V) → (Binds cmp t k a ↔ (lookup cmp t k ≡ Some a))
+      (t : Tree K V) → IsOrdered cmp t → (k : List K) (a : V) → (Binds cmp t k a ↔ (lookup cmp t k ≡ Some a))
 
   -- a tree has one value at equal keys
   abbrev pub LookupIsMap : Type 0

@@ -3,10 +3,11 @@
 --     BeginsAt cmp f x i, IsGapAt cmp f x i        the tree at place i begins with x; one that begins with x would stand at i
 --     LeadsTo cmp f key i, FitsAt cmp f key i        the same of a key's first component
 --     IsNoChild cmp f x, IsFoundChild cmp f x t        no tree begins with x; t is the one that does
-use Rattle.std.specs.Prelude.{◌≡◌, ◌≤◌, ℕ, zero, suc, List, [], ◌∷◌, Option, Some, None, slice_get, IsTrue}
+use Rattle.std.specs.Prelude.{◌≡◌, ◌≤◌, ℕ, zero, suc, List, [], ◌∷◌, Option, Some, None, slice_get, take, IsTrue}
 use Rattle.std.specs.Ordering.{is_eq}
 use Rattle.std.specs.declared.cmp.Ordering.{Ordering}
 use Rattle.std.specs.declared.cmp.Ordering.TheVariants.{Less}
+use Rattle.vc_trees.specs.Key.{same_key}
 use Rattle.vc_trees.specs.Tree.{Tree, Forest, bare, grow, nodes, forest_nodes}
 use Rattle.vc_trees.specs.Map.{lookup, lookup_in}
 use Rattle.vc_trees.specs.Canonical.{AllAbove}
@@ -50,7 +51,8 @@ module _ {K V : Type 0} where
     abbrev pub IsNoChild : Forest K V → K → Type 0
     IsNoChild f x = (rest : List K) → lookup_in cmp f (x ∷ rest) ≡ None
 
-    -- t binds what f binds of the keys that begin with x, and has no more nodes
+    -- t begins with x, binds what f binds of the keys that begin with x, and has no more nodes
     pub record IsFoundChild (f : Forest K V) (x : K) (t : Tree K V) : Type 0 where
+      pub begins : IsTrue (same_key cmp (take 1 t.prefix) (x ∷ []))
       pub same : (rest : List K) → lookup_in cmp f (x ∷ rest) ≡ lookup cmp t (x ∷ rest)
       pub smaller : nodes t ≤ forest_nodes f

@@ -44,8 +44,8 @@ pub fn canonical_is_conditions<K: Ord, V>()
     ensures { CanonicalIsConditions K V K.cmp }
 {}
 
-/// A canonical tree binds a key to a value, as said by cases, exactly where the look-up of the key gives the value. The
-/// look-up gives one value at equal keys, in any tree.
+/// A tree whose prefixes are in order, so each canonical tree, binds a key to a value, as said by cases, exactly where
+/// the look-up of the key gives the value. The look-up gives one value at equal keys, in any tree.
 pub fn binds_is_lookup<K: Ord, V>()
     ensures agree { BindsIsLookup K V K.cmp }
     ensures map { LookupIsMap K V K.cmp }

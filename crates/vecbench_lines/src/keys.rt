@@ -13,7 +13,7 @@ use crate::parts::{Parts, Separator};
 use std::alloc::{AllocError, Global};
 use vec_collections::radix_tree::{AbstractRadixTree, AbstractRadixTreeMut, RadixTree, TValue};
 
-/// A tree of keys of letters, which binds nothing to them.
+/// A tree of keys of letters, which binds `()` to each.
 pub type KeyTree = RadixTree<u8, ()>;
 
 /// Whether there are letters from a to z alone.
@@ -54,7 +54,8 @@ pub fn read_tree(alloc: Global, word: &[u8]) -> Result<KeyTree, Fault>
     Ok(tree)
 }
 
-/// Puts a key behind `text`, in the form in which keys are read.
+/// Puts a key of letters behind `text`, in the form in which keys are read: `.` for the empty key, and else its letters. Of
+/// any other key each component is put as the character of its number.
 pub fn put_key(text: &mut String, key: &[u8]) -> Result<(), AllocError>
     ensures { OnOk result (string_bytes text.new ≡ string_bytes text.old ++ key_text key.now) }
 {

@@ -174,6 +174,7 @@ impl Session {
             → Stands [] [] (O.contents output.old) (O.contents output.old) self.old
             → OnOk result (Progress (lines text) (O.contents output.old) (O.contents output.new) self.new) }
     {
+        // Counted, so that the call returns whatever the input does. No input is so long.
         for _ in 0..u64::MAX {
             output.flush()?;
             let count = read_some(input, chunk)?;
@@ -198,6 +199,7 @@ fn read_some<I: Read>(input: &mut I, chunk: &mut [u8]) -> io::Result<usize>
     ensures within { IfOk result (λ count. count ≤ length chunk.new) }
     ensures bytes { ReadConsumes (I.remaining input.old) (I.remaining input.new) result chunk.new }
 {
+    // Counted, so that the call returns whatever the input does. No input is interrupted so often.
     for _ in 0..u64::MAX {
         match input.read(chunk) {
             Err(error) if error.kind() == ErrorKind::Interrupted => {}

@@ -4,25 +4,22 @@ ghost use Rattle.std.specs.Prelude.{◌≡◌};
 ghost use Rattle.std.specs.Option.{option_copied};
 ghost use Rattle.vc_trees.specs.Key.{behind};
 ghost use Rattle.vc_trees.specs.Map.{lookup};
+ghost use Rattle.vc_trees.specs.Parting.{Agree};
 
+use crate::radix_tree::parting::{Parting, find_parting};
 use crate::radix_tree::places::child_at;
 use crate::radix_tree::reading::{AbstractRadixTree, TKey, TValue};
 
-/// What is left of the key behind the prefix, if the key starts with it.
-fn rest_behind<'k, K: Ord>(prefix: &[K], key: &'k [K]) -> Option<&'k [K]>
+/// What is left of the key behind the prefix, if the key starts with it. The first `known` components of both are known to
+/// agree.
+fn rest_behind<'k, K: Ord>(prefix: &[K], key: &'k [K], known: usize) -> Option<&'k [K]>
+    requires { Agree K.cmp prefix.now key.now known }
     ensures { option_copied result ≡ behind K.cmp prefix.now key.now }
 {
-    let mut want = prefix;
-    let mut rest = key;
-    while let Some((x, p)) = want.split_first() {
-        let (y, k) = rest.split_first()?;
-        if !x.cmp(y).is_eq() {
-            return None;
-        }
-        want = p;
-        rest = k;
+    match find_parting(prefix, key, known) {
+        Parting::Behind => Some(&key[prefix.len()..]),
+        _ => None,
     }
-    Some(rest)
 }
 
 /// The value that the tree binds the key to.
@@ -34,12 +31,14 @@ pub(crate) fn get<'a, K: TKey, V: TValue, T: AbstractRadixTree<K, V>>(
 {
     let mut node = tree;
     let mut rest = key;
+    let mut known = 0;
     loop {
-        let left = rest_behind(node.prefix(), rest)?;
+        let left = rest_behind(node.prefix(), rest, known)?;
         let Some(first) = left.first() else {
             return node.value();
         };
         node = child_at(node.children(), first)?;
         rest = left;
+        known = 1;
     }
 }

@@ -30,7 +30,7 @@ pub trait AbstractRadixTree<K: TKey, V: TValue>: Sized {
 
     ghost tree: { Self → Tree K V };
 
-    /// The components that every key of this tree begins with, as far as no key ends and no two keys part.
+    /// What all keys of this tree begin with, up to where the first ends or two part.
     fn prefix(&self) -> &[K]
         ensures value { result.now ≡ (tree self.now).prefix }
         ensures canonical { IsCanonical K.cmp (tree self.now) };
@@ -57,6 +57,8 @@ pub trait AbstractRadixTree<K: TKey, V: TValue>: Sized {
     }
 
     /// The value that the tree binds the key to. Takes no memory.
+    ///
+    /// Compares each component of the key at most once, but for a halving search among the children of each node on the way.
     final fn get(&self, key: &[K]) -> Option<&V>
         ensures { option_copied result ≡ lookup K.cmp (tree self.now) key.now }
     {

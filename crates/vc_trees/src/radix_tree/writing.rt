@@ -47,7 +47,9 @@ pub trait AbstractRadixTreeMut<K: TKey, V: TValue>: Build<K, V> {
     ///
     /// Fails only where memory is refused, for a prefix, for children or for the copy of shared children, or where the clone of
     /// a value of those is refused; the tree then has the nodes that it had, and binds what it bound. The value that was handed
-    /// in is dropped. Where components are equal, a key keeps the spelling that the tree has of them.
+    /// in is dropped.
+    ///
+    /// Compares each component of the key at most once, but for a halving search among the children of each node on the way.
     final fn insert(&mut self, key: &[K], value: V) -> Result<(), AllocError>
         ensures ok { OnOk result (IsInserted K.cmp Self.keeps key.now value (Self.tree self.old) (Self.tree self.new)) }
         ensures err { OnErr result (HaveEqualMaps K.cmp Self.keeps (Self.tree self.old) (Self.tree self.new)) }
