@@ -1,4 +1,6 @@
 //! The public calls at concrete types: what they print, and what is dropped.
+
+use crate::examples::{Numbers, numbers};
 use smallvec::SmallVec;
 use std::cmp::{Ordering, Reverse};
 use std::collections::BTreeSet;
@@ -7,19 +9,9 @@ use std::test::Fail;
 use vc_sets::vec_set::conversions::set_of_list;
 use vc_sets::vec_set::{AbstractVecSet, VecSet};
 
-type Numbers = VecSet<u32, 2>;
-
-fn numbers(rt: &HostRuntime, list: &[u32]) -> Result<Numbers, Fail> {
-    let mut set = Numbers::empty(rt.alloc());
-    for x in list {
-        set.insert(*x)?;
-    }
-    Ok(set)
-}
-
 #[test]
 fn conversions_keep_the_elements(rt: HostRuntime) -> Result<(), Fail> {
-    let set = numbers(&rt, &[3, 1, 2])?;
+    let set = numbers(rt.alloc(), &[3, 1, 2])?;
     assert_eq!(rt; Numbers::from_iter(rt.alloc(), 1..4)?, set);
     let mut tree = BTreeSet::new(rt.alloc());
     for x in set.iter() {
@@ -46,7 +38,7 @@ fn a_single_set_shrinks(rt: HostRuntime) -> Result<(), Fail> {
 
 #[test]
 fn elements_are_taken_out(rt: HostRuntime) -> Result<(), Fail> {
-    let mut set = numbers(&rt, &[1, 2, 3, 4, 5])?;
+    let mut set = numbers(rt.alloc(), &[1, 2, 3, 4, 5])?;
     assert!(rt; set.remove(&3));
     assert!(rt; !set.remove(&3));
     set.retain(|x| *x != 1);
@@ -57,7 +49,7 @@ fn elements_are_taken_out(rt: HostRuntime) -> Result<(), Fail> {
 
 #[test]
 fn debug_is_a_set(rt: HostRuntime) -> Result<(), Fail> {
-    let set = numbers(&rt, &[2, 1])?;
+    let set = numbers(rt.alloc(), &[2, 1])?;
     assert_eq!(rt; format!(in rt.alloc(); "{set:?}")?.as_str(), "{1, 2}");
     Ok(())
 }
@@ -77,8 +69,8 @@ fn an_order_may_run_backwards(rt: HostRuntime) -> Result<(), Fail> {
 
 #[test]
 fn sets_are_ordered_as_their_lists(rt: HostRuntime) -> Result<(), Fail> {
-    let low = numbers(&rt, &[1, 2])?;
-    let high = numbers(&rt, &[1, 3])?;
+    let low = numbers(rt.alloc(), &[1, 2])?;
+    let high = numbers(rt.alloc(), &[1, 3])?;
     assert_eq!(rt; low.cmp(&high), Ordering::Less);
     Ok(())
 }

@@ -11,10 +11,10 @@ use vc_sets::vec_set::{
     AbstractVecSet, SetOp, SetTest, VecSet, difference, intersection, symmetric_difference, union,
 };
 
-type Numbers = VecSet<u32, 2>;
+pub(crate) type Numbers = VecSet<u32, 2>;
 
 /// The set of the numbers of a list, in any order.
-fn numbers(alloc: Global, list: &[u32]) -> Result<Numbers, AllocError> {
+pub(crate) fn numbers(alloc: Global, list: &[u32]) -> Result<Numbers, AllocError> {
     let mut set = Numbers::empty(alloc);
     for x in list {
         set.insert(*x)?;

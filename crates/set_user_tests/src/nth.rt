@@ -27,11 +27,6 @@ impl<B: Allocator> Nth<B> {
     pub fn refuse(&self, number: u64) {
         self.left.set(number);
     }
-
-    /// Grants each request from now on.
-    pub fn grant_all(&self) {
-        self.left.set(0);
-    }
 }
 
 impl<B: Allocator> Nth<Nth<B>> {

@@ -358,7 +358,7 @@ impl<'a> Case<'a> {
         self.memory.refuse(1);
         set.shrink_to_fit()?;
         let has_come = self.memory.is_done();
-        self.memory.grant_all();
+        self.memory.refuse(0);
         assert!(rt; self.lists(Which::Left, set.as_ref()));
         set.shrink_to_fit()?;
         assert!(rt; self.lists(Which::Left, set.as_ref()));
