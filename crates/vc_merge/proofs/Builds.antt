@@ -21,7 +21,7 @@ module _ {X Z : Type 0} (gives : X → List Z → Type 0) where
   gathers-append (x ∷ xs) ys zs ws p q = (p.0, p.1 ++ ws, p.2, gathers-append xs ys p.1 ws p.3 q, ap (λ l. l ++ ws) p.4 ∙ append_assoc p.0 p.1 ws)
 
   -- what elements give under another name
-  gathers-map : {W : Type 0} (f : W → X) (ws : List W) (zs : List Z) → Gathers (λ w. gives (f w)) ws zs → Gathers gives (map f ws) zs
+  pub gathers-map : {W : Type 0} (f : W → X) (ws : List W) (zs : List Z) → Gathers (λ w. gives (f w)) ws zs → Gathers gives (map f ws) zs
   gathers-map f [] zs p = p
   gathers-map f (w ∷ ws) zs p = (p.0, p.1, p.2, gathers-map f ws p.1 p.3, p.4)
 
@@ -39,7 +39,7 @@ module _ {X Z : Type 0} (gives : X → List Z → Type 0) where
   }
 
   -- elements of which none gives anything
-  gathers-none : ((x : X) → gives x []) → (xs : List X) → Gathers gives xs []
+  pub gathers-none : ((x : X) → gives x []) → (xs : List X) → Gathers gives xs []
   gathers-none none [] = refl
   gathers-none none (x ∷ xs) = ([], [], none x, gathers-none none xs, refl)
 
