@@ -12,6 +12,7 @@ pub mod Scripts
 pub mod WalkNames
 pub mod MovesDownLemmas
 pub mod ClonesLemmas
+pub mod Members
 pub mod OneScript
 pub mod OneList
 pub mod Running

@@ -11,7 +11,7 @@ use Rattle.vc_merge.specs.Script.{Event, left_alone, right_alone, collision, lef
 use Rattle.vc_sets.specs.SetOf.{Keeps, IsSetOf}
 use Rattle.vc_merge.specs.Gathering.{Gathers, GivesIf}
 use Rattle.vc_sets.specs.Select.{either, both_sides, KeptAt}
-use Rattle.vc_sets.proofs.Members.{member-is_some, element_at-first, element_at-later, element_at-none, equal-alike}
+use Rattle.vc_merge.proofs.Members.{member-is_some, element_at-first, element_at-later, element_at-none, equal-alike}
 
 -- ---- one place
 
