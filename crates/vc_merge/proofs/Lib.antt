@@ -11,6 +11,7 @@ pub mod Runs
 pub mod Scripts
 pub mod WalkNames
 pub mod MovesDownLemmas
+pub mod Shifting
 pub mod ClonesLemmas
 pub mod Members
 pub mod OneScript
