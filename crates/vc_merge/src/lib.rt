@@ -4,9 +4,9 @@
 pub mod inplace;
 pub mod iterators;
 pub mod laws;
-pub mod lent;
 mod linear;
 pub mod merge;
 pub mod moved;
 pub mod moving;
+pub mod parts;
 pub mod states;
