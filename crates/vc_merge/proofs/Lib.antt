@@ -1,5 +1,6 @@
 pub mod BlockSteps
 pub mod BuilderTakes
+pub mod Builds
 pub mod Chains
 pub mod Extending
 pub mod Lists
@@ -11,6 +12,7 @@ pub mod Scripts
 pub mod WalkNames
 pub mod MovesDownLemmas
 pub mod ClonesLemmas
+pub mod Members
 pub mod OneScript
 pub mod OneList
 pub mod Running
