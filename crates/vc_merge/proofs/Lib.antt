@@ -1,5 +1,6 @@
 pub mod BlockSteps
 pub mod BuilderTakes
+pub mod Builds
 pub mod Chains
 pub mod Extending
 pub mod Lists

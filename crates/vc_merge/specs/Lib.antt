@@ -16,5 +16,6 @@ pub mod SiftViews
 pub mod SmallVecViews
 pub mod InPlaceViews
 pub mod MovedViews
+pub mod Gathering
 pub mod Laws
 pub mod Yielded
