@@ -1,2 +1,2 @@
 pub mod Functions
-pub mod Scripts
+pub mod Events

@@ -1,8 +1,8 @@
 -- A join by the script of its two maps: an answer to the question of each event. No public clause cites these words.
-use Rattle.std.specs.Prelude.{◌≡◌, List, ◌++◌, Option, ◌⊎◌}
+use Rattle.std.specs.Prelude.{◌≡◌, List, Option, ◌⊎◌}
 use Rattle.std.proofs.Common.{inl, inr}
 use Rattle.std.specs.Cmp.{IsTotalOrder}
-use Rattle.std.specs.List.{AllZip, filter_map}
+use Rattle.std.specs.Option.{option_to_list}
 use Rattle.std.specs.declared.cmp.Ordering.{Ordering}
 use Rattle.std.proofs.lemmas.Cmp.{on_total}
 use Rattle.vc_merge.specs.Script.{Event, left_alone, right_alone, collision, place}
@@ -36,12 +36,6 @@ module _ {K V W : Type 0} where
   question_of spelled (collision p q) = Both (spelled p.0 q.0) p.1 q.1
 
   module _ {X : Type 0} (kind : JoinKind) (spelled : K → K → K) (May : OuterJoinArg K V W → Option X → Type 0) (Keeps : OuterJoinArg K V W → K → Type 0) where
-    -- what an event adds to the join
-    abbrev pub AnswersEvent : Event (K × V) (K × W) → Option (K × X) → Type 0
-    AnswersEvent e added = IsAnswered May Keeps (if_asked kind (question_of spelled e)) added
-
-    -- new has the pairs of old, and then what each event adds
-    pub record Joins (es : List (Event (K × V) (K × W))) (old new : List (K × X)) : Type 0 where
-      pub added : List (Option (K × X))
-      pub answers : AllZip AnswersEvent es added
-      pub items : new ≡ old ++ filter_map (λ z. z) added
+    -- an event adds a pair to the join, or nothing, by a possible answer to its question
+    abbrev pub AnswersEvent : Event (K × V) (K × W) → List (K × X) → Type 0
+    AnswersEvent e added = (found : Option (K × X)) × IsAnswered May Keeps (if_asked kind (question_of spelled e)) found × (added ≡ option_to_list found)

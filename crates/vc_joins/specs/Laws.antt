@@ -1,9 +1,8 @@
 -- The laws of the definitions of this crate, as the functions of `laws` carry them.
-use Rattle.std.specs.Prelude.{◌≡◌, ◌↔◌, List, Option, IsSome, ◌⊎◌}
-use Rattle.std.specs.List.{AllZip, filter_map}
+use Rattle.std.specs.Prelude.{◌≡◌, ◌↔◌, List, [], Option, IsSome, ◌⊎◌}
 use Rattle.std.specs.declared.cmp.Ordering.{Ordering}
 use Rattle.std.specs.declared.cmp.Ordering.TheVariants.{Equal}
-use Rattle.vc_merge.specs.Script.{Event, IsScript}
+use Rattle.vc_merge.specs.Gathering.{IsBuilt}
 use Rattle.vc_joins.specs.declared.question.OuterJoinArg.{OuterJoinArg}
 use Rattle.vc_joins.specs.declared.question.JoinKind.{JoinKind}
 use Rattle.vc_joins.specs.declared.question.JoinKind.TheVariants.{Outer, Left, Right, Inner}
@@ -31,10 +30,10 @@ module _ (K V W : Type 0) (cmp : K → K → Ordering) where
         (kind : JoinKind) (spelled : K → K → K) (xs : List (K × V)) (ys : List (K × W)) (zs : List (K × X)) → IsJoin cmp kind spelled xs ys May Keeps zs
         → (h : OuterJoinArg K V W → Option X) → IsJoinBy cmp kind spelled xs ys May h zs
 
-    -- what the events of a script add is the join of its two maps, where keys are shown and kept in equal spellings
-    abbrev pub JoinsOfScripts : Type 0
-    JoinsOfScripts =
+    -- what is built by answers to the events of two maps is their join, where keys are shown and kept in equal spellings
+    abbrev pub JoinsOfEvents : Type 0
+    JoinsOfEvents =
         ((a : OuterJoinArg K V W) (k : K) → Keeps a k → cmp (shown_key a) k ≡ Equal)
         → (kind : JoinKind) (spelled : K → K → K) → ((j k : K) → cmp j k ≡ Equal → cmp j (spelled j k) ≡ Equal)
-        → (xs : List (K × V)) (ys : List (K × W)) (es : List (Event (K × V) (K × W))) (added : List (Option (K × X))) → IsScript (by_key cmp) xs ys es
-        → AllZip (AnswersEvent kind spelled May Keeps) es added → IsJoin cmp kind spelled xs ys May Keeps (filter_map (λ z. z) added)
+        → (xs : List (K × V)) (ys : List (K × W)) (zs : List (K × X)) → IsBuilt (by_key cmp) (AnswersEvent kind spelled May Keeps) xs ys [] zs
+        → IsJoin cmp kind spelled xs ys May Keeps zs

@@ -1,7 +1,7 @@
 //! The laws of the definitions that contracts on joins cite.
 //!
 //! Each function does nothing: its contract is the law. Code that calls one has the law in its proof.
-ghost use Rattle.vc_joins.specs.Laws.{KindsInWords, JoinsOfFunctions, JoinsOfScripts};
+ghost use Rattle.vc_joins.specs.Laws.{KindsInWords, JoinsOfFunctions, JoinsOfEvents};
 ghost use Rattle.vc_joins.specs.Question.{shown_key};
 
 use crate::answers::Question;
@@ -18,7 +18,7 @@ pub fn joins_of_functions<K: Ord + Clone, V, W, X, Q: Question<K, V, W, X>>()
     ensures { (q : Q) → JoinsOfFunctions K V W K.cmp (λ a r. Q.may q a (Ok r)) (λ a. K.is_clone (shown_key a)) }
 {}
 
-/// What the events of the merge of two maps add, each by a possible answer to its question, is their join.
-pub fn joins_of_scripts<K: Ord + Clone, V, W, X, Q: Question<K, V, W, X>>()
-    ensures { (q : Q) → JoinsOfScripts K V W K.cmp (λ a r. Q.may q a (Ok r)) (λ a. K.is_clone (shown_key a)) }
+/// What a merge of two maps builds, each event by a possible answer to its question, is their join.
+pub fn joins_of_events<K: Ord + Clone, V, W, X, Q: Question<K, V, W, X>>()
+    ensures { (q : Q) → JoinsOfEvents K V W K.cmp (λ a r. Q.may q a (Ok r)) (λ a. K.is_clone (shown_key a)) }
 {}

@@ -1,16 +1,17 @@
--- A script of two maps, with what each of its events adds, is their join.
-use Rattle.std.proofs.Common.{◌≡◌, Bool, true, false, cond, List, [], ◌∷◌, Option, Some, None, refl, sym, ap, ◌∙◌, subst}
+-- What is built by answers to the events of two maps is their join.
+use Rattle.std.proofs.Common.{◌≡◌, Bool, true, false, cond, List, [], ◌∷◌, ◌++◌, Option, Some, None, refl, sym, ap, ◌∙◌, subst}
 use Rattle.std.specs.BTreeMap.{is_at}
 use Rattle.std.specs.Cmp.{IsTotalOrder, Equal-is, alike_right}
-use Rattle.std.specs.List.{AllByRecursion, AllZip, cons_option, filter_map}
+use Rattle.std.specs.List.{AllByRecursion, cons_option}
 use Rattle.std.specs.List.Sorted.{IsStrictlySortedBy}
 use Rattle.std.specs.Map.{keys_of}
-use Rattle.std.specs.Option.{MatchOption}
+use Rattle.std.specs.Option.{MatchOption, option_to_list}
 use Rattle.std.specs.Ordering.{is_eq}
 use Rattle.std.specs.declared.cmp.Ordering.{Ordering}
 use Rattle.std.specs.declared.cmp.Ordering.TheVariants.{Less, Equal}
 use Rattle.vc_merge.specs.Ascending.{Ascends}
-use Rattle.vc_merge.specs.Script.{Event, left_alone, right_alone, collision, lefts, rights, place, IsMatched, IsScript}
+use Rattle.vc_merge.specs.Script.{Event, left_alone, right_alone, collision, lefts, rights, place, IsMatched}
+use Rattle.vc_merge.specs.Gathering.{Gathers, IsBuilt}
 use Rattle.vc_joins.specs.declared.question.OuterJoinArg.{OuterJoinArg}
 use Rattle.vc_joins.specs.declared.question.JoinKind.{JoinKind}
 use Rattle.vc_joins.specs.Entries.{AscendsByKey, entry_at}
@@ -107,7 +108,7 @@ module _ {K : Type 0} {cmp : K → K → Ordering} (total : IsTotalOrder cmp) wh
       moved x y (Some p) f h = sym (f p.0) ∙ h
 
       -- what an event adds stands at its key
-      added-key : (e : Event (K × V) (K × W)) (z : Option (K × X)) → IsMatched (by_key cmp) e → AnswersEvent kind spelled May Keeps e z → IsAtKey cmp (event_key e) z
+      added-key : (e : Event (K × V) (K × W)) (z : Option (K × X)) → IsMatched (by_key cmp) e → IsAnswered May Keeps (if_asked kind (question_of spelled e)) z → IsAtKey cmp (event_key e) z
       added-key e z m h =
           let a = question_of spelled e in
           moved (shown_key a) (event_key e) z (shown-alike e m) (answer-key a (asks kind a) z h)
@@ -128,43 +129,57 @@ module _ {K : Type 0} {cmp : K → K → Ordering} (total : IsTotalOrder cmp) wh
 
       -- ---- all events
 
-      added-above : (x : K) (es : List (Event (K × V) (K × W))) (zs : List (Option (K × X))) → AllByRecursion (λ e. cmp x (event_key e) ≡ Less) es → AllByRecursion (IsMatched (by_key cmp)) es → AllZip (AnswersEvent kind spelled May Keeps) es zs → AllByRecursion (λ y. cmp x y ≡ Less) (keys_of (filter_map (λ z. z) zs))
-      added-above x [] [] p m h = tt
-      added-above x [] (z ∷ zs) p m h = absurd h
-      added-above x (e ∷ es) [] p m h = absurd h
-      added-above x (e ∷ es) (z ∷ zs) p m h = front-above x (event_key e) z (filter_map (λ z. z) zs) p.0 (added-key e z m.0 h.0) (added-above x es zs p.1 m.1 h.1)
+      Added : List (Event (K × V) (K × W)) → List (K × X) → Type 0
+      Added es zs = Gathers (AnswersEvent kind spelled May Keeps) es zs
 
-      added-ascends : (es : List (Event (K × V) (K × W))) (zs : List (Option (K × X))) → Ascends (λ d e. by_key cmp (place d) (place e)) es → AllByRecursion (IsMatched (by_key cmp)) es → AllZip (AnswersEvent kind spelled May Keeps) es zs → AscendsByKey cmp (filter_map (λ z. z) zs)
-      unfolding IsStrictlySortedBy
-      added-ascends [] [] s m h = tt
-      added-ascends [] (z ∷ zs) s m h = absurd h
-      added-ascends (e ∷ es) [] s m h = absurd h
-      added-ascends (e ∷ es) (z ∷ zs) s m h = front-ascends (event_key e) z (filter_map (λ z. z) zs) (added-key e z m.0 h.0) (added-above (event_key e) es zs s.0 m.1 h.1) (added-ascends es zs s.1 m.1 h.1)
+      -- what the first event adds, in front of what the others add
+      front-added : (z : Option (K × X)) (first rest zs : List (K × X)) → first ≡ option_to_list z → zs ≡ first ++ rest → zs ≡ cons_option z rest
+      front-added None first rest zs e f = f ∙ ap (λ l. l ++ rest) e
+      front-added (Some p) first rest zs e f = f ∙ ap (λ l. l ++ rest) e
 
-      answered-by : (k : K) (e : Event (K × V) (K × W)) (es : List (Event (K × V) (K × W))) (z : Option (K × X)) (zs : List (Option (K × X))) (b : Bool) → is_at (cmp k) (event_key e) ≡ b
-          → AllByRecursion (λ d. cmp (event_key e) (event_key d) ≡ Less) es → AllByRecursion (IsMatched (by_key cmp)) (e ∷ es) → AllZip (AnswersEvent kind spelled May Keeps) (e ∷ es) (z ∷ zs)
-          → IsAnswered May Keeps (asked kind spelled (entry_at cmp (lefts es) k) (entry_at cmp (rights es) k)) (entry_at cmp (filter_map (λ z. z) zs) k)
-          → IsAnswered May Keeps (asked kind spelled (entry_at cmp (lefts (e ∷ es)) k) (entry_at cmp (rights (e ∷ es)) k)) (entry_at cmp (cons_option z (filter_map (λ z. z) zs)) k)
-      answered-by k e es z zs true i above m h rest =
-          subst (λ a. IsAnswered May Keeps a (entry_at cmp (cons_option z (filter_map (λ z. z) zs)) k)) (sym (asked-here k e es i above m))
-          (subst (λ o. IsAnswered May Keeps (if_asked kind (question_of spelled e)) o) (sym (front-here k (event_key e) z (filter_map (λ z. z) zs) i (added-key e z m.0 h.0) (added-above (event_key e) es zs above m.1 h.1))) h.0)
-      answered-by k e es z zs false i above m h rest =
-          subst (λ a. IsAnswered May Keeps a (entry_at cmp (cons_option z (filter_map (λ z. z) zs)) k)) (sym (asked-elsewhere k e es i m.0))
-          (subst (λ o. IsAnswered May Keeps (asked kind spelled (entry_at cmp (lefts es) k) (entry_at cmp (rights es) k)) o) (sym (front-elsewhere k (event_key e) z (filter_map (λ z. z) zs) i (added-key e z m.0 h.0))) rest)
+      added-above : (x : K) (es : List (Event (K × V) (K × W))) (zs : List (K × X)) → AllByRecursion (λ e. cmp x (event_key e) ≡ Less) es → AllByRecursion (IsMatched (by_key cmp)) es → Added es zs → AllByRecursion (λ y. cmp x y ≡ Less) (keys_of zs)
+      unfolding Added
+      added-above x [] zs p m h = subst (λ l. AllByRecursion (λ y. cmp x y ≡ Less) (keys_of l)) (sym h) tt
+      added-above x (e ∷ es) zs p m (first, rest, (z, answers, adds), others, is) =
+          subst (λ l. AllByRecursion (λ y. cmp x y ≡ Less) (keys_of l)) (sym (front-added z first rest zs adds is))
+          (front-above x (event_key e) z rest p.0 (added-key e z m.0 answers) (added-above x es rest p.1 m.1 others))
 
-      answered : (k : K) (es : List (Event (K × V) (K × W))) (zs : List (Option (K × X))) → Ascends (λ d e. by_key cmp (place d) (place e)) es → AllByRecursion (IsMatched (by_key cmp)) es → AllZip (AnswersEvent kind spelled May Keeps) es zs
-          → IsAnswered May Keeps (asked kind spelled (entry_at cmp (lefts es) k) (entry_at cmp (rights es) k)) (entry_at cmp (filter_map (λ z. z) zs) k)
-      unfolding IsStrictlySortedBy
-      answered k [] [] s m h = refl
-      answered k [] (z ∷ zs) s m h = absurd h
-      answered k (e ∷ es) [] s m h = absurd h
-      answered k (e ∷ es) (z ∷ zs) s m h = answered-by k e es z zs (is_at (cmp k) (event_key e)) refl s.0 m h (answered k es zs s.1 m.1 h.1)
+      added-ascends : (es : List (Event (K × V) (K × W))) (zs : List (K × X)) → Ascends (λ d e. by_key cmp (place d) (place e)) es → AllByRecursion (IsMatched (by_key cmp)) es → Added es zs → AscendsByKey cmp zs
+      unfolding Added IsStrictlySortedBy
+      added-ascends [] zs s m h = subst (λ l. AscendsByKey cmp l) (sym h) tt
+      added-ascends (e ∷ es) zs s m (first, rest, (z, answers, adds), others, is) =
+          subst (λ l. AscendsByKey cmp l) (sym (front-added z first rest zs adds is))
+          (front-ascends (event_key e) z rest (added-key e z m.0 answers) (added-above (event_key e) es rest s.0 m.1 others) (added-ascends es rest s.1 m.1 others))
 
-      -- what the events of a script add is the join of its two maps
-      pub join-from_script : (xs : List (K × V)) (ys : List (K × W)) (es : List (Event (K × V) (K × W))) (added : List (Option (K × X))) → IsScript (by_key cmp) xs ys es → AllZip (AnswersEvent kind spelled May Keeps) es added
-          → IsJoin cmp kind spelled xs ys May Keeps (filter_map (λ z. z) added)
-      join-from_script xs ys es added s h = record {
-        ascends = added-ascends es added s.ascends s.matched h;
-        at = λ k. subst (λ l. IsAnswered May Keeps (asked kind spelled (entry_at cmp l k) (entry_at cmp ys k)) (entry_at cmp (filter_map (λ z. z) added) k)) s.left
-            (subst (λ l. IsAnswered May Keeps (asked kind spelled (entry_at cmp (lefts es) k) (entry_at cmp l k)) (entry_at cmp (filter_map (λ z. z) added) k)) s.right (answered k es added s.ascends s.matched h));
-      }
+      AnsweredAt : K → List (Event (K × V) (K × W)) → List (K × X) → Type 0
+      AnsweredAt k es zs = IsAnswered May Keeps (asked kind spelled (entry_at cmp (lefts es) k) (entry_at cmp (rights es) k)) (entry_at cmp zs k)
+
+      answered-by : (k : K) (e : Event (K × V) (K × W)) (es : List (Event (K × V) (K × W))) (z : Option (K × X)) (rest : List (K × X)) (b : Bool) → is_at (cmp k) (event_key e) ≡ b
+          → AllByRecursion (λ d. cmp (event_key e) (event_key d) ≡ Less) es → AllByRecursion (IsMatched (by_key cmp)) (e ∷ es) → IsAnswered May Keeps (if_asked kind (question_of spelled e)) z → Added es rest
+          → AnsweredAt k es rest → AnsweredAt k (e ∷ es) (cons_option z rest)
+      unfolding AnsweredAt
+      answered-by k e es z rest true i above m answers others h =
+          subst (λ a. IsAnswered May Keeps a (entry_at cmp (cons_option z rest) k)) (sym (asked-here k e es i above m))
+          (subst (λ o. IsAnswered May Keeps (if_asked kind (question_of spelled e)) o) (sym (front-here k (event_key e) z rest i (added-key e z m.0 answers) (added-above (event_key e) es rest above m.1 others))) answers)
+      answered-by k e es z rest false i above m answers others h =
+          subst (λ a. IsAnswered May Keeps a (entry_at cmp (cons_option z rest) k)) (sym (asked-elsewhere k e es i m.0))
+          (subst (λ o. IsAnswered May Keeps (asked kind spelled (entry_at cmp (lefts es) k) (entry_at cmp (rights es) k)) o) (sym (front-elsewhere k (event_key e) z rest i (added-key e z m.0 answers))) h)
+
+      answered : (k : K) (es : List (Event (K × V) (K × W))) (zs : List (K × X)) → Ascends (λ d e. by_key cmp (place d) (place e)) es → AllByRecursion (IsMatched (by_key cmp)) es → Added es zs → AnsweredAt k es zs
+      unfolding AnsweredAt Added IsStrictlySortedBy
+      answered k [] zs s m h = ap (λ l. entry_at cmp l k) h
+      answered k (e ∷ es) zs s m (first, rest, (z, answers, adds), others, is) =
+          let here : AnsweredAt k (e ∷ es) (cons_option z rest) = answered-by k e es z rest (is_at (cmp k) (event_key e)) refl s.0 m answers others (answered k es rest s.1 m.1 others) in
+          subst (λ l. AnsweredAt k (e ∷ es) l) (sym (front-added z first rest zs adds is)) here
+
+      -- what is built by answers to the events of two maps is their join
+      pub join-built : (xs : List (K × V)) (ys : List (K × W)) (zs : List (K × X)) → IsBuilt (by_key cmp) (AnswersEvent kind spelled May Keeps) xs ys [] zs → IsJoin cmp kind spelled xs ys May Keeps zs
+      unfolding AnsweredAt Added
+      join-built xs ys zs b =
+          let s = b.script in
+          let h = subst (λ l. Gathers (AnswersEvent kind spelled May Keeps) b.events l) (sym b.appends.items) b.appends.gathered in
+          record {
+            ascends = added-ascends b.events zs s.ascends s.matched h;
+            at = λ k. subst (λ l. IsAnswered May Keeps (asked kind spelled (entry_at cmp l k) (entry_at cmp ys k)) (entry_at cmp zs k)) s.left
+                (subst (λ l. IsAnswered May Keeps (asked kind spelled (entry_at cmp (lefts b.events) k) (entry_at cmp l k)) (entry_at cmp zs k)) s.right (answered k b.events zs s.ascends s.matched h));
+          }
