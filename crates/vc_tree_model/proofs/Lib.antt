@@ -11,3 +11,6 @@ pub mod Smallness
 pub mod Walking
 pub mod OneWalk
 pub mod Examples
+pub mod Look
+pub mod Rows
+pub mod Joining

@@ -11,3 +11,8 @@ pub mod OneTree
 pub mod Walk
 pub mod Laws
 pub mod Snapshot
+pub mod Shortened
+pub mod Combine
+pub mod KeySets
+pub mod Asking
+pub mod Child
