@@ -10,3 +10,7 @@ pub mod Smallness
 pub mod Walking
 pub mod OneWalk
 pub mod Examples
+pub mod UnderLemmas
+pub mod Covering
+pub mod Running
+pub mod PrefixExamples

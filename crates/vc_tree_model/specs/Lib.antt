@@ -11,3 +11,7 @@ pub mod OneTree
 pub mod Walk
 pub mod Laws
 pub mod Snapshot
+pub mod Under
+pub mod Cover
+pub mod Machine
+pub mod PrefixLaws
