@@ -14,3 +14,7 @@ pub mod Examples
 pub mod Look
 pub mod Rows
 pub mod Joining
+pub mod UnderLemmas
+pub mod Covering
+pub mod Running
+pub mod PrefixExamples

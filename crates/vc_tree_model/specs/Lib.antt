@@ -16,3 +16,7 @@ pub mod Combine
 pub mod KeySets
 pub mod Asking
 pub mod Child
+pub mod Under
+pub mod Cover
+pub mod Machine
+pub mod PrefixLaws
