@@ -17,4 +17,5 @@ pub use Rattle.vc_trees.specs.Map
 pub use Rattle.vc_trees.specs.Same
 pub use Rattle.vc_trees.specs.Snapshot
 pub use Rattle.vc_trees.specs.Tree
+pub use Rattle.vc_trees.specs.TreeCode
 pub use Rattle.vc_trees.specs.Value
