@@ -1,0 +1,12 @@
+pub mod KeyLemmas
+pub mod ValueLemmas
+pub mod LookupLemmas
+pub mod Uniqueness
+pub mod Binding
+pub mod Mending
+pub mod AlikeLemmas
+pub mod FourConditions
+pub mod Smallness
+pub mod Walking
+pub mod OneWalk
+pub mod Examples

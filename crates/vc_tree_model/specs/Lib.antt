@@ -1,0 +1,13 @@
+pub mod Key
+pub mod Value
+pub mod Tree
+pub mod TreeCode
+pub mod Map
+pub mod Binds
+pub mod Canonical
+pub mod Conditions
+pub mod Same
+pub mod OneTree
+pub mod Walk
+pub mod Laws
+pub mod Snapshot
