@@ -1,4 +1,5 @@
 -- What the public clauses of the exported items cite, and the words of the laws, so that a user names this crate alone.
+pub mod Exact
 pub use Rattle.vc_merge.specs.Ascending
 pub use Rattle.vc_merge.specs.Chain
 pub use Rattle.vc_merge.specs.Count
