@@ -78,7 +78,10 @@ fn insert_in_snapshot(tree: &ArcRadixTree<u8, u64>, asked: &[&[u8]]) -> Result<u
 }
 
 /// The tree that binds each key to its number.
-fn filled<T: AbstractRadixTreeMut<u8, u64>>(alloc: Global, keys: &[&[u8]]) -> Result<T, AllocError> {
+fn filled<T: AbstractRadixTreeMut<u8, u64>>(
+    alloc: Global,
+    keys: &[&[u8]],
+) -> Result<T, AllocError> {
     let mut tree = T::empty(alloc);
     let mut number: u64 = 0;
     for key in keys {
