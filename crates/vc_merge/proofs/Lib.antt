@@ -13,6 +13,7 @@ pub mod Scripts
 pub mod Searching
 pub mod WalkNames
 pub mod MovesDownLemmas
+pub mod Shifting
 pub mod ClonesLemmas
 pub mod Members
 pub mod OneScript

@@ -20,4 +20,6 @@ pub mod InPlaceViews
 pub mod MovedViews
 pub mod Gathering
 pub mod Laws
+pub mod LentViews
+pub mod Shifts
 pub mod Yielded

@@ -4,6 +4,7 @@
 pub mod inplace;
 pub mod iterators;
 pub mod laws;
+pub mod lent;
 mod linear;
 pub mod merge;
 pub mod moved;
