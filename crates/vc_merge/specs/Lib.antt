@@ -19,4 +19,5 @@ pub mod InPlaceViews
 pub mod MovedViews
 pub mod Gathering
 pub mod Laws
+pub mod Showing
 pub mod Yielded
