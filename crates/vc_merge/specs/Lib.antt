@@ -22,4 +22,5 @@ pub mod Gathering
 pub mod Laws
 pub mod LentViews
 pub mod Shifts
+pub mod Showing
 pub mod Yielded
