@@ -1,4 +1,4 @@
-use Rattle.std.proofs.Common.{drop, take, refl, sym, ◌∙◌, drop-drop}
+use Rattle.std.proofs.Common.{take, refl, sym, ◌∙◌, drop-drop}
 use Rattle.vc_merge.specs.LentViews.{right_items}
 use Rattle.vc_merge.proofs.Shifting.{put-left, put-places}
 use Rattle.vc_merge.proofs.lent.LentState.fill_hole.Goals as goal

@@ -1,11 +1,12 @@
 -- A search in an ordered list: what one comparison tells of the others, and how a search comes to its end.
 --     less-before, less-upto, greater-from, greater-behind        what stands beside an element
 --     narrowed-whole, narrowed-up, narrowed-past, narrowed-down        the part that is searched, at first and after a comparison
---     half-reached, quarter-reached        after one comparison, and after three
+--     half-reached, quarter-reached, quarter-times        after one comparison, and after three
 --     searched-half        after one comparison that may find it
---     place-searched, place-last        the place
+--     place-searched, place-narrowed, place-below, place-at, place-above        the place
+--     ordered-ascends, ascends-map        ascending lists are ordered round whatever is sought
 use Rattle.std.proofs.Common.{◌≡◌, ℕ, zero, suc, ◌+◌, ◌-◌, ◌*◌, ◌/◌, ◌<◌, ◌≤◌, Bool, true, false, ◌||◌, List, [], ◌∷◌, map, length, take, drop, get_or, ◌⊎◌, inl, inr, ⊎_elim, refl, sym, ap, subst, ◌∙◌, arith}
-use Rattle.std.proofs.lemmas.List.{get_or_default, map-id}
+use Rattle.std.proofs.lemmas.List.{get_or_default}
 use mathlib.Core.Bool.{true≢false}
 use Rattle.std.specs.List.{AllByRecursion, HoldsAt}
 use Rattle.std.specs.Cmp.{IsTotalOrder}
@@ -288,21 +289,28 @@ module _ {K : Type 0} (cmp : K → K → Ordering) (total : IsTotalOrder cmp) (k
   greater_above i j Greater e f l = total.antisymm j k ∙ ap ordering_reverse (total.trans k i j (total.antisymm k i ∙ ap ordering_reverse e) l)
 
   module _ {X : Type 0} (key : X → K) where
-    all_above : (x : X) (o : Ordering) → cmp (key x) k ≡ o → is_lt o ≡ false → (ys : List X) → AllByRecursion (λ j. cmp (key x) j ≡ Less) (map key ys) → AllByRecursion (λ y. cmp (key y) k ≡ Greater) ys
+    all_above : (x : X) (o : Ordering) → cmp (key x) k ≡ o → is_lt o ≡ false → (ys : List X) → AllByRecursion (λ y. cmp (key x) (key y) ≡ Less) ys → AllByRecursion (λ y. cmp (key y) k ≡ Greater) ys
     all_above x o e f [] p = tt
     all_above x o e f (y ∷ ys) p = (greater_above (key x) (key y) o e f p.0, all_above x o e f ys p.1)
 
-    beside : (x : X) (ys : List X) (o : Ordering) → cmp (key x) k ≡ o → AllByRecursion (λ j. cmp (key x) j ≡ Less) (map key ys) → (cmp (key x) k ≡ Less) ⊎ AllByRecursion (λ y. cmp (key y) k ≡ Greater) ys
+    beside : (x : X) (ys : List X) (o : Ordering) → cmp (key x) k ≡ o → AllByRecursion (λ y. cmp (key x) (key y) ≡ Less) ys → (cmp (key x) k ≡ Less) ⊎ AllByRecursion (λ y. cmp (key y) k ≡ Greater) ys
     beside x ys Less e p = inl e
     beside x ys Equal e p = inr (all_above x Equal e refl ys p)
     beside x ys Greater e p = inr (all_above x Greater e refl ys p)
 
-    -- a list whose keys ascend
-    pub ordered-by_key : (xs : List X) → Ascends cmp (map key xs) → IsOrdered (λ x. cmp (key x) k) xs
+    -- a list that ascends by its keys is ordered round any key
+    pub ordered-ascends : (xs : List X) → Ascends (λ x y. cmp (key x) (key y)) xs → IsOrdered (λ x. cmp (key x) k) xs
     unfolding IsStrictlySortedBy
-    ordered-by_key [] p = tt
-    ordered-by_key (x ∷ xs) p = (beside x xs (cmp (key x) k) refl p.0, ordered-by_key xs p.1)
+    ordered-ascends [] p = tt
+    ordered-ascends (x ∷ xs) p = (beside x xs (cmp (key x) k) refl p.0, ordered-ascends xs p.1)
 
-  -- a list that ascends
-  pub ordered-ascending : (xs : List K) → Ascends cmp xs → IsOrdered (λ y. cmp y k) xs
-  ordered-ascending xs p = ordered-by_key (λ y. y) xs (subst (λ l. Ascends cmp l) (sym (map-id xs)) p)
+module _ {K X : Type 0} (cmp : K → K → Ordering) (key : X → K) where
+  each_map : (P : K → Type 0) (xs : List X) → AllByRecursion P (map key xs) → AllByRecursion (λ x. P (key x)) xs
+  each_map P [] p = tt
+  each_map P (x ∷ xs) p = (p.0, each_map P xs p.1)
+
+  -- a list whose keys ascend
+  pub ascends-map : (xs : List X) → Ascends cmp (map key xs) → Ascends (λ x y. cmp (key x) (key y)) xs
+  unfolding IsStrictlySortedBy
+  ascends-map [] p = tt
+  ascends-map (x ∷ xs) p = (each_map (λ j. cmp (key x) j ≡ Less) xs p.0, ascends-map xs p.1)
