@@ -2,11 +2,11 @@
 #![tactic(auto)]
 
 ghost use Rattle.std.specs.Prelude.{◌≡◌, Some, None, IsSome, OnOk, OnErr};
-ghost use Rattle.vc_trees.specs.Tree.{bare, node};
-ghost use Rattle.vc_trees.specs.Map.{HaveEqualMaps, IsInserted, lookup};
+ghost use Rattle.vc_tree_model.specs.Tree.{bare, node};
+ghost use Rattle.vc_tree_model.specs.Map.{HaveEqualMaps, IsInserted, lookup};
 
 use std::alloc::{AllocError, Global};
-use vc_trees::radix_tree::{AbstractRadixTree, AbstractRadixTreeMut, TKey, TValue};
+use vc_trees::radix_tree::{AbstractRadixTree, AbstractRadixTreeMut, RadixNode, TKey, TValue};
 
 #[cfg(test)]
 mod tests;
@@ -25,7 +25,7 @@ impl Word {
     }
 }
 
-impl AbstractRadixTree<u8, u32> for Word {
+impl RadixNode<u8, u32> for Word {
     ghost tree = { λ w. node w.letters.items (Some w.weight) bare };
 
     fn prefix(&self) -> &[u8] {

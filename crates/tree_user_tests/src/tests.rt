@@ -6,7 +6,7 @@ use std::cell::Cell;
 use std::fmt;
 use std::test::Fail;
 use vc_trees::radix_tree::{
-    AbstractRadixTree, AbstractRadixTreeMut, ArcRadixTree, RadixTree, TKey, TValue,
+    AbstractRadixTree, AbstractRadixTreeMut, ArcRadixTree, RadixNode, RadixTree, TKey, TValue,
 };
 
 /// How deep the shapes of these tests are read.

@@ -2,13 +2,16 @@ pub mod BlockSteps
 pub mod BuilderTakes
 pub mod Builds
 pub mod Chains
+pub mod Digits
 pub mod Extending
 pub mod Lists
+pub mod PlaceLemmas
 pub mod PlacesLaid
 pub mod PlacesMemory
 pub mod PlacesShared
 pub mod Runs
 pub mod Scripts
+pub mod SearchedRuns
 pub mod WalkNames
 pub mod MovesDownLemmas
 pub mod Shifting

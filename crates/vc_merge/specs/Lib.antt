@@ -6,6 +6,8 @@ pub mod BuilderLends
 pub mod Building
 pub mod Chain
 pub mod Count
+pub mod Fronts
+pub mod Place
 pub mod Places
 pub mod PlacesLend
 pub mod PlacesOwned
@@ -20,4 +22,5 @@ pub mod Gathering
 pub mod Laws
 pub mod PartsViews
 pub mod Shifts
+pub mod Showing
 pub mod Yielded

@@ -9,4 +9,6 @@ pub mod merge;
 pub mod moved;
 pub mod moving;
 pub mod parts;
+pub mod search;
+mod searching;
 pub mod states;

@@ -1,5 +1,4 @@
 //! Radix trees that are always canonical, plain and with shared children: each map of keys to values has one tree.
 #![tactic(auto)]
 
-pub mod laws;
 pub mod radix_tree;

@@ -12,18 +12,11 @@
 //! assert_eq!(rt; tree.get(b"ab"), None);
 //! ```
 
-mod building;
-mod children;
-mod descent;
-mod insertion;
-mod parting;
-mod places;
-mod plain;
 mod reading;
-mod shared;
 mod writing;
 
-pub use plain::RadixTree;
-pub use reading::{AbstractRadixTree, TKey, TValue};
-pub use shared::ArcRadixTree;
+pub use reading::AbstractRadixTree;
+pub use vc_tree_nodes::plain::RadixTree;
+pub use vc_tree_nodes::reading::{RadixNode, TKey, TValue};
+pub use vc_tree_nodes::shared::ArcRadixTree;
 pub use writing::AbstractRadixTreeMut;

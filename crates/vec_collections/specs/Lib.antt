@@ -1,20 +1,29 @@
--- What the public clauses of the exported items cite, so that a user names this crate alone.
+-- What the public clauses of the exported items cite, and the words of the laws, so that a user names this crate alone.
+pub mod Exact
 pub use Rattle.vc_merge.specs.Ascending
 pub use Rattle.vc_merge.specs.Chain
 pub use Rattle.vc_merge.specs.Count
+pub use Rattle.vc_merge.specs.Laws as MergeLaws
 pub use Rattle.vc_merge.specs.Script
 pub use Rattle.vc_merge.specs.Yielded
 pub use Rattle.vc_sets.specs.Algebra
 pub use Rattle.vc_sets.specs.Iterating
+pub use Rattle.vc_sets.specs.Laws as SetLaws
 pub use Rattle.vc_sets.specs.SetOf
 pub use Rattle.vc_sets.specs.Tests
 pub use Rattle.vc_sets.specs.declared.vec_set.algebra.SetOp
 pub use Rattle.vc_sets.specs.declared.vec_set.algebra.SetTest
-pub use Rattle.vc_trees.specs.Canonical
-pub use Rattle.vc_trees.specs.Children
-pub use Rattle.vc_trees.specs.Key
-pub use Rattle.vc_trees.specs.Map
-pub use Rattle.vc_trees.specs.Same
-pub use Rattle.vc_trees.specs.Snapshot
-pub use Rattle.vc_trees.specs.Tree
-pub use Rattle.vc_trees.specs.Value
+pub use Rattle.vc_tree_model.specs.Binds
+pub use Rattle.vc_tree_model.specs.Canonical
+pub use Rattle.vc_tree_model.specs.Conditions
+pub use Rattle.vc_tree_model.specs.Key
+pub use Rattle.vc_tree_model.specs.Laws as TreeLaws
+pub use Rattle.vc_tree_model.specs.Map
+pub use Rattle.vc_tree_model.specs.OneTree
+pub use Rattle.vc_tree_model.specs.Same
+pub use Rattle.vc_tree_model.specs.Snapshot
+pub use Rattle.vc_tree_model.specs.Tree
+pub use Rattle.vc_tree_model.specs.TreeCode
+pub use Rattle.vc_tree_model.specs.Value
+pub use Rattle.vc_tree_model.specs.Walk
+pub use Rattle.vc_tree_nodes.specs.Children

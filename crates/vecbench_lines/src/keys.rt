@@ -11,7 +11,9 @@ ghost use Rattle.vecbench_lines.specs.Shapes.{key_text, value_mark, shape_text};
 use crate::fault::Fault;
 use crate::parts::{Parts, Separator};
 use std::alloc::{AllocError, Global};
-use vec_collections::radix_tree::{AbstractRadixTree, AbstractRadixTreeMut, RadixTree, TValue};
+use vec_collections::radix_tree::{
+    AbstractRadixTree, AbstractRadixTreeMut, RadixNode, RadixTree, TValue,
+};
 
 /// A tree of keys of letters, which binds `()` to each.
 pub type KeyTree = RadixTree<u8, ()>;

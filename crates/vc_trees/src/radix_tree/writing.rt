@@ -1,25 +1,27 @@
 //! The trait by which the two flavours are made and changed.
 
 ghost use Rattle.std.specs.Prelude.{◌≡◌, [], Some, IfOk, OnOk, OnErr};
-ghost use Rattle.vc_trees.specs.Tree.{made, no_tree};
-ghost use Rattle.vc_trees.specs.Map.{HaveEqualMaps, IsInserted};
-ghost use Rattle.vc_trees.specs.Canonical.{IsCanonical};
-ghost use Rattle.vc_trees.specs.Same.{IsAlike};
+ghost use Rattle.vc_tree_model.specs.Tree.{made, no_tree};
+ghost use Rattle.vc_tree_model.specs.Map.{HaveEqualMaps, IsInserted};
+ghost use Rattle.vc_tree_model.specs.Canonical.{IsCanonical};
+ghost use Rattle.vc_tree_model.specs.Same.{IsAlike};
 
-use crate::radix_tree::building::{Build, Seal};
-use crate::radix_tree::insertion;
-use crate::radix_tree::plain::RadixTree;
-use crate::radix_tree::reading::{TKey, TValue};
-use crate::radix_tree::shared::ArcRadixTree;
+use crate::radix_tree::reading::AbstractRadixTree;
 use std::alloc::{AllocError, Global};
 use std::default::MadeWith;
+use vc_tree_nodes::building::Seal;
+use vc_tree_nodes::copying::CloneTree;
+use vc_tree_nodes::insertion;
+use vc_tree_nodes::plain::RadixTree;
+use vc_tree_nodes::reading::{TKey, TValue};
+use vc_tree_nodes::shared::ArcRadixTree;
 
-/// A radix tree to be made and changed: the two flavours of this crate, and no other type.
+/// A radix tree to be made and changed: the two flavours, and no other type.
 ///
 /// A clause says by `keeps` how a value that a call leaves in place is kept. In a [`RadixTree`] it is the old value itself. In
 /// an [`ArcRadixTree`] it is the old value, or a clone of it over any number of clones, since shared children are copied before
 /// they are written.
-pub trait AbstractRadixTreeMut<K: TKey, V: TValue>: Build<K, V> {
+pub trait AbstractRadixTreeMut<K: TKey, V: TValue>: CloneTree<K, V> + AbstractRadixTree<K, V> {
     /// The empty tree. Takes no memory.
     final fn empty(alloc: Global) -> Self
         ensures { Self.tree result ≡ no_tree }

@@ -6,13 +6,13 @@ use Rattle.vecbench_lines.proofs.keys.+put_shape.Goals as goal
 
 pub put_shape-requires-in-loop-child : goal.put_shape-requires-in-loop-child
 put_shape-requires-in-loop-child g t c κs within =
-    let less = child_falls g.T.AbstractRadixTree.tree c.children.result.now (g.T.AbstractRadixTree.tree c.args.tree.now) c.loop-child.child-index c.child-item.result
+    let less = child_falls g.T.RadixNode.tree c.children.result.now (g.T.RadixNode.tree c.args.tree.now) c.loop-child.child-index c.child-item.result
     c.children.ensures c.loop-child-test.true c.child-item.is in
     search (rules, less)
 
 pub returns : goal.returns
 returns g t c =
-    let tree = g.T.AbstractRadixTree.tree in
+    let tree = g.T.RadixNode.tree in
     let keyed : string_bytes c.put_key.new.text ≡ string_bytes c.args.text.now ++ key_text (tree c.args.tree.now).prefix = search rules in
     let marked : string_bytes c.put_mark.new.text ≡ string_bytes c.put_key.new.text ++ value_mark (tree c.args.tree.now).value = search rules in
     let opened : string_bytes c.push.new.self ≡ string_bytes c.put_mark.new.text ++ 40 ∷ [] = search rules in

@@ -1,0 +1,322 @@
+//! Sets from outside: each call, operator and iteration, with what a user says of it.
+ghost use Rattle.std.specs.Prelude.{◌≡◌, ◌==◌, ◌||◌, ◌&&◌, ◌↔◌, ◌<◌, ◌≤◌, ◌%◌, not, IfOk, IfSome, IsNone, OnOk, OnErr, IsOk, IsTrue, List, [], ◌∷◌, ℕ, length, count_by, Bool};
+ghost use Rattle.std.specs.Ordering.{nat_cmp};
+ghost use Rattle.vec_collections.specs.Ascending.{Ascends, member};
+ghost use Rattle.std.specs.Hash as fed;
+ghost use Rattle.std.specs.List.{fold};
+ghost use Rattle.std.specs.Cmp.Lexicographic.{slice_cmp};
+ghost use Rattle.facade_user_tests.specs.Tags.{has, IsEither, IsBoth, IsOne, IsRest, AreMade, AreTested};
+
+use smallvec::SmallVec;
+use std::alloc::{AllocError, Global};
+use std::cmp::Ordering;
+use std::collections::BTreeSet;
+use std::hash::{Hash, Hasher};
+use std::marker::Model;
+use vec_collections::iterators::ascends;
+use vec_collections::merge::Steps;
+use vec_collections::{
+    AbstractVecSet, SetOp, SetTest, VecSet, VecSet2, difference, intersection,
+    symmetric_difference, union,
+};
+
+/// The tags of an article, of which four need no allocation.
+pub type Tags = VecSet<u32, 4>;
+
+/// What the four operations make of the tags of two articles.
+#[derive(Drop)]
+pub struct Four {
+    pub either: Tags,
+    pub both: Tags,
+    pub one: Tags,
+    pub rest: Tags,
+}
+
+/// By the operators.
+pub fn four_by_operators(a: &Tags, b: &Tags) -> Result<Four, AllocError>
+    ensures { IfOk result (AreMade a.now b.now) }
+{
+    Ok(Four {
+        either: (a | b)?,
+        both: (a & b)?,
+        one: (a ^ b)?,
+        rest: (a - b)?,
+    })
+}
+
+/// By the methods.
+pub fn four_by_methods(a: &Tags, b: &Tags) -> Result<Four, AllocError>
+    ensures { IfOk result (AreMade a.now b.now) }
+{
+    Ok(Four {
+        either: a.union(b)?,
+        both: a.intersection(b)?,
+        one: a.symmetric_difference(b)?,
+        rest: a.difference(b)?,
+    })
+}
+
+/// By the functions, of any sets.
+pub fn four_by_functions<S: AbstractVecSet<u32>, U: AbstractVecSet<u32>>(
+    alloc: Global,
+    a: &S,
+    b: &U,
+) -> Result<Four, AllocError>
+    ensures { IfOk result (AreMade (S.elements a.now) (U.elements b.now)) }
+{
+    Ok(Four {
+        either: union(alloc, a, b)?,
+        both: intersection(alloc, a, b)?,
+        one: symmetric_difference(alloc, a, b)?,
+        rest: difference(alloc, a, b)?,
+    })
+}
+
+/// By the call that counts its comparisons.
+pub fn four_by_counted(a: &Tags, b: &Tags, steps: &mut Steps) -> Result<Four, AllocError>
+    ensures { IfOk result (AreMade a.now b.now) }
+{
+    Ok(Four {
+        either: a.combine_counted(b, SetOp::Union, steps)?,
+        both: a.combine_counted(b, SetOp::Intersection, steps)?,
+        one: a.combine_counted(b, SetOp::SymmetricDifference, steps)?,
+        rest: a.combine_counted(b, SetOp::Difference, steps)?,
+    })
+}
+
+/// Adds the tags of another article.
+pub fn add_all(tags: &mut Tags, more: &Tags) -> Result<(), AllocError>
+    ensures added { OnOk result (IsEither tags.old more.now tags.new) }
+    ensures err { OnErr result (tags.new ≡ tags.old) }
+{
+    tags.union_with(more)
+}
+
+/// Keeps the tags that exactly one of the articles has.
+pub fn keep_one(tags: &mut Tags, more: &Tags) -> Result<(), AllocError>
+    ensures kept { OnOk result (IsOne tags.old more.now tags.new) }
+    ensures err { OnErr result (tags.new ≡ tags.old) }
+{
+    tags.xor_with(more)
+}
+
+/// Adds the tags of an article that is gone afterwards.
+pub fn absorb(tags: &mut Tags, more: VecSet2<u32>) -> Result<(), AllocError>
+    ensures added { OnOk result (IsEither tags.old more tags.new) }
+    ensures err { OnErr result (tags.new ≡ tags.old) }
+{
+    tags.bitor_assign(more)
+}
+
+/// Keeps the tags that it or an article that is gone afterwards has, but not both.
+pub fn absorb_one(tags: &mut Tags, more: VecSet2<u32>) -> Result<(), AllocError>
+    ensures kept { OnOk result (IsOne tags.old more tags.new) }
+    ensures err { OnErr result (tags.new ≡ tags.old) }
+{
+    tags.bitxor_assign(more)
+}
+
+/// Keeps the tags that each of four articles has.
+pub fn keep_both(tags: &mut Tags, b: &Tags, c: &VecSet2<u32>, d: VecSet2<u32>)
+    ensures { (tag : ℕ) → IsTrue (has tags.new tag) ↔ (IsTrue (has tags.old tag) × IsTrue (has b.now tag) × IsTrue (has c.now tag) × IsTrue (has d tag)) }
+{
+    tags.intersection_with(b);
+    *tags &= c;
+    *tags &= d;
+}
+
+/// Takes the tags of three other articles out.
+pub fn keep_rest(tags: &mut Tags, b: &Tags, c: &VecSet2<u32>, d: VecSet2<u32>)
+    ensures { (tag : ℕ) → has tags.new tag ≡ (((has tags.old tag && not (has b.now tag)) && not (has c.now tag)) && not (has d tag)) }
+{
+    tags.difference_with(b);
+    *tags -= c;
+    *tags -= d;
+}
+
+/// How two articles stand to each other.
+#[derive(Drop)]
+pub struct Standing {
+    pub is_disjoint: bool,
+    pub is_subset: bool,
+    pub is_superset: bool,
+}
+
+/// By the tests, of any sets.
+pub fn standing_of<S: AbstractVecSet<u32>, U: AbstractVecSet<u32>>(a: &S, b: &U) -> Standing
+    ensures { AreTested (S.elements a.now) (U.elements b.now) result }
+{
+    Standing {
+        is_disjoint: a.is_disjoint(b),
+        is_subset: a.is_subset(b),
+        is_superset: a.is_superset(b),
+    }
+}
+
+/// By the call that counts its comparisons.
+pub fn standing_counted(a: &Tags, b: &Tags, steps: &mut Steps) -> Standing
+    ensures { AreTested a.now b.now result }
+{
+    Standing {
+        is_disjoint: a.test_counted(b, SetTest::Disjoint, steps),
+        is_subset: a.test_counted(b, SetTest::Subset, steps),
+        is_superset: a.test_counted(b, SetTest::Superset, steps),
+    }
+}
+
+/// Puts one tag in the place of another, and says whether the other one was there.
+pub fn rename(tags: &mut Tags, from: u32, to: u32) -> Result<bool, AllocError>
+    ensures found { IfOk result (λ found. found ≡ has tags.old from) }
+    ensures renamed { OnOk result ((tag : ℕ) → has tags.new tag ≡ ((to == tag) || (not (from == tag) && has tags.old tag))) }
+{
+    let found = tags.contains(&from);
+    tags.remove(&from);
+    tags.insert(to)?;
+    Ok(found)
+}
+
+/// How many tags are odd, by a loop.
+pub fn count_odd(tags: &Tags) -> usize
+    ensures { result ≡ count_by (λ tag. tag % 2 == 1) tags.now }
+{
+    let mut count = 0;
+    for tag in tags {
+        if *tag % 2 == 1 {
+            count += 1;
+        }
+    }
+    count
+}
+
+/// How many tags are even.
+pub fn count_even(tags: &Tags) -> usize
+    ensures { result ≡ count_by (λ tag. tag % 2 == 0) tags.now }
+{
+    tags.iter().filter(|tag| **tag % 2 == 0).count()
+}
+
+/// The tags as a list, by value.
+pub fn listed(alloc: Global, tags: Tags) -> Result<Vec<u32>, AllocError>
+    ensures { IfOk result (λ list. list.items ≡ tags) }
+{
+    tags.into_iter().collect(alloc)
+}
+
+/// The tags of a list, or none where it does not ascend.
+pub fn of_list(alloc: Global, list: Vec<u32>) -> Result<Option<Tags>, AllocError>
+    ensures { IfOk result (λ tags. IfSome tags (λ set. set ≡ list.items)) }
+{
+    if ascends(list.as_slice()) {
+        Ok(Some(Tags::from_vec(alloc, list)?))
+    } else {
+        Ok(None)
+    }
+}
+
+/// The tags of a list in any order.
+pub fn of_unordered(alloc: Global, list: BTreeSet<u32>) -> Result<Tags, AllocError>
+    ensures { IfOk result (λ set. set ≡ list.keys) }
+{
+    Tags::from_btree_set(alloc, list)
+}
+
+/// The tags in a set with another number of places.
+pub fn moved(alloc: Global, tags: Tags) -> Result<VecSet2<u32>, AllocError>
+    ensures { IfOk result (λ set. set ≡ tags) }
+{
+    VecSet2::from_iter(alloc, tags.into_iter())
+}
+
+/// A copy of the tags with one more.
+pub fn copy_with(tags: &Tags, more: u32) -> Result<Tags, AllocError>
+    ensures { IfOk result (λ set. (tag : ℕ) → has set tag ≡ ((more == tag) || has tags.now tag)) }
+{
+    let mut copy = tags.clone()?;
+    copy.insert(more)?;
+    Ok(copy)
+}
+
+/// No tag, and one tag: neither takes memory.
+pub fn none_and_one(alloc: Global, tag: u32) -> Result<(Tags, Tags), AllocError>
+    ensures made { IfOk result (λ two. (two.0 ≡ []) × (two.1 ≡ tag ∷ [])) }
+    ensures succeeds { IsOk result }
+{
+    Ok((Tags::empty(alloc), Tags::single(alloc, tag)?))
+}
+
+/// Whether two articles have the same tags, and which comes first.
+pub fn compared(a: &Tags, b: &Tags) -> (bool, Ordering)
+    ensures same { IsTrue result.0 ↔ (a.now ≡ b.now) }
+    ensures order { result.1 ≡ slice_cmp nat_cmp a.now b.now }
+{
+    (a == b, a.cmp(b))
+}
+
+/// Feeds the tags to a hasher.
+pub fn feed<H: Hasher>(tags: &Tags, hasher: &mut H)
+    ensures { hasher.new ≡ fold H.write hasher.old (fed.slice fed.u32 tags.now) }
+{
+    tags.hash(hasher);
+}
+
+/// The tags as lists: one that may stand in place, and a `Vec`.
+pub fn lists(a: Tags, b: Tags) -> Result<(SmallVec<u32, 4>, Vec<u32>), AllocError>
+    ensures { IfOk result (λ two. (two.0.items ≡ a) × (two.1.items ≡ b)) }
+{
+    Ok((a.into_inner(), b.into_vec()?))
+}
+
+/// The number of the tags, and whether there is none.
+pub fn size(tags: &Tags) -> (usize, bool)
+    ensures length { result.0 ≡ length tags.now }
+    ensures empty { IsTrue result.1 ↔ (tags.now ≡ []) }
+{
+    (tags.len(), tags.is_empty())
+}
+
+/// The least tag.
+pub fn least(tags: &Tags) -> Option<u32>
+    ensures none { IsNone result ↔ (tags.now ≡ []) }
+    ensures some { IfSome result (λ tag. IsTrue (has tags.now tag)) }
+{
+    tags.as_ref().first().copied()
+}
+
+/// Gives back what the tags do not need.
+pub fn pack(tags: &mut Tags)
+    ensures { tags.new ≡ tags.old }
+{
+    let _always = tags.shrink_to_fit();
+}
+
+/// A set of this crate's own: the numbers on a shelf, in ascending order.
+pub struct Shelf {
+    numbers: Vec<u32>,
+}
+
+impl Model for Shelf {
+    ghost use Rattle.std.specs.Prelude.{ℕ, List};
+    ghost use Rattle.std.specs.Ordering.{nat_cmp};
+    ghost use Rattle.vec_collections.specs.Ascending.{Ascends};
+
+    ghost Value = { List ℕ };
+
+    ghost view = { λ s. s.numbers.items };
+
+    ghost invariant = { λ s. Ascends nat_cmp s.numbers.items };
+}
+
+impl AbstractVecSet<u32> for Shelf {
+    ghost elements = { λ s. s };
+
+    fn as_slice(&self) -> &[u32] {
+        self.numbers.as_slice()
+    }
+}
+
+/// Whether a shelf has all tags of an article.
+pub fn holds(shelf: &Shelf, tags: &Tags) -> bool
+    ensures { IsTrue result ↔ ((tag : ℕ) → IsTrue (has tags.now tag) → IsTrue (has shelf.now tag)) }
+{
+    shelf.is_superset(tags)
+}

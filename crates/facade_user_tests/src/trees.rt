@@ -1,0 +1,161 @@
+//! Radix trees from outside: each call at both flavours, generic code, and a tree of this crate's own with children.
+ghost use Rattle.std.specs.Prelude.{◌≡◌, ◌<◌, ◌↔◌, [], ◌∷◌, Some, None, IsSome, IfOk, OnOk, OnErr, IsTrue};
+ghost use Rattle.std.specs.Ordering.{nat_cmp};
+ghost use Rattle.vec_collections.specs.Map.{lookup, HaveEqualMaps, IsInserted};
+ghost use Rattle.vec_collections.specs.Tree.{made, no_tree};
+
+use std::alloc::{AllocError, Global};
+use std::marker::Model;
+use vec_collections::radix_tree::{
+    AbstractRadixTree, AbstractRadixTreeMut, ArcRadixTree, RadixNode, RadixTree, TKey, TValue,
+};
+
+/// The ports of servers.
+pub type Ports = RadixTree<u8, u32>;
+
+/// The ports of servers, of which snapshots are kept.
+pub type SharedPorts = ArcRadixTree<u8, u32>;
+
+/// Sets the port of a server, and answers the one that it had.
+#[tactic(auto, using(vec_collections::specs::Exact::exactly))]
+pub fn set_shared_port(
+    ports: &mut SharedPorts,
+    server: &[u8],
+    port: u32,
+) -> Result<Option<u32>, AllocError>
+    ensures had { IfOk result (λ had. had ≡ lookup nat_cmp ports.old server.now) }
+    ensures set { OnOk result (IsInserted nat_cmp (λ x y. x ≡ y) server.now port ports.old ports.new) }
+{
+    let had = ports.get(server).copied();
+    ports.insert(server, port)?;
+    Ok(had)
+}
+
+/// A snapshot of the ports.
+pub fn snapshot_of(ports: &SharedPorts) -> Result<SharedPorts, AllocError>
+    ensures { IfOk result (λ copy. copy ≡ ports.now) }
+{
+    ports.clone()
+}
+
+/// No port.
+pub fn no_ports(alloc: Global) -> Ports
+    ensures { result ≡ no_tree }
+{
+    Ports::empty(alloc)
+}
+
+/// One port for the empty name.
+pub fn default_port(alloc: Global, port: u32) -> SharedPorts
+    ensures { result ≡ made [] (Some port) [] }
+{
+    SharedPorts::leaf(alloc, port)
+}
+
+/// The port of one server.
+pub fn one_port(alloc: Global, server: &[u8], port: u32) -> Result<Ports, AllocError>
+    ensures { IfOk result (λ ports. ports ≡ made server.now (Some port) []) }
+{
+    Ports::single(alloc, server, port)
+}
+
+/// Binds the key to the value in a tree of any flavour, unless the tree binds the key already.
+pub fn insert_missing<K: TKey, V: TValue, T: AbstractRadixTreeMut<K, V>>(
+    tree: &mut T,
+    key: &[K],
+    value: V,
+) -> Result<(), AllocError>
+    ensures known { IsSome (lookup K.cmp (T.tree tree.old) key.now) → T.tree tree.new ≡ T.tree tree.old }
+    ensures missing { lookup K.cmp (T.tree tree.old) key.now ≡ None
+        → OnOk result (IsInserted K.cmp T.keeps key.now value (T.tree tree.old) (T.tree tree.new)) }
+    ensures err { OnErr result (HaveEqualMaps K.cmp T.keeps (T.tree tree.old) (T.tree tree.new)) }
+{
+    if tree.get(key).is_some() {
+        return Ok(());
+    }
+    tree.insert(key, value)
+}
+
+/// A catalogue of articles by their shelves: a tree of this crate's own.
+#[derive(Drop)]
+pub struct Catalogue {
+    shelf: Vec<u8>,
+    article: Option<u32>,
+    parts: Vec<Catalogue>,
+}
+
+impl Model for Catalogue {
+    ghost use Rattle.std.specs.Prelude.{ℕ};
+    ghost use Rattle.std.specs.Coded.{coded_ℕ};
+    ghost use Rattle.std.specs.Ordering.{nat_cmp};
+    ghost use Rattle.std.proofs.Common.{arith};
+    ghost use Rattle.vec_collections.specs.Tree.{Tree, made, nodes};
+    ghost use Rattle.vec_collections.specs.TreeCode.{tree_code, most_le-nodes};
+    ghost use Rattle.vec_collections.specs.Canonical.{IsCanonical};
+
+    ghost Value = { Tree ℕ ℕ };
+
+    ghost coded = { tree_code coded_ℕ coded_ℕ };
+
+    ghost view = { λ c. made c.shelf.items c.article c.parts.items };
+
+    ghost invariant = { λ c. IsCanonical nat_cmp (made c.shelf.items c.article c.parts.items) };
+
+    ghost size = { nodes };
+
+    ghost size_decreases = { λ c h. omega (arith, most_le-nodes c.parts.items) };
+}
+
+impl RadixNode<u8, u32> for Catalogue {
+    ghost tree = { λ t. t };
+
+    fn prefix(&self) -> &[u8] {
+        self.shelf.as_slice()
+    }
+
+    fn value(&self) -> Option<&u32> {
+        self.article.as_ref()
+    }
+
+    fn children(&self) -> &[Catalogue] {
+        self.parts.as_slice()
+    }
+
+    fn allocator(&self) -> Global {
+        *self.shelf.allocator()
+    }
+}
+
+impl Catalogue {
+    /// The catalogue of one article.
+    pub fn of_one(alloc: Global, shelf: u8, article: u32) -> Result<Catalogue, AllocError>
+        ensures { IfOk result (λ c. c ≡ made (shelf ∷ []) (Some article) []) }
+    {
+        Ok(Catalogue {
+            shelf: vec![in alloc; shelf]?,
+            article: Some(article),
+            parts: Vec::new(alloc),
+        })
+    }
+
+    /// The catalogue of two articles, the lower shelf first.
+    pub fn of_two(alloc: Global, low: (u8, u32), high: (u8, u32)) -> Result<Catalogue, AllocError>
+        requires { low.0 < high.0 }
+        ensures { IfOk result (λ c. c ≡ made [] None (made (low.0 ∷ []) (Some low.1) [] ∷ made (high.0 ∷ []) (Some high.1) [] ∷ [])) }
+    {
+        let low = Catalogue::of_one(alloc, low.0, low.1)?;
+        let high = Catalogue::of_one(alloc, high.0, high.1)?;
+        Ok(Catalogue {
+            shelf: Vec::new(alloc),
+            article: None,
+            parts: vec![in alloc; low, high]?,
+        })
+    }
+
+    /// The article on a shelf.
+    pub fn article_at(&self, shelf: &[u8]) -> Option<u32>
+        ensures { result ≡ lookup nat_cmp self.now shelf.now }
+    {
+        self.get(shelf).copied()
+    }
+}

@@ -1,0 +1,268 @@
+-- Keys: what is left behind a prefix, equal keys, and the order on keys.
+--     behind_itself, behind_same, behind_of_same, behind-append        what is left behind a prefix
+--     same-slice_cmp, same_itself, same_flip, same_trans, same-append, same_prepended        equal keys
+--     same_behind, behind_joins, left_behind        equal keys and what is left of one
+--     not_before, not_both_before, less_prepended        which of two keys comes first
+--     keys_ordered, left_is_rest        the laws on keys
+use Rattle.std.proofs.Common.{◌≡◌, ℕ, zero, suc, [], ◌∷◌, ◌++◌, take, drop, List, Option, None, Some, is_some, refl, sym, ap, ◌∙◌, true, false, Bool, cond, true≢false}
+use Rattle.std.specs.List.{AllZip}
+use Rattle.std.specs.declared.cmp.Ordering.{Ordering}
+use Rattle.std.specs.declared.cmp.Ordering.TheVariants.{Less, Equal, Greater}
+use Rattle.std.specs.Ordering.{is_eq, is_lt, ordering_reverse, ordering_then}
+use Rattle.std.specs.Cmp.{IsTotalOrder, Equal-is, alike_right, tied_itself, eq_by_cmp_equiv}
+use Rattle.std.specs.Cmp.Lexicographic.{slice_cmp, lists_total}
+use Rattle.vc_tree_model.specs.Key.{same_key, behind, Starts, BeginsBelow, IsLess}
+use Rattle.vc_tree_model.specs.Value.{IsKept}
+use Rattle.vc_tree_model.specs.Laws.{KeysAreOrdered, LeftBehindIsRest}
+
+-- two tests in a row hold where both do
+pub both_true : (a b : Bool) → cond a b false ≡ true → (a ≡ true) × (b ≡ true)
+both_true true b h = (refl, h)
+both_true false b h = absurd (true≢false (sym h))
+
+-- a value is not absent
+pub none_some : {X : Type 0} {A : Type 0} (x : X) → None ≡ Some x → A
+none_some x e = cc
+
+module _ {K : Type 0} (cmp : K → K → Ordering) where
+  -- ---- a prefix in two parts
+
+  -- whether what is left of a key, if anything, equals another
+  abbrev pub then_same : List K → Option (List K) → Bool
+  then_same j None = false
+  then_same j (Some rest) = same_key cmp j rest
+
+  -- what is left behind a further prefix
+  abbrev pub then_behind : List K → Option (List K) → Option (List K)
+  then_behind q None = None
+  then_behind q (Some rest) = behind cmp q rest
+
+  -- a test before a look behind a further prefix
+  if-then_behind : (b : Bool) (q : List K) (o : Option (List K))
+      → cond b (then_behind q o) None ≡ then_behind q (cond b o None)
+  if-then_behind true q o = refl
+  if-then_behind false q o = refl
+
+  -- a key is left behind two prefixes joined where it is left behind one and then the other
+  pub behind-append : (p q k : List K) → behind cmp (p ++ q) k ≡ then_behind q (behind cmp p k)
+  behind-append [] q k = refl
+  behind-append (x ∷ p) q [] = refl
+  behind-append (x ∷ p) q (y ∷ k) =
+      ap (λ o. cond (is_eq (cmp x y)) o None) (behind-append p q k)
+      ∙ if-then_behind (is_eq (cmp x y)) q (behind cmp p k)
+
+  -- a test before a comparison of what is left
+  if-then_same : (b : Bool) (j : List K) (o : Option (List K))
+      → cond b (then_same j o) false ≡ then_same j (cond b o None)
+  if-then_same true j o = refl
+  if-then_same false j o = refl
+
+  -- a key equals two parts joined where the second equals what is left behind the first
+  pub same-append : (p j k : List K) → same_key cmp (p ++ j) k ≡ then_same j (behind cmp p k)
+  same-append [] j k = refl
+  same-append (x ∷ p) j [] = refl
+  same-append (x ∷ p) j (y ∷ k) =
+      ap (λ o. cond (is_eq (cmp x y)) o false) (same-append p j k) ∙ if-then_same (is_eq (cmp x y)) j (behind cmp p k)
+
+  -- nothing is left of a key behind an equal one
+  pub same_behind : (p k : List K) → same_key cmp p k ≡ true → behind cmp p k ≡ Some []
+  same_behind [] [] h = refl
+  same_behind [] (y ∷ k) h = absurd (true≢false (sym h))
+  same_behind (x ∷ p) [] h = absurd (true≢false (sym h))
+  same_behind (x ∷ p) (y ∷ k) h =
+      let both = both_true (is_eq (cmp x y)) (same_key cmp p k) h in
+      let rest = same_behind p k both.1 in
+      λ i. cond (both.0 i) (rest i) None
+
+  -- of a key that equals p joined with j, what is left behind p equals j
+  pub left_behind : (p j k : List K) → same_key cmp (p ++ j) k ≡ true
+      → (rest : List K) × (behind cmp p k ≡ Some rest) × (same_key cmp j rest ≡ true)
+  left_behind p j k h = by (behind cmp p k) refl (sym (same-append p j k) ∙ h)
+    where
+      by : (o : Option (List K)) → behind cmp p k ≡ o → then_same j (behind cmp p k) ≡ true
+          → (rest : List K) × (behind cmp p k ≡ Some rest) × (same_key cmp j rest ≡ true)
+      by None e g = absurd (true≢false (sym (ap (then_same j) (sym e) ∙ g)))
+      by (Some rest) e g = (rest, e, ap (then_same j) (sym e) ∙ g)
+
+  -- ---- equal keys
+
+  -- a test of two comparisons is one of the first that decides
+  both-is_eq : (r s : Ordering) → cond (is_eq r) (is_eq s) false ≡ is_eq (ordering_then r s)
+  both-is_eq Less s = refl
+  both-is_eq Equal s = refl
+  both-is_eq Greater s = refl
+
+  -- keys are equal where the order on keys doesn't tell them apart
+  pub same-slice_cmp : (j k : List K) → same_key cmp j k ≡ is_eq (slice_cmp cmp j k)
+  same-slice_cmp [] [] = refl
+  same-slice_cmp [] (y ∷ k) = refl
+  same-slice_cmp (x ∷ j) [] = refl
+  same-slice_cmp (x ∷ j) (y ∷ k) =
+      ap (λ b. cond (is_eq (cmp x y)) b false) (same-slice_cmp j k) ∙ both-is_eq (cmp x y) (slice_cmp cmp j k)
+
+  -- no key comes before an equal one
+  pub not_before : (j k : List K) → slice_cmp cmp j k ≡ Less → same_key cmp j k ≡ true → ⊥
+  not_before j k l e = true≢false (sym e ∙ same-slice_cmp j k ∙ ap is_eq l)
+
+  -- equal keys are equal place by place
+  same_places : (j k : List K) → same_key cmp j k ≡ true → AllZip (λ x y. cmp x y ≡ Equal) j k
+  same_places [] [] h = tt
+  same_places [] (y ∷ k) h = absurd (true≢false (sym h))
+  same_places (x ∷ j) [] h = absurd (true≢false (sym h))
+  same_places (x ∷ j) (y ∷ k) h =
+      let both = both_true (is_eq (cmp x y)) (same_key cmp j k) h in
+      ((Equal-is (cmp x y)).0 both.0, same_places j k both.1)
+
+  -- and the other way round
+  places_same : (j k : List K) → AllZip (λ x y. cmp x y ≡ Equal) j k → same_key cmp j k ≡ true
+  places_same [] [] h = refl
+  places_same [] (y ∷ k) h = absurd h
+  places_same (x ∷ j) [] h = absurd h
+  places_same (x ∷ j) (y ∷ k) h = rw h.0 (places_same j k h.1)
+
+  -- ---- the first place at which two keys differ
+
+  -- nothing begins below what has ended
+  below_end : (n : ℕ) (k : List K) → BeginsBelow cmp k (drop n []) → ⊥
+  below_end zero [] h = h
+  below_end zero (x ∷ k) h = h
+  below_end (suc n) [] h = h
+  below_end (suc n) (x ∷ k) h = h
+
+  -- where keys are equal up to a place and the first begins below there, it comes first
+  less_from : (n : ℕ) (k j : List K) → same_key cmp (take n k) (take n j) ≡ true
+      → BeginsBelow cmp (drop n k) (drop n j) → slice_cmp cmp k j ≡ Less
+  less_from n k [] h g = absurd (below_end n (drop n k) g)
+  less_from n [] (y ∷ j) h g = refl
+  less_from zero (x ∷ k) (y ∷ j) h g = ap (λ r. ordering_then r (slice_cmp cmp k j)) g
+  less_from (suc n) (x ∷ k) (y ∷ j) h g =
+      let both = both_true (is_eq (cmp x y)) (same_key cmp (take n k) (take n j)) h in
+      ap (λ r. ordering_then r (slice_cmp cmp k j)) ((Equal-is (cmp x y)).0 both.0) ∙ less_from n k j both.1 g
+
+  -- a place further on
+  less_next : (x y : K) (k j : List K) → cmp x y ≡ Equal → IsLess cmp k j → IsLess cmp (x ∷ k) (y ∷ j)
+  less_next x y k j e l = record { place = suc l.place; before = rw e l.before; at = l.at }
+
+  -- what comes first is less at the first place at which the two differ
+  less_place : (k j : List K) → slice_cmp cmp k j ≡ Less → IsLess cmp k j
+  less_place [] [] h = absurd (true≢false (sym (ap is_lt h)))
+  less_place [] (y ∷ j) h = record { place = zero; before = refl; at = tt }
+  less_place (x ∷ k) [] h = absurd (true≢false (sym (ap is_lt h)))
+  less_place (x ∷ k) (y ∷ j) h = by (cmp x y) refl h (less_place k j)
+    where
+      by : (r : Ordering) → cmp x y ≡ r → ordering_then r (slice_cmp cmp k j) ≡ Less
+          → (slice_cmp cmp k j ≡ Less → IsLess cmp k j) → IsLess cmp (x ∷ k) (y ∷ j)
+      by Less e g f = record { place = zero; before = refl; at = e }
+      by Equal e g f = less_next x y k j e (f g)
+      by Greater e g f = absurd (true≢false (sym (ap is_lt g)))
+
+  module _ (o : IsTotalOrder cmp) where
+    -- ---- under a total order of components
+
+    -- what is above is not below
+    pub greater : (x y : K) → cmp x y ≡ Less → cmp y x ≡ Greater
+    greater x y l = o.antisymm y x ∙ ap ordering_reverse l
+
+    -- and the other way round
+    pub less : (x y : K) → cmp x y ≡ Greater → cmp y x ≡ Less
+    less x y g = o.antisymm y x ∙ ap ordering_reverse g
+
+    -- the rest is left behind a prefix
+    pub behind_itself : (p k : List K) → behind cmp p (p ++ k) ≡ Some k
+    behind_itself [] k = refl
+    behind_itself (x ∷ p) k = rw (tied_itself o x) (behind_itself p k)
+
+    -- the same is left behind equal prefixes
+    pub behind_same : (p q k : List K) → same_key cmp p q ≡ true → behind cmp p k ≡ behind cmp q k
+    behind_same [] [] k h = refl
+    behind_same [] (y ∷ q) k h = absurd (true≢false (sym h))
+    behind_same (x ∷ p) [] k h = absurd (true≢false (sym h))
+    behind_same (x ∷ p) (y ∷ q) [] h = refl
+    behind_same (x ∷ p) (y ∷ q) (z ∷ k) h =
+        let both = both_true (is_eq (cmp x y)) (same_key cmp p q) h in
+        let first = o.congr x y z ((Equal-is (cmp x y)).0 both.0) in
+        let rest = behind_same p q k both.1 in
+        λ i. cond (is_eq (first i)) (rest i) None
+
+    -- behind one test or its equal, what is left is equal
+    if_left : (a b : Bool) (u v : Option (List K)) → a ≡ b → IsKept (λ j k. same_key cmp j k ≡ true) u v
+        → IsKept (λ j k. same_key cmp j k ≡ true) (cond a u None) (cond b v None)
+    if_left true b u v e h = rw (← e) h
+    if_left false b u v e h = rw (← e) tt
+
+    -- equal keys are left behind a prefix of equal keys, or nothing of both
+    pub behind_of_same : (p j k : List K) → same_key cmp j k ≡ true
+        → IsKept (λ j k. same_key cmp j k ≡ true) (behind cmp p j) (behind cmp p k)
+    behind_of_same [] j k h = h
+    behind_of_same (x ∷ p) [] [] h = tt
+    behind_of_same (x ∷ p) [] (z ∷ k) h = absurd (true≢false (sym h))
+    behind_of_same (x ∷ p) (y ∷ j) [] h = absurd (true≢false (sym h))
+    behind_of_same (x ∷ p) (y ∷ j) (z ∷ k) h =
+        let both = both_true (is_eq (cmp y z)) (same_key cmp j k) h in
+        let first = ap is_eq (alike_right o y z x ((Equal-is (cmp y z)).0 both.0)) in
+        if_left (is_eq (cmp x y)) (is_eq (cmp x z)) (behind cmp p j) (behind cmp p k) first
+        (behind_of_same p j k both.1)
+
+    -- a key equals itself
+    pub same_itself : (k : List K) → same_key cmp k k ≡ true
+    same_itself k = same-slice_cmp k k ∙ ap is_eq (tied_itself (lists_total o) k)
+
+    -- the sides may be turned
+    pub same_flip : (j k : List K) → same_key cmp j k ≡ same_key cmp k j
+    same_flip j k = same-slice_cmp j k ∙ (eq_by_cmp_equiv (lists_total o)).symm j k ∙ sym (same-slice_cmp k j)
+
+    -- what equals an equal key is equal
+    pub same_trans : (j k l : List K) → same_key cmp j k ≡ true → same_key cmp k l ≡ true → same_key cmp j l ≡ true
+    same_trans j k l h g =
+        let equal = (Equal-is (slice_cmp cmp j k)).0 (sym (same-slice_cmp j k) ∙ h) in
+        same-slice_cmp j l ∙ ap is_eq ((lists_total o).congr j k l equal) ∙ sym (same-slice_cmp k l) ∙ g
+
+    -- equal keys stay equal behind one prefix
+    pub same_prepended : (p j k : List K) → same_key cmp j k ≡ true → same_key cmp (p ++ j) (p ++ k) ≡ true
+    same_prepended p j k h = same-append p j (p ++ k) ∙ ap (then_same j) (behind_itself p k) ∙ h
+
+    -- no two keys come before each other
+    pub not_both_before : (j k : List K) → slice_cmp cmp j k ≡ Less → slice_cmp cmp k j ≡ Less → ⊥
+    not_both_before j k l m =
+        true≢false (sym (ap is_lt m) ∙ ap is_lt ((lists_total o).antisymm k j ∙ ap ordering_reverse l))
+
+    -- keys keep their order behind one prefix
+    pub less_prepended : (p k j : List K) → slice_cmp cmp k j ≡ Less → slice_cmp cmp (p ++ k) (p ++ j) ≡ Less
+    less_prepended [] k j h = h
+    less_prepended (x ∷ p) k j h =
+        ap (λ r. ordering_then r (slice_cmp cmp (p ++ k) (p ++ j))) (tied_itself o x) ∙ less_prepended p k j h
+
+    -- a prefix joined with what is left behind it makes up the key
+    pub behind_joins : (p k rest : List K) → behind cmp p k ≡ Some rest → same_key cmp (p ++ rest) k ≡ true
+    behind_joins p k rest e = same-append p rest k ∙ ap (then_same rest) e ∙ same_itself rest
+
+    -- a key starts with a prefix where something is left behind it
+    behind_starts : (k p : List K) (o : Option (List K)) → behind cmp p k ≡ o → is_some o ≡ true → Starts cmp k p
+    behind_starts k p None e h = absurd (true≢false (sym h))
+    behind_starts k p (Some rest) e h = (rest, behind_joins p k rest e)
+
+    -- what else makes up the key with the prefix equals what is left
+    rest_one : (k p q rest : List K) → behind cmp p k ≡ Some rest → same_key cmp (p ++ q) k ≡ true
+        → same_key cmp q rest ≡ true
+    rest_one k p q rest e h = ap (then_same q) (sym e) ∙ sym (same-append p q k) ∙ h
+
+    -- what is left behind a prefix is the one rest
+    pub left_is_rest : LeftBehindIsRest cmp
+    left_is_rest = record {
+      starts = λ k p. (λ s. ap is_some (left_behind p s.0 k s.1).1, behind_starts k p (behind cmp p k) refl);
+      joins = λ k p rest. behind_joins p k rest;
+      one = rest_one;
+    }
+
+    -- equal keys are not told apart
+    tied_where_same : (j k : List K) → same_key cmp j k ≡ true → slice_cmp cmp j k ≡ Equal
+    tied_where_same j k e = (Equal-is (slice_cmp cmp j k)).0 (sym (same-slice_cmp j k) ∙ e)
+
+    -- the order on keys is total, and is told by the first difference
+    pub keys_ordered : KeysAreOrdered cmp
+    keys_ordered = record {
+      total = lists_total o;
+      equal = λ j k. (λ e. same-slice_cmp j k ∙ ap is_eq e, tied_where_same j k);
+      less = λ j k. (less_place j k, λ l. less_from l.place j k l.before l.at);
+      components = λ j k. (same_places j k, places_same j k);
+    }

@@ -1,0 +1,65 @@
+-- The node gets one more child, or stays alike.
+use Rattle.std.proofs.Common.{refl, sym, ap, subst, ◌∙◌}
+use Rattle.vc_tree_model.specs.Canonical.{IsCanonical}
+use Rattle.vc_tree_nodes.specs.Places.{IsGapAt}
+use Rattle.vc_tree_model.specs.Snapshot.{tree_alike_refl}
+use Rattle.vc_tree_nodes.proofs.Events.{always_err, on_ok, on_both, child_added, parts_canonical, inserted_canonical}
+use Rattle.vc_tree_nodes.proofs.Growing.{gap_within}
+use Rattle.vc_tree_nodes.proofs.insertion.add_child.Goals as goal
+
+pub returns-in_err-leaf-clause-err : goal.returns-in_err-leaf-clause-err
+returns-in_err-leaf-clause-err g c =
+    always_err c.from_residual.result (tree_alike_refl g.T.Build.keeps g.met.T.Build.keeps_refl
+    (g.T.RadixNode.tree c.args.tree.now))
+
+pub add_to-done-requires : goal.add_to-done-requires
+add_to-done-requires g c =
+    let tree = g.T.RadixNode.tree in
+    gap_within g.K.Ord.cmp tree _ c.requires.fits.first c.args.i
+    (subst (λ f. IsGapAt g.K.Ord.cmp f c.requires.fits.first c.args.i)
+    (sym (c.take_apart-prefix.ensures.children ∙ ap (λ t. (tree t).children) c.replace-node.ensures.value))
+    c.requires.fits.gap)
+
+pub assemble-requires : goal.assemble-requires
+assemble-requires g c =
+    let tree = g.T.RadixNode.tree in
+    let prefix = c.take_apart-prefix.ensures.prefix ∙ ap (λ t. (tree t).prefix) c.replace-node.ensures.value in
+    let value = c.take_apart-prefix.ensures.value ∙ ap (λ t. (tree t).value) c.replace-node.ensures.value in
+    let children = c.take_apart-prefix.ensures.children ∙ ap (λ t. (tree t).children) c.replace-node.ensures.value in
+    let canonical =
+    subst (λ t. IsCanonical g.K.Ord.cmp (tree t)) c.replace-node.ensures.value c.take_apart-prefix.ensures.canonical in
+    on_both c.add_to-done.result c.add_to-done.ensures.ok c.add_to-done.ensures.err
+    (λ added. inserted_canonical g.K.Ord.cmp g.T.Build.keeps (tree c.args.tree.now) _ c.args.value _ _
+    (child_added g.K.Ord.cmp g.T.Build.keeps g.met.T.Build.keeps_refl g.met.T.Build.keeps_trans g.met.K.Ord.total tree
+    (tree c.args.tree.now) _ _ _ _ _ c.args.i c.in_ok-leaf.leaf c.args.rest.now c.args.value
+    prefix value children refl canonical c.requires.solid c.requires.fits c.in_ok-leaf.ensures added))
+    (λ alike. parts_canonical g.K.Ord.cmp g.T.Build.keeps g.met.T.Build.keeps_refl g.met.T.Build.keeps_trans
+    g.met.K.Ord.total tree (tree c.args.tree.now) _ _ _ _ prefix value children canonical alike)
+
+pub returns-clause-ok : goal.returns-clause-ok
+returns-clause-ok g c =
+    let tree = g.T.RadixNode.tree in
+    let prefix = c.take_apart-prefix.ensures.prefix ∙ ap (λ t. (tree t).prefix) c.replace-node.ensures.value in
+    let value = c.take_apart-prefix.ensures.value ∙ ap (λ t. (tree t).value) c.replace-node.ensures.value in
+    let children = c.take_apart-prefix.ensures.children ∙ ap (λ t. (tree t).children) c.replace-node.ensures.value in
+    let canonical =
+    subst (λ t. IsCanonical g.K.Ord.cmp (tree t)) c.replace-node.ensures.value c.take_apart-prefix.ensures.canonical in
+    on_ok c.add_to-done.result
+    (λ added. (child_added g.K.Ord.cmp g.T.Build.keeps g.met.T.Build.keeps_refl g.met.T.Build.keeps_trans
+    g.met.K.Ord.total tree (tree c.args.tree.now) _ _ _ _ _ c.args.i c.in_ok-leaf.leaf c.args.rest.now c.args.value
+    prefix value children c.assemble.ensures canonical c.requires.solid c.requires.fits c.in_ok-leaf.ensures added).updated)
+    c.add_to-done.ensures.ok
+
+pub returns-clause-branch : goal.returns-clause-branch
+returns-clause-branch g c =
+    let tree = g.T.RadixNode.tree in
+    let prefix = c.take_apart-prefix.ensures.prefix ∙ ap (λ t. (tree t).prefix) c.replace-node.ensures.value in
+    let value = c.take_apart-prefix.ensures.value ∙ ap (λ t. (tree t).value) c.replace-node.ensures.value in
+    let children = c.take_apart-prefix.ensures.children ∙ ap (λ t. (tree t).children) c.replace-node.ensures.value in
+    let canonical =
+    subst (λ t. IsCanonical g.K.Ord.cmp (tree t)) c.replace-node.ensures.value c.take_apart-prefix.ensures.canonical in
+    on_ok c.add_to-done.result
+    (λ added. (child_added g.K.Ord.cmp g.T.Build.keeps g.met.T.Build.keeps_refl g.met.T.Build.keeps_trans
+    g.met.K.Ord.total tree (tree c.args.tree.now) _ _ _ _ _ c.args.i c.in_ok-leaf.leaf c.args.rest.now c.args.value
+    prefix value children c.assemble.ensures canonical c.requires.solid c.requires.fits c.in_ok-leaf.ensures added).branch)
+    c.add_to-done.ensures.ok

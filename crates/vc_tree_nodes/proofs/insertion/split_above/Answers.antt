@@ -1,0 +1,66 @@
+-- A new node with the value, above the rest of the old one.
+use Rattle.std.proofs.Common.{refl, ap, ◌∙◌, arith, is_ok, length, ◌<◌}
+use Rattle.vc_tree_nodes.proofs.Events.{whole_solid, top_made, inserted_canonical, node-equal, top_from, low_from, one_put, empty_kept}
+use Rattle.vc_tree_nodes.proofs.Growing.{solid_whole}
+use Rattle.vc_tree_nodes.proofs.insertion.split_above.Goals as goal
+
+pub cut-low-requires : goal.cut-low-requires
+cut-low-requires g c =
+    let t = g.T.RadixNode.tree c.args.tree.now in
+    let there : 0 < length t.prefix = omega (arith, c.requires) in (
+      solid_whole _ t.value t.children (whole_solid t.prefix t.value t.children there
+          c.prefix-whole.ensures.canonical.0),
+      c.prefix-whole.ensures.canonical.1,
+    )
+
+pub assemble-requires : goal.assemble-requires
+assemble-requires g c =
+    let tree = g.T.RadixNode.tree in
+    let t = tree c.args.tree.now in
+    inserted_canonical g.K.Ord.cmp g.T.Build.keeps t _ c.args.value _ _
+    (top_made g.K.Ord.cmp g.T.Build.keeps g.met.T.Build.keeps_refl g.met.T.Build.keeps_trans g.met.K.Ord.total tree t
+    _ c.args.n _ c.cut-low.result _ c.args.value
+    c.requires c.prefix-whole.ensures.canonical
+    (top_from _ c.prefix-whole.result.now t.prefix c.args.n c.in_ok-top.ensures c.prefix-whole.ensures.value)
+    (c.cut-low.ensures ∙ node-equal _ _ t.value t.value t.children t.children
+    (low_from _ c.prefix-whole.result.now t.prefix c.args.n c.in_ok-low_prefix.ensures c.prefix-whole.ensures.value)
+    refl refl)
+    (one_put _ c.put.new.list.items c.reserve.new.self.items c.in_ok-list.list.now.items c.cut-low.result
+    (c.make_mut.follows.holds _ (ap is_ok c.in_ok-list.was)) c.put.ensures.items c.reserve.ensures.items
+    (empty_kept g.T.Build.keeps tree _ _ (c.in_ok-children.ensures.ok ∙ c.new.ensures.items)
+    (g.met.T.Build.kept_alike _ _ c.in_ok-list.ensures.value)))
+    refl)
+
+pub returns-clause-ok : goal.returns-clause-ok
+returns-clause-ok g c =
+    let tree = g.T.RadixNode.tree in
+    let t = tree c.args.tree.now in
+    (top_made g.K.Ord.cmp g.T.Build.keeps g.met.T.Build.keeps_refl g.met.T.Build.keeps_trans g.met.K.Ord.total tree t
+    _ c.args.n _ c.cut-low.result _ c.args.value
+    c.requires c.prefix-whole.ensures.canonical
+    (top_from _ c.prefix-whole.result.now t.prefix c.args.n c.in_ok-top.ensures c.prefix-whole.ensures.value)
+    (c.cut-low.ensures ∙ node-equal _ _ t.value t.value t.children t.children
+    (low_from _ c.prefix-whole.result.now t.prefix c.args.n c.in_ok-low_prefix.ensures c.prefix-whole.ensures.value)
+    refl refl)
+    (one_put _ c.put.new.list.items c.reserve.new.self.items c.in_ok-list.list.now.items c.cut-low.result
+    (c.make_mut.follows.holds _ (ap is_ok c.in_ok-list.was)) c.put.ensures.items c.reserve.ensures.items
+    (empty_kept g.T.Build.keeps tree _ _ (c.in_ok-children.ensures.ok ∙ c.new.ensures.items)
+    (g.met.T.Build.kept_alike _ _ c.in_ok-list.ensures.value)))
+    c.assemble.ensures).updated
+
+pub returns-clause-branch : goal.returns-clause-branch
+returns-clause-branch g c =
+    let tree = g.T.RadixNode.tree in
+    let t = tree c.args.tree.now in
+    (top_made g.K.Ord.cmp g.T.Build.keeps g.met.T.Build.keeps_refl g.met.T.Build.keeps_trans g.met.K.Ord.total tree t
+    _ c.args.n _ c.cut-low.result _ c.args.value
+    c.requires c.prefix-whole.ensures.canonical
+    (top_from _ c.prefix-whole.result.now t.prefix c.args.n c.in_ok-top.ensures c.prefix-whole.ensures.value)
+    (c.cut-low.ensures ∙ node-equal _ _ t.value t.value t.children t.children
+    (low_from _ c.prefix-whole.result.now t.prefix c.args.n c.in_ok-low_prefix.ensures c.prefix-whole.ensures.value)
+    refl refl)
+    (one_put _ c.put.new.list.items c.reserve.new.self.items c.in_ok-list.list.now.items c.cut-low.result
+    (c.make_mut.follows.holds _ (ap is_ok c.in_ok-list.was)) c.put.ensures.items c.reserve.ensures.items
+    (empty_kept g.T.Build.keeps tree _ _ (c.in_ok-children.ensures.ok ∙ c.new.ensures.items)
+    (g.met.T.Build.kept_alike _ _ c.in_ok-list.ensures.value)))
+    c.assemble.ensures).branch

@@ -1,0 +1,30 @@
+-- What an insertion makes of a node and of its children. No public clause cites these words.
+--     IsBranch cmp p t        t has the prefix p and may be a child if p is not empty
+--     IsGrown cmp n t u        u goes on as t for n components, and may be a child if n is not 0
+--     Adds keeps tree old i item new        the new list is the old one, kept, with the item put at place i
+use Rattle.std.specs.Prelude.{◌≡◌, ℕ, List, take, insert}
+use Rattle.std.specs.declared.cmp.Ordering.{Ordering}
+use Rattle.vc_tree_model.specs.Tree.{Tree}
+use Rattle.vc_tree_model.specs.Canonical.{IsSolid, AreChildren}
+use Rattle.vc_tree_model.specs.Same.{IsAlikeIn}
+use Rattle.vc_tree_nodes.specs.Children.{seen}
+
+module _ {K V : Type 0} where
+  -- a node with this prefix, a value or at least two children, and canonical children
+  pub record IsBranch (cmp : K → K → Ordering) (p : List K) (t : Tree K V) : Type 0 where
+    pub prefix : t.prefix ≡ p
+    pub solid : IsSolid t.value t.children
+    pub children : AreChildren cmp t.children
+
+  -- the first n components of the prefix stay, and the node has a value or at least two children, and canonical children
+  pub record IsGrown (cmp : K → K → Ordering) (n : ℕ) (t u : Tree K V) : Type 0 where
+    pub begins : take n u.prefix ≡ take n t.prefix
+    pub solid : IsSolid u.value u.children
+    pub children : AreChildren cmp u.children
+
+  -- the list is an old one's alike, with one more tree at place i
+  pub record Adds (keeps : V → V → Type 0) {T : Type 0} (tree : T → Tree K V)
+      (old : List T) (i : ℕ) (item : T) (new : List T) : Type 0 where
+    pub kept : List T
+    pub alike : IsAlikeIn keeps (seen tree old) (seen tree kept)
+    pub is : new ≡ insert kept i item

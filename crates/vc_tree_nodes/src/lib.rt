@@ -1,0 +1,15 @@
+//! The nodes of radix trees: how they are read, the two flavours in which they are stored, how a key is looked up, and how it is
+//! bound. For the crates above; the traits that users name stand in `vc_trees`.
+#![tactic(auto)]
+
+pub mod building;
+pub mod children;
+pub mod copying;
+pub mod descent;
+pub mod insertion;
+pub mod making;
+pub mod parting;
+pub mod places;
+pub mod plain;
+pub mod reading;
+pub mod shared;

@@ -1,0 +1,39 @@
+//! Where a key parts from the prefix of a node.
+
+ghost use Rattle.vc_tree_nodes.specs.Parting.{Agree, IsParting};
+
+use std::cmp::Ordering;
+
+/// Where a key parts from a prefix.
+#[derive(Clone, Copy)]
+pub enum Parting {
+    /// The key starts with the whole prefix.
+    Behind,
+    /// The key ends inside the prefix, after that many components.
+    Inside(usize),
+    /// After that many components the prefix goes on with a lesser component than the key.
+    Lower(usize),
+    /// After that many components the prefix goes on with a greater component than the key.
+    Higher(usize),
+}
+
+/// Where the key parts from the prefix, of which the first `known` components are known to agree. Compares each further
+/// component once.
+pub fn find_parting<K: Ord>(prefix: &[K], key: &[K], known: usize) -> Parting
+    requires { Agree K.cmp prefix.now key.now known }
+    ensures { IsParting K.cmp prefix.now key.now result }
+{
+    let mut n = known;
+    while n < prefix.len() && n < key.len() {
+        match prefix[n].cmp(&key[n]) {
+            Ordering::Less => return Parting::Lower(n),
+            Ordering::Equal => n += 1,
+            Ordering::Greater => return Parting::Higher(n),
+        }
+    }
+    if n < prefix.len() {
+        Parting::Inside(n)
+    } else {
+        Parting::Behind
+    }
+}

@@ -1,0 +1,189 @@
+//! The shared flavour: several trees may hold the children of one node, and a write copies those that are shared.
+
+ghost use Rattle.std.specs.Prelude.{◌≡◌, IfOk};
+ghost use Rattle.vc_tree_model.specs.Value.{IsKept};
+ghost use Rattle.vc_tree_nodes.specs.Children.{listed};
+
+use crate::children::{Parts, SharedChildren};
+use crate::reading::{RadixNode, TKey, TValue};
+use smallvec::SmallVec;
+use std::alloc::{AllocError, Global};
+use std::default::MadeWith;
+use std::marker::Model;
+use std::rc::Rc;
+
+/// A radix tree whose clone shares its children, so that a clone is a snapshot. It is seen as a tree of prefixes, values and
+/// children, always canonical.
+#[derive(Drop)]
+pub struct ArcRadixTree<K: TKey, V: TValue> {
+    prefix: SmallVec<K, 16>,
+    value: Option<V>,
+    children: Option<Rc<Vec<ArcRadixTree<K, V>>>>,
+}
+
+impl<K: TKey, V: TValue> Model for ArcRadixTree<K, V> {
+    ghost use Rattle.std.specs.Prelude.{refl};
+    ghost use Rattle.vc_tree_model.specs.Tree.{Tree, node, shared_forest, nodes};
+    ghost use Rattle.vc_tree_model.specs.TreeCode.{tree_code, shared_falls};
+    ghost use Rattle.vc_tree_model.specs.Canonical.{IsCanonical};
+
+    ghost Value = { Tree K V };
+
+    ghost coded = { tree_code K.code V.code };
+
+    ghost view = { λ a. node a.prefix.items a.value (shared_forest (λ rc. rc.value.items) a.children) };
+
+    ghost invariant = { λ a. IsCanonical K.cmp
+        (node a.prefix.items a.value (shared_forest (λ rc. rc.value.items) a.children)) };
+
+    ghost size = { nodes };
+
+    ghost size_decreases = { λ a h.
+        shared_falls (λ rc. rc.value.items) (λ o. child_size (record a { children = o })) refl (λ r. refl) a.children };
+}
+
+impl<K: TKey + MadeWith<Global>, V: TValue> ArcRadixTree<K, V> {
+    ghost use Rattle.std.specs.Prelude.{map};
+    ghost use Rattle.vc_tree_model.specs.Tree.{made, no_tree};
+    ghost use Rattle.vc_tree_model.specs.Canonical.{IsCanonical};
+    ghost use Rattle.vc_tree_nodes.specs.Children.{listed, seen};
+
+    /// The empty tree.
+    pub fn bare(alloc: Global) -> Self
+        ensures { result ≡ no_tree }
+    {
+        ArcRadixTree {
+            prefix: SmallVec::new(alloc),
+            value: None,
+            children: None,
+        }
+    }
+
+    /// The parts of the root.
+    pub fn into_parts(self) -> Parts<SmallVec<K, 16>, V, SharedChildren<ArcRadixTree<K, V>>>
+        ensures prefix { result.prefix.items ≡ self.prefix }
+        ensures value { result.value ≡ self.value }
+        ensures children { seen (λ t. t) (listed (λ held. held.shared.value.items) result.children) ≡ self.children }
+        ensures canonical { IsCanonical K.cmp self }
+    {
+        let ArcRadixTree {
+            prefix,
+            value,
+            children,
+        } = self;
+        match children {
+            Some(shared) => Parts {
+                prefix,
+                value,
+                children: Some(SharedChildren { shared }),
+            },
+            None => Parts {
+                prefix,
+                value,
+                children: None,
+            },
+        }
+    }
+
+    /// The tree of these parts.
+    pub fn from_parts(
+        prefix: SmallVec<K, 16>,
+        value: Option<V>,
+        children: Option<SharedChildren<ArcRadixTree<K, V>>>,
+    ) -> Self
+        requires { IsCanonical K.cmp
+            (made prefix.items value (map (λ t. t) (listed (λ held. held.shared.value.items) children))) }
+        ensures { result ≡ made prefix.items value (map (λ t. t) (listed (λ held. held.shared.value.items) children)) }
+    {
+        let children = match children {
+            Some(held) => some_unless_empty(held.shared),
+            None => None,
+        };
+        ArcRadixTree {
+            prefix,
+            value,
+            children,
+        }
+    }
+}
+
+/// The children, or `None` where there are none.
+fn some_unless_empty<T: Drop>(list: Rc<Vec<T>>) -> Option<Rc<Vec<T>>>
+    ensures { listed (λ rc. rc.value.items) result ≡ list.value.items }
+{
+    if list.is_empty() { None } else { Some(list) }
+}
+
+/// A clone of the value, if there is one.
+fn clone_value<V: Clone>(value: &Option<V>) -> Result<Option<V>, AllocError>
+    ensures { IfOk result (IsKept V.is_clone value.now) }
+{
+    match value {
+        Some(v) => Ok(Some(v.clone()?)),
+        None => Ok(None),
+    }
+}
+
+/// One more owner of the children, if there are some.
+fn share<T: Drop>(children: &Option<Rc<T>>) -> Result<Option<Rc<T>>, AllocError>
+    ensures { IfOk result (IsKept (λ a b. b.value ≡ a.value) children.now) }
+{
+    match children {
+        Some(shared) => Ok(Some(shared.clone()?)),
+        None => Ok(None),
+    }
+}
+
+impl<K: TKey + MadeWith<Global>, V: TValue> ArcRadixTree<K, V> {
+    ghost use Rattle.vc_tree_model.specs.Snapshot.{IsSnapshot};
+
+    /// A snapshot: a tree of its own with the same prefix, a clone of the root's value, and the very same children, which both
+    /// trees hold. A later change of either tree copies what it writes, and leaves the other as it is.
+    ///
+    /// Clones no value but the root's. Fails where memory is refused, or the value's own clone.
+    pub fn clone(&self) -> Result<Self, AllocError>
+        ensures { IfOk result (IsSnapshot V.is_clone self.now) }
+    {
+        let prefix = SmallVec::from_slice(*self.prefix.allocator(), self.prefix.as_slice())?;
+        let value = clone_value(&self.value)?;
+        let children = share(&self.children)?;
+        Ok(ArcRadixTree {
+            prefix,
+            value,
+            children,
+        })
+    }
+}
+
+impl<K: TKey + MadeWith<Global>, V: TValue> Clone for ArcRadixTree<K, V> {
+    ghost use Rattle.vc_tree_model.specs.Snapshot.{IsSnapshot};
+
+    ghost is_clone = { IsSnapshot V.is_clone };
+
+    fn clone(&self) -> Result<Self, AllocError> {
+        ArcRadixTree::clone(self)
+    }
+}
+
+impl<K: TKey, V: TValue> RadixNode<K, V> for ArcRadixTree<K, V> {
+    ghost tree = { λ t. t };
+
+    fn prefix(&self) -> &[K] {
+        self.prefix.as_slice()
+    }
+
+    fn value(&self) -> Option<&V> {
+        self.value.as_ref()
+    }
+
+    fn children(&self) -> &[Self] {
+        match &self.children {
+            None => &[],
+            Some(shared) => shared.as_ref().as_slice(),
+        }
+    }
+
+    fn allocator(&self) -> Global {
+        *self.prefix.allocator()
+    }
+}

@@ -1,9 +1,0 @@
-use Rattle.vc_trees.proofs.Binding.{ordered_binds}
-use Rattle.vc_trees.proofs.LookupLemmas.{lookup_same}
-use Rattle.vc_trees.proofs.laws.binds_is_lookup.Goals as goal
-
-pub returns-clause-agree : goal.returns-clause-agree
-returns-clause-agree g c = ordered_binds g.K.Ord.cmp g.met.K.Ord.total
-
-pub returns-clause-map : goal.returns-clause-map
-returns-clause-map g c = lookup_same g.K.Ord.cmp g.met.K.Ord.total

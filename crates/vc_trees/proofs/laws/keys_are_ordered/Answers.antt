@@ -1,5 +1,0 @@
-use Rattle.vc_trees.proofs.KeyLemmas.{keys_ordered}
-use Rattle.vc_trees.proofs.laws.keys_are_ordered.Goals as goal
-
-pub returns : goal.returns
-returns g c = keys_ordered g.K.Ord.cmp g.met.K.Ord.total
