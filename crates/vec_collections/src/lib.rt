@@ -5,6 +5,7 @@
 #![tactic(auto)]
 
 mod example;
+mod lawful;
 
 /// The engine of all operations on sorted lists: a merge of two ascending lists, event by event.
 pub mod merge {
