@@ -1,6 +1,8 @@
 pub mod BlockSteps
 pub mod BuilderTakes
+pub mod Builds
 pub mod Chains
+pub mod Digits
 pub mod Extending
 pub mod Lists
 pub mod PlacesLaid
@@ -8,9 +10,12 @@ pub mod PlacesMemory
 pub mod PlacesShared
 pub mod Runs
 pub mod Scripts
+pub mod Searching
 pub mod WalkNames
 pub mod MovesDownLemmas
+pub mod Shifting
 pub mod ClonesLemmas
+pub mod Members
 pub mod OneScript
 pub mod OneList
 pub mod Running

@@ -4,8 +4,10 @@
 pub mod inplace;
 pub mod iterators;
 pub mod laws;
+pub mod lent;
 mod linear;
 pub mod merge;
 pub mod moved;
 pub mod moving;
+pub mod search;
 pub mod states;

@@ -11,7 +11,7 @@ use std::alloc::{AllocError, Allocator};
 use std::default::MadeWith;
 
 /// Moves the `n` elements from the place `at` on down to the place `kept`. Those that lay between end up behind them.
-fn move_down<T>(list: &mut [T], kept: usize, at: usize, n: usize)
+pub(crate) fn move_down<T>(list: &mut [T], kept: usize, at: usize, n: usize)
     requires order { kept ≤ at }
     requires within { at + n ≤ length list.old }
     ensures { MovesDown list.old kept at n list.new }

@@ -11,7 +11,7 @@ use Rattle.std.specs.declared.cmp.Ordering.TheVariants.{Less, Equal}
 use Rattle.vc_merge.specs.Ascending.{Ascends, member, element_at}
 use Rattle.vc_merge.proofs.Lists.{each-weaker, each-at, ascends-append}
 use Rattle.vc_sets.specs.Place.{IsPlace}
-use Rattle.vc_sets.proofs.Members.{member-is_some, element_at-append, equal-alike, equal_from_is_eq}
+use Rattle.vc_merge.proofs.Members.{member-is_some, element_at-append, equal-alike, equal_from_is_eq}
 use Rattle.vc_sets.proofs.Searching.{none_below, place-is_ok}
 
 module _ {X : Type 0} where

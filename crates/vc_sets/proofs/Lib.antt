@@ -1,4 +1,3 @@
-pub mod Members
 pub mod Selected
 pub mod Combined
 pub mod Searching

@@ -14,7 +14,7 @@ use Rattle.vc_merge.specs.Ascending.{Ascends, member, element_at}
 use Rattle.vc_merge.specs.Yielded.{taken}
 use Rattle.vc_merge.proofs.Lists.{each-at}
 use Rattle.vc_sets.specs.Place.{IsPlace}
-use Rattle.vc_sets.proofs.Members.{member-is_some, element_at-none, equal-alike, equal_from_is_eq}
+use Rattle.vc_merge.proofs.Members.{member-is_some, element_at-none, equal-alike, equal_from_is_eq}
 use Rattle.vc_sets.proofs.Searching.{place-is_ok}
 
 -- ---- an iterator that moves the elements of a list out

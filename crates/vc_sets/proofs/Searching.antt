@@ -14,7 +14,7 @@ use Rattle.std.specs.declared.cmp.Ordering.TheVariants.{Less, Equal, Greater}
 use Rattle.vc_merge.specs.Ascending.{Ascends, member, element_at}
 use Rattle.vc_merge.proofs.Lists.{each-weaker}
 use Rattle.vc_sets.specs.Place.{IsPlace}
-use Rattle.vc_sets.proofs.Members.{member-is_some, element_at-later, element_at-none, element_at-append}
+use Rattle.vc_merge.proofs.Members.{member-is_some, element_at-later, element_at-none, element_at-append}
 
 or_true : (b : Bool) → (b || true) ≡ true
 or_true true = refl

@@ -1,8 +1,9 @@
 -- Trees that are alike: the same nodes with the very same prefixes, and values that are kept.
---     alike_trans        how trees are alike
+--     alike_trans, alike_push, alike_more        how trees are alike
 --     alike_solid, alike_children, alike_canonical, tree_alike_canonical, alike_nodes, alike_lookup, tree_alike_lookup        what two that are alike share
 --     snapshot_canonical        what a snapshot of a canonical tree is
-use Rattle.std.proofs.Common.{◌≡◌, List, [], ◌∷◌, Option, Some, None, refl, ap, ◌∙◌, arith}
+use Rattle.std.proofs.Common.{◌≡◌, ℕ, ◌+◌, ◌<◌, List, [], ◌∷◌, ◌++◌, get_or, length, map, take, Option, Some, None, refl, sym, ap, ◌∙◌, arith}
+use Rattle.std.proofs.lemmas.List.{take_more}
 use Rattle.std.specs.declared.cmp.Ordering.{Ordering}
 use Rattle.vc_tree_model.specs.Key.{behind}
 use Rattle.vc_tree_model.specs.Value.{IsKept}
@@ -30,6 +31,25 @@ module _ {K V : Type 0} (keeps : V → V → Type 0) where
     alike_trans t rest others
         others' a.3 b.3,
   )
+
+  -- one more tree behind two lists that are alike
+  pub alike_push : {S T : Type 0} (s : S → Tree K V) (t : T → Tree K V) (xs : List S) (ys : List T) (x : S) (y : T)
+      → IsAlikeIn keeps (forest (map s xs)) (forest (map t ys)) → IsAlike keeps (s x) (t y)
+      → IsAlikeIn keeps (forest (map s (xs ++ x ∷ []))) (forest (map t (ys ++ y ∷ [])))
+  alike_push s t [] [] x y a h = (h.0, h.1, h.2, tt)
+  alike_push s t [] (y' ∷ ys) x y a h = absurd a
+  alike_push s t (x' ∷ xs) [] x y a h = absurd a
+  alike_push s t (x' ∷ xs) (y' ∷ ys) x y a h = (a.0, a.1, a.2, alike_push s t xs ys x y a.3 h)
+
+  -- the trees up to a place of a list, and one more, are copied
+  pub alike_more : {S T : Type 0} (s : S → Tree K V) (t : T → Tree K V) (xs : List S) (ys zs : List T) (i : ℕ) (x : S)
+      (y : T) → i < length xs → x ≡ get_or xs i x → zs ≡ ys ++ y ∷ []
+      → IsAlikeIn keeps (forest (map s (take i xs))) (forest (map t ys)) → IsAlike keeps (s x) (t y)
+      → IsAlikeIn keeps (forest (map s (take (i + 1) xs))) (forest (map t zs))
+  alike_more s t xs ys zs i x y h e z a b =
+      let one_more : take (i + 1) xs ≡ take i xs ++ x ∷ [] =
+      take_more xs i x h ∙ ap (λ l. take i xs ++ l ∷ []) (sym e) in
+      rw (one_more, z) (alike_push s t (take i xs) ys x y a b)
 
   -- ---- what two that are alike share
 

@@ -6,7 +6,15 @@ pub mod Binding
 pub mod Mending
 pub mod AlikeLemmas
 pub mod FourConditions
+pub mod Shortening
 pub mod Smallness
 pub mod Walking
 pub mod OneWalk
 pub mod Examples
+pub mod Look
+pub mod Rows
+pub mod Joining
+pub mod UnderLemmas
+pub mod Covering
+pub mod Running
+pub mod PrefixExamples

@@ -2,6 +2,7 @@
 --     walk_ascends        its keys ascend strictly
 --     walk_bound, walk_lists        each of its pairs is bound, and each bound key is in it
 --     walk_is        both: it is the walk of the tree's map
+--     ascend_prepended, lists_prepended        a prefix before the keys of a list
 --     length-walk        it is as long as the tree has values
 use Rattle.std.proofs.Common.{◌≡◌, ◌+◌, [], ◌∷◌, ◌++◌, List, Option, None, Some, map, length, length-append, refl, sym, ap, ◌∙◌, true, inl, inr, ◌↔◌, subst, arith, append-nil}
 use Rattle.std.proofs.lemmas.List.{length-map}
@@ -133,7 +134,7 @@ module _ {K V : Type 0} where
 
     module _ (o : IsTotalOrder cmp) where
       -- keys keep their order behind one prefix
-      ascend_prepended : (p : List K) (l : List (List K × V)) → Ascend l → Ascend (map (prepended p) l)
+      pub ascend_prepended : (p : List K) (l : List (List K × V)) → Ascend l → Ascend (map (prepended p) l)
       unfolding IsStrictlySortedBy
       ascend_prepended p [] h = tt
       ascend_prepended p (b ∷ l) h = (
@@ -218,7 +219,7 @@ module _ {K V : Type 0} where
           node_bound t.prefix t.value (BindsIn cmp t.children) (walk_in t.children) (walk_in_bound t.children)
 
       -- a pair is still listed behind a prefix
-      lists_prepended : (p : List K) (l : List (List K × V)) (rest k : List K) (a : V)
+      pub lists_prepended : (p : List K) (l : List (List K × V)) (rest k : List K) (a : V)
           → same_key cmp (p ++ rest) k ≡ true → Lists cmp l rest a → Lists cmp (map (prepended p) l) k a
       lists_prepended p [] rest k a e h = absurd h
       lists_prepended p (b ∷ l) rest k a e (inl h) =

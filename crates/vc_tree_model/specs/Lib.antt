@@ -11,3 +11,12 @@ pub mod OneTree
 pub mod Walk
 pub mod Laws
 pub mod Snapshot
+pub mod Shortened
+pub mod Combine
+pub mod KeySets
+pub mod Asking
+pub mod Child
+pub mod Under
+pub mod Cover
+pub mod Machine
+pub mod PrefixLaws

@@ -1,6 +1,7 @@
 -- Copies of trees: what a clone of a tree of the shared flavour is, and that copied children are alike.
 --     IsSnapshot is_clone t c        c is a clone of t that shares its children
 --     same_copies, alike_refl, tree_alike_refl, alike_same, kept_alike        how each flavour keeps values and children: its laws
+--     clones_copied, snapshot_copied        what a clone of each flavour is: a tree that is alike, with copies of the values
 use Rattle.std.specs.Prelude.{◌≡◌, ◌⊎◌, List, [], ◌∷◌, map, Option, Some, None, refl}
 use Rattle.std.specs.List.{AllZip}
 use Rattle.std.proofs.Common.{sym, subst, inl, inr}
@@ -44,17 +45,29 @@ kept_copies is_clone None (Some w) h = absurd h
 kept_copies is_clone (Some v) None h = absurd h
 
 module _ {K V : Type 0} (is_clone : V → V → Type 0) where
+  -- clones of the values of a list of trees are copies
+  copies_alike_in : (f g : Forest K V) → IsAlikeIn is_clone f g → IsAlikeIn (Copies is_clone) f g
+  copies_alike_in bare bare h = tt
+  copies_alike_in bare (grow q w more others) h = absurd h
+  copies_alike_in (grow p v kids rest) bare h = absurd h
+  copies_alike_in (grow p v kids rest) (grow q w more others) h =
+      (h.0, kept_copies is_clone v w h.1, copies_alike_in kids more h.2, copies_alike_in rest others h.3)
+
+  -- and of a tree
+  pub clones_copied : (t c : Tree K V) → IsAlike is_clone t c → IsAlike (Copies is_clone) t c
+  clones_copied t c h = (h.0, kept_copies is_clone t.value c.value h.1, copies_alike_in t.children c.children h.2)
+
+  -- a snapshot of a tree is a copy of it
+  pub snapshot_copied : (t c : Tree K V) → IsSnapshot is_clone t c → IsAlike (Copies is_clone) t c
+  snapshot_copied t c h =
+      (sym h.0, kept_copies is_clone t.value c.value h.1, rw h.2 (alike_refl (Copies is_clone) (λ v. itself) t.children))
+
   -- snapshots of trees are alike to them
   snapshots_alike : (xs ys : List (Tree K V)) → AllZip (IsSnapshot is_clone) xs ys
       → IsAlikeIn (Copies is_clone) (forest (map (λ t. t) xs)) (forest (map (λ t. t) ys))
   snapshots_alike [] [] h = tt
-  snapshots_alike (x ∷ xs) (y ∷ ys) h = (
-    sym h.0.0,
-    kept_copies is_clone x.value y.value h.0.1,
-    rw h.0.2
-        (alike_refl (Copies is_clone) (λ v. itself) x.children),
-    snapshots_alike xs ys h.1,
-  )
+  snapshots_alike (x ∷ xs) (y ∷ ys) h =
+      let c = snapshot_copied x y h.0 in (c.0, c.1, c.2, snapshots_alike xs ys h.1)
   snapshots_alike [] (y ∷ ys) h = absurd h
   snapshots_alike (x ∷ xs) [] h = absurd h
 

@@ -6,6 +6,7 @@
 ghost use Rattle.std.specs.Prelude.{IsTrue};
 ghost use Rattle.vc_tree_model.specs.Value.{Copies};
 ghost use Rattle.vc_tree_model.specs.Laws.{KeysAreOrdered, LeftBehindIsRest, BindsIsLookup, LookupIsMap, CanonicalIsConditions, CanonicalIsUnique, CanonicalIsSmallest, WalkListsMap, WalkIsOne, KeyCountIsLength};
+ghost use Rattle.vc_tree_model.specs.PrefixLaws.{WalkUnder, WalkPrefixed, WalkIsFiltered, CoverIsLongest, RemovalAndRetentionPart, RunIsFunction};
 
 /// When a value of one tree stands for a value of another: any relation will do.
 pub trait Matching<V> {
@@ -68,4 +69,34 @@ pub fn walk_is_one<K: Ord, V>()
     ensures lists { WalkListsMap K V K.cmp }
     ensures one { WalkIsOne K V K.cmp }
     ensures count { KeyCountIsLength K V K.cmp }
+{}
+
+/// The walk of the pairs under a prefix is the walk of all pairs, without the keys that do not start with the prefix. The walk of
+/// the pairs with a prefix before their keys is the walk of all, with the prefix before each key.
+pub fn walks_by_prefix<K: Ord, V>()
+    ensures under { WalkUnder K V K.cmp }
+    ensures prefixed { WalkPrefixed K V K.cmp }
+{}
+
+/// A walk of the pairs under a prefix, as `scan_prefix` makes it, lists what a tree of these pairs binds, as `filter_prefix`
+/// makes it, and nothing else.
+pub fn walk_is_filtered<K: Ord, V, M: Matching<V>>()
+    ensures { WalkIsFiltered K V K.cmp M.matches }
+{}
+
+/// The cover of a key by a tree is the value of the longest key of the tree that is a prefix of it, and none where there is no
+/// such key.
+pub fn cover_is_longest<K: Ord, W>()
+    ensures { CoverIsLongest K W K.cmp }
+{}
+
+/// With one tree of prefixes, and a test that gives one answer for each of its values, each pair of a map is removed or
+/// retained, and never both.
+pub fn removal_and_retention_part<K, V, W, M: Matching<V>>()
+    ensures { RemovalAndRetentionPart K V W M.matches }
+{}
+
+/// The steps of the machine are functions of maps: from equal maps a list of commands, accepted alike, leads to equal maps.
+pub fn run_is_function<K: Ord, V, M: Matching<V>>()
+    ensures { RunIsFunction K V K.cmp M.matches }
 {}

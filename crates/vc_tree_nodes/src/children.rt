@@ -1,6 +1,6 @@
 //! What a node is made of, in each flavour: its prefix and its children.
 
-ghost use Rattle.std.specs.Prelude.{◌≡◌, ◌⊎◌, List, IfOk, IfErr};
+ghost use Rattle.std.specs.Prelude.{◌≡◌, ◌++◌, ◌⊎◌, List, IfOk, IfErr};
 ghost use Rattle.std.specs.Borrow.{sem};
 ghost use Rattle.std.specs.List.{AllZip};
 ghost use Rattle.vc_tree_nodes.specs.Children.{LendsChildren};
@@ -21,6 +21,10 @@ pub trait Fragment<K>: Sized + Drop {
     /// A copy of the components.
     fn from_slice(alloc: Global, slice: &[K]) -> Result<Self, AllocError>
         ensures { IfOk result (λ made. items made ≡ slice.now) };
+
+    /// A copy of both slices, one behind the other, by one request for memory at most.
+    fn joined(alloc: Global, front: &[K], back: &[K]) -> Result<Self, AllocError>
+        ensures { IfOk result (λ made. items made ≡ front.now ++ back.now) };
 }
 
 impl<K: Copy + MadeWith<Global>> Fragment<K> for SmallVec<K, 16> {
@@ -32,6 +36,13 @@ impl<K: Copy + MadeWith<Global>> Fragment<K> for SmallVec<K, 16> {
 
     fn from_slice(alloc: Global, slice: &[K]) -> Result<SmallVec<K, 16>, AllocError> {
         SmallVec::from_slice(alloc, slice)
+    }
+
+    fn joined(alloc: Global, front: &[K], back: &[K]) -> Result<SmallVec<K, 16>, AllocError> {
+        let mut whole = SmallVec::with_capacity(alloc, front.len().saturating_add(back.len()))?;
+        whole.extend_from_slice(front)?;
+        whole.extend_from_slice(back)?;
+        Ok(whole)
     }
 }
 

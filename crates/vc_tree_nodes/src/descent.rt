@@ -23,10 +23,7 @@ fn rest_behind<'k, K: Ord>(prefix: &[K], key: &'k [K], known: usize) -> Option<&
 }
 
 /// The value that the tree binds the key to.
-pub fn get<'a, K: TKey, V: TValue, T: RadixNode<K, V>>(
-    tree: &'a T,
-    key: &[K],
-) -> Option<&'a V>
+pub fn get<'a, K: TKey, V: TValue, T: RadixNode<K, V>>(tree: &'a T, key: &[K]) -> Option<&'a V>
     ensures { option_copied result ≡ lookup K.cmp (T.tree tree.now) key.now }
 {
     let mut node = tree;

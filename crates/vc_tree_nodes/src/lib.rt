@@ -4,8 +4,10 @@
 
 pub mod building;
 pub mod children;
+pub mod copying;
 pub mod descent;
 pub mod insertion;
+pub mod making;
 pub mod parting;
 pub mod places;
 pub mod plain;

@@ -9,7 +9,8 @@ ghost use Rattle.vc_tree_model.specs.Same.{IsAlike};
 use crate::radix_tree::reading::AbstractRadixTree;
 use std::alloc::{AllocError, Global};
 use std::default::MadeWith;
-use vc_tree_nodes::building::{Build, Seal};
+use vc_tree_nodes::building::Seal;
+use vc_tree_nodes::copying::CloneTree;
 use vc_tree_nodes::insertion;
 use vc_tree_nodes::plain::RadixTree;
 use vc_tree_nodes::reading::{TKey, TValue};
@@ -20,7 +21,7 @@ use vc_tree_nodes::shared::ArcRadixTree;
 /// A clause says by `keeps` how a value that a call leaves in place is kept. In a [`RadixTree`] it is the old value itself. In
 /// an [`ArcRadixTree`] it is the old value, or a clone of it over any number of clones, since shared children are copied before
 /// they are written.
-pub trait AbstractRadixTreeMut<K: TKey, V: TValue>: Build<K, V> + AbstractRadixTree<K, V> {
+pub trait AbstractRadixTreeMut<K: TKey, V: TValue>: CloneTree<K, V> + AbstractRadixTree<K, V> {
     /// The empty tree. Takes no memory.
     final fn empty(alloc: Global) -> Self
         ensures { Self.tree result ≡ no_tree }

@@ -1,0 +1,213 @@
+//! Times the sets and trees of the static library `bench_loops` beside std's collections and hand-written merges of sorted lists.
+//!
+//! Each row prints the median of several runs, in nanoseconds an operation. Before a row is timed all sides must agree on a sum of
+//! lengths or finds.
+
+mod data;
+mod lists;
+
+use data::{Keys, Numbers};
+use std::collections::{BTreeMap, BTreeSet};
+use std::hint::black_box;
+use std::time::Instant;
+
+unsafe extern "C" {
+    fn bench_numbers(row: u64, left: *const u64, left_len: usize, m: usize, right: *const u64, right_len: usize, n: usize, rounds: u64) -> u64;
+    fn bench_words(row: u64, left: *const u8, left_len: usize, left_ends: *const usize, left_count: usize, right: *const u8, right_len: usize, right_ends: *const usize, right_count: usize, rounds: u64) -> u64;
+    fn bench_plain_tree(row: u64, bytes: *const u8, len: usize, ends: *const usize, count: usize, asked: *const u8, asked_len: usize, asked_ends: *const usize, asked_count: usize, rounds: u64) -> u64;
+    fn bench_shared_tree(row: u64, bytes: *const u8, len: usize, ends: *const usize, count: usize, asked: *const u8, asked_len: usize, asked_ends: *const usize, asked_count: usize, rounds: u64) -> u64;
+}
+
+/// What a row of sets does: its name, its number in the library, and whether one operation is a look-up or an insert of one element.
+struct SetRow {
+    name: &'static str,
+    number: u64,
+    one_by_one: bool,
+}
+
+const SET_ROWS: [SetRow; 11] = [
+    SetRow { name: "union", number: 0, one_by_one: false },
+    SetRow { name: "intersection", number: 1, one_by_one: false },
+    SetRow { name: "difference", number: 2, one_by_one: false },
+    SetRow { name: "symmetric difference", number: 3, one_by_one: false },
+    SetRow { name: "clone, union in place", number: 4, one_by_one: false },
+    SetRow { name: "clone, intersection in place", number: 5, one_by_one: false },
+    SetRow { name: "clone", number: 6, one_by_one: false },
+    SetRow { name: "subset", number: 7, one_by_one: false },
+    SetRow { name: "disjoint", number: 8, one_by_one: false },
+    SetRow { name: "contains", number: 9, one_by_one: true },
+    SetRow { name: "insert, greatest first", number: 10, one_by_one: true },
+];
+
+const SIZES: [(usize, usize); 8] = [(4, 4), (8, 8), (64, 64), (1000, 1000), (100_000, 100_000), (1, 1000), (1000, 1), (10, 100_000)];
+
+fn main() {
+    let only = std::env::args().nth(1).unwrap_or_default();
+    println!("| row | elements | sizes | this library | BTreeSet | sorted `Vec` by hand |");
+    println!("|---|---|---|---|---|---|");
+    for (m, n) in SIZES {
+        let numbers = Numbers::new(m, n);
+        let words = (m * n <= 1_000_000).then(|| (Keys::words(&numbers.left[..m]), Keys::words(&numbers.right[..n])));
+        for row in SET_ROWS.iter().filter(|row| row.name.contains(&only)) {
+            if row.number == 10 && n > 10_000 {
+                continue;
+            }
+            time_numbers(row, &numbers);
+            if let Some((left, right)) = &words {
+                time_words(row, left, right);
+            }
+        }
+    }
+    println!();
+    println!("| row | keys | plain tree | shared tree | BTreeMap of `Vec` |");
+    println!("|---|---|---|---|---|");
+    for count in [100, 10_000] {
+        time_trees(&only, &Keys::paths(count));
+    }
+}
+
+/// A row over sets of numbers, on several pairs of sets in turn.
+fn time_numbers(row: &SetRow, data: &Numbers) {
+    let operations = data.pairs() * if row.one_by_one { data.n } else { 1 };
+    let ours = |rounds: u64| unsafe {
+        bench_numbers(row.number, data.left.as_ptr(), data.left.len(), data.m, data.right.as_ptr(), data.right.len(), data.n, rounds)
+    };
+    let trees: Vec<(BTreeSet<u64>, BTreeSet<u64>)> = data.cut().map(|(a, b)| (a.iter().copied().collect(), b.iter().copied().collect())).collect();
+    let std_set = |rounds: u64| repeat(rounds, || trees.iter().map(|(a, b)| by_btree(row.number, a, b)).sum());
+    let by_hand = |rounds: u64| repeat(rounds, || data.cut().map(|(a, b)| lists::work(row.number, a, b)).sum());
+    print_sets(row, "u64", (data.m, data.n), operations, [&ours, &std_set, &by_hand]);
+}
+
+/// A row over one pair of sets of words.
+fn time_words(row: &SetRow, left: &Keys, right: &Keys) {
+    let operations = if row.one_by_one { right.ends.len() } else { 1 };
+    let ours = |rounds: u64| unsafe {
+        bench_words(row.number, left.bytes.as_ptr(), left.bytes.len(), left.ends.as_ptr(), left.ends.len(), right.bytes.as_ptr(), right.bytes.len(), right.ends.as_ptr(), right.ends.len(), rounds)
+    };
+    let (a, b) = (left.texts(), right.texts());
+    let trees: (BTreeSet<String>, BTreeSet<String>) = (a.iter().cloned().collect(), b.iter().cloned().collect());
+    let std_set = |rounds: u64| repeat(rounds, || by_btree(row.number, &trees.0, &trees.1));
+    let by_hand = |rounds: u64| repeat(rounds, || lists::work(row.number, &a, &b));
+    print_sets(row, "String", (a.len(), b.len()), operations, [&ours, &std_set, &by_hand]);
+}
+
+/// The work of a row on two sets of std's.
+fn by_btree<T: Ord + Clone>(row: u64, a: &BTreeSet<T>, b: &BTreeSet<T>) -> u64 {
+    let length = |set: BTreeSet<T>| black_box(set).len() as u64;
+    match row {
+        0 => length(a.union(b).cloned().collect()),
+        1 => length(a.intersection(b).cloned().collect()),
+        2 => length(a.difference(b).cloned().collect()),
+        3 => length(a.symmetric_difference(b).cloned().collect()),
+        4 => {
+            let mut copy = a.clone();
+            copy.extend(b.iter().cloned());
+            length(copy)
+        }
+        5 => {
+            let mut copy = a.clone();
+            copy.retain(|x| b.contains(x));
+            length(copy)
+        }
+        6 => length(a.clone()),
+        7 => u64::from(a.is_subset(b)),
+        8 => u64::from(a.is_disjoint(b)),
+        9 => b.iter().filter(|x| a.contains(x)).count() as u64,
+        _ => length(b.iter().rev().cloned().fold(BTreeSet::new(), |mut set, x| {
+            set.insert(x);
+            set
+        })),
+    }
+}
+
+fn print_sets(row: &SetRow, elements: &str, (m, n): (usize, usize), operations: usize, sides: [&dyn Fn(u64) -> u64; 3]) {
+    let [ours, std_set, by_hand] = times(operations, sides);
+    println!("| {} | {elements} | {m}, {n} | {} | {} | {} |", row.name, shown(ours), shown(std_set), shown(by_hand));
+}
+
+/// The rows over trees of path-like keys.
+fn time_trees(only: &str, keys: &Keys) {
+    let map: BTreeMap<Vec<u8>, u64> = keys.list().zip(0..).collect();
+    let list: Vec<Vec<u8>> = keys.list().collect();
+    for (name, number, operations) in [("build", 0, list.len()), ("get", 1, list.len()), ("snapshot and insert", 2, 1)] {
+        if !name.contains(only) {
+            continue;
+        }
+        let call = |export: unsafe extern "C" fn(u64, *const u8, usize, *const usize, usize, *const u8, usize, *const usize, usize, u64) -> u64, rounds: u64| unsafe {
+            export(number, keys.bytes.as_ptr(), keys.bytes.len(), keys.ends.as_ptr(), keys.ends.len(), keys.bytes.as_ptr(), keys.bytes.len(), keys.ends.as_ptr(), keys.ends.len(), rounds)
+        };
+        let plain = |rounds: u64| call(bench_plain_tree, rounds);
+        let shared = |rounds: u64| call(bench_shared_tree, rounds);
+        let std_map = |rounds: u64| {
+            repeat(rounds, || match number {
+                0 => {
+                    let built: BTreeMap<Vec<u8>, u64> = list.iter().cloned().zip(0..).collect();
+                    built.get(&list[0]).copied().unwrap_or(0)
+                }
+                1 => list.iter().filter_map(|key| map.get(key)).map(|number| number + 1).sum(),
+                _ => {
+                    let mut copy = map.clone();
+                    copy.insert(list[0].clone(), 7);
+                    black_box(copy);
+                    1
+                }
+            })
+        };
+        if number == 2 {
+            let [shared, std_map] = times(operations, [&shared, &std_map]);
+            println!("| {name} | {} | - | {} | {} |", list.len(), shown(shared), shown(std_map));
+        } else {
+            let [plain, shared, std_map] = times(operations, [&plain, &shared, &std_map]);
+            println!("| {name} | {} | {} | {} | {} |", list.len(), shown(plain), shown(shared), shown(std_map));
+        }
+    }
+}
+
+/// Does the work `rounds` times, and adds up what it answers.
+fn repeat(rounds: u64, work: impl Fn() -> u64) -> u64 {
+    (0..rounds).fold(0, |sum, _| sum.wrapping_add(black_box(work())))
+}
+
+/// The nanoseconds an operation on each side, after all sides agreed on one round.
+fn times<const SIDES: usize>(operations: usize, sides: [&dyn Fn(u64) -> u64; SIDES]) -> [f64; SIDES] {
+    let answers = sides.map(|side| side(1));
+    assert!(answers.iter().all(|answer| *answer == answers[0]), "the sides disagree: {answers:?}");
+    let rounds = rounds_for(sides[0]);
+    let mut samples = [(); SIDES].map(|()| Vec::new());
+    for _ in 0..9 {
+        for (side, samples) in sides.iter().zip(&mut samples) {
+            // What is built before the first round is taken off.
+            let nothing = seconds(|| side(0));
+            samples.push((seconds(|| side(rounds)) - nothing).max(0.0));
+        }
+    }
+    samples.map(|mut samples| {
+        samples.sort_by(f64::total_cmp);
+        samples[samples.len() / 2] * 1e9 / rounds as f64 / operations as f64
+    })
+}
+
+/// As many rounds as take about ten milliseconds.
+fn rounds_for(side: &dyn Fn(u64) -> u64) -> u64 {
+    let mut rounds = 1;
+    while seconds(|| side(rounds)) < 0.01 && rounds < 1 << 24 {
+        rounds *= 2;
+    }
+    rounds
+}
+
+fn seconds(work: impl FnOnce() -> u64) -> f64 {
+    let start = Instant::now();
+    black_box(work());
+    start.elapsed().as_secs_f64()
+}
+
+/// Three digits.
+fn shown(nanoseconds: f64) -> String {
+    match nanoseconds {
+        t if t < 100.0 => format!("{t:.1} ns"),
+        t if t < 10_000.0 => format!("{t:.0} ns"),
+        t if t < 10_000_000.0 => format!("{:.1} µs", t / 1e3),
+        t => format!("{:.1} ms", t / 1e6),
+    }
+}

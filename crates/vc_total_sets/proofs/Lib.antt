@@ -1,0 +1,3 @@
+mod Formulas
+mod Tested
+mod OneTotal

@@ -1,0 +1,5 @@
+pub mod TotalSet
+pub mod TotalOf
+pub mod TotalTests
+pub mod Cases
+pub mod Laws

@@ -1,0 +1,227 @@
+//! `TotalVecSet`, a set that is an ascending list, or all that is not in it.
+ghost use Rattle.std.specs.Prelude.{◌≡◌, ◌<◌, ◌||◌, ◌&&◌, ◌↔◌, false, true, [], not, cond, List, Some, None, length, IfOk, IsOk, OnErr, OnOk, IsTrue, IsFalse, IsSomeAnd, MatchBool};
+ghost use Rattle.std.specs.Ordering.{eq_by_cmp};
+ghost use Rattle.vc_merge.specs.Ascending.{member, element_at};
+ghost use Rattle.vc_sets.specs.SetOf.{ClonesAreEqual, and_not};
+ghost use Rattle.vc_total_sets.specs.TotalSet.{total, complement, has, IsClonedTotal};
+
+mod algebra;
+mod cases;
+mod comparisons;
+mod in_place;
+
+use std::alloc::{AllocError, Allocator, Global};
+use std::default::MadeWith;
+use std::marker::Model;
+use std::ops::Not;
+use vc_sets::vec_set::{AbstractVecSet, VecSet};
+
+/// A set that is a list of elements or, where it is negated, all values that are not in the list.
+///
+/// Contracts see it as that list, in ascending order, and the flag. Two sets are equal where both are: over `bool`, the list of `false`
+/// and `true` has the same members as the negated empty list, and is not equal to it.
+///
+/// ```
+/// let mut open: TotalVecSet<u16, 2> = TotalVecSet::all(alloc);
+/// open.remove(&22)?;
+/// assert!(open.contains(&80) && !open.contains(&22));
+/// ```
+#[derive(Drop)]
+pub struct TotalVecSet<T: Ord, const N: usize, A: Allocator = Global> {
+    elements: VecSet<T, N, A>,
+    negated: bool,
+}
+
+/// A total set with room for two elements in place.
+pub type TotalVecSet2<T> = TotalVecSet<T, 2>;
+
+impl<T: Ord, const N: usize, A: Allocator> Model for TotalVecSet<T, N, A> {
+    ghost use Rattle.vc_total_sets.specs.TotalSet.{TotalSet, total, total_code};
+
+    ghost Value = { TotalSet T };
+
+    ghost coded = { total_code T.code };
+
+    ghost view = { λ s. total s.elements s.negated };
+}
+
+impl<T: Ord, const N: usize, A: Allocator> TotalVecSet<T, N, A> {
+    /// The list of what is in the set or, where it is negated, of what is not. Takes no memory.
+    pub fn elements(&self) -> &VecSet<T, N, A>
+        ensures { result.now ≡ self.now.elements }
+    {
+        &self.elements
+    }
+
+    /// Whether the set is what is not in the list. Takes no memory.
+    pub fn is_negated(&self) -> bool
+        ensures { result ≡ self.now.negated }
+    {
+        self.negated
+    }
+
+    /// Whether this is the empty list, not negated. Takes no memory.
+    pub fn is_empty(&self) -> bool
+        ensures { IsTrue result ↔ (self.now ≡ total [] false) }
+    {
+        !self.negated && self.elements.is_empty()
+    }
+
+    /// Whether this is the empty list, negated. Takes no memory.
+    pub fn is_all(&self) -> bool
+        ensures { IsTrue result ↔ (self.now ≡ total [] true) }
+    {
+        self.elements.is_empty() && self.negated
+    }
+
+    /// Whether `value` is in the set. Searches the list by halving, and takes no memory.
+    pub fn contains(&self, value: &T) -> bool
+        ensures { result ≡ has T.cmp self.now value.now }
+    {
+        self.negated ^ self.elements.contains(value)
+    }
+}
+
+impl<T: Ord + MadeWith<A> + Drop, const N: usize, A: Allocator + Copy> TotalVecSet<T, N, A> {
+    /// The set of all values if `value`, and else that of none. Takes no memory.
+    pub fn constant(alloc: A, value: bool) -> Self
+        ensures { result ≡ total [] value }
+    {
+        TotalVecSet {
+            elements: VecSet::empty(alloc),
+            negated: value,
+        }
+    }
+
+    /// The set of no value. Takes no memory.
+    pub fn empty(alloc: A) -> Self
+        ensures { result ≡ total [] false }
+    {
+        Self::constant(alloc, false)
+    }
+
+    /// The set of all values. Takes no memory.
+    pub fn all(alloc: A) -> Self
+        ensures { result ≡ total [] true }
+    {
+        Self::constant(alloc, true)
+    }
+
+    /// Puts a value in. Into a list that is not negated it goes in the place of an equal element if there is one; from one that is
+    /// negated an equal element is taken out.
+    ///
+    /// Searches the list by halving, and moves the elements behind. It takes memory only for a new element of a list that is not negated,
+    /// where `N` or more are held; refused, it leaves the set as it was and drops the value.
+    pub fn insert(&mut self, that: T) -> Result<(), AllocError>
+        ensures negated { self.new.negated ≡ self.old.negated }
+        ensures has { OnOk result ((x : T) → has T.cmp self.new x ≡ (eq_by_cmp T.cmp that x || has T.cmp self.old x)) }
+        ensures kept { OnOk result ((x : T) → element_at T.cmp self.new.elements x ≡ cond (eq_by_cmp T.cmp that x) (cond self.old.negated None (Some that)) (element_at T.cmp self.old.elements x)) }
+
+        // It succeeds where the list is negated, has an equal element, or has fewer than `N`.
+        ensures excluded { IsTrue self.old.negated → IsOk result }
+        ensures known { IsTrue (member T.cmp self.old.elements that) → IsOk result }
+        ensures room { length self.old.elements < N → IsOk result }
+        ensures err { OnErr result (self.new ≡ self.old) }
+    {
+        if self.negated {
+            self.elements.remove(&that);
+        } else {
+            self.elements.insert(that)?;
+        }
+        Ok(())
+    }
+
+    /// Gives back memory that the list does not need. A refusal leaves the list where it is, so the call succeeds always.
+    pub fn shrink_to_fit(&mut self) -> Result<(), AllocError>
+        ensures same { self.new ≡ self.old }
+        ensures succeeds { IsOk result }
+    {
+        self.elements.shrink_to_fit()
+    }
+}
+
+impl<T: Ord + Clone + MadeWith<A> + Drop, const N: usize, A: Allocator + Copy> TotalVecSet<
+    T,
+    N,
+    A,
+> {
+    /// Takes a value out. From a list that is not negated an equal element is taken; into one that is negated a clone of the value goes, in
+    /// the place of an equal element if there is one.
+    ///
+    /// Searches the list by halving, and moves the elements behind. It can be refused only where the list is negated, at the clone or
+    /// at the memory for a new element; refused, it leaves the set as it was.
+    pub fn remove(&mut self, that: &T) -> Result<(), AllocError>
+        requires clones { ClonesAreEqual T.cmp T.is_clone }
+        ensures negated { self.new.negated ≡ self.old.negated }
+        ensures has { OnOk result ((x : T) → has T.cmp self.new x ≡ and_not (has T.cmp self.old x) (eq_by_cmp T.cmp that.now x)) }
+        ensures kept { OnOk result ((x : T) → MatchBool (eq_by_cmp T.cmp that.now x)
+            (MatchBool self.old.negated (IsSomeAnd (element_at T.cmp self.new.elements x) (T.is_clone that.now)) (element_at T.cmp self.new.elements x ≡ None))
+            (element_at T.cmp self.new.elements x ≡ element_at T.cmp self.old.elements x)) }
+        ensures listed { IsFalse self.old.negated → IsOk result }
+        ensures err { OnErr result (self.new ≡ self.old) }
+    {
+        if self.negated {
+            self.elements.insert(that.clone()?)?;
+        } else {
+            self.elements.remove(that);
+        }
+        Ok(())
+    }
+}
+
+impl<T: Ord + Clone + MadeWith<A>, const N: usize, A: Allocator + Copy> TotalVecSet<T, N, A> {
+    /// A copy, element by element, with the allocator of this set.
+    ///
+    /// Takes memory where there are more than `N` elements, and as their clones do; refused, it drops what was copied.
+    pub fn clone(&self) -> Result<Self, AllocError>
+        requires clones { ClonesAreEqual T.cmp T.is_clone }
+        ensures { IfOk result (IsClonedTotal T.is_clone self.now) }
+    {
+        Ok(TotalVecSet {
+            elements: self.elements.clone()?,
+            negated: self.negated,
+        })
+    }
+}
+
+/// The set of the elements. Takes no memory.
+impl<T: Ord, const N: usize, A: Allocator> From<VecSet<T, N, A>> for TotalVecSet<T, N, A> {
+    ghost from_gives = { λ elements s. s ≡ total elements false };
+
+    fn from(elements: VecSet<T, N, A>) -> TotalVecSet<T, N, A> {
+        TotalVecSet {
+            elements,
+            negated: false,
+        }
+    }
+}
+
+/// `!a` is all that is not in `a`: the same list, moved, and the other flag. Takes no memory.
+impl<T: Ord, const N: usize, A: Allocator> Not for TotalVecSet<T, N, A> {
+    type Output = TotalVecSet<T, N, A>;
+
+    ghost not_gives = { λ s r. r ≡ complement s };
+
+    fn not(self) -> TotalVecSet<T, N, A> {
+        TotalVecSet {
+            elements: self.elements,
+            negated: !self.negated,
+        }
+    }
+}
+
+/// `!&a` is all that is not in `a`: a clone of the list, and the other flag.
+///
+/// It takes memory as [`clone`](TotalVecSet::clone) does; refused, it drops what was copied.
+impl<'a, T: Ord + Clone + MadeWith<A>, const N: usize, A: Allocator + Copy> Not
+    for &'a TotalVecSet<T, N, A> {
+    type Output = Result<TotalVecSet<T, N, A>, AllocError>;
+
+    ghost can_not = { λ _. ClonesAreEqual T.cmp T.is_clone };
+
+    ghost not_gives = { λ s r. IfOk r (IsClonedTotal T.is_clone (complement s.now)) };
+
+    fn not(self) -> Result<TotalVecSet<T, N, A>, AllocError> {
+        Ok(!self.clone()?)
+    }
+}

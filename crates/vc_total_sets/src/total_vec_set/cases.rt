@@ -1,0 +1,67 @@
+//! The table of cases: what an operation of two total sets comes to on their lists.
+use ListOp::{Difference, Intersection, ReversedDifference, SymmetricDifference, Union};
+use TotalOp::{And, Minus, Or, Xor};
+
+/// An operation of two total sets.
+#[derive(Clone, Copy)]
+pub enum TotalOp {
+    /// What is in both.
+    And,
+    /// What is in either.
+    Or,
+    /// What is in exactly one.
+    Xor,
+    /// What is in the left one and not in the right one.
+    Minus,
+}
+
+/// An operation of their two lists.
+#[derive(Clone, Copy)]
+pub enum ListOp {
+    /// What stands in either list.
+    Union,
+    /// What stands in both.
+    Intersection,
+    /// What stands in exactly one.
+    SymmetricDifference,
+    /// What stands in the left one and not in the right one.
+    Difference,
+    /// What stands in the right one and not in the left one.
+    ReversedDifference,
+}
+
+/// What an operation comes to: the operation of the lists, and whether the result is negated.
+#[derive(Clone, Copy)]
+pub struct Case {
+    /// What is done to the lists.
+    pub op: ListOp,
+    /// The flag of the result.
+    pub negated: bool,
+}
+
+impl TotalOp {
+    ghost use Rattle.vc_total_sets.specs.Cases.{said_by, IsCase};
+
+    /// What the operation comes to, by the flags of the left set and of the right one.
+    #[inline]
+    pub fn case(self, left_negated: bool, right_negated: bool) -> Case
+        ensures { IsCase (said_by self) left_negated right_negated result }
+    {
+        let (op, negated) = match (self, left_negated, right_negated) {
+            (And, false, false) => (Intersection, false),
+            (And, false, true) => (Difference, false),
+            (And, true, false) => (ReversedDifference, false),
+            (And, true, true) => (Union, true),
+            (Or, false, false) => (Union, false),
+            (Or, false, true) => (ReversedDifference, true),
+            (Or, true, false) => (Difference, true),
+            (Or, true, true) => (Intersection, true),
+            (Xor, _, _) => (SymmetricDifference, left_negated != right_negated),
+            (Minus, false, false) => (Difference, false),
+            (Minus, false, true) => (Intersection, false),
+            (Minus, true, false) => (Union, true),
+            (Minus, true, true) => (ReversedDifference, false),
+        };
+        Case { op, negated }
+    }
+}

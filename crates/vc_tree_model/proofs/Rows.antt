@@ -1,0 +1,155 @@
+-- Children that are made place by place: they are canonical, and they are what the combine says of the children on either side.
+--     rows_children        what is made is canonical children
+--     rows_combined        and it is what the combine says of both sides
+use Rattle.std.proofs.Common.{◌≡◌, [], ◌∷◌, List, Option, None, Some, refl, sym, ap, ◌∙◌, true, false, Bool}
+use Rattle.std.specs.Cmp.{IsTotalOrder, Equal-is, alike_right}
+use Rattle.std.specs.List.{AllByRecursion, filter_map, cons_option}
+use Rattle.std.specs.Ordering.{is_eq, ordering_reverse}
+use Rattle.std.specs.declared.cmp.Ordering.{Ordering}
+use Rattle.std.specs.declared.cmp.Ordering.TheVariants.{Less, Equal}
+use Rattle.vc_tree_model.specs.Tree.{Tree, Forest, bare, grow, forest, node}
+use Rattle.vc_tree_model.specs.Map.{lookup_in}
+use Rattle.vc_tree_model.specs.Canonical.{AllAbove, AreChildren, IsSolid}
+use Rattle.vc_tree_model.specs.Child.{Begins, BeginsWith, IsChild}
+use Rattle.vc_tree_model.proofs.LookupLemmas.{above_equal}
+use Rattle.vc_tree_model.proofs.Look.{Look, Row, look, values, AscendBy, IsRow, IsCombinedIn}
+
+-- the trees of one side
+abbrev pub side : {X K V : Type 0} → (X → Option (Tree K V)) → List X → Forest K V
+side f rs = forest (filter_map f rs)
+
+module _ {K : Type 0} (cmp : K → K → Ordering) (o : IsTotalOrder cmp) where
+  -- ---- a tree before a list of trees
+
+  -- what is above y does not equal x, which equals y
+  above_not : (y z x : K) → cmp y z ≡ Less → cmp y x ≡ Equal → is_eq (cmp z x) ≡ false
+  above_not y z x l e = ap is_eq (o.antisymm z x ∙ ap ordering_reverse (sym (o.congr y x z e) ∙ l))
+
+  module _ {V O : Type 0} (l : Look cmp V O) where
+    -- trees above y say nothing of a key that begins as y
+    none_above : (y x : K) (q : List K) → cmp y x ≡ Equal → (f : Forest K V) → AllAbove cmp y f
+        → l.of_forest f (x ∷ q) ≡ l.none
+    none_above y x q e bare a = l.in_bare x q
+    none_above y x q e (grow [] v kids rest) a = absurd a
+    none_above y x q e (grow (z ∷ p) v kids rest) a =
+        l.skips p v kids rest z x q (above_not y z x a.0 e) ∙ none_above y x q e rest a.1
+
+    skip_tree : (p : List K) (v : Option V) (kids rest : Forest K V) (y x : K) (q : List K) → Begins cmp y p
+        → is_eq (cmp y x) ≡ false → l.of_forest (grow p v kids rest) (x ∷ q) ≡ l.of_forest rest (x ∷ q)
+    skip_tree [] v kids rest y x q b e = absurd b
+    skip_tree (z ∷ p) v kids rest y x q b e = l.skips p v kids rest z x q (ap is_eq (sym (o.congr y z x b)) ∙ e)
+
+    take_tree : (p : List K) (v : Option V) (kids rest : Forest K V) (y x : K) (q : List K) → Begins cmp y p
+        → cmp y x ≡ Equal → l.of_forest rest (x ∷ q) ≡ l.none
+        → l.of_forest (grow p v kids rest) (x ∷ q) ≡ l.of_tree (node p v kids) (x ∷ q)
+    take_tree [] v kids rest y x q b e n = absurd b
+    take_tree (z ∷ p) v kids rest y x q b e n = l.takes p v kids rest z x q (sym (o.congr y z x b) ∙ e) n
+
+    -- beside a tree that begins with another component, the others alone are asked
+    skip_one : (t : Option (Tree K V)) (ts : List (Tree K V)) (y x : K) (q : List K) → BeginsWith cmp y t
+        → is_eq (cmp y x) ≡ false
+        → l.of_forest (forest (cons_option t ts)) (x ∷ q) ≡ l.of_forest (forest ts) (x ∷ q)
+    skip_one None ts y x q b e = refl
+    skip_one (Some t) ts y x q b e = skip_tree t.prefix t.value t.children (forest ts) y x q b e
+
+    -- and the tree alone where it begins so, since the others say nothing
+    take_one : (t : Option (Tree K V)) (ts : List (Tree K V)) (y x : K) (q : List K) → BeginsWith cmp y t
+        → cmp y x ≡ Equal → l.of_forest (forest ts) (x ∷ q) ≡ l.none
+        → l.of_forest (forest (cons_option t ts)) (x ∷ q) ≡ look cmp l t (x ∷ q)
+    take_one None ts y x q b e n = n
+    take_one (Some t) ts y x q b e n = take_tree t.prefix t.value t.children (forest ts) y x q b e n
+
+  -- ---- what all places are above, and what may stand as children
+
+  module _ {V : Type 0} where
+    above_tree : (p : List K) (v : Option V) (kids rest : Forest K V) (x y : K) → Begins cmp y p → cmp x y ≡ Less
+        → AllAbove cmp x rest → AllAbove cmp x (grow p v kids rest)
+    above_tree [] v kids rest x y b h a = absurd b
+    above_tree (z ∷ p) v kids rest x y b h a = (sym (alike_right o y z x b) ∙ h, a)
+
+    above_one : (t : Option (Tree K V)) (ts : List (Tree K V)) (x y : K) → BeginsWith cmp y t → cmp x y ≡ Less
+        → AllAbove cmp x (forest ts) → AllAbove cmp x (forest (cons_option t ts))
+    above_one None ts x y b h a = a
+    above_one (Some t) ts x y b h a = above_tree t.prefix t.value t.children (forest ts) x y b h a
+
+    -- the trees of a side are above what all its places are above
+    side_above : {X : Type 0} (place : X → K) (f : X → Option (Tree K V)) (x : K) (rs : List X)
+        → AllByRecursion (λ s. cmp x (place s) ≡ Less) rs → AllByRecursion (λ r. BeginsWith cmp (place r) (f r)) rs
+        → AllAbove cmp x (side f rs)
+    side_above place f x [] h b = tt
+    side_above place f x (r ∷ rs) h b =
+        above_one (f r) (filter_map f rs) x (place r) b.0 h.0 (side_above place f x rs h.1 b.1)
+
+    children_tree : (p : List K) (v : Option V) (kids rest : Forest K V) (y : K) → Begins cmp y p → IsSolid v kids
+        → AreChildren cmp kids → AllAbove cmp y rest → AreChildren cmp rest → AreChildren cmp (grow p v kids rest)
+    children_tree [] v kids rest y b s c a r = absurd b
+    children_tree (z ∷ p) v kids rest y b s c a r = (s, c, above_equal cmp o y z rest b a, r)
+
+    children_one : (t : Option (Tree K V)) (ts : List (Tree K V)) (y : K) → BeginsWith cmp y t → IsChild cmp t
+        → AllAbove cmp y (forest ts) → AreChildren cmp (forest ts) → AreChildren cmp (forest (cons_option t ts))
+    children_one None ts y b c a r = r
+    children_one (Some t) ts y b c a r = children_tree t.prefix t.value t.children (forest ts) y b c.0 c.1 a r
+
+  -- ---- rows
+
+  module _ {V W U O : Type 0} (l : Look cmp W O) (R : Option V → O → Option U → Type 0) where
+    lefts_begin : (rs : List (Row K V W U)) → AllByRecursion (IsRow cmp l R) rs
+        → AllByRecursion (λ r. BeginsWith cmp r.place r.left) rs
+    lefts_begin [] h = tt
+    lefts_begin (r ∷ rs) h = (h.0.left, lefts_begin rs h.1)
+
+    rights_begin : (rs : List (Row K V W U)) → AllByRecursion (IsRow cmp l R) rs
+        → AllByRecursion (λ r. BeginsWith cmp r.place r.right) rs
+    rights_begin [] h = tt
+    rights_begin (r ∷ rs) h = (h.0.right, rights_begin rs h.1)
+
+    outs_begin : (rs : List (Row K V W U)) → AllByRecursion (IsRow cmp l R) rs
+        → AllByRecursion (λ r. BeginsWith cmp r.place r.out) rs
+    outs_begin [] h = tt
+    outs_begin (r ∷ rs) h = (h.0.out, outs_begin rs h.1)
+
+    -- what is made place by place is canonical children
+    pub rows_children : (rs : List (Row K V W U)) → AscendBy cmp (λ r. r.place) rs → AllByRecursion (IsRow cmp l R) rs
+        → AreChildren cmp (side (λ r. r.out) rs)
+    rows_children [] a h = tt
+    rows_children (r ∷ rs) a h =
+        children_one r.out (filter_map (λ r. r.out) rs) r.place h.0.out h.0.child
+        (side_above (λ r. r.place) (λ r. r.out) r.place rs a.0 (outs_begin rs h.1)) (rows_children rs a.1 h.1)
+
+    -- what is said of a key at all rows
+    abbrev RowsSay : List (Row K V W U) → K → List K → Type 0
+    RowsSay rs x q =
+        R (lookup_in cmp (side (λ r. r.left) rs) (x ∷ q)) (l.of_forest (side (λ r. r.right) rs) (x ∷ q))
+        (lookup_in cmp (side (λ r. r.out) rs) (x ∷ q))
+
+    -- a key that begins at the first place is asked there alone, and another at the others
+    rows_pick : (b : Bool) (r : Row K V W U) (rs : List (Row K V W U)) (x : K) (q : List K) → is_eq (cmp r.place x) ≡ b
+        → AllByRecursion (λ s. cmp r.place s.place ≡ Less) rs → IsRow cmp l R r → AllByRecursion (IsRow cmp l R) rs
+        → RowsSay rs x q → RowsSay (r ∷ rs) x q
+    rows_pick false r rs x q e a h hs rest =
+        rw (
+          skip_one (values cmp) r.left (filter_map (λ r. r.left) rs) r.place x q h.left e,
+          skip_one l r.right (filter_map (λ r. r.right) rs) r.place x q h.right e,
+          skip_one (values cmp) r.out (filter_map (λ r. r.out) rs) r.place x q h.out e,
+        ) rest
+    rows_pick true r rs x q e a h hs rest =
+        let t = (Equal-is (cmp r.place x)).0 e in
+        let left = side_above (λ r. r.place) (λ r. r.left) r.place rs a (lefts_begin rs hs) in
+        let right = side_above (λ r. r.place) (λ r. r.right) r.place rs a (rights_begin rs hs) in
+        let out = side_above (λ r. r.place) (λ r. r.out) r.place rs a (outs_begin rs hs) in
+        rw (
+          take_one (values cmp) r.left (filter_map (λ r. r.left) rs) r.place x q h.left t
+              (none_above (values cmp) r.place x q t (side (λ r. r.left) rs) left),
+          take_one l r.right (filter_map (λ r. r.right) rs) r.place x q h.right t
+              (none_above l r.place x q t (side (λ r. r.right) rs) right),
+          take_one (values cmp) r.out (filter_map (λ r. r.out) rs) r.place x q h.out t
+              (none_above (values cmp) r.place x q t (side (λ r. r.out) rs) out),
+        ) (h.binds x q)
+
+    -- what is made place by place is what the combine says of both sides
+    pub rows_combined : R None l.none None → (rs : List (Row K V W U)) → AscendBy cmp (λ r. r.place) rs
+        → AllByRecursion (IsRow cmp l R) rs
+        → IsCombinedIn cmp l R (side (λ r. r.left) rs) (side (λ r. r.right) rs) (side (λ r. r.out) rs)
+    rows_combined none [] a h x q = rw (l.in_bare x q) none
+    rows_combined none (r ∷ rs) a h x q =
+        rows_pick (is_eq (cmp r.place x)) r rs x q refl a.0 h.0 h.1 (rows_combined none rs a.1 h.1 x q)

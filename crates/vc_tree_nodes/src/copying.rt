@@ -1,0 +1,102 @@
+//! How trees are copied: one of any type into a flavour, and one of a flavour as cheaply as that flavour can.
+
+ghost use Rattle.std.specs.Prelude.{◌≡◌, ◌≤◌, IfOk, length};
+ghost use Rattle.std.specs.Option.{option_copied};
+ghost use Rattle.vc_tree_model.specs.Tree.{shortened};
+ghost use Rattle.vc_tree_model.specs.Value.{Copies, IsKept};
+ghost use Rattle.vc_tree_model.specs.Same.{IsAlike, IsAlikeIn};
+ghost use Rattle.vc_tree_model.specs.Snapshot.{clones_copied, snapshot_copied};
+ghost use Rattle.vc_tree_nodes.specs.Children.{seen};
+
+use crate::building::{Build, Seal};
+use crate::children::Fragment;
+use crate::making::stored;
+use crate::plain::RadixTree;
+use crate::reading::{RadixNode, TKey, TValue};
+use crate::shared::ArcRadixTree;
+use std::alloc::{AllocError, Global};
+use std::default::MadeWith;
+
+/// A clone of the value, if there is one.
+pub fn clone_value<V: Clone>(value: Option<&V>) -> Result<Option<V>, AllocError>
+    ensures { IfOk result (IsKept V.is_clone (option_copied value.entry)) }
+{
+    match value {
+        Some(v) => Ok(Some(v.clone()?)),
+        None => Ok(None),
+    }
+}
+
+/// A copy of the tree without the first `from` components of its prefix, with a clone of each value. Asks for each list of
+/// children once.
+#[cycle(copying)]
+pub fn copy_shortened<K: TKey, V: TValue, S: RadixNode<K, V>, T: Build<K, V>>(
+    alloc: Global,
+    tree: &S,
+    from: usize,
+) -> Result<T, AllocError>
+    requires { from ≤ length (S.tree tree.now).prefix }
+    ensures { IfOk result (λ copy. IsAlike V.is_clone (shortened from (S.tree tree.now)) (T.tree copy)) }
+{
+    let prefix = T::Prefix::from_slice(alloc, &tree.prefix()[from..])?;
+    let value = clone_value(tree.value())?;
+    let copies = copy_list::<K, V, S, T>(alloc, tree.children())?;
+    let children = stored::<K, V, T>(copies)?;
+    Ok(T::assemble(prefix, value, children, Seal::new()))
+}
+
+/// Copies of the trees of a list.
+#[cycle(copying)]
+fn copy_list<K: TKey, V: TValue, S: RadixNode<K, V>, T: Build<K, V>>(
+    alloc: Global,
+    list: &[S],
+) -> Result<Vec<T>, AllocError>
+    ensures { IfOk result (λ copies. IsAlikeIn V.is_clone (seen S.tree list.now) (seen T.tree copies.items)) }
+{
+    let mut copies = Vec::with_capacity(alloc, list.len())?;
+    for tree in list {
+        copies.push(copy_shortened(alloc, tree, 0)?)?;
+    }
+    Ok(copies)
+}
+
+impl<K: TKey + MadeWith<Global>, V: TValue> RadixTree<K, V> {
+    /// A tree of its own with the same nodes and a clone of each value.
+    ///
+    /// Fails where memory is refused, or the clone of a value.
+    pub fn clone(&self) -> Result<Self, AllocError>
+        ensures { IfOk result (IsAlike V.is_clone self.now) }
+    {
+        copy_shortened(self.allocator(), self, 0)
+    }
+}
+
+impl<K: TKey + MadeWith<Global>, V: TValue> Clone for RadixTree<K, V> {
+    ghost is_clone = { IsAlike V.is_clone };
+
+    fn clone(&self) -> Result<Self, AllocError> {
+        RadixTree::clone(self)
+    }
+}
+
+/// A flavour of tree whose clone is alike to it: of the plain flavour each node is copied, of the shared one the root, with the
+/// very same children.
+pub trait CloneTree<K: TKey, V: TValue>: Build<K, V> + Clone {
+    ghost clones_alike: { (t c : Self) → Self.is_clone t c
+        → IsAlike (Copies V.is_clone) (Self.tree t) (Self.tree c) };
+}
+
+impl<K: TKey + MadeWith<Global>, V: TValue> CloneTree<K, V> for RadixTree<K, V> {
+    ghost clones_alike = { λ t c h. clones_copied V.is_clone t c h };
+}
+
+impl<K: TKey + MadeWith<Global>, V: TValue> CloneTree<K, V> for ArcRadixTree<K, V> {
+    ghost clones_alike = { λ t c h. snapshot_copied V.is_clone t c h };
+}
+
+/// A copy of the tree, whose values are the same or clones of them.
+pub fn copy_tree<K: TKey, V: TValue, T: CloneTree<K, V>>(tree: &T) -> Result<T, AllocError>
+    ensures { IfOk result (λ copy. IsAlike (Copies V.is_clone) (T.tree tree.now) (T.tree copy)) }
+{
+    tree.clone()
+}
