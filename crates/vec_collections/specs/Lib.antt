@@ -10,6 +10,10 @@ pub use Rattle.vc_sets.specs.SetOf
 pub use Rattle.vc_sets.specs.Tests
 pub use Rattle.vc_sets.specs.declared.vec_set.algebra.SetOp
 pub use Rattle.vc_sets.specs.declared.vec_set.algebra.SetTest
+pub use Rattle.vc_total_sets.specs.Laws as TotalLaws
+pub use Rattle.vc_total_sets.specs.TotalOf
+pub use Rattle.vc_total_sets.specs.TotalSet
+pub use Rattle.vc_total_sets.specs.TotalTests
 pub use Rattle.vc_trees.specs.Canonical
 pub use Rattle.vc_trees.specs.Children
 pub use Rattle.vc_trees.specs.Key
