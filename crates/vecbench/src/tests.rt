@@ -5,6 +5,8 @@ use std::process::Abort;
 use std::test::Fail;
 use vecbench_lines::serve::serve;
 
+mod total;
+
 /// Checks what some inputs are answered, and with which status.
 fn check_all(rt: &(impl Abort + AllocGlobal), table: &[(&str, &str, u8)]) {
     for (text, answers, status) in table {

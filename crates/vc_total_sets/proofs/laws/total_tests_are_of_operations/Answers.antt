@@ -1,5 +1,5 @@
 use Rattle.vc_total_sets.proofs.OneTotal.{tests_are_of, fresh_listed, moved_listed}
-use Rattle.vc_total_sets.proofs.laws.tests_are_of_operations.Goals as goal
+use Rattle.vc_total_sets.proofs.laws.total_tests_are_of_operations.Goals as goal
 
 pub returns-clause-fresh : goal.returns-clause-fresh
 returns-clause-fresh g c = tests_are_of g.T.Ord.cmp g.met.T.Ord.total _ (fresh_listed g.T.Ord.cmp _)

@@ -1,5 +1,5 @@
 use Rattle.vc_total_sets.proofs.OneTotal.{all_pointwise, fresh_listed, moved_listed}
-use Rattle.vc_total_sets.proofs.laws.operations_are_pointwise.Goals as goal
+use Rattle.vc_total_sets.proofs.laws.total_operations_are_pointwise.Goals as goal
 
 pub returns-clause-fresh : goal.returns-clause-fresh
 returns-clause-fresh g c = all_pointwise g.T.Ord.cmp _ (fresh_listed g.T.Ord.cmp _)
