@@ -5,6 +5,7 @@
 #![tactic(auto)]
 
 mod example;
+mod lawful;
 pub mod macros;
 
 /// The engine of all operations on sorted lists: a merge of two ascending lists, event by event.
