@@ -1,6 +1,6 @@
 use Rattle.std.proofs.Common.{◌≡◌, ◌+◌, take}
 use Rattle.smallvec.specs.SmallVec.{small_vec_len}
-use Rattle.vc_merge.proofs.lent.push_blanks.Given as goal
+use Rattle.vc_merge.proofs.parts.push_blanks.Given as goal
 
 abbrev pub invariant-loop-added : goal.invariant-loop-added
 invariant-loop-added g l = record {

@@ -1,7 +1,7 @@
 use Rattle.std.proofs.Common.{take, refl}
-use Rattle.vc_merge.specs.LentViews.{built_items, left_items}
+use Rattle.vc_merge.specs.PartsViews.{built_items, left_items}
 use Rattle.vc_merge.proofs.ClonesLemmas.{Extends-same}
-use Rattle.vc_merge.proofs.lent.LentStateMergeStateMut.advance_a.Goals as goal
+use Rattle.vc_merge.proofs.parts.PartsStateMergeStateMut.advance_a.Goals as goal
 
 pub returns-then-take-clause-gives : goal.returns-then-take-clause-gives
 returns-then-take-clause-gives g c =

@@ -1,7 +1,7 @@
 use Rattle.std.proofs.Common.{take, refl}
-use Rattle.vc_merge.specs.LentViews.{built_items, right_items}
+use Rattle.vc_merge.specs.PartsViews.{built_items, right_items}
 use Rattle.vc_merge.proofs.ClonesLemmas.{Extends-same}
-use Rattle.vc_merge.proofs.lent.LentStateMergeFromRight.take_b.Goals as goal
+use Rattle.vc_merge.proofs.parts.PartsStateMergeFromRight.take_b.Goals as goal
 
 pub returns-clause-gives : goal.returns-clause-gives
 returns-clause-gives g c =
