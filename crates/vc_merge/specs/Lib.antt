@@ -7,6 +7,7 @@ pub mod Building
 pub mod Chain
 pub mod Count
 pub mod Fronts
+pub mod Place
 pub mod Places
 pub mod PlacesLend
 pub mod PlacesOwned
