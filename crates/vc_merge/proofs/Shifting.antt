@@ -1,15 +1,18 @@
--- Elements that move within a list, and what a merge in the places of the left list shows of them.
+-- Elements that move within a list, and what a merge of two parts of a list shows of them.
 use Rattle.std.proofs.Common.{◌≡◌, ℕ, ◌+◌, ◌-◌, ◌≤◌, List, ◌++◌, length, take, drop, sym, ap, ◌∙◌, arith, rules, drop-drop}
 use Rattle.std.proofs.lemmas.List.{same_lists, places}
 use borrow.Rule.Slice.PartMut.{put_mid}
 use Rattle.vc_merge.specs.MovesDown.{MovesDown}
-use Rattle.vc_merge.specs.Shifts.{MovesUp, Puts}
+use Rattle.vc_merge.specs.Shifts.{MovesUp, Turns, Trades}
 
 module _ {X : Type 0} where
   -- ---- parts of a list
 
   take-take : (n m : ℕ) (xs : List X) → n ≤ m → take n (take m xs) ≡ take n xs
   take-take n m xs h = same_lists _ _ (search (rules, places)) (λ k d h. grind (arith, places))
+
+  drop-take : (n m : ℕ) (xs : List X) → n ≤ m → drop n (take m xs) ≡ take (m - n) (drop n xs)
+  drop-take n m xs h = same_lists _ _ (search (rules, places)) (λ k d h. grind (arith, places))
 
   -- how many there are at most from s up to e
   pub part-at_most : (xs : List X) (s e n : ℕ) → n ≤ length (take (e - s) (drop s xs)) → n ≤ e - s
@@ -19,69 +22,88 @@ module _ {X : Type 0} where
   pub part-drop : (xs : List X) (s e n : ℕ) → n ≤ e - s → take (e - (s + n)) (drop (s + n) xs) ≡ drop n (take (e - s) (drop s xs))
   part-drop xs s e n h = same_lists _ _ (search (rules, places)) (λ k d h. grind (arith, places))
 
+  -- a part of a part
+  part-part : (xs : List X) (a b s e : ℕ) → a ≤ s → s ≤ e → e ≤ b → take (e - s) (drop (s - a) (take (b - a) (drop a xs))) ≡ take (e - s) (drop s xs)
+  part-part xs a b s e h i j =
+      let count : b - a - (s - a) ≡ b - s = omega arith in let from : a + (s - a) ≡ s = omega arith in
+      ap (take (e - s)) (drop-take (s - a) (b - a) (drop a xs) (omega arith) ∙ (λ k. take (count k) (drop-drop (s - a) a xs k)) ∙ ap (λ k. take (b - s) (drop k xs)) from)
+      ∙ take-take (e - s) (b - s) (drop s xs) (omega arith)
+
   -- ---- calls on slices
 
-  -- the elements up to end moved up by a turn
-  pub MovesUp-turned : (xs ys : List X) (start end : ℕ) → start ≤ end → end ≤ length xs
-      → ys ≡ drop (end - start) (take (length xs - start) (drop start xs)) ++ take (end - start) (take (length xs - start) (drop start xs))
-      → MovesUp xs start end (put_mid start (length xs - start) xs ys)
-  MovesUp-turned xs ys start end low within e =
+  -- the elements up to end moved up to the place `next` by a turn
+  pub MovesUp-turned : (xs ys : List X) (start end next : ℕ) → start ≤ end → end ≤ next → next ≤ length xs
+      → ys ≡ drop (end - start) (take (next - start) (drop start xs)) ++ take (end - start) (take (next - start) (drop start xs))
+      → MovesUp xs start end next (put_mid start (next - start) xs ys)
+  MovesUp-turned xs ys start end next low high within e =
       record {
         same_length = rw e (search (rules, places));
         front = rw e (same_lists _ _ (search (rules, places)) (λ k d h. grind (arith, places)));
         moved = rw e (same_lists _ _ (search (rules, places)) (λ k d h. grind (arith, places)));
+        rest = rw e (same_lists _ _ (search (rules, places)) (λ k d h. grind (arith, places)));
       }
 
-  -- elements of another list were written over others
-  pub Puts-over : (xs from zs : List X) (at next n : ℕ) → at + n ≤ length xs → next + n ≤ length from → zs ≡ take (next + n - next) (drop next from)
-      → Puts xs at n (take n (drop next from)) (put_mid at (at + n - at) xs zs)
-  Puts-over xs from zs at next n below within e =
-      let count : next + n - next ≡ n = omega arith in
-      let these : zs ≡ take n (drop next from) = e ∙ ap (λ k. take k (drop next from)) count in
+  -- a run moved down by a turn
+  pub Turns-turned : (xs ys : List X) (at next n : ℕ) → at ≤ next → next + n ≤ length xs
+      → ys ≡ drop (next - at) (take (next + n - at) (drop at xs)) ++ take (next - at) (take (next + n - at) (drop at xs))
+      → Turns xs at next n (put_mid at (next + n - at) xs ys)
+  Turns-turned xs ys at next n low within e =
       record {
-        same_length = rw these (search (rules, places));
-        front = rw these (same_lists _ _ (search (rules, places)) (λ k d h. grind (arith, places)));
-        rest = rw these (same_lists _ _ (search (rules, places)) (λ k d h. grind (arith, places)));
+        same_length = rw e (search (rules, places));
+        front = rw e (same_lists _ _ (search (rules, places)) (λ k d h. grind (arith, places)));
+        moved = rw e (same_lists _ _ (search (rules, places)) (λ k d h. grind (arith, places)));
+        rest = rw e (same_lists _ _ (search (rules, places)) (λ k d h. grind (arith, places)));
       }
 
-  -- what lies behind elements that were written over
-  pub drop-written : (xs zs : List X) (at n : ℕ) → at + n ≤ length xs → length zs ≡ length (take (at + n - at) (drop at xs)) → drop (at + n) (put_mid at (at + n - at) xs zs) ≡ drop (at + n) xs
-  drop-written xs zs at n within count = same_lists _ _ (search (rules, places)) (λ k d h. grind (arith, places))
+  -- two runs changed places, each in its part of the list
+  pub Trades-swapped : (xs front back sub other : List X) (at next n : ℕ) → at + n ≤ next → next + n ≤ length xs → front ≡ take next xs → back ≡ drop next xs
+      → sub ≡ take n back → other ≡ take (at + n - at) (drop at front) → Trades xs at next n (put_mid at (at + n - at) front sub ++ (other ++ drop n back))
+  Trades-swapped xs front back sub other at next n apart within a b c d =
+      let count : at + n - at ≡ n = omega arith in
+      rw (d, c, b, a, count) record {
+        same_length = search (rules, places);
+        front = same_lists _ _ (search (rules, places)) (λ k d h. grind (arith, places));
+        between = same_lists _ _ (search (rules, places)) (λ k d h. grind (arith, places));
+        rest = same_lists _ _ (search (rules, places)) (λ k d h. grind (arith, places));
+      }
 
-  -- ---- what the state shows: xs is its list, with b elements built and those from s to e left, and ys the list afterwards
+  -- ---- what the state shows: xs is its list, with b elements built, those from s to e left of the left part, and those from
+  -- next on of the right one; ys is the list afterwards
 
-  module _ (xs ys : List X) where
+  module _ (xs ys : List X) (b s e next : ℕ) (hole : b ≤ s) (left : s ≤ e) (gap : e ≤ next) where
     -- once what is left moved up
-    module _ (b s e : ℕ) (order : b ≤ s) (ends : s ≤ e) (within : e ≤ length xs) (moved : MovesUp xs s e ys) where
+    module _ (moved : MovesUp xs s e next ys) where
       pub up-built : take b ys ≡ take b xs
-      up-built = sym (take-take b s ys order) ∙ ap (take b) moved.front ∙ take-take b s xs order
-
-      pub up-left : take (e + (length xs - e) - (s + (length xs - e))) (drop (s + (length xs - e)) ys) ≡ take (e - s) (drop s xs)
-      up-left =
-          let count : e + (length xs - e) - (s + (length xs - e)) ≡ e - s = omega arith in
-          rw (moved.moved, count) (take-take (e - s) (e - s) (drop s xs) (omega arith))
-
-      pub up-places : (s + (length xs - e) - b) + (length ys - (e + (length xs - e))) ≡ (s - b) + (length xs - e)
-      up-places = let long = moved.same_length in omega arith
+      up-built = sym (take-take b s ys hole) ∙ ap (take b) moved.front ∙ take-take b s xs hole
 
     -- once the first n that were left moved down
-    module _ (b s e n : ℕ) (ends : s ≤ e) (within : e ≤ length xs) (few : n ≤ e - s) (moved : MovesDown xs b s n ys) where
+    module _ (n : ℕ) (few : n ≤ e - s) (moved : MovesDown xs b s n ys) where
       pub down-built : take (b + n) ys ≡ take b xs ++ take n (take (e - s) (drop s xs))
       down-built = moved.front ∙ ap (λ l. take b xs ++ l) (sym (take-take n (e - s) (drop s xs) few))
 
       pub down-left : take (e - (s + n)) (drop (s + n) ys) ≡ drop n (take (e - s) (drop s xs))
       down-left = ap (take (e - (s + n))) moved.rest ∙ part-drop xs s e n few
 
-      pub down-places : ((s + n) - (b + n)) + (length ys - e) ≡ (s - b) + (length xs - e)
-      down-places = let long = moved.same_length in omega arith
+      pub down-right : drop next ys ≡ drop next xs
+      down-right =
+          let more : s + n + (next - (s + n)) ≡ next = omega arith in
+          ap (λ k. drop k ys) (sym more) ∙ sym (drop-drop (next - (s + n)) (s + n) ys) ∙ ap (drop (next - (s + n))) moved.rest
+          ∙ drop-drop (next - (s + n)) (s + n) xs ∙ ap (λ k. drop k xs) more
 
-    -- once n others were put into the hole
-    module _ (zs : List X) (b s e n : ℕ) (apart : b + n ≤ s) (put : Puts xs b n zs ys) where
-      pub put-left : take (e - s) (drop s ys) ≡ take (e - s) (drop s xs)
-      put-left =
-          let more : b + n + (s - (b + n)) ≡ s = omega arith in
-          ap (take (e - s)) (ap (λ k. drop k ys) (sym more) ∙ sym (drop-drop (s - (b + n)) (b + n) ys)
-          ∙ ap (drop (s - (b + n))) put.rest ∙ drop-drop (s - (b + n)) (b + n) xs ∙ ap (λ k. drop k xs) more)
+    module _ (n : ℕ) where
+      -- once n of the right part moved into the hole
+      module _ (apart : b + n ≤ s) (traded : Trades xs b next n ys) where
+        pub trade-left : take (e - s) (drop s ys) ≡ take (e - s) (drop s xs)
+        trade-left =
+            sym (part-part ys (b + n) next s e apart left gap) ∙ ap (λ l. take (e - s) (drop (s - (b + n)) l)) traded.between
+            ∙ part-part xs (b + n) next s e apart left gap
 
-      pub put-places : (s - (b + n)) + (length ys - e) ≡ (s - b) + (length xs - e) - n
-      put-places = let long = put.same_length in omega arith
+      -- once n of the right part moved before all that lay between
+      module _ (turned : Turns xs b next n ys) where
+        pub turn-left : take (e + n - (s + n)) (drop (s + n) ys) ≡ take (e - s) (drop s xs)
+        turn-left =
+            let low : b + n ≤ s + n = omega arith in let order : s + n ≤ e + n = omega arith in let high : e + n ≤ next + n = omega arith in
+            let same : e + n - (s + n) ≡ e - s = omega arith in let from : s + n - (b + n) ≡ s - b = omega arith in
+            sym (part-part ys (b + n) (next + n) (s + n) (e + n) low order high)
+            ∙ ap (λ l. take (e + n - (s + n)) (drop (s + n - (b + n)) l)) turned.moved
+            ∙ (λ i. take (same i) (drop (from i) (take (next - b) (drop b xs)))) ∙ part-part xs b next s e hole left gap

@@ -20,7 +20,7 @@ pub mod InPlaceViews
 pub mod MovedViews
 pub mod Gathering
 pub mod Laws
-pub mod LentViews
+pub mod PartsViews
 pub mod Shifts
 pub mod Showing
 pub mod Yielded

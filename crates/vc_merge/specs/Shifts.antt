@@ -1,15 +1,24 @@
--- Elements that move up their list, or into it from another one. No public clause cites these words.
+-- Elements that move within their list. No public clause cites these words.
 use Rattle.std.specs.Prelude.{◌≡◌, ℕ, ◌+◌, ◌-◌, List, ◌++◌, take, drop, length, slice_range}
 
 module _ {X : Type 0} where
-  -- the elements from start to end moved up to the end of the list; those before them stayed
-  pub record MovesUp (old : List X) (start end : ℕ) (new : List X) : Type 0 where
+  -- the elements from start to end moved up to the place `next`; those before start and from `next` on stayed
+  pub record MovesUp (old : List X) (start end next : ℕ) (new : List X) : Type 0 where
     pub same_length : length new ≡ length old
     pub front : take start new ≡ take start old
-    pub moved : drop (start + (length old - end)) new ≡ slice_range old start end
+    pub moved : slice_range new (start + (next - end)) next ≡ slice_range old start end
+    pub rest : drop next new ≡ drop next old
 
-  -- xs stands in the n places from `at` on; those before and behind stayed
-  pub record Puts (old : List X) (at n : ℕ) (xs new : List X) : Type 0 where
+  -- the n elements from `next` on moved down to the place `at`, and the elements from `at` to `next` up behind them
+  pub record Turns (old : List X) (at next n : ℕ) (new : List X) : Type 0 where
     pub same_length : length new ≡ length old
-    pub front : take (at + n) new ≡ take at old ++ xs
-    pub rest : drop (at + n) new ≡ drop (at + n) old
+    pub front : take (at + n) new ≡ take at old ++ take n (drop next old)
+    pub moved : slice_range new (at + n) (next + n) ≡ slice_range old at next
+    pub rest : drop (next + n) new ≡ drop (next + n) old
+
+  -- the n elements from `next` on changed places with those from `at` on
+  pub record Trades (old : List X) (at next n : ℕ) (new : List X) : Type 0 where
+    pub same_length : length new ≡ length old
+    pub front : take (at + n) new ≡ take at old ++ take n (drop next old)
+    pub between : slice_range new (at + n) next ≡ slice_range old (at + n) next
+    pub rest : drop (next + n) new ≡ drop (next + n) old

@@ -4,10 +4,11 @@
 pub mod inplace;
 pub mod iterators;
 pub mod laws;
-pub mod lent;
 mod linear;
 pub mod merge;
 pub mod moved;
 pub mod moving;
+pub mod parts;
 pub mod search;
+mod searching;
 pub mod states;

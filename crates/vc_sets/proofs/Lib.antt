@@ -1,7 +1,9 @@
 pub mod Selected
 pub mod Combined
 pub mod Searching
+pub mod Clones
 pub mod Editing
+pub mod Parted
 pub mod Witnessed
 pub mod Sifted
 mod OneSet

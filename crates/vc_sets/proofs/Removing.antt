@@ -4,7 +4,7 @@ use mathlib.Core.Bool.{true≢false}
 use Rattle.std.proofs.lemmas.List.{append-nil}
 use Rattle.std.specs.Iterator.{Yields}
 use Rattle.std.specs.Map.Iter.{TakesFirst}
-use Rattle.std.specs.List.{AllByRecursion, AllZip, items_where_true}
+use Rattle.std.specs.List.{AllByRecursion, items_where_true}
 use Rattle.std.specs.List.Sorted.{IsStrictlySortedBy}
 use Rattle.std.specs.Cmp.{IsTotalOrder, alike_right}
 use Rattle.std.specs.Ordering.{eq_by_cmp, is_eq}
@@ -58,24 +58,6 @@ module _ {X : Type 0} (cmp : X → X → Ordering) where
   ascends-chosen (false ∷ bs) (x ∷ xs) p = ascends-chosen bs xs p.1
 
   module _ (total : IsTotalOrder cmp) where
-    -- ---- clones
-
-    module _ (is_clone : X → X → Type 0) (equal : (x y : X) → is_clone x y → cmp x y ≡ Equal) where
-      -- the clones of what is above an element are above its clone
-      above-clones : (x y : X) (xs ys : List X) → cmp x y ≡ Equal → AllZip is_clone xs ys → AllByRecursion (λ z. cmp x z ≡ Less) xs → AllByRecursion (λ z. cmp y z ≡ Less) ys
-      above-clones x y [] [] e z p = tt
-      above-clones x y [] (w ∷ ys) e z p = absurd z
-      above-clones x y (v ∷ xs) [] e z p = absurd z
-      above-clones x y (v ∷ xs) (w ∷ ys) e z p = (sym (total.congr x y w e) ∙ sym (alike_right total v w x (equal v w z.0)) ∙ p.0, above-clones x y xs ys e z.1 p.1)
-
-      -- the clones of an ascending list ascend
-      pub ascends-clones : (xs ys : List X) → AllZip is_clone xs ys → Ascends cmp xs → Ascends cmp ys
-      unfolding IsStrictlySortedBy
-      ascends-clones [] [] z p = tt
-      ascends-clones [] (y ∷ ys) z p = absurd z
-      ascends-clones (x ∷ xs) [] z p = absurd z
-      ascends-clones (x ∷ xs) (y ∷ ys) z p = (above-clones x y xs ys (equal x y z.0) z.1 p.0, ascends-clones xs ys z.1 p.1)
-
     -- ---- an equal element is taken out
 
     -- the element in front is the one that is taken out

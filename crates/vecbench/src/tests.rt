@@ -5,6 +5,8 @@ use std::process::Abort;
 use std::test::Fail;
 use vecbench_lines::serve::serve;
 
+mod total;
+
 /// Inputs, what they are answered, and with which status.
 const INPUTS: [(&str, &str, u8); 63] = [
     // Unions.
@@ -100,7 +102,7 @@ const INPUTS: [(&str, &str, u8); 63] = [
         1,
     ),
     ("set\n", "line 1: fault 4: wrong count of words\n", 1),
-    // The fault that comes first: the first word before the count of words, the count before the operation and the lists.
+    // The fault that comes first.
     // The first word before the count of words.
     ("fly union\n", "line 1: fault 1: unknown command\n", 1),
     // The count before the operation and the lists.
@@ -164,20 +166,20 @@ const INPUTS: [(&str, &str, u8); 63] = [
     ),
 ];
 
-/// Checks what an input is answered, and with which status.
-fn check(rt: &(impl Abort + AllocGlobal), text: &str, answers: &str, status: u8) {
-    let mut input = text.as_bytes();
-    let mut output = Vec::new(rt.alloc());
-    let ended = serve(rt.alloc(), &mut input, &mut output);
-    assert_eq!(rt; output.as_slice(), answers.as_bytes(), "at {text:?}");
-    assert_eq!(rt; ended, status, "at {text:?}");
+/// Checks what some inputs are answered, and with which status.
+fn check_all(rt: &(impl Abort + AllocGlobal), table: &[(&str, &str, u8)]) {
+    for (text, answers, status) in table {
+        let mut input = text.as_bytes();
+        let mut output = Vec::new(rt.alloc());
+        let ended = serve(rt.alloc(), &mut input, &mut output);
+        assert_eq!(rt; output.as_slice(), answers.as_bytes(), "at {text:?}");
+        assert_eq!(rt; ended, *status, "at {text:?}");
+    }
 }
 
 #[test]
 fn answers_whole_inputs(rt: HostRuntime) {
-    for (text, answers, status) in INPUTS {
-        check(&rt, text, answers, status);
-    }
+    check_all(&rt, &INPUTS);
 }
 
 #[test]
@@ -190,7 +192,7 @@ fn answers_lines_longer_than_its_buffers(rt: HostRuntime) -> Result<(), Fail> {
     let line = format!(in rt.alloc(); "set union {list} -\n")?;
     let text = format!(in rt.alloc(); "{line}{line}")?;
     let wanted = format!(in rt.alloc(); "{list}\n{list}\n")?;
-    check(&rt, text.as_str(), wanted.as_str(), 0);
+    check_all(&rt, &[(text.as_str(), wanted.as_str(), 0)]);
     Ok(())
 }
 

@@ -1,7 +1,9 @@
 //! The set operations in place. Elements of the left set are moved and never cloned; of two equal elements the left one itself is kept.
-ghost use Rattle.std.specs.Prelude.{◌≡◌, ◌+◌, ◌≤◌, ◌||◌, ◌&&◌, false, true, not, take, length, List, OnErr, OnOk};
+ghost use Rattle.std.specs.Prelude.{◌≡◌, ◌+◌, ◌≤◌, ◌||◌, ◌&&◌, false, true, not, take, drop, length, List, OnErr, OnOk};
+ghost use Rattle.smallvec.specs.SmallVec.{small_vec_len, HasRoomFor};
 ghost use Rattle.std.specs.Iterator.{Drains, IsFinite};
 ghost use Rattle.vc_merge.specs.Ascending.{Ascends};
+ghost use Rattle.vc_merge.specs.Building.{Extends};
 ghost use Rattle.vc_sets.specs.SetOf.{ClonesAreEqual, IsSetOf, and_not, exactly_one};
 ghost use Rattle.vc_sets.specs.Select.{keeps};
 
@@ -13,8 +15,8 @@ use std::default::MadeWith;
 use std::ops::{BitAndAssign, SubAssign};
 use vc_merge::iterators::SortedByItem;
 use vc_merge::merge::merge;
-use vc_merge::moved::MovedState;
-use vc_merge::moving::{InPlaceState, SiftState};
+use vc_merge::moving::SiftState;
+use vc_merge::parts::{PartsState, open_gap};
 use vc_merge::states::Uncounted;
 
 /// Moves what stands in the left list alone or, if `BOTH`, what stands in both, to the front of the left list. Answers how many they are.
@@ -28,9 +30,44 @@ fn sift<const BOTH: bool, T: Ord>(list: &mut [T], that: &[T]) -> usize
     state.kept()
 }
 
+/// Moves what stands in one of two parts alone or, if `BOTH`, the left one of what stands in both, to the front of their list.
+/// The parts are its first `end` elements and those from `next` on. Answers how many these are.
+fn join<const BOTH: bool, T: Ord>(list: &mut [T], end: usize, next: usize) -> usize
+    requires order { end ≤ next }
+    requires within { next ≤ length list.old }
+    requires left_ascends { Ascends T.cmp (take end list.old) }
+    requires right_ascends { Ascends T.cmp (drop next list.old) }
+    ensures { IsSetOf T.cmp (λ x y. x ≡ y) (λ x y. x ≡ y) (keeps true true BOTH) (take end list.old) (drop next list.old) (take result list.new) }
+{
+    let mut state = PartsState::new(list, end, next);
+    let _never_refused = merge(&mut state, &EitherOp::<BOTH>, &mut Uncounted);
+    state.kept()
+}
+
 /// Puts what stands in either list alone and, if `BOTH`, the left one of what stands in both, in the place of the left list.
-///
-/// The elements of the right list come in as clones. All growths and clones are made before the first element is moved.
+/// All of it is moved. The one growth comes before the first element is moved.
+fn absorb<
+    const BOTH: bool,
+    T: Ord + MadeWith<A> + Drop,
+    const N: usize,
+    const M: usize,
+    A: Allocator + Copy,
+>(list: &mut SmallVec<T, N, A>, mut that: SmallVec<T, M, A>) -> Result<(), AllocError>
+    requires left_ascends { Ascends T.cmp list.old.items }
+    requires right_ascends { Ascends T.cmp that.items }
+    ensures ok { OnOk result (IsSetOf T.cmp (λ x y. x ≡ y) (λ x y. x ≡ y) (keeps true true BOTH) list.old.items that.items list.new.items) }
+    ensures err { OnErr result (list.new.items ≡ list.old.items) }
+{
+    let end = list.len();
+    open_gap(list, that.len())?;
+    let next = list.len();
+    let _fits = list.append(&mut that);
+    let kept = join::<BOTH, _>(list.as_mut_slice(), end, next);
+    list.truncate(kept);
+    Ok(())
+}
+
+/// The same with clones of the elements of the right list. The one growth and all clones come before the first element is moved.
 fn unite<
     const BOTH: bool,
     T: Ord + Clone + MadeWith<A> + Drop,
@@ -43,34 +80,31 @@ fn unite<
     ensures ok { OnOk result (IsSetOf T.cmp (λ x y. x ≡ y) T.is_clone (keeps true true BOTH) list.old.items that.now list.new.items) }
     ensures err { OnErr result (list.new.items ≡ list.old.items) }
 {
-    if that.is_empty() {
-        return Ok(());
+    let end = list.len();
+    open_gap(list, that.len())?;
+    let next = list.len();
+    let cloned = append_clones(list, that);
+    if cloned.is_err() {
+        list.truncate(end);
+        return cloned;
     }
-    let mut state = InPlaceState::open(list, that)?;
-    let _never_refused = merge(&mut state, &EitherOp::<BOTH>, &mut Uncounted);
-    state.finish(list);
+    let kept = join::<BOTH, _>(list.as_mut_slice(), end, next);
+    list.truncate(kept);
     Ok(())
 }
 
-/// The same with the elements of the right list moved. All growths are made before the first element is moved.
-fn absorb<
-    const BOTH: bool,
-    T: Ord + MadeWith<A> + Drop,
-    const N: usize,
-    const M: usize,
-    A: Allocator + Copy,
->(list: &mut SmallVec<T, N, A>, that: SmallVec<T, M, A>) -> Result<(), AllocError>
-    requires left_ascends { Ascends T.cmp list.old.items }
-    requires right_ascends { Ascends T.cmp that.items }
-    ensures ok { OnOk result (IsSetOf T.cmp (λ x y. x ≡ y) (λ x y. x ≡ y) (keeps true true BOTH) list.old.items that.items list.new.items) }
-    ensures err { OnErr result (list.new.items ≡ list.old.items) }
+/// Appends a clone of each of `items`, for which there is room. Refused, it leaves those that were made.
+fn append_clones<T: Clone + MadeWith<A> + Drop, const N: usize, A: Allocator + Copy>(
+    list: &mut SmallVec<T, N, A>,
+    items: &[T],
+) -> Result<(), AllocError>
+    requires { HasRoomFor list.old (length items.now) }
+    ensures front { take (small_vec_len list.old) list.new.items ≡ list.old.items }
+    ensures clones { OnOk result (Extends T.is_clone items.now list.old.items list.new.items) }
 {
-    if that.is_empty() {
-        return Ok(());
+    for item in items {
+        list.push_reserved(item.clone()?);
     }
-    let mut state = MovedState::open(list, that)?;
-    let _never_refused = merge(&mut state, &EitherOp::<BOTH>, &mut Uncounted);
-    state.finish(list);
     Ok(())
 }
 

@@ -1,0 +1,33 @@
+-- What a contract sees of a `PartsState`.
+use Rattle.std.specs.Prelude.{◌≡◌, ℕ, List, take, drop, slice_range}
+use Rattle.std.specs.Borrow.{MutBor}
+use base.Fml.{GName}
+use Rattle.vc_merge.specs.declared.parts.PartsState.{PartsState}
+
+module _ {X : Type 0} where
+  -- the list that is merged, as it was lent
+  abbrev pub lent_list : PartsState X → MutBor (List X)
+  lent_list s = s.list
+
+  -- which list that is
+  abbrev pub list_name : PartsState X → GName
+  list_name s = s.list.ghost_name
+
+  -- what was built
+  abbrev pub built_items : PartsState X → List X
+  built_items s = take s.built s.list.now
+
+  -- what is left of the left part
+  abbrev pub left_items : PartsState X → List X
+  left_items s = slice_range s.list.now s.start s.end
+
+  -- what is left of the right part
+  abbrev pub right_items : PartsState X → List X
+  right_items s = drop s.next s.list.now
+
+  -- it builds in that list, has xs built, ys left of the left part and zs of the right one
+  pub record Shows (list : GName) (xs ys zs : List X) (s : PartsState X) : Type 0 where
+    pub name : list_name s ≡ list
+    pub built : built_items s ≡ xs
+    pub left : left_items s ≡ ys
+    pub right : right_items s ≡ zs

@@ -1,0 +1,271 @@
+//! The state of a merge of two parts of one list, in the places of that list.
+ghost use Rattle.std.specs.Prelude.{◌≡◌, ◌+◌, ◌-◌, ◌≤◌, true, [], ◌++◌, IsOk, OnOk, OnErr, length, take, drop};
+ghost use Rattle.smallvec.specs.SmallVec.{small_vec_len, HasRoomFor};
+ghost use Rattle.vc_merge.specs.Building.{Advances, Skips};
+ghost use Rattle.vc_merge.specs.MovesDown.{MovesDown};
+ghost use Rattle.vc_merge.specs.Shifts.{MovesUp, Turns, Trades};
+
+use crate::merge::{MergeFromRight, MergeState, MergeStateMut};
+use crate::moving::move_down;
+use smallvec::SmallVec;
+use std::alloc::{AllocError, Allocator};
+use std::default::MadeWith;
+
+/// The most elements that lie between two parts: enough that what is left of the left part seldom moves.
+const LONGEST_GAP: usize = 64;
+
+/// A list whose first and last part become one in its own places: what is taken of either is moved to the front.
+///
+/// What was built stands in front. Behind it lie a hole, what is left of the left part, a gap, and what is left of the right
+/// part. In the hole and the gap lies what is of no use: what was skipped, and what lay between the parts. No event is
+/// refused, and none takes memory. The owner cuts off what lies behind the built elements.
+///
+/// A run of the right part changes places with the hole where that is long enough, for which what is left of the left part may
+/// move up over the gap first. Otherwise it turns places with all that lies before it. So a few elements between the
+/// parts save many moves.
+#[derive(Drop)]
+pub struct PartsState<'a, T> {
+    list: &'a mut [T],
+    built: usize,
+    start: usize,
+    end: usize,
+    next: usize,
+    ghost hole: { built ≤ start },
+    ghost left: { start ≤ end },
+    ghost gap: { end ≤ next },
+    ghost right: { next ≤ length list.now },
+}
+
+impl<'a, T> PartsState<'a, T> {
+    ghost use Rattle.vc_merge.specs.PartsViews.{lent_list, list_name, built_items, left_items, right_items, Shows};
+
+    /// The list, whose parts to merge are its first `end` elements and those from `next` on.
+    pub fn new(list: &'a mut [T], end: usize, next: usize) -> Self
+        requires order { end ≤ next }
+        requires within { next ≤ length list.old }
+        ensures same_reference { lent_list result ≡ list.entry }
+        ensures built { built_items result ≡ [] }
+        ensures left { left_items result ≡ take end list.old }
+        ensures right { right_items result ≡ drop next list.old }
+    {
+        PartsState {
+            list,
+            built: 0,
+            start: 0,
+            end,
+            next,
+        }
+    }
+
+    /// How many elements were built. They are the first ones of the list.
+    pub fn kept(&self) -> usize
+        ensures value { result ≡ length (built_items self.now) }
+        ensures first { take result (lent_list self.now).now ≡ built_items self.now }
+    {
+        self.built
+    }
+
+    /// Moves the first `n` elements that are left of the left part to the end of what is built.
+    fn take_left(&mut self, n: usize)
+        requires { n ≤ length (left_items self.old) }
+        ensures { Shows (list_name self.old) (built_items self.old ++ take n (left_items self.old)) (drop n (left_items self.old))
+            (right_items self.old) self.new }
+    {
+        move_down(self.list, self.built, self.start, n);
+        self.built += n;
+        self.start += n;
+    }
+
+    /// Leaves the first `n` elements that are left of the left part to the hole.
+    fn skip_left(&mut self, n: usize)
+        requires { n ≤ length (left_items self.old) }
+        ensures { Shows (list_name self.old) (built_items self.old) (drop n (left_items self.old)) (right_items self.old) self.new }
+    {
+        self.start += n;
+    }
+
+    /// Moves the first `n` elements that are left of the right part to the end of what is built.
+    fn take_right(&mut self, n: usize)
+        requires { n ≤ length (right_items self.old) }
+        ensures { Shows (list_name self.old) (built_items self.old ++ take n (right_items self.old)) (left_items self.old)
+            (drop n (right_items self.old)) self.new }
+    {
+        self.widen(n);
+        if n <= self.start - self.built {
+            self.trade(n);
+        } else {
+            self.turn(n);
+        }
+    }
+
+    /// Makes the hole `n` places long, where the gap has what it lacks.
+    fn widen(&mut self, n: usize)
+        ensures { Shows (list_name self.old) (built_items self.old) (left_items self.old) (right_items self.old) self.new }
+    {
+        let hole = self.start - self.built;
+        if hole < n && n - hole <= self.next - self.end {
+            self.lift();
+        }
+    }
+
+    /// Moves what is left of the left part up to the right one.
+    fn lift(&mut self)
+        ensures { Shows (list_name self.old) (built_items self.old) (left_items self.old) (right_items self.old) self.new }
+    {
+        let gap = self.next - self.end;
+        move_up(self.list, self.start, self.end, self.next);
+        self.start += gap;
+        self.end = self.next;
+    }
+
+    /// Takes `n` elements of the right part into the hole, which is long enough.
+    fn trade(&mut self, n: usize)
+        requires right { n ≤ length (right_items self.old) }
+        requires hole { self.old.built + n ≤ self.old.start }
+        ensures { Shows (list_name self.old) (built_items self.old ++ take n (right_items self.old)) (left_items self.old)
+            (drop n (right_items self.old)) self.new }
+    {
+        trade_runs(self.list, self.built, self.next, n);
+        self.built += n;
+        self.next += n;
+    }
+
+    /// Takes `n` elements of the right part before all that lies between.
+    fn turn(&mut self, n: usize)
+        requires { n ≤ length (right_items self.old) }
+        ensures { Shows (list_name self.old) (built_items self.old ++ take n (right_items self.old)) (left_items self.old)
+            (drop n (right_items self.old)) self.new }
+    {
+        turn_runs(self.list, self.built, self.next, n);
+        self.built += n;
+        self.start += n;
+        self.end += n;
+        self.next += n;
+    }
+}
+
+impl<'a, T> MergeState for PartsState<'a, T> {
+    ghost use Rattle.vc_merge.specs.PartsViews.{left_items, right_items};
+
+    type A = T;
+
+    type B = T;
+
+    ghost left = { left_items };
+
+    ghost right = { right_items };
+
+    fn a_slice(&self) -> &[T] {
+        &self.list[self.start..self.end]
+    }
+
+    fn b_slice(&self) -> &[T] {
+        &self.list[self.next..]
+    }
+}
+
+impl<'a, T> MergeStateMut for PartsState<'a, T> {
+    ghost use Rattle.vc_merge.specs.PartsViews.{built_items, left_items, list_name};
+
+    ghost ready = { λ _. Unit {0} };
+
+    ghost advances_a = { λ s n take answer t. IsOk answer
+        × Advances built_items list_name (λ x y. x ≡ y) left_items s n take answer t };
+
+    ghost skips_b = { λ s n answer t. IsOk answer × Skips built_items list_name s answer t };
+
+    fn advance_a(&mut self, n: usize, take: bool) -> Result<bool, AllocError> {
+        if take {
+            self.take_left(n);
+        } else {
+            self.skip_left(n);
+        }
+        Ok(true)
+    }
+
+    fn skip_b(&mut self, n: usize) -> Result<bool, AllocError> {
+        self.next += n;
+        Ok(true)
+    }
+}
+
+impl<'a, T> MergeFromRight for PartsState<'a, T> {
+    ghost use Rattle.vc_merge.specs.PartsViews.{built_items, right_items, list_name};
+
+    ghost takes_b = { λ s n answer t. IsOk answer
+        × Advances built_items list_name (λ x y. x ≡ y) right_items s n true answer t };
+
+    fn take_b(&mut self, n: usize) -> Result<bool, AllocError> {
+        self.take_right(n);
+        Ok(true)
+    }
+}
+
+/// Makes room for `n` more elements, and puts a gap of blanks between those of `list` and the room.
+///
+/// Where they fit, it takes no memory.
+///
+/// # Errors
+///
+/// Where memory is refused; the list is then as it was. It asks at most once.
+pub fn open_gap<T: MadeWith<A> + Drop, const N: usize, A: Allocator + Copy>(
+    list: &mut SmallVec<T, N, A>,
+    n: usize,
+) -> Result<(), AllocError>
+    ensures room { OnOk result (HasRoomFor list.new n) }
+    ensures front { OnOk result (take (small_vec_len list.old) list.new.items ≡ list.old.items) }
+    ensures gap { OnOk result (small_vec_len list.old ≤ small_vec_len list.new) }
+    ensures err { OnErr result (list.new ≡ list.old) }
+{
+    if list.capacity() - list.len() < n {
+        list.reserve(n.saturating_add(n.min(LONGEST_GAP)))?;
+    }
+    let spare = list.capacity() - list.len() - n;
+    push_blanks(list, spare.min(n).min(LONGEST_GAP));
+    Ok(())
+}
+
+/// Pushes `n` blanks, for which there is room.
+fn push_blanks<T: MadeWith<A> + Drop, const N: usize, A: Allocator + Copy>(
+    list: &mut SmallVec<T, N, A>,
+    n: usize,
+)
+    requires { HasRoomFor list.old n }
+    ensures front { take (small_vec_len list.old) list.new.items ≡ list.old.items }
+    ensures len { small_vec_len list.new ≡ small_vec_len list.old + n }
+    ensures capacity { list.new.capacity ≡ list.old.capacity }
+{
+    let alloc = *list.allocator();
+    for added in 0..n {
+        list.push_reserved(T::made_with(alloc));
+    }
+}
+
+/// Moves the elements from `start` to `end` up to the place `next`. Those that lay between end up before them.
+fn move_up<T>(list: &mut [T], start: usize, end: usize, next: usize)
+    requires order { start ≤ end }
+    requires gap { end ≤ next }
+    requires within { next ≤ length list.old }
+    ensures { MovesUp list.old start end next list.new }
+{
+    list[start..next].rotate_left(end - start);
+}
+
+/// Moves the `n` elements from the place `next` on down to the place `at`. Those that lay between move up behind them.
+fn turn_runs<T>(list: &mut [T], at: usize, next: usize, n: usize)
+    requires order { at ≤ next }
+    requires within { next + n ≤ length list.old }
+    ensures { Turns list.old at next n list.new }
+{
+    list[at..next + n].rotate_left(next - at);
+}
+
+/// Lets the `n` elements from the place `next` on change places with those from `at` on.
+fn trade_runs<T>(list: &mut [T], at: usize, next: usize, n: usize)
+    requires apart { at + n ≤ next }
+    requires within { next + n ≤ length list.old }
+    ensures { Trades list.old at next n list.new }
+{
+    let (front, back) = list.split_at_mut(next);
+    front[at..at + n].swap_with_slice(&mut back[..n]);
+}
