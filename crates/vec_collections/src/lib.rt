@@ -46,17 +46,13 @@ pub mod laws {
         members_are_elements, members_tell_the_list, runs_are_beginnings, script_is_one, ticks_stay,
     };
     pub use vc_sets::laws::{operations_are_as_named, set_of_is_one, tests_are_of_operations};
-    pub use vc_tree_model::laws::{
-        ByClone, ByEq, Matching, binds_is_lookup, canonical_is_conditions, canonical_is_smallest,
-        canonical_is_unique, keys_are_ordered, left_behind_is_rest, walk_is_one,
-    };
-}
-
-/// The laws of the words that contracts cite. Each function does nothing: code that calls one has its law in the proof.
-pub mod laws {
     pub use vc_total_sets::laws::{
         complements_turn_operations, total_operations_are_pointwise, total_operations_make_one,
         total_tests_are_of_operations,
+    };
+    pub use vc_tree_model::laws::{
+        ByClone, ByEq, Matching, binds_is_lookup, canonical_is_conditions, canonical_is_smallest,
+        canonical_is_unique, keys_are_ordered, left_behind_is_rest, walk_is_one,
     };
 }
 
