@@ -19,3 +19,4 @@ pub mod InPlaceViews
 pub mod MovedViews
 pub mod Laws
 pub mod Yielded
+pub mod Takes
