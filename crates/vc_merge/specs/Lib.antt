@@ -6,6 +6,8 @@ pub mod BuilderLends
 pub mod Building
 pub mod Chain
 pub mod Count
+pub mod Fronts
+pub mod Place
 pub mod Places
 pub mod PlacesLend
 pub mod PlacesOwned
@@ -16,5 +18,7 @@ pub mod SiftViews
 pub mod SmallVecViews
 pub mod InPlaceViews
 pub mod MovedViews
+pub mod Gathering
 pub mod Laws
+pub mod Showing
 pub mod Yielded

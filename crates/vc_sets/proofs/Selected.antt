@@ -1,6 +1,6 @@
--- What comes from the selected elements of a script is what the set operation makes of the two lists.
-use Rattle.std.proofs.Common.{◌≡◌, Bool, true, false, List, [], ◌∷◌, ◌⊎◌, inl, inr, Option, Some, None, is_some, IsSomeAnd, MatchBool, refl, sym, ap, subst, ◌∙◌}
-use Rattle.std.specs.List.{AllByRecursion, AllZip}
+-- What is kept of the events of a script is what the set operation makes of the two lists.
+use Rattle.std.proofs.Common.{◌≡◌, Bool, true, false, List, [], ◌∷◌, ◌++◌, Option, Some, None, is_some, IsSomeAnd, MatchBool, refl, sym, ap, subst, ◌∙◌}
+use Rattle.std.specs.List.{AllByRecursion}
 use Rattle.std.specs.List.Sorted.{IsStrictlySortedBy}
 use Rattle.std.specs.Cmp.{IsTotalOrder, alike_right}
 use Rattle.std.specs.Ordering.{eq_by_cmp}
@@ -9,7 +9,8 @@ use Rattle.std.specs.declared.cmp.Ordering.TheVariants.{Less, Equal}
 use Rattle.vc_merge.specs.Ascending.{Ascends, member, element_at}
 use Rattle.vc_merge.specs.Script.{Event, left_alone, right_alone, collision, lefts, rights, place, IsMatched, IsScript}
 use Rattle.vc_sets.specs.SetOf.{Keeps, IsSetOf}
-use Rattle.vc_sets.specs.Select.{either, both_sides, push_if, selected, ComesFrom}
+use Rattle.vc_merge.specs.Gathering.{Gathers, GivesIf}
+use Rattle.vc_sets.specs.Select.{either, both_sides, KeptAt}
 use Rattle.vc_sets.proofs.Members.{member-is_some, element_at-first, element_at-later, element_at-none, equal-alike}
 
 -- ---- one place
@@ -44,111 +45,92 @@ module _ {X : Type 0} (cmp : X → X → Ordering) (total : IsTotalOrder cmp) wh
   rights-above y (right_alone x ∷ es) p m = (p.0, rights-above y es p.1 m.1)
   rights-above y (collision x w ∷ es) p m = (sym (alike_right total x w y m.0) ∙ p.0, rights-above y es p.1 m.1)
 
-  module _ (f : Bool → Bool → Bool) where
-    push_if-each : (P : X ⊎ X → Type 0) (b : Bool) (u : X ⊎ X) (us : List (X ⊎ X)) → P u → AllByRecursion P us → AllByRecursion P (push_if b u us)
-    push_if-each P true u us p q = (p, q)
-    push_if-each P false u us p q = q
+  -- what is above an element is above its equal
+  alike-above : (y z : X) (zs : List X) → cmp y z ≡ Equal → AllByRecursion (λ w. cmp y w ≡ Less) zs → AllByRecursion (λ w. cmp z w ≡ Less) zs
+  alike-above y z [] e p = tt
+  alike-above y z (w ∷ zs) e p = (sym (total.congr y z w e) ∙ p.0, alike-above y z zs e p.1)
 
-    selected-above : (y : X) (es : List (Event X X)) → AllByRecursion (λ e. cmp y (either (place e)) ≡ Less) es → AllByRecursion (λ u. cmp y (either u) ≡ Less) (selected f es)
-    selected-above y [] p = tt
-    selected-above y (left_alone x ∷ es) p = push_if-each (λ u. cmp y (either u) ≡ Less) (f true false) (inl x) (selected f es) p.0 (selected-above y es p.1)
-    selected-above y (right_alone x ∷ es) p = push_if-each (λ u. cmp y (either u) ≡ Less) (f false true) (inr x) (selected f es) p.0 (selected-above y es p.1)
-    selected-above y (collision x w ∷ es) p = push_if-each (λ u. cmp y (either u) ≡ Less) (f true true) (inl x) (selected f es) p.0 (selected-above y es p.1)
+  -- ---- one event: `first` is what is kept at it, `rest` what is kept later
 
-    push_if-ascends : (b : Bool) (u : X ⊎ X) (us : List (X ⊎ X)) → AllByRecursion (λ v. both_sides cmp u v ≡ Less) us → Ascends (both_sides cmp) us → Ascends (both_sides cmp) (push_if b u us)
+  module _ (u : X) (P : X → Type 0) (equal : (z : X) → P z → cmp u z ≡ Equal) where
+    kept-above : (y : X) (b : Bool) (first rest zs : List X) → GivesIf b P first → zs ≡ first ++ rest → cmp y u ≡ Less → AllByRecursion (λ z. cmp y z ≡ Less) rest → AllByRecursion (λ z. cmp y z ≡ Less) zs
+    kept-above y true first rest zs g e h p = subst (λ l. AllByRecursion (λ z. cmp y z ≡ Less) l) (sym (e ∙ ap (λ l. l ++ rest) g.2)) (sym (alike_right total u g.0 y (equal g.0 g.1)) ∙ h, p)
+    kept-above y false first rest zs g e h p = subst (λ l. AllByRecursion (λ z. cmp y z ≡ Less) l) (sym (e ∙ ap (λ l. l ++ rest) g)) p
+
+    kept-ascends : (b : Bool) (first rest zs : List X) → GivesIf b P first → zs ≡ first ++ rest → AllByRecursion (λ z. cmp u z ≡ Less) rest → Ascends cmp rest → Ascends cmp zs
     unfolding IsStrictlySortedBy
-    push_if-ascends true u us p q = (p, q)
-    push_if-ascends false u us p q = q
+    kept-ascends true first rest zs g e p q = subst (λ l. Ascends cmp l) (sym (e ∙ ap (λ l. l ++ rest) g.2)) (alike-above u g.0 rest (equal g.0 g.1) p, q)
+    kept-ascends false first rest zs g e p q = subst (λ l. Ascends cmp l) (sym (e ∙ ap (λ l. l ++ rest) g)) q
 
-    selected-ascends : (es : List (Event X X)) → Ascends (λ d e. both_sides cmp (place d) (place e)) es → Ascends (both_sides cmp) (selected f es)
+    -- it stands at x
+    kept-at : (x : X) (b : Bool) (first rest zs : List X) → GivesIf b P first → zs ≡ first ++ rest → AllByRecursion (λ z. cmp u z ≡ Less) rest → eq_by_cmp cmp u x ≡ true
+        → MatchBool b (IsSomeAnd (element_at cmp zs x) P) (element_at cmp zs x ≡ None)
+    kept-at x true first rest zs g e p h =
+        subst (λ o. IsSomeAnd o P) (sym (ap (λ l. element_at cmp l x) (e ∙ ap (λ l. l ++ rest) g.2) ∙ element_at-first cmp g.0 rest x (equal-alike cmp total u g.0 x (equal g.0 g.1) ∙ h))) g.1
+    kept-at x false first rest zs g e p h = ap (λ l. element_at cmp l x) (e ∙ ap (λ l. l ++ rest) g) ∙ element_at-none cmp total u x rest p h
+
+    -- it stands elsewhere
+    kept-elsewhere : (x : X) (b : Bool) (first rest zs : List X) → GivesIf b P first → zs ≡ first ++ rest → eq_by_cmp cmp u x ≡ false → element_at cmp zs x ≡ element_at cmp rest x
+    kept-elsewhere x true first rest zs g e h = ap (λ l. element_at cmp l x) (e ∙ ap (λ l. l ++ rest) g.2) ∙ element_at-later cmp g.0 rest x (equal-alike cmp total u g.0 x (equal g.0 g.1) ∙ h)
+    kept-elsewhere x false first rest zs g e h = ap (λ l. element_at cmp l x) (e ∙ ap (λ l. l ++ rest) g)
+
+  -- ---- the whole script
+
+  module _ (L R : X → X → Type 0) (left_equal : (x z : X) → L x z → cmp x z ≡ Equal) (right_equal : (x z : X) → R x z → cmp x z ≡ Equal) (f : Bool → Bool → Bool) (none : f false false ≡ false) where
+    all-above : (y : X) (es : List (Event X X)) (zs : List X) → AllByRecursion (λ e. cmp y (either (place e)) ≡ Less) es → Gathers (KeptAt f L R) es zs → AllByRecursion (λ z. cmp y z ≡ Less) zs
+    all-above y [] zs p q = subst (λ l. AllByRecursion (λ z. cmp y z ≡ Less) l) (sym q) tt
+    all-above y (left_alone x ∷ es) zs p q = kept-above x (L x) (left_equal x) y (f true false) q.0 q.1 zs q.2 q.4 p.0 (all-above y es q.1 p.1 q.3)
+    all-above y (right_alone x ∷ es) zs p q = kept-above x (R x) (right_equal x) y (f false true) q.0 q.1 zs q.2 q.4 p.0 (all-above y es q.1 p.1 q.3)
+    all-above y (collision x w ∷ es) zs p q = kept-above x (L x) (left_equal x) y (f true true) q.0 q.1 zs q.2 q.4 p.0 (all-above y es q.1 p.1 q.3)
+
+    all-ascend : (es : List (Event X X)) (zs : List X) → Ascends (λ d e. both_sides cmp (place d) (place e)) es → Gathers (KeptAt f L R) es zs → Ascends cmp zs
     unfolding IsStrictlySortedBy
-    selected-ascends [] p = tt
-    selected-ascends (left_alone x ∷ es) p = push_if-ascends (f true false) (inl x) (selected f es) (selected-above x es p.0) (selected-ascends es p.1)
-    selected-ascends (right_alone x ∷ es) p = push_if-ascends (f false true) (inr x) (selected f es) (selected-above x es p.0) (selected-ascends es p.1)
-    selected-ascends (collision x w ∷ es) p = push_if-ascends (f true true) (inl x) (selected f es) (selected-above x es p.0) (selected-ascends es p.1)
+    all-ascend [] zs p q = subst (λ l. Ascends cmp l) (sym q) tt
+    all-ascend (left_alone x ∷ es) zs p q = kept-ascends x (L x) (left_equal x) (f true false) q.0 q.1 zs q.2 q.4 (all-above x es q.1 p.0 q.3) (all-ascend es q.1 p.1 q.3)
+    all-ascend (right_alone x ∷ es) zs p q = kept-ascends x (R x) (right_equal x) (f false true) q.0 q.1 zs q.2 q.4 (all-above x es q.1 p.0 q.3) (all-ascend es q.1 p.1 q.3)
+    all-ascend (collision x w ∷ es) zs p q = kept-ascends x (L x) (left_equal x) (f true true) q.0 q.1 zs q.2 q.4 (all-above x es q.1 p.0 q.3) (all-ascend es q.1 p.1 q.3)
 
-  -- ---- what comes from the selected elements
+    -- what stands at x in zs is what f keeps there of the events
+    IsKeptAt : X → List (Event X X) → List X → Type 0
+    IsKeptAt x es zs = Keeps f L R (element_at cmp (lefts es) x) (element_at cmp (rights es) x) (element_at cmp zs x)
 
-  module _ (L R : X → X → Type 0) (left_equal : (x z : X) → L x z → cmp x z ≡ Equal) (right_equal : (x z : X) → R x z → cmp x z ≡ Equal) where
-    come-equal : (u : X ⊎ X) (z : X) → ComesFrom L R u z → cmp (either u) z ≡ Equal
-    come-equal (inl x) z h = left_equal x z h
-    come-equal (inr x) z h = right_equal x z h
+    at_left : (x y : X) (es : List (Event X X)) (zs : List X) → AllByRecursion (λ e. cmp y (either (place e)) ≡ Less) es → AllByRecursion (IsMatched (both_sides cmp)) es
+        → (q : Gathers (KeptAt f L R) (left_alone y ∷ es) zs) → IsKeptAt x es q.1 → (b : Bool) → eq_by_cmp cmp y x ≡ b → IsKeptAt x (left_alone y ∷ es) zs
+    unfolding IsKeptAt
+    at_left x y es zs p m q ih true e =
+        keeps-same f none L R (element_at-first cmp y (lefts es) x e) (element_at-none cmp total y x (rights es) (rights-above y es p m) e) refl (kept-at y (L y) (left_equal y) x (f true false) q.0 q.1 zs q.2 q.4 (all-above y es q.1 p q.3) e)
+    at_left x y es zs p m q ih false e = keeps-same f none L R (element_at-later cmp y (lefts es) x e) refl (kept-elsewhere y (L y) (left_equal y) x (f true false) q.0 q.1 zs q.2 q.4 e) ih
 
-    come-above : (y : X) (us : List (X ⊎ X)) (zs : List X) → AllByRecursion (λ u. cmp y (either u) ≡ Less) us → AllZip (ComesFrom L R) us zs → AllByRecursion (λ z. cmp y z ≡ Less) zs
-    come-above y [] [] p q = tt
-    come-above y [] (z ∷ zs) p q = absurd q
-    come-above y (u ∷ us) [] p q = absurd q
-    come-above y (u ∷ us) (z ∷ zs) p q = (sym (alike_right total (either u) z y (come-equal u z q.0)) ∙ p.0, come-above y us zs p.1 q.1)
+    at_right : (x y : X) (es : List (Event X X)) (zs : List X) → AllByRecursion (λ e. cmp y (either (place e)) ≡ Less) es → AllByRecursion (IsMatched (both_sides cmp)) es
+        → (q : Gathers (KeptAt f L R) (right_alone y ∷ es) zs) → IsKeptAt x es q.1 → (b : Bool) → eq_by_cmp cmp y x ≡ b → IsKeptAt x (right_alone y ∷ es) zs
+    unfolding IsKeptAt
+    at_right x y es zs p m q ih true e =
+        keeps-same f none L R (element_at-none cmp total y x (lefts es) (lefts-above y es p) e) (element_at-first cmp y (rights es) x e) refl (kept-at y (R y) (right_equal y) x (f false true) q.0 q.1 zs q.2 q.4 (all-above y es q.1 p q.3) e)
+    at_right x y es zs p m q ih false e = keeps-same f none L R refl (element_at-later cmp y (rights es) x e) (kept-elsewhere y (R y) (right_equal y) x (f false true) q.0 q.1 zs q.2 q.4 e) ih
 
-    alike-above : (y z : X) (zs : List X) → cmp y z ≡ Equal → AllByRecursion (λ w. cmp y w ≡ Less) zs → AllByRecursion (λ w. cmp z w ≡ Less) zs
-    alike-above y z [] e p = tt
-    alike-above y z (w ∷ zs) e p = (sym (total.congr y z w e) ∙ p.0, alike-above y z zs e p.1)
+    at_both : (x y w : X) (es : List (Event X X)) (zs : List X) → cmp y w ≡ Equal → AllByRecursion (λ e. cmp y (either (place e)) ≡ Less) es
+        → (q : Gathers (KeptAt f L R) (collision y w ∷ es) zs) → IsKeptAt x es q.1 → (b : Bool) → eq_by_cmp cmp y x ≡ b → IsKeptAt x (collision y w ∷ es) zs
+    unfolding IsKeptAt
+    at_both x y w es zs m p q ih true e =
+        keeps-same f none L R (element_at-first cmp y (lefts es) x e) (element_at-first cmp w (rights es) x (equal-alike cmp total y w x m ∙ e)) refl (kept-at y (L y) (left_equal y) x (f true true) q.0 q.1 zs q.2 q.4 (all-above y es q.1 p q.3) e)
+    at_both x y w es zs m p q ih false e =
+        keeps-same f none L R (element_at-later cmp y (lefts es) x e) (element_at-later cmp w (rights es) x (equal-alike cmp total y w x m ∙ e)) (kept-elsewhere y (L y) (left_equal y) x (f true true) q.0 q.1 zs q.2 q.4 e) ih
 
-    come-ascends : (us : List (X ⊎ X)) (zs : List X) → Ascends (both_sides cmp) us → AllZip (ComesFrom L R) us zs → Ascends cmp zs
-    unfolding IsStrictlySortedBy
-    come-ascends [] [] p q = tt
-    come-ascends [] (z ∷ zs) p q = absurd q
-    come-ascends (u ∷ us) [] p q = absurd q
-    come-ascends (u ∷ us) (z ∷ zs) p q = (alike-above (either u) z zs (come-equal u z q.0) (come-above (either u) us zs p.0 q.1), come-ascends us zs p.1 q.1)
+    kept_at : (x : X) (es : List (Event X X)) (zs : List X) → Ascends (λ d e. both_sides cmp (place d) (place e)) es → AllByRecursion (IsMatched (both_sides cmp)) es → Gathers (KeptAt f L R) es zs → IsKeptAt x es zs
+    unfolding IsKeptAt IsStrictlySortedBy
+    kept_at x [] zs p m q = ap (λ l. element_at cmp l x) q
+    kept_at x (left_alone y ∷ es) zs p m q = at_left x y es zs p.0 m.1 q (kept_at x es q.1 p.1 m.1 q.3) (eq_by_cmp cmp y x) refl
+    kept_at x (right_alone y ∷ es) zs p m q = at_right x y es zs p.0 m.1 q (kept_at x es q.1 p.1 m.1 q.3) (eq_by_cmp cmp y x) refl
+    kept_at x (collision y w ∷ es) zs p m q = at_both x y w es zs m.0 p.0 q (kept_at x es q.1 p.1 m.1 q.3) (eq_by_cmp cmp y x) refl
 
-    -- the first selected element stands at x
-    come-at : (b : Bool) (u : X ⊎ X) (us : List (X ⊎ X)) (zs : List X) (x : X) → eq_by_cmp cmp (either u) x ≡ true → AllByRecursion (λ v. cmp (either u) (either v) ≡ Less) us → AllZip (ComesFrom L R) (push_if b u us) zs
-        → MatchBool b (IsSomeAnd (element_at cmp zs x) (ComesFrom L R u)) (element_at cmp zs x ≡ None)
-    come-at true u us [] x e p q = absurd q
-    come-at true u us (z ∷ zs) x e p q = subst (λ o. IsSomeAnd o (ComesFrom L R u)) (sym (element_at-first cmp z zs x (equal-alike cmp total (either u) z x (come-equal u z q.0) ∙ e))) q.0
-    come-at false u us zs x e p q = element_at-none cmp total (either u) x zs (come-above (either u) us zs p q) e
-
-    -- the first selected element stands elsewhere
-    come-elsewhere : (b : Bool) (u : X ⊎ X) (us : List (X ⊎ X)) (zs : List X) (x : X) → eq_by_cmp cmp (either u) x ≡ false → AllZip (ComesFrom L R) (push_if b u us) zs
-        → (rest : List X) × AllZip (ComesFrom L R) us rest × (element_at cmp zs x ≡ element_at cmp rest x)
-    come-elsewhere true u us [] x e q = absurd q
-    come-elsewhere true u us (z ∷ zs) x e q = (zs, q.1, element_at-later cmp z zs x (equal-alike cmp total (either u) z x (come-equal u z q.0) ∙ e))
-    come-elsewhere false u us zs x e q = (zs, q, refl)
-
-    module _ (f : Bool → Bool → Bool) (none : f false false ≡ false) where
-      -- at each place, the selected elements are what f keeps
-      IsKeptAt : X → List (Event X X) → List X → Type 0
-      IsKeptAt x es zs = Keeps f L R (element_at cmp (lefts es) x) (element_at cmp (rights es) x) (element_at cmp zs x)
-
-      at_left : (x y : X) (es : List (Event X X)) → AllByRecursion (λ e. cmp y (either (place e)) ≡ Less) es → AllByRecursion (IsMatched (both_sides cmp)) es → ((zs : List X) → AllZip (ComesFrom L R) (selected f es) zs → IsKeptAt x es zs)
-          → (zs : List X) → AllZip (ComesFrom L R) (push_if (f true false) (inl y) (selected f es)) zs → (b : Bool) → eq_by_cmp cmp y x ≡ b → IsKeptAt x (left_alone y ∷ es) zs
-      unfolding IsKeptAt
-      at_left x y es p m ih zs q true e =
-          keeps-same f none L R (element_at-first cmp y (lefts es) x e) (element_at-none cmp total y x (rights es) (rights-above y es p m) e) refl (come-at (f true false) (inl y) (selected f es) zs x e (selected-above f y es p) q)
-      at_left x y es p m ih zs q false e = let r = come-elsewhere (f true false) (inl y) (selected f es) zs x e q in keeps-same f none L R (element_at-later cmp y (lefts es) x e) refl r.2 (ih r.0 r.1)
-
-      at_right : (x y : X) (es : List (Event X X)) → AllByRecursion (λ e. cmp y (either (place e)) ≡ Less) es → AllByRecursion (IsMatched (both_sides cmp)) es → ((zs : List X) → AllZip (ComesFrom L R) (selected f es) zs → IsKeptAt x es zs)
-          → (zs : List X) → AllZip (ComesFrom L R) (push_if (f false true) (inr y) (selected f es)) zs → (b : Bool) → eq_by_cmp cmp y x ≡ b → IsKeptAt x (right_alone y ∷ es) zs
-      unfolding IsKeptAt
-      at_right x y es p m ih zs q true e =
-          keeps-same f none L R (element_at-none cmp total y x (lefts es) (lefts-above y es p) e) (element_at-first cmp y (rights es) x e) refl (come-at (f false true) (inr y) (selected f es) zs x e (selected-above f y es p) q)
-      at_right x y es p m ih zs q false e = let r = come-elsewhere (f false true) (inr y) (selected f es) zs x e q in keeps-same f none L R refl (element_at-later cmp y (rights es) x e) r.2 (ih r.0 r.1)
-
-      at_both : (x y w : X) (es : List (Event X X)) → cmp y w ≡ Equal → AllByRecursion (λ e. cmp y (either (place e)) ≡ Less) es → ((zs : List X) → AllZip (ComesFrom L R) (selected f es) zs → IsKeptAt x es zs)
-          → (zs : List X) → AllZip (ComesFrom L R) (push_if (f true true) (inl y) (selected f es)) zs → (b : Bool) → eq_by_cmp cmp y x ≡ b → IsKeptAt x (collision y w ∷ es) zs
-      unfolding IsKeptAt
-      at_both x y w es m p ih zs q true e =
-          keeps-same f none L R (element_at-first cmp y (lefts es) x e) (element_at-first cmp w (rights es) x (equal-alike cmp total y w x m ∙ e)) refl (come-at (f true true) (inl y) (selected f es) zs x e (selected-above f y es p) q)
-      at_both x y w es m p ih zs q false e =
-          let r = come-elsewhere (f true true) (inl y) (selected f es) zs x e q in
-          keeps-same f none L R (element_at-later cmp y (lefts es) x e) (element_at-later cmp w (rights es) x (equal-alike cmp total y w x m ∙ e)) r.2 (ih r.0 r.1)
-
-      kept_at : (x : X) (es : List (Event X X)) → Ascends (λ d e. both_sides cmp (place d) (place e)) es → AllByRecursion (IsMatched (both_sides cmp)) es → (zs : List X) → AllZip (ComesFrom L R) (selected f es) zs → IsKeptAt x es zs
-      unfolding IsKeptAt IsStrictlySortedBy
-      kept_at x [] p m [] q = refl
-      kept_at x [] p m (z ∷ zs) q = absurd q
-      kept_at x (left_alone y ∷ es) p m zs q = at_left x y es p.0 m.1 (kept_at x es p.1 m.1) zs q (eq_by_cmp cmp y x) refl
-      kept_at x (right_alone y ∷ es) p m zs q = at_right x y es p.0 m.1 (kept_at x es p.1 m.1) zs q (eq_by_cmp cmp y x) refl
-      kept_at x (collision y w ∷ es) p m zs q = at_both x y w es m.0 p.0 (kept_at x es p.1 m.1) zs q (eq_by_cmp cmp y x) refl
-
-      -- what comes from the selected elements of the script of a and b is what f makes of them
-      pub set_of : (a b c : List X) (es : List (Event X X)) → IsScript (both_sides cmp) a b es → AllZip (ComesFrom L R) (selected f es) c → IsSetOf cmp L R f a b c
-      unfolding IsKeptAt
-      set_of a b c es s q =
-          let kept : (x : X) → Keeps f L R (element_at cmp a x) (element_at cmp b x) (element_at cmp c x) =
-          λ x. keeps-same f none L R (ap (λ l. element_at cmp l x) (sym s.left)) (ap (λ l. element_at cmp l x) (sym s.right)) refl (kept_at x es s.ascends s.matched c q) in
-          record {
-            ascends = come-ascends (selected f es) c (selected-ascends f es s.ascends) q;
-            members = λ x. member-is_some cmp c x ∙ keeps-is_some f none L R (element_at cmp a x) (element_at cmp b x) (element_at cmp c x) (kept x) ∙ ap (λ t. f t (is_some (element_at cmp b x))) (sym (member-is_some cmp a x)) ∙ ap (λ t. f (member cmp a x) t) (sym (member-is_some cmp b x));
-            kept = kept;
-          }
+    -- what is kept of the script of a and b is what f makes of them
+    pub set_of : (a b c : List X) (es : List (Event X X)) → IsScript (both_sides cmp) a b es → Gathers (KeptAt f L R) es c → IsSetOf cmp L R f a b c
+    unfolding IsKeptAt
+    set_of a b c es s q =
+        let kept : (x : X) → Keeps f L R (element_at cmp a x) (element_at cmp b x) (element_at cmp c x) =
+        λ x. keeps-same f none L R (ap (λ l. element_at cmp l x) (sym s.left)) (ap (λ l. element_at cmp l x) (sym s.right)) refl (kept_at x es c s.ascends s.matched q) in
+        record {
+          ascends = all-ascend es c s.ascends q;
+          members = λ x. member-is_some cmp c x ∙ keeps-is_some f none L R (element_at cmp a x) (element_at cmp b x) (element_at cmp c x) (kept x) ∙ ap (λ t. f t (is_some (element_at cmp b x))) (sym (member-is_some cmp a x)) ∙ ap (λ t. f (member cmp a x) t) (sym (member-is_some cmp b x));
+          kept = kept;
+        }

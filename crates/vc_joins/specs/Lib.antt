@@ -1,0 +1,6 @@
+pub mod Answers
+pub mod Entries
+pub mod Events
+pub mod Join
+pub mod Laws
+pub mod Question

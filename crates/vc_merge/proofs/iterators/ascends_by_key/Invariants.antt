@@ -1,0 +1,6 @@
+use Rattle.vc_merge.specs.Yielded.{by_first}
+use Rattle.vc_merge.proofs.Lists.{AscendsBelow}
+use Rattle.vc_merge.proofs.iterators.ascends_by_key.Given as goal
+
+abbrev pub invariant-loop-at : goal.invariant-loop-at
+invariant-loop-at g l = AscendsBelow (by_first g.K.Ord.cmp) l.list l.at
