@@ -1,8 +1,9 @@
 //! Radix trees from outside: each call at both flavours, generic code, and a tree of this crate's own with children.
-ghost use Rattle.std.specs.Prelude.{◌≡◌, ◌<◌, ◌↔◌, [], ◌∷◌, Some, None, IsSome, IfOk, OnOk, OnErr, IsTrue};
+ghost use Rattle.std.specs.Prelude.{◌≡◌, ◌<◌, [], ◌∷◌, Some, None, length, IfOk, OnOk};
 ghost use Rattle.std.specs.Ordering.{nat_cmp};
-ghost use Rattle.vec_collections.specs.Map.{lookup, HaveEqualMaps, IsInserted};
-ghost use Rattle.vec_collections.specs.Tree.{made, no_tree};
+ghost use Rattle.std.specs.Option.{option_copied};
+ghost use Rattle.vec_collections.specs.Map.{lookup, or_else, IsInserted};
+ghost use Rattle.vec_collections.specs.Tree.{made, no_tree, is_bare, trees};
 
 use std::alloc::{AllocError, Global};
 use std::marker::Model;
@@ -29,6 +30,16 @@ pub fn set_shared_port(
     let had = ports.get(server).copied();
     ports.insert(server, port)?;
     Ok(had)
+}
+
+/// Which paths may be read.
+pub type Rules = RadixTree<u8, bool>;
+
+/// Allows a path to be read.
+pub fn allow(rules: &mut Rules, path: &[u8]) -> Result<(), AllocError>
+    ensures { OnOk result (lookup nat_cmp rules.new path.now ≡ Some true) }
+{
+    rules.insert(path, true)
 }
 
 /// A snapshot of the ports.
@@ -59,21 +70,33 @@ pub fn one_port(alloc: Global, server: &[u8], port: u32) -> Result<Ports, AllocE
     Ports::single(alloc, server, port)
 }
 
-/// Binds the key to the value in a tree of any flavour, unless the tree binds the key already.
-pub fn insert_missing<K: TKey, V: TValue, T: AbstractRadixTreeMut<K, V>>(
-    tree: &mut T,
-    key: &[K],
-    value: V,
-) -> Result<(), AllocError>
-    ensures known { IsSome (lookup K.cmp (T.tree tree.old) key.now) → T.tree tree.new ≡ T.tree tree.old }
-    ensures missing { lookup K.cmp (T.tree tree.old) key.now ≡ None
-        → OnOk result (IsInserted K.cmp T.keeps key.now value (T.tree tree.old) (T.tree tree.new)) }
-    ensures err { OnErr result (HaveEqualMaps K.cmp T.keeps (T.tree tree.old) (T.tree tree.new)) }
+/// What all names of servers begin with, how many parts follow, the port of that name itself, and whether there is no port.
+pub fn root_of(ports: &Ports) -> (usize, usize, Option<u32>, bool)
+    ensures prefix { result.0 ≡ length ports.now.prefix }
+    ensures parts { result.1 ≡ length (trees ports.now.children) }
+    ensures value { result.2 ≡ ports.now.value }
+    ensures none { result.3 ≡ is_bare ports.now }
 {
-    if tree.get(key).is_some() {
-        return Ok(());
+    (
+        ports.prefix().len(),
+        ports.children().len(),
+        ports.value().copied(),
+        ports.is_empty(),
+    )
+}
+
+/// The value of the key in the first of two trees of any kind that binds it.
+pub fn get_first<'a, K: TKey, V: TValue, S: AbstractRadixTree<K, V>, T: AbstractRadixTree<K, V>>(
+    first: &'a S,
+    second: &'a T,
+    key: &[K],
+) -> Option<&'a V>
+    ensures { option_copied result ≡ or_else (lookup K.cmp (S.tree first.now) key.now) (lookup K.cmp (T.tree second.now) key.now) }
+{
+    match first.get(key) {
+        Some(value) => Some(value),
+        None => second.get(key),
     }
-    tree.insert(key, value)
 }
 
 /// A catalogue of articles by their shelves: a tree of this crate's own.

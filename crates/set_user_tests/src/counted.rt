@@ -87,13 +87,20 @@ fn compareds<'a>(
     Ok(set)
 }
 
-const LISTS: [(&[u32], &[u32]); 6] = [
-    (&[0, 2, 4, 6, 8], &[1, 3, 5, 7, 9]),
-    (&[0, 1, 2, 3, 4], &[0, 1, 2, 3, 4]),
-    (&[2], &[1, 2, 3]),
-    (&[1, 2, 3, 4], &[4]),
-    (&[], &[1, 2]),
-    (&[5, 6], &[]),
+/// Two lists, and the most comparisons of an operation or a test of their sets.
+const LISTS: [(&[u32], &[u32], u128); 8] = [
+    (
+        &[0, 2, 4, 6, 8, 10, 12, 14],
+        &[1, 3, 5, 7, 9, 11, 13, 15],
+        16,
+    ),
+    (&[0, 1, 2, 3, 4, 5, 6, 7], &[0, 1, 2, 3, 4, 5, 6, 7], 16),
+    (&[2], &[1, 2, 3], 2),
+    (&[1, 2, 3, 4], &[4], 3),
+    (&[1], &[2, 3, 4, 5], 3),
+    (&[], &[1, 2, 3, 4, 5], 0),
+    (&[5, 6], &[], 0),
+    (&[], &[], 0),
 ];
 
 /// What the operation makes of the two sets, by the call without a counter.
@@ -110,11 +117,12 @@ fn uncounted<'s, 'a>(
     }
 }
 
-/// Whether each operation on the two sets counts the comparisons that its elements counted, and makes as many where it
-/// counts none.
-fn operations_agree<'s, 'a>(
+/// Whether each operation on the two sets, and each test of them, counts the comparisons that its elements counted, at
+/// most so many, and whether an operation makes as many where it counts none. Where both have elements there are some.
+fn agree<'s, 'a>(
     a: &'s Compareds<'a>,
     b: &'s Compareds<'a>,
+    bound: u128,
     count: &'a Cell<u128>,
 ) -> Result<bool, AllocError> {
     let mut agree = true;
@@ -127,43 +135,42 @@ fn operations_agree<'s, 'a>(
         let mut steps = Steps::new();
         count.set(0);
         let _made = a.combine_counted(b, op, &mut steps)?;
-        agree &= steps.count() == count.get();
+        agree &= steps.count() == count.get() && steps.count() <= bound;
+        agree &= (steps.count() == 0) == (bound == 0);
         count.set(0);
         let _made = uncounted(a, b, op)?;
         agree &= steps.count() == count.get();
     }
-    Ok(agree)
-}
-
-/// Whether each test of the two sets counts the comparisons that its elements counted.
-fn tests_agree<'s, 'a>(a: &'s Compareds<'a>, b: &'s Compareds<'a>, count: &'a Cell<u128>) -> bool {
-    let mut agree = true;
     for test in [SetTest::Disjoint, SetTest::Subset, SetTest::Superset] {
         let mut steps = Steps::new();
         count.set(0);
         let _holds = a.test_counted(b, test, &mut steps);
-        agree &= steps.count() == count.get();
+        agree &= steps.count() == count.get() && steps.count() <= bound;
     }
-    agree
+    Ok(agree)
 }
 
-/// Whether each operation and each test of the sets of two lists counts each of its comparisons.
-fn all_agree<'a>(
+/// Whether that holds of the sets of two lists.
+fn lists_agree<'a>(
     alloc: Global,
     left: &[u32],
     right: &[u32],
+    bound: u128,
     count: &'a Cell<u128>,
 ) -> Result<bool, AllocError> {
     let a = compareds(alloc, left, count)?;
     let b = compareds(alloc, right, count)?;
-    Ok(operations_agree(&a, &b, count)? && tests_agree(&a, &b, count))
+    agree(&a, &b, bound, count)
 }
 
 #[test]
 fn each_comparison_is_counted(rt: HostRuntime) -> Result<(), Fail> {
-    for (left, right) in LISTS {
+    for (left, right, bound) in LISTS {
         let count = Cell::new(0);
-        assert!(rt; all_agree(rt.alloc(), left, right, &count)?);
+        assert!(rt;
+            lists_agree(rt.alloc(), left, right, bound, &count)?,
+            "{left:?} {right:?}"
+        );
     }
     Ok(())
 }

@@ -1,4 +1,6 @@
-//! What calls drop is dropped once, refused ones too, and nothing else is: elements that share a count with the test.
+//! What calls drop is dropped once, refused ones too, and nothing else is; and calls in place clone nothing of what they keep or
+//! move: elements that share a count with the test, and may refuse to be cloned.
+ghost use Rattle.std.specs.Prelude.{◌≡◌};
 
 use crate::nth::Nth;
 use std::alloc::{AllocError, Global};
@@ -11,19 +13,55 @@ use vc_sets::vec_set::VecSet;
 /// Memory of which requests can be refused.
 type Memory = Nth<Nth<Global>>;
 
-/// A number that is shared, so that its holders are counted.
+/// A count of holders.
 type Shared = Option<Rc<u32>>;
 
+/// A number that holds a share, and may refuse to be cloned. The number alone counts in comparisons.
+#[derive_where(Debug, PartialEq, Eq, PartialOrd, Ord)]
+#[derive(Drop)]
+struct Held {
+    number: u32,
+    #[derive_where(skip)]
+    share: Shared,
+    #[derive_where(skip)]
+    refuses: bool,
+}
+
+impl Default for Held {
+    fn default() -> Held {
+        Held {
+            number: 0,
+            share: None,
+            refuses: false,
+        }
+    }
+}
+
+impl Clone for Held {
+    ghost is_clone = { λ x y. y.number ≡ x.number };
+
+    fn clone(&self) -> Result<Held, AllocError> {
+        if self.refuses {
+            return Err(AllocError);
+        }
+        Ok(Held {
+            number: self.number,
+            share: self.share.clone()?,
+            refuses: self.refuses,
+        })
+    }
+}
+
 /// A set of them.
-type Set<'a> = VecSet<Shared, 2, &'a Memory>;
+type Set<'a> = VecSet<Held, 2, &'a Memory>;
 
 /// Greater than the number of requests of each call.
 const LIMIT: u64 = 16;
 
-/// The holders of the six numbers where no set is left.
+/// The holders of the six shares where no set is left.
 const ALONE: [usize; 6] = [1, 1, 1, 1, 1, 1];
 
-/// The numbers 1, 2, 3 of a left set and 2, 3, 4 of a right one.
+/// The shares of the numbers 1, 2, 3 of a left set and of 2, 3, 4 of a right one.
 #[derive(Drop)]
 struct Six {
     left: [Shared; 3],
@@ -61,15 +99,29 @@ impl Six {
     }
 }
 
-fn holders_of(shared: &Shared) -> usize {
-    shared.as_ref().map_or(0, |rc| Rc::strong_count(rc))
+fn holders_of(share: &Shared) -> usize {
+    share.as_ref().map_or(0, |rc| Rc::strong_count(rc))
 }
 
-/// The set of the numbers.
-fn set_of<'a>(memory: &'a Memory, numbers: &[Shared; 3]) -> Result<Set<'a>, AllocError> {
+/// The number of a share, and one more holder of it.
+fn hold(share: &Shared, refuses: bool) -> Result<Held, AllocError> {
+    let number = share.as_ref().map_or(0, |rc| **rc);
+    Ok(Held {
+        number,
+        share: share.clone()?,
+        refuses,
+    })
+}
+
+/// The set of the numbers of shares.
+fn set_of<'a>(
+    memory: &'a Memory,
+    shares: &[Shared; 3],
+    refuses: bool,
+) -> Result<Set<'a>, AllocError> {
     let mut set = Set::empty(memory);
-    for number in numbers {
-        set.insert(number.clone()?)?;
+    for share in shares {
+        set.insert(hold(share, refuses)?)?;
     }
     Ok(set)
 }
@@ -91,6 +143,11 @@ enum Change {
 }
 
 impl Change {
+    /// Whether it takes clones of the right set.
+    fn clones(self) -> bool {
+        matches!(self, Change::UnionWith | Change::XorWith)
+    }
+
     /// Makes the call. The right set is gone afterwards.
     fn make<'a>(self, left: &mut Set<'a>, right: Set<'a>) -> Result<(), AllocError> {
         match self {
@@ -110,7 +167,7 @@ impl Change {
     }
 }
 
-/// How many hold the six numbers once a left set was changed and the right one is gone.
+/// How many hold the six shares once a left set was changed and the right one is gone.
 const CHANGES: [(Change, [usize; 6]); 11] = [
     (Change::UnionWith, [2, 2, 2, 1, 1, 2]),
     (Change::XorWith, [2, 1, 1, 1, 1, 2]),
@@ -125,19 +182,20 @@ const CHANGES: [(Change, [usize; 6]); 11] = [
     (Change::MinusAssignReference, [2, 1, 1, 1, 1, 1]),
 ];
 
-/// The holders of the six numbers where a change was refused.
+/// The holders of the six shares where a change was refused.
 const UNCHANGED: [usize; 6] = [2, 2, 2, 1, 1, 1];
 
-/// Makes the call with the request of that number and the next one refused, and says whether it succeeded, and who held
-/// the six numbers before the left set was dropped.
+/// Makes the call on a left set that refuses all clones, with the request of that number and the next one refused. Says whether
+/// it succeeded, and how many held the six shares before the left set was dropped.
 fn try_change(
     six: &Six,
     memory: &Memory,
     change: Change,
+    right_refuses: bool,
     number: u64,
 ) -> Result<(bool, [usize; 6]), AllocError> {
-    let mut left = set_of(memory, &six.left)?;
-    let right = set_of(memory, &six.right)?;
+    let mut left = set_of(memory, &six.left, true)?;
+    let right = set_of(memory, &six.right, right_refuses)?;
     memory.refuse_two(number);
     let is_made = change.make(&mut left, right).is_ok();
     memory.refuse_two(0);
@@ -145,31 +203,25 @@ fn try_change(
 }
 
 #[test]
-fn changes_drop_each_element_once(rt: HostRuntime) -> Result<(), Fail> {
+fn changes_drop_each_element_once_and_clone_none_that_they_keep(
+    rt: HostRuntime,
+) -> Result<(), Fail> {
     let six = Six::new(rt.alloc())?;
     let memory = Nth::new(Nth::new(rt.alloc(), 0), 0);
     for (call, changed) in CHANGES {
-        let (is_made, holders) = try_change(&six, &memory, call, 0)?;
-        assert!(rt; is_made, "{call:?}");
-        assert_eq!(rt; holders, changed, "{call:?}");
-        assert_eq!(rt; six.holders(), ALONE, "{call:?}");
-    }
-    Ok(())
-}
-
-#[test]
-fn refused_changes_drop_the_right_set_once(rt: HostRuntime) -> Result<(), Fail> {
-    let six = Six::new(rt.alloc())?;
-    let memory = Nth::new(Nth::new(rt.alloc(), 0), 0);
-    for (call, changed) in CHANGES {
-        for number in 1..LIMIT {
-            let (is_made, holders) = try_change(&six, &memory, call, number)?;
-            assert_eq!(rt;
-                holders,
-                if is_made { changed } else { UNCHANGED },
-                "{call:?}"
-            );
-            assert_eq!(rt; six.holders(), ALONE, "{call:?}");
+        for right_refuses in [false, true] {
+            let is_refused = right_refuses && call.clones();
+            for number in 0..LIMIT {
+                let (is_made, holders) = try_change(&six, &memory, call, right_refuses, number)?;
+                assert!(rt; !(is_made && is_refused), "{call:?}");
+                assert!(rt; is_made || is_refused || 0 < number, "{call:?}");
+                assert_eq!(rt;
+                    holders,
+                    if is_made { changed } else { UNCHANGED },
+                    "{call:?}"
+                );
+                assert_eq!(rt; six.holders(), ALONE, "{call:?}");
+            }
         }
     }
     Ok(())
@@ -208,39 +260,39 @@ impl Taking {
         match self {
             Taking::Insert => {
                 let mut set = Set::empty(memory);
-                set.insert(a.clone()?)?;
-                set.insert(b.clone()?)?;
+                set.insert(hold(a, true)?)?;
+                set.insert(hold(b, true)?)?;
                 memory.refuse_two(number);
-                set.insert(c.clone()?)?;
+                set.insert(hold(c, true)?)?;
             }
             Taking::Single => {
                 memory.refuse_two(number);
-                let _set: VecSet<Shared, 0, &Memory> = VecSet::single(memory, a.clone()?)?;
+                let _set: VecSet<Held, 0, &Memory> = VecSet::single(memory, hold(a, true)?)?;
             }
             Taking::FromVec => {
-                let list = vec![in alloc; a.clone()?, b.clone()?, c.clone()?]?;
+                let list = vec![in alloc; hold(a, true)?, hold(b, true)?, hold(c, true)?]?;
                 if ascends(list.as_slice()) {
                     memory.refuse_two(number);
                     let _set = Set::from_vec(memory, list)?;
                 }
             }
             Taking::FromIter => {
-                let elements = set_of(memory, &six.left)?.into_iter();
+                let elements = set_of(memory, &six.left, true)?.into_iter();
                 memory.refuse_two(number);
                 let _set = Set::from_iter(memory, elements)?;
             }
             Taking::FromBtreeSet => {
                 let mut tree = BTreeSet::new(alloc);
-                for element in &six.left {
-                    tree.insert(element.clone()?)?;
+                for share in &six.left {
+                    tree.insert(hold(share, true)?)?;
                 }
                 memory.refuse_two(number);
                 let _set = Set::from_btree_set(memory, tree)?;
             }
             Taking::IntoVec => {
-                let mut set: VecSet<Shared, 4, &Memory> = VecSet::empty(memory);
-                for element in &six.left {
-                    set.insert(element.clone()?)?;
+                let mut set: VecSet<Held, 4, &Memory> = VecSet::empty(memory);
+                for share in &six.left {
+                    set.insert(hold(share, true)?)?;
                 }
                 memory.refuse_two(number);
                 let _list = set.into_vec()?;
@@ -266,14 +318,26 @@ fn refused_calls_drop_what_they_took_once(rt: HostRuntime) -> Result<(), Fail> {
 }
 
 #[test]
-fn insert_drops_the_old_of_two_equal_elements(rt: HostRuntime) -> Result<(), Fail> {
+fn elements_that_go_are_dropped(rt: HostRuntime) -> Result<(), Fail> {
     let six = Six::new(rt.alloc())?;
     let memory = Nth::new(Nth::new(rt.alloc(), 0), 0);
-    let mut set = set_of(&memory, &six.left)?;
-    let [new, _, _] = &six.right;
-    set.insert(new.clone()?)?;
-    assert_eq!(rt; six.holders(), [2, 1, 2, 2, 1, 1]);
-    drop(set);
-    assert_eq!(rt; six.holders(), ALONE);
+    let mut set = set_of(&memory, &six.left, true)?;
+    let [two, _, _] = &six.right;
+    set.insert(hold(two, true)?)?;
+    assert_eq!(rt;
+        six.holders(),
+        [2, 1, 2, 2, 1, 1],
+        "the old of two equal ones"
+    );
+    set.remove(&hold(two, true)?);
+    assert_eq!(rt; six.holders(), [2, 1, 2, 1, 1, 1], "removed");
+    set.retain(|element| element.number == 1);
+    assert_eq!(rt; six.holders(), [2, 1, 1, 1, 1, 1], "not kept");
+    set.insert(hold(two, true)?)?;
+    let mut elements = set.into_iter();
+    drop(elements.next());
+    assert_eq!(rt; six.holders(), [1, 1, 1, 2, 1, 1], "taken");
+    drop(elements);
+    assert_eq!(rt; six.holders(), ALONE, "left in the iterator");
     Ok(())
 }

@@ -1,13 +1,9 @@
-//! A crate that uses sets from outside, and the builder that they are changed in: worked examples, conversions, drops,
-//! elements that refuse to be cloned, and refused memory.
+//! A crate that uses sets from outside, and the builder that they are changed in: worked examples, drops, counted comparisons,
+//! elements that refuse to be cloned, refused memory, and calls that take none.
 #![tactic(auto)]
 
 #[cfg(test)]
 mod builder;
-#[cfg(test)]
-mod clones;
-#[cfg(test)]
-mod conversions;
 #[cfg(test)]
 mod counted;
 #[cfg(test)]
@@ -15,5 +11,7 @@ mod drops;
 #[cfg(test)]
 mod examples;
 pub mod nth;
+#[cfg(test)]
+mod quiet;
 #[cfg(test)]
 mod refused;

@@ -6,6 +6,7 @@ ghost use Rattle.vc_tree_model.specs.Tree.{bare, node};
 ghost use Rattle.vc_tree_model.specs.Map.{HaveEqualMaps, IsInserted, lookup};
 
 use std::alloc::{AllocError, Global};
+use std::cell::Cell;
 use vc_trees::radix_tree::{AbstractRadixTree, AbstractRadixTreeMut, RadixNode, TKey, TValue};
 
 #[cfg(test)]
@@ -16,12 +17,22 @@ mod tests;
 pub struct Word {
     letters: Vec<u8>,
     weight: u32,
+    asked: Cell<u32>,
 }
 
 impl Word {
     /// The tree that binds the letters alone.
     pub fn new(letters: Vec<u8>, weight: u32) -> Word {
-        Word { letters, weight }
+        Word {
+            letters,
+            weight,
+            asked: Cell::new(0),
+        }
+    }
+
+    /// How often its allocator was asked for.
+    pub fn asked(&self) -> u32 {
+        self.asked.get()
     }
 }
 
@@ -41,6 +52,7 @@ impl RadixNode<u8, u32> for Word {
     }
 
     fn allocator(&self) -> Global {
+        self.asked.set(self.asked.get().saturating_add(1));
         *self.letters.allocator()
     }
 }

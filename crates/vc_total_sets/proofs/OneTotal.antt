@@ -10,7 +10,7 @@ use Rattle.vc_merge.specs.Ascending.{Ascends, member}
 use Rattle.vc_merge.specs.Laws.{MembersTellTheList}
 use Rattle.vc_sets.specs.SetOf.{and_not, exactly_one}
 use Rattle.vc_total_sets.specs.TotalSet.{TotalSet, total, complement, has, IsEqualTotal}
-use Rattle.vc_total_sets.specs.TotalOf.{IsTotalOf, listed_by}
+use Rattle.vc_total_sets.specs.TotalOf.{IsTotalOf, IsTotalOfEither, IsPointwise, listed_by}
 use Rattle.vc_total_sets.specs.Laws.{Operations, fresh_of, moved_of, OperationsArePointwise, OperationsMakeOne, ComplementsTurnOperations, TotalTestsAreOfOperations}
 use Rattle.vc_total_sets.proofs.Formulas.{none_left, had_by_second, none_shared, not_both, or_of_not, and_of_not, or_turned, and_turned, and_swapped, or_swapped, has_listed}
 
@@ -69,12 +69,15 @@ module _ {X : Type 0} (cmp : X → X → Ordering) where
   pointwise : (f : Bool → Bool → Bool) (a b c : TotalSet X) → HasListed f a b c → (x : X) → has cmp c x ≡ f (has cmp a x) (has cmp b x)
   pointwise f a b c s x = rw (s.negated, s.members x) (has_listed (f a.negated b.negated) (f (has cmp a x) (has cmp b x)))
 
+  listed_pointwise : (f : Bool → Bool → Bool) (a b c : TotalSet X) → HasListed f a b c → IsPointwise cmp f a b c
+  listed_pointwise f a b c s = record { ascends = s.ascends; at = pointwise f a b c s; elsewhere = s.negated }
+
   pub all_pointwise : (made : Operations X) → AllListed made → OperationsArePointwise cmp made
   all_pointwise made all = record {
-    and = λ a b c s. pointwise ◌&&◌ a b c (all.and a b c s);
-    or = λ a b c s. pointwise ◌||◌ a b c (all.or a b c s);
-    xor = λ a b c s. pointwise exactly_one a b c (all.xor a b c s);
-    minus = λ a b c s. pointwise and_not a b c (all.minus a b c s);
+    and = λ a b c s. listed_pointwise ◌&&◌ a b c (all.and a b c s);
+    or = λ a b c s. listed_pointwise ◌||◌ a b c (all.or a b c s);
+    xor = λ a b c s. listed_pointwise exactly_one a b c (all.xor a b c s);
+    minus = λ a b c s. listed_pointwise and_not a b c (all.minus a b c s);
   }
 
   -- ---- one set

@@ -2,8 +2,8 @@
 use Rattle.std.specs.Prelude.{◌≡◌, ◌↔◌, Bool, false, ◌||◌, ◌&&◌, []}
 use Rattle.std.specs.declared.cmp.Ordering.{Ordering}
 use Rattle.vc_sets.specs.SetOf.{and_not, exactly_one}
-use Rattle.vc_total_sets.specs.TotalSet.{TotalSet, total, complement, has, IsEqualTotal}
-use Rattle.vc_total_sets.specs.TotalOf.{IsTotalOf, IsTotalOfEither}
+use Rattle.vc_total_sets.specs.TotalSet.{TotalSet, total, complement, IsEqualTotal}
+use Rattle.vc_total_sets.specs.TotalOf.{IsTotalOf, IsTotalOfEither, IsPointwise}
 use Rattle.vc_total_sets.specs.TotalTests.{IsTotalSubset, IsTotalDisjoint}
 
 -- what an operation of two total sets makes
@@ -36,9 +36,9 @@ module _ {X : Type 0} (cmp : X → X → Ordering) where
     minus = IsTotalOf cmp (λ x y. x ≡ y) and_not;
   }
 
-  -- what is made has a value exactly where the formula says so of the two sets
-  abbrev pub IsPointwise : (Bool → Bool → Bool) → Operation X → Type 0
-  IsPointwise f Makes = (a b c : TotalSet X) → Makes a b c → (x : X) → has cmp c x ≡ f (has cmp a x) (has cmp b x)
+  -- what is made is what the formula says
+  abbrev pub MakesPointwise : (Bool → Bool → Bool) → Operation X → Type 0
+  MakesPointwise f Makes = (a b c : TotalSet X) → Makes a b c → IsPointwise cmp f a b c
 
   -- what is made of two sets is one set up to equality
   abbrev pub MakesOne : Operation X → Type 0
@@ -53,10 +53,10 @@ module _ {X : Type 0} (cmp : X → X → Ordering) where
   module _ (made : Operations X) where
     -- each operation has at each value what its formula says
     pub record OperationsArePointwise : Type 0 where
-      pub and : IsPointwise ◌&&◌ made.and
-      pub or : IsPointwise ◌||◌ made.or
-      pub xor : IsPointwise exactly_one made.xor
-      pub minus : IsPointwise and_not made.minus
+      pub and : MakesPointwise ◌&&◌ made.and
+      pub or : MakesPointwise ◌||◌ made.or
+      pub xor : MakesPointwise exactly_one made.xor
+      pub minus : MakesPointwise and_not made.minus
 
     -- each operation makes one set up to equality
     pub record OperationsMakeOne : Type 0 where

@@ -1,8 +1,9 @@
 -- What an operation makes of two total sets. It is given by f, which says of "in the left one" and "in the right one" whether a value is in the result.
 use Rattle.std.specs.Prelude.{◌≡◌, Bool, ◌&&◌, MatchBool}
 use Rattle.std.specs.declared.cmp.Ordering.{Ordering}
+use Rattle.vc_merge.specs.Ascending.{Ascends}
 use Rattle.vc_sets.specs.SetOf.{IsSetOf, exactly_one}
-use Rattle.vc_total_sets.specs.TotalSet.{TotalSet}
+use Rattle.vc_total_sets.specs.TotalSet.{TotalSet, has}
 
 -- whether a value stands in the list of the result, by the flags of the two sets and by whether it stands in their lists: where f
 -- says another thing of it than of the values in neither list
@@ -19,3 +20,10 @@ module _ {X : Type 0} (cmp : X → X → Ordering) (from : X → X → Type 0) (
   -- the same, but of two sets that are both negated the elements of b go before those of a
   abbrev pub IsTotalOfEither : TotalSet X → TotalSet X → TotalSet X → Type 0
   IsTotalOfEither a b c = MatchBool (a.negated && b.negated) (IsTotalOf b a c) (IsTotalOf a b c)
+
+-- c is what f makes of a and b, whichever of equal elements it lists: at each value, and at the flag, which speaks for the values in
+-- neither list
+pub record IsPointwise {X : Type 0} (cmp : X → X → Ordering) (f : Bool → Bool → Bool) (a b c : TotalSet X) : Type 0 where
+  pub ascends : Ascends cmp c.elements
+  pub at : (x : X) → has cmp c x ≡ f (has cmp a x) (has cmp b x)
+  pub elsewhere : c.negated ≡ f a.negated b.negated

@@ -6,14 +6,14 @@ ghost use Rattle.vc_total_sets.specs.Laws.{fresh_of, moved_of, OperationsArePoin
 
 use vc_merge::laws::members_tell_the_list;
 
-/// What an operation makes has a value exactly where its formula says so of the two sets.
-pub fn operations_are_pointwise<T: Ord + Clone>()
+/// What an operation makes is what its formula says of the two sets, at each value and at the flag.
+pub fn total_operations_are_pointwise<T: Ord + Clone>()
     ensures fresh { OperationsArePointwise T.cmp (fresh_of T.cmp T.is_clone) }
     ensures moved { OperationsArePointwise T.cmp (moved_of T.cmp) }
 {}
 
 /// What an operation makes of two sets is one list and flag, up to equality of the elements.
-pub fn operations_make_one<T: Ord + Clone>()
+pub fn total_operations_make_one<T: Ord + Clone>()
     ensures fresh { OperationsMakeOne T.cmp (fresh_of T.cmp T.is_clone) }
     ensures moved { OperationsMakeOne T.cmp (moved_of T.cmp) }
 {
@@ -31,7 +31,7 @@ pub fn complements_turn_operations<T: Ord + Clone>()
 
 /// A set is a subset of another exactly where nothing is left of it without the other, and two sets are disjoint exactly where nothing is in
 /// both; nothing is the empty list, not negated.
-pub fn tests_are_of_operations<T: Ord + Clone>()
+pub fn total_tests_are_of_operations<T: Ord + Clone>()
     ensures fresh { TotalTestsAreOfOperations T.cmp (fresh_of T.cmp T.is_clone) }
     ensures moved { TotalTestsAreOfOperations T.cmp (moved_of T.cmp) }
 {}

@@ -1,11 +1,12 @@
 //! The example of the README, as a user writes it who names this crate alone. Its contracts are in the words of the subject.
-ghost use Rattle.std.specs.Prelude.{◌≡◌, ◌||◌, ◌↔◌, IfOk, OnOk, IsTrue, ℕ};
+ghost use Rattle.std.specs.Prelude.{◌≡◌, ◌||◌, ◌&&◌, ◌↔◌, not, IfOk, OnOk, IsTrue, ℕ};
 ghost use Rattle.std.specs.Ordering.{nat_cmp};
 ghost use Rattle.vec_collections.specs.Ascending.{member};
 ghost use Rattle.vec_collections.specs.Map.{lookup, IsInserted};
+ghost use Rattle.vec_collections.specs.SetOf.{exactly_one};
 
 use crate::radix_tree::{AbstractRadixTree, AbstractRadixTreeMut, RadixTree};
-use crate::{AbstractVecSet, VecSet, union};
+use crate::{AbstractVecSet, VecSet, difference, intersection, symmetric_difference, union};
 use std::alloc::{AllocError, Global};
 
 /// The tags of an article, of which four need no allocation.
@@ -16,6 +17,27 @@ pub fn all_tags(alloc: Global, a: &Tags, b: &Tags) -> Result<Tags, AllocError>
     ensures { IfOk result (λ all. (tag : ℕ) → member nat_cmp all tag ≡ (member nat_cmp a.now tag || member nat_cmp b.now tag)) }
 {
     union(alloc, a, b)
+}
+
+/// The tags that both articles have.
+pub fn shared_tags(alloc: Global, a: &Tags, b: &Tags) -> Result<Tags, AllocError>
+    ensures { IfOk result (λ all. (tag : ℕ) → member nat_cmp all tag ≡ (member nat_cmp a.now tag && member nat_cmp b.now tag)) }
+{
+    intersection(alloc, a, b)
+}
+
+/// The tags of the first article that the second one lacks.
+pub fn missing_tags(alloc: Global, a: &Tags, b: &Tags) -> Result<Tags, AllocError>
+    ensures { IfOk result (λ all. (tag : ℕ) → member nat_cmp all tag ≡ (member nat_cmp a.now tag && not (member nat_cmp b.now tag))) }
+{
+    difference(alloc, a, b)
+}
+
+/// The tags in which the articles differ.
+pub fn differing_tags(alloc: Global, a: &Tags, b: &Tags) -> Result<Tags, AllocError>
+    ensures { IfOk result (λ all. (tag : ℕ) → member nat_cmp all tag ≡ exactly_one (member nat_cmp a.now tag) (member nat_cmp b.now tag)) }
+{
+    symmetric_difference(alloc, a, b)
 }
 
 /// Whether an article has all tags that are asked for.

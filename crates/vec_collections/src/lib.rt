@@ -1,10 +1,12 @@
 //! Small sorted sets, and radix trees that are always canonical.
 //!
-//! A user names this crate alone: it exports the modules `merge`, `iterators`, `vec_set` and `radix_tree` of the crates below
-//! it, and the items of `vec_set` also at its root.
+//! A user names this crate alone: it exports the modules `merge`, `iterators`, `vec_set`, `total_vec_set` and `radix_tree` of the crates
+//! below it, and the items of `vec_set` also at its root.
 #![tactic(auto)]
 
 mod example;
+mod lawful;
+pub mod macros;
 
 /// The engine of all operations on sorted lists: a merge of two ascending lists, event by event.
 pub mod merge {
@@ -26,6 +28,11 @@ pub mod vec_set {
     };
 }
 
+/// Sets that are a list, or all that is not in it.
+pub mod total_vec_set {
+    pub use vc_total_sets::total_vec_set::{TotalVecSet, TotalVecSet2};
+}
+
 /// Canonical radix trees: finite maps from keys, which are lists of components, to values.
 pub mod radix_tree {
     pub use vc_trees::radix_tree::{
@@ -39,6 +46,10 @@ pub mod laws {
         members_are_elements, members_tell_the_list, runs_are_beginnings, script_is_one, ticks_stay,
     };
     pub use vc_sets::laws::{operations_are_as_named, set_of_is_one, tests_are_of_operations};
+    pub use vc_total_sets::laws::{
+        complements_turn_operations, total_operations_are_pointwise, total_operations_make_one,
+        total_tests_are_of_operations,
+    };
     pub use vc_tree_model::laws::{
         ByClone, ByEq, Matching, binds_is_lookup, canonical_is_conditions, canonical_is_smallest,
         canonical_is_unique, keys_are_ordered, left_behind_is_rest, walk_is_one,

@@ -5,6 +5,167 @@ use std::process::Abort;
 use std::test::Fail;
 use vecbench_lines::serve::serve;
 
+mod total;
+
+/// Inputs, what they are answered, and with which status.
+const INPUTS: [(&str, &str, u8); 63] = [
+    // Unions.
+    ("set union 1,3 2,3\n", "1,2,3\n", 0),
+    ("set union - -\n", "-\n", 0),
+    ("set union - 7\n", "7\n", 0),
+    ("set union 1,2,3,4,5 3,9\n", "1,2,3,4,5,9\n", 0),
+    (
+        "set union 18446744073709551615 0\n",
+        "0,18446744073709551615\n",
+        0,
+    ),
+    (
+        "set union 007 000018446744073709551615\n",
+        "7,18446744073709551615\n",
+        0,
+    ),
+    // The other operations and the tests of sets.
+    ("set intersection 1,3,5 3,4,5\n", "3,5\n", 0),
+    ("set intersection 1 2\n", "-\n", 0),
+    ("set xor 1,2 2,3\n", "1,3\n", 0),
+    ("set xor - -\n", "-\n", 0),
+    ("set difference 1,2,3 2\n", "1,3\n", 0),
+    ("set subset 1,3 1,2,3\n", "true\n", 0),
+    ("set subset 1,2,3 1,3\n", "false\n", 0),
+    ("set superset 1,3 1,2,3\n", "false\n", 0),
+    ("set superset 1,2,3 1,3\n", "true\n", 0),
+    ("set disjoint - -\n", "true\n", 0),
+    ("set disjoint 1,2 2,3\n", "false\n", 0),
+    // Shapes.
+    ("shape -\n", ".\n", 0),
+    ("shape .\n", ".*\n", 0),
+    ("shape ab,ac\n", "a(b* c*)\n", 0),
+    ("shape aabbcc,aabb\n", "aabb*(cc*)\n", 0),
+    ("shape .,a\n", ".*(a*)\n", 0),
+    ("shape b,a,b\n", ".(a* b*)\n", 0),
+    ("shape abc,abd,ab\n", "ab*(c* d*)\n", 0),
+    ("shape a,A\n", "line 1: fault 3: not a number or key\n", 1),
+    ("shape a,\n", "line 1: fault 3: not a number or key\n", 1),
+    ("shape a,-\n", "line 1: fault 3: not a number or key\n", 1),
+    ("shape a,.b\n", "line 1: fault 3: not a number or key\n", 1),
+    ("shape\n", "line 1: fault 4: wrong count of words\n", 1),
+    ("shape a b\n", "line 1: fault 4: wrong count of words\n", 1),
+    // Each fault.
+    ("fly\n", "line 1: fault 1: unknown command\n", 1),
+    ("Set union 1 2\n", "line 1: fault 1: unknown command\n", 1),
+    ("set fly 1 2\n", "line 1: fault 1: unknown command\n", 1),
+    ("set union 3,1 2\n", "line 1: fault 2: not ascending\n", 1),
+    ("set union 1 2,2\n", "line 1: fault 2: not ascending\n", 1),
+    (
+        "set union 18446744073709551616 0\n",
+        "line 1: fault 3: not a number or key\n",
+        1,
+    ),
+    (
+        "set union 99999999999999999999999 0\n",
+        "line 1: fault 3: not a number or key\n",
+        1,
+    ),
+    (
+        "set union 1, 2\n",
+        "line 1: fault 3: not a number or key\n",
+        1,
+    ),
+    (
+        "set union 1,,2 2\n",
+        "line 1: fault 3: not a number or key\n",
+        1,
+    ),
+    (
+        "set union 1,- 2\n",
+        "line 1: fault 3: not a number or key\n",
+        1,
+    ),
+    (
+        "set union +1 2\n",
+        "line 1: fault 3: not a number or key\n",
+        1,
+    ),
+    (
+        "set union 1 2a\n",
+        "line 1: fault 3: not a number or key\n",
+        1,
+    ),
+    (
+        "set union 1\n",
+        "line 1: fault 4: wrong count of words\n",
+        1,
+    ),
+    (
+        "set union 1 2 3\n",
+        "line 1: fault 4: wrong count of words\n",
+        1,
+    ),
+    ("set\n", "line 1: fault 4: wrong count of words\n", 1),
+    // The fault that comes first.
+    // The first word before the count of words.
+    ("fly union\n", "line 1: fault 1: unknown command\n", 1),
+    // The count before the operation and the lists.
+    (
+        "set fly 3,1\n",
+        "line 1: fault 4: wrong count of words\n",
+        1,
+    ),
+    (
+        "set union 3,1 x 1\n",
+        "line 1: fault 4: wrong count of words\n",
+        1,
+    ),
+    // The operation before the lists.
+    ("set fly 3,1 x\n", "line 1: fault 1: unknown command\n", 1),
+    // The left list before the right one.
+    ("set union 3,1 x\n", "line 1: fault 2: not ascending\n", 1),
+    (
+        "set union x 3,1\n",
+        "line 1: fault 3: not a number or key\n",
+        1,
+    ),
+    // In one list the numbers before their order.
+    (
+        "set union 3,1,x 2\n",
+        "line 1: fault 3: not a number or key\n",
+        1,
+    ),
+    (
+        "set union 2 3,1,18446744073709551616\n",
+        "line 1: fault 3: not a number or key\n",
+        1,
+    ),
+    // Lines and words.
+    ("", "", 0),
+    ("\n", "", 0),
+    ("\nfly\n", "line 2: fault 1: unknown command\n", 1),
+    ("set union 1,3 2,3", "1,2,3\n", 0),
+    ("set union 1 2\r\nset union 3 4\r\n", "1,2\n3,4\n", 0),
+    (
+        "\r\n \t\r\nfly\r\n",
+        "line 3: fault 1: unknown command\n",
+        1,
+    ),
+    ("\tset\t union  1 \t 2 \n", "1,2\n", 0),
+    // Only the CR that an LF follows ends a line.
+    (
+        "set union 1 2\r",
+        "line 1: fault 3: not a number or key\n",
+        1,
+    ),
+    (
+        "set union 1 2\r\r\n",
+        "line 1: fault 3: not a number or key\n",
+        1,
+    ),
+    (
+        "set union 3,1 2\nset union 1 2\nfly",
+        "line 1: fault 2: not ascending\n1,2\nline 3: fault 1: unknown command\n",
+        1,
+    ),
+];
+
 /// Checks what some inputs are answered, and with which status.
 fn check_all(rt: &(impl Abort + AllocGlobal), table: &[(&str, &str, u8)]) {
     for (text, answers, status) in table {
@@ -17,206 +178,8 @@ fn check_all(rt: &(impl Abort + AllocGlobal), table: &[(&str, &str, u8)]) {
 }
 
 #[test]
-fn unites(rt: HostRuntime) {
-    check_all(
-        &rt,
-        &[
-            ("set union 1,3 2,3\n", "1,2,3\n", 0),
-            ("set union - -\n", "-\n", 0),
-            ("set union - 7\n", "7\n", 0),
-            ("set union 1,2,3,4,5 3,9\n", "1,2,3,4,5,9\n", 0),
-            (
-                "set union 18446744073709551615 0\n",
-                "0,18446744073709551615\n",
-                0,
-            ),
-            (
-                "set union 007 000018446744073709551615\n",
-                "7,18446744073709551615\n",
-                0,
-            ),
-        ],
-    );
-}
-
-#[test]
-fn answers_each_set_operation(rt: HostRuntime) {
-    check_all(
-        &rt,
-        &[
-            ("set intersection 1,3,5 3,4,5\n", "3,5\n", 0),
-            ("set intersection 1 2\n", "-\n", 0),
-            ("set xor 1,2 2,3\n", "1,3\n", 0),
-            ("set xor - -\n", "-\n", 0),
-            ("set difference 1,2,3 2\n", "1,3\n", 0),
-            ("set subset 1,3 1,2,3\n", "true\n", 0),
-            ("set subset 1,2,3 1,3\n", "false\n", 0),
-            ("set superset 1,3 1,2,3\n", "false\n", 0),
-            ("set superset 1,2,3 1,3\n", "true\n", 0),
-            ("set disjoint - -\n", "true\n", 0),
-            ("set disjoint 1,2 2,3\n", "false\n", 0),
-        ],
-    );
-}
-
-#[test]
-fn prints_shapes(rt: HostRuntime) {
-    check_all(
-        &rt,
-        &[
-            ("shape -\n", ".\n", 0),
-            ("shape .\n", ".*\n", 0),
-            ("shape ab,ac\n", "a(b* c*)\n", 0),
-            ("shape aabbcc,aabb\n", "aabb*(cc*)\n", 0),
-            ("shape .,a\n", ".*(a*)\n", 0),
-            ("shape b,a,b\n", ".(a* b*)\n", 0),
-            ("shape abc,abd,ab\n", "ab*(c* d*)\n", 0),
-            ("shape a,A\n", "line 1: fault 3: not a number or key\n", 1),
-            ("shape a,\n", "line 1: fault 3: not a number or key\n", 1),
-            ("shape a,-\n", "line 1: fault 3: not a number or key\n", 1),
-            ("shape a,.b\n", "line 1: fault 3: not a number or key\n", 1),
-            ("shape\n", "line 1: fault 4: wrong count of words\n", 1),
-            ("shape a b\n", "line 1: fault 4: wrong count of words\n", 1),
-        ],
-    );
-}
-
-#[test]
-fn answers_each_fault(rt: HostRuntime) {
-    check_all(
-        &rt,
-        &[
-            ("fly\n", "line 1: fault 1: unknown command\n", 1),
-            ("Set union 1 2\n", "line 1: fault 1: unknown command\n", 1),
-            ("set fly 1 2\n", "line 1: fault 1: unknown command\n", 1),
-            ("set union 3,1 2\n", "line 1: fault 2: not ascending\n", 1),
-            ("set union 1 2,2\n", "line 1: fault 2: not ascending\n", 1),
-            (
-                "set union 18446744073709551616 0\n",
-                "line 1: fault 3: not a number or key\n",
-                1,
-            ),
-            (
-                "set union 99999999999999999999999 0\n",
-                "line 1: fault 3: not a number or key\n",
-                1,
-            ),
-            (
-                "set union 1, 2\n",
-                "line 1: fault 3: not a number or key\n",
-                1,
-            ),
-            (
-                "set union 1,,2 2\n",
-                "line 1: fault 3: not a number or key\n",
-                1,
-            ),
-            (
-                "set union 1,- 2\n",
-                "line 1: fault 3: not a number or key\n",
-                1,
-            ),
-            (
-                "set union +1 2\n",
-                "line 1: fault 3: not a number or key\n",
-                1,
-            ),
-            (
-                "set union 1 2a\n",
-                "line 1: fault 3: not a number or key\n",
-                1,
-            ),
-            (
-                "set union 1\n",
-                "line 1: fault 4: wrong count of words\n",
-                1,
-            ),
-            (
-                "set union 1 2 3\n",
-                "line 1: fault 4: wrong count of words\n",
-                1,
-            ),
-            ("set\n", "line 1: fault 4: wrong count of words\n", 1),
-        ],
-    );
-}
-
-#[test]
-fn answers_the_first_fault(rt: HostRuntime) {
-    check_all(
-        &rt,
-        &[
-            // The first word before the count of words.
-            ("fly union\n", "line 1: fault 1: unknown command\n", 1),
-            // The count before the operation and the lists.
-            (
-                "set fly 3,1\n",
-                "line 1: fault 4: wrong count of words\n",
-                1,
-            ),
-            (
-                "set union 3,1 x 1\n",
-                "line 1: fault 4: wrong count of words\n",
-                1,
-            ),
-            // The operation before the lists.
-            ("set fly 3,1 x\n", "line 1: fault 1: unknown command\n", 1),
-            // The left list before the right one.
-            ("set union 3,1 x\n", "line 1: fault 2: not ascending\n", 1),
-            (
-                "set union x 3,1\n",
-                "line 1: fault 3: not a number or key\n",
-                1,
-            ),
-            // In one list the numbers before their order.
-            (
-                "set union 3,1,x 2\n",
-                "line 1: fault 3: not a number or key\n",
-                1,
-            ),
-            (
-                "set union 2 3,1,18446744073709551616\n",
-                "line 1: fault 3: not a number or key\n",
-                1,
-            ),
-        ],
-    );
-}
-
-#[test]
-fn takes_lines_apart(rt: HostRuntime) {
-    check_all(
-        &rt,
-        &[
-            ("", "", 0),
-            ("\n", "", 0),
-            ("\nfly\n", "line 2: fault 1: unknown command\n", 1),
-            ("set union 1,3 2,3", "1,2,3\n", 0),
-            ("set union 1 2\r\nset union 3 4\r\n", "1,2\n3,4\n", 0),
-            (
-                "\r\n \t\r\nfly\r\n",
-                "line 3: fault 1: unknown command\n",
-                1,
-            ),
-            ("\tset\t union  1 \t 2 \n", "1,2\n", 0),
-            // Only the CR that an LF follows ends a line.
-            (
-                "set union 1 2\r",
-                "line 1: fault 3: not a number or key\n",
-                1,
-            ),
-            (
-                "set union 1 2\r\r\n",
-                "line 1: fault 3: not a number or key\n",
-                1,
-            ),
-            (
-                "set union 3,1 2\nset union 1 2\nfly",
-                "line 1: fault 2: not ascending\n1,2\nline 3: fault 1: unknown command\n",
-                1,
-            ),
-        ],
-    );
+fn answers_whole_inputs(rt: HostRuntime) {
+    check_all(&rt, &INPUTS);
 }
 
 #[test]

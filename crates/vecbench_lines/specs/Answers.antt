@@ -4,22 +4,32 @@ use Rattle.std.specs.Ordering.{nat_cmp}
 use Rattle.std.specs.Str.{bytes_eq}
 use Rattle.vec_collections.specs.Algebra.{made_by, IsTestedBy}
 use Rattle.vec_collections.specs.Ascending.{member}
+use Rattle.vec_collections.specs.TotalOf.{IsPointwise}
+use Rattle.vec_collections.specs.TotalSet.{TotalSet}
 use Rattle.vecbench_lines.specs.declared.set_line.SetLine.{SetLine}
 use Rattle.vecbench_lines.specs.declared.set_line.SetOperation.{SetOperation}
 use Rattle.vecbench_lines.specs.declared.set_line.SetOperation.TheVariants.{Combine, Test}
 use Rattle.vecbench_lines.specs.declared.shape_line.ShapeLine.{ShapeLine}
+use Rattle.vecbench_lines.specs.declared.total_line.TotalLine.{TotalLine}
 use Rattle.vecbench_lines.specs.declared.command.Command.{Command}
-use Rattle.vecbench_lines.specs.declared.command.Command.TheVariants.{Set, Shape}
+use Rattle.vecbench_lines.specs.declared.command.Command.TheVariants.{Set, Total, Shape}
 use Rattle.vecbench_lines.specs.Keys.{keys_in, HasKeys}
 use Rattle.vecbench_lines.specs.Numbers.{numbers_in, list_text, truth_text}
 use Rattle.vecbench_lines.specs.Shapes.{shape_text}
-use Rattle.vecbench_lines.specs.Judged.{is_ascending, set_operation_named}
+use Rattle.vecbench_lines.specs.Totals.{total_in, total_text, IsTotalTestedBy}
+use Rattle.vecbench_lines.specs.Judged.{is_ascending, set_operation_named, total_operation_named}
 
 -- the words behind `set` say this line
 abbrev pub SaysSetLine : List (List ℕ) → SetLine → Type 0
 SaysSetLine (operation ∷ left ∷ right ∷ []) line =
     (set_operation_named operation ≡ Some line.operation) × (numbers_in left ≡ Some line.left) × (numbers_in right ≡ Some line.right)
 SaysSetLine _ line = ⊥
+
+-- the words behind `total` say this line
+abbrev pub SaysTotalLine : List (List ℕ) → TotalLine → Type 0
+SaysTotalLine (operation ∷ left ∷ right ∷ []) line =
+    (total_operation_named operation ≡ Some line.operation) × (total_in left ≡ Some line.left) × (total_in right ≡ Some line.right)
+SaysTotalLine _ line = ⊥
 
 -- the word behind `shape` says this line
 abbrev pub SaysShapeLine : List (List ℕ) → ShapeLine → Type 0
@@ -30,6 +40,7 @@ SaysShapeLine _ line = ⊥
 abbrev pub SaysCommand : List (List ℕ) → Command → Type 0
 SaysCommand [] command = ⊥
 SaysCommand (name ∷ words) (Set line) = (bytes_eq name (codes "set") ≡ true) × SaysSetLine words line
+SaysCommand (name ∷ words) (Total line) = (bytes_eq name (codes "total") ≡ true) × SaysTotalLine words line
 SaysCommand (name ∷ words) (Shape line) = (bytes_eq name (codes "shape") ≡ true) × SaysShapeLine words line
 
 -- an ascending list of the numbers that f picks, by whether they stand in the left list and in the right one
@@ -42,9 +53,15 @@ abbrev pub AnswersSets : SetOperation → List ℕ → List ℕ → List ℕ →
 AnswersSets (Combine op) left right text = (picked : List ℕ) × IsPicked (made_by op) left right picked × (text ≡ list_text picked)
 AnswersSets (Test test) left right text = (holds : Bool) × (IsTrue holds ↔ IsTestedBy test nat_cmp left right) × (text ≡ truth_text holds)
 
+-- the text answers the operation on two total sets: what it makes of them at each value, or whether its test holds
+abbrev pub AnswersTotals : SetOperation → TotalSet ℕ → TotalSet ℕ → List ℕ → Type 0
+AnswersTotals (Combine op) left right text = (made : TotalSet ℕ) × IsPointwise nat_cmp (made_by op) left right made × (text ≡ total_text made)
+AnswersTotals (Test test) left right text = (holds : Bool) × (IsTrue holds ↔ IsTotalTestedBy test left right) × (text ≡ truth_text holds)
+
 -- the text answers the command
 abbrev pub Answers : Command → List ℕ → Type 0
 Answers (Set line) text = AnswersSets line.operation line.left line.right text
+Answers (Total line) text = AnswersTotals line.operation line.left line.right text
 Answers (Shape line) text = text ≡ shape_text line.tree
 
 -- the text, with its LF, answers the words of a line; without words nothing does

@@ -10,6 +10,7 @@ use Rattle.vec_collections.specs.SetOp.TheVariants.{Union, Intersection, Symmetr
 use Rattle.vec_collections.specs.SetTest.TheVariants.{Disjoint, Subset, Superset}
 use Rattle.vecbench_lines.specs.Keys.{keys_in}
 use Rattle.vecbench_lines.specs.Numbers.{numbers_in}
+use Rattle.vecbench_lines.specs.Totals.{list_in}
 
 -- whether each number is less than the next
 abbrev pub is_ascending : List ℕ → Bool
@@ -26,26 +27,44 @@ abbrev pub first_fault : Option Fault → Option Fault → Option Fault
 first_fault None second = second
 first_fault (Some fault) second = Some fault
 
+-- the test of two sets of this name
+abbrev pub test_named : List ℕ → Option SetOperation
+test_named name =
+    if bytes_eq name (codes "subset") then Some (Test Subset) else
+    if bytes_eq name (codes "superset") then Some (Test Superset) else
+    if bytes_eq name (codes "disjoint") then Some (Test Disjoint) else None
+
 -- the operation on sets of this name
 abbrev pub set_operation_named : List ℕ → Option SetOperation
 set_operation_named name =
     if bytes_eq name (codes "union") then Some (Combine Union) else
     if bytes_eq name (codes "intersection") then Some (Combine Intersection) else
     if bytes_eq name (codes "xor") then Some (Combine SymmetricDifference) else
-    if bytes_eq name (codes "difference") then Some (Combine Difference) else
-    if bytes_eq name (codes "subset") then Some (Test Subset) else
-    if bytes_eq name (codes "superset") then Some (Test Superset) else
-    if bytes_eq name (codes "disjoint") then Some (Test Disjoint) else None
+    if bytes_eq name (codes "difference") then Some (Combine Difference) else test_named name
 
--- the fault of a word that is to name an operation on sets
-abbrev pub fault_in_set_operation : List ℕ → Option Fault
-fault_in_set_operation name = option_map_or (λ _. None) (set_operation_named name) (Some UnknownCommand)
+-- the operation on total sets of this name
+abbrev pub total_operation_named : List ℕ → Option SetOperation
+total_operation_named name =
+    if bytes_eq name (codes "and") then Some (Combine Intersection) else
+    if bytes_eq name (codes "or") then Some (Combine Union) else
+    if bytes_eq name (codes "xor") then Some (Combine SymmetricDifference) else
+    if bytes_eq name (codes "minus") then Some (Combine Difference) else test_named name
+
+-- the fault of a word that is to name an operation, by the one that it names
+abbrev pub fault_in_operation : Option SetOperation → Option Fault
+fault_in_operation named = option_map_or (λ _. None) named (Some UnknownCommand)
 
 -- the fault of the words behind `set`: first their count, then the operation, the left list and the right list
 abbrev pub fault_in_set : List (List ℕ) → Option Fault
 fault_in_set (operation ∷ left ∷ right ∷ []) =
-    first_fault (fault_in_set_operation operation) (first_fault (fault_in_list left) (fault_in_list right))
+    first_fault (fault_in_operation (set_operation_named operation)) (first_fault (fault_in_list left) (fault_in_list right))
 fault_in_set _ = Some WrongCount
+
+-- the fault of the words behind `total`: first their count, then the operation, the left set and the right set
+abbrev pub fault_in_total : List (List ℕ) → Option Fault
+fault_in_total (operation ∷ left ∷ right ∷ []) =
+    first_fault (fault_in_operation (total_operation_named operation)) (first_fault (fault_in_list (list_in left)) (fault_in_list (list_in right)))
+fault_in_total _ = Some WrongCount
 
 -- the fault of a list of keys: a member that is no key
 abbrev pub fault_in_keys : List ℕ → Option Fault
@@ -60,7 +79,9 @@ fault_in_shape _ = Some WrongCount
 abbrev pub fault_in_words : List (List ℕ) → Option Fault
 fault_in_words [] = None
 fault_in_words (name ∷ words) =
-    if bytes_eq name (codes "set") then fault_in_set words else if bytes_eq name (codes "shape") then fault_in_shape words else Some UnknownCommand
+    if bytes_eq name (codes "set") then fault_in_set words else
+    if bytes_eq name (codes "total") then fault_in_total words else
+    if bytes_eq name (codes "shape") then fault_in_shape words else Some UnknownCommand
 
 -- the fault that was judged, unless a request for memory was refused before
 abbrev pub IsFault : Option Fault → Fault → Type 0

@@ -3,6 +3,7 @@ pub mod Fault
 pub mod Parts
 pub mod PartsLeft
 pub mod Numbers
+pub mod Totals
 pub mod Keys
 pub mod Shapes
 pub mod Judged

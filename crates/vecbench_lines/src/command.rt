@@ -9,6 +9,7 @@ use crate::fault::Fault;
 use crate::parts::Words;
 use crate::set_line::SetLine;
 use crate::shape_line::ShapeLine;
+use crate::total_line::TotalLine;
 use std::alloc::{AllocError, Global};
 
 /// What a line asks for, once its words are judged.
@@ -16,6 +17,8 @@ use std::alloc::{AllocError, Global};
 pub enum Command {
     /// `set OP A B`
     Set(SetLine),
+    /// `total OP A B`
+    Total(TotalLine),
     /// `shape A`
     Shape(ShapeLine),
 }
@@ -35,6 +38,8 @@ impl Command {
     {
         if name == b"set".as_slice() {
             Ok(Command::Set(SetLine::read(alloc, words)?))
+        } else if name == b"total".as_slice() {
+            Ok(Command::Total(TotalLine::read(alloc, words)?))
         } else if name == b"shape".as_slice() {
             Ok(Command::Shape(ShapeLine::read(alloc, words)?))
         } else {
@@ -48,6 +53,7 @@ impl Command {
     {
         match self {
             Command::Set(line) => line.answer(text),
+            Command::Total(line) => line.answer(text),
             Command::Shape(line) => line.answer(text),
         }
     }

@@ -9,3 +9,5 @@ pub mod parts;
 pub mod serve;
 pub mod set_line;
 pub mod shape_line;
+pub mod total_line;
+pub mod totals;

@@ -16,7 +16,7 @@ pub enum SetOperation {
 
 impl SetOperation {
     ghost use Rattle.std.specs.Prelude.{◌≡◌};
-    ghost use Rattle.vecbench_lines.specs.Judged.{set_operation_named};
+    ghost use Rattle.vecbench_lines.specs.Judged.{set_operation_named, test_named};
 
     /// The operation of this name.
     pub fn named(name: &[u8]) -> Option<SetOperation>
@@ -30,7 +30,16 @@ impl SetOperation {
             Some(SetOperation::Combine(SetOp::SymmetricDifference))
         } else if name == b"difference".as_slice() {
             Some(SetOperation::Combine(SetOp::Difference))
-        } else if name == b"subset".as_slice() {
+        } else {
+            Self::test_named(name)
+        }
+    }
+
+    /// The test of this name.
+    pub fn test_named(name: &[u8]) -> Option<SetOperation>
+        ensures { result ≡ test_named name.now }
+    {
+        if name == b"subset".as_slice() {
             Some(SetOperation::Test(SetTest::Subset))
         } else if name == b"superset".as_slice() {
             Some(SetOperation::Test(SetTest::Superset))

@@ -1,8 +1,8 @@
 //! The trait by which the two flavours are made and changed.
 
-ghost use Rattle.std.specs.Prelude.{◌≡◌, [], Some, IfOk, OnOk, OnErr};
+ghost use Rattle.std.specs.Prelude.{◌≡◌, ◌≤◌, [], Some, length, IfOk, IsOk, OnOk, OnErr};
 ghost use Rattle.vc_tree_model.specs.Tree.{made, no_tree};
-ghost use Rattle.vc_tree_model.specs.Map.{HaveEqualMaps, IsInserted};
+ghost use Rattle.vc_tree_model.specs.Map.{HaveEqualMaps, IsInserted, lookup};
 ghost use Rattle.vc_tree_model.specs.Canonical.{IsCanonical};
 ghost use Rattle.vc_tree_model.specs.Same.{IsAlike};
 
@@ -38,9 +38,11 @@ pub trait AbstractRadixTreeMut<K: TKey, V: TValue>: CloneTree<K, V> + AbstractRa
 
     /// The tree that binds this key alone.
     ///
-    /// Fails only where memory is refused for a long key. The value is then dropped.
+    /// Takes no memory for a key of at most 16 components. Fails only where memory is refused for a longer one; the value is then
+    /// dropped.
     final fn single(alloc: Global, key: &[K], value: V) -> Result<Self, AllocError>
-        ensures { IfOk result (λ one. Self.tree one ≡ made key.now (Some value) []) }
+        ensures is { IfOk result (λ one. Self.tree one ≡ made key.now (Some value) []) }
+        ensures short { length key.now ≤ 16 → IsOk result }
     {
         insertion::single(alloc, key, value)
     }
@@ -54,6 +56,7 @@ pub trait AbstractRadixTreeMut<K: TKey, V: TValue>: CloneTree<K, V> + AbstractRa
     /// Compares each component of the key at most once, but for a halving search among the children of each node on the way.
     final fn insert(&mut self, key: &[K], value: V) -> Result<(), AllocError>
         ensures ok { OnOk result (IsInserted K.cmp Self.keeps key.now value (Self.tree self.old) (Self.tree self.new)) }
+        ensures binds { OnOk result (lookup K.cmp (Self.tree self.new) key.now ≡ Some value) }
         ensures err { OnErr result (HaveEqualMaps K.cmp Self.keeps (Self.tree self.old) (Self.tree self.new)) }
         ensures err_nodes { OnErr result (IsAlike Self.keeps (Self.tree self.old) (Self.tree self.new)) }
         ensures canonical { IsCanonical K.cmp (Self.tree self.new) }

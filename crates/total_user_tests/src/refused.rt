@@ -1,0 +1,216 @@
+//! Each call of total sets that takes memory, with each of its requests refused in turn.
+
+use set_user_tests::nth::Nth;
+use std::alloc::{AllocError, Global};
+use std::process::Abort;
+use std::test::Fail;
+use vec_collections::VecSet;
+use vec_collections::total_vec_set::TotalVecSet;
+
+/// A set of numbers of whose requests for memory one can be refused.
+type Numbers<'a> = TotalVecSet<u32, 2, &'a Nth<Global>>;
+
+/// The list of the left set, and that of the right one. Each stands in place, and a third element does not.
+const LISTS: [[u32; 2]; 2] = [[2, 4], [3, 4]];
+
+/// What is inserted into the left set, and what is removed from it: neither is in its list.
+const NEW: u32 = 5;
+
+/// Greater than each number in a list.
+const END: u32 = 8;
+
+/// Greater than the number of requests of each call.
+const LIMIT: u64 = 8;
+
+#[derive(Clone, Copy, Debug)]
+enum Operation {
+    And,
+    Or,
+    Xor,
+    Minus,
+}
+
+const OPERATIONS: [Operation; 4] = [
+    Operation::And,
+    Operation::Or,
+    Operation::Xor,
+    Operation::Minus,
+];
+
+impl Operation {
+    /// Whether a number is in the result that is in the left or the right set, or in both.
+    fn says(self, is_left: bool, is_right: bool) -> bool {
+        match self {
+            Operation::And => is_left && is_right,
+            Operation::Or => is_left || is_right,
+            Operation::Xor => is_left != is_right,
+            Operation::Minus => is_left && !is_right,
+        }
+    }
+}
+
+/// A call that takes memory.
+#[derive(Clone, Copy, Debug)]
+enum Call {
+    Make(Operation),
+    Assign(Operation),
+    Insert,
+    Remove,
+    Clone,
+    Complement,
+}
+
+/// Two sets, by the flags that they have.
+#[derive(Clone, Copy, Debug)]
+struct Flags {
+    left: bool,
+    right: bool,
+}
+
+impl Flags {
+    /// Whether a number is in the result of the call.
+    fn says(self, call: Call, number: u32) -> bool {
+        let is_left = LISTS[0].contains(&number) != self.left;
+        let is_right = LISTS[1].contains(&number) != self.right;
+        match call {
+            Call::Make(operation) | Call::Assign(operation) => operation.says(is_left, is_right),
+            Call::Insert => is_left || number == NEW,
+            Call::Remove => is_left && number != NEW,
+            Call::Clone => is_left,
+            Call::Complement => !is_left,
+        }
+    }
+
+    /// Whether the set has the numbers of the result of the call.
+    fn is_made(self, call: Call, set: &Numbers<'_>) -> bool {
+        (0..END).all(|number| set.contains(&number) == self.says(call, number))
+    }
+
+    /// Whether the call is one of those that may be refused with these flags: all that make a set, and some that change one.
+    fn may_be_refused(self, call: Call) -> bool {
+        match call {
+            Call::Assign(Operation::And) => self.left && self.right,
+            Call::Assign(Operation::Or) => !self.left && !self.right,
+            Call::Assign(Operation::Minus) => self.left && !self.right,
+            Call::Insert => !self.left,
+            Call::Remove => self.left,
+            Call::Assign(Operation::Xor) | Call::Make(_) | Call::Clone | Call::Complement => true,
+        }
+    }
+}
+
+/// The set of a list and a flag.
+fn numbers<'a>(
+    memory: &'a Nth<Global>,
+    list: [u32; 2],
+    is_negated: bool,
+) -> Result<Numbers<'a>, AllocError> {
+    let mut elements: VecSet<u32, 2, &'a Nth<Global>> = VecSet::empty(memory);
+    for number in list {
+        elements.insert(number)?;
+    }
+    let set: Numbers<'a> = elements.into();
+    Ok(if is_negated { !set } else { set })
+}
+
+/// Makes the call, and says whether what it makes is right.
+fn succeeds<'a>(
+    flags: Flags,
+    call: Call,
+    left: &mut Numbers<'a>,
+    right: Numbers<'a>,
+) -> Result<bool, AllocError> {
+    match call {
+        Call::Assign(Operation::And) => left.bitand_assign(right)?,
+        Call::Assign(Operation::Or) => left.bitor_assign(right)?,
+        Call::Assign(Operation::Xor) => left.bitxor_assign(right)?,
+        Call::Assign(Operation::Minus) => left.sub_assign(right)?,
+        Call::Insert => left.insert(NEW)?,
+        Call::Remove => left.remove(&NEW)?,
+        Call::Make(operation) => {
+            let made = make(operation, left, &right)?;
+            return Ok(flags.is_made(call, &made));
+        }
+        Call::Clone => return Ok(flags.is_made(call, &left.clone()?)),
+        Call::Complement => return Ok(flags.is_made(call, &copied_complement(left)?)),
+    }
+    Ok(flags.is_made(call, left))
+}
+
+/// The complement of a set, which stays.
+fn copied_complement<'a>(set: &Numbers<'a>) -> Result<Numbers<'a>, AllocError> {
+    !set
+}
+
+/// What the operation makes of the sets.
+fn make<'a>(
+    operation: Operation,
+    left: &Numbers<'a>,
+    right: &Numbers<'a>,
+) -> Result<Numbers<'a>, AllocError> {
+    match operation {
+        Operation::And => left & right,
+        Operation::Or => left | right,
+        Operation::Xor => left ^ right,
+        Operation::Minus => left - right,
+    }
+}
+
+/// Refuses each request of the call in turn, and says whether there was one. Refused, the call leaves the left set as it was, and then succeeds.
+fn is_refused<'a>(
+    rt: &impl Abort,
+    memory: &'a Nth<Global>,
+    flags: Flags,
+    call: Call,
+    unchanged: &Numbers<'a>,
+) -> Result<bool, AllocError> {
+    for number in 1..LIMIT {
+        let mut left = numbers(memory, LISTS[0], flags.left)?;
+        let right = numbers(memory, LISTS[1], flags.right)?;
+        memory.refuse(number);
+        let outcome = succeeds(flags, call, &mut left, right);
+        let has_come = memory.is_done();
+        memory.refuse(0);
+        if let Ok(is_right) = outcome {
+            assert!(rt; is_right && !has_come, "{call:?} at {flags:?}");
+            return Ok(1 < number);
+        }
+        assert!(rt; has_come && left == *unchanged, "{call:?} at {flags:?}");
+        let right = numbers(memory, LISTS[1], flags.right)?;
+        assert!(rt;
+            succeeds(flags, call, &mut left, right)?,
+            "{call:?} at {flags:?}"
+        );
+    }
+    panic!(rt; "{call:?} makes too many requests")
+}
+
+/// Checks the call at all flags.
+fn check(rt: &impl Abort, alloc: Global, call: Call) -> Result<(), AllocError> {
+    let memory = Nth::new(alloc, 0);
+    for left in [false, true] {
+        for right in [false, true] {
+            let flags = Flags { left, right };
+            let unchanged = numbers(&memory, LISTS[0], left)?;
+            let is_refused = is_refused(rt, &memory, flags, call, &unchanged)?;
+            let is_in_place = matches!(call, Call::Assign(_) | Call::Insert | Call::Remove);
+            assert!(rt;
+                !is_in_place || is_refused == flags.may_be_refused(call),
+                "{call:?} at {flags:?}"
+            );
+        }
+    }
+    Ok(())
+}
+
+#[test]
+fn refused_calls_leave_the_sets(rt: HostRuntime) -> Result<(), Fail> {
+    for operation in OPERATIONS {
+        check(&rt, rt.alloc(), Call::Make(operation))?;
+        check(&rt, rt.alloc(), Call::Assign(operation))?;
+    }
+    for call in [Call::Insert, Call::Remove, Call::Clone, Call::Complement] {
+        check(&rt, rt.alloc(), call)?;
+    }
+    Ok(())
+}

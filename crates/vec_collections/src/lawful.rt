@@ -1,0 +1,65 @@
+//! Each law under its own name: one that is exported under another's leaves a clause here unproved.
+ghost use Rattle.vec_collections.specs.Chain.{allows};
+ghost use Rattle.vec_collections.specs.MergeLaws.{AscendingHaveOneScript, MembersAreElements, MembersTellTheList, TicksStay, RunsAreBeginnings};
+ghost use Rattle.vec_collections.specs.SetLaws.{InEachWay, SetOfIsOne, OperationsInWords, TestsAreOfOperations};
+ghost use Rattle.vec_collections.specs.TreeLaws.{KeysAreOrdered, LeftBehindIsRest, BindsIsLookup, CanonicalIsConditions, CanonicalIsUnique, CanonicalIsSmallest, WalkIsOne};
+ghost use Rattle.vec_collections.specs.Value.{Copies};
+ghost use Rattle.std.specs.Prelude.{IsTrue};
+
+use crate::laws::{
+    ByClone, ByEq, binds_is_lookup, canonical_is_conditions, canonical_is_smallest,
+    canonical_is_unique, keys_are_ordered, left_behind_is_rest, members_are_elements,
+    members_tell_the_list, operations_are_as_named, runs_are_beginnings, script_is_one,
+    set_of_is_one, tests_are_of_operations, ticks_stay, walk_is_one,
+};
+use crate::merge::{Count, MergeOperation, MergeState};
+
+/// The laws of merges.
+pub fn of_merges<T: Ord, M: MergeState, C: Count, O: MergeOperation<M, C>>()
+    ensures script { AscendingHaveOneScript T T }
+    ensures members { MembersAreElements T.cmp }
+    ensures list { MembersTellTheList T.cmp }
+    ensures ticks { TicksStay }
+    ensures runs { (op : O) → RunsAreBeginnings (allows M.left M.right (O.gives op)) (O.order op) }
+{
+    script_is_one::<T, T>();
+    members_are_elements::<T>();
+    members_tell_the_list::<T>();
+    ticks_stay();
+    runs_are_beginnings::<M, C, O>();
+}
+
+/// The laws of sets.
+pub fn of_sets<T: Ord + Clone>()
+    ensures one { SetOfIsOne T.cmp }
+    ensures named { InEachWay T.is_clone (OperationsInWords T.cmp) }
+    ensures tests { InEachWay T.is_clone (TestsAreOfOperations T.cmp) }
+{
+    set_of_is_one::<T>();
+    operations_are_as_named::<T>();
+    tests_are_of_operations::<T>();
+}
+
+/// The laws of keys and of what trees bind.
+pub fn of_keys<K: Ord, V>()
+    ensures ordered { KeysAreOrdered K.cmp }
+    ensures rest { LeftBehindIsRest K.cmp }
+    ensures binds { BindsIsLookup K V K.cmp }
+    ensures walk { WalkIsOne K V K.cmp }
+{
+    keys_are_ordered::<K>();
+    left_behind_is_rest::<K>();
+    binds_is_lookup::<K, V>();
+    walk_is_one::<K, V>();
+}
+
+/// The laws of canonical trees.
+pub fn of_trees<K: Ord, V: PartialEq + Clone>()
+    ensures conditions { CanonicalIsConditions K V K.cmp }
+    ensures unique { CanonicalIsUnique K V K.cmp (λ v w. IsTrue (V.eq v w)) }
+    ensures smallest { CanonicalIsSmallest K V K.cmp (Copies V.is_clone) }
+{
+    canonical_is_conditions::<K, V>();
+    canonical_is_unique::<K, V, ByEq>();
+    canonical_is_smallest::<K, V, ByClone>();
+}

@@ -1,0 +1,30 @@
+//! Sets and maps written out.
+//!
+//! The macros stand at the root of this crate: `vec_collections::vecset`.
+
+/// The set of the listed elements, with the allocator in front: a `Result` whose refusal is an `AllocError`.
+///
+/// The elements are put in one after the other by [`insert`](crate::vec_set::VecSet::insert), so they may stand in any order, and of equal ones
+/// the last is kept. The type of the set, or its size in place, is named by the caller.
+///
+/// ```
+/// let primes: VecSet<u32, 4> = vecset! {alloc; 2, 3, 5}?;
+/// let none: VecSet<u32, 4> = vecset! {alloc;}?;
+/// ```
+#[macro_export]
+macro_rules! vecset {
+    ($alloc:expr;) => {
+        Ok::<_, std::alloc::AllocError>($crate::vec_set::VecSet::empty($alloc))
+    };
+    ($alloc:expr; $($element:expr),+ $(,)?) => {
+        'made: {
+            let mut set = $crate::vec_set::VecSet::empty($alloc);
+            $(
+                if let Err(refusal) = set.insert($element) {
+                    break 'made Err(refusal);
+                }
+            )+
+            Ok(set)
+        }
+    };
+}

@@ -1,0 +1,48 @@
+//! Lines that begin with `total`.
+use super::check_all;
+
+#[test]
+fn answers_each_total_operation(rt: HostRuntime) {
+    check_all(
+        &rt,
+        &[
+            ("total minus !1 2\n", "!1,2\n", 0),
+            ("total or !1 1\n", "!-\n", 0),
+            ("total and !1 !2\n", "!1,2\n", 0),
+            ("total xor !1 !1,2\n", "2\n", 0),
+            ("total minus !1 !1,2\n", "2\n", 0),
+            ("total and 1,3 !3,5\n", "1\n", 0),
+            ("total or 1,3 !3,5\n", "!5\n", 0),
+            ("total xor - -\n", "-\n", 0),
+            ("total disjoint !1 1\n", "true\n", 0),
+            ("total superset !- 7\n", "true\n", 0),
+            ("total subset !- 7\n", "false\n", 0),
+            (
+                "total minus ! 1\n",
+                "line 1: fault 3: not a number or key\n",
+                1,
+            ),
+            (
+                "total minus !!1 1\n",
+                "line 1: fault 3: not a number or key\n",
+                1,
+            ),
+            (
+                "total minus 1 !2,1\n",
+                "line 1: fault 2: not ascending\n",
+                1,
+            ),
+            ("total union 1 2\n", "line 1: fault 1: unknown command\n", 1),
+            (
+                "total minus 1\n",
+                "line 1: fault 4: wrong count of words\n",
+                1,
+            ),
+            (
+                "set union !1 2\n",
+                "line 1: fault 3: not a number or key\n",
+                1,
+            ),
+        ],
+    );
+}
