@@ -162,17 +162,27 @@ fn has(set: &Numbers, listed: Listed) -> bool {
     set.elements().as_ref() == listed.0 && set.is_negated() == listed.1
 }
 
-/// Whether the operators and tests make of the sets what the row says.
+impl Row {
+    /// Whether the sets are what the row says.
+    fn is_made(&self, and: &Numbers, or: &Numbers, xor: &Numbers, minus: &Numbers) -> bool {
+        has(and, self.and) && has(or, self.or) && has(xor, self.xor) && has(minus, self.minus)
+    }
+
+    /// Whether the tests of the sets answer what the row says.
+    fn is_tested(&self, left: &Numbers, right: &Numbers) -> bool {
+        left.is_subset(right) == self.is_subset
+            && right.is_superset(left) == self.is_subset
+            && left.is_disjoint(right) == self.is_disjoint
+    }
+}
+
+/// Whether the operators make of the sets what the row says.
 fn operates(left: &Numbers, right: &Numbers, row: &Row) -> Result<bool, AllocError> {
-    Ok(
-        has(&(left & right)?, row.and)
-            && has(&(left | right)?, row.or)
-            && has(&(left ^ right)?, row.xor)
-            && has(&(left - right)?, row.minus)
-            && left.is_subset(right) == row.is_subset
-            && right.is_superset(left) == row.is_subset
-            && left.is_disjoint(right) == row.is_disjoint,
-    )
+    let and = (left & right)?;
+    let or = (left | right)?;
+    let xor = (left ^ right)?;
+    let minus = (left - right)?;
+    Ok(row.is_made(&and, &or, &xor, &minus))
 }
 
 /// Whether the assigning methods make of the sets what the row says.
@@ -185,22 +195,22 @@ fn assigns(left: &Numbers, right: &Numbers, row: &Row) -> Result<bool, AllocErro
     xor.bitxor_assign(right.clone()?)?;
     let mut minus = left.clone()?;
     minus.sub_assign(right.clone()?)?;
-    Ok(has(&and, row.and) && has(&or, row.or) && has(&xor, row.xor) && has(&minus, row.minus))
+    Ok(row.is_made(&and, &or, &xor, &minus))
 }
 
-/// Whether complements turn the operations on these sets, and a twofold complement is the set.
+/// Whether complements turn the operations on these sets.
 fn turns(left: &Numbers, right: &Numbers) -> Result<bool, AllocError> {
     let (not_left, not_right) = ((!left)?, (!right)?);
-    let neither = !(left | right)?;
     let not_both = !(left & right)?;
     let either_not = (&not_left | &not_right)?;
-    Ok(
-        not_both == either_not
-            && hash_of(&not_both) == hash_of(&either_not)
-            && neither == (&not_left & &not_right)?
-            && !not_left == *left
-            && !not_right == *right,
-    )
+    let neither = !(left | right)?;
+    let both_not = (&not_left & &not_right)?;
+    Ok(is_same(&not_both, &either_not) && is_same(&neither, &both_not))
+}
+
+/// Whether the sets are equal, and their hashes.
+fn is_same(left: &Numbers, right: &Numbers) -> bool {
+    left == right && hash_of(left) == hash_of(right)
 }
 
 /// The hash of a set.
@@ -218,39 +228,76 @@ fn each_case_is_as_worked_out(rt: HostRuntime) -> Result<(), Fail> {
         let at = (row.left, row.right);
         assert!(rt; operates(&left, &right, row)?, "{at:?}");
         assert!(rt; assigns(&left, &right, row)?, "{at:?}");
+        assert!(rt; row.is_tested(&left, &right), "{at:?}");
         assert!(rt; turns(&left, &right)?, "{at:?}");
     }
     Ok(())
 }
 
+/// A set, what it is with 3 and without 2, and how it is printed.
+#[derive(Clone, Copy)]
+struct Single {
+    set: Listed,
+    with_three: Listed,
+    without_two: Listed,
+    text: &'static str,
+}
+
+const SINGLES: [Single; 4] = [
+    Single {
+        set: (&[1, 2], false),
+        with_three: (&[1, 2, 3], false),
+        without_two: (&[1], false),
+        text: "{1, 2}",
+    },
+    Single {
+        set: (&[1, 3], true),
+        with_three: (&[1], true),
+        without_two: (&[1, 2, 3], true),
+        text: "!{1, 3}",
+    },
+    Single {
+        set: (&[], false),
+        with_three: (&[3], false),
+        without_two: (&[], false),
+        text: "{}",
+    },
+    Single {
+        set: (&[], true),
+        with_three: (&[], true),
+        without_two: (&[2], true),
+        text: "!{}",
+    },
+];
+
+/// Whether what is read of the set is as the row says.
+fn is_read(alloc: Global, set: &Numbers, row: &Single) -> bool {
+    let (list, is_negated) = row.set;
+    set.is_empty() == (*set == Numbers::empty(alloc))
+        && set.is_all() == (*set == Numbers::all(alloc))
+        && list.is_empty() == (*set == Numbers::constant(alloc, is_negated))
+        && set.contains(&2) == (list.contains(&2) != is_negated)
+}
+
+/// Whether the set is what the row says once 3 is put in, or 2 is taken out.
+fn is_changed(set: &Numbers, row: &Single) -> Result<bool, AllocError> {
+    let mut with_three = set.clone()?;
+    with_three.insert(3)?;
+    let mut without_two = set.clone()?;
+    without_two.remove(&2)?;
+    without_two.shrink_to_fit()?;
+    Ok(has(&with_three, row.with_three) && has(&without_two, row.without_two))
+}
+
 #[test]
 fn one_set_is_read_and_changed(rt: HostRuntime) -> Result<(), Fail> {
-    let rows: [(Listed, Listed, Listed, &str); 4] = [
-        (
-            (&[1, 2], false),
-            (&[1, 2, 3], false),
-            (&[1], false),
-            "{1, 2}",
-        ),
-        ((&[1, 3], true), (&[1], true), (&[1, 2, 3], true), "!{1, 3}"),
-        ((&[], false), (&[3], false), (&[], false), "{}"),
-        ((&[], true), (&[], true), (&[2], true), "!{}"),
-    ];
-    for (listed, with_three, without_two, text) in rows {
-        let set = numbers(rt.alloc(), listed)?;
-        let constant = Numbers::constant(rt.alloc(), listed.1);
-        assert_eq!(rt; set.is_empty(), set == Numbers::empty(rt.alloc()));
-        assert_eq!(rt; set.is_all(), set == Numbers::all(rt.alloc()));
-        assert_eq!(rt; listed.0.is_empty(), set == constant);
-        assert_eq!(rt; set.contains(&2), listed.0.contains(&2) != listed.1);
-        let mut with = set.clone()?;
-        with.insert(3)?;
-        assert!(rt; has(&with, with_three));
-        let mut without = set.clone()?;
-        without.remove(&2)?;
-        without.shrink_to_fit()?;
-        assert!(rt; has(&without, without_two));
-        assert_eq!(rt; format!(in rt.alloc(); "{set:?}")?.as_str(), text);
+    for row in &SINGLES {
+        let set = numbers(rt.alloc(), row.set)?;
+        assert!(rt; is_read(rt.alloc(), &set, row), "{set:?}");
+        assert!(rt; is_changed(&set, row)?, "{set:?}");
+        assert_eq!(rt; format!(in rt.alloc(); "{set:?}")?.as_str(), row.text);
+        let twice = !(!&set)?;
+        assert_eq!(rt; twice, set);
     }
     Ok(())
 }

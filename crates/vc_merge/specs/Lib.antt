@@ -24,3 +24,4 @@ pub mod PartsViews
 pub mod Shifts
 pub mod Showing
 pub mod Yielded
+pub mod Takes

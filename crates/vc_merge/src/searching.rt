@@ -5,6 +5,7 @@ ghost use Rattle.vc_merge.specs.Chain.{allows};
 ghost use Rattle.vc_merge.specs.Count.{digits};
 ghost use Rattle.vc_merge.specs.Script.{BothAscend};
 ghost use Rattle.vc_merge.specs.Progress.{GoesOn, IsWalk, IsLeftPlace, IsRightPlace, LeftBelow, RightBelow, fewer, more};
+ghost use Rattle.vc_merge.specs.Takes.{TakesLeft, TakesRight};
 
 use crate::linear::{meet, pass_left, pass_right};
 use crate::merge::{Count, MergeOperation, MergeState};
@@ -148,7 +149,7 @@ fn pass_lefts<M: MergeState, C: Count, O: MergeOperation<M, C>>(
     requires within { n ≤ length (M.left state.old) }
     requires below { LeftBelow (O.order op.now) (take n (M.left state.old)) (M.right state.old) }
     ensures goes_on { GoesOn (allows M.left M.right (O.gives op.now)) (O.order op.now) state.old result state.new }
-    ensures takes { IfOk result (λ go_on. go_on ≡ true → (M.left state.new ≡ drop n (M.left state.old)) × (M.right state.new ≡ M.right state.old) × O.ready op.now state.new) }
+    ensures takes { TakesLeft M.left M.right (O.ready op.now) n state.old result state.new }
 {
     if n == 0 {
         return Ok(true);
@@ -167,7 +168,7 @@ fn pass_rights<M: MergeState, C: Count, O: MergeOperation<M, C>>(
     requires within { n ≤ length (M.right state.old) }
     requires below { RightBelow (O.order op.now) (take n (M.right state.old)) (M.left state.old) }
     ensures goes_on { GoesOn (allows M.left M.right (O.gives op.now)) (O.order op.now) state.old result state.new }
-    ensures takes { IfOk result (λ go_on. go_on ≡ true → (M.left state.new ≡ M.left state.old) × (M.right state.new ≡ drop n (M.right state.old)) × O.ready op.now state.new) }
+    ensures takes { TakesRight M.left M.right (O.ready op.now) n state.old result state.new }
 {
     if n == 0 {
         return Ok(true);

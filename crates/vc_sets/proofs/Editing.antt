@@ -10,9 +10,13 @@ use Rattle.std.specs.declared.cmp.Ordering.{Ordering}
 use Rattle.std.specs.declared.cmp.Ordering.TheVariants.{Less, Equal}
 use Rattle.vc_merge.specs.Ascending.{Ascends, member, element_at}
 use Rattle.vc_merge.proofs.Lists.{each-weaker, each-at, ascends-append}
-use Rattle.vc_sets.specs.Place.{IsPlace}
+use Rattle.vc_merge.specs.Place.{IsGap}
 use Rattle.vc_merge.proofs.Members.{member-is_some, element_at-append, equal-alike, equal_from_is_eq}
-use Rattle.vc_sets.proofs.Searching.{none_below, place-is_ok}
+use Rattle.vc_sets.proofs.Searching.{none_below, gap-above, gap-none}
+
+-- the element at i is equal to x
+abbrev pub StandsAt : {X : Type 0} → (X → X → Ordering) → List X → X → ℕ → Type 0
+StandsAt {X} cmp xs x i = (i < length xs) × ((d : X) → cmp (get_or xs i d) x ≡ Equal)
 
 module _ {X : Type 0} where
   each-front : (P : X → Type 0) (xs ys : List X) → AllByRecursion P (xs ++ ys) → AllByRecursion P xs
@@ -42,22 +46,22 @@ module _ {X : Type 0} (cmp : X → X → Ordering) (total : IsTotalOrder cmp) wh
 
   -- ---- a new element
 
-  pub ascends-insert : (xs ys : List X) (x : X) (i : ℕ) → IsPlace cmp xs x (Err i) → Ascends cmp xs → ys ≡ insert xs i x → Ascends cmp ys
+  pub ascends-insert : (xs ys : List X) (x : X) (i : ℕ) → IsGap (λ y. cmp y x) xs i → Ascends cmp xs → ys ≡ insert xs i x → Ascends cmp ys
   ascends-insert xs ys x i p q e =
       let parts : Ascends cmp (take i xs ++ drop i xs) = subst (λ l. Ascends cmp l) (sym (take-append-drop i xs)) q in
-      subst (λ l. Ascends cmp l) (sym e) (ascends-between (take i xs) x (drop i xs) (ascends-front (take i xs) (drop i xs) parts) p.1 (ascends-append cmp (take i xs) (drop i xs) parts) p.2)
+      subst (λ l. Ascends cmp l) (sym e) (ascends-between (take i xs) x (drop i xs) (ascends-front (take i xs) (drop i xs) parts) p.less (ascends-append cmp (take i xs) (drop i xs) parts) (gap-above cmp total xs x i p))
 
   inserted_by : (b : Bool) (xs : List X) (x z : X) (i : ℕ) → AllByRecursion (λ y. cmp y x ≡ Less) (take i xs) → eq_by_cmp cmp x z ≡ b
       → option_or (element_at cmp (take i xs) z) (cond b (Some x) (element_at cmp (drop i xs) z)) ≡ cond b (Some x) (element_at cmp xs z)
   inserted_by true xs x z i p e = ap (λ o. option_or o (Some x)) (none_below cmp total (take i xs) x z p (equal_from_is_eq (cmp x z) e))
   inserted_by false xs x z i p e = sym (element_at-append cmp (take i xs) (drop i xs) z) ∙ ap (λ l. element_at cmp l z) (take-append-drop i xs)
 
-  pub element_at-insert : (xs ys : List X) (x : X) (i : ℕ) → IsPlace cmp xs x (Err i) → ys ≡ insert xs i x → (z : X) → element_at cmp ys z ≡ cond (eq_by_cmp cmp x z) (Some x) (element_at cmp xs z)
-  element_at-insert xs ys x i p e z = ap (λ l. element_at cmp l z) e ∙ element_at-append cmp (take i xs) (x ∷ drop i xs) z ∙ inserted_by (eq_by_cmp cmp x z) xs x z i p.1 refl
+  pub element_at-insert : (xs ys : List X) (x : X) (i : ℕ) → IsGap (λ y. cmp y x) xs i → ys ≡ insert xs i x → (z : X) → element_at cmp ys z ≡ cond (eq_by_cmp cmp x z) (Some x) (element_at cmp xs z)
+  element_at-insert xs ys x i p e z = ap (λ l. element_at cmp l z) e ∙ element_at-append cmp (take i xs) (x ∷ drop i xs) z ∙ inserted_by (eq_by_cmp cmp x z) xs x z i p.less refl
 
   -- ---- a new element in the place of an equal one
 
-  pub ascends-set : (xs : List X) (x : X) (i : ℕ) → IsPlace cmp xs x (Ok i) → Ascends cmp xs → Ascends cmp (set xs i x)
+  pub ascends-set : (xs : List X) (x : X) (i : ℕ) → StandsAt cmp xs x i → Ascends cmp xs → Ascends cmp (set xs i x)
   unfolding IsStrictlySortedBy
   ascends-set [] x i h p = tt
   ascends-set (y ∷ ys) x zero h p = (each-weaker (λ z. cmp y z ≡ Less) (λ z. cmp x z ≡ Less) (λ z k. sym (total.congr y x z (h.1 x)) ∙ k) ys p.0, p.1)
@@ -73,7 +77,7 @@ module _ {X : Type 0} (cmp : X → X → Ordering) (total : IsTotalOrder cmp) wh
   passed_by true x y z o e f = ap (λ c. cond c (Some y) (Some x)) (ap is_eq (sym (alike_right total x z y (equal_from_is_eq (cmp x z) f)) ∙ e))
   passed_by false x y z o e f = refl
 
-  pub element_at-set : (xs : List X) (x : X) (i : ℕ) → IsPlace cmp xs x (Ok i) → Ascends cmp xs → (z : X) → element_at cmp (set xs i x) z ≡ cond (eq_by_cmp cmp x z) (Some x) (element_at cmp xs z)
+  pub element_at-set : (xs : List X) (x : X) (i : ℕ) → StandsAt cmp xs x i → Ascends cmp xs → (z : X) → element_at cmp (set xs i x) z ≡ cond (eq_by_cmp cmp x z) (Some x) (element_at cmp xs z)
   unfolding IsStrictlySortedBy
   element_at-set [] x i h p z = absurd (omega (arith, h.0))
   element_at-set (y ∷ ys) x zero h p z = replaced_by (eq_by_cmp cmp x z) x y z (element_at cmp ys z) (h.1 x) refl
@@ -93,5 +97,5 @@ module _ {X : Type 0} (cmp : X → X → Ordering) (total : IsTotalOrder cmp) wh
 
   -- ---- the answer
 
-  pub new-answer : (xs : List X) (x : X) (i : ℕ) → IsPlace cmp xs x (Err i) → true ≡ not (member cmp xs x)
-  new-answer xs x i p = ap not (place-is_ok cmp total xs x (Err i) p)
+  pub new-answer : (xs : List X) (x : X) (i : ℕ) → IsGap (λ y. cmp y x) xs i → true ≡ not (member cmp xs x)
+  new-answer xs x i p = ap not (sym (member-is_some cmp xs x ∙ ap is_some (gap-none cmp total xs x i p)))

@@ -8,4 +8,5 @@ pub mod Witnessed
 pub mod Sifted
 mod OneSet
 pub mod Removing
+pub mod Retained
 pub mod Keeping

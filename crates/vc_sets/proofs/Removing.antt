@@ -13,9 +13,9 @@ use Rattle.std.specs.declared.cmp.Ordering.TheVariants.{Less, Equal}
 use Rattle.vc_merge.specs.Ascending.{Ascends, member, element_at}
 use Rattle.vc_merge.specs.Yielded.{taken}
 use Rattle.vc_merge.proofs.Lists.{each-at}
-use Rattle.vc_sets.specs.Place.{IsPlace}
+use Rattle.vc_merge.specs.Place.{IsGap}
 use Rattle.vc_merge.proofs.Members.{member-is_some, element_at-none, equal-alike, equal_from_is_eq}
-use Rattle.vc_sets.proofs.Searching.{place-is_ok}
+use Rattle.vc_sets.proofs.Searching.{gap-none}
 
 -- ---- an iterator that moves the elements of a list out
 
@@ -34,7 +34,7 @@ module _ {X : Type 0} (P : X → Type 0) where
   each-without (x ∷ xs) (suc i) p = (p.0, each-without xs i p.1)
 
   -- and of those that a test chooses
-  each-chosen : (bs : List Bool) (xs : List X) → AllByRecursion P xs → AllByRecursion P (items_where_true bs xs)
+  pub each-chosen : (bs : List Bool) (xs : List X) → AllByRecursion P xs → AllByRecursion P (items_where_true bs xs)
   each-chosen [] xs p = tt
   each-chosen (b ∷ bs) [] p = tt
   each-chosen (true ∷ bs) (x ∷ xs) p = (p.0, each-chosen bs xs p.1)
@@ -88,19 +88,14 @@ module _ {X : Type 0} (cmp : X → X → Ordering) where
     element_at-alike [] x z e = refl
     element_at-alike (y ∷ ys) x z e = (λ i. cond (is_eq (alike_right total x z y e i)) (Some y) (element_at-alike ys x z e i))
 
-    -- not something is nothing
-    none_from_not : (o : Option X) → is_some o ≡ false → o ≡ None
-    none_from_not (Some x) e = absurd (true≢false e)
-    none_from_not None e = refl
-
     -- nothing stands at what is equal to an element that is not there
     nothing_by : (b : Bool) (xs : List X) (x z : X) → element_at cmp xs x ≡ None → eq_by_cmp cmp x z ≡ b → element_at cmp xs z ≡ cond b None (element_at cmp xs z)
     nothing_by true xs x z n e = sym (element_at-alike xs x z (equal_from_is_eq (cmp x z) e)) ∙ n
     nothing_by false xs x z n e = refl
 
     -- what stands where, if no element is equal to x
-    pub element_at-not_there : (xs : List X) (x : X) (i : ℕ) → IsPlace cmp xs x (Err i) → (z : X) → element_at cmp xs z ≡ cond (eq_by_cmp cmp x z) None (element_at cmp xs z)
-    element_at-not_there xs x i p z = nothing_by (eq_by_cmp cmp x z) xs x z (none_from_not (element_at cmp xs x) (sym (member-is_some cmp xs x) ∙ sym (place-is_ok cmp total xs x (Err i) p))) refl
+    pub element_at-not_there : (xs : List X) (x : X) (i : ℕ) → IsGap (λ y. cmp y x) xs i → (z : X) → element_at cmp xs z ≡ cond (eq_by_cmp cmp x z) None (element_at cmp xs z)
+    element_at-not_there xs x i p z = nothing_by (eq_by_cmp cmp x z) xs x z (gap-none cmp total xs x i p) refl
 
     -- ---- members follow from what is kept
 

@@ -2,6 +2,6 @@ pub mod SetOf
 pub mod Tests
 pub mod Algebra
 pub mod Select
-pub mod Place
 pub mod Laws
 pub mod Iterating
+pub mod Retaining

@@ -15,7 +15,7 @@ use vc_merge::merge::{Count, merge};
 use vc_merge::states::SmallVecMergeState;
 
 /// What stands in either list alone and, if `BOTH`, the left one of what stands in both. It reserves room for all of it at the start.
-pub fn combine_either<
+fn combine_either<
     const BOTH: bool,
     T: Ord + Clone + MadeWith<A>,
     C: Count,
@@ -35,7 +35,7 @@ pub fn combine_either<
 }
 
 /// What stands in the left list alone or, if `BOTH`, the left one of what stands in both.
-pub fn combine_left<
+fn combine_left<
     const BOTH: bool,
     T: Ord + Clone + MadeWith<A>,
     C: Count,

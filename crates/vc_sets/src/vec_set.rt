@@ -20,6 +20,7 @@ use std::default::MadeWith;
 use std::marker::Model;
 use std::slice;
 use vc_merge::iterators::VecSetIter;
+use vc_merge::search::find;
 
 /// A set, as a list of its elements in ascending order. Up to `N` of them stand in place, without an allocation.
 ///
@@ -96,7 +97,7 @@ impl<T: Ord + MadeWith<A> + Drop, const N: usize, A: Allocator + Copy> VecSet<T,
 
     /// Puts an element in, in the place of an equal one if there is one, and answers whether there was none.
     ///
-    /// Searches by halving, and moves the elements behind a new one. It takes memory only for a new element, where `N` or more are held;
+    /// Searches for its place, and moves the elements behind a new one. It takes memory only for a new element, where `N` or more are held;
     /// refused, it leaves the set as it was and drops the element.
     pub fn insert(&mut self, that: T) -> Result<bool, AllocError>
         ensures answer { IfOk result (λ is_new. is_new ≡ not (member T.cmp self.old that)) }
@@ -110,7 +111,7 @@ impl<T: Ord + MadeWith<A> + Drop, const N: usize, A: Allocator + Copy> VecSet<T,
     {
         // At least `N`, on which the success of an insert into a short set rests.
         let _capacity = self.elements.capacity();
-        match self.elements.as_slice().binary_search(&that) {
+        match find(self.elements.as_slice(), &that) {
             Ok(index) => {
                 self.elements.as_mut_slice()[index] = that;
                 Ok(false)
@@ -148,11 +149,12 @@ pub trait AbstractVecSet<T: Ord> {
         elements_of(self.as_slice())
     }
 
-    /// Whether an element is equal to `value`. Searches by halving, and takes no memory.
+    /// Whether an element is equal to `value`. Compares with some of the elements, about `1.5 * log2(n) + 1` of `n`, and takes no
+    /// memory.
     fn contains(&self, value: &T) -> bool
         ensures { result ≡ member T.cmp (elements self.now) value.now }
     {
-        self.as_slice().binary_search(value).is_ok()
+        find(self.as_slice(), value).is_ok()
     }
 
     /// Whether no element is in both sets. It stops at the first that is, and takes no memory.

@@ -6,6 +6,7 @@ pub mod Binding
 pub mod Mending
 pub mod AlikeLemmas
 pub mod FourConditions
+pub mod SameTests
 pub mod Shortening
 pub mod Smallness
 pub mod Walking

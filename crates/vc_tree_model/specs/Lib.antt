@@ -7,6 +7,7 @@ pub mod Binds
 pub mod Canonical
 pub mod Conditions
 pub mod Same
+pub mod Equal
 pub mod OneTree
 pub mod Walk
 pub mod Laws

@@ -21,7 +21,7 @@ use Rattle.vc_tree_nodes.specs.Places.{FitsAt, IsGapAt, LeadsTo, child_first}
 use Rattle.vc_tree_model.specs.Snapshot.{kept_itself}
 use Rattle.vc_tree_model.proofs.AlikeLemmas.{alike_children, alike_solid, alike_trans, alike_lookup, alike_canonical, alike_nodes}
 use Rattle.vc_tree_nodes.proofs.Finding.{begins_below, child_nodes}
-use Rattle.vc_tree_nodes.proofs.Halving.{child_first-map, rest_children}
+use Rattle.vc_tree_nodes.proofs.Firsts.{child_first-map, rest_children}
 use Rattle.vc_tree_nodes.proofs.Parted.{agree_one}
 use Rattle.vc_tree_nodes.proofs.Growing.{solid_canonical, pair_solid, solid_insert, solid_length, gap_alike, children_insert, children_set, alike_set, alike_first}
 use Rattle.vc_tree_nodes.proofs.Updating.{lookup-leaf, updated_behind, updated_value, updated_children, updated_split, updated_insert, updated_set, updated_alike}

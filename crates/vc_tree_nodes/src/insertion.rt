@@ -18,6 +18,7 @@ use crate::places::child_place;
 use crate::reading::{TKey, TValue, is_empty};
 use std::alloc::{AllocError, Global};
 use std::mem;
+use vc_merge::merge::Uncounted;
 
 /// The tree that binds the empty key alone.
 pub fn leaf<K: TKey, V: TValue, T: Build<K, V>>(alloc: Global, value: V) -> T
@@ -84,7 +85,7 @@ fn insert_from<K: TKey, V: TValue, T: Build<K, V>>(
 {
     let prefix = tree.prefix();
     let whole = prefix.len();
-    match find_parting(prefix, key, known) {
+    match find_parting(prefix, key, known, &mut Uncounted) {
         Parting::Behind => insert_behind(alloc, tree, &key[whole..], value),
         Parting::Inside(n) => split_above(alloc, tree, n, value),
         Parting::Lower(n) => split_beside(alloc, tree, n, 1, &key[n..], value),
@@ -110,7 +111,7 @@ fn insert_behind<K: TKey, V: TValue, T: Build<K, V>>(
         set_value(alloc, tree, value);
         return Ok(());
     };
-    match child_place(tree.children(), first) {
+    match child_place(tree.children(), first, &mut Uncounted) {
         Ok(i) => insert_below(alloc, tree, i, rest, value),
         Err(i) => add_child(alloc, tree, i, rest, value),
     }

@@ -19,4 +19,8 @@ pub use reading::AbstractRadixTree;
 pub use vc_tree_nodes::plain::RadixTree;
 pub use vc_tree_nodes::reading::{RadixNode, TKey, TValue};
 pub use vc_tree_nodes::shared::ArcRadixTree;
+pub use vc_tree_walks::iter::Iter;
+pub use vc_tree_walks::key::IterKey;
+pub use vc_tree_walks::owned::ObjAndIter;
+pub use vc_tree_walks::values::Values;
 pub use writing::AbstractRadixTreeMut;

@@ -6,7 +6,7 @@ ghost use Rattle.vc_sets.specs.SetOf.{ClonesAreEqual, IsSetOf, and_not, exactly_
 ghost use Rattle.vc_sets.specs.Algebra.{made_by, IsTestedBy};
 ghost use Rattle.vc_sets.specs.Tests.{IsDisjoint, IsSubset};
 
-use crate::combine::{combine, combine_either, combine_left};
+use crate::combine::combine;
 use crate::vec_set::{AbstractVecSet, VecSet};
 use crate::witness::has_witness;
 use std::alloc::{AllocError, Allocator};
@@ -58,12 +58,8 @@ pub fn union<
     requires clones { ClonesAreEqual T.cmp T.is_clone }
     ensures union { IfOk result (IsSetOf T.cmp T.is_clone T.is_clone ◌||◌ (S.elements this.now) (U.elements that.now)) }
 {
-    let elements = combine_either::<true, _, _, _, _>(
-        alloc,
-        this.as_slice(),
-        that.as_slice(),
-        &mut Uncounted,
-    )?;
+    let (a, b) = (this.as_slice(), that.as_slice());
+    let elements = combine(alloc, a, b, SetOp::Union, &mut Uncounted)?;
     Ok(VecSet { elements })
 }
 
@@ -80,12 +76,8 @@ pub fn intersection<
     requires clones { ClonesAreEqual T.cmp T.is_clone }
     ensures intersection { IfOk result (IsSetOf T.cmp T.is_clone T.is_clone ◌&&◌ (S.elements this.now) (U.elements that.now)) }
 {
-    let elements = combine_left::<true, _, _, _, _>(
-        alloc,
-        this.as_slice(),
-        that.as_slice(),
-        &mut Uncounted,
-    )?;
+    let (a, b) = (this.as_slice(), that.as_slice());
+    let elements = combine(alloc, a, b, SetOp::Intersection, &mut Uncounted)?;
     Ok(VecSet { elements })
 }
 
@@ -103,12 +95,8 @@ pub fn symmetric_difference<
     requires clones { ClonesAreEqual T.cmp T.is_clone }
     ensures symmetric_difference { IfOk result (IsSetOf T.cmp T.is_clone T.is_clone exactly_one (S.elements this.now) (U.elements that.now)) }
 {
-    let elements = combine_either::<false, _, _, _, _>(
-        alloc,
-        this.as_slice(),
-        that.as_slice(),
-        &mut Uncounted,
-    )?;
+    let (a, b) = (this.as_slice(), that.as_slice());
+    let elements = combine(alloc, a, b, SetOp::SymmetricDifference, &mut Uncounted)?;
     Ok(VecSet { elements })
 }
 
@@ -125,12 +113,8 @@ pub fn difference<
     requires clones { ClonesAreEqual T.cmp T.is_clone }
     ensures difference { IfOk result (IsSetOf T.cmp T.is_clone T.is_clone and_not (S.elements this.now) (U.elements that.now)) }
 {
-    let elements = combine_left::<false, _, _, _, _>(
-        alloc,
-        this.as_slice(),
-        that.as_slice(),
-        &mut Uncounted,
-    )?;
+    let (a, b) = (this.as_slice(), that.as_slice());
+    let elements = combine(alloc, a, b, SetOp::Difference, &mut Uncounted)?;
     Ok(VecSet { elements })
 }
 

@@ -2,6 +2,7 @@
 ghost use Rattle.std.specs.Prelude.{◌≡◌, ◌+◌, ◌≤◌, ◌||◌, ◌&&◌, false, true, not, take, drop, length, List, OnErr, OnOk};
 ghost use Rattle.smallvec.specs.SmallVec.{small_vec_len, HasRoomFor};
 ghost use Rattle.std.specs.Iterator.{Drains, IsFinite};
+ghost use Rattle.std.specs.Iterator.Runs.{WholeRun};
 ghost use Rattle.vc_merge.specs.Ascending.{Ascends};
 ghost use Rattle.vc_merge.specs.Building.{Extends};
 ghost use Rattle.vc_sets.specs.SetOf.{ClonesAreEqual, IsSetOf, and_not, exactly_one};
@@ -140,6 +141,7 @@ impl<T: Ord + MadeWith<A> + Drop, const N: usize, A: Allocator + Copy> VecSet<T,
         requires ends { IsFinite (I.remaining iter) }
         requires sorted { I.is_sorted iter }
         ensures union { OnOk result ((items : List T) × Drains I.next_gives iter items × IsSetOf T.cmp (λ x y. x ≡ y) (λ x y. x ≡ y) ◌||◌ self.old items self.new) }
+        ensures runs { OnOk result (WholeRun I.next_gives iter (λ p. IsSetOf T.cmp (λ x y. x ≡ y) (λ x y. x ≡ y) ◌||◌ self.old p.items self.new)) }
         ensures err { OnErr result (self.new ≡ self.old) }
     {
         let that: VecSet<T, N, A> = VecSet::from_iter(*self.elements.allocator(), iter)?;

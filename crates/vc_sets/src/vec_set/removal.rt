@@ -1,24 +1,26 @@
 //! Elements taken out of a set, and the list made smaller.
-ghost use Rattle.std.specs.Prelude.{◌≡◌, ◌≤◌, ◌&&◌, not, cond, None, IsOk, length, take};
+ghost use Rattle.std.specs.Prelude.{◌≡◌, ◌≤◌, ◌&&◌, not, cond, None, IsOk, IsTrue, length, take};
 ghost use Rattle.std.specs.Fn.{CalledAt};
 ghost use Rattle.std.specs.List.Retain.{IsFiltered};
 ghost use Rattle.std.specs.Ordering.{eq_by_cmp};
 ghost use Rattle.vc_merge.specs.Ascending.{member, element_at};
+ghost use Rattle.vc_sets.specs.Retaining.{IsAsked};
 
 use super::VecSet;
 use std::alloc::{AllocError, Allocator};
 use std::default::MadeWith;
+use vc_merge::search::find;
 
 impl<T: Ord + MadeWith<A> + Drop, const N: usize, A: Allocator + Copy> VecSet<T, N, A> {
     /// Takes out and drops the element that is equal to `that`, and answers whether there was one.
     ///
-    /// Searches by halving, moves the elements behind it, and takes no memory.
+    /// Searches for its place, moves the elements behind it, and takes no memory.
     pub fn remove(&mut self, that: &T) -> bool
         ensures answer { result ≡ member T.cmp self.old that.now }
         ensures members { (x : T) → member T.cmp self.new x ≡ (not (eq_by_cmp T.cmp that.now x) && member T.cmp self.old x) }
         ensures kept { (x : T) → element_at T.cmp self.new x ≡ cond (eq_by_cmp T.cmp that.now x) None (element_at T.cmp self.old x) }
     {
-        match self.elements.as_slice().binary_search(that) {
+        match find(self.elements.as_slice(), that) {
             Ok(index) => {
                 self.elements.remove(index);
                 true
@@ -34,7 +36,9 @@ impl<T: Ord + MadeWith<A> + Drop, const N: usize, A: Allocator + Copy> VecSet<T,
     /// memory.
     pub fn retain<F: FnMut(&T) -> bool>(&mut self, f: F)
         requires { F.IsAlwaysCallable f }
-        ensures { IsFiltered (CalledAt F.FnMut) f self.old self.new }
+        ensures filtered { IsFiltered (CalledAt F.FnMut) f self.old self.new }
+        ensures kept { (x : T) → IsAsked (CalledAt F.FnMut) (element_at T.cmp self.old x) (element_at T.cmp self.new x) }
+        ensures members { (x : T) → IsTrue (member T.cmp self.new x) → IsTrue (member T.cmp self.old x) }
     {
         let kept = keep_in_front(self.elements.as_mut_slice(), f);
         self.elements.truncate(kept);

@@ -1,13 +1,23 @@
 //! The calls that read a radix tree.
 
-ghost use Rattle.std.specs.Prelude.{◌≡◌};
-ghost use Rattle.std.specs.Option.{option_copied};
-ghost use Rattle.vc_tree_model.specs.Tree.{is_bare};
+ghost use Rattle.std.specs.Prelude.{◌≡◌, ◌+◌, ◌*◌, ◌≤◌, length, map};
+ghost use Rattle.std.specs.Option.{is_some, option_copied};
+ghost use Rattle.vc_merge.specs.Count.{digits};
+ghost use Rattle.vc_tree_model.specs.Tree.{is_bare, width};
 ghost use Rattle.vc_tree_model.specs.Map.{lookup};
+ghost use Rattle.vc_tree_model.specs.Under.{under};
+ghost use Rattle.vc_tree_model.specs.Walk.{IsWalk, walk};
+ghost use Rattle.vc_tree_walks.specs.IterLeft.{pairs_left};
+ghost use Rattle.vc_tree_walks.specs.OwnedLeft.{held_left};
+ghost use Rattle.vc_tree_walks.specs.ValuesLeft.{values_left};
 
-use vc_tree_nodes::descent;
-use vc_tree_nodes::reading;
+use vc_merge::merge::{Steps, Uncounted};
 use vc_tree_nodes::reading::{RadixNode, TKey, TValue};
+use vc_tree_nodes::{descent, reading};
+use vc_tree_walks::iter::Iter;
+use vc_tree_walks::owned::ObjAndIter;
+use vc_tree_walks::values::Values;
+use vc_tree_walks::walks;
 
 /// A radix tree to be read: both flavours, and each type that is a [`RadixNode`].
 ///
@@ -20,13 +30,76 @@ pub trait AbstractRadixTree<K: TKey, V: TValue>: RadixNode<K, V> {
         reading::is_empty(self)
     }
 
+    /// Whether the tree binds the key. Takes no memory.
+    final fn contains_key(&self, key: &[K]) -> bool
+        ensures { result ≡ is_some (lookup K.cmp (Self.tree self.now) key.now) }
+    {
+        descent::contains_key(self, key)
+    }
+
     /// The value that the tree binds the key to. Takes no memory.
     ///
     /// Compares each component of the key at most once, but for a halving search among the children of each node on the way.
     final fn get(&self, key: &[K]) -> Option<&V>
         ensures { option_copied result ≡ lookup K.cmp (Self.tree self.now) key.now }
     {
-        descent::get(self, key)
+        descent::get(self, key, &mut Uncounted)
+    }
+
+    /// [`get`](AbstractRadixTree::get), where each comparison of two components counts one more.
+    ///
+    /// Of a key of `l` components these are at most `l * (1 + d)`, where `d` is how many binary digits the greatest number of
+    /// children of a node has.
+    final fn get_counted(&self, key: &[K], steps: &mut Steps) -> Option<&V>
+        ensures value { option_copied result ≡ lookup K.cmp (Self.tree self.now) key.now }
+        ensures counted { steps.new ≤ steps.old + length key.now * (1 + digits (width (Self.tree self.now))) }
+    {
+        descent::get(self, key, steps)
+    }
+
+    /// All pairs of the tree, by ascending keys. Takes no memory; a step may, for its key.
+    ///
+    /// A key is kept for as long as the caller wants. A walk whose keys are let go writes each into the place of the last.
+    ///
+    /// ```text
+    /// for item in tree.iter() {
+    ///     let (key, value) = item?;
+    ///     total += key.as_ref().len() * value;
+    /// }
+    /// ```
+    final fn iter(&self) -> Iter<'_, K, V, Self>
+        ensures all { pairs_left Self.tree result ≡ walk (Self.tree self.now) }
+        ensures ascending { IsWalk K.cmp (lookup K.cmp (Self.tree self.now)) (pairs_left Self.tree result) }
+    {
+        walks::iter(self)
+    }
+
+    /// The pairs of the tree whose keys start with the prefix, by ascending keys, each with its whole key. Takes no memory; a step
+    /// may, for its key.
+    ///
+    /// Goes down to the node below which these keys stand, as `get` does.
+    final fn scan_prefix<'a>(&'a self, prefix: &'a [K]) -> Iter<'a, K, V, Self>
+        ensures { IsWalk K.cmp (under K.cmp (lookup K.cmp (Self.tree self.now)) prefix.now) (pairs_left Self.tree result) }
+    {
+        walks::scan_prefix(self, prefix)
+    }
+
+    /// The values of the tree, in the order of their keys, which is that of `iter`. Takes no memory; a step may, for its way back.
+    final fn values(&self) -> Values<'_, K, V, Self>
+        ensures { values_left Self.tree result ≡ map (λ b. b.1) (walk (Self.tree self.now)) }
+    {
+        walks::values(self)
+    }
+
+    /// All pairs of the tree, by ascending keys, each with a clone of its value. The iterator holds the tree, and drops it. Takes no
+    /// memory; a step may, for its key and for the clone.
+    final fn into_iter(self) -> ObjAndIter<K, V, Self>
+    where
+        Self: Drop,
+        ensures all { held_left Self.tree result ≡ walk (Self.tree self) }
+        ensures ascending { IsWalk K.cmp (lookup K.cmp (Self.tree self)) (held_left Self.tree result) }
+    {
+        walks::into_iter(self)
     }
 }
 

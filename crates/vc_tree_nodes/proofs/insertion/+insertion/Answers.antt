@@ -53,12 +53,12 @@ insert_below-returns-clause-ok g t c =
 pub insert_from-split_beside-requires : goal.insert_from-split_beside-requires
 insert_from-split_beside-requires g t c =
     splits_lower g.K.Ord.cmp (g.T.RadixNode.tree c.args.tree.now) c.prefix-prefix.result.now c.args.key.now
-    c.in-Lower.n c.prefix-prefix.ensures.value c.in-Lower.ensures c.requires.solid
+    c.in-Lower.n c.prefix-prefix.ensures.value c.in-Lower.ensures.is c.requires.solid
 
 pub insert_from-split_beside-requires-in-Higher : goal.insert_from-split_beside-requires-in-Higher
 insert_from-split_beside-requires-in-Higher g t c =
     splits_higher g.K.Ord.cmp g.met.K.Ord.total (g.T.RadixNode.tree c.args.tree.now)
-    c.prefix-prefix.result.now c.args.key.now c.in-Higher.n c.prefix-prefix.ensures.value c.in-Higher.ensures
+    c.prefix-prefix.result.now c.args.key.now c.in-Higher.n c.prefix-prefix.ensures.value c.in-Higher.ensures.is
     c.requires.solid
 
 pub insert_from-returns-in-Behind-clause-ok : goal.insert_from-returns-in-Behind-clause-ok
@@ -67,7 +67,7 @@ insert_from-returns-in-Behind-clause-ok g t c =
     on_ok c.insert_behind.result
     (λ inserted. updated_respelled g.K.Ord.cmp g.T.Build.keeps g.met.K.Ord.total _ c.args.key.now c.args.value _ _
     (same_behind_whole g.K.Ord.cmp g.met.K.Ord.total c.prefix-prefix.result.now tree.prefix c.args.key.now
-    c.prefix-prefix.ensures.value c.in-Behind.ensures) inserted.updated)
+    c.prefix-prefix.ensures.value c.in-Behind.ensures.is) inserted.updated)
     c.insert_behind.ensures.ok
 
 pub insert_from-returns-in-Inside-clause-ok : goal.insert_from-returns-in-Inside-clause-ok
@@ -76,7 +76,7 @@ insert_from-returns-in-Inside-clause-ok g t c =
     on_ok c.split_above.result
     (λ inserted. updated_respelled g.K.Ord.cmp g.T.Build.keeps g.met.K.Ord.total _ c.args.key.now c.args.value _ _
     (same_ended g.K.Ord.cmp c.prefix-prefix.result.now tree.prefix c.args.key.now c.in-Inside.n
-    c.prefix-prefix.ensures.value c.in-Inside.ensures.0 c.in-Inside.ensures.1) inserted.updated)
+    c.prefix-prefix.ensures.value c.in-Inside.ensures.is.0 c.in-Inside.ensures.is.1) inserted.updated)
     c.split_above.ensures.ok
 
 pub insert_from-returns-in-Inside-clause-err : goal.insert_from-returns-in-Inside-clause-err
@@ -91,7 +91,7 @@ insert_from-returns-in-Lower-clause-ok g t c =
     on_ok c.split_beside.result
     (λ inserted. updated_respelled g.K.Ord.cmp g.T.Build.keeps g.met.K.Ord.total _ c.args.key.now c.args.value _ _
     (same_joined g.K.Ord.cmp g.met.K.Ord.total c.prefix-prefix.result.now tree.prefix c.args.key.now c.in-Lower.n
-    c.prefix-prefix.ensures.value c.in-Lower.ensures.agree) inserted.updated)
+    c.prefix-prefix.ensures.value c.in-Lower.ensures.is.agree) inserted.updated)
     c.split_beside.ensures.ok
 
 pub insert_from-returns-in-Lower-clause-grown : goal.insert_from-returns-in-Lower-clause-grown
@@ -100,7 +100,7 @@ insert_from-returns-in-Lower-clause-grown g t c =
     on_ok c.split_beside.result
     (λ inserted. grown_from g.K.Ord.cmp c.args.known c.in-Lower.n tree _
     (known_within g.K.Ord.cmp _ c.prefix-prefix.result.now tree.prefix c.args.key.now c.args.known c.in-Lower.n
-    c.prefix-prefix.ensures.value refl c.requires.known c.in-Lower.ensures) inserted.branch)
+    c.prefix-prefix.ensures.value refl c.requires.known c.in-Lower.ensures.is) inserted.branch)
     c.split_beside.ensures.ok
 
 pub insert_from-returns-in-Lower-clause-err : goal.insert_from-returns-in-Lower-clause-err
@@ -115,7 +115,7 @@ insert_from-returns-in-Higher-clause-ok g t c =
     on_ok c.split_beside-in-Higher.result
     (λ inserted. updated_respelled g.K.Ord.cmp g.T.Build.keeps g.met.K.Ord.total _ c.args.key.now c.args.value _ _
     (same_joined g.K.Ord.cmp g.met.K.Ord.total c.prefix-prefix.result.now tree.prefix c.args.key.now c.in-Higher.n
-    c.prefix-prefix.ensures.value c.in-Higher.ensures.agree) inserted.updated)
+    c.prefix-prefix.ensures.value c.in-Higher.ensures.is.agree) inserted.updated)
     c.split_beside-in-Higher.ensures.ok
 
 pub insert_from-returns-in-Higher-clause-grown : goal.insert_from-returns-in-Higher-clause-grown
@@ -124,7 +124,7 @@ insert_from-returns-in-Higher-clause-grown g t c =
     on_ok c.split_beside-in-Higher.result
     (λ inserted. grown_from g.K.Ord.cmp c.args.known c.in-Higher.n tree _
     (known_within g.K.Ord.cmp _ c.prefix-prefix.result.now tree.prefix c.args.key.now c.args.known c.in-Higher.n
-    c.prefix-prefix.ensures.value refl c.requires.known c.in-Higher.ensures) inserted.branch)
+    c.prefix-prefix.ensures.value refl c.requires.known c.in-Higher.ensures.is) inserted.branch)
     c.split_beside-in-Higher.ensures.ok
 
 pub insert_from-returns-in-Higher-clause-err : goal.insert_from-returns-in-Higher-clause-err

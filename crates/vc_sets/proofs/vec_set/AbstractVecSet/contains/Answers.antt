@@ -1,5 +1,9 @@
-use Rattle.vc_sets.proofs.Searching.{search-is_ok}
+use Rattle.std.proofs.Common.{ap, sym, ◌∙◌}
+use Rattle.vc_merge.specs.Ascending.{member}
+use Rattle.vc_sets.proofs.Searching.{place-is_ok}
 use Rattle.vc_sets.proofs.vec_set.AbstractVecSet.contains.Goals as goal
 
 pub returns : goal.returns
-returns g c = search-is_ok g.T.Ord.cmp g.met.T.Ord.total _ _ _ _ _ c.as_slice.ensures.elements c.as_slice.ensures.ascends c.binary_search.ensures.bound c.binary_search.ensures.position c.is_ok.ensures.value
+returns g c =
+    c.is_ok.ensures.value ∙ place-is_ok g.T.Ord.cmp g.met.T.Ord.total c.as_slice.result.now c.args.value.now c.find.result c.find.ensures
+    ∙ ap (λ l. member g.T.Ord.cmp l c.args.value.now) c.as_slice.ensures.elements

@@ -1,11 +1,11 @@
-use Rattle.std.proofs.Common.{sym, ap, ◌∙◌, ◌≡◌, length, arith, Ok, Err, Some, cond, true, not, set, is_ok, ℕ, List}
+use Rattle.std.proofs.Common.{sym, ap, subst, ◌∙◌, ◌≡◌, length, arith, Ok, Err, Some, cond, true, not, set, is_ok, ℕ, List}
 use Rattle.std.specs.Ordering.{eq_by_cmp}
 use mathlib.Core.Bool.{true≢false}
 use Rattle.std.proofs.lemmas.List.{length-set}
 use Rattle.smallvec.proofs.SmallVecLemmas.{items-with_items}
 use Rattle.std.specs.List.{refill}
 use Rattle.vc_merge.specs.Ascending.{member, element_at}
-use Rattle.vc_sets.proofs.Searching.{found_place}
+use Rattle.vc_merge.specs.Place.{IsFound, IsGap}
 use Rattle.vc_sets.proofs.Editing.{ascends-insert, element_at-insert, ascends-set, element_at-set, members-put, new-answer}
 use Rattle.vc_sets.proofs.vec_set.VecSet.insert.Goals as goal
 
@@ -19,14 +19,14 @@ written xs ys i x e =
 
 pub invariant_of-self : goal.invariant_of-self
 invariant_of-self g c =
-    let p = found_place g.T.Ord.cmp g.met.T.Ord.total c.self.inside.elements.items c.as_slice.result.now c.args.that (Ok c.in-Ok.index) c.as_slice.ensures c.self.invariant c.in-Ok.ensures.bound c.in-Ok.ensures.position in
-    rw (written _ _ c.in-Ok.index c.args.that c.as_mut_slice.ensures.value) (ascends-set g.T.Ord.cmp g.met.T.Ord.total _ c.args.that c.in-Ok.index p c.self.invariant)
+    let p = subst (λ l. IsFound (λ y. g.T.Ord.cmp y c.args.that) l c.in-Ok.index) c.as_slice.ensures c.in-Ok.ensures in
+    rw (written _ _ c.in-Ok.index c.args.that c.as_mut_slice.ensures.value) (ascends-set g.T.Ord.cmp g.met.T.Ord.total _ c.args.that c.in-Ok.index (p.within, p.equal) c.self.invariant)
 
 pub returns-in-Ok-clause-kept : goal.returns-in-Ok-clause-kept
 returns-in-Ok-clause-kept g c =
-    let p = found_place g.T.Ord.cmp g.met.T.Ord.total c.self.inside.elements.items c.as_slice.result.now c.args.that (Ok c.in-Ok.index) c.as_slice.ensures c.self.invariant c.in-Ok.ensures.bound c.in-Ok.ensures.position in
+    let p = subst (λ l. IsFound (λ y. g.T.Ord.cmp y c.args.that) l c.in-Ok.index) c.as_slice.ensures c.in-Ok.ensures in
     λ z. ap (λ l. element_at g.T.Ord.cmp l z) (written _ _ c.in-Ok.index c.args.that c.as_mut_slice.ensures.value)
-    ∙ element_at-set g.T.Ord.cmp g.met.T.Ord.total _ c.args.that c.in-Ok.index p c.self.invariant z
+    ∙ element_at-set g.T.Ord.cmp g.met.T.Ord.total _ c.args.that c.in-Ok.index (p.within, p.equal) c.self.invariant z
     ∙ ap (λ l. cond (eq_by_cmp g.T.Ord.cmp c.args.that z) (Some c.args.that) (element_at g.T.Ord.cmp l z)) c.self.view_is
 
 pub returns-in-Ok-clause-members : goal.returns-in-Ok-clause-members
@@ -36,17 +36,17 @@ returns-in-Ok-clause-members g c = members-put g.T.Ord.cmp g.met.T.Ord.total _ _
 
 pub invariant_of-self-in-Err : goal.invariant_of-self-in-Err
 invariant_of-self-in-Err g c =
-    let p = found_place g.T.Ord.cmp g.met.T.Ord.total c.self.inside.elements.items c.as_slice.result.now c.args.that (Err c.in-Err.index) c.as_slice.ensures c.self.invariant c.in-Err.ensures.bound c.in-Err.ensures.position in
+    let p = subst (λ l. IsGap (λ y. g.T.Ord.cmp y c.args.that) l c.in-Err.index) c.as_slice.ensures c.in-Err.ensures in
     ascends-insert g.T.Ord.cmp g.met.T.Ord.total c.self.inside.elements.items c.insert.new.self.items c.args.that c.in-Err.index p c.self.invariant c.in_ok-insert-in-Err.ensures.ok
 
 pub returns-in_ok-insert-in-Err-clause-answer : goal.returns-in_ok-insert-in-Err-clause-answer
 returns-in_ok-insert-in-Err-clause-answer g c =
-    let p = found_place g.T.Ord.cmp g.met.T.Ord.total c.self.inside.elements.items c.as_slice.result.now c.args.that (Err c.in-Err.index) c.as_slice.ensures c.self.invariant c.in-Err.ensures.bound c.in-Err.ensures.position in
+    let p = subst (λ l. IsGap (λ y. g.T.Ord.cmp y c.args.that) l c.in-Err.index) c.as_slice.ensures c.in-Err.ensures in
     new-answer g.T.Ord.cmp g.met.T.Ord.total _ c.args.that c.in-Err.index p ∙ ap (λ l. not (member g.T.Ord.cmp l c.args.that)) c.self.view_is
 
 pub returns-in_ok-insert-in-Err-clause-kept : goal.returns-in_ok-insert-in-Err-clause-kept
 returns-in_ok-insert-in-Err-clause-kept g c =
-    let p = found_place g.T.Ord.cmp g.met.T.Ord.total c.self.inside.elements.items c.as_slice.result.now c.args.that (Err c.in-Err.index) c.as_slice.ensures c.self.invariant c.in-Err.ensures.bound c.in-Err.ensures.position in
+    let p = subst (λ l. IsGap (λ y. g.T.Ord.cmp y c.args.that) l c.in-Err.index) c.as_slice.ensures c.in-Err.ensures in
     λ z. element_at-insert g.T.Ord.cmp g.met.T.Ord.total c.self.inside.elements.items c.insert.new.self.items c.args.that c.in-Err.index p c.in_ok-insert-in-Err.ensures.ok z
     ∙ ap (λ l. cond (eq_by_cmp g.T.Ord.cmp c.args.that z) (Some c.args.that) (element_at g.T.Ord.cmp l z)) c.self.view_is
 
@@ -64,6 +64,6 @@ returns-in_err-insert-in-Err-clause-room g c =
 
 pub returns-in_err-insert-in-Err-clause-known : goal.returns-in_err-insert-in-Err-clause-known
 returns-in_err-insert-in-Err-clause-known g c =
-    let p = found_place g.T.Ord.cmp g.met.T.Ord.total c.self.inside.elements.items c.as_slice.result.now c.args.that (Err c.in-Err.index) c.as_slice.ensures c.self.invariant c.in-Err.ensures.bound c.in-Err.ensures.position in
+    let p = subst (λ l. IsGap (λ y. g.T.Ord.cmp y c.args.that) l c.in-Err.index) c.as_slice.ensures c.in-Err.ensures in
     let n : true ≡ not (member g.T.Ord.cmp c.args.self.now c.args.that) = new-answer g.T.Ord.cmp g.met.T.Ord.total _ c.args.that c.in-Err.index p ∙ ap (λ l. not (member g.T.Ord.cmp l c.args.that)) c.self.view_is in
     λ h. absurd (true≢false (n ∙ ap not h))

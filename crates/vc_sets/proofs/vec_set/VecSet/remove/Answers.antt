@@ -1,7 +1,8 @@
-use Rattle.std.proofs.Common.{ap, sym, ◌∙◌, Ok, Err, cond, None}
+use Rattle.std.proofs.Common.{ap, sym, subst, ◌∙◌, Ok, Err, cond, None}
 use Rattle.std.specs.Ordering.{eq_by_cmp}
 use Rattle.vc_merge.specs.Ascending.{member, element_at}
-use Rattle.vc_sets.proofs.Searching.{found_place, place-is_ok}
+use Rattle.vc_merge.specs.Place.{IsFound, IsGap}
+use Rattle.vc_sets.proofs.Searching.{place-is_ok}
 use Rattle.vc_sets.proofs.Removing.{ascends-without, element_at-without, element_at-not_there, members-taken}
 use Rattle.vc_sets.proofs.vec_set.VecSet.remove.Goals as goal
 
@@ -12,9 +13,9 @@ invariant_of-self g c = rw c.remove.ensures.items (ascends-without g.T.Ord.cmp c
 
 pub returns-in-Ok-clause-kept : goal.returns-in-Ok-clause-kept
 returns-in-Ok-clause-kept g c =
-    let p = found_place g.T.Ord.cmp g.met.T.Ord.total c.self.inside.elements.items c.as_slice.result.now c.args.that.now (Ok c.in-Ok.index) c.as_slice.ensures c.self.invariant c.in-Ok.ensures.bound c.in-Ok.ensures.position in
+    let p = subst (λ l. IsFound (λ y. g.T.Ord.cmp y c.args.that.now) l c.in-Ok.index) c.as_slice.ensures c.in-Ok.ensures in
     λ z. ap (λ l. element_at g.T.Ord.cmp l z) c.remove.ensures.items
-    ∙ element_at-without g.T.Ord.cmp g.met.T.Ord.total c.self.inside.elements.items c.args.that.now c.in-Ok.index p.0 p.1 c.self.invariant z
+    ∙ element_at-without g.T.Ord.cmp g.met.T.Ord.total c.self.inside.elements.items c.args.that.now c.in-Ok.index p.within p.equal c.self.invariant z
     ∙ ap (λ l. cond (eq_by_cmp g.T.Ord.cmp c.args.that.now z) None (element_at g.T.Ord.cmp l z)) c.self.view_is
 
 pub returns-in-Ok-clause-members : goal.returns-in-Ok-clause-members
@@ -24,12 +25,12 @@ returns-in-Ok-clause-members g c = members-taken g.T.Ord.cmp g.met.T.Ord.total c
 
 pub returns-in-Err-clause-answer : goal.returns-in-Err-clause-answer
 returns-in-Err-clause-answer g c =
-    let p = found_place g.T.Ord.cmp g.met.T.Ord.total c.self.inside.elements.items c.as_slice.result.now c.args.that.now (Err c.in-Err.field-0) c.as_slice.ensures c.self.invariant c.in-Err.ensures.bound c.in-Err.ensures.position in
+    let p = subst (λ l. IsGap (λ y. g.T.Ord.cmp y c.args.that.now) l c.in-Err.field-0) c.as_slice.ensures c.in-Err.ensures in
     place-is_ok g.T.Ord.cmp g.met.T.Ord.total c.self.inside.elements.items c.args.that.now (Err c.in-Err.field-0) p ∙ ap (λ l. member g.T.Ord.cmp l c.args.that.now) c.self.view_is
 
 pub returns-in-Err-clause-kept : goal.returns-in-Err-clause-kept
 returns-in-Err-clause-kept g c =
-    let p = found_place g.T.Ord.cmp g.met.T.Ord.total c.self.inside.elements.items c.as_slice.result.now c.args.that.now (Err c.in-Err.field-0) c.as_slice.ensures c.self.invariant c.in-Err.ensures.bound c.in-Err.ensures.position in
+    let p = subst (λ l. IsGap (λ y. g.T.Ord.cmp y c.args.that.now) l c.in-Err.field-0) c.as_slice.ensures c.in-Err.ensures in
     λ z. ap (λ l. element_at g.T.Ord.cmp l z) (sym c.self.view_is)
     ∙ element_at-not_there g.T.Ord.cmp g.met.T.Ord.total c.self.inside.elements.items c.args.that.now c.in-Err.field-0 p z
     ∙ ap (λ l. cond (eq_by_cmp g.T.Ord.cmp c.args.that.now z) None (element_at g.T.Ord.cmp l z)) c.self.view_is

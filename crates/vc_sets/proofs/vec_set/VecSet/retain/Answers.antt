@@ -4,6 +4,7 @@ use Rattle.std.specs.List.Retain.{IsFiltered}
 use Rattle.vc_merge.specs.Ascending.{Ascends}
 use Rattle.vc_sets.proofs.Removing.{ascends-chosen}
 use Rattle.vc_sets.proofs.Keeping.{front-refilled}
+use Rattle.vc_sets.proofs.Retained.{asked, asked-member}
 use Rattle.vc_sets.proofs.vec_set.VecSet.retain.Goals as goal
 
 pub invariant_of-self : goal.invariant_of-self
@@ -12,7 +13,14 @@ invariant_of-self g c =
     let e = c.truncate.ensures.items ∙ front-refilled c.self.inside.elements.items c.keep_in_front-kept.new.list c.keep_in_front-kept.result c.keep_in_front-kept.ensures.within (c.keep_in_front-kept.auto.list ∙ ap length c.as_mut_slice.ensures.value) ∙ f.4 in
     rw e (ascends-chosen g.T.Ord.cmp f.0 c.as_mut_slice.result.now (subst (λ l. Ascends g.T.Ord.cmp l) (sym c.as_mut_slice.ensures.value) c.self.invariant))
 
-pub returns : goal.returns
-returns g c =
+pub returns-clause-filtered : goal.returns-clause-filtered
+returns-clause-filtered g c =
     let e = c.truncate.ensures.items ∙ front-refilled c.self.inside.elements.items c.keep_in_front-kept.new.list c.keep_in_front-kept.result c.keep_in_front-kept.ensures.within (c.keep_in_front-kept.auto.list ∙ ap length c.as_mut_slice.ensures.value) in
     rw e (subst (λ l. IsFiltered (CalledAt g.F.FnMut) c.args.f l (take c.keep_in_front-kept.result c.keep_in_front-kept.new.list)) (c.as_mut_slice.ensures.value ∙ c.self.view_is) c.keep_in_front-kept.ensures.kept)
+
+pub returns-clause-kept : goal.returns-clause-kept
+returns-clause-kept g c =
+    asked g.T.Ord.cmp g.met.T.Ord.total (CalledAt g.F.FnMut) c.args.f _ _ (subst (λ l. Ascends g.T.Ord.cmp l) c.self.view_is c.self.invariant) (returns-clause-filtered g c)
+
+pub returns-clause-members : goal.returns-clause-members
+returns-clause-members g c = λ x. asked-member g.T.Ord.cmp g.met.T.Ord.total (CalledAt g.F.FnMut) _ _ x (returns-clause-kept g c x)

@@ -1,0 +1,5 @@
+pub mod Rows
+pub mod ValueRows
+pub mod Scanning
+pub mod Paths
+pub mod WholeWalks

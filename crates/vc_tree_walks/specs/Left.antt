@@ -1,0 +1,36 @@
+-- What is left of a walk.
+--     Walks view rest s r t        a step of an iterator that lists `rest`
+--     pair_at key v        the pair of a key and its value, if there is one
+--     rows_left key rows        the pairs of rows of trees
+--     rows_work rows        how many steps a walk over them takes at most
+use Rattle.std.specs.Prelude.{◌≡◌, ℕ, ◌+◌, ◌*◌, List, [], ◌∷◌, ◌++◌, take, map, Option, Some, None, Result, MatchOption, MatchResult}
+use Rattle.vc_tree_model.specs.Tree.{Forest, forest_nodes}
+use Rattle.vc_tree_model.specs.Walk.{prepended, walk_in}
+
+-- a step of an iterator: its first item, and the others are left; or an error, and nothing is left; or `None`, where nothing is
+-- left
+abbrev pub Walks : {S X A E : Type 0} → (X → A) → (S → List A) → S → Option (Result X E) → S → Type 0
+Walks view rest s r t =
+    MatchOption r ((rest s ≡ []) × (rest t ≡ []))
+    (λ x. MatchResult x (λ item. rest s ≡ view item ∷ rest t) (λ _. rest t ≡ []))
+
+module _ {K V : Type 0} where
+  -- the pair of a key and its value, if there is one
+  abbrev pub pair_at : List K → Option V → List (List K × V)
+  pair_at key None = []
+  pair_at key (Some v) = (key, v) ∷ []
+
+  -- the pairs of rows of trees, the innermost first: of each its trees, and how many components of the key stand before theirs
+  abbrev pub rows_left : List K → List (Forest K V × ℕ) → List (List K × V)
+  rows_left key [] = []
+  rows_left key (row ∷ rows) = map (prepended (take row.1 key)) (walk_in row.0) ++ rows_left (take row.1 key) rows
+
+  -- how many steps a walk over rows takes at most, where it has to go out of each of them
+  abbrev pub outer_work : List (Forest K V × ℕ) → ℕ
+  outer_work [] = 0
+  outer_work (row ∷ rows) = 1 + 2 * forest_nodes row.0 + outer_work rows
+
+  -- how many steps it takes at most, where it is in the first
+  abbrev pub rows_work : List (Forest K V × ℕ) → ℕ
+  rows_work [] = 0
+  rows_work (row ∷ rows) = 2 * forest_nodes row.0 + outer_work rows

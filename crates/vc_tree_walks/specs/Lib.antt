@@ -1,0 +1,4 @@
+pub mod Left
+pub mod IterLeft
+pub mod ValuesLeft
+pub mod OwnedLeft

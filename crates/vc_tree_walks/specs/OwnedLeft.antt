@@ -1,0 +1,109 @@
+-- What is left of the pairs of a tree that the iterator holds.
+--     left_at t path        the pairs that are left below a node, behind its prefix
+--     work_at t path        how many steps a walk over them takes at most
+--     pairs_at root path        the pairs that are left of the whole tree
+--     held_left tree s        the pairs that are left of an iterator
+--     held_work tree s        how many steps it takes at most
+--     WalksClones is_clone rest s r t        a step of an iterator that lists `rest`, by clones of the values
+--     IsReached root path node depth key        where a path leads
+--     IsItem is_clone key v turn        the item of a node, if it has a value
+--     IsTurn tree is_clone s turn t        what one step found, and what is left after it
+use Rattle.std.specs.Prelude.{◌≡◌, ℕ, zero, suc, ◌+◌, ◌*◌, ◌<◌, List, [], ◌∷◌, ◌++◌, length, take, map, slice_index_or, Option, Some, None, if◌then◌else◌, Result, MatchOption, MatchResult}
+use Rattle.std.specs.Borrow.{Bor}
+use Rattle.vc_tree_model.specs.Tree.{Tree, Forest, bare, grow, node, nodes, forest_nodes}
+use Rattle.vc_tree_model.specs.Walk.{prepended, walk, walk_in}
+use Rattle.vc_tree_walks.specs.Left.{pair_at}
+use Rattle.vc_tree_walks.specs.declared.owned.ObjAndIter.{ObjAndIter}
+use Rattle.vc_tree_walks.specs.declared.turn.Turn.{Turn}
+use Rattle.vc_tree_walks.specs.declared.turn.Turn.TheVariants.{Item, Moved, Done}
+
+-- a step of an iterator that hands out clones: that of its first item, and the others are left; or an error, and nothing is
+-- left; or `None`, where nothing is left
+abbrev pub WalksClones : {S K V E : Type 0} → (V → V → Type 0) → (S → List (K × V)) → S → Option (Result (K × V) E) → S → Type 0
+WalksClones {V = V} is_clone rest s r t =
+    MatchOption r ((rest s ≡ []) × (rest t ≡ []))
+    (λ x. MatchResult x (λ item. (v : V) × is_clone v item.1 × (rest s ≡ (item.0, v) ∷ rest t)) (λ _. rest t ≡ []))
+
+-- a node of this key and this value: the key and a clone of the value, or none
+abbrev pub IsItem : {K V : Type 0} → (V → V → Type 0) → List K → Option V → Turn (List K × V) → Type 0
+IsItem {V = V} is_clone key v (Item x) = (w : V) × is_clone w x.1 × (x.0 ≡ key) × (v ≡ Some w)
+IsItem is_clone key v Moved = v ≡ None
+IsItem is_clone key v Done = ⊥
+
+module _ {K V : Type 0} where
+  -- the trees of a list without the first n
+  abbrev pub skip : ℕ → Forest K V → Forest K V
+  skip zero f = f
+  skip (suc n) bare = bare
+  skip (suc n) (grow p v kids rest) = skip n rest
+
+  -- the tree at a place
+  abbrev pub tree_at : ℕ → Forest K V → Option (Tree K V)
+  tree_at n bare = None
+  tree_at zero (grow p v kids rest) = Some (node p v kids)
+  tree_at (suc n) (grow p v kids rest) = tree_at n rest
+
+  -- the tree that was entered last, where n trees were entered
+  abbrev pub entered : ℕ → Forest K V → Option (Tree K V)
+  entered zero f = None
+  entered (suc n) f = tree_at n f
+
+  -- the pairs that are left below a node, behind its prefix; of each open node the path has how many of its children were entered
+  abbrev pub left_at : Tree K V → List ℕ → List (List K × V)
+  left_at t [] = []
+  left_at t (n ∷ path) =
+      elim (entered n t.children) [
+        | None ↦ []
+        | Some c ↦ map (prepended c.prefix) (left_at c path)
+      ]
+      ++ walk_in (skip n t.children)
+
+  -- how many steps a walk over them takes at most
+  abbrev pub work_at : Tree K V → List ℕ → ℕ
+  work_at t [] = 0
+  work_at t (n ∷ path) =
+      elim (entered n t.children) [
+        | None ↦ 0
+        | Some c ↦ work_at c path
+      ]
+      + (1 + 2 * forest_nodes (skip n t.children))
+
+  -- the pairs that are left of the whole tree
+  abbrev pub pairs_at : Tree K V → List ℕ → List (List K × V)
+  pairs_at root path = map (prepended root.prefix) (left_at root path)
+
+  -- the path leads to this node, at this depth and of this key, below which no child is open; the others are left elsewhere
+  pub record IsReached (root : Tree K V) (path : List ℕ) (t : Tree K V) (depth : ℕ) (key : List K) : Type 0 where
+    pub others : List (List K × V)
+    pub others_work : ℕ
+    pub within : depth < length path
+    pub left : (more : List ℕ)
+        → pairs_at root (take depth path ++ more) ≡ map (prepended key) (left_at t more) ++ others
+    pub work : (more : List ℕ) → work_at root (take depth path ++ more) ≡ work_at t more + others_work
+    pub here : pairs_at root path
+        ≡ map (prepended key) (walk_in (skip (slice_index_or path depth 0) t.children)) ++ others
+    pub here_work : work_at root path ≡ 1 + 2 * forest_nodes (skip (slice_index_or path depth 0) t.children) + others_work
+
+module _ {K V T : Type 0} (tree : T → Tree K V) where
+  -- the pair of a node of this key, if there is a node and it has a value
+  abbrev pub own_pairs : List K → Option (Bor T) → List (List K × V)
+  own_pairs key None = []
+  own_pairs key (Some t) = pair_at key (tree t.now).value
+
+  -- the pairs that are left
+  abbrev pub held_left : ObjAndIter K V T → List (List K × V)
+  held_left s =
+      if s.started
+      then pairs_at (tree s.tree) s.path.items
+      else walk (tree s.tree)
+
+  -- how many steps the iterator takes at most
+  abbrev pub held_work : ObjAndIter K V T → ℕ
+  held_work s = if s.started then work_at (tree s.tree) s.path.items else (1 + 2 * nodes (tree s.tree))
+
+  -- what one step found, and what is left after it
+  abbrev pub IsTurn : (V → V → Type 0) → ObjAndIter K V T → Turn (List K × V) → ObjAndIter K V T → Type 0
+  IsTurn is_clone s (Item x) t =
+      (v : V) × is_clone v x.1 × (held_left s ≡ (x.0, v) ∷ held_left t) × (held_work t < held_work s)
+  IsTurn is_clone s Moved t = (held_left s ≡ held_left t) × (held_work t < held_work s)
+  IsTurn is_clone s Done t = (held_left s ≡ []) × (held_left t ≡ [])

@@ -1,0 +1,11 @@
+//! Walks over radix trees of any flavour: iterators of all pairs, of the pairs under a prefix, of the values, and of the pairs of a
+//! tree that the iterator holds. For the crates above; the calls that users make stand in `vc_trees`.
+#![tactic(auto)]
+
+pub mod iter;
+pub mod key;
+pub mod owned;
+pub mod scan;
+mod turn;
+pub mod values;
+pub mod walks;

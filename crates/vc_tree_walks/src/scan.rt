@@ -1,0 +1,39 @@
+//! The part of a tree that a prefix leads to.
+
+ghost use Rattle.vc_tree_model.specs.Map.{lookup};
+ghost use Rattle.vc_tree_model.specs.Under.{under};
+ghost use Rattle.vc_tree_model.specs.Walk.{IsWalk};
+ghost use Rattle.vc_tree_walks.specs.IterLeft.{pairs_from};
+
+use vc_tree_nodes::parting::{Parting, find_parting};
+use vc_tree_nodes::places::child_at;
+use vc_tree_nodes::reading::{RadixNode, TKey, TValue};
+
+/// The node below which all keys of the tree stand that start with the prefix, and the part of the prefix that stands before the
+/// node's own. None where no key starts so.
+pub fn find_under<'a, K: TKey, V: TValue, T: RadixNode<K, V>>(
+    tree: &'a T,
+    prefix: &'a [K],
+) -> Option<(&'a [K], &'a T)>
+    ensures { IsWalk K.cmp (under K.cmp (lookup K.cmp (T.tree tree.now)) prefix.now) (pairs_from T.tree result) }
+{
+    let mut node = tree;
+    let mut used = 0;
+    let mut known = 0;
+    loop {
+        let (front, rest) = prefix.split_at(used);
+        let own = node.prefix();
+        match find_parting(own, rest, known) {
+            Parting::Behind => {}
+            Parting::Inside(_) => return Some((front, node)),
+            _ => return None,
+        }
+        let (here, left) = rest.split_at(own.len());
+        let Some(first) = left.first() else {
+            return Some((front, node));
+        };
+        node = child_at(node.children(), first)?;
+        used += here.len();
+        known = 1;
+    }
+}

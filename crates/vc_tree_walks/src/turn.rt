@@ -1,0 +1,12 @@
+//! What one step of a walk finds.
+
+/// What one step of a walk found.
+#[derive(Drop)]
+pub(crate) enum Turn<I> {
+    /// The next item.
+    Item(I),
+    /// No item: the walk goes on.
+    Moved,
+    /// That nothing is left.
+    Done,
+}

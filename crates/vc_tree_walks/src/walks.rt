@@ -1,0 +1,51 @@
+//! The walks of a tree: of all pairs, of those under a prefix, and of the values.
+
+ghost use Rattle.std.specs.Prelude.{◌≡◌, map};
+ghost use Rattle.vc_tree_model.specs.Map.{lookup};
+ghost use Rattle.vc_tree_model.specs.Under.{under};
+ghost use Rattle.vc_tree_model.specs.Walk.{IsWalk, walk};
+ghost use Rattle.vc_tree_walks.specs.IterLeft.{pairs_left};
+ghost use Rattle.vc_tree_walks.specs.OwnedLeft.{held_left};
+ghost use Rattle.vc_tree_walks.specs.ValuesLeft.{values_left};
+
+use crate::iter::Iter;
+use crate::owned::ObjAndIter;
+use crate::scan::find_under;
+use crate::values::Values;
+use vc_tree_nodes::reading::{RadixNode, TKey, TValue};
+
+/// All pairs of the tree.
+pub fn iter<'a, K: TKey, V: TValue, T: RadixNode<K, V>>(tree: &'a T) -> Iter<'a, K, V, T>
+    ensures all { pairs_left T.tree result ≡ walk (T.tree tree.now) }
+    ensures ascending { IsWalk K.cmp (lookup K.cmp (T.tree tree.now)) (pairs_left T.tree result) }
+{
+    // The law of trees, that they are canonical, comes with the prefix.
+    let _ = tree.prefix();
+    Iter::new(tree.allocator(), Some((&[], tree)))
+}
+
+/// The pairs of the tree whose keys start with the prefix.
+pub fn scan_prefix<'a, K: TKey, V: TValue, T: RadixNode<K, V>>(
+    tree: &'a T,
+    prefix: &'a [K],
+) -> Iter<'a, K, V, T>
+    ensures { IsWalk K.cmp (under K.cmp (lookup K.cmp (T.tree tree.now)) prefix.now) (pairs_left T.tree result) }
+{
+    Iter::new(tree.allocator(), find_under(tree, prefix))
+}
+
+/// The values of the tree.
+pub fn values<'a, K: TKey, V: TValue, T: RadixNode<K, V>>(tree: &'a T) -> Values<'a, K, V, T>
+    ensures { values_left T.tree result ≡ map (λ b. b.1) (walk (T.tree tree.now)) }
+{
+    Values::new(tree)
+}
+
+/// All pairs of the tree, which the iterator holds.
+pub fn into_iter<K: TKey, V: TValue, T: RadixNode<K, V> + Drop>(tree: T) -> ObjAndIter<K, V, T>
+    ensures all { held_left T.tree result ≡ walk (T.tree tree) }
+    ensures ascending { IsWalk K.cmp (lookup K.cmp (T.tree tree)) (held_left T.tree result) }
+{
+    let _ = tree.prefix();
+    ObjAndIter::new(tree)
+}
