@@ -1,1 +1,4 @@
 pub mod Listing
+pub mod Around
+pub mod Opening
+pub mod Doing

@@ -2,4 +2,5 @@
 //! For the crates above; the traits that users name stand in `vc_trees`.
 #![tactic(auto)]
 
+mod facing;
 mod sides;
