@@ -2,7 +2,7 @@
 --     opened_all        where the prefix ended, the children
 --     opened_rest, opened_behind        where it goes on, the tree itself
 --     faced_lower, faced_higher, faced_inside, faced_behind        two trees side by side
-use Rattle.std.proofs.Common.{◌≡◌, ℕ, ◌+◌, ◌-◌, ◌<◌, ◌≤◌, [], ◌∷◌, List, Some, Result, Ok, Err, IfOk, get_or, refl, sym, ap, subst, ◌∙◌, arith, map, take, drop, length-drop, inl, inr, length, slice_get, zero, suc, true, false, append_assoc}
+use Rattle.std.proofs.Common.{◌≡◌, ℕ, ◌+◌, ◌-◌, ◌<◌, ◌≤◌, [], ◌∷◌, List, Option, Some, None, is_none, Result, Ok, Err, IfOk, get_or, refl, sym, ap, subst, ◌∙◌, arith, true≢false, map, take, drop, length-drop, inl, inr, length, slice_get, zero, suc, true, false, append_assoc}
 use Rattle.std.proofs.lemmas.List.{take_all, drop-drop}
 use Rattle.std.proofs.lemmas.Option.{slice_get-get_or}
 use Rattle.std.proofs.Math.ListN.{drop_of_length-le}
@@ -11,10 +11,10 @@ use Rattle.std.specs.List.{AllByRecursion}
 use Rattle.std.specs.Ordering.{is_eq}
 use Rattle.std.specs.declared.cmp.Ordering.{Ordering}
 use Rattle.std.specs.declared.cmp.Ordering.TheVariants.{Less, Greater}
-use Rattle.vc_tree_model.specs.Tree.{Tree, Forest, bare, grow, forest, shortened, nodes, forest_nodes}
-use Rattle.vc_tree_model.specs.Child.{children_at}
+use Rattle.vc_tree_model.specs.Tree.{Tree, Forest, bare, grow, forest, made, shortened, nodes, forest_nodes}
+use Rattle.vc_tree_model.specs.Child.{children_at, value_at, solid_child}
 use Rattle.vc_tree_model.proofs.KeyLemmas.{none_some}
-use Rattle.vc_tree_model.specs.Canonical.{AreChildren}
+use Rattle.vc_tree_model.specs.Canonical.{AreChildren, IsWhole}
 use Rattle.vc_tree_nodes.specs.Parting.{Agree, PartsAt}
 use Rattle.vc_tree_combines.specs.Around.{sides_around}
 use Rattle.vc_tree_combines.specs.Facing.{shortened_in, GoesOn, IsOpened, Parts, IsFaced}
@@ -35,6 +35,10 @@ pub if_ok_all : {X E : Type 0} (r : Result X E) (P Q R S T : X → Type 0) → I
 if_ok_all (Ok x) P Q R S T p q r s f = f x p q r s
 if_ok_all (Err e) P Q R S T p q r s f = tt
 
+pub always : {X E : Type 0} (r : Result X E) → IfOk r (λ x. Unit {0})
+always (Ok x) = tt
+always (Err e) = tt
+
 -- a component that was read
 pub found : {K : Type 0} (p : List K) (n : ℕ) (x : K) → n < length p → x ≡ get_or p n x → slice_get p n ≡ Some x
 found p n x h e = slice_get-get_or p n x h ∙ ap Some (sym e)
@@ -45,6 +49,20 @@ found_in p q n x e h w = ap (λ z. slice_get z n) (sym e) ∙ found p n x h w
 -- nothing is left behind all of a key
 pub nothing_left : {K : Type 0} (p q : List K) (n : ℕ) → p ≡ q → length p ≤ n → drop n q ≡ []
 nothing_left p q n e h = ap (drop n) (sym e) ∙ drop_of_length-le p h
+
+-- the value of a node inside a prefix, and where it ends
+value_by : {K V : Type 0} (t : Tree K V) (p : List K) (n : ℕ) → n ≤ length p → (n ≡ length p → ⊥) → None ≡ value_at t (drop n p)
+value_by t [] n h w = absurd (w (omega (arith, h)))
+value_by t (x ∷ p) zero h w = refl
+value_by t (x ∷ p) (suc n) h w = value_by t p n (omega (arith, h)) (λ e. w (omega (arith, e)))
+
+pub value_inside : {K V : Type 0} (t : Tree K V) (p q : List K) (n : ℕ) → q ≡ p → n ≤ length p → (n ≡ length q → ⊥)
+    → None ≡ value_at t (drop n p)
+value_inside t p q n e h w = value_by t p n h (λ k. w (k ∙ ap length (sym e)))
+
+pub value_ended : {K V : Type 0} (t : Tree K V) (p q : List K) (n : ℕ) → q ≡ p → n ≡ length q → t.value ≡ value_at t (drop n p)
+value_ended t p q n e h =
+    let none : drop n p ≡ [] = ap (drop n) (sym e) ∙ drop_of_length-le q (omega (arith, h)) in rw none refl
 
 -- a front of what is left of a prefix is a front of the prefix
 pub front_within : {K : Type 0} (p : List K) (j : ℕ) (n : ℕ) (q : List K) → q ≡ drop j p → n ≤ length q → j ≤ length p → j + n ≤ length p
@@ -109,6 +127,31 @@ module _ {T K V : Type 0} (tree : T → Tree K V) where
   pub opened_as : (t : Tree K V) (rest : List K) (xs xs' : List T) (i i' : ℕ) → xs ≡ xs' → i ≡ i'
       → IsOpened tree t rest xs' i' → IsOpened tree t rest xs i
   opened_as t rest xs xs' i i' a b h = rw (a, b) h
+
+-- ---- nodes that are made of parts
+
+module _ {K V T : Type 0} (tree : T → Tree K V) where
+  some_whole : (p : List K) (v : V) (f : Forest K V) → IsWhole p (Some v) f
+  some_whole [] v f = tt
+  some_whole (x ∷ p) v f = tt
+
+  many_whole : (p : List K) (xs : List T) → 2 ≤ length xs
+      → (solid_child p None (forest (map tree xs)) ≡ Some (made p None (map tree xs))) × IsWhole p None (forest (map tree xs))
+  many_whole p [] h = absurd (omega (arith, h))
+  many_whole p (x ∷ []) h = absurd (omega (arith, h))
+  many_whole [] (x ∷ y ∷ xs) h = (refl, tt)
+  many_whole (k ∷ p) (x ∷ y ∷ xs) h = (refl, tt)
+
+  -- a node with a value, or with at least two children, stays as it is
+  pub whole_of_value : (p : List K) (v : Option V) (xs : List T) → is_none v ≡ false
+      → (solid_child p v (forest (map tree xs)) ≡ Some (made p v (map tree xs))) × IsWhole p v (forest (map tree xs))
+  whole_of_value p None xs h = absurd (true≢false h)
+  whole_of_value p (Some v) xs h = (refl, some_whole p v (forest (map tree xs)))
+
+  pub whole_of_many : (p : List K) (v : Option V) (xs : List T) → 2 ≤ length xs
+      → (solid_child p v (forest (map tree xs)) ≡ Some (made p v (map tree xs))) × IsWhole p v (forest (map tree xs))
+  whole_of_many p None xs h = many_whole p xs h
+  whole_of_many p (Some v) xs h = (refl, some_whole p v (forest (map tree xs)))
 
 module _ {K V W A B : Type 0} (cmp : K → K → Ordering) (o : IsTotalOrder cmp) (ta : A → Tree K V) (tb : B → Tree K W) where
   -- the same facts of equal parts

@@ -1,6 +1,7 @@
 //! Two trees side by side: where their prefixes part, and what stands below.
 
 ghost use Rattle.std.specs.Prelude.{◌≡◌, ◌+◌, ◌≤◌, ◌<◌, ◌∷◌, ◌++◌, [], Result, length, drop, replicate, IfOk, MatchResult};
+ghost use Rattle.vc_tree_model.specs.Shortened.{weight, forest_weight};
 ghost use Rattle.vc_tree_model.specs.Tree.{shortened};
 ghost use Rattle.vc_tree_nodes.specs.Parting.{Agree};
 ghost use Rattle.vc_tree_combines.specs.Facing.{trees_below, IsOpened, IsFaced};
@@ -141,6 +142,10 @@ pub fn face<
     requires left { i ≤ length (A.tree a.now).prefix }
     requires right { j ≤ length (B.tree b.now).prefix }
     requires known { Agree K.cmp (drop i (A.tree a.now).prefix) (drop j (B.tree b.now).prefix) known }
+    ensures counted { C.counted steps.new
+        ≤ C.counted steps.old + weight (shortened i (A.tree a.now)) + weight (shortened j (B.tree b.now)) }
+    ensures paid { IfOk result (λ f.
+        C.counted steps.new ≤ C.counted steps.old + f.front + length (trees_below f.left) + length (trees_below f.right)) }
     ensures faced { let t = shortened i (A.tree a.now) in let u = shortened j (B.tree b.now) in
         IfOk result (λ f. IsFaced K.cmp A.tree B.tree t u f.front (trees_below f.left) f.left.from (trees_below f.right) f.right.from
             f.sides.items) }
@@ -193,6 +198,10 @@ fn face_behind<
     steps: &mut C,
 ) -> Result<Facing<'a, 'b, A, B>, AllocError>
     requires within { j + n ≤ length (B.tree b.now).prefix }
+    ensures counted { C.counted steps.new
+        ≤ C.counted steps.old + forest_weight (A.tree a.now).children + forest_weight (B.tree b.now).children }
+    ensures paid { IfOk result (λ f.
+        C.counted steps.new ≤ C.counted steps.old + length (trees_below f.left) + length (trees_below f.right)) }
     ensures left { IfOk result (λ f. IsOpened A.tree (A.tree a.now) [] (trees_below f.left) f.left.from) }
     ensures right { IfOk result (λ f. IsOpened B.tree (B.tree b.now) (drop (j + n) (B.tree b.now).prefix) (trees_below f.right) f.right.from) }
     ensures listed { IfOk result (λ f. IsListed (by_component A.tree B.tree f.left.from f.right.from K.cmp) (trees_below f.left)

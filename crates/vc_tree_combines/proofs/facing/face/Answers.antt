@@ -1,8 +1,9 @@
 -- Each way in which the prefixes part.
-use Rattle.std.proofs.Common.{refl, sym, ap, ◌∙◌, subst, rules, ◌+◌}
+use Rattle.std.proofs.Common.{refl, sym, subst, ◌≡◌, ◌+◌, ◌-◌, ◌≤◌, length, take, drop, arith}
 use Rattle.vc_tree_model.specs.Canonical.{AreChildren}
+use Rattle.vc_tree_combines.specs.Facing.{trees_below}
 use Rattle.vc_tree_combines.proofs.Around.{place_within}
-use Rattle.vc_tree_combines.proofs.Opening.{slice_from, front_within, found, if_ok_all, faced_by, faced_lower, faced_higher, faced_inside, faced_behind}
+use Rattle.vc_tree_combines.proofs.Opening.{slice_from, front_within, found, if_ok_all, always, faced_by, faced_lower, faced_higher, faced_inside, faced_behind}
 use Rattle.vc_tree_combines.proofs.facing.face.Goals as goal
 
 pub list_around-requires : goal.list_around-requires
@@ -19,6 +20,8 @@ face_behind-requires g c = record {
 
 pub returns-in_ok-two_sides-in-Lower : goal.returns-in_ok-two_sides-in-Lower
 returns-in_ok-two_sides-in-Lower g c = record {
+  counted = omega arith;
+  paid = omega arith;
   faced =
       faced_by g.K.Ord.cmp g.met.K.Ord.total g.A.RadixNode.tree g.B.RadixNode.tree _ _ _ _ _ _ _ _ _ _ _ _ _
       c.of_tree.ensures.trees c.of_tree.ensures.from c.of_tree-in-Lower.ensures.trees c.of_tree-in-Lower.ensures.from
@@ -30,6 +33,8 @@ returns-in_ok-two_sides-in-Lower g c = record {
 
 pub returns-in_ok-two_sides-in-Higher : goal.returns-in_ok-two_sides-in-Higher
 returns-in_ok-two_sides-in-Higher g c = record {
+  counted = omega arith;
+  paid = omega arith;
   faced =
       faced_by g.K.Ord.cmp g.met.K.Ord.total g.A.RadixNode.tree g.B.RadixNode.tree _ _ _ _ _ _ _ _ _ _ _ _ _
       c.of_tree-in-Higher.ensures.trees c.of_tree-in-Higher.ensures.from c.of_tree-in-Higher-2.ensures.trees
@@ -41,6 +46,8 @@ returns-in_ok-two_sides-in-Higher g c = record {
 
 pub returns-in_ok-list_around-in-Inside : goal.returns-in_ok-list_around-in-Inside
 returns-in_ok-list_around-in-Inside g c = record {
+  counted = omega arith;
+  paid = omega arith;
   faced =
       faced_by g.K.Ord.cmp g.met.K.Ord.total g.A.RadixNode.tree g.B.RadixNode.tree _ _ _ _ _ _ _ _ _ _ _ _ _
       c.of_tree-in-Inside.ensures.trees c.of_tree-in-Inside.ensures.from c.of_children.ensures.trees
@@ -55,6 +62,14 @@ returns-in_ok-list_around-in-Inside g c = record {
 
 pub returns-in-Behind : goal.returns-in-Behind
 returns-in-Behind g c = record {
+  counted = omega (arith, c.face_behind.ensures.counted);
+  paid =
+      if_ok_all c.face_behind.result
+      (λ f. g.C.Count.counted c.face_behind.new.steps
+      ≤ g.C.Count.counted c.args.steps.now + length (trees_below f.left) + length (trees_below f.right))
+      (λ f. f.front ≡ length (take (length c.prefix.result.now - c.args.i) (drop c.args.i c.prefix.result.now)))
+      (λ f. Unit {0}) (λ f. Unit {0}) _ c.face_behind.ensures.paid c.face_behind.ensures.front
+      (always c.face_behind.result) (always c.face_behind.result) (λ f p e x y. omega (arith, p));
   faced =
       if_ok_all c.face_behind.result _ _ _ _ _ c.face_behind.ensures.left c.face_behind.ensures.right
       c.face_behind.ensures.listed c.face_behind.ensures.front

@@ -1,8 +1,9 @@
 -- The children of a tree whose prefix has ended, beside those of the other one, or beside what is left of it.
-use Rattle.std.proofs.Common.{refl, sym, ap, ◌∙◌, subst, rules, ◌+◌}
+use Rattle.std.proofs.Common.{refl, sym, ap, ◌∙◌, subst, rules, ◌+◌, arith}
 use Rattle.vc_tree_model.specs.Canonical.{AreChildren}
 use Rattle.vc_tree_combines.proofs.Around.{place_within, children_ascend, around_left}
 use Rattle.vc_tree_combines.proofs.Opening.{opened_all, opened_rest, opened_behind, opened_as, listed_as, found_in, nothing_left}
+use Rattle.vc_tree_combines.proofs.Paying.{few_children}
 use Rattle.vc_tree_combines.proofs.facing.face_behind.Goals as goal
 
 pub list_around-requires : goal.list_around-requires
@@ -50,3 +51,15 @@ pub returns-clause-right : goal.returns-clause-right
 returns-clause-right g c =
     opened_as g.B.RadixNode.tree _ _ _ _ _ _ c.of_children.ensures.trees c.of_children.ensures.from
     (opened_all g.B.RadixNode.tree _ _ _ (nothing_left _ _ _ c.prefix-whole.ensures.value c.if-j-n.false) c.children-others.ensures)
+
+pub returns-in_err-list_sides-clause-counted : goal.returns-in_err-list_sides-clause-counted
+returns-in_err-list_sides-clause-counted g c =
+    let kids = few_children g.A.RadixNode.tree _ _ c.children-kids.ensures in
+    let others = few_children g.B.RadixNode.tree _ _ c.children-others.ensures in
+    omega (arith, kids, others, c.list_sides.ensures.counted)
+
+pub returns-clause-counted : goal.returns-clause-counted
+returns-clause-counted g c =
+    let kids = few_children g.A.RadixNode.tree _ _ c.children-kids.ensures in
+    let others = few_children g.B.RadixNode.tree _ _ c.children-others.ensures in
+    omega (arith, kids, others, c.list_sides.ensures.counted)
