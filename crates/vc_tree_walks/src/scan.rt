@@ -5,6 +5,7 @@ ghost use Rattle.vc_tree_model.specs.Under.{under};
 ghost use Rattle.vc_tree_model.specs.Walk.{IsWalk};
 ghost use Rattle.vc_tree_walks.specs.IterLeft.{pairs_from};
 
+use vc_merge::merge::Uncounted;
 use vc_tree_nodes::parting::{Parting, find_parting};
 use vc_tree_nodes::places::child_at;
 use vc_tree_nodes::reading::{RadixNode, TKey, TValue};
@@ -23,7 +24,7 @@ pub fn find_under<'a, K: TKey, V: TValue, T: RadixNode<K, V>>(
     loop {
         let (front, rest) = prefix.split_at(used);
         let own = node.prefix();
-        match find_parting(own, rest, known) {
+        match find_parting(own, rest, known, &mut Uncounted) {
             Parting::Behind => {}
             Parting::Inside(_) => return Some((front, node)),
             _ => return None,
@@ -32,7 +33,7 @@ pub fn find_under<'a, K: TKey, V: TValue, T: RadixNode<K, V>>(
         let Some(first) = left.first() else {
             return Some((front, node));
         };
-        node = child_at(node.children(), first)?;
+        node = child_at(node.children(), first, &mut Uncounted)?;
         used += here.len();
         known = 1;
     }

@@ -17,7 +17,7 @@ returns-in-Inside g c =
     let s = c.split_at.ensures in
     let part = part_split cmp o _ _ _ _ _ c.loop-here.invariant.part _ _ s.front s.back in
     walk_inside cmp o _ _ _ _ _ part c.in-Inside.field-0 c.prefix-own.result.now c.prefix-own.ensures.value
-    c.prefix-own.ensures.canonical c.in-Inside.ensures.0 c.in-Inside.ensures.1
+    c.prefix-own.ensures.canonical c.in-Inside.ensures.is.0 c.in-Inside.ensures.is.1
 
 pub returns-in_default : goal.returns-in_default
 returns-in_default g c =
@@ -25,7 +25,7 @@ returns-in_default g c =
     let cmp = g.K.Ord.cmp in
     let s = c.split_at.ensures in
     let part = part_split cmp o _ _ _ _ _ c.loop-here.invariant.part _ _ s.front s.back in
-    walk_default cmp o _ _ _ _ _ part c.prefix-own.result.now _ c.prefix-own.ensures.value c.find_parting.ensures
+    walk_default cmp o _ _ _ _ _ part c.prefix-own.result.now _ c.prefix-own.ensures.value c.find_parting.ensures.is
     c.in_default.not-Behind c.in_default.not-Inside
 
 pub returns-in_default-first : goal.returns-in_default-first
@@ -37,7 +37,7 @@ returns-in_default-first g c =
     let left = c.split_at-in-loop-here.result.1.now in
     let ended : left ≡ [] = no_first left (sym c.first.ensures.value ∙ ap option_copied c.in_default-first.is) in
     walk_ended cmp o _ _ _ _ _ part c.prefix-own.result.now c.prefix-own.ensures.value c.prefix-own.ensures.canonical
-    c.in-Behind.ensures (sym c.split_at-in-loop-here.ensures.back ∙ ended)
+    c.in-Behind.ensures.is (sym c.split_at-in-loop-here.ensures.back ∙ ended)
 
 pub returns-in_err-node : goal.returns-in_err-node
 returns-in_err-node g c =
@@ -50,9 +50,9 @@ returns-in_err-node g c =
     let x = c.in-Some.first.now in
     let begins = first_cons left x (sym c.first.ensures.value ∙ ap option_copied c.in-Some.is) in
     let kids = seen tree c.children.result.now in
-    let childless = none_of (IsNoChild cmp kids x) _ c.child_at.result c.child_at.ensures c.in_err-node.was in
+    let childless = none_of (IsNoChild cmp kids x) _ c.child_at.result c.child_at.ensures.child c.in_err-node.was in
     rw c.from_residual.ensures
-    (walk_childless cmp o _ _ _ _ _ part c.prefix-own.result.now x _ c.prefix-own.ensures.value c.in-Behind.ensures
+    (walk_childless cmp o _ _ _ _ _ part c.prefix-own.result.now x _ c.prefix-own.ensures.value c.in-Behind.ensures.is
     (sym c.split_at-in-loop-here.ensures.back ∙ begins) (subst (λ f. IsNoChild cmp f x) c.children.ensures childless))
 
 pub loop-here-preserved : goal.loop-here-preserved
@@ -73,10 +73,10 @@ loop-here-preserved g c =
     let kids = seen tree c.children.result.now in
     let child = c.in_ok-node.node.now in
     let found = some_of _ (λ child. IsFoundChild cmp kids x (tree child.now)) c.child_at.result c.in_ok-node.node
-    c.child_at.ensures c.in_ok-node.was in
+    c.child_at.ensures.child c.in_ok-node.was in
     let below = subst (λ f. IsFoundChild cmp f x (tree child)) c.children.ensures found in
     let next = part_next cmp o _ _ _ _ _ part c.prefix-own.result.now left x _ (tree child) c.prefix-own.ensures.value
-    c.in-Behind.ensures t.back begins below in
+    c.in-Behind.ensures.is t.back begins below in
     let front : take (used + here) prefix ≡ c.split_at.result.0.now ++ take whole c.split_at.result.1.now =
     take-add used here prefix
     ∙ ap (λ l. l ++ take here (drop used prefix)) (sym s.front) ∙ ap (λ l. c.split_at.result.0.now ++ take here l) (sym s.back) ∙ ap (λ n. c.split_at.result.0.now ++ take n c.split_at.result.1.now) t.front_len in
