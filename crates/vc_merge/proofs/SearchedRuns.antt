@@ -1,6 +1,6 @@
 -- What a search for the first element of one list in the other says of both lists, in either direction.
---     left_place        for the first left element in the right list
---     right_place        for the first right element in the left list: the same under the order that has its sides swapped
+--     place-left        for the first left element in the right list
+--     place-right        for the first right element in the left list: the same under the order that has its sides swapped
 use Rattle.std.proofs.Common.{◌≡◌, ℕ, zero, suc, ◌+◌, ◌-◌, ◌*◌, ◌<◌, ◌≤◌, List, [], ◌∷◌, length, take, drop, get_or, mul-le-mul_right, length-drop, Result, Ok, Err, ◌⊎◌, inl, inr, ap, subst, ◌∙◌, arith}
 use Rattle.std.specs.Cmp.{IsTotalOrder}
 use Rattle.std.specs.List.{AllByRecursion, HoldsAt}
@@ -39,9 +39,9 @@ module _ {A B : Type 0} (order : A ⊎ B → A ⊎ B → Ordering) (total : IsTo
   placed ls rs x (Ok i) p q = (let w = q.within in omega arith, lower x ls (take i rs) p.left.0 q.less, heads_equal x ls rs i q.within q.equal)
   placed ls rs x (Err i) p q = (q.within, lower x ls (take i rs) p.left.0 q.less, first_below x ls (drop i rs) (upper x (drop i rs) q.greater))
 
-  pub left_place : (ls : List A) (rs : List B) (x : A) (r : Result ℕ ℕ) → BothAscend order ls rs → 0 < length ls → x ≡ get_or ls 0 x → IsPlace (λ y. order (inr y) (inl x)) rs r → IsLeftPlace order ls rs r
-  left_place [] rs x r p h e q = absurd (omega arith)
-  left_place (l ∷ ls) rs x r p h e q = placed ls rs l r p (subst (λ z. IsPlace (λ y. order (inr y) (inl z)) rs r) e q)
+  pub place-left : (ls : List A) (rs : List B) (x : A) (r : Result ℕ ℕ) → BothAscend order ls rs → 0 < length ls → x ≡ get_or ls 0 x → IsPlace (λ y. order (inr y) (inl x)) rs r → IsLeftPlace order ls rs r
+  place-left [] rs x r p h e q = absurd (omega arith)
+  place-left (l ∷ ls) rs x r p h e q = placed ls rs l r p (subst (λ z. IsPlace (λ y. order (inr y) (inl z)) rs r) e q)
 
 -- the other side
 abbrev swapped : {A B : Type 0} → A ⊎ B → B ⊎ A
@@ -65,12 +65,12 @@ module _ {A B : Type 0} (order : A ⊎ B → A ⊎ B → Ordering) (total : IsTo
   heads_swapped (x ∷ ls) [] h = absurd h
   heads_swapped (x ∷ ls) (y ∷ rs) h = total.antisymm (inl x) (inr y) ∙ ap ordering_reverse h
 
-  swapped_place : (ls : List A) (rs : List B) (r : Result ℕ ℕ) → IsLeftPlace mirrored rs ls r → IsRightPlace order ls rs r
-  swapped_place ls rs (Ok i) q = (q.0, q.1, heads_swapped (drop i ls) rs q.2)
-  swapped_place ls rs (Err i) q = q
+  place-swapped : (ls : List A) (rs : List B) (r : Result ℕ ℕ) → IsLeftPlace mirrored rs ls r → IsRightPlace order ls rs r
+  place-swapped ls rs (Ok i) q = (q.0, q.1, heads_swapped (drop i ls) rs q.2)
+  place-swapped ls rs (Err i) q = q
 
-  pub right_place : (ls : List A) (rs : List B) (y : B) (r : Result ℕ ℕ) → BothAscend order ls rs → 0 < length rs → y ≡ get_or rs 0 y → IsPlace (λ x. order (inl x) (inr y)) ls r → IsRightPlace order ls rs r
-  right_place ls rs y r p h e q = swapped_place ls rs r (left_place mirrored mirrored-total rs ls y r (record { left = p.right; right = p.left }) h e q)
+  pub place-right : (ls : List A) (rs : List B) (y : B) (r : Result ℕ ℕ) → BothAscend order ls rs → 0 < length rs → y ≡ get_or rs 0 y → IsPlace (λ x. order (inl x) (inr y)) ls r → IsRightPlace order ls rs r
+  place-right ls rs y r p h e q = place-swapped ls rs r (place-left mirrored mirrored-total rs ls y r (record { left = p.right; right = p.left }) h e q)
 
 -- ---- what the searches cost
 

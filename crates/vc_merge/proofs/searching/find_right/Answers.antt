@@ -1,6 +1,6 @@
 use Rattle.std.proofs.Common.{inl, inr}
 use Rattle.vc_merge.proofs.PlaceLemmas.{ordered-ascends}
-use Rattle.vc_merge.proofs.SearchedRuns.{right_place}
+use Rattle.vc_merge.proofs.SearchedRuns.{place-right}
 use Rattle.vc_merge.proofs.searching.find_right.Goals as goal
 
 pub search-requires : goal.search-requires
@@ -9,5 +9,5 @@ search-requires g c =
 
 pub returns-clause-place : goal.returns-clause-place
 returns-clause-place g c =
-    right_place (g.O.MergeOperation.order c.args.op.now) (g.met.O.MergeOperation.total c.args.op.now) _ _ c.index-b_slice-0.result _ c.requires.ascend c.requires.some
+    place-right (g.O.MergeOperation.order c.args.op.now) (g.met.O.MergeOperation.total c.args.op.now) _ _ c.index-b_slice-0.result _ c.requires.ascend c.requires.some
     (rw c.b_slice.ensures at c.index-b_slice-0.is) (rw c.a_slice.ensures at c.search.ensures.place)

@@ -1,11 +1,11 @@
 use Rattle.std.proofs.Common.{◌≡◌, ◌-◌, length, ap, ◌∙◌, length-drop, arith}
-use Rattle.vc_merge.proofs.Chains.{goes_on-next, goes_on-after, went_on, if_true-weaker}
+use Rattle.vc_merge.proofs.Chains.{goes_on-next, goes_on-after, goes_on-true, if_true-weaker}
 use Rattle.vc_merge.proofs.SearchedRuns.{drop-no_longer}
 use Rattle.vc_merge.proofs.searching.place_right.Goals as goal
 
 pub returns-else-not-branch-clause-goes_on : goal.returns-else-not-branch-clause-goes_on
 returns-else-not-branch-clause-goes_on g c =
-    let p = went_on _ _ _ _ _ c.in_ok-pass_lefts-in-Ok.ensures.goes_on c.if-not-branch.false in
+    let p = goes_on-true _ _ _ _ _ c.in_ok-pass_lefts-in-Ok.ensures.goes_on c.if-not-branch.false in
     goes_on-after _ _ _ _ _ _ p (goes_on-next _ _ _ _ _ p.ascend c.meet.ensures.next)
 
 pub returns-else-not-branch-clause-fewer : goal.returns-else-not-branch-clause-fewer
@@ -25,5 +25,5 @@ returns-else-not-branch-clause-no_more g c =
 
 pub returns-else-not-branch-2-clause-goes_on : goal.returns-else-not-branch-2-clause-goes_on
 returns-else-not-branch-2-clause-goes_on g c =
-    let p = went_on _ _ _ _ _ c.in_ok-pass_lefts-in-Err.ensures.goes_on c.if-not-branch-2.false in
+    let p = goes_on-true _ _ _ _ _ c.in_ok-pass_lefts-in-Err.ensures.goes_on c.if-not-branch-2.false in
     goes_on-after _ _ _ _ _ _ p (goes_on-next _ _ _ _ _ p.ascend c.pass_right.ensures.next)

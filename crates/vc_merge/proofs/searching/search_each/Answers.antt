@@ -1,6 +1,6 @@
 use Rattle.std.proofs.Common.{◌<◌, length, arith, rules}
 use Rattle.std.proofs.lemmas.Result.{err_from_is_err_and}
-use Rattle.vc_merge.proofs.Chains.{so_far-none, so_far-append, then_next-append, went_on, walk-failed}
+use Rattle.vc_merge.proofs.Chains.{so_far-none, so_far-append, then_next-append, goes_on-true, walk-failed}
 use Rattle.vc_merge.proofs.Digits.{digits-monotone}
 use Rattle.vc_merge.proofs.SearchedRuns.{paid-more_search, paid-last_search, fewer-some}
 use Rattle.vc_merge.proofs.searching.search_each.Goals as goal
@@ -41,7 +41,7 @@ events-preserved g c =
     let k = c.in_ok-place_first.ensures.counted in
     record {
       ready = c.in_ok-place_first.ensures.ready on;
-      so_far = so_far-append _ _ _ _ _ c.events.invariant.so_far (went_on _ _ _ _ _ c.in_ok-place_first.ensures.goes_on on);
+      so_far = so_far-append _ _ _ _ _ c.events.invariant.so_far (goes_on-true _ _ _ _ _ c.in_ok-place_first.ensures.goes_on on);
       no_longer = omega (arith, c.events.invariant.no_longer);
       counted = paid-more_search _ _ _ _ _ _ (c.in_ok-place_first.ensures.fewer on) (omega arith) c.events.invariant.counted;
     }
