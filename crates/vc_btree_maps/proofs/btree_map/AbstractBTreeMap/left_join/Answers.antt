@@ -1,0 +1,7 @@
+use Rattle.vc_joins.specs.declared.question.JoinKind.TheVariants as kind
+use Rattle.vc_joins.specs.Question.{left_spelling}
+use Rattle.vc_btree_maps.proofs.Asking.{asked_by_kind}
+use Rattle.vc_btree_maps.proofs.btree_map.AbstractBTreeMap.left_join.Goals as goal
+
+pub join_left-requires-clause-takes : goal.join_left-requires-clause-takes
+join_left-requires-clause-takes g c = λ a h. (asked_by_kind kind.Left left_spelling g.K.Ord.cmp _ _ a h, c.requires.callable a h)

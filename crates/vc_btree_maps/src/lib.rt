@@ -1,0 +1,4 @@
+//! Joins of `BTreeMap`.
+#![tactic(auto)]
+
+pub mod btree_map;
