@@ -1,9 +1,10 @@
-//! A crate that uses sets from outside, and the builder that they are changed in: worked examples, drops, counted comparisons,
-//! elements that refuse to be cloned, refused memory, and calls that take none.
+//! A crate that uses sets from outside, and the builder that they are changed in: worked examples, contracts, drops, counted
+//! comparisons, elements that refuse to be cloned, refused memory, and calls that take none.
 #![tactic(auto)]
 
 #[cfg(test)]
 mod builder;
+pub mod contracts;
 #[cfg(test)]
 mod counted;
 #[cfg(test)]

@@ -1,4 +1,5 @@
-//! The calls of sets that take no memory: each with every request refused, and none comes.
+//! The calls of sets that take no memory, each with every request refused, those that take some only where it is needed, and how
+//! often `retain` asks.
 
 use crate::nth::Nth;
 use std::alloc::{AllocError, Global};
@@ -143,6 +144,94 @@ fn no_memory_is_asked_for(rt: HostRuntime) -> Result<(), Fail> {
             assert!(rt; !memory.is_done(), "{call:?}");
             memory.refuse(0);
         }
+    }
+    Ok(())
+}
+
+/// A set of numbers, of which four stand in place.
+type Four<'a> = VecSet<u32, 4, &'a Nth<Global>>;
+
+/// Calls that put what is in another set into a set.
+#[derive(Clone, Copy, Debug)]
+enum Join {
+    UnionWith,
+    XorWith,
+    OrAssign,
+    XorAssign,
+    Extend,
+}
+
+impl Join {
+    fn make<'a>(self, left: &mut Four<'a>, right: Four<'a>) -> Result<(), AllocError> {
+        match self {
+            Join::UnionWith => left.union_with(&right),
+            Join::XorWith => left.xor_with(&right),
+            Join::OrAssign => left.bitor_assign(right),
+            Join::XorAssign => left.bitxor_assign(right),
+            Join::Extend => left.extend(right.into_iter()),
+        }
+    }
+}
+
+/// The set of the numbers of an ascending list.
+fn four<'a>(memory: &'a Nth<Global>, list: &[u32]) -> Result<Four<'a>, AllocError> {
+    let mut set = Four::empty(memory);
+    for number in list {
+        set.insert(*number)?;
+    }
+    Ok(set)
+}
+
+#[test]
+fn sets_that_fit_together_ask_for_no_memory_and_others_twice_at_most(
+    rt: HostRuntime,
+) -> Result<(), Fail> {
+    let memory = Nth::new(rt.alloc(), 0);
+    let joins = [
+        Join::UnionWith,
+        Join::XorWith,
+        Join::OrAssign,
+        Join::XorAssign,
+        Join::Extend,
+    ];
+    let rows: [(&[u32], &[u32], u64); 7] = [
+        (&[1], &[2], 0),
+        (&[1, 3], &[1, 2], 0),
+        (&[], &[1, 2, 3, 4], 0),
+        (&[2, 4, 6], &[5], 0),
+        (&[1, 2, 3], &[2, 4], 2),
+        (&[2, 4, 6, 8, 10], &[1, 3, 5, 7, 9, 11], 2),
+        (&[1, 2, 3, 4, 5, 6, 7, 8, 9], &[4], 2),
+    ];
+    for join in joins {
+        for (left, right, most) in rows {
+            let mut left = four(&memory, left)?;
+            let right = four(&memory, right)?;
+            memory.refuse(most + 1);
+            join.make(&mut left, right)?;
+            assert!(rt; !memory.is_done(), "{join:?}");
+            memory.refuse(0);
+            assert!(rt; most != 0 || !left.into_inner().spilled(), "{join:?}");
+        }
+    }
+    Ok(())
+}
+
+#[test]
+fn retain_asks_once_at_each_element_in_order(rt: HostRuntime) -> Result<(), Fail> {
+    let memory = Nth::new(rt.alloc(), 0);
+    for list in [[1, 2, 3, 4, 5, 6].as_slice(), &[2, 4], &[7], &[]] {
+        let mut set = four(&memory, list)?;
+        let (mut asked, mut last, mut ascending) = (0_usize, 0, true);
+        set.retain(|element| {
+            asked = asked.wrapping_add(1);
+            ascending = ascending && last < *element;
+            last = *element;
+            element % 2 == 1
+        });
+        assert_eq!(rt; asked, list.len());
+        assert!(rt; ascending);
+        assert!(rt; last == list.last().copied().unwrap_or(0));
     }
     Ok(())
 }

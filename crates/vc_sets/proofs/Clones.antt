@@ -2,13 +2,17 @@
 use Rattle.std.proofs.Common.{◌≡◌, Bool, true, false, cond, List, [], ◌∷◌, Option, Some, None, is_some, IsSomeAnd, MatchBool, refl, sym, ap, subst, ◌∙◌}
 use Rattle.std.specs.List.{AllByRecursion, AllZip}
 use Rattle.std.specs.List.Sorted.{IsStrictlySortedBy}
-use Rattle.std.specs.Cmp.{IsTotalOrder, alike_right}
+use Rattle.std.specs.Cmp.{IsTotalOrder, alike_right, tied_itself}
 use Rattle.std.specs.Ordering.{eq_by_cmp}
 use Rattle.std.specs.declared.cmp.Ordering.{Ordering}
 use Rattle.std.specs.declared.cmp.Ordering.TheVariants.{Less, Equal}
 use Rattle.vc_merge.specs.Ascending.{Ascends, member, element_at}
 use Rattle.vc_merge.proofs.Members.{member-is_some, equal-alike}
-use Rattle.vc_sets.specs.SetOf.{Keeps, IsSetOf}
+use Rattle.vc_sets.specs.SetOf.{ClonesAreEqual, Keeps, IsSetOf}
+
+-- a clone that compares as its source does is equal to it
+pub clone-equal : {X : Type 0} (cmp : X → X → Ordering) → IsTotalOrder cmp → (is_clone : X → X → Type 0) → ClonesAreEqual cmp is_clone → (x y : X) → is_clone x y → cmp x y ≡ Equal
+clone-equal cmp total is_clone alike x y h = alike x y h y ∙ tied_itself total y
 
 module _ {X : Type 0} (cmp : X → X → Ordering) (total : IsTotalOrder cmp) (is_clone : X → X → Type 0) (equal : (x y : X) → is_clone x y → cmp x y ≡ Equal) where
   -- ---- the clones ascend

@@ -1,12 +1,11 @@
 -- What a set operation makes of two sets. It is given by f, which says of "in the left one" and "in the right one" whether an element is in the result.
 use Rattle.std.specs.Prelude.{◌≡◌, Bool, true, false, not, ◌&&◌, List, Option, Some, None, IsSomeAnd, MatchBool, is_some}
 use Rattle.std.specs.declared.cmp.Ordering.{Ordering}
-use Rattle.std.specs.declared.cmp.Ordering.TheVariants.{Equal}
 use Rattle.vc_merge.specs.Ascending.{Ascends, member, element_at}
 
--- clones are equal to their sources
+-- clones are equal to their sources: they compare as these do
 abbrev pub ClonesAreEqual : {X : Type 0} → (X → X → Ordering) → (X → X → Type 0) → Type 0
-ClonesAreEqual {X} cmp is_clone = (x y : X) → is_clone x y → cmp x y ≡ Equal
+ClonesAreEqual {X} cmp is_clone = (x y : X) → is_clone x y → (z : X) → cmp x z ≡ cmp y z
 
 -- what is kept in one place, where the left set has `left` and the right set has `right`: of two equal elements it comes from the left one
 abbrev pub Keeps : {X : Type 0} → (Bool → Bool → Bool) → (X → X → Type 0) → (X → X → Type 0) → Option X → Option X → Option X → Type 0

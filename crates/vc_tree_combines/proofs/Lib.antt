@@ -1,1 +1,8 @@
 pub mod Listing
+pub mod Around
+pub mod Opening
+pub mod Doing
+pub mod Making
+pub mod Paying
+pub mod Next
+pub mod Ending

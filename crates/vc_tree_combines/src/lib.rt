@@ -2,4 +2,6 @@
 //! For the crates above; the traits that users name stand in `vc_trees`.
 #![tactic(auto)]
 
+mod engine;
+mod facing;
 mod sides;

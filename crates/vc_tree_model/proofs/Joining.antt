@@ -3,9 +3,9 @@
 --     opened        a tree is read as the node that stands at a place in its prefix
 --     opened_children        the children of that node are canonical
 --     joined_same, joined_child, joined_begins        the node of some parts, as a child
+--     value_asked, children_asked        what holds at each key of two trees, holds at the nodes there
 --     trees_combined        all four ways in which one prefix lies on the other
---     shortened_canonical        a canonical tree without the front of its prefix
-use Rattle.std.proofs.Common.{◌≡◌, ℕ, zero, suc, [], ◌∷◌, ◌++◌, List, Option, None, Some, refl, sym, ap, subst, ◌∙◌, cond, true, false, Bool, append-nil, drop}
+use Rattle.std.proofs.Common.{◌≡◌, [], ◌∷◌, ◌++◌, List, Option, None, Some, refl, sym, ap, subst, ◌∙◌, cond, true, false, Bool, append-nil}
 use Rattle.std.specs.Cmp.{IsTotalOrder, Equal-is}
 use Rattle.std.specs.Ordering.{is_eq}
 use Rattle.std.specs.declared.cmp.Ordering.{Ordering}
@@ -14,9 +14,8 @@ use Rattle.vc_tree_model.specs.Key.{behind, same_key}
 use Rattle.vc_tree_model.specs.Tree.{Tree, Forest, bare, grow, node}
 use Rattle.vc_tree_model.specs.Map.{lookup, lookup_in}
 use Rattle.vc_tree_model.specs.Canonical.{AreChildren, IsSolid, IsWhole, IsCanonical}
-use Rattle.vc_tree_model.specs.Shortened.{shortened}
 use Rattle.vc_tree_model.specs.Child.{BeginsWith, IsChild, bound_by, solid_child, value_at, children_at}
-use Rattle.vc_tree_model.proofs.KeyLemmas.{then_behind, behind-append, behind_same}
+use Rattle.vc_tree_model.proofs.KeyLemmas.{then_behind, behind-append, behind_same, behind_itself}
 use Rattle.vc_tree_model.proofs.Look.{Look, told, look, values}
 
 module _ {K : Type 0} (cmp : K → K → Ordering) where
@@ -114,22 +113,6 @@ module _ {K : Type 0} (cmp : K → K → Ordering) where
     opened_children t h (y ∷ rest) e c =
         (solid_in h rest y t.value t.children (subst (λ p. IsWhole p t.value t.children) e c.0), c.1, tt, tt)
 
-    -- what is solid may be the whole tree
-    solid_whole : (p : List K) (v : Option V) (f : Forest K V) → IsSolid v f → IsWhole p v f
-    solid_whole [] (Some v) f s = tt
-    solid_whole [] None bare s = absurd s
-    solid_whole [] None (grow q w more rest) s = s
-    solid_whole (x ∷ p) v f s = s
-
-    whole_drop : (n : ℕ) (p : List K) (v : Option V) (f : Forest K V) → IsWhole p v f → IsWhole (drop n p) v f
-    whole_drop zero p v f w = w
-    whole_drop (suc n) [] v f w = w
-    whole_drop (suc n) (x ∷ p) v f w = solid_whole (drop n p) v f w
-
-    -- a canonical tree without the front of its prefix is canonical
-    pub shortened_canonical : (n : ℕ) (t : Tree K V) → IsCanonical cmp t → IsCanonical cmp (shortened n t)
-    shortened_canonical n t c = (whole_drop n t.prefix t.value t.children c.0, c.1)
-
   -- ---- two trees whose prefixes begin alike
 
   module _ {V W U O : Type 0} (o : IsTotalOrder cmp) (l : Look cmp W O) (R : Option V → O → Option U → Type 0)
@@ -166,3 +149,32 @@ module _ {K : Type 0} (cmp : K → K → Ordering) where
     trees_combined s t p a p' b u h es et e c root below k =
         rw (opened (values cmp) s p a k es, opened l t p' b k et, joined_same (values cmp) p u h k c)
         (nodes_combined (value_at s a) (value_at t b) u (children_at s a) (children_at t b) h root below p p' k e)
+
+  module _ {V W O : Type 0} (o : IsTotalOrder cmp) (l : Look cmp W O) (P : Option V → O → Type 0) where
+    asked_from : (s : Tree K V) (t : Tree K W) (p a p' b k : List K) → s.prefix ≡ p ++ a → t.prefix ≡ p' ++ b
+        → same_key cmp p p' ≡ true → P (lookup cmp s (p ++ k)) (l.of_tree t (p ++ k))
+        → P (within (values cmp) (value_at s a) (children_at s a) (Some k))
+        (within l (value_at t b) (children_at t b) (Some k))
+    asked_from s t p a p' b k es et e h =
+        let left : lookup cmp s (p ++ k) ≡ within (values cmp) (value_at s a) (children_at s a) (Some k) =
+        opened (values cmp) s p a (p ++ k) es
+        ∙ (values cmp).tree_is (node p (value_at s a) (children_at s a)) (p ++ k)
+        ∙ ap (within (values cmp) (value_at s a) (children_at s a)) (behind_itself cmp o p k) in
+        let right : l.of_tree t (p ++ k) ≡ within l (value_at t b) (children_at t b) (Some k) =
+        opened l t p' b (p ++ k) et
+        ∙ l.tree_is (node p' (value_at t b) (children_at t b)) (p ++ k)
+        ∙ ap (within l (value_at t b) (children_at t b))
+        (sym (behind_same cmp o p p' (p ++ k) e) ∙ behind_itself cmp o p k) in
+        subst (λ w. P (within (values cmp) (value_at s a) (children_at s a) (Some k)) w) right
+        (subst (λ v. P v (l.of_tree t (p ++ k))) left h)
+
+    -- what holds at each key of two trees, holds of the values of the nodes at equal fronts of their prefixes
+    pub value_asked : (s : Tree K V) (t : Tree K W) (p a p' b : List K) → s.prefix ≡ p ++ a → t.prefix ≡ p' ++ b
+        → same_key cmp p p' ≡ true → ((k : List K) → P (lookup cmp s k) (l.of_tree t k)) → P (value_at s a) (l.at (value_at t b))
+    value_asked s t p a p' b es et e h = asked_from s t p a p' b [] es et e (h (p ++ []))
+
+    -- and at each key of their children
+    pub children_asked : (s : Tree K V) (t : Tree K W) (p a p' b : List K) → s.prefix ≡ p ++ a → t.prefix ≡ p' ++ b
+        → same_key cmp p p' ≡ true → ((k : List K) → P (lookup cmp s k) (l.of_tree t k)) → (x : K) (q : List K)
+        → P (lookup_in cmp (children_at s a) (x ∷ q)) (l.under (value_at t b) (l.of_forest (children_at t b) (x ∷ q)))
+    children_asked s t p a p' b es et e h x q = asked_from s t p a p' b (x ∷ q) es et e (h (p ++ x ∷ q))

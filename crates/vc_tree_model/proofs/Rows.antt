@@ -1,18 +1,20 @@
 -- Children that are made place by place: they are canonical, and they are what the combine says of the children on either side.
 --     rows_children        what is made is canonical children
 --     rows_combined        and it is what the combine says of both sides
-use Rattle.std.proofs.Common.{◌≡◌, [], ◌∷◌, List, Option, None, Some, refl, sym, ap, ◌∙◌, true, false, Bool}
+--     rows_asked        what holds at each key of both sides, holds at each row
+use Rattle.std.proofs.Common.{◌≡◌, [], ◌∷◌, List, Option, None, Some, refl, sym, ap, ◌∙◌, true, false, Bool, cond}
 use Rattle.std.specs.Cmp.{IsTotalOrder, Equal-is, alike_right}
 use Rattle.std.specs.List.{AllByRecursion, filter_map, cons_option}
 use Rattle.std.specs.Ordering.{is_eq, ordering_reverse}
 use Rattle.std.specs.declared.cmp.Ordering.{Ordering}
 use Rattle.std.specs.declared.cmp.Ordering.TheVariants.{Less, Equal}
+use Rattle.vc_tree_model.specs.Key.{behind}
 use Rattle.vc_tree_model.specs.Tree.{Tree, Forest, bare, grow, forest, node}
 use Rattle.vc_tree_model.specs.Map.{lookup_in}
 use Rattle.vc_tree_model.specs.Canonical.{AllAbove, AreChildren, IsSolid}
-use Rattle.vc_tree_model.specs.Child.{Begins, BeginsWith, IsChild}
+use Rattle.vc_tree_model.specs.Child.{Begins, BeginsWith, IsChild, bound_by}
 use Rattle.vc_tree_model.proofs.LookupLemmas.{above_equal}
-use Rattle.vc_tree_model.proofs.Look.{Look, Row, look, values, AscendBy, IsRow, IsCombinedIn}
+use Rattle.vc_tree_model.proofs.Look.{Look, told, Row, look, values, AscendBy, IsRow, IsCombinedIn}
 
 -- the trees of one side
 abbrev pub side : {X K V : Type 0} → (X → Option (Tree K V)) → List X → Forest K V
@@ -58,6 +60,31 @@ module _ {K : Type 0} (cmp : K → K → Ordering) (o : IsTotalOrder cmp) where
         → l.of_forest (forest (cons_option t ts)) (x ∷ q) ≡ look cmp l t (x ∷ q)
     take_one None ts y x q b e n = n
     take_one (Some t) ts y x q b e n = take_tree t.prefix t.value t.children (forest ts) y x q b e n
+
+    told_other : (b : Bool) (v : Option V) (f : Forest K V) (o : Option (List K)) → b ≡ false
+        → told l.none (l.at v) (λ q. l.under v (l.of_forest f q)) (cond b o None) ≡ l.none
+    told_other b v f o e = rw e refl
+
+    -- a tree says nothing of a key that begins otherwise, nor of the empty key
+    other_tree : (p : List K) (v : Option V) (f : Forest K V) (y x : K) (q : List K) → Begins cmp y p
+        → is_eq (cmp y x) ≡ false → l.of_tree (node p v f) (x ∷ q) ≡ l.none
+    other_tree [] v f y x q b e = absurd b
+    other_tree (z ∷ p) v f y x q b e =
+        l.tree_is (node (z ∷ p) v f) (x ∷ q)
+        ∙ told_other (is_eq (cmp z x)) v f (behind cmp p q) (ap is_eq (sym (o.congr y z x b)) ∙ e)
+
+    other_none : (t : Option (Tree K V)) (y x : K) (q : List K) → BeginsWith cmp y t → is_eq (cmp y x) ≡ false
+        → look cmp l t (x ∷ q) ≡ l.none
+    other_none None y x q b e = refl
+    other_none (Some t) y x q b e = other_tree t.prefix t.value t.children y x q b e
+
+    empty_tree : (p : List K) (v : Option V) (f : Forest K V) (y : K) → Begins cmp y p → l.of_tree (node p v f) [] ≡ l.none
+    empty_tree [] v f y b = absurd b
+    empty_tree (z ∷ p) v f y b = l.tree_is (node (z ∷ p) v f) []
+
+    empty_none : (t : Option (Tree K V)) (y : K) → BeginsWith cmp y t → look cmp l t [] ≡ l.none
+    empty_none None y b = refl
+    empty_none (Some t) y b = empty_tree t.prefix t.value t.children y b
 
   -- ---- what all places are above, and what may stand as children
 
@@ -153,3 +180,47 @@ module _ {K : Type 0} (cmp : K → K → Ordering) (o : IsTotalOrder cmp) where
     rows_combined none [] a h x q = rw (l.in_bare x q) none
     rows_combined none (r ∷ rs) a h x q =
         rows_pick (is_eq (cmp r.place x)) r rs x q refl a.0 h.0 h.1 (rows_combined none rs a.1 h.1 x q)
+
+    -- ---- what may be asked at each row
+
+    module _ (P : Option V → O → Type 0) (none : P None l.none) where
+      asked_by : (b : Bool) (r : Row K V W U) (rs : List (Row K V W U)) (x : K) (q : List K) → is_eq (cmp r.place x) ≡ b
+          → AllByRecursion (λ s. cmp r.place s.place ≡ Less) rs → IsRow cmp l R r → AllByRecursion (IsRow cmp l R) rs
+          → P (lookup_in cmp (side (λ r. r.left) (r ∷ rs)) (x ∷ q)) (l.of_forest (side (λ r. r.right) (r ∷ rs)) (x ∷ q))
+          → P (bound_by cmp r.left (x ∷ q)) (look cmp l r.right (x ∷ q))
+          × P (lookup_in cmp (side (λ r. r.left) rs) (x ∷ q)) (l.of_forest (side (λ r. r.right) rs) (x ∷ q))
+      asked_by false r rs x q e a h hs p = (
+        rw (other_none (values cmp) r.left r.place x q h.left e, other_none l r.right r.place x q h.right e) none,
+        rw (
+          ← skip_one (values cmp) r.left (filter_map (λ r. r.left) rs) r.place x q h.left e,
+          ← skip_one l r.right (filter_map (λ r. r.right) rs) r.place x q h.right e,
+        ) p,
+      )
+      asked_by true r rs x q e a h hs p =
+          let t = (Equal-is (cmp r.place x)).0 e in
+          let left = none_above (values cmp) r.place x q t (side (λ r. r.left) rs)
+              (side_above (λ r. r.place) (λ r. r.left) r.place rs a (lefts_begin rs hs)) in
+          let right = none_above l r.place x q t (side (λ r. r.right) rs)
+              (side_above (λ r. r.place) (λ r. r.right) r.place rs a (rights_begin rs hs)) in
+          (
+            rw (
+              ← take_one (values cmp) r.left (filter_map (λ r. r.left) rs) r.place x q h.left t left,
+              ← take_one l r.right (filter_map (λ r. r.right) rs) r.place x q h.right t right,
+            ) p,
+            rw (left, right) none,
+          )
+
+      -- what holds of both sides at each key with a component, holds of what stands at each row, at each key
+      pub rows_asked : (rs : List (Row K V W U)) → AscendBy cmp (λ r. r.place) rs → AllByRecursion (IsRow cmp l R) rs
+          → ((x : K) (q : List K) → P (lookup_in cmp (side (λ r. r.left) rs) (x ∷ q))
+              (l.of_forest (side (λ r. r.right) rs) (x ∷ q)))
+          → AllByRecursion (λ r. (k : List K) → P (bound_by cmp r.left k) (look cmp l r.right k)) rs
+      rows_asked [] a h p = tt
+      rows_asked (r ∷ rs) a h p = (
+        at_row,
+        rows_asked rs a.1 h.1 (λ x q. (asked_by (is_eq (cmp r.place x)) r rs x q refl a.0 h.0 h.1 (p x q)).1),
+      )
+        where
+          at_row : (k : List K) → P (bound_by cmp r.left k) (look cmp l r.right k)
+          at_row [] = rw (empty_none (values cmp) r.left r.place h.0.left, empty_none l r.right r.place h.0.right) none
+          at_row (x ∷ q) = (asked_by (is_eq (cmp r.place x)) r rs x q refl a.0 h.0 h.1 (p x q)).0

@@ -1,12 +1,11 @@
 -- The test whether two trees are the same: what it says, and that it is an equivalence.
 --     same_tree-is        it says that the trees are the same
 --     same_tree-partial, same_tree-equivalence        it is symmetric and transitive, and reflexive where that of values is
-use Rattle.std.proofs.Common.{◌≡◌, [], ◌∷◌, List, Option, None, Some, Bool, true, false, ◌&&◌, true≢false, ◌↔◌, refl, sym, ap, ◌∙◌}
+use Rattle.std.proofs.Common.{◌≡◌, Option, None, Some, Bool, true, false, ◌&&◌, true≢false, ◌↔◌, refl, sym}
 use Rattle.std.specs.Cmp.{IsTotalOrder, IsPartialEquivalence, IsEquivalence, equiv, partial_equiv_from_equiv}
 use Rattle.std.specs.Option.{option_eq}
 use Rattle.std.specs.Prelude.{IsTrue}
 use Rattle.std.specs.declared.cmp.Ordering.{Ordering}
-use Rattle.vc_tree_model.specs.Key.{same_key}
 use Rattle.vc_tree_model.specs.Value.{IsKept}
 use Rattle.vc_tree_model.specs.Tree.{Tree, Forest, bare, grow}
 use Rattle.vc_tree_model.specs.Same.{IsSame, IsSameIn}

@@ -4,6 +4,7 @@ pub mod Tree
 pub mod TreeCode
 pub mod Map
 pub mod Binds
+pub mod Pairs
 pub mod Canonical
 pub mod Conditions
 pub mod Same

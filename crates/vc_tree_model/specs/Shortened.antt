@@ -1,18 +1,13 @@
--- A tree without the first components of its prefix, and the weight of a tree.
---     shortened n t        t without the first n components of its prefix
+-- What a tree without the first components of its prefix binds, and the weight of a tree.
 --     IsShortened cmp keeps n t u        u binds what is left of the keys of t behind the first n components of its prefix
 --     weight t        the nodes of a tree and the components of all its prefixes
-use Rattle.std.specs.Prelude.{ℕ, ◌+◌, List, ◌++◌, length, take, drop}
+use Rattle.std.specs.Prelude.{ℕ, ◌+◌, List, ◌++◌, length, take}
 use Rattle.std.specs.declared.cmp.Ordering.{Ordering}
 use Rattle.vc_tree_model.specs.Value.{IsKept}
-use Rattle.vc_tree_model.specs.Tree.{Tree, Forest, bare, grow, node}
+use Rattle.vc_tree_model.specs.Tree.{Tree, Forest, bare, grow}
 use Rattle.vc_tree_model.specs.Map.{lookup}
 
 module _ {K V : Type 0} where
-  -- the tree without the first components of its prefix
-  abbrev pub shortened : ℕ → Tree K V → Tree K V
-  shortened n t = node (drop n t.prefix) t.value t.children
-
   -- where t binds those n components and then a key, u binds the key, and it binds nothing else
   abbrev pub IsShortened : (K → K → Ordering) → (V → V → Type 0) → ℕ → Tree K V → Tree K V → Type 0
   IsShortened cmp keeps n t u = (k : List K) → IsKept keeps (lookup cmp t (take n t.prefix ++ k)) (lookup cmp u k)

@@ -1,7 +1,7 @@
 -- The child that a component leads to, and what the others bind.
 --     begins_below        a child that begins with a component is there
 --     found_at, gap_none        what a found child binds; that no child binds what has a gap for its place
---     child_nodes        a child has no more nodes than the list
+--     child_nodes, list_nodes        a child has no more nodes than the list
 --     trees_length        how many children a node has
 use Rattle.std.proofs.Common.{◌≡◌, ℕ, zero, suc, ◌<◌, ◌≤◌, [], ◌∷◌, List, Option, None, Some, refl, sym, ap, ◌∙◌, arith, get_or, map, length, take, true}
 use Rattle.std.specs.Cmp.{IsTotalOrder, Equal-is, alike_right}
@@ -18,6 +18,13 @@ use Rattle.vc_tree_model.proofs.KeyLemmas.{none_some}
 use Rattle.vc_tree_model.proofs.ValueLemmas.{or_else-none}
 use Rattle.vc_tree_model.proofs.LookupLemmas.{lookup-other, lookup_in-above, lookup_in-skip, above_equal}
 use Rattle.vc_tree_nodes.proofs.Firsts.{above_at, rest_children, child_first-map}
+
+-- a tree of a list has no more nodes than the list
+pub list_nodes : {K V : Type 0} (ts : List (Tree K V)) (i : ℕ) (d : Tree K V) → i < length ts
+    → nodes (get_or ts i d) ≤ forest_nodes (forest ts)
+list_nodes [] i d h = absurd (omega arith)
+list_nodes (t ∷ ts) zero d h = omega arith
+list_nodes (t ∷ ts) (suc i) d h = let r = list_nodes ts i d (omega arith) in omega (arith, r)
 
 -- as many trees are seen as there are
 pub trees_length : {K V T : Type 0} (tree : T → Tree K V) (xs : List T) → length (trees (forest (map tree xs))) ≡ length xs

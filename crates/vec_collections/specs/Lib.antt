@@ -21,10 +21,13 @@ pub use Rattle.vc_total_sets.specs.TotalTests
 pub use Rattle.vc_tree_model.specs.Binds
 pub use Rattle.vc_tree_model.specs.Canonical
 pub use Rattle.vc_tree_model.specs.Conditions
+pub use Rattle.vc_tree_model.specs.Equal
+pub use Rattle.vc_tree_nodes.specs.Children
 pub use Rattle.vc_tree_model.specs.Key
 pub use Rattle.vc_tree_model.specs.Laws as TreeLaws
 pub use Rattle.vc_tree_model.specs.Map
 pub use Rattle.vc_tree_model.specs.OneTree
+pub use Rattle.vc_tree_model.specs.Pairs
 pub use Rattle.vc_tree_model.specs.Same
 pub use Rattle.vc_tree_model.specs.Snapshot
 pub use Rattle.vc_tree_model.specs.Tree

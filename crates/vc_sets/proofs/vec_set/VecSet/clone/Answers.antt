@@ -1,5 +1,5 @@
-use Rattle.vc_sets.proofs.Clones.{clones-ascend}
+use Rattle.vc_sets.proofs.Clones.{clone-equal, clones-ascend}
 use Rattle.vc_sets.proofs.vec_set.VecSet.clone.Goals as goal
 
 pub invariant_of-result : goal.invariant_of-result
-invariant_of-result g c = clones-ascend g.T.Ord.cmp g.met.T.Ord.total g.T.Clone.is_clone c.requires _ _ c.in_ok-elements.ensures.cases c.self.invariant
+invariant_of-result g c = clones-ascend g.T.Ord.cmp g.met.T.Ord.total g.T.Clone.is_clone (clone-equal g.T.Ord.cmp g.met.T.Ord.total g.T.Clone.is_clone c.requires) _ _ c.in_ok-elements.ensures.cases c.self.invariant

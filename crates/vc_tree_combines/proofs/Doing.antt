@@ -1,0 +1,153 @@
+-- One event more of a script is done.
+--     doing_start        none is done yet
+--     doing_left, doing_right, doing_both        one more is
+--     left_is, right_is        what the next trees are
+use Rattle.std.proofs.Common.{◌≡◌, ℕ, ◌+◌, ◌*◌, ◌-◌, ◌<◌, ◌≤◌, [], ◌∷◌, ◌++◌, List, Option, None, Some, refl, sym, ap, subst, ◌∙◌, map, append_assoc, arith, inl, inr, length}
+use Rattle.std.specs.List.{AllByRecursion, filter_map, cons_option}
+use Rattle.std.proofs.lemmas.List.Elements.{filter_map-append}
+use Rattle.std.specs.declared.cmp.Ordering.{Ordering}
+use Rattle.std.specs.declared.cmp.Ordering.TheVariants.{Equal}
+use Rattle.vc_merge.specs.Script.{Event, left_alone, right_alone, collision, lefts, rights, IsMatched, IsScript}
+use Rattle.vc_tree_model.specs.Shortened.{weight}
+use Rattle.vc_tree_model.specs.Tree.{Tree, shortened}
+use Rattle.vc_tree_combines.specs.Made.{IsMade, IsBothMade, IsMadeAt, IsAskedAt, owed, IsDoing}
+use Rattle.vc_tree_combines.specs.Sides.{by_component, side_of, IsListed}
+use Rattle.vc_tree_combines.specs.declared.sides.Side.{Side}
+use Rattle.vc_tree_combines.specs.declared.sides.Side.TheVariants.{Left, Right, Both}
+
+all_push : {X : Type 0} (P : X → Type 0) (xs : List X) (x : X) → AllByRecursion P xs → P x → AllByRecursion P (xs ++ x ∷ [])
+all_push P [] x a p = (p, tt)
+all_push P (y ∷ ys) x a p = (a.0, all_push P ys x a.1 p)
+
+-- events of which the first is on one side
+module _ {A B : Type 0} where
+  pub left_first : (sides : List Side) (es : List (Event A B)) → Left ∷ sides ≡ map (λ e. side_of e) es
+      → (a : A) × (rest : List (Event A B)) × (es ≡ left_alone a ∷ rest)
+  left_first sides [] e = absurd (cc)
+  left_first sides (left_alone a ∷ es) e = (a, es, refl)
+  left_first sides (right_alone b ∷ es) e = absurd (cc)
+  left_first sides (collision a b ∷ es) e = absurd (cc)
+
+  pub right_first : (sides : List Side) (es : List (Event A B)) → Right ∷ sides ≡ map (λ e. side_of e) es
+      → (b : B) × (rest : List (Event A B)) × (es ≡ right_alone b ∷ rest)
+  right_first sides [] e = absurd (cc)
+  right_first sides (left_alone a ∷ es) e = absurd (cc)
+  right_first sides (right_alone b ∷ es) e = (b, es, refl)
+  right_first sides (collision a b ∷ es) e = absurd (cc)
+
+  pub both_first : (sides : List Side) (es : List (Event A B)) → Both ∷ sides ≡ map (λ e. side_of e) es
+      → (a : A) × (b : B) × (rest : List (Event A B)) × (es ≡ collision a b ∷ rest)
+  both_first sides [] e = absurd (cc)
+  both_first sides (left_alone a ∷ es) e = absurd (cc)
+  both_first sides (right_alone b ∷ es) e = absurd (cc)
+  both_first sides (collision a b ∷ es) e = (a, b, es, refl)
+
+module _ {K V W U A B : Type 0} (cmp : K → K → Ordering) (ta : A → Tree K V) (tb : B → Tree K W) (i j : ℕ)
+    (R : Option V → Option W → Option U → Type 0) (asks : Option V → Option W → Type 0) (xs : List A) (ys : List B) where
+  -- none is done yet
+  pub doing_start : (sides : List Side) (made : List (Tree K U)) (spent budget : ℕ) → made ≡ []
+      → (l : IsListed (by_component ta tb i j cmp) xs ys sides)
+      → AllByRecursion (IsAskedAt cmp ta tb i j asks) l.events → spent + owed cmp ta tb i j l.events ≤ budget
+      → IsDoing cmp ta tb i j R asks xs ys xs ys sides made spent budget
+  doing_start sides made spent budget e l a p = record {
+    done = [];
+    rest = l.events;
+    script = l.script;
+    left = sym l.script.left;
+    right = sym l.script.right;
+    sides_are = l.sides_are;
+    made_at = tt;
+    made_are = e;
+    asked = a;
+    paid = p;
+  }
+
+  -- one more is done
+  more : (ls : List A) (rs : List B) (sides : List Side) (made made' : List (Tree K U)) (spent budget : ℕ)
+      (done : List (Event A B × Option (Tree K U))) (e : Event A B) (es : List (Event A B)) (o : Option (Tree K U))
+      → IsScript (by_component ta tb i j cmp) xs ys (map (λ d. d.0) done ++ e ∷ es)
+      → AllByRecursion (λ d. IsMadeAt cmp R ta tb i j d.0 d.1) done → made ≡ filter_map (λ d. d.1) done
+      → IsMadeAt cmp R ta tb i j e o → made' ≡ made ++ cons_option o [] → ls ≡ lefts es → rs ≡ rights es
+      → sides ≡ map (λ e. side_of e) es → AllByRecursion (IsAskedAt cmp ta tb i j asks) es
+      → spent + owed cmp ta tb i j es ≤ budget → IsDoing cmp ta tb i j R asks xs ys ls rs sides made' spent budget
+  more ls rs sides made made' spent budget done e es o s m k w p l r z a c = record {
+    done = done ++ (e, o) ∷ [];
+    rest = es;
+    script = subst (λ l. IsScript (by_component ta tb i j cmp) xs ys l) (events_push done) s;
+    left = l;
+    right = r;
+    sides_are = z;
+    made_at = all_push (λ d. IsMadeAt cmp R ta tb i j d.0 d.1) done (e, o) m w;
+    made_are = p ∙ ap (λ l. l ++ cons_option o []) k ∙ sym (filter_map-append (λ d. d.1) done ((e, o) ∷ []));
+    asked = a;
+    paid = c;
+  }
+    where
+      events_push : (ds : List (Event A B × Option (Tree K U)))
+          → map (λ d. d.0) ds ++ e ∷ es ≡ map (λ d. d.0) (ds ++ (e, o) ∷ []) ++ es
+      events_push [] = refl
+      events_push (x ∷ ds) = ap (λ l. x.0 ∷ l) (events_push ds)
+
+  module _ (ls : List A) (rs : List B) (all : List Side) (made : List (Tree K U)) (spent budget : ℕ)
+      (d : IsDoing cmp ta tb i j R asks xs ys ls rs all made spent budget) where
+    -- the events that are left begin with the next one
+    abbrev Next : Event A B → Type 0
+    Next e = (rest : List (Event A B)) × (d.rest ≡ e ∷ rest)
+
+    -- the next tree of the left list, where an event takes one
+    pub left_is : (a : A) (rest : List (Event A B)) (x : A) (ls' : List A) → a ∷ lefts rest ≡ lefts d.rest → ls ≡ x ∷ ls' → (x ≡ a) × (ls' ≡ lefts rest)
+    left_is a rest x ls' h e = let g : x ∷ ls' ≡ a ∷ lefts rest = sym e ∙ d.left ∙ sym h in (cc, cc)
+
+    pub right_is : (b : B) (rest : List (Event A B)) (y : B) (rs' : List B) → b ∷ rights rest ≡ rights d.rest → rs ≡ y ∷ rs' → (y ≡ b) × (rs' ≡ rights rest)
+    right_is b rest y rs' h e = let g : y ∷ rs' ≡ b ∷ rights rest = sym e ∙ d.right ∙ sym h in (cc, cc)
+
+    module _ (sides : List Side) (made' : List (Tree K U)) (o : Option (Tree K U)) (pushed : made' ≡ made ++ cons_option o []) where
+      script_next : (e : Event A B) (rest : List (Event A B)) → d.rest ≡ e ∷ rest
+          → IsScript (by_component ta tb i j cmp) xs ys (map (λ d. d.0) d.done ++ e ∷ rest)
+      script_next e rest h = subst (λ l. IsScript (by_component ta tb i j cmp) xs ys (map (λ d. d.0) d.done ++ l)) h d.script
+
+      asked_next : (e : Event A B) (rest : List (Event A B)) → d.rest ≡ e ∷ rest
+          → AllByRecursion (IsAskedAt cmp ta tb i j asks) rest
+      asked_next e rest h = (subst (AllByRecursion (IsAskedAt cmp ta tb i j asks)) h d.asked).1
+
+      sides_next : (e : Event A B) (rest : List (Event A B)) (s : Side) → d.rest ≡ e ∷ rest → all ≡ s ∷ sides
+          → sides ≡ map (λ e. side_of e) rest
+      sides_next e rest s h z = let g : s ∷ sides ≡ side_of e ∷ map (λ e. side_of e) rest = sym z ∙ d.sides_are ∙ ap (map (λ e. side_of e)) h in cc
+
+      pub doing_left : (x : A) (ls' : List A) → all ≡ Left ∷ sides → ls ≡ x ∷ ls'
+          → IsMade cmp (λ v z. R v None z) (shortened i (ta x)) o
+          → IsDoing cmp ta tb i j R asks xs ys ls' rs sides made' spent budget
+      doing_left x ls' z e w =
+          let f = left_first sides d.rest (sym z ∙ d.sides_are) in
+          let g = left_is f.0 f.1 x ls' (ap lefts (sym f.2)) e in
+          more ls' rs sides made made' spent budget d.done (left_alone f.0) f.1 o (script_next _ _ f.2) d.made_at d.made_are
+          (subst (λ x. IsMade cmp (λ v z. R v None z) (shortened i (ta x)) o) g.0 w) pushed g.1
+          (d.right ∙ ap rights f.2) (sides_next _ _ Left f.2 z) (asked_next _ _ f.2)
+          (subst (λ l. spent + owed cmp ta tb i j l ≤ budget) f.2 d.paid)
+
+      pub doing_right : (y : B) (rs' : List B) → all ≡ Right ∷ sides → rs ≡ y ∷ rs'
+          → IsMade cmp (λ w z. R None w z) (shortened j (tb y)) o
+          → IsDoing cmp ta tb i j R asks xs ys ls rs' sides made' spent budget
+      doing_right y rs' z e w =
+          let f = right_first sides d.rest (sym z ∙ d.sides_are) in
+          let g = right_is f.0 f.1 y rs' (ap rights (sym f.2)) e in
+          more ls rs' sides made made' spent budget d.done (right_alone f.0) f.1 o (script_next _ _ f.2) d.made_at d.made_are
+          (subst (λ y. IsMade cmp (λ w z. R None w z) (shortened j (tb y)) o) g.0 w) pushed
+          (d.left ∙ ap lefts f.2) g.1 (sides_next _ _ Right f.2 z) (asked_next _ _ f.2)
+          (subst (λ l. spent + owed cmp ta tb i j l ≤ budget) f.2 d.paid)
+
+      pub doing_both : (x : A) (ls' : List A) (y : B) (rs' : List B) (spent' : ℕ) → all ≡ Both ∷ sides → ls ≡ x ∷ ls'
+          → rs ≡ y ∷ rs' → IsBothMade cmp R (shortened i (ta x)) (shortened j (tb y)) o
+          → spent' + 2 ≤ spent + 3 * (weight (shortened i (ta x)) + weight (shortened j (tb y)))
+          → IsDoing cmp ta tb i j R asks xs ys ls' rs' sides made' spent' budget
+      doing_both x ls' y rs' spent' z e e' w c =
+          let f = both_first sides d.rest (sym z ∙ d.sides_are) in
+          let g = left_is f.0 f.2 x ls' (ap lefts (sym f.3)) e in
+          let h = right_is f.1 f.2 y rs' (ap rights (sym f.3)) e' in
+          let same = subst (λ y. IsBothMade cmp R (shortened i (ta f.0)) (shortened j (tb y)) o) h.0
+              (subst (λ x. IsBothMade cmp R (shortened i (ta x)) (shortened j (tb y)) o) g.0 w) in
+          let cost = subst (λ y. spent' + 2 ≤ spent + 3 * (weight (shortened i (ta f.0)) + weight (shortened j (tb y)))) h.0
+              (subst (λ x. spent' + 2 ≤ spent + 3 * (weight (shortened i (ta x)) + weight (shortened j (tb y)))) g.0 c) in
+          let paid = subst (λ l. spent + owed cmp ta tb i j l ≤ budget) f.3 d.paid in
+          more ls' rs' sides made made' spent' budget d.done (collision f.0 f.1) f.2 o (script_next _ _ f.3) d.made_at d.made_are
+          same pushed g.1 h.1 (sides_next _ _ Both f.3 z) (asked_next _ _ f.3) (omega (arith, cost, paid))

@@ -1,0 +1,111 @@
+-- The combine of two trees, once all events below the fronts of their prefixes are done.
+--     left_children, right_children        what stands below is canonical children
+--     combine_started        the state before the first event
+--     values_asked        what may be asked of the values at the fronts
+--     made_children        the trees that were made are canonical children
+--     combined        the node of these trees is what the combine says of both
+use Rattle.std.proofs.Common.{◌≡◌, ℕ, ◌+◌, ◌-◌, ◌*◌, ◌≤◌, [], ◌∷◌, ◌++◌, List, Option, None, Some, refl, sym, ap, subst, ◌∙◌, map, take, drop, zero, suc, slice_get, true, append-nil, true≢false, arith, length}
+use Rattle.std.proofs.lemmas.List.{take-append-drop}
+use Rattle.std.specs.Cmp.{IsTotalOrder, tied_itself}
+use Rattle.std.specs.List.{AllByRecursion}
+use Rattle.std.specs.Ordering.{is_eq}
+use Rattle.std.specs.declared.cmp.Ordering.{Ordering}
+use Rattle.std.specs.declared.cmp.Ordering.TheVariants.{Equal}
+use Rattle.vc_merge.specs.Script.{Event, IsScript}
+use Rattle.vc_tree_model.specs.Key.{same_key}
+use Rattle.vc_tree_model.specs.Tree.{Tree, Forest, forest, shortened}
+use Rattle.vc_tree_model.specs.Map.{lookup, lookup_in}
+use Rattle.vc_tree_model.specs.Canonical.{AreChildren, IsCanonical}
+use Rattle.vc_tree_model.specs.Child.{BeginsWith, solid_child, value_at, children_at}
+use Rattle.vc_tree_model.specs.Shortened.{weight}
+use Rattle.vc_tree_model.proofs.Joining.{opened_children, joined_child, joined_begins, trees_combined, value_asked, children_asked}
+use Rattle.vc_tree_model.proofs.Look.{values, IsCombinedIn}
+use Rattle.vc_tree_combines.specs.Facing.{shortened_in, Parts, IsOpened, IsFaced}
+use Rattle.vc_tree_combines.specs.Made.{IsBothMade, IsDoing}
+use Rattle.vc_tree_combines.specs.Sides.{by_component, side_of}
+use Rattle.vc_tree_combines.specs.declared.sides.Side.{Side}
+use Rattle.vc_tree_combines.proofs.Doing.{doing_start}
+use Rattle.vc_tree_combines.proofs.Making.{script_made, script_asked}
+use Rattle.vc_tree_combines.proofs.Paying.{face_paid}
+
+module _ {K : Type 0} (cmp : K → K → Ordering) where
+  -- what stands below a place is canonical children
+  pub below_children : {T V : Type 0} (tree : T → Tree K V) (t : Tree K V) → IsCanonical cmp t → (n : ℕ) (xs : List T) (i : ℕ)
+      → IsOpened tree t (drop n t.prefix) xs i → AreChildren cmp (shortened_in tree i xs)
+  below_children tree t c n xs i h =
+      rw h.children (opened_children cmp t (take n t.prefix) (drop n t.prefix) (sym (take-append-drop n t.prefix)) c)
+
+  -- a node at the front where both prefixes agree begins as they do
+  front_begins : {U : Type 0} (o : IsTotalOrder cmp) (n : ℕ) (p q : List K) (v : Option U) (f : Forest K U) (y z : K)
+      → slice_get p 0 ≡ Some y → slice_get q 0 ≡ Some z → cmp y z ≡ Equal → Parts cmp (drop n p) (drop n q)
+      → BeginsWith cmp y (solid_child (take n p) v f)
+  front_begins o n [] q v f y z e d t w = absurd (cc)
+  front_begins o n (a ∷ p) [] v f y z e d t w = absurd (cc)
+  front_begins o zero (a ∷ p) (b ∷ q) v f y z e d t w =
+      let ay : a ≡ y = cc in
+      let bz : b ≡ z = cc in
+      let k : cmp a b ≡ Equal = rw (ay, bz) t in
+      absurd (true≢false (sym (ap is_eq k) ∙ w))
+  front_begins o (suc n) (a ∷ p) (b ∷ q) v f y z e d t w =
+      let ay : a ≡ y = cc in joined_begins cmp y a (take n p) v f (rw ay (tied_itself o y))
+
+  module _ {V W U A B : Type 0} (o : IsTotalOrder cmp) (ta : A → Tree K V) (tb : B → Tree K W)
+      (R : Option V → Option W → Option U → Type 0) (asks : Option V → Option W → Type 0)
+      (none : R None None None) (t : Tree K V) (u : Tree K W) (ct : IsCanonical cmp t) (cu : IsCanonical cmp u) (n : ℕ)
+      (xs : List A) (i : ℕ) (ys : List B) (j : ℕ) (sides : List Side) (f : IsFaced cmp ta tb t u n xs i ys j sides) where
+    pub left_children : AreChildren cmp (shortened_in ta i xs)
+    left_children = below_children ta t ct n xs i f.left
+
+    pub right_children : AreChildren cmp (shortened_in tb j ys)
+    right_children = below_children tb u cu n ys j f.right
+
+    -- what may be asked of the values at the fronts
+    pub values_asked : ((k : List K) → asks (lookup cmp t k) (lookup cmp u k))
+        → asks (value_at t (drop n t.prefix)) (value_at u (drop n u.prefix))
+    values_asked h =
+        value_asked cmp o (values cmp) asks t u (take n t.prefix) (drop n t.prefix) (take n u.prefix) (drop n u.prefix)
+        (sym (take-append-drop n t.prefix)) (sym (take-append-drop n u.prefix)) f.same h
+
+    -- the state before the first event
+    pub combine_started : asks None None → ((k : List K) → asks (lookup cmp t k) (lookup cmp u k)) → (made : List (Tree K U))
+        → made ≡ [] → (spent start : ℕ) → spent ≤ start + n + length xs + length ys
+        → IsDoing cmp ta tb i j R asks xs ys xs ys sides made spent (start + 3 * (weight t + weight u) - 2)
+    combine_started an h made e spent start c =
+        let below = children_asked cmp o (values cmp) asks t u (take n t.prefix) (drop n t.prefix) (take n u.prefix)
+            (drop n u.prefix) (sym (take-append-drop n t.prefix)) (sym (take-append-drop n u.prefix)) f.same h in
+        let paid = face_paid cmp ta tb t u n xs i ys j sides f in
+        doing_start cmp ta tb i j R asks xs ys sides made spent _ e f.listed
+        (script_asked cmp o ta tb i j asks an xs ys f.listed.events left_children right_children f.listed.script
+        (rw (f.left.children, f.right.children) below)) (omega (arith, paid, c))
+
+    module _ (ls : List A) (rs : List B) (todo : List Side) (made : List (Tree K U)) (spent budget : ℕ)
+        (d : IsDoing cmp ta tb i j R asks xs ys ls rs todo made spent budget) (end : todo ≡ []) where
+      whole_script : (rest : List (Event A B)) (done : List (Event A B)) → ◌≡◌ {A = List Side} [] (map (λ e. side_of e) rest)
+          → IsScript (by_component ta tb i j cmp) xs ys (done ++ rest) → IsScript (by_component ta tb i j cmp) xs ys done
+      whole_script [] done e s = subst (λ l. IsScript (by_component ta tb i j cmp) xs ys l) (append-nil done) s
+      whole_script (e ∷ es) done z s = absurd (cc)
+
+      made_of : AreChildren cmp (forest made) × IsCombinedIn cmp (values cmp) R (shortened_in ta i xs) (shortened_in tb j ys) (forest made)
+      made_of =
+          let s = whole_script d.rest (map (λ d. d.0) d.done) (sym end ∙ d.sides_are) d.script in
+          rw d.made_are (script_made cmp o ta tb i j R none xs ys d.done left_children right_children s d.made_at)
+
+      -- the trees that were made are canonical children
+      pub made_children : AreChildren cmp (forest made)
+      made_children = made_of.0
+
+      -- the node of these trees is what the combine says of both
+      pub combined : (v : Option U) (front : List K) (out : Option (Tree K U))
+          → R (value_at t (drop n t.prefix)) (value_at u (drop n u.prefix)) v → front ≡ take n t.prefix
+          → out ≡ solid_child front v (forest made) → IsBothMade cmp R t u out
+      combined v front out root e g =
+          let below = subst (λ h. IsCombinedIn cmp (values cmp) R (children_at t (drop n t.prefix)) h (forest made)) f.right.children
+              (subst (λ h. IsCombinedIn cmp (values cmp) R h (shortened_in tb j ys) (forest made)) f.left.children made_of.1) in
+          subst (λ z. IsBothMade cmp R t u z) (sym (g ∙ ap (λ p. solid_child p v (forest made)) e)) (record {
+            child = joined_child cmp (take n t.prefix) v (forest made) made_children;
+            begins = λ y z a b q. front_begins o n t.prefix u.prefix v (forest made) y z a b q f.parts;
+            binds =
+                trees_combined cmp o (values cmp) R none t u (take n t.prefix) (drop n t.prefix) (take n u.prefix) (drop n u.prefix)
+                v (forest made) (sym (take-append-drop n t.prefix)) (sym (take-append-drop n u.prefix)) f.same made_children root
+                below;
+          })

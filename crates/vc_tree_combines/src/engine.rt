@@ -1,0 +1,201 @@
+//! The one recursion of all combines that build a tree.
+
+ghost use Rattle.std.specs.Prelude.{◌≡◌, ◌+◌, ◌*◌, ◌≤◌, ◌++◌, List, [], Option, None, IfOk, drop, length, map, option_map};
+ghost use Rattle.std.specs.List.{cons_option};
+ghost use Rattle.std.specs.Option.{option_copied};
+ghost use Rattle.vc_tree_model.specs.Tree.{forest, shortened};
+ghost use Rattle.vc_tree_model.specs.Map.{lookup};
+ghost use Rattle.vc_tree_model.specs.Canonical.{AreChildren};
+ghost use Rattle.vc_tree_model.specs.Child.{solid_child, value_at as node_value};
+ghost use Rattle.vc_tree_model.specs.Shortened.{weight};
+ghost use Rattle.vc_tree_nodes.specs.Children.{seen};
+ghost use Rattle.vc_tree_nodes.specs.Parting.{Agree};
+ghost use Rattle.vc_tree_combines.specs.Made.{IsMade, IsBothMade};
+
+use crate::facing::{Facing, face};
+use crate::sides::Side;
+use std::alloc::{AllocError, Global};
+use vc_merge::merge::Count;
+use vc_tree_nodes::building::Build;
+use vc_tree_nodes::making::{new_joined, new_node};
+use vc_tree_nodes::reading::{RadixNode, TKey, TValue};
+
+/// What a combine makes of values, and of trees that one side alone has.
+pub trait Combine<K: TKey, V: TValue, W: TValue, A: RadixNode<K, V>, B: RadixNode<K, W>> {
+    /// The flavour that is made.
+    type Made: Build<K, V>;
+
+    /// What the combine says of the values that the left tree, the right tree and the result bind to a key.
+    ghost says: { Self → Option V → Option W → Option V → Type 0 };
+
+    /// What it needs in order to be asked of the values that both trees bind to a key.
+    ghost asks: { Self → Option V → Option W → Type 0 };
+
+    /// How many trees the events can leave, at most.
+    fn expected(&self, sides: &[Side]) -> usize;
+
+    /// The value of a key to which the trees bind these.
+    fn at_values(&self, v: Option<&V>, w: Option<&W>) -> Result<Option<V>, AllocError>
+        requires { asks self.now (option_copied v) (option_copied w) }
+        ensures { IfOk result (says self.now (option_copied v.entry) (option_copied w.entry)) };
+
+    /// What is left of a tree that the left side alone has, without the first `from` components of its prefix.
+    fn left_alone(&self, alloc: Global, tree: &A, from: usize) -> Result<Option<Self::Made>, AllocError>
+        requires within { from ≤ length (A.tree tree.now).prefix }
+        requires asks { (k : List K) → asks self.now (lookup K.cmp (shortened from (A.tree tree.now)) k) None }
+        ensures { IfOk result (λ made. IsMade K.cmp (λ v z. says self.now v None z) (shortened from (A.tree tree.now))
+            (option_map Self.Made.tree made)) };
+
+    /// What is left of a tree that the right side alone has, without the first `from` components of its prefix.
+    fn right_alone(&self, alloc: Global, tree: &B, from: usize) -> Result<Option<Self::Made>, AllocError>
+        requires within { from ≤ length (B.tree tree.now).prefix }
+        requires asks { (k : List K) → asks self.now None (lookup K.cmp (shortened from (B.tree tree.now)) k) }
+        ensures { IfOk result (λ made. IsMade K.cmp (λ w z. says self.now None w z) (shortened from (B.tree tree.now))
+            (option_map Self.Made.tree made)) };
+
+    ghost says_none: { (op : Self) → says op None None None };
+
+    ghost asks_none: { (op : Self) → asks op None None };
+}
+
+/// The node of these parts as a child: `None` where it binds no key, and joined with its only child where it has no value.
+pub fn finish<K: TKey, V: TValue, M: Build<K, V>>(
+    alloc: Global,
+    prefix: &[K],
+    value: Option<V>,
+    mut kids: Vec<M>,
+) -> Result<Option<M>, AllocError>
+    requires { AreChildren K.cmp (seen M.tree kids.items) }
+    ensures { IfOk result (λ made. option_map M.tree made ≡ solid_child prefix.now value (seen M.tree kids.items)) }
+{
+    if value.is_none() && kids.len() < 2 {
+        return match kids.pop() {
+            Some(kid) => Ok(Some(new_joined(alloc, prefix, kid)?)),
+            None => Ok(None),
+        };
+    }
+    Ok(Some(new_node(alloc, prefix, value, kids)?))
+}
+
+/// Adds a tree, if there is one.
+fn keep<K: TKey, V: TValue, M: Build<K, V>>(kids: &mut Vec<M>, kid: Option<M>) -> Result<(), AllocError>
+    ensures { IfOk result (λ _.
+        map M.tree kids.new.items ≡ map M.tree kids.old.items ++ cons_option (option_map M.tree kid) []) }
+{
+    if let Some(kid) = kid {
+        kids.push(kid)?;
+    }
+    Ok(())
+}
+
+/// The value of the node that stands behind a front of what is left of a prefix.
+fn value_at<K: TKey, V: TValue, T: RadixNode<K, V>>(
+    tree: &T,
+    from: usize,
+    front: usize,
+) -> Option<&V>
+    requires from { from ≤ length (T.tree tree.now).prefix }
+    requires front { front ≤ length (drop from (T.tree tree.now).prefix) }
+    ensures { option_copied result
+        ≡ node_value (shortened from (T.tree tree.now)) (drop front (drop from (T.tree tree.now).prefix)) }
+{
+    if front == tree.prefix()[from..].len() {
+        tree.value()
+    } else {
+        None
+    }
+}
+
+/// What the combine makes of the values of the nodes that stand behind equal fronts of two prefixes.
+fn combine_values<
+    K: TKey,
+    V: TValue,
+    W: TValue,
+    A: RadixNode<K, V>,
+    B: RadixNode<K, W>,
+    O: Combine<K, V, W, A, B>,
+>(
+    a: &A,
+    i: usize,
+    b: &B,
+    j: usize,
+    front: usize,
+    op: &O,
+) -> Result<Option<V>, AllocError>
+    requires left { i ≤ length (A.tree a.now).prefix }
+    requires right { j ≤ length (B.tree b.now).prefix }
+    requires left_front { front ≤ length (drop i (A.tree a.now).prefix) }
+    requires right_front { front ≤ length (drop j (B.tree b.now).prefix) }
+    requires asks { O.asks op.now
+        (node_value (shortened i (A.tree a.now)) (drop front (drop i (A.tree a.now).prefix)))
+        (node_value (shortened j (B.tree b.now)) (drop front (drop j (B.tree b.now).prefix))) }
+    ensures { IfOk result (O.says op.now
+        (node_value (shortened i (A.tree a.now)) (drop front (drop i (A.tree a.now).prefix)))
+        (node_value (shortened j (B.tree b.now)) (drop front (drop j (B.tree b.now).prefix)))) }
+{
+    op.at_values(value_at(a, i, front), value_at(b, j, front))
+}
+
+/// The combine of two trees, each without the front of its prefix: `None` where no key is left. The first `known` components that are
+/// left of either prefix are known to agree.
+pub fn combine_at<
+    K: TKey,
+    V: TValue,
+    W: TValue,
+    A: RadixNode<K, V>,
+    B: RadixNode<K, W>,
+    O: Combine<K, V, W, A, B>,
+    C: Count,
+>(
+    alloc: Global,
+    a: &A,
+    i: usize,
+    b: &B,
+    j: usize,
+    known: usize,
+    op: &O,
+    steps: &mut C,
+) -> Result<Option<O::Made>, AllocError>
+    requires left { i ≤ length (A.tree a.now).prefix }
+    requires right { j ≤ length (B.tree b.now).prefix }
+    requires known { Agree K.cmp (drop i (A.tree a.now).prefix) (drop j (B.tree b.now).prefix) known }
+    requires asks { (k : List K) → O.asks op.now (lookup K.cmp (shortened i (A.tree a.now)) k)
+        (lookup K.cmp (shortened j (B.tree b.now)) k) }
+    ensures made { IfOk result (λ made. IsBothMade K.cmp (O.says op.now) (shortened i (A.tree a.now))
+        (shortened j (B.tree b.now)) (option_map O.Made.tree made)) }
+    ensures counted { C.counted steps.new + 2
+        ≤ C.counted steps.old + 3 * (weight (shortened i (A.tree a.now)) + weight (shortened j (B.tree b.now))) }
+{
+    // The law of trees, that they are canonical, comes with the prefix.
+    let prefix = &a.prefix()[i..];
+    let _ = b.prefix();
+    let Facing {
+        front,
+        mut left,
+        mut right,
+        sides,
+    } = face(alloc, a, i, b, j, known, steps)?;
+    let mut kids = Vec::with_capacity(alloc, op.expected(sides.as_slice()))?;
+    let mut todo = sides.as_slice();
+    while let Some((side, others)) = todo.split_first() {
+        match side {
+            Side::Left => {
+                let kid = op.left_alone(alloc, left.next(), left.from)?;
+                keep(&mut kids, kid)?;
+            }
+            Side::Right => {
+                let kid = op.right_alone(alloc, right.next(), right.from)?;
+                keep(&mut kids, kid)?;
+            }
+            Side::Both => {
+                let (x, y) = (left.next(), right.next());
+                let kid = combine_at(alloc, x, left.from, y, right.from, 1, op, steps)?;
+                keep(&mut kids, kid)?;
+            }
+        }
+        todo = others;
+    }
+    let value = combine_values(a, i, b, j, front, op)?;
+    let made = finish(alloc, &prefix[..front], value, kids)?;
+    Ok(made)
+}
