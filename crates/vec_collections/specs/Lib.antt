@@ -22,7 +22,6 @@ pub use Rattle.vc_tree_model.specs.Binds
 pub use Rattle.vc_tree_model.specs.Canonical
 pub use Rattle.vc_tree_model.specs.Conditions
 pub use Rattle.vc_tree_model.specs.Equal
-pub use Rattle.vc_tree_nodes.specs.Children
 pub use Rattle.vc_tree_model.specs.Key
 pub use Rattle.vc_tree_model.specs.Laws as TreeLaws
 pub use Rattle.vc_tree_model.specs.Map
