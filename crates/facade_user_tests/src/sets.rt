@@ -14,7 +14,6 @@ use std::collections::BTreeSet;
 use std::hash::{Hash, Hasher};
 use std::marker::Model;
 use vec_collections::iterators::ascends;
-use vec_collections::laws::tests_are_of_operations;
 use vec_collections::merge::Steps;
 use vec_collections::{
     AbstractVecSet, SetOp, SetTest, VecSet, VecSet2, difference, intersection,
@@ -163,14 +162,6 @@ pub fn standing_counted(a: &Tags, b: &Tags, steps: &mut Steps) -> Standing
         is_subset: a.test_counted(b, SetTest::Subset, steps),
         is_superset: a.test_counted(b, SetTest::Superset, steps),
     }
-}
-
-/// Whether an article has all tags that are asked for, by what is left of them: a law ties the difference to the test.
-pub fn has_all(tags: &Tags, asked: &Tags) -> Result<bool, AllocError>
-    ensures { IfOk result (λ has_all. IsTrue has_all ↔ ((tag : ℕ) → IsTrue (has asked.now tag) → IsTrue (has tags.now tag))) }
-{
-    tests_are_of_operations::<u32>();
-    Ok(asked.difference(tags)?.is_empty())
 }
 
 /// Puts one tag in the place of another, and says whether the other one was there.

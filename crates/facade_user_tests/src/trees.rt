@@ -1,9 +1,9 @@
 //! Radix trees from outside: each call at both flavours, generic code, and a tree of this crate's own with children.
-ghost use Rattle.std.specs.Prelude.{◌≡◌, ◌<◌, [], ◌∷◌, Some, None, length, IfOk, OnOk};
+ghost use Rattle.std.specs.Prelude.{◌≡◌, ◌<◌, [], ◌∷◌, Some, None, IfOk, OnOk};
 ghost use Rattle.std.specs.Ordering.{nat_cmp};
 ghost use Rattle.std.specs.Option.{option_copied};
 ghost use Rattle.vec_collections.specs.Map.{lookup, or_else, IsInserted};
-ghost use Rattle.vec_collections.specs.Tree.{made, no_tree, is_bare, trees};
+ghost use Rattle.vec_collections.specs.Tree.{made, no_tree};
 
 use std::alloc::{AllocError, Global};
 use std::marker::Model;
@@ -68,21 +68,6 @@ pub fn one_port(alloc: Global, server: &[u8], port: u32) -> Result<Ports, AllocE
     ensures { IfOk result (λ ports. ports ≡ made server.now (Some port) []) }
 {
     Ports::single(alloc, server, port)
-}
-
-/// What all names of servers begin with, how many parts follow, the port of that name itself, and whether there is no port.
-pub fn root_of(ports: &Ports) -> (usize, usize, Option<u32>, bool)
-    ensures prefix { result.0 ≡ length ports.now.prefix }
-    ensures parts { result.1 ≡ length (trees ports.now.children) }
-    ensures value { result.2 ≡ ports.now.value }
-    ensures none { result.3 ≡ is_bare ports.now }
-{
-    (
-        ports.prefix().len(),
-        ports.children().len(),
-        ports.value().copied(),
-        ports.is_empty(),
-    )
 }
 
 /// The value of the key in the first of two trees of any kind that binds it.

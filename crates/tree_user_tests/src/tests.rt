@@ -145,90 +145,40 @@ fn a_tree_of_another_crate_is_read_without_its_allocator(rt: HostRuntime) -> Res
     Ok(())
 }
 
-/// A letter whose case does not count, and which counts where it has a counter how often it is compared.
+/// A letter whose case does not count.
 #[derive(Clone, Copy)]
-struct Letter<'a> {
+#[derive_where(Debug, PartialEq, Eq, PartialOrd, Ord)]
+struct Letter {
     place: u8,
+    #[derive_where(skip)]
     is_capital: bool,
-    count: Option<&'a Cell<u32>>,
 }
 
-impl Default for Letter<'_> {
-    fn default() -> Self {
+impl Default for Letter {
+    fn default() -> Letter {
         Letter {
             place: 0,
             is_capital: false,
-            count: None,
         }
     }
 }
 
-impl fmt::Debug for Letter<'_> {
-    fn fmt<W: fmt::Write>(&self, f: &mut fmt::Formatter<W>) -> fmt::Result {
-        let place = self.place;
-        write!(f, "{place}")
-    }
-}
-
-impl PartialEq for Letter<'_> {
-    ghost eq = { on (λ l. l.place) nat_eq };
-
-    ghost laws = { Prim.search (comparing, rules) };
-
-    fn eq(&self, other: &Self) -> bool {
-        self.place == other.place
-    }
-}
-
-impl Eq for Letter<'_> {
-    ghost laws = { Prim.search (comparing, rules) };
-}
-
-impl PartialOrd for Letter<'_> {
-    ghost partial_cmp = { as_partial_cmp (on (λ l. l.place) nat_cmp) };
-
-    ghost laws = { partial_order_from_own_ties (Prim.search (comparing, rules)) (Prim.search (comparing, rules)) };
-
-    fn partial_cmp(&self, other: &Self) -> Option<Ordering> {
-        Some(self.cmp(other))
-    }
-}
-
-impl Ord for Letter<'_> {
-    ghost cmp = { on (λ l. l.place) nat_cmp };
-
-    ghost total = { Prim.search (comparing, rules) };
-
-    ghost matches_partial_cmp = { λ x y. refl };
-
-    ghost matches_eq = { Prim.search (comparing, rules) };
-
-    fn cmp(&self, other: &Self) -> Ordering {
-        if let Some(count) = self.count {
-            count.set(count.get().saturating_add(1));
-        }
-        self.place.cmp(&other.place)
-    }
-}
-
-const fn small<'a>(place: u8) -> Letter<'a> {
+const fn small(place: u8) -> Letter {
     Letter {
         place,
         is_capital: false,
-        count: None,
     }
 }
 
-const fn capital<'a>(place: u8) -> Letter<'a> {
+const fn capital(place: u8) -> Letter {
     Letter {
         place,
         is_capital: true,
-        count: None,
     }
 }
 
 /// Components that are equal but spelled differently lead to one value.
-fn finds_each_spelling<'a, T: AbstractRadixTreeMut<Letter<'a>, u32>>(
+fn finds_each_spelling<T: AbstractRadixTreeMut<Letter, u32>>(
     alloc: Global,
 ) -> Result<bool, AllocError> {
     let mut tree = T::single(alloc, &[small(1), small(2)], 1)?;
@@ -251,18 +201,81 @@ fn components_are_compared_by_their_order(rt: HostRuntime) -> Result<(), Fail> {
     Ok(())
 }
 
+/// A letter that counts, where it has a counter, how often it is compared.
+#[derive(Clone, Copy)]
+struct Compared<'a> {
+    place: u8,
+    count: Option<&'a Cell<u32>>,
+}
+
+impl Default for Compared<'_> {
+    fn default() -> Self {
+        Compared {
+            place: 0,
+            count: None,
+        }
+    }
+}
+
+impl fmt::Debug for Compared<'_> {
+    fn fmt<W: fmt::Write>(&self, f: &mut fmt::Formatter<W>) -> fmt::Result {
+        let place = self.place;
+        write!(f, "{place}")
+    }
+}
+
+impl PartialEq for Compared<'_> {
+    ghost eq = { on (λ l. l.place) nat_eq };
+
+    ghost laws = { Prim.search (comparing, rules) };
+
+    fn eq(&self, other: &Self) -> bool {
+        self.place == other.place
+    }
+}
+
+impl Eq for Compared<'_> {
+    ghost laws = { Prim.search (comparing, rules) };
+}
+
+impl PartialOrd for Compared<'_> {
+    ghost partial_cmp = { as_partial_cmp (on (λ l. l.place) nat_cmp) };
+
+    ghost laws = { partial_order_from_own_ties (Prim.search (comparing, rules)) (Prim.search (comparing, rules)) };
+
+    fn partial_cmp(&self, other: &Self) -> Option<Ordering> {
+        Some(self.cmp(other))
+    }
+}
+
+impl Ord for Compared<'_> {
+    ghost cmp = { on (λ l. l.place) nat_cmp };
+
+    ghost total = { Prim.search (comparing, rules) };
+
+    ghost matches_partial_cmp = { λ x y. refl };
+
+    ghost matches_eq = { Prim.search (comparing, rules) };
+
+    fn cmp(&self, other: &Self) -> Ordering {
+        if let Some(count) = self.count {
+            count.set(count.get().saturating_add(1));
+        }
+        self.place.cmp(&other.place)
+    }
+}
+
 /// How many letters the longest key of the next tree has.
 const LETTERS: usize = 6;
 
 /// How often letters are compared where a key of six letters is looked up and bound in a tree that binds the keys of two and of four
 /// of these letters too, one below the other.
-fn comparisons<'a, T: AbstractRadixTreeMut<Letter<'a>, u32>>(
+fn comparisons<'a, T: AbstractRadixTreeMut<Compared<'a>, u32>>(
     alloc: Global,
     count: &'a Cell<u32>,
 ) -> Result<(u32, u32), AllocError> {
-    let key = [Letter {
+    let key = [Compared {
         place: 1,
-        is_capital: false,
         count: Some(count),
     }; LETTERS];
     let mut tree = T::single(alloc, &key, 6)?;
@@ -280,11 +293,11 @@ fn comparisons<'a, T: AbstractRadixTreeMut<Letter<'a>, u32>>(
 fn each_component_is_compared_once(rt: HostRuntime) -> Result<(), Fail> {
     let count = Cell::new(0);
     assert_eq!(rt;
-        comparisons::<RadixTree<Letter, u32>>(rt.alloc(), &count)?,
+        comparisons::<RadixTree<Compared, u32>>(rt.alloc(), &count)?,
         (6, 6)
     );
     assert_eq!(rt;
-        comparisons::<ArcRadixTree<Letter, u32>>(rt.alloc(), &count)?,
+        comparisons::<ArcRadixTree<Compared, u32>>(rt.alloc(), &count)?,
         (6, 6)
     );
     Ok(())

@@ -9,15 +9,19 @@ pub use Rattle.vc_merge.specs.Yielded
 pub use Rattle.vc_sets.specs.Algebra
 pub use Rattle.vc_sets.specs.Iterating
 pub use Rattle.vc_sets.specs.Laws as SetLaws
+pub use Rattle.vc_sets.specs.Retaining
 pub use Rattle.vc_sets.specs.SetOf
 pub use Rattle.vc_sets.specs.Tests
 pub use Rattle.vc_sets.specs.declared.vec_set.algebra.SetOp
 pub use Rattle.vc_sets.specs.declared.vec_set.algebra.SetTest
+pub use Rattle.vc_total_sets.specs.Laws as TotalLaws
+pub use Rattle.vc_total_sets.specs.TotalOf
+pub use Rattle.vc_total_sets.specs.TotalSet
+pub use Rattle.vc_total_sets.specs.TotalTests
 pub use Rattle.vc_tree_model.specs.Binds
 pub use Rattle.vc_tree_model.specs.Canonical
 pub use Rattle.vc_tree_model.specs.Conditions
 pub use Rattle.vc_tree_model.specs.Equal
-pub use Rattle.vc_tree_nodes.specs.Children
 pub use Rattle.vc_tree_model.specs.Key
 pub use Rattle.vc_tree_model.specs.Laws as TreeLaws
 pub use Rattle.vc_tree_model.specs.Map
@@ -30,15 +34,3 @@ pub use Rattle.vc_tree_model.specs.TreeCode
 pub use Rattle.vc_tree_model.specs.Value
 pub use Rattle.vc_tree_model.specs.Walk
 pub use Rattle.vc_tree_nodes.specs.Children
-pub use Rattle.vc_total_sets.specs.Laws as TotalLaws
-pub use Rattle.vc_total_sets.specs.TotalOf
-pub use Rattle.vc_total_sets.specs.TotalSet
-pub use Rattle.vc_total_sets.specs.TotalTests
-pub use Rattle.vc_trees.specs.Canonical
-pub use Rattle.vc_trees.specs.Children
-pub use Rattle.vc_trees.specs.Key
-pub use Rattle.vc_trees.specs.Map
-pub use Rattle.vc_trees.specs.Same
-pub use Rattle.vc_trees.specs.Snapshot
-pub use Rattle.vc_trees.specs.Tree
-pub use Rattle.vc_trees.specs.Value
