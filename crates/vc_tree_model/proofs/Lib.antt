@@ -14,3 +14,4 @@ pub mod UnderLemmas
 pub mod Covering
 pub mod Running
 pub mod PrefixExamples
+pub mod CoverNodes

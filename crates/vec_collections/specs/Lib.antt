@@ -18,3 +18,9 @@ pub use Rattle.vc_tree_model.specs.Same
 pub use Rattle.vc_tree_model.specs.Snapshot
 pub use Rattle.vc_tree_model.specs.Tree
 pub use Rattle.vc_tree_model.specs.Value
+pub use Rattle.vc_tree_model.specs.Under
+pub use Rattle.vc_tree_model.specs.Walk
+pub use Rattle.vc_tree_walks.specs.IterLeft
+pub use Rattle.vc_tree_walks.specs.Left
+pub use Rattle.vc_tree_walks.specs.OwnedLeft
+pub use Rattle.vc_tree_walks.specs.ValuesLeft
