@@ -20,3 +20,4 @@ pub mod UnderLemmas
 pub mod Covering
 pub mod Running
 pub mod PrefixExamples
+pub mod CoverNodes

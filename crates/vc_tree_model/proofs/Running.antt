@@ -1,14 +1,46 @@
 -- The machine's steps and runs are functions of maps, up to values that match.
+--     all_removed, all_retained        removal and retention that admit each key, as the machine does
 --     run_is_function        from equal maps a list of commands, accepted alike, leads to equal maps
-use Rattle.std.proofs.Common.{[], ◌∷◌, List, Option, None, Some, Bool, true, false, cond}
+use Rattle.std.proofs.Common.{◌≡◌, [], ◌∷◌, List, Option, None, Some, Bool, true, false, cond, not, subst}
 use Rattle.std.specs.Option.{option_and, option_and_then}
 use Rattle.std.specs.declared.cmp.Ordering.{Ordering}
 use Rattle.vc_tree_model.specs.Key.{same_key, behind}
 use Rattle.vc_tree_model.specs.Value.{IsKept}
 use Rattle.vc_tree_model.specs.Map.{or_else, lookup, IsEqualMap}
-use Rattle.vc_tree_model.specs.Cover.{cover}
+use Rattle.vc_tree_model.specs.Cover.{cover, IsSifted, StaysOrGoes, IsRemoved, IsRetained}
 use Rattle.vc_tree_model.specs.Machine.{Command, insert, prepend, filter, union, intersection, difference, remove_prefix, retain_prefix, unless_some, after, refused, Step, Run}
 use Rattle.vc_tree_model.specs.PrefixLaws.{IsEquivalence, RunIsFunction}
+
+-- nothing is kept as nothing
+gone : {V : Type 0} (keeps : V → V → Type 0) (z : Option V) → z ≡ None → IsKept keeps None z
+gone keeps None e = tt
+gone keeps (Some v) e = cc
+
+module _ {V W : Type 0} (keeps : V → V → Type 0) where
+  -- at one key, removal
+  removed_at : (c : Option W) (v z : Option V) → IsSifted keeps (λ w b. b ≡ true) not c v z
+      → IsKept keeps (unless_some c v) z
+  removed_at None None z h = gone keeps z h
+  removed_at (Some w) None z h = gone keeps z h
+  removed_at None (Some v) z h = subst (λ b. StaysOrGoes keeps (not b) v z) h.1 h.2
+  removed_at (Some w) (Some v) z h = gone keeps z (subst (λ b. StaysOrGoes keeps (not b) v z) h.1 h.2)
+
+  -- and retention
+  retained_at : (c : Option W) (v z : Option V) → IsSifted keeps (λ w b. b ≡ true) (λ b. b) c v z
+      → IsKept keeps (option_and c v) z
+  retained_at None None z h = gone keeps z h
+  retained_at (Some w) None z h = gone keeps z h
+  retained_at None (Some v) z h = gone keeps z (subst (λ b. StaysOrGoes keeps b v z) h.1 h.2)
+  retained_at (Some w) (Some v) z h = subst (λ b. StaysOrGoes keeps b v z) h.1 h.2
+
+  module _ {K : Type 0} (q : List K → Option W) (f g : List K → Option V) where
+    -- removal that admits each key leaves the pairs of the keys without a cover
+    pub all_removed : IsRemoved keeps (λ w b. b ≡ true) q f g → IsEqualMap keeps (λ k. unless_some (cover q k) (f k)) g
+    all_removed r k = removed_at (cover q k) (f k) (g k) (r k)
+
+    -- and retention those of the keys with one
+    pub all_retained : IsRetained keeps (λ w b. b ≡ true) q f g → IsEqualMap keeps (λ k. option_and (cover q k) (f k)) g
+    all_retained r k = retained_at (cover q k) (f k) (g k) (r k)
 
 module _ {K V : Type 0} (cmp : K → K → Ordering) (matches : V → V → Type 0) (e : IsEquivalence matches) where
   -- an optional value matches itself

@@ -1,8 +1,9 @@
 -- Maps by a prefix of their keys, and their walks.
 --     is_walk-equal        a walk of a map is one of each map with the same values
 --     walk_under, walk_prefixed        the walk of the pairs under a prefix, and with a prefix before their keys
+--     lookup-prepended        what a tree with a prefix before its own binds
 --     lists_equal_map        a walk lists what an equal map binds
-use Rattle.std.proofs.Common.{◌≡◌, [], ◌∷◌, List, Option, None, Some, map, refl, sym, ap, ◌∙◌, true, false, Bool, is_some, subst, inl, inr, ◌⊎◌, cond, true≢false}
+use Rattle.std.proofs.Common.{◌≡◌, [], ◌∷◌, ◌++◌, List, Option, None, Some, map, refl, sym, ap, ◌∙◌, true, false, Bool, is_some, subst, inl, inr, ◌⊎◌, cond, true≢false}
 use Rattle.std.specs.List.{filter}
 use Rattle.std.specs.Option.{option_and, option_and_then}
 use Rattle.std.specs.declared.cmp.Ordering.{Ordering}
@@ -12,11 +13,12 @@ use Rattle.std.specs.Map.{keys_of}
 use Rattle.std.proofs.lemmas.List.Kept.{IsStrictlySortedBy-filter}
 use Rattle.vc_tree_model.specs.Key.{same_key, behind}
 use Rattle.vc_tree_model.specs.Value.{IsKept}
-use Rattle.vc_tree_model.specs.Map.{IsEqualMap}
+use Rattle.vc_tree_model.specs.Tree.{Tree, node}
+use Rattle.vc_tree_model.specs.Map.{lookup, lookup_in, node_lookup, IsEqualMap}
 use Rattle.vc_tree_model.specs.Walk.{IsWalk, Lists, prepended}
 use Rattle.vc_tree_model.specs.Under.{under, prefixed}
 use Rattle.vc_tree_model.specs.PrefixLaws.{ListsEqualMap}
-use Rattle.vc_tree_model.proofs.KeyLemmas.{none_some, behind_of_same, behind_joins, left_behind}
+use Rattle.vc_tree_model.proofs.KeyLemmas.{none_some, behind-append, then_behind, behind_of_same, behind_joins, left_behind}
 use Rattle.vc_tree_model.proofs.Walking.{Ascend, ascend_prepended, lists_prepended}
 
 module _ {K : Type 0} (cmp : K → K → Ordering) (o : IsTotalOrder cmp) where
@@ -148,6 +150,20 @@ module _ {K V : Type 0} (cmp : K → K → Ordering) where
             lists_prepended cmp o p l g.0 k v (behind_joins cmp o p k g.0 g.1) ((w.lists g.0 v).1 g.2),
       );
     }
+
+  -- a look-up behind a second prefix
+  looked_behind : (q : List K) (v : Option V) (f : List K → Option V) (a : Option (List K))
+      → node_lookup v f (then_behind cmp q a) ≡ option_and_then (λ r. node_lookup v f (behind cmp q r)) a
+  looked_behind q v f None = refl
+  looked_behind q v f (Some r) = refl
+
+  -- a tree with a prefix before its own binds its keys with the prefix before them
+  pub lookup-prepended : (p : List K) (t : Tree K V) (k : List K)
+      → lookup cmp (node (p ++ t.prefix) t.value t.children) k ≡ prefixed cmp (lookup cmp t) p k
+  lookup-prepended p t k =
+      let at = node_lookup t.value (lookup_in cmp t.children) in
+      ap at (behind-append cmp p t.prefix k)
+      ∙ looked_behind t.prefix t.value (lookup_in cmp t.children) (behind cmp p k)
 
   module _ (matches : V → V → Type 0) where
     -- what an equal map binds at a key of a value

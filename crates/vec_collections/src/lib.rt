@@ -36,7 +36,8 @@ pub mod total_vec_set {
 /// Canonical radix trees: finite maps from keys, which are lists of components, to values.
 pub mod radix_tree {
     pub use vc_trees::radix_tree::{
-        AbstractRadixTree, AbstractRadixTreeMut, ArcRadixTree, RadixNode, RadixTree, TKey, TValue,
+        AbstractRadixTree, AbstractRadixTreeMut, ArcRadixTree, Iter, IterKey, ObjAndIter,
+        RadixNode, RadixTree, TKey, TValue, Values,
     };
 }
 
