@@ -24,15 +24,19 @@ pub trait Question<K, V, W, X> {
 }
 
 /// A closure that is asked as that of an outer join.
+#[derive(Drop)]
 pub struct AskOuter<'f, F>(pub &'f F);
 
 /// A closure that is asked as that of a left join.
+#[derive(Drop)]
 pub struct AskLeft<'f, F>(pub &'f F);
 
 /// A closure that is asked as that of a right join.
+#[derive(Drop)]
 pub struct AskRight<'f, F>(pub &'f F);
 
 /// A closure that is asked as that of an inner join.
+#[derive(Drop)]
 pub struct AskInner<'f, F>(pub &'f F);
 
 impl<'f, K, V, W, X, F: Fn(OuterJoinArg<&K, &V, &W>) -> Result<Option<X>, AllocError>> Question<
