@@ -8,13 +8,16 @@ ghost use Rattle.vc_merge.specs.Showing.{ShowsItems};
 mod comparisons;
 mod conversions;
 mod iteration;
+mod joins;
 
+pub use joins::{inner_join, left_join, outer_join, right_join};
 use smallvec::SmallVec;
 use std::alloc::{AllocError, Allocator, Global};
 use std::default::MadeWith;
 use std::marker::Model;
-use std::slice;
+use std::{mem, slice};
 use vc_merge::iterators::{VecMapIter, vec_map_iter_of};
+use vc_merge::search::find_key;
 
 /// A map, as a list of its pairs in ascending order of their keys. Up to `N` of them stand in place, without an allocation.
 ///
@@ -80,6 +83,35 @@ where
             pairs: SmallVec::new(alloc),
         }
     }
+
+    /// Binds a key to a value. A known key is replaced together with its value, which is handed back.
+    ///
+    /// Searches by halving, and moves the pairs behind a new one. It takes memory only for a new key, where `N` or more pairs are
+    /// held; refused, it leaves the map as it was and drops the key and the value.
+    pub fn insert(&mut self, key: K, value: V) -> Result<Option<V>, AllocError>
+        ensures old { IfOk result (λ old. old ≡ value_at K.cmp self.old key) }
+        ensures values { IfOk result (λ _. (k : K) → value_at K.cmp self.new k ≡ cond (eq_by_cmp K.cmp k key) (Some value) (value_at K.cmp self.old k)) }
+        ensures entries { IfOk result (λ _. (k : K) → entry_at K.cmp self.new k ≡ cond (eq_by_cmp K.cmp k key) (Some (key, value)) (entry_at K.cmp self.old k)) }
+
+        // It succeeds on a known key, and where fewer than `N` pairs are held.
+        ensures known { IsSome (value_at K.cmp self.old key) → IsOk result }
+        ensures room { length self.old < N → IsOk result }
+        ensures err { OnErr result (self.new ≡ self.old) }
+    {
+        // At least `N`, on which the success of an insert into a short map rests.
+        let _capacity = self.pairs.capacity();
+        match find_key(self.pairs.as_slice(), &key) {
+            Ok(place) => {
+                let known = &mut self.pairs.as_mut_slice()[place];
+                let (_, old) = mem::replace(known, (key, value));
+                Ok(Some(old))
+            }
+            Err(place) => {
+                self.pairs.insert(place, (key, value))?;
+                Ok(None)
+            }
+        }
+    }
 }
 
 /// A map whose pairs can be read as one list that ascends by key.
@@ -98,6 +130,19 @@ pub trait AbstractVecMap<K: Ord, V> {
         ensures { IsTrue result ↔ (pairs self.now ≡ []) }
     {
         self.as_slice().is_empty()
+    }
+
+    /// The value at a key that is equal to `key`. Searches by halving, and takes no memory.
+    fn get<'a>(&'a self, key: &K) -> Option<&'a V>
+    where
+        K: 'a,
+        ensures { option_copied result ≡ value_at K.cmp (pairs self.now) key.now }
+    {
+        let pairs = self.as_slice();
+        match find_key(pairs, key) {
+            Ok(place) => Some(&pairs[place].1),
+            Err(_) => None,
+        }
     }
 
     /// The pairs in ascending order of their keys, by reference. Takes no memory.

@@ -12,7 +12,8 @@ use std::fmt;
 use std::hash::{Hash, Hasher};
 
 /// As a map, in ascending order of the keys: `{1: 'a', 2: 'b'}`.
-impl<K: Ord + fmt::Debug, V: fmt::Debug, const N: usize, A: Allocator> fmt::Debug for VecMap<K, V, N, A> {
+impl<K: Ord + fmt::Debug, V: fmt::Debug, const N: usize, A: Allocator> fmt::Debug
+    for VecMap<K, V, N, A> {
     fn fmt<W: fmt::Write>(&self, f: &mut fmt::Formatter<W>) -> fmt::Result {
         let mut map = f.debug_map();
         for (key, value) in self.as_ref() {

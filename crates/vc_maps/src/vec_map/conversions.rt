@@ -86,7 +86,8 @@ impl<K: Ord, V, const N: usize, A: Allocator> From<VecMap<K, V, N, A>> for Small
 }
 
 /// The set of the pairs. Takes no memory.
-impl<K: Ord, V: Ord, const N: usize, A: Allocator> From<VecMap<K, V, N, A>> for VecSet<(K, V), N, A> {
+impl<K: Ord, V: Ord, const N: usize, A: Allocator> From<VecMap<K, V, N, A>>
+    for VecSet<(K, V), N, A> {
     ghost from_gives = { λ m s. s ≡ m };
 
     fn from(map: VecMap<K, V, N, A>) -> VecSet<(K, V), N, A> {

@@ -32,7 +32,8 @@ impl<'a, K: Ord, V, const N: usize, A: Allocator> IntoIterator for &'a VecMap<K,
 }
 
 /// The pairs in ascending order of their keys, by value. Takes no memory. What is not taken is dropped with the iterator.
-impl<K: Ord + Drop, V: Drop, const N: usize, A: Allocator + Copy> IntoIterator for VecMap<K, V, N, A>
+impl<K: Ord + Drop, V: Drop, const N: usize, A: Allocator + Copy> IntoIterator
+    for VecMap<K, V, N, A>
 where
     (K, V): MadeWith<A>,
 {
