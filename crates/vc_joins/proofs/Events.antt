@@ -1,23 +1,24 @@
 -- What is built by answers to the events of two maps is their join.
 use Rattle.std.proofs.Common.{◌≡◌, Bool, true, false, cond, List, [], ◌∷◌, ◌++◌, Option, Some, None, refl, sym, ap, ◌∙◌, subst}
 use Rattle.std.specs.BTreeMap.{is_at}
-use Rattle.std.specs.Cmp.{IsTotalOrder, Equal-is, alike_right}
+use Rattle.std.specs.Cmp.{IsTotalOrder, Equal-is, alike_right, tied_itself}
 use Rattle.std.specs.List.{AllByRecursion, cons_option}
 use Rattle.std.specs.List.Sorted.{IsStrictlySortedBy}
 use Rattle.std.specs.Map.{keys_of}
 use Rattle.std.specs.Option.{MatchOption, option_to_list}
-use Rattle.std.specs.Ordering.{is_eq}
+use Rattle.std.specs.Ordering.{is_eq, ordering_reverse}
 use Rattle.std.specs.declared.cmp.Ordering.{Ordering}
 use Rattle.std.specs.declared.cmp.Ordering.TheVariants.{Less, Equal}
 use Rattle.vc_merge.specs.Ascending.{Ascends}
-use Rattle.vc_merge.specs.Script.{Event, left_alone, right_alone, collision, lefts, rights, place, IsMatched}
+use Rattle.vc_merge.specs.Script.{Event, left_alone, right_alone, collision, lefts, rights, place, IsMatched, IsScript}
+use Rattle.vc_merge.proofs.Lists.{each-weaker}
 use Rattle.vc_merge.specs.Gathering.{Gathers, IsBuilt}
 use Rattle.vc_joins.specs.declared.question.OuterJoinArg.{OuterJoinArg}
 use Rattle.vc_joins.specs.declared.question.JoinKind.{JoinKind}
 use Rattle.vc_joins.specs.Entries.{AscendsByKey, entry_at}
 use Rattle.vc_joins.specs.Events.{by_key, event_key, question_of, AnswersEvent}
 use Rattle.vc_joins.specs.Question.{asks, asked, if_asked, shown_key}
-use Rattle.vc_joins.specs.Join.{IsAnswered, IsJoin}
+use Rattle.vc_joins.specs.Join.{IsAnswered, IsAsked, IsJoin}
 
 -- the key of a pair, where there is one, is equal to x
 abbrev pub IsAtKey : {K X : Type 0} → (K → K → Ordering) → K → Option (K × X) → Type 0
@@ -126,6 +127,38 @@ module _ {K : Type 0} {cmp : K → K → Ordering} (total : IsTotalOrder cmp) wh
       asked-elsewhere k (left_alone p) es i m = ap (λ o. asked kind spelled o (entry_at cmp (rights es) k)) (entry-later k p (lefts es) i)
       asked-elsewhere k (right_alone q) es i m = ap (λ o. asked kind spelled (entry_at cmp (lefts es) k) o) (entry-later k q (rights es) i)
       asked-elsewhere k (collision p q) es i m = ap (λ o. asked kind spelled o (entry_at cmp (q ∷ rights es) k)) (entry-later k p (lefts es) i) ∙ ap (λ o. asked kind spelled (entry_at cmp (lefts es) k) o) (entry-later k q (rights es) (at-alike k p.0 q.0 m ∙ i))
+
+      -- ---- what is asked at the events
+
+      AsksAt : List (Event (K × V) (K × W)) → Event (K × V) (K × W) → Type 0
+      AsksAt es e = asked kind spelled (entry_at cmp (lefts es) (event_key e)) (entry_at cmp (rights es) (event_key e)) ≡ if_asked kind (question_of spelled e)
+
+      asked-later : (d : Event (K × V) (K × W)) (es : List (Event (K × V) (K × W))) → IsMatched (by_key cmp) d → (later : List (Event (K × V) (K × W))) → AllByRecursion (λ e. cmp (event_key d) (event_key e) ≡ Less) later → AllByRecursion (AsksAt es) later → AllByRecursion (AsksAt (d ∷ es)) later
+      unfolding AsksAt
+      asked-later d es m [] p h = tt
+      asked-later d es m (e ∷ later) p h =
+          let greater = total.antisymm (event_key e) (event_key d) ∙ ap ordering_reverse p.0 in
+          (asked-elsewhere (event_key e) d es (ap is_eq greater) m ∙ h.0, asked-later d es m later p.1 h.1)
+
+      -- at the key of each event its question is asked
+      all-asked : (es : List (Event (K × V) (K × W))) → Ascends (λ d e. by_key cmp (place d) (place e)) es → AllByRecursion (IsMatched (by_key cmp)) es → AllByRecursion (AsksAt es) es
+      unfolding AsksAt IsStrictlySortedBy
+      all-asked [] s m = tt
+      all-asked (e ∷ es) s m = (asked-here (event_key e) e es (ap is_eq (tied_itself total (event_key e))) s.0 m, asked-later e es m.0 es s.0 (all-asked es s.1 m.1))
+
+      -- what holds of each question that is asked of two maps holds of that of each event that the join asks at
+      pub events-asked : (P : OuterJoinArg K V W → Type 0) (xs : List (K × V)) (ys : List (K × W)) (es : List (Event (K × V) (K × W))) → IsScript (by_key cmp) xs ys es → ((a : OuterJoinArg K V W) → IsAsked cmp kind spelled xs ys a → P a)
+          → AllByRecursion (λ e. asks kind (question_of spelled e) ≡ true → P (question_of spelled e)) es
+      unfolding AsksAt
+      events-asked P xs ys es s h =
+          let at : (e : Event (K × V) (K × W)) → asked kind spelled (entry_at cmp (lefts es) (event_key e)) (entry_at cmp (rights es) (event_key e)) ≡ if_asked kind (question_of spelled e) → asks kind (question_of spelled e) ≡ true → P (question_of spelled e) =
+          λ e is q. h (question_of spelled e) (record {
+            key = event_key e;
+            asks = ap (λ l. asked kind spelled (entry_at cmp l (event_key e)) (entry_at cmp ys (event_key e))) (sym s.left)
+                ∙ ap (λ l. asked kind spelled (entry_at cmp (lefts es) (event_key e)) (entry_at cmp l (event_key e))) (sym s.right)
+                ∙ is ∙ ap (λ b. cond b (Some (question_of spelled e)) None) q;
+          }) in
+          each-weaker (λ e. asked kind spelled (entry_at cmp (lefts es) (event_key e)) (entry_at cmp (rights es) (event_key e)) ≡ if_asked kind (question_of spelled e)) (λ e. asks kind (question_of spelled e) ≡ true → P (question_of spelled e)) at es (all-asked es s.ascends s.matched)
 
       -- ---- all events
 

@@ -35,7 +35,12 @@ module _ {K V W : Type 0} where
   question_of spelled (right_alone q) = Right q.0 q.1
   question_of spelled (collision p q) = Both (spelled p.0 q.0) p.1 q.1
 
+  module _ {X : Type 0} (May : OuterJoinArg K V W → Option X → Type 0) (Keeps : OuterJoinArg K V W → K → Type 0) where
+    -- a possible answer to what is asked adds a pair to the join, or nothing
+    abbrev pub AnswerAdds : Option (OuterJoinArg K V W) → List (K × X) → Type 0
+    AnswerAdds asked added = (found : Option (K × X)) × IsAnswered May Keeps asked found × (added ≡ option_to_list found)
+
   module _ {X : Type 0} (kind : JoinKind) (spelled : K → K → K) (May : OuterJoinArg K V W → Option X → Type 0) (Keeps : OuterJoinArg K V W → K → Type 0) where
-    -- an event adds a pair to the join, or nothing, by a possible answer to its question
+    -- an event adds what answers its question, where the join asks it, and else nothing
     abbrev pub AnswersEvent : Event (K × V) (K × W) → List (K × X) → Type 0
-    AnswersEvent e added = (found : Option (K × X)) × IsAnswered May Keeps (if_asked kind (question_of spelled e)) found × (added ≡ option_to_list found)
+    AnswersEvent e added = AnswerAdds May Keeps (if_asked kind (question_of spelled e)) added

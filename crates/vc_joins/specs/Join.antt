@@ -5,7 +5,8 @@ use Rattle.std.specs.declared.cmp.Ordering.{Ordering}
 use Rattle.vc_joins.specs.declared.question.OuterJoinArg.{OuterJoinArg}
 use Rattle.vc_joins.specs.declared.question.JoinKind.{JoinKind}
 use Rattle.vc_joins.specs.Entries.{AscendsByKey, entry_at, value_at}
-use Rattle.vc_joins.specs.Question.{asked}
+use Rattle.vc_joins.specs.declared.question.OuterJoinArg.TheVariants.{Left, Right, Both}
+use Rattle.vc_joins.specs.Question.{asked, shown_key}
 
 -- `May a r`: the closure may answer r to the question a. `Keeps a k`: the answer to a may stand under the key k
 module _ {K V W X : Type 0} (May : OuterJoinArg K V W → Option X → Type 0) (Keeps : OuterJoinArg K V W → K → Type 0) where
@@ -36,3 +37,20 @@ module _ {K V W : Type 0} (cmp : K → K → Ordering) (kind : JoinKind) (spelle
     IsJoinBy h zs =
         ((a : OuterJoinArg K V W) (r : Option X) → IsAsked a → May a r → r ≡ h a)
         → (k : K) → value_at cmp zs k ≡ option_and_then h (asked_at k)
+
+-- ---- the keys of a join
+
+module _ {K V W : Type 0} where
+  -- a key comes in as a clone of the one that was shown
+  abbrev pub ClonedKey : (K → K → Type 0) → OuterJoinArg K V W → K → Type 0
+  ClonedKey is_clone a k = is_clone (shown_key a) k
+
+  -- a key of the left map stays, and one of the right map alone comes in as a clone
+  abbrev pub OldKey : (K → K → Type 0) → OuterJoinArg K V W → K → Type 0
+  OldKey is_clone (Left j v) k = k ≡ j
+  OldKey is_clone (Right j w) k = is_clone j k
+  OldKey is_clone (Both j v w) k = k ≡ j
+
+  -- a key is the one that was shown, itself
+  abbrev pub MovedKey : OuterJoinArg K V W → K → Type 0
+  MovedKey a k = k ≡ shown_key a

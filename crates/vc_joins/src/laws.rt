@@ -2,7 +2,7 @@
 //!
 //! Each function does nothing: its contract is the law. Code that calls one has the law in its proof.
 ghost use Rattle.vc_joins.specs.Laws.{KindsInWords, JoinsOfFunctions, JoinsOfEvents};
-ghost use Rattle.vc_joins.specs.Question.{shown_key};
+ghost use Rattle.vc_joins.specs.Join.{ClonedKey};
 
 use crate::answers::Question;
 
@@ -15,10 +15,10 @@ pub fn kinds_are_as_named<K: Ord, V, W>()
 /// Where a closure gives one answer to each question that a join asks, the join is settled: it binds each key to the answer
 /// to what is asked there.
 pub fn joins_of_functions<K: Ord + Clone, V, W, X, Q: Question<K, V, W, X>>()
-    ensures { (q : Q) → JoinsOfFunctions K V W K.cmp (λ a r. Q.may q a (Ok r)) (λ a. K.is_clone (shown_key a)) }
+    ensures { (q : Q) → JoinsOfFunctions K V W K.cmp (λ a r. Q.may q a (Ok r)) (ClonedKey K.is_clone) }
 {}
 
 /// What a merge of two maps builds, each event by a possible answer to its question, is their join.
 pub fn joins_of_events<K: Ord + Clone, V, W, X, Q: Question<K, V, W, X>>()
-    ensures { (q : Q) → JoinsOfEvents K V W K.cmp (λ a r. Q.may q a (Ok r)) (λ a. K.is_clone (shown_key a)) }
+    ensures { (q : Q) → JoinsOfEvents K V W K.cmp (λ a r. Q.may q a (Ok r)) (ClonedKey K.is_clone) }
 {}

@@ -1,0 +1,41 @@
+-- What is asked of two maps: each question is one that the kind of the join asks, and may be asked where its parts may.
+use Rattle.std.proofs.Common.{◌≡◌, Bool, true, false, cond, List, Option, Some, None, refl, sym, subst}
+use Rattle.std.specs.declared.cmp.Ordering.{Ordering}
+use Rattle.vc_joins.specs.declared.question.OuterJoinArg.{OuterJoinArg}
+use Rattle.vc_joins.specs.declared.question.OuterJoinArg.TheVariants.{Left, Right, Both}
+use Rattle.vc_joins.specs.declared.question.JoinKind.{JoinKind}
+use Rattle.vc_joins.specs.Entries.{entry_at}
+use Rattle.vc_joins.specs.Join.{IsAsked, IsJoin, IsJoinBy}
+use Rattle.vc_joins.specs.Question.{asks, asks_left, asks_right, asked, left_spelling}
+use Rattle.vc_joins.proofs.Functions.{joins_of_functions}
+
+some_if : {A : Type 0} (P : A → Bool) (x y : A) (b : Bool) → P x ≡ b → cond b (Some x) None ≡ Some y → P y ≡ true
+some_if P x y true e h = let same : x ≡ y = cc in subst (λ z. P z ≡ true) same e
+some_if P x y false e h = let none : None ≡ Some y = h in cc
+
+module _ {K V W : Type 0} (cmp : K → K → Ordering) (kind : JoinKind) where
+  asked-asks : (p : Option (K × V)) (q : Option (K × W)) (a : OuterJoinArg K V W) → asked kind left_spelling p q ≡ Some a → asks kind a ≡ true
+  asked-asks (Some p) (Some q) a e = some_if (asks kind) (Both p.0 p.1 q.1) a true refl e
+  asked-asks (Some p) None a e = some_if (asks kind) (Left p.0 p.1) a (asks_left kind) refl e
+  asked-asks None (Some q) a e = some_if (asks kind) (Right q.0 q.1) a (asks_right kind) refl e
+  asked-asks None None a e = let none : None ≡ Some a = e in cc
+
+  -- what is asked of two maps, read through slices of these
+  pub asked-of : (xs xs' : List (K × V)) (ys ys' : List (K × W)) (a : OuterJoinArg K V W) → xs' ≡ xs → ys' ≡ ys → IsAsked cmp kind left_spelling xs' ys' a → IsAsked cmp kind left_spelling xs ys a
+  asked-of xs xs' ys ys' a e f h = subst (λ l. IsAsked cmp kind left_spelling l ys a) e (subst (λ l. IsAsked cmp kind left_spelling xs' l a) f h)
+
+  -- a question that is asked is one that the kind asks
+  pub asked-kind : {xs : List (K × V)} {ys : List (K × W)} (a : OuterJoinArg K V W) → IsAsked cmp kind left_spelling xs ys a → asks kind a ≡ true
+  asked-kind {xs} {ys} a h = asked-asks (entry_at cmp xs h.key) (entry_at cmp ys h.key) a h.asks
+
+  -- the same question, in parts that make it
+  pub asked-as : {xs : List (K × V)} {ys : List (K × W)} (a b : OuterJoinArg K V W) → b ≡ a → IsAsked cmp kind left_spelling xs ys a → IsAsked cmp kind left_spelling xs ys b
+  asked-as {xs} {ys} a b e h = subst (λ c. IsAsked cmp kind left_spelling xs ys c) (sym e) h
+
+  module _ {X : Type 0} (May : OuterJoinArg K V W → Option X → Type 0) (Keeps : OuterJoinArg K V W → K → Type 0) where
+    -- a join of the lists behind two slices
+    pub join-of : (xs xs' : List (K × V)) (ys ys' : List (K × W)) (zs : List (K × X)) → xs' ≡ xs → ys' ≡ ys → IsJoin cmp kind left_spelling xs' ys' May Keeps zs → IsJoin cmp kind left_spelling xs ys May Keeps zs
+    join-of xs xs' ys ys' zs e f h = subst (λ l. IsJoin cmp kind left_spelling l ys May Keeps zs) e (subst (λ l. IsJoin cmp kind left_spelling xs' l May Keeps zs) f h)
+
+    pub join_by-of : (xs xs' : List (K × V)) (ys ys' : List (K × W)) (zs : List (K × X)) → xs' ≡ xs → ys' ≡ ys → IsJoin cmp kind left_spelling xs' ys' May Keeps zs → (h : OuterJoinArg K V W → Option X) → IsJoinBy cmp kind left_spelling xs ys May h zs
+    join_by-of xs xs' ys ys' zs e f h = joins_of_functions cmp May Keeps kind left_spelling xs ys zs (join-of xs xs' ys ys' zs e f h)

@@ -1,0 +1,5 @@
+pub mod Asked
+pub mod Asking
+pub mod Editing
+pub mod Joined
+pub mod PairSets

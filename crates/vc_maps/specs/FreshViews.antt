@@ -1,0 +1,27 @@
+-- What a contract sees of a `FreshState`.
+use Rattle.std.specs.Prelude.{List}
+use Rattle.std.specs.Borrow.{MutBor}
+use Rattle.smallvec.specs.SmallVec.{SmallVec}
+use base.Fml.{GName}
+use Rattle.vc_maps.specs.declared.fresh.FreshState.{FreshState}
+
+module _ {K V W S : Type 0} where
+  -- the list that is appended to, as it was lent
+  abbrev pub lent_list : FreshState K V W S → MutBor S
+  lent_list s = s.built
+
+  -- the pairs that are left of the left map
+  abbrev pub left_pairs : FreshState K V W S → List (K × V)
+  left_pairs s = s.a.now
+
+  -- the pairs that are left of the right map
+  abbrev pub right_pairs : FreshState K V W S → List (K × W)
+  right_pairs s = s.b.now
+
+  -- which list is appended to
+  abbrev pub list_name : FreshState K V W S → GName
+  list_name s = s.built.ghost_name
+
+-- what the list holds by now
+abbrev pub appended_pairs : {K V W X : Type 0} → FreshState K V W (SmallVec (K × X)) → List (K × X)
+appended_pairs s = s.built.now.items

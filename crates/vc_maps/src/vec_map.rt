@@ -1,0 +1,162 @@
+//! `VecMap`, a small map as a list of pairs that ascends by key.
+ghost use Rattle.std.specs.Prelude.{◌≡◌, ◌<◌, ◌↔◌, [], List, cond, Some, IsSome, length, IfOk, IsOk, OnErr, IsTrue};
+ghost use Rattle.std.specs.Option.{option_copied};
+ghost use Rattle.std.specs.Ordering.{eq_by_cmp};
+ghost use Rattle.vc_joins.specs.Entries.{AscendsByKey, entry_at, value_at};
+ghost use Rattle.vc_merge.specs.Showing.{ShowsItems};
+
+mod comparisons;
+mod conversions;
+mod iteration;
+mod joins;
+
+pub use joins::{inner_join, left_join, outer_join, right_join};
+use smallvec::SmallVec;
+use std::alloc::{AllocError, Allocator, Global};
+use std::default::MadeWith;
+use std::marker::Model;
+use std::{mem, slice};
+use vc_merge::iterators::{VecMapIter, vec_map_iter_of};
+use vc_merge::search::find_key;
+
+/// A map, as a list of its pairs in ascending order of their keys. Up to `N` of them stand in place, without an allocation.
+///
+/// Contracts see it as that list.
+///
+/// ```
+/// let mut ports: VecMap<u16, bool, 4> = VecMap::single(alloc, (80, true))?;
+/// assert!(ports.insert(22, false)?.is_none());
+/// assert!(ports.as_ref() == [(22, false), (80, true)].as_slice());
+/// ```
+#[derive(Drop)]
+pub struct VecMap<K: Ord, V, const N: usize, A: Allocator = Global> {
+    pairs: SmallVec<(K, V), N, A>,
+}
+
+/// A map with room for one pair in place.
+pub type VecMap1<K, V> = VecMap<K, V, 1>;
+
+impl<K: Ord, V, const N: usize, A: Allocator> Model for VecMap<K, V, N, A> {
+    ghost use Rattle.std.specs.Prelude.{List};
+    ghost use Rattle.vc_joins.specs.Entries.{AscendsByKey};
+
+    ghost Value = { List (K × V) };
+
+    ghost view = { λ m. m.pairs.items };
+
+    ghost invariant = { λ m. AscendsByKey K.cmp m.pairs.items };
+}
+
+impl<K: Ord, V, const N: usize, A: Allocator> VecMap<K, V, N, A> {
+    /// The number of pairs. Takes no memory.
+    pub fn len(&self) -> usize
+        ensures { result ≡ length self.now }
+    {
+        self.pairs.len()
+    }
+
+    /// Whether there is no pair. Takes no memory.
+    pub fn is_empty(&self) -> bool
+        ensures { IsTrue result ↔ (self.now ≡ []) }
+    {
+        self.pairs.is_empty()
+    }
+
+    /// The pairs in ascending order of their keys. Takes no memory.
+    pub fn as_ref(&self) -> &[(K, V)]
+        ensures pairs { result.now ≡ self.now }
+        ensures ascends { AscendsByKey K.cmp self.now }
+    {
+        self.pairs.as_slice()
+    }
+}
+
+impl<K: Ord + Drop, V: Drop, const N: usize, A: Allocator + Copy> VecMap<K, V, N, A>
+where
+    (K, V): MadeWith<A>,
+{
+    /// The map with no pair. Takes no memory.
+    pub fn empty(alloc: A) -> Self
+        ensures { result ≡ [] }
+    {
+        VecMap {
+            pairs: SmallVec::new(alloc),
+        }
+    }
+
+    /// Binds a key to a value. A known key is replaced together with its value, which is handed back.
+    ///
+    /// Searches by halving, and moves the pairs behind a new one. It takes memory only for a new key, where `N` or more pairs are
+    /// held; refused, it leaves the map as it was and drops the key and the value.
+    pub fn insert(&mut self, key: K, value: V) -> Result<Option<V>, AllocError>
+        ensures old { IfOk result (λ old. old ≡ value_at K.cmp self.old key) }
+        ensures values { IfOk result (λ _. (k : K) → value_at K.cmp self.new k ≡ cond (eq_by_cmp K.cmp k key) (Some value) (value_at K.cmp self.old k)) }
+        ensures entries { IfOk result (λ _. (k : K) → entry_at K.cmp self.new k ≡ cond (eq_by_cmp K.cmp k key) (Some (key, value)) (entry_at K.cmp self.old k)) }
+
+        // It succeeds on a known key, and where fewer than `N` pairs are held.
+        ensures known { IsSome (value_at K.cmp self.old key) → IsOk result }
+        ensures room { length self.old < N → IsOk result }
+        ensures err { OnErr result (self.new ≡ self.old) }
+    {
+        // At least `N`, on which the success of an insert into a short map rests.
+        let _capacity = self.pairs.capacity();
+        match find_key(self.pairs.as_slice(), &key) {
+            Ok(place) => {
+                let known = &mut self.pairs.as_mut_slice()[place];
+                let (_, old) = mem::replace(known, (key, value));
+                Ok(Some(old))
+            }
+            Err(place) => {
+                self.pairs.insert(place, (key, value))?;
+                Ok(None)
+            }
+        }
+    }
+}
+
+/// A map whose pairs can be read as one list that ascends by key.
+///
+/// An implementation writes `as_slice` alone, and the pairs that it shows.
+pub trait AbstractVecMap<K: Ord, V> {
+    ghost pairs: { Self → List (K × V) };
+
+    /// The pairs in ascending order of their keys. Takes no memory.
+    fn as_slice(&self) -> &[(K, V)]
+        ensures pairs { result.now ≡ pairs self.now }
+        ensures ascends { AscendsByKey K.cmp (pairs self.now) };
+
+    /// Whether there is no pair. Takes no memory.
+    fn is_empty(&self) -> bool
+        ensures { IsTrue result ↔ (pairs self.now ≡ []) }
+    {
+        self.as_slice().is_empty()
+    }
+
+    /// The value at a key that is equal to `key`. Searches by halving, and takes no memory.
+    fn get<'a>(&'a self, key: &K) -> Option<&'a V>
+    where
+        K: 'a,
+        ensures { option_copied result ≡ value_at K.cmp (pairs self.now) key.now }
+    {
+        let pairs = self.as_slice();
+        match find_key(pairs, key) {
+            Ok(place) => Some(&pairs[place].1),
+            Err(_) => None,
+        }
+    }
+
+    /// The pairs in ascending order of their keys, by reference. Takes no memory.
+    fn iter(&self) -> VecMapIter<slice::Iter<'_, (K, V)>>
+        ensures { ShowsItems (pairs self.now) result }
+    {
+        vec_map_iter_of(self.as_slice())
+    }
+}
+
+impl<K: Ord, V, const N: usize, A: Allocator> AbstractVecMap<K, V> for VecMap<K, V, N, A> {
+    ghost pairs = { λ m. m };
+
+    fn as_slice(&self) -> &[(K, V)] {
+        self.as_ref()
+    }
+}

@@ -1,0 +1,96 @@
+//! Maps from pairs and lists, and lists from maps.
+ghost use Rattle.std.specs.Prelude.{◌≡◌, ◌≤◌, [], ◌∷◌, IsOk, IfOk};
+ghost use Rattle.std.specs.Iterator.{Drains, IsFinite};
+ghost use Rattle.std.specs.Iterator.Runs.{WholeRun};
+ghost use Rattle.vc_joins.specs.Entries.{AscendsByKey};
+
+use super::VecMap;
+use smallvec::SmallVec;
+use std::alloc::{AllocError, Allocator};
+use std::collections::BTreeMap;
+use std::default::MadeWith;
+use vc_merge::iterators::SortedByKey;
+use vc_sets::vec_set::VecSet;
+use vc_sets::vec_set::conversions::set_of_list;
+
+impl<K: Ord, V, const N: usize, A: Allocator> VecMap<K, V, N, A> {
+    /// The pairs in ascending order of their keys, as the list that holds them. Takes no memory.
+    pub fn into_inner(self) -> SmallVec<(K, V), N, A>
+        ensures pairs { result.items ≡ self }
+        ensures ascends { AscendsByKey K.cmp self }
+    {
+        self.pairs
+    }
+}
+
+impl<K: Ord + Drop, V: Drop, const N: usize, A: Allocator + Copy> VecMap<K, V, N, A>
+where
+    (K, V): MadeWith<A>,
+{
+    /// The map of one pair. Takes memory only where `N` is 0; refused, it drops the pair.
+    pub fn single(alloc: A, item: (K, V)) -> Result<Self, AllocError>
+        ensures pair { IfOk result (λ m. m ≡ item ∷ []) }
+        ensures room { 1 ≤ N → IsOk result }
+    {
+        let mut pairs = SmallVec::new(alloc);
+        pairs.push(item)?;
+        Ok(VecMap { pairs })
+    }
+
+    /// The map of a list whose keys ascend strictly, as [`ascends_by_key`](vc_merge::iterators::ascends_by_key) tells. The pairs
+    /// are moved.
+    ///
+    /// Takes memory where there are more than `N`; refused, it drops the pairs.
+    pub fn from_vec(alloc: A, vec: Vec<(K, V)>) -> Result<Self, AllocError>
+        requires { AscendsByKey K.cmp vec.items }
+        ensures { IfOk result (λ m. m ≡ vec.items) }
+    {
+        let pairs = vec.into_iter().collect(alloc)?;
+        Ok(VecMap { pairs })
+    }
+
+    /// The map of the items of an iterator whose keys ascend strictly and which ends. The items are moved.
+    ///
+    /// Takes memory where there are more than `N`; refused, it drops the items that came and the iterator.
+    pub fn from_iter<I: Iterator<Item = (K, V)> + SortedByKey<K, V>>(
+        alloc: A,
+        iter: I,
+    ) -> Result<Self, AllocError>
+        requires can { I.can_next iter }
+        requires ends { IsFinite (I.remaining iter) }
+        requires sorted { I.is_sorted_by_key iter }
+        ensures items { IfOk result (λ m. Drains I.next_gives iter m) }
+        ensures runs { IfOk result (λ m. WholeRun I.next_gives iter (λ p. m ≡ p.items)) }
+    {
+        let pairs = iter.collect(alloc)?;
+        Ok(VecMap { pairs })
+    }
+
+    /// The map with the pairs of a `BTreeMap`, which are moved.
+    ///
+    /// Takes memory where there are more than `N`; refused, it drops the pairs.
+    pub fn from_btree_map(alloc: A, map: BTreeMap<K, V>) -> Result<Self, AllocError>
+        ensures { IfOk result (λ m. m ≡ map.entries) }
+    {
+        Self::from_iter(alloc, map.into_iter())
+    }
+}
+
+/// The pairs in ascending order of their keys. Takes no memory.
+impl<K: Ord, V, const N: usize, A: Allocator> From<VecMap<K, V, N, A>> for SmallVec<(K, V), N, A> {
+    ghost from_gives = { λ m list. list.items ≡ m };
+
+    fn from(map: VecMap<K, V, N, A>) -> SmallVec<(K, V), N, A> {
+        map.into_inner()
+    }
+}
+
+/// The set of the pairs. Takes no memory.
+impl<K: Ord, V: Ord, const N: usize, A: Allocator> From<VecMap<K, V, N, A>>
+    for VecSet<(K, V), N, A> {
+    ghost from_gives = { λ m s. s ≡ m };
+
+    fn from(map: VecMap<K, V, N, A>) -> VecSet<(K, V), N, A> {
+        set_of_list(map.into_inner())
+    }
+}

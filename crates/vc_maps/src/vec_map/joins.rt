@@ -1,0 +1,160 @@
+//! Joins of two maps that build a fresh one.
+ghost use Rattle.std.specs.Prelude.{◌+◌, ◌≤◌, Ok, length, IfOk};
+ghost use Rattle.vc_joins.specs.Answers.{seen, seen_left, seen_right, seen_inner, MayAnswer, MayAnswerLeft, MayAnswerRight, MayAnswerInner};
+ghost use Rattle.vc_joins.specs.Join.{ClonedKey, IsAsked, IsJoin, IsJoinBy};
+ghost use Rattle.vc_joins.specs.Question.{left_spelling};
+ghost use Rattle.vc_merge.specs.Count.{bound};
+ghost use Rattle.vc_sets.specs.SetOf.{ClonesAreEqual};
+
+use super::{AbstractVecMap, VecMap};
+use crate::fresh::{join_inner, join_left, join_of_kind, join_outer, join_right};
+use std::alloc::{AllocError, Allocator};
+use std::default::MadeWith;
+use vc_joins::question::{JoinKind, OuterJoinArg};
+use vc_merge::merge::Steps;
+
+/// Asks `f` at each key of either map, and binds the key to the answer, where there is one.
+///
+/// Asks once a key, in ascending order, and shows a key of both maps as the left one has it. A key comes in as a clone of the
+/// one that was shown. Refused where memory, a clone or an answer of `f` is.
+///
+/// ```
+/// let sums: VecMap<u32, u32, 4> = outer_join(alloc, &a, &b, |at: OuterJoinArg<&u32, &u32, &u32>| match at {
+///     OuterJoinArg::Left(_, v) | OuterJoinArg::Right(_, v) => Ok(Some(*v)),
+///     OuterJoinArg::Both(_, v, w) => Ok(v.checked_add(*w)),
+/// })?;
+/// ```
+pub fn outer_join<
+    K: Ord + Clone + Drop,
+    V,
+    W,
+    X: Drop,
+    L: AbstractVecMap<K, V>,
+    M: AbstractVecMap<K, W>,
+    F: Fn(OuterJoinArg<&K, &V, &W>) -> Result<Option<X>, AllocError> + Drop,
+    const N: usize,
+    A: Allocator + Copy,
+>(alloc: A, this: &L, that: &M, f: F) -> Result<VecMap<K, X, N, A>, AllocError>
+where
+    (K, X): MadeWith<A>,
+    requires clones { ClonesAreEqual K.cmp K.is_clone }
+    requires callable { (a : _) → IsAsked K.cmp JoinKind.Outer left_spelling (L.pairs this.now) (M.pairs that.now) (seen a) → F.pre f a }
+    ensures joins { IfOk result (λ c. IsJoin K.cmp JoinKind.Outer left_spelling (L.pairs this.now) (M.pairs that.now) (λ a r. MayAnswer F.Fn f a (Ok r)) (ClonedKey K.is_clone) c) }
+    ensures function { IfOk result (λ c. (h : _) → IsJoinBy K.cmp JoinKind.Outer left_spelling (L.pairs this.now) (M.pairs that.now) (λ a r. MayAnswer F.Fn f a (Ok r)) h c) }
+{
+    let pairs = join_outer(alloc, this.as_slice(), that.as_slice(), &f)?;
+    Ok(VecMap { pairs })
+}
+
+/// Asks `f` at each key of the left map, and binds the key to the answer, where there is one. `f` is shown the value of the right map, where that has the key.
+///
+/// Asks once a key, in ascending order, and shows a key of both maps as the left one has it. A key comes in as a clone of the
+/// one that was shown. Refused where memory, a clone or an answer of `f` is.
+pub fn left_join<
+    K: Ord + Clone + Drop,
+    V,
+    W,
+    X: Drop,
+    L: AbstractVecMap<K, V>,
+    M: AbstractVecMap<K, W>,
+    F: Fn(&K, &V, Option<&W>) -> Result<Option<X>, AllocError> + Drop,
+    const N: usize,
+    A: Allocator + Copy,
+>(alloc: A, this: &L, that: &M, f: F) -> Result<VecMap<K, X, N, A>, AllocError>
+where
+    (K, X): MadeWith<A>,
+    requires clones { ClonesAreEqual K.cmp K.is_clone }
+    requires callable { (k : _) (v : _) (w : _) → IsAsked K.cmp JoinKind.Left left_spelling (L.pairs this.now) (M.pairs that.now) (seen_left k v w) → F.pre f k v w }
+    ensures joins { IfOk result (λ c. IsJoin K.cmp JoinKind.Left left_spelling (L.pairs this.now) (M.pairs that.now) (λ a r. MayAnswerLeft F.Fn f a (Ok r)) (ClonedKey K.is_clone) c) }
+    ensures function { IfOk result (λ c. (h : _) → IsJoinBy K.cmp JoinKind.Left left_spelling (L.pairs this.now) (M.pairs that.now) (λ a r. MayAnswerLeft F.Fn f a (Ok r)) h c) }
+{
+    let pairs = join_left(alloc, this.as_slice(), that.as_slice(), &f)?;
+    Ok(VecMap { pairs })
+}
+
+/// Asks `f` at each key of the right map, and binds the key to the answer, where there is one. `f` is shown the value of the left map, where that has the key.
+///
+/// Asks once a key, in ascending order, and shows a key of both maps as the left one has it. A key comes in as a clone of the
+/// one that was shown. Refused where memory, a clone or an answer of `f` is.
+pub fn right_join<
+    K: Ord + Clone + Drop,
+    V,
+    W,
+    X: Drop,
+    L: AbstractVecMap<K, V>,
+    M: AbstractVecMap<K, W>,
+    F: Fn(&K, Option<&V>, &W) -> Result<Option<X>, AllocError> + Drop,
+    const N: usize,
+    A: Allocator + Copy,
+>(alloc: A, this: &L, that: &M, f: F) -> Result<VecMap<K, X, N, A>, AllocError>
+where
+    (K, X): MadeWith<A>,
+    requires clones { ClonesAreEqual K.cmp K.is_clone }
+    requires callable { (k : _) (v : _) (w : _) → IsAsked K.cmp JoinKind.Right left_spelling (L.pairs this.now) (M.pairs that.now) (seen_right k v w) → F.pre f k v w }
+    ensures joins { IfOk result (λ c. IsJoin K.cmp JoinKind.Right left_spelling (L.pairs this.now) (M.pairs that.now) (λ a r. MayAnswerRight F.Fn f a (Ok r)) (ClonedKey K.is_clone) c) }
+    ensures function { IfOk result (λ c. (h : _) → IsJoinBy K.cmp JoinKind.Right left_spelling (L.pairs this.now) (M.pairs that.now) (λ a r. MayAnswerRight F.Fn f a (Ok r)) h c) }
+{
+    let pairs = join_right(alloc, this.as_slice(), that.as_slice(), &f)?;
+    Ok(VecMap { pairs })
+}
+
+/// Asks `f` at each key of both maps, and binds the key to the answer, where there is one.
+///
+/// Asks once a key, in ascending order, and shows a key of both maps as the left one has it. A key comes in as a clone of the
+/// one that was shown. Refused where memory, a clone or an answer of `f` is.
+pub fn inner_join<
+    K: Ord + Clone + Drop,
+    V,
+    W,
+    X: Drop,
+    L: AbstractVecMap<K, V>,
+    M: AbstractVecMap<K, W>,
+    F: Fn(&K, &V, &W) -> Result<Option<X>, AllocError> + Drop,
+    const N: usize,
+    A: Allocator + Copy,
+>(alloc: A, this: &L, that: &M, f: F) -> Result<VecMap<K, X, N, A>, AllocError>
+where
+    (K, X): MadeWith<A>,
+    requires clones { ClonesAreEqual K.cmp K.is_clone }
+    requires callable { (k : _) (v : _) (w : _) → IsAsked K.cmp JoinKind.Inner left_spelling (L.pairs this.now) (M.pairs that.now) (seen_inner k v w) → F.pre f k v w }
+    ensures joins { IfOk result (λ c. IsJoin K.cmp JoinKind.Inner left_spelling (L.pairs this.now) (M.pairs that.now) (λ a r. MayAnswerInner F.Fn f a (Ok r)) (ClonedKey K.is_clone) c) }
+    ensures function { IfOk result (λ c. (h : _) → IsJoinBy K.cmp JoinKind.Inner left_spelling (L.pairs this.now) (M.pairs that.now) (λ a r. MayAnswerInner F.Fn f a (Ok r)) h c) }
+{
+    let pairs = join_inner(alloc, this.as_slice(), that.as_slice(), &f)?;
+    Ok(VecMap { pairs })
+}
+
+impl<K: Ord + Clone + Drop, V, const N: usize, A: Allocator + Copy> VecMap<K, V, N, A> {
+    /// The join of this kind with another map, as [`outer_join`] makes it, and counts the comparisons. `f` is asked at the keys
+    /// that the kind names alone.
+    ///
+    /// ```
+    /// let mut steps = Steps::new();
+    /// let of_right: VecMap<u32, u32, 2> = a.join_counted(&b, JoinKind::Right, f, &mut steps)?;
+    /// ```
+    pub fn join_counted<
+        W,
+        X: Drop,
+        M: AbstractVecMap<K, W>,
+        F: Fn(OuterJoinArg<&K, &V, &W>) -> Result<Option<X>, AllocError> + Drop,
+        const L: usize,
+    >(
+        &self,
+        that: &M,
+        kind: JoinKind,
+        f: F,
+        steps: &mut Steps,
+    ) -> Result<VecMap<K, X, L, A>, AllocError>
+    where
+        (K, X): MadeWith<A>,
+        requires clones { ClonesAreEqual K.cmp K.is_clone }
+        requires callable { (a : _) → IsAsked K.cmp kind left_spelling self.now (M.pairs that.now) (seen a) → F.pre f a }
+        ensures joins { IfOk result (λ c. IsJoin K.cmp kind left_spelling self.now (M.pairs that.now) (λ a r. MayAnswer F.Fn f a (Ok r)) (ClonedKey K.is_clone) c) }
+        ensures function { IfOk result (λ c. (h : _) → IsJoinBy K.cmp kind left_spelling self.now (M.pairs that.now) (λ a r. MayAnswer F.Fn f a (Ok r)) h c) }
+        ensures counted { steps.new ≤ steps.old + bound (length self.now) (length (M.pairs that.now)) }
+    {
+        let alloc = *self.pairs.allocator();
+        let pairs = join_of_kind(alloc, self.as_ref(), that.as_slice(), kind, &f, steps)?;
+        Ok(VecMap { pairs })
+    }
+}
