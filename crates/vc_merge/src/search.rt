@@ -171,8 +171,9 @@ pub fn search<X, C: Count, S: Sought<X, C>>(
         part = halve(list, part, sought, steps);
     }
     // Written out, since a loop is compiled with a branch on each answer.
-    part = halve_four_times(list, part, sought, steps);
-    part = halve_four_times(list, part, sought, steps);
+    part = halve_to(1 << 12, list, part, sought, steps);
+    part = halve_to(1 << 8, list, part, sought, steps);
+    part = halve_to(1 << 4, list, part, sought, steps);
     part = halve_four_times(list, part, sought, steps);
     if part.found {
         Ok(part.start - 1)
@@ -181,8 +182,8 @@ pub fn search<X, C: Count, S: Sought<X, C>>(
     }
 }
 
-/// From so many elements on a list is halved in a loop first. Twelve halvings leave nothing of a shorter one.
-const LONG: usize = 1 << 12;
+/// From so many elements on a list is halved in a loop first. Sixteen halvings leave nothing of a shorter one.
+const LONG: usize = 1 << 16;
 
 /// The part of a list that is still searched, and whether the element before it is equal.
 #[derive(Clone, Copy)]
@@ -190,6 +191,27 @@ struct Part {
     start: usize,
     len: usize,
     found: bool,
+}
+
+/// Four times [`halve`] where there are `least` elements or more: then fewer are left of less than 16 times as many.
+#[inline(always)]
+fn halve_to<X, C: Count, S: Sought<X, C>>(
+    least: usize,
+    list: &[X],
+    part: Part,
+    sought: &S,
+    steps: &mut C,
+) -> Part
+    requires ordered { IsOrdered (S.side sought.now) list.now }
+    requires searched { IsSearched (S.side sought.now) list.now part.start part.len part.found }
+    ensures searched { IsSearched (S.side sought.now) list.now result.start result.len result.found }
+    ensures shorter { part.len < 16 * least → result.len < least }
+    ensures counted { C.counted steps.new + digits result.len ≤ C.counted steps.old + digits part.len }
+{
+    if part.len < least {
+        return part;
+    }
+    halve_four_times(list, part, sought, steps)
 }
 
 /// Four times [`halve`].
