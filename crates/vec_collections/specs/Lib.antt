@@ -1,5 +1,11 @@
 -- What the public clauses of the exported items cite, and the words of the laws, so that a user names this crate alone.
 pub mod Exact
+-- What the public clauses of the exported items cite, so that a user names this crate alone.
+pub use Rattle.vc_btree_maps.specs.Pairs
+pub use Rattle.vc_joins.specs.Answers
+pub use Rattle.vc_joins.specs.Entries
+pub use Rattle.vc_joins.specs.Join
+pub use Rattle.vc_joins.specs.Question
 pub use Rattle.vc_merge.specs.Ascending
 pub use Rattle.vc_merge.specs.Chain
 pub use Rattle.vc_merge.specs.Count

@@ -1,7 +1,7 @@
 //! Small sorted sets, and radix trees that are always canonical.
 //!
-//! A user names this crate alone: it exports the modules `merge`, `iterators`, `vec_set`, `total_vec_set` and `radix_tree` of the crates
-//! below it, and the items of `vec_set` also at its root.
+//! A user names this crate alone: it exports the modules `merge`, `iterators`, `vec_set`, `total_vec_set`, `btree_map` and `radix_tree` of the
+//! crates below it, and the items of `vec_set` also at its root.
 #![tactic(auto)]
 
 mod example;
@@ -31,6 +31,12 @@ pub mod vec_set {
 /// Sets that are a list, or all that is not in it.
 pub mod total_vec_set {
     pub use vc_total_sets::total_vec_set::{TotalVecSet, TotalVecSet2};
+}
+
+/// Joins of maps that build a `BTreeMap`.
+pub mod btree_map {
+    pub use vc_btree_maps::btree_map::{AbstractBTreeMap, AbstractBTreeMapIter};
+    pub use vc_joins::question::OuterJoinArg;
 }
 
 /// Canonical radix trees: finite maps from keys, which are lists of components, to values.

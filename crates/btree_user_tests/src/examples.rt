@@ -1,0 +1,92 @@
+//! Worked examples of each join that builds a `BTreeMap`, with answers from outside.
+
+use std::alloc::{AllocError, Global};
+use std::collections::BTreeMap;
+use std::test::Fail;
+use vc_btree_maps::btree_map::AbstractBTreeMap;
+use vc_joins::question::OuterJoinArg;
+
+/// A number with a mark that does not count in comparisons.
+#[derive(Clone, Copy)]
+#[derive_where(Debug, PartialEq, Eq, PartialOrd, Ord)]
+struct Marked {
+    number: u32,
+    #[derive_where(skip)]
+    mark: char,
+}
+
+type Map = BTreeMap<Marked, u32>;
+
+/// The map of the numbers to values, each number with the mark.
+fn map_of(alloc: Global, mark: char, pairs: &[(u32, u32)]) -> Result<Map, AllocError> {
+    let mut map = BTreeMap::new(alloc);
+    for (number, value) in pairs {
+        let key = Marked {
+            number: *number,
+            mark,
+        };
+        map.insert(key, *value)?;
+    }
+    Ok(map)
+}
+
+/// Whether the map has these numbers with marks and values, in this order.
+fn is_map(map: &Map, pairs: &[(u32, char, u32)]) -> bool {
+    map.len() == pairs.len()
+        && AbstractBTreeMap::iter(map).zip(pairs).all(|((key, value), pair)| (
+            key.number, key.mark, *value,
+        ) == *pair)
+}
+
+/// The left value, or else the right one.
+fn outer(left: &Map, right: &Map, alloc: Global) -> Result<Map, AllocError> {
+    left.outer_join(alloc, right, |arg: OuterJoinArg<&Marked, &u32, &u32>| {
+        Ok(Some(match arg {
+            OuterJoinArg::Left(_, value) => *value,
+            OuterJoinArg::Right(_, value) => *value,
+            OuterJoinArg::Both(_, value, _) => *value,
+        }))
+    })
+}
+
+/// The left value, where the right map has one.
+fn left_shared(left: &Map, right: &Map, alloc: Global) -> Result<Map, AllocError> {
+    left.left_join(
+        alloc,
+        right,
+        |_: &Marked, value: &u32, other: Option<&u32>| { Ok(other.map(|_| *value)) },
+    )
+}
+
+/// The left value, or else the right one, at the keys of the right map.
+fn right_first(left: &Map, right: &Map, alloc: Global) -> Result<Map, AllocError> {
+    left.right_join(
+        alloc,
+        right,
+        |_: &Marked, value: Option<&u32>, other: &u32| { Ok(Some(*value.unwrap_or(other))) },
+    )
+}
+
+/// The left value, at the keys of both.
+fn inner(left: &Map, right: &Map, alloc: Global) -> Result<Map, AllocError> {
+    left.inner_join(
+        alloc,
+        right,
+        |_: &Marked, value: &u32, _: &u32| Ok(Some(*value)),
+    )
+}
+
+#[test]
+fn joins_build_maps_as_worked_out(rt: HostRuntime) -> Result<(), Fail> {
+    let left = map_of(rt.alloc(), 'a', &[(1, 10), (2, 20)])?;
+    let right = map_of(rt.alloc(), 'b', &[(2, 5), (3, 7)])?;
+    let made = outer(&left, &right, rt.alloc())?;
+    assert!(rt; is_map(&made, &[(1, 'a', 10), (2, 'a', 20), (3, 'b', 7)]));
+    let made = left_shared(&left, &right, rt.alloc())?;
+    assert!(rt; is_map(&made, &[(2, 'a', 20)]));
+    let made = right_first(&left, &right, rt.alloc())?;
+    assert!(rt; is_map(&made, &[(2, 'b', 20), (3, 'b', 7)]));
+    let made = inner(&left, &right, rt.alloc())?;
+    assert!(rt; is_map(&made, &[(2, 'b', 20)]));
+    Ok(())
+}
