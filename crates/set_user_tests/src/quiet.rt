@@ -1,5 +1,4 @@
-//! The calls of sets that take no memory, each with every request refused, those that take some only where it is needed, and how
-//! often `retain` asks.
+//! The calls of sets that take no memory, each with every request refused, and those that take some only where it is needed.
 
 use crate::nth::Nth;
 use std::alloc::{AllocError, Global};
@@ -213,25 +212,6 @@ fn sets_that_fit_together_ask_for_no_memory_and_others_twice_at_most(
             memory.refuse(0);
             assert!(rt; most != 0 || !left.into_inner().spilled(), "{join:?}");
         }
-    }
-    Ok(())
-}
-
-#[test]
-fn retain_asks_once_at_each_element_in_order(rt: HostRuntime) -> Result<(), Fail> {
-    let memory = Nth::new(rt.alloc(), 0);
-    for list in [[1, 2, 3, 4, 5, 6].as_slice(), &[2, 4], &[7], &[]] {
-        let mut set = four(&memory, list)?;
-        let (mut asked, mut last, mut ascending) = (0_usize, 0, true);
-        set.retain(|element| {
-            asked = asked.wrapping_add(1);
-            ascending = ascending && last < *element;
-            last = *element;
-            element % 2 == 1
-        });
-        assert_eq!(rt; asked, list.len());
-        assert!(rt; ascending);
-        assert!(rt; last == list.last().copied().unwrap_or(0));
     }
     Ok(())
 }

@@ -193,8 +193,9 @@ impl<T: Ord + Clone + MadeWith<A>, const N: usize, A: Allocator + Copy> VecSet<T
         difference(*self.elements.allocator(), self, that)
     }
 
-    /// The operation `op` of the two sets, as clones, with its comparisons added to `steps`: at most as many as both sets have elements. Of
-    /// two equal elements the left one is kept.
+    /// The operation `op` of the two sets, as clones, with its comparisons added to `steps`: at most as many as both sets have elements, and
+    /// at most as many for each element of the shorter one as the length of the longer one has binary digits. Of two equal elements the
+    /// left one is kept.
     ///
     /// Refused at a growth or a clone, it drops what it built; the comparisons until then are counted.
     ///
@@ -220,7 +221,8 @@ impl<T: Ord + Clone + MadeWith<A>, const N: usize, A: Allocator + Copy> VecSet<T
 }
 
 impl<T: Ord, const N: usize, A: Allocator> VecSet<T, N, A> {
-    /// The test of the two sets, with its comparisons added to `steps`: at most as many as both sets have elements. Takes no memory.
+    /// The test of the two sets, with its comparisons added to `steps`: at most as many as [`combine_counted`](VecSet::combine_counted) makes.
+    /// Takes no memory.
     pub fn test_counted<S: AbstractVecSet<T>>(
         &self,
         that: &S,

@@ -112,7 +112,7 @@ fn append_clones<T: Clone + MadeWith<A> + Drop, const N: usize, A: Allocator + C
 impl<T: Ord + MadeWith<A> + Drop, const N: usize, A: Allocator + Copy> VecSet<T, N, A> {
     /// Adds the elements of the other set, which are moved. Of two equal elements the left one stays.
     ///
-    /// Refused, it leaves this set as it was and drops the other one: all growths come before the first element is moved.
+    /// It grows at most once, and not where both sets fit together. Refused, it leaves this set as it was and drops the other one.
     pub fn bitor_assign<const M: usize>(&mut self, that: VecSet<T, M, A>) -> Result<(), AllocError>
         ensures union { OnOk result (IsSetOf T.cmp (λ x y. x ≡ y) (λ x y. x ≡ y) ◌||◌ self.old that self.new) }
         ensures err { OnErr result (self.new ≡ self.old) }
@@ -122,7 +122,7 @@ impl<T: Ord + MadeWith<A> + Drop, const N: usize, A: Allocator + Copy> VecSet<T,
 
     /// Keeps what is in exactly one of the sets: drops what is in both, and moves in what is in the other set alone.
     ///
-    /// Refused, it leaves this set as it was and drops the other one: all growths come before the first element is moved.
+    /// It grows at most once, and not where both sets fit together. Refused, it leaves this set as it was and drops the other one.
     pub fn bitxor_assign<const M: usize>(&mut self, that: VecSet<T, M, A>) -> Result<(), AllocError>
         ensures symmetric_difference { OnOk result (IsSetOf T.cmp (λ x y. x ≡ y) (λ x y. x ≡ y) exactly_one self.old that self.new) }
         ensures err { OnErr result (self.new ≡ self.old) }
@@ -132,7 +132,8 @@ impl<T: Ord + MadeWith<A> + Drop, const N: usize, A: Allocator + Copy> VecSet<T,
 
     /// Adds the items of an iterator that ascends strictly and ends, which are moved. Of two equal elements the left one stays.
     ///
-    /// Refused, it leaves the set as it was, and drops the items that came and the iterator.
+    /// The items become a set first, which grows as `from_iter` does; then this one grows at most once. Refused, it leaves the set as it was, and drops
+    /// the items that came and the iterator.
     pub fn extend<I: Iterator<Item = T> + SortedByItem>(
         &mut self,
         iter: I,
@@ -168,7 +169,7 @@ impl<T: Ord + MadeWith<A> + Drop, const N: usize, A: Allocator + Copy> VecSet<T,
 impl<T: Ord + Clone + MadeWith<A> + Drop, const N: usize, A: Allocator + Copy> VecSet<T, N, A> {
     /// Adds what is in the other set, as clones. Of two equal elements the left one stays.
     ///
-    /// Refused, it leaves the set as it was: all growths and clones come before the first element is moved.
+    /// It grows at most once, and not where both sets fit together. Refused there or at a clone, it leaves the set as it was.
     ///
     /// ```
     /// tags.union_with(&more)?;
@@ -184,7 +185,7 @@ impl<T: Ord + Clone + MadeWith<A> + Drop, const N: usize, A: Allocator + Copy> V
 
     /// Keeps what is in exactly one of the sets: drops what is in both, and adds clones of what is in the other set alone.
     ///
-    /// Refused, it leaves the set as it was: all growths and clones come before the first element is moved.
+    /// It grows at most once, and not where both sets fit together. Refused there or at a clone, it leaves the set as it was.
     pub fn xor_with<S: AbstractVecSet<T>>(&mut self, that: &S) -> Result<(), AllocError>
         requires clones { ClonesAreEqual T.cmp T.is_clone }
         ensures symmetric_difference { OnOk result (IsSetOf T.cmp (λ x y. x ≡ y) T.is_clone exactly_one self.old (S.elements that.now) self.new) }
