@@ -1,6 +1,7 @@
 pub mod BlockSteps
 pub mod BuilderTakes
 pub mod Chains
+pub mod Digits
 pub mod Extending
 pub mod Lists
 pub mod PlacesLaid
@@ -8,6 +9,7 @@ pub mod PlacesMemory
 pub mod PlacesShared
 pub mod Runs
 pub mod Scripts
+pub mod Searching
 pub mod WalkNames
 pub mod MovesDownLemmas
 pub mod ClonesLemmas

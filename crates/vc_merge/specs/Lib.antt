@@ -6,6 +6,7 @@ pub mod BuilderLends
 pub mod Building
 pub mod Chain
 pub mod Count
+pub mod Place
 pub mod Places
 pub mod PlacesLend
 pub mod PlacesOwned

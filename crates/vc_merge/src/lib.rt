@@ -8,4 +8,5 @@ mod linear;
 pub mod merge;
 pub mod moved;
 pub mod moving;
+pub mod search;
 pub mod states;

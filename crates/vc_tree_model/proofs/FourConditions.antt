@@ -1,5 +1,5 @@
 -- The form from node to children says what the conditions on all nodes say.
---     ordered_meets, meets_ordered        the two conditions on prefixes
+--     meets_ordered        the two conditions on prefixes
 --     canonical_meets, meets_canonical        all four
 --     canonical_conditions        both ways
 use Rattle.std.proofs.Common.{◌≡◌, ◌≢◌, ℕ, suc, ◌<◌, [], ◌∷◌, List, length, get_or, Option, None, Some, refl, sym, ap, ◌∙◌, subst, true, true≢false, inl, inr, ◌↔◌, suc-le-suc, not-suc-le-zero, arith}
@@ -148,10 +148,6 @@ module _ {K V : Type 0} where
     ordered_ascending t a n (inl e) =
         ordered_ascend n.children (on_node (λ p v f. AreOrdered cmp f) n t.prefix t.value t.children e a)
     ordered_ascending t a n (inr b) = ordered_ascend n.children (below_ordered t.children a n b)
-
-    -- so both conditions are met
-    pub ordered_meets : (t : Tree K V) → AreOrdered cmp t.children → IsOrdered cmp t
-    ordered_meets t a = record { prefixes = ordered_prefixes t a; ascending = ordered_ascending t a }
 
     -- where both are met, children are in order
     pub meets_ordered : (t : Tree K V) → IsOrdered cmp t → AreOrdered cmp t.children

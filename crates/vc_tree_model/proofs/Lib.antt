@@ -3,9 +3,11 @@ pub mod ValueLemmas
 pub mod LookupLemmas
 pub mod Uniqueness
 pub mod Binding
+pub mod Collecting
 pub mod Mending
 pub mod AlikeLemmas
 pub mod FourConditions
+pub mod SameTests
 pub mod Shortening
 pub mod Smallness
 pub mod Walking

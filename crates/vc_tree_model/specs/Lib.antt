@@ -4,9 +4,11 @@ pub mod Tree
 pub mod TreeCode
 pub mod Map
 pub mod Binds
+pub mod Pairs
 pub mod Canonical
 pub mod Conditions
 pub mod Same
+pub mod Equal
 pub mod OneTree
 pub mod Walk
 pub mod Laws

@@ -1,8 +1,7 @@
 -- The events of an insertion: what each makes of a node.
 --     on_ok, on_err, on_both        what follows from the outcome of a call
---     Inserted cmp keeps t key value p u        u is t with the key bound to the value, and has the prefix p
 --     value_set, child_added, child_grown, top_made, pair_made, leaf_made        the events
---     parts_alike, parts_canonical        a node whose children stayed alike
+--     parts_canonical        a node whose children stayed alike
 --     leads_.., list_updated, list_grown, list_alike        the child that the key leads to, and the list once it is changed
 --     empty_kept, length_kept, one_put, two_put, top_from, low_from        lists that were lent or copied
 use Rattle.std.proofs.Common.{◌≡◌, ℕ, zero, suc, ◌<◌, ◌≤◌, [], ◌∷◌, ◌++◌, List, Option, None, Some, refl, sym, ap, subst, ◌∙◌, arith, get_or, set, map, take, drop, length, append-nil, length-drop, ◌-◌, true, cond, true≢false}
@@ -16,13 +15,13 @@ use Rattle.vc_tree_model.specs.Tree.{Tree, Forest, bare, grow, forest, node, mad
 use Rattle.vc_tree_model.specs.Map.{node_lookup, lookup, lookup_in, IsUpdated}
 use Rattle.vc_tree_model.specs.Canonical.{IsSolid, IsWhole, AreChildren, IsCanonical}
 use Rattle.vc_tree_model.specs.Same.{IsAlike, IsAlikeIn}
-use Rattle.vc_tree_nodes.specs.Growth.{IsBranch, IsGrown, Adds}
+use Rattle.vc_tree_nodes.specs.Growth.{IsGrown, Adds, Inserted}
 use Rattle.vc_tree_nodes.specs.Parting.{Agree, SplitsAt}
 use Rattle.vc_tree_nodes.specs.Places.{FitsAt, IsGapAt, LeadsTo, child_first}
 use Rattle.vc_tree_model.specs.Snapshot.{kept_itself}
 use Rattle.vc_tree_model.proofs.AlikeLemmas.{alike_children, alike_solid, alike_trans, alike_lookup, alike_canonical, alike_nodes}
 use Rattle.vc_tree_nodes.proofs.Finding.{begins_below, child_nodes}
-use Rattle.vc_tree_nodes.proofs.Halving.{child_first-map, rest_children}
+use Rattle.vc_tree_nodes.proofs.Firsts.{child_first-map, rest_children}
 use Rattle.vc_tree_nodes.proofs.Parted.{agree_one}
 use Rattle.vc_tree_nodes.proofs.Growing.{solid_canonical, pair_solid, solid_insert, solid_length, gap_alike, children_insert, children_set, alike_set, alike_first}
 use Rattle.vc_tree_nodes.proofs.Updating.{lookup-leaf, updated_behind, updated_value, updated_children, updated_split, updated_insert, updated_set, updated_alike}
@@ -56,12 +55,6 @@ pub whole_solid : {K V : Type 0} (p : List K) (v : Option V) (f : Forest K V) �
 whole_solid [] v f h w = absurd (omega arith)
 whole_solid (x ∷ p) v f h w = w
 
--- u is t with the key bound to the value, and has the prefix p
-pub record Inserted {K V : Type 0} (cmp : K → K → Ordering) (keeps : V → V → Type 0) (t : Tree K V) (key : List K)
-    (value : V) (p : List K) (u : Tree K V) : Type 0 where
-  pub updated : IsUpdated cmp keeps key value (lookup cmp t) (lookup cmp u)
-  pub branch : IsBranch cmp p u
-
 -- such a tree is canonical
 pub inserted_canonical : {K V : Type 0} (cmp : K → K → Ordering) (keeps : V → V → Type 0) (t : Tree K V)
     (key : List K) (value : V) (p : List K) (u : Tree K V) → Inserted cmp keeps t key value p u → IsCanonical cmp u
@@ -74,13 +67,17 @@ module _ {K V : Type 0} (cmp : K → K → Ordering) (keeps : V → V → Type 0
 
   -- the value of the prefix is new
   pub value_set : (t u : Tree K V) (p : List K) (f : Forest K V) (value : V) → p ≡ t.prefix → f ≡ t.children
-      → u ≡ node p (Some value) f → IsUpdated cmp keeps t.prefix value (lookup cmp t) (lookup cmp u)
-  value_set t u p f value a b e =
-      subst (λ u. IsUpdated cmp keeps t.prefix value (lookup cmp t) (lookup cmp u))
+      → u ≡ node p (Some value) f → IsCanonical cmp t → Inserted cmp keeps t t.prefix value t.prefix u
+  value_set t u p f value a b e canonical =
+      subst (λ u. Inserted cmp keeps t t.prefix value t.prefix u)
       (sym (e ∙ node-equal p t.prefix (Some value) (Some value) f t.children a refl b))
-      (updated_behind cmp keeps [] value [] t.value (Some value) t.children t.children
-      (updated_value cmp keeps r value t.value t.children)
-      t.prefix t.prefix t.prefix (sym (append-nil t.prefix)) (sym (append-nil t.prefix)))
+      (record {
+        updated =
+            updated_behind cmp keeps [] value [] t.value (Some value) t.children t.children
+            (updated_value cmp keeps r value t.value t.children)
+            t.prefix t.prefix t.prefix (sym (append-nil t.prefix)) (sym (append-nil t.prefix));
+        branch = record { prefix = refl; solid = tt; children = canonical.1 };
+      })
 
   -- ---- a node's children
 
@@ -154,16 +151,7 @@ module _ {K V : Type 0} (cmp : K → K → Ordering) (keeps : V → V → Type 0
         (subst (λ k. IsUpdated cmp keeps k value (lookup_in cmp (forest (map tree old)))
         (lookup_in cmp (forest (map tree new)))) key w))))
 
-    -- children that stayed alike
-    pub parts_alike : (t u : Tree K V) (p : List K) (v : Option V) (old new : List T)
-        → p ≡ t.prefix → v ≡ t.value → forest (map tree old) ≡ t.children → u ≡ node p v (forest (map tree new))
-        → IsAlikeIn keeps (forest (map tree old)) (forest (map tree new)) → IsAlike keeps t u
-    parts_alike t u p v old new a b c e alike =
-        subst (λ u. IsAlike keeps t u) (sym
-        (e ∙ node-equal p t.prefix v t.value (forest (map tree new)) (forest (map tree new)) a b refl))
-        (refl, kept_itself keeps r t.value, subst (λ f. IsAlikeIn keeps f (forest (map tree new))) c alike)
-
-    -- and then the tree is canonical
+    -- a node whose children stayed alike is canonical
     pub parts_canonical : (t : Tree K V) (p : List K) (v : Option V) (old new : List T)
         → p ≡ t.prefix → v ≡ t.value → forest (map tree old) ≡ t.children → IsCanonical cmp t
         → IsAlikeIn keeps (forest (map tree old)) (forest (map tree new)) → IsCanonical cmp (node p v (forest (map tree new)))

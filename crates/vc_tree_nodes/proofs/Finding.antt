@@ -1,7 +1,8 @@
 -- The child that a component leads to, and what the others bind.
 --     begins_below        a child that begins with a component is there
 --     found_at, gap_none        what a found child binds; that no child binds what has a gap for its place
---     child_nodes        a child has no more nodes than the list
+--     child_nodes, list_nodes        a child has no more nodes than the list
+--     trees_length        how many children a node has
 use Rattle.std.proofs.Common.{◌≡◌, ℕ, zero, suc, ◌<◌, ◌≤◌, [], ◌∷◌, List, Option, None, Some, refl, sym, ap, ◌∙◌, arith, get_or, map, length, take, true}
 use Rattle.std.specs.Cmp.{IsTotalOrder, Equal-is, alike_right}
 use Rattle.std.specs.Ordering.{is_eq}
@@ -9,14 +10,26 @@ use Rattle.std.specs.Prelude.{slice_get}
 use Rattle.std.specs.declared.cmp.Ordering.{Ordering}
 use Rattle.std.specs.declared.cmp.Ordering.TheVariants.{Less, Equal}
 use Rattle.vc_tree_model.specs.Key.{same_key}
-use Rattle.vc_tree_model.specs.Tree.{Tree, Forest, bare, grow, forest, node, nodes, forest_nodes}
+use Rattle.vc_tree_model.specs.Tree.{Tree, Forest, bare, grow, forest, node, trees, nodes, forest_nodes, width, forest_width}
 use Rattle.vc_tree_model.specs.Map.{or_else, lookup, lookup_in}
 use Rattle.vc_tree_model.specs.Canonical.{AreChildren}
 use Rattle.vc_tree_nodes.specs.Places.{child_first, BeginsAt, IsGapAt, IsFoundChild}
 use Rattle.vc_tree_model.proofs.KeyLemmas.{none_some}
 use Rattle.vc_tree_model.proofs.ValueLemmas.{or_else-none}
 use Rattle.vc_tree_model.proofs.LookupLemmas.{lookup-other, lookup_in-above, lookup_in-skip, above_equal}
-use Rattle.vc_tree_nodes.proofs.Halving.{above_at, rest_children, child_first-map}
+use Rattle.vc_tree_nodes.proofs.Firsts.{above_at, rest_children, child_first-map}
+
+-- a tree of a list has no more nodes than the list
+pub list_nodes : {K V : Type 0} (ts : List (Tree K V)) (i : ℕ) (d : Tree K V) → i < length ts
+    → nodes (get_or ts i d) ≤ forest_nodes (forest ts)
+list_nodes [] i d h = absurd (omega arith)
+list_nodes (t ∷ ts) zero d h = omega arith
+list_nodes (t ∷ ts) (suc i) d h = let r = list_nodes ts i d (omega arith) in omega (arith, r)
+
+-- as many trees are seen as there are
+pub trees_length : {K V T : Type 0} (tree : T → Tree K V) (xs : List T) → length (trees (forest (map tree xs))) ≡ length xs
+trees_length tree [] = refl
+trees_length tree (t ∷ ts) = ap suc (trees_length tree ts)
 
 module _ {K V : Type 0} (cmp : K → K → Ordering) where
   -- what has a gap for its place is not bound
@@ -65,6 +78,13 @@ module _ {K V : Type 0} (cmp : K → K → Ordering) where
     child_nodes (t ∷ ts) zero d h = omega arith
     child_nodes (t ∷ ts) (suc i) d h = let r = child_nodes ts i d (omega arith) in omega (arith, r)
 
+    -- nor has a node below it more children
+    child_width : (xs : List T) (i : ℕ) (d : T) → i < length xs
+        → width (tree (get_or xs i d)) ≤ forest_width (forest (map tree xs))
+    child_width [] i d h = absurd (omega arith)
+    child_width (t ∷ ts) zero d h = omega arith
+    child_width (t ∷ ts) (suc i) d h = let r = child_width ts i d (omega arith) in omega (arith, r)
+
     -- the child that begins with x binds what the list binds of the keys that begin so
     pub lookup_in-at : IsTotalOrder cmp → (xs : List T) (i : ℕ) (d : T) (y x : K) (rest : List K)
         → AreChildren cmp (forest (map tree xs)) → child_first (forest (map tree xs)) i ≡ Some y → cmp y x ≡ Equal
@@ -96,4 +116,5 @@ module _ {K V : Type 0} (cmp : K → K → Ordering) where
           λ rest. lookup_in-at o xs i child b.here x rest a b.at ((Equal-is (cmp b.here x)).0 b.equal) ∙ ap
           (λ t. lookup cmp (tree t) (x ∷ rest)) (sym e);
       smaller = rw e (child_nodes xs i child (begins_below xs x i b));
+      narrower = rw e (child_width xs i child (begins_below xs x i b));
     }

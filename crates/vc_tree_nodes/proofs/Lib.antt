@@ -1,5 +1,6 @@
 pub mod Bareness
-pub mod Halving
+pub mod Firsts
+pub mod Descending
 pub mod PartingLemmas
 pub mod Finding
 pub mod Updating

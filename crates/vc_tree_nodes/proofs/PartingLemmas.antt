@@ -1,11 +1,14 @@
 -- Where a key parts from a prefix, component by component.
 --     get_at        the element that an index reads
 --     agree_more, parts_here        one more component agrees, or doesn't
-use Rattle.std.proofs.Common.{◌≡◌, ℕ, zero, suc, ◌+◌, ◌<◌, [], ◌∷◌, take, List, length, get_or, Some, refl, sym, ap, arith, add-one, true, false, cond}
+--     ticked_one        a tick counts at most one
+use Rattle.std.proofs.Common.{◌≡◌, ℕ, zero, suc, ◌+◌, ◌-◌, ◌^◌, ◌<◌, ◌≤◌, [], ◌∷◌, take, List, length, get_or, Some, refl, sym, ap, arith, add-one, true, false, cond}
+use Rattle.std.proofs.Math.Nat.{min-le_left}
 use Rattle.std.specs.Ordering.{is_eq}
 use Rattle.std.specs.Prelude.{slice_get}
 use Rattle.std.specs.declared.cmp.Ordering.{Ordering}
 use Rattle.std.specs.declared.cmp.Ordering.TheVariants.{Equal}
+use Rattle.vc_merge.specs.Count.{ticked}
 use Rattle.vc_tree_model.specs.Key.{same_key}
 use Rattle.vc_tree_nodes.specs.Parting.{Agree, PartsAt}
 use Rattle.vc_tree_model.proofs.KeyLemmas.{none_some, both_true}
@@ -15,6 +18,10 @@ pub get_at : {X : Type 0} (xs : List X) (i : ℕ) (x : X) → i < length xs → 
 get_at [] i x h e = absurd (omega arith)
 get_at (y ∷ xs) zero x h e = ap Some (sym e)
 get_at (y ∷ xs) (suc i) x h e = get_at xs i x (omega arith) e
+
+-- a tick counts at most one
+pub ticked_one : (new old : ℕ) → new ≡ ticked old → new ≤ old + 1
+ticked_one new old e = rw e (min-le_left (old + 1) (2 ^ 128 - 1))
 
 module _ {K : Type 0} (cmp : K → K → Ordering) where
   -- keys that agree up to a place, and there too

@@ -20,7 +20,7 @@ use Rattle.vc_tree_nodes.specs.Places.{child_first, IsGapAt}
 use Rattle.vc_tree_model.proofs.KeyLemmas.{none_some, both_true, then_same, then_behind, behind-append, same-append, same-slice_cmp}
 use Rattle.vc_tree_model.proofs.ValueLemmas.{or_else-none, kept_refl, kept_trans, kept_else}
 use Rattle.vc_tree_model.proofs.LookupLemmas.{lookup-other}
-use Rattle.vc_tree_nodes.proofs.Halving.{above_at, rest_children}
+use Rattle.vc_tree_nodes.proofs.Firsts.{above_at, rest_children}
 
 module _ {K V : Type 0} (cmp : K → K → Ordering) (keeps : V → V → Type 0) where
   -- ---- behind a prefix

@@ -1,10 +1,12 @@
 -- What an insertion makes of a node and of its children. No public clause cites these words.
 --     IsBranch cmp p t        t has the prefix p and may be a child if p is not empty
 --     IsGrown cmp n t u        u goes on as t for n components, and may be a child if n is not 0
+--     Inserted cmp keeps t key value p u        u is t with the key bound to the value, and a branch with the prefix p
 --     Adds keeps tree old i item new        the new list is the old one, kept, with the item put at place i
 use Rattle.std.specs.Prelude.{◌≡◌, ℕ, List, take, insert}
 use Rattle.std.specs.declared.cmp.Ordering.{Ordering}
 use Rattle.vc_tree_model.specs.Tree.{Tree}
+use Rattle.vc_tree_model.specs.Map.{IsInserted}
 use Rattle.vc_tree_model.specs.Canonical.{IsSolid, AreChildren}
 use Rattle.vc_tree_model.specs.Same.{IsAlikeIn}
 use Rattle.vc_tree_nodes.specs.Children.{seen}
@@ -21,6 +23,12 @@ module _ {K V : Type 0} where
     pub begins : take n u.prefix ≡ take n t.prefix
     pub solid : IsSolid u.value u.children
     pub children : AreChildren cmp u.children
+
+  -- u is t with the key bound to the value, and a branch with the prefix p
+  pub record Inserted (cmp : K → K → Ordering) (keeps : V → V → Type 0) (t : Tree K V) (key : List K) (value : V)
+      (p : List K) (u : Tree K V) : Type 0 where
+    pub updated : IsInserted cmp keeps key value t u
+    pub branch : IsBranch cmp p u
 
   -- the list is an old one's alike, with one more tree at place i
   pub record Adds (keeps : V → V → Type 0) {T : Type 0} (tree : T → Tree K V)

@@ -1,5 +1,6 @@
 -- The place of a component, or of a key, among the first components of a list of trees. No public clause cites these words.
 --     child_first f i        the first component of the tree at a place
+--     first_side cmp x o        how a node with the first component o stands to x
 --     BeginsAt cmp f x i, IsGapAt cmp f x i        the tree at place i begins with x; one that begins with x would stand at i
 --     LeadsTo cmp f key i, FitsAt cmp f key i        the same of a key's first component
 --     IsNoChild cmp f x, IsFoundChild cmp f x t        no tree begins with x; t is the one that does
@@ -8,9 +9,14 @@ use Rattle.std.specs.Ordering.{is_eq}
 use Rattle.std.specs.declared.cmp.Ordering.{Ordering}
 use Rattle.std.specs.declared.cmp.Ordering.TheVariants.{Less}
 use Rattle.vc_tree_model.specs.Key.{same_key}
-use Rattle.vc_tree_model.specs.Tree.{Tree, Forest, bare, grow, nodes, forest_nodes}
+use Rattle.vc_tree_model.specs.Tree.{Tree, Forest, bare, grow, nodes, forest_nodes, width, forest_width}
 use Rattle.vc_tree_model.specs.Map.{lookup, lookup_in}
 use Rattle.vc_tree_model.specs.Canonical.{AllAbove}
+
+-- how a node stands to the component x by the first component of its prefix, if it has one
+abbrev pub first_side : {K : Type 0} → (K → K → Ordering) → K → Option K → Ordering
+first_side cmp x None = Less
+first_side cmp x (Some y) = cmp y x
 
 module _ {K V : Type 0} where
   -- the first component of the tree at a place
@@ -51,8 +57,9 @@ module _ {K V : Type 0} where
     abbrev pub IsNoChild : Forest K V → K → Type 0
     IsNoChild f x = (rest : List K) → lookup_in cmp f (x ∷ rest) ≡ None
 
-    -- t begins with x, binds what f binds of the keys that begin with x, and has no more nodes
+    -- t begins with x, binds what f binds of the keys that begin with x, and has no more nodes, nor more children a node
     pub record IsFoundChild (f : Forest K V) (x : K) (t : Tree K V) : Type 0 where
       pub begins : IsTrue (same_key cmp (take 1 t.prefix) (x ∷ []))
       pub same : (rest : List K) → lookup_in cmp f (x ∷ rest) ≡ lookup cmp t (x ∷ rest)
       pub smaller : nodes t ≤ forest_nodes f
+      pub narrower : width t ≤ forest_width f

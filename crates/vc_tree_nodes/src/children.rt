@@ -1,6 +1,6 @@
 //! What a node is made of, in each flavour: its prefix and its children.
 
-ghost use Rattle.std.specs.Prelude.{◌≡◌, ◌++◌, ◌⊎◌, List, IfOk, IfErr};
+ghost use Rattle.std.specs.Prelude.{◌≡◌, ◌++◌, ◌⊎◌, ◌≤◌, List, length, IsOk, IfOk, IfErr};
 ghost use Rattle.std.specs.Borrow.{sem};
 ghost use Rattle.std.specs.List.{AllZip};
 ghost use Rattle.vc_tree_nodes.specs.Children.{LendsChildren};
@@ -18,9 +18,10 @@ pub trait Fragment<K>: Sized + Drop {
     fn as_slice(&self) -> &[K]
         ensures { result.now ≡ items self.now };
 
-    /// A copy of the components.
+    /// A copy of the components. Asks for memory where there are more than 16.
     fn from_slice(alloc: Global, slice: &[K]) -> Result<Self, AllocError>
-        ensures { IfOk result (λ made. items made ≡ slice.now) };
+        ensures items { IfOk result (λ made. items made ≡ slice.now) }
+        ensures short { length slice.now ≤ 16 → IsOk result };
 
     /// A copy of both slices, one behind the other, by one request for memory at most.
     fn joined(alloc: Global, front: &[K], back: &[K]) -> Result<Self, AllocError>

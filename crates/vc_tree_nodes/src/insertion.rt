@@ -1,13 +1,13 @@
 //! How a key is bound to a value in a tree.
 
-ghost use Rattle.std.specs.Prelude.{◌≡◌, ◌+◌, ◌<◌, ◌≤◌, ◌++◌, [], length, take, vec_len, vec_capacity, Some, IfOk, OnOk, OnErr};
+ghost use Rattle.std.specs.Prelude.{◌≡◌, ◌+◌, ◌<◌, ◌≤◌, ◌++◌, [], length, take, vec_len, vec_capacity, Some, IfOk, IsOk, OnOk, OnErr};
 ghost use Rattle.std.specs.List.{insert as list_insert};
 ghost use Rattle.vc_tree_model.specs.Tree.{made, node};
-ghost use Rattle.vc_tree_model.specs.Map.{HaveEqualMaps, IsInserted, IsUpdated, lookup_in};
+ghost use Rattle.vc_tree_model.specs.Map.{HaveEqualMaps, IsInserted, IsUpdated, lookup, lookup_in};
 ghost use Rattle.vc_tree_model.specs.Canonical.{AreChildren, IsCanonical, IsSolid};
 ghost use Rattle.vc_tree_model.specs.Same.{IsAlike, IsAlikeIn};
 ghost use Rattle.vc_tree_nodes.specs.Children.{listed, seen};
-ghost use Rattle.vc_tree_nodes.specs.Growth.{IsBranch, IsGrown, Adds};
+ghost use Rattle.vc_tree_nodes.specs.Growth.{IsGrown, Inserted, Adds};
 ghost use Rattle.vc_tree_nodes.specs.Parting.{Agree, SplitsAt};
 ghost use Rattle.vc_tree_nodes.specs.Places.{FitsAt, LeadsTo};
 
@@ -18,6 +18,7 @@ use crate::places::child_place;
 use crate::reading::{TKey, TValue, is_empty};
 use std::alloc::{AllocError, Global};
 use std::mem;
+use vc_merge::merge::Uncounted;
 
 /// The tree that binds the empty key alone.
 pub fn leaf<K: TKey, V: TValue, T: Build<K, V>>(alloc: Global, value: V) -> T
@@ -37,7 +38,8 @@ pub fn single<K: TKey, V: TValue, T: Build<K, V>>(
     key: &[K],
     value: V,
 ) -> Result<T, AllocError>
-    ensures { IfOk result (λ one. T.tree one ≡ made key.now (Some value) []) }
+    ensures is { IfOk result (λ one. T.tree one ≡ made key.now (Some value) []) }
+    ensures short { length key.now ≤ 16 → IsOk result }
 {
     let prefix = T::Prefix::from_slice(alloc, key)?;
     Ok(T::assemble(prefix, Some(value), None, Seal::new()))
@@ -50,6 +52,7 @@ pub fn insert<K: TKey, V: TValue, T: Build<K, V>>(
     value: V,
 ) -> Result<(), AllocError>
     ensures ok { OnOk result (IsInserted K.cmp T.keeps key.now value (T.tree tree.old) (T.tree tree.new)) }
+    ensures binds { OnOk result (lookup K.cmp (T.tree tree.new) key.now ≡ Some value) }
     ensures err { OnErr result (HaveEqualMaps K.cmp T.keeps (T.tree tree.old) (T.tree tree.new)) }
     ensures err_nodes { OnErr result (IsAlike T.keeps (T.tree tree.old) (T.tree tree.new)) }
     ensures canonical { IsCanonical K.cmp (T.tree tree.new) }
@@ -82,7 +85,7 @@ fn insert_from<K: TKey, V: TValue, T: Build<K, V>>(
 {
     let prefix = tree.prefix();
     let whole = prefix.len();
-    match find_parting(prefix, key, known) {
+    match find_parting(prefix, key, known, &mut Uncounted) {
         Parting::Behind => insert_behind(alloc, tree, &key[whole..], value),
         Parting::Inside(n) => split_above(alloc, tree, n, value),
         Parting::Lower(n) => split_beside(alloc, tree, n, 1, &key[n..], value),
@@ -100,16 +103,15 @@ fn insert_behind<K: TKey, V: TValue, T: Build<K, V>>(
 ) -> Result<(), AllocError>
     requires solid { IsSolid (T.tree tree.old).value (T.tree tree.old).children }
     requires canonical { AreChildren K.cmp (T.tree tree.old).children }
-    ensures ok { OnOk result
-        (IsInserted K.cmp T.keeps ((T.tree tree.old).prefix ++ rest.now) value (T.tree tree.old) (T.tree tree.new)) }
-    ensures branch { OnOk result (IsBranch K.cmp (T.tree tree.old).prefix (T.tree tree.new)) }
+    ensures ok { let t = T.tree tree.old in OnOk result
+        (Inserted K.cmp T.keeps t (t.prefix ++ rest.now) value t.prefix (T.tree tree.new)) }
     ensures err { OnErr result (IsAlike T.keeps (T.tree tree.old) (T.tree tree.new)) }
 {
     let Some(first) = rest.first() else {
         set_value(alloc, tree, value);
         return Ok(());
     };
-    match child_place(tree.children(), first) {
+    match child_place(tree.children(), first, &mut Uncounted) {
         Ok(i) => insert_below(alloc, tree, i, rest, value),
         Err(i) => add_child(alloc, tree, i, rest, value),
     }
@@ -126,9 +128,8 @@ fn insert_below<K: TKey, V: TValue, T: Build<K, V>>(
 ) -> Result<(), AllocError>
     requires leads { LeadsTo K.cmp (T.tree tree.old).children rest.now i }
     requires solid { IsSolid (T.tree tree.old).value (T.tree tree.old).children }
-    ensures ok { OnOk result
-        (IsInserted K.cmp T.keeps ((T.tree tree.old).prefix ++ rest.now) value (T.tree tree.old) (T.tree tree.new)) }
-    ensures branch { OnOk result (IsBranch K.cmp (T.tree tree.old).prefix (T.tree tree.new)) }
+    ensures ok { let t = T.tree tree.old in OnOk result
+        (Inserted K.cmp T.keeps t (t.prefix ++ rest.now) value t.prefix (T.tree tree.new)) }
     ensures err { OnErr result (IsAlike T.keeps (T.tree tree.old) (T.tree tree.new)) }
 {
     let node = mem::replace(tree, T::blank(alloc, Seal::new()));
@@ -171,8 +172,7 @@ fn insert_into<K: TKey, V: TValue, T: Build<K, V>>(
 
 /// Binds the prefix itself.
 fn set_value<K: TKey, V: TValue, T: Build<K, V>>(alloc: Global, tree: &mut T, value: V)
-    ensures updated { IsInserted K.cmp T.keeps (T.tree tree.old).prefix value (T.tree tree.old) (T.tree tree.new) }
-    ensures branch { IsBranch K.cmp (T.tree tree.old).prefix (T.tree tree.new) }
+    ensures { let t = T.tree tree.old in Inserted K.cmp T.keeps t t.prefix value t.prefix (T.tree tree.new) }
 {
     let node = mem::replace(tree, T::blank(alloc, Seal::new()));
     let Parts {
@@ -193,9 +193,8 @@ fn add_child<K: TKey, V: TValue, T: Build<K, V>>(
 ) -> Result<(), AllocError>
     requires fits { FitsAt K.cmp (T.tree tree.old).children rest.now i }
     requires solid { IsSolid (T.tree tree.old).value (T.tree tree.old).children }
-    ensures ok { OnOk result
-        (IsInserted K.cmp T.keeps ((T.tree tree.old).prefix ++ rest.now) value (T.tree tree.old) (T.tree tree.new)) }
-    ensures branch { OnOk result (IsBranch K.cmp (T.tree tree.old).prefix (T.tree tree.new)) }
+    ensures ok { let t = T.tree tree.old in OnOk result
+        (Inserted K.cmp T.keeps t (t.prefix ++ rest.now) value t.prefix (T.tree tree.new)) }
     ensures err { OnErr result (IsAlike T.keeps (T.tree tree.old) (T.tree tree.new)) }
 {
     let leaf = single(alloc, rest, value)?;
@@ -258,9 +257,8 @@ fn split_above<K: TKey, V: TValue, T: Build<K, V>>(
     value: V,
 ) -> Result<(), AllocError>
     requires { n < length (T.tree tree.old).prefix }
-    ensures ok { OnOk result
-        (IsInserted K.cmp T.keeps (take n (T.tree tree.old).prefix) value (T.tree tree.old) (T.tree tree.new)) }
-    ensures branch { OnOk result (IsBranch K.cmp (take n (T.tree tree.old).prefix) (T.tree tree.new)) }
+    ensures ok { let t = T.tree tree.old in OnOk result
+        (Inserted K.cmp T.keeps t (take n t.prefix) value (take n t.prefix) (T.tree tree.new)) }
     ensures err { OnErr result (T.tree tree.new ≡ T.tree tree.old) }
 {
     let whole = tree.prefix();
@@ -268,7 +266,7 @@ fn split_above<K: TKey, V: TValue, T: Build<K, V>>(
     let low_prefix = T::Prefix::from_slice(alloc, &whole[n..])?;
     let mut children = T::Children::of(Vec::new(alloc))?;
     let list = children.make_mut()?;
-    list.reserve(1)?;
+    list.reserve_exact(1)?;
     let low = cut(alloc, tree, low_prefix);
     put(list, 0, low);
     *tree = T::assemble(top, Some(value), Some(children), Seal::new());
@@ -286,9 +284,8 @@ fn split_beside<K: TKey, V: TValue, T: Build<K, V>>(
     value: V,
 ) -> Result<(), AllocError>
     requires { SplitsAt K.cmp (T.tree tree.old) n rest.now i }
-    ensures ok { OnOk result
-        (IsInserted K.cmp T.keeps (take n (T.tree tree.old).prefix ++ rest.now) value (T.tree tree.old) (T.tree tree.new)) }
-    ensures branch { OnOk result (IsBranch K.cmp (take n (T.tree tree.old).prefix) (T.tree tree.new)) }
+    ensures ok { let t = T.tree tree.old in OnOk result
+        (Inserted K.cmp T.keeps t (take n t.prefix ++ rest.now) value (take n t.prefix) (T.tree tree.new)) }
     ensures err { OnErr result (T.tree tree.new ≡ T.tree tree.old) }
 {
     let whole = tree.prefix();
@@ -297,7 +294,7 @@ fn split_beside<K: TKey, V: TValue, T: Build<K, V>>(
     let leaf = single(alloc, rest, value)?;
     let mut children = T::Children::of(Vec::new(alloc))?;
     let list = children.make_mut()?;
-    list.reserve(2)?;
+    list.reserve_exact(2)?;
     let low = cut(alloc, tree, low_prefix);
     put(list, 0, low);
     put(list, i, leaf);

@@ -4,6 +4,8 @@
 
 pub mod building;
 pub mod children;
+pub mod collecting;
+pub mod comparing;
 pub mod copying;
 pub mod descent;
 pub mod insertion;
@@ -13,3 +15,5 @@ pub mod places;
 pub mod plain;
 pub mod reading;
 pub mod shared;
+pub mod sharing;
+pub mod showing;

@@ -1,8 +1,10 @@
 //! Where a key parts from the prefix of a node.
 
+ghost use Rattle.std.specs.Prelude.{◌+◌, ◌-◌, ◌≤◌, length, min};
 ghost use Rattle.vc_tree_nodes.specs.Parting.{Agree, IsParting};
 
 use std::cmp::Ordering;
+use vc_merge::merge::Count;
 
 /// Where a key parts from a prefix.
 #[derive(Clone, Copy)]
@@ -19,12 +21,20 @@ pub enum Parting {
 
 /// Where the key parts from the prefix, of which the first `known` components are known to agree. Compares each further
 /// component once.
-pub fn find_parting<K: Ord>(prefix: &[K], key: &[K], known: usize) -> Parting
+pub fn find_parting<K: Ord, C: Count>(
+    prefix: &[K],
+    key: &[K],
+    known: usize,
+    steps: &mut C,
+) -> Parting
     requires { Agree K.cmp prefix.now key.now known }
-    ensures { IsParting K.cmp prefix.now key.now result }
+    ensures is { IsParting K.cmp prefix.now key.now result }
+    ensures counted { C.counted steps.new
+        ≤ C.counted steps.old + (min (length prefix.now) (length key.now) - known) }
 {
     let mut n = known;
     while n < prefix.len() && n < key.len() {
+        steps.tick();
         match prefix[n].cmp(&key[n]) {
             Ordering::Less => return Parting::Lower(n),
             Ordering::Equal => n += 1,

@@ -11,9 +11,12 @@ pub use Rattle.vc_sets.specs.Tests
 pub use Rattle.vc_sets.specs.declared.vec_set.algebra.SetOp
 pub use Rattle.vc_sets.specs.declared.vec_set.algebra.SetTest
 pub use Rattle.vc_tree_model.specs.Canonical
+pub use Rattle.vc_tree_model.specs.Equal
 pub use Rattle.vc_tree_nodes.specs.Children
 pub use Rattle.vc_tree_model.specs.Key
 pub use Rattle.vc_tree_model.specs.Map
+pub use Rattle.vc_tree_model.specs.OneTree
+pub use Rattle.vc_tree_model.specs.Pairs
 pub use Rattle.vc_tree_model.specs.Same
 pub use Rattle.vc_tree_model.specs.Snapshot
 pub use Rattle.vc_tree_model.specs.Tree

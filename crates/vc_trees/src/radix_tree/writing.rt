@@ -1,14 +1,17 @@
 //! The trait by which the two flavours are made and changed.
 
-ghost use Rattle.std.specs.Prelude.{◌≡◌, [], Some, IfOk, OnOk, OnErr};
+ghost use Rattle.std.specs.Prelude.{◌≡◌, ◌≤◌, [], Some, length, IfOk, IsOk, OnOk, OnErr};
 ghost use Rattle.vc_tree_model.specs.Tree.{made, no_tree};
-ghost use Rattle.vc_tree_model.specs.Map.{HaveEqualMaps, IsInserted};
+ghost use Rattle.vc_tree_model.specs.Combine.{IsCombined, IsUnionAt, IsIntersectionAt, IsDifferenceAt};
+ghost use Rattle.vc_tree_model.specs.Value.{Copies};
+ghost use Rattle.vc_tree_model.specs.Map.{HaveEqualMaps, IsInserted, lookup};
 ghost use Rattle.vc_tree_model.specs.Canonical.{IsCanonical};
 ghost use Rattle.vc_tree_model.specs.Same.{IsAlike};
 
 use crate::radix_tree::reading::AbstractRadixTree;
 use std::alloc::{AllocError, Global};
 use std::default::MadeWith;
+use vc_tree_combines::combines;
 use vc_tree_nodes::building::Seal;
 use vc_tree_nodes::copying::CloneTree;
 use vc_tree_nodes::insertion;
@@ -38,9 +41,11 @@ pub trait AbstractRadixTreeMut<K: TKey, V: TValue>: CloneTree<K, V> + AbstractRa
 
     /// The tree that binds this key alone.
     ///
-    /// Fails only where memory is refused for a long key. The value is then dropped.
+    /// Takes no memory for a key of at most 16 components. Fails only where memory is refused for a longer one; the value is then
+    /// dropped.
     final fn single(alloc: Global, key: &[K], value: V) -> Result<Self, AllocError>
-        ensures { IfOk result (λ one. Self.tree one ≡ made key.now (Some value) []) }
+        ensures is { IfOk result (λ one. Self.tree one ≡ made key.now (Some value) []) }
+        ensures short { length key.now ≤ 16 → IsOk result }
     {
         insertion::single(alloc, key, value)
     }
@@ -54,11 +59,48 @@ pub trait AbstractRadixTreeMut<K: TKey, V: TValue>: CloneTree<K, V> + AbstractRa
     /// Compares each component of the key at most once, but for a halving search among the children of each node on the way.
     final fn insert(&mut self, key: &[K], value: V) -> Result<(), AllocError>
         ensures ok { OnOk result (IsInserted K.cmp Self.keeps key.now value (Self.tree self.old) (Self.tree self.new)) }
+        ensures binds { OnOk result (lookup K.cmp (Self.tree self.new) key.now ≡ Some value) }
         ensures err { OnErr result (HaveEqualMaps K.cmp Self.keeps (Self.tree self.old) (Self.tree self.new)) }
         ensures err_nodes { OnErr result (IsAlike Self.keeps (Self.tree self.old) (Self.tree self.new)) }
         ensures canonical { IsCanonical K.cmp (Self.tree self.new) }
     {
         insertion::insert(self, key, value)
+    }
+
+    /// A fresh tree of the keys of both, the shared ones with a copy of the left value. Both trees stay as they were.
+    ///
+    /// Fails only where memory is refused, or the clone of a value.
+    final fn union<S: AbstractRadixTree<K, V>>(&self, that: &S) -> Result<Self, AllocError>
+        ensures { IfOk result (λ made. IsCombined K.cmp (IsUnionAt (Copies V.is_clone) V.is_clone)
+            (Self.tree self.now) (S.tree that.now) (Self.tree made)) }
+    {
+        combines::union(self, that)
+    }
+
+    /// A fresh tree of the keys that both bind, with copies of the left values. Both trees stay as they were.
+    ///
+    /// Fails only where memory is refused, or the clone of a value.
+    final fn intersection<W: TValue, S: AbstractRadixTree<K, W>>(
+        &self,
+        that: &S,
+    ) -> Result<Self, AllocError>
+        ensures { IfOk result (λ made. IsCombined K.cmp (IsIntersectionAt (Copies V.is_clone))
+            (Self.tree self.now) (S.tree that.now) (Self.tree made)) }
+    {
+        combines::intersection(self, that)
+    }
+
+    /// A fresh tree of the keys that this tree alone binds, with copies of its values. Both trees stay as they were.
+    ///
+    /// Fails only where memory is refused, or the clone of a value.
+    final fn difference<W: TValue, S: AbstractRadixTree<K, W>>(
+        &self,
+        that: &S,
+    ) -> Result<Self, AllocError>
+        ensures { IfOk result (λ made. IsCombined K.cmp (IsDifferenceAt (Copies V.is_clone))
+            (Self.tree self.now) (S.tree that.now) (Self.tree made)) }
+    {
+        combines::difference(self, that)
     }
 }
 

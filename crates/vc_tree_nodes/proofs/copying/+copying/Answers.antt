@@ -16,7 +16,7 @@ copy_shortened-assemble-requires g t c =
     let made = g.T.Prefix.Fragment.items c.in_ok-prefix.prefix in
     let copies = seen g.T.RadixNode.tree (listed g.T.Children.ChildList.items c.in_ok-children.children) in
     let prefix : drop c.args.from tree.prefix ≡ made =
-    sym (low_from _ c.prefix.result.now tree.prefix c.args.from c.in_ok-prefix.ensures c.prefix.ensures.value) in
+    sym (low_from _ c.prefix.result.now tree.prefix c.args.from c.in_ok-prefix.ensures.items c.prefix.ensures.value) in
     let value : IsKept g.V.Clone.is_clone tree.value c.in_ok-value.value = search rules in
     let children : IsAlikeIn g.V.Clone.is_clone tree.children copies = search rules in
     tree_alike_canonical g.V.Clone.is_clone g.K.Ord.cmp (shortened c.args.from tree)

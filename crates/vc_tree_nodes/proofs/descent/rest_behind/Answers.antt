@@ -2,10 +2,10 @@
 use Rattle.vc_tree_nodes.proofs.Parted.{behind_whole, behind_parted}
 use Rattle.vc_tree_nodes.proofs.descent.rest_behind.Goals as goal
 
-pub returns-in-Behind : goal.returns-in-Behind
-returns-in-Behind g c = behind_whole g.K.Ord.cmp c.args.prefix.now c.args.key.now c.in-Behind.ensures
+pub returns-in-Behind-clause-rest : goal.returns-in-Behind-clause-rest
+returns-in-Behind-clause-rest g c = behind_whole g.K.Ord.cmp c.args.prefix.now c.args.key.now c.in-Behind.ensures.is
 
-pub returns-in_default : goal.returns-in_default
-returns-in_default g c =
-    behind_parted g.K.Ord.cmp c.args.prefix.now c.args.key.now c.find_parting.result c.find_parting.ensures
+pub returns-in_default-clause-rest : goal.returns-in_default-clause-rest
+returns-in_default-clause-rest g c =
+    behind_parted g.K.Ord.cmp c.args.prefix.now c.args.key.now c.find_parting.result c.find_parting.ensures.is
     c.in_default.not-Behind

@@ -43,56 +43,40 @@ insert_below-returns-clause-ok g t c =
     ap (λ o. forest (map tree (listed g.T.Children.ChildList.items o))) (sym c.in-Some.is) ∙
     c.take_apart-prefix.ensures.children ∙ ap (λ t. (tree t).children) c.replace-node.ensures.value in
     on_ok c.insert_into-done.result
-    (λ updated. (child_grown g.K.Ord.cmp g.T.Build.keeps g.met.T.Build.keeps_refl g.met.T.Build.keeps_trans
+    (λ updated. child_grown g.K.Ord.cmp g.T.Build.keeps g.met.T.Build.keeps_refl g.met.T.Build.keeps_trans
     g.met.K.Ord.total tree (tree c.args.tree.now) _ _ _ _ _ c.args.rest.now c.args.value c.requires.leads.first
     c.requires.leads.others
     prefix value children c.assemble.ensures c.requires.solid c.requires.leads.key_is
-    c.insert_into-done.ensures.as_many c.insert_into-done.ensures.canonical updated).updated)
-    c.insert_into-done.ensures.ok
-
-pub insert_below-returns-clause-branch : goal.insert_below-returns-clause-branch
-insert_below-returns-clause-branch g t c =
-    let tree = g.T.RadixNode.tree in
-    let prefix = c.take_apart-prefix.ensures.prefix ∙ ap (λ t. (tree t).prefix) c.replace-node.ensures.value in
-    let value = c.take_apart-prefix.ensures.value ∙ ap (λ t. (tree t).value) c.replace-node.ensures.value in
-    let children =
-    ap (λ o. forest (map tree (listed g.T.Children.ChildList.items o))) (sym c.in-Some.is) ∙
-    c.take_apart-prefix.ensures.children ∙ ap (λ t. (tree t).children) c.replace-node.ensures.value in
-    on_ok c.insert_into-done.result
-    (λ updated. (child_grown g.K.Ord.cmp g.T.Build.keeps g.met.T.Build.keeps_refl g.met.T.Build.keeps_trans
-    g.met.K.Ord.total tree (tree c.args.tree.now) _ _ _ _ _ c.args.rest.now c.args.value c.requires.leads.first
-    c.requires.leads.others
-    prefix value children c.assemble.ensures c.requires.solid c.requires.leads.key_is
-    c.insert_into-done.ensures.as_many c.insert_into-done.ensures.canonical updated).branch)
+    c.insert_into-done.ensures.as_many c.insert_into-done.ensures.canonical updated)
     c.insert_into-done.ensures.ok
 
 pub insert_from-split_beside-requires : goal.insert_from-split_beside-requires
 insert_from-split_beside-requires g t c =
     splits_lower g.K.Ord.cmp (g.T.RadixNode.tree c.args.tree.now) c.prefix-prefix.result.now c.args.key.now
-    c.in-Lower.n c.prefix-prefix.ensures.value c.in-Lower.ensures c.requires.solid
+    c.in-Lower.n c.prefix-prefix.ensures.value c.in-Lower.ensures.is c.requires.solid
 
 pub insert_from-split_beside-requires-in-Higher : goal.insert_from-split_beside-requires-in-Higher
 insert_from-split_beside-requires-in-Higher g t c =
     splits_higher g.K.Ord.cmp g.met.K.Ord.total (g.T.RadixNode.tree c.args.tree.now)
-    c.prefix-prefix.result.now c.args.key.now c.in-Higher.n c.prefix-prefix.ensures.value c.in-Higher.ensures
+    c.prefix-prefix.result.now c.args.key.now c.in-Higher.n c.prefix-prefix.ensures.value c.in-Higher.ensures.is
     c.requires.solid
 
 pub insert_from-returns-in-Behind-clause-ok : goal.insert_from-returns-in-Behind-clause-ok
 insert_from-returns-in-Behind-clause-ok g t c =
     let tree = g.T.RadixNode.tree c.args.tree.now in
     on_ok c.insert_behind.result
-    (updated_respelled g.K.Ord.cmp g.T.Build.keeps g.met.K.Ord.total _ c.args.key.now c.args.value _ _
+    (λ inserted. updated_respelled g.K.Ord.cmp g.T.Build.keeps g.met.K.Ord.total _ c.args.key.now c.args.value _ _
     (same_behind_whole g.K.Ord.cmp g.met.K.Ord.total c.prefix-prefix.result.now tree.prefix c.args.key.now
-    c.prefix-prefix.ensures.value c.in-Behind.ensures))
+    c.prefix-prefix.ensures.value c.in-Behind.ensures.is) inserted.updated)
     c.insert_behind.ensures.ok
 
 pub insert_from-returns-in-Inside-clause-ok : goal.insert_from-returns-in-Inside-clause-ok
 insert_from-returns-in-Inside-clause-ok g t c =
     let tree = g.T.RadixNode.tree c.args.tree.now in
     on_ok c.split_above.result
-    (updated_respelled g.K.Ord.cmp g.T.Build.keeps g.met.K.Ord.total _ c.args.key.now c.args.value _ _
+    (λ inserted. updated_respelled g.K.Ord.cmp g.T.Build.keeps g.met.K.Ord.total _ c.args.key.now c.args.value _ _
     (same_ended g.K.Ord.cmp c.prefix-prefix.result.now tree.prefix c.args.key.now c.in-Inside.n
-    c.prefix-prefix.ensures.value c.in-Inside.ensures.0 c.in-Inside.ensures.1))
+    c.prefix-prefix.ensures.value c.in-Inside.ensures.is.0 c.in-Inside.ensures.is.1) inserted.updated)
     c.split_above.ensures.ok
 
 pub insert_from-returns-in-Inside-clause-err : goal.insert_from-returns-in-Inside-clause-err
@@ -105,19 +89,19 @@ pub insert_from-returns-in-Lower-clause-ok : goal.insert_from-returns-in-Lower-c
 insert_from-returns-in-Lower-clause-ok g t c =
     let tree = g.T.RadixNode.tree c.args.tree.now in
     on_ok c.split_beside.result
-    (updated_respelled g.K.Ord.cmp g.T.Build.keeps g.met.K.Ord.total _ c.args.key.now c.args.value _ _
+    (λ inserted. updated_respelled g.K.Ord.cmp g.T.Build.keeps g.met.K.Ord.total _ c.args.key.now c.args.value _ _
     (same_joined g.K.Ord.cmp g.met.K.Ord.total c.prefix-prefix.result.now tree.prefix c.args.key.now c.in-Lower.n
-    c.prefix-prefix.ensures.value c.in-Lower.ensures.agree))
+    c.prefix-prefix.ensures.value c.in-Lower.ensures.is.agree) inserted.updated)
     c.split_beside.ensures.ok
 
 pub insert_from-returns-in-Lower-clause-grown : goal.insert_from-returns-in-Lower-clause-grown
 insert_from-returns-in-Lower-clause-grown g t c =
     let tree = g.T.RadixNode.tree c.args.tree.now in
     on_ok c.split_beside.result
-    (grown_from g.K.Ord.cmp c.args.known c.in-Lower.n tree _
+    (λ inserted. grown_from g.K.Ord.cmp c.args.known c.in-Lower.n tree _
     (known_within g.K.Ord.cmp _ c.prefix-prefix.result.now tree.prefix c.args.key.now c.args.known c.in-Lower.n
-    c.prefix-prefix.ensures.value refl c.requires.known c.in-Lower.ensures))
-    c.split_beside.ensures.branch
+    c.prefix-prefix.ensures.value refl c.requires.known c.in-Lower.ensures.is) inserted.branch)
+    c.split_beside.ensures.ok
 
 pub insert_from-returns-in-Lower-clause-err : goal.insert_from-returns-in-Lower-clause-err
 insert_from-returns-in-Lower-clause-err g t c =
@@ -129,19 +113,19 @@ pub insert_from-returns-in-Higher-clause-ok : goal.insert_from-returns-in-Higher
 insert_from-returns-in-Higher-clause-ok g t c =
     let tree = g.T.RadixNode.tree c.args.tree.now in
     on_ok c.split_beside-in-Higher.result
-    (updated_respelled g.K.Ord.cmp g.T.Build.keeps g.met.K.Ord.total _ c.args.key.now c.args.value _ _
+    (λ inserted. updated_respelled g.K.Ord.cmp g.T.Build.keeps g.met.K.Ord.total _ c.args.key.now c.args.value _ _
     (same_joined g.K.Ord.cmp g.met.K.Ord.total c.prefix-prefix.result.now tree.prefix c.args.key.now c.in-Higher.n
-    c.prefix-prefix.ensures.value c.in-Higher.ensures.agree))
+    c.prefix-prefix.ensures.value c.in-Higher.ensures.is.agree) inserted.updated)
     c.split_beside-in-Higher.ensures.ok
 
 pub insert_from-returns-in-Higher-clause-grown : goal.insert_from-returns-in-Higher-clause-grown
 insert_from-returns-in-Higher-clause-grown g t c =
     let tree = g.T.RadixNode.tree c.args.tree.now in
     on_ok c.split_beside-in-Higher.result
-    (grown_from g.K.Ord.cmp c.args.known c.in-Higher.n tree _
+    (λ inserted. grown_from g.K.Ord.cmp c.args.known c.in-Higher.n tree _
     (known_within g.K.Ord.cmp _ c.prefix-prefix.result.now tree.prefix c.args.key.now c.args.known c.in-Higher.n
-    c.prefix-prefix.ensures.value refl c.requires.known c.in-Higher.ensures))
-    c.split_beside-in-Higher.ensures.branch
+    c.prefix-prefix.ensures.value refl c.requires.known c.in-Higher.ensures.is) inserted.branch)
+    c.split_beside-in-Higher.ensures.ok
 
 pub insert_from-returns-in-Higher-clause-err : goal.insert_from-returns-in-Higher-clause-err
 insert_from-returns-in-Higher-clause-err g t c =

@@ -32,7 +32,7 @@ assemble-requires g c =
     (λ added. inserted_canonical g.K.Ord.cmp g.T.Build.keeps (tree c.args.tree.now) _ c.args.value _ _
     (child_added g.K.Ord.cmp g.T.Build.keeps g.met.T.Build.keeps_refl g.met.T.Build.keeps_trans g.met.K.Ord.total tree
     (tree c.args.tree.now) _ _ _ _ _ c.args.i c.in_ok-leaf.leaf c.args.rest.now c.args.value
-    prefix value children refl canonical c.requires.solid c.requires.fits c.in_ok-leaf.ensures added))
+    prefix value children refl canonical c.requires.solid c.requires.fits c.in_ok-leaf.ensures.is added))
     (λ alike. parts_canonical g.K.Ord.cmp g.T.Build.keeps g.met.T.Build.keeps_refl g.met.T.Build.keeps_trans
     g.met.K.Ord.total tree (tree c.args.tree.now) _ _ _ _ prefix value children canonical alike)
 
@@ -45,21 +45,7 @@ returns-clause-ok g c =
     let canonical =
     subst (λ t. IsCanonical g.K.Ord.cmp (tree t)) c.replace-node.ensures.value c.take_apart-prefix.ensures.canonical in
     on_ok c.add_to-done.result
-    (λ added. (child_added g.K.Ord.cmp g.T.Build.keeps g.met.T.Build.keeps_refl g.met.T.Build.keeps_trans
+    (λ added. child_added g.K.Ord.cmp g.T.Build.keeps g.met.T.Build.keeps_refl g.met.T.Build.keeps_trans
     g.met.K.Ord.total tree (tree c.args.tree.now) _ _ _ _ _ c.args.i c.in_ok-leaf.leaf c.args.rest.now c.args.value
-    prefix value children c.assemble.ensures canonical c.requires.solid c.requires.fits c.in_ok-leaf.ensures added).updated)
-    c.add_to-done.ensures.ok
-
-pub returns-clause-branch : goal.returns-clause-branch
-returns-clause-branch g c =
-    let tree = g.T.RadixNode.tree in
-    let prefix = c.take_apart-prefix.ensures.prefix ∙ ap (λ t. (tree t).prefix) c.replace-node.ensures.value in
-    let value = c.take_apart-prefix.ensures.value ∙ ap (λ t. (tree t).value) c.replace-node.ensures.value in
-    let children = c.take_apart-prefix.ensures.children ∙ ap (λ t. (tree t).children) c.replace-node.ensures.value in
-    let canonical =
-    subst (λ t. IsCanonical g.K.Ord.cmp (tree t)) c.replace-node.ensures.value c.take_apart-prefix.ensures.canonical in
-    on_ok c.add_to-done.result
-    (λ added. (child_added g.K.Ord.cmp g.T.Build.keeps g.met.T.Build.keeps_refl g.met.T.Build.keeps_trans
-    g.met.K.Ord.total tree (tree c.args.tree.now) _ _ _ _ _ c.args.i c.in_ok-leaf.leaf c.args.rest.now c.args.value
-    prefix value children c.assemble.ensures canonical c.requires.solid c.requires.fits c.in_ok-leaf.ensures added).branch)
+    prefix value children c.assemble.ensures canonical c.requires.solid c.requires.fits c.in_ok-leaf.ensures.is added)
     c.add_to-done.ensures.ok

@@ -1,7 +1,8 @@
 -- The empty tree becomes a leaf; any other grows.
 use Rattle.std.proofs.Common.{sym, ◌∙◌}
 use Rattle.vc_tree_model.proofs.AlikeLemmas.{tree_alike_canonical, tree_alike_lookup}
-use Rattle.vc_tree_nodes.proofs.Events.{on_err, on_both, leaf_made}
+use Rattle.vc_tree_model.proofs.KeyLemmas.{same_itself}
+use Rattle.vc_tree_nodes.proofs.Events.{on_ok, on_err, on_both, leaf_made}
 use Rattle.vc_tree_nodes.proofs.Growing.{not_bare_solid, solid_canonical}
 use Rattle.vc_tree_nodes.proofs.insertion.insert.Goals as goal
 
@@ -9,12 +10,25 @@ pub returns-then-is_empty-clause-ok : goal.returns-then-is_empty-clause-ok
 returns-then-is_empty-clause-ok g c =
     let tree = g.T.RadixNode.tree in
     leaf_made g.K.Ord.cmp g.T.Build.keeps (tree c.args.tree.now) (tree c.in_ok-tree.field-0) c.args.key.now
-    c.args.value (sym c.is_empty.ensures ∙ c.if-is_empty.true) c.in_ok-tree.ensures
+    c.args.value (sym c.is_empty.ensures ∙ c.if-is_empty.true) c.in_ok-tree.ensures.is
+
+pub returns-then-is_empty-clause-binds : goal.returns-then-is_empty-clause-binds
+returns-then-is_empty-clause-binds g c =
+    let tree = g.T.RadixNode.tree in
+    (leaf_made g.K.Ord.cmp g.T.Build.keeps (tree c.args.tree.now) (tree c.in_ok-tree.field-0) c.args.key.now
+    c.args.value (sym c.is_empty.ensures ∙ c.if-is_empty.true) c.in_ok-tree.ensures.is).at c.args.key.now
+    (same_itself g.K.Ord.cmp g.met.K.Ord.total c.args.key.now)
 
 pub insert_from-requires-clause-solid : goal.insert_from-requires-clause-solid
 insert_from-requires-clause-solid g c =
     not_bare_solid (g.T.RadixNode.tree c.args.tree.now) c.prefix.ensures.canonical.0
     (sym c.is_empty.ensures ∙ c.if-is_empty.false)
+
+pub returns-clause-binds : goal.returns-clause-binds
+returns-clause-binds g c =
+    on_ok c.insert_from.result
+    (λ updated. updated.at c.args.key.now (same_itself g.K.Ord.cmp g.met.K.Ord.total c.args.key.now))
+    c.insert_from.ensures.ok
 
 pub returns-clause-err : goal.returns-clause-err
 returns-clause-err g c =

@@ -21,12 +21,12 @@ assemble-requires g c =
     (top_made g.K.Ord.cmp g.T.Build.keeps g.met.T.Build.keeps_refl g.met.T.Build.keeps_trans g.met.K.Ord.total tree t
     _ c.args.n _ c.cut-low.result _ c.args.value
     c.requires c.prefix-whole.ensures.canonical
-    (top_from _ c.prefix-whole.result.now t.prefix c.args.n c.in_ok-top.ensures c.prefix-whole.ensures.value)
+    (top_from _ c.prefix-whole.result.now t.prefix c.args.n c.in_ok-top.ensures.items c.prefix-whole.ensures.value)
     (c.cut-low.ensures ∙ node-equal _ _ t.value t.value t.children t.children
-    (low_from _ c.prefix-whole.result.now t.prefix c.args.n c.in_ok-low_prefix.ensures c.prefix-whole.ensures.value)
+    (low_from _ c.prefix-whole.result.now t.prefix c.args.n c.in_ok-low_prefix.ensures.items c.prefix-whole.ensures.value)
     refl refl)
-    (one_put _ c.put.new.list.items c.reserve.new.self.items c.in_ok-list.list.now.items c.cut-low.result
-    (c.make_mut.follows.holds _ (ap is_ok c.in_ok-list.was)) c.put.ensures.items c.reserve.ensures.items
+    (one_put _ c.put.new.list.items c.reserve_exact.new.self.items c.in_ok-list.list.now.items c.cut-low.result
+    (c.make_mut.follows.holds _ (ap is_ok c.in_ok-list.was)) c.put.ensures.items c.reserve_exact.ensures.items
     (empty_kept g.T.Build.keeps tree _ _ (c.in_ok-children.ensures.ok ∙ c.new.ensures.items)
     (g.met.T.Build.kept_alike _ _ c.in_ok-list.ensures.value)))
     refl)
@@ -35,32 +35,15 @@ pub returns-clause-ok : goal.returns-clause-ok
 returns-clause-ok g c =
     let tree = g.T.RadixNode.tree in
     let t = tree c.args.tree.now in
-    (top_made g.K.Ord.cmp g.T.Build.keeps g.met.T.Build.keeps_refl g.met.T.Build.keeps_trans g.met.K.Ord.total tree t
+    top_made g.K.Ord.cmp g.T.Build.keeps g.met.T.Build.keeps_refl g.met.T.Build.keeps_trans g.met.K.Ord.total tree t
     _ c.args.n _ c.cut-low.result _ c.args.value
     c.requires c.prefix-whole.ensures.canonical
-    (top_from _ c.prefix-whole.result.now t.prefix c.args.n c.in_ok-top.ensures c.prefix-whole.ensures.value)
+    (top_from _ c.prefix-whole.result.now t.prefix c.args.n c.in_ok-top.ensures.items c.prefix-whole.ensures.value)
     (c.cut-low.ensures ∙ node-equal _ _ t.value t.value t.children t.children
-    (low_from _ c.prefix-whole.result.now t.prefix c.args.n c.in_ok-low_prefix.ensures c.prefix-whole.ensures.value)
+    (low_from _ c.prefix-whole.result.now t.prefix c.args.n c.in_ok-low_prefix.ensures.items c.prefix-whole.ensures.value)
     refl refl)
-    (one_put _ c.put.new.list.items c.reserve.new.self.items c.in_ok-list.list.now.items c.cut-low.result
-    (c.make_mut.follows.holds _ (ap is_ok c.in_ok-list.was)) c.put.ensures.items c.reserve.ensures.items
+    (one_put _ c.put.new.list.items c.reserve_exact.new.self.items c.in_ok-list.list.now.items c.cut-low.result
+    (c.make_mut.follows.holds _ (ap is_ok c.in_ok-list.was)) c.put.ensures.items c.reserve_exact.ensures.items
     (empty_kept g.T.Build.keeps tree _ _ (c.in_ok-children.ensures.ok ∙ c.new.ensures.items)
     (g.met.T.Build.kept_alike _ _ c.in_ok-list.ensures.value)))
-    c.assemble.ensures).updated
-
-pub returns-clause-branch : goal.returns-clause-branch
-returns-clause-branch g c =
-    let tree = g.T.RadixNode.tree in
-    let t = tree c.args.tree.now in
-    (top_made g.K.Ord.cmp g.T.Build.keeps g.met.T.Build.keeps_refl g.met.T.Build.keeps_trans g.met.K.Ord.total tree t
-    _ c.args.n _ c.cut-low.result _ c.args.value
-    c.requires c.prefix-whole.ensures.canonical
-    (top_from _ c.prefix-whole.result.now t.prefix c.args.n c.in_ok-top.ensures c.prefix-whole.ensures.value)
-    (c.cut-low.ensures ∙ node-equal _ _ t.value t.value t.children t.children
-    (low_from _ c.prefix-whole.result.now t.prefix c.args.n c.in_ok-low_prefix.ensures c.prefix-whole.ensures.value)
-    refl refl)
-    (one_put _ c.put.new.list.items c.reserve.new.self.items c.in_ok-list.list.now.items c.cut-low.result
-    (c.make_mut.follows.holds _ (ap is_ok c.in_ok-list.was)) c.put.ensures.items c.reserve.ensures.items
-    (empty_kept g.T.Build.keeps tree _ _ (c.in_ok-children.ensures.ok ∙ c.new.ensures.items)
-    (g.met.T.Build.kept_alike _ _ c.in_ok-list.ensures.value)))
-    c.assemble.ensures).branch
+    c.assemble.ensures

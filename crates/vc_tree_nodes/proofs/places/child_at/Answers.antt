@@ -7,17 +7,17 @@ pub offset_bounds-children-i : goal.offset_bounds-children-i
 offset_bounds-children-i g c =
     let h =
     begins_below g.K.Ord.cmp g.T.RadixNode.tree c.args.children.now c.args.first.now c.in-Ok.i
-    c.in-Ok.ensures in omega (arith, h)
+    c.in-Ok.ensures.place in omega (arith, h)
 
 pub bounds-children-i : goal.bounds-children-i
 bounds-children-i g c =
-    begins_below g.K.Ord.cmp g.T.RadixNode.tree c.args.children.now c.args.first.now c.in-Ok.i c.in-Ok.ensures
+    begins_below g.K.Ord.cmp g.T.RadixNode.tree c.args.children.now c.args.first.now c.in-Ok.i c.in-Ok.ensures.place
 
-pub returns-in-Ok : goal.returns-in-Ok
-returns-in-Ok g c =
+pub returns-in-Ok-clause-child : goal.returns-in-Ok-clause-child
+returns-in-Ok-clause-child g c =
     found_at g.K.Ord.cmp g.T.RadixNode.tree g.met.K.Ord.total c.args.children.now c.in-Ok.i c.args.first.now
     c.index-children-i.result
-    c.requires c.in-Ok.ensures c.index-children-i.is
+    c.requires c.in-Ok.ensures.place c.index-children-i.is
 
-pub returns-in-Err : goal.returns-in-Err
-returns-in-Err g c = gap_none g.K.Ord.cmp g.met.K.Ord.total _ c.args.first.now c.in-Err.field-0 c.in-Err.ensures
+pub returns-in-Err-clause-child : goal.returns-in-Err-clause-child
+returns-in-Err-clause-child g c = gap_none g.K.Ord.cmp g.met.K.Ord.total _ c.args.first.now c.in-Err.field-0 c.in-Err.ensures.place

@@ -1,0 +1,11 @@
+use Rattle.std.proofs.Common.{arith}
+use Rattle.vc_merge.proofs.Searching.{place-searched}
+use Rattle.vc_merge.proofs.search.search.Goals as goal
+
+pub returns-then-part-clause-place : goal.returns-then-part-clause-place
+returns-then-part-clause-place g c =
+    let part = c.halve_four_times-part-3.result in
+    let first = c.halve_four_times-part.ensures.shorter in
+    let second = c.halve_four_times-part-2.ensures.shorter in
+    let third = c.halve_four_times-part-3.ensures.shorter in
+    place-searched (g.S.Sought.side c.args.sought.now) c.args.list.now part.start part.len part.found c.requires c.halve_four_times-part-3.ensures.searched c.if-part.true (omega arith)

@@ -1,0 +1,228 @@
+//! Searches in an ordered list, for one element by its order, for a pair by its key, or for whatever a [`Sought`] tells.
+//!
+//! There are two forms, neither of which branches on an answer. [`search`] halves what is left, and makes no more comparisons than
+//! the length has binary digits: it serves counted calls, and those that promise a bound. [`look_up`] compares with three elements
+//! at a time that do not wait for each other, which makes half as many comparisons more and is faster, for numbers and for strings.
+ghost use Rattle.std.specs.Prelude.{◌≡◌, ◌+◌, ◌-◌, ◌*◌, ◌/◌, ◌<◌, ◌≤◌, length};
+ghost use Rattle.std.specs.Map.{keys_of};
+ghost use Rattle.std.specs.declared.cmp.Ordering.{Ordering};
+ghost use Rattle.vc_merge.specs.Ascending.{Ascends};
+ghost use Rattle.vc_merge.specs.Count.{ticked, digits};
+ghost use Rattle.vc_merge.specs.Place.{IsOrdered, IsPlace, IsNarrowed, IsReached, IsSearched};
+
+use crate::merge::{Count, Uncounted};
+use std::cmp::Ordering;
+
+/// What is sought in a list: it tells how an element stands to it.
+pub trait Sought<X, C: Count> {
+    ghost side: { Self → X → Ordering };
+
+    /// How the element stands to what is sought: `Less` before it, `Greater` behind it. Ticks the counter once.
+    fn compare(&self, element: &X, steps: &mut C) -> Ordering
+        ensures value { result ≡ side self.now element.now }
+        ensures ticks { C.counted steps.new ≡ ticked (C.counted steps.old) };
+}
+
+/// An element that is sought in a list of such elements.
+#[derive(Clone, Copy)]
+struct Element<'a, T>(&'a T);
+
+impl<'a, T: Ord, C: Count> Sought<T, C> for Element<'a, T> {
+    ghost side = { λ s y. T.cmp y s.0.now };
+
+    fn compare(&self, element: &T, steps: &mut C) -> Ordering {
+        steps.tick();
+        element.cmp(self.0)
+    }
+}
+
+/// A key that is sought in a list of pairs.
+#[derive(Clone, Copy)]
+struct Key<'a, K>(&'a K);
+
+impl<'a, K: Ord, V, C: Count> Sought<(K, V), C> for Key<'a, K> {
+    ghost side = { λ s p. K.cmp p.0 s.0.now };
+
+    fn compare(&self, pair: &(K, V), steps: &mut C) -> Ordering {
+        steps.tick();
+        pair.0.cmp(self.0)
+    }
+}
+
+/// The place of the element that is equal to `value` in an ascending list, or the gap where it would stand.
+pub fn find<T: Ord>(list: &[T], value: &T) -> Result<usize, usize>
+    requires { Ascends T.cmp list.now }
+    ensures { IsPlace (λ y. T.cmp y value.now) list.now result }
+{
+    look_up(list, &Element(value))
+}
+
+/// The place of the pair with an equal key in a list that ascends by its keys, or the gap where it would stand.
+pub fn find_key<K: Ord, V>(pairs: &[(K, V)], key: &K) -> Result<usize, usize>
+    requires { Ascends K.cmp (keys_of pairs.now) }
+    ensures { IsPlace (λ p. K.cmp p.0 key.now) pairs.now result }
+{
+    look_up(pairs, &Key(key))
+}
+
+/// The place of the element that is equal to what is sought, or the gap where one would stand. Nothing is counted.
+///
+/// Of a list of `n` elements it compares with about `1.5 * log2(n) + 1`.
+pub fn look_up<X, S: Sought<X, Uncounted>>(list: &[X], sought: &S) -> Result<usize, usize>
+    requires { IsOrdered (S.side sought.now) list.now }
+    ensures { IsPlace (S.side sought.now) list.now result }
+{
+    if list.is_empty() {
+        return Err(0);
+    }
+    let mut start = 0;
+    let mut len = list.len();
+    'quarters: while len >= 4 {
+        start = nearest_quarter(list, start, len, sought);
+        len -= len / 4 * 3;
+    }
+    // Written out, since a loop is compiled with a branch on each answer.
+    let (start, len) = nearest_half(list, start, len, sought);
+    let (start, _one) = nearest_half(list, start, len, sought);
+    match sought.compare(&list[start], &mut Uncounted) {
+        Ordering::Less => Err(start + 1),
+        Ordering::Equal => Ok(start),
+        Ordering::Greater => Err(start),
+    }
+}
+
+/// Where the last of four parts begins that begins with no greater element, or the first part where there is none.
+#[inline(always)]
+fn nearest_quarter<X, S: Sought<X, Uncounted>>(
+    list: &[X],
+    start: usize,
+    len: usize,
+    sought: &S,
+) -> usize
+    requires ordered { IsOrdered (S.side sought.now) list.now }
+    requires narrowed { IsNarrowed (S.side sought.now) list.now start len }
+    requires long { 4 ≤ len }
+    ensures { IsNarrowed (S.side sought.now) list.now result (len - len / 4 * 3) }
+{
+    let quarter = len / 4;
+    let second = start + quarter;
+    let third = second + quarter;
+    let fourth = third + quarter;
+    let reached = reaches(list, second, sought)
+        + reaches(list, third, sought)
+        + reaches(list, fourth, sought);
+    start + reached * quarter
+}
+
+/// The part of two that is searched on: the second one, unless it begins with a greater element.
+#[inline(always)]
+fn nearest_half<X, S: Sought<X, Uncounted>>(
+    list: &[X],
+    start: usize,
+    len: usize,
+    sought: &S,
+) -> (usize, usize)
+    requires ordered { IsOrdered (S.side sought.now) list.now }
+    requires narrowed { IsNarrowed (S.side sought.now) list.now start len }
+    ensures narrowed { IsNarrowed (S.side sought.now) list.now result.0 result.1 }
+    ensures shorter { result.1 ≡ len - len / 2 }
+{
+    if len < 2 {
+        return (start, len);
+    }
+    let half = len / 2;
+    (
+        start + reaches(list, start + half, sought) * half,
+        len - half,
+    )
+}
+
+/// One where the element is not greater, and else none.
+#[inline(always)]
+fn reaches<X, S: Sought<X, Uncounted>>(list: &[X], place: usize, sought: &S) -> usize
+    requires { place < length list.now }
+    ensures { IsReached (S.side sought.now) list.now place result }
+{
+    usize::from(!sought.compare(&list[place], &mut Uncounted).is_gt())
+}
+
+/// The place of the element that is equal to what is sought, or the gap where one would stand, by no more comparisons than the
+/// length has binary digits.
+pub fn search<X, C: Count, S: Sought<X, C>>(
+    list: &[X],
+    sought: &S,
+    steps: &mut C,
+) -> Result<usize, usize>
+    requires { IsOrdered (S.side sought.now) list.now }
+    ensures place { IsPlace (S.side sought.now) list.now result }
+    ensures counted { C.counted steps.new ≤ C.counted steps.old + digits (length list.now) }
+{
+    let mut part = Part {
+        start: 0,
+        len: list.len(),
+        found: false,
+    };
+    'long: while part.len >= 4096 {
+        part = halve(list, part, sought, steps);
+    }
+    // Written out, since a loop is compiled with a branch on each answer.
+    part = halve_four_times(list, part, sought, steps);
+    part = halve_four_times(list, part, sought, steps);
+    part = halve_four_times(list, part, sought, steps);
+    if part.found {
+        Ok(part.start - 1)
+    } else {
+        Err(part.start)
+    }
+}
+
+/// The part of a list that is still searched, and whether the element before it is equal.
+#[derive(Clone, Copy)]
+struct Part {
+    start: usize,
+    len: usize,
+    found: bool,
+}
+
+/// Four times [`halve`].
+#[inline(always)]
+fn halve_four_times<X, C: Count, S: Sought<X, C>>(
+    list: &[X],
+    part: Part,
+    sought: &S,
+    steps: &mut C,
+) -> Part
+    requires ordered { IsOrdered (S.side sought.now) list.now }
+    requires searched { IsSearched (S.side sought.now) list.now part.start part.len part.found }
+    ensures searched { IsSearched (S.side sought.now) list.now result.start result.len result.found }
+    ensures shorter { result.len ≡ part.len / 16 }
+    ensures counted { C.counted steps.new + digits result.len ≤ C.counted steps.old + digits part.len }
+{
+    let half = halve(list, part, sought, steps);
+    let quarter = halve(list, half, sought, steps);
+    let eighth = halve(list, quarter, sought, steps);
+    halve(list, eighth, sought, steps)
+}
+
+/// Compares with the element at the end of the first half, and goes on in that half or behind it.
+#[inline(always)]
+fn halve<X, C: Count, S: Sought<X, C>>(list: &[X], part: Part, sought: &S, steps: &mut C) -> Part
+    requires ordered { IsOrdered (S.side sought.now) list.now }
+    requires searched { IsSearched (S.side sought.now) list.now part.start part.len part.found }
+    ensures searched { IsSearched (S.side sought.now) list.now result.start result.len result.found }
+    ensures shorter { result.len ≡ part.len / 2 }
+    ensures counted { C.counted steps.new + digits result.len ≤ C.counted steps.old + digits part.len }
+{
+    if part.len == 0 {
+        return part;
+    }
+    let len = part.len / 2;
+    let middle = part.start + (part.len - len);
+    let side = sought.compare(&list[middle - 1], steps);
+    let start = if side.is_gt() { part.start } else { middle };
+    Part {
+        start,
+        len,
+        found: part.found | side.is_eq(),
+    }
+}

@@ -1,0 +1,26 @@
+-- Each pair that comes is one more, and at the end the run is whole.
+use Rattle.std.proofs.Common.{map, sym, subst, ◌∙◌}
+use Rattle.std.proofs.iter.SoFar.{exit_by}
+use Rattle.vc_tree_model.specs.Pairs.{IsCollected}
+use Rattle.vc_tree_model.proofs.Collecting.{collected_next}
+use Rattle.vc_tree_nodes.proofs.collecting.collect.Goals as goal
+
+pub loop-key-preserved : goal.loop-key-preserved
+loop-key-preserved g c =
+    collected_next g.K.Ord.cmp g.S.Spelled.components c.loop-key.yielded (c.in-Some.key, c.in-Some.value)
+    c.as_key.result.now c.loop-key.tree c.insert.new.tree c.as_key.ensures c.loop-key.invariant c.in_ok-insert.ensures.ok
+
+pub returns : goal.returns
+returns g c =
+    let whole =
+    exit_by g.I.Iterator.next_gives (c.loop-key.yielded, c.loop-key.yielded_by) c.next.new.self
+    (rw c.in-None.is at c.next.ensures.steps) in
+    record {
+      pairs = (
+        whole.0,
+        whole.1 ∙ c.into_iter-key-iterator.ensures.into_iter_gives,
+        whole.2,
+        subst (λ xs. IsCollected g.K.Ord.cmp (map (λ b. (g.S.Spelled.components b.0, b.1)) xs) c.loop-key.tree)
+            (sym whole.3.0) c.loop-key.invariant,
+      );
+    }

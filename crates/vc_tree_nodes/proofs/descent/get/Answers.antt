@@ -1,0 +1,58 @@
+-- The next node binds what is left, and what it may cost stays within the bound.
+use Rattle.std.proofs.Common.{◌≡◌, ◌+◌, ◌*◌, ◌≤◌, length, Some, sym, ap, arith, rules}
+use Rattle.vc_merge.specs.Count.{digits}
+use Rattle.vc_tree_model.specs.Key.{behind}
+use Rattle.vc_tree_model.specs.Tree.{width, forest_width}
+use Rattle.vc_tree_nodes.specs.Children.{seen}
+use Rattle.vc_tree_nodes.proofs.Descending.{behind_length, searched_within, down_behind, down_searched, down_missed, some_first}
+use Rattle.vc_tree_nodes.proofs.descent.get.Goals as goal
+
+pub returns-in_err-node-clause-counted : goal.returns-in_err-node-clause-counted
+returns-in_err-node-clause-counted g c =
+    let tree = g.T.RadixNode.tree in
+    let node = tree c.loop-left.node.now in
+    let d = digits (width (tree c.args.tree.now)) in
+    let most = g.C.Count.counted c.args.steps.now + length c.args.key.now * (1 + d) in
+    let before = g.C.Count.counted c.loop-left.steps in
+    let down = g.C.Count.counted c.rest_behind.new.steps in
+    let left : behind g.K.Ord.cmp c.prefix.result.now c.loop-left.rest.now ≡ Some c.in_ok-left.left.now =
+    sym c.in_ok-left.ensures.rest in
+    let long = behind_length g.K.Ord.cmp _ _ _ left in
+    let same = ap length c.prefix.ensures.value in
+    let goes_down : down + length c.in_ok-left.left.now * (1 + d) ≤ most =
+    down_behind most d before down (length c.loop-left.rest.now) c.loop-left.known (length node.prefix)
+    (length c.in_ok-left.left.now) c.loop-left.invariant.3 c.loop-left.invariant.1.within_prefix
+    (omega (arith, long, same)) (omega (arith, same, c.in_ok-left.ensures.counted)) in
+    let cost = searched_within tree c.children.result.now node (tree c.args.tree.now) c.children.ensures
+    c.loop-left.invariant.2 in
+    down_missed most d down (g.C.Count.counted c.child_at.new.steps) (length c.in_ok-left.left.now) goes_down
+    (some_first c.in_ok-left.left.now c.in-Some.first.now c.in-Some.ensures.value)
+    (omega (arith, cost, c.child_at.ensures.counted))
+
+pub loop-left-preserved : goal.loop-left-preserved
+loop-left-preserved g c =
+    let tree = g.T.RadixNode.tree in
+    let node = tree c.loop-left.node.now in
+    let d = digits (width (tree c.args.tree.now)) in
+    let most = g.C.Count.counted c.args.steps.now + length c.args.key.now * (1 + d) in
+    let before = g.C.Count.counted c.loop-left.steps in
+    let down = g.C.Count.counted c.rest_behind.new.steps in
+    let after = g.C.Count.counted c.child_at.new.steps in
+    let left : behind g.K.Ord.cmp c.prefix.result.now c.loop-left.rest.now ≡ Some c.in_ok-left.left.now =
+    sym c.in_ok-left.ensures.rest in
+    let long = behind_length g.K.Ord.cmp _ _ _ left in
+    let same = ap length c.prefix.ensures.value in
+    let goes_down : down + length c.in_ok-left.left.now * (1 + d) ≤ most =
+    down_behind most d before down (length c.loop-left.rest.now) c.loop-left.known (length node.prefix)
+    (length c.in_ok-left.left.now) c.loop-left.invariant.3 c.loop-left.invariant.1.within_prefix
+    (omega (arith, long, same)) (omega (arith, same, c.in_ok-left.ensures.counted)) in
+    let cost = searched_within tree c.children.result.now node (tree c.args.tree.now) c.children.ensures
+    c.loop-left.invariant.2 in
+    let narrow : forest_width (seen tree c.children.result.now) ≡ forest_width node.children =
+    ap forest_width c.children.ensures in (
+      search rules,
+      search rules,
+      omega (arith, narrow, c.loop-left.invariant.2, c.in_ok-node.ensures.child.narrower),
+      down_searched most d down after (length c.in_ok-left.left.now) goes_down
+          (omega (arith, cost, c.in_ok-node.ensures.counted)),
+    )
