@@ -145,9 +145,9 @@ module _ {K V W U A B : Type 0} (cmp : K → K → Ordering) (ta : A → Tree K 
           let g = left_is f.0 f.2 x ls' (ap lefts (sym f.3)) e in
           let h = right_is f.1 f.2 y rs' (ap rights (sym f.3)) e' in
           let same = subst (λ y. IsBothMade cmp R (shortened i (ta f.0)) (shortened j (tb y)) o) h.0
-              (subst (λ x. IsBothMade cmp R (shortened i (ta x)) (shortened j (tb y)) o) g.0 w) in
+          (subst (λ x. IsBothMade cmp R (shortened i (ta x)) (shortened j (tb y)) o) g.0 w) in
           let cost = subst (λ y. spent' + 2 ≤ spent + 3 * (weight (shortened i (ta f.0)) + weight (shortened j (tb y)))) h.0
-              (subst (λ x. spent' + 2 ≤ spent + 3 * (weight (shortened i (ta x)) + weight (shortened j (tb y)))) g.0 c) in
+          (subst (λ x. spent' + 2 ≤ spent + 3 * (weight (shortened i (ta x)) + weight (shortened j (tb y)))) g.0 c) in
           let paid = subst (λ l. spent + owed cmp ta tb i j l ≤ budget) f.3 d.paid in
           more ls' rs' sides made made' spent' budget d.done (collision f.0 f.1) f.2 o (script_next _ _ f.3) d.made_at d.made_are
           same pushed g.1 h.1 (sides_next _ _ Both f.3 z) (asked_next _ _ f.3) (omega (arith, cost, paid))

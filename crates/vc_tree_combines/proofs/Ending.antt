@@ -4,7 +4,7 @@
 --     values_asked        what may be asked of the values at the fronts
 --     made_children        the trees that were made are canonical children
 --     combined        the node of these trees is what the combine says of both
-use Rattle.std.proofs.Common.{◌≡◌, ℕ, ◌+◌, ◌-◌, ◌*◌, ◌≤◌, [], ◌∷◌, ◌++◌, List, Option, None, Some, refl, sym, ap, subst, ◌∙◌, map, take, drop, zero, suc, slice_get, true, append-nil, true≢false, arith, length}
+use Rattle.std.proofs.Common.{◌≡◌, ℕ, ◌+◌, ◌-◌, ◌*◌, ◌≤◌, [], ◌∷◌, ◌++◌, List, Option, None, Some, refl, sym, ap, subst, ◌∙◌, map, take, drop, zero, suc, min, slice_get, true, append-nil, true≢false, arith, length}
 use Rattle.std.proofs.lemmas.List.{take-append-drop}
 use Rattle.std.specs.Cmp.{IsTotalOrder, tied_itself}
 use Rattle.std.specs.List.{AllByRecursion}
@@ -68,11 +68,11 @@ module _ {K : Type 0} (cmp : K → K → Ordering) where
 
     -- the state before the first event
     pub combine_started : asks None None → ((k : List K) → asks (lookup cmp t k) (lookup cmp u k)) → (made : List (Tree K U))
-        → made ≡ [] → (spent start : ℕ) → spent ≤ start + n + length xs + length ys
+        → made ≡ [] → (spent start : ℕ) → spent ≤ start + min (length t.prefix) (length u.prefix) + length xs + length ys
         → IsDoing cmp ta tb i j R asks xs ys xs ys sides made spent (start + 3 * (weight t + weight u) - 2)
     combine_started an h made e spent start c =
         let below = children_asked cmp o (values cmp) asks t u (take n t.prefix) (drop n t.prefix) (take n u.prefix)
-            (drop n u.prefix) (sym (take-append-drop n t.prefix)) (sym (take-append-drop n u.prefix)) f.same h in
+        (drop n u.prefix) (sym (take-append-drop n t.prefix)) (sym (take-append-drop n u.prefix)) f.same h in
         let paid = face_paid cmp ta tb t u n xs i ys j sides f in
         doing_start cmp ta tb i j R asks xs ys sides made spent _ e f.listed
         (script_asked cmp o ta tb i j asks an xs ys f.listed.events left_children right_children f.listed.script
@@ -100,7 +100,7 @@ module _ {K : Type 0} (cmp : K → K → Ordering) where
           → out ≡ solid_child front v (forest made) → IsBothMade cmp R t u out
       combined v front out root e g =
           let below = subst (λ h. IsCombinedIn cmp (values cmp) R (children_at t (drop n t.prefix)) h (forest made)) f.right.children
-              (subst (λ h. IsCombinedIn cmp (values cmp) R h (shortened_in tb j ys) (forest made)) f.left.children made_of.1) in
+          (subst (λ h. IsCombinedIn cmp (values cmp) R h (shortened_in tb j ys) (forest made)) f.left.children made_of.1) in
           subst (λ z. IsBothMade cmp R t u z) (sym (g ∙ ap (λ p. solid_child p v (forest made)) e)) (record {
             child = joined_child cmp (take n t.prefix) v (forest made) made_children;
             begins = λ y z a b q. front_begins o n t.prefix u.prefix v (forest made) y z a b q f.parts;

@@ -6,3 +6,4 @@ pub mod Making
 pub mod Paying
 pub mod Next
 pub mod Ending
+pub mod Alone

@@ -129,7 +129,7 @@ module _ {K : Type 0} (cmp : K → K → Ordering) (o : IsTotalOrder cmp) where
       is_row (collision a b, u) h m w =
           let e : slice_get (drop i (ta a).prefix) 0 ≡ Some h.0 = get_drop i (ta a).prefix ∙ h.1 in
           let z = other h.0 (slice_get (tb b).prefix j)
-              (ap (λ c. option_cmp cmp c (slice_get (tb b).prefix j)) (sym h.1) ∙ m) in
+          (ap (λ c. option_cmp cmp c (slice_get (tb b).prefix j)) (sym h.1) ∙ m) in
           let f : slice_get (drop j (tb b).prefix) 0 ≡ Some z.0 = get_drop j (tb b).prefix ∙ z.1 in
           record {
             left = begins_by (drop i (ta a).prefix) h.0 h.0 e (tied_itself o h.0);
@@ -161,8 +161,7 @@ module _ {K : Type 0} (cmp : K → K → Ordering) (o : IsTotalOrder cmp) where
           ap forest (left_side ds h ∙ ap (map (λ x. shortened i (ta x))) s.left) in
           let right : side (λ r. r.right) (rows ds h) ≡ shortened_in tb j ys =
           ap forest (right_side ds h ∙ ap (map (λ x. shortened j (tb x))) s.right) in
-          let out : side (λ r. r.out) (rows ds h) ≡ forest (filter_map (λ d. d.1) ds) = ap forest (out_side ds h) in
-          (
+          let out : side (λ r. r.out) (rows ds h) ≡ forest (filter_map (λ d. d.1) ds) = ap forest (out_side ds h) in (
             subst (AreChildren cmp) out (rows_children cmp o (values cmp) R (rows ds h) a r),
             subst (λ f. IsCombinedIn cmp (values cmp) R f (shortened_in tb j ys) (forest (filter_map (λ d. d.1) ds))) left
                 (subst (λ g. IsCombinedIn cmp (values cmp) R (side (λ r. r.left) (rows ds h)) g (forest (filter_map (λ d. d.1) ds))) right

@@ -52,6 +52,10 @@ agree_first cmp (x' ∷ p) (y' ∷ q) x y e f h =
     let r : cmp x' y' ≡ Equal = rw (a, b) h in
     record { within_prefix = omega arith; within_key = omega arith; same = rw r refl }
 
+-- what is below is not above
+pub at_most : (i n : ℕ) → i < n → i ≤ n
+at_most i n h = omega (arith, h)
+
 -- a list without elements
 pub nil_by : {X : Type 0} (l : List X) → length l ≡ 0 → l ≡ []
 nil_by [] e = refl
@@ -109,16 +113,16 @@ module _ {K V W U A B : Type 0} (cmp : K → K → Ordering) (ta : A → Tree K 
   within_budget = let p = d.paid in omega (arith, p)
 
   -- a next tree goes on at the place
-  pub left_within : AreChildren cmp (shortened_in ta i xs) → (x : A) (ls' : List A) → ls ≡ x ∷ ls' → i ≤ length (ta x).prefix
+  pub left_within : AreChildren cmp (shortened_in ta i xs) → (x : A) (ls' : List A) → ls ≡ x ∷ ls' → i < length (ta x).prefix
   left_within c x ls' e =
       let h = left_head (λ x. (k : K) × (slice_get (ta x).prefix i ≡ Some k)) x ls' e (components cmp ta i xs c) in
-      let w = slice_get_within (ta x).prefix i h.0 h.1 in omega (arith, w)
+      slice_get_within (ta x).prefix i h.0 h.1
 
   pub right_within : AreChildren cmp (shortened_in tb j ys) → (y : B) (rs' : List B) → rs ≡ y ∷ rs'
-      → j ≤ length (tb y).prefix
+      → j < length (tb y).prefix
   right_within c y rs' e =
       let h = right_head (λ y. (k : K) × (slice_get (tb y).prefix j ≡ Some k)) y rs' e (components cmp tb j ys c) in
-      let w = slice_get_within (tb y).prefix j h.0 h.1 in omega (arith, w)
+      slice_get_within (tb y).prefix j h.0 h.1
 
   -- and may be asked of
   pub left_asked : (sides : List Side) → all ≡ Left ∷ sides → (x : A) (ls' : List A) → ls ≡ x ∷ ls' → (k : List K)

@@ -174,7 +174,7 @@ module _ {K V W A B : Type 0} (cmp : K → K → Ordering) (o : IsTotalOrder cmp
     -- both prefixes go on where they part
     apart : (r : Ordering) (n : ℕ) (sides : List Side) → is_eq r ≡ false → PartsAt cmp r p q n
         → (by_component ta tb (i + n) (j + n) cmp (inl a) (inr b) ≡ r
-            → IsListed (by_component ta tb (i + n) (j + n) cmp) (a ∷ []) (b ∷ []) sides)
+        → IsListed (by_component ta tb (i + n) (j + n) cmp) (a ∷ []) (b ∷ []) sides)
         → IsFaced cmp ta tb (shortened i (ta a)) (shortened j (tb b)) n (a ∷ []) (i + n) (b ∷ []) (j + n) sides
     apart r n sides unequal h l =
         let gx = goes_on n (drop i (ta a).prefix) h.old (ap (λ z. slice_get z n) (sym ep) ∙ h.old_at) in

@@ -1,8 +1,8 @@
 -- What the comparisons of a combine are paid by: three for each node and component.
 --     apart_or_ended        two trees that meet below two prefixes show that one of these ended
---     few_children        each child weighs at least one
+--     few_children, digits_few        each child weighs at least one, and takes one comparison at most
 --     face_paid        what laying two trees side by side takes, and what is owed to the trees that meet, is paid by both trees
-use Rattle.std.proofs.Common.{◌≡◌, ℕ, ◌+◌, ◌*◌, ◌-◌, ◌<◌, ◌≤◌, [], ◌∷◌, List, Option, Some, refl, sym, ap, ◌∙◌, arith, map, drop, length, slice_get, true≢false, inl, inr}
+use Rattle.std.proofs.Common.{◌≡◌, ℕ, ◌+◌, ◌*◌, ◌-◌, ◌<◌, ◌^◌, ◌≤◌, zero, suc, min, [], ◌∷◌, List, Option, Some, refl, sym, ap, ◌∙◌, arith, map, drop, length, slice_get, true≢false, inl, inr}
 use Rattle.std.proofs.lemmas.List.{length-drop}
 use Rattle.std.specs.Cmp.{IsTotalOrder}
 use Rattle.std.specs.List.{AllByRecursion}
@@ -10,6 +10,9 @@ use Rattle.std.specs.Option.{option_cmp}
 use Rattle.std.specs.Ordering.{is_eq}
 use Rattle.std.specs.declared.cmp.Ordering.{Ordering}
 use Rattle.std.specs.declared.cmp.Ordering.TheVariants.{Equal}
+use Rattle.std.proofs.Math.Nat.{pow-suc}
+use Rattle.vc_merge.specs.Count.{digits}
+use Rattle.vc_merge.proofs.Digits.{digits-least}
 use Rattle.vc_merge.specs.Script.{Event, left_alone, right_alone, collision, lefts, rights, IsMatched, IsScript}
 use Rattle.vc_tree_model.specs.Shortened.{weight, forest_weight}
 use Rattle.vc_tree_model.specs.Tree.{Tree, Forest, bare, grow, forest, shortened}
@@ -50,18 +53,29 @@ module _ {K V W A B : Type 0} (cmp : K → K → Ordering) (ta : A → Tree K V)
   events_paid (right_alone b ∷ es) = let r = events_paid es in omega (arith, r)
   events_paid (collision a b ∷ es) = let r = events_paid es in omega (arith, r)
 
-  -- where no prefix ended nothing is owed, and each tree pays three times
+  -- where no prefix ended no two trees meet, and nothing is owed
   events_apart : (p q : List K) → Parts cmp p q → ended p + ended q ≡ 0 → (es : List (Event A B))
       → AllByRecursion (IsMatched (by_component ta tb i j cmp)) es
       → AllByRecursion (λ x. GoesOn p (slice_get (ta x).prefix i)) (lefts es)
-      → AllByRecursion (λ y. GoesOn q (slice_get (tb y).prefix j)) (rights es)
-      → 3 * (length (lefts es) + length (rights es)) + owed cmp ta tb i j es
-      ≤ 3 * (forest_weight (shortened_in ta i (lefts es)) + forest_weight (shortened_in tb j (rights es)))
-  events_apart p q w z [] m l r = omega arith
-  events_apart p q w z (left_alone a ∷ es) m l r = let h = events_apart p q w z es m.1 l.1 r in omega (arith, h)
-  events_apart p q w z (right_alone b ∷ es) m l r = let h = events_apart p q w z es m.1 l r.1 in omega (arith, h)
+      → AllByRecursion (λ y. GoesOn q (slice_get (tb y).prefix j)) (rights es) → owed cmp ta tb i j es ≡ 0
+  events_apart p q w z [] m l r = refl
+  events_apart p q w z (left_alone a ∷ es) m l r = events_apart p q w z es m.1 l.1 r
+  events_apart p q w z (right_alone b ∷ es) m l r = events_apart p q w z es m.1 l r.1
   events_apart p q w z (collision a b ∷ es) m l r =
       let h = apart_or_ended p q a b w l.0 r.0 m.0 in absurd (omega (arith, h, z))
+
+-- each tree of a list weighs at least one
+few_below : {T K V : Type 0} (tree : T → Tree K V) (i : ℕ) (xs : List T) → length xs ≤ forest_weight (shortened_in tree i xs)
+few_below tree i [] = omega arith
+few_below tree i (x ∷ xs) = let r = few_below tree i xs in omega (arith, r)
+
+-- a search takes no more comparisons than there are trees
+pub digits_few : (n : ℕ) → digits n ≤ n
+digits_few n = digits-least n n (below_power n)
+  where
+    below_power : (n : ℕ) → n < 2 ^ n
+    below_power zero = omega arith
+    below_power (suc n) = let r = below_power n in let p = pow-suc 2 n in omega (arith, r, p)
 
 -- the weight of a tree, at a place of its prefix
 opened_weight : {T K V : Type 0} (tree : T → Tree K V) (t : Tree K V) (n : ℕ) (rest : List K) (xs : List T) (from : ℕ)
@@ -73,20 +87,16 @@ opened_weight tree t n [] xs from l h =
 opened_weight tree t n (x ∷ rest) xs from l h =
     let w = ap forest_weight h.children in omega (arith, w, l)
 
--- where a prefix goes on, the tree itself stands below
+-- where a prefix goes on, what stands below weighs as much as the tree that is left
 some_below : {T K V : Type 0} (tree : T → Tree K V) (t : Tree K V) (y : K) (rest : List K) (xs : List T) (from : ℕ)
-    → IsOpened tree t (y ∷ rest) xs from → 1 ≤ length xs
-some_below tree t y rest [] from h = absurd (bare_grow h.children)
-  where
-    bare_grow : {K V : Type 0} {p : List K} {v : Option V} {f g : Forest K V} → bare ≡ grow p v f g → ⊥
-    bare_grow e = cc
-some_below tree t y rest (x ∷ xs) from h = omega arith
+    → IsOpened tree t (y ∷ rest) xs from → length rest + 2 ≤ forest_weight (shortened_in tree from xs)
+some_below tree t y rest xs from h = let w = ap forest_weight h.children in omega (arith, w)
 
 module _ {K V W A B : Type 0} (cmp : K → K → Ordering) (ta : A → Tree K V) (tb : B → Tree K W) (t : Tree K V) (u : Tree K W)
     (n : ℕ) (xs : List A) (i : ℕ) (ys : List B) (j : ℕ) where
   paid_by : (p q : List K) → length t.prefix ≡ n + length p → length u.prefix ≡ n + length q → IsOpened ta t p xs i
       → IsOpened tb u q ys j → Parts cmp p q → (es : List (Event A B)) → IsScript (by_component ta tb i j cmp) xs ys es
-      → n + length xs + length ys + owed cmp ta tb i j es + 2 ≤ 3 * (weight t + weight u)
+      → min (length t.prefix) (length u.prefix) + length xs + length ys + owed cmp ta tb i j es + 2 ≤ 3 * (weight t + weight u)
   paid_by p q lt lu l r w es s =
       let wt = opened_weight ta t n p xs i lt l in
       let wu = opened_weight tb u n q ys j lu r in
@@ -96,27 +106,31 @@ module _ {K V W A B : Type 0} (cmp : K → K → Ordering) (ta : A → Tree K V)
       ap (λ l. forest_weight (shortened_in ta i l)) s.left in
       let yw : forest_weight (shortened_in tb j (rights es)) ≡ forest_weight (shortened_in tb j ys) =
       ap (λ l. forest_weight (shortened_in tb j l)) s.right in
-      by_ends p q l r w wt wu xl yl xw yw
+      by_ends p q lt lu l r w wt wu xl yl xw yw
     where
-      by_ends : (p q : List K) → IsOpened ta t p xs i → IsOpened tb u q ys j → Parts cmp p q
+      by_ends : (p q : List K) → length t.prefix ≡ n + length p → length u.prefix ≡ n + length q → IsOpened ta t p xs i
+          → IsOpened tb u q ys j → Parts cmp p q
           → weight t ≡ n + forest_weight (shortened_in ta i xs) + ended p
           → weight u ≡ n + forest_weight (shortened_in tb j ys) + ended q
           → length (lefts es) ≡ length xs → length (rights es) ≡ length ys
           → forest_weight (shortened_in ta i (lefts es)) ≡ forest_weight (shortened_in ta i xs)
           → forest_weight (shortened_in tb j (rights es)) ≡ forest_weight (shortened_in tb j ys)
-          → n + length xs + length ys + owed cmp ta tb i j es + 2 ≤ 3 * (weight t + weight u)
-      by_ends [] q l r w wt wu xl yl xw yw =
-          let e = events_paid cmp ta tb i j es in omega (arith, wt, wu, xl, yl, xw, yw, e)
-      by_ends (x ∷ p) [] l r w wt wu xl yl xw yw =
-          let e = events_paid cmp ta tb i j es in omega (arith, wt, wu, xl, yl, xw, yw, e)
-      by_ends (x ∷ p) (y ∷ q) l r w wt wu xl yl xw yw =
+          → min (length t.prefix) (length u.prefix) + length xs + length ys + owed cmp ta tb i j es + 2 ≤ 3 * (weight t + weight u)
+      by_ends [] q lt lu l r w wt wu xl yl xw yw =
+          let e = events_paid cmp ta tb i j es in omega (arith, wt, wu, lt, lu, xl, yl, xw, yw, e)
+      by_ends (x ∷ p) [] lt lu l r w wt wu xl yl xw yw =
+          let e = events_paid cmp ta tb i j es in omega (arith, wt, wu, lt, lu, xl, yl, xw, yw, e)
+      by_ends (x ∷ p) (y ∷ q) lt lu l r w wt wu xl yl xw yw =
           let e = events_apart cmp ta tb i j (x ∷ p) (y ∷ q) w refl es s.matched (rw s.left l.first) (rw s.right r.first) in
-          let b = some_below ta t x p xs i l in
-          omega (arith, wt, wu, xl, yl, xw, yw, e, b)
+          let fx = few_below ta i xs in
+          let fy = few_below tb j ys in
+          let bx = some_below ta t x p xs i l in
+          let by = some_below tb u y q ys j r in
+          omega (arith, wt, wu, lt, lu, e, fx, fy, bx, by)
 
   -- what laying two trees side by side takes, and what is owed to the trees that meet, is paid by both trees
   pub face_paid : (sides : List Side) → (f : IsFaced cmp ta tb t u n xs i ys j sides)
-      → n + length xs + length ys + owed cmp ta tb i j f.listed.events + 2 ≤ 3 * (weight t + weight u)
+      → min (length t.prefix) (length u.prefix) + length xs + length ys + owed cmp ta tb i j f.listed.events + 2 ≤ 3 * (weight t + weight u)
   face_paid sides f =
       paid_by (drop n t.prefix) (drop n u.prefix) (whole n t.prefix f.left_within) (whole n u.prefix f.right_within) f.left f.right
       f.parts f.listed.events f.listed.script

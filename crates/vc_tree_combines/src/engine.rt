@@ -1,6 +1,6 @@
 //! The one recursion of all combines that build a tree.
 
-ghost use Rattle.std.specs.Prelude.{◌≡◌, ◌+◌, ◌*◌, ◌≤◌, ◌++◌, List, [], Option, None, IfOk, drop, length, map, option_map};
+ghost use Rattle.std.specs.Prelude.{◌≡◌, ◌+◌, ◌*◌, ◌<◌, ◌≤◌, ◌++◌, List, [], Option, None, IfOk, drop, length, map, option_map};
 ghost use Rattle.std.specs.List.{cons_option};
 ghost use Rattle.std.specs.Option.{option_copied};
 ghost use Rattle.vc_tree_model.specs.Tree.{forest, shortened};
@@ -40,15 +40,25 @@ pub trait Combine<K: TKey, V: TValue, W: TValue, A: RadixNode<K, V>, B: RadixNod
         ensures { IfOk result (says self.now (option_copied v.entry) (option_copied w.entry)) };
 
     /// What is left of a tree that the left side alone has, without the first `from` components of its prefix.
-    fn left_alone(&self, alloc: Global, tree: &A, from: usize) -> Result<Option<Self::Made>, AllocError>
-        requires within { from ≤ length (A.tree tree.now).prefix }
+    fn left_alone(
+        &self,
+        alloc: Global,
+        tree: &A,
+        from: usize,
+    ) -> Result<Option<Self::Made>, AllocError>
+        requires within { from < length (A.tree tree.now).prefix }
         requires asks { (k : List K) → asks self.now (lookup K.cmp (shortened from (A.tree tree.now)) k) None }
         ensures { IfOk result (λ made. IsMade K.cmp (λ v z. says self.now v None z) (shortened from (A.tree tree.now))
             (option_map Self.Made.tree made)) };
 
     /// What is left of a tree that the right side alone has, without the first `from` components of its prefix.
-    fn right_alone(&self, alloc: Global, tree: &B, from: usize) -> Result<Option<Self::Made>, AllocError>
-        requires within { from ≤ length (B.tree tree.now).prefix }
+    fn right_alone(
+        &self,
+        alloc: Global,
+        tree: &B,
+        from: usize,
+    ) -> Result<Option<Self::Made>, AllocError>
+        requires within { from < length (B.tree tree.now).prefix }
         requires asks { (k : List K) → asks self.now None (lookup K.cmp (shortened from (B.tree tree.now)) k) }
         ensures { IfOk result (λ made. IsMade K.cmp (λ w z. says self.now None w z) (shortened from (B.tree tree.now))
             (option_map Self.Made.tree made)) };
@@ -78,7 +88,10 @@ pub fn finish<K: TKey, V: TValue, M: Build<K, V>>(
 }
 
 /// Adds a tree, if there is one.
-fn keep<K: TKey, V: TValue, M: Build<K, V>>(kids: &mut Vec<M>, kid: Option<M>) -> Result<(), AllocError>
+fn keep<K: TKey, V: TValue, M: Build<K, V>>(
+    kids: &mut Vec<M>,
+    kid: Option<M>,
+) -> Result<(), AllocError>
     ensures { IfOk result (λ _.
         map M.tree kids.new.items ≡ map M.tree kids.old.items ++ cons_option (option_map M.tree kid) []) }
 {
@@ -114,14 +127,7 @@ fn combine_values<
     A: RadixNode<K, V>,
     B: RadixNode<K, W>,
     O: Combine<K, V, W, A, B>,
->(
-    a: &A,
-    i: usize,
-    b: &B,
-    j: usize,
-    front: usize,
-    op: &O,
-) -> Result<Option<V>, AllocError>
+>(a: &A, i: usize, b: &B, j: usize, front: usize, op: &O) -> Result<Option<V>, AllocError>
     requires left { i ≤ length (A.tree a.now).prefix }
     requires right { j ≤ length (B.tree b.now).prefix }
     requires left_front { front ≤ length (drop i (A.tree a.now).prefix) }

@@ -1,6 +1,6 @@
 //! Two trees side by side: where their prefixes part, and what stands below.
 
-ghost use Rattle.std.specs.Prelude.{◌≡◌, ◌+◌, ◌≤◌, ◌<◌, ◌∷◌, ◌++◌, [], Result, length, drop, replicate, IfOk, MatchResult};
+ghost use Rattle.std.specs.Prelude.{◌≡◌, ◌+◌, ◌≤◌, ◌<◌, ◌∷◌, ◌++◌, [], Result, min, length, drop, replicate, IfOk, MatchResult};
 ghost use Rattle.vc_tree_model.specs.Shortened.{weight, forest_weight};
 ghost use Rattle.vc_tree_model.specs.Tree.{shortened};
 ghost use Rattle.vc_tree_nodes.specs.Parting.{Agree};
@@ -144,15 +144,16 @@ pub fn face<
     requires known { Agree K.cmp (drop i (A.tree a.now).prefix) (drop j (B.tree b.now).prefix) known }
     ensures counted { C.counted steps.new
         ≤ C.counted steps.old + weight (shortened i (A.tree a.now)) + weight (shortened j (B.tree b.now)) }
-    ensures paid { IfOk result (λ f.
-        C.counted steps.new ≤ C.counted steps.old + f.front + length (trees_below f.left) + length (trees_below f.right)) }
+    ensures paid { let p = drop i (A.tree a.now).prefix in let q = drop j (B.tree b.now).prefix in
+        IfOk result (λ f. C.counted steps.new
+        ≤ C.counted steps.old + min (length p) (length q) + length (trees_below f.left) + length (trees_below f.right)) }
     ensures faced { let t = shortened i (A.tree a.now) in let u = shortened j (B.tree b.now) in
         IfOk result (λ f. IsFaced K.cmp A.tree B.tree t u f.front (trees_below f.left) f.left.from (trees_below f.right) f.right.from
-            f.sides.items) }
+        f.sides.items) }
 {
     let p = &a.prefix()[i..];
     let q = &b.prefix()[j..];
-    match find_parting(p, q, known) {
+    match find_parting(p, q, known, steps) {
         Parting::Lower(n) => Ok(Facing {
             front: n,
             left: Below::of_tree(a, i + n),
@@ -167,7 +168,7 @@ pub fn face<
         }),
         Parting::Inside(n) => {
             let kids = b.children();
-            let place = child_place(kids, &p[n]);
+            let place = child_place(kids, &p[n], steps);
             Ok(Facing {
                 front: n,
                 left: Below::of_tree(a, i + n),
@@ -213,7 +214,7 @@ fn face_behind<
     let left = Below::of_children(kids);
     let whole = b.prefix();
     if j + n < whole.len() {
-        let place = child_place(kids, &whole[j + n]);
+        let place = child_place(kids, &whole[j + n], steps);
         return Ok(Facing {
             front: n,
             left,

@@ -2,6 +2,7 @@
 //! For the crates above; the traits that users name stand in `vc_trees`.
 #![tactic(auto)]
 
+pub mod combines;
 mod engine;
 mod facing;
 mod sides;

@@ -114,14 +114,7 @@ impl<
 }
 
 /// The sides of the events of two lists of children.
-pub fn list_sides<
-    K: TKey,
-    V: TValue,
-    W: TValue,
-    A: RadixNode<K, V>,
-    B: RadixNode<K, W>,
-    C: Count,
->(
+pub fn list_sides<K: TKey, V: TValue, W: TValue, A: RadixNode<K, V>, B: RadixNode<K, W>, C: Count>(
     alloc: Global,
     left: &[A],
     right: &[B],

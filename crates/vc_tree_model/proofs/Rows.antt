@@ -199,10 +199,9 @@ module _ {K : Type 0} (cmp : K → K → Ordering) (o : IsTotalOrder cmp) where
       asked_by true r rs x q e a h hs p =
           let t = (Equal-is (cmp r.place x)).0 e in
           let left = none_above (values cmp) r.place x q t (side (λ r. r.left) rs)
-              (side_above (λ r. r.place) (λ r. r.left) r.place rs a (lefts_begin rs hs)) in
+          (side_above (λ r. r.place) (λ r. r.left) r.place rs a (lefts_begin rs hs)) in
           let right = none_above l r.place x q t (side (λ r. r.right) rs)
-              (side_above (λ r. r.place) (λ r. r.right) r.place rs a (rights_begin rs hs)) in
-          (
+          (side_above (λ r. r.place) (λ r. r.right) r.place rs a (rights_begin rs hs)) in (
             rw (
               ← take_one (values cmp) r.left (filter_map (λ r. r.left) rs) r.place x q h.left t left,
               ← take_one l r.right (filter_map (λ r. r.right) rs) r.place x q h.right t right,
@@ -213,7 +212,7 @@ module _ {K : Type 0} (cmp : K → K → Ordering) (o : IsTotalOrder cmp) where
       -- what holds of both sides at each key with a component, holds of what stands at each row, at each key
       pub rows_asked : (rs : List (Row K V W U)) → AscendBy cmp (λ r. r.place) rs → AllByRecursion (IsRow cmp l R) rs
           → ((x : K) (q : List K) → P (lookup_in cmp (side (λ r. r.left) rs) (x ∷ q))
-              (l.of_forest (side (λ r. r.right) rs) (x ∷ q)))
+          (l.of_forest (side (λ r. r.right) rs) (x ∷ q)))
           → AllByRecursion (λ r. (k : List K) → P (bound_by cmp r.left k) (look cmp l r.right k)) rs
       rows_asked [] a h p = tt
       rows_asked (r ∷ rs) a h p = (

@@ -1,17 +1,24 @@
 //! The calls that read a radix tree.
 
-ghost use Rattle.std.specs.Prelude.{◌≡◌, ◌+◌, ◌*◌, ◌≤◌, length, map};
+ghost use Rattle.std.specs.Prelude.{◌≡◌, ◌+◌, ◌*◌, ◌<◌, ◌≤◌, List, Ok, IfOk, length, map};
 ghost use Rattle.std.specs.Option.{is_some, option_copied};
 ghost use Rattle.vc_merge.specs.Count.{digits};
-ghost use Rattle.vc_tree_model.specs.Tree.{is_bare, width};
+ghost use Rattle.vc_tree_model.specs.Tree.{is_bare, shortened, width};
+ghost use Rattle.vc_tree_model.specs.Asking.{MayAnswer, CanAsk};
+ghost use Rattle.vc_tree_model.specs.Combine.{IsCombined, IsOuterAt, IsInnerAt};
 ghost use Rattle.vc_tree_model.specs.Map.{lookup};
+ghost use Rattle.vc_tree_model.specs.Same.{IsAlike};
+ghost use Rattle.vc_tree_model.specs.Shortened.{weight, IsShortened};
 ghost use Rattle.vc_tree_model.specs.Under.{under};
 ghost use Rattle.vc_tree_model.specs.Walk.{IsWalk, walk};
 ghost use Rattle.vc_tree_walks.specs.IterLeft.{pairs_left};
 ghost use Rattle.vc_tree_walks.specs.OwnedLeft.{held_left};
 ghost use Rattle.vc_tree_walks.specs.ValuesLeft.{values_left};
 
+use crate::radix_tree::writing::AbstractRadixTreeMut;
+use std::alloc::AllocError;
 use vc_merge::merge::{Steps, Uncounted};
+use vc_tree_combines::combines;
 use vc_tree_nodes::reading::{RadixNode, TKey, TValue};
 use vc_tree_nodes::{descent, reading};
 use vc_tree_walks::iter::Iter;
@@ -100,6 +107,72 @@ pub trait AbstractRadixTree<K: TKey, V: TValue>: RadixNode<K, V> {
         ensures ascending { IsWalk K.cmp (lookup K.cmp (Self.tree self)) (held_left Self.tree result) }
     {
         walks::into_iter(self)
+    }
+
+    /// The tree with the first `n` components off every key: a fresh one, of any flavour, with clones of the values.
+    ///
+    /// Fails only where memory is refused, or the clone of a value.
+    final fn materialize_shortened<M: AbstractRadixTreeMut<K, V>>(
+        &self,
+        n: usize,
+    ) -> Result<M, AllocError>
+        requires { n < length (Self.tree self.now).prefix }
+        ensures alike { IfOk result (λ made. IsAlike V.is_clone (shortened n (Self.tree self.now)) (M.tree made)) }
+        ensures map { IfOk result (λ made. IsShortened K.cmp V.is_clone n (Self.tree self.now) (M.tree made)) }
+    {
+        combines::materialize_shortened(self, n)
+    }
+
+    /// A fresh tree of the keys of both: a key of one side alone has a clone of its value, and a shared key what the closure
+    /// answers, `None` for a key that is not to be there. Both trees stay as they were.
+    ///
+    /// Fails only where memory is refused, the clone of a value, or a call of the closure. At most three comparisons of components
+    /// for each node and each component of a prefix of both trees.
+    final fn outer_combine<
+        M: AbstractRadixTreeMut<K, V>,
+        S: AbstractRadixTree<K, V>,
+        F: Fn(&V, &V) -> Result<Option<V>, AllocError>,
+    >(&self, that: &S, f: F) -> Result<M, AllocError>
+        requires { (k : List K) → CanAsk F.Fn f (lookup K.cmp (Self.tree self.now) k) (lookup K.cmp (S.tree that.now) k) }
+        ensures { IfOk result (λ made.
+            IsCombined K.cmp (IsOuterAt V.is_clone V.is_clone (λ v w z. MayAnswer F.Fn f v w (Ok z)))
+            (Self.tree self.now) (S.tree that.now) (M.tree made)) }
+    {
+        combines::outer_combine(self, that, &f, &mut Uncounted)
+    }
+
+    /// [`outer_combine`](AbstractRadixTree::outer_combine), where each comparison of two components counts one more.
+    ///
+    /// These are at most three for each node and each component of a prefix of both trees.
+    final fn outer_combine_counted<
+        M: AbstractRadixTreeMut<K, V>,
+        S: AbstractRadixTree<K, V>,
+        F: Fn(&V, &V) -> Result<Option<V>, AllocError>,
+    >(&self, that: &S, f: F, steps: &mut Steps) -> Result<M, AllocError>
+        requires { (k : List K) → CanAsk F.Fn f (lookup K.cmp (Self.tree self.now) k) (lookup K.cmp (S.tree that.now) k) }
+        ensures made { IfOk result (λ made.
+            IsCombined K.cmp (IsOuterAt V.is_clone V.is_clone (λ v w z. MayAnswer F.Fn f v w (Ok z)))
+            (Self.tree self.now) (S.tree that.now) (M.tree made)) }
+        ensures counted { steps.new ≤ steps.old + 3 * (weight (Self.tree self.now) + weight (S.tree that.now)) }
+    {
+        combines::outer_combine(self, that, &f, steps)
+    }
+
+    /// A fresh tree of the keys that both bind, with what the closure answers, `None` for a key that is not to be there. Both trees
+    /// stay as they were.
+    ///
+    /// Fails only where memory is refused, or a call of the closure.
+    final fn inner_combine<
+        W: TValue,
+        M: AbstractRadixTreeMut<K, V>,
+        S: AbstractRadixTree<K, W>,
+        F: Fn(&V, &W) -> Result<Option<V>, AllocError>,
+    >(&self, that: &S, f: F) -> Result<M, AllocError>
+        requires { (k : List K) → CanAsk F.Fn f (lookup K.cmp (Self.tree self.now) k) (lookup K.cmp (S.tree that.now) k) }
+        ensures { IfOk result (λ made. IsCombined K.cmp (IsInnerAt (λ v w z. MayAnswer F.Fn f v w (Ok z)))
+            (Self.tree self.now) (S.tree that.now) (M.tree made)) }
+    {
+        combines::inner_combine(self, that, &f)
     }
 }
 

@@ -2,6 +2,8 @@
 
 ghost use Rattle.std.specs.Prelude.{◌≡◌, ◌≤◌, [], Some, length, IfOk, IsOk, OnOk, OnErr};
 ghost use Rattle.vc_tree_model.specs.Tree.{made, no_tree};
+ghost use Rattle.vc_tree_model.specs.Combine.{IsCombined, IsUnionAt, IsIntersectionAt, IsDifferenceAt};
+ghost use Rattle.vc_tree_model.specs.Value.{Copies};
 ghost use Rattle.vc_tree_model.specs.Map.{HaveEqualMaps, IsInserted, lookup};
 ghost use Rattle.vc_tree_model.specs.Canonical.{IsCanonical};
 ghost use Rattle.vc_tree_model.specs.Same.{IsAlike};
@@ -9,6 +11,7 @@ ghost use Rattle.vc_tree_model.specs.Same.{IsAlike};
 use crate::radix_tree::reading::AbstractRadixTree;
 use std::alloc::{AllocError, Global};
 use std::default::MadeWith;
+use vc_tree_combines::combines;
 use vc_tree_nodes::building::Seal;
 use vc_tree_nodes::copying::CloneTree;
 use vc_tree_nodes::insertion;
@@ -62,6 +65,42 @@ pub trait AbstractRadixTreeMut<K: TKey, V: TValue>: CloneTree<K, V> + AbstractRa
         ensures canonical { IsCanonical K.cmp (Self.tree self.new) }
     {
         insertion::insert(self, key, value)
+    }
+
+    /// A fresh tree of the keys of both, the shared ones with a copy of the left value. Both trees stay as they were.
+    ///
+    /// Fails only where memory is refused, or the clone of a value.
+    final fn union<S: AbstractRadixTree<K, V>>(&self, that: &S) -> Result<Self, AllocError>
+        ensures { IfOk result (λ made. IsCombined K.cmp (IsUnionAt (Copies V.is_clone) V.is_clone)
+            (Self.tree self.now) (S.tree that.now) (Self.tree made)) }
+    {
+        combines::union(self, that)
+    }
+
+    /// A fresh tree of the keys that both bind, with copies of the left values. Both trees stay as they were.
+    ///
+    /// Fails only where memory is refused, or the clone of a value.
+    final fn intersection<W: TValue, S: AbstractRadixTree<K, W>>(
+        &self,
+        that: &S,
+    ) -> Result<Self, AllocError>
+        ensures { IfOk result (λ made. IsCombined K.cmp (IsIntersectionAt (Copies V.is_clone))
+            (Self.tree self.now) (S.tree that.now) (Self.tree made)) }
+    {
+        combines::intersection(self, that)
+    }
+
+    /// A fresh tree of the keys that this tree alone binds, with copies of its values. Both trees stay as they were.
+    ///
+    /// Fails only where memory is refused, or the clone of a value.
+    final fn difference<W: TValue, S: AbstractRadixTree<K, W>>(
+        &self,
+        that: &S,
+    ) -> Result<Self, AllocError>
+        ensures { IfOk result (λ made. IsCombined K.cmp (IsDifferenceAt (Copies V.is_clone))
+            (Self.tree self.now) (S.tree that.now) (Self.tree made)) }
+    {
+        combines::difference(self, that)
     }
 }
 

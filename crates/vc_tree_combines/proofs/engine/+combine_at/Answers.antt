@@ -4,7 +4,7 @@ use Rattle.vc_tree_model.proofs.Shortening.{shortened_canonical}
 use Rattle.vc_tree_combines.specs.declared.sides.Side.TheVariants.{Left, Right, Both}
 use Rattle.vc_tree_combines.proofs.Doing.{doing_left, doing_right, doing_both}
 use Rattle.vc_tree_combines.proofs.Ending.{left_children, right_children, values_asked, combine_started, made_children, combined}
-use Rattle.vc_tree_combines.proofs.Next.{left_not_right, right_not_left, both_not_right, both_not_left, left_there, right_there, left_within, right_within, left_asked, right_asked, both_asked, both_agree, both_paid, within_budget, falls, nil_by}
+use Rattle.vc_tree_combines.proofs.Next.{left_not_right, right_not_left, both_not_right, both_not_left, left_there, right_there, left_within, right_within, left_asked, right_asked, both_asked, both_agree, both_paid, within_budget, falls, nil_by, at_most}
 use Rattle.vc_tree_combines.proofs.Opening.{slice_from}
 use Rattle.vc_tree_combines.proofs.engine.+combine_at.Goals as goal
 
@@ -61,7 +61,7 @@ combine_at-requires g t c κs within =
     let down = falls g.K.Ord.cmp g.A.RadixNode.tree g.B.RadixNode.tree _ _ _ _ _ _ _ _ _ _ _ _ c.loop-side.invariant.doing c.in-Some.others.now (c.in-Some.ensures.cases.0 ∙ ap (λ s. s ∷ c.in-Some.others.now) e) _ _ _ _ c.next-x.ensures.first c.next-y.ensures.first _ _ _ _ c.in_ok-front.ensures.faced.left c.in_ok-front.ensures.faced.right c.in_ok-front.ensures.faced.parts in
     let from = c.next-x.ensures.from ∙ c.loop-side.invariant.left_from in
     let other_from = c.next-y.ensures.from ∙ c.loop-side.invariant.right_from in
-    (rw (← c.decreases) down, (within.0, (within.1.0, (within.1.1.0, (within.1.1.1.0, (within.1.1.1.1.0, (within.1.1.1.1.1.0, (within.1.1.1.1.1.1.0, (within.1.1.1.1.1.1.1.0, (within.1.1.1.1.1.1.1.1.0, (within.1.1.1.1.1.1.1.1.1, (rw from (left_within g.K.Ord.cmp g.A.RadixNode.tree g.B.RadixNode.tree _ _ _ _ _ _ _ _ _ _ _ _ c.loop-side.invariant.doing (left_children g.K.Ord.cmp g.met.K.Ord.total g.A.RadixNode.tree g.B.RadixNode.tree (g.O.Combine.says c.args.op.now) (g.O.Combine.asks c.args.op.now) (g.met.O.Combine.says_none c.args.op.now) _ _ (shortened_canonical g.K.Ord.cmp c.args.i _ c.prefix.ensures.canonical) (shortened_canonical g.K.Ord.cmp c.args.j _ c.prefix-2.ensures.canonical) _ _ _ _ _ _ c.in_ok-front.ensures.faced) _ _ c.next-x.ensures.first), (rw other_from (right_within g.K.Ord.cmp g.A.RadixNode.tree g.B.RadixNode.tree _ _ _ _ _ _ _ _ _ _ _ _ c.loop-side.invariant.doing (right_children g.K.Ord.cmp g.met.K.Ord.total g.A.RadixNode.tree g.B.RadixNode.tree (g.O.Combine.says c.args.op.now) (g.O.Combine.asks c.args.op.now) (g.met.O.Combine.says_none c.args.op.now) _ _ (shortened_canonical g.K.Ord.cmp c.args.i _ c.prefix.ensures.canonical) (shortened_canonical g.K.Ord.cmp c.args.j _ c.prefix-2.ensures.canonical) _ _ _ _ _ _ c.in_ok-front.ensures.faced) _ _ c.next-y.ensures.first), (rw (from, other_from) (both_agree g.K.Ord.cmp g.A.RadixNode.tree g.B.RadixNode.tree _ _ _ _ _ _ _ _ _ _ _ _ c.loop-side.invariant.doing c.in-Some.others.now (c.in-Some.ensures.cases.0 ∙ ap (λ s. s ∷ c.in-Some.others.now) e) _ _ _ _ c.next-x.ensures.first c.next-y.ensures.first (left_children g.K.Ord.cmp g.met.K.Ord.total g.A.RadixNode.tree g.B.RadixNode.tree (g.O.Combine.says c.args.op.now) (g.O.Combine.asks c.args.op.now) (g.met.O.Combine.says_none c.args.op.now) _ _ (shortened_canonical g.K.Ord.cmp c.args.i _ c.prefix.ensures.canonical) (shortened_canonical g.K.Ord.cmp c.args.j _ c.prefix-2.ensures.canonical) _ _ _ _ _ _ c.in_ok-front.ensures.faced) (right_children g.K.Ord.cmp g.met.K.Ord.total g.A.RadixNode.tree g.B.RadixNode.tree (g.O.Combine.says c.args.op.now) (g.O.Combine.asks c.args.op.now) (g.met.O.Combine.says_none c.args.op.now) _ _ (shortened_canonical g.K.Ord.cmp c.args.i _ c.prefix.ensures.canonical) (shortened_canonical g.K.Ord.cmp c.args.j _ c.prefix-2.ensures.canonical) _ _ _ _ _ _ c.in_ok-front.ensures.faced)), rw (from, other_from) (both_asked g.K.Ord.cmp g.A.RadixNode.tree g.B.RadixNode.tree _ _ _ _ _ _ _ _ _ _ _ _ c.loop-side.invariant.doing c.in-Some.others.now (c.in-Some.ensures.cases.0 ∙ ap (λ s. s ∷ c.in-Some.others.now) e) _ _ _ _ c.next-x.ensures.first c.next-y.ensures.first)))))))))))))))
+    (rw (← c.decreases) down, (within.0, (within.1.0, (within.1.1.0, (within.1.1.1.0, (within.1.1.1.1.0, (within.1.1.1.1.1.0, (within.1.1.1.1.1.1.0, (within.1.1.1.1.1.1.1.0, (within.1.1.1.1.1.1.1.1.0, (within.1.1.1.1.1.1.1.1.1, (rw from (at_most _ _ (left_within g.K.Ord.cmp g.A.RadixNode.tree g.B.RadixNode.tree _ _ _ _ _ _ _ _ _ _ _ _ c.loop-side.invariant.doing (left_children g.K.Ord.cmp g.met.K.Ord.total g.A.RadixNode.tree g.B.RadixNode.tree (g.O.Combine.says c.args.op.now) (g.O.Combine.asks c.args.op.now) (g.met.O.Combine.says_none c.args.op.now) _ _ (shortened_canonical g.K.Ord.cmp c.args.i _ c.prefix.ensures.canonical) (shortened_canonical g.K.Ord.cmp c.args.j _ c.prefix-2.ensures.canonical) _ _ _ _ _ _ c.in_ok-front.ensures.faced) _ _ c.next-x.ensures.first)), (rw other_from (at_most _ _ (right_within g.K.Ord.cmp g.A.RadixNode.tree g.B.RadixNode.tree _ _ _ _ _ _ _ _ _ _ _ _ c.loop-side.invariant.doing (right_children g.K.Ord.cmp g.met.K.Ord.total g.A.RadixNode.tree g.B.RadixNode.tree (g.O.Combine.says c.args.op.now) (g.O.Combine.asks c.args.op.now) (g.met.O.Combine.says_none c.args.op.now) _ _ (shortened_canonical g.K.Ord.cmp c.args.i _ c.prefix.ensures.canonical) (shortened_canonical g.K.Ord.cmp c.args.j _ c.prefix-2.ensures.canonical) _ _ _ _ _ _ c.in_ok-front.ensures.faced) _ _ c.next-y.ensures.first)), (rw (from, other_from) (both_agree g.K.Ord.cmp g.A.RadixNode.tree g.B.RadixNode.tree _ _ _ _ _ _ _ _ _ _ _ _ c.loop-side.invariant.doing c.in-Some.others.now (c.in-Some.ensures.cases.0 ∙ ap (λ s. s ∷ c.in-Some.others.now) e) _ _ _ _ c.next-x.ensures.first c.next-y.ensures.first (left_children g.K.Ord.cmp g.met.K.Ord.total g.A.RadixNode.tree g.B.RadixNode.tree (g.O.Combine.says c.args.op.now) (g.O.Combine.asks c.args.op.now) (g.met.O.Combine.says_none c.args.op.now) _ _ (shortened_canonical g.K.Ord.cmp c.args.i _ c.prefix.ensures.canonical) (shortened_canonical g.K.Ord.cmp c.args.j _ c.prefix-2.ensures.canonical) _ _ _ _ _ _ c.in_ok-front.ensures.faced) (right_children g.K.Ord.cmp g.met.K.Ord.total g.A.RadixNode.tree g.B.RadixNode.tree (g.O.Combine.says c.args.op.now) (g.O.Combine.asks c.args.op.now) (g.met.O.Combine.says_none c.args.op.now) _ _ (shortened_canonical g.K.Ord.cmp c.args.i _ c.prefix.ensures.canonical) (shortened_canonical g.K.Ord.cmp c.args.j _ c.prefix-2.ensures.canonical) _ _ _ _ _ _ c.in_ok-front.ensures.faced)), rw (from, other_from) (both_asked g.K.Ord.cmp g.A.RadixNode.tree g.B.RadixNode.tree _ _ _ _ _ _ _ _ _ _ _ _ c.loop-side.invariant.doing c.in-Some.others.now (c.in-Some.ensures.cases.0 ∙ ap (λ s. s ∷ c.in-Some.others.now) e) _ _ _ _ c.next-x.ensures.first c.next-y.ensures.first)))))))))))))))
 
 pub returns-in_err-kid-in-Both-clause-counted : goal.returns-in_err-kid-in-Both-clause-counted
 returns-in_err-kid-in-Both-clause-counted g t c =

@@ -5,11 +5,13 @@ use Rattle.vc_tree_combines.proofs.engine.finish.Goals.{else-is_none-via-then-is
 use Rattle.vc_tree_combines.proofs.engine.finish.Goals as goal
 
 pub new_node-requires : goal.new_node-requires
-new_node-requires g c =
-    (elim c.else-is_none.branch [
-      | else-is_none-via-then-is_none+else-len-lt2 w ↦ (whole_of_many g.M.RadixNode.tree c.args.prefix.now c.args.value c.args.kids.items (search rules)).1
-      | else-is_none-via-else-is_none w ↦ (whole_of_value g.M.RadixNode.tree c.args.prefix.now c.args.value c.args.kids.items (search rules)).1
-    ], c.requires)
+new_node-requires g c = (
+  elim c.else-is_none.branch [
+    | else-is_none-via-then-is_none+else-len-lt2 w ↦ (whole_of_many g.M.RadixNode.tree c.args.prefix.now c.args.value c.args.kids.items (search rules)).1
+    | else-is_none-via-else-is_none w ↦ (whole_of_value g.M.RadixNode.tree c.args.prefix.now c.args.value c.args.kids.items (search rules)).1
+  ],
+  c.requires,
+)
 
 pub returns : goal.returns
 returns g c =

@@ -1,15 +1,15 @@
 -- The children of a tree whose prefix has ended, beside those of the other one, or beside what is left of it.
-use Rattle.std.proofs.Common.{refl, sym, ap, ◌∙◌, subst, rules, ◌+◌, arith}
+use Rattle.std.proofs.Common.{refl, sym, ap, ◌∙◌, subst, rules, ◌+◌, arith, length}
 use Rattle.vc_tree_model.specs.Canonical.{AreChildren}
 use Rattle.vc_tree_combines.proofs.Around.{place_within, children_ascend, around_left}
 use Rattle.vc_tree_combines.proofs.Opening.{opened_all, opened_rest, opened_behind, opened_as, listed_as, found_in, nothing_left}
-use Rattle.vc_tree_combines.proofs.Paying.{few_children}
+use Rattle.vc_tree_combines.proofs.Paying.{few_children, digits_few}
 use Rattle.vc_tree_combines.proofs.facing.face_behind.Goals as goal
 
 pub list_around-requires : goal.list_around-requires
 list_around-requires g c =
     place_within g.K.Ord.cmp g.met.K.Ord.total g.A.RadixNode.tree g.B.RadixNode.tree 0 0 g.A.RadixNode.tree 0
-    c.children-kids.result.now _ c.child_place-place.result c.child_place-place.ensures
+    c.children-kids.result.now _ c.child_place-place.result c.child_place-place.ensures.place
 
 pub list_sides-requires : goal.list_sides-requires
 list_sides-requires g c = record {
@@ -40,7 +40,7 @@ returns-then-j-n-clause-listed g c =
     (around_left g.K.Ord.cmp g.met.K.Ord.total g.A.RadixNode.tree g.B.RadixNode.tree 0 (c.args.j + c.args.n)
     c.children-kids.result.now c.args.b.now c.index-whole-j.result c.child_place-place.result
     (subst (AreChildren g.K.Ord.cmp) (sym c.children-kids.ensures) c.prefix.ensures.canonical.1)
-    (found_in _ _ _ _ c.prefix-whole.ensures.value c.if-j-n.true c.index-whole-j.is) c.child_place-place.ensures)
+    (found_in _ _ _ _ c.prefix-whole.ensures.value c.if-j-n.true c.index-whole-j.is) c.child_place-place.ensures.place)
 
 pub returns-clause-left : goal.returns-clause-left
 returns-clause-left g c =
@@ -63,3 +63,21 @@ returns-clause-counted g c =
     let kids = few_children g.A.RadixNode.tree _ _ c.children-kids.ensures in
     let others = few_children g.B.RadixNode.tree _ _ c.children-others.ensures in
     omega (arith, kids, others, c.list_sides.ensures.counted)
+
+pub returns-then-j-n-clause-counted : goal.returns-then-j-n-clause-counted
+returns-then-j-n-clause-counted g c =
+    let kids = few_children g.A.RadixNode.tree _ _ c.children-kids.ensures in
+    let few = digits_few (length c.children-kids.result.now) in
+    omega (arith, kids, few, c.child_place-place.ensures.counted)
+
+pub returns-in_err-list_around-clause-counted : goal.returns-in_err-list_around-clause-counted
+returns-in_err-list_around-clause-counted g c =
+    let kids = few_children g.A.RadixNode.tree _ _ c.children-kids.ensures in
+    let few = digits_few (length c.children-kids.result.now) in
+    omega (arith, kids, few, c.child_place-place.ensures.counted)
+
+pub returns-then-j-n-clause-paid : goal.returns-then-j-n-clause-paid
+returns-then-j-n-clause-paid g c =
+    let below = ap length c.of_children-left.ensures.trees in
+    let few = digits_few (length c.children-kids.result.now) in
+    omega (arith, below, few, c.child_place-place.ensures.counted)

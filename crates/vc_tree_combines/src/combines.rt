@@ -1,0 +1,384 @@
+//! The combines of two trees that build a new one: what each makes of values, and of trees that one side alone has.
+
+ghost use Rattle.std.specs.Prelude.{◌≡◌, ◌+◌, ◌*◌, ◌<◌, ◌≤◌, List, Option, Some, None, Ok, IfOk, length, option_map, refl};
+ghost use Rattle.std.specs.Option.{option_copied};
+ghost use Rattle.vc_tree_model.specs.Asking.{MayAnswer, CanAsk};
+ghost use Rattle.vc_tree_model.specs.Combine.{IsCombined, IsInnerAt, IsOuterAt, IsUnionAt, IsIntersectionAt, IsDifferenceAt};
+ghost use Rattle.vc_tree_model.specs.Map.{lookup};
+ghost use Rattle.vc_tree_model.specs.Same.{IsAlike};
+ghost use Rattle.vc_tree_model.specs.Shortened.{weight, IsShortened};
+ghost use Rattle.vc_tree_model.specs.Tree.{shortened};
+ghost use Rattle.vc_tree_model.specs.Value.{Copies};
+ghost use Rattle.vc_tree_combines.specs.Made.{IsMade};
+
+use crate::engine::{Combine, combine_at};
+use crate::sides::Side;
+use std::alloc::{AllocError, Global};
+use std::marker::PhantomData;
+use vc_merge::merge::Count;
+use vc_merge::states::Uncounted;
+use vc_tree_nodes::building::{Build, Seal};
+use vc_tree_nodes::copying::{clone_value, copy_shortened};
+use vc_tree_nodes::reading::{RadixNode, TKey, TValue};
+
+/// How many events of two lists stand on both sides.
+fn meetings(sides: &[Side]) -> usize {
+    sides
+        .iter()
+        .filter(|side| matches!(side, Side::Both))
+        .count()
+}
+
+/// Keeps the shared keys, with what a closure answers.
+#[derive(Drop)]
+struct Inner<'f, F, M> {
+    answer: &'f F,
+    made: PhantomData<M>,
+}
+
+impl<
+    'f,
+    K: TKey,
+    V: TValue,
+    W: TValue,
+    A: RadixNode<K, V>,
+    B: RadixNode<K, W>,
+    M: Build<K, V>,
+    F: Fn(&V, &W) -> Result<Option<V>, AllocError>,
+> Combine<K, V, W, A, B> for Inner<'f, F, M> {
+    type Made = M;
+
+    ghost says = { λ op. IsInnerAt (λ v w z. MayAnswer F.Fn op.answer.now v w (Ok z)) };
+
+    ghost asks = { λ op. CanAsk F.Fn op.answer.now };
+
+    ghost says_none = { λ op. refl };
+
+    ghost asks_none = { λ op. tt };
+
+    fn expected(&self, sides: &[Side]) -> usize {
+        meetings(sides)
+    }
+
+    fn at_values(&self, v: Option<&V>, w: Option<&W>) -> Result<Option<V>, AllocError> {
+        match v {
+            Some(v) => match w {
+                Some(w) => (self.answer)(v, w),
+                None => Ok(None),
+            },
+            None => Ok(None),
+        }
+    }
+
+    fn left_alone(&self, alloc: Global, tree: &A, from: usize) -> Result<Option<M>, AllocError> {
+        Ok(None)
+    }
+
+    fn right_alone(&self, alloc: Global, tree: &B, from: usize) -> Result<Option<M>, AllocError> {
+        Ok(None)
+    }
+}
+
+/// Keeps the keys of one side alone, and the shared ones with what a closure answers.
+#[derive(Drop)]
+struct Outer<'f, F, M> {
+    answer: &'f F,
+    made: PhantomData<M>,
+}
+
+impl<
+    'f,
+    K: TKey,
+    V: TValue,
+    A: RadixNode<K, V>,
+    B: RadixNode<K, V>,
+    M: Build<K, V>,
+    F: Fn(&V, &V) -> Result<Option<V>, AllocError>,
+> Combine<K, V, V, A, B> for Outer<'f, F, M> {
+    type Made = M;
+
+    ghost says = { λ op. IsOuterAt V.is_clone V.is_clone (λ v w z. MayAnswer F.Fn op.answer.now v w (Ok z)) };
+
+    ghost asks = { λ op. CanAsk F.Fn op.answer.now };
+
+    ghost says_none = { λ op. tt };
+
+    ghost asks_none = { λ op. tt };
+
+    fn expected(&self, sides: &[Side]) -> usize {
+        sides.len()
+    }
+
+    fn at_values(&self, v: Option<&V>, w: Option<&V>) -> Result<Option<V>, AllocError> {
+        match v {
+            Some(v) => match w {
+                Some(w) => (self.answer)(v, w),
+                None => clone_value(Some(v)),
+            },
+            None => clone_value(w),
+        }
+    }
+
+    fn left_alone(&self, alloc: Global, tree: &A, from: usize) -> Result<Option<M>, AllocError> {
+        // The law of trees, that they are canonical, comes with the prefix.
+        let _ = tree.prefix();
+        Ok(Some(copy_shortened(alloc, tree, from)?))
+    }
+
+    fn right_alone(&self, alloc: Global, tree: &B, from: usize) -> Result<Option<M>, AllocError> {
+        // The law of trees, that they are canonical, comes with the prefix.
+        let _ = tree.prefix();
+        Ok(Some(copy_shortened(alloc, tree, from)?))
+    }
+}
+
+/// Keeps all keys, the shared ones with the value of the left.
+#[derive(Drop)]
+struct KeepAll<M> {
+    made: PhantomData<M>,
+}
+
+impl<K: TKey, V: TValue, A: RadixNode<K, V>, B: RadixNode<K, V>, M: Build<K, V>> Combine<
+    K,
+    V,
+    V,
+    A,
+    B,
+> for KeepAll<M> {
+    type Made = M;
+
+    ghost says = { λ _. IsUnionAt (Copies V.is_clone) V.is_clone };
+
+    ghost asks = { λ _ _ _. Unit {0} };
+
+    ghost says_none = { λ _. tt };
+
+    ghost asks_none = { λ _. tt };
+
+    fn expected(&self, sides: &[Side]) -> usize {
+        sides.len()
+    }
+
+    fn at_values(&self, v: Option<&V>, w: Option<&V>) -> Result<Option<V>, AllocError> {
+        match v {
+            Some(v) => clone_value(Some(v)),
+            None => clone_value(w),
+        }
+    }
+
+    fn left_alone(&self, alloc: Global, tree: &A, from: usize) -> Result<Option<M>, AllocError> {
+        // The law of trees, that they are canonical, comes with the prefix.
+        let _ = tree.prefix();
+        Ok(Some(copy_shortened(alloc, tree, from)?))
+    }
+
+    fn right_alone(&self, alloc: Global, tree: &B, from: usize) -> Result<Option<M>, AllocError> {
+        // The law of trees, that they are canonical, comes with the prefix.
+        let _ = tree.prefix();
+        Ok(Some(copy_shortened(alloc, tree, from)?))
+    }
+}
+
+/// Keeps the shared keys, with the value of the left.
+#[derive(Drop)]
+struct KeepShared<M> {
+    made: PhantomData<M>,
+}
+
+impl<K: TKey, V: TValue, W: TValue, A: RadixNode<K, V>, B: RadixNode<K, W>, M: Build<K, V>> Combine<
+    K,
+    V,
+    W,
+    A,
+    B,
+> for KeepShared<M> {
+    type Made = M;
+
+    ghost says = { λ _. IsIntersectionAt (Copies V.is_clone) };
+
+    ghost asks = { λ _ _ _. Unit {0} };
+
+    ghost says_none = { λ _. refl };
+
+    ghost asks_none = { λ _. tt };
+
+    fn expected(&self, sides: &[Side]) -> usize {
+        meetings(sides)
+    }
+
+    fn at_values(&self, v: Option<&V>, w: Option<&W>) -> Result<Option<V>, AllocError> {
+        match w {
+            Some(_) => clone_value(v),
+            None => Ok(None),
+        }
+    }
+
+    fn left_alone(&self, alloc: Global, tree: &A, from: usize) -> Result<Option<M>, AllocError> {
+        Ok(None)
+    }
+
+    fn right_alone(&self, alloc: Global, tree: &B, from: usize) -> Result<Option<M>, AllocError> {
+        Ok(None)
+    }
+}
+
+/// Keeps the keys of the left alone.
+#[derive(Drop)]
+struct KeepLeft<M> {
+    made: PhantomData<M>,
+}
+
+impl<K: TKey, V: TValue, W: TValue, A: RadixNode<K, V>, B: RadixNode<K, W>, M: Build<K, V>> Combine<
+    K,
+    V,
+    W,
+    A,
+    B,
+> for KeepLeft<M> {
+    type Made = M;
+
+    ghost says = { λ _. IsDifferenceAt (Copies V.is_clone) };
+
+    ghost asks = { λ _ _ _. Unit {0} };
+
+    ghost says_none = { λ _. tt };
+
+    ghost asks_none = { λ _. tt };
+
+    fn expected(&self, sides: &[Side]) -> usize {
+        sides.len()
+    }
+
+    fn at_values(&self, v: Option<&V>, w: Option<&W>) -> Result<Option<V>, AllocError> {
+        match w {
+            Some(_) => Ok(None),
+            None => clone_value(v),
+        }
+    }
+
+    fn left_alone(&self, alloc: Global, tree: &A, from: usize) -> Result<Option<M>, AllocError> {
+        // The law of trees, that they are canonical, comes with the prefix.
+        let _ = tree.prefix();
+        Ok(Some(copy_shortened(alloc, tree, from)?))
+    }
+
+    fn right_alone(&self, alloc: Global, tree: &B, from: usize) -> Result<Option<M>, AllocError> {
+        Ok(None)
+    }
+}
+
+/// What a combine makes of two whole trees.
+fn combine<
+    K: TKey,
+    V: TValue,
+    W: TValue,
+    A: RadixNode<K, V>,
+    B: RadixNode<K, W>,
+    O: Combine<K, V, W, A, B>,
+    C: Count,
+>(this: &A, that: &B, op: &O, steps: &mut C) -> Result<O::Made, AllocError>
+    requires asks { (k : List K) → O.asks op.now (lookup K.cmp (A.tree this.now) k) (lookup K.cmp (B.tree that.now) k) }
+    ensures made { IfOk result (λ made.
+        IsCombined K.cmp (O.says op.now) (A.tree this.now) (B.tree that.now) (O.Made.tree made)) }
+    ensures counted { C.counted steps.new
+        ≤ C.counted steps.old + 3 * (weight (A.tree this.now) + weight (B.tree that.now)) }
+{
+    let alloc = this.allocator();
+    match combine_at(alloc, this, 0, that, 0, 0, op, steps)? {
+        Some(tree) => Ok(tree),
+        None => Ok(O::Made::blank(alloc, Seal::new())),
+    }
+}
+
+/// The keys that both trees bind, with what the closure answers.
+pub fn inner_combine<
+    K: TKey,
+    V: TValue,
+    W: TValue,
+    A: RadixNode<K, V>,
+    B: RadixNode<K, W>,
+    M: Build<K, V>,
+    F: Fn(&V, &W) -> Result<Option<V>, AllocError>,
+>(this: &A, that: &B, f: &F) -> Result<M, AllocError>
+    requires asks { (k : List K) → CanAsk F.Fn f.now (lookup K.cmp (A.tree this.now) k) (lookup K.cmp (B.tree that.now) k) }
+    ensures { IfOk result (λ made. IsCombined K.cmp (IsInnerAt (λ v w z. MayAnswer F.Fn f.now v w (Ok z)))
+        (A.tree this.now) (B.tree that.now) (M.tree made)) }
+{
+    let op: Inner<'_, F, M> = Inner {
+        answer: f,
+        made: PhantomData,
+    };
+    combine(this, that, &op, &mut Uncounted)
+}
+
+/// The keys of both trees, the shared ones with what the closure answers.
+pub fn outer_combine<
+    K: TKey,
+    V: TValue,
+    A: RadixNode<K, V>,
+    B: RadixNode<K, V>,
+    M: Build<K, V>,
+    F: Fn(&V, &V) -> Result<Option<V>, AllocError>,
+    C: Count,
+>(this: &A, that: &B, f: &F, steps: &mut C) -> Result<M, AllocError>
+    requires asks { (k : List K) → CanAsk F.Fn f.now (lookup K.cmp (A.tree this.now) k) (lookup K.cmp (B.tree that.now) k) }
+    ensures made { IfOk result (λ made.
+        IsCombined K.cmp (IsOuterAt V.is_clone V.is_clone (λ v w z. MayAnswer F.Fn f.now v w (Ok z)))
+        (A.tree this.now) (B.tree that.now) (M.tree made)) }
+    ensures counted { C.counted steps.new
+        ≤ C.counted steps.old + 3 * (weight (A.tree this.now) + weight (B.tree that.now)) }
+{
+    let op: Outer<'_, F, M> = Outer {
+        answer: f,
+        made: PhantomData,
+    };
+    combine(this, that, &op, steps)
+}
+
+/// The keys of both trees, the shared ones with the value of the left.
+pub fn union<K: TKey, V: TValue, A: Build<K, V>, B: RadixNode<K, V>>(
+    this: &A,
+    that: &B,
+) -> Result<A, AllocError>
+    ensures { IfOk result (λ made.
+        IsCombined K.cmp (IsUnionAt (Copies V.is_clone) V.is_clone) (A.tree this.now) (B.tree that.now) (A.tree made)) }
+{
+    let op: KeepAll<A> = KeepAll { made: PhantomData };
+    combine(this, that, &op, &mut Uncounted)
+}
+
+/// The keys that both trees bind, with the values of the left.
+pub fn intersection<K: TKey, V: TValue, W: TValue, A: Build<K, V>, B: RadixNode<K, W>>(
+    this: &A,
+    that: &B,
+) -> Result<A, AllocError>
+    ensures { IfOk result (λ made.
+        IsCombined K.cmp (IsIntersectionAt (Copies V.is_clone)) (A.tree this.now) (B.tree that.now) (A.tree made)) }
+{
+    let op: KeepShared<A> = KeepShared { made: PhantomData };
+    combine(this, that, &op, &mut Uncounted)
+}
+
+/// The keys that the left tree alone binds.
+pub fn difference<K: TKey, V: TValue, W: TValue, A: Build<K, V>, B: RadixNode<K, W>>(
+    this: &A,
+    that: &B,
+) -> Result<A, AllocError>
+    ensures { IfOk result (λ made.
+        IsCombined K.cmp (IsDifferenceAt (Copies V.is_clone)) (A.tree this.now) (B.tree that.now) (A.tree made)) }
+{
+    let op: KeepLeft<A> = KeepLeft { made: PhantomData };
+    combine(this, that, &op, &mut Uncounted)
+}
+
+/// The tree with the first `n` components off every key.
+pub fn materialize_shortened<K: TKey, V: TValue, A: RadixNode<K, V>, M: Build<K, V>>(
+    tree: &A,
+    n: usize,
+) -> Result<M, AllocError>
+    requires { n < length (A.tree tree.now).prefix }
+    ensures alike { IfOk result (λ made. IsAlike V.is_clone (shortened n (A.tree tree.now)) (M.tree made)) }
+    ensures map { IfOk result (λ made. IsShortened K.cmp V.is_clone n (A.tree tree.now) (M.tree made)) }
+{
+    copy_shortened(tree.allocator(), tree, n)
+}
