@@ -10,6 +10,8 @@ use std::cell::Cell;
 use vc_trees::radix_tree::{AbstractRadixTree, AbstractRadixTreeMut, RadixNode, TKey, TValue};
 
 #[cfg(test)]
+mod lookups;
+#[cfg(test)]
 mod tests;
 
 /// A tree of one key, which is kept in a list: a tree of another crate.

@@ -1,0 +1,201 @@
+//! Components that count their own comparisons: a counted look-up counts each of them, and stays within its bound.
+ghost use Rattle.std.specs.Prelude.{nat_eq};
+ghost use Rattle.std.specs.Ordering.{nat_cmp, on, as_partial_cmp};
+ghost use Rattle.std.specs.Cmp.{partial_order_from_own_ties};
+ghost use Rattle.std.specs.Cmp.Rules.{comparing};
+ghost use Rattle.std.proofs.Common.{rules, refl};
+
+use super::Word;
+use std::alloc::{AllocError, Global};
+use std::cell::Cell;
+use std::cmp::Ordering;
+use std::fmt;
+use std::test::Fail;
+use vc_merge::merge::{Count, Steps};
+use vc_trees::radix_tree::{AbstractRadixTree, AbstractRadixTreeMut, ArcRadixTree, RadixTree};
+
+/// A number that counts, where it has a counter, how often it is compared.
+#[derive(Clone, Copy)]
+struct Compared<'a> {
+    number: u32,
+    count: Option<&'a Cell<u128>>,
+}
+
+impl Default for Compared<'_> {
+    fn default() -> Self {
+        Compared {
+            number: 0,
+            count: None,
+        }
+    }
+}
+
+impl fmt::Debug for Compared<'_> {
+    fn fmt<W: fmt::Write>(&self, f: &mut fmt::Formatter<W>) -> fmt::Result {
+        self.number.fmt(f)
+    }
+}
+
+impl PartialEq for Compared<'_> {
+    ghost eq = { on (λ e. e.number) nat_eq };
+
+    ghost laws = { Prim.search (comparing, rules) };
+
+    fn eq(&self, other: &Self) -> bool {
+        self.number == other.number
+    }
+}
+
+impl Eq for Compared<'_> {
+    ghost laws = { Prim.search (comparing, rules) };
+}
+
+impl PartialOrd for Compared<'_> {
+    ghost partial_cmp = { as_partial_cmp (on (λ e. e.number) nat_cmp) };
+
+    ghost laws = { partial_order_from_own_ties (Prim.search (comparing, rules)) (Prim.search (comparing, rules)) };
+
+    fn partial_cmp(&self, other: &Self) -> Option<Ordering> {
+        Some(self.cmp(other))
+    }
+}
+
+impl Ord for Compared<'_> {
+    ghost cmp = { on (λ e. e.number) nat_cmp };
+
+    ghost total = { Prim.search (comparing, rules) };
+
+    ghost matches_partial_cmp = { λ x y. refl };
+
+    ghost matches_eq = { Prim.search (comparing, rules) };
+
+    fn cmp(&self, other: &Self) -> Ordering {
+        if let Some(count) = self.count {
+            count.set(count.get().saturating_add(1));
+        }
+        self.number.cmp(&other.number)
+    }
+}
+
+/// The key of as many equal components.
+fn repeated(alloc: Global, length: u32) -> Result<Vec<Compared<'static>>, AllocError> {
+    let mut key = Vec::new(alloc);
+    for _ in 0..length {
+        key.push(Compared::default())?;
+    }
+    Ok(key)
+}
+
+/// The tree of the keys of 1, 2 and so on up to 200 equal components, which count their comparisons.
+fn nested<'a, T: AbstractRadixTreeMut<Compared<'a>, u32>>(
+    alloc: Global,
+    count: &'a Cell<u128>,
+) -> Result<T, AllocError> {
+    let mut tree = T::empty(alloc);
+    let mut key = Vec::new(alloc);
+    for length in 1..201 {
+        key.push(Compared {
+            number: 0,
+            count: Some(count),
+        })?;
+        tree.insert(&key, length)?;
+    }
+    Ok(tree)
+}
+
+/// The tree of 1000 keys of one component each, every second number, which count their comparisons.
+fn wide<'a, T: AbstractRadixTreeMut<Compared<'a>, u32>>(
+    alloc: Global,
+    count: &'a Cell<u128>,
+) -> Result<T, AllocError> {
+    let mut tree = T::empty(alloc);
+    for number in 0..1000 {
+        let first = Compared {
+            number: 2 * number,
+            count: Some(count),
+        };
+        tree.insert(&[first], number)?;
+    }
+    Ok(tree)
+}
+
+/// Whether a look-up of the key, counted or not, compares components at most as often as this, each of which counts, and finds
+/// it or not.
+fn is_within<'a, T: AbstractRadixTree<Compared<'a>, u32>>(
+    tree: &T,
+    key: &[Compared<'a>],
+    is_bound: bool,
+    most: u128,
+    count: &Cell<u128>,
+) -> bool {
+    let mut steps = Steps::new();
+    count.set(0);
+    let is_found = tree.get_counted(key, &mut steps).is_some();
+    let compared = count.get();
+    count.set(0);
+    let is_there = tree.contains_key(key) && tree.get(key).is_some();
+    let compared_again = count.get();
+    let twice = compared.saturating_add(compared);
+    is_found == is_bound
+        && is_there == is_bound
+        && compared <= steps.count()
+        && steps.count() <= most
+        && (compared_again == twice || compared_again == compared)
+}
+
+/// Whether look-ups and inserts in the two trees stay within the bounds.
+fn stays_within<'a, T: AbstractRadixTreeMut<Compared<'a>, u32>>(
+    alloc: Global,
+    count: &'a Cell<u128>,
+) -> Result<bool, AllocError> {
+    let mut all = true;
+    let mut deep: T = nested(alloc, count)?;
+    let rows: [(u32, bool, u128); 6] = [
+        (0, false, 0),
+        (1, true, 2),
+        (7, true, 14),
+        (100, true, 200),
+        (200, true, 400),
+        (201, false, 402),
+    ];
+    for (length, is_bound, most) in rows {
+        let key = repeated(alloc, length)?;
+        all = all && is_within(&deep, &key, is_bound, most, count);
+        count.set(0);
+        deep.insert(&key, 0)?;
+        all = all && count.get() <= most;
+    }
+    let broad: T = wide(alloc, count)?;
+    for number in 0..2001 {
+        let first = Compared {
+            number,
+            count: None,
+        };
+        let is_bound = number % 2 == 0 && number < 2000;
+        all = all && is_within(&broad, &[first], is_bound, 11, count);
+    }
+    Ok(all)
+}
+
+#[test]
+fn lookups_stay_within_their_bound(rt: HostRuntime) -> Result<(), Fail> {
+    let count = Cell::new(0);
+    let plain = stays_within::<RadixTree<Compared, u32>>(rt.alloc(), &count)?;
+    assert!(rt; plain);
+    let shared = stays_within::<ArcRadixTree<Compared, u32>>(rt.alloc(), &count)?;
+    assert!(rt; shared);
+    Ok(())
+}
+
+#[test]
+fn a_tree_of_another_crate_is_looked_up(rt: HostRuntime) -> Result<(), Fail> {
+    let word = Word::new(b"abc".to_vec(rt.alloc())?, 7);
+    for (key, is_bound) in [("abc", true), ("ab", false), ("abcd", false), ("", false)] {
+        let mut steps = Steps::new();
+        let is_found = word.get_counted(key.as_bytes(), &mut steps).is_some();
+        assert_eq!(rt; is_found, is_bound, "at {key}");
+        assert_eq!(rt; word.contains_key(key.as_bytes()), is_bound, "at {key}");
+        assert!(rt; steps.count() <= 3, "at {key}");
+    }
+    Ok(())
+}
