@@ -5,12 +5,13 @@ pub mod Chains
 pub mod Digits
 pub mod Extending
 pub mod Lists
+pub mod PlaceLemmas
 pub mod PlacesLaid
 pub mod PlacesMemory
 pub mod PlacesShared
 pub mod Runs
 pub mod Scripts
-pub mod Searching
+pub mod SearchedRuns
 pub mod WalkNames
 pub mod MovesDownLemmas
 pub mod ClonesLemmas

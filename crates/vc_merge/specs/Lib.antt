@@ -22,3 +22,4 @@ pub mod Gathering
 pub mod Laws
 pub mod Showing
 pub mod Yielded
+pub mod Takes

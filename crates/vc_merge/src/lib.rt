@@ -9,4 +9,5 @@ pub mod merge;
 pub mod moved;
 pub mod moving;
 pub mod search;
+mod searching;
 pub mod states;

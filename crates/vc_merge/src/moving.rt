@@ -10,7 +10,13 @@ use smallvec::SmallVec;
 use std::alloc::{AllocError, Allocator};
 use std::default::MadeWith;
 
+/// From so many elements on a run is long.
+const LONG_RUN: usize = 64;
+
 /// Moves the `n` elements from the place `at` on down to the place `kept`. Those that lay between end up behind them.
+///
+/// A long run that is no shorter than the gap is moved as a whole, which costs a move for each element of both. Else each element
+/// is swapped down, which costs nothing for what lies between.
 fn move_down<T>(list: &mut [T], kept: usize, at: usize, n: usize)
     requires order { kept ≤ at }
     requires within { at + n ≤ length list.old }
@@ -18,6 +24,10 @@ fn move_down<T>(list: &mut [T], kept: usize, at: usize, n: usize)
 {
     if kept == at {
         return;
+    }
+    let gap = at - kept;
+    if n >= LONG_RUN && n >= gap {
+        return list[kept..at + n].rotate_left(gap);
     }
     for moved in 0..n {
         list.swap(kept + moved, at + moved);

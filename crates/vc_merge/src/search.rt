@@ -50,6 +50,11 @@ impl<'a, K: Ord, V, C: Count> Sought<(K, V), C> for Key<'a, K> {
 }
 
 /// The place of the element that is equal to `value` in an ascending list, or the gap where it would stand.
+///
+/// ```
+/// assert!(find(&[1, 3, 5], &3) == Ok(1));
+/// assert!(find(&[1, 3, 5], &4) == Err(2));
+/// ```
 pub fn find<T: Ord>(list: &[T], value: &T) -> Result<usize, usize>
     requires { Ascends T.cmp list.now }
     ensures { IsPlace (λ y. T.cmp y value.now) list.now result }
@@ -162,7 +167,7 @@ pub fn search<X, C: Count, S: Sought<X, C>>(
         len: list.len(),
         found: false,
     };
-    'long: while part.len >= 4096 {
+    'long: while part.len >= LONG {
         part = halve(list, part, sought, steps);
     }
     // Written out, since a loop is compiled with a branch on each answer.
@@ -175,6 +180,9 @@ pub fn search<X, C: Count, S: Sought<X, C>>(
         Err(part.start)
     }
 }
+
+/// From so many elements on a list is halved in a loop first. Twelve halvings leave nothing of a shorter one.
+const LONG: usize = 1 << 12;
 
 /// The part of a list that is still searched, and whether the element before it is equal.
 #[derive(Clone, Copy)]

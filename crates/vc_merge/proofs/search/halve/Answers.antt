@@ -2,7 +2,7 @@ use Rattle.std.proofs.Common.{◌+◌, ◌-◌, ◌/◌, ◌≡◌, suc, sym, �
 use mathlib.Core.Bool.{true≢false}
 use Rattle.vc_merge.specs.Count.{digits}
 use Rattle.vc_merge.proofs.Digits.{digits-half}
-use Rattle.vc_merge.proofs.Searching.{searched-half, searched-within}
+use Rattle.vc_merge.proofs.PlaceLemmas.{searched-half, searched-within}
 use Rattle.vc_merge.proofs.search.halve.Goals as goal
 use Rattle.vc_merge.proofs.search.halve.Goals.{then-is_gt, else-is_gt}
 

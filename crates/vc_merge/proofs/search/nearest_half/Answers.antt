@@ -1,5 +1,5 @@
 use Rattle.std.proofs.Common.{◌+◌, ◌/◌, refl, arith}
-use Rattle.vc_merge.proofs.Searching.{half-reached, reached-times}
+use Rattle.vc_merge.proofs.PlaceLemmas.{half-reached, reached-times}
 use Rattle.vc_merge.proofs.search.nearest_half.Goals as goal
 
 pub overflow_mul-result : goal.overflow_mul-result

@@ -1,5 +1,5 @@
 use Rattle.std.proofs.Common.{◌+◌, ◌/◌, refl, arith}
-use Rattle.vc_merge.proofs.Searching.{quarter-reached, quarter-times}
+use Rattle.vc_merge.proofs.PlaceLemmas.{quarter-reached, quarter-times}
 use Rattle.vc_merge.proofs.search.nearest_quarter.Goals as goal
 
 pub overflow_add-reached : goal.overflow_add-reached

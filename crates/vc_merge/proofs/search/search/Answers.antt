@@ -1,5 +1,5 @@
 use Rattle.std.proofs.Common.{arith}
-use Rattle.vc_merge.proofs.Searching.{place-searched}
+use Rattle.vc_merge.proofs.PlaceLemmas.{place-searched}
 use Rattle.vc_merge.proofs.search.search.Goals as goal
 
 pub returns-then-part-clause-place : goal.returns-then-part-clause-place

@@ -1,0 +1,316 @@
+-- A search in an ordered list: what one comparison tells of the others, and how a search comes to its end.
+--     less-before, less-upto, greater-from, greater-behind        what stands beside an element
+--     narrowed-whole, narrowed-up, narrowed-past, narrowed-down        the part that is searched, at first and after a comparison
+--     half-reached, quarter-reached, quarter-times        after one comparison, and after three
+--     searched-half        after one comparison that may find it
+--     place-searched, place-narrowed, place-below, place-at, place-above        the place
+--     ordered-ascends, ascends-map        ascending lists are ordered round whatever is sought
+use Rattle.std.proofs.Common.{◌≡◌, ℕ, zero, suc, ◌+◌, ◌-◌, ◌*◌, ◌/◌, ◌<◌, ◌≤◌, Bool, true, false, ◌||◌, List, [], ◌∷◌, map, length, take, drop, get_or, ◌⊎◌, inl, inr, ⊎_elim, refl, sym, ap, subst, ◌∙◌, arith}
+use Rattle.std.proofs.lemmas.List.{get_or_default}
+use mathlib.Core.Bool.{true≢false}
+use Rattle.std.specs.List.{AllByRecursion, HoldsAt}
+use Rattle.std.specs.Cmp.{IsTotalOrder}
+use Rattle.std.specs.List.Sorted.{IsStrictlySortedBy}
+use Rattle.std.specs.Ordering.{is_gt, is_eq, is_lt, ordering_reverse}
+use Rattle.std.specs.declared.cmp.Ordering.{Ordering}
+use Rattle.std.specs.declared.cmp.Ordering.TheVariants.{Less, Equal, Greater}
+use Rattle.vc_merge.specs.Ascending.{Ascends}
+use Rattle.vc_merge.specs.Place.{IsOrdered, IsFound, IsGap, IsNarrowed, IsPassed, IsSearched, IsReached}
+use Rattle.vc_merge.proofs.Lists.{each-at}
+
+-- what holds of each element holds of those behind the first k
+each-drop : {X : Type 0} (P : X → Type 0) (xs : List X) (k : ℕ) → AllByRecursion P xs → AllByRecursion P (drop k xs)
+each-drop P [] zero p = tt
+each-drop P [] (suc k) p = tt
+each-drop P (x ∷ xs) zero p = p
+each-drop P (x ∷ xs) (suc k) p = each-drop P xs k p.1
+
+-- what was read at a place holds there
+pub holds-read : {X : Type 0} (P : X → Type 0) (xs : List X) (i : ℕ) (y : X) → i < length xs → y ≡ get_or xs i y → P y → HoldsAt P xs i
+holds-read P xs i y h e p = λ d. subst P (e ∙ get_or_default xs i y d h) p
+
+module _ {X : Type 0} (side : X → Ordering) where
+  AllLess : List X → Type 0
+  AllLess xs = AllByRecursion (λ y. side y ≡ Less) xs
+
+  AllGreater : List X → Type 0
+  AllGreater xs = AllByRecursion (λ y. side y ≡ Greater) xs
+
+  greater_not : (y : X) → is_gt (side y) ≡ false → side y ≡ Greater → ⊥
+  greater_not y f e = true≢false (sym (ap is_gt e) ∙ f)
+
+  less_not : (y : X) → is_lt (side y) ≡ false → side y ≡ Less → ⊥
+  less_not y f e = true≢false (sym (ap is_lt e) ∙ f)
+
+  -- before an element that is not greater all are less
+  less-before : (xs : List X) (i : ℕ) → IsOrdered side xs → i < length xs → HoldsAt (λ y. is_gt (side y) ≡ false) xs i → AllByRecursion (λ y. side y ≡ Less) (take i xs)
+  less-before [] i p h e = absurd (omega arith)
+  less-before (x ∷ xs) zero p h e = tt
+  less-before (x ∷ xs) (suc i) p h e =
+      let k : i < length xs = omega arith in
+      (⊎_elim (λ l. l) (λ g. absurd (greater_not (get_or xs i x) (e x) (each-at (λ y. side y ≡ Greater) xs i x k g))) p.0, less-before xs i p.1 k e)
+
+  less-upto : (xs : List X) (i : ℕ) → IsOrdered side xs → i < length xs → HoldsAt (λ y. side y ≡ Less) xs i → AllByRecursion (λ y. side y ≡ Less) (take (suc i) xs)
+  less-upto [] i p h e = absurd (omega arith)
+  less-upto (x ∷ xs) zero p h e = (e x, tt)
+  less-upto (x ∷ xs) (suc i) p h e =
+      let k : i < length xs = omega arith in
+      (⊎_elim (λ l. l) (λ g. absurd (less_greater (get_or xs i x) (e x) (each-at (λ y. side y ≡ Greater) xs i x k g))) p.0, less-upto xs i p.1 k e)
+    where
+      less_greater : (y : X) → side y ≡ Less → side y ≡ Greater → ⊥
+      less_greater y l g = cc
+
+  -- behind an element that is greater all are, and behind one that is not less
+  greater-from : (xs : List X) (i k : ℕ) → IsOrdered side xs → i < length xs → HoldsAt (λ y. side y ≡ Greater) xs i → i ≤ k → AllByRecursion (λ y. side y ≡ Greater) (drop k xs)
+  greater-from [] i k p h e l = absurd (omega arith)
+  greater-from (x ∷ xs) zero zero p h e l = (e x, ⊎_elim (λ m. absurd (greater_less x (e x) m)) (λ g. g) p.0)
+    where
+      greater_less : (y : X) → side y ≡ Greater → side y ≡ Less → ⊥
+      greater_less y g m = cc
+  greater-from (x ∷ xs) zero (suc k) p h e l = each-drop (λ y. side y ≡ Greater) xs k (⊎_elim (λ m. absurd (greater_less x (e x) m)) (λ g. g) p.0)
+    where
+      greater_less : (y : X) → side y ≡ Greater → side y ≡ Less → ⊥
+      greater_less y g m = cc
+  greater-from (x ∷ xs) (suc i) zero p h e l = absurd (omega arith)
+  greater-from (x ∷ xs) (suc i) (suc k) p h e l = greater-from xs i k p.1 (omega arith) e (omega arith)
+
+  greater-behind : (xs : List X) (i : ℕ) → IsOrdered side xs → i < length xs → HoldsAt (λ y. is_lt (side y) ≡ false) xs i → AllByRecursion (λ y. side y ≡ Greater) (drop (suc i) xs)
+  greater-behind [] i p h e = absurd (omega arith)
+  greater-behind (x ∷ xs) zero p h e = ⊎_elim (λ m. absurd (less_not x (e x) m)) (λ g. g) p.0
+  greater-behind (x ∷ xs) (suc i) p h e = greater-behind xs i p.1 (omega arith) e
+
+  -- ---- the part that is searched
+
+  none_behind : (xs : List X) → AllByRecursion (λ y. side y ≡ Greater) (drop (length xs) xs)
+  none_behind [] = tt
+  none_behind (x ∷ xs) = none_behind xs
+
+  pub narrowed-whole : (xs : List X) → IsNarrowed side xs 0 (length xs)
+  narrowed-whole xs = record { within = omega arith; less = take_none xs; greater = subst (λ k. AllByRecursion (λ y. side y ≡ Greater) (drop k xs)) (omega arith) (none_behind xs) }
+    where
+      take_none : (xs : List X) → AllByRecursion (λ y. side y ≡ Less) (take 0 xs)
+      take_none [] = tt
+      take_none (x ∷ xs) = tt
+
+  module _ (xs : List X) (p : IsOrdered side xs) (start n : ℕ) (q : IsNarrowed side xs start n) where
+    -- from an element on that is not greater
+    pub narrowed-up : (s m : ℕ) → s < length xs → HoldsAt (λ y. is_gt (side y) ≡ false) xs s → start + n ≡ s + m → IsNarrowed side xs s m
+    narrowed-up s m h e f = record {
+      within = (let w = q.within in omega arith);
+      less = less-before xs s p h e;
+      greater = subst (λ k. AllByRecursion (λ y. side y ≡ Greater) (drop k xs)) f q.greater;
+    }
+
+    -- behind one that is less
+    pub narrowed-past : (i m : ℕ) → i < length xs → HoldsAt (λ y. side y ≡ Less) xs i → start + n ≡ suc i + m → IsNarrowed side xs (suc i) m
+    narrowed-past i m h e f = record {
+      within = (let w = q.within in omega arith);
+      less = less-upto xs i p h e;
+      greater = subst (λ k. AllByRecursion (λ y. side y ≡ Greater) (drop k xs)) f q.greater;
+    }
+
+    -- before one that is greater
+    pub narrowed-down : (i m : ℕ) → i < length xs → HoldsAt (λ y. side y ≡ Greater) xs i → i ≤ start + m → m ≤ n → IsNarrowed side xs start m
+    narrowed-down i m h e l k = record {
+      within = (let w = q.within in omega arith);
+      less = q.less;
+      greater = greater-from xs i (start + m) p h e l;
+    }
+
+  -- ---- one comparison, and three
+
+  -- what stands behind an element that is not less is greater
+  greater-later : (xs : List X) (i j : ℕ) → IsOrdered side xs → i < j → j < length xs → HoldsAt (λ y. is_lt (side y) ≡ false) xs i → HoldsAt (λ y. side y ≡ Greater) xs j
+  greater-later [] i j p l h e = absurd (omega arith)
+  greater-later (x ∷ xs) i zero p l h e = absurd (omega arith)
+  greater-later (x ∷ xs) zero (suc j) p l h e =
+      let k : j < length xs = omega arith in
+      ⊎_elim (λ m. absurd (less_not x (e x) m)) (λ g d. each-at (λ y. side y ≡ Greater) xs j d k g) p.0
+  greater-later (x ∷ xs) (suc i) (suc j) p l h e = greater-later xs i j p.1 (omega arith) (omega arith) e
+
+  reached-cases : (xs : List X) (i r : ℕ) → IsReached side xs i r → ((r ≡ 0) × HoldsAt (λ y. side y ≡ Greater) xs i) ⊎ ((r ≡ 1) × HoldsAt (λ y. is_gt (side y) ≡ false) xs i)
+  reached-cases xs i zero h = inl (refl, h)
+  reached-cases xs i (suc r) h = inr (ap suc h.0, h.1)
+
+  -- what is not greater is not behind what is
+  not-later : (xs : List X) (i j : ℕ) → IsOrdered side xs → i < j → j < length xs → HoldsAt (λ y. side y ≡ Greater) xs i → HoldsAt (λ y. is_gt (side y) ≡ false) xs j → ⊥
+  not-later [] i j p l h e f = absurd (omega arith)
+  not-later (x ∷ xs) i j p l h e f = greater_not (get_or (x ∷ xs) j x) (f x) (greater-later (x ∷ xs) i j p l h (λ d. ap is_lt (e d)) x)
+
+  module _ (xs : List X) (p : IsOrdered side xs) (start n : ℕ) (q : IsNarrowed side xs start n) where
+    pub half-reached : (half r : ℕ) → 2 ≤ n → half ≡ n / 2 → IsReached side xs (start + half) r → IsNarrowed side xs (start + r * half) (n - half)
+    half-reached half r h e reached =
+        let w = q.within in
+        let in_list : start + half < length xs = omega arith in
+        ⊎_elim
+        (λ z. subst (λ k. IsNarrowed side xs (start + k * half) (n - half)) (sym z.0) (subst (λ k. IsNarrowed side xs k (n - half)) (omega arith) (narrowed-down xs p start n q (start + half) (n - half) in_list z.1 (omega arith) (omega arith))))
+        (λ o. subst (λ k. IsNarrowed side xs (start + k * half) (n - half)) (sym o.0) (subst (λ k. IsNarrowed side xs k (n - half)) (omega arith) (narrowed-up xs p start n q (start + half) (n - half) in_list o.1 (omega arith))))
+        (reached-cases xs (start + half) r reached)
+
+    -- the four places that three comparisons lead to
+    module _ (quarter second third fourth : ℕ) (h : 4 ≤ n) (e : quarter ≡ n / 4) (f : second ≡ start + quarter) (g : third ≡ second + quarter) (k : fourth ≡ third + quarter) where
+      in_list : fourth < length xs
+      in_list = let w = q.within in omega arith
+
+      at_first : HoldsAt (λ y. side y ≡ Greater) xs second → IsNarrowed side xs start (n - quarter * 3)
+      at_first z = let l = in_list in narrowed-down xs p start n q second (n - quarter * 3) (omega arith) z (omega arith) (omega arith)
+
+      at_second : HoldsAt (λ y. is_gt (side y) ≡ false) xs second → HoldsAt (λ y. side y ≡ Greater) xs third → IsNarrowed side xs second (n - quarter * 3)
+      at_second o z =
+          let l = in_list in
+          narrowed-down xs p second (n - quarter) (narrowed-up xs p start n q second (n - quarter) (omega arith) o (omega arith)) third (n - quarter * 3) (omega arith) z (omega arith) (omega arith)
+
+      at_third : HoldsAt (λ y. is_gt (side y) ≡ false) xs third → HoldsAt (λ y. side y ≡ Greater) xs fourth → IsNarrowed side xs third (n - quarter * 3)
+      at_third o z =
+          let l = in_list in
+          narrowed-down xs p third (n - quarter * 2) (narrowed-up xs p start n q third (n - quarter * 2) (omega arith) o (omega arith)) fourth (n - quarter * 3) (omega arith) z (omega arith) (omega arith)
+
+      at_fourth : HoldsAt (λ y. is_gt (side y) ≡ false) xs fourth → IsNarrowed side xs fourth (n - quarter * 3)
+      at_fourth o = let l = in_list in narrowed-up xs p start n q fourth (n - quarter * 3) in_list o (omega arith)
+
+      moved_to : (a b c : ℕ) (to : ℕ) (times : ℕ) → a + b + c ≡ times → to ≡ start + times * quarter → IsNarrowed side xs to (n - quarter * 3) → IsNarrowed side xs (start + (a + b + c) * quarter) (n - quarter * 3)
+      moved_to a b c to times s t w = subst (λ m. IsNarrowed side xs (start + m * quarter) (n - quarter * 3)) (sym s) (subst (λ m. IsNarrowed side xs m (n - quarter * 3)) t w)
+
+      pub quarter-reached : (a b c : ℕ) → IsReached side xs second a → IsReached side xs third b → IsReached side xs fourth c → IsNarrowed side xs (start + (a + b + c) * quarter) (n - quarter * 3)
+      quarter-reached a b c ra rb rc =
+          let l = in_list in
+          ⊎_elim
+          (λ a0. ⊎_elim
+          (λ b0. ⊎_elim
+          (λ c0. let x : a ≡ 0 = a0.0 in let y : b ≡ 0 = b0.0 in let z : c ≡ 0 = c0.0 in moved_to a b c start 0 (omega arith) (omega arith) (at_first a0.1))
+          (λ c1. absurd (not-later xs third fourth p (omega arith) in_list b0.1 c1.1))
+          (reached-cases xs fourth c rc))
+          (λ b1. absurd (not-later xs second third p (omega arith) (omega arith) a0.1 b1.1))
+          (reached-cases xs third b rb))
+          (λ a1. ⊎_elim
+          (λ b0. ⊎_elim
+          (λ c0. let x : a ≡ 1 = a1.0 in let y : b ≡ 0 = b0.0 in let z : c ≡ 0 = c0.0 in moved_to a b c second 1 (omega arith) (omega arith) (at_second a1.1 b0.1))
+          (λ c1. absurd (not-later xs third fourth p (omega arith) in_list b0.1 c1.1))
+          (reached-cases xs fourth c rc))
+          (λ b1. ⊎_elim
+          (λ c0. let x : a ≡ 1 = a1.0 in let y : b ≡ 1 = b1.0 in let z : c ≡ 0 = c0.0 in moved_to a b c third 2 (omega arith) (omega arith) (at_third b1.1 c0.1))
+          (λ c1. let x : a ≡ 1 = a1.0 in let y : b ≡ 1 = b1.0 in let z : c ≡ 1 = c1.0 in moved_to a b c fourth 3 (omega arith) (omega arith) (at_fourth c1.1))
+          (reached-cases xs fourth c rc))
+          (reached-cases xs third b rb))
+          (reached-cases xs second a ra)
+
+  -- ---- one comparison that may find it
+
+  -- a product with the one or the none of a comparison
+  pub reached-times : (xs : List X) (i r n : ℕ) → IsReached side xs i r → (r ≤ 1) × (r * n ≤ n)
+  reached-times xs i r n h = ⊎_elim (λ z. let e : r ≡ 0 = z.0 in times e) (λ o. let e : r ≡ 1 = o.0 in (omega arith, subst (λ k. k * n ≤ n) (sym e) (omega arith))) (reached-cases xs i r h)
+    where
+      times : r ≡ 0 → (r ≤ 1) × (r * n ≤ n)
+      times e = (omega arith, subst (λ k. k * n ≤ n) (sym e) (omega arith))
+
+  pub quarter-times : (xs : List X) (i j k a b c n : ℕ) → IsReached side xs i a → IsReached side xs j b → IsReached side xs k c → (a + b ≤ 2) × (a + b + c ≤ 3) × ((a + b + c) * n ≤ n * 3)
+  quarter-times xs i j k a b c n p q r =
+      let x = reached-times xs i a n p in
+      let y = reached-times xs j b n q in
+      let z = reached-times xs k c n r in (omega (arith, x.0, y.0), omega (arith, x.0, y.0, z.0), omega (arith, x.1, y.1, z.1))
+
+  pub searched-within : (xs : List X) (start n : ℕ) (found : Bool) → IsSearched side xs start n found → start + n ≤ length xs
+  searched-within xs start n true q = q.within
+  searched-within xs start n false q = q.within
+
+  module _ (xs : List X) (p : IsOrdered side xs) (start n middle m : ℕ) (h : middle + m ≡ start + n) (k : m + m ≤ n) (l : n ≤ suc (m + m)) (some : 0 < n) where
+    in_part : start ≤ middle - 1
+    in_part = omega arith
+
+    narrowed_half : (o : Ordering) (next : ℕ) (b : Bool) → IsNarrowed side xs start n → HoldsAt (λ y. side y ≡ o) xs (middle - 1) → (is_gt o ≡ true → next ≡ start) → (is_gt o ≡ false → next ≡ middle) → b ≡ is_eq o → IsSearched side xs next m b
+    narrowed_half Less next b q e up down f =
+        let w = q.within in
+        let s : suc (middle - 1) ≡ next = let r = down refl in omega arith in
+        subst (λ b. IsSearched side xs next m b) (sym f) (subst (λ i. IsNarrowed side xs i m) s (narrowed-past xs p start n q (middle - 1) m (omega arith) e (omega arith)))
+    narrowed_half Equal next b q e up down f =
+        let w = q.within in
+        let r = down refl in
+        subst (λ b. IsSearched side xs next m b) (sym f) (record { within = omega arith; some = omega arith; equal = subst (λ i. HoldsAt (λ y. side y ≡ Equal) xs (i - 1)) (sym r) e })
+    narrowed_half Greater next b q e up down f =
+        let w = q.within in
+        subst (λ b. IsSearched side xs next m b) (sym f) (subst (λ i. IsNarrowed side xs i m) (sym (up refl)) (narrowed-down xs p start n q (middle - 1) m (omega arith) e (omega arith) (omega arith)))
+
+    passed_half : (o : Ordering) (next : ℕ) (y : X) → IsPassed side xs start n → y ≡ get_or xs (middle - 1) y → o ≡ side y → (is_gt o ≡ true → next ≡ start) → IsPassed side xs next m
+    passed_half o next y q e f up =
+        let w = q.within in
+        let s = q.some in
+        let g : HoldsAt (λ z. side z ≡ Greater) xs (middle - 1) = greater-later xs (start - 1) (middle - 1) p (omega arith) (omega arith) (λ d. ap is_lt (q.equal d)) in
+        let r : next ≡ start = up (ap is_gt (f ∙ ap side e ∙ g y)) in
+        record { within = omega arith; some = omega arith; equal = subst (λ i. HoldsAt (λ z. side z ≡ Equal) xs (i - 1)) (sym r) q.equal }
+
+    pub searched-half : (found b : Bool) (o : Ordering) (next : ℕ) (y : X) → IsSearched side xs start n found → y ≡ get_or xs (middle - 1) y → middle - 1 < length xs → o ≡ side y → (is_gt o ≡ true → next ≡ start) → (is_gt o ≡ false → next ≡ middle) → b ≡ is_eq o
+        → IsSearched side xs next m (found || b)
+    searched-half true b o next y q e i f up down g = passed_half o next y q e f up
+    searched-half false b o next y q e i f up down g = narrowed_half o next b q (holds-read (λ z. side z ≡ o) xs (middle - 1) y i e (sym f)) up down g
+
+  -- ---- the place
+
+  pub place-passed : (xs : List X) (start : ℕ) → IsOrdered side xs → IsPassed side xs start 0 → IsFound side xs (start - 1)
+  place-passed xs start p q =
+      let w = q.within in
+      let s = q.some in
+      let i : start - 1 < length xs = omega arith in
+      let j : suc (start - 1) ≡ start - 1 + 1 = omega arith in
+      record {
+        within = i;
+        equal = q.equal;
+        less = less-before xs (start - 1) p i (λ d. ap is_gt (q.equal d));
+        greater = subst (λ k. AllByRecursion (λ y. side y ≡ Greater) (drop k xs)) j (greater-behind xs (start - 1) p i (λ d. ap is_lt (q.equal d)));
+      }
+
+  pub place-searched : (xs : List X) (start n : ℕ) (found : Bool) → IsOrdered side xs → IsSearched side xs start n found → found ≡ true → n ≡ 0 → IsFound side xs (start - 1)
+  place-searched xs start n true p q f e = place-passed xs start p (subst (λ m. IsPassed side xs start m) e q)
+  place-searched xs start n false p q f e = absurd (true≢false (sym f))
+
+  pub place-narrowed : (xs : List X) (start : ℕ) → IsNarrowed side xs start 0 → IsGap side xs start
+  place-narrowed xs start q = record { within = (let w = q.within in omega arith); less = q.less; greater = subst (λ k. AllByRecursion (λ y. side y ≡ Greater) (drop k xs)) (omega arith) q.greater }
+
+  module _ (xs : List X) (start : ℕ) (p : IsOrdered side xs) (q : IsNarrowed side xs start 1) (y : X) (e : y ≡ get_or xs start y) where
+    in_bounds : start < length xs
+    in_bounds = let w = q.within in omega arith
+
+    pub place-below : Less ≡ side y → IsGap side xs (start + 1)
+    place-below f =
+        place-narrowed xs (start + 1) (subst (λ i. IsNarrowed side xs i 0) (omega arith) (narrowed-past xs p start 1 q start 0 in_bounds (holds-read (λ z. side z ≡ Less) xs start y in_bounds e (sym f)) (omega arith)))
+
+    pub place-at : Equal ≡ side y → IsFound side xs start
+    place-at f = subst (λ i. IsFound side xs i) (omega arith) (place-passed xs (start + 1) p (record { within = (let l = in_bounds in omega arith); some = omega arith; equal = subst (λ i. HoldsAt (λ z. side z ≡ Equal) xs i) (omega arith) (holds-read (λ z. side z ≡ Equal) xs start y in_bounds e (sym f)) }))
+
+    pub place-above : Greater ≡ side y → IsGap side xs start
+    place-above f = place-narrowed xs start (narrowed-down xs p start 1 q start 0 in_bounds (holds-read (λ z. side z ≡ Greater) xs start y in_bounds e (sym f)) (omega arith) (omega arith))
+
+-- ---- ascending lists are ordered round whatever is sought
+
+module _ {K : Type 0} (cmp : K → K → Ordering) (total : IsTotalOrder cmp) (k : K) where
+  -- above what is not less than k all is greater than k
+  greater_above : (i j : K) (o : Ordering) → cmp i k ≡ o → is_lt o ≡ false → cmp i j ≡ Less → cmp j k ≡ Greater
+  greater_above i j Less e f l = absurd (true≢false f)
+  greater_above i j Equal e f l = total.antisymm j k ∙ ap ordering_reverse (sym (total.congr i k j e) ∙ l)
+  greater_above i j Greater e f l = total.antisymm j k ∙ ap ordering_reverse (total.trans k i j (total.antisymm k i ∙ ap ordering_reverse e) l)
+
+  module _ {X : Type 0} (key : X → K) where
+    all_above : (x : X) (o : Ordering) → cmp (key x) k ≡ o → is_lt o ≡ false → (ys : List X) → AllByRecursion (λ y. cmp (key x) (key y) ≡ Less) ys → AllByRecursion (λ y. cmp (key y) k ≡ Greater) ys
+    all_above x o e f [] p = tt
+    all_above x o e f (y ∷ ys) p = (greater_above (key x) (key y) o e f p.0, all_above x o e f ys p.1)
+
+    beside : (x : X) (ys : List X) (o : Ordering) → cmp (key x) k ≡ o → AllByRecursion (λ y. cmp (key x) (key y) ≡ Less) ys → (cmp (key x) k ≡ Less) ⊎ AllByRecursion (λ y. cmp (key y) k ≡ Greater) ys
+    beside x ys Less e p = inl e
+    beside x ys Equal e p = inr (all_above x Equal e refl ys p)
+    beside x ys Greater e p = inr (all_above x Greater e refl ys p)
+
+    -- a list that ascends by its keys is ordered round any key
+    pub ordered-ascends : (xs : List X) → Ascends (λ x y. cmp (key x) (key y)) xs → IsOrdered (λ x. cmp (key x) k) xs
+    unfolding IsStrictlySortedBy
+    ordered-ascends [] p = tt
+    ordered-ascends (x ∷ xs) p = (beside x xs (cmp (key x) k) refl p.0, ordered-ascends xs p.1)
+
+module _ {K X : Type 0} (cmp : K → K → Ordering) (key : X → K) where
+  each_map : (P : K → Type 0) (xs : List X) → AllByRecursion P (map key xs) → AllByRecursion (λ x. P (key x)) xs
+  each_map P [] p = tt
+  each_map P (x ∷ xs) p = (p.0, each_map P xs p.1)
+
+  -- a list whose keys ascend
+  pub ascends-map : (xs : List X) → Ascends cmp (map key xs) → Ascends (λ x y. cmp (key x) (key y)) xs
+  unfolding IsStrictlySortedBy
+  ascends-map [] p = tt
+  ascends-map (x ∷ xs) p = (each_map (λ j. cmp (key x) j ≡ Less) xs p.0, ascends-map xs p.1)

@@ -1,0 +1,97 @@
+-- What a search for the first element of one list in the other says of both lists, in either direction.
+--     place-left        for the first left element in the right list
+--     place-right        for the first right element in the left list: the same under the order that has its sides swapped
+use Rattle.std.proofs.Common.{◌≡◌, ℕ, zero, suc, ◌+◌, ◌-◌, ◌*◌, ◌<◌, ◌≤◌, List, [], ◌∷◌, length, take, drop, get_or, mul-le-mul_right, length-drop, Result, Ok, Err, ◌⊎◌, inl, inr, ap, subst, ◌∙◌, arith}
+use Rattle.std.specs.Cmp.{IsTotalOrder}
+use Rattle.std.specs.List.{AllByRecursion, HoldsAt}
+use Rattle.std.specs.List.Sorted.{IsStrictlySortedBy}
+use Rattle.std.specs.Ordering.{ordering_reverse}
+use Rattle.std.specs.declared.cmp.Ordering.{Ordering}
+use Rattle.std.specs.declared.cmp.Ordering.TheVariants.{Less, Equal, Greater}
+use Rattle.vc_merge.specs.Place.{IsPlace}
+use Rattle.vc_merge.specs.Progress.{LeftBelow, RightBelow, HeadsCompare, IsLeftPlace, IsRightPlace, fewer}
+use Rattle.vc_merge.specs.Script.{BothAscend}
+use Rattle.vc_merge.specs.declared.searching.Side.{Side}
+use Rattle.vc_merge.specs.declared.searching.Side.TheVariants.{Left, Right}
+use Rattle.vc_merge.proofs.Lists.{each-weaker}
+use Rattle.vc_merge.proofs.Scripts.{below_lefts}
+
+module _ {A B : Type 0} (order : A ⊎ B → A ⊎ B → Ordering) (total : IsTotalOrder order) where
+  -- the right elements before the place are below the left list
+  lower : (x : A) (ls : List A) (ys : List B) → AllByRecursion (λ z. order (inl x) (inl z) ≡ Less) ls → AllByRecursion (λ y. order (inr y) (inl x) ≡ Less) ys → RightBelow order ys (x ∷ ls)
+  lower x ls ys p q = each-weaker (λ y. order (inr y) (inl x) ≡ Less) (λ y. AllByRecursion (λ z. order (inr y) (inl z) ≡ Less) (x ∷ ls)) (λ y h. below_lefts order total x y ls h p) ys q
+
+  heads_equal : (x : A) (ls : List A) (rs : List B) (i : ℕ) → i < length rs → HoldsAt (λ y. order (inr y) (inl x) ≡ Equal) rs i → HeadsCompare order (x ∷ ls) (drop i rs) Equal
+  heads_equal x ls [] i h e = absurd (omega arith)
+  heads_equal x ls (y ∷ rs) zero h e = total.antisymm (inl x) (inr y) ∙ ap ordering_reverse (e y)
+  heads_equal x ls (y ∷ rs) (suc i) h e = heads_equal x ls rs i (omega arith) e
+
+  -- the first left element is below the right ones behind the gap
+  upper : (x : A) (ys : List B) → AllByRecursion (λ y. order (inr y) (inl x) ≡ Greater) ys → AllByRecursion (λ y. order (inl x) (inr y) ≡ Less) ys
+  upper x ys p = each-weaker (λ y. order (inr y) (inl x) ≡ Greater) (λ y. order (inl x) (inr y) ≡ Less) (λ y h. total.antisymm (inl x) (inr y) ∙ ap ordering_reverse h) ys p
+
+  first_below : (x : A) (ls : List A) (ys : List B) → AllByRecursion (λ y. order (inl x) (inr y) ≡ Less) ys → LeftBelow order (take 1 (x ∷ ls)) ys
+  first_below x [] ys p = (p, tt)
+  first_below x (l ∷ ls) ys p = (p, tt)
+
+  placed : (ls : List A) (rs : List B) (x : A) (r : Result ℕ ℕ) → BothAscend order (x ∷ ls) rs → IsPlace (λ y. order (inr y) (inl x)) rs r → IsLeftPlace order (x ∷ ls) rs r
+  unfolding IsStrictlySortedBy
+  placed ls rs x (Ok i) p q = (let w = q.within in omega arith, lower x ls (take i rs) p.left.0 q.less, heads_equal x ls rs i q.within q.equal)
+  placed ls rs x (Err i) p q = (q.within, lower x ls (take i rs) p.left.0 q.less, first_below x ls (drop i rs) (upper x (drop i rs) q.greater))
+
+  pub place-left : (ls : List A) (rs : List B) (x : A) (r : Result ℕ ℕ) → BothAscend order ls rs → 0 < length ls → x ≡ get_or ls 0 x → IsPlace (λ y. order (inr y) (inl x)) rs r → IsLeftPlace order ls rs r
+  place-left [] rs x r p h e q = absurd (omega arith)
+  place-left (l ∷ ls) rs x r p h e q = placed ls rs l r p (subst (λ z. IsPlace (λ y. order (inr y) (inl z)) rs r) e q)
+
+-- the other side
+abbrev swapped : {A B : Type 0} → A ⊎ B → B ⊎ A
+swapped (inl x) = inr x
+swapped (inr y) = inl y
+
+module _ {A B : Type 0} (order : A ⊎ B → A ⊎ B → Ordering) (total : IsTotalOrder order) where
+  abbrev mirrored : B ⊎ A → B ⊎ A → Ordering
+  mirrored u v = order (swapped u) (swapped v)
+
+  mirrored-total : IsTotalOrder mirrored
+  mirrored-total = record {
+    antisymm = λ u v. total.antisymm (swapped u) (swapped v);
+    trans = λ u v w. total.trans (swapped u) (swapped v) (swapped w);
+    congr = λ u v w. total.congr (swapped u) (swapped v) (swapped w);
+  }
+
+  heads_swapped : (ls : List A) (rs : List B) → HeadsCompare mirrored rs ls Equal → HeadsCompare order ls rs Equal
+  heads_swapped [] [] h = absurd h
+  heads_swapped [] (y ∷ rs) h = absurd h
+  heads_swapped (x ∷ ls) [] h = absurd h
+  heads_swapped (x ∷ ls) (y ∷ rs) h = total.antisymm (inl x) (inr y) ∙ ap ordering_reverse h
+
+  place-swapped : (ls : List A) (rs : List B) (r : Result ℕ ℕ) → IsLeftPlace mirrored rs ls r → IsRightPlace order ls rs r
+  place-swapped ls rs (Ok i) q = (q.0, q.1, heads_swapped (drop i ls) rs q.2)
+  place-swapped ls rs (Err i) q = q
+
+  pub place-right : (ls : List A) (rs : List B) (y : B) (r : Result ℕ ℕ) → BothAscend order ls rs → 0 < length rs → y ≡ get_or rs 0 y → IsPlace (λ x. order (inl x) (inr y)) ls r → IsRightPlace order ls rs r
+  place-right ls rs y r p h e q = place-swapped ls rs r (place-left mirrored mirrored-total rs ls y r (record { left = p.right; right = p.left }) h e q)
+
+-- ---- what the searches cost
+
+-- one element of the shorter list more was searched for
+pub paid-more_search : (a b few before d start : ℕ) → few < before → b ≤ a + d → a + before * d ≤ start → b + few * d ≤ start
+paid-more_search a b few before d start h k l =
+    let m : suc few * d ≤ before * d = mul-le-mul_right d h in
+    omega arith
+
+-- the last one was
+pub paid-last_search : (a b before d start : ℕ) → 0 < before → b ≤ a + d → a + before * d ≤ start → b ≤ start
+paid-last_search a b before d start h k l = let m = paid-more_search a b 0 before d start h k l in omega arith
+
+-- what is left of what is left is no longer
+pub drop-no_longer : {X : Type 0} (xs ys zs : List X) (m n : ℕ) → xs ≡ drop m ys → ys ≡ drop n zs → length xs ≤ length zs
+drop-no_longer xs ys zs m n e f =
+    let p : length xs ≡ length ys - m = ap length e ∙ length-drop m ys in
+    let q : length ys ≡ length zs - n = ap length f ∙ length-drop n zs in
+    omega arith
+
+-- where both lists have an element, so has the shorter one
+pub fewer-some : (side : Side) (left right : ℕ) → 0 < left → 0 < right → 0 < fewer side left right
+fewer-some Left left right h k = h
+fewer-some Right left right h k = k

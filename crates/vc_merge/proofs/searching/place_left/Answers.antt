@@ -1,0 +1,29 @@
+use Rattle.std.proofs.Common.{◌≡◌, ◌-◌, length, ap, ◌∙◌, length-drop, arith}
+use Rattle.vc_merge.proofs.Chains.{goes_on-next, goes_on-after, goes_on-true, if_true-weaker}
+use Rattle.vc_merge.proofs.SearchedRuns.{drop-no_longer}
+use Rattle.vc_merge.proofs.searching.place_left.Goals as goal
+
+pub returns-else-not-branch-clause-goes_on : goal.returns-else-not-branch-clause-goes_on
+returns-else-not-branch-clause-goes_on g c =
+    let p = goes_on-true _ _ _ _ _ c.in_ok-pass_rights-in-Ok.ensures.goes_on c.if-not-branch.false in
+    goes_on-after _ _ _ _ _ _ p (goes_on-next _ _ _ _ _ p.ascend c.meet.ensures.next)
+
+pub returns-else-not-branch-clause-fewer : goal.returns-else-not-branch-clause-fewer
+returns-else-not-branch-clause-fewer g c =
+    let passed = c.in_ok-pass_rights-in-Ok.ensures.takes c.if-not-branch.false in
+    let some = c.requires.some in
+    if_true-weaker _
+    (λ met.
+    let e : length (g.M.MergeState.left c.meet.new.state) ≡ length (g.M.MergeState.left c.args.state.now) - 1 = ap length met.0 ∙ length-drop 1 _ ∙ ap (λ l. length l - 1) passed.0 in
+    omega arith)
+    c.meet.ensures.takes
+
+pub returns-else-not-branch-clause-no_more : goal.returns-else-not-branch-clause-no_more
+returns-else-not-branch-clause-no_more g c =
+    let passed = c.in_ok-pass_rights-in-Ok.ensures.takes c.if-not-branch.false in
+    if_true-weaker _ (λ met. drop-no_longer _ _ _ 1 c.in-Ok.place met.1 passed.1) c.meet.ensures.takes
+
+pub returns-else-not-branch-2-clause-goes_on : goal.returns-else-not-branch-2-clause-goes_on
+returns-else-not-branch-2-clause-goes_on g c =
+    let p = goes_on-true _ _ _ _ _ c.in_ok-pass_rights-in-Err.ensures.goes_on c.if-not-branch-2.false in
+    goes_on-after _ _ _ _ _ _ p (goes_on-next _ _ _ _ _ p.ascend c.pass_left.ensures.next)

@@ -1,0 +1,16 @@
+-- What the call of an event takes off the fronts of the two lists, where it answers true.
+use Rattle.std.specs.Prelude.{◌≡◌, ℕ, true, List, drop, IfOk}
+use Rattle.vc_merge.specs.Chain.{Answer}
+
+module _ {M A B : Type 0} (left : M → List A) (right : M → List B) (ready : M → Type 0) where
+  -- n elements off the left list, and the state can go on
+  abbrev pub TakesLeft : ℕ → M → Answer → M → Type 0
+  TakesLeft n s answer t = IfOk answer (λ go_on. go_on ≡ true → (left t ≡ drop n (left s)) × (right t ≡ right s) × ready t)
+
+  -- n elements off the right list
+  abbrev pub TakesRight : ℕ → M → Answer → M → Type 0
+  TakesRight n s answer t = IfOk answer (λ go_on. go_on ≡ true → (left t ≡ left s) × (right t ≡ drop n (right s)) × ready t)
+
+  -- the first element of each list
+  abbrev pub TakesBoth : M → Answer → M → Type 0
+  TakesBoth s answer t = IfOk answer (λ go_on. go_on ≡ true → (left t ≡ drop 1 (left s)) × (right t ≡ drop 1 (right s)) × ready t)

@@ -1,0 +1,245 @@
+//! The searching body of a merge: each element of the shorter list is searched for in what is left of the longer one.
+ghost use Rattle.std.specs.Prelude.{◌≡◌, ◌+◌, ◌*◌, ◌<◌, ◌≤◌, ◌↔◌, true, take, drop, length, min, max, IfOk, IsTrue};
+ghost use Rattle.std.proofs.Common.{inl, inr};
+ghost use Rattle.vc_merge.specs.Chain.{allows};
+ghost use Rattle.vc_merge.specs.Count.{digits};
+ghost use Rattle.vc_merge.specs.Script.{BothAscend};
+ghost use Rattle.vc_merge.specs.Progress.{GoesOn, IsWalk, IsLeftPlace, IsRightPlace, LeftBelow, RightBelow, fewer, more};
+ghost use Rattle.vc_merge.specs.Takes.{TakesLeft, TakesRight};
+
+use crate::linear::{meet, pass_left, pass_right};
+use crate::merge::{Count, MergeOperation, MergeState};
+use crate::search::{Sought, search};
+use std::alloc::AllocError;
+use std::cmp::Ordering;
+
+/// One of the two lists.
+#[derive(Clone, Copy)]
+pub(crate) enum Side {
+    Left,
+    Right,
+}
+
+/// Whether a walk along lists of these lengths compares no more often than searches in the longer one.
+pub(crate) fn is_walk_shorter(left: usize, right: usize) -> bool
+    ensures { IsTrue result ↔ (left + right ≤ min left right * digits (max left right)) }
+{
+    let searches = left.min(right) as u128;
+    let comparisons = u128::from(usize::BITS - left.max(right).leading_zeros());
+    left as u128 + right as u128 <= searches * comparisons
+}
+
+/// Makes events until a list is used up, which it answers by true, or until an event answers false or is refused. Searches for
+/// each element of the shorter list.
+pub(crate) fn search_each<M: MergeState, C: Count, O: MergeOperation<M, C>>(
+    state: &mut M,
+    op: &O,
+    shorter: Side,
+    steps: &mut C,
+) -> Result<bool, AllocError>
+    requires ready { O.ready op.now state.old }
+    requires ascend { BothAscend (O.order op.now) (M.left state.old) (M.right state.old) }
+    ensures walk { IsWalk (allows M.left M.right (O.gives op.now)) (O.order op.now) state.old result state.new }
+    ensures ready { IfOk result (λ go_on. go_on ≡ true → O.ready op.now state.new) }
+    ensures counted { let left = length (M.left state.old) in
+        let right = length (M.right state.old) in
+        C.counted steps.new ≤ C.counted steps.old + fewer shorter left right * digits (more shorter left right) }
+{
+    'events: while !state.a_slice().is_empty() && !state.b_slice().is_empty() {
+        if !place_first(state, op, shorter, steps)? {
+            return Ok(false);
+        }
+    }
+    Ok(true)
+}
+
+/// Searches for the first element of the shorter list, and hands over what is below it and then that element.
+fn place_first<M: MergeState, C: Count, O: MergeOperation<M, C>>(
+    state: &mut M,
+    op: &O,
+    shorter: Side,
+    steps: &mut C,
+) -> Result<bool, AllocError>
+    requires ready { O.ready op.now state.old }
+    requires ascend { BothAscend (O.order op.now) (M.left state.old) (M.right state.old) }
+    requires some_left { 0 < length (M.left state.old) }
+    requires some_right { 0 < length (M.right state.old) }
+    ensures goes_on { GoesOn (allows M.left M.right (O.gives op.now)) (O.order op.now) state.old result state.new }
+    ensures ready { IfOk result (λ go_on. go_on ≡ true → O.ready op.now state.new) }
+    ensures fewer { IfOk result (λ go_on. go_on ≡ true → fewer shorter (length (M.left state.new)) (length (M.right state.new)) < fewer shorter (length (M.left state.old)) (length (M.right state.old))) }
+    ensures no_more { IfOk result (λ go_on. go_on ≡ true → more shorter (length (M.left state.new)) (length (M.right state.new)) ≤ more shorter (length (M.left state.old)) (length (M.right state.old))) }
+    ensures counted { C.counted steps.new ≤ C.counted steps.old + digits (more shorter (length (M.left state.old)) (length (M.right state.old))) }
+{
+    match shorter {
+        Side::Left => place_left(state, op, steps),
+        Side::Right => place_right(state, op, steps),
+    }
+}
+
+/// Hands over the right elements below the first left one, and then that one, alone or with its equal.
+fn place_left<M: MergeState, C: Count, O: MergeOperation<M, C>>(
+    state: &mut M,
+    op: &O,
+    steps: &mut C,
+) -> Result<bool, AllocError>
+    requires ready { O.ready op.now state.old }
+    requires ascend { BothAscend (O.order op.now) (M.left state.old) (M.right state.old) }
+    requires some { 0 < length (M.left state.old) }
+    ensures goes_on { GoesOn (allows M.left M.right (O.gives op.now)) (O.order op.now) state.old result state.new }
+    ensures ready { IfOk result (λ go_on. go_on ≡ true → O.ready op.now state.new) }
+    ensures fewer { IfOk result (λ go_on. go_on ≡ true → length (M.left state.new) < length (M.left state.old)) }
+    ensures no_more { IfOk result (λ go_on. go_on ≡ true → length (M.right state.new) ≤ length (M.right state.old)) }
+    ensures counted { C.counted steps.new ≤ C.counted steps.old + digits (length (M.right state.old)) }
+{
+    match find_left(state, op, steps) {
+        Ok(place) => {
+            if !pass_rights(state, op, place)? {
+                return Ok(false);
+            }
+            meet(state, op)
+        }
+        Err(gap) => {
+            if !pass_rights(state, op, gap)? {
+                return Ok(false);
+            }
+            pass_left(state, op, 1)
+        }
+    }
+}
+
+/// Hands over the left elements below the first right one, and then that one, alone or with its equal.
+fn place_right<M: MergeState, C: Count, O: MergeOperation<M, C>>(
+    state: &mut M,
+    op: &O,
+    steps: &mut C,
+) -> Result<bool, AllocError>
+    requires ready { O.ready op.now state.old }
+    requires ascend { BothAscend (O.order op.now) (M.left state.old) (M.right state.old) }
+    requires some { 0 < length (M.right state.old) }
+    ensures goes_on { GoesOn (allows M.left M.right (O.gives op.now)) (O.order op.now) state.old result state.new }
+    ensures ready { IfOk result (λ go_on. go_on ≡ true → O.ready op.now state.new) }
+    ensures fewer { IfOk result (λ go_on. go_on ≡ true → length (M.right state.new) < length (M.right state.old)) }
+    ensures no_more { IfOk result (λ go_on. go_on ≡ true → length (M.left state.new) ≤ length (M.left state.old)) }
+    ensures counted { C.counted steps.new ≤ C.counted steps.old + digits (length (M.left state.old)) }
+{
+    match find_right(state, op, steps) {
+        Ok(place) => {
+            if !pass_lefts(state, op, place)? {
+                return Ok(false);
+            }
+            meet(state, op)
+        }
+        Err(gap) => {
+            if !pass_lefts(state, op, gap)? {
+                return Ok(false);
+            }
+            pass_right(state, op, 1)
+        }
+    }
+}
+
+/// Hands over `n` left elements that are below the right list, where there are any.
+fn pass_lefts<M: MergeState, C: Count, O: MergeOperation<M, C>>(
+    state: &mut M,
+    op: &O,
+    n: usize,
+) -> Result<bool, AllocError>
+    requires ready { O.ready op.now state.old }
+    requires ascend { BothAscend (O.order op.now) (M.left state.old) (M.right state.old) }
+    requires within { n ≤ length (M.left state.old) }
+    requires below { LeftBelow (O.order op.now) (take n (M.left state.old)) (M.right state.old) }
+    ensures goes_on { GoesOn (allows M.left M.right (O.gives op.now)) (O.order op.now) state.old result state.new }
+    ensures takes { TakesLeft M.left M.right (O.ready op.now) n state.old result state.new }
+{
+    if n == 0 {
+        return Ok(true);
+    }
+    pass_left(state, op, n)
+}
+
+/// Hands over `n` right elements that are below the left list, where there are any.
+fn pass_rights<M: MergeState, C: Count, O: MergeOperation<M, C>>(
+    state: &mut M,
+    op: &O,
+    n: usize,
+) -> Result<bool, AllocError>
+    requires ready { O.ready op.now state.old }
+    requires ascend { BothAscend (O.order op.now) (M.left state.old) (M.right state.old) }
+    requires within { n ≤ length (M.right state.old) }
+    requires below { RightBelow (O.order op.now) (take n (M.right state.old)) (M.left state.old) }
+    ensures goes_on { GoesOn (allows M.left M.right (O.gives op.now)) (O.order op.now) state.old result state.new }
+    ensures takes { TakesRight M.left M.right (O.ready op.now) n state.old result state.new }
+{
+    if n == 0 {
+        return Ok(true);
+    }
+    pass_right(state, op, n)
+}
+
+/// Where the first left element stands in the right list.
+fn find_left<M: MergeState, C: Count, O: MergeOperation<M, C>>(
+    state: &M,
+    op: &O,
+    steps: &mut C,
+) -> Result<usize, usize>
+    requires ascend { BothAscend (O.order op.now) (M.left state.now) (M.right state.now) }
+    requires some { 0 < length (M.left state.now) }
+    ensures place { IsLeftPlace (O.order op.now) (M.left state.now) (M.right state.now) result }
+    ensures counted { C.counted steps.new ≤ C.counted steps.old + digits (length (M.right state.now)) }
+{
+    let sought = LeftElement {
+        op,
+        element: &state.a_slice()[0],
+    };
+    search(state.b_slice(), &sought, steps)
+}
+
+/// Where the first right element stands in the left list.
+fn find_right<M: MergeState, C: Count, O: MergeOperation<M, C>>(
+    state: &M,
+    op: &O,
+    steps: &mut C,
+) -> Result<usize, usize>
+    requires ascend { BothAscend (O.order op.now) (M.left state.now) (M.right state.now) }
+    requires some { 0 < length (M.right state.now) }
+    ensures place { IsRightPlace (O.order op.now) (M.left state.now) (M.right state.now) result }
+    ensures counted { C.counted steps.new ≤ C.counted steps.old + digits (length (M.left state.now)) }
+{
+    let sought = RightElement {
+        op,
+        element: &state.b_slice()[0],
+    };
+    search(state.a_slice(), &sought, steps)
+}
+
+/// A left element that is sought in the right list.
+#[derive(Drop)]
+struct LeftElement<'a, M: MergeState, O> {
+    op: &'a O,
+    element: &'a M::A,
+}
+
+impl<'a, M: MergeState, C: Count, O: MergeOperation<M, C>> Sought<M::B, C>
+    for LeftElement<'a, M, O> {
+    ghost side = { λ s y. O.order s.op.now (inr y) (inl s.element.now) };
+
+    fn compare(&self, element: &M::B, steps: &mut C) -> Ordering {
+        self.op.cmp(self.element, element, steps).reverse()
+    }
+}
+
+/// A right element that is sought in the left list.
+#[derive(Drop)]
+struct RightElement<'a, M: MergeState, O> {
+    op: &'a O,
+    element: &'a M::B,
+}
+
+impl<'a, M: MergeState, C: Count, O: MergeOperation<M, C>> Sought<M::A, C>
+    for RightElement<'a, M, O> {
+    ghost side = { λ s x. O.order s.op.now (inl x) (inr s.element.now) };
+
+    fn compare(&self, element: &M::A, steps: &mut C) -> Ordering {
+        self.op.cmp(element, self.element, steps)
+    }
+}
