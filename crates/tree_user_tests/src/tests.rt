@@ -305,15 +305,15 @@ fn each_component_is_compared_once(rt: HostRuntime) -> Result<(), Fail> {
 
 /// How often values were made, cloned and dropped, and how many more clones are granted.
 #[derive(Drop)]
-struct Tally {
+pub(crate) struct Tally {
     made: Cell<u32>,
     clones: Cell<u32>,
-    drops: Cell<u32>,
-    clones_left: Cell<u32>,
+    pub(crate) drops: Cell<u32>,
+    pub(crate) clones_left: Cell<u32>,
 }
 
 impl Tally {
-    fn new() -> Tally {
+    pub(crate) fn new() -> Tally {
         Tally {
             made: Cell::new(0),
             clones: Cell::new(0),
@@ -323,19 +323,19 @@ impl Tally {
     }
 
     /// How often a value was made, by itself or as a clone.
-    fn made_and_cloned(&self) -> u32 {
+    pub(crate) fn made_and_cloned(&self) -> u32 {
         self.made.get().saturating_add(self.clones.get())
     }
 }
 
 /// A value that counts its clones and drops.
-struct Counted<'a> {
-    number: u32,
+pub(crate) struct Counted<'a> {
+    pub(crate) number: u32,
     tally: &'a Tally,
 }
 
 impl<'a> Counted<'a> {
-    fn new(number: u32, tally: &'a Tally) -> Counted<'a> {
+    pub(crate) fn new(number: u32, tally: &'a Tally) -> Counted<'a> {
         tally.made.set(tally.made.get().saturating_add(1));
         Counted { number, tally }
     }

@@ -1,0 +1,293 @@
+//! Walks: the rows of keys, kept keys, clones and drops of values, and deep trees.
+
+use super::Word;
+use super::tests::{Counted, Tally};
+use std::alloc::{AllocError, Global};
+use std::test::Fail;
+use vc_trees::radix_tree::{
+    AbstractRadixTree, AbstractRadixTreeMut, ArcRadixTree, Iter, IterKey, ObjAndIter, RadixTree,
+    Values,
+};
+
+/// Puts a digit behind the text, parted by a space from what stands there.
+fn put_digit(text: &mut String, digit: u32) -> Result<(), AllocError> {
+    if !text.is_empty() {
+        text.push(' ')?;
+    }
+    text.push(char::from_digit(digit, 10).unwrap_or('?'))
+}
+
+/// Puts a digit and the letters of its key behind the text, as `1aabb`.
+fn put_pair(text: &mut String, key: &[u8], digit: u32) -> Result<(), AllocError> {
+    put_digit(text, digit)?;
+    for letter in key {
+        text.push(char::from(*letter))?;
+    }
+    Ok(())
+}
+
+/// The pairs that are left of a walk.
+fn print_pairs<T: AbstractRadixTree<u8, u32>>(
+    alloc: Global,
+    walk: Iter<'_, u8, u32, T>,
+) -> Result<String, AllocError> {
+    let mut text = String::new(alloc);
+    for item in walk {
+        let (key, value) = item?;
+        put_pair(&mut text, key.as_ref(), *value)?;
+    }
+    Ok(text)
+}
+
+/// The values that are left of a walk.
+fn print_values<T: AbstractRadixTree<u8, u32>>(
+    alloc: Global,
+    walk: Values<'_, u8, u32, T>,
+) -> Result<String, AllocError> {
+    let mut text = String::new(alloc);
+    for value in walk {
+        put_digit(&mut text, *value?)?;
+    }
+    Ok(text)
+}
+
+/// The pairs that are left of a walk that holds its tree.
+fn print_held<T: AbstractRadixTree<u8, u32> + Drop>(
+    alloc: Global,
+    walk: ObjAndIter<u8, u32, T>,
+) -> Result<String, AllocError> {
+    let mut text = String::new(alloc);
+    for item in walk {
+        let (key, value) = item?;
+        put_pair(&mut text, key.as_ref(), value)?;
+    }
+    Ok(text)
+}
+
+/// The tree of the keys, each bound to its place in the list, from 1 on.
+fn tree_of<T: AbstractRadixTreeMut<u8, u32>>(
+    alloc: Global,
+    keys: &[&str],
+) -> Result<T, AllocError> {
+    let mut tree = T::empty(alloc);
+    let mut place = 0u32;
+    for key in keys {
+        place = place.saturating_add(1);
+        tree.insert(key.as_bytes(), place)?;
+    }
+    Ok(tree)
+}
+
+/// The keys of a tree, a prefix, and what the walks of the tree give: all pairs, the pairs under the prefix, and the values.
+type Row = (
+    &'static [&'static str],
+    &'static str,
+    &'static str,
+    &'static str,
+    &'static str,
+);
+
+const ROWS: [Row; 9] = [
+    (&[], "a", "", "", ""),
+    (&[""], "", "1", "1", "1"),
+    (&["", "a"], "a", "1 2a", "2a", "1 2"),
+    (&["b", "a", "ab"], "a", "2a 3ab 1b", "2a 3ab", "2 3 1"),
+    (
+        &["aabbcc", "aabb", "aabbee"],
+        "aab",
+        "2aabb 1aabbcc 3aabbee",
+        "2aabb 1aabbcc 3aabbee",
+        "2 1 3",
+    ),
+    (&["aabbcc"], "aab", "1aabbcc", "1aabbcc", "1"),
+    (&["aabbcc"], "aac", "1aabbcc", "", "1"),
+    (&["aabbcc", "aabb"], "aabbccd", "2aabb 1aabbcc", "", "2 1"),
+    (
+        &["abx", "aby", "b", "abz", "a"],
+        "ab",
+        "5a 1abx 2aby 4abz 3b",
+        "1abx 2aby 4abz",
+        "5 1 2 4 3",
+    ),
+];
+
+/// Walks the trees of the rows in each way.
+fn walks_rows<T: AbstractRadixTreeMut<u8, u32>>(
+    alloc: Global,
+    rt: &impl std::process::Abort,
+) -> Result<(), AllocError> {
+    for (keys, prefix, all, under, values) in ROWS {
+        let tree = tree_of::<T>(alloc, keys)?;
+        assert_eq!(rt; print_pairs(alloc, tree.iter())?.as_str(), all);
+        assert_eq!(rt;
+            print_pairs(alloc, tree.scan_prefix(prefix.as_bytes()))?.as_str(),
+            under
+        );
+        assert_eq!(rt; print_values(alloc, tree.values())?.as_str(), values);
+        assert_eq!(rt; print_held(alloc, tree.into_iter())?.as_str(), all);
+    }
+    Ok(())
+}
+
+#[test]
+fn walks_ascend(rt: HostRuntime) -> Result<(), Fail> {
+    walks_rows::<RadixTree<u8, u32>>(rt.alloc(), &rt)?;
+    walks_rows::<ArcRadixTree<u8, u32>>(rt.alloc(), &rt)?;
+    let word = Word::new(b"abc".to_vec(rt.alloc())?, 7);
+    assert_eq!(rt; print_pairs(rt.alloc(), word.iter())?.as_str(), "7abc");
+    assert_eq!(rt;
+        print_pairs(rt.alloc(), word.scan_prefix(b"ab"))?.as_str(),
+        "7abc"
+    );
+    Ok(())
+}
+
+/// Keeps each key of a walk and a clone of it until the walk ends, and prints them all.
+fn print_kept<T: AbstractRadixTree<u8, u32>>(
+    alloc: Global,
+    walk: Iter<'_, u8, u32, T>,
+) -> Result<String, AllocError> {
+    let mut keys: Vec<IterKey<u8>> = Vec::new(alloc);
+    for item in walk {
+        let (key, _) = item?;
+        keys.push(key.clone()?)?;
+        keys.push(key)?;
+    }
+    format!(in alloc; "{keys:?}")
+}
+
+/// Prints the kept keys of the walk of a tree.
+fn print_kept_of<T: AbstractRadixTreeMut<u8, u32>>(alloc: Global) -> Result<String, AllocError> {
+    let tree = tree_of::<T>(alloc, &["a", "ab", "b"])?;
+    print_kept(alloc, tree.iter())
+}
+
+#[test]
+fn kept_keys_stay(rt: HostRuntime) -> Result<(), Fail> {
+    let text = print_kept_of::<RadixTree<u8, u32>>(rt.alloc())?;
+    assert_eq!(rt;
+        text.as_str(),
+        "[IterKey([97]), IterKey([97]), IterKey([97, 98]), IterKey([97, 98]), IterKey([98]), IterKey([98])]"
+    );
+    Ok(())
+}
+
+/// Walks a tree of three counted values, which the walk holds, until the clones that are granted are used up. Answers the sum of the
+/// numbers that came, and whether the walk was refused and is at its end.
+fn sum_of_granted<'a, T: AbstractRadixTreeMut<u8, Counted<'a>>>(
+    alloc: Global,
+    granted: u32,
+    tally: &'a Tally,
+) -> Result<(u32, bool), AllocError> {
+    let mut tree = T::empty(alloc);
+    tree.insert(b"b", Counted::new(4, tally))?;
+    tree.insert(b"a", Counted::new(1, tally))?;
+    tree.insert(b"ab", Counted::new(2, tally))?;
+    tally.clones_left.set(granted);
+    let mut walk = tree.into_iter();
+    let mut sum = 0u32;
+    for _ in 0..granted {
+        if let Some(Ok((_, value))) = walk.next() {
+            sum = sum.saturating_add(value.number);
+        }
+    }
+    let is_refused = matches!(walk.next(), Some(Err(_)));
+    let is_over = walk.next().is_none();
+    Ok((sum, is_refused && is_over))
+}
+
+#[test]
+fn a_held_tree_is_dropped_once(rt: HostRuntime) -> Result<(), Fail> {
+    for (granted, sum) in [(0, 0u32), (1, 1), (2, 3)] {
+        for shared in [false, true] {
+            let tally = Tally::new();
+            let walked = if shared {
+                sum_of_granted::<ArcRadixTree<u8, Counted>>(rt.alloc(), granted, &tally)?
+            } else {
+                sum_of_granted::<RadixTree<u8, Counted>>(rt.alloc(), granted, &tally)?
+            };
+            assert_eq!(rt; walked.0, sum, "at {granted}");
+            assert!(rt; walked.1, "at {granted}");
+            let dropped = tally.drops.get();
+            assert_eq!(rt; dropped, tally.made_and_cloned(), "at {granted}");
+        }
+    }
+    Ok(())
+}
+
+/// How many nested keys the deep trees have.
+const DEPTH: u32 = 5000;
+
+/// How many such a tree has that a walk holds, whose steps go down from the root.
+const HELD_DEPTH: u32 = 500;
+
+/// The tree of nested keys of letters, up to one of so many.
+fn nested<T: AbstractRadixTreeMut<u8, u32>>(alloc: Global, depth: u32) -> Result<T, AllocError> {
+    let mut key = Vec::new(alloc);
+    for _ in 0..depth {
+        key.push(b'a')?;
+    }
+    let mut tree = T::empty(alloc);
+    for _ in 0..depth {
+        tree.insert(key.as_slice(), 1)?;
+        key.pop();
+    }
+    Ok(tree)
+}
+
+/// How many pairs and how many values the walks of a tree give, each of them 1.
+fn counts_of<T: AbstractRadixTree<u8, u32>>(tree: &T) -> Result<(u32, u32), AllocError> {
+    let mut pairs = 0u32;
+    for item in tree.iter() {
+        let (_, value) = item?;
+        pairs = pairs.saturating_add(*value);
+    }
+    let mut values = 0u32;
+    for value in tree.values() {
+        values = values.saturating_add(*value?);
+    }
+    Ok((pairs, values))
+}
+
+/// How many pairs the walk gives that holds its tree, each value 1.
+fn count_held<T: AbstractRadixTree<u8, u32> + Drop>(
+    walk: ObjAndIter<u8, u32, T>,
+) -> Result<u32, AllocError> {
+    let mut pairs = 0u32;
+    for item in walk {
+        let (_, value) = item?;
+        pairs = pairs.saturating_add(value);
+    }
+    Ok(pairs)
+}
+
+/// How many pairs and values the walks of a tree of nested keys give.
+fn count_nested<T: AbstractRadixTreeMut<u8, u32>>(
+    alloc: Global,
+    depth: u32,
+) -> Result<(u32, u32), AllocError> {
+    let tree = nested::<T>(alloc, depth)?;
+    counts_of(&tree)
+}
+
+/// How many pairs the walk gives that holds such a tree.
+fn count_held_nested<T: AbstractRadixTreeMut<u8, u32>>(
+    alloc: Global,
+    depth: u32,
+) -> Result<u32, AllocError> {
+    let tree = nested::<T>(alloc, depth)?;
+    count_held(tree.into_iter())
+}
+
+#[test]
+fn deep_trees_are_walked(rt: HostRuntime) -> Result<(), Fail> {
+    let counts = count_nested::<RadixTree<u8, u32>>(rt.alloc(), DEPTH)?;
+    assert_eq!(rt; counts.0, DEPTH);
+    assert_eq!(rt; counts.1, DEPTH);
+    let counts = count_nested::<ArcRadixTree<u8, u32>>(rt.alloc(), HELD_DEPTH)?;
+    assert_eq!(rt; counts.0, HELD_DEPTH);
+    assert_eq!(rt; counts.1, HELD_DEPTH);
+    let held = count_held_nested::<ArcRadixTree<u8, u32>>(rt.alloc(), HELD_DEPTH)?;
+    assert_eq!(rt; held, HELD_DEPTH);
+    Ok(())
+}
