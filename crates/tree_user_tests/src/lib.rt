@@ -12,6 +12,8 @@ use vc_trees::radix_tree::{AbstractRadixTree, AbstractRadixTreeMut, RadixNode, T
 mod lookups;
 #[cfg(test)]
 mod tests;
+#[cfg(test)]
+mod whole_trees;
 
 /// A tree of one key, which is kept in a list: a tree of another crate.
 #[derive(Drop)]

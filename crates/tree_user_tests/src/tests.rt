@@ -199,7 +199,7 @@ fn components_are_compared_by_their_order(rt: HostRuntime) -> Result<(), Fail> {
 
 /// How often values were made, cloned and dropped, and how many more clones are granted.
 #[derive(Drop)]
-struct Tally {
+pub struct Tally {
     made: Cell<u32>,
     clones: Cell<u32>,
     drops: Cell<u32>,
@@ -207,13 +207,23 @@ struct Tally {
 }
 
 impl Tally {
-    fn new() -> Tally {
+    pub fn new() -> Tally {
         Tally {
             made: Cell::new(0),
             clones: Cell::new(0),
             drops: Cell::new(0),
             clones_left: Cell::new(u32::MAX),
         }
+    }
+
+    /// How often a value was cloned.
+    pub fn clones(&self) -> u32 {
+        self.clones.get()
+    }
+
+    /// How often a value was dropped.
+    pub fn drops(&self) -> u32 {
+        self.drops.get()
     }
 
     /// How often a value was made, by itself or as a clone.
@@ -223,13 +233,13 @@ impl Tally {
 }
 
 /// A value that counts its clones and drops.
-struct Counted<'a> {
+pub struct Counted<'a> {
     number: u32,
     tally: &'a Tally,
 }
 
 impl<'a> Counted<'a> {
-    fn new(number: u32, tally: &'a Tally) -> Counted<'a> {
+    pub fn new(number: u32, tally: &'a Tally) -> Counted<'a> {
         tally.made.set(tally.made.get().saturating_add(1));
         Counted { number, tally }
     }
