@@ -15,6 +15,8 @@ mod lookups;
 mod tests;
 #[cfg(test)]
 mod walks;
+#[cfg(test)]
+mod whole_trees;
 
 /// A tree of one key, which is kept in a list: a tree of another crate.
 #[derive(Drop)]

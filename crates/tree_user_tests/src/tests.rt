@@ -322,6 +322,16 @@ impl Tally {
         }
     }
 
+    /// How often a value was cloned.
+    pub(crate) fn clones(&self) -> u32 {
+        self.clones.get()
+    }
+
+    /// How often a value was dropped.
+    pub(crate) fn drops(&self) -> u32 {
+        self.drops.get()
+    }
+
     /// How often a value was made, by itself or as a clone.
     pub(crate) fn made_and_cloned(&self) -> u32 {
         self.made.get().saturating_add(self.clones.get())

@@ -1,0 +1,119 @@
+//! Whole trees: made of pairs, cloned, shared and shown.
+
+use super::tests::{Counted, Tally};
+use std::alloc::{AllocError, Global};
+use std::test::Fail;
+use vc_trees::radix_tree::{AbstractRadixTree, AbstractRadixTreeMut, ArcRadixTree, RadixTree};
+
+/// The tree of the pairs, by their keys as lists.
+fn of_vecs(alloc: Global, pairs: &[(&str, u32)]) -> Result<RadixTree<u8, u32>, AllocError> {
+    let mut list = Vec::new(alloc);
+    for (key, value) in pairs {
+        list.push((key.as_bytes().to_vec(alloc)?, *value))?;
+    }
+    RadixTree::from_vecs(alloc, list.into_iter())
+}
+
+/// The same tree, shared.
+fn shared_of(tree: RadixTree<u8, u32>) -> Result<ArcRadixTree<u8, u32>, AllocError> {
+    ArcRadixTree::from_radix_tree(tree)
+}
+
+/// A clone of the tree.
+fn clone_of(tree: &RadixTree<u8, u32>) -> Result<RadixTree<u8, u32>, AllocError> {
+    tree.clone()
+}
+
+/// How the tree of `ab` and `ac` is shown, plain and shared.
+fn shown(alloc: Global) -> Result<(String, String), AllocError> {
+    let tree = of_vecs(alloc, &[("ab", 1), ("ac", 2)])?;
+    let plain = format!(in alloc; "{:?}", tree)?;
+    let shared = shared_of(clone_of(&tree)?)?;
+    let text = format!(in alloc; "{:?}", shared)?;
+    Ok((plain, text))
+}
+
+#[test]
+fn trees_are_shown(rt: HostRuntime) -> Result<(), Fail> {
+    let (plain, shared) = shown(rt.alloc())?;
+    assert_eq!(rt;
+        plain.as_str(),
+        "RadixTree { prefix: [97], value: None, children: [RadixTree { prefix: [98], value: Some(1), children: [] }, RadixTree { prefix: [99], value: Some(2), children: [] }] }"
+    );
+    assert_eq!(rt;
+        shared.as_str(),
+        "ArcRadixTree { prefix: [97], value: None, children: [ArcRadixTree { prefix: [98], value: Some(1), children: [] }, ArcRadixTree { prefix: [99], value: Some(2), children: [] }] }"
+    );
+    Ok(())
+}
+
+/// The tree of three values.
+fn three<'a, T: AbstractRadixTreeMut<u8, Counted<'a>>>(
+    alloc: Global,
+    tally: &'a Tally,
+) -> Result<T, AllocError> {
+    let mut tree = T::empty(alloc);
+    for key in ["a", "ab", "b"] {
+        tree.insert(key.as_bytes(), Counted::new(1, tally))?;
+    }
+    Ok(tree)
+}
+
+/// The same tree, shared.
+fn shared_three<'a>(
+    tree: RadixTree<u8, Counted<'a>>,
+) -> Result<ArcRadixTree<u8, Counted<'a>>, AllocError> {
+    ArcRadixTree::from_radix_tree(tree)
+}
+
+/// Makes a tree of three values shared, and says how many values were cloned and dropped by then.
+fn counts_of_sharing(alloc: Global, tally: &Tally) -> Result<(u32, u32), AllocError> {
+    let shared = shared_three(three(alloc, tally)?)?;
+    let counts = (tally.clones(), tally.drops());
+    drop(shared);
+    Ok(counts)
+}
+
+#[test]
+fn a_shared_tree_takes_the_values_over(rt: HostRuntime) -> Result<(), Fail> {
+    let tally = Tally::new();
+    let counts = counts_of_sharing(rt.alloc(), &tally)?;
+    assert_eq!(rt; counts, (0, 0));
+    let dropped = tally.drops();
+    assert_eq!(rt; dropped, 3);
+    Ok(())
+}
+
+/// Whether a prefix longer than its place is split and copied, and a node has eight children.
+fn is_wide_and_long<T: AbstractRadixTreeMut<u8, u32> + Clone>(
+    alloc: Global,
+) -> Result<bool, AllocError> {
+    let long = "abcdefghijklmnopqrstuvwxyzabcdefghijklmn";
+    let mut tree = T::single(alloc, long.as_bytes(), 40)?;
+    tree.insert(b"abcdefghijklmnopqrstx", 21)?;
+    for (letter, value) in [
+        ("q", 1u32),
+        ("c", 2),
+        ("x", 3),
+        ("b", 4),
+        ("z", 5),
+        ("m", 6),
+        ("d", 7),
+    ] {
+        tree.insert(letter.as_bytes(), value)?;
+    }
+    let copy = tree.clone()?;
+    let has_eight = copy.children().len() == 8;
+    let has_long = copy.get(long.as_bytes()).copied() == Some(40);
+    let has_split = copy.get(b"abcdefghijklmnopqrstx").copied() == Some(21);
+    Ok(has_eight && has_long && has_split && copy.get(b"m").copied() == Some(6))
+}
+
+#[test]
+fn long_prefixes_and_many_children(rt: HostRuntime) -> Result<(), Fail> {
+    let plain = is_wide_and_long::<RadixTree<u8, u32>>(rt.alloc())?;
+    assert!(rt; plain);
+    let shared = is_wide_and_long::<ArcRadixTree<u8, u32>>(rt.alloc())?;
+    assert!(rt; shared);
+    Ok(())
+}
