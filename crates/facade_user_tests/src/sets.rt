@@ -1,7 +1,7 @@
 //! Sets from outside: each call, operator and iteration, with what a user says of it.
-ghost use Rattle.std.specs.Prelude.{◌≡◌, ◌==◌, ◌||◌, ◌&&◌, ◌↔◌, ◌<◌, ◌≤◌, ◌%◌, not, IfOk, IfSome, IsNone, OnOk, OnErr, IsOk, IsTrue, List, [], ◌∷◌, ℕ, length, count_by, Bool};
+ghost use Rattle.std.specs.Prelude.{◌≡◌, ◌==◌, ◌||◌, ◌&&◌, ◌↔◌, ◌≤◌, ◌%◌, not, IfOk, IfSome, IsNone, OnOk, OnErr, IsOk, IsTrue, [], ◌∷◌, ℕ, length, count_by};
 ghost use Rattle.std.specs.Ordering.{nat_cmp};
-ghost use Rattle.vec_collections.specs.Ascending.{Ascends, member};
+ghost use Rattle.vec_collections.specs.Ascending.{member};
 ghost use Rattle.std.specs.Hash as fed;
 ghost use Rattle.std.specs.List.{fold};
 ghost use Rattle.std.specs.Cmp.Lexicographic.{slice_cmp};
@@ -14,6 +14,7 @@ use std::collections::BTreeSet;
 use std::hash::{Hash, Hasher};
 use std::marker::Model;
 use vec_collections::iterators::ascends;
+use vec_collections::laws::tests_are_of_operations;
 use vec_collections::merge::Steps;
 use vec_collections::{
     AbstractVecSet, SetOp, SetTest, VecSet, VecSet2, difference, intersection,
@@ -116,6 +117,14 @@ pub fn absorb_one(tags: &mut Tags, more: VecSet2<u32>) -> Result<(), AllocError>
     tags.bitxor_assign(more)
 }
 
+/// Adds the tags of an article that is gone afterwards, as an iterator gives them.
+pub fn add_each(tags: &mut Tags, more: Tags) -> Result<(), AllocError>
+    ensures added { OnOk result (IsEither tags.old more tags.new) }
+    ensures err { OnErr result (tags.new ≡ tags.old) }
+{
+    tags.extend(more.into_iter())
+}
+
 /// Keeps the tags that each of four articles has.
 pub fn keep_both(tags: &mut Tags, b: &Tags, c: &VecSet2<u32>, d: VecSet2<u32>)
     ensures { (tag : ℕ) → IsTrue (has tags.new tag) ↔ (IsTrue (has tags.old tag) × IsTrue (has b.now tag) × IsTrue (has c.now tag) × IsTrue (has d tag)) }
@@ -164,6 +173,14 @@ pub fn standing_counted(a: &Tags, b: &Tags, steps: &mut Steps) -> Standing
     }
 }
 
+/// Whether an article has all tags that are asked for, by what is left of them: a law ties the difference to the test.
+pub fn has_all(tags: &Tags, asked: &Tags) -> Result<bool, AllocError>
+    ensures { IfOk result (λ has_all. IsTrue has_all ↔ ((tag : ℕ) → IsTrue (has asked.now tag) → IsTrue (has tags.now tag))) }
+{
+    tests_are_of_operations::<u32>();
+    Ok(asked.difference(tags)?.is_empty())
+}
+
 /// Puts one tag in the place of another, and says whether the other one was there.
 pub fn rename(tags: &mut Tags, from: u32, to: u32) -> Result<bool, AllocError>
     ensures found { IfOk result (λ found. found ≡ has tags.old from) }
@@ -173,6 +190,13 @@ pub fn rename(tags: &mut Tags, from: u32, to: u32) -> Result<bool, AllocError>
     tags.remove(&from);
     tags.insert(to)?;
     Ok(found)
+}
+
+/// Drops the tags below a limit.
+pub fn drop_below(tags: &mut Tags, limit: u32)
+    ensures { (tag : ℕ) → IsTrue (has tags.new tag) → IsTrue (has tags.old tag) }
+{
+    tags.retain(|tag| limit <= *tag);
 }
 
 /// How many tags are odd, by a loop.

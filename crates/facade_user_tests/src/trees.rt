@@ -1,9 +1,9 @@
 //! Radix trees from outside: each call at both flavours, generic code, and a tree of this crate's own with children.
-ghost use Rattle.std.specs.Prelude.{◌≡◌, ◌<◌, [], ◌∷◌, Some, None, IfOk, OnOk};
+ghost use Rattle.std.specs.Prelude.{◌≡◌, ◌<◌, [], ◌∷◌, Some, None, true, length, IfOk, OnOk};
 ghost use Rattle.std.specs.Ordering.{nat_cmp};
 ghost use Rattle.std.specs.Option.{option_copied};
 ghost use Rattle.vec_collections.specs.Map.{lookup, or_else, IsInserted};
-ghost use Rattle.vec_collections.specs.Tree.{made, no_tree};
+ghost use Rattle.vec_collections.specs.Tree.{made, no_tree, is_bare};
 
 use std::alloc::{AllocError, Global};
 use std::marker::Model;
@@ -68,6 +68,19 @@ pub fn one_port(alloc: Global, server: &[u8], port: u32) -> Result<Ports, AllocE
     ensures { IfOk result (λ ports. ports ≡ made server.now (Some port) []) }
 {
     Ports::single(alloc, server, port)
+}
+
+/// How long the beginning of all names of servers is, the port of that name itself, and whether there is no port.
+pub fn root_of(ports: &Ports) -> (usize, Option<u32>, bool)
+    ensures prefix { result.0 ≡ length ports.now.prefix }
+    ensures value { result.1 ≡ ports.now.value }
+    ensures none { result.2 ≡ is_bare ports.now }
+{
+    (
+        ports.prefix().len(),
+        ports.value().copied(),
+        ports.is_empty(),
+    )
 }
 
 /// The value of the key in the first of two trees of any kind that binds it.
