@@ -9,6 +9,8 @@ use std::alloc::{AllocError, Global};
 use vc_trees::radix_tree::{AbstractRadixTree, AbstractRadixTreeMut, RadixNode, TKey, TValue};
 
 #[cfg(test)]
+mod combines;
+#[cfg(test)]
 mod tests;
 
 /// A tree of one key, which is kept in a list: a tree of another crate.
