@@ -10,6 +10,8 @@ use std::cell::Cell;
 use vc_trees::radix_tree::{AbstractRadixTree, AbstractRadixTreeMut, RadixNode, TKey, TValue};
 
 #[cfg(test)]
+mod combines;
+#[cfg(test)]
 mod lookups;
 #[cfg(test)]
 mod tests;

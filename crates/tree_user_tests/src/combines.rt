@@ -1,0 +1,86 @@
+//! Fresh combines with ample memory, in both flavours and with a tree of another crate.
+
+use super::Word;
+use std::alloc::{AllocError, Global};
+use std::test::Fail;
+use vc_trees::radix_tree::{AbstractRadixTree, AbstractRadixTreeMut, ArcRadixTree, RadixTree};
+
+/// The tree of these keys and values.
+fn tree_of<T: AbstractRadixTreeMut<u8, u32>>(
+    alloc: Global,
+    pairs: &[(&str, u32)],
+) -> Result<T, AllocError> {
+    let mut tree = T::empty(alloc);
+    for (key, value) in pairs {
+        tree.insert(key.as_bytes(), *value)?;
+    }
+    Ok(tree)
+}
+
+/// Asserts what the tree binds to these keys.
+fn assert_binds<T: AbstractRadixTree<u8, u32>>(
+    rt: &impl std::process::Abort,
+    tree: &T,
+    pairs: &[(&str, Option<u32>)],
+) {
+    for (key, value) in pairs {
+        assert_eq!(rt; tree.get(key.as_bytes()).copied(), *value, "at {key}");
+    }
+}
+
+/// Each combine of two trees of a flavour, at every key of either.
+fn combines<T: AbstractRadixTreeMut<u8, u32>>(
+    alloc: Global,
+    rt: &impl std::process::Abort,
+) -> Result<(), AllocError> {
+    let left: T = tree_of(alloc, &[("a", 1), ("ab", 2)])?;
+    let right: T = tree_of(alloc, &[("ab", 5), ("b", 7)])?;
+    let outer: T = left.outer_combine(&right, |v, w| Ok(Some(v.saturating_add(*w))))?;
+    assert_binds(
+        rt,
+        &outer,
+        &[("a", Some(1)), ("ab", Some(7)), ("b", Some(7)), ("", None)],
+    );
+    let inner: T = left.inner_combine(&right, |v, w| Ok(Some(v.saturating_add(*w))))?;
+    assert_binds(rt, &inner, &[("a", None), ("ab", Some(7)), ("b", None)]);
+    assert_eq!(rt; inner.prefix().len(), 2);
+    let gone: T = left.inner_combine(&right, |_, _| Ok(None))?;
+    assert!(rt; gone.is_empty());
+    let union = left.union(&right)?;
+    assert_binds(
+        rt,
+        &union,
+        &[("a", Some(1)), ("ab", Some(2)), ("b", Some(7))],
+    );
+    let intersection = left.intersection(&right)?;
+    assert_binds(
+        rt,
+        &intersection,
+        &[("a", None), ("ab", Some(2)), ("b", None)],
+    );
+    let difference = left.difference(&right)?;
+    assert_binds(
+        rt,
+        &difference,
+        &[("a", Some(1)), ("ab", None), ("b", None)],
+    );
+    let short: T = inner.materialize_shortened(1)?;
+    assert_binds(rt, &short, &[("b", Some(7)), ("ab", None)]);
+    Ok(())
+}
+
+#[test]
+fn both_flavours_are_combined(rt: HostRuntime) -> Result<(), Fail> {
+    combines::<RadixTree<u8, u32>>(rt.alloc(), &rt)?;
+    combines::<ArcRadixTree<u8, u32>>(rt.alloc(), &rt)?;
+    Ok(())
+}
+
+#[test]
+fn a_tree_of_another_crate_is_combined(rt: HostRuntime) -> Result<(), Fail> {
+    let word = Word::new(b"abc".to_vec(rt.alloc())?, 7);
+    let tree: RadixTree<u8, u32> = tree_of(rt.alloc(), &[("abc", 1), ("abd", 2)])?;
+    let rest = tree.difference(&word)?;
+    assert_binds(&rt, &rest, &[("abc", None), ("abd", Some(2))]);
+    Ok(())
+}
