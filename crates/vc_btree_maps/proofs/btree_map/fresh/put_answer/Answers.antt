@@ -1,3 +1,4 @@
+use Rattle.vc_sets.proofs.Clones.{clone-equal}
 use Rattle.vc_btree_maps.proofs.Entering.{put_some, put_none}
 use Rattle.vc_btree_maps.proofs.btree_map.fresh.put_answer.Goals as goal
 
@@ -6,7 +7,7 @@ returns-in_ok-insert-in-Some g c =
     let clone = c.in_ok-clone-in-Some.ensures.cases in
     rw c.in-Some.is (record {
       ascends = c.in_ok-insert-in-Some.ensures.ordered;
-      at = put_some g.K.Ord.cmp g.met.K.Ord.total g.K.Clone.is_clone _ _ _ _ _ clone (c.requires.clones _ _ clone) c.requires.absent c.in_ok-insert-in-Some.ensures.entries;
+      at = put_some g.K.Ord.cmp g.met.K.Ord.total g.K.Clone.is_clone _ _ _ _ _ clone (clone-equal g.K.Ord.cmp g.met.K.Ord.total g.K.Clone.is_clone c.requires.clones _ _ clone) c.requires.absent c.in_ok-insert-in-Some.ensures.entries;
     })
 
 pub returns-in-None : goal.returns-in-None
