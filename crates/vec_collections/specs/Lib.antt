@@ -1,6 +1,5 @@
 -- What the public clauses of the exported items cite, and the words of the laws, so that a user names this crate alone.
 pub mod Exact
--- What the public clauses of the exported items cite, so that a user names this crate alone.
 pub use Rattle.vc_btree_maps.specs.Pairs
 pub use Rattle.vc_joins.specs.Answers
 pub use Rattle.vc_joins.specs.Entries
@@ -24,24 +23,26 @@ pub use Rattle.vc_total_sets.specs.Laws as TotalLaws
 pub use Rattle.vc_total_sets.specs.TotalOf
 pub use Rattle.vc_total_sets.specs.TotalSet
 pub use Rattle.vc_total_sets.specs.TotalTests
+pub use Rattle.vc_tree_model.specs.Asking
 pub use Rattle.vc_tree_model.specs.Binds
 pub use Rattle.vc_tree_model.specs.Canonical
+pub use Rattle.vc_tree_model.specs.Combine
 pub use Rattle.vc_tree_model.specs.Conditions
 pub use Rattle.vc_tree_model.specs.Equal
 pub use Rattle.vc_tree_model.specs.Key
 pub use Rattle.vc_tree_model.specs.Laws as TreeLaws
 pub use Rattle.vc_tree_model.specs.Map
 pub use Rattle.vc_tree_model.specs.OneTree
-pub use Rattle.vc_tree_model.specs.Pairs
+pub use Rattle.vc_tree_model.specs.Pairs as TreePairs
 pub use Rattle.vc_tree_model.specs.Same
+pub use Rattle.vc_tree_model.specs.Shortened
 pub use Rattle.vc_tree_model.specs.Snapshot
 pub use Rattle.vc_tree_model.specs.Tree
 pub use Rattle.vc_tree_model.specs.TreeCode
+pub use Rattle.vc_tree_model.specs.Under
 pub use Rattle.vc_tree_model.specs.Value
 pub use Rattle.vc_tree_model.specs.Walk
 pub use Rattle.vc_tree_nodes.specs.Children
-pub use Rattle.vc_tree_model.specs.Under
-pub use Rattle.vc_tree_model.specs.Walk
 pub use Rattle.vc_tree_walks.specs.IterLeft
 pub use Rattle.vc_tree_walks.specs.Left
 pub use Rattle.vc_tree_walks.specs.OwnedLeft
