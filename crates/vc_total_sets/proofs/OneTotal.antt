@@ -10,7 +10,7 @@ use Rattle.vc_merge.specs.Ascending.{Ascends, member}
 use Rattle.vc_merge.specs.Laws.{MembersTellTheList}
 use Rattle.vc_sets.specs.SetOf.{and_not, exactly_one}
 use Rattle.vc_total_sets.specs.TotalSet.{TotalSet, total, complement, has, IsEqualTotal}
-use Rattle.vc_total_sets.specs.TotalOf.{IsTotalOf, IsTotalOfEither, IsPointwise, listed_by}
+use Rattle.vc_total_sets.specs.TotalOf.{IsTotalOf, IsPointwise, listed_by}
 use Rattle.vc_total_sets.specs.Laws.{Operations, fresh_of, moved_of, OperationsArePointwise, OperationsMakeOne, ComplementsTurnOperations, TotalTestsAreOfOperations}
 use Rattle.vc_total_sets.proofs.Formulas.{none-left, had-by_second, none-shared, not_both, or-of_not, and-of_not, or-turned, and-turned, and-swapped, or-swapped, has-listed}
 
