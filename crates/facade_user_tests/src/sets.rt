@@ -1,5 +1,5 @@
 //! Sets from outside: each call, operator and iteration, with what a user says of it.
-ghost use Rattle.std.specs.Prelude.{◌≡◌, ◌==◌, ◌||◌, ◌&&◌, ◌↔◌, ◌≤◌, ◌%◌, not, IfOk, IfSome, IsNone, OnOk, OnErr, IsOk, IsTrue, [], ◌∷◌, ℕ, length, count_by};
+ghost use Rattle.std.specs.Prelude.{◌≡◌, ◌==◌, ◌||◌, ◌&&◌, ◌↔◌, ◌≤◌, ◌%◌, not, IfOk, IfSome, IsNone, OnOk, OnErr, IsOk, IsTrue, [], ◌∷◌, ℕ, length, count_by, filter, nat_le};
 ghost use Rattle.std.specs.Ordering.{nat_cmp};
 ghost use Rattle.vec_collections.specs.Ascending.{member};
 ghost use Rattle.std.specs.Hash as fed;
@@ -43,6 +43,14 @@ pub fn four_by_operators(a: &Tags, b: &Tags) -> Result<Four, AllocError>
         one: (a ^ b)?,
         rest: (a - b)?,
     })
+}
+
+/// By the operators, of names, whose clones a user owes nothing for.
+pub fn names_by_operators(
+    a: &VecSet<String, 4>,
+    b: &VecSet<String, 4>,
+) -> Result<[VecSet<String, 4>; 4], AllocError> {
+    Ok([(a | b)?, (a & b)?, (a ^ b)?, (a - b)?])
 }
 
 /// By the methods.
@@ -192,11 +200,24 @@ pub fn rename(tags: &mut Tags, from: u32, to: u32) -> Result<bool, AllocError>
     Ok(found)
 }
 
-/// Drops the tags below a limit.
+/// Drops the tags below a limit, and keeps all others.
 pub fn drop_below(tags: &mut Tags, limit: u32)
-    ensures { (tag : ℕ) → IsTrue (has tags.new tag) → IsTrue (has tags.old tag) }
+    ensures { tags.new ≡ filter (λ tag. nat_le limit tag) tags.old }
 {
     tags.retain(|tag| limit <= *tag);
+}
+
+fn is_even(tag: &u32) -> bool
+    ensures { result ≡ (tag.now % 2 == 0) }
+{
+    *tag % 2 == 0
+}
+
+/// Keeps the even tags, by a plain function.
+pub fn keep_even(tags: &mut Tags)
+    ensures { tags.new ≡ filter (λ tag. tag % 2 == 0) tags.old }
+{
+    tags.retain(is_even);
 }
 
 /// How many tags are odd, by a loop.

@@ -133,9 +133,7 @@ impl Call {
         matches!(
             self,
             Call::Change(Change::Extend)
-                | Call::Convert(
-                    Conversion::FromVec | Conversion::FromIter | Conversion::FromBtreeSet
-                )
+                | Call::Convert(Conversion::FromIter | Conversion::FromBtreeSet)
         )
     }
 }

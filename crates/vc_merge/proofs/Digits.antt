@@ -46,9 +46,9 @@ digits-least n e h = least n n 0 e (omega arith) h
 pub digits-monotone : (m n : ℕ) → m ≤ n → digits m ≤ digits n
 digits-monotone m n h = digits-least m (digits n) (let k = digits-enough n in omega arith)
 
-half_below : (n e : ℕ) → 0 < n → n < 2 ^ e → suc (digits (n / 2)) ≤ e
-half_below n zero p h = absurd (omega arith)
-half_below n (suc e) p h =
+half-below : (n e : ℕ) → 0 < n → n < 2 ^ e → suc (digits (n / 2)) ≤ e
+half-below n zero p h = absurd (omega arith)
+half-below n (suc e) p h =
     let q : 2 ^ suc e ≡ 2 ^ e * 2 = pow-suc 2 e in
     let k : n / 2 < 2 ^ e = omega arith in
     let l = digits-least (n / 2) e k in omega arith
@@ -58,7 +58,7 @@ pub digits-half : (n : ℕ) → 0 < n → digits n ≡ suc (digits (n / 2))
 digits-half n p =
     let q : 2 ^ suc (digits (n / 2)) ≡ 2 ^ digits (n / 2) * 2 = pow-suc 2 (digits (n / 2)) in
     let k = digits-enough (n / 2) in
-    let l = half_below n (digits n) p (digits-enough n) in
+    let l = half-below n (digits n) p (digits-enough n) in
     let u = digits-least n (suc (digits (n / 2))) (omega arith) in omega arith
 
 pub digits-from_zeros : (bits n : ℕ) → n < 2 ^ bits → bits - count_leading_zeros bits n ≡ digits n

@@ -15,7 +15,6 @@ pub mod SearchedRuns
 pub mod WalkNames
 pub mod MovesDownLemmas
 pub mod Shifting
-pub mod ClonesLemmas
 pub mod Members
 pub mod OneScript
 pub mod OneList

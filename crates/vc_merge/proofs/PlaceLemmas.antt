@@ -30,17 +30,11 @@ pub holds-read : {X : Type 0} (P : X → Type 0) (xs : List X) (i : ℕ) (y : X)
 holds-read P xs i y h e p = λ d. subst P (e ∙ get_or_default xs i y d h) p
 
 module _ {X : Type 0} (side : X → Ordering) where
-  AllLess : List X → Type 0
-  AllLess xs = AllByRecursion (λ y. side y ≡ Less) xs
+  greater-not : (y : X) → is_gt (side y) ≡ false → side y ≡ Greater → ⊥
+  greater-not y f e = true≢false (sym (ap is_gt e) ∙ f)
 
-  AllGreater : List X → Type 0
-  AllGreater xs = AllByRecursion (λ y. side y ≡ Greater) xs
-
-  greater_not : (y : X) → is_gt (side y) ≡ false → side y ≡ Greater → ⊥
-  greater_not y f e = true≢false (sym (ap is_gt e) ∙ f)
-
-  less_not : (y : X) → is_lt (side y) ≡ false → side y ≡ Less → ⊥
-  less_not y f e = true≢false (sym (ap is_lt e) ∙ f)
+  less-not : (y : X) → is_lt (side y) ≡ false → side y ≡ Less → ⊥
+  less-not y f e = true≢false (sym (ap is_lt e) ∙ f)
 
   -- before an element that is not greater all are less
   less-before : (xs : List X) (i : ℕ) → IsOrdered side xs → i < length xs → HoldsAt (λ y. is_gt (side y) ≡ false) xs i → AllByRecursion (λ y. side y ≡ Less) (take i xs)
@@ -48,35 +42,35 @@ module _ {X : Type 0} (side : X → Ordering) where
   less-before (x ∷ xs) zero p h e = tt
   less-before (x ∷ xs) (suc i) p h e =
       let k : i < length xs = omega arith in
-      (⊎_elim (λ l. l) (λ g. absurd (greater_not (get_or xs i x) (e x) (each-at (λ y. side y ≡ Greater) xs i x k g))) p.0, less-before xs i p.1 k e)
+      (⊎_elim (λ l. l) (λ g. absurd (greater-not (get_or xs i x) (e x) (each-at (λ y. side y ≡ Greater) xs i x k g))) p.0, less-before xs i p.1 k e)
 
   less-upto : (xs : List X) (i : ℕ) → IsOrdered side xs → i < length xs → HoldsAt (λ y. side y ≡ Less) xs i → AllByRecursion (λ y. side y ≡ Less) (take (suc i) xs)
   less-upto [] i p h e = absurd (omega arith)
   less-upto (x ∷ xs) zero p h e = (e x, tt)
   less-upto (x ∷ xs) (suc i) p h e =
       let k : i < length xs = omega arith in
-      (⊎_elim (λ l. l) (λ g. absurd (less_greater (get_or xs i x) (e x) (each-at (λ y. side y ≡ Greater) xs i x k g))) p.0, less-upto xs i p.1 k e)
+      (⊎_elim (λ l. l) (λ g. absurd (less-greater (get_or xs i x) (e x) (each-at (λ y. side y ≡ Greater) xs i x k g))) p.0, less-upto xs i p.1 k e)
     where
-      less_greater : (y : X) → side y ≡ Less → side y ≡ Greater → ⊥
-      less_greater y l g = cc
+      less-greater : (y : X) → side y ≡ Less → side y ≡ Greater → ⊥
+      less-greater y l g = cc
 
   -- behind an element that is greater all are, and behind one that is not less
   greater-from : (xs : List X) (i k : ℕ) → IsOrdered side xs → i < length xs → HoldsAt (λ y. side y ≡ Greater) xs i → i ≤ k → AllByRecursion (λ y. side y ≡ Greater) (drop k xs)
   greater-from [] i k p h e l = absurd (omega arith)
-  greater-from (x ∷ xs) zero zero p h e l = (e x, ⊎_elim (λ m. absurd (greater_less x (e x) m)) (λ g. g) p.0)
+  greater-from (x ∷ xs) zero zero p h e l = (e x, ⊎_elim (λ m. absurd (greater-less x (e x) m)) (λ g. g) p.0)
     where
-      greater_less : (y : X) → side y ≡ Greater → side y ≡ Less → ⊥
-      greater_less y g m = cc
-  greater-from (x ∷ xs) zero (suc k) p h e l = each-drop (λ y. side y ≡ Greater) xs k (⊎_elim (λ m. absurd (greater_less x (e x) m)) (λ g. g) p.0)
+      greater-less : (y : X) → side y ≡ Greater → side y ≡ Less → ⊥
+      greater-less y g m = cc
+  greater-from (x ∷ xs) zero (suc k) p h e l = each-drop (λ y. side y ≡ Greater) xs k (⊎_elim (λ m. absurd (greater-less x (e x) m)) (λ g. g) p.0)
     where
-      greater_less : (y : X) → side y ≡ Greater → side y ≡ Less → ⊥
-      greater_less y g m = cc
+      greater-less : (y : X) → side y ≡ Greater → side y ≡ Less → ⊥
+      greater-less y g m = cc
   greater-from (x ∷ xs) (suc i) zero p h e l = absurd (omega arith)
   greater-from (x ∷ xs) (suc i) (suc k) p h e l = greater-from xs i k p.1 (omega arith) e (omega arith)
 
   greater-behind : (xs : List X) (i : ℕ) → IsOrdered side xs → i < length xs → HoldsAt (λ y. is_lt (side y) ≡ false) xs i → AllByRecursion (λ y. side y ≡ Greater) (drop (suc i) xs)
   greater-behind [] i p h e = absurd (omega arith)
-  greater-behind (x ∷ xs) zero p h e = ⊎_elim (λ m. absurd (less_not x (e x) m)) (λ g. g) p.0
+  greater-behind (x ∷ xs) zero p h e = ⊎_elim (λ m. absurd (less-not x (e x) m)) (λ g. g) p.0
   greater-behind (x ∷ xs) (suc i) p h e = greater-behind xs i p.1 (omega arith) e
 
   -- ---- the part that is searched
@@ -86,11 +80,11 @@ module _ {X : Type 0} (side : X → Ordering) where
   none_behind (x ∷ xs) = none_behind xs
 
   pub narrowed-whole : (xs : List X) → IsNarrowed side xs 0 (length xs)
-  narrowed-whole xs = record { within = omega arith; less = take_none xs; greater = subst (λ k. AllByRecursion (λ y. side y ≡ Greater) (drop k xs)) (omega arith) (none_behind xs) }
+  narrowed-whole xs = record { within = omega arith; less = take-none xs; greater = subst (λ k. AllByRecursion (λ y. side y ≡ Greater) (drop k xs)) (omega arith) (none_behind xs) }
     where
-      take_none : (xs : List X) → AllByRecursion (λ y. side y ≡ Less) (take 0 xs)
-      take_none [] = tt
-      take_none (x ∷ xs) = tt
+      take-none : (xs : List X) → AllByRecursion (λ y. side y ≡ Less) (take 0 xs)
+      take-none [] = tt
+      take-none (x ∷ xs) = tt
 
   module _ (xs : List X) (p : IsOrdered side xs) (start n : ℕ) (q : IsNarrowed side xs start n) where
     -- from an element on that is not greater
@@ -125,7 +119,7 @@ module _ {X : Type 0} (side : X → Ordering) where
   greater-later (x ∷ xs) i zero p l h e = absurd (omega arith)
   greater-later (x ∷ xs) zero (suc j) p l h e =
       let k : j < length xs = omega arith in
-      ⊎_elim (λ m. absurd (less_not x (e x) m)) (λ g d. each-at (λ y. side y ≡ Greater) xs j d k g) p.0
+      ⊎_elim (λ m. absurd (less-not x (e x) m)) (λ g d. each-at (λ y. side y ≡ Greater) xs j d k g) p.0
   greater-later (x ∷ xs) (suc i) (suc j) p l h e = greater-later xs i j p.1 (omega arith) (omega arith) e
 
   reached-cases : (xs : List X) (i r : ℕ) → IsReached side xs i r → ((r ≡ 0) × HoldsAt (λ y. side y ≡ Greater) xs i) ⊎ ((r ≡ 1) × HoldsAt (λ y. is_gt (side y) ≡ false) xs i)
@@ -135,61 +129,61 @@ module _ {X : Type 0} (side : X → Ordering) where
   -- what is not greater is not behind what is
   not-later : (xs : List X) (i j : ℕ) → IsOrdered side xs → i < j → j < length xs → HoldsAt (λ y. side y ≡ Greater) xs i → HoldsAt (λ y. is_gt (side y) ≡ false) xs j → ⊥
   not-later [] i j p l h e f = absurd (omega arith)
-  not-later (x ∷ xs) i j p l h e f = greater_not (get_or (x ∷ xs) j x) (f x) (greater-later (x ∷ xs) i j p l h (λ d. ap is_lt (e d)) x)
+  not-later (x ∷ xs) i j p l h e f = greater-not (get_or (x ∷ xs) j x) (f x) (greater-later (x ∷ xs) i j p l h (λ d. ap is_lt (e d)) x)
 
   module _ (xs : List X) (p : IsOrdered side xs) (start n : ℕ) (q : IsNarrowed side xs start n) where
     pub half-reached : (half r : ℕ) → 2 ≤ n → half ≡ n / 2 → IsReached side xs (start + half) r → IsNarrowed side xs (start + r * half) (n - half)
     half-reached half r h e reached =
         let w = q.within in
-        let in_list : start + half < length xs = omega arith in
+        let in-list : start + half < length xs = omega arith in
         ⊎_elim
-        (λ z. subst (λ k. IsNarrowed side xs (start + k * half) (n - half)) (sym z.0) (subst (λ k. IsNarrowed side xs k (n - half)) (omega arith) (narrowed-down xs p start n q (start + half) (n - half) in_list z.1 (omega arith) (omega arith))))
-        (λ o. subst (λ k. IsNarrowed side xs (start + k * half) (n - half)) (sym o.0) (subst (λ k. IsNarrowed side xs k (n - half)) (omega arith) (narrowed-up xs p start n q (start + half) (n - half) in_list o.1 (omega arith))))
+        (λ z. subst (λ k. IsNarrowed side xs (start + k * half) (n - half)) (sym z.0) (subst (λ k. IsNarrowed side xs k (n - half)) (omega arith) (narrowed-down xs p start n q (start + half) (n - half) in-list z.1 (omega arith) (omega arith))))
+        (λ o. subst (λ k. IsNarrowed side xs (start + k * half) (n - half)) (sym o.0) (subst (λ k. IsNarrowed side xs k (n - half)) (omega arith) (narrowed-up xs p start n q (start + half) (n - half) in-list o.1 (omega arith))))
         (reached-cases xs (start + half) r reached)
 
     -- the four places that three comparisons lead to
     module _ (quarter second third fourth : ℕ) (h : 4 ≤ n) (e : quarter ≡ n / 4) (f : second ≡ start + quarter) (g : third ≡ second + quarter) (k : fourth ≡ third + quarter) where
-      in_list : fourth < length xs
-      in_list = let w = q.within in omega arith
+      in-list : fourth < length xs
+      in-list = let w = q.within in omega arith
 
-      at_first : HoldsAt (λ y. side y ≡ Greater) xs second → IsNarrowed side xs start (n - quarter * 3)
-      at_first z = let l = in_list in narrowed-down xs p start n q second (n - quarter * 3) (omega arith) z (omega arith) (omega arith)
+      at-first : HoldsAt (λ y. side y ≡ Greater) xs second → IsNarrowed side xs start (n - quarter * 3)
+      at-first z = let l = in-list in narrowed-down xs p start n q second (n - quarter * 3) (omega arith) z (omega arith) (omega arith)
 
-      at_second : HoldsAt (λ y. is_gt (side y) ≡ false) xs second → HoldsAt (λ y. side y ≡ Greater) xs third → IsNarrowed side xs second (n - quarter * 3)
-      at_second o z =
-          let l = in_list in
+      at-second : HoldsAt (λ y. is_gt (side y) ≡ false) xs second → HoldsAt (λ y. side y ≡ Greater) xs third → IsNarrowed side xs second (n - quarter * 3)
+      at-second o z =
+          let l = in-list in
           narrowed-down xs p second (n - quarter) (narrowed-up xs p start n q second (n - quarter) (omega arith) o (omega arith)) third (n - quarter * 3) (omega arith) z (omega arith) (omega arith)
 
-      at_third : HoldsAt (λ y. is_gt (side y) ≡ false) xs third → HoldsAt (λ y. side y ≡ Greater) xs fourth → IsNarrowed side xs third (n - quarter * 3)
-      at_third o z =
-          let l = in_list in
+      at-third : HoldsAt (λ y. is_gt (side y) ≡ false) xs third → HoldsAt (λ y. side y ≡ Greater) xs fourth → IsNarrowed side xs third (n - quarter * 3)
+      at-third o z =
+          let l = in-list in
           narrowed-down xs p third (n - quarter * 2) (narrowed-up xs p start n q third (n - quarter * 2) (omega arith) o (omega arith)) fourth (n - quarter * 3) (omega arith) z (omega arith) (omega arith)
 
-      at_fourth : HoldsAt (λ y. is_gt (side y) ≡ false) xs fourth → IsNarrowed side xs fourth (n - quarter * 3)
-      at_fourth o = let l = in_list in narrowed-up xs p start n q fourth (n - quarter * 3) in_list o (omega arith)
+      at-fourth : HoldsAt (λ y. is_gt (side y) ≡ false) xs fourth → IsNarrowed side xs fourth (n - quarter * 3)
+      at-fourth o = let l = in-list in narrowed-up xs p start n q fourth (n - quarter * 3) in-list o (omega arith)
 
-      moved_to : (a b c : ℕ) (to : ℕ) (times : ℕ) → a + b + c ≡ times → to ≡ start + times * quarter → IsNarrowed side xs to (n - quarter * 3) → IsNarrowed side xs (start + (a + b + c) * quarter) (n - quarter * 3)
-      moved_to a b c to times s t w = subst (λ m. IsNarrowed side xs (start + m * quarter) (n - quarter * 3)) (sym s) (subst (λ m. IsNarrowed side xs m (n - quarter * 3)) t w)
+      moved-to : (a b c : ℕ) (to : ℕ) (times : ℕ) → a + b + c ≡ times → to ≡ start + times * quarter → IsNarrowed side xs to (n - quarter * 3) → IsNarrowed side xs (start + (a + b + c) * quarter) (n - quarter * 3)
+      moved-to a b c to times s t w = subst (λ m. IsNarrowed side xs (start + m * quarter) (n - quarter * 3)) (sym s) (subst (λ m. IsNarrowed side xs m (n - quarter * 3)) t w)
 
       pub quarter-reached : (a b c : ℕ) → IsReached side xs second a → IsReached side xs third b → IsReached side xs fourth c → IsNarrowed side xs (start + (a + b + c) * quarter) (n - quarter * 3)
       quarter-reached a b c ra rb rc =
-          let l = in_list in
+          let l = in-list in
           ⊎_elim
           (λ a0. ⊎_elim
           (λ b0. ⊎_elim
-          (λ c0. let x : a ≡ 0 = a0.0 in let y : b ≡ 0 = b0.0 in let z : c ≡ 0 = c0.0 in moved_to a b c start 0 (omega arith) (omega arith) (at_first a0.1))
-          (λ c1. absurd (not-later xs third fourth p (omega arith) in_list b0.1 c1.1))
+          (λ c0. let x : a ≡ 0 = a0.0 in let y : b ≡ 0 = b0.0 in let z : c ≡ 0 = c0.0 in moved-to a b c start 0 (omega arith) (omega arith) (at-first a0.1))
+          (λ c1. absurd (not-later xs third fourth p (omega arith) in-list b0.1 c1.1))
           (reached-cases xs fourth c rc))
           (λ b1. absurd (not-later xs second third p (omega arith) (omega arith) a0.1 b1.1))
           (reached-cases xs third b rb))
           (λ a1. ⊎_elim
           (λ b0. ⊎_elim
-          (λ c0. let x : a ≡ 1 = a1.0 in let y : b ≡ 0 = b0.0 in let z : c ≡ 0 = c0.0 in moved_to a b c second 1 (omega arith) (omega arith) (at_second a1.1 b0.1))
-          (λ c1. absurd (not-later xs third fourth p (omega arith) in_list b0.1 c1.1))
+          (λ c0. let x : a ≡ 1 = a1.0 in let y : b ≡ 0 = b0.0 in let z : c ≡ 0 = c0.0 in moved-to a b c second 1 (omega arith) (omega arith) (at-second a1.1 b0.1))
+          (λ c1. absurd (not-later xs third fourth p (omega arith) in-list b0.1 c1.1))
           (reached-cases xs fourth c rc))
           (λ b1. ⊎_elim
-          (λ c0. let x : a ≡ 1 = a1.0 in let y : b ≡ 1 = b1.0 in let z : c ≡ 0 = c0.0 in moved_to a b c third 2 (omega arith) (omega arith) (at_third b1.1 c0.1))
-          (λ c1. let x : a ≡ 1 = a1.0 in let y : b ≡ 1 = b1.0 in let z : c ≡ 1 = c1.0 in moved_to a b c fourth 3 (omega arith) (omega arith) (at_fourth c1.1))
+          (λ c0. let x : a ≡ 1 = a1.0 in let y : b ≡ 1 = b1.0 in let z : c ≡ 0 = c0.0 in moved-to a b c third 2 (omega arith) (omega arith) (at-third b1.1 c0.1))
+          (λ c1. let x : a ≡ 1 = a1.0 in let y : b ≡ 1 = b1.0 in let z : c ≡ 1 = c1.0 in moved-to a b c fourth 3 (omega arith) (omega arith) (at-fourth c1.1))
           (reached-cases xs fourth c rc))
           (reached-cases xs third b rb))
           (reached-cases xs second a ra)
@@ -214,24 +208,21 @@ module _ {X : Type 0} (side : X → Ordering) where
   searched-within xs start n false q = q.within
 
   module _ (xs : List X) (p : IsOrdered side xs) (start n middle m : ℕ) (h : middle + m ≡ start + n) (k : m + m ≤ n) (l : n ≤ suc (m + m)) (some : 0 < n) where
-    in_part : start ≤ middle - 1
-    in_part = omega arith
-
-    narrowed_half : (o : Ordering) (next : ℕ) (b : Bool) → IsNarrowed side xs start n → HoldsAt (λ y. side y ≡ o) xs (middle - 1) → (is_gt o ≡ true → next ≡ start) → (is_gt o ≡ false → next ≡ middle) → b ≡ is_eq o → IsSearched side xs next m b
-    narrowed_half Less next b q e up down f =
+    narrowed-half : (o : Ordering) (next : ℕ) (b : Bool) → IsNarrowed side xs start n → HoldsAt (λ y. side y ≡ o) xs (middle - 1) → (is_gt o ≡ true → next ≡ start) → (is_gt o ≡ false → next ≡ middle) → b ≡ is_eq o → IsSearched side xs next m b
+    narrowed-half Less next b q e up down f =
         let w = q.within in
         let s : suc (middle - 1) ≡ next = let r = down refl in omega arith in
         subst (λ b. IsSearched side xs next m b) (sym f) (subst (λ i. IsNarrowed side xs i m) s (narrowed-past xs p start n q (middle - 1) m (omega arith) e (omega arith)))
-    narrowed_half Equal next b q e up down f =
+    narrowed-half Equal next b q e up down f =
         let w = q.within in
         let r = down refl in
         subst (λ b. IsSearched side xs next m b) (sym f) (record { within = omega arith; some = omega arith; equal = subst (λ i. HoldsAt (λ y. side y ≡ Equal) xs (i - 1)) (sym r) e })
-    narrowed_half Greater next b q e up down f =
+    narrowed-half Greater next b q e up down f =
         let w = q.within in
         subst (λ b. IsSearched side xs next m b) (sym f) (subst (λ i. IsNarrowed side xs i m) (sym (up refl)) (narrowed-down xs p start n q (middle - 1) m (omega arith) e (omega arith) (omega arith)))
 
-    passed_half : (o : Ordering) (next : ℕ) (y : X) → IsPassed side xs start n → y ≡ get_or xs (middle - 1) y → o ≡ side y → (is_gt o ≡ true → next ≡ start) → IsPassed side xs next m
-    passed_half o next y q e f up =
+    passed-half : (o : Ordering) (next : ℕ) (y : X) → IsPassed side xs start n → y ≡ get_or xs (middle - 1) y → o ≡ side y → (is_gt o ≡ true → next ≡ start) → IsPassed side xs next m
+    passed-half o next y q e f up =
         let w = q.within in
         let s = q.some in
         let g : HoldsAt (λ z. side z ≡ Greater) xs (middle - 1) = greater-later xs (start - 1) (middle - 1) p (omega arith) (omega arith) (λ d. ap is_lt (q.equal d)) in
@@ -240,8 +231,8 @@ module _ {X : Type 0} (side : X → Ordering) where
 
     pub searched-half : (found b : Bool) (o : Ordering) (next : ℕ) (y : X) → IsSearched side xs start n found → y ≡ get_or xs (middle - 1) y → middle - 1 < length xs → o ≡ side y → (is_gt o ≡ true → next ≡ start) → (is_gt o ≡ false → next ≡ middle) → b ≡ is_eq o
         → IsSearched side xs next m (found || b)
-    searched-half true b o next y q e i f up down g = passed_half o next y q e f up
-    searched-half false b o next y q e i f up down g = narrowed_half o next b q (holds-read (λ z. side z ≡ o) xs (middle - 1) y i e (sym f)) up down g
+    searched-half true b o next y q e i f up down g = passed-half o next y q e f up
+    searched-half false b o next y q e i f up down g = narrowed-half o next b q (holds-read (λ z. side z ≡ o) xs (middle - 1) y i e (sym f)) up down g
 
   -- ---- the place
 
@@ -266,18 +257,18 @@ module _ {X : Type 0} (side : X → Ordering) where
   place-narrowed xs start q = record { within = (let w = q.within in omega arith); less = q.less; greater = subst (λ k. AllByRecursion (λ y. side y ≡ Greater) (drop k xs)) (omega arith) q.greater }
 
   module _ (xs : List X) (start : ℕ) (p : IsOrdered side xs) (q : IsNarrowed side xs start 1) (y : X) (e : y ≡ get_or xs start y) where
-    in_bounds : start < length xs
-    in_bounds = let w = q.within in omega arith
+    in-bounds : start < length xs
+    in-bounds = let w = q.within in omega arith
 
     pub place-below : Less ≡ side y → IsGap side xs (start + 1)
     place-below f =
-        place-narrowed xs (start + 1) (subst (λ i. IsNarrowed side xs i 0) (omega arith) (narrowed-past xs p start 1 q start 0 in_bounds (holds-read (λ z. side z ≡ Less) xs start y in_bounds e (sym f)) (omega arith)))
+        place-narrowed xs (start + 1) (subst (λ i. IsNarrowed side xs i 0) (omega arith) (narrowed-past xs p start 1 q start 0 in-bounds (holds-read (λ z. side z ≡ Less) xs start y in-bounds e (sym f)) (omega arith)))
 
     pub place-at : Equal ≡ side y → IsFound side xs start
-    place-at f = subst (λ i. IsFound side xs i) (omega arith) (place-passed xs (start + 1) p (record { within = (let l = in_bounds in omega arith); some = omega arith; equal = subst (λ i. HoldsAt (λ z. side z ≡ Equal) xs i) (omega arith) (holds-read (λ z. side z ≡ Equal) xs start y in_bounds e (sym f)) }))
+    place-at f = subst (λ i. IsFound side xs i) (omega arith) (place-passed xs (start + 1) p (record { within = (let l = in-bounds in omega arith); some = omega arith; equal = subst (λ i. HoldsAt (λ z. side z ≡ Equal) xs i) (omega arith) (holds-read (λ z. side z ≡ Equal) xs start y in-bounds e (sym f)) }))
 
     pub place-above : Greater ≡ side y → IsGap side xs start
-    place-above f = place-narrowed xs start (narrowed-down xs p start 1 q start 0 in_bounds (holds-read (λ z. side z ≡ Greater) xs start y in_bounds e (sym f)) (omega arith) (omega arith))
+    place-above f = place-narrowed xs start (narrowed-down xs p start 1 q start 0 in-bounds (holds-read (λ z. side z ≡ Greater) xs start y in-bounds e (sym f)) (omega arith) (omega arith))
 
 -- ---- ascending lists are ordered round whatever is sought
 
@@ -305,12 +296,12 @@ module _ {K : Type 0} (cmp : K → K → Ordering) (total : IsTotalOrder cmp) (k
     ordered-ascends (x ∷ xs) p = (beside x xs (cmp (key x) k) refl p.0, ordered-ascends xs p.1)
 
 module _ {K X : Type 0} (cmp : K → K → Ordering) (key : X → K) where
-  each_map : (P : K → Type 0) (xs : List X) → AllByRecursion P (map key xs) → AllByRecursion (λ x. P (key x)) xs
-  each_map P [] p = tt
-  each_map P (x ∷ xs) p = (p.0, each_map P xs p.1)
+  each-map : (P : K → Type 0) (xs : List X) → AllByRecursion P (map key xs) → AllByRecursion (λ x. P (key x)) xs
+  each-map P [] p = tt
+  each-map P (x ∷ xs) p = (p.0, each-map P xs p.1)
 
   -- a list whose keys ascend
   pub ascends-map : (xs : List X) → Ascends cmp (map key xs) → Ascends (λ x y. cmp (key x) (key y)) xs
   unfolding IsStrictlySortedBy
   ascends-map [] p = tt
-  ascends-map (x ∷ xs) p = (each_map (λ j. cmp (key x) j ≡ Less) xs p.0, ascends-map xs p.1)
+  ascends-map (x ∷ xs) p = (each-map (λ j. cmp (key x) j ≡ Less) xs p.0, ascends-map xs p.1)

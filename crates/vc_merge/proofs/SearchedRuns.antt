@@ -14,30 +14,30 @@ use Rattle.vc_merge.specs.Script.{BothAscend}
 use Rattle.vc_merge.specs.declared.searching.Side.{Side}
 use Rattle.vc_merge.specs.declared.searching.Side.TheVariants.{Left, Right}
 use Rattle.vc_merge.proofs.Lists.{each-weaker}
-use Rattle.vc_merge.proofs.Scripts.{below_lefts}
+use Rattle.vc_merge.proofs.Scripts.{below-lefts}
 
 module _ {A B : Type 0} (order : A ⊎ B → A ⊎ B → Ordering) (total : IsTotalOrder order) where
   -- the right elements before the place are below the left list
   lower : (x : A) (ls : List A) (ys : List B) → AllByRecursion (λ z. order (inl x) (inl z) ≡ Less) ls → AllByRecursion (λ y. order (inr y) (inl x) ≡ Less) ys → RightBelow order ys (x ∷ ls)
-  lower x ls ys p q = each-weaker (λ y. order (inr y) (inl x) ≡ Less) (λ y. AllByRecursion (λ z. order (inr y) (inl z) ≡ Less) (x ∷ ls)) (λ y h. below_lefts order total x y ls h p) ys q
+  lower x ls ys p q = each-weaker (λ y. order (inr y) (inl x) ≡ Less) (λ y. AllByRecursion (λ z. order (inr y) (inl z) ≡ Less) (x ∷ ls)) (λ y h. below-lefts order total x y ls h p) ys q
 
-  heads_equal : (x : A) (ls : List A) (rs : List B) (i : ℕ) → i < length rs → HoldsAt (λ y. order (inr y) (inl x) ≡ Equal) rs i → HeadsCompare order (x ∷ ls) (drop i rs) Equal
-  heads_equal x ls [] i h e = absurd (omega arith)
-  heads_equal x ls (y ∷ rs) zero h e = total.antisymm (inl x) (inr y) ∙ ap ordering_reverse (e y)
-  heads_equal x ls (y ∷ rs) (suc i) h e = heads_equal x ls rs i (omega arith) e
+  heads-equal : (x : A) (ls : List A) (rs : List B) (i : ℕ) → i < length rs → HoldsAt (λ y. order (inr y) (inl x) ≡ Equal) rs i → HeadsCompare order (x ∷ ls) (drop i rs) Equal
+  heads-equal x ls [] i h e = absurd (omega arith)
+  heads-equal x ls (y ∷ rs) zero h e = total.antisymm (inl x) (inr y) ∙ ap ordering_reverse (e y)
+  heads-equal x ls (y ∷ rs) (suc i) h e = heads-equal x ls rs i (omega arith) e
 
   -- the first left element is below the right ones behind the gap
   upper : (x : A) (ys : List B) → AllByRecursion (λ y. order (inr y) (inl x) ≡ Greater) ys → AllByRecursion (λ y. order (inl x) (inr y) ≡ Less) ys
   upper x ys p = each-weaker (λ y. order (inr y) (inl x) ≡ Greater) (λ y. order (inl x) (inr y) ≡ Less) (λ y h. total.antisymm (inl x) (inr y) ∙ ap ordering_reverse h) ys p
 
-  first_below : (x : A) (ls : List A) (ys : List B) → AllByRecursion (λ y. order (inl x) (inr y) ≡ Less) ys → LeftBelow order (take 1 (x ∷ ls)) ys
-  first_below x [] ys p = (p, tt)
-  first_below x (l ∷ ls) ys p = (p, tt)
+  first-below : (x : A) (ls : List A) (ys : List B) → AllByRecursion (λ y. order (inl x) (inr y) ≡ Less) ys → LeftBelow order (take 1 (x ∷ ls)) ys
+  first-below x [] ys p = (p, tt)
+  first-below x (l ∷ ls) ys p = (p, tt)
 
   placed : (ls : List A) (rs : List B) (x : A) (r : Result ℕ ℕ) → BothAscend order (x ∷ ls) rs → IsPlace (λ y. order (inr y) (inl x)) rs r → IsLeftPlace order (x ∷ ls) rs r
   unfolding IsStrictlySortedBy
-  placed ls rs x (Ok i) p q = (let w = q.within in omega arith, lower x ls (take i rs) p.left.0 q.less, heads_equal x ls rs i q.within q.equal)
-  placed ls rs x (Err i) p q = (q.within, lower x ls (take i rs) p.left.0 q.less, first_below x ls (drop i rs) (upper x (drop i rs) q.greater))
+  placed ls rs x (Ok i) p q = (let w = q.within in omega arith, lower x ls (take i rs) p.left.0 q.less, heads-equal x ls rs i q.within q.equal)
+  placed ls rs x (Err i) p q = (q.within, lower x ls (take i rs) p.left.0 q.less, first-below x ls (drop i rs) (upper x (drop i rs) q.greater))
 
   pub place-left : (ls : List A) (rs : List B) (x : A) (r : Result ℕ ℕ) → BothAscend order ls rs → 0 < length ls → x ≡ get_or ls 0 x → IsPlace (λ y. order (inr y) (inl x)) rs r → IsLeftPlace order ls rs r
   place-left [] rs x r p h e q = absurd (omega arith)
@@ -59,14 +59,14 @@ module _ {A B : Type 0} (order : A ⊎ B → A ⊎ B → Ordering) (total : IsTo
     congr = λ u v w. total.congr (swapped u) (swapped v) (swapped w);
   }
 
-  heads_swapped : (ls : List A) (rs : List B) → HeadsCompare mirrored rs ls Equal → HeadsCompare order ls rs Equal
-  heads_swapped [] [] h = absurd h
-  heads_swapped [] (y ∷ rs) h = absurd h
-  heads_swapped (x ∷ ls) [] h = absurd h
-  heads_swapped (x ∷ ls) (y ∷ rs) h = total.antisymm (inl x) (inr y) ∙ ap ordering_reverse h
+  heads-swapped : (ls : List A) (rs : List B) → HeadsCompare mirrored rs ls Equal → HeadsCompare order ls rs Equal
+  heads-swapped [] [] h = absurd h
+  heads-swapped [] (y ∷ rs) h = absurd h
+  heads-swapped (x ∷ ls) [] h = absurd h
+  heads-swapped (x ∷ ls) (y ∷ rs) h = total.antisymm (inl x) (inr y) ∙ ap ordering_reverse h
 
   place-swapped : (ls : List A) (rs : List B) (r : Result ℕ ℕ) → IsLeftPlace mirrored rs ls r → IsRightPlace order ls rs r
-  place-swapped ls rs (Ok i) q = (q.0, q.1, heads_swapped (drop i ls) rs q.2)
+  place-swapped ls rs (Ok i) q = (q.0, q.1, heads-swapped (drop i ls) rs q.2)
   place-swapped ls rs (Err i) q = q
 
   pub place-right : (ls : List A) (rs : List B) (y : B) (r : Result ℕ ℕ) → BothAscend order ls rs → 0 < length rs → y ≡ get_or rs 0 y → IsPlace (λ x. order (inl x) (inr y)) ls r → IsRightPlace order ls rs r

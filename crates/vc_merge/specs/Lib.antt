@@ -16,8 +16,6 @@ pub mod Script
 pub mod MovesDown
 pub mod SiftViews
 pub mod SmallVecViews
-pub mod InPlaceViews
-pub mod MovedViews
 pub mod Gathering
 pub mod Laws
 pub mod PartsViews

@@ -1,5 +1,5 @@
 -- What a contract sees of a `PartsState`.
-use Rattle.std.specs.Prelude.{◌≡◌, ℕ, List, take, drop, slice_range}
+use Rattle.std.specs.Prelude.{◌≡◌, List, take, drop, slice_range}
 use Rattle.std.specs.Borrow.{MutBor}
 use base.Fml.{GName}
 use Rattle.vc_merge.specs.declared.parts.PartsState.{PartsState}

@@ -6,7 +6,6 @@ pub mod iterators;
 pub mod laws;
 mod linear;
 pub mod merge;
-pub mod moved;
 pub mod moving;
 pub mod parts;
 pub mod search;

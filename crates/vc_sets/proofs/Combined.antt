@@ -1,16 +1,15 @@
 -- A merge whose operation keeps what a set operation keeps leaves what that makes of the two lists.
-use Rattle.std.proofs.Common.{◌≡◌, ℕ, Bool, true, false, Option, Some, None, List, [], ◌∷◌, ◌++◌, take, Ok, ◌⊎◌, refl, sym, ap, subst, ◌∙◌}
+use Rattle.std.proofs.Common.{◌≡◌, ℕ, Bool, false, List, [], ◌∷◌, ◌++◌, take, Ok, ◌⊎◌, refl, sym, ap, subst, ◌∙◌}
 use Rattle.std.specs.Cmp.{IsTotalOrder}
 use Rattle.std.specs.declared.cmp.Ordering.{Ordering}
 use Rattle.std.specs.declared.cmp.Ordering.TheVariants.{Equal}
 use Rattle.vc_merge.specs.Script.{collision}
 use Rattle.vc_merge.specs.Chain.{Answer, Allows, Finishes, Stops}
-use Rattle.vc_merge.specs.Ascending.{Ascends, member, element_at}
 use Rattle.vc_merge.specs.Both.{Both}
 use Rattle.vc_merge.specs.Building.{Advances, Skips}
 use Rattle.vc_merge.specs.Gathering.{Gathers, GivesIf, IsBuilt, Adds, IsBuilding}
 use Rattle.vc_merge.proofs.Builds.{advances-adds, adds-one, both-adds, merged-builds}
-use Rattle.vc_sets.specs.SetOf.{Keeps, IsSetOf}
+use Rattle.vc_sets.specs.SetOf.{IsSetOf}
 use Rattle.vc_sets.specs.Select.{both_sides, keeps, KeptAt}
 use Rattle.vc_sets.proofs.Selected.{set_of}
 
@@ -33,8 +32,8 @@ module _ {X : Type 0} (cmp : X → X → Ordering) (total : IsTotalOrder cmp) (L
         adds-one built name (λ z. GivesIf both (L z)) (KeptAt (keeps left right both) L R) x (collision x y) (λ zs k. k) s t answer
         (subst (λ l. Adds built name (λ z. GivesIf both (L z)) (take 1 l) s answer t) e (advances-adds built name L op.left s t 1 both answer (takes s t answer h)))
 
-    is_building : IsBuilding built name op (KeptAt (keeps left right both) L R)
-    is_building = record {
+    is-building : IsBuilding built name op (KeptAt (keeps left right both) L R)
+    is-building = record {
       from_a = λ s t n answer h. advances-adds built name L op.left s t n left answer (from_a s t n answer h);
       from_b = from_b;
       collision = λ s t answer h x y xs ys e i. both-adds built name (KeptAt (keeps left right both) L R) (collision x y ∷ []) first second s (λ u answered k. takes-left s u answered x y xs e k) skips t answer (meets s t answer h);
@@ -44,28 +43,7 @@ module _ {X : Type 0} (cmp : X → X → Ordering) (total : IsTotalOrder cmp) (L
     pub merged-set_of : (s t : M) (a b c : List X) → Finishes op (both_sides cmp) s t ⊎ Stops op (both_sides cmp) s (Ok false) t
         → op.left s ≡ a → op.right s ≡ b → built s ≡ [] → (name t ≡ name s → c ≡ built t) → IsSetOf cmp L R (keeps left right both) a b c
     merged-set_of s t a b c m l r e k =
-        let w = merged-builds built name op (KeptAt (keeps left right both) L R) is_building (both_sides cmp) s t m in
+        let w = merged-builds built name op (KeptAt (keeps left right both) L R) is-building (both_sides cmp) s t m in
         subst (λ z. IsSetOf cmp L R (keeps left right both) a b z) (sym (k w.0))
         (subst (λ z. IsSetOf cmp L R (keeps left right both) a z (built t)) r (subst (λ z. IsSetOf cmp L R (keeps left right both) z (op.right s) (built t)) l
         (built-set_of (op.left s) (op.right s) (built t) (built s) e w.1)))
-
--- ---- an empty right list
-
-module _ {X : Type 0} (cmp : X → X → Ordering) (R : X → X → Type 0) (both : Bool) where
-  -- nothing is added to what is kept
-  kept_alone : (o : Option X) → Keeps (keeps true true both) (λ x y. x ≡ y) R o None o
-  kept_alone (Some x) = refl
-  kept_alone None = refl
-
-  -- what is a member of the left list, or of nothing
-  member_alone : (b : Bool) → b ≡ keeps true true both b false
-  member_alone true = refl
-  member_alone false = refl
-
-  -- with an empty list the left one is the union, and the symmetric difference
-  pub with_nothing : (a b : List X) → Ascends cmp a → b ≡ [] → IsSetOf cmp (λ x y. x ≡ y) R (keeps true true both) a b a
-  with_nothing a b p e = subst (λ l. IsSetOf cmp (λ x y. x ≡ y) R (keeps true true both) a l a) (sym e) (record {
-    ascends = p;
-    members = λ x. member_alone (member cmp a x);
-    kept = λ x. kept_alone (element_at cmp a x);
-  })

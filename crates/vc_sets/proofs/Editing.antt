@@ -1,5 +1,5 @@
 -- An ascending list with an element put in, replaced or taken out.
-use Rattle.std.proofs.Common.{◌≡◌, ℕ, zero, suc, ◌<◌, Bool, true, false, not, cond, ◌||◌, List, [], ◌∷◌, ◌++◌, length, take, drop, get_or, insert, set, Option, Some, is_some, Ok, Err, refl, sym, ap, subst, ◌∙◌, arith}
+use Rattle.std.proofs.Common.{◌≡◌, ℕ, zero, suc, ◌<◌, Bool, true, false, not, cond, ◌||◌, List, [], ◌∷◌, ◌++◌, length, take, drop, get_or, insert, set, Option, Some, is_some, refl, sym, ap, subst, ◌∙◌, arith}
 use Rattle.std.proofs.Math.ListN.{take-append-drop}
 use Rattle.std.specs.List.{AllByRecursion}
 use Rattle.std.specs.List.Sorted.{IsStrictlySortedBy}
@@ -11,8 +11,8 @@ use Rattle.std.specs.declared.cmp.Ordering.TheVariants.{Less, Equal}
 use Rattle.vc_merge.specs.Ascending.{Ascends, member, element_at}
 use Rattle.vc_merge.proofs.Lists.{each-weaker, each-at, ascends-append}
 use Rattle.vc_merge.specs.Place.{IsGap}
-use Rattle.vc_merge.proofs.Members.{member-is_some, element_at-append, equal-alike, equal_from_is_eq}
-use Rattle.vc_sets.proofs.Searching.{none_below, gap-above, gap-none}
+use Rattle.vc_merge.proofs.Members.{member-is_some, element_at-append, equal-alike, equal-from_is_eq}
+use Rattle.vc_sets.proofs.Searching.{none-below, gap-above, gap-none}
 
 -- the element at i is equal to x
 abbrev pub StandsAt : {X : Type 0} → (X → X → Ordering) → List X → X → ℕ → Type 0
@@ -53,7 +53,7 @@ module _ {X : Type 0} (cmp : X → X → Ordering) (total : IsTotalOrder cmp) wh
 
   inserted_by : (b : Bool) (xs : List X) (x z : X) (i : ℕ) → AllByRecursion (λ y. cmp y x ≡ Less) (take i xs) → eq_by_cmp cmp x z ≡ b
       → option_or (element_at cmp (take i xs) z) (cond b (Some x) (element_at cmp (drop i xs) z)) ≡ cond b (Some x) (element_at cmp xs z)
-  inserted_by true xs x z i p e = ap (λ o. option_or o (Some x)) (none_below cmp total (take i xs) x z p (equal_from_is_eq (cmp x z) e))
+  inserted_by true xs x z i p e = ap (λ o. option_or o (Some x)) (none-below cmp total (take i xs) x z p (equal-from_is_eq (cmp x z) e))
   inserted_by false xs x z i p e = sym (element_at-append cmp (take i xs) (drop i xs) z) ∙ ap (λ l. element_at cmp l z) (take-append-drop i xs)
 
   pub element_at-insert : (xs ys : List X) (x : X) (i : ℕ) → IsGap (λ y. cmp y x) xs i → ys ≡ insert xs i x → (z : X) → element_at cmp ys z ≡ cond (eq_by_cmp cmp x z) (Some x) (element_at cmp xs z)
@@ -69,31 +69,31 @@ module _ {X : Type 0} (cmp : X → X → Ordering) (total : IsTotalOrder cmp) wh
       let k : i < length ys = omega (arith, h.0) in
       (each-set (λ z. cmp y z ≡ Less) ys i x (sym (alike_right total (get_or ys i x) x y (h.1 x)) ∙ each-at (λ z. cmp y z ≡ Less) ys i x k p.0) p.0, ascends-set ys x i (k, h.1) p.1)
 
-  replaced_by : (b : Bool) (x y z : X) (o : Option X) → cmp y x ≡ Equal → eq_by_cmp cmp x z ≡ b → cond b (Some x) o ≡ cond b (Some x) (cond (eq_by_cmp cmp y z) (Some y) o)
-  replaced_by true x y z o e f = refl
-  replaced_by false x y z o e f = sym (ap (λ c. cond c (Some y) o) (sym (equal-alike cmp total y x z e) ∙ f))
+  replaced-by : (b : Bool) (x y z : X) (o : Option X) → cmp y x ≡ Equal → eq_by_cmp cmp x z ≡ b → cond b (Some x) o ≡ cond b (Some x) (cond (eq_by_cmp cmp y z) (Some y) o)
+  replaced-by true x y z o e f = refl
+  replaced-by false x y z o e f = sym (ap (λ c. cond c (Some y) o) (sym (equal-alike cmp total y x z e) ∙ f))
 
-  passed_by : (b : Bool) (x y z : X) (o : Option X) → cmp y x ≡ Less → eq_by_cmp cmp x z ≡ b → cond (eq_by_cmp cmp y z) (Some y) (cond b (Some x) o) ≡ cond b (Some x) (cond (eq_by_cmp cmp y z) (Some y) o)
-  passed_by true x y z o e f = ap (λ c. cond c (Some y) (Some x)) (ap is_eq (sym (alike_right total x z y (equal_from_is_eq (cmp x z) f)) ∙ e))
-  passed_by false x y z o e f = refl
+  passed-by : (b : Bool) (x y z : X) (o : Option X) → cmp y x ≡ Less → eq_by_cmp cmp x z ≡ b → cond (eq_by_cmp cmp y z) (Some y) (cond b (Some x) o) ≡ cond b (Some x) (cond (eq_by_cmp cmp y z) (Some y) o)
+  passed-by true x y z o e f = ap (λ c. cond c (Some y) (Some x)) (ap is_eq (sym (alike_right total x z y (equal-from_is_eq (cmp x z) f)) ∙ e))
+  passed-by false x y z o e f = refl
 
   pub element_at-set : (xs : List X) (x : X) (i : ℕ) → StandsAt cmp xs x i → Ascends cmp xs → (z : X) → element_at cmp (set xs i x) z ≡ cond (eq_by_cmp cmp x z) (Some x) (element_at cmp xs z)
   unfolding IsStrictlySortedBy
   element_at-set [] x i h p z = absurd (omega (arith, h.0))
-  element_at-set (y ∷ ys) x zero h p z = replaced_by (eq_by_cmp cmp x z) x y z (element_at cmp ys z) (h.1 x) refl
+  element_at-set (y ∷ ys) x zero h p z = replaced-by (eq_by_cmp cmp x z) x y z (element_at cmp ys z) (h.1 x) refl
   element_at-set (y ∷ ys) x (suc i) h p z =
       let k : i < length ys = omega (arith, h.0) in
       let below : cmp y x ≡ Less = sym (alike_right total (get_or ys i x) x y (h.1 x)) ∙ each-at (λ z. cmp y z ≡ Less) ys i x k p.0 in
-      ap (λ o. cond (eq_by_cmp cmp y z) (Some y) o) (element_at-set ys x i (k, h.1) p.1 z) ∙ passed_by (eq_by_cmp cmp x z) x y z (element_at cmp ys z) below refl
+      ap (λ o. cond (eq_by_cmp cmp y z) (Some y) o) (element_at-set ys x i (k, h.1) p.1 z) ∙ passed-by (eq_by_cmp cmp x z) x y z (element_at cmp ys z) below refl
 
   -- ---- members follow from what is kept
 
-  some_by : (b : Bool) (x : X) (o : Option X) → is_some (cond b (Some x) o) ≡ (b || is_some o)
-  some_by true x o = refl
-  some_by false x o = refl
+  some-by : (b : Bool) (x : X) (o : Option X) → is_some (cond b (Some x) o) ≡ (b || is_some o)
+  some-by true x o = refl
+  some-by false x o = refl
 
   pub members-put : (xs ys : List X) (x : X) → ((z : X) → element_at cmp ys z ≡ cond (eq_by_cmp cmp x z) (Some x) (element_at cmp xs z)) → (z : X) → member cmp ys z ≡ (eq_by_cmp cmp x z || member cmp xs z)
-  members-put xs ys x h z = member-is_some cmp ys z ∙ ap is_some (h z) ∙ some_by (eq_by_cmp cmp x z) x (element_at cmp xs z) ∙ ap (λ b. eq_by_cmp cmp x z || b) (sym (member-is_some cmp xs z))
+  members-put xs ys x h z = member-is_some cmp ys z ∙ ap is_some (h z) ∙ some-by (eq_by_cmp cmp x z) x (element_at cmp xs z) ∙ ap (λ b. eq_by_cmp cmp x z || b) (sym (member-is_some cmp xs z))
 
   -- ---- the answer
 

@@ -78,16 +78,16 @@ module _ {S X : Type 0} (R : S → X → Bool → S → Type 0) where
         }
 
   -- nothing is left behind the end
-  drop_past : (xs : List X) (i : ℕ) → length xs ≤ i → drop i xs ≡ []
-  drop_past [] zero le = refl
-  drop_past [] (suc i) le = refl
-  drop_past (x ∷ xs) zero le = absurd (omega arith)
-  drop_past (x ∷ xs) (suc i) le = drop_past xs i (omega arith)
+  drop-past : (xs : List X) (i : ℕ) → length xs ≤ i → drop i xs ≡ []
+  drop-past [] zero le = refl
+  drop-past [] (suc i) le = refl
+  drop-past (x ∷ xs) zero le = absurd (omega arith)
+  drop-past (x ∷ xs) (suc i) le = drop-past xs i (omega arith)
 
   -- all were asked
   pub KeepsInFront-all : (s₀ : S) (xs : List X) (s : S) (ys : List X) (k i : ℕ) → KeepsInFront s₀ xs s ys k i → length xs ≤ i → IsFiltered R s₀ xs (take k ys)
   KeepsInFront-all s₀ xs s ys k i h le =
-      let none : IsFiltered R s (drop i xs) [] = subst (λ l. IsFiltered R s l []) (sym (drop_past xs i le)) ([], s, refl, refl, refl) in
+      let none : IsFiltered R s (drop i xs) [] = subst (λ l. IsFiltered R s l []) (sym (drop-past xs i le)) ([], s, refl, refl, refl) in
       subst (λ l. IsFiltered R s₀ xs l) (append-nil (take k ys)) (h.going [] none)
 
 -- a list is shortened to its first k elements, once it was written through a slice of the same length

@@ -10,3 +10,4 @@ mod OneSet
 pub mod Removing
 pub mod Retained
 pub mod Keeping
+pub mod Shorter

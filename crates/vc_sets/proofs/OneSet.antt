@@ -18,79 +18,79 @@ not_true : false ≡ true → ⊥
 not_true e = true≢false (sym e)
 
 -- either of two
-or_in_words : (p q : Bool) → IsTrue (p || q) ↔ (IsTrue p ⊎ IsTrue q)
-or_in_words true q = (λ e. inl refl, λ h. refl)
-or_in_words false true = (λ e. inr refl, λ h. refl)
-or_in_words false false = (λ e. absurd (not_true e), λ h. ⊎_elim (λ e. e) (λ e. e) h)
+or-in_words : (p q : Bool) → IsTrue (p || q) ↔ (IsTrue p ⊎ IsTrue q)
+or-in_words true q = (λ e. inl refl, λ h. refl)
+or-in_words false true = (λ e. inr refl, λ h. refl)
+or-in_words false false = (λ e. absurd (not_true e), λ h. ⊎_elim (λ e. e) (λ e. e) h)
 
 -- both of two
-and_in_words : (p q : Bool) → IsTrue (p && q) ↔ (IsTrue p × IsTrue q)
-and_in_words true true = (λ e. (refl, refl), λ h. refl)
-and_in_words true false = (λ e. absurd (not_true e), λ h. h.1)
-and_in_words false q = (λ e. absurd (not_true e), λ h. h.0)
+and-in_words : (p q : Bool) → IsTrue (p && q) ↔ (IsTrue p × IsTrue q)
+and-in_words true true = (λ e. (refl, refl), λ h. refl)
+and-in_words true false = (λ e. absurd (not_true e), λ h. h.1)
+and-in_words false q = (λ e. absurd (not_true e), λ h. h.0)
 
 -- the first and not the second
-and_not_in_words : (p q : Bool) → IsTrue (and_not p q) ↔ (IsTrue p × (IsTrue q → ⊥))
-and_not_in_words true true = (λ e. absurd (not_true e), λ h. absurd (h.1 refl))
-and_not_in_words true false = (λ e. (refl, λ k. not_true k), λ h. refl)
-and_not_in_words false q = (λ e. absurd (not_true e), λ h. h.0)
+and-not_in_words : (p q : Bool) → IsTrue (and_not p q) ↔ (IsTrue p × (IsTrue q → ⊥))
+and-not_in_words true true = (λ e. absurd (not_true e), λ h. absurd (h.1 refl))
+and-not_in_words true false = (λ e. (refl, λ k. not_true k), λ h. refl)
+and-not_in_words false q = (λ e. absurd (not_true e), λ h. h.0)
 
 -- one of two and not the other
-exactly_one_in_words : (p q : Bool) → IsTrue (exactly_one p q) ↔ ((IsTrue p × (IsTrue q → ⊥)) ⊎ ((IsTrue p → ⊥) × IsTrue q))
-exactly_one_in_words true true = (λ e. absurd (not_true e), λ h. ⊎_elim (λ k. absurd (k.1 refl)) (λ k. absurd (k.0 refl)) h)
-exactly_one_in_words true false = (λ e. inl (refl, λ k. not_true k), λ h. refl)
-exactly_one_in_words false true = (λ e. inr ((λ k. not_true k), refl), λ h. refl)
-exactly_one_in_words false false = (λ e. absurd (not_true e), λ h. ⊎_elim (λ k. k.0) (λ k. k.1) h)
+exactly-one_in_words : (p q : Bool) → IsTrue (exactly_one p q) ↔ ((IsTrue p × (IsTrue q → ⊥)) ⊎ ((IsTrue p → ⊥) × IsTrue q))
+exactly-one_in_words true true = (λ e. absurd (not_true e), λ h. ⊎_elim (λ k. absurd (k.1 refl)) (λ k. absurd (k.0 refl)) h)
+exactly-one_in_words true false = (λ e. inl (refl, λ k. not_true k), λ h. refl)
+exactly-one_in_words false true = (λ e. inr ((λ k. not_true k), refl), λ h. refl)
+exactly-one_in_words false false = (λ e. absurd (not_true e), λ h. ⊎_elim (λ k. k.0) (λ k. k.1) h)
 
 -- what the second has, if it has all of the first
-or_of_less : (p q : Bool) → (IsTrue p → IsTrue q) → (p || q) ≡ q
-or_of_less true q h = sym (h refl)
-or_of_less false q h = refl
+or-of_less : (p q : Bool) → (IsTrue p → IsTrue q) → (p || q) ≡ q
+or-of_less true q h = sym (h refl)
+or-of_less false q h = refl
 
 -- a test that is the same as one in words
-by_words : {P : Type 0} {m n : Bool} → m ≡ n → IsTrue n ↔ P → IsTrue m ↔ P
-by_words {P} e h = subst (λ b. IsTrue b ↔ P) (sym e) h
+by-words : {P : Type 0} {m n : Bool} → m ≡ n → IsTrue n ↔ P → IsTrue m ↔ P
+by-words {P} e h = subst (λ b. IsTrue b ↔ P) (sym e) h
 
 -- ---- what is kept
 
 module _ {X : Type 0} (f : Bool → Bool → Bool) where
   -- where an element is taken as it is, one is kept
-  one_by : (b : Bool) (x : X) (p q : Option X) → MatchBool b (IsSomeAnd p (λ z. x ≡ z)) (p ≡ None) → MatchBool b (IsSomeAnd q (λ z. x ≡ z)) (q ≡ None) → p ≡ q
-  one_by true x (Some y) (Some z) h k = ap (λ w. Some w) (sym h ∙ k)
-  one_by true x (Some y) None h k = absurd k
-  one_by true x None q h k = absurd h
-  one_by false x p q h k = h ∙ sym k
+  one-by : (b : Bool) (x : X) (p q : Option X) → MatchBool b (IsSomeAnd p (λ z. x ≡ z)) (p ≡ None) → MatchBool b (IsSomeAnd q (λ z. x ≡ z)) (q ≡ None) → p ≡ q
+  one-by true x (Some y) (Some z) h k = ap (λ w. Some w) (sym h ∙ k)
+  one-by true x (Some y) None h k = absurd k
+  one-by true x None q h k = absurd h
+  one-by false x p q h k = h ∙ sym k
 
   -- what is kept in one place is one
-  one_kept : (left right p q : Option X) → Keeps f (λ x z. x ≡ z) (λ y z. y ≡ z) left right p → Keeps f (λ x z. x ≡ z) (λ y z. y ≡ z) left right q → p ≡ q
-  one_kept (Some x) right p q h k = one_by (f true (is_some right)) x p q h k
-  one_kept None (Some y) p q h k = one_by (f false true) y p q h k
-  one_kept None None p q h k = h ∙ sym k
+  one-kept : (left right p q : Option X) → Keeps f (λ x z. x ≡ z) (λ y z. y ≡ z) left right p → Keeps f (λ x z. x ≡ z) (λ y z. y ≡ z) left right q → p ≡ q
+  one-kept (Some x) right p q h k = one-by (f true (is_some right)) x p q h k
+  one-kept None (Some y) p q h k = one-by (f false true) y p q h k
+  one-kept None None p q h k = h ∙ sym k
 
 module _ {X : Type 0} (cmp : X → X → Ordering) (total : IsTotalOrder cmp) where
   -- an operation that takes elements as they are makes one list of two sets
   pub set_of_is_one : SetOfIsOne cmp
   set_of_is_one f a b c d s t =
       (members_tell_the_list cmp total).elements c d s.ascends t.ascends
-      (λ x. one_kept f (element_at cmp a x) (element_at cmp b x) (element_at cmp c x) (element_at cmp d x) (s.kept x) (t.kept x))
+      (λ x. one-kept f (element_at cmp a x) (element_at cmp b x) (element_at cmp c x) (element_at cmp d x) (s.kept x) (t.kept x))
 
   module _ (L R : X → X → Type 0) where
     -- what an operation makes of two sets is one list up to equality
-    pub set_of_is_one_up_to_equal : SetOfIsOneUpToEqual cmp L R
-    set_of_is_one_up_to_equal f a b c d s t = (members_tell_the_list cmp total).members c d s.ascends t.ascends (λ x. s.members x ∙ sym (t.members x))
+    pub set-of_is_one_up_to_equal : SetOfIsOneUpToEqual cmp L R
+    set-of_is_one_up_to_equal f a b c d s t = (members_tell_the_list cmp total).members c d s.ascends t.ascends (λ x. s.members x ∙ sym (t.members x))
 
     -- the four operations are as named
-    pub operations_in_words : OperationsInWords cmp L R
-    operations_in_words = record {
-      union = λ a b c s x. by_words (s.members x) (or_in_words (member cmp a x) (member cmp b x));
-      intersection = λ a b c s x. by_words (s.members x) (and_in_words (member cmp a x) (member cmp b x));
-      difference = λ a b c s x. by_words (s.members x) (and_not_in_words (member cmp a x) (member cmp b x));
-      symmetric_difference = λ a b c s x. by_words (s.members x) (exactly_one_in_words (member cmp a x) (member cmp b x));
+    pub operations-in_words : OperationsInWords cmp L R
+    operations-in_words = record {
+      union = λ a b c s x. by-words (s.members x) (or-in_words (member cmp a x) (member cmp b x));
+      intersection = λ a b c s x. by-words (s.members x) (and-in_words (member cmp a x) (member cmp b x));
+      difference = λ a b c s x. by-words (s.members x) (and-not_in_words (member cmp a x) (member cmp b x));
+      symmetric_difference = λ a b c s x. by-words (s.members x) (exactly-one_in_words (member cmp a x) (member cmp b x));
     }
 
     -- a union keeps the left one of equal elements
-    pub union_keeps_the_left : UnionKeepsTheLeft cmp L R
-    union_keeps_the_left = record {
+    pub union-keeps_the_left : UnionKeepsTheLeft cmp L R
+    union-keeps_the_left = record {
       left = λ a b c s x y e. subst (λ o. Keeps ◌||◌ L R o (element_at cmp b x) (element_at cmp c x)) e (s.kept x);
       right = λ a b c s x y e h. subst (λ o. Keeps ◌||◌ L R None o (element_at cmp c x)) h (subst (λ o. Keeps ◌||◌ L R o (element_at cmp b x) (element_at cmp c x)) e (s.kept x));
     }
@@ -98,56 +98,56 @@ module _ {X : Type 0} (cmp : X → X → Ordering) (total : IsTotalOrder cmp) wh
     -- ---- nothing is in a list that has no member
 
     -- a list without members is empty
-    no_members : (c : List X) → ((x : X) → IsTrue (member cmp c x) → ⊥) → c ≡ []
-    no_members [] h = refl
-    no_members (z ∷ zs) h = absurd (h z (ap (λ o. is_eq o || member cmp zs z) (tied_itself total z)))
+    no-members : (c : List X) → ((x : X) → IsTrue (member cmp c x) → ⊥) → c ≡ []
+    no-members [] h = refl
+    no-members (z ∷ zs) h = absurd (h z (ap (λ o. is_eq o || member cmp zs z) (tied_itself total z)))
 
     -- an empty list has no member
-    empty_member : (c : List X) (x : X) → c ≡ [] → IsTrue (member cmp c x) → ⊥
-    empty_member c x e h = not_true (sym (ap (λ l. member cmp l x) e) ∙ h)
+    empty-member : (c : List X) (x : X) → c ≡ [] → IsTrue (member cmp c x) → ⊥
+    empty-member c x e h = not_true (sym (ap (λ l. member cmp l x) e) ∙ h)
 
     -- the members of an intersection
-    in_both : (a b c : List X) → IsSetOf cmp L R ◌&&◌ a b c → (x : X) → IsTrue (member cmp c x) ↔ (IsTrue (member cmp a x) × IsTrue (member cmp b x))
-    in_both a b c s = operations_in_words.intersection a b c s
+    in-both : (a b c : List X) → IsSetOf cmp L R ◌&&◌ a b c → (x : X) → IsTrue (member cmp c x) ↔ (IsTrue (member cmp a x) × IsTrue (member cmp b x))
+    in-both a b c s = operations-in_words.intersection a b c s
 
     -- the members of a difference
-    in_left_alone : (a b c : List X) → IsSetOf cmp L R and_not a b c → (x : X) → IsTrue (member cmp c x) ↔ (IsTrue (member cmp a x) × (IsTrue (member cmp b x) → ⊥))
-    in_left_alone a b c s = operations_in_words.difference a b c s
+    in-left_alone : (a b c : List X) → IsSetOf cmp L R and_not a b c → (x : X) → IsTrue (member cmp c x) ↔ (IsTrue (member cmp a x) × (IsTrue (member cmp b x) → ⊥))
+    in-left_alone a b c s = operations-in_words.difference a b c s
 
     -- a test that is not false is true
-    member_or_not : (b : Bool) → ((IsTrue b → ⊥) → ⊥) → IsTrue b
-    member_or_not true h = refl
-    member_or_not false h = absurd (h not_true)
+    member-or_not : (b : Bool) → ((IsTrue b → ⊥) → ⊥) → IsTrue b
+    member-or_not true h = refl
+    member-or_not false h = absurd (h not_true)
 
     -- the members of a union
-    in_either : (a b c : List X) → IsSetOf cmp L R ◌||◌ a b c → (x : X) → IsTrue (member cmp c x) ↔ (IsTrue (member cmp a x) ⊎ IsTrue (member cmp b x))
-    in_either a b c s = operations_in_words.union a b c s
+    in-either : (a b c : List X) → IsSetOf cmp L R ◌||◌ a b c → (x : X) → IsTrue (member cmp c x) ↔ (IsTrue (member cmp a x) ⊎ IsTrue (member cmp b x))
+    in-either a b c s = operations-in_words.union a b c s
 
     -- lists that are equal place by place have the same members
-    equal_members : (xs ys : List X) → AllZip (λ x y. cmp x y ≡ Equal) xs ys → (w : X) → member cmp xs w ≡ member cmp ys w
-    equal_members [] [] h w = refl
-    equal_members (x ∷ xs) (y ∷ ys) h w = ap (λ o. is_eq o || member cmp xs w) (total.congr x y w h.0) ∙ ap (λ b. is_eq (cmp y w) || b) (equal_members xs ys h.1 w)
-    equal_members [] (y ∷ ys) h w = absurd h
-    equal_members (x ∷ xs) [] h w = absurd h
+    equal-members : (xs ys : List X) → AllZip (λ x y. cmp x y ≡ Equal) xs ys → (w : X) → member cmp xs w ≡ member cmp ys w
+    equal-members [] [] h w = refl
+    equal-members (x ∷ xs) (y ∷ ys) h w = ap (λ o. is_eq o || member cmp xs w) (total.congr x y w h.0) ∙ ap (λ b. is_eq (cmp y w) || b) (equal-members xs ys h.1 w)
+    equal-members [] (y ∷ ys) h w = absurd h
+    equal-members (x ∷ xs) [] h w = absurd h
 
     -- the tests are of operations
     pub tests_are_of_operations : TestsAreOfOperations cmp L R
     tests_are_of_operations = record {
       disjoint = λ a b c s. (
-        (λ h. no_members c (λ x m. let w = (in_both a b c s x).0 m in h x w.0 w.1)),
-        λ e x p q. empty_member c x e ((in_both a b c s x).1 (p, q)),
+        (λ h. no-members c (λ x m. let w = (in-both a b c s x).0 m in h x w.0 w.1)),
+        λ e x p q. empty-member c x e ((in-both a b c s x).1 (p, q)),
       );
       subset = λ a b c s. (
-        (λ h. no_members c (λ x m. let w = (in_left_alone a b c s x).0 m in w.1 (h x w.0))),
-        λ e x p. member_or_not (member cmp b x) (λ n. empty_member c x e ((in_left_alone a b c s x).1 (p, n))),
+        (λ h. no-members c (λ x m. let w = (in-left_alone a b c s x).0 m in w.1 (h x w.0))),
+        λ e x p. member-or_not (member cmp b x) (λ n. empty-member c x e ((in-left_alone a b c s x).1 (p, n))),
       );
       subset_by_union = λ a b c p s. (
-        (λ h. (members_tell_the_list cmp total).members c b s.ascends p (λ x. s.members x ∙ or_of_less (member cmp a x) (member cmp b x) (h x))),
-        λ e x m. sym (equal_members c b e x) ∙ (in_either a b c s x).1 (inl m),
+        (λ h. (members_tell_the_list cmp total).members c b s.ascends p (λ x. s.members x ∙ or-of_less (member cmp a x) (member cmp b x) (h x))),
+        λ e x m. sym (equal-members c b e x) ∙ (in-either a b c s x).1 (inl m),
       );
     }
 
 -- a law of all relations holds in each way
-pub in_each_way : {X : Type 0} (is_clone : X → X → Type 0) (Law : (X → X → Type 0) → (X → X → Type 0) → Type 0)
+pub in-each_way : {X : Type 0} (is_clone : X → X → Type 0) (Law : (X → X → Type 0) → (X → X → Type 0) → Type 0)
     → ((L R : X → X → Type 0) → Law L R) → InEachWay is_clone Law
-in_each_way is_clone Law h = record { fresh = h is_clone is_clone; in_place = h (λ x z. x ≡ z) is_clone; moved = h (λ x z. x ≡ z) (λ y z. y ≡ z) }
+in-each_way is_clone Law h = record { fresh = h is_clone is_clone; in_place = h (λ x z. x ≡ z) is_clone; moved = h (λ x z. x ≡ z) (λ y z. y ≡ z) }

@@ -12,9 +12,9 @@ pub granted : {A E : Type 0} (result : Result A E) (P : Type 0) → IsOk result 
 granted (Ok a) P ok h = h
 granted (Err e) P ok h = absurd (true≢false (sym ok))
 
-pub not_refused : {A E : Type 0} (result : Result A E) (P : Type 0) (refused : Bool) → refused ≡ is_err result → refused ≡ false → OnOk result P → P
-not_refused (Ok a) P refused e f h = h
-not_refused (Err e) P refused i f h = absurd (true≢false (sym i ∙ f))
+pub not-refused : {A E : Type 0} (result : Result A E) (P : Type 0) (refused : Bool) → refused ≡ is_err result → refused ≡ false → OnOk result P → P
+not-refused (Ok a) P refused e f h = h
+not-refused (Err e) P refused i f h = absurd (true≢false (sym i ∙ f))
 
 -- what follows where a call was not refused
 pub on_ok : {A E : Type 0} (result : Result A E) (P Q : Type 0) → (P → Q) → OnOk result P → OnOk result Q
@@ -27,17 +27,17 @@ pub record IsParted {X : Type 0} (old added all : List X) (end next : ℕ) : Typ
   pub right : drop next all ≡ added
 
 -- a list once a gap was put behind its elements, and others behind that
-pub is_parted : {X : Type 0} (old gapped added pushed all : List X) (end next : ℕ) → end ≡ length old → next ≡ length gapped → take (length old) gapped ≡ old → length old ≤ length gapped
+pub is-parted : {X : Type 0} (old gapped added pushed all : List X) (end next : ℕ) → end ≡ length old → next ≡ length gapped → take (length old) gapped ≡ old → length old ≤ length gapped
     → pushed ≡ gapped ++ added → all ≡ pushed → IsParted old added all end next
-is_parted old gapped added pushed all end next ends nexts front gap items same = record {
+is-parted old gapped added pushed all end next ends nexts front gap items same = record {
   left = (λ i. take (ends i) ((same ∙ items) i)) ∙ take-append-le (length old) gapped added gap ∙ front;
   right = (λ i. drop (nexts i) ((same ∙ items) i)) ∙ drop_at gapped added (length gapped) refl;
 }
 
 -- a list that was written through its slice, and cut off
-pub cut_off : {X : Type 0} (v : SmallVec X) (lent written new : List X) (kept : ℕ) → lent ≡ v.items → length written ≡ length lent
+pub cut-off : {X : Type 0} (v : SmallVec X) (lent written new : List X) (kept : ℕ) → lent ≡ v.items → length written ≡ length lent
     → new ≡ take kept (with_items v written).items → new ≡ take kept written
-cut_off v lent written new kept e long cut = cut ∙ ap (take kept) (items-with_items v written (long ∙ ap length e))
+cut-off v lent written new kept e long cut = cut ∙ ap (take kept) (items-with_items v written (long ∙ ap length e))
 
 -- what is made of the parts is made of the lists
 pub set_of-parts : {X : Type 0} (cmp : X → X → Ordering) (L R : X → X → Type 0) (f : Bool → Bool → Bool) (old added all kept new : List X) (end next : ℕ)

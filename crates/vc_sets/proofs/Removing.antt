@@ -1,6 +1,5 @@
 -- An ascending list with elements taken out, and the clones of its elements.
-use Rattle.std.proofs.Common.{◌≡◌, ℕ, zero, suc, ◌<◌, Bool, true, false, not, cond, ◌&&◌, List, [], ◌∷◌, ◌++◌, length, take, drop, get_or, Option, Some, None, is_some, Err, refl, sym, ap, ◌∙◌, arith}
-use mathlib.Core.Bool.{true≢false}
+use Rattle.std.proofs.Common.{◌≡◌, ℕ, zero, suc, ◌<◌, Bool, true, false, not, cond, ◌&&◌, List, [], ◌∷◌, ◌++◌, length, take, drop, get_or, Option, Some, None, is_some, refl, sym, ap, ◌∙◌, arith}
 use Rattle.std.proofs.lemmas.List.{append-nil}
 use Rattle.std.specs.Iterator.{Yields}
 use Rattle.std.specs.Map.Iter.{TakesFirst}
@@ -14,7 +13,7 @@ use Rattle.vc_merge.specs.Ascending.{Ascends, member, element_at}
 use Rattle.vc_merge.specs.Yielded.{taken}
 use Rattle.vc_merge.proofs.Lists.{each-at}
 use Rattle.vc_merge.specs.Place.{IsGap}
-use Rattle.vc_merge.proofs.Members.{member-is_some, element_at-none, equal-alike, equal_from_is_eq}
+use Rattle.vc_merge.proofs.Members.{member-is_some, element_at-none, equal-alike, equal-from_is_eq}
 use Rattle.vc_sets.proofs.Searching.{gap-none}
 
 -- ---- an iterator that moves the elements of a list out
@@ -61,25 +60,25 @@ module _ {X : Type 0} (cmp : X → X → Ordering) where
     -- ---- an equal element is taken out
 
     -- the element in front is the one that is taken out
-    first_by : (b : Bool) (y z : X) (ys : List X) → AllByRecursion (λ w. cmp y w ≡ Less) ys → eq_by_cmp cmp y z ≡ b → element_at cmp ys z ≡ cond b None (cond b (Some y) (element_at cmp ys z))
-    first_by true y z ys p e = element_at-none cmp total y z ys p e
-    first_by false y z ys p e = refl
+    first-by : (b : Bool) (y z : X) (ys : List X) → AllByRecursion (λ w. cmp y w ≡ Less) ys → eq_by_cmp cmp y z ≡ b → element_at cmp ys z ≡ cond b None (cond b (Some y) (element_at cmp ys z))
+    first-by true y z ys p e = element_at-none cmp total y z ys p e
+    first-by false y z ys p e = refl
 
     -- the one that is taken out stands behind
-    later_by : (b : Bool) (x y z : X) (o : Option X) → cmp y x ≡ Less → eq_by_cmp cmp x z ≡ b → cond (eq_by_cmp cmp y z) (Some y) (cond b None o) ≡ cond b None (cond (eq_by_cmp cmp y z) (Some y) o)
-    later_by true x y z o e f = ap (λ c. cond c (Some y) None) (ap is_eq (sym (alike_right total x z y (equal_from_is_eq (cmp x z) f)) ∙ e))
-    later_by false x y z o e f = refl
+    later-by : (b : Bool) (x y z : X) (o : Option X) → cmp y x ≡ Less → eq_by_cmp cmp x z ≡ b → cond (eq_by_cmp cmp y z) (Some y) (cond b None o) ≡ cond b None (cond (eq_by_cmp cmp y z) (Some y) o)
+    later-by true x y z o e f = ap (λ c. cond c (Some y) None) (ap is_eq (sym (alike_right total x z y (equal-from_is_eq (cmp x z) f)) ∙ e))
+    later-by false x y z o e f = refl
 
     -- what stands where, without the element that is equal to x
     pub element_at-without : (xs : List X) (x : X) (i : ℕ) → i < length xs → ((d : X) → cmp (get_or xs i d) x ≡ Equal) → Ascends cmp xs → (z : X) → element_at cmp (take i xs ++ drop (suc i) xs) z ≡ cond (eq_by_cmp cmp x z) None (element_at cmp xs z)
     unfolding IsStrictlySortedBy
     element_at-without [] x i h e p z = absurd (omega arith)
     element_at-without (y ∷ ys) x zero h e p z =
-        first_by (eq_by_cmp cmp y z) y z ys p.0 refl ∙ ap (λ b. cond b None (cond (eq_by_cmp cmp y z) (Some y) (element_at cmp ys z))) (sym (equal-alike cmp total y x z (e x)))
+        first-by (eq_by_cmp cmp y z) y z ys p.0 refl ∙ ap (λ b. cond b None (cond (eq_by_cmp cmp y z) (Some y) (element_at cmp ys z))) (sym (equal-alike cmp total y x z (e x)))
     element_at-without (y ∷ ys) x (suc i) h e p z =
         let k : i < length ys = omega arith in
         let below : cmp y x ≡ Less = sym (alike_right total (get_or ys i x) x y (e x)) ∙ each-at (λ z. cmp y z ≡ Less) ys i x k p.0 in
-        ap (λ o. cond (eq_by_cmp cmp y z) (Some y) o) (element_at-without ys x i k e p.1 z) ∙ later_by (eq_by_cmp cmp x z) x y z (element_at cmp ys z) below refl
+        ap (λ o. cond (eq_by_cmp cmp y z) (Some y) o) (element_at-without ys x i k e p.1 z) ∙ later-by (eq_by_cmp cmp x z) x y z (element_at cmp ys z) below refl
 
     -- ---- no equal element stands there
 
@@ -90,7 +89,7 @@ module _ {X : Type 0} (cmp : X → X → Ordering) where
 
     -- nothing stands at what is equal to an element that is not there
     nothing_by : (b : Bool) (xs : List X) (x z : X) → element_at cmp xs x ≡ None → eq_by_cmp cmp x z ≡ b → element_at cmp xs z ≡ cond b None (element_at cmp xs z)
-    nothing_by true xs x z n e = sym (element_at-alike xs x z (equal_from_is_eq (cmp x z) e)) ∙ n
+    nothing_by true xs x z n e = sym (element_at-alike xs x z (equal-from_is_eq (cmp x z) e)) ∙ n
     nothing_by false xs x z n e = refl
 
     -- what stands where, if no element is equal to x
@@ -100,10 +99,10 @@ module _ {X : Type 0} (cmp : X → X → Ordering) where
     -- ---- members follow from what is kept
 
     -- something is left where it was there and was not taken out
-    none_by : (b : Bool) (o : Option X) → is_some (cond b None o) ≡ (not b && is_some o)
-    none_by true o = refl
-    none_by false o = refl
+    none-by : (b : Bool) (o : Option X) → is_some (cond b None o) ≡ (not b && is_some o)
+    none-by true o = refl
+    none-by false o = refl
 
     -- the members, once what is equal to x was taken out
     pub members-taken : (xs ys : List X) (x : X) → ((z : X) → element_at cmp ys z ≡ cond (eq_by_cmp cmp x z) None (element_at cmp xs z)) → (z : X) → member cmp ys z ≡ (not (eq_by_cmp cmp x z) && member cmp xs z)
-    members-taken xs ys x h z = member-is_some cmp ys z ∙ ap is_some (h z) ∙ none_by (eq_by_cmp cmp x z) (element_at cmp xs z) ∙ ap (λ b. not (eq_by_cmp cmp x z) && b) (sym (member-is_some cmp xs z))
+    members-taken xs ys x h z = member-is_some cmp ys z ∙ ap is_some (h z) ∙ none-by (eq_by_cmp cmp x z) (element_at cmp xs z) ∙ ap (λ b. not (eq_by_cmp cmp x z) && b) (sym (member-is_some cmp xs z))

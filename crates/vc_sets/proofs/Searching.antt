@@ -18,9 +18,9 @@ or_true false = refl
 
 module _ {X : Type 0} (cmp : X → X → Ordering) (total : IsTotalOrder cmp) where
   -- nothing of what is below x stands at what is equal to x
-  pub none_below : (xs : List X) (x z : X) → AllByRecursion (λ y. cmp y x ≡ Less) xs → cmp x z ≡ Equal → element_at cmp xs z ≡ None
-  none_below [] x z p e = refl
-  none_below (y ∷ ys) x z p e = element_at-later cmp y ys z (ap is_eq (sym (alike_right total x z y e) ∙ p.0)) ∙ none_below ys x z p.1 e
+  pub none-below : (xs : List X) (x z : X) → AllByRecursion (λ y. cmp y x ≡ Less) xs → cmp x z ≡ Equal → element_at cmp xs z ≡ None
+  none-below [] x z p e = refl
+  none-below (y ∷ ys) x z p e = element_at-later cmp y ys z (ap is_eq (sym (alike_right total x z y e) ∙ p.0)) ∙ none-below ys x z p.1 e
 
   -- what is behind a gap is above
   pub gap-above : (xs : List X) (x : X) (i : ℕ) → IsGap (λ y. cmp y x) xs i → AllByRecursion (λ y. cmp x y ≡ Less) (drop i xs)
@@ -30,7 +30,7 @@ module _ {X : Type 0} (cmp : X → X → Ordering) (total : IsTotalOrder cmp) wh
   pub gap-none : (xs : List X) (x : X) (i : ℕ) → IsGap (λ y. cmp y x) xs i → element_at cmp xs x ≡ None
   gap-none xs x i p =
       ap (λ l. element_at cmp l x) (sym (take-append-drop i xs)) ∙ element_at-append cmp (take i xs) (drop i xs) x
-      ∙ ap (λ o. option_or o (element_at cmp (drop i xs) x)) (none_below (take i xs) x x p.less (tied_itself total x))
+      ∙ ap (λ o. option_or o (element_at cmp (drop i xs) x)) (none-below (take i xs) x x p.less (tied_itself total x))
       ∙ element_at-none cmp total x x (drop i xs) (gap-above xs x i p) (ap is_eq (tied_itself total x))
 
   found-member : (xs : List X) (x : X) (i : ℕ) → i < length xs → ((d : X) → cmp (get_or xs i d) x ≡ Equal) → member cmp xs x ≡ true

@@ -101,27 +101,27 @@ module _ {X : Type 0} (cmp : X → X → Ordering) (total : IsTotalOrder cmp) wh
         keeps-same f none L R (element_at-first cmp y (lefts es) x e) (element_at-none cmp total y x (rights es) (rights-above y es p m) e) refl (kept-at y (L y) (left_equal y) x (f true false) q.0 q.1 zs q.2 q.4 (all-above y es q.1 p q.3) e)
     at_left x y es zs p m q ih false e = keeps-same f none L R (element_at-later cmp y (lefts es) x e) refl (kept-elsewhere y (L y) (left_equal y) x (f true false) q.0 q.1 zs q.2 q.4 e) ih
 
-    at_right : (x y : X) (es : List (Event X X)) (zs : List X) → AllByRecursion (λ e. cmp y (either (place e)) ≡ Less) es → AllByRecursion (IsMatched (both_sides cmp)) es
+    at-right : (x y : X) (es : List (Event X X)) (zs : List X) → AllByRecursion (λ e. cmp y (either (place e)) ≡ Less) es → AllByRecursion (IsMatched (both_sides cmp)) es
         → (q : Gathers (KeptAt f L R) (right_alone y ∷ es) zs) → IsKeptAt x es q.1 → (b : Bool) → eq_by_cmp cmp y x ≡ b → IsKeptAt x (right_alone y ∷ es) zs
     unfolding IsKeptAt
-    at_right x y es zs p m q ih true e =
+    at-right x y es zs p m q ih true e =
         keeps-same f none L R (element_at-none cmp total y x (lefts es) (lefts-above y es p) e) (element_at-first cmp y (rights es) x e) refl (kept-at y (R y) (right_equal y) x (f false true) q.0 q.1 zs q.2 q.4 (all-above y es q.1 p q.3) e)
-    at_right x y es zs p m q ih false e = keeps-same f none L R refl (element_at-later cmp y (rights es) x e) (kept-elsewhere y (R y) (right_equal y) x (f false true) q.0 q.1 zs q.2 q.4 e) ih
+    at-right x y es zs p m q ih false e = keeps-same f none L R refl (element_at-later cmp y (rights es) x e) (kept-elsewhere y (R y) (right_equal y) x (f false true) q.0 q.1 zs q.2 q.4 e) ih
 
-    at_both : (x y w : X) (es : List (Event X X)) (zs : List X) → cmp y w ≡ Equal → AllByRecursion (λ e. cmp y (either (place e)) ≡ Less) es
+    at-both : (x y w : X) (es : List (Event X X)) (zs : List X) → cmp y w ≡ Equal → AllByRecursion (λ e. cmp y (either (place e)) ≡ Less) es
         → (q : Gathers (KeptAt f L R) (collision y w ∷ es) zs) → IsKeptAt x es q.1 → (b : Bool) → eq_by_cmp cmp y x ≡ b → IsKeptAt x (collision y w ∷ es) zs
     unfolding IsKeptAt
-    at_both x y w es zs m p q ih true e =
+    at-both x y w es zs m p q ih true e =
         keeps-same f none L R (element_at-first cmp y (lefts es) x e) (element_at-first cmp w (rights es) x (equal-alike cmp total y w x m ∙ e)) refl (kept-at y (L y) (left_equal y) x (f true true) q.0 q.1 zs q.2 q.4 (all-above y es q.1 p q.3) e)
-    at_both x y w es zs m p q ih false e =
+    at-both x y w es zs m p q ih false e =
         keeps-same f none L R (element_at-later cmp y (lefts es) x e) (element_at-later cmp w (rights es) x (equal-alike cmp total y w x m ∙ e)) (kept-elsewhere y (L y) (left_equal y) x (f true true) q.0 q.1 zs q.2 q.4 e) ih
 
     kept_at : (x : X) (es : List (Event X X)) (zs : List X) → Ascends (λ d e. both_sides cmp (place d) (place e)) es → AllByRecursion (IsMatched (both_sides cmp)) es → Gathers (KeptAt f L R) es zs → IsKeptAt x es zs
     unfolding IsKeptAt IsStrictlySortedBy
     kept_at x [] zs p m q = ap (λ l. element_at cmp l x) q
     kept_at x (left_alone y ∷ es) zs p m q = at_left x y es zs p.0 m.1 q (kept_at x es q.1 p.1 m.1 q.3) (eq_by_cmp cmp y x) refl
-    kept_at x (right_alone y ∷ es) zs p m q = at_right x y es zs p.0 m.1 q (kept_at x es q.1 p.1 m.1 q.3) (eq_by_cmp cmp y x) refl
-    kept_at x (collision y w ∷ es) zs p m q = at_both x y w es zs m.0 p.0 q (kept_at x es q.1 p.1 m.1 q.3) (eq_by_cmp cmp y x) refl
+    kept_at x (right_alone y ∷ es) zs p m q = at-right x y es zs p.0 m.1 q (kept_at x es q.1 p.1 m.1 q.3) (eq_by_cmp cmp y x) refl
+    kept_at x (collision y w ∷ es) zs p m q = at-both x y w es zs m.0 p.0 q (kept_at x es q.1 p.1 m.1 q.3) (eq_by_cmp cmp y x) refl
 
     -- what is kept of the script of a and b is what f makes of them
     pub set_of : (a b c : List X) (es : List (Event X X)) → IsScript (both_sides cmp) a b es → Gathers (KeptAt f L R) es c → IsSetOf cmp L R f a b c

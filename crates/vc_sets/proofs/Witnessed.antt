@@ -21,17 +21,17 @@ goes_on : (b : Bool) → ◌≡◌ {A = Answer} (Ok true) (Ok (not b)) → b ≡
 goes_on true e = let odd : true ≡ false = cc in absurd (true≢false odd)
 goes_on false e = refl
 
-stops_at : (b : Bool) (answer : Answer) → answer ≡ Ok (not b) → (answer ≡ Ok true → ⊥) → b ≡ true
-stops_at true answer e stop = refl
-stops_at false answer e stop = absurd (stop e)
+stops-at : (b : Bool) (answer : Answer) → answer ≡ Ok (not b) → (answer ≡ Ok true → ⊥) → b ≡ true
+stops-at true answer e stop = refl
+stops-at false answer e stop = absurd (stop e)
 
-found_or : (a b : Bool) → b ≡ true → (a || b) ≡ true
-found_or true b e = refl
-found_or false b e = e
+found-or : (a b : Bool) → b ≡ true → (a || b) ≡ true
+found-or true b e = refl
+found-or false b e = e
 
-not_found_or : (a b : Bool) → b ≡ false → (a || b) ≡ a
-not_found_or true b e = refl
-not_found_or false b e = e
+not-found_or : (a b : Bool) → b ≡ false → (a || b) ≡ a
+not-found_or true b e = refl
+not-found_or false b e = e
 
 module _ {X : Type 0} (cmp : X → X → Ordering) (total : IsTotalOrder cmp) where
   -- an element itself is equal
@@ -49,27 +49,27 @@ module _ {X : Type 0} (cmp : X → X → Ordering) (total : IsTotalOrder cmp) (l
 
   -- ---- the witnesses among the events
 
-  given_if : (b : Bool) (u : X) → (zs : List X) × GivesIf b (λ z. u ≡ z) zs
-  given_if true u = (u ∷ [], (u, refl, refl))
-  given_if false u = ([], refl)
+  given-if : (b : Bool) (u : X) → (zs : List X) × GivesIf b (λ z. u ≡ z) zs
+  given-if true u = (u ∷ [], (u, refl, refl))
+  given-if false u = ([], refl)
 
-  given_at : (e : Event X X) → (zs : List X) × witness_at e zs
-  given_at (left_alone x) = given_if l x
-  given_at (right_alone y) = given_if r y
-  given_at (collision x y) = given_if both x
+  given-at : (e : Event X X) → (zs : List X) × witness_at e zs
+  given-at (left_alone x) = given-if l x
+  given-at (right_alone y) = given-if r y
+  given-at (collision x y) = given-if both x
 
-  all_given : (es : List (Event X X)) → (zs : List X) × Gathers witness_at es zs
-  all_given [] = ([], refl)
-  all_given (e ∷ es) = let first = given_at e in let rest = all_given es in (first.0 ++ rest.0, (first.0, rest.0, first.1, rest.1, refl))
+  all-given : (es : List (Event X X)) → (zs : List X) × Gathers witness_at es zs
+  all-given [] = ([], refl)
+  all-given (e ∷ es) = let first = given-at e in let rest = all-given es in (first.0 ++ rest.0, (first.0, rest.0, first.1, rest.1, refl))
 
   witnesses : (a b zs : List X) (es : List (Event X X)) → IsScript (both_sides cmp) a b es → Gathers witness_at es zs → IsSetOf cmp (λ x z. x ≡ z) (λ y z. y ≡ z) witness a b zs
   witnesses a b zs es s q = set_of cmp total (λ x z. x ≡ z) (λ y z. y ≡ z) (same-equal cmp total) (same-equal cmp total) witness refl a b zs es s q
 
-  none_given : (a b : List X) (es : List (Event X X)) → IsScript (both_sides cmp) a b es → Gathers witness_at es [] → (x : X) → witness (member cmp a x) (member cmp b x) ≡ false
-  none_given a b es s q x = sym ((witnesses a b [] es s q).members x)
+  none-given : (a b : List X) (es : List (Event X X)) → IsScript (both_sides cmp) a b es → Gathers witness_at es [] → (x : X) → witness (member cmp a x) (member cmp b x) ≡ false
+  none-given a b es s q x = sym ((witnesses a b [] es s q).members x)
 
-  some_given : (a b : List X) (es : List (Event X X)) (u : X) (us : List X) → IsScript (both_sides cmp) a b es → Gathers witness_at es (u ∷ us) → (x : X) × (witness (member cmp a x) (member cmp b x) ≡ true)
-  some_given a b es u us s q = (u, sym ((witnesses a b (u ∷ us) es s q).members u) ∙ ap (λ o. is_eq o || member cmp us u) (tied_itself total u))
+  some-given : (a b : List X) (es : List (Event X X)) (u : X) (us : List X) → IsScript (both_sides cmp) a b es → Gathers witness_at es (u ∷ us) → (x : X) × (witness (member cmp a x) (member cmp b x) ≡ true)
+  some-given a b es u us s q = (u, sym ((witnesses a b (u ∷ us) es s q).members u) ∙ ap (λ o. is_eq o || member cmp us u) (tied_itself total u))
 
   -- ---- the merge
 
@@ -93,11 +93,11 @@ module _ {X : Type 0} (cmp : X → X → Ordering) (total : IsTotalOrder cmp) (l
     step-none : (s t : M) (run : Run X X) → Step witness_allows s run t → (found t ≡ found s) × Gathers witness_at (run_events run) []
     step-none s t (of_left xs) p =
         let e = goes_on l p.allowed.0 in
-        (p.allowed.1 ∙ not_found_or (found s) l e, gathers-map witness_at (λ x. left_alone x) xs [] (gathers-none (λ x. witness_at (left_alone x)) (λ x. gives-none l x e) xs))
+        (p.allowed.1 ∙ not-found_or (found s) l e, gathers-map witness_at (λ x. left_alone x) xs [] (gathers-none (λ x. witness_at (left_alone x)) (λ x. gives-none l x e) xs))
     step-none s t (of_right ys) p =
         let e = goes_on r p.allowed.0 in
-        (p.allowed.1 ∙ not_found_or (found s) r e, gathers-map witness_at (λ y. right_alone y) ys [] (gathers-none (λ y. witness_at (right_alone y)) (λ y. gives-none r y e) ys))
-    step-none s t (of_both x y) p = let e = goes_on both p.allowed.0 in (p.allowed.1 ∙ not_found_or (found s) both e, ([], [], gives-none both x e, refl, refl))
+        (p.allowed.1 ∙ not-found_or (found s) r e, gathers-map witness_at (λ y. right_alone y) ys [] (gathers-none (λ y. witness_at (right_alone y)) (λ y. gives-none r y e) ys))
+    step-none s t (of_both x y) p = let e = goes_on both p.allowed.0 in (p.allowed.1 ∙ not-found_or (found s) both e, ([], [], gives-none both x e, refl, refl))
 
     steps-none : (s t : M) (runs : List (Run X X)) → Steps witness_allows s runs t → (found t ≡ found s) × Gathers witness_at (events runs) []
     steps-none s t [] e = (ap found (sym e), refl)
@@ -111,15 +111,15 @@ module _ {X : Type 0} (cmp : X → X → Ordering) (total : IsTotalOrder cmp) (l
         → (found t ≡ true) × ((u : X) × (us : List X) × Gathers witness_at (run_events run) (u ∷ us))
     last-some s t (of_left []) answer ls rs p q stop = let none = p.0 in absurd (omega arith)
     last-some s t (of_left (x ∷ xs)) answer ls rs p q stop =
-        let e = stops_at l answer q.0 stop in
-        let rest = all_given (map (λ x. left_alone x) xs) in
-        (q.1 ∙ found_or (found s) l e, (x, rest.0, (x ∷ [], rest.0, gives-itself l x e, rest.1, refl)))
+        let e = stops-at l answer q.0 stop in
+        let rest = all-given (map (λ x. left_alone x) xs) in
+        (q.1 ∙ found-or (found s) l e, (x, rest.0, (x ∷ [], rest.0, gives-itself l x e, rest.1, refl)))
     last-some s t (of_right []) answer ls rs p q stop = let none = p.0 in absurd (omega arith)
     last-some s t (of_right (y ∷ ys)) answer ls rs p q stop =
-        let e = stops_at r answer q.0 stop in
-        let rest = all_given (map (λ y. right_alone y) ys) in
-        (q.1 ∙ found_or (found s) r e, (y, rest.0, (y ∷ [], rest.0, gives-itself r y e, rest.1, refl)))
-    last-some s t (of_both x y) answer ls rs p q stop = let e = stops_at both answer q.0 stop in (q.1 ∙ found_or (found s) both e, (x, [], (x ∷ [], [], gives-itself both x e, refl, refl)))
+        let e = stops-at r answer q.0 stop in
+        let rest = all-given (map (λ y. right_alone y) ys) in
+        (q.1 ∙ found-or (found s) r e, (y, rest.0, (y ∷ [], rest.0, gives-itself r y e, rest.1, refl)))
+    last-some s t (of_both x y) answer ls rs p q stop = let e = stops-at both answer q.0 stop in (q.1 ∙ found-or (found s) both e, (x, [], (x ∷ [], [], gives-itself both x e, refl, refl)))
 
     -- whether there is a witness
     Tells : Bool → List X → List X → Type 0
@@ -127,17 +127,17 @@ module _ {X : Type 0} (cmp : X → X → Ordering) (total : IsTotalOrder cmp) (l
 
     finished : (s t : M) → found s ≡ false → Finishes witness_allows (both_sides cmp) s t → Tells (found t) (left s) (right s)
     unfolding Tells
-    finished s t g w = let p = steps-none s t w.runs w.steps in subst (λ c. Tells c (left s) (right s)) (sym (p.0 ∙ g)) (none_given (left s) (right s) (events w.runs) w.script p.1)
+    finished s t g w = let p = steps-none s t w.runs w.steps in subst (λ c. Tells c (left s) (right s)) (sym (p.0 ∙ g)) (none-given (left s) (right s) (events w.runs) w.script p.1)
 
     stopped : (s t : M) (answer : Answer) → Stops witness_allows (both_sides cmp) s answer t → Tells (found t) (left s) (right s)
     unfolding Tells
     stopped s t answer w =
         let p = steps-none s w.before w.runs w.steps in
         let q = last-some w.before t w.last answer w.left_after w.right_after w.front w.allowed w.not_true in
-        let rest = all_given w.rest in
+        let rest = all-given w.rest in
         let until = gathers-append witness_at (events w.runs) (run_events w.last) [] (q.1.0 ∷ q.1.1) p.1 q.1.2 in
         let all = gathers-append witness_at (events w.runs ++ run_events w.last) w.rest (q.1.0 ∷ q.1.1) rest.0 until rest.1 in
-        subst (λ c. Tells c (left s) (right s)) (sym q.0) (some_given (left s) (right s) ((events w.runs ++ run_events w.last) ++ w.rest) q.1.0 (q.1.1 ++ rest.0) w.script all)
+        subst (λ c. Tells c (left s) (right s)) (sym q.0) (some-given (left s) (right s) ((events w.runs ++ run_events w.last) ++ w.rest) q.1.0 (q.1.1 ++ rest.0) w.script all)
 
     -- the merge tells whether there is a witness
     pub witnessed : (s t : M) (answer : Result (Unit {0}) AllocError) → found s ≡ false → IsMerged witness_allows (both_sides cmp) s answer t

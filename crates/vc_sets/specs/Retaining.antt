@@ -5,3 +5,7 @@ use Rattle.std.specs.Prelude.{◌≡◌, Bool, cond, Option, Some, None}
 abbrev pub IsAsked : {F X : Type 0} → (F → X → Bool → F → Type 0) → Option X → Option X → Type 0
 IsAsked {F} calls (Some x) kept = (before : F) × (after : F) × (answer : Bool) × calls before x answer after × (kept ≡ cond answer (Some x) None)
 IsAsked calls None kept = kept ≡ None
+
+-- each call of the test f answers as `test` does, and leaves f as it was
+abbrev pub AnswersAs : {F X : Type 0} → (F → X → Bool → F → Type 0) → F → (X → Bool) → Type 0
+AnswersAs {F} {X} calls f test = (x : X) (answer : Bool) (after : F) → calls f x answer after → (answer ≡ test x) × (after ≡ f)

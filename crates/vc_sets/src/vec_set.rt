@@ -1,5 +1,6 @@
 //! `VecSet`, a small set as an ascending list.
-ghost use Rattle.std.specs.Prelude.{◌≡◌, ◌<◌, ◌||◌, ◌↔◌, [], ◌==◌, List, not, cond, Some, length, IfOk, IsOk, OnErr, IsTrue};
+ghost use Rattle.std.specs.Prelude.{◌≡◌, ◌<◌, ◌||◌, ◌↔◌, [], ◌++◌, ◌==◌, List, not, cond, Some, length, vec_len, IfOk, IsOk, OnErr, IsTrue};
+ghost use Rattle.smallvec.specs.SmallVec.{HasRoomFor};
 ghost use Rattle.std.specs.Ordering.{eq_by_cmp};
 ghost use Rattle.vc_merge.specs.Ascending.{Ascends, member, element_at};
 ghost use Rattle.vc_sets.specs.Iterating.{Shows};
@@ -91,7 +92,8 @@ impl<T: Ord + MadeWith<A> + Drop, const N: usize, A: Allocator + Copy> VecSet<T,
         requires { Ascends T.cmp vec.items }
         ensures { IfOk result (λ s. s ≡ vec.items) }
     {
-        let elements = vec.into_iter().collect(alloc)?;
+        let mut elements = SmallVec::with_capacity(alloc, vec.len())?;
+        push_all(&mut elements, vec);
         Ok(VecSet { elements })
     }
 
@@ -121,6 +123,19 @@ impl<T: Ord + MadeWith<A> + Drop, const N: usize, A: Allocator + Copy> VecSet<T,
                 Ok(true)
             }
         }
+    }
+}
+
+/// Moves all elements of `vec` to the end of a list that has room for them.
+fn push_all<T: MadeWith<A> + Drop, const N: usize, A: Allocator + Copy>(
+    list: &mut SmallVec<T, N, A>,
+    vec: Vec<T>,
+)
+    requires { HasRoomFor list.old (vec_len vec) }
+    ensures { list.new.items ≡ list.old.items ++ vec.items }
+{
+    for element in vec {
+        list.push_reserved(element);
     }
 }
 
@@ -164,14 +179,16 @@ pub trait AbstractVecSet<T: Ord> {
         algebra::is_disjoint(self, that)
     }
 
-    /// Whether each element of this set is in the other. It stops at the first that is not, and takes no memory.
+    /// Whether each element of this set is in the other. It stops at the first that is not, and compares none where this set has more
+    /// elements. Takes no memory.
     final fn is_subset<S: AbstractVecSet<T>>(&self, that: &S) -> bool
         ensures { IsTrue result ↔ IsSubset T.cmp (elements self.now) (S.elements that.now) }
     {
         algebra::is_subset(self, that)
     }
 
-    /// Whether each element of the other set is in this one. It stops at the first that is not, and takes no memory.
+    /// Whether each element of the other set is in this one. It stops at the first that is not, and compares none where the other set has
+    /// more elements. Takes no memory.
     final fn is_superset<S: AbstractVecSet<T>>(&self, that: &S) -> bool
         ensures { IsTrue result ↔ IsSubset T.cmp (S.elements that.now) (elements self.now) }
     {

@@ -1,8 +1,9 @@
 //! A search for a witness: an element that stands on the left alone, on the right alone, or on both sides. It stops at the first one.
-ghost use Rattle.std.specs.Prelude.{◌≡◌, ◌+◌, ◌≤◌, ◌||◌, Ok, true, false, not, length, MatchBool};
+ghost use Rattle.std.specs.Prelude.{◌≡◌, ◌+◌, ◌≤◌, ◌||◌, ◌↔◌, Ok, true, false, not, length, IsTrue, MatchBool};
 ghost use Rattle.vc_merge.specs.Ascending.{Ascends, member};
 ghost use Rattle.vc_merge.specs.Count.{bound};
 ghost use Rattle.vc_sets.specs.Select.{both_sides, both_sides-total, keeps};
+ghost use Rattle.vc_sets.specs.Tests.{IsSubset};
 
 use crate::operations::compare;
 use std::alloc::AllocError;
@@ -94,4 +95,14 @@ pub fn has_witness<const LEFT: bool, const RIGHT: bool, const BOTH: bool, T: Ord
     let mut state = Witnesses { a, b, found: false };
     let _never_refused = merge(&mut state, &WitnessOp::<LEFT, RIGHT, BOTH>, steps);
     state.found
+}
+
+/// Whether each element of the left list is in the right one. A longer list is in no shorter one, which takes no comparison.
+pub fn is_within<T: Ord, C: Count>(a: &[T], b: &[T], steps: &mut C) -> bool
+    requires a_ascends { Ascends T.cmp a.now }
+    requires b_ascends { Ascends T.cmp b.now }
+    ensures within { IsTrue result ↔ IsSubset T.cmp a.now b.now }
+    ensures counted { C.counted steps.new ≤ C.counted steps.old + bound (length a.now) (length b.now) }
+{
+    a.len() <= b.len() && !has_witness::<true, false, false, _, _>(a, b, steps)
 }

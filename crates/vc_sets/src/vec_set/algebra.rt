@@ -8,12 +8,11 @@ ghost use Rattle.vc_sets.specs.Tests.{IsDisjoint, IsSubset};
 
 use crate::combine::combine;
 use crate::vec_set::{AbstractVecSet, VecSet};
-use crate::witness::has_witness;
+use crate::witness::{has_witness, is_within};
 use std::alloc::{AllocError, Allocator};
 use std::default::MadeWith;
 use std::ops::{BitAnd, BitOr, BitXor, Sub};
-use vc_merge::merge::Steps;
-use vc_merge::states::Uncounted;
+use vc_merge::merge::{Steps, Uncounted};
 
 /// An operation of two sets.
 #[derive(Clone, Copy)]
@@ -135,7 +134,7 @@ pub(crate) fn is_subset<T: Ord, S: AbstractVecSet<T>, U: AbstractVecSet<T>>(
 ) -> bool
     ensures { IsTrue result ↔ IsSubset T.cmp (S.elements this.now) (U.elements that.now) }
 {
-    !has_witness::<true, false, false, _, _>(this.as_slice(), that.as_slice(), &mut Uncounted)
+    is_within(this.as_slice(), that.as_slice(), &mut Uncounted)
 }
 
 /// Whether each element of the right set is in the left one.
@@ -145,7 +144,7 @@ pub(crate) fn is_superset<T: Ord, S: AbstractVecSet<T>, U: AbstractVecSet<T>>(
 ) -> bool
     ensures { IsTrue result ↔ IsSubset T.cmp (U.elements that.now) (S.elements this.now) }
 {
-    !has_witness::<false, true, false, _, _>(this.as_slice(), that.as_slice(), &mut Uncounted)
+    is_within(that.as_slice(), this.as_slice(), &mut Uncounted)
 }
 
 impl<T: Ord + Clone + MadeWith<A>, const N: usize, A: Allocator + Copy> VecSet<T, N, A> {
@@ -235,8 +234,8 @@ impl<T: Ord, const N: usize, A: Allocator> VecSet<T, N, A> {
         let (a, b) = (self.as_ref(), that.as_slice());
         match test {
             SetTest::Disjoint => !has_witness::<false, false, true, _, _>(a, b, steps),
-            SetTest::Subset => !has_witness::<true, false, false, _, _>(a, b, steps),
-            SetTest::Superset => !has_witness::<false, true, false, _, _>(a, b, steps),
+            SetTest::Subset => is_within(a, b, steps),
+            SetTest::Superset => is_within(b, a, steps),
         }
     }
 }

@@ -15,10 +15,9 @@ use std::alloc::{AllocError, Allocator};
 use std::default::MadeWith;
 use std::ops::{BitAndAssign, SubAssign};
 use vc_merge::iterators::SortedByItem;
-use vc_merge::merge::merge;
+use vc_merge::merge::{Uncounted, merge};
 use vc_merge::moving::SiftState;
 use vc_merge::parts::{PartsState, open_gap};
-use vc_merge::states::Uncounted;
 
 /// Moves what stands in the left list alone or, if `BOTH`, what stands in both, to the front of the left list. Answers how many they are.
 fn sift<const BOTH: bool, T: Ord>(list: &mut [T], that: &[T]) -> usize

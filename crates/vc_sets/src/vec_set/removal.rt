@@ -1,10 +1,10 @@
 //! Elements taken out of a set, and the list made smaller.
-ghost use Rattle.std.specs.Prelude.{◌≡◌, ◌≤◌, ◌&&◌, not, cond, None, IsOk, IsTrue, length, take};
+ghost use Rattle.std.specs.Prelude.{◌≡◌, ◌≤◌, ◌&&◌, not, cond, filter, Bool, None, IsOk, IsTrue, length, take};
 ghost use Rattle.std.specs.Fn.{CalledAt};
 ghost use Rattle.std.specs.List.Retain.{IsFiltered};
 ghost use Rattle.std.specs.Ordering.{eq_by_cmp};
 ghost use Rattle.vc_merge.specs.Ascending.{member, element_at};
-ghost use Rattle.vc_sets.specs.Retaining.{IsAsked};
+ghost use Rattle.vc_sets.specs.Retaining.{AnswersAs, IsAsked};
 
 use super::VecSet;
 use std::alloc::{AllocError, Allocator};
@@ -39,6 +39,9 @@ impl<T: Ord + MadeWith<A> + Drop, const N: usize, A: Allocator + Copy> VecSet<T,
         ensures filtered { IsFiltered (CalledAt F.FnMut) f self.old self.new }
         ensures kept { (x : T) → IsAsked (CalledAt F.FnMut) (element_at T.cmp self.old x) (element_at T.cmp self.new x) }
         ensures members { (x : T) → IsTrue (member T.cmp self.new x) → IsTrue (member T.cmp self.old x) }
+
+        // By a plain test, which answers as a function does, all that passes stays, and nothing else.
+        ensures plain { (test : T → Bool) → AnswersAs (CalledAt F.FnMut) f test → self.new ≡ filter test self.old }
     {
         let kept = keep_in_front(self.elements.as_mut_slice(), f);
         self.elements.truncate(kept);

@@ -1,4 +1,4 @@
-use Rattle.std.proofs.Common.{◌<◌, arith}
+use Rattle.std.proofs.Common.{arith}
 use Rattle.vc_merge.proofs.PlaceLemmas.{place-searched}
 use Rattle.vc_merge.proofs.search.search.Goals as goal
 

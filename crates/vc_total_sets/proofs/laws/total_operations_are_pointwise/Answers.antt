@@ -1,8 +1,8 @@
-use Rattle.vc_total_sets.proofs.OneTotal.{all_pointwise, fresh_listed, moved_listed}
+use Rattle.vc_total_sets.proofs.OneTotal.{all-pointwise, fresh-listed, moved-listed}
 use Rattle.vc_total_sets.proofs.laws.total_operations_are_pointwise.Goals as goal
 
 pub returns-clause-fresh : goal.returns-clause-fresh
-returns-clause-fresh g c = all_pointwise g.T.Ord.cmp _ (fresh_listed g.T.Ord.cmp _)
+returns-clause-fresh g c = all-pointwise g.T.Ord.cmp _ (fresh-listed g.T.Ord.cmp _)
 
 pub returns-clause-moved : goal.returns-clause-moved
-returns-clause-moved g c = all_pointwise g.T.Ord.cmp _ (moved_listed g.T.Ord.cmp)
+returns-clause-moved g c = all-pointwise g.T.Ord.cmp _ (moved-listed g.T.Ord.cmp)

@@ -1,6 +1,6 @@
 use Rattle.std.proofs.Common.{take, refl}
 use Rattle.vc_merge.specs.PartsViews.{built_items, left_items}
-use Rattle.vc_merge.proofs.ClonesLemmas.{Extends-same}
+use Rattle.vc_merge.proofs.Extending.{extends-same}
 use Rattle.vc_merge.proofs.parts.PartsStateMergeStateMut.advance_a.Goals as goal
 
 pub returns-then-take-clause-gives : goal.returns-then-take-clause-gives
@@ -11,6 +11,6 @@ returns-then-take-clause-gives g c =
       (
         refl,
         c.take_left.ensures.name,
-        Extends-same (take c.args.n (left_items s)) (built_items s) (built_items c.take_left.new.self) c.take_left.ensures.built,
+        extends-same (take c.args.n (left_items s)) (built_items s) (built_items c.take_left.new.self) c.take_left.ensures.built,
       ),
     )

@@ -1,4 +1,4 @@
-use Rattle.std.proofs.Common.{ap, sym, ◌∙◌}
+use Rattle.std.proofs.Common.{ap, ◌∙◌}
 use Rattle.vc_merge.specs.Ascending.{member}
 use Rattle.vc_sets.proofs.Searching.{place-is_ok}
 use Rattle.vc_sets.proofs.vec_set.AbstractVecSet.contains.Goals as goal

@@ -1,4 +1,4 @@
-use Rattle.std.proofs.Common.{sym, ap, subst, ◌∙◌, ◌≡◌, length, arith, Ok, Err, Some, cond, true, not, set, is_ok, ℕ, List}
+use Rattle.std.proofs.Common.{sym, ap, subst, ◌∙◌, ◌≡◌, length, arith, Some, cond, true, not, set, is_ok, ℕ, List}
 use Rattle.std.specs.Ordering.{eq_by_cmp}
 use mathlib.Core.Bool.{true≢false}
 use Rattle.std.proofs.lemmas.List.{length-set}

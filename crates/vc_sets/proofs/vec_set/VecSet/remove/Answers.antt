@@ -1,4 +1,4 @@
-use Rattle.std.proofs.Common.{ap, sym, subst, ◌∙◌, Ok, Err, cond, None}
+use Rattle.std.proofs.Common.{ap, sym, subst, ◌∙◌, Err, cond, None}
 use Rattle.std.specs.Ordering.{eq_by_cmp}
 use Rattle.vc_merge.specs.Ascending.{member, element_at}
 use Rattle.vc_merge.specs.Place.{IsFound, IsGap}

@@ -1,5 +1,6 @@
 use Rattle.std.proofs.Common.{◌∙◌, length, take, sym, ap, subst}
 use Rattle.std.specs.Fn.{CalledAt}
+use Rattle.std.proofs.lemmas.Fn.{filter_same}
 use Rattle.std.specs.List.Retain.{IsFiltered}
 use Rattle.vc_merge.specs.Ascending.{Ascends}
 use Rattle.vc_sets.proofs.Removing.{ascends-chosen}
@@ -24,3 +25,6 @@ returns-clause-kept g c =
 
 pub returns-clause-members : goal.returns-clause-members
 returns-clause-members g c = λ x. asked-member g.T.Ord.cmp g.met.T.Ord.total (CalledAt g.F.FnMut) _ _ x (returns-clause-kept g c x)
+
+pub returns-clause-plain : goal.returns-clause-plain
+returns-clause-plain g c = λ test h. filter_same (CalledAt g.F.FnMut) test c.args.f h _ _ (returns-clause-filtered g c)
