@@ -232,7 +232,7 @@ impl<'b, T: Clone + Drop, A: Allocator> MergeFromRight for InPlaceState<'b, T, A
 }
 
 /// Drops the last `n` elements.
-fn drop_last<T: Drop, A: Allocator>(list: &mut Vec<T, A>, n: usize)
+pub fn drop_last<T: Drop, A: Allocator>(list: &mut Vec<T, A>, n: usize)
     requires { n ≤ vec_len list.old }
     ensures { reverse list.new.items ≡ drop n (reverse list.old.items) }
 {
