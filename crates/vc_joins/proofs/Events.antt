@@ -90,7 +90,7 @@ module _ {K : Type 0} {cmp : K → K → Ordering} (total : IsTotalOrder cmp) wh
     rights-above x (collision q r ∷ es) m p = (below-alike x q.0 r.0 m.0 p.0, rights-above x es m.1 p.1)
 
     module _ {X : Type 0} (kind : JoinKind) (spelled : K → K → K) (alike : (j k : K) → cmp j k ≡ Equal → cmp j (spelled j k) ≡ Equal)
-        (May : OuterJoinArg K V W → Option X → Type 0) (Keeps : OuterJoinArg K V W → K → Type 0) (kept : (a : OuterJoinArg K V W) (k : K) → Keeps a k → cmp (shown_key a) k ≡ Equal) where
+        (May : OuterJoinArg K V W → Option X → Type 0) (Keeps : OuterJoinArg K V W → K → Type 0) (kept : (a : OuterJoinArg K V W) (k : K) → asks kind a ≡ true → Keeps a k → cmp (shown_key a) k ≡ Equal) where
       -- ---- one event
 
       -- the question of an event shows a key that is equal to its own
@@ -99,10 +99,10 @@ module _ {K : Type 0} {cmp : K → K → Ordering} (total : IsTotalOrder cmp) wh
       shown-alike (right_alone q) m y = refl
       shown-alike (collision p q) m y = sym (total.congr p.0 (spelled p.0 q.0) y (alike p.0 q.0 m))
 
-      answer-key : (a : OuterJoinArg K V W) (b : Bool) (z : Option (K × X)) → IsAnswered May Keeps (cond b (Some a) None) z → IsAtKey cmp (shown_key a) z
-      answer-key a b None h = tt
-      answer-key a true (Some p) h = kept a p.0 h.1
-      answer-key a false (Some p) h = let none : Some p ≡ None = h in cc
+      answer-key : (a : OuterJoinArg K V W) (b : Bool) (z : Option (K × X)) → asks kind a ≡ b → IsAnswered May Keeps (cond b (Some a) None) z → IsAtKey cmp (shown_key a) z
+      answer-key a b None q h = tt
+      answer-key a true (Some p) q h = kept a p.0 q h.1
+      answer-key a false (Some p) q h = let none : Some p ≡ None = h in cc
 
       moved : (x y : K) (z : Option (K × X)) → ((w : K) → cmp x w ≡ cmp y w) → IsAtKey cmp x z → IsAtKey cmp y z
       moved x y None f h = tt
@@ -112,7 +112,7 @@ module _ {K : Type 0} {cmp : K → K → Ordering} (total : IsTotalOrder cmp) wh
       added-key : (e : Event (K × V) (K × W)) (z : Option (K × X)) → IsMatched (by_key cmp) e → IsAnswered May Keeps (if_asked kind (question_of spelled e)) z → IsAtKey cmp (event_key e) z
       added-key e z m h =
           let a = question_of spelled e in
-          moved (shown_key a) (event_key e) z (shown-alike e m) (answer-key a (asks kind a) z h)
+          moved (shown_key a) (event_key e) z (shown-alike e m) (answer-key a (asks kind a) z refl h)
 
       -- what is asked at the key of the first event is its question
       asked-here : (k : K) (e : Event (K × V) (K × W)) (es : List (Event (K × V) (K × W))) → is_at (cmp k) (event_key e) ≡ true → AllByRecursion (λ d. cmp (event_key e) (event_key d) ≡ Less) es → AllByRecursion (IsMatched (by_key cmp)) (e ∷ es)

@@ -4,5 +4,6 @@
 #![tactic(auto)]
 
 pub mod answers;
+pub mod in_place;
 pub mod laws;
 pub mod question;

@@ -132,7 +132,7 @@ module _ {K V W : Type 0} (cmp : K → K → Ordering) (total : IsTotalOrder cmp
 
   -- what may be asked at each key may be asked along the script
   pub can-ask : (xs : List (K × V)) (ys : List (K × W)) → ((a : OuterJoinArg K V W) → IsAsked cmp kind left_spelling xs ys a → Takes a) → CanAsk cmp kind Takes xs ys
-  can-ask xs ys h = record { each = λ es s. events-asked total {X = Unit {0}} kind left_spelling (λ i j e. tied_itself total i) (λ a r. Unit {0}) (λ a k. cmp (shown_key a) k ≡ Equal) (λ a k e. e) Takes xs ys es s h }
+  can-ask xs ys h = record { each = λ es s. events-asked total {X = Unit {0}} kind left_spelling (λ i j e. tied_itself total i) (λ a r. Unit {0}) (λ a k. cmp (shown_key a) k ≡ Equal) (λ a k i e. e) Takes xs ys es s h }
 
 -- both lists ascend in the order of their keys
 pub both-ascend : {K V W : Type 0} (cmp : K → K → Ordering) (xs : List (K × V)) (ys : List (K × W)) → AscendsByKey cmp xs → AscendsByKey cmp ys → BothAscend (by_key cmp) xs ys

@@ -15,7 +15,7 @@ use Rattle.vc_joins.specs.declared.question.OuterJoinArg.TheVariants.{Left, Righ
 use Rattle.vc_joins.specs.declared.question.JoinKind.{JoinKind}
 use Rattle.vc_joins.specs.Events.{by_key, AnswerAdds, AnswersEvent}
 use Rattle.vc_joins.specs.Join.{IsJoin}
-use Rattle.vc_joins.specs.Question.{asks_left, asks_right, left_spelling, shown_key}
+use Rattle.vc_joins.specs.Question.{asks, asks_left, asks_right, left_spelling, shown_key}
 use Rattle.vc_joins.proofs.Events.{join-built}
 use Rattle.vc_maps.specs.Asking.{AtHeads}
 
@@ -108,7 +108,7 @@ module _ {K V W X M N : Type 0} (May : OuterJoinArg K V W → Option X → Type 
   }
 
   -- such a merge that is not refused leaves the join, where keys are kept in equal spellings
-  pub merged-join : {cmp : K → K → Ordering} → IsTotalOrder cmp → ((a : OuterJoinArg K V W) (k : K) → Keeps a k → cmp (shown_key a) k ≡ Equal) → IsAsking
+  pub merged-join : {cmp : K → K → Ordering} → IsTotalOrder cmp → ((a : OuterJoinArg K V W) (k : K) → asks kind a ≡ true → Keeps a k → cmp (shown_key a) k ≡ Equal) → IsAsking
       → (s t : M) (xs : List (K × V)) (ys : List (K × W)) (zs : List (K × X)) → op.left s ≡ xs → op.right s ≡ ys → built s ≡ [] → (name t ≡ name s → zs ≡ built t)
       → Finishes op (by_key cmp) s t ⊎ Stops op (by_key cmp) s (Ok false) t → IsJoin cmp kind left_spelling xs ys May Keeps zs
   merged-join {cmp} total kept is s t xs ys zs l r e k m =

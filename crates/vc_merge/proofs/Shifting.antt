@@ -1,6 +1,6 @@
 -- Elements that move within a list, and what a merge of two parts of a list shows of them.
-use Rattle.std.proofs.Common.{◌≡◌, ℕ, ◌+◌, ◌-◌, ◌≤◌, List, ◌++◌, length, take, drop, sym, ap, ◌∙◌, arith, rules, drop-drop}
-use Rattle.std.proofs.lemmas.List.{same_lists, places}
+use Rattle.std.proofs.Common.{◌≡◌, ℕ, zero, suc, ◌+◌, ◌-◌, ◌≤◌, List, ◌∷◌, ◌++◌, length, take, drop, set, refl, sym, ap, ◌∙◌, arith, rules, drop-drop}
+use Rattle.std.proofs.lemmas.List.{same_lists, places, drop-set-add, take-set-le}
 use borrow.Rule.Slice.PartMut.{put_mid}
 use Rattle.vc_merge.specs.MovesDown.{MovesDown}
 use Rattle.vc_merge.specs.Shifts.{MovesUp, Turns, Trades}
@@ -107,3 +107,25 @@ module _ {X : Type 0} where
             sym (part-part ys (b + n) (next + n) (s + n) (e + n) low order high)
             ∙ ap (λ l. take (e + n - (s + n)) (drop (s + n - (b + n)) l)) turned.moved
             ∙ (λ i. take (same i) (drop (from i) (take (next - b) (drop b xs)))) ∙ part-part xs b next s e hole left gap
+
+  -- ---- an element written over the first one of a part
+
+  pub first-of : (n : ℕ) (ys zs : List X) (x : X) → ys ≡ x ∷ zs → 1 ≤ n → take n ys ≡ x ∷ drop 1 (take n ys)
+  first-of zero ys zs x e h = absurd (omega arith)
+  first-of (suc n) ys zs x e h = rw e refl
+
+  pub first-over : (n : ℕ) (ys ws zs : List X) (x y : X) → ys ≡ x ∷ zs → ws ≡ y ∷ zs → 1 ≤ n → take n ws ≡ y ∷ drop 1 (take n ys)
+  first-over zero ys ws zs x y e f h = absurd (omega arith)
+  first-over (suc n) ys ws zs x y e f h = rw (e, f) refl
+
+  pub first-on : (ys zs : List X) (x : X) → ys ≡ x ∷ zs → ys ≡ x ∷ drop 1 ys
+  first-on ys zs x e = rw e refl
+
+  pub rest-over : (ws ys zs : List X) (x y : X) → ys ≡ x ∷ zs → ws ≡ y ∷ zs → ws ≡ y ∷ drop 1 ys
+  rest-over ws ys zs x y e f = rw (e, f) refl
+
+  -- a part before the place
+  pub part-before : (xs : List X) (s e i : ℕ) (x : X) → s ≤ i → e ≤ i → take (e - s) (drop s (set xs i x)) ≡ take (e - s) (drop s xs)
+  part-before xs s e i x h k =
+      let at : s + (i - s) ≡ i = omega arith in
+      ap (λ j. take (e - s) (drop s (set xs j x))) (sym at) ∙ ap (take (e - s)) (drop-set-add s xs (i - s) x) ∙ take-set-le (e - s) (drop s xs) (i - s) x (omega arith)

@@ -1,5 +1,5 @@
 //! The state of a merge of two parts of one list, in the places of that list.
-ghost use Rattle.std.specs.Prelude.{◌≡◌, ◌+◌, ◌-◌, ◌≤◌, true, [], ◌++◌, IsOk, OnOk, OnErr, length, take, drop};
+ghost use Rattle.std.specs.Prelude.{◌≡◌, ◌+◌, ◌-◌, ◌<◌, ◌≤◌, true, [], ◌∷◌, ◌++◌, IsOk, OnOk, OnErr, length, take, drop, slice_set};
 ghost use Rattle.smallvec.specs.SmallVec.{small_vec_len, HasRoomFor};
 ghost use Rattle.vc_merge.specs.Building.{Advances, Skips};
 ghost use Rattle.vc_merge.specs.MovesDown.{MovesDown};
@@ -10,6 +10,7 @@ use crate::moving::move_down;
 use smallvec::SmallVec;
 use std::alloc::{AllocError, Allocator};
 use std::default::MadeWith;
+use std::mem;
 
 /// The most elements that lie between two parts: enough that what is left of the left part seldom moves.
 const LONGEST_GAP: usize = 64;
@@ -63,6 +64,24 @@ impl<'a, T> PartsState<'a, T> {
         ensures first { take result (lent_list self.now).now ≡ built_items self.now }
     {
         self.built
+    }
+
+    /// Puts `value` in the place of the first element that is left of the left part, and hands that out.
+    pub fn replace_left(&mut self, value: T) -> T
+        requires { 0 < length (left_items self.old) }
+        ensures first { left_items self.old ≡ result ∷ drop 1 (left_items self.old) }
+        ensures others { Shows (list_name self.old) (built_items self.old) (value ∷ drop 1 (left_items self.old)) (right_items self.old) self.new }
+    {
+        replace_at(self.list, self.start, value)
+    }
+
+    /// Puts `value` in the place of the first element that is left of the right part, and hands that out.
+    pub fn replace_right(&mut self, value: T) -> T
+        requires { 0 < length (right_items self.old) }
+        ensures first { right_items self.old ≡ result ∷ drop 1 (right_items self.old) }
+        ensures others { Shows (list_name self.old) (built_items self.old) (left_items self.old) (value ∷ drop 1 (right_items self.old)) self.new }
+    {
+        replace_at(self.list, self.next, value)
     }
 
     /// Moves the first `n` elements that are left of the left part to the end of what is built.
@@ -268,4 +287,13 @@ fn trade_runs<T>(list: &mut [T], at: usize, next: usize, n: usize)
 {
     let (front, back) = list.split_at_mut(next);
     front[at..at + n].swap_with_slice(&mut back[..n]);
+}
+
+/// Puts `value` at a place, and hands out what stood there.
+fn replace_at<T>(list: &mut [T], at: usize, value: T) -> T
+    requires { at < length list.old }
+    ensures old { drop at list.old ≡ result ∷ drop (at + 1) list.old }
+    ensures new { list.new ≡ slice_set list.old at value }
+{
+    mem::replace(&mut list[at], value)
 }

@@ -11,7 +11,7 @@ mod comparisons;
 pub mod conversions;
 mod in_place;
 mod iteration;
-mod removal;
+pub mod removal;
 
 pub use algebra::{SetOp, SetTest, difference, intersection, symmetric_difference, union};
 use iteration::elements_of;

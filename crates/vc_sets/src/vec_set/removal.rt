@@ -59,7 +59,7 @@ impl<T: Ord + MadeWith<A> + Drop, const N: usize, A: Allocator + Copy> VecSet<T,
 }
 
 /// Moves the elements at which `f` answers true to the front, in their order, and answers how many these are.
-fn keep_in_front<T, F: FnMut(&T) -> bool>(list: &mut [T], mut f: F) -> usize
+pub fn keep_in_front<T, F: FnMut(&T) -> bool>(list: &mut [T], mut f: F) -> usize
     requires { F.IsAlwaysCallable f }
     ensures within { result ≤ length list.new }
     ensures kept { IsFiltered (CalledAt F.FnMut) f list.old (take result list.new) }
