@@ -1,2 +1,4 @@
 mod Entering
 mod Asking
+mod Staying
+mod Giving
