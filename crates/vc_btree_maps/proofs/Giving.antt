@@ -1,5 +1,5 @@
 -- The outer join in place: what is given at the keys of the other map alone, and what then stays of the values that were there.
-use Rattle.std.proofs.Common.{◌≡◌, ℕ, zero, suc, ◌+◌, ◌<◌, length, get_or, add-one, arith, Bool, true, false, cond, List, [], ◌∷◌, ◌++◌, take, drop, map, append-nil, Option, Some, None, is_some, IsSomeAnd, Result, Ok, Err, OnErr, OnOk, refl, sym, ap, subst, ◌∙◌}
+use Rattle.std.proofs.Common.{◌≡◌, ℕ, zero, suc, ◌+◌, ◌<◌, length, get_or, add-one, arith, Bool, true, false, cond, List, [], ◌∷◌, ◌++◌, take, drop, map, append-nil, Option, Some, None, is_some, IsSomeAnd, Result, Ok, Err, OnErr, refl, sym, ap, subst, ◌∙◌}
 use Rattle.std.proofs.lemmas.List.{map-append}
 use Rattle.std.specs.Cmp.{IsTotalOrder, tied_itself}
 use Rattle.std.specs.List.{AllByRecursion, filter}
@@ -12,12 +12,11 @@ use Rattle.std.specs.declared.cmp.Ordering.{Ordering}
 use Rattle.std.specs.declared.cmp.Ordering.TheVariants.{Less, Equal}
 use Rattle.vc_joins.specs.declared.question.OuterJoinArg.{OuterJoinArg}
 use Rattle.vc_joins.specs.declared.question.OuterJoinArg.TheVariants.{Left, Right, Both}
-use Rattle.vc_joins.specs.declared.question.JoinKind.{JoinKind}
 use Rattle.vc_joins.specs.declared.question.JoinKind.TheVariants as kind
 use Rattle.vc_joins.specs.Entries.{AscendsByKey, entry_at, value_at}
-use Rattle.vc_joins.specs.Join.{IsAnswered, IsAsked, IsJoin, IsJoinBy, MovedKey}
+use Rattle.vc_joins.specs.Join.{IsAnswered, IsAsked, IsJoin, MovedKey}
 use Rattle.vc_joins.specs.Question.{asked, left_spelling, right_spelling}
-use Rattle.vc_joins.proofs.Functions.{value-entry, joins_of_functions}
+use Rattle.vc_joins.proofs.Functions.{value-entry}
 use Rattle.std.specs.Map.Iter.{deref_pair}
 use denote.Ref.{Bor}
 use Rattle.vc_btree_maps.specs.Keeping.{at_pair, AtAlone, OrSharedStays, OrGives, StayedOrCloned, IsGrown}
@@ -190,13 +189,6 @@ module _ {K V W : Type 0} (cmp : K → K → Ordering) (total : IsTotalOrder cmp
         ap (map deref_pair) pushed ∙ map-append deref_pair shared ((key, other) ∷ []) ∙ ap (λ l. l ++ (key.now, other.now) ∷ []) is
             ∙ sym (shared_more cmp total old front (key.now, other.now) true (ap is_some (sym as_before) ∙ some)),
       )
-
--- a join of a closure with one answer, after a success
-pub function_after : {A E K V W : Type 0} (r : Result A E) (cmp : K → K → Ordering) (join : JoinKind) (spelled : K → K → K) (xs : List (K × V)) (ys : List (K × W)) (zs : List (K × V))
-    (May : OuterJoinArg K V W → Option V → Type 0) (Keeps : OuterJoinArg K V W → K → Type 0) → OnOk r (IsJoin cmp join spelled xs ys May Keeps zs)
-    → OnOk r ((h : OuterJoinArg K V W → Option V) → IsJoinBy cmp join spelled xs ys May h zs)
-function_after (Ok x) cmp join spelled xs ys zs May Keeps j = joins_of_functions cmp May Keeps join spelled xs ys zs j
-function_after (Err e) cmp join spelled xs ys zs May Keeps j = j
 
 -- what holds anyway holds after an error
 pub after_error : {A E : Type 0} {P : Type 0} (r : Result A E) → P → OnErr r P

@@ -2,3 +2,4 @@ mod Entering
 mod Asking
 mod Staying
 mod Giving
+mod OneAnswer

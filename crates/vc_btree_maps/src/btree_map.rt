@@ -44,7 +44,7 @@ pub trait AbstractBTreeMap<K: Ord, V> {
     ghost use Rattle.std.specs.Option.{option_copied};
     ghost use Rattle.vc_joins.specs.Answers.{seen, seen_left, seen_right, seen_inner, MayAnswer, MayAnswerLeft, MayAnswerRight, MayAnswerInner};
     ghost use Rattle.vc_joins.specs.Entries.{AscendsByKey, value_at};
-    ghost use Rattle.vc_joins.specs.Join.{IsAsked, IsJoin};
+    ghost use Rattle.vc_joins.specs.Join.{IsAsked, IsJoin, IsJoinBy};
     ghost use Rattle.vc_joins.specs.Question.{left_spelling, right_spelling, shown_key};
     ghost use Rattle.vc_joins.specs.declared.question.JoinKind.TheVariants as kind;
     ghost use Rattle.vc_sets.specs.SetOf.{ClonesAreEqual};
@@ -74,7 +74,8 @@ pub trait AbstractBTreeMap<K: Ord, V> {
         K: Clone + Drop,
         requires clones { ClonesAreEqual K.cmp K.is_clone }
         requires callable { (a : _) → IsAsked K.cmp kind.Outer left_spelling (pairs self.now) (M.pairs that.now) a → (shown : _) → seen shown ≡ a → F.pre f shown }
-        ensures { IfOk result (λ m. IsJoin K.cmp kind.Outer left_spelling (pairs self.now) (M.pairs that.now) (λ a r. MayAnswer F.Fn f a (Ok r)) (λ a. K.is_clone (shown_key a)) m.entries) }
+        ensures joins { IfOk result (λ m. IsJoin K.cmp kind.Outer left_spelling (pairs self.now) (M.pairs that.now) (λ a r. MayAnswer F.Fn f a (Ok r)) (λ a. K.is_clone (shown_key a)) m.entries) }
+        ensures function { IfOk result (λ m. (h : _) → IsJoinBy K.cmp kind.Outer left_spelling (pairs self.now) (M.pairs that.now) (λ a r. MayAnswer F.Fn f a (Ok r)) h m.entries) }
     {
         fresh::join_outer(alloc, self, that, &AskOuter(&f))
     }
@@ -93,7 +94,8 @@ pub trait AbstractBTreeMap<K: Ord, V> {
         K: Clone + Drop,
         requires clones { ClonesAreEqual K.cmp K.is_clone }
         requires callable { (a : _) → IsAsked K.cmp kind.Left left_spelling (pairs self.now) (M.pairs that.now) a → (k : _) (v : _) (w : _) → seen_left k v w ≡ a → F.pre f k v w }
-        ensures { IfOk result (λ m. IsJoin K.cmp kind.Left left_spelling (pairs self.now) (M.pairs that.now) (λ a r. MayAnswerLeft F.Fn f a (Ok r)) (λ a. K.is_clone (shown_key a)) m.entries) }
+        ensures joins { IfOk result (λ m. IsJoin K.cmp kind.Left left_spelling (pairs self.now) (M.pairs that.now) (λ a r. MayAnswerLeft F.Fn f a (Ok r)) (λ a. K.is_clone (shown_key a)) m.entries) }
+        ensures function { IfOk result (λ m. (h : _) → IsJoinBy K.cmp kind.Left left_spelling (pairs self.now) (M.pairs that.now) (λ a r. MayAnswerLeft F.Fn f a (Ok r)) h m.entries) }
     {
         fresh::join_left(alloc, self, that, &AskLeft(&f))
     }
@@ -112,7 +114,8 @@ pub trait AbstractBTreeMap<K: Ord, V> {
         K: Clone + Drop,
         requires clones { ClonesAreEqual K.cmp K.is_clone }
         requires callable { (a : _) → IsAsked K.cmp kind.Right right_spelling (pairs self.now) (M.pairs that.now) a → (k : _) (v : _) (w : _) → seen_right k v w ≡ a → F.pre f k v w }
-        ensures { IfOk result (λ m. IsJoin K.cmp kind.Right right_spelling (pairs self.now) (M.pairs that.now) (λ a r. MayAnswerRight F.Fn f a (Ok r)) (λ a. K.is_clone (shown_key a)) m.entries) }
+        ensures joins { IfOk result (λ m. IsJoin K.cmp kind.Right right_spelling (pairs self.now) (M.pairs that.now) (λ a r. MayAnswerRight F.Fn f a (Ok r)) (λ a. K.is_clone (shown_key a)) m.entries) }
+        ensures function { IfOk result (λ m. (h : _) → IsJoinBy K.cmp kind.Right right_spelling (pairs self.now) (M.pairs that.now) (λ a r. MayAnswerRight F.Fn f a (Ok r)) h m.entries) }
     {
         fresh::join_right(alloc, self, that, &AskRight(&f))
     }
@@ -131,7 +134,8 @@ pub trait AbstractBTreeMap<K: Ord, V> {
         K: Clone + Drop,
         requires clones { ClonesAreEqual K.cmp K.is_clone }
         requires callable { (a : _) → IsAsked K.cmp kind.Inner right_spelling (pairs self.now) (M.pairs that.now) a → (k : _) (v : _) (w : _) → seen_inner k v w ≡ a → F.pre f k v w }
-        ensures { IfOk result (λ m. IsJoin K.cmp kind.Inner right_spelling (pairs self.now) (M.pairs that.now) (λ a r. MayAnswerInner F.Fn f a (Ok r)) (λ a. K.is_clone (shown_key a)) m.entries) }
+        ensures joins { IfOk result (λ m. IsJoin K.cmp kind.Inner right_spelling (pairs self.now) (M.pairs that.now) (λ a r. MayAnswerInner F.Fn f a (Ok r)) (λ a. K.is_clone (shown_key a)) m.entries) }
+        ensures function { IfOk result (λ m. (h : _) → IsJoinBy K.cmp kind.Inner right_spelling (pairs self.now) (M.pairs that.now) (λ a r. MayAnswerInner F.Fn f a (Ok r)) h m.entries) }
     {
         fresh::join_inner(alloc, self, that, &AskInner(&f))
     }
