@@ -1,2 +1,5 @@
 mod Entering
 mod Asking
+mod Staying
+mod Giving
+mod OneAnswer

@@ -1,2 +1,4 @@
+pub mod Keeping
 pub mod Pairs
 pub mod Putting
+pub mod Stages

@@ -1,7 +1,10 @@
 //! Joins of maps that build a `BTreeMap`.
 
 mod fresh;
+mod in_place;
+mod keep;
 
+use keep::{KeepLeft, KeepShared};
 use std::alloc::{AllocError, Global};
 use std::collections::{BTreeMap, btree_map};
 use vc_joins::answers::{AskInner, AskLeft, AskOuter, AskRight};
@@ -41,7 +44,7 @@ pub trait AbstractBTreeMap<K: Ord, V> {
     ghost use Rattle.std.specs.Option.{option_copied};
     ghost use Rattle.vc_joins.specs.Answers.{seen, seen_left, seen_right, seen_inner, MayAnswer, MayAnswerLeft, MayAnswerRight, MayAnswerInner};
     ghost use Rattle.vc_joins.specs.Entries.{AscendsByKey, value_at};
-    ghost use Rattle.vc_joins.specs.Join.{IsAsked, IsJoin};
+    ghost use Rattle.vc_joins.specs.Join.{IsAsked, IsJoin, IsJoinBy};
     ghost use Rattle.vc_joins.specs.Question.{left_spelling, right_spelling, shown_key};
     ghost use Rattle.vc_joins.specs.declared.question.JoinKind.TheVariants as kind;
     ghost use Rattle.vc_sets.specs.SetOf.{ClonesAreEqual};
@@ -71,7 +74,8 @@ pub trait AbstractBTreeMap<K: Ord, V> {
         K: Clone + Drop,
         requires clones { ClonesAreEqual K.cmp K.is_clone }
         requires callable { (a : _) → IsAsked K.cmp kind.Outer left_spelling (pairs self.now) (M.pairs that.now) a → (shown : _) → seen shown ≡ a → F.pre f shown }
-        ensures { IfOk result (λ m. IsJoin K.cmp kind.Outer left_spelling (pairs self.now) (M.pairs that.now) (λ a r. MayAnswer F.Fn f a (Ok r)) (λ a. K.is_clone (shown_key a)) m.entries) }
+        ensures joins { IfOk result (λ m. IsJoin K.cmp kind.Outer left_spelling (pairs self.now) (M.pairs that.now) (λ a r. MayAnswer F.Fn f a (Ok r)) (λ a. K.is_clone (shown_key a)) m.entries) }
+        ensures function { IfOk result (λ m. (h : _) → IsJoinBy K.cmp kind.Outer left_spelling (pairs self.now) (M.pairs that.now) (λ a r. MayAnswer F.Fn f a (Ok r)) h m.entries) }
     {
         fresh::join_outer(alloc, self, that, &AskOuter(&f))
     }
@@ -90,7 +94,8 @@ pub trait AbstractBTreeMap<K: Ord, V> {
         K: Clone + Drop,
         requires clones { ClonesAreEqual K.cmp K.is_clone }
         requires callable { (a : _) → IsAsked K.cmp kind.Left left_spelling (pairs self.now) (M.pairs that.now) a → (k : _) (v : _) (w : _) → seen_left k v w ≡ a → F.pre f k v w }
-        ensures { IfOk result (λ m. IsJoin K.cmp kind.Left left_spelling (pairs self.now) (M.pairs that.now) (λ a r. MayAnswerLeft F.Fn f a (Ok r)) (λ a. K.is_clone (shown_key a)) m.entries) }
+        ensures joins { IfOk result (λ m. IsJoin K.cmp kind.Left left_spelling (pairs self.now) (M.pairs that.now) (λ a r. MayAnswerLeft F.Fn f a (Ok r)) (λ a. K.is_clone (shown_key a)) m.entries) }
+        ensures function { IfOk result (λ m. (h : _) → IsJoinBy K.cmp kind.Left left_spelling (pairs self.now) (M.pairs that.now) (λ a r. MayAnswerLeft F.Fn f a (Ok r)) h m.entries) }
     {
         fresh::join_left(alloc, self, that, &AskLeft(&f))
     }
@@ -109,7 +114,8 @@ pub trait AbstractBTreeMap<K: Ord, V> {
         K: Clone + Drop,
         requires clones { ClonesAreEqual K.cmp K.is_clone }
         requires callable { (a : _) → IsAsked K.cmp kind.Right right_spelling (pairs self.now) (M.pairs that.now) a → (k : _) (v : _) (w : _) → seen_right k v w ≡ a → F.pre f k v w }
-        ensures { IfOk result (λ m. IsJoin K.cmp kind.Right right_spelling (pairs self.now) (M.pairs that.now) (λ a r. MayAnswerRight F.Fn f a (Ok r)) (λ a. K.is_clone (shown_key a)) m.entries) }
+        ensures joins { IfOk result (λ m. IsJoin K.cmp kind.Right right_spelling (pairs self.now) (M.pairs that.now) (λ a r. MayAnswerRight F.Fn f a (Ok r)) (λ a. K.is_clone (shown_key a)) m.entries) }
+        ensures function { IfOk result (λ m. (h : _) → IsJoinBy K.cmp kind.Right right_spelling (pairs self.now) (M.pairs that.now) (λ a r. MayAnswerRight F.Fn f a (Ok r)) h m.entries) }
     {
         fresh::join_right(alloc, self, that, &AskRight(&f))
     }
@@ -128,7 +134,8 @@ pub trait AbstractBTreeMap<K: Ord, V> {
         K: Clone + Drop,
         requires clones { ClonesAreEqual K.cmp K.is_clone }
         requires callable { (a : _) → IsAsked K.cmp kind.Inner right_spelling (pairs self.now) (M.pairs that.now) a → (k : _) (v : _) (w : _) → seen_inner k v w ≡ a → F.pre f k v w }
-        ensures { IfOk result (λ m. IsJoin K.cmp kind.Inner right_spelling (pairs self.now) (M.pairs that.now) (λ a r. MayAnswerInner F.Fn f a (Ok r)) (λ a. K.is_clone (shown_key a)) m.entries) }
+        ensures joins { IfOk result (λ m. IsJoin K.cmp kind.Inner right_spelling (pairs self.now) (M.pairs that.now) (λ a r. MayAnswerInner F.Fn f a (Ok r)) (λ a. K.is_clone (shown_key a)) m.entries) }
+        ensures function { IfOk result (λ m. (h : _) → IsJoinBy K.cmp kind.Inner right_spelling (pairs self.now) (M.pairs that.now) (λ a r. MayAnswerInner F.Fn f a (Ok r)) h m.entries) }
     {
         fresh::join_inner(alloc, self, that, &AskInner(&f))
     }
@@ -143,5 +150,151 @@ impl<K: Ord, V> AbstractBTreeMap<K, V> for BTreeMap<K, V> {
 
     fn get(&self, key: &K) -> Option<&V> {
         self.get(key)
+    }
+}
+
+/// Joins in place: what stays of the values of a map, beside another one that can be looked up.
+///
+/// A pair that stays keeps its key, however the other map spells an equal one.
+pub trait InPlaceRelationalOps<K: Ord, V>: AbstractBTreeMap<K, V> {
+    ghost use Rattle.std.specs.Prelude.{OnOk, OnErr};
+    ghost use Rattle.vc_joins.specs.declared.question.OuterJoinArg.TheVariants as arg;
+    ghost use Rattle.vc_joins.specs.declared.question.JoinKind.TheVariants as kind;
+    ghost use Rattle.vc_joins.specs.Join.{IsAsked, IsJoin, IsJoinBy, MovedKey};
+    ghost use Rattle.vc_joins.specs.Question.{left_spelling, right_spelling};
+    ghost use Rattle.vc_btree_maps.specs.Keeping.{at_pair, MayLeave, MayLeaveShared, MayGive, OrStays, OrGives, StayedKey, StayedOrCloned, IsGrown};
+    ghost use Rattle.std.specs.Option.{option_copied};
+    ghost use Rattle.vc_sets.specs.SetOf.{ClonesAreEqual};
+
+    /// Asks `f` at each key of both maps, which may write to the value, and keeps the value where it answers true. All others are dropped.
+    ///
+    /// Asks once a key, in ascending order, and shows the key as this map has it. Looks each key of this map up in the other one, and
+    /// takes no memory.
+    ///
+    /// ```
+    /// stock.inner_join_with(&orders, |_: &u32, count: &mut u32, wanted: &u32| *count >= *wanted);
+    /// ```
+    fn inner_join_with<W, M: AbstractBTreeMap<K, W>, F: Fn(&K, &mut V, &W) -> bool + Drop>(
+        &mut self,
+        that: &M,
+        f: F,
+    )
+    where
+        K: Drop,
+        V: Drop,
+        requires callable { (k : _) (v : _) (w : _) → IsAsked K.cmp kind.Inner left_spelling (Self.pairs self.old) (M.pairs that.now) (arg.Both k.now v.now w.now) → F.pre f k v w }
+        ensures joins { IsJoin K.cmp kind.Inner left_spelling (Self.pairs self.old) (M.pairs that.now) (MayLeaveShared F.Fn f) MovedKey (Self.pairs self.new) }
+        ensures function { (h : _) → IsJoinBy K.cmp kind.Inner left_spelling (Self.pairs self.old) (M.pairs that.now) (MayLeaveShared F.Fn f) h (Self.pairs self.new) };
+
+    /// Asks `f` at each key of this map, which may write to the value, and keeps the value where it answers true.
+    ///
+    /// Asks once a key, in ascending order, and shows the key as this map has it. Looks each key up in the other map, and takes no
+    /// memory.
+    fn left_join_with<W, M: AbstractBTreeMap<K, W>, F: Fn(&K, &mut V, Option<&W>) -> bool + Drop>(
+        &mut self,
+        that: &M,
+        f: F,
+    )
+    where
+        K: Drop,
+        V: Drop,
+        requires callable { (k : _) (v : _) (w : _) → IsAsked K.cmp kind.Left left_spelling (Self.pairs self.old) (M.pairs that.now) (at_pair k.now v.now (option_copied w)) → F.pre f k v w }
+        ensures joins { IsJoin K.cmp kind.Left left_spelling (Self.pairs self.old) (M.pairs that.now) (MayLeave F.Fn f) MovedKey (Self.pairs self.new) }
+        ensures function { (h : _) → IsJoinBy K.cmp kind.Left left_spelling (Self.pairs self.old) (M.pairs that.now) (MayLeave F.Fn f) h (Self.pairs self.new) };
+
+    /// Asks at each key of the other map, and shows the key as that one has it: `f` at a key of both maps, which may write to the value
+    /// and drops it where it answers false, and `other_alone` at a key that this map lacks. Nothing is inserted there, and what this map
+    /// has at keys that the other one lacks stays as it is.
+    ///
+    /// Asks once a key, in ascending order. Looks each key of the other map up in this one, and takes no memory.
+    fn right_join_with<
+        W,
+        M: AbstractBTreeMap<K, W>,
+        F: Fn(&K, &mut V, &W) -> bool + Drop,
+        G: Fn(&K, &W) + Drop,
+    >(&mut self, that: &M, f: F, other_alone: G)
+    where
+        K: Drop,
+        V: Drop,
+        requires callable { (k : _) (v : _) (w : _) → IsAsked K.cmp kind.Inner right_spelling (Self.pairs self.old) (M.pairs that.now) (arg.Both k.now v.now w.now) → F.pre f k v w }
+        requires callable_alone { (k : _) (w : _) → IsAsked K.cmp kind.Right right_spelling (Self.pairs self.old) (M.pairs that.now) (arg.Right k.now w.now) → G.pre other_alone k w }
+        ensures joins { IsJoin K.cmp kind.Left right_spelling (Self.pairs self.old) (M.pairs that.now) (OrStays (MayLeaveShared F.Fn f)) (StayedKey K.cmp (Self.pairs self.old)) (Self.pairs self.new) }
+        ensures function { (h : _) → IsJoinBy K.cmp kind.Left right_spelling (Self.pairs self.old) (M.pairs that.now) (OrStays (MayLeaveShared F.Fn f)) h (Self.pairs self.new) };
+
+    /// Asks at each key of either map. First `other_alone` at the keys that the other map alone has, whose answers come in under clones
+    /// of them, and then `f` at the keys that this map had before, which may write to the value and drops it where it answers false.
+    ///
+    /// Asks once a key, and shows a key of both maps as the other one has it. The pairs of the other map at shared keys are kept in a
+    /// list between the two passes, so that `f` is asked at no key that came in; that costs two references a shared key, and each key of
+    /// either map is looked up in the other one at most twice.
+    ///
+    /// Refused at that list, at a clone or at an insertion, it leaves the pairs that it had as they were, and beside them some that
+    /// `other_alone` gave at keys of the other map alone; `f` was not asked.
+    fn outer_join_with<
+        W,
+        M: AbstractBTreeMap<K, W>,
+        F: Fn(&K, &mut V, Option<&W>) -> bool + Drop,
+        G: Fn(&K, &W) -> Option<V> + Drop,
+    >(&mut self, alloc: Global, that: &M, f: F, other_alone: G) -> Result<(), AllocError>
+    where
+        K: Clone + Drop,
+        V: Drop,
+        requires clones { ClonesAreEqual K.cmp K.is_clone }
+        requires callable { (k : _) (v : _) (w : _) → IsAsked K.cmp kind.Outer right_spelling (Self.pairs self.old) (M.pairs that.now) (at_pair k.now v.now (option_copied w)) → F.pre f k v w }
+        requires callable_alone { (k : _) (w : _) → IsAsked K.cmp kind.Outer right_spelling (Self.pairs self.old) (M.pairs that.now) (arg.Right k.now w.now) → G.pre other_alone k w }
+        ensures joins { OnOk result (IsJoin K.cmp kind.Outer right_spelling (Self.pairs self.old) (M.pairs that.now) (OrGives (MayLeave F.Fn f) (MayGive G.Fn other_alone)) (StayedOrCloned K.cmp (Self.pairs self.old) K.is_clone) (Self.pairs self.new)) }
+        ensures function { OnOk result ((h : _) → IsJoinBy K.cmp kind.Outer right_spelling (Self.pairs self.old) (M.pairs that.now) (OrGives (MayLeave F.Fn f) (MayGive G.Fn other_alone)) h (Self.pairs self.new)) }
+        ensures grown { OnErr result (IsGrown K.cmp K.is_clone (MayGive G.Fn other_alone) (M.pairs that.now) (Self.pairs self.old) (Self.pairs self.new)) };
+}
+
+impl<K: Ord, V> InPlaceRelationalOps<K, V> for BTreeMap<K, V> {
+    fn inner_join_with<W, M: AbstractBTreeMap<K, W>, F: Fn(&K, &mut V, &W) -> bool + Drop>(
+        &mut self,
+        that: &M,
+        f: F,
+    )
+    where
+        K: Drop,
+        V: Drop,
+    {
+        in_place::keep_each(self, that, &KeepShared(&f));
+    }
+
+    fn left_join_with<W, M: AbstractBTreeMap<K, W>, F: Fn(&K, &mut V, Option<&W>) -> bool + Drop>(
+        &mut self,
+        that: &M,
+        f: F,
+    )
+    where
+        K: Drop,
+        V: Drop,
+    {
+        in_place::keep_each(self, that, &KeepLeft(&f));
+    }
+
+    fn right_join_with<
+        W,
+        M: AbstractBTreeMap<K, W>,
+        F: Fn(&K, &mut V, &W) -> bool + Drop,
+        G: Fn(&K, &W) + Drop,
+    >(&mut self, that: &M, f: F, other_alone: G)
+    where
+        K: Drop,
+        V: Drop,
+    {
+        in_place::keep_right(self, that, &KeepShared(&f), &other_alone);
+    }
+
+    fn outer_join_with<
+        W,
+        M: AbstractBTreeMap<K, W>,
+        F: Fn(&K, &mut V, Option<&W>) -> bool + Drop,
+        G: Fn(&K, &W) -> Option<V> + Drop,
+    >(&mut self, alloc: Global, that: &M, f: F, other_alone: G) -> Result<(), AllocError>
+    where
+        K: Clone + Drop,
+        V: Drop,
+    {
+        in_place::join_outer_with(alloc, self, that, &KeepLeft(&f), &other_alone)
     }
 }

@@ -1,5 +1,5 @@
 //! Joins that build a fresh map: a look-up for each key that is asked at, and an insertion for each answer.
-ghost use Rattle.std.specs.Prelude.{◌≡◌, None, Ok, IfOk, OnOk};
+ghost use Rattle.std.specs.Prelude.{◌≡◌, None, Ok, IfOk, OnOk, OnErr};
 ghost use Rattle.vc_joins.specs.Answers.{seen_left, seen_right};
 ghost use Rattle.vc_joins.specs.Entries.{AscendsByKey, entry_at};
 ghost use Rattle.vc_joins.specs.Join.{IsAsked, IsJoin};
@@ -23,7 +23,8 @@ pub fn put_answer<K: Ord + Clone + Drop, X: Drop>(
     requires clones { ClonesAreEqual K.cmp K.is_clone }
     requires ascends { AscendsByKey K.cmp joined.old.entries }
     requires absent { entry_at K.cmp joined.old.entries key.now ≡ None }
-    ensures { OnOk result (IsPut K.cmp K.is_clone key.now answer joined.old.entries joined.new.entries) }
+    ensures put { OnOk result (IsPut K.cmp K.is_clone key.now answer joined.old.entries joined.new.entries) }
+    ensures err { OnErr result (joined.new.entries ≡ joined.old.entries) }
 {
     match answer {
         Some(value) => {
