@@ -7,3 +7,6 @@ pub mod Paying
 pub mod Next
 pub mod Ending
 pub mod Alone
+pub mod Meeting
+pub mod Passing
+pub mod Testing

@@ -1,6 +1,7 @@
 -- A script whose events were each done, as what the combine says of both lists; and what may be asked at each event.
 --     script_made        the trees that are made are canonical children, and what the combine says of both lists
 --     script_asked        what may be asked at each key of both lists, may be asked at each event
+--     script_all        and the other way round
 use Rattle.std.proofs.Common.{◌≡◌, ℕ, [], ◌∷◌, ◌++◌, List, Option, None, Some, refl, sym, ap, subst, ◌∙◌, map, drop, slice_get, true≢false, cond}
 use Rattle.std.specs.Cmp.{IsTotalOrder, tied_itself}
 use Rattle.std.specs.List.{AllByRecursion, filter_map}
@@ -218,3 +219,20 @@ module _ {K : Type 0} (cmp : K → K → Ordering) (o : IsTotalOrder cmp) where
         (rows_asked cmp o (values cmp) (λ v w u. ⊤) asks none (rows ta tb i j ds h) a r
         (λ x q. subst (λ f. asks (lookup_in cmp f (x ∷ q)) (lookup_in cmp (side (λ r. r.right) (rows ta tb i j ds h)) (x ∷ q))) (sym left)
         (subst (λ g. asks (lookup_in cmp (shortened_in ta i xs) (x ∷ q)) (lookup_in cmp g (x ∷ q))) (sym right) (p x q))))
+
+    -- what holds at each key of an event, as a row of which nothing is made
+    all_unmade : (es : List (Event A B)) → AllByRecursion (IsAskedAt cmp ta tb i j asks) es
+        → AllByRecursion (λ d. IsMadeAt cmp (λ v w u. asks v w) ta tb i j d.0 d.1) (unmade es)
+    unfolding unmade
+    all_unmade [] a = tt
+    all_unmade (left_alone x ∷ es) a = (record { child = tt; begins = λ y e. tt; binds = a.0 }, all_unmade es a.1)
+    all_unmade (right_alone y ∷ es) a = (record { child = tt; begins = λ y e. tt; binds = a.0 }, all_unmade es a.1)
+    all_unmade (collision x y ∷ es) a = (record { child = tt; begins = λ y z d e f. tt; binds = a.0 }, all_unmade es a.1)
+
+    -- what holds at each key of each event, holds at each key of both lists
+    pub script_all : asks None None → (xs : List A) (ys : List B) (es : List (Event A B))
+        → AreChildren cmp (shortened_in ta i xs) → AreChildren cmp (shortened_in tb j ys)
+        → IsScript (by_component ta tb i j cmp) xs ys es → AllByRecursion (IsAskedAt cmp ta tb i j asks) es → (x : K) (q : List K)
+        → asks (lookup_in cmp (shortened_in ta i xs) (x ∷ q)) (lookup_in cmp (shortened_in tb j ys) (x ∷ q))
+    script_all none xs ys es ca cb s a =
+        (script_made ta tb i j (λ v w u. asks v w) none xs ys (unmade es) ca cb (rw (unmade_events es) s) (all_unmade es a)).1

@@ -37,12 +37,12 @@ module _ {A B : Type 0} where
   right_rest P (right_alone y ∷ ds) es a = right_rest P ds es a.1
   right_rest P (collision x y ∷ ds) es a = right_rest P ds es a.1
 
-  event_rest : (P : Event A B → Type 0) (ds es : List (Event A B)) → AllByRecursion P (ds ++ es) → AllByRecursion P es
+  pub event_rest : (P : Event A B → Type 0) (ds es : List (Event A B)) → AllByRecursion P (ds ++ es) → AllByRecursion P es
   event_rest P [] es a = a
   event_rest P (d ∷ ds) es a = event_rest P ds es a.1
 
 -- two keys that begin alike agree for one component
-agree_first : {K : Type 0} (cmp : K → K → Ordering) (p q : List K) (x y : K) → slice_get p 0 ≡ Some x → slice_get q 0 ≡ Some y
+pub agree_first : {K : Type 0} (cmp : K → K → Ordering) (p q : List K) (x y : K) → slice_get p 0 ≡ Some x → slice_get q 0 ≡ Some y
     → cmp x y ≡ Equal → Agree cmp p q 1
 agree_first cmp [] q x y e f h = absurd (cc)
 agree_first cmp (x' ∷ p) [] x y e f h = absurd (cc)

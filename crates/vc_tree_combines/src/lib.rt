@@ -5,4 +5,5 @@
 pub mod combines;
 mod engine;
 mod facing;
+pub mod keys;
 mod sides;
