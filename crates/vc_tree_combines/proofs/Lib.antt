@@ -10,3 +10,5 @@ pub mod Alone
 pub mod Meeting
 pub mod Passing
 pub mod Testing
+pub mod Filtered
+pub mod AnsweredAlone

@@ -1,6 +1,7 @@
 -- What a combine makes of trees, event by event. No public clause cites these words.
 --     IsMade cmp R t o        what is made of a tree that one side alone has
 --     IsBothMade cmp R t u o        what is made of two trees
+--     AreMadeAlone        what is made of trees that one side alone has
 --     IsMadeAt        what is made at one event
 --     IsAskedAt, AreAsked        what a combine may be asked at an event, and at some
 --     owed        the comparisons that some events are still allowed
@@ -23,6 +24,14 @@ module _ {K : Type 0} (cmp : K → K → Ordering) where
     pub child : IsChild cmp o
     pub begins : (y : K) → slice_get t.prefix 0 ≡ Some y → BeginsWith cmp y o
     pub binds : (k : List K) → R (lookup cmp t k) (bound_by cmp o k)
+
+  -- of some trees that one side alone has, one after another
+  pub record AreMadeAlone {V U A : Type 0} (R : Option V → Option U → Type 0) (ta : A → Tree K V) (xs : List A)
+      (made : List (Tree K U)) : Type 0 where
+    pub done : List (A × Option (Tree K U))
+    pub trees : map (λ d. d.0) done ≡ xs
+    pub made_at : AllByRecursion (λ d. IsMade R (ta d.0) d.1) done
+    pub made_are : made ≡ filter_map (λ d. d.1) done
 
   module _ {V W U : Type 0} (R : Option V → Option W → Option U → Type 0) where
     -- of two trees: a child that begins as both did if they began alike, and R of what all three bind

@@ -5,5 +5,7 @@
 pub mod combines;
 mod engine;
 mod facing;
+pub mod filtering;
 pub mod keys;
+pub mod left;
 mod sides;
