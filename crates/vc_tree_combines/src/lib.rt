@@ -3,6 +3,6 @@
 #![tactic(auto)]
 
 pub mod combines;
-mod engine;
-mod facing;
-mod sides;
+pub mod engine;
+pub mod facing;
+pub mod sides;
