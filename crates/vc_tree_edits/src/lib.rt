@@ -2,4 +2,5 @@
 //! tree covers. For the crates above; the trait that users name stands in `vc_trees`.
 #![tactic(auto)]
 
+pub mod engine;
 pub mod prepending;
