@@ -97,7 +97,7 @@ module _ {K : Type 0} (cmp : K → K → Ordering) (o : IsTotalOrder cmp) where
         value_asked cmp o (values cmp) asks t (node t.prefix None bare) t.prefix [] t.prefix [] (sym (append-nil t.prefix))
         (sym (append-nil t.prefix)) (same_itself cmp o t.prefix) beside
 
-    all_alone : (xs : List A) → AllByRecursion (IsAskedAt cmp ta (λ t. t) 0 0 asks) (alone W ta xs)
+    all_alone : (xs : List A) → AllByRecursion (IsAskedAt cmp ta (λ t. t) 0 0 (values cmp) asks) (alone W ta xs)
         → AllByRecursion (λ x. (k : List K) → asks (lookup cmp (ta x) k) None) xs
     all_alone [] a = tt
     all_alone (x ∷ xs) a = (a.0, all_alone xs a.1)
@@ -106,7 +106,7 @@ module _ {K : Type 0} (cmp : K → K → Ordering) (o : IsTotalOrder cmp) where
     pub children_alone : (xs : List A) → seen ta xs ≡ t.children → AreChildren cmp (seen ta xs)
         → AllByRecursion (λ x. (k : List K) → asks (lookup cmp (ta x) k) None) xs
     children_alone xs e c =
-        all_alone xs (script_asked cmp o ta (λ t. t) 0 0 asks none xs [] (alone W ta xs) c tt (script_alone W ta xs c)
+        all_alone xs (script_asked cmp o ta (λ t. t) 0 0 (values cmp) asks none xs [] (alone W ta xs) c tt (script_alone W ta xs c)
         (subst (λ f. (x : K) (q : List K) → asks (lookup_in cmp f (x ∷ q)) None) (sym e)
         (children_asked cmp o (values cmp) asks t (node t.prefix None bare) t.prefix [] t.prefix [] (sym (append-nil t.prefix))
         (sym (append-nil t.prefix)) (same_itself cmp o t.prefix) beside)))
@@ -165,7 +165,7 @@ module _ {K : Type 0} (cmp : K → K → Ordering) (o : IsTotalOrder cmp) where
       row_outs ((x, Some u) ∷ ds) = ap (λ l. u ∷ l) (row_outs ds)
 
       rows_made : (ds : List (A × Option (Tree K U))) → AllByRecursion (λ d. IsMade cmp (λ v z. R v None z) (ta d.0) d.1) ds
-          → AllByRecursion (λ d. IsMadeAt cmp R ta (λ t. t) 0 0 d.0 d.1) (rows ds)
+          → AllByRecursion (λ d. IsMadeAt cmp (values cmp {V = W}) R ta (λ t. t) 0 0 d.0 d.1) (rows ds)
       unfolding rows
       rows_made [] a = tt
       rows_made (d ∷ ds) a = (a.0, rows_made ds a.1)
@@ -173,7 +173,7 @@ module _ {K : Type 0} (cmp : K → K → Ordering) (o : IsTotalOrder cmp) where
       made_of : AreChildren cmp (forest made) × IsCombinedIn cmp (values cmp {V = W}) R (seen ta xs) bare (forest made)
       made_of =
           rw (d.made_are, ← row_outs d.done)
-          (script_made cmp o ta (λ t. t) 0 0 R none xs [] (rows d.done) c tt
+          (script_made cmp o ta (λ t. t) 0 0 (values cmp {V = W}) R none xs [] (rows d.done) c tt
           (subst (IsScript (by_component ta (λ t. t) 0 0 cmp) xs []) (sym (row_events d.done ∙ ap (alone W ta) d.trees))
           (script_alone W ta xs c)) (rows_made d.done d.made_at))
 

@@ -22,6 +22,7 @@ use Rattle.vc_tree_combines.specs.Made.{IsAskedAt}
 use Rattle.vc_tree_combines.specs.Meeting.{IsMet, IsMissed, TellsKeys, TellsKeysIn, IsMeeting}
 use Rattle.vc_tree_combines.specs.Sides.{by_component}
 use Rattle.vc_tree_combines.proofs.Around.{components}
+use Rattle.vc_tree_model.proofs.Look.{values}
 use Rattle.vc_tree_combines.proofs.Making.{script_asked, script_all}
 use Rattle.vc_tree_combines.proofs.Meeting.{met_alone}
 use Rattle.vc_tree_combines.proofs.Next.{event_rest, agree_first}
@@ -255,7 +256,7 @@ module _ {K V W A B : Type 0} (cmp : K → K → Ordering) (o : IsTotalOrder cmp
     (shared : Bool) (xs : List A) (ys : List B) (ca : AreChildren cmp (seen ta xs)) (cb : AreChildren cmp (seen tb ys)) where
   -- what is passed is met
   passed_met : (es : List (Event A B)) → AllByRecursion (IsPassed shared) es
-      → AllByRecursion (IsAskedAt cmp ta tb 0 0 (IsMet shared)) es
+      → AllByRecursion (IsAskedAt cmp ta tb 0 0 (values cmp) (IsMet shared)) es
   passed_met [] a = tt
   passed_met (left_alone x ∷ es) a = ((λ k. rw a.0 (met_alone W (lookup cmp (ta x) k))), passed_met es a.1)
   passed_met (right_alone y ∷ es) a = ((λ k. tt), passed_met es a.1)
@@ -264,7 +265,7 @@ module _ {K V W A B : Type 0} (cmp : K → K → Ordering) (o : IsTotalOrder cmp
   -- both lists are passed
   pub end_told : (es : List (Event A B)) → IsScript (by_component ta tb 0 0 cmp) xs ys es → AllByRecursion (IsPassed shared) es
       → TellsKeysIn cmp shared (seen ta xs) (seen tb ys) true
-  end_told es s a = script_all cmp o ta tb 0 0 (IsMet shared) tt xs ys es ca cb s (passed_met es a)
+  end_told es s a = script_all cmp o ta tb 0 0 (values cmp) (IsMet shared) tt xs ys es ca cb s (passed_met es a)
 
   -- some key is missed
   abbrev SomeMissed : Type 0
@@ -272,9 +273,9 @@ module _ {K V W A B : Type 0} (cmp : K → K → Ordering) (o : IsTotalOrder cmp
 
   -- a key that is missed at an event, is missed in both lists
   missed_in : (es : List (Event A B)) → IsScript (by_component ta tb 0 0 cmp) xs ys es
-      → AllByRecursion (IsAskedAt cmp ta tb 0 0 (λ v w. IsMissed shared v w → SomeMissed)) es
+      → AllByRecursion (IsAskedAt cmp ta tb 0 0 (values cmp) (λ v w. IsMissed shared v w → SomeMissed)) es
   missed_in es s =
-      script_asked cmp o ta tb 0 0 (λ v w. IsMissed shared v w → SomeMissed) (λ m. absurd m) xs ys es ca cb s
+      script_asked cmp o ta tb 0 0 (values cmp) (λ v w. IsMissed shared v w → SomeMissed) (λ m. absurd m) xs ys es ca cb s
       (λ x q m. (x, q, m))
 
   -- a tree of the left list is missed
@@ -301,12 +302,12 @@ module _ {K V W A B : Type 0} (cmp : K → K → Ordering) (o : IsTotalOrder cmp
         left_nodes = l.smaller;
         right_nodes = r.smaller;
         all_met = λ h g.
-            script_all cmp o ta tb 0 0 (IsMet shared) tt xs ys (es ++ collision x y ∷ rest) ca cb s
-            (all_append (IsAskedAt cmp ta tb 0 0 (IsMet shared)) es (collision x y ∷ rest) (passed_met es a)
-            (h, script_asked cmp o ta tb 0 0 (IsMet shared) tt (lefts rest) (rights rest) rest l.others r.others own g));
+            script_all cmp o ta tb 0 0 (values cmp) (IsMet shared) tt xs ys (es ++ collision x y ∷ rest) ca cb s
+            (all_append (IsAskedAt cmp ta tb 0 0 (values cmp) (IsMet shared)) es (collision x y ∷ rest) (passed_met es a)
+            (h, script_asked cmp o ta tb 0 0 (values cmp) (IsMet shared) tt (lefts rest) (rights rest) rest l.others r.others own g));
         here_missed = λ h. each.0 h.0 h.1;
         later_missed = λ h.
-            script_all cmp o ta tb 0 0 (λ v w. IsMissed shared v w → SomeMissed) (λ m. absurd m) (lefts rest) (rights rest) rest
+            script_all cmp o ta tb 0 0 (values cmp) (λ v w. IsMissed shared v w → SomeMissed) (λ m. absurd m) (lefts rest) (rights rest) rest
             l.others r.others own each.1 h.0 h.1 h.2;
       }
     where

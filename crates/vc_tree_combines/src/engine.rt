@@ -103,7 +103,7 @@ pub fn keep<K: TKey, V: TValue, M: Build<K, V>>(
 }
 
 /// The value of the node that stands behind a front of what is left of a prefix.
-fn value_at<K: TKey, V: TValue, T: RadixNode<K, V>>(
+pub fn value_at<K: TKey, V: TValue, T: RadixNode<K, V>>(
     tree: &T,
     from: usize,
     front: usize,

@@ -3,9 +3,9 @@
 #![tactic(auto)]
 
 pub mod combines;
-mod engine;
-mod facing;
+pub mod engine;
+pub mod facing;
 pub mod filtering;
 pub mod keys;
 pub mod left;
-mod sides;
+pub mod sides;
