@@ -10,7 +10,8 @@ use Rattle.std.specs.declared.cmp.Ordering.TheVariants.{Equal}
 use Rattle.vc_merge.specs.Script.{Event, left_alone, right_alone, collision, lefts, rights, IsMatched, IsScript}
 use Rattle.vc_tree_model.specs.Shortened.{weight}
 use Rattle.vc_tree_model.specs.Tree.{Tree, shortened}
-use Rattle.vc_tree_combines.specs.Made.{IsMade, IsBothMade, IsMadeAt, IsAskedAt, owed, IsDoing}
+use Rattle.vc_tree_model.proofs.Look.{Look}
+use Rattle.vc_tree_combines.specs.Made.{IsMade, IsMadeBy, IsBothMadeBy, IsMadeAt, IsAskedAt, owed, IsDoing}
 use Rattle.vc_tree_combines.specs.Sides.{by_component, side_of, IsListed}
 use Rattle.vc_tree_combines.specs.declared.sides.Side.{Side}
 use Rattle.vc_tree_combines.specs.declared.sides.Side.TheVariants.{Left, Right, Both}
@@ -42,20 +43,20 @@ module _ {A B : Type 0} where
   both_first sides (right_alone b ∷ es) e = absurd (cc)
   both_first sides (collision a b ∷ es) e = (a, b, es, refl)
 
-module _ {K V W U A B : Type 0} (cmp : K → K → Ordering) (ta : A → Tree K V) (tb : B → Tree K W) (i j : ℕ)
-    (R : Option V → Option W → Option U → Type 0) (asks : Option V → Option W → Type 0) (xs : List A) (ys : List B) where
+module _ {K V W U O A B : Type 0} (cmp : K → K → Ordering) (ta : A → Tree K V) (tb : B → Tree K W) (i j : ℕ) (l : Look cmp W O)
+    (R : Option V → O → Option U → Type 0) (asks : Option V → O → Type 0) (xs : List A) (ys : List B) where
   -- none is done yet
   pub doing_start : (sides : List Side) (made : List (Tree K U)) (spent budget : ℕ) → made ≡ []
-      → (l : IsListed (by_component ta tb i j cmp) xs ys sides)
-      → AllByRecursion (IsAskedAt cmp ta tb i j asks) l.events → spent + owed cmp ta tb i j l.events ≤ budget
-      → IsDoing cmp ta tb i j R asks xs ys xs ys sides made spent budget
-  doing_start sides made spent budget e l a p = record {
+      → (m : IsListed (by_component ta tb i j cmp) xs ys sides)
+      → AllByRecursion (IsAskedAt cmp ta tb i j l asks) m.events → spent + owed cmp ta tb i j m.events ≤ budget
+      → IsDoing cmp ta tb i j l R asks xs ys xs ys sides made spent budget
+  doing_start sides made spent budget e m a p = record {
     done = [];
-    rest = l.events;
-    script = l.script;
-    left = sym l.script.left;
-    right = sym l.script.right;
-    sides_are = l.sides_are;
+    rest = m.events;
+    script = m.script;
+    left = sym m.script.left;
+    right = sym m.script.right;
+    sides_are = m.sides_are;
     made_at = tt;
     made_are = e;
     asked = a;
@@ -66,18 +67,18 @@ module _ {K V W U A B : Type 0} (cmp : K → K → Ordering) (ta : A → Tree K 
   more : (ls : List A) (rs : List B) (sides : List Side) (made made' : List (Tree K U)) (spent budget : ℕ)
       (done : List (Event A B × Option (Tree K U))) (e : Event A B) (es : List (Event A B)) (o : Option (Tree K U))
       → IsScript (by_component ta tb i j cmp) xs ys (map (λ d. d.0) done ++ e ∷ es)
-      → AllByRecursion (λ d. IsMadeAt cmp R ta tb i j d.0 d.1) done → made ≡ filter_map (λ d. d.1) done
-      → IsMadeAt cmp R ta tb i j e o → made' ≡ made ++ cons_option o [] → ls ≡ lefts es → rs ≡ rights es
-      → sides ≡ map (λ e. side_of e) es → AllByRecursion (IsAskedAt cmp ta tb i j asks) es
-      → spent + owed cmp ta tb i j es ≤ budget → IsDoing cmp ta tb i j R asks xs ys ls rs sides made' spent budget
-  more ls rs sides made made' spent budget done e es o s m k w p l r z a c = record {
+      → AllByRecursion (λ d. IsMadeAt cmp l R ta tb i j d.0 d.1) done → made ≡ filter_map (λ d. d.1) done
+      → IsMadeAt cmp l R ta tb i j e o → made' ≡ made ++ cons_option o [] → ls ≡ lefts es → rs ≡ rights es
+      → sides ≡ map (λ e. side_of e) es → AllByRecursion (IsAskedAt cmp ta tb i j l asks) es
+      → spent + owed cmp ta tb i j es ≤ budget → IsDoing cmp ta tb i j l R asks xs ys ls rs sides made' spent budget
+  more ls rs sides made made' spent budget done e es o s m k w p f r z a c = record {
     done = done ++ (e, o) ∷ [];
     rest = es;
     script = subst (λ l. IsScript (by_component ta tb i j cmp) xs ys l) (events_push done) s;
-    left = l;
+    left = f;
     right = r;
     sides_are = z;
-    made_at = all_push (λ d. IsMadeAt cmp R ta tb i j d.0 d.1) done (e, o) m w;
+    made_at = all_push (λ d. IsMadeAt cmp l R ta tb i j d.0 d.1) done (e, o) m w;
     made_are = p ∙ ap (λ l. l ++ cons_option o []) k ∙ sym (filter_map-append (λ d. d.1) done ((e, o) ∷ []));
     asked = a;
     paid = c;
@@ -89,7 +90,7 @@ module _ {K V W U A B : Type 0} (cmp : K → K → Ordering) (ta : A → Tree K 
       events_push (x ∷ ds) = ap (λ l. x.0 ∷ l) (events_push ds)
 
   module _ (ls : List A) (rs : List B) (all : List Side) (made : List (Tree K U)) (spent budget : ℕ)
-      (d : IsDoing cmp ta tb i j R asks xs ys ls rs all made spent budget) where
+      (d : IsDoing cmp ta tb i j l R asks xs ys ls rs all made spent budget) where
     -- the events that are left begin with the next one
     abbrev Next : Event A B → Type 0
     Next e = (rest : List (Event A B)) × (d.rest ≡ e ∷ rest)
@@ -107,45 +108,45 @@ module _ {K V W U A B : Type 0} (cmp : K → K → Ordering) (ta : A → Tree K 
       script_next e rest h = subst (λ l. IsScript (by_component ta tb i j cmp) xs ys (map (λ d. d.0) d.done ++ l)) h d.script
 
       asked_next : (e : Event A B) (rest : List (Event A B)) → d.rest ≡ e ∷ rest
-          → AllByRecursion (IsAskedAt cmp ta tb i j asks) rest
-      asked_next e rest h = (subst (AllByRecursion (IsAskedAt cmp ta tb i j asks)) h d.asked).1
+          → AllByRecursion (IsAskedAt cmp ta tb i j l asks) rest
+      asked_next e rest h = (subst (AllByRecursion (IsAskedAt cmp ta tb i j l asks)) h d.asked).1
 
       sides_next : (e : Event A B) (rest : List (Event A B)) (s : Side) → d.rest ≡ e ∷ rest → all ≡ s ∷ sides
           → sides ≡ map (λ e. side_of e) rest
       sides_next e rest s h z = let g : s ∷ sides ≡ side_of e ∷ map (λ e. side_of e) rest = sym z ∙ d.sides_are ∙ ap (map (λ e. side_of e)) h in cc
 
       pub doing_left : (x : A) (ls' : List A) → all ≡ Left ∷ sides → ls ≡ x ∷ ls'
-          → IsMade cmp (λ v z. R v None z) (shortened i (ta x)) o
-          → IsDoing cmp ta tb i j R asks xs ys ls' rs sides made' spent budget
+          → IsMade cmp (λ v z. R v l.none z) (shortened i (ta x)) o
+          → IsDoing cmp ta tb i j l R asks xs ys ls' rs sides made' spent budget
       doing_left x ls' z e w =
           let f = left_first sides d.rest (sym z ∙ d.sides_are) in
           let g = left_is f.0 f.1 x ls' (ap lefts (sym f.2)) e in
           more ls' rs sides made made' spent budget d.done (left_alone f.0) f.1 o (script_next _ _ f.2) d.made_at d.made_are
-          (subst (λ x. IsMade cmp (λ v z. R v None z) (shortened i (ta x)) o) g.0 w) pushed g.1
+          (subst (λ x. IsMade cmp (λ v z. R v l.none z) (shortened i (ta x)) o) g.0 w) pushed g.1
           (d.right ∙ ap rights f.2) (sides_next _ _ Left f.2 z) (asked_next _ _ f.2)
           (subst (λ l. spent + owed cmp ta tb i j l ≤ budget) f.2 d.paid)
 
       pub doing_right : (y : B) (rs' : List B) → all ≡ Right ∷ sides → rs ≡ y ∷ rs'
-          → IsMade cmp (λ w z. R None w z) (shortened j (tb y)) o
-          → IsDoing cmp ta tb i j R asks xs ys ls rs' sides made' spent budget
+          → IsMadeBy cmp l (λ w z. R None w z) (shortened j (tb y)) o
+          → IsDoing cmp ta tb i j l R asks xs ys ls rs' sides made' spent budget
       doing_right y rs' z e w =
           let f = right_first sides d.rest (sym z ∙ d.sides_are) in
           let g = right_is f.0 f.1 y rs' (ap rights (sym f.2)) e in
           more ls rs' sides made made' spent budget d.done (right_alone f.0) f.1 o (script_next _ _ f.2) d.made_at d.made_are
-          (subst (λ y. IsMade cmp (λ w z. R None w z) (shortened j (tb y)) o) g.0 w) pushed
+          (subst (λ y. IsMadeBy cmp l (λ w z. R None w z) (shortened j (tb y)) o) g.0 w) pushed
           (d.left ∙ ap lefts f.2) g.1 (sides_next _ _ Right f.2 z) (asked_next _ _ f.2)
           (subst (λ l. spent + owed cmp ta tb i j l ≤ budget) f.2 d.paid)
 
       pub doing_both : (x : A) (ls' : List A) (y : B) (rs' : List B) (spent' : ℕ) → all ≡ Both ∷ sides → ls ≡ x ∷ ls'
-          → rs ≡ y ∷ rs' → IsBothMade cmp R (shortened i (ta x)) (shortened j (tb y)) o
+          → rs ≡ y ∷ rs' → IsBothMadeBy cmp l R (shortened i (ta x)) (shortened j (tb y)) o
           → spent' + 2 ≤ spent + 3 * (weight (shortened i (ta x)) + weight (shortened j (tb y)))
-          → IsDoing cmp ta tb i j R asks xs ys ls' rs' sides made' spent' budget
+          → IsDoing cmp ta tb i j l R asks xs ys ls' rs' sides made' spent' budget
       doing_both x ls' y rs' spent' z e e' w c =
           let f = both_first sides d.rest (sym z ∙ d.sides_are) in
           let g = left_is f.0 f.2 x ls' (ap lefts (sym f.3)) e in
           let h = right_is f.1 f.2 y rs' (ap rights (sym f.3)) e' in
-          let same = subst (λ y. IsBothMade cmp R (shortened i (ta f.0)) (shortened j (tb y)) o) h.0
-          (subst (λ x. IsBothMade cmp R (shortened i (ta x)) (shortened j (tb y)) o) g.0 w) in
+          let same = subst (λ y. IsBothMadeBy cmp l R (shortened i (ta f.0)) (shortened j (tb y)) o) h.0
+          (subst (λ x. IsBothMadeBy cmp l R (shortened i (ta x)) (shortened j (tb y)) o) g.0 w) in
           let cost = subst (λ y. spent' + 2 ≤ spent + 3 * (weight (shortened i (ta f.0)) + weight (shortened j (tb y)))) h.0
           (subst (λ x. spent' + 2 ≤ spent + 3 * (weight (shortened i (ta x)) + weight (shortened j (tb y)))) g.0 c) in
           let paid = subst (λ l. spent + owed cmp ta tb i j l ≤ budget) f.3 d.paid in

@@ -19,9 +19,9 @@ use Rattle.vc_tree_model.specs.Canonical.{AreChildren, IsCanonical}
 use Rattle.vc_tree_model.specs.Child.{BeginsWith, solid_child, value_at, children_at}
 use Rattle.vc_tree_model.specs.Shortened.{weight}
 use Rattle.vc_tree_model.proofs.Joining.{opened_children, joined_child, joined_begins, trees_combined, value_asked, children_asked}
-use Rattle.vc_tree_model.proofs.Look.{values, IsCombinedIn}
+use Rattle.vc_tree_model.proofs.Look.{Look, IsCombinedIn}
 use Rattle.vc_tree_combines.specs.Facing.{shortened_in, Parts, IsOpened, IsFaced}
-use Rattle.vc_tree_combines.specs.Made.{IsBothMade, IsDoing}
+use Rattle.vc_tree_combines.specs.Made.{IsBothMadeBy, IsDoing}
 use Rattle.vc_tree_combines.specs.Sides.{by_component, side_of}
 use Rattle.vc_tree_combines.specs.declared.sides.Side.{Side}
 use Rattle.vc_tree_combines.proofs.Doing.{doing_start}
@@ -50,8 +50,8 @@ module _ {K : Type 0} (cmp : K → K → Ordering) where
       let ay : a ≡ y = cc in joined_begins cmp y a (take n p) v f (rw ay (tied_itself o y))
 
   module _ {V W U A B : Type 0} (o : IsTotalOrder cmp) (ta : A → Tree K V) (tb : B → Tree K W)
-      (R : Option V → Option W → Option U → Type 0) (asks : Option V → Option W → Type 0)
-      (none : R None None None) (t : Tree K V) (u : Tree K W) (ct : IsCanonical cmp t) (cu : IsCanonical cmp u) (n : ℕ)
+      {O : Type 0} (l : Look cmp W O) (R : Option V → O → Option U → Type 0) (asks : Option V → O → Type 0)
+      (none : R None l.none None) (t : Tree K V) (u : Tree K W) (ct : IsCanonical cmp t) (cu : IsCanonical cmp u) (n : ℕ)
       (xs : List A) (i : ℕ) (ys : List B) (j : ℕ) (sides : List Side) (f : IsFaced cmp ta tb t u n xs i ys j sides) where
     pub left_children : AreChildren cmp (shortened_in ta i xs)
     left_children = below_children ta t ct n xs i f.left
@@ -60,52 +60,56 @@ module _ {K : Type 0} (cmp : K → K → Ordering) where
     right_children = below_children tb u cu n ys j f.right
 
     -- what may be asked of the values at the fronts
-    pub values_asked : ((k : List K) → asks (lookup cmp t k) (lookup cmp u k))
-        → asks (value_at t (drop n t.prefix)) (value_at u (drop n u.prefix))
-    values_asked h =
-        value_asked cmp o (values cmp) asks t u (take n t.prefix) (drop n t.prefix) (take n u.prefix) (drop n u.prefix)
+    pub values_asked : (P : Option V → O → Type 0) → ((k : List K) → P (lookup cmp t k) (l.of_tree u k))
+        → P (value_at t (drop n t.prefix)) (l.at (value_at u (drop n u.prefix)))
+    values_asked P h =
+        value_asked cmp o l P t u (take n t.prefix) (drop n t.prefix) (take n u.prefix) (drop n u.prefix)
         (sym (take-append-drop n t.prefix)) (sym (take-append-drop n u.prefix)) f.same h
 
-    -- the state before the first event
-    pub combine_started : asks None None → ((k : List K) → asks (lookup cmp t k) (lookup cmp u k)) → (made : List (Tree K U))
+    -- the state before the first event: what may be asked of the trees may be asked of what is below
+    pub combine_started : asks None l.none → (P : Option V → O → Type 0)
+        → ((v : Option V) (z : O) → P v (l.under (value_at u (drop n u.prefix)) z) → asks v z)
+        → ((k : List K) → P (lookup cmp t k) (l.of_tree u k)) → (made : List (Tree K U))
         → made ≡ [] → (spent start : ℕ) → spent ≤ start + min (length t.prefix) (length u.prefix) + length xs + length ys
-        → IsDoing cmp ta tb i j R asks xs ys xs ys sides made spent (start + 3 * (weight t + weight u) - 2)
-    combine_started an h made e spent start c =
-        let below = children_asked cmp o (values cmp) asks t u (take n t.prefix) (drop n t.prefix) (take n u.prefix)
+        → IsDoing cmp ta tb i j l R asks xs ys xs ys sides made spent (start + 3 * (weight t + weight u) - 2)
+    combine_started an P lead h made e spent start c =
+        let below = children_asked cmp o l P t u (take n t.prefix) (drop n t.prefix) (take n u.prefix)
         (drop n u.prefix) (sym (take-append-drop n t.prefix)) (sym (take-append-drop n u.prefix)) f.same h in
         let paid = face_paid cmp ta tb t u n xs i ys j sides f in
-        doing_start cmp ta tb i j R asks xs ys sides made spent _ e f.listed
-        (script_asked cmp o ta tb i j asks an xs ys f.listed.events left_children right_children f.listed.script
-        (rw (f.left.children, f.right.children) below)) (omega (arith, paid, c))
+        doing_start cmp ta tb i j l R asks xs ys sides made spent _ e f.listed
+        (script_asked cmp o ta tb i j l asks an xs ys f.listed.events left_children right_children f.listed.script
+        (rw (f.left.children, f.right.children) (λ x q. lead _ _ (below x q)))) (omega (arith, paid, c))
 
     module _ (ls : List A) (rs : List B) (todo : List Side) (made : List (Tree K U)) (spent budget : ℕ)
-        (d : IsDoing cmp ta tb i j R asks xs ys ls rs todo made spent budget) (end : todo ≡ []) where
+        (d : IsDoing cmp ta tb i j l R asks xs ys ls rs todo made spent budget) (end : todo ≡ []) where
       whole_script : (rest : List (Event A B)) (done : List (Event A B)) → ◌≡◌ {A = List Side} [] (map (λ e. side_of e) rest)
           → IsScript (by_component ta tb i j cmp) xs ys (done ++ rest) → IsScript (by_component ta tb i j cmp) xs ys done
       whole_script [] done e s = subst (λ l. IsScript (by_component ta tb i j cmp) xs ys l) (append-nil done) s
       whole_script (e ∷ es) done z s = absurd (cc)
 
-      made_of : AreChildren cmp (forest made) × IsCombinedIn cmp (values cmp) R (shortened_in ta i xs) (shortened_in tb j ys) (forest made)
+      made_of : AreChildren cmp (forest made) × IsCombinedIn cmp l R (shortened_in ta i xs) (shortened_in tb j ys) (forest made)
       made_of =
           let s = whole_script d.rest (map (λ d. d.0) d.done) (sym end ∙ d.sides_are) d.script in
-          rw d.made_are (script_made cmp o ta tb i j R none xs ys d.done left_children right_children s d.made_at)
+          rw d.made_are (script_made cmp o ta tb i j l R none xs ys d.done left_children right_children s d.made_at)
 
       -- the trees that were made are canonical children
       pub made_children : AreChildren cmp (forest made)
       made_children = made_of.0
 
-      -- the node of these trees is what the combine says of both
-      pub combined : (v : Option U) (front : List K) (out : Option (Tree K U))
-          → R (value_at t (drop n t.prefix)) (value_at u (drop n u.prefix)) v → front ≡ take n t.prefix
-          → out ≡ solid_child front v (forest made) → IsBothMade cmp R t u out
-      combined v front out root e g =
-          let below = subst (λ h. IsCombinedIn cmp (values cmp) R (children_at t (drop n t.prefix)) h (forest made)) f.right.children
-          (subst (λ h. IsCombinedIn cmp (values cmp) R h (shortened_in tb j ys) (forest made)) f.left.children made_of.1) in
-          subst (λ z. IsBothMade cmp R t u z) (sym (g ∙ ap (λ p. solid_child p v (forest made)) e)) (record {
+      -- the node of these trees is what the combine says of both, by what it says of what is below
+      pub combined : (S : Option V → O → Option U → Type 0) → S None l.none None
+          → ((v : Option V) (w : O) (z : Option U) → R v w z → S v (l.under (value_at u (drop n u.prefix)) w) z)
+          → (v : Option U) (front : List K) (out : Option (Tree K U))
+          → S (value_at t (drop n t.prefix)) (l.at (value_at u (drop n u.prefix))) v → front ≡ take n t.prefix
+          → out ≡ solid_child front v (forest made) → IsBothMadeBy cmp l S t u out
+      combined S nothing lead v front out root e g =
+          let below = subst (λ h. IsCombinedIn cmp l R (children_at t (drop n t.prefix)) h (forest made)) f.right.children
+          (subst (λ h. IsCombinedIn cmp l R h (shortened_in tb j ys) (forest made)) f.left.children made_of.1) in
+          subst (λ z. IsBothMadeBy cmp l S t u z) (sym (g ∙ ap (λ p. solid_child p v (forest made)) e)) (record {
             child = joined_child cmp (take n t.prefix) v (forest made) made_children;
             begins = λ y z a b q. front_begins o n t.prefix u.prefix v (forest made) y z a b q f.parts;
             binds =
-                trees_combined cmp o (values cmp) R none t u (take n t.prefix) (drop n t.prefix) (take n u.prefix) (drop n u.prefix)
+                trees_combined cmp o l S nothing t u (take n t.prefix) (drop n t.prefix) (take n u.prefix) (drop n u.prefix)
                 v (forest made) (sym (take-append-drop n t.prefix)) (sym (take-append-drop n u.prefix)) f.same made_children root
-                below;
+                (λ x q. lead _ _ _ (below x q));
           })

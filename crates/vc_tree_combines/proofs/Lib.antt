@@ -7,3 +7,8 @@ pub mod Paying
 pub mod Next
 pub mod Ending
 pub mod Alone
+pub mod Meeting
+pub mod Passing
+pub mod Testing
+pub mod Filtered
+pub mod AnsweredAlone

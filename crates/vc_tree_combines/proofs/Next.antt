@@ -14,6 +14,7 @@ use Rattle.vc_tree_model.specs.Shortened.{weight}
 use Rattle.vc_tree_model.specs.Tree.{Tree, nodes, shortened}
 use Rattle.vc_tree_model.specs.Map.{lookup}
 use Rattle.vc_tree_model.specs.Canonical.{AreChildren}
+use Rattle.vc_tree_model.proofs.Look.{Look}
 use Rattle.vc_tree_nodes.specs.Parting.{Agree}
 use Rattle.vc_tree_combines.specs.Facing.{shortened_in, ended, GoesOn, IsOpened, Parts}
 use Rattle.vc_tree_combines.specs.Made.{IsAskedAt, IsDoing, owed}
@@ -37,12 +38,12 @@ module _ {A B : Type 0} where
   right_rest P (right_alone y ∷ ds) es a = right_rest P ds es a.1
   right_rest P (collision x y ∷ ds) es a = right_rest P ds es a.1
 
-  event_rest : (P : Event A B → Type 0) (ds es : List (Event A B)) → AllByRecursion P (ds ++ es) → AllByRecursion P es
+  pub event_rest : (P : Event A B → Type 0) (ds es : List (Event A B)) → AllByRecursion P (ds ++ es) → AllByRecursion P es
   event_rest P [] es a = a
   event_rest P (d ∷ ds) es a = event_rest P ds es a.1
 
 -- two keys that begin alike agree for one component
-agree_first : {K : Type 0} (cmp : K → K → Ordering) (p q : List K) (x y : K) → slice_get p 0 ≡ Some x → slice_get q 0 ≡ Some y
+pub agree_first : {K : Type 0} (cmp : K → K → Ordering) (p q : List K) (x y : K) → slice_get p 0 ≡ Some x → slice_get q 0 ≡ Some y
     → cmp x y ≡ Equal → Agree cmp p q 1
 agree_first cmp [] q x y e f h = absurd (cc)
 agree_first cmp (x' ∷ p) [] x y e f h = absurd (cc)
@@ -74,10 +75,10 @@ both_not_right s e f = cc
 pub both_not_left : (s : Side) → s ≡ Both → Left ≡ s → ⊥
 both_not_left s e f = cc
 
-module _ {K V W U A B : Type 0} (cmp : K → K → Ordering) (ta : A → Tree K V) (tb : B → Tree K W) (i j : ℕ)
-    (R : Option V → Option W → Option U → Type 0) (asks : Option V → Option W → Type 0) (xs : List A) (ys : List B)
+module _ {K V W U O A B : Type 0} (cmp : K → K → Ordering) (ta : A → Tree K V) (tb : B → Tree K W) (i j : ℕ) (l : Look cmp W O)
+    (R : Option V → O → Option U → Type 0) (asks : Option V → O → Type 0) (xs : List A) (ys : List B)
     (ls : List A) (rs : List B) (all : List Side) (made : List (Tree K U)) (spent budget : ℕ)
-    (d : IsDoing cmp ta tb i j R asks xs ys ls rs all made spent budget) where
+    (d : IsDoing cmp ta tb i j l R asks xs ys ls rs all made spent budget) where
   -- what holds of all trees of a side, holds of the next one
   left_head : (P : A → Type 0) (x : A) (ls' : List A) → ls ≡ x ∷ ls' → AllByRecursion P xs → P x
   left_head P x ls' e a =
@@ -126,39 +127,39 @@ module _ {K V W U A B : Type 0} (cmp : K → K → Ordering) (ta : A → Tree K 
 
   -- and may be asked of
   pub left_asked : (sides : List Side) → all ≡ Left ∷ sides → (x : A) (ls' : List A) → ls ≡ x ∷ ls' → (k : List K)
-      → asks (lookup cmp (shortened i (ta x)) k) None
+      → asks (lookup cmp (shortened i (ta x)) k) l.none
   left_asked sides z x ls' e =
       let f = left_first sides d.rest (sym z ∙ d.sides_are) in
-      let g = left_is cmp ta tb i j R asks xs ys ls rs all made spent budget d f.0 f.1 x ls' (ap lefts (sym f.2)) e in
-      subst (λ x. (k : List K) → asks (lookup cmp (shortened i (ta x)) k) None) (sym g.0)
-      (subst (AllByRecursion (IsAskedAt cmp ta tb i j asks)) f.2 d.asked).0
+      let g = left_is cmp ta tb i j l R asks xs ys ls rs all made spent budget d f.0 f.1 x ls' (ap lefts (sym f.2)) e in
+      subst (λ x. (k : List K) → asks (lookup cmp (shortened i (ta x)) k) l.none) (sym g.0)
+      (subst (AllByRecursion (IsAskedAt cmp ta tb i j l asks)) f.2 d.asked).0
 
   pub right_asked : (sides : List Side) → all ≡ Right ∷ sides → (y : B) (rs' : List B) → rs ≡ y ∷ rs' → (k : List K)
-      → asks None (lookup cmp (shortened j (tb y)) k)
+      → asks None (l.of_tree (shortened j (tb y)) k)
   right_asked sides z y rs' e =
       let f = right_first sides d.rest (sym z ∙ d.sides_are) in
-      let g = right_is cmp ta tb i j R asks xs ys ls rs all made spent budget d f.0 f.1 y rs' (ap rights (sym f.2)) e in
-      subst (λ y. (k : List K) → asks None (lookup cmp (shortened j (tb y)) k)) (sym g.0)
-      (subst (AllByRecursion (IsAskedAt cmp ta tb i j asks)) f.2 d.asked).0
+      let g = right_is cmp ta tb i j l R asks xs ys ls rs all made spent budget d f.0 f.1 y rs' (ap rights (sym f.2)) e in
+      subst (λ y. (k : List K) → asks None (l.of_tree (shortened j (tb y)) k)) (sym g.0)
+      (subst (AllByRecursion (IsAskedAt cmp ta tb i j l asks)) f.2 d.asked).0
 
   module _ (sides : List Side) (z : all ≡ Both ∷ sides) (x : A) (ls' : List A) (y : B) (rs' : List B) (el : ls ≡ x ∷ ls')
       (er : rs ≡ y ∷ rs') where
-    pub both_asked : (k : List K) → asks (lookup cmp (shortened i (ta x)) k) (lookup cmp (shortened j (tb y)) k)
+    pub both_asked : (k : List K) → asks (lookup cmp (shortened i (ta x)) k) (l.of_tree (shortened j (tb y)) k)
     both_asked =
         let f = both_first sides d.rest (sym z ∙ d.sides_are) in
-        let g = left_is cmp ta tb i j R asks xs ys ls rs all made spent budget d f.0 f.2 x ls' (ap lefts (sym f.3)) el in
-        let h = right_is cmp ta tb i j R asks xs ys ls rs all made spent budget d f.1 f.2 y rs' (ap rights (sym f.3)) er in
-        subst (λ x. (k : List K) → asks (lookup cmp (shortened i (ta x)) k) (lookup cmp (shortened j (tb y)) k)) (sym g.0)
-        (subst (λ y. (k : List K) → asks (lookup cmp (shortened i (ta f.0)) k) (lookup cmp (shortened j (tb y)) k)) (sym h.0)
-        (subst (AllByRecursion (IsAskedAt cmp ta tb i j asks)) f.3 d.asked).0)
+        let g = left_is cmp ta tb i j l R asks xs ys ls rs all made spent budget d f.0 f.2 x ls' (ap lefts (sym f.3)) el in
+        let h = right_is cmp ta tb i j l R asks xs ys ls rs all made spent budget d f.1 f.2 y rs' (ap rights (sym f.3)) er in
+        subst (λ x. (k : List K) → asks (lookup cmp (shortened i (ta x)) k) (l.of_tree (shortened j (tb y)) k)) (sym g.0)
+        (subst (λ y. (k : List K) → asks (lookup cmp (shortened i (ta f.0)) k) (l.of_tree (shortened j (tb y)) k)) (sym h.0)
+        (subst (AllByRecursion (IsAskedAt cmp ta tb i j l asks)) f.3 d.asked).0)
 
     -- what a call for two that meet takes is within the budget
     pub both_paid : (spent' : ℕ) → spent' + 2 ≤ spent + 3 * (weight (shortened i (ta x)) + weight (shortened j (tb y)))
         → spent' ≤ budget
     both_paid spent' c =
         let f = both_first sides d.rest (sym z ∙ d.sides_are) in
-        let g = left_is cmp ta tb i j R asks xs ys ls rs all made spent budget d f.0 f.2 x ls' (ap lefts (sym f.3)) el in
-        let h = right_is cmp ta tb i j R asks xs ys ls rs all made spent budget d f.1 f.2 y rs' (ap rights (sym f.3)) er in
+        let g = left_is cmp ta tb i j l R asks xs ys ls rs all made spent budget d f.0 f.2 x ls' (ap lefts (sym f.3)) el in
+        let h = right_is cmp ta tb i j l R asks xs ys ls rs all made spent budget d f.1 f.2 y rs' (ap rights (sym f.3)) er in
         let cost = rw (g.0, h.0) at c in
         let paid = subst (λ l. spent + owed cmp ta tb i j l ≤ budget) f.3 d.paid in
         omega (arith, cost, paid)
@@ -166,8 +167,8 @@ module _ {K V W U A B : Type 0} (cmp : K → K → Ordering) (ta : A → Tree K 
     matched : by_component ta tb i j cmp (inl x) (inr y) ≡ Equal
     matched =
         let f = both_first sides d.rest (sym z ∙ d.sides_are) in
-        let g = left_is cmp ta tb i j R asks xs ys ls rs all made spent budget d f.0 f.2 x ls' (ap lefts (sym f.3)) el in
-        let h = right_is cmp ta tb i j R asks xs ys ls rs all made spent budget d f.1 f.2 y rs' (ap rights (sym f.3)) er in
+        let g = left_is cmp ta tb i j l R asks xs ys ls rs all made spent budget d f.0 f.2 x ls' (ap lefts (sym f.3)) el in
+        let h = right_is cmp ta tb i j l R asks xs ys ls rs all made spent budget d f.1 f.2 y rs' (ap rights (sym f.3)) er in
         let m = event_rest (IsMatched (by_component ta tb i j cmp)) (map (λ d. d.0) d.done) d.rest d.script.matched in
         rw (g.0, h.0) (subst (AllByRecursion (IsMatched (by_component ta tb i j cmp))) f.3 m).0
 
@@ -175,18 +176,18 @@ module _ {K V W U A B : Type 0} (cmp : K → K → Ordering) (ta : A → Tree K 
     pub both_agree : AreChildren cmp (shortened_in ta i xs) → AreChildren cmp (shortened_in tb j ys)
         → Agree cmp (drop i (ta x).prefix) (drop j (tb y).prefix) 1
     both_agree ca cb =
-        let l = left_head (λ x. (k : K) × (slice_get (ta x).prefix i ≡ Some k)) x ls' el (components cmp ta i xs ca) in
+        let f = left_head (λ x. (k : K) × (slice_get (ta x).prefix i ≡ Some k)) x ls' el (components cmp ta i xs ca) in
         let r = right_head (λ y. (k : K) × (slice_get (tb y).prefix j ≡ Some k)) y rs' er (components cmp tb j ys cb) in
-        agree_first cmp (drop i (ta x).prefix) (drop j (tb y).prefix) l.0 r.0 (get_drop i (ta x).prefix ∙ l.1)
-        (get_drop j (tb y).prefix ∙ r.1) (rw (l.1, r.1) at matched)
+        agree_first cmp (drop i (ta x).prefix) (drop j (tb y).prefix) f.0 r.0 (get_drop i (ta x).prefix ∙ f.1)
+        (get_drop j (tb y).prefix ∙ r.1) (rw (f.1, r.1) at matched)
 
     -- and have fewer nodes than the trees that they stand below
     pub falls : (t : Tree K V) (u : Tree K W) (p q : List K) → IsOpened ta t p xs i → IsOpened tb u q ys j → Parts cmp p q
         → nodes (ta x) + nodes (tb y) < nodes t + nodes u
     falls t u p q a b w =
-        let l = left_head (λ x. nodes (ta x) + ended p ≤ nodes t) x ls' el a.smaller in
+        let f = left_head (λ x. nodes (ta x) + ended p ≤ nodes t) x ls' el a.smaller in
         let r = right_head (λ y. nodes (tb y) + ended q ≤ nodes u) y rs' er b.smaller in
         let fl = left_head (λ x. GoesOn p (slice_get (ta x).prefix i)) x ls' el a.first in
         let fr = right_head (λ y. GoesOn q (slice_get (tb y).prefix j)) y rs' er b.first in
         let e = apart_or_ended cmp ta tb i j p q x y w fl fr matched in
-        omega (arith, l, r, e)
+        omega (arith, f, r, e)

@@ -1,4 +1,5 @@
 -- What stands below a place in the prefix of a tree.
+--     goes_on        a key that goes on with a component
 --     opened_all        where the prefix ended, the children
 --     opened_rest, opened_behind        where it goes on, the tree itself
 --     faced_lower, faced_higher, faced_inside, faced_behind        two trees side by side
@@ -24,7 +25,7 @@ use Rattle.vc_tree_combines.specs.declared.sides.Side.TheVariants.{Left, Right}
 use Rattle.vc_tree_combines.proofs.Around.{IsPlaceOf, get_drop, apart_lower, apart_higher, around_right}
 
 -- a key that goes on with a component
-goes_on : {K : Type 0} (n : ℕ) (p : List K) (x : K) → slice_get p n ≡ Some x → (rest : List K) × (drop n p ≡ x ∷ rest)
+pub goes_on : {K : Type 0} (n : ℕ) (p : List K) (x : K) → slice_get p n ≡ Some x → (rest : List K) × (drop n p ≡ x ∷ rest)
 goes_on n [] x e = none_some x e
 goes_on zero (y ∷ p) x e = (p, let h : y ≡ x = cc in rw h refl)
 goes_on (suc n) (y ∷ p) x e = goes_on n p x e

@@ -2,3 +2,4 @@ pub mod Sides
 pub mod Around
 pub mod Facing
 pub mod Made
+pub mod Meeting

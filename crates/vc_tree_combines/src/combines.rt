@@ -11,13 +11,13 @@ ghost use Rattle.vc_tree_model.specs.Tree.{shortened};
 ghost use Rattle.vc_tree_model.specs.Value.{Copies};
 ghost use Rattle.vc_tree_combines.specs.Made.{IsMade};
 
-use crate::engine::{Combine, combine_at};
+use crate::engine::{Combine, combine_whole};
 use crate::sides::Side;
 use std::alloc::{AllocError, Global};
 use std::marker::PhantomData;
 use vc_merge::merge::Count;
 use vc_merge::states::Uncounted;
-use vc_tree_nodes::building::{Build, Seal};
+use vc_tree_nodes::building::Build;
 use vc_tree_nodes::copying::{clone_value, copy_shortened};
 use vc_tree_nodes::reading::{RadixNode, TKey, TValue};
 
@@ -267,29 +267,6 @@ impl<K: TKey, V: TValue, W: TValue, A: RadixNode<K, V>, B: RadixNode<K, W>, M: B
     }
 }
 
-/// What a combine makes of two whole trees.
-fn combine<
-    K: TKey,
-    V: TValue,
-    W: TValue,
-    A: RadixNode<K, V>,
-    B: RadixNode<K, W>,
-    O: Combine<K, V, W, A, B>,
-    C: Count,
->(this: &A, that: &B, op: &O, steps: &mut C) -> Result<O::Made, AllocError>
-    requires asks { (k : List K) → O.asks op.now (lookup K.cmp (A.tree this.now) k) (lookup K.cmp (B.tree that.now) k) }
-    ensures made { IfOk result (λ made.
-        IsCombined K.cmp (O.says op.now) (A.tree this.now) (B.tree that.now) (O.Made.tree made)) }
-    ensures counted { C.counted steps.new
-        ≤ C.counted steps.old + 3 * (weight (A.tree this.now) + weight (B.tree that.now)) }
-{
-    let alloc = this.allocator();
-    match combine_at(alloc, this, 0, that, 0, 0, op, steps)? {
-        Some(tree) => Ok(tree),
-        None => Ok(O::Made::blank(alloc, Seal::new())),
-    }
-}
-
 /// The keys that both trees bind, with what the closure answers.
 pub fn inner_combine<
     K: TKey,
@@ -308,7 +285,7 @@ pub fn inner_combine<
         answer: f,
         made: PhantomData,
     };
-    combine(this, that, &op, &mut Uncounted)
+    combine_whole(this, that, &op, &mut Uncounted)
 }
 
 /// The keys of both trees, the shared ones with what the closure answers.
@@ -332,7 +309,7 @@ pub fn outer_combine<
         answer: f,
         made: PhantomData,
     };
-    combine(this, that, &op, steps)
+    combine_whole(this, that, &op, steps)
 }
 
 /// The keys of both trees, the shared ones with the value of the left.
@@ -344,7 +321,7 @@ pub fn union<K: TKey, V: TValue, A: Build<K, V>, B: RadixNode<K, V>>(
         IsCombined K.cmp (IsUnionAt (Copies V.is_clone) V.is_clone) (A.tree this.now) (B.tree that.now) (A.tree made)) }
 {
     let op: KeepAll<A> = KeepAll { made: PhantomData };
-    combine(this, that, &op, &mut Uncounted)
+    combine_whole(this, that, &op, &mut Uncounted)
 }
 
 /// The keys that both trees bind, with the values of the left.
@@ -356,7 +333,7 @@ pub fn intersection<K: TKey, V: TValue, W: TValue, A: Build<K, V>, B: RadixNode<
         IsCombined K.cmp (IsIntersectionAt (Copies V.is_clone)) (A.tree this.now) (B.tree that.now) (A.tree made)) }
 {
     let op: KeepShared<A> = KeepShared { made: PhantomData };
-    combine(this, that, &op, &mut Uncounted)
+    combine_whole(this, that, &op, &mut Uncounted)
 }
 
 /// The keys that the left tree alone binds.
@@ -368,7 +345,7 @@ pub fn difference<K: TKey, V: TValue, W: TValue, A: Build<K, V>, B: RadixNode<K,
         IsCombined K.cmp (IsDifferenceAt (Copies V.is_clone)) (A.tree this.now) (B.tree that.now) (A.tree made)) }
 {
     let op: KeepLeft<A> = KeepLeft { made: PhantomData };
-    combine(this, that, &op, &mut Uncounted)
+    combine_whole(this, that, &op, &mut Uncounted)
 }
 
 /// The tree with the first `n` components off every key.

@@ -3,6 +3,7 @@
 ghost use Rattle.std.specs.Prelude.{◌≡◌, ◌+◌, ◌*◌, ◌<◌, ◌≤◌, ◌++◌, List, [], Option, None, IfOk, drop, length, map, option_map};
 ghost use Rattle.std.specs.List.{cons_option};
 ghost use Rattle.std.specs.Option.{option_copied};
+ghost use Rattle.vc_tree_model.specs.Combine.{IsCombined};
 ghost use Rattle.vc_tree_model.specs.Tree.{forest, shortened};
 ghost use Rattle.vc_tree_model.specs.Map.{lookup};
 ghost use Rattle.vc_tree_model.specs.Canonical.{AreChildren};
@@ -16,7 +17,7 @@ use crate::facing::{Facing, face};
 use crate::sides::Side;
 use std::alloc::{AllocError, Global};
 use vc_merge::merge::Count;
-use vc_tree_nodes::building::Build;
+use vc_tree_nodes::building::{Build, Seal};
 use vc_tree_nodes::making::{new_joined, new_node};
 use vc_tree_nodes::reading::{RadixNode, TKey, TValue};
 
@@ -88,7 +89,7 @@ pub fn finish<K: TKey, V: TValue, M: Build<K, V>>(
 }
 
 /// Adds a tree, if there is one.
-fn keep<K: TKey, V: TValue, M: Build<K, V>>(
+pub fn keep<K: TKey, V: TValue, M: Build<K, V>>(
     kids: &mut Vec<M>,
     kid: Option<M>,
 ) -> Result<(), AllocError>
@@ -102,7 +103,7 @@ fn keep<K: TKey, V: TValue, M: Build<K, V>>(
 }
 
 /// The value of the node that stands behind a front of what is left of a prefix.
-fn value_at<K: TKey, V: TValue, T: RadixNode<K, V>>(
+pub fn value_at<K: TKey, V: TValue, T: RadixNode<K, V>>(
     tree: &T,
     from: usize,
     front: usize,
@@ -204,4 +205,27 @@ pub fn combine_at<
     let value = combine_values(a, i, b, j, front, op)?;
     let made = finish(alloc, &prefix[..front], value, kids)?;
     Ok(made)
+}
+
+/// What a combine makes of two whole trees.
+pub fn combine_whole<
+    K: TKey,
+    V: TValue,
+    W: TValue,
+    A: RadixNode<K, V>,
+    B: RadixNode<K, W>,
+    O: Combine<K, V, W, A, B>,
+    C: Count,
+>(this: &A, that: &B, op: &O, steps: &mut C) -> Result<O::Made, AllocError>
+    requires asks { (k : List K) → O.asks op.now (lookup K.cmp (A.tree this.now) k) (lookup K.cmp (B.tree that.now) k) }
+    ensures made { IfOk result (λ made.
+        IsCombined K.cmp (O.says op.now) (A.tree this.now) (B.tree that.now) (O.Made.tree made)) }
+    ensures counted { C.counted steps.new
+        ≤ C.counted steps.old + 3 * (weight (A.tree this.now) + weight (B.tree that.now)) }
+{
+    let alloc = this.allocator();
+    match combine_at(alloc, this, 0, that, 0, 0, op, steps)? {
+        Some(tree) => Ok(tree),
+        None => Ok(O::Made::blank(alloc, Seal::new())),
+    }
 }

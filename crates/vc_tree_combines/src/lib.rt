@@ -3,6 +3,9 @@
 #![tactic(auto)]
 
 pub mod combines;
-mod engine;
-mod facing;
-mod sides;
+pub mod engine;
+pub mod facing;
+pub mod filtering;
+pub mod keys;
+pub mod left;
+pub mod sides;

@@ -2,7 +2,8 @@
 --     ShareKey cmp t u        some key is bound by both
 --     AreDisjoint cmp t u        no key is
 --     HasKeysOf cmp u t        u binds each key that t binds
-use Rattle.std.specs.Prelude.{List, IsSome}
+--     LacksKeyOf cmp u t        some key that t binds is not bound by u
+use Rattle.std.specs.Prelude.{List, IsSome, IsNone}
 use Rattle.std.specs.declared.cmp.Ordering.{Ordering}
 use Rattle.vc_tree_model.specs.Tree.{Tree}
 use Rattle.vc_tree_model.specs.Map.{lookup}
@@ -19,3 +20,7 @@ module _ {K V W : Type 0} (cmp : K → K → Ordering) where
   -- u binds each key that t binds
   abbrev pub HasKeysOf : Tree K W → Tree K V → Type 0
   HasKeysOf u t = (k : List K) → IsSome (lookup cmp t k) → IsSome (lookup cmp u k)
+
+  -- some key that t binds is not bound by u
+  abbrev pub LacksKeyOf : Tree K W → Tree K V → Type 0
+  LacksKeyOf u t = (k : List K) × IsSome (lookup cmp t k) × IsNone (lookup cmp u k)

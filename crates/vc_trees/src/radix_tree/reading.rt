@@ -1,11 +1,12 @@
 //! The calls that read a radix tree.
 
-ghost use Rattle.std.specs.Prelude.{◌≡◌, ◌+◌, ◌*◌, ◌<◌, ◌≤◌, List, Ok, IfOk, length, map};
+ghost use Rattle.std.specs.Prelude.{◌≡◌, ◌+◌, ◌*◌, ◌<◌, ◌≤◌, List, Ok, IfOk, length, map, MatchBool};
 ghost use Rattle.std.specs.Option.{is_some, option_copied};
 ghost use Rattle.vc_merge.specs.Count.{digits};
 ghost use Rattle.vc_tree_model.specs.Tree.{is_bare, shortened, width};
-ghost use Rattle.vc_tree_model.specs.Asking.{MayAnswer, CanAsk};
-ghost use Rattle.vc_tree_model.specs.Combine.{IsCombined, IsOuterAt, IsInnerAt};
+ghost use Rattle.vc_tree_model.specs.Asking.{MayAnswer, MayAnswerAt, CanAsk, CanAskAt};
+ghost use Rattle.vc_tree_model.specs.Combine.{IsCombined, IsOuterAt, IsInnerAt, IsLeftAt};
+ghost use Rattle.vc_tree_model.specs.KeySets.{AreDisjoint, HasKeysOf, LacksKeyOf, ShareKey};
 ghost use Rattle.vc_tree_model.specs.Map.{lookup};
 ghost use Rattle.vc_tree_model.specs.Same.{IsAlike};
 ghost use Rattle.vc_tree_model.specs.Shortened.{weight, IsShortened};
@@ -18,7 +19,7 @@ ghost use Rattle.vc_tree_walks.specs.ValuesLeft.{values_left};
 use crate::radix_tree::writing::AbstractRadixTreeMut;
 use std::alloc::AllocError;
 use vc_merge::merge::{Steps, Uncounted};
-use vc_tree_combines::combines;
+use vc_tree_combines::{combines, keys, left};
 use vc_tree_nodes::reading::{RadixNode, TKey, TValue};
 use vc_tree_nodes::{descent, reading};
 use vc_tree_walks::iter::Iter;
@@ -62,6 +63,38 @@ pub trait AbstractRadixTree<K: TKey, V: TValue>: RadixNode<K, V> {
         ensures counted { steps.new ≤ steps.old + length key.now * (1 + digits (width (Self.tree self.now))) }
     {
         descent::get(self, key, steps)
+    }
+
+    /// Whether some key is bound by both trees. Takes no memory.
+    final fn intersects<W: TValue, S: AbstractRadixTree<K, W>>(&self, that: &S) -> bool
+        ensures { MatchBool result (ShareKey K.cmp (Self.tree self.now) (S.tree that.now))
+            (AreDisjoint K.cmp (Self.tree self.now) (S.tree that.now)) }
+    {
+        !keys::is_disjoint(self, that)
+    }
+
+    /// Whether no key is bound by both trees. Takes no memory.
+    final fn is_disjoint<W: TValue, S: AbstractRadixTree<K, W>>(&self, that: &S) -> bool
+        ensures { MatchBool result (AreDisjoint K.cmp (Self.tree self.now) (S.tree that.now))
+            (ShareKey K.cmp (Self.tree self.now) (S.tree that.now)) }
+    {
+        keys::is_disjoint(self, that)
+    }
+
+    /// Whether that tree binds each key of this one. Takes no memory.
+    final fn is_subset<W: TValue, S: AbstractRadixTree<K, W>>(&self, that: &S) -> bool
+        ensures { MatchBool result (HasKeysOf K.cmp (S.tree that.now) (Self.tree self.now))
+            (LacksKeyOf K.cmp (S.tree that.now) (Self.tree self.now)) }
+    {
+        keys::is_subset(self, that)
+    }
+
+    /// Whether this tree binds each key of that one. Takes no memory.
+    final fn is_superset<W: TValue, S: AbstractRadixTree<K, W>>(&self, that: &S) -> bool
+        ensures { MatchBool result (HasKeysOf K.cmp (Self.tree self.now) (S.tree that.now))
+            (LacksKeyOf K.cmp (Self.tree self.now) (S.tree that.now)) }
+    {
+        keys::is_subset(that, self)
     }
 
     /// All pairs of the tree, by ascending keys. Takes no memory; a step may, for its key.
@@ -173,6 +206,28 @@ pub trait AbstractRadixTree<K: TKey, V: TValue>: RadixNode<K, V> {
             (Self.tree self.now) (S.tree that.now) (M.tree made)) }
     {
         combines::inner_combine(self, that, &f)
+    }
+
+    /// A fresh tree of keys of this tree: each has what the closure answers of its value and of what that tree binds there, if
+    /// anything, and `None` is for a key that is not to be there. Both trees stay as they were.
+    ///
+    /// Fails only where memory is refused, or a call of the closure.
+    ///
+    /// ```text
+    /// // The prices of the old list, with the new price where there is one.
+    /// let prices: RadixTree<u8, u32> = old.left_combine(&new, |price, change| Ok(Some(*change.unwrap_or(price))))?;
+    /// ```
+    final fn left_combine<
+        W: TValue,
+        M: AbstractRadixTreeMut<K, V>,
+        S: AbstractRadixTree<K, W>,
+        F: Fn(&V, Option<&W>) -> Result<Option<V>, AllocError>,
+    >(&self, that: &S, f: F) -> Result<M, AllocError>
+        requires { (k : List K) → CanAskAt F.Fn f (lookup K.cmp (Self.tree self.now) k) (lookup K.cmp (S.tree that.now) k) }
+        ensures { IfOk result (λ made. IsCombined K.cmp (IsLeftAt (λ v w z. MayAnswerAt F.Fn f v w (Ok z)))
+            (Self.tree self.now) (S.tree that.now) (M.tree made)) }
+    {
+        left::left_combine(self, that, &f)
     }
 }
 

@@ -4,14 +4,15 @@ ghost use Rattle.std.specs.Prelude.{◌≡◌, ◌≤◌, [], Some, length, IfOk
 ghost use Rattle.vc_tree_model.specs.Tree.{made, no_tree};
 ghost use Rattle.vc_tree_model.specs.Combine.{IsCombined, IsUnionAt, IsIntersectionAt, IsDifferenceAt};
 ghost use Rattle.vc_tree_model.specs.Value.{Copies};
-ghost use Rattle.vc_tree_model.specs.Map.{HaveEqualMaps, IsInserted, lookup};
+ghost use Rattle.vc_tree_model.specs.Map.{HaveEqualMaps, IsEqualMap, IsInserted, lookup};
+ghost use Rattle.vc_tree_model.specs.Under.{under};
 ghost use Rattle.vc_tree_model.specs.Canonical.{IsCanonical};
 ghost use Rattle.vc_tree_model.specs.Same.{IsAlike};
 
 use crate::radix_tree::reading::AbstractRadixTree;
 use std::alloc::{AllocError, Global};
 use std::default::MadeWith;
-use vc_tree_combines::combines;
+use vc_tree_combines::{combines, filtering};
 use vc_tree_nodes::building::Seal;
 use vc_tree_nodes::copying::CloneTree;
 use vc_tree_nodes::insertion;
@@ -65,6 +66,18 @@ pub trait AbstractRadixTreeMut<K: TKey, V: TValue>: CloneTree<K, V> + AbstractRa
         ensures canonical { IsCanonical K.cmp (Self.tree self.new) }
     {
         insertion::insert(self, key, value)
+    }
+
+    /// A fresh tree of the keys that start with the prefix, whole, with copies of their values; the empty tree where no key does. This
+    /// tree stays as it was.
+    ///
+    /// Goes down to the node below which these keys stand, as `get` does, and copies it: in an [`ArcRadixTree`] what is below the
+    /// node is shared. Fails only where memory is refused, or the clone of a value.
+    final fn filter_prefix(&self, prefix: &[K]) -> Result<Self, AllocError>
+        ensures { IfOk result (λ made. IsEqualMap (Copies V.is_clone)
+            (under K.cmp (lookup K.cmp (Self.tree self.now)) prefix.now) (lookup K.cmp (Self.tree made))) }
+    {
+        filtering::filter_prefix(self, prefix)
     }
 
     /// A fresh tree of the keys of both, the shared ones with a copy of the left value. Both trees stay as they were.

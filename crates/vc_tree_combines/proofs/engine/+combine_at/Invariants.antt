@@ -1,5 +1,6 @@
 -- The events up to now are done, within what both trees pay; each call goes down to fewer nodes.
 use Rattle.std.proofs.Common.{◌≡◌, ◌+◌, ◌-◌, ◌*◌, map, length}
+use Rattle.vc_tree_model.proofs.Look.{values}
 use Rattle.vc_tree_model.specs.Shortened.{weight}
 use Rattle.vc_tree_model.specs.Tree.{nodes, shortened}
 use Rattle.vc_tree_combines.specs.Facing.{trees_below}
@@ -12,7 +13,7 @@ decreases-combine_at g l = nodes (g.A.RadixNode.tree l.a.now) + nodes (g.B.Radix
 abbrev pub invariant-loop-side : goal.invariant-loop-side
 invariant-loop-side g l = record {
   doing :
-      IsDoing g.K.Ord.cmp g.A.RadixNode.tree g.B.RadixNode.tree l.initial.left.from l.initial.right.from
+      IsDoing g.K.Ord.cmp g.A.RadixNode.tree g.B.RadixNode.tree l.initial.left.from l.initial.right.from (values g.K.Ord.cmp)
       (g.O.Combine.says l.op) (g.O.Combine.asks l.op) (trees_below l.initial.left) (trees_below l.initial.right)
       (trees_below l.left) (trees_below l.right) l.todo (map g.O.Made.RadixNode.tree l.kids.items)
       (g.C.Count.counted l.steps)

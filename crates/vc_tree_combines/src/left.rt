@@ -1,0 +1,127 @@
+//! The combine that asks a closure at each key of the left tree.
+
+ghost use Rattle.std.specs.Prelude.{◌≤◌, List, Option, None, Ok, IfOk, length, option_map, refl};
+ghost use Rattle.std.specs.Option.{option_copied};
+ghost use Rattle.vc_tree_model.specs.Asking.{MayAnswerAt, CanAskAt};
+ghost use Rattle.vc_tree_model.specs.Combine.{IsCombined, IsLeftAt};
+ghost use Rattle.vc_tree_model.specs.Map.{lookup};
+ghost use Rattle.vc_tree_model.specs.Tree.{shortened};
+ghost use Rattle.vc_tree_combines.specs.Made.{IsMade};
+
+use crate::engine::{Combine, combine_whole, finish, keep};
+use crate::sides::Side;
+use std::alloc::{AllocError, Global};
+use std::marker::PhantomData;
+use vc_merge::states::Uncounted;
+use vc_tree_nodes::building::Build;
+use vc_tree_nodes::reading::{RadixNode, TKey, TValue};
+
+/// Keeps the keys of the left tree, with what a closure answers of the value and of what the right tree binds there.
+#[derive(Drop)]
+struct Left<'f, F, M> {
+    answer: &'f F,
+    made: PhantomData<M>,
+}
+
+impl<
+    'f,
+    K: TKey,
+    V: TValue,
+    W: TValue,
+    A: RadixNode<K, V>,
+    B: RadixNode<K, W>,
+    M: Build<K, V>,
+    F: Fn(&V, Option<&W>) -> Result<Option<V>, AllocError>,
+> Combine<K, V, W, A, B> for Left<'f, F, M> {
+    type Made = M;
+
+    ghost says = { λ op. IsLeftAt (λ v w z. MayAnswerAt F.Fn op.answer.now v w (Ok z)) };
+
+    ghost asks = { λ op. CanAskAt F.Fn op.answer.now };
+
+    ghost says_none = { λ op. refl };
+
+    ghost asks_none = { λ op. tt };
+
+    fn expected(&self, sides: &[Side]) -> usize {
+        sides.len()
+    }
+
+    fn at_values(&self, v: Option<&V>, w: Option<&W>) -> Result<Option<V>, AllocError> {
+        match v {
+            Some(v) => (self.answer)(v, w),
+            None => Ok(None),
+        }
+    }
+
+    fn left_alone(&self, alloc: Global, tree: &A, from: usize) -> Result<Option<M>, AllocError> {
+        answer_alone(alloc, tree, from, self.answer)
+    }
+
+    fn right_alone(&self, alloc: Global, tree: &B, from: usize) -> Result<Option<M>, AllocError> {
+        Ok(None)
+    }
+}
+
+/// What is left of a tree, without the first `from` components of its prefix, where the right tree has none of its keys: the
+/// closure is asked at each.
+fn answer_alone<
+    K: TKey,
+    V: TValue,
+    W: TValue,
+    A: RadixNode<K, V>,
+    M: Build<K, V>,
+    F: Fn(&V, Option<&W>) -> Result<Option<V>, AllocError>,
+>(alloc: Global, tree: &A, from: usize, answer: &F) -> Result<Option<M>, AllocError>
+    requires within { from ≤ length (A.tree tree.now).prefix }
+    requires asks { (k : List K) → CanAskAt F.Fn answer.now (lookup K.cmp (shortened from (A.tree tree.now)) k) None }
+    ensures { IfOk result (λ made. IsMade K.cmp (λ v z. IsLeftAt (λ v w z. MayAnswerAt F.Fn answer.now v w (Ok z)) v None z)
+        (shortened from (A.tree tree.now)) (option_map M.tree made)) }
+{
+    let prefix = &tree.prefix()[from..];
+    let children = tree.children();
+    let mut kids = Vec::with_capacity(alloc, children.len())?;
+    for child in children {
+        keep(&mut kids, answer_alone(alloc, child, 0, answer)?)?;
+    }
+    let value = answer_without(tree.value(), answer)?;
+    finish(alloc, prefix, value, kids)
+}
+
+/// What the closure answers of the value of a key that the right tree has not.
+fn answer_without<'a, V, W, F: Fn(&V, Option<&W>) -> Result<Option<V>, AllocError>>(
+    value: Option<&'a V>,
+    answer: &F,
+) -> Result<Option<V>, AllocError>
+where
+    W: 'a,
+    requires { CanAskAt F.Fn answer.now (option_copied value) None }
+    ensures { IfOk result (IsLeftAt (λ v w z. MayAnswerAt F.Fn answer.now v w (Ok z)) (option_copied value.entry) None) }
+{
+    let none: Option<&'a W> = None;
+    match value {
+        Some(v) => answer(v, none),
+        None => Ok(None),
+    }
+}
+
+/// The keys of the left tree, with what the closure answers of the value there and of what the right tree binds, if anything.
+pub fn left_combine<
+    K: TKey,
+    V: TValue,
+    W: TValue,
+    A: RadixNode<K, V>,
+    B: RadixNode<K, W>,
+    M: Build<K, V>,
+    F: Fn(&V, Option<&W>) -> Result<Option<V>, AllocError>,
+>(this: &A, that: &B, f: &F) -> Result<M, AllocError>
+    requires asks { (k : List K) → CanAskAt F.Fn f.now (lookup K.cmp (A.tree this.now) k) (lookup K.cmp (B.tree that.now) k) }
+    ensures { IfOk result (λ made. IsCombined K.cmp (IsLeftAt (λ v w z. MayAnswerAt F.Fn f.now v w (Ok z)))
+        (A.tree this.now) (B.tree that.now) (M.tree made)) }
+{
+    let op: Left<'_, F, M> = Left {
+        answer: f,
+        made: PhantomData,
+    };
+    combine_whole(this, that, &op, &mut Uncounted)
+}

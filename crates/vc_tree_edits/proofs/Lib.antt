@@ -1,0 +1,5 @@
+pub mod Covers
+pub mod Taking
+pub mod Changing
+pub mod Stepping
+pub mod Prepended

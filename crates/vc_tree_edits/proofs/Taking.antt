@@ -1,0 +1,60 @@
+-- A tree that is taken apart behind the front of its prefix.
+--     taken_rest        where the prefix goes on, the tree itself stands below
+--     taken_all        where it ended, the children
+use Rattle.std.proofs.Common.{◌≡◌, ℕ, ◌+◌, ◌-◌, ◌<◌, ◌≤◌, [], ◌∷◌, ◌++◌, List, Option, None, refl, sym, ap, subst, ◌∙◌, arith, map, take, drop, length, length-drop}
+use Rattle.std.proofs.Math.ListN.{drop_of_length-le}
+use Rattle.vc_tree_model.specs.Child.{value_at}
+use Rattle.vc_tree_model.specs.Same.{IsAlikeIn}
+use Rattle.vc_tree_model.specs.Snapshot.{tree_alike_refl, kept_itself}
+use Rattle.vc_tree_model.specs.Tree.{Tree, forest, node, shortened}
+use Rattle.vc_tree_model.specs.Value.{IsKept}
+use Rattle.vc_tree_combines.proofs.Opening.{opened_all, opened_rest, value_inside}
+use Rattle.vc_tree_edits.specs.Taken.{IsTaken}
+
+module _ {K V T : Type 0} (tree : T → Tree K V) (keeps : V → V → Type 0) (itself : (v : V) → keeps v v) (x : T) (i n m : ℕ)
+    (whole front : List K) (whole_is : whole ≡ (tree x).prefix) (cut : front ≡ take m (drop i whole)) (long : m ≡ n) where
+  front_of : front ≡ take n (drop i (tree x).prefix)
+  front_of = cut ∙ ap (λ k. take k (drop i whole)) long ∙ ap (λ p. take n (drop i p)) whole_is
+
+  length_of : length (drop i (tree x).prefix) ≡ length whole - i
+  length_of = length-drop {A = K} i (tree x).prefix ∙ ap (λ p. length p - i) (sym whole_is)
+
+  length_rest : length (drop n (drop i (tree x).prefix)) ≡ length whole - i - n
+  length_rest = length-drop {A = K} n (drop i (tree x).prefix) ∙ ap (λ k. k - n) length_of
+
+  -- where the prefix goes on, the tree itself stands below
+  pub taken_rest : i + n < length whole → (zs xs : List T) → zs ≡ [] → xs ≡ zs ++ x ∷ []
+      → IsTaken tree keeps (shortened i (tree x)) n front None xs (i + n)
+  taken_rest h zs xs z e =
+      let l = length_of in
+      let r = length_rest in
+      let list : xs ≡ x ∷ [] = e ∙ ap (λ l. l ++ x ∷ []) z in
+      rw list (record {
+        taken = shortened i (tree x);
+        alike = tree_alike_refl keeps itself (shortened i (tree x));
+        front_is = front_of;
+        value_is =
+            value_inside (shortened i (tree x)) (drop i (tree x).prefix) (drop i (tree x).prefix) n refl (omega (arith, l, h))
+            (λ s. omega (arith, s, l, h));
+        opened = opened_rest tree x (shortened i (tree x)) i n refl refl (omega (arith, r, h));
+      })
+
+  -- where it ended, the children
+  pub taken_all : length whole ≤ i + n → (value : Option V) (ls xs : List T) → value ≡ (tree x).value
+      → forest (map tree ls) ≡ (tree x).children → IsAlikeIn keeps (forest (map tree ls)) (forest (map tree xs))
+      → IsTaken tree keeps (shortened i (tree x)) n front value xs 0
+  taken_all h value ls xs v c a =
+      let l = length_of in
+      let none : drop n (drop i (tree x).prefix) ≡ [] = drop_of_length-le (drop i (tree x).prefix) (omega (arith, l, h)) in
+      let whole_tree = node (drop i (tree x).prefix) value (forest (map tree xs)) in
+      record {
+        taken = whole_tree;
+        alike = (
+          refl,
+          subst (λ w. IsKept keeps w value) v (kept_itself keeps itself value),
+          subst (λ f. IsAlikeIn keeps f (forest (map tree xs))) c a,
+        );
+        front_is = front_of;
+        value_is = ap (value_at whole_tree) (sym none);
+        opened = opened_all tree whole_tree (drop n (drop i (tree x).prefix)) xs none refl;
+      }

@@ -1,0 +1,90 @@
+-- Trees that a change in place takes apart. No public clause cites these words.
+--     IsMet        what is known of two trees side by side, once the left one is let go
+--     IsTaken        the parts of a tree, taken apart behind the front of its prefix
+--     IsBegun        the state of a change before the first event
+--     IsNext, IsAdded        one tree taken from the front of a list that is built in place, and one put to its end
+--     IsFirstLong        the first tree that is left goes on behind some components
+--     IsStayed, IsCome        what became of a tree that one side alone has
+use Rattle.std.specs.Prelude.{◌≡◌, ℕ, ◌+◌, ◌<◌, ◌≤◌, List, [], ◌∷◌, ◌++◌, map, length, Option, None, option_map, drop, take}
+use Rattle.std.specs.List.{cons_option}
+use Rattle.std.specs.declared.cmp.Ordering.{Ordering}
+use Rattle.vc_merge.specs.Builder.{Builder}
+use Rattle.vc_tree_model.specs.Canonical.{AreChildren, IsCanonical}
+use Rattle.vc_tree_model.specs.Tree.{Tree, shortened}
+use Rattle.vc_tree_model.specs.Value.{IsKept}
+use Rattle.vc_tree_model.proofs.Look.{Look}
+use Rattle.vc_tree_model.specs.Same.{IsAlike}
+use Rattle.vc_tree_model.specs.Child.{value_at}
+use Rattle.vc_tree_combines.specs.Facing.{shortened_in, IsOpened, IsFaced}
+use Rattle.vc_tree_combines.specs.Made.{IsMade, IsMadeBy, IsDoing}
+use Rattle.vc_tree_combines.specs.declared.sides.Side.{Side}
+
+module _ {K V T : Type 0} (tree : T → Tree K V) where
+  -- some trees stood below the front of the left one
+  pub record IsMet {W B : Type 0} (cmp : K → K → Ordering) (tb : B → Tree K W) (t : Tree K V) (u : Tree K W) (n : ℕ)
+      (ys : List B) (j : ℕ) (sides : List Side) : Type 0 where
+    pub below : List T
+    pub from : ℕ
+    pub faced : IsFaced cmp tree tb t u n below from ys j sides
+
+  -- the parts of a tree that is alike to t: the front of its prefix, the value there, and what stands below
+  pub record IsTaken (keeps : V → V → Type 0) (t : Tree K V) (n : ℕ) (front : List K) (value : Option V) (list : List T) (from : ℕ) : Type 0 where
+    pub taken : Tree K V
+    pub alike : IsAlike keeps t taken
+    pub front_is : front ≡ take n t.prefix
+    pub value_is : value ≡ value_at taken (drop n taken.prefix)
+    pub opened : IsOpened tree taken (drop n taken.prefix) list from
+
+module _ {T : Type 0} where
+  -- the first tree that is left was taken out
+  pub record IsNext (old : Builder T) (first : T) (new : Builder T) : Type 0 where
+    pub rest : old.rest ≡ first ∷ new.rest
+    pub built : new.built ≡ old.built
+    pub room : new.room ≡ old.room + 1
+
+  -- a tree, if there is one, stands behind the others
+  pub record IsAdded (old : Builder T) (tree : Option T) (new : Builder T) : Type 0 where
+    pub built : new.built ≡ old.built ++ cons_option tree []
+    pub rest : new.rest ≡ old.rest
+    pub room : old.room ≤ new.room + 1
+
+module _ {K V W O T B : Type 0} (cmp : K → K → Ordering) (tree : T → Tree K V) (tb : B → Tree K W) (l : Look cmp W O) where
+  -- t, taken apart beside u: its values at the fronts have become `made`, no event is done yet, and there is room for a tree at each
+  pub record IsBegun (keeps : V → V → Type 0) (says below : Option V → O → Option V → Type 0) (asks : Option V → O → Type 0)
+      (t : Tree K V) (u : Tree K W) (front : List K) (made : Option V) (row : Builder T) (i : ℕ) (ys : List B) (j : ℕ)
+      (sides : List Side) : Type 0 where
+    pub length_front : ℕ
+    pub value : Option V
+    pub met : IsMet tree cmp tb t u length_front ys j sides
+    pub taken : IsTaken tree keeps t length_front front value row.rest i
+    pub left_canonical : IsCanonical cmp t
+    pub right_canonical : IsCanonical cmp u
+    pub said : says value (l.at (value_at u (drop length_front u.prefix))) made
+    pub said_below : (v : Option V) (w : O) (z : Option V) → below v w z
+        → says v (l.under (value_at u (drop length_front u.prefix)) w) z
+    pub left : AreChildren cmp (shortened_in tree i row.rest)
+    pub right : AreChildren cmp (shortened_in tb j ys)
+    pub doing : (budget : ℕ) × IsDoing cmp tree tb i j l below asks row.rest ys row.rest ys sides (map tree row.built) 0 budget
+    pub room : length sides ≤ row.room
+
+  -- the first tree that is left was taken out, and what the change leaves of it stands behind the others
+  pub record IsStayed (says : Option V → O → Option V → Type 0) (from : ℕ) (old new : Builder T) : Type 0 where
+    pub first : T
+    pub kid : Option T
+    pub between : Builder T
+    pub next : IsNext old first between
+    pub added : IsAdded between kid new
+    pub made : IsMade cmp (λ v z. says v l.none z) (shortened from (tree first)) (option_map tree kid)
+
+  -- the first tree of the right list was passed, and what the change makes of it stands behind the others
+  pub record IsCome (says : Option V → O → Option V → Type 0) (from : ℕ) (ys ys' : List B) (old new : Builder T) : Type 0 where
+    pub first : B
+    pub kid : Option T
+    pub next : ys ≡ first ∷ ys'
+    pub added : IsAdded old kid new
+    pub made : IsMadeBy cmp l (λ w z. says None w z) (shortened from (tb first)) (option_map tree kid)
+
+-- the first tree that is left goes on behind some components
+abbrev pub IsFirstLong : {K V T : Type 0} → (T → Tree K V) → ℕ → List T → Type 0
+IsFirstLong tree n [] = ⊥
+IsFirstLong tree n (x ∷ xs) = n < length (tree x).prefix
