@@ -1,14 +1,8 @@
 //! What no clause says: that calls succeed with ample memory, shapes as worked out, comparisons, clones and drops of values.
-ghost use Rattle.std.specs.Prelude.{nat_eq};
-ghost use Rattle.std.specs.Ordering.{nat_cmp, on, as_partial_cmp};
-ghost use Rattle.std.specs.Cmp.{partial_order_from_own_ties};
-ghost use Rattle.std.specs.Cmp.Rules.{comparing};
-ghost use Rattle.std.proofs.Common.{rules, refl};
-
 use super::Word;
+use super::compared::Compared;
 use std::alloc::{AllocError, Global};
 use std::cell::Cell;
-use std::cmp::Ordering;
 use std::fmt;
 use std::test::Fail;
 use vc_trees::radix_tree::{
@@ -201,70 +195,6 @@ fn components_are_compared_by_their_order(rt: HostRuntime) -> Result<(), Fail> {
     Ok(())
 }
 
-/// A letter that counts, where it has a counter, how often it is compared.
-#[derive(Clone, Copy)]
-struct Compared<'a> {
-    place: u8,
-    count: Option<&'a Cell<u32>>,
-}
-
-impl Default for Compared<'_> {
-    fn default() -> Self {
-        Compared {
-            place: 0,
-            count: None,
-        }
-    }
-}
-
-impl fmt::Debug for Compared<'_> {
-    fn fmt<W: fmt::Write>(&self, f: &mut fmt::Formatter<W>) -> fmt::Result {
-        let place = self.place;
-        write!(f, "{place}")
-    }
-}
-
-impl PartialEq for Compared<'_> {
-    ghost eq = { on (λ l. l.place) nat_eq };
-
-    ghost laws = { Prim.search (comparing, rules) };
-
-    fn eq(&self, other: &Self) -> bool {
-        self.place == other.place
-    }
-}
-
-impl Eq for Compared<'_> {
-    ghost laws = { Prim.search (comparing, rules) };
-}
-
-impl PartialOrd for Compared<'_> {
-    ghost partial_cmp = { as_partial_cmp (on (λ l. l.place) nat_cmp) };
-
-    ghost laws = { partial_order_from_own_ties (Prim.search (comparing, rules)) (Prim.search (comparing, rules)) };
-
-    fn partial_cmp(&self, other: &Self) -> Option<Ordering> {
-        Some(self.cmp(other))
-    }
-}
-
-impl Ord for Compared<'_> {
-    ghost cmp = { on (λ l. l.place) nat_cmp };
-
-    ghost total = { Prim.search (comparing, rules) };
-
-    ghost matches_partial_cmp = { λ x y. refl };
-
-    ghost matches_eq = { Prim.search (comparing, rules) };
-
-    fn cmp(&self, other: &Self) -> Ordering {
-        if let Some(count) = self.count {
-            count.set(count.get().saturating_add(1));
-        }
-        self.place.cmp(&other.place)
-    }
-}
-
 /// How many letters the longest key of the next tree has.
 const LETTERS: usize = 6;
 
@@ -272,10 +202,10 @@ const LETTERS: usize = 6;
 /// of these letters too, one below the other.
 fn comparisons<'a, T: AbstractRadixTreeMut<Compared<'a>, u32>>(
     alloc: Global,
-    count: &'a Cell<u32>,
-) -> Result<(u32, u32), AllocError> {
+    count: &'a Cell<u128>,
+) -> Result<(u128, u128), AllocError> {
     let key = [Compared {
-        place: 1,
+        number: 1,
         count: Some(count),
     }; LETTERS];
     let mut tree = T::single(alloc, &key, 6)?;

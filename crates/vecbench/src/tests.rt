@@ -7,6 +7,15 @@ use vecbench_lines::serve::serve;
 
 mod total;
 
+/// What a line that is the first of its input is answered where it has that fault.
+const UNKNOWN_COMMAND: &str = "line 1: fault 1: unknown command\n";
+
+const NOT_ASCENDING: &str = "line 1: fault 2: not ascending\n";
+
+const NOT_A_NUMBER_OR_KEY: &str = "line 1: fault 3: not a number or key\n";
+
+const WRONG_COUNT_OF_WORDS: &str = "line 1: fault 4: wrong count of words\n";
+
 /// Inputs, what they are answered, and with which status.
 const INPUTS: [(&str, &str, u8); 63] = [
     // Unions.
@@ -44,96 +53,48 @@ const INPUTS: [(&str, &str, u8); 63] = [
     ("shape .,a\n", ".*(a*)\n", 0),
     ("shape b,a,b\n", ".(a* b*)\n", 0),
     ("shape abc,abd,ab\n", "ab*(c* d*)\n", 0),
-    ("shape a,A\n", "line 1: fault 3: not a number or key\n", 1),
-    ("shape a,\n", "line 1: fault 3: not a number or key\n", 1),
-    ("shape a,-\n", "line 1: fault 3: not a number or key\n", 1),
-    ("shape a,.b\n", "line 1: fault 3: not a number or key\n", 1),
-    ("shape\n", "line 1: fault 4: wrong count of words\n", 1),
-    ("shape a b\n", "line 1: fault 4: wrong count of words\n", 1),
+    ("shape a,A\n", NOT_A_NUMBER_OR_KEY, 1),
+    ("shape a,\n", NOT_A_NUMBER_OR_KEY, 1),
+    ("shape a,-\n", NOT_A_NUMBER_OR_KEY, 1),
+    ("shape a,.b\n", NOT_A_NUMBER_OR_KEY, 1),
+    ("shape\n", WRONG_COUNT_OF_WORDS, 1),
+    ("shape a b\n", WRONG_COUNT_OF_WORDS, 1),
     // Each fault.
-    ("fly\n", "line 1: fault 1: unknown command\n", 1),
-    ("Set union 1 2\n", "line 1: fault 1: unknown command\n", 1),
-    ("set fly 1 2\n", "line 1: fault 1: unknown command\n", 1),
-    ("set union 3,1 2\n", "line 1: fault 2: not ascending\n", 1),
-    ("set union 1 2,2\n", "line 1: fault 2: not ascending\n", 1),
-    (
-        "set union 18446744073709551616 0\n",
-        "line 1: fault 3: not a number or key\n",
-        1,
-    ),
+    ("fly\n", UNKNOWN_COMMAND, 1),
+    ("Set union 1 2\n", UNKNOWN_COMMAND, 1),
+    ("set fly 1 2\n", UNKNOWN_COMMAND, 1),
+    ("set union 3,1 2\n", NOT_ASCENDING, 1),
+    ("set union 1 2,2\n", NOT_ASCENDING, 1),
+    ("set union 18446744073709551616 0\n", NOT_A_NUMBER_OR_KEY, 1),
     (
         "set union 99999999999999999999999 0\n",
-        "line 1: fault 3: not a number or key\n",
+        NOT_A_NUMBER_OR_KEY,
         1,
     ),
-    (
-        "set union 1, 2\n",
-        "line 1: fault 3: not a number or key\n",
-        1,
-    ),
-    (
-        "set union 1,,2 2\n",
-        "line 1: fault 3: not a number or key\n",
-        1,
-    ),
-    (
-        "set union 1,- 2\n",
-        "line 1: fault 3: not a number or key\n",
-        1,
-    ),
-    (
-        "set union +1 2\n",
-        "line 1: fault 3: not a number or key\n",
-        1,
-    ),
-    (
-        "set union 1 2a\n",
-        "line 1: fault 3: not a number or key\n",
-        1,
-    ),
-    (
-        "set union 1\n",
-        "line 1: fault 4: wrong count of words\n",
-        1,
-    ),
-    (
-        "set union 1 2 3\n",
-        "line 1: fault 4: wrong count of words\n",
-        1,
-    ),
-    ("set\n", "line 1: fault 4: wrong count of words\n", 1),
+    ("set union 1, 2\n", NOT_A_NUMBER_OR_KEY, 1),
+    ("set union 1,,2 2\n", NOT_A_NUMBER_OR_KEY, 1),
+    ("set union 1,- 2\n", NOT_A_NUMBER_OR_KEY, 1),
+    ("set union +1 2\n", NOT_A_NUMBER_OR_KEY, 1),
+    ("set union 1 2a\n", NOT_A_NUMBER_OR_KEY, 1),
+    ("set union 1\n", WRONG_COUNT_OF_WORDS, 1),
+    ("set union 1 2 3\n", WRONG_COUNT_OF_WORDS, 1),
+    ("set\n", WRONG_COUNT_OF_WORDS, 1),
     // The fault that comes first.
     // The first word before the count of words.
-    ("fly union\n", "line 1: fault 1: unknown command\n", 1),
+    ("fly union\n", UNKNOWN_COMMAND, 1),
     // The count before the operation and the lists.
-    (
-        "set fly 3,1\n",
-        "line 1: fault 4: wrong count of words\n",
-        1,
-    ),
-    (
-        "set union 3,1 x 1\n",
-        "line 1: fault 4: wrong count of words\n",
-        1,
-    ),
+    ("set fly 3,1\n", WRONG_COUNT_OF_WORDS, 1),
+    ("set union 3,1 x 1\n", WRONG_COUNT_OF_WORDS, 1),
     // The operation before the lists.
-    ("set fly 3,1 x\n", "line 1: fault 1: unknown command\n", 1),
+    ("set fly 3,1 x\n", UNKNOWN_COMMAND, 1),
     // The left list before the right one.
-    ("set union 3,1 x\n", "line 1: fault 2: not ascending\n", 1),
-    (
-        "set union x 3,1\n",
-        "line 1: fault 3: not a number or key\n",
-        1,
-    ),
+    ("set union 3,1 x\n", NOT_ASCENDING, 1),
+    ("set union x 3,1\n", NOT_A_NUMBER_OR_KEY, 1),
     // In one list the numbers before their order.
-    (
-        "set union 3,1,x 2\n",
-        "line 1: fault 3: not a number or key\n",
-        1,
-    ),
+    ("set union 3,1,x 2\n", NOT_A_NUMBER_OR_KEY, 1),
     (
         "set union 2 3,1,18446744073709551616\n",
-        "line 1: fault 3: not a number or key\n",
+        NOT_A_NUMBER_OR_KEY,
         1,
     ),
     // Lines and words.
@@ -149,16 +110,8 @@ const INPUTS: [(&str, &str, u8); 63] = [
     ),
     ("\tset\t union  1 \t 2 \n", "1,2\n", 0),
     // Only the CR that an LF follows ends a line.
-    (
-        "set union 1 2\r",
-        "line 1: fault 3: not a number or key\n",
-        1,
-    ),
-    (
-        "set union 1 2\r\r\n",
-        "line 1: fault 3: not a number or key\n",
-        1,
-    ),
+    ("set union 1 2\r", NOT_A_NUMBER_OR_KEY, 1),
+    ("set union 1 2\r\r\n", NOT_A_NUMBER_OR_KEY, 1),
     (
         "set union 3,1 2\nset union 1 2\nfly",
         "line 1: fault 2: not ascending\n1,2\nline 3: fault 1: unknown command\n",

@@ -1,5 +1,5 @@
 //! Lines that begin with `total`.
-use super::check_all;
+use super::{NOT_A_NUMBER_OR_KEY, NOT_ASCENDING, UNKNOWN_COMMAND, WRONG_COUNT_OF_WORDS, check_all};
 
 #[test]
 fn answers_each_total_operation(rt: HostRuntime) {
@@ -17,32 +17,12 @@ fn answers_each_total_operation(rt: HostRuntime) {
             ("total disjoint !1 1\n", "true\n", 0),
             ("total superset !- 7\n", "true\n", 0),
             ("total subset !- 7\n", "false\n", 0),
-            (
-                "total minus ! 1\n",
-                "line 1: fault 3: not a number or key\n",
-                1,
-            ),
-            (
-                "total minus !!1 1\n",
-                "line 1: fault 3: not a number or key\n",
-                1,
-            ),
-            (
-                "total minus 1 !2,1\n",
-                "line 1: fault 2: not ascending\n",
-                1,
-            ),
-            ("total union 1 2\n", "line 1: fault 1: unknown command\n", 1),
-            (
-                "total minus 1\n",
-                "line 1: fault 4: wrong count of words\n",
-                1,
-            ),
-            (
-                "set union !1 2\n",
-                "line 1: fault 3: not a number or key\n",
-                1,
-            ),
+            ("total minus ! 1\n", NOT_A_NUMBER_OR_KEY, 1),
+            ("total minus !!1 1\n", NOT_A_NUMBER_OR_KEY, 1),
+            ("total minus 1 !2,1\n", NOT_ASCENDING, 1),
+            ("total union 1 2\n", UNKNOWN_COMMAND, 1),
+            ("total minus 1\n", WRONG_COUNT_OF_WORDS, 1),
+            ("set union !1 2\n", NOT_A_NUMBER_OR_KEY, 1),
         ],
     );
 }
