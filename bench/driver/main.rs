@@ -129,7 +129,15 @@ fn print_sets(row: &SetRow, elements: &str, (m, n): (usize, usize), operations: 
 fn time_trees(only: &str, keys: &Keys) {
     let map: BTreeMap<Vec<u8>, u64> = keys.list().zip(0..).collect();
     let list: Vec<Vec<u8>> = keys.list().collect();
-    for (name, number, operations) in [("build", 0, list.len()), ("get", 1, list.len()), ("snapshot and insert", 2, 1)] {
+    let rows = [
+        ("build", 0, list.len()),
+        ("get", 1, list.len()),
+        ("snapshot and insert", 2, 1),
+        ("iter", 3, list.len()),
+        ("values", 4, list.len()),
+        ("into_iter of a snapshot", 5, list.len()),
+    ];
+    for (name, number, operations) in rows {
         if !name.contains(only) {
             continue;
         }
@@ -145,6 +153,9 @@ fn time_trees(only: &str, keys: &Keys) {
                     built.get(&list[0]).copied().unwrap_or(0)
                 }
                 1 => list.iter().filter_map(|key| map.get(key)).map(|number| number + 1).sum(),
+                3 => map.iter().map(|(key, value)| value + key.len() as u64).sum(),
+                4 => map.values().sum(),
+                5 => map.iter().map(|(key, value)| (key.clone(), *value)).map(|(key, value)| value + key.len() as u64).sum(),
                 _ => {
                     let mut copy = map.clone();
                     copy.insert(list[0].clone(), 7);
@@ -153,7 +164,7 @@ fn time_trees(only: &str, keys: &Keys) {
                 }
             })
         };
-        if number == 2 {
+        if number == 2 || number == 5 {
             let [shared, std_map] = times(operations, [&shared, &std_map]);
             println!("| {name} | {} | - | {} | {} |", list.len(), shown(shared), shown(std_map));
         } else {

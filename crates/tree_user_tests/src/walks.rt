@@ -218,8 +218,11 @@ fn a_held_tree_is_dropped_once(rt: HostRuntime) -> Result<(), Fail> {
 /// How many nested keys the deep trees have.
 const DEPTH: u32 = 5000;
 
-/// How many such a tree has that a walk holds, whose steps go down from the root.
-const HELD_DEPTH: u32 = 500;
+/// How many a plain one has that a walk holds, of which each step goes along the way to where the walk stands.
+const HELD_DEPTH: u32 = 2000;
+
+/// How many a shared one has: dropping a node of it takes more of the stack.
+const SHARED_DEPTH: u32 = 500;
 
 /// The tree of nested keys of letters, up to one of so many.
 fn nested<T: AbstractRadixTreeMut<u8, u32>>(alloc: Global, depth: u32) -> Result<T, AllocError> {
@@ -284,10 +287,12 @@ fn deep_trees_are_walked(rt: HostRuntime) -> Result<(), Fail> {
     let counts = count_nested::<RadixTree<u8, u32>>(rt.alloc(), DEPTH)?;
     assert_eq!(rt; counts.0, DEPTH);
     assert_eq!(rt; counts.1, DEPTH);
-    let counts = count_nested::<ArcRadixTree<u8, u32>>(rt.alloc(), HELD_DEPTH)?;
-    assert_eq!(rt; counts.0, HELD_DEPTH);
-    assert_eq!(rt; counts.1, HELD_DEPTH);
-    let held = count_held_nested::<ArcRadixTree<u8, u32>>(rt.alloc(), HELD_DEPTH)?;
+    let counts = count_nested::<ArcRadixTree<u8, u32>>(rt.alloc(), SHARED_DEPTH)?;
+    assert_eq!(rt; counts.0, SHARED_DEPTH);
+    assert_eq!(rt; counts.1, SHARED_DEPTH);
+    let held = count_held_nested::<RadixTree<u8, u32>>(rt.alloc(), HELD_DEPTH)?;
     assert_eq!(rt; held, HELD_DEPTH);
+    let held = count_held_nested::<ArcRadixTree<u8, u32>>(rt.alloc(), SHARED_DEPTH)?;
+    assert_eq!(rt; held, SHARED_DEPTH);
     Ok(())
 }

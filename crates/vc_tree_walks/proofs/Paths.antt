@@ -1,189 +1,238 @@
--- Where a path of counts leads.
---     Leads        the counts before a depth lead to a node
---     leads_root, leads_on, stops        at the root, one node deeper, and where no child is open
+-- Where a path of places leads, and what a step from there does to the pairs that are left.
+--     Leads        the places before a depth lead to a node
+--     leads_root, leads_on, stops, ends        at the root, one node deeper, where no child is open, and where the path ends
+--     opened_rows, opened_work        the row of a node that was opened
+--     started_at        what is left behind the root
 --     left_step, entered_step        a step out of the node that a path leads to, and a step to a child of it
 --     last_child        the child that was entered last
-use Rattle.std.proofs.Common.{◌≡◌, ℕ, zero, suc, ◌+◌, ◌*◌, ◌<◌, ◌≤◌, List, [], ◌∷◌, ◌++◌, length, take, drop, get_or, map, Option, None, Some, refl, sym, ap, ◌∙◌, append_assoc, append-nil, add-one, drop-cons, subst, arith}
-use Rattle.std.proofs.lemmas.List.{take_more, take-append-drop, drop_all, get_or_read}
+use Rattle.std.proofs.Common.{◌≡◌, ℕ, zero, suc, ◌+◌, ◌-◌, ◌*◌, ◌<◌, ◌≤◌, List, [], ◌∷◌, ◌++◌, length, take, drop, get_or, map, Option, None, Some, refl, sym, ap, ◌∙◌, append_assoc, append-nil, add-one, subst, arith, min, ◌==◌, true≢false, false}
+use Rattle.std.proofs.Math.Nat.{min-zero, suc-min-suc, zero-min}
+use Rattle.std.proofs.Math.Seq.{take-length}
+use Rattle.std.proofs.lemmas.List.{take_more, take-append-drop, drop_all}
 use Rattle.std.specs.Prelude.{IfSome, MatchOption}
 use Rattle.std.specs.Borrow.{Bor}
-use Rattle.vc_tree_model.specs.Tree.{Tree, Forest, bare, grow, node, forest_nodes}
-use Rattle.vc_tree_model.specs.Walk.{prepended, walk_in}
+use Rattle.vc_tree_model.specs.Tree.{Tree, Forest, bare, grow, node, nodes, forest_nodes}
+use Rattle.vc_tree_model.specs.Walk.{own_pair, prepended, walk, walk_in}
 use Rattle.vc_tree_nodes.specs.Children.{seen}
-use Rattle.vc_tree_walks.specs.Left.{pair_at}
-use Rattle.vc_tree_walks.specs.OwnedLeft.{skip, tree_at, entered, left_at, pairs_at, work_at, IsReached}
-use Rattle.vc_tree_walks.proofs.Rows.{prepended_twice, first_tree}
+use Rattle.vc_tree_walks.specs.Left.{pair_at, rows_left, outer_work}
+use Rattle.vc_tree_walks.specs.OwnedLeft.{skip, tree_at, entered, opened, rows_at, IsReached}
+use Rattle.vc_tree_walks.specs.declared.owned.Place.{Place}
+use Rattle.vc_tree_walks.proofs.Rows.{own_first, entered as entered_row}
 
--- one more count
-one_more : (path : List ℕ) (d : ℕ) (more : List ℕ) → d < length path
-    → take (d + 1) path ++ more ≡ take d path ++ get_or path d 0 ∷ more
-one_more path d more h =
-    ap (λ xs. xs ++ more) (take_more path d 0 h) ∙ append_assoc (take d path) (get_or path d 0 ∷ []) more
+-- what stands at a place is the same for each default
+same_at : (path : List Place) (d : ℕ) (x y : Place) → d < length path → x ≡ get_or path d x → x ≡ get_or path d y
+same_at [] d x y h e = absurd (omega (arith, h))
+same_at (z ∷ path) zero x y h e = e
+same_at (z ∷ path) (suc d) x y h e = same_at path d x y (omega (arith, h)) e
 
--- a path up to a depth, its count there, and the rest
-parts : (path : List ℕ) (d : ℕ) → d < length path → take d path ++ get_or path d 0 ∷ drop (d + 1) path ≡ path
-parts path d h = rw add-one (ap (λ xs. take d path ++ xs) (sym (drop-cons path d 0 h)) ∙ take-append-drop d path)
+-- and is what is read there
+read_at : (path : List Place) (d : ℕ) (x : Place) → d < length path → get_or path d x ≡ get_or path d (get_or path d x)
+read_at [] d x h = refl
+read_at (z ∷ path) zero x h = refl
+read_at (z ∷ path) (suc d) x h = read_at path d x (omega (arith, h))
+
+-- the first of the first components
+take_taken : {K : Type 0} (m n : ℕ) (l : List K) → take m (take n l) ≡ take (min m n) l
+take_taken zero n l = ap (λ k. take k l) (sym (zero-min n))
+take_taken (suc m) zero l = ap (λ k. take k l) (sym (min-zero (suc m)))
+take_taken (suc m) (suc n) [] = sym (ap (λ k. take k []) (suc-min-suc m n))
+take_taken (suc m) (suc n) (x ∷ l) =
+    ap (λ k. x ∷ k) (take_taken m n l) ∙ sym (ap (λ k. take k (x ∷ l)) (suc-min-suc m n))
+
+-- one more place
+one_more : (path : List Place) (d : ℕ) (place : Place) (more : List Place) → d < length path → place ≡ get_or path d place
+    → take (d + 1) path ++ more ≡ take d path ++ place ∷ more
+one_more path d place more h e =
+    ap (λ xs. xs ++ more) (take_more path d place h) ∙ append_assoc (take d path) (get_or path d place ∷ []) more
+    ∙ ap (λ x. take d path ++ x ∷ more) (sym e)
+
+-- a path up to a depth, its place there, and the rest
+parts : (path : List Place) (d : ℕ) (place : Place) → d < length path → place ≡ get_or path d place
+    → take d path ++ place ∷ drop (d + 1) path ≡ path
+parts path d place h e =
+    sym (one_more path d place (drop (d + 1) path) h e) ∙ take-append-drop (d + 1) path
 
 module _ {K V : Type 0} where
-  -- the counts before a depth lead from the root to a node of this key; the others are left elsewhere
-  pub record Leads (root : Tree K V) (path : List ℕ) (t : Tree K V) (depth : ℕ) (key : List K) : Type 0 where
-    pub others : List (List K × V)
-    pub others_work : ℕ
+  -- the row of a node, as a place has it
+  abbrev row_of_place : Tree K V → Place → Forest K V × ℕ
+  row_of_place t place = (skip place.entered t.children, place.base)
+
+  -- the places before a depth lead from the root to a node; the rows above it are left elsewhere
+  pub record Leads (root : Tree K V) (path : List Place) (t : Tree K V) (depth : ℕ) : Type 0 where
+    pub above : List (Forest K V × ℕ)
     pub within : depth < length path
-    pub left : (more : List ℕ)
-        → pairs_at root (take depth path ++ more) ≡ map (prepended key) (left_at t more) ++ others
-    pub work : (more : List ℕ) → work_at root (take depth path ++ more) ≡ work_at t more + others_work
+    pub rows : (more : List Place) → rows_at root (take depth path ++ more) ≡ rows_at t more ++ above
 
   -- the root
-  pub leads_root : (root : Tree K V) (path : List ℕ) (key : List K) → 0 < length path → key ≡ root.prefix
-      → Leads root path root 0 key
-  leads_root root path key h e = record {
-    others = [];
-    others_work = 0;
-    within = h;
-    left = λ more. ap (λ k. map (prepended k) (left_at root more)) (sym e) ∙ sym (append-nil _);
-    work = λ more. omega arith;
-  }
+  pub leads_root : (root : Tree K V) (path : List Place) → 0 < length path → Leads root path root 0
+  leads_root root path h = record { above = []; within = h; rows = λ more. sym (append-nil (rows_at root more)) }
 
-  -- what is left below a node with an open child
-  left_open : (t c : Tree K V) (n : ℕ) (path : List ℕ) → entered n t.children ≡ Some c
-      → left_at t (n ∷ path) ≡ map (prepended c.prefix) (left_at c path) ++ walk_in (skip n t.children)
-  left_open t c n path e = rw (e, left_at)
-
-  -- and the work
-  work_open : (t c : Tree K V) (n : ℕ) (path : List ℕ) → entered n t.children ≡ Some c
-      → work_at t (n ∷ path) ≡ work_at c path + (1 + 2 * forest_nodes (skip n t.children))
-  work_open t c n path e = rw (e, work_at)
+  -- the rows below a node with an open child
+  rows_open : (t c : Tree K V) (place : Place) (path : List Place) → entered place.entered t.children ≡ Some c
+      → rows_at t (place ∷ path) ≡ rows_at c path ++ row_of_place t place ∷ []
+  rows_open t c place path e = rw (e, rows_at)
 
   -- below one without
-  left_closed : (t : Tree K V) (n : ℕ) (path : List ℕ) → entered n t.children ≡ None
-      → left_at t (n ∷ path) ≡ walk_in (skip n t.children)
-  left_closed t n path e = rw (e, left_at)
-
-  work_closed : (t : Tree K V) (n : ℕ) (path : List ℕ) → entered n t.children ≡ None
-      → work_at t (n ∷ path) ≡ 1 + 2 * forest_nodes (skip n t.children)
-  work_closed t n path e = rw (e, work_at) (omega arith)
+  rows_closed : (t : Tree K V) (place : Place) (path : List Place) → entered place.entered t.children ≡ None
+      → rows_at t (place ∷ path) ≡ row_of_place t place ∷ []
+  rows_closed t place path e = rw (e, rows_at)
 
   -- and below the last open one
-  left_last : (t : Tree K V) (n : ℕ) → left_at t (n ∷ []) ≡ walk_in (skip n t.children)
-  left_last t n = by (entered n t.children) refl
+  rows_last : (t : Tree K V) (place : Place) → rows_at t (place ∷ []) ≡ row_of_place t place ∷ []
+  rows_last t place = by (entered place.entered t.children) refl
     where
-      by : (o : Option (Tree K V)) → entered n t.children ≡ o → left_at t (n ∷ []) ≡ walk_in (skip n t.children)
-      by None e = left_closed t n [] e
-      by (Some c) e = left_open t c n [] e
-
-  work_last : (t : Tree K V) (n : ℕ) → work_at t (n ∷ []) ≡ 1 + 2 * forest_nodes (skip n t.children)
-  work_last t n = by (entered n t.children) refl
-    where
-      by : (o : Option (Tree K V)) → entered n t.children ≡ o → work_at t (n ∷ []) ≡ 1 + 2 * forest_nodes (skip n t.children)
-      by None e = work_closed t n [] e
-      by (Some c) e = work_open t c n [] e ∙ omega arith
+      by : (o : Option (Tree K V)) → entered place.entered t.children ≡ o → rows_at t (place ∷ []) ≡ row_of_place t place ∷ []
+      by None e = rows_closed t place [] e
+      by (Some c) e = rows_open t c place [] e
 
   -- one node deeper
-  pub leads_on : (root : Tree K V) (path : List ℕ) (t c : Tree K V) (d n : ℕ) (key p now : List K) → Leads root path t d key
-      → d + 1 < length path → n ≡ get_or path d 0 → entered n t.children ≡ Some c → p ≡ c.prefix → now ≡ key ++ p
-      → Leads root path c (d + 1) now
-  leads_on root path t c d n key p now l h en e ep ek = record {
-    others = map (prepended key) (walk_in (skip n t.children)) ++ l.others;
-    others_work = (1 + 2 * forest_nodes (skip n t.children)) + l.others_work;
+  pub leads_on : (root : Tree K V) (path : List Place) (t c : Tree K V) (d : ℕ) (x : Place) → Leads root path t d
+      → d + 1 < length path → entered (get_or path d x).entered t.children ≡ Some c → Leads root path c (d + 1)
+  leads_on root path t c d x l h e = let place = get_or path d x in let en = read_at path d x l.within in record {
+    above = row_of_place t place ∷ l.above;
     within = h;
-    left = λ more.
-        ap (pairs_at root) (one_more path d more l.within ∙ ap (λ m. take d path ++ m ∷ more) (sym en))
-        ∙ l.left (n ∷ more)
-        ∙ ap (λ xs. map (prepended key) xs ++ l.others) (left_open t c n more e)
-        ∙ ap (λ xs. xs ++ l.others) (prepended_twice key c.prefix (left_at c more) (walk_in (skip n t.children)))
-        ∙ append_assoc (map (prepended (key ++ c.prefix)) (left_at c more)) (map (prepended key) (walk_in (skip n t.children))) l.others
-        ∙ ap (λ k. map (prepended k) (left_at c more) ++ (map (prepended key) (walk_in (skip n t.children)) ++ l.others))
-        (ap (λ q. key ++ q) (sym ep) ∙ sym ek);
-    work = λ more.
-        let a = ap (work_at root) (one_more path d more l.within ∙ ap (λ m. take d path ++ m ∷ more) (sym en)) in
-        let b = l.work (n ∷ more) in
-        let e' = work_open t c n more e in
-        omega (arith, a, b, e');
+    rows = λ more.
+        ap (rows_at root) (one_more path d place more l.within en) ∙ l.rows (place ∷ more)
+        ∙ ap (λ xs. xs ++ l.above) (rows_open t c place more e)
+        ∙ append_assoc (rows_at c more) (row_of_place t place ∷ []) l.above;
   }
 
+  -- the row of the place where a path leads, whatever reads it
+  here_at : (root : Tree K V) (path : List Place) (t : Tree K V) (d : ℕ) (place : Place) → d < length path
+      → place ≡ get_or path d place → (above : List (Forest K V × ℕ))
+      → rows_at root path ≡ row_of_place t place ∷ above
+      → (x : Place) → x ≡ get_or path d x → rows_at root path ≡ row_of_place t x ∷ above
+  here_at root path t d place h e above r x ex =
+      r ∙ ap (λ y. row_of_place t y ∷ above) (same_at path d place x h e ∙ sym ex)
+
   -- where no child is open
-  pub stops : (root : Tree K V) (path : List ℕ) (t : Tree K V) (d n : ℕ) (key : List K) → Leads root path t d key
-      → n ≡ get_or path d 0 → entered n t.children ≡ None → IsReached root path t d key
-  stops root path t d n key l en e =
-      let m = get_or path d 0 in
-      let none : entered m t.children ≡ None = ap (λ k. entered k t.children) (sym en) ∙ e in
-      let rest = drop (d + 1) path in
-      record {
-        others = l.others;
-        others_work = l.others_work;
-        within = l.within;
-        left = l.left;
-        work = l.work;
-        here =
-            ap (pairs_at root) (sym (parts path d l.within))
-            ∙ l.left (m ∷ rest) ∙ ap (λ xs. map (prepended key) xs ++ l.others) (left_closed t m rest none);
-        here_work =
-            ap (work_at root) (sym (parts path d l.within)) ∙ l.work (m ∷ rest)
-            ∙ ap (λ w. w + l.others_work) (work_closed t m rest none);
-      }
+  pub stops : (root : Tree K V) (path : List Place) (t : Tree K V) (d : ℕ) (x : Place) → Leads root path t d
+      → entered (get_or path d x).entered t.children ≡ None → IsReached root path t d
+  stops root path t d x l e = let place = get_or path d x in let en = read_at path d x l.within in record {
+    above = l.above;
+    within = l.within;
+    rows = l.rows;
+    here = here_at root path t d place l.within en l.above
+        (ap (rows_at root) (sym (parts path d place l.within en)) ∙ l.rows (place ∷ drop (d + 1) path)
+        ∙ ap (λ xs. xs ++ l.above) (rows_closed t place (drop (d + 1) path) e));
+  }
 
   -- where the path ends
-  pub ends : (root : Tree K V) (path : List ℕ) (t : Tree K V) (d : ℕ) (key : List K) → Leads root path t d key
-      → length path ≤ d + 1 → IsReached root path t d key
-  ends root path t d key l h =
-      let m = get_or path d 0 in
-      let whole : take d path ++ m ∷ [] ≡ path =
-      ap (λ xs. take d path ++ m ∷ xs) (sym (drop_all (d + 1) path h)) ∙ parts path d l.within in
-      record {
-        others = l.others;
-        others_work = l.others_work;
-        within = l.within;
-        left = l.left;
-        work = l.work;
-        here =
-            ap (pairs_at root) (sym whole)
-            ∙ l.left (m ∷ []) ∙ ap (λ xs. map (prepended key) xs ++ l.others) (left_last t m);
-        here_work = ap (work_at root) (sym whole) ∙ l.work (m ∷ []) ∙ ap (λ w. w + l.others_work) (work_last t m);
-      }
+  pub ends : (root : Tree K V) (path : List Place) (t : Tree K V) (d : ℕ) → Leads root path t d → length path ≤ d + 1
+      → IsReached root path t d
+  ends root path t d l h = record {
+    above = l.above;
+    within = l.within;
+    rows = l.rows;
+    here = λ place en.
+        ap (rows_at root) (sym (parts path d place l.within en) ∙ ap (λ xs. take d path ++ place ∷ xs) (drop_all (d + 1) path h))
+        ∙ l.rows (place ∷ []) ∙ ap (λ xs. xs ++ l.above) (rows_last t place);
+  }
 
   -- a path that is not empty leaves some work
-  pub some_work : (t : Tree K V) (path : List ℕ) → 0 < length path → 0 < work_at t path
+  pub some_work : (t : Tree K V) (path : List Place) → 0 < length path → 0 < outer_work (rows_at t path)
   some_work t [] h = absurd (omega (arith, h))
-  some_work t (n ∷ path) h = omega arith
+  some_work t (place ∷ path) h = by (elim (entered place.entered t.children) [ None ↦ [] | Some c ↦ rows_at c path ])
+    where
+      by : (rows : List (Forest K V × ℕ)) → 0 < outer_work (rows ++ row_of_place t place ∷ [])
+      by [] = omega arith
+      by (row ∷ rows) = omega arith
+
+  -- an opened node is left as its row would be
+  pub opened_rows : (t : Tree K V) (key : List K) (rows : List (Forest K V × ℕ))
+      → rows_left key (rows_at t (opened t (length key)) ++ rows) ≡ rows_left key ((t.children, length key) ∷ rows)
+  opened_rows t key rows = by t.children
+    where
+      by : (f : Forest K V)
+          → rows_left key (rows_at (node t.prefix t.value f) (opened (node t.prefix t.value f) (length key)) ++ rows)
+          ≡ rows_left key ((f, length key) ∷ rows)
+      by bare = ap (λ k. rows_left k rows) (sym (take-length key))
+      by (grow p v kids rest) = refl
+
+  -- and is no more work
+  pub opened_work : (t : Tree K V) (base : ℕ) (rows : List (Forest K V × ℕ))
+      → outer_work (rows_at t (opened t base) ++ rows) ≤ 1 + 2 * forest_nodes t.children + outer_work rows
+  opened_work t base rows = by t.children
+    where
+      by : (f : Forest K V)
+          → outer_work (rows_at (node t.prefix t.value f) (opened (node t.prefix t.value f) base) ++ rows)
+          ≤ 1 + 2 * forest_nodes f + outer_work rows
+      by bare = omega arith
+      by (grow p v kids rest) = omega arith
+
+  -- the root was opened behind the empty path
+  pub started_left : (t : Tree K V) (key : List K) (front : ℕ) (path : List Place) → key ≡ t.prefix → front ≡ length key
+      → path ≡ opened t front
+      → walk t ≡ pair_at key t.value ++ rows_left (take front key) (rows_at t path)
+  started_left t key front path ek ef ep =
+      let whole : rows_at t path ≡ rows_at t (opened t (length key)) ++ [] =
+      ap (rows_at t) (ep ∙ ap (opened t) ef) ∙ sym (append-nil (rows_at t (opened t (length key)))) in
+      let all : take front key ≡ key = ap (λ n. take n key) ef ∙ take-length key in
+      let below : rows_left (take front key) (rows_at t path) ≡ map (prepended key) (walk_in t.children) =
+      (λ i. rows_left (all i) (whole i)) ∙ opened_rows t key []
+      ∙ append-nil (map (prepended (take (length key) key)) (walk_in t.children))
+      ∙ ap (λ k. map (prepended k) (walk_in t.children)) (take-length key) in
+      ap (λ k. map (prepended k) (own_pair t.value ++ walk_in t.children)) (sym ek)
+      ∙ own_first key t.value (walk_in t.children)
+      ∙ ap (λ l. pair_at key t.value ++ l) (sym below)
+
+  pub started_work : (t : Tree K V) (front : ℕ) (path : List Place) → path ≡ opened t front
+      → outer_work (rows_at t path) < 1 + 2 * nodes t
+  started_work t front path ep =
+      let same : rows_at t path ≡ rows_at t (opened t front) ++ [] = ap (rows_at t) ep ∙ sym (append-nil (rows_at t (opened t front))) in
+      let work = ap outer_work same in
+      let most = opened_work t front [] in
+      omega (arith, work, most)
 
   -- a step out of the node that a path leads to, of which nothing is left
-  pub left_node : (root : Tree K V) (path now : List ℕ) (t : Tree K V) (d : ℕ) (key : List K) → IsReached root path t d key
-      → skip (get_or path d 0) t.children ≡ bare → now ≡ take d path
-      → (pairs_at root path ≡ pairs_at root now) × (work_at root now < work_at root path)
-  left_node root path now t d key r e en =
-      let back : now ≡ take d path ++ [] = en ∙ sym (append-nil (take d path)) in
-      let work = ap (work_at root) back ∙ r.work [] in
-      let whole = r.here_work ∙ ap (λ f. 1 + 2 * forest_nodes f + r.others_work) e in (
-        r.here ∙ ap (λ f. map (prepended key) (walk_in f) ++ r.others) e ∙ sym (ap (pairs_at root) back ∙ r.left []),
-        omega (arith, work, whole),
+  pub left_node : (root : Tree K V) (path now : List Place) (t : Tree K V) (d : ℕ) (place : Place) (key : List K) (front next : ℕ)
+      → IsReached root path t d → place ≡ get_or path d place → skip place.entered t.children ≡ bare → now ≡ take d path
+      → next ≡ min place.base front
+      → (rows_left (take front key) (rows_at root path) ≡ rows_left (take next key) (rows_at root now))
+      × (outer_work (rows_at root now) < outer_work (rows_at root path))
+  left_node root path now t d place key front next r e es en ex =
+      let back : rows_at root now ≡ r.above = ap (rows_at root) (en ∙ sym (append-nil (take d path))) ∙ r.rows [] in
+      let whole : rows_at root path ≡ (bare, place.base) ∷ r.above = r.here place e ∙ ap (λ f. (f, place.base) ∷ r.above) es in
+      let work = ap outer_work whole in
+      let less = ap outer_work back in (
+        ap (rows_left (take front key)) whole ∙ ap (λ k. rows_left k r.above) (take_taken place.base front key ∙ ap (λ n. take n key) (sym ex))
+            ∙ ap (rows_left (take next key)) (sym back),
+        omega (arith, work, less),
       )
 
   -- a step to a child of it
-  pub entered_node : (root : Tree K V) (path now : List ℕ) (t c : Tree K V) (d n : ℕ) (key spelled : List K)
-      → IsReached root path t d key → n ≡ get_or path d 0 → tree_at n t.children ≡ Some c
-      → skip n t.children ≡ grow c.prefix c.value c.children (skip (suc n) t.children)
-      → spelled ≡ key ++ c.prefix → now ≡ (take d path ++ (n + 1) ∷ []) ++ 0 ∷ []
-      → (pairs_at root path ≡ pair_at spelled c.value ++ pairs_at root now) × (work_at root now < work_at root path)
-  entered_node root path now t c d n key spelled r en ec es ek ep =
-      let others = skip (suc n) t.children in
-      let next : now ≡ take d path ++ (suc n) ∷ 0 ∷ [] =
-      ep ∙ append_assoc (take d path) ((n + 1) ∷ []) (0 ∷ []) ∙ ap (λ m. take d path ++ m ∷ 0 ∷ []) (add-one n) in
-      let row : skip (get_or path d 0) t.children ≡ grow c.prefix c.value c.children others =
-      ap (λ m. skip m t.children) (sym en) ∙ es in
-      let deeper = left_open t c (suc n) (0 ∷ []) ec in
-      let below : pairs_at root now ≡ map (prepended (key ++ c.prefix)) (walk_in c.children) ++ (map (prepended key) (walk_in others) ++ r.others) =
-      ap (pairs_at root) next ∙ r.left (suc n ∷ 0 ∷ []) ∙ ap (λ l. map (prepended key) l ++ r.others) deeper
-      ∙ ap (λ l. l ++ r.others) (prepended_twice key c.prefix (walk_in c.children) (walk_in others))
-      ∙ append_assoc (map (prepended (key ++ c.prefix)) (walk_in c.children)) (map (prepended key) (walk_in others)) r.others in
-      let work = ap (work_at root) next ∙ r.work (suc n ∷ 0 ∷ []) in
-      let work_below = work_open t c (suc n) (0 ∷ []) ec in
-      let whole = r.here_work ∙ ap (λ f. 1 + 2 * forest_nodes f + r.others_work) row in (
-        r.here ∙ ap (λ f. map (prepended key) (walk_in f) ++ r.others) row
-            ∙ first_tree key c.prefix c.value c.children others r.others
-            ∙ ap (λ l. pair_at (key ++ c.prefix) c.value ++ l) (sym below)
-            ∙ ap (λ k. pair_at k c.value ++ pairs_at root now) (sym ek),
-        omega (arith, work, work_below, whole),
+  pub entered_node : (root : Tree K V) (path now : List Place) (t c : Tree K V) (d : ℕ) (place : Place) (key spelled : List K) (front next base : ℕ)
+      → IsReached root path t d → place ≡ get_or path d place → tree_at place.entered t.children ≡ Some c
+      → skip place.entered t.children ≡ grow c.prefix c.value c.children (skip (suc place.entered) t.children)
+      → spelled ≡ take (min place.base front) key ++ c.prefix → next ≡ length spelled → base ≡ next - length c.prefix
+      → now ≡ (take d path ++ record { entered = place.entered + 1; base = base } ∷ []) ++ opened c next
+      → (rows_left (take front key) (rows_at root path) ≡ pair_at spelled c.value ++ rows_left (take next spelled) (rows_at root now))
+      × (outer_work (rows_at root now) < outer_work (rows_at root path))
+  entered_node root path now t c d place key spelled front next base r e ec es ek ex eb en =
+      let others = skip (suc place.entered) t.children in
+      let k = take front key in
+      let beside : Place = record { entered = place.entered + 1; base = base } in
+      let back : rows_at root now ≡ rows_at c (opened c next) ++ (others, base) ∷ r.above =
+      ap (rows_at root) (en ∙ append_assoc (take d path) (beside ∷ []) (opened c next)) ∙ r.rows (beside ∷ opened c next)
+      ∙ ap (λ xs. xs ++ r.above) (rows_open t c beside (opened c next) (ap (λ n. entered n t.children) (add-one place.entered) ∙ ec))
+      ∙ append_assoc (rows_at c (opened c next)) ((skip (place.entered + 1) t.children, base) ∷ []) r.above
+      ∙ ap (λ n. rows_at c (opened c next) ++ (skip n t.children, base) ∷ r.above) (add-one place.entered) in
+      let whole : rows_at root path ≡ (grow c.prefix c.value c.children others, place.base) ∷ r.above =
+      r.here place e ∙ ap (λ f. (f, place.base) ∷ r.above) es in
+      let spelt : spelled ≡ take place.base k ++ c.prefix = ek ∙ ap (λ q. q ++ c.prefix) (sym (take_taken place.base front key)) in
+      let all : take next spelled ≡ spelled = ap (λ n. take n spelled) ex ∙ take-length spelled in
+      let work = ap outer_work whole in
+      let less = ap outer_work back in
+      let most = opened_work c next ((others, base) ∷ r.above) in (
+        ap (rows_left k) whole
+            ∙ entered_row k spelled c.prefix c.value c.children others place.base r.above spelt
+            ∙ ap (λ n. pair_at spelled c.value ++ rows_left spelled ((c.children, length spelled) ∷ (others, n) ∷ r.above))
+            (ap (λ n. n - length c.prefix) (sym ex) ∙ sym eb)
+            ∙ ap (λ l. pair_at spelled c.value ++ l)
+            (sym (opened_rows c spelled ((others, base) ∷ r.above))
+            ∙ ap (λ n. rows_left spelled (rows_at c (opened c n) ++ (others, base) ∷ r.above)) (sym ex)
+            ∙ ap (rows_left spelled) (sym back) ∙ ap (λ q. rows_left q (rows_at root now)) (sym all)),
+        omega (arith, work, less, most),
       )
 
   -- behind the trees before a place stands the tree at it
@@ -216,6 +265,12 @@ module _ {K V T : Type 0} (tree : T → Tree K V) where
   no_tree_of_list (y ∷ ys) zero h = absurd (omega (arith, h))
   no_tree_of_list (y ∷ ys) (suc i) h = no_tree_of_list ys i (omega arith)
 
+  -- a node with children is opened
+  pub opened_some : (kids : List T) (t : Tree K V) (base : ℕ) → seen tree kids ≡ t.children → (length kids == 0) ≡ false
+      → opened t base ≡ record { entered = 0; base = base } ∷ []
+  opened_some [] t base ek e = absurd (true≢false e)
+  opened_some (x ∷ xs) t base ek e = ap (λ f. opened (node t.prefix t.value f) base) (sym ek)
+
   -- the child that was entered last
   pub last_child : (kids : List T) (f : Forest K V) (count i : ℕ) (r : Option (Bor T)) → count ≡ suc i
       → seen tree kids ≡ f → IfSome r (λ x. x.now ≡ get_or kids i x.now)
@@ -227,34 +282,37 @@ module _ {K V T : Type 0} (tree : T → Tree K V) where
       ap (λ k. entered k f) e ∙ ap (tree_at i) (sym row) ∙ tree_of_list kids i x.now cases ∙ ap (λ y. Some (tree y)) (sym same)
 
   -- a step out of the node, in the words of the program
-  pub left_step : (root : Tree K V) (path slice now : List ℕ) (t : T) (d count : ℕ) (key : List K) (kids : List T)
-      → IsReached root slice (tree t) d key → slice ≡ path → count ≡ get_or path d count
-      → seen tree kids ≡ (tree t).children → length kids ≤ count → now ≡ take d path
-      → (pairs_at root path ≡ pairs_at root now) × (work_at root now < work_at root path)
-  left_step root path slice now t d count key kids r es ec ek h en =
-      let at = subst (λ xs. IsReached root xs (tree t) d key) es r in
-      let place : count ≡ get_or path d 0 = get_or_read path d count at.within ec 0 in
-      let none : tree_at (get_or path d 0) (tree t).children ≡ None =
-      ap (λ n. tree_at n (tree t).children) (sym place) ∙ ap (tree_at count) (sym ek) ∙ no_tree_of_list kids count h in
-      left_node root path now (tree t) d key at (skip_all (get_or path d 0) (tree t).children none) en
+  pub left_step : (root : Tree K V) (path slice now : List Place) (t : T) (d : ℕ) (place : Place) (key : List K) (front next : ℕ)
+      → (kids : List T) → IsReached root slice (tree t) d → slice ≡ path → place ≡ get_or path d place
+      → seen tree kids ≡ (tree t).children → length kids ≤ place.entered → now ≡ take d path → next ≡ min place.base front
+      → (rows_left (take front key) (rows_at root path) ≡ rows_left (take next key) (rows_at root now))
+      × (outer_work (rows_at root now) < outer_work (rows_at root path))
+  left_step root path slice now t d place key front next kids r es e ek h en ex =
+      let none : tree_at place.entered (tree t).children ≡ None =
+      ap (tree_at place.entered) (sym ek) ∙ no_tree_of_list kids place.entered h in
+      left_node root path now (tree t) d place key front next (subst (λ xs. IsReached root xs (tree t) d) es r) e
+      (skip_all place.entered (tree t).children none) en ex
 
   -- a step to a child, in the words of the program
-  pub entered_step : (root : Tree K V) (path slice path₁ path₂ now : List ℕ) (t child : T) (d count : ℕ)
-      → (key spelled p : List K) (kids : List T) → IsReached root slice (tree t) d key → slice ≡ path
-      → count ≡ get_or path d count → seen tree kids ≡ (tree t).children → count < length kids
-      → child ≡ get_or kids count child → p ≡ (tree child).prefix → spelled ≡ key ++ p → path₁ ≡ take d path
-      → path₂ ≡ path₁ ++ (count + 1) ∷ [] → now ≡ path₂ ++ 0 ∷ []
-      → (pairs_at root path ≡ pair_at spelled (tree child).value ++ pairs_at root now)
-      × (work_at root now < work_at root path)
-  entered_step root path slice path₁ path₂ now t child d count key spelled p kids r es ec ek lt eh ep esp e₁ e₂ e₃ =
-      let at = subst (λ xs. IsReached root xs (tree t) d key) es r in
-      let place : count ≡ get_or path d 0 = get_or_read path d count at.within ec 0 in
-      let there : tree_at count (tree t).children ≡ Some (tree child) =
-      ap (tree_at count) (sym ek) ∙ tree_of_list kids count child lt ∙ ap (λ y. Some (tree y)) (sym eh) in
-      let last : now ≡ (take d path ++ (count + 1) ∷ []) ++ 0 ∷ [] =
-      e₃ ∙ ap (λ xs. xs ++ 0 ∷ []) (e₂ ∙ ap (λ xs. xs ++ (count + 1) ∷ []) e₁) in
-      entered_node root path now (tree t) (tree child) d count key spelled at place there
-      (skip_more count (tree t).children (tree child) there) (esp ∙ ap (λ q. key ++ q) ep) last
+  pub entered_step : (root : Tree K V) (path slice path₁ path₂ now : List Place) (t child : T) (d : ℕ) (place : Place)
+      → (key spelled p shown : List K) (front least next base : ℕ) (kids : List T) → IsReached root slice (tree t) d
+      → slice ≡ path → place ≡ get_or path d place → seen tree kids ≡ (tree t).children → place.entered < length kids
+      → child ≡ get_or kids place.entered child → p ≡ (tree child).prefix → least ≡ min place.base front
+      → spelled ≡ take least key ++ p → shown ≡ spelled → next ≡ length shown → base ≡ next - length p
+      → path₁ ≡ take d path → path₂ ≡ path₁ ++ record { entered = place.entered + 1; base = base } ∷ []
+      → now ≡ path₂ ++ opened (tree child) next
+      → (rows_left (take front key) (rows_at root path)
+      ≡ pair_at spelled (tree child).value ++ rows_left (take next spelled) (rows_at root now))
+      × (outer_work (rows_at root now) < outer_work (rows_at root path))
+  entered_step root path slice path₁ path₂ now t child d place key spelled p shown front least next base kids r es e ek lt eh ep el esp ew ex eb e₁ e₂ e₃ =
+      let there : tree_at place.entered (tree t).children ≡ Some (tree child) =
+      ap (tree_at place.entered) (sym ek) ∙ tree_of_list kids place.entered child lt ∙ ap (λ y. Some (tree y)) (sym eh) in
+      entered_node root path now (tree t) (tree child) d place key spelled front next base
+      (subst (λ xs. IsReached root xs (tree t) d) es r) e there
+      (skip_more place.entered (tree t).children (tree child) there)
+      (esp ∙ (λ i. take (el i) key ++ ep i)) (ex ∙ ap length ew) (eb ∙ ap (λ q. next - length q) ep)
+      (e₃ ∙ ap (λ xs. xs ++ opened (tree child) next)
+      (e₂ ∙ ap (λ xs. xs ++ record { entered = place.entered + 1; base = base } ∷ []) e₁))
 
 -- a place that is there lies within
 pub in_range : {T : Type 0} (P : Bor T → Type 0) (n i : ℕ) (r : Option (Bor T))

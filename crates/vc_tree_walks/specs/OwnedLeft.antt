@@ -1,19 +1,21 @@
 -- What is left of the pairs of a tree that the iterator holds.
---     left_at t path        the pairs that are left below a node, behind its prefix
---     work_at t path        how many steps a walk over them takes at most
---     pairs_at root path        the pairs that are left of the whole tree
+--     rows_at t path        the rows below the open nodes of a path that goes on from a node
+--     opened t base        the place of a node that is opened
+--     way_left root way, way_work root way        the pairs that are left of a tree on a way, and how many steps they take at most
 --     held_left tree s        the pairs that are left of an iterator
 --     held_work tree s        how many steps it takes at most
 --     WalksClones is_clone rest s r t        a step of an iterator that lists `rest`, by clones of the values
---     IsReached root path node depth key        where a path leads
+--     IsReached root path node depth        where a path leads
 --     IsItem is_clone key v turn        the item of a node, if it has a value
 --     IsTurn tree is_clone s turn t        what one step found, and what is left after it
-use Rattle.std.specs.Prelude.{◌≡◌, ℕ, zero, suc, ◌+◌, ◌*◌, ◌<◌, List, [], ◌∷◌, ◌++◌, length, take, map, slice_index_or, Option, Some, None, if◌then◌else◌, Result, MatchOption, MatchResult}
+use Rattle.std.specs.Prelude.{◌≡◌, ℕ, zero, suc, ◌+◌, ◌*◌, ◌<◌, List, [], ◌∷◌, ◌++◌, length, take, slice_index_or, Option, Some, None, if◌then◌else◌, Result, MatchOption, MatchResult}
 use Rattle.std.specs.Borrow.{Bor}
-use Rattle.vc_tree_model.specs.Tree.{Tree, Forest, bare, grow, node, nodes, forest_nodes}
-use Rattle.vc_tree_model.specs.Walk.{prepended, walk, walk_in}
-use Rattle.vc_tree_walks.specs.Left.{pair_at}
+use Rattle.vc_tree_model.specs.Tree.{Tree, Forest, bare, grow, node, nodes}
+use Rattle.vc_tree_model.specs.Walk.{walk}
+use Rattle.vc_tree_walks.specs.Left.{pair_at, rows_left, outer_work}
 use Rattle.vc_tree_walks.specs.declared.owned.ObjAndIter.{ObjAndIter}
+use Rattle.vc_tree_walks.specs.declared.owned.Place.{Place}
+use Rattle.vc_tree_walks.specs.declared.owned.Way.{Way}
 use Rattle.vc_tree_walks.specs.declared.turn.Turn.{Turn}
 use Rattle.vc_tree_walks.specs.declared.turn.Turn.TheVariants.{Item, Moved, Done}
 
@@ -48,41 +50,40 @@ module _ {K V : Type 0} where
   entered zero f = None
   entered (suc n) f = tree_at n f
 
-  -- the pairs that are left below a node, behind its prefix; of each open node the path has how many of its children were entered
-  abbrev pub left_at : Tree K V → List ℕ → List (List K × V)
-  left_at t [] = []
-  left_at t (n ∷ path) =
-      elim (entered n t.children) [
+  -- the rows below the open nodes of a path that goes on from a node, the innermost first: of each the children that were not
+  -- entered yet, and how much of the key stands before theirs
+  abbrev pub rows_at : Tree K V → List Place → List (Forest K V × ℕ)
+  rows_at t [] = []
+  rows_at t (place ∷ path) =
+      elim (entered place.entered t.children) [
         | None ↦ []
-        | Some c ↦ map (prepended c.prefix) (left_at c path)
+        | Some c ↦ rows_at c path
       ]
-      ++ walk_in (skip n t.children)
+      ++ (skip place.entered t.children, place.base) ∷ []
+
+  -- the place of a node that is opened: none where it has no children
+  abbrev pub opened : Tree K V → ℕ → List Place
+  opened t base =
+      elim t.children [
+        | bare ↦ []
+        | grow p v kids rest ↦ record { entered = 0; base = base } ∷ []
+      ]
+
+  -- the pairs that are left of a tree, on the way to where a walk stands
+  abbrev pub way_left : Tree K V → Way K → List (List K × V)
+  way_left root way = rows_left (take way.front way.key) (rows_at root way.path.items)
 
   -- how many steps a walk over them takes at most
-  abbrev pub work_at : Tree K V → List ℕ → ℕ
-  work_at t [] = 0
-  work_at t (n ∷ path) =
-      elim (entered n t.children) [
-        | None ↦ 0
-        | Some c ↦ work_at c path
-      ]
-      + (1 + 2 * forest_nodes (skip n t.children))
+  abbrev pub way_work : Tree K V → Way K → ℕ
+  way_work root way = outer_work (rows_at root way.path.items)
 
-  -- the pairs that are left of the whole tree
-  abbrev pub pairs_at : Tree K V → List ℕ → List (List K × V)
-  pairs_at root path = map (prepended root.prefix) (left_at root path)
-
-  -- the path leads to this node, at this depth and of this key, below which no child is open; the others are left elsewhere
-  pub record IsReached (root : Tree K V) (path : List ℕ) (t : Tree K V) (depth : ℕ) (key : List K) : Type 0 where
-    pub others : List (List K × V)
-    pub others_work : ℕ
+  -- the path leads to this node, at this depth, below which no child is open; the rows above it are left elsewhere
+  pub record IsReached (root : Tree K V) (path : List Place) (t : Tree K V) (depth : ℕ) : Type 0 where
+    pub above : List (Forest K V × ℕ)
     pub within : depth < length path
-    pub left : (more : List ℕ)
-        → pairs_at root (take depth path ++ more) ≡ map (prepended key) (left_at t more) ++ others
-    pub work : (more : List ℕ) → work_at root (take depth path ++ more) ≡ work_at t more + others_work
-    pub here : pairs_at root path
-        ≡ map (prepended key) (walk_in (skip (slice_index_or path depth 0) t.children)) ++ others
-    pub here_work : work_at root path ≡ 1 + 2 * forest_nodes (skip (slice_index_or path depth 0) t.children) + others_work
+    pub rows : (more : List Place) → rows_at root (take depth path ++ more) ≡ rows_at t more ++ above
+    pub here : (place : Place) → place ≡ slice_index_or path depth place
+        → rows_at root path ≡ (skip place.entered t.children, place.base) ∷ above
 
 module _ {K V T : Type 0} (tree : T → Tree K V) where
   -- the pair of a node of this key, if there is a node and it has a value
@@ -94,12 +95,12 @@ module _ {K V T : Type 0} (tree : T → Tree K V) where
   abbrev pub held_left : ObjAndIter K V T → List (List K × V)
   held_left s =
       if s.started
-      then pairs_at (tree s.tree) s.path.items
+      then way_left (tree s.tree) s.way
       else walk (tree s.tree)
 
   -- how many steps the iterator takes at most
   abbrev pub held_work : ObjAndIter K V T → ℕ
-  held_work s = if s.started then work_at (tree s.tree) s.path.items else (1 + 2 * nodes (tree s.tree))
+  held_work s = if s.started then way_work (tree s.tree) s.way else (1 + 2 * nodes (tree s.tree))
 
   -- what one step found, and what is left after it
   abbrev pub IsTurn : (V → V → Type 0) → ObjAndIter K V T → Turn (List K × V) → ObjAndIter K V T → Type 0

@@ -1,9 +1,11 @@
 //! The pairs of a tree that the iterator holds.
 
-ghost use Rattle.std.specs.Prelude.{◌≡◌, ◌<◌, ◌++◌, [], length, None, Some, MatchOption, IfOk, OnOk, OnErr};
+ghost use Rattle.std.specs.Prelude.{◌≡◌, ◌+◌, ◌*◌, ◌<◌, ◌++◌, [], length, None, Some, MatchOption, IfOk, OnOk, OnErr};
 ghost use Rattle.std.specs.Option.{option_copied};
+ghost use Rattle.vc_tree_model.specs.Tree.{nodes};
 ghost use Rattle.vc_tree_model.specs.Walk.{walk};
-ghost use Rattle.vc_tree_walks.specs.OwnedLeft.{entered, held_left, held_work, pairs_at, own_pairs, work_at, IsItem, IsReached, IsTurn};
+ghost use Rattle.vc_tree_walks.specs.Left.{pair_at};
+ghost use Rattle.vc_tree_walks.specs.OwnedLeft.{entered, held_left, held_work, opened, own_pairs, way_left, way_work, IsItem, IsReached, IsTurn};
 
 use crate::key::IterKey;
 use crate::turn::Turn;
@@ -11,20 +13,35 @@ use std::alloc::{AllocError, Global};
 use std::marker::PhantomData;
 use vc_tree_nodes::reading::{RadixNode, TKey, TValue};
 
+/// An open node on the way: how many of its children were entered, and how many components of the key stand before theirs.
+#[derive(Clone, Copy)]
+struct Place {
+    entered: usize,
+    base: usize,
+}
+
+/// The way from the root of a tree to where a walk stands.
+#[derive(Drop)]
+struct Way<K> {
+    /// The key of the last node, and how many of its components are still those of an open node.
+    key: IterKey<K>,
+    front: usize,
+    /// The open nodes, the outermost first.
+    path: Vec<Place>,
+}
+
 /// The pairs of a tree that it holds, by ascending keys, each as its key and a clone of its value.
 ///
-/// The tree is dropped with the iterator. A step goes down from the root to the node where the walk stands. It takes no memory
-/// where the last key was let go and the walk has been as deep before, with a key as long, but for what the clone of a value
-/// takes. After an `Err` the walk is at its end.
+/// The tree is dropped with the iterator. The walk keeps its key and a stack of places; a step finds the node where it stands from
+/// the root, by one place a node, and spells no more of the key than the next node adds. It takes no memory where the last key was
+/// let go and the walk has been as deep before, with a key as long, but for what the clone of a value takes. After an `Err` the walk
+/// is at its end.
 #[derive(Drop)]
 pub struct ObjAndIter<K, V, T> {
     tree: T,
     /// Whether a step was made.
     started: bool,
-    /// The key of the last node.
-    key: IterKey<K>,
-    /// Of each open node, the outermost first, how many of its children were entered.
-    path: Vec<usize>,
+    way: Way<K>,
     values: PhantomData<V>,
 }
 
@@ -37,8 +54,11 @@ impl<K: TKey, V: TValue, T: RadixNode<K, V> + Drop> ObjAndIter<K, V, T> {
         ObjAndIter {
             tree,
             started: false,
-            key: IterKey::empty(),
-            path: Vec::new(alloc),
+            way: Way {
+                key: IterKey::empty(),
+                front: 0,
+                path: Vec::new(alloc),
+            },
             values: PhantomData,
         }
     }
@@ -50,17 +70,15 @@ impl<K: TKey, V: TValue, T: RadixNode<K, V> + Drop> ObjAndIter<K, V, T> {
     {
         let alloc = self.tree.allocator();
         if !self.started {
-            self.key.turn_to(alloc, 0, self.tree.prefix())?;
-            self.path.clear();
-            self.path.push(0)?;
+            self.way.start(alloc, &self.tree)?;
             self.started = true;
-            return item(&self.key, self.tree.value());
+            return item(&self.way.key, self.tree.value());
         }
-        if self.path.is_empty() {
+        if self.way.path.is_empty() {
             return Ok(Turn::Done);
         }
-        match advance(alloc, &self.tree, &mut self.key, &mut self.path)? {
-            Some(node) => item(&self.key, node.value()),
+        match self.way.advance(alloc, &self.tree)? {
+            Some(node) => item(&self.way.key, node.value()),
             None => Ok(Turn::Moved),
         }
     }
@@ -71,7 +89,73 @@ impl<K: TKey, V: TValue, T: RadixNode<K, V> + Drop> ObjAndIter<K, V, T> {
         ensures work { held_work T.tree self.new ≡ 0 }
     {
         self.started = true;
+        self.way.path.clear();
+    }
+}
+
+impl<K: TKey> Way<K> {
+    /// Goes to the root of a tree.
+    fn start<V: TValue, T: RadixNode<K, V>>(
+        &mut self,
+        alloc: Global,
+        tree: &T,
+    ) -> Result<(), AllocError>
+        ensures left { OnOk result
+            (walk (T.tree tree.now) ≡ pair_at self.new.key (T.tree tree.now).value ++ way_left (T.tree tree.now) self.new) }
+        ensures work { OnOk result (way_work (T.tree tree.now) self.new < 1 + 2 * nodes (T.tree tree.now)) }
+    {
         self.path.clear();
+        self.key.turn_to(alloc, 0, tree.prefix())?;
+        self.front = self.key.as_ref().len();
+        self.open(tree, self.front)
+    }
+
+    /// Goes on from the innermost open node: to its next child, which it answers, or out of it.
+    fn advance<'t, V: TValue, T: RadixNode<K, V>>(
+        &mut self,
+        alloc: Global,
+        tree: &'t T,
+    ) -> Result<Option<&'t T>, AllocError>
+        requires { 0 < length self.old.path.items }
+        ensures left { IfOk result (λ node.
+            way_left (T.tree tree.now) self.old ≡ own_pairs T.tree self.new.key node ++ way_left (T.tree tree.now) self.new) }
+        ensures work { OnOk result (way_work (T.tree tree.now) self.new < way_work (T.tree tree.now) self.old) }
+        ensures some_work { 0 < way_work (T.tree tree.now) self.old }
+    {
+        let (node, depth) = reach(tree, self.path.as_slice());
+        let place = self.path[depth];
+        let base = place.base.min(self.front);
+        self.path.truncate(depth);
+        let Some(child) = node.children().get(place.entered) else {
+            self.front = base;
+            return Ok(None);
+        };
+        let prefix = child.prefix();
+        self.key.turn_to(alloc, base, prefix)?;
+        self.front = self.key.as_ref().len();
+        self.path.push(Place {
+            entered: place.entered + 1,
+            base: self.front - prefix.len(),
+        })?;
+        self.open(child, self.front)?;
+        Ok(Some(child))
+    }
+
+    /// Opens a node, if it has children, before whose keys so many components of the key stand.
+    fn open<V: TValue, T: RadixNode<K, V>>(
+        &mut self,
+        node: &T,
+        base: usize,
+    ) -> Result<(), AllocError>
+        ensures path { OnOk result (self.new.path.items ≡ self.old.path.items ++ opened (T.tree node.now) base) }
+        ensures key { self.new.key ≡ self.old.key }
+        ensures front { self.new.front ≡ self.old.front }
+    {
+        if node.children().is_empty() {
+            return Ok(());
+        }
+        self.path.push(Place { entered: 0, base })?;
+        Ok(())
     }
 }
 
@@ -88,54 +172,22 @@ fn item<K: Drop, V: Clone>(
     }
 }
 
-/// Goes on from the node that a path leads to: to its next child, which it answers, or out of it.
-fn advance<'t, K: TKey, V: TValue, T: RadixNode<K, V>>(
-    alloc: Global,
-    tree: &'t T,
-    key: &mut IterKey<K>,
-    path: &mut Vec<usize>,
-) -> Result<Option<&'t T>, AllocError>
-    requires { 0 < length path.old.items }
-    ensures left { IfOk result (λ node.
-        pairs_at (T.tree tree.now) path.old.items
-        ≡ own_pairs T.tree key.new node ++ pairs_at (T.tree tree.now) path.new.items) }
-    ensures work { OnOk result (work_at (T.tree tree.now) path.new.items < work_at (T.tree tree.now) path.old.items) }
-    ensures some_work { 0 < work_at (T.tree tree.now) path.old.items }
-{
-    let (node, depth) = reach(alloc, tree, path.as_slice(), key)?;
-    let count = path[depth];
-    path.truncate(depth);
-    let Some(child) = node.children().get(count) else {
-        return Ok(None);
-    };
-    key.push(alloc, child.prefix())?;
-    path.push(count + 1)?;
-    path.push(0)?;
-    Ok(Some(child))
-}
-
-/// The innermost open node of a path, and how many are open above it. The key becomes that of the node.
-fn reach<'t, K: TKey, V: TValue, T: RadixNode<K, V>>(
-    alloc: Global,
-    tree: &'t T,
-    path: &[usize],
-    key: &mut IterKey<K>,
-) -> Result<(&'t T, usize), AllocError>
+/// The innermost open node of a path, and how many are open above it.
+fn reach<'t, K: TKey, V: TValue, T: RadixNode<K, V>>(tree: &'t T, path: &[Place]) -> (&'t T, usize)
     requires { 0 < length path.now }
-    ensures { IfOk result (λ found. IsReached (T.tree tree.now) path.now (T.tree found.0.now) found.1 key.new) }
+    ensures { IsReached (T.tree tree.now) path.now (T.tree result.0.now) result.1 }
 {
     let mut node = tree;
     let mut depth = 0;
-    key.turn_to(alloc, 0, tree.prefix())?;
     while depth + 1 < path.len() {
-        let Some(child) = last_entered(node, path[depth]) else {
-            return Ok((node, depth));
+        let place = path[depth];
+        let Some(child) = last_entered(node, place.entered) else {
+            return (node, depth);
         };
-        key.push(alloc, child.prefix())?;
         node = child;
         depth += 1;
     }
-    Ok((node, depth))
+    (node, depth)
 }
 
 /// The child that was entered last, where `count` children were entered.

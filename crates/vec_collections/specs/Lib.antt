@@ -11,6 +11,7 @@ pub use Rattle.vc_merge.specs.Count
 pub use Rattle.vc_merge.specs.Laws as MergeLaws
 pub use Rattle.vc_merge.specs.Script
 pub use Rattle.vc_merge.specs.Yielded
+pub use Rattle.vc_path_filter.specs.Allowed
 pub use Rattle.vc_sets.specs.Algebra
 pub use Rattle.vc_sets.specs.Iterating
 pub use Rattle.vc_sets.specs.Laws as SetLaws
@@ -28,6 +29,7 @@ pub use Rattle.vc_tree_model.specs.Binds
 pub use Rattle.vc_tree_model.specs.Canonical
 pub use Rattle.vc_tree_model.specs.Combine
 pub use Rattle.vc_tree_model.specs.Conditions
+pub use Rattle.vc_tree_model.specs.Cover
 pub use Rattle.vc_tree_model.specs.Equal
 pub use Rattle.vc_tree_model.specs.Key
 pub use Rattle.vc_tree_model.specs.Laws as TreeLaws

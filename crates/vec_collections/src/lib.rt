@@ -1,7 +1,7 @@
-//! Small sorted sets, and radix trees that are always canonical.
+//! Small sorted sets, radix trees that are always canonical, and filters of paths.
 //!
-//! A user names this crate alone: it exports the modules `merge`, `iterators`, `vec_set`, `total_vec_set`, `btree_map` and `radix_tree` of the
-//! crates below it, and the items of `vec_set` also at its root.
+//! A user names this crate alone: it exports the modules `merge`, `iterators`, `vec_set`, `total_vec_set`, `btree_map`, `radix_tree` and `path_filter` of
+//! the crates below it, and the items of `vec_set` also at its root.
 #![tactic(auto)]
 
 mod example;
@@ -45,6 +45,11 @@ pub mod radix_tree {
         AbstractRadixTree, AbstractRadixTreeMut, ArcRadixTree, Iter, IterKey, ObjAndIter,
         RadixNode, RadixTree, TKey, TValue, Values,
     };
+}
+
+/// Filters of paths by rules, of which the longest that is a prefix of a path decides.
+pub mod path_filter {
+    pub use vc_path_filter::path_filter::PathFilter;
 }
 
 /// The laws of the words that contracts cite. Each function does nothing: code that calls one has its law in the proof.

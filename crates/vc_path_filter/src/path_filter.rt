@@ -1,0 +1,180 @@
+//! Filters of paths: rules that allow a path or deny it, with all that lies below it.
+//!
+//! Of the rules whose paths are prefixes of a path the longest decides. A path is a prefix of itself. Where no rule is a prefix,
+//! the path is not allowed.
+//!
+//! ```text
+//! let mut filter = PathFilter::new(alloc);
+//! filter.allow(b"a")?;
+//! filter.deny(b"ab")?;
+//! assert!(rt; filter.check(b"ac") && !filter.check(b"abc"));
+//! ```
+
+ghost use Rattle.std.specs.Prelude.{◌≡◌, ◌≤◌, None, true, false, IfSome, OnOk, OnErr, MatchOption, slice_get};
+ghost use Rattle.std.specs.Option.{option_copied};
+ghost use Rattle.vc_path_filter.specs.Allowed.{is_allowed};
+ghost use Rattle.vc_tree_model.specs.Canonical.{AreChildren};
+ghost use Rattle.vc_tree_model.specs.Cover.{cover};
+ghost use Rattle.vc_tree_model.specs.Key.{behind};
+ghost use Rattle.vc_tree_model.specs.Map.{lookup, lookup_in, HaveEqualMaps, IsInserted};
+ghost use Rattle.vc_tree_model.specs.Tree.{no_tree, nodes, forest_nodes};
+ghost use Rattle.vc_tree_nodes.specs.Children.{seen};
+ghost use Rattle.vc_tree_nodes.specs.Places.{first_side};
+
+use std::alloc::{AllocError, Global};
+use std::cmp::Ordering;
+use std::default::MadeWith;
+use std::marker::Model;
+use vc_merge::merge::{Count, Uncounted};
+use vc_merge::search::{Sought, look_up};
+use vc_trees::radix_tree::{
+    AbstractRadixTree, AbstractRadixTreeMut, ArcRadixTree, RadixNode, TKey,
+};
+
+/// Rules on paths. It is seen as the tree of its rules, which has true at the paths that were allowed, and false at those that were denied.
+#[derive(Drop)]
+pub struct PathFilter<K: TKey> {
+    rules: ArcRadixTree<K, bool>,
+}
+
+impl<K: TKey> Model for PathFilter<K> {
+    ghost use Rattle.std.specs.Prelude.{Bool};
+    ghost use Rattle.std.specs.Coded.{coded_bool};
+    ghost use Rattle.vc_tree_model.specs.Tree.{Tree};
+    ghost use Rattle.vc_tree_model.specs.TreeCode.{tree_code};
+
+    ghost Value = { Tree K Bool };
+
+    ghost coded = { tree_code K.code coded_bool };
+
+    ghost view = { λ a. a.rules };
+}
+
+impl<K: TKey + MadeWith<Global>> PathFilter<K> {
+    /// The filter without rules, which allows no path. Takes no memory.
+    pub fn new(alloc: Global) -> Self
+        ensures { result ≡ no_tree }
+    {
+        PathFilter {
+            rules: ArcRadixTree::empty(alloc),
+        }
+    }
+
+    /// Allows a path and what lies below it, but for what longer rules say. A rule that the path had is replaced.
+    ///
+    /// Fails only where memory is refused; each path then has the rule that it had.
+    pub fn allow(&mut self, path: &[K]) -> Result<(), AllocError>
+        ensures ok { OnOk result (IsInserted K.cmp (λ v w. v ≡ w) path.now true self.old self.new) }
+        ensures err { OnErr result (HaveEqualMaps K.cmp (λ v w. v ≡ w) self.old self.new) }
+    {
+        self.set(path, true)
+    }
+
+    /// Denies a path and what lies below it, but for what longer rules say. A rule that the path had is replaced.
+    ///
+    /// Fails only where memory is refused; each path then has the rule that it had.
+    pub fn deny(&mut self, path: &[K]) -> Result<(), AllocError>
+        ensures ok { OnOk result (IsInserted K.cmp (λ v w. v ≡ w) path.now false self.old self.new) }
+        ensures err { OnErr result (HaveEqualMaps K.cmp (λ v w. v ≡ w) self.old self.new) }
+    {
+        self.set(path, false)
+    }
+
+    /// Sets the rule of a path.
+    fn set(&mut self, path: &[K], allowed: bool) -> Result<(), AllocError>
+        ensures ok { OnOk result (IsInserted K.cmp (λ v w. v ≡ w) path.now allowed self.old self.new) }
+        ensures err { OnErr result (HaveEqualMaps K.cmp (λ v w. v ≡ w) self.old self.new) }
+    {
+        self.rules.insert(path, allowed)
+    }
+}
+
+impl<K: TKey> PathFilter<K> {
+    /// Whether the longest rule that is a prefix of the path allows it; false where no rule is a prefix of it. Takes no memory.
+    ///
+    /// Goes down the tree of rules once, with a search among the children of each node on the way.
+    pub fn check(&self, path: &[K]) -> bool
+        ensures { result ≡ is_allowed K.cmp self.now path.now }
+    {
+        longest_rule(&self.rules, path).unwrap_or(false)
+    }
+
+    /// The rules: the tree has true at the paths that were allowed, and false at those that were denied. Takes no memory.
+    pub fn rules(&self) -> &ArcRadixTree<K, bool>
+        ensures { result.now ≡ self.now }
+    {
+        &self.rules
+    }
+}
+
+impl<K: TKey + MadeWith<Global>> Clone for PathFilter<K> {
+    ghost is_clone = { λ x y. y ≡ x };
+
+    /// A snapshot, which shares the rules: later rules of one filter change no answer of the other.
+    #[tactic(auto, using(vc_trees::specs::Exact::exactly))]
+    fn clone(&self) -> Result<Self, AllocError> {
+        Ok(PathFilter {
+            rules: self.rules.clone()?,
+        })
+    }
+}
+
+/// The longest rule that is a prefix of the path.
+fn longest_rule<K: TKey>(rules: &ArcRadixTree<K, bool>, path: &[K]) -> Option<bool>
+    ensures { result ≡ cover (lookup K.cmp rules.now) path.now }
+{
+    let mut node = rules;
+    let mut rest = path;
+    let mut longest = None;
+    while let Some(left) = rest_behind(node.prefix(), rest) {
+        longest = node.value().copied().or(longest);
+        let Some(child) = child_on(node.children(), left) else {
+            return longest;
+        };
+        node = child;
+        rest = left;
+    }
+    longest
+}
+
+/// What is left of the path behind the prefix, if the path starts with it.
+fn rest_behind<'p, K: Ord>(prefix: &[K], path: &'p [K]) -> Option<&'p [K]>
+    ensures { option_copied result ≡ behind K.cmp prefix.now path.now }
+{
+    path.strip_prefix(prefix)
+}
+
+/// The node among children that covers what they cover of the path: the one that begins as the path does.
+fn child_on<'a, K: TKey>(
+    children: &'a [ArcRadixTree<K, bool>],
+    path: &[K],
+) -> Option<&'a ArcRadixTree<K, bool>>
+    requires { AreChildren K.cmp (seen (λ t. t) children.now) }
+    ensures covers { let below = cover (lookup_in K.cmp (seen (λ t. t) children.now)) path.now in
+        MatchOption result (below ≡ None) (λ child. below ≡ cover (lookup K.cmp child.now) path.now) }
+    ensures smaller { IfSome result (λ child. nodes child.now ≤ forest_nodes (seen (λ t. t) children.now)) }
+{
+    let Some(first) = path.first() else {
+        return None;
+    };
+    match look_up(children, &Component(first)) {
+        Ok(i) => Some(&children[i]),
+        Err(_) => None,
+    }
+}
+
+/// A component that is sought among the first components of nodes.
+#[derive(Drop)]
+struct Component<'a, K>(&'a K);
+
+impl<'a, K: TKey> Sought<ArcRadixTree<K, bool>, Uncounted> for Component<'a, K> {
+    ghost side = { λ sought node. first_side K.cmp sought.0.now (slice_get node.prefix 0) };
+
+    fn compare(&self, node: &ArcRadixTree<K, bool>, steps: &mut Uncounted) -> Ordering {
+        steps.tick();
+        match node.prefix().first() {
+            Some(start) => start.cmp(self.0),
+            None => Ordering::Less,
+        }
+    }
+}
