@@ -12,7 +12,12 @@ use Rattle.std.specs.Prelude.{leb, ltb, nat_eq}
 use Rattle.std.proofs.Math.Dec.{leb-zero}
 use Rattle.std.proofs.Math.Bool.{not-not}
 use Rattle.vec_collections.specs.SetOf.{exactly_one}
-use Rattle.users.specs.Points.{turned, along}
+use Rattle.std.specs.List.{filter}
+use Rattle.std.proofs.lemmas.Bool.{eqb-true}
+use Rattle.std.proofs.lemmas.Map.Views.{any-filter_same}
+use Rattle.users.specs.declared.intervals.Formula.{Formula}
+use Rattle.users.specs.declared.intervals.Formula.TheVariants.{Or, And, AndNot}
+use Rattle.users.specs.Points.{turned, along, says}
 
 -- exactly one of two pairs, each with exactly one
 regrouped : (p q r s : Bool) → exactly_one (exactly_one p q) (exactly_one r s) ≡ exactly_one (exactly_one p r) (exactly_one q s)
@@ -169,3 +174,48 @@ turned-between b e s l h x =
     along-alike (member nat_cmp s) (λ y. exactly_one (nat_eq b y) (nat_eq e y)) x (λ y k. h y ∙ one-of-two b e y l) ∙
     along-exactly_one (nat_eq b) (nat_eq e) x ∙ ap (λ p. exactly_one p (along (nat_eq e) x)) (along-one b x) ∙
     ap (exactly_one (leb b x)) (along-one e x) ∙ first-alone b e x l
+
+-- ---- the turns that a test leaves
+
+last-false : (p : Bool) → exactly_one p false ≡ p
+last-false true = refl
+last-false false = refl
+
+both-same : (p : Bool) → exactly_one p p ≡ false
+both-same true = refl
+both-same false = refl
+
+says-none : (f : Formula) → says f false false ≡ false
+says-none Or = refl
+says-none And = refl
+says-none AndNot = refl
+
+-- where neither set turns, nothing turns of what a formula says of them
+still : (f : Formula) (t u : ℕ → Bool) (x : ℕ) → t x ≡ false → u x ≡ false → turned (λ y. says f (along t y) (along u y)) x ≡ false
+still f t u zero e h = ap (λ p. says f p (u zero)) e ∙ ap (says f false) h ∙ says-none f
+still f t u (suc x) e h =
+    ap (λ p. exactly_one (says f (along t x) (along u x)) (says f p (along u (suc x)))) (ap (exactly_one (along t x)) e ∙ last-false (along t x)) ∙
+    ap (λ p. exactly_one (says f (along t x) (along u x)) (says f (along t x) p)) (ap (exactly_one (along u x)) h ∙ last-false (along u x)) ∙
+    both-same (says f (along t x) (along u x))
+
+-- what is false where both are false is not changed by asking for one of them
+only-there : (p m n : Bool) → (m ≡ false → n ≡ false → p ≡ false) → (p && (m || n)) ≡ p
+only-there true true n h = refl
+only-there true false true h = refl
+only-there true false false h = sym (h refl refl)
+only-there false m n h = refl
+
+-- of the turns of two sets those stay at which a formula turns
+pub turned-formula : (f : Formula) (a b all kept : List ℕ) → ((x : ℕ) → member nat_cmp all x ≡ (member nat_cmp a x || member nat_cmp b x))
+    → kept ≡ filter (turned (λ y. says f (along (member nat_cmp a) y) (along (member nat_cmp b) y))) all
+    → (x : ℕ) → along (member nat_cmp kept) x ≡ says f (along (member nat_cmp a) x) (along (member nat_cmp b) x)
+turned-formula f a b all kept either stays x =
+    let t = member nat_cmp a in
+    let u = member nat_cmp b in
+    let formula : ℕ → Bool = λ y. says f (along t y) (along u y) in
+    along-alike (member nat_cmp kept) (turned formula) x
+    (λ y k. ap (λ l. member nat_cmp l y) stays ∙
+        any-filter_same (λ z. eq_by_cmp nat_cmp z y) (turned formula) (turned formula y)
+            (λ z h. ap (turned formula) (eqb-true z y (sym (same z y) ∙ h))) all ∙
+        ap (λ m. turned formula y && m) (either y) ∙ only-there (turned formula y) (t y) (u y) (still f t u y)) ∙
+    along-turned formula x
