@@ -1,110 +1,80 @@
-//! Elements that count their own comparisons: a counted call counts each of them, and makes no other.
-ghost use Rattle.std.specs.Prelude.{nat_eq};
-ghost use Rattle.std.specs.Ordering.{nat_cmp, on, as_partial_cmp};
-ghost use Rattle.std.specs.Cmp.{partial_order_from_own_ties};
-ghost use Rattle.std.specs.Cmp.Rules.{comparing};
-ghost use Rattle.std.proofs.Common.{rules, refl};
+//! Comparisons by lengths: elements that count their own see no more than the bound, and a counted call counts each of them.
 
+use crate::compared::Compared;
 use std::alloc::{AllocError, Global};
 use std::cell::Cell;
-use std::cmp::Ordering;
 use std::test::Fail;
 use vc_merge::merge::{Count, Steps};
-use vc_sets::vec_set::{SetOp, SetTest, VecSet};
-
-/// A number that counts, where it has a counter, how often it is compared.
-#[derive(Clone, Copy)]
-struct Compared<'a> {
-    number: u32,
-    count: Option<&'a Cell<u128>>,
-}
-
-impl Default for Compared<'_> {
-    fn default() -> Self {
-        Compared {
-            number: 0,
-            count: None,
-        }
-    }
-}
-
-impl PartialEq for Compared<'_> {
-    ghost eq = { on (λ e. e.number) nat_eq };
-
-    ghost laws = { Prim.search (comparing, rules) };
-
-    fn eq(&self, other: &Self) -> bool {
-        self.number == other.number
-    }
-}
-
-impl Eq for Compared<'_> {
-    ghost laws = { Prim.search (comparing, rules) };
-}
-
-impl PartialOrd for Compared<'_> {
-    ghost partial_cmp = { as_partial_cmp (on (λ e. e.number) nat_cmp) };
-
-    ghost laws = { partial_order_from_own_ties (Prim.search (comparing, rules)) (Prim.search (comparing, rules)) };
-
-    fn partial_cmp(&self, other: &Self) -> Option<Ordering> {
-        Some(self.cmp(other))
-    }
-}
-
-impl Ord for Compared<'_> {
-    ghost cmp = { on (λ e. e.number) nat_cmp };
-
-    ghost total = { Prim.search (comparing, rules) };
-
-    ghost matches_partial_cmp = { λ x y. refl };
-
-    ghost matches_eq = { Prim.search (comparing, rules) };
-
-    fn cmp(&self, other: &Self) -> Ordering {
-        if let Some(count) = self.count {
-            count.set(count.get().saturating_add(1));
-        }
-        self.number.cmp(&other.number)
-    }
-}
+use vc_sets::vec_set::{AbstractVecSet, SetOp, SetTest, VecSet};
 
 type Compareds<'a> = VecSet<Compared<'a>, 2>;
 
-/// The set of the numbers of a list, which count their comparisons on `count`.
-fn compareds<'a>(
+/// The lengths of a short list and a long one, and the most comparisons of an operation or a test of their sets.
+const LENGTHS: [(u32, u32, u128); 11] = [
+    (0, 5, 0),
+    (1, 1, 1),
+    (1, 3, 2),
+    (1, 1000, 10),
+    (2, 4, 6),
+    (2, 7, 6),
+    (3, 7, 9),
+    (4, 100, 28),
+    (5, 16, 21),
+    (7, 12, 19),
+    (8, 8, 16),
+];
+
+/// The first number of the long list; the others follow two by two.
+const FIRST: u32 = 2000;
+
+/// Greater than each number of the long list.
+const END: u32 = 8000;
+
+/// How the numbers of the short list stand to those of the long one.
+#[derive(Clone, Copy, Debug)]
+enum Place {
+    Before,
+    Between,
+    Among,
+    Behind,
+}
+
+const PLACES: [Place; 4] = [Place::Before, Place::Between, Place::Among, Place::Behind];
+
+impl Place {
+    /// The number at that index of the short list, where each is so far from the next.
+    fn number(self, index: u32, step: u32) -> u32 {
+        let even = index.saturating_mul(step).saturating_add(FIRST);
+        match self {
+            Place::Before => index,
+            Place::Between => even.saturating_add(1),
+            Place::Among => even,
+            Place::Behind => index.saturating_add(END),
+        }
+    }
+}
+
+/// The short set, whose elements count their comparisons on `count`.
+fn short_set<'a>(
     alloc: Global,
-    list: &[u32],
+    place: Place,
+    few: u32,
+    many: u32,
     count: &'a Cell<u128>,
 ) -> Result<Compareds<'a>, AllocError> {
+    let step = (many / few.max(1)).saturating_mul(2);
     let mut set = Compareds::empty(alloc);
-    for number in list {
+    for index in 0..few {
         set.insert(Compared {
-            number: *number,
+            number: place.number(index, step),
             count: Some(count),
         })?;
     }
     Ok(set)
 }
 
-/// Two lists, and the most comparisons of an operation or a test of their sets.
-const LISTS: [(&[u32], &[u32], u128); 8] = [
-    (
-        &[0, 2, 4, 6, 8, 10, 12, 14],
-        &[1, 3, 5, 7, 9, 11, 13, 15],
-        16,
-    ),
-    (&[0, 1, 2, 3, 4, 5, 6, 7], &[0, 1, 2, 3, 4, 5, 6, 7], 16),
-    (&[2], &[1, 2, 3], 2),
-    (&[1, 2, 3, 4], &[4], 3),
-    (&[1], &[2, 3, 4, 5], 3),
-    (&[], &[1, 2, 3, 4, 5], 0),
-    (&[5, 6], &[], 0),
-    (&[], &[], 0),
-];
-
 /// What the operation makes of the two sets, by the call without a counter.
-fn uncounted<'s, 'a>(
+fn fresh<'s, 'a>(
     a: &'s Compareds<'a>,
     b: &'s Compareds<'a>,
     op: SetOp,
@@ -117,9 +87,98 @@ fn uncounted<'s, 'a>(
     }
 }
 
-/// Whether each operation on the two sets, and each test of them, counts the comparisons that its elements counted, at
-/// most so many, and whether an operation makes as many where it counts none. Where both have elements there are some.
-fn agree<'s, 'a>(
+/// Puts what the operation makes in the place of the left set, from a right set that stays.
+fn in_place<'s, 'a>(
+    a: &'s mut Compareds<'a>,
+    b: &'s Compareds<'a>,
+    op: SetOp,
+) -> Result<(), AllocError> {
+    match op {
+        SetOp::Union => a.union_with(b)?,
+        SetOp::Intersection => a.intersection_with(b),
+        SetOp::SymmetricDifference => a.xor_with(b)?,
+        SetOp::Difference => a.difference_with(b),
+    }
+    Ok(())
+}
+
+/// The same from a right set that is gone afterwards.
+fn by_value<'s, 'a>(
+    a: &'s mut Compareds<'a>,
+    b: Compareds<'a>,
+    op: SetOp,
+) -> Result<(), AllocError> {
+    match op {
+        SetOp::Union => a.bitor_assign(b)?,
+        SetOp::Intersection => *a &= b,
+        SetOp::SymmetricDifference => a.bitxor_assign(b)?,
+        SetOp::Difference => *a -= b,
+    }
+    Ok(())
+}
+
+/// Whether the test holds, by the call without a counter.
+fn holds<'s, 'a>(a: &'s Compareds<'a>, b: &'s Compareds<'a>, test: SetTest) -> bool {
+    match test {
+        SetTest::Disjoint => a.is_disjoint(b),
+        SetTest::Subset => a.is_subset(b),
+        SetTest::Superset => a.is_superset(b),
+    }
+}
+
+/// How many comparisons there were since the last time.
+fn taken(count: &Cell<u128>) -> u128 {
+    count.replace(0)
+}
+
+/// Whether the operation compares as often as it counts, at most so often, and no more often where it counts none, fresh and in place.
+/// Where both sets have elements it compares.
+fn operation_agrees<'s, 'a>(
+    a: &'s Compareds<'a>,
+    b: &'s Compareds<'a>,
+    op: SetOp,
+    bound: u128,
+    count: &'a Cell<u128>,
+) -> Result<bool, AllocError> {
+    let mut steps = Steps::new();
+    let (mut left, mut moved, right) = (a.clone()?, a.clone()?, b.clone()?);
+    count.set(0);
+    let counted = a.combine_counted(b, op, &mut steps)?;
+    let seen = taken(count);
+    let uncounted = fresh(a, b, op)?;
+    let fresh_seen = taken(count);
+    in_place(&mut left, b, op)?;
+    let in_place_seen = taken(count);
+    by_value(&mut moved, right, op)?;
+    let by_value_seen = taken(count);
+    Ok(
+        steps.count() == seen
+            && (seen == 0) == (bound == 0)
+            && [seen, fresh_seen, in_place_seen, by_value_seen]
+                .iter()
+                .all(|seen| *seen <= bound)
+            && [uncounted, left, moved].iter().all(|made| *made == counted),
+    )
+}
+
+/// Whether the test compares as often as it counts, at most so often, and no more often where it counts none.
+fn test_agrees<'s, 'a>(
+    a: &'s Compareds<'a>,
+    b: &'s Compareds<'a>,
+    test: SetTest,
+    bound: u128,
+    count: &'a Cell<u128>,
+) -> bool {
+    let mut steps = Steps::new();
+    count.set(0);
+    let answer = a.test_counted(b, test, &mut steps);
+    let seen = taken(count);
+    let same = holds(a, b, test) == answer;
+    steps.count() == seen && seen <= bound && taken(count) <= bound && same
+}
+
+/// Whether that holds of each operation and each test.
+fn all_agree<'s, 'a>(
     a: &'s Compareds<'a>,
     b: &'s Compareds<'a>,
     bound: u128,
@@ -132,45 +191,36 @@ fn agree<'s, 'a>(
         SetOp::SymmetricDifference,
         SetOp::Difference,
     ] {
-        let mut steps = Steps::new();
-        count.set(0);
-        let _made = a.combine_counted(b, op, &mut steps)?;
-        agree &= steps.count() == count.get() && steps.count() <= bound;
-        agree &= (steps.count() == 0) == (bound == 0);
-        count.set(0);
-        let _made = uncounted(a, b, op)?;
-        agree &= steps.count() == count.get();
+        agree &= operation_agrees(a, b, op, bound, count)?;
     }
     for test in [SetTest::Disjoint, SetTest::Subset, SetTest::Superset] {
-        let mut steps = Steps::new();
-        count.set(0);
-        let _holds = a.test_counted(b, test, &mut steps);
-        agree &= steps.count() == count.get() && steps.count() <= bound;
+        agree &= test_agrees(a, b, test, bound, count);
     }
     Ok(agree)
 }
 
-/// Whether that holds of the sets of two lists.
-fn lists_agree<'a>(
+/// Whether it holds of a short and a long list in both orders.
+fn lengths_agree<'a>(
     alloc: Global,
-    left: &[u32],
-    right: &[u32],
-    bound: u128,
+    place: Place,
+    (few, many, bound): (u32, u32, u128),
     count: &'a Cell<u128>,
 ) -> Result<bool, AllocError> {
-    let a = compareds(alloc, left, count)?;
-    let b = compareds(alloc, right, count)?;
-    agree(&a, &b, bound, count)
+    let short = short_set(alloc, place, few, many, count)?;
+    let long = short_set(alloc, Place::Among, many, many, count)?;
+    Ok(all_agree(&short, &long, bound, count)? && all_agree(&long, &short, bound, count)?)
 }
 
 #[test]
-fn each_comparison_is_counted(rt: HostRuntime) -> Result<(), Fail> {
-    for (left, right, bound) in LISTS {
-        let count = Cell::new(0);
-        assert!(rt;
-            lists_agree(rt.alloc(), left, right, bound, &count)?,
-            "{left:?} {right:?}"
-        );
+fn each_comparison_is_counted_and_none_is_beyond_the_bound(rt: HostRuntime) -> Result<(), Fail> {
+    for row in LENGTHS {
+        for place in PLACES {
+            let count = Cell::new(0);
+            assert!(rt;
+                lengths_agree(rt.alloc(), place, row, &count)?,
+                "{place:?} {row:?}"
+            );
+        }
     }
     Ok(())
 }

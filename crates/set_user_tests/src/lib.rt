@@ -4,6 +4,8 @@
 
 #[cfg(test)]
 mod builder;
+#[cfg(test)]
+mod compared;
 pub mod contracts;
 #[cfg(test)]
 mod counted;

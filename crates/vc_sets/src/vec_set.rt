@@ -1,6 +1,5 @@
 //! `VecSet`, a small set as an ascending list.
-ghost use Rattle.std.specs.Prelude.{◌≡◌, ◌<◌, ◌||◌, ◌↔◌, [], ◌++◌, ◌==◌, List, not, cond, Some, length, vec_len, IfOk, IsOk, OnErr, IsTrue};
-ghost use Rattle.smallvec.specs.SmallVec.{HasRoomFor};
+ghost use Rattle.std.specs.Prelude.{◌≡◌, ◌<◌, ◌||◌, ◌↔◌, [], ◌==◌, List, not, cond, Some, length, IfOk, IsOk, OnErr, IsTrue};
 ghost use Rattle.std.specs.Ordering.{eq_by_cmp};
 ghost use Rattle.vc_merge.specs.Ascending.{Ascends, member, element_at};
 ghost use Rattle.vc_sets.specs.Iterating.{Shows};
@@ -93,7 +92,9 @@ impl<T: Ord + MadeWith<A> + Drop, const N: usize, A: Allocator + Copy> VecSet<T,
         ensures { IfOk result (λ s. s ≡ vec.items) }
     {
         let mut elements = SmallVec::with_capacity(alloc, vec.len())?;
-        push_all(&mut elements, vec);
+        for element in vec {
+            elements.push_reserved(element);
+        }
         Ok(VecSet { elements })
     }
 
@@ -123,19 +124,6 @@ impl<T: Ord + MadeWith<A> + Drop, const N: usize, A: Allocator + Copy> VecSet<T,
                 Ok(true)
             }
         }
-    }
-}
-
-/// Moves all elements of `vec` to the end of a list that has room for them.
-fn push_all<T: MadeWith<A> + Drop, const N: usize, A: Allocator + Copy>(
-    list: &mut SmallVec<T, N, A>,
-    vec: Vec<T>,
-)
-    requires { HasRoomFor list.old (vec_len vec) }
-    ensures { list.new.items ≡ list.old.items ++ vec.items }
-{
-    for element in vec {
-        list.push_reserved(element);
     }
 }
 

@@ -89,8 +89,22 @@ impl<T: Ord + Clone + MadeWith<A>, const N: usize, A: Allocator + Copy> VecSet<T
         requires { ClonesAreEqual T.cmp T.is_clone }
         ensures { IfOk result (λ copy. AllZip T.is_clone self.now copy) }
     {
-        let elements = self.elements.clone()?;
+        let elements = clones_of(*self.elements.allocator(), self.elements.as_slice())?;
         Ok(VecSet { elements })
+    }
+}
+
+/// A clone of each of `items`. Many come into a `Vec`, which need not be asked at each of them whether it stands in place.
+fn clones_of<T: Clone + MadeWith<A>, const N: usize, A: Allocator + Copy>(
+    alloc: A,
+    items: &[T],
+) -> Result<SmallVec<T, N, A>, AllocError>
+    ensures { IfOk result (λ list. AllZip T.is_clone items.now list.items) }
+{
+    if items.len() <= N {
+        SmallVec::from_clones(alloc, items)
+    } else {
+        Ok(SmallVec::from_vec(Vec::from_clones(alloc, items)?))
     }
 }
 
