@@ -3,3 +3,4 @@ pub mod Asking
 pub mod Editing
 pub mod Joined
 pub mod PairSets
+pub mod Retaining

@@ -5,6 +5,7 @@ ghost use Rattle.std.specs.Ordering.{eq_by_cmp};
 ghost use Rattle.vc_joins.specs.Entries.{AscendsByKey, entry_at, value_at};
 ghost use Rattle.vc_merge.specs.Showing.{ShowsItems};
 
+mod changes;
 mod comparisons;
 mod conversions;
 mod iteration;

@@ -1,0 +1,55 @@
+-- What a test leaves of a map, key by key, and clones of its pairs.
+use Rattle.std.proofs.Common.{◌≡◌, Bool, true, false, cond, List, [], ◌∷◌, Option, Some, None, refl, sym, ap, subst, ◌∙◌}
+use Rattle.std.specs.BTreeMap.{is_at}
+use Rattle.std.specs.Cmp.{IsTotalOrder}
+use Rattle.std.specs.List.{AllZip, items_where_true}
+use Rattle.std.specs.List.Retain.{IsFiltered}
+use Rattle.std.specs.Map.{keys_of}
+use Rattle.std.specs.Ordering.{eq_by_cmp, is_eq, ordering_reverse}
+use Rattle.std.specs.declared.cmp.Ordering.{Ordering}
+use Rattle.std.specs.declared.cmp.Ordering.TheVariants.{Less, Equal, Greater}
+use Rattle.std.proofs.lemmas.Cmp.{on_total}
+use Rattle.vc_merge.specs.Ascending.{Ascends, element_at}
+use Rattle.vc_merge.specs.Yielded.{by_first, keys-ascend}
+use Rattle.vc_merge.proofs.Lists.{pairs-ascend}
+use Rattle.vc_joins.specs.Entries.{AscendsByKey, entry_at}
+use Rattle.vc_sets.specs.Retaining.{IsAsked}
+use Rattle.vc_sets.proofs.Removing.{ascends-chosen}
+use Rattle.vc_sets.proofs.Retained.{asked}
+
+reversed-is_eq : (o : Ordering) → is_eq (ordering_reverse o) ≡ is_eq o
+reversed-is_eq Less = refl
+reversed-is_eq Equal = refl
+reversed-is_eq Greater = refl
+
+-- nothing is chosen of an empty list
+none-left : {X : Type 0} (bs : List Bool) (ys : List X) → ys ≡ items_where_true bs [] → ys ≡ []
+none-left [] ys e = e
+none-left (true ∷ bs) ys e = e
+none-left (false ∷ bs) ys e = e
+
+module _ {K V : Type 0} (cmp : K → K → Ordering) (total : IsTotalOrder cmp) where
+  -- the pair at a key, as an element that is equal by its key
+  entry-element : (es : List (K × V)) (k : K) (v : V) → entry_at cmp es k ≡ element_at (by_first cmp) es (k, v)
+  entry-element [] k v = refl
+  entry-element (e ∷ es) k v =
+      let same : is_at (cmp k) e.0 ≡ eq_by_cmp (by_first cmp) e (k, v) = ap is_eq (total.antisymm k e.0) ∙ reversed-is_eq (cmp e.0 k) in
+      ap (λ b. cond b (Some e) (entry_at cmp es k)) same ∙ ap (λ o. cond (eq_by_cmp (by_first cmp) e (k, v)) (Some e) o) (entry-element es k v)
+
+  module _ {F : Type 0} (calls : F → K × V → Bool → F → Type 0) where
+    pub entries-asked : (f : F) (xs ys : List (K × V)) → AscendsByKey cmp xs → IsFiltered calls f xs ys → (k : K) → IsAsked calls (entry_at cmp xs k) (entry_at cmp ys k)
+    entries-asked f [] ys p h k = ap (λ l. entry_at cmp l k) (none-left h.0 ys h.4)
+    entries-asked f (x ∷ xs) ys p h k =
+        subst (λ o. IsAsked calls o (entry_at cmp ys k)) (sym (entry-element (x ∷ xs) k x.1))
+        (subst (λ o. IsAsked calls (element_at (by_first cmp) (x ∷ xs) (k, x.1)) o) (sym (entry-element ys k x.1))
+        (asked (by_first cmp) (on_total (λ p. p.0) total) calls f (x ∷ xs) ys (pairs-ascend cmp (x ∷ xs) p) h (k, x.1)))
+
+  pub chosen-ascends : (bs : List Bool) (xs : List (K × V)) → AscendsByKey cmp xs → AscendsByKey cmp (items_where_true bs xs)
+  chosen-ascends bs xs p = keys-ascend cmp (items_where_true bs xs) (ascends-chosen (by_first cmp) bs xs (pairs-ascend cmp xs p))
+
+-- the clones of pairs have the clones of the keys
+pub keys-cloned : {K V : Type 0} (R : K → K → Type 0) (S : V → V → Type 0) (xs ys : List (K × V)) → AllZip (λ p q. R p.0 q.0 × S p.1 q.1) xs ys → AllZip R (keys_of xs) (keys_of ys)
+keys-cloned R S [] [] h = tt
+keys-cloned R S [] (y ∷ ys) h = absurd h
+keys-cloned R S (x ∷ xs) [] h = absurd h
+keys-cloned R S (x ∷ xs) (y ∷ ys) h = (h.0.0, keys-cloned R S xs ys h.1)
