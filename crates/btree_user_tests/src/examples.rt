@@ -9,16 +9,16 @@ use vc_joins::question::OuterJoinArg;
 /// A number with a mark that does not count in comparisons.
 #[derive(Clone, Copy)]
 #[derive_where(Debug, PartialEq, Eq, PartialOrd, Ord)]
-struct Marked {
-    number: u32,
+pub(crate) struct Marked {
+    pub(crate) number: u32,
     #[derive_where(skip)]
-    mark: char,
+    pub(crate) mark: char,
 }
 
-type Map = BTreeMap<Marked, u32>;
+pub(crate) type Map = BTreeMap<Marked, u32>;
 
 /// The map of the numbers to values, each number with the mark.
-fn map_of(alloc: Global, mark: char, pairs: &[(u32, u32)]) -> Result<Map, AllocError> {
+pub(crate) fn map_of(alloc: Global, mark: char, pairs: &[(u32, u32)]) -> Result<Map, AllocError> {
     let mut map = BTreeMap::new(alloc);
     for (number, value) in pairs {
         let key = Marked {
@@ -31,7 +31,7 @@ fn map_of(alloc: Global, mark: char, pairs: &[(u32, u32)]) -> Result<Map, AllocE
 }
 
 /// Whether the map has these numbers with marks and values, in this order.
-fn is_map(map: &Map, pairs: &[(u32, char, u32)]) -> bool {
+pub(crate) fn is_map(map: &Map, pairs: &[(u32, char, u32)]) -> bool {
     map.len() == pairs.len()
         && AbstractBTreeMap::iter(map).zip(pairs).all(|((key, value), pair)| (
             key.number, key.mark, *value,

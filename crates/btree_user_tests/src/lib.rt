@@ -1,5 +1,9 @@
-//! A crate that uses joins of maps from outside: worked examples.
+//! A crate that uses joins of maps from outside: worked examples, joins in place, and a refused one.
 #![tactic(auto)]
 
 #[cfg(test)]
 mod examples;
+#[cfg(test)]
+mod in_place;
+#[cfg(test)]
+mod refused;

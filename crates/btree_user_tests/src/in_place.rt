@@ -1,0 +1,167 @@
+//! Worked examples of each join in place, with the questions counted and the spelling of the keys that were shown.
+
+use crate::examples::{Map, Marked, is_map, map_of};
+use std::alloc::{AllocError, Global};
+use std::cell::Cell;
+use std::test::Fail;
+use vc_btree_maps::btree_map::InPlaceRelationalOps;
+
+/// What the closures were asked.
+#[derive(Drop)]
+struct Asked {
+    /// How often at keys of both maps.
+    shared: Cell<u32>,
+    /// How often at keys of this map alone.
+    alone: Cell<u32>,
+    /// How often at keys of the other map alone.
+    other_alone: Cell<u32>,
+    /// Whether a key of both was shown in another spelling than it should be.
+    misspelled: Cell<bool>,
+    /// Whether a value of this map was shown before the last key of the other map alone.
+    early: Cell<bool>,
+}
+
+impl Asked {
+    fn new() -> Asked {
+        Asked {
+            shared: Cell::new(0),
+            alone: Cell::new(0),
+            other_alone: Cell::new(0),
+            misspelled: Cell::new(false),
+            early: Cell::new(false),
+        }
+    }
+
+    /// Notes a question at a key of this map, and adds the other value, where there is one. Answers whether there is.
+    fn add(&self, mark: char, key: &Marked, value: &mut u32, other: Option<&u32>) -> bool {
+        match other {
+            Some(other) => {
+                count(&self.shared);
+                *value = value.saturating_add(*other);
+                if key.mark != mark {
+                    self.misspelled.set(true);
+                }
+                true
+            }
+            None => {
+                count(&self.alone);
+                false
+            }
+        }
+    }
+
+    /// Whether just these questions were asked: at shared keys, at keys of this map alone, at keys of the other one alone.
+    fn is(&self, shared: u32, alone: u32, other_alone: u32) -> bool {
+        !self.misspelled.get()
+            && !self.early.get()
+            && self.shared.get() == shared
+            && self.alone.get() == alone
+            && self.other_alone.get() == other_alone
+    }
+}
+
+/// One more.
+fn count(cell: &Cell<u32>) {
+    cell.set(cell.get().saturating_add(1));
+}
+
+/// The map that is joined: `{1: 10, 2: 20}`.
+fn left(alloc: Global) -> Result<Map, AllocError> {
+    map_of(alloc, 'a', &[(1, 10), (2, 20)])
+}
+
+/// Keeps shared values as they are.
+fn inner(alloc: Global, right: &Map, asked: &Asked) -> Result<Map, AllocError> {
+    let mut map = left(alloc)?;
+    map.inner_join_with(right, |key: &Marked, value: &mut u32, other: &u32| {
+        let before = *value;
+        let shared = asked.add('a', key, value, Some(other));
+        *value = before;
+        shared
+    });
+    Ok(map)
+}
+
+/// Adds where the other map has a value, and keeps all.
+fn left_sums(alloc: Global, right: &Map, asked: &Asked) -> Result<Map, AllocError> {
+    let mut map = left(alloc)?;
+    map.left_join_with(
+        right,
+        |key: &Marked, value: &mut u32, other: Option<&u32>| {
+            let _shared = asked.add('a', key, value, other);
+            true
+        },
+    );
+    Ok(map)
+}
+
+/// Adds at shared keys, and keeps the sums or drops them.
+fn right_sums(alloc: Global, right: &Map, keeps: bool, asked: &Asked) -> Result<Map, AllocError> {
+    let mut map = left(alloc)?;
+    map.right_join_with(
+        right,
+        |key: &Marked, value: &mut u32, other: &u32| {
+            asked.add('b', key, value, Some(other)) && keeps
+        },
+        |_: &Marked, _: &u32| count(&asked.other_alone),
+    );
+    Ok(map)
+}
+
+/// Adds and keeps at shared keys, takes the other map's values, and drops this one's.
+fn outer_sums(alloc: Global, right: &Map, asked: &Asked) -> Result<Map, AllocError> {
+    let mut map = left(alloc)?;
+    map.outer_join_with(
+        alloc,
+        right,
+        |key: &Marked, value: &mut u32, other: Option<&u32>| {
+            if asked.other_alone.get() != 2 {
+                asked.early.set(true);
+            }
+            asked.add('b', key, value, other)
+        },
+        |_: &Marked, other: &u32| {
+            count(&asked.other_alone);
+            Some(*other)
+        },
+    )?;
+    Ok(map)
+}
+
+#[test]
+fn inner_and_left_joins_in_place(rt: HostRuntime) -> Result<(), Fail> {
+    let right = map_of(rt.alloc(), 'b', &[(2, 5), (3, 7)])?;
+    let asked = Asked::new();
+    let map = inner(rt.alloc(), &right, &asked)?;
+    assert!(rt; is_map(&map, &[(2, 'a', 20)]));
+    assert!(rt; asked.is(1, 0, 0));
+    let asked = Asked::new();
+    let map = left_sums(rt.alloc(), &right, &asked)?;
+    assert!(rt; is_map(&map, &[(1, 'a', 10), (2, 'a', 25)]));
+    assert!(rt; asked.is(1, 1, 0));
+    Ok(())
+}
+
+#[test]
+fn right_joins_in_place_insert_nothing(rt: HostRuntime) -> Result<(), Fail> {
+    let right = map_of(rt.alloc(), 'b', &[(2, 5), (3, 7)])?;
+    let asked = Asked::new();
+    let map = right_sums(rt.alloc(), &right, true, &asked)?;
+    assert!(rt; is_map(&map, &[(1, 'a', 10), (2, 'a', 25)]));
+    assert!(rt; asked.is(1, 0, 1));
+    let asked = Asked::new();
+    let map = right_sums(rt.alloc(), &right, false, &asked)?;
+    assert!(rt; is_map(&map, &[(1, 'a', 10)]));
+    assert!(rt; asked.is(1, 0, 1));
+    Ok(())
+}
+
+#[test]
+fn outer_joins_in_place_ask_for_new_pairs_first(rt: HostRuntime) -> Result<(), Fail> {
+    let right = map_of(rt.alloc(), 'b', &[(0, 4), (2, 5), (3, 7)])?;
+    let asked = Asked::new();
+    let map = outer_sums(rt.alloc(), &right, &asked)?;
+    assert!(rt; is_map(&map, &[(0, 'b', 4), (2, 'a', 25), (3, 'b', 7)]));
+    assert!(rt; asked.is(1, 1, 2));
+    Ok(())
+}

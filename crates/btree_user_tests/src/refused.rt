@@ -1,0 +1,84 @@
+//! An outer join in place that is refused at the clone of one of its new keys.
+ghost use Rattle.std.specs.Prelude.{◌≡◌};
+
+use std::alloc::{AllocError, Global};
+use std::cell::Cell;
+use std::collections::BTreeMap;
+use std::test::Fail;
+use vc_btree_maps::btree_map::InPlaceRelationalOps;
+
+/// A number that may refuse to be cloned. The number alone counts in comparisons.
+#[derive_where(Debug, PartialEq, Eq, PartialOrd, Ord)]
+#[derive(Drop)]
+struct Held {
+    number: u32,
+    #[derive_where(skip)]
+    refuses: bool,
+}
+
+impl Clone for Held {
+    ghost is_clone = { λ x y. y.number ≡ x.number };
+
+    fn clone(&self) -> Result<Held, AllocError> {
+        if self.refuses {
+            return Err(AllocError);
+        }
+        Ok(Held {
+            number: self.number,
+            refuses: self.refuses,
+        })
+    }
+}
+
+/// The map of the numbers to ten times themselves, of which one refuses to be cloned.
+fn tens(alloc: Global, numbers: &[u32], refusing: u32) -> Result<BTreeMap<Held, u32>, AllocError> {
+    let mut map = BTreeMap::new(alloc);
+    for number in numbers {
+        let key = Held {
+            number: *number,
+            refuses: *number == refusing,
+        };
+        map.insert(key, number.saturating_mul(10))?;
+    }
+    Ok(map)
+}
+
+/// Whether the map has these numbers, each with ten times itself.
+fn is_tens(map: &BTreeMap<Held, u32>, numbers: &[u32]) -> bool {
+    map.len() == numbers.len()
+        && map.iter().zip(numbers).all(|((key, value), number)| {
+            key.number == *number && *value == number.saturating_mul(10)
+        })
+}
+
+/// Joins `{10, 20}` with `{5, 10, 15, 25}`, where the key `refusing` refuses. Answers whether that was refused and left the old pairs and
+/// `stays` beside them, and whether the closure for the map's own values was asked.
+fn refused_at(alloc: Global, refusing: u32, stays: &[u32]) -> Result<(bool, bool), AllocError> {
+    let mut map = tens(alloc, &[10, 20], refusing)?;
+    let other = tens(alloc, &[5, 10, 15, 25], refusing)?;
+    let asked = Cell::new(false);
+    let answer = map.outer_join_with(
+        alloc,
+        &other,
+        |_: &Held, value: &mut u32, _: Option<&u32>| {
+            asked.set(true);
+            *value = 0;
+            true
+        },
+        |_: &Held, value: &u32| Some(*value),
+    );
+    Ok((answer.is_err() && is_tens(&map, stays), asked.get()))
+}
+
+#[test]
+fn a_refused_join_asks_nothing_of_old_values(rt: HostRuntime) -> Result<(), Fail> {
+    let at_first = refused_at(rt.alloc(), 5, &[10, 20])?;
+    assert_eq!(rt; at_first, (true, false));
+    let at_second = refused_at(rt.alloc(), 15, &[5, 10, 20])?;
+    assert_eq!(rt; at_second, (true, false));
+    let at_third = refused_at(rt.alloc(), 25, &[5, 10, 15, 20])?;
+    assert_eq!(rt; at_third, (true, false));
+    let at_none = refused_at(rt.alloc(), 0, &[])?;
+    assert_eq!(rt; at_none, (false, true));
+    Ok(())
+}
