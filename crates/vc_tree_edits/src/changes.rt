@@ -158,6 +158,21 @@ impl<'f, V: Drop, W, F: Fn(&mut V, &W) -> bool> Meet<V, W> for Asked<'f, F> {
     }
 }
 
+/// A closure of values of one type is asked in the same way.
+#[derive(Drop)]
+pub struct AskedAlike<'f, F>(pub &'f F);
+
+impl<'f, V: Drop, F: Fn(&mut V, &V) -> bool> Meet<V, V> for AskedAlike<'f, F> {
+    ghost takes = { λ q v w. CanLeave F.Fn q.0.now v w };
+
+    ghost may = { λ q v w z. MayLeave F.Fn q.0.now v w z };
+
+    fn meet(&self, v: V, w: &V) -> Option<V> {
+        let mut v = v;
+        if (self.0)(&mut v, w) { Some(v) } else { None }
+    }
+}
+
 /// The value of the left stays.
 #[derive(Drop)]
 pub struct Stays;

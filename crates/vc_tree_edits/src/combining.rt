@@ -2,13 +2,13 @@
 
 ghost use Rattle.std.specs.Prelude.{◌≡◌, List, OnOk, OnErr};
 ghost use Rattle.vc_tree_model.specs.Canonical.{IsCanonical};
-ghost use Rattle.vc_tree_model.specs.Combine.{IsCombined, IsInnerAt, IsLeftAt, IsUnionAt, IsIntersectionAt, IsDifferenceAt};
+ghost use Rattle.vc_tree_model.specs.Combine.{IsCombined, IsInnerAt, IsLeftAt, IsOuterAt, IsUnionAt, IsIntersectionAt, IsDifferenceAt};
 ghost use Rattle.vc_tree_model.specs.Cover.{IsRemoved, IsRetained};
 ghost use Rattle.vc_tree_model.specs.Map.{lookup};
 ghost use Rattle.vc_tree_model.specs.Tree.{no_tree};
 ghost use Rattle.vc_tree_edits.specs.Editing.{MayLeave, CanLeave, KeptThen, CanMeet, OrStays, CanJudge, MayJudge};
 
-use crate::changes::{Asked, Goes, KeepAll, KeepLeft, Sift, Stays};
+use crate::changes::{Asked, AskedAlike, Goes, KeepAll, KeepLeft, Sift, Stays};
 use crate::engine::{Change, change_at};
 use std::alloc::AllocError;
 use std::mem;
@@ -198,6 +198,29 @@ pub fn difference_with<K: TKey, V: TValue, W: TValue, B: RadixNode<K, W>, T: Bui
         at: &Goes,
         left_stays: true,
     };
+    let done = change(tree, that, &op);
+    // The law of trees, that they are canonical, comes with the prefix.
+    let _ = tree.prefix();
+    done
+}
+
+/// Keeps the keys of both: a value of one side alone stays, or comes in as a clone, and at a shared key the closure writes to the value,
+/// which stays where it answers true.
+pub fn outer_combine_with<
+    K: TKey,
+    V: TValue,
+    B: RadixNode<K, V>,
+    T: Build<K, V>,
+    F: Fn(&mut V, &V) -> bool,
+>(tree: &mut T, that: &B, f: &F) -> Result<(), AllocError>
+    requires asks { (k : List K) → CanMeet T.keeps (CanLeave F.Fn f.now) (lookup K.cmp (T.tree tree.old) k)
+        (lookup K.cmp (B.tree that.now) k) }
+    ensures ok { OnOk result (IsCombined K.cmp (IsOuterAt T.keeps V.is_clone (KeptThen T.keeps (MayLeave F.Fn f.now)))
+        (T.tree tree.old) (B.tree that.now) (T.tree tree.new)) }
+    ensures err { OnErr result (T.tree tree.new ≡ no_tree) }
+    ensures canonical { IsCanonical K.cmp (T.tree tree.new) }
+{
+    let op = KeepAll { at: &AskedAlike(f) };
     let done = change(tree, that, &op);
     // The law of trees, that they are canonical, comes with the prefix.
     let _ = tree.prefix();
