@@ -16,7 +16,7 @@ use Rattle.vc_tree_model.specs.Snapshot.{tree_alike_refl}
 use Rattle.vc_tree_model.specs.Tree.{Tree, shortened}
 use Rattle.vc_tree_model.specs.Value.{IsKept}
 use Rattle.vc_tree_combines.specs.Made.{IsMade}
-use Rattle.vc_tree_combines.proofs.Alone.{copied_by, left_out}
+use Rattle.vc_tree_combines.proofs.Alone.{copied_by}
 use Rattle.vc_tree_edits.specs.Editing.{CanJudge, IsJudged, IsSiftedBy, stays_by}
 
 -- a tree that stays is what is said of a tree whose values are kept

@@ -2,7 +2,7 @@
 
 ghost use Rattle.std.specs.Prelude.{◌≡◌, ◌≤◌, List, [], Some, length, IfOk, IsOk, OnOk, OnErr};
 ghost use Rattle.vc_tree_model.specs.Tree.{made, no_tree};
-ghost use Rattle.vc_tree_model.specs.Combine.{IsCombined, IsInnerAt, IsLeftAt, IsUnionAt, IsIntersectionAt, IsDifferenceAt};
+ghost use Rattle.vc_tree_model.specs.Combine.{IsCombined, IsInnerAt, IsLeftAt, IsOuterAt, IsUnionAt, IsIntersectionAt, IsDifferenceAt};
 ghost use Rattle.vc_tree_model.specs.Cover.{IsRemoved, IsRetained};
 ghost use Rattle.vc_tree_model.specs.Value.{Copies};
 ghost use Rattle.vc_tree_model.specs.Map.{HaveEqualMaps, IsInserted, lookup};
@@ -162,6 +162,26 @@ pub trait AbstractRadixTreeMut<K: TKey, V: TValue>: CloneTree<K, V> + AbstractRa
         ensures canonical { IsCanonical K.cmp (Self.tree self.new) }
     {
         combining::difference_with(self, that)
+    }
+
+    /// Adds the keys that the other tree alone binds, with clones of its values; those of this tree alone keep their values, and of the
+    /// keys of both those stay at which the closure answers true. It is handed this tree's value itself, which it may write to, and
+    /// the other one's.
+    ///
+    /// Fails only where memory is refused, for a prefix of more than 16 components, for lists of children that are built anew, or for
+    /// the copy of shared children, or the clone of a value; the tree is then empty.
+    final fn outer_combine_with<S: AbstractRadixTree<K, V>, F: Fn(&mut V, &V) -> bool>(
+        &mut self,
+        that: &S,
+        f: F,
+    ) -> Result<(), AllocError>
+        requires { (k : List K) → CanMeet Self.keeps (CanLeave F.Fn f) (lookup K.cmp (Self.tree self.old) k) (lookup K.cmp (S.tree that.now) k) }
+        ensures ok { OnOk result (IsCombined K.cmp (IsOuterAt Self.keeps V.is_clone (KeptThen Self.keeps (MayLeave F.Fn f)))
+            (Self.tree self.old) (S.tree that.now) (Self.tree self.new)) }
+        ensures err { OnErr result (Self.tree self.new ≡ no_tree) }
+        ensures canonical { IsCanonical K.cmp (Self.tree self.new) }
+    {
+        combining::outer_combine_with(self, that, &f)
     }
 
     /// Keeps the keys that both bind and at which the closure answers true. It is handed this tree's value itself, which it may write
