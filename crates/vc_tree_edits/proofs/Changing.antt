@@ -3,7 +3,7 @@
 --     asked_taken        what may be asked at each key of the tree, may be asked at each key of its parts
 --     taken_nodes        the parts have as many nodes
 --     made_taken        what is made of the parts is what the change says of the tree
-use Rattle.std.proofs.Common.{◌≡◌, ℕ, ◌+◌, ◌≤◌, [], ◌∷◌, List, Option, None, Some, refl, sym, ap, subst, ◌∙◌, map, drop, take, length, slice_get, arith, inl, inr}
+use Rattle.std.proofs.Common.{◌≡◌, ℕ, ◌≤◌, [], ◌∷◌, List, Option, refl, sym, ap, subst, ◌∙◌, map, drop, take, length, slice_get, arith}
 use Rattle.std.specs.List.{AllByRecursion}
 use Rattle.std.specs.List.Sorted.{IsStrictlySortedBy}
 use Rattle.std.specs.Option.{option_cmp}
@@ -14,13 +14,13 @@ use Rattle.vc_merge.specs.Ascending.{Ascends}
 use Rattle.vc_merge.specs.Script.{Event, left_alone, right_alone, collision, lefts, rights, place, IsMatched}
 use Rattle.vc_tree_model.specs.Key.{same_key}
 use Rattle.vc_tree_model.specs.Value.{IsKept}
-use Rattle.vc_tree_model.specs.Tree.{Tree, Forest, bare, nodes}
+use Rattle.vc_tree_model.specs.Tree.{Tree, nodes}
 use Rattle.vc_tree_model.specs.Map.{lookup}
-use Rattle.vc_tree_model.specs.Child.{bound_by, children_at}
+use Rattle.vc_tree_model.specs.Child.{children_at}
 use Rattle.vc_tree_model.specs.Same.{IsAlike, IsAlikeIn}
 use Rattle.vc_tree_model.proofs.AlikeLemmas.{alike_nodes, tree_alike_lookup}
 use Rattle.vc_tree_model.proofs.Look.{Look}
-use Rattle.vc_tree_combines.specs.Facing.{shortened_in, Parts, IsOpened, IsFaced}
+use Rattle.vc_tree_combines.specs.Facing.{shortened_in, Parts, IsFaced}
 use Rattle.vc_tree_combines.specs.Made.{IsBothMadeBy}
 use Rattle.vc_tree_combines.specs.Sides.{component, by_component, side_of, IsListed}
 use Rattle.vc_tree_combines.specs.declared.sides.Side.{Side}

@@ -1,5 +1,6 @@
-pub mod Covers
 pub mod Taking
 pub mod Changing
 pub mod Stepping
+pub mod Sifting
 pub mod Prepended
+pub mod Meeting

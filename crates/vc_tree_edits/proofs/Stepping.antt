@@ -20,7 +20,7 @@ use Rattle.vc_tree_model.proofs.AlikeLemmas.{tree_alike_canonical}
 use Rattle.vc_tree_model.proofs.Joining.{value_asked}
 use Rattle.vc_tree_model.proofs.Look.{Look}
 use Rattle.vc_tree_combines.specs.Facing.{shortened_in, IsFaced}
-use Rattle.vc_tree_combines.specs.Made.{IsMade, IsMadeBy, IsBothMadeBy, IsDoing}
+use Rattle.vc_tree_combines.specs.Made.{IsBothMadeBy, IsDoing}
 use Rattle.vc_tree_combines.specs.declared.sides.Side.{Side}
 use Rattle.vc_tree_combines.specs.declared.sides.Side.TheVariants.{Left, Right, Both}
 use Rattle.vc_tree_combines.proofs.Doing.{doing_left, doing_right, doing_both}

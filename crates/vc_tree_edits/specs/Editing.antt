@@ -1,38 +1,54 @@
 -- What a change of a tree in place says of values, and what its closures may do.
---     MayLeave g f keeps v w z        a call of f at a value kept from v, and at w, may leave z there
---     CanWrite        f may be called where such a change calls it: at the keys of both trees
+--     MayLeave g f v w z, CanLeave        a call of f at the value v itself, and at w, may leave z there; it may be called so
+--     KeptThen keeps may v w z        of a value that is kept from v, z is what may come at w
+--     CanMeet keeps takes v w        what may be asked at each value that is kept from v, and at w
 --     OrStays        a value of the left alone stays
---     CanJudge g f w        f may be called at a value w, if there is one
+--     IsMetAt        of a shared key, what may come; a value of the left alone stays or goes, and no other key is there
+--     MayJudge, CanJudge        a call of f at a value may answer so; it may be called there, if there is one
 --     IsJudged may known w covered        the verdict on a key: what may be said of its cover, or else what is known
 --     IsSiftedBy        what stays of a value by that verdict
-use Rattle.std.specs.Prelude.{◌≡◌, Bool, cond, Option, Some, None, ⊤}
+use Rattle.std.specs.Prelude.{◌≡◌, Bool, cond, not, Option, Some, None, ⊤}
 use denote.Ref.{Bor, MutBor}
 use denote.Param.Members.{Shared}
 use Rattle.vc_tree_model.specs.Value.{IsKept}
 use Rattle.vc_tree_model.specs.Cover.{StaysOrGoes}
 
-module _ {V W F : Type 0} where
-  module _ (g : Shared F (MutBor V × (Bor W × Unit {0})) (Bool × (MutBor V × Unit {0}))) (f : F) (keeps : V → V → Type 0) where
-    -- a call at a value that is kept from v, and at w, may leave z: the value that the closure left, or nothing
-    pub record MayLeave (v : V) (w : W) (z : Option V) : Type 0 where
-      pub given : MutBor V
-      pub other : Bor W
-      pub shows : keeps v given.now × (other.now ≡ w)
-      pub stays : Bool
-      pub left : MutBor V
-      pub answers : g.post f (given, (other, tt)) (stays, (left, tt))
-      pub leaves : z ≡ cond stays (Some left.now) None
+module _ {V W F : Type 0} (g : Shared F (MutBor V × (Bor W × Unit {0})) (Bool × (MutBor V × Unit {0}))) (f : F) where
+  -- a call at the value v itself, and at w, may leave z: the value that the closure left, or nothing
+  pub record MayLeave (v : V) (w : W) (z : Option V) : Type 0 where
+    pub given : MutBor V
+    pub other : Bor W
+    pub shows : (given.now ≡ v) × (other.now ≡ w)
+    pub stays : Bool
+    pub left : MutBor V
+    pub answers : g.post f (given, (other, tt)) (stays, (left, tt))
+    pub leaves : z ≡ cond stays (Some left.now) None
 
-    -- it may be called at what both sides bind
-    abbrev pub CanWrite : Option V → Option W → Type 0
-    CanWrite (Some v) (Some w) = (p : MutBor V) (q : Bor W) → keeps v p.now → q.now ≡ w → g.pre f (p, (q, tt))
-    CanWrite (Some v) None = ⊤
-    CanWrite None w = ⊤
+  -- it may be called there
+  abbrev pub CanLeave : V → W → Type 0
+  CanLeave v w = (p : MutBor V) (q : Bor W) → p.now ≡ v → q.now ≡ w → g.pre f (p, (q, tt))
 
--- it is answered at a key of both, and a value of the left alone stays
-abbrev pub OrStays : {V W : Type 0} → (V → V → Type 0) → (V → W → Option V → Type 0) → V → Option W → Option V → Type 0
-OrStays keeps answers v (Some w) z = answers v w z
-OrStays keeps answers v None z = IsKept keeps (Some v) z
+module _ {V W : Type 0} (keeps : V → V → Type 0) where
+  -- of a value that is kept from v, z is what may come at w
+  abbrev pub KeptThen : (V → W → Option V → Type 0) → V → W → Option V → Type 0
+  KeptThen may v w z = (kept : V) × keeps v kept × may kept w z
+
+  -- what may be asked at each value that is kept from v, and at w
+  abbrev pub CanMeet : (V → W → Type 0) → Option V → Option W → Type 0
+  CanMeet takes (Some v) (Some w) = (kept : V) → keeps v kept → takes kept w
+  CanMeet takes (Some v) None = ⊤
+  CanMeet takes None w = ⊤
+
+  -- what may come at a key of both, and a value of the left alone stays
+  abbrev pub OrStays : (V → W → Option V → Type 0) → V → Option W → Option V → Type 0
+  OrStays may v (Some w) z = may v w z
+  OrStays may v None z = IsKept keeps (Some v) z
+
+  -- of a shared key, what may come; a value of the left alone stays or goes, and no other key is there
+  abbrev pub IsMetAt : Bool → (V → W → Option V → Type 0) → Option V → Option W → Option V → Type 0
+  IsMetAt stays may (Some v) (Some w) z = may v w z
+  IsMetAt stays may (Some v) None z = StaysOrGoes keeps stays v z
+  IsMetAt stays may None w z = z ≡ None
 
 module _ {W F : Type 0} (g : Shared F (Bor W × Unit {0}) Bool) (f : F) where
   -- it may be called at the value, if there is one
@@ -46,13 +62,17 @@ module _ {W F : Type 0} (g : Shared F (Bor W × Unit {0}) Bool) (f : F) where
     pub shows : shown.now ≡ w
     pub answers : g.post f (shown, tt) covered
 
-module _ {V W : Type 0} (keeps : V → V → Type 0) (may : W → Bool → Type 0) (known : Bool) (stays : Bool → Bool) where
-  -- the verdict on a key of this cover: what may be said of it, or else what is known
-  abbrev pub IsJudged : Option W → Bool → Type 0
-  IsJudged None covered = covered ≡ known
-  IsJudged (Some w) covered = may w covered
+-- the verdict on a key of this cover: what may be said of it, or else what is known
+abbrev pub IsJudged : {W : Type 0} → (W → Bool → Type 0) → Bool → Option W → Bool → Type 0
+IsJudged may known None covered = covered ≡ known
+IsJudged may known (Some w) covered = may w covered
 
-  -- no value comes, and a value stays or goes by such a verdict
-  abbrev pub IsSiftedBy : Option V → Option W → Option V → Type 0
-  IsSiftedBy None c z = z ≡ None
-  IsSiftedBy (Some v) c z = (covered : Bool) × IsJudged c covered × StaysOrGoes keeps (stays covered) v z
+-- no value comes, and a value stays or goes by such a verdict
+abbrev pub IsSiftedBy : {V W : Type 0} → (V → V → Type 0) → (W → Bool → Type 0) → Bool → (Bool → Bool) → Option V → Option W → Option V
+    → Type 0
+IsSiftedBy keeps may known stays None c z = z ≡ None
+IsSiftedBy keeps may known stays (Some v) c z = (covered : Bool) × IsJudged may known c covered × StaysOrGoes keeps (stays covered) v z
+
+-- whether a value stays: where those are retained that are covered, and where the others are
+abbrev pub stays_by : Bool → Bool → Bool
+stays_by retains covered = cond retains covered (not covered)

@@ -1,2 +1,4 @@
+pub mod Covers
 pub mod Editing
+pub mod Saying
 pub mod Taken

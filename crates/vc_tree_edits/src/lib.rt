@@ -2,5 +2,7 @@
 //! tree covers. For the crates above; the trait that users name stands in `vc_trees`.
 #![tactic(auto)]
 
+mod changes;
+pub mod combining;
 pub mod engine;
 pub mod prepending;

@@ -1,18 +1,21 @@
 //! The trait by which the two flavours are made and changed.
 
-ghost use Rattle.std.specs.Prelude.{◌≡◌, ◌≤◌, [], Some, length, IfOk, IsOk, OnOk, OnErr};
+ghost use Rattle.std.specs.Prelude.{◌≡◌, ◌≤◌, List, [], Some, length, IfOk, IsOk, OnOk, OnErr};
 ghost use Rattle.vc_tree_model.specs.Tree.{made, no_tree};
-ghost use Rattle.vc_tree_model.specs.Combine.{IsCombined, IsUnionAt, IsIntersectionAt, IsDifferenceAt};
+ghost use Rattle.vc_tree_model.specs.Combine.{IsCombined, IsInnerAt, IsLeftAt, IsOuterAt, IsUnionAt, IsIntersectionAt, IsDifferenceAt};
+ghost use Rattle.vc_tree_model.specs.Cover.{IsRemoved, IsRetained};
 ghost use Rattle.vc_tree_model.specs.Value.{Copies};
 ghost use Rattle.vc_tree_model.specs.Map.{HaveEqualMaps, IsEqualMap, IsInserted, lookup};
-ghost use Rattle.vc_tree_model.specs.Under.{under};
 ghost use Rattle.vc_tree_model.specs.Canonical.{IsCanonical};
 ghost use Rattle.vc_tree_model.specs.Same.{IsAlike};
+ghost use Rattle.vc_tree_model.specs.Under.{prefixed, under};
+ghost use Rattle.vc_tree_edits.specs.Editing.{MayLeave, CanLeave, KeptThen, CanMeet, OrStays, CanJudge, MayJudge};
 
 use crate::radix_tree::reading::AbstractRadixTree;
 use std::alloc::{AllocError, Global};
 use std::default::MadeWith;
 use vc_tree_combines::{combines, filtering};
+use vc_tree_edits::{combining, prepending};
 use vc_tree_nodes::building::Seal;
 use vc_tree_nodes::copying::CloneTree;
 use vc_tree_nodes::insertion;
@@ -114,6 +117,159 @@ pub trait AbstractRadixTreeMut<K: TKey, V: TValue>: CloneTree<K, V> + AbstractRa
             (Self.tree self.now) (S.tree that.now) (Self.tree made)) }
     {
         combines::difference(self, that)
+    }
+
+    /// Puts these components before each key. The empty tree stays empty, and no value or child is touched.
+    ///
+    /// Fails only where memory is refused for a prefix of more than 16 components; the tree is then as it was.
+    final fn prepend(&mut self, prefix: &[K]) -> Result<(), AllocError>
+        ensures ok { OnOk result ((k : List K)
+            → lookup K.cmp (Self.tree self.new) k ≡ prefixed K.cmp (lookup K.cmp (Self.tree self.old)) prefix.now k) }
+        ensures err { OnErr result (Self.tree self.new ≡ Self.tree self.old) }
+        ensures canonical { IsCanonical K.cmp (Self.tree self.new) }
+    {
+        prepending::prepend(self, prefix)
+    }
+
+    /// Adds the keys that the other tree alone binds, with clones of its values. The values of this tree stay in place.
+    ///
+    /// Fails only where memory is refused, for a prefix of more than 16 components, for lists of children that are built anew, or for
+    /// the copy of shared children, or the clone of a value; the tree is then empty.
+    final fn union_with<S: AbstractRadixTree<K, V>>(&mut self, that: &S) -> Result<(), AllocError>
+        ensures ok { OnOk result (IsCombined K.cmp (IsUnionAt Self.keeps V.is_clone)
+            (Self.tree self.old) (S.tree that.now) (Self.tree self.new)) }
+        ensures err { OnErr result (Self.tree self.new ≡ no_tree) }
+        ensures canonical { IsCanonical K.cmp (Self.tree self.new) }
+    {
+        combining::union_with(self, that)
+    }
+
+    /// Keeps the keys that both bind. Their values stay in place.
+    ///
+    /// Fails only where memory is refused, for a prefix of more than 16 components, for lists of children that are built anew, or for
+    /// the copy of shared children; the tree is then empty.
+    final fn intersection_with<W: TValue, S: AbstractRadixTree<K, W>>(
+        &mut self,
+        that: &S,
+    ) -> Result<(), AllocError>
+        ensures ok { OnOk result (IsCombined K.cmp (IsIntersectionAt Self.keeps)
+            (Self.tree self.old) (S.tree that.now) (Self.tree self.new)) }
+        ensures err { OnErr result (Self.tree self.new ≡ no_tree) }
+        ensures canonical { IsCanonical K.cmp (Self.tree self.new) }
+    {
+        combining::intersection_with(self, that)
+    }
+
+    /// Keeps the keys that this tree alone binds. Their values stay in place.
+    ///
+    /// Fails only where memory is refused, for a prefix of more than 16 components, for lists of children that are built anew, or for
+    /// the copy of shared children; the tree is then empty.
+    final fn difference_with<W: TValue, S: AbstractRadixTree<K, W>>(
+        &mut self,
+        that: &S,
+    ) -> Result<(), AllocError>
+        ensures ok { OnOk result (IsCombined K.cmp (IsDifferenceAt Self.keeps)
+            (Self.tree self.old) (S.tree that.now) (Self.tree self.new)) }
+        ensures err { OnErr result (Self.tree self.new ≡ no_tree) }
+        ensures canonical { IsCanonical K.cmp (Self.tree self.new) }
+    {
+        combining::difference_with(self, that)
+    }
+
+    /// Adds the keys that the other tree alone binds, with clones of its values; those of this tree alone keep their values, and of the
+    /// keys of both those stay at which the closure answers true. It is handed this tree's value itself, which it may write to, and
+    /// the other one's.
+    ///
+    /// Fails only where memory is refused, for a prefix of more than 16 components, for lists of children that are built anew, or for
+    /// the copy of shared children, or the clone of a value; the tree is then empty.
+    final fn outer_combine_with<S: AbstractRadixTree<K, V>, F: Fn(&mut V, &V) -> bool>(
+        &mut self,
+        that: &S,
+        f: F,
+    ) -> Result<(), AllocError>
+        requires { (k : List K) → CanMeet Self.keeps (CanLeave F.Fn f) (lookup K.cmp (Self.tree self.old) k) (lookup K.cmp (S.tree that.now) k) }
+        ensures ok { OnOk result (IsCombined K.cmp (IsOuterAt Self.keeps V.is_clone (KeptThen Self.keeps (MayLeave F.Fn f)))
+            (Self.tree self.old) (S.tree that.now) (Self.tree self.new)) }
+        ensures err { OnErr result (Self.tree self.new ≡ no_tree) }
+        ensures canonical { IsCanonical K.cmp (Self.tree self.new) }
+    {
+        combining::outer_combine_with(self, that, &f)
+    }
+
+    /// Keeps the keys that both bind and at which the closure answers true. It is handed this tree's value itself, which it may write
+    /// to, and the other one's.
+    ///
+    /// Fails only where memory is refused, for a prefix of more than 16 components, for lists of children that are built anew, or for
+    /// the copy of shared children; the tree is then empty.
+    final fn inner_combine_with<W: TValue, S: AbstractRadixTree<K, W>, F: Fn(&mut V, &W) -> bool>(
+        &mut self,
+        that: &S,
+        f: F,
+    ) -> Result<(), AllocError>
+        requires { (k : List K) → CanMeet Self.keeps (CanLeave F.Fn f) (lookup K.cmp (Self.tree self.old) k) (lookup K.cmp (S.tree that.now) k) }
+        ensures ok { OnOk result (IsCombined K.cmp (IsInnerAt (KeptThen Self.keeps (MayLeave F.Fn f)))
+            (Self.tree self.old) (S.tree that.now) (Self.tree self.new)) }
+        ensures err { OnErr result (Self.tree self.new ≡ no_tree) }
+        ensures canonical { IsCanonical K.cmp (Self.tree self.new) }
+    {
+        combining::inner_combine_with(self, that, &f)
+    }
+
+    /// Keeps the keys that this tree alone binds, with their values, and those of both at which the closure answers true. It is handed
+    /// this tree's value itself, which it may write to, and the other one's.
+    ///
+    /// Fails only where memory is refused, for a prefix of more than 16 components, for lists of children that are built anew, or for
+    /// the copy of shared children; the tree is then empty.
+    final fn left_combine_with<W: TValue, S: AbstractRadixTree<K, W>, F: Fn(&mut V, &W) -> bool>(
+        &mut self,
+        that: &S,
+        f: F,
+    ) -> Result<(), AllocError>
+        requires { (k : List K) → CanMeet Self.keeps (CanLeave F.Fn f) (lookup K.cmp (Self.tree self.old) k) (lookup K.cmp (S.tree that.now) k) }
+        ensures ok { OnOk result (IsCombined K.cmp (IsLeftAt (OrStays Self.keeps (KeptThen Self.keeps (MayLeave F.Fn f))))
+            (Self.tree self.old) (S.tree that.now) (Self.tree self.new)) }
+        ensures err { OnErr result (Self.tree self.new ≡ no_tree) }
+        ensures canonical { IsCanonical K.cmp (Self.tree self.new) }
+    {
+        combining::left_combine_with(self, that, &f)
+    }
+
+    /// Removes the keys that the other tree covers: of its keys that are prefixes of a key the longest decides, by what the closure
+    /// answers of its value. A key is a prefix of itself. The other values stay in place.
+    ///
+    /// Fails only where memory is refused, for a prefix of more than 16 components, for lists of children that are built anew, or for
+    /// the copy of shared children; the tree is then empty.
+    final fn remove_prefix_with<W: TValue, S: AbstractRadixTree<K, W>, F: Fn(&W) -> bool>(
+        &mut self,
+        that: &S,
+        f: F,
+    ) -> Result<(), AllocError>
+        requires { (k : List K) → CanJudge F.Fn f (lookup K.cmp (S.tree that.now) k) }
+        ensures ok { OnOk result (IsRemoved Self.keeps (MayJudge F.Fn f) (lookup K.cmp (S.tree that.now))
+            (lookup K.cmp (Self.tree self.old)) (lookup K.cmp (Self.tree self.new))) }
+        ensures err { OnErr result (Self.tree self.new ≡ no_tree) }
+        ensures canonical { IsCanonical K.cmp (Self.tree self.new) }
+    {
+        combining::remove_prefix_with(self, that, &f)
+    }
+
+    /// Keeps exactly the keys that the other tree covers: of its keys that are prefixes of a key the longest decides, by what the
+    /// closure answers of its value. A key is a prefix of itself. Values that stay do so in place.
+    ///
+    /// Fails only where memory is refused, for a prefix of more than 16 components, for lists of children that are built anew, or for
+    /// the copy of shared children; the tree is then empty.
+    final fn retain_prefix_with<W: TValue, S: AbstractRadixTree<K, W>, F: Fn(&W) -> bool>(
+        &mut self,
+        that: &S,
+        f: F,
+    ) -> Result<(), AllocError>
+        requires { (k : List K) → CanJudge F.Fn f (lookup K.cmp (S.tree that.now) k) }
+        ensures ok { OnOk result (IsRetained Self.keeps (MayJudge F.Fn f) (lookup K.cmp (S.tree that.now))
+            (lookup K.cmp (Self.tree self.old)) (lookup K.cmp (Self.tree self.new))) }
+        ensures err { OnErr result (Self.tree self.new ≡ no_tree) }
+        ensures canonical { IsCanonical K.cmp (Self.tree self.new) }
+    {
+        combining::retain_prefix_with(self, that, &f)
     }
 }
 

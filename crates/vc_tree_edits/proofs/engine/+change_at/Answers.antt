@@ -1,5 +1,5 @@
 -- The recursion of a change in place: each event is one lemma's, and each call goes to trees that stand below.
-use Rattle.std.proofs.Common.{rules, arith, refl, sym, ◌∙◌, ap, ◌≡◌, ◌∷◌}
+use Rattle.std.proofs.Common.{rules, refl, ◌∙◌, ap, ◌≡◌, ◌∷◌}
 use Rattle.vc_tree_combines.specs.declared.sides.Side.TheVariants.{Left, Right, Both}
 use Rattle.vc_tree_combines.proofs.Next.{left_not_right, right_not_left, both_not_right, both_not_left, left_there, right_there, left_within, right_within, both_asked, both_agree, nil_by, at_most}
 use Rattle.vc_tree_edits.proofs.Stepping.{first_long, after_left, after_right, after_both, room_next, room_added, falls_below, finished_children, finished}

@@ -1,5 +1,5 @@
 -- The state before the first event, of what the calls before it answered.
-use Rattle.std.proofs.Common.{arith, refl, sym, ap, subst, ◌∙◌}
+use Rattle.std.proofs.Common.{arith}
 use Rattle.vc_tree_model.proofs.Shortening.{shortened_canonical}
 use Rattle.vc_tree_edits.proofs.Stepping.{values_may, begun}
 use Rattle.vc_tree_edits.proofs.engine.begin.Goals as goal

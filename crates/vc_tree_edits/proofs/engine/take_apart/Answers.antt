@@ -1,4 +1,4 @@
-use Rattle.std.proofs.Common.{arith, rules, ap, ◌∙◌}
+use Rattle.std.proofs.Common.{arith}
 use Rattle.vc_tree_edits.proofs.Taking.{taken_rest, taken_all}
 use Rattle.vc_tree_edits.proofs.engine.take_apart.Goals as goal
 

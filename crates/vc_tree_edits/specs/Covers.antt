@@ -3,12 +3,10 @@
 use Rattle.std.proofs.Common.{◌≡◌, [], ◌∷◌, List, Option, None, Some, refl, sym, ap, ◌∙◌, true, false, Bool, cond}
 use Rattle.std.specs.Ordering.{is_eq}
 use Rattle.std.specs.declared.cmp.Ordering.{Ordering}
-use Rattle.std.specs.declared.cmp.Ordering.TheVariants.{Equal}
 use Rattle.vc_tree_model.specs.Key.{behind}
 use Rattle.vc_tree_model.specs.Map.{or_else, node_lookup, lookup, lookup_in}
-use Rattle.vc_tree_model.specs.Tree.{Forest, bare, grow, node}
 use Rattle.vc_tree_model.specs.Cover.{cover}
-use Rattle.vc_tree_model.proofs.CoverNodes.{cover_equal, cover_none}
+use Rattle.vc_tree_model.proofs.CoverNodes.{cover_none}
 use Rattle.vc_tree_model.proofs.Look.{Look, told}
 use Rattle.vc_tree_model.proofs.ValueLemmas.{or_else-none}
 
