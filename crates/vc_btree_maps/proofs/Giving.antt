@@ -23,7 +23,7 @@ use Rattle.vc_btree_maps.specs.Keeping.{at_pair, AtAlone, OrSharedStays, OrGives
 use Rattle.vc_btree_maps.specs.Putting.{IsPut, IsPutAt}
 use Rattle.vc_btree_maps.specs.Stages.{IsKeptAt, IsKept, IsKeptAlong, IsGivenAt, IsGiven, shared_with}
 use Rattle.vc_btree_maps.proofs.Entering.{by_test, equal_by, same_entry, here, elsewhere, at_last}
-use Rattle.vc_btree_maps.proofs.Staying.{own_key, at_own, in_front, on_true, on_false, along_same, along_more, all_passed, step_new, step_sorted, step_further, asks_alone, has_value, no_value}
+use Rattle.vc_btree_maps.proofs.Staying.{own_key, at_own, in_front, on_true, on_false, along_same, along_more, step_new, step_sorted, step_further, asks_alone, has_value, no_value}
 
 some_not_none : {A : Type 0} {x : A} → Some x ≡ None → ⊥
 some_not_none e = cc
@@ -65,13 +65,6 @@ module _ {K W : Type 0} (cmp : K → K → Ordering) (total : IsTotalOrder cmp) 
 module _ {K V W : Type 0} (cmp : K → K → Ordering) (total : IsTotalOrder cmp) (is_clone : K → K → Type 0) (Gives : K → W → Option V → Type 0) where
   abbrev GivenAt : Option (K × W) → Option (K × V) → Option (K × V) → Type 0
   GivenAt q old new = MatchOption old (IsGivenAt cmp is_clone Gives q new) (λ p. new ≡ Some p)
-
-  given_self : (z : Option (K × V)) → GivenAt None z z
-  given_self None = refl
-  given_self (Some p) = refl
-
-  pub given_start : (es : List (K × V)) → AscendsByKey cmp es → IsGiven cmp is_clone Gives [] es es
-  given_start es s = record { ascends = s; at = λ k. given_self (entry_at cmp es k) }
 
   -- what the map had before is there, and at a key that was not looked at nothing else
   given_had : (q : Option (K × W)) (old now : Option (K × V)) → q ≡ None → GivenAt q old now → now ≡ old
@@ -138,9 +131,6 @@ module _ {K V W : Type 0} (cmp : K → K → Ordering) (total : IsTotalOrder cmp
     new_given = λ k f. grown_new (entry_at cmp front k) (entry_at cmp others k) (entry_at cmp old k) (entry_at cmp now k) f
         (λ r i. ap (λ l. entry_at cmp l k) e ∙ in_front cmp total k front rest r i) (j.at k);
   })
-
-  pub given_of_passed : (old now : List (K × V)) (others front left : List (K × W)) → others ≡ front ++ left → left ≡ [] → IsGiven cmp is_clone Gives front old now → IsGiven cmp is_clone Gives others old now
-  given_of_passed old now others front left e n j = subst (λ l. IsGiven cmp is_clone Gives l old now) (all_passed others front left e n) j
 
 module _ {K V : Type 0} (cmp : K → K → Ordering) (total : IsTotalOrder cmp) (old : List (K × V)) where
   has_alike : (j k : K) → cmp j k ≡ Equal → is_some (entry_at cmp old j) ≡ is_some (entry_at cmp old k)
