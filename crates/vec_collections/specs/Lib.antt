@@ -1,5 +1,6 @@
 -- What the public clauses of the exported items cite, and the words of the laws, so that a user names this crate alone.
 pub mod Exact
+pub use Rattle.vc_btree_maps.specs.Keeping
 pub use Rattle.vc_btree_maps.specs.Pairs
 pub use Rattle.vc_joins.specs.Answers
 pub use Rattle.vc_joins.specs.Entries
@@ -24,6 +25,7 @@ pub use Rattle.vc_total_sets.specs.Laws as TotalLaws
 pub use Rattle.vc_total_sets.specs.TotalOf
 pub use Rattle.vc_total_sets.specs.TotalSet
 pub use Rattle.vc_total_sets.specs.TotalTests
+pub use Rattle.vc_tree_edits.specs.Editing
 pub use Rattle.vc_tree_model.specs.Asking
 pub use Rattle.vc_tree_model.specs.Binds
 pub use Rattle.vc_tree_model.specs.Canonical
@@ -32,6 +34,7 @@ pub use Rattle.vc_tree_model.specs.Conditions
 pub use Rattle.vc_tree_model.specs.Cover
 pub use Rattle.vc_tree_model.specs.Equal
 pub use Rattle.vc_tree_model.specs.Key
+pub use Rattle.vc_tree_model.specs.KeySets
 pub use Rattle.vc_tree_model.specs.Laws as TreeLaws
 pub use Rattle.vc_tree_model.specs.Map
 pub use Rattle.vc_tree_model.specs.OneTree

@@ -33,9 +33,11 @@ pub mod total_vec_set {
     pub use vc_total_sets::total_vec_set::{TotalVecSet, TotalVecSet2};
 }
 
-/// Joins of maps that build a `BTreeMap`.
+/// Joins of maps that build a `BTreeMap`, and joins of one in place.
 pub mod btree_map {
-    pub use vc_btree_maps::btree_map::{AbstractBTreeMap, AbstractBTreeMapIter};
+    pub use vc_btree_maps::btree_map::{
+        AbstractBTreeMap, AbstractBTreeMapIter, InPlaceRelationalOps,
+    };
     pub use vc_joins::question::OuterJoinArg;
 }
 
