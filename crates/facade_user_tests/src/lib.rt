@@ -2,5 +2,7 @@
 #![tactic(auto)]
 
 pub mod changes;
+pub mod filters;
 pub mod sets;
 pub mod trees;
+pub mod walks;
