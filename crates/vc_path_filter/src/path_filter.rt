@@ -12,8 +12,8 @@
 
 ghost use Rattle.std.specs.Prelude.{◌≡◌, ◌≤◌, None, true, false, IfSome, OnOk, OnErr, MatchOption, slice_get};
 ghost use Rattle.std.specs.Option.{option_copied};
-ghost use Rattle.vc_path_filter.specs.Allowed.{is_allowed};
-ghost use Rattle.vc_tree_model.specs.Canonical.{AreChildren};
+ghost use Rattle.vc_path_filter.specs.Allowed.{is_allowed, IsRestricted};
+ghost use Rattle.vc_tree_model.specs.Canonical.{AreChildren, IsCanonical};
 ghost use Rattle.vc_tree_model.specs.Cover.{cover};
 ghost use Rattle.vc_tree_model.specs.Key.{behind};
 ghost use Rattle.vc_tree_model.specs.Map.{lookup, lookup_in, HaveEqualMaps, IsInserted};
@@ -28,7 +28,7 @@ use std::marker::Model;
 use vc_merge::merge::{Count, Uncounted};
 use vc_merge::search::{Sought, look_up};
 use vc_trees::radix_tree::{
-    AbstractRadixTree, AbstractRadixTreeMut, ArcRadixTree, RadixNode, TKey,
+    AbstractRadixTree, AbstractRadixTreeMut, ArcRadixTree, RadixNode, TKey, TValue,
 };
 
 /// Rules on paths. It is seen as the tree of its rules, which has true at the paths that were allowed, and false at those that were denied.
@@ -97,6 +97,30 @@ impl<K: TKey> PathFilter<K> {
         ensures { result ≡ is_allowed K.cmp self.now path.now }
     {
         longest_rule(&self.rules, path).unwrap_or(false)
+    }
+
+    /// Keeps the keys of a tree that the filter allows, with their values, and drops the others: those that it denies, and those that no rule
+    /// covers.
+    ///
+    /// Goes down both trees at once, and asks each rule that it meets once. Refused, it leaves the empty tree.
+    ///
+    /// ```text
+    /// filter.restrict(&mut files)?;
+    /// ```
+    pub fn restrict<V: TValue, T: AbstractRadixTreeMut<K, V>>(
+        &self,
+        tree: &mut T,
+    ) -> Result<(), AllocError>
+        ensures ok { OnOk result (IsRestricted K.cmp self.now T.keeps (lookup K.cmp (T.tree tree.old)) (lookup K.cmp (T.tree tree.new))) }
+        ensures err { OnErr result (T.tree tree.new ≡ no_tree) }
+        ensures canonical { IsCanonical K.cmp (T.tree tree.new) }
+    {
+        tree.retain_prefix_with(
+            &self.rules,
+            |allowed: &bool| -> bool
+                ensures { result ≡ allowed.now }
+            { *allowed },
+        )
     }
 
     /// The rules: the tree has true at the paths that were allowed, and false at those that were denied. Takes no memory.
