@@ -14,9 +14,17 @@ mod combines;
 #[cfg(test)]
 mod compared;
 #[cfg(test)]
+mod counted_combines;
+#[cfg(test)]
+mod filters;
+#[cfg(test)]
+mod in_place;
+#[cfg(test)]
 mod lookups;
 #[cfg(test)]
 mod tests;
+#[cfg(test)]
+mod two_trees;
 #[cfg(test)]
 mod walks;
 #[cfg(test)]

@@ -17,7 +17,7 @@ fn repeated(alloc: Global, length: u32) -> Result<Vec<Compared<'static>>, AllocE
 }
 
 /// The tree of the keys of 1, 2 and so on up to 200 equal components, which count their comparisons.
-fn nested<'a, T: AbstractRadixTreeMut<Compared<'a>, u32>>(
+pub(crate) fn nested<'a, T: AbstractRadixTreeMut<Compared<'a>, u32>>(
     alloc: Global,
     count: &'a Cell<u128>,
 ) -> Result<T, AllocError> {
@@ -34,7 +34,7 @@ fn nested<'a, T: AbstractRadixTreeMut<Compared<'a>, u32>>(
 }
 
 /// The tree of 1000 keys of one component each, every second number, which count their comparisons.
-fn wide<'a, T: AbstractRadixTreeMut<Compared<'a>, u32>>(
+pub(crate) fn wide<'a, T: AbstractRadixTreeMut<Compared<'a>, u32>>(
     alloc: Global,
     count: &'a Cell<u128>,
 ) -> Result<T, AllocError> {

@@ -10,10 +10,10 @@ use vc_trees::radix_tree::{
 };
 
 /// How deep the shapes of these tests are read.
-const DEPTH: u8 = 9;
+pub(crate) const DEPTH: u8 = 9;
 
 /// Prints the shape of a tree of letters: each prefix, `*` behind one that has a value, and the children in parentheses.
-fn print_shape<V: TValue, T: AbstractRadixTree<u8, V>>(
+pub(crate) fn print_shape<V: TValue, T: AbstractRadixTree<u8, V>>(
     tree: &T,
     text: &mut String,
     depth: u8,
@@ -61,9 +61,9 @@ fn is_as_worked_out<T: AbstractRadixTreeMut<u8, usize>>(
 }
 
 /// Forty letters, the same with another one in the middle, and the first twenty.
-const FORTY: &str = "abcdefghijklmnopqrstuvwxyzabcdefghijklmn";
+pub(crate) const FORTY: &str = "abcdefghijklmnopqrstuvwxyzabcdefghijklmn";
 
-const FORTY_ELSE: &str = "abcdefghijklmnopqrst-vwxyzabcdefghijklmn";
+pub(crate) const FORTY_ELSE: &str = "abcdefghijklmnopqrst-vwxyzabcdefghijklmn";
 
 const TWENTY: &str = "abcdefghijklmnopqrst";
 
@@ -142,7 +142,7 @@ fn a_tree_of_another_crate_is_read_without_its_allocator(rt: HostRuntime) -> Res
 /// A letter whose case does not count.
 #[derive(Clone, Copy)]
 #[derive_where(Debug, PartialEq, Eq, PartialOrd, Ord)]
-struct Letter {
+pub(crate) struct Letter {
     place: u8,
     #[derive_where(skip)]
     is_capital: bool,
@@ -157,14 +157,14 @@ impl Default for Letter {
     }
 }
 
-const fn small(place: u8) -> Letter {
+pub(crate) const fn small(place: u8) -> Letter {
     Letter {
         place,
         is_capital: false,
     }
 }
 
-const fn capital(place: u8) -> Letter {
+pub(crate) const fn capital(place: u8) -> Letter {
     Letter {
         place,
         is_capital: true,

@@ -1,0 +1,85 @@
+//! Filters of paths: the table of rules and of what the longest one decides, and snapshots of rules.
+use std::alloc::{AllocError, Global};
+use std::test::Fail;
+use vc_path_filter::path_filter::PathFilter;
+use vc_trees::radix_tree::AbstractRadixTree;
+
+/// The filter of rules in their order, of which one that begins with `!` denies the rest of it.
+fn filter_of(alloc: Global, rules: &[&str]) -> Result<PathFilter<u8>, AllocError> {
+    let mut filter = PathFilter::new(alloc);
+    for rule in rules {
+        match rule.strip_prefix("!") {
+            Some(path) => filter.deny(path.as_bytes())?,
+            None => filter.allow(rule.as_bytes())?,
+        }
+    }
+    Ok(filter)
+}
+
+/// Rules, and paths that they allow and that they do not.
+type Row = (
+    &'static [&'static str],
+    &'static [&'static str],
+    &'static [&'static str],
+);
+
+const ROWS: [Row; 6] = [
+    (&[], &[], &["a", ""]),
+    (
+        &["a", "!ab", "abcd"],
+        &["a", "abcd", "abcde", "ac"],
+        &["ab", "abc", "b", ""],
+    ),
+    (&["a", "!ab", "abcd", "!a"], &["abcd"], &["a", "ab", "ac"]),
+    (&["", "!a"], &["", "b", "zz"], &["a", "ab"]),
+    (&["a", "!a"], &[], &["a", "ab"]),
+    (
+        &["!a", "a", "aab", "!aac"],
+        &["a", "aa", "aab"],
+        &["aac", "aacd"],
+    ),
+];
+
+/// How many of the paths the filter of the rules allows.
+fn count_allowed(alloc: Global, rules: &[&str], paths: &[&str]) -> Result<usize, AllocError> {
+    let filter = filter_of(alloc, rules)?;
+    let mut count = 0usize;
+    for path in paths {
+        count = count.saturating_add(usize::from(filter.check(path.as_bytes())));
+    }
+    Ok(count)
+}
+
+#[test]
+fn the_longest_rule_decides(rt: HostRuntime) -> Result<(), Fail> {
+    for (rules, allowed, denied) in ROWS {
+        assert_eq!(rt; count_allowed(rt.alloc(), rules, allowed)?, allowed.len());
+        assert_eq!(rt; count_allowed(rt.alloc(), rules, denied)?, 0);
+    }
+    Ok(())
+}
+
+/// A path that is allowed, and then denied: whether a snapshot of before still allows it, and whether the filter does; whether the
+/// filter allows a path that a longer rule allows; and the rule of a path between them.
+fn deny_beside_snapshot(alloc: Global) -> Result<(bool, bool, bool, Option<bool>), AllocError> {
+    let mut filter = filter_of(alloc, &["a", "!ab", "abcd"])?;
+    let before = filter.clone()?;
+    filter.deny(b"a")?;
+    let rule = filter.rules().get(b"ab").copied();
+    Ok((
+        before.check(b"a"),
+        filter.check(b"a"),
+        filter.check(b"abcd"),
+        rule,
+    ))
+}
+
+#[test]
+fn a_snapshot_of_rules_stays(rt: HostRuntime) -> Result<(), Fail> {
+    let (before, after, longer, rule) = deny_beside_snapshot(rt.alloc())?;
+    assert!(rt; before);
+    assert!(rt; !after);
+    assert!(rt; longer);
+    assert_eq!(rt; rule, Some(false));
+    Ok(())
+}
