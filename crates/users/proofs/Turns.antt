@@ -215,7 +215,7 @@ turned-formula f a b all kept either stays x =
     let formula : ℕ → Bool = λ y. says f (along t y) (along u y) in
     along-alike (member nat_cmp kept) (turned formula) x
     (λ y k. ap (λ l. member nat_cmp l y) stays ∙
-        any-filter_same (λ z. eq_by_cmp nat_cmp z y) (turned formula) (turned formula y)
-            (λ z h. ap (turned formula) (eqb-true z y (sym (same z y) ∙ h))) all ∙
-        ap (λ m. turned formula y && m) (either y) ∙ only-there (turned formula y) (t y) (u y) (still f t u y)) ∙
+    any-filter_same (λ z. eq_by_cmp nat_cmp z y) (turned formula) (turned formula y)
+    (λ z h. ap (turned formula) (eqb-true z y (sym (same z y) ∙ h))) all ∙
+    ap (λ m. turned formula y && m) (either y) ∙ only-there (turned formula y) (t y) (u y) (still f t u y)) ∙
     along-turned formula x

@@ -9,4 +9,4 @@ pub returns : goal.returns
 returns g c =
     turned-between c.args.least c.args.end c.insert-2.new.self (search arith)
     (λ x. c.in_ok-insert-2.ensures.members x ∙ ap (λ m. eq_by_cmp nat_cmp c.args.end x || m)
-        (c.in_ok-insert.ensures.members x ∙ ap (λ none. eq_by_cmp nat_cmp c.args.least x || member nat_cmp none x) c.empty-turns.ensures))
+    (c.in_ok-insert.ensures.members x ∙ ap (λ none. eq_by_cmp nat_cmp c.args.least x || member nat_cmp none x) c.empty-turns.ensures))

@@ -8,4 +8,4 @@ returns g c =
     turned-formula c.args.formula c.args.self.now.turns c.args.other.now.turns c.in_ok-turns.turns c.retain.new.self
     c.in_ok-turns.ensures.union.members
     (c.retain.ensures.plain (turned (λ y. says c.args.formula (holds c.args.self.now y) (holds c.args.other.now y)))
-        (λ x answer after call. search rules))
+    (λ x answer after call. search rules))

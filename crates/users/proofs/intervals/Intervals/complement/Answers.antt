@@ -10,4 +10,4 @@ returns g c =
     let turns = c.args.self.now.turns in
     turned-everywhere turns c.in_ok-turns.turns
     (λ x. c.in_ok-turns.ensures.symmetric_difference.members x ∙
-        ap (λ zero. exactly_one (member nat_cmp turns x) (member nat_cmp zero x)) c.in_ok-zero.ensures.element)
+    ap (λ zero. exactly_one (member nat_cmp turns x) (member nat_cmp zero x)) c.in_ok-zero.ensures.element)
