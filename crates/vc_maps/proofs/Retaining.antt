@@ -1,5 +1,5 @@
 -- What a test leaves of a map, key by key, and clones of its pairs.
-use Rattle.std.proofs.Common.{◌≡◌, Bool, true, false, cond, List, [], ◌∷◌, Option, Some, None, refl, sym, ap, subst, ◌∙◌}
+use Rattle.std.proofs.Common.{◌≡◌, Bool, true, false, cond, List, [], ◌∷◌, Some, refl, sym, ap, subst, ◌∙◌}
 use Rattle.std.specs.BTreeMap.{is_at}
 use Rattle.std.specs.Cmp.{IsTotalOrder}
 use Rattle.std.specs.List.{AllZip, items_where_true}
@@ -9,7 +9,7 @@ use Rattle.std.specs.Ordering.{eq_by_cmp, is_eq, ordering_reverse}
 use Rattle.std.specs.declared.cmp.Ordering.{Ordering}
 use Rattle.std.specs.declared.cmp.Ordering.TheVariants.{Less, Equal, Greater}
 use Rattle.std.proofs.lemmas.Cmp.{on_total}
-use Rattle.vc_merge.specs.Ascending.{Ascends, element_at}
+use Rattle.vc_merge.specs.Ascending.{element_at}
 use Rattle.vc_merge.specs.Yielded.{by_first, keys-ascend}
 use Rattle.vc_merge.proofs.Lists.{pairs-ascend}
 use Rattle.vc_joins.specs.Entries.{AscendsByKey, entry_at}

@@ -4,7 +4,7 @@
 --     made_by        what is said of both is enough
 --     may_answer        what a call answers
 --     made_some, made_none        the combine of whole trees
-use Rattle.std.proofs.Common.{◌≡◌, ℕ, ◌<◌, [], ◌∷◌, ◌++◌, List, Option, None, Some, Result, Ok, Err, IfOk, refl, sym, ap, subst, ◌∙◌, take, drop, length, slice_get, zero, suc, arith}
+use Rattle.std.proofs.Common.{◌≡◌, ℕ, ◌<◌, [], ◌∷◌, ◌++◌, List, Option, None, Some, Result, Ok, Err, IfOk, refl, sym, ap, subst, ◌∙◌, take, drop, length, slice_get, arith}
 use Rattle.std.specs.Cmp.{IsTotalOrder, tied_itself}
 use Rattle.std.specs.Option.{option_copied}
 use Rattle.std.specs.declared.cmp.Ordering.{Ordering}
@@ -18,7 +18,7 @@ use Rattle.vc_tree_model.specs.Value.{IsKept, Copies, itself, cloned}
 use Rattle.vc_tree_model.specs.Canonical.{IsCanonical, IsWhole, IsSolid}
 use Rattle.std.proofs.lemmas.List.{take-append-drop}
 use Rattle.vc_tree_model.specs.Shortened.{IsShortened}
-use Rattle.vc_tree_model.specs.Child.{Begins, bound_by}
+use Rattle.vc_tree_model.specs.Child.{Begins}
 use Rattle.vc_tree_model.specs.Same.{IsAlike}
 use Rattle.vc_tree_model.proofs.AlikeLemmas.{alike_solid, alike_children, tree_alike_lookup}
 use Rattle.vc_tree_model.proofs.KeyLemmas.{none_some, then_behind, behind-append, behind_itself}

@@ -3,7 +3,7 @@
 --     made_none, made_next        what was made of the children up to now
 --     made_alone        the node of what was made
 --     may_answer_at, left_answer        what a call answers
-use Rattle.std.proofs.Common.{◌≡◌, ℕ, ◌+◌, ◌<◌, ◌≤◌, [], ◌∷◌, ◌++◌, List, Option, None, Some, Result, Ok, Err, IfOk, refl, sym, ap, subst, ◌∙◌, map, take, drop, length, slice_get, append-nil, zero, suc, arith, get_or, option_map}
+use Rattle.std.proofs.Common.{◌≡◌, ℕ, ◌+◌, ◌<◌, [], ◌∷◌, ◌++◌, List, Option, None, Some, Result, Ok, Err, IfOk, refl, sym, ap, subst, ◌∙◌, map, take, length, slice_get, append-nil, zero, suc, arith, get_or, option_map}
 use Rattle.std.proofs.Math.Seq.{take-suc}
 use Rattle.std.specs.Cmp.{IsTotalOrder, tied_itself}
 use Rattle.std.specs.List.{AllByRecursion, filter_map, cons_option}
@@ -18,7 +18,7 @@ use denote.Param.Members.{Shared}
 use Rattle.vc_tree_model.specs.Asking.{MayAnswerAt}
 use Rattle.vc_tree_model.specs.Combine.{IsLeftAt}
 use Rattle.vc_tree_model.specs.Key.{behind}
-use Rattle.vc_tree_model.specs.Tree.{Tree, Forest, bare, grow, forest, node}
+use Rattle.vc_tree_model.specs.Tree.{Tree, bare, forest, node}
 use Rattle.vc_tree_model.specs.Map.{lookup, lookup_in, node_lookup}
 use Rattle.vc_tree_model.specs.Canonical.{AreChildren}
 use Rattle.vc_tree_model.specs.Child.{BeginsWith, solid_child, bound_by}
@@ -26,7 +26,6 @@ use Rattle.vc_tree_model.proofs.Joining.{joined_child, joined_begins, trees_comb
 use Rattle.vc_tree_model.proofs.KeyLemmas.{none_some, same_itself}
 use Rattle.vc_tree_model.proofs.Look.{values, IsCombinedIn}
 use Rattle.vc_tree_nodes.specs.Children.{seen}
-use Rattle.vc_tree_combines.specs.Facing.{shortened_in}
 use Rattle.vc_tree_combines.specs.Made.{IsMade, IsMadeAt, IsAskedAt, AreMadeAlone}
 use Rattle.vc_tree_combines.specs.Sides.{by_component}
 use Rattle.vc_tree_combines.proofs.Around.{children_ascend}

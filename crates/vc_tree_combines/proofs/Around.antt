@@ -2,7 +2,7 @@
 --     components, children_ascend        children begin with components, and ascend by them
 --     apart_lower, apart_higher        two single trees that part
 --     around_left, around_right        the children of the left tree and a single right one, and the other way round
-use Rattle.std.proofs.Common.{◌≡◌, ℕ, zero, suc, ◌+◌, ◌-◌, ◌<◌, ◌≤◌, List, [], ◌∷◌, ◌++◌, map, length, drop, Option, Some, None, Result, Ok, Err, MatchResult, ◌⊎◌, inl, inr, refl, sym, ap, ◌∙◌, replicate, arith, slice_get, true}
+use Rattle.std.proofs.Common.{◌≡◌, ℕ, zero, suc, ◌+◌, ◌-◌, ◌<◌, ◌≤◌, List, [], ◌∷◌, ◌++◌, map, length, drop, Option, Some, Result, Ok, Err, MatchResult, ◌⊎◌, inl, inr, refl, sym, ap, ◌∙◌, replicate, arith, slice_get, true}
 use Rattle.std.specs.Cmp.{IsTotalOrder, Equal-is, alike_right, tied_itself, tied_back}
 use Rattle.std.specs.List.{AllByRecursion}
 use Rattle.std.specs.List.Sorted.{IsStrictlySortedBy}
@@ -11,8 +11,8 @@ use Rattle.std.specs.Ordering.{is_eq, ordering_reverse}
 use Rattle.std.specs.declared.cmp.Ordering.{Ordering}
 use Rattle.std.specs.declared.cmp.Ordering.TheVariants.{Less, Equal, Greater}
 use Rattle.vc_merge.specs.Ascending.{Ascends}
-use Rattle.vc_merge.specs.Script.{Event, left_alone, right_alone, collision, place, lefts, rights, IsMatched, IsScript}
-use Rattle.vc_tree_model.specs.Tree.{Tree, Forest, bare, grow, forest}
+use Rattle.vc_merge.specs.Script.{Event, left_alone, right_alone, collision, place, lefts, rights, IsMatched}
+use Rattle.vc_tree_model.specs.Tree.{Tree, Forest, grow}
 use Rattle.vc_tree_model.specs.Canonical.{AllAbove, AreChildren}
 use Rattle.vc_tree_model.proofs.KeyLemmas.{none_some}
 use Rattle.vc_tree_nodes.specs.Places.{BeginsAt, IsGapAt, child_first}

@@ -2,12 +2,11 @@
 --     doing_start        none is done yet
 --     doing_left, doing_right, doing_both        one more is
 --     left_is, right_is        what the next trees are
-use Rattle.std.proofs.Common.{◌≡◌, ℕ, ◌+◌, ◌*◌, ◌-◌, ◌<◌, ◌≤◌, [], ◌∷◌, ◌++◌, List, Option, None, Some, refl, sym, ap, subst, ◌∙◌, map, append_assoc, arith, inl, inr, length}
+use Rattle.std.proofs.Common.{◌≡◌, ℕ, ◌+◌, ◌*◌, ◌≤◌, [], ◌∷◌, ◌++◌, List, Option, None, refl, sym, ap, subst, ◌∙◌, map, arith}
 use Rattle.std.specs.List.{AllByRecursion, filter_map, cons_option}
 use Rattle.std.proofs.lemmas.List.Elements.{filter_map-append}
 use Rattle.std.specs.declared.cmp.Ordering.{Ordering}
-use Rattle.std.specs.declared.cmp.Ordering.TheVariants.{Equal}
-use Rattle.vc_merge.specs.Script.{Event, left_alone, right_alone, collision, lefts, rights, IsMatched, IsScript}
+use Rattle.vc_merge.specs.Script.{Event, left_alone, right_alone, collision, lefts, rights, IsScript}
 use Rattle.vc_tree_model.specs.Shortened.{weight}
 use Rattle.vc_tree_model.specs.Tree.{Tree, shortened}
 use Rattle.vc_tree_model.proofs.Look.{Look}

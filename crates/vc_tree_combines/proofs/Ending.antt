@@ -4,17 +4,15 @@
 --     values_asked        what may be asked of the values at the fronts
 --     made_children        the trees that were made are canonical children
 --     combined        the node of these trees is what the combine says of both
-use Rattle.std.proofs.Common.{◌≡◌, ℕ, ◌+◌, ◌-◌, ◌*◌, ◌≤◌, [], ◌∷◌, ◌++◌, List, Option, None, Some, refl, sym, ap, subst, ◌∙◌, map, take, drop, zero, suc, min, slice_get, true, append-nil, true≢false, arith, length}
+use Rattle.std.proofs.Common.{◌≡◌, ℕ, ◌+◌, ◌-◌, ◌*◌, ◌≤◌, [], ◌∷◌, ◌++◌, List, Option, None, Some, sym, ap, subst, ◌∙◌, map, take, drop, zero, suc, min, slice_get, append-nil, true≢false, arith, length}
 use Rattle.std.proofs.lemmas.List.{take-append-drop}
 use Rattle.std.specs.Cmp.{IsTotalOrder, tied_itself}
-use Rattle.std.specs.List.{AllByRecursion}
 use Rattle.std.specs.Ordering.{is_eq}
 use Rattle.std.specs.declared.cmp.Ordering.{Ordering}
 use Rattle.std.specs.declared.cmp.Ordering.TheVariants.{Equal}
 use Rattle.vc_merge.specs.Script.{Event, IsScript}
-use Rattle.vc_tree_model.specs.Key.{same_key}
-use Rattle.vc_tree_model.specs.Tree.{Tree, Forest, forest, shortened}
-use Rattle.vc_tree_model.specs.Map.{lookup, lookup_in}
+use Rattle.vc_tree_model.specs.Tree.{Tree, Forest, forest}
+use Rattle.vc_tree_model.specs.Map.{lookup}
 use Rattle.vc_tree_model.specs.Canonical.{AreChildren, IsCanonical}
 use Rattle.vc_tree_model.specs.Child.{BeginsWith, solid_child, value_at, children_at}
 use Rattle.vc_tree_model.specs.Shortened.{weight}

@@ -1,14 +1,14 @@
 -- What a merge that lists its events has listed.
 --     listed        the whole script, where it was not refused
-use Rattle.std.proofs.Common.{◌≡◌, Bool, true, false, List, [], ◌∷◌, ◌++◌, map, length, Ok, Err, ◌⊎◌, inl, inr, refl, sym, ap, ◌∙◌, append_assoc, append-nil, replicate}
+use Rattle.std.proofs.Common.{◌≡◌, Bool, true, false, List, [], ◌∷◌, ◌++◌, map, length, Ok, ◌⊎◌, inl, inr, refl, sym, ap, ◌∙◌, append_assoc, append-nil, replicate}
 use Rattle.std.proofs.lemmas.Bool.{true≢false}
 use Rattle.std.proofs.lemmas.List.{map-append}
 use Rattle.std.specs.declared.cmp.Ordering.{Ordering}
-use Rattle.vc_merge.specs.Chain.{Answer, allows, Run, of_left, of_right, of_both, run_events, events, IsAllowed, Steps, IsMerged}
-use Rattle.vc_merge.specs.Script.{Event, left_alone, right_alone, collision}
+use Rattle.vc_merge.specs.Chain.{allows, Run, of_left, of_right, of_both, run_events, events, IsAllowed, Steps, IsMerged}
+use Rattle.vc_merge.specs.Script.{left_alone, right_alone}
 use Rattle.vc_tree_combines.specs.Sides.{side_of, IsListed, lists}
 use Rattle.vc_tree_combines.specs.declared.sides.Side.{Side}
-use Rattle.vc_tree_combines.specs.declared.sides.Side.TheVariants.{Left, Right, Both}
+use Rattle.vc_tree_combines.specs.declared.sides.Side.TheVariants.{Left, Right}
 
 -- the sides of a run of one list
 pub left_times : {A : Type 0} (B : Type 0) (xs : List A)

@@ -2,7 +2,7 @@
 --     script_made        the trees that are made are canonical children, and what the combine says of both lists
 --     script_asked        what may be asked at each key of both lists, may be asked at each event
 --     script_all        and the other way round
-use Rattle.std.proofs.Common.{◌≡◌, ℕ, [], ◌∷◌, ◌++◌, List, Option, None, Some, refl, sym, ap, subst, ◌∙◌, map, drop, slice_get, true≢false, cond}
+use Rattle.std.proofs.Common.{◌≡◌, ℕ, [], ◌∷◌, List, Option, None, Some, refl, sym, ap, subst, ◌∙◌, map, drop, slice_get, true≢false}
 use Rattle.std.specs.Cmp.{IsTotalOrder, tied_itself}
 use Rattle.std.specs.List.{AllByRecursion, filter_map}
 use Rattle.std.specs.List.Sorted.{IsStrictlySortedBy}

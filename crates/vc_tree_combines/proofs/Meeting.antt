@@ -5,17 +5,16 @@
 --     bare_or_missed, childless_met        or in none
 --     tells_nodes        both prefixes end
 --     disjoint_told, subset_told        the public words
-use Rattle.std.proofs.Common.{◌≡◌, ℕ, ◌+◌, ◌<◌, ◌≤◌, [], ◌∷◌, ◌++◌, List, Option, None, Some, is_some, Bool, true, false, not, ◌⊎◌, inl, inr, refl, sym, ap, subst, ◌∙◌, take, drop, length, true≢false, arith}
-use Rattle.std.proofs.lemmas.List.{take-append-drop}
+use Rattle.std.proofs.Common.{◌≡◌, [], ◌∷◌, ◌++◌, List, Option, None, Some, is_some, Bool, true, false, not, ◌⊎◌, inl, inr, refl, sym, ap, subst, ◌∙◌, true≢false}
 use Rattle.std.specs.Cmp.{IsTotalOrder, Equal-is, tied_itself, tied_back}
 use Rattle.std.specs.Option.{option_and_then}
 use Rattle.std.specs.Ordering.{is_eq}
-use Rattle.std.specs.Prelude.{◌&&◌, MatchBool}
+use Rattle.std.specs.Prelude.{MatchBool}
 use Rattle.std.specs.declared.cmp.Ordering.{Ordering}
-use Rattle.std.specs.declared.cmp.Ordering.TheVariants.{Less, Equal}
+use Rattle.std.specs.declared.cmp.Ordering.TheVariants.{Equal}
 use Rattle.vc_tree_model.specs.Key.{same_key, behind}
 use Rattle.vc_tree_model.specs.KeySets.{ShareKey, AreDisjoint, HasKeysOf, LacksKeyOf}
-use Rattle.vc_tree_model.specs.Tree.{Tree, Forest, bare, grow, node, lacks_both, shortened}
+use Rattle.vc_tree_model.specs.Tree.{Tree, Forest, bare, grow, node, lacks_both}
 use Rattle.vc_tree_model.specs.Map.{lookup, lookup_in}
 use Rattle.vc_tree_model.specs.Canonical.{AreChildren, IsSolid, IsWhole}
 use Rattle.vc_tree_model.specs.Under.{prefixed}

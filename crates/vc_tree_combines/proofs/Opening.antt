@@ -3,7 +3,7 @@
 --     opened_all        where the prefix ended, the children
 --     opened_rest, opened_behind        where it goes on, the tree itself
 --     faced_lower, faced_higher, faced_inside, faced_behind        two trees side by side
-use Rattle.std.proofs.Common.{◌≡◌, ℕ, ◌+◌, ◌-◌, ◌<◌, ◌≤◌, [], ◌∷◌, List, Option, Some, None, is_none, Result, Ok, Err, IfOk, get_or, refl, sym, ap, subst, ◌∙◌, arith, true≢false, map, take, drop, length-drop, inl, inr, length, slice_get, zero, suc, true, false, append_assoc}
+use Rattle.std.proofs.Common.{◌≡◌, ℕ, ◌+◌, ◌-◌, ◌<◌, ◌≤◌, [], ◌∷◌, List, Option, Some, None, is_none, Result, Ok, Err, IfOk, get_or, refl, sym, ap, subst, ◌∙◌, arith, true≢false, map, take, drop, length-drop, inl, inr, length, slice_get, zero, suc, false}
 use Rattle.std.proofs.lemmas.List.{take_all, drop-drop}
 use Rattle.std.proofs.lemmas.Option.{slice_get-get_or}
 use Rattle.std.proofs.Math.ListN.{drop_of_length-le}
@@ -12,13 +12,13 @@ use Rattle.std.specs.List.{AllByRecursion}
 use Rattle.std.specs.Ordering.{is_eq}
 use Rattle.std.specs.declared.cmp.Ordering.{Ordering}
 use Rattle.std.specs.declared.cmp.Ordering.TheVariants.{Less, Greater}
-use Rattle.vc_tree_model.specs.Tree.{Tree, Forest, bare, grow, forest, made, shortened, nodes, forest_nodes}
-use Rattle.vc_tree_model.specs.Child.{children_at, value_at, solid_child}
+use Rattle.vc_tree_model.specs.Tree.{Tree, Forest, forest, made, shortened, nodes, forest_nodes}
+use Rattle.vc_tree_model.specs.Child.{value_at, solid_child}
 use Rattle.vc_tree_model.proofs.KeyLemmas.{none_some}
 use Rattle.vc_tree_model.specs.Canonical.{AreChildren, IsWhole}
 use Rattle.vc_tree_nodes.specs.Parting.{Agree, PartsAt}
 use Rattle.vc_tree_combines.specs.Around.{sides_around}
-use Rattle.vc_tree_combines.specs.Facing.{shortened_in, GoesOn, IsOpened, Parts, IsFaced}
+use Rattle.vc_tree_combines.specs.Facing.{shortened_in, GoesOn, IsOpened, IsFaced}
 use Rattle.vc_tree_combines.specs.Sides.{by_component, IsListed}
 use Rattle.vc_tree_combines.specs.declared.sides.Side.{Side}
 use Rattle.vc_tree_combines.specs.declared.sides.Side.TheVariants.{Left, Right}

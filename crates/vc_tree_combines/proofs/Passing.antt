@@ -1,25 +1,24 @@
 -- A merge that passes the trees of one list alone, and stops at two that begin alike or at one that is missed.
 --     passed        what the merge has passed, and where it stopped
 --     end_told, missed_told, meets        what that tells of the keys of both lists
-use Rattle.std.proofs.Common.{◌≡◌, ℕ, ◌+◌, ◌<◌, ◌≤◌, [], ◌∷◌, ◌++◌, List, Option, None, Some, Bool, true, false, not, Result, Ok, Err, ◌⊎◌, inl, inr, refl, sym, ap, subst, ◌∙◌, map, length, true≢false, append_assoc, append-nil, slice_get, arith}
+use Rattle.std.proofs.Common.{◌≡◌, ℕ, ◌+◌, ◌≤◌, [], ◌∷◌, ◌++◌, List, Option, Some, Bool, true, false, not, Result, Ok, Err, ◌⊎◌, inl, inr, refl, sym, ap, subst, ◌∙◌, map, true≢false, append_assoc, append-nil, slice_get, arith}
 use Rattle.std.proofs.lemmas.List.{append_cancel_left}
 use Rattle.std.specs.Cmp.{IsTotalOrder}
 use Rattle.std.specs.List.{AllByRecursion}
 use Rattle.std.specs.List.Sorted.{IsStrictlySortedBy}
 use Rattle.std.specs.declared.alloc.AllocError.{AllocError}
 use Rattle.std.specs.declared.cmp.Ordering.{Ordering}
-use Rattle.std.specs.declared.cmp.Ordering.TheVariants.{Equal}
 use Rattle.vc_merge.specs.Ascending.{Ascends}
 use Rattle.vc_merge.specs.Chain.{Answer, Allows, allows, Run, of_left, of_right, of_both, run_events, events, IsAtFront, IsAllowed, Step, Steps, Finishes, Stops, IsMerged}
 use Rattle.vc_merge.specs.Script.{Event, left_alone, right_alone, collision, lefts, rights, place, IsMatched, IsScript}
 use Rattle.vc_tree_model.specs.Canonical.{AreChildren, IsSolid}
-use Rattle.vc_tree_model.specs.Map.{lookup, lookup_in}
-use Rattle.vc_tree_model.specs.Tree.{Tree, Forest, bare, grow, nodes, forest_nodes}
+use Rattle.vc_tree_model.specs.Map.{lookup}
+use Rattle.vc_tree_model.specs.Tree.{Tree, Forest, grow, nodes, forest_nodes}
 use Rattle.vc_tree_model.proofs.LookupLemmas.{tree_bound}
 use Rattle.vc_tree_nodes.specs.Children.{seen}
 use Rattle.vc_tree_nodes.specs.Parting.{Agree}
 use Rattle.vc_tree_combines.specs.Made.{IsAskedAt}
-use Rattle.vc_tree_combines.specs.Meeting.{IsMet, IsMissed, TellsKeys, TellsKeysIn, IsMeeting}
+use Rattle.vc_tree_combines.specs.Meeting.{IsMet, IsMissed, TellsKeysIn, IsMeeting}
 use Rattle.vc_tree_combines.specs.Sides.{by_component}
 use Rattle.vc_tree_combines.proofs.Around.{components}
 use Rattle.vc_tree_model.proofs.Look.{values}

@@ -2,9 +2,8 @@
 --     apart_or_ended        two trees that meet below two prefixes show that one of these ended
 --     few_children, digits_few        each child weighs at least one, and takes one comparison at most
 --     face_paid        what laying two trees side by side takes, and what is owed to the trees that meet, is paid by both trees
-use Rattle.std.proofs.Common.{◌≡◌, ℕ, ◌+◌, ◌*◌, ◌-◌, ◌<◌, ◌^◌, ◌≤◌, zero, suc, min, [], ◌∷◌, List, Option, Some, refl, sym, ap, ◌∙◌, arith, map, drop, length, slice_get, true≢false, inl, inr}
+use Rattle.std.proofs.Common.{◌≡◌, ℕ, ◌+◌, ◌*◌, ◌<◌, ◌^◌, ◌≤◌, zero, suc, min, [], ◌∷◌, List, Option, Some, refl, sym, ap, ◌∙◌, arith, map, drop, length, slice_get, true≢false, inl, inr}
 use Rattle.std.proofs.lemmas.List.{length-drop}
-use Rattle.std.specs.Cmp.{IsTotalOrder}
 use Rattle.std.specs.List.{AllByRecursion}
 use Rattle.std.specs.Option.{option_cmp}
 use Rattle.std.specs.Ordering.{is_eq}
@@ -15,7 +14,7 @@ use Rattle.vc_merge.specs.Count.{digits}
 use Rattle.vc_merge.proofs.Digits.{digits-least}
 use Rattle.vc_merge.specs.Script.{Event, left_alone, right_alone, collision, lefts, rights, IsMatched, IsScript}
 use Rattle.vc_tree_model.specs.Shortened.{weight, forest_weight}
-use Rattle.vc_tree_model.specs.Tree.{Tree, Forest, bare, grow, forest, shortened}
+use Rattle.vc_tree_model.specs.Tree.{Tree, Forest, forest}
 use Rattle.vc_tree_combines.specs.Facing.{shortened_in, ended, GoesOn, IsOpened, Parts, IsFaced}
 use Rattle.vc_tree_combines.specs.Made.{owed}
 use Rattle.vc_tree_combines.specs.Sides.{by_component}

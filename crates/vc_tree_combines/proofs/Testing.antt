@@ -7,23 +7,23 @@
 --     some_at, before_end        a place that is not the end
 --     meeting_told        what is behind two trees that are met, tells of all
 --     found_agrees, agree_flip, found_smaller        the child that is found
-use Rattle.std.proofs.Common.{◌≡◌, ℕ, zero, suc, ◌+◌, ◌<◌, ◌≤◌, [], ◌∷◌, ◌++◌, List, Option, Some, None, Bool, true, false, not, ◌⊎◌, inl, inr, refl, sym, ap, subst, ◌∙◌, take, drop, length, slice_get, true≢false, arith, append-nil}
-use Rattle.std.proofs.lemmas.List.{take-append-drop, drop-drop, take_all}
+use Rattle.std.proofs.Common.{◌≡◌, ℕ, zero, suc, ◌+◌, ◌<◌, ◌≤◌, [], ◌∷◌, ◌++◌, List, Option, Some, Bool, true, false, not, ◌⊎◌, inl, inr, refl, sym, ap, subst, ◌∙◌, take, drop, length, slice_get, true≢false, arith}
+use Rattle.std.proofs.lemmas.List.{take-append-drop, drop-drop}
 use Rattle.std.proofs.Math.ListN.{drop_of_length-le}
 use Rattle.std.specs.Cmp.{IsTotalOrder}
 use Rattle.std.specs.Ordering.{is_eq}
 use Rattle.std.specs.declared.cmp.Ordering.{Ordering}
 use Rattle.std.specs.declared.cmp.Ordering.TheVariants.{Less, Greater}
 use Rattle.vc_tree_model.specs.Key.{same_key}
-use Rattle.vc_tree_model.specs.Tree.{Tree, Forest, node, lacks_both, shortened, nodes, forest_nodes}
-use Rattle.vc_tree_model.specs.Canonical.{AreChildren, IsSolid, IsWhole, IsCanonical}
-use Rattle.vc_tree_model.proofs.KeyLemmas.{none_some, same_flip, both_true}
+use Rattle.vc_tree_model.specs.Tree.{Tree, Forest, node, lacks_both, shortened}
+use Rattle.vc_tree_model.specs.Canonical.{IsSolid, IsWhole, IsCanonical}
+use Rattle.vc_tree_model.proofs.KeyLemmas.{none_some, same_flip}
 use Rattle.vc_tree_model.proofs.Shortening.{shortened_canonical}
 use Rattle.vc_tree_nodes.specs.Children.{seen}
 use Rattle.vc_tree_nodes.specs.Parting.{Agree, PartsAt, IsParting}
 use Rattle.vc_tree_nodes.specs.Places.{IsNoChild, IsFoundChild}
 use Rattle.vc_tree_nodes.specs.declared.parting.Parting.{Parting}
-use Rattle.vc_tree_nodes.specs.declared.parting.Parting.TheVariants.{Behind, Inside, Lower, Higher}
+use Rattle.vc_tree_nodes.specs.declared.parting.Parting.TheVariants.{Lower, Higher}
 use Rattle.vc_tree_combines.specs.Meeting.{IsMet, IsMissed, TellsKeys, TellsKeysIn, IsMeeting}
 use Rattle.vc_tree_combines.proofs.Meeting.{tells_lifted, alone_parted, alone_childless, tells_child, tells_in_child, childless_met, bare_or_missed, tells_nodes, value_missed}
 use Rattle.vc_tree_combines.proofs.Opening.{goes_on}

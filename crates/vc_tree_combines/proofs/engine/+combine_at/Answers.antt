@@ -1,11 +1,11 @@
 -- The recursion of a combine: each event is one lemma's, and each call goes to trees that stand below.
-use Rattle.std.proofs.Common.{rules, arith, refl, sym, ◌∙◌, ap, map, subst, ◌≡◌, ◌∷◌, ◌+◌, ◌<◌, ◌≤◌, take}
+use Rattle.std.proofs.Common.{rules, arith, refl, ◌∙◌, ap, map, ◌≡◌, ◌∷◌, take}
 use Rattle.vc_tree_model.proofs.Look.{values}
 use Rattle.vc_tree_model.proofs.Shortening.{shortened_canonical}
 use Rattle.vc_tree_combines.specs.declared.sides.Side.TheVariants.{Left, Right, Both}
 use Rattle.vc_tree_combines.proofs.Doing.{doing_left, doing_right, doing_both}
 use Rattle.vc_tree_combines.proofs.Ending.{left_children, right_children, values_asked, combine_started, made_children, combined}
-use Rattle.vc_tree_combines.proofs.Next.{left_not_right, right_not_left, both_not_right, both_not_left, left_there, right_there, left_within, right_within, left_asked, right_asked, both_asked, both_agree, both_paid, within_budget, falls, nil_by, at_most}
+use Rattle.vc_tree_combines.proofs.Next.{left_not_right, right_not_left, both_not_right, both_not_left, left_there, right_there, left_within, right_within, left_asked, right_asked, both_asked, both_agree, both_paid, falls, nil_by, at_most}
 use Rattle.vc_tree_combines.proofs.Opening.{slice_from}
 use Rattle.vc_tree_combines.proofs.engine.+combine_at.Goals as goal
 

@@ -1,8 +1,8 @@
 -- The children of a tree whose prefix has ended, beside those of the other one, or beside what is left of it.
-use Rattle.std.proofs.Common.{refl, sym, ap, ◌∙◌, subst, rules, ◌+◌, arith, length}
+use Rattle.std.proofs.Common.{refl, sym, ap, subst, ◌+◌, arith, length}
 use Rattle.vc_tree_model.specs.Canonical.{AreChildren}
 use Rattle.vc_tree_combines.proofs.Around.{place_within, children_ascend, around_left}
-use Rattle.vc_tree_combines.proofs.Opening.{opened_all, opened_rest, opened_behind, opened_as, listed_as, found_in, nothing_left}
+use Rattle.vc_tree_combines.proofs.Opening.{opened_all, opened_behind, opened_as, listed_as, found_in, nothing_left}
 use Rattle.vc_tree_combines.proofs.Paying.{few_children, digits_few}
 use Rattle.vc_tree_combines.proofs.facing.face_behind.Goals as goal
 

@@ -1,5 +1,5 @@
 -- The walk of the pairs that start with the prefix is the walk of the node that was found, with what stands before it.
-use Rattle.std.proofs.Common.{◌≡◌, ◌∙◌, ap, sym, subst, map, [], None, List}
+use Rattle.std.proofs.Common.{◌∙◌, sym, subst}
 use Rattle.vc_tree_model.specs.Map.{lookup}
 use Rattle.vc_tree_model.specs.Under.{under}
 use Rattle.vc_tree_model.specs.Value.{Copies}

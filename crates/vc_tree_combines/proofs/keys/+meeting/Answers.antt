@@ -1,11 +1,10 @@
 -- Where two prefixes part settles what is asked below; a tree that is found has fewer nodes than the one that it stands below.
-use Rattle.std.proofs.Common.{◌≡◌, ◌+◌, ◌*◌, ◌<◌, ◌≤◌, rules, arith, refl, sym, ap, ◌∙◌, subst, length, drop, true, false}
-use Rattle.vc_tree_model.specs.Canonical.{AreChildren}
-use Rattle.vc_tree_model.specs.Tree.{nodes, forest_nodes}
+use Rattle.std.proofs.Common.{◌≡◌, ◌+◌, rules, arith, refl, ap, length, drop, true, false}
+use Rattle.vc_tree_model.specs.Tree.{forest_nodes}
 use Rattle.vc_tree_nodes.specs.Children.{seen}
 use Rattle.vc_tree_nodes.specs.Parting.{Agree}
 use Rattle.vc_tree_combines.proofs.Opening.{slice_from, found, found_in}
-use Rattle.vc_tree_combines.proofs.Testing.{parted_told, inside_told, inside_none, inside_agrees, behind_told, within_told, within_none, within_bare, within_agrees, both_told, some_at, before_end, meeting_told}
+use Rattle.vc_tree_combines.proofs.Testing.{parted_told, inside_told, inside_none, inside_agrees, behind_told, within_told, within_none, within_bare, both_told, some_at, before_end, meeting_told}
 use Rattle.vc_tree_combines.proofs.keys.+meeting.Goals as goal
 
 pub keys_meet-keys_meet-requires : goal.keys_meet-keys_meet-requires

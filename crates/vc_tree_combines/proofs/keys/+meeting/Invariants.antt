@@ -1,5 +1,5 @@
 -- What is left of both lists tells of all of them; each call goes down to fewer nodes, or to a later part of the same two.
-use Rattle.std.proofs.Common.{◌+◌, ◌*◌, ◌≤◌, Bool, length, true, false}
+use Rattle.std.proofs.Common.{◌+◌, ◌*◌, ◌≤◌, Bool}
 use Rattle.vc_tree_model.specs.Canonical.{AreChildren}
 use Rattle.vc_tree_model.specs.Tree.{nodes, forest_nodes}
 use Rattle.vc_tree_nodes.specs.Children.{seen}

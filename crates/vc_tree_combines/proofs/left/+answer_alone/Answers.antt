@@ -1,15 +1,13 @@
 -- What was made of the children is made of the node.
-use Rattle.std.proofs.Common.{◌≡◌, ◌<◌, ◌≤◌, ◌∙◌, ap, sym, subst, refl, map, None, Ok, List, rules, arith, length}
+use Rattle.std.proofs.Common.{◌≡◌, ◌≤◌, ap, sym, subst, refl, map, None, Ok, List, rules}
 use Rattle.std.proofs.lemmas.List.{take_all}
 use Rattle.vc_tree_model.specs.Asking.{MayAnswerAt, CanAskAt}
 use Rattle.vc_tree_model.specs.Canonical.{AreChildren}
 use Rattle.vc_tree_model.specs.Combine.{IsLeftAt}
 use Rattle.vc_tree_model.specs.Map.{lookup}
 use Rattle.vc_tree_model.specs.Tree.{nodes, forest_nodes, shortened}
-use Rattle.vc_tree_model.proofs.Shortening.{shortened_canonical}
 use Rattle.vc_tree_nodes.specs.Children.{seen}
 use Rattle.vc_tree_nodes.proofs.Finding.{child_nodes}
-use Rattle.vc_tree_combines.specs.Made.{AreMadeAlone}
 use Rattle.vc_tree_combines.proofs.Opening.{slice_from}
 use Rattle.vc_tree_combines.proofs.AnsweredAlone.{value_alone, children_alone, made_none, made_next, alone_children, ok_made_alone, all_at, taken_next}
 use Rattle.vc_tree_combines.proofs.left.+answer_alone.Goals as goal

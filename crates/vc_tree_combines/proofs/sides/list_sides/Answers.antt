@@ -1,5 +1,4 @@
 -- The merge has listed the whole script, within its bound.
-use Rattle.std.proofs.Common.{rules}
 use Rattle.vc_tree_combines.proofs.Listing.{listed}
 use Rattle.vc_tree_combines.proofs.sides.list_sides.Goals as goal
 
