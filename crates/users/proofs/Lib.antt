@@ -1,1 +1,2 @@
+mod Removing
 mod Turns

@@ -1,1 +1,4 @@
+pub mod Files
 pub mod Points
+pub mod Settings
+pub mod Tagged
