@@ -1,5 +1,5 @@
 //! The set operations in place. Elements of the left set are moved and never cloned; of two equal elements the left one itself is kept.
-ghost use Rattle.std.specs.Prelude.{◌≡◌, ◌+◌, ◌≤◌, ◌||◌, ◌&&◌, false, true, not, take, drop, length, List, OnErr, OnOk};
+ghost use Rattle.std.specs.Prelude.{◌≡◌, ◌+◌, ◌≤◌, ◌++◌, ◌||◌, ◌&&◌, false, true, not, take, drop, length, List, OnErr, OnOk};
 ghost use Rattle.smallvec.specs.SmallVec.{small_vec_len, HasRoomFor};
 ghost use Rattle.std.specs.Iterator.{Drains, IsFinite};
 ghost use Rattle.std.specs.Iterator.Runs.{WholeRun};
@@ -13,6 +13,7 @@ use crate::vec_set::{AbstractVecSet, VecSet};
 use smallvec::SmallVec;
 use std::alloc::{AllocError, Allocator};
 use std::default::MadeWith;
+use std::mem;
 use std::ops::{BitAndAssign, SubAssign};
 use vc_merge::iterators::SortedByItem;
 use vc_merge::merge::{Uncounted, merge};
@@ -52,7 +53,7 @@ fn absorb<
     const N: usize,
     const M: usize,
     A: Allocator + Copy,
->(list: &mut SmallVec<T, N, A>, mut that: SmallVec<T, M, A>) -> Result<(), AllocError>
+>(list: &mut SmallVec<T, N, A>, that: SmallVec<T, M, A>) -> Result<(), AllocError>
     requires left_ascends { Ascends T.cmp list.old.items }
     requires right_ascends { Ascends T.cmp that.items }
     ensures ok { OnOk result (IsSetOf T.cmp (λ x y. x ≡ y) (λ x y. x ≡ y) (keeps true true BOTH) list.old.items that.items list.new.items) }
@@ -61,10 +62,32 @@ fn absorb<
     let end = list.len();
     open_gap(list, that.len())?;
     let next = list.len();
-    let _fits = list.append(&mut that);
+    append_moved(list, that);
     let kept = join::<BOTH, _>(list.as_mut_slice(), end, next);
     list.truncate(kept);
     Ok(())
+}
+
+/// Moves the elements of `that` to the end of `list`, which has room for them.
+///
+/// What lies on the heap comes out of a `Vec` and goes into a variable, so that no element asks again where either list lies.
+fn append_moved<T: MadeWith<A> + Drop, const N: usize, const M: usize, A: Allocator + Copy>(
+    list: &mut SmallVec<T, N, A>,
+    mut that: SmallVec<T, M, A>,
+)
+    requires { HasRoomFor list.old (length that.items) }
+    ensures { list.new.items ≡ list.old.items ++ that.items }
+{
+    if !that.spilled() {
+        let _fits = list.append(&mut that);
+        return;
+    }
+    let alloc = *list.allocator();
+    let mut whole = mem::replace(list, SmallVec::new(alloc));
+    for item in that.into_vec().unwrap() {
+        whole.push_reserved(item);
+    }
+    *list = whole;
 }
 
 /// The same with clones of the elements of the right list. The one growth and all clones come before the first element is moved.
