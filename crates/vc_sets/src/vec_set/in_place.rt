@@ -1,10 +1,9 @@
 //! The set operations in place. Elements of the left set are moved and never cloned; of two equal elements the left one itself is kept.
 ghost use Rattle.std.specs.Prelude.{◌≡◌, ◌+◌, ◌≤◌, ◌++◌, ◌||◌, ◌&&◌, false, true, not, take, drop, length, List, OnErr, OnOk};
-ghost use Rattle.smallvec.specs.SmallVec.{small_vec_len, HasRoomFor};
+ghost use Rattle.smallvec.specs.SmallVec.{HasRoomFor};
 ghost use Rattle.std.specs.Iterator.{Drains, IsFinite};
 ghost use Rattle.std.specs.Iterator.Runs.{WholeRun};
 ghost use Rattle.vc_merge.specs.Ascending.{Ascends};
-ghost use Rattle.vc_merge.specs.Building.{Extends};
 ghost use Rattle.vc_sets.specs.SetOf.{ClonesAreEqual, IsSetOf, and_not, exactly_one};
 ghost use Rattle.vc_sets.specs.Select.{keeps};
 
@@ -19,6 +18,7 @@ use vc_merge::iterators::SortedByItem;
 use vc_merge::merge::{Uncounted, merge};
 use vc_merge::moving::SiftState;
 use vc_merge::parts::{PartsState, open_gap};
+use vc_merge::states::append_clones;
 
 /// Moves what stands in the left list alone or, if `BOTH`, what stands in both, to the front of the left list. Answers how many they are.
 fn sift<const BOTH: bool, T: Ord>(list: &mut [T], that: &[T]) -> usize
@@ -113,21 +113,6 @@ fn unite<
     }
     let kept = join::<BOTH, _>(list.as_mut_slice(), end, next);
     list.truncate(kept);
-    Ok(())
-}
-
-/// Appends a clone of each of `items`, for which there is room. Refused, it leaves those that were made.
-fn append_clones<T: Clone + MadeWith<A> + Drop, const N: usize, A: Allocator + Copy>(
-    list: &mut SmallVec<T, N, A>,
-    items: &[T],
-) -> Result<(), AllocError>
-    requires { HasRoomFor list.old (length items.now) }
-    ensures front { take (small_vec_len list.old) list.new.items ≡ list.old.items }
-    ensures clones { OnOk result (Extends T.is_clone items.now list.old.items list.new.items) }
-{
-    for item in items {
-        list.push_reserved(item.clone()?);
-    }
     Ok(())
 }
 
