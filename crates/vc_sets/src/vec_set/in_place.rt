@@ -1,10 +1,9 @@
 //! The set operations in place. Elements of the left set are moved and never cloned; of two equal elements the left one itself is kept.
-ghost use Rattle.std.specs.Prelude.{◌≡◌, ◌+◌, ◌≤◌, ◌||◌, ◌&&◌, false, true, not, take, drop, length, List, OnErr, OnOk};
-ghost use Rattle.smallvec.specs.SmallVec.{small_vec_len, HasRoomFor};
+ghost use Rattle.std.specs.Prelude.{◌≡◌, ◌+◌, ◌≤◌, ◌++◌, ◌||◌, ◌&&◌, false, true, not, take, drop, length, List, OnErr, OnOk};
+ghost use Rattle.smallvec.specs.SmallVec.{HasRoomFor};
 ghost use Rattle.std.specs.Iterator.{Drains, IsFinite};
 ghost use Rattle.std.specs.Iterator.Runs.{WholeRun};
 ghost use Rattle.vc_merge.specs.Ascending.{Ascends};
-ghost use Rattle.vc_merge.specs.Building.{Extends};
 ghost use Rattle.vc_sets.specs.SetOf.{ClonesAreEqual, IsSetOf, and_not, exactly_one};
 ghost use Rattle.vc_sets.specs.Select.{keeps};
 
@@ -13,11 +12,13 @@ use crate::vec_set::{AbstractVecSet, VecSet};
 use smallvec::SmallVec;
 use std::alloc::{AllocError, Allocator};
 use std::default::MadeWith;
+use std::mem;
 use std::ops::{BitAndAssign, SubAssign};
 use vc_merge::iterators::SortedByItem;
 use vc_merge::merge::{Uncounted, merge};
 use vc_merge::moving::SiftState;
 use vc_merge::parts::{PartsState, open_gap};
+use vc_merge::states::append_clones;
 
 /// Moves what stands in the left list alone or, if `BOTH`, what stands in both, to the front of the left list. Answers how many they are.
 fn sift<const BOTH: bool, T: Ord>(list: &mut [T], that: &[T]) -> usize
@@ -52,7 +53,7 @@ fn absorb<
     const N: usize,
     const M: usize,
     A: Allocator + Copy,
->(list: &mut SmallVec<T, N, A>, mut that: SmallVec<T, M, A>) -> Result<(), AllocError>
+>(list: &mut SmallVec<T, N, A>, that: SmallVec<T, M, A>) -> Result<(), AllocError>
     requires left_ascends { Ascends T.cmp list.old.items }
     requires right_ascends { Ascends T.cmp that.items }
     ensures ok { OnOk result (IsSetOf T.cmp (λ x y. x ≡ y) (λ x y. x ≡ y) (keeps true true BOTH) list.old.items that.items list.new.items) }
@@ -61,10 +62,32 @@ fn absorb<
     let end = list.len();
     open_gap(list, that.len())?;
     let next = list.len();
-    let _fits = list.append(&mut that);
+    append_moved(list, that);
     let kept = join::<BOTH, _>(list.as_mut_slice(), end, next);
     list.truncate(kept);
     Ok(())
+}
+
+/// Moves the elements of `that` to the end of `list`, which has room for them.
+///
+/// What lies on the heap comes out of a `Vec` and goes into a variable, so that no element asks again where either list lies.
+fn append_moved<T: MadeWith<A> + Drop, const N: usize, const M: usize, A: Allocator + Copy>(
+    list: &mut SmallVec<T, N, A>,
+    mut that: SmallVec<T, M, A>,
+)
+    requires { HasRoomFor list.old (length that.items) }
+    ensures { list.new.items ≡ list.old.items ++ that.items }
+{
+    if !that.spilled() {
+        let _fits = list.append(&mut that);
+        return;
+    }
+    let alloc = *list.allocator();
+    let mut whole = mem::replace(list, SmallVec::new(alloc));
+    for item in that.into_vec().unwrap() {
+        whole.push_reserved(item);
+    }
+    *list = whole;
 }
 
 /// The same with clones of the elements of the right list. The one growth and all clones come before the first element is moved.
@@ -90,21 +113,6 @@ fn unite<
     }
     let kept = join::<BOTH, _>(list.as_mut_slice(), end, next);
     list.truncate(kept);
-    Ok(())
-}
-
-/// Appends a clone of each of `items`, for which there is room. Refused, it leaves those that were made.
-fn append_clones<T: Clone + MadeWith<A> + Drop, const N: usize, A: Allocator + Copy>(
-    list: &mut SmallVec<T, N, A>,
-    items: &[T],
-) -> Result<(), AllocError>
-    requires { HasRoomFor list.old (length items.now) }
-    ensures front { take (small_vec_len list.old) list.new.items ≡ list.old.items }
-    ensures clones { OnOk result (Extends T.is_clone items.now list.old.items list.new.items) }
-{
-    for item in items {
-        list.push_reserved(item.clone()?);
-    }
     Ok(())
 }
 

@@ -1,7 +1,7 @@
 use Rattle.std.proofs.Common.{◌≡◌, ◌-◌, ◌≤◌, take, length}
 use Rattle.smallvec.specs.SmallVec.{small_vec_len, HasRoomFor}
 use Rattle.vc_merge.specs.Building.{Extends}
-use Rattle.vc_sets.proofs.vec_set.in_place.append_clones.Given as goal
+use Rattle.vc_merge.proofs.states.append_each.Given as goal
 
 abbrev pub invariant-loop-item : goal.invariant-loop-item
 invariant-loop-item g l = record {

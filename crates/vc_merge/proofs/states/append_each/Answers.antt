@@ -1,7 +1,7 @@
 use Rattle.std.proofs.Common.{◌≡◌, ◌+◌, ◌∷◌, [], ap, ◌∙◌, length, length-append, take, arith}
 use Rattle.std.proofs.lemmas.List.{take-append-le}
 use Rattle.vc_merge.proofs.Extending.{extends-more, room-push}
-use Rattle.vc_sets.proofs.vec_set.in_place.append_clones.Goals as goal
+use Rattle.vc_merge.proofs.states.append_each.Goals as goal
 
 pub loop-item-preserved : goal.loop-item-preserved
 loop-item-preserved g c =
