@@ -1,20 +1,28 @@
 -- What lines are answered.
-use Rattle.std.specs.Prelude.{◌≡◌, ◌↔◌, ℕ, Bool, true, IsTrue, List, [], ◌∷◌, ◌++◌, codes, Some}
+use Rattle.std.specs.Prelude.{◌≡◌, ◌↔◌, ◌&&◌, ℕ, Bool, true, IsTrue, List, [], ◌∷◌, ◌++◌, codes, Some}
+use Rattle.std.specs.Option.{is_some}
 use Rattle.std.specs.Ordering.{nat_cmp}
 use Rattle.std.specs.Str.{bytes_eq}
 use Rattle.vec_collections.specs.Algebra.{made_by, IsTestedBy}
+use Rattle.vec_collections.specs.Allowed.{is_allowed}
 use Rattle.vec_collections.specs.Ascending.{member}
+use Rattle.vec_collections.specs.Map.{lookup}
 use Rattle.vec_collections.specs.TotalOf.{IsPointwise}
 use Rattle.vec_collections.specs.TotalSet.{TotalSet}
+use Rattle.vec_collections.specs.Tree.{Tree}
+use Rattle.vec_collections.specs.TreePairs.{IsCollected}
+use Rattle.vecbench_lines.specs.declared.permit_line.PermitLine.{PermitLine}
 use Rattle.vecbench_lines.specs.declared.set_line.SetLine.{SetLine}
 use Rattle.vecbench_lines.specs.declared.set_line.SetOperation.{SetOperation}
 use Rattle.vecbench_lines.specs.declared.set_line.SetOperation.TheVariants.{Combine, Test}
 use Rattle.vecbench_lines.specs.declared.shape_line.ShapeLine.{ShapeLine}
 use Rattle.vecbench_lines.specs.declared.total_line.TotalLine.{TotalLine}
 use Rattle.vecbench_lines.specs.declared.command.Command.{Command}
-use Rattle.vecbench_lines.specs.declared.command.Command.TheVariants.{Set, Total, Shape}
+use Rattle.vecbench_lines.specs.declared.command.Command.TheVariants.{Set, Total, Shape, Permit}
+use Rattle.vecbench_lines.specs.KeyLists.{ListsKeys}
 use Rattle.vecbench_lines.specs.Keys.{keys_in, HasKeys}
 use Rattle.vecbench_lines.specs.Numbers.{numbers_in, list_text, truth_text}
+use Rattle.vecbench_lines.specs.Rules.{rules_in}
 use Rattle.vecbench_lines.specs.Shapes.{shape_text}
 use Rattle.vecbench_lines.specs.Totals.{total_in, total_text, IsTotalTestedBy}
 use Rattle.vecbench_lines.specs.Judged.{is_ascending, set_operation_named, total_operation_named}
@@ -31,10 +39,23 @@ SaysTotalLine (operation ∷ left ∷ right ∷ []) line =
     (total_operation_named operation ≡ Some line.operation) × (total_in left ≡ Some line.left) × (total_in right ≡ Some line.right)
 SaysTotalLine _ line = ⊥
 
+-- the word is a list of keys, which the tree has
+abbrev pub SaysKeys : {V : Type 0} → List ℕ → Tree ℕ V → Type 0
+SaysKeys word tree = (keys : List (List ℕ)) × (keys_in word ≡ Some keys) × HasKeys keys tree
+
+-- the word is a list of rules, of which the filter has the last one for each key
+abbrev pub SaysRules : List ℕ → Tree ℕ Bool → Type 0
+SaysRules word filter = (rules : List (List ℕ × Bool)) × (rules_in word ≡ Some rules) × IsCollected nat_cmp rules filter
+
 -- the word behind `shape` says this line
 abbrev pub SaysShapeLine : List (List ℕ) → ShapeLine → Type 0
-SaysShapeLine (word ∷ []) line = (keys : List (List ℕ)) × (keys_in word ≡ Some keys) × HasKeys keys line.tree
+SaysShapeLine (keys ∷ []) line = SaysKeys keys line.tree
 SaysShapeLine _ line = ⊥
+
+-- the words behind `permit` say this line
+abbrev pub SaysPermitLine : List (List ℕ) → PermitLine → Type 0
+SaysPermitLine (rules ∷ keys ∷ []) line = SaysRules rules line.filter × SaysKeys keys line.tree
+SaysPermitLine _ line = ⊥
 
 -- the words say this command
 abbrev pub SaysCommand : List (List ℕ) → Command → Type 0
@@ -42,6 +63,7 @@ SaysCommand [] command = ⊥
 SaysCommand (name ∷ words) (Set line) = (bytes_eq name (codes "set") ≡ true) × SaysSetLine words line
 SaysCommand (name ∷ words) (Total line) = (bytes_eq name (codes "total") ≡ true) × SaysTotalLine words line
 SaysCommand (name ∷ words) (Shape line) = (bytes_eq name (codes "shape") ≡ true) × SaysShapeLine words line
+SaysCommand (name ∷ words) (Permit line) = (bytes_eq name (codes "permit") ≡ true) × SaysPermitLine words line
 
 -- an ascending list of the numbers that f picks, by whether they stand in the left list and in the right one
 pub record IsPicked (f : Bool → Bool → Bool) (left right picked : List ℕ) : Type 0 where
@@ -58,11 +80,16 @@ abbrev pub AnswersTotals : SetOperation → TotalSet ℕ → TotalSet ℕ → Li
 AnswersTotals (Combine op) left right text = (made : TotalSet ℕ) × IsPointwise nat_cmp (made_by op) left right made × (text ≡ total_text made)
 AnswersTotals (Test test) left right text = (holds : Bool) × (IsTrue holds ↔ IsTotalTestedBy test left right) × (text ≡ truth_text holds)
 
+-- the text lists the keys of the line's tree that its rules allow
+abbrev pub AnswersPermit : PermitLine → List ℕ → Type 0
+AnswersPermit line text = ListsKeys (λ key. is_some (lookup nat_cmp line.tree key) && is_allowed nat_cmp line.filter key) text
+
 -- the text answers the command
 abbrev pub Answers : Command → List ℕ → Type 0
 Answers (Set line) text = AnswersSets line.operation line.left line.right text
 Answers (Total line) text = AnswersTotals line.operation line.left line.right text
 Answers (Shape line) text = text ≡ shape_text line.tree
+Answers (Permit line) text = AnswersPermit line text
 
 -- the text, with its LF, answers the words of a line; without words nothing does
 abbrev pub AnswersWords : List (List ℕ) → List ℕ → Type 0

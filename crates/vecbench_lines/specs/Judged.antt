@@ -10,6 +10,7 @@ use Rattle.vec_collections.specs.SetOp.TheVariants.{Union, Intersection, Symmetr
 use Rattle.vec_collections.specs.SetTest.TheVariants.{Disjoint, Subset, Superset}
 use Rattle.vecbench_lines.specs.Keys.{keys_in}
 use Rattle.vecbench_lines.specs.Numbers.{numbers_in}
+use Rattle.vecbench_lines.specs.Rules.{rules_in}
 use Rattle.vecbench_lines.specs.Totals.{list_in}
 
 -- whether each number is less than the next
@@ -75,13 +76,23 @@ abbrev pub fault_in_shape : List (List ℕ) → Option Fault
 fault_in_shape (keys ∷ []) = fault_in_keys keys
 fault_in_shape _ = Some WrongCount
 
+-- the fault of a list of rules: a member that is no rule
+abbrev pub fault_in_rules : List ℕ → Option Fault
+fault_in_rules word = option_map_or (λ _. None) (rules_in word) (Some NotANumberOrKey)
+
+-- the fault of the words behind `permit`: first their count, then the rules and the keys
+abbrev pub fault_in_permit : List (List ℕ) → Option Fault
+fault_in_permit (rules ∷ keys ∷ []) = first_fault (fault_in_rules rules) (fault_in_keys keys)
+fault_in_permit _ = Some WrongCount
+
 -- the fault of a line with these words: first its first word, then those behind it
 abbrev pub fault_in_words : List (List ℕ) → Option Fault
 fault_in_words [] = None
 fault_in_words (name ∷ words) =
     if bytes_eq name (codes "set") then fault_in_set words else
     if bytes_eq name (codes "total") then fault_in_total words else
-    if bytes_eq name (codes "shape") then fault_in_shape words else Some UnknownCommand
+    if bytes_eq name (codes "shape") then fault_in_shape words else
+    if bytes_eq name (codes "permit") then fault_in_permit words else Some UnknownCommand
 
 -- the fault that was judged, unless a request for memory was refused before
 abbrev pub IsFault : Option Fault → Fault → Type 0

@@ -6,6 +6,8 @@ pub mod fault;
 pub mod keys;
 pub mod numbers;
 pub mod parts;
+pub mod permit_line;
+pub mod rules;
 pub mod serve;
 pub mod set_line;
 pub mod shape_line;
