@@ -2,16 +2,22 @@
 --     keys-walked, walk-listed, none-listed        the keys of a walk are those that the map binds
 --     keys-where        the same keys by a test that agrees
 --     restricted-listed        the keys that rules leave of a tree
-use Rattle.std.proofs.Common.{◌≡◌, ◌∙◌, ap, sym, refl, subst, ℕ, Bool, true, false, true≢false, ◌||◌, ◌&&◌, List, [], ◌∷◌, Option, Some, None, inl, inr}
+--     removed-keys, retained-keys, left-listed        the keys that stay by whether they are admitted
+use Rattle.std.proofs.Common.{◌≡◌, ◌∙◌, ap, sym, refl, subst, ℕ, Bool, true, false, not, true≢false, ◌||◌, ◌&&◌, List, [], ◌∷◌, Option, Some, None, inl, inr}
 use Rattle.std.proofs.lemmas.Option.{none-some}
 use Rattle.std.specs.List.{list_any}
 use Rattle.std.specs.Map.{keys_of}
-use Rattle.std.specs.Option.{is_some}
+use Rattle.std.specs.Option.{is_some, unwrap_or}
 use Rattle.std.specs.Ordering.{nat_cmp}
 use Rattle.vec_collections.specs.Allowed.{is_allowed, IsPassed, IsRestricted}
+use Rattle.vec_collections.specs.Cover.{cover, IsVerdict, StaysOrGoes, IsSifted, IsRemoved, IsRetained}
 use Rattle.vec_collections.specs.Key.{same_key}
+use Rattle.vec_collections.specs.Map.{lookup}
 use Rattle.vec_collections.specs.Tree.{Tree}
 use Rattle.vec_collections.specs.Walk.{Lists, IsWalk}
+use Rattle.vecbench_lines.specs.declared.prefix_line.PrefixOperation.{PrefixOperation}
+use Rattle.vecbench_lines.specs.declared.prefix_line.PrefixOperation.TheVariants.{Remove, Retain}
+use Rattle.vecbench_lines.specs.Answers.{stays_by, KeysStay}
 use Rattle.vecbench_lines.specs.KeyLists.{keys_text, AreKeys, ListsKeys}
 use Rattle.vecbench_lines.proofs.Binding.{is_some-kept}
 use Rattle.vecbench_lines.proofs.Replying.{or-true}
@@ -76,3 +82,36 @@ pub restricted-listed : {V : Type 0} (rules : Tree ℕ Bool) (keeps : V → V �
     → ListsKeys (λ key. is_some (f key) && is_allowed nat_cmp rules key) text
 restricted-listed rules keeps f g text h lists =
     keys-where _ _ text (λ key. passed-is_some rules keeps (is_allowed nat_cmp rules key) (f key) (g key) (h key)) lists
+
+-- a value that stays is there, and one that goes is not
+stays-is_some : {V : Type 0} (keeps : V → V → Type 0) (stays : Bool) (v : V) (p : Option V) → StaysOrGoes keeps stays v p → is_some p ≡ stays
+stays-is_some keeps true v p h = is_some-kept keeps (Some v) p h
+stays-is_some keeps false v p h = ap is_some h
+
+module _ {V : Type 0} (keeps : V → V → Type 0) (may : Bool → Bool → Type 0) (exact : (rule admitted : Bool) → may rule admitted → admitted ≡ rule) where
+  -- the verdict on a key is that of its longest rule
+  verdict-is : (c : Option Bool) (admitted : Bool) → IsVerdict may c admitted → admitted ≡ unwrap_or c false
+  verdict-is None admitted h = h
+  verdict-is (Some rule) admitted h = exact rule admitted h
+
+  -- what is left of a key by its verdict
+  sifted-is_some : (stays : Bool → Bool) (c : Option Bool) (o p : Option V) → IsSifted keeps may stays c o p
+      → is_some p ≡ (is_some o && stays (unwrap_or c false))
+  sifted-is_some stays c None p h = ap is_some h
+  sifted-is_some stays c (Some v) p h = stays-is_some keeps (stays h.0) v p h.2 ∙ ap stays (verdict-is c h.0 h.1)
+
+  -- the keys that are left where those that are admitted go
+  pub removed-keys : (rules : Tree ℕ Bool) (f g : List ℕ → Option V) → IsRemoved keeps may (lookup nat_cmp rules) f g
+      → KeysStay Remove (is_allowed nat_cmp rules) f g
+  removed-keys rules f g h = λ key. sifted-is_some not (cover (lookup nat_cmp rules) key) (f key) (g key) (h key)
+
+  -- and where they stay
+  pub retained-keys : (rules : Tree ℕ Bool) (f g : List ℕ → Option V) → IsRetained keeps may (lookup nat_cmp rules) f g
+      → KeysStay Retain (is_allowed nat_cmp rules) f g
+  retained-keys rules f g h = λ key. sifted-is_some (λ admitted. admitted) (cover (lookup nat_cmp rules) key) (f key) (g key) (h key)
+
+-- the keys that stay are listed by what lists the keys that are left
+pub left-listed : {V : Type 0} (operation : PrefixOperation) (admitted : List ℕ → Bool) (f g : List ℕ → Option V) (text : List ℕ)
+    → KeysStay operation admitted f g → ListsKeys (λ key. is_some (g key)) text
+    → ListsKeys (λ key. is_some (f key) && stays_by operation (admitted key)) text
+left-listed operation admitted f g text stay lists = keys-where _ _ text stay lists

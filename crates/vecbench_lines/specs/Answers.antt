@@ -1,5 +1,5 @@
 -- What lines are answered.
-use Rattle.std.specs.Prelude.{◌≡◌, ◌↔◌, ◌&&◌, ℕ, Bool, true, IsTrue, List, [], ◌∷◌, ◌++◌, codes, Some}
+use Rattle.std.specs.Prelude.{◌≡◌, ◌↔◌, ◌&&◌, ℕ, Bool, true, not, IsTrue, List, [], ◌∷◌, ◌++◌, codes, Option, Some}
 use Rattle.std.specs.Option.{is_some}
 use Rattle.std.specs.Ordering.{nat_cmp}
 use Rattle.std.specs.Str.{bytes_eq}
@@ -12,20 +12,23 @@ use Rattle.vec_collections.specs.TotalSet.{TotalSet}
 use Rattle.vec_collections.specs.Tree.{Tree}
 use Rattle.vec_collections.specs.TreePairs.{IsCollected}
 use Rattle.vecbench_lines.specs.declared.permit_line.PermitLine.{PermitLine}
+use Rattle.vecbench_lines.specs.declared.prefix_line.PrefixLine.{PrefixLine}
+use Rattle.vecbench_lines.specs.declared.prefix_line.PrefixOperation.{PrefixOperation}
+use Rattle.vecbench_lines.specs.declared.prefix_line.PrefixOperation.TheVariants.{Remove, Retain}
 use Rattle.vecbench_lines.specs.declared.set_line.SetLine.{SetLine}
 use Rattle.vecbench_lines.specs.declared.set_line.SetOperation.{SetOperation}
 use Rattle.vecbench_lines.specs.declared.set_line.SetOperation.TheVariants.{Combine, Test}
 use Rattle.vecbench_lines.specs.declared.shape_line.ShapeLine.{ShapeLine}
 use Rattle.vecbench_lines.specs.declared.total_line.TotalLine.{TotalLine}
 use Rattle.vecbench_lines.specs.declared.command.Command.{Command}
-use Rattle.vecbench_lines.specs.declared.command.Command.TheVariants.{Set, Total, Shape, Permit}
+use Rattle.vecbench_lines.specs.declared.command.Command.TheVariants.{Set, Total, Shape, Permit, Prefix}
 use Rattle.vecbench_lines.specs.KeyLists.{ListsKeys}
 use Rattle.vecbench_lines.specs.Keys.{keys_in, HasKeys}
 use Rattle.vecbench_lines.specs.Numbers.{numbers_in, list_text, truth_text}
 use Rattle.vecbench_lines.specs.Rules.{rules_in}
 use Rattle.vecbench_lines.specs.Shapes.{shape_text}
 use Rattle.vecbench_lines.specs.Totals.{total_in, total_text, IsTotalTestedBy}
-use Rattle.vecbench_lines.specs.Judged.{is_ascending, set_operation_named, total_operation_named}
+use Rattle.vecbench_lines.specs.Judged.{is_ascending, set_operation_named, total_operation_named, prefix_operation_named}
 
 -- the words behind `set` say this line
 abbrev pub SaysSetLine : List (List ℕ) → SetLine → Type 0
@@ -57,6 +60,12 @@ abbrev pub SaysPermitLine : List (List ℕ) → PermitLine → Type 0
 SaysPermitLine (rules ∷ keys ∷ []) line = SaysRules rules line.filter × SaysKeys keys line.tree
 SaysPermitLine _ line = ⊥
 
+-- the words behind `prefix` say this line
+abbrev pub SaysPrefixLine : List (List ℕ) → PrefixLine → Type 0
+SaysPrefixLine (operation ∷ keys ∷ rules ∷ []) line =
+    (prefix_operation_named operation ≡ Some line.operation) × SaysKeys keys line.tree × SaysRules rules line.filter
+SaysPrefixLine _ line = ⊥
+
 -- the words say this command
 abbrev pub SaysCommand : List (List ℕ) → Command → Type 0
 SaysCommand [] command = ⊥
@@ -64,6 +73,7 @@ SaysCommand (name ∷ words) (Set line) = (bytes_eq name (codes "set") ≡ true)
 SaysCommand (name ∷ words) (Total line) = (bytes_eq name (codes "total") ≡ true) × SaysTotalLine words line
 SaysCommand (name ∷ words) (Shape line) = (bytes_eq name (codes "shape") ≡ true) × SaysShapeLine words line
 SaysCommand (name ∷ words) (Permit line) = (bytes_eq name (codes "permit") ≡ true) × SaysPermitLine words line
+SaysCommand (name ∷ words) (Prefix line) = (bytes_eq name (codes "prefix") ≡ true) × SaysPrefixLine words line
 
 -- an ascending list of the numbers that f picks, by whether they stand in the left list and in the right one
 pub record IsPicked (f : Bool → Bool → Bool) (left right picked : List ℕ) : Type 0 where
@@ -84,12 +94,27 @@ AnswersTotals (Test test) left right text = (holds : Bool) × (IsTrue holds ↔ 
 abbrev pub AnswersPermit : PermitLine → List ℕ → Type 0
 AnswersPermit line text = ListsKeys (λ key. is_some (lookup nat_cmp line.tree key) && is_allowed nat_cmp line.filter key) text
 
+-- whether a key stays, by whether it is admitted
+abbrev pub stays_by : PrefixOperation → Bool → Bool
+stays_by Remove admitted = not admitted
+stays_by Retain admitted = admitted
+
+-- the second map has the keys of the first that stay
+abbrev pub KeysStay : {V : Type 0} → PrefixOperation → (List ℕ → Bool) → (List ℕ → Option V) → (List ℕ → Option V) → Type 0
+KeysStay operation admitted old left = (key : List ℕ) → is_some (left key) ≡ (is_some (old key) && stays_by operation (admitted key))
+
+-- the text lists the keys of the line's tree that stay, of which the longest rule that is a prefix decides
+abbrev pub AnswersPrefix : PrefixLine → List ℕ → Type 0
+AnswersPrefix line text =
+    ListsKeys (λ key. is_some (lookup nat_cmp line.tree key) && stays_by line.operation (is_allowed nat_cmp line.filter key)) text
+
 -- the text answers the command
 abbrev pub Answers : Command → List ℕ → Type 0
 Answers (Set line) text = AnswersSets line.operation line.left line.right text
 Answers (Total line) text = AnswersTotals line.operation line.left line.right text
 Answers (Shape line) text = text ≡ shape_text line.tree
 Answers (Permit line) text = AnswersPermit line text
+Answers (Prefix line) text = AnswersPrefix line text
 
 -- the text, with its LF, answers the words of a line; without words nothing does
 abbrev pub AnswersWords : List (List ℕ) → List ℕ → Type 0

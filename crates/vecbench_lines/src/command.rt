@@ -8,6 +8,7 @@ ghost use Rattle.vecbench_lines.specs.Answers.{AnswersWords};
 use crate::fault::Fault;
 use crate::parts::Words;
 use crate::permit_line::PermitLine;
+use crate::prefix_line::PrefixLine;
 use crate::set_line::SetLine;
 use crate::shape_line::ShapeLine;
 use crate::total_line::TotalLine;
@@ -24,6 +25,8 @@ pub enum Command {
     Shape(ShapeLine),
     /// `permit R A`
     Permit(PermitLine),
+    /// `prefix OP A R`
+    Prefix(PrefixLine),
 }
 
 impl Command {
@@ -47,6 +50,8 @@ impl Command {
             Ok(Command::Shape(ShapeLine::read(alloc, words)?))
         } else if name == b"permit".as_slice() {
             Ok(Command::Permit(PermitLine::read(alloc, words)?))
+        } else if name == b"prefix".as_slice() {
+            Ok(Command::Prefix(PrefixLine::read(alloc, words)?))
         } else {
             Err(Fault::UnknownCommand)
         }
@@ -61,6 +66,7 @@ impl Command {
             Command::Total(line) => line.answer(text),
             Command::Shape(line) => line.answer(text),
             Command::Permit(line) => line.answer(text),
+            Command::Prefix(line) => line.answer(text),
         }
     }
 }

@@ -7,6 +7,7 @@ pub mod keys;
 pub mod numbers;
 pub mod parts;
 pub mod permit_line;
+pub mod prefix_line;
 pub mod rules;
 pub mod serve;
 pub mod set_line;

@@ -1,4 +1,4 @@
-use Rattle.std.proofs.Common.{rules, ℕ, Bool, List, ◌≡◌, ◌∙◌, ap, refl, sym, ◌∷◌, ◌++◌, [], Some}
+use Rattle.std.proofs.Common.{rules, ℕ, Bool, List, ◌≡◌, ◌∙◌, ap, sym, ◌∷◌, ◌++◌, [], Some}
 use Rattle.std.specs.Option.{option_map}
 use Rattle.vecbench_lines.specs.declared.parts.Separator.TheVariants.{Comma}
 use Rattle.vecbench_lines.specs.Parts.{parts_of}
