@@ -1,14 +1,18 @@
 //! Radix trees from outside: each call at both flavours, generic code, and a tree of this crate's own with children.
-ghost use Rattle.std.specs.Prelude.{◌≡◌, ◌<◌, [], ◌∷◌, Some, None, true, length, IfOk, OnOk};
+ghost use Rattle.std.specs.Prelude.{◌≡◌, ◌<◌, [], ◌∷◌, Some, None, true, length, map, IfOk, OnOk, OnErr};
 ghost use Rattle.std.specs.Ordering.{nat_cmp};
 ghost use Rattle.std.specs.Option.{option_copied};
+ghost use Rattle.vec_collections.specs.Commanded.{command_of};
+ghost use Rattle.vec_collections.specs.Machine.{Run};
 ghost use Rattle.vec_collections.specs.Map.{lookup, or_else, IsInserted};
 ghost use Rattle.vec_collections.specs.Tree.{made, no_tree, is_bare};
+ghost use Rattle.vec_collections.specs.Value.{Copies};
 
 use std::alloc::{AllocError, Global};
 use std::marker::Model;
 use vec_collections::radix_tree::{
     AbstractRadixTree, AbstractRadixTreeMut, ArcRadixTree, RadixNode, RadixTree, TKey, TValue,
+    TreeCommand, run,
 };
 
 /// The ports of servers.
@@ -30,6 +34,20 @@ pub fn set_shared_port(
     let had = ports.get(server).copied();
     ports.insert(server, port)?;
     Ok(had)
+}
+
+/// Changes the ports, one change after another, and says which changes were made.
+pub fn change_ports(
+    ports: &mut Ports,
+    changes: Vec<TreeCommand<u8, u32, Ports>>,
+) -> Result<Vec<bool>, AllocError>
+    ensures made { IfOk result (λ made. Run nat_cmp (Copies (λ x y. y ≡ x)) (lookup nat_cmp ports.old)
+        (map (command_of (λ t. t)) changes.items) made.items (lookup nat_cmp ports.new)) }
+    ensures err { OnErr result (ports.new ≡ ports.old) }
+{
+    let mut made = vec![in *changes.allocator(); false; changes.len()]?;
+    run(ports, changes, made.as_mut_slice());
+    Ok(made)
 }
 
 /// Which paths may be read.

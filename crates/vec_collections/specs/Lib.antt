@@ -25,6 +25,8 @@ pub use Rattle.vc_total_sets.specs.Laws as TotalLaws
 pub use Rattle.vc_total_sets.specs.TotalOf
 pub use Rattle.vc_total_sets.specs.TotalSet
 pub use Rattle.vc_total_sets.specs.TotalTests
+pub use Rattle.vc_tree_commands.specs.Commanded
+pub use Rattle.vc_tree_commands.specs.declared.commands.TreeCommand
 pub use Rattle.vc_tree_edits.specs.Editing
 pub use Rattle.vc_tree_model.specs.Asking
 pub use Rattle.vc_tree_model.specs.Binds
@@ -36,9 +38,11 @@ pub use Rattle.vc_tree_model.specs.Equal
 pub use Rattle.vc_tree_model.specs.Key
 pub use Rattle.vc_tree_model.specs.KeySets
 pub use Rattle.vc_tree_model.specs.Laws as TreeLaws
+pub use Rattle.vc_tree_model.specs.Machine
 pub use Rattle.vc_tree_model.specs.Map
 pub use Rattle.vc_tree_model.specs.OneTree
 pub use Rattle.vc_tree_model.specs.Pairs as TreePairs
+pub use Rattle.vc_tree_model.specs.PrefixLaws
 pub use Rattle.vc_tree_model.specs.Same
 pub use Rattle.vc_tree_model.specs.Shortened
 pub use Rattle.vc_tree_model.specs.Snapshot

@@ -3,14 +3,16 @@ ghost use Rattle.vec_collections.specs.Chain.{allows};
 ghost use Rattle.vec_collections.specs.MergeLaws.{AscendingHaveOneScript, MembersAreElements, MembersTellTheList, TicksStay, RunsAreBeginnings};
 ghost use Rattle.vec_collections.specs.SetLaws.{InEachWay, SetOfIsOne, OperationsInWords, TestsAreOfOperations};
 ghost use Rattle.vec_collections.specs.TreeLaws.{KeysAreOrdered, LeftBehindIsRest, BindsIsLookup, CanonicalIsConditions, CanonicalIsUnique, CanonicalIsSmallest, WalkIsOne};
+ghost use Rattle.vec_collections.specs.PrefixLaws.{WalkUnder, WalkPrefixed, WalkIsFiltered, CoverIsLongest, RemovalAndRetentionPart, RunIsFunction};
 ghost use Rattle.vec_collections.specs.Value.{Copies};
 ghost use Rattle.std.specs.Prelude.{IsTrue};
 
 use crate::laws::{
     ByClone, ByEq, binds_is_lookup, canonical_is_conditions, canonical_is_smallest,
-    canonical_is_unique, keys_are_ordered, left_behind_is_rest, members_are_elements,
-    members_tell_the_list, operations_are_as_named, runs_are_beginnings, script_is_one,
-    set_of_is_one, tests_are_of_operations, ticks_stay, walk_is_one,
+    canonical_is_unique, cover_is_longest, keys_are_ordered, left_behind_is_rest,
+    members_are_elements, members_tell_the_list, operations_are_as_named,
+    removal_and_retention_part, run_is_function, runs_are_beginnings, script_is_one, set_of_is_one,
+    tests_are_of_operations, ticks_stay, walk_is_filtered, walk_is_one, walks_by_prefix,
 };
 use crate::merge::{Count, MergeOperation, MergeState};
 
@@ -62,4 +64,20 @@ pub fn of_trees<K: Ord, V: PartialEq + Clone>()
     canonical_is_conditions::<K, V>();
     canonical_is_unique::<K, V, ByEq>();
     canonical_is_smallest::<K, V, ByClone>();
+}
+
+/// The laws of prefixes, of covers and of the machine.
+pub fn of_prefixes<K: Ord, V: PartialEq + Clone, W>()
+    ensures under { WalkUnder K V K.cmp }
+    ensures prefixed { WalkPrefixed K V K.cmp }
+    ensures filtered { WalkIsFiltered K V K.cmp (Copies V.is_clone) }
+    ensures longest { CoverIsLongest K W K.cmp }
+    ensures parts { RemovalAndRetentionPart K V W (Copies V.is_clone) }
+    ensures runs { RunIsFunction K V K.cmp (λ v w. IsTrue (V.eq v w)) }
+{
+    walks_by_prefix::<K, V>();
+    walk_is_filtered::<K, V, ByClone>();
+    cover_is_longest::<K, W>();
+    removal_and_retention_part::<K, V, W, ByClone>();
+    run_is_function::<K, V, ByEq>();
 }

@@ -43,6 +43,7 @@ pub mod btree_map {
 
 /// Canonical radix trees: finite maps from keys, which are lists of components, to values.
 pub mod radix_tree {
+    pub use vc_tree_commands::commands::{TreeCommand, run};
     pub use vc_trees::radix_tree::{
         AbstractRadixTree, AbstractRadixTreeMut, ArcRadixTree, Iter, IterKey, ObjAndIter,
         RadixNode, RadixTree, TKey, TValue, Values,
@@ -66,7 +67,9 @@ pub mod laws {
     };
     pub use vc_tree_model::laws::{
         ByClone, ByEq, Matching, binds_is_lookup, canonical_is_conditions, canonical_is_smallest,
-        canonical_is_unique, keys_are_ordered, left_behind_is_rest, walk_is_one,
+        canonical_is_unique, cover_is_longest, keys_are_ordered, left_behind_is_rest,
+        removal_and_retention_part, run_is_function, walk_is_filtered, walk_is_one,
+        walks_by_prefix,
     };
 }
 
