@@ -5,6 +5,7 @@ use std::process::Abort;
 use std::test::Fail;
 use vecbench_lines::serve::serve;
 
+mod filters;
 mod total;
 
 /// What a line that is the first of its input is answered where it has that fault.

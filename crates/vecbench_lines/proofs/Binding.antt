@@ -23,7 +23,7 @@ any-snoc test [] x = refl
 any-snoc test (y ∷ xs) x = ap (λ b. test y || b) (any-snoc test xs x) ∙ or-swap (test y) (test x) (list_any test xs)
 
 -- what is kept is there where it was
-is_some-kept : {V : Type 0} (keeps : V → V → Type 0) (o p : Option V) → IsKept keeps o p → is_some p ≡ is_some o
+pub is_some-kept : {V : Type 0} (keeps : V → V → Type 0) (o p : Option V) → IsKept keeps o p → is_some p ≡ is_some o
 is_some-kept keeps None None kept = refl
 is_some-kept keeps None (Some w) kept = absurd kept
 is_some-kept keeps (Some v) None kept = absurd kept
@@ -45,14 +45,14 @@ HasKeys-inserted {V} {keeps} keys key value t u inserted canonical has =
           ap (λ b. same_key nat_cmp key k || b) (has.binds k) ∙ sym (any-snoc (λ j. same_key nat_cmp j k) keys key);
     }
 
--- the key stands behind those that were read
-key-behind : (done : List (List ℕ)) (key : List ℕ) (o : Option (List (List ℕ)))
+-- what is read stands behind what was read
+pub key-behind : {X : Type 0} (done : List X) (key : X) (o : Option (List X))
     → option_map (λ ks. (done ++ key ∷ []) ++ ks) o ≡ option_map (λ ks. done ++ ks) (option_map (λ ks. key ∷ ks) o)
 key-behind done key None = refl
 key-behind done key (Some ks) = ap Some (append_assoc done (key ∷ []) ks)
 
--- nothing stands before the first key
-pub keys-none : (o : Option (List (List ℕ))) → option_map (λ ks. [] ++ ks) o ≡ o
+-- nothing stands before the first
+pub keys-none : {X : Type 0} (o : Option (List X)) → option_map (λ ks. [] ++ ks) o ≡ o
 keys-none None = refl
 keys-none (Some ks) = refl
 

@@ -9,3 +9,5 @@ mod Chunks
 mod Joining
 mod Binding
 mod Shaping
+mod Ruling
+mod Listing

@@ -1,23 +1,34 @@
 -- What lines are answered.
-use Rattle.std.specs.Prelude.{◌≡◌, ◌↔◌, ℕ, Bool, true, IsTrue, List, [], ◌∷◌, ◌++◌, codes, Some}
+use Rattle.std.specs.Prelude.{◌≡◌, ◌↔◌, ◌&&◌, ℕ, Bool, true, not, IsTrue, List, [], ◌∷◌, ◌++◌, codes, Option, Some}
+use Rattle.std.specs.Option.{is_some}
 use Rattle.std.specs.Ordering.{nat_cmp}
 use Rattle.std.specs.Str.{bytes_eq}
 use Rattle.vec_collections.specs.Algebra.{made_by, IsTestedBy}
+use Rattle.vec_collections.specs.Allowed.{is_allowed}
 use Rattle.vec_collections.specs.Ascending.{member}
+use Rattle.vec_collections.specs.Map.{lookup}
 use Rattle.vec_collections.specs.TotalOf.{IsPointwise}
 use Rattle.vec_collections.specs.TotalSet.{TotalSet}
+use Rattle.vec_collections.specs.Tree.{Tree}
+use Rattle.vec_collections.specs.TreePairs.{IsCollected}
+use Rattle.vecbench_lines.specs.declared.permit_line.PermitLine.{PermitLine}
+use Rattle.vecbench_lines.specs.declared.prefix_line.PrefixLine.{PrefixLine}
+use Rattle.vecbench_lines.specs.declared.prefix_line.PrefixOperation.{PrefixOperation}
+use Rattle.vecbench_lines.specs.declared.prefix_line.PrefixOperation.TheVariants.{Remove, Retain}
 use Rattle.vecbench_lines.specs.declared.set_line.SetLine.{SetLine}
 use Rattle.vecbench_lines.specs.declared.set_line.SetOperation.{SetOperation}
 use Rattle.vecbench_lines.specs.declared.set_line.SetOperation.TheVariants.{Combine, Test}
 use Rattle.vecbench_lines.specs.declared.shape_line.ShapeLine.{ShapeLine}
 use Rattle.vecbench_lines.specs.declared.total_line.TotalLine.{TotalLine}
 use Rattle.vecbench_lines.specs.declared.command.Command.{Command}
-use Rattle.vecbench_lines.specs.declared.command.Command.TheVariants.{Set, Total, Shape}
+use Rattle.vecbench_lines.specs.declared.command.Command.TheVariants.{Set, Total, Shape, Permit, Prefix}
+use Rattle.vecbench_lines.specs.KeyLists.{ListsKeys}
 use Rattle.vecbench_lines.specs.Keys.{keys_in, HasKeys}
 use Rattle.vecbench_lines.specs.Numbers.{numbers_in, list_text, truth_text}
+use Rattle.vecbench_lines.specs.Rules.{rules_in}
 use Rattle.vecbench_lines.specs.Shapes.{shape_text}
 use Rattle.vecbench_lines.specs.Totals.{total_in, total_text, IsTotalTestedBy}
-use Rattle.vecbench_lines.specs.Judged.{is_ascending, set_operation_named, total_operation_named}
+use Rattle.vecbench_lines.specs.Judged.{is_ascending, set_operation_named, total_operation_named, prefix_operation_named}
 
 -- the words behind `set` say this line
 abbrev pub SaysSetLine : List (List ℕ) → SetLine → Type 0
@@ -31,10 +42,29 @@ SaysTotalLine (operation ∷ left ∷ right ∷ []) line =
     (total_operation_named operation ≡ Some line.operation) × (total_in left ≡ Some line.left) × (total_in right ≡ Some line.right)
 SaysTotalLine _ line = ⊥
 
+-- the word is a list of keys, which the tree has
+abbrev pub SaysKeys : {V : Type 0} → List ℕ → Tree ℕ V → Type 0
+SaysKeys word tree = (keys : List (List ℕ)) × (keys_in word ≡ Some keys) × HasKeys keys tree
+
+-- the word is a list of rules, of which the filter has the last one for each key
+abbrev pub SaysRules : List ℕ → Tree ℕ Bool → Type 0
+SaysRules word filter = (rules : List (List ℕ × Bool)) × (rules_in word ≡ Some rules) × IsCollected nat_cmp rules filter
+
 -- the word behind `shape` says this line
 abbrev pub SaysShapeLine : List (List ℕ) → ShapeLine → Type 0
-SaysShapeLine (word ∷ []) line = (keys : List (List ℕ)) × (keys_in word ≡ Some keys) × HasKeys keys line.tree
+SaysShapeLine (keys ∷ []) line = SaysKeys keys line.tree
 SaysShapeLine _ line = ⊥
+
+-- the words behind `permit` say this line
+abbrev pub SaysPermitLine : List (List ℕ) → PermitLine → Type 0
+SaysPermitLine (rules ∷ keys ∷ []) line = SaysRules rules line.filter × SaysKeys keys line.tree
+SaysPermitLine _ line = ⊥
+
+-- the words behind `prefix` say this line
+abbrev pub SaysPrefixLine : List (List ℕ) → PrefixLine → Type 0
+SaysPrefixLine (operation ∷ keys ∷ rules ∷ []) line =
+    (prefix_operation_named operation ≡ Some line.operation) × SaysKeys keys line.tree × SaysRules rules line.filter
+SaysPrefixLine _ line = ⊥
 
 -- the words say this command
 abbrev pub SaysCommand : List (List ℕ) → Command → Type 0
@@ -42,6 +72,8 @@ SaysCommand [] command = ⊥
 SaysCommand (name ∷ words) (Set line) = (bytes_eq name (codes "set") ≡ true) × SaysSetLine words line
 SaysCommand (name ∷ words) (Total line) = (bytes_eq name (codes "total") ≡ true) × SaysTotalLine words line
 SaysCommand (name ∷ words) (Shape line) = (bytes_eq name (codes "shape") ≡ true) × SaysShapeLine words line
+SaysCommand (name ∷ words) (Permit line) = (bytes_eq name (codes "permit") ≡ true) × SaysPermitLine words line
+SaysCommand (name ∷ words) (Prefix line) = (bytes_eq name (codes "prefix") ≡ true) × SaysPrefixLine words line
 
 -- an ascending list of the numbers that f picks, by whether they stand in the left list and in the right one
 pub record IsPicked (f : Bool → Bool → Bool) (left right picked : List ℕ) : Type 0 where
@@ -58,11 +90,31 @@ abbrev pub AnswersTotals : SetOperation → TotalSet ℕ → TotalSet ℕ → Li
 AnswersTotals (Combine op) left right text = (made : TotalSet ℕ) × IsPointwise nat_cmp (made_by op) left right made × (text ≡ total_text made)
 AnswersTotals (Test test) left right text = (holds : Bool) × (IsTrue holds ↔ IsTotalTestedBy test left right) × (text ≡ truth_text holds)
 
+-- the text lists the keys of the line's tree that its rules allow
+abbrev pub AnswersPermit : PermitLine → List ℕ → Type 0
+AnswersPermit line text = ListsKeys (λ key. is_some (lookup nat_cmp line.tree key) && is_allowed nat_cmp line.filter key) text
+
+-- whether a key stays, by whether it is admitted
+abbrev pub stays_by : PrefixOperation → Bool → Bool
+stays_by Remove admitted = not admitted
+stays_by Retain admitted = admitted
+
+-- the second map has the keys of the first that stay
+abbrev pub KeysStay : {V : Type 0} → PrefixOperation → (List ℕ → Bool) → (List ℕ → Option V) → (List ℕ → Option V) → Type 0
+KeysStay operation admitted old left = (key : List ℕ) → is_some (left key) ≡ (is_some (old key) && stays_by operation (admitted key))
+
+-- the text lists the keys of the line's tree that stay, of which the longest rule that is a prefix decides
+abbrev pub AnswersPrefix : PrefixLine → List ℕ → Type 0
+AnswersPrefix line text =
+    ListsKeys (λ key. is_some (lookup nat_cmp line.tree key) && stays_by line.operation (is_allowed nat_cmp line.filter key)) text
+
 -- the text answers the command
 abbrev pub Answers : Command → List ℕ → Type 0
 Answers (Set line) text = AnswersSets line.operation line.left line.right text
 Answers (Total line) text = AnswersTotals line.operation line.left line.right text
 Answers (Shape line) text = text ≡ shape_text line.tree
+Answers (Permit line) text = AnswersPermit line text
+Answers (Prefix line) text = AnswersPrefix line text
 
 -- the text, with its LF, answers the words of a line; without words nothing does
 abbrev pub AnswersWords : List (List ℕ) → List ℕ → Type 0

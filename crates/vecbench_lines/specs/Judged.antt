@@ -4,12 +4,15 @@ use Rattle.std.specs.Option.{option_map_or}
 use Rattle.std.specs.Str.{bytes_eq}
 use Rattle.vecbench_lines.specs.declared.fault.Fault.{Fault}
 use Rattle.vecbench_lines.specs.declared.fault.Fault.TheVariants.{UnknownCommand, NotAscending, NotANumberOrKey, WrongCount, NoMemory}
+use Rattle.vecbench_lines.specs.declared.prefix_line.PrefixOperation.{PrefixOperation}
+use Rattle.vecbench_lines.specs.declared.prefix_line.PrefixOperation.TheVariants.{Remove, Retain}
 use Rattle.vecbench_lines.specs.declared.set_line.SetOperation.{SetOperation}
 use Rattle.vecbench_lines.specs.declared.set_line.SetOperation.TheVariants.{Combine, Test}
 use Rattle.vec_collections.specs.SetOp.TheVariants.{Union, Intersection, SymmetricDifference, Difference}
 use Rattle.vec_collections.specs.SetTest.TheVariants.{Disjoint, Subset, Superset}
 use Rattle.vecbench_lines.specs.Keys.{keys_in}
 use Rattle.vecbench_lines.specs.Numbers.{numbers_in}
+use Rattle.vecbench_lines.specs.Rules.{rules_in}
 use Rattle.vecbench_lines.specs.Totals.{list_in}
 
 -- whether each number is less than the next
@@ -50,8 +53,14 @@ total_operation_named name =
     if bytes_eq name (codes "xor") then Some (Combine SymmetricDifference) else
     if bytes_eq name (codes "minus") then Some (Combine Difference) else test_named name
 
+-- the operation by prefixes of this name
+abbrev pub prefix_operation_named : List ℕ → Option PrefixOperation
+prefix_operation_named name =
+    if bytes_eq name (codes "remove") then Some Remove else
+    if bytes_eq name (codes "retain") then Some Retain else None
+
 -- the fault of a word that is to name an operation, by the one that it names
-abbrev pub fault_in_operation : Option SetOperation → Option Fault
+abbrev pub fault_in_operation : {Operation : Type 0} → Option Operation → Option Fault
 fault_in_operation named = option_map_or (λ _. None) named (Some UnknownCommand)
 
 -- the fault of the words behind `set`: first their count, then the operation, the left list and the right list
@@ -75,13 +84,30 @@ abbrev pub fault_in_shape : List (List ℕ) → Option Fault
 fault_in_shape (keys ∷ []) = fault_in_keys keys
 fault_in_shape _ = Some WrongCount
 
+-- the fault of a list of rules: a member that is no rule
+abbrev pub fault_in_rules : List ℕ → Option Fault
+fault_in_rules word = option_map_or (λ _. None) (rules_in word) (Some NotANumberOrKey)
+
+-- the fault of the words behind `permit`: first their count, then the rules and the keys
+abbrev pub fault_in_permit : List (List ℕ) → Option Fault
+fault_in_permit (rules ∷ keys ∷ []) = first_fault (fault_in_rules rules) (fault_in_keys keys)
+fault_in_permit _ = Some WrongCount
+
+-- the fault of the words behind `prefix`: first their count, then the operation, the keys and the rules
+abbrev pub fault_in_prefix : List (List ℕ) → Option Fault
+fault_in_prefix (operation ∷ keys ∷ rules ∷ []) =
+    first_fault (fault_in_operation (prefix_operation_named operation)) (first_fault (fault_in_keys keys) (fault_in_rules rules))
+fault_in_prefix _ = Some WrongCount
+
 -- the fault of a line with these words: first its first word, then those behind it
 abbrev pub fault_in_words : List (List ℕ) → Option Fault
 fault_in_words [] = None
 fault_in_words (name ∷ words) =
     if bytes_eq name (codes "set") then fault_in_set words else
     if bytes_eq name (codes "total") then fault_in_total words else
-    if bytes_eq name (codes "shape") then fault_in_shape words else Some UnknownCommand
+    if bytes_eq name (codes "shape") then fault_in_shape words else
+    if bytes_eq name (codes "permit") then fault_in_permit words else
+    if bytes_eq name (codes "prefix") then fault_in_prefix words else Some UnknownCommand
 
 -- the fault that was judged, unless a request for memory was refused before
 abbrev pub IsFault : Option Fault → Fault → Type 0

@@ -6,6 +6,8 @@ pub mod Numbers
 pub mod Totals
 pub mod Keys
 pub mod Shapes
+pub mod KeyLists
+pub mod Rules
 pub mod Judged
 pub mod Answers
 pub mod Served

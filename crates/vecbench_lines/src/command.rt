@@ -7,6 +7,8 @@ ghost use Rattle.vecbench_lines.specs.Answers.{AnswersWords};
 
 use crate::fault::Fault;
 use crate::parts::Words;
+use crate::permit_line::PermitLine;
+use crate::prefix_line::PrefixLine;
 use crate::set_line::SetLine;
 use crate::shape_line::ShapeLine;
 use crate::total_line::TotalLine;
@@ -21,6 +23,10 @@ pub enum Command {
     Total(TotalLine),
     /// `shape A`
     Shape(ShapeLine),
+    /// `permit R A`
+    Permit(PermitLine),
+    /// `prefix OP A R`
+    Prefix(PrefixLine),
 }
 
 impl Command {
@@ -42,19 +48,25 @@ impl Command {
             Ok(Command::Total(TotalLine::read(alloc, words)?))
         } else if name == b"shape".as_slice() {
             Ok(Command::Shape(ShapeLine::read(alloc, words)?))
+        } else if name == b"permit".as_slice() {
+            Ok(Command::Permit(PermitLine::read(alloc, words)?))
+        } else if name == b"prefix".as_slice() {
+            Ok(Command::Prefix(PrefixLine::read(alloc, words)?))
         } else {
             Err(Fault::UnknownCommand)
         }
     }
 
     /// Puts the answer behind `text`.
-    pub fn answer(&self, text: &mut String) -> Result<(), AllocError>
-        ensures { OnOk result ((answer : List ℕ) × Answers self.now answer × (string_bytes text.new ≡ string_bytes text.old ++ answer)) }
+    pub fn answer(self, text: &mut String) -> Result<(), AllocError>
+        ensures { OnOk result ((answer : List ℕ) × Answers self answer × (string_bytes text.new ≡ string_bytes text.old ++ answer)) }
     {
         match self {
             Command::Set(line) => line.answer(text),
             Command::Total(line) => line.answer(text),
             Command::Shape(line) => line.answer(text),
+            Command::Permit(line) => line.answer(text),
+            Command::Prefix(line) => line.answer(text),
         }
     }
 }

@@ -2,8 +2,11 @@
 ghost use Rattle.std.specs.Prelude.{◌≡◌, ◌++◌, List, ℕ, None, Some, MatchResult, IfOk, OnOk};
 ghost use Rattle.std.specs.Char.{is_ascii_lowercase};
 ghost use Rattle.std.specs.List.{list_all};
-ghost use Rattle.std.specs.Option.{option_copied};
+ghost use Rattle.std.specs.Option.{is_some, option_copied};
+ghost use Rattle.std.specs.Ordering.{nat_cmp};
 ghost use Rattle.std.specs.String.{string_bytes};
+ghost use Rattle.vec_collections.specs.Map.{lookup};
+ghost use Rattle.vecbench_lines.specs.KeyLists.{ListsKeys};
 ghost use Rattle.vecbench_lines.specs.Keys.{key_in, keys_in, HasKeys};
 ghost use Rattle.vecbench_lines.specs.Judged.{fault_in_keys, IsFault};
 ghost use Rattle.vecbench_lines.specs.Shapes.{key_text, value_mark, shape_text};
@@ -66,6 +69,25 @@ pub fn put_key(text: &mut String, key: &[u8]) -> Result<(), AllocError>
     }
     for letter in key {
         text.push(char::from(*letter))?;
+    }
+    Ok(())
+}
+
+/// Puts the keys of a tree behind `text`, ascending, in the form in which a list of keys is read.
+pub fn put_keys(text: &mut String, tree: &KeyTree) -> Result<(), AllocError>
+    ensures { OnOk result ((answer : List ℕ) × ListsKeys (λ key. is_some (lookup nat_cmp tree.now key)) answer
+        × (string_bytes text.new ≡ string_bytes text.old ++ answer)) }
+{
+    let mut pairs = tree.iter();
+    let Some(first) = pairs.next() else {
+        return text.push('-');
+    };
+    let (key, _) = first?;
+    put_key(text, key.as_ref())?;
+    for pair in pairs {
+        let (key, _) = pair?;
+        text.push(',')?;
+        put_key(text, key.as_ref())?;
     }
     Ok(())
 }

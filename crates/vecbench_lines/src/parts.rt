@@ -111,6 +111,19 @@ impl<'a> Words<'a> {
         Some(word)
     }
 
+    /// The words, if they are two.
+    pub fn two(mut self) -> Option<(&'a [u8], &'a [u8])>
+        ensures { MatchOption result (length (words_left self.entry) ≢ 2)
+            (λ words. words_left self.entry ≡ words.0.now ∷ words.1.now ∷ []) }
+    {
+        let first = self.next()?;
+        let second = self.next()?;
+        if self.next().is_some() {
+            return None;
+        }
+        Some((first, second))
+    }
+
     /// The words, if they are three.
     pub fn three(mut self) -> Option<(&'a [u8], &'a [u8], &'a [u8])>
         ensures { MatchOption result (length (words_left self.entry) ≢ 3)
