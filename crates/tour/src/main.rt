@@ -1,7 +1,10 @@
 //! Shows each program of `users` on a small input.
 #![tactic(auto)]
 
-use std::alloc::Global;
+ghost use Rattle.std.specs.Prelude.{◌≡◌, ◌||◌, ◌&&◌, IfOk, ℕ, leb, ltb};
+ghost use Rattle.users.specs.Points.{holds};
+
+use std::alloc::{AllocError, Global};
 use std::io;
 use users::configuration::History;
 use users::intervals::Intervals;
@@ -17,18 +20,24 @@ fn main(rt: HostRuntime) -> io::Result<()> {
     show_paths(&rt, alloc)
 }
 
-/// Opening hours of two shops, of which a set has the hours when either is open, and the hours when only one is.
+/// The hours at which a bakery is open, or a bar.
+fn either_is_open(alloc: Global) -> Result<Intervals<4>, AllocError>
+    ensures { IfOk result (λ hours. (hour : ℕ) → holds hours hour ≡ ((leb 6 hour && ltb hour 14) || (leb 12 hour && ltb hour 20))) }
+{
+    let bakery = Intervals::between(alloc, 6, 14)?;
+    let bar = Intervals::between(alloc, 12, 20)?;
+    bakery.union(&bar)
+}
+
+/// Opening hours of two shops.
 fn show_intervals(rt: &impl Print, alloc: Global) -> io::Result<()> {
     let bakery = Intervals::<4>::between(alloc, 6, 14)?;
     let bar = Intervals::<4>::between(alloc, 12, 20)?;
-    show_hours(rt, "either is open", &bakery.union(&bar)?)?;
+    let either = either_is_open(alloc)?;
+    show_hours(rt, "either is open", &either)?;
     show_hours(rt, "both are open", &bakery.intersection(&bar)?)?;
     show_hours(rt, "only one is open", &bakery.xor(&bar)?)?;
-    show_hours(
-        rt,
-        "both are closed",
-        &bakery.union(&bar)?.complement(alloc)?,
-    )
+    show_hours(rt, "both are closed", &either.complement(alloc)?)
 }
 
 /// The hours of a day that are in the set, as one mark each.
