@@ -12,6 +12,8 @@ use vc_trees::radix_tree::{AbstractRadixTree, AbstractRadixTreeMut, RadixNode, T
 #[cfg(test)]
 mod combines;
 #[cfg(test)]
+mod commands;
+#[cfg(test)]
 mod compared;
 #[cfg(test)]
 mod counted_combines;

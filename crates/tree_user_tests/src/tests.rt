@@ -318,7 +318,7 @@ impl Drop for Counted<'_> {
 }
 
 /// The number of the key's value, or 0 where the tree has none.
-fn number_at<'a, T: AbstractRadixTree<u8, Counted<'a>>>(tree: &T, key: &[u8]) -> u32 {
+pub(crate) fn number_at<'a, T: AbstractRadixTree<u8, Counted<'a>>>(tree: &T, key: &[u8]) -> u32 {
     match tree.get(key) {
         Some(value) => value.number,
         None => 0,
@@ -377,24 +377,25 @@ fn insert_clones_no_value_that_is_not_shared(rt: HostRuntime) -> Result<(), Fail
     Ok(())
 }
 
-/// Inserts a key into the tree of the eight keys, of which a copy is kept. Answers the numbers there in the tree and in the copy.
+/// Inserts a key into the tree of the eight keys, of which a copy is kept. Answers the numbers there in the tree and in the copy, and how
+/// many values the copy cloned.
 fn insert_beside_copy<'a, T: AbstractRadixTreeMut<u8, Counted<'a>> + Clone>(
     alloc: Global,
     tally: &'a Tally,
-) -> Result<(u32, u32), AllocError> {
+) -> Result<(u32, u32, u32), AllocError> {
     let mut tree = T::empty(alloc);
     insert_eight(&mut tree, tally)?;
     let copy = tree.clone()?;
+    let cloned = tally.clones();
     tree.insert(b"bcd", Counted::new(10, tally))?;
-    Ok((number_at(&tree, b"bcd"), number_at(&copy, b"bcd")))
+    Ok((number_at(&tree, b"bcd"), number_at(&copy, b"bcd"), cloned))
 }
 
 #[test]
 fn a_snapshot_stays_and_few_values_are_copied(rt: HostRuntime) -> Result<(), Fail> {
     let tally = Tally::new();
     let numbers = insert_beside_copy::<ArcRadixTree<u8, Counted>>(rt.alloc(), &tally)?;
-    assert_eq!(rt; numbers.0, 10);
-    assert_eq!(rt; numbers.1, 0);
+    assert_eq!(rt; numbers, (10, 0, 0));
     let clones = tally.clones.get();
     assert!(rt; clones <= COPIED);
     let dropped = tally.drops.get();
