@@ -9,7 +9,6 @@ mod lists;
 use data::{Keys, Numbers};
 use std::collections::{BTreeMap, BTreeSet};
 use std::hint::black_box;
-use std::time::Instant;
 
 unsafe extern "C" {
     fn bench_numbers(row: u64, left: *const u64, left_len: usize, m: usize, right: *const u64, right_len: usize, n: usize, rounds: u64) -> u64;
@@ -183,34 +182,52 @@ fn repeat(rounds: u64, work: impl Fn() -> u64) -> u64 {
 fn times<const SIDES: usize>(operations: usize, sides: [&dyn Fn(u64) -> u64; SIDES]) -> [f64; SIDES] {
     let answers = sides.map(|side| side(1));
     assert!(answers.iter().all(|answer| *answer == answers[0]), "the sides disagree: {answers:?}");
-    let rounds = rounds_for(sides[0]);
+    let rounds = sides.map(rounds_for);
     let mut samples = [(); SIDES].map(|()| Vec::new());
     for _ in 0..9 {
-        for (side, samples) in sides.iter().zip(&mut samples) {
-            // What is built before the first round is taken off.
-            let nothing = seconds(|| side(0));
-            samples.push((seconds(|| side(rounds)) - nothing).max(0.0));
+        for ((side, rounds), samples) in sides.iter().zip(rounds).zip(&mut samples) {
+            samples.push((seconds(|| side(rounds)) - seconds(|| side(0))).max(0.0));
         }
     }
+    let mut rounds = rounds.into_iter();
     samples.map(|mut samples| {
         samples.sort_by(f64::total_cmp);
-        samples[samples.len() / 2] * 1e9 / rounds as f64 / operations as f64
+        samples[samples.len() / 2] * 1e9 / rounds.next().unwrap_or(1) as f64 / operations as f64
     })
 }
 
-/// As many rounds as take about ten milliseconds.
+/// As many rounds as take ten milliseconds, and four times as long as what is built before the first one.
 fn rounds_for(side: &dyn Fn(u64) -> u64) -> u64 {
+    let nothing = seconds(|| side(0));
     let mut rounds = 1;
-    while seconds(|| side(rounds)) < 0.01 && rounds < 1 << 24 {
+    while seconds(|| side(rounds)) < nothing + (4.0 * nothing).max(0.01) && rounds < 1 << 24 {
         rounds *= 2;
     }
     rounds
 }
 
+/// The processor time of this thread that the work takes: other programs add nothing to it.
 fn seconds(work: impl FnOnce() -> u64) -> f64 {
-    let start = Instant::now();
+    let start = processor_time();
     black_box(work());
-    start.elapsed().as_secs_f64()
+    processor_time() - start
+}
+
+/// The processor time of this thread, in seconds.
+fn processor_time() -> f64 {
+    #[repr(C)]
+    struct Time {
+        seconds: i64,
+        nanoseconds: i64,
+    }
+    unsafe extern "C" {
+        fn clock_gettime(clock: i32, time: *mut Time) -> i32;
+    }
+    const THREAD_TIME: i32 = 3;
+    let mut time = Time { seconds: 0, nanoseconds: 0 };
+    // SAFETY: `time` is laid out as the `timespec` of 64-bit Linux, where 3 is the number of that clock.
+    assert_eq!(unsafe { clock_gettime(THREAD_TIME, &mut time) }, 0);
+    time.seconds as f64 + time.nanoseconds as f64 / 1e9
 }
 
 /// Three digits.

@@ -100,3 +100,26 @@ fn takes_memory_twice_and_at_the_start(rt: HostRuntime) -> Result<(), Fail> {
     assert_eq!(rt; finish(&memory, 3)?, (true, false));
     Ok(())
 }
+
+/// Makes a builder of a list of two numbers in place, where the request of that number is refused. Says whether it was made, and whether that
+/// request had come.
+fn open_in_place(memory: &Nth<Global>, number: u64) -> Result<(bool, bool), AllocError> {
+    let mut list: SmallVec<u32, 2, &Nth<Global>> = SmallVec::new(memory);
+    list.push(1)?;
+    list.push(2)?;
+    memory.refuse(number);
+    let is_granted = match open(&mut list, 3) {
+        Ok(both) => both.finish().len() == 0,
+        Err(_) => list.len() != 2,
+    };
+    Ok((is_granted, memory.is_done()))
+}
+
+#[test]
+fn takes_no_memory_for_the_way_from_a_list_in_place(rt: HostRuntime) -> Result<(), Fail> {
+    let memory = Nth::new(rt.alloc(), 0);
+    assert_eq!(rt; open_in_place(&memory, 1)?, (false, true));
+    assert_eq!(rt; open_in_place(&memory, 2)?, (false, true));
+    assert_eq!(rt; open_in_place(&memory, 3)?, (true, false));
+    Ok(())
+}
