@@ -1,8 +1,9 @@
-//! Filters of paths: the table of rules and of what the longest one decides, and snapshots of rules.
+//! Filters of paths: the tables of rules, of what the longest one decides, and of what they leave of a tree; and snapshots of rules.
+use super::walks::{print_pairs, tree_of};
 use std::alloc::{AllocError, Global};
 use std::test::Fail;
 use vc_path_filter::path_filter::PathFilter;
-use vc_trees::radix_tree::AbstractRadixTree;
+use vc_trees::radix_tree::{AbstractRadixTree, AbstractRadixTreeMut, ArcRadixTree, RadixTree};
 
 /// The filter of rules in their order, of which one that begins with `!` denies the rest of it.
 fn filter_of(alloc: Global, rules: &[&str]) -> Result<PathFilter<u8>, AllocError> {
@@ -81,5 +82,40 @@ fn a_snapshot_of_rules_stays(rt: HostRuntime) -> Result<(), Fail> {
     assert!(rt; !after);
     assert!(rt; longer);
     assert_eq!(rt; rule, Some(false));
+    Ok(())
+}
+
+/// Rules, the keys of a tree, each bound to its place in the list, and the pairs that the rules leave.
+const RESTRICTED: [(&[&str], &[&str], &str); 5] = [
+    (
+        &["a", "!ab", "abcd"],
+        &["a", "ab", "abc", "abcd", "abcde", "b"],
+        "1a 4abcd 5abcde",
+    ),
+    (&["", "!a"], &["a", "ab", "b", ""], "4 3b"),
+    (&["ab"], &["a", "abc", "abd", "b"], "2abc 3abd"),
+    (&["a", "!a"], &["a", "ab"], ""),
+    (&[], &["", "a"], ""),
+];
+
+/// The pairs that the filter of the rules leaves of the tree of the keys.
+fn print_restricted<T: AbstractRadixTreeMut<u8, u32>>(
+    alloc: Global,
+    rules: &[&str],
+    keys: &[&str],
+) -> Result<String, AllocError> {
+    let mut tree = tree_of::<T>(alloc, keys)?;
+    filter_of(alloc, rules)?.restrict(&mut tree)?;
+    print_pairs(alloc, tree.iter())
+}
+
+#[test]
+fn trees_of_both_flavours_are_restricted(rt: HostRuntime) -> Result<(), Fail> {
+    for (rules, keys, left) in RESTRICTED {
+        let plain = print_restricted::<RadixTree<u8, u32>>(rt.alloc(), rules, keys)?;
+        assert_eq!(rt; plain.as_str(), left);
+        let shared = print_restricted::<ArcRadixTree<u8, u32>>(rt.alloc(), rules, keys)?;
+        assert_eq!(rt; shared.as_str(), left);
+    }
     Ok(())
 }

@@ -27,7 +27,7 @@ fn put_pair(text: &mut String, key: &[u8], digit: u32) -> Result<(), AllocError>
 }
 
 /// The pairs that are left of a walk.
-fn print_pairs<T: AbstractRadixTree<u8, u32>>(
+pub(crate) fn print_pairs<T: AbstractRadixTree<u8, u32>>(
     alloc: Global,
     walk: Iter<'_, u8, u32, T>,
 ) -> Result<String, AllocError> {
@@ -65,7 +65,7 @@ fn print_held<T: AbstractRadixTree<u8, u32> + Drop>(
 }
 
 /// The tree of the keys, each bound to its place in the list, from 1 on.
-fn tree_of<T: AbstractRadixTreeMut<u8, u32>>(
+pub(crate) fn tree_of<T: AbstractRadixTreeMut<u8, u32>>(
     alloc: Global,
     keys: &[&str],
 ) -> Result<T, AllocError> {
@@ -158,17 +158,54 @@ fn print_kept<T: AbstractRadixTree<u8, u32>>(
 
 /// Prints the kept keys of the walk of a tree.
 fn print_kept_of<T: AbstractRadixTreeMut<u8, u32>>(alloc: Global) -> Result<String, AllocError> {
-    let tree = tree_of::<T>(alloc, &["a", "ab", "b"])?;
+    let tree = tree_of::<T>(alloc, &["a", "ab", "abc", "b"])?;
     print_kept(alloc, tree.iter())
 }
+
+/// The keys of that tree, each followed by its clone.
+const KEPT: &str =
+    "[IterKey([97]), IterKey([97]), IterKey([97, 98]), IterKey([97, 98]), IterKey([97, 98, 99]), IterKey([97, 98, 99]), IterKey([98]), IterKey([98])]";
 
 #[test]
 fn kept_keys_stay(rt: HostRuntime) -> Result<(), Fail> {
     let text = print_kept_of::<RadixTree<u8, u32>>(rt.alloc())?;
-    assert_eq!(rt;
-        text.as_str(),
-        "[IterKey([97]), IterKey([97]), IterKey([97, 98]), IterKey([97, 98]), IterKey([98]), IterKey([98])]"
-    );
+    assert_eq!(rt; text.as_str(), KEPT);
+    let text = print_kept_of::<ArcRadixTree<u8, u32>>(rt.alloc())?;
+    assert_eq!(rt; text.as_str(), KEPT);
+    Ok(())
+}
+
+/// The tree of three counted values.
+fn three<'a, T: AbstractRadixTreeMut<u8, Counted<'a>>>(
+    alloc: Global,
+    tally: &'a Tally,
+) -> Result<T, AllocError> {
+    let mut tree = T::empty(alloc);
+    tree.insert(b"b", Counted::new(4, tally))?;
+    tree.insert(b"a", Counted::new(1, tally))?;
+    tree.insert(b"ab", Counted::new(2, tally))?;
+    Ok(tree)
+}
+
+/// Takes the first item of the walk that holds such a tree, and lets the walk go. Answers the number that came.
+fn first_number<'a, T: AbstractRadixTreeMut<u8, Counted<'a>>>(
+    alloc: Global,
+    tally: &'a Tally,
+) -> Result<u32, AllocError> {
+    let mut walk = three::<T>(alloc, tally)?.into_iter();
+    match walk.next() {
+        Some(Ok((_, value))) => Ok(value.number),
+        _ => Ok(0),
+    }
+}
+
+#[test]
+fn a_walk_that_is_let_go_drops_what_is_left(rt: HostRuntime) -> Result<(), Fail> {
+    let tally = Tally::new();
+    let plain = first_number::<RadixTree<u8, Counted>>(rt.alloc(), &tally)?;
+    assert_eq!(rt; (plain, tally.clones(), tally.drops()), (1, 1, 4));
+    let shared = first_number::<ArcRadixTree<u8, Counted>>(rt.alloc(), &tally)?;
+    assert_eq!(rt; (shared, tally.clones(), tally.drops()), (1, 2, 8));
     Ok(())
 }
 
@@ -179,10 +216,7 @@ fn sum_of_granted<'a, T: AbstractRadixTreeMut<u8, Counted<'a>>>(
     granted: u32,
     tally: &'a Tally,
 ) -> Result<(u32, bool), AllocError> {
-    let mut tree = T::empty(alloc);
-    tree.insert(b"b", Counted::new(4, tally))?;
-    tree.insert(b"a", Counted::new(1, tally))?;
-    tree.insert(b"ab", Counted::new(2, tally))?;
+    let tree = three::<T>(alloc, tally)?;
     tally.clones_left.set(granted);
     let mut walk = tree.into_iter();
     let mut sum = 0u32;
@@ -294,5 +328,32 @@ fn deep_trees_are_walked(rt: HostRuntime) -> Result<(), Fail> {
     assert_eq!(rt; held, HELD_DEPTH);
     let held = count_held_nested::<ArcRadixTree<u8, u32>>(rt.alloc(), SHARED_DEPTH)?;
     assert_eq!(rt; held, SHARED_DEPTH);
+    Ok(())
+}
+
+/// How many nested keys are left where those that start with the one of a hundred letters are removed, if each is a letter longer
+/// than the one before it.
+fn count_below_hundred<T: AbstractRadixTreeMut<u8, u32>>(
+    alloc: Global,
+) -> Result<usize, AllocError> {
+    let mut tree = nested::<T>(alloc, 200)?;
+    let hundred = T::single(alloc, &[b'a'; 100], 1)?;
+    tree.remove_prefix_with(&hundred, |_: &u32| -> bool { true })?;
+    let mut count = 0usize;
+    for item in tree.iter() {
+        let (key, _) = item?;
+        count = count.saturating_add(1);
+        if key.as_ref().len() != count {
+            return Ok(0);
+        }
+    }
+    Ok(count)
+}
+
+#[test]
+fn nested_keys_are_removed(rt: HostRuntime) -> Result<(), Fail> {
+    let plain = count_below_hundred::<RadixTree<u8, u32>>(rt.alloc())?;
+    let shared = count_below_hundred::<ArcRadixTree<u8, u32>>(rt.alloc())?;
+    assert_eq!(rt; (plain, shared), (99, 99));
     Ok(())
 }

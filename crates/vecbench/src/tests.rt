@@ -7,6 +7,7 @@ use vecbench_lines::serve::serve;
 
 mod filters;
 mod total;
+mod trees;
 
 /// What a line that is the first of its input is answered where it has that fault.
 const UNKNOWN_COMMAND: &str = "line 1: fault 1: unknown command\n";

@@ -11,3 +11,4 @@ mod Binding
 mod Shaping
 mod Ruling
 mod Listing
+mod Leading

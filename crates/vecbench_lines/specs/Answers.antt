@@ -9,8 +9,6 @@ use Rattle.vec_collections.specs.Ascending.{member}
 use Rattle.vec_collections.specs.Map.{lookup}
 use Rattle.vec_collections.specs.TotalOf.{IsPointwise}
 use Rattle.vec_collections.specs.TotalSet.{TotalSet}
-use Rattle.vec_collections.specs.Tree.{Tree}
-use Rattle.vec_collections.specs.TreePairs.{IsCollected}
 use Rattle.vecbench_lines.specs.declared.permit_line.PermitLine.{PermitLine}
 use Rattle.vecbench_lines.specs.declared.prefix_line.PrefixLine.{PrefixLine}
 use Rattle.vecbench_lines.specs.declared.prefix_line.PrefixOperation.{PrefixOperation}
@@ -20,12 +18,14 @@ use Rattle.vecbench_lines.specs.declared.set_line.SetOperation.{SetOperation}
 use Rattle.vecbench_lines.specs.declared.set_line.SetOperation.TheVariants.{Combine, Test}
 use Rattle.vecbench_lines.specs.declared.shape_line.ShapeLine.{ShapeLine}
 use Rattle.vecbench_lines.specs.declared.total_line.TotalLine.{TotalLine}
+use Rattle.vecbench_lines.specs.declared.tree_line.TreeLine.{TreeLine}
 use Rattle.vecbench_lines.specs.declared.command.Command.{Command}
-use Rattle.vecbench_lines.specs.declared.command.Command.TheVariants.{Set, Total, Shape, Permit, Prefix}
+use Rattle.vecbench_lines.specs.declared.command.Command.TheVariants.{Set, Total, Shape, Permit, Prefix, Tree}
+use Rattle.vecbench_lines.specs.Changes.{SaysChanges, Leads}
 use Rattle.vecbench_lines.specs.KeyLists.{ListsKeys}
-use Rattle.vecbench_lines.specs.Keys.{keys_in, HasKeys}
+use Rattle.vecbench_lines.specs.Keys.{SaysKeys}
 use Rattle.vecbench_lines.specs.Numbers.{numbers_in, list_text, truth_text}
-use Rattle.vecbench_lines.specs.Rules.{rules_in}
+use Rattle.vecbench_lines.specs.Rules.{SaysRules}
 use Rattle.vecbench_lines.specs.Shapes.{shape_text}
 use Rattle.vecbench_lines.specs.Totals.{total_in, total_text, IsTotalTestedBy}
 use Rattle.vecbench_lines.specs.Judged.{is_ascending, set_operation_named, total_operation_named, prefix_operation_named}
@@ -41,14 +41,6 @@ abbrev pub SaysTotalLine : List (List ℕ) → TotalLine → Type 0
 SaysTotalLine (operation ∷ left ∷ right ∷ []) line =
     (total_operation_named operation ≡ Some line.operation) × (total_in left ≡ Some line.left) × (total_in right ≡ Some line.right)
 SaysTotalLine _ line = ⊥
-
--- the word is a list of keys, which the tree has
-abbrev pub SaysKeys : {V : Type 0} → List ℕ → Tree ℕ V → Type 0
-SaysKeys word tree = (keys : List (List ℕ)) × (keys_in word ≡ Some keys) × HasKeys keys tree
-
--- the word is a list of rules, of which the filter has the last one for each key
-abbrev pub SaysRules : List ℕ → Tree ℕ Bool → Type 0
-SaysRules word filter = (rules : List (List ℕ × Bool)) × (rules_in word ≡ Some rules) × IsCollected nat_cmp rules filter
 
 -- the word behind `shape` says this line
 abbrev pub SaysShapeLine : List (List ℕ) → ShapeLine → Type 0
@@ -66,6 +58,11 @@ SaysPrefixLine (operation ∷ keys ∷ rules ∷ []) line =
     (prefix_operation_named operation ≡ Some line.operation) × SaysKeys keys line.tree × SaysRules rules line.filter
 SaysPrefixLine _ line = ⊥
 
+-- the words behind `tree` say this line: a list of keys, and commands
+abbrev pub SaysTreeLine : List (List ℕ) → TreeLine → Type 0
+SaysTreeLine [] line = ⊥
+SaysTreeLine (keys ∷ words) line = SaysKeys keys line.tree × SaysChanges words line.changes.items
+
 -- the words say this command
 abbrev pub SaysCommand : List (List ℕ) → Command → Type 0
 SaysCommand [] command = ⊥
@@ -74,6 +71,7 @@ SaysCommand (name ∷ words) (Total line) = (bytes_eq name (codes "total") ≡ t
 SaysCommand (name ∷ words) (Shape line) = (bytes_eq name (codes "shape") ≡ true) × SaysShapeLine words line
 SaysCommand (name ∷ words) (Permit line) = (bytes_eq name (codes "permit") ≡ true) × SaysPermitLine words line
 SaysCommand (name ∷ words) (Prefix line) = (bytes_eq name (codes "prefix") ≡ true) × SaysPrefixLine words line
+SaysCommand (name ∷ words) (Tree line) = (bytes_eq name (codes "tree") ≡ true) × SaysTreeLine words line
 
 -- an ascending list of the numbers that f picks, by whether they stand in the left list and in the right one
 pub record IsPicked (f : Bool → Bool → Bool) (left right picked : List ℕ) : Type 0 where
@@ -108,6 +106,11 @@ abbrev pub AnswersPrefix : PrefixLine → List ℕ → Type 0
 AnswersPrefix line text =
     ListsKeys (λ key. is_some (lookup nat_cmp line.tree key) && stays_by line.operation (is_allowed nat_cmp line.filter key)) text
 
+-- the text lists the keys of the map to which the line's commands lead, all of them accepted
+abbrev pub AnswersTree : TreeLine → List ℕ → Type 0
+AnswersTree line text =
+    (map : List ℕ → Option (Unit {0})) × Leads line.changes.items (lookup nat_cmp line.tree) map × ListsKeys (λ key. is_some (map key)) text
+
 -- the text answers the command
 abbrev pub Answers : Command → List ℕ → Type 0
 Answers (Set line) text = AnswersSets line.operation line.left line.right text
@@ -115,6 +118,7 @@ Answers (Total line) text = AnswersTotals line.operation line.left line.right te
 Answers (Shape line) text = text ≡ shape_text line.tree
 Answers (Permit line) text = AnswersPermit line text
 Answers (Prefix line) text = AnswersPrefix line text
+Answers (Tree line) text = AnswersTree line text
 
 -- the text, with its LF, answers the words of a line; without words nothing does
 abbrev pub AnswersWords : List (List ℕ) → List ℕ → Type 0

@@ -10,8 +10,9 @@ use Rattle.vecbench_lines.specs.declared.set_line.SetOperation.{SetOperation}
 use Rattle.vecbench_lines.specs.declared.set_line.SetOperation.TheVariants.{Combine, Test}
 use Rattle.vec_collections.specs.SetOp.TheVariants.{Union, Intersection, SymmetricDifference, Difference}
 use Rattle.vec_collections.specs.SetTest.TheVariants.{Disjoint, Subset, Superset}
-use Rattle.vecbench_lines.specs.Keys.{keys_in}
+use Rattle.vecbench_lines.specs.Keys.{key_in, keys_in}
 use Rattle.vecbench_lines.specs.Numbers.{numbers_in}
+use Rattle.vecbench_lines.specs.Parts.{are_pairs}
 use Rattle.vecbench_lines.specs.Rules.{rules_in}
 use Rattle.vecbench_lines.specs.Totals.{list_in}
 
@@ -99,6 +100,33 @@ fault_in_prefix (operation ∷ keys ∷ rules ∷ []) =
     first_fault (fault_in_operation (prefix_operation_named operation)) (first_fault (fault_in_keys keys) (fault_in_rules rules))
 fault_in_prefix _ = Some WrongCount
 
+-- the fault of a word that is to be a key
+abbrev pub fault_in_key : List ℕ → Option Fault
+fault_in_key word = option_map_or (λ _. None) (key_in word) (Some NotANumberOrKey)
+
+-- the fault of a command on a tree: first its name, then the key or the list of keys behind it
+abbrev pub fault_in_change : List ℕ → List ℕ → Option Fault
+fault_in_change name word =
+    if bytes_eq name (codes "insert") then fault_in_key word else
+    if bytes_eq name (codes "prepend") then fault_in_key word else
+    if bytes_eq name (codes "filter") then fault_in_key word else
+    if bytes_eq name (codes "union") then fault_in_keys word else
+    if bytes_eq name (codes "intersection") then fault_in_keys word else
+    if bytes_eq name (codes "difference") then fault_in_keys word else
+    if bytes_eq name (codes "remove") then fault_in_keys word else
+    if bytes_eq name (codes "retain") then fault_in_keys word else Some UnknownCommand
+
+-- the first fault of commands, each a name and the word behind it
+abbrev pub fault_in_changes : List (List ℕ) → Option Fault
+fault_in_changes [] = None
+fault_in_changes (name ∷ []) = Some WrongCount
+fault_in_changes (name ∷ word ∷ words) = first_fault (fault_in_change name word) (fault_in_changes words)
+
+-- the fault of the words behind `tree`: first their count, then the list of keys and the commands
+abbrev pub fault_in_tree : List (List ℕ) → Option Fault
+fault_in_tree [] = Some WrongCount
+fault_in_tree (keys ∷ words) = if are_pairs words then first_fault (fault_in_keys keys) (fault_in_changes words) else Some WrongCount
+
 -- the fault of a line with these words: first its first word, then those behind it
 abbrev pub fault_in_words : List (List ℕ) → Option Fault
 fault_in_words [] = None
@@ -107,7 +135,8 @@ fault_in_words (name ∷ words) =
     if bytes_eq name (codes "total") then fault_in_total words else
     if bytes_eq name (codes "shape") then fault_in_shape words else
     if bytes_eq name (codes "permit") then fault_in_permit words else
-    if bytes_eq name (codes "prefix") then fault_in_prefix words else Some UnknownCommand
+    if bytes_eq name (codes "prefix") then fault_in_prefix words else
+    if bytes_eq name (codes "tree") then fault_in_tree words else Some UnknownCommand
 
 -- the fault that was judged, unless a request for memory was refused before
 abbrev pub IsFault : Option Fault → Fault → Type 0

@@ -30,3 +30,7 @@ keys_in word = if bytes_eq word (codes "-") then Some [] else keys_in_all (parts
 pub record HasKeys {V : Type 0} (keys : List (List ℕ)) (tree : Tree ℕ V) : Type 0 where
   pub canonical : IsCanonical nat_cmp tree
   pub binds : (key : List ℕ) → is_some (lookup nat_cmp tree key) ≡ list_any (λ k. same_key nat_cmp k key) keys
+
+-- the word is a list of keys, which the tree has
+abbrev pub SaysKeys : {V : Type 0} → List ℕ → Tree ℕ V → Type 0
+SaysKeys word tree = (keys : List (List ℕ)) × (keys_in word ≡ Some keys) × HasKeys keys tree

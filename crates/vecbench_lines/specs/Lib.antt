@@ -8,6 +8,7 @@ pub mod Keys
 pub mod Shapes
 pub mod KeyLists
 pub mod Rules
+pub mod Changes
 pub mod Judged
 pub mod Answers
 pub mod Served

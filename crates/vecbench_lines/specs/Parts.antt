@@ -1,5 +1,5 @@
 -- How a text is taken apart into parts, and a line into words.
-use Rattle.std.specs.Prelude.{ℕ, ◌==◌, ◌||◌, Bool, not, List, [], length, filter, Option, None, Some}
+use Rattle.std.specs.Prelude.{ℕ, ◌==◌, ◌||◌, Bool, true, false, not, List, [], ◌∷◌, length, filter, Option, None, Some}
 use Rattle.std.specs.Borrow.{Bor}
 use Rattle.std.specs.List.{slice_split}
 use Rattle.vecbench_lines.specs.declared.parts.Separator.{Separator}
@@ -27,3 +27,9 @@ is_some_text text = not (length text == 0)
 -- the words of a line: what stands between spaces and tabs, but for the empty texts
 abbrev pub words_of : List ℕ → List (List ℕ)
 words_of line = filter is_some_text (parts_of Gap line)
+
+-- whether words stand in pairs
+abbrev pub are_pairs : List (List ℕ) → Bool
+are_pairs [] = true
+are_pairs (word ∷ []) = false
+are_pairs (word ∷ other ∷ words) = are_pairs words

@@ -1,7 +1,10 @@
 -- What a word says as a list of rules on keys.
-use Rattle.std.specs.Prelude.{ℕ, Bool, not, if◌then◌else◌, List, [], ◌∷◌, codes, Option, Some}
+use Rattle.std.specs.Prelude.{◌≡◌, ℕ, Bool, not, if◌then◌else◌, List, [], ◌∷◌, codes, Option, Some}
 use Rattle.std.specs.Option.{option_map, option_and_then}
 use Rattle.std.specs.Str.{bytes_eq}
+use Rattle.std.specs.Ordering.{nat_cmp}
+use Rattle.vec_collections.specs.Tree.{Tree}
+use Rattle.vec_collections.specs.TreePairs.{IsCollected}
 use Rattle.vecbench_lines.specs.declared.parts.Separator.TheVariants.{Comma}
 use Rattle.vecbench_lines.specs.Keys.{key_in}
 use Rattle.vecbench_lines.specs.Parts.{parts_of}
@@ -19,3 +22,7 @@ rules_in_all (word ∷ words) = option_and_then (λ rule. option_map (λ rules. 
 -- the rules of a list: none in `-`, and else those between the commas
 abbrev pub rules_in : List ℕ → Option (List (List ℕ × Bool))
 rules_in word = if bytes_eq word (codes "-") then Some [] else rules_in_all (parts_of Comma word)
+
+-- the word is a list of rules, of which the filter has the last one for each key
+abbrev pub SaysRules : List ℕ → Tree ℕ Bool → Type 0
+SaysRules word filter = (rules : List (List ℕ × Bool)) × (rules_in word ≡ Some rules) × IsCollected nat_cmp rules filter

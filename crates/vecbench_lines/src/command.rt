@@ -12,6 +12,7 @@ use crate::prefix_line::PrefixLine;
 use crate::set_line::SetLine;
 use crate::shape_line::ShapeLine;
 use crate::total_line::TotalLine;
+use crate::tree_line::TreeLine;
 use std::alloc::{AllocError, Global};
 
 /// What a line asks for, once its words are judged.
@@ -27,6 +28,8 @@ pub enum Command {
     Permit(PermitLine),
     /// `prefix OP A R`
     Prefix(PrefixLine),
+    /// `tree A OP B ..`
+    Tree(TreeLine),
 }
 
 impl Command {
@@ -52,6 +55,8 @@ impl Command {
             Ok(Command::Permit(PermitLine::read(alloc, words)?))
         } else if name == b"prefix".as_slice() {
             Ok(Command::Prefix(PrefixLine::read(alloc, words)?))
+        } else if name == b"tree".as_slice() {
+            Ok(Command::Tree(TreeLine::read(alloc, words)?))
         } else {
             Err(Fault::UnknownCommand)
         }
@@ -67,6 +72,7 @@ impl Command {
             Command::Shape(line) => line.answer(text),
             Command::Permit(line) => line.answer(text),
             Command::Prefix(line) => line.answer(text),
+            Command::Tree(line) => line.answer(text),
         }
     }
 }

@@ -1,6 +1,7 @@
 //! The lines of the program `vecbench`: how they are read, judged and answered.
 #![tactic(auto)]
 
+pub mod changes;
 pub mod command;
 pub mod fault;
 pub mod keys;
@@ -14,3 +15,4 @@ pub mod set_line;
 pub mod shape_line;
 pub mod total_line;
 pub mod totals;
+pub mod tree_line;

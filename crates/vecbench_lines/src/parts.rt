@@ -88,7 +88,7 @@ pub struct Words<'a> {
 
 impl<'a> Words<'a> {
     ghost use Rattle.std.specs.Prelude.{◌≡◌, ◌≢◌, ◌∷◌, [], length, MatchOption};
-    ghost use Rattle.vecbench_lines.specs.Parts.{words_of};
+    ghost use Rattle.vecbench_lines.specs.Parts.{words_of, are_pairs};
     ghost use Rattle.vecbench_lines.specs.PartsLeft.{words_left};
 
     /// The words of `line`.
@@ -98,6 +98,18 @@ impl<'a> Words<'a> {
         Words {
             parts: Parts::new(Separator::Gap, line),
         }
+    }
+
+    /// Whether the words stand in pairs: whether they are an even number.
+    pub fn are_pairs(mut self) -> bool
+        ensures { result ≡ are_pairs (words_left self.entry) }
+    {
+        while let Some(_) = self.next() {
+            if self.next().is_none() {
+                return false;
+            }
+        }
+        true
     }
 
     /// The word, if there is one alone.
