@@ -287,6 +287,32 @@ where
     Ok(built)
 }
 
+/// The outer join by a question.
+pub fn join_asking<
+    K: Ord + Clone + Drop,
+    V,
+    W,
+    X: Drop,
+    Q: Question<K, V, W, X>,
+    const N: usize,
+    A: Allocator + Copy,
+>(
+    alloc: A,
+    this: &[(K, V)],
+    that: &[(K, W)],
+    question: &Q,
+) -> Result<SmallVec<(K, X), N, A>, AllocError>
+where
+    (K, X): MadeWith<A>,
+    requires this_ascends { AscendsByKey K.cmp this.now }
+    requires that_ascends { AscendsByKey K.cmp that.now }
+    requires clones { ClonesAreEqual K.cmp K.is_clone }
+    requires takes { (a : _) → IsAsked K.cmp JoinKind.Outer left_spelling this.now that.now a → Q.takes question.now a }
+    ensures joins { IfOk result (λ v. IsJoin K.cmp JoinKind.Outer left_spelling this.now that.now (λ a r. Q.may question.now a (Ok r)) (ClonedKey K.is_clone) v.items) }
+{
+    join(alloc, this, that, JoinKind::Outer, question, &mut Uncounted)
+}
+
 /// The outer join by a closure.
 pub fn join_outer<
     K: Ord + Clone + Drop,
@@ -305,14 +331,7 @@ where
     requires callable { (a : _) → IsAsked K.cmp JoinKind.Outer left_spelling this.now that.now (seen a) → F.pre f.now a }
     ensures joins { IfOk result (λ v. IsJoin K.cmp JoinKind.Outer left_spelling this.now that.now (λ a r. MayAnswer F.Fn f.now a (Ok r)) (ClonedKey K.is_clone) v.items) }
 {
-    join(
-        alloc,
-        this,
-        that,
-        JoinKind::Outer,
-        &AskOuter(f),
-        &mut Uncounted,
-    )
+    join_asking(alloc, this, that, &AskOuter(f))
 }
 
 /// The join of this kind by a closure that is asked as that of an outer join. Counts its comparisons.

@@ -7,10 +7,11 @@ ghost use Rattle.vc_merge.specs.Showing.{ShowsItems};
 
 mod changes;
 mod comparisons;
-mod conversions;
+pub mod conversions;
 mod iteration;
 mod joins;
 
+pub use crate::fresh::join_asking;
 pub use joins::{inner_join, left_join, outer_join, right_join};
 use smallvec::SmallVec;
 use std::alloc::{AllocError, Allocator, Global};
@@ -61,6 +62,14 @@ impl<K: Ord, V, const N: usize, A: Allocator> VecMap<K, V, N, A> {
         ensures { IsTrue result ↔ (self.now ≡ []) }
     {
         self.pairs.is_empty()
+    }
+
+    /// The allocator of the list of pairs.
+    pub fn allocator(&self) -> A
+    where
+        A: Copy,
+    {
+        *self.pairs.allocator()
     }
 
     /// The pairs in ascending order of their keys. Takes no memory.

@@ -1,6 +1,6 @@
 //! Small sorted sets, radix trees that are always canonical, and filters of paths.
 //!
-//! A user names this crate alone: it exports the modules `merge`, `iterators`, `vec_set`, `total_vec_set`, `btree_map`, `radix_tree` and `path_filter` of
+//! A user names this crate alone: it exports the modules `merge`, `iterators`, `vec_set`, `vec_map`, `total_vec_set`, `total_vec_map`, `btree_map`, `radix_tree` and `path_filter` of
 //! the crates below it, and the items of `vec_set` also at its root.
 #![tactic(auto)]
 
@@ -28,9 +28,22 @@ pub mod vec_set {
     };
 }
 
+/// Small maps as ascending lists of pairs.
+pub mod vec_map {
+    pub use vc_joins::question::{JoinKind, OuterJoinArg};
+    pub use vc_maps::vec_map::{
+        AbstractVecMap, VecMap, VecMap1, inner_join, left_join, outer_join, right_join,
+    };
+}
+
 /// Sets that are a list, or all that is not in it.
 pub mod total_vec_set {
     pub use vc_total_sets::total_vec_set::{TotalVecSet, TotalVecSet2};
+}
+
+/// Maps with a value at every key.
+pub mod total_vec_map {
+    pub use vc_total_maps::total_vec_map::{TotalVecMap, TotalVecMap1};
 }
 
 /// Joins of maps that build a `BTreeMap`, and joins of one in place.

@@ -1,6 +1,6 @@
 //! Sets and maps written out.
 //!
-//! The macros stand at the root of this crate: `vec_collections::vecset`.
+//! The macros stand at the root of this crate: `vec_collections::vecset` and `vec_collections::vecmap`.
 
 /// The set of the listed elements, with the allocator in front: a `Result` whose refusal is an `AllocError`.
 ///
@@ -25,6 +25,33 @@ macro_rules! vecset {
                 }
             )+
             Ok(set)
+        }
+    };
+}
+
+/// The map of the listed pairs, with the allocator in front: a `Result` whose refusal is an `AllocError`.
+///
+/// The pairs are put in one after the other by [`insert`](crate::vec_map::VecMap::insert), so their keys may stand in any order, and of pairs
+/// with equal keys the last is kept. The type of the map, or its size in place, is named by the caller.
+///
+/// ```
+/// let squares: VecMap<u32, u32, 4> = vecmap! {alloc; 2 => 4, 3 => 9}?;
+/// let none: VecMap<u32, u32, 4> = vecmap! {alloc;}?;
+/// ```
+#[macro_export]
+macro_rules! vecmap {
+    ($alloc:expr;) => {
+        Ok::<_, std::alloc::AllocError>($crate::vec_map::VecMap::empty($alloc))
+    };
+    ($alloc:expr; $($key:expr => $value:expr),+ $(,)?) => {
+        'made: {
+            let mut map = $crate::vec_map::VecMap::empty($alloc);
+            $(
+                if let Err(refusal) = map.insert($key, $value) {
+                    break 'made Err(refusal);
+                }
+            )+
+            Ok(map)
         }
     };
 }

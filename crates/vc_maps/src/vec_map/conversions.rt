@@ -13,6 +13,16 @@ use vc_merge::iterators::SortedByKey;
 use vc_sets::vec_set::VecSet;
 use vc_sets::vec_set::conversions::set_of_list;
 
+/// The map of a list whose keys ascend strictly. Takes no memory.
+pub fn map_of_list<K: Ord, V, const N: usize, A: Allocator>(
+    pairs: SmallVec<(K, V), N, A>,
+) -> VecMap<K, V, N, A>
+    requires { AscendsByKey K.cmp pairs.items }
+    ensures { result ≡ pairs.items }
+{
+    VecMap { pairs }
+}
+
 impl<K: Ord, V, const N: usize, A: Allocator> VecMap<K, V, N, A> {
     /// The pairs in ascending order of their keys, as the list that holds them. Takes no memory.
     pub fn into_inner(self) -> SmallVec<(K, V), N, A>

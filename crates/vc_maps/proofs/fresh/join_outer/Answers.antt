@@ -4,8 +4,8 @@ use Rattle.vc_joins.specs.Answers.{seen}
 use Rattle.vc_maps.proofs.Asking.{asked-as}
 use Rattle.vc_maps.proofs.fresh.join_outer.Goals as goal
 
-pub join-requires : goal.join-requires
-join-requires g c = (
+pub join_asking-requires : goal.join_asking-requires
+join_asking-requires g c = (
   search rules,
   (
     c.requires.this_ascends,

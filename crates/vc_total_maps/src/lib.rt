@@ -1,0 +1,4 @@
+//! Total maps: a map, and a value at every key that it lacks.
+#![tactic(auto)]
+
+pub mod total_vec_map;

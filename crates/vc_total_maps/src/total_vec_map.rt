@@ -1,0 +1,133 @@
+//! `TotalVecMap`, a map with a value at every key.
+ghost use Rattle.std.specs.Prelude.{◌≡◌, [], not, IfOk, IsTrue};
+ghost use Rattle.std.specs.List.{filter};
+ghost use Rattle.vc_sets.specs.SetOf.{ClonesAreEqual};
+ghost use Rattle.vc_total_maps.specs.TotalMap.{total_map, at, NoneIsDefault, IsClonedMap};
+
+mod arithmetic;
+mod combine;
+mod comparisons;
+mod numbers;
+
+use std::alloc::{AllocError, Allocator, Global};
+use std::default::MadeWith;
+use std::marker::Model;
+use std::ops::Index;
+use vc_maps::vec_map::{AbstractVecMap, VecMap};
+
+/// A map with a value at every key: a `VecMap`, and a default for each key that it lacks. No key is mapped to a value that equals
+/// the default.
+///
+/// Contracts see it as the list of its pairs and the default.
+///
+/// ```
+/// let calls: VecMap<u16, u32, 4> = VecMap::single(alloc, (22, 3))?;
+/// let counts = TotalVecMap::new(calls, 0);
+/// assert!(counts[&22] == 3 && counts[&80] == 0);
+/// ```
+#[derive(Drop)]
+pub struct TotalVecMap<K: Ord, V: Eq, const N: usize, A: Allocator = Global> {
+    mappings: VecMap<K, V, N, A>,
+    default: V,
+}
+
+/// A total map with room for one pair in place.
+pub type TotalVecMap1<K, V> = TotalVecMap<K, V, 1>;
+
+impl<K: Ord, V: Eq, const N: usize, A: Allocator> Model for TotalVecMap<K, V, N, A> {
+    ghost use Rattle.vc_total_maps.specs.TotalMap.{TotalMap, total_map, total_map_code, NoneIsDefault};
+
+    ghost Value = { TotalMap K V };
+
+    ghost coded = { total_map_code K.code V.code };
+
+    ghost view = { λ m. total_map m.mappings m.default };
+
+    ghost invariant = { λ m. NoneIsDefault K.cmp V.eq (total_map m.mappings m.default) };
+}
+
+impl<K: Ord, V: Eq, const N: usize, A: Allocator> TotalVecMap<K, V, N, A> {
+    /// The pairs whose values differ from the default. Takes no memory.
+    pub fn non_default_mappings(&self) -> &VecMap<K, V, N, A>
+        ensures pairs { result.now ≡ self.now.mappings }
+        ensures differ { NoneIsDefault K.cmp V.eq self.now }
+    {
+        &self.mappings
+    }
+
+    /// The value at each key that is not mapped. Takes no memory.
+    pub fn default_value(&self) -> &V
+        ensures { result.now ≡ self.now.default }
+    {
+        &self.default
+    }
+}
+
+/// The value at a key: the one of an equal key, and else the default. Searches by halving, and takes no memory.
+impl<'a, K: Ord, V: Eq, const N: usize, A: Allocator> Index<&'a K> for TotalVecMap<K, V, N, A> {
+    type Output = V;
+
+    ghost index_gives = { λ m k v. v ≡ at K.cmp m k.now };
+
+    fn index(&self, key: &'a K) -> &V {
+        match self.mappings.get(key) {
+            Some(value) => value,
+            None => &self.default,
+        }
+    }
+}
+
+impl<K: Ord + Drop, V: Eq + Drop, const N: usize, A: Allocator + Copy> TotalVecMap<K, V, N, A>
+where
+    (K, V): MadeWith<A>,
+{
+    /// The map with one value at every key. Takes no memory.
+    pub fn constant(alloc: A, value: V) -> Self
+        ensures { result ≡ total_map [] value }
+    {
+        TotalVecMap {
+            mappings: VecMap::empty(alloc),
+            default: value,
+        }
+    }
+
+    /// The map with the values of `map`, and `default` at each key that it lacks.
+    ///
+    /// Pairs with a value that equals the default are dropped: at such a key stands the default itself. Takes no memory.
+    pub fn new(mut map: VecMap<K, V, N, A>, default: V) -> Self
+        ensures { result ≡ total_map (filter (λ p. not (V.eq p.1 default)) map) default }
+    {
+        map.retain(
+            |pair: &(K, V)| -> bool
+                ensures { result ≡ not (V.eq pair.now.1 default) }
+            { pair.1 != default },
+        );
+        TotalVecMap {
+            mappings: map,
+            default,
+        }
+    }
+}
+
+impl<K: Ord + Clone + Drop, V: Eq + Clone + Drop, const N: usize, A: Allocator + Copy> TotalVecMap<
+    K,
+    V,
+    N,
+    A,
+>
+where
+    (K, V): MadeWith<A>,
+{
+    /// A copy, pair by pair, and of the default.
+    ///
+    /// Takes memory where there are more than `N` pairs, and as the clones do; refused, it drops what was copied.
+    pub fn clone(&self) -> Result<Self, AllocError>
+        requires keys { ClonesAreEqual K.cmp K.is_clone }
+        requires values { (x y : V) → V.is_clone x y → IsTrue (V.eq x y) }
+        ensures { IfOk result (IsClonedMap K.is_clone V.is_clone self.now) }
+    {
+        let mappings = self.mappings.clone()?;
+        let default = self.default.clone()?;
+        Ok(TotalVecMap { mappings, default })
+    }
+}
