@@ -5,7 +5,11 @@ pub use Rattle.vc_btree_maps.specs.Pairs
 pub use Rattle.vc_joins.specs.Answers
 pub use Rattle.vc_joins.specs.Entries
 pub use Rattle.vc_joins.specs.Join
+pub use Rattle.vc_joins.specs.Laws as JoinLaws
 pub use Rattle.vc_joins.specs.Question
+pub use Rattle.vc_joins.specs.declared.question.JoinKind
+pub use Rattle.vc_joins.specs.declared.question.OuterJoinArg
+pub use Rattle.vc_maps.specs.Iterating as MapIterating
 pub use Rattle.vc_merge.specs.Ascending
 pub use Rattle.vc_merge.specs.Chain
 pub use Rattle.vc_merge.specs.Count

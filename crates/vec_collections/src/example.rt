@@ -1,12 +1,17 @@
 //! The example of the README, as a user writes it who names this crate alone. Its contracts are in the words of the subject.
 ghost use Rattle.std.specs.Prelude.{◌≡◌, ◌||◌, ◌&&◌, ◌↔◌, not, IfOk, OnOk, IsTrue, ℕ};
+ghost use Rattle.std.specs.Option.{option_copied};
 ghost use Rattle.std.specs.Ordering.{nat_cmp};
 ghost use Rattle.vec_collections.specs.Ascending.{member};
+ghost use Rattle.vec_collections.specs.Entries.{value_at};
 ghost use Rattle.vec_collections.specs.Map.{lookup, IsInserted};
 ghost use Rattle.vec_collections.specs.SetOf.{exactly_one};
 
 use crate::radix_tree::{AbstractRadixTree, AbstractRadixTreeMut, RadixTree};
-use crate::{AbstractVecSet, VecSet, difference, intersection, symmetric_difference, union};
+use crate::{
+    AbstractVecMap, AbstractVecSet, VecMap, VecSet, difference, intersection, symmetric_difference,
+    union,
+};
 use std::alloc::{AllocError, Global};
 
 /// The tags of an article, of which four need no allocation.
@@ -59,4 +64,14 @@ pub fn set_port(
     let had = ports.get(server).copied();
     ports.insert(server, port)?;
     Ok(had)
+}
+
+/// The stock of a shop: how many pieces it has of each article, of which four need no allocation.
+pub type Stock = VecMap<u32, u32, 4>;
+
+/// How many pieces of an article there are.
+pub fn pieces(stock: &Stock, article: u32) -> Option<&u32>
+    ensures { option_copied result ≡ value_at nat_cmp stock.now article }
+{
+    stock.get(&article)
 }

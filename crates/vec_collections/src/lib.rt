@@ -1,7 +1,7 @@
 //! Small sorted sets, radix trees that are always canonical, and filters of paths.
 //!
-//! A user names this crate alone: it exports the modules `merge`, `iterators`, `vec_set`, `vec_map`, `total_vec_set`, `total_vec_map`, `btree_map`, `radix_tree` and `path_filter` of
-//! the crates below it, and the items of `vec_set` also at its root.
+//! A user names this crate alone: it exports the modules `merge`, `iterators`, `vec_set`, `vec_map`, `total_vec_set`, `total_vec_map`, `btree_map`, `radix_tree`,
+//! `path_filter`, `macros` and `laws` of the crates below it, and the items of `vec_set` and `vec_map` also at its root.
 #![tactic(auto)]
 
 mod example;
@@ -17,7 +17,9 @@ pub mod merge {
 
 /// Iterators that ascend, and the test whether a list does.
 pub mod iterators {
-    pub use vc_merge::iterators::{SortedByItem, SortedByKey, VecSetIter, ascends};
+    pub use vc_merge::iterators::{
+        SortedByItem, SortedByKey, VecMapIter, VecSetIter, ascends, ascends_by_key,
+    };
 }
 
 /// Small sets as ascending lists.
@@ -28,7 +30,7 @@ pub mod vec_set {
     };
 }
 
-/// Small maps as ascending lists of pairs.
+/// Small maps as lists of pairs that ascend by key, and their joins.
 pub mod vec_map {
     pub use vc_joins::question::{JoinKind, OuterJoinArg};
     pub use vc_maps::vec_map::{
@@ -70,6 +72,7 @@ pub mod path_filter {
 
 /// The laws of the words that contracts cite. Each function does nothing: code that calls one has its law in the proof.
 pub mod laws {
+    pub use vc_joins::laws::{joins_of_functions, kinds_are_as_named};
     pub use vc_merge::laws::{
         members_are_elements, members_tell_the_list, runs_are_beginnings, script_is_one, ticks_stay,
     };
@@ -87,6 +90,10 @@ pub mod laws {
 }
 
 pub use iterators::VecSetIter;
+pub use vec_map::{
+    AbstractVecMap, JoinKind, OuterJoinArg, VecMap, VecMap1, inner_join, left_join, outer_join,
+    right_join,
+};
 pub use vec_set::{
     AbstractVecSet, SetOp, SetTest, VecSet, VecSet2, difference, intersection,
     symmetric_difference, union,
