@@ -96,7 +96,7 @@ where
 
     /// Binds a key to a value. A known key is replaced together with its value, which is handed back.
     ///
-    /// Searches by halving, and moves the pairs behind a new one. It takes memory only for a new key, where `N` or more pairs are
+    /// Searches the list, and moves the pairs behind a new one. It takes memory only for a new key, where `N` or more pairs are
     /// held; refused, it leaves the map as it was and drops the key and the value.
     pub fn insert(&mut self, key: K, value: V) -> Result<Option<V>, AllocError>
         ensures old { IfOk result (λ old. old ≡ value_at K.cmp self.old key) }
@@ -142,7 +142,7 @@ pub trait AbstractVecMap<K: Ord, V> {
         self.as_slice().is_empty()
     }
 
-    /// The value at a key that is equal to `key`. Searches by halving, and takes no memory.
+    /// The value at a key that is equal to `key`. Searches the list, and takes no memory.
     fn get<'a>(&'a self, key: &K) -> Option<&'a V>
     where
         K: 'a,

@@ -63,7 +63,7 @@ impl<K: Ord, V: Eq, const N: usize, A: Allocator> TotalVecMap<K, V, N, A> {
     }
 }
 
-/// The value at a key: the one of an equal key, and else the default. Searches by halving, and takes no memory.
+/// The value at a key: the one of an equal key, and else the default. Searches the list, and takes no memory.
 impl<'a, K: Ord, V: Eq, const N: usize, A: Allocator> Index<&'a K> for TotalVecMap<K, V, N, A> {
     type Output = V;
 

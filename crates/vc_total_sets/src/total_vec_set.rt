@@ -74,7 +74,7 @@ impl<T: Ord, const N: usize, A: Allocator> TotalVecSet<T, N, A> {
         self.elements.is_empty() && self.negated
     }
 
-    /// Whether `value` is in the set. Searches the list by halving, and takes no memory.
+    /// Whether `value` is in the set. Searches the list, and takes no memory.
     pub fn contains(&self, value: &T) -> bool
         ensures { result ≡ has T.cmp self.now value.now }
     {
@@ -110,7 +110,7 @@ impl<T: Ord + MadeWith<A> + Drop, const N: usize, A: Allocator + Copy> TotalVecS
     /// Puts a value in. Into a list that is not negated it goes in the place of an equal element if there is one; from one that is
     /// negated an equal element is taken out.
     ///
-    /// Searches the list by halving, and moves the elements behind. It takes memory only for a new element of a list that is not negated,
+    /// Searches the list, and moves the elements behind. It takes memory only for a new element of a list that is not negated,
     /// where `N` or more are held; refused, it leaves the set as it was and drops the value.
     pub fn insert(&mut self, that: T) -> Result<(), AllocError>
         ensures negated { self.new.negated ≡ self.old.negated }
@@ -148,7 +148,7 @@ impl<T: Ord + Clone + MadeWith<A> + Drop, const N: usize, A: Allocator + Copy> T
     /// Takes a value out. From a list that is not negated an equal element is taken; into one that is negated a clone of the value goes, in
     /// the place of an equal element if there is one.
     ///
-    /// Searches the list by halving, and moves the elements behind. It can be refused only where the list is negated, at the clone or
+    /// Searches the list, and moves the elements behind. It can be refused only where the list is negated, at the clone or
     /// at the memory for a new element; refused, it leaves the set as it was.
     pub fn remove(&mut self, that: &T) -> Result<(), AllocError>
         requires clones { ClonesAreEqual T.cmp T.is_clone }

@@ -13,8 +13,10 @@ pub use Rattle.vc_maps.specs.Iterating as MapIterating
 pub use Rattle.vc_merge.specs.Ascending
 pub use Rattle.vc_merge.specs.Chain
 pub use Rattle.vc_merge.specs.Count
+pub use Rattle.vc_merge.specs.Fronts
 pub use Rattle.vc_merge.specs.Laws as MergeLaws
 pub use Rattle.vc_merge.specs.Script
+pub use Rattle.vc_merge.specs.Takes
 pub use Rattle.vc_merge.specs.Yielded
 pub use Rattle.vc_path_filter.specs.Allowed
 pub use Rattle.vc_sets.specs.Algebra

@@ -1,0 +1,181 @@
+//! Worked cases of total maps, with answers from outside.
+
+use std::alloc::{AllocError, Global};
+use std::hash::{DefaultHasher, Hash, Hasher};
+use std::ops::{Add, Div, Mul, Sub};
+use std::test::Fail;
+use vec_collections::total_vec_map::{TotalVecMap, TotalVecMap1};
+use vec_collections::vec_map::VecMap1;
+
+/// A number whose arithmetic can always be done: it stays at the greatest or the least number, and what is divided by 0 is 0.
+#[derive(Clone, Copy, Debug, Default, PartialEq, Eq, PartialOrd, Ord, Hash)]
+struct Number(i32);
+
+impl Add for Number {
+    type Output = Number;
+
+    fn add(self, that: Number) -> Number {
+        Number(self.0.saturating_add(that.0))
+    }
+}
+
+impl Sub for Number {
+    type Output = Number;
+
+    fn sub(self, that: Number) -> Number {
+        Number(self.0.saturating_sub(that.0))
+    }
+}
+
+impl Mul for Number {
+    type Output = Number;
+
+    fn mul(self, that: Number) -> Number {
+        Number(self.0.saturating_mul(that.0))
+    }
+}
+
+impl Div for Number {
+    type Output = Number;
+
+    fn div(self, that: Number) -> Number {
+        Number(self.0.checked_div(that.0).unwrap_or(0))
+    }
+}
+
+type Numbers = TotalVecMap1<u32, Number>;
+
+/// A default, and the keys with their values.
+type Listed = (i32, &'static [(u32, i32)]);
+
+/// Two maps, and what the operations make of them.
+#[derive(Clone, Copy)]
+struct Row {
+    left: Listed,
+    right: Listed,
+    sum: Listed,
+    difference: Listed,
+    product: Listed,
+    quotient: Listed,
+    supremum: Listed,
+    infimum: Listed,
+}
+
+const ROWS: [Row; 3] = [
+    Row {
+        left: (0, &[(5, 1)]),
+        right: (2, &[(5, 1)]),
+        sum: (2, &[]),
+        difference: (-2, &[(5, 0)]),
+        product: (0, &[(5, 1)]),
+        quotient: (0, &[(5, 1)]),
+        supremum: (2, &[(5, 1)]),
+        infimum: (0, &[(5, 1)]),
+    },
+    Row {
+        left: (1, &[(1, 6), (3, 4)]),
+        right: (2, &[(2, 7), (3, -4)]),
+        sum: (3, &[(1, 8), (2, 8), (3, 0)]),
+        difference: (-1, &[(1, 4), (2, -6), (3, 8)]),
+        product: (2, &[(1, 12), (2, 7), (3, -16)]),
+        quotient: (0, &[(1, 3), (3, -1)]),
+        supremum: (2, &[(1, 6), (2, 7), (3, 4)]),
+        infimum: (1, &[(1, 2), (3, -4)]),
+    },
+    Row {
+        left: (3, &[]),
+        right: (3, &[]),
+        sum: (6, &[]),
+        difference: (0, &[]),
+        product: (9, &[]),
+        quotient: (1, &[]),
+        supremum: (3, &[]),
+        infimum: (3, &[]),
+    },
+];
+
+/// The total map of a default and its pairs.
+fn numbers(alloc: Global, listed: Listed) -> Result<Numbers, AllocError> {
+    let mut map = VecMap1::empty(alloc);
+    for (key, value) in listed.1 {
+        map.insert(*key, Number(*value))?;
+    }
+    Ok(TotalVecMap::new(map, Number(listed.0)))
+}
+
+/// Whether the map has the default and the pairs.
+fn has(map: &Numbers, listed: Listed) -> bool {
+    let pairs = map.non_default_mappings().as_ref();
+    map.default_value().0 == listed.0
+        && pairs.len() == listed.1.len()
+        && pairs.iter().zip(listed.1).all(|(pair, (key, value))| {
+            pair.0 == *key && pair.1.0 == *value
+        })
+}
+
+/// Whether arithmetic makes of the maps what the row says.
+fn computes(left: &Numbers, right: &Numbers, row: &Row) -> Result<bool, AllocError> {
+    let sum = (left.clone()? + right.clone()?)?;
+    let difference = (left.clone()? - right.clone()?)?;
+    let product = (left.clone()? * right.clone()?)?;
+    let quotient = (left.clone()? / right.clone()?)?;
+    Ok(
+        has(&sum, row.sum)
+            && has(&difference, row.difference)
+            && has(&product, row.product)
+            && has(&quotient, row.quotient),
+    )
+}
+
+/// Whether the bounds of the maps are what the row says.
+fn bounds(left: &Numbers, right: &Numbers, row: &Row) -> Result<bool, AllocError> {
+    Ok(has(&left.supremum(right)?, row.supremum) && has(&left.infimum(right)?, row.infimum))
+}
+
+#[test]
+fn each_case_is_as_worked_out(rt: HostRuntime) -> Result<(), Fail> {
+    for row in &ROWS {
+        let left = numbers(rt.alloc(), row.left)?;
+        let right = numbers(rt.alloc(), row.right)?;
+        let at = (row.left, row.right);
+        assert!(rt; computes(&left, &right, row)?, "{at:?}");
+        assert!(rt; bounds(&left, &right, row)?, "{at:?}");
+    }
+    Ok(())
+}
+
+/// The hash of a map.
+fn hash_of(map: &Numbers) -> u64 {
+    let mut hasher = DefaultHasher::new();
+    map.hash(&mut hasher);
+    hasher.finish()
+}
+
+#[test]
+fn maps_are_read_and_compared(rt: HostRuntime) -> Result<(), Fail> {
+    let map = numbers(rt.alloc(), (1, &[(2, 1), (4, 7)]))?;
+    assert!(rt; has(&map, (1, &[(4, 7)])));
+    assert!(rt; map[&4].0 == 7 && map[&2].0 == 1);
+    let one = Numbers::constant(rt.alloc(), Number(1));
+    let two = Numbers::constant(rt.alloc(), Number(2));
+    assert!(rt; one != two && one < two && hash_of(&one) == hash_of(&two));
+    assert_eq!(rt; map.clone()?, map);
+    let text = format!(in rt.alloc(); "{map:?}")?;
+    assert_eq!(rt;
+        text.as_str(),
+        "TotalVecMap { values: {4: Number(7)}, default: Number(1) }"
+    );
+    Ok(())
+}
+
+#[test]
+fn maps_of_one_number(rt: HostRuntime) -> Result<(), Fail> {
+    type Counts = TotalVecMap1<u32, u8>;
+    let zero = Counts::zero(rt.alloc());
+    let one = Counts::one(rt.alloc());
+    assert!(rt; zero.is_zero() && !zero.is_one() && zero[&3] == 0);
+    assert!(rt; one.is_one() && !one.is_zero() && one[&3] == 1);
+    assert!(rt; Counts::min_value(rt.alloc()) == zero);
+    assert_eq!(rt; Counts::max_value(rt.alloc())[&3], 255);
+    Ok(())
+}
