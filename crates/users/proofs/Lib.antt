@@ -1,2 +1,3 @@
+mod Pointwise
 mod Removing
 mod Turns

@@ -2,6 +2,7 @@
 #![tactic(auto)]
 
 pub mod configuration;
+pub mod counters;
 pub mod intervals;
 pub mod paths;
 pub mod tags;

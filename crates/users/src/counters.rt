@@ -1,0 +1,66 @@
+//! Counters by name, most of which have one count: each of the others takes room for itself.
+
+ghost use Rattle.std.specs.Prelude.{◌≡◌, ◌+◌, ◌*◌, max, Ok, ℕ, IfOk};
+ghost use Rattle.users.specs.Counts.{count_of, bounded};
+
+use std::alloc::{AllocError, Global};
+use vec_collections::total_vec_map::TotalVecMap;
+
+/// A count at every name.
+#[derive(Drop)]
+pub struct Counters {
+    counts: TotalVecMap<u32, u64, 8>,
+}
+
+impl Counters {
+    /// One count at every name.
+    pub fn all(alloc: Global, count: u64) -> Self
+        ensures { (name : ℕ) → count_of result name ≡ count }
+    {
+        Counters {
+            counts: TotalVecMap::constant(alloc, count),
+        }
+    }
+
+    /// The count of a name.
+    pub fn count(&self, name: u32) -> u64
+        ensures { result ≡ count_of self.now name }
+    {
+        self.counts[&name]
+    }
+
+    /// The sums of two counts, or the greatest number where a sum does not fit.
+    pub fn sum(&self, other: &Self) -> Result<Self, AllocError>
+        ensures { IfOk result (λ made. (name : ℕ) → count_of made name ≡ bounded (count_of self.now name + count_of other.now name)) }
+    {
+        let counts = self.counts.combine_ref(
+            &other.counts,
+            |x: &u64, y: &u64| -> Result<u64, AllocError>
+                ensures { result ≡ Ok (bounded (x.now + y.now)) }
+            { Ok(x.saturating_add(*y)) },
+        )?;
+        Ok(Counters { counts })
+    }
+
+    /// The greater of two counts.
+    pub fn greater(&self, other: &Self) -> Result<Self, AllocError>
+        ensures { IfOk result (λ made. (name : ℕ) → count_of made name ≡ max (count_of self.now name) (count_of other.now name)) }
+    {
+        let counts = self.counts.supremum(&other.counts)?;
+        Ok(Counters { counts })
+    }
+
+    /// Each count so many times, or the greatest number where that does not fit.
+    pub fn scaled(&self, alloc: Global, factor: u64) -> Result<Self, AllocError>
+        ensures { IfOk result (λ made. (name : ℕ) → count_of made name ≡ bounded (count_of self.now name * factor)) }
+    {
+        let factors = TotalVecMap::constant(alloc, factor);
+        let counts = self.counts.combine_ref(
+            &factors,
+            |x: &u64, y: &u64| -> Result<u64, AllocError>
+                ensures { result ≡ Ok (bounded (x.now * y.now)) }
+            { Ok(x.saturating_mul(*y)) },
+        )?;
+        Ok(Counters { counts })
+    }
+}
