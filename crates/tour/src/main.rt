@@ -7,6 +7,7 @@ ghost use Rattle.users.specs.Points.{holds};
 use std::alloc::{AllocError, Global};
 use std::io;
 use users::configuration::History;
+use users::counters::Counters;
 use users::intervals::Intervals;
 use users::paths::Files;
 use users::tags::{Found, Index, both};
@@ -17,6 +18,7 @@ fn main(rt: HostRuntime) -> io::Result<()> {
     show_intervals(&rt, alloc)?;
     show_tags(&rt, alloc)?;
     show_configuration(&rt, alloc)?;
+    show_counters(&rt, alloc)?;
     show_paths(&rt, alloc)
 }
 
@@ -107,6 +109,34 @@ fn show_configuration(rt: &impl Print, alloc: Global) -> io::Result<()> {
     println!(rt;
         "from 0 to 2 the port changed: {}",
         changes.has(b"net/port")
+    )
+}
+
+const APPLES: u32 = 1;
+
+const PEARS: u32 = 2;
+
+const PLUMS: u32 = 3;
+
+/// What is in two baskets.
+fn show_counters(rt: &impl Print, alloc: Global) -> io::Result<()> {
+    let apples = Counters::one(alloc, APPLES, 3)?;
+    let pears = Counters::one(alloc, PEARS, 2)?;
+    let basket = apples.sum(&pears)?;
+    let twice = basket.scaled(alloc, 2)?;
+    let at_least_five = twice.greater(&Counters::all(alloc, 5))?;
+    show_basket(rt, "a basket", &basket)?;
+    show_basket(rt, "twice as much", &twice)?;
+    show_basket(rt, "at least five of each", &at_least_five)
+}
+
+/// The counts of three fruits.
+fn show_basket(rt: &impl Print, what: &str, counts: &Counters) -> io::Result<()> {
+    println!(rt;
+        "{what}: apples {}, pears {}, plums {}",
+        counts.count(APPLES),
+        counts.count(PEARS),
+        counts.count(PLUMS)
     )
 }
 

@@ -1,9 +1,10 @@
 //! Counters by name, most of which have one count: each of the others takes room for itself.
 
-ghost use Rattle.std.specs.Prelude.{◌≡◌, ◌+◌, ◌*◌, max, Ok, ℕ, IfOk};
+ghost use Rattle.std.specs.Prelude.{◌≡◌, ◌==◌, ◌+◌, ◌*◌, cond, max, Ok, ℕ, IfOk};
 ghost use Rattle.users.specs.Counts.{count_of, bounded};
 
 use std::alloc::{AllocError, Global};
+use vec_collections::VecMap;
 use vec_collections::total_vec_map::TotalVecMap;
 
 /// A count at every name.
@@ -20,6 +21,14 @@ impl Counters {
         Counters {
             counts: TotalVecMap::constant(alloc, count),
         }
+    }
+
+    /// A count at one name, and none at the others.
+    pub fn one(alloc: Global, name: u32, count: u64) -> Result<Self, AllocError>
+        ensures { IfOk result (λ made. (other : ℕ) → count_of made other ≡ cond (other == name) count 0) }
+    {
+        let counts = TotalVecMap::new(VecMap::single(alloc, (name, count))?, 0);
+        Ok(Counters { counts })
     }
 
     /// The count of a name.
