@@ -8,6 +8,7 @@ ghost use Rattle.vc_merge.specs.Showing.{ShowsItems};
 mod changes;
 mod comparisons;
 mod conversions;
+mod in_place;
 mod iteration;
 mod joins;
 
