@@ -1,10 +1,11 @@
 -- What is asked of two maps: each question is one that the kind of the join asks, and may be asked where its parts may.
-use Rattle.std.proofs.Common.{◌≡◌, Bool, true, false, cond, List, Option, Some, None, refl, sym, subst}
+use Rattle.std.proofs.Common.{◌≡◌, Bool, true, false, cond, List, Option, Some, None, Result, Ok, Err, IsOk, OnOk, OnErr, refl, sym, subst}
+use mathlib.Core.Bool.{true≢false}
 use Rattle.std.specs.declared.cmp.Ordering.{Ordering}
 use Rattle.vc_joins.specs.declared.question.OuterJoinArg.{OuterJoinArg}
 use Rattle.vc_joins.specs.declared.question.OuterJoinArg.TheVariants.{Left, Right, Both}
 use Rattle.vc_joins.specs.declared.question.JoinKind.{JoinKind}
-use Rattle.vc_joins.specs.Entries.{entry_at}
+use Rattle.vc_joins.specs.Entries.{AscendsByKey, entry_at}
 use Rattle.vc_joins.specs.Join.{IsAsked, IsJoin, IsJoinBy}
 use Rattle.vc_joins.specs.Question.{asks, asks_left, asks_right, asked, left_spelling}
 use Rattle.vc_joins.proofs.Functions.{joins_of_functions}
@@ -39,3 +40,19 @@ module _ {K V W : Type 0} (cmp : K → K → Ordering) (kind : JoinKind) where
 
     pub join_by-of : (xs xs' : List (K × V)) (ys ys' : List (K × W)) (zs : List (K × X)) → xs' ≡ xs → ys' ≡ ys → IsJoin cmp kind left_spelling xs' ys' May Keeps zs → (h : OuterJoinArg K V W → Option X) → IsJoinBy cmp kind left_spelling xs ys May h zs
     join_by-of xs xs' ys ys' zs e f h = joins_of_functions cmp May Keeps kind left_spelling xs ys zs (join-of xs xs' ys ys' zs e f h)
+
+-- what follows where a call is not refused
+pub on-ok : {X E : Type 0} (result : Result X E) {P Q : Type 0} → (P → Q) → OnOk result P → OnOk result Q
+on-ok (Ok x) f p = f p
+on-ok (Err e) f p = tt
+
+-- what holds where a call is not refused, if it never is
+pub at-ok : {X E : Type 0} (result : Result X E) {P : Type 0} → IsOk result → OnOk result P → P
+at-ok (Ok x) is p = p
+at-ok (Err e) is p = absurd (true≢false (sym is))
+
+-- a list of pairs that became a join, or was left as it was, ascends
+pub join-ascends : {E K V W : Type 0} (cmp : K → K → Ordering) (kind : JoinKind) (May : OuterJoinArg K V W → Option V → Type 0) (Keeps : OuterJoinArg K V W → K → Type 0) (result : Result (Unit {0}) E) (xs : List (K × V)) (ys : List (K × W)) (zs : List (K × V))
+    → OnOk result (IsJoin cmp kind left_spelling xs ys May Keeps zs) → OnErr result (zs ≡ xs) → AscendsByKey cmp xs → AscendsByKey cmp zs
+join-ascends cmp kind May Keeps (Ok x) xs ys zs j e h = j.ascends
+join-ascends cmp kind May Keeps (Err r) xs ys zs j e h = subst (λ l. AscendsByKey cmp l) (sym e) h

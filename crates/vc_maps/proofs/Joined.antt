@@ -1,15 +1,16 @@
 -- A merge that asks at its events builds the join of its two maps.
-use Rattle.std.proofs.Common.{◌≡◌, ℕ, zero, suc, ◌+◌, ◌<◌, length, get_or, add-one, arith, Bool, true, false, List, [], ◌∷◌, ◌++◌, take, cond, append-nil, Option, Some, None, Ok, Err, ◌⊎◌, refl, sym, ap, subst, ◌∙◌}
+use Rattle.std.proofs.Common.{◌≡◌, ℕ, zero, suc, ◌+◌, ◌<◌, length, get_or, add-one, arith, Bool, true, false, List, [], ◌∷◌, ◌++◌, take, cond, append-nil, Option, Some, None, Result, Ok, Err, IsOk, ◌⊎◌, refl, sym, ap, subst, ◌∙◌}
 use Rattle.std.specs.Bool.{MatchBool}
 use Rattle.std.specs.Option.{MatchOption}
 use Rattle.std.specs.Cmp.{IsTotalOrder, tied_itself}
+use Rattle.std.specs.declared.alloc.AllocError.{AllocError}
 use Rattle.std.specs.declared.cmp.Ordering.{Ordering}
 use Rattle.std.specs.declared.cmp.Ordering.TheVariants.{Equal}
 use Rattle.vc_merge.specs.Building.{Skips}
-use Rattle.vc_merge.specs.Chain.{Answer, Allows, Finishes, Stops}
+use Rattle.vc_merge.specs.Chain.{Answer, Allows, Finishes, Stops, IsMerged}
 use Rattle.vc_merge.specs.Gathering.{Appends, Adds, IsBuilding, IsBuilt}
 use Rattle.vc_merge.specs.Script.{collision}
-use Rattle.vc_merge.proofs.Builds.{appends-nothing, appends-append, appends-none, merged-builds}
+use Rattle.vc_merge.proofs.Builds.{appends-nothing, appends-append, appends-none, merged-builds, merged-is_ok}
 use Rattle.vc_joins.specs.declared.question.OuterJoinArg.{OuterJoinArg}
 use Rattle.vc_joins.specs.declared.question.OuterJoinArg.TheVariants.{Left, Right, Both}
 use Rattle.vc_joins.specs.declared.question.JoinKind.{JoinKind}
@@ -54,11 +55,26 @@ module _ {K V W X : Type 0} (May : OuterJoinArg K V W → Option X → Type 0) (
       let g = answer-adds a r old new m e in
       appends-one (λ a. AnswerAdds May Keeps (Some a)) [] a old old new g.0 (appends-nothing (λ a. AnswerAdds May Keeps (Some a)) old old refl) g.1 g.2
 
+-- what holds in either case, and what holds beside it
+always : (P Q R : Type 0) (b : Bool) → MatchBool b (P × Q) (P × R) → P
+always P Q R true h = h.0
+always P Q R false h = h.0
+
+beside : (P Q R : Type 0) (b : Bool) → MatchBool b (P × Q) (P × R) → MatchBool b Q R
+beside P Q R true h = h.1
+beside P Q R false h = h.1
+
 -- what holds of the first elements of two lists
 pub at-heads : {X Y : Type 0} (P : X → Y → Type 0) (xs : List X) (ys : List Y) (x : X) (y : Y) → 0 < length xs → 0 < length ys → x ≡ get_or xs 0 x → y ≡ get_or ys 0 y → P x y → AtHeads P xs ys
 at-heads P [] ys x y h k e f p = absurd (omega arith)
 at-heads P (z ∷ xs) [] x y h k e f p = absurd (omega arith)
 at-heads P (z ∷ xs) (w ∷ ys) x y h k e f p = subst (λ v. P v w) e (subst (λ v. P x v) f p)
+
+-- what follows of the first elements of two lists
+pub heads-weaker : {X Y : Type 0} (P Q : X → Y → Type 0) (xs : List X) (ys : List Y) → ((x : X) (y : Y) → P x y → Q x y) → AtHeads P xs ys → AtHeads Q xs ys
+heads-weaker P Q [] ys f p = p
+heads-weaker P Q (x ∷ xs) [] f p = p
+heads-weaker P Q (x ∷ xs) (y ∷ ys) f p = f x y p
 
 -- both lists have a first element where something holds of these
 pub heads-some : {X Y : Type 0} (P : X → Y → Type 0) (xs : List X) (ys : List Y) → AtHeads P xs ys → (0 < length xs) × (0 < length ys)
@@ -119,3 +135,28 @@ module _ {K V W X M N : Type 0} (May : OuterJoinArg K V W → Option X → Type 
       (subst (λ z. IsBuilt (by_key cmp) (AnswersEvent kind left_spelling May Keeps) (op.left s) (op.right s) z zs) e
       (subst (λ z. IsBuilt (by_key cmp) (AnswersEvent kind left_spelling May Keeps) (op.left s) (op.right s) (built s) z) (sym (k b.0)) b.1))) in
       join-built total kind left_spelling (λ i j h. tied_itself total i) May Keeps kept xs ys zs built_of
+
+  -- what a state that asks and is never refused answers at each event
+  pub record IsAskingAlways : Type 0 where
+    pub from_a : (s t : M) (n : ℕ) (answer : Answer) → op.gives.from_a s n answer t
+        → MatchBool (asks_left kind) (IsOk answer × Adds built name (λ p. AnswerAdds May Keeps (Some (Left p.0 p.1))) (take n (op.left s)) s answer t) (IsOk answer × Skips built name s answer t)
+    pub from_b : (s t : M) (n : ℕ) (answer : Answer) → op.gives.from_b s n answer t
+        → MatchBool (asks_right kind) (IsOk answer × Adds built name (λ q. AnswerAdds May Keeps (Some (Right q.0 q.1))) (take n (op.right s)) s answer t) (IsOk answer × Skips built name s answer t)
+    pub collision : (s t : M) (answer : Answer) → op.gives.collision s answer t
+        → IsOk answer × AtHeads (λ p q. Adds built name (λ a. AnswerAdds May Keeps (Some a)) (Both p.0 p.1 q.1 ∷ []) s answer t) (op.left s) (op.right s)
+
+  always-asking : IsAskingAlways → IsAsking
+  always-asking is = record {
+    from_a = λ s t n answer h. beside _ _ _ (asks_left kind) (is.from_a s t n answer h);
+    from_b = λ s t n answer h. beside _ _ _ (asks_right kind) (is.from_b s t n answer h);
+    collision = λ s t answer h. (is.collision s t answer h).1;
+  }
+
+  -- such a merge leaves the join, in the list that it began with
+  pub always-join : {cmp : K → K → Ordering} → IsTotalOrder cmp → ((a : OuterJoinArg K V W) (k : K) → asks kind a ≡ true → Keeps a k → cmp (shown_key a) k ≡ Equal)
+      → (s t : M) (result : Result (Unit {0}) AllocError) → IsMerged op (by_key cmp) s result t → IsAskingAlways → built s ≡ []
+      → (name t ≡ name s) × IsJoin cmp kind left_spelling (op.left s) (op.right s) May Keeps (built t)
+  always-join {cmp} total kept s t result m is e =
+      let done = merged-is_ok op (by_key cmp) s t result m (λ s t n answer h. always _ _ _ (asks_left kind) (is.from_a s t n answer h)) (λ s t n answer h. always _ _ _ (asks_right kind) (is.from_b s t n answer h)) (λ s t answer h. (is.collision s t answer h).0) in
+      let named = merged-builds built name op (AnswersEvent kind left_spelling May Keeps) (asking-builds (always-asking is)) (by_key cmp) s t done in
+      (named.0, merged-join total kept (always-asking is) s t (op.left s) (op.right s) (built t) refl refl e (λ _. refl) done)

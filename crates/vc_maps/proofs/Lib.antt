@@ -2,5 +2,6 @@ pub mod Asked
 pub mod Asking
 pub mod Editing
 pub mod Joined
+pub mod Kept
 pub mod PairSets
 pub mod Retaining

@@ -1,3 +1,5 @@
 pub mod Asking
 pub mod FreshViews
 pub mod Iterating
+pub mod Keeping
+pub mod KeptViews

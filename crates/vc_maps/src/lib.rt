@@ -2,5 +2,6 @@
 #![tactic(auto)]
 
 mod fresh;
+mod in_place;
 mod join;
 pub mod vec_map;

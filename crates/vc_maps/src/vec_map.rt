@@ -8,6 +8,7 @@ ghost use Rattle.vc_merge.specs.Showing.{ShowsItems};
 mod changes;
 mod comparisons;
 pub mod conversions;
+mod in_place;
 mod iteration;
 mod joins;
 

@@ -3,6 +3,7 @@ use Rattle.std.specs.Prelude.{◌≡◌, List, take, drop, slice_range}
 use Rattle.std.specs.Borrow.{MutBor}
 use base.Fml.{GName}
 use Rattle.vc_merge.specs.declared.parts.PartsState.{PartsState}
+use Rattle.vc_merge.specs.declared.parts.Spans.{Spans}
 
 module _ {X : Type 0} where
   -- the list that is merged, as it was lent
@@ -24,6 +25,18 @@ module _ {X : Type 0} where
   -- what is left of the right part
   abbrev pub right_items : PartsState X → List X
   right_items s = drop s.next s.list.now
+
+  -- what was built in a list, by where its parts stand
+  abbrev pub built_at : Spans → List X → List X
+  built_at p l = take p.built l
+
+  -- what is left there of the left part
+  abbrev pub left_at : Spans → List X → List X
+  left_at p l = slice_range l p.start p.end
+
+  -- what is left there of the right part
+  abbrev pub right_at : Spans → List X → List X
+  right_at p l = drop p.next l
 
   -- it builds in that list, has xs built, ys left of the left part and zs of the right one
   pub record Shows (list : GName) (xs ys zs : List X) (s : PartsState X) : Type 0 where

@@ -15,6 +15,19 @@ use std::mem;
 /// The most elements that lie between two parts: enough that what is left of the left part seldom moves.
 const LONGEST_GAP: usize = 64;
 
+/// Where the parts of a list stand that become one in its own places. What was built ends at `built`; what is left of the left part lies
+/// from `start` to `end`, and what is left of the right part from `next` on.
+#[derive(Clone, Copy, Drop)]
+pub struct Spans {
+    pub built: usize,
+    pub start: usize,
+    pub end: usize,
+    pub next: usize,
+    ghost hole: { built ≤ start },
+    ghost left: { start ≤ end },
+    ghost gap: { end ≤ next },
+}
+
 /// A list whose first and last part become one in its own places: what is taken of either is moved to the front.
 ///
 /// What was built stands in front. Behind it lie a hole, what is left of the left part, a gap, and what is left of the right
@@ -38,7 +51,7 @@ pub struct PartsState<'a, T> {
 }
 
 impl<'a, T> PartsState<'a, T> {
-    ghost use Rattle.vc_merge.specs.PartsViews.{lent_list, list_name, built_items, left_items, right_items, Shows};
+    ghost use Rattle.vc_merge.specs.PartsViews.{lent_list, list_name, built_items, left_items, right_items, built_at, left_at, right_at, Shows};
 
     /// The list, whose parts to merge are its first `end` elements and those from `next` on.
     pub fn new(list: &'a mut [T], end: usize, next: usize) -> Self
@@ -55,6 +68,38 @@ impl<'a, T> PartsState<'a, T> {
             start: 0,
             end,
             next,
+        }
+    }
+
+    /// The list, whose parts stand at `spans`.
+    pub fn at(list: &'a mut [T], spans: Spans) -> Self
+        requires { spans.next ≤ length list.old }
+        ensures same_reference { lent_list result ≡ list.entry }
+        ensures built { built_items result ≡ built_at spans list.old }
+        ensures left { left_items result ≡ left_at spans list.old }
+        ensures right { right_items result ≡ right_at spans list.old }
+    {
+        PartsState {
+            list,
+            built: spans.built,
+            start: spans.start,
+            end: spans.end,
+            next: spans.next,
+        }
+    }
+
+    /// Where the parts stand in the list.
+    pub fn spans(&self) -> Spans
+        ensures within { result.next ≤ length (lent_list self.now).now }
+        ensures built { built_at result (lent_list self.now).now ≡ built_items self.now }
+        ensures left { left_at result (lent_list self.now).now ≡ left_items self.now }
+        ensures right { right_at result (lent_list self.now).now ≡ right_items self.now }
+    {
+        Spans {
+            built: self.built,
+            start: self.start,
+            end: self.end,
+            next: self.next,
         }
     }
 

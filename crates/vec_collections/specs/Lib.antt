@@ -4,6 +4,7 @@ pub use Rattle.vc_btree_maps.specs.Keeping
 pub use Rattle.vc_btree_maps.specs.Pairs
 pub use Rattle.vc_joins.specs.Answers
 pub use Rattle.vc_joins.specs.Entries
+pub use Rattle.vc_joins.specs.InPlace as JoinInPlace
 pub use Rattle.vc_joins.specs.Join
 pub use Rattle.vc_joins.specs.Laws as JoinLaws
 pub use Rattle.vc_joins.specs.Question

@@ -1,0 +1,570 @@
+//! Joins in place: values of the left map are moved through the question and back, and its keys stay.
+ghost use Rattle.std.specs.Prelude.{◌≡◌, ◌+◌, ◌<◌, ◌≤◌, true, false, [], ◌∷◌, ◌++◌, Some, IsOk, IfOk, OnOk, OnErr, length, take, drop};
+ghost use Rattle.smallvec.specs.SmallVec.{small_vec_len, HasRoomFor};
+ghost use Rattle.std.specs.List.{AllByRecursion};
+ghost use Rattle.std.specs.Option.{MatchOption};
+ghost use Rattle.vc_joins.specs.declared.question.OuterJoinArg.TheVariants as arg;
+ghost use Rattle.vc_joins.specs.Entries.{AscendsByKey};
+ghost use Rattle.vc_joins.specs.Events.{AnswerAdds};
+ghost use Rattle.vc_joins.specs.Join.{IsAsked, IsJoin, OldKey};
+ghost use Rattle.vc_joins.specs.Question.{asks_right, left_spelling};
+ghost use Rattle.vc_maps.specs.Asking.{AtHeads};
+ghost use Rattle.vc_maps.specs.Keeping.{has_keys, HaveKeys, ClonesKeys, MayAskWith};
+ghost use Rattle.vc_merge.specs.Count.{bound};
+ghost use Rattle.vc_merge.specs.Gathering.{Adds, Appends};
+ghost use Rattle.vc_merge.specs.Building.{Skips};
+ghost use Rattle.vc_merge.specs.PartsViews.{built_items, left_items, right_items, list_name, built_at, left_at, right_at};
+ghost use Rattle.vc_sets.specs.SetOf.{ClonesAreEqual};
+
+use crate::join::{JoinOp, JoinState};
+use smallvec::SmallVec;
+use std::alloc::{AllocError, Allocator};
+use std::default::MadeWith;
+use vc_joins::in_place::Turn;
+use vc_joins::question::{JoinKind, OuterJoinArg};
+use vc_merge::merge::{Count, MergeFromRight, MergeState, MergeStateMut, merge};
+use vc_merge::parts::{PartsState, Spans, open_gap};
+
+/// A map that is built anew in its own places, and one that is only looked at.
+///
+/// `KEYS` is how many clones of its key each pair of the other map has in the list: none, or one if such keys may come in. These are there
+/// from the start, in pairs of the right part of the list, so no event is refused.
+#[derive(Drop)]
+pub struct KeptState<'a, 'b, 'c, K, V, W, A, const KEYS: usize> {
+    list: &'a mut [(K, V)],
+    spans: Spans,
+    right: &'b [(K, W)],
+    alloc: &'c A,
+    ghost within: { spans.next ≤ length list.now },
+}
+
+impl<'a, 'b, 'c, K, V, W, A, const KEYS: usize> MergeState
+    for KeptState<'a, 'b, 'c, K, V, W, A, KEYS> {
+    ghost use Rattle.vc_maps.specs.KeptViews.{left_pairs, right_pairs};
+
+    type A = (K, V);
+
+    type B = (K, W);
+
+    ghost left = { left_pairs };
+
+    ghost right = { right_pairs };
+
+    fn a_slice(&self) -> &[(K, V)] {
+        &self.list[self.spans.start..self.spans.end]
+    }
+
+    fn b_slice(&self) -> &[(K, W)] {
+        self.right
+    }
+}
+
+/// Pairs at which nothing is asked are left to the hole, or passed by.
+impl<'a, 'b, 'c, K: Clone, V, W, A, const KEYS: usize> MergeStateMut
+    for KeptState<'a, 'b, 'c, K, V, W, A, KEYS> {
+    ghost use Rattle.vc_maps.specs.KeptViews.{HasKeys};
+    ghost use Rattle.vc_maps.specs.KeptViews as kept;
+
+    ghost ready = { HasKeys KEYS K.is_clone };
+
+    ghost advances_a = { λ s n take answer t. IsOk answer × Skips kept.built_pairs kept.list_name s answer t };
+
+    ghost skips_b = { λ s n answer t. IsOk answer × Skips kept.built_pairs kept.list_name s answer t };
+
+    fn advance_a(&mut self, n: usize, _take: bool) -> Result<bool, AllocError> {
+        self.spans.start += n;
+        Ok(true)
+    }
+
+    fn skip_b(&mut self, n: usize) -> Result<bool, AllocError> {
+        self.pass_right(n);
+        Ok(true)
+    }
+}
+
+impl<'a, 'b, 'c, K: Clone, V, W, A, const KEYS: usize> KeptState<'a, 'b, 'c, K, V, W, A, KEYS> {
+    ghost use Rattle.vc_maps.specs.KeptViews.{left_pairs, right_pairs, key_pairs, HasKeys, lent_list};
+    ghost use Rattle.vc_maps.specs.KeptViews as kept;
+
+    /// The list, whose parts stand at `spans`, and the pairs of the other map.
+    fn new(list: &'a mut [(K, V)], spans: Spans, right: &'b [(K, W)], alloc: &'c A) -> Self
+        requires { spans.next ≤ length list.old }
+        ensures same_reference { lent_list result ≡ list.entry }
+        ensures built { kept.built_pairs result ≡ built_at spans list.old }
+        ensures left { left_pairs result ≡ left_at spans list.old }
+        ensures right { right_pairs result ≡ right.now }
+        ensures keys { key_pairs result ≡ right_at spans list.old }
+    {
+        KeptState {
+            list,
+            spans,
+            right,
+            alloc,
+        }
+    }
+
+    /// Passes the first `n` of the pairs that have clones of keys.
+    fn pass_keys(&mut self, n: usize)
+        requires { n ≤ length (key_pairs self.old) }
+        ensures left { left_pairs self.new ≡ left_pairs self.old }
+        ensures right { right_pairs self.new ≡ right_pairs self.old }
+        ensures keys { key_pairs self.new ≡ drop n (key_pairs self.old) }
+        ensures built { kept.built_pairs self.new ≡ kept.built_pairs self.old }
+        ensures name { kept.list_name self.new ≡ kept.list_name self.old }
+    {
+        self.spans.next += n;
+    }
+
+    /// Passes the first `n` pairs that are left of the right map, and the clones of their keys.
+    fn pass_right(&mut self, n: usize)
+        requires ready { HasKeys KEYS K.is_clone self.old }
+        requires within { n ≤ length (right_pairs self.old) }
+        ensures ready { HasKeys KEYS K.is_clone self.new }
+        ensures left { left_pairs self.new ≡ left_pairs self.old }
+        ensures right { right_pairs self.new ≡ drop n (right_pairs self.old) }
+        ensures built { kept.built_pairs self.new ≡ kept.built_pairs self.old }
+        ensures name { kept.list_name self.new ≡ kept.list_name self.old }
+    {
+        if KEYS > 0 {
+            self.pass_keys(n);
+        }
+        self.right = &self.right[n..];
+    }
+}
+
+impl<
+    'a,
+    'b,
+    'c,
+    K: Clone + Drop,
+    V: Drop,
+    W,
+    A: Allocator + Copy,
+    Q: Turn<K, V, W>,
+    const KEYS: usize,
+> JoinState<K, V, W, Q> for KeptState<'a, 'b, 'c, K, V, W, A, KEYS>
+where
+    (K, V): MadeWith<A>,
+{
+    ghost use Rattle.vc_maps.specs.KeptViews.{left_pairs, right_pairs};
+    ghost use Rattle.vc_maps.specs.KeptViews as kept;
+
+    ghost takes = { λ q a. MayAskWith (has_keys KEYS) a × Q.takes q a };
+
+    ghost asks_a = { λ q s n answer t. IsOk answer × Adds kept.built_pairs kept.list_name
+        (λ p. AnswerAdds (Q.may q) (OldKey K.is_clone) (Some (arg.Left p.0 p.1))) (take n (left_pairs s)) s answer t };
+
+    ghost asks_b = { λ q s n answer t. IsOk answer × Adds kept.built_pairs kept.list_name
+        (λ p. AnswerAdds (Q.may q) (OldKey K.is_clone) (Some (arg.Right p.0 p.1))) (take n (right_pairs s)) s answer t };
+
+    ghost asks_both = { λ q s answer t. IsOk answer × AtHeads (λ p r. Adds kept.built_pairs kept.list_name
+        (λ a. AnswerAdds (Q.may q) (OldKey K.is_clone) (Some a)) (arg.Both p.0 p.1 r.1 ∷ []) s answer t) (left_pairs s) (right_pairs s) };
+
+    fn ask_a(&mut self, question: &Q, n: usize) -> Result<bool, AllocError> {
+        self.spans = lefts_turned(self.list, self.spans, *self.alloc, question, n);
+        Ok(true)
+    }
+
+    fn ask_b(&mut self, question: &Q, n: usize) -> Result<bool, AllocError> {
+        let pairs = &self.right[..n];
+        self.spans = rights_turned(self.list, self.spans, *self.alloc, question, pairs);
+        self.right = &self.right[n..];
+        Ok(true)
+    }
+
+    fn ask_both(&mut self, question: &Q) -> Result<bool, AllocError> {
+        self.spans = pair_turned(self.list, self.spans, *self.alloc, question, self.right);
+        self.pass_right(1);
+        Ok(true)
+    }
+}
+
+/// Puts an answer under its key in the place of the first pair that is left of the left part, where there is one, and passes that place.
+fn keep_left<K: Drop, V: Drop>(parts: &mut PartsState<'_, (K, V)>, key: K, answer: Option<V>)
+    requires { 0 < length (left_items parts.old) }
+    ensures name { list_name parts.new ≡ list_name parts.old }
+    ensures left { left_items parts.new ≡ drop 1 (left_items parts.old) }
+    ensures right { right_items parts.new ≡ right_items parts.old }
+    ensures built { MatchOption answer (built_items parts.new ≡ built_items parts.old) (λ x. built_items parts.new ≡ built_items parts.old ++ (key, x) ∷ []) }
+{
+    let kept = answer.is_some();
+    if let Some(value) = answer {
+        parts.replace_left((key, value));
+    }
+    let _never_refused = parts.advance_a(1, kept);
+}
+
+/// Puts an answer under its key in the place of the first pair that is left of the right part, where there is one, and takes or passes that.
+fn keep_right<K: Drop, V: Drop>(parts: &mut PartsState<'_, (K, V)>, key: K, answer: Option<V>)
+    requires { 0 < length (right_items parts.old) }
+    ensures name { list_name parts.new ≡ list_name parts.old }
+    ensures left { left_items parts.new ≡ left_items parts.old }
+    ensures right { right_items parts.new ≡ drop 1 (right_items parts.old) }
+    ensures built { MatchOption answer (built_items parts.new ≡ built_items parts.old) (λ x. built_items parts.new ≡ built_items parts.old ++ (key, x) ∷ []) }
+{
+    let _never_refused = match answer {
+        Some(value) => {
+            parts.replace_right((key, value));
+            parts.take_b(1)
+        }
+        None => parts.skip_b(1),
+    };
+}
+
+/// Asks at the first `n` pairs that are left of the left part, which stand there alone.
+fn turn_lefts<K: Clone + Drop, V: Drop, W, Q: Turn<K, V, W>, A: Allocator + Copy>(
+    parts: &mut PartsState<'_, (K, V)>,
+    alloc: A,
+    question: &Q,
+    n: usize,
+)
+where
+    (K, V): MadeWith<A>,
+    requires within { n ≤ length (left_items parts.old) }
+    requires takes { AllByRecursion (λ p. Q.takes question.now (arg.Left p.0 p.1)) (take n (left_items parts.old)) }
+    ensures name { list_name parts.new ≡ list_name parts.old }
+    ensures left { left_items parts.new ≡ drop n (left_items parts.old) }
+    ensures right { right_items parts.new ≡ right_items parts.old }
+    ensures built { Appends (λ p. AnswerAdds (Q.may question.now) (OldKey K.is_clone) (Some (arg.Left p.0 p.1))) (take n (left_items parts.old)) (built_items parts.old) (built_items parts.new) }
+{
+    'pairs: for at in 0..n {
+        let (key, value) = parts.replace_left(<(K, V)>::made_with(alloc));
+        let answer = turn_left(question, &key, value);
+        keep_left(parts, key, answer);
+    }
+}
+
+/// Asks at each of `pairs`, which stand on the right alone. The pairs of the right part have clones of their keys.
+fn turn_rights<K: Clone + Drop, V: Drop, W, Q: Turn<K, V, W>, A: Allocator + Copy>(
+    parts: &mut PartsState<'_, (K, V)>,
+    alloc: A,
+    question: &Q,
+    pairs: &[(K, W)],
+)
+where
+    (K, V): MadeWith<A>,
+    requires keys { HaveKeys K.is_clone pairs.now (take (length pairs.now) (right_items parts.old)) }
+    requires takes { AllByRecursion (λ p. Q.takes question.now (arg.Right p.0 p.1)) pairs.now }
+    ensures name { list_name parts.new ≡ list_name parts.old }
+    ensures left { left_items parts.new ≡ left_items parts.old }
+    ensures right { right_items parts.new ≡ drop (length pairs.now) (right_items parts.old) }
+    ensures built { Appends (λ p. AnswerAdds (Q.may question.now) (OldKey K.is_clone) (Some (arg.Right p.0 p.1))) pairs.now (built_items parts.old) (built_items parts.new) }
+{
+    'pairs: for pair in pairs {
+        let (key, _) = parts.replace_right(<(K, V)>::made_with(alloc));
+        let answer = turn_right(question, pair);
+        keep_right(parts, key, answer);
+    }
+}
+
+/// Asks at a pair of the left and a value of the right, which stand at equal keys. The place of the pair is the first one of the left part.
+fn turn_pair<K: Clone + Drop, V: Drop, W, Q: Turn<K, V, W>>(
+    parts: &mut PartsState<'_, (K, V)>,
+    question: &Q,
+    pair: (K, V),
+    other: &W,
+)
+    requires some { 0 < length (left_items parts.old) }
+    requires takes { Q.takes question.now (arg.Both pair.0 pair.1 other.now) }
+    ensures name { list_name parts.new ≡ list_name parts.old }
+    ensures left { left_items parts.new ≡ drop 1 (left_items parts.old) }
+    ensures right { right_items parts.new ≡ right_items parts.old }
+    ensures built { Appends (λ a. AnswerAdds (Q.may question.now) (OldKey K.is_clone) (Some a)) (arg.Both pair.0 pair.1 other.now ∷ []) (built_items parts.old) (built_items parts.new) }
+{
+    let (key, value) = pair;
+    let answer = question.turn(OuterJoinArg::Both(&key, value, other));
+    keep_left(parts, key, answer);
+}
+
+/// Asks at the first `n` pairs that are left of the left part, in a list whose parts stand at `spans`. Answers where they stand then.
+fn lefts_turned<K: Clone + Drop, V: Drop, W, Q: Turn<K, V, W>, A: Allocator + Copy>(
+    list: &mut [(K, V)],
+    spans: Spans,
+    alloc: A,
+    question: &Q,
+    n: usize,
+) -> Spans
+where
+    (K, V): MadeWith<A>,
+    requires places { spans.next ≤ length list.old }
+    requires within { n ≤ length (left_at spans list.old) }
+    requires takes { AllByRecursion (λ p. Q.takes question.now (arg.Left p.0 p.1)) (take n (left_at spans list.old)) }
+    ensures places { result.next ≤ length list.new }
+    ensures left { left_at result list.new ≡ drop n (left_at spans list.old) }
+    ensures right { right_at result list.new ≡ right_at spans list.old }
+    ensures built { Appends (λ p. AnswerAdds (Q.may question.now) (OldKey K.is_clone) (Some (arg.Left p.0 p.1))) (take n (left_at spans list.old)) (built_at spans list.old) (built_at result list.new) }
+{
+    let mut parts = PartsState::at(list, spans);
+    turn_lefts(&mut parts, alloc, question, n);
+    parts.spans()
+}
+
+/// Asks at each of `pairs`, which stand on the right alone, in a list whose parts stand at `spans`. Answers where they stand then.
+fn rights_turned<K: Clone + Drop, V: Drop, W, Q: Turn<K, V, W>, A: Allocator + Copy>(
+    list: &mut [(K, V)],
+    spans: Spans,
+    alloc: A,
+    question: &Q,
+    pairs: &[(K, W)],
+) -> Spans
+where
+    (K, V): MadeWith<A>,
+    requires places { spans.next ≤ length list.old }
+    requires keys { HaveKeys K.is_clone pairs.now (take (length pairs.now) (right_at spans list.old)) }
+    requires takes { AllByRecursion (λ p. Q.takes question.now (arg.Right p.0 p.1)) pairs.now }
+    ensures places { result.next ≤ length list.new }
+    ensures left { left_at result list.new ≡ left_at spans list.old }
+    ensures right { right_at result list.new ≡ drop (length pairs.now) (right_at spans list.old) }
+    ensures built { Appends (λ p. AnswerAdds (Q.may question.now) (OldKey K.is_clone) (Some (arg.Right p.0 p.1))) pairs.now (built_at spans list.old) (built_at result list.new) }
+{
+    let mut parts = PartsState::at(list, spans);
+    turn_rights(&mut parts, alloc, question, pairs);
+    parts.spans()
+}
+
+/// Asks at the first pair that is left of the left part and the first one of `right`, which have equal keys, in a list whose parts stand at
+/// `spans`. Answers where they stand then.
+fn pair_turned<K: Clone + Drop, V: Drop, W, Q: Turn<K, V, W>, A: Allocator + Copy>(
+    list: &mut [(K, V)],
+    spans: Spans,
+    alloc: A,
+    question: &Q,
+    right: &[(K, W)],
+) -> Spans
+where
+    (K, V): MadeWith<A>,
+    requires places { spans.next ≤ length list.old }
+    requires takes { AtHeads (λ p r. Q.takes question.now (arg.Both p.0 p.1 r.1)) (left_at spans list.old) right.now }
+    ensures places { result.next ≤ length list.new }
+    ensures left { left_at result list.new ≡ drop 1 (left_at spans list.old) }
+    ensures right { right_at result list.new ≡ right_at spans list.old }
+    ensures built { AtHeads (λ p r. Appends (λ a. AnswerAdds (Q.may question.now) (OldKey K.is_clone) (Some a)) (arg.Both p.0 p.1 r.1 ∷ [])
+        (built_at spans list.old) (built_at result list.new)) (left_at spans list.old) right.now }
+{
+    let mut parts = PartsState::at(list, spans);
+    let pair = parts.replace_left(<(K, V)>::made_with(alloc));
+    turn_pair(&mut parts, question, pair, &right[0].1);
+    parts.spans()
+}
+
+/// Asks at a pair that stands on the left alone. One lifetime serves for the right, which has none of its own.
+fn turn_left<'a, K, V, W: 'a, Q: Turn<K, V, W>>(question: &Q, key: &'a K, value: V) -> Option<V>
+    requires { Q.takes question.now (arg.Left key.now value) }
+    ensures { Q.may question.now (arg.Left key.now value) result }
+{
+    let arg: OuterJoinArg<&'a K, V, &'a W> = OuterJoinArg::Left(key, value);
+    question.turn(arg)
+}
+
+/// Asks at a pair that stands on the right alone.
+fn turn_right<K, V, W, Q: Turn<K, V, W>>(question: &Q, pair: &(K, W)) -> Option<V>
+    requires { Q.takes question.now (arg.Right pair.now.0 pair.now.1) }
+    ensures { Q.may question.now (arg.Right pair.now.0 pair.now.1) result }
+{
+    question.turn(OuterJoinArg::Right(&pair.0, &pair.1))
+}
+
+/// Moves the join of a part of a list with another list to the front. The part is the first `end` pairs. If `KEYS` is not 0, the kind asks at
+/// the keys of the other list alone, and the pairs from `next` on have clones of these. Answers how many pairs the join has.
+fn join_parts<
+    const KEYS: usize,
+    K: Ord + Clone + Drop,
+    V: Drop,
+    W,
+    Q: Turn<K, V, W>,
+    C: Count,
+    A: Allocator + Copy,
+>(
+    alloc: &A,
+    list: &mut [(K, V)],
+    end: usize,
+    next: usize,
+    right: &[(K, W)],
+    op: &JoinOp<'_, Q>,
+    steps: &mut C,
+) -> usize
+where
+    (K, V): MadeWith<A>,
+    requires order { end ≤ next }
+    requires within { next ≤ length list.old }
+    requires kind { asks_right op.now.kind ≡ has_keys KEYS }
+    requires this_ascends { AscendsByKey K.cmp (take end list.old) }
+    requires that_ascends { AscendsByKey K.cmp right.now }
+    requires clones { asks_right op.now.kind ≡ true → ClonesAreEqual K.cmp K.is_clone × HaveKeys K.is_clone right.now (drop next list.old) }
+    requires takes { (a : _) → IsAsked K.cmp op.now.kind left_spelling (take end list.old) right.now a → Q.takes op.now.question.now a }
+    ensures joins { IsJoin K.cmp op.now.kind left_spelling (take end list.old) right.now (Q.may op.now.question.now) (OldKey K.is_clone) (take result list.new) }
+    ensures counted { C.counted steps.new ≤ C.counted steps.old + bound (length (take end list.old)) (length right.now) }
+{
+    let spans = Spans {
+        built: 0,
+        start: 0,
+        end,
+        next,
+    };
+    let mut state: KeptState<'_, '_, '_, K, V, W, A, KEYS> = KeptState::new(
+        list, spans, right, alloc,
+    );
+    let _never_refused = merge(&mut state, op, steps);
+    state.spans.built
+}
+
+/// Puts a pair with a clone of the key of each of `pairs` behind a list. Answers the place of the first of them.
+///
+/// The one growth comes before the first clone. Refused, the list has its pairs.
+fn append_keys<K: Clone + Drop, V: Drop, W, const N: usize, A: Allocator + Copy>(
+    list: &mut SmallVec<(K, V), N, A>,
+    pairs: &[(K, W)],
+) -> Result<usize, AllocError>
+where
+    (K, V): MadeWith<A>,
+    ensures behind { IfOk result (λ next. (length list.old.items ≤ next) × (next ≤ length list.new.items)) }
+    ensures front { OnOk result (take (length list.old.items) list.new.items ≡ list.old.items) }
+    ensures keys { IfOk result (λ next. HaveKeys K.is_clone pairs.now (drop next list.new.items)) }
+    ensures err { OnErr result (list.new.items ≡ list.old.items) }
+{
+    let end = list.len();
+    open_gap(list, pairs.len())?;
+    let next = list.len();
+    let cloned = push_keys(list, pairs);
+    if let Err(refused) = cloned {
+        list.truncate(end);
+        return Err(refused);
+    }
+    Ok(next)
+}
+
+/// Pushes a pair with a clone of the key of each of `pairs`, for which there is room. Refused, it leaves those that were made.
+fn push_keys<K: Clone + Drop, V: Drop, W, const N: usize, A: Allocator + Copy>(
+    list: &mut SmallVec<(K, V), N, A>,
+    pairs: &[(K, W)],
+) -> Result<(), AllocError>
+where
+    (K, V): MadeWith<A>,
+    requires { HasRoomFor list.old (length pairs.now) }
+    ensures front { take (small_vec_len list.old) list.new.items ≡ list.old.items }
+    ensures keys { OnOk result (ClonesKeys K.is_clone pairs.now list.old.items list.new.items) }
+{
+    let alloc = *list.allocator();
+    'pairs: for pair in pairs {
+        let (_, blank) = <(K, V)>::made_with(alloc);
+        list.push_reserved((pair.0.clone()?, blank));
+    }
+    Ok(())
+}
+
+/// The join of a list of pairs with another one, in its place, of a kind that asks at the keys of the left or of both. Takes no memory.
+fn join_known<
+    K: Ord + Clone + Drop,
+    V: Drop,
+    W,
+    Q: Turn<K, V, W>,
+    C: Count,
+    const N: usize,
+    A: Allocator + Copy,
+>(list: &mut SmallVec<(K, V), N, A>, that: &[(K, W)], kind: JoinKind, question: &Q, steps: &mut C)
+where
+    (K, V): MadeWith<A>,
+    requires kind { asks_right kind ≡ false }
+    requires this_ascends { AscendsByKey K.cmp list.old.items }
+    requires that_ascends { AscendsByKey K.cmp that.now }
+    requires takes { (a : _) → IsAsked K.cmp kind left_spelling list.old.items that.now a → Q.takes question.now a }
+    ensures joins { IsJoin K.cmp kind left_spelling list.old.items that.now (Q.may question.now) (OldKey K.is_clone) list.new.items }
+    ensures counted { C.counted steps.new ≤ C.counted steps.old + bound (length list.old.items) (length that.now) }
+{
+    let alloc = *list.allocator();
+    let end = list.len();
+    let op = JoinOp { kind, question };
+    let kept = join_parts::<0, _, _, _, _, _, _>(
+        &alloc,
+        list.as_mut_slice(),
+        end,
+        end,
+        that,
+        &op,
+        steps,
+    );
+    list.truncate(kept);
+}
+
+/// The join of a list of pairs with another one, in its place, of a kind that asks at the keys of the right. The one growth and all clones come
+/// before the first question; refused there, the list has its pairs.
+fn join_with_keys<
+    K: Ord + Clone + Drop,
+    V: Drop,
+    W,
+    Q: Turn<K, V, W>,
+    C: Count,
+    const N: usize,
+    A: Allocator + Copy,
+>(
+    list: &mut SmallVec<(K, V), N, A>,
+    that: &[(K, W)],
+    kind: JoinKind,
+    question: &Q,
+    steps: &mut C,
+) -> Result<(), AllocError>
+where
+    (K, V): MadeWith<A>,
+    requires kind { asks_right kind ≡ true }
+    requires this_ascends { AscendsByKey K.cmp list.old.items }
+    requires that_ascends { AscendsByKey K.cmp that.now }
+    requires clones { ClonesAreEqual K.cmp K.is_clone }
+    requires takes { (a : _) → IsAsked K.cmp kind left_spelling list.old.items that.now a → Q.takes question.now a }
+    ensures joins { OnOk result (IsJoin K.cmp kind left_spelling list.old.items that.now (Q.may question.now) (OldKey K.is_clone) list.new.items) }
+    ensures counted { C.counted steps.new ≤ C.counted steps.old + bound (length list.old.items) (length that.now) }
+    ensures err { OnErr result (list.new.items ≡ list.old.items) }
+{
+    let alloc = *list.allocator();
+    let end = list.len();
+    let next = append_keys(list, that)?;
+    let op = JoinOp { kind, question };
+    let kept = join_parts::<1, _, _, _, _, _, _>(
+        &alloc,
+        list.as_mut_slice(),
+        end,
+        next,
+        that,
+        &op,
+        steps,
+    );
+    list.truncate(kept);
+    Ok(())
+}
+
+/// The join of a list of pairs with another one, in its place, where both ascend by key. It takes memory only if the kind asks at the keys of
+/// the right.
+///
+/// Asks at most once a key, in ascending order of the keys. Refused before the first question, the list has its pairs.
+pub fn join<
+    K: Ord + Clone + Drop,
+    V: Drop,
+    W,
+    Q: Turn<K, V, W>,
+    C: Count,
+    const N: usize,
+    A: Allocator + Copy,
+>(
+    list: &mut SmallVec<(K, V), N, A>,
+    that: &[(K, W)],
+    kind: JoinKind,
+    question: &Q,
+    steps: &mut C,
+) -> Result<(), AllocError>
+where
+    (K, V): MadeWith<A>,
+    requires this_ascends { AscendsByKey K.cmp list.old.items }
+    requires that_ascends { AscendsByKey K.cmp that.now }
+    requires clones { asks_right kind ≡ true → ClonesAreEqual K.cmp K.is_clone }
+    requires takes { (a : _) → IsAsked K.cmp kind left_spelling list.old.items that.now a → Q.takes question.now a }
+    ensures joins { OnOk result (IsJoin K.cmp kind left_spelling list.old.items that.now (Q.may question.now) (OldKey K.is_clone) list.new.items) }
+    ensures counted { C.counted steps.new ≤ C.counted steps.old + bound (length list.old.items) (length that.now) }
+    ensures no_memory { asks_right kind ≡ false → IsOk result }
+    ensures err { OnErr result (list.new.items ≡ list.old.items) }
+{
+    if kind.asks_right() {
+        join_with_keys(list, that, kind, question, steps)
+    } else {
+        join_known(list, that, kind, question, steps);
+        Ok(())
+    }
+}
