@@ -3,6 +3,7 @@
 
 pub mod changes;
 pub mod filters;
+pub mod maps;
 pub mod sets;
 pub mod trees;
 pub mod walks;

@@ -1,0 +1,80 @@
+//! Maps from outside: look-ups, changes and joins in place, with what a user says of them.
+ghost use Rattle.std.specs.Prelude.{◌≡◌, Some, ℕ, IfOk, IsOk, OnOk, OnErr};
+ghost use Rattle.std.specs.Option.{option_copied};
+ghost use Rattle.std.specs.Ordering.{nat_cmp};
+ghost use Rattle.vec_collections.specs.Entries.{value_at};
+
+use std::alloc::AllocError;
+use vec_collections::vec_map::{AbstractVecMap, OuterJoinArg, VecMap};
+
+/// How many pieces there are of each article, of which four need no allocation.
+pub type Stock = VecMap<u32, u32, 4>;
+
+/// How many pieces of an article there are.
+pub fn pieces_of(stock: &Stock, article: u32) -> Option<&u32>
+    ensures { option_copied result ≡ value_at nat_cmp stock.now article }
+{
+    stock.get(&article)
+}
+
+/// Notes how many pieces of an article there are, and answers how many there were.
+pub fn recount(stock: &mut Stock, article: u32, pieces: u32) -> Result<Option<u32>, AllocError>
+    ensures before { IfOk result (λ before. before ≡ value_at nat_cmp stock.old article) }
+    ensures after { OnOk result (value_at nat_cmp stock.new article ≡ Some pieces) }
+    ensures err { OnErr result (stock.new ≡ stock.old) }
+{
+    stock.insert(article, pieces)
+}
+
+/// Takes a delivery in.
+pub fn deliver(stock: &mut Stock, delivery: &Stock) -> Result<(), AllocError>
+    ensures err { OnErr result (stock.new ≡ stock.old) }
+{
+    stock.outer_join_with(
+        delivery,
+        |at: OuterJoinArg<&u32, u32, &u32>| -> Option<u32> {
+            match at {
+                OuterJoinArg::Left(_, held) => Some(held),
+                OuterJoinArg::Right(_, more) => Some(*more),
+                OuterJoinArg::Both(_, held, more) => Some(held.saturating_add(*more)),
+            }
+        },
+    )
+}
+
+/// Takes what was sold out. An article of which nothing is left goes.
+pub fn sell(stock: &mut Stock, sold: &Stock) -> Result<(), AllocError>
+    ensures always { IsOk result }
+{
+    stock.left_join_with(
+        sold,
+        |_: &u32, held: u32, sold: Option<&u32>| -> Option<u32> {
+            let left = held.saturating_sub(*sold.unwrap_or(&0));
+            if left == 0 { None } else { Some(left) }
+        },
+    )
+}
+
+/// Keeps the articles that a list names.
+pub fn keep_listed(stock: &mut Stock, list: &Stock) -> Result<(), AllocError>
+    ensures always { IsOk result }
+{
+    stock.inner_join_with(list, |_: &u32, held: u32, _: &u32| -> Option<u32> {
+        Some(held)
+    })
+}
+
+/// Makes the stock what a list says, and at least what is there.
+pub fn fill_up(stock: &mut Stock, list: &Stock) -> Result<(), AllocError>
+    ensures err { OnErr result (stock.new ≡ stock.old) }
+{
+    stock.right_join_with(
+        list,
+        |_: &u32, held: Option<u32>, listed: &u32| -> Option<u32> {
+            match held {
+                Some(held) => Some(held.max(*listed)),
+                None => Some(*listed),
+            }
+        },
+    )
+}
