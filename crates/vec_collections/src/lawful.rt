@@ -4,15 +4,17 @@ ghost use Rattle.vec_collections.specs.MergeLaws.{AscendingHaveOneScript, Member
 ghost use Rattle.vec_collections.specs.SetLaws.{InEachWay, SetOfIsOne, OperationsInWords, TestsAreOfOperations};
 ghost use Rattle.vec_collections.specs.TreeLaws.{KeysAreOrdered, LeftBehindIsRest, BindsIsLookup, CanonicalIsConditions, CanonicalIsUnique, CanonicalIsSmallest, WalkIsOne};
 ghost use Rattle.vec_collections.specs.PrefixLaws.{WalkUnder, WalkPrefixed, WalkIsFiltered, CoverIsLongest, RemovalAndRetentionPart, RunIsFunction};
+ghost use Rattle.vec_collections.specs.TotalLaws.{moved_of, OperationsArePointwise, OperationsMakeOne, ComplementsTurnOperations, TotalTestsAreOfOperations};
 ghost use Rattle.vec_collections.specs.Value.{Copies};
 ghost use Rattle.std.specs.Prelude.{IsTrue};
 
 use crate::laws::{
     ByClone, ByEq, binds_is_lookup, canonical_is_conditions, canonical_is_smallest,
-    canonical_is_unique, cover_is_longest, keys_are_ordered, left_behind_is_rest,
-    members_are_elements, members_tell_the_list, operations_are_as_named,
+    canonical_is_unique, complements_turn_operations, cover_is_longest, keys_are_ordered,
+    left_behind_is_rest, members_are_elements, members_tell_the_list, operations_are_as_named,
     removal_and_retention_part, run_is_function, runs_are_beginnings, script_is_one, set_of_is_one,
-    tests_are_of_operations, ticks_stay, walk_is_filtered, walk_is_one, walks_by_prefix,
+    tests_are_of_operations, ticks_stay, total_operations_are_pointwise, total_operations_make_one,
+    total_tests_are_of_operations, walk_is_filtered, walk_is_one, walks_by_prefix,
 };
 use crate::merge::{Count, MergeOperation, MergeState};
 
@@ -40,6 +42,19 @@ pub fn of_sets<T: Ord + Clone>()
     set_of_is_one::<T>();
     operations_are_as_named::<T>();
     tests_are_of_operations::<T>();
+}
+
+/// The laws of total sets.
+pub fn of_total_sets<T: Ord + Clone>()
+    ensures pointwise { OperationsArePointwise T.cmp (moved_of T.cmp) }
+    ensures one { OperationsMakeOne T.cmp (moved_of T.cmp) }
+    ensures turned { ComplementsTurnOperations T.cmp (moved_of T.cmp) }
+    ensures tests { TotalTestsAreOfOperations T.cmp (moved_of T.cmp) }
+{
+    total_operations_are_pointwise::<T>();
+    total_operations_make_one::<T>();
+    complements_turn_operations::<T>();
+    total_tests_are_of_operations::<T>();
 }
 
 /// The laws of keys and of what trees bind.
