@@ -78,6 +78,11 @@ impl Keys {
         Keys::of(numbers.iter().map(|number| format!("word{number:012}")))
     }
 
+    /// One key.
+    pub fn folder(name: &str) -> Keys {
+        Keys::of(std::iter::once(name.to_string()))
+    }
+
     /// Keys like the paths of files in folders.
     pub fn paths(count: usize) -> Keys {
         let mut random = Random(count as u64);

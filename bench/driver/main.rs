@@ -1,18 +1,22 @@
-//! Times the sets and trees of the static library `bench_loops` beside std's collections and hand-written merges of sorted lists.
+//! Times the sets, maps and trees of the static library `bench_loops` beside std's collections and hand-written merges of sorted lists.
 //!
 //! Each row prints the median of several runs, in nanoseconds an operation. Before a row is timed all sides must agree on a sum of
 //! lengths or finds.
 
 mod data;
 mod lists;
+mod maps;
 
 use data::{Keys, Numbers};
-use std::collections::{BTreeMap, BTreeSet};
+use maps::{MAP_ROWS, MapRow};
+use std::collections::{BTreeMap, BTreeSet, HashMap};
 use std::hint::black_box;
 
 unsafe extern "C" {
     fn bench_numbers(row: u64, left: *const u64, left_len: usize, m: usize, right: *const u64, right_len: usize, n: usize, rounds: u64) -> u64;
     fn bench_words(row: u64, left: *const u8, left_len: usize, left_ends: *const usize, left_count: usize, right: *const u8, right_len: usize, right_ends: *const usize, right_count: usize, rounds: u64) -> u64;
+    fn bench_maps(row: u64, left: *const u64, left_len: usize, m: usize, right: *const u64, right_len: usize, n: usize, rounds: u64) -> u64;
+    fn bench_totals(left: *const u64, left_len: usize, m: usize, right: *const u64, right_len: usize, n: usize, rounds: u64) -> u64;
     fn bench_plain_tree(row: u64, bytes: *const u8, len: usize, ends: *const usize, count: usize, asked: *const u8, asked_len: usize, asked_ends: *const usize, asked_count: usize, rounds: u64) -> u64;
     fn bench_shared_tree(row: u64, bytes: *const u8, len: usize, ends: *const usize, count: usize, asked: *const u8, asked_len: usize, asked_ends: *const usize, asked_count: usize, rounds: u64) -> u64;
 }
@@ -40,6 +44,9 @@ const SET_ROWS: [SetRow; 11] = [
 
 const SIZES: [(usize, usize); 8] = [(4, 4), (8, 8), (64, 64), (1000, 1000), (100_000, 100_000), (1, 1000), (1000, 1), (10, 100_000)];
 
+/// A short list and a long one, of lengths further and further apart: for the rows that are plotted against skew.
+const SKEWED: [(usize, usize); 4] = [(1, 100_000), (100, 100_000), (1000, 100_000), (10_000, 100_000)];
+
 fn main() {
     let only = std::env::args().nth(1).unwrap_or_default();
     println!("| row | elements | sizes | this library | BTreeSet | sorted `Vec` by hand |");
@@ -56,6 +63,17 @@ fn main() {
                 time_words(row, left, right);
             }
         }
+    }
+    for (m, n) in SKEWED {
+        for row in SET_ROWS.iter().filter(|row| row.number < 2 && row.name.contains(&only)) {
+            time_numbers(row, &Numbers::new(m, n));
+        }
+    }
+    println!();
+    println!("| row | sizes | this library | BTreeMap | HashMap | sorted `Vec` by hand |");
+    println!("|---|---|---|---|---|---|");
+    for (m, n) in SIZES {
+        time_maps(&only, &Numbers::new(m, n));
     }
     println!();
     println!("| row | keys | plain tree | shared tree | BTreeMap of `Vec` |");
@@ -124,53 +142,125 @@ fn print_sets(row: &SetRow, elements: &str, (m, n): (usize, usize), operations: 
     println!("| {} | {elements} | {m}, {n} | {} | {} | {} |", row.name, shown(ours), shown(std_set), shown(by_hand));
 }
 
+/// The rows over maps of numbers, on several pairs of maps in turn.
+fn time_maps(only: &str, data: &Numbers) {
+    let lists: Vec<(Vec<(u64, u64)>, Vec<(u64, u64)>)> = data.cut().map(|(a, b)| (to_themselves(a), to_themselves(b))).collect();
+    let sorted: Vec<(BTreeMap<u64, u64>, BTreeMap<u64, u64>)> = lists.iter().map(|(a, b)| (a.iter().copied().collect(), b.iter().copied().collect())).collect();
+    let hashed: Vec<(HashMap<u64, u64>, HashMap<u64, u64>)> = lists.iter().map(|(a, b)| (a.iter().copied().collect(), b.iter().copied().collect())).collect();
+    for row in MAP_ROWS.iter().filter(|row| row.name.contains(only) && (row.number < 6 || data.n <= 10_000)) {
+        let ours = |rounds: u64| unsafe {
+            bench_maps(row.number, data.left.as_ptr(), data.left.len(), data.m, data.right.as_ptr(), data.right.len(), data.n, rounds)
+        };
+        let by_btree = |rounds: u64| repeat(rounds, || sorted.iter().map(|(a, b)| maps::by_btree(row.number, a, b)).sum());
+        let by_hash = |rounds: u64| repeat(rounds, || hashed.iter().map(|(a, b)| maps::by_hash(row.number, a, b)).sum());
+        let by_hand = |rounds: u64| repeat(rounds, || lists.iter().map(|(a, b)| maps::by_hand(row.number, a, b)).sum());
+        print_maps(row, data, [&ours, &by_btree, &by_hash, &by_hand]);
+    }
+    let greatest = MapRow { name: "greatest, key by key, of total maps", number: 0, one_by_one: false };
+    if greatest.name.contains(only) {
+        let ours = |rounds: u64| unsafe { bench_totals(data.left.as_ptr(), data.left.len(), data.m, data.right.as_ptr(), data.right.len(), data.n, rounds) };
+        let by_btree = |rounds: u64| repeat(rounds, || sorted.iter().map(|(a, b)| maps::greatest_by_btree(a, b)).sum());
+        let by_hash = |rounds: u64| repeat(rounds, || hashed.iter().map(|(a, b)| maps::greatest_by_hash(a, b)).sum());
+        let by_hand = |rounds: u64| repeat(rounds, || lists.iter().map(|(a, b)| maps::greatest_by_hand(a, b)).sum());
+        print_maps(&greatest, data, [&ours, &by_btree, &by_hash, &by_hand]);
+    }
+}
+
+/// Each number with itself.
+fn to_themselves(numbers: &[u64]) -> Vec<(u64, u64)> {
+    numbers.iter().map(|number| (*number, *number)).collect()
+}
+
+fn print_maps(row: &MapRow, data: &Numbers, sides: [&dyn Fn(u64) -> u64; 4]) {
+    let operations = data.pairs() * if row.one_by_one { data.n } else { 1 };
+    let [ours, by_btree, by_hash, by_hand] = times(operations, sides);
+    println!("| {} | {}, {} | {} | {} | {} | {} |", row.name, data.m, data.n, shown(ours), shown(by_btree), shown(by_hash), shown(by_hand));
+}
+
+/// What a row of trees does: its name, its number in the library, and whether there is no such row of plain trees.
+struct TreeRow {
+    name: &'static str,
+    number: u64,
+    shared_alone: bool,
+}
+
+const TREE_ROWS: [TreeRow; 8] = [
+    TreeRow { name: "build", number: 0, shared_alone: false },
+    TreeRow { name: "get", number: 1, shared_alone: false },
+    TreeRow { name: "snapshot and insert", number: 2, shared_alone: true },
+    TreeRow { name: "iter", number: 3, shared_alone: false },
+    TreeRow { name: "values", number: 4, shared_alone: false },
+    TreeRow { name: "into_iter of a snapshot", number: 5, shared_alone: true },
+    TreeRow { name: "union of two trees", number: 6, shared_alone: false },
+    TreeRow { name: "keys in one folder", number: 7, shared_alone: false },
+];
+
+type TreeExport = unsafe extern "C" fn(u64, *const u8, usize, *const usize, usize, *const u8, usize, *const usize, usize, u64) -> u64;
+
 /// The rows over trees of path-like keys.
 fn time_trees(only: &str, keys: &Keys) {
-    let map: BTreeMap<Vec<u8>, u64> = keys.list().zip(0..).collect();
     let list: Vec<Vec<u8>> = keys.list().collect();
-    let rows = [
-        ("build", 0, list.len()),
-        ("get", 1, list.len()),
-        ("snapshot and insert", 2, 1),
-        ("iter", 3, list.len()),
-        ("values", 4, list.len()),
-        ("into_iter of a snapshot", 5, list.len()),
-    ];
-    for (name, number, operations) in rows {
-        if !name.contains(only) {
-            continue;
-        }
-        let call = |export: unsafe extern "C" fn(u64, *const u8, usize, *const usize, usize, *const u8, usize, *const usize, usize, u64) -> u64, rounds: u64| unsafe {
-            export(number, keys.bytes.as_ptr(), keys.bytes.len(), keys.ends.as_ptr(), keys.ends.len(), keys.bytes.as_ptr(), keys.bytes.len(), keys.ends.as_ptr(), keys.ends.len(), rounds)
+    let map: BTreeMap<Vec<u8>, u64> = keys.list().zip(0..).collect();
+    for row in TREE_ROWS.iter().filter(|row| row.name.contains(only)) {
+        let asked = match row.number {
+            6 => Keys::paths(list.len() + 1),
+            7 => Keys::folder("src/"),
+            _ => Keys::paths(list.len()),
+        };
+        let asked_list: Vec<Vec<u8>> = asked.list().collect();
+        let other: BTreeMap<Vec<u8>, u64> = asked.list().zip(0..).collect();
+        let operations = match row.number {
+            2 => 1,
+            7 => under(&map, &asked_list[0]).count(),
+            _ => list.len(),
+        };
+        let call = |export: TreeExport, rounds: u64| unsafe {
+            export(row.number, keys.bytes.as_ptr(), keys.bytes.len(), keys.ends.as_ptr(), keys.ends.len(), asked.bytes.as_ptr(), asked.bytes.len(), asked.ends.as_ptr(), asked.ends.len(), rounds)
         };
         let plain = |rounds: u64| call(bench_plain_tree, rounds);
         let shared = |rounds: u64| call(bench_shared_tree, rounds);
-        let std_map = |rounds: u64| {
-            repeat(rounds, || match number {
-                0 => {
-                    let built: BTreeMap<Vec<u8>, u64> = list.iter().cloned().zip(0..).collect();
-                    built.get(&list[0]).copied().unwrap_or(0)
-                }
-                1 => list.iter().filter_map(|key| map.get(key)).map(|number| number + 1).sum(),
-                3 => map.iter().map(|(key, value)| value + key.len() as u64).sum(),
-                4 => map.values().sum(),
-                5 => map.iter().map(|(key, value)| (key.clone(), *value)).map(|(key, value)| value + key.len() as u64).sum(),
-                _ => {
-                    let mut copy = map.clone();
-                    copy.insert(list[0].clone(), 7);
-                    black_box(copy);
-                    1
-                }
-            })
-        };
-        if number == 2 || number == 5 {
+        let std_map = |rounds: u64| repeat(rounds, || by_map(row.number, &list, &map, &asked_list, &other));
+        if row.shared_alone {
             let [shared, std_map] = times(operations, [&shared, &std_map]);
-            println!("| {name} | {} | - | {} | {} |", list.len(), shown(shared), shown(std_map));
+            println!("| {} | {} | - | {} | {} |", row.name, list.len(), shown(shared), shown(std_map));
         } else {
             let [plain, shared, std_map] = times(operations, [&plain, &shared, &std_map]);
-            println!("| {name} | {} | {} | {} | {} |", list.len(), shown(plain), shown(shared), shown(std_map));
+            println!("| {} | {} | {} | {} | {} |", row.name, list.len(), shown(plain), shown(shared), shown(std_map));
         }
     }
+}
+
+/// The work of a row on std's map of whole keys.
+fn by_map(row: u64, list: &[Vec<u8>], map: &BTreeMap<Vec<u8>, u64>, asked: &[Vec<u8>], other: &BTreeMap<Vec<u8>, u64>) -> u64 {
+    match row {
+        0 => {
+            let built: BTreeMap<Vec<u8>, u64> = list.iter().cloned().zip(0..).collect();
+            built.get(&list[0]).copied().unwrap_or(0)
+        }
+        1 => asked.iter().filter_map(|key| map.get(key)).map(|number| number + 1).sum(),
+        2 => {
+            let mut copy = map.clone();
+            copy.insert(list[0].clone(), 7);
+            black_box(copy);
+            1
+        }
+        3 => map.iter().map(|(key, value)| value + key.len() as u64).sum(),
+        4 => map.values().sum(),
+        5 => map.iter().map(|(key, value)| (key.clone(), *value)).map(|(key, value)| value + key.len() as u64).sum(),
+        6 => {
+            let mut both = map.clone();
+            for (key, value) in other {
+                both.entry(key.clone()).or_insert(*value);
+            }
+            both.get(&asked[0]).copied().unwrap_or(0)
+        }
+        _ => under(map, &asked[0]).map(|(key, value)| value + key.len() as u64).sum(),
+    }
+}
+
+/// The pairs whose keys begin with `prefix`.
+fn under<'a>(map: &'a BTreeMap<Vec<u8>, u64>, prefix: &'a [u8]) -> impl Iterator<Item = (&'a Vec<u8>, &'a u64)> {
+    map.range(prefix.to_vec()..).take_while(move |(key, _)| key.starts_with(prefix))
 }
 
 /// Does the work `rounds` times, and adds up what it answers.
