@@ -24,7 +24,7 @@ split-at (x ∷ xs) (suc i) h = let k : i < length xs = omega arith in let r = s
 
 module _ {K : Type 0} (cmp : K → K → Ordering) (total : IsTotalOrder cmp) where
   -- what is equal to a key is not at what is below it, nor at what is above it
-  not-less : (k key j : K) → cmp k key ≡ Equal → cmp j key ≡ Less → is_at (cmp k) j ≡ false
+  pub not-less : (k key j : K) → cmp k key ≡ Equal → cmp j key ≡ Less → is_at (cmp k) j ≡ false
   not-less k key j e less = ap is_eq (total.congr k key j e ∙ total.antisymm key j ∙ ap ordering_reverse less)
 
   not-greater : (k key j : K) → cmp k key ≡ Equal → cmp j key ≡ Greater → is_at (cmp k) j ≡ false

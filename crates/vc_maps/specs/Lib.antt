@@ -3,3 +3,4 @@ pub mod FreshViews
 pub mod Iterating
 pub mod Keeping
 pub mod KeptViews
+pub mod Lending

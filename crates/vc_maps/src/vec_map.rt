@@ -1,6 +1,7 @@
 //! `VecMap`, a small map as a list of pairs that ascends by key.
 ghost use Rattle.std.specs.Prelude.{◌≡◌, ◌<◌, ◌↔◌, [], List, cond, Some, IsSome, length, IfOk, IsOk, OnErr, IsTrue};
-ghost use Rattle.std.specs.Option.{option_copied};
+ghost use Rattle.std.specs.Borrow.{sem};
+ghost use Rattle.std.specs.Option.{option_copied, option_copied_mut};
 ghost use Rattle.std.specs.Ordering.{eq_by_cmp};
 ghost use Rattle.vc_joins.specs.Entries.{AscendsByKey, entry_at, value_at};
 ghost use Rattle.vc_merge.specs.Showing.{ShowsItems};
@@ -51,6 +52,8 @@ impl<K: Ord, V, const N: usize, A: Allocator> Model for VecMap<K, V, N, A> {
 }
 
 impl<K: Ord, V, const N: usize, A: Allocator> VecMap<K, V, N, A> {
+    ghost use Rattle.vc_maps.specs.Lending.{lends_value};
+
     /// The number of pairs. Takes no memory.
     pub fn len(&self) -> usize
         ensures { result ≡ length self.now }
@@ -79,6 +82,27 @@ impl<K: Ord, V, const N: usize, A: Allocator> VecMap<K, V, N, A> {
         ensures ascends { AscendsByKey K.cmp self.now }
     {
         self.pairs.as_slice()
+    }
+
+    /// The value at a key that is equal to `key`, to write through. What is written stands in its place; the keys and all other
+    /// values stay. Searches the list, and takes no memory.
+    ///
+    /// ```
+    /// if let Some(open) = ports.get_mut(&80) {
+    ///     *open = false;
+    /// }
+    /// ```
+    pub fn get_mut(&mut self, key: &K) -> Option<&mut V>
+        ensures* writes_back { sem 𝓛 (lends_value K.row V.row N.row A.row K.Ord A.Allocator self.entry key.now result) }
+        ensures value { option_copied_mut result ≡ value_at K.cmp self.old key.now }
+    {
+        match find_key(self.pairs.as_slice(), key) {
+            Ok(place) => match self.pairs.get_mut(place) {
+                Some((_, value)) => Some(value),
+                None => None,
+            },
+            Err(_) => None,
+        }
     }
 }
 
