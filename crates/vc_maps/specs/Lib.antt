@@ -1,4 +1,6 @@
 pub mod Asking
+pub mod CombineViews
+pub mod Combining
 pub mod FreshViews
 pub mod Iterating
 pub mod Keeping

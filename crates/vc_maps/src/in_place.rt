@@ -180,7 +180,7 @@ where
 }
 
 /// Puts an answer under its key in the place of the first pair that is left of the left part, where there is one, and passes that place.
-fn keep_left<K: Drop, V: Drop>(parts: &mut PartsState<'_, (K, V)>, key: K, answer: Option<V>)
+pub fn keep_left<K: Drop, V: Drop>(parts: &mut PartsState<'_, (K, V)>, key: K, answer: Option<V>)
     requires { 0 < length (left_items parts.old) }
     ensures name { list_name parts.new ≡ list_name parts.old }
     ensures left { left_items parts.new ≡ drop 1 (left_items parts.old) }

@@ -1,6 +1,7 @@
 //! Maps as ascending lists of pairs.
 #![tactic(auto)]
 
+mod combine;
 mod fresh;
 mod in_place;
 mod join;

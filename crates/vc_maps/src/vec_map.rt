@@ -7,6 +7,7 @@ ghost use Rattle.vc_joins.specs.Entries.{AscendsByKey, entry_at, value_at};
 ghost use Rattle.vc_merge.specs.Showing.{ShowsItems};
 
 mod changes;
+mod combining;
 mod comparisons;
 pub mod conversions;
 mod in_place;

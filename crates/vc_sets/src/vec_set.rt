@@ -8,7 +8,7 @@ ghost use Rattle.vc_sets.specs.Tests.{IsDisjoint, IsSubset};
 mod algebra;
 mod comparisons;
 pub mod conversions;
-mod in_place;
+pub mod in_place;
 mod iteration;
 pub mod removal;
 

@@ -71,7 +71,7 @@ fn absorb<
 /// Moves the elements of `that` to the end of `list`, which has room for them.
 ///
 /// What lies on the heap comes out of a `Vec` and goes into a variable, so that no element asks again where either list lies.
-fn append_moved<T: MadeWith<A> + Drop, const N: usize, const M: usize, A: Allocator + Copy>(
+pub fn append_moved<T: MadeWith<A> + Drop, const N: usize, const M: usize, A: Allocator + Copy>(
     list: &mut SmallVec<T, N, A>,
     mut that: SmallVec<T, M, A>,
 )
