@@ -75,7 +75,7 @@ joined-ascends May Keeps cmp xs ys (Ok v) joins = joins.ascends
 joined-ascends May Keeps cmp xs ys (Err e) joins = tt
 
 -- what stands at a key and is listed there does not equal the default
-stands-apart : {X : Type 0} (eq : X → X → Bool) (f v : X) (o : Option X) → Stands eq f v o → IfSome o (λ x. eq x f ≡ false)
+pub stands-apart : {X : Type 0} (eq : X → X → Bool) (f v : X) (o : Option X) → Stands eq f v o → IfSome o (λ x. eq x f ≡ false)
 stands-apart eq f v None h = tt
 stands-apart eq f v (Some x) h = rw h.0 h.1
 

@@ -1,3 +1,5 @@
 pub mod Combining
 pub mod Comparing
 pub mod Copying
+pub mod Mapping
+pub mod Pointwise

@@ -1,3 +1,5 @@
 pub mod Asking
 pub mod CombinedTotals
+pub mod Laws
+pub mod MappedTotals
 pub mod TotalMap

@@ -5,6 +5,7 @@ ghost use Rattle.vc_sets.specs.SetOf.{ClonesAreEqual};
 ghost use Rattle.vc_total_maps.specs.TotalMap.{total_map, at, NoneIsDefault, IsClonedMap};
 
 mod arithmetic;
+mod change;
 mod combine;
 mod comparisons;
 mod numbers;

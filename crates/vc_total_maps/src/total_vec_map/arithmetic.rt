@@ -13,7 +13,7 @@ use std::ops::{Add, Div, Mul, Sub};
 #[derive(Drop)]
 struct Sum;
 
-impl<V: Clone + Add<V, Output = V>> Combine<V> for Sum {
+impl<V: Clone + Add<V, Output = V>> Combine<V, V> for Sum {
     ghost can = { λ _. CanOnClones V.is_clone V.can_add };
 
     ghost may = { λ _. GivesOnClones V.is_clone V.add_gives };
@@ -27,7 +27,7 @@ impl<V: Clone + Add<V, Output = V>> Combine<V> for Sum {
 #[derive(Drop)]
 struct Difference;
 
-impl<V: Clone + Sub<V, Output = V>> Combine<V> for Difference {
+impl<V: Clone + Sub<V, Output = V>> Combine<V, V> for Difference {
     ghost can = { λ _. CanOnClones V.is_clone V.can_sub };
 
     ghost may = { λ _. GivesOnClones V.is_clone V.sub_gives };
@@ -41,7 +41,7 @@ impl<V: Clone + Sub<V, Output = V>> Combine<V> for Difference {
 #[derive(Drop)]
 struct Product;
 
-impl<V: Clone + Mul<V, Output = V>> Combine<V> for Product {
+impl<V: Clone + Mul<V, Output = V>> Combine<V, V> for Product {
     ghost can = { λ _. CanOnClones V.is_clone V.can_mul };
 
     ghost may = { λ _. GivesOnClones V.is_clone V.mul_gives };
@@ -55,7 +55,7 @@ impl<V: Clone + Mul<V, Output = V>> Combine<V> for Product {
 #[derive(Drop)]
 struct Quotient;
 
-impl<V: Clone + Div<V, Output = V>> Combine<V> for Quotient {
+impl<V: Clone + Div<V, Output = V>> Combine<V, V> for Quotient {
     ghost can = { λ _. CanOnClones V.is_clone V.can_div };
 
     ghost may = { λ _. GivesOnClones V.is_clone V.div_gives };

@@ -19,15 +19,15 @@ use vc_maps::vec_map::conversions::map_of_list;
 use vc_maps::vec_map::{VecMap, join_asking};
 
 /// What is made of the values of two maps at one key.
-pub(super) trait Combine<V> {
+pub(super) trait Combine<V, X> {
     /// It may be asked so.
     ghost can: { Self → V → V → Type 0 };
 
     /// It may answer so.
-    ghost may: { Self → V → V → V → Type 0 };
+    ghost may: { Self → V → V → X → Type 0 };
 
     /// The value that is made of the two.
-    fn combine(&self, left: &V, right: &V) -> Result<V, AllocError>
+    fn combine(&self, left: &V, right: &V) -> Result<X, AllocError>
         requires { can self.now left.now right.now }
         ensures { IfOk result (may self.now left.now right.now) };
 }
@@ -35,19 +35,19 @@ pub(super) trait Combine<V> {
 /// What a join asks for a combination: a map that lacks the key has its default there, and an answer that equals the default of the
 /// result is left out.
 #[derive(Drop)]
-struct AskValues<'q, V, C> {
-    left_default: &'q V,
-    right_default: &'q V,
-    new_default: &'q V,
-    combine: &'q C,
+pub(super) struct AskValues<'q, V, X, C> {
+    pub(super) left_default: &'q V,
+    pub(super) right_default: &'q V,
+    pub(super) new_default: &'q X,
+    pub(super) combine: &'q C,
 }
 
-impl<'q, K, V: Eq + Drop, C: Combine<V>> Question<K, V, V, V> for AskValues<'q, V, C> {
+impl<'q, K, V, X: Eq + Drop, C: Combine<V, X>> Question<K, V, V, X> for AskValues<'q, V, X, C> {
     ghost takes = { λ q a. C.can q.combine.now (left_value q.left_default.now a) (right_value q.right_default.now a) };
 
-    ghost may = { λ q a r. MayPlace V.eq (C.may q.combine.now (left_value q.left_default.now a) (right_value q.right_default.now a)) q.new_default.now r };
+    ghost may = { λ q a r. MayPlace X.eq (C.may q.combine.now (left_value q.left_default.now a) (right_value q.right_default.now a)) q.new_default.now r };
 
-    fn ask(&self, arg: OuterJoinArg<&K, &V, &V>) -> Result<Option<V>, AllocError> {
+    fn ask(&self, arg: OuterJoinArg<&K, &V, &V>) -> Result<Option<X>, AllocError> {
         let value = match arg {
             OuterJoinArg::Left(_, left) => self.combine.combine(left, self.right_default)?,
             OuterJoinArg::Right(_, right) => self.combine.combine(self.left_default, right)?,
@@ -62,27 +62,28 @@ impl<'q, K, V: Eq + Drop, C: Combine<V>> Question<K, V, V, V> for AskValues<'q, 
 }
 
 /// The pairs of a combination, by a question that has its new default.
-fn combine_pairs<
+pub(super) fn combine_pairs<
     K: Ord + Clone + Drop,
-    V: Eq + Drop,
-    C: Combine<V>,
+    V,
+    X: Eq + Drop,
+    C: Combine<V, X>,
     const N: usize,
     A: Allocator + Copy,
 >(
     alloc: A,
     this: &[(K, V)],
     that: &[(K, V)],
-    question: &AskValues<'_, V, C>,
-) -> Result<SmallVec<(K, V), N, A>, AllocError>
+    question: &AskValues<'_, V, X, C>,
+) -> Result<SmallVec<(K, X), N, A>, AllocError>
 where
-    (K, V): MadeWith<A>,
+    (K, X): MadeWith<A>,
     requires this_ascends { AscendsByKey K.cmp this.now }
     requires that_ascends { AscendsByKey K.cmp that.now }
     requires clones { ClonesAreEqual K.cmp K.is_clone }
     requires callable { HoldsEverywhere K.cmp (C.can question.now.combine.now) (total_map this.now question.now.left_default.now) (total_map that.now question.now.right_default.now) }
     requires default { C.may question.now.combine.now question.now.left_default.now question.now.right_default.now question.now.new_default.now }
     ensures ascends { IfOk result (λ pairs. AscendsByKey K.cmp pairs.items) }
-    ensures combined { IfOk result (λ pairs. IsCombined K.cmp V.eq (C.may question.now.combine.now) K.is_clone (total_map this.now question.now.left_default.now) (total_map that.now question.now.right_default.now) (total_map pairs.items question.now.new_default.now)) }
+    ensures combined { IfOk result (λ pairs. IsCombined K.cmp X.eq (C.may question.now.combine.now) K.is_clone (total_map this.now question.now.left_default.now) (total_map that.now question.now.right_default.now) (total_map pairs.items question.now.new_default.now)) }
 {
     join_asking(alloc, this, that, question)
 }
@@ -91,13 +92,13 @@ where
 fn combine_mappings<
     K: Ord + Clone + Drop,
     V: Eq + Drop,
-    C: Combine<V>,
+    C: Combine<V, V>,
     const N: usize,
     A: Allocator + Copy,
 >(
     this: &VecMap<K, V, N, A>,
     that: &VecMap<K, V, N, A>,
-    question: &AskValues<'_, V, C>,
+    question: &AskValues<'_, V, V, C>,
 ) -> Result<VecMap<K, V, N, A>, AllocError>
 where
     (K, V): MadeWith<A>,
@@ -116,7 +117,7 @@ where
 pub(super) fn combine_by<
     K: Ord + Clone + Drop,
     V: Eq + Drop,
-    C: Combine<V>,
+    C: Combine<V, V>,
     const N: usize,
     A: Allocator + Copy,
 >(
@@ -145,7 +146,7 @@ where
 #[derive(Drop)]
 struct ByClosure<'f, F>(&'f F);
 
-impl<'f, V, F: Fn(&V, &V) -> Result<V, AllocError>> Combine<V> for ByClosure<'f, F> {
+impl<'f, V, F: Fn(&V, &V) -> Result<V, AllocError>> Combine<V, V> for ByClosure<'f, F> {
     ghost can = { λ c x y. (p : _) (q : _) → p.now ≡ x → q.now ≡ y → F.pre c.0.now p q };
 
     ghost may = { λ c x y v. FnReturnsAtPair F.Fn c.0.now x y (Ok v) };
@@ -159,7 +160,7 @@ impl<'f, V, F: Fn(&V, &V) -> Result<V, AllocError>> Combine<V> for ByClosure<'f,
 #[derive(Drop)]
 struct Greater;
 
-impl<V: Ord + Clone> Combine<V> for Greater {
+impl<V: Ord + Clone> Combine<V, V> for Greater {
     ghost can = { λ _ x y. ⊤ };
 
     ghost may = { λ _ x y. V.is_clone (max_by_ordering (V.cmp x y) x y) };
@@ -173,7 +174,7 @@ impl<V: Ord + Clone> Combine<V> for Greater {
 #[derive(Drop)]
 struct Lesser;
 
-impl<V: Ord + Clone> Combine<V> for Lesser {
+impl<V: Ord + Clone> Combine<V, V> for Lesser {
     ghost can = { λ _ x y. ⊤ };
 
     ghost may = { λ _ x y. V.is_clone (min_by_ordering (V.cmp x y) x y) };

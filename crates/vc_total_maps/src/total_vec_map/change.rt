@@ -1,0 +1,170 @@
+//! A total map with what is made of its value at every key.
+ghost use Rattle.std.specs.Prelude.{◌≡◌, Ok, IfOk};
+ghost use Rattle.std.specs.Fn.{FnReturnsAt};
+ghost use Rattle.vc_joins.specs.Entries.{AscendsByKey};
+ghost use Rattle.vc_sets.specs.SetOf.{ClonesAreEqual};
+ghost use Rattle.vc_total_maps.specs.MappedTotals.{HoldsOfEach, IsMapped, CanOnClone, GivesOnClone};
+ghost use Rattle.vc_total_maps.specs.TotalMap.{total_map};
+
+use super::TotalVecMap;
+use super::combine::{AskValues, Combine, combine_pairs};
+use smallvec::SmallVec;
+use std::alloc::{AllocError, Allocator};
+use std::default::MadeWith;
+use std::ops::Neg;
+use vc_maps::vec_map::VecMap;
+use vc_maps::vec_map::conversions::map_of_list;
+
+/// A closure on the left value alone.
+#[derive(Drop)]
+struct OfLeft<'f, F>(&'f F);
+
+impl<'f, V, X, F: Fn(&V) -> Result<X, AllocError>> Combine<V, X> for OfLeft<'f, F> {
+    ghost can = { λ c x _. (p : _) → p.now ≡ x → F.pre c.0.now p };
+
+    ghost may = { λ c x _ v. FnReturnsAt F.Fn c.0.now x (Ok v) };
+
+    fn combine(&self, left: &V, _right: &V) -> Result<X, AllocError> {
+        (self.0)(left)
+    }
+}
+
+/// The left value with the other sign, as a clone.
+#[derive(Drop)]
+struct Opposite;
+
+impl<V: Clone + Neg<Output = V>> Combine<V, V> for Opposite {
+    ghost can = { λ _ x _. CanOnClone V.is_clone V.can_neg x };
+
+    ghost may = { λ _ x _. GivesOnClone V.is_clone V.neg_gives x };
+
+    fn combine(&self, left: &V, _right: &V) -> Result<V, AllocError> {
+        Ok(-left.clone()?)
+    }
+}
+
+/// The pairs of a changed map, by a question that has both defaults: those of a combination with no pairs.
+fn change_pairs<
+    K: Ord + Clone + Drop,
+    V,
+    X: Eq + Drop,
+    C: Combine<V, X>,
+    const N: usize,
+    A: Allocator + Copy,
+>(
+    alloc: A,
+    pairs: &[(K, V)],
+    question: &AskValues<'_, V, X, C>,
+) -> Result<SmallVec<(K, X), N, A>, AllocError>
+where
+    (K, X): MadeWith<A>,
+    requires pairs_ascend { AscendsByKey K.cmp pairs.now }
+    requires clones { ClonesAreEqual K.cmp K.is_clone }
+    requires callable { HoldsOfEach K.cmp (λ x. C.can question.now.combine.now x question.now.right_default.now) (total_map pairs.now question.now.left_default.now) }
+    requires default { C.may question.now.combine.now question.now.left_default.now question.now.right_default.now question.now.new_default.now }
+    ensures ascends { IfOk result (λ made. AscendsByKey K.cmp made.items) }
+    ensures mapped { IfOk result (λ made. IsMapped K.cmp X.eq (λ x. C.may question.now.combine.now x question.now.right_default.now) K.is_clone (total_map pairs.now question.now.left_default.now) (total_map made.items question.now.new_default.now)) }
+{
+    combine_pairs(alloc, pairs, &pairs[..0], question)
+}
+
+/// The mappings of a changed map, by a question that has both defaults.
+fn change_mappings<
+    K: Ord + Clone + Drop,
+    V,
+    X: Eq + Drop,
+    C: Combine<V, X>,
+    const N: usize,
+    const M: usize,
+    A: Allocator + Copy,
+>(
+    map: &VecMap<K, V, N, A>,
+    question: &AskValues<'_, V, X, C>,
+) -> Result<VecMap<K, X, M, A>, AllocError>
+where
+    (K, X): MadeWith<A>,
+    requires clones { ClonesAreEqual K.cmp K.is_clone }
+    requires callable { HoldsOfEach K.cmp (λ x. C.can question.now.combine.now x question.now.right_default.now) (total_map map.now question.now.left_default.now) }
+    requires default { C.may question.now.combine.now question.now.left_default.now question.now.right_default.now question.now.new_default.now }
+    ensures { IfOk result (λ made. IsMapped K.cmp X.eq (λ x. C.may question.now.combine.now x question.now.right_default.now) K.is_clone (total_map map.now question.now.left_default.now) (total_map made question.now.new_default.now)) }
+{
+    let pairs = change_pairs(map.allocator(), map.as_ref(), question)?;
+    Ok(map_of_list(pairs))
+}
+
+/// What `change` makes of the left value at every key, and of the default.
+///
+/// It is asked for the new default first, and then once at each key that the map lists, in ascending order.
+fn change_by<
+    K: Ord + Clone + Drop,
+    V: Eq,
+    X: Eq + Drop,
+    C: Combine<V, X>,
+    const N: usize,
+    const M: usize,
+    A: Allocator + Copy,
+>(map: &TotalVecMap<K, V, N, A>, change: &C) -> Result<TotalVecMap<K, X, M, A>, AllocError>
+where
+    (K, X): MadeWith<A>,
+    requires clones { ClonesAreEqual K.cmp K.is_clone }
+    requires callable { HoldsOfEach K.cmp (λ x. C.can change.now x map.now.default) map.now }
+    ensures { IfOk result (IsMapped K.cmp X.eq (λ x. C.may change.now x map.now.default) K.is_clone map.now) }
+{
+    let default = change.combine(&map.default, &map.default)?;
+    let question = AskValues {
+        left_default: &map.default,
+        right_default: &map.default,
+        new_default: &default,
+        combine: change,
+    };
+    let mappings = change_mappings(&map.mappings, &question)?;
+    Ok(TotalVecMap { mappings, default })
+}
+
+impl<K: Ord + Clone + Drop, V: Eq, const N: usize, A: Allocator + Copy> TotalVecMap<K, V, N, A> {
+    /// What `f` makes of the value at every key, and of the default.
+    ///
+    /// `f` is asked for the new default first, with the old one, and then once at each key that is listed, in ascending order. An
+    /// answer that equals the new default is dropped. A key is listed as a clone. Refused where memory, a clone of a key or an answer
+    /// of `f` is.
+    ///
+    /// ```
+    /// let is_called: TotalVecMap<u16, bool, 4> = calls.map_values(|count: &u32| Ok(*count > 0))?;
+    /// ```
+    pub fn map_values<W: Eq + Drop, const M: usize, F: Fn(&V) -> Result<W, AllocError> + Drop>(
+        &self,
+        f: F,
+    ) -> Result<TotalVecMap<K, W, M, A>, AllocError>
+    where
+        (K, W): MadeWith<A>,
+        requires clones { ClonesAreEqual K.cmp K.is_clone }
+        requires callable { HoldsOfEach K.cmp (λ x. (p : _) → p.now ≡ x → F.pre f p) self.now }
+        ensures { IfOk result (IsMapped K.cmp W.eq (λ x v. FnReturnsAt F.Fn f x (Ok v)) K.is_clone self.now) }
+    {
+        change_by(self, &OfLeft(&f))
+    }
+}
+
+/// `-a` is at every key the value of `a` with the other sign.
+///
+/// The caller sees to it that the sign of the default can be turned, and of the value at each key that the map lists. A value that equals
+/// the new default is not listed. Takes memory as [`map_values`](TotalVecMap::map_values) does; the map is dropped.
+impl<
+    K: Ord + Clone + Drop,
+    V: Eq + Clone + Drop + Neg<Output = V>,
+    const N: usize,
+    A: Allocator + Copy,
+> Neg for TotalVecMap<K, V, N, A>
+where
+    (K, V): MadeWith<A>,
+{
+    type Output = Result<TotalVecMap<K, V, N, A>, AllocError>;
+
+    ghost can_neg = { λ a. HoldsOfEach K.cmp (CanOnClone V.is_clone V.can_neg) a × ClonesAreEqual K.cmp K.is_clone };
+
+    ghost neg_gives = { λ a r. IfOk r (IsMapped K.cmp V.eq (GivesOnClone V.is_clone V.neg_gives) K.is_clone a) };
+
+    fn neg(self) -> Result<TotalVecMap<K, V, N, A>, AllocError> {
+        change_by(&self, &Opposite)
+    }
+}
