@@ -1,7 +1,8 @@
 //! Maps from outside: look-ups, changes and joins in place, with what a user says of them.
-ghost use Rattle.std.specs.Prelude.{◌≡◌, Some, ℕ, IfOk, IsOk, OnOk, OnErr};
+ghost use Rattle.std.specs.Prelude.{◌≡◌, ◌↔◌, cond, Some, ℕ, IsSome, IsTrue, IfOk, IsOk, OnOk, OnErr};
+ghost use Rattle.std.specs.Map.{keys_of};
 ghost use Rattle.std.specs.Option.{option_copied};
-ghost use Rattle.std.specs.Ordering.{nat_cmp};
+ghost use Rattle.std.specs.Ordering.{eq_by_cmp, nat_cmp};
 ghost use Rattle.vec_collections.specs.Entries.{value_at};
 
 use std::alloc::AllocError;
@@ -24,6 +25,20 @@ pub fn recount(stock: &mut Stock, article: u32, pieces: u32) -> Result<Option<u3
     ensures err { OnErr result (stock.new ≡ stock.old) }
 {
     stock.insert(article, pieces)
+}
+
+/// Corrects how many pieces there are of an article that is in stock, and answers whether it is. No other article changes.
+pub fn correct(stock: &mut Stock, article: u32, pieces: u32) -> bool
+    ensures known { IsTrue result ↔ IsSome (value_at nat_cmp stock.old article) }
+    ensures corrected { IsTrue result → (k : ℕ) → value_at nat_cmp stock.new k ≡ cond (eq_by_cmp nat_cmp k article) (Some pieces) (value_at nat_cmp stock.old k) }
+    ensures unknown { ¬ (IsTrue result) → stock.new ≡ stock.old }
+    ensures articles { keys_of stock.new ≡ keys_of stock.old }
+{
+    let Some(held) = stock.get_mut(&article) else {
+        return false;
+    };
+    *held = pieces;
+    true
 }
 
 /// Takes a delivery in.

@@ -11,6 +11,7 @@ pub use Rattle.vc_joins.specs.Question
 pub use Rattle.vc_joins.specs.declared.question.JoinKind
 pub use Rattle.vc_joins.specs.declared.question.OuterJoinArg
 pub use Rattle.vc_maps.specs.Iterating as MapIterating
+pub use Rattle.vc_maps.specs.Lending
 pub use Rattle.vc_merge.specs.Ascending
 pub use Rattle.vc_merge.specs.Chain
 pub use Rattle.vc_merge.specs.Count
