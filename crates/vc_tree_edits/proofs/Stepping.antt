@@ -3,9 +3,11 @@
 --     begun        the state before the first event
 --     first_long        a next tree goes on at the place
 --     after_left, after_right, after_both        one event more is done
+--     room_next, room_added        there is room for a tree at each event that is left, where the row grows
+--     room_there, room_come, room_kept        each tree that is put there finds its place
 --     falls_below        two trees that meet have fewer nodes than those that they stand below
 --     finished_children, finished        what was built is canonical children, and the node of it is what the change says
-use Rattle.std.proofs.Common.{◌≡◌, ℕ, ◌+◌, ◌<◌, ◌≤◌, [], ◌∷◌, ◌++◌, List, Option, None, Some, option_map, refl, sym, ap, subst, ◌∙◌, map, drop, take, length, arith}
+use Rattle.std.proofs.Common.{◌≡◌, Bool, true, false, cond, ℕ, ◌+◌, ◌<◌, ◌≤◌, [], ◌∷◌, ◌++◌, List, Option, None, Some, option_map, refl, sym, ap, subst, ◌∙◌, map, drop, take, length, arith}
 use Rattle.std.proofs.lemmas.List.{take-append-drop}
 use Rattle.std.specs.Cmp.{IsTotalOrder}
 use Rattle.std.specs.List.{cons_option}
@@ -76,20 +78,52 @@ module _ {K V W O T B : Type 0} (cmp : K → K → Ordering) (tree : T → Tree 
   )
 
 -- there is room for a tree at each event that is left
-pub room_next : {T : Type 0} (b b' b'' : Builder T) (s : Side) (all others : List Side) (x : T) (kid : Option T) → IsNext b x b'
-    → IsAdded b' kid b'' → all ≡ s ∷ others → length all ≤ b.room → length others ≤ b''.room
-room_next b b' b'' s all others x kid next added z h =
-    let e = ap length z in
-    let f = next.room in
-    let k = added.room in
-    omega (arith, e, f, k, h)
+module _ {T : Type 0} (grows : Bool) where
+  pub room_next : (b b' b'' : Builder T) (s : Side) (all others : List Side) (x : T) (kid : Option T) → IsNext b x b'
+      → IsAdded b' kid b'' → all ≡ s ∷ others → (grows ≡ true → length all ≤ b.room) → grows ≡ true → length others ≤ b''.room
+  room_next b b' b'' s all others x kid next added z room g =
+      let e = ap length z in
+      let f = next.room in
+      let k = added.room in
+      let h = room g in
+      omega (arith, e, f, k, h)
 
-pub room_added : {T : Type 0} (b b' : Builder T) (s : Side) (all others : List Side) (kid : Option T) → IsAdded b kid b'
-    → all ≡ s ∷ others → length all ≤ b.room → length others ≤ b'.room
-room_added b b' s all others kid added z h =
+  pub room_added : (b b' : Builder T) (s : Side) (all others : List Side) (kid : Option T) → IsAdded b kid b'
+      → all ≡ s ∷ others → (grows ≡ true → length all ≤ b.room) → grows ≡ true → length others ≤ b'.room
+  room_added b b' s all others kid added z room g =
+      let e = ap length z in
+      let k = added.room in
+      let h = room g in
+      omega (arith, e, k, h)
+
+-- at most one tree is put there
+one_at_most : {T : Type 0} (kid : Option T) → length (cons_option kid []) ≤ 1
+one_at_most None = omega arith
+one_at_most (Some x) = omega arith
+
+-- what comes in finds room, and nothing comes where the row does not grow
+pub room_come : {T : Type 0} (grows : Bool) (kid : Option T) (room : ℕ) → (grows ≡ false → kid ≡ None) → (grows ≡ true → 0 < room)
+    → length (cons_option kid []) ≤ room
+room_come true kid room none there =
+    let h = there refl in
+    let one = one_at_most kid in
+    omega (arith, h, one)
+room_come false kid room none there = rw (none refl) (omega arith)
+
+-- what is left of a tree that was taken out finds its place
+pub room_kept : {T : Type 0} (b b' : Builder T) (x : T) (kid : Option T) → IsNext b x b' → length (cons_option kid []) ≤ b'.room
+room_kept b b' x kid next =
+    let f = next.room in
+    let one = one_at_most kid in
+    omega (arith, f, one)
+
+-- there is room where an event is left
+pub room_there : (grows : Bool) (s : Side) (all others : List Side) (room : ℕ) → all ≡ s ∷ others
+    → (grows ≡ true → length all ≤ room) → grows ≡ true → 0 < room
+room_there grows s all others room z fits g =
     let e = ap length z in
-    let k = added.room in
-    omega (arith, e, k, h)
+    let h = fits g in
+    omega (arith, e, h)
 
 -- ---- the parts of a tree, beside another one
 
@@ -124,9 +158,9 @@ module _ {K V W O T B : Type 0} (cmp : K → K → Ordering) (o : IsTotalOrder c
       → ((k : List K) → P (lookup cmp t k) (l.of_tree u k)) → (w : Option W) → w ≡ value_at u (drop n u.prefix)
       → ((v : Option V) (z : O) → P v (l.under w z) → asks v z)
       → ((v : Option V) (z : O) (y : Option V) → R v z y → says v (l.under w z) y) → (made : Option V)
-      → says value (l.at w) made → (row : Builder T) (extra : ℕ) → row ≡ builder [] xs extra → length sides ≤ extra
-      → IsBegun cmp tree tb l keeps says R asks t u front made row i ys j sides
-  begun says R asks P none an kept a w e lead down made said row extra r fits =
+      → says value (l.at w) made → (row : Builder T) (grows : Bool) (extra : ℕ) → row ≡ builder [] xs (cond grows extra 0)
+      → length sides ≤ extra → IsBegun cmp tree tb l keeps grows says R asks t u front made row i ys j sides
+  begun says R asks P none an kept a w e lead down made said row grows extra r fits =
       rw r (record {
         length_front = n;
         value = value;
@@ -145,7 +179,7 @@ module _ {K V W O T B : Type 0} (cmp : K → K → Ordering) (o : IsTotalOrder c
               (λ v z p. lead v z (subst (λ w. P v (l.under w z)) (sym e) p))
               (asked_taken cmp tree tb j keeps t u n ys sides front value xs i h l P kept a) [] refl 0 0 (omega arith),
         );
-        room = fits;
+        room = λ g. rw g fits;
       })
 
 -- ---- a change that has begun
@@ -153,7 +187,8 @@ module _ {K V W O T B : Type 0} (cmp : K → K → Ordering) (o : IsTotalOrder c
 module _ {K V W O T B : Type 0} (cmp : K → K → Ordering) (o : IsTotalOrder cmp) (tree : T → Tree K V) (tb : B → Tree K W)
     (keeps : V → V → Type 0) (l : Look cmp W O) (says R : Option V → O → Option V → Type 0) (asks : Option V → O → Type 0)
     (none : R None l.none None) (t : Tree K V) (u : Tree K W) (front : List K) (made : Option V) (row : Builder T) (i : ℕ)
-    (ys : List B) (j : ℕ) (sides : List Side) (s : IsBegun cmp tree tb l keeps says R asks t u front made row i ys j sides) where
+    (ys : List B) (j : ℕ) (sides : List Side) (grows : Bool)
+    (s : IsBegun cmp tree tb l keeps grows says R asks t u front made row i ys j sides) where
   faced : IsFaced cmp tree tb s.taken.taken u s.length_front row.rest i ys j sides
   faced = faced_taken cmp tree tb j keeps t u s.length_front ys sides front s.value row.rest i s.taken s.met
 

@@ -1,8 +1,10 @@
 -- A tree that is taken apart behind the front of its prefix.
 --     taken_rest        where the prefix goes on, the tree itself stands below
 --     taken_all        where it ended, the children
+--     cut_all        the components up to the end of a prefix
 use Rattle.std.proofs.Common.{◌≡◌, ℕ, ◌+◌, ◌-◌, ◌<◌, ◌≤◌, [], ◌∷◌, ◌++◌, List, Option, None, refl, sym, ap, subst, ◌∙◌, arith, map, take, drop, length, length-drop}
 use Rattle.std.proofs.Math.ListN.{drop_of_length-le}
+use Rattle.std.proofs.lemmas.List.{take_all}
 use Rattle.vc_tree_model.specs.Child.{value_at}
 use Rattle.vc_tree_model.specs.Same.{IsAlikeIn}
 use Rattle.vc_tree_model.specs.Snapshot.{tree_alike_refl, kept_itself}
@@ -10,6 +12,13 @@ use Rattle.vc_tree_model.specs.Tree.{Tree, forest, node, shortened}
 use Rattle.vc_tree_model.specs.Value.{IsKept}
 use Rattle.vc_tree_combines.proofs.Opening.{opened_all, opened_rest, value_inside}
 use Rattle.vc_tree_edits.specs.Taken.{IsTaken}
+
+-- the components up to the end of a prefix
+pub cut_all : {K : Type 0} (i n : ℕ) (whole own front : List K) → own ≡ whole → front ≡ drop i own → length whole ≤ i + n
+    → front ≡ take n (drop i whole)
+cut_all i n whole own front a f h =
+    let l = length-drop i whole in
+    f ∙ ap (drop i) a ∙ sym (take_all n (drop i whole) (omega (arith, l, h)))
 
 module _ {K V T : Type 0} (tree : T → Tree K V) (keeps : V → V → Type 0) (itself : (v : V) → keeps v v) (x : T) (i n m : ℕ)
     (whole front : List K) (whole_is : whole ≡ (tree x).prefix) (cut : front ≡ take m (drop i whole)) (long : m ≡ n) where
@@ -23,13 +32,12 @@ module _ {K V T : Type 0} (tree : T → Tree K V) (keeps : V → V → Type 0) (
   length_rest = length-drop {A = K} n (drop i (tree x).prefix) ∙ ap (λ k. k - n) length_of
 
   -- where the prefix goes on, the tree itself stands below
-  pub taken_rest : i + n < length whole → (zs xs : List T) → zs ≡ [] → xs ≡ zs ++ x ∷ []
-      → IsTaken tree keeps (shortened i (tree x)) n front None xs (i + n)
-  taken_rest h zs xs z e =
+  pub taken_rest : i + n < length whole → (zs : List T) → zs ≡ []
+      → IsTaken tree keeps (shortened i (tree x)) n front None (x ∷ zs) (i + n)
+  taken_rest h zs z =
       let l = length_of in
       let r = length_rest in
-      let list : xs ≡ x ∷ [] = e ∙ ap (λ l. l ++ x ∷ []) z in
-      rw list (record {
+      rw z (record {
         taken = shortened i (tree x);
         alike = tree_alike_refl keeps itself (shortened i (tree x));
         front_is = front_of;

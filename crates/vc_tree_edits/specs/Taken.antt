@@ -5,7 +5,7 @@
 --     IsNext, IsAdded        one tree taken from the front of a list that is built in place, and one put to its end
 --     IsFirstLong        the first tree that is left goes on behind some components
 --     IsStayed, IsCome        what became of a tree that one side alone has
-use Rattle.std.specs.Prelude.{◌≡◌, ℕ, ◌+◌, ◌<◌, ◌≤◌, List, [], ◌∷◌, ◌++◌, map, length, Option, None, option_map, drop, take}
+use Rattle.std.specs.Prelude.{◌≡◌, Bool, true, ℕ, ◌+◌, ◌<◌, ◌≤◌, List, [], ◌∷◌, ◌++◌, map, length, Option, None, option_map, drop, take}
 use Rattle.std.specs.List.{cons_option}
 use Rattle.std.specs.declared.cmp.Ordering.{Ordering}
 use Rattle.vc_merge.specs.Builder.{Builder}
@@ -48,8 +48,9 @@ module _ {T : Type 0} where
     pub room : old.room ≤ new.room + 1
 
 module _ {K V W O T B : Type 0} (cmp : K → K → Ordering) (tree : T → Tree K V) (tb : B → Tree K W) (l : Look cmp W O) where
-  -- t, taken apart beside u: its values at the fronts have become `made`, no event is done yet, and there is room for a tree at each
-  pub record IsBegun (keeps : V → V → Type 0) (says below : Option V → O → Option V → Type 0) (asks : Option V → O → Type 0)
+  -- t, taken apart beside u: its values at the fronts have become `made`, no event is done yet, and where the row grows, there is
+  -- room for a tree at each
+  pub record IsBegun (keeps : V → V → Type 0) (grows : Bool) (says below : Option V → O → Option V → Type 0) (asks : Option V → O → Type 0)
       (t : Tree K V) (u : Tree K W) (front : List K) (made : Option V) (row : Builder T) (i : ℕ) (ys : List B) (j : ℕ)
       (sides : List Side) : Type 0 where
     pub length_front : ℕ
@@ -64,7 +65,7 @@ module _ {K V W O T B : Type 0} (cmp : K → K → Ordering) (tree : T → Tree 
     pub left : AreChildren cmp (shortened_in tree i row.rest)
     pub right : AreChildren cmp (shortened_in tb j ys)
     pub doing : (budget : ℕ) × IsDoing cmp tree tb i j l below asks row.rest ys row.rest ys sides (map tree row.built) 0 budget
-    pub room : length sides ≤ row.room
+    pub room : grows ≡ true → length sides ≤ row.room
 
   -- the first tree that is left was taken out, and what the change leaves of it stands behind the others
   pub record IsStayed (says : Option V → O → Option V → Type 0) (from : ℕ) (old new : Builder T) : Type 0 where

@@ -11,7 +11,9 @@ ghost use Rattle.vc_tree_edits.specs.Editing.{MayLeave, CanLeave, KeptThen, CanM
 ghost use Rattle.vc_tree_edits.specs.Saying.{sifted_kept, outer_kept, met_kept, meet_kept};
 
 use crate::engine::Change;
+use crate::rows::Sifted;
 use std::alloc::{AllocError, Global};
+use vc_merge::inplace::InPlace;
 use vc_tree_nodes::building::{Build, Seal};
 use vc_tree_nodes::children::{Fragment, Parts};
 use vc_tree_nodes::copying::{clone_value, copy_shortened};
@@ -80,6 +82,8 @@ impl<
     T: Build<K, V>,
     F: Fn(&W) -> bool,
 > Change<K, V, W, B, T> for Sift<'f, F> {
+    type Row = Sifted<T>;
+
     ghost look = { λ cmp. covers cmp };
 
     ghost says = { λ op. IsSiftedBy T.keeps (MayJudge F.Fn op.judge.now) op.covered (stays_by op.retains) };
@@ -215,6 +219,8 @@ impl<'m, K: TKey, V: TValue, B: RadixNode<K, V>, T: Build<K, V>, M: Meet<V, V>> 
     B,
     T,
 > for KeepAll<'m, M> {
+    type Row = InPlace<T, Global>;
+
     ghost look = { λ cmp. values cmp };
 
     ghost says = { λ op. IsOuterAt T.keeps V.is_clone (KeptThen T.keeps (M.may op.at.now)) };
@@ -281,6 +287,8 @@ impl<'m, K: TKey, V: TValue, W: TValue, B: RadixNode<K, W>, T: Build<K, V>, M: M
     B,
     T,
 > for KeepLeft<'m, M> {
+    type Row = Sifted<T>;
+
     ghost look = { λ cmp. values cmp };
 
     ghost says = { λ op. IsMetAt T.keeps op.left_stays (KeptThen T.keeps (M.may op.at.now)) };

@@ -1,6 +1,7 @@
 //! The one recursion of all changes of a tree by another tree, in place.
 
-ghost use Rattle.std.specs.Prelude.{◌≡◌, ◌<◌, ◌≤◌, ◌++◌, List, [], Option, None, IfOk, OnOk, drop, length, map, option_map};
+ghost use Rattle.std.specs.Prelude.{◌≡◌, ◌<◌, ◌≤◌, ◌++◌, true, false, List, [], Option, None, IfOk, OnOk, drop, length, map, option_map};
+ghost use Rattle.std.specs.List.{cons_option};
 ghost use Rattle.std.specs.Option.{option_copied};
 ghost use Rattle.std.specs.declared.cmp.Ordering.{Ordering};
 ghost use Rattle.vc_tree_model.specs.Tree.{shortened};
@@ -16,20 +17,24 @@ ghost use Rattle.vc_tree_model.specs.Canonical.{AreChildren};
 ghost use Rattle.vc_tree_model.specs.Child.{solid_child};
 ghost use Rattle.vc_tree_edits.specs.Taken.{IsMet, IsTaken, IsBegun, IsNext, IsAdded, IsFirstLong, IsStayed, IsCome};
 
+use crate::rows::Row;
 use std::alloc::{AllocError, Global};
 use std::mem;
-use vc_merge::inplace::InPlace;
 use vc_merge::states::Uncounted;
 use vc_tree_combines::engine::{finish, value_at};
 use vc_tree_combines::facing::{Below, Facing, face};
 use vc_tree_combines::sides::{Side, Sides};
 use vc_tree_nodes::building::{Build, Seal};
 use vc_tree_nodes::children::{ChildList, Fragment, Parts};
+use vc_tree_nodes::making::{new_joined, stored};
 use vc_tree_nodes::reading::{RadixNode, TKey, TValue};
 
 /// What a change makes of values, and of trees that one side alone has. Values of the left tree are handed over, and those that
 /// stay are handed back.
 pub trait Change<K: TKey, V: TValue, W: TValue, B: RadixNode<K, W>, T: Build<K, V>>: Sized + Drop {
+    /// Where the children of a node are built: in the list that they stand in, or with room for trees that come in.
+    type Row: Row<K, V, T>;
+
     /// How the right tree is read at a key.
     ghost look: { (cmp : K → K → Ordering) → Look cmp W (Option W) };
 
@@ -54,10 +59,12 @@ pub trait Change<K: TKey, V: TValue, W: TValue, B: RadixNode<K, W>, T: Build<K, 
         ensures { IfOk result (λ made. IsMade K.cmp (λ v z. says self.now v (look K.cmp).none z) (shortened from (T.tree tree))
             (option_map T.tree made)) };
 
-    /// What comes of a tree that the right side alone has, without the first `from` components of its prefix.
+    /// What comes of a tree that the right side alone has, without the first `from` components of its prefix: nothing, where the row
+    /// has no room for it.
     fn right_alone(&self, alloc: Global, tree: &B, from: usize) -> Result<Option<T>, AllocError>
         requires within { from < length (B.tree tree.now).prefix }
-        ensures { IfOk result (λ made. IsMadeBy K.cmp (look K.cmp) (λ w z. says self.now None w z) (shortened from (B.tree tree.now))
+        ensures nothing { Self.Row.grows ≡ false → IfOk result (λ made. made ≡ None) }
+        ensures made { IfOk result (λ made. IsMadeBy K.cmp (look K.cmp) (λ w z. says self.now None w z) (shortened from (B.tree tree.now))
             (option_map T.tree made)) };
 
     ghost says_none: { (op : Self) → says op None (look K.cmp).none None };
@@ -115,7 +122,9 @@ struct Taken<P, V, T> {
     prefix: P,
     /// The value of the key that ends there.
     value: Option<V>,
-    /// What stands below: the children, or the tree itself where its prefix goes on.
+    /// What stands below, where the prefix goes on: the tree itself.
+    whole: Option<T>,
+    /// And else: the children.
     list: Vec<T>,
     /// How many components of their prefixes stand before the place.
     from: usize,
@@ -130,32 +139,44 @@ fn take_apart<K: TKey, V: TValue, T: Build<K, V>>(
 ) -> Result<Taken<T::Prefix, V, T>, AllocError>
     requires within { i ≤ length (T.tree tree).prefix }
     requires front { front ≤ length (drop i (T.tree tree).prefix) }
-    ensures { IfOk result (λ o. IsTaken T.tree T.keeps (shortened i (T.tree tree)) front (T.Prefix.items o.prefix) o.value o.list.items o.from) }
+    ensures { IfOk result (λ o. IsTaken T.tree T.keeps (shortened i (T.tree tree)) front (T.Prefix.items o.prefix) o.value
+        (cons_option o.whole o.list.items) o.from) }
 {
     let whole = tree.prefix();
-    let prefix = T::Prefix::from_slice(alloc, &whole[i..i + front])?;
     if i + front < whole.len() {
-        let mut list = Vec::new(alloc);
-        list.push(tree)?;
         return Ok(Taken {
-            prefix,
+            prefix: T::Prefix::from_slice(alloc, &whole[i..i + front])?,
             value: None,
-            list,
+            whole: Some(tree),
+            list: Vec::new(alloc),
             from: i + front,
         });
     }
     let Parts {
-        prefix: _,
+        prefix,
         value,
         children,
     } = tree.take_apart(Seal::new());
+    let prefix = without_front::<K, T::Prefix>(alloc, prefix, i)?;
     let list = take_list::<K, V, T>(alloc, children)?;
     Ok(Taken {
         prefix,
         value,
+        whole: None,
         list,
         from: 0,
     })
+}
+
+/// The components behind the first `i`. Asks for memory where `i` is above 0 and more than 16 are left.
+fn without_front<K, P: Fragment<K>>(alloc: Global, prefix: P, i: usize) -> Result<P, AllocError>
+    requires { i ≤ length (P.items prefix) }
+    ensures { IfOk result (λ left. P.items left ≡ drop i (P.items prefix)) }
+{
+    if i == 0 {
+        return Ok(prefix);
+    }
+    P::from_slice(alloc, &prefix.as_slice()[i..])
 }
 
 /// The children, taken out of where they are stored. Shared ones are copied.
@@ -172,21 +193,18 @@ fn take_list<K: TKey, V: TValue, T: Build<K, V>>(
     Ok(mem::replace(list, Vec::new(alloc)))
 }
 
-/// Takes out the first tree that is left of a list that is built in place.
-fn next<T>(row: &mut InPlace<T, Global>) -> T
-    requires { 0 < length row.old.rest }
-    ensures { IsNext row.old result row.new }
+/// Takes out the first tree that is left.
+fn next<K: TKey, V: TValue, T: Build<K, V>, R: Row<K, V, T>>(row: &mut R) -> T
+    requires { 0 < length (R.seen row.old).rest }
+    ensures { IsNext (R.seen row.old) result (R.seen row.new) }
 {
-    let Some(tree) = row.pop_front() else {
-        unreachable!()
-    };
-    tree
+    row.pop_first()
 }
 
 /// Puts a tree, if there is one, behind those that are built.
-fn keep<T: Drop>(row: &mut InPlace<T, Global>, tree: Option<T>)
-    requires { 0 < row.old.room }
-    ensures { IsAdded row.old tree row.new }
+fn keep<K: TKey, V: TValue, T: Build<K, V>, R: Row<K, V, T>>(row: &mut R, tree: Option<T>)
+    requires { length (cons_option tree []) ≤ (R.seen row.old).room }
+    ensures { IsAdded (R.seen row.old) tree (R.seen row.new) }
 {
     if let Some(tree) = tree {
         row.push(tree);
@@ -195,7 +213,7 @@ fn keep<T: Drop>(row: &mut InPlace<T, Global>, tree: Option<T>)
 
 /// The state of a change, before the first event is done.
 #[derive(Drop)]
-struct Begun<'b, P, V, T, B, O> {
+struct Begun<'b, P, V, B, O, R> {
     /// The components up to the place where the prefixes part.
     prefix: P,
     /// What is left of the value there.
@@ -203,7 +221,7 @@ struct Begun<'b, P, V, T, B, O> {
     /// The change of all that stands below.
     below: O,
     /// What stands below in the left tree, to be built anew.
-    row: InPlace<T, Global>,
+    row: R,
     /// How many components of their prefixes stand before the place.
     from: usize,
     /// What stands below in the right tree.
@@ -229,14 +247,15 @@ fn begin<
     j: usize,
     known: usize,
     op: &O,
-) -> Result<Begun<'b, T::Prefix, V, T, B, O>, AllocError>
+) -> Result<Begun<'b, T::Prefix, V, B, O, O::Row>, AllocError>
     requires left { i ≤ length (T.tree tree).prefix }
     requires right { j ≤ length (B.tree that.now).prefix }
     requires known { Agree K.cmp (drop i (T.tree tree).prefix) (drop j (B.tree that.now).prefix) known }
     requires asks { (k : List K) → O.asks op.now (lookup K.cmp (shortened i (T.tree tree)) k)
         ((O.look K.cmp).of_tree (shortened j (B.tree that.now)) k) }
-    ensures { IfOk result (λ s. IsBegun K.cmp T.tree B.tree (O.look K.cmp) T.keeps (O.says op.now) (O.says s.below) (O.asks s.below)
-        (shortened i (T.tree tree)) (shortened j (B.tree that.now)) (T.Prefix.items s.prefix) s.value s.row s.from
+    ensures { IfOk result (λ s. IsBegun K.cmp T.tree B.tree (O.look K.cmp) T.keeps O.Row.grows (O.says op.now) (O.says s.below)
+        (O.asks s.below) (shortened i (T.tree tree)) (shortened j (B.tree that.now)) (T.Prefix.items s.prefix) s.value
+        (O.Row.seen s.row) s.from
         (trees_below s.right) s.right.from s.sides.items) }
 {
     // The law of trees, that they are canonical, comes with the prefix.
@@ -250,11 +269,12 @@ fn begin<
     let Taken {
         prefix,
         value,
-        mut list,
+        whole,
+        list,
         from,
     } = take_apart(alloc, tree, i, front)?;
     let (value, below) = op.at_values(value, value_at(that, j, front))?;
-    let row = InPlace::new(&mut list, sides.len())?;
+    let row = O::Row::open(whole, list, sides.len())?;
     Ok(Begun {
         prefix,
         value,
@@ -274,13 +294,13 @@ fn stay<
     B: RadixNode<K, W>,
     T: Build<K, V>,
     O: Change<K, V, W, B, T>,
->(alloc: Global, row: &mut InPlace<T, Global>, from: usize, op: &O) -> Result<(), AllocError>
-    requires there { 0 < length row.old.rest }
-    requires long { IsFirstLong T.tree from row.old.rest }
-    ensures { OnOk result (IsStayed K.cmp T.tree B.tree (O.look K.cmp) (O.says op.now) from row.old row.new) }
+>(alloc: Global, row: &mut O::Row, from: usize, op: &O) -> Result<(), AllocError>
+    requires there { 0 < length (O.Row.seen row.old).rest }
+    requires long { IsFirstLong T.tree from (O.Row.seen row.old).rest }
+    ensures { OnOk result (IsStayed K.cmp T.tree B.tree (O.look K.cmp) (O.says op.now) from (O.Row.seen row.old) (O.Row.seen row.new)) }
 {
-    let kid = op.left_alone(alloc, next(row), from)?;
-    keep(row, kid);
+    let kid = op.left_alone(alloc, row.pop_first(), from)?;
+    keep::<K, V, T, O::Row>(row, kid);
     Ok(())
 }
 
@@ -292,35 +312,54 @@ fn come<
     B: RadixNode<K, W>,
     T: Build<K, V>,
     O: Change<K, V, W, B, T>,
->(
-    alloc: Global,
-    row: &mut InPlace<T, Global>,
-    that: &mut Below<'_, B>,
-    op: &O,
-) -> Result<(), AllocError>
+>(alloc: Global, row: &mut O::Row, that: &mut Below<'_, B>, op: &O) -> Result<(), AllocError>
     requires long { IsFirstLong B.tree that.old.from (trees_below that.old) }
-    requires room { 0 < row.old.room }
+    requires room { O.Row.grows ≡ true → 0 < (O.Row.seen row.old).room }
     ensures come { OnOk result (IsCome K.cmp T.tree B.tree (O.look K.cmp) (O.says op.now) that.old.from (trees_below that.old)
-        (trees_below that.new) row.old row.new) }
+        (trees_below that.new) (O.Row.seen row.old) (O.Row.seen row.new)) }
     ensures from { that.new.from ≡ that.old.from }
 {
     let kid = op.right_alone(alloc, that.next(), that.from)?;
-    keep(row, kid);
+    keep::<K, V, T, O::Row>(row, kid);
     Ok(())
 }
 
 /// The node of what was built, as a child.
-fn end<K: TKey, V: TValue, T: Build<K, V>>(
+fn end<K: TKey, V: TValue, T: Build<K, V>, R: Row<K, V, T>>(
     alloc: Global,
     prefix: T::Prefix,
     value: Option<V>,
-    row: InPlace<T, Global>,
+    row: R,
 ) -> Result<Option<T>, AllocError>
-    requires { AreChildren K.cmp (seen T.tree row.built) }
-    ensures { IfOk result (λ made. option_map T.tree made ≡ solid_child (T.Prefix.items prefix) value (seen T.tree row.built)) }
+    requires { AreChildren K.cmp (seen T.tree (R.seen row).built) }
+    ensures { IfOk result (λ made. option_map T.tree made ≡ solid_child (T.Prefix.items prefix) value (seen T.tree (R.seen row).built)) }
 {
-    let kids = row.finish();
-    finish(alloc, prefix.as_slice(), value, kids)
+    let (whole, mut kids) = row.finish();
+    let Some(kid) = whole else {
+        return finish_in::<K, V, T>(alloc, prefix, value, kids);
+    };
+    if value.is_none() && kids.is_empty() {
+        return Ok(Some(new_joined(alloc, prefix.as_slice(), kid)?));
+    }
+    kids.insert(0, kid)?;
+    finish_in::<K, V, T>(alloc, prefix, value, kids)
+}
+
+/// The node of these parts as a child. A prefix that stays is moved.
+fn finish_in<K: TKey, V: TValue, T: Build<K, V>>(
+    alloc: Global,
+    prefix: T::Prefix,
+    value: Option<V>,
+    kids: Vec<T>,
+) -> Result<Option<T>, AllocError>
+    requires { AreChildren K.cmp (seen T.tree kids.items) }
+    ensures { IfOk result (λ made. option_map T.tree made ≡ solid_child (T.Prefix.items prefix) value (seen T.tree kids.items)) }
+{
+    if value.is_none() && kids.len() < 2 {
+        return finish(alloc, prefix.as_slice(), value, kids);
+    }
+    let children = stored::<K, V, T>(kids)?;
+    Ok(Some(T::assemble(prefix, value, children, Seal::new())))
 }
 
 /// Changes a tree without the first `i` components of its prefix, by another one without the first `j` of its own: `None` where no
@@ -368,13 +407,13 @@ pub fn change_at<
                 come::<K, V, W, B, T, O>(alloc, &mut row, &mut right, &below)?;
             }
             Side::Both => {
-                let (x, y) = (next(&mut row), right.next());
+                let (x, y) = (next::<K, V, T, O::Row>(&mut row), right.next());
                 let kid = change_at(alloc, x, from, y, right.from, 1, &below)?;
-                keep(&mut row, kid);
+                keep::<K, V, T, O::Row>(&mut row, kid);
             }
         }
         todo = others;
     }
-    let made = end(alloc, prefix, value, row)?;
+    let made = end::<K, V, T, O::Row>(alloc, prefix, value, row)?;
     Ok(made)
 }

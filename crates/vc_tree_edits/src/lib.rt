@@ -6,3 +6,4 @@ mod changes;
 pub mod combining;
 pub mod engine;
 pub mod prepending;
+mod rows;

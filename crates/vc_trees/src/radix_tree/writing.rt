@@ -146,8 +146,9 @@ pub trait AbstractRadixTreeMut<K: TKey, V: TValue>: CloneTree<K, V> + AbstractRa
 
     /// Keeps the keys that both bind. Their values stay in place.
     ///
-    /// Fails only where memory is refused, for a prefix of more than 16 components, for lists of children that are built anew, or for
-    /// the copy of shared children; the tree is then empty.
+    /// Children that stay do so in their own list. Memory is asked for only where a prefix of more than 16 components is cut or joined,
+    /// where more than 32 children are told apart at one place, and in the shared flavour once for each node on the way that keeps
+    /// children, and for the copy of those that another tree holds too. Fails only where it is refused; the tree is then empty.
     final fn intersection_with<W: TValue, S: AbstractRadixTree<K, W>>(
         &mut self,
         that: &S,
@@ -162,8 +163,9 @@ pub trait AbstractRadixTreeMut<K: TKey, V: TValue>: CloneTree<K, V> + AbstractRa
 
     /// Keeps the keys that this tree alone binds. Their values stay in place.
     ///
-    /// Fails only where memory is refused, for a prefix of more than 16 components, for lists of children that are built anew, or for
-    /// the copy of shared children; the tree is then empty.
+    /// Children that stay do so in their own list. Memory is asked for only where a prefix of more than 16 components is cut or joined,
+    /// where more than 32 children are told apart at one place, and in the shared flavour once for each node on the way that keeps
+    /// children, and for the copy of those that another tree holds too. Fails only where it is refused; the tree is then empty.
     final fn difference_with<W: TValue, S: AbstractRadixTree<K, W>>(
         &mut self,
         that: &S,
@@ -199,8 +201,9 @@ pub trait AbstractRadixTreeMut<K: TKey, V: TValue>: CloneTree<K, V> + AbstractRa
     /// Keeps the keys that both bind and at which the closure answers true. It is handed this tree's value itself, which it may write
     /// to, and the other one's.
     ///
-    /// Fails only where memory is refused, for a prefix of more than 16 components, for lists of children that are built anew, or for
-    /// the copy of shared children; the tree is then empty.
+    /// Children that stay do so in their own list. Memory is asked for only where a prefix of more than 16 components is cut or joined,
+    /// where more than 32 children are told apart at one place, and in the shared flavour once for each node on the way that keeps
+    /// children, and for the copy of those that another tree holds too. Fails only where it is refused; the tree is then empty.
     final fn inner_combine_with<W: TValue, S: AbstractRadixTree<K, W>, F: Fn(&mut V, &W) -> bool>(
         &mut self,
         that: &S,
@@ -218,8 +221,9 @@ pub trait AbstractRadixTreeMut<K: TKey, V: TValue>: CloneTree<K, V> + AbstractRa
     /// Keeps the keys that this tree alone binds, with their values, and those of both at which the closure answers true. It is handed
     /// this tree's value itself, which it may write to, and the other one's.
     ///
-    /// Fails only where memory is refused, for a prefix of more than 16 components, for lists of children that are built anew, or for
-    /// the copy of shared children; the tree is then empty.
+    /// Children that stay do so in their own list. Memory is asked for only where a prefix of more than 16 components is cut or joined,
+    /// where more than 32 children are told apart at one place, and in the shared flavour once for each node on the way that keeps
+    /// children, and for the copy of those that another tree holds too. Fails only where it is refused; the tree is then empty.
     final fn left_combine_with<W: TValue, S: AbstractRadixTree<K, W>, F: Fn(&mut V, &W) -> bool>(
         &mut self,
         that: &S,
@@ -237,8 +241,9 @@ pub trait AbstractRadixTreeMut<K: TKey, V: TValue>: CloneTree<K, V> + AbstractRa
     /// Removes the keys that the other tree covers: of its keys that are prefixes of a key the longest decides, by what the closure
     /// answers of its value. A key is a prefix of itself. The other values stay in place.
     ///
-    /// Fails only where memory is refused, for a prefix of more than 16 components, for lists of children that are built anew, or for
-    /// the copy of shared children; the tree is then empty.
+    /// Children that stay do so in their own list. Memory is asked for only where a prefix of more than 16 components is cut or joined,
+    /// where more than 32 children are told apart at one place, and in the shared flavour once for each node on the way that keeps
+    /// children, and for the copy of those that another tree holds too. Fails only where it is refused; the tree is then empty.
     final fn remove_prefix_with<W: TValue, S: AbstractRadixTree<K, W>, F: Fn(&W) -> bool>(
         &mut self,
         that: &S,
@@ -256,8 +261,9 @@ pub trait AbstractRadixTreeMut<K: TKey, V: TValue>: CloneTree<K, V> + AbstractRa
     /// Keeps exactly the keys that the other tree covers: of its keys that are prefixes of a key the longest decides, by what the
     /// closure answers of its value. A key is a prefix of itself. Values that stay do so in place.
     ///
-    /// Fails only where memory is refused, for a prefix of more than 16 components, for lists of children that are built anew, or for
-    /// the copy of shared children; the tree is then empty.
+    /// Children that stay do so in their own list. Memory is asked for only where a prefix of more than 16 components is cut or joined,
+    /// where more than 32 children are told apart at one place, and in the shared flavour once for each node on the way that keeps
+    /// children, and for the copy of those that another tree holds too. Fails only where it is refused; the tree is then empty.
     final fn retain_prefix_with<W: TValue, S: AbstractRadixTree<K, W>, F: Fn(&W) -> bool>(
         &mut self,
         that: &S,

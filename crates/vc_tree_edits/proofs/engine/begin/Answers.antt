@@ -19,4 +19,4 @@ returns g c =
     (g.O.Change.says c.in_ok-value.below) (g.O.Change.asks c.in_ok-value.below) (g.O.Change.asks c.args.op.now)
     (g.met.O.Change.says_none c.in_ok-value.below) (g.met.O.Change.asks_none c.in_ok-value.below)
     (g.met.O.Change.asks_kept c.args.op.now) c.requires.asks _ c.value_at.ensures c.in_ok-value.ensures.asked
-    c.in_ok-value.ensures.below _ c.in_ok-value.ensures.value _ _ c.in_ok-row.ensures.ok (omega (arith, c.len.ensures.value))
+    c.in_ok-value.ensures.below _ c.in_ok-value.ensures.value _ _ _ c.in_ok-row.ensures (omega (arith, c.len.ensures.value))
