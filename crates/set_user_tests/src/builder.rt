@@ -7,25 +7,59 @@ use std::rc::Rc;
 use std::test::*;
 use vc_merge::inplace::{InPlace, close, open};
 
-#[test]
-fn builds_in_front_of_what_is_left(rt: HostRuntime) -> Result<(), Fail> {
-    let mut list = vec![in rt.alloc(); 1, 2, 3, 4, 5, 6, 7, 8]?;
+/// Builds in front of what is left of a list: the room that is left on the way, and what was built.
+fn build(alloc: Global) -> Result<([usize; 2], Vec<u32>), AllocError> {
+    let mut list = vec![in alloc; 1, 2, 3, 4, 5, 6, 7, 8]?;
     let mut both = InPlace::new(&mut list, 3)?;
-    assert!(rt; list.is_empty());
     both.take(2);
     both.push(20);
     both.push(21);
     both.push(22);
-    assert_eq!(rt; both.room(), 0);
+    let none = both.room();
     both.take(1);
-    assert_eq!(rt; both.pop_front(), Some(4));
-    assert_eq!(rt; both.room(), 1);
+    both.pop_front();
+    let one = both.room();
     both.drop_front(1);
     both.rest_mut()[0] = 60;
-    assert!(rt; both.rest() == [60, 7, 8].as_slice());
     both.take(1);
-    assert!(rt; both.finish().as_slice() == [1, 2, 20, 21, 22, 3, 60].as_slice());
+    Ok(([none, one], both.finish()))
+}
+
+#[test]
+fn builds_in_front_of_what_is_left(rt: HostRuntime) -> Result<(), Fail> {
+    let (rooms, built) = build(rt.alloc())?;
+    assert_eq!(rt; rooms, [0, 1]);
+    assert!(rt; built.as_slice() == [1, 2, 20, 21, 22, 3, 60].as_slice());
     Ok(())
+}
+
+/// Whether a builder takes the list, and shows what it has and hands it out.
+fn is_shown(alloc: Global) -> Result<bool, AllocError> {
+    let mut list = vec![in alloc; 4, 5, 6]?;
+    let mut both = InPlace::new(&mut list, 0)?;
+    let front = both.pop_front();
+    let is_rest = both.rest() == [5, 6].as_slice();
+    Ok(list.is_empty() && front == Some(4) && is_rest)
+}
+
+#[test]
+fn shows_what_is_left(rt: HostRuntime) -> Result<(), Fail> {
+    assert!(rt; is_shown(rt.alloc())?);
+    Ok(())
+}
+
+/// Builds in a small list, and says whether that was empty meanwhile.
+fn build_small(list: &mut SmallVec<u32, 2>) -> Result<bool, AllocError> {
+    if list.len() != 2 {
+        return Ok(false);
+    }
+    let mut both = open(list, 1)?;
+    let is_empty = list.is_empty();
+    both.take(1);
+    both.push(2);
+    both.take(1);
+    close(list, both);
+    Ok(is_empty)
 }
 
 #[test]
@@ -33,46 +67,64 @@ fn goes_from_a_small_list_and_back(rt: HostRuntime) -> Result<(), Fail> {
     let mut list: SmallVec<u32, 2> = SmallVec::new(rt.alloc());
     list.push(1)?;
     list.push(3)?;
-    let mut both = open(&mut list, 1)?;
-    assert!(rt; list.is_empty());
-    both.take(1);
-    both.push(2);
-    both.take(1);
-    close(&mut list, both);
+    assert!(rt; build_small(&mut list)?);
     assert!(rt; list.as_slice() == [1, 2, 3].as_slice());
     Ok(())
+}
+
+/// A list of clones of a count.
+fn clones(alloc: Global, counted: &Rc<u32>, number: u32) -> Result<Vec<Rc<u32>>, AllocError> {
+    let mut list = Vec::new(alloc);
+    for _ in 0..number {
+        list.push(counted.clone()?)?;
+    }
+    Ok(list)
+}
+
+/// How many hold a count while a builder of a list of its clones drops one, before and after, and once it has finished.
+fn drop_in_builder(
+    counted: &Rc<u32>,
+    mut list: Vec<Rc<u32>>,
+) -> Result<([usize; 3], Vec<Rc<u32>>), AllocError> {
+    if list.len() < 2 {
+        return Ok(([0; 3], list));
+    }
+    let mut both = InPlace::new(&mut list, 1)?;
+    both.take(1);
+    let before = Rc::strong_count(counted);
+    both.drop_front(1);
+    let after = Rc::strong_count(counted);
+    let built = both.finish();
+    Ok(([before, after, Rc::strong_count(counted)], built))
 }
 
 #[test]
 fn drops_each_element_once(rt: HostRuntime) -> Result<(), Fail> {
     let counted = Rc::new(rt.alloc(), 0)?;
-    let mut list = vec![in rt.alloc();
-        counted.clone()?,
-        counted.clone()?,
-        counted.clone()?,
-        counted.clone()?,
-    ]?;
+    let (holders, built) = drop_in_builder(&counted, clones(rt.alloc(), &counted, 4)?)?;
+    assert_eq!(rt; holders, [5, 4, 2]);
+    assert_eq!(rt; built.len(), 1);
+    Ok(())
+}
+
+/// How many hold a count while a builder has one more of it, and once the builder was dropped early.
+fn drop_early(counted: &Rc<u32>, mut list: Vec<Rc<u32>>) -> Result<[usize; 2], AllocError> {
+    if list.is_empty() {
+        return Ok([0; 2]);
+    }
     let mut both = InPlace::new(&mut list, 1)?;
     both.take(1);
-    assert_eq!(rt; Rc::strong_count(&counted), 5);
-    both.drop_front(1);
-    assert_eq!(rt; Rc::strong_count(&counted), 4);
-    let built = both.finish();
-    assert_eq!(rt; built.len(), 1);
-    assert_eq!(rt; Rc::strong_count(&counted), 2);
-    Ok(())
+    both.push(counted.clone()?);
+    let before = Rc::strong_count(counted);
+    drop(both);
+    Ok([before, Rc::strong_count(counted)])
 }
 
 #[test]
 fn drops_each_element_once_where_it_is_dropped_early(rt: HostRuntime) -> Result<(), Fail> {
     let counted = Rc::new(rt.alloc(), 0)?;
-    let mut list = vec![in rt.alloc(); counted.clone()?, counted.clone()?, counted.clone()?]?;
-    let mut both = InPlace::new(&mut list, 1)?;
-    both.take(1);
-    both.push(counted.clone()?);
-    assert_eq!(rt; Rc::strong_count(&counted), 5);
-    drop(both);
-    assert_eq!(rt; Rc::strong_count(&counted), 1);
+    let holders = drop_early(&counted, clones(rt.alloc(), &counted, 3)?)?;
+    assert_eq!(rt; holders, [5, 1]);
     Ok(())
 }
 

@@ -88,33 +88,55 @@ fn fresh<'s, 'a>(
 }
 
 /// Puts what the operation makes in the place of the left set, from a right set that stays.
-fn in_place<'s, 'a>(
+fn change<'s, 'a>(
     a: &'s mut Compareds<'a>,
     b: &'s Compareds<'a>,
     op: SetOp,
 ) -> Result<(), AllocError> {
     match op {
-        SetOp::Union => a.union_with(b)?,
+        SetOp::Union => return a.union_with(b),
         SetOp::Intersection => a.intersection_with(b),
-        SetOp::SymmetricDifference => a.xor_with(b)?,
+        SetOp::SymmetricDifference => return a.xor_with(b),
         SetOp::Difference => a.difference_with(b),
     }
     Ok(())
 }
 
 /// The same from a right set that is gone afterwards.
-fn by_value<'s, 'a>(
+fn change_by_value<'s, 'a>(
     a: &'s mut Compareds<'a>,
     b: Compareds<'a>,
     op: SetOp,
 ) -> Result<(), AllocError> {
     match op {
-        SetOp::Union => a.bitor_assign(b)?,
+        SetOp::Union => return a.bitor_assign(b),
         SetOp::Intersection => *a &= b,
-        SetOp::SymmetricDifference => a.bitxor_assign(b)?,
+        SetOp::SymmetricDifference => return a.bitxor_assign(b),
         SetOp::Difference => *a -= b,
     }
     Ok(())
+}
+
+/// A clone of the left set that was changed by a right set that stays.
+fn in_place<'s, 'a>(
+    a: &'s Compareds<'a>,
+    b: &'s Compareds<'a>,
+    op: SetOp,
+) -> Result<Compareds<'a>, AllocError> {
+    let mut left = a.clone()?;
+    change(&mut left, b, op)?;
+    Ok(left)
+}
+
+/// A clone of the left set that was changed by a clone of the right one, which is moved.
+fn by_value<'s, 'a>(
+    a: &'s Compareds<'a>,
+    b: &'s Compareds<'a>,
+    op: SetOp,
+) -> Result<Compareds<'a>, AllocError> {
+    let mut left = a.clone()?;
+    change_by_value(&mut left, b.clone()?, op)?;
+    Ok(left)
 }
 
 /// Whether the test holds, by the call without a counter.
@@ -131,6 +153,32 @@ fn taken(count: &Cell<u128>) -> u128 {
     count.replace(0)
 }
 
+/// Whether these are equal, and were made with no more comparisons than the bound.
+fn is_made_within<'s, 'a>(
+    made: Compareds<'a>,
+    counted: &'s Compareds<'a>,
+    bound: u128,
+    count: &'a Cell<u128>,
+) -> bool {
+    taken(count) <= bound && made == *counted
+}
+
+/// Whether the operation without a counter makes the same, fresh and in place, and compares no more often than the bound.
+fn uncounted_agrees<'s, 'a>(
+    a: &'s Compareds<'a>,
+    b: &'s Compareds<'a>,
+    op: SetOp,
+    counted: &'s Compareds<'a>,
+    bound: u128,
+    count: &'a Cell<u128>,
+) -> Result<bool, AllocError> {
+    Ok(
+        is_made_within(fresh(a, b, op)?, counted, bound, count)
+            && is_made_within(in_place(a, b, op)?, counted, bound, count)
+            && is_made_within(by_value(a, b, op)?, counted, bound, count),
+    )
+}
+
 /// Whether the operation compares as often as it counts, at most so often, and no more often where it counts none, fresh and in place.
 /// Where both sets have elements it compares.
 fn operation_agrees<'s, 'a>(
@@ -141,24 +189,11 @@ fn operation_agrees<'s, 'a>(
     count: &'a Cell<u128>,
 ) -> Result<bool, AllocError> {
     let mut steps = Steps::new();
-    let (mut left, mut moved, right) = (a.clone()?, a.clone()?, b.clone()?);
     count.set(0);
     let counted = a.combine_counted(b, op, &mut steps)?;
     let seen = taken(count);
-    let uncounted = fresh(a, b, op)?;
-    let fresh_seen = taken(count);
-    in_place(&mut left, b, op)?;
-    let in_place_seen = taken(count);
-    by_value(&mut moved, right, op)?;
-    let by_value_seen = taken(count);
-    Ok(
-        steps.count() == seen
-            && (seen == 0) == (bound == 0)
-            && [seen, fresh_seen, in_place_seen, by_value_seen]
-                .iter()
-                .all(|seen| *seen <= bound)
-            && [uncounted, left, moved].iter().all(|made| *made == counted),
-    )
+    let is_counted = steps.count() == seen && seen <= bound && (seen == 0) == (bound == 0);
+    Ok(is_counted && uncounted_agrees(a, b, op, &counted, bound, count)?)
 }
 
 /// Whether the test compares as often as it counts, at most so often, and no more often where it counts none.

@@ -1,7 +1,6 @@
 //! What calls drop is dropped once, refused ones too, and nothing else is; and calls in place clone nothing of what they keep or
 //! move: elements that share a count with the test, and may refuse to be cloned.
-ghost use Rattle.std.specs.Prelude.{◌≡◌};
-
+use crate::held::{Held, Shared, hold, holders_of};
 use crate::nth::Nth;
 use std::alloc::{AllocError, Global};
 use std::collections::BTreeSet;
@@ -12,45 +11,6 @@ use vc_sets::vec_set::VecSet;
 
 /// Memory of which requests can be refused.
 type Memory = Nth<Nth<Global>>;
-
-/// A count of holders.
-type Shared = Option<Rc<u32>>;
-
-/// A number that holds a share, and may refuse to be cloned. The number alone counts in comparisons.
-#[derive_where(Debug, PartialEq, Eq, PartialOrd, Ord)]
-#[derive(Drop)]
-struct Held {
-    number: u32,
-    #[derive_where(skip)]
-    share: Shared,
-    #[derive_where(skip)]
-    refuses: bool,
-}
-
-impl Default for Held {
-    fn default() -> Held {
-        Held {
-            number: 0,
-            share: None,
-            refuses: false,
-        }
-    }
-}
-
-impl Clone for Held {
-    ghost is_clone = { λ x y. y.number ≡ x.number };
-
-    fn clone(&self) -> Result<Held, AllocError> {
-        if self.refuses {
-            return Err(AllocError);
-        }
-        Ok(Held {
-            number: self.number,
-            share: self.share.clone()?,
-            refuses: self.refuses,
-        })
-    }
-}
 
 /// A set of them.
 type Set<'a> = VecSet<Held, 2, &'a Memory>;
@@ -70,18 +30,9 @@ struct Six {
 
 impl Six {
     fn new(alloc: Global) -> Result<Six, AllocError> {
-        Ok(Six {
-            left: [
-                Some(Rc::new(alloc, 1)?),
-                Some(Rc::new(alloc, 2)?),
-                Some(Rc::new(alloc, 3)?),
-            ],
-            right: [
-                Some(Rc::new(alloc, 2)?),
-                Some(Rc::new(alloc, 3)?),
-                Some(Rc::new(alloc, 4)?),
-            ],
-        })
+        let left = three(alloc, 1)?;
+        let right = three(alloc, 2)?;
+        Ok(Six { left, right })
     }
 
     /// How many hold each of them, the left ones first.
@@ -99,18 +50,12 @@ impl Six {
     }
 }
 
-fn holders_of(share: &Shared) -> usize {
-    share.as_ref().map_or(0, |rc| Rc::strong_count(rc))
-}
-
-/// The number of a share, and one more holder of it.
-fn hold(share: &Shared, refuses: bool) -> Result<Held, AllocError> {
-    let number = share.as_ref().map_or(0, |rc| **rc);
-    Ok(Held {
-        number,
-        share: share.clone()?,
-        refuses,
-    })
+/// Shares of three numbers in a row.
+fn three(alloc: Global, first: u32) -> Result<[Shared; 3], AllocError> {
+    let a = Rc::new(alloc, first)?;
+    let b = Rc::new(alloc, first.saturating_add(1))?;
+    let c = Rc::new(alloc, first.saturating_add(2))?;
+    Ok([Some(a), Some(b), Some(c)])
 }
 
 /// The set of the numbers of shares.
@@ -151,17 +96,35 @@ impl Change {
     /// Makes the call. The right set is gone afterwards.
     fn make<'a>(self, left: &mut Set<'a>, right: Set<'a>) -> Result<(), AllocError> {
         match self {
-            Change::UnionWith => left.union_with(&right)?,
-            Change::XorWith => left.xor_with(&right)?,
-            Change::IntersectionWith => left.intersection_with(&right),
-            Change::DifferenceWith => left.difference_with(&right),
-            Change::BitorAssign => left.bitor_assign(right)?,
-            Change::BitxorAssign => left.bitxor_assign(right)?,
-            Change::Extend => left.extend(right.into_iter())?,
-            Change::AndAssign => *left &= right,
-            Change::AndAssignReference => *left &= &right,
-            Change::MinusAssign => *left -= right,
-            Change::MinusAssignReference => *left -= &right,
+            Change::BitorAssign => left.bitor_assign(right),
+            Change::BitxorAssign => left.bitxor_assign(right),
+            Change::Extend => left.extend(right.into_iter()),
+            Change::AndAssign => {
+                *left &= right;
+                Ok(())
+            }
+            Change::MinusAssign => {
+                *left -= right;
+                Ok(())
+            }
+            _ => self.make_by_reference(left, &right),
+        }
+    }
+
+    /// Makes the call, where it takes the right set by reference.
+    fn make_by_reference<'s, 'a>(
+        self,
+        left: &'s mut Set<'a>,
+        right: &'s Set<'a>,
+    ) -> Result<(), AllocError> {
+        match self {
+            Change::UnionWith => return left.union_with(right),
+            Change::XorWith => return left.xor_with(right),
+            Change::IntersectionWith => left.intersection_with(right),
+            Change::DifferenceWith => left.difference_with(right),
+            Change::AndAssignReference => *left &= right,
+            Change::MinusAssignReference => *left -= right,
+            _ => {}
         }
         Ok(())
     }
@@ -202,25 +165,36 @@ fn try_change(
     Ok((is_made, six.holders()))
 }
 
+/// Whether the call drops each element once and clones none that it keeps, where the request of that number and the next one are
+/// refused.
+fn is_dropped_once(
+    six: &Six,
+    memory: &Memory,
+    (call, changed): (Change, [usize; 6]),
+    right_refuses: bool,
+    number: u64,
+) -> Result<bool, AllocError> {
+    let is_refused = right_refuses && call.clones();
+    let (is_made, holders) = try_change(six, memory, call, right_refuses, number)?;
+    let is_right = if is_made {
+        !is_refused && holders == changed
+    } else {
+        (is_refused || 0 < number) && holders == UNCHANGED
+    };
+    Ok(is_right && six.holders() == ALONE)
+}
+
 #[test]
 fn changes_drop_each_element_once_and_clone_none_that_they_keep(
     rt: HostRuntime,
 ) -> Result<(), Fail> {
     let six = Six::new(rt.alloc())?;
     let memory = Nth::new(Nth::new(rt.alloc(), 0), 0);
-    for (call, changed) in CHANGES {
+    for row in CHANGES {
         for right_refuses in [false, true] {
-            let is_refused = right_refuses && call.clones();
             for number in 0..LIMIT {
-                let (is_made, holders) = try_change(&six, &memory, call, right_refuses, number)?;
-                assert!(rt; !(is_made && is_refused), "{call:?}");
-                assert!(rt; is_made || is_refused || 0 < number, "{call:?}");
-                assert_eq!(rt;
-                    holders,
-                    if is_made { changed } else { UNCHANGED },
-                    "{call:?}"
-                );
-                assert_eq!(rt; six.holders(), ALONE, "{call:?}");
+                let is_right = is_dropped_once(&six, &memory, row, right_refuses, number)?;
+                assert!(rt; is_right, "{row:?} at {number}");
             }
         }
     }
@@ -256,50 +230,95 @@ impl Taking {
         six: &Six,
         number: u64,
     ) -> Result<(), AllocError> {
-        let [a, b, c] = &six.left;
         match self {
-            Taking::Insert => {
-                let mut set = Set::empty(memory);
-                set.insert(hold(a, true)?)?;
-                set.insert(hold(b, true)?)?;
-                memory.refuse_two(number);
-                set.insert(hold(c, true)?)?;
-            }
-            Taking::Single => {
-                memory.refuse_two(number);
-                let _set: VecSet<Held, 0, &Memory> = VecSet::single(memory, hold(a, true)?)?;
-            }
-            Taking::FromVec => {
-                let list = vec![in alloc; hold(a, true)?, hold(b, true)?, hold(c, true)?]?;
-                if ascends(list.as_slice()) {
-                    memory.refuse_two(number);
-                    let _set = Set::from_vec(memory, list)?;
-                }
-            }
-            Taking::FromIter => {
-                let elements = set_of(memory, &six.left, true)?.into_iter();
-                memory.refuse_two(number);
-                let _set = Set::from_iter(memory, elements)?;
-            }
-            Taking::FromBtreeSet => {
-                let mut tree = BTreeSet::new(alloc);
-                for share in &six.left {
-                    tree.insert(hold(share, true)?)?;
-                }
-                memory.refuse_two(number);
-                let _set = Set::from_btree_set(memory, tree)?;
-            }
-            Taking::IntoVec => {
-                let mut set: VecSet<Held, 4, &Memory> = VecSet::empty(memory);
-                for share in &six.left {
-                    set.insert(hold(share, true)?)?;
-                }
-                memory.refuse_two(number);
-                let _list = set.into_vec()?;
-            }
+            Taking::Insert => insert(memory, six, number),
+            Taking::Single => single(memory, six, number),
+            Taking::FromVec => from_vec(alloc, memory, six, number),
+            Taking::FromIter => from_iter(memory, six, number),
+            Taking::FromBtreeSet => from_btree_set(alloc, memory, six, number),
+            Taking::IntoVec => into_vec(memory, six, number),
         }
-        Ok(())
     }
+}
+
+/// Inserts into a full set.
+fn insert(memory: &Memory, six: &Six, number: u64) -> Result<(), AllocError> {
+    let mut set = Set::empty(memory);
+    for share in &six.left {
+        if set.len() == 2 {
+            memory.refuse_two(number);
+        }
+        set.insert(hold(share, true)?)?;
+    }
+    Ok(())
+}
+
+/// Makes a set of one element.
+fn single(memory: &Memory, six: &Six, number: u64) -> Result<(), AllocError> {
+    let [a, _, _] = &six.left;
+    memory.refuse_two(number);
+    let _set: VecSet<Held, 0, &Memory> = VecSet::single(memory, hold(a, true)?)?;
+    Ok(())
+}
+
+/// The elements of the left shares as a list.
+fn list_of(alloc: Global, six: &Six) -> Result<Vec<Held>, AllocError> {
+    let mut list = Vec::new(alloc);
+    for share in &six.left {
+        list.push(hold(share, true)?)?;
+    }
+    Ok(list)
+}
+
+/// Makes a set of a list.
+fn from_vec(alloc: Global, memory: &Memory, six: &Six, number: u64) -> Result<(), AllocError> {
+    let list = list_of(alloc, six)?;
+    if ascends(list.as_slice()) {
+        memory.refuse_two(number);
+        let _set = Set::from_vec(memory, list)?;
+    }
+    Ok(())
+}
+
+/// Makes a set of an iterator.
+fn from_iter(memory: &Memory, six: &Six, number: u64) -> Result<(), AllocError> {
+    let elements = set_of(memory, &six.left, true)?.into_iter();
+    memory.refuse_two(number);
+    let _set = Set::from_iter(memory, elements)?;
+    Ok(())
+}
+
+/// The elements of the left shares as a tree.
+fn tree_of(alloc: Global, six: &Six) -> Result<BTreeSet<Held>, AllocError> {
+    let mut tree = BTreeSet::new(alloc);
+    for share in &six.left {
+        tree.insert(hold(share, true)?)?;
+    }
+    Ok(tree)
+}
+
+/// Makes a set of a tree.
+fn from_btree_set(
+    alloc: Global,
+    memory: &Memory,
+    six: &Six,
+    number: u64,
+) -> Result<(), AllocError> {
+    let tree = tree_of(alloc, six)?;
+    memory.refuse_two(number);
+    let _set = Set::from_btree_set(memory, tree)?;
+    Ok(())
+}
+
+/// Makes a list of a set in place.
+fn into_vec(memory: &Memory, six: &Six, number: u64) -> Result<(), AllocError> {
+    let mut set: VecSet<Held, 4, &Memory> = VecSet::empty(memory);
+    for share in &six.left {
+        set.insert(hold(share, true)?)?;
+    }
+    memory.refuse_two(number);
+    let _list = set.into_vec()?;
+    Ok(())
 }
 
 #[test]
@@ -310,11 +329,40 @@ fn refused_calls_drop_what_they_took_once(rt: HostRuntime) -> Result<(), Fail> {
         for number in 0..LIMIT {
             let is_made = call.make(rt.alloc(), &memory, &six, number).is_ok();
             memory.refuse_two(0);
-            assert_eq!(rt; six.holders(), ALONE, "{call:?}");
-            assert!(rt; is_made == (number != 1), "{call:?} at {number}");
+            let is_right = is_made == (number != 1) && six.holders() == ALONE;
+            assert!(rt; is_right, "{call:?} at {number}");
         }
     }
     Ok(())
+}
+
+/// The holders after a number of a set was inserted again.
+fn insert_again(six: &Six, set: &mut Set<'_>) -> Result<[usize; 6], AllocError> {
+    let [two, _, _] = &six.right;
+    set.insert(hold(two, true)?)?;
+    Ok(six.holders())
+}
+
+/// The holders after a number was removed.
+fn remove(six: &Six, set: &mut Set<'_>) -> Result<[usize; 6], AllocError> {
+    let [two, _, _] = &six.right;
+    set.remove(&hold(two, true)?);
+    Ok(six.holders())
+}
+
+/// The holders after a set kept its first element alone.
+fn keep_first(six: &Six, set: &mut Set<'_>) -> [usize; 6] {
+    set.retain(|element| element.number == 1);
+    six.holders()
+}
+
+/// The holders after the first element was taken out of a set, which is left in an iterator, and after the iterator is gone.
+fn take_first(six: &Six, set: Set<'_>) -> ([usize; 6], [usize; 6]) {
+    let mut elements = set.into_iter();
+    drop(elements.next());
+    let left = six.holders();
+    drop(elements);
+    (left, six.holders())
 }
 
 #[test]
@@ -322,22 +370,21 @@ fn elements_that_go_are_dropped(rt: HostRuntime) -> Result<(), Fail> {
     let six = Six::new(rt.alloc())?;
     let memory = Nth::new(Nth::new(rt.alloc(), 0), 0);
     let mut set = set_of(&memory, &six.left, true)?;
-    let [two, _, _] = &six.right;
-    set.insert(hold(two, true)?)?;
+    let inserted = insert_again(&six, &mut set)?;
+    let removed = remove(&six, &mut set)?;
+    let kept = keep_first(&six, &mut set);
+    let again = insert_again(&six, &mut set)?;
+    let (left, ended) = take_first(&six, set);
     assert_eq!(rt;
-        six.holders(),
-        [2, 1, 2, 2, 1, 1],
-        "the old of two equal ones"
+        [inserted, removed, kept, again, left, ended],
+        [
+            [2, 1, 2, 2, 1, 1],
+            [2, 1, 2, 1, 1, 1],
+            [2, 1, 1, 1, 1, 1],
+            [2, 1, 1, 2, 1, 1],
+            [1, 1, 1, 2, 1, 1],
+            ALONE,
+        ]
     );
-    set.remove(&hold(two, true)?);
-    assert_eq!(rt; six.holders(), [2, 1, 2, 1, 1, 1], "removed");
-    set.retain(|element| element.number == 1);
-    assert_eq!(rt; six.holders(), [2, 1, 1, 1, 1, 1], "not kept");
-    set.insert(hold(two, true)?)?;
-    let mut elements = set.into_iter();
-    drop(elements.next());
-    assert_eq!(rt; six.holders(), [1, 1, 1, 2, 1, 1], "taken");
-    drop(elements);
-    assert_eq!(rt; six.holders(), ALONE, "left in the iterator");
     Ok(())
 }

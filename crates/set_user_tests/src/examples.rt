@@ -1,5 +1,6 @@
 //! Worked examples of sets, with answers from outside, and what no clause says of them: printed text and hashes.
 
+use crate::marked::Marked;
 use smallvec::SmallVec;
 use std::alloc::{AllocError, Global};
 use std::cell::Cell;
@@ -92,21 +93,21 @@ const ROWS: [Row; 7] = [
     },
 ];
 
-/// Whether the operations and the tests of the two sets answer what the row says.
-fn agrees(left: &Numbers, right: &Numbers, row: &Row) -> Result<bool, AllocError> {
-    let either = left.union(right)?;
-    let both = left.intersection(right)?;
-    let one = left.symmetric_difference(right)?;
-    let rest = left.difference(right)?;
+/// Whether the operations of the two sets make what the row says.
+fn operations_agree(left: &Numbers, right: &Numbers, row: &Row) -> Result<bool, AllocError> {
     Ok(
-        either.as_ref() == row.union
-            && both.as_ref() == row.intersection
-            && one.as_ref() == row.symmetric_difference
-            && rest.as_ref() == row.difference
-            && left.is_disjoint(right) == both.is_empty()
-            && left.is_subset(right) == rest.is_empty()
-            && left.is_superset(right) == (either == *left),
+        left.union(right)?.as_ref() == row.union
+            && left.intersection(right)?.as_ref() == row.intersection
+            && left.symmetric_difference(right)?.as_ref() == row.symmetric_difference
+            && left.difference(right)?.as_ref() == row.difference,
     )
+}
+
+/// Whether the tests of the two sets answer what the row says.
+fn tests_agree(left: &Numbers, right: &Numbers, row: &Row) -> bool {
+    left.is_disjoint(right) == row.intersection.is_empty()
+        && left.is_subset(right) == row.difference.is_empty()
+        && left.is_superset(right) == (row.union == left.as_ref())
 }
 
 #[test]
@@ -114,27 +115,10 @@ fn operations_are_as_worked_out(rt: HostRuntime) -> Result<(), Fail> {
     for row in &ROWS {
         let left = numbers(rt.alloc(), row.left)?;
         let right = numbers(rt.alloc(), row.right)?;
-        assert!(rt; agrees(&left, &right, row)?, "{:?}", row.union);
+        let agree = operations_agree(&left, &right, row)? && tests_agree(&left, &right, row);
+        assert!(rt; agree, "{:?}", row.union);
     }
     Ok(())
-}
-
-/// A number with a mark that does not count in comparisons.
-#[derive(Clone, Copy)]
-#[derive_where(Debug, PartialEq, Eq, PartialOrd, Ord)]
-struct Marked {
-    number: u32,
-    #[derive_where(skip)]
-    mark: char,
-}
-
-impl Default for Marked {
-    fn default() -> Marked {
-        Marked {
-            number: 0,
-            mark: ' ',
-        }
-    }
 }
 
 /// The mark of the only element, or a blank.
@@ -145,54 +129,84 @@ fn only_mark(set: &VecSet<Marked, 2>) -> char {
     }
 }
 
-#[test]
-fn insert_takes_the_new_and_union_the_left(rt: HostRuntime) -> Result<(), Fail> {
-    let mut set = VecSet::single(
-        rt.alloc(),
-        Marked {
-            number: 1,
-            mark: 'a',
-        },
-    )?;
-    assert!(rt;
-        !set.insert(Marked {
-            number: 1,
-            mark: 'b'
-        })?
-    );
-    assert_eq!(rt; only_mark(&set), 'b');
-    let that: VecSet<Marked, 2> = VecSet::single(
-        rt.alloc(),
-        Marked {
-            number: 1,
-            mark: 'c',
-        },
-    )?;
+/// The set of 1 with that mark.
+fn one(alloc: Global, mark: char) -> Result<VecSet<Marked, 2>, AllocError> {
+    VecSet::single(alloc, Marked { number: 1, mark })
+}
+
+/// Whether the element was new to an insert, and the marks after that, after a union with a set that stays and one with a set that is
+/// moved.
+fn marks(
+    set: &mut VecSet<Marked, 2>,
+    that: VecSet<Marked, 2>,
+) -> Result<(bool, [char; 3]), AllocError> {
+    let is_new = set.insert(Marked {
+        number: 1,
+        mark: 'b',
+    })?;
+    let inserted = only_mark(set);
     set.union_with(&that)?;
-    assert_eq!(rt; only_mark(&set), 'b');
+    let united = only_mark(set);
     set.bitor_assign(that)?;
-    assert_eq!(rt; only_mark(&set), 'b');
-    Ok(())
+    Ok((is_new, [inserted, united, only_mark(set)]))
 }
 
 #[test]
-fn sets_come_from_lists_and_turn_into_them(rt: HostRuntime) -> Result<(), Fail> {
-    let set = numbers(rt.alloc(), &[3, 1, 2])?;
-    let list = vec![in rt.alloc(); 1, 2, 3]?;
-    assert!(rt; ascends(list.as_slice()));
-    assert_eq!(rt; Numbers::from_vec(rt.alloc(), list)?, set);
-    assert_eq!(rt; Numbers::from_iter(rt.alloc(), 1..4)?, set);
-    let copy = set.clone()?;
-    assert_eq!(rt; Numbers::from_iter(rt.alloc(), copy.into_iter())?, set);
-    let mut tree = BTreeSet::new(rt.alloc());
-    for x in &set {
+fn insert_takes_the_new_and_union_the_left(rt: HostRuntime) -> Result<(), Fail> {
+    let mut set = one(rt.alloc(), 'a')?;
+    let (is_new, marks) = marks(&mut set, one(rt.alloc(), 'c')?)?;
+    assert!(rt; !is_new);
+    assert_eq!(rt; marks, ['b', 'b', 'b']);
+    Ok(())
+}
+
+/// The set of a list, or of no element where that does not ascend.
+fn of_list(alloc: Global) -> Result<Numbers, AllocError> {
+    let list = vec![in alloc; 1, 2, 3]?;
+    if ascends(list.as_slice()) {
+        Numbers::from_vec(alloc, list)
+    } else {
+        Ok(Numbers::empty(alloc))
+    }
+}
+
+/// The set of a tree.
+fn of_tree(alloc: Global, set: &Numbers) -> Result<Numbers, AllocError> {
+    let mut tree = BTreeSet::new(alloc);
+    for x in set {
         tree.insert(*x)?;
     }
-    assert_eq!(rt; Numbers::from_btree_set(rt.alloc(), tree)?, set);
+    Numbers::from_btree_set(alloc, tree)
+}
+
+#[test]
+fn sets_come_from_lists(rt: HostRuntime) -> Result<(), Fail> {
+    let set = numbers(rt.alloc(), &[3, 1, 2])?;
+    assert!(rt; of_list(rt.alloc())? == set);
+    assert!(rt; Numbers::from_iter(rt.alloc(), 1..4)? == set);
+    assert!(rt; of_tree(rt.alloc(), &set)? == set);
+    let copy = set.clone()?;
+    assert!(rt; Numbers::from_iter(rt.alloc(), copy.into_iter())? == set);
+    Ok(())
+}
+
+/// The set of the small list that a set turns into.
+fn of_small_list(set: &Numbers) -> Result<Numbers, AllocError> {
     let list: SmallVec<u32, 2> = set.clone()?.into();
-    assert_eq!(rt; set_of_list(list).as_ref(), [1, 2, 3].as_slice());
-    assert_eq!(rt; set.clone()?.into_vec()?.as_slice(), [1, 2, 3].as_slice());
-    assert_eq!(rt; set.into_inner().as_slice(), [1, 2, 3].as_slice());
+    Ok(set_of_list(list))
+}
+
+/// The list of a set that is copied.
+fn list_of(set: &Numbers) -> Result<Vec<u32>, AllocError> {
+    set.clone()?.into_vec()
+}
+
+#[test]
+fn sets_turn_into_lists(rt: HostRuntime) -> Result<(), Fail> {
+    let set = numbers(rt.alloc(), &[3, 1, 2])?;
+    assert!(rt; of_small_list(&set)? == set);
+    assert!(rt; list_of(&set)?.as_slice() == set.as_ref());
+    assert!(rt; set.into_inner().as_slice() == [1, 2, 3].as_slice());
     Ok(())
 }
 
@@ -203,26 +217,46 @@ fn hash_of<const N: usize>(set: &VecSet<u32, N>) -> u64 {
     hasher.finish()
 }
 
+/// Whether a set is ordered before the set of 1 and 3, and hashed as a set that was longer, but not as that one.
+fn compares(alloc: Global, set: &Numbers) -> Result<bool, AllocError> {
+    let greater = numbers(alloc, &[1, 3])?;
+    let mut spilled = numbers(alloc, &[1, 2, 3])?;
+    spilled.remove(&3);
+    Ok(
+        set.cmp(&greater) == Ordering::Less
+            && hash_of(&spilled) == hash_of(set)
+            && hash_of(&greater) != hash_of(set),
+    )
+}
+
 #[test]
 fn sets_are_shown_ordered_and_hashed_as_lists(rt: HostRuntime) -> Result<(), Fail> {
     let set = numbers(rt.alloc(), &[2, 1])?;
+    assert!(rt; compares(rt.alloc(), &set)?);
     assert_eq!(rt; format!(in rt.alloc(); "{set:?}")?.as_str(), "{1, 2}");
-    assert_eq!(rt; set.cmp(&numbers(rt.alloc(), &[1, 3])?), Ordering::Less);
-    let mut spilled = numbers(rt.alloc(), &[1, 2, 3])?;
-    spilled.remove(&3);
-    assert_eq!(rt; hash_of(&spilled), hash_of(&set));
-    assert_ne!(rt; hash_of(&numbers(rt.alloc(), &[1, 3])?), hash_of(&set));
     Ok(())
+}
+
+type Backwards<const N: usize> = VecSet<Reverse<u32>, N>;
+
+/// Whether a set is the union of another one with 2, and has that as a subset.
+fn becomes_union_with_two(
+    alloc: Global,
+    set: &mut Backwards<2>,
+    union: &[Reverse<u32>],
+) -> Result<bool, AllocError> {
+    let two = Backwards::<1>::single(alloc, Reverse(2))?;
+    set.union_with(&two)?;
+    Ok(two.is_subset(set) && set.as_ref() == union)
 }
 
 #[test]
 fn an_order_may_run_backwards(rt: HostRuntime) -> Result<(), Fail> {
-    let mut low = VecSet::<Reverse<u32>, 2>::single(rt.alloc(), Reverse(1))?;
-    let high = VecSet::<Reverse<u32>, 1>::single(rt.alloc(), Reverse(2))?;
-    low.union_with(&high)?;
-    assert!(rt; high.is_subset(&low));
+    let mut set = Backwards::single(rt.alloc(), Reverse(1))?;
+    let union = [Reverse(2), Reverse(1)];
+    assert!(rt; becomes_union_with_two(rt.alloc(), &mut set, union.as_slice())?);
     assert_eq!(rt;
-        format!(in rt.alloc(); "{low:?}")?.as_str(),
+        format!(in rt.alloc(); "{set:?}")?.as_str(),
         "{Reverse(2), Reverse(1)}"
     );
     Ok(())

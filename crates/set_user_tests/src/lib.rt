@@ -1,5 +1,6 @@
 //! A crate that uses sets from outside, and the builder that they are changed in: worked examples, contracts, drops, counted
-//! comparisons, elements that refuse to be cloned, refused memory, and calls that take none.
+//! comparisons, elements that refuse to be cloned, refused memory, and calls that take none. The allocator and two of its elements are
+//! there for tests of other crates.
 #![tactic(auto)]
 
 #[cfg(test)]
@@ -13,6 +14,8 @@ mod counted;
 mod drops;
 #[cfg(test)]
 mod examples;
+pub mod held;
+pub mod marked;
 pub mod nth;
 #[cfg(test)]
 mod quiet;

@@ -10,48 +10,62 @@ use vc_sets::vec_set::{AbstractVecSet, SetTest, VecSet};
 /// A set of numbers, of which two stand in place.
 type Numbers<'a> = VecSet<u32, 2, &'a Nth<Global>>;
 
-/// Calls that take no memory.
+/// Calls that read sets, and take no memory.
 #[derive(Clone, Copy, Debug)]
-enum Call {
-    Read,
+enum Read {
+    Look,
     Test,
     TestCounted,
     Compare,
     Hash,
     Walk,
-    Hand,
+}
+
+const READS: [Read; 6] = [
+    Read::Look,
+    Read::Test,
+    Read::TestCounted,
+    Read::Compare,
+    Read::Hash,
+    Read::Walk,
+];
+
+/// Calls that change a set, and take no memory.
+#[derive(Clone, Copy, Debug)]
+enum Change {
     Remove,
     Retain,
     InsertKnown,
-    MakeInPlace,
-    IntoInner,
     IntersectionWith,
     DifferenceWith,
-    AndAssign,
     AndAssignReference,
-    MinusAssign,
     MinusAssignReference,
 }
 
-const CALLS: [Call; 18] = [
-    Call::Read,
-    Call::Test,
-    Call::TestCounted,
-    Call::Compare,
-    Call::Hash,
-    Call::Walk,
-    Call::Hand,
-    Call::Remove,
-    Call::Retain,
-    Call::InsertKnown,
-    Call::MakeInPlace,
-    Call::IntoInner,
-    Call::IntersectionWith,
-    Call::DifferenceWith,
-    Call::AndAssign,
-    Call::AndAssignReference,
-    Call::MinusAssign,
-    Call::MinusAssignReference,
+const CHANGES: [Change; 7] = [
+    Change::Remove,
+    Change::Retain,
+    Change::InsertKnown,
+    Change::IntersectionWith,
+    Change::DifferenceWith,
+    Change::AndAssignReference,
+    Change::MinusAssignReference,
+];
+
+/// Calls that take a set over, and take no memory.
+#[derive(Clone, Copy, Debug)]
+enum Take {
+    Hand,
+    IntoInner,
+    AndAssign,
+    MinusAssign,
+}
+
+const TAKES: [Take; 4] = [
+    Take::Hand,
+    Take::IntoInner,
+    Take::AndAssign,
+    Take::MinusAssign,
 ];
 
 /// Sets that stand in place, and sets that do not.
@@ -62,64 +76,100 @@ const LISTS: [(&[u32], &[u32]); 4] = [
     (&[1, 3, 5], &[7]),
 ];
 
-impl Call {
+impl Read {
     /// Makes the calls on a set that has an element, and on another one.
-    fn make<'a>(self, memory: &'a Nth<Global>, mut left: Numbers<'a>, right: Numbers<'a>) {
+    fn make<'s, 'a>(self, left: &'s Numbers<'a>, right: &'s Numbers<'a>) {
         match self {
-            Call::Read => {
-                let _few = (left.len(), left.is_empty(), left.as_ref().len());
-                let _in_trait = (AbstractVecSet::is_empty(&left), left.contains(&2));
-            }
-            Call::Test => {
-                let _answers = (left.is_disjoint(&right), left.is_subset(&right));
-                let _last = left.is_superset(&right);
-            }
-            Call::TestCounted => {
-                let mut steps = Steps::new();
-                for test in [SetTest::Disjoint, SetTest::Subset, SetTest::Superset] {
-                    let _holds = left.test_counted(&right, test, &mut steps);
-                }
-            }
-            Call::Compare => {
-                let _answers = (left == right, left.cmp(&right), left.partial_cmp(&right));
-            }
-            Call::Hash => left.hash(&mut FoldHasher::default()),
-            Call::Walk => {
-                for element in &left {
-                    let _is_in = right.contains(element);
-                }
-                for element in left.iter() {
-                    let _is_in = right.contains(element);
-                }
-            }
-            Call::Hand => for _element in left {},
-            Call::Remove => {
-                left.remove(&1);
-                left.remove(&1);
-            }
-            Call::Retain => left.retain(|element| element % 2 == 1),
-            Call::InsertKnown => {
-                for element in &right {
-                    if left.contains(element) {
-                        let _always = left.insert(*element);
-                    }
-                }
-            }
-            Call::MakeInPlace => {
-                let mut set = Numbers::empty(memory);
-                let _first = set.insert(2);
-                let _second = set.insert(1);
-                let _one = Numbers::single(memory, 3);
-            }
-            Call::IntoInner => drop(left.into_inner()),
-            Call::IntersectionWith => left.intersection_with(&right),
-            Call::DifferenceWith => left.difference_with(&right),
-            Call::AndAssign => left &= right,
-            Call::AndAssignReference => left &= &right,
-            Call::MinusAssign => left -= right,
-            Call::MinusAssignReference => left -= &right,
+            Read::Look => look(left),
+            Read::Test => test(left, right),
+            Read::TestCounted => test_counted(left, right),
+            Read::Compare => compare(left, right),
+            Read::Hash => left.hash(&mut FoldHasher::default()),
+            Read::Walk => walk(left, right),
         }
     }
+}
+
+impl Change {
+    /// Makes the calls on a set that has an element, and on another one.
+    fn make<'s, 'a>(self, left: &'s mut Numbers<'a>, right: &'s Numbers<'a>) {
+        match self {
+            Change::Remove => {
+                left.remove(&1);
+                left.remove(&1);
+            }
+            Change::Retain => left.retain(|element| element % 2 == 1),
+            Change::InsertKnown => insert_known(left, right),
+            Change::IntersectionWith => left.intersection_with(right),
+            Change::DifferenceWith => left.difference_with(right),
+            Change::AndAssignReference => *left &= right,
+            Change::MinusAssignReference => *left -= right,
+        }
+    }
+}
+
+impl Take {
+    /// Makes the calls on a set that has an element, and on another one.
+    fn make<'a>(self, mut left: Numbers<'a>, right: Numbers<'a>) {
+        match self {
+            Take::Hand => for _element in left {},
+            Take::IntoInner => drop(left.into_inner()),
+            Take::AndAssign => left &= right,
+            Take::MinusAssign => left -= right,
+        }
+    }
+}
+
+/// Looks at a set.
+fn look<'s, 'a>(set: &'s Numbers<'a>) {
+    let _few = (set.len(), set.is_empty(), set.as_ref().len());
+    let _in_trait = (AbstractVecSet::is_empty(set), set.contains(&2));
+}
+
+/// Tests two sets.
+fn test<'s, 'a>(left: &'s Numbers<'a>, right: &'s Numbers<'a>) {
+    let _answers = (left.is_disjoint(right), left.is_subset(right));
+    let _last = left.is_superset(right);
+}
+
+/// Compares two sets.
+fn compare<'s, 'a>(left: &'s Numbers<'a>, right: &'s Numbers<'a>) {
+    let _answers = (left == right, left.cmp(right), left.partial_cmp(right));
+}
+
+/// Tests two sets with a counter.
+fn test_counted<'s, 'a>(left: &'s Numbers<'a>, right: &'s Numbers<'a>) {
+    let mut steps = Steps::new();
+    for test in [SetTest::Disjoint, SetTest::Subset, SetTest::Superset] {
+        let _holds = left.test_counted(right, test, &mut steps);
+    }
+}
+
+/// Goes over a set by both iterators, and looks its elements up in the other one.
+fn walk<'s, 'a>(left: &'s Numbers<'a>, right: &'s Numbers<'a>) {
+    for element in left {
+        let _is_in = right.contains(element);
+    }
+    for element in left.iter() {
+        let _is_in = right.contains(element);
+    }
+}
+
+/// Inserts what is in the set already.
+fn insert_known<'s, 'a>(left: &'s mut Numbers<'a>, right: &'s Numbers<'a>) {
+    for element in right {
+        if left.contains(element) {
+            let _always = left.insert(*element);
+        }
+    }
+}
+
+/// Makes sets that fit in place.
+fn make_in_place(memory: &Nth<Global>) {
+    let mut set = Numbers::empty(memory);
+    let _first = set.insert(2);
+    let _second = set.insert(1);
+    let _one = Numbers::single(memory, 3);
 }
 
 /// The set of the numbers of a list.
@@ -132,18 +182,80 @@ fn numbers<'a>(memory: &'a Nth<Global>, list: &[u32]) -> Result<Numbers<'a>, All
 }
 
 #[test]
-fn no_memory_is_asked_for(rt: HostRuntime) -> Result<(), Fail> {
+fn reads_ask_for_no_memory(rt: HostRuntime) -> Result<(), Fail> {
     let memory = Nth::new(rt.alloc(), 0);
-    for call in CALLS {
-        for (left, right) in LISTS {
-            let left = numbers(&memory, left)?;
-            let right = numbers(&memory, right)?;
-            memory.refuse(1);
-            call.make(&memory, left, right);
+    for (left, right) in LISTS {
+        let left = numbers(&memory, left)?;
+        let right = numbers(&memory, right)?;
+        memory.refuse(1);
+        for call in READS {
+            call.make(&left, &right);
             assert!(rt; !memory.is_done(), "{call:?}");
-            memory.refuse(0);
+        }
+        memory.refuse(0);
+    }
+    Ok(())
+}
+
+/// Whether a change makes no request.
+fn changes_quietly(
+    memory: &Nth<Global>,
+    call: Change,
+    left: &[u32],
+    right: &[u32],
+) -> Result<bool, AllocError> {
+    let mut left = numbers(memory, left)?;
+    let right = numbers(memory, right)?;
+    memory.refuse(1);
+    call.make(&mut left, &right);
+    let is_quiet = !memory.is_done();
+    memory.refuse(0);
+    Ok(is_quiet)
+}
+
+#[test]
+fn changes_ask_for_no_memory(rt: HostRuntime) -> Result<(), Fail> {
+    let memory = Nth::new(rt.alloc(), 0);
+    for call in CHANGES {
+        for (left, right) in LISTS {
+            assert!(rt; changes_quietly(&memory, call, left, right)?, "{call:?}");
         }
     }
+    Ok(())
+}
+
+/// Whether a call that takes a set over makes no request.
+fn takes_quietly(
+    memory: &Nth<Global>,
+    call: Take,
+    left: &[u32],
+    right: &[u32],
+) -> Result<bool, AllocError> {
+    let left = numbers(memory, left)?;
+    let right = numbers(memory, right)?;
+    memory.refuse(1);
+    call.make(left, right);
+    let is_quiet = !memory.is_done();
+    memory.refuse(0);
+    Ok(is_quiet)
+}
+
+#[test]
+fn sets_that_are_taken_over_ask_for_no_memory(rt: HostRuntime) -> Result<(), Fail> {
+    let memory = Nth::new(rt.alloc(), 0);
+    for call in TAKES {
+        for (left, right) in LISTS {
+            assert!(rt; takes_quietly(&memory, call, left, right)?, "{call:?}");
+        }
+    }
+    Ok(())
+}
+
+#[test]
+fn sets_that_fit_in_place_ask_for_no_memory(rt: HostRuntime) -> Result<(), Fail> {
+    let memory = Nth::new(rt.alloc(), 1);
+    make_in_place(&memory);
+    assert!(rt; !memory.is_done());
     Ok(())
 }
 
@@ -181,36 +293,51 @@ fn four<'a>(memory: &'a Nth<Global>, list: &[u32]) -> Result<Four<'a>, AllocErro
     Ok(set)
 }
 
+const JOINS: [Join; 5] = [
+    Join::UnionWith,
+    Join::XorWith,
+    Join::OrAssign,
+    Join::XorAssign,
+    Join::Extend,
+];
+
+/// Two lists, and the most requests of a join of their sets.
+const REQUESTS: [(&[u32], &[u32], u64); 7] = [
+    (&[1], &[2], 0),
+    (&[1, 3], &[1, 2], 0),
+    (&[], &[1, 2, 3, 4], 0),
+    (&[2, 4, 6], &[5], 0),
+    (&[1, 2, 3], &[2, 4], 2),
+    (&[2, 4, 6, 8, 10], &[1, 3, 5, 7, 9, 11], 2),
+    (&[1, 2, 3, 4, 5, 6, 7, 8, 9], &[4], 2),
+];
+
+/// Whether the join makes so many requests at most, and leaves a set in place where it makes none.
+fn asks_at_most(
+    memory: &Nth<Global>,
+    join: Join,
+    left: &[u32],
+    right: &[u32],
+    most: u64,
+) -> Result<bool, AllocError> {
+    let mut left = four(memory, left)?;
+    let right = four(memory, right)?;
+    memory.refuse(most.saturating_add(1));
+    join.make(&mut left, right)?;
+    let has_come = memory.is_done();
+    memory.refuse(0);
+    let has_spilled = left.into_inner().spilled();
+    Ok(!has_come && (most != 0 || !has_spilled))
+}
+
 #[test]
 fn sets_that_fit_together_ask_for_no_memory_and_others_twice_at_most(
     rt: HostRuntime,
 ) -> Result<(), Fail> {
     let memory = Nth::new(rt.alloc(), 0);
-    let joins = [
-        Join::UnionWith,
-        Join::XorWith,
-        Join::OrAssign,
-        Join::XorAssign,
-        Join::Extend,
-    ];
-    let rows: [(&[u32], &[u32], u64); 7] = [
-        (&[1], &[2], 0),
-        (&[1, 3], &[1, 2], 0),
-        (&[], &[1, 2, 3, 4], 0),
-        (&[2, 4, 6], &[5], 0),
-        (&[1, 2, 3], &[2, 4], 2),
-        (&[2, 4, 6, 8, 10], &[1, 3, 5, 7, 9, 11], 2),
-        (&[1, 2, 3, 4, 5, 6, 7, 8, 9], &[4], 2),
-    ];
-    for join in joins {
-        for (left, right, most) in rows {
-            let mut left = four(&memory, left)?;
-            let right = four(&memory, right)?;
-            memory.refuse(most + 1);
-            join.make(&mut left, right)?;
-            assert!(rt; !memory.is_done(), "{join:?}");
-            memory.refuse(0);
-            assert!(rt; most != 0 || !left.into_inner().spilled(), "{join:?}");
+    for join in JOINS {
+        for (left, right, most) in REQUESTS {
+            assert!(rt; asks_at_most(&memory, join, left, right, most)?, "{join:?}");
         }
     }
     Ok(())

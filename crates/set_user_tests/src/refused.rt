@@ -87,6 +87,16 @@ const CHANGES: [Change; 5] = [
     Change::Extend,
 ];
 
+impl Change {
+    /// The operation whose result it leaves.
+    fn operation(self) -> Operation {
+        match self {
+            Change::UnionWith | Change::BitorAssign | Change::Extend => Operation::Union,
+            Change::XorWith | Change::BitxorAssign => Operation::SymmetricDifference,
+        }
+    }
+}
+
 /// A way to call an operation that makes a fresh set.
 #[derive(Clone, Copy, Debug)]
 enum Way {
@@ -98,7 +108,7 @@ enum Way {
 
 const WAYS: [Way; 4] = [Way::Method, Way::Function, Way::Operator, Way::Counted];
 
-/// A call that makes a set of what is no set, or a list or a copy of a set.
+/// A call that makes a set of what is no set, or a copy of a set.
 #[derive(Clone, Copy, Debug)]
 enum Conversion {
     FromVec,
@@ -106,17 +116,25 @@ enum Conversion {
     FromBtreeSet,
     Single,
     Clone,
-    IntoVec,
 }
 
-const CONVERSIONS: [Conversion; 6] = [
+const CONVERSIONS: [Conversion; 5] = [
     Conversion::FromVec,
     Conversion::FromIter,
     Conversion::FromBtreeSet,
     Conversion::Single,
     Conversion::Clone,
-    Conversion::IntoVec,
 ];
+
+impl Conversion {
+    /// The numbers of the set that it makes.
+    fn which(self) -> Which {
+        match self {
+            Conversion::Single => Which::Only(7),
+            _ => Which::Left,
+        }
+    }
+}
 
 /// A call that takes memory.
 #[derive(Clone, Copy, Debug)]
@@ -125,6 +143,7 @@ enum Call {
     Change(Change),
     Make(Way, Operation),
     Convert(Conversion),
+    IntoVec,
 }
 
 impl Call {
@@ -136,6 +155,17 @@ impl Call {
                 | Call::Convert(Conversion::FromIter | Conversion::FromBtreeSet)
         )
     }
+}
+
+/// What becomes of a call of which a request is refused.
+#[derive(Clone, Copy)]
+enum Outcome {
+    /// It makes fewer requests, and succeeds.
+    Ends,
+    /// It is refused and leaves the sets as they were, or does without where it may. Once memory is granted, it succeeds.
+    Stands,
+    /// Anything else.
+    Fails,
 }
 
 /// Which numbers a set has.
@@ -195,20 +225,50 @@ impl<'a> Case<'a> {
         Numbers::from_btree_set(self.memory, self.tree(which)?)
     }
 
+    /// The number that is inserted there.
+    fn number(self, place: Place) -> u32 {
+        match place {
+            Place::Front => 1,
+            Place::Middle => self.left | 1,
+            Place::End => END - 1,
+            Place::Known => 2,
+        }
+    }
+
     /// Inserts a number into the left set, and says whether what it answers and makes is right.
     fn inserts<const N: usize>(
         self,
         place: Place,
         left: &mut Numbers<'a, N>,
     ) -> Result<bool, AllocError> {
-        let number = match place {
-            Place::Front => 1,
-            Place::Middle => self.left | 1,
-            Place::End => END - 1,
-            Place::Known => 2,
-        };
-        let is_known = self.has(Which::Left, number);
-        Ok(left.insert(number)? != is_known && self.lists(Which::With(number), left.as_ref()))
+        let number = self.number(place);
+        let is_new = left.insert(number)?;
+        Ok(
+            is_new != self.has(Which::Left, number)
+                && self.lists(Which::With(number), left.as_ref()),
+        )
+    }
+
+    /// Moves the right numbers into the left set.
+    fn extend<const N: usize>(self, left: &mut Numbers<'a, N>) -> Result<(), AllocError> {
+        left.extend(self.granted(Which::Right)?.into_iter())
+    }
+
+    /// Changes the left set.
+    fn change<const N: usize>(
+        self,
+        change: Change,
+        left: &mut Numbers<'a, N>,
+        right: &Numbers<'a, N>,
+        moved: Numbers<'a, N>,
+    ) -> Result<(), AllocError> {
+        match change {
+            Change::UnionWith => left.union_with(right),
+            Change::XorWith => left.xor_with(right),
+            Change::BitorAssign => left.bitor_assign(moved),
+            Change::BitxorAssign => left.bitxor_assign(moved),
+            Change::Extend => self.extend(left),
+        }
     }
 
     /// Changes the left set, and says whether it is right.
@@ -219,18 +279,8 @@ impl<'a> Case<'a> {
         right: &Numbers<'a, N>,
         moved: Numbers<'a, N>,
     ) -> Result<bool, AllocError> {
-        match change {
-            Change::UnionWith => left.union_with(right)?,
-            Change::XorWith => left.xor_with(right)?,
-            Change::BitorAssign => left.bitor_assign(moved)?,
-            Change::BitxorAssign => left.bitxor_assign(moved)?,
-            Change::Extend => left.extend(self.granted(Which::Right)?.into_iter())?,
-        }
-        let operation = match change {
-            Change::UnionWith | Change::BitorAssign | Change::Extend => Operation::Union,
-            Change::XorWith | Change::BitxorAssign => Operation::SymmetricDifference,
-        };
-        Ok(self.lists(Which::Made(operation), left.as_ref()))
+        self.change(change, left, right, moved)?;
+        Ok(self.lists(Which::Made(change.operation()), left.as_ref()))
     }
 
     /// What the operation makes of the sets.
@@ -241,22 +291,50 @@ impl<'a> Case<'a> {
         left: &Numbers<'a, N>,
         right: &Numbers<'a, N>,
     ) -> Result<Numbers<'a, N>, AllocError> {
-        match (way, operation) {
-            (Way::Method, Operation::Union) => left.union(right),
-            (Way::Method, Operation::Intersection) => left.intersection(right),
-            (Way::Method, Operation::SymmetricDifference) => left.symmetric_difference(right),
-            (Way::Method, Operation::Difference) => left.difference(right),
-            (Way::Function, Operation::Union) => union(self.memory, left, right),
-            (Way::Function, Operation::Intersection) => intersection(self.memory, left, right),
-            (Way::Function, Operation::SymmetricDifference) => {
-                symmetric_difference(self.memory, left, right)
-            }
-            (Way::Function, Operation::Difference) => difference(self.memory, left, right),
-            (Way::Operator, Operation::Union) => left | right,
-            (Way::Operator, Operation::Intersection) => left & right,
-            (Way::Operator, Operation::SymmetricDifference) => left ^ right,
-            (Way::Operator, Operation::Difference) => left - right,
-            (Way::Counted, _) => left.combine_counted(right, operation.op(), &mut Steps::new()),
+        match way {
+            Way::Method => make_by_method(operation, left, right),
+            Way::Function => make_by_function(self.memory, operation, left, right),
+            Way::Operator => make_by_operator(operation, left, right),
+            Way::Counted => left.combine_counted(right, operation.op(), &mut Steps::new()),
+        }
+    }
+
+    /// Makes a set by the operation, and says whether it is right.
+    fn makes<const N: usize>(
+        self,
+        way: Way,
+        operation: Operation,
+        left: &Numbers<'a, N>,
+        right: &Numbers<'a, N>,
+    ) -> Result<bool, AllocError> {
+        let made = self.make(way, operation, left, right)?;
+        Ok(self.lists(Which::Made(operation), made.as_ref()))
+    }
+
+    /// The set of a list of the left numbers.
+    fn of_vec<const N: usize>(self) -> Result<Numbers<'a, N>, AllocError> {
+        let list = self.granted(Which::Left)?.into_vec()?;
+        Numbers::from_vec(self.memory, list)
+    }
+
+    /// The set of the items of an iterator over the left numbers.
+    fn of_iter<const N: usize>(self) -> Result<Numbers<'a, N>, AllocError> {
+        let elements = self.granted(Which::Left)?.into_iter();
+        Numbers::from_iter(self.memory, elements)
+    }
+
+    /// What is converted.
+    fn convert<const N: usize>(
+        self,
+        conversion: Conversion,
+        left: &Numbers<'a, N>,
+    ) -> Result<Numbers<'a, N>, AllocError> {
+        match conversion {
+            Conversion::FromVec => self.of_vec(),
+            Conversion::FromIter => self.of_iter(),
+            Conversion::FromBtreeSet => self.set(Which::Left),
+            Conversion::Single => Numbers::single(self.memory, 7),
+            Conversion::Clone => left.clone(),
         }
     }
 
@@ -265,25 +343,9 @@ impl<'a> Case<'a> {
         self,
         conversion: Conversion,
         left: &Numbers<'a, N>,
-        moved: Numbers<'a, N>,
     ) -> Result<bool, AllocError> {
-        let (which, made): (Which, Numbers<'a, N>) = match conversion {
-            Conversion::FromVec => {
-                let list = self.granted(Which::Left)?.into_vec()?;
-                (Which::Left, Numbers::from_vec(self.memory, list)?)
-            }
-            Conversion::FromIter => {
-                let elements = self.granted(Which::Left)?.into_iter();
-                (Which::Left, Numbers::from_iter(self.memory, elements)?)
-            }
-            Conversion::FromBtreeSet => (Which::Left, self.set(Which::Left)?),
-            Conversion::Single => (Which::Only(7), Numbers::single(self.memory, 7)?),
-            Conversion::Clone => (Which::Left, left.clone()?),
-            Conversion::IntoVec => {
-                return Ok(self.lists(Which::Right, moved.into_vec()?.as_slice()));
-            }
-        };
-        Ok(self.lists(which, made.as_ref()))
+        let made = self.convert(conversion, left)?;
+        Ok(self.lists(conversion.which(), made.as_ref()))
     }
 
     /// Makes the call, and says whether what it answers and makes is right.
@@ -297,75 +359,181 @@ impl<'a> Case<'a> {
         match call {
             Call::Insert(place) => self.inserts(place, left),
             Call::Change(change) => self.changes(change, left, right, moved),
-            Call::Make(way, operation) => {
-                let made = self.make(way, operation, left, right)?;
-                Ok(self.lists(Which::Made(operation), made.as_ref()))
-            }
-            Call::Convert(conversion) => self.converts(conversion, left, moved),
+            Call::Make(way, operation) => self.makes(way, operation, left, right),
+            Call::Convert(conversion) => self.converts(conversion, left),
+            Call::IntoVec => Ok(self.lists(Which::Right, moved.into_vec()?.as_slice())),
         }
     }
 
-    /// Refuses each request of the call in turn, alone or with the next one, and says whether there was one. Refused,
-    /// the call leaves the sets as they were, and then succeeds.
-    fn is_refused<const N: usize>(
+    /// Whether a refused call left the sets as they were, and then succeeds.
+    fn stands<const N: usize>(
         self,
-        rt: &impl Abort,
         call: Call,
-        with_next: bool,
+        left: &mut Numbers<'a, N>,
         right: &Numbers<'a, N>,
     ) -> Result<bool, AllocError> {
-        for number in 1..LIMIT {
-            let at = (self.left, self.right, number, with_next);
-            let mut left = self.set(Which::Left)?;
-            let moved = self.set(Which::Right)?;
-            if with_next {
-                self.memory.refuse_two(number);
-            } else {
-                self.memory.refuse(number);
-            }
-            let outcome = self.succeeds(call, &mut left, right, moved);
-            let has_come = self.memory.is_done();
-            self.memory.refuse_two(0);
-            if let Ok(is_right) = outcome {
-                assert!(rt; is_right, "{call:?} at {at:?}");
-                if !has_come {
-                    return Ok(1 < number);
-                }
-                assert!(rt; call.has_hint() && !with_next, "{call:?} at {at:?}");
-                continue;
-            }
-            let stands = self.lists(Which::Left, left.as_ref())
-                && self.lists(Which::Right, right.as_ref());
-            assert!(rt; has_come && stands, "{call:?} at {at:?}");
-            let moved = self.set(Which::Right)?;
-            assert!(rt;
-                self.succeeds(call, &mut left, right, moved)?,
-                "{call:?} at {at:?}"
-            );
-        }
-        panic!(rt; "{call:?} makes too many requests")
+        let stands = self.lists(Which::Left, left.as_ref())
+            && self.lists(Which::Right, right.as_ref());
+        let moved = self.set(Which::Right)?;
+        Ok(self.succeeds(call, left, right, moved)? && stands)
     }
 
-    /// Refuses the request of a set with too much room that shrinks, and says whether there was one.
-    fn shrinks<const N: usize>(
+    /// Makes the call with its request of that number refused, alone or with the next one. Answers whether that request came, and whether
+    /// the call succeeded and was right.
+    fn make_refused<const N: usize>(
         self,
-        rt: &impl Abort,
-        mut set: Numbers<'a, N>,
-    ) -> Result<bool, AllocError> {
+        call: Call,
+        number: u64,
+        with_next: bool,
+        left: &mut Numbers<'a, N>,
+        right: &Numbers<'a, N>,
+    ) -> Result<(bool, Result<bool, AllocError>), AllocError> {
+        let moved = self.set(Which::Right)?;
+        if with_next {
+            self.memory.refuse_two(number);
+        } else {
+            self.memory.refuse(number);
+        }
+        let answer = self.succeeds(call, left, right, moved);
+        let has_come = self.memory.is_done();
+        self.memory.refuse_two(0);
+        Ok((has_come, answer))
+    }
+
+    /// What becomes of the call where its request of that number is refused, alone or with the next one.
+    fn outcome<const N: usize>(
+        self,
+        call: Call,
+        number: u64,
+        with_next: bool,
+        right: &Numbers<'a, N>,
+    ) -> Result<Outcome, AllocError> {
+        let mut left = self.set(Which::Left)?;
+        let (has_come, answer) = self.make_refused(call, number, with_next, &mut left, right)?;
+        let (outcome, is_right) = match answer {
+            Ok(is_right) if has_come => {
+                (Outcome::Stands, is_right && call.has_hint() && !with_next)
+            }
+            Ok(is_right) => (Outcome::Ends, is_right),
+            Err(_) => (
+                Outcome::Stands,
+                has_come && self.stands(call, &mut left, right)?,
+            ),
+        };
+        Ok(if is_right { outcome } else { Outcome::Fails })
+    }
+
+    /// Refuses each request of the call in turn, alone or with the next one. Says whether there was one, or nothing where a call is not as
+    /// it should be.
+    fn is_refused<const N: usize>(
+        self,
+        call: Call,
+        with_next: bool,
+        right: Numbers<'a, N>,
+    ) -> Result<Option<bool>, AllocError> {
+        for number in 1..LIMIT {
+            match self.outcome(call, number, with_next, &right)? {
+                Outcome::Ends => return Ok(Some(1 < number)),
+                Outcome::Stands => {}
+                Outcome::Fails => return Ok(None),
+            }
+        }
+        Ok(None)
+    }
+
+    /// Refuses each request of the call at each size of sets.
+    fn is_refused_at_sizes(
+        self,
+        call: Call,
+        with_next: bool,
+    ) -> Result<[Option<bool>; 3], AllocError> {
+        Ok([
+            self.is_refused(call, with_next, self.set::<0>(Which::Right)?)?,
+            self.is_refused(call, with_next, self.set::<1>(Which::Right)?)?,
+            self.is_refused(call, with_next, self.set::<2>(Which::Right)?)?,
+        ])
+    }
+
+    /// Refuses the request of a set with too much room that shrinks. Says whether there was one, or nothing where the set is not as it
+    /// should be.
+    fn shrinks<const N: usize>(self, mut set: Numbers<'a, N>) -> Result<Option<bool>, AllocError> {
         set.retain(|number| self.has(Which::Left, *number));
         self.memory.refuse(1);
         set.shrink_to_fit()?;
         let has_come = self.memory.is_done();
         self.memory.refuse(0);
-        assert!(rt; self.lists(Which::Left, set.as_ref()));
+        let is_right = self.lists(Which::Left, set.as_ref());
         set.shrink_to_fit()?;
-        assert!(rt; self.lists(Which::Left, set.as_ref()));
-        Ok(has_come)
+        let is_same = self.lists(Which::Left, set.as_ref());
+        Ok(if is_right && is_same {
+            Some(has_come)
+        } else {
+            None
+        })
+    }
+
+    /// Refuses the request of a set that shrinks at each size.
+    fn shrinks_at_sizes(self) -> Result<[Option<bool>; 3], AllocError> {
+        let which = Which::Made(Operation::Union);
+        Ok([
+            self.shrinks(self.set::<0>(which)?)?,
+            self.shrinks(self.set::<1>(which)?)?,
+            self.shrinks(self.set::<2>(which)?)?,
+        ])
     }
 }
 
-/// Whether a request of the call is refused, over all lengths and sizes.
-fn is_refused(rt: &impl Abort, alloc: Global, call: Call) -> Result<bool, AllocError> {
+/// What the method makes of the sets.
+fn make_by_method<'a, const N: usize>(
+    operation: Operation,
+    left: &Numbers<'a, N>,
+    right: &Numbers<'a, N>,
+) -> Result<Numbers<'a, N>, AllocError> {
+    match operation {
+        Operation::Union => left.union(right),
+        Operation::Intersection => left.intersection(right),
+        Operation::SymmetricDifference => left.symmetric_difference(right),
+        Operation::Difference => left.difference(right),
+    }
+}
+
+/// What the function makes of the sets.
+fn make_by_function<'a, const N: usize>(
+    memory: &'a Nth<Nth<Global>>,
+    operation: Operation,
+    left: &Numbers<'a, N>,
+    right: &Numbers<'a, N>,
+) -> Result<Numbers<'a, N>, AllocError> {
+    match operation {
+        Operation::Union => union(memory, left, right),
+        Operation::Intersection => intersection(memory, left, right),
+        Operation::SymmetricDifference => symmetric_difference(memory, left, right),
+        Operation::Difference => difference(memory, left, right),
+    }
+}
+
+/// What the operator makes of the sets.
+fn make_by_operator<'a, const N: usize>(
+    operation: Operation,
+    left: &Numbers<'a, N>,
+    right: &Numbers<'a, N>,
+) -> Result<Numbers<'a, N>, AllocError> {
+    match operation {
+        Operation::Union => left | right,
+        Operation::Intersection => left & right,
+        Operation::SymmetricDifference => left ^ right,
+        Operation::Difference => left - right,
+    }
+}
+
+/// Whether one of these was refused, or nothing where one is not as it should be.
+fn any_refused(answers: [Option<bool>; 3]) -> Option<bool> {
+    let [none, one, two] = answers;
+    Some(none? | one? | two?)
+}
+
+/// Refuses each request of the call, at all lengths and sizes, and sees that there was one.
+fn refuse(rt: &impl Abort, alloc: Global, call: Call, with_next: bool) -> Result<(), AllocError> {
     let memory = Nth::new(Nth::new(alloc, 0), 0);
     let mut is_refused = false;
     for left in LENGTHS {
@@ -376,36 +544,52 @@ fn is_refused(rt: &impl Abort, alloc: Global, call: Call) -> Result<bool, AllocE
                 left,
                 right,
             };
-            for with_next in [false, true] {
-                is_refused |= case.is_refused(rt, call, with_next, &case.set::<0>(Which::Right)?)?;
-                is_refused |= case.is_refused(rt, call, with_next, &case.set::<1>(Which::Right)?)?;
-                is_refused |= case.is_refused(rt, call, with_next, &case.set::<2>(Which::Right)?)?;
-            }
+            let answer = any_refused(case.is_refused_at_sizes(call, with_next)?);
+            assert!(rt; answer.is_some(), "{call:?} at {left} and {right}");
+            is_refused |= answer == Some(true);
         }
     }
-    Ok(is_refused)
+    assert!(rt; is_refused, "{call:?}");
+    Ok(())
 }
 
 #[test]
-fn refused_calls_leave_the_sets(rt: HostRuntime) -> Result<(), Fail> {
-    let mut calls = Vec::new(rt.alloc());
+fn refused_inserts_leave_the_set(rt: HostRuntime) -> Result<(), Fail> {
     for place in PLACES {
-        calls.push(Call::Insert(place))?;
+        refuse(&rt, rt.alloc(), Call::Insert(place), false)?;
+        refuse(&rt, rt.alloc(), Call::Insert(place), true)?;
     }
+    Ok(())
+}
+
+#[test]
+fn refused_changes_leave_the_set(rt: HostRuntime) -> Result<(), Fail> {
     for change in CHANGES {
-        calls.push(Call::Change(change))?;
+        refuse(&rt, rt.alloc(), Call::Change(change), false)?;
+        refuse(&rt, rt.alloc(), Call::Change(change), true)?;
     }
+    Ok(())
+}
+
+#[test]
+fn refused_operations_leave_the_sets(rt: HostRuntime) -> Result<(), Fail> {
     for way in WAYS {
         for operation in OPERATIONS {
-            calls.push(Call::Make(way, operation))?;
+            refuse(&rt, rt.alloc(), Call::Make(way, operation), false)?;
+            refuse(&rt, rt.alloc(), Call::Make(way, operation), true)?;
         }
     }
+    Ok(())
+}
+
+#[test]
+fn refused_conversions_leave_the_sets(rt: HostRuntime) -> Result<(), Fail> {
     for conversion in CONVERSIONS {
-        calls.push(Call::Convert(conversion))?;
+        refuse(&rt, rt.alloc(), Call::Convert(conversion), false)?;
+        refuse(&rt, rt.alloc(), Call::Convert(conversion), true)?;
     }
-    for call in calls {
-        assert!(rt; is_refused(&rt, rt.alloc(), call)?, "{call:?}");
-    }
+    refuse(&rt, rt.alloc(), Call::IntoVec, false)?;
+    refuse(&rt, rt.alloc(), Call::IntoVec, true)?;
     Ok(())
 }
 
@@ -420,9 +604,9 @@ fn a_set_that_is_refused_still_shrinks(rt: HostRuntime) -> Result<(), Fail> {
             left,
             right: 8,
         };
-        is_refused |= case.shrinks(&rt, case.set::<0>(Which::Made(Operation::Union))?)?;
-        is_refused |= case.shrinks(&rt, case.set::<1>(Which::Made(Operation::Union))?)?;
-        is_refused |= case.shrinks(&rt, case.set::<2>(Which::Made(Operation::Union))?)?;
+        let answer = any_refused(case.shrinks_at_sizes()?);
+        assert!(rt; answer.is_some(), "at {left}");
+        is_refused |= answer == Some(true);
     }
     assert!(rt; is_refused);
     Ok(())
