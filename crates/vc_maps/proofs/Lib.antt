@@ -4,5 +4,6 @@ pub mod Combined
 pub mod Editing
 pub mod Joined
 pub mod Kept
+pub mod Mapped
 pub mod PairSets
 pub mod Retaining

@@ -5,3 +5,4 @@ pub mod FreshViews
 pub mod Iterating
 pub mod Keeping
 pub mod KeptViews
+pub mod Mapping
