@@ -5,5 +5,6 @@ pub mod Editing
 pub mod Joined
 pub mod Kept
 pub mod Lending
+pub mod Mapped
 pub mod PairSets
 pub mod Retaining

@@ -6,3 +6,4 @@ pub mod Iterating
 pub mod Keeping
 pub mod KeptViews
 pub mod Lending
+pub mod Mapping

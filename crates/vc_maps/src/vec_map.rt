@@ -13,6 +13,7 @@ pub mod conversions;
 mod in_place;
 mod iteration;
 mod joins;
+mod mapping;
 
 pub use crate::fresh::join_asking;
 pub use joins::{inner_join, left_join, outer_join, right_join};

@@ -1,0 +1,22 @@
+use Rattle.std.proofs.Common.{◌≡◌, ◌+◌, ◌<◌, length, drop, get_or, refl, sym, ap, subst, ◌∙◌, drop-drop, arith}
+use Rattle.std.proofs.lemmas.List.{drop-set-lt}
+use denote.Param.Always.{mut_next}
+use Rattle.vc_merge.proofs.Extending.{room-push}
+use Rattle.vc_maps.proofs.Mapped.{take-next, keys-mapped, values-mapped}
+use Rattle.vc_maps.proofs.vec_map.mapping.push_mapped.Goals as goal
+
+pub pairs-preserved : goal.pairs-preserved
+pairs-preserved g c =
+    let old = c.args.pairs.now in let i = c.pairs.at in let p = c.replace-key.result in let before = c.pairs.invariant in
+    let value = c.replace-key.ensures.value in
+    let is : p ≡ get_or c.pairs.pairs i p = value ∙ ap (λ d. get_or c.pairs.pairs i d) (sym (value ∙ sym c.index-pairs-at.is)) in
+    let within : i < length c.pairs.pairs = subst (λ n. i < n) (sym c.pairs.auto.pairs) c.pairs-test.true in
+    let more = take-next c.pairs.pairs old i p before.rest within c.pairs.auto.pairs is in
+    let pushed = c.push_reserved.ensures.items in
+    record {
+      callable = mut_next g.F.FnMut c.pairs.f (p.1, tt) c.f-answer.result c.f-answer.new.self _ c.f-answer.ensures refl before.callable;
+      room = room-push _ _ _ _ _ _ _ pushed c.push_reserved.ensures.capacity c.pairs-test.true before.room;
+      rest = drop-set-lt (i + 1) c.pairs.pairs i c.replace-key.new.dest (omega arith) ∙ sym (drop-drop 1 i c.pairs.pairs) ∙ ap (drop 1) before.rest ∙ drop-drop 1 i old;
+      keys = keys-mapped old i p c.pairs.mapped.items c.push_reserved.new.self.items c.f-answer.result more pushed before.keys;
+      values = values-mapped _ old i p c.pairs.mapped.items c.push_reserved.new.self.items c.args.f c.pairs.f c.f-answer.new.self c.f-answer.result more pushed before.values c.f-answer.ensures;
+    }
