@@ -30,6 +30,8 @@ pub use Rattle.vc_sets.specs.Tests
 pub use Rattle.vc_sets.specs.declared.vec_set.algebra.SetOp
 pub use Rattle.vc_sets.specs.declared.vec_set.algebra.SetTest
 pub use Rattle.vc_total_maps.specs.CombinedTotals
+pub use Rattle.vc_total_maps.specs.Laws as TotalMapLaws
+pub use Rattle.vc_total_maps.specs.MappedTotals
 pub use Rattle.vc_total_maps.specs.TotalMap
 pub use Rattle.vc_total_sets.specs.Laws as TotalLaws
 pub use Rattle.vc_total_sets.specs.TotalOf

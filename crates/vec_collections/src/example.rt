@@ -6,8 +6,10 @@ ghost use Rattle.vec_collections.specs.Ascending.{member};
 ghost use Rattle.vec_collections.specs.Entries.{value_at};
 ghost use Rattle.vec_collections.specs.Map.{lookup, IsInserted};
 ghost use Rattle.vec_collections.specs.SetOf.{exactly_one};
+ghost use Rattle.vec_collections.specs.TotalMap.{at};
 
 use crate::radix_tree::{AbstractRadixTree, AbstractRadixTreeMut, RadixTree};
+use crate::total_vec_map::TotalVecMap;
 use crate::{
     AbstractVecMap, AbstractVecSet, VecMap, VecSet, difference, intersection, symmetric_difference,
     union,
@@ -74,4 +76,14 @@ pub fn pieces(stock: &Stock, article: u32) -> Option<&u32>
     ensures { option_copied result ≡ value_at nat_cmp stock.now article }
 {
     stock.get(&article)
+}
+
+/// The prices of articles, most of which cost the same.
+pub type Prices = TotalVecMap<u32, u32, 4>;
+
+/// The price of an article.
+pub fn price(prices: &Prices, article: u32) -> u32
+    ensures { result ≡ at nat_cmp prices.now article }
+{
+    prices[&article]
 }

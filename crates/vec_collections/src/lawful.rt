@@ -4,19 +4,23 @@ ghost use Rattle.vec_collections.specs.MergeLaws.{AscendingHaveOneScript, Member
 ghost use Rattle.vec_collections.specs.SetLaws.{InEachWay, SetOfIsOne, OperationsInWords, TestsAreOfOperations};
 ghost use Rattle.vec_collections.specs.TreeLaws.{KeysAreOrdered, LeftBehindIsRest, BindsIsLookup, CanonicalIsConditions, CanonicalIsUnique, CanonicalIsSmallest, WalkIsOne};
 ghost use Rattle.vec_collections.specs.PrefixLaws.{WalkUnder, WalkPrefixed, WalkIsFiltered, CoverIsLongest, RemovalAndRetentionPart, RunIsFunction};
+ghost use Rattle.vec_collections.specs.TotalMapLaws.{StandingIsAt, CombinedIsPointwise, MappedIsPointwise};
 ghost use Rattle.vec_collections.specs.TotalLaws.{moved_of, OperationsArePointwise, OperationsMakeOne, ComplementsTurnOperations, TotalTestsAreOfOperations};
 ghost use Rattle.vec_collections.specs.Value.{Copies};
-ghost use Rattle.std.specs.Prelude.{IsTrue};
+ghost use Rattle.std.specs.Fn.{FnReturnsAt, FnReturnsAtPair};
+ghost use Rattle.std.specs.Prelude.{Ok, IsTrue};
 
 use crate::laws::{
     ByClone, ByEq, binds_is_lookup, canonical_is_conditions, canonical_is_smallest,
-    canonical_is_unique, complements_turn_operations, cover_is_longest, keys_are_ordered,
-    left_behind_is_rest, members_are_elements, members_tell_the_list, operations_are_as_named,
-    removal_and_retention_part, run_is_function, runs_are_beginnings, script_is_one, set_of_is_one,
-    tests_are_of_operations, ticks_stay, total_operations_are_pointwise, total_operations_make_one,
+    canonical_is_unique, combined_is_pointwise, complements_turn_operations, cover_is_longest,
+    keys_are_ordered, left_behind_is_rest, mapped_is_pointwise, members_are_elements,
+    members_tell_the_list, operations_are_as_named, removal_and_retention_part, run_is_function,
+    runs_are_beginnings, script_is_one, set_of_is_one, standing_is_at, tests_are_of_operations,
+    ticks_stay, total_operations_are_pointwise, total_operations_make_one,
     total_tests_are_of_operations, walk_is_filtered, walk_is_one, walks_by_prefix,
 };
 use crate::merge::{Count, MergeOperation, MergeState};
+use std::alloc::AllocError;
 
 /// The laws of merges.
 pub fn of_merges<T: Ord, M: MergeState, C: Count, O: MergeOperation<M, C>>()
@@ -55,6 +59,22 @@ pub fn of_total_sets<T: Ord + Clone>()
     total_operations_make_one::<T>();
     complements_turn_operations::<T>();
     total_tests_are_of_operations::<T>();
+}
+
+/// The laws of total maps.
+pub fn of_total_maps<
+    K: Ord + Clone,
+    V: Eq,
+    F: Fn(&V, &V) -> Result<V, AllocError>,
+    G: Fn(&V) -> Result<V, AllocError>,
+>(combining: &F, changing: &G)
+    ensures standing { StandingIsAt K V K.cmp V.eq }
+    ensures combined { CombinedIsPointwise K.cmp V.eq K.is_clone (λ x y v. FnReturnsAtPair F.Fn combining.now x y (Ok v)) }
+    ensures mapped { MappedIsPointwise K.cmp V.eq K.is_clone (λ x v. FnReturnsAt G.Fn changing.now x (Ok v)) }
+{
+    standing_is_at::<K, V>();
+    combined_is_pointwise::<K, V, F>(combining);
+    mapped_is_pointwise::<K, V, V, G>(changing);
 }
 
 /// The laws of keys and of what trees bind.

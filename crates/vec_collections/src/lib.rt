@@ -77,6 +77,7 @@ pub mod laws {
         members_are_elements, members_tell_the_list, runs_are_beginnings, script_is_one, ticks_stay,
     };
     pub use vc_sets::laws::{operations_are_as_named, set_of_is_one, tests_are_of_operations};
+    pub use vc_total_maps::laws::{combined_is_pointwise, mapped_is_pointwise, standing_is_at};
     pub use vc_total_sets::laws::{
         complements_turn_operations, total_operations_are_pointwise, total_operations_make_one,
         total_tests_are_of_operations,
