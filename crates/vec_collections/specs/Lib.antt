@@ -10,8 +10,10 @@ pub use Rattle.vc_joins.specs.Laws as JoinLaws
 pub use Rattle.vc_joins.specs.Question
 pub use Rattle.vc_joins.specs.declared.question.JoinKind
 pub use Rattle.vc_joins.specs.declared.question.OuterJoinArg
+pub use Rattle.vc_maps.specs.Combining as MapCombining
 pub use Rattle.vc_maps.specs.Iterating as MapIterating
 pub use Rattle.vc_maps.specs.Lending
+pub use Rattle.vc_maps.specs.Mapping as MapMapping
 pub use Rattle.vc_merge.specs.Ascending
 pub use Rattle.vc_merge.specs.Chain
 pub use Rattle.vc_merge.specs.Count
