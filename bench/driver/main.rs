@@ -151,8 +151,8 @@ fn time_maps(only: &str, data: &Numbers) {
         let ours = |rounds: u64| unsafe {
             bench_maps(row.number, data.left.as_ptr(), data.left.len(), data.m, data.right.as_ptr(), data.right.len(), data.n, rounds)
         };
-        let by_btree = |rounds: u64| repeat(rounds, || sorted.iter().map(|(a, b)| maps::by_btree(row.number, a, b)).sum());
-        let by_hash = |rounds: u64| repeat(rounds, || hashed.iter().map(|(a, b)| maps::by_hash(row.number, a, b)).sum());
+        let by_btree = |rounds: u64| repeat(rounds, || sorted.iter().zip(&lists).map(|((a, b), (_, pairs))| maps::by_btree(row.number, a, b, pairs)).sum());
+        let by_hash = |rounds: u64| repeat(rounds, || hashed.iter().zip(&lists).map(|((a, b), (_, pairs))| maps::by_hash(row.number, a, b, pairs)).sum());
         let by_hand = |rounds: u64| repeat(rounds, || lists.iter().map(|(a, b)| maps::by_hand(row.number, a, b)).sum());
         print_maps(row, data, [&ours, &by_btree, &by_hash, &by_hand]);
     }

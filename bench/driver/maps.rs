@@ -23,57 +23,47 @@ pub const MAP_ROWS: [MapRow; 7] = [
 
 pub type Pairs = [(u64, u64)];
 
-/// The work of a row on two of std's sorted maps.
-pub fn by_btree(row: u64, a: &BTreeMap<u64, u64>, b: &BTreeMap<u64, u64>) -> u64 {
-    let length = |map: BTreeMap<u64, u64>| black_box(map).len() as u64;
-    match row {
-        0 | 2 => {
-            let mut sums = a.clone();
-            for (key, value) in b {
-                sums.entry(*key).and_modify(|sum| *sum = sum.wrapping_add(*value)).or_insert(*value);
+/// The functions of one kind of std's maps: the work of a row on two of them, of which the second has these pairs, and the greatest of two values
+/// at each key of either.
+macro_rules! by_map {
+    ($map:ident, $work:ident, $greatest:ident) => {
+        pub fn $work(row: u64, a: &$map<u64, u64>, b: &$map<u64, u64>, pairs: &Pairs) -> u64 {
+            let length = |map: $map<u64, u64>| black_box(map).len() as u64;
+            match row {
+                0 | 2 => {
+                    let mut sums = a.clone();
+                    for (key, value) in b {
+                        sums.entry(*key).and_modify(|sum| *sum = sum.wrapping_add(*value)).or_insert(*value);
+                    }
+                    length(sums)
+                }
+                1 => length(a.iter().filter_map(|(key, v)| b.get(key).map(|w| (*key, v.wrapping_add(*w)))).collect()),
+                3 => {
+                    let mut kept = a.clone();
+                    kept.retain(|key, v| b.get(key).map(|w| *v = v.wrapping_add(*w)).is_some());
+                    length(kept)
+                }
+                4 => length(a.clone()),
+                5 => b.keys().filter(|key| a.contains_key(key)).count() as u64,
+                _ => length(pairs.iter().rev().fold($map::new(), |mut map, (key, value)| {
+                    map.insert(*key, *value);
+                    map
+                })),
             }
-            length(sums)
         }
-        1 => length(a.iter().filter_map(|(key, v)| b.get(key).map(|w| (*key, v.wrapping_add(*w)))).collect()),
-        3 => {
-            let mut kept = a.clone();
-            kept.retain(|key, v| b.get(key).map(|w| *v = v.wrapping_add(*w)).is_some());
-            length(kept)
+
+        pub fn $greatest(a: &$map<u64, u64>, b: &$map<u64, u64>) -> u64 {
+            let mut greatest = a.clone();
+            for (key, value) in b {
+                greatest.entry(*key).and_modify(|old| *old = (*old).max(*value)).or_insert(*value);
+            }
+            black_box(greatest).len() as u64
         }
-        4 => length(a.clone()),
-        5 => b.keys().filter(|key| a.contains_key(key)).count() as u64,
-        _ => length(b.iter().rev().fold(BTreeMap::new(), |mut map, (key, value)| {
-            map.insert(*key, *value);
-            map
-        })),
-    }
+    };
 }
 
-/// The work of a row on two of std's hashed maps.
-pub fn by_hash(row: u64, a: &HashMap<u64, u64>, b: &HashMap<u64, u64>) -> u64 {
-    let length = |map: HashMap<u64, u64>| black_box(map).len() as u64;
-    match row {
-        0 | 2 => {
-            let mut sums = a.clone();
-            for (key, value) in b {
-                sums.entry(*key).and_modify(|sum| *sum = sum.wrapping_add(*value)).or_insert(*value);
-            }
-            length(sums)
-        }
-        1 => length(a.iter().filter_map(|(key, v)| b.get(key).map(|w| (*key, v.wrapping_add(*w)))).collect()),
-        3 => {
-            let mut kept = a.clone();
-            kept.retain(|key, v| b.get(key).map(|w| *v = v.wrapping_add(*w)).is_some());
-            length(kept)
-        }
-        4 => length(a.clone()),
-        5 => b.keys().filter(|key| a.contains_key(key)).count() as u64,
-        _ => length(b.iter().fold(HashMap::new(), |mut map, (key, value)| {
-            map.insert(*key, *value);
-            map
-        })),
-    }
-}
+by_map!(BTreeMap, by_btree, greatest_by_btree);
+by_map!(HashMap, by_hash, greatest_by_hash);
 
 /// The work of a row on two lists of pairs that ascend by key.
 pub fn by_hand(row: u64, a: &Pairs, b: &Pairs) -> u64 {
@@ -97,24 +87,6 @@ pub fn by_hand(row: u64, a: &Pairs, b: &Pairs) -> u64 {
 /// The greatest of two values at each key of either list.
 pub fn greatest_by_hand(a: &Pairs, b: &Pairs) -> u64 {
     black_box(walk(a, b, true, u64::max)).len() as u64
-}
-
-/// The same over two of std's sorted maps.
-pub fn greatest_by_btree(a: &BTreeMap<u64, u64>, b: &BTreeMap<u64, u64>) -> u64 {
-    let mut greatest = a.clone();
-    for (key, value) in b {
-        greatest.entry(*key).and_modify(|old| *old = (*old).max(*value)).or_insert(*value);
-    }
-    black_box(greatest).len() as u64
-}
-
-/// The same over two of std's hashed maps.
-pub fn greatest_by_hash(a: &HashMap<u64, u64>, b: &HashMap<u64, u64>) -> u64 {
-    let mut greatest = a.clone();
-    for (key, value) in b {
-        greatest.entry(*key).and_modify(|old| *old = (*old).max(*value)).or_insert(*value);
-    }
-    black_box(greatest).len() as u64
 }
 
 fn outer(a: &Pairs, b: &Pairs) -> Vec<(u64, u64)> {
