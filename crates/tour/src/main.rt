@@ -123,7 +123,7 @@ fn show_counters(rt: &impl Print, alloc: Global) -> io::Result<()> {
     let apples = Counters::one(alloc, APPLES, 3)?;
     let pears = Counters::one(alloc, PEARS, 2)?;
     let basket = apples.sum(&pears)?;
-    let twice = basket.scaled(alloc, 2)?;
+    let twice = basket.scaled(2)?;
     let at_least_five = twice.greater(&Counters::all(alloc, 5))?;
     show_basket(rt, "a basket", &basket)?;
     show_basket(rt, "twice as much", &twice)?;

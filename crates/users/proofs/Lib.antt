@@ -1,3 +1,2 @@
-mod Pointwise
 mod Removing
 mod Turns

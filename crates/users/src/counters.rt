@@ -5,6 +5,7 @@ ghost use Rattle.users.specs.Counts.{count_of, bounded};
 
 use std::alloc::{AllocError, Global};
 use vec_collections::VecMap;
+use vec_collections::laws::{combined_is_pointwise, mapped_is_pointwise, standing_is_at};
 use vec_collections::total_vec_map::TotalVecMap;
 
 /// A count at every name.
@@ -42,12 +43,11 @@ impl Counters {
     pub fn sum(&self, other: &Self) -> Result<Self, AllocError>
         ensures { IfOk result (λ made. (name : ℕ) → count_of made name ≡ bounded (count_of self.now name + count_of other.now name)) }
     {
-        let counts = self.counts.combine_ref(
-            &other.counts,
-            |x: &u64, y: &u64| -> Result<u64, AllocError>
-                ensures { result ≡ Ok (bounded (x.now + y.now)) }
-            { Ok(x.saturating_add(*y)) },
-        )?;
+        let add = |x: &u64, y: &u64| -> Result<u64, AllocError>
+            ensures { result ≡ Ok (bounded (x.now + y.now)) }
+        { Ok(x.saturating_add(*y)) };
+        combined_is_pointwise::<u32, u64, _>(&add);
+        let counts = self.counts.combine_ref(&other.counts, add)?;
         Ok(Counters { counts })
     }
 
@@ -55,21 +55,20 @@ impl Counters {
     pub fn greater(&self, other: &Self) -> Result<Self, AllocError>
         ensures { IfOk result (λ made. (name : ℕ) → count_of made name ≡ max (count_of self.now name) (count_of other.now name)) }
     {
+        standing_is_at::<u32, u64>();
         let counts = self.counts.supremum(&other.counts)?;
         Ok(Counters { counts })
     }
 
     /// Each count so many times, or the greatest number where that does not fit.
-    pub fn scaled(&self, alloc: Global, factor: u64) -> Result<Self, AllocError>
+    pub fn scaled(&self, factor: u64) -> Result<Self, AllocError>
         ensures { IfOk result (λ made. (name : ℕ) → count_of made name ≡ bounded (count_of self.now name * factor)) }
     {
-        let factors = TotalVecMap::constant(alloc, factor);
-        let counts = self.counts.combine_ref(
-            &factors,
-            |x: &u64, y: &u64| -> Result<u64, AllocError>
-                ensures { result ≡ Ok (bounded (x.now * y.now)) }
-            { Ok(x.saturating_mul(*y)) },
-        )?;
+        let scale = |x: &u64| -> Result<u64, AllocError>
+            ensures { result ≡ Ok (bounded (x.now * factor)) }
+        { Ok(x.saturating_mul(factor)) };
+        mapped_is_pointwise::<u32, u64, u64, _>(&scale);
+        let counts = self.counts.map_values(scale)?;
         Ok(Counters { counts })
     }
 }
