@@ -2,7 +2,7 @@
 
 use std::alloc::{AllocError, Global};
 use std::hash::{DefaultHasher, Hash, Hasher};
-use std::ops::{Add, Div, Mul, Sub};
+use std::ops::{Add, Div, Mul, Neg, Sub};
 use std::test::Fail;
 use vec_collections::total_vec_map::{TotalVecMap, TotalVecMap1};
 use vec_collections::vec_map::VecMap1;
@@ -43,12 +43,20 @@ impl Div for Number {
     }
 }
 
+impl Neg for Number {
+    type Output = Number;
+
+    fn neg(self) -> Number {
+        Number(0i32.saturating_sub(self.0))
+    }
+}
+
 type Numbers = TotalVecMap1<u32, Number>;
 
 /// A default, and the keys with their values.
 type Listed = (i32, &'static [(u32, i32)]);
 
-/// Two maps, and what the operations make of them.
+/// Two maps, what the operations make of them, and the opposite and the signs of the left one.
 #[derive(Clone, Copy)]
 struct Row {
     left: Listed,
@@ -59,6 +67,8 @@ struct Row {
     quotient: Listed,
     supremum: Listed,
     infimum: Listed,
+    opposite: Listed,
+    signs: Listed,
 }
 
 const ROWS: [Row; 3] = [
@@ -71,6 +81,8 @@ const ROWS: [Row; 3] = [
         quotient: (0, &[(5, 1)]),
         supremum: (2, &[(5, 1)]),
         infimum: (0, &[(5, 1)]),
+        opposite: (0, &[(5, -1)]),
+        signs: (0, &[(5, 1)]),
     },
     Row {
         left: (1, &[(1, 6), (3, 4)]),
@@ -81,6 +93,8 @@ const ROWS: [Row; 3] = [
         quotient: (0, &[(1, 3), (3, -1)]),
         supremum: (2, &[(1, 6), (2, 7), (3, 4)]),
         infimum: (1, &[(1, 2), (3, -4)]),
+        opposite: (-1, &[(1, -6), (3, -4)]),
+        signs: (1, &[]),
     },
     Row {
         left: (3, &[]),
@@ -91,6 +105,8 @@ const ROWS: [Row; 3] = [
         quotient: (1, &[]),
         supremum: (3, &[]),
         infimum: (3, &[]),
+        opposite: (-3, &[]),
+        signs: (1, &[]),
     },
 ];
 
@@ -132,6 +148,13 @@ fn bounds(left: &Numbers, right: &Numbers, row: &Row) -> Result<bool, AllocError
     Ok(has(&left.supremum(right)?, row.supremum) && has(&left.infimum(right)?, row.infimum))
 }
 
+/// Whether the opposite of the map and the signs of its values are what the row says.
+fn changes(map: &Numbers, row: &Row) -> Result<bool, AllocError> {
+    let opposite = (-map.clone()?)?;
+    let signs: Numbers = map.map_values(|value: &Number| Ok(Number(value.0.signum())))?;
+    Ok(has(&opposite, row.opposite) && has(&signs, row.signs))
+}
+
 #[test]
 fn each_case_is_as_worked_out(rt: HostRuntime) -> Result<(), Fail> {
     for row in &ROWS {
@@ -140,6 +163,7 @@ fn each_case_is_as_worked_out(rt: HostRuntime) -> Result<(), Fail> {
         let at = (row.left, row.right);
         assert!(rt; computes(&left, &right, row)?, "{at:?}");
         assert!(rt; bounds(&left, &right, row)?, "{at:?}");
+        assert!(rt; changes(&left, row)?, "{at:?}");
     }
     Ok(())
 }

@@ -48,9 +48,48 @@ fn a_closure_is_asked_once_a_key(rt: HostRuntime) -> Result<(), Fail> {
 }
 
 #[test]
+fn a_closure_is_asked_once_a_value(rt: HostRuntime) -> Result<(), Fail> {
+    let map = numbers(rt.alloc(), 1, &[(2, 3), (5, 4)])?;
+    let asked = Asked(Cell::new(0));
+    let zeros: TotalVecMap<u32, u8, 3> = map.map_values(|x: &u32| {
+        asked.note(*x);
+        Ok(0)
+    })?;
+    assert_eq!(rt; asked.0.get(), 134);
+    assert!(rt; zeros.is_zero());
+    Ok(())
+}
+
+/// Notes a value, and answers it, but refuses at one.
+fn answer(asked: &Asked, refused: u32, value: u32) -> Result<u32, AllocError> {
+    asked.note(value);
+    if value == refused {
+        Err(AllocError)
+    } else {
+        Ok(value)
+    }
+}
+
+/// Whether `map_values` is refused where its closure refuses at this value, and what was shown by then.
+fn change_refused(map: &Numbers, refused: u32) -> (bool, u64) {
+    let asked = Asked(Cell::new(0));
+    let made: Result<Numbers, AllocError> = map.map_values(|x: &u32| answer(&asked, refused, *x));
+    (made.is_err(), asked.0.get())
+}
+
+/// The same of a combination of the map with itself.
+fn combination_refused(map: &Numbers, refused: u32) -> (bool, u64) {
+    let asked = Asked(Cell::new(0));
+    let made = map.combine_ref(map, |x: &u32, _: &u32| answer(&asked, refused, *x));
+    (made.is_err(), asked.0.get())
+}
+
+#[test]
 fn a_refused_answer_refuses(rt: HostRuntime) -> Result<(), Fail> {
-    let map = numbers(rt.alloc(), 1, &[(2, 3)])?;
-    let refused = map.combine_ref(&map, |_: &u32, _: &u32| Err(AllocError));
-    assert!(rt; refused.is_err());
+    let map = numbers(rt.alloc(), 1, &[(2, 3), (5, 4)])?;
+    for (refused, shown) in [(1, 1), (3, 13), (4, 134)] {
+        assert_eq!(rt; change_refused(&map, refused), (true, shown));
+        assert_eq!(rt; combination_refused(&map, refused), (true, shown));
+    }
     Ok(())
 }

@@ -1,0 +1,274 @@
+//! What calls drop is dropped once, refused ones too, and nothing else is; they clone nothing of what they keep or move, and ask nothing
+//! before a refusal.
+
+use super::sides::{Map, Memory, Sides, memory_over, numbered};
+use set_user_tests::held::{Held, Shared};
+use std::alloc::AllocError;
+use std::cell::Cell;
+use std::test::Fail;
+use vc_joins::question::OuterJoinArg;
+use vc_maps::vec_map::VecMap;
+
+/// A map of numbers that hold a share to whether there was a value.
+type Marks<'a> = VecMap<Held, bool, 1, &'a Memory>;
+
+/// Greater than the number of requests of each call.
+const LIMIT: u64 = 4;
+
+/// Counts a question.
+fn count(asked: &Cell<u64>) {
+    asked.set(asked.get().wrapping_add(1));
+}
+
+/// Keeps the value of the left map, where it has one.
+fn keep_left(at: OuterJoinArg<&Held, Shared, &Shared>) -> Option<Shared> {
+    match at {
+        OuterJoinArg::Left(_, value) => Some(value),
+        OuterJoinArg::Right(_, _) => Some(None),
+        OuterJoinArg::Both(_, value, _) => Some(value),
+    }
+}
+
+fn outer<'a>(left: &mut Map<'a>, right: &Map<'a>) -> Result<(), AllocError> {
+    left.outer_join_with(right, keep_left)
+}
+
+/// Keeps the values of keys of both.
+fn left_shared<'a>(
+    left: &mut Map<'a>,
+    right: &Map<'a>,
+    asked: &Cell<u64>,
+) -> Result<(), AllocError> {
+    left.left_join_with(right, |_: &Held, value: Shared, other: Option<&Shared>| {
+        count(asked);
+        if other.is_some() { Some(value) } else { None }
+    })
+}
+
+fn right<'a>(left: &mut Map<'a>, right: &Map<'a>, asked: &Cell<u64>) -> Result<(), AllocError> {
+    left.right_join_with(right, |_: &Held, value: Option<Shared>, _: &Shared| {
+        count(asked);
+        Some(value.unwrap_or(None))
+    })
+}
+
+fn inner<'a>(left: &mut Map<'a>, right: &Map<'a>, asked: &Cell<u64>) -> Result<(), AllocError> {
+    left.inner_join_with(right, |_: &Held, value: Shared, _: &Shared| {
+        count(asked);
+        Some(value)
+    })
+}
+
+/// Keeps the value of the left map.
+fn combine<'a>(left: &mut Map<'a>, right: Map<'a>, asked: &Cell<u64>) -> Result<(), AllocError> {
+    left.combine_with(right, |value: Shared, _: Shared| {
+        count(asked);
+        value
+    })
+}
+
+/// A call that changes a left map by a right one.
+#[derive(Clone, Copy, Debug)]
+enum Change {
+    Outer,
+    Left,
+    Right,
+    Inner,
+    Combine,
+    Merge,
+    Extend,
+}
+
+impl Change {
+    /// Whether keys of the right map come in, as clones.
+    fn clones(self) -> bool {
+        matches!(self, Change::Outer | Change::Right)
+    }
+
+    /// Makes the call, whose closure counts its questions. The right map is gone afterwards.
+    fn make<'a>(
+        self,
+        left: &mut Map<'a>,
+        right: Map<'a>,
+        asked: &Cell<u64>,
+    ) -> Result<(), AllocError> {
+        match self {
+            Change::Combine => combine(left, right, asked),
+            Change::Merge => left.merge_with(right),
+            Change::Extend => left.extend(right.into_iter()),
+            _ => self.join(left, &right, asked),
+        }
+    }
+
+    /// Makes the call, where it is a join.
+    fn join<'a>(
+        self,
+        left_map: &mut Map<'a>,
+        right_map: &Map<'a>,
+        asked: &Cell<u64>,
+    ) -> Result<(), AllocError> {
+        match self {
+            Change::Outer => outer(left_map, right_map),
+            Change::Left => left_shared(left_map, right_map, asked),
+            Change::Right => right(left_map, right_map, asked),
+            _ => inner(left_map, right_map, asked),
+        }
+    }
+}
+
+/// A call, how many requests it makes and how many questions its closure counts, and how many hold the four shares once the right map is
+/// gone. The function that an outer join asks counts none.
+type Row = (Change, u64, u64, [usize; 4]);
+
+const ROWS: [Row; 7] = [
+    (Change::Outer, 1, 0, [3, 3, 2, 1]),
+    (Change::Left, 0, 2, [2, 2, 1, 1]),
+    (Change::Right, 1, 2, [2, 2, 2, 1]),
+    (Change::Inner, 0, 1, [2, 2, 1, 1]),
+    (Change::Combine, 1, 1, [3, 3, 2, 2]),
+    (Change::Merge, 1, 0, [3, 2, 2, 3]),
+    (Change::Extend, 2, 0, [3, 2, 2, 3]),
+];
+
+/// The holders of the shares where no map is left.
+const ALONE: [usize; 4] = [1, 1, 1, 1];
+
+/// The holders where a call was refused.
+const UNCHANGED: [usize; 4] = [3, 3, 1, 1];
+
+/// Makes the call with the request of that number and the next one refused: whether it succeeded, and how many questions were counted.
+fn make_refused<'a>(
+    memory: &Memory,
+    change: Change,
+    number: u64,
+    left: &mut Map<'a>,
+    right: Map<'a>,
+) -> (bool, u64) {
+    let asked = Cell::new(0);
+    memory.refuse_two(number);
+    let is_made = change.make(left, right, &asked).is_ok();
+    memory.refuse_two(0);
+    (is_made, asked.get())
+}
+
+/// Whether the call drops each key and value once and clones none that it keeps or moves, where the request of that number and the next one
+/// are refused. A refused call has asked nothing.
+fn is_dropped_once(
+    sides: &Sides,
+    memory: &Memory,
+    (change, requests, questions, changed): Row,
+    right_refuses: bool,
+    number: u64,
+) -> Result<bool, AllocError> {
+    let is_refused = (change.clones() && right_refuses) || (1 <= number && number <= requests);
+    let mut left = sides.left.map(memory, 1, true)?;
+    let right = sides.right.map(memory, 2, right_refuses)?;
+    let outcome = make_refused(memory, change, number, &mut left, right);
+    let expected = if is_refused {
+        (false, 0)
+    } else {
+        (true, questions)
+    };
+    let holders = if is_refused { UNCHANGED } else { changed };
+    Ok(outcome == expected && sides.holders() == holders)
+}
+
+#[test]
+fn calls_drop_each_pair_once_and_clone_none_that_they_keep(rt: HostRuntime) -> Result<(), Fail> {
+    let sides = Sides::new(rt.alloc())?;
+    let memory = memory_over(rt.alloc());
+    for row in ROWS {
+        for right_refuses in [false, true] {
+            for number in 0..LIMIT {
+                let is_right = is_dropped_once(&sides, &memory, row, right_refuses, number)?
+                    && sides.holders() == ALONE;
+                assert!(rt; is_right, "{row:?} at {number}");
+            }
+        }
+    }
+    Ok(())
+}
+
+/// Whether the values of a map are turned into others, each shown once and no key cloned, with the request of that number
+/// and the next one refused.
+fn is_turned_once(sides: &Sides, memory: &Memory, number: u64) -> Result<bool, AllocError> {
+    let asked = Cell::new(0);
+    let map = sides.left.map(memory, 1, true)?;
+    memory.refuse_two(number);
+    let made: Result<Marks<'_>, AllocError> = map.map_values(|value: Shared| {
+        count(&asked);
+        value.is_some()
+    });
+    memory.refuse_two(0);
+    let expected = if number == 1 {
+        (false, 0, ALONE)
+    } else {
+        (true, 2, [3, 1, 1, 1])
+    };
+    Ok((made.is_ok(), asked.get(), sides.holders()) == expected)
+}
+
+#[test]
+fn values_that_are_turned_are_dropped(rt: HostRuntime) -> Result<(), Fail> {
+    let sides = Sides::new(rt.alloc())?;
+    let memory = memory_over(rt.alloc());
+    for number in 0..LIMIT {
+        let is_right = is_turned_once(&sides, &memory, number)? && sides.holders() == ALONE;
+        assert!(rt; is_right, "{number}");
+    }
+    Ok(())
+}
+
+/// The holders after a known key came again, from the right map.
+fn insert_again(sides: &Sides, map: &mut Map<'_>) -> Result<[usize; 4], AllocError> {
+    sides.right.put(map, 2, true)?;
+    Ok(sides.holders())
+}
+
+/// The holders after the value of the first pair was written over.
+fn write_first(sides: &Sides, map: &mut Map<'_>) -> [usize; 4] {
+    let key = numbered(1);
+    if let Some(value) = map.get_mut(&key) {
+        *value = None;
+    }
+    sides.holders()
+}
+
+/// The holders after a map kept its first pair alone.
+fn keep_first(sides: &Sides, map: &mut Map<'_>) -> [usize; 4] {
+    map.retain(|pair| pair.0.number == 1);
+    sides.holders()
+}
+
+/// The holders after the first pair was taken out of a map, which is left in an iterator, and after the iterator is gone.
+fn take_first(sides: &Sides, map: Map<'_>) -> ([usize; 4], [usize; 4]) {
+    let mut pairs = map.into_iter();
+    drop(pairs.next());
+    let left = sides.holders();
+    drop(pairs);
+    (left, sides.holders())
+}
+
+#[test]
+fn pairs_that_go_are_dropped(rt: HostRuntime) -> Result<(), Fail> {
+    let sides = Sides::new(rt.alloc())?;
+    let memory = memory_over(rt.alloc());
+    let mut map = sides.left.map(&memory, 1, true)?;
+    let inserted = insert_again(&sides, &mut map)?;
+    let written = write_first(&sides, &mut map);
+    let kept = keep_first(&sides, &mut map);
+    let again = insert_again(&sides, &mut map)?;
+    let (left, ended) = take_first(&sides, map);
+    assert_eq!(rt;
+        [inserted, written, kept, again, left, ended],
+        [
+            [2, 2, 2, 2],
+            [2, 1, 2, 2],
+            [2, 1, 1, 1],
+            [2, 1, 2, 2],
+            [1, 1, 2, 2],
+            ALONE
+        ]
+    );
+    Ok(())
+}

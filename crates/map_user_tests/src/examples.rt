@@ -1,0 +1,159 @@
+//! Each call on one map, and each operator and conversion, on a worked example, and what no clause says of them: printed text and hashes.
+
+use smallvec::SmallVec;
+use std::alloc::{AllocError, Global};
+use std::collections::BTreeMap;
+use std::hash::{FoldHasher, Hash, Hasher};
+use std::test::Fail;
+use vc_maps::vec_map::conversions::map_of_list;
+use vc_maps::vec_map::{AbstractVecMap, VecMap};
+use vc_merge::iterators::ascends_by_key;
+use vc_sets::vec_set::VecSet;
+
+type Map = VecMap<u32, u32, 2>;
+
+/// The pairs of the map that conversions make.
+const PAIRS: [(u32, u32); 3] = [(1, 2), (2, 4), (3, 6)];
+
+/// The map of pairs, which come in any order.
+fn map_of(alloc: Global, pairs: &[(u32, u32)]) -> Result<Map, AllocError> {
+    let mut map = Map::empty(alloc);
+    for (key, value) in pairs {
+        map.insert(*key, *value)?;
+    }
+    Ok(map)
+}
+
+/// Writes 8 at a key, where a map has it, and answers whether it has.
+fn write(map: &mut Map, key: u32) -> bool {
+    match map.get_mut(&key) {
+        Some(value) => {
+            *value = 8;
+            true
+        }
+        None => false,
+    }
+}
+
+/// Whether an insert, look-ups and a retain answer what was worked out, and leave it.
+fn changes_are_right(map: &mut Map) -> Result<bool, AllocError> {
+    let old = map.insert(2, 9)?;
+    let is_changed = map.as_ref() == [(1, 2), (2, 9), (3, 6)].as_slice();
+    let are_found = map.get(&3).copied() == Some(6) && map.get(&4).is_none();
+    let are_written = write(map, 3) && !write(map, 4);
+    map.retain(|pair| pair.0 != 2);
+    let is_kept = map.as_ref() == [(1, 2), (3, 8)].as_slice();
+    Ok(old == Some(4) && is_changed && are_found && are_written && is_kept)
+}
+
+#[test]
+fn maps_change_as_worked_out(rt: HostRuntime) -> Result<(), Fail> {
+    let mut map = map_of(rt.alloc(), &[(3, 6), (1, 2), (2, 4)])?;
+    assert!(rt; changes_are_right(&mut map)?);
+    Ok(())
+}
+
+/// The map of a list, or of no pair where that does not ascend.
+fn of_list(alloc: Global) -> Result<Map, AllocError> {
+    let mut list = Vec::new(alloc);
+    for pair in PAIRS {
+        list.push(pair)?;
+    }
+    if ascends_by_key(list.as_slice()) {
+        Map::from_vec(alloc, list)
+    } else {
+        Ok(Map::empty(alloc))
+    }
+}
+
+/// The map of a `BTreeMap`.
+fn of_tree(alloc: Global) -> Result<Map, AllocError> {
+    let mut tree = BTreeMap::new(alloc);
+    for (key, value) in PAIRS {
+        tree.insert(key, value)?;
+    }
+    Map::from_btree_map(alloc, tree)
+}
+
+/// The map of the items of a map.
+fn of_items(alloc: Global, map: &Map) -> Result<Map, AllocError> {
+    Map::from_iter(alloc, map.clone()?.into_iter())
+}
+
+/// The map of the list of a map.
+fn of_inner(map: &Map) -> Result<Map, AllocError> {
+    Ok(map_of_list(map.clone()?.into_inner()))
+}
+
+/// Whether what was made is the map.
+fn is_same(made: Map, map: &Map) -> bool {
+    made == *map
+}
+
+/// Whether each conversion makes the map.
+fn conversions_agree(alloc: Global, map: &Map) -> Result<bool, AllocError> {
+    Ok(
+        is_same(of_list(alloc)?, map)
+            && is_same(of_tree(alloc)?, map)
+            && is_same(of_items(alloc, map)?, map)
+            && is_same(of_inner(map)?, map),
+    )
+}
+
+#[test]
+fn maps_come_from_lists_trees_and_iterators(rt: HostRuntime) -> Result<(), Fail> {
+    let map = map_of(rt.alloc(), PAIRS.as_slice())?;
+    assert!(rt; conversions_agree(rt.alloc(), &map)?);
+    Ok(())
+}
+
+/// The set of the pairs of a map that is copied.
+fn set_of(map: &Map) -> Result<VecSet<(u32, u32), 2>, AllocError> {
+    Ok(VecSet::from(map.clone()?))
+}
+
+/// The list of the pairs of a map that is copied.
+fn list_of(map: &Map) -> Result<SmallVec<(u32, u32), 2>, AllocError> {
+    Ok(map.clone()?.into())
+}
+
+/// Whether each iteration by reference shows the pairs.
+fn shows_pairs(map: &Map) -> bool {
+    map.into_iter().eq(PAIRS.iter())
+        && map.iter().eq(PAIRS.iter())
+        && AbstractVecMap::iter(map).eq(PAIRS.iter())
+}
+
+#[test]
+fn maps_turn_into_lists_and_sets(rt: HostRuntime) -> Result<(), Fail> {
+    let map = map_of(rt.alloc(), PAIRS.as_slice())?;
+    assert!(rt; set_of(&map)?.as_ref() == PAIRS.as_slice());
+    assert!(rt; list_of(&map)?.as_slice() == PAIRS.as_slice());
+    assert!(rt; shows_pairs(&map));
+    Ok(())
+}
+
+/// The hash of a map.
+fn hash_of(map: &Map) -> u64 {
+    let mut hasher = FoldHasher::default();
+    map.hash(&mut hasher);
+    hasher.finish()
+}
+
+/// Whether maps are compared and hashed by their lists, and a map of one pair comes first.
+fn compares(single: &Map, map: &Map, same: &Map) -> bool {
+    let are_lengths = (single.len(), single.is_empty()) == (1, false);
+    let are_ordered = single < map && single.cmp(map).is_lt() && single != map;
+    are_lengths && are_ordered && map == same && hash_of(map) == hash_of(same)
+}
+
+#[test]
+fn maps_are_ordered_hashed_and_shown(rt: HostRuntime) -> Result<(), Fail> {
+    let single = Map::single(rt.alloc(), (1, 2))?;
+    let map = of_list(rt.alloc())?;
+    assert!(rt; compares(&single, &map, &of_tree(rt.alloc())?));
+    assert!(rt; Map::empty(rt.alloc()).is_empty());
+    let text = format!(in rt.alloc(); "{map:?}")?;
+    assert_eq!(rt; text.as_str(), "{1: 2, 2: 4, 3: 6}");
+    Ok(())
+}

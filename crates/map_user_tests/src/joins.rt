@@ -1,0 +1,354 @@
+//! Each join, fresh and in place, with a counter and without: at which keys it asks, in which order and spelling, and what it makes.
+
+use set_user_tests::marked::Marked;
+use std::alloc::{AllocError, Allocator, Global};
+use std::cell::Cell;
+use std::test::Fail;
+use vc_joins::question::{JoinKind, OuterJoinArg};
+use vc_maps::vec_map::{VecMap, inner_join, left_join, outer_join, right_join};
+use vc_merge::merge::Steps;
+
+type Map = VecMap<Marked, u32, 2>;
+
+/// The keys that were asked at, in their order: two digits for each, of which the second is 1 in the spelling of the right map.
+type Asked = Cell<u64>;
+
+/// The map of the numbers to values, each number with the mark.
+pub(crate) fn map_of<const N: usize, A: Allocator + Copy>(
+    alloc: A,
+    mark: char,
+    pairs: &[(u32, u32)],
+) -> Result<VecMap<Marked, u32, N, A>, AllocError> {
+    let mut map = VecMap::empty(alloc);
+    for (number, value) in pairs {
+        let number = *number;
+        map.insert(Marked { number, mark }, *value)?;
+    }
+    Ok(map)
+}
+
+/// Whether the list of a map has these numbers with marks and values, in this order.
+pub(crate) fn has(list: &[(Marked, u32)], pairs: &[(u32, char, u32)]) -> bool {
+    list.len() == pairs.len()
+        && list.iter().zip(pairs).all(|((key, value), pair)| (key.number, key.mark, *value)
+            == *pair)
+}
+
+/// The answer at a key with these values. An outer join adds what is there, a left one adds where both are there, a right one takes the
+/// right value and an inner one the left.
+fn answer(kind: JoinKind, left: Option<u32>, right: Option<u32>) -> Option<u32> {
+    match kind {
+        JoinKind::Outer => Some(left.unwrap_or(0).wrapping_add(right.unwrap_or(0))),
+        JoinKind::Left => Some(left?.wrapping_add(right?)),
+        JoinKind::Right => right,
+        JoinKind::Inner => left,
+    }
+}
+
+/// Notes the key, and answers.
+fn ask(
+    asked: &Asked,
+    kind: JoinKind,
+    key: &Marked,
+    left: Option<u32>,
+    right: Option<u32>,
+) -> Option<u32> {
+    let digits = u64::from(key.number)
+        .wrapping_mul(10)
+        .wrapping_add(u64::from(key.mark == 'b'));
+    asked.set(asked.get().wrapping_mul(100).wrapping_add(digits));
+    answer(kind, left, right)
+}
+
+/// Answers a fresh join.
+fn ask_shown(asked: &Asked, kind: JoinKind, at: OuterJoinArg<&Marked, &u32, &u32>) -> Option<u32> {
+    match at {
+        OuterJoinArg::Left(key, value) => ask(asked, kind, key, Some(*value), None),
+        OuterJoinArg::Right(key, value) => ask(asked, kind, key, None, Some(*value)),
+        OuterJoinArg::Both(key, left, right) => ask(asked, kind, key, Some(*left), Some(*right)),
+    }
+}
+
+/// Answers a join in place.
+fn ask_handed(asked: &Asked, kind: JoinKind, at: OuterJoinArg<&Marked, u32, &u32>) -> Option<u32> {
+    match at {
+        OuterJoinArg::Left(key, value) => ask(asked, kind, key, Some(value), None),
+        OuterJoinArg::Right(key, value) => ask(asked, kind, key, None, Some(*value)),
+        OuterJoinArg::Both(key, left, right) => ask(asked, kind, key, Some(left), Some(*right)),
+    }
+}
+
+/// The value behind a reference, where there is one.
+fn value_of(value: Option<&u32>) -> Option<u32> {
+    value.copied()
+}
+
+fn fresh_outer(alloc: Global, left: &Map, right: &Map, asked: &Asked) -> Result<Map, AllocError> {
+    outer_join(
+        alloc,
+        left,
+        right,
+        |at: OuterJoinArg<&Marked, &u32, &u32>| { Ok(ask_shown(asked, JoinKind::Outer, at)) },
+    )
+}
+
+fn fresh_left(alloc: Global, left: &Map, right: &Map, asked: &Asked) -> Result<Map, AllocError> {
+    left_join(
+        alloc,
+        left,
+        right,
+        |key: &Marked, value: &u32, other: Option<&u32>| {
+            Ok(ask(asked, JoinKind::Left, key, Some(*value), value_of(other)))
+        },
+    )
+}
+
+fn fresh_right(alloc: Global, left: &Map, right: &Map, asked: &Asked) -> Result<Map, AllocError> {
+    right_join(
+        alloc,
+        left,
+        right,
+        |key: &Marked, value: Option<&u32>, other: &u32| {
+            Ok(ask(asked, JoinKind::Right, key, value_of(value), Some(*other)))
+        },
+    )
+}
+
+fn fresh_inner(alloc: Global, left: &Map, right: &Map, asked: &Asked) -> Result<Map, AllocError> {
+    inner_join(
+        alloc,
+        left,
+        right,
+        |key: &Marked, value: &u32, other: &u32| {
+            Ok(ask(asked, JoinKind::Inner, key, Some(*value), Some(*other)))
+        },
+    )
+}
+
+/// The fresh join of the kind.
+fn fresh(
+    alloc: Global,
+    kind: JoinKind,
+    left: &Map,
+    right: &Map,
+    asked: &Asked,
+) -> Result<Map, AllocError> {
+    match kind {
+        JoinKind::Outer => fresh_outer(alloc, left, right, asked),
+        JoinKind::Left => fresh_left(alloc, left, right, asked),
+        JoinKind::Right => fresh_right(alloc, left, right, asked),
+        JoinKind::Inner => fresh_inner(alloc, left, right, asked),
+    }
+}
+
+/// The fresh join of the kind, by the call that counts comparisons.
+fn fresh_counted(
+    kind: JoinKind,
+    left: &Map,
+    right: &Map,
+    asked: &Asked,
+) -> Result<Map, AllocError> {
+    let mut steps = Steps::new();
+    left.join_counted(
+        right,
+        kind,
+        |at: OuterJoinArg<&Marked, &u32, &u32>| { Ok(ask_shown(asked, kind, at)) },
+        &mut steps,
+    )
+}
+
+fn outer_with(left: &mut Map, right: &Map, asked: &Asked) -> Result<(), AllocError> {
+    left.outer_join_with(right, |at: OuterJoinArg<&Marked, u32, &u32>| {
+        ask_handed(asked, JoinKind::Outer, at)
+    })
+}
+
+fn left_with(left: &mut Map, right: &Map, asked: &Asked) -> Result<(), AllocError> {
+    left.left_join_with(right, |key: &Marked, value: u32, other: Option<&u32>| {
+        ask(asked, JoinKind::Left, key, Some(value), value_of(other))
+    })
+}
+
+fn right_with(left: &mut Map, right: &Map, asked: &Asked) -> Result<(), AllocError> {
+    left.right_join_with(right, |key: &Marked, value: Option<u32>, other: &u32| {
+        ask(asked, JoinKind::Right, key, value, Some(*other))
+    })
+}
+
+fn inner_with(left: &mut Map, right: &Map, asked: &Asked) -> Result<(), AllocError> {
+    left.inner_join_with(right, |key: &Marked, value: u32, other: &u32| {
+        ask(asked, JoinKind::Inner, key, Some(value), Some(*other))
+    })
+}
+
+/// Makes the join of the kind in place.
+fn in_place(kind: JoinKind, left: &mut Map, right: &Map, asked: &Asked) -> Result<(), AllocError> {
+    match kind {
+        JoinKind::Outer => outer_with(left, right, asked),
+        JoinKind::Left => left_with(left, right, asked),
+        JoinKind::Right => right_with(left, right, asked),
+        JoinKind::Inner => inner_with(left, right, asked),
+    }
+}
+
+/// The same, by the call that counts comparisons.
+fn in_place_counted(
+    kind: JoinKind,
+    left: &mut Map,
+    right: &Map,
+    asked: &Asked,
+) -> Result<(), AllocError> {
+    let mut steps = Steps::new();
+    left.join_with_counted(
+        right,
+        kind,
+        |at: OuterJoinArg<&Marked, u32, &u32>| { ask_handed(asked, kind, at) },
+        &mut steps,
+    )
+}
+
+/// The calls of a join.
+#[derive(Clone, Copy, Debug)]
+enum Way {
+    Fresh,
+    FreshCounted,
+    InPlace,
+    InPlaceCounted,
+}
+
+const WAYS: [Way; 4] = [
+    Way::Fresh,
+    Way::FreshCounted,
+    Way::InPlace,
+    Way::InPlaceCounted,
+];
+
+/// The join of the kind, by that call.
+fn join(
+    alloc: Global,
+    way: Way,
+    kind: JoinKind,
+    left: &mut Map,
+    right: &Map,
+    asked: &Asked,
+) -> Result<Map, AllocError> {
+    match way {
+        Way::Fresh => return fresh(alloc, kind, left, right, asked),
+        Way::FreshCounted => return fresh_counted(kind, left, right, asked),
+        Way::InPlace => in_place(kind, left, right, asked)?,
+        Way::InPlaceCounted => in_place_counted(kind, left, right, asked)?,
+    }
+    left.clone()
+}
+
+/// Two maps, whose keys are marked `a` and `b`, what a join of them makes, and at which keys it asks.
+type Row = (
+    JoinKind,
+    &'static [(u32, u32)],
+    &'static [(u32, u32)],
+    &'static [(u32, char, u32)],
+    u64,
+);
+
+const ROWS: [Row; 10] = [
+    (
+        JoinKind::Outer,
+        &[(1, 10), (2, 20)],
+        &[(2, 5), (3, 7)],
+        &[(1, 'a', 10), (2, 'a', 25), (3, 'b', 7)],
+        102031,
+    ),
+    (
+        JoinKind::Left,
+        &[(1, 10), (2, 20)],
+        &[(2, 5), (3, 7)],
+        &[(2, 'a', 25)],
+        1020,
+    ),
+    (
+        JoinKind::Right,
+        &[(1, 10), (2, 20)],
+        &[(2, 5), (3, 7)],
+        &[(2, 'a', 5), (3, 'b', 7)],
+        2031,
+    ),
+    (
+        JoinKind::Inner,
+        &[(1, 10), (2, 20)],
+        &[(2, 5), (3, 7)],
+        &[(2, 'a', 20)],
+        20,
+    ),
+    (JoinKind::Outer, &[(1, 1)], &[(1, 2)], &[(1, 'a', 3)], 10),
+    (JoinKind::Inner, &[(1, 1)], &[(2, 2)], &[], 0),
+    (JoinKind::Outer, &[], &[], &[], 0),
+    (
+        JoinKind::Outer,
+        &[(2, 6)],
+        &[(1, 7), (3, 8), (4, 9)],
+        &[(1, 'b', 7), (2, 'a', 6), (3, 'b', 8), (4, 'b', 9)],
+        11203141,
+    ),
+    (
+        JoinKind::Right,
+        &[(2, 6)],
+        &[(1, 7), (3, 8), (4, 9)],
+        &[(1, 'b', 7), (3, 'b', 8), (4, 'b', 9)],
+        113141,
+    ),
+    (
+        JoinKind::Left,
+        &[(2, 6)],
+        &[(1, 7), (3, 8), (4, 9)],
+        &[],
+        20,
+    ),
+];
+
+/// Whether the call makes the map of the row, and asks once at each key that it asks at, in ascending order.
+fn agrees(alloc: Global, way: Way, row: Row) -> Result<bool, AllocError> {
+    let (kind, left, right, pairs, keys) = row;
+    let asked = Cell::new(0);
+    let mut left: Map = map_of(alloc, 'a', left)?;
+    let right: Map = map_of(alloc, 'b', right)?;
+    let made = join(alloc, way, kind, &mut left, &right, &asked)?;
+    Ok(has(made.as_ref(), pairs) && asked.get() == keys)
+}
+
+#[test]
+fn joins_ask_once_a_key_and_make_what_was_worked_out(rt: HostRuntime) -> Result<(), Fail> {
+    for row in ROWS {
+        for way in WAYS {
+            assert!(rt; agrees(rt.alloc(), way, row)?, "{way:?} of {:?}", row.3);
+        }
+    }
+    Ok(())
+}
+
+/// The outer join of `{1: 1, 2: 2}` and `{2: 5}` with the left and the right value by turns.
+fn by_turns(alloc: Global, is_right: &Cell<bool>) -> Result<Map, AllocError> {
+    let left: Map = map_of(alloc, 'a', &[(1, 1), (2, 2)])?;
+    let right: Map = map_of(alloc, 'b', &[(2, 5)])?;
+    outer_join(
+        alloc,
+        &left,
+        &right,
+        |at: OuterJoinArg<&Marked, &u32, &u32>| {
+            is_right.set(!is_right.get());
+            Ok(Some(match at {
+                OuterJoinArg::Left(_, value) => *value,
+                OuterJoinArg::Right(_, value) => *value,
+                OuterJoinArg::Both(_, left, right) => *(if is_right.get() { right } else { left }),
+            }))
+        },
+    )
+}
+
+#[test]
+fn a_closure_may_answer_by_turns(rt: HostRuntime) -> Result<(), Fail> {
+    let made = by_turns(rt.alloc(), &Cell::new(false))?;
+    assert!(rt; has(made.as_ref(), &[(1, 'a', 1), (2, 'a', 2)]));
+    let made = by_turns(rt.alloc(), &Cell::new(true))?;
+    assert!(rt; has(made.as_ref(), &[(1, 'a', 1), (2, 'a', 5)]));
+    Ok(())
+}

@@ -1,0 +1,14 @@
+//! A crate that uses maps and their joins from outside: worked examples, which keys are asked at and in which spelling, drops, and clones and
+//! requests that are refused.
+#![tactic(auto)]
+
+#[cfg(test)]
+mod drops;
+#[cfg(test)]
+mod examples;
+#[cfg(test)]
+mod joins;
+#[cfg(test)]
+mod sides;
+#[cfg(test)]
+mod whole;
