@@ -1,8 +1,9 @@
 //! A total map with what is made of its value at every key.
-ghost use Rattle.std.specs.Prelude.{◌≡◌, Ok, IfOk};
+ghost use Rattle.std.specs.Prelude.{◌≡◌, [], Ok, IfOk};
 ghost use Rattle.std.specs.Fn.{FnReturnsAt};
 ghost use Rattle.vc_joins.specs.Entries.{AscendsByKey};
 ghost use Rattle.vc_sets.specs.SetOf.{ClonesAreEqual};
+ghost use Rattle.vc_total_maps.specs.CombinedTotals.{HoldsEverywhere};
 ghost use Rattle.vc_total_maps.specs.MappedTotals.{HoldsOfEach, IsMapped, CanOnClone, GivesOnClone};
 ghost use Rattle.vc_total_maps.specs.TotalMap.{total_map};
 
@@ -65,7 +66,20 @@ where
     ensures ascends { IfOk result (λ made. AscendsByKey K.cmp made.items) }
     ensures mapped { IfOk result (λ made. IsMapped K.cmp X.eq (λ x. C.may question.now.combine.now x question.now.right_default.now) K.is_clone (total_map pairs.now question.now.left_default.now) (total_map made.items question.now.new_default.now)) }
 {
-    combine_pairs(alloc, pairs, &pairs[..0], question)
+    combine_pairs(alloc, pairs, no_pairs(pairs, question), question)
+}
+
+/// No pairs, at which and at those of the map the question may be asked.
+fn no_pairs<'a, K: Ord, V, X: Eq + Drop, C: Combine<V, X>>(
+    pairs: &'a [(K, V)],
+    _question: &AskValues<'_, V, X, C>,
+) -> &'a [(K, V)]
+    requires callable { HoldsOfEach K.cmp (λ x. C.can _question.now.combine.now x _question.now.right_default.now) (total_map pairs.now _question.now.left_default.now) }
+    ensures none { result.now ≡ [] }
+    ensures ascends { AscendsByKey K.cmp result.now }
+    ensures callable { HoldsEverywhere K.cmp (C.can _question.now.combine.now) (total_map pairs.now _question.now.left_default.now) (total_map result.now _question.now.right_default.now) }
+{
+    &pairs[..0]
 }
 
 /// The mappings of a changed map, by a question that has both defaults.

@@ -3,6 +3,8 @@ ghost use Rattle.std.specs.Prelude.{◌≡◌, Ok, IfOk, ⊤};
 ghost use Rattle.std.specs.Fn.{FnReturnsAtPair};
 ghost use Rattle.std.specs.Ordering.{max_by_ordering, min_by_ordering};
 ghost use Rattle.vc_joins.specs.Entries.{AscendsByKey};
+ghost use Rattle.vc_joins.specs.Join.{IsAsked};
+ghost use Rattle.vc_joins.specs.Question.{left_spelling};
 ghost use Rattle.vc_sets.specs.SetOf.{ClonesAreEqual};
 ghost use Rattle.vc_total_maps.specs.Asking.{left_value, right_value, MayPlace};
 ghost use Rattle.vc_total_maps.specs.CombinedTotals.{HoldsEverywhere, IsCombined};
@@ -14,9 +16,9 @@ use std::alloc::{AllocError, Allocator};
 use std::cmp;
 use std::default::MadeWith;
 use vc_joins::answers::Question;
-use vc_joins::question::OuterJoinArg;
+use vc_joins::question::{JoinKind, OuterJoinArg};
 use vc_maps::vec_map::conversions::map_of_list;
-use vc_maps::vec_map::{VecMap, join_asking};
+use vc_maps::vec_map::{AbstractVecMap, VecMap, join_asking};
 
 /// What is made of the values of two maps at one key.
 pub(super) trait Combine<V, X> {
@@ -85,8 +87,20 @@ where
     ensures ascends { IfOk result (λ pairs. AscendsByKey K.cmp pairs.items) }
     ensures combined { IfOk result (λ pairs. IsCombined K.cmp X.eq (C.may question.now.combine.now) K.is_clone (total_map this.now question.now.left_default.now) (total_map that.now question.now.right_default.now) (total_map pairs.items question.now.new_default.now)) }
 {
+    may_ask(this, that, question);
     join_asking(alloc, this, that, question)
 }
+
+/// Does nothing. It says that a question may be asked all that the outer join of the lists asks. Beside the call of the join, whose answer
+/// has a size that the checker has to look at, that takes it a minute.
+fn may_ask<K: Ord, V, X: Eq + Drop, C: Combine<V, X>>(
+    _this: &[(K, V)],
+    _that: &[(K, V)],
+    _question: &AskValues<'_, V, X, C>,
+)
+    requires callable { HoldsEverywhere K.cmp (C.can _question.now.combine.now) (total_map _this.now _question.now.left_default.now) (total_map _that.now _question.now.right_default.now) }
+    ensures takes { (a : _) → IsAsked K.cmp JoinKind.Outer left_spelling _this.now _that.now a → C.can _question.now.combine.now (left_value _question.now.left_default.now a) (right_value _question.now.right_default.now a) }
+{}
 
 /// The mappings of a combination, by a question that has its new default.
 fn combine_mappings<
@@ -107,7 +121,7 @@ where
     requires default { C.may question.now.combine.now question.now.left_default.now question.now.right_default.now question.now.new_default.now }
     ensures { IfOk result (λ pairs. IsCombined K.cmp V.eq (C.may question.now.combine.now) K.is_clone (total_map this.now question.now.left_default.now) (total_map that.now question.now.right_default.now) (total_map pairs question.now.new_default.now)) }
 {
-    let pairs = combine_pairs(this.allocator(), this.as_ref(), that.as_ref(), question)?;
+    let pairs = combine_pairs(this.allocator(), this.as_slice(), that.as_slice(), question)?;
     Ok(map_of_list(pairs))
 }
 

@@ -1,21 +1,5 @@
-use Rattle.std.proofs.Common.{rules}
-use Rattle.vc_total_maps.proofs.Combining.{takes-values, joined-ascends, joined-combines}
+use Rattle.vc_total_maps.proofs.Combining.{joined-ascends, joined-combines}
 use Rattle.vc_total_maps.proofs.total_vec_map.combine.combine_pairs.Goals as goal
-
-pub join_asking-requires : goal.join_asking-requires
-join_asking-requires g c = (
-  search rules,
-  (
-    c.requires.this_ascends,
-    (
-      c.requires.that_ascends,
-      (
-        c.requires.clones,
-        takes-values _ _ (g.C.Combine.can c.args.question.now.combine.now) g.K.Ord.cmp _ _ c.requires.callable,
-      ),
-    ),
-  ),
-)
 
 pub returns-clause-ascends : goal.returns-clause-ascends
 returns-clause-ascends g c = joined-ascends _ _ g.K.Ord.cmp _ _ c.join_asking.result c.join_asking.ensures.joins
