@@ -7,7 +7,7 @@ ghost use Rattle.vc_joins.specs.Answers.{seen, seen_left, seen_right, seen_inner
 ghost use Rattle.vc_joins.specs.Entries.{AscendsByKey};
 ghost use Rattle.vc_joins.specs.Events.{AnswerAdds};
 ghost use Rattle.vc_joins.specs.Join.{ClonedKey, IsAsked, IsJoin};
-ghost use Rattle.vc_joins.specs.Question.{left_spelling};
+ghost use Rattle.vc_joins.specs.Question.{asks, left_spelling};
 ghost use Rattle.vc_maps.specs.Asking.{AtHeads};
 ghost use Rattle.vc_merge.specs.Count.{bound};
 ghost use Rattle.vc_merge.specs.Gathering.{Adds, Appends};
@@ -331,7 +331,12 @@ where
     requires callable { (a : _) → IsAsked K.cmp JoinKind.Outer left_spelling this.now that.now (seen a) → F.pre f.now a }
     ensures joins { IfOk result (λ v. IsJoin K.cmp JoinKind.Outer left_spelling this.now that.now (λ a r. MayAnswer F.Fn f.now a (Ok r)) (ClonedKey K.is_clone) v.items) }
 {
-    join_asking(alloc, this, that, &AskOuter(f))
+    join_asking(
+        alloc,
+        this,
+        that,
+        &outer_question(this, that, JoinKind::Outer, f),
+    )
 }
 
 /// The join of this kind by a closure that is asked as that of an outer join. Counts its comparisons.
@@ -360,7 +365,14 @@ where
     ensures joins { IfOk result (λ v. IsJoin K.cmp kind left_spelling this.now that.now (λ a r. MayAnswer F.Fn f.now a (Ok r)) (ClonedKey K.is_clone) v.items) }
     ensures counted { steps.new ≤ steps.old + bound (length this.now) (length that.now) }
 {
-    join(alloc, this, that, kind, &AskOuter(f), steps)
+    join(
+        alloc,
+        this,
+        that,
+        kind,
+        &outer_question(this, that, kind, f),
+        steps,
+    )
 }
 
 /// The left join by a closure.
@@ -386,7 +398,7 @@ where
         this,
         that,
         JoinKind::Left,
-        &AskLeft(f),
+        &left_question(this, that, f),
         &mut Uncounted,
     )
 }
@@ -414,7 +426,7 @@ where
         this,
         that,
         JoinKind::Right,
-        &AskRight(f),
+        &right_question(this, that, f),
         &mut Uncounted,
     )
 }
@@ -442,7 +454,63 @@ where
         this,
         that,
         JoinKind::Inner,
-        &AskInner(f),
+        &inner_question(this, that, f),
         &mut Uncounted,
     )
+}
+
+// Each of these says that a closure may be asked all that a join of two lists asks, where it may be called at that. A call of a join with
+// the closure itself would have to say so beside the size of what the join builds, which takes the checker a minute.
+
+/// The closure of an outer join, or of one that is asked as that is.
+fn outer_question<'f, K: Ord, V, W, R, F: Fn(OuterJoinArg<&K, &V, &W>) -> R>(
+    _this: &[(K, V)],
+    _that: &[(K, W)],
+    _kind: JoinKind,
+    f: &'f F,
+) -> AskOuter<'f, F>
+    requires callable { (a : _) → IsAsked K.cmp _kind left_spelling _this.now _that.now (seen a) → F.pre f.now a }
+    ensures same { result.0.now ≡ f.now }
+    ensures takes { (a : _) → IsAsked K.cmp _kind left_spelling _this.now _that.now a → (shown : _) → seen shown ≡ a → F.pre result.0.now shown }
+{
+    AskOuter(f)
+}
+
+/// The closure of a left join.
+fn left_question<'f, K: Ord, V, W, R, F: Fn(&K, &V, Option<&W>) -> R>(
+    _this: &[(K, V)],
+    _that: &[(K, W)],
+    f: &'f F,
+) -> AskLeft<'f, F>
+    requires callable { (k : _) (v : _) (w : _) → IsAsked K.cmp JoinKind.Left left_spelling _this.now _that.now (seen_left k v w) → F.pre f.now k v w }
+    ensures same { result.0.now ≡ f.now }
+    ensures takes { (a : _) → IsAsked K.cmp JoinKind.Left left_spelling _this.now _that.now a → (asks JoinKind.Left a ≡ true) × ((k : _) (v : _) (w : _) → seen_left k v w ≡ a → F.pre result.0.now k v w) }
+{
+    AskLeft(f)
+}
+
+/// The closure of a right join.
+fn right_question<'f, K: Ord, V, W, R, F: Fn(&K, Option<&V>, &W) -> R>(
+    _this: &[(K, V)],
+    _that: &[(K, W)],
+    f: &'f F,
+) -> AskRight<'f, F>
+    requires callable { (k : _) (v : _) (w : _) → IsAsked K.cmp JoinKind.Right left_spelling _this.now _that.now (seen_right k v w) → F.pre f.now k v w }
+    ensures same { result.0.now ≡ f.now }
+    ensures takes { (a : _) → IsAsked K.cmp JoinKind.Right left_spelling _this.now _that.now a → (asks JoinKind.Right a ≡ true) × ((k : _) (v : _) (w : _) → seen_right k v w ≡ a → F.pre result.0.now k v w) }
+{
+    AskRight(f)
+}
+
+/// The closure of an inner join.
+fn inner_question<'f, K: Ord, V, W, R, F: Fn(&K, &V, &W) -> R>(
+    _this: &[(K, V)],
+    _that: &[(K, W)],
+    f: &'f F,
+) -> AskInner<'f, F>
+    requires callable { (k : _) (v : _) (w : _) → IsAsked K.cmp JoinKind.Inner left_spelling _this.now _that.now (seen_inner k v w) → F.pre f.now k v w }
+    ensures same { result.0.now ≡ f.now }
+    ensures takes { (a : _) → IsAsked K.cmp JoinKind.Inner left_spelling _this.now _that.now a → (asks JoinKind.Inner a ≡ true) × ((k : _) (v : _) (w : _) → seen_inner k v w ≡ a → F.pre result.0.now k v w) }
+{
+    AskInner(f)
 }

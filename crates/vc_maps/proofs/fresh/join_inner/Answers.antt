@@ -1,20 +1,4 @@
-use Rattle.std.proofs.Common.{rules}
-use Rattle.vc_joins.specs.declared.question.JoinKind.TheVariants.{Inner}
-use Rattle.vc_joins.specs.Answers.{seen_inner}
-use Rattle.vc_maps.proofs.Asking.{asked-kind, asked-as}
 use Rattle.vc_maps.proofs.fresh.join_inner.Goals as goal
 
-pub join-requires : goal.join-requires
-join-requires g c = (
-  search rules,
-  (
-    c.requires.this_ascends,
-    (
-      c.requires.that_ascends,
-      (
-        c.requires.clones,
-        λ a h. (asked-kind g.K.Ord.cmp Inner a h, λ k v w e. c.requires.callable k v w (asked-as g.K.Ord.cmp Inner a (seen_inner k v w) e h)),
-      ),
-    ),
-  ),
-)
+pub returns : goal.returns
+returns g c = record { joins = rw c.inner_question.ensures.same at c.join.ensures.joins }

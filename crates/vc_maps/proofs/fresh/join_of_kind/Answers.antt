@@ -1,19 +1,4 @@
-use Rattle.std.proofs.Common.{rules}
-use Rattle.vc_joins.specs.Answers.{seen}
-use Rattle.vc_maps.proofs.Asking.{asked-as}
 use Rattle.vc_maps.proofs.fresh.join_of_kind.Goals as goal
 
-pub join-requires : goal.join-requires
-join-requires g c = (
-  search rules,
-  (
-    c.requires.this_ascends,
-    (
-      c.requires.that_ascends,
-      (
-        c.requires.clones,
-        λ a h shown e. c.requires.callable shown (asked-as g.K.Ord.cmp c.args.kind a (seen shown) e h),
-      ),
-    ),
-  ),
-)
+pub returns : goal.returns
+returns g c = record { joins = rw c.outer_question.ensures.same at c.join.ensures.joins; counted = c.join.ensures.counted }
