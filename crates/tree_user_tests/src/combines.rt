@@ -1,6 +1,8 @@
 //! Fresh combines with ample memory, in both flavours and with a tree of another crate.
 
 use super::Word;
+use super::tests::{DEPTH, print_shape};
+use super::walks::print_pairs;
 use std::alloc::{AllocError, Global};
 use std::test::Fail;
 use vc_trees::radix_tree::{AbstractRadixTree, AbstractRadixTreeMut, ArcRadixTree, RadixTree};
@@ -69,10 +71,53 @@ fn combines<T: AbstractRadixTreeMut<u8, u32>>(
     Ok(())
 }
 
+/// Asserts which pairs a tree has, and its shape.
+fn assert_is<T: AbstractRadixTree<u8, u32>>(
+    alloc: Global,
+    rt: &impl std::process::Abort,
+    tree: &T,
+    pairs: &str,
+    shape: &str,
+) -> Result<(), AllocError> {
+    assert_eq!(rt; print_pairs(alloc, tree.iter())?.as_str(), pairs);
+    let mut text = String::new(alloc);
+    print_shape(tree, &mut text, DEPTH)?;
+    assert_eq!(rt; text.as_str(), shape);
+    Ok(())
+}
+
+/// Combines that are worked out by hand, and a tree with the front of its keys off.
+fn worked_combines<T: AbstractRadixTreeMut<u8, u32>>(
+    alloc: Global,
+    rt: &impl std::process::Abort,
+) -> Result<(), AllocError> {
+    let two: T = tree_of(alloc, &[("a", 1), ("ab", 2)])?;
+    let right: T = tree_of(alloc, &[("a", 3)])?;
+    let outer: T = two.outer_combine(&right, |_, _| Ok(None))?;
+    assert_is(alloc, rt, &outer, "2ab", "ab*")?;
+    let nested: T = tree_of(alloc, &[("x", 1), ("xy", 2)])?;
+    let right: T = tree_of(alloc, &[("xy", 5)])?;
+    let summed: T = nested.left_combine(&right, |v, w| Ok(w.map(|w| v.saturating_add(*w))))?;
+    assert_is(alloc, rt, &summed, "7xy", "xy*")?;
+    let one: T = tree_of(alloc, &[("a", 1)])?;
+    let right: T = tree_of(alloc, &[("a", 2), ("b", 3)])?;
+    assert_is(alloc, rt, &one.union(&right)?, "1a 3b", "(a* b*)")?;
+    let three: T = tree_of(alloc, &[("aabbcc", 1), ("aabb", 2), ("aabbee", 3)])?;
+    assert_eq!(rt; three.prefix().len(), 4);
+    let short: T = three.materialize_shortened(2)?;
+    assert_is(alloc, rt, &short, "2bb 1bbcc 3bbee", "bb*(cc* ee*)")?;
+    for key in ["xaabbcc", "aabbx", "aabbeex"] {
+        assert!(rt; !three.contains_key(key.as_bytes()), "{key}");
+    }
+    Ok(())
+}
+
 #[test]
 fn both_flavours_are_combined(rt: HostRuntime) -> Result<(), Fail> {
     combines::<RadixTree<u8, u32>>(rt.alloc(), &rt)?;
     combines::<ArcRadixTree<u8, u32>>(rt.alloc(), &rt)?;
+    worked_combines::<RadixTree<u8, u32>>(rt.alloc(), &rt)?;
+    worked_combines::<ArcRadixTree<u8, u32>>(rt.alloc(), &rt)?;
     Ok(())
 }
 

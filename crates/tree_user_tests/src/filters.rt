@@ -1,4 +1,5 @@
-//! Filters of paths: the tables of rules, of what the longest one decides, and of what they leave of a tree; and snapshots of rules.
+//! Filters of paths: the tables of rules, of what the longest one decides, and of what they leave of a tree; snapshots of rules; and trees
+//! whose values refuse to be cloned.
 use super::walks::{print_pairs, tree_of};
 use std::alloc::{AllocError, Global};
 use std::test::Fail;
@@ -117,5 +118,94 @@ fn trees_of_both_flavours_are_restricted(rt: HostRuntime) -> Result<(), Fail> {
         let shared = print_restricted::<ArcRadixTree<u8, u32>>(rt.alloc(), rules, keys)?;
         assert_eq!(rt; shared.as_str(), left);
     }
+    Ok(())
+}
+
+/// A number that refuses to be cloned.
+#[derive(Debug, Drop)]
+struct Unique(u32);
+
+impl Clone for Unique {
+    fn clone(&self) -> Result<Self, AllocError> {
+        Err(AllocError)
+    }
+}
+
+/// The keys of the tree of such numbers, each bound to its place in the list.
+const KEYS: [&str; 4] = ["a", "ab", "abc", "b"];
+
+/// The tree of the keys.
+fn unique_tree<T: AbstractRadixTreeMut<u8, Unique>>(alloc: Global) -> Result<T, AllocError> {
+    let mut tree = T::empty(alloc);
+    let mut number = 0u32;
+    for key in KEYS {
+        number = number.saturating_add(1);
+        tree.insert(key.as_bytes(), Unique(number))?;
+    }
+    Ok(tree)
+}
+
+/// The number at a key, or 0 where the tree has none.
+fn unique_at<T: AbstractRadixTree<u8, Unique>>(tree: &T, key: &str) -> u32 {
+    match tree.get(key.as_bytes()) {
+        Some(value) => value.0,
+        None => 0,
+    }
+}
+
+/// The numbers at the keys.
+fn unique_row<T: AbstractRadixTree<u8, Unique>>(tree: &T) -> [u32; 4] {
+    let mut row = [0; 4];
+    for (number, key) in row.iter_mut().zip(KEYS) {
+        *number = unique_at(tree, key);
+    }
+    row
+}
+
+/// Restricts a tree: whether that was refused, and the numbers that are left.
+fn restrict<T: AbstractRadixTreeMut<u8, Unique>>(
+    alloc: Global,
+    tree: &mut T,
+) -> Result<(bool, [u32; 4]), AllocError> {
+    let filter = filter_of(alloc, &["a", "!ab", "abc"])?;
+    let is_refused = filter.restrict(tree).is_err();
+    Ok((is_refused, unique_row(tree)))
+}
+
+/// Restricts a tree that has no clone: whether that was refused, and the numbers that are left.
+fn restrict_alone<T: AbstractRadixTreeMut<u8, Unique>>(
+    alloc: Global,
+) -> Result<(bool, [u32; 4]), AllocError> {
+    let mut tree = unique_tree::<T>(alloc)?;
+    restrict(alloc, &mut tree)
+}
+
+/// Restricts a tree that shares its nodes with a clone: whether that was refused, the numbers that are left, and those of the clone.
+fn restrict_shared<T: AbstractRadixTreeMut<u8, Unique> + Clone>(
+    alloc: Global,
+) -> Result<(bool, [u32; 4], [u32; 4]), AllocError> {
+    let mut tree = unique_tree::<T>(alloc)?;
+    let kept = tree.clone()?;
+    let (is_refused, left) = restrict(alloc, &mut tree)?;
+    Ok((is_refused, left, unique_row(&kept)))
+}
+
+#[test]
+fn values_that_stay_are_not_cloned(rt: HostRuntime) -> Result<(), Fail> {
+    let (is_refused, left) = restrict_alone::<RadixTree<u8, Unique>>(rt.alloc())?;
+    assert!(rt; !is_refused);
+    assert_eq!(rt; left, [1, 0, 3, 0]);
+    let (is_refused, left) = restrict_alone::<ArcRadixTree<u8, Unique>>(rt.alloc())?;
+    assert!(rt; !is_refused);
+    assert_eq!(rt; left, [1, 0, 3, 0]);
+    Ok(())
+}
+
+#[test]
+fn a_refused_restrict_leaves_the_empty_tree(rt: HostRuntime) -> Result<(), Fail> {
+    let (is_refused, left, kept) = restrict_shared::<ArcRadixTree<u8, Unique>>(rt.alloc())?;
+    assert!(rt; is_refused);
+    assert_eq!(rt; left, [0; 4]);
+    assert_eq!(rt; kept, [1, 2, 3, 4]);
     Ok(())
 }

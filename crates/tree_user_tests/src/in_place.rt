@@ -1,6 +1,7 @@
 //! Changes of trees in place, in both flavours: each call at every key of either tree, what it clones and drops, and what is left where a
-//! clone is refused.
-use super::tests::{Counted, Tally, number_at};
+//! clone is refused; and changes worked out by hand.
+use super::tests::{Counted, DEPTH, Tally, number_at, print_shape};
+use super::walks::put_pair;
 use std::alloc::{AllocError, Global};
 use std::test::Fail;
 use vc_trees::radix_tree::{AbstractRadixTree, AbstractRadixTreeMut, ArcRadixTree, RadixTree};
@@ -53,17 +54,38 @@ enum Change {
     Prepend,
 }
 
-/// Changes a tree. Closures add the numbers, and keep a sum below 8; keys with a number above 5 cover.
+/// What closures answer: they add the numbers, and keep a sum below the limit; keys with a number above the floor cover.
+#[derive(Clone, Copy)]
+struct Answers {
+    limit: u32,
+    floor: u32,
+}
+
+const SOME: Answers = Answers { limit: 8, floor: 5 };
+
+const TRUE: Answers = Answers {
+    limit: u32::MAX,
+    floor: 0,
+};
+
+const FALSE: Answers = Answers {
+    limit: 0,
+    floor: u32::MAX,
+};
+
+/// Changes a tree.
 fn apply_change<'a, T: AbstractRadixTreeMut<u8, Counted<'a>>>(
     tree: &mut T,
     that: &T,
     change: Change,
+    answers: Answers,
 ) -> Result<(), AllocError> {
+    let Answers { limit, floor } = answers;
     let add = |v: &mut Counted, w: &Counted| -> bool {
         v.number = v.number.saturating_add(w.number);
-        v.number < 8
+        v.number < limit
     };
-    let covers = |w: &Counted| -> bool { 5 < w.number };
+    let covers = |w: &Counted| -> bool { floor < w.number };
     match change {
         Change::Union => tree.union_with(that),
         Change::Intersection => tree.intersection_with(that),
@@ -100,7 +122,7 @@ fn changed<'a, T: AbstractRadixTreeMut<u8, Counted<'a>>>(
     let that: T = tree_of(alloc, &RIGHT, right)?;
     let mut tree: T = tree_of(alloc, &LEFT, left)?;
     left.clones_left.set(0);
-    apply_change(&mut tree, &that, change)?;
+    apply_change(&mut tree, &that, change, SOME)?;
     Ok(row_of(&tree))
 }
 
@@ -138,7 +160,7 @@ fn changed_beside_clone<'a, T: AbstractRadixTreeMut<u8, Counted<'a>> + Clone>(
     let mut tree: T = tree_of(alloc, &LEFT, tally)?;
     let kept = tree.clone()?;
     tally.clones_left.set(granted);
-    let is_refused = apply_change(&mut tree, &that, change).is_err();
+    let is_refused = apply_change(&mut tree, &that, change, SOME).is_err();
     Ok((is_refused, row_of(&tree), row_of(&kept)))
 }
 
@@ -169,6 +191,127 @@ fn a_refused_change_leaves_the_empty_tree(rt: HostRuntime) -> Result<(), Fail> {
                 "{change:?} with {granted}"
             );
         }
+    }
+    Ok(())
+}
+
+/// The keys and numbers of a tree.
+type Pairs = &'static [(&'static str, u32)];
+
+/// The pairs of a tree, a change, the pairs of the tree that it is changed by, what closures answer, and the pairs and the shape that are
+/// left.
+const WORKED: [(Pairs, Change, Pairs, Answers, &str, &str); 8] = [
+    (
+        &[("ab", 1), ("ac", 2)],
+        Change::Outer,
+        &[("ab", 5)],
+        FALSE,
+        "2ac",
+        "ac*",
+    ),
+    (&[("a", 1)], Change::Outer, &[("a", 2)], FALSE, "", ""),
+    (
+        &[("a", 1), ("ab", 2)],
+        Change::Left,
+        &[("ab", 5), ("c", 9)],
+        TRUE,
+        "1a 7ab",
+        "a*(b*)",
+    ),
+    (
+        &[("a", 1), ("ab", 2)],
+        Change::Inner,
+        &[("ab", 5), ("c", 9)],
+        TRUE,
+        "7ab",
+        "ab*",
+    ),
+    (
+        &[("aabb", 4)],
+        Change::Intersection,
+        &[("aabbcc", 1), ("aabb", 2), ("aabbee", 3)],
+        TRUE,
+        "4aabb",
+        "aabb*",
+    ),
+    (
+        &[
+            ("a", 1),
+            ("aaa", 2),
+            ("bc", 3),
+            ("bcd", 4),
+            ("eeeee", 5),
+            ("eeeef", 6),
+        ],
+        Change::Retain,
+        &[("aa", 1), ("bc", 1), ("ee", 1)],
+        FALSE,
+        "",
+        "",
+    ),
+    (
+        &[("0", 1)],
+        Change::Retain,
+        &[("0", 1), ("1", 1)],
+        TRUE,
+        "10",
+        "0*",
+    ),
+    (
+        &[("a", 1), ("ab", 2), ("abc", 3), ("b", 4)],
+        Change::Remove,
+        &[("a", 6), ("ab", 5)],
+        SOME,
+        "2ab 3abc 4b",
+        "(ab*(c*) b*)",
+    ),
+];
+
+/// The pairs of a tree.
+fn print_numbers<'a, T: AbstractRadixTree<u8, Counted<'a>>>(
+    alloc: Global,
+    tree: &T,
+) -> Result<String, AllocError> {
+    let mut text = String::new(alloc);
+    for item in tree.iter() {
+        let (key, value) = item?;
+        put_pair(&mut text, key.as_ref(), value.number)?;
+    }
+    Ok(text)
+}
+
+/// The pairs and the shape of a changed tree.
+fn worked_out<'a, T: AbstractRadixTreeMut<u8, Counted<'a>>>(
+    alloc: Global,
+    left: &[(&str, u32)],
+    change: Change,
+    right: &[(&str, u32)],
+    answers: Answers,
+    tally: &'a Tally,
+) -> Result<(String, String), AllocError> {
+    let that: T = tree_of(alloc, right, tally)?;
+    let mut tree: T = tree_of(alloc, left, tally)?;
+    apply_change(&mut tree, &that, change, answers)?;
+    let mut text = String::new(alloc);
+    print_shape(&tree, &mut text, DEPTH)?;
+    Ok((print_numbers(alloc, &tree)?, text))
+}
+
+#[test]
+fn changed_trees_are_as_worked_out(rt: HostRuntime) -> Result<(), Fail> {
+    for (left, change, right, answers, pairs, shape) in WORKED {
+        let tally = Tally::new();
+        let alloc = rt.alloc();
+        let plain = worked_out::<RadixTree<u8, Counted>>(
+            alloc, left, change, right, answers, &tally,
+        )?;
+        assert_eq!(rt; plain.0.as_str(), pairs);
+        assert_eq!(rt; plain.1.as_str(), shape);
+        let shared = worked_out::<ArcRadixTree<u8, Counted>>(
+            alloc, left, change, right, answers, &tally,
+        )?;
+        assert_eq!(rt; shared.0.as_str(), pairs);
+        assert_eq!(rt; shared.1.as_str(), shape);
     }
     Ok(())
 }

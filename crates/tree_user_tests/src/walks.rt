@@ -18,7 +18,7 @@ fn put_digit(text: &mut String, digit: u32) -> Result<(), AllocError> {
 }
 
 /// Puts a digit and the letters of its key behind the text, as `1aabb`.
-fn put_pair(text: &mut String, key: &[u8], digit: u32) -> Result<(), AllocError> {
+pub(crate) fn put_pair(text: &mut String, key: &[u8], digit: u32) -> Result<(), AllocError> {
     put_digit(text, digit)?;
     for letter in key {
         text.push(char::from(*letter))?;
@@ -252,7 +252,7 @@ fn a_held_tree_is_dropped_once(rt: HostRuntime) -> Result<(), Fail> {
 /// How many nested keys the deep trees have.
 const DEPTH: u32 = 5000;
 
-/// How many a plain one has that a walk holds, of which each step goes along the way to where the walk stands.
+/// How many those have that a walk holds, of which each step goes along the way to where the walk stands.
 const HELD_DEPTH: u32 = 2000;
 
 /// How many a shared one has: dropping a node of it takes more of the stack.
@@ -272,18 +272,26 @@ fn nested<T: AbstractRadixTreeMut<u8, u32>>(alloc: Global, depth: u32) -> Result
     Ok(tree)
 }
 
-/// How many pairs and how many values the walks of a tree give, each of them 1.
-fn counts_of<T: AbstractRadixTree<u8, u32>>(tree: &T) -> Result<(u32, u32), AllocError> {
+/// How many pairs are left of a walk, each value 1.
+fn count_pairs<T: AbstractRadixTree<u8, u32>>(
+    walk: Iter<'_, u8, u32, T>,
+) -> Result<u32, AllocError> {
     let mut pairs = 0u32;
-    for item in tree.iter() {
+    for item in walk {
         let (_, value) = item?;
         pairs = pairs.saturating_add(*value);
     }
+    Ok(pairs)
+}
+
+/// How many pairs the walks of a tree give, of all and of those under a prefix, and how many values, each of them 1.
+fn counts_of<T: AbstractRadixTree<u8, u32>>(tree: &T) -> Result<[u32; 3], AllocError> {
     let mut values = 0u32;
     for value in tree.values() {
         values = values.saturating_add(*value?);
     }
-    Ok((pairs, values))
+    let under = count_pairs(tree.scan_prefix(b"aa"))?;
+    Ok([count_pairs(tree.iter())?, under, values])
 }
 
 /// How many pairs the walk gives that holds its tree, each value 1.
@@ -302,7 +310,7 @@ fn count_held<T: AbstractRadixTree<u8, u32> + Drop>(
 fn count_nested<T: AbstractRadixTreeMut<u8, u32>>(
     alloc: Global,
     depth: u32,
-) -> Result<(u32, u32), AllocError> {
+) -> Result<[u32; 3], AllocError> {
     let tree = nested::<T>(alloc, depth)?;
     counts_of(&tree)
 }
@@ -318,12 +326,10 @@ fn count_held_nested<T: AbstractRadixTreeMut<u8, u32>>(
 
 #[test]
 fn deep_trees_are_walked(rt: HostRuntime) -> Result<(), Fail> {
-    let counts = count_nested::<RadixTree<u8, u32>>(rt.alloc(), DEPTH)?;
-    assert_eq!(rt; counts.0, DEPTH);
-    assert_eq!(rt; counts.1, DEPTH);
-    let counts = count_nested::<ArcRadixTree<u8, u32>>(rt.alloc(), SHARED_DEPTH)?;
-    assert_eq!(rt; counts.0, SHARED_DEPTH);
-    assert_eq!(rt; counts.1, SHARED_DEPTH);
+    let plain = count_nested::<RadixTree<u8, u32>>(rt.alloc(), DEPTH)?;
+    assert_eq!(rt; plain, [DEPTH, DEPTH - 1, DEPTH]);
+    let shared = count_nested::<ArcRadixTree<u8, u32>>(rt.alloc(), SHARED_DEPTH)?;
+    assert_eq!(rt; shared, [SHARED_DEPTH, SHARED_DEPTH - 1, SHARED_DEPTH]);
     let held = count_held_nested::<RadixTree<u8, u32>>(rt.alloc(), HELD_DEPTH)?;
     assert_eq!(rt; held, HELD_DEPTH);
     let held = count_held_nested::<ArcRadixTree<u8, u32>>(rt.alloc(), SHARED_DEPTH)?;

@@ -1,9 +1,11 @@
 //! Whole trees: made of pairs, cloned, shared and shown.
 
-use super::tests::{Counted, Tally};
+use super::tests::{Counted, DEPTH, Tally, print_shape};
 use std::alloc::{AllocError, Global};
 use std::test::Fail;
-use vc_trees::radix_tree::{AbstractRadixTree, AbstractRadixTreeMut, ArcRadixTree, RadixTree};
+use vc_trees::radix_tree::{
+    AbstractRadixTree, AbstractRadixTreeMut, ArcRadixTree, RadixTree, TValue,
+};
 
 /// The tree of the pairs, by their keys as lists.
 fn of_vecs(alloc: Global, pairs: &[(&str, u32)]) -> Result<RadixTree<u8, u32>, AllocError> {
@@ -44,6 +46,68 @@ fn trees_are_shown(rt: HostRuntime) -> Result<(), Fail> {
         shared.as_str(),
         "ArcRadixTree { prefix: [97], value: None, children: [ArcRadixTree { prefix: [98], value: Some(1), children: [] }, ArcRadixTree { prefix: [99], value: Some(2), children: [] }] }"
     );
+    Ok(())
+}
+
+/// The shape of a tree.
+fn shape_of<V: TValue, T: AbstractRadixTree<u8, V>>(
+    alloc: Global,
+    tree: &T,
+) -> Result<String, AllocError> {
+    let mut text = String::new(alloc);
+    print_shape(tree, &mut text, DEPTH)?;
+    Ok(text)
+}
+
+/// The shapes of a tree and of its clone, where what starts with `aabbc` is removed from the tree.
+fn shapes_beside_clone<T: AbstractRadixTreeMut<u8, u32> + Clone>(
+    alloc: Global,
+    tree: T,
+) -> Result<(String, String), AllocError> {
+    let mut tree = tree;
+    let kept = tree.clone()?;
+    let that = T::single(alloc, b"aabbc", 1)?;
+    tree.remove_prefix_with(&that, |_: &u32| -> bool { true })?;
+    Ok((shape_of(alloc, &tree)?, shape_of(alloc, &kept)?))
+}
+
+/// These shapes where the tree was a plain one.
+fn shapes_of_shared(alloc: Global) -> Result<(String, String), AllocError> {
+    let plain = of_vecs(alloc, &[("aabbcc", 1), ("aabb", 2), ("aabbee", 3)])?;
+    shapes_beside_clone(alloc, shared_of(plain)?)
+}
+
+/// Inserts a third key into a tree of two, of which a clone is kept, where so many clones of values are granted. Answers whether
+/// that was refused, and the shapes of the tree and of its clone.
+fn shapes_beside_insert<'a, T: AbstractRadixTreeMut<u8, Counted<'a>> + Clone>(
+    alloc: Global,
+    granted: u32,
+    tally: &'a Tally,
+) -> Result<(bool, String, String), AllocError> {
+    let mut tree = T::single(alloc, b"a", Counted::new(1, tally))?;
+    tree.insert(b"ab", Counted::new(2, tally))?;
+    let kept = tree.clone()?;
+    tally.clones_left.set(granted);
+    let is_refused = tree.insert(b"abc", Counted::new(3, tally)).is_err();
+    Ok((is_refused, shape_of(alloc, &tree)?, shape_of(alloc, &kept)?))
+}
+
+#[test]
+fn a_kept_clone_stays(rt: HostRuntime) -> Result<(), Fail> {
+    let (left, kept) = shapes_of_shared(rt.alloc())?;
+    assert_eq!(rt; left.as_str(), "aabb*(ee*)");
+    assert_eq!(rt; kept.as_str(), "aabb*(cc* ee*)");
+    for (granted, shape) in [(0, "a*(b*)"), (1, "a*(b*(c*))")] {
+        let tally = Tally::new();
+        let (is_refused, left, kept) = shapes_beside_insert::<ArcRadixTree<u8, Counted>>(
+            rt.alloc(),
+            granted,
+            &tally,
+        )?;
+        assert_eq!(rt; is_refused, granted == 0);
+        assert_eq!(rt; left.as_str(), shape);
+        assert_eq!(rt; kept.as_str(), "a*(b*)");
+    }
     Ok(())
 }
 
