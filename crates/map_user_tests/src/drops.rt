@@ -13,6 +13,9 @@ use vc_merge::merge::Steps;
 /// A map of numbers that hold a share to whether there was a value.
 type Marks<'a> = VecMap<Held, bool, 1, &'a Memory>;
 
+/// A map of numbers that may refuse to be cloned to numbers.
+type Numbers<'a> = VecMap<Held, u32, 1, &'a Memory>;
+
 /// Greater than the number of requests of each call.
 const LIMIT: u64 = 4;
 
@@ -199,6 +202,44 @@ fn calls_drop_each_pair_once_and_clone_none_that_they_keep(rt: HostRuntime) -> R
             }
         }
     }
+    Ok(())
+}
+
+/// The map of the number and the next one to themselves.
+fn numbers(memory: &Memory, first: u32, refuses: bool) -> Result<Numbers<'_>, AllocError> {
+    let mut map = Numbers::empty(memory);
+    for number in [first, first.saturating_add(1)] {
+        let mut key = numbered(number);
+        key.refuses = refuses;
+        map.insert(key, number)?;
+    }
+    Ok(map)
+}
+
+/// Whether an outer join in place succeeds, with the request of that number and the next one refused, and how many questions it asked.
+fn outer_asks(
+    memory: &Memory,
+    right_refuses: bool,
+    number: u64,
+) -> Result<(bool, u64), AllocError> {
+    let asked = Cell::new(0);
+    let mut left = numbers(memory, 1, true)?;
+    let right = numbers(memory, 2, right_refuses)?;
+    memory.refuse_two(number);
+    let outcome = left.outer_join_with(&right, |_: OuterJoinArg<&Held, u32, &u32>| {
+        count(&asked);
+        Some(0)
+    });
+    memory.refuse_two(0);
+    Ok((outcome.is_ok(), asked.get()))
+}
+
+#[test]
+fn a_refused_outer_join_asks_nothing(rt: HostRuntime) -> Result<(), Fail> {
+    let memory = memory_over(rt.alloc());
+    assert_eq!(rt; outer_asks(&memory, false, 0)?, (true, 3));
+    assert_eq!(rt; outer_asks(&memory, false, 1)?, (false, 0));
+    assert_eq!(rt; outer_asks(&memory, true, 0)?, (false, 0));
     Ok(())
 }
 
