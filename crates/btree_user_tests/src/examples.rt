@@ -1,6 +1,7 @@
-//! Worked examples of each join that builds a `BTreeMap`, with answers from outside.
+//! Worked examples of each join that builds a `BTreeMap`, with answers from outside and the questions counted.
 
 use std::alloc::{AllocError, Global};
+use std::cell::Cell;
 use std::collections::BTreeMap;
 use std::test::Fail;
 use vc_btree_maps::btree_map::AbstractBTreeMap;
@@ -38,9 +39,15 @@ pub(crate) fn is_map(map: &Map, pairs: &[(u32, char, u32)]) -> bool {
         ) == *pair)
 }
 
+/// Counts a question.
+pub(crate) fn count(asked: &Cell<u32>) {
+    asked.set(asked.get().saturating_add(1));
+}
+
 /// The left value, or else the right one.
-fn outer(left: &Map, right: &Map, alloc: Global) -> Result<Map, AllocError> {
+fn outer(left: &Map, right: &Map, alloc: Global, asked: &Cell<u32>) -> Result<Map, AllocError> {
     left.outer_join(alloc, right, |arg: OuterJoinArg<&Marked, &u32, &u32>| {
+        count(asked);
         Ok(Some(match arg {
             OuterJoinArg::Left(_, value) => *value,
             OuterJoinArg::Right(_, value) => *value,
@@ -50,43 +57,63 @@ fn outer(left: &Map, right: &Map, alloc: Global) -> Result<Map, AllocError> {
 }
 
 /// The left value, where the right map has one.
-fn left_shared(left: &Map, right: &Map, alloc: Global) -> Result<Map, AllocError> {
+fn left_shared(
+    left: &Map,
+    right: &Map,
+    alloc: Global,
+    asked: &Cell<u32>,
+) -> Result<Map, AllocError> {
     left.left_join(
         alloc,
         right,
-        |_: &Marked, value: &u32, other: Option<&u32>| { Ok(other.map(|_| *value)) },
+        |_: &Marked, value: &u32, other: Option<&u32>| {
+            count(asked);
+            Ok(other.map(|_| *value))
+        },
     )
 }
 
 /// The left value, or else the right one, at the keys of the right map.
-fn right_first(left: &Map, right: &Map, alloc: Global) -> Result<Map, AllocError> {
+fn right_first(
+    left: &Map,
+    right: &Map,
+    alloc: Global,
+    asked: &Cell<u32>,
+) -> Result<Map, AllocError> {
     left.right_join(
         alloc,
         right,
-        |_: &Marked, value: Option<&u32>, other: &u32| { Ok(Some(*value.unwrap_or(other))) },
+        |_: &Marked, value: Option<&u32>, other: &u32| {
+            count(asked);
+            Ok(Some(*value.unwrap_or(other)))
+        },
     )
 }
 
 /// The left value, at the keys of both.
-fn inner(left: &Map, right: &Map, alloc: Global) -> Result<Map, AllocError> {
-    left.inner_join(
-        alloc,
-        right,
-        |_: &Marked, value: &u32, _: &u32| Ok(Some(*value)),
-    )
+fn inner(left: &Map, right: &Map, alloc: Global, asked: &Cell<u32>) -> Result<Map, AllocError> {
+    left.inner_join(alloc, right, |_: &Marked, value: &u32, _: &u32| {
+        count(asked);
+        Ok(Some(*value))
+    })
 }
 
 #[test]
 fn joins_build_maps_as_worked_out(rt: HostRuntime) -> Result<(), Fail> {
     let left = map_of(rt.alloc(), 'a', &[(1, 10), (2, 20)])?;
     let right = map_of(rt.alloc(), 'b', &[(2, 5), (3, 7)])?;
-    let made = outer(&left, &right, rt.alloc())?;
+    let asked = Cell::new(0);
+    let made = outer(&left, &right, rt.alloc(), &asked)?;
     assert!(rt; is_map(&made, &[(1, 'a', 10), (2, 'a', 20), (3, 'b', 7)]));
-    let made = left_shared(&left, &right, rt.alloc())?;
+    assert_eq!(rt; asked.replace(0), 3);
+    let made = left_shared(&left, &right, rt.alloc(), &asked)?;
     assert!(rt; is_map(&made, &[(2, 'a', 20)]));
-    let made = right_first(&left, &right, rt.alloc())?;
+    assert_eq!(rt; asked.replace(0), 2);
+    let made = right_first(&left, &right, rt.alloc(), &asked)?;
     assert!(rt; is_map(&made, &[(2, 'b', 20), (3, 'b', 7)]));
-    let made = inner(&left, &right, rt.alloc())?;
+    assert_eq!(rt; asked.replace(0), 2);
+    let made = inner(&left, &right, rt.alloc(), &asked)?;
     assert!(rt; is_map(&made, &[(2, 'b', 20)]));
+    assert_eq!(rt; asked.replace(0), 1);
     Ok(())
 }

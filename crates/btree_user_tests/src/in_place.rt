@@ -1,6 +1,6 @@
 //! Worked examples of each join in place, with the questions counted and the spelling of the keys that were shown.
 
-use crate::examples::{Map, Marked, is_map, map_of};
+use crate::examples::{Map, Marked, count, is_map, map_of};
 use std::alloc::{AllocError, Global};
 use std::cell::Cell;
 use std::test::Fail;
@@ -60,11 +60,6 @@ impl Asked {
     }
 }
 
-/// One more.
-fn count(cell: &Cell<u32>) {
-    cell.set(cell.get().saturating_add(1));
-}
-
 /// The map that is joined: `{1: 10, 2: 20}`.
 fn left(alloc: Global) -> Result<Map, AllocError> {
     map_of(alloc, 'a', &[(1, 10), (2, 20)])
@@ -108,14 +103,14 @@ fn right_sums(alloc: Global, right: &Map, keeps: bool, asked: &Asked) -> Result<
     Ok(map)
 }
 
-/// Adds and keeps at shared keys, takes the other map's values, and drops this one's.
-fn outer_sums(alloc: Global, right: &Map, asked: &Asked) -> Result<Map, AllocError> {
+/// Adds and keeps at shared keys, takes the other map's values, of which there are `others` alone, and drops this one's.
+fn outer_sums(alloc: Global, right: &Map, others: u32, asked: &Asked) -> Result<Map, AllocError> {
     let mut map = left(alloc)?;
     map.outer_join_with(
         alloc,
         right,
         |key: &Marked, value: &mut u32, other: Option<&u32>| {
-            if asked.other_alone.get() != 2 {
+            if asked.other_alone.get() != others {
                 asked.early.set(true);
             }
             asked.add('b', key, value, other)
@@ -130,6 +125,11 @@ fn outer_sums(alloc: Global, right: &Map, asked: &Asked) -> Result<Map, AllocErr
 
 #[test]
 fn inner_and_left_joins_in_place(rt: HostRuntime) -> Result<(), Fail> {
+    let right = map_of(rt.alloc(), 'b', &[(2, 5)])?;
+    let asked = Asked::new();
+    let map = inner(rt.alloc(), &right, &asked)?;
+    assert!(rt; is_map(&map, &[(2, 'a', 20)]));
+    assert!(rt; asked.is(1, 0, 0));
     let right = map_of(rt.alloc(), 'b', &[(2, 5), (3, 7)])?;
     let asked = Asked::new();
     let map = inner(rt.alloc(), &right, &asked)?;
@@ -158,9 +158,14 @@ fn right_joins_in_place_insert_nothing(rt: HostRuntime) -> Result<(), Fail> {
 
 #[test]
 fn outer_joins_in_place_ask_for_new_pairs_first(rt: HostRuntime) -> Result<(), Fail> {
+    let right = map_of(rt.alloc(), 'b', &[(2, 5), (3, 7)])?;
+    let asked = Asked::new();
+    let map = outer_sums(rt.alloc(), &right, 1, &asked)?;
+    assert!(rt; is_map(&map, &[(2, 'a', 25), (3, 'b', 7)]));
+    assert!(rt; asked.is(1, 1, 1));
     let right = map_of(rt.alloc(), 'b', &[(0, 4), (2, 5), (3, 7)])?;
     let asked = Asked::new();
-    let map = outer_sums(rt.alloc(), &right, &asked)?;
+    let map = outer_sums(rt.alloc(), &right, 2, &asked)?;
     assert!(rt; is_map(&map, &[(0, 'b', 4), (2, 'a', 25), (3, 'b', 7)]));
     assert!(rt; asked.is(1, 1, 2));
     Ok(())

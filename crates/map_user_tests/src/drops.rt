@@ -6,11 +6,15 @@ use set_user_tests::held::{Held, Shared};
 use std::alloc::AllocError;
 use std::cell::Cell;
 use std::test::Fail;
-use vc_joins::question::OuterJoinArg;
+use vc_joins::question::{JoinKind, OuterJoinArg};
 use vc_maps::vec_map::VecMap;
+use vc_merge::merge::Steps;
 
 /// A map of numbers that hold a share to whether there was a value.
 type Marks<'a> = VecMap<Held, bool, 1, &'a Memory>;
+
+/// A map of numbers that may refuse to be cloned to numbers.
+type Numbers<'a> = VecMap<Held, u32, 1, &'a Memory>;
 
 /// Greater than the number of requests of each call.
 const LIMIT: u64 = 4;
@@ -59,6 +63,26 @@ fn inner<'a>(left: &mut Map<'a>, right: &Map<'a>, asked: &Cell<u64>) -> Result<(
     })
 }
 
+/// The join of the kind.
+fn join<'a>(
+    kind: JoinKind,
+    left_map: &mut Map<'a>,
+    right_map: &Map<'a>,
+    asked: &Cell<u64>,
+) -> Result<(), AllocError> {
+    match kind {
+        JoinKind::Outer => outer(left_map, right_map),
+        JoinKind::Left => left_shared(left_map, right_map, asked),
+        JoinKind::Right => right(left_map, right_map, asked),
+        JoinKind::Inner => inner(left_map, right_map, asked),
+    }
+}
+
+/// The join of the kind, by the call that counts comparisons.
+fn counted<'a>(kind: JoinKind, left: &mut Map<'a>, right: &Map<'a>) -> Result<(), AllocError> {
+    left.join_with_counted(right, kind, keep_left, &mut Steps::new())
+}
+
 /// Keeps the value of the left map.
 fn combine<'a>(left: &mut Map<'a>, right: Map<'a>, asked: &Cell<u64>) -> Result<(), AllocError> {
     left.combine_with(right, |value: Shared, _: Shared| {
@@ -68,12 +92,10 @@ fn combine<'a>(left: &mut Map<'a>, right: Map<'a>, asked: &Cell<u64>) -> Result<
 }
 
 /// A call that changes a left map by a right one.
-#[derive(Clone, Copy, Debug)]
+#[derive(Clone, Copy)]
 enum Change {
-    Outer,
-    Left,
-    Right,
-    Inner,
+    Join(JoinKind),
+    Counted(JoinKind),
     Combine,
     Merge,
     Extend,
@@ -82,7 +104,11 @@ enum Change {
 impl Change {
     /// Whether keys of the right map come in, as clones.
     fn clones(self) -> bool {
-        matches!(self, Change::Outer | Change::Right)
+        match self {
+            Change::Join(kind) => kind.asks_right(),
+            Change::Counted(kind) => kind.asks_right(),
+            _ => false,
+        }
     }
 
     /// Makes the call, whose closure counts its questions. The right map is gone afterwards.
@@ -93,38 +119,28 @@ impl Change {
         asked: &Cell<u64>,
     ) -> Result<(), AllocError> {
         match self {
+            Change::Join(kind) => join(kind, left, &right, asked),
+            Change::Counted(kind) => counted(kind, left, &right),
             Change::Combine => combine(left, right, asked),
             Change::Merge => left.merge_with(right),
             Change::Extend => left.extend(right.into_iter()),
-            _ => self.join(left, &right, asked),
-        }
-    }
-
-    /// Makes the call, where it is a join.
-    fn join<'a>(
-        self,
-        left_map: &mut Map<'a>,
-        right_map: &Map<'a>,
-        asked: &Cell<u64>,
-    ) -> Result<(), AllocError> {
-        match self {
-            Change::Outer => outer(left_map, right_map),
-            Change::Left => left_shared(left_map, right_map, asked),
-            Change::Right => right(left_map, right_map, asked),
-            _ => inner(left_map, right_map, asked),
         }
     }
 }
 
 /// A call, how many requests it makes and how many questions its closure counts, and how many hold the four shares once the right map is
-/// gone. The function that an outer join asks counts none.
+/// gone. The function that an outer join and a counted one ask counts none.
 type Row = (Change, u64, u64, [usize; 4]);
 
-const ROWS: [Row; 7] = [
-    (Change::Outer, 1, 0, [3, 3, 2, 1]),
-    (Change::Left, 0, 2, [2, 2, 1, 1]),
-    (Change::Right, 1, 2, [2, 2, 2, 1]),
-    (Change::Inner, 0, 1, [2, 2, 1, 1]),
+const ROWS: [Row; 11] = [
+    (Change::Join(JoinKind::Outer), 1, 0, [3, 3, 2, 1]),
+    (Change::Join(JoinKind::Left), 0, 2, [2, 2, 1, 1]),
+    (Change::Join(JoinKind::Right), 1, 2, [2, 2, 2, 1]),
+    (Change::Join(JoinKind::Inner), 0, 1, [2, 2, 1, 1]),
+    (Change::Counted(JoinKind::Outer), 1, 0, [3, 3, 2, 1]),
+    (Change::Counted(JoinKind::Left), 0, 0, [3, 3, 1, 1]),
+    (Change::Counted(JoinKind::Right), 1, 0, [2, 2, 2, 1]),
+    (Change::Counted(JoinKind::Inner), 0, 0, [2, 2, 1, 1]),
     (Change::Combine, 1, 1, [3, 3, 2, 2]),
     (Change::Merge, 1, 0, [3, 2, 2, 3]),
     (Change::Extend, 2, 0, [3, 2, 2, 3]),
@@ -182,10 +198,48 @@ fn calls_drop_each_pair_once_and_clone_none_that_they_keep(rt: HostRuntime) -> R
             for number in 0..LIMIT {
                 let is_right = is_dropped_once(&sides, &memory, row, right_refuses, number)?
                     && sides.holders() == ALONE;
-                assert!(rt; is_right, "{row:?} at {number}");
+                assert!(rt; is_right, "{:?} at {number}", row.3);
             }
         }
     }
+    Ok(())
+}
+
+/// The map of the number and the next one to themselves.
+fn numbers(memory: &Memory, first: u32, refuses: bool) -> Result<Numbers<'_>, AllocError> {
+    let mut map = Numbers::empty(memory);
+    for number in [first, first.saturating_add(1)] {
+        let mut key = numbered(number);
+        key.refuses = refuses;
+        map.insert(key, number)?;
+    }
+    Ok(map)
+}
+
+/// Whether an outer join in place succeeds, with the request of that number and the next one refused, and how many questions it asked.
+fn outer_asks(
+    memory: &Memory,
+    right_refuses: bool,
+    number: u64,
+) -> Result<(bool, u64), AllocError> {
+    let asked = Cell::new(0);
+    let mut left = numbers(memory, 1, true)?;
+    let right = numbers(memory, 2, right_refuses)?;
+    memory.refuse_two(number);
+    let outcome = left.outer_join_with(&right, |_: OuterJoinArg<&Held, u32, &u32>| {
+        count(&asked);
+        Some(0)
+    });
+    memory.refuse_two(0);
+    Ok((outcome.is_ok(), asked.get()))
+}
+
+#[test]
+fn a_refused_outer_join_asks_nothing(rt: HostRuntime) -> Result<(), Fail> {
+    let memory = memory_over(rt.alloc());
+    assert_eq!(rt; outer_asks(&memory, false, 0)?, (true, 3));
+    assert_eq!(rt; outer_asks(&memory, false, 1)?, (false, 0));
+    assert_eq!(rt; outer_asks(&memory, true, 0)?, (false, 0));
     Ok(())
 }
 
@@ -225,6 +279,16 @@ fn insert_again(sides: &Sides, map: &mut Map<'_>) -> Result<[usize; 4], AllocErr
     Ok(sides.holders())
 }
 
+/// Whether an insert beside a pair that fills the place is refused, and what came is dropped.
+fn drops_what_is_refused(sides: &Sides, memory: &Memory) -> Result<bool, AllocError> {
+    let mut map = Map::empty(memory);
+    sides.left.put(&mut map, 1, true)?;
+    memory.refuse_two(1);
+    let is_refused = sides.right.put(&mut map, 2, true).is_err();
+    memory.refuse_two(0);
+    Ok(is_refused && sides.holders() == [2, 2, 1, 1])
+}
+
 /// The holders after the value of the first pair was written over.
 fn write_first(sides: &Sides, map: &mut Map<'_>) -> [usize; 4] {
     let key = numbered(1);
@@ -253,6 +317,7 @@ fn take_first(sides: &Sides, map: Map<'_>) -> ([usize; 4], [usize; 4]) {
 fn pairs_that_go_are_dropped(rt: HostRuntime) -> Result<(), Fail> {
     let sides = Sides::new(rt.alloc())?;
     let memory = memory_over(rt.alloc());
+    assert!(rt; drops_what_is_refused(&sides, &memory)?);
     let mut map = sides.left.map(&memory, 1, true)?;
     let inserted = insert_again(&sides, &mut map)?;
     let written = write_first(&sides, &mut map);

@@ -10,8 +10,26 @@ use vc_merge::merge::Steps;
 
 type Map = VecMap<Marked, u32, 2>;
 
-/// The keys that were asked at, in their order: two digits for each, of which the second is 1 in the spelling of the right map.
-type Asked = Cell<u64>;
+/// What a closure answers: `None` where what it names is missing.
+#[derive(Clone, Copy)]
+enum Answer {
+    /// The sum of what is there.
+    Sum,
+    /// The sum of both values.
+    SumOfBoth,
+    /// The left value.
+    Left,
+    /// The right value, or else the left one.
+    Right,
+}
+
+/// What a closure answers, and the keys that it was asked at, in their order: two digits for each, of which the second is 1 in the spelling
+/// of the right map.
+#[derive(Drop)]
+struct Asked {
+    answer: Answer,
+    keys: Cell<u64>,
+}
 
 /// The map of the numbers to values, each number with the mark.
 pub(crate) fn map_of<const N: usize, A: Allocator + Copy>(
@@ -34,47 +52,37 @@ pub(crate) fn has(list: &[(Marked, u32)], pairs: &[(u32, char, u32)]) -> bool {
             == *pair)
 }
 
-/// The answer at a key with these values. An outer join adds what is there, a left one adds where both are there, a right one takes the
-/// right value and an inner one the left.
-fn answer(kind: JoinKind, left: Option<u32>, right: Option<u32>) -> Option<u32> {
-    match kind {
-        JoinKind::Outer => Some(left.unwrap_or(0).wrapping_add(right.unwrap_or(0))),
-        JoinKind::Left => Some(left?.wrapping_add(right?)),
-        JoinKind::Right => right,
-        JoinKind::Inner => left,
-    }
-}
-
 /// Notes the key, and answers.
-fn ask(
-    asked: &Asked,
-    kind: JoinKind,
-    key: &Marked,
-    left: Option<u32>,
-    right: Option<u32>,
-) -> Option<u32> {
+fn ask(asked: &Asked, key: &Marked, left: Option<u32>, right: Option<u32>) -> Option<u32> {
     let digits = u64::from(key.number)
         .wrapping_mul(10)
         .wrapping_add(u64::from(key.mark == 'b'));
-    asked.set(asked.get().wrapping_mul(100).wrapping_add(digits));
-    answer(kind, left, right)
+    asked
+        .keys
+        .set(asked.keys.get().wrapping_mul(100).wrapping_add(digits));
+    match asked.answer {
+        Answer::Sum => Some(left.unwrap_or(0).wrapping_add(right.unwrap_or(0))),
+        Answer::SumOfBoth => Some(left?.wrapping_add(right?)),
+        Answer::Left => left,
+        Answer::Right => right.or(left),
+    }
 }
 
 /// Answers a fresh join.
-fn ask_shown(asked: &Asked, kind: JoinKind, at: OuterJoinArg<&Marked, &u32, &u32>) -> Option<u32> {
+fn ask_shown(asked: &Asked, at: OuterJoinArg<&Marked, &u32, &u32>) -> Option<u32> {
     match at {
-        OuterJoinArg::Left(key, value) => ask(asked, kind, key, Some(*value), None),
-        OuterJoinArg::Right(key, value) => ask(asked, kind, key, None, Some(*value)),
-        OuterJoinArg::Both(key, left, right) => ask(asked, kind, key, Some(*left), Some(*right)),
+        OuterJoinArg::Left(key, value) => ask(asked, key, Some(*value), None),
+        OuterJoinArg::Right(key, value) => ask(asked, key, None, Some(*value)),
+        OuterJoinArg::Both(key, left, right) => ask(asked, key, Some(*left), Some(*right)),
     }
 }
 
 /// Answers a join in place.
-fn ask_handed(asked: &Asked, kind: JoinKind, at: OuterJoinArg<&Marked, u32, &u32>) -> Option<u32> {
+fn ask_handed(asked: &Asked, at: OuterJoinArg<&Marked, u32, &u32>) -> Option<u32> {
     match at {
-        OuterJoinArg::Left(key, value) => ask(asked, kind, key, Some(value), None),
-        OuterJoinArg::Right(key, value) => ask(asked, kind, key, None, Some(*value)),
-        OuterJoinArg::Both(key, left, right) => ask(asked, kind, key, Some(left), Some(*right)),
+        OuterJoinArg::Left(key, value) => ask(asked, key, Some(value), None),
+        OuterJoinArg::Right(key, value) => ask(asked, key, None, Some(*value)),
+        OuterJoinArg::Both(key, left, right) => ask(asked, key, Some(left), Some(*right)),
     }
 }
 
@@ -88,7 +96,7 @@ fn fresh_outer(alloc: Global, left: &Map, right: &Map, asked: &Asked) -> Result<
         alloc,
         left,
         right,
-        |at: OuterJoinArg<&Marked, &u32, &u32>| { Ok(ask_shown(asked, JoinKind::Outer, at)) },
+        |at: OuterJoinArg<&Marked, &u32, &u32>| { Ok(ask_shown(asked, at)) },
     )
 }
 
@@ -98,7 +106,7 @@ fn fresh_left(alloc: Global, left: &Map, right: &Map, asked: &Asked) -> Result<M
         left,
         right,
         |key: &Marked, value: &u32, other: Option<&u32>| {
-            Ok(ask(asked, JoinKind::Left, key, Some(*value), value_of(other)))
+            Ok(ask(asked, key, Some(*value), value_of(other)))
         },
     )
 }
@@ -109,7 +117,7 @@ fn fresh_right(alloc: Global, left: &Map, right: &Map, asked: &Asked) -> Result<
         left,
         right,
         |key: &Marked, value: Option<&u32>, other: &u32| {
-            Ok(ask(asked, JoinKind::Right, key, value_of(value), Some(*other)))
+            Ok(ask(asked, key, value_of(value), Some(*other)))
         },
     )
 }
@@ -120,7 +128,7 @@ fn fresh_inner(alloc: Global, left: &Map, right: &Map, asked: &Asked) -> Result<
         left,
         right,
         |key: &Marked, value: &u32, other: &u32| {
-            Ok(ask(asked, JoinKind::Inner, key, Some(*value), Some(*other)))
+            Ok(ask(asked, key, Some(*value), Some(*other)))
         },
     )
 }
@@ -152,32 +160,32 @@ fn fresh_counted(
     left.join_counted(
         right,
         kind,
-        |at: OuterJoinArg<&Marked, &u32, &u32>| { Ok(ask_shown(asked, kind, at)) },
+        |at: OuterJoinArg<&Marked, &u32, &u32>| { Ok(ask_shown(asked, at)) },
         &mut steps,
     )
 }
 
 fn outer_with(left: &mut Map, right: &Map, asked: &Asked) -> Result<(), AllocError> {
     left.outer_join_with(right, |at: OuterJoinArg<&Marked, u32, &u32>| {
-        ask_handed(asked, JoinKind::Outer, at)
+        ask_handed(asked, at)
     })
 }
 
 fn left_with(left: &mut Map, right: &Map, asked: &Asked) -> Result<(), AllocError> {
     left.left_join_with(right, |key: &Marked, value: u32, other: Option<&u32>| {
-        ask(asked, JoinKind::Left, key, Some(value), value_of(other))
+        ask(asked, key, Some(value), value_of(other))
     })
 }
 
 fn right_with(left: &mut Map, right: &Map, asked: &Asked) -> Result<(), AllocError> {
     left.right_join_with(right, |key: &Marked, value: Option<u32>, other: &u32| {
-        ask(asked, JoinKind::Right, key, value, Some(*other))
+        ask(asked, key, value, Some(*other))
     })
 }
 
 fn inner_with(left: &mut Map, right: &Map, asked: &Asked) -> Result<(), AllocError> {
     left.inner_join_with(right, |key: &Marked, value: u32, other: &u32| {
-        ask(asked, JoinKind::Inner, key, Some(value), Some(*other))
+        ask(asked, key, Some(value), Some(*other))
     })
 }
 
@@ -202,7 +210,7 @@ fn in_place_counted(
     left.join_with_counted(
         right,
         kind,
-        |at: OuterJoinArg<&Marked, u32, &u32>| { ask_handed(asked, kind, at) },
+        |at: OuterJoinArg<&Marked, u32, &u32>| { ask_handed(asked, at) },
         &mut steps,
     )
 }
@@ -241,85 +249,141 @@ fn join(
     left.clone()
 }
 
-/// Two maps, whose keys are marked `a` and `b`, what a join of them makes, and at which keys it asks.
-type Row = (
-    JoinKind,
-    &'static [(u32, u32)],
-    &'static [(u32, u32)],
-    &'static [(u32, char, u32)],
-    u64,
-);
+/// A join of two maps, whose keys are marked `a` and `b`, what it makes, and at which keys it asks.
+#[derive(Clone, Copy)]
+struct Row {
+    kind: JoinKind,
+    answer: Answer,
+    left: &'static [(u32, u32)],
+    right: &'static [(u32, u32)],
+    made: &'static [(u32, char, u32)],
+    keys: u64,
+}
 
-const ROWS: [Row; 10] = [
-    (
-        JoinKind::Outer,
-        &[(1, 10), (2, 20)],
-        &[(2, 5), (3, 7)],
-        &[(1, 'a', 10), (2, 'a', 25), (3, 'b', 7)],
-        102031,
-    ),
-    (
-        JoinKind::Left,
-        &[(1, 10), (2, 20)],
-        &[(2, 5), (3, 7)],
-        &[(2, 'a', 25)],
-        1020,
-    ),
-    (
-        JoinKind::Right,
-        &[(1, 10), (2, 20)],
-        &[(2, 5), (3, 7)],
-        &[(2, 'a', 5), (3, 'b', 7)],
-        2031,
-    ),
-    (
-        JoinKind::Inner,
-        &[(1, 10), (2, 20)],
-        &[(2, 5), (3, 7)],
-        &[(2, 'a', 20)],
-        20,
-    ),
-    (JoinKind::Outer, &[(1, 1)], &[(1, 2)], &[(1, 'a', 3)], 10),
-    (JoinKind::Inner, &[(1, 1)], &[(2, 2)], &[], 0),
-    (JoinKind::Outer, &[], &[], &[], 0),
-    (
-        JoinKind::Outer,
-        &[(2, 6)],
-        &[(1, 7), (3, 8), (4, 9)],
-        &[(1, 'b', 7), (2, 'a', 6), (3, 'b', 8), (4, 'b', 9)],
-        11203141,
-    ),
-    (
-        JoinKind::Right,
-        &[(2, 6)],
-        &[(1, 7), (3, 8), (4, 9)],
-        &[(1, 'b', 7), (3, 'b', 8), (4, 'b', 9)],
-        113141,
-    ),
-    (
-        JoinKind::Left,
-        &[(2, 6)],
-        &[(1, 7), (3, 8), (4, 9)],
-        &[],
-        20,
-    ),
+const ROWS: [Row; 13] = [
+    Row {
+        kind: JoinKind::Outer,
+        answer: Answer::Sum,
+        left: &[(1, 10), (2, 20)],
+        right: &[(2, 5), (3, 7)],
+        made: &[(1, 'a', 10), (2, 'a', 25), (3, 'b', 7)],
+        keys: 102031,
+    },
+    Row {
+        kind: JoinKind::Left,
+        answer: Answer::SumOfBoth,
+        left: &[(1, 10), (2, 20)],
+        right: &[(2, 5), (3, 7)],
+        made: &[(2, 'a', 25)],
+        keys: 1020,
+    },
+    Row {
+        kind: JoinKind::Right,
+        answer: Answer::Right,
+        left: &[(1, 10), (2, 20)],
+        right: &[(2, 5), (3, 7)],
+        made: &[(2, 'a', 5), (3, 'b', 7)],
+        keys: 2031,
+    },
+    Row {
+        kind: JoinKind::Right,
+        answer: Answer::Sum,
+        left: &[(1, 10), (2, 20)],
+        right: &[(2, 5), (3, 7)],
+        made: &[(2, 'a', 25), (3, 'b', 7)],
+        keys: 2031,
+    },
+    Row {
+        kind: JoinKind::Inner,
+        answer: Answer::Left,
+        left: &[(1, 10), (2, 20)],
+        right: &[(2, 5), (3, 7)],
+        made: &[(2, 'a', 20)],
+        keys: 20,
+    },
+    Row {
+        kind: JoinKind::Outer,
+        answer: Answer::Right,
+        left: &[(1, 1), (2, 3)],
+        right: &[(1, 2), (3, 4)],
+        made: &[(1, 'a', 2), (2, 'a', 3), (3, 'b', 4)],
+        keys: 102031,
+    },
+    Row {
+        kind: JoinKind::Inner,
+        answer: Answer::Left,
+        left: &[(1, 1), (2, 3)],
+        right: &[(1, 2), (3, 4)],
+        made: &[(1, 'a', 1)],
+        keys: 10,
+    },
+    Row {
+        kind: JoinKind::Outer,
+        answer: Answer::Sum,
+        left: &[(1, 1)],
+        right: &[(1, 2)],
+        made: &[(1, 'a', 3)],
+        keys: 10,
+    },
+    Row {
+        kind: JoinKind::Inner,
+        answer: Answer::Left,
+        left: &[(1, 1)],
+        right: &[(2, 2)],
+        made: &[],
+        keys: 0,
+    },
+    Row {
+        kind: JoinKind::Outer,
+        answer: Answer::Sum,
+        left: &[],
+        right: &[],
+        made: &[],
+        keys: 0,
+    },
+    Row {
+        kind: JoinKind::Outer,
+        answer: Answer::Sum,
+        left: &[(2, 6)],
+        right: &[(1, 7), (3, 8), (4, 9)],
+        made: &[(1, 'b', 7), (2, 'a', 6), (3, 'b', 8), (4, 'b', 9)],
+        keys: 11203141,
+    },
+    Row {
+        kind: JoinKind::Right,
+        answer: Answer::Right,
+        left: &[(2, 6)],
+        right: &[(1, 7), (3, 8), (4, 9)],
+        made: &[(1, 'b', 7), (3, 'b', 8), (4, 'b', 9)],
+        keys: 113141,
+    },
+    Row {
+        kind: JoinKind::Left,
+        answer: Answer::SumOfBoth,
+        left: &[(2, 6)],
+        right: &[(1, 7), (3, 8), (4, 9)],
+        made: &[],
+        keys: 20,
+    },
 ];
 
 /// Whether the call makes the map of the row, and asks once at each key that it asks at, in ascending order.
 fn agrees(alloc: Global, way: Way, row: Row) -> Result<bool, AllocError> {
-    let (kind, left, right, pairs, keys) = row;
-    let asked = Cell::new(0);
-    let mut left: Map = map_of(alloc, 'a', left)?;
-    let right: Map = map_of(alloc, 'b', right)?;
-    let made = join(alloc, way, kind, &mut left, &right, &asked)?;
-    Ok(has(made.as_ref(), pairs) && asked.get() == keys)
+    let asked = Asked {
+        answer: row.answer,
+        keys: Cell::new(0),
+    };
+    let mut left: Map = map_of(alloc, 'a', row.left)?;
+    let right: Map = map_of(alloc, 'b', row.right)?;
+    let made = join(alloc, way, row.kind, &mut left, &right, &asked)?;
+    Ok(has(made.as_ref(), row.made) && asked.keys.get() == row.keys)
 }
 
 #[test]
 fn joins_ask_once_a_key_and_make_what_was_worked_out(rt: HostRuntime) -> Result<(), Fail> {
     for row in ROWS {
         for way in WAYS {
-            assert!(rt; agrees(rt.alloc(), way, row)?, "{way:?} of {:?}", row.3);
+            assert!(rt; agrees(rt.alloc(), way, row)?, "{way:?} of {:?}", row.made);
         }
     }
     Ok(())

@@ -15,11 +15,11 @@ type Map<'a> = VecMap<Marked, u32, 6, &'a Nth<Global>>;
 /// The values that were shown, one digit for each.
 type Asked = Cell<u64>;
 
-/// Notes two values, and makes one of their digits.
+/// Notes two values, and adds them.
 fn ask(asked: &Asked, held: u32, more: u32) -> u32 {
     let both = held.wrapping_mul(10).wrapping_add(more);
     asked.set(asked.get().wrapping_mul(100).wrapping_add(u64::from(both)));
-    both
+    held.wrapping_add(more)
 }
 
 /// A call that takes another map in.
@@ -57,11 +57,25 @@ struct Row {
     merged: Marks,
 }
 
-const ROWS: [Row; 4] = [
+const ROWS: [Row; 6] = [
+    Row {
+        left: &[(1, 1), (2, 2)],
+        right: &[(2, 5), (4, 4)],
+        combined: &[(1, 'a', 1), (2, 'a', 7), (4, 'b', 4)],
+        shown: 25,
+        merged: &[(1, 'a', 1), (2, 'a', 5), (4, 'b', 4)],
+    },
+    Row {
+        left: &[(1, 1), (2, 2)],
+        right: &[(2, 5)],
+        combined: &[(1, 'a', 1), (2, 'a', 7)],
+        shown: 25,
+        merged: &[(1, 'a', 1), (2, 'a', 5)],
+    },
     Row {
         left: &[(1, 1), (2, 2), (4, 3)],
         right: &[(2, 4), (3, 5), (4, 6)],
-        combined: &[(1, 'a', 1), (2, 'a', 24), (3, 'b', 5), (4, 'a', 36)],
+        combined: &[(1, 'a', 1), (2, 'a', 6), (3, 'b', 5), (4, 'a', 9)],
         shown: 2436,
         merged: &[(1, 'a', 1), (2, 'a', 4), (3, 'b', 5), (4, 'a', 6)],
     },
@@ -82,7 +96,7 @@ const ROWS: [Row; 4] = [
     Row {
         left: &[(3, 1)],
         right: &[(1, 2), (2, 3), (3, 4)],
-        combined: &[(1, 'b', 2), (2, 'b', 3), (3, 'a', 14)],
+        combined: &[(1, 'b', 2), (2, 'b', 3), (3, 'a', 5)],
         shown: 14,
         merged: &[(1, 'b', 2), (2, 'b', 3), (3, 'a', 4)],
     },

@@ -10,9 +10,11 @@ use std::cmp::Ordering;
 
 /// A number that counts, where it has a counter, how often it is compared.
 #[derive(Clone, Copy)]
-pub(crate) struct Compared<'a> {
-    pub(crate) number: u32,
-    pub(crate) count: Option<&'a Cell<u128>>,
+pub struct Compared<'a> {
+    /// What is compared.
+    pub number: u32,
+    /// How many comparisons there were.
+    pub count: Option<&'a Cell<u128>>,
 }
 
 impl Default for Compared<'_> {

@@ -1,6 +1,7 @@
 //! Comparisons by lengths: elements that count their own see no more than the bound, and a counted call counts each of them.
 
 use crate::compared::Compared;
+use crate::lengths::{LENGTHS, PLACES, Place};
 use std::alloc::{AllocError, Global};
 use std::cell::Cell;
 use std::test::Fail;
@@ -8,51 +9,6 @@ use vc_merge::merge::{Count, Steps};
 use vc_sets::vec_set::{AbstractVecSet, SetOp, SetTest, VecSet};
 
 type Compareds<'a> = VecSet<Compared<'a>, 2>;
-
-/// The lengths of a short list and a long one, and the most comparisons of an operation or a test of their sets.
-const LENGTHS: [(u32, u32, u128); 11] = [
-    (0, 5, 0),
-    (1, 1, 1),
-    (1, 3, 2),
-    (1, 1000, 10),
-    (2, 4, 6),
-    (2, 7, 6),
-    (3, 7, 9),
-    (4, 100, 28),
-    (5, 16, 21),
-    (7, 12, 19),
-    (8, 8, 16),
-];
-
-/// The first number of the long list; the others follow two by two.
-const FIRST: u32 = 2000;
-
-/// Greater than each number of the long list.
-const END: u32 = 8000;
-
-/// How the numbers of the short list stand to those of the long one.
-#[derive(Clone, Copy, Debug)]
-enum Place {
-    Before,
-    Between,
-    Among,
-    Behind,
-}
-
-const PLACES: [Place; 4] = [Place::Before, Place::Between, Place::Among, Place::Behind];
-
-impl Place {
-    /// The number at that index of the short list, where each is so far from the next.
-    fn number(self, index: u32, step: u32) -> u32 {
-        let even = index.saturating_mul(step).saturating_add(FIRST);
-        match self {
-            Place::Before => index,
-            Place::Between => even.saturating_add(1),
-            Place::Among => even,
-            Place::Behind => index.saturating_add(END),
-        }
-    }
-}
 
 /// The short set, whose elements count their comparisons on `count`.
 fn short_set<'a>(
@@ -62,11 +18,10 @@ fn short_set<'a>(
     many: u32,
     count: &'a Cell<u128>,
 ) -> Result<Compareds<'a>, AllocError> {
-    let step = (many / few.max(1)).saturating_mul(2);
     let mut set = Compareds::empty(alloc);
     for index in 0..few {
         set.insert(Compared {
-            number: place.number(index, step),
+            number: place.number(index, few, many),
             count: Some(count),
         })?;
     }

@@ -1,12 +1,11 @@
 //! A crate that uses sets from outside, and the builder that they are changed in: worked examples, contracts, drops, counted
-//! comparisons, elements that refuse to be cloned, refused memory, and calls that take none. The allocator and two of its elements are
-//! there for tests of other crates.
+//! comparisons, elements that refuse to be cloned, refused memory, and calls that take none. The allocator, three of its elements
+//! and the lengths by which comparisons are counted are there for tests of other crates.
 #![tactic(auto)]
 
 #[cfg(test)]
 mod builder;
-#[cfg(test)]
-mod compared;
+pub mod compared;
 pub mod contracts;
 #[cfg(test)]
 mod counted;
@@ -15,6 +14,7 @@ mod drops;
 #[cfg(test)]
 mod examples;
 pub mod held;
+pub mod lengths;
 pub mod marked;
 pub mod nth;
 #[cfg(test)]

@@ -47,16 +47,22 @@ fn a_closure_is_asked_once_a_key(rt: HostRuntime) -> Result<(), Fail> {
     Ok(())
 }
 
-#[test]
-fn a_closure_is_asked_once_a_value(rt: HostRuntime) -> Result<(), Fail> {
-    let map = numbers(rt.alloc(), 1, &[(2, 3), (5, 4)])?;
+/// Whether the map is 0 everywhere once each value is turned to 0, and what was shown.
+fn zeros(map: &Numbers) -> Result<(bool, u64), AllocError> {
     let asked = Asked(Cell::new(0));
-    let zeros: TotalVecMap<u32, u8, 3> = map.map_values(|x: &u32| {
+    let made: TotalVecMap<u32, u8, 3> = map.map_values(|x: &u32| {
         asked.note(*x);
         Ok(0)
     })?;
-    assert_eq!(rt; asked.0.get(), 134);
-    assert!(rt; zeros.is_zero());
+    Ok((made.is_zero(), asked.0.get()))
+}
+
+#[test]
+fn a_closure_is_asked_once_a_value(rt: HostRuntime) -> Result<(), Fail> {
+    let single = numbers(rt.alloc(), 1, &[(5, 2)])?;
+    assert_eq!(rt; zeros(&single)?, (true, 12));
+    let map = numbers(rt.alloc(), 1, &[(2, 3), (5, 4)])?;
+    assert_eq!(rt; zeros(&map)?, (true, 134));
     Ok(())
 }
 

@@ -1,0 +1,207 @@
+//! Comparisons of joins by lengths: keys that count their own see no more than the bound, and a counted join counts each of them.
+
+use set_user_tests::compared::Compared;
+use set_user_tests::lengths::{LENGTHS, PLACES, Place};
+use std::alloc::{AllocError, Global};
+use std::cell::Cell;
+use std::test::Fail;
+use vc_joins::question::{JoinKind, OuterJoinArg};
+use vc_maps::vec_map::{VecMap, inner_join, left_join, outer_join, right_join};
+use vc_merge::merge::{Count, Steps};
+
+type Map<'a> = VecMap<Compared<'a>, u32, 2>;
+
+const KINDS: [JoinKind; 4] = [
+    JoinKind::Outer,
+    JoinKind::Left,
+    JoinKind::Right,
+    JoinKind::Inner,
+];
+
+/// The map of so many numbers to 1, beside one of `many` numbers. Its keys count their comparisons on `count`.
+fn map_of<'a>(
+    alloc: Global,
+    place: Place,
+    few: u32,
+    many: u32,
+    count: &'a Cell<u128>,
+) -> Result<Map<'a>, AllocError> {
+    let mut map = Map::empty(alloc);
+    for index in 0..few {
+        let key = Compared {
+            number: place.number(index, few, many),
+            count: Some(count),
+        };
+        map.insert(key, 1)?;
+    }
+    Ok(map)
+}
+
+/// The fresh join of the kind, by the call without a counter.
+fn fresh<'s, 'a>(
+    alloc: Global,
+    kind: JoinKind,
+    a: &'s Map<'a>,
+    b: &'s Map<'a>,
+) -> Result<Map<'a>, AllocError> {
+    match kind {
+        JoinKind::Outer => outer_join(
+            alloc,
+            a,
+            b,
+            |_: OuterJoinArg<&Compared<'_>, &u32, &u32>| Ok(Some(1)),
+        ),
+        JoinKind::Left => left_join(
+            alloc,
+            a,
+            b,
+            |_: &Compared<'_>, _: &u32, _: Option<&u32>| Ok(Some(1)),
+        ),
+        JoinKind::Right => right_join(
+            alloc,
+            a,
+            b,
+            |_: &Compared<'_>, _: Option<&u32>, _: &u32| Ok(Some(1)),
+        ),
+        JoinKind::Inner => inner_join(
+            alloc,
+            a,
+            b,
+            |_: &Compared<'_>, _: &u32, _: &u32| Ok(Some(1)),
+        ),
+    }
+}
+
+/// Puts the join of the kind in the place of the left map, by the call without a counter.
+fn change<'s, 'a>(kind: JoinKind, a: &'s mut Map<'a>, b: &'s Map<'a>) -> Result<(), AllocError> {
+    match kind {
+        JoinKind::Outer => {
+            a.outer_join_with(b, |_: OuterJoinArg<&Compared<'_>, u32, &u32>| Some(1))
+        }
+        JoinKind::Left => {
+            a.left_join_with(b, |_: &Compared<'_>, _: u32, _: Option<&u32>| Some(1))
+        }
+        JoinKind::Right => {
+            a.right_join_with(b, |_: &Compared<'_>, _: Option<u32>, _: &u32| Some(1))
+        }
+        JoinKind::Inner => a.inner_join_with(b, |_: &Compared<'_>, _: u32, _: &u32| Some(1)),
+    }
+}
+
+/// The fresh join of the kind, by the call that counts comparisons.
+fn fresh_counted<'s, 'a>(
+    kind: JoinKind,
+    a: &'s Map<'a>,
+    b: &'s Map<'a>,
+    steps: &mut Steps,
+) -> Result<Map<'a>, AllocError> {
+    a.join_counted(
+        b,
+        kind,
+        |_: OuterJoinArg<&Compared<'_>, &u32, &u32>| Ok(Some(1)),
+        steps,
+    )
+}
+
+/// A clone of the left map in whose place the join was put, by the call without a counter.
+fn in_place<'s, 'a>(kind: JoinKind, a: &'s Map<'a>, b: &'s Map<'a>) -> Result<Map<'a>, AllocError> {
+    let mut left = a.clone()?;
+    change(kind, &mut left, b)?;
+    Ok(left)
+}
+
+/// The same, by the call that counts comparisons.
+fn in_place_counted<'s, 'a>(
+    kind: JoinKind,
+    a: &'s Map<'a>,
+    b: &'s Map<'a>,
+    steps: &mut Steps,
+) -> Result<Map<'a>, AllocError> {
+    let mut left = a.clone()?;
+    left.join_with_counted(
+        b,
+        kind,
+        |_: OuterJoinArg<&Compared<'_>, u32, &u32>| Some(1),
+        steps,
+    )?;
+    Ok(left)
+}
+
+/// The two forms of a join.
+#[derive(Clone, Copy, Debug)]
+enum Form {
+    Fresh,
+    InPlace,
+}
+
+/// Whether the join compares as often as it counts and at most so often, and what it made. Where both maps have keys it compares.
+fn counted_agrees<'s, 'a>(
+    form: Form,
+    kind: JoinKind,
+    a: &'s Map<'a>,
+    b: &'s Map<'a>,
+    bound: u128,
+    count: &'a Cell<u128>,
+) -> Result<(bool, Map<'a>), AllocError> {
+    let mut steps = Steps::new();
+    count.set(0);
+    let made = match form {
+        Form::Fresh => fresh_counted(kind, a, b, &mut steps)?,
+        Form::InPlace => in_place_counted(kind, a, b, &mut steps)?,
+    };
+    let seen = count.get();
+    let agrees = steps.count() == seen && seen <= bound && (seen == 0) == (bound == 0);
+    Ok((agrees, made))
+}
+
+/// Whether the join compares as often as it counts, and at most so often with a counter and without, and makes the same.
+fn agrees<'s, 'a>(
+    alloc: Global,
+    form: Form,
+    kind: JoinKind,
+    a: &'s Map<'a>,
+    b: &'s Map<'a>,
+    bound: u128,
+    count: &'a Cell<u128>,
+) -> Result<bool, AllocError> {
+    let (is_counted, counted) = counted_agrees(form, kind, a, b, bound, count)?;
+    count.set(0);
+    let made = match form {
+        Form::Fresh => fresh(alloc, kind, a, b)?,
+        Form::InPlace => in_place(kind, a, b)?,
+    };
+    Ok(is_counted && count.get() <= bound && made == counted)
+}
+
+/// Whether that holds of each join of a short map and a long one, in both orders.
+fn lengths_agree<'a>(
+    alloc: Global,
+    place: Place,
+    (few, many, bound): (u32, u32, u128),
+    count: &'a Cell<u128>,
+) -> Result<bool, AllocError> {
+    let short = map_of(alloc, place, few, many, count)?;
+    let long = map_of(alloc, Place::Among, many, many, count)?;
+    let mut agree = true;
+    for kind in KINDS {
+        for form in [Form::Fresh, Form::InPlace] {
+            agree &= agrees(alloc, form, kind, &short, &long, bound, count)?
+                && agrees(alloc, form, kind, &long, &short, bound, count)?;
+        }
+    }
+    Ok(agree)
+}
+
+#[test]
+fn each_comparison_is_counted_and_none_is_beyond_the_bound(rt: HostRuntime) -> Result<(), Fail> {
+    for row in LENGTHS {
+        for place in PLACES {
+            let count = Cell::new(0);
+            assert!(rt;
+                lengths_agree(rt.alloc(), place, row, &count)?,
+                "{place:?} {row:?}"
+            );
+        }
+    }
+    Ok(())
+}

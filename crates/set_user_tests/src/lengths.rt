@@ -1,0 +1,52 @@
+//! The lengths of lists by which comparisons are counted, and the numbers of such lists.
+
+/// The lengths of a short list and a long one, and the most comparisons of an operation on them.
+pub const LENGTHS: [(u32, u32, u128); 11] = [
+    (0, 5, 0),
+    (1, 1, 1),
+    (1, 3, 2),
+    (1, 1000, 10),
+    (2, 4, 6),
+    (2, 7, 6),
+    (3, 7, 9),
+    (4, 100, 28),
+    (5, 16, 21),
+    (7, 12, 19),
+    (8, 8, 16),
+];
+
+/// The first number of the long list; the others follow two by two.
+const FIRST: u32 = 2000;
+
+/// Greater than each number of the long list.
+const END: u32 = 8000;
+
+/// How the numbers of the short list stand to those of the long one, which are `Among` themselves.
+#[derive(Clone, Copy, Debug)]
+pub enum Place {
+    /// All are less.
+    Before,
+    /// Each is between two of them.
+    Between,
+    /// Each is one of them.
+    Among,
+    /// All are greater.
+    Behind,
+}
+
+/// Each place once.
+pub const PLACES: [Place; 4] = [Place::Before, Place::Between, Place::Among, Place::Behind];
+
+impl Place {
+    /// The number at that index of a list of `few` numbers, beside one of `many`.
+    pub fn number(self, index: u32, few: u32, many: u32) -> u32 {
+        let step = (many / few.max(1)).saturating_mul(2);
+        let even = index.saturating_mul(step).saturating_add(FIRST);
+        match self {
+            Place::Before => index,
+            Place::Between => even.saturating_add(1),
+            Place::Among => even,
+            Place::Behind => index.saturating_add(END),
+        }
+    }
+}
