@@ -10,7 +10,7 @@ ghost use Rattle.facade_user_tests.specs.Changes.{by_number, by_number-total, ev
 use std::alloc::{AllocError, Global};
 use std::cmp::Ordering;
 use vec_collections::merge::{
-    Count, MergeFromRight, MergeOperation, MergeState, MergeStateMut, merge,
+    Count, MergeFromRight, MergeOperation, MergeState, MergeStateMut, Steps, merge,
 };
 
 /// What became of a number.
@@ -167,4 +167,15 @@ pub fn changes<C: Count>(
     };
     merge(&mut state, &Noting, steps)?;
     Ok(state.changes)
+}
+
+/// How many comparisons it takes to find the changes.
+pub fn cost_of_changes(alloc: Global, old: &[u32], new: &[u32]) -> Result<u128, AllocError>
+    requires old_ascends { Ascends nat_cmp old.now }
+    requires new_ascends { Ascends nat_cmp new.now }
+    ensures { IfOk result (λ cost. cost ≤ bound (length old.now) (length new.now)) }
+{
+    let mut steps = Steps::new();
+    changes(alloc, old, new, &mut steps)?;
+    Ok(steps.count())
 }

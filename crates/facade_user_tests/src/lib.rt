@@ -1,8 +1,11 @@
-//! Code of a user, who names `vec_collections` alone: each public call, operator and iteration, with a contract in the words of the subject.
+//! Code of a user, with all names from `vec_collections`: each public call, operator and iteration of sets, trees and merges, with contracts in the words of
+//! the subject.
 #![tactic(auto)]
 
 pub mod changes;
+pub mod combines;
 pub mod filters;
+pub mod keys;
 pub mod maps;
 pub mod sets;
 pub mod trees;

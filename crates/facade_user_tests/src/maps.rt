@@ -1,11 +1,12 @@
 //! Maps from outside: look-ups, changes and joins in place, with what a user says of them.
-ghost use Rattle.std.specs.Prelude.{◌≡◌, ◌↔◌, cond, Some, ℕ, IsSome, IsTrue, IfOk, IsOk, OnOk, OnErr};
+ghost use Rattle.std.specs.Prelude.{◌≡◌, ◌↔◌, cond, Some, ℕ, IsSome, IsTrue, IfOk, IfSome, IsOk, OnOk, OnErr};
 ghost use Rattle.std.specs.Map.{keys_of};
 ghost use Rattle.std.specs.Option.{option_copied};
 ghost use Rattle.std.specs.Ordering.{eq_by_cmp, nat_cmp};
 ghost use Rattle.vec_collections.specs.Entries.{value_at};
 
-use std::alloc::AllocError;
+use std::alloc::{AllocError, Global};
+use vec_collections::iterators::ascends_by_key;
 use vec_collections::vec_map::{AbstractVecMap, OuterJoinArg, VecMap};
 
 /// How many pieces there are of each article, of which four need no allocation.
@@ -16,6 +17,17 @@ pub fn pieces_of(stock: &Stock, article: u32) -> Option<&u32>
     ensures { option_copied result ≡ value_at nat_cmp stock.now article }
 {
     stock.get(&article)
+}
+
+/// The stock of a list, or none where its articles do not ascend.
+pub fn of_list(alloc: Global, list: Vec<(u32, u32)>) -> Result<Option<Stock>, AllocError>
+    ensures { IfOk result (λ stock. IfSome stock (λ map. map ≡ list.items)) }
+{
+    if ascends_by_key(list.as_slice()) {
+        Ok(Some(Stock::from_vec(alloc, list)?))
+    } else {
+        Ok(None)
+    }
 }
 
 /// Notes how many pieces of an article there are, and answers how many there were.

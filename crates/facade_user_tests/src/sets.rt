@@ -1,10 +1,10 @@
 //! Sets from outside: each call, operator and iteration, with what a user says of it.
-ghost use Rattle.std.specs.Prelude.{◌≡◌, ◌==◌, ◌||◌, ◌&&◌, ◌↔◌, ◌≤◌, ◌%◌, not, IfOk, IfSome, IsNone, OnOk, OnErr, IsOk, IsTrue, [], ◌∷◌, ℕ, length, count_by, filter, nat_le};
+ghost use Rattle.std.specs.Prelude.{◌≡◌, ◌==◌, ◌||◌, ◌&&◌, ◌↔◌, ◌≤◌, ◌%◌, not, IfOk, IfSome, IsNone, OnOk, OnErr, IsOk, IsTrue, Some, [], ◌∷◌, ℕ, length, count_by, filter, nat_le};
 ghost use Rattle.std.specs.Ordering.{nat_cmp};
 ghost use Rattle.vec_collections.specs.Ascending.{member};
 ghost use Rattle.std.specs.Hash as fed;
 ghost use Rattle.std.specs.List.{fold};
-ghost use Rattle.std.specs.Cmp.Lexicographic.{slice_cmp};
+ghost use Rattle.std.specs.Cmp.Lexicographic.{slice_cmp, slice_partial_cmp};
 ghost use Rattle.facade_user_tests.specs.Tags.{has, IsEither, IsBoth, IsOne, IsRest, AreMade, AreTested};
 
 use smallvec::SmallVec;
@@ -289,12 +289,13 @@ pub fn none_and_one(alloc: Global, tag: u32) -> Result<(Tags, Tags), AllocError>
     Ok((Tags::empty(alloc), Tags::single(alloc, tag)?))
 }
 
-/// Whether two articles have the same tags, and which comes first.
-pub fn compared(a: &Tags, b: &Tags) -> (bool, Ordering)
+/// Whether two articles have the same tags, and which comes first, by both orders.
+pub fn compared(a: &Tags, b: &Tags) -> (bool, Ordering, Option<Ordering>)
     ensures same { IsTrue result.0 ↔ (a.now ≡ b.now) }
     ensures order { result.1 ≡ slice_cmp nat_cmp a.now b.now }
+    ensures partial { result.2 ≡ slice_partial_cmp (λ x y. Some (nat_cmp x y)) a.now b.now }
 {
-    (a == b, a.cmp(b))
+    (a == b, a.cmp(b), a.partial_cmp(b))
 }
 
 /// Feeds the tags to a hasher.
@@ -304,11 +305,14 @@ pub fn feed<H: Hasher>(tags: &Tags, hasher: &mut H)
     tags.hash(hasher);
 }
 
-/// The tags as lists: one that may stand in place, and a `Vec`.
-pub fn lists(a: Tags, b: Tags) -> Result<(SmallVec<u32, 4>, Vec<u32>), AllocError>
-    ensures { IfOk result (λ two. (two.0.items ≡ a) × (two.1.items ≡ b)) }
+/// A list that may stand in place.
+type List = SmallVec<u32, 4>;
+
+/// The tags as lists: two that may stand in place, and a `Vec`.
+pub fn lists(a: Tags, b: Tags, c: Tags) -> Result<(List, Vec<u32>, List), AllocError>
+    ensures { IfOk result (λ three. (three.0.items ≡ a) × (three.1.items ≡ b) × (three.2.items ≡ c)) }
 {
-    Ok((a.into_inner(), b.into_vec()?))
+    Ok((a.into_inner(), b.into_vec()?, c.into()))
 }
 
 /// The number of the tags, and whether there is none.
@@ -317,6 +321,20 @@ pub fn size(tags: &Tags) -> (usize, bool)
     ensures empty { IsTrue result.1 ↔ (tags.now ≡ []) }
 {
     (tags.len(), tags.is_empty())
+}
+
+/// The same of any set, by its elements one by one, and by their list.
+pub fn size_of<S: AbstractVecSet<u32>>(set: &S) -> (usize, usize, bool)
+    ensures counted { result.0 ≡ length (S.elements set.now) }
+    ensures length { result.1 ≡ length (S.elements set.now) }
+    ensures empty { IsTrue result.2 ↔ (S.elements set.now ≡ []) }
+{
+    (set.iter().count(), set.as_slice().len(), set.is_empty())
+}
+
+/// How tags are shown. No clause can say what a text shows.
+pub fn show(alloc: Global, tags: &Tags) -> Result<String, AllocError> {
+    format!(in alloc; "{tags:?}")
 }
 
 /// The least tag.

@@ -1,12 +1,18 @@
-//! Walks from outside: the walks of one tree beside each other.
-ghost use Rattle.std.specs.Prelude.{◌≡◌, map};
+//! Walks from outside: the walks of one tree beside each other, their steps, and the keys that they give.
+ghost use Rattle.std.specs.Prelude.{◌≡◌, IfOk, length, map};
+ghost use Rattle.std.specs.Ordering.{nat_cmp};
 ghost use Rattle.vec_collections.specs.IterLeft.{pairs_left};
+ghost use Rattle.vec_collections.specs.Left.{Walks};
 ghost use Rattle.vec_collections.specs.Map.{lookup};
+ghost use Rattle.vec_collections.specs.OwnedLeft.{held_left, WalksClones};
 ghost use Rattle.vec_collections.specs.Under.{under};
 ghost use Rattle.vec_collections.specs.ValuesLeft.{values_left};
 ghost use Rattle.vec_collections.specs.Walk.{IsWalk};
 
-use vec_collections::radix_tree::{AbstractRadixTree, Iter, TKey, TValue, Values};
+use std::alloc::AllocError;
+use vec_collections::radix_tree::{
+    AbstractRadixTree, Iter, IterKey, ObjAndIter, TKey, TValue, Values,
+};
 
 /// The pairs of a tree by ascending keys, and its values, which are those of the pairs in their order.
 pub fn pairs_and_values<'a, K: TKey, V: TValue + 'a, T: AbstractRadixTree<K, V>>(
@@ -26,4 +32,45 @@ pub fn pairs_below<'a, K: TKey, V: TValue + 'a, T: AbstractRadixTree<K, V>>(
     ensures { IsWalk K.cmp (under K.cmp (lookup K.cmp (T.tree tree.now)) folder.now) (pairs_left T.tree result) }
 {
     tree.scan_prefix(folder)
+}
+
+/// The pairs of a tree that the walk holds, each with a clone of its value.
+pub fn pairs_held<T: AbstractRadixTree<u8, u32> + Drop>(tree: T) -> ObjAndIter<u8, u32, T>
+    ensures { IsWalk nat_cmp (lookup nat_cmp (T.tree tree)) (held_left T.tree result) }
+{
+    tree.into_iter()
+}
+
+/// The next pair of a walk.
+pub fn next_pair<'a, T: AbstractRadixTree<u8, u32>>(
+    walk: &mut Iter<'a, u8, u32, T>,
+) -> Option<Result<(IterKey<u8>, &'a u32), AllocError>>
+    ensures { Walks (λ item. (item.0, item.1.now)) (pairs_left T.tree) walk.old result walk.new }
+{
+    walk.next()
+}
+
+/// The next value of a walk.
+pub fn next_value<'a, T: AbstractRadixTree<u8, u32>>(
+    walk: &mut Values<'a, u8, u32, T>,
+) -> Option<Result<&'a u32, AllocError>>
+    ensures { Walks (λ item. item.now) (values_left T.tree) walk.old result walk.new }
+{
+    walk.next()
+}
+
+/// The next pair of a walk that holds its tree.
+pub fn next_held<T: AbstractRadixTree<u8, u32> + Drop>(
+    walk: &mut ObjAndIter<u8, u32, T>,
+) -> Option<Result<(IterKey<u8>, u32), AllocError>>
+    ensures { WalksClones (λ x y. y ≡ x) (held_left T.tree) walk.old result walk.new }
+{
+    walk.next()
+}
+
+/// A key of a walk once more, and how long it is.
+pub fn key_again(key: &IterKey<u8>) -> Result<(IterKey<u8>, usize), AllocError>
+    ensures { IfOk result (λ two. (two.0 ≡ key.now) × (two.1 ≡ length key.now)) }
+{
+    Ok((key.clone()?, key.as_ref().len()))
 }

@@ -1,6 +1,7 @@
 //! The calls of sets that take no memory, each with every request refused, and those that take some only where it is needed.
 
 use crate::nth::Nth;
+use smallvec::SmallVec;
 use std::alloc::{AllocError, Global};
 use std::hash::{FoldHasher, Hash};
 use std::test::Fail;
@@ -56,14 +57,14 @@ const CHANGES: [Change; 7] = [
 #[derive(Clone, Copy, Debug)]
 enum Take {
     Hand,
-    IntoInner,
+    IntoList,
     AndAssign,
     MinusAssign,
 }
 
 const TAKES: [Take; 4] = [
     Take::Hand,
-    Take::IntoInner,
+    Take::IntoList,
     Take::AndAssign,
     Take::MinusAssign,
 ];
@@ -113,7 +114,7 @@ impl Take {
     fn make<'a>(self, mut left: Numbers<'a>, right: Numbers<'a>) {
         match self {
             Take::Hand => for _element in left {},
-            Take::IntoInner => drop(left.into_inner()),
+            Take::IntoList => into_lists(left, right),
             Take::AndAssign => left &= right,
             Take::MinusAssign => left -= right,
         }
@@ -124,6 +125,7 @@ impl Take {
 fn look<'s, 'a>(set: &'s Numbers<'a>) {
     let _few = (set.len(), set.is_empty(), set.as_ref().len());
     let _in_trait = (AbstractVecSet::is_empty(set), set.contains(&2));
+    let _length = AbstractVecSet::as_slice(set).len();
 }
 
 /// Tests two sets.
@@ -145,12 +147,21 @@ fn test_counted<'s, 'a>(left: &'s Numbers<'a>, right: &'s Numbers<'a>) {
     }
 }
 
-/// Goes over a set by both iterators, and looks its elements up in the other one.
+/// Takes the lists of two sets, by both calls.
+fn into_lists<'a>(left: Numbers<'a>, right: Numbers<'a>) {
+    drop(left.into_inner());
+    let _list: SmallVec<u32, 2, &'a Nth<Global>> = right.into();
+}
+
+/// Goes over a set by each iterator, and looks its elements up in the other one.
 fn walk<'s, 'a>(left: &'s Numbers<'a>, right: &'s Numbers<'a>) {
     for element in left {
         let _is_in = right.contains(element);
     }
     for element in left.iter() {
+        let _is_in = right.contains(element);
+    }
+    for element in AbstractVecSet::iter(left) {
         let _is_in = right.contains(element);
     }
 }

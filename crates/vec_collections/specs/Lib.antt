@@ -1,4 +1,4 @@
--- What the public clauses of the exported items cite, and the words of the laws, so that a user names this crate alone.
+-- What the public clauses of the exported items cite, and the words of the laws, so that a user has every name from this crate.
 pub mod Exact
 pub use Rattle.vc_btree_maps.specs.Keeping
 pub use Rattle.vc_btree_maps.specs.Pairs

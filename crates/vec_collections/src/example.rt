@@ -1,4 +1,4 @@
-//! The example of the README, as a user writes it who names this crate alone. Its contracts are in the words of the subject.
+//! The example of the README, as a user writes it, with all names from this crate. Its contracts are in the words of the subject.
 ghost use Rattle.std.specs.Prelude.{◌≡◌, ◌||◌, ◌&&◌, ◌↔◌, not, IfOk, OnOk, IsTrue, ℕ};
 ghost use Rattle.std.specs.Option.{option_copied};
 ghost use Rattle.std.specs.Ordering.{nat_cmp};

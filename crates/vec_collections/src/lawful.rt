@@ -1,5 +1,7 @@
 //! Each law under its own name: one that is exported under another's leaves a clause here unproved.
 ghost use Rattle.vec_collections.specs.Chain.{allows};
+ghost use Rattle.vec_collections.specs.Join.{ClonedKey};
+ghost use Rattle.vec_collections.specs.JoinLaws.{KindsInWords, JoinsOfFunctions};
 ghost use Rattle.vec_collections.specs.MergeLaws.{AscendingHaveOneScript, MembersAreElements, MembersTellTheList, TicksStay, RunsAreBeginnings};
 ghost use Rattle.vec_collections.specs.SetLaws.{InEachWay, SetOfIsOne, OperationsInWords, TestsAreOfOperations};
 ghost use Rattle.vec_collections.specs.TreeLaws.{KeysAreOrdered, LeftBehindIsRest, BindsIsLookup, CanonicalIsConditions, CanonicalIsUnique, CanonicalIsSmallest, WalkIsOne};
@@ -11,13 +13,14 @@ ghost use Rattle.std.specs.Fn.{FnReturnsAt, FnReturnsAtPair};
 ghost use Rattle.std.specs.Prelude.{Ok, IsTrue};
 
 use crate::laws::{
-    ByClone, ByEq, binds_is_lookup, canonical_is_conditions, canonical_is_smallest,
+    ByClone, ByEq, Question, binds_is_lookup, canonical_is_conditions, canonical_is_smallest,
     canonical_is_unique, combined_is_pointwise, complements_turn_operations, cover_is_longest,
-    keys_are_ordered, left_behind_is_rest, mapped_is_pointwise, members_are_elements,
-    members_tell_the_list, operations_are_as_named, removal_and_retention_part, run_is_function,
-    runs_are_beginnings, script_is_one, set_of_is_one, standing_is_at, tests_are_of_operations,
-    ticks_stay, total_operations_are_pointwise, total_operations_make_one,
-    total_tests_are_of_operations, walk_is_filtered, walk_is_one, walks_by_prefix,
+    joins_of_functions, keys_are_ordered, kinds_are_as_named, left_behind_is_rest,
+    mapped_is_pointwise, members_are_elements, members_tell_the_list, operations_are_as_named,
+    removal_and_retention_part, run_is_function, runs_are_beginnings, script_is_one, set_of_is_one,
+    standing_is_at, tests_are_of_operations, ticks_stay, total_operations_are_pointwise,
+    total_operations_make_one, total_tests_are_of_operations, walk_is_filtered, walk_is_one,
+    walks_by_prefix,
 };
 use crate::merge::{Count, MergeOperation, MergeState};
 use std::alloc::AllocError;
@@ -46,6 +49,15 @@ pub fn of_sets<T: Ord + Clone>()
     set_of_is_one::<T>();
     operations_are_as_named::<T>();
     tests_are_of_operations::<T>();
+}
+
+/// The laws of joins.
+pub fn of_joins<K: Ord + Clone, V, W, X, Q: Question<K, V, W, X>>()
+    ensures kinds { KindsInWords K V W K.cmp }
+    ensures functions { (q : Q) → JoinsOfFunctions K V W K.cmp (λ a r. Q.may q a (Ok r)) (ClonedKey K.is_clone) }
+{
+    kinds_are_as_named::<K, V, W>();
+    joins_of_functions::<K, V, W, X, Q>();
 }
 
 /// The laws of total sets.

@@ -1,12 +1,14 @@
 //! Small sorted sets, radix trees that are always canonical, and filters of paths.
 //!
-//! A user names this crate alone: it exports the modules `merge`, `iterators`, `vec_set`, `vec_map`, `total_vec_set`, `total_vec_map`, `btree_map`, `radix_tree`,
-//! `path_filter`, `macros` and `laws` of the crates below it, and the items of `vec_set` and `vec_map` also at its root.
+//! Every name that a user writes comes from this crate: it exports the modules `merge`, `iterators`, `vec_set`, `vec_map`, `total_vec_set`, `total_vec_map`,
+//! `btree_map`, `radix_tree`, `path_filter`, `macros` and `laws` of the crates below it, and the items of `vec_set` and `vec_map` also at its root. A user's line
+//! of `crates.txt` lists those crates too, since operators and loops on references to their types are found only where they are listed.
 #![tactic(auto)]
 
 mod example;
 mod lawful;
 pub mod macros;
+mod named;
 
 /// The engine of all operations on sorted lists: a merge of two ascending lists, event by event.
 pub mod merge {
@@ -72,6 +74,7 @@ pub mod path_filter {
 
 /// The laws of the words that contracts cite. Each function does nothing: code that calls one has its law in the proof.
 pub mod laws {
+    pub use vc_joins::answers::{AskInner, AskLeft, AskOuter, AskRight, Question};
     pub use vc_joins::laws::{joins_of_functions, kinds_are_as_named};
     pub use vc_merge::laws::{
         members_are_elements, members_tell_the_list, runs_are_beginnings, script_is_one, ticks_stay,

@@ -1,6 +1,9 @@
 //! Sets and maps written out.
 //!
-//! The macros stand at the root of this crate: `vec_collections::vecset` and `vec_collections::vecmap`.
+//! The macros stand at the root of this crate: `vec_collections::vecset` and `vec_collections::vecmap`. They name nothing but items of this crate.
+
+/// What a set or a map that is written out may be refused by.
+pub use std::alloc::AllocError;
 
 /// The set of the listed elements, with the allocator in front: a `Result` whose refusal is an `AllocError`.
 ///
@@ -14,7 +17,7 @@
 #[macro_export]
 macro_rules! vecset {
     ($alloc:expr;) => {
-        Ok::<_, std::alloc::AllocError>($crate::vec_set::VecSet::empty($alloc))
+        Ok::<_, $crate::macros::AllocError>($crate::vec_set::VecSet::empty($alloc))
     };
     ($alloc:expr; $($element:expr),+ $(,)?) => {
         'made: {
@@ -41,7 +44,7 @@ macro_rules! vecset {
 #[macro_export]
 macro_rules! vecmap {
     ($alloc:expr;) => {
-        Ok::<_, std::alloc::AllocError>($crate::vec_map::VecMap::empty($alloc))
+        Ok::<_, $crate::macros::AllocError>($crate::vec_map::VecMap::empty($alloc))
     };
     ($alloc:expr; $($key:expr => $value:expr),+ $(,)?) => {
         'made: {

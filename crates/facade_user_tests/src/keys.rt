@@ -1,0 +1,108 @@
+//! Trees from outside: look-ups with a counter, tests of keys, and whole trees made of others.
+ghost use Rattle.std.specs.Prelude.{◌≡◌, ◌↔◌, ◌==◌, ◌+◌, ◌*◌, ◌≤◌, MatchBool, IfOk, IsTrue, length, map};
+ghost use Rattle.std.specs.Option.{is_some};
+ghost use Rattle.std.specs.Ordering.{nat_cmp};
+ghost use Rattle.vec_collections.specs.Children.{seen};
+ghost use Rattle.vec_collections.specs.Count.{digits};
+ghost use Rattle.vec_collections.specs.KeySets.{AreDisjoint, HasKeysOf, LacksKeyOf, ShareKey};
+ghost use Rattle.vec_collections.specs.Map.{lookup, IsEqualMap};
+ghost use Rattle.vec_collections.specs.Same.{IsAlike};
+ghost use Rattle.vec_collections.specs.Tree.{width};
+ghost use Rattle.vec_collections.specs.TreePairs.{IsCollected};
+
+use crate::trees::{Ports, SharedPorts};
+use std::alloc::{AllocError, Global};
+use vec_collections::merge::Steps;
+use vec_collections::radix_tree::{AbstractRadixTree, ArcRadixTree, RadixNode, RadixTree};
+
+/// Whether a server has a port.
+pub fn has_port<T: AbstractRadixTree<u8, u32>>(ports: &T, server: &[u8]) -> bool
+    ensures { result ≡ is_some (lookup nat_cmp (T.tree ports.now) server.now) }
+{
+    ports.contains_key(server)
+}
+
+/// The port of a server, with the comparisons added to `steps`.
+pub fn port_counted<T: AbstractRadixTree<u8, u32>>(
+    ports: &T,
+    server: &[u8],
+    steps: &mut Steps,
+) -> Option<u32>
+    ensures port { result ≡ lookup nat_cmp (T.tree ports.now) server.now }
+    ensures counted { steps.new ≤ steps.old + length server.now * (1 + digits (width (T.tree ports.now))) }
+{
+    ports.get_counted(server, steps).copied()
+}
+
+/// How the servers of two trees stand to each other.
+pub struct ServersCompared {
+    pub intersects: bool,
+    pub is_disjoint: bool,
+    pub is_subset: bool,
+    pub is_superset: bool,
+}
+
+/// By the four tests.
+pub fn compare_servers<S: AbstractRadixTree<u8, u32>, T: AbstractRadixTree<u8, u32>>(
+    a: &S,
+    b: &T,
+) -> ServersCompared
+    ensures intersects { MatchBool result.intersects (ShareKey nat_cmp (S.tree a.now) (T.tree b.now)) (AreDisjoint nat_cmp (S.tree a.now) (T.tree b.now)) }
+    ensures is_disjoint { MatchBool result.is_disjoint (AreDisjoint nat_cmp (S.tree a.now) (T.tree b.now)) (ShareKey nat_cmp (S.tree a.now) (T.tree b.now)) }
+    ensures is_subset { MatchBool result.is_subset (HasKeysOf nat_cmp (T.tree b.now) (S.tree a.now)) (LacksKeyOf nat_cmp (T.tree b.now) (S.tree a.now)) }
+    ensures is_superset { MatchBool result.is_superset (HasKeysOf nat_cmp (S.tree a.now) (T.tree b.now)) (LacksKeyOf nat_cmp (S.tree a.now) (T.tree b.now)) }
+{
+    ServersCompared {
+        intersects: a.intersects(b),
+        is_disjoint: a.is_disjoint(b),
+        is_subset: a.is_subset(b),
+        is_superset: a.is_superset(b),
+    }
+}
+
+/// Whether two trees have the same ports.
+pub fn are_same(a: &Ports, b: &Ports) -> bool
+    ensures { IsTrue result ↔ IsEqualMap (λ v w. IsTrue (v == w)) (lookup nat_cmp a.now) (lookup nat_cmp b.now) }
+{
+    *a == *b
+}
+
+/// A copy of the ports.
+pub fn copy_of(ports: &Ports) -> Result<Ports, AllocError>
+    ensures { IfOk result (IsAlike (λ x y. y ≡ x) ports.now) }
+{
+    ports.clone()
+}
+
+/// The same ports, of which snapshots can be kept from now on.
+pub fn shared(ports: Ports) -> Result<SharedPorts, AllocError>
+    ensures { IfOk result (λ shared. shared ≡ ports) }
+{
+    ArcRadixTree::from_radix_tree(ports)
+}
+
+/// The ports of a list in any order. Of two entries of a server the later one counts.
+pub fn of_entries(alloc: Global, entries: Vec<(Vec<u8>, u32)>) -> Result<Ports, AllocError>
+    ensures { IfOk result (IsCollected nat_cmp (map (λ b. (b.0.items, b.1)) entries.items)) }
+{
+    RadixTree::from_vecs(alloc, entries.into_iter())
+}
+
+/// The same of a list that lends the names.
+pub fn of_names<'a>(alloc: Global, entries: Vec<(&'a [u8], u32)>) -> Result<Ports, AllocError>
+    ensures { IfOk result (IsCollected nat_cmp (map (λ b. (b.0.now, b.1)) entries.entry.items)) }
+{
+    RadixTree::from_iter(alloc, entries.into_iter())
+}
+
+/// The trees below the root.
+pub fn below_root<T: AbstractRadixTree<u8, u32>>(ports: &T) -> &[T]
+    ensures { seen T.tree result.now ≡ (T.tree ports.now).children }
+{
+    ports.children()
+}
+
+/// How both flavours are shown. No clause can say what a text shows.
+pub fn show(plain: &Ports, shared: &SharedPorts) -> Result<String, AllocError> {
+    format!(in plain.allocator(); "{plain:?} {shared:?}")
+}
