@@ -1,0 +1,15 @@
+pub mod Digits
+pub mod Closures
+pub mod Letters
+pub mod Merges
+pub mod Sets
+pub mod Totals
+pub mod Joins
+pub mod Maps
+pub mod BTreeMaps
+pub mod Trees
+pub mod Combines
+pub mod Walks
+pub mod Edits
+pub mod Filters
+pub mod Commands
