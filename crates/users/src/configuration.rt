@@ -9,7 +9,7 @@ mod trees;
 
 use std::alloc::{AllocError, Global};
 use trees::{Settings, bind, differing, take_out};
-use vec_collections::radix_tree::{AbstractRadixTree, RadixTree};
+use vec_collections::radix_tree::{AbstractRadixTree, AbstractRadixTreeMut, RadixTree};
 
 /// The versions of a configuration, numbered from 0.
 #[derive(Drop)]
