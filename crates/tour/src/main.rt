@@ -10,7 +10,7 @@ use users::configuration::History;
 use users::counters::Counters;
 use users::intervals::Intervals;
 use users::paths::Files;
-use users::tags::{Found, Index, both};
+use users::tags::{Found, Index};
 use vec_collections::path_filter::PathFilter;
 
 fn main(rt: HostRuntime) -> io::Result<()> {
@@ -38,6 +38,7 @@ fn show_intervals(rt: &impl Print, alloc: Global) -> io::Result<()> {
     let either = either_is_open(alloc)?;
     show_hours(rt, "either is open", &either)?;
     show_hours(rt, "both are open", &bakery.intersection(&bar)?)?;
+    show_hours(rt, "the bakery alone is open", &bakery.difference(&bar)?)?;
     show_hours(rt, "only one is open", &bakery.xor(&bar)?)?;
     show_hours(rt, "both are closed", &either.complement(alloc)?)
 }
@@ -75,14 +76,14 @@ fn show_tags(rt: &impl Print, alloc: Global) -> io::Result<()> {
         &index.any_of(alloc, &[PROOFS, COOKING])?,
     )?;
     show_found(rt, "not on proofs", &no_proofs)?;
-    show_found(rt, "on Rust, not on proofs", &both(&on_rust, &no_proofs)?)
+    show_found(rt, "on Rust, not on proofs", &on_rust.and(&no_proofs)?)
 }
 
 /// The articles of a query, among those from 10 to 13.
 fn show_found(rt: &impl Print, query: &str, found: &Found) -> io::Result<()> {
     print!(rt; "{query}:")?;
     for article in 10..14 {
-        if found.contains(&article) {
+        if found.has(article) {
             print!(rt; " {article}")?;
         }
     }

@@ -1,34 +1,46 @@
 -- Versions of a configuration.
+--     count history        how many versions there are
 --     setting history version path        what is set at the path in a version
 --     latest history path        what is set there in the last version
+--     version_of history version        the settings of a version, if there is such a version
+--     set_in settings path        what the settings of one version have at the path
 --     HaveSameVersions h g        both have the same versions
 --     is_below folder path        the path is the folder, or lies below it
 --     are_different a b        two settings differ
 --     is_changed changes path        the path is among the changes
-use Rattle.std.specs.Prelude.{◌≡◌, Bool, true, false, not, ℕ, ◌-◌, ◌==◌, List, length, Option, Some, None, slice_get}
+use Rattle.std.specs.Prelude.{◌≡◌, Bool, true, false, not, ℕ, ◌-◌, ◌==◌, length, Option, Some, None, slice_get}
 use Rattle.std.specs.Ordering.{nat_cmp}
 use Rattle.std.specs.Option.{is_some}
 use Rattle.vec_collections.specs.Key.{behind}
 use Rattle.vec_collections.specs.Map.{lookup}
 use Rattle.vec_collections.specs.Tree.{Tree}
+use Rattle.users.specs.Path.{Path}
 use Rattle.users.specs.declared.configuration.Changes.{Changes}
 use Rattle.users.specs.declared.configuration.History.{History}
 
--- what a tree has at the path, if there is a tree
-abbrev pub found_in : Option (Tree ℕ ℕ) → List ℕ → Option ℕ
+-- what the settings of one version have at the path
+abbrev pub set_in : Tree ℕ ℕ → Path → Option ℕ
+set_in settings path = lookup nat_cmp settings path
+
+-- the same, if there is such a version
+abbrev pub found_in : Option (Tree ℕ ℕ) → Path → Option ℕ
 found_in None path = None
-found_in (Some settings) path = lookup nat_cmp settings path
+found_in (Some settings) path = set_in settings path
 
 -- how many versions there are
 abbrev pub count : History → ℕ
 count history = length history.versions.items
 
+-- the settings of a version, if there is such a version
+abbrev pub version_of : History → ℕ → Option (Tree ℕ ℕ)
+version_of history version = slice_get history.versions.items version
+
 -- what is set at the path in a version
-abbrev pub setting : History → ℕ → List ℕ → Option ℕ
-setting history version path = found_in (slice_get history.versions.items version) path
+abbrev pub setting : History → ℕ → Path → Option ℕ
+setting history version path = found_in (version_of history version) path
 
 -- what is set there in the last version
-abbrev pub latest : History → List ℕ → Option ℕ
+abbrev pub latest : History → Path → Option ℕ
 latest history path = setting history (count history - 1) path
 
 -- both have the same versions
@@ -36,7 +48,7 @@ abbrev pub HaveSameVersions : History → History → Type 0
 HaveSameVersions h g = g.versions.items ≡ h.versions.items
 
 -- the path is the folder, or lies below it
-abbrev pub is_below : List ℕ → List ℕ → Bool
+abbrev pub is_below : Path → Path → Bool
 is_below folder path = is_some (behind nat_cmp folder path)
 
 -- two settings differ
@@ -47,5 +59,5 @@ are_different (Some x) None = true
 are_different (Some x) (Some y) = not (x == y)
 
 -- the path is among the changes
-abbrev pub is_changed : Changes → List ℕ → Bool
+abbrev pub is_changed : Changes → Path → Bool
 is_changed changes path = is_some (lookup nat_cmp changes.paths path)

@@ -1,6 +1,6 @@
 //! Sets of numbers, kept as the numbers at which membership turns.
 
-ghost use Rattle.std.specs.Prelude.{◌≡◌, ◌||◌, ◌&&◌, not, false, IfOk, ℕ, leb, ltb};
+ghost use Rattle.std.specs.Prelude.{◌≡◌, ◌||◌, ◌&&◌, ◌≤◌, not, false, IfOk, IsOk, ℕ, leb, ltb};
 ghost use Rattle.vec_collections.specs.SetOf.{exactly_one};
 ghost use Rattle.users.specs.Points.{holds, says, turned};
 
@@ -9,10 +9,11 @@ use vec_collections::VecSet;
 
 /// A set of numbers of 64 bits: a number is in it where an odd count of the turns are at or below it.
 ///
-/// An interval has two turns, its least number and the one behind its greatest. `N` turns take no memory.
+/// An interval has two turns, its least number and the one behind its greatest. Up to `TURNS` turns stand in place, and take no memory:
+/// an `Intervals<8>` has room for four intervals.
 #[derive(Drop)]
-pub struct Intervals<const N: usize> {
-    turns: VecSet<u64, N>,
+pub struct Intervals<const TURNS: usize> {
+    turns: VecSet<u64, TURNS>,
 }
 
 /// How two sets make a third one.
@@ -35,7 +36,12 @@ impl Formula {
     }
 
     /// Whether what the formula says of the two sets turns at this number.
-    fn turns_at<const N: usize>(self, a: &Intervals<N>, b: &Intervals<N>, x: u64) -> bool
+    fn turns_at<const TURNS: usize>(
+        self,
+        a: &Intervals<TURNS>,
+        b: &Intervals<TURNS>,
+        x: u64,
+    ) -> bool
         ensures { result ≡ turned (λ y. says self (holds a.now y) (holds b.now y)) x }
     {
         let here = self.answer(a.contains(x), b.contains(x));
@@ -46,7 +52,7 @@ impl Formula {
     }
 }
 
-impl<const N: usize> Intervals<N> {
+impl<const TURNS: usize> Intervals<TURNS> {
     /// No number.
     pub fn empty(alloc: Global) -> Self
         ensures { (x : ℕ) → holds result x ≡ false }
@@ -58,13 +64,13 @@ impl<const N: usize> Intervals<N> {
 
     /// The numbers from `least` on that are less than `end`.
     pub fn between(alloc: Global, least: u64, end: u64) -> Result<Self, AllocError>
-        ensures { IfOk result (λ made. (x : ℕ) → holds made x ≡ (leb least x && ltb x end)) }
+        ensures numbers { IfOk result (λ made. (x : ℕ) → holds made x ≡ (leb least x && ltb x end)) }
+        ensures room { 2 ≤ TURNS → IsOk result }
     {
         if end <= least {
             return Ok(Intervals::empty(alloc));
         }
-        let mut turns = VecSet::empty(alloc);
-        turns.insert(least)?;
+        let mut turns = VecSet::single(alloc, least)?;
         turns.insert(end)?;
         Ok(Intervals { turns })
     }

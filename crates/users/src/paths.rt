@@ -1,10 +1,8 @@
 //! Files by their paths, of which the rules of a filter decide which remain.
 
-ghost use Rattle.std.specs.Prelude.{◌≡◌, cond, None, Some, List, ℕ, OnOk, OnErr};
-ghost use Rattle.std.specs.Ordering.{nat_cmp};
-ghost use Rattle.vec_collections.specs.Allowed.{is_allowed};
-ghost use Rattle.vec_collections.specs.Key.{same_key};
-ghost use Rattle.users.specs.Files.{size_of};
+ghost use Rattle.std.specs.Prelude.{◌≡◌, cond, None, Some, OnOk, OnErr};
+ghost use Rattle.users.specs.Files.{allows, size_of};
+ghost use Rattle.users.specs.Path.{Path, same_path};
 
 use std::alloc::{AllocError, Global};
 use vec_collections::path_filter::PathFilter;
@@ -19,7 +17,7 @@ pub struct Files {
 impl Files {
     /// No file.
     pub fn new(alloc: Global) -> Self
-        ensures { (path : List ℕ) → size_of result path ≡ None }
+        ensures { (path : Path) → size_of result path ≡ None }
     {
         Files {
             sizes: RadixTree::empty(alloc),
@@ -28,8 +26,8 @@ impl Files {
 
     /// Notes the size of a file. Refused, each file has the size that it had.
     pub fn add(&mut self, path: &[u8], size: u64) -> Result<(), AllocError>
-        ensures ok { OnOk result ((other : List ℕ) → size_of self.new other ≡ cond (same_key nat_cmp path.now other) (Some size) (size_of self.old other)) }
-        ensures err { OnErr result ((other : List ℕ) → size_of self.new other ≡ size_of self.old other) }
+        ensures ok { OnOk result ((other : Path) → size_of self.new other ≡ cond (same_path path.now other) (Some size) (size_of self.old other)) }
+        ensures err { OnErr result ((other : Path) → size_of self.new other ≡ size_of self.old other) }
     {
         self.sizes.insert(path, size)
     }
@@ -43,8 +41,8 @@ impl Files {
 
     /// Keeps the files that the longest rule on their path allows. Refused, no file remains.
     pub fn keep(&mut self, filter: &PathFilter<u8>) -> Result<(), AllocError>
-        ensures ok { OnOk result ((path : List ℕ) → size_of self.new path ≡ cond (is_allowed nat_cmp filter.now path) (size_of self.old path) None) }
-        ensures err { OnErr result ((path : List ℕ) → size_of self.new path ≡ None) }
+        ensures ok { OnOk result ((path : Path) → size_of self.new path ≡ cond (allows filter.now path) (size_of self.old path) None) }
+        ensures err { OnErr result ((path : Path) → size_of self.new path ≡ None) }
     {
         filter.restrict(&mut self.sizes)
     }

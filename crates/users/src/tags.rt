@@ -1,10 +1,7 @@
 //! Articles by their tags, and queries whose answers are sets with complements, so that they can be combined.
 
 ghost use Rattle.std.specs.Prelude.{◌≡◌, ◌||◌, ◌&&◌, ◌==◌, not, false, IfOk, OnOk, OnErr, ℕ};
-ghost use Rattle.std.specs.List.{list_all, list_any};
-ghost use Rattle.std.specs.Ordering.{nat_cmp};
-ghost use Rattle.vec_collections.specs.Ascending.{member};
-ghost use Rattle.users.specs.Tagged.{tagged, is_found};
+ghost use Rattle.users.specs.Tagged.{tagged, has_all, has_any, is_among, is_found};
 
 use std::alloc::{AllocError, Global};
 use std::collections::BTreeMap;
@@ -12,11 +9,8 @@ use vec_collections::VecSet;
 use vec_collections::laws::total_operations_are_pointwise;
 use vec_collections::total_vec_set::TotalVecSet;
 
-/// The numbers of articles.
-pub type Articles = VecSet<u64, 4>;
-
-/// What a query finds: the articles that are listed, or all that are not.
-pub type Found = TotalVecSet<u64, 4>;
+/// The articles with a tag.
+type Articles = VecSet<u64, 4>;
 
 /// Which articles have which tags.
 #[derive(Drop)]
@@ -46,8 +40,8 @@ impl Index {
     }
 
     /// The articles that have the tag.
-    pub fn articles(&self, alloc: Global, tag: u32) -> Result<Articles, AllocError>
-        ensures { IfOk result (λ articles. (article : ℕ) → member nat_cmp articles article ≡ tagged self.now tag article) }
+    fn articles(&self, alloc: Global, tag: u32) -> Result<Articles, AllocError>
+        ensures { IfOk result (λ articles. (article : ℕ) → is_among articles article ≡ tagged self.now tag article) }
     {
         match self.by_tag.get(&tag) {
             Some(articles) => articles.clone(),
@@ -57,54 +51,77 @@ impl Index {
 
     /// The articles that have each of the tags.
     pub fn all_of(&self, alloc: Global, tags: &[u32]) -> Result<Found, AllocError>
-        ensures { IfOk result (λ found. (article : ℕ) → is_found found article ≡ list_all (λ tag. tagged self.now tag article) tags.now) }
+        ensures { IfOk result (λ found. (article : ℕ) → is_found found article ≡ has_all self.now tags.now article) }
     {
-        let mut found = Found::all(alloc);
+        let mut found = Found {
+            articles: TotalVecSet::all(alloc),
+        };
         for tag in tags {
-            narrow(&mut found, self.articles(alloc, *tag)?)?;
+            found.narrow(self.articles(alloc, *tag)?)?;
         }
         Ok(found)
     }
 
     /// The articles that have a tag among these.
     pub fn any_of(&self, alloc: Global, tags: &[u32]) -> Result<Found, AllocError>
-        ensures { IfOk result (λ found. (article : ℕ) → is_found found article ≡ list_any (λ tag. tagged self.now tag article) tags.now) }
+        ensures { IfOk result (λ found. (article : ℕ) → is_found found article ≡ has_any self.now tags.now article) }
     {
-        let mut found = Found::empty(alloc);
+        let mut found = Found {
+            articles: TotalVecSet::empty(alloc),
+        };
         for tag in tags {
-            widen(&mut found, self.articles(alloc, *tag)?)?;
+            found.widen(self.articles(alloc, *tag)?)?;
         }
         Ok(found)
     }
 
     /// The articles that have no tag among these: those with no tag at all, too.
     pub fn none_of(&self, alloc: Global, tags: &[u32]) -> Result<Found, AllocError>
-        ensures { IfOk result (λ found. (article : ℕ) → is_found found article ≡ not (list_any (λ tag. tagged self.now tag article) tags.now)) }
+        ensures { IfOk result (λ found. (article : ℕ) → is_found found article ≡ not (has_any self.now tags.now article)) }
     {
-        Ok(!self.any_of(alloc, tags)?)
+        let found = self.any_of(alloc, tags)?;
+        Ok(Found {
+            articles: !found.articles,
+        })
     }
 }
 
-/// Keeps what is among the articles too.
-fn narrow(found: &mut Found, articles: Articles) -> Result<(), AllocError>
-    ensures { OnOk result ((article : ℕ) → is_found found.new article ≡ (is_found found.old article && member nat_cmp articles article)) }
-{
-    total_operations_are_pointwise::<u64>();
-    found.bitand_assign(Found::from(articles))
+/// What a query finds: the articles that it names, or all but those.
+#[derive(Drop)]
+pub struct Found {
+    articles: TotalVecSet<u64, 4>,
 }
 
-/// Adds the articles.
-fn widen(found: &mut Found, articles: Articles) -> Result<(), AllocError>
-    ensures { OnOk result ((article : ℕ) → is_found found.new article ≡ (is_found found.old article || member nat_cmp articles article)) }
-{
-    total_operations_are_pointwise::<u64>();
-    found.bitor_assign(Found::from(articles))
-}
+impl Found {
+    /// Whether the article is among them.
+    pub fn has(&self, article: u64) -> bool
+        ensures { result ≡ is_found self.now article }
+    {
+        self.articles.contains(&article)
+    }
 
-/// The articles that both queries find.
-pub fn both(first: &Found, second: &Found) -> Result<Found, AllocError>
-    ensures { IfOk result (λ found. (article : ℕ) → is_found found article ≡ (is_found first.now article && is_found second.now article)) }
-{
-    total_operations_are_pointwise::<u64>();
-    first & second
+    /// The articles that both queries find.
+    pub fn and(&self, other: &Self) -> Result<Self, AllocError>
+        ensures { IfOk result (λ both. (article : ℕ) → is_found both article ≡ (is_found self.now article && is_found other.now article)) }
+    {
+        total_operations_are_pointwise::<u64>();
+        let articles = (&self.articles & &other.articles)?;
+        Ok(Found { articles })
+    }
+
+    /// Keeps what is among the articles too.
+    fn narrow(&mut self, articles: Articles) -> Result<(), AllocError>
+        ensures { OnOk result ((article : ℕ) → is_found self.new article ≡ (is_found self.old article && is_among articles article)) }
+    {
+        total_operations_are_pointwise::<u64>();
+        self.articles.bitand_assign(TotalVecSet::from(articles))
+    }
+
+    /// Adds the articles.
+    fn widen(&mut self, articles: Articles) -> Result<(), AllocError>
+        ensures { OnOk result ((article : ℕ) → is_found self.new article ≡ (is_found self.old article || is_among articles article)) }
+    {
+        total_operations_are_pointwise::<u64>();
+        self.articles.bitor_assign(TotalVecSet::from(articles))
+    }
 }
