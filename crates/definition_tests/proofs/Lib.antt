@@ -6,6 +6,7 @@ pub mod Sets
 pub mod Totals
 pub mod Joins
 pub mod Maps
+pub mod TotalMaps
 pub mod BTreeMaps
 pub mod Trees
 pub mod Combines

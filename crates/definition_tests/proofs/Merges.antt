@@ -1,6 +1,7 @@
 -- Worked rows of the definitions on merges, beside those that stand with them.
 use Rattle.std.specs.Prelude.{◌≡◌, ℕ, ◌==◌, ◌||◌, true, false, List, [], ◌∷◌, ◌++◌, take, drop, Option, Some, None, Ok, Err, ◌⊎◌, refl}
-use Rattle.std.proofs.Common.{inl, inr, sym, ◌∙◌, arith}
+use Rattle.std.proofs.Common.{inl, inr, ap, sym, ◌∙◌, arith}
+use Rattle.std.proofs.lemmas.List.{append-nil}
 use Rattle.std.specs.List.Sorted.{IsStrictlySortedBy}
 use Rattle.std.specs.Map.Iter.{TakesFirst}
 use Rattle.std.specs.Ordering.{nat_cmp}
@@ -14,7 +15,7 @@ use Rattle.vc_merge.specs.Takes.{TakesLeft, TakesRight, TakesBoth}
 use Rattle.vc_merge.specs.Both.{Both, Follows}
 use Rattle.vc_merge.specs.Place.{IsOrdered, IsFound, IsGap, IsPlace}
 use Rattle.vc_merge.specs.Building.{Extends, Built, Advances, Skips}
-use Rattle.vc_merge.specs.Gathering.{Gathers, GivesIf, Appends, IsBuilt}
+use Rattle.vc_merge.specs.Gathering.{Gathers, GivesIf, Appends, IsBuilt, IsBuilding}
 use Rattle.vc_merge.specs.Builder.{builder, with_rest}
 use Rattle.vc_merge.specs.Yielded.{Calls, AscendsAlong, gives_ascending, list-along}
 use Rattle.definition_tests.proofs.Digits.{same, not_true}
@@ -306,3 +307,34 @@ descends h = greater (h (Some 3 ∷ Some 1 ∷ []) [] (1 ∷ [], refl, ([], refl
   where
     greater : Greater ≡ Less → ⊥
     greater e = cc
+
+-- an intersection, which takes the left element of a collision
+abbrev intersection : Allows State ℕ ℕ
+intersection = allows (λ s. s.0) (λ s. s.1) (record {
+  from_a = λ s n answer t. (answer ≡ Ok true) × (t ≡ state (drop n s.0) s.1 s.2);
+  from_b = λ s n answer t. (answer ≡ Ok true) × (t ≡ state s.0 (drop n s.1) s.2);
+  collision = λ s answer t. (answer ≡ Ok true) × (t ≡ state (drop 1 s.0) (drop 1 s.1) (s.2 ++ take 1 s.0));
+})
+
+-- it gives nothing at an element that stands alone, and at a collision the left element
+abbrev IntersectionGives : Event ℕ ℕ → List ℕ → Type 0
+IntersectionGives (left_alone x) zs = zs ≡ []
+IntersectionGives (right_alone y) zs = zs ≡ []
+IntersectionGives (collision x y) zs = zs ≡ x ∷ []
+
+nothing_gathered : {X : Type 0} (xs : List X) → Gathers {X = X} {Z = ℕ} (λ x zs. zs ≡ []) xs []
+nothing_gathered [] = refl
+nothing_gathered (x ∷ xs) = ([], [], refl, nothing_gathered xs, refl)
+
+nothing_appended : {X : Type 0} (xs : List X) (zs : List ℕ) → Appends {X = X} {Z = ℕ} (λ x zs. zs ≡ []) xs zs zs
+nothing_appended xs zs = record { added = []; gathered = nothing_gathered xs; items = sym (append-nil zs) }
+
+left_appended : (s : State) (x y : ℕ) (xs : List ℕ) → s.0 ≡ x ∷ xs → Appends IntersectionGives (collision x y ∷ []) s.2 (s.2 ++ take 1 s.0)
+left_appended s x y xs e = record { added = x ∷ []; gathered = (x ∷ [], [], refl, refl, refl); items = ap (λ l. s.2 ++ take 1 l) e }
+
+is_building : IsBuilding {M = State} {Z = ℕ} {N = Unit {0}} (λ s. s.2) (λ s. tt) intersection IntersectionGives
+is_building = record {
+  from_a = λ s t n answer h. rw h.0 (rw h.1 (refl, refl, nothing_appended (take n s.0) s.2));
+  from_b = λ s t n answer h. rw h.0 (rw h.1 (refl, refl, nothing_appended (take n s.1) s.2));
+  collision = λ s t answer h x y xs ys left right. rw h.0 (rw h.1 (refl, refl, left_appended s x y xs left));
+}

@@ -1,6 +1,7 @@
 -- Worked rows of the definitions on what is left of a walk.
 use Rattle.std.specs.Prelude.{◌≡◌, ℕ, suc, List, [], ◌∷◌, Some, None, Ok, Err, codes, refl}
-use Rattle.vc_tree_walks.specs.Left.{Walks}
+use Rattle.vc_tree_walks.specs.Left.{Walks, rows_work}
+use Rattle.vc_tree_model.specs.Tree.{Forest, bare, grow}
 use Rattle.vc_tree_walks.specs.OwnedLeft.{WalksClones}
 
 -- the pairs of a to 1 and ab to 2, which an iterator has left
@@ -37,3 +38,10 @@ walk_goes_on h = absurd (some_pair h.0)
 -- where a clone of a value has the next number, the item has 2 for the 1 that was left
 walks_clones : WalksClones {S = Pairs} {K = List ℕ} {V = ℕ} {E = ℕ} (λ v w. w ≡ suc v) itself two_pairs (Some (Ok (codes "a", 2))) last_pair
 walks_clones = (1, refl, refl)
+
+-- a walk over the trees a and ab, of one node each, takes four steps at most, and none where no row is left
+abbrev two_nodes : Forest ℕ ℕ
+two_nodes = grow (codes "a") (Some 1) bare (grow (codes "ab") (Some 2) bare bare)
+
+work : (rows_work ((two_nodes, 0) ∷ []) ≡ 4) × (rows_work {K = ℕ} {V = ℕ} [] ≡ 0)
+work = (refl, refl)
