@@ -6,6 +6,7 @@
 mod data;
 mod lists;
 mod maps;
+mod trees;
 
 use data::{Keys, Numbers};
 use maps::{MAP_ROWS, MapRow};
@@ -15,6 +16,7 @@ use std::hint::black_box;
 unsafe extern "C" {
     fn bench_numbers(row: u64, left: *const u64, left_len: usize, m: usize, right: *const u64, right_len: usize, n: usize, rounds: u64) -> u64;
     fn bench_words(row: u64, left: *const u8, left_len: usize, left_ends: *const usize, left_count: usize, right: *const u8, right_len: usize, right_ends: *const usize, right_count: usize, rounds: u64) -> u64;
+    fn bench_total_sets(left: *const u64, left_len: usize, m: usize, right: *const u64, right_len: usize, n: usize, rounds: u64) -> u64;
     fn bench_maps(row: u64, left: *const u64, left_len: usize, m: usize, right: *const u64, right_len: usize, n: usize, rounds: u64) -> u64;
     fn bench_totals(left: *const u64, left_len: usize, m: usize, right: *const u64, right_len: usize, n: usize, rounds: u64) -> u64;
     fn bench_plain_tree(row: u64, bytes: *const u8, len: usize, ends: *const usize, count: usize, asked: *const u8, asked_len: usize, asked_ends: *const usize, asked_count: usize, rounds: u64) -> u64;
@@ -63,6 +65,7 @@ fn main() {
                 time_words(row, left, right);
             }
         }
+        time_total_sets(&only, &numbers);
     }
     for (m, n) in SKEWED {
         for row in SET_ROWS.iter().filter(|row| row.number < 2 && row.name.contains(&only)) {
@@ -73,12 +76,16 @@ fn main() {
     println!("| row | sizes | this library | BTreeMap | HashMap | sorted `Vec` by hand |");
     println!("|---|---|---|---|---|---|");
     for (m, n) in SIZES {
-        time_maps(&only, &Numbers::new(m, n));
+        time_maps(&MAP_ROWS, &only, &Numbers::new(m, n));
+        time_total_maps(&only, &Numbers::new(m, n));
+    }
+    for (m, n) in SKEWED {
+        time_maps(&MAP_ROWS[..2], &only, &Numbers::new(m, n));
     }
     println!();
-    println!("| row | keys | plain tree | shared tree | BTreeMap of `Vec` |");
-    println!("|---|---|---|---|---|");
-    for count in [100, 10_000] {
+    println!("| row | keys | plain tree | shared tree | BTreeMap | HashMap | sorted `Vec` by hand |");
+    println!("|---|---|---|---|---|---|---|");
+    for count in [10, 100, 1000, 10_000] {
         time_trees(&only, &Keys::paths(count));
     }
 }
@@ -142,12 +149,35 @@ fn print_sets(row: &SetRow, elements: &str, (m, n): (usize, usize), operations: 
     println!("| {} | {elements} | {m}, {n} | {} | {} | {} |", row.name, shown(ours), shown(std_set), shown(by_hand));
 }
 
+/// The union of a set with the complement of another one: all but what the other one alone has.
+fn time_total_sets(only: &str, data: &Numbers) {
+    let row = SetRow { name: "union with a complement", number: 2, one_by_one: false };
+    if row.name.contains(only) {
+        let ours = |rounds: u64| unsafe { bench_total_sets(data.left.as_ptr(), data.left.len(), data.m, data.right.as_ptr(), data.right.len(), data.n, rounds) };
+        let trees: Vec<(BTreeSet<u64>, BTreeSet<u64>)> = data.cut().map(|(a, b)| (a.iter().copied().collect(), b.iter().copied().collect())).collect();
+        let std_set = |rounds: u64| repeat(rounds, || trees.iter().map(|(a, b)| by_btree(row.number, b, a)).sum());
+        let by_hand = |rounds: u64| repeat(rounds, || data.cut().map(|(a, b)| lists::work(row.number, b, a)).sum());
+        print_sets(&row, "u64", (data.m, data.n), data.pairs(), [&ours, &std_set, &by_hand]);
+    }
+}
+
+/// Pairs of maps, as lists and as both of std's.
+type Lists = Vec<(Vec<(u64, u64)>, Vec<(u64, u64)>)>;
+type Sorted = Vec<(BTreeMap<u64, u64>, BTreeMap<u64, u64>)>;
+type Hashed = Vec<(HashMap<u64, u64>, HashMap<u64, u64>)>;
+
+/// The pairs of maps of each number to itself.
+fn maps_of(data: &Numbers) -> (Lists, Sorted, Hashed) {
+    let lists: Lists = data.cut().map(|(a, b)| (to_themselves(a), to_themselves(b))).collect();
+    let sorted = lists.iter().map(|(a, b)| (a.iter().copied().collect(), b.iter().copied().collect())).collect();
+    let hashed = lists.iter().map(|(a, b)| (a.iter().copied().collect(), b.iter().copied().collect())).collect();
+    (lists, sorted, hashed)
+}
+
 /// The rows over maps of numbers, on several pairs of maps in turn.
-fn time_maps(only: &str, data: &Numbers) {
-    let lists: Vec<(Vec<(u64, u64)>, Vec<(u64, u64)>)> = data.cut().map(|(a, b)| (to_themselves(a), to_themselves(b))).collect();
-    let sorted: Vec<(BTreeMap<u64, u64>, BTreeMap<u64, u64>)> = lists.iter().map(|(a, b)| (a.iter().copied().collect(), b.iter().copied().collect())).collect();
-    let hashed: Vec<(HashMap<u64, u64>, HashMap<u64, u64>)> = lists.iter().map(|(a, b)| (a.iter().copied().collect(), b.iter().copied().collect())).collect();
-    for row in MAP_ROWS.iter().filter(|row| row.name.contains(only) && (row.number < 6 || data.n <= 10_000)) {
+fn time_maps(rows: &[MapRow], only: &str, data: &Numbers) {
+    let (lists, sorted, hashed) = maps_of(data);
+    for row in rows.iter().filter(|row| row.name.contains(only) && (row.number < 6 || data.n <= 10_000)) {
         let ours = |rounds: u64| unsafe {
             bench_maps(row.number, data.left.as_ptr(), data.left.len(), data.m, data.right.as_ptr(), data.right.len(), data.n, rounds)
         };
@@ -156,6 +186,11 @@ fn time_maps(only: &str, data: &Numbers) {
         let by_hand = |rounds: u64| repeat(rounds, || lists.iter().map(|(a, b)| maps::by_hand(row.number, a, b)).sum());
         print_maps(row, data, [&ours, &by_btree, &by_hash, &by_hand]);
     }
+}
+
+/// The row over total maps.
+fn time_total_maps(only: &str, data: &Numbers) {
+    let (lists, sorted, hashed) = maps_of(data);
     let greatest = MapRow { name: "greatest, key by key, of total maps", number: 0, one_by_one: false };
     if greatest.name.contains(only) {
         let ours = |rounds: u64| unsafe { bench_totals(data.left.as_ptr(), data.left.len(), data.m, data.right.as_ptr(), data.right.len(), data.n, rounds) };
@@ -200,18 +235,16 @@ type TreeExport = unsafe extern "C" fn(u64, *const u8, usize, *const usize, usiz
 /// The rows over trees of path-like keys.
 fn time_trees(only: &str, keys: &Keys) {
     let list: Vec<Vec<u8>> = keys.list().collect();
-    let map: BTreeMap<Vec<u8>, u64> = keys.list().zip(0..).collect();
     for row in TREE_ROWS.iter().filter(|row| row.name.contains(only)) {
         let asked = match row.number {
             6 => Keys::paths(list.len() + 1),
             7 => Keys::folder("src/"),
             _ => Keys::paths(list.len()),
         };
-        let asked_list: Vec<Vec<u8>> = asked.list().collect();
-        let other: BTreeMap<Vec<u8>, u64> = asked.list().zip(0..).collect();
+        let std_maps = trees::StdMaps::new(&list, asked.list().collect());
         let operations = match row.number {
             2 => 1,
-            7 => under(&map, &asked_list[0]).count(),
+            7 => std_maps.under().count().max(1),
             _ => list.len(),
         };
         let call = |export: TreeExport, rounds: u64| unsafe {
@@ -219,48 +252,17 @@ fn time_trees(only: &str, keys: &Keys) {
         };
         let plain = |rounds: u64| call(bench_plain_tree, rounds);
         let shared = |rounds: u64| call(bench_shared_tree, rounds);
-        let std_map = |rounds: u64| repeat(rounds, || by_map(row.number, &list, &map, &asked_list, &other));
-        if row.shared_alone {
-            let [shared, std_map] = times(operations, [&shared, &std_map]);
-            println!("| {} | {} | - | {} | {} |", row.name, list.len(), shown(shared), shown(std_map));
+        let by_btree = |rounds: u64| repeat(rounds, || std_maps.by_btree(row.number));
+        let by_hash = |rounds: u64| repeat(rounds, || std_maps.by_hash(row.number));
+        let by_hand = |rounds: u64| repeat(rounds, || std_maps.by_hand(row.number));
+        let cells = if row.shared_alone {
+            let times = times(operations, [&shared, &by_btree, &by_hash, &by_hand]).map(shown);
+            format!("- | {}", times.join(" | "))
         } else {
-            let [plain, shared, std_map] = times(operations, [&plain, &shared, &std_map]);
-            println!("| {} | {} | {} | {} | {} |", row.name, list.len(), shown(plain), shown(shared), shown(std_map));
-        }
+            times(operations, [&plain, &shared, &by_btree, &by_hash, &by_hand]).map(shown).join(" | ")
+        };
+        println!("| {} | {} | {cells} |", row.name, list.len());
     }
-}
-
-/// The work of a row on std's map of whole keys.
-fn by_map(row: u64, list: &[Vec<u8>], map: &BTreeMap<Vec<u8>, u64>, asked: &[Vec<u8>], other: &BTreeMap<Vec<u8>, u64>) -> u64 {
-    match row {
-        0 => {
-            let built: BTreeMap<Vec<u8>, u64> = list.iter().cloned().zip(0..).collect();
-            built.get(&list[0]).copied().unwrap_or(0)
-        }
-        1 => asked.iter().filter_map(|key| map.get(key)).map(|number| number + 1).sum(),
-        2 => {
-            let mut copy = map.clone();
-            copy.insert(list[0].clone(), 7);
-            black_box(copy);
-            1
-        }
-        3 => map.iter().map(|(key, value)| value + key.len() as u64).sum(),
-        4 => map.values().sum(),
-        5 => map.iter().map(|(key, value)| (key.clone(), *value)).map(|(key, value)| value + key.len() as u64).sum(),
-        6 => {
-            let mut both = map.clone();
-            for (key, value) in other {
-                both.entry(key.clone()).or_insert(*value);
-            }
-            both.get(&asked[0]).copied().unwrap_or(0)
-        }
-        _ => under(map, &asked[0]).map(|(key, value)| value + key.len() as u64).sum(),
-    }
-}
-
-/// The pairs whose keys begin with `prefix`.
-fn under<'a>(map: &'a BTreeMap<Vec<u8>, u64>, prefix: &'a [u8]) -> impl Iterator<Item = (&'a Vec<u8>, &'a u64)> {
-    map.range(prefix.to_vec()..).take_while(move |(key, _)| key.starts_with(prefix))
 }
 
 /// Does the work `rounds` times, and adds up what it answers.
