@@ -1,5 +1,5 @@
 //! Maps that take in another one whole: the pairs of both are moved, and nothing is cloned.
-ghost use Rattle.std.specs.Prelude.{◌≡◌, ◌≤◌, [], ◌∷◌, ◌++◌, Some, IsOk, OnOk, OnErr, length, take, drop};
+ghost use Rattle.std.specs.Prelude.{◌≡◌, ◌≤◌, [], ◌∷◌, ◌++◌, Some, IfOk, IsOk, OnOk, OnErr, length, take, drop};
 ghost use Rattle.vc_joins.specs.declared.question.OuterJoinArg.TheVariants as arg;
 ghost use Rattle.vc_joins.specs.Entries.{AscendsByKey};
 ghost use Rattle.vc_joins.specs.Events.{AnswerAdds};
@@ -187,7 +187,7 @@ where
 
 /// Moves the pairs of two parts of a list to its front, where two with equal keys become one. The parts are its first `end` pairs and those
 /// from `next` on. Answers how many pairs these are then.
-fn combine_parts<K: Ord + Drop, V: Drop, A: Allocator + Copy, F: Fn(V, V) -> V>(
+pub fn combine_parts<K: Ord + Drop, V: Drop, A: Allocator + Copy, F: Fn(V, V) -> V>(
     alloc: &A,
     list: &mut [(K, V)],
     end: usize,
@@ -219,31 +219,20 @@ where
     state.spans.built
 }
 
-/// Puts the pairs of both lists in the place of the left one. Two with equal keys become one, under the key of the left.
+/// Moves the elements of `that` behind those of a list and a gap. Answers the place of the first of them.
 ///
-/// The one growth comes before the first pair is moved. Refused, the list has its pairs.
-pub fn combine<
-    K: Ord + Drop,
-    V: Drop,
-    const N: usize,
-    const M: usize,
-    A: Allocator + Copy,
-    F: Fn(V, V) -> V,
->(list: &mut SmallVec<(K, V), N, A>, that: SmallVec<(K, V), M, A>, f: &F) -> Result<(), AllocError>
-where
-    (K, V): MadeWith<A>,
-    requires left_ascends { AscendsByKey K.cmp list.old.items }
-    requires right_ascends { AscendsByKey K.cmp that.items }
-    requires callable { (k : _) (v : _) (w : _) → IsAsked K.cmp JoinKind.Outer left_spelling list.old.items that.items (arg.Both k v w) → F.pre f.now v w }
-    ensures joins { OnOk result (IsJoin K.cmp JoinKind.Outer left_spelling list.old.items that.items (Combines (λ v w x. F.post f.now v w x)) MovedKey list.new.items) }
+/// The one growth comes before the first element is moved. Refused, the list has its elements.
+pub fn append_behind<T: MadeWith<A> + Drop, const N: usize, const M: usize, A: Allocator + Copy>(
+    list: &mut SmallVec<T, N, A>,
+    that: SmallVec<T, M, A>,
+) -> Result<usize, AllocError>
+    ensures order { IfOk result (λ next. (length list.old.items ≤ next) × (next ≤ length list.new.items)) }
+    ensures front { OnOk result (take (length list.old.items) list.new.items ≡ list.old.items) }
+    ensures behind { IfOk result (λ next. drop next list.new.items ≡ that.items) }
     ensures err { OnErr result (list.new.items ≡ list.old.items) }
 {
-    let alloc = *list.allocator();
-    let end = list.len();
     open_gap(list, that.len())?;
     let next = list.len();
     append_moved(list, that);
-    let kept = combine_parts(&alloc, list.as_mut_slice(), end, next, f);
-    list.truncate(kept);
-    Ok(())
+    Ok(next)
 }

@@ -20,7 +20,7 @@ use std::alloc::{AllocError, Allocator};
 use std::default::MadeWith;
 use vc_joins::answers::{AskInner, AskLeft, AskOuter, AskRight, Question};
 use vc_joins::question::{JoinKind, OuterJoinArg};
-use vc_merge::merge::{Count, MergeState, MergeStateMut, Steps, Uncounted, merge};
+use vc_merge::merge::{Count, MergeState, MergeStateMut, Uncounted, merge};
 
 /// A list of pairs that grows at its end.
 pub trait PairList {
@@ -339,42 +339,6 @@ where
     )
 }
 
-/// The join of this kind by a closure that is asked as that of an outer join. Counts its comparisons.
-pub fn join_of_kind<
-    K: Ord + Clone + Drop,
-    V,
-    W,
-    X: Drop,
-    F: Fn(OuterJoinArg<&K, &V, &W>) -> Result<Option<X>, AllocError>,
-    const N: usize,
-    A: Allocator + Copy,
->(
-    alloc: A,
-    this: &[(K, V)],
-    that: &[(K, W)],
-    kind: JoinKind,
-    f: &F,
-    steps: &mut Steps,
-) -> Result<SmallVec<(K, X), N, A>, AllocError>
-where
-    (K, X): MadeWith<A>,
-    requires this_ascends { AscendsByKey K.cmp this.now }
-    requires that_ascends { AscendsByKey K.cmp that.now }
-    requires clones { ClonesAreEqual K.cmp K.is_clone }
-    requires callable { (a : _) → IsAsked K.cmp kind left_spelling this.now that.now (seen a) → F.pre f.now a }
-    ensures joins { IfOk result (λ v. IsJoin K.cmp kind left_spelling this.now that.now (λ a r. MayAnswer F.Fn f.now a (Ok r)) (ClonedKey K.is_clone) v.items) }
-    ensures counted { steps.new ≤ steps.old + bound (length this.now) (length that.now) }
-{
-    join(
-        alloc,
-        this,
-        that,
-        kind,
-        &outer_question(this, that, kind, f),
-        steps,
-    )
-}
-
 /// The left join by a closure.
 pub fn join_left<
     K: Ord + Clone + Drop,
@@ -463,7 +427,7 @@ where
 // the closure itself would have to say so beside the size of what the join builds, which takes the checker a minute.
 
 /// The closure of an outer join, or of one that is asked as that is.
-fn outer_question<'f, K: Ord, V, W, R, F: Fn(OuterJoinArg<&K, &V, &W>) -> R>(
+pub fn outer_question<'f, K: Ord, V, W, R, F: Fn(OuterJoinArg<&K, &V, &W>) -> R>(
     _this: &[(K, V)],
     _that: &[(K, W)],
     _kind: JoinKind,

@@ -7,7 +7,6 @@ use Rattle.std.specs.Option.{unwrap_or}
 use Rattle.std.specs.declared.cmp.Ordering.{Ordering}
 use denote.Ref.{Bor}
 use denote.Param.Members.{Shared}
-use Rattle.smallvec.specs.SmallVec.{SmallVec}
 use Rattle.vc_merge.specs.Ascending.{Ascends}
 use Rattle.vc_joins.specs.Entries.{entry_at, value_at}
 use Rattle.vc_total_maps.specs.CombinedTotals.{HoldsEverywhere, IsCombined, ClonesFirst}
@@ -34,14 +33,10 @@ module _ {K V : Type 0} (cmp : K → K → Ordering) (m : TotalMap K V) (e : V) 
   pub each-everywhere : (P : V → V → Type 0) → HoldsOfEach cmp (λ v. P v e) m → HoldsEverywhere cmp P m (total_map [] e)
   each-everywhere P h = record { defaults = h.default; listed = λ k either. holds-there (λ v. P v e) m.default (value_at cmp m.mappings k) h.default (h.listed k) }
 
+  -- what is made of a map and one that lists nothing is made of the map
   pub combined-maps : {X : Type 0} (eq : X → X → Bool) (May : V → V → X → Type 0) (is_clone : K → K → Type 0) (c : TotalMap K X)
       → IsCombined cmp eq May is_clone m (total_map [] e) c → IsMapped cmp eq (λ v. May v e) is_clone m c
   combined-maps eq May is_clone c h = record { default = h.default; values = h.values; keys = λ k. comes-from-left is_clone (entry_at cmp m.mappings k) (entry_at cmp c.mappings k) (h.keys k) }
-
-  pub if-combined-maps : {X E : Type 0} (eq : X → X → Bool) (May : V → V → X → Type 0) (is_clone : K → K → Type 0) (f : X) (r : Result (SmallVec (K × X)) E)
-      → IfOk r (λ v. IsCombined cmp eq May is_clone m (total_map [] e) (total_map v.items f)) → IfOk r (λ v. IsMapped cmp eq (λ v. May v e) is_clone m (total_map v.items f))
-  if-combined-maps eq May is_clone f (Ok v) h = combined-maps eq May is_clone (total_map v.items f) h
-  if-combined-maps eq May is_clone f (Err e) h = tt
 
 -- a changed map lists no value that equals its default
 pub mapped-canonical : {K V X : Type 0} (cmp : K → K → Ordering) (eq : X → X → Bool) (May : V → X → Type 0) (is_clone : K → K → Type 0) (m : TotalMap K V) (c : TotalMap K X)

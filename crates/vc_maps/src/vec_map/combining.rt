@@ -10,7 +10,7 @@ ghost use Rattle.vc_joins.specs.Question.{left_spelling};
 ghost use Rattle.vc_maps.specs.Combining.{Combines, IsCombinedBy};
 
 use super::VecMap;
-use crate::combine::combine;
+use crate::combine::{append_behind, combine_parts};
 use std::alloc::{AllocError, Allocator};
 use std::default::MadeWith;
 use vc_joins::question::JoinKind;
@@ -41,7 +41,12 @@ where
         ensures function { OnOk result ((g : _) → IsCombinedBy K.cmp self.old that (λ v w x. F.post f v w x) g self.new) }
         ensures err { OnErr result (self.new ≡ self.old) }
     {
-        combine(&mut self.pairs, that.into_inner(), &f)
+        let alloc = *self.pairs.allocator();
+        let end = self.pairs.len();
+        let next = append_behind(&mut self.pairs, that.into_inner())?;
+        let kept = combine_parts(&alloc, self.pairs.as_mut_slice(), end, next, &f);
+        self.pairs.truncate(kept);
+        Ok(())
     }
 
     /// Takes in the pairs of `that`. At a key of both maps stands the value of `that`, under the key of this map.

@@ -7,7 +7,7 @@ ghost use Rattle.vc_merge.specs.Count.{bound};
 ghost use Rattle.vc_sets.specs.SetOf.{ClonesAreEqual};
 
 use super::{AbstractVecMap, VecMap};
-use crate::fresh::{join_inner, join_left, join_of_kind, join_outer, join_right};
+use crate::fresh::{join, join_inner, join_left, join_outer, join_right, outer_question};
 use std::alloc::{AllocError, Allocator};
 use std::default::MadeWith;
 use vc_joins::question::{JoinKind, OuterJoinArg};
@@ -153,8 +153,39 @@ impl<K: Ord + Clone + Drop, V, const N: usize, A: Allocator + Copy> VecMap<K, V,
         ensures function { IfOk result (λ c. (h : _) → IsJoinBy K.cmp kind left_spelling self.now (M.pairs that.now) (λ a r. MayAnswer F.Fn f a (Ok r)) h c) }
         ensures counted { steps.new ≤ steps.old + bound (length self.now) (length (M.pairs that.now)) }
     {
-        let alloc = *self.pairs.allocator();
-        let pairs = join_of_kind(alloc, self.as_ref(), that.as_slice(), kind, &f, steps)?;
-        Ok(VecMap { pairs })
+        join_of_kind(self.allocator(), self, that, kind, f, steps)
     }
+}
+
+/// The join of this kind by a closure that is asked as that of an outer join. Counts its comparisons.
+fn join_of_kind<
+    K: Ord + Clone + Drop,
+    V,
+    W,
+    X: Drop,
+    L: AbstractVecMap<K, V>,
+    M: AbstractVecMap<K, W>,
+    F: Fn(OuterJoinArg<&K, &V, &W>) -> Result<Option<X>, AllocError> + Drop,
+    const N: usize,
+    A: Allocator + Copy,
+>(
+    alloc: A,
+    this: &L,
+    that: &M,
+    kind: JoinKind,
+    f: F,
+    steps: &mut Steps,
+) -> Result<VecMap<K, X, N, A>, AllocError>
+where
+    (K, X): MadeWith<A>,
+    requires clones { ClonesAreEqual K.cmp K.is_clone }
+    requires callable { (a : _) → IsAsked K.cmp kind left_spelling (L.pairs this.now) (M.pairs that.now) (seen a) → F.pre f a }
+    ensures joins { IfOk result (λ c. IsJoin K.cmp kind left_spelling (L.pairs this.now) (M.pairs that.now) (λ a r. MayAnswer F.Fn f a (Ok r)) (ClonedKey K.is_clone) c) }
+    ensures function { IfOk result (λ c. (h : _) → IsJoinBy K.cmp kind left_spelling (L.pairs this.now) (M.pairs that.now) (λ a r. MayAnswer F.Fn f a (Ok r)) h c) }
+    ensures counted { steps.new ≤ steps.old + bound (length (L.pairs this.now)) (length (M.pairs that.now)) }
+{
+    let (this, that) = (this.as_slice(), that.as_slice());
+    let question = outer_question(this, that, kind, &f);
+    let pairs = join(alloc, this, that, kind, &question, steps)?;
+    Ok(VecMap { pairs })
 }

@@ -9,11 +9,9 @@ ghost use Rattle.vc_total_maps.specs.TotalMap.{total_map};
 
 use super::TotalVecMap;
 use super::combine::{AskValues, Combine, combine_pairs};
-use smallvec::SmallVec;
 use std::alloc::{AllocError, Allocator};
 use std::default::MadeWith;
 use std::ops::Neg;
-use vc_maps::vec_map::VecMap;
 use vc_maps::vec_map::conversions::map_of_list;
 
 /// A closure on the left value alone.
@@ -44,66 +42,20 @@ impl<V: Clone + Neg<Output = V>> Combine<V, V> for Opposite {
     }
 }
 
-/// The pairs of a changed map, by a question that has both defaults: those of a combination with no pairs.
-fn change_pairs<
-    K: Ord + Clone + Drop,
-    V,
-    X: Eq + Drop,
-    C: Combine<V, X>,
-    const N: usize,
-    A: Allocator + Copy,
->(
-    alloc: A,
-    pairs: &[(K, V)],
-    question: &AskValues<'_, V, X, C>,
-) -> Result<SmallVec<(K, X), N, A>, AllocError>
-where
-    (K, X): MadeWith<A>,
-    requires pairs_ascend { AscendsByKey K.cmp pairs.now }
-    requires clones { ClonesAreEqual K.cmp K.is_clone }
-    requires callable { HoldsOfEach K.cmp (λ x. C.can question.now.combine.now x question.now.right_default.now) (total_map pairs.now question.now.left_default.now) }
-    requires default { C.may question.now.combine.now question.now.left_default.now question.now.right_default.now question.now.new_default.now }
-    ensures ascends { IfOk result (λ made. AscendsByKey K.cmp made.items) }
-    ensures mapped { IfOk result (λ made. IsMapped K.cmp X.eq (λ x. C.may question.now.combine.now x question.now.right_default.now) K.is_clone (total_map pairs.now question.now.left_default.now) (total_map made.items question.now.new_default.now)) }
-{
-    combine_pairs(alloc, pairs, no_pairs(pairs, question), question)
-}
-
-/// No pairs, at which and at those of the map the question may be asked.
+/// No pairs, at which and at those of the map the question may be asked. It says all that the combination of both asks, which would have to
+/// be shown there beside the size of the pairs that are made: that takes the checker a minute.
 fn no_pairs<'a, K: Ord, V, X: Eq + Drop, C: Combine<V, X>>(
     pairs: &'a [(K, V)],
     _question: &AskValues<'_, V, X, C>,
 ) -> &'a [(K, V)]
+    requires ascends { AscendsByKey K.cmp pairs.now }
     requires callable { HoldsOfEach K.cmp (λ x. C.can _question.now.combine.now x _question.now.right_default.now) (total_map pairs.now _question.now.left_default.now) }
     ensures none { result.now ≡ [] }
-    ensures ascends { AscendsByKey K.cmp result.now }
+    ensures pairs_ascend { AscendsByKey K.cmp pairs.now }
+    ensures none_ascends { AscendsByKey K.cmp result.now }
     ensures callable { HoldsEverywhere K.cmp (C.can _question.now.combine.now) (total_map pairs.now _question.now.left_default.now) (total_map result.now _question.now.right_default.now) }
 {
     &pairs[..0]
-}
-
-/// The mappings of a changed map, by a question that has both defaults.
-fn change_mappings<
-    K: Ord + Clone + Drop,
-    V,
-    X: Eq + Drop,
-    C: Combine<V, X>,
-    const N: usize,
-    const M: usize,
-    A: Allocator + Copy,
->(
-    map: &VecMap<K, V, N, A>,
-    question: &AskValues<'_, V, X, C>,
-) -> Result<VecMap<K, X, M, A>, AllocError>
-where
-    (K, X): MadeWith<A>,
-    requires clones { ClonesAreEqual K.cmp K.is_clone }
-    requires callable { HoldsOfEach K.cmp (λ x. C.can question.now.combine.now x question.now.right_default.now) (total_map map.now question.now.left_default.now) }
-    requires default { C.may question.now.combine.now question.now.left_default.now question.now.right_default.now question.now.new_default.now }
-    ensures { IfOk result (λ made. IsMapped K.cmp X.eq (λ x. C.may question.now.combine.now x question.now.right_default.now) K.is_clone (total_map map.now question.now.left_default.now) (total_map made question.now.new_default.now)) }
-{
-    let pairs = change_pairs(map.allocator(), map.as_ref(), question)?;
-    Ok(map_of_list(pairs))
 }
 
 /// What `change` makes of the left value at every key, and of the default.
@@ -131,7 +83,10 @@ where
         new_default: &default,
         combine: change,
     };
-    let mappings = change_mappings(&map.mappings, &question)?;
+    let pairs = map.mappings.as_ref();
+    let none = no_pairs(pairs, &question);
+    let made = combine_pairs(map.mappings.allocator(), pairs, none, &question)?;
+    let mappings = map_of_list(made);
     Ok(TotalVecMap { mappings, default })
 }
 
