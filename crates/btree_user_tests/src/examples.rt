@@ -98,22 +98,33 @@ fn inner(left: &Map, right: &Map, alloc: Global, asked: &Cell<u32>) -> Result<Ma
     })
 }
 
+/// Whether what was made has these pairs, and so many questions were asked.
+fn is_made(made: Map, pairs: &[(u32, char, u32)], asked: &Cell<u32>, questions: u32) -> bool {
+    is_map(&made, pairs) && asked.replace(0) == questions
+}
+
+/// Whether the joins of the two maps are as worked out.
+fn joins_agree(left: &Map, right: &Map, alloc: Global) -> Result<bool, AllocError> {
+    let asked = Cell::new(0);
+    let all = outer(left, right, alloc, &asked)?;
+    let are_outer = is_made(all, &[(1, 'a', 10), (2, 'a', 20), (3, 'b', 7)], &asked, 3);
+    let shared = left_shared(left, right, alloc, &asked)?;
+    let are_left = is_made(shared, &[(2, 'a', 20)], &asked, 2);
+    let first = right_first(left, right, alloc, &asked)?;
+    let are_right = is_made(first, &[(2, 'b', 20), (3, 'b', 7)], &asked, 2);
+    let both = inner(left, right, alloc, &asked)?;
+    Ok(are_outer && are_left && are_right && is_made(both, &[(2, 'b', 20)], &asked, 1))
+}
+
+/// Whether they are of `{1: 10, 2: 20}` and `{2: 5, 3: 7}`.
+fn examples_agree(alloc: Global) -> Result<bool, AllocError> {
+    let left = map_of(alloc, 'a', &[(1, 10), (2, 20)])?;
+    let right = map_of(alloc, 'b', &[(2, 5), (3, 7)])?;
+    joins_agree(&left, &right, alloc)
+}
+
 #[test]
 fn joins_build_maps_as_worked_out(rt: HostRuntime) -> Result<(), Fail> {
-    let left = map_of(rt.alloc(), 'a', &[(1, 10), (2, 20)])?;
-    let right = map_of(rt.alloc(), 'b', &[(2, 5), (3, 7)])?;
-    let asked = Cell::new(0);
-    let made = outer(&left, &right, rt.alloc(), &asked)?;
-    assert!(rt; is_map(&made, &[(1, 'a', 10), (2, 'a', 20), (3, 'b', 7)]));
-    assert_eq!(rt; asked.replace(0), 3);
-    let made = left_shared(&left, &right, rt.alloc(), &asked)?;
-    assert!(rt; is_map(&made, &[(2, 'a', 20)]));
-    assert_eq!(rt; asked.replace(0), 2);
-    let made = right_first(&left, &right, rt.alloc(), &asked)?;
-    assert!(rt; is_map(&made, &[(2, 'b', 20), (3, 'b', 7)]));
-    assert_eq!(rt; asked.replace(0), 2);
-    let made = inner(&left, &right, rt.alloc(), &asked)?;
-    assert!(rt; is_map(&made, &[(2, 'b', 20)]));
-    assert_eq!(rt; asked.replace(0), 1);
+    assert!(rt; examples_agree(rt.alloc())?);
     Ok(())
 }

@@ -123,50 +123,73 @@ fn outer_sums(alloc: Global, right: &Map, others: u32, asked: &Asked) -> Result<
     Ok(map)
 }
 
+/// Whether the inner join with a map of these pairs is as worked out.
+fn is_inner(alloc: Global, others: &[(u32, u32)]) -> Result<bool, AllocError> {
+    let right = map_of(alloc, 'b', others)?;
+    let asked = Asked::new();
+    let map = inner(alloc, &right, &asked)?;
+    Ok(is_map(&map, &[(2, 'a', 20)]) && asked.is(1, 0, 0))
+}
+
+/// Whether the left join is.
+fn is_left(alloc: Global, others: &[(u32, u32)]) -> Result<bool, AllocError> {
+    let right = map_of(alloc, 'b', others)?;
+    let asked = Asked::new();
+    let map = left_sums(alloc, &right, &asked)?;
+    Ok(is_map(&map, &[(1, 'a', 10), (2, 'a', 25)]) && asked.is(1, 1, 0))
+}
+
 #[test]
 fn inner_and_left_joins_in_place(rt: HostRuntime) -> Result<(), Fail> {
-    let right = map_of(rt.alloc(), 'b', &[(2, 5)])?;
-    let asked = Asked::new();
-    let map = inner(rt.alloc(), &right, &asked)?;
-    assert!(rt; is_map(&map, &[(2, 'a', 20)]));
-    assert!(rt; asked.is(1, 0, 0));
-    let right = map_of(rt.alloc(), 'b', &[(2, 5), (3, 7)])?;
-    let asked = Asked::new();
-    let map = inner(rt.alloc(), &right, &asked)?;
-    assert!(rt; is_map(&map, &[(2, 'a', 20)]));
-    assert!(rt; asked.is(1, 0, 0));
-    let asked = Asked::new();
-    let map = left_sums(rt.alloc(), &right, &asked)?;
-    assert!(rt; is_map(&map, &[(1, 'a', 10), (2, 'a', 25)]));
-    assert!(rt; asked.is(1, 1, 0));
+    assert!(rt; is_inner(rt.alloc(), &[(2, 5)])?);
+    assert!(rt; is_inner(rt.alloc(), &[(2, 5), (3, 7)])?);
+    assert!(rt; is_left(rt.alloc(), &[(2, 5), (3, 7)])?);
     Ok(())
+}
+
+/// Whether the right join, which keeps sums or drops them, leaves these pairs and asks as worked out.
+fn is_right(alloc: Global, keeps: bool, pairs: &[(u32, char, u32)]) -> Result<bool, AllocError> {
+    let right = map_of(alloc, 'b', &[(2, 5), (3, 7)])?;
+    let asked = Asked::new();
+    let map = right_sums(alloc, &right, keeps, &asked)?;
+    Ok(is_map(&map, pairs) && asked.is(1, 0, 1))
 }
 
 #[test]
 fn right_joins_in_place_insert_nothing(rt: HostRuntime) -> Result<(), Fail> {
-    let right = map_of(rt.alloc(), 'b', &[(2, 5), (3, 7)])?;
-    let asked = Asked::new();
-    let map = right_sums(rt.alloc(), &right, true, &asked)?;
-    assert!(rt; is_map(&map, &[(1, 'a', 10), (2, 'a', 25)]));
-    assert!(rt; asked.is(1, 0, 1));
-    let asked = Asked::new();
-    let map = right_sums(rt.alloc(), &right, false, &asked)?;
-    assert!(rt; is_map(&map, &[(1, 'a', 10)]));
-    assert!(rt; asked.is(1, 0, 1));
+    assert!(rt; is_right(rt.alloc(), true, &[(1, 'a', 10), (2, 'a', 25)])?);
+    assert!(rt; is_right(rt.alloc(), false, &[(1, 'a', 10)])?);
     Ok(())
+}
+
+/// Whether the outer join with a map of these pairs, of which so many keys are its alone, makes those pairs and asks as worked out.
+fn is_outer(
+    alloc: Global,
+    others: &[(u32, u32)],
+    alone: u32,
+    pairs: &[(u32, char, u32)],
+) -> Result<bool, AllocError> {
+    let right = map_of(alloc, 'b', others)?;
+    let asked = Asked::new();
+    let map = outer_sums(alloc, &right, alone, &asked)?;
+    Ok(is_map(&map, pairs) && asked.is(1, 1, alone))
 }
 
 #[test]
 fn outer_joins_in_place_ask_for_new_pairs_first(rt: HostRuntime) -> Result<(), Fail> {
-    let right = map_of(rt.alloc(), 'b', &[(2, 5), (3, 7)])?;
-    let asked = Asked::new();
-    let map = outer_sums(rt.alloc(), &right, 1, &asked)?;
-    assert!(rt; is_map(&map, &[(2, 'a', 25), (3, 'b', 7)]));
-    assert!(rt; asked.is(1, 1, 1));
-    let right = map_of(rt.alloc(), 'b', &[(0, 4), (2, 5), (3, 7)])?;
-    let asked = Asked::new();
-    let map = outer_sums(rt.alloc(), &right, 2, &asked)?;
-    assert!(rt; is_map(&map, &[(0, 'b', 4), (2, 'a', 25), (3, 'b', 7)]));
-    assert!(rt; asked.is(1, 1, 2));
+    let two = is_outer(
+        rt.alloc(),
+        &[(2, 5), (3, 7)],
+        1,
+        &[(2, 'a', 25), (3, 'b', 7)],
+    )?;
+    assert!(rt; two);
+    let three = is_outer(
+        rt.alloc(),
+        &[(0, 4), (2, 5), (3, 7)],
+        2,
+        &[(0, 'b', 4), (2, 'a', 25), (3, 'b', 7)],
+    )?;
+    assert!(rt; three);
     Ok(())
 }

@@ -25,11 +25,15 @@ fn build(alloc: Global) -> Result<([usize; 2], Vec<u32>), AllocError> {
     Ok(([none, one], both.finish()))
 }
 
+/// Whether that built what was worked out, with as much room on the way.
+fn is_built(alloc: Global) -> Result<bool, AllocError> {
+    let (rooms, built) = build(alloc)?;
+    Ok(rooms == [0, 1] && built.as_slice() == [1, 2, 20, 21, 22, 3, 60].as_slice())
+}
+
 #[test]
 fn builds_in_front_of_what_is_left(rt: HostRuntime) -> Result<(), Fail> {
-    let (rooms, built) = build(rt.alloc())?;
-    assert_eq!(rt; rooms, [0, 1]);
-    assert!(rt; built.as_slice() == [1, 2, 20, 21, 22, 3, 60].as_slice());
+    assert!(rt; is_built(rt.alloc())?);
     Ok(())
 }
 
@@ -62,13 +66,18 @@ fn build_small(list: &mut SmallVec<u32, 2>) -> Result<bool, AllocError> {
     Ok(is_empty)
 }
 
-#[test]
-fn goes_from_a_small_list_and_back(rt: HostRuntime) -> Result<(), Fail> {
-    let mut list: SmallVec<u32, 2> = SmallVec::new(rt.alloc());
+/// Whether 2 is built between 1 and 3 in a small list, which is empty meanwhile.
+fn builds_small(alloc: Global) -> Result<bool, AllocError> {
+    let mut list: SmallVec<u32, 2> = SmallVec::new(alloc);
     list.push(1)?;
     list.push(3)?;
-    assert!(rt; build_small(&mut list)?);
-    assert!(rt; list.as_slice() == [1, 2, 3].as_slice());
+    let is_empty = build_small(&mut list)?;
+    Ok(is_empty && list.as_slice() == [1, 2, 3].as_slice())
+}
+
+#[test]
+fn goes_from_a_small_list_and_back(rt: HostRuntime) -> Result<(), Fail> {
+    assert!(rt; builds_small(rt.alloc())?);
     Ok(())
 }
 
@@ -81,13 +90,14 @@ fn clones(alloc: Global, counted: &Rc<u32>, number: u32) -> Result<Vec<Rc<u32>>,
     Ok(list)
 }
 
-/// How many hold a count while a builder of a list of its clones drops one, before and after, and once it has finished.
+/// How many hold a count while a builder of a list of its clones drops one, before and after, and once it has finished, and how long
+/// the list is then.
 fn drop_in_builder(
     counted: &Rc<u32>,
     mut list: Vec<Rc<u32>>,
-) -> Result<([usize; 3], Vec<Rc<u32>>), AllocError> {
+) -> Result<([usize; 3], usize), AllocError> {
     if list.len() < 2 {
-        return Ok(([0; 3], list));
+        return Ok(([0; 3], 0));
     }
     let mut both = InPlace::new(&mut list, 1)?;
     both.take(1);
@@ -95,15 +105,19 @@ fn drop_in_builder(
     both.drop_front(1);
     let after = Rc::strong_count(counted);
     let built = both.finish();
-    Ok(([before, after, Rc::strong_count(counted)], built))
+    Ok(([before, after, Rc::strong_count(counted)], built.len()))
+}
+
+/// The same with a list of four.
+fn drop_of_four(alloc: Global) -> Result<([usize; 3], usize), AllocError> {
+    let counted = Rc::new(alloc, 0)?;
+    let list = clones(alloc, &counted, 4)?;
+    drop_in_builder(&counted, list)
 }
 
 #[test]
 fn drops_each_element_once(rt: HostRuntime) -> Result<(), Fail> {
-    let counted = Rc::new(rt.alloc(), 0)?;
-    let (holders, built) = drop_in_builder(&counted, clones(rt.alloc(), &counted, 4)?)?;
-    assert_eq!(rt; holders, [5, 4, 2]);
-    assert_eq!(rt; built.len(), 1);
+    assert_eq!(rt; drop_of_four(rt.alloc())?, ([5, 4, 2], 1));
     Ok(())
 }
 
@@ -120,13 +134,25 @@ fn drop_early(counted: &Rc<u32>, mut list: Vec<Rc<u32>>) -> Result<[usize; 2], A
     Ok([before, Rc::strong_count(counted)])
 }
 
+/// The same with a list of three.
+fn drop_three_early(alloc: Global) -> Result<[usize; 2], AllocError> {
+    let counted = Rc::new(alloc, 0)?;
+    let list = clones(alloc, &counted, 3)?;
+    drop_early(&counted, list)
+}
+
 #[test]
 fn drops_each_element_once_where_it_is_dropped_early(rt: HostRuntime) -> Result<(), Fail> {
-    let counted = Rc::new(rt.alloc(), 0)?;
-    let holders = drop_early(&counted, clones(rt.alloc(), &counted, 3)?)?;
-    assert_eq!(rt; holders, [5, 1]);
+    assert_eq!(rt; drop_three_early(rt.alloc())?, [5, 1]);
     Ok(())
 }
+
+/// Each request that is refused, whether the builder is made then, and whether the request had come: there are two.
+const REFUSED: [(u64, (bool, bool)); 3] = [
+    (1, (false, true)),
+    (2, (false, true)),
+    (3, (true, false)),
+];
 
 /// Builds in a list of eight numbers with three extra places, where the request of that number is refused. Says whether
 /// the builder was made, and whether that request had come once it was finished.
@@ -147,9 +173,9 @@ fn finish(memory: &Nth<Global>, number: u64) -> Result<(bool, bool), AllocError>
 #[test]
 fn takes_memory_twice_and_at_the_start(rt: HostRuntime) -> Result<(), Fail> {
     let memory = Nth::new(rt.alloc(), 0);
-    assert_eq!(rt; finish(&memory, 1)?, (false, true));
-    assert_eq!(rt; finish(&memory, 2)?, (false, true));
-    assert_eq!(rt; finish(&memory, 3)?, (true, false));
+    for (number, outcome) in REFUSED {
+        assert!(rt; finish(&memory, number)? == outcome, "{number}");
+    }
     Ok(())
 }
 
@@ -170,8 +196,8 @@ fn open_in_place(memory: &Nth<Global>, number: u64) -> Result<(bool, bool), Allo
 #[test]
 fn takes_no_memory_for_the_way_from_a_list_in_place(rt: HostRuntime) -> Result<(), Fail> {
     let memory = Nth::new(rt.alloc(), 0);
-    assert_eq!(rt; open_in_place(&memory, 1)?, (false, true));
-    assert_eq!(rt; open_in_place(&memory, 2)?, (false, true));
-    assert_eq!(rt; open_in_place(&memory, 3)?, (true, false));
+    for (number, outcome) in REFUSED {
+        assert!(rt; open_in_place(&memory, number)? == outcome, "{number}");
+    }
     Ok(())
 }

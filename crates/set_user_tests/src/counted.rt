@@ -189,7 +189,17 @@ fn all_agree<'s, 'a>(
     Ok(agree)
 }
 
-/// Whether it holds of a short and a long list in both orders.
+/// Whether it holds of two sets in both orders.
+fn both_agree<'s, 'a>(
+    short: &'s Compareds<'a>,
+    long: &'s Compareds<'a>,
+    bound: u128,
+    count: &'a Cell<u128>,
+) -> Result<bool, AllocError> {
+    Ok(all_agree(short, long, bound, count)? && all_agree(long, short, bound, count)?)
+}
+
+/// Whether it holds of a short and a long list.
 fn lengths_agree<'a>(
     alloc: Global,
     place: Place,
@@ -198,7 +208,7 @@ fn lengths_agree<'a>(
 ) -> Result<bool, AllocError> {
     let short = short_set(alloc, place, few, many, count)?;
     let long = short_set(alloc, Place::Among, many, many, count)?;
-    Ok(all_agree(&short, &long, bound, count)? && all_agree(&long, &short, bound, count)?)
+    both_agree(&short, &long, bound, count)
 }
 
 #[test]

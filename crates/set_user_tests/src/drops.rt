@@ -59,12 +59,12 @@ fn three(alloc: Global, first: u32) -> Result<[Shared; 3], AllocError> {
 }
 
 /// The set of the numbers of shares.
-fn set_of<'a>(
+fn set_of<'a, const N: usize>(
     memory: &'a Memory,
-    shares: &[Shared; 3],
+    shares: &[Shared],
     refuses: bool,
-) -> Result<Set<'a>, AllocError> {
-    let mut set = Set::empty(memory);
+) -> Result<VecSet<Held, N, &'a Memory>, AllocError> {
+    let mut set = VecSet::empty(memory);
     for share in shares {
         set.insert(hold(share, refuses)?)?;
     }
@@ -157,8 +157,8 @@ fn try_change(
     right_refuses: bool,
     number: u64,
 ) -> Result<(bool, [usize; 6]), AllocError> {
-    let mut left = set_of(memory, &six.left, true)?;
-    let right = set_of(memory, &six.right, right_refuses)?;
+    let mut left = set_of(memory, six.left.as_slice(), true)?;
+    let right = set_of(memory, six.right.as_slice(), right_refuses)?;
     memory.refuse_two(number);
     let is_made = change.make(&mut left, right).is_ok();
     memory.refuse_two(0);
@@ -184,6 +184,21 @@ fn is_dropped_once(
     Ok(is_right && six.holders() == ALONE)
 }
 
+/// Whether that holds where each request is refused.
+fn is_always_dropped_once(
+    six: &Six,
+    memory: &Memory,
+    row: (Change, [usize; 6]),
+    right_refuses: bool,
+) -> Result<bool, AllocError> {
+    for number in 0..LIMIT {
+        if !is_dropped_once(six, memory, row, right_refuses, number)? {
+            return Ok(false);
+        }
+    }
+    Ok(true)
+}
+
 #[test]
 fn changes_drop_each_element_once_and_clone_none_that_they_keep(
     rt: HostRuntime,
@@ -191,12 +206,14 @@ fn changes_drop_each_element_once_and_clone_none_that_they_keep(
     let six = Six::new(rt.alloc())?;
     let memory = Nth::new(Nth::new(rt.alloc(), 0), 0);
     for row in CHANGES {
-        for right_refuses in [false, true] {
-            for number in 0..LIMIT {
-                let is_right = is_dropped_once(&six, &memory, row, right_refuses, number)?;
-                assert!(rt; is_right, "{row:?} at {number}");
-            }
-        }
+        assert!(rt;
+            is_always_dropped_once(&six, &memory, row, false)?,
+            "{row:?}"
+        );
+        assert!(rt;
+            is_always_dropped_once(&six, &memory, row, true)?,
+            "{row:?}"
+        );
     }
     Ok(())
 }
@@ -243,13 +260,10 @@ impl Taking {
 
 /// Inserts into a full set.
 fn insert(memory: &Memory, six: &Six, number: u64) -> Result<(), AllocError> {
-    let mut set = Set::empty(memory);
-    for share in &six.left {
-        if set.len() == 2 {
-            memory.refuse_two(number);
-        }
-        set.insert(hold(share, true)?)?;
-    }
+    let mut set: Set<'_> = set_of(memory, &six.left[..2], true)?;
+    let [_, _, last] = &six.left;
+    memory.refuse_two(number);
+    set.insert(hold(last, true)?)?;
     Ok(())
 }
 
@@ -282,7 +296,8 @@ fn from_vec(alloc: Global, memory: &Memory, six: &Six, number: u64) -> Result<()
 
 /// Makes a set of an iterator.
 fn from_iter(memory: &Memory, six: &Six, number: u64) -> Result<(), AllocError> {
-    let elements = set_of(memory, &six.left, true)?.into_iter();
+    let set: Set<'_> = set_of(memory, six.left.as_slice(), true)?;
+    let elements = set.into_iter();
     memory.refuse_two(number);
     let _set = Set::from_iter(memory, elements)?;
     Ok(())
@@ -312,13 +327,17 @@ fn from_btree_set(
 
 /// Makes a list of a set in place.
 fn into_vec(memory: &Memory, six: &Six, number: u64) -> Result<(), AllocError> {
-    let mut set: VecSet<Held, 4, &Memory> = VecSet::empty(memory);
-    for share in &six.left {
-        set.insert(hold(share, true)?)?;
-    }
+    let set: VecSet<Held, 4, &Memory> = set_of(memory, six.left.as_slice(), true)?;
     memory.refuse_two(number);
     let _list = set.into_vec()?;
     Ok(())
+}
+
+/// Makes the call so, and says whether it was refused where it asks alone, and each element is dropped once.
+fn takes(alloc: Global, memory: &Memory, six: &Six, call: Taking, number: u64) -> bool {
+    let is_made = call.make(alloc, memory, six, number).is_ok();
+    memory.refuse_two(0);
+    is_made == (number != 1) && six.holders() == ALONE
 }
 
 #[test]
@@ -327,10 +346,10 @@ fn refused_calls_drop_what_they_took_once(rt: HostRuntime) -> Result<(), Fail> {
     let memory = Nth::new(Nth::new(rt.alloc(), 0), 0);
     for call in TAKING {
         for number in 0..LIMIT {
-            let is_made = call.make(rt.alloc(), &memory, &six, number).is_ok();
-            memory.refuse_two(0);
-            let is_right = is_made == (number != 1) && six.holders() == ALONE;
-            assert!(rt; is_right, "{call:?} at {number}");
+            assert!(rt;
+                takes(rt.alloc(), &memory, &six, call, number),
+                "{call:?} at {number}"
+            );
         }
     }
     Ok(())
@@ -365,26 +384,36 @@ fn take_first(six: &Six, set: Set<'_>) -> ([usize; 6], [usize; 6]) {
     (left, six.holders())
 }
 
+/// The holders after a number was inserted again and removed, after the set kept its first element, and after the number came again.
+fn change_one(six: &Six, set: &mut Set<'_>) -> Result<[[usize; 6]; 4], AllocError> {
+    let inserted = insert_again(six, set)?;
+    let removed = remove(six, set)?;
+    let kept = keep_first(six, set);
+    Ok([inserted, removed, kept, insert_again(six, set)?])
+}
+
+/// Those holders, and those after that set was taken apart.
+fn let_go(six: &Six, memory: &Memory) -> Result<[[usize; 6]; 6], AllocError> {
+    let mut set: Set<'_> = set_of(memory, six.left.as_slice(), true)?;
+    let [inserted, removed, kept, again] = change_one(six, &mut set)?;
+    let (left, ended) = take_first(six, set);
+    Ok([inserted, removed, kept, again, left, ended])
+}
+
+/// What they are to be.
+const LET_GO: [[usize; 6]; 6] = [
+    [2, 1, 2, 2, 1, 1],
+    [2, 1, 2, 1, 1, 1],
+    [2, 1, 1, 1, 1, 1],
+    [2, 1, 1, 2, 1, 1],
+    [1, 1, 1, 2, 1, 1],
+    ALONE,
+];
+
 #[test]
 fn elements_that_go_are_dropped(rt: HostRuntime) -> Result<(), Fail> {
     let six = Six::new(rt.alloc())?;
     let memory = Nth::new(Nth::new(rt.alloc(), 0), 0);
-    let mut set = set_of(&memory, &six.left, true)?;
-    let inserted = insert_again(&six, &mut set)?;
-    let removed = remove(&six, &mut set)?;
-    let kept = keep_first(&six, &mut set);
-    let again = insert_again(&six, &mut set)?;
-    let (left, ended) = take_first(&six, set);
-    assert_eq!(rt;
-        [inserted, removed, kept, again, left, ended],
-        [
-            [2, 1, 2, 2, 1, 1],
-            [2, 1, 2, 1, 1, 1],
-            [2, 1, 1, 1, 1, 1],
-            [2, 1, 1, 2, 1, 1],
-            [1, 1, 1, 2, 1, 1],
-            ALONE,
-        ]
-    );
+    assert_eq!(rt; let_go(&six, &memory)?, LET_GO);
     Ok(())
 }

@@ -6,7 +6,8 @@
 #[cfg(test)]
 mod builder;
 pub mod compared;
-pub mod contracts;
+#[cfg(test)]
+mod contracts;
 #[cfg(test)]
 mod counted;
 #[cfg(test)]

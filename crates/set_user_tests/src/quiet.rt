@@ -22,15 +22,6 @@ enum Read {
     Walk,
 }
 
-const READS: [Read; 6] = [
-    Read::Look,
-    Read::Test,
-    Read::TestCounted,
-    Read::Compare,
-    Read::Hash,
-    Read::Walk,
-];
-
 /// Calls that change a set, and take no memory.
 #[derive(Clone, Copy, Debug)]
 enum Change {
@@ -43,16 +34,6 @@ enum Change {
     MinusAssignReference,
 }
 
-const CHANGES: [Change; 7] = [
-    Change::Remove,
-    Change::Retain,
-    Change::InsertKnown,
-    Change::IntersectionWith,
-    Change::DifferenceWith,
-    Change::AndAssignReference,
-    Change::MinusAssignReference,
-];
-
 /// Calls that take a set over, and take no memory.
 #[derive(Clone, Copy, Debug)]
 enum Take {
@@ -62,11 +43,32 @@ enum Take {
     MinusAssign,
 }
 
-const TAKES: [Take; 4] = [
-    Take::Hand,
-    Take::IntoList,
-    Take::AndAssign,
-    Take::MinusAssign,
+/// Calls that take no memory.
+#[derive(Clone, Copy, Debug)]
+enum Call {
+    Read(Read),
+    Change(Change),
+    Take(Take),
+}
+
+const CALLS: [Call; 17] = [
+    Call::Read(Read::Look),
+    Call::Read(Read::Test),
+    Call::Read(Read::TestCounted),
+    Call::Read(Read::Compare),
+    Call::Read(Read::Hash),
+    Call::Read(Read::Walk),
+    Call::Change(Change::Remove),
+    Call::Change(Change::Retain),
+    Call::Change(Change::InsertKnown),
+    Call::Change(Change::IntersectionWith),
+    Call::Change(Change::DifferenceWith),
+    Call::Change(Change::AndAssignReference),
+    Call::Change(Change::MinusAssignReference),
+    Call::Take(Take::Hand),
+    Call::Take(Take::IntoList),
+    Call::Take(Take::AndAssign),
+    Call::Take(Take::MinusAssign),
 ];
 
 /// Sets that stand in place, and sets that do not.
@@ -117,6 +119,17 @@ impl Take {
             Take::IntoList => into_lists(left, right),
             Take::AndAssign => left &= right,
             Take::MinusAssign => left -= right,
+        }
+    }
+}
+
+impl Call {
+    /// Makes the calls on a set that has an element, and on another one.
+    fn make<'a>(self, mut left: Numbers<'a>, right: Numbers<'a>) {
+        match self {
+            Call::Read(read) => read.make(&left, &right),
+            Call::Change(change) => change.make(&mut left, &right),
+            Call::Take(take) => take.make(left, right),
         }
     }
 }
@@ -184,66 +197,26 @@ fn make_in_place(memory: &Nth<Global>) {
 }
 
 /// The set of the numbers of a list.
-fn numbers<'a>(memory: &'a Nth<Global>, list: &[u32]) -> Result<Numbers<'a>, AllocError> {
-    let mut set = Numbers::empty(memory);
+fn set_of<'a, const N: usize>(
+    memory: &'a Nth<Global>,
+    list: &[u32],
+) -> Result<VecSet<u32, N, &'a Nth<Global>>, AllocError> {
+    let mut set = VecSet::empty(memory);
     for number in list {
         set.insert(*number)?;
     }
     Ok(set)
 }
 
-#[test]
-fn reads_ask_for_no_memory(rt: HostRuntime) -> Result<(), Fail> {
-    let memory = Nth::new(rt.alloc(), 0);
-    for (left, right) in LISTS {
-        let left = numbers(&memory, left)?;
-        let right = numbers(&memory, right)?;
-        memory.refuse(1);
-        for call in READS {
-            call.make(&left, &right);
-            assert!(rt; !memory.is_done(), "{call:?}");
-        }
-        memory.refuse(0);
-    }
-    Ok(())
-}
-
-/// Whether a change makes no request.
-fn changes_quietly(
+/// Whether calls make no request.
+fn is_quiet(
     memory: &Nth<Global>,
-    call: Change,
+    call: Call,
     left: &[u32],
     right: &[u32],
 ) -> Result<bool, AllocError> {
-    let mut left = numbers(memory, left)?;
-    let right = numbers(memory, right)?;
-    memory.refuse(1);
-    call.make(&mut left, &right);
-    let is_quiet = !memory.is_done();
-    memory.refuse(0);
-    Ok(is_quiet)
-}
-
-#[test]
-fn changes_ask_for_no_memory(rt: HostRuntime) -> Result<(), Fail> {
-    let memory = Nth::new(rt.alloc(), 0);
-    for call in CHANGES {
-        for (left, right) in LISTS {
-            assert!(rt; changes_quietly(&memory, call, left, right)?, "{call:?}");
-        }
-    }
-    Ok(())
-}
-
-/// Whether a call that takes a set over makes no request.
-fn takes_quietly(
-    memory: &Nth<Global>,
-    call: Take,
-    left: &[u32],
-    right: &[u32],
-) -> Result<bool, AllocError> {
-    let left = numbers(memory, left)?;
-    let right = numbers(memory, right)?;
+    let left = set_of(memory, left)?;
+    let right = set_of(memory, right)?;
     memory.refuse(1);
     call.make(left, right);
     let is_quiet = !memory.is_done();
@@ -252,11 +225,11 @@ fn takes_quietly(
 }
 
 #[test]
-fn sets_that_are_taken_over_ask_for_no_memory(rt: HostRuntime) -> Result<(), Fail> {
+fn calls_that_need_no_memory_ask_for_none(rt: HostRuntime) -> Result<(), Fail> {
     let memory = Nth::new(rt.alloc(), 0);
-    for call in TAKES {
+    for call in CALLS {
         for (left, right) in LISTS {
-            assert!(rt; takes_quietly(&memory, call, left, right)?, "{call:?}");
+            assert!(rt; is_quiet(&memory, call, left, right)?, "{call:?}");
         }
     }
     Ok(())
@@ -295,15 +268,6 @@ impl Join {
     }
 }
 
-/// The set of the numbers of an ascending list.
-fn four<'a>(memory: &'a Nth<Global>, list: &[u32]) -> Result<Four<'a>, AllocError> {
-    let mut set = Four::empty(memory);
-    for number in list {
-        set.insert(*number)?;
-    }
-    Ok(set)
-}
-
 const JOINS: [Join; 5] = [
     Join::UnionWith,
     Join::XorWith,
@@ -331,8 +295,8 @@ fn asks_at_most(
     right: &[u32],
     most: u64,
 ) -> Result<bool, AllocError> {
-    let mut left = four(memory, left)?;
-    let right = four(memory, right)?;
+    let mut left: Four<'_> = set_of(memory, left)?;
+    let right = set_of(memory, right)?;
     memory.refuse(most.saturating_add(1));
     join.make(&mut left, right)?;
     let has_come = memory.is_done();

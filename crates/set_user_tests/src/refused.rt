@@ -155,6 +155,18 @@ impl Call {
                 | Call::Convert(Conversion::FromIter | Conversion::FromBtreeSet)
         )
     }
+
+    /// What becomes of it where it succeeds, by whether it is right, whether a request came that was refused, and whether the next one was
+    /// refused too.
+    fn outcome(self, is_right: bool, has_come: bool, with_next: bool) -> Outcome {
+        if !has_come && is_right {
+            Outcome::Ends
+        } else if is_right && self.has_hint() && !with_next {
+            Outcome::Stands
+        } else {
+            Outcome::Fails
+        }
+    }
 }
 
 /// What becomes of a call of which a request is refused.
@@ -410,17 +422,25 @@ impl<'a> Case<'a> {
     ) -> Result<Outcome, AllocError> {
         let mut left = self.set(Which::Left)?;
         let (has_come, answer) = self.make_refused(call, number, with_next, &mut left, right)?;
-        let (outcome, is_right) = match answer {
-            Ok(is_right) if has_come => {
-                (Outcome::Stands, is_right && call.has_hint() && !with_next)
-            }
-            Ok(is_right) => (Outcome::Ends, is_right),
-            Err(_) => (
-                Outcome::Stands,
-                has_come && self.stands(call, &mut left, right)?,
-            ),
-        };
-        Ok(if is_right { outcome } else { Outcome::Fails })
+        match answer {
+            Ok(is_right) => Ok(call.outcome(is_right, has_come, with_next)),
+            Err(_) => self.outcome_of_refused(call, has_come, &mut left, right),
+        }
+    }
+
+    /// What becomes of it where it was refused.
+    fn outcome_of_refused<const N: usize>(
+        self,
+        call: Call,
+        has_come: bool,
+        left: &mut Numbers<'a, N>,
+        right: &Numbers<'a, N>,
+    ) -> Result<Outcome, AllocError> {
+        Ok(if has_come && self.stands(call, left, right)? {
+            Outcome::Stands
+        } else {
+            Outcome::Fails
+        })
     }
 
     /// Refuses each request of the call in turn, alone or with the next one. Says whether there was one, or nothing where a call is not as
@@ -442,16 +462,17 @@ impl<'a> Case<'a> {
     }
 
     /// Refuses each request of the call at each size of sets.
-    fn is_refused_at_sizes(
-        self,
-        call: Call,
-        with_next: bool,
-    ) -> Result<[Option<bool>; 3], AllocError> {
-        Ok([
-            self.is_refused(call, with_next, self.set::<0>(Which::Right)?)?,
-            self.is_refused(call, with_next, self.set::<1>(Which::Right)?)?,
-            self.is_refused(call, with_next, self.set::<2>(Which::Right)?)?,
-        ])
+    fn is_refused_at_sizes(self, call: Call, with_next: bool) -> Result<Option<bool>, AllocError> {
+        let none = self.is_refused(call, with_next, self.set::<0>(Which::Right)?)?;
+        let one = self.is_refused(call, with_next, self.set::<1>(Which::Right)?)?;
+        let two = self.is_refused(call, with_next, self.set::<2>(Which::Right)?)?;
+        Ok(any_refused([none, one, two]))
+    }
+
+    /// Gives back the room that a set with the left numbers does not need, and says whether it has them still.
+    fn shrink<const N: usize>(self, set: &mut Numbers<'a, N>) -> Result<bool, AllocError> {
+        set.shrink_to_fit()?;
+        Ok(self.lists(Which::Left, set.as_ref()))
     }
 
     /// Refuses the request of a set with too much room that shrinks. Says whether there was one, or nothing where the set is not as it
@@ -459,12 +480,10 @@ impl<'a> Case<'a> {
     fn shrinks<const N: usize>(self, mut set: Numbers<'a, N>) -> Result<Option<bool>, AllocError> {
         set.retain(|number| self.has(Which::Left, *number));
         self.memory.refuse(1);
-        set.shrink_to_fit()?;
+        let is_right = self.shrink(&mut set)?;
         let has_come = self.memory.is_done();
         self.memory.refuse(0);
-        let is_right = self.lists(Which::Left, set.as_ref());
-        set.shrink_to_fit()?;
-        let is_same = self.lists(Which::Left, set.as_ref());
+        let is_same = self.shrink(&mut set)?;
         Ok(if is_right && is_same {
             Some(has_come)
         } else {
@@ -473,13 +492,12 @@ impl<'a> Case<'a> {
     }
 
     /// Refuses the request of a set that shrinks at each size.
-    fn shrinks_at_sizes(self) -> Result<[Option<bool>; 3], AllocError> {
+    fn shrinks_at_sizes(self) -> Result<Option<bool>, AllocError> {
         let which = Which::Made(Operation::Union);
-        Ok([
-            self.shrinks(self.set::<0>(which)?)?,
-            self.shrinks(self.set::<1>(which)?)?,
-            self.shrinks(self.set::<2>(which)?)?,
-        ])
+        let none = self.shrinks(self.set::<0>(which)?)?;
+        let one = self.shrinks(self.set::<1>(which)?)?;
+        let two = self.shrinks(self.set::<2>(which)?)?;
+        Ok(any_refused([none, one, two]))
     }
 }
 
@@ -532,8 +550,13 @@ fn any_refused(answers: [Option<bool>; 3]) -> Option<bool> {
     Some(none? | one? | two?)
 }
 
-/// Refuses each request of the call, at all lengths and sizes, and sees that there was one.
-fn refuse(rt: &impl Abort, alloc: Global, call: Call, with_next: bool) -> Result<(), AllocError> {
+/// Refuses each request of the call, at all lengths and sizes, alone or with the next one, and sees that there was one.
+fn refuse_requests(
+    rt: &impl Abort,
+    alloc: Global,
+    call: Call,
+    with_next: bool,
+) -> Result<(), AllocError> {
     let memory = Nth::new(Nth::new(alloc, 0), 0);
     let mut is_refused = false;
     for left in LENGTHS {
@@ -544,7 +567,7 @@ fn refuse(rt: &impl Abort, alloc: Global, call: Call, with_next: bool) -> Result
                 left,
                 right,
             };
-            let answer = any_refused(case.is_refused_at_sizes(call, with_next)?);
+            let answer = case.is_refused_at_sizes(call, with_next)?;
             assert!(rt; answer.is_some(), "{call:?} at {left} and {right}");
             is_refused |= answer == Some(true);
         }
@@ -553,11 +576,16 @@ fn refuse(rt: &impl Abort, alloc: Global, call: Call, with_next: bool) -> Result
     Ok(())
 }
 
+/// Refuses each request of the call, alone and with the next one.
+fn refuse(rt: &impl Abort, alloc: Global, call: Call) -> Result<(), AllocError> {
+    refuse_requests(rt, alloc, call, false)?;
+    refuse_requests(rt, alloc, call, true)
+}
+
 #[test]
 fn refused_inserts_leave_the_set(rt: HostRuntime) -> Result<(), Fail> {
     for place in PLACES {
-        refuse(&rt, rt.alloc(), Call::Insert(place), false)?;
-        refuse(&rt, rt.alloc(), Call::Insert(place), true)?;
+        refuse(&rt, rt.alloc(), Call::Insert(place))?;
     }
     Ok(())
 }
@@ -565,8 +593,7 @@ fn refused_inserts_leave_the_set(rt: HostRuntime) -> Result<(), Fail> {
 #[test]
 fn refused_changes_leave_the_set(rt: HostRuntime) -> Result<(), Fail> {
     for change in CHANGES {
-        refuse(&rt, rt.alloc(), Call::Change(change), false)?;
-        refuse(&rt, rt.alloc(), Call::Change(change), true)?;
+        refuse(&rt, rt.alloc(), Call::Change(change))?;
     }
     Ok(())
 }
@@ -575,8 +602,7 @@ fn refused_changes_leave_the_set(rt: HostRuntime) -> Result<(), Fail> {
 fn refused_operations_leave_the_sets(rt: HostRuntime) -> Result<(), Fail> {
     for way in WAYS {
         for operation in OPERATIONS {
-            refuse(&rt, rt.alloc(), Call::Make(way, operation), false)?;
-            refuse(&rt, rt.alloc(), Call::Make(way, operation), true)?;
+            refuse(&rt, rt.alloc(), Call::Make(way, operation))?;
         }
     }
     Ok(())
@@ -585,11 +611,9 @@ fn refused_operations_leave_the_sets(rt: HostRuntime) -> Result<(), Fail> {
 #[test]
 fn refused_conversions_leave_the_sets(rt: HostRuntime) -> Result<(), Fail> {
     for conversion in CONVERSIONS {
-        refuse(&rt, rt.alloc(), Call::Convert(conversion), false)?;
-        refuse(&rt, rt.alloc(), Call::Convert(conversion), true)?;
+        refuse(&rt, rt.alloc(), Call::Convert(conversion))?;
     }
-    refuse(&rt, rt.alloc(), Call::IntoVec, false)?;
-    refuse(&rt, rt.alloc(), Call::IntoVec, true)?;
+    refuse(&rt, rt.alloc(), Call::IntoVec)?;
     Ok(())
 }
 
@@ -604,7 +628,7 @@ fn a_set_that_is_refused_still_shrinks(rt: HostRuntime) -> Result<(), Fail> {
             left,
             right: 8,
         };
-        let answer = any_refused(case.shrinks_at_sizes()?);
+        let answer = case.shrinks_at_sizes()?;
         assert!(rt; answer.is_some(), "at {left}");
         is_refused |= answer == Some(true);
     }

@@ -129,41 +129,73 @@ fn has(map: &Numbers, listed: Listed) -> bool {
         })
 }
 
+/// Whether what was made has them.
+fn is(made: Numbers, listed: Listed) -> bool {
+    has(&made, listed)
+}
+
+/// An operator.
+#[derive(Clone, Copy)]
+enum Operator {
+    Plus,
+    Minus,
+    Times,
+    Over,
+}
+
+/// What the operator makes of clones of the maps.
+fn computed(left: &Numbers, right: &Numbers, operator: Operator) -> Result<Numbers, AllocError> {
+    let left = left.clone()?;
+    let right = right.clone()?;
+    match operator {
+        Operator::Plus => left + right,
+        Operator::Minus => left - right,
+        Operator::Times => left * right,
+        Operator::Over => left / right,
+    }
+}
+
 /// Whether arithmetic makes of the maps what the row says.
 fn computes(left: &Numbers, right: &Numbers, row: &Row) -> Result<bool, AllocError> {
-    let sum = (left.clone()? + right.clone()?)?;
-    let difference = (left.clone()? - right.clone()?)?;
-    let product = (left.clone()? * right.clone()?)?;
-    let quotient = (left.clone()? / right.clone()?)?;
     Ok(
-        has(&sum, row.sum)
-            && has(&difference, row.difference)
-            && has(&product, row.product)
-            && has(&quotient, row.quotient),
+        is(computed(left, right, Operator::Plus)?, row.sum)
+            && is(computed(left, right, Operator::Minus)?, row.difference)
+            && is(computed(left, right, Operator::Times)?, row.product)
+            && is(computed(left, right, Operator::Over)?, row.quotient),
     )
 }
 
 /// Whether the bounds of the maps are what the row says.
 fn bounds(left: &Numbers, right: &Numbers, row: &Row) -> Result<bool, AllocError> {
-    Ok(has(&left.supremum(right)?, row.supremum) && has(&left.infimum(right)?, row.infimum))
+    Ok(is(left.supremum(right)?, row.supremum) && is(left.infimum(right)?, row.infimum))
+}
+
+/// The signs of the values of a map.
+fn signs(map: &Numbers) -> Result<Numbers, AllocError> {
+    map.map_values(|value: &Number| Ok(Number(value.0.signum())))
 }
 
 /// Whether the opposite of the map and the signs of its values are what the row says.
 fn changes(map: &Numbers, row: &Row) -> Result<bool, AllocError> {
-    let opposite = (-map.clone()?)?;
-    let signs: Numbers = map.map_values(|value: &Number| Ok(Number(value.0.signum())))?;
-    Ok(has(&opposite, row.opposite) && has(&signs, row.signs))
+    Ok(is((-map.clone()?)?, row.opposite) && is(signs(map)?, row.signs))
+}
+
+/// Whether all of that is as the row says.
+fn all_agree(left: &Numbers, right: &Numbers, row: &Row) -> Result<bool, AllocError> {
+    Ok(computes(left, right, row)? && bounds(left, right, row)? && changes(left, row)?)
+}
+
+/// Whether all of that is as the row says of its maps.
+fn agrees(alloc: Global, row: &Row) -> Result<bool, AllocError> {
+    let left = numbers(alloc, row.left)?;
+    let right = numbers(alloc, row.right)?;
+    all_agree(&left, &right, row)
 }
 
 #[test]
 fn each_case_is_as_worked_out(rt: HostRuntime) -> Result<(), Fail> {
     for row in &ROWS {
-        let left = numbers(rt.alloc(), row.left)?;
-        let right = numbers(rt.alloc(), row.right)?;
-        let at = (row.left, row.right);
-        assert!(rt; computes(&left, &right, row)?, "{at:?}");
-        assert!(rt; bounds(&left, &right, row)?, "{at:?}");
-        assert!(rt; changes(&left, row)?, "{at:?}");
+        assert!(rt; agrees(rt.alloc(), row)?, "{:?}", (row.left, row.right));
     }
     Ok(())
 }
@@ -175,31 +207,61 @@ fn hash_of(map: &Numbers) -> u64 {
     hasher.finish()
 }
 
+/// Whether a map of 4 to 7, and of all else to 1, is read as that, and is equal to its clone.
+fn is_read(map: &Numbers) -> Result<bool, AllocError> {
+    let is_shown = has(map, (1, &[(4, 7)])) && map[&4].0 == 7 && map[&2].0 == 1;
+    Ok(is_shown && map.clone()? == *map)
+}
+
+/// Whether the maps of 1 and of 2 alone are ordered by their values, which are not hashed.
+fn constants_compare(alloc: Global) -> bool {
+    let one = Numbers::constant(alloc, Number(1));
+    let two = Numbers::constant(alloc, Number(2));
+    one != two && one < two && hash_of(&one) == hash_of(&two)
+}
+
+/// Whether a map is printed so.
+fn is_printed(alloc: Global, map: &Numbers, text: &str) -> Result<bool, AllocError> {
+    let printed = format!(in alloc; "{map:?}")?;
+    Ok(printed.as_str() == text)
+}
+
+/// What a map of 4 to 7, and of all else to 1, is printed as.
+const PRINTED: &str = "TotalVecMap { values: {4: Number(7)}, default: Number(1) }";
+
 #[test]
 fn maps_are_read_and_compared(rt: HostRuntime) -> Result<(), Fail> {
     let map = numbers(rt.alloc(), (1, &[(2, 1), (4, 7)]))?;
-    assert!(rt; has(&map, (1, &[(4, 7)])));
-    assert!(rt; map[&4].0 == 7 && map[&2].0 == 1);
-    let one = Numbers::constant(rt.alloc(), Number(1));
-    let two = Numbers::constant(rt.alloc(), Number(2));
-    assert!(rt; one != two && one < two && hash_of(&one) == hash_of(&two));
-    assert_eq!(rt; map.clone()?, map);
-    let text = format!(in rt.alloc(); "{map:?}")?;
-    assert_eq!(rt;
-        text.as_str(),
-        "TotalVecMap { values: {4: Number(7)}, default: Number(1) }"
-    );
+    assert!(rt; is_read(&map)?);
+    assert!(rt; constants_compare(rt.alloc()));
+    assert!(rt; is_printed(rt.alloc(), &map, PRINTED)?);
     Ok(())
+}
+
+type Counts = TotalVecMap1<u32, u8>;
+
+/// Whether the maps of 0 and of 1 say that they are, and show it.
+fn units_agree(alloc: Global) -> bool {
+    let zero = Counts::zero(alloc);
+    let one = Counts::one(alloc);
+    zero.is_zero()
+        && !zero.is_one()
+        && zero[&3] == 0
+        && one.is_one()
+        && !one.is_zero()
+        && one[&3] == 1
+}
+
+/// Whether the least and the greatest map have the least and the greatest value.
+fn bounds_agree(alloc: Global) -> bool {
+    let least = Counts::min_value(alloc);
+    let most = Counts::max_value(alloc);
+    least == Counts::zero(alloc) && most[&3] == 255
 }
 
 #[test]
 fn maps_of_one_number(rt: HostRuntime) -> Result<(), Fail> {
-    type Counts = TotalVecMap1<u32, u8>;
-    let zero = Counts::zero(rt.alloc());
-    let one = Counts::one(rt.alloc());
-    assert!(rt; zero.is_zero() && !zero.is_one() && zero[&3] == 0);
-    assert!(rt; one.is_one() && !one.is_zero() && one[&3] == 1);
-    assert!(rt; Counts::min_value(rt.alloc()) == zero);
-    assert_eq!(rt; Counts::max_value(rt.alloc())[&3], 255);
+    assert!(rt; units_agree(rt.alloc()));
+    assert!(rt; bounds_agree(rt.alloc()));
     Ok(())
 }

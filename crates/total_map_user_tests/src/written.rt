@@ -16,14 +16,44 @@ fn doubles(alloc: Global) -> Result<Numbers, AllocError> {
     Ok(map)
 }
 
+/// The same map, written out.
+fn written(alloc: Global) -> Result<Numbers, AllocError> {
+    vecmap! {alloc; 1 => 2, 2 => 4, 3 => 6}
+}
+
+/// A map in which a key is written out twice.
+fn written_twice(alloc: Global) -> Result<Numbers, AllocError> {
+    vecmap! {alloc; 1 => 2, 1 => 3,}
+}
+
+/// Whether the map of no key that is written out is empty.
+fn none_is_empty(alloc: Global) -> Result<bool, AllocError> {
+    let none: Numbers = vecmap! {alloc;}?;
+    Ok(none.is_empty())
+}
+
+/// Whether a map that is written out is the map of doubles, and changes as that.
+fn is_doubles(mut map: Numbers, doubles: &Numbers) -> Result<bool, AllocError> {
+    let is_same = map == *doubles;
+    Ok(is_same && map.insert(2, 9)? == Some(4))
+}
+
+/// Whether the one that is written out is.
+fn is_written(alloc: Global) -> Result<bool, AllocError> {
+    let doubles = doubles(alloc)?;
+    is_doubles(written(alloc)?, &doubles)
+}
+
+/// Whether of a key that is written out twice the last value stands.
+fn last_stands(alloc: Global) -> Result<bool, AllocError> {
+    let map = written_twice(alloc)?;
+    Ok(map.as_ref() == [(1, 3)].as_slice())
+}
+
 #[test]
 fn maps_are_written_out(rt: HostRuntime) -> Result<(), Fail> {
-    let mut map: Numbers = vecmap! {rt.alloc(); 1 => 2, 2 => 4, 3 => 6}?;
-    assert_eq!(rt; map, doubles(rt.alloc())?);
-    assert_eq!(rt; map.insert(2, 9)?, Some(4));
-    let twice: Numbers = vecmap! {rt.alloc(); 1 => 2, 1 => 3,}?;
-    assert!(rt; twice.as_ref() == [(1, 3)].as_slice());
-    let none: Numbers = vecmap! {rt.alloc();}?;
-    assert!(rt; none.is_empty());
+    assert!(rt; is_written(rt.alloc())?);
+    assert!(rt; last_stands(rt.alloc())?);
+    assert!(rt; none_is_empty(rt.alloc())?);
     Ok(())
 }

@@ -156,33 +156,70 @@ fn make<'a>(
     }
 }
 
-/// Refuses each request of the call in turn, and says whether there was one. Refused, the call leaves the left set as it was, and then succeeds.
-fn is_refused<'a>(
-    rt: &impl Abort,
+/// Whether a call that was refused left the left set as it was, and then succeeds.
+fn stands<'a>(
     memory: &'a Nth<Global>,
     flags: Flags,
     call: Call,
-    unchanged: &Numbers<'a>,
+    left: &mut Numbers<'a>,
+) -> Result<bool, AllocError> {
+    let unchanged = numbers(memory, LISTS[0], flags.left)?;
+    let right = numbers(memory, LISTS[1], flags.right)?;
+    Ok(*left == unchanged && succeeds(flags, call, left, right)?)
+}
+
+/// Makes the call with its request of that number refused. Says whether that request came, or nothing where the call is not as it should
+/// be: one that is refused leaves the left set as it was, and then succeeds.
+fn comes(
+    memory: &Nth<Global>,
+    flags: Flags,
+    call: Call,
+    number: u64,
+) -> Result<Option<bool>, AllocError> {
+    let mut left = numbers(memory, LISTS[0], flags.left)?;
+    let right = numbers(memory, LISTS[1], flags.right)?;
+    memory.refuse(number);
+    let outcome = succeeds(flags, call, &mut left, right);
+    let has_come = memory.is_done();
+    memory.refuse(0);
+    let is_right = match outcome {
+        Ok(is_right) => is_right && !has_come,
+        Err(_) => has_come && stands(memory, flags, call, &mut left)?,
+    };
+    Ok(if is_right { Some(has_come) } else { None })
+}
+
+/// Refuses each request of the call in turn, and says whether there was one.
+fn is_refused(
+    rt: &impl Abort,
+    memory: &Nth<Global>,
+    flags: Flags,
+    call: Call,
 ) -> Result<bool, AllocError> {
     for number in 1..LIMIT {
-        let mut left = numbers(memory, LISTS[0], flags.left)?;
-        let right = numbers(memory, LISTS[1], flags.right)?;
-        memory.refuse(number);
-        let outcome = succeeds(flags, call, &mut left, right);
-        let has_come = memory.is_done();
-        memory.refuse(0);
-        if let Ok(is_right) = outcome {
-            assert!(rt; is_right && !has_come, "{call:?} at {flags:?}");
-            return Ok(1 < number);
+        match comes(memory, flags, call, number)? {
+            Some(true) => {}
+            Some(false) => return Ok(1 < number),
+            None => panic!(rt; "{call:?} at {flags:?}"),
         }
-        assert!(rt; has_come && left == *unchanged, "{call:?} at {flags:?}");
-        let right = numbers(memory, LISTS[1], flags.right)?;
-        assert!(rt;
-            succeeds(flags, call, &mut left, right)?,
-            "{call:?} at {flags:?}"
-        );
     }
     panic!(rt; "{call:?} makes too many requests")
+}
+
+/// Checks the call at these flags.
+fn check_at(
+    rt: &impl Abort,
+    memory: &Nth<Global>,
+    flags: Flags,
+    call: Call,
+) -> Result<(), AllocError> {
+    let is_refused = is_refused(rt, memory, flags, call)?;
+    let is_in_place = matches!(call, Call::Assign(_) | Call::Insert | Call::Remove);
+    assert!(rt;
+        !is_in_place || is_refused == flags.may_be_refused(call),
+        "{call:?} at {flags:?}"
+    );
+    Ok(())
 }
 
 /// Checks the call at all flags.
@@ -190,14 +227,7 @@ fn check(rt: &impl Abort, alloc: Global, call: Call) -> Result<(), AllocError> {
     let memory = Nth::new(alloc, 0);
     for left in [false, true] {
         for right in [false, true] {
-            let flags = Flags { left, right };
-            let unchanged = numbers(&memory, LISTS[0], left)?;
-            let is_refused = is_refused(rt, &memory, flags, call, &unchanged)?;
-            let is_in_place = matches!(call, Call::Assign(_) | Call::Insert | Call::Remove);
-            assert!(rt;
-                !is_in_place || is_refused == flags.may_be_refused(call),
-                "{call:?} at {flags:?}"
-            );
+            check_at(rt, &memory, Flags { left, right }, call)?;
         }
     }
     Ok(())

@@ -15,13 +15,36 @@ fn one_by_one(alloc: Global) -> Result<Numbers, AllocError> {
     Ok(set)
 }
 
+/// The same set, written out.
+fn ascending(alloc: Global) -> Result<Numbers, AllocError> {
+    vecset! {alloc; 1, 2, 3}
+}
+
+/// The same, in another order, and one number twice.
+fn in_other_order(alloc: Global) -> Result<Numbers, AllocError> {
+    vecset! {alloc; 3, 1, 2, 1,}
+}
+
+/// Whether what was made is the set.
+fn is_same(made: Numbers, set: &Numbers) -> bool {
+    made == *set
+}
+
+/// Whether sets that are written out are that of the numbers one by one.
+fn are_written(alloc: Global) -> Result<bool, AllocError> {
+    let set = one_by_one(alloc)?;
+    Ok(is_same(ascending(alloc)?, &set) && is_same(in_other_order(alloc)?, &set))
+}
+
+/// Whether the set of no number that is written out is empty.
+fn none_is_empty(alloc: Global) -> Result<bool, AllocError> {
+    let none: Numbers = vecset! {alloc;}?;
+    Ok(none.is_empty())
+}
+
 #[test]
 fn sets_are_written_out(rt: HostRuntime) -> Result<(), Fail> {
-    let ascending: Numbers = vecset! {rt.alloc(); 1, 2, 3}?;
-    assert_eq!(rt; ascending, one_by_one(rt.alloc())?);
-    let others: Numbers = vecset! {rt.alloc(); 3, 1, 2, 1,}?;
-    assert_eq!(rt; others, ascending);
-    let none: Numbers = vecset! {rt.alloc();}?;
-    assert!(rt; none.is_empty());
+    assert!(rt; are_written(rt.alloc())?);
+    assert!(rt; none_is_empty(rt.alloc())?);
     Ok(())
 }
