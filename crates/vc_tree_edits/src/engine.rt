@@ -1,6 +1,6 @@
 //! The one recursion of all changes of a tree by another tree, in place.
 
-ghost use Rattle.std.specs.Prelude.{◌≡◌, ◌<◌, ◌≤◌, ◌++◌, true, false, List, [], Option, None, IfOk, OnOk, drop, length, map, option_map};
+ghost use Rattle.std.specs.Prelude.{◌≡◌, ◌<◌, ◌≤◌, ◌++◌, ◌∷◌, true, false, List, [], Option, None, IfOk, OnOk, drop, length, map, option_map};
 ghost use Rattle.std.specs.List.{cons_option};
 ghost use Rattle.std.specs.Option.{option_copied};
 ghost use Rattle.std.specs.declared.cmp.Ordering.{Ordering};
@@ -14,7 +14,7 @@ ghost use Rattle.vc_tree_nodes.specs.Parting.{Agree};
 ghost use Rattle.vc_tree_combines.specs.Facing.{trees_below};
 ghost use Rattle.vc_tree_combines.specs.Made.{IsMade, IsMadeBy, IsBothMadeBy};
 ghost use Rattle.vc_tree_model.specs.Canonical.{AreChildren};
-ghost use Rattle.vc_tree_model.specs.Child.{solid_child};
+ghost use Rattle.vc_tree_model.specs.Child.{solid_child, value_at as node_value};
 ghost use Rattle.vc_tree_edits.specs.Taken.{IsMet, IsTaken, IsBegun, IsNext, IsAdded, IsFirstLong, IsStayed, IsCome};
 
 use crate::rows::Row;
@@ -193,12 +193,18 @@ fn take_list<K: TKey, V: TValue, T: Build<K, V>>(
     Ok(mem::replace(list, Vec::new(alloc)))
 }
 
-/// Takes out the first tree that is left.
-fn next<K: TKey, V: TValue, T: Build<K, V>, R: Row<K, V, T>>(row: &mut R) -> T
-    requires { 0 < length (R.seen row.old).rest }
-    ensures { IsNext (R.seen row.old) result (R.seen row.new) }
+/// Takes out the first trees that are left on both sides.
+fn next<'b, K: TKey, V: TValue, B, T: Build<K, V>, R: Row<K, V, T>>(
+    row: &mut R,
+    that: &mut Below<'b, B>,
+) -> (T, &'b B)
+    requires left { 0 < length (R.seen row.old).rest }
+    requires right { 0 < length (trees_below that.old) }
+    ensures left { IsNext (R.seen row.old) result.0 (R.seen row.new) }
+    ensures right { trees_below that.old ≡ result.1.now ∷ trees_below that.new }
+    ensures from { that.new.from ≡ that.old.from }
 {
-    row.pop_first()
+    (row.pop_first(), that.next())
 }
 
 /// Puts a tree, if there is one, behind those that are built.
@@ -209,6 +215,30 @@ fn keep<K: TKey, V: TValue, T: Build<K, V>, R: Row<K, V, T>>(row: &mut R, tree: 
     if let Some(tree) = tree {
         row.push(tree);
     }
+}
+
+/// What the change makes of the value of a node that was taken apart, and of the value of the right node that stands behind an equal
+/// front.
+fn change_values<
+    K: TKey,
+    V: TValue,
+    W: TValue,
+    B: RadixNode<K, W>,
+    T: Build<K, V>,
+    O: Change<K, V, W, B, T>,
+>(value: Option<V>, that: &B, j: usize, front: usize, op: &O) -> Result<(Option<V>, O), AllocError>
+    requires right { j ≤ length (B.tree that.now).prefix }
+    requires front { front ≤ length (drop j (B.tree that.now).prefix) }
+    requires asks { O.asks op.now value
+        ((O.look K.cmp).at (node_value (shortened j (B.tree that.now)) (drop front (drop j (B.tree that.now).prefix)))) }
+    ensures value { let w = node_value (shortened j (B.tree that.now)) (drop front (drop j (B.tree that.now).prefix)) in
+        IfOk result (λ r. O.says op.now value ((O.look K.cmp).at w) r.0) }
+    ensures below { let w = node_value (shortened j (B.tree that.now)) (drop front (drop j (B.tree that.now).prefix)) in
+        IfOk result (λ r. (u : Option V) (o : Option W) (z : Option V) → O.says r.1 u o z → O.says op.now u ((O.look K.cmp).under w o) z) }
+    ensures asked { let w = node_value (shortened j (B.tree that.now)) (drop front (drop j (B.tree that.now).prefix)) in
+        IfOk result (λ r. (u : Option V) (o : Option W) → O.asks op.now u ((O.look K.cmp).under w o) → O.asks r.1 u o) }
+{
+    op.at_values(value, value_at(that, j, front))
 }
 
 /// The state of a change, before the first event is done.
@@ -273,7 +303,7 @@ fn begin<
         list,
         from,
     } = take_apart(alloc, tree, i, front)?;
-    let (value, below) = op.at_values(value, value_at(that, j, front))?;
+    let (value, below) = change_values(value, that, j, front, op)?;
     let row = O::Row::open(whole, list, sides.len())?;
     Ok(Begun {
         prefix,
@@ -287,6 +317,7 @@ fn begin<
 }
 
 /// Does the event of the first tree that is left, which the left side alone has.
+#[tactic(auto, using(crate::proofs::Stepping::room_kept))]
 fn stay<
     K: TKey,
     V: TValue,
@@ -305,6 +336,7 @@ fn stay<
 }
 
 /// Does the event of the first tree that is left on the right side, which that side alone has.
+#[tactic(auto, using(crate::proofs::Stepping::room_come))]
 fn come<
     K: TKey,
     V: TValue,
@@ -345,6 +377,21 @@ fn end<K: TKey, V: TValue, T: Build<K, V>, R: Row<K, V, T>>(
     finish_in::<K, V, T>(alloc, prefix, value, kids)
 }
 
+/// The node of what was built, as a child, once no event is left.
+fn close<K: TKey, V: TValue, T: Build<K, V>, R: Row<K, V, T>>(
+    alloc: Global,
+    prefix: T::Prefix,
+    value: Option<V>,
+    row: R,
+    _left: &[Side],
+) -> Result<Option<T>, AllocError>
+    requires done { length _left.now ≡ 0 }
+    requires children { AreChildren K.cmp (seen T.tree (R.seen row).built) }
+    ensures { IfOk result (λ made. option_map T.tree made ≡ solid_child (T.Prefix.items prefix) value (seen T.tree (R.seen row).built)) }
+{
+    end::<K, V, T, R>(alloc, prefix, value, row)
+}
+
 /// The node of these parts as a child. A prefix that stays is moved.
 fn finish_in<K: TKey, V: TValue, T: Build<K, V>>(
     alloc: Global,
@@ -364,6 +411,7 @@ fn finish_in<K: TKey, V: TValue, T: Build<K, V>>(
 
 /// Changes a tree without the first `i` components of its prefix, by another one without the first `j` of its own: `None` where no
 /// key is left. The first `known` components that are left of either prefix are known to agree.
+#[tactic(auto, using(crate::proofs::Stepping::room_kept))]
 pub fn change_at<
     K: TKey,
     V: TValue,
@@ -407,13 +455,13 @@ pub fn change_at<
                 come::<K, V, W, B, T, O>(alloc, &mut row, &mut right, &below)?;
             }
             Side::Both => {
-                let (x, y) = (next::<K, V, T, O::Row>(&mut row), right.next());
+                let (x, y) = next::<K, V, B, T, O::Row>(&mut row, &mut right);
                 let kid = change_at(alloc, x, from, y, right.from, 1, &below)?;
                 keep::<K, V, T, O::Row>(&mut row, kid);
             }
         }
         todo = others;
     }
-    let made = end::<K, V, T, O::Row>(alloc, prefix, value, row)?;
+    let made = close::<K, V, T, O::Row>(alloc, prefix, value, row, todo)?;
     Ok(made)
 }

@@ -2,7 +2,7 @@
 use Rattle.std.proofs.Common.{rules, refl, ◌∙◌, ap, ◌≡◌, ◌∷◌}
 use Rattle.vc_tree_combines.specs.declared.sides.Side.TheVariants.{Left, Right, Both}
 use Rattle.vc_tree_combines.proofs.Next.{left_not_right, right_not_left, both_not_right, both_not_left, left_there, right_there, left_within, right_within, both_asked, both_agree, nil_by, at_most}
-use Rattle.vc_tree_edits.proofs.Stepping.{first_long, after_left, after_right, after_both, room_next, room_added, room_there, room_kept, falls_below, finished_children, finished}
+use Rattle.vc_tree_edits.proofs.Stepping.{first_long, after_left, after_right, after_both, room_next, room_added, room_there, falls_below, finished_children, finished}
 use Rattle.vc_tree_edits.proofs.engine.+change_at.Goals as goal
 
 pub loop-side-init : goal.loop-side-init
@@ -37,16 +37,13 @@ pub come-requires-clause-room : goal.come-requires-clause-room
 come-requires-clause-room g t c =
     room_there _ _ _ _ _ c.in-Some.ensures.cases.0 c.loop-side.invariant.room
 
-pub keep-requires : goal.keep-requires
-keep-requires g t c = room_kept _ _ _ _ c.next-x.ensures
-
-pub next-x-requires : goal.next-x-requires
-next-x-requires g t c =
+pub next-x-requires-clause-left : goal.next-x-requires-clause-left
+next-x-requires-clause-left g t c =
     let e : c.in-Some.side.now ≡ Both = search rules in
     left_there g.K.Ord.cmp g.T.RadixNode.tree g.B.RadixNode.tree _ _ _ _ _ _ _ _ _ _ _ _ _ c.loop-side.invariant.doing.1 c.in-Some.others.now c.in-Some.side.now c.in-Some.ensures.cases.0 (both_not_right _ e)
 
-pub next-y-requires : goal.next-y-requires
-next-y-requires g t c =
+pub next-x-requires-clause-right : goal.next-x-requires-clause-right
+next-x-requires-clause-right g t c =
     let e : c.in-Some.side.now ≡ Both = search rules in
     right_there g.K.Ord.cmp g.T.RadixNode.tree g.B.RadixNode.tree _ _ _ _ _ _ _ _ _ _ _ _ _ c.loop-side.invariant.doing.1 c.in-Some.others.now c.in-Some.side.now c.in-Some.ensures.cases.0 (both_not_left _ e)
 
@@ -55,9 +52,9 @@ change_at-requires g t c κs within =
     let e : c.in-Some.side.now ≡ Both = search rules in
     let z = c.in-Some.ensures.cases.0 ∙ ap (λ s. s ∷ c.in-Some.others.now) e in
     let down = falls_below g.K.Ord.cmp g.met.K.Ord.total g.T.RadixNode.tree g.B.RadixNode.tree _ _ _ _ _ (g.met.O.Change.says_none c.in_ok-prefix.field-0.below) _ _ _ _ _ _ _ _ _ _
-    c.in_ok-prefix.ensures _ _ _ _ _ _ _ _ c.loop-side.invariant.doing c.next-x.ensures c.next-y.ensures.first z in
-    let other_from = c.next-y.ensures.from ∙ c.loop-side.invariant.right_from in
-    (rw (← c.decreases) down, (within.0, (within.1.0, (within.1.1.0, (within.1.1.1.0, (within.1.1.1.1.0, (within.1.1.1.1.1.0, (within.1.1.1.1.1.1.0, (within.1.1.1.1.1.1.1.0, (within.1.1.1.1.1.1.1.1, (at_most _ _ (left_within g.K.Ord.cmp g.T.RadixNode.tree g.B.RadixNode.tree _ _ _ _ _ _ _ _ _ _ _ _ _ c.loop-side.invariant.doing.1 c.in_ok-prefix.ensures.left _ _ c.next-x.ensures.rest), (rw other_from (at_most _ _ (right_within g.K.Ord.cmp g.T.RadixNode.tree g.B.RadixNode.tree _ _ _ _ _ _ _ _ _ _ _ _ _ c.loop-side.invariant.doing.1 c.in_ok-prefix.ensures.right _ _ c.next-y.ensures.first)), (rw other_from (both_agree g.K.Ord.cmp g.T.RadixNode.tree g.B.RadixNode.tree _ _ _ _ _ _ _ _ _ _ _ _ _ c.loop-side.invariant.doing.1 c.in-Some.others.now z _ _ _ _ c.next-x.ensures.rest c.next-y.ensures.first c.in_ok-prefix.ensures.left c.in_ok-prefix.ensures.right), rw other_from (both_asked g.K.Ord.cmp g.T.RadixNode.tree g.B.RadixNode.tree _ _ _ _ _ _ _ _ _ _ _ _ _ c.loop-side.invariant.doing.1 c.in-Some.others.now z _ _ _ _ c.next-x.ensures.rest c.next-y.ensures.first))))))))))))))
+    c.in_ok-prefix.ensures _ _ _ _ _ _ _ _ c.loop-side.invariant.doing c.next-x.ensures.left c.next-x.ensures.right z in
+    let other_from = c.next-x.ensures.from ∙ c.loop-side.invariant.right_from in
+    (rw (← c.decreases) down, (within.0, (within.1.0, (within.1.1.0, (within.1.1.1.0, (within.1.1.1.1.0, (within.1.1.1.1.1.0, (within.1.1.1.1.1.1.0, (within.1.1.1.1.1.1.1.0, (within.1.1.1.1.1.1.1.1, (at_most _ _ (left_within g.K.Ord.cmp g.T.RadixNode.tree g.B.RadixNode.tree _ _ _ _ _ _ _ _ _ _ _ _ _ c.loop-side.invariant.doing.1 c.in_ok-prefix.ensures.left _ _ c.next-x.ensures.left.rest), (rw other_from (at_most _ _ (right_within g.K.Ord.cmp g.T.RadixNode.tree g.B.RadixNode.tree _ _ _ _ _ _ _ _ _ _ _ _ _ c.loop-side.invariant.doing.1 c.in_ok-prefix.ensures.right _ _ c.next-x.ensures.right)), (rw other_from (both_agree g.K.Ord.cmp g.T.RadixNode.tree g.B.RadixNode.tree _ _ _ _ _ _ _ _ _ _ _ _ _ c.loop-side.invariant.doing.1 c.in-Some.others.now z _ _ _ _ c.next-x.ensures.left.rest c.next-x.ensures.right c.in_ok-prefix.ensures.left c.in_ok-prefix.ensures.right), rw other_from (both_asked g.K.Ord.cmp g.T.RadixNode.tree g.B.RadixNode.tree _ _ _ _ _ _ _ _ _ _ _ _ _ c.loop-side.invariant.doing.1 c.in-Some.others.now z _ _ _ _ c.next-x.ensures.left.rest c.next-x.ensures.right))))))))))))))
 
 pub loop-side-preserved-in_ok-stay-in-Left : goal.loop-side-preserved-in_ok-stay-in-Left
 loop-side-preserved-in_ok-stay-in-Left g t c =
@@ -87,17 +84,17 @@ pub loop-side-preserved : goal.loop-side-preserved
 loop-side-preserved g t c =
     let e : c.in-Some.side.now ≡ Both = search rules in
     let z = c.in-Some.ensures.cases.0 ∙ ap (λ s. s ∷ c.in-Some.others.now) e in
-    let from = c.next-y.ensures.from ∙ c.loop-side.invariant.right_from in
+    let from = c.next-x.ensures.from ∙ c.loop-side.invariant.right_from in
     record {
-      doing = after_both g.K.Ord.cmp g.T.RadixNode.tree g.B.RadixNode.tree _ _ _ _ _ _ _ _ _ _ _ _ _ _ _ _ _ c.loop-side.invariant.doing c.next-x.ensures c.keep.ensures c.next-y.ensures.first z (rw from at c.in_ok-kid-in-Both.ensures);
+      doing = after_both g.K.Ord.cmp g.T.RadixNode.tree g.B.RadixNode.tree _ _ _ _ _ _ _ _ _ _ _ _ _ _ _ _ _ c.loop-side.invariant.doing c.next-x.ensures.left c.keep.ensures c.next-x.ensures.right z (rw from at c.in_ok-kid-in-Both.ensures);
       right_from = from;
-      room = room_next _ _ _ _ _ _ _ _ _ c.next-x.ensures c.keep.ensures z c.loop-side.invariant.room;
+      room = room_next _ _ _ _ _ _ _ _ _ c.next-x.ensures.left c.keep.ensures z c.loop-side.invariant.room;
       value_is = c.loop-side.invariant.value_is;
       prefix_is = c.loop-side.invariant.prefix_is;
     }
 
-pub end-requires : goal.end-requires
-end-requires g t c =
+pub close-requires-clause-children : goal.close-requires-clause-children
+close-requires-clause-children g t c =
     finished_children g.K.Ord.cmp g.met.K.Ord.total g.T.RadixNode.tree g.B.RadixNode.tree _ _ _ _ _ (g.met.O.Change.says_none c.in_ok-prefix.field-0.below) _ _ _ _ _ _ _ _ _ _
     c.in_ok-prefix.ensures (g.O.Row.Row.seen c.loop-side.row) _ _ c.loop-side.invariant.doing (nil_by _ c.in_default.ensures.cases)
 
