@@ -17,11 +17,11 @@ use Rattle.vc_tree_model.specs.Equal.{same_tree}
 use Rattle.vc_tree_model.specs.Pairs.{last_bound, IsCollected}
 use Rattle.vc_tree_model.specs.KeySets.{ShareKey, AreDisjoint, HasKeysOf, LacksKeyOf}
 use Rattle.vc_tree_model.specs.Shortened.{IsShortened, weight}
-use Rattle.vc_tree_model.proofs.LookupLemmas.{children_ordered}
-use Rattle.vc_tree_model.proofs.FourConditions.{canonical_conditions}
-use Rattle.vc_tree_model.proofs.Uniqueness.{canonical_one}
-use Rattle.vc_tree_model.proofs.Smallness.{canonical_smallest}
-use Rattle.vc_tree_model.proofs.Walking.{walk_is}
+use Rattle.vc_tree_model.proofs.LookupLemmas.{children-ordered}
+use Rattle.vc_tree_model.proofs.FourConditions.{canonical-conditions}
+use Rattle.vc_tree_model.proofs.Uniqueness.{canonical-one}
+use Rattle.vc_tree_model.proofs.Smallness.{canonical-smallest}
+use Rattle.vc_tree_model.proofs.Walking.{walk-is}
 use Rattle.vc_tree_nodes.specs.Children.{seen}
 use Rattle.definition_tests.proofs.Digits.{same, not_true}
 use Rattle.definition_tests.proofs.Letters.{Letter, a, b, by_letter, each_key, leaf, a_and_ab}
@@ -123,7 +123,7 @@ is_collected = each_key _ refl refl (λ k. refl) refl (λ y k. refl) refl (λ y 
 -- ---- canonical trees
 
 meets_conditions : MeetsConditions nat_cmp three
-meets_conditions = (canonical_conditions nat_cmp three).0 three_canonical
+meets_conditions = (canonical-conditions nat_cmp three).0 three_canonical
 
 -- the empty tree with a prefix
 prefixed_empty : BareIsWhole {K = ℕ} {V = ℕ} (made (codes "aabb") None []) → ⊥
@@ -174,13 +174,13 @@ same_as_test = (refl, refl)
 
 -- aabb*(cc* ee*) is the one canonical tree of its map, the smallest, and its walk lists it
 is_one_tree : IsOneTree nat_cmp same three
-is_one_tree = canonical_one nat_cmp nat_cmp_total same three three_canonical
+is_one_tree = canonical-one nat_cmp nat_cmp_total same three three_canonical
 
 is_smallest : IsSmallest nat_cmp same three
-is_smallest = canonical_smallest nat_cmp same nat_cmp_total three three_canonical
+is_smallest = canonical-smallest nat_cmp same nat_cmp_total three three_canonical
 
 is_walk : IsWalk nat_cmp (lookup nat_cmp three) ((codes "aabb", 2) ∷ (codes "aabbcc", 1) ∷ (codes "aabbee", 3) ∷ [])
-is_walk = walk_is nat_cmp nat_cmp_total three (children_ordered nat_cmp three.children three_canonical.1)
+is_walk = walk-is nat_cmp nat_cmp_total three (children-ordered nat_cmp three.children three_canonical.1)
 
 -- ---- keys of two trees
 

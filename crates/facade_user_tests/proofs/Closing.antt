@@ -11,9 +11,9 @@ use Rattle.vec_collections.specs.Map.{IsInserted, lookup, or_else}
 use Rattle.vec_collections.specs.Tree.{Tree}
 
 -- what is bound at a path covers it
-cover_itself : (q : List ℕ → Option Bool) (path : List ℕ) (w : Bool) → q path ≡ Some w → cover q path ≡ Some w
-cover_itself q [] w e = e
-cover_itself q (x ∷ path) w e = ap (λ o. or_else o (q [])) (cover_itself (λ rest. q (x ∷ rest)) path w e)
+cover-itself : (q : List ℕ → Option Bool) (path : List ℕ) (w : Bool) → q path ≡ Some w → cover q path ≡ Some w
+cover-itself q [] w e = e
+cover-itself q (x ∷ path) w e = ap (λ o. or_else o (q [])) (cover-itself (λ rest. q (x ∷ rest)) path w e)
 
 -- a path equals itself
 same_path : (path : List ℕ) → same_key nat_cmp path path ≡ true
@@ -23,4 +23,4 @@ same_path (x ∷ path) = ap (λ r. cond (is_eq r) (same_key nat_cmp path path) f
 pub closed_itself : (t u : Tree ℕ Bool) (path : List ℕ) → IsInserted nat_cmp (λ v w. v ≡ w) path false t u
     → is_allowed nat_cmp u path ≡ false
 closed_itself t u path h =
-    ap (λ o. unwrap_or o false) (cover_itself (lookup nat_cmp u) path false (h.at path (same_path path)))
+    ap (λ o. unwrap_or o false) (cover-itself (lookup nat_cmp u) path false (h.at path (same_path path)))

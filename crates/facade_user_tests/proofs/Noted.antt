@@ -47,14 +47,14 @@ noted-steps s t (r ∷ runs) (u, step, rest) =
     ∙ append_assoc (noted s) (run_events r) (events runs)
 
 -- no event answers to stop
-goes_on : (s t : Diff) (r : Run ℕ ℕ) → IsAllowed diffs s r (Ok false) t → ⊥
-goes_on s t (of_left xs) h = true≢false (sym h.0)
-goes_on s t (of_right ys) h = true≢false (sym h.0)
-goes_on s t (of_both x y) h = true≢false (sym h.0)
+goes-on : (s t : Diff) (r : Run ℕ ℕ) → IsAllowed diffs s r (Ok false) t → ⊥
+goes-on s t (of_left xs) h = true≢false (sym h.0)
+goes-on s t (of_right ys) h = true≢false (sym h.0)
+goes-on s t (of_both x y) h = true≢false (sym h.0)
 
 -- what a whole merge notes is the script
-pub script_noted : (s t : Diff) (done : Unit {0}) → IsMerged diffs by_number s (Ok done) t → noted s ≡ []
+pub script-noted : (s t : Diff) (done : Unit {0}) → IsMerged diffs by_number s (Ok done) t → noted s ≡ []
     → IsScript by_number (old_left s) (new_left s) (noted t)
-script_noted s t done (inl w) e =
+script-noted s t done (inl w) e =
     subst (λ es. IsScript by_number (old_left s) (new_left s) es) (sym (noted-steps s t w.runs w.steps ∙ ap (λ es. es ++ events w.runs) e)) w.script
-script_noted s t done (inr w) e = absurd (goes_on w.before t w.last w.allowed)
+script-noted s t done (inr w) e = absurd (goes-on w.before t w.last w.allowed)

@@ -67,6 +67,6 @@ module _ {V : Type 0} (is_clone : V → V → Type 0) (exact : (v w : V) → is_
       (subst (λ n. IsSifted (Copies is_clone) (λ (named covered : Bool). covered ≡ named) not (cover (lookup nat_cmp n) path) (f path) (g path)) e (h path)))
 
 -- what follows from a fact on an outcome that is no refusal
-pub on_ok : {E P Q : Type 0} (r : Result (Unit {0}) E) → (P → Q) → OnOk r P → OnOk r Q
-on_ok (Ok u) f h = f h
-on_ok (Err e) f h = tt
+pub on-ok : {E P Q : Type 0} (r : Result (Unit {0}) E) → (P → Q) → OnOk r P → OnOk r Q
+on-ok (Ok u) f h = f h
+on-ok (Err e) f h = tt

@@ -1,6 +1,4 @@
 -- Counters by name.
---     count_of counters name        the count of a name
---     bounded n        n, or the greatest number of 64 bits where n does not fit
 use Rattle.std.specs.Prelude.{ℕ, min, ◌-◌, ◌^◌}
 use Rattle.std.specs.Ordering.{nat_cmp}
 use Rattle.vec_collections.specs.TotalMap.{at}

@@ -1,6 +1,4 @@
 -- Files by their paths.
---     size_of files path        the size of the file at the path
---     allows rules path        the longest rule on the path allows it
 use Rattle.std.specs.Prelude.{Bool, ℕ, Option}
 use Rattle.std.specs.Ordering.{nat_cmp}
 use Rattle.vec_collections.specs.Allowed.{is_allowed}

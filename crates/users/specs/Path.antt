@@ -1,6 +1,4 @@
 -- Paths of files and of settings.
---     Path        a path, as its bytes
---     same_path path other        both are one path
 use Rattle.std.specs.Prelude.{Bool, List, ℕ}
 use Rattle.std.specs.Ordering.{nat_cmp}
 use Rattle.vec_collections.specs.Key.{same_key}

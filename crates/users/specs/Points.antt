@@ -1,7 +1,4 @@
 -- Sets of numbers by the numbers at which membership turns.
---     turned f x        f says another thing of x than of the number before it
---     holds s x        x is in the set s: what turns exactly at its turns
---     says formula a b        what a formula says of two answers
 use Rattle.std.specs.Prelude.{Bool, not, ◌&&◌, ◌||◌, ℕ, zero, suc}
 use Rattle.std.specs.Ordering.{nat_cmp}
 use Rattle.vec_collections.specs.Ascending.{member}

@@ -1,13 +1,4 @@
 -- Versions of a configuration.
---     count history        how many versions there are
---     setting history version path        what is set at the path in a version
---     latest history path        what is set there in the last version
---     version_of history version        the settings of a version, if there is such a version
---     set_in settings path        what the settings of one version have at the path
---     HaveSameVersions h g        both have the same versions
---     is_below folder path        the path is the folder, or lies below it
---     are_different a b        two settings differ
---     is_changed changes path        the path is among the changes
 use Rattle.std.specs.Prelude.{◌≡◌, Bool, true, false, not, ℕ, ◌-◌, ◌==◌, length, Option, Some, None, slice_get}
 use Rattle.std.specs.Ordering.{nat_cmp}
 use Rattle.std.specs.Option.{is_some}

@@ -1,9 +1,4 @@
 -- Articles by their tags.
---     tagged index tag article        the article has the tag
---     has_all index tags article        the article has each of the tags
---     has_any index tags article        the article has a tag among these
---     is_among articles article        the article is one of the articles with a tag
---     is_found found article        the article is one of those that a query found
 use Rattle.std.specs.Prelude.{Bool, false, ℕ, List, Option, Some, None}
 use Rattle.std.specs.BTreeMap.{get}
 use Rattle.std.specs.List.{list_all, list_any}

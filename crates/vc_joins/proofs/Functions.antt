@@ -12,17 +12,17 @@ use Rattle.vc_joins.specs.Laws.{KindsInWords, JoinsOfFunctions}
 use Rattle.vc_joins.specs.Question.{asked}
 
 module _ {K X : Type 0} where
-  value_by : (b : Bool) (e : K × X) (v : Option X) (p : Option (K × X)) → v ≡ option_map (λ p. p.1) p → cond b (Some e.1) v ≡ option_map (λ p. p.1) (cond b (Some e) p)
-  value_by true e v p h = refl
-  value_by false e v p h = h
+  value-by : (b : Bool) (e : K × X) (v : Option X) (p : Option (K × X)) → v ≡ option_map (λ p. p.1) p → cond b (Some e.1) v ≡ option_map (λ p. p.1) (cond b (Some e) p)
+  value-by true e v p h = refl
+  value-by false e v p h = h
 
-  value_found : (test : K → Bool) (es : List (K × X)) → lookup test es ≡ option_map (λ p. p.1) (lookup_entry test es)
-  value_found test [] = refl
-  value_found test (e ∷ es) = value_by (test e.0) e (lookup test es) (lookup_entry test es) (value_found test es)
+  value-found : (test : K → Bool) (es : List (K × X)) → lookup test es ≡ option_map (λ p. p.1) (lookup_entry test es)
+  value-found test [] = refl
+  value-found test (e ∷ es) = value-by (test e.0) e (lookup test es) (lookup_entry test es) (value-found test es)
 
   -- the value at a key is that of the pair there
   pub value-entry : (cmp : K → K → Ordering) (es : List (K × X)) (k : K) → value_at cmp es k ≡ option_map (λ p. p.1) (entry_at cmp es k)
-  value-entry cmp es k = value_found (is_at (cmp k)) es
+  value-entry cmp es k = value-found (is_at (cmp k)) es
 
 module _ {K V W X : Type 0} (cmp : K → K → Ordering) where
   -- what stands at a key is the one answer to what is asked there
@@ -32,8 +32,8 @@ module _ {K V W X : Type 0} (cmp : K → K → Ordering) where
   answer-value May Keeps h (Some b) None one s = one b None refl s
   answer-value May Keeps h (Some b) (Some p) one s = one b (Some p.1) refl s.0
 
-  pub joins_of_functions : (May : OuterJoinArg K V W → Option X → Type 0) (Keeps : OuterJoinArg K V W → K → Type 0) → JoinsOfFunctions K V W cmp May Keeps
-  joins_of_functions May Keeps kind spelled xs ys zs j h one k =
+  pub joins-of_functions : (May : OuterJoinArg K V W → Option X → Type 0) (Keeps : OuterJoinArg K V W → K → Type 0) → JoinsOfFunctions K V W cmp May Keeps
+  joins-of_functions May Keeps kind spelled xs ys zs j h one k =
       value-entry cmp zs k
       ∙ answer-value May Keeps h (asked_at cmp kind spelled xs ys k) (entry_at cmp zs k) (λ b r e m. one b r (record { key = k; asks = e }) m) (j.at k)
 
@@ -62,8 +62,8 @@ module _ {K V W : Type 0} (cmp : K → K → Ordering) where
   inner-asks spelled None (Some q) = ((λ h. (h, refl)), (λ h. h.0))
   inner-asks spelled None None = ((λ h. (h, h)), (λ h. h.0))
 
-  pub kinds_are_as_named : KindsInWords K V W cmp
-  kinds_are_as_named = record {
+  pub kinds-are_as_named : KindsInWords K V W cmp
+  kinds-are_as_named = record {
     outer = λ spelled xs ys k. rw (value-entry cmp xs k, value-entry cmp ys k) (outer-asks spelled (entry_at cmp xs k) (entry_at cmp ys k));
     left = λ spelled xs ys k. rw (value-entry cmp xs k) (left-asks spelled (entry_at cmp xs k) (entry_at cmp ys k));
     right = λ spelled xs ys k. rw (value-entry cmp ys k) (right-asks spelled (entry_at cmp xs k) (entry_at cmp ys k));

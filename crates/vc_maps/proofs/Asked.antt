@@ -11,7 +11,7 @@ use Rattle.vc_merge.specs.Chain.{Answer}
 use Rattle.vc_merge.specs.Fronts.{LeftBelow, RightBelow, HeadsCompare}
 use Rattle.vc_merge.specs.Script.{Event, left_alone, right_alone, collision, IsScript, BothAscend}
 use Rattle.vc_merge.proofs.Lists.{ascends-append, pairs-ascend}
-use Rattle.vc_merge.proofs.Scripts.{put_lefts, put_rights, put_both, some_script}
+use Rattle.vc_merge.proofs.Scripts.{put-lefts, put-rights, put-both, some-script}
 use Rattle.vc_joins.specs.declared.question.OuterJoinArg.{OuterJoinArg}
 use Rattle.vc_joins.specs.declared.question.OuterJoinArg.TheVariants.{Left, Right, Both}
 use Rattle.vc_joins.specs.declared.question.JoinKind.{JoinKind}
@@ -41,7 +41,7 @@ module _ {K V W : Type 0} (cmp : K → K → Ordering) (total : IsTotalOrder cmp
     lefts-script es s =
         let e : take n xs ++ drop n xs ≡ xs = take-append-drop n xs in
         subst (λ l. IsScript (by_key cmp) l ys (map (λ x. left_alone x) (take n xs) ++ es)) e
-        (put_lefts (by_key cmp) (by_key-total cmp total) (take n xs) (drop n xs) ys es (subst (λ l. Ascends (λ x z. cmp x.0 z.0) l) (sym e) ascend.left) below s)
+        (put-lefts (by_key cmp) (by_key-total cmp total) (take n xs) (drop n xs) ys es (subst (λ l. Ascends (λ x z. cmp x.0 z.0) l) (sym e) ascend.left) below s)
 
     pub lefts-ascend : BothAscend (by_key cmp) (drop n xs) ys
     lefts-ascend = record {
@@ -52,7 +52,7 @@ module _ {K V W : Type 0} (cmp : K → K → Ordering) (total : IsTotalOrder cmp
     -- each of the first n may be asked at
     pub lefts-asked : asks_left kind ≡ true → AllByRecursion (λ p. Takes (Left p.0 p.1)) (take n xs)
     lefts-asked q =
-        let script = some_script (by_key cmp) (by_key-total cmp total) (drop n xs) ys lefts-ascend in
+        let script = some-script (by_key cmp) (by_key-total cmp total) (drop n xs) ys lefts-ascend in
         each-where (asks_left kind ≡ true) (λ p. Takes (Left p.0 p.1)) q (take n xs)
         (each-front (MayAsk cmp kind Takes) (λ x. left_alone x) (take n xs) script.0 (can.each (map (λ x. left_alone x) (take n xs) ++ script.0) (lefts-script script.0 script.1)))
 
@@ -72,7 +72,7 @@ module _ {K V W : Type 0} (cmp : K → K → Ordering) (total : IsTotalOrder cmp
     rights-script es s =
         let e : take n ys ++ drop n ys ≡ ys = take-append-drop n ys in
         subst (λ l. IsScript (by_key cmp) xs l (map (λ y. right_alone y) (take n ys) ++ es)) e
-        (put_rights (by_key cmp) (by_key-total cmp total) (take n ys) xs (drop n ys) es (subst (λ l. Ascends (λ y z. cmp y.0 z.0) l) (sym e) ascend.right) below s)
+        (put-rights (by_key cmp) (by_key-total cmp total) (take n ys) xs (drop n ys) es (subst (λ l. Ascends (λ y z. cmp y.0 z.0) l) (sym e) ascend.right) below s)
 
     pub rights-ascend : BothAscend (by_key cmp) xs (drop n ys)
     rights-ascend = record {
@@ -83,7 +83,7 @@ module _ {K V W : Type 0} (cmp : K → K → Ordering) (total : IsTotalOrder cmp
     -- each of the first n may be asked at
     pub rights-asked : asks_right kind ≡ true → AllByRecursion (λ p. Takes (Right p.0 p.1)) (take n ys)
     rights-asked q =
-        let script = some_script (by_key cmp) (by_key-total cmp total) xs (drop n ys) rights-ascend in
+        let script = some-script (by_key cmp) (by_key-total cmp total) xs (drop n ys) rights-ascend in
         each-where (asks_right kind ≡ true) (λ p. Takes (Right p.0 p.1)) q (take n ys)
         (each-front (MayAsk cmp kind Takes) (λ y. right_alone y) (take n ys) script.0 (can.each (map (λ y. right_alone y) (take n ys) ++ script.0) (rights-script script.0 script.1)))
 
@@ -102,7 +102,7 @@ module _ {K V W : Type 0} (cmp : K → K → Ordering) (total : IsTotalOrder cmp
 
   heads-script : (x : K × V) (xs : List (K × V)) (y : K × W) (ys : List (K × W)) → BothAscend (by_key cmp) (x ∷ xs) (y ∷ ys) → by_key cmp (inl x) (inr y) ≡ Equal → (es : List (Event (K × V) (K × W))) → IsScript (by_key cmp) xs ys es → IsScript (by_key cmp) (x ∷ xs) (y ∷ ys) (collision x y ∷ es)
   unfolding IsStrictlySortedBy
-  heads-script x xs y ys ascend e es s = put_both (by_key cmp) (by_key-total cmp total) x y xs ys es e ascend.left.0 ascend.right.0 s
+  heads-script x xs y ys ascend e es s = put-both (by_key cmp) (by_key-total cmp total) x y xs ys es e ascend.left.0 ascend.right.0 s
 
   tails-ascend : (x : K × V) (xs : List (K × V)) (y : K × W) (ys : List (K × W)) → BothAscend (by_key cmp) (x ∷ xs) (y ∷ ys) → BothAscend (by_key cmp) xs ys
   unfolding IsStrictlySortedBy
@@ -113,7 +113,7 @@ module _ {K V W : Type 0} (cmp : K → K → Ordering) (total : IsTotalOrder cmp
   heads-asked [] ys ascend e can = e
   heads-asked (x ∷ xs) [] ascend e can = e
   heads-asked (x ∷ xs) (y ∷ ys) ascend e can =
-      let script = some_script (by_key cmp) (by_key-total cmp total) xs ys (tails-ascend x xs y ys ascend) in
+      let script = some-script (by_key cmp) (by_key-total cmp total) xs ys (tails-ascend x xs y ys ascend) in
       (can.each (collision x y ∷ script.0) (heads-script x xs y ys ascend e script.0 script.1)).0 refl
 
   tails-can : (x : K × V) (xs : List (K × V)) (y : K × W) (ys : List (K × W)) → BothAscend (by_key cmp) (x ∷ xs) (y ∷ ys) → by_key cmp (inl x) (inr y) ≡ Equal → CanAsk cmp kind Takes (x ∷ xs) (y ∷ ys) → CanAsk cmp kind Takes xs ys

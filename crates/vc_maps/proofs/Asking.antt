@@ -8,17 +8,17 @@ use Rattle.vc_joins.specs.declared.question.JoinKind.{JoinKind}
 use Rattle.vc_joins.specs.Entries.{AscendsByKey, entry_at}
 use Rattle.vc_joins.specs.Join.{IsAsked, IsJoin, IsJoinBy}
 use Rattle.vc_joins.specs.Question.{asks, asks_left, asks_right, asked, left_spelling}
-use Rattle.vc_joins.proofs.Functions.{joins_of_functions}
+use Rattle.vc_joins.proofs.Functions.{joins-of_functions}
 
-some_if : {A : Type 0} (P : A → Bool) (x y : A) (b : Bool) → P x ≡ b → cond b (Some x) None ≡ Some y → P y ≡ true
-some_if P x y true e h = let same : x ≡ y = cc in subst (λ z. P z ≡ true) same e
-some_if P x y false e h = let none : None ≡ Some y = h in cc
+some-if : {A : Type 0} (P : A → Bool) (x y : A) (b : Bool) → P x ≡ b → cond b (Some x) None ≡ Some y → P y ≡ true
+some-if P x y true e h = let same : x ≡ y = cc in subst (λ z. P z ≡ true) same e
+some-if P x y false e h = let none : None ≡ Some y = h in cc
 
 module _ {K V W : Type 0} (cmp : K → K → Ordering) (kind : JoinKind) where
   asked-asks : (p : Option (K × V)) (q : Option (K × W)) (a : OuterJoinArg K V W) → asked kind left_spelling p q ≡ Some a → asks kind a ≡ true
-  asked-asks (Some p) (Some q) a e = some_if (asks kind) (Both p.0 p.1 q.1) a true refl e
-  asked-asks (Some p) None a e = some_if (asks kind) (Left p.0 p.1) a (asks_left kind) refl e
-  asked-asks None (Some q) a e = some_if (asks kind) (Right q.0 q.1) a (asks_right kind) refl e
+  asked-asks (Some p) (Some q) a e = some-if (asks kind) (Both p.0 p.1 q.1) a true refl e
+  asked-asks (Some p) None a e = some-if (asks kind) (Left p.0 p.1) a (asks_left kind) refl e
+  asked-asks None (Some q) a e = some-if (asks kind) (Right q.0 q.1) a (asks_right kind) refl e
   asked-asks None None a e = let none : None ≡ Some a = e in cc
 
   -- what is asked of two maps, read through slices of these
@@ -39,7 +39,7 @@ module _ {K V W : Type 0} (cmp : K → K → Ordering) (kind : JoinKind) where
     join-of xs xs' ys ys' zs e f h = subst (λ l. IsJoin cmp kind left_spelling l ys May Keeps zs) e (subst (λ l. IsJoin cmp kind left_spelling xs' l May Keeps zs) f h)
 
     pub join_by-of : (xs xs' : List (K × V)) (ys ys' : List (K × W)) (zs : List (K × X)) → xs' ≡ xs → ys' ≡ ys → IsJoin cmp kind left_spelling xs' ys' May Keeps zs → (h : OuterJoinArg K V W → Option X) → IsJoinBy cmp kind left_spelling xs ys May h zs
-    join_by-of xs xs' ys ys' zs e f h = joins_of_functions cmp May Keeps kind left_spelling xs ys zs (join-of xs xs' ys ys' zs e f h)
+    join_by-of xs xs' ys ys' zs e f h = joins-of_functions cmp May Keeps kind left_spelling xs ys zs (join-of xs xs' ys ys' zs e f h)
 
 -- what follows where a call is not refused
 pub on-ok : {X E : Type 0} (result : Result X E) {P Q : Type 0} → (P → Q) → OnOk result P → OnOk result Q

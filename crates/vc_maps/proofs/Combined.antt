@@ -15,7 +15,7 @@ use Rattle.vc_joins.specs.Entries.{entry_at, value_at}
 use Rattle.vc_joins.specs.Events.{AnswerAdds}
 use Rattle.vc_joins.specs.Join.{IsAnswered, IsAsked, IsJoin, MovedKey, asked_at}
 use Rattle.vc_joins.specs.Question.{asked, left_spelling, shown_key}
-use Rattle.vc_joins.proofs.Functions.{joins_of_functions, value-entry}
+use Rattle.vc_joins.proofs.Functions.{joins-of_functions, value-entry}
 use Rattle.vc_maps.proofs.Asking.{on-ok}
 use Rattle.vc_maps.specs.Combining.{CanCombine, Combines, combined, IsCombinedBy}
 
@@ -76,7 +76,7 @@ module _ {K V : Type 0} (cmp : K → K → Ordering) (xs ys zs : List (K × V)) 
   -- where the closure gives one answer to the two values of each key, that stands there
   pub combined-by : (gives : V → V → V → Type 0) → IsJoin cmp Outer left_spelling xs ys (Combines gives) MovedKey zs → (g : V → V → V) → IsCombinedBy cmp xs ys gives g zs
   combined-by gives j g one k =
-      joins_of_functions cmp (Combines gives) MovedKey Outer left_spelling xs ys zs j (answer_of g)
+      joins-of_functions cmp (Combines gives) MovedKey Outer left_spelling xs ys zs j (answer_of g)
       (λ a r i m. one-answer g gives a r (λ l v w x e. one l v w x (subst (λ b. IsAsked cmp Outer left_spelling xs ys b) e i)) m) k
       ∙ rw (value-entry cmp xs k, value-entry cmp ys k) (values-combined g (entry_at cmp xs k) (entry_at cmp ys k))
 

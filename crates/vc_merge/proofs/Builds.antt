@@ -150,10 +150,10 @@ module _ {M A B Z N : Type 0} (built : M → List Z) (name : M → N) (op : Allo
       (q.0 ∙ p.0, appends-append gives (run_events run) (events runs) (built s) (built e.0) (built t) p.1 q.1)
 
   -- no event stops the merge
-  goes_on : (s t : M) (run : Run A B) (xs : List A) (ys : List B) → IsAtFront (op.left s) (op.right s) run xs ys → IsAllowed op s run (Ok false) t → ⊥
-  goes_on s t (of_left ls) xs ys f h = true≢false (sym (is.from_a s t (length ls) (Ok false) h).0)
-  goes_on s t (of_right rs) xs ys f h = true≢false (sym (is.from_b s t (length rs) (Ok false) h).0)
-  goes_on s t (of_both x y) xs ys f h = true≢false (sym (is.collision s t (Ok false) h x y xs ys f.0 f.1).0)
+  goes-on : (s t : M) (run : Run A B) (xs : List A) (ys : List B) → IsAtFront (op.left s) (op.right s) run xs ys → IsAllowed op s run (Ok false) t → ⊥
+  goes-on s t (of_left ls) xs ys f h = true≢false (sym (is.from_a s t (length ls) (Ok false) h).0)
+  goes-on s t (of_right rs) xs ys f h = true≢false (sym (is.from_b s t (length rs) (Ok false) h).0)
+  goes-on s t (of_both x y) xs ys f h = true≢false (sym (is.collision s t (Ok false) h x y xs ys f.0 f.1).0)
 
   -- a merge that is not refused has built what the events of the script give
   pub merged-builds : (order : A ⊎ B → A ⊎ B → Ordering) (s t : M) → Finishes op order s t ⊎ Stops op order s (Ok false) t
@@ -161,4 +161,4 @@ module _ {M A B Z N : Type 0} (built : M → List Z) (name : M → N) (op : Allo
   unfolding Grows
   merged-builds order s t m =
       ⊎_elim (λ w. let p = steps-grow s t w.runs w.steps in (p.0, record { events = events w.runs; script = w.script; appends = p.1 }))
-      (λ w. absurd (goes_on w.before t w.last w.left_after w.right_after w.front w.allowed)) m
+      (λ w. absurd (goes-on w.before t w.last w.left_after w.right_after w.front w.allowed)) m

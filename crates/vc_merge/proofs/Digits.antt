@@ -31,13 +31,13 @@ least n (suc tries) d e k h =
     either (λ r. r ≤ e) (ltb n (2 ^ d)) d (digits_from n tries (suc d)) (λ t. k)
     (λ f. least n tries (suc d) e (⊎_elim (λ s. absurd (true≢false (sym (lt-ltb n (2 ^ d) (subst (λ i. n < 2 ^ i) (sym s) h)) ∙ f))) (λ s. omega arith) (eq-or-lt_of_le k)) h)
 
-below_power : (n : ℕ) → n < 2 ^ n
-below_power zero = pow_pos 0
-below_power (suc n) = let p : 2 ^ suc n ≡ 2 ^ n * 2 = pow-suc 2 n in let h = below_power n in omega arith
+below-power : (n : ℕ) → n < 2 ^ n
+below-power zero = pow_pos 0
+below-power (suc n) = let p : 2 ^ suc n ≡ 2 ^ n * 2 = pow-suc 2 n in let h = below-power n in omega arith
 
 pub digits-enough : (n : ℕ) → n < 2 ^ digits n
 unfolding digits
-digits-enough n = enough n n 0 (subst (λ e. n < 2 ^ e) (omega arith) (below_power n))
+digits-enough n = enough n n 0 (subst (λ e. n < 2 ^ e) (omega arith) (below-power n))
 
 pub digits-least : (n e : ℕ) → n < 2 ^ e → digits n ≤ e
 unfolding digits

@@ -75,12 +75,12 @@ module _ {X : Type 0} (side : X → Ordering) where
 
   -- ---- the part that is searched
 
-  none_behind : (xs : List X) → AllByRecursion (λ y. side y ≡ Greater) (drop (length xs) xs)
-  none_behind [] = tt
-  none_behind (x ∷ xs) = none_behind xs
+  none-behind : (xs : List X) → AllByRecursion (λ y. side y ≡ Greater) (drop (length xs) xs)
+  none-behind [] = tt
+  none-behind (x ∷ xs) = none-behind xs
 
   pub narrowed-whole : (xs : List X) → IsNarrowed side xs 0 (length xs)
-  narrowed-whole xs = record { within = omega arith; less = take-none xs; greater = subst (λ k. AllByRecursion (λ y. side y ≡ Greater) (drop k xs)) (omega arith) (none_behind xs) }
+  narrowed-whole xs = record { within = omega arith; less = take-none xs; greater = subst (λ k. AllByRecursion (λ y. side y ≡ Greater) (drop k xs)) (omega arith) (none-behind xs) }
     where
       take-none : (xs : List X) → AllByRecursion (λ y. side y ≡ Less) (take 0 xs)
       take-none [] = tt
@@ -274,20 +274,20 @@ module _ {X : Type 0} (side : X → Ordering) where
 
 module _ {K : Type 0} (cmp : K → K → Ordering) (total : IsTotalOrder cmp) (k : K) where
   -- above what is not less than k all is greater than k
-  greater_above : (i j : K) (o : Ordering) → cmp i k ≡ o → is_lt o ≡ false → cmp i j ≡ Less → cmp j k ≡ Greater
-  greater_above i j Less e f l = absurd (true≢false f)
-  greater_above i j Equal e f l = total.antisymm j k ∙ ap ordering_reverse (sym (total.congr i k j e) ∙ l)
-  greater_above i j Greater e f l = total.antisymm j k ∙ ap ordering_reverse (total.trans k i j (total.antisymm k i ∙ ap ordering_reverse e) l)
+  greater-above : (i j : K) (o : Ordering) → cmp i k ≡ o → is_lt o ≡ false → cmp i j ≡ Less → cmp j k ≡ Greater
+  greater-above i j Less e f l = absurd (true≢false f)
+  greater-above i j Equal e f l = total.antisymm j k ∙ ap ordering_reverse (sym (total.congr i k j e) ∙ l)
+  greater-above i j Greater e f l = total.antisymm j k ∙ ap ordering_reverse (total.trans k i j (total.antisymm k i ∙ ap ordering_reverse e) l)
 
   module _ {X : Type 0} (key : X → K) where
-    all_above : (x : X) (o : Ordering) → cmp (key x) k ≡ o → is_lt o ≡ false → (ys : List X) → AllByRecursion (λ y. cmp (key x) (key y) ≡ Less) ys → AllByRecursion (λ y. cmp (key y) k ≡ Greater) ys
-    all_above x o e f [] p = tt
-    all_above x o e f (y ∷ ys) p = (greater_above (key x) (key y) o e f p.0, all_above x o e f ys p.1)
+    all-above : (x : X) (o : Ordering) → cmp (key x) k ≡ o → is_lt o ≡ false → (ys : List X) → AllByRecursion (λ y. cmp (key x) (key y) ≡ Less) ys → AllByRecursion (λ y. cmp (key y) k ≡ Greater) ys
+    all-above x o e f [] p = tt
+    all-above x o e f (y ∷ ys) p = (greater-above (key x) (key y) o e f p.0, all-above x o e f ys p.1)
 
     beside : (x : X) (ys : List X) (o : Ordering) → cmp (key x) k ≡ o → AllByRecursion (λ y. cmp (key x) (key y) ≡ Less) ys → (cmp (key x) k ≡ Less) ⊎ AllByRecursion (λ y. cmp (key y) k ≡ Greater) ys
     beside x ys Less e p = inl e
-    beside x ys Equal e p = inr (all_above x Equal e refl ys p)
-    beside x ys Greater e p = inr (all_above x Greater e refl ys p)
+    beside x ys Equal e p = inr (all-above x Equal e refl ys p)
+    beside x ys Greater e p = inr (all-above x Greater e refl ys p)
 
     -- a list that ascends by its keys is ordered round any key
     pub ordered-ascends : (xs : List X) → Ascends (λ x y. cmp (key x) (key y)) xs → IsOrdered (λ x. cmp (key x) k) xs

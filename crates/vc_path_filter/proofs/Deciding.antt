@@ -1,8 +1,8 @@
 -- The longest rule on a path, from node to node along the path.
 --     stripped        what `strip_prefix` says of a path and a prefix
 --     Decides        what is left to decide at a node on the way
---     decided_above, decided_below        the way ends above a node, or goes on below it
---     covers_empty, covers_none, covers_child        what children cover of a path
+--     decided-above, decided-below        the way ends above a node, or goes on below it
+--     covers-empty, covers-none, covers-child        what children cover of a path
 use Rattle.std.proofs.Common.{◌≡◌, [], ◌∷◌, List, Option, None, Some, ◌+◌, ◌&&◌, Bool, true, false, cond, length, take, drop, refl, sym, ap, ◌∙◌}
 use Rattle.std.specs.Cmp.Lexicographic.{pointwise}
 use Rattle.std.specs.Borrow.{Bor}
@@ -16,17 +16,17 @@ use Rattle.vc_tree_model.specs.Key.{behind, same_key}
 use Rattle.vc_tree_model.specs.Map.{or_else, lookup, lookup_in}
 use Rattle.vc_tree_model.specs.Tree.{Tree, Forest, node}
 use Rattle.vc_tree_nodes.specs.Places.{IsFoundChild, IsNoChild}
-use Rattle.vc_tree_model.proofs.CoverNodes.{cover_node, cover_none, cover_below, node_cover}
-use Rattle.vc_tree_model.proofs.KeyLemmas.{none_some}
-use Rattle.vc_tree_model.proofs.LookupLemmas.{children_ordered, lookup_in-empty}
+use Rattle.vc_tree_model.proofs.CoverNodes.{cover-node, cover-none, cover-below, node_cover}
+use Rattle.vc_tree_model.proofs.KeyLemmas.{none-some}
+use Rattle.vc_tree_model.proofs.LookupLemmas.{children-ordered, lookup_in-empty}
 
 module _ {K : Type 0} (cmp : K → K → Ordering) (eq : K → K → Bool) (same : (x y : K) → eq y x ≡ is_eq (cmp x y)) where
   -- the path is stripped of the prefix exactly where it starts with it
-  stripped_so : (p k : List K) → behind cmp p k ≡ cond (pointwise eq (take (length p) k) p) (Some (drop (length p) k)) None
-  stripped_so [] k = refl
-  stripped_so (x ∷ p) [] = refl
-  stripped_so (x ∷ p) (y ∷ k) =
-      ap (λ b. cond b (behind cmp p k) None) (sym (same x y)) ∙ by (eq y x) (stripped_so p k)
+  stripped-so : (p k : List K) → behind cmp p k ≡ cond (pointwise eq (take (length p) k) p) (Some (drop (length p) k)) None
+  stripped-so [] k = refl
+  stripped-so (x ∷ p) [] = refl
+  stripped-so (x ∷ p) (y ∷ k) =
+      ap (λ b. cond b (behind cmp p k) None) (sym (same x y)) ∙ by (eq y x) (stripped-so p k)
     where
       by : (b : Bool) → behind cmp p k ≡ cond (pointwise eq (take (length p) k) p) (Some (drop (length p) k)) None
           → cond b (behind cmp p k) None ≡ cond (b && pointwise eq (take (length p) k) p) (Some (drop (length p) k)) None
@@ -38,15 +38,15 @@ module _ {K : Type 0} (cmp : K → K → Ordering) (eq : K → K → Bool) (same
       → MatchOption r (pointwise eq (take (length p) k) p ≡ false)
       (λ x. (pointwise eq (take (length p) k) p ≡ true) × (x.now ≡ drop (length p) k) × (length x.now + length p ≡ length k))
       → option_copied r ≡ behind cmp p k
-  stripped p k None e = sym (stripped_so p k ∙ ap (λ b. cond b (Some (drop (length p) k)) None) e)
+  stripped p k None e = sym (stripped-so p k ∙ ap (λ b. cond b (Some (drop (length p) k)) None) e)
   stripped p k (Some x) e =
-      ap (λ r. Some r) e.1 ∙ sym (stripped_so p k ∙ ap (λ b. cond b (Some (drop (length p) k)) None) e.0)
+      ap (λ r. Some r) e.1 ∙ sym (stripped-so p k ∙ ap (λ b. cond b (Some (drop (length p) k)) None) e.0)
 
 -- of three the first that is there
-else_assoc : {W : Type 0} (a b c : Option W) → or_else (or_else a b) c ≡ or_else a (option_or b c)
-else_assoc None None c = refl
-else_assoc None (Some v) c = refl
-else_assoc (Some u) b c = refl
+else-assoc : {W : Type 0} (a b c : Option W) → or_else (or_else a b) c ≡ or_else a (option_or b c)
+else-assoc None None c = refl
+else-assoc None (Some v) c = refl
+else-assoc (Some u) b c = refl
 
 module _ {K W : Type 0} (cmp : K → K → Ordering) where
   -- of a node on the way: what it covers of the rest of the path decides, or else the longest rule above it
@@ -56,57 +56,57 @@ module _ {K W : Type 0} (cmp : K → K → Ordering) where
   module _ (rules t : Tree K W) (path rest p : List K) (longest : Option W) (h : Decides rules path t rest longest)
       (ep : p ≡ t.prefix) (a : AreChildren cmp t.children) where
     empty : lookup_in cmp t.children [] ≡ None
-    empty = lookup_in-empty cmp t.children (children_ordered cmp t.children a)
+    empty = lookup_in-empty cmp t.children (children-ordered cmp t.children a)
 
     -- what the node covers of the rest
     covered : (left : Option (List K)) → behind cmp p rest ≡ left
         → cover (lookup cmp t) rest ≡ node_cover t.value (lookup_in cmp t.children) left
     covered left e =
-        cover_node cmp t.value (lookup_in cmp t.children) empty t.prefix rest
+        cover-node cmp t.value (lookup_in cmp t.children) empty t.prefix rest
         ∙ ap (node_cover t.value (lookup_in cmp t.children)) (ap (λ q. behind cmp q rest) (sym ep) ∙ e)
 
     -- the prefix is not one of the rest: the rules above decide
-    pub decided_above : behind cmp p rest ≡ None → longest ≡ cover (lookup cmp rules) path
-    decided_above e = sym (h ∙ ap (λ o. or_else o longest) (covered None e))
+    pub decided-above : behind cmp p rest ≡ None → longest ≡ cover (lookup cmp rules) path
+    decided-above e = sym (h ∙ ap (λ o. or_else o longest) (covered None e))
 
     -- what is below the node decides, or else its own rule, or else one above it
-    pub decided_below : (left : List K) (kids : Forest K W) (v next below : Option W) → behind cmp p rest ≡ Some left
+    pub decided-below : (left : List K) (kids : Forest K W) (v next below : Option W) → behind cmp p rest ≡ Some left
         → kids ≡ t.children → v ≡ t.value → next ≡ option_or v longest → cover (lookup_in cmp kids) left ≡ below
         → cover (lookup cmp rules) path ≡ or_else below next
-    decided_below left kids v next below e ek ev en eb =
+    decided-below left kids v next below e ek ev en eb =
         h ∙ ap (λ o. or_else o longest) (covered (Some left) e)
-        ∙ else_assoc (cover (lookup_in cmp t.children) left) t.value longest
+        ∙ else-assoc (cover (lookup_in cmp t.children) left) t.value longest
         ∙ ap (λ o. or_else o (option_or t.value longest)) (ap (λ f. cover (lookup_in cmp f) left) (sym ek) ∙ eb)
         ∙ ap (or_else below) (ap (λ o. option_or o longest) (sym ev) ∙ sym en)
 
   -- no tree of a list begins as the path does
-  pub covers_none : (f : Forest K W) → AreChildren cmp f → (x : K) (path : List K) → slice_get path 0 ≡ Some x
+  pub covers-none : (f : Forest K W) → AreChildren cmp f → (x : K) (path : List K) → slice_get path 0 ≡ Some x
       → IsNoChild cmp f x → cover (lookup_in cmp f) path ≡ None
-  covers_none f a x [] e none = none_some x e
-  covers_none f a x (y ∷ others) e none =
+  covers-none f a x [] e none = none-some x e
+  covers-none f a x (y ∷ others) e none =
       let first : y ≡ x = cc in
-      cover_below (lookup_in cmp f) (λ r. None) y others (lookup_in-empty cmp f (children_ordered cmp f a)) refl
+      cover-below (lookup_in cmp f) (λ r. None) y others (lookup_in-empty cmp f (children-ordered cmp f a)) refl
       (λ r. ap (λ z. lookup_in cmp f (z ∷ r)) first ∙ none r)
-      ∙ cover_none (λ r. None) (λ r. refl) (y ∷ others)
+      ∙ cover-none (λ r. None) (λ r. refl) (y ∷ others)
 
   -- one does
-  pub covers_child : (f : Forest K W) → AreChildren cmp f → (x : K) (path : List K) (child : Tree K W)
+  pub covers-child : (f : Forest K W) → AreChildren cmp f → (x : K) (path : List K) (child : Tree K W)
       → slice_get path 0 ≡ Some x → IsFoundChild cmp f x child
       → cover (lookup_in cmp f) path ≡ cover (lookup cmp child) path
-  covers_child f a x [] child e found = none_some x e
-  covers_child f a x (y ∷ others) child e found =
+  covers-child f a x [] child e found = none-some x e
+  covers-child f a x (y ∷ others) child e found =
       let first : y ≡ x = cc in
-      cover_below (lookup_in cmp f) (lookup cmp child) y others (lookup_in-empty cmp f (children_ordered cmp f a))
-      (no_empty child.prefix found.begins)
+      cover-below (lookup_in cmp f) (lookup cmp child) y others (lookup_in-empty cmp f (children-ordered cmp f a))
+      (no-empty child.prefix found.begins)
       (λ r. ap (λ z. lookup_in cmp f (z ∷ r)) first ∙ found.same r ∙ ap (λ z. lookup cmp child (z ∷ r)) (sym first))
     where
-      no_empty : (p : List K) → same_key cmp (take 1 p) (x ∷ []) ≡ true
+      no-empty : (p : List K) → same_key cmp (take 1 p) (x ∷ []) ≡ true
           → lookup cmp (node p child.value child.children) [] ≡ None
-      no_empty [] b = cc
-      no_empty (y ∷ p) b = refl
+      no-empty [] b = cc
+      no-empty (y ∷ p) b = refl
 
   -- the empty path
-  pub covers_empty : (f : Forest K W) → AreChildren cmp f → (path : List K) → slice_get path 0 ≡ None
+  pub covers-empty : (f : Forest K W) → AreChildren cmp f → (path : List K) → slice_get path 0 ≡ None
       → cover (lookup_in cmp f) path ≡ None
-  covers_empty f a [] e = lookup_in-empty cmp f (children_ordered cmp f a)
-  covers_empty f a (y ∷ others) e = cc
+  covers-empty f a [] e = lookup_in-empty cmp f (children-ordered cmp f a)
+  covers-empty f a (y ∷ others) e = cc

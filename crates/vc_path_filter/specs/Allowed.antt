@@ -1,6 +1,4 @@
 -- What rules on paths allow. Rules are a tree of paths, which has true at those that are allowed, and false at those that are denied.
---     is_allowed cmp rules path        whether the longest rule that is a prefix of the path allows it
---     IsRestricted cmp rules keeps f g        of the map f, g binds the keys that the rules allow
 use Rattle.std.specs.Prelude.{◌≡◌, Bool, false, List, Option, Some, None}
 use Rattle.std.specs.Option.{unwrap_or}
 use Rattle.std.specs.declared.cmp.Ordering.{Ordering}

@@ -51,13 +51,13 @@ module _ {X : Type 0} (cmp : X → X → Ordering) (total : IsTotalOrder cmp) wh
       let parts : Ascends cmp (take i xs ++ drop i xs) = subst (λ l. Ascends cmp l) (sym (take-append-drop i xs)) q in
       subst (λ l. Ascends cmp l) (sym e) (ascends-between (take i xs) x (drop i xs) (ascends-front (take i xs) (drop i xs) parts) p.less (ascends-append cmp (take i xs) (drop i xs) parts) (gap-above cmp total xs x i p))
 
-  inserted_by : (b : Bool) (xs : List X) (x z : X) (i : ℕ) → AllByRecursion (λ y. cmp y x ≡ Less) (take i xs) → eq_by_cmp cmp x z ≡ b
+  inserted-by : (b : Bool) (xs : List X) (x z : X) (i : ℕ) → AllByRecursion (λ y. cmp y x ≡ Less) (take i xs) → eq_by_cmp cmp x z ≡ b
       → option_or (element_at cmp (take i xs) z) (cond b (Some x) (element_at cmp (drop i xs) z)) ≡ cond b (Some x) (element_at cmp xs z)
-  inserted_by true xs x z i p e = ap (λ o. option_or o (Some x)) (none-below cmp total (take i xs) x z p (equal-from_is_eq (cmp x z) e))
-  inserted_by false xs x z i p e = sym (element_at-append cmp (take i xs) (drop i xs) z) ∙ ap (λ l. element_at cmp l z) (take-append-drop i xs)
+  inserted-by true xs x z i p e = ap (λ o. option_or o (Some x)) (none-below cmp total (take i xs) x z p (equal-from_is_eq (cmp x z) e))
+  inserted-by false xs x z i p e = sym (element_at-append cmp (take i xs) (drop i xs) z) ∙ ap (λ l. element_at cmp l z) (take-append-drop i xs)
 
   pub element_at-insert : (xs ys : List X) (x : X) (i : ℕ) → IsGap (λ y. cmp y x) xs i → ys ≡ insert xs i x → (z : X) → element_at cmp ys z ≡ cond (eq_by_cmp cmp x z) (Some x) (element_at cmp xs z)
-  element_at-insert xs ys x i p e z = ap (λ l. element_at cmp l z) e ∙ element_at-append cmp (take i xs) (x ∷ drop i xs) z ∙ inserted_by (eq_by_cmp cmp x z) xs x z i p.less refl
+  element_at-insert xs ys x i p e z = ap (λ l. element_at cmp l z) e ∙ element_at-append cmp (take i xs) (x ∷ drop i xs) z ∙ inserted-by (eq_by_cmp cmp x z) xs x z i p.less refl
 
   -- ---- a new element in the place of an equal one
 

@@ -7,7 +7,7 @@ use Rattle.std.specs.Ordering.{is_eq}
 use Rattle.std.specs.declared.cmp.Ordering.{Ordering}
 use Rattle.std.specs.declared.cmp.Ordering.TheVariants.{Equal}
 use Rattle.vc_merge.specs.Ascending.{member, element_at}
-use Rattle.vc_merge.proofs.OneList.{members_tell_the_list}
+use Rattle.vc_merge.proofs.OneList.{members-tell_the_list}
 use Rattle.vc_sets.specs.SetOf.{Keeps, IsSetOf, and_not, exactly_one}
 use Rattle.vc_sets.specs.Laws.{InEachWay, SetOfIsOne, SetOfIsOneUpToEqual, OperationsInWords, UnionKeepsTheLeft, TestsAreOfOperations}
 
@@ -69,15 +69,15 @@ module _ {X : Type 0} (f : Bool → Bool → Bool) where
 
 module _ {X : Type 0} (cmp : X → X → Ordering) (total : IsTotalOrder cmp) where
   -- an operation that takes elements as they are makes one list of two sets
-  pub set_of_is_one : SetOfIsOne cmp
-  set_of_is_one f a b c d s t =
-      (members_tell_the_list cmp total).elements c d s.ascends t.ascends
+  pub set-of_is_one : SetOfIsOne cmp
+  set-of_is_one f a b c d s t =
+      (members-tell_the_list cmp total).elements c d s.ascends t.ascends
       (λ x. one-kept f (element_at cmp a x) (element_at cmp b x) (element_at cmp c x) (element_at cmp d x) (s.kept x) (t.kept x))
 
   module _ (L R : X → X → Type 0) where
     -- what an operation makes of two sets is one list up to equality
     pub set-of_is_one_up_to_equal : SetOfIsOneUpToEqual cmp L R
-    set-of_is_one_up_to_equal f a b c d s t = (members_tell_the_list cmp total).members c d s.ascends t.ascends (λ x. s.members x ∙ sym (t.members x))
+    set-of_is_one_up_to_equal f a b c d s t = (members-tell_the_list cmp total).members c d s.ascends t.ascends (λ x. s.members x ∙ sym (t.members x))
 
     -- the four operations are as named
     pub operations-in_words : OperationsInWords cmp L R
@@ -131,8 +131,8 @@ module _ {X : Type 0} (cmp : X → X → Ordering) (total : IsTotalOrder cmp) wh
     equal-members (x ∷ xs) [] h w = absurd h
 
     -- the tests are of operations
-    pub tests_are_of_operations : TestsAreOfOperations cmp L R
-    tests_are_of_operations = record {
+    pub tests-are_of_operations : TestsAreOfOperations cmp L R
+    tests-are_of_operations = record {
       disjoint = λ a b c s. (
         (λ h. no-members c (λ x m. let w = (in-both a b c s x).0 m in h x w.0 w.1)),
         λ e x p q. empty-member c x e ((in-both a b c s x).1 (p, q)),
@@ -142,7 +142,7 @@ module _ {X : Type 0} (cmp : X → X → Ordering) (total : IsTotalOrder cmp) wh
         λ e x p. member-or_not (member cmp b x) (λ n. empty-member c x e ((in-left_alone a b c s x).1 (p, n))),
       );
       subset_by_union = λ a b c p s. (
-        (λ h. (members_tell_the_list cmp total).members c b s.ascends p (λ x. s.members x ∙ or-of_less (member cmp a x) (member cmp b x) (h x))),
+        (λ h. (members-tell_the_list cmp total).members c b s.ascends p (λ x. s.members x ∙ or-of_less (member cmp a x) (member cmp b x) (h x))),
         λ e x m. sym (equal-members c b e x) ∙ (in-either a b c s x).1 (inl m),
       );
     }

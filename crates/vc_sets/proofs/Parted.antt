@@ -17,9 +17,9 @@ not-refused (Ok a) P refused e f h = h
 not-refused (Err e) P refused i f h = absurd (true≢false (sym i ∙ f))
 
 -- what follows where a call was not refused
-pub on_ok : {A E : Type 0} (result : Result A E) (P Q : Type 0) → (P → Q) → OnOk result P → OnOk result Q
-on_ok (Ok a) P Q f h = f h
-on_ok (Err e) P Q f h = tt
+pub on-ok : {A E : Type 0} (result : Result A E) (P Q : Type 0) → (P → Q) → OnOk result P → OnOk result Q
+on-ok (Ok a) P Q f h = f h
+on-ok (Err e) P Q f h = tt
 
 -- the elements are the first `end` ones, and the others stand from `next` on
 pub record IsParted {X : Type 0} (old added all : List X) (end next : ℕ) : Type 0 where

@@ -19,8 +19,8 @@ use Rattle.vc_sets.proofs.Searching.{gap-none}
 -- ---- an iterator that moves the elements of a list out
 
 -- all of the list has come
-pub all_taken : {X : Type 0} (s t xs : List X) (u : List X) → Yields (TakesFirst (λ x. x)) s xs t → TakesFirst (λ x. x) t None u → xs ≡ s
-all_taken s t xs u y n = sym (taken s t xs y ∙ ap (λ l. xs ++ l) n.0 ∙ append-nil xs)
+pub all-taken : {X : Type 0} (s t xs : List X) (u : List X) → Yields (TakesFirst (λ x. x)) s xs t → TakesFirst (λ x. x) t None u → xs ≡ s
+all-taken s t xs u y n = sym (taken s t xs y ∙ ap (λ l. xs ++ l) n.0 ∙ append-nil xs)
 
 -- ---- elements that go
 
@@ -88,13 +88,13 @@ module _ {X : Type 0} (cmp : X → X → Ordering) where
     element_at-alike (y ∷ ys) x z e = (λ i. cond (is_eq (alike_right total x z y e i)) (Some y) (element_at-alike ys x z e i))
 
     -- nothing stands at what is equal to an element that is not there
-    nothing_by : (b : Bool) (xs : List X) (x z : X) → element_at cmp xs x ≡ None → eq_by_cmp cmp x z ≡ b → element_at cmp xs z ≡ cond b None (element_at cmp xs z)
-    nothing_by true xs x z n e = sym (element_at-alike xs x z (equal-from_is_eq (cmp x z) e)) ∙ n
-    nothing_by false xs x z n e = refl
+    nothing-by : (b : Bool) (xs : List X) (x z : X) → element_at cmp xs x ≡ None → eq_by_cmp cmp x z ≡ b → element_at cmp xs z ≡ cond b None (element_at cmp xs z)
+    nothing-by true xs x z n e = sym (element_at-alike xs x z (equal-from_is_eq (cmp x z) e)) ∙ n
+    nothing-by false xs x z n e = refl
 
     -- what stands where, if no element is equal to x
     pub element_at-not_there : (xs : List X) (x : X) (i : ℕ) → IsGap (λ y. cmp y x) xs i → (z : X) → element_at cmp xs z ≡ cond (eq_by_cmp cmp x z) None (element_at cmp xs z)
-    element_at-not_there xs x i p z = nothing_by (eq_by_cmp cmp x z) xs x z (gap-none cmp total xs x i p) refl
+    element_at-not_there xs x i p z = nothing-by (eq_by_cmp cmp x z) xs x z (gap-none cmp total xs x i p) refl
 
     -- ---- members follow from what is kept
 

@@ -12,9 +12,9 @@ use Rattle.vc_merge.specs.Place.{IsGap, IsPlace}
 use Rattle.vc_merge.proofs.Lists.{each-weaker}
 use Rattle.vc_merge.proofs.Members.{member-is_some, element_at-later, element_at-none, element_at-append}
 
-or_true : (b : Bool) → (b || true) ≡ true
-or_true true = refl
-or_true false = refl
+or-true : (b : Bool) → (b || true) ≡ true
+or-true true = refl
+or-true false = refl
 
 module _ {X : Type 0} (cmp : X → X → Ordering) (total : IsTotalOrder cmp) where
   -- nothing of what is below x stands at what is equal to x
@@ -36,7 +36,7 @@ module _ {X : Type 0} (cmp : X → X → Ordering) (total : IsTotalOrder cmp) wh
   found-member : (xs : List X) (x : X) (i : ℕ) → i < length xs → ((d : X) → cmp (get_or xs i d) x ≡ Equal) → member cmp xs x ≡ true
   found-member [] x i h e = absurd (omega arith)
   found-member (y ∷ ys) x zero h e = ap (λ o. is_eq o || member cmp ys x) (e x)
-  found-member (y ∷ ys) x (suc i) h e = let k : i < length ys = omega arith in ap (λ b. eq_by_cmp cmp y x || b) (found-member ys x i k e) ∙ or_true (eq_by_cmp cmp y x)
+  found-member (y ∷ ys) x (suc i) h e = let k : i < length ys = omega arith in ap (λ b. eq_by_cmp cmp y x || b) (found-member ys x i k e) ∙ or-true (eq_by_cmp cmp y x)
 
   -- a place is found where x is a member
   pub place-is_ok : (xs : List X) (x : X) (r : Result ℕ ℕ) → IsPlace (λ y. cmp y x) xs r → is_ok r ≡ member cmp xs x

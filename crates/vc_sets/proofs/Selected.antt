@@ -15,16 +15,16 @@ use Rattle.vc_merge.proofs.Members.{member-is_some, element_at-first, element_at
 
 -- ---- one place
 
-some_and : {X : Type 0} (P : X → Type 0) (b c : Bool) (z : Option X) → c ≡ b → MatchBool b (IsSomeAnd z P) (z ≡ None) → is_some z ≡ c
-some_and P true c (Some w) e h = sym e
-some_and P true c None e h = absurd h
-some_and P false c z e h = ap is_some h ∙ sym e
+some-and : {X : Type 0} (P : X → Type 0) (b c : Bool) (z : Option X) → c ≡ b → MatchBool b (IsSomeAnd z P) (z ≡ None) → is_some z ≡ c
+some-and P true c (Some w) e h = sym e
+some-and P true c None e h = absurd h
+some-and P false c z e h = ap is_some h ∙ sym e
 
 module _ {X : Type 0} (f : Bool → Bool → Bool) (none : f false false ≡ false) (L R : X → X → Type 0) where
   -- something is kept where f says so
   keeps-is_some : (left right kept : Option X) → Keeps f L R left right kept → is_some kept ≡ f (is_some left) (is_some right)
-  keeps-is_some (Some x) right kept h = some_and (L x) (f true (is_some right)) (f true (is_some right)) kept refl h
-  keeps-is_some None (Some y) kept h = some_and (R y) (f false true) (f false true) kept refl h
+  keeps-is_some (Some x) right kept h = some-and (L x) (f true (is_some right)) (f true (is_some right)) kept refl h
+  keeps-is_some None (Some y) kept h = some-and (R y) (f false true) (f false true) kept refl h
   keeps-is_some None None kept h = ap is_some h ∙ sym none
 
   keeps-same : {o p q o' p' q' : Option X} → o ≡ o' → p ≡ p' → q ≡ q' → Keeps f L R o' p' q' → Keeps f L R o p q
@@ -94,12 +94,12 @@ module _ {X : Type 0} (cmp : X → X → Ordering) (total : IsTotalOrder cmp) wh
     IsKeptAt : X → List (Event X X) → List X → Type 0
     IsKeptAt x es zs = Keeps f L R (element_at cmp (lefts es) x) (element_at cmp (rights es) x) (element_at cmp zs x)
 
-    at_left : (x y : X) (es : List (Event X X)) (zs : List X) → AllByRecursion (λ e. cmp y (either (place e)) ≡ Less) es → AllByRecursion (IsMatched (both_sides cmp)) es
+    at-left : (x y : X) (es : List (Event X X)) (zs : List X) → AllByRecursion (λ e. cmp y (either (place e)) ≡ Less) es → AllByRecursion (IsMatched (both_sides cmp)) es
         → (q : Gathers (KeptAt f L R) (left_alone y ∷ es) zs) → IsKeptAt x es q.1 → (b : Bool) → eq_by_cmp cmp y x ≡ b → IsKeptAt x (left_alone y ∷ es) zs
     unfolding IsKeptAt
-    at_left x y es zs p m q ih true e =
+    at-left x y es zs p m q ih true e =
         keeps-same f none L R (element_at-first cmp y (lefts es) x e) (element_at-none cmp total y x (rights es) (rights-above y es p m) e) refl (kept-at y (L y) (left_equal y) x (f true false) q.0 q.1 zs q.2 q.4 (all-above y es q.1 p q.3) e)
-    at_left x y es zs p m q ih false e = keeps-same f none L R (element_at-later cmp y (lefts es) x e) refl (kept-elsewhere y (L y) (left_equal y) x (f true false) q.0 q.1 zs q.2 q.4 e) ih
+    at-left x y es zs p m q ih false e = keeps-same f none L R (element_at-later cmp y (lefts es) x e) refl (kept-elsewhere y (L y) (left_equal y) x (f true false) q.0 q.1 zs q.2 q.4 e) ih
 
     at-right : (x y : X) (es : List (Event X X)) (zs : List X) → AllByRecursion (λ e. cmp y (either (place e)) ≡ Less) es → AllByRecursion (IsMatched (both_sides cmp)) es
         → (q : Gathers (KeptAt f L R) (right_alone y ∷ es) zs) → IsKeptAt x es q.1 → (b : Bool) → eq_by_cmp cmp y x ≡ b → IsKeptAt x (right_alone y ∷ es) zs
@@ -119,14 +119,14 @@ module _ {X : Type 0} (cmp : X → X → Ordering) (total : IsTotalOrder cmp) wh
     kept_at : (x : X) (es : List (Event X X)) (zs : List X) → Ascends (λ d e. both_sides cmp (place d) (place e)) es → AllByRecursion (IsMatched (both_sides cmp)) es → Gathers (KeptAt f L R) es zs → IsKeptAt x es zs
     unfolding IsKeptAt IsStrictlySortedBy
     kept_at x [] zs p m q = ap (λ l. element_at cmp l x) q
-    kept_at x (left_alone y ∷ es) zs p m q = at_left x y es zs p.0 m.1 q (kept_at x es q.1 p.1 m.1 q.3) (eq_by_cmp cmp y x) refl
+    kept_at x (left_alone y ∷ es) zs p m q = at-left x y es zs p.0 m.1 q (kept_at x es q.1 p.1 m.1 q.3) (eq_by_cmp cmp y x) refl
     kept_at x (right_alone y ∷ es) zs p m q = at-right x y es zs p.0 m.1 q (kept_at x es q.1 p.1 m.1 q.3) (eq_by_cmp cmp y x) refl
     kept_at x (collision y w ∷ es) zs p m q = at-both x y w es zs m.0 p.0 q (kept_at x es q.1 p.1 m.1 q.3) (eq_by_cmp cmp y x) refl
 
     -- what is kept of the script of a and b is what f makes of them
-    pub set_of : (a b c : List X) (es : List (Event X X)) → IsScript (both_sides cmp) a b es → Gathers (KeptAt f L R) es c → IsSetOf cmp L R f a b c
+    pub set-of : (a b c : List X) (es : List (Event X X)) → IsScript (both_sides cmp) a b es → Gathers (KeptAt f L R) es c → IsSetOf cmp L R f a b c
     unfolding IsKeptAt
-    set_of a b c es s q =
+    set-of a b c es s q =
         let kept : (x : X) → Keeps f L R (element_at cmp a x) (element_at cmp b x) (element_at cmp c x) =
         λ x. keeps-same f none L R (ap (λ l. element_at cmp l x) (sym s.left)) (ap (λ l. element_at cmp l x) (sym s.right)) refl (kept_at x es c s.ascends s.matched q) in
         record {

@@ -13,13 +13,13 @@ use Rattle.vc_sets.specs.SetOf.{IsSetOf}
 use Rattle.vc_merge.specs.Gathering.{Gathers, GivesIf}
 use Rattle.vc_merge.proofs.Builds.{gathers-append, gathers-map, gathers-none}
 use Rattle.vc_sets.specs.Select.{both_sides, keeps, KeptAt}
-use Rattle.vc_sets.proofs.Selected.{set_of}
+use Rattle.vc_sets.proofs.Selected.{set-of}
 
 -- ---- an answer
 
-goes_on : (b : Bool) → ◌≡◌ {A = Answer} (Ok true) (Ok (not b)) → b ≡ false
-goes_on true e = let odd : true ≡ false = cc in absurd (true≢false odd)
-goes_on false e = refl
+goes-on : (b : Bool) → ◌≡◌ {A = Answer} (Ok true) (Ok (not b)) → b ≡ false
+goes-on true e = let odd : true ≡ false = cc in absurd (true≢false odd)
+goes-on false e = refl
 
 stops-at : (b : Bool) (answer : Answer) → answer ≡ Ok (not b) → (answer ≡ Ok true → ⊥) → b ≡ true
 stops-at true answer e stop = refl
@@ -63,7 +63,7 @@ module _ {X : Type 0} (cmp : X → X → Ordering) (total : IsTotalOrder cmp) (l
   all-given (e ∷ es) = let first = given-at e in let rest = all-given es in (first.0 ++ rest.0, (first.0, rest.0, first.1, rest.1, refl))
 
   witnesses : (a b zs : List X) (es : List (Event X X)) → IsScript (both_sides cmp) a b es → Gathers witness_at es zs → IsSetOf cmp (λ x z. x ≡ z) (λ y z. y ≡ z) witness a b zs
-  witnesses a b zs es s q = set_of cmp total (λ x z. x ≡ z) (λ y z. y ≡ z) (same-equal cmp total) (same-equal cmp total) witness refl a b zs es s q
+  witnesses a b zs es s q = set-of cmp total (λ x z. x ≡ z) (λ y z. y ≡ z) (same-equal cmp total) (same-equal cmp total) witness refl a b zs es s q
 
   none-given : (a b : List X) (es : List (Event X X)) → IsScript (both_sides cmp) a b es → Gathers witness_at es [] → (x : X) → witness (member cmp a x) (member cmp b x) ≡ false
   none-given a b es s q x = sym ((witnesses a b [] es s q).members x)
@@ -92,12 +92,12 @@ module _ {X : Type 0} (cmp : X → X → Ordering) (total : IsTotalOrder cmp) (l
     -- nothing was found by runs that were all answered by true
     step-none : (s t : M) (run : Run X X) → Step witness_allows s run t → (found t ≡ found s) × Gathers witness_at (run_events run) []
     step-none s t (of_left xs) p =
-        let e = goes_on l p.allowed.0 in
+        let e = goes-on l p.allowed.0 in
         (p.allowed.1 ∙ not-found_or (found s) l e, gathers-map witness_at (λ x. left_alone x) xs [] (gathers-none (λ x. witness_at (left_alone x)) (λ x. gives-none l x e) xs))
     step-none s t (of_right ys) p =
-        let e = goes_on r p.allowed.0 in
+        let e = goes-on r p.allowed.0 in
         (p.allowed.1 ∙ not-found_or (found s) r e, gathers-map witness_at (λ y. right_alone y) ys [] (gathers-none (λ y. witness_at (right_alone y)) (λ y. gives-none r y e) ys))
-    step-none s t (of_both x y) p = let e = goes_on both p.allowed.0 in (p.allowed.1 ∙ not-found_or (found s) both e, ([], [], gives-none both x e, refl, refl))
+    step-none s t (of_both x y) p = let e = goes-on both p.allowed.0 in (p.allowed.1 ∙ not-found_or (found s) both e, ([], [], gives-none both x e, refl, refl))
 
     steps-none : (s t : M) (runs : List (Run X X)) → Steps witness_allows s runs t → (found t ≡ found s) × Gathers witness_at (events runs) []
     steps-none s t [] e = (ap found (sym e), refl)

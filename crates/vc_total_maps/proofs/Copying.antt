@@ -62,9 +62,9 @@ copy-canonical cmp total eq laws R clones S says xs ys d e pairs default h k =
 
 -- ---- what is left once the pairs are gone whose value equals the default
 
-by_test : {P : Type 0} (b : Bool) → (b ≡ true → P) → (b ≡ false → P) → P
-by_test true t f = t refl
-by_test false t f = f refl
+by-test : {P : Type 0} (b : Bool) → (b ≡ true → P) → (b ≡ false → P) → P
+by-test true t f = t refl
+by-test false t f = f refl
 
 not-true : (b : Bool) → not b ≡ true → b ≡ false
 not-true false e = refl
@@ -77,7 +77,7 @@ pick-holds P false v o p h = h
 module _ {K V : Type 0} (eq : V → V → Bool) (d : V) where
   filter-apart : (es : List (K × V)) → AllByRecursion (λ p. eq p.1 d ≡ false) (filter (λ p. not (eq p.1 d)) es)
   filter-apart [] = tt
-  filter-apart (e ∷ es) = by_test (not (eq e.1 d)) (λ t. rw t (not-true (eq e.1 d) t, filter-apart es)) (λ f. rw f (filter-apart es))
+  filter-apart (e ∷ es) = by-test (not (eq e.1 d)) (λ t. rw t (not-true (eq e.1 d) t, filter-apart es)) (λ f. rw f (filter-apart es))
 
   apart-listed : (cmp : K → K → Ordering) (es : List (K × V)) → AllByRecursion (λ p. eq p.1 d ≡ false) es → NoneIsDefault cmp eq (total_map es d)
   apart-listed cmp [] all k = tt

@@ -39,9 +39,9 @@ none-shared true true h = absurd (h refl refl)
 none-shared true false h = refl
 none-shared false q h = refl
 
-pub not_both : (p q : Bool) → (p && q) ≡ false → IsTrue p → IsTrue q → ⊥
-not_both true q e h k = not_true (sym e ∙ k)
-not_both false q e h k = not_true h
+pub not-both : (p q : Bool) → (p && q) ≡ false → IsTrue p → IsTrue q → ⊥
+not-both true q e h k = not_true (sym e ∙ k)
+not-both false q e h k = not_true h
 
 -- ---- complements
 

@@ -12,7 +12,7 @@ use Rattle.vc_sets.specs.SetOf.{and_not, exactly_one}
 use Rattle.vc_total_sets.specs.TotalSet.{TotalSet, total, complement, has, IsEqualTotal}
 use Rattle.vc_total_sets.specs.TotalOf.{IsTotalOf, IsPointwise, listed_by}
 use Rattle.vc_total_sets.specs.Laws.{Operations, fresh_of, moved_of, OperationsArePointwise, OperationsMakeOne, ComplementsTurnOperations, TotalTestsAreOfOperations}
-use Rattle.vc_total_sets.proofs.Formulas.{none-left, had-by_second, none-shared, not_both, or-of_not, and-of_not, or-turned, and-turned, and-swapped, or-swapped, has-listed}
+use Rattle.vc_total_sets.proofs.Formulas.{none-left, had-by_second, none-shared, not-both, or-of_not, and-of_not, or-turned, and-turned, and-swapped, or-swapped, has-listed}
 
 module _ {X : Type 0} (cmp : X → X → Ordering) where
   -- what an operation makes, but for which of equal elements it has
@@ -153,8 +153,8 @@ module _ {X : Type 0} (cmp : X → X → Ordering) where
       disjoint = λ a b c m. let s = all.and a b c m in (
         (λ h. nothing-there c (s.negated ∙ none-shared a.negated b.negated h.elsewhere) (λ x. pointwise ◌&&◌ a b c s x ∙ none-shared (has cmp a x) (has cmp b x) (h.at x))),
         λ e. record {
-          at = λ x. not_both (has cmp a x) (has cmp b x) (sym (pointwise ◌&&◌ a b c s x) ∙ ap (λ t. has cmp t x) e);
-          elsewhere = not_both a.negated b.negated (sym s.negated ∙ ap (λ t. t.negated) e);
+          at = λ x. not-both (has cmp a x) (has cmp b x) (sym (pointwise ◌&&◌ a b c s x) ∙ ap (λ t. has cmp t x) e);
+          elsewhere = not-both a.negated b.negated (sym s.negated ∙ ap (λ t. t.negated) e);
         },
       );
     }

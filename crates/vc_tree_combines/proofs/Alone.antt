@@ -1,9 +1,9 @@
 -- What is left of a tree that one side alone has: nothing, or a copy; and calls of the closures that combines ask.
---     left_out        nothing is left
+--     left-out        nothing is left
 --     copied        a copy is a child that begins as the tree did and binds what it binds
 --     made_by        what is said of both is enough
---     may_answer        what a call answers
---     made_some, made_none        the combine of whole trees
+--     may-answer        what a call answers
+--     made-some, made-none        the combine of whole trees
 use Rattle.std.proofs.Common.{◌≡◌, ℕ, ◌<◌, [], ◌∷◌, ◌++◌, List, Option, None, Some, Result, Ok, Err, IfOk, refl, sym, ap, subst, ◌∙◌, take, drop, length, slice_get, arith}
 use Rattle.std.specs.Cmp.{IsTotalOrder, tied_itself}
 use Rattle.std.specs.Option.{option_copied}
@@ -20,15 +20,15 @@ use Rattle.std.proofs.lemmas.List.{take-append-drop}
 use Rattle.vc_tree_model.specs.Shortened.{IsShortened}
 use Rattle.vc_tree_model.specs.Child.{Begins}
 use Rattle.vc_tree_model.specs.Same.{IsAlike}
-use Rattle.vc_tree_model.proofs.AlikeLemmas.{alike_solid, alike_children, tree_alike_lookup}
-use Rattle.vc_tree_model.proofs.KeyLemmas.{none_some, then_behind, behind-append, behind_itself}
+use Rattle.vc_tree_model.proofs.AlikeLemmas.{alike-solid, alike-children, tree-alike_lookup}
+use Rattle.vc_tree_model.proofs.KeyLemmas.{none-some, then_behind, behind-append, behind-itself}
 use Rattle.vc_tree_combines.specs.Made.{IsMade, IsBothMade}
 
 module _ {K : Type 0} (cmp : K → K → Ordering) where
   module _ {V U : Type 0} where
     -- nothing is left where nothing may be
-    pub left_out : (R : Option V → Option U → Type 0) → ((v : Option V) → R v None) → (t : Tree K V) → IsMade cmp R t None
-    left_out R h t = record { child = tt; begins = λ y e. tt; binds = λ k. h (lookup cmp t k) }
+    pub left-out : (R : Option V → Option U → Type 0) → ((v : Option V) → R v None) → (t : Tree K V) → IsMade cmp R t None
+    left-out R h t = record { child = tt; begins = λ y e. tt; binds = λ k. h (lookup cmp t k) }
 
     -- what is said of both is enough
     pub made_by : (R S : Option V → Option U → Type 0) → ((v : Option V) (u : Option U) → R v u → S v u) → (t : Tree K V)
@@ -36,31 +36,31 @@ module _ {K : Type 0} (cmp : K → K → Ordering) where
     made_by R S f t o m = record { child = m.child; begins = m.begins; binds = λ k. f _ _ (m.binds k) }
 
   module _ {V : Type 0} (o : IsTotalOrder cmp) (keeps : V → V → Type 0) where
-    solid_at : (i : ℕ) (p : List K) (v : Option V) (f : Forest K V) → IsWhole p v f → i < length p → IsSolid v f
-    solid_at i [] v f w h = absurd (omega (arith, h))
-    solid_at i (x ∷ p) v f w h = w
+    solid-at : (i : ℕ) (p : List K) (v : Option V) (f : Forest K V) → IsWhole p v f → i < length p → IsSolid v f
+    solid-at i [] v f w h = absurd (omega (arith, h))
+    solid-at i (x ∷ p) v f w h = w
 
-    begins_itself : (p : List K) (y : K) → slice_get p 0 ≡ Some y → Begins cmp y p
-    begins_itself [] y e = none_some y e
-    begins_itself (x ∷ p) y e = let h : x ≡ y = cc in rw h (tied_itself o y)
+    begins-itself : (p : List K) (y : K) → slice_get p 0 ≡ Some y → Begins cmp y p
+    begins-itself [] y e = none-some y e
+    begins-itself (x ∷ p) y e = let h : x ≡ y = cc in rw h (tied_itself o y)
 
     -- a copy is a child that begins as the tree did and binds what it binds
     pub copied : (t u : Tree K V) (i : ℕ) → IsCanonical cmp t → i < length t.prefix → IsAlike keeps (shortened i t) u
         → IsMade cmp (IsKept keeps) (shortened i t) (Some u)
     copied t u i c h a = record {
       child = (
-        alike_solid keeps t.value u.value t.children u.children a.1 a.2 (solid_at i t.prefix t.value t.children c.0 h),
-        alike_children keeps cmp t.children u.children a.2 c.1,
+        alike-solid keeps t.value u.value t.children u.children a.1 a.2 (solid-at i t.prefix t.value t.children c.0 h),
+        alike-children keeps cmp t.children u.children a.2 c.1,
       );
-      begins = λ y e. subst (Begins cmp y) a.0 (begins_itself (drop i t.prefix) y e);
-      binds = λ k. tree_alike_lookup keeps cmp (shortened i t) u a k;
+      begins = λ y e. subst (Begins cmp y) a.0 (begins-itself (drop i t.prefix) y e);
+      binds = λ k. tree-alike_lookup keeps cmp (shortened i t) u a k;
     }
 
   -- and what the combine says of both
-  pub copied_by : {V : Type 0} (o : IsTotalOrder cmp) (keeps : V → V → Type 0) (t u : Tree K V) (i : ℕ) → IsCanonical cmp t
+  pub copied-by : {V : Type 0} (o : IsTotalOrder cmp) (keeps : V → V → Type 0) (t u : Tree K V) (i : ℕ) → IsCanonical cmp t
       → i < length t.prefix → IsAlike keeps (shortened i t) u → (S : Option V → Option V → Type 0)
       → ((v z : Option V) → IsKept keeps v z → S v z) → IsMade cmp S (shortened i t) (Some u)
-  copied_by o keeps t u i c h a S f = made_by (IsKept keeps) S f (shortened i t) (Some u) (copied o keeps t u i c h a)
+  copied-by o keeps t u i c h a S f = made_by (IsKept keeps) S f (shortened i t) (Some u) (copied o keeps t u i c h a)
 
 -- a clone is a copy
 kept_copies : {V : Type 0} (is_clone : V → V → Type 0) (v z : Option V) → IsKept is_clone v z → IsKept (Copies is_clone) v z
@@ -70,34 +70,34 @@ kept_copies is_clone (Some v) None h = absurd h
 kept_copies is_clone (Some v) (Some z) h = cloned h itself
 
 -- clones are in a union, an intersection and a difference
-pub union_left : {V : Type 0} (is_clone : V → V → Type 0) (v z : Option V) → IsKept is_clone v z
+pub union-left : {V : Type 0} (is_clone : V → V → Type 0) (v z : Option V) → IsKept is_clone v z
     → IsUnionAt (Copies is_clone) is_clone v None z
-union_left is_clone None None h = tt
-union_left is_clone None (Some z) h = absurd h
-union_left is_clone (Some v) z h = kept_copies is_clone (Some v) z h
+union-left is_clone None None h = tt
+union-left is_clone None (Some z) h = absurd h
+union-left is_clone (Some v) z h = kept_copies is_clone (Some v) z h
 
-pub difference_left : {V : Type 0} (is_clone : V → V → Type 0) (v z : Option V) → IsKept is_clone v z
+pub difference-left : {V : Type 0} (is_clone : V → V → Type 0) (v z : Option V) → IsKept is_clone v z
     → IsKept (Copies is_clone) v z
-difference_left is_clone v z h = kept_copies is_clone v z h
+difference-left is_clone v z h = kept_copies is_clone v z h
 
-pub ok_copies : {V E : Type 0} (is_clone : V → V → Type 0) (v : Option V) (r : Result (Option V) E) → IfOk r (IsKept is_clone v)
+pub ok-copies : {V E : Type 0} (is_clone : V → V → Type 0) (v : Option V) (r : Result (Option V) E) → IfOk r (IsKept is_clone v)
     → IfOk r (IsKept (Copies is_clone) v)
-ok_copies is_clone v (Ok z) h = kept_copies is_clone v z h
-ok_copies is_clone v (Err e) h = tt
+ok-copies is_clone v (Ok z) h = kept_copies is_clone v z h
+ok-copies is_clone v (Err e) h = tt
 
-pub union_value : {V E : Type 0} (is_clone : V → V → Type 0) (p : Bor V) (v w : Option (Bor V)) (r : Result (Option V) E)
+pub union-value : {V E : Type 0} (is_clone : V → V → Type 0) (p : Bor V) (v w : Option (Bor V)) (r : Result (Option V) E)
     → v ≡ Some p → IfOk r (IsKept is_clone (Some p.now))
     → IfOk r (IsUnionAt (Copies is_clone) is_clone (option_copied v) (option_copied w))
-union_value is_clone p v w r e h = rw e (ok_copies is_clone (Some p.now) r h)
+union-value is_clone p v w r e h = rw e (ok-copies is_clone (Some p.now) r h)
 
-pub difference_value : {V W E : Type 0} (is_clone : V → V → Type 0) (v : Option V) (w : Option (Bor W)) (r : Result (Option V) E)
+pub difference-value : {V W E : Type 0} (is_clone : V → V → Type 0) (v : Option V) (w : Option (Bor W)) (r : Result (Option V) E)
     → w ≡ None → IfOk r (IsKept is_clone v) → IfOk r (IsDifferenceAt (Copies is_clone) v (option_copied w))
-difference_value is_clone v w r e h = rw e (ok_copies is_clone v r h)
+difference-value is_clone v w r e h = rw e (ok-copies is_clone v r h)
 
-pub intersection_value : {V W E : Type 0} (is_clone : V → V → Type 0) (v : Option V) (w : Option (Bor W)) (q : Bor W)
+pub intersection-value : {V W E : Type 0} (is_clone : V → V → Type 0) (v : Option V) (w : Option (Bor W)) (q : Bor W)
     (r : Result (Option V) E) → w ≡ Some q → IfOk r (IsKept is_clone v)
     → IfOk r (IsIntersectionAt (Copies is_clone) v (option_copied w))
-intersection_value is_clone v w q r e h = rw e (ok_copies is_clone v r h)
+intersection-value is_clone v w q r e h = rw e (ok-copies is_clone v r h)
 
 -- what a tree binds behind the front of its prefix
 lookup-front : {K V : Type 0} (cmp : K → K → Ordering) → IsTotalOrder cmp → (t : Tree K V) (p rest k : List K)
@@ -105,64 +105,64 @@ lookup-front : {K V : Type 0} (cmp : K → K → Ordering) → IsTotalOrder cmp 
 lookup-front cmp o t p rest k e =
     ap (λ q. lookup cmp (node q t.value t.children) (p ++ k)) e
     ∙ ap (node_lookup t.value (lookup_in cmp t.children))
-    (behind-append cmp p rest (p ++ k) ∙ ap (then_behind cmp rest) (behind_itself cmp o p k))
+    (behind-append cmp p rest (p ++ k) ∙ ap (then_behind cmp rest) (behind-itself cmp o p k))
 
 -- a copy of a shortened tree binds what is left of the keys
-pub shortened_binds : {K V : Type 0} (cmp : K → K → Ordering) → IsTotalOrder cmp → (keeps : V → V → Type 0) (n : ℕ)
+pub shortened-binds : {K V : Type 0} (cmp : K → K → Ordering) → IsTotalOrder cmp → (keeps : V → V → Type 0) (n : ℕ)
     (t u : Tree K V) → IsAlike keeps (shortened n t) u → IsShortened cmp keeps n t u
-shortened_binds cmp o keeps n t u a k =
+shortened-binds cmp o keeps n t u a k =
     rw (lookup-front cmp o t (take n t.prefix) (drop n t.prefix) k (sym (take-append-drop n t.prefix)))
-    (tree_alike_lookup keeps cmp (shortened n t) u a k)
+    (tree-alike_lookup keeps cmp (shortened n t) u a k)
 
-pub ok_shortened : {K V T E : Type 0} (cmp : K → K → Ordering) → IsTotalOrder cmp → (keeps : V → V → Type 0) (n : ℕ)
+pub ok-shortened : {K V T E : Type 0} (cmp : K → K → Ordering) → IsTotalOrder cmp → (keeps : V → V → Type 0) (n : ℕ)
     (t : Tree K V) (tree : T → Tree K V) (r : Result T E) → IfOk r (λ u. IsAlike keeps (shortened n t) (tree u))
     → IfOk r (λ u. IsShortened cmp keeps n t (tree u))
-ok_shortened cmp o keeps n t tree (Ok u) h = shortened_binds cmp o keeps n t (tree u) h
-ok_shortened cmp o keeps n t tree (Err e) h = tt
+ok-shortened cmp o keeps n t tree (Ok u) h = shortened-binds cmp o keeps n t (tree u) h
+ok-shortened cmp o keeps n t tree (Err e) h = tt
 
 -- nothing of one side alone is left in an inner combine
-pub inner_left : {V W U : Type 0} (answers : V → W → Option U → Type 0) (v : Option V) → IsInnerAt answers v None None
-inner_left answers None = refl
-inner_left answers (Some v) = refl
+pub inner-left : {V W U : Type 0} (answers : V → W → Option U → Type 0) (v : Option V) → IsInnerAt answers v None None
+inner-left answers None = refl
+inner-left answers (Some v) = refl
 
 -- a kept value of one side alone is in an outer combine
-pub outer_left : {V : Type 0} (l r : V → V → Type 0) (answers : V → V → Option V → Type 0) (v z : Option V) → IsKept l v z
+pub outer-left : {V : Type 0} (l r : V → V → Type 0) (answers : V → V → Option V → Type 0) (v z : Option V) → IsKept l v z
     → IsOuterAt l r answers v None z
-outer_left l r answers None None h = tt
-outer_left l r answers None (Some z) h = absurd h
-outer_left l r answers (Some v) z h = h
+outer-left l r answers None None h = tt
+outer-left l r answers None (Some z) h = absurd h
+outer-left l r answers (Some v) z h = h
 
 -- what a call answers
-pub may_answer : {V W F E X : Type 0} (g : Shared F (Bor V × (Bor W × Unit {0})) (Result X E)) (f : F) (p : Bor V) (q : Bor W)
+pub may-answer : {V W F E X : Type 0} (g : Shared F (Bor V × (Bor W × Unit {0})) (Result X E)) (f : F) (p : Bor V) (q : Bor W)
     (r : Result X E) → g.post f (p, (q, tt)) r → IfOk r (λ z. MayAnswer g f p.now q.now (Ok z))
-may_answer g f p q (Ok z) h = record { left = p; right = q; shows = (refl, refl); answers = h }
-may_answer g f p q (Err e) h = tt
+may-answer g f p q (Ok z) h = record { left = p; right = q; shows = (refl, refl); answers = h }
+may-answer g f p q (Err e) h = tt
 
-pub inner_answer : {V W F E U : Type 0} (g : Shared F (Bor V × (Bor W × Unit {0})) (Result (Option U) E)) (f : F) (p : Bor V)
+pub inner-answer : {V W F E U : Type 0} (g : Shared F (Bor V × (Bor W × Unit {0})) (Result (Option U) E)) (f : F) (p : Bor V)
     (q : Bor W) (r : Result (Option U) E) (v : Option (Bor V)) (w : Option (Bor W)) → v ≡ Some p → w ≡ Some q
     → g.post f (p, (q, tt)) r → IfOk r (IsInnerAt (λ v w z. MayAnswer g f v w (Ok z)) (option_copied v) (option_copied w))
-inner_answer g f p q r v w a b h = rw (a, b) (may_answer g f p q r h)
+inner-answer g f p q r v w a b h = rw (a, b) (may-answer g f p q r h)
 
-pub outer_answer : {V F E : Type 0} (kl kr : V → V → Type 0) (g : Shared F (Bor V × (Bor V × Unit {0})) (Result (Option V) E))
+pub outer-answer : {V F E : Type 0} (kl kr : V → V → Type 0) (g : Shared F (Bor V × (Bor V × Unit {0})) (Result (Option V) E))
     (f : F) (p q : Bor V) (r : Result (Option V) E) (v w : Option (Bor V)) → v ≡ Some p → w ≡ Some q → g.post f (p, (q, tt)) r
     → IfOk r (IsOuterAt kl kr (λ v w z. MayAnswer g f v w (Ok z)) (option_copied v) (option_copied w))
-outer_answer kl kr g f p q r v w a b h = rw (a, b) (may_answer g f p q r h)
+outer-answer kl kr g f p q r v w a b h = rw (a, b) (may-answer g f p q r h)
 
 -- ---- whole trees
 
 module _ {K V W U : Type 0} (cmp : K → K → Ordering) (R : Option V → Option W → Option U → Type 0) (t : Tree K V) (u : Tree K W) where
   -- the combine of whole trees
-  pub made_some : (o : Option (Tree K U)) (m : Tree K U) → o ≡ Some m → IsBothMade cmp R (shortened 0 t) (shortened 0 u) o
+  pub made-some : (o : Option (Tree K U)) (m : Tree K U) → o ≡ Some m → IsBothMade cmp R (shortened 0 t) (shortened 0 u) o
       → (k : List K) → R (lookup cmp t k) (lookup cmp u k) (lookup cmp m k)
-  made_some o m e w k = (subst (IsBothMade cmp R (shortened 0 t) (shortened 0 u)) e w).binds k
+  made-some o m e w k = (subst (IsBothMade cmp R (shortened 0 t) (shortened 0 u)) e w).binds k
 
-  nothing_in : (k : List K) → lookup cmp (no_tree {K = K} {V = U}) k ≡ None
-  nothing_in [] = refl
-  nothing_in (x ∷ k) = refl
+  nothing-in : (k : List K) → lookup cmp (no_tree {K = K} {V = U}) k ≡ None
+  nothing-in [] = refl
+  nothing-in (x ∷ k) = refl
 
   -- and where no key is left
-  pub made_none : (o : Option (Tree K U)) (m : Tree K U) → o ≡ None → m ≡ no_tree
+  pub made-none : (o : Option (Tree K U)) (m : Tree K U) → o ≡ None → m ≡ no_tree
       → IsBothMade cmp R (shortened 0 t) (shortened 0 u) o → (k : List K) → R (lookup cmp t k) (lookup cmp u k) (lookup cmp m k)
-  made_none o m e b w k =
-      subst (R (lookup cmp t k) (lookup cmp u k)) (sym (ap (λ z. lookup cmp z k) b ∙ nothing_in k))
+  made-none o m e b w k =
+      subst (R (lookup cmp t k) (lookup cmp u k)) (sym (ap (λ z. lookup cmp z k) b ∙ nothing-in k))
       ((subst (IsBothMade cmp R (shortened 0 t) (shortened 0 u)) e w).binds k)

@@ -1,8 +1,8 @@
 -- A tree that the left side alone has, of which a closure is asked at each key.
---     value_alone, children_alone        what may be asked of its value and of its children
---     made_none, made_next        what was made of the children up to now
---     made_alone        the node of what was made
---     may_answer_at, left_answer        what a call answers
+--     value-alone, children-alone        what may be asked of its value and of its children
+--     made-none, made-next        what was made of the children up to now
+--     made-alone        the node of what was made
+--     may-answer_at, left-answer        what a call answers
 use Rattle.std.proofs.Common.{◌≡◌, ℕ, ◌+◌, ◌<◌, [], ◌∷◌, ◌++◌, List, Option, None, Some, Result, Ok, Err, IfOk, refl, sym, ap, subst, ◌∙◌, map, take, length, slice_get, append-nil, zero, suc, arith, get_or, option_map}
 use Rattle.std.proofs.Math.Seq.{take-suc}
 use Rattle.std.specs.Cmp.{IsTotalOrder, tied_itself}
@@ -22,18 +22,18 @@ use Rattle.vc_tree_model.specs.Tree.{Tree, bare, forest, node}
 use Rattle.vc_tree_model.specs.Map.{lookup, lookup_in, node_lookup}
 use Rattle.vc_tree_model.specs.Canonical.{AreChildren}
 use Rattle.vc_tree_model.specs.Child.{BeginsWith, solid_child, bound_by}
-use Rattle.vc_tree_model.proofs.Joining.{joined_child, joined_begins, trees_combined, value_asked, children_asked}
-use Rattle.vc_tree_model.proofs.KeyLemmas.{none_some, same_itself}
+use Rattle.vc_tree_model.proofs.Joining.{joined-child, joined-begins, trees-combined, value-asked, children-asked}
+use Rattle.vc_tree_model.proofs.KeyLemmas.{none-some, same-itself}
 use Rattle.vc_tree_model.proofs.Look.{values, IsCombinedIn}
 use Rattle.vc_tree_nodes.specs.Children.{seen}
 use Rattle.vc_tree_combines.specs.Made.{IsMade, IsMadeAt, IsAskedAt, AreMadeAlone}
 use Rattle.vc_tree_combines.specs.Sides.{by_component}
-use Rattle.vc_tree_combines.proofs.Around.{children_ascend}
-use Rattle.vc_tree_combines.proofs.Making.{script_made, script_asked}
+use Rattle.vc_tree_combines.proofs.Around.{children-ascend}
+use Rattle.vc_tree_combines.proofs.Making.{script-made, script-asked}
 
 -- a node without value and children binds nothing
-nothing_at : {K W : Type 0} (cmp : K → K → Ordering) (p k : List K) → lookup cmp (node {V = W} p None bare) k ≡ None
-nothing_at {K} {W} cmp p k = by (behind cmp p k)
+nothing-at : {K W : Type 0} (cmp : K → K → Ordering) (p k : List K) → lookup cmp (node {V = W} p None bare) k ≡ None
+nothing-at {K} {W} cmp p k = by (behind cmp p k)
   where
     by : (left : Option (List K)) → node_lookup {V = W} None (lookup_in cmp bare) left ≡ None
     by None = refl
@@ -51,36 +51,36 @@ module _ {K : Type 0} (cmp : K → K → Ordering) (o : IsTotalOrder cmp) where
     abbrev order : Event A (Tree K W) → Event A (Tree K W) → Ordering
     order d e = by_component ta (λ t. t) 0 0 cmp (place d) (place e)
 
-    lefts_alone : (xs : List A) → lefts (alone xs) ≡ xs
-    lefts_alone [] = refl
-    lefts_alone (x ∷ xs) = ap (λ l. x ∷ l) (lefts_alone xs)
+    lefts-alone : (xs : List A) → lefts (alone xs) ≡ xs
+    lefts-alone [] = refl
+    lefts-alone (x ∷ xs) = ap (λ l. x ∷ l) (lefts-alone xs)
 
-    rights_alone : (xs : List A) → rights (alone xs) ≡ []
-    rights_alone [] = refl
-    rights_alone (x ∷ xs) = rights_alone xs
+    rights-alone : (xs : List A) → rights (alone xs) ≡ []
+    rights-alone [] = refl
+    rights-alone (x ∷ xs) = rights-alone xs
 
-    below_alone : (x : A) (xs : List A)
+    below-alone : (x : A) (xs : List A)
         → AllByRecursion (λ z. option_cmp cmp (slice_get (ta x).prefix 0) (slice_get (ta z).prefix 0) ≡ Less) xs
         → AllByRecursion (λ e. order (left_alone x) e ≡ Less) (alone xs)
-    below_alone x [] a = tt
-    below_alone x (z ∷ xs) a = (a.0, below_alone x xs a.1)
+    below-alone x [] a = tt
+    below-alone x (z ∷ xs) a = (a.0, below-alone x xs a.1)
 
-    ascend_alone : (xs : List A) → Ascends (λ x z. option_cmp cmp (slice_get (ta x).prefix 0) (slice_get (ta z).prefix 0)) xs
+    ascend-alone : (xs : List A) → Ascends (λ x z. option_cmp cmp (slice_get (ta x).prefix 0) (slice_get (ta z).prefix 0)) xs
         → Ascends order (alone xs)
     unfolding IsStrictlySortedBy
-    ascend_alone [] a = tt
-    ascend_alone (x ∷ xs) a = (below_alone x xs a.0, ascend_alone xs a.1)
+    ascend-alone [] a = tt
+    ascend-alone (x ∷ xs) a = (below-alone x xs a.0, ascend-alone xs a.1)
 
-    matched_alone : (xs : List A) → AllByRecursion (IsMatched (by_component ta (λ t. t) 0 0 cmp)) (alone xs)
-    matched_alone [] = tt
-    matched_alone (x ∷ xs) = (tt, matched_alone xs)
+    matched-alone : (xs : List A) → AllByRecursion (IsMatched (by_component ta (λ t. t) 0 0 cmp)) (alone xs)
+    matched-alone [] = tt
+    matched-alone (x ∷ xs) = (tt, matched-alone xs)
 
-    script_alone : (xs : List A) → AreChildren cmp (seen ta xs) → IsScript (by_component ta (λ t. t) 0 0 cmp) xs [] (alone xs)
-    script_alone xs c = record {
-      left = lefts_alone xs;
-      right = rights_alone xs;
-      ascends = ascend_alone xs (children_ascend cmp ta 0 xs c);
-      matched = matched_alone xs;
+    script-alone : (xs : List A) → AreChildren cmp (seen ta xs) → IsScript (by_component ta (λ t. t) 0 0 cmp) xs [] (alone xs)
+    script-alone xs c = record {
+      left = lefts-alone xs;
+      right = rights-alone xs;
+      ascends = ascend-alone xs (children-ascend cmp ta 0 xs c);
+      matched = matched-alone xs;
     }
 
   -- ---- what may be asked
@@ -88,62 +88,62 @@ module _ {K : Type 0} (cmp : K → K → Ordering) (o : IsTotalOrder cmp) where
   module _ {V W A : Type 0} (ta : A → Tree K V) (asks : Option V → Option W → Type 0) (none : asks None None) (t : Tree K V)
       (h : (k : List K) → asks (lookup cmp t k) None) where
     beside : (k : List K) → asks (lookup cmp t k) (lookup cmp (node {V = W} t.prefix None bare) k)
-    beside k = subst (asks (lookup cmp t k)) (sym (nothing_at cmp t.prefix k)) (h k)
+    beside k = subst (asks (lookup cmp t k)) (sym (nothing-at cmp t.prefix k)) (h k)
 
     -- of the value
-    pub value_alone : asks t.value None
-    value_alone =
-        value_asked cmp o (values cmp) asks t (node t.prefix None bare) t.prefix [] t.prefix [] (sym (append-nil t.prefix))
-        (sym (append-nil t.prefix)) (same_itself cmp o t.prefix) beside
+    pub value-alone : asks t.value None
+    value-alone =
+        value-asked cmp o (values cmp) asks t (node t.prefix None bare) t.prefix [] t.prefix [] (sym (append-nil t.prefix))
+        (sym (append-nil t.prefix)) (same-itself cmp o t.prefix) beside
 
-    all_alone : (xs : List A) → AllByRecursion (IsAskedAt cmp ta (λ t. t) 0 0 (values cmp) asks) (alone W ta xs)
+    all-alone : (xs : List A) → AllByRecursion (IsAskedAt cmp ta (λ t. t) 0 0 (values cmp) asks) (alone W ta xs)
         → AllByRecursion (λ x. (k : List K) → asks (lookup cmp (ta x) k) None) xs
-    all_alone [] a = tt
-    all_alone (x ∷ xs) a = (a.0, all_alone xs a.1)
+    all-alone [] a = tt
+    all-alone (x ∷ xs) a = (a.0, all-alone xs a.1)
 
     -- and of each child
-    pub children_alone : (xs : List A) → seen ta xs ≡ t.children → AreChildren cmp (seen ta xs)
+    pub children-alone : (xs : List A) → seen ta xs ≡ t.children → AreChildren cmp (seen ta xs)
         → AllByRecursion (λ x. (k : List K) → asks (lookup cmp (ta x) k) None) xs
-    children_alone xs e c =
-        all_alone xs (script_asked cmp o ta (λ t. t) 0 0 (values cmp) asks none xs [] (alone W ta xs) c tt (script_alone W ta xs c)
+    children-alone xs e c =
+        all-alone xs (script-asked cmp o ta (λ t. t) 0 0 (values cmp) asks none xs [] (alone W ta xs) c tt (script-alone W ta xs c)
         (subst (λ f. (x : K) (q : List K) → asks (lookup_in cmp f (x ∷ q)) None) (sym e)
-        (children_asked cmp o (values cmp) asks t (node t.prefix None bare) t.prefix [] t.prefix [] (sym (append-nil t.prefix))
-        (sym (append-nil t.prefix)) (same_itself cmp o t.prefix) beside)))
+        (children-asked cmp o (values cmp) asks t (node t.prefix None bare) t.prefix [] t.prefix [] (sym (append-nil t.prefix))
+        (sym (append-nil t.prefix)) (same-itself cmp o t.prefix) beside)))
 
   -- ---- what is made
 
   module _ {V W U A : Type 0} (ta : A → Tree K V) (R : Option V → Option W → Option U → Type 0) where
     -- of no child
-    pub made_none : (made : List (Tree K U)) → made ≡ [] → AreMadeAlone cmp (λ v z. R v None z) ta [] made
-    made_none made e = record { done = []; trees = refl; made_at = tt; made_are = e }
+    pub made-none : (made : List (Tree K U)) → made ≡ [] → AreMadeAlone cmp (λ v z. R v None z) ta [] made
+    made-none made e = record { done = []; trees = refl; made_at = tt; made_are = e }
 
-    all_append : (ds : List (A × Option (Tree K U))) (d : A × Option (Tree K U))
+    all-append : (ds : List (A × Option (Tree K U))) (d : A × Option (Tree K U))
         → AllByRecursion (λ d. IsMade cmp (λ v z. R v None z) (ta d.0) d.1) ds → IsMade cmp (λ v z. R v None z) (ta d.0) d.1
         → AllByRecursion (λ d. IsMade cmp (λ v z. R v None z) (ta d.0) d.1) (ds ++ d ∷ [])
-    all_append [] d a m = (m, tt)
-    all_append (e ∷ ds) d a m = (a.0, all_append ds d a.1 m)
+    all-append [] d a m = (m, tt)
+    all-append (e ∷ ds) d a m = (a.0, all-append ds d a.1 m)
 
-    trees_append : (ds : List (A × Option (Tree K U))) (d : A × Option (Tree K U))
+    trees-append : (ds : List (A × Option (Tree K U))) (d : A × Option (Tree K U))
         → map (λ d. d.0) (ds ++ d ∷ []) ≡ map (λ d. d.0) ds ++ d.0 ∷ []
-    trees_append [] d = refl
-    trees_append (e ∷ ds) d = ap (λ l. e.0 ∷ l) (trees_append ds d)
+    trees-append [] d = refl
+    trees-append (e ∷ ds) d = ap (λ l. e.0 ∷ l) (trees-append ds d)
 
-    made_append : (ds : List (A × Option (Tree K U))) (d : A × Option (Tree K U))
+    made-append : (ds : List (A × Option (Tree K U))) (d : A × Option (Tree K U))
         → filter_map (λ d. d.1) (ds ++ d ∷ []) ≡ filter_map (λ d. d.1) ds ++ cons_option d.1 []
-    made_append [] (x, None) = refl
-    made_append [] (x, Some t) = refl
-    made_append ((z, None) ∷ ds) d = made_append ds d
-    made_append ((z, Some t) ∷ ds) d = ap (λ l. t ∷ l) (made_append ds d)
+    made-append [] (x, None) = refl
+    made-append [] (x, Some t) = refl
+    made-append ((z, None) ∷ ds) d = made-append ds d
+    made-append ((z, Some t) ∷ ds) d = ap (λ l. t ∷ l) (made-append ds d)
 
     -- of one more
-    pub made_next : (xs zs : List A) (x : A) (made made' : List (Tree K U)) (out : Option (Tree K U)) → zs ≡ xs ++ x ∷ []
+    pub made-next : (xs zs : List A) (x : A) (made made' : List (Tree K U)) (out : Option (Tree K U)) → zs ≡ xs ++ x ∷ []
         → made' ≡ made ++ cons_option out [] → AreMadeAlone cmp (λ v z. R v None z) ta xs made
         → IsMade cmp (λ v z. R v None z) (ta x) out → AreMadeAlone cmp (λ v z. R v None z) ta zs made'
-    made_next xs zs x made made' out e f d m = record {
+    made-next xs zs x made made' out e f d m = record {
       done = d.done ++ (x, out) ∷ [];
-      trees = trees_append d.done (x, out) ∙ ap (λ l. l ++ x ∷ []) d.trees ∙ sym e;
-      made_at = all_append d.done (x, out) d.made_at m;
-      made_are = f ∙ ap (λ l. l ++ cons_option out []) d.made_are ∙ sym (made_append d.done (x, out));
+      trees = trees-append d.done (x, out) ∙ ap (λ l. l ++ x ∷ []) d.trees ∙ sym e;
+      made_at = all-append d.done (x, out) d.made_at m;
+      made_are = f ∙ ap (λ l. l ++ cons_option out []) d.made_are ∙ sym (made-append d.done (x, out));
     }
 
     module _ (none : R None None None) (t : Tree K V) (xs : List A) (made : List (Tree K U)) (e : seen ta xs ≡ t.children)
@@ -152,79 +152,79 @@ module _ {K : Type 0} (cmp : K → K → Ordering) (o : IsTotalOrder cmp) where
       rows [] = []
       rows (d ∷ ds) = (left_alone d.0, d.1) ∷ rows ds
 
-      row_events : (ds : List (A × Option (Tree K U))) → map (λ d. d.0) (rows ds) ≡ alone W ta (map (λ d. d.0) ds)
+      row-events : (ds : List (A × Option (Tree K U))) → map (λ d. d.0) (rows ds) ≡ alone W ta (map (λ d. d.0) ds)
       unfolding rows
-      row_events [] = refl
-      row_events (d ∷ ds) = ap (λ l. left_alone d.0 ∷ l) (row_events ds)
+      row-events [] = refl
+      row-events (d ∷ ds) = ap (λ l. left_alone d.0 ∷ l) (row-events ds)
 
-      row_outs : (ds : List (A × Option (Tree K U))) → filter_map (λ d. d.1) (rows ds) ≡ filter_map (λ d. d.1) ds
+      row-outs : (ds : List (A × Option (Tree K U))) → filter_map (λ d. d.1) (rows ds) ≡ filter_map (λ d. d.1) ds
       unfolding rows
-      row_outs [] = refl
-      row_outs ((x, None) ∷ ds) = row_outs ds
-      row_outs ((x, Some u) ∷ ds) = ap (λ l. u ∷ l) (row_outs ds)
+      row-outs [] = refl
+      row-outs ((x, None) ∷ ds) = row-outs ds
+      row-outs ((x, Some u) ∷ ds) = ap (λ l. u ∷ l) (row-outs ds)
 
-      rows_made : (ds : List (A × Option (Tree K U))) → AllByRecursion (λ d. IsMade cmp (λ v z. R v None z) (ta d.0) d.1) ds
+      rows-made : (ds : List (A × Option (Tree K U))) → AllByRecursion (λ d. IsMade cmp (λ v z. R v None z) (ta d.0) d.1) ds
           → AllByRecursion (λ d. IsMadeAt cmp (values cmp {V = W}) R ta (λ t. t) 0 0 d.0 d.1) (rows ds)
       unfolding rows
-      rows_made [] a = tt
-      rows_made (d ∷ ds) a = (a.0, rows_made ds a.1)
+      rows-made [] a = tt
+      rows-made (d ∷ ds) a = (a.0, rows-made ds a.1)
 
-      made_of : AreChildren cmp (forest made) × IsCombinedIn cmp (values cmp {V = W}) R (seen ta xs) bare (forest made)
-      made_of =
-          rw (d.made_are, ← row_outs d.done)
-          (script_made cmp o ta (λ t. t) 0 0 (values cmp {V = W}) R none xs [] (rows d.done) c tt
-          (subst (IsScript (by_component ta (λ t. t) 0 0 cmp) xs []) (sym (row_events d.done ∙ ap (alone W ta) d.trees))
-          (script_alone W ta xs c)) (rows_made d.done d.made_at))
+      made-of : AreChildren cmp (forest made) × IsCombinedIn cmp (values cmp {V = W}) R (seen ta xs) bare (forest made)
+      made-of =
+          rw (d.made_are, ← row-outs d.done)
+          (script-made cmp o ta (λ t. t) 0 0 (values cmp {V = W}) R none xs [] (rows d.done) c tt
+          (subst (IsScript (by_component ta (λ t. t) 0 0 cmp) xs []) (sym (row-events d.done ∙ ap (alone W ta) d.trees))
+          (script-alone W ta xs c)) (rows-made d.done d.made_at))
 
       -- what was made may stand among children
-      pub alone_children : AreChildren cmp (forest made)
-      alone_children = made_of.0
+      pub alone-children : AreChildren cmp (forest made)
+      alone-children = made-of.0
 
-      begins_by : (p : List K) (v : Option U) (y : K) → slice_get p 0 ≡ Some y → BeginsWith cmp y (solid_child p v (forest made))
-      begins_by [] v y g = none_some y g
-      begins_by (x ∷ p) v y g = let h : x ≡ y = cc in joined_begins cmp y x p v (forest made) (rw h (tied_itself o y))
+      begins-by : (p : List K) (v : Option U) (y : K) → slice_get p 0 ≡ Some y → BeginsWith cmp y (solid_child p v (forest made))
+      begins-by [] v y g = none-some y g
+      begins-by (x ∷ p) v y g = let h : x ≡ y = cc in joined-begins cmp y x p v (forest made) (rw h (tied_itself o y))
 
       -- the node of what was made
-      pub made_alone : (v : Option U) (out : Option (Tree K U)) → R t.value None v
+      pub made-alone : (v : Option U) (out : Option (Tree K U)) → R t.value None v
           → out ≡ solid_child t.prefix v (forest made) → IsMade cmp (λ v z. R v None z) t out
-      made_alone v out root g = rw g (record {
-        child = joined_child cmp t.prefix v (forest made) made_of.0;
-        begins = λ y a. begins_by t.prefix v y a;
+      made-alone v out root g = rw g (record {
+        child = joined-child cmp t.prefix v (forest made) made-of.0;
+        begins = λ y a. begins-by t.prefix v y a;
         binds = λ k.
-            subst (λ w. R (lookup cmp t k) w (bound_by cmp (solid_child t.prefix v (forest made)) k)) (nothing_at cmp t.prefix k)
-            (trees_combined cmp o (values cmp) R none t (node t.prefix None bare) t.prefix [] t.prefix [] v (forest made)
-            (sym (append-nil t.prefix)) (sym (append-nil t.prefix)) (same_itself cmp o t.prefix) made_of.0 root
-            (subst (λ f. IsCombinedIn cmp (values cmp {V = W}) R f bare (forest made)) e made_of.1) k);
+            subst (λ w. R (lookup cmp t k) w (bound_by cmp (solid_child t.prefix v (forest made)) k)) (nothing-at cmp t.prefix k)
+            (trees-combined cmp o (values cmp) R none t (node t.prefix None bare) t.prefix [] t.prefix [] v (forest made)
+            (sym (append-nil t.prefix)) (sym (append-nil t.prefix)) (same-itself cmp o t.prefix) made-of.0 root
+            (subst (λ f. IsCombinedIn cmp (values cmp {V = W}) R f bare (forest made)) e made-of.1) k);
       })
 
       -- the same of the answer
-      pub ok_made_alone : {T E : Type 0} (tree : T → Tree K U) (v : Option U) (p : List K) → R t.value None v → p ≡ t.prefix
+      pub ok-made_alone : {T E : Type 0} (tree : T → Tree K U) (v : Option U) (p : List K) → R t.value None v → p ≡ t.prefix
           → (r : Result (Option T) E) → IfOk r (λ m. option_map tree m ≡ solid_child p v (forest made))
           → IfOk r (λ m. IsMade cmp (λ v z. R v None z) t (option_map tree m))
-      ok_made_alone tree v p root e (Ok m) h = made_alone v (option_map tree m) root (h ∙ ap (λ p. solid_child p v (forest made)) e)
-      ok_made_alone tree v p root e (Err x) h = tt
+      ok-made_alone tree v p root e (Ok m) h = made-alone v (option_map tree m) root (h ∙ ap (λ p. solid_child p v (forest made)) e)
+      ok-made_alone tree v p root e (Err x) h = tt
 
 -- what holds of all elements holds of the one at a place
-pub all_at : {X : Type 0} (P : X → Type 0) (xs : List X) (i : ℕ) (x : X) → i < length xs → x ≡ get_or xs i x → AllByRecursion P xs → P x
-all_at P [] i x h e a = absurd (omega (arith, h))
-all_at P (z ∷ xs) zero x h e a = rw e a.0
-all_at P (z ∷ xs) (suc i) x h e a = all_at P xs i x (omega (arith, h)) e a.1
+pub all-at : {X : Type 0} (P : X → Type 0) (xs : List X) (i : ℕ) (x : X) → i < length xs → x ≡ get_or xs i x → AllByRecursion P xs → P x
+all-at P [] i x h e a = absurd (omega (arith, h))
+all-at P (z ∷ xs) zero x h e a = rw e a.0
+all-at P (z ∷ xs) (suc i) x h e a = all-at P xs i x (omega (arith, h)) e a.1
 
 -- a place further, one element more is taken
-pub taken_next : {X : Type 0} (xs : List X) (i : ℕ) (x : X) → i < length xs → x ≡ get_or xs i x → take (i + 1) xs ≡ take i xs ++ x ∷ []
-taken_next xs i x h e =
+pub taken-next : {X : Type 0} (xs : List X) (i : ℕ) (x : X) → i < length xs → x ≡ get_or xs i x → take (i + 1) xs ≡ take i xs ++ x ∷ []
+taken-next xs i x h e =
     let n : i + 1 ≡ suc i = omega arith in
     ap (λ n. take n xs) n ∙ take-suc xs i x h ∙ ap (λ z. take i xs ++ z ∷ []) (sym e)
 
 -- ---- calls of the closure
 
 -- what a call answers
-pub may_answer_at : {V W F E X : Type 0} (g : Shared F (Bor V × (Option (Bor W) × Unit {0})) (Result X E)) (f : F) (p : Bor V)
+pub may-answer_at : {V W F E X : Type 0} (g : Shared F (Bor V × (Option (Bor W) × Unit {0})) (Result X E)) (f : F) (p : Bor V)
     (q : Option (Bor W)) (r : Result X E) → g.post f (p, (q, tt)) r → IfOk r (λ z. MayAnswerAt g f p.now (option_copied q) (Ok z))
-may_answer_at g f p q (Ok z) h = record { left = p; right = q; shows = (refl, refl); answers = h }
-may_answer_at g f p q (Err e) h = tt
+may-answer_at g f p q (Ok z) h = record { left = p; right = q; shows = (refl, refl); answers = h }
+may-answer_at g f p q (Err e) h = tt
 
-pub left_answer : {V W F E U : Type 0} (g : Shared F (Bor V × (Option (Bor W) × Unit {0})) (Result (Option U) E)) (f : F) (p : Bor V)
+pub left-answer : {V W F E U : Type 0} (g : Shared F (Bor V × (Option (Bor W) × Unit {0})) (Result (Option U) E)) (f : F) (p : Bor V)
     (r : Result (Option U) E) (v : Option (Bor V)) (w : Option (Bor W)) → v ≡ Some p → g.post f (p, (w, tt)) r
     → IfOk r (IsLeftAt (λ v w z. MayAnswerAt g f v w (Ok z)) (option_copied v) (option_copied w))
-left_answer g f p r v w a h = rw a (may_answer_at g f p w r h)
+left-answer g f p r v w a h = rw a (may-answer_at g f p w r h)

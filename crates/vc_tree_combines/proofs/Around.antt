@@ -1,7 +1,7 @@
 -- The events of a list of children and a single tree, and of two single trees.
---     components, children_ascend        children begin with components, and ascend by them
---     apart_lower, apart_higher        two single trees that part
---     around_left, around_right        the children of the left tree and a single right one, and the other way round
+--     components, children-ascend        children begin with components, and ascend by them
+--     apart-lower, apart-higher        two single trees that part
+--     around-left, around-right        the children of the left tree and a single right one, and the other way round
 use Rattle.std.proofs.Common.{◌≡◌, ℕ, zero, suc, ◌+◌, ◌-◌, ◌<◌, ◌≤◌, List, [], ◌∷◌, ◌++◌, map, length, drop, Option, Some, Result, Ok, Err, MatchResult, ◌⊎◌, inl, inr, refl, sym, ap, ◌∙◌, replicate, arith, slice_get, true}
 use Rattle.std.specs.Cmp.{IsTotalOrder, Equal-is, alike_right, tied_itself, tied_back}
 use Rattle.std.specs.List.{AllByRecursion}
@@ -14,7 +14,7 @@ use Rattle.vc_merge.specs.Ascending.{Ascends}
 use Rattle.vc_merge.specs.Script.{Event, left_alone, right_alone, collision, place, lefts, rights, IsMatched}
 use Rattle.vc_tree_model.specs.Tree.{Tree, Forest, grow}
 use Rattle.vc_tree_model.specs.Canonical.{AllAbove, AreChildren}
-use Rattle.vc_tree_model.proofs.KeyLemmas.{none_some}
+use Rattle.vc_tree_model.proofs.KeyLemmas.{none-some}
 use Rattle.vc_tree_nodes.specs.Places.{BeginsAt, IsGapAt, child_first}
 use Rattle.vc_tree_combines.specs.Around.{sides_around}
 use Rattle.vc_tree_combines.specs.Facing.{shortened_in}
@@ -23,10 +23,10 @@ use Rattle.vc_tree_combines.specs.declared.sides.Side.{Side}
 use Rattle.vc_tree_combines.specs.declared.sides.Side.TheVariants.{Left, Right, Both}
 
 -- the component at a place is the first one of what is left there
-pub get_drop : {K : Type 0} (i : ℕ) (p : List K) → slice_get (drop i p) 0 ≡ slice_get p i
-get_drop zero p = refl
-get_drop (suc i) [] = refl
-get_drop (suc i) (x ∷ p) = get_drop i p
+pub get-drop : {K : Type 0} (i : ℕ) (p : List K) → slice_get (drop i p) 0 ≡ slice_get p i
+get-drop zero p = refl
+get-drop (suc i) [] = refl
+get-drop (suc i) (x ∷ p) = get-drop i p
 
 -- ---- a place in a list
 
@@ -43,91 +43,91 @@ module _ {X : Type 0} where
   HoldsAt P zero (x ∷ xs) = P x
   HoldsAt P (suc k) (x ∷ xs) = HoldsAt P k xs
 
-  holds_map : (P Q : X → Type 0) → ((x : X) → P x → Q x) → (k : ℕ) (xs : List X) → HoldsAt P k xs → HoldsAt Q k xs
-  holds_map P Q f k [] h = h
-  holds_map P Q f zero (x ∷ xs) h = f x h
-  holds_map P Q f (suc k) (x ∷ xs) h = holds_map P Q f k xs h
+  holds-map : (P Q : X → Type 0) → ((x : X) → P x → Q x) → (k : ℕ) (xs : List X) → HoldsAt P k xs → HoldsAt Q k xs
+  holds-map P Q f k [] h = h
+  holds-map P Q f zero (x ∷ xs) h = f x h
+  holds-map P Q f (suc k) (x ∷ xs) h = holds-map P Q f k xs h
 
 -- ---- children by their first components
 
 module _ {K : Type 0} (cmp : K → K → Ordering) where
-  above_first : {V : Type 0} (y : K) (p : List K) (v : Option V) (kids rest : Forest K V)
+  above-first : {V : Type 0} (y : K) (p : List K) (v : Option V) (kids rest : Forest K V)
       → AllAbove cmp y (grow p v kids rest) → (z : K) × (slice_get p 0 ≡ Some z) × (cmp y z ≡ Less) × AllAbove cmp y rest
-  above_first y [] v kids rest a = absurd a
-  above_first y (z ∷ p) v kids rest a = (z, refl, a.0, a.1)
+  above-first y [] v kids rest a = absurd a
+  above-first y (z ∷ p) v kids rest a = (z, refl, a.0, a.1)
 
-  children_first : {V : Type 0} (p : List K) (v : Option V) (kids rest : Forest K V) → AreChildren cmp (grow p v kids rest)
+  children-first : {V : Type 0} (p : List K) (v : Option V) (kids rest : Forest K V) → AreChildren cmp (grow p v kids rest)
       → (z : K) × (slice_get p 0 ≡ Some z) × AllAbove cmp z rest × AreChildren cmp rest
-  children_first [] v kids rest a = absurd a
-  children_first (z ∷ p) v kids rest a = (z, refl, a.2, a.3)
+  children-first [] v kids rest a = absurd a
+  children-first (z ∷ p) v kids rest a = (z, refl, a.2, a.3)
 
-  gap_first : {V : Type 0} (y : K) (p : List K) (v : Option V) (kids rest : Forest K V) (k : ℕ)
+  gap-first : {V : Type 0} (y : K) (p : List K) (v : Option V) (kids rest : Forest K V) (k : ℕ)
       → IsGapAt cmp (grow p v kids rest) y (suc k) → (z : K) × (slice_get p 0 ≡ Some z) × (cmp z y ≡ Less) × IsGapAt cmp rest y k
-  gap_first y [] v kids rest k a = absurd a
-  gap_first y (z ∷ p) v kids rest k a = (z, refl, a.0, a.1)
+  gap-first y [] v kids rest k a = absurd a
+  gap-first y (z ∷ p) v kids rest k a = (z, refl, a.0, a.1)
 
   module _ {T V : Type 0} (tree : T → Tree K V) (i : ℕ) where
     -- the component of a tree at the place
     abbrev pub at_place : T → Option K
     at_place x = slice_get (tree x).prefix i
 
-    above_all : (y : K) (c : Option K) → c ≡ Some y → (xs : List T) → AllAbove cmp y (shortened_in tree i xs)
+    above-all : (y : K) (c : Option K) → c ≡ Some y → (xs : List T) → AllAbove cmp y (shortened_in tree i xs)
         → AllByRecursion (λ x. option_cmp cmp c (at_place x) ≡ Less) xs
-    above_all y c e [] a = tt
-    above_all y c e (x ∷ xs) a =
-        let r = above_first y (drop i (tree x).prefix) (tree x).value (tree x).children (shortened_in tree i xs) a in
-        let here : at_place x ≡ Some r.0 = sym (get_drop i (tree x).prefix) ∙ r.1 in
-        (rw (e, here) r.2, above_all y c e xs r.3)
+    above-all y c e [] a = tt
+    above-all y c e (x ∷ xs) a =
+        let r = above-first y (drop i (tree x).prefix) (tree x).value (tree x).children (shortened_in tree i xs) a in
+        let here : at_place x ≡ Some r.0 = sym (get-drop i (tree x).prefix) ∙ r.1 in
+        (rw (e, here) r.2, above-all y c e xs r.3)
 
     -- canonical children begin with a component
     pub components : (xs : List T) → AreChildren cmp (shortened_in tree i xs)
         → AllByRecursion (λ x. (y : K) × (at_place x ≡ Some y)) xs
     components [] a = tt
     components (x ∷ xs) a =
-        let r = children_first (drop i (tree x).prefix) (tree x).value (tree x).children (shortened_in tree i xs) a in
-        ((r.0, sym (get_drop i (tree x).prefix) ∙ r.1), components xs r.3)
+        let r = children-first (drop i (tree x).prefix) (tree x).value (tree x).children (shortened_in tree i xs) a in
+        ((r.0, sym (get-drop i (tree x).prefix) ∙ r.1), components xs r.3)
 
     -- and ascend by it
-    pub children_ascend : (xs : List T) → AreChildren cmp (shortened_in tree i xs)
+    pub children-ascend : (xs : List T) → AreChildren cmp (shortened_in tree i xs)
         → Ascends (λ x z. option_cmp cmp (at_place x) (at_place z)) xs
     unfolding IsStrictlySortedBy
-    children_ascend [] a = tt
-    children_ascend (x ∷ xs) a =
-        let r = children_first (drop i (tree x).prefix) (tree x).value (tree x).children (shortened_in tree i xs) a in
-        (above_all r.0 (at_place x) (sym (get_drop i (tree x).prefix) ∙ r.1) xs r.2, children_ascend xs r.3)
+    children-ascend [] a = tt
+    children-ascend (x ∷ xs) a =
+        let r = children-first (drop i (tree x).prefix) (tree x).value (tree x).children (shortened_in tree i xs) a in
+        (above-all r.0 (at_place x) (sym (get-drop i (tree x).prefix) ∙ r.1) xs r.2, children-ascend xs r.3)
 
     -- those before a gap begin below the component, and the others above it
-    gap_splits : (y : K) (c : Option K) → c ≡ Some y → (k : ℕ) (xs : List T) → IsGapAt cmp (shortened_in tree i xs) y k
+    gap-splits : (y : K) (c : Option K) → c ≡ Some y → (k : ℕ) (xs : List T) → IsGapAt cmp (shortened_in tree i xs) y k
         → SplitAt (λ x. option_cmp cmp (at_place x) c ≡ Less) (λ x. option_cmp cmp c (at_place x) ≡ Less) k xs
-    gap_splits y c e zero xs a = above_all y c e xs a
-    gap_splits y c e (suc k) [] a = absurd a
-    gap_splits y c e (suc k) (x ∷ xs) a =
-        let r = gap_first y (drop i (tree x).prefix) (tree x).value (tree x).children (shortened_in tree i xs) k a in
-        let here : at_place x ≡ Some r.0 = sym (get_drop i (tree x).prefix) ∙ r.1 in
-        (rw (e, here) r.2, gap_splits y c e k xs r.3)
+    gap-splits y c e zero xs a = above-all y c e xs a
+    gap-splits y c e (suc k) [] a = absurd a
+    gap-splits y c e (suc k) (x ∷ xs) a =
+        let r = gap-first y (drop i (tree x).prefix) (tree x).value (tree x).children (shortened_in tree i xs) k a in
+        let here : at_place x ≡ Some r.0 = sym (get-drop i (tree x).prefix) ∙ r.1 in
+        (rw (e, here) r.2, gap-splits y c e k xs r.3)
 
     -- the one that begins with the component
-    begins_holds : (y here : K) (c : Option K) → c ≡ Some y → is_eq (cmp here y) ≡ true → (k : ℕ) (xs : List T)
+    begins-holds : (y here : K) (c : Option K) → c ≡ Some y → is_eq (cmp here y) ≡ true → (k : ℕ) (xs : List T)
         → child_first (shortened_in tree i xs) k ≡ Some here
         → HoldsAt (λ x. option_cmp cmp (at_place x) c ≡ Equal) k xs
-    begins_holds y here c e q k [] a = none_some here a
-    begins_holds y here c e q zero (x ∷ xs) a =
-        let first : at_place x ≡ Some here = sym (get_drop i (tree x).prefix) ∙ a in
+    begins-holds y here c e q k [] a = none-some here a
+    begins-holds y here c e q zero (x ∷ xs) a =
+        let first : at_place x ≡ Some here = sym (get-drop i (tree x).prefix) ∙ a in
         rw (e, first) ((Equal-is (cmp here y)).0 q)
-    begins_holds y here c e q (suc k) (x ∷ xs) a = begins_holds y here c e q k xs a
+    begins-holds y here c e q (suc k) (x ∷ xs) a = begins-holds y here c e q k xs a
 
     -- both places are in the list
-    pub gap_within : (y : K) (k : ℕ) (xs : List T) → IsGapAt cmp (shortened_in tree i xs) y k → k ≤ length xs
-    gap_within y zero xs a = omega arith
-    gap_within y (suc k) [] a = absurd a
-    gap_within y (suc k) (x ∷ xs) a =
-        let r = gap_first y (drop i (tree x).prefix) (tree x).value (tree x).children (shortened_in tree i xs) k a in
-        let h = gap_within y k xs r.3 in omega (arith, h)
+    pub gap-within : (y : K) (k : ℕ) (xs : List T) → IsGapAt cmp (shortened_in tree i xs) y k → k ≤ length xs
+    gap-within y zero xs a = omega arith
+    gap-within y (suc k) [] a = absurd a
+    gap-within y (suc k) (x ∷ xs) a =
+        let r = gap-first y (drop i (tree x).prefix) (tree x).value (tree x).children (shortened_in tree i xs) k a in
+        let h = gap-within y k xs r.3 in omega (arith, h)
 
-    pub begins_within : (here : K) (k : ℕ) (xs : List T) → child_first (shortened_in tree i xs) k ≡ Some here → k < length xs
-    begins_within here k [] a = none_some here a
-    begins_within here zero (x ∷ xs) a = omega arith
-    begins_within here (suc k) (x ∷ xs) a = let h = begins_within here k xs a in omega (arith, h)
+    pub begins-within : (here : K) (k : ℕ) (xs : List T) → child_first (shortened_in tree i xs) k ≡ Some here → k < length xs
+    begins-within here k [] a = none-some here a
+    begins-within here zero (x ∷ xs) a = omega arith
+    begins-within here (suc k) (x ∷ xs) a = let h = begins-within here k xs a in omega (arith, h)
 
 -- ---- a list and a single element, as events
 
@@ -142,27 +142,27 @@ module _ {A B X : Type 0} (many : X → Event A B) (one : Event A B) (meet : X �
   events_of (Ok (suc k)) (x ∷ xs) = many x ∷ events_of (Ok k) xs
 
   -- their sides
-  many_sides : (s : Side) → ((x : X) → side_of (many x) ≡ s) → (xs : List X) (n : ℕ) → n ≡ length xs
+  many-sides : (s : Side) → ((x : X) → side_of (many x) ≡ s) → (xs : List X) (n : ℕ) → n ≡ length xs
       → replicate n s ≡ map (λ e. side_of e) (map many xs)
-  many_sides s h [] n e = let z : n ≡ 0 = omega (arith, e) in rw z refl
-  many_sides s h (x ∷ xs) zero e = absurd (omega (arith, e))
-  many_sides s h (x ∷ xs) (suc n) e = let z : n ≡ length xs = omega (arith, e) in rw (h x, ← many_sides s h xs n z) refl
+  many-sides s h [] n e = let z : n ≡ 0 = omega (arith, e) in rw z refl
+  many-sides s h (x ∷ xs) zero e = absurd (omega (arith, e))
+  many-sides s h (x ∷ xs) (suc n) e = let z : n ≡ length xs = omega (arith, e) in rw (h x, ← many-sides s h xs n z) refl
 
-  gap_sides : (s t : Side) → ((x : X) → side_of (many x) ≡ s) → side_of one ≡ t → (k : ℕ) (xs : List X) → k ≤ length xs
+  gap-sides : (s t : Side) → ((x : X) → side_of (many x) ≡ s) → side_of one ≡ t → (k : ℕ) (xs : List X) → k ≤ length xs
       → (n : ℕ) → n ≡ length xs - k
       → replicate k s ++ t ∷ replicate n s ≡ map (λ e. side_of e) (events_of (Err k) xs)
-  gap_sides s t h o zero xs w n e = rw (o, ← many_sides s h xs n (omega (arith, e))) refl
-  gap_sides s t h o (suc k) [] w n e = absurd (omega (arith, w))
-  gap_sides s t h o (suc k) (x ∷ xs) w n e =
-      rw (h x) (ap (λ l. s ∷ l) (gap_sides s t h o k xs (omega (arith, w)) n (omega (arith, e))))
+  gap-sides s t h o zero xs w n e = rw (o, ← many-sides s h xs n (omega (arith, e))) refl
+  gap-sides s t h o (suc k) [] w n e = absurd (omega (arith, w))
+  gap-sides s t h o (suc k) (x ∷ xs) w n e =
+      rw (h x) (ap (λ l. s ∷ l) (gap-sides s t h o k xs (omega (arith, w)) n (omega (arith, e))))
 
-  met_sides : (s : Side) → ((x : X) → side_of (many x) ≡ s) → ((x : X) → side_of (meet x) ≡ Both) → (k : ℕ) (xs : List X)
+  met-sides : (s : Side) → ((x : X) → side_of (many x) ≡ s) → ((x : X) → side_of (meet x) ≡ Both) → (k : ℕ) (xs : List X)
       → k < length xs → (n : ℕ) → n ≡ length xs - (k + 1)
       → replicate k s ++ Both ∷ replicate n s ≡ map (λ e. side_of e) (events_of (Ok k) xs)
-  met_sides s h m k [] w n e = absurd (omega (arith, w))
-  met_sides s h m zero (x ∷ xs) w n e = rw (m x, ← many_sides s h xs n (omega (arith, e))) refl
-  met_sides s h m (suc k) (x ∷ xs) w n e =
-      rw (h x) (ap (λ l. s ∷ l) (met_sides s h m k xs (omega (arith, w)) n (omega (arith, e))))
+  met-sides s h m k [] w n e = absurd (omega (arith, w))
+  met-sides s h m zero (x ∷ xs) w n e = rw (m x, ← many-sides s h xs n (omega (arith, e))) refl
+  met-sides s h m (suc k) (x ∷ xs) w n e =
+      rw (h x) (ap (λ l. s ∷ l) (met-sides s h m k xs (omega (arith, w)) n (omega (arith, e))))
 
   module _ (order : A ⊎ B → A ⊎ B → Ordering) (o : IsTotalOrder order) where
     -- the first k stand before the single one, and the others behind it
@@ -173,82 +173,82 @@ module _ {A B X : Type 0} (many : X → Event A B) (one : Event A B) (meet : X �
     abbrev Met : ℕ → List X → Type 0
     Met = HoldsAt (λ x. (order (place (many x)) (place (meet x)) ≡ Equal) × IsMatched order (meet x))
 
-    all_many : (u : A ⊎ B) (xs : List X) → AllByRecursion (λ x. order u (place (many x)) ≡ Less) xs
+    all-many : (u : A ⊎ B) (xs : List X) → AllByRecursion (λ x. order u (place (many x)) ≡ Less) xs
         → AllByRecursion (λ e. order u (place e) ≡ Less) (map many xs)
-    all_many u [] a = tt
-    all_many u (x ∷ xs) a = (a.0, all_many u xs a.1)
+    all-many u [] a = tt
+    all-many u (x ∷ xs) a = (a.0, all-many u xs a.1)
 
-    all_gap : (u : A ⊎ B) (k : ℕ) (xs : List X) → AllByRecursion (λ x. order u (place (many x)) ≡ Less) xs
+    all-gap : (u : A ⊎ B) (k : ℕ) (xs : List X) → AllByRecursion (λ x. order u (place (many x)) ≡ Less) xs
         → order u (place one) ≡ Less → AllByRecursion (λ e. order u (place e) ≡ Less) (events_of (Err k) xs)
-    all_gap u zero xs a l = (l, all_many u xs a)
-    all_gap u (suc k) [] a l = (l, tt)
-    all_gap u (suc k) (x ∷ xs) a l = (a.0, all_gap u k xs a.1 l)
+    all-gap u zero xs a l = (l, all-many u xs a)
+    all-gap u (suc k) [] a l = (l, tt)
+    all-gap u (suc k) (x ∷ xs) a l = (a.0, all-gap u k xs a.1 l)
 
     all_met : (u : A ⊎ B) (k : ℕ) (xs : List X) → AllByRecursion (λ x. order u (place (many x)) ≡ Less) xs → Met k xs
         → AllByRecursion (λ e. order u (place e) ≡ Less) (events_of (Ok k) xs)
     all_met u k [] a m = absurd m
-    all_met u zero (x ∷ xs) a m = (sym (alike_right o (place (many x)) (place (meet x)) u m.0) ∙ a.0, all_many u xs a.1)
+    all_met u zero (x ∷ xs) a m = (sym (alike_right o (place (many x)) (place (meet x)) u m.0) ∙ a.0, all-many u xs a.1)
     all_met u (suc k) (x ∷ xs) a m = (a.0, all_met u k xs a.1 m)
 
-    all_alike : (u w : A ⊎ B) → order u w ≡ Equal → (xs : List X) → AllByRecursion (λ x. order u (place (many x)) ≡ Less) xs
+    all-alike : (u w : A ⊎ B) → order u w ≡ Equal → (xs : List X) → AllByRecursion (λ x. order u (place (many x)) ≡ Less) xs
         → AllByRecursion (λ x. order w (place (many x)) ≡ Less) xs
-    all_alike u w e [] a = tt
-    all_alike u w e (x ∷ xs) a = (sym (o.congr u w (place (many x)) e) ∙ a.0, all_alike u w e xs a.1)
+    all-alike u w e [] a = tt
+    all-alike u w e (x ∷ xs) a = (sym (o.congr u w (place (many x)) e) ∙ a.0, all-alike u w e xs a.1)
 
-    ascend_many : (xs : List X) → Ascends (λ x z. order (place (many x)) (place (many z))) xs
+    ascend-many : (xs : List X) → Ascends (λ x z. order (place (many x)) (place (many z))) xs
         → Ascends (λ d e. order (place d) (place e)) (map many xs)
     unfolding IsStrictlySortedBy
-    ascend_many [] a = tt
-    ascend_many (x ∷ xs) a = (all_many (place (many x)) xs a.0, ascend_many xs a.1)
+    ascend-many [] a = tt
+    ascend-many (x ∷ xs) a = (all-many (place (many x)) xs a.0, ascend-many xs a.1)
 
-    ascend_gap : (k : ℕ) (xs : List X) → Ascends (λ x z. order (place (many x)) (place (many z))) xs → Gap k xs
+    ascend-gap : (k : ℕ) (xs : List X) → Ascends (λ x z. order (place (many x)) (place (many z))) xs → Gap k xs
         → Ascends (λ d e. order (place d) (place e)) (events_of (Err k) xs)
     unfolding IsStrictlySortedBy
-    ascend_gap zero xs a g = (all_many (place one) xs g, ascend_many xs a)
-    ascend_gap (suc k) [] a g = absurd g
-    ascend_gap (suc k) (x ∷ xs) a g = (all_gap (place (many x)) k xs a.0 g.0, ascend_gap k xs a.1 g.1)
+    ascend-gap zero xs a g = (all-many (place one) xs g, ascend-many xs a)
+    ascend-gap (suc k) [] a g = absurd g
+    ascend-gap (suc k) (x ∷ xs) a g = (all-gap (place (many x)) k xs a.0 g.0, ascend-gap k xs a.1 g.1)
 
-    ascend_met : (k : ℕ) (xs : List X) → Ascends (λ x z. order (place (many x)) (place (many z))) xs → Met k xs
+    ascend-met : (k : ℕ) (xs : List X) → Ascends (λ x z. order (place (many x)) (place (many z))) xs → Met k xs
         → Ascends (λ d e. order (place d) (place e)) (events_of (Ok k) xs)
     unfolding IsStrictlySortedBy
-    ascend_met k [] a m = absurd m
-    ascend_met zero (x ∷ xs) a m =
-        (all_many (place (meet x)) xs (all_alike (place (many x)) (place (meet x)) m.0 xs a.0), ascend_many xs a.1)
-    ascend_met (suc k) (x ∷ xs) a m = (all_met (place (many x)) k xs a.0 m, ascend_met k xs a.1 m)
+    ascend-met k [] a m = absurd m
+    ascend-met zero (x ∷ xs) a m =
+        (all-many (place (meet x)) xs (all-alike (place (many x)) (place (meet x)) m.0 xs a.0), ascend-many xs a.1)
+    ascend-met (suc k) (x ∷ xs) a m = (all_met (place (many x)) k xs a.0 m, ascend-met k xs a.1 m)
 
-    matched_many : ((x : X) → IsMatched order (many x)) → (xs : List X) → AllByRecursion (IsMatched order) (map many xs)
-    matched_many h [] = tt
-    matched_many h (x ∷ xs) = (h x, matched_many h xs)
+    matched-many : ((x : X) → IsMatched order (many x)) → (xs : List X) → AllByRecursion (IsMatched order) (map many xs)
+    matched-many h [] = tt
+    matched-many h (x ∷ xs) = (h x, matched-many h xs)
 
-    matched_gap : ((x : X) → IsMatched order (many x)) → IsMatched order one → (k : ℕ) (xs : List X)
+    matched-gap : ((x : X) → IsMatched order (many x)) → IsMatched order one → (k : ℕ) (xs : List X)
         → AllByRecursion (IsMatched order) (events_of (Err k) xs)
-    matched_gap h m zero xs = (m, matched_many h xs)
-    matched_gap h m (suc k) [] = (m, tt)
-    matched_gap h m (suc k) (x ∷ xs) = (h x, matched_gap h m k xs)
+    matched-gap h m zero xs = (m, matched-many h xs)
+    matched-gap h m (suc k) [] = (m, tt)
+    matched-gap h m (suc k) (x ∷ xs) = (h x, matched-gap h m k xs)
 
-    matched_met : ((x : X) → IsMatched order (many x)) → (k : ℕ) (xs : List X) → Met k xs
+    matched-met : ((x : X) → IsMatched order (many x)) → (k : ℕ) (xs : List X) → Met k xs
         → AllByRecursion (IsMatched order) (events_of (Ok k) xs)
-    matched_met h k [] m = absurd m
-    matched_met h zero (x ∷ xs) m = (m.1, matched_many h xs)
-    matched_met h (suc k) (x ∷ xs) m = (h x, matched_met h k xs m)
+    matched-met h k [] m = absurd m
+    matched-met h zero (x ∷ xs) m = (m.1, matched-many h xs)
+    matched-met h (suc k) (x ∷ xs) m = (h x, matched-met h k xs m)
 
 -- ---- the elements of either side, in order
 
-lefts_many : {A : Type 0} (B : Type 0) (xs : List A) → lefts {B = B} (map (λ x. left_alone x) xs) ≡ xs
-lefts_many B [] = refl
-lefts_many B (x ∷ xs) = ap (λ l. x ∷ l) (lefts_many B xs)
+lefts-many : {A : Type 0} (B : Type 0) (xs : List A) → lefts {B = B} (map (λ x. left_alone x) xs) ≡ xs
+lefts-many B [] = refl
+lefts-many B (x ∷ xs) = ap (λ l. x ∷ l) (lefts-many B xs)
 
-no_rights : {A : Type 0} (B : Type 0) (xs : List A) → rights {B = B} (map (λ x. left_alone x) xs) ≡ []
-no_rights B [] = refl
-no_rights B (x ∷ xs) = no_rights B xs
+no-rights : {A : Type 0} (B : Type 0) (xs : List A) → rights {B = B} (map (λ x. left_alone x) xs) ≡ []
+no-rights B [] = refl
+no-rights B (x ∷ xs) = no-rights B xs
 
-rights_many : (A : Type 0) {B : Type 0} (ys : List B) → rights {A = A} (map (λ y. right_alone y) ys) ≡ ys
-rights_many A [] = refl
-rights_many A (y ∷ ys) = ap (λ l. y ∷ l) (rights_many A ys)
+rights-many : (A : Type 0) {B : Type 0} (ys : List B) → rights {A = A} (map (λ y. right_alone y) ys) ≡ ys
+rights-many A [] = refl
+rights-many A (y ∷ ys) = ap (λ l. y ∷ l) (rights-many A ys)
 
-no_lefts : (A : Type 0) {B : Type 0} (ys : List B) → lefts {A = A} (map (λ y. right_alone y) ys) ≡ []
-no_lefts A [] = refl
-no_lefts A (y ∷ ys) = no_lefts A ys
+no-lefts : (A : Type 0) {B : Type 0} (ys : List B) → lefts {A = A} (map (λ y. right_alone y) ys) ≡ []
+no-lefts A [] = refl
+no-lefts A (y ∷ ys) = no-lefts A ys
 
 module _ {A B : Type 0} where
   -- ---- children on the left, a single tree on the right
@@ -256,66 +256,66 @@ module _ {A B : Type 0} where
   abbrev on_left : B → Result ℕ ℕ → List A → List (Event A B)
   on_left y = events_of (λ x. left_alone x) (right_alone y) (λ x. collision x y)
 
-  on_left_lefts : (y : B) (k : ℕ) (xs : List A) → k ≤ length xs → lefts (on_left y (Err k) xs) ≡ xs
-  on_left_lefts y zero xs w = lefts_many B xs
-  on_left_lefts y (suc k) [] w = absurd (omega (arith, w))
-  on_left_lefts y (suc k) (x ∷ xs) w = ap (λ l. x ∷ l) (on_left_lefts y k xs (omega (arith, w)))
+  on-left_lefts : (y : B) (k : ℕ) (xs : List A) → k ≤ length xs → lefts (on_left y (Err k) xs) ≡ xs
+  on-left_lefts y zero xs w = lefts-many B xs
+  on-left_lefts y (suc k) [] w = absurd (omega (arith, w))
+  on-left_lefts y (suc k) (x ∷ xs) w = ap (λ l. x ∷ l) (on-left_lefts y k xs (omega (arith, w)))
 
-  on_left_lefts_met : (y : B) (k : ℕ) (xs : List A) → k < length xs → lefts (on_left y (Ok k) xs) ≡ xs
-  on_left_lefts_met y k [] w = absurd (omega (arith, w))
-  on_left_lefts_met y zero (x ∷ xs) w = ap (λ l. x ∷ l) (lefts_many B xs)
-  on_left_lefts_met y (suc k) (x ∷ xs) w = ap (λ l. x ∷ l) (on_left_lefts_met y k xs (omega (arith, w)))
+  on-left_lefts_met : (y : B) (k : ℕ) (xs : List A) → k < length xs → lefts (on_left y (Ok k) xs) ≡ xs
+  on-left_lefts_met y k [] w = absurd (omega (arith, w))
+  on-left_lefts_met y zero (x ∷ xs) w = ap (λ l. x ∷ l) (lefts-many B xs)
+  on-left_lefts_met y (suc k) (x ∷ xs) w = ap (λ l. x ∷ l) (on-left_lefts_met y k xs (omega (arith, w)))
 
-  on_left_rights : (y : B) (k : ℕ) (xs : List A) → rights (on_left y (Err k) xs) ≡ y ∷ []
-  on_left_rights y zero xs = ap (λ l. y ∷ l) (no_rights B xs)
-  on_left_rights y (suc k) [] = refl
-  on_left_rights y (suc k) (x ∷ xs) = on_left_rights y k xs
+  on-left_rights : (y : B) (k : ℕ) (xs : List A) → rights (on_left y (Err k) xs) ≡ y ∷ []
+  on-left_rights y zero xs = ap (λ l. y ∷ l) (no-rights B xs)
+  on-left_rights y (suc k) [] = refl
+  on-left_rights y (suc k) (x ∷ xs) = on-left_rights y k xs
 
-  on_left_rights_met : (y : B) (k : ℕ) (xs : List A) → rights (on_left y (Ok k) xs) ≡ y ∷ []
-  on_left_rights_met y k [] = refl
-  on_left_rights_met y zero (x ∷ xs) = ap (λ l. y ∷ l) (no_rights B xs)
-  on_left_rights_met y (suc k) (x ∷ xs) = on_left_rights_met y k xs
+  on-left_rights_met : (y : B) (k : ℕ) (xs : List A) → rights (on_left y (Ok k) xs) ≡ y ∷ []
+  on-left_rights_met y k [] = refl
+  on-left_rights_met y zero (x ∷ xs) = ap (λ l. y ∷ l) (no-rights B xs)
+  on-left_rights_met y (suc k) (x ∷ xs) = on-left_rights_met y k xs
 
   -- ---- a single tree on the left, children on the right
 
   abbrev on_right : A → Result ℕ ℕ → List B → List (Event A B)
   on_right x = events_of (λ y. right_alone y) (left_alone x) (λ y. collision x y)
 
-  on_right_rights : (x : A) (k : ℕ) (ys : List B) → k ≤ length ys → rights (on_right x (Err k) ys) ≡ ys
-  on_right_rights x zero ys w = rights_many A ys
-  on_right_rights x (suc k) [] w = absurd (omega (arith, w))
-  on_right_rights x (suc k) (y ∷ ys) w = ap (λ l. y ∷ l) (on_right_rights x k ys (omega (arith, w)))
+  on-right_rights : (x : A) (k : ℕ) (ys : List B) → k ≤ length ys → rights (on_right x (Err k) ys) ≡ ys
+  on-right_rights x zero ys w = rights-many A ys
+  on-right_rights x (suc k) [] w = absurd (omega (arith, w))
+  on-right_rights x (suc k) (y ∷ ys) w = ap (λ l. y ∷ l) (on-right_rights x k ys (omega (arith, w)))
 
-  on_right_rights_met : (x : A) (k : ℕ) (ys : List B) → k < length ys → rights (on_right x (Ok k) ys) ≡ ys
-  on_right_rights_met x k [] w = absurd (omega (arith, w))
-  on_right_rights_met x zero (y ∷ ys) w = ap (λ l. y ∷ l) (rights_many A ys)
-  on_right_rights_met x (suc k) (y ∷ ys) w = ap (λ l. y ∷ l) (on_right_rights_met x k ys (omega (arith, w)))
+  on-right_rights_met : (x : A) (k : ℕ) (ys : List B) → k < length ys → rights (on_right x (Ok k) ys) ≡ ys
+  on-right_rights_met x k [] w = absurd (omega (arith, w))
+  on-right_rights_met x zero (y ∷ ys) w = ap (λ l. y ∷ l) (rights-many A ys)
+  on-right_rights_met x (suc k) (y ∷ ys) w = ap (λ l. y ∷ l) (on-right_rights_met x k ys (omega (arith, w)))
 
-  on_right_lefts : (x : A) (k : ℕ) (ys : List B) → lefts (on_right x (Err k) ys) ≡ x ∷ []
-  on_right_lefts x zero ys = ap (λ l. x ∷ l) (no_lefts A ys)
-  on_right_lefts x (suc k) [] = refl
-  on_right_lefts x (suc k) (y ∷ ys) = on_right_lefts x k ys
+  on-right_lefts : (x : A) (k : ℕ) (ys : List B) → lefts (on_right x (Err k) ys) ≡ x ∷ []
+  on-right_lefts x zero ys = ap (λ l. x ∷ l) (no-lefts A ys)
+  on-right_lefts x (suc k) [] = refl
+  on-right_lefts x (suc k) (y ∷ ys) = on-right_lefts x k ys
 
-  on_right_lefts_met : (x : A) (k : ℕ) (ys : List B) → lefts (on_right x (Ok k) ys) ≡ x ∷ []
-  on_right_lefts_met x k [] = refl
-  on_right_lefts_met x zero (y ∷ ys) = ap (λ l. x ∷ l) (no_lefts A ys)
-  on_right_lefts_met x (suc k) (y ∷ ys) = on_right_lefts_met x k ys
+  on-right_lefts_met : (x : A) (k : ℕ) (ys : List B) → lefts (on_right x (Ok k) ys) ≡ x ∷ []
+  on-right_lefts_met x k [] = refl
+  on-right_lefts_met x zero (y ∷ ys) = ap (λ l. x ∷ l) (no-lefts A ys)
+  on-right_lefts_met x (suc k) (y ∷ ys) = on-right_lefts_met x k ys
 
 module _ {K V W A B : Type 0} (cmp : K → K → Ordering) (o : IsTotalOrder cmp) (ta : A → Tree K V) (tb : B → Tree K W) (i j : ℕ) where
   -- two single trees that part
-  pub apart_lower : (x : A) (y : B) → by_component ta tb i j cmp (inl x) (inr y) ≡ Less
+  pub apart-lower : (x : A) (y : B) → by_component ta tb i j cmp (inl x) (inr y) ≡ Less
       → IsListed (by_component ta tb i j cmp) (x ∷ []) (y ∷ []) (Left ∷ Right ∷ [])
   unfolding IsStrictlySortedBy
-  apart_lower x y l = record {
+  apart-lower x y l = record {
     events = left_alone x ∷ right_alone y ∷ [];
     script = record { left = refl; right = refl; ascends = ((l, tt), (tt, tt)); matched = (tt, (tt, tt)) };
     sides_are = refl;
   }
 
-  pub apart_higher : (x : A) (y : B) → by_component ta tb i j cmp (inl x) (inr y) ≡ Greater
+  pub apart-higher : (x : A) (y : B) → by_component ta tb i j cmp (inl x) (inr y) ≡ Greater
       → IsListed (by_component ta tb i j cmp) (x ∷ []) (y ∷ []) (Right ∷ Left ∷ [])
   unfolding IsStrictlySortedBy
-  apart_higher x y g =
+  apart-higher x y g =
       let l : by_component ta tb i j cmp (inr y) (inl x) ≡ Less =
       (by_component_total ta tb i j o).antisymm (inr y) (inl x) ∙ ap ordering_reverse g in
       record {
@@ -330,73 +330,73 @@ module _ {K V W A B : Type 0} (cmp : K → K → Ordering) (o : IsTotalOrder cmp
       MatchResult r (BeginsAt cmp (shortened_in tree n xs) y) (IsGapAt cmp (shortened_in tree n xs) y)
 
   -- it is in the list, or at its end
-  pub place_within : {T U : Type 0} (tree : T → Tree K U) (n : ℕ) (xs : List T) (y : K) (r : Result ℕ ℕ)
+  pub place-within : {T U : Type 0} (tree : T → Tree K U) (n : ℕ) (xs : List T) (y : K) (r : Result ℕ ℕ)
       → IsPlaceOf tree n xs y r → MatchResult r (λ k. k < length xs) (λ k. k ≤ length xs)
-  place_within tree n xs y (Ok k) p = begins_within cmp tree n p.here k xs p.at
-  place_within tree n xs y (Err k) p = gap_within cmp tree n y k xs p
+  place-within tree n xs y (Ok k) p = begins-within cmp tree n p.here k xs p.at
+  place-within tree n xs y (Err k) p = gap-within cmp tree n y k xs p
 
   -- the children of the left tree, and a single right tree that begins with y
-  pub around_left : (xs : List A) (b : B) (y : K) (r : Result ℕ ℕ) → AreChildren cmp (shortened_in ta i xs)
+  pub around-left : (xs : List A) (b : B) (y : K) (r : Result ℕ ℕ) → AreChildren cmp (shortened_in ta i xs)
       → slice_get (tb b).prefix j ≡ Some y → IsPlaceOf ta i xs y r
       → IsListed (by_component ta tb i j cmp) xs (b ∷ []) (sides_around r (length xs) Left Right)
-  around_left xs b y (Ok k) a e p =
+  around-left xs b y (Ok k) a e p =
       let total = by_component_total ta tb i j o in
-      let within = begins_within cmp ta i p.here k xs p.at in
-      let met = holds_map _ _ (λ x m. (tied_itself total (inl x), m)) k xs (begins_holds cmp ta i y p.here _ e p.equal k xs p.at) in
+      let within = begins-within cmp ta i p.here k xs p.at in
+      let met = holds-map _ _ (λ x m. (tied_itself total (inl x), m)) k xs (begins-holds cmp ta i y p.here _ e p.equal k xs p.at) in
       record {
         events = on_left b (Ok k) xs;
         script = record {
-          left = on_left_lefts_met b k xs within;
-          right = on_left_rights_met b k xs;
-          ascends = ascend_met _ (right_alone b) _ (by_component ta tb i j cmp) total k xs (children_ascend cmp ta i xs a) met;
-          matched = matched_met _ (right_alone b) _ (by_component ta tb i j cmp) total (λ x. tt) k xs met;
+          left = on-left_lefts_met b k xs within;
+          right = on-left_rights_met b k xs;
+          ascends = ascend-met _ (right_alone b) _ (by_component ta tb i j cmp) total k xs (children-ascend cmp ta i xs a) met;
+          matched = matched-met _ (right_alone b) _ (by_component ta tb i j cmp) total (λ x. tt) k xs met;
         };
-        sides_are = met_sides _ (right_alone b) _ Left (λ x. refl) (λ x. refl) k xs within _ refl;
+        sides_are = met-sides _ (right_alone b) _ Left (λ x. refl) (λ x. refl) k xs within _ refl;
       }
-  around_left xs b y (Err k) a e p =
+  around-left xs b y (Err k) a e p =
       let total = by_component_total ta tb i j o in
-      let within = gap_within cmp ta i y k xs p in
-      let gap = gap_splits cmp ta i y _ e k xs p in
+      let within = gap-within cmp ta i y k xs p in
+      let gap = gap-splits cmp ta i y _ e k xs p in
       record {
         events = on_left b (Err k) xs;
         script = record {
-          left = on_left_lefts b k xs within;
-          right = on_left_rights b k xs;
-          ascends = ascend_gap _ (right_alone b) (λ x. collision x b) (by_component ta tb i j cmp) total k xs (children_ascend cmp ta i xs a) gap;
-          matched = matched_gap _ (right_alone b) (λ x. collision x b) (by_component ta tb i j cmp) total (λ x. tt) tt k xs;
+          left = on-left_lefts b k xs within;
+          right = on-left_rights b k xs;
+          ascends = ascend-gap _ (right_alone b) (λ x. collision x b) (by_component ta tb i j cmp) total k xs (children-ascend cmp ta i xs a) gap;
+          matched = matched-gap _ (right_alone b) (λ x. collision x b) (by_component ta tb i j cmp) total (λ x. tt) tt k xs;
         };
-        sides_are = gap_sides _ (right_alone b) (λ x. collision x b) Left Right (λ x. refl) refl k xs within _ refl;
+        sides_are = gap-sides _ (right_alone b) (λ x. collision x b) Left Right (λ x. refl) refl k xs within _ refl;
       }
 
   -- the children of the right tree, and a single left tree that begins with x
-  pub around_right : (a : A) (ys : List B) (x : K) (r : Result ℕ ℕ) → AreChildren cmp (shortened_in tb j ys)
+  pub around-right : (a : A) (ys : List B) (x : K) (r : Result ℕ ℕ) → AreChildren cmp (shortened_in tb j ys)
       → slice_get (ta a).prefix i ≡ Some x → IsPlaceOf tb j ys x r
       → IsListed (by_component ta tb i j cmp) (a ∷ []) ys (sides_around r (length ys) Right Left)
-  around_right a ys x (Ok k) c e p =
+  around-right a ys x (Ok k) c e p =
       let total = by_component_total ta tb i j o in
-      let within = begins_within cmp tb j p.here k ys p.at in
-      let met = holds_map _ _ (λ y m. (m, tied_back total (inr y) (inl a) m)) k ys (begins_holds cmp tb j x p.here _ e p.equal k ys p.at) in
+      let within = begins-within cmp tb j p.here k ys p.at in
+      let met = holds-map _ _ (λ y m. (m, tied_back total (inr y) (inl a) m)) k ys (begins-holds cmp tb j x p.here _ e p.equal k ys p.at) in
       record {
         events = on_right a (Ok k) ys;
         script = record {
-          left = on_right_lefts_met a k ys;
-          right = on_right_rights_met a k ys within;
-          ascends = ascend_met _ (left_alone a) (λ y. collision a y) (by_component ta tb i j cmp) total k ys (children_ascend cmp tb j ys c) met;
-          matched = matched_met _ (left_alone a) (λ y. collision a y) (by_component ta tb i j cmp) total (λ y. tt) k ys met;
+          left = on-right_lefts_met a k ys;
+          right = on-right_rights_met a k ys within;
+          ascends = ascend-met _ (left_alone a) (λ y. collision a y) (by_component ta tb i j cmp) total k ys (children-ascend cmp tb j ys c) met;
+          matched = matched-met _ (left_alone a) (λ y. collision a y) (by_component ta tb i j cmp) total (λ y. tt) k ys met;
         };
-        sides_are = met_sides _ (left_alone a) _ Right (λ y. refl) (λ y. refl) k ys within _ refl;
+        sides_are = met-sides _ (left_alone a) _ Right (λ y. refl) (λ y. refl) k ys within _ refl;
       }
-  around_right a ys x (Err k) c e p =
+  around-right a ys x (Err k) c e p =
       let total = by_component_total ta tb i j o in
-      let within = gap_within cmp tb j x k ys p in
-      let gap = gap_splits cmp tb j x _ e k ys p in
+      let within = gap-within cmp tb j x k ys p in
+      let gap = gap-splits cmp tb j x _ e k ys p in
       record {
         events = on_right a (Err k) ys;
         script = record {
-          left = on_right_lefts a k ys;
-          right = on_right_rights a k ys within;
-          ascends = ascend_gap _ (left_alone a) (λ y. collision a y) (by_component ta tb i j cmp) total k ys (children_ascend cmp tb j ys c) gap;
-          matched = matched_gap _ (left_alone a) (λ y. collision a y) (by_component ta tb i j cmp) total (λ y. tt) tt k ys;
+          left = on-right_lefts a k ys;
+          right = on-right_rights a k ys within;
+          ascends = ascend-gap _ (left_alone a) (λ y. collision a y) (by_component ta tb i j cmp) total k ys (children-ascend cmp tb j ys c) gap;
+          matched = matched-gap _ (left_alone a) (λ y. collision a y) (by_component ta tb i j cmp) total (λ y. tt) tt k ys;
         };
-        sides_are = gap_sides _ (left_alone a) (λ y. collision a y) Right Left (λ y. refl) refl k ys within _ refl;
+        sides_are = gap-sides _ (left_alone a) (λ y. collision a y) Right Left (λ y. refl) refl k ys within _ refl;
       }

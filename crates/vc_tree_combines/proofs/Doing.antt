@@ -1,7 +1,7 @@
 -- One event more of a script is done.
---     doing_start        none is done yet
---     doing_left, doing_right, doing_both        one more is
---     left_is, right_is        what the next trees are
+--     doing-start        none is done yet
+--     doing-left, doing-right, doing-both        one more is
+--     left-is, right-is        what the next trees are
 use Rattle.std.proofs.Common.{◌≡◌, ℕ, ◌+◌, ◌*◌, ◌≤◌, [], ◌∷◌, ◌++◌, List, Option, None, refl, sym, ap, subst, ◌∙◌, map, arith}
 use Rattle.std.specs.List.{AllByRecursion, filter_map, cons_option}
 use Rattle.std.proofs.lemmas.List.Elements.{filter_map-append}
@@ -15,41 +15,41 @@ use Rattle.vc_tree_combines.specs.Sides.{by_component, side_of, IsListed}
 use Rattle.vc_tree_combines.specs.declared.sides.Side.{Side}
 use Rattle.vc_tree_combines.specs.declared.sides.Side.TheVariants.{Left, Right, Both}
 
-all_push : {X : Type 0} (P : X → Type 0) (xs : List X) (x : X) → AllByRecursion P xs → P x → AllByRecursion P (xs ++ x ∷ [])
-all_push P [] x a p = (p, tt)
-all_push P (y ∷ ys) x a p = (a.0, all_push P ys x a.1 p)
+all-push : {X : Type 0} (P : X → Type 0) (xs : List X) (x : X) → AllByRecursion P xs → P x → AllByRecursion P (xs ++ x ∷ [])
+all-push P [] x a p = (p, tt)
+all-push P (y ∷ ys) x a p = (a.0, all-push P ys x a.1 p)
 
 -- events of which the first is on one side
 module _ {A B : Type 0} where
-  pub left_first : (sides : List Side) (es : List (Event A B)) → Left ∷ sides ≡ map (λ e. side_of e) es
+  pub left-first : (sides : List Side) (es : List (Event A B)) → Left ∷ sides ≡ map (λ e. side_of e) es
       → (a : A) × (rest : List (Event A B)) × (es ≡ left_alone a ∷ rest)
-  left_first sides [] e = absurd (cc)
-  left_first sides (left_alone a ∷ es) e = (a, es, refl)
-  left_first sides (right_alone b ∷ es) e = absurd (cc)
-  left_first sides (collision a b ∷ es) e = absurd (cc)
+  left-first sides [] e = absurd (cc)
+  left-first sides (left_alone a ∷ es) e = (a, es, refl)
+  left-first sides (right_alone b ∷ es) e = absurd (cc)
+  left-first sides (collision a b ∷ es) e = absurd (cc)
 
-  pub right_first : (sides : List Side) (es : List (Event A B)) → Right ∷ sides ≡ map (λ e. side_of e) es
+  pub right-first : (sides : List Side) (es : List (Event A B)) → Right ∷ sides ≡ map (λ e. side_of e) es
       → (b : B) × (rest : List (Event A B)) × (es ≡ right_alone b ∷ rest)
-  right_first sides [] e = absurd (cc)
-  right_first sides (left_alone a ∷ es) e = absurd (cc)
-  right_first sides (right_alone b ∷ es) e = (b, es, refl)
-  right_first sides (collision a b ∷ es) e = absurd (cc)
+  right-first sides [] e = absurd (cc)
+  right-first sides (left_alone a ∷ es) e = absurd (cc)
+  right-first sides (right_alone b ∷ es) e = (b, es, refl)
+  right-first sides (collision a b ∷ es) e = absurd (cc)
 
-  pub both_first : (sides : List Side) (es : List (Event A B)) → Both ∷ sides ≡ map (λ e. side_of e) es
+  pub both-first : (sides : List Side) (es : List (Event A B)) → Both ∷ sides ≡ map (λ e. side_of e) es
       → (a : A) × (b : B) × (rest : List (Event A B)) × (es ≡ collision a b ∷ rest)
-  both_first sides [] e = absurd (cc)
-  both_first sides (left_alone a ∷ es) e = absurd (cc)
-  both_first sides (right_alone b ∷ es) e = absurd (cc)
-  both_first sides (collision a b ∷ es) e = (a, b, es, refl)
+  both-first sides [] e = absurd (cc)
+  both-first sides (left_alone a ∷ es) e = absurd (cc)
+  both-first sides (right_alone b ∷ es) e = absurd (cc)
+  both-first sides (collision a b ∷ es) e = (a, b, es, refl)
 
 module _ {K V W U O A B : Type 0} (cmp : K → K → Ordering) (ta : A → Tree K V) (tb : B → Tree K W) (i j : ℕ) (l : Look cmp W O)
     (R : Option V → O → Option U → Type 0) (asks : Option V → O → Type 0) (xs : List A) (ys : List B) where
   -- none is done yet
-  pub doing_start : (sides : List Side) (made : List (Tree K U)) (spent budget : ℕ) → made ≡ []
+  pub doing-start : (sides : List Side) (made : List (Tree K U)) (spent budget : ℕ) → made ≡ []
       → (m : IsListed (by_component ta tb i j cmp) xs ys sides)
       → AllByRecursion (IsAskedAt cmp ta tb i j l asks) m.events → spent + owed cmp ta tb i j m.events ≤ budget
       → IsDoing cmp ta tb i j l R asks xs ys xs ys sides made spent budget
-  doing_start sides made spent budget e m a p = record {
+  doing-start sides made spent budget e m a p = record {
     done = [];
     rest = m.events;
     script = m.script;
@@ -73,20 +73,20 @@ module _ {K V W U O A B : Type 0} (cmp : K → K → Ordering) (ta : A → Tree 
   more ls rs sides made made' spent budget done e es o s m k w p f r z a c = record {
     done = done ++ (e, o) ∷ [];
     rest = es;
-    script = subst (λ l. IsScript (by_component ta tb i j cmp) xs ys l) (events_push done) s;
+    script = subst (λ l. IsScript (by_component ta tb i j cmp) xs ys l) (events-push done) s;
     left = f;
     right = r;
     sides_are = z;
-    made_at = all_push (λ d. IsMadeAt cmp l R ta tb i j d.0 d.1) done (e, o) m w;
+    made_at = all-push (λ d. IsMadeAt cmp l R ta tb i j d.0 d.1) done (e, o) m w;
     made_are = p ∙ ap (λ l. l ++ cons_option o []) k ∙ sym (filter_map-append (λ d. d.1) done ((e, o) ∷ []));
     asked = a;
     paid = c;
   }
     where
-      events_push : (ds : List (Event A B × Option (Tree K U)))
+      events-push : (ds : List (Event A B × Option (Tree K U)))
           → map (λ d. d.0) ds ++ e ∷ es ≡ map (λ d. d.0) (ds ++ (e, o) ∷ []) ++ es
-      events_push [] = refl
-      events_push (x ∷ ds) = ap (λ l. x.0 ∷ l) (events_push ds)
+      events-push [] = refl
+      events-push (x ∷ ds) = ap (λ l. x.0 ∷ l) (events-push ds)
 
   module _ (ls : List A) (rs : List B) (all : List Side) (made : List (Tree K U)) (spent budget : ℕ)
       (d : IsDoing cmp ta tb i j l R asks xs ys ls rs all made spent budget) where
@@ -95,59 +95,59 @@ module _ {K V W U O A B : Type 0} (cmp : K → K → Ordering) (ta : A → Tree 
     Next e = (rest : List (Event A B)) × (d.rest ≡ e ∷ rest)
 
     -- the next tree of the left list, where an event takes one
-    pub left_is : (a : A) (rest : List (Event A B)) (x : A) (ls' : List A) → a ∷ lefts rest ≡ lefts d.rest → ls ≡ x ∷ ls' → (x ≡ a) × (ls' ≡ lefts rest)
-    left_is a rest x ls' h e = let g : x ∷ ls' ≡ a ∷ lefts rest = sym e ∙ d.left ∙ sym h in (cc, cc)
+    pub left-is : (a : A) (rest : List (Event A B)) (x : A) (ls' : List A) → a ∷ lefts rest ≡ lefts d.rest → ls ≡ x ∷ ls' → (x ≡ a) × (ls' ≡ lefts rest)
+    left-is a rest x ls' h e = let g : x ∷ ls' ≡ a ∷ lefts rest = sym e ∙ d.left ∙ sym h in (cc, cc)
 
-    pub right_is : (b : B) (rest : List (Event A B)) (y : B) (rs' : List B) → b ∷ rights rest ≡ rights d.rest → rs ≡ y ∷ rs' → (y ≡ b) × (rs' ≡ rights rest)
-    right_is b rest y rs' h e = let g : y ∷ rs' ≡ b ∷ rights rest = sym e ∙ d.right ∙ sym h in (cc, cc)
+    pub right-is : (b : B) (rest : List (Event A B)) (y : B) (rs' : List B) → b ∷ rights rest ≡ rights d.rest → rs ≡ y ∷ rs' → (y ≡ b) × (rs' ≡ rights rest)
+    right-is b rest y rs' h e = let g : y ∷ rs' ≡ b ∷ rights rest = sym e ∙ d.right ∙ sym h in (cc, cc)
 
     module _ (sides : List Side) (made' : List (Tree K U)) (o : Option (Tree K U)) (pushed : made' ≡ made ++ cons_option o []) where
-      script_next : (e : Event A B) (rest : List (Event A B)) → d.rest ≡ e ∷ rest
+      script-next : (e : Event A B) (rest : List (Event A B)) → d.rest ≡ e ∷ rest
           → IsScript (by_component ta tb i j cmp) xs ys (map (λ d. d.0) d.done ++ e ∷ rest)
-      script_next e rest h = subst (λ l. IsScript (by_component ta tb i j cmp) xs ys (map (λ d. d.0) d.done ++ l)) h d.script
+      script-next e rest h = subst (λ l. IsScript (by_component ta tb i j cmp) xs ys (map (λ d. d.0) d.done ++ l)) h d.script
 
-      asked_next : (e : Event A B) (rest : List (Event A B)) → d.rest ≡ e ∷ rest
+      asked-next : (e : Event A B) (rest : List (Event A B)) → d.rest ≡ e ∷ rest
           → AllByRecursion (IsAskedAt cmp ta tb i j l asks) rest
-      asked_next e rest h = (subst (AllByRecursion (IsAskedAt cmp ta tb i j l asks)) h d.asked).1
+      asked-next e rest h = (subst (AllByRecursion (IsAskedAt cmp ta tb i j l asks)) h d.asked).1
 
-      sides_next : (e : Event A B) (rest : List (Event A B)) (s : Side) → d.rest ≡ e ∷ rest → all ≡ s ∷ sides
+      sides-next : (e : Event A B) (rest : List (Event A B)) (s : Side) → d.rest ≡ e ∷ rest → all ≡ s ∷ sides
           → sides ≡ map (λ e. side_of e) rest
-      sides_next e rest s h z = let g : s ∷ sides ≡ side_of e ∷ map (λ e. side_of e) rest = sym z ∙ d.sides_are ∙ ap (map (λ e. side_of e)) h in cc
+      sides-next e rest s h z = let g : s ∷ sides ≡ side_of e ∷ map (λ e. side_of e) rest = sym z ∙ d.sides_are ∙ ap (map (λ e. side_of e)) h in cc
 
-      pub doing_left : (x : A) (ls' : List A) → all ≡ Left ∷ sides → ls ≡ x ∷ ls'
+      pub doing-left : (x : A) (ls' : List A) → all ≡ Left ∷ sides → ls ≡ x ∷ ls'
           → IsMade cmp (λ v z. R v l.none z) (shortened i (ta x)) o
           → IsDoing cmp ta tb i j l R asks xs ys ls' rs sides made' spent budget
-      doing_left x ls' z e w =
-          let f = left_first sides d.rest (sym z ∙ d.sides_are) in
-          let g = left_is f.0 f.1 x ls' (ap lefts (sym f.2)) e in
-          more ls' rs sides made made' spent budget d.done (left_alone f.0) f.1 o (script_next _ _ f.2) d.made_at d.made_are
+      doing-left x ls' z e w =
+          let f = left-first sides d.rest (sym z ∙ d.sides_are) in
+          let g = left-is f.0 f.1 x ls' (ap lefts (sym f.2)) e in
+          more ls' rs sides made made' spent budget d.done (left_alone f.0) f.1 o (script-next _ _ f.2) d.made_at d.made_are
           (subst (λ x. IsMade cmp (λ v z. R v l.none z) (shortened i (ta x)) o) g.0 w) pushed g.1
-          (d.right ∙ ap rights f.2) (sides_next _ _ Left f.2 z) (asked_next _ _ f.2)
+          (d.right ∙ ap rights f.2) (sides-next _ _ Left f.2 z) (asked-next _ _ f.2)
           (subst (λ l. spent + owed cmp ta tb i j l ≤ budget) f.2 d.paid)
 
-      pub doing_right : (y : B) (rs' : List B) → all ≡ Right ∷ sides → rs ≡ y ∷ rs'
+      pub doing-right : (y : B) (rs' : List B) → all ≡ Right ∷ sides → rs ≡ y ∷ rs'
           → IsMadeBy cmp l (λ w z. R None w z) (shortened j (tb y)) o
           → IsDoing cmp ta tb i j l R asks xs ys ls rs' sides made' spent budget
-      doing_right y rs' z e w =
-          let f = right_first sides d.rest (sym z ∙ d.sides_are) in
-          let g = right_is f.0 f.1 y rs' (ap rights (sym f.2)) e in
-          more ls rs' sides made made' spent budget d.done (right_alone f.0) f.1 o (script_next _ _ f.2) d.made_at d.made_are
+      doing-right y rs' z e w =
+          let f = right-first sides d.rest (sym z ∙ d.sides_are) in
+          let g = right-is f.0 f.1 y rs' (ap rights (sym f.2)) e in
+          more ls rs' sides made made' spent budget d.done (right_alone f.0) f.1 o (script-next _ _ f.2) d.made_at d.made_are
           (subst (λ y. IsMadeBy cmp l (λ w z. R None w z) (shortened j (tb y)) o) g.0 w) pushed
-          (d.left ∙ ap lefts f.2) g.1 (sides_next _ _ Right f.2 z) (asked_next _ _ f.2)
+          (d.left ∙ ap lefts f.2) g.1 (sides-next _ _ Right f.2 z) (asked-next _ _ f.2)
           (subst (λ l. spent + owed cmp ta tb i j l ≤ budget) f.2 d.paid)
 
-      pub doing_both : (x : A) (ls' : List A) (y : B) (rs' : List B) (spent' : ℕ) → all ≡ Both ∷ sides → ls ≡ x ∷ ls'
+      pub doing-both : (x : A) (ls' : List A) (y : B) (rs' : List B) (spent' : ℕ) → all ≡ Both ∷ sides → ls ≡ x ∷ ls'
           → rs ≡ y ∷ rs' → IsBothMadeBy cmp l R (shortened i (ta x)) (shortened j (tb y)) o
           → spent' + 2 ≤ spent + 3 * (weight (shortened i (ta x)) + weight (shortened j (tb y)))
           → IsDoing cmp ta tb i j l R asks xs ys ls' rs' sides made' spent' budget
-      doing_both x ls' y rs' spent' z e e' w c =
-          let f = both_first sides d.rest (sym z ∙ d.sides_are) in
-          let g = left_is f.0 f.2 x ls' (ap lefts (sym f.3)) e in
-          let h = right_is f.1 f.2 y rs' (ap rights (sym f.3)) e' in
+      doing-both x ls' y rs' spent' z e e' w c =
+          let f = both-first sides d.rest (sym z ∙ d.sides_are) in
+          let g = left-is f.0 f.2 x ls' (ap lefts (sym f.3)) e in
+          let h = right-is f.1 f.2 y rs' (ap rights (sym f.3)) e' in
           let same = subst (λ y. IsBothMadeBy cmp l R (shortened i (ta f.0)) (shortened j (tb y)) o) h.0
           (subst (λ x. IsBothMadeBy cmp l R (shortened i (ta x)) (shortened j (tb y)) o) g.0 w) in
           let cost = subst (λ y. spent' + 2 ≤ spent + 3 * (weight (shortened i (ta f.0)) + weight (shortened j (tb y)))) h.0
           (subst (λ x. spent' + 2 ≤ spent + 3 * (weight (shortened i (ta x)) + weight (shortened j (tb y)))) g.0 c) in
           let paid = subst (λ l. spent + owed cmp ta tb i j l ≤ budget) f.3 d.paid in
-          more ls' rs' sides made made' spent' budget d.done (collision f.0 f.1) f.2 o (script_next _ _ f.3) d.made_at d.made_are
-          same pushed g.1 h.1 (sides_next _ _ Both f.3 z) (asked_next _ _ f.3) (omega (arith, cost, paid))
+          more ls' rs' sides made made' spent' budget d.done (collision f.0 f.1) f.2 o (script-next _ _ f.3) d.made_at d.made_are
+          same pushed g.1 h.1 (sides-next _ _ Both f.3 z) (asked-next _ _ f.3) (omega (arith, cost, paid))

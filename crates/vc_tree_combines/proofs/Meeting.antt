@@ -1,10 +1,10 @@
 -- Tests of the keys of two trees, by what stands below the fronts of their prefixes that agree.
---     tells_lifted        what is told of the trees without these fronts, is told of both
---     alone_apart, alone_childless, alone_nowhere        a tree whose keys the other side has not
---     tells_child, tells_in_child        one prefix ends, and the other tree goes on in a child
---     bare_or_missed, childless_met        or in none
---     tells_nodes        both prefixes end
---     disjoint_told, subset_told        the public words
+--     tells-lifted        what is told of the trees without these fronts, is told of both
+--     alone-apart, alone-childless, alone_nowhere        a tree whose keys the other side has not
+--     tells-child, tells-in_child        one prefix ends, and the other tree goes on in a child
+--     bare-or_missed, childless-met        or in none
+--     tells-nodes        both prefixes end
+--     disjoint-told, subset-told        the public words
 use Rattle.std.proofs.Common.{◌≡◌, [], ◌∷◌, ◌++◌, List, Option, None, Some, is_some, Bool, true, false, not, ◌⊎◌, inl, inr, refl, sym, ap, subst, ◌∙◌, true≢false}
 use Rattle.std.specs.Cmp.{IsTotalOrder, Equal-is, tied_itself, tied_back}
 use Rattle.std.specs.Option.{option_and_then}
@@ -18,20 +18,20 @@ use Rattle.vc_tree_model.specs.Tree.{Tree, Forest, bare, grow, node, lacks_both}
 use Rattle.vc_tree_model.specs.Map.{lookup, lookup_in}
 use Rattle.vc_tree_model.specs.Canonical.{AreChildren, IsSolid, IsWhole}
 use Rattle.vc_tree_model.specs.Under.{prefixed}
-use Rattle.vc_tree_model.proofs.KeyLemmas.{behind_itself, behind_same, same_itself}
-use Rattle.vc_tree_model.proofs.LookupLemmas.{lookup-other, lookup_in-skip, lookup_in_same, lookup_same, first_bound, tree_bound, whole_cases, nothing_bound}
+use Rattle.vc_tree_model.proofs.KeyLemmas.{behind-itself, behind-same, same-itself}
+use Rattle.vc_tree_model.proofs.LookupLemmas.{lookup-other, lookup_in-skip, lookup_in-same, lookup-same, first-bound, tree-bound, whole-cases, nothing-bound}
 use Rattle.vc_tree_model.proofs.UnderLemmas.{lookup-prepended}
 use Rattle.vc_tree_nodes.specs.Places.{IsNoChild, IsFoundChild}
 use Rattle.vc_tree_combines.specs.Meeting.{IsMet, IsMissed, TellsKeys, TellsKeysIn}
 
 -- a key of the left alone is met where none is to be shared
-pub met_alone : {V : Type 0} (W : Type 0) (v : Option V) → IsMet {V = V} {W = W} false v None
-met_alone W None = tt
-met_alone W (Some v) = refl
+pub met-alone : {V : Type 0} (W : Type 0) (v : Option V) → IsMet {V = V} {W = W} false v None
+met-alone W None = tt
+met-alone W (Some v) = refl
 
-not_missed_alone : {V : Type 0} (W : Type 0) (v : Option V) → IsMissed {V = V} {W = W} false v None → ⊥
-not_missed_alone W None m = m
-not_missed_alone W (Some v) m = true≢false (sym m)
+not-missed_alone : {V : Type 0} (W : Type 0) (v : Option V) → IsMissed {V = V} {W = W} false v None → ⊥
+not-missed_alone W None m = m
+not-missed_alone W (Some v) m = true≢false (sym m)
 
 module _ {V W : Type 0} where
   -- nothing is said of a key where nothing is missed, whatever is asked
@@ -39,11 +39,11 @@ module _ {V W : Type 0} where
     met : IsMet shared v w
     not_missed : IsMissed shared v w → ⊥
 
-  silent_left : (shared : Bool) (v : Option V) (w : Option W) → v ≡ None → IsSilent shared v w
-  silent_left shared v w e = rw e (record { met = tt; not_missed = λ m. m })
+  silent-left : (shared : Bool) (v : Option V) (w : Option W) → v ≡ None → IsSilent shared v w
+  silent-left shared v w e = rw e (record { met = tt; not_missed = λ m. m })
 
-  silent_right : (shared : Bool) (v : Option V) (w : Option W) → shared ≡ false → w ≡ None → IsSilent shared v w
-  silent_right shared v w s e = rw (s, e) (record { met = met_alone W v; not_missed = not_missed_alone W v })
+  silent-right : (shared : Bool) (v : Option V) (w : Option W) → shared ≡ false → w ≡ None → IsSilent shared v w
+  silent-right shared v w s e = rw (s, e) (record { met = met-alone W v; not_missed = not-missed_alone W v })
 
 module _ {K V W : Type 0} (shared : Bool) where
   -- what an answer tells of two maps
@@ -55,14 +55,14 @@ module _ {K V W : Type 0} (shared : Bool) where
   abbrev SaysSame : (List K → Option V) → (List K → Option W) → (List K → Option V) → (List K → Option W) → List K → Type 0
   SaysSame f g f' g' k = ((f' k ≡ f k) × (g' k ≡ g k)) ⊎ (IsSilent shared (f' k) (g' k) × IsSilent shared (f k) (g k))
 
-  tells_where : (f : List K → Option V) (g : List K → Option W) (f' : List K → Option V) (g' : List K → Option W)
+  tells-where : (f : List K → Option V) (g : List K → Option W) (f' : List K → Option V) (g' : List K → Option W)
       → ((k : List K) → SaysSame f g f' g' k) → (answer : Bool) → Tells f g answer → Tells f' g' answer
-  tells_where f g f' g' e true h = λ k. by k (e k)
+  tells-where f g f' g' e true h = λ k. by k (e k)
     where
       by : (k : List K) → SaysSame f g f' g' k → IsMet shared (f' k) (g' k)
       by k (inl s) = rw (s.0, s.1) (h k)
       by k (inr s) = s.0.met
-  tells_where f g f' g' e false h = by (e h.0)
+  tells-where f g f' g' e false h = by (e h.0)
     where
       by : SaysSame f g f' g' h.0 → (k : List K) × IsMissed shared (f' k) (g' k)
       by (inl s) = (h.0, rw (s.0, s.1) h.1)
@@ -70,33 +70,33 @@ module _ {K V W : Type 0} (shared : Bool) where
 
   module _ (cmp : K → K → Ordering) (o : IsTotalOrder cmp) where
     -- with equal prefixes before the keys
-    tells_prefixed : (p p' : List K) → same_key cmp p p' ≡ true → (f : List K → Option V) (g : List K → Option W) (answer : Bool)
+    tells-prefixed : (p p' : List K) → same_key cmp p p' ≡ true → (f : List K → Option V) (g : List K → Option W) (answer : Bool)
         → Tells f g answer → Tells (prefixed cmp f p) (prefixed cmp g p') answer
-    tells_prefixed p p' s f g true h = λ k. rw (← behind_same cmp o p p' k s) (by (behind cmp p k))
+    tells-prefixed p p' s f g true h = λ k. rw (← behind-same cmp o p p' k s) (by (behind cmp p k))
       where
         by : (left : Option (List K)) → IsMet shared (option_and_then f left) (option_and_then g left)
         by None = tt
         by (Some rest) = h rest
-    tells_prefixed p p' s f g false h =
-        (p ++ h.0, rw (← behind_same cmp o p p' (p ++ h.0) s, behind_itself cmp o p h.0) h.1)
+    tells-prefixed p p' s f g false h =
+        (p ++ h.0, rw (← behind-same cmp o p p' (p ++ h.0) s, behind-itself cmp o p h.0) h.1)
 
     -- what is told of two trees without equal fronts of their prefixes, is told of the trees
-    pub tells_lifted : (t : Tree K V) (u : Tree K W) (p a p' b : List K) (answer : Bool) → t.prefix ≡ p ++ a → u.prefix ≡ p' ++ b
+    pub tells-lifted : (t : Tree K V) (u : Tree K W) (p a p' b : List K) (answer : Bool) → t.prefix ≡ p ++ a → u.prefix ≡ p' ++ b
         → same_key cmp p p' ≡ true → TellsKeys cmp shared (node a t.value t.children) (node b u.value u.children) answer
         → TellsKeys cmp shared t u answer
-    tells_lifted t u p a p' b answer et eu s h =
-        tells_where (prefixed cmp (lookup cmp (node a t.value t.children)) p)
+    tells-lifted t u p a p' b answer et eu s h =
+        tells-where (prefixed cmp (lookup cmp (node a t.value t.children)) p)
         (prefixed cmp (lookup cmp (node b u.value u.children)) p') (lookup cmp t) (lookup cmp u)
         (λ k. inl (
           ap (λ r. lookup cmp (node r t.value t.children) k) et ∙ lookup-prepended cmp p (node a t.value t.children) k,
           ap (λ r. lookup cmp (node r u.value u.children) k) eu ∙ lookup-prepended cmp p' (node b u.value u.children) k,
         )) answer
-        (tells_prefixed p p' s (lookup cmp (node a t.value t.children)) (lookup cmp (node b u.value u.children)) answer h)
+        (tells-prefixed p p' s (lookup cmp (node a t.value t.children)) (lookup cmp (node b u.value u.children)) answer h)
 
 module _ {K : Type 0} (cmp : K → K → Ordering) (o : IsTotalOrder cmp) where
   -- a component that equals another begins an equal key
-  same_first : (x y : K) (s : List K) → cmp x y ≡ Equal → same_key cmp (x ∷ s) (y ∷ s) ≡ true
-  same_first x y s h = rw h (same_itself cmp o s)
+  same-first : (x y : K) (s : List K) → cmp x y ≡ Equal → same_key cmp (x ∷ s) (y ∷ s) ≡ true
+  same-first x y s h = rw h (same-itself cmp o s)
 
   -- no component equals two that differ
   differs : (x y z : K) → is_eq (cmp x y) ≡ false → cmp x z ≡ Equal → is_eq (cmp y z) ≡ false
@@ -109,25 +109,25 @@ module _ {K : Type 0} (cmp : K → K → Ordering) (o : IsTotalOrder cmp) where
           absurd (true≢false (sym (ap is_eq (o.congr x z y e ∙ back)) ∙ d))
 
   -- what children have of the keys that begin with a component, one of them has
-  in_child : {U : Type 0} (f : Forest K U) (x y : K) (t : Tree K U) (k : List K) → IsFoundChild cmp f x t → cmp x y ≡ Equal
+  in-child : {U : Type 0} (f : Forest K U) (x y : K) (t : Tree K U) (k : List K) → IsFoundChild cmp f x t → cmp x y ≡ Equal
       → lookup_in cmp f (y ∷ k) ≡ lookup cmp t (y ∷ k)
-  in_child f x y t k c e =
-      sym (lookup_in_same cmp o f (x ∷ k) (y ∷ k) (same_first x y k e)) ∙ c.same k
-      ∙ lookup_same cmp o t (x ∷ k) (y ∷ k) (same_first x y k e)
+  in-child f x y t k c e =
+      sym (lookup_in-same cmp o f (x ∷ k) (y ∷ k) (same-first x y k e)) ∙ c.same k
+      ∙ lookup-same cmp o t (x ∷ k) (y ∷ k) (same-first x y k e)
 
   module _ {V W : Type 0} where
     -- a solid tree, of which the other side has no key
-    pub alone_apart : (shared : Bool) (x : K) (p : List K) (v : Option V) (f : Forest K V) (g : List K → Option W) → IsSolid v f
+    pub alone-apart : (shared : Bool) (x : K) (p : List K) (v : Option V) (f : Forest K V) (g : List K → Option W) → IsSolid v f
         → AreChildren cmp f → ((y : K) (k : List K) → cmp x y ≡ Equal → g (y ∷ k) ≡ None)
         → Tells shared (lookup cmp (node (x ∷ p) v f)) g (not shared)
-    alone_apart true x p v f g s c n =
-        let b = tree_bound cmp o (x ∷ p) v f s c in
+    alone-apart true x p v f g s c n =
+        let b = tree-bound cmp o (x ∷ p) v f s c in
         (x ∷ (p ++ b.key), rw (b.is, n x (p ++ b.key) (tied_itself o x)) refl)
-    alone_apart false x p v f g s c n = each
+    alone-apart false x p v f g s c n = each
       where
         by : (y : K) (k : List K) (b : Bool) → is_eq (cmp x y) ≡ b
             → IsMet false (lookup cmp (node (x ∷ p) v f) (y ∷ k)) (g (y ∷ k))
-        by y k true e = rw (n y k ((Equal-is (cmp x y)).0 e)) (met_alone W (lookup cmp (node (x ∷ p) v f) (y ∷ k)))
+        by y k true e = rw (n y k ((Equal-is (cmp x y)).0 e)) (met-alone W (lookup cmp (node (x ∷ p) v f) (y ∷ k)))
         by y k false e = rw (lookup-other cmp x y p k v f e) tt
 
         each : (k : List K) → IsMet false (lookup cmp (node (x ∷ p) v f) k) (g k)
@@ -135,76 +135,76 @@ module _ {K : Type 0} (cmp : K → K → Ordering) (o : IsTotalOrder cmp) where
         each (y ∷ k) = by y k (is_eq (cmp x y)) refl
 
     -- the other side is a tree that begins otherwise
-    pub alone_parted : (shared : Bool) (x y : K) (p q : List K) (v : Option V) (w : Option W) (f : Forest K V) (g : Forest K W)
+    pub alone-parted : (shared : Bool) (x y : K) (p q : List K) (v : Option V) (w : Option W) (f : Forest K V) (g : Forest K W)
         → IsSolid v f → AreChildren cmp f → is_eq (cmp x y) ≡ false
         → TellsKeys cmp shared (node (x ∷ p) v f) (node (y ∷ q) w g) (not shared)
-    alone_parted shared x y p q v w f g s c d =
-        alone_apart shared x p v f (lookup cmp (node (y ∷ q) w g)) s c
+    alone-parted shared x y p q v w f g s c d =
+        alone-apart shared x p v f (lookup cmp (node (y ∷ q) w g)) s c
         (λ z k e. lookup-other cmp y z q k w g (differs x y z d e))
 
     -- or a node of whose children none begins so
-    pub alone_childless : (shared : Bool) (x : K) (p : List K) (v : Option V) (w : Option W) (f : Forest K V) (g : Forest K W)
+    pub alone-childless : (shared : Bool) (x : K) (p : List K) (v : Option V) (w : Option W) (f : Forest K V) (g : Forest K W)
         → IsSolid v f → AreChildren cmp f → IsNoChild cmp g x
         → TellsKeys cmp shared (node (x ∷ p) v f) (node [] w g) (not shared)
-    alone_childless shared x p v w f g s c n =
-        alone_apart shared x p v f (lookup cmp (node [] w g)) s c
-        (λ y k e. sym (lookup_in_same cmp o g (x ∷ k) (y ∷ k) (same_first x y k e)) ∙ n k)
+    alone-childless shared x p v w f g s c n =
+        alone-apart shared x p v f (lookup cmp (node [] w g)) s c
+        (λ y k e. sym (lookup_in-same cmp o g (x ∷ k) (y ∷ k) (same-first x y k e)) ∙ n k)
 
     -- the right prefix ends, and the left tree goes on in a child
-    pub tells_child : (shared : Bool) (x : K) (p : List K) (v : Option V) (w : Option W) (f : Forest K V) (g : Forest K W)
+    pub tells-child : (shared : Bool) (x : K) (p : List K) (v : Option V) (w : Option W) (f : Forest K V) (g : Forest K W)
         (t : Tree K W) (answer : Bool) → IsFoundChild cmp g x t → TellsKeys cmp shared (node (x ∷ p) v f) t answer
         → TellsKeys cmp shared (node (x ∷ p) v f) (node [] w g) answer
-    tells_child shared x p v w f g t answer c h =
-        tells_where shared (lookup cmp (node (x ∷ p) v f)) (lookup cmp t) (lookup cmp (node (x ∷ p) v f))
+    tells-child shared x p v w f g t answer c h =
+        tells-where shared (lookup cmp (node (x ∷ p) v f)) (lookup cmp t) (lookup cmp (node (x ∷ p) v f))
         (lookup cmp (node [] w g)) each answer h
       where
         each : (k : List K) → SaysSame shared (lookup cmp (node (x ∷ p) v f)) (lookup cmp t) (lookup cmp (node (x ∷ p) v f)) (lookup cmp (node [] w g)) k
-        each [] = inr (silent_left shared None w refl, silent_left shared None (lookup cmp t []) refl)
+        each [] = inr (silent-left shared None w refl, silent-left shared None (lookup cmp t []) refl)
         each (y ∷ k) = by (is_eq (cmp x y)) refl
           where
             by : (b : Bool) → is_eq (cmp x y) ≡ b
                 → SaysSame shared (lookup cmp (node (x ∷ p) v f)) (lookup cmp t) (lookup cmp (node (x ∷ p) v f)) (lookup cmp (node [] w g)) (y ∷ k)
-            by true e = inl (refl, in_child g x y t k c ((Equal-is (cmp x y)).0 e))
+            by true e = inl (refl, in-child g x y t k c ((Equal-is (cmp x y)).0 e))
             by false e =
                 let n = lookup-other cmp x y p k v f e in
-                inr (silent_left shared _ (lookup_in cmp g (y ∷ k)) n, silent_left shared _ (lookup cmp t (y ∷ k)) n)
+                inr (silent-left shared _ (lookup_in cmp g (y ∷ k)) n, silent-left shared _ (lookup cmp t (y ∷ k)) n)
 
     -- the left prefix ends, and the right tree goes on in a child
-    pub tells_in_child : (y : K) (q : List K) (v : Option V) (w : Option W) (f : Forest K V) (g : Forest K W) (t : Tree K V)
+    pub tells-in_child : (y : K) (q : List K) (v : Option V) (w : Option W) (f : Forest K V) (g : Forest K W) (t : Tree K V)
         (answer : Bool) → IsFoundChild cmp f y t → TellsKeys cmp false t (node (y ∷ q) w g) answer
         → TellsKeys cmp false (node [] v f) (node (y ∷ q) w g) answer
-    tells_in_child y q v w f g t answer c h =
-        tells_where false (lookup cmp t) (lookup cmp (node (y ∷ q) w g)) (lookup cmp (node [] v f))
+    tells-in_child y q v w f g t answer c h =
+        tells-where false (lookup cmp t) (lookup cmp (node (y ∷ q) w g)) (lookup cmp (node [] v f))
         (lookup cmp (node (y ∷ q) w g)) each answer h
       where
         each : (k : List K) → SaysSame false (lookup cmp t) (lookup cmp (node (y ∷ q) w g)) (lookup cmp (node [] v f)) (lookup cmp (node (y ∷ q) w g)) k
-        each [] = inr (silent_right false v None refl refl, silent_right false (lookup cmp t []) None refl refl)
+        each [] = inr (silent-right false v None refl refl, silent-right false (lookup cmp t []) None refl refl)
         each (z ∷ k) = by (is_eq (cmp y z)) refl
           where
             by : (b : Bool) → is_eq (cmp y z) ≡ b
                 → SaysSame false (lookup cmp t) (lookup cmp (node (y ∷ q) w g)) (lookup cmp (node [] v f)) (lookup cmp (node (y ∷ q) w g)) (z ∷ k)
-            by true e = inl (in_child f y z t k c ((Equal-is (cmp y z)).0 e), refl)
+            by true e = inl (in-child f y z t k c ((Equal-is (cmp y z)).0 e), refl)
             by false e =
                 let n = lookup-other cmp y z q k w g e in
-                inr (silent_right false (lookup_in cmp f (z ∷ k)) _ refl n, silent_right false (lookup cmp t (z ∷ k)) _ refl n)
+                inr (silent-right false (lookup_in cmp f (z ∷ k)) _ refl n, silent-right false (lookup cmp t (z ∷ k)) _ refl n)
 
     -- or in none
-    pub childless_met : (y : K) (q : List K) (v : Option V) (w : Option W) (f : Forest K V) (g : Forest K W)
+    pub childless-met : (y : K) (q : List K) (v : Option V) (w : Option W) (f : Forest K V) (g : Forest K W)
         → IsNoChild cmp f y → TellsKeys cmp false (node [] v f) (node (y ∷ q) w g) true
-    childless_met y q v w f g n [] = met_alone W v
-    childless_met y q v w f g n (z ∷ k) = by (is_eq (cmp y z)) refl
+    childless-met y q v w f g n [] = met-alone W v
+    childless-met y q v w f g n (z ∷ k) = by (is_eq (cmp y z)) refl
       where
         by : (b : Bool) → is_eq (cmp y z) ≡ b
             → IsMet false (lookup_in cmp f (z ∷ k)) (lookup cmp (node (y ∷ q) w g) (z ∷ k))
         by true e =
-            rw (sym (lookup_in_same cmp o f (y ∷ k) (z ∷ k) (same_first y z k ((Equal-is (cmp y z)).0 e))) ∙ n k) tt
-        by false e = rw (lookup-other cmp y z q k w g e) (met_alone W (lookup_in cmp f (z ∷ k)))
+            rw (sym (lookup_in-same cmp o f (y ∷ k) (z ∷ k) (same-first y z k ((Equal-is (cmp y z)).0 e))) ∙ n k) tt
+        by false e = rw (lookup-other cmp y z q k w g e) (met-alone W (lookup_in cmp f (z ∷ k)))
 
     -- two children do not both begin as the right tree does
-    two_missed : (y : K) (q : List K) (w : Option W) (g : Forest K W) (x z : K) (p r : List K) (v u : Option V)
+    two-missed : (y : K) (q : List K) (w : Option W) (g : Forest K W) (x z : K) (p r : List K) (v u : Option V)
         (kids more rest : Forest K V) → AreChildren cmp (grow (x ∷ p) v kids (grow (z ∷ r) u more rest))
         → TellsKeys cmp true (node [] None (grow (x ∷ p) v kids (grow (z ∷ r) u more rest))) (node (y ∷ q) w g) false
-    two_missed y q w g x z p r v u kids more rest c = by (is_eq (cmp y x)) refl
+    two-missed y q w g x z p r v u kids more rest c = by (is_eq (cmp y x)) refl
       where
         less : is_eq (cmp x z) ≡ false
         less = rw (c.2.0) refl
@@ -212,73 +212,73 @@ module _ {K : Type 0} (cmp : K → K → Ordering) (o : IsTotalOrder cmp) where
         by : (b : Bool) → is_eq (cmp y x) ≡ b
             → TellsKeys cmp true (node [] None (grow (x ∷ p) v kids (grow (z ∷ r) u more rest))) (node (y ∷ q) w g) false
         by false e =
-            let b = first_bound cmp o (grow (x ∷ p) v kids (grow (z ∷ r) u more rest)) c in
+            let b = first-bound cmp o (grow (x ∷ p) v kids (grow (z ∷ r) u more rest)) c in
             (x ∷ b.key, rw (b.is, lookup-other cmp y x q b.key w g e) refl)
         by true e =
-            let b = first_bound cmp o (grow (z ∷ r) u more rest) c.3 in
+            let b = first-bound cmp o (grow (z ∷ r) u more rest) c.3 in
             let d : is_eq (cmp y z) ≡ false = ap is_eq (o.congr y x z ((Equal-is (cmp y x)).0 e)) ∙ less in
             (z ∷ b.key, rw (lookup_in-skip cmp x z p b.key v kids (grow (z ∷ r) u more rest) less ∙ b.is, lookup-other cmp y z q b.key w g d) refl)
 
-    solid_missed : (y : K) (q : List K) (w : Option W) (g : Forest K W) (v : Option V) (f : Forest K V) → IsSolid v f
+    solid-missed : (y : K) (q : List K) (w : Option W) (g : Forest K W) (v : Option V) (f : Forest K V) → IsSolid v f
         → AreChildren cmp f → (lacks_both v f ≡ false) × TellsKeys cmp true (node [] v f) (node (y ∷ q) w g) false
-    solid_missed y q w g (Some v) f s c = (refl, ([], refl))
-    solid_missed y q w g None bare s c = absurd s
-    solid_missed y q w g None (grow p v kids bare) s c = absurd s
-    solid_missed y q w g None (grow [] v kids (grow r u more rest)) s c = absurd c
-    solid_missed y q w g None (grow (x ∷ p) v kids (grow [] u more rest)) s c = absurd c.3
-    solid_missed y q w g None (grow (x ∷ p) v kids (grow (z ∷ r) u more rest)) s c =
-        (refl, two_missed y q w g x z p r v u kids more rest c)
+    solid-missed y q w g (Some v) f s c = (refl, ([], refl))
+    solid-missed y q w g None bare s c = absurd s
+    solid-missed y q w g None (grow p v kids bare) s c = absurd s
+    solid-missed y q w g None (grow [] v kids (grow r u more rest)) s c = absurd c
+    solid-missed y q w g None (grow (x ∷ p) v kids (grow [] u more rest)) s c = absurd c.3
+    solid-missed y q w g None (grow (x ∷ p) v kids (grow (z ∷ r) u more rest)) s c =
+        (refl, two-missed y q w g x z p r v u kids more rest c)
 
     -- of keys that are to be shared, a tree that is not behind the whole prefix of the right one has some that it has not
-    pub bare_or_missed : (y : K) (q p : List K) (w : Option W) (g : Forest K W) (v : Option V) (f : Forest K V) (answer : Bool)
+    pub bare-or_missed : (y : K) (q p : List K) (w : Option W) (g : Forest K W) (v : Option V) (f : Forest K V) (answer : Bool)
         → IsWhole p v f → AreChildren cmp f → answer ≡ lacks_both v f
         → TellsKeys cmp true (node [] v f) (node (y ∷ q) w g) answer
-    bare_or_missed y q p w g v f answer s c e = by (whole_cases cmp p v f s)
+    bare-or_missed y q p w g v f answer s c e = by (whole-cases cmp p v f s)
       where
         by : IsSolid v f ⊎ ((p ≡ []) × (v ≡ None) × (f ≡ bare)) → TellsKeys cmp true (node [] v f) (node (y ∷ q) w g) answer
-        by (inl h) = let m = solid_missed y q w g v f h c in rw (e ∙ m.0) m.1
+        by (inl h) = let m = solid-missed y q w g v f h c in rw (e ∙ m.0) m.1
         by (inr h) =
-            rw (e, h.1, h.2) (λ k. subst (λ m. IsMet true m (lookup cmp (node (y ∷ q) w g) k)) (sym (nothing_bound cmp [] v f (refl, h.1, h.2) k)) tt)
+            rw (e, h.1, h.2) (λ k. subst (λ m. IsMet true m (lookup cmp (node (y ∷ q) w g) k)) (sym (nothing-bound cmp [] v f (refl, h.1, h.2) k)) tt)
 
     -- both prefixes end: the values are met, and the children are
-    pub tells_nodes : (shared : Bool) (v : Option V) (w : Option W) (f : Forest K V) (g : Forest K W) (below : Bool)
+    pub tells-nodes : (shared : Bool) (v : Option V) (w : Option W) (f : Forest K V) (g : Forest K W) (below : Bool)
         → IsMet shared v w → TellsKeysIn cmp shared f g below → TellsKeys cmp shared (node [] v f) (node [] w g) below
-    tells_nodes shared v w f g true m h = each
+    tells-nodes shared v w f g true m h = each
       where
         each : (k : List K) → IsMet shared (lookup cmp (node [] v f) k) (lookup cmp (node [] w g) k)
         each [] = m
         each (x ∷ k) = h x k
-    tells_nodes shared v w f g false m h = (h.0 ∷ h.1, h.2)
+    tells-nodes shared v w f g false m h = (h.0 ∷ h.1, h.2)
 
     -- a value is missed
-    pub value_missed : (shared : Bool) (v : Option V) (w : Option W) (f : Forest K V) (g : Forest K W)
+    pub value-missed : (shared : Bool) (v : Option V) (w : Option W) (f : Forest K V) (g : Forest K W)
         → IsMissed shared v w → TellsKeys cmp shared (node [] v f) (node [] w g) false
-    value_missed shared v w f g m = ([], m)
+    value-missed shared v w f g m = ([], m)
 
 -- ---- the public words
 
 module _ {K V W : Type 0} (cmp : K → K → Ordering) (t : Tree K V) (u : Tree K W) where
-  disjoint_by : (v : Option V) (w : Option W) → IsMet false v w → is_some v ≡ true → is_some w ≡ true → ⊥
-  disjoint_by None w m a b = true≢false (sym a)
-  disjoint_by (Some v) w m a b = true≢false (sym b ∙ m)
+  disjoint-by : (v : Option V) (w : Option W) → IsMet false v w → is_some v ≡ true → is_some w ≡ true → ⊥
+  disjoint-by None w m a b = true≢false (sym a)
+  disjoint-by (Some v) w m a b = true≢false (sym b ∙ m)
 
-  shared_by : (v : Option V) (w : Option W) → IsMissed false v w → (is_some v ≡ true) × (is_some w ≡ true)
-  shared_by None w m = absurd m
-  shared_by (Some v) w m = (refl, m)
+  shared-by : (v : Option V) (w : Option W) → IsMissed false v w → (is_some v ≡ true) × (is_some w ≡ true)
+  shared-by None w m = absurd m
+  shared-by (Some v) w m = (refl, m)
 
-  has_by : (v : Option V) (w : Option W) → IsMet true v w → is_some v ≡ true → is_some w ≡ true
-  has_by None w m a = absurd (true≢false (sym a))
-  has_by (Some v) w m a = m
+  has-by : (v : Option V) (w : Option W) → IsMet true v w → is_some v ≡ true → is_some w ≡ true
+  has-by None w m a = absurd (true≢false (sym a))
+  has-by (Some v) w m a = m
 
-  lacks_by : (v : Option V) (w : Option W) → IsMissed true v w → (is_some v ≡ true) × (is_some w ≡ false)
-  lacks_by None w m = absurd m
-  lacks_by (Some v) w m = (refl, m)
+  lacks-by : (v : Option V) (w : Option W) → IsMissed true v w → (is_some v ≡ true) × (is_some w ≡ false)
+  lacks-by None w m = absurd m
+  lacks-by (Some v) w m = (refl, m)
 
-  pub disjoint_told : (answer : Bool) → TellsKeys cmp false t u answer
+  pub disjoint-told : (answer : Bool) → TellsKeys cmp false t u answer
       → MatchBool answer (AreDisjoint cmp t u) (ShareKey cmp t u)
-  disjoint_told true h = λ k a b. disjoint_by (lookup cmp t k) (lookup cmp u k) (h k) a b
-  disjoint_told false h = let s = shared_by (lookup cmp t h.0) (lookup cmp u h.0) h.1 in (h.0, s.0, s.1)
+  disjoint-told true h = λ k a b. disjoint-by (lookup cmp t k) (lookup cmp u k) (h k) a b
+  disjoint-told false h = let s = shared-by (lookup cmp t h.0) (lookup cmp u h.0) h.1 in (h.0, s.0, s.1)
 
-  pub subset_told : (answer : Bool) → TellsKeys cmp true t u answer → MatchBool answer (HasKeysOf cmp u t) (LacksKeyOf cmp u t)
-  subset_told true h = λ k a. has_by (lookup cmp t k) (lookup cmp u k) (h k) a
-  subset_told false h = let s = lacks_by (lookup cmp t h.0) (lookup cmp u h.0) h.1 in (h.0, s.0, s.1)
+  pub subset-told : (answer : Bool) → TellsKeys cmp true t u answer → MatchBool answer (HasKeysOf cmp u t) (LacksKeyOf cmp u t)
+  subset-told true h = λ k a. has-by (lookup cmp t k) (lookup cmp u k) (h k) a
+  subset-told false h = let s = lacks-by (lookup cmp t h.0) (lookup cmp u h.0) h.1 in (h.0, s.0, s.1)

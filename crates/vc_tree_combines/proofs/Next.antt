@@ -18,78 +18,78 @@ use Rattle.vc_tree_combines.specs.Made.{IsAskedAt, IsDoing, owed}
 use Rattle.vc_tree_combines.specs.Sides.{by_component, side_of}
 use Rattle.vc_tree_combines.specs.declared.sides.Side.{Side}
 use Rattle.vc_tree_combines.specs.declared.sides.Side.TheVariants.{Left, Right, Both}
-use Rattle.vc_tree_combines.proofs.Around.{get_drop, components}
-use Rattle.vc_tree_combines.proofs.Doing.{left_first, right_first, both_first, left_is, right_is}
-use Rattle.vc_tree_combines.proofs.Paying.{apart_or_ended}
+use Rattle.vc_tree_combines.proofs.Around.{get-drop, components}
+use Rattle.vc_tree_combines.proofs.Doing.{left-first, right-first, both-first, left-is, right-is}
+use Rattle.vc_tree_combines.proofs.Paying.{apart-or_ended}
 
 module _ {A B : Type 0} where
-  left_rest : (P : A → Type 0) (ds es : List (Event A B)) → AllByRecursion P (lefts (ds ++ es)) → AllByRecursion P (lefts es)
-  left_rest P [] es a = a
-  left_rest P (left_alone x ∷ ds) es a = left_rest P ds es a.1
-  left_rest P (right_alone y ∷ ds) es a = left_rest P ds es a
-  left_rest P (collision x y ∷ ds) es a = left_rest P ds es a.1
+  left-rest : (P : A → Type 0) (ds es : List (Event A B)) → AllByRecursion P (lefts (ds ++ es)) → AllByRecursion P (lefts es)
+  left-rest P [] es a = a
+  left-rest P (left_alone x ∷ ds) es a = left-rest P ds es a.1
+  left-rest P (right_alone y ∷ ds) es a = left-rest P ds es a
+  left-rest P (collision x y ∷ ds) es a = left-rest P ds es a.1
 
-  right_rest : (P : B → Type 0) (ds es : List (Event A B)) → AllByRecursion P (rights (ds ++ es)) → AllByRecursion P (rights es)
-  right_rest P [] es a = a
-  right_rest P (left_alone x ∷ ds) es a = right_rest P ds es a
-  right_rest P (right_alone y ∷ ds) es a = right_rest P ds es a.1
-  right_rest P (collision x y ∷ ds) es a = right_rest P ds es a.1
+  right-rest : (P : B → Type 0) (ds es : List (Event A B)) → AllByRecursion P (rights (ds ++ es)) → AllByRecursion P (rights es)
+  right-rest P [] es a = a
+  right-rest P (left_alone x ∷ ds) es a = right-rest P ds es a
+  right-rest P (right_alone y ∷ ds) es a = right-rest P ds es a.1
+  right-rest P (collision x y ∷ ds) es a = right-rest P ds es a.1
 
-  pub event_rest : (P : Event A B → Type 0) (ds es : List (Event A B)) → AllByRecursion P (ds ++ es) → AllByRecursion P es
-  event_rest P [] es a = a
-  event_rest P (d ∷ ds) es a = event_rest P ds es a.1
+  pub event-rest : (P : Event A B → Type 0) (ds es : List (Event A B)) → AllByRecursion P (ds ++ es) → AllByRecursion P es
+  event-rest P [] es a = a
+  event-rest P (d ∷ ds) es a = event-rest P ds es a.1
 
 -- two keys that begin alike agree for one component
-pub agree_first : {K : Type 0} (cmp : K → K → Ordering) (p q : List K) (x y : K) → slice_get p 0 ≡ Some x → slice_get q 0 ≡ Some y
+pub agree-first : {K : Type 0} (cmp : K → K → Ordering) (p q : List K) (x y : K) → slice_get p 0 ≡ Some x → slice_get q 0 ≡ Some y
     → cmp x y ≡ Equal → Agree cmp p q 1
-agree_first cmp [] q x y e f h = absurd (cc)
-agree_first cmp (x' ∷ p) [] x y e f h = absurd (cc)
-agree_first cmp (x' ∷ p) (y' ∷ q) x y e f h =
+agree-first cmp [] q x y e f h = absurd (cc)
+agree-first cmp (x' ∷ p) [] x y e f h = absurd (cc)
+agree-first cmp (x' ∷ p) (y' ∷ q) x y e f h =
     let a : x' ≡ x = cc in
     let b : y' ≡ y = cc in
     let r : cmp x' y' ≡ Equal = rw (a, b) h in
     record { within_prefix = omega arith; within_key = omega arith; same = rw r refl }
 
 -- what is below is not above
-pub at_most : (i n : ℕ) → i < n → i ≤ n
-at_most i n h = omega (arith, h)
+pub at-most : (i n : ℕ) → i < n → i ≤ n
+at-most i n h = omega (arith, h)
 
 -- a list without elements
-pub nil_by : {X : Type 0} (l : List X) → length l ≡ 0 → l ≡ []
-nil_by [] e = refl
-nil_by (x ∷ l) e = absurd (omega (arith, e))
+pub nil-by : {X : Type 0} (l : List X) → length l ≡ 0 → l ≡ []
+nil-by [] e = refl
+nil-by (x ∷ l) e = absurd (omega (arith, e))
 
 -- the sides differ
-pub left_not_right : (s : Side) → s ≡ Left → Right ≡ s → ⊥
-left_not_right s e f = cc
+pub left-not_right : (s : Side) → s ≡ Left → Right ≡ s → ⊥
+left-not_right s e f = cc
 
-pub right_not_left : (s : Side) → s ≡ Right → Left ≡ s → ⊥
-right_not_left s e f = cc
+pub right-not_left : (s : Side) → s ≡ Right → Left ≡ s → ⊥
+right-not_left s e f = cc
 
-pub both_not_right : (s : Side) → s ≡ Both → Right ≡ s → ⊥
-both_not_right s e f = cc
+pub both-not_right : (s : Side) → s ≡ Both → Right ≡ s → ⊥
+both-not_right s e f = cc
 
-pub both_not_left : (s : Side) → s ≡ Both → Left ≡ s → ⊥
-both_not_left s e f = cc
+pub both-not_left : (s : Side) → s ≡ Both → Left ≡ s → ⊥
+both-not_left s e f = cc
 
 module _ {K V W U O A B : Type 0} (cmp : K → K → Ordering) (ta : A → Tree K V) (tb : B → Tree K W) (i j : ℕ) (l : Look cmp W O)
     (R : Option V → O → Option U → Type 0) (asks : Option V → O → Type 0) (xs : List A) (ys : List B)
     (ls : List A) (rs : List B) (all : List Side) (made : List (Tree K U)) (spent budget : ℕ)
     (d : IsDoing cmp ta tb i j l R asks xs ys ls rs all made spent budget) where
   -- what holds of all trees of a side, holds of the next one
-  left_head : (P : A → Type 0) (x : A) (ls' : List A) → ls ≡ x ∷ ls' → AllByRecursion P xs → P x
-  left_head P x ls' e a =
+  left-head : (P : A → Type 0) (x : A) (ls' : List A) → ls ≡ x ∷ ls' → AllByRecursion P xs → P x
+  left-head P x ls' e a =
       (subst (AllByRecursion P) (sym d.left ∙ e)
-      (left_rest P (map (λ d. d.0) d.done) d.rest (subst (AllByRecursion P) (sym d.script.left) a))).0
+      (left-rest P (map (λ d. d.0) d.done) d.rest (subst (AllByRecursion P) (sym d.script.left) a))).0
 
-  right_head : (P : B → Type 0) (y : B) (rs' : List B) → rs ≡ y ∷ rs' → AllByRecursion P ys → P y
-  right_head P y rs' e a =
+  right-head : (P : B → Type 0) (y : B) (rs' : List B) → rs ≡ y ∷ rs' → AllByRecursion P ys → P y
+  right-head P y rs' e a =
       (subst (AllByRecursion P) (sym d.right ∙ e)
-      (right_rest P (map (λ d. d.0) d.done) d.rest (subst (AllByRecursion P) (sym d.script.right) a))).0
+      (right-rest P (map (λ d. d.0) d.done) d.rest (subst (AllByRecursion P) (sym d.script.right) a))).0
 
   -- the next event has a left tree, or a right one
-  pub left_there : (sides : List Side) (s : Side) → all ≡ s ∷ sides → (Right ≡ s → ⊥) → 0 < length ls
-  left_there sides s z n = rw d.left (there d.rest (sym z ∙ d.sides_are))
+  pub left-there : (sides : List Side) (s : Side) → all ≡ s ∷ sides → (Right ≡ s → ⊥) → 0 < length ls
+  left-there sides s z n = rw d.left (there d.rest (sym z ∙ d.sides_are))
     where
       there : (es : List (Event A B)) → s ∷ sides ≡ map (λ e. side_of e) es → 0 < length (lefts es)
       there [] e = absurd (cc)
@@ -97,8 +97,8 @@ module _ {K V W U O A B : Type 0} (cmp : K → K → Ordering) (ta : A → Tree 
       there (right_alone y ∷ es) e = absurd (n (cc))
       there (collision x y ∷ es) e = omega arith
 
-  pub right_there : (sides : List Side) (s : Side) → all ≡ s ∷ sides → (Left ≡ s → ⊥) → 0 < length rs
-  right_there sides s z n = rw d.right (there d.rest (sym z ∙ d.sides_are))
+  pub right-there : (sides : List Side) (s : Side) → all ≡ s ∷ sides → (Left ≡ s → ⊥) → 0 < length rs
+  right-there sides s z n = rw d.right (there d.rest (sym z ∙ d.sides_are))
     where
       there : (es : List (Event A B)) → s ∷ sides ≡ map (λ e. side_of e) es → 0 < length (rights es)
       there [] e = absurd (cc)
@@ -107,84 +107,84 @@ module _ {K V W U O A B : Type 0} (cmp : K → K → Ordering) (ta : A → Tree 
       there (collision x y ∷ es) e = omega arith
 
   -- what was spent is within the budget
-  pub within_budget : spent ≤ budget
-  within_budget = let p = d.paid in omega (arith, p)
+  pub within-budget : spent ≤ budget
+  within-budget = let p = d.paid in omega (arith, p)
 
   -- a next tree goes on at the place
   pub left_within : AreChildren cmp (shortened_in ta i xs) → (x : A) (ls' : List A) → ls ≡ x ∷ ls' → i < length (ta x).prefix
   left_within c x ls' e =
-      let h = left_head (λ x. (k : K) × (slice_get (ta x).prefix i ≡ Some k)) x ls' e (components cmp ta i xs c) in
+      let h = left-head (λ x. (k : K) × (slice_get (ta x).prefix i ≡ Some k)) x ls' e (components cmp ta i xs c) in
       slice_get_within (ta x).prefix i h.0 h.1
 
   pub right_within : AreChildren cmp (shortened_in tb j ys) → (y : B) (rs' : List B) → rs ≡ y ∷ rs'
       → j < length (tb y).prefix
   right_within c y rs' e =
-      let h = right_head (λ y. (k : K) × (slice_get (tb y).prefix j ≡ Some k)) y rs' e (components cmp tb j ys c) in
+      let h = right-head (λ y. (k : K) × (slice_get (tb y).prefix j ≡ Some k)) y rs' e (components cmp tb j ys c) in
       slice_get_within (tb y).prefix j h.0 h.1
 
   -- and may be asked of
-  pub left_asked : (sides : List Side) → all ≡ Left ∷ sides → (x : A) (ls' : List A) → ls ≡ x ∷ ls' → (k : List K)
+  pub left-asked : (sides : List Side) → all ≡ Left ∷ sides → (x : A) (ls' : List A) → ls ≡ x ∷ ls' → (k : List K)
       → asks (lookup cmp (shortened i (ta x)) k) l.none
-  left_asked sides z x ls' e =
-      let f = left_first sides d.rest (sym z ∙ d.sides_are) in
-      let g = left_is cmp ta tb i j l R asks xs ys ls rs all made spent budget d f.0 f.1 x ls' (ap lefts (sym f.2)) e in
+  left-asked sides z x ls' e =
+      let f = left-first sides d.rest (sym z ∙ d.sides_are) in
+      let g = left-is cmp ta tb i j l R asks xs ys ls rs all made spent budget d f.0 f.1 x ls' (ap lefts (sym f.2)) e in
       subst (λ x. (k : List K) → asks (lookup cmp (shortened i (ta x)) k) l.none) (sym g.0)
       (subst (AllByRecursion (IsAskedAt cmp ta tb i j l asks)) f.2 d.asked).0
 
-  pub right_asked : (sides : List Side) → all ≡ Right ∷ sides → (y : B) (rs' : List B) → rs ≡ y ∷ rs' → (k : List K)
+  pub right-asked : (sides : List Side) → all ≡ Right ∷ sides → (y : B) (rs' : List B) → rs ≡ y ∷ rs' → (k : List K)
       → asks None (l.of_tree (shortened j (tb y)) k)
-  right_asked sides z y rs' e =
-      let f = right_first sides d.rest (sym z ∙ d.sides_are) in
-      let g = right_is cmp ta tb i j l R asks xs ys ls rs all made spent budget d f.0 f.1 y rs' (ap rights (sym f.2)) e in
+  right-asked sides z y rs' e =
+      let f = right-first sides d.rest (sym z ∙ d.sides_are) in
+      let g = right-is cmp ta tb i j l R asks xs ys ls rs all made spent budget d f.0 f.1 y rs' (ap rights (sym f.2)) e in
       subst (λ y. (k : List K) → asks None (l.of_tree (shortened j (tb y)) k)) (sym g.0)
       (subst (AllByRecursion (IsAskedAt cmp ta tb i j l asks)) f.2 d.asked).0
 
   module _ (sides : List Side) (z : all ≡ Both ∷ sides) (x : A) (ls' : List A) (y : B) (rs' : List B) (el : ls ≡ x ∷ ls')
       (er : rs ≡ y ∷ rs') where
-    pub both_asked : (k : List K) → asks (lookup cmp (shortened i (ta x)) k) (l.of_tree (shortened j (tb y)) k)
-    both_asked =
-        let f = both_first sides d.rest (sym z ∙ d.sides_are) in
-        let g = left_is cmp ta tb i j l R asks xs ys ls rs all made spent budget d f.0 f.2 x ls' (ap lefts (sym f.3)) el in
-        let h = right_is cmp ta tb i j l R asks xs ys ls rs all made spent budget d f.1 f.2 y rs' (ap rights (sym f.3)) er in
+    pub both-asked : (k : List K) → asks (lookup cmp (shortened i (ta x)) k) (l.of_tree (shortened j (tb y)) k)
+    both-asked =
+        let f = both-first sides d.rest (sym z ∙ d.sides_are) in
+        let g = left-is cmp ta tb i j l R asks xs ys ls rs all made spent budget d f.0 f.2 x ls' (ap lefts (sym f.3)) el in
+        let h = right-is cmp ta tb i j l R asks xs ys ls rs all made spent budget d f.1 f.2 y rs' (ap rights (sym f.3)) er in
         subst (λ x. (k : List K) → asks (lookup cmp (shortened i (ta x)) k) (l.of_tree (shortened j (tb y)) k)) (sym g.0)
         (subst (λ y. (k : List K) → asks (lookup cmp (shortened i (ta f.0)) k) (l.of_tree (shortened j (tb y)) k)) (sym h.0)
         (subst (AllByRecursion (IsAskedAt cmp ta tb i j l asks)) f.3 d.asked).0)
 
     -- what a call for two that meet takes is within the budget
-    pub both_paid : (spent' : ℕ) → spent' + 2 ≤ spent + 3 * (weight (shortened i (ta x)) + weight (shortened j (tb y)))
+    pub both-paid : (spent' : ℕ) → spent' + 2 ≤ spent + 3 * (weight (shortened i (ta x)) + weight (shortened j (tb y)))
         → spent' ≤ budget
-    both_paid spent' c =
-        let f = both_first sides d.rest (sym z ∙ d.sides_are) in
-        let g = left_is cmp ta tb i j l R asks xs ys ls rs all made spent budget d f.0 f.2 x ls' (ap lefts (sym f.3)) el in
-        let h = right_is cmp ta tb i j l R asks xs ys ls rs all made spent budget d f.1 f.2 y rs' (ap rights (sym f.3)) er in
+    both-paid spent' c =
+        let f = both-first sides d.rest (sym z ∙ d.sides_are) in
+        let g = left-is cmp ta tb i j l R asks xs ys ls rs all made spent budget d f.0 f.2 x ls' (ap lefts (sym f.3)) el in
+        let h = right-is cmp ta tb i j l R asks xs ys ls rs all made spent budget d f.1 f.2 y rs' (ap rights (sym f.3)) er in
         let cost = rw (g.0, h.0) at c in
         let paid = subst (λ l. spent + owed cmp ta tb i j l ≤ budget) f.3 d.paid in
         omega (arith, cost, paid)
 
     matched : by_component ta tb i j cmp (inl x) (inr y) ≡ Equal
     matched =
-        let f = both_first sides d.rest (sym z ∙ d.sides_are) in
-        let g = left_is cmp ta tb i j l R asks xs ys ls rs all made spent budget d f.0 f.2 x ls' (ap lefts (sym f.3)) el in
-        let h = right_is cmp ta tb i j l R asks xs ys ls rs all made spent budget d f.1 f.2 y rs' (ap rights (sym f.3)) er in
-        let m = event_rest (IsMatched (by_component ta tb i j cmp)) (map (λ d. d.0) d.done) d.rest d.script.matched in
+        let f = both-first sides d.rest (sym z ∙ d.sides_are) in
+        let g = left-is cmp ta tb i j l R asks xs ys ls rs all made spent budget d f.0 f.2 x ls' (ap lefts (sym f.3)) el in
+        let h = right-is cmp ta tb i j l R asks xs ys ls rs all made spent budget d f.1 f.2 y rs' (ap rights (sym f.3)) er in
+        let m = event-rest (IsMatched (by_component ta tb i j cmp)) (map (λ d. d.0) d.done) d.rest d.script.matched in
         rw (g.0, h.0) (subst (AllByRecursion (IsMatched (by_component ta tb i j cmp))) f.3 m).0
 
     -- two that meet agree for one component
-    pub both_agree : AreChildren cmp (shortened_in ta i xs) → AreChildren cmp (shortened_in tb j ys)
+    pub both-agree : AreChildren cmp (shortened_in ta i xs) → AreChildren cmp (shortened_in tb j ys)
         → Agree cmp (drop i (ta x).prefix) (drop j (tb y).prefix) 1
-    both_agree ca cb =
-        let f = left_head (λ x. (k : K) × (slice_get (ta x).prefix i ≡ Some k)) x ls' el (components cmp ta i xs ca) in
-        let r = right_head (λ y. (k : K) × (slice_get (tb y).prefix j ≡ Some k)) y rs' er (components cmp tb j ys cb) in
-        agree_first cmp (drop i (ta x).prefix) (drop j (tb y).prefix) f.0 r.0 (get_drop i (ta x).prefix ∙ f.1)
-        (get_drop j (tb y).prefix ∙ r.1) (rw (f.1, r.1) at matched)
+    both-agree ca cb =
+        let f = left-head (λ x. (k : K) × (slice_get (ta x).prefix i ≡ Some k)) x ls' el (components cmp ta i xs ca) in
+        let r = right-head (λ y. (k : K) × (slice_get (tb y).prefix j ≡ Some k)) y rs' er (components cmp tb j ys cb) in
+        agree-first cmp (drop i (ta x).prefix) (drop j (tb y).prefix) f.0 r.0 (get-drop i (ta x).prefix ∙ f.1)
+        (get-drop j (tb y).prefix ∙ r.1) (rw (f.1, r.1) at matched)
 
     -- and have fewer nodes than the trees that they stand below
     pub falls : (t : Tree K V) (u : Tree K W) (p q : List K) → IsOpened ta t p xs i → IsOpened tb u q ys j → Parts cmp p q
         → nodes (ta x) + nodes (tb y) < nodes t + nodes u
     falls t u p q a b w =
-        let f = left_head (λ x. nodes (ta x) + ended p ≤ nodes t) x ls' el a.smaller in
-        let r = right_head (λ y. nodes (tb y) + ended q ≤ nodes u) y rs' er b.smaller in
-        let fl = left_head (λ x. GoesOn p (slice_get (ta x).prefix i)) x ls' el a.first in
-        let fr = right_head (λ y. GoesOn q (slice_get (tb y).prefix j)) y rs' er b.first in
-        let e = apart_or_ended cmp ta tb i j p q x y w fl fr matched in
+        let f = left-head (λ x. nodes (ta x) + ended p ≤ nodes t) x ls' el a.smaller in
+        let r = right-head (λ y. nodes (tb y) + ended q ≤ nodes u) y rs' er b.smaller in
+        let fl = left-head (λ x. GoesOn p (slice_get (ta x).prefix i)) x ls' el a.first in
+        let fr = right-head (λ y. GoesOn q (slice_get (tb y).prefix j)) y rs' er b.first in
+        let e = apart-or_ended cmp ta tb i j p q x y w fl fr matched in
         omega (arith, f, r, e)

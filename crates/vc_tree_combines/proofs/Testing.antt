@@ -1,12 +1,12 @@
 -- What the steps of a test of keys tell of the trees whose prefixes they have compared.
---     parted_told        the prefixes part
---     inside_told, inside_none        the right one ends inside the left one
---     behind_told        the left one ends
---     within_told, within_none, within_bare        the right one goes on behind it
---     both_told, both_missed        both end
---     some_at, before_end        a place that is not the end
---     meeting_told        what is behind two trees that are met, tells of all
---     found_agrees, agree_flip, found_smaller        the child that is found
+--     parted-told        the prefixes part
+--     inside-told, inside-none        the right one ends inside the left one
+--     behind-told        the left one ends
+--     within-told, within-none, within-bare        the right one goes on behind it
+--     both-told, both-missed        both end
+--     some-at, before-end        a place that is not the end
+--     meeting-told        what is behind two trees that are met, tells of all
+--     found-agrees, agree-flip, found_smaller        the child that is found
 use Rattle.std.proofs.Common.{◌≡◌, ℕ, zero, suc, ◌+◌, ◌<◌, ◌≤◌, [], ◌∷◌, ◌++◌, List, Option, Some, Bool, true, false, not, ◌⊎◌, inl, inr, refl, sym, ap, subst, ◌∙◌, take, drop, length, slice_get, true≢false, arith}
 use Rattle.std.proofs.lemmas.List.{take-append-drop, drop-drop}
 use Rattle.std.proofs.Math.ListN.{drop_of_length-le}
@@ -17,26 +17,26 @@ use Rattle.std.specs.declared.cmp.Ordering.TheVariants.{Less, Greater}
 use Rattle.vc_tree_model.specs.Key.{same_key}
 use Rattle.vc_tree_model.specs.Tree.{Tree, Forest, node, lacks_both, shortened}
 use Rattle.vc_tree_model.specs.Canonical.{IsSolid, IsWhole, IsCanonical}
-use Rattle.vc_tree_model.proofs.KeyLemmas.{none_some, same_flip}
-use Rattle.vc_tree_model.proofs.Shortening.{shortened_canonical}
+use Rattle.vc_tree_model.proofs.KeyLemmas.{none-some, same-flip}
+use Rattle.vc_tree_model.proofs.Shortening.{shortened-canonical}
 use Rattle.vc_tree_nodes.specs.Children.{seen}
 use Rattle.vc_tree_nodes.specs.Parting.{Agree, PartsAt, IsParting}
 use Rattle.vc_tree_nodes.specs.Places.{IsNoChild, IsFoundChild}
 use Rattle.vc_tree_nodes.specs.declared.parting.Parting.{Parting}
 use Rattle.vc_tree_nodes.specs.declared.parting.Parting.TheVariants.{Lower, Higher}
 use Rattle.vc_tree_combines.specs.Meeting.{IsMet, IsMissed, TellsKeys, TellsKeysIn, IsMeeting}
-use Rattle.vc_tree_combines.proofs.Meeting.{tells_lifted, alone_parted, alone_childless, tells_child, tells_in_child, childless_met, bare_or_missed, tells_nodes, value_missed}
-use Rattle.vc_tree_combines.proofs.Opening.{goes_on}
+use Rattle.vc_tree_combines.proofs.Meeting.{tells-lifted, alone-parted, alone-childless, tells-child, tells-in_child, childless-met, bare-or_missed, tells-nodes, value-missed}
+use Rattle.vc_tree_combines.proofs.Opening.{goes-on}
 
 -- what goes on with a component is solid
-solid_by : {K V : Type 0} (p : List K) (n : ℕ) (x : K) (v : Option V) (f : Forest K V) → slice_get p n ≡ Some x → IsWhole p v f
+solid-by : {K V : Type 0} (p : List K) (n : ℕ) (x : K) (v : Option V) (f : Forest K V) → slice_get p n ≡ Some x → IsWhole p v f
     → IsSolid v f
-solid_by [] n x v f e w = none_some x e
-solid_by (y ∷ p) n x v f e w = w
+solid-by [] n x v f e w = none-some x e
+solid-by (y ∷ p) n x v f e w = w
 
 -- a place that is not the end has a component
-pub some_at : {K : Type 0} (p q : List K) (n : ℕ) → q ≡ p → n ≤ length p → (n ≡ length q → ⊥) → (y : K) × (slice_get p n ≡ Some y)
-some_at {K = K} p q n e h w = by p n h (λ k. w (k ∙ ap length (sym e)))
+pub some-at : {K : Type 0} (p q : List K) (n : ℕ) → q ≡ p → n ≤ length p → (n ≡ length q → ⊥) → (y : K) × (slice_get p n ≡ Some y)
+some-at {K = K} p q n e h w = by p n h (λ k. w (k ∙ ap length (sym e)))
   where
     by : (p : List K) (n : ℕ) → n ≤ length p → (n ≡ length p → ⊥) → (y : K) × (slice_get p n ≡ Some y)
     by [] n h w = absurd (w (omega (arith, h)))
@@ -44,8 +44,8 @@ some_at {K = K} p q n e h w = by p n h (λ k. w (k ∙ ap length (sym e)))
     by (x ∷ p) (suc n) h w = by p n (omega (arith, h)) (λ k. w (omega (arith, k)))
 
 -- such a place is before the end
-pub before_end : {K : Type 0} (p q : List K) (n : ℕ) → q ≡ p → n ≤ length p → (n ≡ length q → ⊥) → n < length q
-before_end p q n e h w = by (length q) n (subst (λ l. n ≤ length l) (sym e) h) w
+pub before-end : {K : Type 0} (p q : List K) (n : ℕ) → q ≡ p → n ≤ length p → (n ≡ length q → ⊥) → n < length q
+before-end p q n e h w = by (length q) n (subst (λ l. n ≤ length l) (sym e) h) w
   where
     by : (m n : ℕ) → n ≤ m → (n ≡ m → ⊥) → n < m
     by zero n h w = absurd (w (omega (arith, h)))
@@ -54,18 +54,18 @@ before_end p q n e h w = by (length q) n (subst (λ l. n ≤ length l) (sym e) h
 
 module _ {K : Type 0} (cmp : K → K → Ordering) (o : IsTotalOrder cmp) where
   -- two keys agree either way round
-  pub agree_flip : (p q : List K) (n : ℕ) → Agree cmp p q n → Agree cmp q p n
-  agree_flip p q n a = record {
+  pub agree-flip : (p q : List K) (n : ℕ) → Agree cmp p q n → Agree cmp q p n
+  agree-flip p q n a = record {
     within_prefix = a.within_key;
     within_key = a.within_prefix;
-    same = same_flip cmp o (take n q) (take n p) ∙ a.same;
+    same = same-flip cmp o (take n q) (take n p) ∙ a.same;
   }
 
   -- a child that is found agrees with what is left in one component
-  pub found_agrees : {V : Type 0} (f : Forest K V) (t : Tree K V) (x : K) (p : List K) → slice_get p 0 ≡ Some x
+  pub found-agrees : {V : Type 0} (f : Forest K V) (t : Tree K V) (x : K) (p : List K) → slice_get p 0 ≡ Some x
       → IsFoundChild cmp f x t → Agree cmp t.prefix p 1
-  found_agrees f t x [] e c = none_some x e
-  found_agrees f t x (z ∷ p) e c = let h : z ≡ x = cc in by t.prefix (rw h c.begins)
+  found-agrees f t x [] e c = none-some x e
+  found-agrees f t x (z ∷ p) e c = let h : z ≡ x = cc in by t.prefix (rw h c.begins)
     where
       by : (q : List K) → same_key cmp (take 1 q) (z ∷ []) ≡ true → Agree cmp q (z ∷ p) 1
       by [] g = absurd (true≢false (sym g))
@@ -78,31 +78,31 @@ module _ {K : Type 0} (cmp : K → K → Ordering) (o : IsTotalOrder cmp) where
         → TellsKeys cmp shared (node a t.value t.children) (node b u.value u.children) answer
         → TellsKeys cmp shared (shortened i t) (shortened j u) answer
     lifted n a b answer ea eb s h =
-        tells_lifted shared cmp o (shortened i t) (shortened j u) (take n (drop i t.prefix)) a (take n (drop j u.prefix)) b answer
+        tells-lifted shared cmp o (shortened i t) (shortened j u) (take n (drop i t.prefix)) a (take n (drop j u.prefix)) b answer
         (sym (take-append-drop n (drop i t.prefix)) ∙ ap (λ l. take n (drop i t.prefix) ++ l) ea)
         (sym (take-append-drop n (drop j u.prefix)) ∙ ap (λ l. take n (drop j u.prefix) ++ l) eb) s h
 
     module _ (p q : List K) (ep : p ≡ drop i t.prefix) (eq : q ≡ drop j u.prefix) (c : IsCanonical cmp t) where
       solid : (n : ℕ) (x : K) → slice_get (drop i t.prefix) n ≡ Some x → IsSolid t.value t.children
-      solid n x e = solid_by (drop i t.prefix) n x t.value t.children e (shortened_canonical cmp i t c).0
+      solid n x e = solid-by (drop i t.prefix) n x t.value t.children e (shortened-canonical cmp i t c).0
 
-      parted_by : (order : Ordering) (n : ℕ) → is_eq order ≡ false → PartsAt cmp order p q n
+      parted-by : (order : Ordering) (n : ℕ) → is_eq order ≡ false → PartsAt cmp order p q n
           → TellsKeys cmp shared (shortened i t) (shortened j u) (not shared)
-      parted_by order n d h =
+      parted-by order n d h =
           let ex : slice_get (drop i t.prefix) n ≡ Some h.old = ap (λ z. slice_get z n) (sym ep) ∙ h.old_at in
           let ey : slice_get (drop j u.prefix) n ≡ Some h.new = ap (λ z. slice_get z n) (sym eq) ∙ h.new_at in
-          let gx = goes_on n (drop i t.prefix) h.old ex in
-          let gy = goes_on n (drop j u.prefix) h.new ey in
+          let gx = goes-on n (drop i t.prefix) h.old ex in
+          let gy = goes-on n (drop j u.prefix) h.new ey in
           lifted n (h.old ∷ gx.0) (h.new ∷ gy.0) (not shared) gx.1 gy.1 (rw (← ep, ← eq) h.agree.same)
-          (alone_parted cmp o shared h.old h.new gx.0 gy.0 t.value u.value t.children u.children (solid n h.old ex) c.1
+          (alone-parted cmp o shared h.old h.new gx.0 gy.0 t.value u.value t.children u.children (solid n h.old ex) c.1
           (ap is_eq h.ordered ∙ d))
 
       -- the prefixes part
-      pub parted_told : (parting : Parting) → IsParting cmp p q parting
+      pub parted-told : (parting : Parting) → IsParting cmp p q parting
           → ((n : ℕ) × (parting ≡ Lower n)) ⊎ ((n : ℕ) × (parting ≡ Higher n))
           → TellsKeys cmp shared (shortened i t) (shortened j u) (not shared)
-      parted_told parting h (inl e) = parted_by Less e.0 refl (subst (IsParting cmp p q) e.1 h)
-      parted_told parting h (inr e) = parted_by Greater e.0 refl (subst (IsParting cmp p q) e.1 h)
+      parted-told parting h (inl e) = parted-by Less e.0 refl (subst (IsParting cmp p q) e.1 h)
+      parted-told parting h (inr e) = parted-by Greater e.0 refl (subst (IsParting cmp p q) e.1 h)
 
       module _ (n : ℕ) (x : K) (h : Agree cmp p q n × (n ≡ length q) × (n < length p)) (ex : slice_get p n ≡ Some x) where
         at : slice_get (drop i t.prefix) n ≡ Some x
@@ -112,37 +112,37 @@ module _ {K : Type 0} (cmp : K → K → Ordering) (o : IsTotalOrder cmp) where
         ended = ap (drop n) (sym eq) ∙ drop_of_length-le q (omega (arith, h.1))
 
         -- the right prefix ends, and the left tree goes on in a child
-        pub inside_told : (g : Forest K W) (kid : Tree K W) (answer : Bool) → g ≡ u.children → IsFoundChild cmp g x kid
+        pub inside-told : (g : Forest K W) (kid : Tree K W) (answer : Bool) → g ≡ u.children → IsFoundChild cmp g x kid
             → TellsKeys cmp shared (shortened (i + n) t) kid answer
             → TellsKeys cmp shared (shortened i t) (shortened j u) answer
-        inside_told g kid answer e k m =
-            let gx = goes_on n (drop i t.prefix) x at in
+        inside-told g kid answer e k m =
+            let gx = goes-on n (drop i t.prefix) x at in
             lifted n (x ∷ gx.0) [] answer gx.1 ended (rw (← ep, ← eq) h.0.same)
-            (tells_child cmp o shared x gx.0 t.value u.value t.children u.children kid answer (rw (← e) k)
+            (tells-child cmp o shared x gx.0 t.value u.value t.children u.children kid answer (rw (← e) k)
             (subst (λ l. TellsKeys cmp shared (node l t.value t.children) kid answer) (sym (drop-drop n i t.prefix) ∙ gx.1) m))
 
         -- or in none
-        pub inside_none : (g : Forest K W) → g ≡ u.children → IsNoChild cmp g x
+        pub inside-none : (g : Forest K W) → g ≡ u.children → IsNoChild cmp g x
             → TellsKeys cmp shared (shortened i t) (shortened j u) (not shared)
-        inside_none g e k =
-            let gx = goes_on n (drop i t.prefix) x at in
+        inside-none g e k =
+            let gx = goes-on n (drop i t.prefix) x at in
             lifted n (x ∷ gx.0) [] (not shared) gx.1 ended (rw (← ep, ← eq) h.0.same)
-            (alone_childless cmp o shared x gx.0 t.value u.value t.children u.children (solid n x at) c.1 (rw (← e) k))
+            (alone-childless cmp o shared x gx.0 t.value u.value t.children u.children (solid n x at) c.1 (rw (← e) k))
 
         -- the child agrees with what is left
-        pub inside_agrees : (g : Forest K W) (kid : Tree K W) → IsFoundChild cmp g x kid
+        pub inside-agrees : (g : Forest K W) (kid : Tree K W) → IsFoundChild cmp g x kid
             → Agree cmp (drop (i + n) t.prefix) kid.prefix 1
-        inside_agrees g kid k =
-            let gx = goes_on n (drop i t.prefix) x at in
+        inside-agrees g kid k =
+            let gx = goes-on n (drop i t.prefix) x at in
             let e : slice_get (drop (i + n) t.prefix) 0 ≡ Some x =
             ap (λ l. slice_get l 0) (sym (drop-drop n i t.prefix) ∙ gx.1) in
-            agree_flip kid.prefix (drop (i + n) t.prefix) 1 (found_agrees g kid x (drop (i + n) t.prefix) e k)
+            agree-flip kid.prefix (drop (i + n) t.prefix) 1 (found-agrees g kid x (drop (i + n) t.prefix) e k)
 
       -- the left prefix ends, inside the right one or with it
-      pub behind_told : (answer : Bool) → Agree cmp p q (length p)
+      pub behind-told : (answer : Bool) → Agree cmp p q (length p)
           → TellsKeys cmp shared (shortened (length t.prefix) t) (shortened (j + length p) u) answer
           → TellsKeys cmp shared (shortened i t) (shortened j u) answer
-      behind_told answer h m =
+      behind-told answer h m =
           let none : drop (length p) (drop i t.prefix) ≡ drop (length t.prefix) t.prefix =
           ap (drop (length p)) (sym ep) ∙ drop_of_length-le p (omega arith) ∙ sym (drop_of_length-le t.prefix (omega arith)) in
           lifted (length p) (drop (length t.prefix) t.prefix) (drop (j + length p) u.prefix) answer none (drop-drop (length p) j u.prefix)
@@ -154,72 +154,72 @@ module _ {K : Type 0} (cmp : K → K → Ordering) (o : IsTotalOrder cmp) where
     ends : (q : List K) (k : ℕ) → length q ≤ k → drop k q ≡ []
     ends q k h = drop_of_length-le q h
 
-    at_ends : (shared : Bool) (b : List K) (answer : Bool) → drop n u.prefix ≡ b
+    at-ends : (shared : Bool) (b : List K) (answer : Bool) → drop n u.prefix ≡ b
         → TellsKeys cmp shared (node [] t.value t.children) (node b u.value u.children) answer
         → TellsKeys cmp shared (shortened (length t.prefix) t) (shortened n u) answer
-    at_ends shared b answer e h =
+    at-ends shared b answer e h =
         subst (λ l. TellsKeys cmp shared (node l t.value t.children) (shortened n u) answer)
         (sym (ends t.prefix (length t.prefix) (omega arith)))
         (subst (λ l. TellsKeys cmp shared (node [] t.value t.children) (node l u.value u.children) answer) (sym e) h)
 
     module _ (y : K) (ey : slice_get u.prefix n ≡ Some y) where
       -- the right tree goes on in a child
-      pub within_told : (shared : Bool) (f : Forest K V) (kid : Tree K V) (answer : Bool) → shared ≡ false → f ≡ t.children
+      pub within-told : (shared : Bool) (f : Forest K V) (kid : Tree K V) (answer : Bool) → shared ≡ false → f ≡ t.children
           → IsFoundChild cmp f y kid → TellsKeys cmp shared kid (shortened n u) answer
           → TellsKeys cmp shared (shortened (length t.prefix) t) (shortened n u) answer
-      within_told shared f kid answer s e k m =
-          let g = goes_on n u.prefix y ey in
-          at_ends shared (y ∷ g.0) answer g.1
-          (rw s (tells_in_child cmp o y g.0 t.value u.value t.children u.children kid answer (rw (← e) k)
+      within-told shared f kid answer s e k m =
+          let g = goes-on n u.prefix y ey in
+          at-ends shared (y ∷ g.0) answer g.1
+          (rw s (tells-in_child cmp o y g.0 t.value u.value t.children u.children kid answer (rw (← e) k)
           (subst (λ l. TellsKeys cmp false kid (node l u.value u.children) answer) g.1 (rw s at m))))
 
       -- or in none
-      pub within_none : (shared : Bool) (f : Forest K V) → shared ≡ false → f ≡ t.children → IsNoChild cmp f y
+      pub within-none : (shared : Bool) (f : Forest K V) → shared ≡ false → f ≡ t.children → IsNoChild cmp f y
           → TellsKeys cmp shared (shortened (length t.prefix) t) (shortened n u) true
-      within_none shared f s e k =
-          let g = goes_on n u.prefix y ey in
-          at_ends shared (y ∷ g.0) true g.1
-          (rw s (childless_met cmp o y g.0 t.value u.value t.children u.children (rw (← e) k)))
+      within-none shared f s e k =
+          let g = goes-on n u.prefix y ey in
+          at-ends shared (y ∷ g.0) true g.1
+          (rw s (childless-met cmp o y g.0 t.value u.value t.children u.children (rw (← e) k)))
 
       -- keys that are to be shared
-      pub within_bare : (shared : Bool) (answer : Bool) → IsCanonical cmp t → shared ≡ true → answer ≡ lacks_both t.value t.children
+      pub within-bare : (shared : Bool) (answer : Bool) → IsCanonical cmp t → shared ≡ true → answer ≡ lacks_both t.value t.children
           → TellsKeys cmp shared (shortened (length t.prefix) t) (shortened n u) answer
-      within_bare shared answer c s e =
-          let g = goes_on n u.prefix y ey in
-          at_ends shared (y ∷ g.0) answer g.1
-          (rw s (bare_or_missed cmp o y g.0 t.prefix u.value u.children t.value t.children answer c.0 c.1 e))
+      within-bare shared answer c s e =
+          let g = goes-on n u.prefix y ey in
+          at-ends shared (y ∷ g.0) answer g.1
+          (rw s (bare-or_missed cmp o y g.0 t.prefix u.value u.children t.value t.children answer c.0 c.1 e))
 
-      pub within_agrees : (f : Forest K V) (kid : Tree K V) → IsFoundChild cmp f y kid → Agree cmp kid.prefix (drop n u.prefix) 1
-      within_agrees f kid k =
-          let g = goes_on n u.prefix y ey in
-          found_agrees f kid y (drop n u.prefix) (ap (λ l. slice_get l 0) g.1) k
+      pub within-agrees : (f : Forest K V) (kid : Tree K V) → IsFoundChild cmp f y kid → Agree cmp kid.prefix (drop n u.prefix) 1
+      within-agrees f kid k =
+          let g = goes-on n u.prefix y ey in
+          found-agrees f kid y (drop n u.prefix) (ap (λ l. slice_get l 0) g.1) k
 
     -- both end
-    pub both_told : (shared : Bool) (f : Forest K V) (g : Forest K W) (v : Option V) (w : Option W) (below : Bool)
+    pub both-told : (shared : Bool) (f : Forest K V) (g : Forest K W) (v : Option V) (w : Option W) (below : Bool)
         → length u.prefix ≤ n → f ≡ t.children → g ≡ u.children → v ≡ t.value → w ≡ u.value → IsMet shared v w
         → TellsKeysIn cmp shared f g below
         → TellsKeys cmp shared (shortened (length t.prefix) t) (shortened n u) below
-    both_told shared f g v w below l ef eg ev ew m h =
-        at_ends shared [] below (ends u.prefix n l)
+    both-told shared f g v w below l ef eg ev ew m h =
+        at-ends shared [] below (ends u.prefix n l)
         (subst (λ f. TellsKeys cmp shared (node [] t.value f) (node [] u.value u.children) below) ef
         (subst (λ v. TellsKeys cmp shared (node [] v f) (node [] u.value u.children) below) ev
         (subst (λ g. TellsKeys cmp shared (node [] v f) (node [] u.value g) below) eg
         (subst (λ w. TellsKeys cmp shared (node [] v f) (node [] w g) below) ew
-        (tells_nodes cmp o shared v w f g below m h)))))
+        (tells-nodes cmp o shared v w f g below m h)))))
 
     -- a value is missed
-    pub both_missed : (shared : Bool) (v : Option V) (w : Option W) → length u.prefix ≤ n → v ≡ t.value → w ≡ u.value
+    pub both-missed : (shared : Bool) (v : Option V) (w : Option W) → length u.prefix ≤ n → v ≡ t.value → w ≡ u.value
         → IsMissed shared v w → TellsKeys cmp shared (shortened (length t.prefix) t) (shortened n u) false
-    both_missed shared v w l ev ew m =
-        at_ends shared [] false (ends u.prefix n l)
+    both-missed shared v w l ev ew m =
+        at-ends shared [] false (ends u.prefix n l)
         (subst (λ v. TellsKeys cmp shared (node [] v t.children) (node [] u.value u.children) false) ev
         (subst (λ w. TellsKeys cmp shared (node [] v t.children) (node [] w u.children) false) ew
-        (value_missed cmp o shared v w t.children u.children m)))
+        (value-missed cmp o shared v w t.children u.children m)))
 
 -- behind two trees that are met, the others tell of all
-pub meeting_told : {K V W A B : Type 0} (cmp : K → K → Ordering) (ta : A → Tree K V) (tb : B → Tree K W) (shared : Bool)
+pub meeting-told : {K V W A B : Type 0} (cmp : K → K → Ordering) (ta : A → Tree K V) (tb : B → Tree K W) (shared : Bool)
     (xs : List A) (ys : List B) (x : A) (ls : List A) (y : B) (rs : List B) → IsMeeting cmp ta tb shared xs ys x ls y rs
     → TellsKeys cmp shared (ta x) (tb y) true → (answer : Bool) → TellsKeysIn cmp shared (seen ta ls) (seen tb rs) answer
     → TellsKeysIn cmp shared (seen ta xs) (seen tb ys) answer
-meeting_told cmp ta tb shared xs ys x ls y rs m h true g = m.all_met h g
-meeting_told cmp ta tb shared xs ys x ls y rs m h false g = m.later_missed g
+meeting-told cmp ta tb shared xs ys x ls y rs m h true g = m.all_met h g
+meeting-told cmp ta tb shared xs ys x ls y rs m h false g = m.later_missed g

@@ -1,5 +1,4 @@
 -- The events of a list of trees and a single tree. No public clause cites these words.
---     sides_around place count many one        their sides
 use Rattle.std.specs.Prelude.{ℕ, ◌+◌, ◌-◌, List, ◌∷◌, ◌++◌, replicate, Result, Ok, Err}
 use Rattle.vc_tree_combines.specs.declared.sides.Side.{Side}
 use Rattle.vc_tree_combines.specs.declared.sides.Side.TheVariants.{Both}

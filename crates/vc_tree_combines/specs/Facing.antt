@@ -1,9 +1,4 @@
 -- Two trees side by side: what stands below the fronts of their prefixes that agree. No public clause cites these words.
---     trees_below b        the trees that stand below a place
---     shortened_in tree n xs        trees without the first n components of their prefixes, as a list of children
---     IsOpened tree t rest xs from        below the place where `rest` is left of the prefix of t stand xs, without their first components
---     Parts cmp p q        two keys part at once
---     IsFaced        what `face` finds of two trees
 use Rattle.std.specs.Prelude.{◌≡◌, ℕ, ◌+◌, ◌≤◌, List, [], ◌∷◌, ◌++◌, map, length, take, drop, Option, Some, slice_get, IsTrue, IsFalse, ⊤}
 use Rattle.std.specs.List.{AllByRecursion}
 use Rattle.std.specs.Option.{option_copied, option_to_list}

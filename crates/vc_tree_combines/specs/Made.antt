@@ -1,11 +1,4 @@
 -- What a combine makes of trees, event by event. No public clause cites these words.
---     IsMadeBy cmp l R t o, IsMade cmp R t o        what is made of a tree that one side alone has, as l reads it
---     IsBothMadeBy cmp l R t u o, IsBothMade cmp R t u o        what is made of two trees, of which l reads the second
---     AreMadeAlone        what is made of trees that one side alone has
---     IsMadeAt        what is made at one event
---     IsAskedAt, AreAsked        what a combine may be asked at an event, and at some
---     owed        the comparisons that some events are still allowed
---     IsDoing        some events are done, and others are to do
 use Rattle.std.specs.Prelude.{◌≡◌, ℕ, ◌+◌, ◌*◌, ◌-◌, ◌≤◌, List, [], ◌∷◌, ◌++◌, map, Option, Some, None, slice_get}
 use Rattle.std.specs.List.{AllByRecursion, filter_map}
 use Rattle.std.specs.declared.cmp.Ordering.{Ordering}

@@ -1,8 +1,4 @@
 -- Tests of the keys of two trees. No public clause cites these words.
---     IsMet shared v w        of what two trees bind to a key: a key of the left is one of the right, if `shared`, and else it is not
---     IsMissed shared v w        it is the other way round
---     TellsKeys, TellsKeysIn        an answer tells whether all keys of the left are met, or some key is missed
---     IsMeeting, IsNext        what comes next of two lists of trees
 use Rattle.std.specs.Prelude.{◌≡◌, ◌+◌, ◌≤◌, Bool, true, false, not, List, ◌∷◌, Option, Some, None, is_some, MatchBool, ⊤}
 use Rattle.std.specs.declared.cmp.Ordering.{Ordering}
 use Rattle.vc_tree_model.specs.Canonical.{AreChildren}

@@ -1,8 +1,4 @@
 -- The events of two lists of trees, by the components at a place of their prefixes. No public clause cites these words.
---     component ta tb i j x        the component of a tree of either list at that place
---     by_component ta tb i j cmp        trees in the order of those components
---     side_of e, IsListed        on which side an event stands; the script of two lists, as the sides of its events
---     lists        what a merge does that lists its events
 use Rattle.std.specs.Prelude.{◌≡◌, ℕ, true, List, [], ◌∷◌, ◌++◌, ◌⊎◌, Option, map, replicate, slice_get, IfOk}
 use Rattle.std.proofs.Common.{inl, inr}
 use Rattle.std.proofs.lemmas.Cmp.{on_total}

@@ -1,7 +1,7 @@
 -- A chain of steps, as it grows by one command after another.
 --     Leads cmp matches m cs oks n        what a run does from n on, it does from m on behind these commands
 --     stepped        a command's outcome, as a step
---     leads_turn, leads_through        one command more, and all of them
+--     leads-turn, leads-through        one command more, and all of them
 use Rattle.std.proofs.Common.{◌≡◌, ◌∙◌, ◌+◌, ◌<◌, ◌≤◌, ℕ, [], ◌∷◌, ◌++◌, List, Option, Bool, Result, Ok, Err, ap, subst, sym, length, map, take, set, refl}
 use Rattle.std.proofs.lemmas.Grind.{take-set_at}
 use Rattle.std.proofs.lemmas.List.{append_assoc, append-nil, length_push, map-append, map-id, take_all}
@@ -26,26 +26,26 @@ module _ {K V : Type 0} (cmp : K → K → Ordering) (matches : V → V → Type
   stepped m next c (Err e) a b = b
 
   -- one command more
-  leads_on : (m n next : List K → Option V) (cs : List (Command K V)) (oks : List Bool) (c : Command K V) (ok : Bool)
+  leads-on : (m n next : List K → Option V) (cs : List (Command K V)) (oks : List Bool) (c : Command K V) (ok : Bool)
       → Leads m cs oks n → Step cmp matches n c ok next → Leads m (cs ++ c ∷ []) (oks ++ ok ∷ []) next
-  leads_on m n next cs oks c ok h s more flags end r =
+  leads-on m n next cs oks c ok h s more flags end r =
       subst (λ xs. Run cmp matches m xs ((oks ++ ok ∷ []) ++ flags) end) (sym (append_assoc cs (c ∷ []) more))
       (subst (λ xs. Run cmp matches m (cs ++ c ∷ more) xs end) (sym (append_assoc oks (ok ∷ []) flags))
       (h (c ∷ more) (ok ∷ flags) end (next, s, r)))
 
   module _ {X : Type 0} (f : X → Command K V) where
     -- the command at the next place, whose flag is set
-    pub leads_turn : (m n next : List K → Option V) (done : List (ℕ × X)) (at : ℕ) (x : X) (flags : List Bool) (ok : Bool)
+    pub leads-turn : (m n next : List K → Option V) (done : List (ℕ × X)) (at : ℕ) (x : X) (flags : List Bool) (ok : Bool)
         → at ≡ length done → at < length flags → Leads m (map (λ p. f p.1) done) (take (length done) flags) n
         → Step cmp matches n (f x) ok next
         → Leads m (map (λ p. f p.1) (done ++ (at, x) ∷ [])) (take (length (done ++ (at, x) ∷ [])) (set flags at ok)) next
-    leads_turn m n next done at x flags ok e within h s =
+    leads-turn m n next done at x flags ok e within h s =
         let more = length_push done (at, x) ∙ ap (λ i. i + 1) (sym e) in
         let kept = take-set_at flags at (length (done ++ (at, x) ∷ [])) ok more within ∙ ap (λ i. take i flags ++ ok ∷ []) e in
         subst (λ cs. Leads m cs (take (length (done ++ (at, x) ∷ [])) (set flags at ok)) next)
         (sym (map-append (λ p. f p.1) done ((at, x) ∷ [])))
         (subst (λ oks. Leads m (map (λ p. f p.1) done ++ f x ∷ []) oks next) (sym kept)
-        (leads_on m n next (map (λ p. f p.1) done) (take (length done) flags) (f x) ok h s))
+        (leads-on m n next (map (λ p. f p.1) done) (take (length done) flags) (f x) ok h s))
 
     -- commands with their places are those commands
     unplaced : (i : ℕ) (xs : List X) → map (λ p. f p.1) (enumerate_from i xs) ≡ map f xs
@@ -53,11 +53,11 @@ module _ {K V : Type 0} (cmp : K → K → Ordering) (matches : V → V → Type
     unplaced i (x ∷ xs) = ap (λ cs. f x ∷ cs) (unplaced (i + 1) xs)
 
     -- all commands are a run
-    pub leads_through : (m n : List K → Option V) (xs : List X) (done : List (ℕ × X)) (flags : List Bool)
+    pub leads-through : (m n : List K → Option V) (xs : List X) (done : List (ℕ × X)) (flags : List Bool)
         → map (λ p. (p.0, p.1)) done ≡ enumerate_from 0 xs → length flags ≤ length done
         → Leads m (map (λ p. f p.1) done) (take (length done) flags) n → IsEqualMap matches n n
         → Run cmp matches m (map f xs) flags n
-    leads_through m n xs done flags e all h same =
+    leads-through m n xs done flags e all h same =
         let placed = ap (λ ps. map (λ p. f p.1) ps) (sym (map-id done) ∙ e) ∙ unplaced 0 xs in
         subst (λ cs. Run cmp matches m cs flags n) placed
         (subst (λ oks. Run cmp matches m (map (λ p. f p.1) done) oks n) (take_all (length done) flags all)

@@ -1,5 +1,4 @@
 -- What a command on a tree means to the machine.
---     command_of tree c        the machine's command that c is, by what the trees in it are seen as
 use Rattle.vc_tree_model.specs.Tree.{Tree}
 use Rattle.vc_tree_model.specs.Machine.{Command, insert, prepend, filter, union, intersection, difference, remove_prefix, retain_prefix}
 use Rattle.vc_tree_commands.specs.declared.commands.TreeCommand.{TreeCommand}

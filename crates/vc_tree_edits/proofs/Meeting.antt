@@ -8,12 +8,12 @@ use Rattle.vc_tree_edits.specs.Editing.{KeptThen, OrStays, IsMetAt}
 
 module _ {V : Type 0} (keeps : V → V → Type 0) where
   -- a value that stays as it was kept
-  kept_same : (v u : V) (z : Option V) → keeps v u → z ≡ Some u → IsKept keeps (Some v) z
-  kept_same v u z k e = subst (IsKept keeps (Some v)) (sym e) k
+  kept-same : (v u : V) (z : Option V) → keeps v u → z ≡ Some u → IsKept keeps (Some v) z
+  kept-same v u z k e = subst (IsKept keeps (Some v)) (sym e) k
 
   pub union_from : (is_clone : V → V → Type 0) (v w z : Option V)
       → IsOuterAt keeps is_clone (KeptThen keeps (λ v w z. z ≡ Some v)) v w z → IsUnionAt keeps is_clone v w z
-  union_from is_clone (Some v) (Some w) z h = kept_same v h.0 z h.1 h.2
+  union_from is_clone (Some v) (Some w) z h = kept-same v h.0 z h.1 h.2
   union_from is_clone (Some v) None z h = h
   union_from is_clone None w z h = h
 
@@ -32,7 +32,7 @@ module _ {V : Type 0} (keeps : V → V → Type 0) where
 
     pub intersection_from : (v : Option V) (w : Option W) (z : Option V)
         → IsMetAt keeps false (KeptThen keeps (λ v w z. z ≡ Some v)) v w z → IsIntersectionAt keeps v w z
-    intersection_from (Some v) (Some w) z h = kept_same v h.0 z h.1 h.2
+    intersection_from (Some v) (Some w) z h = kept-same v h.0 z h.1 h.2
     intersection_from (Some v) None z h = h
     intersection_from None (Some w) z h = subst (IsKept keeps None) (sym h) tt
     intersection_from None None z h = h
@@ -58,8 +58,8 @@ module _ {V : Type 0} (keeps : V → V → Type 0) where
     alone_gone false may (Some v) e = refl
 
   -- a tree of one side alone stays, or comes in
-  pub alone_outer : (is_clone : V → V → Type 0) (may : V → V → Option V → Type 0) (v z : Option V) → IsKept keeps v z
+  pub alone-outer : (is_clone : V → V → Type 0) (may : V → V → Option V → Type 0) (v z : Option V) → IsKept keeps v z
       → IsOuterAt keeps is_clone may v None z
-  alone_outer is_clone may None None k = tt
-  alone_outer is_clone may None (Some z) k = absurd k
-  alone_outer is_clone may (Some v) z k = k
+  alone-outer is_clone may None None k = tt
+  alone-outer is_clone may None (Some z) k = absurd k
+  alone-outer is_clone may (Some v) z k = k

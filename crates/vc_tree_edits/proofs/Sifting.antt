@@ -1,9 +1,9 @@
 -- What removal and retention make at one place: values and trees that stay or go.
 --     stayed        a tree that stays is what is said of a tree whose values are kept
 --     value_stays, value_goes        a value stays or goes by the verdict on its cover
---     sifted_below, asked_below, asked_cover        the verdict is known to all that stands below
---     sifted_stays, sifted_goes        and so do all keys of a tree that no further key covers
---     removed_by, retained_by        what is said of all keys, as removal and retention
+--     sifted_below, asked_below, asked-cover        the verdict is known to all that stands below
+--     sifted-stays, sifted-goes        and so do all keys of a tree that no further key covers
+--     removed-by, retained-by        what is said of all keys, as removal and retention
 use Rattle.std.proofs.Common.{◌≡◌, ℕ, ◌<◌, Bool, true, false, not, ◌∷◌, [], List, Option, None, Some, refl, sym, subst, length}
 use Rattle.std.specs.Cmp.{IsTotalOrder}
 use Rattle.std.specs.declared.cmp.Ordering.{Ordering}
@@ -16,7 +16,7 @@ use Rattle.vc_tree_model.specs.Snapshot.{tree_alike_refl}
 use Rattle.vc_tree_model.specs.Tree.{Tree, shortened}
 use Rattle.vc_tree_model.specs.Value.{IsKept}
 use Rattle.vc_tree_combines.specs.Made.{IsMade}
-use Rattle.vc_tree_combines.proofs.Alone.{copied_by}
+use Rattle.vc_tree_combines.proofs.Alone.{copied-by}
 use Rattle.vc_tree_edits.specs.Editing.{CanJudge, IsJudged, IsSiftedBy, stays_by}
 
 -- a tree that stays is what is said of a tree whose values are kept
@@ -25,69 +25,69 @@ pub stayed : {K V : Type 0} (cmp : K → K → Ordering) → IsTotalOrder cmp �
     → (S : Option V → Option V → Type 0) → ((v z : Option V) → IsKept keeps v z → S v z)
     → IsMade cmp S (shortened i t) (Some u)
 stayed cmp o keeps itself t u i c h e S f =
-    rw e (copied_by cmp o keeps t (shortened i t) i c h (tree_alike_refl keeps itself (shortened i t)) S f)
+    rw e (copied-by cmp o keeps t (shortened i t) i c h (tree_alike_refl keeps itself (shortened i t)) S f)
 
 module _ {V W : Type 0} (keeps : V → V → Type 0) (may : W → Bool → Type 0) where
   -- a value that is kept stays, and goes else
-  kept_stays : (b : Bool) (v : V) (z : Option V) → b ≡ true → IsKept keeps (Some v) z → StaysOrGoes keeps b v z
-  kept_stays true v z e k = k
-  kept_stays false v z e k = absurd (cc)
+  kept-stays : (b : Bool) (v : V) (z : Option V) → b ≡ true → IsKept keeps (Some v) z → StaysOrGoes keeps b v z
+  kept-stays true v z e k = k
+  kept-stays false v z e k = absurd (cc)
 
-  gone_goes : (b : Bool) (v : V) → b ≡ false → StaysOrGoes keeps b v None
-  gone_goes true v e = absurd (cc)
-  gone_goes false v e = refl
+  gone-goes : (b : Bool) (v : V) → b ≡ false → StaysOrGoes keeps b v None
+  gone-goes true v e = absurd (cc)
+  gone-goes false v e = refl
 
   -- a value stays by the verdict on its cover
   pub value_stays : (itself : (v : V) → keeps v v) (known covered : Bool) (stays : Bool → Bool) (v : Option V) (w : Option W)
       → IsJudged may known w covered → stays covered ≡ true → IsSiftedBy keeps may known stays v w v
   value_stays itself known covered stays None w j e = refl
-  value_stays itself known covered stays (Some v) w j e = (covered, j, kept_stays (stays covered) v (Some v) e (itself v))
+  value_stays itself known covered stays (Some v) w j e = (covered, j, kept-stays (stays covered) v (Some v) e (itself v))
 
   -- or goes
   pub value_goes : (known covered : Bool) (stays : Bool → Bool) (v : Option V) (w : Option W)
       → IsJudged may known w covered → stays covered ≡ false → IsSiftedBy keeps may known stays v w None
   value_goes known covered stays None w j e = refl
-  value_goes known covered stays (Some v) w j e = (covered, j, gone_goes (stays covered) v e)
+  value_goes known covered stays (Some v) w j e = (covered, j, gone-goes (stays covered) v e)
 
   -- the verdict is known to all that stands below
-  judged_below : (known covered told : Bool) (w o : Option W) → IsJudged may known w covered → IsJudged may covered o told
+  judged-below : (known covered told : Bool) (w o : Option W) → IsJudged may known w covered → IsJudged may covered o told
       → IsJudged may known (or_else o w) told
-  judged_below known covered told w (Some x) j h = h
-  judged_below known covered told w None j h = subst (IsJudged may known w) (sym h) j
+  judged-below known covered told w (Some x) j h = h
+  judged-below known covered told w None j h = subst (IsJudged may known w) (sym h) j
 
   pub sifted_below : (known covered : Bool) (stays : Bool → Bool) (w : Option W) → IsJudged may known w covered
       → (v : Option V) (o : Option W) (z : Option V) → IsSiftedBy keeps may covered stays v o z
       → IsSiftedBy keeps may known stays v (or_else o w) z
   sifted_below known covered stays w j None o z h = h
-  sifted_below known covered stays w j (Some v) o z h = (h.0, judged_below known covered h.0 w o j h.1, h.2)
+  sifted_below known covered stays w j (Some v) o z h = (h.0, judged-below known covered h.0 w o j h.1, h.2)
 
   -- all keys of a tree that no further key covers stay, or go
-  pub sifted_stays : (known : Bool) (stays : Bool → Bool) → stays known ≡ true → (v z : Option V) → IsKept keeps v z
+  pub sifted-stays : (known : Bool) (stays : Bool → Bool) → stays known ≡ true → (v z : Option V) → IsKept keeps v z
       → IsSiftedBy keeps may known stays v None z
-  sifted_stays known stays e None None k = refl
-  sifted_stays known stays e None (Some z) k = absurd k
-  sifted_stays known stays e (Some v) z k = (known, refl, kept_stays (stays known) v z e k)
+  sifted-stays known stays e None None k = refl
+  sifted-stays known stays e None (Some z) k = absurd k
+  sifted-stays known stays e (Some v) z k = (known, refl, kept-stays (stays known) v z e k)
 
-  pub sifted_goes : (known : Bool) (stays : Bool → Bool) → stays known ≡ false → (v : Option V)
+  pub sifted-goes : (known : Bool) (stays : Bool → Bool) → stays known ≡ false → (v : Option V)
       → IsSiftedBy keeps may known stays v None None
-  sifted_goes known stays e None = refl
-  sifted_goes known stays e (Some v) = (known, refl, gone_goes (stays known) v e)
+  sifted-goes known stays e None = refl
+  sifted-goes known stays e (Some v) = (known, refl, gone-goes (stays known) v e)
 
   -- what is said where nothing is known to be covered yet, as removal and retention say it
-  sifted_from : (stays : Bool → Bool) (c : Option W) (v z : Option V) → IsSiftedBy keeps may false stays v c z
+  sifted-from : (stays : Bool → Bool) (c : Option W) (v z : Option V) → IsSiftedBy keeps may false stays v c z
       → IsSifted keeps may stays c v z
-  sifted_from stays c None z h = h
-  sifted_from stays None (Some v) z h = h
-  sifted_from stays (Some w) (Some v) z h = h
+  sifted-from stays c None z h = h
+  sifted-from stays None (Some v) z h = h
+  sifted-from stays (Some w) (Some v) z h = h
 
   module _ {K : Type 0} (q : List K → Option W) (f g : List K → Option V) where
-    pub removed_by : ((k : List K) → IsSiftedBy keeps may false (stays_by false) (f k) (cover q k) (g k))
+    pub removed-by : ((k : List K) → IsSiftedBy keeps may false (stays_by false) (f k) (cover q k) (g k))
         → IsRemoved keeps may q f g
-    removed_by h k = sifted_from not (cover q k) (f k) (g k) (h k)
+    removed-by h k = sifted-from not (cover q k) (f k) (g k) (h k)
 
-    pub retained_by : ((k : List K) → IsSiftedBy keeps may false (stays_by true) (f k) (cover q k) (g k))
+    pub retained-by : ((k : List K) → IsSiftedBy keeps may false (stays_by true) (f k) (cover q k) (g k))
         → IsRetained keeps may q f g
-    retained_by h k = sifted_from (λ b. b) (cover q k) (f k) (g k) (h k)
+    retained-by h k = sifted-from (λ b. b) (cover q k) (f k) (g k) (h k)
 
 module _ {W F : Type 0} (g : Shared F (Bor W × Unit {0}) Bool) (f : F) where
   -- what may be asked of a cover may be asked of each longer one
@@ -96,12 +96,12 @@ module _ {W F : Type 0} (g : Shared F (Bor W × Unit {0}) Bool) (f : F) where
   asked_below w (Some x) a = a
 
   -- what may be asked of each value may be asked of each cover
-  pub asked_cover : {K : Type 0} (q : List K → Option W) → ((k : List K) → CanJudge g f (q k)) → (k : List K)
+  pub asked-cover : {K : Type 0} (q : List K → Option W) → ((k : List K) → CanJudge g f (q k)) → (k : List K)
       → CanJudge g f (cover q k)
-  asked_cover q a [] = a []
-  asked_cover q a (x ∷ k) =
-      asked_else (cover (λ r. q (x ∷ r)) k) (q []) (asked_cover (λ r. q (x ∷ r)) (λ r. a (x ∷ r)) k) (a [])
+  asked-cover q a [] = a []
+  asked-cover q a (x ∷ k) =
+      asked-else (cover (λ r. q (x ∷ r)) k) (q []) (asked-cover (λ r. q (x ∷ r)) (λ r. a (x ∷ r)) k) (a [])
     where
-      asked_else : (o w : Option W) → CanJudge g f o → CanJudge g f w → CanJudge g f (or_else o w)
-      asked_else None w b c = c
-      asked_else (Some x) w b c = b
+      asked-else : (o w : Option W) → CanJudge g f o → CanJudge g f w → CanJudge g f (or_else o w)
+      asked-else None w b c = c
+      asked-else (Some x) w b c = b

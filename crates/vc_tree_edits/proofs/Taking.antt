@@ -1,7 +1,7 @@
 -- A tree that is taken apart behind the front of its prefix.
---     taken_rest        where the prefix goes on, the tree itself stands below
---     taken_all        where it ended, the children
---     cut_all        the components up to the end of a prefix
+--     taken-rest        where the prefix goes on, the tree itself stands below
+--     taken-all        where it ended, the children
+--     cut-all        the components up to the end of a prefix
 use Rattle.std.proofs.Common.{◌≡◌, ℕ, ◌+◌, ◌-◌, ◌<◌, ◌≤◌, [], ◌∷◌, ◌++◌, List, Option, None, refl, sym, ap, subst, ◌∙◌, arith, map, take, drop, length, length-drop}
 use Rattle.std.proofs.Math.ListN.{drop_of_length-le}
 use Rattle.std.proofs.lemmas.List.{take_all}
@@ -10,49 +10,49 @@ use Rattle.vc_tree_model.specs.Same.{IsAlikeIn}
 use Rattle.vc_tree_model.specs.Snapshot.{tree_alike_refl, kept_itself}
 use Rattle.vc_tree_model.specs.Tree.{Tree, forest, node, shortened}
 use Rattle.vc_tree_model.specs.Value.{IsKept}
-use Rattle.vc_tree_combines.proofs.Opening.{opened_all, opened_rest, value_inside}
+use Rattle.vc_tree_combines.proofs.Opening.{opened-all, opened-rest, value-inside}
 use Rattle.vc_tree_edits.specs.Taken.{IsTaken}
 
 -- the components up to the end of a prefix
-pub cut_all : {K : Type 0} (i n : ℕ) (whole own front : List K) → own ≡ whole → front ≡ drop i own → length whole ≤ i + n
+pub cut-all : {K : Type 0} (i n : ℕ) (whole own front : List K) → own ≡ whole → front ≡ drop i own → length whole ≤ i + n
     → front ≡ take n (drop i whole)
-cut_all i n whole own front a f h =
+cut-all i n whole own front a f h =
     let l = length-drop i whole in
     f ∙ ap (drop i) a ∙ sym (take_all n (drop i whole) (omega (arith, l, h)))
 
 module _ {K V T : Type 0} (tree : T → Tree K V) (keeps : V → V → Type 0) (itself : (v : V) → keeps v v) (x : T) (i n m : ℕ)
     (whole front : List K) (whole_is : whole ≡ (tree x).prefix) (cut : front ≡ take m (drop i whole)) (long : m ≡ n) where
-  front_of : front ≡ take n (drop i (tree x).prefix)
-  front_of = cut ∙ ap (λ k. take k (drop i whole)) long ∙ ap (λ p. take n (drop i p)) whole_is
+  front-of : front ≡ take n (drop i (tree x).prefix)
+  front-of = cut ∙ ap (λ k. take k (drop i whole)) long ∙ ap (λ p. take n (drop i p)) whole_is
 
-  length_of : length (drop i (tree x).prefix) ≡ length whole - i
-  length_of = length-drop {A = K} i (tree x).prefix ∙ ap (λ p. length p - i) (sym whole_is)
+  length-of : length (drop i (tree x).prefix) ≡ length whole - i
+  length-of = length-drop {A = K} i (tree x).prefix ∙ ap (λ p. length p - i) (sym whole_is)
 
-  length_rest : length (drop n (drop i (tree x).prefix)) ≡ length whole - i - n
-  length_rest = length-drop {A = K} n (drop i (tree x).prefix) ∙ ap (λ k. k - n) length_of
+  length-rest : length (drop n (drop i (tree x).prefix)) ≡ length whole - i - n
+  length-rest = length-drop {A = K} n (drop i (tree x).prefix) ∙ ap (λ k. k - n) length-of
 
   -- where the prefix goes on, the tree itself stands below
-  pub taken_rest : i + n < length whole → (zs : List T) → zs ≡ []
+  pub taken-rest : i + n < length whole → (zs : List T) → zs ≡ []
       → IsTaken tree keeps (shortened i (tree x)) n front None (x ∷ zs) (i + n)
-  taken_rest h zs z =
-      let l = length_of in
-      let r = length_rest in
+  taken-rest h zs z =
+      let l = length-of in
+      let r = length-rest in
       rw z (record {
         taken = shortened i (tree x);
         alike = tree_alike_refl keeps itself (shortened i (tree x));
-        front_is = front_of;
+        front_is = front-of;
         value_is =
-            value_inside (shortened i (tree x)) (drop i (tree x).prefix) (drop i (tree x).prefix) n refl (omega (arith, l, h))
+            value-inside (shortened i (tree x)) (drop i (tree x).prefix) (drop i (tree x).prefix) n refl (omega (arith, l, h))
             (λ s. omega (arith, s, l, h));
-        opened = opened_rest tree x (shortened i (tree x)) i n refl refl (omega (arith, r, h));
+        opened = opened-rest tree x (shortened i (tree x)) i n refl refl (omega (arith, r, h));
       })
 
   -- where it ended, the children
-  pub taken_all : length whole ≤ i + n → (value : Option V) (ls xs : List T) → value ≡ (tree x).value
+  pub taken-all : length whole ≤ i + n → (value : Option V) (ls xs : List T) → value ≡ (tree x).value
       → forest (map tree ls) ≡ (tree x).children → IsAlikeIn keeps (forest (map tree ls)) (forest (map tree xs))
       → IsTaken tree keeps (shortened i (tree x)) n front value xs 0
-  taken_all h value ls xs v c a =
-      let l = length_of in
+  taken-all h value ls xs v c a =
+      let l = length-of in
       let none : drop n (drop i (tree x).prefix) ≡ [] = drop_of_length-le (drop i (tree x).prefix) (omega (arith, l, h)) in
       let whole_tree = node (drop i (tree x).prefix) value (forest (map tree xs)) in
       record {
@@ -62,7 +62,7 @@ module _ {K V T : Type 0} (tree : T → Tree K V) (keeps : V → V → Type 0) (
           subst (λ w. IsKept keeps w value) v (kept_itself keeps itself value),
           subst (λ f. IsAlikeIn keeps f (forest (map tree xs))) c a,
         );
-        front_is = front_of;
+        front_is = front-of;
         value_is = ap (value_at whole_tree) (sym none);
-        opened = opened_all tree whole_tree (drop n (drop i (tree x).prefix)) xs none refl;
+        opened = opened-all tree whole_tree (drop n (drop i (tree x).prefix)) xs none refl;
       }

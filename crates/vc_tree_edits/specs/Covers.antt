@@ -1,12 +1,11 @@
 -- How the trees of another map are read where they cover keys: at each key, the value of the longest key that is a prefix of it.
---     covers cmp        this way to read trees
 use Rattle.std.proofs.Common.{◌≡◌, [], ◌∷◌, List, Option, None, Some, refl, sym, ap, ◌∙◌, true, false, Bool, cond}
 use Rattle.std.specs.Ordering.{is_eq}
 use Rattle.std.specs.declared.cmp.Ordering.{Ordering}
 use Rattle.vc_tree_model.specs.Key.{behind}
 use Rattle.vc_tree_model.specs.Map.{or_else, node_lookup, lookup, lookup_in}
 use Rattle.vc_tree_model.specs.Cover.{cover}
-use Rattle.vc_tree_model.proofs.CoverNodes.{cover_none}
+use Rattle.vc_tree_model.proofs.CoverNodes.{cover-none}
 use Rattle.vc_tree_model.proofs.Look.{Look, told}
 use Rattle.vc_tree_model.proofs.ValueLemmas.{or_else-none}
 
@@ -49,7 +48,7 @@ module _ {K W : Type 0} where
           → cover (λ r. node_lookup v f (cond b (behind cmp p r) None)) k
           ≡ told None v (λ q. or_else (long_cover f q) v) (cond b (behind cmp p k) None)
       by true h = h
-      by false h = cover_none (λ r. None) (λ r. refl) k
+      by false h = cover-none (λ r. None) (λ r. refl) k
 
   -- of a tree and others, the others alone cover a key that begins otherwise
   pub cover_skips : (cmp : K → K → Ordering) (v : Option W) (f g : List K → Option W) (p : List K) (y x : K) (q : List K)
@@ -76,7 +75,7 @@ module _ {K W : Type 0} where
     under_none = λ o. or_else-none o;
     of_tree = λ t. cover (lookup cmp t);
     of_forest = λ f. long_cover (lookup_in cmp f);
-    in_bare = λ x q. cover_none (λ r. None) (λ r. refl) q;
+    in_bare = λ x q. cover-none (λ r. None) (λ r. refl) q;
     skips = λ p v kids rest y x q e. cover_skips cmp v (lookup_in cmp kids) (lookup_in cmp rest) p y x q e;
     takes = λ p v kids rest y x q e n. cover_takes cmp v (lookup_in cmp kids) (lookup_in cmp rest) p y x q n;
     tree_is = λ t k. cover_told cmp t.value (lookup_in cmp t.children) t.prefix k;

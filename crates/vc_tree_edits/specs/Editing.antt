@@ -1,12 +1,4 @@
 -- What a change of a tree in place says of values, and what its closures may do.
---     MayLeave g f v w z, CanLeave        a call of f at the value v itself, and at w, may leave z there; it may be called so
---     KeptThen keeps may v w z        of a value that is kept from v, z is what may come at w
---     CanMeet keeps takes v w        what may be asked at each value that is kept from v, and at w
---     OrStays        a value of the left alone stays
---     IsMetAt        of a shared key, what may come; a value of the left alone stays or goes, and no other key is there
---     MayJudge, CanJudge        a call of f at a value may answer so; it may be called there, if there is one
---     IsJudged may known w covered        the verdict on a key: what may be said of its cover, or else what is known
---     IsSiftedBy        what stays of a value by that verdict
 use Rattle.std.specs.Prelude.{◌≡◌, Bool, cond, not, Option, Some, None, ⊤}
 use denote.Ref.{Bor, MutBor}
 use denote.Param.Members.{Shared}

@@ -1,5 +1,4 @@
 -- The laws of what changes in place say: it holds of each value that a value is kept from.
---     sifted_kept, outer_kept, met_kept, meet_kept        what is said of a kept value is said of the first one
 use Rattle.std.specs.Prelude.{Bool, true, false, Option, Some, None}
 use Rattle.vc_tree_model.specs.Value.{IsKept}
 use Rattle.vc_tree_model.specs.Combine.{IsOuterAt}

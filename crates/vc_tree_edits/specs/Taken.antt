@@ -1,10 +1,4 @@
 -- Trees that a change in place takes apart. No public clause cites these words.
---     IsMet        what is known of two trees side by side, once the left one is let go
---     IsTaken        the parts of a tree, taken apart behind the front of its prefix
---     IsBegun        the state of a change before the first event
---     IsNext, IsAdded        one tree taken from the front of a list that is built in place, and one put to its end
---     IsFirstLong        the first tree that is left goes on behind some components
---     IsStayed, IsCome        what became of a tree that one side alone has
 use Rattle.std.specs.Prelude.{◌≡◌, Bool, true, ℕ, ◌+◌, ◌<◌, ◌≤◌, List, [], ◌∷◌, ◌++◌, map, length, Option, None, option_map, drop, take}
 use Rattle.std.specs.List.{cons_option}
 use Rattle.std.specs.declared.cmp.Ordering.{Ordering}

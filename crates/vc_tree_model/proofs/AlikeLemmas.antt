@@ -1,7 +1,7 @@
 -- Trees that are alike: the same nodes with the very same prefixes, and values that are kept.
---     alike_trans, alike_push, alike_more        how trees are alike
---     alike_solid, alike_children, alike_canonical, tree_alike_canonical, alike_nodes, alike_lookup, tree_alike_lookup        what two that are alike share
---     snapshot_canonical        what a snapshot of a canonical tree is
+--     alike-trans, alike-push, alike-more        how trees are alike
+--     alike-solid, alike-children, alike-canonical, tree-alike_canonical, alike-nodes, alike-lookup, tree-alike_lookup        what two that are alike share
+--     snapshot-canonical        what a snapshot of a canonical tree is
 use Rattle.std.proofs.Common.{◌≡◌, ℕ, ◌+◌, ◌<◌, List, [], ◌∷◌, ◌++◌, get_or, length, map, take, Option, Some, None, refl, sym, ap, ◌∙◌, arith}
 use Rattle.std.proofs.lemmas.List.{take_more}
 use Rattle.std.specs.declared.cmp.Ordering.{Ordering}
@@ -11,162 +11,162 @@ use Rattle.vc_tree_model.specs.Tree.{Tree, Forest, bare, grow, forest, node, sha
 use Rattle.vc_tree_model.specs.Map.{node_lookup, lookup, lookup_in, IsEqualMap}
 use Rattle.vc_tree_model.specs.Canonical.{IsSolid, IsWhole, AllAbove, AreChildren, IsCanonical}
 use Rattle.vc_tree_model.specs.Same.{IsAlike, IsAlikeIn}
-use Rattle.vc_tree_model.proofs.ValueLemmas.{kept_trans, kept_else}
+use Rattle.vc_tree_model.proofs.ValueLemmas.{kept-trans, kept-else}
 
 module _ {K V : Type 0} (keeps : V → V → Type 0) where
   -- ---- how trees are alike
 
   -- what is alike to an alike list is alike to the first
-  pub alike_trans : ((u v w : V) → keeps u v → keeps v w → keeps u w) → (f g h : Forest K V) → IsAlikeIn keeps f g
+  pub alike-trans : ((u v w : V) → keeps u v → keeps v w → keeps u w) → (f g h : Forest K V) → IsAlikeIn keeps f g
       → IsAlikeIn keeps g h → IsAlikeIn keeps f h
-  alike_trans t bare bare bare a b = tt
-  alike_trans t bare bare (grow q w more others) a b = absurd b
-  alike_trans t bare (grow q w more others) h a b = absurd a
-  alike_trans t (grow p v kids rest) bare h a b = absurd a
-  alike_trans t (grow p v kids rest) (grow q w more others) bare a b = absurd b
-  alike_trans t (grow p v kids rest) (grow q w more others) (grow q' w' more' others') a b = (
+  alike-trans t bare bare bare a b = tt
+  alike-trans t bare bare (grow q w more others) a b = absurd b
+  alike-trans t bare (grow q w more others) h a b = absurd a
+  alike-trans t (grow p v kids rest) bare h a b = absurd a
+  alike-trans t (grow p v kids rest) (grow q w more others) bare a b = absurd b
+  alike-trans t (grow p v kids rest) (grow q w more others) (grow q' w' more' others') a b = (
     a.0 ∙ b.0,
-    kept_trans keeps t v w w' a.1 b.1,
-    alike_trans t kids more more' a.2 b.2,
-    alike_trans t rest others
+    kept-trans keeps t v w w' a.1 b.1,
+    alike-trans t kids more more' a.2 b.2,
+    alike-trans t rest others
         others' a.3 b.3,
   )
 
   -- one more tree behind two lists that are alike
-  pub alike_push : {S T : Type 0} (s : S → Tree K V) (t : T → Tree K V) (xs : List S) (ys : List T) (x : S) (y : T)
+  pub alike-push : {S T : Type 0} (s : S → Tree K V) (t : T → Tree K V) (xs : List S) (ys : List T) (x : S) (y : T)
       → IsAlikeIn keeps (forest (map s xs)) (forest (map t ys)) → IsAlike keeps (s x) (t y)
       → IsAlikeIn keeps (forest (map s (xs ++ x ∷ []))) (forest (map t (ys ++ y ∷ [])))
-  alike_push s t [] [] x y a h = (h.0, h.1, h.2, tt)
-  alike_push s t [] (y' ∷ ys) x y a h = absurd a
-  alike_push s t (x' ∷ xs) [] x y a h = absurd a
-  alike_push s t (x' ∷ xs) (y' ∷ ys) x y a h = (a.0, a.1, a.2, alike_push s t xs ys x y a.3 h)
+  alike-push s t [] [] x y a h = (h.0, h.1, h.2, tt)
+  alike-push s t [] (y' ∷ ys) x y a h = absurd a
+  alike-push s t (x' ∷ xs) [] x y a h = absurd a
+  alike-push s t (x' ∷ xs) (y' ∷ ys) x y a h = (a.0, a.1, a.2, alike-push s t xs ys x y a.3 h)
 
   -- the trees up to a place of a list, and one more, are copied
-  pub alike_more : {S T : Type 0} (s : S → Tree K V) (t : T → Tree K V) (xs : List S) (ys zs : List T) (i : ℕ) (x : S)
+  pub alike-more : {S T : Type 0} (s : S → Tree K V) (t : T → Tree K V) (xs : List S) (ys zs : List T) (i : ℕ) (x : S)
       (y : T) → i < length xs → x ≡ get_or xs i x → zs ≡ ys ++ y ∷ []
       → IsAlikeIn keeps (forest (map s (take i xs))) (forest (map t ys)) → IsAlike keeps (s x) (t y)
       → IsAlikeIn keeps (forest (map s (take (i + 1) xs))) (forest (map t zs))
-  alike_more s t xs ys zs i x y h e z a b =
+  alike-more s t xs ys zs i x y h e z a b =
       let one_more : take (i + 1) xs ≡ take i xs ++ x ∷ [] =
       take_more xs i x h ∙ ap (λ l. take i xs ++ l ∷ []) (sym e) in
-      rw (one_more, z) (alike_push s t (take i xs) ys x y a b)
+      rw (one_more, z) (alike-push s t (take i xs) ys x y a b)
 
   -- ---- what two that are alike share
 
   -- a value or at least two children
-  pub alike_solid : (v w : Option V) (f g : Forest K V) → IsKept keeps v w → IsAlikeIn keeps f g → IsSolid v f → IsSolid w g
-  alike_solid (Some v) (Some w) f g h k s = tt
-  alike_solid None (Some w) f g h k s = absurd h
-  alike_solid (Some v) None f g h k s = absurd h
-  alike_solid None None bare g h k s = absurd s
-  alike_solid None None (grow p v kids bare) g h k s = absurd s
-  alike_solid None None (grow p v kids (grow q w more rest)) bare h k s = absurd k
-  alike_solid None None (grow p v kids (grow q w more rest)) (grow p' v' kids' bare) h k s = absurd k.3
-  alike_solid None None (grow p v kids (grow q w more rest)) (grow p' v' kids' (grow q' w' more' rest')) h k s = tt
+  pub alike-solid : (v w : Option V) (f g : Forest K V) → IsKept keeps v w → IsAlikeIn keeps f g → IsSolid v f → IsSolid w g
+  alike-solid (Some v) (Some w) f g h k s = tt
+  alike-solid None (Some w) f g h k s = absurd h
+  alike-solid (Some v) None f g h k s = absurd h
+  alike-solid None None bare g h k s = absurd s
+  alike-solid None None (grow p v kids bare) g h k s = absurd s
+  alike-solid None None (grow p v kids (grow q w more rest)) bare h k s = absurd k
+  alike-solid None None (grow p v kids (grow q w more rest)) (grow p' v' kids' bare) h k s = absurd k.3
+  alike-solid None None (grow p v kids (grow q w more rest)) (grow p' v' kids' (grow q' w' more' rest')) h k s = tt
 
   -- what may be the whole tree
-  alike_whole : (p : List K) (v w : Option V) (f g : Forest K V) → IsKept keeps v w → IsAlikeIn keeps f g
+  alike-whole : (p : List K) (v w : Option V) (f g : Forest K V) → IsKept keeps v w → IsAlikeIn keeps f g
       → IsWhole p v f → IsWhole p w g
-  alike_whole [] None None bare bare k a h = tt
-  alike_whole [] None None bare (grow q w more others) k a h = absurd a
-  alike_whole [] None None (grow p v kids rest) bare k a h = absurd a
-  alike_whole [] None None (grow p v kids rest) (grow q w more others) k a h =
-      alike_solid None None (grow p v kids rest) (grow q w more others) k a h
-  alike_whole [] (Some v) (Some w) f g k a h = tt
-  alike_whole [] (Some v) None f g k a h = absurd k
-  alike_whole [] None (Some w) f g k a h = absurd k
-  alike_whole (x ∷ p) v w f g k a h = alike_solid v w f g k a h
+  alike-whole [] None None bare bare k a h = tt
+  alike-whole [] None None bare (grow q w more others) k a h = absurd a
+  alike-whole [] None None (grow p v kids rest) bare k a h = absurd a
+  alike-whole [] None None (grow p v kids rest) (grow q w more others) k a h =
+      alike-solid None None (grow p v kids rest) (grow q w more others) k a h
+  alike-whole [] (Some v) (Some w) f g k a h = tt
+  alike-whole [] (Some v) None f g k a h = absurd k
+  alike-whole [] None (Some w) f g k a h = absurd k
+  alike-whole (x ∷ p) v w f g k a h = alike-solid v w f g k a h
 
   -- how many nodes there are
-  pub alike_nodes : (f g : Forest K V) → IsAlikeIn keeps f g → forest_nodes f ≡ forest_nodes g
-  alike_nodes bare bare h = refl
-  alike_nodes bare (grow q w more others) h = absurd h
-  alike_nodes (grow p v kids rest) bare h = absurd h
-  alike_nodes (grow p v kids rest) (grow q w more others) h =
-      let a = alike_nodes kids more h.2 in let b = alike_nodes rest others h.3 in omega (arith, a, b)
+  pub alike-nodes : (f g : Forest K V) → IsAlikeIn keeps f g → forest_nodes f ≡ forest_nodes g
+  alike-nodes bare bare h = refl
+  alike-nodes bare (grow q w more others) h = absurd h
+  alike-nodes (grow p v kids rest) bare h = absurd h
+  alike-nodes (grow p v kids rest) (grow q w more others) h =
+      let a = alike-nodes kids more h.2 in let b = alike-nodes rest others h.3 in omega (arith, a, b)
 
   module _ (cmp : K → K → Ordering) where
     -- what all begin above
-    pub alike_above : (x : K) (f g : Forest K V) → IsAlikeIn keeps f g → AllAbove cmp x f → AllAbove cmp x g
-    alike_above x bare bare h a = tt
-    alike_above x bare (grow q w more others) h a = absurd h
-    alike_above x (grow p v kids rest) bare h a = absurd h
-    alike_above x (grow [] v kids rest) (grow q w more others) h a = absurd a
-    alike_above x (grow (y ∷ p) v kids rest) (grow q w more others) h a = rw (← h.0) (a.0, alike_above x rest others h.3 a.1)
+    pub alike-above : (x : K) (f g : Forest K V) → IsAlikeIn keeps f g → AllAbove cmp x f → AllAbove cmp x g
+    alike-above x bare bare h a = tt
+    alike-above x bare (grow q w more others) h a = absurd h
+    alike-above x (grow p v kids rest) bare h a = absurd h
+    alike-above x (grow [] v kids rest) (grow q w more others) h a = absurd a
+    alike-above x (grow (y ∷ p) v kids rest) (grow q w more others) h a = rw (← h.0) (a.0, alike-above x rest others h.3 a.1)
 
     -- being canonical children
-    pub alike_children : (f g : Forest K V) → IsAlikeIn keeps f g → AreChildren cmp f → AreChildren cmp g
-    alike_children bare bare h a = tt
-    alike_children bare (grow q w more others) h a = absurd h
-    alike_children (grow p v kids rest) bare h a = absurd h
-    alike_children (grow [] v kids rest) (grow q w more others) h a = absurd a
-    alike_children (grow (y ∷ p) v kids rest) (grow q w more others) h a =
+    pub alike-children : (f g : Forest K V) → IsAlikeIn keeps f g → AreChildren cmp f → AreChildren cmp g
+    alike-children bare bare h a = tt
+    alike-children bare (grow q w more others) h a = absurd h
+    alike-children (grow p v kids rest) bare h a = absurd h
+    alike-children (grow [] v kids rest) (grow q w more others) h a = absurd a
+    alike-children (grow (y ∷ p) v kids rest) (grow q w more others) h a =
         rw (← h.0) (
-          alike_solid v w kids more h.1 h.2 a.0,
-          alike_children kids more h.2 a.1,
-          alike_above y rest others
+          alike-solid v w kids more h.1 h.2 a.0,
+          alike-children kids more h.2 a.1,
+          alike-above y rest others
               h.3 a.2,
-          alike_children rest others h.3 a.3,
+          alike-children rest others h.3 a.3,
         )
 
     -- being canonical
-    pub alike_canonical : (p : List K) (v w : Option V) (f g : Forest K V) → IsKept keeps v w → IsAlikeIn keeps f g
+    pub alike-canonical : (p : List K) (v w : Option V) (f g : Forest K V) → IsKept keeps v w → IsAlikeIn keeps f g
         → IsCanonical cmp (node p v f) → IsCanonical cmp (node p w g)
-    alike_canonical p v w f g k a h = (alike_whole p v w f g k a h.0, alike_children f g a h.1)
+    alike-canonical p v w f g k a h = (alike-whole p v w f g k a h.0, alike-children f g a h.1)
 
     -- and so of a tree
-    pub tree_alike_canonical : (t u : Tree K V) → IsAlike keeps t u → IsCanonical cmp t → IsCanonical cmp u
-    tree_alike_canonical t u h c = rw (← h.0) (alike_canonical t.prefix t.value u.value t.children u.children h.1 h.2 c)
+    pub tree-alike_canonical : (t u : Tree K V) → IsAlike keeps t u → IsCanonical cmp t → IsCanonical cmp u
+    tree-alike_canonical t u h c = rw (← h.0) (alike-canonical t.prefix t.value u.value t.children u.children h.1 h.2 c)
 
     -- what a node has at what is left of a key
-    pub kept_lookup : (o : Option (List K)) (v w : Option V) (f g : List K → Option V) → IsKept keeps v w
+    pub kept-lookup : (o : Option (List K)) (v w : Option V) (f g : List K → Option V) → IsKept keeps v w
         → ((k : List K) → IsKept keeps (f k) (g k)) → IsKept keeps (node_lookup v f o) (node_lookup w g o)
-    kept_lookup None v w f g h k = tt
-    kept_lookup (Some []) v w f g h k = h
-    kept_lookup (Some (x ∷ q)) v w f g h k = k (x ∷ q)
+    kept-lookup None v w f g h k = tt
+    kept-lookup (Some []) v w f g h k = h
+    kept-lookup (Some (x ∷ q)) v w f g h k = k (x ∷ q)
 
     -- the map
-    pub alike_lookup : (f g : Forest K V) → IsAlikeIn keeps f g → (k : List K)
+    pub alike-lookup : (f g : Forest K V) → IsAlikeIn keeps f g → (k : List K)
         → IsKept keeps (lookup_in cmp f k) (lookup_in cmp g k)
-    alike_lookup bare bare h k = tt
-    alike_lookup bare (grow q w more others) h k = absurd h
-    alike_lookup (grow p v kids rest) bare h k = absurd h
-    alike_lookup (grow p v kids rest) (grow q w more others) h k =
-        rw (← h.0) (kept_else keeps _ _ _ _ (kept_lookup (behind cmp p k) v w (lookup_in cmp kids)
-        (lookup_in cmp more) h.1 (alike_lookup kids more h.2)) (alike_lookup rest others h.3 k))
+    alike-lookup bare bare h k = tt
+    alike-lookup bare (grow q w more others) h k = absurd h
+    alike-lookup (grow p v kids rest) bare h k = absurd h
+    alike-lookup (grow p v kids rest) (grow q w more others) h k =
+        rw (← h.0) (kept-else keeps _ _ _ _ (kept-lookup (behind cmp p k) v w (lookup_in cmp kids)
+        (lookup_in cmp more) h.1 (alike-lookup kids more h.2)) (alike-lookup rest others h.3 k))
 
     -- the map of a tree
-    pub tree_alike_lookup : (t u : Tree K V) → IsAlike keeps t u → IsEqualMap keeps (lookup cmp t) (lookup cmp u)
-    tree_alike_lookup t u h k =
-        rw (← h.0) (kept_lookup (behind cmp t.prefix k) t.value u.value (lookup_in cmp t.children)
-        (lookup_in cmp u.children) h.1 (alike_lookup t.children u.children h.2))
+    pub tree-alike_lookup : (t u : Tree K V) → IsAlike keeps t u → IsEqualMap keeps (lookup cmp t) (lookup cmp u)
+    tree-alike_lookup t u h k =
+        rw (← h.0) (kept-lookup (behind cmp t.prefix k) t.value u.value (lookup_in cmp t.children)
+        (lookup_in cmp u.children) h.1 (alike-lookup t.children u.children h.2))
 
 -- ---- snapshots
 
 module _ {K V : Type 0} (is_clone : V → V → Type 0) where
   -- children behind pointers to one value are the same
-  shared_same : {R X : Type 0} (val : R → X) (list : X → List (Tree K V)) (o u : Option R)
+  shared-same : {R X : Type 0} (val : R → X) (list : X → List (Tree K V)) (o u : Option R)
       → IsKept (λ a b. val b ≡ val a) o u → shared_forest (λ r. list (val r)) u ≡ shared_forest (λ r. list (val r)) o
-  shared_same val list None None h = refl
-  shared_same val list (Some a) (Some b) h = ap (λ x. forest (list x)) h
-  shared_same val list None (Some b) h = absurd h
-  shared_same val list (Some a) None h = absurd h
+  shared-same val list None None h = refl
+  shared-same val list (Some a) (Some b) h = ap (λ x. forest (list x)) h
+  shared-same val list None (Some b) h = absurd h
+  shared-same val list (Some a) None h = absurd h
 
   -- a snapshot of a canonical tree is canonical
-  pub snapshot_canonical : {R X : Type 0} (val : R → X) (list : X → List (Tree K V)) (cmp : K → K → Ordering)
+  pub snapshot-canonical : {R X : Type 0} (val : R → X) (list : X → List (Tree K V)) (cmp : K → K → Ordering)
       (p q : List K) (v w : Option V) (o u : Option R)
       → q ≡ p → IsKept is_clone v w → IsKept (λ a b. val b ≡ val a) o u
       → IsCanonical cmp (node p v (shared_forest (λ r. list (val r)) o))
       → IsCanonical cmp (node q w (shared_forest (λ r. list (val r)) u))
-  snapshot_canonical val list cmp p q v w o u e k s h =
+  snapshot-canonical val list cmp p q v w o u e k s h =
       let kids = shared_forest (λ r. list (val r)) o in
-      rw (e, shared_same val list o u s) (kept_whole p v w kids k h.0, h.1)
+      rw (e, shared-same val list o u s) (kept-whole p v w kids k h.0, h.1)
     where
-      kept_whole : (p : List K) (v w : Option V) (kids : Forest K V) → IsKept is_clone v w → IsWhole p v kids
+      kept-whole : (p : List K) (v w : Option V) (kids : Forest K V) → IsKept is_clone v w → IsWhole p v kids
           → IsWhole p w kids
-      kept_whole [] None None kids k h = h
-      kept_whole [] (Some v) (Some w) kids k h = tt
-      kept_whole (x ∷ p) None None kids k h = h
-      kept_whole (x ∷ p) (Some v) (Some w) kids k h = tt
-      kept_whole p None (Some w) kids k h = absurd k
-      kept_whole p (Some v) None kids k h = absurd k
+      kept-whole [] None None kids k h = h
+      kept-whole [] (Some v) (Some w) kids k h = tt
+      kept-whole (x ∷ p) None None kids k h = h
+      kept-whole (x ∷ p) (Some v) (Some w) kids k h = tt
+      kept-whole p None (Some w) kids k h = absurd k
+      kept-whole p (Some v) None kids k h = absurd k

@@ -1,5 +1,5 @@
 -- Trees made of lists of pairs.
---     collected_none, collected_more, collected_next        of no pair, and of one more
+--     collected-none, collected-more, collected-next        of no pair, and of one more
 use Rattle.std.proofs.Common.{◌≡◌, [], ◌∷◌, ◌++◌, List, Option, None, Some, Bool, true, false, cond, refl, sym, ap, subst, ◌∙◌, map}
 use Rattle.std.proofs.lemmas.List.{map-append}
 use Rattle.std.specs.declared.cmp.Ordering.{Ordering}
@@ -11,8 +11,8 @@ use Rattle.vc_tree_model.specs.Pairs.{last_bound, IsCollected}
 
 module _ {K V : Type 0} (cmp : K → K → Ordering) where
   -- the empty tree binds what no pair binds
-  pub collected_none : IsCollected cmp [] (no_tree {K = K} {V = V})
-  collected_none k = nothing (behind cmp [] k)
+  pub collected-none : IsCollected cmp [] (no_tree {K = K} {V = V})
+  collected-none k = nothing (behind cmp [] k)
     where
       nothing : (left : Option (List K)) → node_lookup {K = K} {V = V} None (λ k. None) left ≡ None
       nothing None = refl
@@ -27,39 +27,39 @@ module _ {K V : Type 0} (cmp : K → K → Ordering) where
   -- one more pair comes before those that were there
   last_bound-push : (pairs : List (List K × V)) (b : List K × V) (k : List K)
       → last_bound cmp (pairs ++ b ∷ []) k ≡ or_else (cond (same_key cmp b.0 k) (Some b.1) None) (last_bound cmp pairs k)
-  last_bound-push [] b k = none_last (cond (same_key cmp b.0 k) (Some b.1) None)
+  last_bound-push [] b k = none-last (cond (same_key cmp b.0 k) (Some b.1) None)
     where
-      none_last : (o : Option V) → or_else None o ≡ or_else o None
-      none_last None = refl
-      none_last (Some v) = refl
+      none-last : (o : Option V) → or_else None o ≡ or_else o None
+      none-last None = refl
+      none-last (Some v) = refl
   last_bound-push (a ∷ pairs) b k =
       ap (λ o. or_else o (cond (same_key cmp a.0 k) (Some a.1) None)) (last_bound-push pairs b k)
       ∙ or_else-assoc (cond (same_key cmp b.0 k) (Some b.1) None) (last_bound cmp pairs k)
       (cond (same_key cmp a.0 k) (Some a.1) None)
 
   -- what is kept as it is, is the same
-  kept_same : (v w : Option V) → IsKept (λ v w. v ≡ w) v w → w ≡ v
-  kept_same None None h = refl
-  kept_same (Some v) (Some w) h = ap Some (sym h)
-  kept_same None (Some w) h = absurd h
-  kept_same (Some v) None h = absurd h
+  kept-same : (v w : Option V) → IsKept (λ v w. v ≡ w) v w → w ≡ v
+  kept-same None None h = refl
+  kept-same (Some v) (Some w) h = ap Some (sym h)
+  kept-same None (Some w) h = absurd h
+  kept-same (Some v) None h = absurd h
 
   -- a tree of pairs with one more key bound is one of one more pair
-  pub collected_more : (pairs : List (List K × V)) (b : List K × V) (t u : Tree K V) → IsCollected cmp pairs t
+  pub collected-more : (pairs : List (List K × V)) (b : List K × V) (t u : Tree K V) → IsCollected cmp pairs t
       → IsInserted cmp (λ v w. v ≡ w) b.0 b.1 t u → IsCollected cmp (pairs ++ b ∷ []) u
-  collected_more pairs b t u c i k =
+  collected-more pairs b t u c i k =
       by (same_key cmp b.0 k) refl ∙ sym (last_bound-push pairs b k)
     where
       by : (s : Bool) → same_key cmp b.0 k ≡ s
           → lookup cmp u k ≡ or_else (cond (same_key cmp b.0 k) (Some b.1) None) (last_bound cmp pairs k)
       by true s = rw s (i.at k s)
-      by false s = rw s (kept_same (lookup cmp t k) (lookup cmp u k) (i.others k s) ∙ c k)
+      by false s = rw s (kept-same (lookup cmp t k) (lookup cmp u k) (i.others k s) ∙ c k)
 
   -- the same where keys are read off what is handed in
-  pub collected_next : {S : Type 0} (key : S → List K) (pairs : List (S × V)) (b : S × V) (spelled : List K)
+  pub collected-next : {S : Type 0} (key : S → List K) (pairs : List (S × V)) (b : S × V) (spelled : List K)
       (t u : Tree K V) → spelled ≡ key b.0 → IsCollected cmp (map (λ b. (key b.0, b.1)) pairs) t
       → IsInserted cmp (λ v w. v ≡ w) spelled b.1 t u → IsCollected cmp (map (λ b. (key b.0, b.1)) (pairs ++ b ∷ [])) u
-  collected_next key pairs b spelled t u e c i =
+  collected-next key pairs b spelled t u e c i =
       rw (map-append {B = List K × V} (λ b. (key b.0, b.1)) pairs (b ∷ []))
-      (collected_more (map (λ b. (key b.0, b.1)) pairs) (key b.0, b.1) t u c
+      (collected-more (map (λ b. (key b.0, b.1)) pairs) (key b.0, b.1) t u c
       (subst (λ k. IsInserted cmp (λ v w. v ≡ w) k b.1 t u) e i))

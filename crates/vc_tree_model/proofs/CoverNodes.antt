@@ -1,7 +1,7 @@
 -- The cover of a key by the keys of a tree, from node to node along the key.
---     cover_equal, cover_none        the cover by equal maps, and by a map that binds nothing
---     cover_node        of a node, what is below it covers what is left behind its prefix, or else its own value does
---     cover_below        of children, the child covers that begins as the key does
+--     cover-equal, cover-none        the cover by equal maps, and by a map that binds nothing
+--     cover-node        of a node, what is below it covers what is left behind its prefix, or else its own value does
+--     cover-below        of children, the child covers that begins as the key does
 use Rattle.std.proofs.Common.{◌≡◌, [], ◌∷◌, List, Option, None, Some, refl, sym, ap, ◌∙◌, true, false, Bool, cond}
 use Rattle.std.specs.Ordering.{is_eq}
 use Rattle.std.specs.declared.cmp.Ordering.{Ordering}
@@ -12,18 +12,18 @@ use Rattle.vc_tree_model.proofs.ValueLemmas.{or_else-none}
 
 module _ {K W : Type 0} where
   -- equal maps give one cover
-  pub cover_equal : (f g : List K → Option W) → ((k : List K) → f k ≡ g k) → (k : List K) → cover f k ≡ cover g k
-  cover_equal f g e [] = e []
-  cover_equal f g e (x ∷ k) =
-      let below = cover_equal (λ r. f (x ∷ r)) (λ r. g (x ∷ r)) (λ r. e (x ∷ r)) k in
+  pub cover-equal : (f g : List K → Option W) → ((k : List K) → f k ≡ g k) → (k : List K) → cover f k ≡ cover g k
+  cover-equal f g e [] = e []
+  cover-equal f g e (x ∷ k) =
+      let below = cover-equal (λ r. f (x ∷ r)) (λ r. g (x ∷ r)) (λ r. e (x ∷ r)) k in
       let here = e [] in
       λ i. or_else (below i) (here i)
 
   -- a map that binds nothing covers nothing
-  pub cover_none : (f : List K → Option W) → ((k : List K) → f k ≡ None) → (k : List K) → cover f k ≡ None
-  cover_none f e [] = e []
-  cover_none f e (x ∷ k) =
-      let below = cover_none (λ r. f (x ∷ r)) (λ r. e (x ∷ r)) k in
+  pub cover-none : (f : List K → Option W) → ((k : List K) → f k ≡ None) → (k : List K) → cover f k ≡ None
+  cover-none f e [] = e []
+  cover-none f e (x ∷ k) =
+      let below = cover-none (λ r. f (x ∷ r)) (λ r. e (x ∷ r)) k in
       let here = e [] in
       λ i. or_else (below i) (here i)
 
@@ -33,32 +33,32 @@ module _ {K W : Type 0} where
   node_cover v f (Some left) = or_else (cover f left) v
 
   -- behind the empty prefix
-  cover_own : (v : Option W) (f : List K → Option W) → f [] ≡ None → (k : List K)
+  cover-own : (v : Option W) (f : List K → Option W) → f [] ≡ None → (k : List K)
       → cover (λ r. node_lookup v f (Some r)) k ≡ or_else (cover f k) v
-  cover_own v f e [] = ap (λ o. or_else o v) (sym e)
-  cover_own v f e (x ∷ k) =
+  cover-own v f e [] = ap (λ o. or_else o v) (sym e)
+  cover-own v f e (x ∷ k) =
       let behind_x = cover (λ r. f (x ∷ r)) k in
       ap (λ o. or_else o v) (sym (ap (or_else behind_x) e ∙ or_else-none behind_x))
 
   module _ (cmp : K → K → Ordering) where
     -- of a node, what is below it covers what is left behind its prefix, or else its own value does
-    pub cover_node : (v : Option W) (f : List K → Option W) → f [] ≡ None → (p k : List K)
+    pub cover-node : (v : Option W) (f : List K → Option W) → f [] ≡ None → (p k : List K)
         → cover (λ r. node_lookup v f (behind cmp p r)) k ≡ node_cover v f (behind cmp p k)
-    cover_node v f e [] k = cover_own v f e k
-    cover_node v f e (y ∷ p) [] = refl
-    cover_node v f e (y ∷ p) (x ∷ k) =
+    cover-node v f e [] k = cover-own v f e k
+    cover-node v f e (y ∷ p) [] = refl
+    cover-node v f e (y ∷ p) (x ∷ k) =
         or_else-none (cover (λ r. node_lookup v f (cond (is_eq (cmp y x)) (behind cmp p r) None)) k)
-        ∙ by (is_eq (cmp y x)) (cover_node v f e p k)
+        ∙ by (is_eq (cmp y x)) (cover-node v f e p k)
       where
         by : (b : Bool) → cover (λ r. node_lookup v f (behind cmp p r)) k ≡ node_cover v f (behind cmp p k)
             → cover (λ r. node_lookup v f (cond b (behind cmp p r) None)) k ≡ node_cover v f (cond b (behind cmp p k) None)
         by true h = h
-        by false h = cover_none (λ r. None) (λ r. refl) k
+        by false h = cover-none (λ r. None) (λ r. refl) k
 
   -- of maps that bind no empty key, those cover alike that bind alike behind the first component
-  pub cover_below : (f g : List K → Option W) (x : K) (k : List K) → f [] ≡ None → g [] ≡ None
+  pub cover-below : (f g : List K → Option W) (x : K) (k : List K) → f [] ≡ None → g [] ≡ None
       → ((r : List K) → f (x ∷ r) ≡ g (x ∷ r)) → cover f (x ∷ k) ≡ cover g (x ∷ k)
-  cover_below f g x k e h same =
-      let below = cover_equal (λ r. f (x ∷ r)) (λ r. g (x ∷ r)) same k in
+  cover-below f g x k e h same =
+      let below = cover-equal (λ r. f (x ∷ r)) (λ r. g (x ∷ r)) same k in
       let here = e ∙ sym h in
       λ i. or_else (below i) (here i)

@@ -1,6 +1,6 @@
 -- The cover of a key is the value of the longest key that is a prefix of it, and removal and retention part a map.
---     cover_is        the law of covers
---     removal_retention        each pair is removed or retained, and never both
+--     cover-is        the law of covers
+--     removal-retention        each pair is removed or retained, and never both
 use Rattle.std.proofs.Common.{◌≡◌, ◌≤◌, [], ◌∷◌, ◌++◌, List, Option, None, Some, length, refl, sym, ap, ◌∙◌, true, false, Bool, not, cond, true≢false, inl, inr, ◌⊎◌, subst, arith}
 use Rattle.std.specs.declared.cmp.Ordering.{Ordering}
 use Rattle.std.specs.Ordering.{is_eq}
@@ -9,52 +9,52 @@ use Rattle.vc_tree_model.specs.Key.{same_key, Starts}
 use Rattle.vc_tree_model.specs.Map.{or_else, lookup}
 use Rattle.vc_tree_model.specs.Cover.{cover, IsLongestCover, IsVerdict, IsSifted, StaysOrGoes, IsRemoved, IsRetained}
 use Rattle.vc_tree_model.specs.PrefixLaws.{IsInOne, CoverIsLongest}
-use Rattle.vc_tree_model.proofs.KeyLemmas.{none_some, both_true, same_itself, same_flip, same_trans}
-use Rattle.vc_tree_model.proofs.LookupLemmas.{lookup_same}
+use Rattle.vc_tree_model.proofs.KeyLemmas.{none-some, both-true, same-itself, same-flip, same-trans}
+use Rattle.vc_tree_model.proofs.LookupLemmas.{lookup-same}
 
 module _ {K : Type 0} (cmp : K → K → Ordering) (o : IsTotalOrder cmp) where
   -- two keys with one first component are equal where the others are
-  same_cons : (x : K) (j k : List K) → same_key cmp j k ≡ true → same_key cmp (x ∷ j) (x ∷ k) ≡ true
-  same_cons x j k h = rw (tied_itself o x) h
+  same-cons : (x : K) (j k : List K) → same_key cmp j k ≡ true → same_key cmp (x ∷ j) (x ∷ k) ≡ true
+  same-cons x j k h = rw (tied_itself o x) h
 
   -- the empty key is a prefix of each
-  empty_starts : (k : List K) → Starts cmp k []
-  empty_starts k = (k, same_itself cmp o k)
+  empty-starts : (k : List K) → Starts cmp k []
+  empty-starts k = (k, same-itself cmp o k)
 
   -- a prefix that goes on begins as the key does
-  starts_next : (x y : K) (k p : List K) → Starts cmp (x ∷ k) (y ∷ p) → (is_eq (cmp y x) ≡ true) × Starts cmp k p
-  starts_next x y k p s =
-      let both = both_true (is_eq (cmp y x)) (same_key cmp (p ++ s.0) k) s.1 in (both.0, (s.0, both.1))
+  starts-next : (x y : K) (k p : List K) → Starts cmp (x ∷ k) (y ∷ p) → (is_eq (cmp y x) ≡ true) × Starts cmp k p
+  starts-next x y k p s =
+      let both = both-true (is_eq (cmp y x)) (same_key cmp (p ++ s.0) k) s.1 in (both.0, (s.0, both.1))
 
   -- and the other way round
-  next_starts : (x : K) (k p : List K) → Starts cmp k p → Starts cmp (x ∷ k) (x ∷ p)
-  next_starts x k p s = (s.0, same_cons x (p ++ s.0) k s.1)
+  next-starts : (x : K) (k p : List K) → Starts cmp k p → Starts cmp (x ∷ k) (x ∷ p)
+  next-starts x k p s = (s.0, same-cons x (p ++ s.0) k s.1)
 
   -- of two equal keys the fronts of one length are equal
-  same_fronts : (p r s t : List K) → length p ≡ length r → same_key cmp (p ++ s) (r ++ t) ≡ true
+  same-fronts : (p r s t : List K) → length p ≡ length r → same_key cmp (p ++ s) (r ++ t) ≡ true
       → same_key cmp p r ≡ true
-  same_fronts [] [] s t e h = refl
-  same_fronts [] (y ∷ r) s t e h = absurd (omega (arith, e))
-  same_fronts (x ∷ p) [] s t e h = absurd (omega (arith, e))
-  same_fronts (x ∷ p) (y ∷ r) s t e h =
-      let both = both_true (is_eq (cmp x y)) (same_key cmp (p ++ s) (r ++ t)) h in
-      ap (λ b. cond b (same_key cmp p r) false) both.0 ∙ same_fronts p r s t (omega (arith, e)) both.1
+  same-fronts [] [] s t e h = refl
+  same-fronts [] (y ∷ r) s t e h = absurd (omega (arith, e))
+  same-fronts (x ∷ p) [] s t e h = absurd (omega (arith, e))
+  same-fronts (x ∷ p) (y ∷ r) s t e h =
+      let both = both-true (is_eq (cmp x y)) (same_key cmp (p ++ s) (r ++ t)) h in
+      ap (λ b. cond b (same_key cmp p r) false) both.0 ∙ same-fronts p r s t (omega (arith, e)) both.1
 
   -- two prefixes of one key and of one length are equal
-  same_prefixes : (k p r : List K) → Starts cmp k p → Starts cmp k r → length p ≡ length r → same_key cmp p r ≡ true
-  same_prefixes k p r s t e =
-      same_fronts p r s.0 t.0 e
-      (same_trans cmp o (p ++ s.0) k (r ++ t.0) s.1 (same_flip cmp o k (r ++ t.0) ∙ t.1))
+  same-prefixes : (k p r : List K) → Starts cmp k p → Starts cmp k r → length p ≡ length r → same_key cmp p r ≡ true
+  same-prefixes k p r s t e =
+      same-fronts p r s.0 t.0 e
+      (same-trans cmp o (p ++ s.0) k (r ++ t.0) s.1 (same-flip cmp o k (r ++ t.0) ∙ t.1))
 
 -- neither of two is there where the first of them that is there is none
-else_none : {W : Type 0} (a b : Option W) → or_else a b ≡ None → (a ≡ None) × (b ≡ None)
-else_none None b e = (refl, e)
-else_none (Some w) b e = cc
+else-none : {W : Type 0} (a b : Option W) → or_else a b ≡ None → (a ≡ None) × (b ≡ None)
+else-none None b e = (refl, e)
+else-none (Some w) b e = cc
 
 -- the first of two that is there
-else_some : {W : Type 0} (a b : Option W) (w : W) → or_else a b ≡ Some w → (a ≡ Some w) ⊎ ((a ≡ None) × (b ≡ Some w))
-else_some None b w e = inr (refl, e)
-else_some (Some u) b w e = inl e
+else-some : {W : Type 0} (a b : Option W) (w : W) → or_else a b ≡ Some w → (a ≡ Some w) ⊎ ((a ≡ None) × (b ≡ Some w))
+else-some None b w e = inr (refl, e)
+else-some (Some u) b w e = inl e
 
 module _ {K W : Type 0} (cmp : K → K → Ordering) (o : IsTotalOrder cmp) where
   -- a map has one value at equal keys
@@ -62,109 +62,109 @@ module _ {K W : Type 0} (cmp : K → K → Ordering) (o : IsTotalOrder cmp) wher
   Respects q = (j k : List K) → same_key cmp j k ≡ true → q j ≡ q k
 
   -- the map behind a component has one value at equal keys too
-  respects_behind : (q : List K → Option W) → Respects q → (x : K) → Respects (λ rest. q (x ∷ rest))
-  respects_behind q r x j k h = r (x ∷ j) (x ∷ k) (same_cons cmp o x j k h)
+  respects-behind : (q : List K → Option W) → Respects q → (x : K) → Respects (λ rest. q (x ∷ rest))
+  respects-behind q r x j k h = r (x ∷ j) (x ∷ k) (same-cons cmp o x j k h)
 
   -- at a prefix that goes on the map has what it has behind the key's own first component
   respelled : (q : List K → Option W) → Respects q → (x y : K) (p : List K) → is_eq (cmp y x) ≡ true
       → q (y ∷ p) ≡ q (x ∷ p)
-  respelled q r x y p e = r (y ∷ p) (x ∷ p) (ap (λ b. cond b (same_key cmp p p) false) e ∙ same_itself cmp o p)
+  respelled q r x y p e = r (y ∷ p) (x ∷ p) (ap (λ b. cond b (same_key cmp p p) false) e ∙ same-itself cmp o p)
 
   -- where a key has no cover, none of its prefixes is bound
   uncovered : (q : List K → Option W) → Respects q → (k p : List K) → cover q k ≡ None → Starts cmp k p → q p ≡ None
   uncovered q r [] [] e s = e
   uncovered q r [] (y ∷ p) e s = absurd (true≢false (sym s.1))
-  uncovered q r (x ∷ k) [] e s = (else_none (cover (λ rest. q (x ∷ rest)) k) (q []) e).1
+  uncovered q r (x ∷ k) [] e s = (else-none (cover (λ rest. q (x ∷ rest)) k) (q []) e).1
   uncovered q r (x ∷ k) (y ∷ p) e s =
-      let next = starts_next cmp o x y k p s in
-      let none = (else_none (cover (λ rest. q (x ∷ rest)) k) (q []) e).0 in
-      respelled q r x y p next.0 ∙ uncovered (λ rest. q (x ∷ rest)) (respects_behind q r x) k p none next.1
+      let next = starts-next cmp o x y k p s in
+      let none = (else-none (cover (λ rest. q (x ∷ rest)) k) (q []) e).0 in
+      respelled q r x y p next.0 ∙ uncovered (λ rest. q (x ∷ rest)) (respects-behind q r x) k p none next.1
 
   -- a longest cover behind a component is one with the component before it
-  longest_next : (q : List K → Option W) → Respects q → (x : K) (k p : List K) (w : W)
+  longest-next : (q : List K → Option W) → Respects q → (x : K) (k p : List K) (w : W)
       → IsLongestCover cmp (λ rest. q (x ∷ rest)) k p w → IsLongestCover cmp q (x ∷ k) (x ∷ p) w
-  longest_next q r x k p w l = record { prefix = next_starts cmp o x k p l.prefix; bound = l.bound; longest = by }
+  longest-next q r x k p w l = record { prefix = next-starts cmp o x k p l.prefix; bound = l.bound; longest = by }
     where
       by : (j : List K) (u : W) → Starts cmp (x ∷ k) j → q j ≡ Some u → length j ≤ length (x ∷ p)
       by [] u s b = omega arith
       by (y ∷ j) u s b =
-          let next = starts_next cmp o x y k j s in
+          let next = starts-next cmp o x y k j s in
           let most = l.longest j u next.1 (sym (respelled q r x y j next.0) ∙ b) in
           omega (arith, most)
 
   -- where no longer prefix is bound, the empty key is the longest
-  longest_empty : (q : List K → Option W) → Respects q → (x : K) (k : List K) (w : W)
+  longest-empty : (q : List K → Option W) → Respects q → (x : K) (k : List K) (w : W)
       → cover (λ rest. q (x ∷ rest)) k ≡ None → q [] ≡ Some w → IsLongestCover cmp q (x ∷ k) [] w
-  longest_empty q r x k w e b = record { prefix = empty_starts cmp o (x ∷ k); bound = b; longest = by }
+  longest-empty q r x k w e b = record { prefix = empty-starts cmp o (x ∷ k); bound = b; longest = by }
     where
       by : (j : List K) (u : W) → Starts cmp (x ∷ k) j → q j ≡ Some u → length j ≤ 0
       by [] u s b = omega arith
       by (y ∷ j) u s b =
-          let next = starts_next cmp o x y k j s in
-          none_some u
-          (sym (respelled q r x y j next.0 ∙ uncovered (λ rest. q (x ∷ rest)) (respects_behind q r x) k j e next.1) ∙ b)
+          let next = starts-next cmp o x y k j s in
+          none-some u
+          (sym (respelled q r x y j next.0 ∙ uncovered (λ rest. q (x ∷ rest)) (respects-behind q r x) k j e next.1) ∙ b)
 
   -- no key but the empty one is a prefix of the empty key
-  only_empty : (q : List K → Option W) (j : List K) (u : W) → Starts cmp [] j → q j ≡ Some u → length j ≤ 0
-  only_empty q [] u s b = omega arith
-  only_empty q (y ∷ j) u s b = absurd (true≢false (sym s.1))
+  only-empty : (q : List K → Option W) (j : List K) (u : W) → Starts cmp [] j → q j ≡ Some u → length j ≤ 0
+  only-empty q [] u s b = omega arith
+  only-empty q (y ∷ j) u s b = absurd (true≢false (sym s.1))
 
   -- a cover is the value of a longest key
   longest : (q : List K → Option W) → Respects q → (k : List K) (w : W) → cover q k ≡ Some w
       → (p : List K) × IsLongestCover cmp q k p w
-  longest q r [] w e = ([], record { prefix = ([], refl); bound = e; longest = only_empty q })
+  longest q r [] w e = ([], record { prefix = ([], refl); bound = e; longest = only-empty q })
   longest q r (x ∷ k) w e =
-      elim (else_some (cover (λ rest. q (x ∷ rest)) k) (q []) w e) [
-        | inl h ↦ (let found = longest (λ rest. q (x ∷ rest)) (respects_behind q r x) k w h in
-            (x ∷ found.0, longest_next q r x k found.0 w found.1))
-        | inr h ↦ ([], longest_empty q r x k w h.0 h.1)
+      elim (else-some (cover (λ rest. q (x ∷ rest)) k) (q []) w e) [
+        | inl h ↦ (let found = longest (λ rest. q (x ∷ rest)) (respects-behind q r x) k w h in
+            (x ∷ found.0, longest-next q r x k found.0 w found.1))
+        | inr h ↦ ([], longest-empty q r x k w h.0 h.1)
       ]
 
   -- the value of a longest key is the cover
-  longest_covers : (q : List K → Option W) → Respects q → (k p : List K) (w : W) → IsLongestCover cmp q k p w
+  longest-covers : (q : List K → Option W) → Respects q → (k p : List K) (w : W) → IsLongestCover cmp q k p w
       → cover q k ≡ Some w
-  longest_covers q r k p w l = by (cover q k) refl
+  longest-covers q r k p w l = by (cover q k) refl
     where
       by : (c : Option W) → cover q k ≡ c → cover q k ≡ Some w
-      by None e = none_some w (sym (uncovered q r k p e l.prefix) ∙ l.bound)
+      by None e = none-some w (sym (uncovered q r k p e l.prefix) ∙ l.bound)
       by (Some u) e =
           let found = longest q r k u e in
           let most = l.longest found.0 u found.1.prefix found.1.bound in
           let least = found.1.longest p w l.prefix l.bound in
           let long : length found.0 ≡ length p = omega (arith, most, least) in
-          let same = r found.0 p (same_prefixes cmp o k found.0 p found.1.prefix l.prefix long) in
+          let same = r found.0 p (same-prefixes cmp o k found.0 p found.1.prefix l.prefix long) in
           e ∙ sym found.1.bound ∙ same ∙ l.bound
 
   -- the cover of a key is the value of the longest key that is a prefix of it
-  pub cover_is : CoverIsLongest K W cmp
-  cover_is t k w = (
-    longest (lookup cmp t) (lookup_same cmp o t) k w,
-    λ l. longest_covers (lookup cmp t) (lookup_same cmp o t) k l.0 w l.1,
+  pub cover-is : CoverIsLongest K W cmp
+  cover-is t k w = (
+    longest (lookup cmp t) (lookup-same cmp o t) k w,
+    λ l. longest-covers (lookup cmp t) (lookup-same cmp o t) k l.0 w l.1,
   )
 
 module _ {V W : Type 0} (keeps : V → V → Type 0) (answer : W → Bool) where
   -- the verdicts that the test allows are one
-  one_verdict : (c : Option W) (a b : Bool) → IsVerdict (λ w b. b ≡ answer w) c a
+  one-verdict : (c : Option W) (a b : Bool) → IsVerdict (λ w b. b ≡ answer w) c a
       → IsVerdict (λ w b. b ≡ answer w) c b → a ≡ b
-  one_verdict None a b p q = p ∙ sym q
-  one_verdict (Some w) a b p q = p ∙ sym q
+  one-verdict None a b p q = p ∙ sym q
+  one-verdict (Some w) a b p q = p ∙ sym q
 
   -- by one verdict a value stays in one of two, and goes from the other
-  by_verdict : (b : Bool) (v : V) (y z : Option V) → StaysOrGoes keeps (not b) v y → StaysOrGoes keeps b v z
+  by-verdict : (b : Bool) (v : V) (y z : Option V) → StaysOrGoes keeps (not b) v y → StaysOrGoes keeps b v z
       → IsInOne keeps (Some v) y z
-  by_verdict true v y z left kept = inr (left, kept)
-  by_verdict false v y z left kept = inl (left, kept)
+  by-verdict true v y z left kept = inr (left, kept)
+  by-verdict false v y z left kept = inl (left, kept)
 
   -- at one key
-  in_one : (c : Option W) (v y z : Option V) → IsSifted keeps (λ w b. b ≡ answer w) not c v y
+  in-one : (c : Option W) (v y z : Option V) → IsSifted keeps (λ w b. b ≡ answer w) not c v y
       → IsSifted keeps (λ w b. b ≡ answer w) (λ b. b) c v z → IsInOne keeps v y z
-  in_one c None y z left kept = (left, kept)
-  in_one c (Some v) y z left kept =
-      let same = one_verdict c kept.0 left.0 kept.1 left.1 in
-      by_verdict left.0 v y z left.2 (subst (λ b. StaysOrGoes keeps b v z) same kept.2)
+  in-one c None y z left kept = (left, kept)
+  in-one c (Some v) y z left kept =
+      let same = one-verdict c kept.0 left.0 kept.1 left.1 in
+      by-verdict left.0 v y z left.2 (subst (λ b. StaysOrGoes keeps b v z) same kept.2)
 
   -- each pair is removed or retained, and never both
-  pub removal_retention : {K : Type 0} (q : List K → Option W) (f left kept : List K → Option V)
+  pub removal-retention : {K : Type 0} (q : List K → Option W) (f left kept : List K → Option V)
       → IsRemoved keeps (λ w b. b ≡ answer w) q f left → IsRetained keeps (λ w b. b ≡ answer w) q f kept
       → (k : List K) → IsInOne keeps (f k) (left k) (kept k)
-  removal_retention q f left kept r s k = in_one (cover q k) (f k) (left k) (kept k) (r k) (s k)
+  removal-retention q f left kept r s k = in-one (cover q k) (f k) (left k) (kept k) (r k) (s k)

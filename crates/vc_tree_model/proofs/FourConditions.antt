@@ -1,7 +1,7 @@
 -- The form from node to children says what the conditions on all nodes say.
---     meets_ordered        the two conditions on prefixes
---     canonical_meets, meets_canonical        all four
---     canonical_conditions        both ways
+--     meets-ordered        the two conditions on prefixes
+--     canonical-meets, meets-canonical        all four
+--     canonical-conditions        both ways
 use Rattle.std.proofs.Common.{◌≡◌, ◌≢◌, ℕ, suc, ◌<◌, [], ◌∷◌, List, length, get_or, Option, None, Some, refl, sym, ap, ◌∙◌, subst, true, true≢false, inl, inr, ◌↔◌, suc-le-suc, not-suc-le-zero, arith}
 use Rattle.std.specs.Prelude.{All, AllPairs, IsNone}
 use Rattle.std.proofs.lemmas.List.Elements.{All-cons, All-nil}
@@ -11,73 +11,73 @@ use Rattle.vc_tree_model.specs.Key.{BeginsBelow}
 use Rattle.vc_tree_model.specs.Tree.{Tree, Forest, bare, grow, node, trees, lacks_both, is_bare}
 use Rattle.vc_tree_model.specs.Canonical.{AllAbove, AreOrdered, AreChildren, IsSolid, IsWhole, IsCanonical}
 use Rattle.vc_tree_model.specs.Conditions.{IsBelow, BareIsWhole, HavePrefixes, ChildrenAscend, NoLoneChild, MeetsConditions, IsOrdered}
-use Rattle.vc_tree_model.proofs.LookupLemmas.{children_ordered}
+use Rattle.vc_tree_model.proofs.LookupLemmas.{children-ordered}
 
 module _ {K V : Type 0} where
   -- ---- one node
 
   -- a solid node has a value or a child
-  solid_not_bare : (v : Option V) (f : Forest K V) → IsSolid v f → lacks_both v f ≡ true → ⊥
-  solid_not_bare (Some v) f s h = true≢false (sym h)
-  solid_not_bare None bare s h = s
-  solid_not_bare None (grow p v kids rest) s h = true≢false (sym h)
+  solid-not_bare : (v : Option V) (f : Forest K V) → IsSolid v f → lacks_both v f ≡ true → ⊥
+  solid-not_bare (Some v) f s h = true≢false (sym h)
+  solid-not_bare None bare s h = s
+  solid-not_bare None (grow p v kids rest) s h = true≢false (sym h)
 
   -- a solid node without a value has no lone child
-  solid_not_lone : (v : Option V) (f : Forest K V) → IsSolid v f → IsNone v → length (trees f) ≢ 1
-  solid_not_lone (Some v) f s n e = true≢false n
-  solid_not_lone None bare s n e = s
-  solid_not_lone None (grow p v kids bare) s n e = s
-  solid_not_lone None (grow p v kids (grow q w more rest)) s n e = omega (arith, e)
+  solid-not_lone : (v : Option V) (f : Forest K V) → IsSolid v f → IsNone v → length (trees f) ≢ 1
+  solid-not_lone (Some v) f s n e = true≢false n
+  solid-not_lone None bare s n e = s
+  solid-not_lone None (grow p v kids bare) s n e = s
+  solid-not_lone None (grow p v kids (grow q w more rest)) s n e = omega (arith, e)
 
   -- a node is solid where it has a value or a child, and no lone child without a value
-  solid_from : (v : Option V) (f : Forest K V) → (lacks_both v f ≡ true → ⊥) → (IsNone v → length (trees f) ≢ 1)
+  solid-from : (v : Option V) (f : Forest K V) → (lacks_both v f ≡ true → ⊥) → (IsNone v → length (trees f) ≢ 1)
       → IsSolid v f
-  solid_from (Some v) f b l = tt
-  solid_from None bare b l = b refl
-  solid_from None (grow p v kids bare) b l = l refl refl
-  solid_from None (grow p v kids (grow q w more rest)) b l = tt
+  solid-from (Some v) f b l = tt
+  solid-from None bare b l = b refl
+  solid-from None (grow p v kids bare) b l = l refl refl
+  solid-from None (grow p v kids (grow q w more rest)) b l = tt
 
   -- a node that lacks both has no children
-  bare_from : (v : Option V) (f : Forest K V) → lacks_both v f ≡ true → f ≡ bare
-  bare_from (Some v) f h = absurd (true≢false (sym h))
-  bare_from None bare h = refl
-  bare_from None (grow p v kids rest) h = absurd (true≢false (sym h))
+  bare-from : (v : Option V) (f : Forest K V) → lacks_both v f ≡ true → f ≡ bare
+  bare-from (Some v) f h = absurd (true≢false (sym h))
+  bare-from None bare h = refl
+  bare-from None (grow p v kids rest) h = absurd (true≢false (sym h))
 
   -- ---- what holds of each tree of a list and of all below
 
   -- a fact on the parts of a node holds of the node that has them
-  on_node : (P : List K → Option V → Forest K V → Type 0) (n : Tree K V) (p : List K) (v : Option V) (f : Forest K V)
+  on-node : (P : List K → Option V → Forest K V → Type 0) (n : Tree K V) (p : List K) (v : Option V) (f : Forest K V)
       → n ≡ node p v f → P p v f → P n.prefix n.value n.children
-  on_node P n p v f e h = subst (λ m. P m.prefix m.value m.children) (sym e) h
+  on-node P n p v f e h = subst (λ m. P m.prefix m.value m.children) (sym e) h
 
   module _ (cmp : K → K → Ordering) where
     -- no prefix below is empty
-    below_prefix : (f : Forest K V) → AreOrdered cmp f → (n : Tree K V) → IsBelow n f → n.prefix ≢ []
-    below_prefix bare a n b = absurd b
-    below_prefix (grow [] v kids rest) a n b = absurd a
-    below_prefix (grow (x ∷ p) v kids rest) a n (inl (inl e)) = λ h. cons_not_nil (sym (ap (λ m. m.prefix) e) ∙ h)
+    below-prefix : (f : Forest K V) → AreOrdered cmp f → (n : Tree K V) → IsBelow n f → n.prefix ≢ []
+    below-prefix bare a n b = absurd b
+    below-prefix (grow [] v kids rest) a n b = absurd a
+    below-prefix (grow (x ∷ p) v kids rest) a n (inl (inl e)) = λ h. cons-not_nil (sym (ap (λ m. m.prefix) e) ∙ h)
       where
-        cons_not_nil : x ∷ p ≡ [] → ⊥
-        cons_not_nil h = cc
-    below_prefix (grow (x ∷ p) v kids rest) a n (inl (inr b)) = below_prefix kids a.0 n b
-    below_prefix (grow (x ∷ p) v kids rest) a n (inr b) = below_prefix rest a.2 n b
+        cons-not_nil : x ∷ p ≡ [] → ⊥
+        cons-not_nil h = cc
+    below-prefix (grow (x ∷ p) v kids rest) a n (inl (inr b)) = below-prefix kids a.0 n b
+    below-prefix (grow (x ∷ p) v kids rest) a n (inr b) = below-prefix rest a.2 n b
 
     -- the children of each node below are in order
-    below_ordered : (f : Forest K V) → AreOrdered cmp f → (n : Tree K V) → IsBelow n f → AreOrdered cmp n.children
-    below_ordered bare a n b = absurd b
-    below_ordered (grow [] v kids rest) a n b = absurd a
-    below_ordered (grow (x ∷ p) v kids rest) a n (inl (inl e)) =
-        on_node (λ p v f. AreOrdered cmp f) n (x ∷ p) v kids e a.0
-    below_ordered (grow (x ∷ p) v kids rest) a n (inl (inr b)) = below_ordered kids a.0 n b
-    below_ordered (grow (x ∷ p) v kids rest) a n (inr b) = below_ordered rest a.2 n b
+    below-ordered : (f : Forest K V) → AreOrdered cmp f → (n : Tree K V) → IsBelow n f → AreOrdered cmp n.children
+    below-ordered bare a n b = absurd b
+    below-ordered (grow [] v kids rest) a n b = absurd a
+    below-ordered (grow (x ∷ p) v kids rest) a n (inl (inl e)) =
+        on-node (λ p v f. AreOrdered cmp f) n (x ∷ p) v kids e a.0
+    below-ordered (grow (x ∷ p) v kids rest) a n (inl (inr b)) = below-ordered kids a.0 n b
+    below-ordered (grow (x ∷ p) v kids rest) a n (inr b) = below-ordered rest a.2 n b
 
     -- each node below is solid
-    below_solid : (f : Forest K V) → AreChildren cmp f → (n : Tree K V) → IsBelow n f → IsSolid n.value n.children
-    below_solid bare a n b = absurd b
-    below_solid (grow [] v kids rest) a n b = absurd a
-    below_solid (grow (x ∷ p) v kids rest) a n (inl (inl e)) = on_node (λ p v f. IsSolid v f) n (x ∷ p) v kids e a.0
-    below_solid (grow (x ∷ p) v kids rest) a n (inl (inr b)) = below_solid kids a.1 n b
-    below_solid (grow (x ∷ p) v kids rest) a n (inr b) = below_solid rest a.3 n b
+    below-solid : (f : Forest K V) → AreChildren cmp f → (n : Tree K V) → IsBelow n f → IsSolid n.value n.children
+    below-solid bare a n b = absurd b
+    below-solid (grow [] v kids rest) a n b = absurd a
+    below-solid (grow (x ∷ p) v kids rest) a n (inl (inl e)) = on-node (λ p v f. IsSolid v f) n (x ∷ p) v kids e a.0
+    below-solid (grow (x ∷ p) v kids rest) a n (inl (inr b)) = below-solid kids a.1 n b
+    below-solid (grow (x ∷ p) v kids rest) a n (inr b) = below-solid rest a.3 n b
 
     -- ---- siblings that ascend
 
@@ -86,137 +86,137 @@ module _ {K V : Type 0} where
     Ascends c d = BeginsBelow cmp c.prefix d.prefix
 
     -- what begins with x begins below each tree above x
-    above_all : (c : Tree K V) (x : K) (p : List K) (f : Forest K V) → c.prefix ≡ x ∷ p → AllAbove cmp x f
+    above-all : (c : Tree K V) (x : K) (p : List K) (f : Forest K V) → c.prefix ≡ x ∷ p → AllAbove cmp x f
         → All (Ascends c) (trees f)
-    above_all c x p bare e a = All-nil (Ascends c)
-    above_all c x p (grow [] v kids rest) e a = absurd a
-    above_all c x p (grow (y ∷ q) v kids rest) e a =
-        All-cons (Ascends c) (node (y ∷ q) v kids) (trees rest) (rw e a.0) (above_all c x p rest e a.1)
+    above-all c x p bare e a = All-nil (Ascends c)
+    above-all c x p (grow [] v kids rest) e a = absurd a
+    above-all c x p (grow (y ∷ q) v kids rest) e a =
+        All-cons (Ascends c) (node (y ∷ q) v kids) (trees rest) (rw e a.0) (above-all c x p rest e a.1)
 
     -- trees in order ascend
-    ordered_ascend : (f : Forest K V) → AreOrdered cmp f → AllPairs Ascends (trees f)
-    ordered_ascend bare a = λ i j d l m. absurd (not-suc-le-zero m)
-    ordered_ascend (grow [] v kids rest) a = absurd a
-    ordered_ascend (grow (x ∷ p) v kids rest) a =
-        AllPairs-cons Ascends (node (x ∷ p) v kids) (trees rest) (above_all (node (x ∷ p) v kids) x p rest refl a.1)
-        (ordered_ascend rest a.2)
+    ordered-ascend : (f : Forest K V) → AreOrdered cmp f → AllPairs Ascends (trees f)
+    ordered-ascend bare a = λ i j d l m. absurd (not-suc-le-zero m)
+    ordered-ascend (grow [] v kids rest) a = absurd a
+    ordered-ascend (grow (x ∷ p) v kids rest) a =
+        AllPairs-cons Ascends (node (x ∷ p) v kids) (trees rest) (above-all (node (x ∷ p) v kids) x p rest refl a.1)
+        (ordered-ascend rest a.2)
 
     -- trees that all begin above x, where no prefix is empty
-    all_above : (x : K) (p : List K) (f : Forest K V) → ((n : Tree K V) → IsBelow n f → n.prefix ≢ [])
+    all-above : (x : K) (p : List K) (f : Forest K V) → ((n : Tree K V) → IsBelow n f → n.prefix ≢ [])
         → ((j : ℕ) (d : Tree K V) → j < length (trees f) → BeginsBelow cmp (x ∷ p) (get_or (trees f) j d).prefix)
         → AllAbove cmp x f
-    all_above x p bare e h = tt
-    all_above x p (grow [] v kids rest) e h = absurd (e (node [] v kids) (inl (inl refl)) refl)
-    all_above x p (grow (y ∷ q) v kids rest) e h = (
+    all-above x p bare e h = tt
+    all-above x p (grow [] v kids rest) e h = absurd (e (node [] v kids) (inl (inl refl)) refl)
+    all-above x p (grow (y ∷ q) v kids rest) e h = (
       h 0 (node (y ∷ q) v kids) (omega arith),
-      all_above x p rest (λ n b. e n (inr b)) (λ j d l. h (suc j) d (suc-le-suc l)),
+      all-above x p rest (λ n b. e n (inr b)) (λ j d l. h (suc j) d (suc-le-suc l)),
     )
 
     -- trees are in order where no prefix below is empty, and siblings ascend everywhere
-    ordered_from : (f : Forest K V) → ((n : Tree K V) → IsBelow n f → n.prefix ≢ []) → AllPairs Ascends (trees f)
+    ordered-from : (f : Forest K V) → ((n : Tree K V) → IsBelow n f → n.prefix ≢ []) → AllPairs Ascends (trees f)
         → ((n : Tree K V) → IsBelow n f → AllPairs Ascends (trees n.children)) → AreOrdered cmp f
-    ordered_from bare e a h = tt
-    ordered_from (grow [] v kids rest) e a h = absurd (e (node [] v kids) (inl (inl refl)) refl)
-    ordered_from (grow (x ∷ p) v kids rest) e a h = (
-      ordered_from kids (λ n b. e n (inl (inr b))) (h (node (x ∷ p) v kids) (inl (inl refl)))
+    ordered-from bare e a h = tt
+    ordered-from (grow [] v kids rest) e a h = absurd (e (node [] v kids) (inl (inl refl)) refl)
+    ordered-from (grow (x ∷ p) v kids rest) e a h = (
+      ordered-from kids (λ n b. e n (inl (inr b))) (h (node (x ∷ p) v kids) (inl (inl refl)))
           (λ n b. h n (inl (inr b))),
-      all_above x p rest (λ n b. e n (inr b)) (λ j d l. a 0 (suc j) d (omega arith) (suc-le-suc l)),
-      ordered_from rest (λ n b. e n (inr b)) (λ i j d l m. a (suc i) (suc j) d (suc-le-suc l) (suc-le-suc m))
+      all-above x p rest (λ n b. e n (inr b)) (λ j d l. a 0 (suc j) d (omega arith) (suc-le-suc l)),
+      ordered-from rest (λ n b. e n (inr b)) (λ i j d l m. a (suc i) (suc j) d (suc-le-suc l) (suc-le-suc m))
           (λ n b. h n (inr b)),
     )
 
     -- trees in order whose nodes are all solid are canonical children
-    children_from : (f : Forest K V) → AreOrdered cmp f → ((n : Tree K V) → IsBelow n f → IsSolid n.value n.children)
+    children-from : (f : Forest K V) → AreOrdered cmp f → ((n : Tree K V) → IsBelow n f → IsSolid n.value n.children)
         → AreChildren cmp f
-    children_from bare a s = tt
-    children_from (grow [] v kids rest) a s = absurd a
-    children_from (grow (x ∷ p) v kids rest) a s = (
+    children-from bare a s = tt
+    children-from (grow [] v kids rest) a s = absurd a
+    children-from (grow (x ∷ p) v kids rest) a s = (
       s (node (x ∷ p) v kids) (inl (inl refl)),
-      children_from kids a.0 (λ n b. s n (inl (inr b))),
+      children-from kids a.0 (λ n b. s n (inl (inr b))),
       a.1,
-      children_from rest a.2 (λ n b. s n (inr b)),
+      children-from rest a.2 (λ n b. s n (inr b)),
     )
 
     -- ---- the two conditions on prefixes
 
     -- where children are in order, no prefix is empty
-    ordered_prefixes : (t : Tree K V) → AreOrdered cmp t.children → HavePrefixes t
-    ordered_prefixes t a c b = below_prefix t.children a c b
+    ordered-prefixes : (t : Tree K V) → AreOrdered cmp t.children → HavePrefixes t
+    ordered-prefixes t a c b = below-prefix t.children a c b
 
     -- and siblings ascend
-    ordered_ascending : (t : Tree K V) → AreOrdered cmp t.children → ChildrenAscend cmp t
-    ordered_ascending t a n (inl e) =
-        ordered_ascend n.children (on_node (λ p v f. AreOrdered cmp f) n t.prefix t.value t.children e a)
-    ordered_ascending t a n (inr b) = ordered_ascend n.children (below_ordered t.children a n b)
+    ordered-ascending : (t : Tree K V) → AreOrdered cmp t.children → ChildrenAscend cmp t
+    ordered-ascending t a n (inl e) =
+        ordered-ascend n.children (on-node (λ p v f. AreOrdered cmp f) n t.prefix t.value t.children e a)
+    ordered-ascending t a n (inr b) = ordered-ascend n.children (below-ordered t.children a n b)
 
     -- where both are met, children are in order
-    pub meets_ordered : (t : Tree K V) → IsOrdered cmp t → AreOrdered cmp t.children
-    meets_ordered t m = ordered_from t.children m.prefixes (m.ascending t (inl refl)) (λ n b. m.ascending n (inr b))
+    pub meets-ordered : (t : Tree K V) → IsOrdered cmp t → AreOrdered cmp t.children
+    meets-ordered t m = ordered-from t.children m.prefixes (m.ascending t (inl refl)) (λ n b. m.ascending n (inr b))
 
     -- ---- all four conditions
 
     -- a whole tree that lacks both has an empty prefix
-    whole_prefix : (p : List K) (v : Option V) (f : Forest K V) → IsWhole p v f → lacks_both v f ≡ true → p ≡ []
-    whole_prefix [] v f w h = refl
-    whole_prefix (x ∷ p) v f w h = absurd (solid_not_bare v f w h)
+    whole-prefix : (p : List K) (v : Option V) (f : Forest K V) → IsWhole p v f → lacks_both v f ≡ true → p ≡ []
+    whole-prefix [] v f w h = refl
+    whole-prefix (x ∷ p) v f w h = absurd (solid-not_bare v f w h)
 
     -- a whole tree without a value has no lone child
-    whole_not_lone : (p : List K) (v : Option V) (f : Forest K V) → IsWhole p v f → IsNone v → length (trees f) ≢ 1
-    whole_not_lone [] (Some v) f w n e = true≢false n
-    whole_not_lone [] None bare w n e = absurd (omega (arith, e))
-    whole_not_lone [] None (grow q u more rest) w n e = solid_not_lone None (grow q u more rest) w n e
-    whole_not_lone (x ∷ p) v f w n e = solid_not_lone v f w n e
+    whole-not_lone : (p : List K) (v : Option V) (f : Forest K V) → IsWhole p v f → IsNone v → length (trees f) ≢ 1
+    whole-not_lone [] (Some v) f w n e = true≢false n
+    whole-not_lone [] None bare w n e = absurd (omega (arith, e))
+    whole-not_lone [] None (grow q u more rest) w n e = solid-not_lone None (grow q u more rest) w n e
+    whole-not_lone (x ∷ p) v f w n e = solid-not_lone v f w n e
 
     -- in a canonical tree a bare node is the whole
-    canonical_bare : (t : Tree K V) → IsCanonical cmp t → BareIsWhole t
-    canonical_bare t c n (inl e) h = (
+    canonical-bare : (t : Tree K V) → IsCanonical cmp t → BareIsWhole t
+    canonical-bare t c n (inl e) h = (
       e,
-      on_node (λ p v f. lacks_both v f ≡ true → p ≡ []) n t.prefix t.value t.children e
-          (whole_prefix t.prefix t.value t.children c.0) h,
+      on-node (λ p v f. lacks_both v f ≡ true → p ≡ []) n t.prefix t.value t.children e
+          (whole-prefix t.prefix t.value t.children c.0) h,
     )
-    canonical_bare t c n (inr b) h = absurd (solid_not_bare n.value n.children (below_solid t.children c.1 n b) h)
+    canonical-bare t c n (inr b) h = absurd (solid-not_bare n.value n.children (below-solid t.children c.1 n b) h)
 
     -- and none without a value has a lone child
-    canonical_no_lone : (t : Tree K V) → IsCanonical cmp t → NoLoneChild t
-    canonical_no_lone t c n (inl e) =
-        on_node (λ p v f. IsNone v → length (trees f) ≢ 1) n t.prefix t.value t.children e
-        (whole_not_lone t.prefix t.value t.children c.0)
-    canonical_no_lone t c n (inr b) = solid_not_lone n.value n.children (below_solid t.children c.1 n b)
+    canonical-no_lone : (t : Tree K V) → IsCanonical cmp t → NoLoneChild t
+    canonical-no_lone t c n (inl e) =
+        on-node (λ p v f. IsNone v → length (trees f) ≢ 1) n t.prefix t.value t.children e
+        (whole-not_lone t.prefix t.value t.children c.0)
+    canonical-no_lone t c n (inr b) = solid-not_lone n.value n.children (below-solid t.children c.1 n b)
 
     -- a canonical tree meets the four conditions
-    pub canonical_meets : (t : Tree K V) → IsCanonical cmp t → MeetsConditions cmp t
-    canonical_meets t c = record {
-      bare_is_whole = canonical_bare t c;
-      prefixes = ordered_prefixes t (children_ordered cmp t.children c.1);
-      ascending = ordered_ascending t (children_ordered cmp t.children c.1);
-      no_lone_child = canonical_no_lone t c;
+    pub canonical-meets : (t : Tree K V) → IsCanonical cmp t → MeetsConditions cmp t
+    canonical-meets t c = record {
+      bare_is_whole = canonical-bare t c;
+      prefixes = ordered-prefixes t (children-ordered cmp t.children c.1);
+      ascending = ordered-ascending t (children-ordered cmp t.children c.1);
+      no_lone_child = canonical-no_lone t c;
     }
 
     -- no bare node lies below: it would be the whole, which has children
-    bare_not_below : (t : Tree K V) → BareIsWhole t → (n : Tree K V) → IsBelow n t.children → is_bare n ≡ true → ⊥
-    bare_not_below t w n b h =
-        let none = ap (λ m. m.children) (sym (w n (inr b) h).0) ∙ bare_from n.value n.children h in
+    bare-not_below : (t : Tree K V) → BareIsWhole t → (n : Tree K V) → IsBelow n t.children → is_bare n ≡ true → ⊥
+    bare-not_below t w n b h =
+        let none = ap (λ m. m.children) (sym (w n (inr b) h).0) ∙ bare-from n.value n.children h in
         subst (λ f. IsBelow n f) none b
 
     -- a whole tree, from two of the conditions
-    whole_from : (p : List K) (v : Option V) (f : Forest K V) → (lacks_both v f ≡ true → p ≡ [])
+    whole-from : (p : List K) (v : Option V) (f : Forest K V) → (lacks_both v f ≡ true → p ≡ [])
         → (IsNone v → length (trees f) ≢ 1) → IsWhole p v f
-    whole_from [] (Some v) f b l = tt
-    whole_from [] None bare b l = tt
-    whole_from [] None (grow q u more rest) b l = solid_from None (grow q u more rest) (λ h. true≢false (sym h)) l
-    whole_from (x ∷ p) v f b l = solid_from v f (λ h. cons_not_nil (b h)) l
+    whole-from [] (Some v) f b l = tt
+    whole-from [] None bare b l = tt
+    whole-from [] None (grow q u more rest) b l = solid-from None (grow q u more rest) (λ h. true≢false (sym h)) l
+    whole-from (x ∷ p) v f b l = solid-from v f (λ h. cons-not_nil (b h)) l
       where
-        cons_not_nil : x ∷ p ≡ [] → ⊥
-        cons_not_nil h = cc
+        cons-not_nil : x ∷ p ≡ [] → ⊥
+        cons-not_nil h = cc
 
     -- a tree that meets the four conditions is canonical
-    pub meets_canonical : (t : Tree K V) → MeetsConditions cmp t → IsCanonical cmp t
-    meets_canonical t m = (
-      whole_from t.prefix t.value t.children (λ h. (m.bare_is_whole t (inl refl) h).1) (m.no_lone_child t (inl refl)),
-      children_from t.children (meets_ordered t (record { prefixes = m.prefixes; ascending = m.ascending }))
-          (λ n b. solid_from n.value n.children (bare_not_below t m.bare_is_whole n b) (m.no_lone_child n (inr b))),
+    pub meets-canonical : (t : Tree K V) → MeetsConditions cmp t → IsCanonical cmp t
+    meets-canonical t m = (
+      whole-from t.prefix t.value t.children (λ h. (m.bare_is_whole t (inl refl) h).1) (m.no_lone_child t (inl refl)),
+      children-from t.children (meets-ordered t (record { prefixes = m.prefixes; ascending = m.ascending }))
+          (λ n b. solid-from n.value n.children (bare-not_below t m.bare_is_whole n b) (m.no_lone_child n (inr b))),
     )
 
     -- a tree is canonical exactly where it meets the four conditions
-    pub canonical_conditions : (t : Tree K V) → IsCanonical cmp t ↔ MeetsConditions cmp t
-    canonical_conditions t = (canonical_meets t, meets_canonical t)
+    pub canonical-conditions : (t : Tree K V) → IsCanonical cmp t ↔ MeetsConditions cmp t
+    canonical-conditions t = (canonical-meets t, meets-canonical t)

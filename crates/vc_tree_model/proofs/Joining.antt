@@ -1,10 +1,10 @@
 -- A node seen from a place in its prefix, a node that is joined with its only child, and the combine of two trees whose
 -- prefixes begin alike.
 --     opened        a tree is read as the node that stands at a place in its prefix
---     opened_children        the children of that node are canonical
---     joined_same, joined_child, joined_begins        the node of some parts, as a child
---     value_asked, children_asked        what holds at each key of two trees, holds at the nodes there
---     trees_combined        all four ways in which one prefix lies on the other
+--     opened-children        the children of that node are canonical
+--     joined-same, joined-child, joined-begins        the node of some parts, as a child
+--     value-asked, children-asked        what holds at each key of two trees, holds at the nodes there
+--     trees-combined        all four ways in which one prefix lies on the other
 use Rattle.std.proofs.Common.{◌≡◌, [], ◌∷◌, ◌++◌, List, Option, None, Some, refl, sym, ap, subst, ◌∙◌, cond, true, false, Bool, append-nil}
 use Rattle.std.specs.Cmp.{IsTotalOrder, Equal-is}
 use Rattle.std.specs.Ordering.{is_eq}
@@ -15,7 +15,7 @@ use Rattle.vc_tree_model.specs.Tree.{Tree, Forest, bare, grow, node}
 use Rattle.vc_tree_model.specs.Map.{lookup, lookup_in}
 use Rattle.vc_tree_model.specs.Canonical.{AreChildren, IsSolid, IsWhole, IsCanonical}
 use Rattle.vc_tree_model.specs.Child.{BeginsWith, IsChild, bound_by, solid_child, value_at, children_at}
-use Rattle.vc_tree_model.proofs.KeyLemmas.{then_behind, behind-append, behind_same, behind_itself}
+use Rattle.vc_tree_model.proofs.KeyLemmas.{then_behind, behind-append, behind-same, behind-itself}
 use Rattle.vc_tree_model.proofs.Look.{Look, told, look, values}
 
 module _ {K : Type 0} (cmp : K → K → Ordering) where
@@ -26,10 +26,10 @@ module _ {K : Type 0} (cmp : K → K → Ordering) where
     abbrev pub within : Option V → Forest K V → Option (List K) → O
     within v f left = told l.none (l.at v) (λ q. l.under v (l.of_forest f q)) left
 
-    only_by : (b : Bool) (y : K) (p : List K) (v : Option V) (f : Forest K V) (x : K) (q : List K) → is_eq (cmp y x) ≡ b
+    only-by : (b : Bool) (y : K) (p : List K) (v : Option V) (f : Forest K V) (x : K) (q : List K) → is_eq (cmp y x) ≡ b
         → l.of_tree (node (y ∷ p) v f) (x ∷ q) ≡ l.of_forest (grow (y ∷ p) v f bare) (x ∷ q)
-    only_by true y p v f x q e = sym (l.takes p v f bare y x q ((Equal-is (cmp y x)).0 e) (l.in_bare x q))
-    only_by false y p v f x q e =
+    only-by true y p v f x q e = sym (l.takes p v f bare y x q ((Equal-is (cmp y x)).0 e) (l.in_bare x q))
+    only-by false y p v f x q e =
         l.tree_is (node (y ∷ p) v f) (x ∷ q)
         ∙ ap (λ b. within v f (cond b (behind cmp p q) None)) e
         ∙ sym (l.in_bare x q)
@@ -38,13 +38,13 @@ module _ {K : Type 0} (cmp : K → K → Ordering) where
     -- a tree says of a key what a list of it alone does
     only : (y : K) (p : List K) (v : Option V) (f : Forest K V) (x : K) (q : List K)
         → l.of_tree (node (y ∷ p) v f) (x ∷ q) ≡ l.of_forest (grow (y ∷ p) v f bare) (x ∷ q)
-    only y p v f x q = only_by (is_eq (cmp y x)) y p v f x q refl
+    only y p v f x q = only-by (is_eq (cmp y x)) y p v f x q refl
 
-    lowered_by : (y : K) (p : List K) (v : Option V) (f : Forest K V) (left : Option (List K))
+    lowered-by : (y : K) (p : List K) (v : Option V) (f : Forest K V) (left : Option (List K))
         → within v f (then_behind cmp (y ∷ p) left) ≡ within None (grow (y ∷ p) v f bare) left
-    lowered_by y p v f None = refl
-    lowered_by y p v f (Some []) = sym l.at_none
-    lowered_by y p v f (Some (x ∷ q)) =
+    lowered-by y p v f None = refl
+    lowered-by y p v f (Some []) = sym l.at_none
+    lowered-by y p v f (Some (x ∷ q)) =
         sym (l.tree_is (node (y ∷ p) v f) (x ∷ q))
         ∙ only y p v f x q
         ∙ sym (l.under_none (l.of_forest (grow (y ∷ p) v f bare) (x ∷ q)))
@@ -55,7 +55,7 @@ module _ {K : Type 0} (cmp : K → K → Ordering) where
     lowered h y p v f k =
         l.tree_is (node (h ++ y ∷ p) v f) k
         ∙ ap (within v f) (behind-append cmp h (y ∷ p) k)
-        ∙ lowered_by y p v f (behind cmp h k)
+        ∙ lowered-by y p v f (behind cmp h k)
         ∙ sym (l.tree_is (node h None (grow (y ∷ p) v f bare)) k)
 
     -- a tree reads as the node that stands at a place in its prefix
@@ -65,53 +65,53 @@ module _ {K : Type 0} (cmp : K → K → Ordering) where
     opened t h (y ∷ rest) k e =
         ap (λ p. l.of_tree (node p t.value t.children) k) e ∙ lowered h y rest t.value t.children k
 
-    nothing_by : (left : Option (List K)) → within None bare left ≡ l.none
-    nothing_by None = refl
-    nothing_by (Some []) = l.at_none
-    nothing_by (Some (x ∷ q)) = l.under_none (l.of_forest bare (x ∷ q)) ∙ l.in_bare x q
+    nothing-by : (left : Option (List K)) → within None bare left ≡ l.none
+    nothing-by None = refl
+    nothing-by (Some []) = l.at_none
+    nothing-by (Some (x ∷ q)) = l.under_none (l.of_forest bare (x ∷ q)) ∙ l.in_bare x q
 
     -- a node without a value and without children says nothing
     nothing : (p k : List K) → l.of_tree (node p None bare) k ≡ l.none
-    nothing p k = l.tree_is (node p None bare) k ∙ nothing_by (behind cmp p k)
+    nothing p k = l.tree_is (node p None bare) k ∙ nothing-by (behind cmp p k)
 
     -- a node, made as a child, reads as it did
-    pub joined_same : (p : List K) (v : Option V) (f : Forest K V) (k : List K) → AreChildren cmp f
+    pub joined-same : (p : List K) (v : Option V) (f : Forest K V) (k : List K) → AreChildren cmp f
         → look cmp l (solid_child p v f) k ≡ l.of_tree (node p v f) k
-    joined_same p (Some v) f k c = refl
-    joined_same p None bare k c = sym (nothing p k)
-    joined_same p None (grow [] w more bare) k c = absurd c
-    joined_same p None (grow (y ∷ q) w more bare) k c = lowered p y q w more k
-    joined_same p None (grow q w more (grow r u most rest)) k c = refl
+    joined-same p (Some v) f k c = refl
+    joined-same p None bare k c = sym (nothing p k)
+    joined-same p None (grow [] w more bare) k c = absurd c
+    joined-same p None (grow (y ∷ q) w more bare) k c = lowered p y q w more k
+    joined-same p None (grow q w more (grow r u most rest)) k c = refl
 
   -- ---- what a node is as a child
 
   module _ {V : Type 0} where
     -- a node, made as a child, may stand among children
-    pub joined_child : (p : List K) (v : Option V) (f : Forest K V) → AreChildren cmp f → IsChild cmp (solid_child p v f)
-    joined_child p (Some v) f c = (tt, c)
-    joined_child p None bare c = tt
-    joined_child p None (grow [] w more bare) c = absurd c
-    joined_child p None (grow (y ∷ q) w more bare) c = (c.0, c.1)
-    joined_child p None (grow q w more (grow r u most rest)) c = (tt, c)
+    pub joined-child : (p : List K) (v : Option V) (f : Forest K V) → AreChildren cmp f → IsChild cmp (solid_child p v f)
+    joined-child p (Some v) f c = (tt, c)
+    joined-child p None bare c = tt
+    joined-child p None (grow [] w more bare) c = absurd c
+    joined-child p None (grow (y ∷ q) w more bare) c = (c.0, c.1)
+    joined-child p None (grow q w more (grow r u most rest)) c = (tt, c)
 
     -- and begins as its prefix did
-    pub joined_begins : (x y : K) (p : List K) (v : Option V) (f : Forest K V) → cmp x y ≡ Equal
+    pub joined-begins : (x y : K) (p : List K) (v : Option V) (f : Forest K V) → cmp x y ≡ Equal
         → BeginsWith cmp x (solid_child (y ∷ p) v f)
-    joined_begins x y p (Some v) f e = e
-    joined_begins x y p None bare e = tt
-    joined_begins x y p None (grow q w more bare) e = e
-    joined_begins x y p None (grow q w more (grow r u most rest)) e = e
+    joined-begins x y p (Some v) f e = e
+    joined-begins x y p None bare e = tt
+    joined-begins x y p None (grow q w more bare) e = e
+    joined-begins x y p None (grow q w more (grow r u most rest)) e = e
 
-    solid_in : (h rest : List K) (y : K) (v : Option V) (f : Forest K V) → IsWhole (h ++ y ∷ rest) v f → IsSolid v f
-    solid_in [] rest y v f w = w
-    solid_in (x ∷ h) rest y v f w = w
+    solid-in : (h rest : List K) (y : K) (v : Option V) (f : Forest K V) → IsWhole (h ++ y ∷ rest) v f → IsSolid v f
+    solid-in [] rest y v f w = w
+    solid-in (x ∷ h) rest y v f w = w
 
     -- the children of a node that stands in the prefix of a canonical tree
-    pub opened_children : (t : Tree K V) (h rest : List K) → t.prefix ≡ h ++ rest → IsCanonical cmp t
+    pub opened-children : (t : Tree K V) (h rest : List K) → t.prefix ≡ h ++ rest → IsCanonical cmp t
         → AreChildren cmp (children_at t rest)
-    opened_children t h [] e c = c.1
-    opened_children t h (y ∷ rest) e c =
-        (solid_in h rest y t.value t.children (subst (λ p. IsWhole p t.value t.children) e c.0), c.1, tt, tt)
+    opened-children t h [] e c = c.1
+    opened-children t h (y ∷ rest) e c =
+        (solid-in h rest y t.value t.children (subst (λ p. IsWhole p t.value t.children) e c.0), c.1, tt, tt)
 
   -- ---- two trees whose prefixes begin alike
 
@@ -121,60 +121,60 @@ module _ {K : Type 0} (cmp : K → K → Ordering) where
         (root : R v (l.at w) u)
         (below : (x : K) (q : List K)
         → R (lookup_in cmp f (x ∷ q)) (l.under w (l.of_forest g (x ∷ q))) (lookup_in cmp h (x ∷ q))) where
-      nodes_by : (left : Option (List K))
+      nodes-by : (left : Option (List K))
           → R (within (values cmp) v f left) (within l w g left) (within (values cmp) u h left)
-      nodes_by None = none
-      nodes_by (Some []) = root
-      nodes_by (Some (x ∷ q)) = below x q
+      nodes-by None = none
+      nodes-by (Some []) = root
+      nodes-by (Some (x ∷ q)) = below x q
 
       -- nodes with equal prefixes: their values and their children are combined
-      nodes_combined : (p p' k : List K) → same_key cmp p p' ≡ true
+      nodes-combined : (p p' k : List K) → same_key cmp p p' ≡ true
           → R (lookup cmp (node p v f) k) (l.of_tree (node p' w g) k) (lookup cmp (node p u h) k)
-      nodes_combined p p' k s =
+      nodes-combined p p' k s =
           rw (
             (values cmp).tree_is (node p v f) k,
             l.tree_is (node p' w g) k,
             (values cmp).tree_is (node p u h) k,
-            ← behind_same cmp o p p' k s,
-          ) (nodes_by (behind cmp p k))
+            ← behind-same cmp o p p' k s,
+          ) (nodes-by (behind cmp p k))
 
     -- two trees with equal fronts p and p' of their prefixes: the nodes at these places are combined, whatever is left of either
     -- prefix
-    pub trees_combined : (s : Tree K V) (t : Tree K W) (p a p' b : List K) (u : Option U) (h : Forest K U)
+    pub trees-combined : (s : Tree K V) (t : Tree K W) (p a p' b : List K) (u : Option U) (h : Forest K U)
         → s.prefix ≡ p ++ a → t.prefix ≡ p' ++ b → same_key cmp p p' ≡ true → AreChildren cmp h
         → R (value_at s a) (l.at (value_at t b)) u
         → ((x : K) (q : List K) → R (lookup_in cmp (children_at s a) (x ∷ q))
         (l.under (value_at t b) (l.of_forest (children_at t b) (x ∷ q))) (lookup_in cmp h (x ∷ q)))
         → (k : List K) → R (lookup cmp s k) (l.of_tree t k) (bound_by cmp (solid_child p u h) k)
-    trees_combined s t p a p' b u h es et e c root below k =
-        rw (opened (values cmp) s p a k es, opened l t p' b k et, joined_same (values cmp) p u h k c)
-        (nodes_combined (value_at s a) (value_at t b) u (children_at s a) (children_at t b) h root below p p' k e)
+    trees-combined s t p a p' b u h es et e c root below k =
+        rw (opened (values cmp) s p a k es, opened l t p' b k et, joined-same (values cmp) p u h k c)
+        (nodes-combined (value_at s a) (value_at t b) u (children_at s a) (children_at t b) h root below p p' k e)
 
   module _ {V W O : Type 0} (o : IsTotalOrder cmp) (l : Look cmp W O) (P : Option V → O → Type 0) where
-    asked_from : (s : Tree K V) (t : Tree K W) (p a p' b k : List K) → s.prefix ≡ p ++ a → t.prefix ≡ p' ++ b
+    asked-from : (s : Tree K V) (t : Tree K W) (p a p' b k : List K) → s.prefix ≡ p ++ a → t.prefix ≡ p' ++ b
         → same_key cmp p p' ≡ true → P (lookup cmp s (p ++ k)) (l.of_tree t (p ++ k))
         → P (within (values cmp) (value_at s a) (children_at s a) (Some k))
         (within l (value_at t b) (children_at t b) (Some k))
-    asked_from s t p a p' b k es et e h =
+    asked-from s t p a p' b k es et e h =
         let left : lookup cmp s (p ++ k) ≡ within (values cmp) (value_at s a) (children_at s a) (Some k) =
         opened (values cmp) s p a (p ++ k) es
         ∙ (values cmp).tree_is (node p (value_at s a) (children_at s a)) (p ++ k)
-        ∙ ap (within (values cmp) (value_at s a) (children_at s a)) (behind_itself cmp o p k) in
+        ∙ ap (within (values cmp) (value_at s a) (children_at s a)) (behind-itself cmp o p k) in
         let right : l.of_tree t (p ++ k) ≡ within l (value_at t b) (children_at t b) (Some k) =
         opened l t p' b (p ++ k) et
         ∙ l.tree_is (node p' (value_at t b) (children_at t b)) (p ++ k)
         ∙ ap (within l (value_at t b) (children_at t b))
-        (sym (behind_same cmp o p p' (p ++ k) e) ∙ behind_itself cmp o p k) in
+        (sym (behind-same cmp o p p' (p ++ k) e) ∙ behind-itself cmp o p k) in
         subst (λ w. P (within (values cmp) (value_at s a) (children_at s a) (Some k)) w) right
         (subst (λ v. P v (l.of_tree t (p ++ k))) left h)
 
     -- what holds at each key of two trees, holds of the values of the nodes at equal fronts of their prefixes
-    pub value_asked : (s : Tree K V) (t : Tree K W) (p a p' b : List K) → s.prefix ≡ p ++ a → t.prefix ≡ p' ++ b
+    pub value-asked : (s : Tree K V) (t : Tree K W) (p a p' b : List K) → s.prefix ≡ p ++ a → t.prefix ≡ p' ++ b
         → same_key cmp p p' ≡ true → ((k : List K) → P (lookup cmp s k) (l.of_tree t k)) → P (value_at s a) (l.at (value_at t b))
-    value_asked s t p a p' b es et e h = asked_from s t p a p' b [] es et e (h (p ++ []))
+    value-asked s t p a p' b es et e h = asked-from s t p a p' b [] es et e (h (p ++ []))
 
     -- and at each key of their children
-    pub children_asked : (s : Tree K V) (t : Tree K W) (p a p' b : List K) → s.prefix ≡ p ++ a → t.prefix ≡ p' ++ b
+    pub children-asked : (s : Tree K V) (t : Tree K W) (p a p' b : List K) → s.prefix ≡ p ++ a → t.prefix ≡ p' ++ b
         → same_key cmp p p' ≡ true → ((k : List K) → P (lookup cmp s k) (l.of_tree t k)) → (x : K) (q : List K)
         → P (lookup_in cmp (children_at s a) (x ∷ q)) (l.under (value_at t b) (l.of_forest (children_at t b) (x ∷ q)))
-    children_asked s t p a p' b es et e h x q = asked_from s t p a p' b (x ∷ q) es et e (h (p ++ x ∷ q))
+    children-asked s t p a p' b es et e h x q = asked-from s t p a p' b (x ∷ q) es et e (h (p ++ x ∷ q))

@@ -1,9 +1,9 @@
 -- Keys: what is left behind a prefix, equal keys, and the order on keys.
---     behind_itself, behind_same, behind_of_same, behind-append        what is left behind a prefix
---     same-slice_cmp, same_itself, same_flip, same_trans, same-append, same_prepended        equal keys
---     same_behind, behind_joins, left_behind        equal keys and what is left of one
---     not_before, not_both_before, less_prepended        which of two keys comes first
---     keys_ordered, left_is_rest        the laws on keys
+--     behind-itself, behind-same, behind-of_same, behind-append        what is left behind a prefix
+--     same-slice_cmp, same-itself, same-flip, same-trans, same-append, same-prepended        equal keys
+--     same-behind, behind-joins, left-behind        equal keys and what is left of one
+--     not-before, not-both_before, less-prepended        which of two keys comes first
+--     keys-ordered, left-is_rest        the laws on keys
 use Rattle.std.proofs.Common.{◌≡◌, ℕ, zero, suc, [], ◌∷◌, ◌++◌, take, drop, List, Option, None, Some, is_some, refl, sym, ap, ◌∙◌, true, false, Bool, cond, true≢false}
 use Rattle.std.specs.List.{AllZip}
 use Rattle.std.specs.declared.cmp.Ordering.{Ordering}
@@ -16,13 +16,13 @@ use Rattle.vc_tree_model.specs.Value.{IsKept}
 use Rattle.vc_tree_model.specs.Laws.{KeysAreOrdered, LeftBehindIsRest}
 
 -- two tests in a row hold where both do
-pub both_true : (a b : Bool) → cond a b false ≡ true → (a ≡ true) × (b ≡ true)
-both_true true b h = (refl, h)
-both_true false b h = absurd (true≢false (sym h))
+pub both-true : (a b : Bool) → cond a b false ≡ true → (a ≡ true) × (b ≡ true)
+both-true true b h = (refl, h)
+both-true false b h = absurd (true≢false (sym h))
 
 -- a value is not absent
-pub none_some : {X : Type 0} {A : Type 0} (x : X) → None ≡ Some x → A
-none_some x e = cc
+pub none-some : {X : Type 0} {A : Type 0} (x : X) → None ≡ Some x → A
+none-some x e = cc
 
 module _ {K : Type 0} (cmp : K → K → Ordering) where
   -- ---- a prefix in two parts
@@ -65,19 +65,19 @@ module _ {K : Type 0} (cmp : K → K → Ordering) where
       ap (λ o. cond (is_eq (cmp x y)) o false) (same-append p j k) ∙ if-then_same (is_eq (cmp x y)) j (behind cmp p k)
 
   -- nothing is left of a key behind an equal one
-  pub same_behind : (p k : List K) → same_key cmp p k ≡ true → behind cmp p k ≡ Some []
-  same_behind [] [] h = refl
-  same_behind [] (y ∷ k) h = absurd (true≢false (sym h))
-  same_behind (x ∷ p) [] h = absurd (true≢false (sym h))
-  same_behind (x ∷ p) (y ∷ k) h =
-      let both = both_true (is_eq (cmp x y)) (same_key cmp p k) h in
-      let rest = same_behind p k both.1 in
+  pub same-behind : (p k : List K) → same_key cmp p k ≡ true → behind cmp p k ≡ Some []
+  same-behind [] [] h = refl
+  same-behind [] (y ∷ k) h = absurd (true≢false (sym h))
+  same-behind (x ∷ p) [] h = absurd (true≢false (sym h))
+  same-behind (x ∷ p) (y ∷ k) h =
+      let both = both-true (is_eq (cmp x y)) (same_key cmp p k) h in
+      let rest = same-behind p k both.1 in
       λ i. cond (both.0 i) (rest i) None
 
   -- of a key that equals p joined with j, what is left behind p equals j
-  pub left_behind : (p j k : List K) → same_key cmp (p ++ j) k ≡ true
+  pub left-behind : (p j k : List K) → same_key cmp (p ++ j) k ≡ true
       → (rest : List K) × (behind cmp p k ≡ Some rest) × (same_key cmp j rest ≡ true)
-  left_behind p j k h = by (behind cmp p k) refl (sym (same-append p j k) ∙ h)
+  left-behind p j k h = by (behind cmp p k) refl (sym (same-append p j k) ∙ h)
     where
       by : (o : Option (List K)) → behind cmp p k ≡ o → then_same j (behind cmp p k) ≡ true
           → (rest : List K) × (behind cmp p k ≡ Some rest) × (same_key cmp j rest ≡ true)
@@ -101,59 +101,59 @@ module _ {K : Type 0} (cmp : K → K → Ordering) where
       ap (λ b. cond (is_eq (cmp x y)) b false) (same-slice_cmp j k) ∙ both-is_eq (cmp x y) (slice_cmp cmp j k)
 
   -- no key comes before an equal one
-  pub not_before : (j k : List K) → slice_cmp cmp j k ≡ Less → same_key cmp j k ≡ true → ⊥
-  not_before j k l e = true≢false (sym e ∙ same-slice_cmp j k ∙ ap is_eq l)
+  pub not-before : (j k : List K) → slice_cmp cmp j k ≡ Less → same_key cmp j k ≡ true → ⊥
+  not-before j k l e = true≢false (sym e ∙ same-slice_cmp j k ∙ ap is_eq l)
 
   -- equal keys are equal place by place
-  same_places : (j k : List K) → same_key cmp j k ≡ true → AllZip (λ x y. cmp x y ≡ Equal) j k
-  same_places [] [] h = tt
-  same_places [] (y ∷ k) h = absurd (true≢false (sym h))
-  same_places (x ∷ j) [] h = absurd (true≢false (sym h))
-  same_places (x ∷ j) (y ∷ k) h =
-      let both = both_true (is_eq (cmp x y)) (same_key cmp j k) h in
-      ((Equal-is (cmp x y)).0 both.0, same_places j k both.1)
+  same-places : (j k : List K) → same_key cmp j k ≡ true → AllZip (λ x y. cmp x y ≡ Equal) j k
+  same-places [] [] h = tt
+  same-places [] (y ∷ k) h = absurd (true≢false (sym h))
+  same-places (x ∷ j) [] h = absurd (true≢false (sym h))
+  same-places (x ∷ j) (y ∷ k) h =
+      let both = both-true (is_eq (cmp x y)) (same_key cmp j k) h in
+      ((Equal-is (cmp x y)).0 both.0, same-places j k both.1)
 
   -- and the other way round
-  places_same : (j k : List K) → AllZip (λ x y. cmp x y ≡ Equal) j k → same_key cmp j k ≡ true
-  places_same [] [] h = refl
-  places_same [] (y ∷ k) h = absurd h
-  places_same (x ∷ j) [] h = absurd h
-  places_same (x ∷ j) (y ∷ k) h = rw h.0 (places_same j k h.1)
+  places-same : (j k : List K) → AllZip (λ x y. cmp x y ≡ Equal) j k → same_key cmp j k ≡ true
+  places-same [] [] h = refl
+  places-same [] (y ∷ k) h = absurd h
+  places-same (x ∷ j) [] h = absurd h
+  places-same (x ∷ j) (y ∷ k) h = rw h.0 (places-same j k h.1)
 
   -- ---- the first place at which two keys differ
 
   -- nothing begins below what has ended
-  below_end : (n : ℕ) (k : List K) → BeginsBelow cmp k (drop n []) → ⊥
-  below_end zero [] h = h
-  below_end zero (x ∷ k) h = h
-  below_end (suc n) [] h = h
-  below_end (suc n) (x ∷ k) h = h
+  below-end : (n : ℕ) (k : List K) → BeginsBelow cmp k (drop n []) → ⊥
+  below-end zero [] h = h
+  below-end zero (x ∷ k) h = h
+  below-end (suc n) [] h = h
+  below-end (suc n) (x ∷ k) h = h
 
   -- where keys are equal up to a place and the first begins below there, it comes first
-  less_from : (n : ℕ) (k j : List K) → same_key cmp (take n k) (take n j) ≡ true
+  less-from : (n : ℕ) (k j : List K) → same_key cmp (take n k) (take n j) ≡ true
       → BeginsBelow cmp (drop n k) (drop n j) → slice_cmp cmp k j ≡ Less
-  less_from n k [] h g = absurd (below_end n (drop n k) g)
-  less_from n [] (y ∷ j) h g = refl
-  less_from zero (x ∷ k) (y ∷ j) h g = ap (λ r. ordering_then r (slice_cmp cmp k j)) g
-  less_from (suc n) (x ∷ k) (y ∷ j) h g =
-      let both = both_true (is_eq (cmp x y)) (same_key cmp (take n k) (take n j)) h in
-      ap (λ r. ordering_then r (slice_cmp cmp k j)) ((Equal-is (cmp x y)).0 both.0) ∙ less_from n k j both.1 g
+  less-from n k [] h g = absurd (below-end n (drop n k) g)
+  less-from n [] (y ∷ j) h g = refl
+  less-from zero (x ∷ k) (y ∷ j) h g = ap (λ r. ordering_then r (slice_cmp cmp k j)) g
+  less-from (suc n) (x ∷ k) (y ∷ j) h g =
+      let both = both-true (is_eq (cmp x y)) (same_key cmp (take n k) (take n j)) h in
+      ap (λ r. ordering_then r (slice_cmp cmp k j)) ((Equal-is (cmp x y)).0 both.0) ∙ less-from n k j both.1 g
 
   -- a place further on
-  less_next : (x y : K) (k j : List K) → cmp x y ≡ Equal → IsLess cmp k j → IsLess cmp (x ∷ k) (y ∷ j)
-  less_next x y k j e l = record { place = suc l.place; before = rw e l.before; at = l.at }
+  less-next : (x y : K) (k j : List K) → cmp x y ≡ Equal → IsLess cmp k j → IsLess cmp (x ∷ k) (y ∷ j)
+  less-next x y k j e l = record { place = suc l.place; before = rw e l.before; at = l.at }
 
   -- what comes first is less at the first place at which the two differ
-  less_place : (k j : List K) → slice_cmp cmp k j ≡ Less → IsLess cmp k j
-  less_place [] [] h = absurd (true≢false (sym (ap is_lt h)))
-  less_place [] (y ∷ j) h = record { place = zero; before = refl; at = tt }
-  less_place (x ∷ k) [] h = absurd (true≢false (sym (ap is_lt h)))
-  less_place (x ∷ k) (y ∷ j) h = by (cmp x y) refl h (less_place k j)
+  less-place : (k j : List K) → slice_cmp cmp k j ≡ Less → IsLess cmp k j
+  less-place [] [] h = absurd (true≢false (sym (ap is_lt h)))
+  less-place [] (y ∷ j) h = record { place = zero; before = refl; at = tt }
+  less-place (x ∷ k) [] h = absurd (true≢false (sym (ap is_lt h)))
+  less-place (x ∷ k) (y ∷ j) h = by (cmp x y) refl h (less-place k j)
     where
       by : (r : Ordering) → cmp x y ≡ r → ordering_then r (slice_cmp cmp k j) ≡ Less
           → (slice_cmp cmp k j ≡ Less → IsLess cmp k j) → IsLess cmp (x ∷ k) (y ∷ j)
       by Less e g f = record { place = zero; before = refl; at = e }
-      by Equal e g f = less_next x y k j e (f g)
+      by Equal e g f = less-next x y k j e (f g)
       by Greater e g f = absurd (true≢false (sym (ap is_lt g)))
 
   module _ (o : IsTotalOrder cmp) where
@@ -168,101 +168,101 @@ module _ {K : Type 0} (cmp : K → K → Ordering) where
     less x y g = o.antisymm y x ∙ ap ordering_reverse g
 
     -- the rest is left behind a prefix
-    pub behind_itself : (p k : List K) → behind cmp p (p ++ k) ≡ Some k
-    behind_itself [] k = refl
-    behind_itself (x ∷ p) k = rw (tied_itself o x) (behind_itself p k)
+    pub behind-itself : (p k : List K) → behind cmp p (p ++ k) ≡ Some k
+    behind-itself [] k = refl
+    behind-itself (x ∷ p) k = rw (tied_itself o x) (behind-itself p k)
 
     -- the same is left behind equal prefixes
-    pub behind_same : (p q k : List K) → same_key cmp p q ≡ true → behind cmp p k ≡ behind cmp q k
-    behind_same [] [] k h = refl
-    behind_same [] (y ∷ q) k h = absurd (true≢false (sym h))
-    behind_same (x ∷ p) [] k h = absurd (true≢false (sym h))
-    behind_same (x ∷ p) (y ∷ q) [] h = refl
-    behind_same (x ∷ p) (y ∷ q) (z ∷ k) h =
-        let both = both_true (is_eq (cmp x y)) (same_key cmp p q) h in
+    pub behind-same : (p q k : List K) → same_key cmp p q ≡ true → behind cmp p k ≡ behind cmp q k
+    behind-same [] [] k h = refl
+    behind-same [] (y ∷ q) k h = absurd (true≢false (sym h))
+    behind-same (x ∷ p) [] k h = absurd (true≢false (sym h))
+    behind-same (x ∷ p) (y ∷ q) [] h = refl
+    behind-same (x ∷ p) (y ∷ q) (z ∷ k) h =
+        let both = both-true (is_eq (cmp x y)) (same_key cmp p q) h in
         let first = o.congr x y z ((Equal-is (cmp x y)).0 both.0) in
-        let rest = behind_same p q k both.1 in
+        let rest = behind-same p q k both.1 in
         λ i. cond (is_eq (first i)) (rest i) None
 
     -- behind one test or its equal, what is left is equal
-    if_left : (a b : Bool) (u v : Option (List K)) → a ≡ b → IsKept (λ j k. same_key cmp j k ≡ true) u v
+    if-left : (a b : Bool) (u v : Option (List K)) → a ≡ b → IsKept (λ j k. same_key cmp j k ≡ true) u v
         → IsKept (λ j k. same_key cmp j k ≡ true) (cond a u None) (cond b v None)
-    if_left true b u v e h = rw (← e) h
-    if_left false b u v e h = rw (← e) tt
+    if-left true b u v e h = rw (← e) h
+    if-left false b u v e h = rw (← e) tt
 
     -- equal keys are left behind a prefix of equal keys, or nothing of both
-    pub behind_of_same : (p j k : List K) → same_key cmp j k ≡ true
+    pub behind-of_same : (p j k : List K) → same_key cmp j k ≡ true
         → IsKept (λ j k. same_key cmp j k ≡ true) (behind cmp p j) (behind cmp p k)
-    behind_of_same [] j k h = h
-    behind_of_same (x ∷ p) [] [] h = tt
-    behind_of_same (x ∷ p) [] (z ∷ k) h = absurd (true≢false (sym h))
-    behind_of_same (x ∷ p) (y ∷ j) [] h = absurd (true≢false (sym h))
-    behind_of_same (x ∷ p) (y ∷ j) (z ∷ k) h =
-        let both = both_true (is_eq (cmp y z)) (same_key cmp j k) h in
+    behind-of_same [] j k h = h
+    behind-of_same (x ∷ p) [] [] h = tt
+    behind-of_same (x ∷ p) [] (z ∷ k) h = absurd (true≢false (sym h))
+    behind-of_same (x ∷ p) (y ∷ j) [] h = absurd (true≢false (sym h))
+    behind-of_same (x ∷ p) (y ∷ j) (z ∷ k) h =
+        let both = both-true (is_eq (cmp y z)) (same_key cmp j k) h in
         let first = ap is_eq (alike_right o y z x ((Equal-is (cmp y z)).0 both.0)) in
-        if_left (is_eq (cmp x y)) (is_eq (cmp x z)) (behind cmp p j) (behind cmp p k) first
-        (behind_of_same p j k both.1)
+        if-left (is_eq (cmp x y)) (is_eq (cmp x z)) (behind cmp p j) (behind cmp p k) first
+        (behind-of_same p j k both.1)
 
     -- a key equals itself
-    pub same_itself : (k : List K) → same_key cmp k k ≡ true
-    same_itself k = same-slice_cmp k k ∙ ap is_eq (tied_itself (lists_total o) k)
+    pub same-itself : (k : List K) → same_key cmp k k ≡ true
+    same-itself k = same-slice_cmp k k ∙ ap is_eq (tied_itself (lists_total o) k)
 
     -- the sides may be turned
-    pub same_flip : (j k : List K) → same_key cmp j k ≡ same_key cmp k j
-    same_flip j k = same-slice_cmp j k ∙ (eq_by_cmp_equiv (lists_total o)).symm j k ∙ sym (same-slice_cmp k j)
+    pub same-flip : (j k : List K) → same_key cmp j k ≡ same_key cmp k j
+    same-flip j k = same-slice_cmp j k ∙ (eq_by_cmp_equiv (lists_total o)).symm j k ∙ sym (same-slice_cmp k j)
 
     -- what equals an equal key is equal
-    pub same_trans : (j k l : List K) → same_key cmp j k ≡ true → same_key cmp k l ≡ true → same_key cmp j l ≡ true
-    same_trans j k l h g =
+    pub same-trans : (j k l : List K) → same_key cmp j k ≡ true → same_key cmp k l ≡ true → same_key cmp j l ≡ true
+    same-trans j k l h g =
         let equal = (Equal-is (slice_cmp cmp j k)).0 (sym (same-slice_cmp j k) ∙ h) in
         same-slice_cmp j l ∙ ap is_eq ((lists_total o).congr j k l equal) ∙ sym (same-slice_cmp k l) ∙ g
 
     -- equal keys stay equal behind one prefix
-    pub same_prepended : (p j k : List K) → same_key cmp j k ≡ true → same_key cmp (p ++ j) (p ++ k) ≡ true
-    same_prepended p j k h = same-append p j (p ++ k) ∙ ap (then_same j) (behind_itself p k) ∙ h
+    pub same-prepended : (p j k : List K) → same_key cmp j k ≡ true → same_key cmp (p ++ j) (p ++ k) ≡ true
+    same-prepended p j k h = same-append p j (p ++ k) ∙ ap (then_same j) (behind-itself p k) ∙ h
 
     -- no two keys come before each other
-    pub not_both_before : (j k : List K) → slice_cmp cmp j k ≡ Less → slice_cmp cmp k j ≡ Less → ⊥
-    not_both_before j k l m =
+    pub not-both_before : (j k : List K) → slice_cmp cmp j k ≡ Less → slice_cmp cmp k j ≡ Less → ⊥
+    not-both_before j k l m =
         true≢false (sym (ap is_lt m) ∙ ap is_lt ((lists_total o).antisymm k j ∙ ap ordering_reverse l))
 
     -- keys keep their order behind one prefix
-    pub less_prepended : (p k j : List K) → slice_cmp cmp k j ≡ Less → slice_cmp cmp (p ++ k) (p ++ j) ≡ Less
-    less_prepended [] k j h = h
-    less_prepended (x ∷ p) k j h =
-        ap (λ r. ordering_then r (slice_cmp cmp (p ++ k) (p ++ j))) (tied_itself o x) ∙ less_prepended p k j h
+    pub less-prepended : (p k j : List K) → slice_cmp cmp k j ≡ Less → slice_cmp cmp (p ++ k) (p ++ j) ≡ Less
+    less-prepended [] k j h = h
+    less-prepended (x ∷ p) k j h =
+        ap (λ r. ordering_then r (slice_cmp cmp (p ++ k) (p ++ j))) (tied_itself o x) ∙ less-prepended p k j h
 
     -- a prefix joined with what is left behind it makes up the key
-    pub behind_joins : (p k rest : List K) → behind cmp p k ≡ Some rest → same_key cmp (p ++ rest) k ≡ true
-    behind_joins p k rest e = same-append p rest k ∙ ap (then_same rest) e ∙ same_itself rest
+    pub behind-joins : (p k rest : List K) → behind cmp p k ≡ Some rest → same_key cmp (p ++ rest) k ≡ true
+    behind-joins p k rest e = same-append p rest k ∙ ap (then_same rest) e ∙ same-itself rest
 
     -- a key starts with a prefix where something is left behind it
-    behind_starts : (k p : List K) (o : Option (List K)) → behind cmp p k ≡ o → is_some o ≡ true → Starts cmp k p
-    behind_starts k p None e h = absurd (true≢false (sym h))
-    behind_starts k p (Some rest) e h = (rest, behind_joins p k rest e)
+    behind-starts : (k p : List K) (o : Option (List K)) → behind cmp p k ≡ o → is_some o ≡ true → Starts cmp k p
+    behind-starts k p None e h = absurd (true≢false (sym h))
+    behind-starts k p (Some rest) e h = (rest, behind-joins p k rest e)
 
     -- what else makes up the key with the prefix equals what is left
-    rest_one : (k p q rest : List K) → behind cmp p k ≡ Some rest → same_key cmp (p ++ q) k ≡ true
+    rest-one : (k p q rest : List K) → behind cmp p k ≡ Some rest → same_key cmp (p ++ q) k ≡ true
         → same_key cmp q rest ≡ true
-    rest_one k p q rest e h = ap (then_same q) (sym e) ∙ sym (same-append p q k) ∙ h
+    rest-one k p q rest e h = ap (then_same q) (sym e) ∙ sym (same-append p q k) ∙ h
 
     -- what is left behind a prefix is the one rest
-    pub left_is_rest : LeftBehindIsRest cmp
-    left_is_rest = record {
-      starts = λ k p. (λ s. ap is_some (left_behind p s.0 k s.1).1, behind_starts k p (behind cmp p k) refl);
-      joins = λ k p rest. behind_joins p k rest;
-      one = rest_one;
+    pub left-is_rest : LeftBehindIsRest cmp
+    left-is_rest = record {
+      starts = λ k p. (λ s. ap is_some (left-behind p s.0 k s.1).1, behind-starts k p (behind cmp p k) refl);
+      joins = λ k p rest. behind-joins p k rest;
+      one = rest-one;
     }
 
     -- equal keys are not told apart
-    tied_where_same : (j k : List K) → same_key cmp j k ≡ true → slice_cmp cmp j k ≡ Equal
-    tied_where_same j k e = (Equal-is (slice_cmp cmp j k)).0 (sym (same-slice_cmp j k) ∙ e)
+    tied-where_same : (j k : List K) → same_key cmp j k ≡ true → slice_cmp cmp j k ≡ Equal
+    tied-where_same j k e = (Equal-is (slice_cmp cmp j k)).0 (sym (same-slice_cmp j k) ∙ e)
 
     -- the order on keys is total, and is told by the first difference
-    pub keys_ordered : KeysAreOrdered cmp
-    keys_ordered = record {
+    pub keys-ordered : KeysAreOrdered cmp
+    keys-ordered = record {
       total = lists_total o;
-      equal = λ j k. (λ e. same-slice_cmp j k ∙ ap is_eq e, tied_where_same j k);
-      less = λ j k. (less_place j k, λ l. less_from l.place j k l.before l.at);
-      components = λ j k. (same_places j k, places_same j k);
+      equal = λ j k. (λ e. same-slice_cmp j k ∙ ap is_eq e, tied-where_same j k);
+      less = λ j k. (less-place j k, λ l. less-from l.place j k l.before l.at);
+      components = λ j k. (same-places j k, places-same j k);
     }

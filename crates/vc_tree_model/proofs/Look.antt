@@ -46,11 +46,11 @@ pub record Look {K : Type 0} (cmp : K → K → Ordering) (V O : Type 0) : Type 
       → of_tree t k ≡ told none (at t.value) (λ q. under t.value (of_forest t.children q)) (behind cmp t.prefix k)
 
 -- the value of a key is told so
-pub told_values : {K V : Type 0} (v : Option V) (below : List K → Option V) (left : Option (List K))
+pub told-values : {K V : Type 0} (v : Option V) (below : List K → Option V) (left : Option (List K))
     → node_lookup v below left ≡ told None v below left
-told_values v below None = refl
-told_values v below (Some []) = refl
-told_values v below (Some (x ∷ rest)) = refl
+told-values v below None = refl
+told-values v below (Some []) = refl
+told-values v below (Some (x ∷ rest)) = refl
 
 -- what stands at one place of two lists of children, and what is made of it
 pub record Row (K V W U : Type 0) : Type 0 where
@@ -77,7 +77,7 @@ module _ {K : Type 0} (cmp : K → K → Ordering) where
     in_bare = λ x q. refl;
     skips = λ p v kids rest y x q e. rw e refl;
     takes = λ p v kids rest y x q e n. ap (or_else _) n ∙ or_else-none _;
-    tree_is = λ t k. told_values t.value (lookup_in cmp t.children) (behind cmp t.prefix k);
+    tree_is = λ t k. told-values t.value (lookup_in cmp t.children) (behind cmp t.prefix k);
   }
 
   -- each is at a lesser place than all later ones

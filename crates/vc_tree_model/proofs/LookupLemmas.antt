@@ -1,11 +1,11 @@
 -- How a look-up goes on from node to node, where it ends, and which keys a canonical tree binds.
---     lookup-equal, lookup-other, lookup_begins        one component of a key and of a prefix
+--     lookup-equal, lookup-other, lookup-begins        one component of a key and of a prefix
 --     lookup_in-empty, lookup_in-above, lookup_in-skip        what a list of trees doesn't bind
---     above_less, above_equal        components below those of a list of trees
---     lookup_same, lookup_in_same        equal keys
---     children_ordered        canonical children are in order
---     first_bound, tree_bound        each canonical child, and each node that is solid, binds a key
---     whole_cases, nothing_bound        the empty tree binds none
+--     above-less, above-equal        components below those of a list of trees
+--     lookup-same, lookup_in-same        equal keys
+--     children-ordered        canonical children are in order
+--     first-bound, tree-bound        each canonical child, and each node that is solid, binds a key
+--     whole-cases, nothing-bound        the empty tree binds none
 use Rattle.std.proofs.Common.{◌≡◌, [], ◌∷◌, ◌++◌, List, Option, None, Some, refl, sym, ap, ◌∙◌, true, false, true≢false, Bool, cond, ◌⊎◌, inl, inr}
 use Rattle.std.specs.declared.cmp.Ordering.{Ordering}
 use Rattle.std.specs.declared.cmp.Ordering.TheVariants.{Less, Equal}
@@ -16,7 +16,7 @@ use Rattle.vc_tree_model.specs.Value.{IsKept}
 use Rattle.vc_tree_model.specs.Tree.{Tree, Forest, bare, grow, node}
 use Rattle.vc_tree_model.specs.Map.{or_else, node_lookup, lookup, lookup_in}
 use Rattle.vc_tree_model.specs.Canonical.{AllAbove, AreOrdered, AreChildren, IsSolid, IsWhole}
-use Rattle.vc_tree_model.proofs.KeyLemmas.{none_some, greater, behind_itself, behind_of_same}
+use Rattle.vc_tree_model.proofs.KeyLemmas.{none-some, greater, behind-itself, behind-of_same}
 
 -- a key that a map binds, and its value
 pub record Bound {K V : Type 0} (f : List K → Option V) : Type 0 where
@@ -26,10 +26,10 @@ pub record Bound {K V : Type 0} (f : List K → Option V) : Type 0 where
 
 module _ {K V : Type 0} (cmp : K → K → Ordering) where
   -- canonical children are in order
-  pub children_ordered : (f : Forest K V) → AreChildren cmp f → AreOrdered cmp f
-  children_ordered bare a = tt
-  children_ordered (grow [] v kids rest) a = absurd a
-  children_ordered (grow (x ∷ p) v kids rest) a = (children_ordered kids a.1, a.2, children_ordered rest a.3)
+  pub children-ordered : (f : Forest K V) → AreChildren cmp f → AreOrdered cmp f
+  children-ordered bare a = tt
+  children-ordered (grow [] v kids rest) a = absurd a
+  children-ordered (grow (x ∷ p) v kids rest) a = (children-ordered kids a.1, a.2, children-ordered rest a.3)
 
   -- children bind no empty key
   pub lookup_in-empty : (f : Forest K V) → AreOrdered cmp f → lookup_in cmp f [] ≡ None
@@ -50,16 +50,16 @@ module _ {K V : Type 0} (cmp : K → K → Ordering) where
   lookup-other x y p k v f e = ap (λ b. node_lookup v (lookup_in cmp f) (cond b (behind cmp p k) None)) e
 
   -- what is bound behind a test, is bound where the test holds
-  test_held : (b : Bool) (o : Option (List K)) (v : Option V) (f : List K → Option V) (a : V)
+  test-held : (b : Bool) (o : Option (List K)) (v : Option V) (f : List K → Option V) (a : V)
       → node_lookup v f (cond b o None) ≡ Some a → b ≡ true
-  test_held true o v f a h = refl
-  test_held false o v f a h = none_some a h
+  test-held true o v f a h = refl
+  test-held false o v f a h = none-some a h
 
   -- a bound key begins as the prefix does
-  pub lookup_begins : (x y : K) (p k : List K) (v : Option V) (f : Forest K V) (a : V)
+  pub lookup-begins : (x y : K) (p k : List K) (v : Option V) (f : Forest K V) (a : V)
       → lookup cmp (node (x ∷ p) v f) (y ∷ k) ≡ Some a → cmp x y ≡ Equal
-  lookup_begins x y p k v f a h =
-      (Equal-is (cmp x y)).0 (test_held (is_eq (cmp x y)) (behind cmp p k) v (lookup_in cmp f) a h)
+  lookup-begins x y p k v f a h =
+      (Equal-is (cmp x y)).0 (test-held (is_eq (cmp x y)) (behind cmp p k) v (lookup_in cmp f) a h)
 
   -- beside a tree that begins with another component, the others alone are asked
   pub lookup_in-skip : (x y : K) (p k : List K) (v : Option V) (kids rest : Forest K V) → is_eq (cmp x y) ≡ false
@@ -71,16 +71,16 @@ module _ {K V : Type 0} (cmp : K → K → Ordering) where
     -- ---- components below those of a list of trees
 
     -- what is less than a component that all are above
-    pub above_less : (x y : K) (f : Forest K V) → cmp x y ≡ Less → AllAbove cmp y f → AllAbove cmp x f
-    above_less x y bare l a = tt
-    above_less x y (grow [] v kids rest) l a = absurd a
-    above_less x y (grow (z ∷ p) v kids rest) l a = (o.trans x y z l a.0, above_less x y rest l a.1)
+    pub above-less : (x y : K) (f : Forest K V) → cmp x y ≡ Less → AllAbove cmp y f → AllAbove cmp x f
+    above-less x y bare l a = tt
+    above-less x y (grow [] v kids rest) l a = absurd a
+    above-less x y (grow (z ∷ p) v kids rest) l a = (o.trans x y z l a.0, above-less x y rest l a.1)
 
     -- what equals one
-    pub above_equal : (x y : K) (f : Forest K V) → cmp x y ≡ Equal → AllAbove cmp x f → AllAbove cmp y f
-    above_equal x y bare e a = tt
-    above_equal x y (grow [] v kids rest) e a = absurd a
-    above_equal x y (grow (z ∷ p) v kids rest) e a = (sym (o.congr x y z e) ∙ a.0, above_equal x y rest e a.1)
+    pub above-equal : (x y : K) (f : Forest K V) → cmp x y ≡ Equal → AllAbove cmp x f → AllAbove cmp y f
+    above-equal x y bare e a = tt
+    above-equal x y (grow [] v kids rest) e a = absurd a
+    above-equal x y (grow (z ∷ p) v kids rest) e a = (sym (o.congr x y z e) ∙ a.0, above-equal x y rest e a.1)
 
     -- trees above a component bind no key that begins with it
     pub lookup_in-above : (x : K) (f : Forest K V) (k : List K) → AllAbove cmp x f → lookup_in cmp f (x ∷ k) ≡ None
@@ -91,33 +91,33 @@ module _ {K V : Type 0} (cmp : K → K → Ordering) where
     -- ---- equal keys
 
     -- what a node has at equal rests of a key is the same
-    node_lookup_of_same : (v : Option V) (f : List K → Option V)
+    node_lookup-of_same : (v : Option V) (f : List K → Option V)
         → ((j k : List K) → same_key cmp j k ≡ true → f j ≡ f k)
         → (a b : Option (List K)) → IsKept (λ j k. same_key cmp j k ≡ true) a b
         → node_lookup v f a ≡ node_lookup v f b
-    node_lookup_of_same v f g None None h = refl
-    node_lookup_of_same v f g None (Some k) h = absurd h
-    node_lookup_of_same v f g (Some j) None h = absurd h
-    node_lookup_of_same v f g (Some []) (Some []) h = refl
-    node_lookup_of_same v f g (Some []) (Some (y ∷ k)) h = absurd (true≢false (sym h))
-    node_lookup_of_same v f g (Some (x ∷ j)) (Some []) h = absurd (true≢false (sym h))
-    node_lookup_of_same v f g (Some (x ∷ j)) (Some (y ∷ k)) h = g (x ∷ j) (y ∷ k) h
+    node_lookup-of_same v f g None None h = refl
+    node_lookup-of_same v f g None (Some k) h = absurd h
+    node_lookup-of_same v f g (Some j) None h = absurd h
+    node_lookup-of_same v f g (Some []) (Some []) h = refl
+    node_lookup-of_same v f g (Some []) (Some (y ∷ k)) h = absurd (true≢false (sym h))
+    node_lookup-of_same v f g (Some (x ∷ j)) (Some []) h = absurd (true≢false (sym h))
+    node_lookup-of_same v f g (Some (x ∷ j)) (Some (y ∷ k)) h = g (x ∷ j) (y ∷ k) h
 
     -- a list of trees has one value at equal keys
-    pub lookup_in_same : (f : Forest K V) (j k : List K) → same_key cmp j k ≡ true
+    pub lookup_in-same : (f : Forest K V) (j k : List K) → same_key cmp j k ≡ true
         → lookup_in cmp f j ≡ lookup_in cmp f k
-    lookup_in_same bare j k h = refl
-    lookup_in_same (grow p v kids rest) j k h =
-        let left = behind_of_same cmp o p j k h in
-        let here = node_lookup_of_same v (lookup_in cmp kids) (lookup_in_same kids) _ _ left in
-        let beside = lookup_in_same rest j k h in
+    lookup_in-same bare j k h = refl
+    lookup_in-same (grow p v kids rest) j k h =
+        let left = behind-of_same cmp o p j k h in
+        let here = node_lookup-of_same v (lookup_in cmp kids) (lookup_in-same kids) _ _ left in
+        let beside = lookup_in-same rest j k h in
         λ i. or_else (here i) (beside i)
 
     -- a tree has one value at equal keys
-    pub lookup_same : (t : Tree K V) (j k : List K) → same_key cmp j k ≡ true → lookup cmp t j ≡ lookup cmp t k
-    lookup_same t j k h =
-        node_lookup_of_same t.value (lookup_in cmp t.children) (lookup_in_same t.children) _ _
-        (behind_of_same cmp o t.prefix j k h)
+    pub lookup-same : (t : Tree K V) (j k : List K) → same_key cmp j k ≡ true → lookup cmp t j ≡ lookup cmp t k
+    lookup-same t j k h =
+        node_lookup-of_same t.value (lookup_in cmp t.children) (lookup_in-same t.children) _ _
+        (behind-of_same cmp o t.prefix j k h)
 
     -- ---- which keys are bound
 
@@ -128,45 +128,45 @@ module _ {K V : Type 0} (cmp : K → K → Ordering) where
     FirstBound (grow (x ∷ p) v kids rest) = Bound (λ k. lookup_in cmp (grow (x ∷ p) v kids rest) (x ∷ k))
 
     -- a solid node binds its prefix, or what its first child binds behind it
-    node_bound : (p : List K) (v : Option V) (f : Forest K V) → IsSolid v f → AreChildren cmp f → FirstBound f
+    node-bound : (p : List K) (v : Option V) (f : Forest K V) → IsSolid v f → AreChildren cmp f → FirstBound f
         → Bound (λ k. lookup cmp (node p v f) (p ++ k))
-    node_bound p (Some v) f s a b = record { key = []; value = v; is = rw (behind_itself cmp o p []) refl }
-    node_bound p None bare s a b = absurd s
-    node_bound p None (grow [] w more rest) s a b = absurd a
-    node_bound p None (grow (x ∷ q) w more rest) s a b =
-        record { key = x ∷ b.key; value = b.value; is = rw (behind_itself cmp o p (x ∷ b.key)) b.is }
+    node-bound p (Some v) f s a b = record { key = []; value = v; is = rw (behind-itself cmp o p []) refl }
+    node-bound p None bare s a b = absurd s
+    node-bound p None (grow [] w more rest) s a b = absurd a
+    node-bound p None (grow (x ∷ q) w more rest) s a b =
+        record { key = x ∷ b.key; value = b.value; is = rw (behind-itself cmp o p (x ∷ b.key)) b.is }
 
     -- canonical children bind a key that begins as the first of them
-    pub first_bound : (f : Forest K V) → AreChildren cmp f → FirstBound f
-    first_bound bare a = tt
-    first_bound (grow [] v kids rest) a = tt
-    first_bound (grow (x ∷ p) v kids rest) a =
-        let b = node_bound (x ∷ p) v kids a.0 a.1 (first_bound kids a.1) in
+    pub first-bound : (f : Forest K V) → AreChildren cmp f → FirstBound f
+    first-bound bare a = tt
+    first-bound (grow [] v kids rest) a = tt
+    first-bound (grow (x ∷ p) v kids rest) a =
+        let b = node-bound (x ∷ p) v kids a.0 a.1 (first-bound kids a.1) in
         record
         { key = p ++ b.key; value = b.value; is = ap (λ m. or_else m (lookup_in cmp rest (x ∷ p ++ b.key))) b.is }
 
     -- a solid node over canonical children binds a key that starts with its prefix
-    pub tree_bound : (p : List K) (v : Option V) (f : Forest K V) → IsSolid v f → AreChildren cmp f
+    pub tree-bound : (p : List K) (v : Option V) (f : Forest K V) → IsSolid v f → AreChildren cmp f
         → Bound (λ k. lookup cmp (node p v f) (p ++ k))
-    tree_bound p v f s a = node_bound p v f s a (first_bound f a)
+    tree-bound p v f s a = node-bound p v f s a (first-bound f a)
 
   -- the three parts of the empty tree
   abbrev pub AreNothing : List K → Option V → Forest K V → Type 0
   AreNothing p v f = (p ≡ []) × (v ≡ None) × (f ≡ bare)
 
   -- a whole canonical tree is solid, or the empty one
-  pub whole_cases : (p : List K) (v : Option V) (f : Forest K V) → IsWhole p v f → IsSolid v f ⊎ AreNothing p v f
-  whole_cases [] None bare h = inr (refl, refl, refl)
-  whole_cases [] None (grow q w more rest) h = inl h
-  whole_cases [] (Some v) f h = inl tt
-  whole_cases (x ∷ p) v f h = inl h
+  pub whole-cases : (p : List K) (v : Option V) (f : Forest K V) → IsWhole p v f → IsSolid v f ⊎ AreNothing p v f
+  whole-cases [] None bare h = inr (refl, refl, refl)
+  whole-cases [] None (grow q w more rest) h = inl h
+  whole-cases [] (Some v) f h = inl tt
+  whole-cases (x ∷ p) v f h = inl h
 
   -- the empty tree binds no key
-  no_tree_binds : (k : List K) → lookup {V = V} cmp (node [] None bare) k ≡ None
-  no_tree_binds [] = refl
-  no_tree_binds (x ∷ k) = refl
+  no_tree-binds : (k : List K) → lookup {V = V} cmp (node [] None bare) k ≡ None
+  no_tree-binds [] = refl
+  no_tree-binds (x ∷ k) = refl
 
   -- nor does one of its parts
-  pub nothing_bound : (p : List K) (v : Option V) (f : Forest K V) → AreNothing p v f → (k : List K)
+  pub nothing-bound : (p : List K) (v : Option V) (f : Forest K V) → AreNothing p v f → (k : List K)
       → lookup cmp (node p v f) k ≡ None
-  nothing_bound p v f e k = (λ i. lookup cmp (node (e.0 i) (e.1 i) (e.2 i)) k) ∙ no_tree_binds k
+  nothing-bound p v f e k = (λ i. lookup cmp (node (e.0 i) (e.1 i) (e.2 i)) k) ∙ no_tree-binds k

@@ -1,9 +1,9 @@
 -- A tree whose children are in order is mended into the canonical one of its map: a node that binds nothing is taken
 -- out, and one without a value is joined to its only child.
 --     mend, mend_root        one node over mended children, among siblings and as the whole tree
---     mend_nodes, mend_above, mend_children, lookup_in-mend        what becomes of the nodes, the order and the map
---     mend_root_nodes, mend_root_canonical, lookup-mend_root        the same of the whole tree
---     mended, mended_nodes, mended_canonical, lookup-mended        every node of a tree
+--     mend-nodes, mend-above, mend-children, lookup_in-mend        what becomes of the nodes, the order and the map
+--     mend-root_nodes, mend-root_canonical, lookup-mend_root        the same of the whole tree
+--     mended, mended-nodes, mended-canonical, lookup-mended        every node of a tree
 use Rattle.std.proofs.Common.{◌≡◌, ◌+◌, ◌≤◌, [], ◌∷◌, ◌++◌, List, Option, None, Some, refl, sym, ap, ◌∙◌, arith}
 use Rattle.std.specs.declared.cmp.Ordering.{Ordering}
 use Rattle.std.specs.declared.cmp.Ordering.TheVariants.{Less}
@@ -41,86 +41,86 @@ module _ {K V : Type 0} where
   -- ---- no node is added
 
   -- a mended node is one at most
-  pub mend_nodes : (p : List K) (v : Option V) (kids rest : Forest K V)
+  pub mend-nodes : (p : List K) (v : Option V) (kids rest : Forest K V)
       → forest_nodes (mend p v kids rest) ≤ forest_nodes kids + 1 + forest_nodes rest
-  mend_nodes p (Some v) kids rest = omega arith
-  mend_nodes p None bare rest = omega arith
-  mend_nodes p None (grow q w more bare) rest = omega arith
-  mend_nodes p None (grow q w more (grow r u most others)) rest = omega arith
+  mend-nodes p (Some v) kids rest = omega arith
+  mend-nodes p None bare rest = omega arith
+  mend-nodes p None (grow q w more bare) rest = omega arith
+  mend-nodes p None (grow q w more (grow r u most others)) rest = omega arith
 
   -- mended trees have no more nodes than before
-  mended_nodes_in : (f : Forest K V) → forest_nodes (mended_in f) ≤ forest_nodes f
-  mended_nodes_in bare = omega arith
-  mended_nodes_in (grow p v kids rest) =
-      let here = mend_nodes p v (mended_in kids) (mended_in rest) in
-      let below = mended_nodes_in kids in
-      let beside = mended_nodes_in rest in
+  mended-nodes_in : (f : Forest K V) → forest_nodes (mended_in f) ≤ forest_nodes f
+  mended-nodes_in bare = omega arith
+  mended-nodes_in (grow p v kids rest) =
+      let here = mend-nodes p v (mended_in kids) (mended_in rest) in
+      let below = mended-nodes_in kids in
+      let beside = mended-nodes_in rest in
       omega (arith, here, below, beside)
 
   -- the mended whole is one node at most, beside those below
-  pub mend_root_nodes : (p : List K) (v : Option V) (f : Forest K V) → nodes (mend_root p v f) ≤ forest_nodes f + 1
-  mend_root_nodes p (Some v) f = omega arith
-  mend_root_nodes p None bare = omega arith
-  mend_root_nodes p None (grow q w more bare) = omega arith
-  mend_root_nodes p None (grow q w more (grow r u most others)) = omega arith
+  pub mend-root_nodes : (p : List K) (v : Option V) (f : Forest K V) → nodes (mend_root p v f) ≤ forest_nodes f + 1
+  mend-root_nodes p (Some v) f = omega arith
+  mend-root_nodes p None bare = omega arith
+  mend-root_nodes p None (grow q w more bare) = omega arith
+  mend-root_nodes p None (grow q w more (grow r u most others)) = omega arith
 
   -- a mended tree has no more nodes than before
-  pub mended_nodes : (t : Tree K V) → nodes (mended t) ≤ nodes t
-  mended_nodes t =
-      let root = mend_root_nodes t.prefix t.value (mended_in t.children) in
-      let below = mended_nodes_in t.children in
+  pub mended-nodes : (t : Tree K V) → nodes (mended t) ≤ nodes t
+  mended-nodes t =
+      let root = mend-root_nodes t.prefix t.value (mended_in t.children) in
+      let below = mended-nodes_in t.children in
       omega (arith, root, below)
 
 module _ {K V : Type 0} (cmp : K → K → Ordering) where
   -- ---- mended trees are canonical
 
   -- a mended node begins as it did
-  pub mend_above : (x y : K) (p : List K) (v : Option V) (kids rest : Forest K V) → cmp x y ≡ Less
+  pub mend-above : (x y : K) (p : List K) (v : Option V) (kids rest : Forest K V) → cmp x y ≡ Less
       → AllAbove cmp x rest → AllAbove cmp x (mend (y ∷ p) v kids rest)
-  mend_above x y p (Some v) kids rest l a = (l, a)
-  mend_above x y p None bare rest l a = a
-  mend_above x y p None (grow q w more bare) rest l a = (l, a)
-  mend_above x y p None (grow q w more (grow r u most others)) rest l a = (l, a)
+  mend-above x y p (Some v) kids rest l a = (l, a)
+  mend-above x y p None bare rest l a = a
+  mend-above x y p None (grow q w more bare) rest l a = (l, a)
+  mend-above x y p None (grow q w more (grow r u most others)) rest l a = (l, a)
 
   -- so do all of a list
-  mended_above : (x : K) (f : Forest K V) → AllAbove cmp x f → AllAbove cmp x (mended_in f)
-  mended_above x bare a = tt
-  mended_above x (grow [] v kids rest) a = absurd a
-  mended_above x (grow (y ∷ p) v kids rest) a =
-      mend_above x y p v (mended_in kids) (mended_in rest) a.0 (mended_above x rest a.1)
+  mended-above : (x : K) (f : Forest K V) → AllAbove cmp x f → AllAbove cmp x (mended_in f)
+  mended-above x bare a = tt
+  mended-above x (grow [] v kids rest) a = absurd a
+  mended-above x (grow (y ∷ p) v kids rest) a =
+      mend-above x y p v (mended_in kids) (mended_in rest) a.0 (mended-above x rest a.1)
 
   -- a mended node can be a child, beside canonical children
-  pub mend_children : (x : K) (p : List K) (v : Option V) (kids rest : Forest K V) → AreChildren cmp kids
+  pub mend-children : (x : K) (p : List K) (v : Option V) (kids rest : Forest K V) → AreChildren cmp kids
       → AllAbove cmp x rest → AreChildren cmp rest → AreChildren cmp (mend (x ∷ p) v kids rest)
-  mend_children x p (Some v) kids rest a l b = (tt, a, l, b)
-  mend_children x p None bare rest a l b = b
-  mend_children x p None (grow [] w more bare) rest a l b = absurd a
-  mend_children x p None (grow (y ∷ q) w more bare) rest a l b = (a.0, a.1, l, b)
-  mend_children x p None (grow q w more (grow r u most others)) rest a l b = (tt, a, l, b)
+  mend-children x p (Some v) kids rest a l b = (tt, a, l, b)
+  mend-children x p None bare rest a l b = b
+  mend-children x p None (grow [] w more bare) rest a l b = absurd a
+  mend-children x p None (grow (y ∷ q) w more bare) rest a l b = (a.0, a.1, l, b)
+  mend-children x p None (grow q w more (grow r u most others)) rest a l b = (tt, a, l, b)
 
   -- mended trees in order are canonical children
-  mended_children : (f : Forest K V) → AreOrdered cmp f → AreChildren cmp (mended_in f)
-  mended_children bare a = tt
-  mended_children (grow [] v kids rest) a = absurd a
-  mended_children (grow (x ∷ p) v kids rest) a =
-      mend_children x p v (mended_in kids) (mended_in rest) (mended_children kids a.0) (mended_above x rest a.1)
-      (mended_children rest a.2)
+  mended-children : (f : Forest K V) → AreOrdered cmp f → AreChildren cmp (mended_in f)
+  mended-children bare a = tt
+  mended-children (grow [] v kids rest) a = absurd a
+  mended-children (grow (x ∷ p) v kids rest) a =
+      mend-children x p v (mended_in kids) (mended_in rest) (mended-children kids a.0) (mended-above x rest a.1)
+      (mended-children rest a.2)
 
   -- the mended whole is canonical
-  pub mend_root_canonical : (p : List K) (v : Option V) (f : Forest K V) → AreChildren cmp f
+  pub mend-root_canonical : (p : List K) (v : Option V) (f : Forest K V) → AreChildren cmp f
       → IsCanonical cmp (mend_root p v f)
-  mend_root_canonical [] (Some v) f a = (tt, a)
-  mend_root_canonical (x ∷ p) (Some v) f a = (tt, a)
-  mend_root_canonical p None bare a = (tt, tt)
-  mend_root_canonical p None (grow [] w more bare) a = absurd a
-  mend_root_canonical [] None (grow (y ∷ q) w more bare) a = (a.0, a.1)
-  mend_root_canonical (x ∷ p) None (grow (y ∷ q) w more bare) a = (a.0, a.1)
-  mend_root_canonical [] None (grow q w more (grow r u most others)) a = (tt, a)
-  mend_root_canonical (x ∷ p) None (grow q w more (grow r u most others)) a = (tt, a)
+  mend-root_canonical [] (Some v) f a = (tt, a)
+  mend-root_canonical (x ∷ p) (Some v) f a = (tt, a)
+  mend-root_canonical p None bare a = (tt, tt)
+  mend-root_canonical p None (grow [] w more bare) a = absurd a
+  mend-root_canonical [] None (grow (y ∷ q) w more bare) a = (a.0, a.1)
+  mend-root_canonical (x ∷ p) None (grow (y ∷ q) w more bare) a = (a.0, a.1)
+  mend-root_canonical [] None (grow q w more (grow r u most others)) a = (tt, a)
+  mend-root_canonical (x ∷ p) None (grow q w more (grow r u most others)) a = (tt, a)
 
   -- a mended tree is canonical
-  pub mended_canonical : (t : Tree K V) → AreOrdered cmp t.children → IsCanonical cmp (mended t)
-  mended_canonical t a = mend_root_canonical t.prefix t.value (mended_in t.children) (mended_children t.children a)
+  pub mended-canonical : (t : Tree K V) → AreOrdered cmp t.children → IsCanonical cmp (mended t)
+  mended-canonical t a = mend-root_canonical t.prefix t.value (mended_in t.children) (mended-children t.children a)
 
   -- ---- mended trees bind what they bound
 
@@ -169,7 +169,7 @@ module _ {K V : Type 0} (cmp : K → K → Ordering) where
       let below = lookup_in-mended kids a.0 in
       let here = node_lookup-same v (lookup_in cmp (mended_in kids)) (lookup_in cmp kids) left below in
       let beside = lookup_in-mended rest a.2 k in
-      lookup_in-mend (x ∷ p) v (mended_in kids) (mended_in rest) k (mended_children kids a.0)
+      lookup_in-mend (x ∷ p) v (mended_in kids) (mended_in rest) k (mended-children kids a.0)
       ∙ (λ i. or_else (here i) (beside i))
 
   -- the mended whole binds what it bound
@@ -186,6 +186,6 @@ module _ {K V : Type 0} (cmp : K → K → Ordering) where
   pub lookup-mended : (t : Tree K V) → AreOrdered cmp t.children → (k : List K)
       → lookup cmp (mended t) k ≡ lookup cmp t k
   lookup-mended t a k =
-      lookup-mend_root t.prefix t.value (mended_in t.children) k (mended_children t.children a)
+      lookup-mend_root t.prefix t.value (mended_in t.children) k (mended-children t.children a)
       ∙ node_lookup-same t.value (lookup_in cmp (mended_in t.children)) (lookup_in cmp t.children)
       (behind cmp t.prefix k) (lookup_in-mended t.children a)

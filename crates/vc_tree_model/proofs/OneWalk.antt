@@ -1,6 +1,6 @@
 -- A map has one walk: two lists of all its pairs, keys strictly ascending, are equal pair by pair.
---     one_walk        equal keys and the same values, place by place
---     walk_length        so every walk of a tree's map is as long as the tree has values
+--     one-walk        equal keys and the same values, place by place
+--     walk-length        so every walk of a tree's map is as long as the tree has values
 use Rattle.std.proofs.Common.{◌≡◌, [], ◌∷◌, List, Option, length, refl, sym, ◌∙◌, true, inl, inr}
 use Rattle.std.specs.declared.cmp.Ordering.{Ordering}
 use Rattle.std.specs.declared.cmp.Ordering.TheVariants.{Less}
@@ -15,28 +15,28 @@ use Rattle.vc_tree_model.specs.Tree.{Tree, key_count}
 use Rattle.vc_tree_model.specs.Map.{lookup}
 use Rattle.vc_tree_model.specs.Canonical.{AreOrdered}
 use Rattle.vc_tree_model.specs.Walk.{walk, Lists, IsSamePair, IsWalk}
-use Rattle.vc_tree_model.proofs.KeyLemmas.{same-slice_cmp, same_itself, same_flip, same_trans, not_before, not_both_before}
-use Rattle.vc_tree_model.proofs.Walking.{Ascend, walk_is, length-walk}
+use Rattle.vc_tree_model.proofs.KeyLemmas.{same-slice_cmp, same-itself, same-flip, same-trans, not-before, not-both_before}
+use Rattle.vc_tree_model.proofs.Walking.{Ascend, walk-is, length-walk}
 
 module _ {K V : Type 0} (cmp : K → K → Ordering) (o : IsTotalOrder cmp) where
   -- a key comes before each key that a list above it has
-  before_listed : (j : List K) (l : List (List K × V)) → AllByRecursion (λ k. slice_cmp cmp j k ≡ Less) (keys_of l)
+  before-listed : (j : List K) (l : List (List K × V)) → AllByRecursion (λ k. slice_cmp cmp j k ≡ Less) (keys_of l)
       → (k : List K) (a : V) → Lists cmp l k a → slice_cmp cmp j k ≡ Less
-  before_listed j [] h k a e = absurd e
-  before_listed j (b ∷ l) h k a (inl e) =
+  before-listed j [] h k a e = absurd e
+  before-listed j (b ∷ l) h k a (inl e) =
       sym
       (alike_right (lists_total o) b.0 k j ((Equal-is (slice_cmp cmp b.0 k)).0 (sym (same-slice_cmp cmp b.0 k) ∙ e.0)))
       ∙ h.0
-  before_listed j (b ∷ l) h k a (inr e) = before_listed j l h.1 k a e
+  before-listed j (b ∷ l) h k a (inr e) = before-listed j l h.1 k a e
 
   -- the first pairs of two lists that have each other's first pair
-  same_firsts : (b c : List K × V) (l m : List (List K × V)) → Ascend cmp (b ∷ l) → Ascend cmp (c ∷ m)
+  same-firsts : (b c : List K × V) (l m : List (List K × V)) → Ascend cmp (b ∷ l) → Ascend cmp (c ∷ m)
       → Lists cmp (c ∷ m) b.0 b.1 → Lists cmp (b ∷ l) c.0 c.1 → IsSamePair cmp b c
   unfolding IsStrictlySortedBy
-  same_firsts b c l m p q (inl h) g = (same_flip cmp o b.0 c.0 ∙ h.0, sym h.1)
-  same_firsts b c l m p q (inr h) (inl g) = g
-  same_firsts b c l m p q (inr h) (inr g) =
-      absurd (not_both_before cmp o c.0 b.0 (before_listed c.0 m q.0 b.0 b.1 h) (before_listed b.0 l p.0 c.0 c.1 g))
+  same-firsts b c l m p q (inl h) g = (same-flip cmp o b.0 c.0 ∙ h.0, sym h.1)
+  same-firsts b c l m p q (inr h) (inl g) = g
+  same-firsts b c l m p q (inr h) (inr g) =
+      absurd (not-both_before cmp o c.0 b.0 (before-listed c.0 m q.0 b.0 b.1 h) (before-listed b.0 l p.0 c.0 c.1 g))
 
   -- behind equal first keys, the others have each other's pairs
   others : (b c : List K × V) (l m : List (List K × V)) → Ascend cmp (b ∷ l) → same_key cmp b.0 c.0 ≡ true
@@ -47,39 +47,39 @@ module _ {K V : Type 0} (cmp : K → K → Ordering) (o : IsTotalOrder cmp) wher
     where
       by : Lists cmp (c ∷ m) k a → Lists cmp m k a
       by (inr g) = g
-      by (inl g) = absurd (not_before cmp b.0 k (before_listed b.0 l p.0 k a h) (same_trans cmp o b.0 c.0 k e g.0))
+      by (inl g) = absurd (not-before cmp b.0 k (before-listed b.0 l p.0 k a h) (same-trans cmp o b.0 c.0 k e g.0))
 
   -- the others ascend
-  others_ascend : (b : List K × V) (l : List (List K × V)) → Ascend cmp (b ∷ l) → Ascend cmp l
+  others-ascend : (b : List K × V) (l : List (List K × V)) → Ascend cmp (b ∷ l) → Ascend cmp l
   unfolding IsStrictlySortedBy
-  others_ascend b l p = p.1
+  others-ascend b l p = p.1
 
   -- two lists that ascend and have each other's pairs are equal, pair by pair
-  same_pairs : (l m : List (List K × V)) → Ascend cmp l → Ascend cmp m
+  same-pairs : (l m : List (List K × V)) → Ascend cmp l → Ascend cmp m
       → ((k : List K) (a : V) → Lists cmp l k a → Lists cmp m k a)
       → ((k : List K) (a : V) → Lists cmp m k a → Lists cmp l k a)
       → AllZip (IsSamePair cmp) l m
-  same_pairs [] [] p q f g = tt
-  same_pairs [] (c ∷ m) p q f g = absurd (g c.0 c.1 (inl (same_itself cmp o c.0, refl)))
-  same_pairs (b ∷ l) [] p q f g = absurd (f b.0 b.1 (inl (same_itself cmp o b.0, refl)))
-  same_pairs (b ∷ l) (c ∷ m) p q f g =
-      let left = f b.0 b.1 (inl (same_itself cmp o b.0, refl)) in
-      let right = g c.0 c.1 (inl (same_itself cmp o c.0, refl)) in
-      let same = same_firsts b c l m p q left right in
-      let back = same_flip cmp o c.0 b.0 ∙ same.0 in
-      let beside = same_pairs l m (others_ascend b l p) (others_ascend c m q) in
+  same-pairs [] [] p q f g = tt
+  same-pairs [] (c ∷ m) p q f g = absurd (g c.0 c.1 (inl (same-itself cmp o c.0, refl)))
+  same-pairs (b ∷ l) [] p q f g = absurd (f b.0 b.1 (inl (same-itself cmp o b.0, refl)))
+  same-pairs (b ∷ l) (c ∷ m) p q f g =
+      let left = f b.0 b.1 (inl (same-itself cmp o b.0, refl)) in
+      let right = g c.0 c.1 (inl (same-itself cmp o c.0, refl)) in
+      let same = same-firsts b c l m p q left right in
+      let back = same-flip cmp o c.0 b.0 ∙ same.0 in
+      let beside = same-pairs l m (others-ascend b l p) (others-ascend c m q) in
       (same, beside (others b c l m p same.0 f) (others c b m l q back g))
 
   -- a map has one walk
-  pub one_walk : (f : List K → Option V) (l m : List (List K × V)) → IsWalk cmp f l → IsWalk cmp f m
+  pub one-walk : (f : List K → Option V) (l m : List (List K × V)) → IsWalk cmp f l → IsWalk cmp f m
       → AllZip (IsSamePair cmp) l m
-  one_walk f l m p q =
-      same_pairs l m p.ascends q.ascends (λ k a h. (q.lists k a).1 ((p.lists k a).0 h))
+  one-walk f l m p q =
+      same-pairs l m p.ascends q.ascends (λ k a h. (q.lists k a).1 ((p.lists k a).0 h))
       (λ k a h. (p.lists k a).1 ((q.lists k a).0 h))
 
   -- every walk of a tree's map is as long as the tree has values
-  pub walk_length : (t : Tree K V) → AreOrdered cmp t.children → (l : List (List K × V)) → IsWalk cmp (lookup cmp t) l
+  pub walk-length : (t : Tree K V) → AreOrdered cmp t.children → (l : List (List K × V)) → IsWalk cmp (lookup cmp t) l
       → length l ≡ key_count t
-  walk_length t d l w =
-      AllZip-long (IsSamePair cmp) (walk t) l (one_walk (lookup cmp t) (walk t) l (walk_is cmp o t d) w)
+  walk-length t d l w =
+      AllZip-long (IsSamePair cmp) (walk t) l (one-walk (lookup cmp t) (walk t) l (walk-is cmp o t d) w)
       ∙ length-walk t

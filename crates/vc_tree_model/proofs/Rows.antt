@@ -1,7 +1,7 @@
 -- Children that are made place by place: they are canonical, and they are what the combine says of the children on either side.
---     rows_children        what is made is canonical children
---     rows_combined        and it is what the combine says of both sides
---     rows_asked        what holds at each key of both sides, holds at each row
+--     rows-children        what is made is canonical children
+--     rows-combined        and it is what the combine says of both sides
+--     rows-asked        what holds at each key of both sides, holds at each row
 use Rattle.std.proofs.Common.{◌≡◌, [], ◌∷◌, List, Option, None, Some, refl, sym, ap, ◌∙◌, true, false, Bool, cond}
 use Rattle.std.specs.Cmp.{IsTotalOrder, Equal-is, alike_right}
 use Rattle.std.specs.List.{AllByRecursion, filter_map, cons_option}
@@ -13,7 +13,7 @@ use Rattle.vc_tree_model.specs.Tree.{Tree, Forest, bare, grow, forest, node}
 use Rattle.vc_tree_model.specs.Map.{lookup_in}
 use Rattle.vc_tree_model.specs.Canonical.{AllAbove, AreChildren, IsSolid}
 use Rattle.vc_tree_model.specs.Child.{Begins, BeginsWith, IsChild, bound_by}
-use Rattle.vc_tree_model.proofs.LookupLemmas.{above_equal}
+use Rattle.vc_tree_model.proofs.LookupLemmas.{above-equal}
 use Rattle.vc_tree_model.proofs.Look.{Look, told, Row, look, values, AscendBy, IsRow, IsCombinedIn}
 
 -- the trees of one side
@@ -24,124 +24,124 @@ module _ {K : Type 0} (cmp : K → K → Ordering) (o : IsTotalOrder cmp) where
   -- ---- a tree before a list of trees
 
   -- what is above y does not equal x, which equals y
-  above_not : (y z x : K) → cmp y z ≡ Less → cmp y x ≡ Equal → is_eq (cmp z x) ≡ false
-  above_not y z x l e = ap is_eq (o.antisymm z x ∙ ap ordering_reverse (sym (o.congr y x z e) ∙ l))
+  above-not : (y z x : K) → cmp y z ≡ Less → cmp y x ≡ Equal → is_eq (cmp z x) ≡ false
+  above-not y z x l e = ap is_eq (o.antisymm z x ∙ ap ordering_reverse (sym (o.congr y x z e) ∙ l))
 
   module _ {V O : Type 0} (l : Look cmp V O) where
     -- trees above y say nothing of a key that begins as y
-    none_above : (y x : K) (q : List K) → cmp y x ≡ Equal → (f : Forest K V) → AllAbove cmp y f
+    none-above : (y x : K) (q : List K) → cmp y x ≡ Equal → (f : Forest K V) → AllAbove cmp y f
         → l.of_forest f (x ∷ q) ≡ l.none
-    none_above y x q e bare a = l.in_bare x q
-    none_above y x q e (grow [] v kids rest) a = absurd a
-    none_above y x q e (grow (z ∷ p) v kids rest) a =
-        l.skips p v kids rest z x q (above_not y z x a.0 e) ∙ none_above y x q e rest a.1
+    none-above y x q e bare a = l.in_bare x q
+    none-above y x q e (grow [] v kids rest) a = absurd a
+    none-above y x q e (grow (z ∷ p) v kids rest) a =
+        l.skips p v kids rest z x q (above-not y z x a.0 e) ∙ none-above y x q e rest a.1
 
-    skip_tree : (p : List K) (v : Option V) (kids rest : Forest K V) (y x : K) (q : List K) → Begins cmp y p
+    skip-tree : (p : List K) (v : Option V) (kids rest : Forest K V) (y x : K) (q : List K) → Begins cmp y p
         → is_eq (cmp y x) ≡ false → l.of_forest (grow p v kids rest) (x ∷ q) ≡ l.of_forest rest (x ∷ q)
-    skip_tree [] v kids rest y x q b e = absurd b
-    skip_tree (z ∷ p) v kids rest y x q b e = l.skips p v kids rest z x q (ap is_eq (sym (o.congr y z x b)) ∙ e)
+    skip-tree [] v kids rest y x q b e = absurd b
+    skip-tree (z ∷ p) v kids rest y x q b e = l.skips p v kids rest z x q (ap is_eq (sym (o.congr y z x b)) ∙ e)
 
-    take_tree : (p : List K) (v : Option V) (kids rest : Forest K V) (y x : K) (q : List K) → Begins cmp y p
+    take-tree : (p : List K) (v : Option V) (kids rest : Forest K V) (y x : K) (q : List K) → Begins cmp y p
         → cmp y x ≡ Equal → l.of_forest rest (x ∷ q) ≡ l.none
         → l.of_forest (grow p v kids rest) (x ∷ q) ≡ l.of_tree (node p v kids) (x ∷ q)
-    take_tree [] v kids rest y x q b e n = absurd b
-    take_tree (z ∷ p) v kids rest y x q b e n = l.takes p v kids rest z x q (sym (o.congr y z x b) ∙ e) n
+    take-tree [] v kids rest y x q b e n = absurd b
+    take-tree (z ∷ p) v kids rest y x q b e n = l.takes p v kids rest z x q (sym (o.congr y z x b) ∙ e) n
 
     -- beside a tree that begins with another component, the others alone are asked
-    skip_one : (t : Option (Tree K V)) (ts : List (Tree K V)) (y x : K) (q : List K) → BeginsWith cmp y t
+    skip-one : (t : Option (Tree K V)) (ts : List (Tree K V)) (y x : K) (q : List K) → BeginsWith cmp y t
         → is_eq (cmp y x) ≡ false
         → l.of_forest (forest (cons_option t ts)) (x ∷ q) ≡ l.of_forest (forest ts) (x ∷ q)
-    skip_one None ts y x q b e = refl
-    skip_one (Some t) ts y x q b e = skip_tree t.prefix t.value t.children (forest ts) y x q b e
+    skip-one None ts y x q b e = refl
+    skip-one (Some t) ts y x q b e = skip-tree t.prefix t.value t.children (forest ts) y x q b e
 
     -- and the tree alone where it begins so, since the others say nothing
-    take_one : (t : Option (Tree K V)) (ts : List (Tree K V)) (y x : K) (q : List K) → BeginsWith cmp y t
+    take-one : (t : Option (Tree K V)) (ts : List (Tree K V)) (y x : K) (q : List K) → BeginsWith cmp y t
         → cmp y x ≡ Equal → l.of_forest (forest ts) (x ∷ q) ≡ l.none
         → l.of_forest (forest (cons_option t ts)) (x ∷ q) ≡ look cmp l t (x ∷ q)
-    take_one None ts y x q b e n = n
-    take_one (Some t) ts y x q b e n = take_tree t.prefix t.value t.children (forest ts) y x q b e n
+    take-one None ts y x q b e n = n
+    take-one (Some t) ts y x q b e n = take-tree t.prefix t.value t.children (forest ts) y x q b e n
 
-    told_other : (b : Bool) (v : Option V) (f : Forest K V) (o : Option (List K)) → b ≡ false
+    told-other : (b : Bool) (v : Option V) (f : Forest K V) (o : Option (List K)) → b ≡ false
         → told l.none (l.at v) (λ q. l.under v (l.of_forest f q)) (cond b o None) ≡ l.none
-    told_other b v f o e = rw e refl
+    told-other b v f o e = rw e refl
 
     -- a tree says nothing of a key that begins otherwise, nor of the empty key
-    other_tree : (p : List K) (v : Option V) (f : Forest K V) (y x : K) (q : List K) → Begins cmp y p
+    other-tree : (p : List K) (v : Option V) (f : Forest K V) (y x : K) (q : List K) → Begins cmp y p
         → is_eq (cmp y x) ≡ false → l.of_tree (node p v f) (x ∷ q) ≡ l.none
-    other_tree [] v f y x q b e = absurd b
-    other_tree (z ∷ p) v f y x q b e =
+    other-tree [] v f y x q b e = absurd b
+    other-tree (z ∷ p) v f y x q b e =
         l.tree_is (node (z ∷ p) v f) (x ∷ q)
-        ∙ told_other (is_eq (cmp z x)) v f (behind cmp p q) (ap is_eq (sym (o.congr y z x b)) ∙ e)
+        ∙ told-other (is_eq (cmp z x)) v f (behind cmp p q) (ap is_eq (sym (o.congr y z x b)) ∙ e)
 
-    other_none : (t : Option (Tree K V)) (y x : K) (q : List K) → BeginsWith cmp y t → is_eq (cmp y x) ≡ false
+    other-none : (t : Option (Tree K V)) (y x : K) (q : List K) → BeginsWith cmp y t → is_eq (cmp y x) ≡ false
         → look cmp l t (x ∷ q) ≡ l.none
-    other_none None y x q b e = refl
-    other_none (Some t) y x q b e = other_tree t.prefix t.value t.children y x q b e
+    other-none None y x q b e = refl
+    other-none (Some t) y x q b e = other-tree t.prefix t.value t.children y x q b e
 
-    empty_tree : (p : List K) (v : Option V) (f : Forest K V) (y : K) → Begins cmp y p → l.of_tree (node p v f) [] ≡ l.none
-    empty_tree [] v f y b = absurd b
-    empty_tree (z ∷ p) v f y b = l.tree_is (node (z ∷ p) v f) []
+    empty-tree : (p : List K) (v : Option V) (f : Forest K V) (y : K) → Begins cmp y p → l.of_tree (node p v f) [] ≡ l.none
+    empty-tree [] v f y b = absurd b
+    empty-tree (z ∷ p) v f y b = l.tree_is (node (z ∷ p) v f) []
 
-    empty_none : (t : Option (Tree K V)) (y : K) → BeginsWith cmp y t → look cmp l t [] ≡ l.none
-    empty_none None y b = refl
-    empty_none (Some t) y b = empty_tree t.prefix t.value t.children y b
+    empty-none : (t : Option (Tree K V)) (y : K) → BeginsWith cmp y t → look cmp l t [] ≡ l.none
+    empty-none None y b = refl
+    empty-none (Some t) y b = empty-tree t.prefix t.value t.children y b
 
   -- ---- what all places are above, and what may stand as children
 
   module _ {V : Type 0} where
-    above_tree : (p : List K) (v : Option V) (kids rest : Forest K V) (x y : K) → Begins cmp y p → cmp x y ≡ Less
+    above-tree : (p : List K) (v : Option V) (kids rest : Forest K V) (x y : K) → Begins cmp y p → cmp x y ≡ Less
         → AllAbove cmp x rest → AllAbove cmp x (grow p v kids rest)
-    above_tree [] v kids rest x y b h a = absurd b
-    above_tree (z ∷ p) v kids rest x y b h a = (sym (alike_right o y z x b) ∙ h, a)
+    above-tree [] v kids rest x y b h a = absurd b
+    above-tree (z ∷ p) v kids rest x y b h a = (sym (alike_right o y z x b) ∙ h, a)
 
-    above_one : (t : Option (Tree K V)) (ts : List (Tree K V)) (x y : K) → BeginsWith cmp y t → cmp x y ≡ Less
+    above-one : (t : Option (Tree K V)) (ts : List (Tree K V)) (x y : K) → BeginsWith cmp y t → cmp x y ≡ Less
         → AllAbove cmp x (forest ts) → AllAbove cmp x (forest (cons_option t ts))
-    above_one None ts x y b h a = a
-    above_one (Some t) ts x y b h a = above_tree t.prefix t.value t.children (forest ts) x y b h a
+    above-one None ts x y b h a = a
+    above-one (Some t) ts x y b h a = above-tree t.prefix t.value t.children (forest ts) x y b h a
 
     -- the trees of a side are above what all its places are above
-    side_above : {X : Type 0} (place : X → K) (f : X → Option (Tree K V)) (x : K) (rs : List X)
+    side-above : {X : Type 0} (place : X → K) (f : X → Option (Tree K V)) (x : K) (rs : List X)
         → AllByRecursion (λ s. cmp x (place s) ≡ Less) rs → AllByRecursion (λ r. BeginsWith cmp (place r) (f r)) rs
         → AllAbove cmp x (side f rs)
-    side_above place f x [] h b = tt
-    side_above place f x (r ∷ rs) h b =
-        above_one (f r) (filter_map f rs) x (place r) b.0 h.0 (side_above place f x rs h.1 b.1)
+    side-above place f x [] h b = tt
+    side-above place f x (r ∷ rs) h b =
+        above-one (f r) (filter_map f rs) x (place r) b.0 h.0 (side-above place f x rs h.1 b.1)
 
-    children_tree : (p : List K) (v : Option V) (kids rest : Forest K V) (y : K) → Begins cmp y p → IsSolid v kids
+    children-tree : (p : List K) (v : Option V) (kids rest : Forest K V) (y : K) → Begins cmp y p → IsSolid v kids
         → AreChildren cmp kids → AllAbove cmp y rest → AreChildren cmp rest → AreChildren cmp (grow p v kids rest)
-    children_tree [] v kids rest y b s c a r = absurd b
-    children_tree (z ∷ p) v kids rest y b s c a r = (s, c, above_equal cmp o y z rest b a, r)
+    children-tree [] v kids rest y b s c a r = absurd b
+    children-tree (z ∷ p) v kids rest y b s c a r = (s, c, above-equal cmp o y z rest b a, r)
 
-    children_one : (t : Option (Tree K V)) (ts : List (Tree K V)) (y : K) → BeginsWith cmp y t → IsChild cmp t
+    children-one : (t : Option (Tree K V)) (ts : List (Tree K V)) (y : K) → BeginsWith cmp y t → IsChild cmp t
         → AllAbove cmp y (forest ts) → AreChildren cmp (forest ts) → AreChildren cmp (forest (cons_option t ts))
-    children_one None ts y b c a r = r
-    children_one (Some t) ts y b c a r = children_tree t.prefix t.value t.children (forest ts) y b c.0 c.1 a r
+    children-one None ts y b c a r = r
+    children-one (Some t) ts y b c a r = children-tree t.prefix t.value t.children (forest ts) y b c.0 c.1 a r
 
   -- ---- rows
 
   module _ {V W U O : Type 0} (l : Look cmp W O) (R : Option V → O → Option U → Type 0) where
-    lefts_begin : (rs : List (Row K V W U)) → AllByRecursion (IsRow cmp l R) rs
+    lefts-begin : (rs : List (Row K V W U)) → AllByRecursion (IsRow cmp l R) rs
         → AllByRecursion (λ r. BeginsWith cmp r.place r.left) rs
-    lefts_begin [] h = tt
-    lefts_begin (r ∷ rs) h = (h.0.left, lefts_begin rs h.1)
+    lefts-begin [] h = tt
+    lefts-begin (r ∷ rs) h = (h.0.left, lefts-begin rs h.1)
 
-    rights_begin : (rs : List (Row K V W U)) → AllByRecursion (IsRow cmp l R) rs
+    rights-begin : (rs : List (Row K V W U)) → AllByRecursion (IsRow cmp l R) rs
         → AllByRecursion (λ r. BeginsWith cmp r.place r.right) rs
-    rights_begin [] h = tt
-    rights_begin (r ∷ rs) h = (h.0.right, rights_begin rs h.1)
+    rights-begin [] h = tt
+    rights-begin (r ∷ rs) h = (h.0.right, rights-begin rs h.1)
 
-    outs_begin : (rs : List (Row K V W U)) → AllByRecursion (IsRow cmp l R) rs
+    outs-begin : (rs : List (Row K V W U)) → AllByRecursion (IsRow cmp l R) rs
         → AllByRecursion (λ r. BeginsWith cmp r.place r.out) rs
-    outs_begin [] h = tt
-    outs_begin (r ∷ rs) h = (h.0.out, outs_begin rs h.1)
+    outs-begin [] h = tt
+    outs-begin (r ∷ rs) h = (h.0.out, outs-begin rs h.1)
 
     -- what is made place by place is canonical children
-    pub rows_children : (rs : List (Row K V W U)) → AscendBy cmp (λ r. r.place) rs → AllByRecursion (IsRow cmp l R) rs
+    pub rows-children : (rs : List (Row K V W U)) → AscendBy cmp (λ r. r.place) rs → AllByRecursion (IsRow cmp l R) rs
         → AreChildren cmp (side (λ r. r.out) rs)
-    rows_children [] a h = tt
-    rows_children (r ∷ rs) a h =
-        children_one r.out (filter_map (λ r. r.out) rs) r.place h.0.out h.0.child
-        (side_above (λ r. r.place) (λ r. r.out) r.place rs a.0 (outs_begin rs h.1)) (rows_children rs a.1 h.1)
+    rows-children [] a h = tt
+    rows-children (r ∷ rs) a h =
+        children-one r.out (filter_map (λ r. r.out) rs) r.place h.0.out h.0.child
+        (side-above (λ r. r.place) (λ r. r.out) r.place rs a.0 (outs-begin rs h.1)) (rows-children rs a.1 h.1)
 
     -- what is said of a key at all rows
     abbrev RowsSay : List (Row K V W U) → K → List K → Type 0
@@ -150,76 +150,76 @@ module _ {K : Type 0} (cmp : K → K → Ordering) (o : IsTotalOrder cmp) where
         (lookup_in cmp (side (λ r. r.out) rs) (x ∷ q))
 
     -- a key that begins at the first place is asked there alone, and another at the others
-    rows_pick : (b : Bool) (r : Row K V W U) (rs : List (Row K V W U)) (x : K) (q : List K) → is_eq (cmp r.place x) ≡ b
+    rows-pick : (b : Bool) (r : Row K V W U) (rs : List (Row K V W U)) (x : K) (q : List K) → is_eq (cmp r.place x) ≡ b
         → AllByRecursion (λ s. cmp r.place s.place ≡ Less) rs → IsRow cmp l R r → AllByRecursion (IsRow cmp l R) rs
         → RowsSay rs x q → RowsSay (r ∷ rs) x q
-    rows_pick false r rs x q e a h hs rest =
+    rows-pick false r rs x q e a h hs rest =
         rw (
-          skip_one (values cmp) r.left (filter_map (λ r. r.left) rs) r.place x q h.left e,
-          skip_one l r.right (filter_map (λ r. r.right) rs) r.place x q h.right e,
-          skip_one (values cmp) r.out (filter_map (λ r. r.out) rs) r.place x q h.out e,
+          skip-one (values cmp) r.left (filter_map (λ r. r.left) rs) r.place x q h.left e,
+          skip-one l r.right (filter_map (λ r. r.right) rs) r.place x q h.right e,
+          skip-one (values cmp) r.out (filter_map (λ r. r.out) rs) r.place x q h.out e,
         ) rest
-    rows_pick true r rs x q e a h hs rest =
+    rows-pick true r rs x q e a h hs rest =
         let t = (Equal-is (cmp r.place x)).0 e in
-        let left = side_above (λ r. r.place) (λ r. r.left) r.place rs a (lefts_begin rs hs) in
-        let right = side_above (λ r. r.place) (λ r. r.right) r.place rs a (rights_begin rs hs) in
-        let out = side_above (λ r. r.place) (λ r. r.out) r.place rs a (outs_begin rs hs) in
+        let left = side-above (λ r. r.place) (λ r. r.left) r.place rs a (lefts-begin rs hs) in
+        let right = side-above (λ r. r.place) (λ r. r.right) r.place rs a (rights-begin rs hs) in
+        let out = side-above (λ r. r.place) (λ r. r.out) r.place rs a (outs-begin rs hs) in
         rw (
-          take_one (values cmp) r.left (filter_map (λ r. r.left) rs) r.place x q h.left t
-              (none_above (values cmp) r.place x q t (side (λ r. r.left) rs) left),
-          take_one l r.right (filter_map (λ r. r.right) rs) r.place x q h.right t
-              (none_above l r.place x q t (side (λ r. r.right) rs) right),
-          take_one (values cmp) r.out (filter_map (λ r. r.out) rs) r.place x q h.out t
-              (none_above (values cmp) r.place x q t (side (λ r. r.out) rs) out),
+          take-one (values cmp) r.left (filter_map (λ r. r.left) rs) r.place x q h.left t
+              (none-above (values cmp) r.place x q t (side (λ r. r.left) rs) left),
+          take-one l r.right (filter_map (λ r. r.right) rs) r.place x q h.right t
+              (none-above l r.place x q t (side (λ r. r.right) rs) right),
+          take-one (values cmp) r.out (filter_map (λ r. r.out) rs) r.place x q h.out t
+              (none-above (values cmp) r.place x q t (side (λ r. r.out) rs) out),
         ) (h.binds x q)
 
     -- what is made place by place is what the combine says of both sides
-    pub rows_combined : R None l.none None → (rs : List (Row K V W U)) → AscendBy cmp (λ r. r.place) rs
+    pub rows-combined : R None l.none None → (rs : List (Row K V W U)) → AscendBy cmp (λ r. r.place) rs
         → AllByRecursion (IsRow cmp l R) rs
         → IsCombinedIn cmp l R (side (λ r. r.left) rs) (side (λ r. r.right) rs) (side (λ r. r.out) rs)
-    rows_combined none [] a h x q = rw (l.in_bare x q) none
-    rows_combined none (r ∷ rs) a h x q =
-        rows_pick (is_eq (cmp r.place x)) r rs x q refl a.0 h.0 h.1 (rows_combined none rs a.1 h.1 x q)
+    rows-combined none [] a h x q = rw (l.in_bare x q) none
+    rows-combined none (r ∷ rs) a h x q =
+        rows-pick (is_eq (cmp r.place x)) r rs x q refl a.0 h.0 h.1 (rows-combined none rs a.1 h.1 x q)
 
     -- ---- what may be asked at each row
 
     module _ (P : Option V → O → Type 0) (none : P None l.none) where
-      asked_by : (b : Bool) (r : Row K V W U) (rs : List (Row K V W U)) (x : K) (q : List K) → is_eq (cmp r.place x) ≡ b
+      asked-by : (b : Bool) (r : Row K V W U) (rs : List (Row K V W U)) (x : K) (q : List K) → is_eq (cmp r.place x) ≡ b
           → AllByRecursion (λ s. cmp r.place s.place ≡ Less) rs → IsRow cmp l R r → AllByRecursion (IsRow cmp l R) rs
           → P (lookup_in cmp (side (λ r. r.left) (r ∷ rs)) (x ∷ q)) (l.of_forest (side (λ r. r.right) (r ∷ rs)) (x ∷ q))
           → P (bound_by cmp r.left (x ∷ q)) (look cmp l r.right (x ∷ q))
           × P (lookup_in cmp (side (λ r. r.left) rs) (x ∷ q)) (l.of_forest (side (λ r. r.right) rs) (x ∷ q))
-      asked_by false r rs x q e a h hs p = (
-        rw (other_none (values cmp) r.left r.place x q h.left e, other_none l r.right r.place x q h.right e) none,
+      asked-by false r rs x q e a h hs p = (
+        rw (other-none (values cmp) r.left r.place x q h.left e, other-none l r.right r.place x q h.right e) none,
         rw (
-          ← skip_one (values cmp) r.left (filter_map (λ r. r.left) rs) r.place x q h.left e,
-          ← skip_one l r.right (filter_map (λ r. r.right) rs) r.place x q h.right e,
+          ← skip-one (values cmp) r.left (filter_map (λ r. r.left) rs) r.place x q h.left e,
+          ← skip-one l r.right (filter_map (λ r. r.right) rs) r.place x q h.right e,
         ) p,
       )
-      asked_by true r rs x q e a h hs p =
+      asked-by true r rs x q e a h hs p =
           let t = (Equal-is (cmp r.place x)).0 e in
-          let left = none_above (values cmp) r.place x q t (side (λ r. r.left) rs)
-          (side_above (λ r. r.place) (λ r. r.left) r.place rs a (lefts_begin rs hs)) in
-          let right = none_above l r.place x q t (side (λ r. r.right) rs)
-          (side_above (λ r. r.place) (λ r. r.right) r.place rs a (rights_begin rs hs)) in (
+          let left = none-above (values cmp) r.place x q t (side (λ r. r.left) rs)
+          (side-above (λ r. r.place) (λ r. r.left) r.place rs a (lefts-begin rs hs)) in
+          let right = none-above l r.place x q t (side (λ r. r.right) rs)
+          (side-above (λ r. r.place) (λ r. r.right) r.place rs a (rights-begin rs hs)) in (
             rw (
-              ← take_one (values cmp) r.left (filter_map (λ r. r.left) rs) r.place x q h.left t left,
-              ← take_one l r.right (filter_map (λ r. r.right) rs) r.place x q h.right t right,
+              ← take-one (values cmp) r.left (filter_map (λ r. r.left) rs) r.place x q h.left t left,
+              ← take-one l r.right (filter_map (λ r. r.right) rs) r.place x q h.right t right,
             ) p,
             rw (left, right) none,
           )
 
       -- what holds of both sides at each key with a component, holds of what stands at each row, at each key
-      pub rows_asked : (rs : List (Row K V W U)) → AscendBy cmp (λ r. r.place) rs → AllByRecursion (IsRow cmp l R) rs
+      pub rows-asked : (rs : List (Row K V W U)) → AscendBy cmp (λ r. r.place) rs → AllByRecursion (IsRow cmp l R) rs
           → ((x : K) (q : List K) → P (lookup_in cmp (side (λ r. r.left) rs) (x ∷ q))
           (l.of_forest (side (λ r. r.right) rs) (x ∷ q)))
           → AllByRecursion (λ r. (k : List K) → P (bound_by cmp r.left k) (look cmp l r.right k)) rs
-      rows_asked [] a h p = tt
-      rows_asked (r ∷ rs) a h p = (
-        at_row,
-        rows_asked rs a.1 h.1 (λ x q. (asked_by (is_eq (cmp r.place x)) r rs x q refl a.0 h.0 h.1 (p x q)).1),
+      rows-asked [] a h p = tt
+      rows-asked (r ∷ rs) a h p = (
+        at-row,
+        rows-asked rs a.1 h.1 (λ x q. (asked-by (is_eq (cmp r.place x)) r rs x q refl a.0 h.0 h.1 (p x q)).1),
       )
         where
-          at_row : (k : List K) → P (bound_by cmp r.left k) (look cmp l r.right k)
-          at_row [] = rw (empty_none (values cmp) r.left r.place h.0.left, empty_none l r.right r.place h.0.right) none
-          at_row (x ∷ q) = (asked_by (is_eq (cmp r.place x)) r rs x q refl a.0 h.0 h.1 (p x q)).0
+          at-row : (k : List K) → P (bound_by cmp r.left k) (look cmp l r.right k)
+          at-row [] = rw (empty-none (values cmp) r.left r.place h.0.left, empty-none l r.right r.place h.0.right) none
+          at-row (x ∷ q) = (asked-by (is_eq (cmp r.place x)) r rs x q refl a.0 h.0 h.1 (p x q)).0

@@ -1,7 +1,7 @@
 -- A canonical tree has few nodes for its keys, and no tree of its map has fewer.
---     canonical_le        at most two nodes a key but one
---     same_nodes_in        trees that are the same have equally many nodes
---     canonical_fewest, canonical_smallest        no tree of an equal map whose prefixes are in order has fewer
+--     canonical-le        at most two nodes a key but one
+--     same-nodes_in        trees that are the same have equally many nodes
+--     canonical-fewest, canonical-smallest        no tree of an equal map whose prefixes are in order has fewer
 use Rattle.std.proofs.Common.{◌≡◌, ℕ, ◌+◌, ◌*◌, ◌≤◌, ◌-◌, [], ◌∷◌, List, Option, None, Some, refl, arith}
 use Rattle.std.specs.declared.cmp.Ordering.{Ordering}
 use Rattle.std.specs.Cmp.{IsTotalOrder}
@@ -10,10 +10,10 @@ use Rattle.vc_tree_model.specs.Map.{lookup, IsEqualMap}
 use Rattle.vc_tree_model.specs.Canonical.{AreOrdered, AreChildren, IsSolid, IsWhole, IsCanonical}
 use Rattle.vc_tree_model.specs.Same.{IsSameIn}
 use Rattle.vc_tree_model.specs.OneTree.{IsSmallest}
-use Rattle.vc_tree_model.proofs.ValueLemmas.{maps_by}
-use Rattle.vc_tree_model.proofs.Uniqueness.{canonical_same}
-use Rattle.vc_tree_model.proofs.Mending.{mended, mended_nodes, mended_canonical, lookup-mended}
-use Rattle.vc_tree_model.proofs.FourConditions.{meets_ordered}
+use Rattle.vc_tree_model.proofs.ValueLemmas.{maps-by}
+use Rattle.vc_tree_model.proofs.Uniqueness.{canonical-same}
+use Rattle.vc_tree_model.proofs.Mending.{mended, mended-nodes, mended-canonical, lookup-mended}
+use Rattle.vc_tree_model.proofs.FourConditions.{meets-ordered}
 
 module _ {K V : Type 0} where
   -- how many trees a list has
@@ -22,59 +22,59 @@ module _ {K V : Type 0} where
   width (grow p v kids rest) = width rest + 1
 
   -- a solid node leaves one node to spare below it, a value for itself or a second child
-  node_le : (v : Option V) (f : Forest K V) → IsSolid v f → forest_nodes f + width f ≤ 2 * forest_key_count f
+  node-le : (v : Option V) (f : Forest K V) → IsSolid v f → forest_nodes f + width f ≤ 2 * forest_key_count f
       → forest_nodes f + 2 ≤ 2 * (own_count v + forest_key_count f)
-  node_le (Some v) f s h = omega (arith, h)
-  node_le None bare s h = absurd s
-  node_le None (grow p v kids bare) s h = absurd s
-  node_le None (grow p v kids (grow q w more rest)) s h = omega (arith, h)
+  node-le (Some v) f s h = omega (arith, h)
+  node-le None bare s h = absurd s
+  node-le None (grow p v kids bare) s h = absurd s
+  node-le None (grow p v kids (grow q w more rest)) s h = omega (arith, h)
 
   module _ (cmp : K → K → Ordering) where
     -- canonical children have at most two nodes a key, but one for each of them
-    nodes_le_in : (f : Forest K V) → AreChildren cmp f → forest_nodes f + width f ≤ 2 * forest_key_count f
-    nodes_le_in bare a = omega arith
-    nodes_le_in (grow [] v kids rest) a = absurd a
-    nodes_le_in (grow (x ∷ p) v kids rest) a =
-        let here = node_le v kids a.0 (nodes_le_in kids a.1) in
-        let beside = nodes_le_in rest a.3 in
+    nodes-le_in : (f : Forest K V) → AreChildren cmp f → forest_nodes f + width f ≤ 2 * forest_key_count f
+    nodes-le_in bare a = omega arith
+    nodes-le_in (grow [] v kids rest) a = absurd a
+    nodes-le_in (grow (x ∷ p) v kids rest) a =
+        let here = node-le v kids a.0 (nodes-le_in kids a.1) in
+        let beside = nodes-le_in rest a.3 in
         omega (arith, here, beside)
 
     -- a whole tree with a key is solid
-    whole_le : (p : List K) (v : Option V) (f : Forest K V) → IsWhole p v f → AreChildren cmp f
+    whole-le : (p : List K) (v : Option V) (f : Forest K V) → IsWhole p v f → AreChildren cmp f
         → 1 ≤ own_count v + forest_key_count f → forest_nodes f + 2 ≤ 2 * (own_count v + forest_key_count f)
-    whole_le [] None bare w a k = absurd (omega (arith, k))
-    whole_le [] None (grow q u more rest) w a k =
-        node_le None (grow q u more rest) w (nodes_le_in (grow q u more rest) a)
-    whole_le [] (Some v) f w a k = node_le (Some v) f tt (nodes_le_in f a)
-    whole_le (x ∷ p) v f w a k = node_le v f w (nodes_le_in f a)
+    whole-le [] None bare w a k = absurd (omega (arith, k))
+    whole-le [] None (grow q u more rest) w a k =
+        node-le None (grow q u more rest) w (nodes-le_in (grow q u more rest) a)
+    whole-le [] (Some v) f w a k = node-le (Some v) f tt (nodes-le_in f a)
+    whole-le (x ∷ p) v f w a k = node-le v f w (nodes-le_in f a)
 
     -- a canonical tree of k keys has at most 2k - 1 nodes
-    pub canonical_le : (t : Tree K V) → IsCanonical cmp t → 1 ≤ key_count t → nodes t ≤ 2 * key_count t - 1
-    canonical_le t c k = let h = whole_le t.prefix t.value t.children c.0 c.1 k in omega (arith, h)
+    pub canonical-le : (t : Tree K V) → IsCanonical cmp t → 1 ≤ key_count t → nodes t ≤ 2 * key_count t - 1
+    canonical-le t c k = let h = whole-le t.prefix t.value t.children c.0 c.1 k in omega (arith, h)
 
     module _ (matches : V → V → Type 0) where
       -- trees that are the same have equally many nodes
-      pub same_nodes_in : (f g : Forest K V) → IsSameIn cmp matches f g → forest_nodes f ≡ forest_nodes g
-      same_nodes_in bare bare h = refl
-      same_nodes_in bare (grow q w more others) h = absurd h
-      same_nodes_in (grow p v kids rest) bare h = absurd h
-      same_nodes_in (grow p v kids rest) (grow q w more others) h =
-          let below = same_nodes_in kids more h.2 in
-          let beside = same_nodes_in rest others h.3 in
+      pub same-nodes_in : (f g : Forest K V) → IsSameIn cmp matches f g → forest_nodes f ≡ forest_nodes g
+      same-nodes_in bare bare h = refl
+      same-nodes_in bare (grow q w more others) h = absurd h
+      same-nodes_in (grow p v kids rest) bare h = absurd h
+      same-nodes_in (grow p v kids rest) (grow q w more others) h =
+          let below = same-nodes_in kids more h.2 in
+          let beside = same-nodes_in rest others h.3 in
           omega (arith, below, beside)
 
       -- a tree of an equal map whose children are in order, mended, is the canonical one
-      pub canonical_fewest : IsTotalOrder cmp → (t u : Tree K V) → IsCanonical cmp t → AreOrdered cmp u.children
+      pub canonical-fewest : IsTotalOrder cmp → (t u : Tree K V) → IsCanonical cmp t → AreOrdered cmp u.children
           → IsEqualMap matches (lookup cmp t) (lookup cmp u) → nodes t ≤ nodes u
-      canonical_fewest o t u c d h =
-          let maps = maps_by matches _ _ (lookup cmp (mended u)) h (lookup-mended cmp u d) in
-          let same = canonical_same cmp o matches t (mended u) c (mended_canonical cmp u d) maps in
-          let equal = same_nodes_in t.children (mended u).children same.2 in
-          let fewer = mended_nodes u in
+      canonical-fewest o t u c d h =
+          let maps = maps-by matches _ _ (lookup cmp (mended u)) h (lookup-mended cmp u d) in
+          let same = canonical-same cmp o matches t (mended u) c (mended-canonical cmp u d) maps in
+          let equal = same-nodes_in t.children (mended u).children same.2 in
+          let fewer = mended-nodes u in
           omega (arith, equal, fewer)
 
       -- a canonical tree is the smallest of its map
-      pub canonical_smallest : IsTotalOrder cmp → (t : Tree K V) → IsCanonical cmp t → IsSmallest cmp matches t
-      canonical_smallest o t c =
+      pub canonical-smallest : IsTotalOrder cmp → (t : Tree K V) → IsCanonical cmp t → IsSmallest cmp matches t
+      canonical-smallest o t c =
           record
-          { two_a_key = canonical_le t c; fewest = λ u m h. canonical_fewest o t u c (meets_ordered cmp u m) h }
+          { two_a_key = canonical-le t c; fewest = λ u m h. canonical-fewest o t u c (meets-ordered cmp u m) h }

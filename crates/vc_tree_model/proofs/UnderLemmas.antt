@@ -1,8 +1,8 @@
 -- Maps by a prefix of their keys, and their walks.
 --     is_walk-equal        a walk of a map is one of each map with the same values
---     walk_under, walk_prefixed        the walk of the pairs under a prefix, and with a prefix before their keys
+--     walk-under, walk-prefixed        the walk of the pairs under a prefix, and with a prefix before their keys
 --     lookup-prepended        what a tree with a prefix before its own binds
---     lists_equal_map        a walk lists what an equal map binds
+--     lists-equal_map        a walk lists what an equal map binds
 use Rattle.std.proofs.Common.{◌≡◌, [], ◌∷◌, ◌++◌, List, Option, None, Some, map, refl, sym, ap, ◌∙◌, true, false, Bool, is_some, subst, inl, inr, ◌⊎◌, cond, true≢false}
 use Rattle.std.specs.List.{filter}
 use Rattle.std.specs.Option.{option_and, option_and_then}
@@ -18,21 +18,21 @@ use Rattle.vc_tree_model.specs.Map.{lookup, lookup_in, node_lookup, IsEqualMap}
 use Rattle.vc_tree_model.specs.Walk.{IsWalk, Lists, prepended}
 use Rattle.vc_tree_model.specs.Under.{under, prefixed}
 use Rattle.vc_tree_model.specs.PrefixLaws.{ListsEqualMap}
-use Rattle.vc_tree_model.proofs.KeyLemmas.{none_some, behind-append, then_behind, behind_of_same, behind_joins, left_behind}
-use Rattle.vc_tree_model.proofs.Walking.{Ascend, ascend_prepended, lists_prepended}
+use Rattle.vc_tree_model.proofs.KeyLemmas.{none-some, behind-append, then_behind, behind-of_same, behind-joins, left-behind}
+use Rattle.vc_tree_model.proofs.Walking.{Ascend, ascend-prepended, lists-prepended}
 
 module _ {K : Type 0} (cmp : K → K → Ordering) (o : IsTotalOrder cmp) where
   -- both of two equal rests are there, or neither
-  starts_kept : (a b : Option (List K)) → IsKept (λ j k. same_key cmp j k ≡ true) a b → is_some a ≡ is_some b
-  starts_kept None None h = refl
-  starts_kept (Some j) (Some k) h = refl
-  starts_kept None (Some k) h = absurd h
-  starts_kept (Some j) None h = absurd h
+  starts-kept : (a b : Option (List K)) → IsKept (λ j k. same_key cmp j k ≡ true) a b → is_some a ≡ is_some b
+  starts-kept None None h = refl
+  starts-kept (Some j) (Some k) h = refl
+  starts-kept None (Some k) h = absurd h
+  starts-kept (Some j) None h = absurd h
 
   -- of two equal keys both start with a prefix, or neither
-  starts_same : (p j k : List K) → same_key cmp j k ≡ true
+  starts-same : (p j k : List K) → same_key cmp j k ≡ true
       → is_some (behind cmp p j) ≡ is_some (behind cmp p k)
-  starts_same p j k h = starts_kept _ _ (behind_of_same cmp o p j k h)
+  starts-same p j k h = starts-kept _ _ (behind-of_same cmp o p j k h)
 
 module _ {K V : Type 0} (cmp : K → K → Ordering) where
   -- a walk of a map is one of each map with the same values
@@ -60,102 +60,102 @@ module _ {K V : Type 0} (cmp : K → K → Ordering) where
   keys_of-filter p (b ∷ l) = keys_of-cond (begins p b) b (filter (begins p) l) _ (keys_of-filter p l)
 
   -- they ascend where all keys do
-  ascend_filter : (p : List K) (l : List (List K × V)) → Ascend cmp l → Ascend cmp (filter (begins p) l)
-  ascend_filter p l a = rw keys_of-filter (IsStrictlySortedBy-filter (slice_cmp cmp) _ (keys_of l) a)
+  ascend-filter : (p : List K) (l : List (List K × V)) → Ascend cmp l → Ascend cmp (filter (begins p) l)
+  ascend-filter p l a = rw keys_of-filter (IsStrictlySortedBy-filter (slice_cmp cmp) _ (keys_of l) a)
 
   -- what a list with or without a first pair has, has the first one, or the others have it
-  lists_cond : (c : Bool) (b : List K × V) (l : List (List K × V)) (k : List K) (v : V)
+  lists-cond : (c : Bool) (b : List K × V) (l : List (List K × V)) (k : List K) (v : V)
       → Lists cmp (cond c (b ∷ l) l) k v
       → ((c ≡ true) × (same_key cmp b.0 k ≡ true) × (b.1 ≡ v)) ⊎ Lists cmp l k v
-  lists_cond true b l k v (inl h) = inl (refl, h.0, h.1)
-  lists_cond true b l k v (inr h) = inr h
-  lists_cond false b l k v h = inr h
+  lists-cond true b l k v (inl h) = inl (refl, h.0, h.1)
+  lists-cond true b l k v (inr h) = inr h
+  lists-cond false b l k v h = inr h
 
   -- the first pair is there where it is kept
-  cond_first : (c : Bool) (b : List K × V) (l : List (List K × V)) (k : List K) (v : V) → c ≡ true
+  cond-first : (c : Bool) (b : List K × V) (l : List (List K × V)) (k : List K) (v : V) → c ≡ true
       → same_key cmp b.0 k ≡ true → b.1 ≡ v → Lists cmp (cond c (b ∷ l) l) k v
-  cond_first true b l k v e h g = inl (h, g)
-  cond_first false b l k v e h g = absurd (true≢false (sym e))
+  cond-first true b l k v e h g = inl (h, g)
+  cond-first false b l k v e h g = absurd (true≢false (sym e))
 
   -- the others are there in each case
-  cond_others : (c : Bool) (b : List K × V) (l : List (List K × V)) (k : List K) (v : V) → Lists cmp l k v
+  cond-others : (c : Bool) (b : List K × V) (l : List (List K × V)) (k : List K) (v : V) → Lists cmp l k v
       → Lists cmp (cond c (b ∷ l) l) k v
-  cond_others true b l k v h = inr h
-  cond_others false b l k v h = h
+  cond-others true b l k v h = inr h
+  cond-others false b l k v h = h
 
   module _ (o : IsTotalOrder cmp) where
     -- what is listed of the pairs that are left starts with the prefix, and is listed of all
-    filtered_lists : (p : List K) (l : List (List K × V)) (k : List K) (v : V) → Lists cmp (filter (begins p) l) k v
+    filtered-lists : (p : List K) (l : List (List K × V)) (k : List K) (v : V) → Lists cmp (filter (begins p) l) k v
         → (is_some (behind cmp p k) ≡ true) × Lists cmp l k v
-    filtered_lists p [] k v h = absurd h
-    filtered_lists p (b ∷ l) k v h =
-        elim (lists_cond (begins p b) b (filter (begins p) l) k v h) [
-          | inl e ↦ (sym (starts_same cmp o p b.0 k e.1) ∙ e.0, inl (e.1, e.2))
-          | inr e ↦ (let f = filtered_lists p l k v e in (f.0, inr f.1))
+    filtered-lists p [] k v h = absurd h
+    filtered-lists p (b ∷ l) k v h =
+        elim (lists-cond (begins p b) b (filter (begins p) l) k v h) [
+          | inl e ↦ (sym (starts-same cmp o p b.0 k e.1) ∙ e.0, inl (e.1, e.2))
+          | inr e ↦ (let f = filtered-lists p l k v e in (f.0, inr f.1))
         ]
 
     -- and the other way round
-    lists_filtered : (p : List K) (l : List (List K × V)) (k : List K) (v : V) → is_some (behind cmp p k) ≡ true
+    lists-filtered : (p : List K) (l : List (List K × V)) (k : List K) (v : V) → is_some (behind cmp p k) ≡ true
         → Lists cmp l k v → Lists cmp (filter (begins p) l) k v
-    lists_filtered p [] k v s h = absurd h
-    lists_filtered p (b ∷ l) k v s (inl h) =
-        cond_first (begins p b) b (filter (begins p) l) k v (starts_same cmp o p b.0 k h.0 ∙ s) h.0 h.1
-    lists_filtered p (b ∷ l) k v s (inr h) =
-        cond_others (begins p b) b (filter (begins p) l) k v (lists_filtered p l k v s h)
+    lists-filtered p [] k v s h = absurd h
+    lists-filtered p (b ∷ l) k v s (inl h) =
+        cond-first (begins p b) b (filter (begins p) l) k v (starts-same cmp o p b.0 k h.0 ∙ s) h.0 h.1
+    lists-filtered p (b ∷ l) k v s (inr h) =
+        cond-others (begins p b) b (filter (begins p) l) k v (lists-filtered p l k v s h)
 
     -- what is there beside something
-    and_some : (a : Option (List K)) (b : Option V) (v : V) → option_and a b ≡ Some v
+    and-some : (a : Option (List K)) (b : Option V) (v : V) → option_and a b ≡ Some v
         → (is_some a ≡ true) × (b ≡ Some v)
-    and_some None b v h = none_some v h
-    and_some (Some rest) b v h = (refl, h)
+    and-some None b v h = none-some v h
+    and-some (Some rest) b v h = (refl, h)
 
     -- and the other way round
-    some_and : (a : Option (List K)) (b : Option V) (v : V) → is_some a ≡ true → b ≡ Some v → option_and a b ≡ Some v
-    some_and None b v s h = absurd (true≢false (sym s))
-    some_and (Some rest) b v s h = h
+    some-and : (a : Option (List K)) (b : Option V) (v : V) → is_some a ≡ true → b ≡ Some v → option_and a b ≡ Some v
+    some-and None b v s h = absurd (true≢false (sym s))
+    some-and (Some rest) b v s h = h
 
     -- the pairs under a prefix are listed without the others
-    pub walk_under : (f : List K → Option V) (l : List (List K × V)) (p : List K) → IsWalk cmp f l
+    pub walk-under : (f : List K → Option V) (l : List (List K × V)) (p : List K) → IsWalk cmp f l
         → IsWalk cmp (under cmp f p) (filter (begins p) l)
-    walk_under f l p w = record {
-      ascends = ascend_filter p l w.ascends;
+    walk-under f l p w = record {
+      ascends = ascend-filter p l w.ascends;
       lists = λ k v. (
-        λ h. let g = filtered_lists p l k v h in some_and (behind cmp p k) (f k) v g.0 ((w.lists k v).0 g.1),
-        λ h. let g = and_some (behind cmp p k) (f k) v h in lists_filtered p l k v g.0 ((w.lists k v).1 g.1),
+        λ h. let g = filtered-lists p l k v h in some-and (behind cmp p k) (f k) v g.0 ((w.lists k v).0 g.1),
+        λ h. let g = and-some (behind cmp p k) (f k) v h in lists-filtered p l k v g.0 ((w.lists k v).1 g.1),
       );
     }
 
     -- what is listed with a prefix before it, is listed without it of what is left behind the prefix
-    prefixed_lists : (p : List K) (l : List (List K × V)) (k : List K) (v : V) → Lists cmp (map (prepended p) l) k v
+    prefixed-lists : (p : List K) (l : List (List K × V)) (k : List K) (v : V) → Lists cmp (map (prepended p) l) k v
         → (rest : List K) × (behind cmp p k ≡ Some rest) × Lists cmp l rest v
-    prefixed_lists p [] k v h = absurd h
-    prefixed_lists p (b ∷ l) k v (inl h) =
-        let left = left_behind cmp p b.0 k h.0 in (left.0, left.1, inl (left.2, h.1))
-    prefixed_lists p (b ∷ l) k v (inr h) = let left = prefixed_lists p l k v h in (left.0, left.1, inr left.2)
+    prefixed-lists p [] k v h = absurd h
+    prefixed-lists p (b ∷ l) k v (inl h) =
+        let left = left-behind cmp p b.0 k h.0 in (left.0, left.1, inl (left.2, h.1))
+    prefixed-lists p (b ∷ l) k v (inr h) = let left = prefixed-lists p l k v h in (left.0, left.1, inr left.2)
 
     -- what is bound at what is left behind a prefix, if something is left
-    then_some : (f : List K → Option V) (a : Option (List K)) (v : V) → option_and_then f a ≡ Some v
+    then-some : (f : List K → Option V) (a : Option (List K)) (v : V) → option_and_then f a ≡ Some v
         → (rest : List K) × (a ≡ Some rest) × (f rest ≡ Some v)
-    then_some f None v h = none_some v h
-    then_some f (Some rest) v h = (rest, refl, h)
+    then-some f None v h = none-some v h
+    then-some f (Some rest) v h = (rest, refl, h)
 
     -- the pairs with a prefix before their keys are listed with the prefix before each
-    pub walk_prefixed : (f : List K → Option V) (l : List (List K × V)) (p : List K) → IsWalk cmp f l
+    pub walk-prefixed : (f : List K → Option V) (l : List (List K × V)) (p : List K) → IsWalk cmp f l
         → IsWalk cmp (prefixed cmp f p) (map (prepended p) l)
-    walk_prefixed f l p w = record {
-      ascends = ascend_prepended cmp o p l w.ascends;
+    walk-prefixed f l p w = record {
+      ascends = ascend-prepended cmp o p l w.ascends;
       lists = λ k v. (
-        λ h. let g = prefixed_lists p l k v h in ap (option_and_then f) g.1 ∙ (w.lists g.0 v).0 g.2,
-        λ h. let g = then_some f (behind cmp p k) v h in
-            lists_prepended cmp o p l g.0 k v (behind_joins cmp o p k g.0 g.1) ((w.lists g.0 v).1 g.2),
+        λ h. let g = prefixed-lists p l k v h in ap (option_and_then f) g.1 ∙ (w.lists g.0 v).0 g.2,
+        λ h. let g = then-some f (behind cmp p k) v h in
+            lists-prepended cmp o p l g.0 k v (behind-joins cmp o p k g.0 g.1) ((w.lists g.0 v).1 g.2),
       );
     }
 
   -- a look-up behind a second prefix
-  looked_behind : (q : List K) (v : Option V) (f : List K → Option V) (a : Option (List K))
+  looked-behind : (q : List K) (v : Option V) (f : List K → Option V) (a : Option (List K))
       → node_lookup v f (then_behind cmp q a) ≡ option_and_then (λ r. node_lookup v f (behind cmp q r)) a
-  looked_behind q v f None = refl
-  looked_behind q v f (Some r) = refl
+  looked-behind q v f None = refl
+  looked-behind q v f (Some r) = refl
 
   -- a tree with a prefix before its own binds its keys with the prefix before them
   pub lookup-prepended : (p : List K) (t : Tree K V) (k : List K)
@@ -163,25 +163,25 @@ module _ {K V : Type 0} (cmp : K → K → Ordering) where
   lookup-prepended p t k =
       let at = node_lookup t.value (lookup_in cmp t.children) in
       ap at (behind-append cmp p t.prefix k)
-      ∙ looked_behind t.prefix t.value (lookup_in cmp t.children) (behind cmp p k)
+      ∙ looked-behind t.prefix t.value (lookup_in cmp t.children) (behind cmp p k)
 
   module _ (matches : V → V → Type 0) where
     -- what an equal map binds at a key of a value
-    kept_some : (a b : Option V) (v : V) → IsKept matches a b → a ≡ Some v → (w : V) × (b ≡ Some w) × matches v w
-    kept_some None b v h e = none_some v e
-    kept_some (Some u) None v h e = absurd h
-    kept_some (Some u) (Some w) v h e = let same : u ≡ v = cc in (w, refl, subst (λ u. matches u w) same h)
+    kept-some : (a b : Option V) (v : V) → IsKept matches a b → a ≡ Some v → (w : V) × (b ≡ Some w) × matches v w
+    kept-some None b v h e = none-some v e
+    kept-some (Some u) None v h e = absurd h
+    kept-some (Some u) (Some w) v h e = let same : u ≡ v = cc in (w, refl, subst (λ u. matches u w) same h)
 
     -- and the other way round
-    some_kept : (a b : Option V) (w : V) → IsKept matches a b → b ≡ Some w → (v : V) × (a ≡ Some v) × matches v w
-    some_kept a None w h e = none_some w e
-    some_kept None (Some u) w h e = absurd h
-    some_kept (Some v) (Some u) w h e = let same : u ≡ w = cc in (v, refl, subst (λ u. matches v u) same h)
+    some-kept : (a b : Option V) (w : V) → IsKept matches a b → b ≡ Some w → (v : V) × (a ≡ Some v) × matches v w
+    some-kept a None w h e = none-some w e
+    some-kept None (Some u) w h e = absurd h
+    some-kept (Some v) (Some u) w h e = let same : u ≡ w = cc in (v, refl, subst (λ u. matches v u) same h)
 
     -- a walk lists what an equal map binds, and nothing else
-    pub lists_equal_map : (f g : List K → Option V) (l : List (List K × V)) → IsWalk cmp f l → IsEqualMap matches f g
+    pub lists-equal_map : (f g : List K → Option V) (l : List (List K × V)) → IsWalk cmp f l → IsEqualMap matches f g
         → ListsEqualMap K V cmp matches l g
-    lists_equal_map f g l w e = record {
-      listed = λ k v h. kept_some (f k) (g k) v (e k) ((w.lists k v).0 h);
-      bound = λ k w' h. let s = some_kept (f k) (g k) w' (e k) h in (s.0, (w.lists k s.0).1 s.1, s.2);
+    lists-equal_map f g l w e = record {
+      listed = λ k v h. kept-some (f k) (g k) v (e k) ((w.lists k v).0 h);
+      bound = λ k w' h. let s = some-kept (f k) (g k) w' (e k) h in (s.0, (w.lists k s.0).1 s.1, s.2);
     }

@@ -1,7 +1,7 @@
 -- Values that are kept or match, as optional ones.
---     kept_by, kept_flip, kept_refl, kept_trans, kept_else        how they match
---     bound_left, not_lost        where one is there, so is the other
---     maps_flip, maps_by        equal maps
+--     kept_by, kept-flip, kept-refl, kept-trans, kept-else        how they match
+--     bound-left, not-lost        where one is there, so is the other
+--     maps-flip, maps-by        equal maps
 use Rattle.std.proofs.Common.{◌≡◌, List, Option, None, Some, refl}
 use Rattle.vc_tree_model.specs.Value.{IsKept}
 use Rattle.vc_tree_model.specs.Map.{or_else, IsEqualMap}
@@ -17,49 +17,49 @@ module _ {V : Type 0} (matches : V → V → Type 0) where
   kept_by a b c d p q h = rw (← p, ← q) h
 
   -- the sides may be turned with the relation
-  pub kept_flip : (a b : Option V) → IsKept matches a b → IsKept (λ v w. matches w v) b a
-  kept_flip None None h = tt
-  kept_flip (Some v) (Some w) h = h
-  kept_flip None (Some w) h = absurd h
-  kept_flip (Some v) None h = absurd h
+  pub kept-flip : (a b : Option V) → IsKept matches a b → IsKept (λ v w. matches w v) b a
+  kept-flip None None h = tt
+  kept-flip (Some v) (Some w) h = h
+  kept-flip None (Some w) h = absurd h
+  kept-flip (Some v) None h = absurd h
 
   -- each value keeps itself where the relation says so
-  pub kept_refl : ((v : V) → matches v v) → (o : Option V) → IsKept matches o o
-  kept_refl r None = tt
-  kept_refl r (Some v) = r v
+  pub kept-refl : ((v : V) → matches v v) → (o : Option V) → IsKept matches o o
+  kept-refl r None = tt
+  kept-refl r (Some v) = r v
 
   -- what keeps a kept value keeps the first, where the relation says so
-  pub kept_trans : ((u v w : V) → matches u v → matches v w → matches u w) → (a b c : Option V) → IsKept matches a b
+  pub kept-trans : ((u v w : V) → matches u v → matches v w → matches u w) → (a b c : Option V) → IsKept matches a b
       → IsKept matches b c → IsKept matches a c
-  kept_trans t None None c h k = k
-  kept_trans t (Some u) (Some v) (Some w) h k = t u v w h k
-  kept_trans t (Some u) (Some v) None h k = absurd k
-  kept_trans t None (Some v) c h k = absurd h
-  kept_trans t (Some u) None c h k = absurd h
+  kept-trans t None None c h k = k
+  kept-trans t (Some u) (Some v) (Some w) h k = t u v w h k
+  kept-trans t (Some u) (Some v) None h k = absurd k
+  kept-trans t None (Some v) c h k = absurd h
+  kept-trans t (Some u) None c h k = absurd h
 
   -- the first of two matches the first of two
-  pub kept_else : (a b c d : Option V) → IsKept matches a b → IsKept matches c d
+  pub kept-else : (a b c d : Option V) → IsKept matches a b → IsKept matches c d
       → IsKept matches (or_else a c) (or_else b d)
-  kept_else None None c d h k = k
-  kept_else (Some v) (Some w) c d h k = h
-  kept_else None (Some w) c d h k = absurd h
-  kept_else (Some v) None c d h k = absurd h
+  kept-else None None c d h k = k
+  kept-else (Some v) (Some w) c d h k = h
+  kept-else None (Some w) c d h k = absurd h
+  kept-else (Some v) None c d h k = absurd h
 
   -- where the right one is there, so is the left one
-  pub bound_left : (a b : Option V) (w : V) → IsKept matches a b → b ≡ Some w → (v : V) × (a ≡ Some v)
-  bound_left (Some v) b w h e = (v, refl)
-  bound_left None b w h e = absurd (kept_by None b None (Some w) refl e h)
+  pub bound-left : (a b : Option V) (w : V) → IsKept matches a b → b ≡ Some w → (v : V) × (a ≡ Some v)
+  bound-left (Some v) b w h e = (v, refl)
+  bound-left None b w h e = absurd (kept_by None b None (Some w) refl e h)
 
   -- what the left one has, the right one does not lack
-  pub not_lost : {A : Type 0} (a b : Option V) (v : V) → IsKept matches a b → a ≡ Some v → b ≡ None → A
-  not_lost a b v h p q = absurd (kept_by a b (Some v) None p q h)
+  pub not-lost : {A : Type 0} (a b : Option V) (v : V) → IsKept matches a b → a ≡ Some v → b ≡ None → A
+  not-lost a b v h p q = absurd (kept_by a b (Some v) None p q h)
 
 module _ {K V : Type 0} (matches : V → V → Type 0) where
   -- the sides of equal maps may be turned with the relation
-  pub maps_flip : (f g : List K → Option V) → IsEqualMap matches f g → IsEqualMap (λ v w. matches w v) g f
-  maps_flip f g h k = kept_flip matches (f k) (g k) (h k)
+  pub maps-flip : (f g : List K → Option V) → IsEqualMap matches f g → IsEqualMap (λ v w. matches w v) g f
+  maps-flip f g h k = kept-flip matches (f k) (g k) (h k)
 
   -- what is the same as an equal map is an equal map
-  pub maps_by : (f g h : List K → Option V) → IsEqualMap matches f g → ((k : List K) → h k ≡ g k)
+  pub maps-by : (f g h : List K → Option V) → IsEqualMap matches f g → ((k : List K) → h k ≡ g k)
       → IsEqualMap matches f h
-  maps_by f g h e s k = rw (s k) (e k)
+  maps-by f g h e s k = rw (s k) (e k)

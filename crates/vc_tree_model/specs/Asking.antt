@@ -1,7 +1,4 @@
 -- Calls of the closures that combines ask, as relations between values and answers.
---     MayAnswer g f v w r        a call of f at references to v and w may answer r
---     MayAnswerAt g f v w r        a call of f at a reference to v and an optional one to w may answer r
---     CanAsk, CanAskAt        f may be called where the combine asks it: at shared keys, and at all keys of the left
 use Rattle.std.specs.Prelude.{◌≡◌, Option, Some, None, ⊤}
 use Rattle.std.specs.Option.{option_copied}
 use denote.Ref.{Bor}

@@ -1,5 +1,4 @@
 -- What a tree binds, as a relation by cases.
---     Binds cmp t k a        the tree t binds the key k to the value a
 use Rattle.std.specs.Prelude.{◌≡◌, ◌⊎◌, List, ◌++◌, Option, Some, IsTrue}
 use Rattle.std.specs.declared.cmp.Ordering.{Ordering}
 use Rattle.vc_tree_model.specs.Key.{same_key}

@@ -1,8 +1,5 @@
 -- Canonical trees. The form here goes from a node to its children, and is what the types of trees keep as their
 -- invariant; `Conditions` states the same by four conditions on all nodes.
---     IsCanonical cmp t        t is canonical
---     AreChildren cmp f        f can be the children of a node of a canonical tree
---     AreOrdered cmp f        of f and all that lies below: no empty prefix, and first components ascend among siblings
 use Rattle.std.specs.Prelude.{◌≡◌, List, [], ◌∷◌, Option, Some, None, ⊤}
 use Rattle.std.specs.declared.cmp.Ordering.{Ordering}
 use Rattle.std.specs.declared.cmp.Ordering.TheVariants.{Less}

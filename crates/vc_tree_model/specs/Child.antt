@@ -1,9 +1,4 @@
 -- A tree that is made to stand among children: none where it binds no key. No public clause cites these words.
---     BeginsWith cmp y o        the tree, if there is one, begins with a component that equals y
---     IsChild cmp o        the tree, if there is one, may stand among canonical children
---     bound_by cmp o k        the value of a key in the tree, if there is one
---     solid_child p v f        the node of these parts as a child
---     value_at, children_at        the node that stands inside a prefix
 use Rattle.std.specs.Prelude.{◌≡◌, List, [], ◌∷◌, ◌++◌, Option, Some, None, ⊤}
 use Rattle.std.specs.Option.{option_map_or}
 use Rattle.std.specs.declared.cmp.Ordering.{Ordering}

@@ -1,7 +1,4 @@
 -- The combines of two trees. A combine is said by what it makes at each key, of what the left and the right tree bind there.
---     IsCombined cmp R t u m        at each key, R holds of what t, u and m bind
---     IsOuterAt, IsInnerAt, IsLeftAt        what the combines that ask a closure make at a key
---     IsUnionAt, IsIntersectionAt, IsDifferenceAt        what those that keep values of the left make
 -- `from_left` and `from_right` say how a value of either side comes into the result: as a clone of it, or as it is.
 use Rattle.std.specs.Prelude.{◌≡◌, List, Option, Some, None}
 use Rattle.std.specs.declared.cmp.Ordering.{Ordering}

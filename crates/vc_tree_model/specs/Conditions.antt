@@ -1,8 +1,4 @@
 -- The conditions on all nodes of a tree that make it canonical.
---     IsNodeOf n t, IsBelow n f        n is a node of t; n is a tree of f, or lies below one
---     BareIsWhole, HavePrefixes, ChildrenAscend, NoLoneChild        the four conditions
---     MeetsConditions cmp t        all four hold
---     IsOrdered cmp t        the two on prefixes hold
 use Rattle.std.specs.Prelude.{◌≡◌, ◌≢◌, ◌⊎◌, [], length, AllPairs, IsTrue, IsNone}
 use Rattle.std.specs.declared.cmp.Ordering.{Ordering}
 use Rattle.vc_tree_model.specs.Key.{BeginsBelow}

@@ -1,8 +1,4 @@
 -- Keys that the keys of another map cover: of all of its keys that are prefixes of a key, the longest decides.
---     cover q k        the value of the longest key of q that is a prefix of k
---     IsLongestCover cmp q k p w        p is that key, and w is its value
---     IsVerdict may c b        b is what may be said of a key of the cover c
---     IsRemoved, IsRetained        removal and retention of the keys that are covered
 use Rattle.std.specs.Prelude.{◌≡◌, ◌≤◌, Bool, true, false, not, List, [], ◌∷◌, length, Option, Some, None}
 use Rattle.std.specs.declared.cmp.Ordering.{Ordering}
 use Rattle.vc_tree_model.specs.Key.{Starts}

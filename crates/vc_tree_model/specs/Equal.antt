@@ -1,5 +1,4 @@
 -- Whether two trees are the same, as a test that code makes.
---     same_tree cmp eq t u        equal prefixes, equal values or none, and the same children
 use Rattle.std.specs.Prelude.{Bool, true, false, ◌&&◌}
 use Rattle.std.specs.Option.{option_eq}
 use Rattle.std.specs.declared.cmp.Ordering.{Ordering}

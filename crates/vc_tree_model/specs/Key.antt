@@ -1,8 +1,4 @@
 -- Keys, which are lists of components: equal keys, what is left behind a prefix, and which key comes first.
---     same_key cmp j k        whether j and k have one length, and equal components at every place
---     behind cmp p k        what is left of k behind the prefix p
---     Starts cmp k p        k is p joined with some rest
---     IsLess cmp k j        k comes before j
 use Rattle.std.specs.Prelude.{◌≡◌, ℕ, Bool, true, false, if◌then◌else◌, List, [], ◌∷◌, ◌++◌, take, drop, Option, Some, None, IsTrue, ⊤}
 use Rattle.std.specs.Ordering.{is_eq}
 use Rattle.std.specs.declared.cmp.Ordering.{Ordering}

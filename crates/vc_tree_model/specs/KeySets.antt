@@ -1,8 +1,4 @@
 -- The keys that two trees bind.
---     ShareKey cmp t u        some key is bound by both
---     AreDisjoint cmp t u        no key is
---     HasKeysOf cmp u t        u binds each key that t binds
---     LacksKeyOf cmp u t        some key that t binds is not bound by u
 use Rattle.std.specs.Prelude.{List, IsSome, IsNone}
 use Rattle.std.specs.declared.cmp.Ordering.{Ordering}
 use Rattle.vc_tree_model.specs.Tree.{Tree}

@@ -1,8 +1,4 @@
 -- The machine that a list of commands drives: its states are maps.
---     Command        a change of a map, as `run` takes it
---     after cmp c m        the map after a command that was accepted
---     Step cmp matches m c ok n        one command takes the map m to n, accepted where ok is true
---     Run cmp matches m cs oks n        one command after another
 use Rattle.std.specs.Prelude.{Bool, true, false, if◌then◌else◌, List, [], ◌∷◌, Option, Some, None}
 use Rattle.std.specs.Option.{option_and}
 use Rattle.std.specs.declared.cmp.Ordering.{Ordering}

@@ -1,8 +1,4 @@
 -- The finite map of a tree, as the function that looks a key up, and facts on maps.
---     lookup cmp t k, lookup_in cmp f k        the value of a key in a tree, and in a list of trees
---     IsEqualMap matches f g        at each key both maps bind nothing, or both bind values that match
---     IsUpdated cmp keeps key value f g        g binds the key to the value, and keeps what f binds at every other key
---     IsInserted cmp keeps key value t u, HaveEqualMaps cmp keeps t u        the same of the maps of two trees
 use Rattle.std.specs.Prelude.{◌≡◌, List, [], ◌∷◌, Option, Some, None, IsTrue, IsFalse}
 use Rattle.std.specs.declared.cmp.Ordering.{Ordering}
 use Rattle.vc_tree_model.specs.Key.{same_key, behind}

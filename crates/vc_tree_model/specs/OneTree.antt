@@ -1,6 +1,4 @@
 -- That a tree is the one canonical tree of its map, and that no tree of the map is smaller.
---     IsOneTree cmp matches t        each canonical tree of an equal map is the same
---     IsSmallest cmp matches t        at most two nodes a key but one, and no tree of an equal map has fewer
 use Rattle.std.specs.Prelude.{◌*◌, ◌-◌, ◌≤◌}
 use Rattle.std.specs.declared.cmp.Ordering.{Ordering}
 use Rattle.vc_tree_model.specs.Tree.{Tree, nodes, key_count}

@@ -1,6 +1,4 @@
 -- What a list of pairs binds, where of pairs with equal keys the last one counts.
---     last_bound cmp pairs k        the value of the last pair with an equal key
---     IsCollected cmp pairs t        the tree t binds exactly that
 use Rattle.std.specs.Prelude.{◌≡◌, List, [], ◌∷◌, Option, Some, None, if◌then◌else◌}
 use Rattle.std.specs.declared.cmp.Ordering.{Ordering}
 use Rattle.vc_tree_model.specs.Key.{same_key}

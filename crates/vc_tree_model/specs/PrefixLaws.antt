@@ -1,7 +1,4 @@
 -- The laws of maps by prefixes, of covers, and of the machine, as the functions of `laws` carry them.
---     WalkUnder, WalkPrefixed, WalkIsFiltered        walks of the pairs under a prefix, and with a prefix before their keys
---     CoverIsLongest, RemovalAndRetentionPart        covers, and what they remove and retain
---     RunIsFunction        runs of the machine
 use Rattle.std.specs.Prelude.{◌≡◌, ◌⊎◌, ◌↔◌, Bool, List, Option, Some, None, is_some, map}
 use Rattle.std.specs.List.{filter}
 use Rattle.std.specs.declared.cmp.Ordering.{Ordering}

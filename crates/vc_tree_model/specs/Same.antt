@@ -1,6 +1,4 @@
 -- When two trees are the same.
---     IsSame cmp matches t u        the same nodes, up to equal components and values that match
---     IsAlike keeps t u        the same nodes with the very same prefixes, and values that are kept
 use Rattle.std.specs.Prelude.{◌≡◌, IsTrue, ⊤}
 use Rattle.std.specs.declared.cmp.Ordering.{Ordering}
 use Rattle.vc_tree_model.specs.Key.{same_key}

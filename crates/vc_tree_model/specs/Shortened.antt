@@ -1,6 +1,4 @@
 -- What a tree without the first components of its prefix binds, and the weight of a tree.
---     IsShortened cmp keeps n t u        u binds what is left of the keys of t behind the first n components of its prefix
---     weight t        the nodes of a tree and the components of all its prefixes
 use Rattle.std.specs.Prelude.{ℕ, ◌+◌, List, ◌++◌, length, take}
 use Rattle.std.specs.declared.cmp.Ordering.{Ordering}
 use Rattle.vc_tree_model.specs.Value.{IsKept}

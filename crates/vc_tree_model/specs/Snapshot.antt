@@ -1,7 +1,4 @@
 -- Copies of trees: what a clone of a tree of the shared flavour is, and that copied children are alike.
---     IsSnapshot is_clone t c        c is a clone of t that shares its children
---     same_copies, alike_refl, tree_alike_refl, alike_same, kept_alike        how each flavour keeps values and children: its laws
---     clones_copied, snapshot_copied        what a clone of each flavour is: a tree that is alike, with copies of the values
 use Rattle.std.specs.Prelude.{◌≡◌, ◌⊎◌, List, [], ◌∷◌, map, Option, Some, None, refl}
 use Rattle.std.specs.List.{AllZip}
 use Rattle.std.proofs.Common.{sym, subst, inl, inr}

@@ -1,6 +1,4 @@
 -- How a tree is stored as numbers, and why its children are smaller: what a `Model` whose value is a tree asks for.
---     tree_code k v        the code of a tree, from those of components and values
---     most_le-nodes, shared_falls        no child has more nodes than there are below
 use Rattle.std.specs.Prelude.{◌≡◌, ℕ, ◌+◌, ◌≤◌, List, [], ◌∷◌, ◌++◌, Option, Some, None, max, refl}
 use Rattle.std.specs.Coded.{Coded, code_by, coded×, coded_list, coded_option}
 use Rattle.std.proofs.Common.{ap, sym, ◌∙◌, append_assoc, arith}

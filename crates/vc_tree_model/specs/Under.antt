@@ -1,6 +1,4 @@
 -- Maps by a prefix of their keys.
---     under cmp f p        the pairs of the map f whose key starts with p
---     prefixed cmp f p        p before every key of f
 use Rattle.std.specs.Prelude.{List, Option}
 use Rattle.std.specs.Option.{option_and, option_and_then}
 use Rattle.std.specs.declared.cmp.Ordering.{Ordering}

@@ -1,6 +1,4 @@
 -- When a value that a tree holds stands for one that another tree holds.
---     IsKept keeps v w        both are absent, or `keeps` holds of the two values
---     Copies is_clone v w        w is v, or a clone of it over any number of clones
 use Rattle.std.specs.Prelude.{Option, Some, None, ⊤}
 
 -- both are absent, or the first is kept as the second

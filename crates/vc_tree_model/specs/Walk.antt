@@ -1,7 +1,4 @@
 -- The walk of a tree: all of its pairs, their keys ascending.
---     IsWalk cmp f l        l lists all pairs of the map f, keys strictly ascending
---     IsSamePair cmp b c        two pairs have equal keys and one value
---     walk t        the pairs of a tree, each node's before those of its children
 use Rattle.std.specs.Prelude.{◌≡◌, ◌⊎◌, ◌↔◌, List, [], ◌∷◌, ◌++◌, map, Option, Some, None, IsTrue}
 use Rattle.std.specs.declared.cmp.Ordering.{Ordering}
 use Rattle.std.specs.Cmp.Lexicographic.{slice_cmp}

@@ -1,8 +1,8 @@
 -- What the way down a tree costs: at most one comparison and one search for each component of the key.
 --     IsWithin most d count left known        what was counted and what may come stay within the most that may be counted
---     down_behind, down_ended        one more prefix was compared with the key: it goes on behind it, or not
---     behind_length, some_first, searched_within        how much of the key is left, and what a search of children costs
---     down_searched, down_missed        the children were searched: for the next node, or in vain
+--     down-behind, down-ended        one more prefix was compared with the key: it goes on behind it, or not
+--     behind-length, some-first, searched-within        how much of the key is left, and what a search of children costs
+--     down-searched, down-missed        the children were searched: for the next node, or in vain
 use Rattle.std.proofs.Common.{◌≡◌, ℕ, suc, ◌+◌, ◌-◌, ◌*◌, ◌≤◌, Bool, true, false, cond, [], ◌∷◌, List, Some, None, length, map, min, sym, ap, ◌∙◌, arith}
 use Rattle.std.proofs.Math.Nat.{mul-le-mul_right, add-mul, mul-add, mul-one, min-le_right}
 use Rattle.std.specs.Ordering.{is_eq}
@@ -12,8 +12,8 @@ use Rattle.vc_merge.specs.Count.{digits}
 use Rattle.vc_merge.proofs.Digits.{digits-monotone}
 use Rattle.vc_tree_model.specs.Key.{behind}
 use Rattle.vc_tree_model.specs.Tree.{Tree, forest, trees, width}
-use Rattle.vc_tree_model.proofs.KeyLemmas.{none_some}
-use Rattle.vc_tree_nodes.proofs.Finding.{trees_length}
+use Rattle.vc_tree_model.proofs.KeyLemmas.{none-some}
+use Rattle.vc_tree_nodes.proofs.Finding.{trees-length}
 
 -- of a key `left` components are to come, each of which may cost one comparison and a search of d, where the search for the
 -- first `known` was counted already: with the count so far that is within the most
@@ -21,64 +21,64 @@ abbrev pub IsWithin : ℕ → ℕ → ℕ → ℕ → ℕ → Type 0
 IsWithin most d count left known = count + left * (1 + d) ≤ most + known * d
 
 -- a key is as long as a prefix and what is left behind it
-pub behind_length : {K : Type 0} (cmp : K → K → Ordering) (p k rest : List K) → behind cmp p k ≡ Some rest
+pub behind-length : {K : Type 0} (cmp : K → K → Ordering) (p k rest : List K) → behind cmp p k ≡ Some rest
     → length k ≡ length p + length rest
-behind_length cmp [] k rest e = let same : k ≡ rest = cc in let long = ap length same in omega (arith, long)
-behind_length cmp (x ∷ p) [] rest e = none_some rest e
-behind_length cmp (x ∷ p) (y ∷ k) rest e =
-    by (is_eq (cmp x y)) e (behind_length cmp p k rest)
+behind-length cmp [] k rest e = let same : k ≡ rest = cc in let long = ap length same in omega (arith, long)
+behind-length cmp (x ∷ p) [] rest e = none-some rest e
+behind-length cmp (x ∷ p) (y ∷ k) rest e =
+    by (is_eq (cmp x y)) e (behind-length cmp p k rest)
   where
     by : (b : Bool) → cond b (behind cmp p k) None ≡ Some rest
         → (behind cmp p k ≡ Some rest → length k ≡ length p + length rest)
         → suc (length k) ≡ suc (length p) + length rest
     by true e h = let long = h e in omega (arith, long)
-    by false e h = none_some rest e
+    by false e h = none-some rest e
 
 -- a list that begins with something is not empty
-pub some_first : {X : Type 0} (xs : List X) (x : X) → Some x ≡ slice_get xs 0 → 1 ≤ length xs
-some_first [] x e = none_some x (sym e)
-some_first (y ∷ xs) x e = omega arith
+pub some-first : {X : Type 0} (xs : List X) (x : X) → Some x ≡ slice_get xs 0 → 1 ≤ length xs
+some-first [] x e = none-some x (sym e)
+some-first (y ∷ xs) x e = omega arith
 
 -- a search of the children of a node costs no more than one of as many as the tree has at a node
-pub searched_within : {K V T : Type 0} (tree : T → Tree K V) (xs : List T) (node t : Tree K V)
+pub searched-within : {K V T : Type 0} (tree : T → Tree K V) (xs : List T) (node t : Tree K V)
     → forest (map tree xs) ≡ node.children → width node ≤ width t → digits (length xs) ≤ digits (width t)
-searched_within tree xs node t e w =
-    let long : length (trees node.children) ≡ length xs = ap (λ f. length (trees f)) (sym e) ∙ trees_length tree xs in
+searched-within tree xs node t e w =
+    let long : length (trees node.children) ≡ length xs = ap (λ f. length (trees f)) (sym e) ∙ trees-length tree xs in
     digits-monotone (length xs) (width t) (omega (arith, long))
 
 -- one comparison a component, and one search
-each_twice : (n d : ℕ) → n * (1 + d) ≡ n + n * d
-each_twice n d = mul-add n 1 d ∙ ap (λ k. k + n * d) (mul-one n)
+each-twice : (n d : ℕ) → n * (1 + d) ≡ n + n * d
+each-twice n d = mul-add n 1 d ∙ ap (λ k. k + n * d) (mul-one n)
 
 -- the prefix of p components was compared with the key behind the known ones, and the key goes on behind it
-pub down_behind : (most d old new left known p rest : ℕ) → IsWithin most d old left known → known ≤ p → left ≡ p + rest
+pub down-behind : (most d old new left known p rest : ℕ) → IsWithin most d old left known → known ≤ p → left ≡ p + rest
     → new ≤ old + (p - known) → new + rest * (1 + d) ≤ most
-down_behind most d old new left known p rest h k e n =
-    let whole = each_twice left d in
-    let behind = each_twice rest d in
+down-behind most d old new left known p rest h k e n =
+    let whole = each-twice left d in
+    let behind = each-twice rest d in
     let parts : left * d ≡ p * d + rest * d = ap (λ m. m * d) e ∙ add-mul p rest d in
     let fewer : known * d ≤ p * d = mul-le-mul_right d k in
     omega (arith, whole, behind, parts, fewer)
 
 -- the prefix was compared with the key behind the known components, and the key doesn't go on behind it
-pub down_ended : (most d old new left known p : ℕ) → IsWithin most d old left known → known ≤ left
+pub down-ended : (most d old new left known p : ℕ) → IsWithin most d old left known → known ≤ left
     → new ≤ old + (min p left - known) → new ≤ most
-down_ended most d old new left known p h k n =
-    let whole = each_twice left d in
+down-ended most d old new left known p h k n =
+    let whole = each-twice left d in
     let fewer : known * d ≤ left * d = mul-le-mul_right d k in
     let least = min-le_right p left in
     omega (arith, whole, fewer, least)
 
 -- the children were searched for the first component of what is left
-pub down_searched : (most d old new rest : ℕ) → old + rest * (1 + d) ≤ most → new ≤ old + d → IsWithin most d new rest 1
-down_searched most d old new rest h n = let one : 1 * d ≡ d = one_time d in omega (arith, one)
+pub down-searched : (most d old new rest : ℕ) → old + rest * (1 + d) ≤ most → new ≤ old + d → IsWithin most d new rest 1
+down-searched most d old new rest h n = let one : 1 * d ≡ d = one-time d in omega (arith, one)
   where
-    one_time : (m : ℕ) → 1 * m ≡ m
-    one_time m = omega arith
+    one-time : (m : ℕ) → 1 * m ≡ m
+    one-time m = omega arith
 
 -- and none begins with it
-pub down_missed : (most d old new rest : ℕ) → old + rest * (1 + d) ≤ most → 1 ≤ rest → new ≤ old + d → new ≤ most
-down_missed most d old new rest h s n =
-    let whole = each_twice rest d in
+pub down-missed : (most d old new rest : ℕ) → old + rest * (1 + d) ≤ most → 1 ≤ rest → new ≤ old + d → new ≤ most
+down-missed most d old new rest h s n =
+    let whole = each-twice rest d in
     let some : 1 * d ≤ rest * d = mul-le-mul_right d s in
     omega (arith, whole, some)

@@ -1,9 +1,9 @@
 -- The events of an insertion: what each makes of a node.
---     on_ok, on_err, on_both        what follows from the outcome of a call
---     value_set, child_added, child_grown, top_made, pair_made, leaf_made        the events
---     parts_canonical        a node whose children stayed alike
---     leads_.., list_updated, list_grown, list_alike        the child that the key leads to, and the list once it is changed
---     empty_kept, length_kept, one_put, two_put, top_from, low_from        lists that were lent or copied
+--     on-ok, on-err, on-both        what follows from the outcome of a call
+--     value-set, child-added, child-grown, top-made, pair-made, leaf-made        the events
+--     parts-canonical        a node whose children stayed alike
+--     leads_.., list-updated, list-grown, list-alike        the child that the key leads to, and the list once it is changed
+--     empty-kept, length-kept, one-put, two-put, top-from, low-from        lists that were lent or copied
 use Rattle.std.proofs.Common.{◌≡◌, ℕ, zero, suc, ◌<◌, ◌≤◌, [], ◌∷◌, ◌++◌, List, Option, None, Some, refl, sym, ap, subst, ◌∙◌, arith, get_or, set, map, take, drop, length, append-nil, length-drop, ◌-◌, true, cond, true≢false}
 use Rattle.std.proofs.lemmas.List.{take-append-drop, take_all}
 use Rattle.std.specs.Cmp.{IsTotalOrder, Equal-is}
@@ -19,12 +19,12 @@ use Rattle.vc_tree_nodes.specs.Growth.{IsGrown, Adds, Inserted}
 use Rattle.vc_tree_nodes.specs.Parting.{Agree, SplitsAt}
 use Rattle.vc_tree_nodes.specs.Places.{FitsAt, IsGapAt, LeadsTo, child_first}
 use Rattle.vc_tree_model.specs.Snapshot.{kept_itself}
-use Rattle.vc_tree_model.proofs.AlikeLemmas.{alike_children, alike_solid, alike_trans, alike_lookup, alike_canonical, alike_nodes}
-use Rattle.vc_tree_nodes.proofs.Finding.{begins_below, child_nodes}
-use Rattle.vc_tree_nodes.proofs.Firsts.{child_first-map, rest_children}
-use Rattle.vc_tree_nodes.proofs.Parted.{agree_one}
-use Rattle.vc_tree_nodes.proofs.Growing.{solid_canonical, pair_solid, solid_insert, solid_length, gap_alike, children_insert, children_set, alike_set, alike_first}
-use Rattle.vc_tree_nodes.proofs.Updating.{lookup-leaf, updated_behind, updated_value, updated_children, updated_split, updated_insert, updated_set, updated_alike}
+use Rattle.vc_tree_model.proofs.AlikeLemmas.{alike-children, alike-solid, alike-trans, alike-lookup, alike-canonical, alike-nodes}
+use Rattle.vc_tree_nodes.proofs.Finding.{begins-below, child-nodes}
+use Rattle.vc_tree_nodes.proofs.Firsts.{child_first-map, rest-children}
+use Rattle.vc_tree_nodes.proofs.Parted.{agree-one}
+use Rattle.vc_tree_nodes.proofs.Growing.{solid-canonical, pair-solid, solid-insert, solid-length, gap-alike, children-insert, children-set, alike-set, alike-first}
+use Rattle.vc_tree_nodes.proofs.Updating.{lookup-leaf, updated-behind, updated-value, updated-children, updated-split, updated-insert, updated-set, updated-alike}
 
 -- two nodes of equal parts
 pub node-equal : {K V : Type 0} (p q : List K) (v w : Option V) (f g : Forest K V) → p ≡ q → v ≡ w → f ≡ g
@@ -32,49 +32,49 @@ pub node-equal : {K V : Type 0} (p q : List K) (v w : Option V) (f g : Forest K 
 node-equal p q v w f g a b c = rw (a, b, c) refl
 
 -- what holds of one outcome, holds where it follows
-pub on_ok : {X E A B : Type 0} (r : Result X E) → (A → B) → OnOk r A → OnOk r B
-on_ok (Ok x) f a = f a
-on_ok (Err e) f a = tt
+pub on-ok : {X E A B : Type 0} (r : Result X E) → (A → B) → OnOk r A → OnOk r B
+on-ok (Ok x) f a = f a
+on-ok (Err e) f a = tt
 
-pub on_err : {X E A B : Type 0} (r : Result X E) → (A → B) → OnErr r A → OnErr r B
-on_err (Ok x) f a = tt
-on_err (Err e) f a = f a
+pub on-err : {X E A B : Type 0} (r : Result X E) → (A → B) → OnErr r A → OnErr r B
+on-err (Ok x) f a = tt
+on-err (Err e) f a = f a
 
 -- what holds anyway
-pub always_err : {X E A : Type 0} (r : Result X E) → A → OnErr r A
-always_err (Ok x) a = tt
-always_err (Err e) a = a
+pub always-err : {X E A : Type 0} (r : Result X E) → A → OnErr r A
+always-err (Ok x) a = tt
+always-err (Err e) a = a
 
 -- what follows from each outcome
-pub on_both : {X E A B C : Type 0} (r : Result X E) → OnOk r A → OnErr r B → (A → C) → (B → C) → C
-on_both (Ok x) a b f g = f a
-on_both (Err e) a b f g = g b
+pub on-both : {X E A B C : Type 0} (r : Result X E) → OnOk r A → OnErr r B → (A → C) → (B → C) → C
+on-both (Ok x) a b f g = f a
+on-both (Err e) a b f g = g b
 
 -- a prefix that is not empty shows that a whole tree is solid
-pub whole_solid : {K V : Type 0} (p : List K) (v : Option V) (f : Forest K V) → 0 < length p → IsWhole p v f → IsSolid v f
-whole_solid [] v f h w = absurd (omega arith)
-whole_solid (x ∷ p) v f h w = w
+pub whole-solid : {K V : Type 0} (p : List K) (v : Option V) (f : Forest K V) → 0 < length p → IsWhole p v f → IsSolid v f
+whole-solid [] v f h w = absurd (omega arith)
+whole-solid (x ∷ p) v f h w = w
 
 -- such a tree is canonical
-pub inserted_canonical : {K V : Type 0} (cmp : K → K → Ordering) (keeps : V → V → Type 0) (t : Tree K V)
+pub inserted-canonical : {K V : Type 0} (cmp : K → K → Ordering) (keeps : V → V → Type 0) (t : Tree K V)
     (key : List K) (value : V) (p : List K) (u : Tree K V) → Inserted cmp keeps t key value p u → IsCanonical cmp u
-inserted_canonical cmp keeps t key value p u i =
-    solid_canonical cmp u.prefix u.value u.children i.branch.solid i.branch.children
+inserted-canonical cmp keeps t key value p u i =
+    solid-canonical cmp u.prefix u.value u.children i.branch.solid i.branch.children
 
 module _ {K V : Type 0} (cmp : K → K → Ordering) (keeps : V → V → Type 0) (r : (v : V) → keeps v v)
     (trans : (u v w : V) → keeps u v → keeps v w → keeps u w) (o : IsTotalOrder cmp) where
   -- ---- a node's own value
 
   -- the value of the prefix is new
-  pub value_set : (t u : Tree K V) (p : List K) (f : Forest K V) (value : V) → p ≡ t.prefix → f ≡ t.children
+  pub value-set : (t u : Tree K V) (p : List K) (f : Forest K V) (value : V) → p ≡ t.prefix → f ≡ t.children
       → u ≡ node p (Some value) f → IsCanonical cmp t → Inserted cmp keeps t t.prefix value t.prefix u
-  value_set t u p f value a b e canonical =
+  value-set t u p f value a b e canonical =
       subst (λ u. Inserted cmp keeps t t.prefix value t.prefix u)
       (sym (e ∙ node-equal p t.prefix (Some value) (Some value) f t.children a refl b))
       (record {
         updated =
-            updated_behind cmp keeps [] value [] t.value (Some value) t.children t.children
-            (updated_value cmp keeps r value t.value t.children)
+            updated-behind cmp keeps [] value [] t.value (Some value) t.children t.children
+            (updated-value cmp keeps r value t.value t.children)
             t.prefix t.prefix t.prefix (sym (append-nil t.prefix)) (sym (append-nil t.prefix));
         branch = record { prefix = refl; solid = tt; children = canonical.1 };
       })
@@ -82,117 +82,117 @@ module _ {K V : Type 0} (cmp : K → K → Ordering) (keeps : V → V → Type 0
   -- ---- a node's children
 
   -- the children are changed below a node that stays
-  children_changed : (t : Tree K V) (y : K) (q : List K) (value : V) (g : Forest K V) → IsSolid t.value g
+  children-changed : (t : Tree K V) (y : K) (q : List K) (value : V) (g : Forest K V) → IsSolid t.value g
       → AreChildren cmp g → IsUpdated cmp keeps (y ∷ q) value (lookup_in cmp t.children) (lookup_in cmp g)
       → Inserted cmp keeps t (t.prefix ++ y ∷ q) value t.prefix (node t.prefix t.value g)
-  children_changed t y q value g s a u = record {
+  children-changed t y q value g s a u = record {
     updated =
-        updated_behind cmp keeps (y ∷ q) value [] t.value t.value t.children g
-        (updated_children cmp keeps r y q value t.value t.value t.children g (kept_itself keeps r t.value) u)
+        updated-behind cmp keeps (y ∷ q) value [] t.value t.value t.children g
+        (updated-children cmp keeps r y q value t.value t.value t.children g (kept_itself keeps r t.value) u)
         t.prefix t.prefix (t.prefix ++ y ∷ q) (sym (append-nil t.prefix)) refl;
     branch = record { prefix = refl; solid = s; children = a };
   }
 
   -- the first of canonical children has a value or at least two children
-  first_solid : (p : List K) (v : Option V) (f rest : Forest K V) → AreChildren cmp (grow p v f rest) → IsSolid v f
-  first_solid [] v f rest a = absurd a
-  first_solid (x ∷ p) v f rest a = a.0
+  first-solid : (p : List K) (v : Option V) (f rest : Forest K V) → AreChildren cmp (grow p v f rest) → IsSolid v f
+  first-solid [] v f rest a = absurd a
+  first-solid (x ∷ p) v f rest a = a.0
 
   module _ {T : Type 0} (tree : T → Tree K V) where
     -- one more child, at its place
-    pub child_added : (t u : Tree K V) (p : List K) (v : Option V) (old new : List T) (i : ℕ) (item : T)
+    pub child-added : (t u : Tree K V) (p : List K) (v : Option V) (old new : List T) (i : ℕ) (item : T)
         (rest : List K) (value : V)
         → p ≡ t.prefix → v ≡ t.value → forest (map tree old) ≡ t.children → u ≡ node p v (forest (map tree new))
         → IsCanonical cmp t → IsSolid t.value t.children → FitsAt cmp t.children rest i
         → tree item ≡ made rest (Some value) [] → Adds keeps tree old i item new
         → Inserted cmp keeps t (t.prefix ++ rest) value t.prefix u
-    child_added t u p v old new i item rest value a b c e canonical solid fits leaf added =
+    child-added t u p v old new i item rest value a b c e canonical solid fits leaf added =
         let f = forest (map tree old) in
         let g = forest (map tree added.kept) in
         let gap : IsGapAt cmp g fits.first i =
-        gap_alike cmp keeps f g fits.first i added.alike (subst (λ h. IsGapAt cmp h fits.first i) (sym c) fits.gap) in
+        gap-alike cmp keeps f g fits.first i added.alike (subst (λ h. IsGapAt cmp h fits.first i) (sym c) fits.gap) in
         let one : tree item ≡ node (fits.first ∷ fits.others) (Some value) bare =
         leaf ∙ ap (λ k. node k (Some value) bare) fits.key_is in
         let kids : AreChildren cmp g =
-        alike_children keeps cmp f g added.alike (subst (AreChildren cmp) (sym c) canonical.1) in
+        alike-children keeps cmp f g added.alike (subst (AreChildren cmp) (sym c) canonical.1) in
         let firm : IsSolid t.value g =
-        alike_solid keeps t.value t.value f g (kept_itself keeps r t.value) added.alike
+        alike-solid keeps t.value t.value f g (kept_itself keeps r t.value) added.alike
         (subst (IsSolid t.value) (sym c) solid) in
         subst (λ u. Inserted cmp keeps t (t.prefix ++ rest) value t.prefix u)
         (sym (e ∙ node-equal p t.prefix v t.value (forest (map tree new))
         (forest (map tree (insert added.kept i item))) a b (ap (λ l. forest (map tree l)) added.is)))
         (subst (λ k. Inserted cmp keeps t (t.prefix ++ k) value t.prefix
         (node t.prefix t.value (forest (map tree (insert added.kept i item))))) (sym fits.key_is)
-        (children_changed t fits.first fits.others value (forest (map tree (insert added.kept i item)))
-        (solid_insert tree t.value added.kept i item firm)
-        (children_insert cmp tree added.kept i item fits.first fits.others value one gap kids)
+        (children-changed t fits.first fits.others value (forest (map tree (insert added.kept i item)))
+        (solid-insert tree t.value added.kept i item firm)
+        (children-insert cmp tree added.kept i item fits.first fits.others value one gap kids)
         (subst (λ h. IsUpdated cmp keeps (fits.first ∷ fits.others) value (lookup_in cmp h)
         (lookup_in cmp (forest (map tree (insert added.kept i item))))) c
-        (updated_alike cmp keeps trans (fits.first ∷ fits.others) value (lookup_in cmp f) (lookup_in cmp g)
+        (updated-alike cmp keeps trans (fits.first ∷ fits.others) value (lookup_in cmp f) (lookup_in cmp g)
         (lookup_in cmp (forest (map tree (insert added.kept i item))))
-        (alike_lookup keeps cmp f g added.alike)
-        (updated_insert cmp keeps o r tree added.kept i item fits.first fits.others value one gap)))))
+        (alike-lookup keeps cmp f g added.alike)
+        (updated-insert cmp keeps o r tree added.kept i item fits.first fits.others value one gap)))))
 
     -- children that changed
-    pub child_grown : (t u : Tree K V) (p : List K) (v : Option V) (old new : List T) (rest : List K) (value : V)
+    pub child-grown : (t u : Tree K V) (p : List K) (v : Option V) (old new : List T) (rest : List K) (value : V)
         (y : K) (q : List K)
         → p ≡ t.prefix → v ≡ t.value → forest (map tree old) ≡ t.children → u ≡ node p v (forest (map tree new))
         → IsSolid t.value t.children → rest ≡ y ∷ q → length new ≡ length old → AreChildren cmp (forest (map tree new))
         → IsUpdated cmp keeps rest value (lookup_in cmp (forest (map tree old))) (lookup_in cmp (forest (map tree new)))
         → Inserted cmp keeps t (t.prefix ++ rest) value t.prefix u
-    child_grown t u p v old new rest value y q a b c e solid key n kids w =
+    child-grown t u p v old new rest value y q a b c e solid key n kids w =
         subst (λ u. Inserted cmp keeps t (t.prefix ++ rest) value t.prefix u)
         (sym (e ∙ node-equal p t.prefix v t.value (forest (map tree new)) (forest (map tree new)) a b refl))
         (subst (λ k. Inserted cmp keeps t (t.prefix ++ k) value t.prefix
         (node t.prefix t.value (forest (map tree new)))) (sym key)
-        (children_changed t y q value (forest (map tree new))
-        (solid_length tree t.value old new (sym n) (subst (IsSolid t.value) (sym c) solid)) kids
+        (children-changed t y q value (forest (map tree new))
+        (solid-length tree t.value old new (sym n) (subst (IsSolid t.value) (sym c) solid)) kids
         (subst (λ h. IsUpdated cmp keeps (y ∷ q) value (lookup_in cmp h) (lookup_in cmp (forest (map tree new)))) c
         (subst (λ k. IsUpdated cmp keeps k value (lookup_in cmp (forest (map tree old)))
         (lookup_in cmp (forest (map tree new)))) key w))))
 
     -- a node whose children stayed alike is canonical
-    pub parts_canonical : (t : Tree K V) (p : List K) (v : Option V) (old new : List T)
+    pub parts-canonical : (t : Tree K V) (p : List K) (v : Option V) (old new : List T)
         → p ≡ t.prefix → v ≡ t.value → forest (map tree old) ≡ t.children → IsCanonical cmp t
         → IsAlikeIn keeps (forest (map tree old)) (forest (map tree new)) → IsCanonical cmp (node p v (forest (map tree new)))
-    parts_canonical t p v old new a b c canonical alike =
-        alike_canonical keeps cmp p v v (forest (map tree old)) (forest (map tree new)) (kept_itself keeps r v) alike
+    parts-canonical t p v old new a b c canonical alike =
+        alike-canonical keeps cmp p v v (forest (map tree old)) (forest (map tree new)) (kept_itself keeps r v) alike
         (rw (a, b, c) canonical)
 
     -- ---- a node split in two
 
     -- what was cut off below stands alone as a child
-    low_children : (t : Tree K V) (n : ℕ) (low : T) → n < length t.prefix → IsCanonical cmp t
+    low-children : (t : Tree K V) (n : ℕ) (low : T) → n < length t.prefix → IsCanonical cmp t
         → tree low ≡ node (drop n t.prefix) t.value t.children → AreChildren cmp (forest (map tree (low ∷ [])))
-    low_children t n low h canonical e =
+    low-children t n low h canonical e =
         subst (λ l. AreChildren cmp (grow l.prefix l.value l.children bare)) (sym e)
         (alone (drop n t.prefix) (omega (arith, length-drop {A = K} n t.prefix))
-        (whole_solid t.prefix t.value t.children (omega arith) canonical.0))
+        (whole-solid t.prefix t.value t.children (omega arith) canonical.0))
       where
         alone : (p : List K) → 0 < length p → IsSolid t.value t.children → AreChildren cmp (grow p t.value t.children bare)
         alone [] l s = absurd (omega arith)
         alone (x ∷ p) l s = (s, canonical.1, tt, tt)
 
     -- the half below, put below a new node, reads as before
-    split_updated : (t : Tree K V) (n : ℕ) (low : T) (rest : List K) (value : V) (w : Option V) (g : Forest K V)
+    split-updated : (t : Tree K V) (n : ℕ) (low : T) (rest : List K) (value : V) (w : Option V) (g : Forest K V)
         → n < length t.prefix → tree low ≡ node (drop n t.prefix) t.value t.children
         → IsUpdated cmp keeps rest value (lookup cmp (node [] None (forest (map tree (low ∷ []))))) (lookup cmp (node [] w g))
         → IsUpdated cmp keeps (take n t.prefix ++ rest) value (lookup cmp t) (lookup cmp (node (take n t.prefix) w g))
-    split_updated t n low rest value w g h e u =
-        updated_behind cmp keeps rest value (drop n t.prefix) t.value w t.children g
-        (updated_split cmp keeps rest value (drop n t.prefix) t.value t.children (lookup cmp (node [] w g))
+    split-updated t n low rest value w g h e u =
+        updated-behind cmp keeps rest value (drop n t.prefix) t.value w t.children g
+        (updated-split cmp keeps rest value (drop n t.prefix) t.value t.children (lookup cmp (node [] w g))
         (omega (arith, length-drop {A = K} n t.prefix))
         (subst (λ l. IsUpdated cmp keeps rest value (lookup cmp
         (node [] None (grow l.prefix l.value l.children bare))) (lookup cmp (node [] w g))) e u))
         (take n t.prefix) t.prefix (take n t.prefix ++ rest) (sym (take-append-drop n t.prefix)) refl
 
     -- a new node of the value above the half below
-    pub top_made : (t u : Tree K V) (n : ℕ) (p : List K) (low : T) (new : List T) (value : V)
+    pub top-made : (t u : Tree K V) (n : ℕ) (p : List K) (low : T) (new : List T) (value : V)
         → n < length t.prefix → IsCanonical cmp t → p ≡ take n t.prefix
         → tree low ≡ node (drop n t.prefix) t.value t.children → new ≡ low ∷ []
         → u ≡ node p (Some value) (forest (map tree new))
         → Inserted cmp keeps t (take n t.prefix) value (take n t.prefix) u
-    top_made t u n p low new value h canonical a e l d =
+    top-made t u n p low new value h canonical a e l d =
         let f = forest (map tree (low ∷ [])) in
         subst (λ u. Inserted cmp keeps t (take n t.prefix) value (take n t.prefix) u)
         (sym (d ∙ node-equal p (take n t.prefix) (Some value) (Some value) (forest (map tree new)) f a refl
@@ -201,17 +201,17 @@ module _ {K V : Type 0} (cmp : K → K → Ordering) (keeps : V → V → Type 0
           updated =
               subst (λ k. IsUpdated cmp keeps k value (lookup cmp t)
               (lookup cmp (node (take n t.prefix) (Some value) f))) (append-nil (take n t.prefix))
-              (split_updated t n low [] value (Some value) f h e (updated_value cmp keeps r value None f));
-          branch = record { prefix = refl; solid = tt; children = low_children t n low h canonical e };
+              (split-updated t n low [] value (Some value) f h e (updated-value cmp keeps r value None f));
+          branch = record { prefix = refl; solid = tt; children = low-children t n low h canonical e };
         })
 
     -- a new node above the half below and a leaf beside it
-    pub pair_made : (t u : Tree K V) (n : ℕ) (rest : List K) (i : ℕ) (p : List K) (low leaf : T) (new : List T) (value : V)
+    pub pair-made : (t u : Tree K V) (n : ℕ) (rest : List K) (i : ℕ) (p : List K) (low leaf : T) (new : List T) (value : V)
         → SplitsAt cmp t n rest i → IsCanonical cmp t → p ≡ take n t.prefix
         → tree low ≡ node (drop n t.prefix) t.value t.children → tree leaf ≡ made rest (Some value) []
         → new ≡ insert (low ∷ []) i leaf → u ≡ node p None (forest (map tree new))
         → Inserted cmp keeps t (take n t.prefix ++ rest) value (take n t.prefix) u
-    pair_made t u n rest i p low leaf new value s canonical a e b l d =
+    pair-made t u n rest i p low leaf new value s canonical a e b l d =
         let f = forest (map tree (low ∷ [])) in
         let g = forest (map tree (insert (low ∷ []) i leaf)) in
         let y = s.fits.first in
@@ -223,95 +223,95 @@ module _ {K V : Type 0} (cmp : K → K → Ordering) (keeps : V → V → Type 0
         (sym (d ∙ node-equal p (take n t.prefix) None None (forest (map tree new)) g a refl
         (ap (λ l. forest (map tree l)) l)))
         (record {
-          updated = split_updated t n low rest value None g s.within e
+          updated = split-updated t n low rest value None g s.within e
               (subst (λ k. IsUpdated cmp keeps k value (lookup cmp (node [] None f)) (lookup cmp (node [] None g)))
               (sym s.fits.key_is)
-              (updated_children cmp keeps r y q value None None f g tt
-              (updated_insert cmp keeps o r tree (low ∷ []) i leaf y q value one gap)));
+              (updated-children cmp keeps r y q value None None f g tt
+              (updated-insert cmp keeps o r tree (low ∷ []) i leaf y q value one gap)));
           branch = record {
             prefix = refl;
-            solid = pair_solid tree low [] i leaf;
+            solid = pair-solid tree low [] i leaf;
             children =
-                children_insert cmp tree (low ∷ []) i leaf y q value one gap (low_children t n low s.within canonical e);
+                children-insert cmp tree (low ∷ []) i leaf y q value one gap (low-children t n low s.within canonical e);
           };
         })
 
     -- ---- one tree of a list
 
     -- a canonical child has a value or at least two children
-    child_solid : (ts : List T) (i : ℕ) (d : T) → AreChildren cmp (forest (map tree ts)) → i < length ts
+    child-solid : (ts : List T) (i : ℕ) (d : T) → AreChildren cmp (forest (map tree ts)) → i < length ts
         → IsSolid (tree (get_or ts i d)).value (tree (get_or ts i d)).children
-    child_solid [] i d a h = absurd (omega arith)
-    child_solid (t ∷ ts) zero d a h = first_solid (tree t).prefix (tree t).value (tree t).children (forest (map tree ts)) a
-    child_solid (t ∷ ts) (suc i) d a h =
-        child_solid ts i d (rest_children cmp (tree t).prefix (tree t).value (tree t).children (forest (map tree ts))
+    child-solid [] i d a h = absurd (omega arith)
+    child-solid (t ∷ ts) zero d a h = first-solid (tree t).prefix (tree t).value (tree t).children (forest (map tree ts)) a
+    child-solid (t ∷ ts) (suc i) d a h =
+        child-solid ts i d (rest-children cmp (tree t).prefix (tree t).value (tree t).children (forest (map tree ts))
         a) (omega arith)
 
     module _ (old kept : List T) (i : ℕ) (rest : List K) (leads : LeadsTo cmp (forest (map tree old)) rest i)
         (alike : IsAlikeIn keeps (forest (map tree old)) (forest (map tree kept)))
         (canonical : AreChildren cmp (forest (map tree old))) where
       -- the tree that the key leads to begins as the old one
-      pub leads_kept : child_first (forest (map tree kept)) i ≡ Some leads.begins.here
-      leads_kept = sym (alike_first keeps (forest (map tree old)) (forest (map tree kept)) i alike) ∙ leads.begins.at
+      pub leads-kept : child_first (forest (map tree kept)) i ≡ Some leads.begins.here
+      leads-kept = sym (alike-first keeps (forest (map tree old)) (forest (map tree kept)) i alike) ∙ leads.begins.at
 
       -- it is there
-      pub leads_within : i < length kept
-      leads_within =
-          begins_below cmp tree kept leads.first i (record
-          { here = leads.begins.here; at = leads_kept; equal = leads.begins.equal })
+      pub leads-within : i < length kept
+      leads-within =
+          begins-below cmp tree kept leads.first i (record
+          { here = leads.begins.here; at = leads-kept; equal = leads.begins.equal })
 
       -- it agrees with the key in one component
-      pub leads_agree : (child : T) → child ≡ get_or kept i child → Agree cmp (tree child).prefix rest 1
-      leads_agree child is =
-          agree_one cmp (tree child).prefix rest leads.begins.here leads.first leads.others
-          (ap (λ c. slice_get (tree c).prefix 0) is ∙ sym (child_first-map cmp tree kept i child leads_within) ∙
-          leads_kept) leads.begins.equal leads.key_is
+      pub leads-agree : (child : T) → child ≡ get_or kept i child → Agree cmp (tree child).prefix rest 1
+      leads-agree child is =
+          agree-one cmp (tree child).prefix rest leads.begins.here leads.first leads.others
+          (ap (λ c. slice_get (tree c).prefix 0) is ∙ sym (child_first-map cmp tree kept i child leads-within) ∙
+          leads-kept) leads.begins.equal leads.key_is
 
       -- the children that were copied are canonical
-      pub kept_children : AreChildren cmp (forest (map tree kept))
-      kept_children = alike_children keeps cmp (forest (map tree old)) (forest (map tree kept)) alike canonical
+      pub kept-children : AreChildren cmp (forest (map tree kept))
+      kept-children = alike-children keeps cmp (forest (map tree old)) (forest (map tree kept)) alike canonical
 
       -- the tree has a value or at least two children
-      pub leads_solid : (child : T) → child ≡ get_or kept i child → IsSolid (tree child).value (tree child).children
-      leads_solid child is =
-          subst (λ c. IsSolid (tree c).value (tree c).children) (sym is) (child_solid kept i child kept_children leads_within)
+      pub leads-solid : (child : T) → child ≡ get_or kept i child → IsSolid (tree child).value (tree child).children
+      leads-solid child is =
+          subst (λ c. IsSolid (tree c).value (tree c).children) (sym is) (child-solid kept i child kept-children leads-within)
 
       -- and no more nodes than the list
-      pub leads_nodes : (child : T) → child ≡ get_or kept i child → nodes (tree child) ≤ forest_nodes (forest (map tree old))
-      leads_nodes child is =
-          let n = child_nodes cmp tree kept i child leads_within in
-          let m = alike_nodes keeps (forest (map tree old)) (forest (map tree kept)) alike in
+      pub leads-nodes : (child : T) → child ≡ get_or kept i child → nodes (tree child) ≤ forest_nodes (forest (map tree old))
+      leads-nodes child is =
+          let n = child-nodes cmp tree kept i child leads-within in
+          let m = alike-nodes keeps (forest (map tree old)) (forest (map tree kept)) alike in
           rw (is, m) n
 
       module _ (child item : T) (new : List T) (value : V) (is : child ≡ get_or kept i child)
           (set_is : new ≡ set kept i item) where
         -- the map of the list, where the tree that the key leads to was updated
-        pub list_updated : IsUpdated cmp keeps rest value (lookup cmp (tree child)) (lookup cmp (tree item))
+        pub list-updated : IsUpdated cmp keeps rest value (lookup cmp (tree child)) (lookup cmp (tree item))
             → IsUpdated cmp keeps rest value (lookup_in cmp (forest (map tree old))) (lookup_in cmp (forest (map tree new)))
-        list_updated u =
+        list-updated u =
             rw (leads.key_is, set_is)
-            (updated_alike cmp keeps trans (leads.first ∷ leads.others) value (lookup_in cmp (forest (map tree old)))
+            (updated-alike cmp keeps trans (leads.first ∷ leads.others) value (lookup_in cmp (forest (map tree old)))
             (lookup_in cmp (forest (map tree kept))) (lookup_in cmp (forest (map tree (set kept i item))))
-            (alike_lookup keeps cmp (forest (map tree old)) (forest (map tree kept)) alike)
-            (updated_set cmp keeps o r tree kept i item child leads.begins.here leads.first leads.others value
-            leads_kept ((Equal-is (cmp leads.begins.here leads.first)).0 leads.begins.equal) kept_children
+            (alike-lookup keeps cmp (forest (map tree old)) (forest (map tree kept)) alike)
+            (updated-set cmp keeps o r tree kept i item child leads.begins.here leads.first leads.others value
+            leads-kept ((Equal-is (cmp leads.begins.here leads.first)).0 leads.begins.equal) kept-children
             (subst (λ c. IsUpdated cmp keeps (leads.first ∷ leads.others) value (lookup cmp (tree c))
             (lookup cmp (tree item))) is
             (subst (λ k. IsUpdated cmp keeps k value (lookup cmp (tree child)) (lookup cmp (tree item))) leads.key_is u))))
 
         -- the trees are canonical children where that one has grown
-        pub list_grown : IsGrown cmp 1 (tree child) (tree item) → AreChildren cmp (forest (map tree new))
-        list_grown g =
-            rw set_is (children_set cmp tree kept i item child (subst (λ c. IsGrown cmp 1 (tree c) (tree item)) is g)
-            kept_children)
+        pub list-grown : IsGrown cmp 1 (tree child) (tree item) → AreChildren cmp (forest (map tree new))
+        list-grown g =
+            rw set_is (children-set cmp tree kept i item child (subst (λ c. IsGrown cmp 1 (tree c) (tree item)) is g)
+            kept-children)
 
         -- the trees are alike where that one is
-        pub list_alike : IsAlike keeps (tree child) (tree item)
+        pub list-alike : IsAlike keeps (tree child) (tree item)
             → IsAlikeIn keeps (forest (map tree old)) (forest (map tree new))
-        list_alike h =
-            rw set_is (alike_trans keeps trans (forest (map tree old)) (forest (map tree kept))
+        list-alike h =
+            rw set_is (alike-trans keeps trans (forest (map tree old)) (forest (map tree kept))
             (forest (map tree (set kept i item))) alike
-            (alike_set keeps r tree kept i item child (subst (λ c. IsAlike keeps (tree c) (tree item)) is h)))
+            (alike-set keeps r tree kept i item child (subst (λ c. IsAlike keeps (tree c) (tree item)) is h)))
 
 module _ {K V : Type 0} (cmp : K → K → Ordering) (keeps : V → V → Type 0) where
   -- there is nothing behind a node with neither value nor children
@@ -321,51 +321,51 @@ module _ {K V : Type 0} (cmp : K → K → Ordering) (keeps : V → V → Type 0
   nothing (Some (x ∷ rest)) = refl
 
   -- such a node binds no key
-  bare_none : (p : List K) (v : Option V) (f : Forest K V) (k : List K) → is_bare (node p v f) ≡ true
+  bare-none : (p : List K) (v : Option V) (f : Forest K V) (k : List K) → is_bare (node p v f) ≡ true
       → lookup cmp (node p v f) k ≡ None
-  bare_none p (Some v) f k e = absurd (true≢false (sym e))
-  bare_none p None (grow q w more rest) k e = absurd (true≢false (sym e))
-  bare_none p None bare k e = nothing (behind cmp p k)
+  bare-none p (Some v) f k e = absurd (true≢false (sym e))
+  bare-none p None (grow q w more rest) k e = absurd (true≢false (sym e))
+  bare-none p None bare k e = nothing (behind cmp p k)
 
   -- a leaf in the place of the empty tree
-  pub leaf_made : (t u : Tree K V) (key : List K) (value : V) → is_bare t ≡ true → u ≡ made key (Some value) []
+  pub leaf-made : (t u : Tree K V) (key : List K) (value : V) → is_bare t ≡ true → u ≡ made key (Some value) []
       → IsUpdated cmp keeps key value (lookup cmp t) (lookup cmp u)
-  leaf_made t u key value b e = rw e (record {
+  leaf-made t u key value b e = rw e (record {
     at = λ k s. lookup-leaf cmp keeps key k value ∙ ap (λ b. cond b (Some value) None) s;
-    others = λ k s. rw (bare_none t.prefix t.value t.children k b, lookup-leaf cmp keeps key k value, s) tt;
+    others = λ k s. rw (bare-none t.prefix t.value t.children k b, lookup-leaf cmp keeps key k value, s) tt;
   })
 
 -- ---- lists of items that a list was made of
 
 -- what keeps an empty list is empty
-pub empty_kept : {K V T : Type 0} (keeps : V → V → Type 0) (tree : T → Tree K V) (xs ys : List T) → xs ≡ []
+pub empty-kept : {K V T : Type 0} (keeps : V → V → Type 0) (tree : T → Tree K V) (xs ys : List T) → xs ≡ []
     → IsAlikeIn keeps (forest (map tree xs)) (forest (map tree ys)) → ys ≡ []
-empty_kept keeps tree [] [] e h = refl
-empty_kept keeps tree [] (y ∷ ys) e h = absurd h
-empty_kept keeps tree (x ∷ xs) ys e h = absurd (omega (arith, ap length e))
+empty-kept keeps tree [] [] e h = refl
+empty-kept keeps tree [] (y ∷ ys) e h = absurd h
+empty-kept keeps tree (x ∷ xs) ys e h = absurd (omega (arith, ap length e))
 
 -- what keeps a list is as long
-pub length_kept : {K V T : Type 0} (keeps : V → V → Type 0) (tree : T → Tree K V) (xs ys : List T)
+pub length-kept : {K V T : Type 0} (keeps : V → V → Type 0) (tree : T → Tree K V) (xs ys : List T)
     → IsAlikeIn keeps (forest (map tree xs)) (forest (map tree ys)) → length xs ≡ length ys
-length_kept keeps tree [] [] h = refl
-length_kept keeps tree [] (y ∷ ys) h = absurd h
-length_kept keeps tree (x ∷ xs) [] h = absurd h
-length_kept keeps tree (x ∷ xs) (y ∷ ys) h = let r = length_kept keeps tree xs ys h.3 in omega (arith, r)
+length-kept keeps tree [] [] h = refl
+length-kept keeps tree [] (y ∷ ys) h = absurd h
+length-kept keeps tree (x ∷ xs) [] h = absurd h
+length-kept keeps tree (x ∷ xs) (y ∷ ys) h = let r = length-kept keeps tree xs ys h.3 in omega (arith, r)
 
 -- one item put into an empty list
-pub one_put : {T : Type 0} (zs a b c : List T) (low : T) → zs ≡ a → a ≡ insert b 0 low → b ≡ c → c ≡ [] → zs ≡ low ∷ []
-one_put zs a b c low p q r s = rw (p, q, r, s) refl
+pub one-put : {T : Type 0} (zs a b c : List T) (low : T) → zs ≡ a → a ≡ insert b 0 low → b ≡ c → c ≡ [] → zs ≡ low ∷ []
+one-put zs a b c low p q r s = rw (p, q, r, s) refl
 
 -- and a second one
-pub two_put : {T : Type 0} (zs a b c d : List T) (i : ℕ) (low leaf : T) → zs ≡ a → a ≡ insert b i leaf
+pub two-put : {T : Type 0} (zs a b c d : List T) (i : ℕ) (low leaf : T) → zs ≡ a → a ≡ insert b i leaf
     → b ≡ insert c 0 low → c ≡ d → d ≡ [] → zs ≡ insert (low ∷ []) i leaf
-two_put zs a b c d i low leaf p q r s t = rw (p, q, r, s, t) refl
+two-put zs a b c d i low leaf p q r s t = rw (p, q, r, s, t) refl
 
 -- a part of the prefix, copied from the slice that was lent
-pub top_from : {K : Type 0} (a whole p : List K) (n : ℕ) → a ≡ take n whole → whole ≡ p → a ≡ take n p
-top_from a whole p n h e = h ∙ ap (take n) e
+pub top-from : {K : Type 0} (a whole p : List K) (n : ℕ) → a ≡ take n whole → whole ≡ p → a ≡ take n p
+top-from a whole p n h e = h ∙ ap (take n) e
 
-pub low_from : {K : Type 0} (a whole p : List K) (n : ℕ) → a ≡ take (length whole - n) (drop n whole) → whole ≡ p
+pub low-from : {K : Type 0} (a whole p : List K) (n : ℕ) → a ≡ take (length whole - n) (drop n whole) → whole ≡ p
     → a ≡ drop n p
-low_from {K = K} a whole p n h e =
+low-from {K = K} a whole p n h e =
     h ∙ take_all (length whole - n) (drop n whole) (omega (arith, length-drop {A = K} n whole)) ∙ ap (drop n) e

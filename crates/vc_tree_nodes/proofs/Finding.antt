@@ -1,8 +1,8 @@
 -- The child that a component leads to, and what the others bind.
---     begins_below        a child that begins with a component is there
---     found_at, gap_none        what a found child binds; that no child binds what has a gap for its place
---     child_nodes, list_nodes        a child has no more nodes than the list
---     trees_length        how many children a node has
+--     begins-below        a child that begins with a component is there
+--     found-at, gap-none        what a found child binds; that no child binds what has a gap for its place
+--     child-nodes, list-nodes        a child has no more nodes than the list
+--     trees-length        how many children a node has
 use Rattle.std.proofs.Common.{◌≡◌, ℕ, zero, suc, ◌<◌, ◌≤◌, [], ◌∷◌, List, Option, None, Some, refl, sym, ap, ◌∙◌, arith, get_or, map, length, take, true}
 use Rattle.std.specs.Cmp.{IsTotalOrder, Equal-is, alike_right}
 use Rattle.std.specs.Ordering.{is_eq}
@@ -14,107 +14,107 @@ use Rattle.vc_tree_model.specs.Tree.{Tree, Forest, bare, grow, forest, node, tre
 use Rattle.vc_tree_model.specs.Map.{or_else, lookup, lookup_in}
 use Rattle.vc_tree_model.specs.Canonical.{AreChildren}
 use Rattle.vc_tree_nodes.specs.Places.{child_first, BeginsAt, IsGapAt, IsFoundChild}
-use Rattle.vc_tree_model.proofs.KeyLemmas.{none_some}
+use Rattle.vc_tree_model.proofs.KeyLemmas.{none-some}
 use Rattle.vc_tree_model.proofs.ValueLemmas.{or_else-none}
-use Rattle.vc_tree_model.proofs.LookupLemmas.{lookup-other, lookup_in-above, lookup_in-skip, above_equal}
-use Rattle.vc_tree_nodes.proofs.Firsts.{above_at, rest_children, child_first-map}
+use Rattle.vc_tree_model.proofs.LookupLemmas.{lookup-other, lookup_in-above, lookup_in-skip, above-equal}
+use Rattle.vc_tree_nodes.proofs.Firsts.{above-at, rest-children, child_first-map}
 
 -- a tree of a list has no more nodes than the list
-pub list_nodes : {K V : Type 0} (ts : List (Tree K V)) (i : ℕ) (d : Tree K V) → i < length ts
+pub list-nodes : {K V : Type 0} (ts : List (Tree K V)) (i : ℕ) (d : Tree K V) → i < length ts
     → nodes (get_or ts i d) ≤ forest_nodes (forest ts)
-list_nodes [] i d h = absurd (omega arith)
-list_nodes (t ∷ ts) zero d h = omega arith
-list_nodes (t ∷ ts) (suc i) d h = let r = list_nodes ts i d (omega arith) in omega (arith, r)
+list-nodes [] i d h = absurd (omega arith)
+list-nodes (t ∷ ts) zero d h = omega arith
+list-nodes (t ∷ ts) (suc i) d h = let r = list-nodes ts i d (omega arith) in omega (arith, r)
 
 -- as many trees are seen as there are
-pub trees_length : {K V T : Type 0} (tree : T → Tree K V) (xs : List T) → length (trees (forest (map tree xs))) ≡ length xs
-trees_length tree [] = refl
-trees_length tree (t ∷ ts) = ap suc (trees_length tree ts)
+pub trees-length : {K V T : Type 0} (tree : T → Tree K V) (xs : List T) → length (trees (forest (map tree xs))) ≡ length xs
+trees-length tree [] = refl
+trees-length tree (t ∷ ts) = ap suc (trees-length tree ts)
 
 module _ {K V : Type 0} (cmp : K → K → Ordering) where
   -- what has a gap for its place is not bound
-  pub gap_none : IsTotalOrder cmp → (f : Forest K V) (x : K) (i : ℕ) → IsGapAt cmp f x i → (rest : List K)
+  pub gap-none : IsTotalOrder cmp → (f : Forest K V) (x : K) (i : ℕ) → IsGapAt cmp f x i → (rest : List K)
       → lookup_in cmp f (x ∷ rest) ≡ None
-  gap_none o f x zero g rest = lookup_in-above cmp o x f rest g
-  gap_none o bare x (suc i) g rest = absurd g
-  gap_none o (grow [] v kids others) x (suc i) g rest = absurd g
-  gap_none o (grow (y ∷ p) v kids others) x (suc i) g rest =
-      lookup_in-skip cmp y x p rest v kids others (ap is_eq g.0) ∙ gap_none o others x i g.1 rest
+  gap-none o f x zero g rest = lookup_in-above cmp o x f rest g
+  gap-none o bare x (suc i) g rest = absurd g
+  gap-none o (grow [] v kids others) x (suc i) g rest = absurd g
+  gap-none o (grow (y ∷ p) v kids others) x (suc i) g rest =
+      lookup_in-skip cmp y x p rest v kids others (ap is_eq g.0) ∙ gap-none o others x i g.1 rest
 
   -- the first of these trees begins with x: the others do not
-  first_found : IsTotalOrder cmp → (p : List K) (v : Option V) (kids others : Forest K V) (y x : K) (rest : List K)
+  first-found : IsTotalOrder cmp → (p : List K) (v : Option V) (kids others : Forest K V) (y x : K) (rest : List K)
       → AreChildren cmp (grow p v kids others) → slice_get p 0 ≡ Some y → cmp y x ≡ Equal
       → lookup_in cmp (grow p v kids others) (x ∷ rest) ≡ lookup cmp (node p v kids) (x ∷ rest)
-  first_found o [] v kids others y x rest a e h = absurd a
-  first_found o (z ∷ p) v kids others y x rest a e h =
+  first-found o [] v kids others y x rest a e h = absurd a
+  first-found o (z ∷ p) v kids others y x rest a e h =
       let k : z ≡ y = cc in
       let q : cmp z x ≡ Equal = ap (λ m. cmp m x) k ∙ h in
-      ap (or_else _) (lookup_in-above cmp o x others rest (above_equal cmp o z x others q a.2)) ∙ or_else-none _
+      ap (or_else _) (lookup_in-above cmp o x others rest (above-equal cmp o z x others q a.2)) ∙ or_else-none _
 
   -- a later one begins with x: the first does not
-  first_skipped : IsTotalOrder cmp
+  first-skipped : IsTotalOrder cmp
       → (p : List K) (v : Option V) (kids others : Forest K V) (i : ℕ) (y x : K) (rest : List K)
       → AreChildren cmp (grow p v kids others) → child_first others i ≡ Some y → cmp y x ≡ Equal
       → lookup cmp (node p v kids) (x ∷ rest) ≡ None
-  first_skipped o [] v kids others i y x rest a e h = absurd a
-  first_skipped o (z ∷ p) v kids others i y x rest a e h =
-      let l : cmp z x ≡ Less = sym (alike_right o y x z h) ∙ above_at cmp z others i y a.2 e in
+  first-skipped o [] v kids others i y x rest a e h = absurd a
+  first-skipped o (z ∷ p) v kids others i y x rest a e h =
+      let l : cmp z x ≡ Less = sym (alike_right o y x z h) ∙ above-at cmp z others i y a.2 e in
       lookup-other cmp z x p rest v kids (ap is_eq l)
 
   module _ {T : Type 0} (tree : T → Tree K V) where
     -- where a child begins with x there is one
-    pub begins_below : (xs : List T) (x : K) (i : ℕ) → BeginsAt cmp (forest (map tree xs)) x i → i < length xs
-    begins_below xs x i b = by xs i b.at
+    pub begins-below : (xs : List T) (x : K) (i : ℕ) → BeginsAt cmp (forest (map tree xs)) x i → i < length xs
+    begins-below xs x i b = by xs i b.at
       where
         by : (xs : List T) (i : ℕ) → child_first (forest (map tree xs)) i ≡ Some b.here → i < length xs
-        by [] i e = none_some b.here e
+        by [] i e = none-some b.here e
         by (t ∷ ts) zero e = omega arith
         by (t ∷ ts) (suc i) e = let h = by ts i e in omega (arith, h)
 
     -- a child has no more nodes than the list
-    pub child_nodes : (xs : List T) (i : ℕ) (d : T) → i < length xs
+    pub child-nodes : (xs : List T) (i : ℕ) (d : T) → i < length xs
         → nodes (tree (get_or xs i d)) ≤ forest_nodes (forest (map tree xs))
-    child_nodes [] i d h = absurd (omega arith)
-    child_nodes (t ∷ ts) zero d h = omega arith
-    child_nodes (t ∷ ts) (suc i) d h = let r = child_nodes ts i d (omega arith) in omega (arith, r)
+    child-nodes [] i d h = absurd (omega arith)
+    child-nodes (t ∷ ts) zero d h = omega arith
+    child-nodes (t ∷ ts) (suc i) d h = let r = child-nodes ts i d (omega arith) in omega (arith, r)
 
     -- nor has a node below it more children
-    child_width : (xs : List T) (i : ℕ) (d : T) → i < length xs
+    child-width : (xs : List T) (i : ℕ) (d : T) → i < length xs
         → width (tree (get_or xs i d)) ≤ forest_width (forest (map tree xs))
-    child_width [] i d h = absurd (omega arith)
-    child_width (t ∷ ts) zero d h = omega arith
-    child_width (t ∷ ts) (suc i) d h = let r = child_width ts i d (omega arith) in omega (arith, r)
+    child-width [] i d h = absurd (omega arith)
+    child-width (t ∷ ts) zero d h = omega arith
+    child-width (t ∷ ts) (suc i) d h = let r = child-width ts i d (omega arith) in omega (arith, r)
 
     -- the child that begins with x binds what the list binds of the keys that begin so
     pub lookup_in-at : IsTotalOrder cmp → (xs : List T) (i : ℕ) (d : T) (y x : K) (rest : List K)
         → AreChildren cmp (forest (map tree xs)) → child_first (forest (map tree xs)) i ≡ Some y → cmp y x ≡ Equal
         → lookup_in cmp (forest (map tree xs)) (x ∷ rest) ≡ lookup cmp (tree (get_or xs i d)) (x ∷ rest)
-    lookup_in-at o [] i d y x rest a e h = none_some y e
+    lookup_in-at o [] i d y x rest a e h = none-some y e
     lookup_in-at o (t ∷ ts) zero d y x rest a e h =
-        first_found o (tree t).prefix (tree t).value (tree t).children (forest (map tree ts)) y x rest a e h
+        first-found o (tree t).prefix (tree t).value (tree t).children (forest (map tree ts)) y x rest a e h
     lookup_in-at o (t ∷ ts) (suc i) d y x rest a e h =
         ap (λ m. or_else m (lookup_in cmp (forest (map tree ts)) (x ∷ rest)))
-        (first_skipped o (tree t).prefix (tree t).value (tree t).children (forest (map tree ts)) i y x rest a e h)
-        ∙ lookup_in-at o ts i d y x rest (rest_children cmp (tree t).prefix (tree t).value (tree t).children
+        (first-skipped o (tree t).prefix (tree t).value (tree t).children (forest (map tree ts)) i y x rest a e h)
+        ∙ lookup_in-at o ts i d y x rest (rest-children cmp (tree t).prefix (tree t).value (tree t).children
         (forest (map tree ts)) a) e h
 
     -- it begins with a component equal to x
-    begins_at : (p : List K) (y x : K) → slice_get p 0 ≡ Some y → is_eq (cmp y x) ≡ true
+    begins-at : (p : List K) (y x : K) → slice_get p 0 ≡ Some y → is_eq (cmp y x) ≡ true
         → same_key cmp (take 1 p) (x ∷ []) ≡ true
-    begins_at [] y x e h = none_some y e
-    begins_at (z ∷ p) y x e h = let k : z ≡ y = cc in rw (k, h) refl
+    begins-at [] y x e h = none-some y e
+    begins-at (z ∷ p) y x e h = let k : z ≡ y = cc in rw (k, h) refl
 
     -- it is found
-    pub found_at : IsTotalOrder cmp → (xs : List T) (i : ℕ) (x : K) (child : T)
+    pub found-at : IsTotalOrder cmp → (xs : List T) (i : ℕ) (x : K) (child : T)
         → AreChildren cmp (forest (map tree xs)) → BeginsAt cmp (forest (map tree xs)) x i → child ≡ get_or xs i child
         → IsFoundChild cmp (forest (map tree xs)) x (tree child)
-    found_at o xs i x child a b e = record {
+    found-at o xs i x child a b e = record {
       begins =
-          begins_at (tree child).prefix b.here x (ap (λ t. slice_get (tree t).prefix 0) e
-          ∙ sym (child_first-map cmp tree xs i child (begins_below xs x i b)) ∙ b.at) b.equal;
+          begins-at (tree child).prefix b.here x (ap (λ t. slice_get (tree t).prefix 0) e
+          ∙ sym (child_first-map cmp tree xs i child (begins-below xs x i b)) ∙ b.at) b.equal;
       same =
           λ rest. lookup_in-at o xs i child b.here x rest a b.at ((Equal-is (cmp b.here x)).0 b.equal) ∙ ap
           (λ t. lookup cmp (tree t) (x ∷ rest)) (sym e);
-      smaller = rw e (child_nodes xs i child (begins_below xs x i b));
-      narrower = rw e (child_width xs i child (begins_below xs x i b));
+      smaller = rw e (child-nodes xs i child (begins-below xs x i b));
+      narrower = rw e (child-width xs i child (begins-below xs x i b));
     }

@@ -1,7 +1,7 @@
 -- The first components of children, and the place of a component among them.
---     above_at, rest_children, child_first-map        the first components of children
---     children_ordered        they stand in order to each component
---     place_found        a place in that order is one among them
+--     above-at, rest-children, child_first-map        the first components of children
+--     children-ordered        they stand in order to each component
+--     place-found        a place in that order is one among them
 use Rattle.std.proofs.Common.{◌≡◌, ℕ, ◌<◌, ◌≤◌, [], ◌∷◌, List, Option, ◌⊎◌, None, Some, Result, Ok, Err, refl, sym, ap, ◌∙◌, arith, zero, suc, get_or, map, length, take, drop, inl, inr}
 use Rattle.std.specs.Cmp.{IsTotalOrder}
 use Rattle.std.specs.List.{AllByRecursion, HoldsAt}
@@ -13,23 +13,23 @@ use Rattle.vc_merge.specs.Place.{IsOrdered, IsPlace}
 use Rattle.vc_tree_model.specs.Tree.{Tree, Forest, bare, grow, forest}
 use Rattle.vc_tree_model.specs.Canonical.{AllAbove, AreChildren}
 use Rattle.vc_tree_nodes.specs.Places.{child_first, first_side, BeginsAt, IsGapAt}
-use Rattle.vc_tree_model.proofs.KeyLemmas.{none_some, less}
+use Rattle.vc_tree_model.proofs.KeyLemmas.{none-some, less}
 
 module _ {K V : Type 0} (cmp : K → K → Ordering) where
   -- ---- the first components of children
 
   -- what begins above x is found above x
-  pub above_at : (x : K) (f : Forest K V) (i : ℕ) (z : K) → AllAbove cmp x f → child_first f i ≡ Some z → cmp x z ≡ Less
-  above_at x bare i z a e = none_some z e
-  above_at x (grow [] v kids rest) i z a e = absurd a
-  above_at x (grow (y ∷ p) v kids rest) zero z a e = let k : z ≡ y = cc in ap (cmp x) k ∙ a.0
-  above_at x (grow (y ∷ p) v kids rest) (suc i) z a e = above_at x rest i z a.1 e
+  pub above-at : (x : K) (f : Forest K V) (i : ℕ) (z : K) → AllAbove cmp x f → child_first f i ≡ Some z → cmp x z ≡ Less
+  above-at x bare i z a e = none-some z e
+  above-at x (grow [] v kids rest) i z a e = absurd a
+  above-at x (grow (y ∷ p) v kids rest) zero z a e = let k : z ≡ y = cc in ap (cmp x) k ∙ a.0
+  above-at x (grow (y ∷ p) v kids rest) (suc i) z a e = above-at x rest i z a.1 e
 
   -- the trees beside a child are children
-  pub rest_children : (p : List K) (v : Option V) (f rest : Forest K V) → AreChildren cmp (grow p v f rest)
+  pub rest-children : (p : List K) (v : Option V) (f rest : Forest K V) → AreChildren cmp (grow p v f rest)
       → AreChildren cmp rest
-  rest_children [] v f rest a = absurd a
-  rest_children (x ∷ p) v f rest a = a.3
+  rest-children [] v f rest a = absurd a
+  rest-children (x ∷ p) v f rest a = a.3
 
   module _ {T : Type 0} (tree : T → Tree K V) where
     -- the first component at a place is that of the tree there
@@ -47,10 +47,10 @@ module _ {K V : Type 0} (cmp : K → K → Ordering) where
       side t = first_side cmp x (slice_get (tree t).prefix 0)
 
       -- what is above a component that x is not above is greater than x
-      each_greater : (y : K) (ts : List T) → ((z : K) → cmp y z ≡ Less → cmp z x ≡ Greater)
+      each-greater : (y : K) (ts : List T) → ((z : K) → cmp y z ≡ Less → cmp z x ≡ Greater)
           → AllAbove cmp y (forest (map tree ts)) → AllByRecursion (λ t. side t ≡ Greater) ts
-      each_greater y [] f a = tt
-      each_greater y (t ∷ ts) f a = here (tree t).prefix (tree t).value (tree t).children a (each_greater y ts f)
+      each-greater y [] f a = tt
+      each-greater y (t ∷ ts) f a = here (tree t).prefix (tree t).value (tree t).children a (each-greater y ts f)
         where
           here : (p : List K) (v : Option V) (kids : Forest K V) → AllAbove cmp y (grow p v kids (forest (map tree ts)))
               → (AllAbove cmp y (forest (map tree ts)) → AllByRecursion (λ t. side t ≡ Greater) ts)
@@ -59,53 +59,53 @@ module _ {K V : Type 0} (cmp : K → K → Ordering) where
           here (z ∷ p) v kids a rest = (f z a.0, rest a.1)
 
       -- what x is below stands greater to x
-      above_greater : IsTotalOrder cmp → (z : K) → cmp x z ≡ Less → cmp z x ≡ Greater
-      above_greater o z e = o.antisymm z x ∙ ap ordering_reverse e
+      above-greater : IsTotalOrder cmp → (z : K) → cmp x z ≡ Less → cmp z x ≡ Greater
+      above-greater o z e = o.antisymm z x ∙ ap ordering_reverse e
 
       -- a tree is less, or those behind it are greater
-      less_or_last : IsTotalOrder cmp → (y : K) (ts : List T) → AllAbove cmp y (forest (map tree ts)) → (r : Ordering)
+      less-or_last : IsTotalOrder cmp → (y : K) (ts : List T) → AllAbove cmp y (forest (map tree ts)) → (r : Ordering)
           → cmp y x ≡ r → (cmp y x ≡ Less) ⊎ AllByRecursion (λ t. side t ≡ Greater) ts
-      less_or_last o y ts a Less e = inl e
-      less_or_last o y ts a Equal e =
-          inr (each_greater y ts (λ z h. above_greater o z (sym (o.congr y x z e) ∙ h)) a)
-      less_or_last o y ts a Greater e =
-          inr (each_greater y ts (λ z h. above_greater o z (o.trans x y z (less cmp o y x e) h)) a)
+      less-or_last o y ts a Less e = inl e
+      less-or_last o y ts a Equal e =
+          inr (each-greater y ts (λ z h. above-greater o z (sym (o.congr y x z e) ∙ h)) a)
+      less-or_last o y ts a Greater e =
+          inr (each-greater y ts (λ z h. above-greater o z (o.trans x y z (less cmp o y x e) h)) a)
 
       -- children stand in order to a component
-      pub children_ordered : IsTotalOrder cmp → (xs : List T) → AreChildren cmp (forest (map tree xs)) → IsOrdered side xs
-      children_ordered o [] a = tt
-      children_ordered o (t ∷ ts) a =
-          here (tree t).prefix (tree t).value (tree t).children a (children_ordered o ts)
+      pub children-ordered : IsTotalOrder cmp → (xs : List T) → AreChildren cmp (forest (map tree xs)) → IsOrdered side xs
+      children-ordered o [] a = tt
+      children-ordered o (t ∷ ts) a =
+          here (tree t).prefix (tree t).value (tree t).children a (children-ordered o ts)
         where
           here : (p : List K) (v : Option V) (kids : Forest K V) → AreChildren cmp (grow p v kids (forest (map tree ts)))
               → (AreChildren cmp (forest (map tree ts)) → IsOrdered side ts)
               → ((first_side cmp x (slice_get p 0) ≡ Less) ⊎ AllByRecursion (λ t. side t ≡ Greater) ts) × IsOrdered side ts
           here [] v kids a rest = absurd a
-          here (y ∷ p) v kids a rest = (less_or_last o y ts a.2 (cmp y x) refl, rest a.3)
+          here (y ∷ p) v kids a rest = (less-or_last o y ts a.2 (cmp y x) refl, rest a.3)
 
       -- a first component that stands equal
-      first_equal : (o : Option K) → first_side cmp x o ≡ Equal → (y : K) × ((o ≡ Some y) × IsTrue (is_eq (cmp y x)))
-      first_equal None e = absurd (not_equal e)
+      first-equal : (o : Option K) → first_side cmp x o ≡ Equal → (y : K) × ((o ≡ Some y) × IsTrue (is_eq (cmp y x)))
+      first-equal None e = absurd (not-equal e)
         where
-          not_equal : ◌≡◌ {A = Ordering} Less Equal → ⊥
-          not_equal e = cc
-      first_equal (Some y) e = (y, (refl, ap is_eq e))
+          not-equal : ◌≡◌ {A = Ordering} Less Equal → ⊥
+          not-equal e = cc
+      first-equal (Some y) e = (y, (refl, ap is_eq e))
 
       -- the tree that stands equal begins with the component
-      begins_found : (xs : List T) (i : ℕ) → i < length xs → HoldsAt (λ t. side t ≡ Equal) xs i
+      begins-found : (xs : List T) (i : ℕ) → i < length xs → HoldsAt (λ t. side t ≡ Equal) xs i
           → BeginsAt cmp (forest (map tree xs)) x i
-      begins_found [] i h e = absurd (omega arith)
-      begins_found (t ∷ ts) zero h e =
-          let f = first_equal (slice_get (tree t).prefix 0) (e t) in record { here = f.0; at = f.1.0; equal = f.1.1 }
-      begins_found (t ∷ ts) (suc i) h e =
-          let b = begins_found ts i (omega arith) (λ d. e d) in record { here = b.here; at = b.at; equal = b.equal }
+      begins-found [] i h e = absurd (omega arith)
+      begins-found (t ∷ ts) zero h e =
+          let f = first-equal (slice_get (tree t).prefix 0) (e t) in record { here = f.0; at = f.1.0; equal = f.1.1 }
+      begins-found (t ∷ ts) (suc i) h e =
+          let b = begins-found ts i (omega arith) (λ d. e d) in record { here = b.here; at = b.at; equal = b.equal }
 
       -- what is greater than the component is above it
-      greater_above : IsTotalOrder cmp → (ts : List T) → AreChildren cmp (forest (map tree ts))
+      greater-above : IsTotalOrder cmp → (ts : List T) → AreChildren cmp (forest (map tree ts))
           → AllByRecursion (λ t. side t ≡ Greater) ts → AllAbove cmp x (forest (map tree ts))
-      greater_above o [] a g = tt
-      greater_above o (t ∷ ts) a g =
-          here (tree t).prefix (tree t).value (tree t).children a g.0 (λ b. greater_above o ts b g.1)
+      greater-above o [] a g = tt
+      greater-above o (t ∷ ts) a g =
+          here (tree t).prefix (tree t).value (tree t).children a g.0 (λ b. greater-above o ts b g.1)
         where
           here : (p : List K) (v : Option V) (kids : Forest K V) → AreChildren cmp (grow p v kids (forest (map tree ts)))
               → first_side cmp x (slice_get p 0) ≡ Greater
@@ -115,14 +115,14 @@ module _ {K V : Type 0} (cmp : K → K → Ordering) where
           here (y ∷ p) v kids a e rest = (less cmp o y x e, rest a.3)
 
       -- between those that are less and those that are greater is its place
-      gap_found : IsTotalOrder cmp → (xs : List T) (i : ℕ) → AreChildren cmp (forest (map tree xs)) → i ≤ length xs
+      gap-found : IsTotalOrder cmp → (xs : List T) (i : ℕ) → AreChildren cmp (forest (map tree xs)) → i ≤ length xs
           → AllByRecursion (λ t. side t ≡ Less) (take i xs) → AllByRecursion (λ t. side t ≡ Greater) (drop i xs)
           → IsGapAt cmp (forest (map tree xs)) x i
-      gap_found o xs zero a h l g = greater_above o xs a g
-      gap_found o [] (suc i) a h l g = absurd (omega arith)
-      gap_found o (t ∷ ts) (suc i) a h l g =
+      gap-found o xs zero a h l g = greater-above o xs a g
+      gap-found o [] (suc i) a h l g = absurd (omega arith)
+      gap-found o (t ∷ ts) (suc i) a h l g =
           here (tree t).prefix (tree t).value (tree t).children a l.0
-          (λ b. gap_found o ts i b (omega arith) l.1 g)
+          (λ b. gap-found o ts i b (omega arith) l.1 g)
         where
           here : (p : List K) (v : Option V) (kids : Forest K V) → AreChildren cmp (grow p v kids (forest (map tree ts)))
               → first_side cmp x (slice_get p 0) ≡ Less
@@ -132,8 +132,8 @@ module _ {K V : Type 0} (cmp : K → K → Ordering) where
           here (y ∷ p) v kids a e rest = (e, rest a.3)
 
       -- what a search finds among children is the tree that begins with the component, or the gap for one
-      pub place_found : IsTotalOrder cmp → (xs : List T) → AreChildren cmp (forest (map tree xs)) → (r : Result ℕ ℕ)
+      pub place-found : IsTotalOrder cmp → (xs : List T) → AreChildren cmp (forest (map tree xs)) → (r : Result ℕ ℕ)
           → IsPlace side xs r
           → MatchResult r (BeginsAt cmp (forest (map tree xs)) x) (IsGapAt cmp (forest (map tree xs)) x)
-      place_found o xs a (Ok i) f = begins_found xs i f.within f.equal
-      place_found o xs a (Err i) g = gap_found o xs i a g.within g.less g.greater
+      place-found o xs a (Ok i) f = begins-found xs i f.within f.equal
+      place-found o xs a (Err i) g = gap-found o xs i a g.within g.less g.greater

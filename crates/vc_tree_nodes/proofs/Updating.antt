@@ -1,8 +1,8 @@
 -- What an insertion changes of a map: the value of one key.
---     updated_behind        a change behind a prefix
---     updated_value, updated_children, updated_split        a change of a node's value or of its children, or of a node split in two
---     updated_insert, updated_set        one more tree of a list, or one that is changed
---     updated_alike, updated_respelled        a change of what is alike, and of an equal key
+--     updated-behind        a change behind a prefix
+--     updated-value, updated-children, updated-split        a change of a node's value or of its children, or of a node split in two
+--     updated-insert, updated-set        one more tree of a list, or one that is changed
+--     updated-alike, updated-respelled        a change of what is alike, and of an equal key
 use Rattle.std.proofs.Common.{◌≡◌, ℕ, zero, suc, ◌<◌, [], ◌∷◌, ◌++◌, List, Option, None, Some, refl, sym, ap, subst, ◌∙◌, arith, true, false, Bool, cond, true≢false, get_or, set, map, length}
 use Rattle.std.specs.Cmp.{IsTotalOrder, Equal-is, alike_right}
 use Rattle.std.specs.Cmp.Lexicographic.{slice_cmp, lists_total}
@@ -17,10 +17,10 @@ use Rattle.vc_tree_model.specs.Tree.{Tree, Forest, bare, grow, forest, node}
 use Rattle.vc_tree_model.specs.Map.{or_else, node_lookup, lookup, lookup_in, IsUpdated}
 use Rattle.vc_tree_model.specs.Canonical.{AreChildren}
 use Rattle.vc_tree_nodes.specs.Places.{child_first, IsGapAt}
-use Rattle.vc_tree_model.proofs.KeyLemmas.{none_some, both_true, then_same, then_behind, behind-append, same-append, same-slice_cmp}
-use Rattle.vc_tree_model.proofs.ValueLemmas.{or_else-none, kept_refl, kept_trans, kept_else}
+use Rattle.vc_tree_model.proofs.KeyLemmas.{none-some, both-true, then_same, then_behind, behind-append, same-append, same-slice_cmp}
+use Rattle.vc_tree_model.proofs.ValueLemmas.{or_else-none, kept-refl, kept-trans, kept-else}
 use Rattle.vc_tree_model.proofs.LookupLemmas.{lookup-other}
-use Rattle.vc_tree_nodes.proofs.Firsts.{above_at, rest_children}
+use Rattle.vc_tree_nodes.proofs.Firsts.{above-at, rest-children}
 
 module _ {K V : Type 0} (cmp : K → K → Ordering) (keeps : V → V → Type 0) where
   -- ---- behind a prefix
@@ -28,36 +28,36 @@ module _ {K V : Type 0} (cmp : K → K → Ordering) (keeps : V → V → Type 0
   module _ (rest : List K) (value : V) (tail : List K) (v w : Option V) (f g : Forest K V)
       (u : IsUpdated cmp keeps rest value (lookup cmp (node tail v f)) (lookup cmp (node [] w g))) where
     -- the new value behind a prefix
-    at_left : (o : Option (List K)) → then_same cmp rest o ≡ true → node_lookup w (lookup_in cmp g) o ≡ Some value
-    at_left None s = absurd (true≢false (sym s))
-    at_left (Some []) s = u.at [] s
-    at_left (Some (x ∷ k)) s = u.at (x ∷ k) s
+    at-left : (o : Option (List K)) → then_same cmp rest o ≡ true → node_lookup w (lookup_in cmp g) o ≡ Some value
+    at-left None s = absurd (true≢false (sym s))
+    at-left (Some []) s = u.at [] s
+    at-left (Some (x ∷ k)) s = u.at (x ∷ k) s
 
     -- the other values behind a prefix
-    others_left : (o : Option (List K)) → then_same cmp rest o ≡ false
+    others-left : (o : Option (List K)) → then_same cmp rest o ≡ false
         → IsKept keeps (node_lookup v (lookup_in cmp f) (then_behind cmp tail o)) (node_lookup w (lookup_in cmp g) o)
-    others_left None s = tt
-    others_left (Some []) s = u.others [] s
-    others_left (Some (x ∷ k)) s = u.others (x ∷ k) s
+    others-left None s = tt
+    others-left (Some []) s = u.others [] s
+    others-left (Some (x ∷ k)) s = u.others (x ∷ k) s
 
     -- a change behind a prefix is one of the key with the prefix before it
-    pub updated_behind : (p q key : List K) → q ≡ p ++ tail → key ≡ p ++ rest
+    pub updated-behind : (p q key : List K) → q ≡ p ++ tail → key ≡ p ++ rest
         → IsUpdated cmp keeps key value (lookup cmp (node q v f)) (lookup cmp (node p w g))
-    updated_behind p q key d e = record {
-      at = λ k s. at_left (behind cmp p k) (sym (same-append cmp p rest k) ∙ ap (λ l. same_key cmp l k) (sym e) ∙ s);
+    updated-behind p q key d e = record {
+      at = λ k s. at-left (behind cmp p k) (sym (same-append cmp p rest k) ∙ ap (λ l. same_key cmp l k) (sym e) ∙ s);
       others = λ k s.
           subst (λ b. IsKept keeps (node_lookup v (lookup_in cmp f) b) (node_lookup w (lookup_in cmp g) (behind cmp p k)))
           (sym (ap (λ l. behind cmp l k) d ∙ behind-append cmp p tail k))
-          (others_left (behind cmp p k) (sym (same-append cmp p rest k) ∙ ap (λ l. same_key cmp l k) (sym e) ∙ s));
+          (others-left (behind cmp p k) (sym (same-append cmp p rest k) ∙ ap (λ l. same_key cmp l k) (sym e) ∙ s));
     }
 
   -- ---- one node
 
   module _ (r : (v : V) → keeps v v) where
     -- a node's own value is changed
-    pub updated_value : (value : V) (v : Option V) (f : Forest K V)
+    pub updated-value : (value : V) (v : Option V) (f : Forest K V)
         → IsUpdated cmp keeps [] value (lookup cmp (node [] v f)) (lookup cmp (node [] (Some value) f))
-    updated_value value v f = record { at = at; others = others }
+    updated-value value v f = record { at = at; others = others }
       where
         at : (k : List K) → same_key cmp [] k ≡ true → lookup cmp (node [] (Some value) f) k ≡ Some value
         at [] s = refl
@@ -66,13 +66,13 @@ module _ {K V : Type 0} (cmp : K → K → Ordering) (keeps : V → V → Type 0
         others : (k : List K) → same_key cmp [] k ≡ false
             → IsKept keeps (lookup cmp (node [] v f) k) (lookup cmp (node [] (Some value) f) k)
         others [] s = absurd (true≢false s)
-        others (x ∷ k) s = kept_refl keeps r (lookup_in cmp f (x ∷ k))
+        others (x ∷ k) s = kept-refl keeps r (lookup_in cmp f (x ∷ k))
 
     -- a node's children are changed
-    pub updated_children : (y : K) (q : List K) (value : V) (v w : Option V) (f g : Forest K V) → IsKept keeps v w
+    pub updated-children : (y : K) (q : List K) (value : V) (v w : Option V) (f g : Forest K V) → IsKept keeps v w
         → IsUpdated cmp keeps (y ∷ q) value (lookup_in cmp f) (lookup_in cmp g)
         → IsUpdated cmp keeps (y ∷ q) value (lookup cmp (node [] v f)) (lookup cmp (node [] w g))
-    updated_children y q value v w f g kept u = record { at = at; others = others }
+    updated-children y q value v w f g kept u = record { at = at; others = others }
       where
         at : (k : List K) → same_key cmp (y ∷ q) k ≡ true → lookup cmp (node [] w g) k ≡ Some value
         at [] s = absurd (true≢false (sym s))
@@ -90,12 +90,12 @@ module _ {K V : Type 0} (cmp : K → K → Ordering) (keeps : V → V → Type 0
   lookup-opened x p v f (y ∷ k) = sym (or_else-none (lookup cmp (node (x ∷ p) v f) (y ∷ k)))
 
   -- a change of a node that was put below another
-  pub updated_split : (rest : List K) (value : V) (p : List K) (v : Option V) (f : Forest K V) (g : List K → Option V)
+  pub updated-split : (rest : List K) (value : V) (p : List K) (v : Option V) (f : Forest K V) (g : List K → Option V)
       → 0 < length p
       → IsUpdated cmp keeps rest value (lookup cmp (node [] None (grow p v f bare))) g
       → IsUpdated cmp keeps rest value (lookup cmp (node p v f)) g
-  updated_split rest value [] v f g h u = absurd (omega arith)
-  updated_split rest value (x ∷ p) v f g h u = record {
+  updated-split rest value [] v f g h u = absurd (omega arith)
+  updated-split rest value (x ∷ p) v f g h u = record {
     at = u.at;
     others = λ k s. subst (λ m. IsKept keeps m (g k)) (sym (lookup-opened x p v f k)) (u.others k s);
   }
@@ -122,112 +122,112 @@ module _ {K V : Type 0} (cmp : K → K → Ordering) (keeps : V → V → Type 0
       → cmp z y ≡ Less → same_key cmp (y ∷ q) k ≡ true → lookup cmp (node (z ∷ p) v f) k ≡ None
   misses o z p v f y q [] l s = absurd (true≢false (sym s))
   misses o z p v f y q (w ∷ k) l s =
-      let e : cmp y w ≡ Equal = (Equal-is (cmp y w)).0 ((both_true (is_eq (cmp y w)) (same_key cmp q k) s).0) in
+      let e : cmp y w ≡ Equal = (Equal-is (cmp y w)).0 ((both-true (is_eq (cmp y w)) (same_key cmp q k) s).0) in
       let m : cmp z w ≡ Less = sym (alike_right o y w z e) ∙ l in
       lookup-other cmp z w p k v f (ap is_eq m)
 
   module _ (o : IsTotalOrder cmp) (r : (v : V) → keeps v v) where
     -- a leaf before the others
-    insert_first : (y : K) (q : List K) (value : V) (f : Forest K V)
+    insert-first : (y : K) (q : List K) (value : V) (f : Forest K V)
         → IsUpdated cmp keeps (y ∷ q) value (lookup_in cmp f) (lookup_in cmp (grow (y ∷ q) (Some value) bare f))
-    insert_first y q value f = record {
+    insert-first y q value f = record {
       at =
           λ k s. ap (λ m. or_else m (lookup_in cmp f k)) (lookup-leaf (y ∷ q) k value ∙ ap (λ b. cond b (Some value) None) s);
       others = λ k s.
           subst (λ m. IsKept keeps (lookup_in cmp f k) (or_else m (lookup_in cmp f k)))
           (sym (lookup-leaf (y ∷ q) k value ∙ ap (λ b. cond b (Some value) None) s))
-          (kept_refl keeps r (lookup_in cmp f k));
+          (kept-refl keeps r (lookup_in cmp f k));
     }
 
     -- a change of the later trees, which begin above the first
-    change_later : (p : List K) (v : Option V) (kids rest more : Forest K V) (y : K) (q : List K) (value : V)
+    change-later : (p : List K) (v : Option V) (kids rest more : Forest K V) (y : K) (q : List K) (value : V)
         → ((z : K) → slice_get p 0 ≡ Some z → cmp z y ≡ Less) → (slice_get p 0 ≡ None → ⊥)
         → IsUpdated cmp keeps (y ∷ q) value (lookup_in cmp rest) (lookup_in cmp more)
         → IsUpdated cmp keeps (y ∷ q) value (lookup_in cmp (grow p v kids rest)) (lookup_in cmp (grow p v kids more))
-    change_later [] v kids rest more y q value l n u = absurd (n refl)
-    change_later (z ∷ p) v kids rest more y q value l n u = record {
+    change-later [] v kids rest more y q value l n u = absurd (n refl)
+    change-later (z ∷ p) v kids rest more y q value l n u = record {
       at = λ k s. ap (λ m. or_else m (lookup_in cmp more k)) (misses o z p v kids y q k (l z refl) s) ∙ u.at k s;
       others =
-          λ k s. kept_else keeps (lookup cmp (node (z ∷ p) v kids) k) (lookup cmp (node (z ∷ p) v kids) k)
-          (lookup_in cmp rest k) (lookup_in cmp more k) (kept_refl keeps r _) (u.others k s);
+          λ k s. kept-else keeps (lookup cmp (node (z ∷ p) v kids) k) (lookup cmp (node (z ∷ p) v kids) k)
+          (lookup_in cmp rest k) (lookup_in cmp more k) (kept-refl keeps r _) (u.others k s);
     }
 
     -- one more leaf of a list, at the place of its key
-    pub updated_insert : {T : Type 0} (tree : T → Tree K V) (ts : List T) (i : ℕ) (item : T) (y : K) (q : List K)
+    pub updated-insert : {T : Type 0} (tree : T → Tree K V) (ts : List T) (i : ℕ) (item : T) (y : K) (q : List K)
         (value : V) → tree item ≡ node (y ∷ q) (Some value) bare → IsGapAt cmp (forest (map tree ts)) y i
         → IsUpdated cmp keeps (y ∷ q) value (lookup_in cmp (forest (map tree ts)))
         (lookup_in cmp (forest (map tree (insert ts i item))))
-    updated_insert tree ts zero item y q value e gap =
+    updated-insert tree ts zero item y q value e gap =
         subst (λ t. IsUpdated cmp keeps (y ∷ q) value (lookup_in cmp (forest (map tree ts)))
         (lookup_in cmp (grow t.prefix t.value t.children (forest (map tree ts))))) (sym e)
-        (insert_first y q value (forest (map tree ts)))
-    updated_insert tree [] (suc i) item y q value e gap = absurd gap
-    updated_insert tree (t ∷ ts) (suc i) item y q value e gap =
+        (insert-first y q value (forest (map tree ts)))
+    updated-insert tree [] (suc i) item y q value e gap = absurd gap
+    updated-insert tree (t ∷ ts) (suc i) item y q value e gap =
         later (tree t).prefix (tree t).value (tree t).children (forest (map tree ts))
-        (forest (map tree (insert ts i item))) gap (updated_insert tree ts i item y q value e)
+        (forest (map tree (insert ts i item))) gap (updated-insert tree ts i item y q value e)
       where
         later : (p : List K) (v : Option V) (kids rest more : Forest K V) → IsGapAt cmp (grow p v kids rest) y (suc i)
             → (IsGapAt cmp rest y i → IsUpdated cmp keeps (y ∷ q) value (lookup_in cmp rest) (lookup_in cmp more))
             → IsUpdated cmp keeps (y ∷ q) value (lookup_in cmp (grow p v kids rest)) (lookup_in cmp (grow p v kids more))
         later [] v kids rest more gap u = absurd gap
         later (z ∷ p) v kids rest more gap u =
-            change_later (z ∷ p) v kids rest more y q value (λ w e. let k : w ≡ z = cc in ap (λ m. cmp m y) k ∙ gap.0)
-            (λ n. none_some z (sym n)) (u gap.1)
+            change-later (z ∷ p) v kids rest more y q value (λ w e. let k : w ≡ z = cc in ap (λ m. cmp m y) k ∙ gap.0)
+            (λ n. none-some z (sym n)) (u gap.1)
 
     -- one tree of a list is changed, which begins as the key does
-    pub updated_set : {T : Type 0} (tree : T → Tree K V) (ts : List T) (i : ℕ) (item d : T) (x y : K) (q : List K)
+    pub updated-set : {T : Type 0} (tree : T → Tree K V) (ts : List T) (i : ℕ) (item d : T) (x y : K) (q : List K)
         (value : V) → child_first (forest (map tree ts)) i ≡ Some x → cmp x y ≡ Equal → AreChildren cmp (forest (map tree ts))
         → IsUpdated cmp keeps (y ∷ q) value (lookup cmp (tree (get_or ts i d))) (lookup cmp (tree item))
         → IsUpdated cmp keeps (y ∷ q) value (lookup_in cmp (forest (map tree ts)))
         (lookup_in cmp (forest (map tree (set ts i item))))
-    updated_set tree [] i item d x y q value e h a u = none_some x e
-    updated_set tree (t ∷ ts) zero item d x y q value e h a u = record {
+    updated-set tree [] i item d x y q value e h a u = none-some x e
+    updated-set tree (t ∷ ts) zero item d x y q value e h a u = record {
       at = λ k s. ap (λ m. or_else m (lookup_in cmp (forest (map tree ts)) k)) (u.at k s);
       others =
-          λ k n. kept_else keeps (lookup cmp (tree t) k) (lookup cmp (tree item) k)
+          λ k n. kept-else keeps (lookup cmp (tree t) k) (lookup cmp (tree item) k)
           (lookup_in cmp (forest (map tree ts)) k) (lookup_in cmp (forest (map tree ts)) k) (u.others k n)
-          (kept_refl keeps r _);
+          (kept-refl keeps r _);
     }
-    updated_set tree (t ∷ ts) (suc i) item d x y q value e h a u =
-        change_later (tree t).prefix (tree t).value (tree t).children (forest (map tree ts))
+    updated-set tree (t ∷ ts) (suc i) item d x y q value e h a u =
+        change-later (tree t).prefix (tree t).value (tree t).children (forest (map tree ts))
         (forest (map tree (set ts i item))) y q value
         (λ z f. below (tree t).prefix (tree t).value (tree t).children (forest (map tree ts)) z a f e)
         (λ n. some (tree t).prefix (tree t).value (tree t).children (forest (map tree ts)) a n)
-        (updated_set tree ts i item d x y q value e h (rest_children cmp (tree t).prefix (tree t).value
+        (updated-set tree ts i item d x y q value e h (rest-children cmp (tree t).prefix (tree t).value
         (tree t).children (forest (map tree ts)) a) u)
       where
         below : (p : List K) (v : Option V) (kids rest : Forest K V) (z : K) → AreChildren cmp (grow p v kids rest)
             → slice_get p 0 ≡ Some z → child_first rest i ≡ Some x → cmp z y ≡ Less
-        below [] v kids rest z a f e = none_some z f
+        below [] v kids rest z a f e = none-some z f
         below (w ∷ p) v kids rest z a f e =
-            let k : z ≡ w = cc in ap (λ m. cmp m y) k ∙ sym (alike_right o x y w h) ∙ above_at cmp w rest i x a.2 e
+            let k : z ≡ w = cc in ap (λ m. cmp m y) k ∙ sym (alike_right o x y w h) ∙ above-at cmp w rest i x a.2 e
 
         some : (p : List K) (v : Option V) (kids rest : Forest K V) → AreChildren cmp (grow p v kids rest)
             → slice_get p 0 ≡ None → ⊥
         some [] v kids rest a n = a
-        some (w ∷ p) v kids rest a n = none_some w (sym n)
+        some (w ∷ p) v kids rest a n = none-some w (sym n)
 
   -- ---- what is alike, and equal keys
 
   -- a change of what keeps another map is one of that map
-  pub updated_alike : ((u v w : V) → keeps u v → keeps v w → keeps u w)
+  pub updated-alike : ((u v w : V) → keeps u v → keeps v w → keeps u w)
       → (key : List K) (value : V) (f g h : List K → Option V) → ((k : List K) → IsKept keeps (f k) (g k))
       → IsUpdated cmp keeps key value g h → IsUpdated cmp keeps key value f h
-  updated_alike t key value f g h kept u = record {
+  updated-alike t key value f g h kept u = record {
     at = u.at;
-    others = λ k s. kept_trans keeps t (f k) (g k) (h k) (kept k) (u.others k s);
+    others = λ k s. kept-trans keeps t (f k) (g k) (h k) (kept k) (u.others k s);
   }
 
   -- equal keys are equal to the same keys
-  same_congr : IsTotalOrder cmp → (j key k : List K) → same_key cmp j key ≡ true → same_key cmp j k ≡ same_key cmp key k
-  same_congr o j key k s =
+  same-congr : IsTotalOrder cmp → (j key k : List K) → same_key cmp j key ≡ true → same_key cmp j k ≡ same_key cmp key k
+  same-congr o j key k s =
       let e : slice_cmp cmp j key ≡ Equal = (Equal-is (slice_cmp cmp j key)).0 (sym (same-slice_cmp cmp j key) ∙ s) in
       same-slice_cmp cmp j k ∙ ap is_eq ((lists_total o).congr j key k e) ∙ sym (same-slice_cmp cmp key k)
 
   -- an equal key is changed alike
-  pub updated_respelled : IsTotalOrder cmp → (j key : List K) (value : V) (f g : List K → Option V)
+  pub updated-respelled : IsTotalOrder cmp → (j key : List K) (value : V) (f g : List K → Option V)
       → same_key cmp j key ≡ true → IsUpdated cmp keeps j value f g → IsUpdated cmp keeps key value f g
-  updated_respelled o j key value f g s u = record {
-    at = λ k e. u.at k (same_congr o j key k s ∙ e);
-    others = λ k e. u.others k (same_congr o j key k s ∙ e);
+  updated-respelled o j key value f g s u = record {
+    at = λ k e. u.at k (same-congr o j key k s ∙ e);
+    others = λ k e. u.others k (same-congr o j key k s ∙ e);
   }

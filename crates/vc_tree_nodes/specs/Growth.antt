@@ -1,8 +1,4 @@
 -- What an insertion makes of a node and of its children. No public clause cites these words.
---     IsBranch cmp p t        t has the prefix p and may be a child if p is not empty
---     IsGrown cmp n t u        u goes on as t for n components, and may be a child if n is not 0
---     Inserted cmp keeps t key value p u        u is t with the key bound to the value, and a branch with the prefix p
---     Adds keeps tree old i item new        the new list is the old one, kept, with the item put at place i
 use Rattle.std.specs.Prelude.{◌≡◌, ℕ, List, take, insert}
 use Rattle.std.specs.declared.cmp.Ordering.{Ordering}
 use Rattle.vc_tree_model.specs.Tree.{Tree}

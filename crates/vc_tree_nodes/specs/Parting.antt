@@ -1,7 +1,4 @@
 -- Where a key parts from a prefix. No public clause cites these words.
---     Agree cmp prefix key n        the first n components agree
---     IsParting cmp prefix key parting        the key parts from the prefix so
---     SplitsAt cmp t n rest i        where a node has to be split for a key, and which half comes first
 use Rattle.std.specs.Prelude.{◌≡◌, ℕ, ◌<◌, ◌≤◌, IsTrue, List, length, Some, slice_get, take, drop}
 use Rattle.std.specs.declared.cmp.Ordering.{Ordering}
 use Rattle.std.specs.declared.cmp.Ordering.TheVariants.{Less, Greater}

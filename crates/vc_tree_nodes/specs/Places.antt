@@ -1,9 +1,4 @@
 -- The place of a component, or of a key, among the first components of a list of trees. No public clause cites these words.
---     child_first f i        the first component of the tree at a place
---     first_side cmp x o        how a node with the first component o stands to x
---     BeginsAt cmp f x i, IsGapAt cmp f x i        the tree at place i begins with x; one that begins with x would stand at i
---     LeadsTo cmp f key i, FitsAt cmp f key i        the same of a key's first component
---     IsNoChild cmp f x, IsFoundChild cmp f x t        no tree begins with x; t is the one that does
 use Rattle.std.specs.Prelude.{◌≡◌, ◌≤◌, ℕ, zero, suc, List, [], ◌∷◌, Option, Some, None, slice_get, take, IsTrue}
 use Rattle.std.specs.Ordering.{is_eq}
 use Rattle.std.specs.declared.cmp.Ordering.{Ordering}

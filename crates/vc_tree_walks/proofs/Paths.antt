@@ -1,10 +1,10 @@
 -- Where a path of places leads, and what a step from there does to the pairs that are left.
 --     Leads        the places before a depth lead to a node
---     leads_root, leads_on, stops, ends        at the root, one node deeper, where no child is open, and where the path ends
---     opened_rows, opened_work        the row of a node that was opened
+--     leads-root, leads-on, stops, ends        at the root, one node deeper, where no child is open, and where the path ends
+--     opened-rows, opened-work        the row of a node that was opened
 --     started_at        what is left behind the root
---     left_step, entered_step        a step out of the node that a path leads to, and a step to a child of it
---     last_child        the child that was entered last
+--     left-step, entered-step        a step out of the node that a path leads to, and a step to a child of it
+--     last-child        the child that was entered last
 use Rattle.std.proofs.Common.{◌≡◌, ℕ, zero, suc, ◌+◌, ◌-◌, ◌*◌, ◌<◌, ◌≤◌, List, [], ◌∷◌, ◌++◌, length, take, drop, get_or, map, Option, None, Some, refl, sym, ap, ◌∙◌, append_assoc, append-nil, add-one, subst, arith, min, ◌==◌, true≢false, false}
 use Rattle.std.proofs.Math.Nat.{min-zero, suc-min-suc, zero-min}
 use Rattle.std.proofs.Math.Seq.{take-length}
@@ -17,32 +17,32 @@ use Rattle.vc_tree_nodes.specs.Children.{seen}
 use Rattle.vc_tree_walks.specs.Left.{pair_at, rows_left, outer_work}
 use Rattle.vc_tree_walks.specs.OwnedLeft.{skip, tree_at, entered, opened, rows_at, IsReached}
 use Rattle.vc_tree_walks.specs.declared.owned.Place.{Place}
-use Rattle.vc_tree_walks.proofs.Rows.{own_first, entered as entered_row}
+use Rattle.vc_tree_walks.proofs.Rows.{own-first, entered as entered_row}
 
 -- what stands at a place is the same for each default
-same_at : (path : List Place) (d : ℕ) (x y : Place) → d < length path → x ≡ get_or path d x → x ≡ get_or path d y
-same_at [] d x y h e = absurd (omega (arith, h))
-same_at (z ∷ path) zero x y h e = e
-same_at (z ∷ path) (suc d) x y h e = same_at path d x y (omega (arith, h)) e
+same-at : (path : List Place) (d : ℕ) (x y : Place) → d < length path → x ≡ get_or path d x → x ≡ get_or path d y
+same-at [] d x y h e = absurd (omega (arith, h))
+same-at (z ∷ path) zero x y h e = e
+same-at (z ∷ path) (suc d) x y h e = same-at path d x y (omega (arith, h)) e
 
 -- and is what is read there
-read_at : (path : List Place) (d : ℕ) (x : Place) → d < length path → get_or path d x ≡ get_or path d (get_or path d x)
-read_at [] d x h = refl
-read_at (z ∷ path) zero x h = refl
-read_at (z ∷ path) (suc d) x h = read_at path d x (omega (arith, h))
+read-at : (path : List Place) (d : ℕ) (x : Place) → d < length path → get_or path d x ≡ get_or path d (get_or path d x)
+read-at [] d x h = refl
+read-at (z ∷ path) zero x h = refl
+read-at (z ∷ path) (suc d) x h = read-at path d x (omega (arith, h))
 
 -- the first of the first components
-take_taken : {K : Type 0} (m n : ℕ) (l : List K) → take m (take n l) ≡ take (min m n) l
-take_taken zero n l = ap (λ k. take k l) (sym (zero-min n))
-take_taken (suc m) zero l = ap (λ k. take k l) (sym (min-zero (suc m)))
-take_taken (suc m) (suc n) [] = sym (ap (λ k. take k []) (suc-min-suc m n))
-take_taken (suc m) (suc n) (x ∷ l) =
-    ap (λ k. x ∷ k) (take_taken m n l) ∙ sym (ap (λ k. take k (x ∷ l)) (suc-min-suc m n))
+take-taken : {K : Type 0} (m n : ℕ) (l : List K) → take m (take n l) ≡ take (min m n) l
+take-taken zero n l = ap (λ k. take k l) (sym (zero-min n))
+take-taken (suc m) zero l = ap (λ k. take k l) (sym (min-zero (suc m)))
+take-taken (suc m) (suc n) [] = sym (ap (λ k. take k []) (suc-min-suc m n))
+take-taken (suc m) (suc n) (x ∷ l) =
+    ap (λ k. x ∷ k) (take-taken m n l) ∙ sym (ap (λ k. take k (x ∷ l)) (suc-min-suc m n))
 
 -- one more place
-one_more : (path : List Place) (d : ℕ) (place : Place) (more : List Place) → d < length path → place ≡ get_or path d place
+one-more : (path : List Place) (d : ℕ) (place : Place) (more : List Place) → d < length path → place ≡ get_or path d place
     → take (d + 1) path ++ more ≡ take d path ++ place ∷ more
-one_more path d place more h e =
+one-more path d place more h e =
     ap (λ xs. xs ++ more) (take_more path d place h) ∙ append_assoc (take d path) (get_or path d place ∷ []) more
     ∙ ap (λ x. take d path ++ x ∷ more) (sym e)
 
@@ -50,7 +50,7 @@ one_more path d place more h e =
 parts : (path : List Place) (d : ℕ) (place : Place) → d < length path → place ≡ get_or path d place
     → take d path ++ place ∷ drop (d + 1) path ≡ path
 parts path d place h e =
-    sym (one_more path d place (drop (d + 1) path) h e) ∙ take-append-drop (d + 1) path
+    sym (one-more path d place (drop (d + 1) path) h e) ∙ take-append-drop (d + 1) path
 
 module _ {K V : Type 0} where
   -- the row of a node, as a place has it
@@ -64,57 +64,57 @@ module _ {K V : Type 0} where
     pub rows : (more : List Place) → rows_at root (take depth path ++ more) ≡ rows_at t more ++ above
 
   -- the root
-  pub leads_root : (root : Tree K V) (path : List Place) → 0 < length path → Leads root path root 0
-  leads_root root path h = record { above = []; within = h; rows = λ more. sym (append-nil (rows_at root more)) }
+  pub leads-root : (root : Tree K V) (path : List Place) → 0 < length path → Leads root path root 0
+  leads-root root path h = record { above = []; within = h; rows = λ more. sym (append-nil (rows_at root more)) }
 
   -- the rows below a node with an open child
-  rows_open : (t c : Tree K V) (place : Place) (path : List Place) → entered place.entered t.children ≡ Some c
+  rows-open : (t c : Tree K V) (place : Place) (path : List Place) → entered place.entered t.children ≡ Some c
       → rows_at t (place ∷ path) ≡ rows_at c path ++ row_of_place t place ∷ []
-  rows_open t c place path e = rw (e, rows_at)
+  rows-open t c place path e = rw (e, rows_at)
 
   -- below one without
-  rows_closed : (t : Tree K V) (place : Place) (path : List Place) → entered place.entered t.children ≡ None
+  rows-closed : (t : Tree K V) (place : Place) (path : List Place) → entered place.entered t.children ≡ None
       → rows_at t (place ∷ path) ≡ row_of_place t place ∷ []
-  rows_closed t place path e = rw (e, rows_at)
+  rows-closed t place path e = rw (e, rows_at)
 
   -- and below the last open one
-  rows_last : (t : Tree K V) (place : Place) → rows_at t (place ∷ []) ≡ row_of_place t place ∷ []
-  rows_last t place = by (entered place.entered t.children) refl
+  rows-last : (t : Tree K V) (place : Place) → rows_at t (place ∷ []) ≡ row_of_place t place ∷ []
+  rows-last t place = by (entered place.entered t.children) refl
     where
       by : (o : Option (Tree K V)) → entered place.entered t.children ≡ o → rows_at t (place ∷ []) ≡ row_of_place t place ∷ []
-      by None e = rows_closed t place [] e
-      by (Some c) e = rows_open t c place [] e
+      by None e = rows-closed t place [] e
+      by (Some c) e = rows-open t c place [] e
 
   -- one node deeper
-  pub leads_on : (root : Tree K V) (path : List Place) (t c : Tree K V) (d : ℕ) (x : Place) → Leads root path t d
+  pub leads-on : (root : Tree K V) (path : List Place) (t c : Tree K V) (d : ℕ) (x : Place) → Leads root path t d
       → d + 1 < length path → entered (get_or path d x).entered t.children ≡ Some c → Leads root path c (d + 1)
-  leads_on root path t c d x l h e = let place = get_or path d x in let en = read_at path d x l.within in record {
+  leads-on root path t c d x l h e = let place = get_or path d x in let en = read-at path d x l.within in record {
     above = row_of_place t place ∷ l.above;
     within = h;
     rows = λ more.
-        ap (rows_at root) (one_more path d place more l.within en) ∙ l.rows (place ∷ more)
-        ∙ ap (λ xs. xs ++ l.above) (rows_open t c place more e)
+        ap (rows_at root) (one-more path d place more l.within en) ∙ l.rows (place ∷ more)
+        ∙ ap (λ xs. xs ++ l.above) (rows-open t c place more e)
         ∙ append_assoc (rows_at c more) (row_of_place t place ∷ []) l.above;
   }
 
   -- the row of the place where a path leads, whatever reads it
-  here_at : (root : Tree K V) (path : List Place) (t : Tree K V) (d : ℕ) (place : Place) → d < length path
+  here-at : (root : Tree K V) (path : List Place) (t : Tree K V) (d : ℕ) (place : Place) → d < length path
       → place ≡ get_or path d place → (above : List (Forest K V × ℕ))
       → rows_at root path ≡ row_of_place t place ∷ above
       → (x : Place) → x ≡ get_or path d x → rows_at root path ≡ row_of_place t x ∷ above
-  here_at root path t d place h e above r x ex =
-      r ∙ ap (λ y. row_of_place t y ∷ above) (same_at path d place x h e ∙ sym ex)
+  here-at root path t d place h e above r x ex =
+      r ∙ ap (λ y. row_of_place t y ∷ above) (same-at path d place x h e ∙ sym ex)
 
   -- where no child is open
   pub stops : (root : Tree K V) (path : List Place) (t : Tree K V) (d : ℕ) (x : Place) → Leads root path t d
       → entered (get_or path d x).entered t.children ≡ None → IsReached root path t d
-  stops root path t d x l e = let place = get_or path d x in let en = read_at path d x l.within in record {
+  stops root path t d x l e = let place = get_or path d x in let en = read-at path d x l.within in record {
     above = l.above;
     within = l.within;
     rows = l.rows;
-    here = here_at root path t d place l.within en l.above
+    here = here-at root path t d place l.within en l.above
         (ap (rows_at root) (sym (parts path d place l.within en)) ∙ l.rows (place ∷ drop (d + 1) path)
-        ∙ ap (λ xs. xs ++ l.above) (rows_closed t place (drop (d + 1) path) e));
+        ∙ ap (λ xs. xs ++ l.above) (rows-closed t place (drop (d + 1) path) e));
   }
 
   -- where the path ends
@@ -126,22 +126,22 @@ module _ {K V : Type 0} where
     rows = l.rows;
     here = λ place en.
         ap (rows_at root) (sym (parts path d place l.within en) ∙ ap (λ xs. take d path ++ place ∷ xs) (drop_all (d + 1) path h))
-        ∙ l.rows (place ∷ []) ∙ ap (λ xs. xs ++ l.above) (rows_last t place);
+        ∙ l.rows (place ∷ []) ∙ ap (λ xs. xs ++ l.above) (rows-last t place);
   }
 
   -- a path that is not empty leaves some work
-  pub some_work : (t : Tree K V) (path : List Place) → 0 < length path → 0 < outer_work (rows_at t path)
-  some_work t [] h = absurd (omega (arith, h))
-  some_work t (place ∷ path) h = by (elim (entered place.entered t.children) [ None ↦ [] | Some c ↦ rows_at c path ])
+  pub some-work : (t : Tree K V) (path : List Place) → 0 < length path → 0 < outer_work (rows_at t path)
+  some-work t [] h = absurd (omega (arith, h))
+  some-work t (place ∷ path) h = by (elim (entered place.entered t.children) [ None ↦ [] | Some c ↦ rows_at c path ])
     where
       by : (rows : List (Forest K V × ℕ)) → 0 < outer_work (rows ++ row_of_place t place ∷ [])
       by [] = omega arith
       by (row ∷ rows) = omega arith
 
   -- an opened node is left as its row would be
-  pub opened_rows : (t : Tree K V) (key : List K) (rows : List (Forest K V × ℕ))
+  pub opened-rows : (t : Tree K V) (key : List K) (rows : List (Forest K V × ℕ))
       → rows_left key (rows_at t (opened t (length key)) ++ rows) ≡ rows_left key ((t.children, length key) ∷ rows)
-  opened_rows t key rows = by t.children
+  opened-rows t key rows = by t.children
     where
       by : (f : Forest K V)
           → rows_left key (rows_at (node t.prefix t.value f) (opened (node t.prefix t.value f) (length key)) ++ rows)
@@ -150,9 +150,9 @@ module _ {K V : Type 0} where
       by (grow p v kids rest) = refl
 
   -- and is no more work
-  pub opened_work : (t : Tree K V) (base : ℕ) (rows : List (Forest K V × ℕ))
+  pub opened-work : (t : Tree K V) (base : ℕ) (rows : List (Forest K V × ℕ))
       → outer_work (rows_at t (opened t base) ++ rows) ≤ 1 + 2 * forest_nodes t.children + outer_work rows
-  opened_work t base rows = by t.children
+  opened-work t base rows = by t.children
     where
       by : (f : Forest K V)
           → outer_work (rows_at (node t.prefix t.value f) (opened (node t.prefix t.value f) base) ++ rows)
@@ -161,140 +161,140 @@ module _ {K V : Type 0} where
       by (grow p v kids rest) = omega arith
 
   -- the root was opened behind the empty path
-  pub started_left : (t : Tree K V) (key : List K) (front : ℕ) (path : List Place) → key ≡ t.prefix → front ≡ length key
+  pub started-left : (t : Tree K V) (key : List K) (front : ℕ) (path : List Place) → key ≡ t.prefix → front ≡ length key
       → path ≡ opened t front
       → walk t ≡ pair_at key t.value ++ rows_left (take front key) (rows_at t path)
-  started_left t key front path ek ef ep =
+  started-left t key front path ek ef ep =
       let whole : rows_at t path ≡ rows_at t (opened t (length key)) ++ [] =
       ap (rows_at t) (ep ∙ ap (opened t) ef) ∙ sym (append-nil (rows_at t (opened t (length key)))) in
       let all : take front key ≡ key = ap (λ n. take n key) ef ∙ take-length key in
       let below : rows_left (take front key) (rows_at t path) ≡ map (prepended key) (walk_in t.children) =
-      (λ i. rows_left (all i) (whole i)) ∙ opened_rows t key []
+      (λ i. rows_left (all i) (whole i)) ∙ opened-rows t key []
       ∙ append-nil (map (prepended (take (length key) key)) (walk_in t.children))
       ∙ ap (λ k. map (prepended k) (walk_in t.children)) (take-length key) in
       ap (λ k. map (prepended k) (own_pair t.value ++ walk_in t.children)) (sym ek)
-      ∙ own_first key t.value (walk_in t.children)
+      ∙ own-first key t.value (walk_in t.children)
       ∙ ap (λ l. pair_at key t.value ++ l) (sym below)
 
-  pub started_work : (t : Tree K V) (front : ℕ) (path : List Place) → path ≡ opened t front
+  pub started-work : (t : Tree K V) (front : ℕ) (path : List Place) → path ≡ opened t front
       → outer_work (rows_at t path) < 1 + 2 * nodes t
-  started_work t front path ep =
+  started-work t front path ep =
       let same : rows_at t path ≡ rows_at t (opened t front) ++ [] = ap (rows_at t) ep ∙ sym (append-nil (rows_at t (opened t front))) in
       let work = ap outer_work same in
-      let most = opened_work t front [] in
+      let most = opened-work t front [] in
       omega (arith, work, most)
 
   -- a step out of the node that a path leads to, of which nothing is left
-  pub left_node : (root : Tree K V) (path now : List Place) (t : Tree K V) (d : ℕ) (place : Place) (key : List K) (front next : ℕ)
+  pub left-node : (root : Tree K V) (path now : List Place) (t : Tree K V) (d : ℕ) (place : Place) (key : List K) (front next : ℕ)
       → IsReached root path t d → place ≡ get_or path d place → skip place.entered t.children ≡ bare → now ≡ take d path
       → next ≡ min place.base front
       → (rows_left (take front key) (rows_at root path) ≡ rows_left (take next key) (rows_at root now))
       × (outer_work (rows_at root now) < outer_work (rows_at root path))
-  left_node root path now t d place key front next r e es en ex =
+  left-node root path now t d place key front next r e es en ex =
       let back : rows_at root now ≡ r.above = ap (rows_at root) (en ∙ sym (append-nil (take d path))) ∙ r.rows [] in
       let whole : rows_at root path ≡ (bare, place.base) ∷ r.above = r.here place e ∙ ap (λ f. (f, place.base) ∷ r.above) es in
       let work = ap outer_work whole in
       let less = ap outer_work back in (
-        ap (rows_left (take front key)) whole ∙ ap (λ k. rows_left k r.above) (take_taken place.base front key ∙ ap (λ n. take n key) (sym ex))
+        ap (rows_left (take front key)) whole ∙ ap (λ k. rows_left k r.above) (take-taken place.base front key ∙ ap (λ n. take n key) (sym ex))
             ∙ ap (rows_left (take next key)) (sym back),
         omega (arith, work, less),
       )
 
   -- a step to a child of it
-  pub entered_node : (root : Tree K V) (path now : List Place) (t c : Tree K V) (d : ℕ) (place : Place) (key spelled : List K) (front next base : ℕ)
+  pub entered-node : (root : Tree K V) (path now : List Place) (t c : Tree K V) (d : ℕ) (place : Place) (key spelled : List K) (front next base : ℕ)
       → IsReached root path t d → place ≡ get_or path d place → tree_at place.entered t.children ≡ Some c
       → skip place.entered t.children ≡ grow c.prefix c.value c.children (skip (suc place.entered) t.children)
       → spelled ≡ take (min place.base front) key ++ c.prefix → next ≡ length spelled → base ≡ next - length c.prefix
       → now ≡ (take d path ++ record { entered = place.entered + 1; base = base } ∷ []) ++ opened c next
       → (rows_left (take front key) (rows_at root path) ≡ pair_at spelled c.value ++ rows_left (take next spelled) (rows_at root now))
       × (outer_work (rows_at root now) < outer_work (rows_at root path))
-  entered_node root path now t c d place key spelled front next base r e ec es ek ex eb en =
+  entered-node root path now t c d place key spelled front next base r e ec es ek ex eb en =
       let others = skip (suc place.entered) t.children in
       let k = take front key in
       let beside : Place = record { entered = place.entered + 1; base = base } in
       let back : rows_at root now ≡ rows_at c (opened c next) ++ (others, base) ∷ r.above =
       ap (rows_at root) (en ∙ append_assoc (take d path) (beside ∷ []) (opened c next)) ∙ r.rows (beside ∷ opened c next)
-      ∙ ap (λ xs. xs ++ r.above) (rows_open t c beside (opened c next) (ap (λ n. entered n t.children) (add-one place.entered) ∙ ec))
+      ∙ ap (λ xs. xs ++ r.above) (rows-open t c beside (opened c next) (ap (λ n. entered n t.children) (add-one place.entered) ∙ ec))
       ∙ append_assoc (rows_at c (opened c next)) ((skip (place.entered + 1) t.children, base) ∷ []) r.above
       ∙ ap (λ n. rows_at c (opened c next) ++ (skip n t.children, base) ∷ r.above) (add-one place.entered) in
       let whole : rows_at root path ≡ (grow c.prefix c.value c.children others, place.base) ∷ r.above =
       r.here place e ∙ ap (λ f. (f, place.base) ∷ r.above) es in
-      let spelt : spelled ≡ take place.base k ++ c.prefix = ek ∙ ap (λ q. q ++ c.prefix) (sym (take_taken place.base front key)) in
+      let spelt : spelled ≡ take place.base k ++ c.prefix = ek ∙ ap (λ q. q ++ c.prefix) (sym (take-taken place.base front key)) in
       let all : take next spelled ≡ spelled = ap (λ n. take n spelled) ex ∙ take-length spelled in
       let work = ap outer_work whole in
       let less = ap outer_work back in
-      let most = opened_work c next ((others, base) ∷ r.above) in (
+      let most = opened-work c next ((others, base) ∷ r.above) in (
         ap (rows_left k) whole
             ∙ entered_row k spelled c.prefix c.value c.children others place.base r.above spelt
             ∙ ap (λ n. pair_at spelled c.value ++ rows_left spelled ((c.children, length spelled) ∷ (others, n) ∷ r.above))
             (ap (λ n. n - length c.prefix) (sym ex) ∙ sym eb)
             ∙ ap (λ l. pair_at spelled c.value ++ l)
-            (sym (opened_rows c spelled ((others, base) ∷ r.above))
+            (sym (opened-rows c spelled ((others, base) ∷ r.above))
             ∙ ap (λ n. rows_left spelled (rows_at c (opened c n) ++ (others, base) ∷ r.above)) (sym ex)
             ∙ ap (rows_left spelled) (sym back) ∙ ap (λ q. rows_left q (rows_at root now)) (sym all)),
         omega (arith, work, less, most),
       )
 
   -- behind the trees before a place stands the tree at it
-  pub skip_more : (n : ℕ) (f : Forest K V) (c : Tree K V) → tree_at n f ≡ Some c
+  pub skip-more : (n : ℕ) (f : Forest K V) (c : Tree K V) → tree_at n f ≡ Some c
       → skip n f ≡ grow c.prefix c.value c.children (skip (suc n) f)
-  skip_more n bare c e = cc
-  skip_more zero (grow p v kids rest) c e = ap (λ t. grow t.prefix t.value t.children rest) (unwrapped e)
+  skip-more n bare c e = cc
+  skip-more zero (grow p v kids rest) c e = ap (λ t. grow t.prefix t.value t.children rest) (unwrapped e)
     where
       unwrapped : Some (node p v kids) ≡ Some c → node p v kids ≡ c
       unwrapped e = cc
-  skip_more (suc n) (grow p v kids rest) c e = skip_more n rest c e
+  skip-more (suc n) (grow p v kids rest) c e = skip-more n rest c e
 
   -- and nothing where there is none
-  pub skip_all : (n : ℕ) (f : Forest K V) → tree_at n f ≡ None → skip n f ≡ bare
-  skip_all zero bare e = refl
-  skip_all (suc n) bare e = refl
-  skip_all zero (grow p v kids rest) e = cc
-  skip_all (suc n) (grow p v kids rest) e = skip_all n rest e
+  pub skip-all : (n : ℕ) (f : Forest K V) → tree_at n f ≡ None → skip n f ≡ bare
+  skip-all zero bare e = refl
+  skip-all (suc n) bare e = refl
+  skip-all zero (grow p v kids rest) e = cc
+  skip-all (suc n) (grow p v kids rest) e = skip-all n rest e
 
 module _ {K V T : Type 0} (tree : T → Tree K V) where
   -- the tree at a place of a list
-  pub tree_of_list : (xs : List T) (i : ℕ) (x : T) → i < length xs → tree_at i (seen tree xs) ≡ Some (tree (get_or xs i x))
-  tree_of_list [] i x h = absurd (omega (arith, h))
-  tree_of_list (y ∷ ys) zero x h = refl
-  tree_of_list (y ∷ ys) (suc i) x h = tree_of_list ys i x (omega arith)
+  pub tree-of_list : (xs : List T) (i : ℕ) (x : T) → i < length xs → tree_at i (seen tree xs) ≡ Some (tree (get_or xs i x))
+  tree-of_list [] i x h = absurd (omega (arith, h))
+  tree-of_list (y ∷ ys) zero x h = refl
+  tree-of_list (y ∷ ys) (suc i) x h = tree-of_list ys i x (omega arith)
 
   -- there is none behind it
-  pub no_tree_of_list : (xs : List T) (i : ℕ) → length xs ≤ i → tree_at i (seen tree xs) ≡ None
-  no_tree_of_list [] i h = refl
-  no_tree_of_list (y ∷ ys) zero h = absurd (omega (arith, h))
-  no_tree_of_list (y ∷ ys) (suc i) h = no_tree_of_list ys i (omega arith)
+  pub no_tree-of_list : (xs : List T) (i : ℕ) → length xs ≤ i → tree_at i (seen tree xs) ≡ None
+  no_tree-of_list [] i h = refl
+  no_tree-of_list (y ∷ ys) zero h = absurd (omega (arith, h))
+  no_tree-of_list (y ∷ ys) (suc i) h = no_tree-of_list ys i (omega arith)
 
   -- a node with children is opened
-  pub opened_some : (kids : List T) (t : Tree K V) (base : ℕ) → seen tree kids ≡ t.children → (length kids == 0) ≡ false
+  pub opened-some : (kids : List T) (t : Tree K V) (base : ℕ) → seen tree kids ≡ t.children → (length kids == 0) ≡ false
       → opened t base ≡ record { entered = 0; base = base } ∷ []
-  opened_some [] t base ek e = absurd (true≢false e)
-  opened_some (x ∷ xs) t base ek e = ap (λ f. opened (node t.prefix t.value f) base) (sym ek)
+  opened-some [] t base ek e = absurd (true≢false e)
+  opened-some (x ∷ xs) t base ek e = ap (λ f. opened (node t.prefix t.value f) base) (sym ek)
 
   -- the child that was entered last
-  pub last_child : (kids : List T) (f : Forest K V) (count i : ℕ) (r : Option (Bor T)) → count ≡ suc i
+  pub last-child : (kids : List T) (f : Forest K V) (count i : ℕ) (r : Option (Bor T)) → count ≡ suc i
       → seen tree kids ≡ f → IfSome r (λ x. x.now ≡ get_or kids i x.now)
       → MatchOption r (length kids ≤ i) (λ _. i < length kids)
       → MatchOption r (entered count f ≡ None) (λ x. entered count f ≡ Some (tree x.now))
-  last_child kids f count i None e row same cases =
-      ap (λ k. entered k f) e ∙ ap (tree_at i) (sym row) ∙ no_tree_of_list kids i cases
-  last_child kids f count i (Some x) e row same cases =
-      ap (λ k. entered k f) e ∙ ap (tree_at i) (sym row) ∙ tree_of_list kids i x.now cases ∙ ap (λ y. Some (tree y)) (sym same)
+  last-child kids f count i None e row same cases =
+      ap (λ k. entered k f) e ∙ ap (tree_at i) (sym row) ∙ no_tree-of_list kids i cases
+  last-child kids f count i (Some x) e row same cases =
+      ap (λ k. entered k f) e ∙ ap (tree_at i) (sym row) ∙ tree-of_list kids i x.now cases ∙ ap (λ y. Some (tree y)) (sym same)
 
   -- a step out of the node, in the words of the program
-  pub left_step : (root : Tree K V) (path slice now : List Place) (t : T) (d : ℕ) (place : Place) (key : List K) (front next : ℕ)
+  pub left-step : (root : Tree K V) (path slice now : List Place) (t : T) (d : ℕ) (place : Place) (key : List K) (front next : ℕ)
       → (kids : List T) → IsReached root slice (tree t) d → slice ≡ path → place ≡ get_or path d place
       → seen tree kids ≡ (tree t).children → length kids ≤ place.entered → now ≡ take d path → next ≡ min place.base front
       → (rows_left (take front key) (rows_at root path) ≡ rows_left (take next key) (rows_at root now))
       × (outer_work (rows_at root now) < outer_work (rows_at root path))
-  left_step root path slice now t d place key front next kids r es e ek h en ex =
+  left-step root path slice now t d place key front next kids r es e ek h en ex =
       let none : tree_at place.entered (tree t).children ≡ None =
-      ap (tree_at place.entered) (sym ek) ∙ no_tree_of_list kids place.entered h in
-      left_node root path now (tree t) d place key front next (subst (λ xs. IsReached root xs (tree t) d) es r) e
-      (skip_all place.entered (tree t).children none) en ex
+      ap (tree_at place.entered) (sym ek) ∙ no_tree-of_list kids place.entered h in
+      left-node root path now (tree t) d place key front next (subst (λ xs. IsReached root xs (tree t) d) es r) e
+      (skip-all place.entered (tree t).children none) en ex
 
   -- a step to a child, in the words of the program
-  pub entered_step : (root : Tree K V) (path slice path₁ path₂ now : List Place) (t child : T) (d : ℕ) (place : Place)
+  pub entered-step : (root : Tree K V) (path slice path₁ path₂ now : List Place) (t child : T) (d : ℕ) (place : Place)
       → (key spelled p shown : List K) (front least next base : ℕ) (kids : List T) → IsReached root slice (tree t) d
       → slice ≡ path → place ≡ get_or path d place → seen tree kids ≡ (tree t).children → place.entered < length kids
       → child ≡ get_or kids place.entered child → p ≡ (tree child).prefix → least ≡ min place.base front
@@ -304,18 +304,18 @@ module _ {K V T : Type 0} (tree : T → Tree K V) where
       → (rows_left (take front key) (rows_at root path)
       ≡ pair_at spelled (tree child).value ++ rows_left (take next spelled) (rows_at root now))
       × (outer_work (rows_at root now) < outer_work (rows_at root path))
-  entered_step root path slice path₁ path₂ now t child d place key spelled p shown front least next base kids r es e ek lt eh ep el esp ew ex eb e₁ e₂ e₃ =
+  entered-step root path slice path₁ path₂ now t child d place key spelled p shown front least next base kids r es e ek lt eh ep el esp ew ex eb e₁ e₂ e₃ =
       let there : tree_at place.entered (tree t).children ≡ Some (tree child) =
-      ap (tree_at place.entered) (sym ek) ∙ tree_of_list kids place.entered child lt ∙ ap (λ y. Some (tree y)) (sym eh) in
-      entered_node root path now (tree t) (tree child) d place key spelled front next base
+      ap (tree_at place.entered) (sym ek) ∙ tree-of_list kids place.entered child lt ∙ ap (λ y. Some (tree y)) (sym eh) in
+      entered-node root path now (tree t) (tree child) d place key spelled front next base
       (subst (λ xs. IsReached root xs (tree t) d) es r) e there
-      (skip_more place.entered (tree t).children (tree child) there)
+      (skip-more place.entered (tree t).children (tree child) there)
       (esp ∙ (λ i. take (el i) key ++ ep i)) (ex ∙ ap length ew) (eb ∙ ap (λ q. next - length q) ep)
       (e₃ ∙ ap (λ xs. xs ++ opened (tree child) next)
       (e₂ ∙ ap (λ xs. xs ++ record { entered = place.entered + 1; base = base } ∷ []) e₁))
 
 -- a place that is there lies within
-pub in_range : {T : Type 0} (P : Bor T → Type 0) (n i : ℕ) (r : Option (Bor T))
+pub in-range : {T : Type 0} (P : Bor T → Type 0) (n i : ℕ) (r : Option (Bor T))
     → MatchOption r (n ≤ i) (λ x. (i < n) × P x) → MatchOption r (n ≤ i) (λ _. i < n)
-in_range P n i None h = h
-in_range P n i (Some x) h = h.0
+in-range P n i None h = h
+in-range P n i (Some x) h = h.0

@@ -1,8 +1,8 @@
 -- What a step does to the pairs that are left of rows of trees.
---     first_tree        the pairs of a row are those of its first tree, and then the others
---     entered, entered_leaf        a step to a tree finds its own pair, and leaves those of its children and of the trees beside it
---     entered_rows, entered_rows_leaf        the same with rows as the iterator stores them
---     left_row, left_inner_row        a step out of a row of which nothing is left
+--     first-tree        the pairs of a row are those of its first tree, and then the others
+--     entered, entered-leaf        a step to a tree finds its own pair, and leaves those of its children and of the trees beside it
+--     entered-rows, entered-rows_leaf        the same with rows as the iterator stores them
+--     left-row, left-inner_row        a step out of a row of which nothing is left
 use Rattle.std.proofs.Common.{◌≡◌, ℕ, zero, suc, ◌-◌, ◌≤◌, List, [], ◌∷◌, ◌++◌, length, take, map, Option, None, Some, refl, sym, ap, ◌∙◌, append_assoc, append-nil, length-append, arith}
 use Rattle.std.proofs.Math.Seq.{take-append_seam, take-length}
 use Rattle.std.proofs.lemmas.List.{reverse-append}
@@ -17,65 +17,65 @@ use Rattle.vc_tree_walks.specs.declared.iter.Row.{Row}
 
 module _ {K : Type 0} where
   -- what stands before the last part of a list
-  front_taken : (a p l : List K) → l ≡ a ++ p → take (length l - length p) l ≡ a
-  front_taken a p l e =
+  front-taken : (a p l : List K) → l ≡ a ++ p → take (length l - length p) l ≡ a
+  front-taken a p l e =
       let long : length (a ++ p) - length p ≡ length a = omega (arith, length-append a p) in
       rw e (ap (λ n. take n (a ++ p)) long ∙ take-append_seam a p)
 
   -- the first of the first components, where there are as many
-  take_within : (m n : ℕ) (l : List K) → m ≤ n → take m (take n l) ≡ take m l
-  take_within zero n l h = refl
-  take_within (suc m) zero l h = absurd (omega (arith, h))
-  take_within (suc m) (suc n) [] h = refl
-  take_within (suc m) (suc n) (x ∷ l) h = ap (λ k. x ∷ k) (take_within m n l (omega (arith, h)))
+  take-within : (m n : ℕ) (l : List K) → m ≤ n → take m (take n l) ≡ take m l
+  take-within zero n l h = refl
+  take-within (suc m) zero l h = absurd (omega (arith, h))
+  take-within (suc m) (suc n) [] h = refl
+  take-within (suc m) (suc n) (x ∷ l) h = ap (λ k. x ∷ k) (take-within m n l (omega (arith, h)))
 
   -- and where there are fewer
-  take_beyond : (m n : ℕ) (l : List K) → n ≤ m → take m (take n l) ≡ take n l
-  take_beyond zero zero l h = refl
-  take_beyond (suc m) zero l h = refl
-  take_beyond zero (suc n) l h = absurd (omega (arith, h))
-  take_beyond (suc m) (suc n) [] h = refl
-  take_beyond (suc m) (suc n) (x ∷ l) h = ap (λ k. x ∷ k) (take_beyond m n l (omega (arith, h)))
+  take-beyond : (m n : ℕ) (l : List K) → n ≤ m → take m (take n l) ≡ take n l
+  take-beyond zero zero l h = refl
+  take-beyond (suc m) zero l h = refl
+  take-beyond zero (suc n) l h = absurd (omega (arith, h))
+  take-beyond (suc m) (suc n) [] h = refl
+  take-beyond (suc m) (suc n) (x ∷ l) h = ap (λ k. x ∷ k) (take-beyond m n l (omega (arith, h)))
 
 module _ {K V : Type 0} where
   -- one prefix before another
-  pub prepended_twice : (a p : List K) (l m : List (List K × V))
+  pub prepended-twice : (a p : List K) (l m : List (List K × V))
       → map (prepended a) (map (prepended p) l ++ m) ≡ map (prepended (a ++ p)) l ++ map (prepended a) m
-  prepended_twice a p [] m = refl
-  prepended_twice a p (b ∷ l) m =
+  prepended-twice a p [] m = refl
+  prepended-twice a p (b ∷ l) m =
       let first : prepended a (prepended p b) ≡ prepended (a ++ p) b = ap (λ k. (k, b.1)) (sym (append_assoc a p b.0)) in
-      let others = prepended_twice a p l m in
+      let others = prepended-twice a p l m in
       λ i. first i ∷ others i
 
   -- a node's own pair before those of its children
-  pub own_first : (key : List K) (v : Option V) (l : List (List K × V))
+  pub own-first : (key : List K) (v : Option V) (l : List (List K × V))
       → map (prepended key) (own_pair v ++ l) ≡ pair_at key v ++ map (prepended key) l
-  own_first key None l = refl
-  own_first key (Some v) l = ap (λ k. (k, v) ∷ map (prepended key) l) (append-nil key)
+  own-first key None l = refl
+  own-first key (Some v) l = ap (λ k. (k, v) ∷ map (prepended key) l) (append-nil key)
 
   -- the pairs of a row are those of its first tree, and then the others
-  pub first_tree : (a p : List K) (v : Option V) (kids others : Forest K V) (m : List (List K × V))
+  pub first-tree : (a p : List K) (v : Option V) (kids others : Forest K V) (m : List (List K × V))
       → map (prepended a) (walk_in (grow p v kids others)) ++ m
       ≡ pair_at (a ++ p) v ++ (map (prepended (a ++ p)) (walk_in kids) ++ (map (prepended a) (walk_in others) ++ m))
-  first_tree a p v kids others m =
-      let own = own_first (a ++ p) v (walk_in kids) in
+  first-tree a p v kids others m =
+      let own = own-first (a ++ p) v (walk_in kids) in
       let beside = map (prepended a) (walk_in others) in
       let below = map (prepended (a ++ p)) (walk_in kids) in
-      ap (λ l. l ++ m) (prepended_twice a p (own_pair v ++ walk_in kids) (walk_in others))
+      ap (λ l. l ++ m) (prepended-twice a p (own_pair v ++ walk_in kids) (walk_in others))
       ∙ ap (λ l. (l ++ beside) ++ m) own
       ∙ append_assoc (pair_at (a ++ p) v ++ below) beside m
       ∙ append_assoc (pair_at (a ++ p) v) below (beside ++ m)
 
   -- a step to a tree without children finds its own pair, and leaves those of the trees beside it
-  pub entered_leaf : (key now p : List K) (v : Option V) (others : Forest K V) (n : ℕ) (rows : List (Forest K V × ℕ))
+  pub entered-leaf : (key now p : List K) (v : Option V) (others : Forest K V) (n : ℕ) (rows : List (Forest K V × ℕ))
       → now ≡ take n key ++ p
       → rows_left key ((grow p v bare others, n) ∷ rows)
       ≡ pair_at now v ++ rows_left now ((others, length now - length p) ∷ rows)
-  entered_leaf key now p v others n rows e =
+  entered-leaf key now p v others n rows e =
       let a = take n key in
-      first_tree a p v bare others (rows_left a rows)
+      first-tree a p v bare others (rows_left a rows)
       ∙ ap (λ k. pair_at k v ++ (map (prepended a) (walk_in others) ++ rows_left a rows)) (sym e)
-      ∙ ap (λ k. pair_at now v ++ (map (prepended k) (walk_in others) ++ rows_left k rows)) (sym (front_taken a p now e))
+      ∙ ap (λ k. pair_at now v ++ (map (prepended k) (walk_in others) ++ rows_left k rows)) (sym (front-taken a p now e))
 
   -- a step to a tree finds its own pair, and leaves those of its children and of the trees beside it
   pub entered : (key now p : List K) (v : Option V) (kids others : Forest K V) (n : ℕ) (rows : List (Forest K V × ℕ))
@@ -85,32 +85,32 @@ module _ {K V : Type 0} where
   entered key now p v kids others n rows e =
       let a = take n key in
       let beside = λ (k : List K). map (prepended k) (walk_in others) ++ rows_left k rows in
-      first_tree a p v kids others (rows_left a rows)
+      first-tree a p v kids others (rows_left a rows)
       ∙ ap (λ k. pair_at k v ++ (map (prepended k) (walk_in kids) ++ beside a)) (sym e)
-      ∙ ap (λ k. pair_at now v ++ (map (prepended now) (walk_in kids) ++ beside k)) (sym (front_taken a p now e))
+      ∙ ap (λ k. pair_at now v ++ (map (prepended now) (walk_in kids) ++ beside k)) (sym (front-taken a p now e))
       ∙ ap (λ k. pair_at now v ++ (map (prepended k) (walk_in kids) ++ beside (take (length now - length p) k)))
       (sym (take-length now))
 
   -- a step out of a row of which nothing is left, where less of the key stands before an outer row
-  pub left_row : (key : List K) (outer : Forest K V) (n m : ℕ) (rows : List (Forest K V × ℕ)) → m ≤ n
+  pub left-row : (key : List K) (outer : Forest K V) (n m : ℕ) (rows : List (Forest K V × ℕ)) → m ≤ n
       → rows_left key ((bare, n) ∷ (outer, m) ∷ rows) ≡ rows_left key ((outer, m) ∷ rows)
-  left_row key outer n m rows h =
-      ap (λ k. map (prepended k) (walk_in outer) ++ rows_left k rows) (take_within m n key h)
+  left-row key outer n m rows h =
+      ap (λ k. map (prepended k) (walk_in outer) ++ rows_left k rows) (take-within m n key h)
 
   -- and where more does
-  pub left_inner_row : (key : List K) (outer : Forest K V) (n m : ℕ) (rows : List (Forest K V × ℕ)) → n ≤ m
+  pub left-inner_row : (key : List K) (outer : Forest K V) (n m : ℕ) (rows : List (Forest K V × ℕ)) → n ≤ m
       → rows_left key ((bare, n) ∷ (outer, m) ∷ rows) ≡ rows_left key ((outer, n) ∷ rows)
-  left_inner_row key outer n m rows h =
-      ap (λ k. map (prepended k) (walk_in outer) ++ rows_left k rows) (take_beyond m n key h)
+  left-inner_row key outer n m rows h =
+      ap (λ k. map (prepended k) (walk_in outer) ++ rows_left k rows) (take-beyond m n key h)
 
 module _ {K V T : Type 0} (tree : T → Tree K V) where
   -- a step to a tree without children, with rows as the iterator stores them
-  pub entered_rows_leaf : (t : T) (key now shown p : List K) (row past : Row T) (rows : List (Row T))
+  pub entered-rows_leaf : (t : T) (key now shown p : List K) (row past : Row T) (rows : List (Row T))
       → p ≡ (tree t).prefix → now ≡ take row.base key ++ p → shown ≡ now → (tree t).children ≡ bare
       → past ≡ record { trees = row.trees; base = length shown - length p }
       → rows_left key ((grow (tree t).prefix (tree t).value (tree t).children (seen tree row.trees.now), row.base) ∷ map (row_of tree) (reverse rows))
       ≡ pair_at now (tree t).value ++ rows_left now (rows_of tree past rows)
-  entered_rows_leaf t key now shown p row past rows ep en es ek eb =
+  entered-rows_leaf t key now shown p row past rows ep en es ek eb =
       let q = (tree t).prefix in
       let v = (tree t).value in
       let others = seen tree row.trees.now in
@@ -119,18 +119,18 @@ module _ {K V T : Type 0} (tree : T → Tree K V) where
       let second : ((others, length now - length q) ≡ row_of tree past) =
       (λ i. (others, length (sym es i) - length (sym ep i))) ∙ ap (row_of tree) (sym eb) in
       ap (λ f. rows_left key ((grow q v f others, row.base) ∷ outer)) ek
-      ∙ entered_leaf key now q v others row.base outer e
+      ∙ entered-leaf key now q v others row.base outer e
       ∙ ap (λ r. pair_at now v ++ rows_left now (r ∷ outer)) second
 
   -- a step to a tree with children
-  pub entered_rows : (t : T) (key now shown p : List K) (row beside below : Row T) (kids : Bor (List T))
+  pub entered-rows : (t : T) (key now shown p : List K) (row beside below : Row T) (kids : Bor (List T))
       → (rows above : List (Row T)) → p ≡ (tree t).prefix → now ≡ take row.base key ++ p → shown ≡ now
       → seen tree kids.now ≡ (tree t).children
       → beside ≡ record { trees = row.trees; base = length shown - length p }
       → below ≡ record { trees = kids; base = length shown } → above ≡ rows ++ beside ∷ []
       → rows_left key ((grow (tree t).prefix (tree t).value (tree t).children (seen tree row.trees.now), row.base) ∷ map (row_of tree) (reverse rows))
       ≡ pair_at now (tree t).value ++ rows_left now (rows_of tree below above)
-  entered_rows t key now shown p row beside below kids rows above ep en es ek eb ew ea =
+  entered-rows t key now shown p row beside below kids rows above ep en es ek eb ew ea =
       let q = (tree t).prefix in
       let v = (tree t).value in
       let others = seen tree row.trees.now in

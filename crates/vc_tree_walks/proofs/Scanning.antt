@@ -1,9 +1,9 @@
 -- The part of a tree that a prefix leads to.
 --     IsPart        a node below which all keys stand that start with the prefix
---     part_start, part_next        the root is one, and so is the child that the rest of the prefix leads to
---     walk_ended, walk_inside        the pairs of such a node, where the prefix ends behind or in that of the node
---     child_agrees        the child agrees with what is left in one component
---     walk_default, walk_childless        where the two part, and where no child is, there are none
+--     part-start, part-next        the root is one, and so is the child that the rest of the prefix leads to
+--     walk-ended, walk-inside        the pairs of such a node, where the prefix ends behind or in that of the node
+--     child-agrees        the child agrees with what is left in one component
+--     walk-default, walk-childless        where the two part, and where no child is, there are none
 use Rattle.std.proofs.Common.{◌≡◌, ◌≢◌, ℕ, zero, suc, [], ◌∷◌, ◌++◌, take, drop, List, length, Option, None, Some, refl, sym, ap, ◌∙◌, true, false, Bool, cond, true≢false, subst, map, arith}
 use Rattle.std.proofs.Math.Seq.{take-length}
 use Rattle.std.specs.Option.{option_and, option_and_then}
@@ -23,63 +23,63 @@ use Rattle.vc_tree_nodes.specs.Parting.{Agree, PartsAt, IsParting}
 use Rattle.vc_tree_nodes.specs.declared.parting.Parting.{Parting}
 use Rattle.vc_tree_nodes.specs.declared.parting.Parting.TheVariants.{Behind, Inside, Lower, Higher}
 use Rattle.vc_tree_nodes.specs.Places.{IsNoChild, IsFoundChild}
-use Rattle.vc_tree_model.proofs.KeyLemmas.{none_some, behind-append, behind_joins, behind_same, then_behind, same_itself, same_flip, both_true}
-use Rattle.vc_tree_model.proofs.LookupLemmas.{children_ordered, lookup_in_same, lookup_same}
-use Rattle.vc_tree_model.proofs.UnderLemmas.{is_walk-equal, walk_prefixed}
-use Rattle.vc_tree_model.proofs.Walking.{walk_is}
+use Rattle.vc_tree_model.proofs.KeyLemmas.{none-some, behind-append, behind-joins, behind-same, then_behind, same-itself, same-flip, both-true}
+use Rattle.vc_tree_model.proofs.LookupLemmas.{children-ordered, lookup_in-same, lookup-same}
+use Rattle.vc_tree_model.proofs.UnderLemmas.{is_walk-equal, walk-prefixed}
+use Rattle.vc_tree_model.proofs.Walking.{walk-is}
 
 -- nothing beside something is nothing
-and_none : {X Y : Type 0} (a : Option X) → option_and {U = Y} a None ≡ None
-and_none None = refl
-and_none (Some x) = refl
+and-none : {X Y : Type 0} (a : Option X) → option_and {U = Y} a None ≡ None
+and-none None = refl
+and-none (Some x) = refl
 
 -- a list without a first element is empty
-pub no_first : {X : Type 0} (l : List X) → slice_get l 0 ≡ None → l ≡ []
-no_first [] e = refl
-no_first (x ∷ l) e = none_some x (sym e)
+pub no-first : {X : Type 0} (l : List X) → slice_get l 0 ≡ None → l ≡ []
+no-first [] e = refl
+no-first (x ∷ l) e = none-some x (sym e)
 
 -- and one with a first element begins with it
-pub first_cons : {X : Type 0} (l : List X) (x : X) → slice_get l 0 ≡ Some x → l ≡ x ∷ drop 1 l
-first_cons [] x e = none_some x e
-first_cons (y ∷ l) x e = let k : y ≡ x = cc in ap (λ z. z ∷ l) k
+pub first-cons : {X : Type 0} (l : List X) (x : X) → slice_get l 0 ≡ Some x → l ≡ x ∷ drop 1 l
+first-cons [] x e = none-some x e
+first-cons (y ∷ l) x e = let k : y ≡ x = cc in ap (λ z. z ∷ l) k
 
 -- what is said of nothing
-pub none_of : {X : Type 0} (P : Type 0) (Q : X → Type 0) (r : Option X) → MatchOption r P Q → r ≡ None → P
-none_of P Q None h e = h
-none_of P Q (Some x) h e = none_some x (sym e)
+pub none-of : {X : Type 0} (P : Type 0) (Q : X → Type 0) (r : Option X) → MatchOption r P Q → r ≡ None → P
+none-of P Q None h e = h
+none-of P Q (Some x) h e = none-some x (sym e)
 
 -- what is said of something
-pub some_of : {X : Type 0} (P : Type 0) (Q : X → Type 0) (r : Option X) (x : X) → MatchOption r P Q → r ≡ Some x → Q x
-some_of P Q None x h e = none_some x e
-some_of P Q (Some y) x h e = let k : y ≡ x = cc in subst Q k h
+pub some-of : {X : Type 0} (P : Type 0) (Q : X → Type 0) (r : Option X) (x : X) → MatchOption r P Q → r ≡ Some x → Q x
+some-of P Q None x h e = none-some x e
+some-of P Q (Some y) x h e = let k : y ≡ x = cc in subst Q k h
 
 module _ {K : Type 0} (cmp : K → K → Ordering) where
   -- behind a prefix that agrees, the rest of the key
-  left_whole : (p k : List K) → same_key cmp (take (length p) p) (take (length p) k) ≡ true
+  left-whole : (p k : List K) → same_key cmp (take (length p) p) (take (length p) k) ≡ true
       → behind cmp p k ≡ Some (drop (length p) k)
-  left_whole [] k h = refl
-  left_whole (x ∷ p) [] h = absurd (true≢false (sym h))
-  left_whole (x ∷ p) (y ∷ k) h =
-      let both = both_true (is_eq (cmp x y)) (same_key cmp (take (length p) p) (take (length p) k)) h in
-      let rest = left_whole p k both.1 in
+  left-whole [] k h = refl
+  left-whole (x ∷ p) [] h = absurd (true≢false (sym h))
+  left-whole (x ∷ p) (y ∷ k) h =
+      let both = both-true (is_eq (cmp x y)) (same_key cmp (take (length p) p) (take (length p) k)) h in
+      let rest = left-whole p k both.1 in
       λ i. cond (both.0 i) (rest i) None
 
   -- of two tests one of which fails, the two together give nothing
   failed : (s t : Bool) (a b : Option (List K)) → (s ≡ true → t ≡ true → option_and a b ≡ None)
       → option_and (cond s a None) (cond t b None) ≡ None
   failed true true a b h = h refl refl
-  failed true false a b h = and_none a
+  failed true false a b h = and-none a
   failed false t a b h = refl
 
   -- nothing further behind
-  then_ended : (a : Option (List K)) → then_behind cmp [] a ≡ a
-  then_ended None = refl
-  then_ended (Some r) = refl
+  then-ended : (a : Option (List K)) → then_behind cmp [] a ≡ a
+  then-ended None = refl
+  then-ended (Some r) = refl
 
   module _ (o : IsTotalOrder cmp) where
     -- no component equals two that differ
-    equal_twice : (x y z : K) → is_eq (cmp x z) ≡ true → is_eq (cmp y z) ≡ true → is_eq (cmp x y) ≡ true
-    equal_twice x y z h g =
+    equal-twice : (x y z : K) → is_eq (cmp x z) ≡ true → is_eq (cmp y z) ≡ true → is_eq (cmp x y) ≡ true
+    equal-twice x y z h g =
         ap is_eq (o.congr x z y ((Equal-is (cmp x z)).0 h)) ∙ ap is_eq (flipped ((Equal-is (cmp y z)).0 g))
       where
         flipped : cmp y z ≡ Equal → cmp z y ≡ Equal
@@ -88,12 +88,12 @@ module _ {K : Type 0} (cmp : K → K → Ordering) where
     -- no key starts with two prefixes that part
     apart : (q r k : List K) (n : ℕ) (x y : K) → slice_get q n ≡ Some x → slice_get r n ≡ Some y
         → is_eq (cmp x y) ≡ false → option_and (behind cmp r k) (behind cmp q k) ≡ None
-    apart [] r k n x y d e h = none_some x d
-    apart (a ∷ q) [] k n x y d e h = none_some y e
+    apart [] r k n x y d e h = none-some x d
+    apart (a ∷ q) [] k n x y d e h = none-some y e
     apart (a ∷ q) (b ∷ r) [] n x y d e h = refl
     apart (a ∷ q) (b ∷ r) (c ∷ k) zero x y d e h =
         failed (is_eq (cmp b c)) (is_eq (cmp a c)) (behind cmp r k) (behind cmp q k)
-        (λ s t. absurd (true≢false (sym (equal_twice a b c t s) ∙ differ)))
+        (λ s t. absurd (true≢false (sym (equal-twice a b c t s) ∙ differ)))
       where
         differ : is_eq (cmp a b) ≡ false
         differ = let f : a ≡ x = cc in let g : b ≡ y = cc in rw (f, g) h
@@ -102,20 +102,20 @@ module _ {K : Type 0} (cmp : K → K → Ordering) where
         failed (is_eq (cmp b c)) (is_eq (cmp a c)) (behind cmp r k) (behind cmp q k) (λ s t. deeper)
 
     -- what is left behind two parts is what is left behind the one and then the other
-    behind_parts : (q r left k : List K) → behind cmp q r ≡ Some left
+    behind-parts : (q r left k : List K) → behind cmp q r ≡ Some left
         → behind cmp r k ≡ then_behind cmp left (behind cmp q k)
-    behind_parts q r left k e =
-        sym (behind_same cmp o (q ++ left) r k (behind_joins cmp o q r left e)) ∙ behind-append cmp q left k
+    behind-parts q r left k e =
+        sym (behind-same cmp o (q ++ left) r k (behind-joins cmp o q r left e)) ∙ behind-append cmp q left k
 
     -- a component that equals another begins an equal key
-    same_first : (x y : K) (s : List K) → is_eq (cmp x y) ≡ true → same_key cmp (x ∷ s) (y ∷ s) ≡ true
-    same_first x y s h = ap (λ b. cond b (same_key cmp s s) false) h ∙ same_itself cmp o s
+    same-first : (x y : K) (s : List K) → is_eq (cmp x y) ≡ true → same_key cmp (x ∷ s) (y ∷ s) ≡ true
+    same-first x y s h = ap (λ b. cond b (same_key cmp s s) false) h ∙ same-itself cmp o s
 
 module _ {K V : Type 0} (cmp : K → K → Ordering) where
   -- a child that begins as what is left agrees with it in one component
-  pub child_agrees : (f : Forest K V) (t : Tree K V) (left : List K) (x : K) (l : List K) → left ≡ x ∷ l
+  pub child-agrees : (f : Forest K V) (t : Tree K V) (left : List K) (x : K) (l : List K) → left ≡ x ∷ l
       → IsFoundChild cmp f x t → Agree cmp t.prefix left 1
-  child_agrees f t left x l e c = by t.prefix c.begins
+  child-agrees f t left x l e c = by t.prefix c.begins
     where
       by : (p : List K) → same_key cmp (take 1 p) (x ∷ []) ≡ true → Agree cmp p left 1
       by [] h = absurd (true≢false (sym h))
@@ -123,188 +123,188 @@ module _ {K V : Type 0} (cmp : K → K → Ordering) where
 
 module _ {K V : Type 0} where
   -- where the one is there, and the other is there together with it
-  and_left : (a : Option (List K)) (v : Option V) (f : List K → Option V)
+  and-left : (a : Option (List K)) (v : Option V) (f : List K → Option V)
       → option_and a (node_lookup v f a) ≡ node_lookup v f a
-  and_left None v f = refl
-  and_left (Some r) v f = refl
+  and-left None v f = refl
+  and-left (Some r) v f = refl
 
   -- what two lists have not both, a node has not where the first has it
-  and_looked : (a b : Option (List K)) (v : Option V) (f : List K → Option V) → option_and a b ≡ None
+  and-looked : (a b : Option (List K)) (v : Option V) (f : List K → Option V) → option_and a b ≡ None
       → option_and a (node_lookup v f b) ≡ None
-  and_looked None b v f e = refl
-  and_looked (Some r) None v f e = refl
-  and_looked (Some r) (Some s) v f e = none_some s (sym e)
+  and-looked None b v f e = refl
+  and-looked (Some r) None v f e = refl
+  and-looked (Some r) (Some s) v f e = none-some s (sym e)
 
   -- a look behind equal maps
-  then_equal : (f g : List K → Option V) → ((k : List K) → f k ≡ g k) → (a : Option (List K))
+  then-equal : (f g : List K → Option V) → ((k : List K) → f k ≡ g k) → (a : Option (List K))
       → option_and_then f a ≡ option_and_then g a
-  then_equal f g e None = refl
-  then_equal f g e (Some r) = e r
+  then-equal f g e None = refl
+  then-equal f g e (Some r) = e r
 
   -- none behind a map that has none
-  then_none : (f : List K → Option V) → ((k : List K) → f k ≡ None) → (a : Option (List K)) → option_and_then f a ≡ None
-  then_none f e None = refl
-  then_none f e (Some r) = e r
+  then-none : (f : List K → Option V) → ((k : List K) → f k ≡ None) → (a : Option (List K)) → option_and_then f a ≡ None
+  then-none f e None = refl
+  then-none f e (Some r) = e r
 
   module _ (cmp : K → K → Ordering) where
     -- inside a prefix
-    and_then_left : (m : List K) (a : Option (List K)) (v : Option V) (f : List K → Option V)
+    and-then_left : (m : List K) (a : Option (List K)) (v : Option V) (f : List K → Option V)
         → option_and a (node_lookup v f (then_behind cmp m a)) ≡ node_lookup v f (then_behind cmp m a)
-    and_then_left m None v f = refl
-    and_then_left m (Some r) v f = refl
+    and-then_left m None v f = refl
+    and-then_left m (Some r) v f = refl
 
     -- further behind, what is below a node
-    and_below : (x : K) (l : List K) (a : Option (List K)) (v : Option V) (f : List K → Option V)
+    and-below : (x : K) (l : List K) (a : Option (List K)) (v : Option V) (f : List K → Option V)
         → option_and (then_behind cmp (x ∷ l) a) (node_lookup v f a) ≡ option_and_then (under cmp f (x ∷ l)) a
-    and_below x l None v f = refl
-    and_below x l (Some []) v f = refl
-    and_below x l (Some (y ∷ r)) v f = refl
+    and-below x l None v f = refl
+    and-below x l (Some []) v f = refl
+    and-below x l (Some (y ∷ r)) v f = refl
 
     module _ (o : IsTotalOrder cmp) where
       -- where the prefix ends in that of a node, all of its keys are under it
-      under_inside : (t : Tree K V) (r m k : List K) → behind cmp r t.prefix ≡ Some m
+      under-inside : (t : Tree K V) (r m k : List K) → behind cmp r t.prefix ≡ Some m
           → under cmp (lookup cmp t) r k ≡ lookup cmp t k
-      under_inside t r m k e =
+      under-inside t r m k e =
           let at = node_lookup t.value (lookup_in cmp t.children) in
-          let parts = behind_parts cmp o r t.prefix m k e in
+          let parts = behind-parts cmp o r t.prefix m k e in
           ap (λ b. option_and (behind cmp r k) (at b)) parts
-          ∙ and_then_left m (behind cmp r k) t.value (lookup_in cmp t.children)
+          ∙ and-then_left m (behind cmp r k) t.value (lookup_in cmp t.children)
           ∙ ap at (sym parts)
 
       -- and where it ends behind it
-      under_ended : (t : Tree K V) (r k : List K) → behind cmp t.prefix r ≡ Some []
+      under-ended : (t : Tree K V) (r k : List K) → behind cmp t.prefix r ≡ Some []
           → under cmp (lookup cmp t) r k ≡ lookup cmp t k
-      under_ended t r k e =
-          let same = behind_parts cmp o t.prefix r [] k e ∙ then_ended cmp (behind cmp t.prefix k) in
+      under-ended t r k e =
+          let same = behind-parts cmp o t.prefix r [] k e ∙ then-ended cmp (behind cmp t.prefix k) in
           ap (λ a. option_and a (lookup cmp t k)) same
-          ∙ and_left (behind cmp t.prefix k) t.value (lookup_in cmp t.children)
+          ∙ and-left (behind cmp t.prefix k) t.value (lookup_in cmp t.children)
 
       -- where the two part, none is
-      under_parted : (order : Ordering) (t : Tree K V) (r k : List K) (n : ℕ) → PartsAt cmp order t.prefix r n
+      under-parted : (order : Ordering) (t : Tree K V) (r k : List K) (n : ℕ) → PartsAt cmp order t.prefix r n
           → is_eq order ≡ false → under cmp (lookup cmp t) r k ≡ None
-      under_parted order t r k n p h =
-          and_looked (behind cmp r k) (behind cmp t.prefix k) t.value (lookup_in cmp t.children)
+      under-parted order t r k n p h =
+          and-looked (behind cmp r k) (behind cmp t.prefix k) t.value (lookup_in cmp t.children)
           (apart cmp o t.prefix r k n p.old p.new p.old_at p.new_at (ap is_eq p.ordered ∙ h))
 
       -- where the prefix goes on behind that of a node, those below are
-      under_below : (t : Tree K V) (r : List K) (x : K) (l k : List K) → behind cmp t.prefix r ≡ Some (x ∷ l)
+      under-below : (t : Tree K V) (r : List K) (x : K) (l k : List K) → behind cmp t.prefix r ≡ Some (x ∷ l)
           → under cmp (lookup cmp t) r k ≡ prefixed cmp (under cmp (lookup_in cmp t.children) (x ∷ l)) t.prefix k
-      under_below t r x l k e =
-          ap (λ a. option_and a (lookup cmp t k)) (behind_parts cmp o t.prefix r (x ∷ l) k e)
-          ∙ and_below x l (behind cmp t.prefix k) t.value (lookup_in cmp t.children)
+      under-below t r x l k e =
+          ap (λ a. option_and a (lookup cmp t k)) (behind-parts cmp o t.prefix r (x ∷ l) k e)
+          ∙ and-below x l (behind cmp t.prefix k) t.value (lookup_in cmp t.children)
 
       -- under a test, equal values
-      and_where : (b : Bool) (a : Option (List K)) (v w : Option V) → (b ≡ true → v ≡ w)
+      and-where : (b : Bool) (a : Option (List K)) (v w : Option V) → (b ≡ true → v ≡ w)
           → option_and (cond b a None) v ≡ option_and (cond b a None) w
-      and_where true a v w h = ap (option_and a) (h refl)
-      and_where false a v w h = refl
+      and-where true a v w h = ap (option_and a) (h refl)
+      and-where false a v w h = refl
 
       -- of the keys that begin with a component, the children have those of one child
-      under_child : (f : Forest K V) (x : K) (t : Tree K V) (l k : List K) → IsFoundChild cmp f x t
+      under-child : (f : Forest K V) (x : K) (t : Tree K V) (l k : List K) → IsFoundChild cmp f x t
           → under cmp (lookup_in cmp f) (x ∷ l) k ≡ under cmp (lookup cmp t) (x ∷ l) k
-      under_child f x t l [] c = refl
-      under_child f x t l (y ∷ k) c =
-          and_where (is_eq (cmp x y)) (behind cmp l k) (lookup_in cmp f (y ∷ k)) (lookup cmp t (y ∷ k))
-          (λ h. sym (lookup_in_same cmp o f (x ∷ k) (y ∷ k) (same_first cmp o x y k h))
-          ∙ c.same k ∙ lookup_same cmp o t (x ∷ k) (y ∷ k) (same_first cmp o x y k h))
+      under-child f x t l [] c = refl
+      under-child f x t l (y ∷ k) c =
+          and-where (is_eq (cmp x y)) (behind cmp l k) (lookup_in cmp f (y ∷ k)) (lookup cmp t (y ∷ k))
+          (λ h. sym (lookup_in-same cmp o f (x ∷ k) (y ∷ k) (same-first cmp o x y k h))
+          ∙ c.same k ∙ lookup-same cmp o t (x ∷ k) (y ∷ k) (same-first cmp o x y k h))
 
       -- or none
-      under_childless : (f : Forest K V) (x : K) (l k : List K) → IsNoChild cmp f x
+      under-childless : (f : Forest K V) (x : K) (l k : List K) → IsNoChild cmp f x
           → under cmp (lookup_in cmp f) (x ∷ l) k ≡ None
-      under_childless f x l [] c = refl
-      under_childless f x l (y ∷ k) c =
-          and_where (is_eq (cmp x y)) (behind cmp l k) (lookup_in cmp f (y ∷ k)) None
-          (λ h. sym (lookup_in_same cmp o f (x ∷ k) (y ∷ k) (same_first cmp o x y k h)) ∙ c k)
-          ∙ and_none (cond (is_eq (cmp x y)) (behind cmp l k) None)
+      under-childless f x l [] c = refl
+      under-childless f x l (y ∷ k) c =
+          and-where (is_eq (cmp x y)) (behind cmp l k) (lookup_in cmp f (y ∷ k)) None
+          (λ h. sym (lookup_in-same cmp o f (x ∷ k) (y ∷ k) (same-first cmp o x y k h)) ∙ c k)
+          ∙ and-none (cond (is_eq (cmp x y)) (behind cmp l k) None)
 
       -- one prefix before another before the keys of a map, the second spelled in another way
-      then_twice : (f : List K → Option V) (q p : List K) → same_key cmp q p ≡ true → (a : Option (List K))
+      then-twice : (f : List K → Option V) (q p : List K) → same_key cmp q p ≡ true → (a : Option (List K))
           → option_and_then (prefixed cmp f q) a ≡ option_and_then f (then_behind cmp p a)
-      then_twice f q p h None = refl
-      then_twice f q p h (Some r) = ap (option_and_then f) (behind_same cmp o q p r h)
+      then-twice f q p h None = refl
+      then-twice f q p h (Some r) = ap (option_and_then f) (behind-same cmp o q p r h)
 
       -- the keys of the root that start with the prefix are those of the node that start with the rest, with the front before them
       pub record IsPart (root : Tree K V) (prefix : List K) (node : Tree K V) (front rest : List K) : Type 0 where
         pub same : (k : List K) → under cmp (lookup cmp root) prefix k ≡ prefixed cmp (under cmp (lookup cmp node) rest) front k
 
       -- the root is one
-      pub part_start : (root : Tree K V) (prefix : List K) → IsPart root prefix root [] prefix
-      part_start root prefix = record { same = λ k. refl }
+      pub part-start : (root : Tree K V) (prefix : List K) → IsPart root prefix root [] prefix
+      part-start root prefix = record { same = λ k. refl }
 
       module _ (root : Tree K V) (prefix : List K) (t : Tree K V) (front rest : List K) (p : IsPart root prefix t front rest) where
         -- a node of which all keys are under the rest
-        walk_node : IsCanonical cmp t → ((k : List K) → under cmp (lookup cmp t) rest k ≡ lookup cmp t k)
+        walk-node : IsCanonical cmp t → ((k : List K) → under cmp (lookup cmp t) rest k ≡ lookup cmp t k)
             → IsWalk cmp (under cmp (lookup cmp root) prefix) (map (prepended front) (walk t))
-        walk_node c e =
+        walk-node c e =
             is_walk-equal cmp (prefixed cmp (lookup cmp t) front) (under cmp (lookup cmp root) prefix) _
-            (λ k. p.same k ∙ then_equal (under cmp (lookup cmp t) rest) (lookup cmp t) e (behind cmp front k))
-            (walk_prefixed cmp o (lookup cmp t) (walk t) front (walk_is cmp o t (children_ordered cmp t.children c.1)))
+            (λ k. p.same k ∙ then-equal (under cmp (lookup cmp t) rest) (lookup cmp t) e (behind cmp front k))
+            (walk-prefixed cmp o (lookup cmp t) (walk t) front (walk-is cmp o t (children-ordered cmp t.children c.1)))
 
         -- a node of which no key is
-        walk_none : ((k : List K) → under cmp (lookup cmp t) rest k ≡ None)
+        walk-none : ((k : List K) → under cmp (lookup cmp t) rest k ≡ None)
             → IsWalk cmp (under cmp (lookup cmp root) prefix) []
         unfolding IsStrictlySortedBy
-        walk_none e = record {
+        walk-none e = record {
           ascends = tt;
           lists = λ k v. (
             λ h. absurd h,
-            λ h. none_some v (sym (p.same k ∙ then_none (under cmp (lookup cmp t) rest) e (behind cmp front k)) ∙ h),
+            λ h. none-some v (sym (p.same k ∙ then-none (under cmp (lookup cmp t) rest) e (behind cmp front k)) ∙ h),
           );
         }
 
         -- the prefix ends in that of the node
-        pub walk_inside : (n : ℕ) (q : List K) → q ≡ t.prefix → IsCanonical cmp t → Agree cmp q rest n → n ≡ length rest
+        pub walk-inside : (n : ℕ) (q : List K) → q ≡ t.prefix → IsCanonical cmp t → Agree cmp q rest n → n ≡ length rest
             → IsWalk cmp (under cmp (lookup cmp root) prefix) (map (prepended front) (walk t))
-        walk_inside n q e c a h = walk_node c (λ k. under_inside t rest _ k (left_whole cmp rest t.prefix agree))
+        walk-inside n q e c a h = walk-node c (λ k. under-inside t rest _ k (left-whole cmp rest t.prefix agree))
           where
             agree : same_key cmp (take (length rest) rest) (take (length rest) t.prefix) ≡ true
             agree =
-                same_flip cmp o (take (length rest) rest) (take (length rest) t.prefix)
+                same-flip cmp o (take (length rest) rest) (take (length rest) t.prefix)
                 ∙ ap (λ m. same_key cmp (take m t.prefix) (take m rest)) (sym h) ∙ ap (λ l. same_key cmp (take n l) (take n rest)) (sym e) ∙ a.same
 
         -- the rest of the prefix behind that of the node
         left_of : (q : List K) → q ≡ t.prefix → Agree cmp q rest (length q)
             → behind cmp t.prefix rest ≡ Some (drop (length q) rest)
-        left_of q e a = ap (λ l. behind cmp l rest) (sym e) ∙ left_whole cmp q rest a.same
+        left_of q e a = ap (λ l. behind cmp l rest) (sym e) ∙ left-whole cmp q rest a.same
 
         -- the prefix ends behind that of the node
-        pub walk_ended : (q : List K) → q ≡ t.prefix → IsCanonical cmp t → Agree cmp q rest (length q)
+        pub walk-ended : (q : List K) → q ≡ t.prefix → IsCanonical cmp t → Agree cmp q rest (length q)
             → drop (length q) rest ≡ [] → IsWalk cmp (under cmp (lookup cmp root) prefix) (map (prepended front) (walk t))
-        walk_ended q e c a h = walk_node c (λ k. under_ended t rest k (left_of q e a ∙ ap Some h))
+        walk-ended q e c a h = walk-node c (λ k. under-ended t rest k (left_of q e a ∙ ap Some h))
 
         -- the two part
-        walk_parted : (order : Ordering) (q : List K) (n : ℕ) → q ≡ t.prefix → PartsAt cmp order q rest n
+        walk-parted : (order : Ordering) (q : List K) (n : ℕ) → q ≡ t.prefix → PartsAt cmp order q rest n
             → is_eq order ≡ false → IsWalk cmp (under cmp (lookup cmp root) prefix) []
-        walk_parted order q n e a h =
-            walk_none (λ k. under_parted order t rest k n (subst (λ l. PartsAt cmp order l rest n) e a) h)
+        walk-parted order q n e a h =
+            walk-none (λ k. under-parted order t rest k n (subst (λ l. PartsAt cmp order l rest n) e a) h)
 
         -- no child is where the rest leads
-        pub walk_childless : (q : List K) (x : K) (l : List K) → q ≡ t.prefix → Agree cmp q rest (length q)
+        pub walk-childless : (q : List K) (x : K) (l : List K) → q ≡ t.prefix → Agree cmp q rest (length q)
             → drop (length q) rest ≡ x ∷ l → IsNoChild cmp t.children x
             → IsWalk cmp (under cmp (lookup cmp root) prefix) []
-        walk_childless q x l e a h c =
-            walk_none
-            (λ k. under_below t rest x l k (left_of q e a ∙ ap Some h)
-            ∙ then_none (under cmp (lookup_in cmp t.children) (x ∷ l)) (λ j. under_childless t.children x l j c)
+        walk-childless q x l e a h c =
+            walk-none
+            (λ k. under-below t rest x l k (left_of q e a ∙ ap Some h)
+            ∙ then-none (under cmp (lookup_in cmp t.children) (x ∷ l)) (λ j. under-childless t.children x l j c)
             (behind cmp t.prefix k))
 
         -- the two part, whichever goes on with the lesser component
-        pub walk_default : (q : List K) (parting : Parting) → q ≡ t.prefix → IsParting cmp q rest parting
+        pub walk-default : (q : List K) (parting : Parting) → q ≡ t.prefix → IsParting cmp q rest parting
             → parting ≢ Behind → ((n : ℕ) → parting ≢ Inside n) → IsWalk cmp (under cmp (lookup cmp root) prefix) []
-        walk_default q Behind e a h i = absurd (h refl)
-        walk_default q (Inside n) e a h i = absurd (i n refl)
-        walk_default q (Lower n) e a h i = walk_parted Less q n e a refl
-        walk_default q (Higher n) e a h i = walk_parted Greater q n e a refl
+        walk-default q Behind e a h i = absurd (h refl)
+        walk-default q (Inside n) e a h i = absurd (i n refl)
+        walk-default q (Lower n) e a h i = walk-parted Less q n e a refl
+        walk-default q (Higher n) e a h i = walk-parted Greater q n e a refl
 
         -- the same node with its front and rest as slices
-        pub part_split : (a b : List K) → a ≡ front → b ≡ rest → IsPart root prefix t a b
-        part_split a b e h = record { same = λ k. p.same k ∙ ap (λ r. prefixed cmp (under cmp (lookup cmp t) r) front k) (sym h) ∙ ap (λ f. prefixed cmp (under cmp (lookup cmp t) b) f k) (sym e) }
+        pub part-split : (a b : List K) → a ≡ front → b ≡ rest → IsPart root prefix t a b
+        part-split a b e h = record { same = λ k. p.same k ∙ ap (λ r. prefixed cmp (under cmp (lookup cmp t) r) front k) (sym h) ∙ ap (λ f. prefixed cmp (under cmp (lookup cmp t) b) f k) (sym e) }
 
         -- the child where the rest leads
-        pub part_next : (q left : List K) (x : K) (l : List K) (child : Tree K V) → q ≡ t.prefix
+        pub part-next : (q left : List K) (x : K) (l : List K) (child : Tree K V) → q ≡ t.prefix
             → Agree cmp q rest (length q) → left ≡ drop (length q) rest → left ≡ x ∷ l
             → IsFoundChild cmp t.children x child → IsPart root prefix child (front ++ take (length q) rest) left
-        part_next q left x l child e a d h c = record { same = by }
+        part-next q left x l child e a d h c = record { same = by }
           where
             spelled : same_key cmp t.prefix (take (length q) rest) ≡ true
             spelled =
@@ -314,12 +314,12 @@ module _ {K V : Type 0} where
                 ≡ prefixed cmp (under cmp (lookup cmp child) left) (front ++ take (length q) rest) k
             by k =
                 p.same k
-                ∙ then_equal (under cmp (lookup cmp t) rest) (prefixed cmp (under cmp (lookup cmp child) (x ∷ l)) t.prefix)
-                (λ j. under_below t rest x l j (left_of q e a ∙ ap Some (sym d ∙ h))
-                ∙ then_equal (under cmp (lookup_in cmp t.children) (x ∷ l)) (under cmp (lookup cmp child) (x ∷ l))
-                (λ s. under_child t.children x child l s c) (behind cmp t.prefix j))
+                ∙ then-equal (under cmp (lookup cmp t) rest) (prefixed cmp (under cmp (lookup cmp child) (x ∷ l)) t.prefix)
+                (λ j. under-below t rest x l j (left_of q e a ∙ ap Some (sym d ∙ h))
+                ∙ then-equal (under cmp (lookup_in cmp t.children) (x ∷ l)) (under cmp (lookup cmp child) (x ∷ l))
+                (λ s. under-child t.children x child l s c) (behind cmp t.prefix j))
                 (behind cmp front k)
-                ∙ then_twice (under cmp (lookup cmp child) (x ∷ l)) t.prefix (take (length q) rest) spelled (behind cmp front k)
+                ∙ then-twice (under cmp (lookup cmp child) (x ∷ l)) t.prefix (take (length q) rest) spelled (behind cmp front k)
                 ∙ ap (option_and_then (under cmp (lookup cmp child) (x ∷ l)))
                 (sym (behind-append cmp front (take (length q) rest) k))
                 ∙ ap (λ m. prefixed cmp (under cmp (lookup cmp child) m) (front ++ take (length q) rest) k) (sym h)

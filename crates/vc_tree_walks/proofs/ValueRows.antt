@@ -1,6 +1,6 @@
 -- What a step to a tree does to the values that are left.
---     first_value        the values of a row are those of its first tree, and then the others
---     entered_values        a step to a tree with children, with rows as the iterator stores them
+--     first-value        the values of a row are those of its first tree, and then the others
+--     entered-values        a step to a tree with children, with rows as the iterator stores them
 use Rattle.std.proofs.Common.{◌≡◌, List, [], ◌∷◌, ◌++◌, map, Option, None, Some, refl, sym, ap, ◌∙◌, append_assoc}
 use Rattle.std.proofs.lemmas.List.{map-append, reverse-append}
 use Rattle.std.specs.Prelude.{reverse, ℕ}
@@ -22,35 +22,35 @@ module _ {K V : Type 0} where
   values-own (Some v) l = refl
 
   -- the values of a tree are its own, and then those of its children
-  pub tree_values : (p : List K) (v : Option V) (kids : Forest K V)
+  pub tree-values : (p : List K) (v : Option V) (kids : Forest K V)
       → map (λ b. b.1) (map (prepended p) (own_pair v ++ walk_in kids)) ≡ own_value v ++ map (λ b. b.1) (walk_in kids)
-  tree_values p v kids = values-prepended p (own_pair v ++ walk_in kids) ∙ values-own v (walk_in kids)
+  tree-values p v kids = values-prepended p (own_pair v ++ walk_in kids) ∙ values-own v (walk_in kids)
 
   -- the values of a row are those of its first tree, and then the others
-  pub first_value : (p : List K) (v : Option V) (kids others : Forest K V) (m : List V)
+  pub first-value : (p : List K) (v : Option V) (kids others : Forest K V) (m : List V)
       → map (λ b. b.1) (walk_in (grow p v kids others)) ++ m
       ≡ own_value v ++ (map (λ b. b.1) (walk_in kids) ++ (map (λ b. b.1) (walk_in others) ++ m))
-  first_value p v kids others m =
+  first-value p v kids others m =
       let value = λ (b : List K × V). b.1 in
       let here = map (prepended p) (own_pair v ++ walk_in kids) in
       ap (λ l. l ++ m) (map-append value here (walk_in others))
-      ∙ ap (λ l. (l ++ map value (walk_in others)) ++ m) (tree_values p v kids)
+      ∙ ap (λ l. (l ++ map value (walk_in others)) ++ m) (tree-values p v kids)
       ∙ append_assoc (own_value v ++ map value (walk_in kids)) (map value (walk_in others)) m
       ∙ append_assoc (own_value v) (map value (walk_in kids)) (map value (walk_in others) ++ m)
 
 -- a step to a tree with children, with rows as the iterator stores them
-pub entered_values : {K V T : Type 0} (tree : T → Tree K V) (t : T) (row kids beside below : Bor (List T))
+pub entered-values : {K V T : Type 0} (tree : T → Tree K V) (t : T) (row kids beside below : Bor (List T))
     → (rows above : List (Bor (List T))) → seen tree kids.now ≡ (tree t).children → beside ≡ row → below ≡ kids
     → above ≡ rows ++ beside ∷ []
     → rows_values ((grow (tree t).prefix (tree t).value (tree t).children (seen tree row.now), 0) ∷ map (λ r. (seen tree r.now, 0)) (reverse rows))
     ≡ own_value (tree t).value ++ rows_values (rows_of tree below.now above)
-entered_values {K = K} {V = V} {T = T} tree t row kids beside below rows above ek eb ew ea =
+entered-values {K = K} {V = V} {T = T} tree t row kids beside below rows above ek eb ew ea =
     let v = (tree t).value in
     let others = seen tree row.now in
     let row_of : Bor (List T) → Forest K V × ℕ = λ r. (seen tree r.now, 0) in
     let outer = map row_of (reverse rows) in
     let back : reverse above ≡ row ∷ reverse rows =
     ap reverse ea ∙ reverse-append rows (beside ∷ []) ∙ ap (λ r. r ∷ reverse rows) eb in
-    first_value (tree t).prefix v (tree t).children others (rows_values outer)
+    first-value (tree t).prefix v (tree t).children others (rows_values outer)
     ∙ (λ i. own_value v ++ rows_values ((sym ek i, 0) ∷ (others, 0) ∷ outer))
     ∙ (λ i. own_value v ++ rows_values (row_of (sym ew i) ∷ map row_of (sym back i)))

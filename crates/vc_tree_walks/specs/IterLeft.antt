@@ -1,9 +1,4 @@
 -- What is left of the pairs of a tree.
---     pairs_from tree start        the pairs of a tree, with what stands before its keys
---     pairs_left tree s        the pairs that are left of an iterator
---     work_left tree s        how many steps it takes at most
---     IsItem key v turn        the item of a node, if it has a value
---     IsTurn tree s turn t        what one step found, and what is left after it
 use Rattle.std.specs.Prelude.{◌≡◌, ℕ, ◌*◌, ◌<◌, List, [], ◌∷◌, map, reverse, Option, Some, None}
 use Rattle.std.specs.Borrow.{Bor}
 use Rattle.vc_tree_model.specs.Tree.{Tree, Forest, grow, nodes}

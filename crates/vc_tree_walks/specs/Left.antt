@@ -1,8 +1,4 @@
 -- What is left of a walk.
---     Walks view rest s r t        a step of an iterator that lists `rest`
---     pair_at key v        the pair of a key and its value, if there is one
---     rows_left key rows        the pairs of rows of trees
---     rows_work rows        how many steps a walk over them takes at most
 use Rattle.std.specs.Prelude.{◌≡◌, ℕ, ◌+◌, ◌*◌, List, [], ◌∷◌, ◌++◌, take, map, Option, Some, None, Result, MatchOption, MatchResult}
 use Rattle.vc_tree_model.specs.Tree.{Forest, forest_nodes}
 use Rattle.vc_tree_model.specs.Walk.{prepended, walk_in}

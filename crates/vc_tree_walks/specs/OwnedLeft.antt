@@ -1,13 +1,4 @@
 -- What is left of the pairs of a tree that the iterator holds.
---     rows_at t path        the rows below the open nodes of a path that goes on from a node
---     opened t base        the place of a node that is opened
---     way_left root way, way_work root way        the pairs that are left of a tree on a way, and how many steps they take at most
---     held_left tree s        the pairs that are left of an iterator
---     held_work tree s        how many steps it takes at most
---     WalksClones is_clone rest s r t        a step of an iterator that lists `rest`, by clones of the values
---     IsReached root path node depth        where a path leads
---     IsItem is_clone key v turn        the item of a node, if it has a value
---     IsTurn tree is_clone s turn t        what one step found, and what is left after it
 use Rattle.std.specs.Prelude.{◌≡◌, ℕ, zero, suc, ◌+◌, ◌*◌, ◌<◌, List, [], ◌∷◌, ◌++◌, length, take, slice_index_or, Option, Some, None, if◌then◌else◌, Result, MatchOption, MatchResult}
 use Rattle.std.specs.Borrow.{Bor}
 use Rattle.vc_tree_model.specs.Tree.{Tree, Forest, bare, grow, node, nodes}

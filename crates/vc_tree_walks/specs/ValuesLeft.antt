@@ -1,10 +1,4 @@
 -- What is left of the values of a tree.
---     own_value v        a value as a list
---     rows_values rows        the values of rows of trees, the innermost first
---     values_left tree s        the values that are left of an iterator
---     values_work tree s        how many steps it takes at most
---     IsValue v turn        the item of a node, if it has a value
---     IsTurn tree s turn t        what one step found, and what is left after it
 use Rattle.std.specs.Prelude.{◌≡◌, ℕ, ◌*◌, ◌<◌, List, [], ◌∷◌, ◌++◌, map, reverse, Option, Some, None}
 use Rattle.std.specs.Borrow.{Bor}
 use Rattle.vc_tree_model.specs.Tree.{Tree, Forest, grow, nodes}

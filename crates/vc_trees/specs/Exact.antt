@@ -1,5 +1,4 @@
 -- Where clones are equal to their sources, a shared tree keeps its values as a plain one does.
---     copies-exact, kept-exact, inserted-exact, equal_maps-exact, snapshot-exact        what is kept, inserted or cloned is so exactly
 use Rattle.std.specs.Prelude.{◌≡◌, List, Option, Some, None, refl}
 use Rattle.std.specs.declared.cmp.Ordering.{Ordering}
 use Rattle.std.proofs.Common.{sym, ap, ◌∙◌}

@@ -1,5 +1,4 @@
 -- Where clones are equal to their sources, a shared tree keeps its values as a plain one does.
---     copies-exact, kept-exact, inserted-exact, equal_maps-exact, snapshot-exact        what is kept, inserted or cloned is so exactly
 pub use Rattle.vc_trees.specs.Exact.{copies-exact, kept-exact, inserted-exact, equal_maps-exact, snapshot-exact}
 
 -- what calls cite where clones are exact

@@ -57,12 +57,12 @@ keys-none None = refl
 keys-none (Some ks) = refl
 
 -- the empty tree has no keys
-no_keys : (V : Type 0) (k : List ℕ) → is_some (lookup nat_cmp (no_tree {V = V}) k) ≡ false
-no_keys V [] = refl
-no_keys V (x ∷ k) = refl
+no-keys : (V : Type 0) (k : List ℕ) → is_some (lookup nat_cmp (no_tree {V = V}) k) ≡ false
+no-keys V [] = refl
+no-keys V (x ∷ k) = refl
 
 pub HasKeys-empty : {V : Type 0} (t : Tree ℕ V) → t ≡ no_tree → HasKeys [] t
-HasKeys-empty {V} t is = subst (λ u. HasKeys [] u) (sym is) (record { canonical = (tt, tt); binds = no_keys V })
+HasKeys-empty {V} t is = subst (λ u. HasKeys [] u) (sym is) (record { canonical = (tt, tt); binds = no-keys V })
 
 -- the keys of the parts that are left, where one more was read
 pub keys-read : (done : List (List ℕ)) (part key : List ℕ) (parts : List (List ℕ)) → key_in part ≡ Some key

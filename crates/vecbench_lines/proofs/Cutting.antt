@@ -7,15 +7,15 @@ use Rattle.memchr.specs.Find.{NoneBefore, Passes}
 use Rattle.std.proofs.lemmas.List.Splits.{slice_split-cons_yes, slice_split-cons_no}
 
 -- a test that does not pass fails
-pub test_fails : (b : Bool) → ¬ (b ≡ true) → b ≡ false
-test_fails true h = absurd (h refl)
-test_fails false h = refl
+pub test-fails : (b : Bool) → ¬ (b ≡ true) → b ≡ false
+test-fails true h = absurd (h refl)
+test-fails false h = refl
 
 -- where no separator stands, the text is the one part
 pub slice_split-none : (test : ℕ → Bool) (xs : List ℕ) → ((k : ℕ) → 0 ≤ k → k < length xs → ¬ (test (slice_index xs k) ≡ true)) → slice_split test xs ≡ xs ∷ []
 slice_split-none test [] none = refl
 slice_split-none test (x ∷ xs) none =
-    slice_split-cons_no test x xs (test_fails (test x) (none 0 (omega arith) (omega arith))) ∙
+    slice_split-cons_no test x xs (test-fails (test x) (none 0 (omega arith) (omega arith))) ∙
     ap (λ parts. onto_first x parts) (slice_split-none test xs (λ k low high. none (suc k) (omega arith) (omega arith)))
 
 -- the first part ends at the first separator
@@ -24,7 +24,7 @@ pub slice_split-first : (test : ℕ → Bool) (xs : List ℕ) (k : ℕ) → k < 
 slice_split-first test [] k high none at = absurd (omega (arith, high))
 slice_split-first test (x ∷ xs) zero high none at = slice_split-cons_yes test x xs at
 slice_split-first test (x ∷ xs) (suc k) high none at =
-    slice_split-cons_no test x xs (test_fails (test x) (none 0 (omega arith) (omega arith))) ∙
+    slice_split-cons_no test x xs (test-fails (test x) (none 0 (omega arith) (omega arith))) ∙
     ap (λ parts. onto_first x parts) (slice_split-first test xs k (omega arith) (λ j low below. none (suc j) (omega arith) (omega arith)) at)
 
 -- the same of what the search for a separator answers

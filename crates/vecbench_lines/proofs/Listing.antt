@@ -28,15 +28,15 @@ has_key l key = list_any (λ k. same_key nat_cmp k key) (keys_of l)
 
 module _ {V : Type 0} where
   -- a key that is listed with a value is in the list
-  listed_has : (l : List (List ℕ × V)) (key : List ℕ) (v : V) → Lists nat_cmp l key v → has_key l key ≡ true
-  listed_has [] key v h = absurd h
-  listed_has (b ∷ l) key v (inl h) = ap (λ same. same || has_key l key) h.0
-  listed_has (b ∷ l) key v (inr h) = ap (λ has. same_key nat_cmp b.0 key || has) (listed_has l key v h) ∙ or-true (same_key nat_cmp b.0 key)
+  listed-has : (l : List (List ℕ × V)) (key : List ℕ) (v : V) → Lists nat_cmp l key v → has_key l key ≡ true
+  listed-has [] key v h = absurd h
+  listed-has (b ∷ l) key v (inl h) = ap (λ same. same || has_key l key) h.0
+  listed-has (b ∷ l) key v (inr h) = ap (λ has. same_key nat_cmp b.0 key || has) (listed-has l key v h) ∙ or-true (same_key nat_cmp b.0 key)
 
   -- a key of the list is listed with a value
-  has_listed : (l : List (List ℕ × V)) (key : List ℕ) → has_key l key ≡ true → (v : V) × Lists nat_cmp l key v
-  has_listed [] key h = absurd (true≢false (sym h))
-  has_listed (b ∷ l) key h = by (same_key nat_cmp b.0 key) refl h (has_listed l key)
+  has-listed : (l : List (List ℕ × V)) (key : List ℕ) → has_key l key ≡ true → (v : V) × Lists nat_cmp l key v
+  has-listed [] key h = absurd (true≢false (sym h))
+  has-listed (b ∷ l) key h = by (same_key nat_cmp b.0 key) refl h (has-listed l key)
     where
       by : (same : Bool) → same_key nat_cmp b.0 key ≡ same → (same || has_key l key) ≡ true
           → (has_key l key ≡ true → (v : V) × Lists nat_cmp l key v) → (v : V) × Lists nat_cmp (b ∷ l) key v
@@ -44,17 +44,17 @@ module _ {V : Type 0} where
       by false e h behind = let more = behind h in (more.0, inr more.1)
 
   -- the list has the keys that the map binds
-  has_bound : (f : List ℕ → Option V) (l : List (List ℕ × V)) → IsWalk nat_cmp f l → (key : List ℕ) → has_key l key ≡ is_some (f key)
-  has_bound f l walk key = by (f key) refl (has_key l key) refl
+  has-bound : (f : List ℕ → Option V) (l : List (List ℕ × V)) → IsWalk nat_cmp f l → (key : List ℕ) → has_key l key ≡ is_some (f key)
+  has-bound f l walk key = by (f key) refl (has_key l key) refl
     where
       by : (o : Option V) → f key ≡ o → (has : Bool) → has_key l key ≡ has → has_key l key ≡ is_some (f key)
-      by (Some v) e has h = listed_has l key v ((walk.lists key v).1 e) ∙ sym (ap is_some e)
+      by (Some v) e has h = listed-has l key v ((walk.lists key v).1 e) ∙ sym (ap is_some e)
       by None e false h = h ∙ sym (ap is_some e)
-      by None e true h = let more = has_listed l key h in absurd (none-some more.0 (sym e ∙ (walk.lists key more.0).0 more.1))
+      by None e true h = let more = has-listed l key h in absurd (none-some more.0 (sym e ∙ (walk.lists key more.0).0 more.1))
 
   -- the keys of a walk are those that the map binds
   pub keys-walked : (f : List ℕ → Option V) (l : List (List ℕ × V)) → IsWalk nat_cmp f l → AreKeys (λ key. is_some (f key)) (keys_of l)
-  keys-walked f l walk = record { ascend = walk.ascends; members = has_bound f l walk }
+  keys-walked f l walk = record { ascend = walk.ascends; members = has-bound f l walk }
 
 -- the keys of a walk are listed by their text
 pub walk-listed : {V : Type 0} (f : List ℕ → Option V) (l : List (List ℕ × V)) → IsWalk nat_cmp f l → ListsKeys (λ key. is_some (f key)) (keys_text (keys_of l))

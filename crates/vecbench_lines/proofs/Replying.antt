@@ -61,6 +61,6 @@ pub on_ok-map : {E P Q : Type 0} (r : Result (Unit {0}) E) → (P → Q) → OnO
 on_ok-map (Ok _) f p = f p
 on_ok-map (Err _) f p = p
 
-pub on_ok : {E P : Type 0} (r : Result (Unit {0}) E) → P → OnOk r P
-on_ok (Ok _) p = p
-on_ok (Err _) p = tt
+pub on-ok : {E P : Type 0} (r : Result (Unit {0}) E) → P → OnOk r P
+on-ok (Ok _) p = p
+on-ok (Err _) p = tt

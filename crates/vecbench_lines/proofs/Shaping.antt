@@ -23,19 +23,19 @@ pieces-written r old keyed marked opened begun done new prefix mark first others
 
 module _ {X V : Type 0} (tree : X → Tree ℕ V) where
   -- no tree of a list has more nodes than the list
-  item_nodes : (xs : List X) (i : ℕ) (x : X) → i < length xs → x ≡ get_or xs i x → nodes (tree x) ≤ forest_nodes (seen tree xs)
-  item_nodes [] i x within is = absurd (omega (arith, within))
-  item_nodes (y ∷ ys) zero x within is = let same : nodes (tree x) ≡ nodes (tree y) = ap (λ z. nodes (tree z)) is in omega (arith, same)
-  item_nodes (y ∷ ys) (suc i) x within is =
-      let below : nodes (tree x) ≤ forest_nodes (seen tree ys) = item_nodes ys i x (omega (arith, within)) is in omega (arith, below)
+  item-nodes : (xs : List X) (i : ℕ) (x : X) → i < length xs → x ≡ get_or xs i x → nodes (tree x) ≤ forest_nodes (seen tree xs)
+  item-nodes [] i x within is = absurd (omega (arith, within))
+  item-nodes (y ∷ ys) zero x within is = let same : nodes (tree x) ≡ nodes (tree y) = ap (λ z. nodes (tree z)) is in omega (arith, same)
+  item-nodes (y ∷ ys) (suc i) x within is =
+      let below : nodes (tree x) ≤ forest_nodes (seen tree ys) = item-nodes ys i x (omega (arith, within)) is in omega (arith, below)
 
   -- a child behind the first one has fewer nodes than the tree
-  pub child_falls : (xs : List X) (t : Tree ℕ V) (i : ℕ) (x : X) → seen tree xs ≡ t.children → i < length (take (length xs - 1) (drop 1 xs))
+  pub child-falls : (xs : List X) (t : Tree ℕ V) (i : ℕ) (x : X) → seen tree xs ≡ t.children → i < length (take (length xs - 1) (drop 1 xs))
       → x ≡ get_or (take (length xs - 1) (drop 1 xs)) i x → nodes (tree x) < nodes t
-  child_falls [] t i x kids within is = absurd (omega (arith, within))
-  child_falls (y ∷ ys) t i x kids within is =
+  child-falls [] t i x kids within is = absurd (omega (arith, within))
+  child-falls (y ∷ ys) t i x kids within is =
       let others : take (length (y ∷ ys) - 1) (drop 1 (y ∷ ys)) ≡ ys = take-drop_rest 1 (y ∷ ys) in
-      let below : nodes (tree x) ≤ forest_nodes (seen tree ys) = item_nodes ys i x (subst (λ l. i < length l) others within) (subst (λ l. x ≡ get_or l i x) others is) in
+      let below : nodes (tree x) ≤ forest_nodes (seen tree ys) = item-nodes ys i x (subst (λ l. i < length l) others within) (subst (λ l. x ≡ get_or l i x) others is) in
       let whole : forest_nodes (seen tree (y ∷ ys)) ≡ forest_nodes t.children = ap forest_nodes kids in
       omega (arith, below, whole)
 

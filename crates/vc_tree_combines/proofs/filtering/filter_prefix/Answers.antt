@@ -5,12 +5,12 @@ use Rattle.vc_tree_model.specs.Under.{under}
 use Rattle.vc_tree_model.specs.Value.{Copies}
 use Rattle.vc_tree_model.specs.Walk.{IsWalk}
 use Rattle.vc_tree_walks.specs.IterLeft.{pairs_from}
-use Rattle.vc_tree_combines.proofs.Filtered.{filtered_none, filtered_bare, filtered, copy_solid}
+use Rattle.vc_tree_combines.proofs.Filtered.{filtered-none, filtered-bare, filtered, copy-solid}
 use Rattle.vc_tree_combines.proofs.filtering.filter_prefix.Goals as goal
 
 pub returns-in_default : goal.returns-in_default
 returns-in_default g c =
-    filtered_none g.K.Ord.cmp g.met.K.Ord.total (Copies g.V.Clone.is_clone)
+    filtered-none g.K.Ord.cmp g.met.K.Ord.total (Copies g.V.Clone.is_clone)
     (lookup g.K.Ord.cmp (g.T.RadixNode.tree c.args.tree.now)) c.args.prefix.now (g.T.RadixNode.tree c.blank.result)
     c.blank.ensures
     (subst (λ r. IsWalk g.K.Ord.cmp (under g.K.Ord.cmp (lookup g.K.Ord.cmp (g.T.RadixNode.tree c.args.tree.now)) c.args.prefix.now) (pairs_from g.T.RadixNode.tree r))
@@ -18,7 +18,7 @@ returns-in_default g c =
 
 pub returns-then-is_empty : goal.returns-then-is_empty
 returns-then-is_empty g c =
-    filtered_bare g.K.Ord.cmp g.met.K.Ord.total (Copies g.V.Clone.is_clone)
+    filtered-bare g.K.Ord.cmp g.met.K.Ord.total (Copies g.V.Clone.is_clone)
     (lookup g.K.Ord.cmp (g.T.RadixNode.tree c.args.tree.now)) c.args.prefix.now c.in-Some.front.now
     (g.T.RadixNode.tree c.in-Some.node.now) c.prefix.ensures.canonical
     (subst (λ r. IsWalk g.K.Ord.cmp (under g.K.Ord.cmp (lookup g.K.Ord.cmp (g.T.RadixNode.tree c.args.tree.now)) c.args.prefix.now) (pairs_from g.T.RadixNode.tree r))
@@ -36,6 +36,6 @@ returns g c =
 
 pub new_joined-requires : goal.new_joined-requires
 new_joined-requires g c =
-    copy_solid g.K.Ord.cmp g.met.K.Ord.total (Copies g.V.Clone.is_clone) (g.T.RadixNode.tree c.in-Some.node.now)
+    copy-solid g.K.Ord.cmp g.met.K.Ord.total (Copies g.V.Clone.is_clone) (g.T.RadixNode.tree c.in-Some.node.now)
     (g.T.RadixNode.tree c.in_ok-copy_tree.field-0) c.prefix.ensures.canonical (sym c.is_empty.ensures ∙ c.if-is_empty.false)
     c.in_ok-copy_tree.ensures

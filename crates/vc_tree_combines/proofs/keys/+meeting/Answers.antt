@@ -3,8 +3,8 @@ use Rattle.std.proofs.Common.{◌≡◌, ◌+◌, rules, arith, refl, ap, length
 use Rattle.vc_tree_model.specs.Tree.{forest_nodes}
 use Rattle.vc_tree_nodes.specs.Children.{seen}
 use Rattle.vc_tree_nodes.specs.Parting.{Agree}
-use Rattle.vc_tree_combines.proofs.Opening.{slice_from, found, found_in}
-use Rattle.vc_tree_combines.proofs.Testing.{parted_told, inside_told, inside_none, inside_agrees, behind_told, within_told, within_none, within_bare, both_told, some_at, before_end, meeting_told}
+use Rattle.vc_tree_combines.proofs.Opening.{slice-from, found, found_in}
+use Rattle.vc_tree_combines.proofs.Testing.{parted-told, inside-told, inside-none, inside-agrees, behind-told, within-told, within-none, within-bare, both-told, some-at, before-end, meeting-told}
 use Rattle.vc_tree_combines.proofs.keys.+meeting.Goals as goal
 
 pub keys_meet-keys_meet-requires : goal.keys_meet-keys_meet-requires
@@ -13,10 +13,10 @@ keys_meet-keys_meet-requires g t c κs within =
     let kids : forest_nodes (seen tree c.children.result.now) ≡ forest_nodes (tree c.args.b.now).children =
     ap forest_nodes c.children.ensures in
     let fewer = c.in-Some.ensures.child.smaller in
-    let p = ap length (slice_from _ _ _ c.args.i refl c.prefix.ensures.value) in
+    let p = ap length (slice-from _ _ _ c.args.i refl c.prefix.ensures.value) in
     let agree : Agree g.K.Ord.cmp (drop (c.args.i + c.in-Inside.n) (g.A.RadixNode.tree c.args.a.now).prefix) (tree c.in-Some.kid.now).prefix 1 =
-    inside_agrees g.K.Ord.cmp g.met.K.Ord.total c.args.shared (g.A.RadixNode.tree c.args.a.now) (tree c.args.b.now) c.args.i c.args.j _ _
-    (slice_from _ _ _ _ refl c.prefix.ensures.value) (slice_from _ _ _ _ refl c.prefix-2.ensures.value)
+    inside-agrees g.K.Ord.cmp g.met.K.Ord.total c.args.shared (g.A.RadixNode.tree c.args.a.now) (tree c.args.b.now) c.args.i c.args.j _ _
+    (slice-from _ _ _ _ refl c.prefix.ensures.value) (slice-from _ _ _ _ refl c.prefix-2.ensures.value)
     c.prefix.ensures.canonical c.in-Inside.n _ c.in-Inside.ensures.is
     (found _ c.in-Inside.n _ c.in-Inside.ensures.is.2 c.index-p-n.is) _ _ c.in-Some.ensures.child in
     search rules
@@ -26,29 +26,29 @@ keys_meet-keys_meet_behind-requires g t c κs within = search rules
 
 pub keys_meet-returns-in-Lower : goal.keys_meet-returns-in-Lower
 keys_meet-returns-in-Lower g t c =
-    parted_told g.K.Ord.cmp g.met.K.Ord.total c.args.shared (g.A.RadixNode.tree c.args.a.now) (g.B.RadixNode.tree c.args.b.now)
-    c.args.i c.args.j _ _ (slice_from _ _ _ _ refl c.prefix.ensures.value) (slice_from _ _ _ _ refl c.prefix-2.ensures.value)
+    parted-told g.K.Ord.cmp g.met.K.Ord.total c.args.shared (g.A.RadixNode.tree c.args.a.now) (g.B.RadixNode.tree c.args.b.now)
+    c.args.i c.args.j _ _ (slice-from _ _ _ _ refl c.prefix.ensures.value) (slice-from _ _ _ _ refl c.prefix-2.ensures.value)
     c.prefix.ensures.canonical _ c.find_parting.ensures.is c.in-Lower.is
 
 pub keys_meet-returns-in-Some : goal.keys_meet-returns-in-Some
 keys_meet-returns-in-Some g t c =
-    inside_told g.K.Ord.cmp g.met.K.Ord.total c.args.shared (g.A.RadixNode.tree c.args.a.now) (g.B.RadixNode.tree c.args.b.now)
-    c.args.i c.args.j _ _ (slice_from _ _ _ _ refl c.prefix.ensures.value) (slice_from _ _ _ _ refl c.prefix-2.ensures.value)
+    inside-told g.K.Ord.cmp g.met.K.Ord.total c.args.shared (g.A.RadixNode.tree c.args.a.now) (g.B.RadixNode.tree c.args.b.now)
+    c.args.i c.args.j _ _ (slice-from _ _ _ _ refl c.prefix.ensures.value) (slice-from _ _ _ _ refl c.prefix-2.ensures.value)
     c.prefix.ensures.canonical c.in-Inside.n _ c.in-Inside.ensures.is
     (found _ c.in-Inside.n _ c.in-Inside.ensures.is.2 c.index-p-n.is) _ _ _ c.children.ensures c.in-Some.ensures.child
     c.keys_meet.ensures
 
 pub keys_meet-returns-in-None : goal.keys_meet-returns-in-None
 keys_meet-returns-in-None g t c =
-    inside_none g.K.Ord.cmp g.met.K.Ord.total c.args.shared (g.A.RadixNode.tree c.args.a.now) (g.B.RadixNode.tree c.args.b.now)
-    c.args.i c.args.j _ _ (slice_from _ _ _ _ refl c.prefix.ensures.value) (slice_from _ _ _ _ refl c.prefix-2.ensures.value)
+    inside-none g.K.Ord.cmp g.met.K.Ord.total c.args.shared (g.A.RadixNode.tree c.args.a.now) (g.B.RadixNode.tree c.args.b.now)
+    c.args.i c.args.j _ _ (slice-from _ _ _ _ refl c.prefix.ensures.value) (slice-from _ _ _ _ refl c.prefix-2.ensures.value)
     c.prefix.ensures.canonical c.in-Inside.n _ c.in-Inside.ensures.is
     (found _ c.in-Inside.n _ c.in-Inside.ensures.is.2 c.index-p-n.is) _ c.children.ensures c.in-None.ensures.child
 
 pub keys_meet-returns-in-Behind : goal.keys_meet-returns-in-Behind
 keys_meet-returns-in-Behind g t c =
-    behind_told g.K.Ord.cmp g.met.K.Ord.total c.args.shared (g.A.RadixNode.tree c.args.a.now) (g.B.RadixNode.tree c.args.b.now)
-    c.args.i c.args.j _ _ (slice_from _ _ _ _ refl c.prefix.ensures.value) (slice_from _ _ _ _ refl c.prefix-2.ensures.value)
+    behind-told g.K.Ord.cmp g.met.K.Ord.total c.args.shared (g.A.RadixNode.tree c.args.a.now) (g.B.RadixNode.tree c.args.b.now)
+    c.args.i c.args.j _ _ (slice-from _ _ _ _ refl c.prefix.ensures.value) (slice-from _ _ _ _ refl c.prefix-2.ensures.value)
     c.prefix.ensures.canonical _ c.in-Behind.ensures.is c.keys_meet_behind.ensures
 
 pub keys_meet_below-loop-x-init : goal.keys_meet_below-loop-x-init
@@ -99,32 +99,32 @@ keys_meet_below-loop-x-preserved g t c =
       right = c.in-Meeting.ensures.right;
       left_nodes = omega (arith, left, lefts);
       right_nodes = omega (arith, right, rights);
-      tells = λ answer h. c.loop-x.invariant.tells answer (meeting_told _ _ _ _ _ _ _ _ _ _ c.in-Meeting.ensures c.if-not-keys_meet.ensures answer h);
+      tells = λ answer h. c.loop-x.invariant.tells answer (meeting-told _ _ _ _ _ _ _ _ _ _ c.in-Meeting.ensures c.if-not-keys_meet.ensures answer h);
     }
 
 pub keys_meet_behind-returns-then-values_meet : goal.keys_meet_behind-returns-then-values_meet
 keys_meet_behind-returns-then-values_meet g t c =
     let ends = ap length c.prefix-whole.ensures.value in
-    both_told g.K.Ord.cmp g.met.K.Ord.total (g.A.RadixNode.tree c.args.a.now) (g.B.RadixNode.tree c.args.b.now) c.args.n
+    both-told g.K.Ord.cmp g.met.K.Ord.total (g.A.RadixNode.tree c.args.a.now) (g.B.RadixNode.tree c.args.b.now) c.args.n
     c.args.shared _ _ _ _ _ (omega (arith, ends, c.if-n-whole.true)) c.children-kids.ensures c.children.ensures c.value.ensures
     c.value-then-n-whole.ensures c.if-values_meet.ensures c.keys_meet_below.ensures
 
 pub keys_meet_behind-returns-then-shared : goal.keys_meet_behind-returns-then-shared
 keys_meet_behind-returns-then-shared g t c =
-    let at = some_at _ _ c.args.n c.prefix-whole.ensures.value c.requires c.if-n-whole.false in
-    within_bare g.K.Ord.cmp g.met.K.Ord.total (g.A.RadixNode.tree c.args.a.now) (g.B.RadixNode.tree c.args.b.now) c.args.n at.0 at.1
+    let at = some-at _ _ c.args.n c.prefix-whole.ensures.value c.requires c.if-n-whole.false in
+    within-bare g.K.Ord.cmp g.met.K.Ord.total (g.A.RadixNode.tree c.args.a.now) (g.B.RadixNode.tree c.args.b.now) c.args.n at.0 at.1
     c.args.shared _ c.prefix.ensures.canonical c.if-shared.true c.is_empty.ensures
 
 pub keys_meet_behind-returns-in-Some : goal.keys_meet_behind-returns-in-Some
 keys_meet_behind-returns-in-Some g t c =
-    within_told g.K.Ord.cmp g.met.K.Ord.total (g.A.RadixNode.tree c.args.a.now) (g.B.RadixNode.tree c.args.b.now) c.args.n _
+    within-told g.K.Ord.cmp g.met.K.Ord.total (g.A.RadixNode.tree c.args.a.now) (g.B.RadixNode.tree c.args.b.now) c.args.n _
     (found_in _ _ _ _ c.prefix-whole.ensures.value
-    (before_end _ _ c.args.n c.prefix-whole.ensures.value c.requires c.if-n-whole.false) c.index-whole-n.is) c.args.shared _ _ _
+    (before-end _ _ c.args.n c.prefix-whole.ensures.value c.requires c.if-n-whole.false) c.index-whole-n.is) c.args.shared _ _ _
     c.if-shared.false c.children-kids.ensures c.in-Some.ensures.child c.keys_meet.ensures
 
 pub keys_meet_behind-returns-in-None : goal.keys_meet_behind-returns-in-None
 keys_meet_behind-returns-in-None g t c =
-    within_none g.K.Ord.cmp g.met.K.Ord.total (g.A.RadixNode.tree c.args.a.now) (g.B.RadixNode.tree c.args.b.now) c.args.n _
+    within-none g.K.Ord.cmp g.met.K.Ord.total (g.A.RadixNode.tree c.args.a.now) (g.B.RadixNode.tree c.args.b.now) c.args.n _
     (found_in _ _ _ _ c.prefix-whole.ensures.value
-    (before_end _ _ c.args.n c.prefix-whole.ensures.value c.requires c.if-n-whole.false) c.index-whole-n.is) c.args.shared _
+    (before-end _ _ c.args.n c.prefix-whole.ensures.value c.requires c.if-n-whole.false) c.index-whole-n.is) c.args.shared _
     c.if-shared.false c.children-kids.ensures c.in-None.ensures.child

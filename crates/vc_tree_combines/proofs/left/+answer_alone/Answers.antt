@@ -7,14 +7,14 @@ use Rattle.vc_tree_model.specs.Combine.{IsLeftAt}
 use Rattle.vc_tree_model.specs.Map.{lookup}
 use Rattle.vc_tree_model.specs.Tree.{nodes, forest_nodes, shortened}
 use Rattle.vc_tree_nodes.specs.Children.{seen}
-use Rattle.vc_tree_nodes.proofs.Finding.{child_nodes}
-use Rattle.vc_tree_combines.proofs.Opening.{slice_from}
-use Rattle.vc_tree_combines.proofs.AnsweredAlone.{value_alone, children_alone, made_none, made_next, alone_children, ok_made_alone, all_at, taken_next}
+use Rattle.vc_tree_nodes.proofs.Finding.{child-nodes}
+use Rattle.vc_tree_combines.proofs.Opening.{slice-from}
+use Rattle.vc_tree_combines.proofs.AnsweredAlone.{value-alone, children-alone, made-none, made-next, alone-children, ok-made_alone, all-at, taken-next}
 use Rattle.vc_tree_combines.proofs.left.+answer_alone.Goals as goal
 
 pub loop-child-init : goal.loop-child-init
 loop-child-init g t c =
-    made_none g.K.Ord.cmp g.met.K.Ord.total g.A.RadixNode.tree
+    made-none g.K.Ord.cmp g.met.K.Ord.total g.A.RadixNode.tree
     (IsLeftAt (λ v w z. MayAnswerAt {W = g.row.W.Denot} g.F.Fn c.args.answer.now v w (Ok z))) _
     (ap (map g.M.RadixNode.tree) c.in_ok-kids.ensures.items)
 
@@ -22,13 +22,13 @@ pub answer_alone-requires : goal.answer_alone-requires
 answer_alone-requires g t c κs within =
     let tree = g.A.RadixNode.tree in
     let fewer : nodes (tree c.child-item.result) ≤ forest_nodes (seen tree c.children-children.result.now) =
-    rw c.child-item.is (child_nodes g.K.Ord.cmp tree c.children-children.result.now c.loop-child.child-index c.child-item.result
+    rw c.child-item.is (child-nodes g.K.Ord.cmp tree c.children-children.result.now c.loop-child.child-index c.child-item.result
     c.loop-child-test.true) in
     let kids : forest_nodes (seen tree c.children-children.result.now) ≡ forest_nodes (tree c.args.tree.now).children =
     ap forest_nodes c.children-children.ensures in
     let asked : (k : List g.row.K.Denot) → CanAskAt {W = g.row.W.Denot} g.F.Fn c.args.answer.now (lookup g.K.Ord.cmp (tree c.child-item.result) k) None =
-    all_at _ _ _ _ c.loop-child-test.true c.child-item.is
-    (children_alone g.K.Ord.cmp g.met.K.Ord.total tree (CanAskAt g.F.Fn c.args.answer.now) tt
+    all-at _ _ _ _ c.loop-child-test.true c.child-item.is
+    (children-alone g.K.Ord.cmp g.met.K.Ord.total tree (CanAskAt g.F.Fn c.args.answer.now) tt
     (shortened c.args.from (tree c.args.tree.now)) c.requires.asks c.children-children.result.now c.children-children.ensures
     (subst (AreChildren g.K.Ord.cmp) (sym c.children-children.ensures) c.prefix.ensures.canonical.1)) in
     search rules
@@ -36,19 +36,19 @@ answer_alone-requires g t c κs within =
 pub answer_without-requires : goal.answer_without-requires
 answer_without-requires g t c =
     subst (λ v. CanAskAt {W = g.row.W.Denot} g.F.Fn c.args.answer.now v None) (sym c.value.ensures)
-    (value_alone g.K.Ord.cmp g.met.K.Ord.total g.A.RadixNode.tree (CanAskAt g.F.Fn c.args.answer.now) tt
+    (value-alone g.K.Ord.cmp g.met.K.Ord.total g.A.RadixNode.tree (CanAskAt g.F.Fn c.args.answer.now) tt
     (shortened c.args.from (g.A.RadixNode.tree c.args.tree.now)) c.requires.asks)
 
 pub loop-child-preserved : goal.loop-child-preserved
 loop-child-preserved g t c =
-    made_next g.K.Ord.cmp g.met.K.Ord.total g.A.RadixNode.tree
+    made-next g.K.Ord.cmp g.met.K.Ord.total g.A.RadixNode.tree
     (IsLeftAt (λ v w z. MayAnswerAt {W = g.row.W.Denot} g.F.Fn c.args.answer.now v w (Ok z))) _ _ _ _ _ _
-    (taken_next _ _ _ c.loop-child-test.true c.child-item.is) c.in_ok-keep.ensures c.loop-child.invariant
+    (taken-next _ _ _ c.loop-child-test.true c.child-item.is) c.in_ok-keep.ensures c.loop-child.invariant
     c.in_ok-answer_alone.ensures
 
 pub finish-requires : goal.finish-requires
 finish-requires g t c =
-    alone_children g.K.Ord.cmp g.met.K.Ord.total g.A.RadixNode.tree
+    alone-children g.K.Ord.cmp g.met.K.Ord.total g.A.RadixNode.tree
     (IsLeftAt (λ v w z. MayAnswerAt {W = g.row.W.Denot} g.F.Fn c.args.answer.now v w (Ok z))) refl
     (shortened c.args.from (g.A.RadixNode.tree c.args.tree.now)) c.children-children.result.now _ c.children-children.ensures
     (subst (AreChildren g.K.Ord.cmp) (sym c.children-children.ensures) c.prefix.ensures.canonical.1)
@@ -56,11 +56,11 @@ finish-requires g t c =
 
 pub returns : goal.returns
 returns g t c =
-    ok_made_alone g.K.Ord.cmp g.met.K.Ord.total g.A.RadixNode.tree
+    ok-made_alone g.K.Ord.cmp g.met.K.Ord.total g.A.RadixNode.tree
     (IsLeftAt (λ v w z. MayAnswerAt {W = g.row.W.Denot} g.F.Fn c.args.answer.now v w (Ok z))) refl
     (shortened c.args.from (g.A.RadixNode.tree c.args.tree.now)) c.children-children.result.now _ c.children-children.ensures
     (subst (AreChildren g.K.Ord.cmp) (sym c.children-children.ensures) c.prefix.ensures.canonical.1)
     (rw (take_all _ _ c.loop-child-test.false) at c.loop-child.invariant) g.M.RadixNode.tree c.in_ok-value.value _
     (subst (λ v. IsLeftAt (λ v w z. MayAnswerAt {W = g.row.W.Denot} g.F.Fn c.args.answer.now v w (Ok z)) v None c.in_ok-value.value) c.value.ensures
     c.in_ok-value.ensures)
-    (slice_from _ _ _ c.args.from refl c.prefix.ensures.value) c.finish.result c.finish.ensures
+    (slice-from _ _ _ c.args.from refl c.prefix.ensures.value) c.finish.result c.finish.ensures

@@ -4,11 +4,11 @@ use Rattle.std.proofs.lemmas.Iterator.Adapters.{YieldsList-from_vec}
 use Rattle.std.proofs.lemmas.Iterator.Consumers.{YieldsList-from_enumerate, YieldsList-turn, YieldsList-end}
 use Rattle.std.proofs.lemmas.List.FromFn.{length-enumerate_from, get_or-enumerate_from}
 use Rattle.vc_tree_model.specs.Map.{lookup}
-use Rattle.vc_tree_model.proofs.Uniqueness.{canonical_one}
-use Rattle.vc_tree_model.proofs.Smallness.{canonical_smallest}
+use Rattle.vc_tree_model.proofs.Uniqueness.{canonical-one}
+use Rattle.vc_tree_model.proofs.Smallness.{canonical-smallest}
 use Rattle.vc_tree_model.specs.Snapshot.{kept_itself}
 use Rattle.vc_tree_model.specs.Value.{Copies, itself}
-use Rattle.vc_tree_commands.proofs.Chaining.{stepped, leads_turn, leads_through}
+use Rattle.vc_tree_commands.proofs.Chaining.{stepped, leads-turn, leads-through}
 use Rattle.vc_tree_commands.specs.Commanded.{command_of}
 use Rattle.vc_tree_commands.proofs.commands.run.Goals as goal
 
@@ -30,7 +30,7 @@ loop-at-preserved g c =
     let step =
     stepped g.K.Ord.cmp (Copies g.V.Clone.is_clone) before after (command_of g.T.RadixNode.tree c.in-Some.command) c.obey.result
     c.obey.ensures.ok c.obey.ensures.err in
-    leads_turn g.K.Ord.cmp (Copies g.V.Clone.is_clone) (command_of g.T.RadixNode.tree) start before after c.loop-at.yielded
+    leads-turn g.K.Ord.cmp (Copies g.V.Clone.is_clone) (command_of g.T.RadixNode.tree) start before after c.loop-at.yielded
     c.in-Some.at c.in-Some.command c.loop-at.accepted c.is_ok.result place inside c.loop-at.invariant
     (rw c.is_ok.ensures.value step)
 
@@ -41,16 +41,16 @@ returns-clause-steps g c =
     c.loop-at.at-iterator c.loop-at.yielded_by c.next.result c.next.new.self c.in-None.is c.next.ensures.steps in
     let flags : length c.loop-at.accepted ≡ length c.args.commands.items = search rules in
     let all = end.1 ∙ length-enumerate_from 0 c.args.commands.items in
-    leads_through g.K.Ord.cmp (Copies g.V.Clone.is_clone) (command_of g.T.RadixNode.tree) _ _ c.args.commands.items c.loop-at.yielded
+    leads-through g.K.Ord.cmp (Copies g.V.Clone.is_clone) (command_of g.T.RadixNode.tree) _ _ c.args.commands.items c.loop-at.yielded
     c.loop-at.accepted end.0 (omega (arith, flags, all)) c.loop-at.invariant
     (λ k. kept_itself (Copies g.V.Clone.is_clone) (λ v. itself) _)
 
 pub returns-clause-one : goal.returns-clause-one
 returns-clause-one g c =
-    canonical_one g.K.Ord.cmp g.met.K.Ord.total (Copies g.V.Clone.is_clone) (g.T.RadixNode.tree c.loop-at.tree)
+    canonical-one g.K.Ord.cmp g.met.K.Ord.total (Copies g.V.Clone.is_clone) (g.T.RadixNode.tree c.loop-at.tree)
     c.prefix.ensures.canonical
 
 pub returns-clause-smallest : goal.returns-clause-smallest
 returns-clause-smallest g c =
-    canonical_smallest g.K.Ord.cmp (Copies g.V.Clone.is_clone) g.met.K.Ord.total (g.T.RadixNode.tree c.loop-at.tree)
+    canonical-smallest g.K.Ord.cmp (Copies g.V.Clone.is_clone) g.met.K.Ord.total (g.T.RadixNode.tree c.loop-at.tree)
     c.prefix.ensures.canonical

@@ -1,16 +1,16 @@
 use Rattle.std.proofs.Common.{arith, sym, ◌∙◌}
-use Rattle.vc_tree_edits.proofs.Taking.{taken_rest, taken_all, cut_all}
+use Rattle.vc_tree_edits.proofs.Taking.{taken-rest, taken-all, cut-all}
 use Rattle.vc_tree_edits.proofs.engine.take_apart.Goals as goal
 
 pub returns-then-i-front : goal.returns-then-i-front
 returns-then-i-front g c =
-    taken_rest g.T.RadixNode.tree g.T.Build.keeps g.met.T.Build.keeps_refl c.args.tree c.args.i c.args.front _ _ _
+    taken-rest g.T.RadixNode.tree g.T.Build.keeps g.met.T.Build.keeps_refl c.args.tree c.args.i c.args.front _ _ _
     c.prefix-whole.ensures.value c.in_ok-from_slice.ensures.items (omega arith) c.if-i-front.true _ c.new.ensures.items
 
 pub returns : goal.returns
 returns g c =
-    taken_all g.T.RadixNode.tree g.T.Build.keeps g.met.T.Build.keeps_refl c.args.tree c.args.i c.args.front c.args.front c.prefix-whole.result.now _
+    taken-all g.T.RadixNode.tree g.T.Build.keeps g.met.T.Build.keeps_refl c.args.tree c.args.i c.args.front c.args.front c.prefix-whole.result.now _
     c.prefix-whole.ensures.value
-    (cut_all c.args.i c.args.front c.prefix-whole.result.now _ _ (c.take_apart-prefix.ensures.prefix ∙ sym c.prefix-whole.ensures.value) c.in_ok-prefix.ensures (omega (arith, c.if-i-front.false)))
+    (cut-all c.args.i c.args.front c.prefix-whole.result.now _ _ (c.take_apart-prefix.ensures.prefix ∙ sym c.prefix-whole.ensures.value) c.in_ok-prefix.ensures (omega (arith, c.if-i-front.false)))
     (omega arith) (omega (arith, c.if-i-front.false)) _ _ _
     c.take_apart-prefix.ensures.value c.take_apart-prefix.ensures.children c.in_ok-list.ensures

@@ -2,12 +2,12 @@
 use Rattle.std.proofs.Common.{map, sym, subst, ◌∙◌}
 use Rattle.std.proofs.iter.SoFar.{exit_by}
 use Rattle.vc_tree_model.specs.Pairs.{IsCollected}
-use Rattle.vc_tree_model.proofs.Collecting.{collected_next}
+use Rattle.vc_tree_model.proofs.Collecting.{collected-next}
 use Rattle.vc_tree_nodes.proofs.collecting.collect.Goals as goal
 
 pub loop-key-preserved : goal.loop-key-preserved
 loop-key-preserved g c =
-    collected_next g.K.Ord.cmp g.S.Spelled.components c.loop-key.yielded (c.in-Some.key, c.in-Some.value)
+    collected-next g.K.Ord.cmp g.S.Spelled.components c.loop-key.yielded (c.in-Some.key, c.in-Some.value)
     c.as_key.result.now c.loop-key.tree c.insert.new.tree c.as_key.ensures c.loop-key.invariant c.in_ok-insert.ensures.ok
 
 pub returns : goal.returns

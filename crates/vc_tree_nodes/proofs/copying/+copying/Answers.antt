@@ -4,10 +4,10 @@ use Rattle.vc_tree_model.specs.Value.{IsKept}
 use Rattle.vc_tree_model.specs.Tree.{shortened, node, nodes, forest_nodes}
 use Rattle.vc_tree_model.specs.Same.{IsAlikeIn}
 use Rattle.vc_tree_nodes.specs.Children.{listed, seen}
-use Rattle.vc_tree_model.proofs.AlikeLemmas.{alike_more, tree_alike_canonical}
-use Rattle.vc_tree_model.proofs.Shortening.{shortened_canonical}
-use Rattle.vc_tree_nodes.proofs.Events.{low_from}
-use Rattle.vc_tree_nodes.proofs.Finding.{child_nodes}
+use Rattle.vc_tree_model.proofs.AlikeLemmas.{alike-more, tree-alike_canonical}
+use Rattle.vc_tree_model.proofs.Shortening.{shortened-canonical}
+use Rattle.vc_tree_nodes.proofs.Events.{low-from}
+use Rattle.vc_tree_nodes.proofs.Finding.{child-nodes}
 use Rattle.vc_tree_nodes.proofs.copying.+copying.Goals as goal
 
 pub copy_shortened-assemble-requires : goal.copy_shortened-assemble-requires
@@ -16,24 +16,24 @@ copy_shortened-assemble-requires g t c =
     let made = g.T.Prefix.Fragment.items c.in_ok-prefix.prefix in
     let copies = seen g.T.RadixNode.tree (listed g.T.Children.ChildList.items c.in_ok-children.children) in
     let prefix : drop c.args.from tree.prefix ≡ made =
-    sym (low_from _ c.prefix.result.now tree.prefix c.args.from c.in_ok-prefix.ensures.items c.prefix.ensures.value) in
+    sym (low-from _ c.prefix.result.now tree.prefix c.args.from c.in_ok-prefix.ensures.items c.prefix.ensures.value) in
     let value : IsKept g.V.Clone.is_clone tree.value c.in_ok-value.value = search rules in
     let children : IsAlikeIn g.V.Clone.is_clone tree.children copies = search rules in
-    tree_alike_canonical g.V.Clone.is_clone g.K.Ord.cmp (shortened c.args.from tree)
+    tree-alike_canonical g.V.Clone.is_clone g.K.Ord.cmp (shortened c.args.from tree)
     (node made c.in_ok-value.value copies) (prefix, value, children)
-    (shortened_canonical g.K.Ord.cmp c.args.from tree c.prefix.ensures.canonical)
+    (shortened-canonical g.K.Ord.cmp c.args.from tree c.prefix.ensures.canonical)
 
 pub copy_list-copy_shortened-requires : goal.copy_list-copy_shortened-requires
 copy_list-copy_shortened-requires g t c κs within =
     let tree = g.S.RadixNode.tree in
     let fewer : nodes (tree c.tree-item.result) ≤ forest_nodes (seen tree c.args.list.now) =
-    rw c.tree-item.is (child_nodes g.K.Ord.cmp tree c.args.list.now c.loop-tree.tree-index c.tree-item.result
+    rw c.tree-item.is (child-nodes g.K.Ord.cmp tree c.args.list.now c.loop-tree.tree-index c.tree-item.result
     c.loop-tree-test.true) in
     search rules
 
 pub copy_list-loop-tree-preserved : goal.copy_list-loop-tree-preserved
 copy_list-loop-tree-preserved g t c =
-    alike_more g.V.Clone.is_clone g.S.RadixNode.tree g.T.RadixNode.tree c.args.list.now c.loop-tree.copies.items
+    alike-more g.V.Clone.is_clone g.S.RadixNode.tree g.T.RadixNode.tree c.args.list.now c.loop-tree.copies.items
     c.push.new.self.items c.loop-tree.tree-index c.tree-item.result c.in_ok-copy_shortened.field-0
     c.loop-tree-test.true c.tree-item.is c.in_ok-push.ensures.items c.loop-tree.invariant
     c.in_ok-copy_shortened.ensures

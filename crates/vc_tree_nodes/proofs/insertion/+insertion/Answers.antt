@@ -6,10 +6,10 @@ use Rattle.vc_tree_nodes.specs.Children.{listed}
 use Rattle.vc_tree_model.specs.Same.{IsAlike}
 use Rattle.vc_tree_model.specs.Snapshot.{tree_alike_refl}
 use Rattle.vc_tree_model.specs.Tree.{forest}
-use Rattle.vc_tree_model.proofs.AlikeLemmas.{alike_children}
-use Rattle.vc_tree_nodes.proofs.Events.{on_ok, on_err, on_both, child_grown, parts_canonical, inserted_canonical, leads_within, leads_agree, leads_solid, leads_nodes, list_updated, list_grown, list_alike, length_kept}
-use Rattle.vc_tree_nodes.proofs.Parted.{same_joined, same_behind_whole, same_ended, known_within, splits_lower, splits_higher, grown_from}
-use Rattle.vc_tree_nodes.proofs.Updating.{updated_respelled}
+use Rattle.vc_tree_model.proofs.AlikeLemmas.{alike-children}
+use Rattle.vc_tree_nodes.proofs.Events.{on-ok, on-err, on-both, child-grown, parts-canonical, inserted-canonical, leads-within, leads-agree, leads-solid, leads-nodes, list-updated, list-grown, list-alike, length-kept}
+use Rattle.vc_tree_nodes.proofs.Parted.{same-joined, same-behind_whole, same-ended, known-within, splits-lower, splits-higher, grown-from}
+use Rattle.vc_tree_nodes.proofs.Updating.{updated-respelled}
 use Rattle.vc_tree_nodes.proofs.insertion.+insertion.Goals as goal
 
 pub insert_behind-child_place-requires : goal.insert_behind-child_place-requires
@@ -25,13 +25,13 @@ insert_below-assemble-requires g t c =
     c.take_apart-prefix.ensures.children ∙ ap (λ t. (tree t).children) c.replace-node.ensures.value in
     let canonical =
     subst (λ t. IsCanonical g.K.Ord.cmp (tree t)) c.replace-node.ensures.value c.take_apart-prefix.ensures.canonical in
-    on_both c.insert_into-done.result c.insert_into-done.ensures.ok c.insert_into-done.ensures.err
-    (λ updated. inserted_canonical g.K.Ord.cmp g.T.Build.keeps (tree c.args.tree.now) _ c.args.value _ _
-    (child_grown g.K.Ord.cmp g.T.Build.keeps g.met.T.Build.keeps_refl g.met.T.Build.keeps_trans g.met.K.Ord.total tree
+    on-both c.insert_into-done.result c.insert_into-done.ensures.ok c.insert_into-done.ensures.err
+    (λ updated. inserted-canonical g.K.Ord.cmp g.T.Build.keeps (tree c.args.tree.now) _ c.args.value _ _
+    (child-grown g.K.Ord.cmp g.T.Build.keeps g.met.T.Build.keeps_refl g.met.T.Build.keeps_trans g.met.K.Ord.total tree
     (tree c.args.tree.now) _ _ _ _ _ c.args.rest.now c.args.value c.requires.leads.first c.requires.leads.others
     prefix value children refl c.requires.solid c.requires.leads.key_is c.insert_into-done.ensures.as_many
     c.insert_into-done.ensures.canonical updated))
-    (λ alike. parts_canonical g.K.Ord.cmp g.T.Build.keeps g.met.T.Build.keeps_refl g.met.T.Build.keeps_trans
+    (λ alike. parts-canonical g.K.Ord.cmp g.T.Build.keeps g.met.T.Build.keeps_refl g.met.T.Build.keeps_trans
     g.met.K.Ord.total tree (tree c.args.tree.now) _ _ _ _ prefix value children canonical alike)
 
 pub insert_below-returns-clause-ok : goal.insert_below-returns-clause-ok
@@ -42,8 +42,8 @@ insert_below-returns-clause-ok g t c =
     let children =
     ap (λ o. forest (map tree (listed g.T.Children.ChildList.items o))) (sym c.in-Some.is) ∙
     c.take_apart-prefix.ensures.children ∙ ap (λ t. (tree t).children) c.replace-node.ensures.value in
-    on_ok c.insert_into-done.result
-    (λ updated. child_grown g.K.Ord.cmp g.T.Build.keeps g.met.T.Build.keeps_refl g.met.T.Build.keeps_trans
+    on-ok c.insert_into-done.result
+    (λ updated. child-grown g.K.Ord.cmp g.T.Build.keeps g.met.T.Build.keeps_refl g.met.T.Build.keeps_trans
     g.met.K.Ord.total tree (tree c.args.tree.now) _ _ _ _ _ c.args.rest.now c.args.value c.requires.leads.first
     c.requires.leads.others
     prefix value children c.assemble.ensures c.requires.solid c.requires.leads.key_is
@@ -52,101 +52,101 @@ insert_below-returns-clause-ok g t c =
 
 pub insert_from-split_beside-requires : goal.insert_from-split_beside-requires
 insert_from-split_beside-requires g t c =
-    splits_lower g.K.Ord.cmp (g.T.RadixNode.tree c.args.tree.now) c.prefix-prefix.result.now c.args.key.now
+    splits-lower g.K.Ord.cmp (g.T.RadixNode.tree c.args.tree.now) c.prefix-prefix.result.now c.args.key.now
     c.in-Lower.n c.prefix-prefix.ensures.value c.in-Lower.ensures.is c.requires.solid
 
 pub insert_from-split_beside-requires-in-Higher : goal.insert_from-split_beside-requires-in-Higher
 insert_from-split_beside-requires-in-Higher g t c =
-    splits_higher g.K.Ord.cmp g.met.K.Ord.total (g.T.RadixNode.tree c.args.tree.now)
+    splits-higher g.K.Ord.cmp g.met.K.Ord.total (g.T.RadixNode.tree c.args.tree.now)
     c.prefix-prefix.result.now c.args.key.now c.in-Higher.n c.prefix-prefix.ensures.value c.in-Higher.ensures.is
     c.requires.solid
 
 pub insert_from-returns-in-Behind-clause-ok : goal.insert_from-returns-in-Behind-clause-ok
 insert_from-returns-in-Behind-clause-ok g t c =
     let tree = g.T.RadixNode.tree c.args.tree.now in
-    on_ok c.insert_behind.result
-    (λ inserted. updated_respelled g.K.Ord.cmp g.T.Build.keeps g.met.K.Ord.total _ c.args.key.now c.args.value _ _
-    (same_behind_whole g.K.Ord.cmp g.met.K.Ord.total c.prefix-prefix.result.now tree.prefix c.args.key.now
+    on-ok c.insert_behind.result
+    (λ inserted. updated-respelled g.K.Ord.cmp g.T.Build.keeps g.met.K.Ord.total _ c.args.key.now c.args.value _ _
+    (same-behind_whole g.K.Ord.cmp g.met.K.Ord.total c.prefix-prefix.result.now tree.prefix c.args.key.now
     c.prefix-prefix.ensures.value c.in-Behind.ensures.is) inserted.updated)
     c.insert_behind.ensures.ok
 
 pub insert_from-returns-in-Inside-clause-ok : goal.insert_from-returns-in-Inside-clause-ok
 insert_from-returns-in-Inside-clause-ok g t c =
     let tree = g.T.RadixNode.tree c.args.tree.now in
-    on_ok c.split_above.result
-    (λ inserted. updated_respelled g.K.Ord.cmp g.T.Build.keeps g.met.K.Ord.total _ c.args.key.now c.args.value _ _
-    (same_ended g.K.Ord.cmp c.prefix-prefix.result.now tree.prefix c.args.key.now c.in-Inside.n
+    on-ok c.split_above.result
+    (λ inserted. updated-respelled g.K.Ord.cmp g.T.Build.keeps g.met.K.Ord.total _ c.args.key.now c.args.value _ _
+    (same-ended g.K.Ord.cmp c.prefix-prefix.result.now tree.prefix c.args.key.now c.in-Inside.n
     c.prefix-prefix.ensures.value c.in-Inside.ensures.is.0 c.in-Inside.ensures.is.1) inserted.updated)
     c.split_above.ensures.ok
 
 pub insert_from-returns-in-Inside-clause-err : goal.insert_from-returns-in-Inside-clause-err
 insert_from-returns-in-Inside-clause-err g t c =
     let tree = g.T.RadixNode.tree c.args.tree.now in
-    on_err c.split_above.result (λ e. subst (IsAlike g.T.Build.keeps tree) (sym e)
+    on-err c.split_above.result (λ e. subst (IsAlike g.T.Build.keeps tree) (sym e)
     (tree_alike_refl g.T.Build.keeps g.met.T.Build.keeps_refl tree)) c.split_above.ensures.err
 
 pub insert_from-returns-in-Lower-clause-ok : goal.insert_from-returns-in-Lower-clause-ok
 insert_from-returns-in-Lower-clause-ok g t c =
     let tree = g.T.RadixNode.tree c.args.tree.now in
-    on_ok c.split_beside.result
-    (λ inserted. updated_respelled g.K.Ord.cmp g.T.Build.keeps g.met.K.Ord.total _ c.args.key.now c.args.value _ _
-    (same_joined g.K.Ord.cmp g.met.K.Ord.total c.prefix-prefix.result.now tree.prefix c.args.key.now c.in-Lower.n
+    on-ok c.split_beside.result
+    (λ inserted. updated-respelled g.K.Ord.cmp g.T.Build.keeps g.met.K.Ord.total _ c.args.key.now c.args.value _ _
+    (same-joined g.K.Ord.cmp g.met.K.Ord.total c.prefix-prefix.result.now tree.prefix c.args.key.now c.in-Lower.n
     c.prefix-prefix.ensures.value c.in-Lower.ensures.is.agree) inserted.updated)
     c.split_beside.ensures.ok
 
 pub insert_from-returns-in-Lower-clause-grown : goal.insert_from-returns-in-Lower-clause-grown
 insert_from-returns-in-Lower-clause-grown g t c =
     let tree = g.T.RadixNode.tree c.args.tree.now in
-    on_ok c.split_beside.result
-    (λ inserted. grown_from g.K.Ord.cmp c.args.known c.in-Lower.n tree _
-    (known_within g.K.Ord.cmp _ c.prefix-prefix.result.now tree.prefix c.args.key.now c.args.known c.in-Lower.n
+    on-ok c.split_beside.result
+    (λ inserted. grown-from g.K.Ord.cmp c.args.known c.in-Lower.n tree _
+    (known-within g.K.Ord.cmp _ c.prefix-prefix.result.now tree.prefix c.args.key.now c.args.known c.in-Lower.n
     c.prefix-prefix.ensures.value refl c.requires.known c.in-Lower.ensures.is) inserted.branch)
     c.split_beside.ensures.ok
 
 pub insert_from-returns-in-Lower-clause-err : goal.insert_from-returns-in-Lower-clause-err
 insert_from-returns-in-Lower-clause-err g t c =
     let tree = g.T.RadixNode.tree c.args.tree.now in
-    on_err c.split_beside.result (λ e. subst (IsAlike g.T.Build.keeps tree) (sym e)
+    on-err c.split_beside.result (λ e. subst (IsAlike g.T.Build.keeps tree) (sym e)
     (tree_alike_refl g.T.Build.keeps g.met.T.Build.keeps_refl tree)) c.split_beside.ensures.err
 
 pub insert_from-returns-in-Higher-clause-ok : goal.insert_from-returns-in-Higher-clause-ok
 insert_from-returns-in-Higher-clause-ok g t c =
     let tree = g.T.RadixNode.tree c.args.tree.now in
-    on_ok c.split_beside-in-Higher.result
-    (λ inserted. updated_respelled g.K.Ord.cmp g.T.Build.keeps g.met.K.Ord.total _ c.args.key.now c.args.value _ _
-    (same_joined g.K.Ord.cmp g.met.K.Ord.total c.prefix-prefix.result.now tree.prefix c.args.key.now c.in-Higher.n
+    on-ok c.split_beside-in-Higher.result
+    (λ inserted. updated-respelled g.K.Ord.cmp g.T.Build.keeps g.met.K.Ord.total _ c.args.key.now c.args.value _ _
+    (same-joined g.K.Ord.cmp g.met.K.Ord.total c.prefix-prefix.result.now tree.prefix c.args.key.now c.in-Higher.n
     c.prefix-prefix.ensures.value c.in-Higher.ensures.is.agree) inserted.updated)
     c.split_beside-in-Higher.ensures.ok
 
 pub insert_from-returns-in-Higher-clause-grown : goal.insert_from-returns-in-Higher-clause-grown
 insert_from-returns-in-Higher-clause-grown g t c =
     let tree = g.T.RadixNode.tree c.args.tree.now in
-    on_ok c.split_beside-in-Higher.result
-    (λ inserted. grown_from g.K.Ord.cmp c.args.known c.in-Higher.n tree _
-    (known_within g.K.Ord.cmp _ c.prefix-prefix.result.now tree.prefix c.args.key.now c.args.known c.in-Higher.n
+    on-ok c.split_beside-in-Higher.result
+    (λ inserted. grown-from g.K.Ord.cmp c.args.known c.in-Higher.n tree _
+    (known-within g.K.Ord.cmp _ c.prefix-prefix.result.now tree.prefix c.args.key.now c.args.known c.in-Higher.n
     c.prefix-prefix.ensures.value refl c.requires.known c.in-Higher.ensures.is) inserted.branch)
     c.split_beside-in-Higher.ensures.ok
 
 pub insert_from-returns-in-Higher-clause-err : goal.insert_from-returns-in-Higher-clause-err
 insert_from-returns-in-Higher-clause-err g t c =
     let tree = g.T.RadixNode.tree c.args.tree.now in
-    on_err c.split_beside-in-Higher.result (λ e. subst (IsAlike g.T.Build.keeps tree) (sym e)
+    on-err c.split_beside-in-Higher.result (λ e. subst (IsAlike g.T.Build.keeps tree) (sym e)
     (tree_alike_refl g.T.Build.keeps g.met.T.Build.keeps_refl tree)) c.split_beside-in-Higher.ensures.err
 
 pub insert_into-returns-in_err-list-clause-canonical : goal.insert_into-returns-in_err-list-clause-canonical
 insert_into-returns-in_err-list-clause-canonical g t c =
     let kept = g.met.T.Build.kept_alike _ _ (rw c.in_err-list.was at c.make_mut.follows.holds-at-none) in
-    alike_children g.T.Build.keeps g.K.Ord.cmp _ _ kept c.requires.canonical
+    alike-children g.T.Build.keeps g.K.Ord.cmp _ _ kept c.requires.canonical
 
 pub insert_into-returns-in_err-list-clause-as_many : goal.insert_into-returns-in_err-list-clause-as_many
 insert_into-returns-in_err-list-clause-as_many g t c =
     let kept = g.met.T.Build.kept_alike _ _ (rw c.in_err-list.was at c.make_mut.follows.holds-at-none) in
-    sym (length_kept g.T.Build.keeps g.T.RadixNode.tree _ _ kept)
+    sym (length-kept g.T.Build.keeps g.T.RadixNode.tree _ _ kept)
 
 pub insert_into-index_mut-requires : goal.insert_into-index_mut-requires
 insert_into-index_mut-requires g t c =
     let h =
-    leads_within g.K.Ord.cmp g.T.Build.keeps g.met.T.Build.keeps_refl g.met.T.Build.keeps_trans g.met.K.Ord.total
+    leads-within g.K.Ord.cmp g.T.Build.keeps g.met.T.Build.keeps_refl g.met.T.Build.keeps_trans g.met.K.Ord.total
     g.T.RadixNode.tree
     (g.T.Children.ChildList.items c.args.children.now) c.in_ok-list.list.now.items c.args.i c.args.rest.now
     c.requires.leads (g.met.T.Build.kept_alike _ _ c.in_ok-list.ensures.value) c.requires.canonical in
@@ -155,19 +155,19 @@ insert_into-index_mut-requires g t c =
 pub insert_into-insert_from-requires : goal.insert_into-insert_from-requires
 insert_into-insert_from-requires g t c =
     let agree =
-    leads_agree g.K.Ord.cmp g.T.Build.keeps g.met.T.Build.keeps_refl g.met.T.Build.keeps_trans g.met.K.Ord.total
+    leads-agree g.K.Ord.cmp g.T.Build.keeps g.met.T.Build.keeps_refl g.met.T.Build.keeps_trans g.met.K.Ord.total
     g.T.RadixNode.tree
     (g.T.Children.ChildList.items c.args.children.now) c.in_ok-list.list.now.items c.args.i c.args.rest.now
     c.requires.leads (g.met.T.Build.kept_alike _ _ c.in_ok-list.ensures.value) c.requires.canonical
     c.index_mut.result.now c.index_mut.ensures.value in
     let solid =
-    leads_solid g.K.Ord.cmp g.T.Build.keeps g.met.T.Build.keeps_refl g.met.T.Build.keeps_trans g.met.K.Ord.total
+    leads-solid g.K.Ord.cmp g.T.Build.keeps g.met.T.Build.keeps_refl g.met.T.Build.keeps_trans g.met.K.Ord.total
     g.T.RadixNode.tree
     (g.T.Children.ChildList.items c.args.children.now) c.in_ok-list.list.now.items c.args.i c.args.rest.now
     c.requires.leads (g.met.T.Build.kept_alike _ _ c.in_ok-list.ensures.value) c.requires.canonical
     c.index_mut.result.now c.index_mut.ensures.value in
     let fewer =
-    leads_nodes g.K.Ord.cmp g.T.Build.keeps g.met.T.Build.keeps_refl g.met.T.Build.keeps_trans g.met.K.Ord.total
+    leads-nodes g.K.Ord.cmp g.T.Build.keeps g.met.T.Build.keeps_refl g.met.T.Build.keeps_trans g.met.K.Ord.total
     g.T.RadixNode.tree
     (g.T.Children.ChildList.items c.args.children.now) c.in_ok-list.list.now.items c.args.i c.args.rest.now
     c.requires.leads (g.met.T.Build.kept_alike _ _ c.in_ok-list.ensures.value) c.requires.canonical
@@ -176,8 +176,8 @@ insert_into-insert_from-requires g t c =
 
 pub insert_into-returns-clause-ok : goal.insert_into-returns-clause-ok
 insert_into-returns-clause-ok g t c =
-    on_ok c.insert_from.result
-    (list_updated g.K.Ord.cmp g.T.Build.keeps g.met.T.Build.keeps_refl g.met.T.Build.keeps_trans g.met.K.Ord.total
+    on-ok c.insert_from.result
+    (list-updated g.K.Ord.cmp g.T.Build.keeps g.met.T.Build.keeps_refl g.met.T.Build.keeps_trans g.met.K.Ord.total
     g.T.RadixNode.tree
     (g.T.Children.ChildList.items c.args.children.now) c.in_ok-list.list.now.items c.args.i c.args.rest.now
     c.requires.leads (g.met.T.Build.kept_alike _ _ c.in_ok-list.ensures.value) c.requires.canonical
@@ -187,8 +187,8 @@ insert_into-returns-clause-ok g t c =
 
 pub insert_into-returns-clause-err : goal.insert_into-returns-clause-err
 insert_into-returns-clause-err g t c =
-    on_err c.insert_from.result
-    (list_alike g.K.Ord.cmp g.T.Build.keeps g.met.T.Build.keeps_refl g.met.T.Build.keeps_trans g.met.K.Ord.total
+    on-err c.insert_from.result
+    (list-alike g.K.Ord.cmp g.T.Build.keeps g.met.T.Build.keeps_refl g.met.T.Build.keeps_trans g.met.K.Ord.total
     g.T.RadixNode.tree
     (g.T.Children.ChildList.items c.args.children.now) c.in_ok-list.list.now.items c.args.i c.args.rest.now
     c.requires.leads (g.met.T.Build.kept_alike _ _ c.in_ok-list.ensures.value) c.requires.canonical
@@ -198,15 +198,15 @@ insert_into-returns-clause-err g t c =
 
 pub insert_into-returns-clause-canonical : goal.insert_into-returns-clause-canonical
 insert_into-returns-clause-canonical g t c =
-    on_both c.insert_from.result c.insert_from.ensures.grown c.insert_from.ensures.err
-    (list_grown g.K.Ord.cmp g.T.Build.keeps g.met.T.Build.keeps_refl g.met.T.Build.keeps_trans g.met.K.Ord.total
+    on-both c.insert_from.result c.insert_from.ensures.grown c.insert_from.ensures.err
+    (list-grown g.K.Ord.cmp g.T.Build.keeps g.met.T.Build.keeps_refl g.met.T.Build.keeps_trans g.met.K.Ord.total
     g.T.RadixNode.tree
     (g.T.Children.ChildList.items c.args.children.now) c.in_ok-list.list.now.items c.args.i c.args.rest.now
     c.requires.leads (g.met.T.Build.kept_alike _ _ c.in_ok-list.ensures.value) c.requires.canonical
     c.index_mut.result.now c.insert_from.new.tree _ c.args.value c.index_mut.ensures.value
     (c.make_mut.follows.holds _ (ap is_ok c.in_ok-list.was)))
-    (λ alike. alike_children g.T.Build.keeps g.K.Ord.cmp _ _
-    (list_alike g.K.Ord.cmp g.T.Build.keeps g.met.T.Build.keeps_refl g.met.T.Build.keeps_trans g.met.K.Ord.total
+    (λ alike. alike-children g.T.Build.keeps g.K.Ord.cmp _ _
+    (list-alike g.K.Ord.cmp g.T.Build.keeps g.met.T.Build.keeps_refl g.met.T.Build.keeps_trans g.met.K.Ord.total
     g.T.RadixNode.tree
     (g.T.Children.ChildList.items c.args.children.now) c.in_ok-list.list.now.items c.args.i c.args.rest.now
     c.requires.leads (g.met.T.Build.kept_alike _ _ c.in_ok-list.ensures.value) c.requires.canonical
@@ -217,7 +217,7 @@ insert_into-returns-clause-canonical g t c =
 pub insert_into-returns-clause-as_many : goal.insert_into-returns-clause-as_many
 insert_into-returns-clause-as_many g t c =
     let kept =
-    length_kept g.T.Build.keeps g.T.RadixNode.tree _ _
+    length-kept g.T.Build.keeps g.T.RadixNode.tree _ _
     (g.met.T.Build.kept_alike _ _ c.in_ok-list.ensures.value) in
     ap length (c.make_mut.follows.holds _ (ap is_ok c.in_ok-list.was)) ∙ length-set c.in_ok-list.list.now.items
     c.args.i c.insert_from.new.tree ∙ sym kept

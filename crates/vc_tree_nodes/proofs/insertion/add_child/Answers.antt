@@ -3,19 +3,19 @@ use Rattle.std.proofs.Common.{refl, sym, ap, subst, ◌∙◌}
 use Rattle.vc_tree_model.specs.Canonical.{IsCanonical}
 use Rattle.vc_tree_nodes.specs.Places.{IsGapAt}
 use Rattle.vc_tree_model.specs.Snapshot.{tree_alike_refl}
-use Rattle.vc_tree_nodes.proofs.Events.{always_err, on_ok, on_both, child_added, parts_canonical, inserted_canonical}
-use Rattle.vc_tree_nodes.proofs.Growing.{gap_within}
+use Rattle.vc_tree_nodes.proofs.Events.{always-err, on-ok, on-both, child-added, parts-canonical, inserted-canonical}
+use Rattle.vc_tree_nodes.proofs.Growing.{gap-within}
 use Rattle.vc_tree_nodes.proofs.insertion.add_child.Goals as goal
 
 pub returns-in_err-leaf-clause-err : goal.returns-in_err-leaf-clause-err
 returns-in_err-leaf-clause-err g c =
-    always_err c.from_residual.result (tree_alike_refl g.T.Build.keeps g.met.T.Build.keeps_refl
+    always-err c.from_residual.result (tree_alike_refl g.T.Build.keeps g.met.T.Build.keeps_refl
     (g.T.RadixNode.tree c.args.tree.now))
 
 pub add_to-done-requires : goal.add_to-done-requires
 add_to-done-requires g c =
     let tree = g.T.RadixNode.tree in
-    gap_within g.K.Ord.cmp tree _ c.requires.fits.first c.args.i
+    gap-within g.K.Ord.cmp tree _ c.requires.fits.first c.args.i
     (subst (λ f. IsGapAt g.K.Ord.cmp f c.requires.fits.first c.args.i)
     (sym (c.take_apart-prefix.ensures.children ∙ ap (λ t. (tree t).children) c.replace-node.ensures.value))
     c.requires.fits.gap)
@@ -28,12 +28,12 @@ assemble-requires g c =
     let children = c.take_apart-prefix.ensures.children ∙ ap (λ t. (tree t).children) c.replace-node.ensures.value in
     let canonical =
     subst (λ t. IsCanonical g.K.Ord.cmp (tree t)) c.replace-node.ensures.value c.take_apart-prefix.ensures.canonical in
-    on_both c.add_to-done.result c.add_to-done.ensures.ok c.add_to-done.ensures.err
-    (λ added. inserted_canonical g.K.Ord.cmp g.T.Build.keeps (tree c.args.tree.now) _ c.args.value _ _
-    (child_added g.K.Ord.cmp g.T.Build.keeps g.met.T.Build.keeps_refl g.met.T.Build.keeps_trans g.met.K.Ord.total tree
+    on-both c.add_to-done.result c.add_to-done.ensures.ok c.add_to-done.ensures.err
+    (λ added. inserted-canonical g.K.Ord.cmp g.T.Build.keeps (tree c.args.tree.now) _ c.args.value _ _
+    (child-added g.K.Ord.cmp g.T.Build.keeps g.met.T.Build.keeps_refl g.met.T.Build.keeps_trans g.met.K.Ord.total tree
     (tree c.args.tree.now) _ _ _ _ _ c.args.i c.in_ok-leaf.leaf c.args.rest.now c.args.value
     prefix value children refl canonical c.requires.solid c.requires.fits c.in_ok-leaf.ensures.is added))
-    (λ alike. parts_canonical g.K.Ord.cmp g.T.Build.keeps g.met.T.Build.keeps_refl g.met.T.Build.keeps_trans
+    (λ alike. parts-canonical g.K.Ord.cmp g.T.Build.keeps g.met.T.Build.keeps_refl g.met.T.Build.keeps_trans
     g.met.K.Ord.total tree (tree c.args.tree.now) _ _ _ _ prefix value children canonical alike)
 
 pub returns-clause-ok : goal.returns-clause-ok
@@ -44,8 +44,8 @@ returns-clause-ok g c =
     let children = c.take_apart-prefix.ensures.children ∙ ap (λ t. (tree t).children) c.replace-node.ensures.value in
     let canonical =
     subst (λ t. IsCanonical g.K.Ord.cmp (tree t)) c.replace-node.ensures.value c.take_apart-prefix.ensures.canonical in
-    on_ok c.add_to-done.result
-    (λ added. child_added g.K.Ord.cmp g.T.Build.keeps g.met.T.Build.keeps_refl g.met.T.Build.keeps_trans
+    on-ok c.add_to-done.result
+    (λ added. child-added g.K.Ord.cmp g.T.Build.keeps g.met.T.Build.keeps_refl g.met.T.Build.keeps_trans
     g.met.K.Ord.total tree (tree c.args.tree.now) _ _ _ _ _ c.args.i c.in_ok-leaf.leaf c.args.rest.now c.args.value
     prefix value children c.assemble.ensures canonical c.requires.solid c.requires.fits c.in_ok-leaf.ensures.is added)
     c.add_to-done.ensures.ok

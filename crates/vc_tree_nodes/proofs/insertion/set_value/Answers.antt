@@ -1,13 +1,13 @@
 -- The value of the prefix is new, and all else is as it was.
 use Rattle.std.proofs.Common.{ap, subst, ◌∙◌}
 use Rattle.vc_tree_model.specs.Canonical.{IsCanonical}
-use Rattle.vc_tree_nodes.proofs.Events.{value_set}
+use Rattle.vc_tree_nodes.proofs.Events.{value-set}
 use Rattle.vc_tree_nodes.proofs.insertion.set_value.Goals as goal
 
 pub returns : goal.returns
 returns g c =
     let tree = g.T.RadixNode.tree in
-    value_set g.K.Ord.cmp g.T.Build.keeps g.met.T.Build.keeps_refl g.met.T.Build.keeps_trans g.met.K.Ord.total
+    value-set g.K.Ord.cmp g.T.Build.keeps g.met.T.Build.keeps_refl g.met.T.Build.keeps_trans g.met.K.Ord.total
     (tree c.args.tree.now) (tree c.assemble.result) _ _ c.args.value
     (c.take_apart-prefix.ensures.prefix ∙ ap (λ t. (tree t).prefix) c.replace-node.ensures.value)
     (c.take_apart-prefix.ensures.children ∙ ap (λ t. (tree t).children) c.replace-node.ensures.value)

@@ -4,7 +4,7 @@ use Rattle.std.proofs.lemmas.List.{map-id}
 use Rattle.std.proofs.lemmas.Iterator.Adapters.{YieldsList-from_vec}
 use Rattle.std.proofs.lemmas.Iterator.Consumers.{YieldsList-turn, YieldsList-end}
 use Rattle.vc_tree_model.specs.Tree.{forest, nodes, forest_nodes}
-use Rattle.vc_tree_nodes.proofs.Finding.{list_nodes}
+use Rattle.vc_tree_nodes.proofs.Finding.{list-nodes}
 use Rattle.vc_tree_nodes.proofs.sharing.+sharing.Goals as goal
 
 pub share_list-share_tree-requires : goal.share_list-share_tree-requires
@@ -14,7 +14,7 @@ share_list-share_tree-requires g t c κs within =
     YieldsList-turn (YieldsList-from_vec c.args.list.items gives.0 (gives.1 ∙ c.args.list.ok.0)) c.loop-tree.yielded
     c.loop-tree.tree-iterator c.loop-tree.yielded_by c.next.result c.next.new.self c.in-Some.tree c.in-Some.is c.next.ensures.steps in
     let fewer : nodes c.in-Some.tree ≤ forest_nodes (forest c.args.list.items) =
-    rw turn.1 (list_nodes c.args.list.items (length c.loop-tree.yielded) c.in-Some.tree turn.0) in
+    rw turn.1 (list-nodes c.args.list.items (length c.loop-tree.yielded) c.in-Some.tree turn.0) in
     search rules
 
 pub share_list-returns : goal.share_list-returns

@@ -1,5 +1,5 @@
 -- Each place leads one node deeper, until no child is open.
-use Rattle.vc_tree_walks.proofs.Paths.{leads_on, stops}
+use Rattle.vc_tree_walks.proofs.Paths.{leads-on, stops}
 use Rattle.vc_tree_walks.proofs.owned.reach.Goals as goal
 
 pub returns-in_default : goal.returns-in_default
@@ -11,5 +11,5 @@ returns-in_default g c =
 pub loop-depth-preserved : goal.loop-depth-preserved
 loop-depth-preserved g c =
     let tree = g.T.RadixNode.tree in
-    leads_on (tree c.args.tree.now) c.args.path.now (tree c.loop-depth.node.now) (tree c.in-Some.child.now)
+    leads-on (tree c.args.tree.now) c.args.path.now (tree c.loop-depth.node.now) (tree c.in-Some.child.now)
     c.loop-depth.depth _ c.loop-depth.invariant c.loop-depth-test.true c.in-Some.ensures

@@ -1,12 +1,12 @@
 use Rattle.std.proofs.Common.{rules, ◌≡◌, ◌++◌, ◌∷◌, [], OnOk}
 use Rattle.std.specs.String.{string_bytes}
 use Rattle.vecbench_lines.specs.Shapes.{key_text, value_mark, shape_text}
-use Rattle.vecbench_lines.proofs.Shaping.{pieces-written, child_falls, children-written}
+use Rattle.vecbench_lines.proofs.Shaping.{pieces-written, child-falls, children-written}
 use Rattle.vecbench_lines.proofs.keys.+put_shape.Goals as goal
 
 pub put_shape-requires-in-loop-child : goal.put_shape-requires-in-loop-child
 put_shape-requires-in-loop-child g t c κs within =
-    let less = child_falls g.T.RadixNode.tree c.children.result.now (g.T.RadixNode.tree c.args.tree.now) c.loop-child.child-index c.child-item.result
+    let less = child-falls g.T.RadixNode.tree c.children.result.now (g.T.RadixNode.tree c.args.tree.now) c.loop-child.child-index c.child-item.result
     c.children.ensures c.loop-child-test.true c.child-item.is in
     search (rules, less)
 

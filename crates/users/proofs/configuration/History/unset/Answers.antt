@@ -3,7 +3,7 @@ use Rattle.std.proofs.Common.{refl, ap, ◌∙◌, cond, None}
 use Rattle.std.specs.Ordering.{nat_cmp}
 use Rattle.vec_collections.specs.Map.{lookup}
 use Rattle.users.specs.Settings.{is_below}
-use Rattle.users.proofs.Removing.{on_ok, removed-below}
+use Rattle.users.proofs.Removing.{on-ok, removed-below}
 use Rattle.users.proofs.configuration.History.unset.Goals as goal
 
 pub same-next : goal.same-next
@@ -14,7 +14,7 @@ same-next-2 c = refl
 
 pub returns-clause-unset : goal.returns-clause-unset
 returns-clause-unset c =
-    on_ok c.publish.result
+    on-ok c.publish.result
     (λ last path.
     last path
     ∙ removed-below _ (λ v w e. e) c.args.folder.now c.in_ok-removed.removed c.in_ok-removed.ensures.is

@@ -2,9 +2,9 @@ use Rattle.std.proofs.Common.{Ok}
 use Rattle.vc_joins.specs.Answers.{MayAnswer}
 use Rattle.vc_joins.specs.declared.question.JoinKind.TheVariants as kind
 use Rattle.vc_joins.specs.Question.{left_spelling, shown_key}
-use Rattle.vc_btree_maps.proofs.OneAnswer.{function_if}
+use Rattle.vc_btree_maps.proofs.OneAnswer.{function-if}
 use Rattle.vc_btree_maps.proofs.btree_map.AbstractBTreeMap.outer_join.Goals as goal
 
 pub returns-clause-function : goal.returns-clause-function
 returns-clause-function g c =
-    function_if g.K.Ord.cmp kind.Outer left_spelling (λ a r. MayAnswer g.F.Fn c.args.f a (Ok r)) (λ a. g.K.Clone.is_clone (shown_key a)) _ _ c.join_outer.result c.join_outer.ensures
+    function-if g.K.Ord.cmp kind.Outer left_spelling (λ a r. MayAnswer g.F.Fn c.args.f a (Ok r)) (λ a. g.K.Clone.is_clone (shown_key a)) _ _ c.join_outer.result c.join_outer.ensures

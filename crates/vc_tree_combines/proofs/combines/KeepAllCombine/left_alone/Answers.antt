@@ -1,8 +1,8 @@
 -- A copy of the whole tree.
-use Rattle.vc_tree_combines.proofs.Alone.{copied_by, union_left}
+use Rattle.vc_tree_combines.proofs.Alone.{copied-by, union-left}
 use Rattle.vc_tree_combines.proofs.combines.KeepAllCombine.left_alone.Goals as goal
 
 pub returns : goal.returns
 returns g c =
-    copied_by g.K.Ord.cmp g.met.K.Ord.total g.V.Clone.is_clone (g.A.RadixNode.tree c.args.tree.now) _ c.args.from
-    c.prefix.ensures.canonical c.requires.within c.in_ok-copy_shortened.ensures _ (union_left g.V.Clone.is_clone)
+    copied-by g.K.Ord.cmp g.met.K.Ord.total g.V.Clone.is_clone (g.A.RadixNode.tree c.args.tree.now) _ c.args.from
+    c.prefix.ensures.canonical c.requires.within c.in_ok-copy_shortened.ensures _ (union-left g.V.Clone.is_clone)

@@ -1,8 +1,8 @@
 -- The closure's answer at a shared key.
 use Rattle.std.proofs.Common.{rules}
-use Rattle.vc_tree_combines.proofs.Alone.{outer_answer}
+use Rattle.vc_tree_combines.proofs.Alone.{outer-answer}
 use Rattle.vc_tree_combines.proofs.combines.OuterCombine.at_values.Goals as goal
 
 pub returns-in-Some-w : goal.returns-in-Some-w
 returns-in-Some-w g c =
-    outer_answer g.V.Clone.is_clone g.V.Clone.is_clone _ _ _ _ _ _ _ (search rules) (search rules) c.answer.ensures
+    outer-answer g.V.Clone.is_clone g.V.Clone.is_clone _ _ _ _ _ _ _ (search rules) (search rules) c.answer.ensures

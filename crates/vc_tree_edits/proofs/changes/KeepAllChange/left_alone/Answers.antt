@@ -1,6 +1,6 @@
 -- The tree stays whole.
 use Rattle.vc_tree_edits.specs.Editing.{KeptThen}
-use Rattle.vc_tree_edits.proofs.Meeting.{alone_outer}
+use Rattle.vc_tree_edits.proofs.Meeting.{alone-outer}
 use Rattle.vc_tree_edits.proofs.Sifting.{stayed}
 use Rattle.vc_tree_edits.proofs.changes.KeepAllChange.left_alone.Goals as goal
 
@@ -8,4 +8,4 @@ pub returns : goal.returns
 returns g c =
     stayed g.K.Ord.cmp g.met.K.Ord.total g.T.Build.keeps g.met.T.Build.keeps_refl (g.T.RadixNode.tree c.args.tree) _ c.args.from
     c.prefix.ensures.canonical c.requires.within c.in_ok-shorten.ensures _
-    (alone_outer g.T.Build.keeps g.V.Clone.is_clone (KeptThen g.T.Build.keeps (g.M.Meet.may c.args.self.now.at.now)))
+    (alone-outer g.T.Build.keeps g.V.Clone.is_clone (KeptThen g.T.Build.keeps (g.M.Meet.may c.args.self.now.at.now)))

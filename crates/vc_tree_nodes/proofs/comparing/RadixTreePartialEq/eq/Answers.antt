@@ -1,7 +1,7 @@
 -- The test says that the trees are the same, and canonical trees are the same exactly where their maps are equal.
 use Rattle.std.specs.Prelude.{IsTrue}
 use Rattle.vc_tree_model.proofs.SameTests.{same_tree-is}
-use Rattle.vc_tree_model.proofs.Uniqueness.{canonical_unique}
+use Rattle.vc_tree_model.proofs.Uniqueness.{canonical-unique}
 use Rattle.vc_tree_nodes.proofs.comparing.RadixTreePartialEq.eq.Goals as goal
 
 pub returns-clause-same : goal.returns-clause-same
@@ -15,7 +15,7 @@ returns-clause-maps g c =
     let u = c.args.other.now in
     let test = same_tree-is g.K.Ord.cmp g.V.PartialEq.eq t u in
     let one =
-    canonical_unique g.K.Ord.cmp g.met.K.Ord.total (λ v w. IsTrue (g.V.PartialEq.eq v w)) t u
+    canonical-unique g.K.Ord.cmp g.met.K.Ord.total (λ v w. IsTrue (g.V.PartialEq.eq v w)) t u
     c.prefix.ensures.canonical c.prefix-2.ensures.canonical in
     rw c.is_same.ensures
     (λ e. one.0 (test.0 e), λ m. test.1 (one.1 m))

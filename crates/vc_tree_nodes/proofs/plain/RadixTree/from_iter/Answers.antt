@@ -1,14 +1,14 @@
 -- A canonical tree is the one tree of its map, and the smallest.
 use Rattle.vc_tree_model.specs.Value.{Copies}
-use Rattle.vc_tree_model.proofs.Uniqueness.{canonical_one}
-use Rattle.vc_tree_model.proofs.Smallness.{canonical_smallest}
+use Rattle.vc_tree_model.proofs.Uniqueness.{canonical-one}
+use Rattle.vc_tree_model.proofs.Smallness.{canonical-smallest}
 use Rattle.vc_tree_nodes.proofs.plain.RadixTree.from_iter.Goals as goal
 
 pub returns-clause-one : goal.returns-clause-one
 returns-clause-one g c =
-    canonical_one g.K.Ord.cmp g.met.K.Ord.total (Copies g.V.Clone.is_clone) c.in_ok-tree.tree c.prefix.ensures.canonical
+    canonical-one g.K.Ord.cmp g.met.K.Ord.total (Copies g.V.Clone.is_clone) c.in_ok-tree.tree c.prefix.ensures.canonical
 
 pub returns-clause-smallest : goal.returns-clause-smallest
 returns-clause-smallest g c =
-    canonical_smallest g.K.Ord.cmp (Copies g.V.Clone.is_clone) g.met.K.Ord.total c.in_ok-tree.tree
+    canonical-smallest g.K.Ord.cmp (Copies g.V.Clone.is_clone) g.met.K.Ord.total c.in_ok-tree.tree
     c.prefix.ensures.canonical

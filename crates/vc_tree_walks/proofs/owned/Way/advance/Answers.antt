@@ -1,13 +1,13 @@
 -- The path leads to a node, and the step goes out of it or to its next child.
 use Rattle.std.proofs.Common.{◌≡◌, ◌-◌, ◌++◌, length, sym, ap, ◌∙◌}
 use Rattle.vc_tree_walks.specs.OwnedLeft.{opened}
-use Rattle.vc_tree_walks.proofs.Paths.{left_step, entered_step}
+use Rattle.vc_tree_walks.proofs.Paths.{left-step, entered-step}
 use Rattle.vc_tree_walks.proofs.owned.Way.advance.Goals as goal
 
 pub returns-in_default-clause-left : goal.returns-in_default-clause-left
 returns-in_default-clause-left g c =
     let tree = g.T.RadixNode.tree in
-    (left_step tree (tree c.args.tree.now) c.args.self.now.path.items c.as_slice.result.now c.truncate.new.self.items
+    (left-step tree (tree c.args.tree.now) c.args.self.now.path.items c.as_slice.result.now c.truncate.new.self.items
     c.reach-depth.result.0.now c.reach-depth.result.1 c.index-place.result.now c.args.self.now.key c.args.self.now.front
     c.min-base.result c.children.result.now c.reach-depth.ensures c.as_slice.ensures.value c.index-place.ensures
     c.children.ensures c.in_default.ensures.lookup.3 c.truncate.ensures.items c.min-base.ensures).0
@@ -15,7 +15,7 @@ returns-in_default-clause-left g c =
 pub returns-in_default-clause-work : goal.returns-in_default-clause-work
 returns-in_default-clause-work g c =
     let tree = g.T.RadixNode.tree in
-    (left_step tree (tree c.args.tree.now) c.args.self.now.path.items c.as_slice.result.now c.truncate.new.self.items
+    (left-step tree (tree c.args.tree.now) c.args.self.now.path.items c.as_slice.result.now c.truncate.new.self.items
     c.reach-depth.result.0.now c.reach-depth.result.1 c.index-place.result.now c.args.self.now.key c.args.self.now.front
     c.min-base.result c.children.result.now c.reach-depth.ensures c.as_slice.ensures.value c.index-place.ensures
     c.children.ensures c.in_default.ensures.lookup.3 c.truncate.ensures.items c.min-base.ensures).1
@@ -25,7 +25,7 @@ returns-clause-left g c =
     let tree = g.T.RadixNode.tree in
     let shown : c.as_ref.result.now ≡ c.open.new.self.key = c.as_ref.ensures ∙ sym c.in_ok-open.ensures.key in
     let front : c.open.new.self.front ≡ length c.as_ref.result.now = c.in_ok-open.ensures.front in
-    (entered_step tree (tree c.args.tree.now) c.args.self.now.path.items c.as_slice.result.now c.truncate.new.self.items
+    (entered-step tree (tree c.args.tree.now) c.args.self.now.path.items c.as_slice.result.now c.truncate.new.self.items
     c.push.new.self.items c.open.new.self.path.items c.reach-depth.result.0.now c.in-Some.child.now
     c.reach-depth.result.1 c.index-place.result.now c.args.self.now.key c.open.new.self.key c.prefix-prefix.result.now
     c.as_ref.result.now c.args.self.now.front c.min-base.result c.open.new.self.front _ c.children.result.now
@@ -40,7 +40,7 @@ returns-clause-work g c =
     let tree = g.T.RadixNode.tree in
     let shown : c.as_ref.result.now ≡ c.open.new.self.key = c.as_ref.ensures ∙ sym c.in_ok-open.ensures.key in
     let front : c.open.new.self.front ≡ length c.as_ref.result.now = c.in_ok-open.ensures.front in
-    (entered_step tree (tree c.args.tree.now) c.args.self.now.path.items c.as_slice.result.now c.truncate.new.self.items
+    (entered-step tree (tree c.args.tree.now) c.args.self.now.path.items c.as_slice.result.now c.truncate.new.self.items
     c.push.new.self.items c.open.new.self.path.items c.reach-depth.result.0.now c.in-Some.child.now
     c.reach-depth.result.1 c.index-place.result.now c.args.self.now.key c.open.new.self.key c.prefix-prefix.result.now
     c.as_ref.result.now c.args.self.now.front c.min-base.result c.open.new.self.front _ c.children.result.now
