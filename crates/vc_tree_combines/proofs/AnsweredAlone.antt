@@ -197,13 +197,6 @@ module _ {K : Type 0} (cmp : K → K → Ordering) (o : IsTotalOrder cmp) where
             (subst (λ f. IsCombinedIn cmp (values cmp {V = W}) R f bare (forest made)) e made-of.1) k);
       })
 
-      -- the same of the answer
-      pub ok-made_alone : {T E : Type 0} (tree : T → Tree K U) (v : Option U) (p : List K) → R t.value None v → p ≡ t.prefix
-          → (r : Result (Option T) E) → IfOk r (λ m. option_map tree m ≡ solid_child p v (forest made))
-          → IfOk r (λ m. IsMade cmp (λ v z. R v None z) t (option_map tree m))
-      ok-made_alone tree v p root e (Ok m) h = made-alone v (option_map tree m) root (h ∙ ap (λ p. solid_child p v (forest made)) e)
-      ok-made_alone tree v p root e (Err x) h = tt
-
 -- what holds of all elements holds of the one at a place
 pub all-at : {X : Type 0} (P : X → Type 0) (xs : List X) (i : ℕ) (x : X) → i < length xs → x ≡ get_or xs i x → AllByRecursion P xs → P x
 all-at P [] i x h e a = absurd (omega (arith, h))

@@ -4,13 +4,19 @@ use Rattle.std.specs.List.{AllByRecursion, filter_map}
 use Rattle.std.specs.declared.cmp.Ordering.{Ordering}
 use Rattle.std.specs.declared.cmp.Ordering.TheVariants.{Equal}
 use Rattle.vc_merge.specs.Script.{Event, left_alone, right_alone, collision, IsScript, lefts, rights}
-use Rattle.vc_tree_model.specs.Tree.{Tree, shortened}
+use Rattle.vc_tree_model.specs.Tree.{Tree, Forest, shortened}
 use Rattle.vc_tree_model.specs.Map.{lookup}
-use Rattle.vc_tree_model.specs.Child.{BeginsWith, IsChild, bound_by}
+use Rattle.vc_tree_model.specs.Child.{BeginsWith, IsChild, bound_by, solid_child}
 use Rattle.vc_tree_model.specs.Shortened.{weight}
 use Rattle.vc_tree_model.proofs.Look.{Look, values}
 use Rattle.vc_tree_combines.specs.Sides.{by_component, side_of}
 use Rattle.vc_tree_combines.specs.declared.sides.Side.{Side}
+
+-- a child of this prefix, of a value that is as R says, and of these children
+pub record IsEnded {K V : Type 0} (R : Option V → Type 0) (prefix : List K) (kids : Forest K V) (o : Option (Tree K V)) : Type 0 where
+  pub value : Option V
+  pub said : R value
+  pub child : o ≡ solid_child prefix value kids
 
 module _ {K : Type 0} (cmp : K → K → Ordering) where
   -- of a tree that one side alone has: a child that begins as the tree did, and R of what is read of the tree and of what the child binds

@@ -1,6 +1,6 @@
 //! The one recursion of all combines that build a tree.
 
-ghost use Rattle.std.specs.Prelude.{◌≡◌, ◌+◌, ◌*◌, ◌<◌, ◌≤◌, ◌++◌, List, [], Option, None, IfOk, drop, length, map, option_map};
+ghost use Rattle.std.specs.Prelude.{◌≡◌, ◌+◌, ◌*◌, ◌<◌, ◌≤◌, ◌++◌, List, [], Option, None, IfOk, drop, take, length, map, option_map};
 ghost use Rattle.std.specs.List.{cons_option};
 ghost use Rattle.std.specs.Option.{option_copied};
 ghost use Rattle.vc_tree_model.specs.Combine.{IsCombined};
@@ -11,7 +11,7 @@ ghost use Rattle.vc_tree_model.specs.Child.{solid_child, value_at as node_value}
 ghost use Rattle.vc_tree_model.specs.Shortened.{weight};
 ghost use Rattle.vc_tree_nodes.specs.Children.{seen};
 ghost use Rattle.vc_tree_nodes.specs.Parting.{Agree};
-ghost use Rattle.vc_tree_combines.specs.Made.{IsMade, IsBothMade};
+ghost use Rattle.vc_tree_combines.specs.Made.{IsMade, IsBothMade, IsEnded};
 
 use crate::facing::{Facing, face};
 use crate::sides::Side;
@@ -143,6 +143,43 @@ fn combine_values<
     op.at_values(value_at(a, i, front), value_at(b, j, front))
 }
 
+/// What the combine makes of two trees behind equal fronts of their prefixes, of the children that it has made.
+fn end<
+    K: TKey,
+    V: TValue,
+    W: TValue,
+    A: RadixNode<K, V>,
+    B: RadixNode<K, W>,
+    O: Combine<K, V, W, A, B>,
+>(
+    alloc: Global,
+    a: &A,
+    i: usize,
+    b: &B,
+    j: usize,
+    front: usize,
+    op: &O,
+    kids: Vec<O::Made>,
+) -> Result<Option<O::Made>, AllocError>
+    requires left { i ≤ length (A.tree a.now).prefix }
+    requires right { j ≤ length (B.tree b.now).prefix }
+    requires left_front { front ≤ length (drop i (A.tree a.now).prefix) }
+    requires right_front { front ≤ length (drop j (B.tree b.now).prefix) }
+    requires asks { O.asks op.now
+        (node_value (shortened i (A.tree a.now)) (drop front (drop i (A.tree a.now).prefix)))
+        (node_value (shortened j (B.tree b.now)) (drop front (drop j (B.tree b.now).prefix))) }
+    requires children { AreChildren K.cmp (seen O.Made.tree kids.items) }
+    ensures { IfOk result (λ made. IsEnded (O.says op.now
+        (node_value (shortened i (A.tree a.now)) (drop front (drop i (A.tree a.now).prefix)))
+        (node_value (shortened j (B.tree b.now)) (drop front (drop j (B.tree b.now).prefix))))
+        (take front (drop i (A.tree a.now).prefix)) (seen O.Made.tree kids.items) (option_map O.Made.tree made)) }
+{
+    let prefix = &a.prefix()[i..];
+    let value = combine_values(a, i, b, j, front, op)?;
+    let made = finish(alloc, &prefix[..front], value, kids)?;
+    Ok(made)
+}
+
 /// The combine of two trees, each without the front of its prefix: `None` where no key is left. The first `known` components that are
 /// left of either prefix are known to agree.
 pub fn combine_at<
@@ -174,7 +211,7 @@ pub fn combine_at<
         ≤ C.counted steps.old + 3 * (weight (shortened i (A.tree a.now)) + weight (shortened j (B.tree b.now))) }
 {
     // The law of trees, that they are canonical, comes with the prefix.
-    let prefix = &a.prefix()[i..];
+    let _ = a.prefix();
     let _ = b.prefix();
     let Facing {
         front,
@@ -183,27 +220,27 @@ pub fn combine_at<
         sides,
     } = face(alloc, a, i, b, j, known, steps)?;
     let mut kids = Vec::with_capacity(alloc, op.expected(sides.as_slice()))?;
+    let (from, other_from) = (left.from, right.from);
     let mut todo = sides.as_slice();
     while let Some((side, others)) = todo.split_first() {
         match side {
             Side::Left => {
-                let kid = op.left_alone(alloc, left.next(), left.from)?;
+                let kid = op.left_alone(alloc, left.next(), from)?;
                 keep(&mut kids, kid)?;
             }
             Side::Right => {
-                let kid = op.right_alone(alloc, right.next(), right.from)?;
+                let kid = op.right_alone(alloc, right.next(), other_from)?;
                 keep(&mut kids, kid)?;
             }
             Side::Both => {
                 let (x, y) = (left.next(), right.next());
-                let kid = combine_at(alloc, x, left.from, y, right.from, 1, op, steps)?;
+                let kid = combine_at(alloc, x, from, y, other_from, 1, op, steps)?;
                 keep(&mut kids, kid)?;
             }
         }
         todo = others;
     }
-    let value = combine_values(a, i, b, j, front, op)?;
-    let made = finish(alloc, &prefix[..front], value, kids)?;
+    let made = end(alloc, a, i, b, j, front, op, kids)?;
     Ok(made)
 }
 

@@ -1,12 +1,14 @@
 //! The combine that asks a closure at each key of the left tree.
 
-ghost use Rattle.std.specs.Prelude.{◌≤◌, List, Option, None, Ok, IfOk, length, option_map, refl};
+ghost use Rattle.std.specs.Prelude.{◌≤◌, List, Option, None, Ok, IfOk, drop, length, option_map, refl};
 ghost use Rattle.std.specs.Option.{option_copied};
 ghost use Rattle.vc_tree_model.specs.Asking.{MayAnswerAt, CanAskAt};
 ghost use Rattle.vc_tree_model.specs.Combine.{IsCombined, IsLeftAt};
 ghost use Rattle.vc_tree_model.specs.Map.{lookup};
+ghost use Rattle.vc_tree_model.specs.Canonical.{AreChildren};
 ghost use Rattle.vc_tree_model.specs.Tree.{shortened};
-ghost use Rattle.vc_tree_combines.specs.Made.{IsMade};
+ghost use Rattle.vc_tree_combines.specs.Made.{IsMade, IsEnded};
+ghost use Rattle.vc_tree_nodes.specs.Children.{seen};
 
 use crate::engine::{Combine, combine_whole, finish, keep};
 use crate::sides::Side;
@@ -78,14 +80,36 @@ fn answer_alone<
     ensures { IfOk result (λ made. IsMade K.cmp (λ v z. IsLeftAt (λ v w z. MayAnswerAt F.Fn answer.now v w (Ok z)) v None z)
         (shortened from (A.tree tree.now)) (option_map M.tree made)) }
 {
-    let prefix = &tree.prefix()[from..];
+    // The law of trees, that they are canonical, comes with the prefix.
+    let _ = tree.prefix();
     let children = tree.children();
     let mut kids = Vec::with_capacity(alloc, children.len())?;
     for child in children {
         keep(&mut kids, answer_alone(alloc, child, 0, answer)?)?;
     }
+    let made = end_alone(alloc, tree, from, answer, kids)?;
+    Ok(made)
+}
+
+/// What is left of a tree, of the children that are left.
+fn end_alone<
+    K: TKey,
+    V: TValue,
+    W: TValue,
+    A: RadixNode<K, V>,
+    M: Build<K, V>,
+    F: Fn(&V, Option<&W>) -> Result<Option<V>, AllocError>,
+>(alloc: Global, tree: &A, from: usize, answer: &F, kids: Vec<M>) -> Result<Option<M>, AllocError>
+    requires within { from ≤ length (A.tree tree.now).prefix }
+    requires asks { CanAskAt F.Fn answer.now (A.tree tree.now).value None }
+    requires children { AreChildren K.cmp (seen M.tree kids.items) }
+    ensures { IfOk result (λ made. IsEnded (IsLeftAt (λ v w z. MayAnswerAt F.Fn answer.now v w (Ok z)) (A.tree tree.now).value None)
+        (drop from (A.tree tree.now).prefix) (seen M.tree kids.items) (option_map M.tree made)) }
+{
+    let prefix = &tree.prefix()[from..];
     let value = answer_without(tree.value(), answer)?;
-    finish(alloc, prefix, value, kids)
+    let made = finish(alloc, prefix, value, kids)?;
+    Ok(made)
 }
 
 /// What the closure answers of the value of a key that the right tree has not.

@@ -13,15 +13,13 @@ decreases-combine_at g l = nodes (g.A.RadixNode.tree l.a.now) + nodes (g.B.Radix
 abbrev pub invariant-loop-side : goal.invariant-loop-side
 invariant-loop-side g l = record {
   doing :
-      IsDoing g.K.Ord.cmp g.A.RadixNode.tree g.B.RadixNode.tree l.initial.left.from l.initial.right.from (values g.K.Ord.cmp)
+      IsDoing g.K.Ord.cmp g.A.RadixNode.tree g.B.RadixNode.tree l.from l.other_from (values g.K.Ord.cmp)
       (g.O.Combine.says l.op) (g.O.Combine.asks l.op) (trees_below l.initial.left) (trees_below l.initial.right)
       (trees_below l.left) (trees_below l.right) l.todo (map g.O.Made.RadixNode.tree l.kids.items)
       (g.C.Count.counted l.steps)
       (g.C.Count.counted l.fn.steps
       + 3 * (weight (shortened l.fn.i (g.A.RadixNode.tree l.fn.a)) + weight (shortened l.fn.j (g.B.RadixNode.tree l.fn.b)))
       - 2);
-  left_from : l.left.from ≡ l.initial.left.from;
-  right_from : l.right.from ≡ l.initial.right.from;
 }
 
 abbrev pub decreases-loop-side : goal.decreases-loop-side

@@ -8,8 +8,7 @@ use Rattle.vc_tree_model.specs.Map.{lookup}
 use Rattle.vc_tree_model.specs.Tree.{nodes, forest_nodes, shortened}
 use Rattle.vc_tree_nodes.specs.Children.{seen}
 use Rattle.vc_tree_nodes.proofs.Finding.{child-nodes}
-use Rattle.vc_tree_combines.proofs.Opening.{slice-from}
-use Rattle.vc_tree_combines.proofs.AnsweredAlone.{value-alone, children-alone, made-none, made-next, alone-children, ok-made_alone, all-at, taken-next}
+use Rattle.vc_tree_combines.proofs.AnsweredAlone.{value-alone, children-alone, made-none, made-next, alone-children, made-alone, all-at, taken-next}
 use Rattle.vc_tree_combines.proofs.left.+answer_alone.Goals as goal
 
 pub loop-child-init : goal.loop-child-init
@@ -33,9 +32,8 @@ answer_alone-requires g t c κs within =
     (subst (AreChildren g.K.Ord.cmp) (sym c.children-children.ensures) c.prefix.ensures.canonical.1)) in
     search rules
 
-pub answer_without-requires : goal.answer_without-requires
-answer_without-requires g t c =
-    subst (λ v. CanAskAt {W = g.row.W.Denot} g.F.Fn c.args.answer.now v None) (sym c.value.ensures)
+pub end_alone-requires-clause-asks : goal.end_alone-requires-clause-asks
+end_alone-requires-clause-asks g t c =
     (value-alone g.K.Ord.cmp g.met.K.Ord.total g.A.RadixNode.tree (CanAskAt g.F.Fn c.args.answer.now) tt
     (shortened c.args.from (g.A.RadixNode.tree c.args.tree.now)) c.requires.asks)
 
@@ -46,8 +44,8 @@ loop-child-preserved g t c =
     (taken-next _ _ _ c.loop-child-test.true c.child-item.is) c.in_ok-keep.ensures c.loop-child.invariant
     c.in_ok-answer_alone.ensures
 
-pub finish-requires : goal.finish-requires
-finish-requires g t c =
+pub end_alone-requires-clause-children : goal.end_alone-requires-clause-children
+end_alone-requires-clause-children g t c =
     alone-children g.K.Ord.cmp g.met.K.Ord.total g.A.RadixNode.tree
     (IsLeftAt (λ v w z. MayAnswerAt {W = g.row.W.Denot} g.F.Fn c.args.answer.now v w (Ok z))) refl
     (shortened c.args.from (g.A.RadixNode.tree c.args.tree.now)) c.children-children.result.now _ c.children-children.ensures
@@ -56,11 +54,8 @@ finish-requires g t c =
 
 pub returns : goal.returns
 returns g t c =
-    ok-made_alone g.K.Ord.cmp g.met.K.Ord.total g.A.RadixNode.tree
+    made-alone g.K.Ord.cmp g.met.K.Ord.total g.A.RadixNode.tree
     (IsLeftAt (λ v w z. MayAnswerAt {W = g.row.W.Denot} g.F.Fn c.args.answer.now v w (Ok z))) refl
     (shortened c.args.from (g.A.RadixNode.tree c.args.tree.now)) c.children-children.result.now _ c.children-children.ensures
     (subst (AreChildren g.K.Ord.cmp) (sym c.children-children.ensures) c.prefix.ensures.canonical.1)
-    (rw (take_all _ _ c.loop-child-test.false) at c.loop-child.invariant) g.M.RadixNode.tree c.in_ok-value.value _
-    (subst (λ v. IsLeftAt (λ v w z. MayAnswerAt {W = g.row.W.Denot} g.F.Fn c.args.answer.now v w (Ok z)) v None c.in_ok-value.value) c.value.ensures
-    c.in_ok-value.ensures)
-    (slice-from _ _ _ c.args.from refl c.prefix.ensures.value) c.finish.result c.finish.ensures
+    (rw (take_all _ _ c.loop-child-test.false) at c.loop-child.invariant) _ _ c.in_ok-made.ensures.said c.in_ok-made.ensures.child
