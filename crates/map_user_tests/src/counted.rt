@@ -37,6 +37,16 @@ fn map_of<'a>(
     Ok(map)
 }
 
+/// Answers a fresh join with 1.
+fn one_shown(_: OuterJoinArg<&Compared<'_>, &u32, &u32>) -> Result<Option<u32>, AllocError> {
+    Ok(Some(1))
+}
+
+/// Answers a join in place with 1.
+fn one_handed(_: OuterJoinArg<&Compared<'_>, u32, &u32>) -> Option<u32> {
+    Some(1)
+}
+
 /// The fresh join of the kind, by the call without a counter.
 fn fresh<'s, 'a>(
     alloc: Global,
@@ -45,12 +55,7 @@ fn fresh<'s, 'a>(
     b: &'s Map<'a>,
 ) -> Result<Map<'a>, AllocError> {
     match kind {
-        JoinKind::Outer => outer_join(
-            alloc,
-            a,
-            b,
-            |_: OuterJoinArg<&Compared<'_>, &u32, &u32>| Ok(Some(1)),
-        ),
+        JoinKind::Outer => outer_join(alloc, a, b, one_shown),
         JoinKind::Left => left_join(
             alloc,
             a,
@@ -75,9 +80,7 @@ fn fresh<'s, 'a>(
 /// Puts the join of the kind in the place of the left map, by the call without a counter.
 fn change<'s, 'a>(kind: JoinKind, a: &'s mut Map<'a>, b: &'s Map<'a>) -> Result<(), AllocError> {
     match kind {
-        JoinKind::Outer => {
-            a.outer_join_with(b, |_: OuterJoinArg<&Compared<'_>, u32, &u32>| Some(1))
-        }
+        JoinKind::Outer => a.outer_join_with(b, one_handed),
         JoinKind::Left => {
             a.left_join_with(b, |_: &Compared<'_>, _: u32, _: Option<&u32>| Some(1))
         }
@@ -95,12 +98,7 @@ fn fresh_counted<'s, 'a>(
     b: &'s Map<'a>,
     steps: &mut Steps,
 ) -> Result<Map<'a>, AllocError> {
-    a.join_counted(
-        b,
-        kind,
-        |_: OuterJoinArg<&Compared<'_>, &u32, &u32>| Ok(Some(1)),
-        steps,
-    )
+    a.join_counted(b, kind, one_shown, steps)
 }
 
 /// A clone of the left map in whose place the join was put, by the call without a counter.
@@ -118,17 +116,12 @@ fn in_place_counted<'s, 'a>(
     steps: &mut Steps,
 ) -> Result<Map<'a>, AllocError> {
     let mut left = a.clone()?;
-    left.join_with_counted(
-        b,
-        kind,
-        |_: OuterJoinArg<&Compared<'_>, u32, &u32>| Some(1),
-        steps,
-    )?;
+    left.join_with_counted(b, kind, one_handed, steps)?;
     Ok(left)
 }
 
 /// The two forms of a join.
-#[derive(Clone, Copy, Debug)]
+#[derive(Clone, Copy)]
 enum Form {
     Fresh,
     InPlace,
@@ -173,7 +166,39 @@ fn agrees<'s, 'a>(
     Ok(is_counted && count.get() <= bound && made == counted)
 }
 
-/// Whether that holds of each join of a short map and a long one, in both orders.
+/// Whether that holds of each join of two maps.
+fn all_agree<'s, 'a>(
+    alloc: Global,
+    form: Form,
+    a: &'s Map<'a>,
+    b: &'s Map<'a>,
+    bound: u128,
+    count: &'a Cell<u128>,
+) -> Result<bool, AllocError> {
+    let mut agree = true;
+    for kind in KINDS {
+        agree &= agrees(alloc, form, kind, a, b, bound, count)?;
+    }
+    Ok(agree)
+}
+
+/// Whether it holds of them in both orders.
+fn both_agree<'s, 'a>(
+    alloc: Global,
+    short: &'s Map<'a>,
+    long: &'s Map<'a>,
+    bound: u128,
+    count: &'a Cell<u128>,
+) -> Result<bool, AllocError> {
+    let mut agree = true;
+    for form in [Form::Fresh, Form::InPlace] {
+        agree &= all_agree(alloc, form, short, long, bound, count)?
+            && all_agree(alloc, form, long, short, bound, count)?;
+    }
+    Ok(agree)
+}
+
+/// Whether it holds of a short map and a long one.
 fn lengths_agree<'a>(
     alloc: Global,
     place: Place,
@@ -182,14 +207,7 @@ fn lengths_agree<'a>(
 ) -> Result<bool, AllocError> {
     let short = map_of(alloc, place, few, many, count)?;
     let long = map_of(alloc, Place::Among, many, many, count)?;
-    let mut agree = true;
-    for kind in KINDS {
-        for form in [Form::Fresh, Form::InPlace] {
-            agree &= agrees(alloc, form, kind, &short, &long, bound, count)?
-                && agrees(alloc, form, kind, &long, &short, bound, count)?;
-        }
-    }
-    Ok(agree)
+    both_agree(alloc, &short, &long, bound, count)
 }
 
 #[test]

@@ -189,17 +189,31 @@ fn is_dropped_once(
     Ok(outcome == expected && sides.holders() == holders)
 }
 
+/// Whether that holds where each request is refused, and all is dropped once the maps are gone.
+fn is_always_dropped_once(
+    sides: &Sides,
+    memory: &Memory,
+    row: Row,
+    right_refuses: bool,
+) -> Result<bool, AllocError> {
+    for number in 0..LIMIT {
+        if !is_dropped_once(sides, memory, row, right_refuses, number)?
+            || sides.holders() != ALONE
+        {
+            return Ok(false);
+        }
+    }
+    Ok(true)
+}
+
 #[test]
 fn calls_drop_each_pair_once_and_clone_none_that_they_keep(rt: HostRuntime) -> Result<(), Fail> {
     let sides = Sides::new(rt.alloc())?;
     let memory = memory_over(rt.alloc());
     for row in ROWS {
         for right_refuses in [false, true] {
-            for number in 0..LIMIT {
-                let is_right = is_dropped_once(&sides, &memory, row, right_refuses, number)?
-                    && sides.holders() == ALONE;
-                assert!(rt; is_right, "{:?} at {number}", row.3);
-            }
+            let is_right = is_always_dropped_once(&sides, &memory, row, right_refuses)?;
+            assert!(rt; is_right, "{:?}", row.3);
         }
     }
     Ok(())
@@ -234,12 +248,20 @@ fn outer_asks(
     Ok((outcome.is_ok(), asked.get()))
 }
 
+/// Whether keys of the right map refuse to be cloned, the request that is refused, and what that answers then.
+const OUTCOMES: [(bool, u64, (bool, u64)); 3] = [
+    (false, 0, (true, 3)),
+    (false, 1, (false, 0)),
+    (true, 0, (false, 0)),
+];
+
 #[test]
 fn a_refused_outer_join_asks_nothing(rt: HostRuntime) -> Result<(), Fail> {
     let memory = memory_over(rt.alloc());
-    assert_eq!(rt; outer_asks(&memory, false, 0)?, (true, 3));
-    assert_eq!(rt; outer_asks(&memory, false, 1)?, (false, 0));
-    assert_eq!(rt; outer_asks(&memory, true, 0)?, (false, 0));
+    for (right_refuses, number, outcome) in OUTCOMES {
+        let is_right = outer_asks(&memory, right_refuses, number)? == outcome;
+        assert!(rt; is_right, "{number} {right_refuses}");
+    }
     Ok(())
 }
 
@@ -313,27 +335,38 @@ fn take_first(sides: &Sides, map: Map<'_>) -> ([usize; 4], [usize; 4]) {
     (left, sides.holders())
 }
 
+/// The holders after a known key came again, after the first value was written over, after the map kept its first pair, and after the
+/// key came again.
+fn change_one(sides: &Sides, map: &mut Map<'_>) -> Result<[[usize; 4]; 4], AllocError> {
+    let inserted = insert_again(sides, map)?;
+    let written = write_first(sides, map);
+    let kept = keep_first(sides, map);
+    Ok([inserted, written, kept, insert_again(sides, map)?])
+}
+
+/// Those holders, and those after that map was taken apart.
+fn let_go(sides: &Sides, memory: &Memory) -> Result<[[usize; 4]; 6], AllocError> {
+    let mut map = sides.left.map(memory, 1, true)?;
+    let [inserted, written, kept, again] = change_one(sides, &mut map)?;
+    let (left, ended) = take_first(sides, map);
+    Ok([inserted, written, kept, again, left, ended])
+}
+
+/// What they are to be.
+const LET_GO: [[usize; 4]; 6] = [
+    [2, 2, 2, 2],
+    [2, 1, 2, 2],
+    [2, 1, 1, 1],
+    [2, 1, 2, 2],
+    [1, 1, 2, 2],
+    ALONE,
+];
+
 #[test]
 fn pairs_that_go_are_dropped(rt: HostRuntime) -> Result<(), Fail> {
     let sides = Sides::new(rt.alloc())?;
     let memory = memory_over(rt.alloc());
     assert!(rt; drops_what_is_refused(&sides, &memory)?);
-    let mut map = sides.left.map(&memory, 1, true)?;
-    let inserted = insert_again(&sides, &mut map)?;
-    let written = write_first(&sides, &mut map);
-    let kept = keep_first(&sides, &mut map);
-    let again = insert_again(&sides, &mut map)?;
-    let (left, ended) = take_first(&sides, map);
-    assert_eq!(rt;
-        [inserted, written, kept, again, left, ended],
-        [
-            [2, 2, 2, 2],
-            [2, 1, 2, 2],
-            [2, 1, 1, 1],
-            [2, 1, 2, 2],
-            [1, 1, 2, 2],
-            ALONE
-        ]
-    );
+    assert_eq!(rt; let_go(&sides, &memory)?, LET_GO);
     Ok(())
 }

@@ -35,21 +35,29 @@ fn write(map: &mut Map, key: u32) -> bool {
     }
 }
 
-/// Whether an insert, look-ups and a retain answer what was worked out, and leave it.
-fn changes_are_right(map: &mut Map) -> Result<bool, AllocError> {
+/// Whether an insert at a known key answers its value, and leaves what was worked out.
+fn inserts(map: &mut Map) -> Result<bool, AllocError> {
     let old = map.insert(2, 9)?;
-    let is_changed = map.as_ref() == [(1, 2), (2, 9), (3, 6)].as_slice();
+    Ok(old == Some(4) && map.as_ref() == [(1, 2), (2, 9), (3, 6)].as_slice())
+}
+
+/// Whether values are found and written over at a key of the map alone.
+fn finds(map: &mut Map) -> bool {
     let are_found = map.get(&3).copied() == Some(6) && map.get(&4).is_none();
-    let are_written = write(map, 3) && !write(map, 4);
+    are_found && write(map, 3) && !write(map, 4)
+}
+
+/// Whether a retain leaves what was worked out.
+fn keeps(map: &mut Map) -> bool {
     map.retain(|pair| pair.0 != 2);
-    let is_kept = map.as_ref() == [(1, 2), (3, 8)].as_slice();
-    Ok(old == Some(4) && is_changed && are_found && are_written && is_kept)
+    map.as_ref() == [(1, 2), (3, 8)].as_slice()
 }
 
 #[test]
 fn maps_change_as_worked_out(rt: HostRuntime) -> Result<(), Fail> {
     let mut map = map_of(rt.alloc(), &[(3, 6), (1, 2), (2, 4)])?;
-    assert!(rt; changes_are_right(&mut map)?);
+    assert!(rt; inserts(&mut map)?);
+    assert!(rt; finds(&mut map) && keeps(&mut map));
     Ok(())
 }
 
@@ -107,14 +115,16 @@ fn maps_come_from_lists_trees_and_iterators(rt: HostRuntime) -> Result<(), Fail>
     Ok(())
 }
 
-/// The set of the pairs of a map that is copied.
-fn set_of(map: &Map) -> Result<VecSet<(u32, u32), 2>, AllocError> {
-    Ok(VecSet::from(map.clone()?))
+/// Whether the set of the pairs of a map that is copied has the pairs.
+fn set_agrees(map: &Map) -> Result<bool, AllocError> {
+    let set: VecSet<(u32, u32), 2> = VecSet::from(map.clone()?);
+    Ok(set.as_ref() == PAIRS.as_slice())
 }
 
-/// The list of the pairs of a map that is copied.
-fn list_of(map: &Map) -> Result<SmallVec<(u32, u32), 2>, AllocError> {
-    Ok(map.clone()?.into())
+/// Whether the list of the pairs of a map that is copied has the pairs.
+fn list_agrees(map: &Map) -> Result<bool, AllocError> {
+    let list: SmallVec<(u32, u32), 2> = map.clone()?.into();
+    Ok(list.as_slice() == PAIRS.as_slice())
 }
 
 /// Whether each iteration by reference shows the pairs.
@@ -127,9 +137,8 @@ fn shows_pairs(map: &Map) -> bool {
 #[test]
 fn maps_turn_into_lists_and_sets(rt: HostRuntime) -> Result<(), Fail> {
     let map = map_of(rt.alloc(), PAIRS.as_slice())?;
-    assert!(rt; set_of(&map)?.as_ref() == PAIRS.as_slice());
-    assert!(rt; list_of(&map)?.as_slice() == PAIRS.as_slice());
-    assert!(rt; shows_pairs(&map));
+    assert!(rt; set_agrees(&map)?);
+    assert!(rt; list_agrees(&map)? && shows_pairs(&map));
     Ok(())
 }
 
@@ -147,13 +156,25 @@ fn compares(single: &Map, map: &Map, same: &Map) -> bool {
     are_lengths && are_ordered && map == same && hash_of(map) == hash_of(same)
 }
 
+/// Whether that holds of a map of one pair, and of the map of three made in two ways.
+fn are_compared(alloc: Global) -> Result<bool, AllocError> {
+    let single = Map::single(alloc, (1, 2))?;
+    let map = of_list(alloc)?;
+    let same = of_tree(alloc)?;
+    Ok(compares(&single, &map, &same))
+}
+
+/// Whether a map is printed as its pairs.
+fn is_printed(alloc: Global) -> Result<bool, AllocError> {
+    let map = of_list(alloc)?;
+    let text = format!(in alloc; "{map:?}")?;
+    Ok(text.as_str() == "{1: 2, 2: 4, 3: 6}")
+}
+
 #[test]
 fn maps_are_ordered_hashed_and_shown(rt: HostRuntime) -> Result<(), Fail> {
-    let single = Map::single(rt.alloc(), (1, 2))?;
-    let map = of_list(rt.alloc())?;
-    assert!(rt; compares(&single, &map, &of_tree(rt.alloc())?));
+    assert!(rt; are_compared(rt.alloc())?);
     assert!(rt; Map::empty(rt.alloc()).is_empty());
-    let text = format!(in rt.alloc(); "{map:?}")?;
-    assert_eq!(rt; text.as_str(), "{1: 2, 2: 4, 3: 6}");
+    assert!(rt; is_printed(rt.alloc())?);
     Ok(())
 }

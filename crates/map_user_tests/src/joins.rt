@@ -408,11 +408,19 @@ fn by_turns(alloc: Global, is_right: &Cell<bool>) -> Result<Map, AllocError> {
     )
 }
 
+/// Whether it has these pairs, where the right value comes first or not.
+fn has_by_turns(
+    alloc: Global,
+    is_right: bool,
+    pairs: &[(u32, char, u32)],
+) -> Result<bool, AllocError> {
+    let made = by_turns(alloc, &Cell::new(is_right))?;
+    Ok(has(made.as_ref(), pairs))
+}
+
 #[test]
 fn a_closure_may_answer_by_turns(rt: HostRuntime) -> Result<(), Fail> {
-    let made = by_turns(rt.alloc(), &Cell::new(false))?;
-    assert!(rt; has(made.as_ref(), &[(1, 'a', 1), (2, 'a', 2)]));
-    let made = by_turns(rt.alloc(), &Cell::new(true))?;
-    assert!(rt; has(made.as_ref(), &[(1, 'a', 1), (2, 'a', 5)]));
+    assert!(rt; has_by_turns(rt.alloc(), false, &[(1, 'a', 1), (2, 'a', 2)])?);
+    assert!(rt; has_by_turns(rt.alloc(), true, &[(1, 'a', 1), (2, 'a', 5)])?);
     Ok(())
 }
