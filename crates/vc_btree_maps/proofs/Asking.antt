@@ -91,13 +91,6 @@ module _ {K V W X : Type 0} (cmp : K → K → Ordering) (total : IsTotalOrder c
         ∙ ap (λ q. asked kind.Left left_spelling (Some (key.now, value.now)) q) (same-entry cmp total k key.now ys (equal-by (cmp k key.now) t))
         ∙ left-asked key value other (entry_at cmp ys key.now) (e ∙ value-entry cmp ys key.now)
 
-    -- at first nothing is asked
-    pub left-start : (zs : List (K × X)) → AscendsByKey cmp zs → zs ≡ [] → IsJoin cmp kind.Left left_spelling [] ys May Cloned zs
-    left-start zs s e = record {
-      ascends = s;
-      at = λ k. subst (λ q. IsAnswered May Cloned q (entry_at cmp zs k)) (sym (no-left (entry_at cmp ys k))) (ap (λ l. entry_at cmp l k) e);
-    }
-
     -- nothing stands at the next key
     pub left-absent : (front : List (K × V)) (p : K × V) (rest : List (K × V)) (zs : List (K × X)) → AscendsByKey cmp (front ++ p ∷ rest)
         → IsJoin cmp kind.Left left_spelling front ys May Cloned zs → entry_at cmp zs p.0 ≡ None
@@ -193,13 +186,6 @@ module _ {K V W X : Type 0} (cmp : K → K → Ordering) (total : IsTotalOrder c
         ap (λ q. asked (right_kind alone) right_spelling (entry_at cmp xs k) q) is
         ∙ ap (λ p. asked (right_kind alone) right_spelling p (Some (key.now, other.now))) (same-entry cmp total k key.now xs (equal-by (cmp k key.now) t))
         ∙ right-asked alone key value other (entry_at cmp xs key.now) (e ∙ value-entry cmp xs key.now) asks
-
-    -- at first nothing is asked
-    pub right-start : (alone : Bool) (zs : List (K × X)) → AscendsByKey cmp zs → zs ≡ [] → IsJoin cmp (right_kind alone) right_spelling xs [] May Cloned zs
-    right-start alone zs s e = record {
-      ascends = s;
-      at = λ k. subst (λ q. IsAnswered May Cloned q (entry_at cmp zs k)) (sym (no-right alone (entry_at cmp xs k))) (ap (λ l. entry_at cmp l k) e);
-    }
 
     -- nothing stands at the next key
     pub right-absent : (alone : Bool) (front : List (K × W)) (q : K × W) (rest : List (K × W)) (zs : List (K × X)) → AscendsByKey cmp (front ++ q ∷ rest)

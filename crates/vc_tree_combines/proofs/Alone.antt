@@ -120,11 +120,6 @@ pub ok-shortened : {K V T E : Type 0} (cmp : K → K → Ordering) → IsTotalOr
 ok-shortened cmp o keeps n t tree (Ok u) h = shortened-binds cmp o keeps n t (tree u) h
 ok-shortened cmp o keeps n t tree (Err e) h = tt
 
--- nothing of one side alone is left in an inner combine
-pub inner-left : {V W U : Type 0} (answers : V → W → Option U → Type 0) (v : Option V) → IsInnerAt answers v None None
-inner-left answers None = refl
-inner-left answers (Some v) = refl
-
 -- a kept value of one side alone is in an outer combine
 pub outer-left : {V : Type 0} (l r : V → V → Type 0) (answers : V → V → Option V → Type 0) (v z : Option V) → IsKept l v z
     → IsOuterAt l r answers v None z

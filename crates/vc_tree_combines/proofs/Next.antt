@@ -106,10 +106,6 @@ module _ {K V W U O A B : Type 0} (cmp : K → K → Ordering) (ta : A → Tree 
       there (right_alone y ∷ es) e = omega arith
       there (collision x y ∷ es) e = omega arith
 
-  -- what was spent is within the budget
-  pub within-budget : spent ≤ budget
-  within-budget = let p = d.paid in omega (arith, p)
-
   -- a next tree goes on at the place
   pub left_within : AreChildren cmp (shortened_in ta i xs) → (x : A) (ls' : List A) → ls ≡ x ∷ ls' → i < length (ta x).prefix
   left_within c x ls' e =

@@ -189,11 +189,6 @@ module _ {K : Type 0} (cmp : K → K → Ordering) (o : IsTotalOrder cmp) where
           at-ends shared (y ∷ g.0) answer g.1
           (rw s (bare-or_missed cmp o y g.0 t.prefix u.value u.children t.value t.children answer c.0 c.1 e))
 
-      pub within-agrees : (f : Forest K V) (kid : Tree K V) → IsFoundChild cmp f y kid → Agree cmp kid.prefix (drop n u.prefix) 1
-      within-agrees f kid k =
-          let g = goes-on n u.prefix y ey in
-          found-agrees f kid y (drop n u.prefix) (ap (λ l. slice_get l 0) g.1) k
-
     -- both end
     pub both-told : (shared : Bool) (f : Forest K V) (g : Forest K W) (v : Option V) (w : Option W) (below : Bool)
         → length u.prefix ≤ n → f ≡ t.children → g ≡ u.children → v ≡ t.value → w ≡ u.value → IsMet shared v w

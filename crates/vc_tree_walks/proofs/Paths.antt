@@ -129,15 +129,6 @@ module _ {K V : Type 0} where
         ∙ l.rows (place ∷ []) ∙ ap (λ xs. xs ++ l.above) (rows-last t place);
   }
 
-  -- a path that is not empty leaves some work
-  pub some-work : (t : Tree K V) (path : List Place) → 0 < length path → 0 < outer_work (rows_at t path)
-  some-work t [] h = absurd (omega (arith, h))
-  some-work t (place ∷ path) h = by (elim (entered place.entered t.children) [ None ↦ [] | Some c ↦ rows_at c path ])
-    where
-      by : (rows : List (Forest K V × ℕ)) → 0 < outer_work (rows ++ row_of_place t place ∷ [])
-      by [] = omega arith
-      by (row ∷ rows) = omega arith
-
   -- an opened node is left as its row would be
   pub opened-rows : (t : Tree K V) (key : List K) (rows : List (Forest K V × ℕ))
       → rows_left key (rows_at t (opened t (length key)) ++ rows) ≡ rows_left key ((t.children, length key) ∷ rows)

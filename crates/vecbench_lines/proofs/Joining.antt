@@ -78,10 +78,6 @@ lines_behind-append taken chunk rest =
     ap (λ ps. lines_of_parts (onto taken ps)) (parts-append chunk rest) ∙
     lines_of_parts-glue taken (parts_of Newline chunk) (parts_of Newline rest) (parts-some chunk) (parts-some rest)
 
--- all lines stand behind nothing
-pub lines-behind_nothing : (text : List ℕ) → lines text ≡ lines_behind [] text
-lines-behind_nothing text = ap lines_of_parts (sym (onto-nil (parts_of Newline text) (parts-some text)))
-
 -- the last line, which no LF ends
 pub lines_behind-nil : (taken : List ℕ) → lines_behind taken [] ≡ lines_of_parts (taken ∷ [])
 lines_behind-nil taken = ap (λ line. lines_of_parts (line ∷ [])) (append-nil taken)
@@ -95,20 +91,10 @@ pub record Reading (text : List ℕ) (remaining start new : Option (List ℕ)) (
   pub stands : Stands done taken start new s
   pub whole : lines text ≡ done ++ lines_behind taken rest
 
--- before the first read
-pub Reading-start : (text : List ℕ) (remaining start : Option (List ℕ)) (s : Session) → remaining ≡ Some text → Stands [] [] start start s → Reading text remaining start start s
-Reading-start text remaining start s is stands =
-    record { done = []; taken = []; rest = text; reader = is; stands = stands; whole = lines-behind_nothing text }
-
 -- what a read took of a known text
 pub read-known : (rest bs : List ℕ) (new : Option (List ℕ)) → Consumes (Some rest) new bs → (more : List ℕ) × (new ≡ Some more) × (rest ≡ bs ++ more)
 read-known rest bs None took = absurd took
 read-known rest bs (Some more) took = (more, refl, took)
-
--- the last line of what was taken
-pub unended-none : (taken : List ℕ) → ¬ (0 < length taken) → lines_of_parts (taken ∷ []) ≡ []
-unended-none [] none = refl
-unended-none (x ∷ xs) none = absurd (none (omega arith))
 
 pub unended-some : (taken : List ℕ) → 0 < length taken → lines_of_parts (taken ∷ []) ≡ taken ∷ []
 unended-some [] some = absurd (omega (arith, some))
