@@ -30,45 +30,84 @@ fn assert_binds<T: AbstractRadixTree<u8, u32>>(
     }
 }
 
-/// Each combine of two trees of a flavour, at every key of either.
+/// The outer combine of two trees, at every key of either.
+fn combines_all<T: AbstractRadixTreeMut<u8, u32>>(
+    rt: &impl std::process::Abort,
+    left: &T,
+    right: &T,
+) -> Result<(), AllocError> {
+    let outer: T = left.outer_combine(right, |v, w| Ok(Some(v.saturating_add(*w))))?;
+    assert_binds(
+        rt,
+        &outer,
+        &[("a", Some(1)), ("ab", Some(7)), ("b", Some(7)), ("", None)],
+    );
+    Ok(())
+}
+
+/// The inner combine, and what it makes with the front of its keys off.
+fn combines_shared<T: AbstractRadixTreeMut<u8, u32>>(
+    rt: &impl std::process::Abort,
+    left: &T,
+    right: &T,
+) -> Result<(), AllocError> {
+    let inner: T = left.inner_combine(right, |v, w| Ok(Some(v.saturating_add(*w))))?;
+    assert_binds(rt, &inner, &[("a", None), ("ab", Some(7)), ("b", None)]);
+    assert_eq!(rt; inner.prefix().len(), 2);
+    let short: T = inner.materialize_shortened(1)?;
+    assert_binds(rt, &short, &[("b", Some(7)), ("ab", None)]);
+    Ok(())
+}
+
+/// An inner combine that keeps no key.
+fn combines_to_none<T: AbstractRadixTreeMut<u8, u32>>(
+    rt: &impl std::process::Abort,
+    left: &T,
+    right: &T,
+) -> Result<(), AllocError> {
+    let gone: T = left.inner_combine(right, |_, _| Ok(None))?;
+    assert!(rt; gone.is_empty());
+    Ok(())
+}
+
+/// Union, intersection and difference.
+fn combines_keys<T: AbstractRadixTreeMut<u8, u32>>(
+    rt: &impl std::process::Abort,
+    left: &T,
+    right: &T,
+) -> Result<(), AllocError> {
+    let union = left.union(right)?;
+    assert_binds(
+        rt,
+        &union,
+        &[("a", Some(1)), ("ab", Some(2)), ("b", Some(7))],
+    );
+    let intersection = left.intersection(right)?;
+    assert_binds(
+        rt,
+        &intersection,
+        &[("a", None), ("ab", Some(2)), ("b", None)],
+    );
+    let difference = left.difference(right)?;
+    assert_binds(
+        rt,
+        &difference,
+        &[("a", Some(1)), ("ab", None), ("b", None)],
+    );
+    Ok(())
+}
+
+/// Each combine of two trees of a flavour.
 fn combines<T: AbstractRadixTreeMut<u8, u32>>(
     alloc: Global,
     rt: &impl std::process::Abort,
 ) -> Result<(), AllocError> {
     let left: T = tree_of(alloc, &[("a", 1), ("ab", 2)])?;
     let right: T = tree_of(alloc, &[("ab", 5), ("b", 7)])?;
-    let outer: T = left.outer_combine(&right, |v, w| Ok(Some(v.saturating_add(*w))))?;
-    assert_binds(
-        rt,
-        &outer,
-        &[("a", Some(1)), ("ab", Some(7)), ("b", Some(7)), ("", None)],
-    );
-    let inner: T = left.inner_combine(&right, |v, w| Ok(Some(v.saturating_add(*w))))?;
-    assert_binds(rt, &inner, &[("a", None), ("ab", Some(7)), ("b", None)]);
-    assert_eq!(rt; inner.prefix().len(), 2);
-    let gone: T = left.inner_combine(&right, |_, _| Ok(None))?;
-    assert!(rt; gone.is_empty());
-    let union = left.union(&right)?;
-    assert_binds(
-        rt,
-        &union,
-        &[("a", Some(1)), ("ab", Some(2)), ("b", Some(7))],
-    );
-    let intersection = left.intersection(&right)?;
-    assert_binds(
-        rt,
-        &intersection,
-        &[("a", None), ("ab", Some(2)), ("b", None)],
-    );
-    let difference = left.difference(&right)?;
-    assert_binds(
-        rt,
-        &difference,
-        &[("a", Some(1)), ("ab", None), ("b", None)],
-    );
-    let short: T = inner.materialize_shortened(1)?;
-    assert_binds(rt, &short, &[("b", Some(7)), ("ab", None)]);
-    Ok(())
+    combines_all(rt, &left, &right)?;
+    combines_shared(rt, &left, &right)?;
+    combines_to_none(rt, &left, &right)?;
+    combines_keys(rt, &left, &right)
 }
 
 /// Asserts which pairs a tree has, and its shape.
@@ -86,30 +125,62 @@ fn assert_is<T: AbstractRadixTree<u8, u32>>(
     Ok(())
 }
 
-/// Combines that are worked out by hand, and a tree with the front of its keys off.
-fn worked_combines<T: AbstractRadixTreeMut<u8, u32>>(
+/// An outer combine that keeps no key of both, worked out by hand.
+fn closures_keep_keys<T: AbstractRadixTreeMut<u8, u32>>(
     alloc: Global,
     rt: &impl std::process::Abort,
 ) -> Result<(), AllocError> {
     let two: T = tree_of(alloc, &[("a", 1), ("ab", 2)])?;
     let right: T = tree_of(alloc, &[("a", 3)])?;
     let outer: T = two.outer_combine(&right, |_, _| Ok(None))?;
-    assert_is(alloc, rt, &outer, "2ab", "ab*")?;
+    assert_is(alloc, rt, &outer, "2ab", "ab*")
+}
+
+/// A left combine that keeps those alone, worked out by hand.
+fn closures_sum<T: AbstractRadixTreeMut<u8, u32>>(
+    alloc: Global,
+    rt: &impl std::process::Abort,
+) -> Result<(), AllocError> {
     let nested: T = tree_of(alloc, &[("x", 1), ("xy", 2)])?;
     let right: T = tree_of(alloc, &[("xy", 5)])?;
     let summed: T = nested.left_combine(&right, |v, w| Ok(w.map(|w| v.saturating_add(*w))))?;
-    assert_is(alloc, rt, &summed, "7xy", "xy*")?;
+    assert_is(alloc, rt, &summed, "7xy", "xy*")
+}
+
+/// A union that is worked out by hand.
+fn unites<T: AbstractRadixTreeMut<u8, u32>>(
+    alloc: Global,
+    rt: &impl std::process::Abort,
+) -> Result<(), AllocError> {
     let one: T = tree_of(alloc, &[("a", 1)])?;
     let right: T = tree_of(alloc, &[("a", 2), ("b", 3)])?;
-    assert_is(alloc, rt, &one.union(&right)?, "1a 3b", "(a* b*)")?;
+    let union = one.union(&right)?;
+    assert_is(alloc, rt, &union, "1a 3b", "(a* b*)")
+}
+
+/// A tree with the front of its keys off.
+fn shortens<T: AbstractRadixTreeMut<u8, u32>>(
+    alloc: Global,
+    rt: &impl std::process::Abort,
+) -> Result<(), AllocError> {
     let three: T = tree_of(alloc, &[("aabbcc", 1), ("aabb", 2), ("aabbee", 3)])?;
     assert_eq!(rt; three.prefix().len(), 4);
-    let short: T = three.materialize_shortened(2)?;
-    assert_is(alloc, rt, &short, "2bb 1bbcc 3bbee", "bb*(cc* ee*)")?;
     for key in ["xaabbcc", "aabbx", "aabbeex"] {
         assert!(rt; !three.contains_key(key.as_bytes()), "{key}");
     }
-    Ok(())
+    let short: T = three.materialize_shortened(2)?;
+    assert_is(alloc, rt, &short, "2bb 1bbcc 3bbee", "bb*(cc* ee*)")
+}
+
+/// Each of these.
+fn worked_combines<T: AbstractRadixTreeMut<u8, u32>>(
+    alloc: Global,
+    rt: &impl std::process::Abort,
+) -> Result<(), AllocError> {
+    closures_keep_keys::<T>(alloc, rt)?;
+    closures_sum::<T>(alloc, rt)?;
+    unites::<T>(alloc, rt)?;
+    shortens::<T>(alloc, rt)
 }
 
 #[test]

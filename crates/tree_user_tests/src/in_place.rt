@@ -164,32 +164,36 @@ fn changed_beside_clone<'a, T: AbstractRadixTreeMut<u8, Counted<'a>> + Clone>(
     Ok((is_refused, row_of(&tree), row_of(&kept)))
 }
 
+/// Whether that is the empty tree where the change was refused, and else the changed one, beside the clone.
+fn is_as_refused(outcome: (bool, Row, Row), row: Row) -> bool {
+    let (is_refused, left, kept) = outcome;
+    let expected = if is_refused { [0; KEYS.len()] } else { row };
+    left == expected && kept == [0, 1, 2, 3, 0, 0]
+}
+
+/// Whether that holds of both flavours, all values are dropped, and a shared tree of which no value may be cloned refuses all changes
+/// but a prepend.
+fn are_as_refused(
+    alloc: Global,
+    (change, row): (Change, Row),
+    granted: u32,
+    tally: &Tally,
+) -> Result<bool, AllocError> {
+    let plain = changed_beside_clone::<RadixTree<u8, Counted>>(alloc, change, granted, tally)?;
+    let shared = changed_beside_clone::<ArcRadixTree<u8, Counted>>(alloc, change, granted, tally)?;
+    let is_told = granted != 0 || shared.0 != matches!(change, Change::Prepend);
+    Ok(is_told && is_as_refused(plain, row) && is_as_refused(shared, row))
+}
+
 #[test]
 fn a_refused_change_leaves_the_empty_tree(rt: HostRuntime) -> Result<(), Fail> {
-    for (change, row) in CHANGES {
+    for row in CHANGES {
         for granted in 0..=GRANTED {
             let tally = Tally::new();
-            let alloc = rt.alloc();
-            let plain = changed_beside_clone::<RadixTree<u8, Counted>>(
-                alloc, change, granted, &tally,
-            )?;
-            let shared = changed_beside_clone::<ArcRadixTree<u8, Counted>>(
-                alloc, change, granted, &tally,
-            )?;
-            if granted == 0 {
-                let is_prepend = matches!(change, Change::Prepend);
-                assert_eq!(rt; shared.0, !is_prepend, "{change:?}");
-            }
-            for (is_refused, left, kept) in [plain, shared] {
-                let expected = if is_refused { [0; KEYS.len()] } else { row };
-                assert_eq!(rt; left, expected, "{change:?} with {granted}");
-                assert_eq!(rt; kept, [0, 1, 2, 3, 0, 0], "{change:?} with {granted}");
-            }
-            assert_eq!(rt;
-                tally.drops(),
-                tally.made_and_cloned(),
-                "{change:?} with {granted}"
-            );
+            let are_right = are_as_refused(rt.alloc(), row, granted, &tally)?;
+            assert!(rt; are_right, "{:?} with {granted}", row.0);
+            let are_dropped = tally.drops() == tally.made_and_cloned();
+            assert!(rt; are_dropped, "{:?} with {granted}", row.0);
         }
     }
     Ok(())
@@ -280,21 +284,32 @@ fn print_numbers<'a, T: AbstractRadixTree<u8, Counted<'a>>>(
     Ok(text)
 }
 
-/// The pairs and the shape of a changed tree.
-fn worked_out<'a, T: AbstractRadixTreeMut<u8, Counted<'a>>>(
+/// Whether a tree has these pairs and this shape.
+fn is_left<'a, T: AbstractRadixTree<u8, Counted<'a>>>(
+    alloc: Global,
+    tree: &T,
+    pairs: &str,
+    shape: &str,
+) -> Result<bool, AllocError> {
+    let mut text = String::new(alloc);
+    print_shape(tree, &mut text, DEPTH)?;
+    Ok(text.as_str() == shape && print_numbers(alloc, tree)?.as_str() == pairs)
+}
+
+/// Whether the changed tree of the row is what it says.
+fn is_worked_out<'a, T: AbstractRadixTreeMut<u8, Counted<'a>>>(
     alloc: Global,
     left: &[(&str, u32)],
     change: Change,
     right: &[(&str, u32)],
     answers: Answers,
+    (pairs, shape): (&str, &str),
     tally: &'a Tally,
-) -> Result<(String, String), AllocError> {
+) -> Result<bool, AllocError> {
     let that: T = tree_of(alloc, right, tally)?;
     let mut tree: T = tree_of(alloc, left, tally)?;
     apply_change(&mut tree, &that, change, answers)?;
-    let mut text = String::new(alloc);
-    print_shape(&tree, &mut text, DEPTH)?;
-    Ok((print_numbers(alloc, &tree)?, text))
+    is_left(alloc, &tree, pairs, shape)
 }
 
 #[test]
@@ -302,16 +317,15 @@ fn changed_trees_are_as_worked_out(rt: HostRuntime) -> Result<(), Fail> {
     for (left, change, right, answers, pairs, shape) in WORKED {
         let tally = Tally::new();
         let alloc = rt.alloc();
-        let plain = worked_out::<RadixTree<u8, Counted>>(
-            alloc, left, change, right, answers, &tally,
+        let expected = (pairs, shape);
+        let plain = is_worked_out::<RadixTree<u8, Counted>>(
+            alloc, left, change, right, answers, expected, &tally,
         )?;
-        assert_eq!(rt; plain.0.as_str(), pairs);
-        assert_eq!(rt; plain.1.as_str(), shape);
-        let shared = worked_out::<ArcRadixTree<u8, Counted>>(
-            alloc, left, change, right, answers, &tally,
+        assert!(rt; plain, "{pairs}");
+        let shared = is_worked_out::<ArcRadixTree<u8, Counted>>(
+            alloc, left, change, right, answers, expected, &tally,
         )?;
-        assert_eq!(rt; shared.0.as_str(), pairs);
-        assert_eq!(rt; shared.1.as_str(), shape);
+        assert!(rt; shared, "{pairs}");
     }
     Ok(())
 }

@@ -29,6 +29,25 @@ fn shape_of<T: AbstractRadixTree<u8, u32>>(alloc: Global, tree: &T) -> Result<St
     Ok(text)
 }
 
+/// Whether a tree has this shape.
+fn has_shape<T: AbstractRadixTree<u8, u32>>(
+    alloc: Global,
+    tree: &T,
+    shape: &str,
+) -> Result<bool, AllocError> {
+    let text = shape_of(alloc, tree)?;
+    Ok(text.as_str() == shape)
+}
+
+/// Whether a tree that was made has this shape.
+fn is_made<T: AbstractRadixTreeMut<u8, u32>>(
+    alloc: Global,
+    made: T,
+    shape: &str,
+) -> Result<bool, AllocError> {
+    has_shape(alloc, &made, shape)
+}
+
 /// Keys on both sides, and whether they are disjoint, a subset, and a superset.
 const TESTS: [(&[&str], &[&str], [bool; 3]); 15] = [
     (&[], &[], [true, true, true]),
@@ -131,20 +150,32 @@ const SHAPES: [(&[&str], &[&str], [&str; 3]); 10] = [
     ),
 ];
 
-/// Whether unions, intersections and differences have these shapes, and a combine that keeps the left value that of the union.
+/// Whether the union, the intersection and the difference of two trees have these shapes, and a combine that keeps the left value that
+/// of the union.
+fn are_combined<T: AbstractRadixTreeMut<u8, u32>, S: AbstractRadixTree<u8, u32>>(
+    alloc: Global,
+    left: &T,
+    right: &S,
+    [union, intersection, difference]: [&str; 3],
+) -> Result<bool, AllocError> {
+    let both: T = left.outer_combine(right, |v, _| Ok(Some(*v)))?;
+    Ok(
+        is_made(alloc, both, union)?
+            && is_made(alloc, left.union(right)?, union)?
+            && is_made(alloc, left.intersection(right)?, intersection)?
+            && is_made(alloc, left.difference(right)?, difference)?,
+    )
+}
+
+/// Whether all rows of shapes are so.
 fn have_shapes<T: AbstractRadixTreeMut<u8, u32>, S: AbstractRadixTreeMut<u8, u32>>(
     alloc: Global,
 ) -> Result<bool, AllocError> {
     let mut all = true;
-    for (left, right, [union, intersection, difference]) in SHAPES {
+    for (left, right, shapes) in SHAPES {
         let left: T = tree_of(alloc, left)?;
         let right: S = tree_of(alloc, right)?;
-        let both: T = left.outer_combine(&right, |v, _| Ok(Some(*v)))?;
-        all = all
-            && shape_of(alloc, &left.union(&right)?)?.as_str() == union
-            && shape_of(alloc, &both)?.as_str() == union
-            && shape_of(alloc, &left.intersection(&right)?)?.as_str() == intersection
-            && shape_of(alloc, &left.difference(&right)?)?.as_str() == difference;
+        all = all && are_combined(alloc, &left, &right, shapes)?;
     }
     Ok(all)
 }
@@ -194,8 +225,7 @@ fn are_filtered<T: AbstractRadixTreeMut<u8, u32>>(alloc: Global) -> Result<bool,
     let mut all = true;
     for (keys, prefix, shape) in FILTERED {
         let tree: T = tree_of(alloc, keys)?;
-        let under = tree.filter_prefix(prefix.as_bytes())?;
-        all = all && shape_of(alloc, &under)?.as_str() == shape;
+        all = all && is_made(alloc, tree.filter_prefix(prefix.as_bytes())?, shape)?;
     }
     Ok(all)
 }
@@ -209,28 +239,42 @@ fn keys_under_a_prefix_are_filtered(rt: HostRuntime) -> Result<(), Fail> {
     Ok(())
 }
 
-/// Whether a left combine with `{ab=>1}` asks once at each of `{a=>0, ab=>1, abc=>2}`, and drops the keys at which it answers none.
-fn asks_at_each_key<T: AbstractRadixTreeMut<u8, u32>, S: AbstractRadixTree<u8, u32>>(
+/// Whether a left combine of `{a=>0, ab=>1, abc=>2}` with `{ab=>7}` asks once at each key of the left.
+fn asks_once<T: AbstractRadixTreeMut<u8, u32>, S: AbstractRadixTree<u8, u32>>(
     alloc: Global,
+    tree: &T,
     that: &S,
 ) -> Result<bool, AllocError> {
-    let tree: T = tree_of(alloc, &["a", "ab", "abc"])?;
     let asked = Cell::new(0_u32);
     let all: T = tree.left_combine(that, |v, w| {
         asked.set(asked.get().saturating_add(1));
         Ok(Some(v.saturating_add(w.copied().unwrap_or(10))))
     })?;
+    let is_right = asked.get() == 3
+        && all.get(b"a") == Some(&10)
+        && all.get(b"ab") == Some(&8)
+        && all.get(b"abc") == Some(&12);
+    Ok(is_right && is_made(alloc, all, "a*(b*(c*))")?)
+}
+
+/// Whether it drops the keys at which it answers none.
+fn drops_keys<T: AbstractRadixTreeMut<u8, u32>, S: AbstractRadixTree<u8, u32>>(
+    alloc: Global,
+    tree: &T,
+    that: &S,
+) -> Result<bool, AllocError> {
     let shared: T = tree.left_combine(that, |_, w| Ok(w.copied()))?;
     let alone: T = tree.left_combine(that, |v, w| Ok(if w.is_some() { None } else { Some(*v) }))?;
-    Ok(
-        asked.get() == 3
-            && all.get(b"a") == Some(&10)
-            && all.get(b"ab") == Some(&8)
-            && all.get(b"abc") == Some(&12)
-            && shape_of(alloc, &all)?.as_str() == "a*(b*(c*))"
-            && shape_of(alloc, &shared)?.as_str() == "ab*"
-            && shape_of(alloc, &alone)?.as_str() == "a*(bc*)",
-    )
+    Ok(has_shape(alloc, &shared, "ab*")? && has_shape(alloc, &alone, "a*(bc*)")?)
+}
+
+/// Whether it does both.
+fn asks_at_each_key<T: AbstractRadixTreeMut<u8, u32>, S: AbstractRadixTree<u8, u32>>(
+    alloc: Global,
+    that: &S,
+) -> Result<bool, AllocError> {
+    let tree: T = tree_of(alloc, &["a", "ab", "abc"])?;
+    Ok(asks_once(alloc, &tree, that)? && drops_keys(alloc, &tree, that)?)
 }
 
 #[test]
@@ -243,6 +287,16 @@ fn a_left_combine_asks_at_each_key(rt: HostRuntime) -> Result<(), Fail> {
     Ok(())
 }
 
+/// Whether a tree of another crate keeps the sums at the keys of a flavour.
+fn is_summed<T: AbstractRadixTreeMut<u8, u32>>(
+    alloc: Global,
+    word: &Word,
+    tree: &T,
+) -> Result<bool, AllocError> {
+    let kept: T = word.left_combine(tree, |v, w| Ok(w.map(|w| v.saturating_add(*w))))?;
+    Ok(kept.get(b"abc") == Some(&8) && is_made(alloc, kept, "abc*")?)
+}
+
 /// Whether a tree of another crate is tested on both sides, and combined into a flavour.
 fn is_told_of_a_word<T: AbstractRadixTreeMut<u8, u32>>(
     alloc: Global,
@@ -250,13 +304,11 @@ fn is_told_of_a_word<T: AbstractRadixTreeMut<u8, u32>>(
 ) -> Result<bool, AllocError> {
     let tree: T = tree_of(alloc, &["ab", "abc", "abd"])?;
     let other: T = tree_of(alloc, &["ab", "abd"])?;
-    let kept: T = word.left_combine(&tree, |v, w| Ok(w.map(|w| v.saturating_add(*w))))?;
     Ok(
         tests_answer(word, &tree, [false, true, false])
             && tests_answer(word, &other, [true, false, false])
-            && kept.get(b"abc") == Some(&8)
-            && shape_of(alloc, &kept)?.as_str() == "abc*"
-            && shape_of(alloc, &other.union(word)?)?.as_str() == "ab*(c* d*)",
+            && is_summed(alloc, word, &tree)?
+            && is_made(alloc, other.union(word)?, "ab*(c* d*)")?,
     )
 }
 
@@ -270,27 +322,44 @@ fn a_tree_of_another_crate_is_told_of(rt: HostRuntime) -> Result<(), Fail> {
     Ok(())
 }
 
-/// Whether keys that are equal and spelled otherwise are one key to each call on two trees.
+/// A key, in the other spelling or not.
+fn key(is_capital: bool) -> [Letter; 2] {
+    if is_capital {
+        [capital(0), capital(1)]
+    } else {
+        [small(0), small(1)]
+    }
+}
+
+/// Whether keys that are equal and spelled otherwise are one key to tests and set operations of two trees.
+fn keys_are_one<T: AbstractRadixTreeMut<Letter, u32>>(
+    left: &T,
+    right: &T,
+) -> Result<bool, AllocError> {
+    let are_told = left.is_subset(right) && left.is_superset(right) && left.intersects(right);
+    let union = left.union(right)?;
+    let are_united = union.get(&key(true)) == Some(&1) && union.children().is_empty();
+    let difference = left.difference(right)?;
+    Ok(are_told && are_united && difference.is_empty())
+}
+
+/// Whether they are to a prefix, and to a combine that sums.
+fn keys_are_found<T: AbstractRadixTreeMut<Letter, u32>>(
+    left: &T,
+    right: &T,
+) -> Result<bool, AllocError> {
+    let under = left.filter_prefix(&[capital(0)])?;
+    let summed: T = left.left_combine(right, |v, w| Ok(w.map(|w| v.saturating_add(*w))))?;
+    Ok(under.get(&key(false)) == Some(&1) && summed.get(&key(false)) == Some(&3))
+}
+
+/// Whether they are to each call on two trees.
 fn spellings_are_one_key<T: AbstractRadixTreeMut<Letter, u32>>(
     alloc: Global,
 ) -> Result<bool, AllocError> {
-    let small_key = [small(0), small(1)];
-    let capital_key = [capital(0), capital(1)];
-    let left = T::single(alloc, &small_key, 1)?;
-    let right = T::single(alloc, &capital_key, 2)?;
-    let union = left.union(&right)?;
-    let under = left.filter_prefix(&[capital(0)])?;
-    let summed: T = left.left_combine(&right, |v, w| Ok(w.map(|w| v.saturating_add(*w))))?;
-    Ok(
-        left.is_subset(&right)
-            && left.is_superset(&right)
-            && left.intersects(&right)
-            && union.get(&capital_key) == Some(&1)
-            && union.children().is_empty()
-            && under.get(&small_key) == Some(&1)
-            && summed.get(&small_key) == Some(&3)
-            && left.difference(&right)?.is_empty(),
-    )
+    let left = T::single(alloc, &key(false), 1)?;
+    let right = T::single(alloc, &key(true), 2)?;
+    Ok(keys_are_one(&left, &right)? && keys_are_found(&left, &right)?)
 }
 
 #[test]
