@@ -23,6 +23,7 @@ use std::default::MadeWith;
 use std::marker::Model;
 use std::{mem, slice};
 use vc_merge::iterators::{VecMapIter, vec_map_iter_of};
+use vc_merge::moving::insert_at;
 use vc_merge::search::find_key;
 
 /// A map, as a list of its pairs in ascending order of their keys. Up to `N` of them stand in place, without an allocation.
@@ -144,7 +145,7 @@ where
                 Ok(Some(old))
             }
             Err(place) => {
-                self.pairs.insert(place, (key, value))?;
+                insert_at(&mut self.pairs, place, (key, value))?;
                 Ok(None)
             }
         }

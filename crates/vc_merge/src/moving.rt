@@ -1,10 +1,13 @@
 //! The state of a merge that sifts its left list: what it takes moves to the front, and nothing is cloned.
-ghost use Rattle.std.specs.Prelude.{◌≡◌, ◌+◌, ◌≤◌, [], IsOk, length, take};
+ghost use Rattle.std.specs.Prelude.{◌≡◌, ◌+◌, ◌<◌, ◌≤◌, [], ◌∷◌, ◌++◌, List, insert, IsOk, OnOk, OnErr, length, take};
+ghost use Rattle.smallvec.specs.SmallVec.{HasRoomFor};
 ghost use Rattle.vc_merge.specs.Building.{Advances, Skips};
 ghost use Rattle.vc_merge.specs.MovesDown.{MovesDown};
 
 use crate::merge::{MergeState, MergeStateMut};
-use std::alloc::AllocError;
+use smallvec::SmallVec;
+use std::alloc::{AllocError, Allocator};
+use std::default::MadeWith;
 
 /// From so many elements on a run is long.
 const LONG_RUN: usize = 64;
@@ -28,6 +31,33 @@ pub(crate) fn move_down<T>(list: &mut [T], kept: usize, at: usize, n: usize)
     for moved in 0..n {
         list.swap(kept + moved, at + moved);
     }
+}
+
+/// Moves the last element to a place, and those that stood there and behind it up by one.
+fn turn_in<T>(list: &mut [T], place: usize)
+    requires { place < length list.old }
+    ensures { (xs : List T) (x : T) → list.old ≡ xs ++ x ∷ [] → list.new ≡ insert xs place x }
+{
+    list[place..].rotate_right(1);
+}
+
+/// Puts an element in at a place of a list, in front of those that stood there and behind it.
+///
+/// It goes behind all others first, and is then turned into its place, which moves the elements behind it faster than
+/// `SmallVec::insert` does. Refused, the list is as it was, and the element is dropped.
+pub fn insert_at<T: MadeWith<A> + Drop, const N: usize, A: Allocator + Copy>(
+    list: &mut SmallVec<T, N, A>,
+    place: usize,
+    element: T,
+) -> Result<(), AllocError>
+    requires { place ≤ length list.old.items }
+    ensures ok { OnOk result (list.new.items ≡ insert list.old.items place element) }
+    ensures succeeds { HasRoomFor list.old 1 → IsOk result }
+    ensures err { OnErr result (list.new ≡ list.old) }
+{
+    list.push(element)?;
+    turn_in(list.as_mut_slice(), place);
+    Ok(())
 }
 
 /// A left list that is sifted in place, and a right one that is only looked at: what is taken of the left list moves to its front.

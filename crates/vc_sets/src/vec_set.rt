@@ -20,6 +20,7 @@ use std::default::MadeWith;
 use std::marker::Model;
 use std::slice;
 use vc_merge::iterators::VecSetIter;
+use vc_merge::moving::insert_at;
 use vc_merge::search::find;
 
 /// A set, as a list of its elements in ascending order. Up to `N` of them stand in place, without an allocation.
@@ -120,7 +121,7 @@ impl<T: Ord + MadeWith<A> + Drop, const N: usize, A: Allocator + Copy> VecSet<T,
                 Ok(false)
             }
             Err(index) => {
-                self.elements.insert(index, that)?;
+                insert_at(&mut self.elements, index, that)?;
                 Ok(true)
             }
         }

@@ -43,32 +43,32 @@ returns-in-Ok-clause-old g c =
 
 pub invariant_of-self-in-Err : goal.invariant_of-self-in-Err
 invariant_of-self-in-Err g c =
-    (gap-put g.K.Ord.cmp g.met.K.Ord.total c.self.inside.pairs.items c.as_slice.result.now _ c.args.key c.args.value c.in-Err.place c.as_slice.ensures c.in-Err.ensures c.self.invariant c.in_ok-insert-in-Err.ensures.ok).ascends
+    (gap-put g.K.Ord.cmp g.met.K.Ord.total c.self.inside.pairs.items c.as_slice.result.now _ c.args.key c.args.value c.in-Err.place c.as_slice.ensures c.in-Err.ensures c.self.invariant c.in_ok-insert_at-in-Err.ensures.ok).ascends
 
-pub returns-in_ok-insert-in-Err-clause-entries : goal.returns-in_ok-insert-in-Err-clause-entries
-returns-in_ok-insert-in-Err-clause-entries g c =
-    let put = gap-put g.K.Ord.cmp g.met.K.Ord.total c.self.inside.pairs.items c.as_slice.result.now _ c.args.key c.args.value c.in-Err.place c.as_slice.ensures c.in-Err.ensures c.self.invariant c.in_ok-insert-in-Err.ensures.ok in
+pub returns-in_ok-insert_at-in-Err-clause-entries : goal.returns-in_ok-insert_at-in-Err-clause-entries
+returns-in_ok-insert_at-in-Err-clause-entries g c =
+    let put = gap-put g.K.Ord.cmp g.met.K.Ord.total c.self.inside.pairs.items c.as_slice.result.now _ c.args.key c.args.value c.in-Err.place c.as_slice.ensures c.in-Err.ensures c.self.invariant c.in_ok-insert_at-in-Err.ensures.ok in
     λ k. put.entries k ∙ ap (λ l. cond (eq_by_cmp g.K.Ord.cmp k c.args.key) (Some (c.args.key, c.args.value)) (entry_at g.K.Ord.cmp l k)) c.self.view_is
 
-pub returns-in_ok-insert-in-Err-clause-values : goal.returns-in_ok-insert-in-Err-clause-values
-returns-in_ok-insert-in-Err-clause-values g c =
-    let put = gap-put g.K.Ord.cmp g.met.K.Ord.total c.self.inside.pairs.items c.as_slice.result.now _ c.args.key c.args.value c.in-Err.place c.as_slice.ensures c.in-Err.ensures c.self.invariant c.in_ok-insert-in-Err.ensures.ok in
+pub returns-in_ok-insert_at-in-Err-clause-values : goal.returns-in_ok-insert_at-in-Err-clause-values
+returns-in_ok-insert_at-in-Err-clause-values g c =
+    let put = gap-put g.K.Ord.cmp g.met.K.Ord.total c.self.inside.pairs.items c.as_slice.result.now _ c.args.key c.args.value c.in-Err.place c.as_slice.ensures c.in-Err.ensures c.self.invariant c.in_ok-insert_at-in-Err.ensures.ok in
     λ k. put.values k ∙ ap (λ l. cond (eq_by_cmp g.K.Ord.cmp k c.args.key) (Some c.args.value) (value_at g.K.Ord.cmp l k)) c.self.view_is
 
-pub returns-in_ok-insert-in-Err-clause-old : goal.returns-in_ok-insert-in-Err-clause-old
-returns-in_ok-insert-in-Err-clause-old g c =
+pub returns-in_ok-insert_at-in-Err-clause-old : goal.returns-in_ok-insert_at-in-Err-clause-old
+returns-in_ok-insert_at-in-Err-clause-old g c =
     sym (gap-value g.K.Ord.cmp g.met.K.Ord.total c.as_slice.result.now c.args.key c.in-Err.place c.in-Err.ensures) ∙ ap (λ l. value_at g.K.Ord.cmp l c.args.key) (c.as_slice.ensures ∙ c.self.view_is)
 
-pub returns-in_err-insert-in-Err-clause-room : goal.returns-in_err-insert-in-Err-clause-room
-returns-in_err-insert-in-Err-clause-room g c =
+pub returns-in_err-insert_at-in-Err-clause-room : goal.returns-in_err-insert_at-in-Err-clause-room
+returns-in_err-insert_at-in-Err-clause-room g c =
     λ h.
     let v : length c.self.inside.pairs.items ≡ length c.args.self.now = ap length c.self.view_is in
     let n = c.capacity-capacity.ensures.at_least_inline in
     let e = c.capacity-capacity.ensures.value in
-    let o : is_ok c.insert.result ≡ true = c.insert.ensures.succeeds (omega arith) in
-    absurd (true≢false (sym o ∙ ap is_ok (c.in_err-insert-in-Err.was {u = tt})))
+    let o : is_ok c.insert_at.result ≡ true = c.insert_at.ensures.succeeds (omega arith) in
+    absurd (true≢false (sym o ∙ ap is_ok (c.in_err-insert_at-in-Err.was {u = tt})))
 
-pub returns-in_err-insert-in-Err-clause-known : goal.returns-in_err-insert-in-Err-clause-known
-returns-in_err-insert-in-Err-clause-known g c =
+pub returns-in_err-insert_at-in-Err-clause-known : goal.returns-in_err-insert_at-in-Err-clause-known
+returns-in_err-insert_at-in-Err-clause-known g c =
     let none = gap-value g.K.Ord.cmp g.met.K.Ord.total c.as_slice.result.now c.args.key c.in-Err.place c.in-Err.ensures in
     λ h. absurd (true≢false (sym h ∙ ap (λ l. is_some (value_at g.K.Ord.cmp l c.args.key)) (sym c.self.view_is ∙ sym c.as_slice.ensures) ∙ ap is_some none))

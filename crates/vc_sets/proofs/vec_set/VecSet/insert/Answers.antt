@@ -37,33 +37,33 @@ returns-in-Ok-clause-members g c = members-put g.T.Ord.cmp g.met.T.Ord.total _ _
 pub invariant_of-self-in-Err : goal.invariant_of-self-in-Err
 invariant_of-self-in-Err g c =
     let p = subst (λ l. IsGap (λ y. g.T.Ord.cmp y c.args.that) l c.in-Err.index) c.as_slice.ensures c.in-Err.ensures in
-    ascends-insert g.T.Ord.cmp g.met.T.Ord.total c.self.inside.elements.items c.insert.new.self.items c.args.that c.in-Err.index p c.self.invariant c.in_ok-insert-in-Err.ensures.ok
+    ascends-insert g.T.Ord.cmp g.met.T.Ord.total c.self.inside.elements.items c.insert_at.new.list.items c.args.that c.in-Err.index p c.self.invariant c.in_ok-insert_at-in-Err.ensures.ok
 
-pub returns-in_ok-insert-in-Err-clause-answer : goal.returns-in_ok-insert-in-Err-clause-answer
-returns-in_ok-insert-in-Err-clause-answer g c =
+pub returns-in_ok-insert_at-in-Err-clause-answer : goal.returns-in_ok-insert_at-in-Err-clause-answer
+returns-in_ok-insert_at-in-Err-clause-answer g c =
     let p = subst (λ l. IsGap (λ y. g.T.Ord.cmp y c.args.that) l c.in-Err.index) c.as_slice.ensures c.in-Err.ensures in
     new-answer g.T.Ord.cmp g.met.T.Ord.total _ c.args.that c.in-Err.index p ∙ ap (λ l. not (member g.T.Ord.cmp l c.args.that)) c.self.view_is
 
-pub returns-in_ok-insert-in-Err-clause-kept : goal.returns-in_ok-insert-in-Err-clause-kept
-returns-in_ok-insert-in-Err-clause-kept g c =
+pub returns-in_ok-insert_at-in-Err-clause-kept : goal.returns-in_ok-insert_at-in-Err-clause-kept
+returns-in_ok-insert_at-in-Err-clause-kept g c =
     let p = subst (λ l. IsGap (λ y. g.T.Ord.cmp y c.args.that) l c.in-Err.index) c.as_slice.ensures c.in-Err.ensures in
-    λ z. element_at-insert g.T.Ord.cmp g.met.T.Ord.total c.self.inside.elements.items c.insert.new.self.items c.args.that c.in-Err.index p c.in_ok-insert-in-Err.ensures.ok z
+    λ z. element_at-insert g.T.Ord.cmp g.met.T.Ord.total c.self.inside.elements.items c.insert_at.new.list.items c.args.that c.in-Err.index p c.in_ok-insert_at-in-Err.ensures.ok z
     ∙ ap (λ l. cond (eq_by_cmp g.T.Ord.cmp c.args.that z) (Some c.args.that) (element_at g.T.Ord.cmp l z)) c.self.view_is
 
-pub returns-in_ok-insert-in-Err-clause-members : goal.returns-in_ok-insert-in-Err-clause-members
-returns-in_ok-insert-in-Err-clause-members g c = members-put g.T.Ord.cmp g.met.T.Ord.total _ _ c.args.that (returns-in_ok-insert-in-Err-clause-kept g c)
+pub returns-in_ok-insert_at-in-Err-clause-members : goal.returns-in_ok-insert_at-in-Err-clause-members
+returns-in_ok-insert_at-in-Err-clause-members g c = members-put g.T.Ord.cmp g.met.T.Ord.total _ _ c.args.that (returns-in_ok-insert_at-in-Err-clause-kept g c)
 
-pub returns-in_err-insert-in-Err-clause-room : goal.returns-in_err-insert-in-Err-clause-room
-returns-in_err-insert-in-Err-clause-room g c =
+pub returns-in_err-insert_at-in-Err-clause-room : goal.returns-in_err-insert_at-in-Err-clause-room
+returns-in_err-insert_at-in-Err-clause-room g c =
     λ h.
     let v : length c.self.inside.elements.items ≡ length c.args.self.now = ap length c.self.view_is in
     let n = c.capacity-capacity.ensures.at_least_inline in
     let e = c.capacity-capacity.ensures.value in
-    let o : is_ok c.insert.result ≡ true = c.insert.ensures.succeeds (omega arith) in
-    absurd (true≢false (sym o ∙ ap is_ok (c.in_err-insert-in-Err.was {u = tt})))
+    let o : is_ok c.insert_at.result ≡ true = c.insert_at.ensures.succeeds (omega arith) in
+    absurd (true≢false (sym o ∙ ap is_ok (c.in_err-insert_at-in-Err.was {u = tt})))
 
-pub returns-in_err-insert-in-Err-clause-known : goal.returns-in_err-insert-in-Err-clause-known
-returns-in_err-insert-in-Err-clause-known g c =
+pub returns-in_err-insert_at-in-Err-clause-known : goal.returns-in_err-insert_at-in-Err-clause-known
+returns-in_err-insert_at-in-Err-clause-known g c =
     let p = subst (λ l. IsGap (λ y. g.T.Ord.cmp y c.args.that) l c.in-Err.index) c.as_slice.ensures c.in-Err.ensures in
     let n : true ≡ not (member g.T.Ord.cmp c.args.self.now c.args.that) = new-answer g.T.Ord.cmp g.met.T.Ord.total _ c.args.that c.in-Err.index p ∙ ap (λ l. not (member g.T.Ord.cmp l c.args.that)) c.self.view_is in
     λ h. absurd (true≢false (n ∙ ap not h))
