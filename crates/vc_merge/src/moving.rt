@@ -43,8 +43,8 @@ fn turn_in<T>(list: &mut [T], place: usize)
 
 /// Puts an element in at a place of a list, in front of those that stood there and behind it.
 ///
-/// It goes behind all others first, and is then turned into its place, which moves the elements behind it faster than
-/// `SmallVec::insert` does. Refused, the list is as it was, and the element is dropped.
+/// It goes behind all others first, and is then turned into its place, which moves the elements behind it as
+/// `memmove` does. Refused, the list is as it was, and the element is dropped.
 pub fn insert_at<T: MadeWith<A> + Drop, const N: usize, A: Allocator + Copy>(
     list: &mut SmallVec<T, N, A>,
     place: usize,
