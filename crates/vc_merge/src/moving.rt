@@ -38,7 +38,9 @@ fn turn_in<T>(list: &mut [T], place: usize)
     requires { place < length list.old }
     ensures { (xs : List T) (x : T) → list.old ≡ xs ++ x ∷ [] → list.new ≡ insert xs place x }
 {
-    list[place..].rotate_right(1);
+    if place + 1 < list.len() {
+        list[place..].rotate_right(1);
+    }
 }
 
 /// Puts an element in at a place of a list, in front of those that stood there and behind it.

@@ -34,7 +34,8 @@ fn combine_either<
     Ok(built)
 }
 
-/// What stands in the left list alone or, if `BOTH`, the left one of what stands in both.
+/// What stands in the left list alone or, if `BOTH`, the left one of what stands in both. It reserves room at the start for what of the
+/// left list must be alone, since the right one is shorter.
 fn combine_left<
     const BOTH: bool,
     T: Ord + Clone + MadeWith<A>,
@@ -48,13 +49,20 @@ fn combine_left<
     ensures combined { IfOk result (λ v. IsSetOf T.cmp T.is_clone T.is_clone (keeps (not BOTH) false BOTH) a.now b.now v.items) }
     ensures counted { C.counted steps.new ≤ C.counted steps.old + bound (length a.now) (length b.now) }
 {
+    let least = if BOTH {
+        0
+    } else {
+        a.len().saturating_sub(b.len())
+    };
     let mut built = SmallVec::new(alloc);
+    built.reserve(least)?;
     let mut state = SmallVecMergeState::new(a, b, &mut built);
     merge(&mut state, &LeftOp::<BOTH>, steps)?;
     Ok(built)
 }
 
 /// The operation `op` of two ascending lists.
+#[inline(always)]
 pub fn combine<T: Ord + Clone + MadeWith<A>, C: Count, const N: usize, A: Allocator + Copy>(
     alloc: A,
     a: &[T],

@@ -88,11 +88,16 @@ impl<T: Ord + MadeWith<A> + Drop, const N: usize, A: Allocator + Copy> VecSet<T,
     /// The set of a list that ascends strictly, as [`ascends`](vc_merge::iterators::ascends) tells. The elements are moved.
     ///
     /// Takes memory where there are more than `N`; refused, it drops the elements.
+    #[inline(always)]
     pub fn from_vec(alloc: A, vec: Vec<T>) -> Result<Self, AllocError>
         requires { Ascends T.cmp vec.items }
         ensures { IfOk result (λ s. s ≡ vec.items) }
     {
-        let mut elements = SmallVec::with_capacity(alloc, vec.len())?;
+        if vec.len() > N {
+            let elements = SmallVec::from_vec(moved(alloc, vec)?);
+            return Ok(VecSet { elements });
+        }
+        let mut elements = SmallVec::new(alloc);
         for element in vec {
             elements.push_reserved(element);
         }
@@ -126,6 +131,18 @@ impl<T: Ord + MadeWith<A> + Drop, const N: usize, A: Allocator + Copy> VecSet<T,
             }
         }
     }
+}
+
+/// The elements of a `Vec`, in one on another allocator that holds just these.
+#[inline(never)]
+fn moved<T: Drop, A: Allocator>(alloc: A, vec: Vec<T>) -> Result<Vec<T, A>, AllocError>
+    ensures { IfOk result (λ list. list.items ≡ vec.items) }
+{
+    let mut list = Vec::with_capacity(alloc, vec.len())?;
+    for element in vec {
+        list.push_reserved(element);
+    }
+    Ok(list)
 }
 
 /// A set whose elements can be read as one ascending list.

@@ -10,6 +10,7 @@ ghost use Rattle.vc_sets.specs.SetOf.{ClonesAreEqual};
 use super::VecMap;
 use std::alloc::{AllocError, Allocator};
 use std::default::MadeWith;
+use vc_merge::states::clones_of;
 use vc_sets::vec_set::removal::keep_in_front;
 
 impl<K: Ord + Drop, V: Drop, const N: usize, A: Allocator + Copy> VecMap<K, V, N, A>
@@ -35,12 +36,13 @@ where
 {
     /// A copy, pair by pair, with the allocator of this map.
     ///
-    /// Takes memory where there are more than `N`, and as the clones do; refused, it drops what was copied.
+    /// Takes memory where there are more than `N`, for as many as a map has room for that grew to hold them, and as the clones do; refused,
+    /// it drops what was copied.
     pub fn clone(&self) -> Result<Self, AllocError>
         requires { ClonesAreEqual K.cmp K.is_clone }
         ensures { IfOk result (λ copy. AllZip (λ p q. K.is_clone p.0 q.0 × V.is_clone p.1 q.1) self.now copy) }
     {
-        let pairs = self.pairs.clone()?;
+        let pairs = clones_of(*self.pairs.allocator(), self.pairs.as_slice())?;
         Ok(VecMap { pairs })
     }
 }

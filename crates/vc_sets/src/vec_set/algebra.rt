@@ -101,7 +101,8 @@ pub fn symmetric_difference<
 
 /// What is in the left one of two sets and not in the right one, as clones.
 ///
-/// It grows as it goes, and compares at most as often as both sets have elements. Refused at a growth or a clone, it drops what it built.
+/// It grows at the start for as many elements as the left set has more than the right one, and then as it goes, and compares at most as
+/// often as both sets have elements. Refused at a growth or a clone, it drops what it built.
 pub fn difference<
     T: Ord + Clone + MadeWith<A>,
     S: AbstractVecSet<T>,

@@ -12,6 +12,7 @@ use std::alloc::{AllocError, Allocator};
 use std::collections::BTreeSet;
 use std::default::MadeWith;
 use vc_merge::iterators::SortedByItem;
+use vc_merge::states::clones_of;
 
 /// The set of a list that ascends strictly. Takes no memory.
 pub fn set_of_list<T: Ord, const N: usize, A: Allocator>(
@@ -84,27 +85,15 @@ impl<T: Ord + MadeWith<A> + Drop, const N: usize, A: Allocator + Copy> VecSet<T,
 impl<T: Ord + Clone + MadeWith<A>, const N: usize, A: Allocator + Copy> VecSet<T, N, A> {
     /// A copy, element by element, with the allocator of this set.
     ///
-    /// Takes memory where there are more than `N`, and as the clones of the elements do; refused, it drops what was copied.
+    /// Takes memory where there are more than `N`, for as many as a set has room for that grew to hold them, and as the clones of the
+    /// elements do; refused, it drops what was copied.
+    #[inline(always)]
     pub fn clone(&self) -> Result<Self, AllocError>
         requires { ClonesAreEqual T.cmp T.is_clone }
         ensures { IfOk result (λ copy. AllZip T.is_clone self.now copy) }
     {
         let elements = clones_of(*self.elements.allocator(), self.elements.as_slice())?;
         Ok(VecSet { elements })
-    }
-}
-
-/// A clone of each of `items`. Many come into a `Vec`, which need not be asked at each of them whether it stands in place.
-fn clones_of<T: Clone + MadeWith<A>, const N: usize, A: Allocator + Copy>(
-    alloc: A,
-    items: &[T],
-) -> Result<SmallVec<T, N, A>, AllocError>
-    ensures { IfOk result (λ list. AllZip T.is_clone items.now list.items) }
-{
-    if items.len() <= N {
-        SmallVec::from_clones(alloc, items)
-    } else {
-        Ok(SmallVec::from_vec(Vec::from_clones(alloc, items)?))
     }
 }
 

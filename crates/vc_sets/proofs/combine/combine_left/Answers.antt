@@ -1,4 +1,4 @@
-use Rattle.std.proofs.Common.{false, ap, arith, take}
+use Rattle.std.proofs.Common.{false, ap, arith, take, ◌∙◌}
 use Rattle.vc_merge.specs.SmallVecViews.{built_items, list_name, right_items}
 use Rattle.vc_merge.proofs.Builds.{skips-adds}
 use Rattle.vc_sets.proofs.Clones.{clone-equal}
@@ -14,5 +14,5 @@ returns-clause-combined g c =
     merged-set_of g.T.Ord.cmp g.met.T.Ord.total g.T.Clone.is_clone g.T.Clone.is_clone equal equal _ false _ built_items list_name _ _ _
     (λ s t n answer h. h) (λ s t n answer h. skips-adds built_items list_name g.T.Clone.is_clone (take n (right_items s)) s t answer h) (λ s t answer h. h) (λ s t answer h. h) (λ s t answer h. h) _ _ _ _ _
     c.in_ok-merge.ensures.merged c.new-state.ensures.a c.new-state.ensures.b
-    (rw c.new-state.ensures.same_reference c.new-built.ensures.items)
+    (rw c.new-state.ensures.same_reference (c.reserve.ensures.items ∙ c.new-built.ensures.items))
     (λ e. let k = c.new-state.ensures.same_reference in let n = ap (λ r. r.ghost_name) k in grind arith)
