@@ -34,8 +34,8 @@ fn combine_either<
     Ok(built)
 }
 
-/// What stands in the left list alone or, if `BOTH`, the left one of what stands in both. It reserves room at the start for what of the
-/// left list must be alone, since the right one is shorter.
+/// What stands in the left list alone or, if `BOTH`, the left one of what stands in both. What stands alone is at least as much as the left
+/// list has more than the right one: room for that is reserved at the start.
 fn combine_left<
     const BOTH: bool,
     T: Ord + Clone + MadeWith<A>,
