@@ -1,21 +1,24 @@
 -- A search in an ordered list: what one comparison tells of the others, and how a search comes to its end.
 --     less-before, less-upto, greater-from, greater-behind        what stands beside an element
 --     narrowed-whole, narrowed-up, narrowed-past, narrowed-down        the part that is searched, at first and after a comparison
---     half-reached, quarter-reached, quarter-times        after one comparison, and after three
+--     ordered-rest, rest-whole, rest-part, rest-rest        the rest that is searched on
+--     half-rest, quarter-rest, quarter-times        after one comparison, and after three
 --     searched-half        after one comparison that may find it
---     place-searched, place-narrowed, place-below, place-at, place-above        the place
+--     place-searched, place-equal, place-unequal        the place
 --     ordered-ascends, ascends-map        ascending lists are ordered round whatever is sought
-use Rattle.std.proofs.Common.{◌≡◌, ℕ, zero, suc, ◌+◌, ◌-◌, ◌*◌, ◌/◌, ◌<◌, ◌≤◌, Bool, true, false, ◌||◌, List, [], ◌∷◌, map, length, take, drop, get_or, ◌⊎◌, inl, inr, ⊎_elim, refl, sym, ap, subst, ◌∙◌, arith}
-use Rattle.std.proofs.lemmas.List.{get_or_default}
+use Rattle.std.proofs.Common.{◌≡◌, ℕ, zero, suc, ◌+◌, ◌-◌, ◌*◌, ◌/◌, ◌<◌, ◌≤◌, Bool, true, false, ◌||◌, List, [], ◌∷◌, ◌++◌, map, length, take, drop, get_or, length-drop, ◌⊎◌, inl, inr, ⊎_elim, refl, sym, ap, subst, ◌∙◌, arith}
+use Rattle.std.proofs.lemmas.List.{get_or_default, get_or-drop, get_or-take, drop-append-le, drop-drop, drop-take, length-take-le, take-append-drop, take-take}
+use Rattle.std.proofs.Math.Seq.{take-add, take-length}
 use mathlib.Core.Bool.{true≢false}
 use Rattle.std.specs.List.{AllByRecursion, HoldsAt}
+use Rattle.std.specs.Int.{from_bool}
 use Rattle.std.specs.Cmp.{IsTotalOrder}
 use Rattle.std.specs.List.Sorted.{IsStrictlySortedBy}
 use Rattle.std.specs.Ordering.{is_gt, is_eq, is_lt, ordering_reverse}
 use Rattle.std.specs.declared.cmp.Ordering.{Ordering}
 use Rattle.std.specs.declared.cmp.Ordering.TheVariants.{Less, Equal, Greater}
 use Rattle.vc_merge.specs.Ascending.{Ascends}
-use Rattle.vc_merge.specs.Place.{IsOrdered, IsFound, IsGap, IsNarrowed, IsPassed, IsSearched, IsReached}
+use Rattle.vc_merge.specs.Place.{IsOrdered, IsFound, IsGap, IsNarrowed, IsPassed, IsRest, IsSearched, IsReached}
 use Rattle.vc_merge.proofs.Lists.{each-at}
 
 -- what holds of each element holds of those behind the first k
@@ -111,6 +114,83 @@ module _ {X : Type 0} (side : X → Ordering) where
       greater = greater-from xs i (start + m) p h e l;
     }
 
+  -- ---- the rest that is searched on
+
+  each-append : (P : X → Type 0) (xs ys : List X) → AllByRecursion P xs → AllByRecursion P ys → AllByRecursion P (xs ++ ys)
+  each-append P [] ys p q = q
+  each-append P (x ∷ xs) ys p q = (p.0, each-append P xs ys p.1 q)
+
+  ordered-drop : (xs : List X) (k : ℕ) → IsOrdered side xs → IsOrdered side (drop k xs)
+  ordered-drop [] zero p = tt
+  ordered-drop [] (suc k) p = tt
+  ordered-drop (x ∷ xs) zero p = p
+  ordered-drop (x ∷ xs) (suc k) p = ordered-drop xs k p.1
+
+  each-take : (P : X → Type 0) (xs : List X) (k : ℕ) → AllByRecursion P xs → AllByRecursion P (take k xs)
+  each-take P [] zero p = tt
+  each-take P [] (suc k) p = tt
+  each-take P (x ∷ xs) zero p = tt
+  each-take P (x ∷ xs) (suc k) p = (p.0, each-take P xs k p.1)
+
+  ordered-take : (xs : List X) (k : ℕ) → IsOrdered side xs → IsOrdered side (take k xs)
+  ordered-take [] zero p = tt
+  ordered-take [] (suc k) p = tt
+  ordered-take (x ∷ xs) zero p = tt
+  ordered-take (x ∷ xs) (suc k) p = (⊎_elim (λ l. inl l) (λ g. inr (each-take (λ y. side y ≡ Greater) xs k g)) p.0, ordered-take xs k p.1)
+
+  pub ordered-rest : (xs : List X) (start : ℕ) (rest : List X) → IsOrdered side xs → IsRest side xs start rest → IsOrdered side rest
+  ordered-rest xs start rest p q = subst (IsOrdered side) (sym q.part) (ordered-take (drop start xs) (length rest) (ordered-drop xs start p))
+
+  pub rest-whole : (xs : List X) → IsRest side xs 0 xs
+  rest-whole xs = record { part = sym (take-length xs); narrowed = narrowed-whole xs }
+
+  -- the rest as it is cut off
+  pub rest-part : (xs : List X) (start n m : ℕ) → IsNarrowed side xs start n → m ≡ n → IsRest side xs start (take m (drop start xs))
+  rest-part xs start n m q e =
+      let w = q.within in
+      let behind : length (drop start xs) ≡ length xs - start = length-drop start xs in
+      let l : length (take m (drop start xs)) ≡ m = length-take-le m (drop start xs) (omega arith) in
+      record { part = ap (λ k. take k (drop start xs)) (sym l); narrowed = subst (IsNarrowed side xs start) (sym (l ∙ e)) q }
+
+  -- the first element of the rest stands where the rest begins
+  rest-first : (xs : List X) (start : ℕ) (rest : List X) (y : X) → IsRest side xs start rest → 0 < length rest → y ≡ get_or rest 0 y → y ≡ get_or xs start y
+  rest-first xs start rest y q h e =
+      e ∙ ap (λ l. get_or l 0 y) q.part ∙ get_or-take (length rest) (drop start xs) 0 y h ∙ get_or-drop start xs 0 y ∙ ap (λ k. get_or xs k y) (omega arith)
+
+  -- what is left of the rest is a rest of the whole list
+  pub rest-rest : (xs ys zs : List X) (start passed : ℕ) → IsRest side xs start ys → IsRest side ys passed zs → IsRest side xs (start + passed) zs
+  rest-rest xs ys zs start passed q r =
+      let w = q.narrowed.within in
+      let v = r.narrowed.within in
+      let n = length ys in
+      let m = length zs in
+      let behind : drop (passed + m) ys ++ drop n (drop start xs) ≡ drop (start + passed + m) xs =
+      sym (drop-append-le (passed + m) ys (drop n (drop start xs)) (omega arith))
+      ∙ ap (λ l. drop (passed + m) (l ++ drop n (drop start xs))) q.part
+      ∙ ap (drop (passed + m)) (take-append-drop n (drop start xs))
+      ∙ drop-drop (passed + m) start xs
+      ∙ ap (λ k. drop k xs) (omega arith) in
+      let before : take start xs ++ take passed ys ≡ take (start + passed) xs =
+      ap (λ l. take start xs ++ take passed l) q.part
+      ∙ ap (λ l. take start xs ++ l) (take-take passed n (drop start xs) (omega arith))
+      ∙ sym (take-add start passed xs) in
+      record {
+        part = r.part ∙ ap (λ l. take m (drop passed l)) q.part ∙ cut ∙ ap (take m) (drop-drop passed start xs);
+        narrowed = record {
+          within = omega arith;
+          less = subst (AllByRecursion (λ y. side y ≡ Less)) before (each-append (λ y. side y ≡ Less) (take start xs) (take passed ys) q.narrowed.less r.narrowed.less);
+          greater = subst (AllByRecursion (λ y. side y ≡ Greater)) behind (each-append (λ y. side y ≡ Greater) (drop (passed + m) ys) (drop n (drop start xs)) r.narrowed.greater (subst (AllByRecursion (λ y. side y ≡ Greater)) (sym (drop-drop n start xs)) q.narrowed.greater));
+        };
+      }
+    where
+      cut : take (length zs) (drop passed (take (length ys) (drop start xs))) ≡ take (length zs) (drop passed (drop start xs))
+      cut =
+          let v = r.narrowed.within in
+          let l : length ys ≡ passed + (length ys - passed) = omega arith in
+          ap (λ k. take (length zs) (drop passed (take k (drop start xs)))) l
+          ∙ ap (take (length zs)) (drop-take passed (length ys - passed) (drop start xs))
+          ∙ take-take (length zs) (length ys - passed) (drop passed (drop start xs)) (omega arith)
+
   -- ---- one comparison, and three
 
   -- what stands behind an element that is not less is greater
@@ -131,62 +211,56 @@ module _ {X : Type 0} (side : X → Ordering) where
   not-later [] i j p l h e f = absurd (omega arith)
   not-later (x ∷ xs) i j p l h e f = greater-not (get_or (x ∷ xs) j x) (f x) (greater-later (x ∷ xs) i j p l h (λ d. ap is_lt (e d)) x)
 
-  module _ (xs : List X) (p : IsOrdered side xs) (start n : ℕ) (q : IsNarrowed side xs start n) where
-    pub half-reached : (half r : ℕ) → 2 ≤ n → half ≡ n / 2 → IsReached side xs (start + half) r → IsNarrowed side xs (start + r * half) (n - half)
-    half-reached half r h e reached =
-        let w = q.within in
-        let in-list : start + half < length xs = omega arith in
-        ⊎_elim
-        (λ z. subst (λ k. IsNarrowed side xs (start + k * half) (n - half)) (sym z.0) (subst (λ k. IsNarrowed side xs k (n - half)) (omega arith) (narrowed-down xs p start n q (start + half) (n - half) in-list z.1 (omega arith) (omega arith))))
-        (λ o. subst (λ k. IsNarrowed side xs (start + k * half) (n - half)) (sym o.0) (subst (λ k. IsNarrowed side xs k (n - half)) (omega arith) (narrowed-up xs p start n q (start + half) (n - half) in-list o.1 (omega arith))))
-        (reached-cases xs (start + half) r reached)
+  module _ (xs : List X) (p : IsOrdered side xs) where
+    pub half-rest : (half r m : ℕ) → 2 ≤ length xs → half ≡ length xs / 2 → m ≡ length xs - half → IsReached side xs half r → IsRest side xs (r * half) (take m (drop (r * half) xs))
+    half-rest half r m h e f reached =
+        rest-part xs (r * half) m m
+        (⊎_elim
+        (λ z. subst (λ k. IsNarrowed side xs (k * half) m) (sym z.0) (subst (λ k. IsNarrowed side xs k m) (omega arith) (narrowed-down xs p 0 (length xs) (narrowed-whole xs) half m (omega arith) z.1 (omega arith) (omega arith))))
+        (λ o. subst (λ k. IsNarrowed side xs (k * half) m) (sym o.0) (subst (λ k. IsNarrowed side xs k m) (omega arith) (narrowed-up xs p 0 (length xs) (narrowed-whole xs) half m (omega arith) o.1 (omega arith))))
+        (reached-cases xs half r reached))
+        refl
 
     -- the four places that three comparisons lead to
-    module _ (quarter second third fourth : ℕ) (h : 4 ≤ n) (e : quarter ≡ n / 4) (f : second ≡ start + quarter) (g : third ≡ second + quarter) (k : fourth ≡ third + quarter) where
-      in-list : fourth < length xs
-      in-list = let w = q.within in omega arith
+    module _ (quarter m : ℕ) (h : 4 ≤ length xs) (e : quarter ≡ length xs / 4) (f : m ≡ length xs - quarter * 3) where
+      at-first : HoldsAt (λ y. side y ≡ Greater) xs quarter → IsNarrowed side xs 0 m
+      at-first z = narrowed-down xs p 0 (length xs) (narrowed-whole xs) quarter m (omega arith) z (omega arith) (omega arith)
 
-      at-first : HoldsAt (λ y. side y ≡ Greater) xs second → IsNarrowed side xs start (n - quarter * 3)
-      at-first z = let l = in-list in narrowed-down xs p start n q second (n - quarter * 3) (omega arith) z (omega arith) (omega arith)
+      -- from one part on that begins with no greater element, up to the next one, that begins with a greater one
+      at-part : (part next : ℕ) → next ≡ part + quarter → part + m ≤ length xs → next < length xs → HoldsAt (λ y. is_gt (side y) ≡ false) xs part → HoldsAt (λ y. side y ≡ Greater) xs next → IsNarrowed side xs part m
+      at-part part next g k l o z =
+          narrowed-down xs p part (length xs - part) (narrowed-up xs p 0 (length xs) (narrowed-whole xs) part (length xs - part) (omega arith) o (omega arith)) next m l z (omega arith) (omega arith)
 
-      at-second : HoldsAt (λ y. is_gt (side y) ≡ false) xs second → HoldsAt (λ y. side y ≡ Greater) xs third → IsNarrowed side xs second (n - quarter * 3)
-      at-second o z =
-          let l = in-list in
-          narrowed-down xs p second (n - quarter) (narrowed-up xs p start n q second (n - quarter) (omega arith) o (omega arith)) third (n - quarter * 3) (omega arith) z (omega arith) (omega arith)
+      at-fourth : HoldsAt (λ y. is_gt (side y) ≡ false) xs (quarter * 3) → IsNarrowed side xs (quarter * 3) m
+      at-fourth o = narrowed-up xs p 0 (length xs) (narrowed-whole xs) (quarter * 3) m (omega arith) o (omega arith)
 
-      at-third : HoldsAt (λ y. is_gt (side y) ≡ false) xs third → HoldsAt (λ y. side y ≡ Greater) xs fourth → IsNarrowed side xs third (n - quarter * 3)
-      at-third o z =
-          let l = in-list in
-          narrowed-down xs p third (n - quarter * 2) (narrowed-up xs p start n q third (n - quarter * 2) (omega arith) o (omega arith)) fourth (n - quarter * 3) (omega arith) z (omega arith) (omega arith)
+      moved-to : (a b c : ℕ) (to : ℕ) (times : ℕ) → a + b + c ≡ times → to ≡ times * quarter → IsNarrowed side xs to m → IsNarrowed side xs ((a + b + c) * quarter) m
+      moved-to a b c to times s t w = subst (λ k. IsNarrowed side xs (k * quarter) m) (sym s) (subst (λ k. IsNarrowed side xs k m) t w)
 
-      at-fourth : HoldsAt (λ y. is_gt (side y) ≡ false) xs fourth → IsNarrowed side xs fourth (n - quarter * 3)
-      at-fourth o = let l = in-list in narrowed-up xs p start n q fourth (n - quarter * 3) in-list o (omega arith)
-
-      moved-to : (a b c : ℕ) (to : ℕ) (times : ℕ) → a + b + c ≡ times → to ≡ start + times * quarter → IsNarrowed side xs to (n - quarter * 3) → IsNarrowed side xs (start + (a + b + c) * quarter) (n - quarter * 3)
-      moved-to a b c to times s t w = subst (λ m. IsNarrowed side xs (start + m * quarter) (n - quarter * 3)) (sym s) (subst (λ m. IsNarrowed side xs m (n - quarter * 3)) t w)
-
-      pub quarter-reached : (a b c : ℕ) → IsReached side xs second a → IsReached side xs third b → IsReached side xs fourth c → IsNarrowed side xs (start + (a + b + c) * quarter) (n - quarter * 3)
-      quarter-reached a b c ra rb rc =
-          let l = in-list in
+      narrowed-quarter : (a b c : ℕ) → IsReached side xs quarter a → IsReached side xs (quarter * 2) b → IsReached side xs (quarter * 3) c → IsNarrowed side xs ((a + b + c) * quarter) m
+      narrowed-quarter a b c ra rb rc =
           ⊎_elim
           (λ a0. ⊎_elim
           (λ b0. ⊎_elim
-          (λ c0. let x : a ≡ 0 = a0.0 in let y : b ≡ 0 = b0.0 in let z : c ≡ 0 = c0.0 in moved-to a b c start 0 (omega arith) (omega arith) (at-first a0.1))
-          (λ c1. absurd (not-later xs third fourth p (omega arith) in-list b0.1 c1.1))
-          (reached-cases xs fourth c rc))
-          (λ b1. absurd (not-later xs second third p (omega arith) (omega arith) a0.1 b1.1))
-          (reached-cases xs third b rb))
+          (λ c0. let x : a ≡ 0 = a0.0 in let y : b ≡ 0 = b0.0 in let z : c ≡ 0 = c0.0 in moved-to a b c 0 0 (omega arith) (omega arith) (at-first a0.1))
+          (λ c1. absurd (not-later xs (quarter * 2) (quarter * 3) p (omega arith) (omega arith) b0.1 c1.1))
+          (reached-cases xs (quarter * 3) c rc))
+          (λ b1. absurd (not-later xs quarter (quarter * 2) p (omega arith) (omega arith) a0.1 b1.1))
+          (reached-cases xs (quarter * 2) b rb))
           (λ a1. ⊎_elim
           (λ b0. ⊎_elim
-          (λ c0. let x : a ≡ 1 = a1.0 in let y : b ≡ 0 = b0.0 in let z : c ≡ 0 = c0.0 in moved-to a b c second 1 (omega arith) (omega arith) (at-second a1.1 b0.1))
-          (λ c1. absurd (not-later xs third fourth p (omega arith) in-list b0.1 c1.1))
-          (reached-cases xs fourth c rc))
+          (λ c0. let x : a ≡ 1 = a1.0 in let y : b ≡ 0 = b0.0 in let z : c ≡ 0 = c0.0 in moved-to a b c quarter 1 (omega arith) (omega arith) (at-part quarter (quarter * 2) (omega arith) (omega arith) (omega arith) a1.1 b0.1))
+          (λ c1. absurd (not-later xs (quarter * 2) (quarter * 3) p (omega arith) (omega arith) b0.1 c1.1))
+          (reached-cases xs (quarter * 3) c rc))
           (λ b1. ⊎_elim
-          (λ c0. let x : a ≡ 1 = a1.0 in let y : b ≡ 1 = b1.0 in let z : c ≡ 0 = c0.0 in moved-to a b c third 2 (omega arith) (omega arith) (at-third b1.1 c0.1))
-          (λ c1. let x : a ≡ 1 = a1.0 in let y : b ≡ 1 = b1.0 in let z : c ≡ 1 = c1.0 in moved-to a b c fourth 3 (omega arith) (omega arith) (at-fourth c1.1))
-          (reached-cases xs fourth c rc))
-          (reached-cases xs third b rb))
-          (reached-cases xs second a ra)
+          (λ c0. let x : a ≡ 1 = a1.0 in let y : b ≡ 1 = b1.0 in let z : c ≡ 0 = c0.0 in moved-to a b c (quarter * 2) 2 (omega arith) (omega arith) (at-part (quarter * 2) (quarter * 3) (omega arith) (omega arith) (omega arith) b1.1 c0.1))
+          (λ c1. let x : a ≡ 1 = a1.0 in let y : b ≡ 1 = b1.0 in let z : c ≡ 1 = c1.0 in moved-to a b c (quarter * 3) 3 (omega arith) (omega arith) (at-fourth c1.1))
+          (reached-cases xs (quarter * 3) c rc))
+          (reached-cases xs (quarter * 2) b rb))
+          (reached-cases xs quarter a ra)
+
+      pub quarter-rest : (a b c : ℕ) → IsReached side xs quarter a → IsReached side xs (quarter * 2) b → IsReached side xs (quarter * 3) c → IsRest side xs ((a + b + c) * quarter) (take m (drop ((a + b + c) * quarter) xs))
+      quarter-rest a b c ra rb rc = rest-part xs ((a + b + c) * quarter) m m (narrowed-quarter a b c ra rb rc) refl
 
   -- ---- one comparison that may find it
 
@@ -236,7 +310,7 @@ module _ {X : Type 0} (side : X → Ordering) where
 
   -- ---- the place
 
-  pub place-passed : (xs : List X) (start : ℕ) → IsOrdered side xs → IsPassed side xs start 0 → IsFound side xs (start - 1)
+  place-passed : (xs : List X) (start : ℕ) → IsOrdered side xs → IsPassed side xs start 0 → IsFound side xs (start - 1)
   place-passed xs start p q =
       let w = q.within in
       let s = q.some in
@@ -253,22 +327,41 @@ module _ {X : Type 0} (side : X → Ordering) where
   place-searched xs start n true p q f e = place-passed xs start p (subst (λ m. IsPassed side xs start m) e q)
   place-searched xs start n false p q f e = absurd (true≢false (sym f))
 
-  pub place-narrowed : (xs : List X) (start : ℕ) → IsNarrowed side xs start 0 → IsGap side xs start
+  place-narrowed : (xs : List X) (start : ℕ) → IsNarrowed side xs start 0 → IsGap side xs start
   place-narrowed xs start q = record { within = (let w = q.within in omega arith); less = q.less; greater = subst (λ k. AllByRecursion (λ y. side y ≡ Greater) (drop k xs)) (omega arith) q.greater }
 
   module _ (xs : List X) (start : ℕ) (p : IsOrdered side xs) (q : IsNarrowed side xs start 1) (y : X) (e : y ≡ get_or xs start y) where
     in-bounds : start < length xs
     in-bounds = let w = q.within in omega arith
 
-    pub place-below : Less ≡ side y → IsGap side xs (start + 1)
+    place-below : Less ≡ side y → IsGap side xs (start + 1)
     place-below f =
         place-narrowed xs (start + 1) (subst (λ i. IsNarrowed side xs i 0) (omega arith) (narrowed-past xs p start 1 q start 0 in-bounds (holds-read (λ z. side z ≡ Less) xs start y in-bounds e (sym f)) (omega arith)))
 
-    pub place-at : Equal ≡ side y → IsFound side xs start
+    place-at : Equal ≡ side y → IsFound side xs start
     place-at f = subst (λ i. IsFound side xs i) (omega arith) (place-passed xs (start + 1) p (record { within = (let l = in-bounds in omega arith); some = omega arith; equal = subst (λ i. HoldsAt (λ z. side z ≡ Equal) xs i) (omega arith) (holds-read (λ z. side z ≡ Equal) xs start y in-bounds e (sym f)) }))
 
-    pub place-above : Greater ≡ side y → IsGap side xs start
+    place-above : Greater ≡ side y → IsGap side xs start
     place-above f = place-narrowed xs start (narrowed-down xs p start 1 q start 0 in-bounds (holds-read (λ z. side z ≡ Greater) xs start y in-bounds e (sym f)) (omega arith) (omega arith))
+
+  -- the same where one element is left to search, and compares as `o`
+  module _ (xs : List X) (start : ℕ) (one : List X) (p : IsOrdered side xs) (q : IsRest side xs start one) (h : length one ≡ 1) (y : X) (e : y ≡ get_or one 0 y) where
+    narrowed-one : IsNarrowed side xs start 1
+    narrowed-one = subst (IsNarrowed side xs start) h q.narrowed
+
+    at-start : y ≡ get_or xs start y
+    at-start = rest-first xs start one y q (omega arith) e
+
+    pub place-equal : (o : Ordering) → o ≡ side y → is_eq o ≡ true → IsFound side xs start
+    place-equal Less f g = absurd (true≢false (sym g))
+    place-equal Equal f g = place-at xs start p narrowed-one y at-start f
+    place-equal Greater f g = absurd (true≢false (sym g))
+
+    -- one place further where the element is less
+    pub place-unequal : (o : Ordering) (b : Bool) → o ≡ side y → is_eq o ≡ false → b ≡ is_lt o → IsGap side xs (start + from_bool b)
+    place-unequal Less b f g k = subst (λ b. IsGap side xs (start + from_bool b)) (sym k) (place-below xs start p narrowed-one y at-start f)
+    place-unequal Equal b f g k = absurd (true≢false g)
+    place-unequal Greater b f g k = subst (λ b. IsGap side xs (start + from_bool b)) (sym k) (subst (IsGap side xs) (omega arith) (place-above xs start p narrowed-one y at-start f))
 
 -- ---- ascending lists are ordered round whatever is sought
 

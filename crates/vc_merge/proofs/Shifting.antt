@@ -43,6 +43,18 @@ module _ {X : Type 0} where
         rest = rw e (same_lists _ _ (search (rules, places)) (λ k d h. grind (arith, places)));
       }
 
+  -- the same by a trade, where the gap is long enough
+  pub MovesUp-swapped : (xs front back sub other : List X) (start end next : ℕ) → start ≤ end → end ≤ next → end - start ≤ next - end → next ≤ length xs
+      → front ≡ take (next - (end - start)) xs → back ≡ drop (next - (end - start)) xs → sub ≡ take (end - start) back → other ≡ take (end - start) (drop start front)
+      → MovesUp xs start end next (put_mid start (end - start) front sub ++ (other ++ drop (end - start) back))
+  MovesUp-swapped xs front back sub other start end next low high apart within a b c d =
+      rw (d, c, b, a) record {
+        same_length = search (rules, places);
+        front = same_lists _ _ (search (rules, places)) (λ k d h. grind (arith, places));
+        moved = same_lists _ _ (search (rules, places)) (λ k d h. grind (arith, places));
+        rest = same_lists _ _ (search (rules, places)) (λ k d h. grind (arith, places));
+      }
+
   -- a run moved down by a turn
   pub Turns-turned : (xs ys : List X) (at next n : ℕ) → at ≤ next → next + n ≤ length xs
       → ys ≡ drop (next - at) (take (next + n - at) (drop at xs)) ++ take (next - at) (take (next + n - at) (drop at xs))

@@ -39,6 +39,11 @@ module _ {X : Type 0} (side : X → Ordering) where
     pub less : AllByRecursion (λ y. side y ≡ Less) (take start xs)
     pub greater : AllByRecursion (λ y. side y ≡ Greater) (drop (start + n) xs)
 
+  -- the rest that is searched on: the elements from `start` on, as many as it has
+  pub record IsRest (xs : List X) (start : ℕ) (rest : List X) : Type 0 where
+    pub part : rest ≡ take (length rest) (drop start xs)
+    pub narrowed : IsNarrowed xs start (length rest)
+
   -- the element before `start` is equal
   pub record IsPassed (xs : List X) (start n : ℕ) : Type 0 where
     pub within : start + n ≤ length xs

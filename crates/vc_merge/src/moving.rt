@@ -1,10 +1,12 @@
 //! The state of a merge that sifts its left list: what it takes moves to the front, and nothing is cloned.
 ghost use Rattle.std.specs.Prelude.{◌≡◌, ◌+◌, ◌<◌, ◌≤◌, [], ◌∷◌, ◌++◌, List, insert, IsOk, OnOk, OnErr, length, take};
+ghost use Rattle.core.specs.Mem.Slots.{IsFull, Refills, slots_items, slots_len};
 ghost use Rattle.smallvec.specs.SmallVec.{HasRoomFor};
 ghost use Rattle.vc_merge.specs.Building.{Advances, Skips};
 ghost use Rattle.vc_merge.specs.MovesDown.{MovesDown};
 
 use crate::merge::{MergeState, MergeStateMut};
+use core::slots::{Slots, with_slots};
 use smallvec::SmallVec;
 use std::alloc::{AllocError, Allocator};
 use std::default::MadeWith;
@@ -39,8 +41,33 @@ fn turn_in<T>(list: &mut [T], place: usize)
     ensures { (xs : List T) (x : T) → list.old ≡ xs ++ x ∷ [] → list.new ≡ insert xs place x }
 {
     if place + 1 < list.len() {
-        list[place..].rotate_right(1);
+        turn(&mut list[place..]);
     }
+}
+
+/// Moves the last element to the front, and the others up by one. It stands out of line, where the loop that moves them is compiled to
+/// `memmove`.
+#[inline(never)]
+fn turn<T>(list: &mut [T])
+    requires { 0 < length list.old }
+    ensures { (xs : List T) (x : T) → list.old ≡ xs ++ x ∷ [] → list.new ≡ x ∷ xs }
+{
+    let mut nothing = ();
+    unsafe { with_slots(list, &mut nothing, (), last_to_first) }
+}
+
+/// The same in a row of places, each of which has a value before and after.
+#[inline(always)]
+fn last_to_first<T>(mut row: Slots<T>, state: (), _given: ()) -> (Slots<T>, (), ())
+    requires { IsFull row × (0 < slots_len row) }
+    ensures full { Refills row result.0 }
+    ensures turned { (xs : List T) (x : T) → slots_items row ≡ xs ++ x ∷ [] → slots_items result.0 ≡ x ∷ xs }
+{
+    let last = row.len() - 1;
+    let element = row.take(last);
+    row.move_within(0, 1, last);
+    row.put(0, element);
+    (row, state, ())
 }
 
 /// Puts an element in at a place of a list, in front of those that stood there and behind it.

@@ -305,14 +305,19 @@ fn push_blanks<T: MadeWith<A> + Drop, const N: usize, A: Allocator + Copy>(
     }
 }
 
-/// Moves the elements from `start` to `end` up to the place `next`. Those that lay between end up before them.
+/// Moves the elements from `start` to `end` up to the place `next`. Those that lay between end up before them, in any order.
 fn move_up<T>(list: &mut [T], start: usize, end: usize, next: usize)
     requires order { start ≤ end }
     requires gap { end ≤ next }
     requires within { next ≤ length list.old }
     ensures { MovesUp list.old start end next list.new }
 {
-    list[start..next].rotate_left(end - start);
+    let len = end - start;
+    if len > next - end {
+        return list[start..next].rotate_left(len);
+    }
+    let (front, back) = list.split_at_mut(next - len);
+    front[start..end].swap_with_slice(&mut back[..len]);
 }
 
 /// Moves the `n` elements from the place `next` on down to the place `at`. Those that lay between move up behind them.

@@ -8,7 +8,7 @@ ghost use Rattle.std.specs.Map.{keys_of};
 ghost use Rattle.std.specs.declared.cmp.Ordering.{Ordering};
 ghost use Rattle.vc_merge.specs.Ascending.{Ascends};
 ghost use Rattle.vc_merge.specs.Count.{ticked, digits};
-ghost use Rattle.vc_merge.specs.Place.{IsOrdered, IsPlace, IsNarrowed, IsReached, IsSearched};
+ghost use Rattle.vc_merge.specs.Place.{IsOrdered, IsPlace, IsRest, IsReached, IsSearched};
 
 use crate::merge::{Count, Uncounted};
 use std::cmp::Ordering;
@@ -81,65 +81,67 @@ pub fn look_up<X, S: Sought<X, Uncounted>>(list: &[X], sought: &S) -> Result<usi
         return Err(0);
     }
     let mut start = 0;
-    let mut len = list.len();
-    'quarters: while len >= 4 {
-        start = nearest_quarter(list, start, len, sought);
-        len -= len / 4 * 3;
+    let mut rest = list;
+    'quarters: while rest.len() >= 4 {
+        let (passed, part) = nearest_quarter(rest, sought);
+        start += passed;
+        rest = part;
     }
-    // Written out, since a loop is compiled with a branch on each answer.
-    let (start, len) = nearest_half(list, start, len, sought);
-    let (start, _one) = nearest_half(list, start, len, sought);
-    match sought.compare(&list[start], &mut Uncounted) {
-        Ordering::Less => Err(start + 1),
-        Ordering::Equal => Ok(start),
-        Ordering::Greater => Err(start),
+    let (passed, one) = nearest_of_few(rest, sought);
+    start += passed;
+    let order = sought.compare(&one[0], &mut Uncounted);
+    if order.is_eq() {
+        return Ok(start);
     }
+    Err(start + usize::from(order.is_lt()))
 }
 
-/// Where the last of four parts begins that begins with no greater element, or the first part where there is none.
+/// The last of four parts that begins with no greater element, or the first part where there is none, and how many elements stand
+/// before it.
 #[inline(always)]
-fn nearest_quarter<X, S: Sought<X, Uncounted>>(
-    list: &[X],
-    start: usize,
-    len: usize,
-    sought: &S,
-) -> usize
+fn nearest_quarter<'a, X, S: Sought<X, Uncounted>>(list: &'a [X], sought: &S) -> (usize, &'a [X])
     requires ordered { IsOrdered (S.side sought.now) list.now }
-    requires narrowed { IsNarrowed (S.side sought.now) list.now start len }
-    requires long { 4 ≤ len }
-    ensures { IsNarrowed (S.side sought.now) list.now result (len - len / 4 * 3) }
+    requires long { 4 ≤ length list.now }
+    ensures rest { IsRest (S.side sought.now) list.now result.0 result.1.now }
+    ensures shorter { length result.1.now ≡ length list.now - length list.now / 4 * 3 }
 {
-    let quarter = len / 4;
-    let second = start + quarter;
-    let third = second + quarter;
-    let fourth = third + quarter;
-    let reached = reaches(list, second, sought)
-        + reaches(list, third, sought)
-        + reaches(list, fourth, sought);
-    start + reached * quarter
+    let quarter = list.len() / 4;
+    let reached = reaches(list, quarter, sought)
+        + reaches(list, quarter * 2, sought)
+        + reaches(list, quarter * 3, sought);
+    let start = reached * quarter;
+    (start, &list[start..start + (list.len() - quarter * 3)])
 }
 
-/// The part of two that is searched on: the second one, unless it begins with a greater element.
+/// The last of up to three elements that is not greater, or the first one where there is none, and how many stand before it.
+///
+/// Two halvings are written out, since a loop is compiled with a branch on each answer.
 #[inline(always)]
-fn nearest_half<X, S: Sought<X, Uncounted>>(
-    list: &[X],
-    start: usize,
-    len: usize,
-    sought: &S,
-) -> (usize, usize)
+fn nearest_of_few<'a, X, S: Sought<X, Uncounted>>(list: &'a [X], sought: &S) -> (usize, &'a [X])
     requires ordered { IsOrdered (S.side sought.now) list.now }
-    requires narrowed { IsNarrowed (S.side sought.now) list.now start len }
-    ensures narrowed { IsNarrowed (S.side sought.now) list.now result.0 result.1 }
-    ensures shorter { result.1 ≡ len - len / 2 }
+    requires some { 0 < length list.now }
+    requires few { length list.now < 4 }
+    ensures rest { IsRest (S.side sought.now) list.now result.0 result.1.now }
+    ensures one { length result.1.now ≡ 1 }
 {
-    if len < 2 {
-        return (start, len);
+    let (before, half) = nearest_half(list, sought);
+    let (between, one) = nearest_half(half, sought);
+    (before + between, one)
+}
+
+/// The part of two that is searched on, the second one unless it begins with a greater element, and how many elements stand before it.
+#[inline(always)]
+fn nearest_half<'a, X, S: Sought<X, Uncounted>>(list: &'a [X], sought: &S) -> (usize, &'a [X])
+    requires ordered { IsOrdered (S.side sought.now) list.now }
+    ensures rest { IsRest (S.side sought.now) list.now result.0 result.1.now }
+    ensures shorter { length result.1.now ≡ length list.now - length list.now / 2 }
+{
+    if list.len() < 2 {
+        return (0, list);
     }
-    let half = len / 2;
-    (
-        start + reaches(list, start + half, sought) * half,
-        len - half,
-    )
+    let half = list.len() / 2;
+    let start = reaches(list, half, sought) * half;
+    (start, &list[start..start + (list.len() - half)])
 }
 
 /// One where the element is not greater, and else none.

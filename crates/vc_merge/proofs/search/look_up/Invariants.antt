@@ -1,13 +1,13 @@
-use Rattle.std.proofs.Common.{◌<◌}
-use Rattle.vc_merge.specs.Place.{IsNarrowed}
+use Rattle.std.proofs.Common.{◌<◌, length}
+use Rattle.vc_merge.specs.Place.{IsRest}
 use Rattle.vc_merge.proofs.search.look_up.Given as goal
 
 abbrev pub invariant-quarters : goal.invariant-quarters
 invariant-quarters g l =
     record {
-      narrowed : IsNarrowed (g.S.Sought.side l.sought) l.list l.start l.len;
-      some : 0 < l.len;
+      rest : IsRest (g.S.Sought.side l.sought) l.list l.start l.rest;
+      some : 0 < length l.rest;
     }
 
 abbrev pub decreases-quarters : goal.decreases-quarters
-decreases-quarters g l = l.len
+decreases-quarters g l = length l.rest
