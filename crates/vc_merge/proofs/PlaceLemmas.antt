@@ -145,12 +145,12 @@ module _ {X : Type 0} (side : X → Ordering) where
   rest-whole xs = record { part = sym (take-length xs); narrowed = narrowed-whole xs }
 
   -- the rest as it is cut off
-  pub rest-part : (xs : List X) (start n m : ℕ) → IsNarrowed side xs start n → m ≡ n → IsRest side xs start (take m (drop start xs))
-  rest-part xs start n m q e =
+  rest-part : (xs : List X) (start n : ℕ) → IsNarrowed side xs start n → IsRest side xs start (take n (drop start xs))
+  rest-part xs start n q =
       let w = q.within in
       let behind : length (drop start xs) ≡ length xs - start = length-drop start xs in
-      let l : length (take m (drop start xs)) ≡ m = length-take-le m (drop start xs) (omega arith) in
-      record { part = ap (λ k. take k (drop start xs)) (sym l); narrowed = subst (IsNarrowed side xs start) (sym (l ∙ e)) q }
+      let l : length (take n (drop start xs)) ≡ n = length-take-le n (drop start xs) (omega arith) in
+      record { part = ap (λ k. take k (drop start xs)) (sym l); narrowed = subst (IsNarrowed side xs start) (sym l) q }
 
   -- the first element of the rest stands where the rest begins
   rest-first : (xs : List X) (start : ℕ) (rest : List X) (y : X) → IsRest side xs start rest → 0 < length rest → y ≡ get_or rest 0 y → y ≡ get_or xs start y
@@ -214,12 +214,11 @@ module _ {X : Type 0} (side : X → Ordering) where
   module _ (xs : List X) (p : IsOrdered side xs) where
     pub half-rest : (half r m : ℕ) → 2 ≤ length xs → half ≡ length xs / 2 → m ≡ length xs - half → IsReached side xs half r → IsRest side xs (r * half) (take m (drop (r * half) xs))
     half-rest half r m h e f reached =
-        rest-part xs (r * half) m m
+        rest-part xs (r * half) m
         (⊎_elim
         (λ z. subst (λ k. IsNarrowed side xs (k * half) m) (sym z.0) (subst (λ k. IsNarrowed side xs k m) (omega arith) (narrowed-down xs p 0 (length xs) (narrowed-whole xs) half m (omega arith) z.1 (omega arith) (omega arith))))
         (λ o. subst (λ k. IsNarrowed side xs (k * half) m) (sym o.0) (subst (λ k. IsNarrowed side xs k m) (omega arith) (narrowed-up xs p 0 (length xs) (narrowed-whole xs) half m (omega arith) o.1 (omega arith))))
         (reached-cases xs half r reached))
-        refl
 
     -- the four places that three comparisons lead to
     module _ (quarter m : ℕ) (h : 4 ≤ length xs) (e : quarter ≡ length xs / 4) (f : m ≡ length xs - quarter * 3) where
@@ -260,7 +259,7 @@ module _ {X : Type 0} (side : X → Ordering) where
           (reached-cases xs quarter a ra)
 
       pub quarter-rest : (a b c : ℕ) → IsReached side xs quarter a → IsReached side xs (quarter * 2) b → IsReached side xs (quarter * 3) c → IsRest side xs ((a + b + c) * quarter) (take m (drop ((a + b + c) * quarter) xs))
-      quarter-rest a b c ra rb rc = rest-part xs ((a + b + c) * quarter) m m (narrowed-quarter a b c ra rb rc) refl
+      quarter-rest a b c ra rb rc = rest-part xs ((a + b + c) * quarter) m (narrowed-quarter a b c ra rb rc)
 
   -- ---- one comparison that may find it
 
