@@ -1,4 +1,4 @@
--- The test whether two trees are the same: what it says, and that it is an equivalence.
+-- The test whether two trees are the same: what it says, and that it is an equivalence, which are the laws of `==`.
 --     same_tree-is        it says that the trees are the same
 --     same_tree-partial, same_tree-equivalence        it is symmetric and transitive, and reflexive where that of values is
 use Rattle.std.proofs.Common.{◌≡◌, Option, None, Some, Bool, true, false, ◌&&◌, true≢false, ◌↔◌, refl, sym}
