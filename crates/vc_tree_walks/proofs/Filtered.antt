@@ -1,0 +1,106 @@
+-- The tree of the keys that start with a prefix, by the walk of these keys.
+--     filtered-none, filtered-bare        no key starts so
+--     filtered        a copy of the node that they stand below, with what stands before it
+--     copy-solid        such a copy is solid
+use Rattle.std.proofs.Common.{◌≡◌, [], ◌∷◌, ◌++◌, List, Option, None, Some, true, false, Result, Ok, Err, IfOk, ◌⊎◌, inl, inr, refl, sym, ap, ◌∙◌, map, true≢false}
+use Rattle.std.specs.Cmp.{IsTotalOrder}
+use Rattle.std.specs.Option.{option_and_then}
+use Rattle.std.specs.declared.cmp.Ordering.{Ordering}
+use Rattle.vc_tree_model.specs.Key.{behind}
+use Rattle.vc_tree_model.specs.Tree.{Tree, Forest, bare, grow, node, no_tree, is_bare, lacks_both}
+use Rattle.vc_tree_model.specs.Map.{lookup, lookup_in, node_lookup, IsEqualMap}
+use Rattle.vc_tree_model.specs.Canonical.{IsCanonical, IsSolid}
+use Rattle.vc_tree_model.specs.Same.{IsAlike}
+use Rattle.vc_tree_model.specs.Under.{under, prefixed}
+use Rattle.vc_tree_model.specs.Value.{IsKept}
+use Rattle.vc_tree_model.specs.Walk.{IsWalk, prepended, walk}
+use Rattle.vc_tree_model.proofs.AlikeLemmas.{alike-solid, tree-alike_lookup}
+use Rattle.vc_tree_model.proofs.KeyLemmas.{none-some}
+use Rattle.vc_tree_model.proofs.LookupLemmas.{children-ordered, whole-cases, nothing-bound}
+use Rattle.vc_tree_model.proofs.UnderLemmas.{walk-prefixed, lookup-prepended}
+use Rattle.vc_tree_model.proofs.ValueLemmas.{kept_by}
+use Rattle.vc_tree_model.proofs.Walking.{walk-is}
+
+module _ {K V : Type 0} (cmp : K → K → Ordering) (o : IsTotalOrder cmp) where
+  -- two maps of one walk have the same values
+  same-maps : (f g : List K → Option V) (l : List (List K × V)) → IsWalk cmp f l → IsWalk cmp g l → (k : List K) → f k ≡ g k
+  same-maps f g l w z k = by (f k) (g k) refl refl
+    where
+      by : (a b : Option V) → f k ≡ a → g k ≡ b → f k ≡ g k
+      by None None e d = e ∙ sym d
+      by None (Some v) e d = none-some v (sym e ∙ (w.lists k v).0 ((z.lists k v).1 d))
+      by (Some v) b e d = e ∙ sym ((z.lists k v).0 ((w.lists k v).1 e))
+
+  -- without pairs nothing is bound
+  nothing-listed : (f : List K → Option V) → IsWalk cmp f [] → (k : List K) → f k ≡ None
+  nothing-listed f w k = by (f k) refl
+    where
+      by : (a : Option V) → f k ≡ a → f k ≡ None
+      by None e = e
+      by (Some v) e = absurd ((w.lists k v).1 e)
+
+  -- the empty tree binds nothing
+  empty-binds : (t : Tree K V) → t ≡ no_tree → (k : List K) → lookup cmp t k ≡ None
+  empty-binds t e k = ap (λ z. lookup cmp z k) e ∙ nothing-bound cmp [] None bare (refl, refl, refl) k
+
+  module _ (keeps : V → V → Type 0) (f : List K → Option V) (p : List K) where
+    none-kept : (t : Tree K V) → t ≡ no_tree → ((k : List K) → under cmp f p k ≡ None)
+        → IsEqualMap keeps (under cmp f p) (lookup cmp t)
+    none-kept t e n k = kept_by keeps None None (under cmp f p k) (lookup cmp t k) (sym (n k)) (sym (empty-binds t e k)) tt
+
+    -- no key starts so
+    pub filtered-none : (t : Tree K V) → t ≡ no_tree → IsWalk cmp (under cmp f p) []
+        → IsEqualMap keeps (under cmp f p) (lookup cmp t)
+    filtered-none t e w = none-kept t e (nothing-listed (under cmp f p) w)
+
+    module _ (front : List K) (t : Tree K V) (c : IsCanonical cmp t)
+        (w : IsWalk cmp (under cmp f p) (map (prepended front) (walk t))) where
+      part : (k : List K) → under cmp f p k ≡ prefixed cmp (lookup cmp t) front k
+      part =
+          same-maps (under cmp f p) (prefixed cmp (lookup cmp t) front) (map (prepended front) (walk t)) w
+          (walk-prefixed cmp o (lookup cmp t) (walk t) front (walk-is cmp o t (children-ordered cmp t.children c.1)))
+
+      -- the node is the empty tree
+      pub filtered-bare : (u : Tree K V) → u ≡ no_tree → is_bare t ≡ true → IsEqualMap keeps (under cmp f p) (lookup cmp u)
+      filtered-bare u e b = none-kept u e (λ k. part k ∙ then-none (behind cmp front k))
+        where
+          bare-by : (v : Option V) (g : Forest K V) → lacks_both v g ≡ true → (left : Option (List K))
+              → node_lookup v (lookup_in cmp g) left ≡ None
+          bare-by (Some v) g h left = absurd (true≢false (sym h))
+          bare-by None (grow q w more rest) h left = absurd (true≢false (sym h))
+          bare-by None bare h None = refl
+          bare-by None bare h (Some []) = refl
+          bare-by None bare h (Some (x ∷ q)) = refl
+
+          then-none : (left : Option (List K)) → option_and_then (lookup cmp t) left ≡ None
+          then-none None = refl
+          then-none (Some rest) = bare-by t.value t.children b (behind cmp t.prefix rest)
+
+      -- a copy of the node, with what stands before it
+      filtered-copy : (copy u : Tree K V) → IsAlike keeps t copy → u ≡ node (front ++ copy.prefix) copy.value copy.children
+          → IsEqualMap keeps (under cmp f p) (lookup cmp u)
+      filtered-copy copy u a e k =
+          kept_by keeps (option_and_then (lookup cmp t) (behind cmp front k)) (option_and_then (lookup cmp copy) (behind cmp front k))
+          (under cmp f p k) (lookup cmp u k) (sym (part k))
+          (sym (ap (λ z. lookup cmp z k) e ∙ lookup-prepended cmp front copy k)) (then-kept (behind cmp front k))
+        where
+          then-kept : (left : Option (List K))
+              → IsKept keeps (option_and_then (lookup cmp t) left) (option_and_then (lookup cmp copy) left)
+          then-kept None = tt
+          then-kept (Some rest) = tree-alike_lookup keeps cmp t copy a rest
+
+      pub filtered : {T E : Type 0} (tree : T → Tree K V) (copy : Tree K V) (r : Result T E) → IsAlike keeps t copy
+          → IfOk r (λ u. tree u ≡ node (front ++ copy.prefix) copy.value copy.children)
+          → IfOk r (λ u. IsEqualMap keeps (under cmp f p) (lookup cmp (tree u)))
+      filtered tree copy (Ok u) a h = filtered-copy copy (tree u) a h
+      filtered tree copy (Err e) a h = tt
+
+  -- a copy of a node that is not the empty tree is solid
+  pub copy-solid : (keeps : V → V → Type 0) (t copy : Tree K V) → IsCanonical cmp t → is_bare t ≡ false → IsAlike keeps t copy
+      → IsSolid copy.value copy.children
+  copy-solid keeps t copy c b a = by (whole-cases cmp t.prefix t.value t.children c.0)
+    where
+      by : IsSolid t.value t.children ⊎ ((t.prefix ≡ []) × (t.value ≡ None) × (t.children ≡ bare))
+          → IsSolid copy.value copy.children
+      by (inl s) = alike-solid keeps t.value copy.value t.children copy.children a.1 a.2 s
+      by (inr e) = absurd (true≢false (rw (e.1, e.2) at b))
