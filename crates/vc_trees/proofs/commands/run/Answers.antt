@@ -8,9 +8,9 @@ use Rattle.vc_tree_model.proofs.Uniqueness.{canonical-one}
 use Rattle.vc_tree_model.proofs.Smallness.{canonical-smallest}
 use Rattle.vc_tree_model.specs.Snapshot.{kept_itself}
 use Rattle.vc_tree_model.specs.Value.{Copies, itself}
-use Rattle.vc_tree_commands.proofs.Chaining.{stepped, leads-turn, leads-through}
-use Rattle.vc_tree_commands.specs.Commanded.{command_of}
-use Rattle.vc_tree_commands.proofs.commands.run.Goals as goal
+use Rattle.vc_trees.proofs.Chaining.{stepped, leads-turn, leads-through}
+use Rattle.vc_trees.specs.Commanded.{command_of}
+use Rattle.vc_trees.proofs.commands.run.Goals as goal
 
 pub loop-at-preserved : goal.loop-at-preserved
 loop-at-preserved g c =
@@ -48,9 +48,9 @@ returns-clause-steps g c =
 pub returns-clause-one : goal.returns-clause-one
 returns-clause-one g c =
     canonical-one g.K.Ord.cmp g.met.K.Ord.total (Copies g.V.Clone.is_clone) (g.T.RadixNode.tree c.loop-at.tree)
-    c.prefix.ensures.canonical
+    c.canonical.ensures
 
 pub returns-clause-smallest : goal.returns-clause-smallest
 returns-clause-smallest g c =
     canonical-smallest g.K.Ord.cmp (Copies g.V.Clone.is_clone) g.met.K.Ord.total (g.T.RadixNode.tree c.loop-at.tree)
-    c.prefix.ensures.canonical
+    c.canonical.ensures

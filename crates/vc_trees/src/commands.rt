@@ -1,7 +1,7 @@
 //! Commands on a tree, and runs of them.
 
 ghost use Rattle.std.specs.Prelude.{◌≡◌, length, map, true, OnOk, OnErr};
-ghost use Rattle.vc_tree_commands.specs.Commanded.{command_of};
+ghost use Rattle.vc_trees.specs.Commanded.{command_of};
 ghost use Rattle.vc_tree_model.specs.Canonical.{IsCanonical};
 ghost use Rattle.vc_tree_model.specs.Machine.{Run, after, refused};
 ghost use Rattle.vc_tree_model.specs.Map.{lookup, IsEqualMap};
@@ -9,8 +9,9 @@ ghost use Rattle.vc_tree_model.specs.OneTree.{IsOneTree, IsSmallest};
 ghost use Rattle.vc_tree_model.specs.Under.{under};
 ghost use Rattle.vc_tree_model.specs.Value.{Copies};
 
+use crate::radix_tree::{AbstractRadixTreeMut, TKey, TValue};
 use std::alloc::AllocError;
-use vc_trees::radix_tree::{AbstractRadixTreeMut, TKey, TValue};
+use vc_tree_nodes::reading::canonical;
 
 /// A change of a tree, by a key and a value, by a prefix, or by another tree.
 #[derive(Drop)]
@@ -92,6 +93,5 @@ pub fn run<K: TKey, V: TValue, T: AbstractRadixTreeMut<K, V>>(
     for (at, command) in commands.into_iter().enumerate() {
         accepted[at] = obey(tree, command).is_ok();
     }
-    // The law of trees, that they are canonical, comes with the prefix.
-    let _ = tree.prefix();
+    canonical(tree);
 }

@@ -1,8 +1,8 @@
 -- The commands that came lead from the map before to the one of the tree, accepted as the flags so far say.
 use Rattle.std.proofs.Common.{map, take, length}
-use Rattle.vc_tree_commands.proofs.Chaining.{Leads}
-use Rattle.vc_tree_commands.specs.Commanded.{command_of}
-use Rattle.vc_tree_commands.proofs.commands.run.Given as goal
+use Rattle.vc_trees.proofs.Chaining.{Leads}
+use Rattle.vc_trees.specs.Commanded.{command_of}
+use Rattle.vc_trees.proofs.commands.run.Given as goal
 use Rattle.vc_tree_model.specs.Map.{lookup}
 use Rattle.vc_tree_model.specs.Value.{Copies}
 
