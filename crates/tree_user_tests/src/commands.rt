@@ -2,7 +2,7 @@
 use super::tests::{Counted, DEPTH, Tally, number_at, print_shape};
 use std::alloc::{AllocError, Global};
 use std::test::Fail;
-use vc_tree_commands::commands::{TreeCommand, run};
+use vc_trees::commands::{TreeCommand, run};
 use vc_trees::radix_tree::{AbstractRadixTreeMut, ArcRadixTree, RadixTree};
 
 /// A command, with the keys of the other tree or its own key.

@@ -1,66 +1,30 @@
--- What is left of a tree that one side alone has: nothing, or a copy; and calls of the closures that combines ask.
+-- What is left of a tree that one side alone has, where that is nothing; values that are copied; and calls of the closures that combines ask.
 --     left-out        nothing is left
---     copied        a copy is a child that begins as the tree did and binds what it binds
---     made_by        what is said of both is enough
 --     may-answer        what a call answers
 --     made-some, made-none        the combine of whole trees
-use Rattle.std.proofs.Common.{◌≡◌, ℕ, ◌<◌, [], ◌∷◌, ◌++◌, List, Option, None, Some, Result, Ok, Err, IfOk, refl, sym, ap, subst, ◌∙◌, take, drop, length, slice_get, arith}
-use Rattle.std.specs.Cmp.{IsTotalOrder, tied_itself}
+use Rattle.std.proofs.Common.{◌≡◌, ℕ, [], ◌∷◌, ◌++◌, List, Option, None, Some, Result, Ok, Err, IfOk, refl, sym, ap, subst, ◌∙◌, take, drop}
+use Rattle.std.specs.Cmp.{IsTotalOrder}
 use Rattle.std.specs.Option.{option_copied}
 use Rattle.std.specs.declared.cmp.Ordering.{Ordering}
 use denote.Ref.{Bor}
 use denote.Param.Members.{Shared}
 use Rattle.vc_tree_model.specs.Asking.{MayAnswer}
 use Rattle.vc_tree_model.specs.Combine.{IsInnerAt, IsOuterAt, IsUnionAt, IsIntersectionAt, IsDifferenceAt}
-use Rattle.vc_tree_model.specs.Tree.{Tree, Forest, no_tree, node, shortened}
+use Rattle.vc_tree_model.specs.Tree.{Tree, no_tree, node, shortened}
 use Rattle.vc_tree_model.specs.Map.{node_lookup, lookup, lookup_in}
 use Rattle.vc_tree_model.specs.Value.{IsKept, Copies, itself, cloned}
-use Rattle.vc_tree_model.specs.Canonical.{IsCanonical, IsWhole, IsSolid}
 use Rattle.std.proofs.lemmas.List.{take-append-drop}
 use Rattle.vc_tree_model.specs.Shortened.{IsShortened}
-use Rattle.vc_tree_model.specs.Child.{Begins}
 use Rattle.vc_tree_model.specs.Same.{IsAlike}
-use Rattle.vc_tree_model.proofs.AlikeLemmas.{alike-solid, alike-children, tree-alike_lookup}
-use Rattle.vc_tree_model.proofs.KeyLemmas.{none-some, then_behind, behind-append, behind-itself}
-use Rattle.vc_tree_combines.specs.Made.{IsMade, IsBothMade}
+use Rattle.vc_tree_model.proofs.AlikeLemmas.{tree-alike_lookup}
+use Rattle.vc_tree_model.proofs.KeyLemmas.{then_behind, behind-append, behind-itself}
+use Rattle.vc_tree_facing.specs.Made.{IsMade, IsBothMade}
 
 module _ {K : Type 0} (cmp : K → K → Ordering) where
   module _ {V U : Type 0} where
     -- nothing is left where nothing may be
     pub left-out : (R : Option V → Option U → Type 0) → ((v : Option V) → R v None) → (t : Tree K V) → IsMade cmp R t None
     left-out R h t = record { child = tt; begins = λ y e. tt; binds = λ k. h (lookup cmp t k) }
-
-    -- what is said of both is enough
-    pub made_by : (R S : Option V → Option U → Type 0) → ((v : Option V) (u : Option U) → R v u → S v u) → (t : Tree K V)
-        → (o : Option (Tree K U)) → IsMade cmp R t o → IsMade cmp S t o
-    made_by R S f t o m = record { child = m.child; begins = m.begins; binds = λ k. f _ _ (m.binds k) }
-
-  module _ {V : Type 0} (o : IsTotalOrder cmp) (keeps : V → V → Type 0) where
-    solid-at : (i : ℕ) (p : List K) (v : Option V) (f : Forest K V) → IsWhole p v f → i < length p → IsSolid v f
-    solid-at i [] v f w h = absurd (omega (arith, h))
-    solid-at i (x ∷ p) v f w h = w
-
-    begins-itself : (p : List K) (y : K) → slice_get p 0 ≡ Some y → Begins cmp y p
-    begins-itself [] y e = none-some y e
-    begins-itself (x ∷ p) y e = let h : x ≡ y = cc in rw h (tied_itself o y)
-
-    -- a copy is a child that begins as the tree did and binds what it binds
-    pub copied : (t u : Tree K V) (i : ℕ) → IsCanonical cmp t → i < length t.prefix → IsAlike keeps (shortened i t) u
-        → IsMade cmp (IsKept keeps) (shortened i t) (Some u)
-    copied t u i c h a = record {
-      child = (
-        alike-solid keeps t.value u.value t.children u.children a.1 a.2 (solid-at i t.prefix t.value t.children c.0 h),
-        alike-children keeps cmp t.children u.children a.2 c.1,
-      );
-      begins = λ y e. subst (Begins cmp y) a.0 (begins-itself (drop i t.prefix) y e);
-      binds = λ k. tree-alike_lookup keeps cmp (shortened i t) u a k;
-    }
-
-  -- and what the combine says of both
-  pub copied-by : {V : Type 0} (o : IsTotalOrder cmp) (keeps : V → V → Type 0) (t u : Tree K V) (i : ℕ) → IsCanonical cmp t
-      → i < length t.prefix → IsAlike keeps (shortened i t) u → (S : Option V → Option V → Type 0)
-      → ((v z : Option V) → IsKept keeps v z → S v z) → IsMade cmp S (shortened i t) (Some u)
-  copied-by o keeps t u i c h a S f = made_by (IsKept keeps) S f (shortened i t) (Some u) (copied o keeps t u i c h a)
 
 -- a clone is a copy
 kept_copies : {V : Type 0} (is_clone : V → V → Type 0) (v z : Option V) → IsKept is_clone v z → IsKept (Copies is_clone) v z

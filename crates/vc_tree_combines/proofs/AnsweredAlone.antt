@@ -3,7 +3,7 @@
 --     made-none, made-next        what was made of the children up to now
 --     made-alone        the node of what was made
 --     may-answer_at, left-answer        what a call answers
-use Rattle.std.proofs.Common.{◌≡◌, ℕ, ◌+◌, ◌<◌, [], ◌∷◌, ◌++◌, List, Option, None, Some, Result, Ok, Err, IfOk, refl, sym, ap, subst, ◌∙◌, map, take, length, slice_get, append-nil, zero, suc, arith, get_or, option_map}
+use Rattle.std.proofs.Common.{◌≡◌, ℕ, ◌+◌, ◌<◌, [], ◌∷◌, ◌++◌, List, Option, None, Some, Result, Ok, Err, IfOk, refl, sym, ap, subst, ◌∙◌, map, take, length, slice_get, append-nil, zero, suc, arith, get_or}
 use Rattle.std.proofs.Math.Seq.{take-suc}
 use Rattle.std.specs.Cmp.{IsTotalOrder, tied_itself}
 use Rattle.std.specs.List.{AllByRecursion, filter_map, cons_option}
@@ -24,12 +24,15 @@ use Rattle.vc_tree_model.specs.Canonical.{AreChildren}
 use Rattle.vc_tree_model.specs.Child.{BeginsWith, solid_child, bound_by}
 use Rattle.vc_tree_model.proofs.Joining.{joined-child, joined-begins, trees-combined, value-asked, children-asked}
 use Rattle.vc_tree_model.proofs.KeyLemmas.{none-some, same-itself}
-use Rattle.vc_tree_model.proofs.Look.{values, IsCombinedIn}
+use Rattle.vc_tree_model.specs.Look.{values}
+use Rattle.vc_tree_model.proofs.Places.{IsCombinedIn}
 use Rattle.vc_tree_nodes.specs.Children.{seen}
-use Rattle.vc_tree_combines.specs.Made.{IsMade, IsMadeAt, IsAskedAt, AreMadeAlone}
-use Rattle.vc_tree_combines.specs.Sides.{by_component}
-use Rattle.vc_tree_combines.proofs.Around.{children-ascend}
-use Rattle.vc_tree_combines.proofs.Making.{script-made, script-asked}
+use Rattle.vc_tree_facing.specs.Made.{IsMade, IsMadeAt}
+use Rattle.vc_tree_facing.specs.Doing.{IsAskedAt}
+use Rattle.vc_tree_combines.specs.Ended.{AreMadeAlone}
+use Rattle.vc_tree_facing.specs.Sides.{by_component}
+use Rattle.vc_tree_facing.proofs.Around.{children-ascend}
+use Rattle.vc_tree_facing.proofs.Making.{script-made, script-asked}
 
 -- a node without value and children binds nothing
 nothing-at : {K W : Type 0} (cmp : K → K → Ordering) (p k : List K) → lookup cmp (node {V = W} p None bare) k ≡ None
@@ -164,15 +167,15 @@ module _ {K : Type 0} (cmp : K → K → Ordering) (o : IsTotalOrder cmp) where
       row-outs ((x, Some u) ∷ ds) = ap (λ l. u ∷ l) (row-outs ds)
 
       rows-made : (ds : List (A × Option (Tree K U))) → AllByRecursion (λ d. IsMade cmp (λ v z. R v None z) (ta d.0) d.1) ds
-          → AllByRecursion (λ d. IsMadeAt cmp (values cmp {V = W}) R ta (λ t. t) 0 0 d.0 d.1) (rows ds)
+          → AllByRecursion (λ d. IsMadeAt cmp (values {V = W} cmp) R ta (λ t. t) 0 0 d.0 d.1) (rows ds)
       unfolding rows
       rows-made [] a = tt
       rows-made (d ∷ ds) a = (a.0, rows-made ds a.1)
 
-      made-of : AreChildren cmp (forest made) × IsCombinedIn cmp (values cmp {V = W}) R (seen ta xs) bare (forest made)
+      made-of : AreChildren cmp (forest made) × IsCombinedIn cmp (values {V = W} cmp) R (seen ta xs) bare (forest made)
       made-of =
           rw (d.made_are, ← row-outs d.done)
-          (script-made cmp o ta (λ t. t) 0 0 (values cmp {V = W}) R none xs [] (rows d.done) c tt
+          (script-made cmp o ta (λ t. t) 0 0 (values {V = W} cmp) R none xs [] (rows d.done) c tt
           (subst (IsScript (by_component ta (λ t. t) 0 0 cmp) xs []) (sym (row-events d.done ∙ ap (alone W ta) d.trees))
           (script-alone W ta xs c)) (rows-made d.done d.made_at))
 
@@ -194,7 +197,7 @@ module _ {K : Type 0} (cmp : K → K → Ordering) (o : IsTotalOrder cmp) where
             subst (λ w. R (lookup cmp t k) w (bound_by cmp (solid_child t.prefix v (forest made)) k)) (nothing-at cmp t.prefix k)
             (trees-combined cmp o (values cmp) R none t (node t.prefix None bare) t.prefix [] t.prefix [] v (forest made)
             (sym (append-nil t.prefix)) (sym (append-nil t.prefix)) (same-itself cmp o t.prefix) made-of.0 root
-            (subst (λ f. IsCombinedIn cmp (values cmp {V = W}) R f bare (forest made)) e made-of.1) k);
+            (subst (λ f. IsCombinedIn cmp (values {V = W} cmp) R f bare (forest made)) e made-of.1) k);
       })
 
 -- what holds of all elements holds of the one at a place

@@ -1,14 +1,5 @@
-pub mod Listing
-pub mod Around
-pub mod Opening
-pub mod Doing
-pub mod Making
-pub mod Paying
-pub mod Next
-pub mod Ending
 pub mod Alone
 pub mod Meeting
 pub mod Passing
 pub mod Testing
-pub mod Filtered
 pub mod AnsweredAlone

@@ -17,14 +17,14 @@ use Rattle.vc_tree_model.specs.Tree.{Tree, Forest, grow, nodes, forest_nodes}
 use Rattle.vc_tree_model.proofs.LookupLemmas.{tree-bound}
 use Rattle.vc_tree_nodes.specs.Children.{seen}
 use Rattle.vc_tree_nodes.specs.Parting.{Agree}
-use Rattle.vc_tree_combines.specs.Made.{IsAskedAt}
+use Rattle.vc_tree_facing.specs.Doing.{IsAskedAt}
 use Rattle.vc_tree_combines.specs.Meeting.{IsMet, IsMissed, TellsKeysIn, IsMeeting}
-use Rattle.vc_tree_combines.specs.Sides.{by_component}
-use Rattle.vc_tree_combines.proofs.Around.{components}
-use Rattle.vc_tree_model.proofs.Look.{values}
-use Rattle.vc_tree_combines.proofs.Making.{script-asked, script-all}
+use Rattle.vc_tree_facing.specs.Sides.{by_component}
+use Rattle.vc_tree_facing.proofs.Around.{components}
+use Rattle.vc_tree_model.specs.Look.{values}
+use Rattle.vc_tree_facing.proofs.Making.{script-asked, script-all}
 use Rattle.vc_tree_combines.proofs.Meeting.{met-alone}
-use Rattle.vc_tree_combines.proofs.Next.{event-rest, agree-first}
+use Rattle.vc_tree_facing.proofs.Next.{event-rest, agree-first}
 
 -- an answer that is not to go on
 ok-not : (b : Bool) (answer : Answer) → answer ≡ Ok (not b) → answer ≡ Ok true → b ≡ false

@@ -26,7 +26,7 @@ use Rattle.vc_tree_nodes.specs.declared.parting.Parting.{Parting}
 use Rattle.vc_tree_nodes.specs.declared.parting.Parting.TheVariants.{Lower, Higher}
 use Rattle.vc_tree_combines.specs.Meeting.{IsMet, IsMissed, TellsKeys, TellsKeysIn, IsMeeting}
 use Rattle.vc_tree_combines.proofs.Meeting.{tells-lifted, alone-parted, alone-childless, tells-child, tells-in_child, childless-met, bare-or_missed, tells-nodes, value-missed}
-use Rattle.vc_tree_combines.proofs.Opening.{goes-on}
+use Rattle.vc_tree_facing.proofs.Opening.{goes-on}
 
 -- what goes on with a component is solid
 solid-by : {K V : Type 0} (p : List K) (n : ℕ) (x : K) (v : Option V) (f : Forest K V) → slice_get p n ≡ Some x → IsWhole p v f

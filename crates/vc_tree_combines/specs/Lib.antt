@@ -1,5 +1,2 @@
-pub mod Sides
-pub mod Around
-pub mod Facing
-pub mod Made
 pub mod Meeting
+pub mod Ended

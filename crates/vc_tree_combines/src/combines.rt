@@ -9,14 +9,14 @@ ghost use Rattle.vc_tree_model.specs.Same.{IsAlike};
 ghost use Rattle.vc_tree_model.specs.Shortened.{weight, IsShortened};
 ghost use Rattle.vc_tree_model.specs.Tree.{shortened};
 ghost use Rattle.vc_tree_model.specs.Value.{Copies};
-ghost use Rattle.vc_tree_combines.specs.Made.{IsMade};
+ghost use Rattle.vc_tree_facing.specs.Made.{IsMade};
 
 use crate::engine::{Combine, combine_whole};
-use crate::sides::Side;
 use std::alloc::{AllocError, Global};
 use std::marker::PhantomData;
 use vc_merge::merge::Count;
 use vc_merge::states::Uncounted;
+use vc_tree_facing::sides::Side;
 use vc_tree_nodes::building::Build;
 use vc_tree_nodes::copying::{clone_value, copy_shortened};
 use vc_tree_nodes::reading::{RadixNode, TKey, TValue};
@@ -120,14 +120,10 @@ impl<
     }
 
     fn left_alone(&self, alloc: Global, tree: &A, from: usize) -> Result<Option<M>, AllocError> {
-        // The law of trees, that they are canonical, comes with the prefix.
-        let _ = tree.prefix();
         Ok(Some(copy_shortened(alloc, tree, from)?))
     }
 
     fn right_alone(&self, alloc: Global, tree: &B, from: usize) -> Result<Option<M>, AllocError> {
-        // The law of trees, that they are canonical, comes with the prefix.
-        let _ = tree.prefix();
         Ok(Some(copy_shortened(alloc, tree, from)?))
     }
 }
@@ -167,14 +163,10 @@ impl<K: TKey, V: TValue, A: RadixNode<K, V>, B: RadixNode<K, V>, M: Build<K, V>>
     }
 
     fn left_alone(&self, alloc: Global, tree: &A, from: usize) -> Result<Option<M>, AllocError> {
-        // The law of trees, that they are canonical, comes with the prefix.
-        let _ = tree.prefix();
         Ok(Some(copy_shortened(alloc, tree, from)?))
     }
 
     fn right_alone(&self, alloc: Global, tree: &B, from: usize) -> Result<Option<M>, AllocError> {
-        // The law of trees, that they are canonical, comes with the prefix.
-        let _ = tree.prefix();
         Ok(Some(copy_shortened(alloc, tree, from)?))
     }
 }
@@ -257,8 +249,6 @@ impl<K: TKey, V: TValue, W: TValue, A: RadixNode<K, V>, B: RadixNode<K, W>, M: B
     }
 
     fn left_alone(&self, alloc: Global, tree: &A, from: usize) -> Result<Option<M>, AllocError> {
-        // The law of trees, that they are canonical, comes with the prefix.
-        let _ = tree.prefix();
         Ok(Some(copy_shortened(alloc, tree, from)?))
     }
 

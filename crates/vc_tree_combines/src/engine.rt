@@ -7,18 +7,19 @@ ghost use Rattle.vc_tree_model.specs.Combine.{IsCombined};
 ghost use Rattle.vc_tree_model.specs.Tree.{forest, shortened};
 ghost use Rattle.vc_tree_model.specs.Map.{lookup};
 ghost use Rattle.vc_tree_model.specs.Canonical.{AreChildren};
-ghost use Rattle.vc_tree_model.specs.Child.{solid_child, value_at as node_value};
+ghost use Rattle.vc_tree_model.specs.Child.{value_at as node_value};
 ghost use Rattle.vc_tree_model.specs.Shortened.{weight};
 ghost use Rattle.vc_tree_nodes.specs.Children.{seen};
 ghost use Rattle.vc_tree_nodes.specs.Parting.{Agree};
-ghost use Rattle.vc_tree_combines.specs.Made.{IsMade, IsBothMade, IsEnded};
+ghost use Rattle.vc_tree_facing.specs.Made.{IsMade, IsBothMade};
+ghost use Rattle.vc_tree_combines.specs.Ended.{IsEnded};
 
-use crate::facing::{Facing, face};
-use crate::sides::Side;
 use std::alloc::{AllocError, Global};
 use vc_merge::merge::Count;
+use vc_tree_facing::facing::{Facing, face};
+use vc_tree_facing::nodes::{finish, value_at};
+use vc_tree_facing::sides::Side;
 use vc_tree_nodes::building::{Build, Seal};
-use vc_tree_nodes::making::{new_joined, new_node};
 use vc_tree_nodes::reading::{RadixNode, TKey, TValue};
 
 /// What a combine makes of values, and of trees that one side alone has.
@@ -69,25 +70,6 @@ pub trait Combine<K: TKey, V: TValue, W: TValue, A: RadixNode<K, V>, B: RadixNod
     ghost asks_none: { (op : Self) → asks op None None };
 }
 
-/// The node of these parts as a child: `None` where it binds no key, and joined with its only child where it has no value.
-pub fn finish<K: TKey, V: TValue, M: Build<K, V>>(
-    alloc: Global,
-    prefix: &[K],
-    value: Option<V>,
-    mut kids: Vec<M>,
-) -> Result<Option<M>, AllocError>
-    requires { AreChildren K.cmp (seen M.tree kids.items) }
-    ensures { IfOk result (λ made. option_map M.tree made ≡ solid_child prefix.now value (seen M.tree kids.items)) }
-{
-    if value.is_none() && kids.len() < 2 {
-        return match kids.pop() {
-            Some(kid) => Ok(Some(new_joined(alloc, prefix, kid)?)),
-            None => Ok(None),
-        };
-    }
-    Ok(Some(new_node(alloc, prefix, value, kids)?))
-}
-
 /// Adds a tree, if there is one.
 pub fn keep<K: TKey, V: TValue, M: Build<K, V>>(
     kids: &mut Vec<M>,
@@ -100,24 +82,6 @@ pub fn keep<K: TKey, V: TValue, M: Build<K, V>>(
         kids.push(kid)?;
     }
     Ok(())
-}
-
-/// The value of the node that stands behind a front of what is left of a prefix.
-pub fn value_at<K: TKey, V: TValue, T: RadixNode<K, V>>(
-    tree: &T,
-    from: usize,
-    front: usize,
-) -> Option<&V>
-    requires from { from ≤ length (T.tree tree.now).prefix }
-    requires front { front ≤ length (drop from (T.tree tree.now).prefix) }
-    ensures { option_copied result
-        ≡ node_value (shortened from (T.tree tree.now)) (drop front (drop from (T.tree tree.now).prefix)) }
-{
-    if front == tree.prefix()[from..].len() {
-        tree.value()
-    } else {
-        None
-    }
 }
 
 /// What the combine makes of the values of the nodes that stand behind equal fronts of two prefixes.
@@ -210,9 +174,6 @@ pub fn combine_at<
     ensures counted { C.counted steps.new + 2
         ≤ C.counted steps.old + 3 * (weight (shortened i (A.tree a.now)) + weight (shortened j (B.tree b.now))) }
 {
-    // The law of trees, that they are canonical, comes with the prefix.
-    let _ = a.prefix();
-    let _ = b.prefix();
     let Facing {
         front,
         mut left,

@@ -9,7 +9,7 @@ ghost use Rattle.vc_tree_model.specs.Tree.{shortened};
 ghost use Rattle.vc_tree_nodes.specs.Children.{seen};
 ghost use Rattle.vc_tree_nodes.specs.Parting.{Agree};
 ghost use Rattle.vc_tree_combines.specs.Meeting.{IsMet, IsMissed, TellsKeys, TellsKeysIn, IsNext};
-ghost use Rattle.vc_tree_combines.specs.Sides.{by_component, by_component_total};
+ghost use Rattle.vc_tree_facing.specs.Sides.{by_component, by_component_total};
 
 use std::alloc::AllocError;
 use std::cmp::Ordering;
@@ -17,7 +17,7 @@ use std::marker::PhantomData;
 use vc_merge::merge::{Count, MergeOperation, MergeState, Uncounted, merge};
 use vc_tree_nodes::parting::{Parting, find_parting};
 use vc_tree_nodes::places::child_at;
-use vc_tree_nodes::reading::{RadixNode, TKey, TValue, is_empty};
+use vc_tree_nodes::reading::{RadixNode, TKey, TValue, canonical, is_empty};
 
 /// What is left of two lists of trees, and whether a tree was missed: one that the left list alone has, where its keys are to be shared.
 #[derive(Drop)]
@@ -181,8 +181,7 @@ fn keys_meet_behind<K: TKey, V: TValue, W: TValue, A: RadixNode<K, V>, B: RadixN
     requires { n ≤ length (B.tree b.now).prefix }
     ensures { TellsKeys K.cmp shared (shortened (length (A.tree a.now).prefix) (A.tree a.now)) (shortened n (B.tree b.now)) result }
 {
-    // The law of trees, that they are canonical, comes with the prefix.
-    let _ = a.prefix();
+    canonical(a);
     let whole = b.prefix();
     let kids = a.children();
     if n == whole.len() {

@@ -7,16 +7,18 @@ ghost use Rattle.vc_tree_model.specs.Combine.{IsCombined, IsLeftAt};
 ghost use Rattle.vc_tree_model.specs.Map.{lookup};
 ghost use Rattle.vc_tree_model.specs.Canonical.{AreChildren};
 ghost use Rattle.vc_tree_model.specs.Tree.{shortened};
-ghost use Rattle.vc_tree_combines.specs.Made.{IsMade, IsEnded};
+ghost use Rattle.vc_tree_facing.specs.Made.{IsMade};
+ghost use Rattle.vc_tree_combines.specs.Ended.{IsEnded};
 ghost use Rattle.vc_tree_nodes.specs.Children.{seen};
 
-use crate::engine::{Combine, combine_whole, finish, keep};
-use crate::sides::Side;
+use crate::engine::{Combine, combine_whole, keep};
 use std::alloc::{AllocError, Global};
 use std::marker::PhantomData;
 use vc_merge::states::Uncounted;
+use vc_tree_facing::nodes::finish;
+use vc_tree_facing::sides::Side;
 use vc_tree_nodes::building::Build;
-use vc_tree_nodes::reading::{RadixNode, TKey, TValue};
+use vc_tree_nodes::reading::{RadixNode, TKey, TValue, canonical};
 
 /// Keeps the keys of the left tree, with what a closure answers of the value and of what the right tree binds there.
 #[derive(Drop)]
@@ -80,8 +82,7 @@ fn answer_alone<
     ensures { IfOk result (λ made. IsMade K.cmp (λ v z. IsLeftAt (λ v w z. MayAnswerAt F.Fn answer.now v w (Ok z)) v None z)
         (shortened from (A.tree tree.now)) (option_map M.tree made)) }
 {
-    // The law of trees, that they are canonical, comes with the prefix.
-    let _ = tree.prefix();
+    canonical(tree);
     let children = tree.children();
     let mut kids = Vec::with_capacity(alloc, children.len())?;
     for child in children {

@@ -4,8 +4,5 @@
 
 pub mod combines;
 pub mod engine;
-pub mod facing;
-pub mod filtering;
 pub mod keys;
 pub mod left;
-pub mod sides;

@@ -19,13 +19,13 @@ use Rattle.vc_tree_model.specs.Map.{lookup}
 use Rattle.vc_tree_model.specs.Child.{children_at}
 use Rattle.vc_tree_model.specs.Same.{IsAlike, IsAlikeIn}
 use Rattle.vc_tree_model.proofs.AlikeLemmas.{alike-nodes, tree-alike_lookup}
-use Rattle.vc_tree_model.proofs.Look.{Look}
-use Rattle.vc_tree_combines.specs.Facing.{shortened_in, Parts, IsFaced}
-use Rattle.vc_tree_combines.specs.Made.{IsBothMadeBy}
-use Rattle.vc_tree_combines.specs.Sides.{component, by_component, side_of, IsListed}
-use Rattle.vc_tree_combines.specs.declared.sides.Side.{Side}
-use Rattle.vc_tree_combines.specs.declared.sides.Side.TheVariants.{Left, Right, Both}
-use Rattle.vc_tree_combines.proofs.Around.{get-drop}
+use Rattle.vc_tree_model.specs.Look.{Look}
+use Rattle.vc_tree_facing.specs.Facing.{shortened_in, Parts, IsFaced}
+use Rattle.vc_tree_facing.specs.Made.{IsBothMadeBy}
+use Rattle.vc_tree_facing.specs.Sides.{component, by_component, side_of, IsListed}
+use Rattle.vc_tree_facing.specs.declared.sides.Side.{Side}
+use Rattle.vc_tree_facing.specs.declared.sides.Side.TheVariants.{Left, Right, Both}
+use Rattle.vc_tree_facing.proofs.Around.{get-drop}
 use Rattle.vc_tree_edits.specs.Taken.{IsMet, IsTaken}
 
 module _ {K V W T B : Type 0} (cmp : K → K → Ordering) (tree : T → Tree K V) (tb : B → Tree K W) (j : ℕ) where

@@ -15,8 +15,8 @@ use Rattle.vc_tree_model.specs.Map.{or_else}
 use Rattle.vc_tree_model.specs.Snapshot.{tree_alike_refl}
 use Rattle.vc_tree_model.specs.Tree.{Tree, shortened}
 use Rattle.vc_tree_model.specs.Value.{IsKept}
-use Rattle.vc_tree_combines.specs.Made.{IsMade}
-use Rattle.vc_tree_combines.proofs.Alone.{copied-by}
+use Rattle.vc_tree_facing.specs.Made.{IsMade}
+use Rattle.vc_tree_facing.proofs.Copied.{copied-by}
 use Rattle.vc_tree_edits.specs.Editing.{CanJudge, IsJudged, IsSiftedBy, stays_by}
 
 -- a tree that stays is what is said of a tree whose values are kept

@@ -20,14 +20,15 @@ use Rattle.vc_tree_model.specs.Tree.{Tree, forest, nodes, shortened}
 use Rattle.vc_tree_model.specs.Value.{IsKept}
 use Rattle.vc_tree_model.proofs.AlikeLemmas.{tree-alike_canonical}
 use Rattle.vc_tree_model.proofs.Joining.{value-asked}
-use Rattle.vc_tree_model.proofs.Look.{Look}
-use Rattle.vc_tree_combines.specs.Facing.{shortened_in, IsFaced}
-use Rattle.vc_tree_combines.specs.Made.{IsBothMadeBy, IsDoing}
-use Rattle.vc_tree_combines.specs.declared.sides.Side.{Side}
-use Rattle.vc_tree_combines.specs.declared.sides.Side.TheVariants.{Left, Right, Both}
-use Rattle.vc_tree_combines.proofs.Doing.{doing-left, doing-right, doing-both}
-use Rattle.vc_tree_combines.proofs.Ending.{below-children, combine-started, made-children, combined}
-use Rattle.vc_tree_combines.proofs.Next.{falls}
+use Rattle.vc_tree_model.specs.Look.{Look}
+use Rattle.vc_tree_facing.specs.Facing.{shortened_in, IsFaced}
+use Rattle.vc_tree_facing.specs.Made.{IsBothMadeBy}
+use Rattle.vc_tree_facing.specs.Doing.{IsDoing}
+use Rattle.vc_tree_facing.specs.declared.sides.Side.{Side}
+use Rattle.vc_tree_facing.specs.declared.sides.Side.TheVariants.{Left, Right, Both}
+use Rattle.vc_tree_facing.proofs.Doing.{doing-left, doing-right, doing-both}
+use Rattle.vc_tree_facing.proofs.Ending.{below-children, combine-started, made-children, combined}
+use Rattle.vc_tree_facing.proofs.Next.{falls}
 use Rattle.vc_tree_edits.specs.Taken.{IsMet, IsTaken, IsBegun, IsNext, IsAdded, IsFirstLong, IsStayed, IsCome}
 use Rattle.vc_tree_edits.proofs.Changing.{faced-taken, asked-taken, taken-nodes, made-taken}
 

@@ -2,7 +2,7 @@
 --     taken-rest        where the prefix goes on, the tree itself stands below
 --     taken-all        where it ended, the children
 --     cut-all        the components up to the end of a prefix
-use Rattle.std.proofs.Common.{◌≡◌, ℕ, ◌+◌, ◌-◌, ◌<◌, ◌≤◌, [], ◌∷◌, ◌++◌, List, Option, None, refl, sym, ap, subst, ◌∙◌, arith, map, take, drop, length, length-drop}
+use Rattle.std.proofs.Common.{◌≡◌, ℕ, ◌+◌, ◌-◌, ◌<◌, ◌≤◌, [], ◌∷◌, List, Option, None, refl, sym, ap, subst, ◌∙◌, arith, map, take, drop, length, length-drop}
 use Rattle.std.proofs.Math.ListN.{drop_of_length-le}
 use Rattle.std.proofs.lemmas.List.{take_all}
 use Rattle.vc_tree_model.specs.Child.{value_at}
@@ -10,7 +10,7 @@ use Rattle.vc_tree_model.specs.Same.{IsAlikeIn}
 use Rattle.vc_tree_model.specs.Snapshot.{tree_alike_refl, kept_itself}
 use Rattle.vc_tree_model.specs.Tree.{Tree, forest, node, shortened}
 use Rattle.vc_tree_model.specs.Value.{IsKept}
-use Rattle.vc_tree_combines.proofs.Opening.{opened-all, opened-rest, value-inside}
+use Rattle.vc_tree_facing.proofs.Opening.{opened-all, opened-rest, value-inside}
 use Rattle.vc_tree_edits.specs.Taken.{IsTaken}
 
 -- the components up to the end of a prefix

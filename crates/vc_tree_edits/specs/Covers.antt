@@ -3,11 +3,10 @@ use Rattle.std.proofs.Common.{◌≡◌, [], ◌∷◌, List, Option, None, Some
 use Rattle.std.specs.Ordering.{is_eq}
 use Rattle.std.specs.declared.cmp.Ordering.{Ordering}
 use Rattle.vc_tree_model.specs.Key.{behind}
-use Rattle.vc_tree_model.specs.Map.{or_else, node_lookup, lookup, lookup_in}
+use Rattle.vc_tree_model.specs.Map.{or_else, node_lookup, lookup, lookup_in, or_else-none}
 use Rattle.vc_tree_model.specs.Cover.{cover}
 use Rattle.vc_tree_model.proofs.CoverNodes.{cover-none}
-use Rattle.vc_tree_model.proofs.Look.{Look, told}
-use Rattle.vc_tree_model.proofs.ValueLemmas.{or_else-none}
+use Rattle.vc_tree_model.specs.Look.{Look, told}
 
 -- neither of two is there where the first of them that is there is none
 none_first : {W : Type 0} (a b : Option W) → or_else a b ≡ None → a ≡ None

@@ -5,12 +5,13 @@ use Rattle.std.specs.declared.cmp.Ordering.{Ordering}
 use Rattle.vc_merge.specs.Builder.{Builder}
 use Rattle.vc_tree_model.specs.Canonical.{AreChildren, IsCanonical}
 use Rattle.vc_tree_model.specs.Tree.{Tree, shortened}
-use Rattle.vc_tree_model.proofs.Look.{Look}
+use Rattle.vc_tree_model.specs.Look.{Look}
 use Rattle.vc_tree_model.specs.Same.{IsAlike}
 use Rattle.vc_tree_model.specs.Child.{value_at}
-use Rattle.vc_tree_combines.specs.Facing.{shortened_in, IsOpened, IsFaced}
-use Rattle.vc_tree_combines.specs.Made.{IsMade, IsMadeBy, IsDoing}
-use Rattle.vc_tree_combines.specs.declared.sides.Side.{Side}
+use Rattle.vc_tree_facing.specs.Facing.{shortened_in, IsOpened, IsFaced}
+use Rattle.vc_tree_facing.specs.Made.{IsMade, IsMadeBy}
+use Rattle.vc_tree_facing.specs.Doing.{IsDoing}
+use Rattle.vc_tree_facing.specs.declared.sides.Side.{Side}
 
 module _ {K V T : Type 0} (tree : T → Tree K V) where
   -- some trees stood below the front of the left one

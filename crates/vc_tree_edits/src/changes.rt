@@ -2,10 +2,11 @@
 
 ghost use Rattle.std.specs.Prelude.{◌≡◌, ◌<◌, Option, Some, None, IfOk, length, refl};
 ghost use Rattle.std.specs.Option.{option_copied};
+ghost use Rattle.vc_tree_model.specs.Canonical.{IsCanonical};
 ghost use Rattle.vc_tree_model.specs.Combine.{IsOuterAt};
 ghost use Rattle.vc_tree_model.specs.Map.{or_else};
 ghost use Rattle.vc_tree_model.specs.Tree.{shortened};
-ghost use Rattle.vc_tree_model.proofs.Look.{values};
+ghost use Rattle.vc_tree_model.specs.Look.{values};
 ghost use Rattle.vc_tree_edits.specs.Covers.{covers};
 ghost use Rattle.vc_tree_edits.specs.Editing.{MayLeave, CanLeave, KeptThen, CanMeet, IsMetAt, CanJudge, MayJudge, IsJudged, IsSiftedBy, stays_by};
 ghost use Rattle.vc_tree_edits.specs.Saying.{sifted_kept, outer_kept, met_kept, meet_kept};
@@ -17,7 +18,7 @@ use vc_merge::inplace::InPlace;
 use vc_tree_nodes::building::{Build, Seal};
 use vc_tree_nodes::children::{Fragment, Parts};
 use vc_tree_nodes::copying::{clone_value, copy_shortened};
-use vc_tree_nodes::reading::{RadixNode, TKey, TValue};
+use vc_tree_nodes::reading::{RadixNode, TKey, TValue, canonical};
 
 /// The tree without the first `from` components of its prefix.
 fn shorten<K: TKey, V: TValue, T: Build<K, V>>(
@@ -26,8 +27,10 @@ fn shorten<K: TKey, V: TValue, T: Build<K, V>>(
     from: usize,
 ) -> Result<T, AllocError>
     requires { from < length (T.tree tree).prefix }
-    ensures { IfOk result (λ left. T.tree left ≡ shortened from (T.tree tree)) }
+    ensures left { IfOk result (λ left. T.tree left ≡ shortened from (T.tree tree)) }
+    ensures canonical { IsCanonical K.cmp (T.tree tree) }
 {
+    canonical(&tree);
     if from == 0 {
         return Ok(tree);
     }
@@ -120,8 +123,6 @@ impl<
     }
 
     fn left_alone(&self, alloc: Global, tree: T, from: usize) -> Result<Option<T>, AllocError> {
-        // The law of trees, that they are canonical, comes with the prefix.
-        let _ = tree.prefix();
         if !self.stays() {
             return Ok(None);
         }
@@ -259,14 +260,10 @@ impl<'m, K: TKey, V: TValue, B: RadixNode<K, V>, T: Build<K, V>, M: Meet<V, V>> 
     }
 
     fn left_alone(&self, alloc: Global, tree: T, from: usize) -> Result<Option<T>, AllocError> {
-        // The law of trees, that they are canonical, comes with the prefix.
-        let _ = tree.prefix();
         Ok(Some(shorten(alloc, tree, from)?))
     }
 
     fn right_alone(&self, alloc: Global, tree: &B, from: usize) -> Result<Option<T>, AllocError> {
-        // The law of trees, that they are canonical, comes with the prefix.
-        let _ = tree.prefix();
         Ok(Some(copy_shortened(alloc, tree, from)?))
     }
 }
@@ -332,8 +329,6 @@ impl<'m, K: TKey, V: TValue, W: TValue, B: RadixNode<K, W>, T: Build<K, V>, M: M
     }
 
     fn left_alone(&self, alloc: Global, tree: T, from: usize) -> Result<Option<T>, AllocError> {
-        // The law of trees, that they are canonical, comes with the prefix.
-        let _ = tree.prefix();
         if !self.left_stays {
             return Ok(None);
         }

@@ -13,7 +13,7 @@ use crate::engine::{Change, change_at};
 use std::alloc::AllocError;
 use std::mem;
 use vc_tree_nodes::building::{Build, Seal};
-use vc_tree_nodes::reading::{RadixNode, TKey, TValue};
+use vc_tree_nodes::reading::{RadixNode, TKey, TValue, canonical};
 
 /// Changes a whole tree. It is taken out, and the empty one stands in its place until the change has ended.
 fn change<
@@ -28,10 +28,13 @@ fn change<
     ensures ok { OnOk result ((k : List K) → O.says op.now (lookup K.cmp (T.tree tree.old) k)
         ((O.look K.cmp).of_tree (B.tree that.now) k) (lookup K.cmp (T.tree tree.new) k)) }
     ensures err { OnErr result (T.tree tree.new ≡ no_tree) }
+    ensures canonical { IsCanonical K.cmp (T.tree tree.new) }
 {
     let alloc = tree.allocator();
     let whole = mem::replace(tree, T::blank(alloc, Seal::new()));
+    canonical(tree);
     if let Some(made) = change_at(alloc, whole, 0, that, 0, 0, op)? {
+        canonical(&made);
         *tree = made;
     }
     Ok(())
@@ -58,10 +61,7 @@ pub fn remove_prefix_with<
         covered: false,
         retains: false,
     };
-    let done = change(tree, that, &op);
-    // The law of trees, that they are canonical, comes with the prefix.
-    let _ = tree.prefix();
-    done
+    change(tree, that, &op)
 }
 
 /// Keeps exactly the keys that the other tree covers.
@@ -84,10 +84,7 @@ pub fn retain_prefix_with<
         covered: false,
         retains: true,
     };
-    let done = change(tree, that, &op);
-    // The law of trees, that they are canonical, comes with the prefix.
-    let _ = tree.prefix();
-    done
+    change(tree, that, &op)
 }
 
 /// Keeps the shared keys at which the closure, which may write to the value, answers true.
@@ -111,10 +108,7 @@ pub fn inner_combine_with<
         at: &Asked(f),
         left_stays: false,
     };
-    let done = change(tree, that, &op);
-    // The law of trees, that they are canonical, comes with the prefix.
-    let _ = tree.prefix();
-    done
+    change(tree, that, &op)
 }
 
 /// Keeps the keys of the tree, but the shared ones at which the closure, which may write to the value, answers false.
@@ -138,10 +132,7 @@ pub fn left_combine_with<
         at: &Asked(f),
         left_stays: true,
     };
-    let done = change(tree, that, &op);
-    // The law of trees, that they are canonical, comes with the prefix.
-    let _ = tree.prefix();
-    done
+    change(tree, that, &op)
 }
 
 /// Adds the keys of the other tree that this one has not, with clones of their values.
@@ -156,10 +147,7 @@ pub fn union_with<K: TKey, V: TValue, B: RadixNode<K, V>, T: Build<K, V>>(
     ensures canonical { IsCanonical K.cmp (T.tree tree.new) }
 {
     let op = KeepAll { at: &Stays };
-    let done = change(tree, that, &op);
-    // The law of trees, that they are canonical, comes with the prefix.
-    let _ = tree.prefix();
-    done
+    change(tree, that, &op)
 }
 
 /// Keeps the keys that the other tree has too.
@@ -177,10 +165,7 @@ pub fn intersection_with<K: TKey, V: TValue, W: TValue, B: RadixNode<K, W>, T: B
         at: &Stays,
         left_stays: false,
     };
-    let done = change(tree, that, &op);
-    // The law of trees, that they are canonical, comes with the prefix.
-    let _ = tree.prefix();
-    done
+    change(tree, that, &op)
 }
 
 /// Keeps the keys that the other tree has not.
@@ -198,10 +183,7 @@ pub fn difference_with<K: TKey, V: TValue, W: TValue, B: RadixNode<K, W>, T: Bui
         at: &Goes,
         left_stays: true,
     };
-    let done = change(tree, that, &op);
-    // The law of trees, that they are canonical, comes with the prefix.
-    let _ = tree.prefix();
-    done
+    change(tree, that, &op)
 }
 
 /// Keeps the keys of both: a value of one side alone stays, or comes in as a clone, and at a shared key the closure writes to the value,
@@ -221,8 +203,5 @@ pub fn outer_combine_with<
     ensures canonical { IsCanonical K.cmp (T.tree tree.new) }
 {
     let op = KeepAll { at: &AskedAlike(f) };
-    let done = change(tree, that, &op);
-    // The law of trees, that they are canonical, comes with the prefix.
-    let _ = tree.prefix();
-    done
+    change(tree, that, &op)
 }

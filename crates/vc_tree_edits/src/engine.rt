@@ -9,11 +9,11 @@ ghost use Rattle.vc_tree_model.specs.Map.{lookup};
 ghost use Rattle.vc_tree_model.specs.Value.{IsKept};
 ghost use Rattle.vc_tree_model.specs.Same.{IsAlikeIn};
 ghost use Rattle.vc_tree_nodes.specs.Children.{listed, seen};
-ghost use Rattle.vc_tree_model.proofs.Look.{Look};
+ghost use Rattle.vc_tree_model.specs.Look.{Look};
 ghost use Rattle.vc_tree_nodes.specs.Parting.{Agree};
-ghost use Rattle.vc_tree_combines.specs.Facing.{trees_below};
-ghost use Rattle.vc_tree_combines.specs.Made.{IsMade, IsMadeBy, IsBothMadeBy};
-ghost use Rattle.vc_tree_model.specs.Canonical.{AreChildren};
+ghost use Rattle.vc_tree_facing.specs.Facing.{trees_below};
+ghost use Rattle.vc_tree_facing.specs.Made.{IsMade, IsMadeBy, IsBothMadeBy};
+ghost use Rattle.vc_tree_model.specs.Canonical.{AreChildren, IsCanonical};
 ghost use Rattle.vc_tree_model.specs.Child.{solid_child, value_at as node_value};
 ghost use Rattle.vc_tree_edits.specs.Taken.{IsMet, IsTaken, IsBegun, IsNext, IsAdded, IsFirstLong, IsStayed, IsCome};
 
@@ -21,9 +21,9 @@ use crate::rows::Row;
 use std::alloc::{AllocError, Global};
 use std::mem;
 use vc_merge::states::Uncounted;
-use vc_tree_combines::engine::{finish, value_at};
-use vc_tree_combines::facing::{Below, Facing, face};
-use vc_tree_combines::sides::{Side, Sides};
+use vc_tree_facing::facing::{Below, Facing, face};
+use vc_tree_facing::nodes::{finish, value_at};
+use vc_tree_facing::sides::{Side, Sides};
 use vc_tree_nodes::building::{Build, Seal};
 use vc_tree_nodes::children::{ChildList, Fragment, Parts};
 use vc_tree_nodes::making::{new_joined, stored};
@@ -99,8 +99,10 @@ fn meet<'b, K: TKey, V: TValue, W: TValue, T: RadixNode<K, V>, B: RadixNode<K, W
     requires left { i ≤ length (T.tree tree.now).prefix }
     requires right { j ≤ length (B.tree that.now).prefix }
     requires known { Agree K.cmp (drop i (T.tree tree.now).prefix) (drop j (B.tree that.now).prefix) known }
-    ensures { let t = shortened i (T.tree tree.now) in let u = shortened j (B.tree that.now) in
+    ensures met { let t = shortened i (T.tree tree.now) in let u = shortened j (B.tree that.now) in
         IfOk result (λ m. IsMet T.tree K.cmp B.tree t u m.front (trees_below m.right) m.right.from m.sides.items) }
+    ensures left_canonical { IsCanonical K.cmp (T.tree tree.now) }
+    ensures right_canonical { IsCanonical K.cmp (B.tree that.now) }
 {
     let Facing {
         front,
@@ -288,9 +290,6 @@ fn begin<
         (O.Row.seen s.row) s.from
         (trees_below s.right) s.right.from s.sides.items) }
 {
-    // The law of trees, that they are canonical, comes with the prefix.
-    let _ = tree.prefix();
-    let _ = that.prefix();
     let Meeting {
         front,
         right,

@@ -9,7 +9,7 @@ use std::alloc::AllocError;
 use std::mem;
 use vc_tree_nodes::building::{Build, Seal};
 use vc_tree_nodes::children::{Fragment, Parts};
-use vc_tree_nodes::reading::{TKey, TValue, is_empty};
+use vc_tree_nodes::reading::{TKey, TValue, canonical, is_empty};
 
 /// Puts these components before each key. The empty tree stays empty.
 pub fn prepend<K: TKey, V: TValue, T: Build<K, V>>(
@@ -22,7 +22,6 @@ pub fn prepend<K: TKey, V: TValue, T: Build<K, V>>(
     ensures canonical { IsCanonical K.cmp (T.tree tree.new) }
 {
     let alloc = tree.allocator();
-    // The law of trees, that they are canonical, comes with the prefix.
     let whole = tree.prefix();
     if is_empty(tree) {
         return Ok(());
@@ -35,6 +34,6 @@ pub fn prepend<K: TKey, V: TValue, T: Build<K, V>>(
         children,
     } = node.take_apart(Seal::new());
     *tree = T::assemble(joined, value, children, Seal::new());
-    let _ = tree.prefix();
+    canonical(tree);
     Ok(())
 }

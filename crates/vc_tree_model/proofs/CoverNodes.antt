@@ -6,9 +6,8 @@ use Rattle.std.proofs.Common.{◌≡◌, [], ◌∷◌, List, Option, None, Some
 use Rattle.std.specs.Ordering.{is_eq}
 use Rattle.std.specs.declared.cmp.Ordering.{Ordering}
 use Rattle.vc_tree_model.specs.Key.{behind}
-use Rattle.vc_tree_model.specs.Map.{or_else, node_lookup}
+use Rattle.vc_tree_model.specs.Map.{or_else, node_lookup, or_else-none}
 use Rattle.vc_tree_model.specs.Cover.{cover}
-use Rattle.vc_tree_model.proofs.ValueLemmas.{or_else-none}
 
 module _ {K W : Type 0} where
   -- equal maps give one cover

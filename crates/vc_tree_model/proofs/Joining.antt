@@ -16,7 +16,8 @@ use Rattle.vc_tree_model.specs.Map.{lookup, lookup_in}
 use Rattle.vc_tree_model.specs.Canonical.{AreChildren, IsSolid, IsWhole, IsCanonical}
 use Rattle.vc_tree_model.specs.Child.{BeginsWith, IsChild, bound_by, solid_child, value_at, children_at}
 use Rattle.vc_tree_model.proofs.KeyLemmas.{then_behind, behind-append, behind-same, behind-itself}
-use Rattle.vc_tree_model.proofs.Look.{Look, told, look, values}
+use Rattle.vc_tree_model.specs.Look.{Look, told, values}
+use Rattle.vc_tree_model.proofs.Places.{look}
 
 module _ {K : Type 0} (cmp : K → K → Ordering) where
   -- ---- how a node is read

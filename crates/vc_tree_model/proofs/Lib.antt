@@ -7,13 +7,12 @@ pub mod Collecting
 pub mod Mending
 pub mod AlikeLemmas
 pub mod FourConditions
-pub mod SameTests
 pub mod Shortening
 pub mod Smallness
 pub mod Walking
 pub mod OneWalk
 pub mod Examples
-pub mod Look
+pub mod Places
 pub mod Rows
 pub mod Joining
 pub mod UnderLemmas

@@ -9,10 +9,9 @@ use Rattle.std.specs.declared.cmp.Ordering.{Ordering}
 use Rattle.std.specs.declared.cmp.Ordering.TheVariants.{Less}
 use Rattle.vc_tree_model.specs.Key.{behind}
 use Rattle.vc_tree_model.specs.Tree.{Tree, Forest, bare, grow, node, no_tree, nodes, forest_nodes}
-use Rattle.vc_tree_model.specs.Map.{or_else, node_lookup, lookup, lookup_in}
+use Rattle.vc_tree_model.specs.Map.{or_else, node_lookup, lookup, lookup_in, or_else-none}
 use Rattle.vc_tree_model.specs.Canonical.{AllAbove, AreOrdered, AreChildren, IsCanonical}
 use Rattle.vc_tree_model.proofs.KeyLemmas.{then_behind, behind-append}
-use Rattle.vc_tree_model.proofs.ValueLemmas.{or_else-none}
 
 module _ {K V : Type 0} where
   -- a node over mended children, before mended siblings: taken out where it binds nothing, else joined to a lone child

@@ -14,7 +14,8 @@ use Rattle.vc_tree_model.specs.Map.{lookup_in}
 use Rattle.vc_tree_model.specs.Canonical.{AllAbove, AreChildren, IsSolid}
 use Rattle.vc_tree_model.specs.Child.{Begins, BeginsWith, IsChild, bound_by}
 use Rattle.vc_tree_model.proofs.LookupLemmas.{above-equal}
-use Rattle.vc_tree_model.proofs.Look.{Look, told, Row, look, values, AscendBy, IsRow, IsCombinedIn}
+use Rattle.vc_tree_model.specs.Look.{Look, told, values}
+use Rattle.vc_tree_model.proofs.Places.{Row, look, AscendBy, IsRow, IsCombinedIn}
 
 -- the trees of one side
 abbrev pub side : {X K V : Type 0} → (X → Option (Tree K V)) → List X → Forest K V

@@ -12,12 +12,12 @@ use Rattle.std.specs.Cmp.{IsTotalOrder, Equal-is, tied_back, tied_itself}
 use Rattle.vc_tree_model.specs.Key.{same_key}
 use Rattle.vc_tree_model.specs.Value.{IsKept}
 use Rattle.vc_tree_model.specs.Tree.{Tree, Forest, bare, grow, node}
-use Rattle.vc_tree_model.specs.Map.{or_else, node_lookup, lookup, lookup_in, IsEqualMap}
+use Rattle.vc_tree_model.specs.Map.{or_else, node_lookup, lookup, lookup_in, IsEqualMap, or_else-none}
 use Rattle.vc_tree_model.specs.Canonical.{AllAbove, AreChildren, IsSolid, IsCanonical}
 use Rattle.vc_tree_model.specs.Same.{IsSameIn, IsSame}
 use Rattle.vc_tree_model.specs.OneTree.{IsOneTree}
 use Rattle.vc_tree_model.proofs.KeyLemmas.{none-some, less, behind-same}
-use Rattle.vc_tree_model.proofs.ValueLemmas.{or_else-none, kept_by, kept-else, bound-left, not-lost, maps-flip}
+use Rattle.vc_tree_model.proofs.ValueLemmas.{kept_by, kept-else, bound-left, not-lost, maps-flip}
 use Rattle.vc_tree_model.proofs.LookupLemmas.{children-ordered, lookup_in-empty, lookup-equal, lookup-other, lookup-begins, lookup_in-skip, above-less, above-equal, lookup_in-above, first-bound, tree-bound, AreNothing, whole-cases, nothing-bound}
 
 module _ {K V : Type 0} (cmp : K → K → Ordering) (o : IsTotalOrder cmp) where

@@ -6,11 +6,6 @@ use Rattle.std.proofs.Common.{◌≡◌, List, Option, None, Some, refl}
 use Rattle.vc_tree_model.specs.Value.{IsKept}
 use Rattle.vc_tree_model.specs.Map.{or_else, IsEqualMap}
 
--- nothing in the second place changes nothing
-pub or_else-none : {V : Type 0} (o : Option V) → or_else o None ≡ o
-or_else-none None = refl
-or_else-none (Some v) = refl
-
 module _ {V : Type 0} (matches : V → V → Type 0) where
   -- what equals two that match, matches
   pub kept_by : (a b c d : Option V) → a ≡ c → b ≡ d → IsKept matches a b → IsKept matches c d

@@ -3,6 +3,7 @@ pub mod Value
 pub mod Tree
 pub mod TreeCode
 pub mod Map
+pub mod Look
 pub mod Binds
 pub mod Pairs
 pub mod Canonical

@@ -1,5 +1,5 @@
 -- The finite map of a tree, as the function that looks a key up, and facts on maps.
-use Rattle.std.specs.Prelude.{◌≡◌, List, [], ◌∷◌, Option, Some, None, IsTrue, IsFalse}
+use Rattle.std.specs.Prelude.{◌≡◌, List, [], ◌∷◌, Option, Some, None, IsTrue, IsFalse, refl}
 use Rattle.std.specs.declared.cmp.Ordering.{Ordering}
 use Rattle.vc_tree_model.specs.Key.{same_key, behind}
 use Rattle.vc_tree_model.specs.Value.{IsKept}
@@ -9,6 +9,11 @@ use Rattle.vc_tree_model.specs.Tree.{Tree, Forest, bare, grow}
 abbrev pub or_else : {V : Type 0} → Option V → Option V → Option V
 or_else None o = o
 or_else (Some v) o = Some v
+
+-- nothing in the second place changes nothing
+pub or_else-none : {V : Type 0} (o : Option V) → or_else o None ≡ o
+or_else-none None = refl
+or_else-none (Some v) = refl
 
 -- what a node has at what is left of a key behind its prefix: its own value where nothing is left, else what is below
 abbrev pub node_lookup : {K V : Type 0} → Option V → (List K → Option V) → Option (List K) → Option V

@@ -11,11 +11,10 @@ use Rattle.std.specs.declared.cmp.Ordering.{Ordering}
 use Rattle.std.specs.declared.cmp.Ordering.TheVariants.{Less, Equal}
 use Rattle.vc_tree_model.specs.Key.{same_key}
 use Rattle.vc_tree_model.specs.Tree.{Tree, Forest, bare, grow, forest, node, trees, nodes, forest_nodes, width, forest_width}
-use Rattle.vc_tree_model.specs.Map.{or_else, lookup, lookup_in}
+use Rattle.vc_tree_model.specs.Map.{or_else, lookup, lookup_in, or_else-none}
 use Rattle.vc_tree_model.specs.Canonical.{AreChildren}
 use Rattle.vc_tree_nodes.specs.Places.{child_first, BeginsAt, IsGapAt, IsFoundChild}
 use Rattle.vc_tree_model.proofs.KeyLemmas.{none-some}
-use Rattle.vc_tree_model.proofs.ValueLemmas.{or_else-none}
 use Rattle.vc_tree_model.proofs.LookupLemmas.{lookup-other, lookup_in-above, lookup_in-skip, above-equal}
 use Rattle.vc_tree_nodes.proofs.Firsts.{above-at, rest-children, child_first-map}
 

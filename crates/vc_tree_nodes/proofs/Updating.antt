@@ -14,11 +14,11 @@ use Rattle.std.specs.declared.cmp.Ordering.TheVariants.{Less, Equal}
 use Rattle.vc_tree_model.specs.Key.{same_key, behind}
 use Rattle.vc_tree_model.specs.Value.{IsKept}
 use Rattle.vc_tree_model.specs.Tree.{Tree, Forest, bare, grow, forest, node}
-use Rattle.vc_tree_model.specs.Map.{or_else, node_lookup, lookup, lookup_in, IsUpdated}
+use Rattle.vc_tree_model.specs.Map.{or_else, node_lookup, lookup, lookup_in, IsUpdated, or_else-none}
 use Rattle.vc_tree_model.specs.Canonical.{AreChildren}
 use Rattle.vc_tree_nodes.specs.Places.{child_first, IsGapAt}
 use Rattle.vc_tree_model.proofs.KeyLemmas.{none-some, both-true, then_same, then_behind, behind-append, same-append, same-slice_cmp}
-use Rattle.vc_tree_model.proofs.ValueLemmas.{or_else-none, kept-refl, kept-trans, kept-else}
+use Rattle.vc_tree_model.proofs.ValueLemmas.{kept-refl, kept-trans, kept-else}
 use Rattle.vc_tree_model.proofs.LookupLemmas.{lookup-other}
 use Rattle.vc_tree_nodes.proofs.Firsts.{above-at, rest-children}
 

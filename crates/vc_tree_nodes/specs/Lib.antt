@@ -2,3 +2,4 @@ pub mod Children
 pub mod Places
 pub mod Parting
 pub mod Growth
+pub mod SameTests

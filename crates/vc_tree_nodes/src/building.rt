@@ -87,12 +87,10 @@ impl<K: TKey + MadeWith<Global>, V: TValue> Build<K, V> for RadixTree<K, V> {
     ghost kept_alike = { λ xs ys e. alike_same (λ v w. v ≡ w) (λ v. refl) xs ys e };
 
     fn blank(alloc: Global, seal: Seal) -> Self {
-        let _ = seal;
         RadixTree::bare(alloc)
     }
 
     fn take_apart(self, seal: Seal) -> Parts<SmallVec<K, 16>, V, OwnedChildren<RadixTree<K, V>>> {
-        let _ = seal;
         self.into_parts()
     }
 
@@ -106,7 +104,6 @@ impl<K: TKey + MadeWith<Global>, V: TValue> Build<K, V> for RadixTree<K, V> {
             (made prefix.items value (map (λ t. t) (listed (λ own. own.list.items) children))) }
         ensures { result ≡ made prefix.items value (map (λ t. t) (listed (λ own. own.list.items) children)) }
     {
-        let _ = seal;
         RadixTree::from_parts(prefix, value, children)
     }
 }
@@ -127,7 +124,6 @@ impl<K: TKey + MadeWith<Global>, V: TValue> Build<K, V> for ArcRadixTree<K, V> {
     ghost kept_alike = { copies_alike V.is_clone };
 
     fn blank(alloc: Global, seal: Seal) -> Self {
-        let _ = seal;
         ArcRadixTree::bare(alloc)
     }
 
@@ -135,7 +131,6 @@ impl<K: TKey + MadeWith<Global>, V: TValue> Build<K, V> for ArcRadixTree<K, V> {
         self,
         seal: Seal,
     ) -> Parts<SmallVec<K, 16>, V, SharedChildren<ArcRadixTree<K, V>>> {
-        let _ = seal;
         self.into_parts()
     }
 
@@ -149,7 +144,6 @@ impl<K: TKey + MadeWith<Global>, V: TValue> Build<K, V> for ArcRadixTree<K, V> {
             (made prefix.items value (map (λ t. t) (listed (λ held. held.shared.value.items) children))) }
         ensures { result ≡ made prefix.items value (map (λ t. t) (listed (λ held. held.shared.value.items) children)) }
     {
-        let _ = seal;
         ArcRadixTree::from_parts(prefix, value, children)
     }
 }

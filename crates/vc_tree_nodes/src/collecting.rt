@@ -3,13 +3,14 @@
 ghost use Rattle.std.specs.Prelude.{◌≡◌, List, map, IfOk};
 ghost use Rattle.std.specs.Iterator.{IsFinite};
 ghost use Rattle.std.specs.Iterator.Runs.{WholeRun};
+ghost use Rattle.vc_tree_model.specs.Canonical.{IsCanonical};
 ghost use Rattle.vc_tree_model.specs.OneTree.{IsOneTree, IsSmallest};
 ghost use Rattle.vc_tree_model.specs.Pairs.{IsCollected};
 ghost use Rattle.vc_tree_model.specs.Value.{Copies};
 
 use crate::insertion::insert;
 use crate::plain::RadixTree;
-use crate::reading::{RadixNode, TKey, TValue};
+use crate::reading::{RadixNode, TKey, TValue, canonical};
 use std::alloc::{AllocError, Global};
 use std::default::MadeWith;
 
@@ -47,11 +48,13 @@ fn collect<K: TKey + MadeWith<Global>, V: TValue, S: Spelled<K>, I: Iterator<Ite
     requires ends { IsFinite (I.remaining iter) }
     ensures pairs { IfOk result (λ t. WholeRun I.next_gives iter
         (λ p. IsCollected K.cmp (map (λ b. (S.components b.0, b.1)) p.items) t)) }
+    ensures canonical { IfOk result (IsCanonical K.cmp) }
 {
     let mut tree = RadixTree::bare(alloc);
     for (key, value) in iter {
         insert(&mut tree, key.as_key(), value)?;
     }
+    canonical(&tree);
     Ok(tree)
 }
 
@@ -72,10 +75,7 @@ impl<K: TKey + MadeWith<Global>, V: TValue> RadixTree<K, V> {
         ensures one { IfOk result (λ t. IsOneTree K.cmp (Copies V.is_clone) t) }
         ensures smallest { IfOk result (λ t. IsSmallest K.cmp (Copies V.is_clone) t) }
     {
-        let tree = collect(alloc, iter)?;
-        // The law of trees, that they are canonical, comes with the prefix.
-        let _ = tree.prefix();
-        Ok(tree)
+        collect(alloc, iter)
     }
 
     /// The tree of the pairs, which may come in any order. Of pairs with equal keys the last one counts. The keys are dropped.
@@ -92,9 +92,6 @@ impl<K: TKey + MadeWith<Global>, V: TValue> RadixTree<K, V> {
         ensures one { IfOk result (λ t. IsOneTree K.cmp (Copies V.is_clone) t) }
         ensures smallest { IfOk result (λ t. IsSmallest K.cmp (Copies V.is_clone) t) }
     {
-        let tree = collect(alloc, iter)?;
-        // The law of trees, that they are canonical, comes with the prefix.
-        let _ = tree.prefix();
-        Ok(tree)
+        collect(alloc, iter)
     }
 }

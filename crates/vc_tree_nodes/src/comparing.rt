@@ -6,11 +6,11 @@ ghost use Rattle.vc_tree_model.specs.Key.{same_key};
 ghost use Rattle.vc_tree_model.specs.Map.{lookup, IsEqualMap};
 ghost use Rattle.vc_tree_model.specs.Same.{IsSame};
 ghost use Rattle.vc_tree_model.specs.Equal.{same_tree, same_tree_in};
-ghost use Rattle.vc_tree_model.proofs.SameTests.{same_tree-partial, same_tree-equivalence};
+ghost use Rattle.vc_tree_nodes.specs.SameTests.{same_tree-partial, same_tree-equivalence};
 ghost use Rattle.vc_tree_nodes.specs.Children.{seen};
 
 use crate::plain::RadixTree;
-use crate::reading::{RadixNode, TKey, TValue};
+use crate::reading::{RadixNode, TKey, TValue, canonical};
 
 /// Whether the keys have one length, and equal components at every place.
 fn is_same_key<K: Ord>(left: &[K], right: &[K]) -> bool
@@ -74,9 +74,8 @@ impl<K: TKey, V: TValue + PartialEq> PartialEq for RadixTree<K, V> {
         ensures maps { IsTrue result
             ↔ IsEqualMap (λ v w. IsTrue (V.eq v w)) (lookup K.cmp self.now) (lookup K.cmp other.now) }
     {
-        // The law of trees, that they are canonical, comes with the prefix.
-        let _ = self.prefix();
-        let _ = other.prefix();
+        canonical(self);
+        canonical(other);
         is_same(self, other)
     }
 }

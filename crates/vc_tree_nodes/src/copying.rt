@@ -2,6 +2,7 @@
 
 ghost use Rattle.std.specs.Prelude.{◌≡◌, ◌≤◌, IfOk, length};
 ghost use Rattle.std.specs.Option.{option_copied};
+ghost use Rattle.vc_tree_model.specs.Canonical.{IsCanonical};
 ghost use Rattle.vc_tree_model.specs.Tree.{shortened};
 ghost use Rattle.vc_tree_model.specs.Value.{Copies, IsKept};
 ghost use Rattle.vc_tree_model.specs.Same.{IsAlike, IsAlikeIn};
@@ -36,7 +37,8 @@ pub fn copy_shortened<K: TKey, V: TValue, S: RadixNode<K, V>, T: Build<K, V>>(
     from: usize,
 ) -> Result<T, AllocError>
     requires { from ≤ length (S.tree tree.now).prefix }
-    ensures { IfOk result (λ copy. IsAlike V.is_clone (shortened from (S.tree tree.now)) (T.tree copy)) }
+    ensures alike { IfOk result (λ copy. IsAlike V.is_clone (shortened from (S.tree tree.now)) (T.tree copy)) }
+    ensures canonical { IsCanonical K.cmp (S.tree tree.now) }
 {
     let prefix = T::Prefix::from_slice(alloc, &tree.prefix()[from..])?;
     let value = clone_value(tree.value())?;

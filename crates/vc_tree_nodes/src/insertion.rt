@@ -15,7 +15,7 @@ use crate::building::{Build, Seal};
 use crate::children::{ChildList, Fragment, Parts};
 use crate::parting::{Parting, find_parting};
 use crate::places::child_place;
-use crate::reading::{TKey, TValue, is_empty};
+use crate::reading::{TKey, TValue, canonical, is_empty};
 use std::alloc::{AllocError, Global};
 use std::mem;
 use vc_merge::merge::Uncounted;
@@ -58,8 +58,7 @@ pub fn insert<K: TKey, V: TValue, T: Build<K, V>>(
     ensures canonical { IsCanonical K.cmp (T.tree tree.new) }
 {
     let alloc = tree.allocator();
-    // The law of trees, that they are canonical, comes with the prefix.
-    let _ = tree.prefix();
+    canonical(tree);
     if is_empty(tree) {
         *tree = single(alloc, key, value)?;
         return Ok(());

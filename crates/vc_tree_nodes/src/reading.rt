@@ -45,6 +45,14 @@ pub trait RadixNode<K: TKey, V: TValue>: Sized {
     fn allocator(&self) -> Global;
 }
 
+/// Nothing but the law: the tree is canonical. A law of a type is a clause of a call, here of `prefix`; a proof that wants it and not the
+/// prefix has it from this call, by its name.
+pub fn canonical<K: TKey, V: TValue, T: RadixNode<K, V>>(tree: &T)
+    ensures { IsCanonical K.cmp (T.tree tree.now) }
+{
+    tree.prefix();
+}
+
 /// Whether the tree binds no key.
 pub fn is_empty<K: TKey, V: TValue, T: RadixNode<K, V>>(tree: &T) -> bool
     ensures { result ≡ is_bare (T.tree tree.now) }

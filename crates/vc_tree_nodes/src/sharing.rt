@@ -1,13 +1,14 @@
 //! How a plain tree becomes a shared one.
 
 ghost use Rattle.std.specs.Prelude.{◌≡◌, IfOk};
+ghost use Rattle.vc_tree_model.specs.Canonical.{IsCanonical};
 ghost use Rattle.vc_tree_model.specs.OneTree.{IsOneTree, IsSmallest};
 ghost use Rattle.vc_tree_model.specs.Value.{Copies};
 ghost use Rattle.vc_tree_nodes.specs.Children.{listed};
 
 use crate::children::{ChildList, Parts, SharedChildren};
 use crate::plain::RadixTree;
-use crate::reading::{RadixNode, TKey, TValue};
+use crate::reading::{TKey, TValue};
 use crate::shared::ArcRadixTree;
 use std::alloc::{AllocError, Global};
 use std::default::MadeWith;
@@ -17,7 +18,8 @@ use std::default::MadeWith;
 fn share_tree<K: TKey + MadeWith<Global>, V: TValue>(
     tree: RadixTree<K, V>,
 ) -> Result<ArcRadixTree<K, V>, AllocError>
-    ensures { IfOk result (λ shared. shared ≡ tree) }
+    ensures same { IfOk result (λ shared. shared ≡ tree) }
+    ensures canonical { IfOk result (IsCanonical K.cmp) }
 {
     let Parts {
         prefix,
@@ -57,9 +59,6 @@ impl<K: TKey + MadeWith<Global>, V: TValue> ArcRadixTree<K, V> {
         ensures one { IfOk result (λ shared. IsOneTree K.cmp (Copies V.is_clone) shared) }
         ensures smallest { IfOk result (λ shared. IsSmallest K.cmp (Copies V.is_clone) shared) }
     {
-        let shared = share_tree(tree)?;
-        // The law of trees, that they are canonical, comes with the prefix.
-        let _ = shared.prefix();
-        Ok(shared)
+        share_tree(tree)
     }
 }

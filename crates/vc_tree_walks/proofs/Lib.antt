@@ -3,3 +3,4 @@ pub mod ValueRows
 pub mod Scanning
 pub mod Paths
 pub mod WholeWalks
+pub mod Filtered

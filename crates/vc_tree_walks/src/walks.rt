@@ -12,15 +12,14 @@ use crate::iter::Iter;
 use crate::owned::ObjAndIter;
 use crate::scan::find_under;
 use crate::values::Values;
-use vc_tree_nodes::reading::{RadixNode, TKey, TValue};
+use vc_tree_nodes::reading::{RadixNode, TKey, TValue, canonical};
 
 /// All pairs of the tree.
 pub fn iter<'a, K: TKey, V: TValue, T: RadixNode<K, V>>(tree: &'a T) -> Iter<'a, K, V, T>
     ensures all { pairs_left T.tree result ≡ walk (T.tree tree.now) }
     ensures ascending { IsWalk K.cmp (lookup K.cmp (T.tree tree.now)) (pairs_left T.tree result) }
 {
-    // The law of trees, that they are canonical, comes with the prefix.
-    let _ = tree.prefix();
+    canonical(tree);
     Iter::new(tree.allocator(), Some((&[], tree)))
 }
 
@@ -46,6 +45,6 @@ pub fn into_iter<K: TKey, V: TValue, T: RadixNode<K, V> + Drop>(tree: T) -> ObjA
     ensures all { held_left T.tree result ≡ walk (T.tree tree) }
     ensures ascending { IsWalk K.cmp (lookup K.cmp (T.tree tree)) (held_left T.tree result) }
 {
-    let _ = tree.prefix();
+    canonical(&tree);
     ObjAndIter::new(tree)
 }

@@ -39,8 +39,6 @@ pub use Rattle.vc_total_sets.specs.Laws as TotalLaws
 pub use Rattle.vc_total_sets.specs.TotalOf
 pub use Rattle.vc_total_sets.specs.TotalSet
 pub use Rattle.vc_total_sets.specs.TotalTests
-pub use Rattle.vc_tree_commands.specs.Commanded
-pub use Rattle.vc_tree_commands.specs.declared.commands.TreeCommand
 pub use Rattle.vc_tree_edits.specs.Editing
 pub use Rattle.vc_tree_model.specs.Asking
 pub use Rattle.vc_tree_model.specs.Binds
@@ -70,3 +68,5 @@ pub use Rattle.vc_tree_walks.specs.IterLeft
 pub use Rattle.vc_tree_walks.specs.Left
 pub use Rattle.vc_tree_walks.specs.OwnedLeft
 pub use Rattle.vc_tree_walks.specs.ValuesLeft
+pub use Rattle.vc_trees.specs.Commanded
+pub use Rattle.vc_trees.specs.declared.commands.TreeCommand

@@ -60,7 +60,7 @@ pub mod btree_map {
 
 /// Canonical radix trees: finite maps from keys, which are lists of components, to values.
 pub mod radix_tree {
-    pub use vc_tree_commands::commands::{TreeCommand, run};
+    pub use vc_trees::commands::{TreeCommand, run};
     pub use vc_trees::radix_tree::{
         AbstractRadixTree, AbstractRadixTreeMut, ArcRadixTree, Iter, IterKey, ObjAndIter,
         RadixNode, RadixTree, TKey, TValue, Values,

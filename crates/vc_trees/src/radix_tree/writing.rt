@@ -14,7 +14,7 @@ ghost use Rattle.vc_tree_edits.specs.Editing.{MayLeave, CanLeave, KeptThen, CanM
 use crate::radix_tree::reading::AbstractRadixTree;
 use std::alloc::{AllocError, Global};
 use std::default::MadeWith;
-use vc_tree_combines::{combines, filtering};
+use vc_tree_combines::combines;
 use vc_tree_edits::{combining, prepending};
 use vc_tree_nodes::building::Seal;
 use vc_tree_nodes::copying::CloneTree;
@@ -22,6 +22,7 @@ use vc_tree_nodes::insertion;
 use vc_tree_nodes::plain::RadixTree;
 use vc_tree_nodes::reading::{TKey, TValue};
 use vc_tree_nodes::shared::ArcRadixTree;
+use vc_tree_walks::filtering;
 
 /// A radix tree to be made and changed: the two flavours, and no other type.
 ///

@@ -1,10 +1,10 @@
 -- The events up to now are done, within what both trees pay; each call goes down to fewer nodes.
-use Rattle.std.proofs.Common.{◌≡◌, ◌+◌, ◌-◌, ◌*◌, map, length}
-use Rattle.vc_tree_model.proofs.Look.{values}
+use Rattle.std.proofs.Common.{◌+◌, ◌-◌, ◌*◌, map, length}
+use Rattle.vc_tree_model.specs.Look.{values}
 use Rattle.vc_tree_model.specs.Shortened.{weight}
 use Rattle.vc_tree_model.specs.Tree.{nodes, shortened}
-use Rattle.vc_tree_combines.specs.Facing.{trees_below}
-use Rattle.vc_tree_combines.specs.Made.{IsDoing}
+use Rattle.vc_tree_facing.specs.Facing.{trees_below}
+use Rattle.vc_tree_facing.specs.Doing.{IsDoing}
 use Rattle.vc_tree_combines.proofs.engine.+combine_at.Given as goal
 
 abbrev pub decreases-combine_at : goal.decreases-combine_at

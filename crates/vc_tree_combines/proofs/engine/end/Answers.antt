@@ -1,5 +1,5 @@
 use Rattle.std.proofs.Common.{refl, ap, take}
-use Rattle.vc_tree_combines.proofs.Opening.{slice-from}
+use Rattle.vc_tree_facing.proofs.Opening.{slice-from}
 use Rattle.vc_tree_combines.proofs.engine.end.Goals as goal
 
 pub returns : goal.returns

@@ -3,7 +3,7 @@ use Rattle.std.proofs.Common.{◌≡◌, ◌+◌, rules, arith, refl, ap, length
 use Rattle.vc_tree_model.specs.Tree.{forest_nodes}
 use Rattle.vc_tree_nodes.specs.Children.{seen}
 use Rattle.vc_tree_nodes.specs.Parting.{Agree}
-use Rattle.vc_tree_combines.proofs.Opening.{slice-from, found, found_in}
+use Rattle.vc_tree_facing.proofs.Opening.{slice-from, found, found_in}
 use Rattle.vc_tree_combines.proofs.Testing.{parted-told, inside-told, inside-none, inside-agrees, behind-told, within-told, within-none, within-bare, both-told, some-at, before-end, meeting-told}
 use Rattle.vc_tree_combines.proofs.keys.+meeting.Goals as goal
 
@@ -113,7 +113,7 @@ pub keys_meet_behind-returns-then-shared : goal.keys_meet_behind-returns-then-sh
 keys_meet_behind-returns-then-shared g t c =
     let at = some-at _ _ c.args.n c.prefix-whole.ensures.value c.requires c.if-n-whole.false in
     within-bare g.K.Ord.cmp g.met.K.Ord.total (g.A.RadixNode.tree c.args.a.now) (g.B.RadixNode.tree c.args.b.now) c.args.n at.0 at.1
-    c.args.shared _ c.prefix.ensures.canonical c.if-shared.true c.is_empty.ensures
+    c.args.shared _ c.canonical.ensures c.if-shared.true c.is_empty.ensures
 
 pub keys_meet_behind-returns-in-Some : goal.keys_meet_behind-returns-in-Some
 keys_meet_behind-returns-in-Some g t c =

@@ -29,7 +29,7 @@ answer_alone-requires g t c κs within =
     all-at _ _ _ _ c.loop-child-test.true c.child-item.is
     (children-alone g.K.Ord.cmp g.met.K.Ord.total tree (CanAskAt g.F.Fn c.args.answer.now) tt
     (shortened c.args.from (tree c.args.tree.now)) c.requires.asks c.children-children.result.now c.children-children.ensures
-    (subst (AreChildren g.K.Ord.cmp) (sym c.children-children.ensures) c.prefix.ensures.canonical.1)) in
+    (subst (AreChildren g.K.Ord.cmp) (sym c.children-children.ensures) c.canonical.ensures.1)) in
     search rules
 
 pub end_alone-requires-clause-asks : goal.end_alone-requires-clause-asks
@@ -49,7 +49,7 @@ end_alone-requires-clause-children g t c =
     alone-children g.K.Ord.cmp g.met.K.Ord.total g.A.RadixNode.tree
     (IsLeftAt (λ v w z. MayAnswerAt {W = g.row.W.Denot} g.F.Fn c.args.answer.now v w (Ok z))) refl
     (shortened c.args.from (g.A.RadixNode.tree c.args.tree.now)) c.children-children.result.now _ c.children-children.ensures
-    (subst (AreChildren g.K.Ord.cmp) (sym c.children-children.ensures) c.prefix.ensures.canonical.1)
+    (subst (AreChildren g.K.Ord.cmp) (sym c.children-children.ensures) c.canonical.ensures.1)
     (rw (take_all _ _ c.loop-child-test.false) at c.loop-child.invariant)
 
 pub returns : goal.returns
@@ -57,5 +57,5 @@ returns g t c =
     made-alone g.K.Ord.cmp g.met.K.Ord.total g.A.RadixNode.tree
     (IsLeftAt (λ v w z. MayAnswerAt {W = g.row.W.Denot} g.F.Fn c.args.answer.now v w (Ok z))) refl
     (shortened c.args.from (g.A.RadixNode.tree c.args.tree.now)) c.children-children.result.now _ c.children-children.ensures
-    (subst (AreChildren g.K.Ord.cmp) (sym c.children-children.ensures) c.prefix.ensures.canonical.1)
+    (subst (AreChildren g.K.Ord.cmp) (sym c.children-children.ensures) c.canonical.ensures.1)
     (rw (take_all _ _ c.loop-child-test.false) at c.loop-child.invariant) _ _ c.in_ok-made.ensures.said c.in_ok-made.ensures.child

@@ -3,7 +3,7 @@ use Rattle.std.proofs.Common.{Ok, None, map, take}
 use Rattle.vc_tree_model.specs.Asking.{MayAnswerAt}
 use Rattle.vc_tree_model.specs.Combine.{IsLeftAt}
 use Rattle.vc_tree_model.specs.Tree.{nodes}
-use Rattle.vc_tree_combines.specs.Made.{AreMadeAlone}
+use Rattle.vc_tree_combines.specs.Ended.{AreMadeAlone}
 use Rattle.vc_tree_combines.proofs.left.+answer_alone.Given as goal
 
 abbrev pub decreases-answer_alone : goal.decreases-answer_alone

@@ -1,5 +1,5 @@
 use Rattle.std.proofs.Common.{refl}
-use Rattle.vc_tree_combines.proofs.Opening.{slice-from}
+use Rattle.vc_tree_facing.proofs.Opening.{slice-from}
 use Rattle.vc_tree_combines.proofs.left.end_alone.Goals as goal
 
 pub returns : goal.returns

@@ -1,7 +1,7 @@
 -- The recursion of a change in place: each event is one lemma's, and each call goes to trees that stand below.
 use Rattle.std.proofs.Common.{rules, refl, ◌∙◌, ap, ◌≡◌, ◌∷◌}
-use Rattle.vc_tree_combines.specs.declared.sides.Side.TheVariants.{Left, Right, Both}
-use Rattle.vc_tree_combines.proofs.Next.{left-not_right, right-not_left, both-not_right, both-not_left, left-there, right-there, left_within, right_within, both-asked, both-agree, nil-by, at-most}
+use Rattle.vc_tree_facing.specs.declared.sides.Side.TheVariants.{Left, Right, Both}
+use Rattle.vc_tree_facing.proofs.Next.{left-not_right, right-not_left, both-not_right, both-not_left, left-there, right-there, left_within, right_within, both-asked, both-agree, nil-by, at-most}
 use Rattle.vc_tree_edits.proofs.Stepping.{first-long, after-left, after-right, after-both, room-next, room-added, room-there, falls-below, finished-children, finished}
 use Rattle.vc_tree_edits.proofs.engine.+change_at.Goals as goal
 

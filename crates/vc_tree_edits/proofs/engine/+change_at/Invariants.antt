@@ -1,8 +1,8 @@
 -- The events up to now are done, and there is room for a tree at each of the others; each call goes down to fewer nodes.
 use Rattle.std.proofs.Common.{◌≡◌, ◌≤◌, true, ℕ, ◌+◌, map, length}
 use Rattle.vc_tree_model.specs.Tree.{nodes}
-use Rattle.vc_tree_combines.specs.Facing.{trees_below}
-use Rattle.vc_tree_combines.specs.Made.{IsDoing}
+use Rattle.vc_tree_facing.specs.Facing.{trees_below}
+use Rattle.vc_tree_facing.specs.Doing.{IsDoing}
 use Rattle.vc_tree_edits.proofs.engine.+change_at.Given as goal
 
 abbrev pub decreases-change_at : goal.decreases-change_at

@@ -1,7 +1,7 @@
 -- A node with a value, or with at least two children, stays as it is.
 use Rattle.std.proofs.Common.{sym, ◌∙◌, ap, map, Some, rules}
 use Rattle.vc_tree_model.specs.Tree.{made}
-use Rattle.vc_tree_combines.proofs.Opening.{whole-of_value, whole-of_many}
+use Rattle.vc_tree_facing.proofs.Opening.{whole-of_value, whole-of_many}
 use Rattle.vc_tree_edits.proofs.engine.finish_in.Goals.{else-is_none-via-then-is_none+else-len-lt2, else-is_none-via-else-is_none}
 use Rattle.vc_tree_edits.proofs.engine.finish_in.Goals as goal
 

@@ -10,17 +10,14 @@ loop-key-preserved g c =
     collected-next g.K.Ord.cmp g.S.Spelled.components c.loop-key.yielded (c.in-Some.key, c.in-Some.value)
     c.as_key.result.now c.loop-key.tree c.insert.new.tree c.as_key.ensures c.loop-key.invariant c.in_ok-insert.ensures.ok
 
-pub returns : goal.returns
-returns g c =
+pub returns-clause-pairs : goal.returns-clause-pairs
+returns-clause-pairs g c =
     let whole =
     exit_by g.I.Iterator.next_gives (c.loop-key.yielded, c.loop-key.yielded_by) c.next.new.self
-    (rw c.in-None.is at c.next.ensures.steps) in
-    record {
-      pairs = (
-        whole.0,
-        whole.1 ∙ c.into_iter-key-iterator.ensures.into_iter_gives,
-        whole.2,
-        subst (λ xs. IsCollected g.K.Ord.cmp (map (λ b. (g.S.Spelled.components b.0, b.1)) xs) c.loop-key.tree)
-            (sym whole.3.0) c.loop-key.invariant,
-      );
-    }
+    (rw c.in-None.is at c.next.ensures.steps) in (
+      whole.0,
+      whole.1 ∙ c.into_iter-key-iterator.ensures.into_iter_gives,
+      whole.2,
+      subst (λ xs. IsCollected g.K.Ord.cmp (map (λ b. (g.S.Spelled.components b.0, b.1)) xs) c.loop-key.tree)
+          (sym whole.3.0) c.loop-key.invariant,
+    )

@@ -36,4 +36,4 @@ copy_list-loop-tree-preserved g t c =
     alike-more g.V.Clone.is_clone g.S.RadixNode.tree g.T.RadixNode.tree c.args.list.now c.loop-tree.copies.items
     c.push.new.self.items c.loop-tree.tree-index c.tree-item.result c.in_ok-copy_shortened.field-0
     c.loop-tree-test.true c.tree-item.is c.in_ok-push.ensures.items c.loop-tree.invariant
-    c.in_ok-copy_shortened.ensures
+    c.in_ok-copy_shortened.ensures.alike

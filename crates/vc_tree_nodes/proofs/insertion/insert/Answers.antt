@@ -21,7 +21,7 @@ returns-then-is_empty-clause-binds g c =
 
 pub insert_from-requires-clause-solid : goal.insert_from-requires-clause-solid
 insert_from-requires-clause-solid g c =
-    not-bare_solid (g.T.RadixNode.tree c.args.tree.now) c.prefix.ensures.canonical.0
+    not-bare_solid (g.T.RadixNode.tree c.args.tree.now) c.canonical.ensures.0
     (sym c.is_empty.ensures ∙ c.if-is_empty.false)
 
 pub returns-clause-binds : goal.returns-clause-binds
@@ -43,4 +43,4 @@ returns-clause-canonical g c =
     (λ grown. solid-canonical g.K.Ord.cmp (tree c.insert_from.new.tree).prefix (tree c.insert_from.new.tree).value
     (tree c.insert_from.new.tree).children grown.solid grown.children)
     (λ alike. tree-alike_canonical g.T.Build.keeps g.K.Ord.cmp (tree c.args.tree.now) (tree c.insert_from.new.tree)
-    alike c.prefix.ensures.canonical)
+    alike c.canonical.ensures)

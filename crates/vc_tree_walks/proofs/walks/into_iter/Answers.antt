@@ -4,4 +4,4 @@ use Rattle.vc_tree_walks.proofs.walks.into_iter.Goals as goal
 
 pub returns-clause-ascending : goal.returns-clause-ascending
 returns-clause-ascending g c =
-    walk-of_tree g.K.Ord.cmp g.met.K.Ord.total (g.T.RadixNode.tree c.args.tree) c.prefix.ensures.canonical _ c.new.ensures
+    walk-of_tree g.K.Ord.cmp g.met.K.Ord.total (g.T.RadixNode.tree c.args.tree) c.canonical.ensures _ c.new.ensures

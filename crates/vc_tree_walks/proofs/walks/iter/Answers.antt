@@ -10,4 +10,4 @@ returns-clause-all g c = c.new.ensures ∙ prepended-empty (walk (g.T.RadixNode.
 pub returns-clause-ascending : goal.returns-clause-ascending
 returns-clause-ascending g c =
     let t = g.T.RadixNode.tree c.args.tree.now in
-    walk-of_tree g.K.Ord.cmp g.met.K.Ord.total t c.prefix.ensures.canonical _ (c.new.ensures ∙ prepended-empty (walk t))
+    walk-of_tree g.K.Ord.cmp g.met.K.Ord.total t c.canonical.ensures _ (c.new.ensures ∙ prepended-empty (walk t))

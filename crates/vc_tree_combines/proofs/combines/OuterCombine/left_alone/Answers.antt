@@ -1,8 +1,9 @@
 -- A copy of the whole tree.
-use Rattle.vc_tree_combines.proofs.Alone.{copied-by, outer-left}
+use Rattle.vc_tree_facing.proofs.Copied.{copied-by}
+use Rattle.vc_tree_combines.proofs.Alone.{outer-left}
 use Rattle.vc_tree_combines.proofs.combines.OuterCombine.left_alone.Goals as goal
 
 pub returns : goal.returns
 returns g c =
     copied-by g.K.Ord.cmp g.met.K.Ord.total g.V.Clone.is_clone (g.A.RadixNode.tree c.args.tree.now) _ c.args.from
-    c.prefix.ensures.canonical c.requires.within c.in_ok-copy_shortened.ensures _ (outer-left g.V.Clone.is_clone g.V.Clone.is_clone _)
+    c.in_ok-copy_shortened.ensures.canonical c.requires.within c.in_ok-copy_shortened.ensures.alike _ (outer-left g.V.Clone.is_clone g.V.Clone.is_clone _)

@@ -7,5 +7,5 @@ use Rattle.vc_tree_edits.proofs.changes.KeepAllChange.left_alone.Goals as goal
 pub returns : goal.returns
 returns g c =
     stayed g.K.Ord.cmp g.met.K.Ord.total g.T.Build.keeps g.met.T.Build.keeps_refl (g.T.RadixNode.tree c.args.tree) _ c.args.from
-    c.prefix.ensures.canonical c.requires.within c.in_ok-shorten.ensures _
+    c.in_ok-shorten.ensures.canonical c.requires.within c.in_ok-shorten.ensures.left _
     (alone-outer g.T.Build.keeps g.V.Clone.is_clone (KeptThen g.T.Build.keeps (g.M.Meet.may c.args.self.now.at.now)))

@@ -7,6 +7,6 @@ use Rattle.vc_tree_edits.proofs.changes.SiftChange.left_alone.Goals as goal
 pub returns : goal.returns
 returns g c =
     stayed g.K.Ord.cmp g.met.K.Ord.total g.T.Build.keeps g.met.T.Build.keeps_refl (g.T.RadixNode.tree c.args.tree) _ c.args.from
-    c.prefix.ensures.canonical c.requires.within c.in_ok-shorten.ensures _
+    c.in_ok-shorten.ensures.canonical c.requires.within c.in_ok-shorten.ensures.left _
     (sifted-stays g.T.Build.keeps (MayJudge g.F.Fn c.args.self.now.judge.now) c.args.self.now.covered
     (stays_by c.args.self.now.retains) (sym c.stays.ensures ∙ c.if-not-stays.false))

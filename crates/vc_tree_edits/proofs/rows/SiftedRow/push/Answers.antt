@@ -1,7 +1,6 @@
 -- A tree that is put into the list has room there, so none that was given apart is left.
-use Rattle.std.proofs.Common.{rules, arith, ℕ, ◌+◌, ◌-◌, ◌<◌, ◌≤◌, ◌≡◌, length}
+use Rattle.std.proofs.Common.{rules, arith, ◌+◌, ◌-◌, ◌<◌, ◌≤◌}
 use Rattle.std.proofs.lemmas.List.{length-set}
-use Rattle.std.specs.List.{cons_option}
 use Rattle.vc_tree_edits.proofs.rows.SiftedRow.push.Goals as goal
 
 pub invariant_of-self-2 : goal.invariant_of-self-2

@@ -1,6 +1,6 @@
 -- The test says that the trees are the same, and canonical trees are the same exactly where their maps are equal.
 use Rattle.std.specs.Prelude.{IsTrue}
-use Rattle.vc_tree_model.proofs.SameTests.{same_tree-is}
+use Rattle.vc_tree_nodes.specs.SameTests.{same_tree-is}
 use Rattle.vc_tree_model.proofs.Uniqueness.{canonical-unique}
 use Rattle.vc_tree_nodes.proofs.comparing.RadixTreePartialEq.eq.Goals as goal
 
@@ -16,6 +16,6 @@ returns-clause-maps g c =
     let test = same_tree-is g.K.Ord.cmp g.V.PartialEq.eq t u in
     let one =
     canonical-unique g.K.Ord.cmp g.met.K.Ord.total (λ v w. IsTrue (g.V.PartialEq.eq v w)) t u
-    c.prefix.ensures.canonical c.prefix-2.ensures.canonical in
+    c.canonical.ensures c.canonical-2.ensures in
     rw c.is_same.ensures
     (λ e. one.0 (test.0 e), λ m. test.1 (one.1 m))

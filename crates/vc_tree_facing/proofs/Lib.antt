@@ -1,0 +1,9 @@
+pub mod Listing
+pub mod Around
+pub mod Opening
+pub mod Doing
+pub mod Making
+pub mod Paying
+pub mod Next
+pub mod Ending
+pub mod Copied

@@ -1,0 +1,5 @@
+pub mod Sides
+pub mod Around
+pub mod Facing
+pub mod Made
+pub mod Doing

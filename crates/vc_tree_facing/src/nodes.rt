@@ -1,0 +1,50 @@
+//! The nodes where the prefixes of two trees part: the value there, and the node that is made of it and of what was made below.
+
+ghost use Rattle.std.specs.Prelude.{◌≡◌, ◌≤◌, IfOk, drop, length, option_map};
+ghost use Rattle.std.specs.Option.{option_copied};
+ghost use Rattle.vc_tree_model.specs.Tree.{shortened};
+ghost use Rattle.vc_tree_model.specs.Canonical.{AreChildren};
+ghost use Rattle.vc_tree_model.specs.Child.{solid_child, value_at as node_value};
+ghost use Rattle.vc_tree_nodes.specs.Children.{seen};
+
+use std::alloc::{AllocError, Global};
+use vc_tree_nodes::building::Build;
+use vc_tree_nodes::making::{new_joined, new_node};
+use vc_tree_nodes::reading::{RadixNode, TKey, TValue};
+
+/// The value of the node that stands behind a front of what is left of a prefix.
+pub fn value_at<K: TKey, V: TValue, T: RadixNode<K, V>>(
+    tree: &T,
+    from: usize,
+    front: usize,
+) -> Option<&V>
+    requires from { from ≤ length (T.tree tree.now).prefix }
+    requires front { front ≤ length (drop from (T.tree tree.now).prefix) }
+    ensures { option_copied result
+        ≡ node_value (shortened from (T.tree tree.now)) (drop front (drop from (T.tree tree.now).prefix)) }
+{
+    if front == tree.prefix()[from..].len() {
+        tree.value()
+    } else {
+        None
+    }
+}
+
+/// The node of these parts as a child: `None` where it binds no key, and joined with its only child where it has no value.
+pub fn finish<K: TKey, V: TValue, M: Build<K, V>>(
+    alloc: Global,
+    prefix: &[K],
+    value: Option<V>,
+    mut kids: Vec<M>,
+) -> Result<Option<M>, AllocError>
+    requires { AreChildren K.cmp (seen M.tree kids.items) }
+    ensures { IfOk result (λ made. option_map M.tree made ≡ solid_child prefix.now value (seen M.tree kids.items)) }
+{
+    if value.is_none() && kids.len() < 2 {
+        return match kids.pop() {
+            Some(kid) => Ok(Some(new_joined(alloc, prefix, kid)?)),
+            None => Ok(None),
+        };
+    }
+    Ok(Some(new_node(alloc, prefix, value, kids)?))
+}

@@ -1,0 +1,33 @@
+//! The tree of the keys that start with a prefix.
+
+ghost use Rattle.std.specs.Prelude.{IfOk};
+ghost use Rattle.vc_tree_model.specs.Map.{lookup, IsEqualMap};
+ghost use Rattle.vc_tree_model.specs.Under.{under};
+ghost use Rattle.vc_tree_model.specs.Value.{Copies};
+
+use crate::scan::find_under;
+use std::alloc::AllocError;
+use vc_tree_nodes::building::Seal;
+use vc_tree_nodes::copying::{CloneTree, copy_tree};
+use vc_tree_nodes::making::new_joined;
+use vc_tree_nodes::reading::{TKey, TValue, canonical, is_empty};
+
+/// The keys of a tree that start with the prefix, whole, with their values: a copy of the node below which they stand, and what
+/// stands before it of the prefix.
+pub fn filter_prefix<K: TKey, V: TValue, T: CloneTree<K, V>>(
+    tree: &T,
+    prefix: &[K],
+) -> Result<T, AllocError>
+    ensures { IfOk result (λ made. IsEqualMap (Copies V.is_clone)
+        (under K.cmp (lookup K.cmp (T.tree tree.now)) prefix.now) (lookup K.cmp (T.tree made))) }
+{
+    let alloc = tree.allocator();
+    let Some((front, node)) = find_under(tree, prefix) else {
+        return Ok(T::blank(alloc, Seal::new()));
+    };
+    canonical(node);
+    if is_empty(node) {
+        return Ok(T::blank(alloc, Seal::new()));
+    }
+    new_joined(alloc, front, copy_tree(node)?)
+}

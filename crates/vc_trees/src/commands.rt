@@ -1,0 +1,97 @@
+//! Commands on a tree, and runs of them.
+
+ghost use Rattle.std.specs.Prelude.{◌≡◌, length, map, true, OnOk, OnErr};
+ghost use Rattle.vc_trees.specs.Commanded.{command_of};
+ghost use Rattle.vc_tree_model.specs.Canonical.{IsCanonical};
+ghost use Rattle.vc_tree_model.specs.Machine.{Run, after, refused};
+ghost use Rattle.vc_tree_model.specs.Map.{lookup, IsEqualMap};
+ghost use Rattle.vc_tree_model.specs.OneTree.{IsOneTree, IsSmallest};
+ghost use Rattle.vc_tree_model.specs.Under.{under};
+ghost use Rattle.vc_tree_model.specs.Value.{Copies};
+
+use crate::radix_tree::{AbstractRadixTreeMut, TKey, TValue};
+use std::alloc::AllocError;
+use vc_tree_nodes::reading::canonical;
+
+/// A change of a tree, by a key and a value, by a prefix, or by another tree.
+#[derive(Drop)]
+pub enum TreeCommand<K, V, T> {
+    /// Binds the key to the value.
+    Insert(Vec<K>, V),
+    /// Puts the components before each key.
+    Prepend(Vec<K>),
+    /// Keeps the keys that start with the prefix.
+    Filter(Vec<K>),
+    /// Adds the keys that the other tree alone binds.
+    Union(T),
+    /// Keeps the keys that both trees bind.
+    Intersection(T),
+    /// Keeps the keys that the other tree does not bind.
+    Difference(T),
+    /// Removes the keys of which some key of the other tree is a prefix.
+    RemovePrefix(T),
+    /// Keeps the keys of which some key of the other tree is a prefix.
+    RetainPrefix(T),
+}
+
+/// Puts the tree of the keys that start with the prefix in the tree's place. A refusal leaves the tree as it was.
+fn filter<K: TKey, V: TValue, T: AbstractRadixTreeMut<K, V>>(
+    tree: &mut T,
+    prefix: &[K],
+) -> Result<(), AllocError>
+    ensures ok { OnOk result (IsEqualMap (Copies V.is_clone)
+        (under K.cmp (lookup K.cmp (T.tree tree.old)) prefix.now) (lookup K.cmp (T.tree tree.new))) }
+    ensures err { OnErr result (T.tree tree.new ≡ T.tree tree.old) }
+{
+    *tree = tree.filter_prefix(prefix)?;
+    Ok(())
+}
+
+/// Does one command on the tree. What the command brought is dropped.
+#[tactic(auto, using(crate::proofs::Obeying::joined_at))]
+fn obey<K: TKey, V: TValue, T: AbstractRadixTreeMut<K, V>>(
+    tree: &mut T,
+    command: TreeCommand<K, V, T>,
+) -> Result<(), AllocError>
+    ensures ok { OnOk result (IsEqualMap (Copies V.is_clone)
+        (after K.cmp (command_of T.tree command) (lookup K.cmp (T.tree tree.old))) (lookup K.cmp (T.tree tree.new))) }
+    ensures err { OnErr result (IsEqualMap (Copies V.is_clone)
+        (refused K.cmp (command_of T.tree command) (lookup K.cmp (T.tree tree.old))) (lookup K.cmp (T.tree tree.new))) }
+{
+    let admit = |_: &V| -> bool
+        ensures { result ≡ true }
+    { true };
+    match command {
+        TreeCommand::Insert(key, value) => tree.insert(key.as_slice(), value),
+        TreeCommand::Prepend(prefix) => tree.prepend(prefix.as_slice()),
+        TreeCommand::Filter(prefix) => filter(tree, prefix.as_slice()),
+        TreeCommand::Union(that) => tree.union_with(&that),
+        TreeCommand::Intersection(that) => tree.intersection_with(&that),
+        TreeCommand::Difference(that) => tree.difference_with(&that),
+        TreeCommand::RemovePrefix(that) => tree.remove_prefix_with(&that, admit),
+        TreeCommand::RetainPrefix(that) => tree.retain_prefix_with(&that, admit),
+    }
+}
+
+/// Does the commands on the tree, one after another, and says of each whether it was accepted. One that is refused does not stop the
+/// run.
+///
+/// A command is refused only where memory is, or the clone of a value: by an insert, a prefix or a filter the tree then binds what it
+/// bound, and by another tree it is empty. What a command brought is dropped once it was done.
+pub fn run<K: TKey, V: TValue, T: AbstractRadixTreeMut<K, V>>(
+    tree: &mut T,
+    commands: Vec<TreeCommand<K, V, T>>,
+    accepted: &mut [bool],
+)
+    requires { length accepted.old ≡ length commands.items }
+    ensures steps { Run K.cmp (Copies V.is_clone) (lookup K.cmp (T.tree tree.old)) (map (command_of T.tree) commands.items) accepted.new
+        (lookup K.cmp (T.tree tree.new)) }
+    ensures canonical { IsCanonical K.cmp (T.tree tree.new) }
+    ensures one { IsOneTree K.cmp (Copies V.is_clone) (T.tree tree.new) }
+    ensures smallest { IsSmallest K.cmp (Copies V.is_clone) (T.tree tree.new) }
+{
+    for (at, command) in commands.into_iter().enumerate() {
+        accepted[at] = obey(tree, command).is_ok();
+    }
+    canonical(tree);
+}
