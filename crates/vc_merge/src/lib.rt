@@ -1,7 +1,6 @@
 //! The merge of two ascending lists, event by event, and what stands around it.
 #![tactic(auto)]
 
-pub mod inplace;
 pub mod iterators;
 pub mod laws;
 mod linear;
