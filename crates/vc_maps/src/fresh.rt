@@ -12,7 +12,7 @@ ghost use Rattle.vc_maps.specs.Asking.{AtHeads};
 ghost use Rattle.vc_merge.specs.Count.{bound};
 ghost use Rattle.vc_merge.specs.Gathering.{Adds, Appends};
 ghost use Rattle.vc_merge.specs.Building.{Skips};
-ghost use Rattle.vc_sets.specs.SetOf.{ClonesAreEqual};
+ghost use Rattle.vc_merge.specs.Clones.{ClonesAreEqual};
 
 use crate::join::{JoinOp, JoinState};
 use smallvec::SmallVec;

@@ -14,7 +14,7 @@ ghost use Rattle.vc_merge.specs.Count.{bound};
 ghost use Rattle.vc_merge.specs.Gathering.{Adds, Appends};
 ghost use Rattle.vc_merge.specs.Building.{Skips};
 ghost use Rattle.vc_merge.specs.PartsViews.{built_items, left_items, right_items, list_name, built_at, left_at, right_at};
-ghost use Rattle.vc_sets.specs.SetOf.{ClonesAreEqual};
+ghost use Rattle.vc_merge.specs.Clones.{ClonesAreEqual};
 
 use crate::join::{JoinOp, JoinState};
 use smallvec::SmallVec;

@@ -2,7 +2,6 @@ pub mod Builds
 pub mod Chains
 pub mod Digits
 pub mod Extending
-pub mod Lists
 pub mod PlaceLemmas
 pub mod Runs
 pub mod Scripts
@@ -14,3 +13,9 @@ pub mod OneScript
 pub mod OneList
 pub mod Running
 mod Examples
+pub mod ListLemmas
+pub mod Clones
+pub mod Chosen
+pub mod Keeping
+pub mod Parted
+pub mod Retained

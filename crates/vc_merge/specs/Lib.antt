@@ -17,3 +17,5 @@ pub mod Shifts
 pub mod Showing
 pub mod Yielded
 pub mod Takes
+pub mod Clones
+pub mod Retaining

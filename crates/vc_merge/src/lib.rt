@@ -4,6 +4,7 @@
 pub mod iterators;
 pub mod laws;
 mod linear;
+pub mod lists;
 pub mod merge;
 pub mod moving;
 pub mod parts;

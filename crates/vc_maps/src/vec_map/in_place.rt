@@ -4,7 +4,7 @@ ghost use Rattle.vc_joins.specs.InPlace.{handed, handed_left, handed_right, hand
 ghost use Rattle.vc_joins.specs.Join.{IsAsked, IsJoin, IsJoinBy, OldKey};
 ghost use Rattle.vc_joins.specs.Question.{asks, asks_right, left_spelling};
 ghost use Rattle.vc_merge.specs.Count.{bound};
-ghost use Rattle.vc_sets.specs.SetOf.{ClonesAreEqual};
+ghost use Rattle.vc_merge.specs.Clones.{ClonesAreEqual};
 
 use super::{AbstractVecMap, VecMap};
 use crate::in_place::join;

@@ -4,7 +4,7 @@ ghost use Rattle.vc_joins.specs.Answers.{seen, seen_left, seen_right, seen_inner
 ghost use Rattle.vc_joins.specs.Join.{ClonedKey, IsAsked, IsJoin, IsJoinBy};
 ghost use Rattle.vc_joins.specs.Question.{left_spelling};
 ghost use Rattle.vc_merge.specs.Count.{bound};
-ghost use Rattle.vc_sets.specs.SetOf.{ClonesAreEqual};
+ghost use Rattle.vc_merge.specs.Clones.{ClonesAreEqual};
 
 use super::{AbstractVecMap, VecMap};
 use crate::fresh::{join, join_inner, join_left, join_outer, join_right, outer_question};

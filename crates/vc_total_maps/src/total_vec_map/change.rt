@@ -2,7 +2,7 @@
 ghost use Rattle.std.specs.Prelude.{◌≡◌, [], Ok, IfOk};
 ghost use Rattle.std.specs.Fn.{FnReturnsAt};
 ghost use Rattle.vc_joins.specs.Entries.{AscendsByKey};
-ghost use Rattle.vc_sets.specs.SetOf.{ClonesAreEqual};
+ghost use Rattle.vc_merge.specs.Clones.{ClonesAreEqual};
 ghost use Rattle.vc_total_maps.specs.CombinedTotals.{HoldsEverywhere};
 ghost use Rattle.vc_total_maps.specs.MappedTotals.{HoldsOfEach, IsMapped, CanOnClone, GivesOnClone};
 ghost use Rattle.vc_total_maps.specs.TotalMap.{total_map};

@@ -5,7 +5,7 @@ ghost use Rattle.std.specs.Ordering.{max_by_ordering, min_by_ordering};
 ghost use Rattle.vc_joins.specs.Entries.{AscendsByKey};
 ghost use Rattle.vc_joins.specs.Join.{IsAsked};
 ghost use Rattle.vc_joins.specs.Question.{left_spelling};
-ghost use Rattle.vc_sets.specs.SetOf.{ClonesAreEqual};
+ghost use Rattle.vc_merge.specs.Clones.{ClonesAreEqual};
 ghost use Rattle.vc_total_maps.specs.Asking.{left_value, right_value, MayPlace};
 ghost use Rattle.vc_total_maps.specs.CombinedTotals.{HoldsEverywhere, IsCombined};
 ghost use Rattle.vc_total_maps.specs.TotalMap.{total_map};

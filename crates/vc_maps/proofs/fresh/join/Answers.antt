@@ -1,6 +1,6 @@
 use Rattle.std.proofs.Common.{Ok, ap, arith}
 use Rattle.vc_joins.specs.Question.{shown_key}
-use Rattle.vc_sets.proofs.Clones.{clone-equal}
+use Rattle.vc_merge.proofs.Clones.{clone-equal}
 use Rattle.vc_maps.specs.FreshViews.{appended_pairs, list_name}
 use Rattle.vc_maps.proofs.Asked.{both-ascend, can-ask}
 use Rattle.vc_maps.proofs.Joined.{merged-join}

@@ -1,6 +1,6 @@
 use Rattle.std.specs.Fn.{CalledAt}
-use Rattle.vc_sets.proofs.Keeping.{KeepsInFront}
-use Rattle.vc_sets.proofs.vec_set.removal.keep_in_front.Given as goal
+use Rattle.vc_merge.proofs.Keeping.{KeepsInFront}
+use Rattle.vc_merge.proofs.lists.keep_in_front.Given as goal
 
 abbrev pub invariant-elements : goal.invariant-elements
 invariant-elements g l = record {

@@ -1,10 +1,10 @@
--- What a test leaves of a set.
+-- What a test leaves of a list.
 use Rattle.std.specs.Prelude.{◌≡◌, Bool, cond, Option, Some, None}
 
 -- where an element stood, the test was called at it, and it stays if the answer was true; where none stood, none stands
-abbrev pub IsAsked : {F X : Type 0} → (F → X → Bool → F → Type 0) → Option X → Option X → Type 0
-IsAsked {F} calls (Some x) kept = (before : F) × (after : F) × (answer : Bool) × calls before x answer after × (kept ≡ cond answer (Some x) None)
-IsAsked calls None kept = kept ≡ None
+abbrev pub IsRetained : {F X : Type 0} → (F → X → Bool → F → Type 0) → Option X → Option X → Type 0
+IsRetained {F} calls (Some x) kept = (before : F) × (after : F) × (answer : Bool) × calls before x answer after × (kept ≡ cond answer (Some x) None)
+IsRetained calls None kept = kept ≡ None
 
 -- each call of the test f answers as `test` does, and leaves f as it was
 abbrev pub AnswersAs : {F X : Type 0} → (F → X → Bool → F → Type 0) → F → (X → Bool) → Type 0

@@ -1,8 +1,8 @@
 use Rattle.std.proofs.Common.{◌<◌, Bool, length, sym, subst, arith, rules, of_calls}
 use Rattle.std.specs.Fn.{CalledAt}
-use Rattle.vc_sets.proofs.Keeping.{KeepsInFront-start, KeepsInFront-refused, KeepsInFront-accepted, KeepsInFront-all}
-use Rattle.vc_sets.proofs.vec_set.removal.keep_in_front.Goals as goal
-use Rattle.vc_sets.proofs.vec_set.removal.keep_in_front.Goals.{then-f, else-f}
+use Rattle.vc_merge.proofs.Keeping.{KeepsInFront-start, KeepsInFront-refused, KeepsInFront-accepted, KeepsInFront-all}
+use Rattle.vc_merge.proofs.lists.keep_in_front.Goals as goal
+use Rattle.vc_merge.proofs.lists.keep_in_front.Goals.{then-f, else-f}
 
 pub elements-init : goal.elements-init
 elements-init g c = record { callable = c.requires; keeps = KeepsInFront-start (CalledAt g.F.FnMut) c.args.f c.args.list.now }

@@ -1,7 +1,7 @@
 use Rattle.std.proofs.Common.{◌≡◌, ◌++◌, length}
 use Rattle.std.specs.Vec.Iter.{into_iter_items}
 use Rattle.smallvec.specs.SmallVec.{HasRoomFor}
-use Rattle.vc_sets.proofs.vec_set.in_place.append_moved.Given as goal
+use Rattle.vc_merge.proofs.lists.append_moved.Given as goal
 
 abbrev pub invariant-loop-item : goal.invariant-loop-item
 invariant-loop-item g l = record {
