@@ -10,8 +10,8 @@ ghost use Rattle.vc_merge.specs.Clones.{ClonesAreEqual};
 use super::VecMap;
 use std::alloc::{AllocError, Allocator};
 use std::default::MadeWith;
-use vc_merge::states::clones_of;
 use vc_merge::lists::keep_in_front;
+use vc_merge::states::clones_of;
 
 impl<K: Ord + Drop, V: Drop, const N: usize, A: Allocator + Copy> VecMap<K, V, N, A>
 where
