@@ -16,7 +16,7 @@ use Rattle.vc_merge.specs.Both.{Both, Follows}
 use Rattle.vc_merge.specs.Place.{IsOrdered, IsFound, IsGap, IsPlace}
 use Rattle.vc_merge.specs.Building.{Extends, Built, Advances, Skips}
 use Rattle.vc_merge.specs.Gathering.{Gathers, GivesIf, Appends, IsBuilt, IsBuilding}
-use Rattle.vc_merge.specs.Builder.{builder, with_rest}
+use Rattle.vc_builder.specs.Builder.{builder, with_rest}
 use Rattle.vc_merge.specs.Yielded.{Calls, AscendsAlong, gives_ascending, list-along}
 use Rattle.definition_tests.proofs.Digits.{same, not_true}
 

@@ -4,10 +4,11 @@ use Rattle.std.proofs.Common.{sym, ap}
 use Rattle.std.specs.List.Sorted.{IsStrictlySortedBy}
 use Rattle.std.specs.Ordering.{nat_cmp}
 use Rattle.vc_merge.specs.Ascending.{Ascends}
-use Rattle.vc_sets.specs.SetOf.{ClonesAreEqual, Keeps, IsSetOf, and_not, exactly_one}
+use Rattle.vc_merge.specs.Clones.{ClonesAreEqual}
+use Rattle.vc_sets.specs.SetOf.{Keeps, IsSetOf, and_not, exactly_one}
 use Rattle.vc_sets.specs.Tests.{IsDisjoint, IsSubset}
 use Rattle.vc_sets.specs.Algebra.{made_by, IsTestedBy}
-use Rattle.vc_sets.specs.Retaining.{IsAsked, AnswersAs}
+use Rattle.vc_merge.specs.Retaining.{IsRetained, AnswersAs}
 use Rattle.vc_sets.specs.declared.vec_set.algebra.SetOp.TheVariants.{Difference, SymmetricDifference}
 use Rattle.vc_sets.specs.declared.vec_set.algebra.SetTest.TheVariants.{Superset}
 use Rattle.definition_tests.proofs.Digits.{one, three, five, order, each, same, not_true, not_equal}
@@ -73,10 +74,10 @@ abbrev at_least_three : Unit {0} → ℕ → Bool → Unit {0} → Type 0
 at_least_three before x answer after = answer ≡ nat_le 3 x
 
 -- by it 1 goes and 3 stays
-one_goes : IsAsked at_least_three (Some 1) None
+one_goes : IsRetained at_least_three (Some 1) None
 one_goes = (tt, tt, false, refl, refl)
 
-three_stays : IsAsked at_least_three (Some 3) (Some 3)
+three_stays : IsRetained at_least_three (Some 3) (Some 3)
 three_stays = (tt, tt, true, refl, refl)
 
 -- it answers as the function does

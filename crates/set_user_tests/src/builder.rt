@@ -5,7 +5,7 @@ use smallvec::SmallVec;
 use std::alloc::{AllocError, Global};
 use std::rc::Rc;
 use std::test::*;
-use vc_merge::inplace::{InPlace, close, open};
+use vc_builder::inplace::{InPlace, close, open};
 
 /// Builds in front of what is left of a list: the room that is left on the way, and what was built.
 fn build(alloc: Global) -> Result<([usize; 2], Vec<u32>), AllocError> {

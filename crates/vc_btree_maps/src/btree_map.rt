@@ -47,7 +47,7 @@ pub trait AbstractBTreeMap<K: Ord, V> {
     ghost use Rattle.vc_joins.specs.Join.{IsAsked, IsJoin, IsJoinBy};
     ghost use Rattle.vc_joins.specs.Question.{left_spelling, right_spelling, shown_key};
     ghost use Rattle.vc_joins.specs.declared.question.JoinKind.TheVariants as kind;
-    ghost use Rattle.vc_sets.specs.SetOf.{ClonesAreEqual};
+    ghost use Rattle.vc_merge.specs.Clones.{ClonesAreEqual};
 
     ghost pairs: { Self → List (K × V) };
 
@@ -164,7 +164,7 @@ pub trait InPlaceRelationalOps<K: Ord, V>: AbstractBTreeMap<K, V> {
     ghost use Rattle.vc_joins.specs.Question.{left_spelling, right_spelling};
     ghost use Rattle.vc_btree_maps.specs.Keeping.{at_pair, MayLeave, MayLeaveShared, MayGive, OrStays, OrGives, StayedKey, StayedOrCloned, IsGrown};
     ghost use Rattle.std.specs.Option.{option_copied};
-    ghost use Rattle.vc_sets.specs.SetOf.{ClonesAreEqual};
+    ghost use Rattle.vc_merge.specs.Clones.{ClonesAreEqual};
 
     /// Asks `f` at each key of both maps, which may write to the value, and keeps the value where it answers true. All others are dropped.
     ///

@@ -11,7 +11,7 @@ use Rattle.std.specs.declared.cmp.Ordering.{Ordering}
 use Rattle.std.specs.declared.cmp.Ordering.TheVariants.{Less, Equal}
 use Rattle.vc_merge.specs.Ascending.{Ascends}
 use Rattle.vc_merge.specs.Script.{Event, left_alone, right_alone, collision, lefts, rights, place, IsMatched, IsScript}
-use Rattle.vc_merge.proofs.Lists.{each-weaker}
+use Rattle.vc_merge.proofs.ListLemmas.{each-weaker}
 use Rattle.vc_merge.specs.Gathering.{Gathers, IsBuilt}
 use Rattle.vc_joins.specs.declared.question.OuterJoinArg.{OuterJoinArg}
 use Rattle.vc_joins.specs.declared.question.JoinKind.{JoinKind}

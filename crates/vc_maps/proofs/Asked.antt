@@ -10,7 +10,7 @@ use Rattle.vc_merge.specs.Ascending.{Ascends}
 use Rattle.vc_merge.specs.Chain.{Answer}
 use Rattle.vc_merge.specs.Fronts.{LeftBelow, RightBelow, HeadsCompare}
 use Rattle.vc_merge.specs.Script.{Event, left_alone, right_alone, collision, IsScript, BothAscend}
-use Rattle.vc_merge.proofs.Lists.{ascends-append, pairs-ascend}
+use Rattle.vc_merge.proofs.ListLemmas.{ascends-append, pairs-ascend}
 use Rattle.vc_merge.proofs.Scripts.{put-lefts, put-rights, put-both, some-script}
 use Rattle.vc_joins.specs.declared.question.OuterJoinArg.{OuterJoinArg}
 use Rattle.vc_joins.specs.declared.question.OuterJoinArg.TheVariants.{Left, Right, Both}

@@ -12,7 +12,7 @@ use Rattle.std.specs.declared.cmp.Ordering.TheVariants.{Less, Equal, Greater}
 use Rattle.vc_merge.specs.Ascending.{Ascends}
 use Rattle.vc_merge.specs.Place.{IsFound, IsGap}
 use Rattle.vc_merge.specs.Yielded.{by_first, keys-ascend}
-use Rattle.vc_merge.proofs.Lists.{pairs-ascend}
+use Rattle.vc_merge.proofs.ListLemmas.{pairs-ascend}
 use Rattle.vc_joins.specs.Entries.{AscendsByKey, entry_at, value_at}
 use Rattle.vc_joins.proofs.Functions.{value-entry}
 

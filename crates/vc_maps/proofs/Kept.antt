@@ -13,8 +13,8 @@ use Rattle.vc_joins.specs.declared.question.JoinKind.{JoinKind}
 use Rattle.vc_joins.specs.declared.question.JoinKind.TheVariants as kind
 use Rattle.vc_joins.specs.Join.{OldKey, IsJoin}
 use Rattle.vc_joins.specs.Question.{asks, asks_right, shown_key, left_spelling}
-use Rattle.vc_sets.specs.SetOf.{ClonesAreEqual}
-use Rattle.vc_sets.proofs.Clones.{clone-equal}
+use Rattle.vc_merge.specs.Clones.{ClonesAreEqual}
+use Rattle.vc_merge.proofs.Clones.{clone-equal}
 use Rattle.vc_maps.proofs.Asking.{join-of}
 use Rattle.std.proofs.lemmas.List.{take_more, length-take-le}
 use Rattle.vc_merge.specs.Gathering.{Appends}

@@ -11,11 +11,11 @@ use Rattle.std.specs.declared.cmp.Ordering.TheVariants.{Less, Equal, Greater}
 use Rattle.std.proofs.lemmas.Cmp.{on_total}
 use Rattle.vc_merge.specs.Ascending.{element_at}
 use Rattle.vc_merge.specs.Yielded.{by_first, keys-ascend}
-use Rattle.vc_merge.proofs.Lists.{pairs-ascend}
+use Rattle.vc_merge.proofs.ListLemmas.{pairs-ascend}
 use Rattle.vc_joins.specs.Entries.{AscendsByKey, entry_at}
-use Rattle.vc_sets.specs.Retaining.{IsAsked}
-use Rattle.vc_sets.proofs.Removing.{ascends-chosen}
-use Rattle.vc_sets.proofs.Retained.{asked}
+use Rattle.vc_merge.specs.Retaining.{IsRetained}
+use Rattle.vc_merge.proofs.Chosen.{ascends-chosen}
+use Rattle.vc_merge.proofs.Retained.{asked}
 
 reversed-is_eq : (o : Ordering) → is_eq (ordering_reverse o) ≡ is_eq o
 reversed-is_eq Less = refl
@@ -37,11 +37,11 @@ module _ {K V : Type 0} (cmp : K → K → Ordering) (total : IsTotalOrder cmp) 
       ap (λ b. cond b (Some e) (entry_at cmp es k)) same ∙ ap (λ o. cond (eq_by_cmp (by_first cmp) e (k, v)) (Some e) o) (entry-element es k v)
 
   module _ {F : Type 0} (calls : F → K × V → Bool → F → Type 0) where
-    pub entries-asked : (f : F) (xs ys : List (K × V)) → AscendsByKey cmp xs → IsFiltered calls f xs ys → (k : K) → IsAsked calls (entry_at cmp xs k) (entry_at cmp ys k)
+    pub entries-asked : (f : F) (xs ys : List (K × V)) → AscendsByKey cmp xs → IsFiltered calls f xs ys → (k : K) → IsRetained calls (entry_at cmp xs k) (entry_at cmp ys k)
     entries-asked f [] ys p h k = ap (λ l. entry_at cmp l k) (none-left h.0 ys h.4)
     entries-asked f (x ∷ xs) ys p h k =
-        subst (λ o. IsAsked calls o (entry_at cmp ys k)) (sym (entry-element (x ∷ xs) k x.1))
-        (subst (λ o. IsAsked calls (element_at (by_first cmp) (x ∷ xs) (k, x.1)) o) (sym (entry-element ys k x.1))
+        subst (λ o. IsRetained calls o (entry_at cmp ys k)) (sym (entry-element (x ∷ xs) k x.1))
+        (subst (λ o. IsRetained calls (element_at (by_first cmp) (x ∷ xs) (k, x.1)) o) (sym (entry-element ys k x.1))
         (asked (by_first cmp) (on_total (λ p. p.0) total) calls f (x ∷ xs) ys (pairs-ascend cmp (x ∷ xs) p) h (k, x.1)))
 
   pub chosen-ascends : (bs : List Bool) (xs : List (K × V)) → AscendsByKey cmp xs → AscendsByKey cmp (items_where_true bs xs)

@@ -6,6 +6,7 @@ use Rattle.vc_merge.specs.Script.{Event, IsScript}
 use Rattle.vc_joins.specs.declared.question.OuterJoinArg.{OuterJoinArg}
 use Rattle.vc_joins.specs.declared.question.JoinKind.{JoinKind}
 use Rattle.vc_joins.specs.Events.{by_key, question_of}
+use Rattle.vc_joins.specs.Join.{IsAsked}
 use Rattle.vc_joins.specs.Question.{asks, left_spelling}
 
 -- both lists have a first element, and P holds of these
@@ -15,6 +16,10 @@ AtHeads P (x ∷ xs) [] = ⊥
 AtHeads P (x ∷ xs) (y ∷ ys) = P x y
 
 module _ {K V W : Type 0} (cmp : K → K → Ordering) (kind : JoinKind) (Takes : OuterJoinArg K V W → Type 0) where
+  -- each question that the join of two lists asks may be asked: one of its kind, at a key of theirs
+  abbrev pub TakesEach : List (K × V) → List (K × W) → Type 0
+  TakesEach xs ys = (a : OuterJoinArg K V W) → IsAsked cmp kind left_spelling xs ys a → asks kind a ≡ true → Takes a
+
   -- the question of an event may be asked, where the join asks it
   abbrev pub MayAsk : Event (K × V) (K × W) → Type 0
   MayAsk e = asks kind (question_of left_spelling e) ≡ true → Takes (question_of left_spelling e)

@@ -17,9 +17,9 @@ use smallvec::SmallVec;
 use std::alloc::{AllocError, Allocator};
 use std::default::MadeWith;
 use vc_joins::question::JoinKind;
+use vc_merge::lists::append_moved;
 use vc_merge::merge::{MergeFromRight, MergeState, MergeStateMut, Uncounted, merge};
 use vc_merge::parts::{PartsState, Spans, open_gap};
-use vc_sets::vec_set::in_place::append_moved;
 
 /// A closure that makes one value of the two that stand at a key of both maps. A value of one map alone stays.
 #[derive(Drop)]

@@ -1,5 +1,5 @@
 //! Joins that build a fresh list: the pairs of both maps are shown, and each answer stands under a clone of the key that was shown.
-ghost use Rattle.std.specs.Prelude.{◌≡◌, ◌+◌, ◌≤◌, true, [], ◌∷◌, ◌++◌, List, Ok, Some, take, drop, length, IfOk, OnOk};
+ghost use Rattle.std.specs.Prelude.{◌≡◌, ◌+◌, ◌≤◌, [], ◌∷◌, ◌++◌, List, Ok, Some, take, length, IfOk, OnOk};
 ghost use Rattle.std.specs.List.{AllByRecursion};
 ghost use Rattle.std.specs.Option.{MatchOption};
 ghost use Rattle.vc_joins.specs.declared.question.OuterJoinArg.TheVariants as arg;
@@ -7,12 +7,12 @@ ghost use Rattle.vc_joins.specs.Answers.{seen, seen_left, seen_right, seen_inner
 ghost use Rattle.vc_joins.specs.Entries.{AscendsByKey};
 ghost use Rattle.vc_joins.specs.Events.{AnswerAdds};
 ghost use Rattle.vc_joins.specs.Join.{ClonedKey, IsAsked, IsJoin};
-ghost use Rattle.vc_joins.specs.Question.{asks, left_spelling};
-ghost use Rattle.vc_maps.specs.Asking.{AtHeads};
+ghost use Rattle.vc_joins.specs.Question.{left_spelling};
+ghost use Rattle.vc_maps.specs.Asking.{AtHeads, TakesEach};
 ghost use Rattle.vc_merge.specs.Count.{bound};
 ghost use Rattle.vc_merge.specs.Gathering.{Adds, Appends};
 ghost use Rattle.vc_merge.specs.Building.{Skips};
-ghost use Rattle.vc_sets.specs.SetOf.{ClonesAreEqual};
+ghost use Rattle.vc_merge.specs.Clones.{ClonesAreEqual};
 
 use crate::join::{JoinOp, JoinState};
 use smallvec::SmallVec;
@@ -277,7 +277,7 @@ where
     requires this_ascends { AscendsByKey K.cmp this.now }
     requires that_ascends { AscendsByKey K.cmp that.now }
     requires clones { ClonesAreEqual K.cmp K.is_clone }
-    requires takes { (a : _) → IsAsked K.cmp kind left_spelling this.now that.now a → Q.takes question.now a }
+    requires takes { TakesEach K.cmp kind (Q.takes question.now) this.now that.now }
     ensures joins { IfOk result (λ v. IsJoin K.cmp kind left_spelling this.now that.now (λ a r. Q.may question.now a (Ok r)) (ClonedKey K.is_clone) v.items) }
     ensures counted { C.counted steps.new ≤ C.counted steps.old + bound (length this.now) (length that.now) }
 {
@@ -331,12 +331,7 @@ where
     requires callable { (a : _) → IsAsked K.cmp JoinKind.Outer left_spelling this.now that.now (seen a) → F.pre f.now a }
     ensures joins { IfOk result (λ v. IsJoin K.cmp JoinKind.Outer left_spelling this.now that.now (λ a r. MayAnswer F.Fn f.now a (Ok r)) (ClonedKey K.is_clone) v.items) }
 {
-    join_asking(
-        alloc,
-        this,
-        that,
-        &outer_question(this, that, JoinKind::Outer, f),
-    )
+    join_asking(alloc, this, that, &AskOuter(f))
 }
 
 /// The left join by a closure.
@@ -362,7 +357,7 @@ where
         this,
         that,
         JoinKind::Left,
-        &left_question(this, that, f),
+        &AskLeft(f),
         &mut Uncounted,
     )
 }
@@ -390,7 +385,7 @@ where
         this,
         that,
         JoinKind::Right,
-        &right_question(this, that, f),
+        &AskRight(f),
         &mut Uncounted,
     )
 }
@@ -418,63 +413,7 @@ where
         this,
         that,
         JoinKind::Inner,
-        &inner_question(this, that, f),
+        &AskInner(f),
         &mut Uncounted,
     )
-}
-
-// Each of these says that a closure may be asked all that a join of two lists asks, where it may be called at that. A call of a join with
-// the closure itself would have to say so beside the size of what the join builds, which takes the checker a minute.
-
-/// The closure of an outer join, or of one that is asked as that is.
-pub fn outer_question<'f, K: Ord, V, W, R, F: Fn(OuterJoinArg<&K, &V, &W>) -> R>(
-    _this: &[(K, V)],
-    _that: &[(K, W)],
-    _kind: JoinKind,
-    f: &'f F,
-) -> AskOuter<'f, F>
-    requires callable { (a : _) → IsAsked K.cmp _kind left_spelling _this.now _that.now (seen a) → F.pre f.now a }
-    ensures same { result.0.now ≡ f.now }
-    ensures takes { (a : _) → IsAsked K.cmp _kind left_spelling _this.now _that.now a → (shown : _) → seen shown ≡ a → F.pre result.0.now shown }
-{
-    AskOuter(f)
-}
-
-/// The closure of a left join.
-fn left_question<'f, K: Ord, V, W, R, F: Fn(&K, &V, Option<&W>) -> R>(
-    _this: &[(K, V)],
-    _that: &[(K, W)],
-    f: &'f F,
-) -> AskLeft<'f, F>
-    requires callable { (k : _) (v : _) (w : _) → IsAsked K.cmp JoinKind.Left left_spelling _this.now _that.now (seen_left k v w) → F.pre f.now k v w }
-    ensures same { result.0.now ≡ f.now }
-    ensures takes { (a : _) → IsAsked K.cmp JoinKind.Left left_spelling _this.now _that.now a → (asks JoinKind.Left a ≡ true) × ((k : _) (v : _) (w : _) → seen_left k v w ≡ a → F.pre result.0.now k v w) }
-{
-    AskLeft(f)
-}
-
-/// The closure of a right join.
-fn right_question<'f, K: Ord, V, W, R, F: Fn(&K, Option<&V>, &W) -> R>(
-    _this: &[(K, V)],
-    _that: &[(K, W)],
-    f: &'f F,
-) -> AskRight<'f, F>
-    requires callable { (k : _) (v : _) (w : _) → IsAsked K.cmp JoinKind.Right left_spelling _this.now _that.now (seen_right k v w) → F.pre f.now k v w }
-    ensures same { result.0.now ≡ f.now }
-    ensures takes { (a : _) → IsAsked K.cmp JoinKind.Right left_spelling _this.now _that.now a → (asks JoinKind.Right a ≡ true) × ((k : _) (v : _) (w : _) → seen_right k v w ≡ a → F.pre result.0.now k v w) }
-{
-    AskRight(f)
-}
-
-/// The closure of an inner join.
-fn inner_question<'f, K: Ord, V, W, R, F: Fn(&K, &V, &W) -> R>(
-    _this: &[(K, V)],
-    _that: &[(K, W)],
-    f: &'f F,
-) -> AskInner<'f, F>
-    requires callable { (k : _) (v : _) (w : _) → IsAsked K.cmp JoinKind.Inner left_spelling _this.now _that.now (seen_inner k v w) → F.pre f.now k v w }
-    ensures same { result.0.now ≡ f.now }
-    ensures takes { (a : _) → IsAsked K.cmp JoinKind.Inner left_spelling _this.now _that.now a → (asks JoinKind.Inner a ≡ true) × ((k : _) (v : _) (w : _) → seen_inner k v w ≡ a → F.pre result.0.now k v w) }
-{
-    AskInner(f)
 }

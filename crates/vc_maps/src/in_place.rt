@@ -6,15 +6,15 @@ ghost use Rattle.std.specs.Option.{MatchOption};
 ghost use Rattle.vc_joins.specs.declared.question.OuterJoinArg.TheVariants as arg;
 ghost use Rattle.vc_joins.specs.Entries.{AscendsByKey};
 ghost use Rattle.vc_joins.specs.Events.{AnswerAdds};
-ghost use Rattle.vc_joins.specs.Join.{IsAsked, IsJoin, OldKey};
+ghost use Rattle.vc_joins.specs.Join.{IsJoin, OldKey};
 ghost use Rattle.vc_joins.specs.Question.{asks_right, left_spelling};
-ghost use Rattle.vc_maps.specs.Asking.{AtHeads};
+ghost use Rattle.vc_maps.specs.Asking.{AtHeads, TakesEach};
 ghost use Rattle.vc_maps.specs.Keeping.{has_keys, HaveKeys, ClonesKeys, MayAskWith};
 ghost use Rattle.vc_merge.specs.Count.{bound};
 ghost use Rattle.vc_merge.specs.Gathering.{Adds, Appends};
 ghost use Rattle.vc_merge.specs.Building.{Skips};
 ghost use Rattle.vc_merge.specs.PartsViews.{built_items, left_items, right_items, list_name, built_at, left_at, right_at};
-ghost use Rattle.vc_sets.specs.SetOf.{ClonesAreEqual};
+ghost use Rattle.vc_merge.specs.Clones.{ClonesAreEqual};
 
 use crate::join::{JoinOp, JoinState};
 use smallvec::SmallVec;
@@ -391,7 +391,7 @@ where
     requires this_ascends { AscendsByKey K.cmp (take end list.old) }
     requires that_ascends { AscendsByKey K.cmp right.now }
     requires clones { asks_right op.now.kind ≡ true → ClonesAreEqual K.cmp K.is_clone × HaveKeys K.is_clone right.now (drop next list.old) }
-    requires takes { (a : _) → IsAsked K.cmp op.now.kind left_spelling (take end list.old) right.now a → Q.takes op.now.question.now a }
+    requires takes { TakesEach K.cmp op.now.kind (Q.takes op.now.question.now) (take end list.old) right.now }
     ensures joins { IsJoin K.cmp op.now.kind left_spelling (take end list.old) right.now (Q.may op.now.question.now) (OldKey K.is_clone) (take result list.new) }
     ensures counted { C.counted steps.new ≤ C.counted steps.old + bound (length (take end list.old)) (length right.now) }
 {
@@ -467,7 +467,7 @@ where
     requires kind { asks_right kind ≡ false }
     requires this_ascends { AscendsByKey K.cmp list.old.items }
     requires that_ascends { AscendsByKey K.cmp that.now }
-    requires takes { (a : _) → IsAsked K.cmp kind left_spelling list.old.items that.now a → Q.takes question.now a }
+    requires takes { TakesEach K.cmp kind (Q.takes question.now) list.old.items that.now }
     ensures joins { IsJoin K.cmp kind left_spelling list.old.items that.now (Q.may question.now) (OldKey K.is_clone) list.new.items }
     ensures counted { C.counted steps.new ≤ C.counted steps.old + bound (length list.old.items) (length that.now) }
 {
@@ -509,7 +509,7 @@ where
     requires this_ascends { AscendsByKey K.cmp list.old.items }
     requires that_ascends { AscendsByKey K.cmp that.now }
     requires clones { ClonesAreEqual K.cmp K.is_clone }
-    requires takes { (a : _) → IsAsked K.cmp kind left_spelling list.old.items that.now a → Q.takes question.now a }
+    requires takes { TakesEach K.cmp kind (Q.takes question.now) list.old.items that.now }
     ensures joins { OnOk result (IsJoin K.cmp kind left_spelling list.old.items that.now (Q.may question.now) (OldKey K.is_clone) list.new.items) }
     ensures counted { C.counted steps.new ≤ C.counted steps.old + bound (length list.old.items) (length that.now) }
     ensures err { OnErr result (list.new.items ≡ list.old.items) }
@@ -555,7 +555,7 @@ where
     requires this_ascends { AscendsByKey K.cmp list.old.items }
     requires that_ascends { AscendsByKey K.cmp that.now }
     requires clones { asks_right kind ≡ true → ClonesAreEqual K.cmp K.is_clone }
-    requires takes { (a : _) → IsAsked K.cmp kind left_spelling list.old.items that.now a → Q.takes question.now a }
+    requires takes { TakesEach K.cmp kind (Q.takes question.now) list.old.items that.now }
     ensures joins { OnOk result (IsJoin K.cmp kind left_spelling list.old.items that.now (Q.may question.now) (OldKey K.is_clone) list.new.items) }
     ensures counted { C.counted steps.new ≤ C.counted steps.old + bound (length list.old.items) (length that.now) }
     ensures no_memory { asks_right kind ≡ false → IsOk result }

@@ -136,8 +136,6 @@ where
         ensures room { length self.old < N → IsOk result }
         ensures err { OnErr result (self.new ≡ self.old) }
     {
-        // At least `N`, on which the success of an insert into a short map rests.
-        let _capacity = self.pairs.capacity();
         match find_key(self.pairs.as_slice(), &key) {
             Ok(place) => {
                 let known = &mut self.pairs.as_mut_slice()[place];

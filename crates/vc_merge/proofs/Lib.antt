@@ -1,18 +1,11 @@
-pub mod BlockSteps
-pub mod BuilderTakes
 pub mod Builds
 pub mod Chains
 pub mod Digits
 pub mod Extending
-pub mod Lists
 pub mod PlaceLemmas
-pub mod PlacesLaid
-pub mod PlacesMemory
-pub mod PlacesShared
 pub mod Runs
 pub mod Scripts
 pub mod SearchedRuns
-pub mod WalkNames
 pub mod MovesDownLemmas
 pub mod Shifting
 pub mod Members
@@ -20,3 +13,9 @@ pub mod OneScript
 pub mod OneList
 pub mod Running
 mod Examples
+pub mod ListLemmas
+pub mod Clones
+pub mod Chosen
+pub mod Keeping
+pub mod Parted
+pub mod Retained

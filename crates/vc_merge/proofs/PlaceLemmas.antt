@@ -19,7 +19,7 @@ use Rattle.std.specs.declared.cmp.Ordering.{Ordering}
 use Rattle.std.specs.declared.cmp.Ordering.TheVariants.{Less, Equal, Greater}
 use Rattle.vc_merge.specs.Ascending.{Ascends}
 use Rattle.vc_merge.specs.Place.{IsOrdered, IsFound, IsGap, IsNarrowed, IsPassed, IsRest, IsSearched, IsReached}
-use Rattle.vc_merge.proofs.Lists.{each-at}
+use Rattle.vc_merge.proofs.ListLemmas.{each-at}
 
 -- what holds of each element holds of those behind the first k
 each-drop : {X : Type 0} (P : X → Type 0) (xs : List X) (k : ℕ) → AllByRecursion P xs → AllByRecursion P (drop k xs)

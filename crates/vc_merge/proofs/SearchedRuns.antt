@@ -13,7 +13,7 @@ use Rattle.vc_merge.specs.Progress.{LeftBelow, RightBelow, HeadsCompare, IsLeftP
 use Rattle.vc_merge.specs.Script.{BothAscend}
 use Rattle.vc_merge.specs.declared.searching.Side.{Side}
 use Rattle.vc_merge.specs.declared.searching.Side.TheVariants.{Left, Right}
-use Rattle.vc_merge.proofs.Lists.{each-weaker}
+use Rattle.vc_merge.proofs.ListLemmas.{each-weaker}
 use Rattle.vc_merge.proofs.Scripts.{below-lefts}
 
 module _ {A B : Type 0} (order : A ⊎ B → A ⊎ B → Ordering) (total : IsTotalOrder order) where

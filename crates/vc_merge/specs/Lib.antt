@@ -1,16 +1,10 @@
 pub mod Ascending
-pub mod Block
 pub mod Both
-pub mod Builder
-pub mod BuilderLends
 pub mod Building
 pub mod Chain
 pub mod Count
 pub mod Fronts
 pub mod Place
-pub mod Places
-pub mod PlacesLend
-pub mod PlacesOwned
 pub mod Progress
 pub mod Script
 pub mod MovesDown
@@ -23,3 +17,5 @@ pub mod Shifts
 pub mod Showing
 pub mod Yielded
 pub mod Takes
+pub mod Clones
+pub mod Retaining

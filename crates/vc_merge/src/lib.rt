@@ -1,10 +1,10 @@
 //! The merge of two ascending lists, event by event, and what stands around it.
 #![tactic(auto)]
 
-pub mod inplace;
 pub mod iterators;
 pub mod laws;
 mod linear;
+pub mod lists;
 pub mod merge;
 pub mod moving;
 pub mod parts;

@@ -73,7 +73,7 @@ fn last_to_first<T>(mut row: Slots<T>, state: (), _given: ()) -> (Slots<T>, (), 
 /// Puts an element in at a place of a list, in front of those that stood there and behind it.
 ///
 /// It goes behind all others first, and is then turned into its place, which moves the elements behind it as
-/// `memmove` does. Refused, the list is as it was, and the element is dropped.
+/// `memmove` does. It is not refused where fewer than `N` are held. Refused, the list is as it was, and the element is dropped.
 pub fn insert_at<T: MadeWith<A> + Drop, const N: usize, A: Allocator + Copy>(
     list: &mut SmallVec<T, N, A>,
     place: usize,
@@ -82,9 +82,13 @@ pub fn insert_at<T: MadeWith<A> + Drop, const N: usize, A: Allocator + Copy>(
     requires { place ≤ length list.old.items }
     ensures ok { OnOk result (list.new.items ≡ insert list.old.items place element) }
     ensures succeeds { HasRoomFor list.old 1 → IsOk result }
+    ensures few { length list.old.items < N → IsOk result }
     ensures err { OnErr result (list.new ≡ list.old) }
 {
-    list.push(element)?;
+    if list.len() == list.capacity() {
+        list.reserve(1)?;
+    }
+    list.push_reserved(element);
     turn_in(list.as_mut_slice(), place);
     Ok(())
 }

@@ -9,7 +9,7 @@ use Rattle.std.specs.Ordering.{eq_by_cmp, is_eq}
 use Rattle.std.specs.declared.cmp.Ordering.{Ordering}
 use Rattle.std.specs.declared.cmp.Ordering.TheVariants.{Less, Equal}
 use Rattle.vc_merge.specs.Ascending.{Ascends, member, element_at}
-use Rattle.vc_merge.proofs.Lists.{each-weaker, each-at, ascends-append}
+use Rattle.vc_merge.proofs.ListLemmas.{each-weaker, each-at, ascends-append}
 use Rattle.vc_merge.specs.Place.{IsGap}
 use Rattle.vc_merge.proofs.Members.{member-is_some, element_at-append, equal-alike, equal-from_is_eq}
 use Rattle.vc_sets.proofs.Searching.{none-below, gap-above, gap-none}

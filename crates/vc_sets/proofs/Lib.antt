@@ -8,6 +8,4 @@ pub mod Witnessed
 pub mod Sifted
 mod OneSet
 pub mod Removing
-pub mod Retained
-pub mod Keeping
 pub mod Shorter

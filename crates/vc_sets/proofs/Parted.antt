@@ -1,43 +1,8 @@
--- A list with a gap behind its elements, and others behind that.
-use Rattle.std.proofs.Common.{◌≡◌, ℕ, ◌≤◌, Result, IsOk, is_err, Ok, Err, OnOk, Bool, false, List, ◌++◌, length, take, drop, sym, ap, subst, ◌∙◌, refl, drop_at}
-use mathlib.Core.Bool.{true≢false}
-use Rattle.std.proofs.lemmas.List.{take-append-le}
-use Rattle.smallvec.specs.SmallVec.{SmallVec, with_items}
+-- A set operation on the two parts of one list.
+use Rattle.std.proofs.Common.{◌≡◌, ℕ, Bool, List, take, drop, sym, subst}
 use Rattle.std.specs.declared.cmp.Ordering.{Ordering}
+use Rattle.vc_merge.proofs.Parted.{IsParted}
 use Rattle.vc_sets.specs.SetOf.{IsSetOf}
-use Rattle.smallvec.proofs.SmallVecLemmas.{items-with_items}
-
--- what holds where a call was not refused, of one that cannot be
-pub granted : {A E : Type 0} (result : Result A E) (P : Type 0) → IsOk result → OnOk result P → P
-granted (Ok a) P ok h = h
-granted (Err e) P ok h = absurd (true≢false (sym ok))
-
-pub not-refused : {A E : Type 0} (result : Result A E) (P : Type 0) (refused : Bool) → refused ≡ is_err result → refused ≡ false → OnOk result P → P
-not-refused (Ok a) P refused e f h = h
-not-refused (Err e) P refused i f h = absurd (true≢false (sym i ∙ f))
-
--- what follows where a call was not refused
-pub on-ok : {A E : Type 0} (result : Result A E) (P Q : Type 0) → (P → Q) → OnOk result P → OnOk result Q
-on-ok (Ok a) P Q f h = f h
-on-ok (Err e) P Q f h = tt
-
--- the elements are the first `end` ones, and the others stand from `next` on
-pub record IsParted {X : Type 0} (old added all : List X) (end next : ℕ) : Type 0 where
-  pub left : take end all ≡ old
-  pub right : drop next all ≡ added
-
--- a list once a gap was put behind its elements, and others behind that
-pub is-parted : {X : Type 0} (old gapped added pushed all : List X) (end next : ℕ) → end ≡ length old → next ≡ length gapped → take (length old) gapped ≡ old → length old ≤ length gapped
-    → pushed ≡ gapped ++ added → all ≡ pushed → IsParted old added all end next
-is-parted old gapped added pushed all end next ends nexts front gap items same = record {
-  left = (λ i. take (ends i) ((same ∙ items) i)) ∙ take-append-le (length old) gapped added gap ∙ front;
-  right = (λ i. drop (nexts i) ((same ∙ items) i)) ∙ drop_at gapped added (length gapped) refl;
-}
-
--- a list that was written through its slice, and cut off
-pub cut-off : {X : Type 0} (v : SmallVec X) (lent written new : List X) (kept : ℕ) → lent ≡ v.items → length written ≡ length lent
-    → new ≡ take kept (with_items v written).items → new ≡ take kept written
-cut-off v lent written new kept e long cut = cut ∙ ap (take kept) (items-with_items v written (long ∙ ap length e))
 
 -- what is made of the parts is made of the lists
 pub set_of-parts : {X : Type 0} (cmp : X → X → Ordering) (L R : X → X → Type 0) (f : Bool → Bool → Bool) (old added all kept new : List X) (end next : ℕ)

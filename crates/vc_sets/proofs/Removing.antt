@@ -1,28 +1,16 @@
--- An ascending list with elements taken out, and the clones of its elements.
+-- An ascending list with an element taken out.
 use Rattle.std.proofs.Common.{◌≡◌, ℕ, zero, suc, ◌<◌, Bool, true, false, not, cond, ◌&&◌, List, [], ◌∷◌, ◌++◌, length, take, drop, get_or, Option, Some, None, is_some, refl, sym, ap, ◌∙◌, arith}
-use Rattle.std.proofs.lemmas.List.{append-nil}
-use Rattle.std.specs.Iterator.{Yields}
-use Rattle.std.specs.Map.Iter.{TakesFirst}
-use Rattle.std.specs.List.{AllByRecursion, items_where_true}
+use Rattle.std.specs.List.{AllByRecursion}
 use Rattle.std.specs.List.Sorted.{IsStrictlySortedBy}
 use Rattle.std.specs.Cmp.{IsTotalOrder, alike_right}
 use Rattle.std.specs.Ordering.{eq_by_cmp, is_eq}
 use Rattle.std.specs.declared.cmp.Ordering.{Ordering}
 use Rattle.std.specs.declared.cmp.Ordering.TheVariants.{Less, Equal}
 use Rattle.vc_merge.specs.Ascending.{Ascends, member, element_at}
-use Rattle.vc_merge.specs.Yielded.{taken}
-use Rattle.vc_merge.proofs.Lists.{each-at}
+use Rattle.vc_merge.proofs.ListLemmas.{each-at}
 use Rattle.vc_merge.specs.Place.{IsGap}
 use Rattle.vc_merge.proofs.Members.{member-is_some, element_at-none, equal-alike, equal-from_is_eq}
 use Rattle.vc_sets.proofs.Searching.{gap-none}
-
--- ---- an iterator that moves the elements of a list out
-
--- all of the list has come
-pub all-taken : {X : Type 0} (s t xs : List X) (u : List X) → Yields (TakesFirst (λ x. x)) s xs t → TakesFirst (λ x. x) t None u → xs ≡ s
-all-taken s t xs u y n = sym (taken s t xs y ∙ ap (λ l. xs ++ l) n.0 ∙ append-nil xs)
-
--- ---- elements that go
 
 module _ {X : Type 0} (P : X → Type 0) where
   -- what holds of each element holds of those that are left without one
@@ -32,13 +20,6 @@ module _ {X : Type 0} (P : X → Type 0) where
   each-without (x ∷ xs) zero p = p.1
   each-without (x ∷ xs) (suc i) p = (p.0, each-without xs i p.1)
 
-  -- and of those that a test chooses
-  pub each-chosen : (bs : List Bool) (xs : List X) → AllByRecursion P xs → AllByRecursion P (items_where_true bs xs)
-  each-chosen [] xs p = tt
-  each-chosen (b ∷ bs) [] p = tt
-  each-chosen (true ∷ bs) (x ∷ xs) p = (p.0, each-chosen bs xs p.1)
-  each-chosen (false ∷ bs) (x ∷ xs) p = each-chosen bs xs p.1
-
 module _ {X : Type 0} (cmp : X → X → Ordering) where
   -- what is left without one element ascends
   pub ascends-without : (xs : List X) (i : ℕ) → Ascends cmp xs → Ascends cmp (take i xs ++ drop (suc i) xs)
@@ -47,14 +28,6 @@ module _ {X : Type 0} (cmp : X → X → Ordering) where
   ascends-without [] (suc i) p = tt
   ascends-without (x ∷ xs) zero p = p.1
   ascends-without (x ∷ xs) (suc i) p = (each-without (λ y. cmp x y ≡ Less) xs i p.0, ascends-without xs i p.1)
-
-  -- what a test chooses ascends
-  pub ascends-chosen : (bs : List Bool) (xs : List X) → Ascends cmp xs → Ascends cmp (items_where_true bs xs)
-  unfolding IsStrictlySortedBy
-  ascends-chosen [] xs p = tt
-  ascends-chosen (b ∷ bs) [] p = tt
-  ascends-chosen (true ∷ bs) (x ∷ xs) p = (each-chosen (λ y. cmp x y ≡ Less) bs xs p.0, ascends-chosen bs xs p.1)
-  ascends-chosen (false ∷ bs) (x ∷ xs) p = ascends-chosen bs xs p.1
 
   module _ (total : IsTotalOrder cmp) where
     -- ---- an equal element is taken out

@@ -9,7 +9,7 @@ use Rattle.std.specs.declared.cmp.Ordering.{Ordering}
 use Rattle.std.specs.declared.cmp.Ordering.TheVariants.{Less, Equal, Greater}
 use Rattle.vc_merge.specs.Ascending.{member, element_at}
 use Rattle.vc_merge.specs.Place.{IsGap, IsPlace}
-use Rattle.vc_merge.proofs.Lists.{each-weaker}
+use Rattle.vc_merge.proofs.ListLemmas.{each-weaker}
 use Rattle.vc_merge.proofs.Members.{member-is_some, element_at-later, element_at-none, element_at-append}
 
 or-true : (b : Bool) → (b || true) ≡ true

@@ -4,4 +4,3 @@ pub mod Algebra
 pub mod Select
 pub mod Laws
 pub mod Iterating
-pub mod Retaining

@@ -3,10 +3,6 @@ use Rattle.std.specs.Prelude.{◌≡◌, Bool, true, false, not, ◌&&◌, List,
 use Rattle.std.specs.declared.cmp.Ordering.{Ordering}
 use Rattle.vc_merge.specs.Ascending.{Ascends, member, element_at}
 
--- clones are equal to their sources: they compare as these do
-abbrev pub ClonesAreEqual : {X : Type 0} → (X → X → Ordering) → (X → X → Type 0) → Type 0
-ClonesAreEqual {X} cmp is_clone = (x y : X) → is_clone x y → (z : X) → cmp x z ≡ cmp y z
-
 -- what is kept in one place, where the left set has `left` and the right set has `right`: of two equal elements it comes from the left one
 abbrev pub Keeps : {X : Type 0} → (Bool → Bool → Bool) → (X → X → Type 0) → (X → X → Type 0) → Option X → Option X → Option X → Type 0
 Keeps f from_left from_right (Some x) right kept = MatchBool (f true (is_some right)) (IsSomeAnd kept (from_left x)) (kept ≡ None)

@@ -2,7 +2,8 @@
 ghost use Rattle.std.specs.Prelude.{◌+◌, ◌≤◌, true, false, not, length, IfOk};
 ghost use Rattle.vc_merge.specs.Ascending.{Ascends};
 ghost use Rattle.vc_merge.specs.Count.{bound};
-ghost use Rattle.vc_sets.specs.SetOf.{ClonesAreEqual, IsSetOf};
+ghost use Rattle.vc_merge.specs.Clones.{ClonesAreEqual};
+ghost use Rattle.vc_sets.specs.SetOf.{IsSetOf};
 ghost use Rattle.vc_sets.specs.Algebra.{made_by};
 ghost use Rattle.vc_sets.specs.Select.{keeps};
 

@@ -8,9 +8,9 @@ ghost use Rattle.vc_sets.specs.Tests.{IsDisjoint, IsSubset};
 mod algebra;
 mod comparisons;
 pub mod conversions;
-pub mod in_place;
+mod in_place;
 mod iteration;
-pub mod removal;
+mod removal;
 
 pub use algebra::{SetOp, SetTest, difference, intersection, symmetric_difference, union};
 use iteration::elements_of;
@@ -118,8 +118,6 @@ impl<T: Ord + MadeWith<A> + Drop, const N: usize, A: Allocator + Copy> VecSet<T,
         ensures room { length self.old < N → IsOk result }
         ensures err { OnErr result (self.new ≡ self.old) }
     {
-        // At least `N`, on which the success of an insert into a short set rests.
-        let _capacity = self.elements.capacity();
         match find(self.elements.as_slice(), &that) {
             Ok(index) => {
                 self.elements.as_mut_slice()[index] = that;

@@ -9,7 +9,7 @@ use Rattle.std.specs.Ordering.{is_eq, ordering_reverse}
 use Rattle.std.specs.declared.cmp.Ordering.{Ordering}
 use Rattle.std.specs.declared.cmp.Ordering.TheVariants.{Less, Equal, Greater}
 use Rattle.vc_joins.specs.Entries.{value_at}
-use Rattle.vc_sets.specs.SetOf.{ClonesAreEqual}
+use Rattle.vc_merge.specs.Clones.{ClonesAreEqual}
 use Rattle.vc_total_maps.specs.TotalMap.{NoneIsDefault, total_map}
 
 reversed-is_eq : (o : Ordering) → is_eq (ordering_reverse o) ≡ is_eq o

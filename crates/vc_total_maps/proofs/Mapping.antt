@@ -1,5 +1,5 @@
 -- A combination with a map that lists nothing is a change of each value.
-use Rattle.std.proofs.Common.{◌≡◌, Bool, [], Option, Some, None, Result, Ok, Err, IfOk, IfSome, IsSomeAnd, refl, subst}
+use Rattle.std.proofs.Common.{Bool, [], Option, Some, None, Result, Ok, Err, IfOk, IfSome, IsSomeAnd, refl}
 use Rattle.std.proofs.lemmas.Fn.{says_at}
 use Rattle.std.specs.Fn.{FnReturnsAt}
 use Rattle.std.specs.List.Sorted.{IsStrictlySortedBy}
@@ -42,11 +42,6 @@ module _ {K V : Type 0} (cmp : K → K → Ordering) (m : TotalMap K V) (e : V) 
 pub mapped-canonical : {K V X : Type 0} (cmp : K → K → Ordering) (eq : X → X → Bool) (May : V → X → Type 0) (is_clone : K → K → Type 0) (m : TotalMap K V) (c : TotalMap K X)
     → IsMapped cmp eq May is_clone m c → NoneIsDefault cmp eq c
 mapped-canonical cmp eq May is_clone m c made k = let v = made.values k in stands-apart eq c.default v.0 (value_at cmp c.mappings k) v.2
-
--- what is made of a map is made of what is seen of it
-pub mapped-seen : {K V X : Type 0} (cmp : K → K → Ordering) (eq : X → X → Bool) (May : V → V → X → Type 0) (is_clone : K → K → Type 0) (m n : TotalMap K V) (c : TotalMap K X)
-    → m ≡ n → IsMapped cmp eq (λ x. May x m.default) is_clone m c → IsMapped cmp eq (λ x. May x n.default) is_clone n c
-mapped-seen cmp eq May is_clone m n c e h = subst (λ o. IsMapped cmp eq (λ x. May x o.default) is_clone o c) e h
 
 -- a closure that answered says so
 pub if-says : {F T X E : Type 0} (g : Shared F (Bor T × Unit {0}) (Result X E)) (f : F) (y : Bor T) (r : Result X E) → g.post f (y, tt) r → IfOk r (λ v. FnReturnsAt g f y.now (Ok v))

@@ -1,7 +1,7 @@
 //! `TotalVecMap`, a map with a value at every key.
 ghost use Rattle.std.specs.Prelude.{◌≡◌, [], not, IfOk, IsTrue};
 ghost use Rattle.std.specs.List.{filter};
-ghost use Rattle.vc_sets.specs.SetOf.{ClonesAreEqual};
+ghost use Rattle.vc_merge.specs.Clones.{ClonesAreEqual};
 ghost use Rattle.vc_total_maps.specs.TotalMap.{total_map, at, NoneIsDefault, IsClonedMap};
 
 mod arithmetic;

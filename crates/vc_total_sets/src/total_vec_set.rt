@@ -2,7 +2,8 @@
 ghost use Rattle.std.specs.Prelude.{◌≡◌, ◌<◌, ◌||◌, ◌&&◌, ◌↔◌, false, true, [], not, cond, List, Some, None, length, IfOk, IsOk, OnErr, OnOk, IsTrue, IsFalse, IsSomeAnd, MatchBool};
 ghost use Rattle.std.specs.Ordering.{eq_by_cmp};
 ghost use Rattle.vc_merge.specs.Ascending.{member, element_at};
-ghost use Rattle.vc_sets.specs.SetOf.{ClonesAreEqual, and_not};
+ghost use Rattle.vc_merge.specs.Clones.{ClonesAreEqual};
+ghost use Rattle.vc_sets.specs.SetOf.{and_not};
 ghost use Rattle.vc_total_sets.specs.TotalSet.{total, complement, has, IsClonedTotal};
 
 mod algebra;

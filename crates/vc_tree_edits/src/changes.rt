@@ -14,7 +14,7 @@ ghost use Rattle.vc_tree_edits.specs.Saying.{sifted_kept, outer_kept, met_kept, 
 use crate::engine::Change;
 use crate::rows::Sifted;
 use std::alloc::{AllocError, Global};
-use vc_merge::inplace::InPlace;
+use vc_builder::inplace::InPlace;
 use vc_tree_nodes::building::{Build, Seal};
 use vc_tree_nodes::children::{Fragment, Parts};
 use vc_tree_nodes::copying::{clone_value, copy_shortened};

@@ -2,12 +2,12 @@
 
 ghost use Rattle.std.specs.Prelude.{◌≡◌, true, false, [], IfOk};
 ghost use Rattle.std.specs.List.{cons_option};
-ghost use Rattle.vc_merge.specs.Builder.{builder};
+ghost use Rattle.vc_builder.specs.Builder.{builder};
 
 use std::alloc::{AllocError, Global};
 use std::marker::Model;
 use std::mem;
-use vc_merge::inplace::InPlace;
+use vc_builder::inplace::InPlace;
 use vc_tree_nodes::building::{Build, Seal};
 use vc_tree_nodes::reading::{TKey, TValue};
 
@@ -15,7 +15,7 @@ use vc_tree_nodes::reading::{TKey, TValue};
 pub trait Row<K: TKey, V: TValue, T: Build<K, V>>: Sized + Drop {
     ghost use Rattle.std.specs.Prelude.{◌≡◌, ◌<◌, Bool, cond, [], Some, IfOk, length};
     ghost use Rattle.std.specs.List.{cons_option};
-    ghost use Rattle.vc_merge.specs.Builder.{Builder, builder};
+    ghost use Rattle.vc_builder.specs.Builder.{Builder, builder};
     ghost use Rattle.vc_tree_edits.specs.Taken.{IsNext, IsAdded};
 
     /// What is built, what is left, and for how many more there is room.
@@ -93,7 +93,7 @@ pub struct Sifted<T> {
 impl<T> Model for Sifted<T> {
     ghost use Rattle.std.specs.Prelude.{◌≡◌, ◌+◌, ◌-◌, ◌<◌, ◌≤◌, [], length, take, drop};
     ghost use Rattle.std.specs.List.{cons_option};
-    ghost use Rattle.vc_merge.specs.Builder.{Builder, builder, builder_code};
+    ghost use Rattle.vc_builder.specs.Builder.{Builder, builder, builder_code};
 
     ghost Value = { Builder T };
 

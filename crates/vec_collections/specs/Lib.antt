@@ -16,9 +16,11 @@ pub use Rattle.vc_maps.specs.Lending
 pub use Rattle.vc_maps.specs.Mapping as MapMapping
 pub use Rattle.vc_merge.specs.Ascending
 pub use Rattle.vc_merge.specs.Chain
+pub use Rattle.vc_merge.specs.Clones
 pub use Rattle.vc_merge.specs.Count
 pub use Rattle.vc_merge.specs.Fronts
 pub use Rattle.vc_merge.specs.Laws as MergeLaws
+pub use Rattle.vc_merge.specs.Retaining
 pub use Rattle.vc_merge.specs.Script
 pub use Rattle.vc_merge.specs.Takes
 pub use Rattle.vc_merge.specs.Yielded
@@ -26,7 +28,6 @@ pub use Rattle.vc_path_filter.specs.Allowed
 pub use Rattle.vc_sets.specs.Algebra
 pub use Rattle.vc_sets.specs.Iterating
 pub use Rattle.vc_sets.specs.Laws as SetLaws
-pub use Rattle.vc_sets.specs.Retaining
 pub use Rattle.vc_sets.specs.SetOf
 pub use Rattle.vc_sets.specs.Tests
 pub use Rattle.vc_sets.specs.declared.vec_set.algebra.SetOp

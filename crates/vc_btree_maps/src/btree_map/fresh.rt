@@ -5,7 +5,7 @@ ghost use Rattle.vc_joins.specs.Entries.{AscendsByKey, entry_at};
 ghost use Rattle.vc_joins.specs.Join.{IsAsked, IsJoin};
 ghost use Rattle.vc_joins.specs.Question.{left_spelling, right_spelling, shown_key};
 ghost use Rattle.vc_joins.specs.declared.question.JoinKind.TheVariants as kind;
-ghost use Rattle.vc_sets.specs.SetOf.{ClonesAreEqual};
+ghost use Rattle.vc_merge.specs.Clones.{ClonesAreEqual};
 ghost use Rattle.vc_btree_maps.specs.Putting.{IsPut, IsAskedAndPut};
 
 use super::AbstractBTreeMap;

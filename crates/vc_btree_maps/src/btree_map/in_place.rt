@@ -6,7 +6,7 @@ ghost use Rattle.vc_joins.specs.declared.question.JoinKind.TheVariants as kind;
 ghost use Rattle.vc_joins.specs.Entries.{AscendsByKey, entry_at, value_at};
 ghost use Rattle.vc_joins.specs.Join.{IsAsked, IsJoin, MovedKey};
 ghost use Rattle.vc_joins.specs.Question.{left_spelling, right_spelling};
-ghost use Rattle.vc_sets.specs.SetOf.{ClonesAreEqual};
+ghost use Rattle.vc_merge.specs.Clones.{ClonesAreEqual};
 ghost use Rattle.vc_btree_maps.specs.Keeping.{at_pair, if_kept, MayGive, OrStays, OrGives, StayedKey, StayedOrCloned, IsGrown};
 ghost use Rattle.vc_btree_maps.specs.Stages.{IsKept, IsKeptAlong, IsGiven, shared_with};
 
@@ -15,6 +15,13 @@ use super::fresh::put_answer;
 use super::keep::{Keep, KeepAlone};
 use std::alloc::{AllocError, Global};
 use std::collections::BTreeMap;
+
+/// The keys of a map ascend. Each call of a `BTreeMap` says so, and its type does not, so a walk along another map asks first.
+fn keys_ascend<K: Ord, V>(map: &BTreeMap<K, V>)
+    ensures { AscendsByKey K.cmp map.now.entries }
+{
+    let _len = map.len();
+}
 
 /// Decides at each key of the map whether its value stays. Keys are shown as the map has them.
 pub fn keep_each<K: Ord + Drop, V: Drop, W, M: AbstractBTreeMap<K, W>, J: Keep<K, V, W>>(
@@ -29,8 +36,7 @@ pub fn keep_each<K: Ord + Drop, V: Drop, W, M: AbstractBTreeMap<K, W>, J: Keep<K
         requires { J.takes judge.now (at_pair key.now value.old (value_at K.cmp (M.pairs that.now) key.now)) }
         ensures { J.may judge.entry.now (at_pair key.entry.now value.old (value_at K.cmp (M.pairs that.entry.now) key.entry.now)) (if_kept result value.new) }
     { judge.keep(key, value, that.get(key)) };
-    // Says that the keys ascend.
-    let _len = this.len();
+    keys_ascend(this);
     this.retain(stays);
 }
 
@@ -68,8 +74,7 @@ pub fn keep_right<
     requires callable { (k : _) (w : _) → IsAsked {V = V} K.cmp kind.Right right_spelling this.old.entries (M.pairs that.now) (arg.Right k.now w.now) → G.pre other_alone.now k w }
     ensures { IsJoin K.cmp kind.Left right_spelling this.old.entries (M.pairs that.now) (OrStays (J.may judge.now)) (StayedKey K.cmp this.old.entries) this.new.entries }
 {
-    // Says that the keys ascend.
-    let _len = this.len();
+    keys_ascend(this);
     'keys: for (key, other) in that.iter() {
         if !keep_at(this, key, other, judge) {
             other_alone(key, other);
@@ -100,8 +105,7 @@ pub fn give_new<
     ensures shared { IfOk result (λ shared. map deref_pair shared.items ≡ shared_with K.cmp this.old.entries (M.pairs that.now)) }
     ensures grown { OnErr result (IsGrown K.cmp K.is_clone (MayGive G.Fn given.now) (M.pairs that.now) this.old.entries this.new.entries) }
 {
-    // Says that the keys ascend.
-    let _len = this.len();
+    keys_ascend(this);
     let mut shared = Vec::new(alloc);
     'keys: for (key, other) in that.iter() {
         if this.contains_key(key) {
@@ -123,8 +127,7 @@ pub fn keep_shared<K: Ord + Drop, V: Drop, W, J: Keep<K, V, W>>(
     requires takes { (k : K) (q : _) (p : _) → entry_at K.cmp (map deref_pair shared.now) k ≡ Some q → entry_at K.cmp this.old.entries k ≡ Some p → J.takes judge.now (arg.Both q.0 p.1 q.1) }
     ensures { IsKeptAlong K.cmp (J.may judge.now) (map deref_pair shared.now) this.old.entries this.new.entries }
 {
-    // Says that the keys ascend.
-    let _len = this.len();
+    keys_ascend(this);
     'pairs: for (key, other) in shared {
         keep_at(this, *key, *other, judge);
     }

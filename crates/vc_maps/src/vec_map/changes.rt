@@ -4,14 +4,14 @@ ghost use Rattle.std.specs.Fn.{CalledAt};
 ghost use Rattle.std.specs.List.{AllZip};
 ghost use Rattle.std.specs.List.Retain.{IsFiltered};
 ghost use Rattle.vc_joins.specs.Entries.{entry_at};
-ghost use Rattle.vc_sets.specs.Retaining.{IsAsked};
-ghost use Rattle.vc_sets.specs.SetOf.{ClonesAreEqual};
+ghost use Rattle.vc_merge.specs.Retaining.{IsRetained};
+ghost use Rattle.vc_merge.specs.Clones.{ClonesAreEqual};
 
 use super::VecMap;
 use std::alloc::{AllocError, Allocator};
 use std::default::MadeWith;
+use vc_merge::lists::keep_in_front;
 use vc_merge::states::clones_of;
-use vc_sets::vec_set::removal::keep_in_front;
 
 impl<K: Ord + Drop, V: Drop, const N: usize, A: Allocator + Copy> VecMap<K, V, N, A>
 where
@@ -23,7 +23,7 @@ where
     pub fn retain<F: FnMut(&(K, V)) -> bool>(&mut self, f: F)
         requires { F.IsAlwaysCallable f }
         ensures filtered { IsFiltered (CalledAt F.FnMut) f self.old self.new }
-        ensures entries { (k : K) → IsAsked (CalledAt F.FnMut) (entry_at K.cmp self.old k) (entry_at K.cmp self.new k) }
+        ensures entries { (k : K) → IsRetained (CalledAt F.FnMut) (entry_at K.cmp self.old k) (entry_at K.cmp self.new k) }
     {
         let kept = keep_in_front(self.pairs.as_mut_slice(), f);
         self.pairs.truncate(kept);

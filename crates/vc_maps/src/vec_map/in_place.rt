@@ -2,9 +2,9 @@
 ghost use Rattle.std.specs.Prelude.{◌≡◌, ◌+◌, ◌≤◌, true, false, length, IsOk, OnErr, OnOk};
 ghost use Rattle.vc_joins.specs.InPlace.{handed, handed_left, handed_right, handed_inner, MayTurn, MayTurnLeft, MayTurnRight, MayTurnInner};
 ghost use Rattle.vc_joins.specs.Join.{IsAsked, IsJoin, IsJoinBy, OldKey};
-ghost use Rattle.vc_joins.specs.Question.{asks, asks_right, left_spelling};
+ghost use Rattle.vc_joins.specs.Question.{asks_right, left_spelling};
 ghost use Rattle.vc_merge.specs.Count.{bound};
-ghost use Rattle.vc_sets.specs.SetOf.{ClonesAreEqual};
+ghost use Rattle.vc_merge.specs.Clones.{ClonesAreEqual};
 
 use super::{AbstractVecMap, VecMap};
 use crate::in_place::join;
@@ -94,13 +94,11 @@ where
         ensures function { OnOk result ((h : _) → IsJoinBy K.cmp JoinKind.Right left_spelling self.old (M.pairs that.now) (λ a r. MayTurnRight F.Fn f a r) h self.new) }
         ensures err { OnErr result (self.new ≡ self.old) }
     {
-        let other = that.as_slice();
-        let question = right_question(self.pairs.as_slice(), other, &f);
         join(
             &mut self.pairs,
-            other,
+            that.as_slice(),
             JoinKind::Right,
-            &question,
+            &AskRight(&f),
             &mut Uncounted,
         )
     }
@@ -119,13 +117,11 @@ where
         ensures function { (h : _) → IsJoinBy K.cmp JoinKind.Inner left_spelling self.old (M.pairs that.now) (λ a r. MayTurnInner F.Fn f a r) h self.new }
         ensures always { IsOk result }
     {
-        let other = that.as_slice();
-        let question = inner_question(self.pairs.as_slice(), other, &f);
         join(
             &mut self.pairs,
-            other,
+            that.as_slice(),
             JoinKind::Inner,
-            &question,
+            &AskInner(&f),
             &mut Uncounted,
         )
     }
@@ -154,33 +150,4 @@ where
     {
         join(&mut self.pairs, that.as_slice(), kind, &AskOuter(&f), steps)
     }
-}
-
-// Each of these says that a closure may be asked all that a join of two lists in place asks, where it may be called at that. A call of a join
-// with the closure itself would have to say so beside the size of the list, which takes the checker a minute.
-
-/// The closure of a right join.
-fn right_question<'f, K: Ord, V, W, F: Fn(&K, Option<V>, &W) -> Option<V>>(
-    _this: &[(K, V)],
-    _that: &[(K, W)],
-    f: &'f F,
-) -> AskRight<'f, F>
-    requires callable { (k : _) (v : _) (w : _) → IsAsked K.cmp JoinKind.Right left_spelling _this.now _that.now (handed_right k v w) → F.pre f.now k v w }
-    ensures same { result.0.now ≡ f.now }
-    ensures takes { (a : _) → IsAsked K.cmp JoinKind.Right left_spelling _this.now _that.now a → (asks JoinKind.Right a ≡ true) × ((k : _) (v : _) (w : _) → handed_right k v w ≡ a → F.pre result.0.now k v w) }
-{
-    AskRight(f)
-}
-
-/// The closure of an inner join.
-fn inner_question<'f, K: Ord, V, W, F: Fn(&K, V, &W) -> Option<V>>(
-    _this: &[(K, V)],
-    _that: &[(K, W)],
-    f: &'f F,
-) -> AskInner<'f, F>
-    requires callable { (k : _) (v : _) (w : _) → IsAsked K.cmp JoinKind.Inner left_spelling _this.now _that.now (handed_inner k v w) → F.pre f.now k v w }
-    ensures same { result.0.now ≡ f.now }
-    ensures takes { (a : _) → IsAsked K.cmp JoinKind.Inner left_spelling _this.now _that.now a → (asks JoinKind.Inner a ≡ true) × ((k : _) (v : _) (w : _) → handed_inner k v w ≡ a → F.pre result.0.now k v w) }
-{
-    AskInner(f)
 }

@@ -4,12 +4,13 @@ ghost use Rattle.vc_joins.specs.Answers.{seen, seen_left, seen_right, seen_inner
 ghost use Rattle.vc_joins.specs.Join.{ClonedKey, IsAsked, IsJoin, IsJoinBy};
 ghost use Rattle.vc_joins.specs.Question.{left_spelling};
 ghost use Rattle.vc_merge.specs.Count.{bound};
-ghost use Rattle.vc_sets.specs.SetOf.{ClonesAreEqual};
+ghost use Rattle.vc_merge.specs.Clones.{ClonesAreEqual};
 
 use super::{AbstractVecMap, VecMap};
-use crate::fresh::{join, join_inner, join_left, join_outer, join_right, outer_question};
+use crate::fresh::{join, join_inner, join_left, join_outer, join_right};
 use std::alloc::{AllocError, Allocator};
 use std::default::MadeWith;
+use vc_joins::answers::AskOuter;
 use vc_joins::question::{JoinKind, OuterJoinArg};
 use vc_merge::merge::Steps;
 
@@ -185,7 +186,6 @@ where
     ensures counted { steps.new ≤ steps.old + bound (length (L.pairs this.now)) (length (M.pairs that.now)) }
 {
     let (this, that) = (this.as_slice(), that.as_slice());
-    let question = outer_question(this, that, kind, &f);
-    let pairs = join(alloc, this, that, kind, &question, steps)?;
+    let pairs = join(alloc, this, that, kind, &AskOuter(&f), steps)?;
     Ok(VecMap { pairs })
 }

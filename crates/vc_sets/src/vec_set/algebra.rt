@@ -2,7 +2,8 @@
 ghost use Rattle.std.specs.Prelude.{◌≡◌, ◌+◌, ◌≤◌, ◌||◌, ◌&&◌, ◌↔◌, length, IfOk, IsTrue};
 ghost use Rattle.vc_merge.specs.Ascending.{member};
 ghost use Rattle.vc_merge.specs.Count.{bound};
-ghost use Rattle.vc_sets.specs.SetOf.{ClonesAreEqual, IsSetOf, and_not, exactly_one};
+ghost use Rattle.vc_merge.specs.Clones.{ClonesAreEqual};
+ghost use Rattle.vc_sets.specs.SetOf.{IsSetOf, and_not, exactly_one};
 ghost use Rattle.vc_sets.specs.Algebra.{made_by, IsTestedBy};
 ghost use Rattle.vc_sets.specs.Tests.{IsDisjoint, IsSubset};
 

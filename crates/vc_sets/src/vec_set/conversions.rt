@@ -4,7 +4,7 @@ ghost use Rattle.std.specs.Iterator.{Drains, IsFinite};
 ghost use Rattle.std.specs.Iterator.Runs.{WholeRun};
 ghost use Rattle.std.specs.List.{AllZip};
 ghost use Rattle.vc_merge.specs.Ascending.{Ascends};
-ghost use Rattle.vc_sets.specs.SetOf.{ClonesAreEqual};
+ghost use Rattle.vc_merge.specs.Clones.{ClonesAreEqual};
 
 use super::VecSet;
 use smallvec::SmallVec;

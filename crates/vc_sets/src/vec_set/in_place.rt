@@ -1,10 +1,10 @@
 //! The set operations in place. Elements of the left set are moved and never cloned; of two equal elements the left one itself is kept.
-ghost use Rattle.std.specs.Prelude.{◌≡◌, ◌+◌, ◌≤◌, ◌++◌, ◌||◌, ◌&&◌, false, true, not, take, drop, length, List, OnErr, OnOk};
-ghost use Rattle.smallvec.specs.SmallVec.{HasRoomFor};
+ghost use Rattle.std.specs.Prelude.{◌≡◌, ◌+◌, ◌≤◌, ◌||◌, ◌&&◌, false, true, not, take, drop, length, List, OnErr, OnOk};
 ghost use Rattle.std.specs.Iterator.{Drains, IsFinite};
 ghost use Rattle.std.specs.Iterator.Runs.{WholeRun};
 ghost use Rattle.vc_merge.specs.Ascending.{Ascends};
-ghost use Rattle.vc_sets.specs.SetOf.{ClonesAreEqual, IsSetOf, and_not, exactly_one};
+ghost use Rattle.vc_merge.specs.Clones.{ClonesAreEqual};
+ghost use Rattle.vc_sets.specs.SetOf.{IsSetOf, and_not, exactly_one};
 ghost use Rattle.vc_sets.specs.Select.{keeps};
 
 use crate::operations::{EitherOp, LeftOp};
@@ -12,9 +12,9 @@ use crate::vec_set::{AbstractVecSet, VecSet};
 use smallvec::SmallVec;
 use std::alloc::{AllocError, Allocator};
 use std::default::MadeWith;
-use std::mem;
 use std::ops::{BitAndAssign, SubAssign};
 use vc_merge::iterators::SortedByItem;
+use vc_merge::lists::append_moved;
 use vc_merge::merge::{Uncounted, merge};
 use vc_merge::moving::SiftState;
 use vc_merge::parts::{PartsState, open_gap};
@@ -66,28 +66,6 @@ fn absorb<
     let kept = join::<BOTH, _>(list.as_mut_slice(), end, next);
     list.truncate(kept);
     Ok(())
-}
-
-/// Moves the elements of `that` to the end of `list`, which has room for them.
-///
-/// What lies on the heap comes out of a `Vec` and goes into a variable, so that no element asks again where either list lies.
-pub fn append_moved<T: MadeWith<A> + Drop, const N: usize, const M: usize, A: Allocator + Copy>(
-    list: &mut SmallVec<T, N, A>,
-    mut that: SmallVec<T, M, A>,
-)
-    requires { HasRoomFor list.old (length that.items) }
-    ensures { list.new.items ≡ list.old.items ++ that.items }
-{
-    if !that.spilled() {
-        let _fits = list.append(&mut that);
-        return;
-    }
-    let alloc = *list.allocator();
-    let mut whole = mem::replace(list, SmallVec::new(alloc));
-    for item in that.into_vec().unwrap() {
-        whole.push_reserved(item);
-    }
-    *list = whole;
 }
 
 /// The same with clones of the elements of the right list. The one growth and all clones come before the first element is moved.

@@ -1,14 +1,15 @@
 //! Elements taken out of a set, and the list made smaller.
-ghost use Rattle.std.specs.Prelude.{◌≡◌, ◌≤◌, ◌&&◌, not, cond, filter, Bool, None, IsOk, IsTrue, length, take};
+ghost use Rattle.std.specs.Prelude.{◌≡◌, ◌&&◌, not, cond, filter, Bool, None, IsOk, IsTrue};
 ghost use Rattle.std.specs.Fn.{CalledAt};
 ghost use Rattle.std.specs.List.Retain.{IsFiltered};
 ghost use Rattle.std.specs.Ordering.{eq_by_cmp};
 ghost use Rattle.vc_merge.specs.Ascending.{member, element_at};
-ghost use Rattle.vc_sets.specs.Retaining.{AnswersAs, IsAsked};
+ghost use Rattle.vc_merge.specs.Retaining.{AnswersAs, IsRetained};
 
 use super::VecSet;
 use std::alloc::{AllocError, Allocator};
 use std::default::MadeWith;
+use vc_merge::lists::keep_in_front;
 use vc_merge::search::find;
 
 impl<T: Ord + MadeWith<A> + Drop, const N: usize, A: Allocator + Copy> VecSet<T, N, A> {
@@ -37,7 +38,7 @@ impl<T: Ord + MadeWith<A> + Drop, const N: usize, A: Allocator + Copy> VecSet<T,
     pub fn retain<F: FnMut(&T) -> bool>(&mut self, f: F)
         requires { F.IsAlwaysCallable f }
         ensures filtered { IsFiltered (CalledAt F.FnMut) f self.old self.new }
-        ensures kept { (x : T) → IsAsked (CalledAt F.FnMut) (element_at T.cmp self.old x) (element_at T.cmp self.new x) }
+        ensures kept { (x : T) → IsRetained (CalledAt F.FnMut) (element_at T.cmp self.old x) (element_at T.cmp self.new x) }
         ensures members { (x : T) → IsTrue (member T.cmp self.new x) → IsTrue (member T.cmp self.old x) }
 
         // By a plain test, which answers as a function does, all that passes stays, and nothing else.
@@ -56,20 +57,4 @@ impl<T: Ord + MadeWith<A> + Drop, const N: usize, A: Allocator + Copy> VecSet<T,
         self.elements.shrink_to_fit();
         Ok(())
     }
-}
-
-/// Moves the elements at which `f` answers true to the front, in their order, and answers how many these are.
-pub fn keep_in_front<T, F: FnMut(&T) -> bool>(list: &mut [T], mut f: F) -> usize
-    requires { F.IsAlwaysCallable f }
-    ensures within { result ≤ length list.new }
-    ensures kept { IsFiltered (CalledAt F.FnMut) f list.old (take result list.new) }
-{
-    let mut kept = 0;
-    'elements: for at in 0..list.len() {
-        if f(&list[at]) {
-            list.swap(kept, at);
-            kept += 1;
-        }
-    }
-    kept
 }

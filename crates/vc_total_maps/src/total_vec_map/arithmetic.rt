@@ -1,6 +1,6 @@
 //! Arithmetic of total maps: that of their values, at every key. It is done on clones of the values.
 ghost use Rattle.std.specs.Prelude.{IfOk};
-ghost use Rattle.vc_sets.specs.SetOf.{ClonesAreEqual};
+ghost use Rattle.vc_merge.specs.Clones.{ClonesAreEqual};
 ghost use Rattle.vc_total_maps.specs.CombinedTotals.{HoldsEverywhere, IsCombined, CanOnClones, GivesOnClones};
 
 use super::TotalVecMap;

@@ -1,14 +1,11 @@
 //! A total map with what is made of its value at every key.
-ghost use Rattle.std.specs.Prelude.{◌≡◌, [], Ok, IfOk};
+ghost use Rattle.std.specs.Prelude.{◌≡◌, Ok, IfOk};
 ghost use Rattle.std.specs.Fn.{FnReturnsAt};
-ghost use Rattle.vc_joins.specs.Entries.{AscendsByKey};
-ghost use Rattle.vc_sets.specs.SetOf.{ClonesAreEqual};
-ghost use Rattle.vc_total_maps.specs.CombinedTotals.{HoldsEverywhere};
+ghost use Rattle.vc_merge.specs.Clones.{ClonesAreEqual};
 ghost use Rattle.vc_total_maps.specs.MappedTotals.{HoldsOfEach, IsMapped, CanOnClone, GivesOnClone};
-ghost use Rattle.vc_total_maps.specs.TotalMap.{total_map};
 
 use super::TotalVecMap;
-use super::combine::{AskValues, Combine, combine_pairs};
+use super::combine::{Combination, Combine, combine_pairs};
 use std::alloc::{AllocError, Allocator};
 use std::default::MadeWith;
 use std::ops::Neg;
@@ -42,22 +39,6 @@ impl<V: Clone + Neg<Output = V>> Combine<V, V> for Opposite {
     }
 }
 
-/// No pairs, at which and at those of the map the question may be asked. It says all that the combination of both asks, which would have to
-/// be shown there beside the size of the pairs that are made: that takes the checker a minute.
-fn no_pairs<'a, K: Ord, V, X: Eq + Drop, C: Combine<V, X>>(
-    pairs: &'a [(K, V)],
-    _question: &AskValues<'_, V, X, C>,
-) -> &'a [(K, V)]
-    requires ascends { AscendsByKey K.cmp pairs.now }
-    requires callable { HoldsOfEach K.cmp (λ x. C.can _question.now.combine.now x _question.now.right_default.now) (total_map pairs.now _question.now.left_default.now) }
-    ensures none { result.now ≡ [] }
-    ensures pairs_ascend { AscendsByKey K.cmp pairs.now }
-    ensures none_ascends { AscendsByKey K.cmp result.now }
-    ensures callable { HoldsEverywhere K.cmp (C.can _question.now.combine.now) (total_map pairs.now _question.now.left_default.now) (total_map result.now _question.now.right_default.now) }
-{
-    &pairs[..0]
-}
-
 /// What `change` makes of the left value at every key, and of the default.
 ///
 /// It is asked for the new default first, and then once at each key that the map lists, in ascending order.
@@ -76,16 +57,9 @@ where
     requires callable { HoldsOfEach K.cmp (λ x. C.can change.now x map.now.default) map.now }
     ensures { IfOk result (IsMapped K.cmp X.eq (λ x. C.may change.now x map.now.default) K.is_clone map.now) }
 {
-    let default = change.combine(&map.default, &map.default)?;
-    let question = AskValues {
-        left_default: &map.default,
-        right_default: &map.default,
-        new_default: &default,
-        combine: change,
-    };
-    let pairs = map.mappings.as_ref();
-    let none = no_pairs(pairs, &question);
-    let made = combine_pairs(map.mappings.allocator(), pairs, none, &question)?;
+    let default = change.combine(map.default_value(), map.default_value())?;
+    let maps = Combination::of_one(map, &default, change);
+    let made = combine_pairs(map.mappings.allocator(), &maps)?;
     let mappings = map_of_list(made);
     Ok(TotalVecMap { mappings, default })
 }

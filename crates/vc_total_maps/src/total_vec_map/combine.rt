@@ -1,13 +1,14 @@
 //! Two total maps combined at every key.
-ghost use Rattle.std.specs.Prelude.{◌≡◌, Ok, IfOk, ⊤};
+ghost use Rattle.std.specs.Prelude.{◌≡◌, [], Ok, IfOk, ⊤};
 ghost use Rattle.std.specs.Fn.{FnReturnsAtPair};
 ghost use Rattle.std.specs.Ordering.{max_by_ordering, min_by_ordering};
 ghost use Rattle.vc_joins.specs.Entries.{AscendsByKey};
 ghost use Rattle.vc_joins.specs.Join.{IsAsked};
 ghost use Rattle.vc_joins.specs.Question.{left_spelling};
-ghost use Rattle.vc_sets.specs.SetOf.{ClonesAreEqual};
+ghost use Rattle.vc_merge.specs.Clones.{ClonesAreEqual};
 ghost use Rattle.vc_total_maps.specs.Asking.{left_value, right_value, MayPlace};
 ghost use Rattle.vc_total_maps.specs.CombinedTotals.{HoldsEverywhere, IsCombined};
+ghost use Rattle.vc_total_maps.specs.MappedTotals.{HoldsOfEach};
 ghost use Rattle.vc_total_maps.specs.TotalMap.{total_map};
 
 use super::TotalVecMap;
@@ -34,17 +35,78 @@ pub(super) trait Combine<V, X> {
         ensures { IfOk result (may self.now left.now right.now) };
 }
 
-/// What a join asks for a combination: a map that lacks the key has its default there, and an answer that equals the default of the
-/// result is left out.
+/// Two maps that are combined, as pairs and defaults, and what their join asks at a key: a map that lacks it has its default there, and an
+/// answer that equals the default of the result is left out.
 #[derive(Drop)]
-pub(super) struct AskValues<'q, V, X, C> {
-    pub(super) left_default: &'q V,
-    pub(super) right_default: &'q V,
-    pub(super) new_default: &'q X,
-    pub(super) combine: &'q C,
+pub(super) struct Combination<'q, K, V, X, C> {
+    left: &'q [(K, V)],
+    left_default: &'q V,
+    right: &'q [(K, V)],
+    right_default: &'q V,
+    new_default: &'q X,
+    combine: &'q C,
 }
 
-impl<'q, K, V, X: Eq + Drop, C: Combine<V, X>> Question<K, V, V, X> for AskValues<'q, V, X, C> {
+impl<'q, K: Ord, V: Eq, X, C: Combine<V, X>> Combination<'q, K, V, X, C> {
+    /// Two maps, and the default of the result. It may be asked all that the outer join of their pairs asks.
+    fn of_two<const N: usize, A: Allocator>(
+        this: &'q TotalVecMap<K, V, N, A>,
+        that: &'q TotalVecMap<K, V, N, A>,
+        new_default: &'q X,
+        combine: &'q C,
+    ) -> Self
+        requires callable { HoldsEverywhere K.cmp (C.can combine.now) this.now that.now }
+        requires default { C.may combine.now this.now.default that.now.default new_default.now }
+        ensures left { total_map result.left.now result.left_default.now ≡ this.now }
+        ensures right { total_map result.right.now result.right_default.now ≡ that.now }
+        ensures same { (result.new_default.now ≡ new_default.now) × (result.combine.now ≡ combine.now) }
+        ensures left_ascends { AscendsByKey K.cmp result.left.now }
+        ensures right_ascends { AscendsByKey K.cmp result.right.now }
+        ensures takes { (a : _) → IsAsked K.cmp JoinKind.Outer left_spelling result.left.now result.right.now a
+            → C.can result.combine.now (left_value result.left_default.now a) (right_value result.right_default.now a) }
+        ensures default { C.may result.combine.now result.left_default.now result.right_default.now result.new_default.now }
+    {
+        Combination {
+            left: this.non_default_mappings().as_ref(),
+            left_default: this.default_value(),
+            right: that.non_default_mappings().as_ref(),
+            right_default: that.default_value(),
+            new_default,
+            combine,
+        }
+    }
+
+    /// A map beside one that lists nothing and has the same default, and the default of the result.
+    pub(super) fn of_one<const N: usize, A: Allocator>(
+        map: &'q TotalVecMap<K, V, N, A>,
+        new_default: &'q X,
+        combine: &'q C,
+    ) -> Self
+        requires callable { HoldsOfEach K.cmp (λ x. C.can combine.now x map.now.default) map.now }
+        requires default { C.may combine.now map.now.default map.now.default new_default.now }
+        ensures left { total_map result.left.now result.left_default.now ≡ map.now }
+        ensures right { total_map result.right.now result.right_default.now ≡ total_map [] map.now.default }
+        ensures same { (result.new_default.now ≡ new_default.now) × (result.combine.now ≡ combine.now) }
+        ensures left_ascends { AscendsByKey K.cmp result.left.now }
+        ensures right_ascends { AscendsByKey K.cmp result.right.now }
+        ensures takes { (a : _) → IsAsked K.cmp JoinKind.Outer left_spelling result.left.now result.right.now a
+            → C.can result.combine.now (left_value result.left_default.now a) (right_value result.right_default.now a) }
+        ensures default { C.may result.combine.now result.left_default.now result.right_default.now result.new_default.now }
+    {
+        let pairs = map.non_default_mappings().as_ref();
+        Combination {
+            left: pairs,
+            left_default: map.default_value(),
+            right: &pairs[..0],
+            right_default: map.default_value(),
+            new_default,
+            combine,
+        }
+    }
+}
+
+impl<'q, K, V, X: Eq + Drop, C: Combine<V, X>> Question<K, V, V, X>
+    for Combination<'q, K, V, X, C> {
     ghost takes = { λ q a. C.can q.combine.now (left_value q.left_default.now a) (right_value q.right_default.now a) };
 
     ghost may = { λ q a r. MayPlace X.eq (C.may q.combine.now (left_value q.left_default.now a) (right_value q.right_default.now a)) q.new_default.now r };
@@ -63,7 +125,7 @@ impl<'q, K, V, X: Eq + Drop, C: Combine<V, X>> Question<K, V, V, X> for AskValue
     }
 }
 
-/// The pairs of a combination, by a question that has its new default.
+/// The pairs of what is made of the two maps.
 pub(super) fn combine_pairs<
     K: Ord + Clone + Drop,
     V,
@@ -71,51 +133,20 @@ pub(super) fn combine_pairs<
     C: Combine<V, X>,
     const N: usize,
     A: Allocator + Copy,
->(
-    alloc: A,
-    this: &[(K, V)],
-    that: &[(K, V)],
-    question: &AskValues<'_, V, X, C>,
-) -> Result<SmallVec<(K, X), N, A>, AllocError>
+>(alloc: A, maps: &Combination<'_, K, V, X, C>) -> Result<SmallVec<(K, X), N, A>, AllocError>
 where
     (K, X): MadeWith<A>,
-    requires this_ascends { AscendsByKey K.cmp this.now }
-    requires that_ascends { AscendsByKey K.cmp that.now }
+    requires left_ascends { AscendsByKey K.cmp maps.now.left.now }
+    requires right_ascends { AscendsByKey K.cmp maps.now.right.now }
     requires clones { ClonesAreEqual K.cmp K.is_clone }
-    requires callable { HoldsEverywhere K.cmp (C.can question.now.combine.now) (total_map this.now question.now.left_default.now) (total_map that.now question.now.right_default.now) }
-    requires default { C.may question.now.combine.now question.now.left_default.now question.now.right_default.now question.now.new_default.now }
+    requires takes { (a : _) → IsAsked K.cmp JoinKind.Outer left_spelling maps.now.left.now maps.now.right.now a
+        → C.can maps.now.combine.now (left_value maps.now.left_default.now a) (right_value maps.now.right_default.now a) }
+    requires default { C.may maps.now.combine.now maps.now.left_default.now maps.now.right_default.now maps.now.new_default.now }
     ensures ascends { IfOk result (λ pairs. AscendsByKey K.cmp pairs.items) }
-    ensures combined { IfOk result (λ pairs. IsCombined K.cmp X.eq (C.may question.now.combine.now) K.is_clone (total_map this.now question.now.left_default.now) (total_map that.now question.now.right_default.now) (total_map pairs.items question.now.new_default.now)) }
+    ensures combined { IfOk result (λ pairs. IsCombined K.cmp X.eq (C.may maps.now.combine.now) K.is_clone (total_map maps.now.left.now maps.now.left_default.now) (total_map maps.now.right.now maps.now.right_default.now) (total_map pairs.items maps.now.new_default.now)) }
 {
-    may_ask(this, that, question);
-    join_asking(alloc, this, that, question)
+    join_asking(alloc, maps.left, maps.right, maps)
 }
-
-/// Does nothing. It says that a question may be asked all that the outer join of the lists asks. Beside the call of the join, whose answer
-/// has a size that the checker has to look at, that takes it a minute.
-fn may_ask<K: Ord, V, X: Eq + Drop, C: Combine<V, X>>(
-    _this: &[(K, V)],
-    _that: &[(K, V)],
-    _question: &AskValues<'_, V, X, C>,
-)
-    requires callable { HoldsEverywhere K.cmp (C.can _question.now.combine.now) (total_map _this.now _question.now.left_default.now) (total_map _that.now _question.now.right_default.now) }
-    ensures takes { (a : _) → IsAsked K.cmp JoinKind.Outer left_spelling _this.now _that.now a → C.can _question.now.combine.now (left_value _question.now.left_default.now a) (right_value _question.now.right_default.now a) }
-{}
-
-/// Does nothing. It says of the pairs of two maps all that their combination asks, which would have to be shown there beside the size of the
-/// pairs that are made: that takes the checker seconds more.
-fn may_combine<K: Ord, V, X: Eq + Drop, C: Combine<V, X>>(
-    _this: &[(K, V)],
-    _that: &[(K, V)],
-    _question: &AskValues<'_, V, X, C>,
-)
-    requires this_ascends { AscendsByKey K.cmp _this.now }
-    requires that_ascends { AscendsByKey K.cmp _that.now }
-    requires callable { HoldsEverywhere K.cmp (C.can _question.now.combine.now) (total_map _this.now _question.now.left_default.now) (total_map _that.now _question.now.right_default.now) }
-    ensures this_ascends { AscendsByKey K.cmp _this.now }
-    ensures that_ascends { AscendsByKey K.cmp _that.now }
-    ensures callable { HoldsEverywhere K.cmp (C.can _question.now.combine.now) (total_map _this.now _question.now.left_default.now) (total_map _that.now _question.now.right_default.now) }
-{}
 
 /// What `combine` makes of two total maps.
 ///
@@ -137,17 +168,9 @@ where
     requires callable { HoldsEverywhere K.cmp (C.can combine.now) this.now that.now }
     ensures { IfOk result (IsCombined K.cmp V.eq (C.may combine.now) K.is_clone this.now that.now) }
 {
-    let default = combine.combine(&this.default, &that.default)?;
-    let question = AskValues {
-        left_default: &this.default,
-        right_default: &that.default,
-        new_default: &default,
-        combine,
-    };
-    let left = this.mappings.as_ref();
-    let right = that.mappings.as_ref();
-    may_combine(left, right, &question);
-    let made = combine_pairs(this.mappings.allocator(), left, right, &question)?;
+    let default = combine.combine(this.default_value(), that.default_value())?;
+    let maps = Combination::of_two(this, that, &default, combine);
+    let made = combine_pairs(this.mappings.allocator(), &maps)?;
     let mappings = map_of_list(made);
     Ok(TotalVecMap { mappings, default })
 }

@@ -1,6 +1,7 @@
 //! The operations of total sets that build a fresh set, and the three tests of two sets.
 ghost use Rattle.std.specs.Prelude.{◌||◌, ◌&&◌, ◌↔◌, IfOk, IsTrue};
-ghost use Rattle.vc_sets.specs.SetOf.{ClonesAreEqual, IsSetOf, and_not, exactly_one};
+ghost use Rattle.vc_merge.specs.Clones.{ClonesAreEqual};
+ghost use Rattle.vc_sets.specs.SetOf.{IsSetOf, and_not, exactly_one};
 ghost use Rattle.vc_total_sets.specs.Cases.{said_by, kept_by};
 ghost use Rattle.vc_total_sets.specs.TotalOf.{IsTotalOf, IsTotalOfEither};
 ghost use Rattle.vc_total_sets.specs.TotalTests.{IsTotalSubset, IsTotalDisjoint};

@@ -1,5 +1,5 @@
 use Rattle.std.proofs.Common.{refl}
-use Rattle.vc_sets.proofs.Parted.{is-parted}
+use Rattle.vc_merge.proofs.Parted.{is-parted}
 use Rattle.vc_maps.proofs.combine.append_behind.Goals as goal
 
 pub returns-clause-front : goal.returns-clause-front

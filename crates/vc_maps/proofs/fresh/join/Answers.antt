@@ -1,15 +1,16 @@
 use Rattle.std.proofs.Common.{Ok, ap, arith}
 use Rattle.vc_joins.specs.Question.{shown_key}
-use Rattle.vc_sets.proofs.Clones.{clone-equal}
+use Rattle.vc_merge.proofs.Clones.{clone-equal}
 use Rattle.vc_maps.specs.FreshViews.{appended_pairs, list_name}
 use Rattle.vc_maps.proofs.Asked.{both-ascend, can-ask}
+use Rattle.vc_maps.proofs.Asking.{asked-kind}
 use Rattle.vc_maps.proofs.Joined.{merged-join}
 use Rattle.vc_maps.proofs.fresh.join.Goals as goal
 
 pub merge-requires-clause-ready : goal.merge-requires-clause-ready
 merge-requires-clause-ready g c =
     rw (c.new-state.ensures.a, c.new-state.ensures.b)
-    (tt, both-ascend g.K.Ord.cmp _ _ c.requires.this_ascends c.requires.that_ascends, can-ask g.K.Ord.cmp g.met.K.Ord.total _ _ _ _ c.requires.takes)
+    (tt, both-ascend g.K.Ord.cmp _ _ c.requires.this_ascends c.requires.that_ascends, can-ask g.K.Ord.cmp g.met.K.Ord.total _ _ _ _ (λ a h. c.requires.takes a h (asked-kind g.K.Ord.cmp c.args.kind a h)))
 
 pub merge-requires-clause-ascend : goal.merge-requires-clause-ascend
 merge-requires-clause-ascend g c = rw (c.new-state.ensures.a, c.new-state.ensures.b) (both-ascend g.K.Ord.cmp _ _ c.requires.this_ascends c.requires.that_ascends)

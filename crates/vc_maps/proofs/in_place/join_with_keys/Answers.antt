@@ -1,7 +1,7 @@
 use Rattle.std.proofs.Common.{◌≡◌, length, take, refl, sym, ap, subst, ◌∙◌}
 use Rattle.vc_joins.specs.Join.{OldKey, IsJoin}
 use Rattle.vc_joins.specs.Question.{left_spelling}
-use Rattle.vc_sets.proofs.Parted.{cut-off}
+use Rattle.vc_merge.proofs.Parted.{cut-off}
 use Rattle.vc_maps.proofs.Asking.{asked-of, join-of}
 use Rattle.vc_maps.proofs.in_place.join_with_keys.Goals as goal
 

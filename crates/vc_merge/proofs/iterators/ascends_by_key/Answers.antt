@@ -2,7 +2,7 @@ use Rattle.std.proofs.Common.{◌-◌, get_or, refl, sym, ap, ◌∙◌, is_lt}
 use mathlib.Core.Bool.{true≢false}
 use Rattle.std.proofs.lemmas.Cmp.{on_total}
 use Rattle.vc_merge.specs.Yielded.{by_first, keys-ascend}
-use Rattle.vc_merge.proofs.Lists.{ascends-not, ascends-from_below, pairs-ascend}
+use Rattle.vc_merge.proofs.ListLemmas.{ascends-not, ascends-from_below, pairs-ascend}
 use Rattle.vc_merge.proofs.iterators.ascends_by_key.Goals as goal
 
 pub returns-then-not-is_lt : goal.returns-then-not-is_lt

@@ -1,7 +1,7 @@
 use Rattle.std.proofs.Common.{false, ap, arith, take, ◌∙◌}
 use Rattle.vc_merge.specs.SmallVecViews.{built_items, list_name, right_items}
 use Rattle.vc_merge.proofs.Builds.{skips-adds}
-use Rattle.vc_sets.proofs.Clones.{clone-equal}
+use Rattle.vc_merge.proofs.Clones.{clone-equal}
 use Rattle.vc_sets.proofs.Combined.{merged-set_of}
 use Rattle.vc_sets.proofs.combine.combine_left.Goals as goal
 

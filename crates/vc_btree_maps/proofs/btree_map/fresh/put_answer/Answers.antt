@@ -1,4 +1,4 @@
-use Rattle.vc_sets.proofs.Clones.{clone-equal}
+use Rattle.vc_merge.proofs.Clones.{clone-equal}
 use Rattle.vc_btree_maps.proofs.Entering.{put-some, put-none}
 use Rattle.vc_btree_maps.proofs.btree_map.fresh.put_answer.Goals as goal
 

@@ -1,7 +1,7 @@
 use Rattle.std.proofs.Common.{drop, ap, ◌∙◌}
 use Rattle.std.proofs.lemmas.List.{length-take-le, take_rest}
 use Rattle.vc_maps.specs.KeptViews.{key_pairs}
-use Rattle.vc_merge.proofs.Lists.{each-weaker}
+use Rattle.vc_merge.proofs.ListLemmas.{each-weaker}
 use Rattle.vc_maps.proofs.Kept.{enough-keys, keys-passed}
 use Rattle.vc_maps.proofs.in_place.KeptStateJoinState.ask_b.Goals as goal
 

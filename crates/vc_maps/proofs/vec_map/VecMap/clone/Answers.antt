@@ -1,5 +1,5 @@
 use Rattle.std.proofs.Common.{◌∙◌}
-use Rattle.vc_sets.proofs.Clones.{clone-equal, clones-ascend}
+use Rattle.vc_merge.proofs.Clones.{clone-equal, clones-ascend}
 use Rattle.vc_maps.proofs.Retaining.{keys-cloned}
 use Rattle.vc_maps.proofs.vec_map.VecMap.clone.Goals as goal
 

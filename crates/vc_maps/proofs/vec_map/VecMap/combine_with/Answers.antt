@@ -4,7 +4,7 @@ use Rattle.vc_joins.specs.declared.question.OuterJoinArg.TheVariants.{Both}
 use Rattle.vc_joins.specs.Entries.{AscendsByKey}
 use Rattle.vc_joins.specs.Join.{IsJoin, MovedKey}
 use Rattle.vc_joins.specs.Question.{left_spelling}
-use Rattle.vc_sets.proofs.Parted.{cut-off}
+use Rattle.vc_merge.proofs.Parted.{cut-off}
 use Rattle.vc_maps.specs.Combining.{Combines}
 use Rattle.vc_maps.proofs.Asking.{asked-of, join-of}
 use Rattle.vc_maps.proofs.Combined.{combined-by}

@@ -1,7 +1,7 @@
 use Rattle.std.proofs.Common.{◌≡◌, List, Ok, Err, Result, IfOk, ◌∙◌}
 use Rattle.std.specs.Iterator.{Drains}
 use Rattle.std.specs.Map.Iter.{TakesFirst}
-use Rattle.vc_sets.proofs.Removing.{all-taken}
+use Rattle.vc_merge.proofs.Chosen.{all-taken}
 use Rattle.vc_maps.proofs.vec_map.VecMap.from_btree_map.Goals as goal
 
 -- what drains the iterator over a list is the list

@@ -63,9 +63,7 @@ pub returns-in_err-insert_at-in-Err-clause-room : goal.returns-in_err-insert_at-
 returns-in_err-insert_at-in-Err-clause-room g c =
     λ h.
     let v : length c.self.inside.pairs.items ≡ length c.args.self.now = ap length c.self.view_is in
-    let n = c.capacity-capacity.ensures.at_least_inline in
-    let e = c.capacity-capacity.ensures.value in
-    let o : is_ok c.insert_at.result ≡ true = c.insert_at.ensures.succeeds (omega arith) in
+    let o : is_ok c.insert_at.result ≡ true = c.insert_at.ensures.few (omega arith) in
     absurd (true≢false (sym o ∙ ap is_ok (c.in_err-insert_at-in-Err.was {u = tt})))
 
 pub returns-in_err-insert_at-in-Err-clause-known : goal.returns-in_err-insert_at-in-Err-clause-known

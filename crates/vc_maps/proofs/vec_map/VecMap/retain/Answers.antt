@@ -2,7 +2,7 @@ use Rattle.std.proofs.Common.{◌∙◌, length, take, sym, ap, subst}
 use Rattle.std.specs.Fn.{CalledAt}
 use Rattle.std.specs.List.Retain.{IsFiltered}
 use Rattle.vc_joins.specs.Entries.{AscendsByKey}
-use Rattle.vc_sets.proofs.Keeping.{front-refilled}
+use Rattle.vc_merge.proofs.Keeping.{front-refilled}
 use Rattle.vc_maps.proofs.Retaining.{chosen-ascends, entries-asked}
 use Rattle.vc_maps.proofs.vec_map.VecMap.retain.Goals as goal
 

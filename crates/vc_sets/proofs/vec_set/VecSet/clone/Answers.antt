@@ -1,6 +1,6 @@
 use Rattle.std.proofs.Common.{sym, subst}
 use Rattle.vc_merge.specs.Ascending.{Ascends}
-use Rattle.vc_sets.proofs.Clones.{clone-equal, clones-ascend}
+use Rattle.vc_merge.proofs.Clones.{clone-equal, clones-ascend}
 use Rattle.vc_sets.proofs.vec_set.VecSet.clone.Goals as goal
 
 pub invariant_of-result : goal.invariant_of-result

@@ -1,6 +1,6 @@
 use Rattle.std.proofs.Common.{◌≡◌, ◌||◌, subst}
 use Rattle.vc_sets.specs.SetOf.{IsSetOf}
-use Rattle.vc_sets.proofs.Parted.{on-ok}
+use Rattle.vc_merge.proofs.Parted.{on-ok}
 use Rattle.vc_sets.proofs.vec_set.VecSet.extend.Goals as goal
 
 pub returns-clause-runs : goal.returns-clause-runs

@@ -1,7 +1,7 @@
 use Rattle.std.proofs.Common.{◌≡◌, List, Ok, Err, Result, IfOk, ◌∙◌}
 use Rattle.std.specs.Iterator.{Drains}
 use Rattle.std.specs.Map.Iter.{TakesFirst}
-use Rattle.vc_sets.proofs.Removing.{all-taken}
+use Rattle.vc_merge.proofs.Chosen.{all-taken}
 use Rattle.vc_sets.proofs.vec_set.VecSet.from_btree_set.Goals as goal
 
 -- what drains the iterator over a list is the list

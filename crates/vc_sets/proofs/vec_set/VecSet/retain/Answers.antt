@@ -3,9 +3,9 @@ use Rattle.std.specs.Fn.{CalledAt}
 use Rattle.std.proofs.lemmas.Fn.{filter_same}
 use Rattle.std.specs.List.Retain.{IsFiltered}
 use Rattle.vc_merge.specs.Ascending.{Ascends}
-use Rattle.vc_sets.proofs.Removing.{ascends-chosen}
-use Rattle.vc_sets.proofs.Keeping.{front-refilled}
-use Rattle.vc_sets.proofs.Retained.{asked, asked-member}
+use Rattle.vc_merge.proofs.Chosen.{ascends-chosen}
+use Rattle.vc_merge.proofs.Keeping.{front-refilled}
+use Rattle.vc_merge.proofs.Retained.{asked, asked-member}
 use Rattle.vc_sets.proofs.vec_set.VecSet.retain.Goals as goal
 
 pub invariant_of-self : goal.invariant_of-self

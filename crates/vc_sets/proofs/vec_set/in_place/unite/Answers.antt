@@ -1,7 +1,9 @@
 use Rattle.std.proofs.Common.{◌≡◌, sym, subst}
 use Rattle.vc_merge.specs.Ascending.{Ascends}
-use Rattle.vc_sets.proofs.Clones.{clone-equal, clones-ascend, set_of-clones}
-use Rattle.vc_sets.proofs.Parted.{not-refused, is-parted, cut-off, set_of-parts}
+use Rattle.vc_merge.proofs.Clones.{clone-equal, clones-ascend}
+use Rattle.vc_sets.proofs.Clones.{set_of-clones}
+use Rattle.vc_merge.proofs.Parted.{not-refused, is-parted, cut-off}
+use Rattle.vc_sets.proofs.Parted.{set_of-parts}
 use Rattle.vc_sets.proofs.vec_set.in_place.unite.Goals as goal
 
 pub join-kept-requires-clause-left_ascends : goal.join-kept-requires-clause-left_ascends

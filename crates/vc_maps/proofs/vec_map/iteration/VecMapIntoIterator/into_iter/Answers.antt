@@ -4,7 +4,7 @@ use Rattle.std.specs.declared.cmp.Ordering.{Ordering}
 use Rattle.vc_joins.specs.Entries.{AscendsByKey}
 use Rattle.vc_merge.specs.Ascending.{Ascends}
 use Rattle.vc_merge.specs.Yielded.{AscendsAlong, by_first, list-along}
-use Rattle.vc_merge.proofs.Lists.{pairs-ascend}
+use Rattle.vc_merge.proofs.ListLemmas.{pairs-ascend}
 use Rattle.vc_maps.proofs.vec_map.iteration.VecMapIntoIterator.into_iter.Goals as goal
 
 -- whatever comes of a list of pairs whose keys ascend

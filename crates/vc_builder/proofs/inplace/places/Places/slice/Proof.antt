@@ -1,0 +1,86 @@
+-- `slice` shows a run of values that the places lend. Assumes `Logic`.
+use Rattle.vc_builder.proofs.WalkNames.{ !, ◌≡◌, refl, sym, ap, subst, ◌∙◌, List, [], ◌∷◌, ◌++◌, ℕ, ◌+◌, ◌*◌, ◌<◌, ◌^◌, arith, length, drop_l, length-take, length-drop, full_share, SProp, ent, never, id⊢, Lft, Share, ftrue, fat, flft, w64, a_type, inst_fn, Val, vptr, vint, Env, WpFn, ‵, raw, at_ret, ◌⊛◌, ◌$◌, ◌∵◌, qed, move, keep, drop, use1, split, join, rewrite, fsplit, fjoin, feq_i, feq_l, flt_i, flt_l, suffices, frame, done, whole, sub, agg, stop, fld, bin, of_opd, size_word, and_then, no_more, first, blocks, exec, returns, enter, alloc_all, pass_all, free_all, take_at, give_at, look_at, get, get_in, sets, sets_last, is, env, fact, tables, ◌⊑◌, RefOf, usize, yes, no, hide, unhide, layout, layouts, owns, Ptr, in_a_block, plain, types_at, slice_val, elements_shared, nothing, heard, says, Stays, stay_dropped, walk_of, ends_at, Goes-dropped, Some, length-map, proved_at, tail, El, R, times_below, uncapped, word, word-Good}
+use Rattle.vc_builder.specs.Places.{IsRun}
+use Rattle.vc_builder.specs.PlacesOwned.{places_lent}
+use Rattle.vc_builder.proofs.PlacesMemory.{Row, Start, bytes, word-had, run-seen}
+use Rattle.vc_builder.specs.contracts.inplace.places.Places.slice.{ended, clauses}
+use Rattle.vc_builder.specs.contracts.inplace.places.Places.slice.Key.{name as #self}
+use Rattle.vc_builder.proofs.inplace.places.Places.slice.Statement.{statement}
+use Rattle.vc_builder.proofs.inplace.places.Places.slice.Code as code
+
+pub slice_spec : {M : Type 1} → statement M
+slice_spec 𝓤 𝓛 𝓜 𝓡 wired X L =
+    let H = 𝓛.H in let 𝓣 = tables 𝓤 H 𝓜 𝓡 𝓡.env in let E : El = record { row = X; laws = L } in let Ends = ended X in
+    let c = clauses X 𝓛 𝓜.mem 𝓡.returns in
+    let inst = layouts (a_type ∷ []) (X, tt) in let fn = inst_fn inst code.function in
+    let self = RefOf (0 ∷ []) tt (plain (λ _. Row E)) (λ _. tt) in
+    let hs : Stays Ends.signature.params Ends.kept = (
+      stay_dropped self yes,
+      (
+        stay_dropped (plain (λ _. Start E)) no,
+        (stay_dropped (plain (λ _. usize)) yes, (stay_dropped (plain (λ _. usize)) yes, tt)),
+      ),
+    ) in
+    let number = Goes-dropped 𝓛 2 (plain (λ _. usize)) yes (λ κs x f. refl) in
+    proved_at 𝓛 Ends hs c 𝓜 𝓡 (
+      Goes-dropped 𝓛 2 self yes (λ κs x f. refl),
+      (Goes-dropped 𝓛 2 (plain (λ _. Start E)) no (λ κs x f. refl), (number, (number, tt))),
+    )
+    (#self inst) fn (code.unfolded 𝓤 H 𝓜 𝓡 wired (X, tt)) (λ z are.
+    let κ : Lft = z.0.0.0 in let κ₁ : Lft = z.0.0.1.0 in let q : Share = z.0.1.0 in let q₁ : Share = z.0.1.1.0 in
+    let a = z.0.3 in let vss = z.0.4 in
+    let rb : ℕ = a.0.ref_ptr.0 in let ro : ℕ = a.0.ref_ptr.1 in let d : (Row E).Denot = a.0.now in
+    let base : (Start E).Denot = a.1.0 in let from : ℕ = a.1.1.0 in let count : ℕ = a.1.1.1.0 in
+    let Asked : Type 0 = (base.ptr ≡ d.at) × IsRun d.row from count in
+    let Post : Val → SProp 𝓤 = (walk_of 𝓛 Ends hs c).post z in
+    let Run : List Val → SProp 𝓤 = λ ws. WpFn 𝓤 H 𝓣.C 𝓣.Λ fn ws Post in
+    let us : List Val = vptr rb ro ∷ word base.ptr ∷ vint w64 from ∷ vint w64 count ∷ [] in let s : ℕ = bytes E in
+    qed 𝓛 (((‵ (flft κ q) ⊛ ‵ (flft κ₁ q₁) ⊛ ‵ ftrue) ⊛ ‵ (owns (types_at Ends.signature.params z.0.0) a vss)) ∷ raw
+    (fact 𝓤 (κ₁ ⊑ X.lives)) ∷ raw (fact 𝓤 Asked) ∷ []) ∵
+    move ! (1 ∷ 2 ∷ []) $ heard ! (κ₁ ⊑ X.lives) (λ _. heard ! Asked (λ asked. split ! $ split ! $ move ! (2 ∷ []) $
+    let within = asked.1.0 in let xs : List X.Denot = asked.1.1.0 in let filled = asked.1.1.1 in
+    let long : length xs ≡ count = omega (
+      arith,
+      ap length filled,
+      length-map xs Some,
+      length-take count (drop_l from d.row),
+      length-drop from d.row,
+    ) in
+    fsplit ! $ fsplit ! $ feq_l ! (λ at_self. move ! (1 ∷ []) $ fsplit ! $ word-had ! base.ptr vss.1.0 (λ at_base.
+    fsplit ! $ fsplit ! $ feq_l ! (λ at_from. flt_l ! (λ small_from. fsplit ! $ fsplit ! $
+    feq_l ! (λ at_count. flt_l ! (λ small_count. keep ! (1 ∷ 2 ∷ 3 ∷ []) $
+    suffices ! (Run us) (subst (λ (ws : List Val). ent 𝓤 (Run us) (Run ws))
+    (sym (λ i. at_self i ++ (at_base i ++ (at_from i ++ (at_count i ++ []))))) (id⊢ 𝓤 (Run us))) $
+    -- [the `&`; the token; the other tokens]
+    enter ! 𝓣.C 𝓣.Λ fn us Post $ alloc_all !
+    (λ l. pass_all ! refl (
+      (tt, tt),
+      (word-Good [] base.ptr, ((tt, record { fits = small_from }), ((tt, record { fits = small_count }), tt))),
+    ) $
+    let Ev : Env 𝓤 H = env fn.locals l in
+    unhide ! $ fsplit ! $ drop ! $
+    in_a_block ! d.at (λ p. places_lent (R E) p d.row κ) (id⊢ 𝓤 (never 𝓤)) (λ b o at. fsplit ! $ flt_l ! (λ fit.
+    let far : from * s < 2 ^ 64 = omega (arith, times_below from (length d.row) s (2 ^ 63) (omega arith) fit) in
+    let place : ℕ × ℕ = (b, from * s + o) in
+    take_at ! 2 $ rewrite ! 0 (λ (p : Ptr). ‵ (fat full_share (layout (Start E)) (l 2) 0 (word p))) (asked.0
+    ∙ at) refl $ give_at ! 2 $ first ! $ blocks ! $
+    sets ! (is ! (bin ! (get ! refl) (size_word !)
+    (record { fits = subst (λ (k : ℕ). k < 2 ^ 64) (sym (uncapped from s far)) far }))
+    (ap (vint w64) (uncapped from s far))) refl (tt, record { fits = far }) $
+    sets ! (bin ! (get_in ! (fld ! refl (stop !)) (sub ! 0 refl (whole !))) (get ! refl) tt) refl (tt, tt) $
+    use1 𝓛 (‵ (elements_shared (R E) xs b place.1 κ)) (run-seen E 𝓛 b κ o d.row from count xs (omega arith) filled) $
+    hide ! $
+    sets_last ! (agg ! (and_then ! (get ! refl) (and_then ! (get ! refl) (no_more !)))) refl
+    (tt, (tt, (record { fits = small_count }, tt))) $
+    exec ! 𝓣.C 𝓣.Λ Ev (tail fn.body) (at_ret Ev Post) $
+    sets ! (of_opd ! (get ! refl)) refl (tt, (tt, (record { fits = small_count }, tt))) $
+    flt_i ! (length xs * s) (2 ^ 63) (times_below (length xs) (length d.row) s (2 ^ 63) (omega arith) fit) $
+    flt_i ! (length xs) (2 ^ 64) (omega arith) $ fjoin ! $
+    feq_i ! (List Val) (slice_val place count ∷ []) (slice_val place (length xs) ∷ [])
+    (ap (λ k. slice_val place k ∷ []) (sym long)) $ fjoin ! $ fjoin ! $
+    -- [the slice; the token; the other tokens]
+    returns ! (look_at ! 0 refl) $ free_all ! refl $ keep ! (0 ∷ 1 ∷ 2 ∷ []) $
+    suffices ! _ (ends_at 𝓛 Ends hs c z (slice_val place count) (record { ref_ptr = place; now = xs })
+    (tt, (tt, (tt, (tt, tt)))) (tt, (tt, (tt, (tt, tt))))) $ says ! filled $
+    move ! (1 ∷ 2 ∷ []) $ join ! $ frame ! $ nothing ! $ nothing ! $ fjoin ! $ nothing ! $ fjoin ! $ nothing ! $
+    fjoin ! $ nothing ! $ fjoin ! $ done !))))))))))))

@@ -1,0 +1,142 @@
+-- `slice_mut` lends a run of values, and the places follow it. Assumes `Logic`.
+use Rattle.vc_builder.proofs.WalkNames.{ !, split3, ◌≡◌, refl, sym, ap, subst, ◌∙◌, List, [], ◌∷◌, ◌++◌, map, ℕ, ◌+◌, ◌*◌, ◌<◌, ◌≤◌, ◌^◌, arith, length, take, drop_l, length-take, length-drop, length-append, take_front, Ura, full_share, SProp, ent, sep, never, id⊢, Fml, Lft, GName, Share, ftrue, fsep, fat, flft, named, w64, a_type, inst_fn, Val, vptr, vint, Env, WpFn, Logic, sem, cells, ‵, raw, some, later, await, pick, at_ret, ◌⊛◌, ◌$◌, ◌∵◌, qed, move, keep, use1, use2, split, join, group, rewrite, fsplit, fsplit3, fjoin, fjoin3, fpack, feq_l, flt_i, flt_l, suffices, frame, done, whole, sub, agg, stop, fld, bin, of_opd, size_word, and_then, no_more, first, blocks, exec, returns, enter, alloc_all, pass_all, free_all, take_at, give_at, look_at, get, get_in, sets, sets_last, is, env, fact, tables, ◌⊑◌, Array, usize, yes, no, follows, mem, part_of, cell_at, layout, layouts, owns, Ptr, block_ptr, in_a_block, MutBor, plain, mut_ref_to, types_at, MutSlice, slice_val, nothing, heard, opens, says, Stays, stay_dropped, walk_of, ends_at, Goes-dropped, Goes-spent_ref, Option, Some, refill, length-map, proved_at, tail, El, R, el_x, times_below, uncapped, word, word-Good}
+use denote.FollowSlice.{lends_Elements}
+use Rattle.vc_builder.specs.Places.{values, IsRun, spliced}
+use Rattle.vc_builder.specs.PlacesLend.{with_row}
+use Rattle.vc_builder.specs.PlacesOwned.{row_owned, places_owned}
+use Rattle.vc_builder.proofs.PlacesMemory.{Row, Start, Mark, bytes, word-had, Around, run-out, run-in, to-cells, of-cells}
+use Rattle.vc_builder.specs.contracts.inplace.places.Places.slice_mut.{ended, clauses}
+use Rattle.vc_builder.specs.contracts.inplace.places.Places.slice_mut.Key.{name as #self}
+use Rattle.vc_builder.proofs.inplace.places.Places.slice_mut.Statement.{statement}
+use Rattle.vc_builder.proofs.inplace.places.Places.slice_mut.Code as code
+
+module _ (E : El) (d : (Row E).Denot) (from count : ℕ) where
+  -- the places once the run was written over
+  abbrev written : List (el_x E) → (Row E).Denot
+  written ws = with_row d (spliced d.row from count (refill count (values (take count (drop_l from d.row))) ws))
+
+  module _ {M : Type 1} {𝓤 : Ura M} (𝓛 : Logic 𝓤) (rb ro b o : ℕ) (vs : List Val) where
+    -- all but the run
+    abbrev Others : Fml
+    Others = fsep (Around E 𝓛 b o d.row from count)
+        (fsep ((Mark E).own_val (tt, tt) vs) (cell_at full_share (Row E).mir vs rb ro))
+
+    -- the run goes back into the places, whatever was written into it
+    back : d.at ≡ block_ptr b o → from + count ≤ length d.row → length d.row * bytes E < 2 ^ 63 → (xs : List (el_x E))
+        → length xs ≡ count → (ws : List (el_x E)) → length ws ≡ length xs
+        → ent 𝓤 (sep 𝓤 (sem 𝓛 (cells (mem (R E)) ws b (from * bytes E + o))) (sem 𝓛 Others))
+        (sem 𝓛 ((mem (Row E)).own_at (written ws) rb ro))
+    unfolding part_of
+    back at within fit xs long ws same =
+        let old = values (take count (drop_l from d.row)) in let after = drop_l (from + count) d.row in
+        let run = from * bytes E + o in
+        let all : refill count old ws ≡ ws = take_front ws (drop_l (length ws) old) count (same ∙ long) in
+        let size : length (written ws).row ≡ length d.row = ap (λ l. length (spliced d.row from count l)) all
+        ∙ omega (
+          arith,
+          length-append (take from d.row) (map Some ws ++ after),
+          length-append (map Some ws) after,
+          length-map ws Some,
+          length-take from d.row,
+          length-drop (from + count) d.row,
+        ) in
+        qed 𝓛 (‵ (cells (mem (R E)) ws b run) ∷ ‵ Others ∷ []) ∵
+        use1 𝓛 (‵ (row_owned (R E) b run (map Some ws))) (of-cells E 𝓛 b ws run) $
+        move ! (1 ∷ []) $ fsplit3 ! $ move ! (3 ∷ 0 ∷ []) $
+        use2 𝓛 (‵ (row_owned (R E) b o (spliced d.row from count ws)))
+        (run-in E 𝓛 b o d.row from count within (map Some ws) (omega (arith, length-map ws Some))) $
+        rewrite ! 0 (λ (l : List (el_x E)). ‵ (row_owned (R E) b o (spliced d.row from count l))) (sym all) refl $
+        flt_i ! (length (written ws).row * bytes E) (2 ^ 63) (subst (λ k. k * bytes E < 2 ^ 63) (sym size) fit) $
+        fjoin ! $
+        rewrite ! 0 (λ (p : Ptr). ‵ (places_owned (R E) p (written ws).row)) (sym at) refl $ move ! (1 ∷ 0 ∷ []) $
+        fjoin ! $ move ! (1 ∷ 0 ∷ []) $ fjoin ! $
+        fpack ! (List Val) (λ us. fsep (cell_at full_share (Row E).mir us rb ro) ((Row E).own_val (written ws) us)) vs $
+        done !
+
+pub slice_mut_spec : {M : Type 1} → statement M
+slice_mut_spec 𝓤 𝓛 𝓜 𝓡 wired X L =
+    let H = 𝓛.H in let 𝓣 = tables 𝓤 H 𝓜 𝓡 𝓡.env in let E : El = record { row = X; laws = L } in let Ends = ended X in
+    let c = clauses X 𝓛 𝓜.mem 𝓡.returns in
+    let inst = layouts (a_type ∷ []) (X, tt) in let fn = inst_fn inst code.function in let self = plain (λ _. Row E) in
+    let hs : Stays Ends.signature.params Ends.kept = (
+      stay_dropped (mut_ref_to (0 ∷ []) tt self) no,
+      (
+        stay_dropped (plain (λ _. Start E)) no,
+        (stay_dropped (plain (λ _. usize)) yes, (stay_dropped (plain (λ _. usize)) yes, tt)),
+      ),
+    ) in
+    let number = Goes-dropped 𝓛 2 (plain (λ _. usize)) yes (λ κs x f. refl) in
+    proved_at 𝓛 Ends hs c 𝓜 𝓡 (
+      Goes-spent_ref 𝓛 2 (0 ∷ []) tt self,
+      (Goes-dropped 𝓛 2 (plain (λ _. Start E)) no (λ κs x f. refl), (number, (number, tt))),
+    )
+    (#self inst) fn (code.unfolded 𝓤 H 𝓜 𝓡 wired (X, tt)) (λ z are.
+    let κ : Lft = z.0.0.0 in let κ₁ : Lft = z.0.0.1.0 in let q : Share = z.0.1.0 in let q₁ : Share = z.0.1.1.0 in
+    let a = z.0.3 in let vss = z.0.4 in
+    let rb : ℕ = a.0.ref_ptr.0 in let ro : ℕ = a.0.ref_ptr.1 in let γ : GName = a.0.ghost_name in
+    let d : (Row E).Denot = a.0.now in let base : (Start E).Denot = a.1.0 in let from : ℕ = a.1.1.0 in
+    let count : ℕ = a.1.1.1.0 in
+    let Asked : Type 0 = (base.ptr ≡ d.at) × IsRun d.row from count in
+    let Post : Val → SProp 𝓤 = (walk_of 𝓛 Ends hs c).post z in
+    let Run : List Val → SProp 𝓤 = λ ws. WpFn 𝓤 H 𝓣.C 𝓣.Λ fn ws Post in
+    let us : List Val = vptr rb ro ∷ word base.ptr ∷ vint w64 from ∷ vint w64 count ∷ [] in let s : ℕ = bytes E in
+    let new = written E d from count in let shown = (Row E).coded.code d in
+    qed 𝓛 (((‵ (flft κ q) ⊛ ‵ (flft κ₁ q₁) ⊛ ‵ ftrue) ⊛ ‵ (owns (types_at Ends.signature.params z.0.0) a vss)) ∷ raw
+    (fact 𝓤 (κ₁ ⊑ X.lives)) ∷ raw (fact 𝓤 Asked) ∷ []) ∵
+    move ! (1 ∷ 2 ∷ []) $ heard ! (κ₁ ⊑ X.lives) (λ _. heard ! Asked (λ asked. split ! $ split ! $ move ! (2 ∷ []) $
+    let within = asked.1.0 in let xs : List X.Denot = asked.1.1.0 in let filled = asked.1.1.1 in
+    let long : length xs ≡ count = omega (
+      arith,
+      ap length filled,
+      length-map xs Some,
+      length-take count (drop_l from d.row),
+      length-drop from d.row,
+    ) in
+    fsplit ! $ fsplit3 ! $ feq_l ! (λ at_self. move ! (2 ∷ []) $ fsplit ! $ word-had ! base.ptr vss.1.0 (λ at_base.
+    fsplit ! $ fsplit ! $ feq_l ! (λ at_from. flt_l ! (λ small_from. fsplit ! $ fsplit ! $
+    feq_l ! (λ at_count. flt_l ! (λ small_count. keep ! (1 ∷ 2 ∷ 3 ∷ 4 ∷ []) $
+    suffices ! (Run us) (subst (λ (ws : List Val). ent 𝓤 (Run us) (Run ws))
+    (sym (λ i. at_self i ++ (at_base i ++ (at_from i ++ (at_count i ++ []))))) (id⊢ 𝓤 (Run us))) $
+    -- [what self shows; its borrow; the token; the other tokens]
+    enter ! 𝓣.C 𝓣.Λ fn us Post $ alloc_all !
+    (λ l. pass_all ! refl (
+      (tt, tt),
+      (word-Good [] base.ptr, ((tt, record { fits = small_from }), ((tt, record { fits = small_count }), tt))),
+    ) $
+    let Ev : Env 𝓤 H = env fn.locals l in
+    opens ! tt (Row E) {h = d} rb ro (λ vs. move ! (1 ∷ []) $ fsplit ! $ move ! (1 ∷ []) $
+    in_a_block ! d.at (λ p. places_owned (R E) p d.row) (id⊢ 𝓤 (never 𝓤)) (λ b o at. fsplit ! $ flt_l ! (λ fit.
+    let far : from * s < 2 ^ 64 = omega (arith, times_below from (length d.row) s (2 ^ 63) (omega arith) fit) in
+    take_at ! 2 $ rewrite ! 0 (λ (p : Ptr). ‵ (fat full_share (layout (Start E)) (l 2) 0 (word p))) (asked.0
+    ∙ at) refl $ give_at ! 2 $ first ! $ blocks ! $
+    sets ! (is ! (bin ! (get ! refl) (size_word !)
+    (record { fits = subst (λ (k : ℕ). k < 2 ^ 64) (sym (uncapped from s far)) far }))
+    (ap (vint w64) (uncapped from s far))) refl (tt, record { fits = far }) $
+    sets ! (bin ! (get_in ! (fld ! refl (stop !)) (sub ! 0 refl (whole !))) (get ! refl) tt) refl (tt, tt) $
+    let run : ℕ = from * s + o in let others = sem 𝓛 (Others E d from count 𝓛 rb ro b o vs) in
+    let way = back E d from count 𝓛 rb ro b o vs at within fit xs long in
+    let roomy : length xs < 2 ^ 64 = omega arith in
+    let fitting = times_below (length xs) (length d.row) s (2 ^ 63) (omega arith) fit in
+    use1 𝓛 (‵ (row_owned (R E) b run (take count (drop_l from d.row))) ⊛ ‵ (Around E 𝓛 b o d.row from count))
+    (run-out E 𝓛 b o d.row from count within) $ split ! $
+    rewrite ! 0 (λ (cs : List (Option X.Denot)). ‵ (row_owned (R E) b run cs)) filled refl $
+    use1 𝓛 (‵ (cells (mem (R E)) xs b run)) (to-cells E 𝓛 b xs run) $
+    sets_last ! (agg ! (and_then ! (get ! refl) (and_then ! (get ! refl) (no_more !)))) refl
+    (tt, (tt, (record { fits = small_count }, tt))) $
+    exec ! 𝓣.C 𝓣.Λ Ev (tail fn.body) (at_ret Ev Post) $
+    sets ! (of_opd ! (get ! refl)) refl (tt, (tt, (record { fits = small_count }, tt))) $
+    move ! (1 ∷ 2 ∷ 3 ∷ []) $ fjoin3 ! $ move ! (2 ∷ 3 ∷ 4 ∷ 1 ∷ 0 ∷ []) $ group ! 5 $
+    use1 𝓛 (later (some (λ (δ : GName).
+    ‵ ((MutSlice (named 0) κ (R E)).own_val (record { ref_ptr = (b, run); ghost_name = δ; now = xs })
+    (slice_val (b, run) (length xs) ∷ [])) ⊛ ‵ (flft κ q) ⊛ ‵ (follows (Row E) (Array (R E) 0) γ δ new))))
+    (lends_Elements 𝓛 (Row E) (R E) new (named 0) κ q rb ro b run γ xs (roomy, fitting) others way shown shown) $
+    await ! tt $ pick ! (λ δ.
+    let r : MutBor (List X.Denot) = record { ref_ptr = (b, run); ghost_name = δ; now = xs } in
+    split3 ! $ rewrite ! 0 (λ (k : ℕ).
+    ‵ ((MutSlice (named 0) κ (R E)).own_val r (slice_val (b, run) k ∷ []))) long refl $
+    -- [the slice; the token; what follows it; the other tokens]
+    returns ! (look_at ! 0 refl) $ free_all ! refl $ keep ! (0 ∷ 1 ∷ 2 ∷ 3 ∷ []) $
+    suffices ! _ (ends_at 𝓛 Ends hs c z (slice_val (b, run) count) r (tt, (tt, (tt, (tt, tt))))
+    (tt, (tt, (tt, (tt, tt))))) $
+    nothing ! $ nothing ! $ fjoin ! $ nothing ! $ fjoin ! $ nothing ! $ fjoin ! $ nothing ! $ fjoin ! $ join ! $
+    move ! (1 ∷ 3 ∷ []) $ join ! $ join ! $ frame ! $ says ! filled $ done !))))))))))))))

@@ -1,0 +1,93 @@
+-- `write` fills an empty place. Assumes `Logic`.
+use Rattle.vc_builder.proofs.WalkNames.{◌≡◌, refl, sym, subst, ◌∙◌, List, [], ◌∷◌, ◌++◌, ℕ, ◌+◌, ◌*◌, ◌<◌, ◌^◌, arith, length, set, get_or, length-set, full_share, SProp, ent, never, id⊢, Lft, Share, ftrue, fat, flft, a_type, w64, inst_fn, Val, vptr, vint, vunit, Env, WpFn, ‵, raw, ◌⊛◌, at_ret, ◌$◌, ◌∵◌, !, qed, move, keep, use1, use2, split, join, rewrite, fsplit, fsplit3, fjoin, fjoin3, feq_i, feq_l, flt_i, flt_l, suffices, frame, done, whole, sub, init, stop, fld, bin, of_opd, unit_lit, size_lit, assigns_last, first, blocks, exec, returns, enter, alloc_all, pass_all, free_all, take_at, give_at, look_at, get, get_in, through, sets, env, fact, tables, ◌⊑◌, usize, yes, no, layout, layouts, owns, Ptr, in_a_block, plain, types_at, nothing, heard, opens, closes, says, Stays, stay_dropped, stay_ref, walk_of, ends_at, Goes-dropped, Goes-ref, Some, None, proved_at, tail, El, R, elτ, one, Good, lawful, times_below, one_below, as_written, word, word-Good}
+use Rattle.vc_builder.specs.PlacesOwned.{place_owned, row_owned, places_owned}
+use Rattle.vc_builder.proofs.PlacesMemory.{Row, Start, bytes, word-had, value-in, Around, place-out, place-in}
+use Rattle.vc_builder.specs.PlacesLend.{with_row}
+use Rattle.vc_builder.specs.contracts.inplace.places.Places.write.{ended, clauses}
+use Rattle.vc_builder.specs.contracts.inplace.places.Places.write.Key.{name as #self}
+use Rattle.vc_builder.proofs.inplace.places.Places.write.Statement.{statement}
+use Rattle.vc_builder.proofs.inplace.places.Places.write.Code as code
+use Rattle.std.specs.Prelude.{Option}
+
+pub write_spec : {M : Type 1} → statement M
+write_spec 𝓤 𝓛 𝓜 𝓡 wired X L =
+    let H = 𝓛.H in let 𝓣 = tables 𝓤 H 𝓜 𝓡 𝓡.env in let E : El = record { row = X; laws = L } in let Ends = ended X in
+    let c = clauses X 𝓛 𝓜.mem 𝓡.returns in
+    let inst = layouts (a_type ∷ []) (X, tt) in let fn = inst_fn inst code.function in let self = plain (λ _. Row E) in
+    let hs : Stays Ends.signature.params Ends.kept = (
+      stay_ref (0 ∷ []) tt self,
+      (
+        stay_dropped (plain (λ _. Start E)) no,
+        (stay_dropped (plain (λ _. usize)) yes, (stay_dropped (plain (λ _. R E)) no, tt)),
+      ),
+    ) in
+    proved_at 𝓛 Ends hs c 𝓜 𝓡 (
+      Goes-ref 𝓛 2 0 tt self,
+      (
+        Goes-dropped 𝓛 2 (plain (λ _. Start E)) no (λ κs x f. refl),
+        (
+          Goes-dropped 𝓛 2 (plain (λ _. usize)) yes (λ κs x f. refl),
+          (Goes-dropped 𝓛 2 (plain (λ _. R E)) no (λ κs x f. refl), tt),
+        ),
+      ),
+    )
+    (#self inst) fn (code.unfolded 𝓤 H 𝓜 𝓡 wired (X, tt)) (λ z are.
+    let κ : Lft = z.0.0.0 in let κ₁ : Lft = z.0.0.1.0 in let q : Share = z.0.1.0 in let q₁ : Share = z.0.1.1.0 in
+    let a = z.0.3 in let vss = z.0.4 in
+    let rb : ℕ = a.0.ref_ptr.0 in let ro : ℕ = a.0.ref_ptr.1 in let d : (Row E).Denot = a.0.now in
+    let base : (Start E).Denot = a.1.0 in let index : ℕ = a.1.1.0 in let x : X.Denot = a.1.1.1.0 in
+    let Asked : Type 0 = (base.ptr ≡ d.at) × (index < length d.row) × (get_or d.row index None ≡ None) in
+    let told = one E vss.1.1.1.0 ((lawful E 𝓛).typed x vss.1.1.1.0 are.1.1.1.0) in let v : Val = told.0 in
+    let good : Good E v = told.2 in
+    let Post : Val → SProp 𝓤 = (walk_of 𝓛 Ends hs c).post z in
+    let Run : List Val → SProp 𝓤 = λ ws. WpFn 𝓤 H 𝓣.C 𝓣.Λ fn ws Post in
+    let us : List Val = vptr rb ro ∷ word base.ptr ∷ vint w64 index ∷ v ∷ [] in let s : ℕ = bytes E in
+    let new : (Row E).Denot = with_row d (set d.row index (Some x)) in
+    qed 𝓛 (((‵ (flft κ q) ⊛ ‵ (flft κ₁ q₁) ⊛ ‵ ftrue) ⊛ ‵ (owns (types_at Ends.signature.params z.0.0) a vss)) ∷ raw
+    (fact 𝓤 (κ₁ ⊑ X.lives)) ∷ raw (fact 𝓤 Asked) ∷ []) ∵
+    move ! (1 ∷ 2 ∷ []) $ heard ! (κ₁ ⊑ X.lives) (λ _. heard ! Asked (λ asked. split ! $ split ! $ move ! (2 ∷ []) $
+    fsplit ! $ fsplit3 ! $ feq_l ! (λ at_self. move ! (2 ∷ []) $ fsplit ! $ word-had ! base.ptr vss.1.0 (λ at_base.
+    fsplit ! $ fsplit ! $ feq_l ! (λ at_index. flt_l ! (λ small_index. fsplit ! $
+    rewrite ! 0 (λ (ws : List Val). ‵ ((R E).own_val x ws)) told.1 refl $ keep ! (2 ∷ 3 ∷ 4 ∷ 0 ∷ 5 ∷ []) $
+    suffices ! (Run us) (subst (λ (ws : List Val). ent 𝓤 (Run us) (Run ws))
+    (sym (λ i. at_self i ++ (at_base i ++ (at_index i ++ (told.1 i ++ []))))) (id⊢ 𝓤 (Run us))) $
+    -- [what self shows; its borrow; the token; what the value owns; the other tokens]
+    enter ! 𝓣.C 𝓣.Λ fn us Post $ alloc_all !
+    (λ l. pass_all ! refl ((tt, tt), (word-Good [] base.ptr, ((tt, record { fits = small_index }), (good, tt)))) $
+    let Ev : Env 𝓤 H = env fn.locals l in
+    opens ! tt (Row E) {h = d} rb ro (λ vs. move ! (1 ∷ []) $ fsplit ! $ move ! (1 ∷ []) $
+    in_a_block ! d.at (λ p. places_owned (R E) p d.row) (id⊢ 𝓤 (never 𝓤)) (λ b o at. fsplit ! $ flt_l ! (λ fit.
+    let tiny : s < 2 ^ 64 = omega (arith, one_below (length d.row) s (2 ^ 63) (omega (arith, asked.1)) fit) in
+    let far : index * s < 2 ^ 64 = omega (
+      arith,
+      times_below index (length d.row) s (2 ^ 63) (omega (arith, asked.1)) fit,
+    ) in
+    take_at ! 2 $ rewrite ! 0 (λ (p : Ptr). ‵ (fat full_share (layout (Start E)) (l 2) 0 (word p))) (asked.0
+    ∙ at) refl $ give_at ! 2 $ first ! $ blocks ! $
+    sets ! (bin ! (get ! refl) (size_lit ! (record { fits = tiny })) (record { fits = far })) refl (
+      tt,
+      record { fits = far },
+    ) $
+    sets ! (bin ! (get_in ! (fld ! refl (stop !)) (sub ! 0 refl (whole !))) (get ! refl) tt) refl (tt, tt) $
+    use1 𝓛 (‵ (place_owned (R E) b (index * s + o) (get_or d.row index None)) ⊛ ‵ (Around E 𝓛 b o d.row index 1))
+    (place-out E 𝓛 b o d.row index asked.1) $ split ! $
+    rewrite ! 0 (λ (cell : Option X.Denot). ‵ (place_owned (R E) b (index * s + o) cell)) asked.2 refl $
+    as_written ! (elτ E) b (index * s + o) $
+    -- [the room; the other places; the mark; its cell; the open borrow, in three; what the value owns; the other
+    -- tokens]
+    sets ! (of_opd ! (get ! refl)) refl good $
+    assigns_last ! (of_opd ! (get ! refl)) (through ! refl (stop !)) (init ! 0 refl good) $
+    exec ! 𝓣.C 𝓣.Λ Ev (tail fn.body) (at_ret Ev Post) $ sets ! (of_opd ! (unit_lit !)) refl (tt, tt) $
+    move ! (0 ∷ 7 ∷ []) $ use2 𝓛 (‵ (place_owned (R E) b (index * s + o) (Some x)))
+    (value-in E 𝓛 x b (index * s + o) v) $
+    use2 𝓛 (‵ (row_owned (R E) b o new.row)) (place-in E 𝓛 b o d.row index asked.1 (Some x)) $
+    flt_i ! (length new.row * s) (2 ^ 63) (subst (λ k. k * s < 2 ^ 63) (sym (length-set d.row index (Some x))) fit) $
+    fjoin ! $
+    rewrite ! 0 (λ (p : Ptr). ‵ (places_owned (R E) p new.row)) (sym at) refl $ move ! (1 ∷ 0 ∷ []) $ fjoin ! $
+    move ! (1 ∷ 0 ∷ []) $ closes ! tt (Row E) new vs rb ro $
+    returns ! (look_at ! 0 refl) $ free_all ! refl $ keep ! (0 ∷ 1 ∷ 2 ∷ 3 ∷ []) $
+    suffices ! _ (ends_at 𝓛 Ends hs c z vunit tt (new, (tt, (tt, (tt, tt)))) (tt, (tt, (tt, (tt, tt))))) $
+    says ! (refl, refl) $
+    move ! (2 ∷ 3 ∷ []) $ join ! $ frame ! $ feq_i ! (List Val) vss.0 (vptr rb ro ∷ []) at_self $ fjoin3 ! $ nothing ! $
+    nothing ! $ fjoin ! $ nothing ! $ fjoin ! $ nothing ! $ fjoin ! $ move ! (1 ∷ 0 ∷ []) $ fjoin ! $
+    feq_i ! (List Val) (vunit ∷ []) (vunit ∷ []) refl $ move ! (1 ∷ 0 ∷ []) $ done !)))))))))))

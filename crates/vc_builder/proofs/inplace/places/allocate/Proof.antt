@@ -1,0 +1,151 @@
+-- `allocate` cuts a new block into empty places, and keeps the right to free it. Assumes `Logic`.
+use Rattle.vc_builder.proofs.WalkNames.{ !, [], ◌≡◌, refl, sym, ap, subst, true, false, List, ◌∷◌, ◌++◌, ℕ, ◌*◌, ◌<◌, ◌^◌, arith, lit<, length, replicate, length-replicate, SProp, ent, id⊢, Lft, Share, ftrue, flft, Incl-trans, w64, ty_array, inst_fn, Val, vptr, vint, vstruct, vcons, vnil, Env, WpFn, Item, ⋆, ‵, raw, later, await, at_ret, ◌⊛◌, ◌$◌, ◌∵◌, qed, by, move, keep, use0, use1, use2, use3, split, join, fsplit, fsplit3, fjoin, feq_l, flt_i, flt_l, suffices, frame, done, whole, agg, lit, stop, fld, bin, of_opd, size_word, align_word, and_then, no_more, first, exec, returns, enter, alloc_all, pass_all, free_all, look_at, get, get_in, get_tag, sets, sets_last, lands_as, is, env, fact, tables, ◌⊑◌, RefOf, usize, yes, Is, layout, RattleType, owns, Ptr, block_ptr, plain, types_at, nothing, heard, says, Stays, stay_dropped, walk_of, ends_at, Goes-dropped, None, proved_at, El, R, elτ, uncapped, as_written, word, word-Good}
+use mir.Syntax.{Body}
+use prog.Memory.{align, capped}
+use prog.Capped.{capped_fits}
+use prog.Wp.{Wp, after_seq, at_return}
+use types.Kit.{Post as After, any_q}
+use types.Match.{live, vrt, in_variant}
+use types.Run.{switches_on}
+use denote.Steps.{owned}
+use denote.Struct.Struct.{Struct, Struct-Makes}
+use denote.Struct.Declared as Declared
+use denote.Struct.Tuple.{Tuple}
+use denote.Triple.Call.{calls_at}
+use denote.Triple.Table.{framed}
+use Rattle.std.specs.Prelude.{IfOk, Ok, Err}
+use Rattle.std.specs.Vec.Ownership.{FitsInBlock}
+use Rattle.core.specs.contracts.result.Result as results
+use Rattle.core.specs.contracts.alloc.AllocError as errors
+use Rattle.core.proofs.alloc.Calls.{Al, Answer-typed, Takes, at_takes, Answered, Takes-goes, Takes-gives, answers}
+use Rattle.core.proofs.slots.Leases.{block_ty, block_size, block_align, args, P}
+use Rattle.std_alloc.proofs.VecSteps.Shapes.{after, head, arm_body}
+use Rattle.std_alloc.proofs.ResultValues.{ok_of, err_of}
+use Rattle.std_alloc.proofs.RcSteps.{first_Good, Good as Whole}
+use Rattle.vc_builder.specs.PlacesOwned.{row_owned}
+use Rattle.vc_builder.proofs.PlacesMemory.{Row, Start, Mark, bytes, mark, mark-made, word-made, three_val, three-made, of-room}
+use Rattle.vc_builder.specs.contracts.inplace.places.Deed as deeds
+use Rattle.vc_builder.specs.contracts.inplace.places.allocate.{ended, clauses}
+use Rattle.vc_builder.specs.contracts.inplace.places.allocate.Key.{name as #self}
+use Rattle.vc_builder.proofs.inplace.places.allocate.Statement.{statement}
+use Rattle.vc_builder.proofs.inplace.places.allocate.Code as code
+
+pub allocate_spec : {M : Type 1} → statement M
+allocate_spec 𝓤 𝓛 𝓜 𝓡 wired X W LX LW g d dd met md =
+    let H = 𝓛.H in let 𝓣 = tables 𝓤 H 𝓜 𝓡 𝓡.env in let E : El = record { row = X; laws = LX } in
+    let Z : Al = record { row = W; laws = LW; g = g; d = d; drops = dd } in
+    let Ends = ended X W g d dd in let c = clauses X W g d dd 𝓛 𝓜.mem 𝓡.returns in
+    let fn = inst_fn (args E Z) code.function in
+    let lender = RefOf (0 ∷ []) tt (plain (λ _. P E Z)) (λ _. tt) in
+    let hs : Stays Ends.signature.params Ends.kept = (
+      stay_dropped lender yes,
+      (
+        stay_dropped (plain (λ _. usize)) yes,
+        tt,
+      ),
+    ) in
+    let Title : RattleType = deeds.the_row (R E) (P E Z) g in
+    let Three : RattleType = Tuple (Start E ∷ Row E ∷ Title ∷ []) in
+    let Out : RattleType = results.the_row Three errors.the_row in
+    let Request = Takes Z 𝓛 𝓜.mem 𝓡.returns in
+    proved_at 𝓛 Ends hs c 𝓜 𝓡 (
+      Goes-dropped 𝓛 3 lender yes (λ κs x f. refl),
+      (Goes-dropped 𝓛 3 (plain (λ _. usize)) yes (λ κs x f. refl), tt),
+    )
+    (#self (args E Z)) fn (code.unfolded 𝓤 H 𝓜 𝓡 wired (X, (W, tt)) d dd) (λ z are.
+    let κ : Lft = z.0.0.0 in let κ₁ : Lft = z.0.0.1.0 in let κ₂ : Lft = z.0.0.1.1.0 in let q : Share = z.0.1.0 in
+    let vss = z.0.4 in
+    let others : Item 𝓤 = ‵ (flft κ₁ z.0.1.1.0) ⊛ ‵ (flft κ₂ z.0.1.1.1.0) ⊛ ‵ ftrue in
+    let rb : ℕ = z.0.3.0.ref_ptr.0 in let ro : ℕ = z.0.3.0.ref_ptr.1 in let a : W.Denot = z.0.3.0.now in
+    let count : ℕ = z.0.3.1.0 in
+    let Asked : Type 0 = FitsInBlock (R E) count in let s : ℕ = bytes E in
+    let Post : Val → SProp 𝓤 = (walk_of 𝓛 Ends hs c).post z in
+    let Run : List Val → SProp 𝓤 = λ ws. WpFn 𝓤 H 𝓣.C 𝓣.Λ fn ws Post in
+    let us : List Val = vptr rb ro ∷ vint w64 count ∷ [] in
+    let leave : (r : Out.Denot) (v : Val)
+    → IfOk r (λ t. (t.1.at ≡ t.0.ptr) × (t.1.row ≡ replicate count None) × (t.2.at ≡ t.0.ptr) × (t.2.count ≡ count)
+    × (t.2.alloc ≡ a))
+    → ent 𝓤 (⋆ 𝓛 (‵ (Out.own_val r (v ∷ [])) ∷ ‵ (flft κ q) ∷ others ∷ [])) (Post v) = λ r v told.
+    qed 𝓛 (‵ (Out.own_val r (v ∷ [])) ∷ ‵ (flft κ q) ∷ others ∷ []) ∵
+    suffices ! _ (ends_at 𝓛 Ends hs c z v r (tt, (tt, tt)) (tt, (tt, tt))) $ says ! told $
+    move ! (1 ∷ 2 ∷ []) $ join ! $ frame ! $ nothing ! $ nothing ! $ fjoin ! $ nothing ! $ fjoin ! $ done ! in
+    qed 𝓛 (((‵ (flft κ q) ⊛ others) ⊛ ‵ (owns (types_at Ends.signature.params z.0.0) z.0.3 vss)) ∷ raw
+    (fact 𝓤 (κ₁ ⊑ X.lives)) ∷ raw (fact 𝓤 (κ₂ ⊑ W.lives)) ∷ raw (fact 𝓤 Asked) ∷ []) ∵
+    move ! (1 ∷ 2 ∷ 3 ∷ []) $ heard ! (κ₁ ⊑ X.lives)
+    (λ _. heard ! (κ₂ ⊑ W.lives) (λ within. heard ! Asked (λ asked. split ! $ split ! $ move ! (2 ∷ []) $
+    let small : count * s < 2 ^ 63 = asked.0 in let fit : count * s < 2 ^ 64 = omega arith in
+    fsplit3 ! $ fsplit ! $ feq_l ! (λ at_alloc. move ! (1 ∷ []) $ fsplit ! $
+    feq_l ! (λ at_count. flt_l ! (λ small_count. keep ! (0 ∷ 2 ∷ 3 ∷ []) $
+    suffices ! (Run us) (subst (λ (ws : List Val). ent 𝓤 (Run us) (Run ws))
+    (sym (λ i. at_alloc i ++ (at_count i ++ []))) (id⊢ 𝓤 (Run us))) $
+    -- [the `&` to the allocator; the token; the other tokens]
+    enter ! 𝓣.C 𝓣.Λ fn us Post $ alloc_all !
+    (λ l. pass_all ! refl ((tt, tt), ((tt, record { fits = small_count }), tt)) $
+    let Ev : Env 𝓤 H = env fn.locals l in let both : Body = head (after 2 fn.body) in
+    let alignment : ℕ = capped (align (elτ E)) in
+    let Then : After 𝓤 H = any_q (after_seq 𝓤 H (Wp 𝓤 H 𝓣.C 𝓣.Λ Ev (after 3 fn.body) (at_return 𝓤 H Ev Post))
+    (at_return 𝓤 H Ev Post)) in
+    let y : Request.Ghost = at_takes Z 𝓛 𝓜.mem 𝓡.returns κ q (rb, ro) a (count * s) alignment (block_ty E count) in
+    sets ! (is ! (bin ! (get ! refl) (size_word !)
+    (record { fits = subst (λ (k : ℕ). k < 2 ^ 64) (sym (uncapped count s fit)) fit }))
+    (ap (vint w64) (uncapped count s fit))) refl (tt, record { fits = fit }) $
+    use2 𝓛 (raw (Request.pre y)) (Takes-goes Z 𝓛 𝓜.mem 𝓡.returns κ q (rb, ro) a (Incl-trans z.0.2.0 within)
+    (count * s) alignment (block_ty E count) (block_size E count fit) (block_align E count) fit
+    (capped_fits (align (elτ E)))) $
+    calls_at ! (framed 𝓤 H 𝓜 𝓣) Request (met.allocate dd) y
+    (and_then ! (get ! refl) (and_then ! (get ! refl) (and_then ! (align_word !) (no_more !)))) (λ v.
+    use1 𝓛 (later (raw (Answered Z 𝓛 𝓜.mem 𝓡.returns a (block_ty E count) v) ⊛ ‵ (flft κ q)))
+    (Takes-gives Z 𝓛 𝓜.mem 𝓡.returns κ q (rb, ro) a (count * s) alignment (block_ty E count) v) $ await ! tt $ split ! $
+    answers Z ! 𝓜.mem 𝓡.returns a (block_ty E count) v
+    (λ b o is_block.
+    let p : Ptr = block_ptr b o in let start : (Start E).Denot = record { ptr = p } in
+    let row : (Row E).Denot = record { mark = record {}; at = p; row = replicate count None } in
+    let title : Title.Denot = record { mark = record {}; at = p; count = count; alloc = a } in
+    let made : Val = three_val (word p) mark mark in
+    let typed : Whole (layout Three) made = (tt, ((tt, tt), ((tt, tt), ((tt, tt), tt)))) in
+    let ok = first_Good (layout Three) made typed in
+    lands_as ! is_block refl (Answer-typed true b o) $ first ! $
+    switches_on ! (get_tag ! (vrt ! refl (fld ! refl (stop !))) (whole !)) $ exec ! 𝓣.C 𝓣.Λ Ev (arm_body 0 both) Then $
+    sets ! (of_opd ! (get_in ! (vrt ! refl (fld ! refl (stop !))) (in_variant ! 0 0 refl refl (whole !)))) refl (
+      tt,
+      tt,
+    ) $ sets ! (of_opd ! (get ! refl)) refl (tt, tt) $
+    sets ! (agg ! (and_then ! (get ! refl) (no_more !))) refl (word-Good [] p) $
+    sets ! (agg ! (no_more !)) refl (tt, tt) $
+    sets ! (agg ! (and_then ! (get ! refl) (no_more !))) refl (tt, (tt, tt)) $
+    sets ! (agg ! (no_more !)) refl (tt, tt) $
+    sets ! (agg ! (and_then ! (get ! refl) (no_more !))) refl (tt, (tt, tt)) $
+    sets ! (agg ! (and_then ! (get ! refl)
+    (and_then ! (get ! refl) (and_then ! (get ! refl) (no_more !))))) refl typed $
+    sets_last ! (agg ! (and_then ! (lit ! tt) (and_then ! (get ! refl) (no_more !)))) refl ok $
+    exec ! 𝓣.C 𝓣.Λ Ev (after 3 fn.body) (at_ret Ev Post) $ sets ! (of_opd ! (get ! refl)) refl ok $
+    -- [the room; the right to free it; ..], and the three parts are made of them
+    move ! (1 ∷ []) $ use0 𝓛 (‵ ((Mark E).own_val (tt, tt) (mark ∷ []))) (mark-made E 𝓛) $ fjoin ! $ move ! (1 ∷ []) $
+    as_written ! (ty_array (elτ E) count) b o $ use1 𝓛 (‵ (row_owned (R E) b o row.row)) (of-room E 𝓛 b count o) $
+    flt_i ! (length row.row * s) (2 ^ 63) (subst (λ k. k * s < 2 ^ 63) (sym (length-replicate count None)) small) $
+    fjoin ! $
+    use0 𝓛 (‵ ((Mark E).own_val (tt, tt) (mark ∷ []))) (mark-made E 𝓛) $ fjoin ! $ word-made ! p $
+    use3 𝓛 (‵ (Three.own_val (start, row, title) (made ∷ [])))
+    (three-made 𝓛 (Start E) (Row E) Title start row title (word p) mark mark) $
+    use1 𝓛 (‵ (Out.own_val (Ok (start, row, title)) (live 0 (vcons made vnil) ∷ [])))
+    (ok_of 𝓛 Three errors.the_row (start, row, title) made) $
+    returns ! (look_at ! 0 refl) $ free_all ! refl $ keep ! (0 ∷ 1 ∷ 2 ∷ []) $
+    by ! (leave (Ok (start, row, title)) (live 0 (vcons made vnil)) (refl, refl, refl, refl, refl)))
+    (λ is_refused.
+    let Refusal : RattleType = Struct (Declared.shape errors.the_type) in
+    let none : Val = live 1 (vcons (vstruct vnil) vnil) in
+    lands_as ! is_refused refl (Answer-typed false 0 0) $ first ! $
+    switches_on ! (get_tag ! (vrt ! refl (fld ! refl (stop !))) (whole !)) $ exec ! 𝓣.C 𝓣.Λ Ev (arm_body 1 both) Then $
+    sets ! (of_opd ! (get_in ! (vrt ! refl (fld ! refl (stop !))) (in_variant ! 1 0 refl refl (whole !)))) refl (
+      tt,
+      tt,
+    ) $
+    sets_last ! (agg ! (and_then ! (lit ! tt) (and_then ! (get ! refl) (no_more !)))) refl
+    (tt, (record { fits = lit< tt }, (tt, tt))) $
+    exec ! 𝓣.C 𝓣.Λ Ev (after 3 fn.body) (at_ret Ev Post) $
+    sets ! (of_opd ! (get ! refl)) refl (tt, (record { fits = lit< tt }, (tt, tt))) $
+    owned ! Refusal (Is Refusal) (Struct-Makes 𝓛 (Declared.shape errors.the_type) tt) tt (vstruct vnil ∷ [])
+    (tt, (refl, tt)) $
+    use1 𝓛 (‵ (Out.own_val (Err (record {})) (none ∷ []))) (err_of 𝓛 Three errors.the_row (record {}) (vstruct vnil)) $
+    returns ! (look_at ! 0 refl) $ free_all ! refl $ keep ! (0 ∷ 1 ∷ 2 ∷ []) $
+    by ! (leave (Err (record {})) none tt)))))))))))

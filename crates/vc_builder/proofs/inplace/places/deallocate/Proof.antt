@@ -1,0 +1,114 @@
+-- `deallocate` makes the block of its empty places, and gives it back. Assumes `Logic`.
+use Rattle.vc_builder.proofs.WalkNames.{ !, [], ◌≡◌, refl, sym, ap, subst, ◌∙◌, List, ◌∷◌, ◌++◌, ℕ, ◌*◌, ◌<◌, ◌^◌, arith, replicate, length-replicate, SProp, ent, never, id⊢, Lft, Share, ftrue, froom, flft, Incl-trans, w64, ty_array, ty_unit, inst_fn, Val, vptr, vint, vunit, has_ty, WT, Env, WpFn, Item, ‵, raw, given, later, await, learn, at_ret, ◌⊛◌, ◌$◌, ◌∵◌, qed, move, keep, use1, split, join, group, rewrite, fsplit, fsplit3, fjoin, feq_i, feq_l, flt_l, suffices, done, whole, sub, stop, fld, bin, of_opd, unit_lit, size_word, align_word, and_then, no_more, first, blocks, exec, returns, enter, alloc_all, pass_all, free_all, look_at, get, get_in, sets, lands_last, is, env, fact, tables, ◌⊑◌, RefOf, usize, yes, no, RattleType, owns, Ptr, ptr_val, in_a_block, plain, types_at, nothing, heard, Stays, stay_dropped, walk_of, ends_at, Goes-dropped, Option, None, proved_at, tail, El, R, elτ, uncapped, as_raw, word, word-Good}
+use lib.Dec.{T}
+use prog.Memory.{align, capped}
+use prog.Capped.{capped_fits}
+use denote.Triple.Call.{calls_at_last}
+use denote.Triple.Table.{framed}
+use Rattle.core.proofs.alloc.Calls.{Al, token, Gives, at_gives, Gives-goes, Gives-Gives, Goes-blank}
+use Rattle.core.proofs.slots.Leases.{block_ty, block_size, block_align, args, P}
+use Rattle.vc_builder.specs.PlacesOwned.{places_owned, deed_owned}
+use Rattle.vc_builder.proofs.PlacesMemory.{Row, Start, bytes, mark, mark-had, word-had, to-room}
+use Rattle.vc_builder.specs.contracts.inplace.places.Deed as deeds
+use Rattle.vc_builder.specs.contracts.inplace.places.deallocate.{ended, clauses}
+use Rattle.vc_builder.specs.contracts.inplace.places.deallocate.Key.{name as #self}
+use Rattle.vc_builder.proofs.inplace.places.deallocate.Statement.{statement}
+use Rattle.vc_builder.proofs.inplace.places.deallocate.Code as code
+
+pub deallocate_spec : {M : Type 1} → statement M
+deallocate_spec 𝓤 𝓛 𝓜 𝓡 wired X W LX LW g d dd met md =
+    let H = 𝓛.H in let 𝓣 = tables 𝓤 H 𝓜 𝓡 𝓡.env in let E : El = record { row = X; laws = LX } in
+    let Z : Al = record { row = W; laws = LW; g = g; d = d; drops = dd } in
+    let Ends = ended X W g d dd in let c = clauses X W g d dd 𝓛 𝓜.mem 𝓡.returns in
+    let fn = inst_fn (args E Z) code.function in
+    let lender = RefOf (0 ∷ []) tt (plain (λ _. P E Z)) (λ _. tt) in
+    let Title : RattleType = deeds.the_row (R E) (P E Z) g in
+    let hs : Stays Ends.signature.params Ends.kept = (
+      stay_dropped lender yes,
+      (
+        stay_dropped (plain (λ _. Start E)) no,
+        (
+          stay_dropped (plain (λ _. usize)) yes,
+          (stay_dropped (plain (λ _. Row E)) no, (stay_dropped (plain (λ _. Title)) no, tt)),
+        ),
+      ),
+    ) in
+    let Request = Gives Z 𝓛 𝓜.mem 𝓡.returns in
+    proved_at 𝓛 Ends hs c 𝓜 𝓡 (
+      Goes-dropped 𝓛 3 lender yes (λ κs x f. refl),
+      (
+        Goes-dropped 𝓛 3 (plain (λ _. Start E)) no (λ κs x f. refl),
+        (
+          Goes-dropped 𝓛 3 (plain (λ _. usize)) yes (λ κs x f. refl),
+          (
+            Goes-blank 𝓛 3 (plain (λ _. Row E)) no (λ κs x f. tt),
+            (
+              Goes-blank 𝓛 3 (plain (λ _. Title)) no (λ κs x f. tt),
+              tt,
+            ),
+          ),
+        ),
+      ),
+    )
+    (#self (args E Z)) fn (code.unfolded 𝓤 H 𝓜 𝓡 wired (X, (W, tt)) d dd) (λ z are.
+    let κ : Lft = z.0.0.0 in let κ₁ : Lft = z.0.0.1.0 in let κ₂ : Lft = z.0.0.1.1.0 in let q : Share = z.0.1.0 in
+    let vss = z.0.4 in
+    let others : Item 𝓤 = ‵ (flft κ₁ z.0.1.1.0) ⊛ ‵ (flft κ₂ z.0.1.1.1.0) ⊛ ‵ ftrue in
+    let rb : ℕ = z.0.3.0.ref_ptr.0 in let ro : ℕ = z.0.3.0.ref_ptr.1 in let a : W.Denot = z.0.3.0.now in
+    let base : (Start E).Denot = z.0.3.1.0 in let count : ℕ = z.0.3.1.1.0 in let row : (Row E).Denot = z.0.3.1.1.1.0 in
+    let title : Title.Denot = z.0.3.1.1.1.1.0 in
+    let Asked : Type 0 = (row.at ≡ base.ptr) × (row.row ≡ replicate count None) × (title.at ≡ base.ptr)
+    × (title.count ≡ count) × (title.alloc ≡ a) in let s : ℕ = bytes E in
+    let Post : Val → SProp 𝓤 = (walk_of 𝓛 Ends hs c).post z in
+    let Run : List Val → SProp 𝓤 = λ ws. WpFn 𝓤 H 𝓣.C 𝓣.Λ fn ws Post in
+    let us : List Val = vptr rb ro ∷ word base.ptr ∷ vint w64 count ∷ mark ∷ mark ∷ [] in
+    qed 𝓛 (((‵ (flft κ q) ⊛ others) ⊛ ‵ (owns (types_at Ends.signature.params z.0.0) z.0.3 vss)) ∷ raw
+    (fact 𝓤 (κ₁ ⊑ X.lives)) ∷ raw (fact 𝓤 (κ₂ ⊑ W.lives)) ∷ raw (fact 𝓤 Asked) ∷ []) ∵
+    move ! (1 ∷ 2 ∷ 3 ∷ []) $ heard ! (κ₁ ⊑ X.lives)
+    (λ _. heard ! (κ₂ ⊑ W.lives) (λ within. heard ! Asked (λ asked. split ! $ split ! $ move ! (2 ∷ []) $
+    fsplit3 ! $ fsplit ! $ feq_l ! (λ at_alloc. move ! (1 ∷ []) $
+    word-had ! base.ptr vss.1.0 (λ at_base. move ! (1 ∷ []) $ fsplit3 ! $ fsplit ! $
+    feq_l ! (λ at_count. flt_l ! (λ small_count.
+    fsplit ! $ mark-had ! E vss.1.1.1.0 (λ at_row. move ! (1 ∷ []) $ fsplit ! $ fsplit ! $
+    mark-had ! E vss.1.1.1.1.0 (λ at_title. keep ! (2 ∷ 0 ∷ 3 ∷ 4 ∷ 5 ∷ []) $
+    suffices ! (Run us) (subst (λ (ws : List Val). ent 𝓤 (Run us) (Run ws))
+    (sym (λ i. at_alloc i ++ (at_base i ++ (at_count i ++ (at_row i ++ (at_title i ++ [])))))) (id⊢ 𝓤 (Run us))) $
+    -- [the places; the right to free them; the `&` to the allocator; the token; the other tokens]
+    enter ! 𝓣.C 𝓣.Λ fn us Post $ alloc_all !
+    (λ l. pass_all ! refl (
+      (tt, tt),
+      (word-Good [] base.ptr, ((tt, record { fits = small_count }), ((tt, (tt, tt)), ((tt, (tt, tt)), tt)))),
+    ) $
+    let Ev : Env 𝓤 H = env fn.locals l in let alignment : ℕ = capped (align (elτ E)) in
+    rewrite ! 0 (λ (p : Ptr × List (Option X.Denot)). ‵ (places_owned (R E) p.0 p.1))
+    (λ i. (asked.0 i, asked.1 i)) refl $
+    in_a_block ! base.ptr (λ p. places_owned (R E) p (replicate count None)) (id⊢ 𝓤 (never 𝓤)) (λ b o at. fsplit ! $
+    flt_l ! (λ few.
+    let small : count * s < 2 ^ 63 = subst (λ k. k * s < 2 ^ 63) (length-replicate count None) few in
+    let fit : count * s < 2 ^ 64 = omega arith in
+    let y : Request.Ghost = at_gives Z 𝓛 𝓜.mem 𝓡.returns κ q (rb, ro) a b o (count * s) alignment (block_ty E count) in
+    rewrite ! 1 (λ (t : W.Denot × Ptr × ℕ). ‵ (deed_owned (R E) (token Z t.0) t.1 t.2))
+    (λ i. (asked.4 i, (asked.2 ∙ at) i, asked.3 i)) refl $
+    use1 𝓛 (‵ (froom (ty_array (elτ E) count) b o)) (to-room E 𝓛 b count o) $ as_raw ! (ty_array (elτ E) count) b o $
+    first ! $ blocks ! $
+    sets ! (is ! (of_opd ! (get_in ! (fld ! refl (stop !)) (sub ! 0 refl (whole !)))) (ap ptr_val at)) refl (tt, tt) $
+    sets ! (is ! (bin ! (get ! refl) (size_word !)
+    (record { fits = subst (λ (k : ℕ). k < 2 ^ 64) (sym (uncapped count s fit)) fit }))
+    (ap (vint w64) (uncapped count s fit))) refl (tt, record { fits = fit }) $
+    group ! 4 $ use1 𝓛 (raw (Request.pre y))
+    (Gives-goes Z 𝓛 𝓜.mem 𝓡.returns κ q (rb, ro) a (Incl-trans z.0.2.0 within) b o (count * s) alignment
+    (block_ty E count) (block_size E count fit) (block_align E count) fit (capped_fits (align (elτ E)))) $
+    calls_at_last ! (framed 𝓤 H 𝓜 𝓣) Request (met.deallocate dd) y
+    (and_then ! (get ! refl) (and_then ! (get ! refl)
+    (and_then ! (get ! refl) (and_then ! (align_word !) (no_more !))))) (λ v.
+    use1 𝓛 (later (given (v ≡ vunit) (‵ (flft κ q))))
+    (Gives-Gives Z 𝓛 𝓜.mem 𝓡.returns κ q (rb, ro) a b o (count * s) alignment (block_ty E count) v) $ await ! tt $
+    learn ! (λ is_unit.
+    lands_last ! refl (subst (λ (u : Val). T (has_ty ty_unit u) × WT u) (sym is_unit) (tt, tt)) $
+    exec ! 𝓣.C 𝓣.Λ Ev (tail fn.body) (at_ret Ev Post) $
+    sets ! (of_opd ! (unit_lit !)) refl (tt, tt) $ returns ! (look_at ! 0 refl) $ free_all ! refl $
+    keep ! (0 ∷ 1 ∷ []) $
+    suffices ! _ (ends_at 𝓛 Ends hs c z vunit tt (tt, (tt, (tt, (tt, (tt, tt))))) (tt, (tt, (tt, (tt, (tt, tt)))))) $
+    join ! $ feq_i ! (List Val) (vunit ∷ []) (vunit ∷ []) refl $ nothing ! $ nothing ! $ fjoin ! $ nothing ! $ fjoin ! $
+    nothing ! $ fjoin ! $ nothing ! $ fjoin ! $ nothing ! $ fjoin ! $ join ! $
+    move ! (1 ∷ 0 ∷ []) $ join ! $ nothing ! $ move ! (1 ∷ 0 ∷ []) $ done !)))))))))))))))

@@ -1,0 +1,6 @@
+pub mod Block
+pub mod Builder
+pub mod BuilderLends
+pub mod Places
+pub mod PlacesLend
+pub mod PlacesOwned

@@ -1,0 +1,161 @@
+//! The block of a builder: the built elements in front, a hole, and the elements that are left at the end.
+ghost use Rattle.std.specs.Prelude.{◌≡◌, ◌+◌, ◌-◌, ◌<◌, ◌≤◌, [], ◌∷◌, ◌++◌, length, take, drop, vec_len, vec_capacity, IfOk};
+ghost use Rattle.vc_builder.specs.Builder.{builder};
+ghost use Rattle.vc_builder.specs.Block.{block_built, block_rest, block_view, IsBlock, Becomes};
+
+use super::places::{Base, Deed, Places, allocate, deallocate};
+use super::source::Source;
+use std::alloc::{AllocError, Allocator};
+use std_alloc::room::may_hold;
+
+/// The built elements lie from place 0 on, and those that are left from the place `start` on to the end.
+pub struct Block<T, A: Allocator> {
+    pub(super) base: Base<T>,
+    pub(super) capacity: usize,
+    pub(super) built: usize,
+    pub(super) start: usize,
+    pub(super) places: Places<T>,
+    deed: Deed<T, A>,
+    alloc: A,
+}
+
+impl<T, A: Allocator> Block<T, A> {
+    /// A block that is all hole.
+    pub(super) fn with_capacity(alloc: A, capacity: usize) -> Result<Self, AllocError>
+        ensures { IfOk result (λ b. IsBlock b × (b.capacity ≡ capacity) × (block_view b ≡ builder [] [] capacity)) }
+    {
+        if !may_hold::<T>(capacity) {
+            return Err(AllocError);
+        }
+        let (base, places, deed) = allocate(&alloc, capacity)?;
+        Ok(Block {
+            base,
+            capacity,
+            built: 0,
+            start: capacity,
+            places,
+            deed,
+            alloc,
+        })
+    }
+
+    /// Gives an empty block back.
+    pub(super) fn destroy_empty(self)
+        requires { IsBlock self × (block_built self ≡ []) × (block_rest self ≡ []) }
+    {
+        let Block {
+            base,
+            capacity,
+            built: _,
+            start: _,
+            places,
+            deed,
+            alloc,
+        } = self;
+        deallocate(&alloc, base, capacity, places, deed);
+    }
+
+    /// Puts a value in front of those that are left.
+    pub(super) fn put_rest(&mut self, value: T)
+        requires { IsBlock self.old × (self.old.built < self.old.start) }
+        ensures { Becomes self.old self.new
+            (builder (block_built self.old) (value ∷ block_rest self.old) (self.old.start - self.old.built - 1)) }
+    {
+        self.start -= 1;
+        self.places.write(self.base, self.start, value);
+    }
+
+    /// Puts a value behind the built ones.
+    pub(super) fn put_built(&mut self, value: T)
+        requires { IsBlock self.old × (self.old.built < self.old.start) }
+        ensures { Becomes self.old self.new
+            (builder (block_built self.old ++ value ∷ []) (block_rest self.old) (self.old.start - self.old.built - 1)) }
+    {
+        self.places.write(self.base, self.built, value);
+        self.built += 1;
+    }
+
+    /// Takes the first of those that are left.
+    pub(super) fn take_rest(&mut self) -> T
+        requires { IsBlock self.old × (self.old.start < self.old.capacity) }
+        ensures value { block_rest self.old ≡ result ∷ drop 1 (block_rest self.old) }
+        ensures after { Becomes self.old self.new
+            (builder (block_built self.old) (drop 1 (block_rest self.old)) (self.old.start - self.old.built + 1)) }
+    {
+        let first = self.start;
+        self.start += 1;
+        self.places.read(self.base, first)
+    }
+
+    /// Counts the first `count` of those that are left as built. There is no hole, so none of them moves.
+    pub(super) fn pass(&mut self, count: usize)
+        requires { IsBlock self.old × (self.old.built ≡ self.old.start) × (self.old.start + count ≤ self.old.capacity) }
+        ensures { Becomes self.old self.new
+            (builder (block_built self.old ++ take count (block_rest self.old)) (drop count (block_rest self.old)) 0) }
+    {
+        self.built += count;
+        self.start += count;
+    }
+
+    /// Moves the first `count` of those that are left over the hole, behind the built ones.
+    pub(super) fn move_down(&mut self, count: usize)
+        requires { IsBlock self.old × (self.old.start + count ≤ self.old.capacity) }
+        ensures { Becomes self.old self.new
+            (builder (block_built self.old ++ take count (block_rest self.old)) (drop count (block_rest self.old))
+            (self.old.start - self.old.built)) }
+    {
+        let (built, start) = (self.built, self.start);
+        self.built += count;
+        self.start += count;
+        for moved in 0..count {
+            let value = self.places.read(self.base, start + moved);
+            self.places.write(self.base, built + moved, value);
+        }
+    }
+
+    pub(super) fn rest(&self) -> &[T]
+        requires { IsBlock self.now }
+        ensures { result.now ≡ block_rest self.now }
+    {
+        self.places
+            .slice(self.base, self.start, self.capacity - self.start)
+    }
+
+    /// Moves the elements of `list` to those that are left.
+    pub(super) fn fill<L: Source<T>>(&mut self, list: &mut L)
+        requires { IsBlock self.old × (block_built self.old ≡ []) × (block_rest self.old ≡ [])
+            × (length (L.items list.old) ≤ self.old.capacity) }
+        ensures after { Becomes self.old self.new
+            (builder [] (L.items list.old) (self.old.capacity - length (L.items list.old))) }
+        ensures emptied { L.items list.new ≡ [] }
+    {
+        for moved in 0..list.count() {
+            self.put_rest(list.take_out());
+        }
+    }
+
+    /// Drops those that are left.
+    pub(super) fn drop_rest(&mut self)
+    where
+        T: Drop,
+        requires { IsBlock self.old }
+        ensures { IsBlock self.new × (self.new.capacity ≡ self.old.capacity)
+            × (block_built self.new ≡ block_built self.old) × (block_rest self.new ≡ []) }
+    {
+        for dropped in self.start..self.capacity {
+            drop(self.take_rest());
+        }
+    }
+
+    /// Moves the built elements to the end of `list`.
+    pub(super) fn pour(&mut self, list: &mut Vec<T, A>)
+        requires { IsBlock self.old × (block_rest self.old ≡ [])
+            × (vec_len list.old + self.old.capacity ≤ vec_capacity list.old) }
+        ensures block { IsBlock self.new × (block_built self.new ≡ []) × (block_rest self.new ≡ []) }
+        ensures items { list.new.items ≡ list.old.items ++ block_built self.old }
+    {
+        let count = self.built;
+        self.built = 0;
+        self.places.move_front(self.base, count, list);
+    }
+}

@@ -1,0 +1,48 @@
+//! Lists that sets and maps change in their own places.
+ghost use Rattle.std.specs.Prelude.{◌≡◌, ◌≤◌, ◌++◌, length, take};
+ghost use Rattle.smallvec.specs.SmallVec.{HasRoomFor};
+ghost use Rattle.std.specs.Fn.{CalledAt};
+ghost use Rattle.std.specs.List.Retain.{IsFiltered};
+
+use smallvec::SmallVec;
+use std::alloc::Allocator;
+use std::default::MadeWith;
+use std::mem;
+
+/// Moves the elements of `that` to the end of `list`, which has room for them.
+///
+/// What lies on the heap comes out of a `Vec` and goes into a variable, so that no element asks again where either list lies.
+pub fn append_moved<T: MadeWith<A> + Drop, const N: usize, const M: usize, A: Allocator + Copy>(
+    list: &mut SmallVec<T, N, A>,
+    mut that: SmallVec<T, M, A>,
+)
+    requires { HasRoomFor list.old (length that.items) }
+    ensures { list.new.items ≡ list.old.items ++ that.items }
+{
+    if !that.spilled() {
+        let _fits = list.append(&mut that);
+        return;
+    }
+    let alloc = *list.allocator();
+    let mut whole = mem::replace(list, SmallVec::new(alloc));
+    for item in that.into_vec().unwrap() {
+        whole.push_reserved(item);
+    }
+    *list = whole;
+}
+
+/// Moves the elements at which `f` answers true to the front, in their order, and answers how many these are.
+pub fn keep_in_front<T, F: FnMut(&T) -> bool>(list: &mut [T], mut f: F) -> usize
+    requires { F.IsAlwaysCallable f }
+    ensures within { result ≤ length list.new }
+    ensures kept { IsFiltered (CalledAt F.FnMut) f list.old (take result list.new) }
+{
+    let mut kept = 0;
+    'elements: for at in 0..list.len() {
+        if f(&list[at]) {
+            list.swap(kept, at);
+            kept += 1;
+        }
+    }
+    kept
+}
