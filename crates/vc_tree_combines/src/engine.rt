@@ -12,13 +12,14 @@ ghost use Rattle.vc_tree_model.specs.Shortened.{weight};
 ghost use Rattle.vc_tree_nodes.specs.Children.{seen};
 ghost use Rattle.vc_tree_nodes.specs.Parting.{Agree};
 ghost use Rattle.vc_tree_facing.specs.Made.{IsMade, IsBothMade};
-ghost use Rattle.vc_tree_combines.specs.Ended.{IsEnded};
+ghost use Rattle.vc_tree_facing.specs.Facing.{trees_below};
+ghost use Rattle.vc_tree_combines.specs.Ended.{IsBegun, IsEnded};
 
 use std::alloc::{AllocError, Global};
 use vc_merge::merge::Count;
-use vc_tree_facing::facing::{Facing, face};
+use vc_tree_facing::facing::{Below, Facing, face};
 use vc_tree_facing::nodes::{finish, value_at};
-use vc_tree_facing::sides::Side;
+use vc_tree_facing::sides::{Side, Sides};
 use vc_tree_nodes::building::{Build, Seal};
 use vc_tree_nodes::reading::{RadixNode, TKey, TValue};
 
@@ -144,6 +145,67 @@ fn end<
     Ok(made)
 }
 
+/// The state of a combine, before the first event is done.
+#[derive(Drop)]
+struct Begun<'a, 'b, A, B, M> {
+    /// For how many components the prefixes agree.
+    front: usize,
+    /// What stands below them in the left tree.
+    left: Below<'a, A>,
+    /// What stands below them in the right tree.
+    right: Below<'b, B>,
+    /// The events of what stands below.
+    sides: Sides,
+    /// The trees that are made of them, with room for all.
+    kids: Vec<M>,
+}
+
+/// Lays two trees side by side, each without the front of its prefix, and makes room for what comes of them.
+fn begin<
+    'a,
+    'b,
+    K: TKey,
+    V: TValue,
+    W: TValue,
+    A: RadixNode<K, V>,
+    B: RadixNode<K, W>,
+    O: Combine<K, V, W, A, B>,
+    C: Count,
+>(
+    alloc: Global,
+    a: &'a A,
+    i: usize,
+    b: &'b B,
+    j: usize,
+    known: usize,
+    op: &O,
+    steps: &mut C,
+) -> Result<Begun<'a, 'b, A, B, O::Made>, AllocError>
+    requires left { i ≤ length (A.tree a.now).prefix }
+    requires right { j ≤ length (B.tree b.now).prefix }
+    requires known { Agree K.cmp (drop i (A.tree a.now).prefix) (drop j (B.tree b.now).prefix) known }
+    ensures begun { IfOk result (λ s. IsBegun K.cmp A.tree B.tree (shortened i (A.tree a.now)) (shortened j (B.tree b.now)) s.front
+        (trees_below s.left) s.left.from (trees_below s.right) s.right.from s.sides.items (map O.Made.tree s.kids.items)
+        (C.counted steps.old) (C.counted steps.new)) }
+    ensures counted { C.counted steps.new
+        ≤ C.counted steps.old + weight (shortened i (A.tree a.now)) + weight (shortened j (B.tree b.now)) }
+{
+    let Facing {
+        front,
+        left,
+        right,
+        sides,
+    } = face(alloc, a, i, b, j, known, steps)?;
+    let kids = Vec::with_capacity(alloc, op.expected(sides.as_slice()))?;
+    Ok(Begun {
+        front,
+        left,
+        right,
+        sides,
+        kids,
+    })
+}
+
 /// The combine of two trees, each without the front of its prefix: `None` where no key is left. The first `known` components that are
 /// left of either prefix are known to agree.
 pub fn combine_at<
@@ -174,13 +236,13 @@ pub fn combine_at<
     ensures counted { C.counted steps.new + 2
         ≤ C.counted steps.old + 3 * (weight (shortened i (A.tree a.now)) + weight (shortened j (B.tree b.now))) }
 {
-    let Facing {
+    let Begun {
         front,
         mut left,
         mut right,
         sides,
-    } = face(alloc, a, i, b, j, known, steps)?;
-    let mut kids = Vec::with_capacity(alloc, op.expected(sides.as_slice()))?;
+        mut kids,
+    } = begin(alloc, a, i, b, j, known, op, steps)?;
     let (from, other_from) = (left.from, right.from);
     let mut todo = sides.as_slice();
     while let Some((side, others)) = todo.split_first() {
