@@ -1,24 +1,15 @@
 -- Trees made of lists of pairs.
---     collected-none, collected-more, collected-next        of no pair, and of one more
+--     collected-more, collected-next        of one more pair
 use Rattle.std.proofs.Common.{◌≡◌, [], ◌∷◌, ◌++◌, List, Option, None, Some, Bool, true, false, cond, refl, sym, ap, subst, ◌∙◌, map}
 use Rattle.std.proofs.lemmas.List.{map-append}
 use Rattle.std.specs.declared.cmp.Ordering.{Ordering}
-use Rattle.vc_tree_model.specs.Key.{same_key, behind}
+use Rattle.vc_tree_model.specs.Key.{same_key}
 use Rattle.vc_tree_model.specs.Value.{IsKept}
-use Rattle.vc_tree_model.specs.Tree.{Tree, no_tree}
-use Rattle.vc_tree_model.specs.Map.{or_else, node_lookup, lookup, IsInserted}
+use Rattle.vc_tree_model.specs.Tree.{Tree}
+use Rattle.vc_tree_model.specs.Map.{or_else, lookup, IsInserted}
 use Rattle.vc_tree_model.specs.Pairs.{last_bound, IsCollected}
 
 module _ {K V : Type 0} (cmp : K → K → Ordering) where
-  -- the empty tree binds what no pair binds
-  pub collected-none : IsCollected cmp [] (no_tree {K = K} {V = V})
-  collected-none k = nothing (behind cmp [] k)
-    where
-      nothing : (left : Option (List K)) → node_lookup {K = K} {V = V} None (λ k. None) left ≡ None
-      nothing None = refl
-      nothing (Some []) = refl
-      nothing (Some (x ∷ rest)) = refl
-
   -- the first of three values
   or_else-assoc : (a b c : Option V) → or_else (or_else a b) c ≡ or_else a (or_else b c)
   or_else-assoc None b c = refl

@@ -9,6 +9,7 @@ pub mod AlikeLemmas
 pub mod FourConditions
 pub mod Shortening
 pub mod Smallness
+pub mod Shallowness
 pub mod Walking
 pub mod OneWalk
 pub mod Examples
@@ -20,3 +21,4 @@ pub mod Covering
 pub mod Running
 pub mod PrefixExamples
 pub mod CoverNodes
+pub mod Inserting

@@ -1,72 +1,26 @@
--- The machine's steps and runs are functions of maps, up to values that match.
---     all-removed, all-retained        removal and retention that admit each key, as the machine does
---     run-is_function        from equal maps a list of commands, accepted alike, leads to equal maps
-use Rattle.std.proofs.Common.{◌≡◌, [], ◌∷◌, List, Option, None, Some, Bool, true, false, cond, not, subst}
+-- The machine's steps and runs are functions of maps, up to copies of values.
+--     run-is_function        two runs, accepted alike, from maps whose values have one source lead to such maps
+use Rattle.std.proofs.Common.{◌≡◌, [], ◌∷◌, List, Option, None, Some, Bool, true, false, cond}
 use Rattle.std.specs.Option.{option_and, option_and_then}
 use Rattle.std.specs.declared.cmp.Ordering.{Ordering}
 use Rattle.vc_tree_model.specs.Key.{same_key, behind}
-use Rattle.vc_tree_model.specs.Value.{IsKept}
+use Rattle.vc_tree_model.specs.Value.{IsKept, Copies, itself, copies_trans}
+use Rattle.vc_tree_model.specs.Matches.{HaveOneSource}
 use Rattle.vc_tree_model.specs.Map.{or_else, lookup, IsEqualMap}
-use Rattle.vc_tree_model.specs.Cover.{cover, IsSifted, StaysOrGoes, IsRemoved, IsRetained}
+use Rattle.vc_tree_model.specs.Cover.{cover}
 use Rattle.vc_tree_model.specs.Machine.{Command, insert, prepend, filter, union, intersection, difference, remove_prefix, retain_prefix, unless_some, after, refused, Step, Run}
-use Rattle.vc_tree_model.specs.PrefixLaws.{IsEquivalence, RunIsFunction}
+use Rattle.vc_tree_model.specs.PrefixLaws.{RunIsFunction}
+use Rattle.vc_tree_model.proofs.ValueLemmas.{kept-refl, kept-trans}
 
 -- nothing is kept as nothing
 gone : {V : Type 0} (keeps : V → V → Type 0) (z : Option V) → z ≡ None → IsKept keeps None z
 gone keeps None e = tt
 gone keeps (Some v) e = cc
 
-module _ {V W : Type 0} (keeps : V → V → Type 0) where
-  -- at one key, removal
-  removed-at : (c : Option W) (v z : Option V) → IsSifted keeps (λ w b. b ≡ true) not c v z
-      → IsKept keeps (unless_some c v) z
-  removed-at None None z h = gone keeps z h
-  removed-at (Some w) None z h = gone keeps z h
-  removed-at None (Some v) z h = subst (λ b. StaysOrGoes keeps (not b) v z) h.1 h.2
-  removed-at (Some w) (Some v) z h = gone keeps z (subst (λ b. StaysOrGoes keeps (not b) v z) h.1 h.2)
-
-  -- and retention
-  retained-at : (c : Option W) (v z : Option V) → IsSifted keeps (λ w b. b ≡ true) (λ b. b) c v z
-      → IsKept keeps (option_and c v) z
-  retained-at None None z h = gone keeps z h
-  retained-at (Some w) None z h = gone keeps z h
-  retained-at None (Some v) z h = gone keeps z (subst (λ b. StaysOrGoes keeps b v z) h.1 h.2)
-  retained-at (Some w) (Some v) z h = subst (λ b. StaysOrGoes keeps b v z) h.1 h.2
-
-  module _ {K : Type 0} (q : List K → Option W) (f g : List K → Option V) where
-    -- removal that admits each key leaves the pairs of the keys without a cover
-    pub all-removed : IsRemoved keeps (λ w b. b ≡ true) q f g → IsEqualMap keeps (λ k. unless_some (cover q k) (f k)) g
-    all-removed r k = removed-at (cover q k) (f k) (g k) (r k)
-
-    -- and retention those of the keys with one
-    pub all-retained : IsRetained keeps (λ w b. b ≡ true) q f g → IsEqualMap keeps (λ k. option_and (cover q k) (f k)) g
-    all-retained r k = retained-at (cover q k) (f k) (g k) (r k)
-
-module _ {K V : Type 0} (cmp : K → K → Ordering) (matches : V → V → Type 0) (e : IsEquivalence matches) where
-  -- an optional value matches itself
-  kept_itself : (a : Option V) → IsKept matches a a
-  kept_itself None = tt
-  kept_itself (Some v) = e.itself v
-
-  -- both ways round
-  kept-back : (a b : Option V) → IsKept matches a b → IsKept matches b a
-  kept-back None None h = tt
-  kept-back None (Some w) h = absurd h
-  kept-back (Some v) None h = absurd h
-  kept-back (Some v) (Some w) h = e.back v w h
-
-  -- and over a third
-  kept-over : (a b c : Option V) → IsKept matches a b → IsKept matches b c → IsKept matches a c
-  kept-over None None None h g = tt
-  kept-over None None (Some w) h g = absurd g
-  kept-over None (Some v) c h g = absurd h
-  kept-over (Some u) None c h g = absurd h
-  kept-over (Some u) (Some v) None h g = absurd g
-  kept-over (Some u) (Some v) (Some w) h g = e.over u v w h g
-
+module _ {K V : Type 0} (cmp : K → K → Ordering) (matches : V → V → Type 0) (r : (v : V) → matches v v) where
   -- a choice by a test
   kept-cond : (t : Bool) (v : V) (a b : Option V) → IsKept matches a b → IsKept matches (cond t (Some v) a) (cond t (Some v) b)
-  kept-cond true v a b h = e.itself v
+  kept-cond true v a b h = r v
   kept-cond false v a b h = h
 
   -- what is left behind a prefix
@@ -88,7 +42,7 @@ module _ {K V : Type 0} (cmp : K → K → Ordering) (matches : V → V → Type
 
   -- before something
   kept-else : (a b c : Option V) → IsKept matches a b → IsKept matches (or_else a c) (or_else b c)
-  kept-else None None c h = kept_itself c
+  kept-else None None c h = kept-refl matches r c
   kept-else None (Some w) c h = absurd h
   kept-else (Some v) None c h = absurd h
   kept-else (Some v) (Some w) c h = h
@@ -117,25 +71,67 @@ module _ {K V : Type 0} (cmp : K → K → Ordering) (matches : V → V → Type
   refused-equal (remove_prefix t) m n h k = tt
   refused-equal (retain_prefix t) m n h k = tt
 
-  -- maps that equal two equal maps are equal
-  between : (a b c d : Option V) → IsKept matches a b → IsKept matches a c → IsKept matches b d → IsKept matches c d
-  between a b c d h p q = kept-over c a d (kept-back a c p) (kept-over a b d h q)
+module _ {V : Type 0} (is_clone : V → V → Type 0) where
+  -- a copy of a copy
+  over : (a b c : Option V) → IsKept (Copies is_clone) a b → IsKept (Copies is_clone) b c → IsKept (Copies is_clone) a c
+  over a b c h g = kept-trans (Copies is_clone) (λ u v w p q. copies_trans p q) a b c h g
 
-  -- one step
-  step-equal : (c : Command K V) (ok : Bool) (m n m' n' : List K → Option V) → IsEqualMap matches m n
-      → Step cmp matches m c ok m' → Step cmp matches n c ok n' → IsEqualMap matches m' n'
-  step-equal c true m n m' n' h p q k = between _ _ (m' k) (n' k) (after-equal c m n h k) (p k) (q k)
-  step-equal c false m n m' n' h p q k = between _ _ (m' k) (n' k) (refused-equal c m n h k) (p k) (q k)
+  -- two copies have one source
+  of-source : (a b c : Option V) → IsKept (Copies is_clone) a b → IsKept (Copies is_clone) a c
+      → IsKept (HaveOneSource is_clone) b c
+  of-source None None None h g = tt
+  of-source None None (Some w) h g = absurd g
+  of-source None (Some v) c h g = absurd h
+  of-source (Some u) None c h g = absurd h
+  of-source (Some u) (Some v) None h g = absurd g
+  of-source (Some u) (Some v) (Some w) h g = (u, h, g)
 
-  -- one step after another
-  run-equal : (m n : List K → Option V) (cs : List (Command K V)) (oks : List Bool) (m' n' : List K → Option V)
-      → IsEqualMap matches m n → Run cmp matches m cs oks m' → Run cmp matches n cs oks n' → IsEqualMap matches m' n'
-  run-equal m n [] [] m' n' h p q k = between _ _ (m' k) (n' k) (h k) (p k) (q k)
-  run-equal m n [] (ok ∷ oks) m' n' h p q k = absurd p
-  run-equal m n (c ∷ cs) [] m' n' h p q k = absurd p
-  run-equal m n (c ∷ cs) (ok ∷ oks) m' n' h p q k =
-      run-equal p.0 q.0 cs oks m' n' (step-equal c ok m n p.0 q.0 h p.1 q.1) p.2 q.2 k
+  -- the source of two values, of which both are copies
+  abbrev source : (a b : Option V) → IsKept (HaveOneSource is_clone) a b → Option V
+  source None b h = None
+  source (Some v) None h = None
+  source (Some v) (Some w) h = Some h.0
 
--- from equal maps a list of commands, accepted alike, leads to equal maps
-pub run-is_function : {K V : Type 0} (cmp : K → K → Ordering) (matches : V → V → Type 0) → RunIsFunction K V cmp matches
-run-is_function cmp matches e = run-equal cmp matches e
+  source-left : (a b : Option V) (h : IsKept (HaveOneSource is_clone) a b) → IsKept (Copies is_clone) (source a b h) a
+  source-left None b h = tt
+  source-left (Some v) None h = absurd h
+  source-left (Some v) (Some w) h = h.1
+
+  source-right : (a b : Option V) (h : IsKept (HaveOneSource is_clone) a b) → IsKept (Copies is_clone) (source a b h) b
+  source-right None None h = tt
+  source-right None (Some w) h = absurd h
+  source-right (Some v) None h = absurd h
+  source-right (Some v) (Some w) h = h.2
+
+module _ {K V : Type 0} (cmp : K → K → Ordering) (is_clone : V → V → Type 0) where
+  -- the map after a command, as it was accepted or refused
+  abbrev ended : Command K V → Bool → (List K → Option V) → List K → Option V
+  ended c true m = after cmp c m
+  ended c false m = refused cmp c m
+
+  -- from copies of the values of s a step leads to copies of those to which it leads from s
+  step-copied : (s m next : List K → Option V) (c : Command K V) (ok : Bool) → IsEqualMap (Copies is_clone) s m
+      → Step cmp (Copies is_clone) m c ok next → IsEqualMap (Copies is_clone) (ended c ok s) next
+  step-copied s m next c true h p k =
+      over is_clone _ _ (next k) (after-equal cmp (Copies is_clone) (λ v. itself) c s m h k) (p k)
+  step-copied s m next c false h p k =
+      over is_clone _ _ (next k) (refused-equal cmp (Copies is_clone) (λ v. itself) c s m h k) (p k)
+
+  -- so one step after another
+  run-copied : (s m n : List K → Option V) (cs : List (Command K V)) (oks : List Bool) (m' n' : List K → Option V)
+      → IsEqualMap (Copies is_clone) s m → IsEqualMap (Copies is_clone) s n → Run cmp (Copies is_clone) m cs oks m'
+      → Run cmp (Copies is_clone) n cs oks n' → IsEqualMap (HaveOneSource is_clone) m' n'
+  run-copied s m n [] [] m' n' f g p q k =
+      of-source is_clone (s k) (m' k) (n' k) (over is_clone (s k) (m k) (m' k) (f k) (p k))
+      (over is_clone (s k) (n k) (n' k) (g k) (q k))
+  run-copied s m n [] (ok ∷ oks) m' n' f g p q k = absurd p
+  run-copied s m n (c ∷ cs) [] m' n' f g p q k = absurd p
+  run-copied s m n (c ∷ cs) (ok ∷ oks) m' n' f g p q k =
+      run-copied (ended c ok s) p.0 q.0 cs oks m' n' (step-copied s m p.0 c ok f p.1) (step-copied s n q.0 c ok g q.1)
+      p.2 q.2 k
+
+  -- from maps whose values have one source a list of commands, accepted alike, leads to such maps
+  pub run-is_function : RunIsFunction K V cmp is_clone
+  run-is_function m n cs oks m' n' h p q =
+      run-copied (λ k. source is_clone (m k) (n k) (h k)) m n cs oks m' n'
+      (λ k. source-left is_clone (m k) (n k) (h k)) (λ k. source-right is_clone (m k) (n k) (h k)) p q

@@ -17,7 +17,7 @@ use Rattle.vc_tree_model.proofs.FourConditions.{meets-ordered}
 
 module _ {K V : Type 0} where
   -- how many trees a list has
-  abbrev width : Forest K V → ℕ
+  abbrev pub width : Forest K V → ℕ
   width bare = 0
   width (grow p v kids rest) = width rest + 1
 

@@ -13,6 +13,7 @@ use Rattle.vc_tree_model.specs.Canonical.{IsCanonical}
 use Rattle.vc_tree_model.specs.Conditions.{MeetsConditions, IsOrdered}
 use Rattle.vc_tree_model.specs.Same.{IsSame}
 use Rattle.vc_tree_model.specs.OneTree.{IsOneTree, IsSmallest}
+use Rattle.vc_tree_model.specs.Depth.{IsShallow}
 use Rattle.vc_tree_model.specs.Walk.{IsWalk, IsSamePair, walk}
 
 -- the order of slices is total on keys, and it tells equal keys, and which key is less
@@ -58,6 +59,10 @@ module _ (K V : Type 0) (cmp : K → K → Ordering) where
   KeyCountIsLength =
       (t : Tree K V) → IsCanonical cmp t → (l : List (List K × V)) → IsWalk cmp (lookup cmp t) l
       → length l ≡ key_count t
+
+  -- a canonical tree has few levels for its keys
+  abbrev pub CanonicalIsShallow : Type 0
+  CanonicalIsShallow = (t : Tree K V) → IsCanonical cmp t → IsShallow cmp t
 
   module _ (matches : V → V → Type 0) where
     -- canonical trees are the same exactly where their maps are equal

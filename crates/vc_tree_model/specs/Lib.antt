@@ -1,5 +1,6 @@
 pub mod Key
 pub mod Value
+pub mod Matches
 pub mod Tree
 pub mod TreeCode
 pub mod Map
@@ -11,6 +12,7 @@ pub mod Conditions
 pub mod Same
 pub mod Equal
 pub mod OneTree
+pub mod Depth
 pub mod Walk
 pub mod Laws
 pub mod Snapshot

@@ -1,21 +1,16 @@
--- The laws of maps by prefixes, of covers, and of the machine, as the functions of `laws` carry them.
-use Rattle.std.specs.Prelude.{◌≡◌, ◌⊎◌, ◌↔◌, Bool, List, Option, Some, None, is_some, map}
+-- The laws of maps by prefixes, of covers, of insertions and of the machine, as `laws` carries them.
+use Rattle.std.specs.Prelude.{◌≡◌, ◌⊎◌, ◌↔◌, Bool, List, Option, Some, None, IsFalse, is_some, map}
 use Rattle.std.specs.List.{filter}
 use Rattle.std.specs.declared.cmp.Ordering.{Ordering}
-use Rattle.vc_tree_model.specs.Key.{behind}
-use Rattle.vc_tree_model.specs.Value.{IsKept}
+use Rattle.vc_tree_model.specs.Key.{same_key, behind}
+use Rattle.vc_tree_model.specs.Value.{Copies, IsKept}
+use Rattle.vc_tree_model.specs.Matches.{HaveOneSource}
 use Rattle.vc_tree_model.specs.Tree.{Tree}
-use Rattle.vc_tree_model.specs.Map.{lookup, IsEqualMap}
+use Rattle.vc_tree_model.specs.Map.{lookup, IsEqualMap, IsUpdated}
 use Rattle.vc_tree_model.specs.Walk.{IsWalk, Lists, prepended}
 use Rattle.vc_tree_model.specs.Under.{under, prefixed}
 use Rattle.vc_tree_model.specs.Cover.{cover, IsLongestCover, IsRemoved, IsRetained}
 use Rattle.vc_tree_model.specs.Machine.{Command, Run}
-
--- a relation that holds of each value with itself, both ways round, and over a third
-pub record IsEquivalence {V : Type 0} (matches : V → V → Type 0) : Type 0 where
-  pub itself : (v : V) → matches v v
-  pub back : (v w : V) → matches v w → matches w v
-  pub over : (u v w : V) → matches u v → matches v w → matches u w
 
 module _ (K V : Type 0) (cmp : K → K → Ordering) where
   -- the walk of the pairs under a prefix is the walk of all, without the keys that do not start with the prefix
@@ -42,11 +37,20 @@ module _ (K V : Type 0) (cmp : K → K → Ordering) where
         (f g : List K → Option V) (l : List (List K × V)) (p : List K) → IsWalk cmp (under cmp f p) l
         → IsEqualMap matches (under cmp f p) g → ListsEqualMap l g
 
-    -- from equal maps a list of commands, accepted alike, leads to equal maps
-    abbrev pub RunIsFunction : Type 0
-    RunIsFunction =
-        IsEquivalence matches → (m n : List K → Option V) (cs : List (Command K V)) (oks : List Bool) (m' n' : List K → Option V)
-        → IsEqualMap matches m n → Run cmp matches m cs oks m' → Run cmp matches n cs oks n' → IsEqualMap matches m' n'
+  -- two keys that differ may be bound in either order
+  abbrev pub InsertsCommute : Type 0
+  InsertsCommute =
+      (j k : List K) (v w : V) (m left both right both' : List K → Option V) → IsFalse (same_key cmp j k)
+      → IsUpdated cmp (λ x y. x ≡ y) j v m left → IsUpdated cmp (λ x y. x ≡ y) k w left both
+      → IsUpdated cmp (λ x y. x ≡ y) k w m right → IsUpdated cmp (λ x y. x ≡ y) j v right both'
+      → IsEqualMap (λ x y. x ≡ y) both both'
+
+  -- from maps whose values have one source a list of commands, accepted alike, leads to such maps
+  abbrev pub RunIsFunction : (V → V → Type 0) → Type 0
+  RunIsFunction is_clone =
+      (m n : List K → Option V) (cs : List (Command K V)) (oks : List Bool) (m' n' : List K → Option V)
+      → IsEqualMap (HaveOneSource is_clone) m n → Run cmp (Copies is_clone) m cs oks m'
+      → Run cmp (Copies is_clone) n cs oks n' → IsEqualMap (HaveOneSource is_clone) m' n'
 
 -- the cover of a key is the value of the longest key that is a prefix of it
 abbrev pub CoverIsLongest : (K W : Type 0) → (K → K → Ordering) → Type 0

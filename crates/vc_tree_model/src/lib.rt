@@ -1,4 +1,5 @@
-//! What contracts on radix trees speak of: trees, keys, the map of a tree, canonical trees, and the laws of these definitions.
+//! What contracts on radix trees speak of: trees, keys, the map of a tree, canonical trees, and the
+//! laws of these definitions.
 #![tactic(auto)]
 
 pub mod laws;
