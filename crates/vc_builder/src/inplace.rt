@@ -15,12 +15,13 @@ mod source;
 
 pub use small::{close, open};
 
-/// A list that is built out of another one: its elements are taken over from the front, dropped or handed out,
-/// and new ones are put between.
+/// A list that is built out of another one: its elements are taken over from the front, dropped or
+/// handed out, and new ones are put between.
 ///
-/// It is seen as two lists, `built` and `rest`, and a number `room`. What was built stands in front, what is left
-/// of the old list behind it, and between them there is room for `room` more elements. Each call moves, drops or
-/// adds exactly the elements that it names. All memory is taken when it is made; no later call takes any.
+/// It is seen as two lists, `built` and `rest`, and a number `room`. What was built stands in
+/// front, what is left of the old list behind it, and between them there is room for `room` more
+/// elements. Each call moves, drops or adds exactly the elements that it names. All memory is taken
+/// when it is made; no later call takes any.
 ///
 /// # Examples
 ///
@@ -51,7 +52,8 @@ impl<T, A: Allocator> Model for InPlace<T, A> {
 
     ghost view = { λ s. block_view s.block };
 
-    ghost invariant = { λ s. IsBlock s.block × (s.finished.items ≡ []) × (s.block.capacity ≤ vec_capacity s.finished) };
+    ghost invariant = { λ s. IsBlock s.block × (s.finished.items ≡ [])
+        × (s.block.capacity ≤ vec_capacity s.finished) };
 }
 
 impl<T, A: Allocator> InPlace<T, A> {
@@ -61,8 +63,8 @@ impl<T, A: Allocator> InPlace<T, A> {
     ///
     /// # Errors
     ///
-    /// Where memory is refused, or the elements with the extra places are more than any list can hold; `list` is
-    /// then as it was. All memory is asked for before the first element is moved.
+    /// Where memory is refused, or the elements with the extra places are more than any list can
+    /// hold; `list` is then as it was. All memory is asked for before the first element is moved.
     pub fn new(list: &mut Vec<T, A>, extra: usize) -> Result<Self, AllocError>
     where
         T: Drop,
@@ -116,19 +118,21 @@ impl<T, A: Allocator> InPlace<T, A> {
         self.block.places.slice_mut(base, start, count)
     }
 
-    /// How many more elements fit: the extra places, and one for each element that was handed out or dropped,
-    /// less one for each that was pushed.
+    /// How many more elements fit: the extra places, and one for each element that was handed out
+    /// or dropped, less one for each that was pushed.
     pub fn room(&self) -> usize
         ensures { result ≡ self.now.room }
     {
         self.block.start - self.block.built
     }
 
-    /// Hands out the first element that is left, which makes room for one more. `None` where none is left.
+    /// Hands out the first element that is left, which makes room for one more. `None` where none
+    /// is left.
     pub fn pop_front(&mut self) -> Option<T>
         ensures none { IfNone result ((self.old.rest ≡ []) × (self.new ≡ self.old)) }
         ensures some { IfSome result (λ x. self.old.rest ≡ x ∷ self.new.rest) }
-        ensures others { OnSome result (self.new ≡ builder self.old.built (drop 1 self.old.rest) (self.old.room + 1)) }
+        ensures others { OnSome result (self.new
+            ≡ builder self.old.built (drop 1 self.old.rest) (self.old.room + 1)) }
     {
         if self.block.start == self.block.capacity {
             return None;
@@ -136,11 +140,13 @@ impl<T, A: Allocator> InPlace<T, A> {
         Some(self.block.take_rest())
     }
 
-    /// Hands out the first element that is left, which makes room for one more. The caller owes that there is one.
+    /// Hands out the first element that is left, which makes room for one more. The caller owes
+    /// that there is one.
     pub fn pop_first(&mut self) -> T
         requires { 0 < length self.old.rest }
         ensures value { self.old.rest ≡ result ∷ drop 1 self.old.rest }
-        ensures others { self.new ≡ builder self.old.built (drop 1 self.old.rest) (self.old.room + 1) }
+        ensures others { self.new ≡ builder self.old.built (drop 1 self.old.rest)
+            (self.old.room + 1) }
     {
         self.block.take_rest()
     }
@@ -148,7 +154,8 @@ impl<T, A: Allocator> InPlace<T, A> {
     /// Moves the first `n` elements that are left to the end of the built ones.
     pub fn take(&mut self, n: usize)
         requires { n ≤ length self.old.rest }
-        ensures { self.new ≡ builder (self.old.built ++ take n self.old.rest) (drop n self.old.rest) self.old.room }
+        ensures { self.new ≡ builder (self.old.built ++ take n self.old.rest) (drop n self.old.rest)
+            self.old.room }
     {
         if self.room() == 0 {
             self.block.pass(n);
@@ -172,7 +179,8 @@ impl<T, A: Allocator> InPlace<T, A> {
     /// Puts an element behind the built ones.
     pub fn push(&mut self, value: T)
         requires { 0 < self.old.room }
-        ensures { self.new ≡ builder (self.old.built ++ value ∷ []) self.old.rest (self.old.room - 1) }
+        ensures { self.new ≡ builder (self.old.built ++ value ∷ []) self.old.rest
+            (self.old.room - 1) }
     {
         self.block.put_built(value);
     }

@@ -57,16 +57,20 @@ module _ {K : Type 0} {cmp : K → K → Ordering} (total : IsTotalOrder cmp) wh
 
     -- ---- a pair, or none, in front of a list that is above it
 
-    front-above : (w x : K) (z : Option (K × X)) (rest : List (K × X)) → cmp w x ≡ Less → IsAtKey cmp x z → AllByRecursion (λ y. cmp w y ≡ Less) (keys_of rest) → AllByRecursion (λ y. cmp w y ≡ Less) (keys_of (cons_option z rest))
+    front-above : (w x : K) (z : Option (K × X)) (rest : List (K × X)) → cmp w x ≡ Less → IsAtKey cmp x z
+        → AllByRecursion (λ y. cmp w y ≡ Less) (keys_of rest)
+        → AllByRecursion (λ y. cmp w y ≡ Less) (keys_of (cons_option z rest))
     front-above w x None rest less e p = p
     front-above w x (Some q) rest less e p = (below-alike w x q.0 e less, p)
 
-    front-ascends : (x : K) (z : Option (K × X)) (rest : List (K × X)) → IsAtKey cmp x z → AllByRecursion (λ y. cmp x y ≡ Less) (keys_of rest) → AscendsByKey cmp rest → AscendsByKey cmp (cons_option z rest)
+    front-ascends : (x : K) (z : Option (K × X)) (rest : List (K × X)) → IsAtKey cmp x z
+        → AllByRecursion (λ y. cmp x y ≡ Less) (keys_of rest) → AscendsByKey cmp rest → AscendsByKey cmp (cons_option z rest)
     unfolding IsStrictlySortedBy
     front-ascends x None rest e p s = s
     front-ascends x (Some q) rest e p s = (above-alike x q.0 (keys_of rest) e p, s)
 
-    front-here : (k x : K) (z : Option (K × X)) (rest : List (K × X)) → is_at (cmp k) x ≡ true → IsAtKey cmp x z → AllByRecursion (λ y. cmp x y ≡ Less) (keys_of rest) → entry_at cmp (cons_option z rest) k ≡ z
+    front-here : (k x : K) (z : Option (K × X)) (rest : List (K × X)) → is_at (cmp k) x ≡ true → IsAtKey cmp x z
+        → AllByRecursion (λ y. cmp x y ≡ Less) (keys_of rest) → entry_at cmp (cons_option z rest) k ≡ z
     front-here k x None rest i e p = entry-above k x rest i p
     front-here k x (Some q) rest i e p = entry-first k q rest (at-alike k x q.0 e ∙ i)
 
@@ -83,14 +87,16 @@ module _ {K : Type 0} {cmp : K → K → Ordering} (total : IsTotalOrder cmp) wh
     lefts-above x (right_alone q ∷ es) p = lefts-above x es p.1
     lefts-above x (collision q r ∷ es) p = (p.0, lefts-above x es p.1)
 
-    rights-above : (x : K) (es : List (Event (K × V) (K × W))) → AllByRecursion (IsMatched (by_key cmp)) es → AllByRecursion (λ e. cmp x (event_key e) ≡ Less) es → AllByRecursion (λ y. cmp x y ≡ Less) (keys_of (rights es))
+    rights-above : (x : K) (es : List (Event (K × V) (K × W))) → AllByRecursion (IsMatched (by_key cmp)) es
+        → AllByRecursion (λ e. cmp x (event_key e) ≡ Less) es → AllByRecursion (λ y. cmp x y ≡ Less) (keys_of (rights es))
     rights-above x [] m p = tt
     rights-above x (left_alone q ∷ es) m p = rights-above x es m.1 p.1
     rights-above x (right_alone q ∷ es) m p = (p.0, rights-above x es m.1 p.1)
     rights-above x (collision q r ∷ es) m p = (below-alike x q.0 r.0 m.0 p.0, rights-above x es m.1 p.1)
 
     module _ {X : Type 0} (kind : JoinKind) (spelled : K → K → K) (alike : (j k : K) → cmp j k ≡ Equal → cmp j (spelled j k) ≡ Equal)
-        (May : OuterJoinArg K V W → Option X → Type 0) (Keeps : OuterJoinArg K V W → K → Type 0) (kept : (a : OuterJoinArg K V W) (k : K) → asks kind a ≡ true → Keeps a k → cmp (shown_key a) k ≡ Equal) where
+        (May : OuterJoinArg K V W → Option X → Type 0) (Keeps : OuterJoinArg K V W → K → Type 0)
+        (kept : (a : OuterJoinArg K V W) (k : K) → asks kind a ≡ true → Keeps a k → cmp (shown_key a) k ≡ Equal) where
       -- ---- one event
 
       -- the question of an event shows a key that is equal to its own
@@ -115,25 +121,36 @@ module _ {K : Type 0} {cmp : K → K → Ordering} (total : IsTotalOrder cmp) wh
           moved (shown_key a) (event_key e) z (shown-alike e m) (answer-key a (asks kind a) z refl h)
 
       -- what is asked at the key of the first event is its question
-      asked-here : (k : K) (e : Event (K × V) (K × W)) (es : List (Event (K × V) (K × W))) → is_at (cmp k) (event_key e) ≡ true → AllByRecursion (λ d. cmp (event_key e) (event_key d) ≡ Less) es → AllByRecursion (IsMatched (by_key cmp)) (e ∷ es)
+      asked-here : (k : K) (e : Event (K × V) (K × W)) (es : List (Event (K × V) (K × W))) → is_at (cmp k) (event_key e) ≡ true
+          → AllByRecursion (λ d. cmp (event_key e) (event_key d) ≡ Less) es → AllByRecursion (IsMatched (by_key cmp)) (e ∷ es)
           → asked kind spelled (entry_at cmp (lefts (e ∷ es)) k) (entry_at cmp (rights (e ∷ es)) k) ≡ if_asked kind (question_of spelled e)
-      asked-here k (left_alone p) es i above m = ap (λ o. asked kind spelled o (entry_at cmp (rights es) k)) (entry-first k p (lefts es) i) ∙ ap (λ o. asked kind spelled (Some p) o) (entry-above k p.0 (rights es) i (rights-above p.0 es m.1 above))
-      asked-here k (right_alone q) es i above m = ap (λ o. asked kind spelled o (entry_at cmp (q ∷ rights es) k)) (entry-above k q.0 (lefts es) i (lefts-above q.0 es above)) ∙ ap (λ o. asked kind spelled None o) (entry-first k q (rights es) i)
-      asked-here k (collision p q) es i above m = ap (λ o. asked kind spelled o (entry_at cmp (q ∷ rights es) k)) (entry-first k p (lefts es) i) ∙ ap (λ o. asked kind spelled (Some p) o) (entry-first k q (rights es) (at-alike k p.0 q.0 m.0 ∙ i))
+      asked-here k (left_alone p) es i above m = ap (λ o. asked kind spelled o (entry_at cmp (rights es) k))
+          (entry-first k p (lefts es) i)
+          ∙ ap (λ o. asked kind spelled (Some p) o) (entry-above k p.0 (rights es) i (rights-above p.0 es m.1 above))
+      asked-here k (right_alone q) es i above m = ap (λ o. asked kind spelled o (entry_at cmp (q ∷ rights es) k))
+          (entry-above k q.0 (lefts es) i (lefts-above q.0 es above))
+          ∙ ap (λ o. asked kind spelled None o) (entry-first k q (rights es) i)
+      asked-here k (collision p q) es i above m = ap (λ o. asked kind spelled o (entry_at cmp (q ∷ rights es) k))
+          (entry-first k p (lefts es) i)
+          ∙ ap (λ o. asked kind spelled (Some p) o) (entry-first k q (rights es) (at-alike k p.0 q.0 m.0 ∙ i))
 
       -- elsewhere the later events ask
       asked-elsewhere : (k : K) (e : Event (K × V) (K × W)) (es : List (Event (K × V) (K × W))) → is_at (cmp k) (event_key e) ≡ false → IsMatched (by_key cmp) e
           → asked kind spelled (entry_at cmp (lefts (e ∷ es)) k) (entry_at cmp (rights (e ∷ es)) k) ≡ asked kind spelled (entry_at cmp (lefts es) k) (entry_at cmp (rights es) k)
       asked-elsewhere k (left_alone p) es i m = ap (λ o. asked kind spelled o (entry_at cmp (rights es) k)) (entry-later k p (lefts es) i)
       asked-elsewhere k (right_alone q) es i m = ap (λ o. asked kind spelled (entry_at cmp (lefts es) k) o) (entry-later k q (rights es) i)
-      asked-elsewhere k (collision p q) es i m = ap (λ o. asked kind spelled o (entry_at cmp (q ∷ rights es) k)) (entry-later k p (lefts es) i) ∙ ap (λ o. asked kind spelled (entry_at cmp (lefts es) k) o) (entry-later k q (rights es) (at-alike k p.0 q.0 m ∙ i))
+      asked-elsewhere k (collision p q) es i m = ap (λ o. asked kind spelled o (entry_at cmp (q ∷ rights es) k))
+          (entry-later k p (lefts es) i)
+          ∙ ap (λ o. asked kind spelled (entry_at cmp (lefts es) k) o) (entry-later k q (rights es) (at-alike k p.0 q.0 m ∙ i))
 
       -- ---- what is asked at the events
 
       AsksAt : List (Event (K × V) (K × W)) → Event (K × V) (K × W) → Type 0
       AsksAt es e = asked kind spelled (entry_at cmp (lefts es) (event_key e)) (entry_at cmp (rights es) (event_key e)) ≡ if_asked kind (question_of spelled e)
 
-      asked-later : (d : Event (K × V) (K × W)) (es : List (Event (K × V) (K × W))) → IsMatched (by_key cmp) d → (later : List (Event (K × V) (K × W))) → AllByRecursion (λ e. cmp (event_key d) (event_key e) ≡ Less) later → AllByRecursion (AsksAt es) later → AllByRecursion (AsksAt (d ∷ es)) later
+      asked-later : (d : Event (K × V) (K × W)) (es : List (Event (K × V) (K × W))) → IsMatched (by_key cmp) d
+          → (later : List (Event (K × V) (K × W))) → AllByRecursion (λ e. cmp (event_key d) (event_key e) ≡ Less) later
+          → AllByRecursion (AsksAt es) later → AllByRecursion (AsksAt (d ∷ es)) later
       unfolding AsksAt
       asked-later d es m [] p h = tt
       asked-later d es m (e ∷ later) p h =
@@ -147,18 +164,24 @@ module _ {K : Type 0} {cmp : K → K → Ordering} (total : IsTotalOrder cmp) wh
       all-asked (e ∷ es) s m = (asked-here (event_key e) e es (ap is_eq (tied_itself total (event_key e))) s.0 m, asked-later e es m.0 es s.0 (all-asked es s.1 m.1))
 
       -- what holds of each question that is asked of two maps holds of that of each event that the join asks at
-      pub events-asked : (P : OuterJoinArg K V W → Type 0) (xs : List (K × V)) (ys : List (K × W)) (es : List (Event (K × V) (K × W))) → IsScript (by_key cmp) xs ys es → ((a : OuterJoinArg K V W) → IsAsked cmp kind spelled xs ys a → P a)
+      pub events-asked : (P : OuterJoinArg K V W → Type 0) (xs : List (K × V)) (ys : List (K × W))
+          (es : List (Event (K × V) (K × W))) → IsScript (by_key cmp) xs ys es
+          → ((a : OuterJoinArg K V W) → IsAsked cmp kind spelled xs ys a → P a)
           → AllByRecursion (λ e. asks kind (question_of spelled e) ≡ true → P (question_of spelled e)) es
       unfolding AsksAt
       events-asked P xs ys es s h =
-          let at : (e : Event (K × V) (K × W)) → asked kind spelled (entry_at cmp (lefts es) (event_key e)) (entry_at cmp (rights es) (event_key e)) ≡ if_asked kind (question_of spelled e) → asks kind (question_of spelled e) ≡ true → P (question_of spelled e) =
+          let at : (e : Event (K × V) (K × W)) → asked kind spelled (entry_at cmp (lefts es) (event_key e))
+          (entry_at cmp (rights es) (event_key e)) ≡ if_asked kind (question_of spelled e)
+          → asks kind (question_of spelled e) ≡ true → P (question_of spelled e) =
           λ e is q. h (question_of spelled e) (record {
             key = event_key e;
             asks = ap (λ l. asked kind spelled (entry_at cmp l (event_key e)) (entry_at cmp ys (event_key e))) (sym s.left)
                 ∙ ap (λ l. asked kind spelled (entry_at cmp (lefts es) (event_key e)) (entry_at cmp l (event_key e))) (sym s.right)
                 ∙ is ∙ ap (λ b. cond b (Some (question_of spelled e)) None) q;
           }) in
-          each-weaker (λ e. asked kind spelled (entry_at cmp (lefts es) (event_key e)) (entry_at cmp (rights es) (event_key e)) ≡ if_asked kind (question_of spelled e)) (λ e. asks kind (question_of spelled e) ≡ true → P (question_of spelled e)) at es (all-asked es s.ascends s.matched)
+          each-weaker (λ e. asked kind spelled (entry_at cmp (lefts es) (event_key e)) (entry_at cmp (rights es) (event_key e))
+          ≡ if_asked kind (question_of spelled e)) (λ e. asks kind (question_of spelled e) ≡ true → P (question_of spelled e))
+          at es (all-asked es s.ascends s.matched)
 
       -- ---- all events
 
@@ -170,14 +193,17 @@ module _ {K : Type 0} {cmp : K → K → Ordering} (total : IsTotalOrder cmp) wh
       front-added None first rest zs e f = f ∙ ap (λ l. l ++ rest) e
       front-added (Some p) first rest zs e f = f ∙ ap (λ l. l ++ rest) e
 
-      added-above : (x : K) (es : List (Event (K × V) (K × W))) (zs : List (K × X)) → AllByRecursion (λ e. cmp x (event_key e) ≡ Less) es → AllByRecursion (IsMatched (by_key cmp)) es → Added es zs → AllByRecursion (λ y. cmp x y ≡ Less) (keys_of zs)
+      added-above : (x : K) (es : List (Event (K × V) (K × W))) (zs : List (K × X))
+          → AllByRecursion (λ e. cmp x (event_key e) ≡ Less) es → AllByRecursion (IsMatched (by_key cmp)) es → Added es zs
+          → AllByRecursion (λ y. cmp x y ≡ Less) (keys_of zs)
       unfolding Added
       added-above x [] zs p m h = subst (λ l. AllByRecursion (λ y. cmp x y ≡ Less) (keys_of l)) (sym h) tt
       added-above x (e ∷ es) zs p m (first, rest, (z, answers, adds), others, is) =
           subst (λ l. AllByRecursion (λ y. cmp x y ≡ Less) (keys_of l)) (sym (front-added z first rest zs adds is))
           (front-above x (event_key e) z rest p.0 (added-key e z m.0 answers) (added-above x es rest p.1 m.1 others))
 
-      added-ascends : (es : List (Event (K × V) (K × W))) (zs : List (K × X)) → Ascends (λ d e. by_key cmp (place d) (place e)) es → AllByRecursion (IsMatched (by_key cmp)) es → Added es zs → AscendsByKey cmp zs
+      added-ascends : (es : List (Event (K × V) (K × W))) (zs : List (K × X)) → Ascends (λ d e. by_key cmp (place d) (place e)) es
+          → AllByRecursion (IsMatched (by_key cmp)) es → Added es zs → AscendsByKey cmp zs
       unfolding Added IsStrictlySortedBy
       added-ascends [] zs s m h = subst (λ l. AscendsByKey cmp l) (sym h) tt
       added-ascends (e ∷ es) zs s m (first, rest, (z, answers, adds), others, is) =
@@ -188,17 +214,23 @@ module _ {K : Type 0} {cmp : K → K → Ordering} (total : IsTotalOrder cmp) wh
       AnsweredAt k es zs = IsAnswered May Keeps (asked kind spelled (entry_at cmp (lefts es) k) (entry_at cmp (rights es) k)) (entry_at cmp zs k)
 
       answered-by : (k : K) (e : Event (K × V) (K × W)) (es : List (Event (K × V) (K × W))) (z : Option (K × X)) (rest : List (K × X)) (b : Bool) → is_at (cmp k) (event_key e) ≡ b
-          → AllByRecursion (λ d. cmp (event_key e) (event_key d) ≡ Less) es → AllByRecursion (IsMatched (by_key cmp)) (e ∷ es) → IsAnswered May Keeps (if_asked kind (question_of spelled e)) z → Added es rest
+          → AllByRecursion (λ d. cmp (event_key e) (event_key d) ≡ Less) es → AllByRecursion (IsMatched (by_key cmp)) (e ∷ es)
+          → IsAnswered May Keeps (if_asked kind (question_of spelled e)) z → Added es rest
           → AnsweredAt k es rest → AnsweredAt k (e ∷ es) (cons_option z rest)
       unfolding AnsweredAt
       answered-by k e es z rest true i above m answers others h =
           subst (λ a. IsAnswered May Keeps a (entry_at cmp (cons_option z rest) k)) (sym (asked-here k e es i above m))
-          (subst (λ o. IsAnswered May Keeps (if_asked kind (question_of spelled e)) o) (sym (front-here k (event_key e) z rest i (added-key e z m.0 answers) (added-above (event_key e) es rest above m.1 others))) answers)
+          (subst (λ o. IsAnswered May Keeps (if_asked kind (question_of spelled e)) o)
+          (sym (front-here k (event_key e) z rest i (added-key e z m.0 answers)
+          (added-above (event_key e) es rest above m.1 others))) answers)
       answered-by k e es z rest false i above m answers others h =
           subst (λ a. IsAnswered May Keeps a (entry_at cmp (cons_option z rest) k)) (sym (asked-elsewhere k e es i m.0))
-          (subst (λ o. IsAnswered May Keeps (asked kind spelled (entry_at cmp (lefts es) k) (entry_at cmp (rights es) k)) o) (sym (front-elsewhere k (event_key e) z rest i (added-key e z m.0 answers))) h)
+          (subst (λ o. IsAnswered May Keeps (asked kind spelled (entry_at cmp (lefts es) k) (entry_at cmp (rights es) k)) o)
+          (sym (front-elsewhere k (event_key e) z rest i (added-key e z m.0 answers))) h)
 
-      answered : (k : K) (es : List (Event (K × V) (K × W))) (zs : List (K × X)) → Ascends (λ d e. by_key cmp (place d) (place e)) es → AllByRecursion (IsMatched (by_key cmp)) es → Added es zs → AnsweredAt k es zs
+      answered : (k : K) (es : List (Event (K × V) (K × W))) (zs : List (K × X))
+          → Ascends (λ d e. by_key cmp (place d) (place e)) es → AllByRecursion (IsMatched (by_key cmp)) es → Added es zs
+          → AnsweredAt k es zs
       unfolding AnsweredAt Added IsStrictlySortedBy
       answered k [] zs s m h = ap (λ l. entry_at cmp l k) h
       answered k (e ∷ es) zs s m (first, rest, (z, answers, adds), others, is) =
@@ -214,5 +246,6 @@ module _ {K : Type 0} {cmp : K → K → Ordering} (total : IsTotalOrder cmp) wh
           record {
             ascends = added-ascends b.events zs s.ascends s.matched h;
             at = λ k. subst (λ l. IsAnswered May Keeps (asked kind spelled (entry_at cmp l k) (entry_at cmp ys k)) (entry_at cmp zs k)) s.left
-                (subst (λ l. IsAnswered May Keeps (asked kind spelled (entry_at cmp (lefts b.events) k) (entry_at cmp l k)) (entry_at cmp zs k)) s.right (answered k b.events zs s.ascends s.matched h));
+                (subst (λ l. IsAnswered May Keeps (asked kind spelled (entry_at cmp (lefts b.events) k) (entry_at cmp l k))
+                (entry_at cmp zs k)) s.right (answered k b.events zs s.ascends s.matched h));
           }

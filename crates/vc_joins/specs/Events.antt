@@ -1,4 +1,4 @@
--- A join by the script of its two maps: an answer to the question of each event. No public clause cites these words.
+-- A join by the script of its two maps: an answer to the question of each event. The law `joins_of_events` cites these words, and no other public clause.
 use Rattle.std.specs.Prelude.{◌≡◌, List, Option, ◌⊎◌}
 use Rattle.std.proofs.Common.{inl, inr}
 use Rattle.std.specs.Cmp.{IsTotalOrder}

@@ -60,7 +60,8 @@ impl<'f, K, V, W, X, F: Fn(&K, &V, Option<&W>) -> Result<Option<X>, AllocError>>
     W,
     X,
 > for AskLeft<'f, F> {
-    ghost takes = { λ q a. (asks kind.Left a ≡ true) × ((k : _) (v : _) (w : _) → seen_left k v w ≡ a → F.pre q.0.now k v w) };
+    ghost takes = { λ q a. (asks kind.Left a ≡ true)
+        × ((k : _) (v : _) (w : _) → seen_left k v w ≡ a → F.pre q.0.now k v w) };
 
     ghost may = { λ q a r. MayAnswerLeft F.Fn q.0.now a r };
 
@@ -92,7 +93,8 @@ impl<'f, K, V, W, X, F: Fn(&K, Option<&V>, &W) -> Result<Option<X>, AllocError>>
     W,
     X,
 > for AskRight<'f, F> {
-    ghost takes = { λ q a. (asks kind.Right a ≡ true) × ((k : _) (v : _) (w : _) → seen_right k v w ≡ a → F.pre q.0.now k v w) };
+    ghost takes = { λ q a. (asks kind.Right a ≡ true)
+        × ((k : _) (v : _) (w : _) → seen_right k v w ≡ a → F.pre q.0.now k v w) };
 
     ghost may = { λ q a r. MayAnswerRight F.Fn q.0.now a r };
 
@@ -120,7 +122,8 @@ fn ask_right<'a, K, V, W, X, F: Fn(&K, Option<&V>, &W) -> X>(
 
 impl<'f, K, V, W, X, F: Fn(&K, &V, &W) -> Result<Option<X>, AllocError>> Question<K, V, W, X>
     for AskInner<'f, F> {
-    ghost takes = { λ q a. (asks kind.Inner a ≡ true) × ((k : _) (v : _) (w : _) → seen_inner k v w ≡ a → F.pre q.0.now k v w) };
+    ghost takes = { λ q a. (asks kind.Inner a ≡ true)
+        × ((k : _) (v : _) (w : _) → seen_inner k v w ≡ a → F.pre q.0.now k v w) };
 
     ghost may = { λ q a r. MayAnswerInner F.Fn q.0.now a r };
 

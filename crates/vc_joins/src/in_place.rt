@@ -1,4 +1,5 @@
-//! Closures of joins in place, asked in one way: they are handed the value of the left map, and make of it the one that stays.
+//! Closures of joins in place, asked in one way: they are handed the value of the left map, and
+//! make of it the one that stays.
 ghost use Rattle.std.specs.Prelude.{◌≡◌, true, Option};
 ghost use Rattle.vc_joins.specs.declared.question.OuterJoinArg.{OuterJoinArg};
 ghost use Rattle.vc_joins.specs.declared.question.JoinKind.TheVariants as kind;
@@ -36,12 +37,15 @@ impl<'f, K, V, W, F: Fn(OuterJoinArg<&K, V, &W>) -> Option<V>> Turn<K, V, W> for
 }
 
 impl<'f, K, V: Drop, W, F: Fn(&K, V, Option<&W>) -> Option<V>> Turn<K, V, W> for AskLeft<'f, F> {
-    ghost takes = { λ q a. (asks kind.Left a ≡ true) × ((k : _) (v : _) (w : _) → handed_left k v w ≡ a → F.pre q.0.now k v w) };
+    ghost takes = { λ q a. (asks kind.Left a ≡ true)
+        × ((k : _) (v : _) (w : _) → handed_left k v w ≡ a → F.pre q.0.now k v w) };
 
     ghost may = { λ q a r. MayTurnLeft F.Fn q.0.now a r };
 
     fn turn(&self, arg: OuterJoinArg<&K, V, &W>) -> Option<V>
-        requires { (asks kind.Left (handed arg) ≡ true) × ((k : _) (v : _) (w : _) → handed_left k v w ≡ handed arg → F.pre self.now.0.now k v w) }
+        requires { (asks kind.Left (handed arg) ≡ true)
+            × ((k : _) (v : _) (w : _) → handed_left k v w ≡ handed arg
+            → F.pre self.now.0.now k v w) }
         ensures { MayTurnLeft F.Fn self.now.0.now (handed arg.entry) result }
     {
         match arg {
@@ -66,12 +70,15 @@ fn turn_left<'a, K, V, W, F: Fn(&K, V, Option<&W>) -> Option<V>>(
 }
 
 impl<'f, K, V: Drop, W, F: Fn(&K, Option<V>, &W) -> Option<V>> Turn<K, V, W> for AskRight<'f, F> {
-    ghost takes = { λ q a. (asks kind.Right a ≡ true) × ((k : _) (v : _) (w : _) → handed_right k v w ≡ a → F.pre q.0.now k v w) };
+    ghost takes = { λ q a. (asks kind.Right a ≡ true)
+        × ((k : _) (v : _) (w : _) → handed_right k v w ≡ a → F.pre q.0.now k v w) };
 
     ghost may = { λ q a r. MayTurnRight F.Fn q.0.now a r };
 
     fn turn(&self, arg: OuterJoinArg<&K, V, &W>) -> Option<V>
-        requires { (asks kind.Right (handed arg) ≡ true) × ((k : _) (v : _) (w : _) → handed_right k v w ≡ handed arg → F.pre self.now.0.now k v w) }
+        requires { (asks kind.Right (handed arg) ≡ true)
+            × ((k : _) (v : _) (w : _) → handed_right k v w ≡ handed arg
+            → F.pre self.now.0.now k v w) }
         ensures { MayTurnRight F.Fn self.now.0.now (handed arg.entry) result }
     {
         match arg {
@@ -83,12 +90,15 @@ impl<'f, K, V: Drop, W, F: Fn(&K, Option<V>, &W) -> Option<V>> Turn<K, V, W> for
 }
 
 impl<'f, K, V: Drop, W, F: Fn(&K, V, &W) -> Option<V>> Turn<K, V, W> for AskInner<'f, F> {
-    ghost takes = { λ q a. (asks kind.Inner a ≡ true) × ((k : _) (v : _) (w : _) → handed_inner k v w ≡ a → F.pre q.0.now k v w) };
+    ghost takes = { λ q a. (asks kind.Inner a ≡ true)
+        × ((k : _) (v : _) (w : _) → handed_inner k v w ≡ a → F.pre q.0.now k v w) };
 
     ghost may = { λ q a r. MayTurnInner F.Fn q.0.now a r };
 
     fn turn(&self, arg: OuterJoinArg<&K, V, &W>) -> Option<V>
-        requires { (asks kind.Inner (handed arg) ≡ true) × ((k : _) (v : _) (w : _) → handed_inner k v w ≡ handed arg → F.pre self.now.0.now k v w) }
+        requires { (asks kind.Inner (handed arg) ≡ true)
+            × ((k : _) (v : _) (w : _) → handed_inner k v w ≡ handed arg
+            → F.pre self.now.0.now k v w) }
         ensures { MayTurnInner F.Fn self.now.0.now (handed arg.entry) result }
     {
         match arg {

@@ -1,6 +1,7 @@
 //! Joins of finite maps: what a join asks its closure, and what it makes of the answers.
 //!
-//! A finite map is seen as the list of its pairs, ascending by key. No word here names a type of map.
+//! A finite map is seen as the list of its pairs, ascending by key. No word here names a type of
+//! map.
 #![tactic(auto)]
 
 pub mod answers;

@@ -2,7 +2,8 @@
 ghost use Rattle.std.specs.Prelude.{◌≡◌};
 ghost use Rattle.vc_joins.specs.Question.{asks_left, asks_right};
 
-/// What stands at a key of two maps that are joined: the key, and the value of each side that has it.
+/// What stands at a key of two maps that are joined: the key, and the value of each side that has
+/// it.
 #[derive(Drop)]
 pub enum OuterJoinArg<K, A, B> {
     /// The left map alone has the key.

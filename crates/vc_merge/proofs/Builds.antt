@@ -97,7 +97,9 @@ module _ {M X Z N : Type 0} (built : M → List Z) (name : M → N) (gives : X �
   pub both-adds : (t : M) (answer : Answer) → Both first second s answer t → Adds built name gives xs s answer t
   both-adds t answer h = follows-adds h.between t h.answered answer h.first h.second
 
-module _ {M : Type 0} (first second : M → Answer → M → Type 0) (one : (s t : M) (answer : Answer) → first s answer t → IsOk answer) (two : (s t : M) (answer : Answer) → second s answer t → IsOk answer) where
+module _ {M : Type 0} (first second : M → Answer → M → Type 0)
+    (one : (s t : M) (answer : Answer) → first s answer t → IsOk answer)
+    (two : (s t : M) (answer : Answer) → second s answer t → IsOk answer) where
   follows-is_ok : (s t : M) (answered answer : Answer) → IsOk answered → Follows second s answered answer t → IsOk answer
   follows-is_ok s t (Ok true) answer i h = two s t answer h
   follows-is_ok s t (Ok false) answer i h = subst (λ a. IsOk a) (sym h.0) refl

@@ -53,6 +53,10 @@ module _ {S X : Type 0} (R : S → X → Bool → S → Type 0) where
         let n : i < length xs = omega (arith, h.long) in
         ap (λ j. drop j ys) (add-one i) ∙ ap (drop 1) (both ∙ drop-cons xs i x n) ∙ ap (λ j. drop j xs) (sym (add-one i))
 
+    -- the element at i is the first of what is left of the list
+    pub KeepsInFront-next : drop i xs ≡ x ∷ drop (i + 1) xs
+    KeepsInFront-next = sym both ∙ ap (λ l. x ∷ l) (ap (λ j. drop j ys) (sym (add-one i)) ∙ later)
+
     -- one more answer
     asked : (b : Bool) (zs : List X) → R s x b t → IsFiltered R t (drop (i + 1) xs) zs → IsFiltered R s₀ xs (take k ys ++ cond b (x ∷ zs) zs)
     asked b zs r f =
@@ -68,8 +72,11 @@ module _ {S X : Type 0} (R : S → X → Bool → S → Type 0) where
     KeepsInFront-accepted ws r same swapped =
         let n : k < i + 1 = omega (arith, h.behind) in
         let m : i < i + 1 = omega arith in
-        let back : drop (i + 1) ws ≡ drop (i + 1) ys = ap (drop (i + 1)) (swapped.3 x) ∙ drop-set_before (set ys k (get_or ys i x)) i (i + 1) (get_or ys k x) m ∙ drop-set_before ys k (i + 1) (get_or ys i x) n in
-        let front : take (k + 1) ws ≡ take k ys ++ x ∷ [] = ap (λ j. take j ws) (add-one k) ∙ ap (take (suc k)) (swapped.3 x) ∙ front-swapped ys k i x h.behind lt ∙ ap (λ y. take k ys ++ y ∷ []) (sym is) in
+        let back : drop (i + 1) ws ≡ drop (i + 1) ys = ap (drop (i + 1)) (swapped.3 x)
+        ∙ drop-set_before (set ys k (get_or ys i x)) i (i + 1) (get_or ys k x) m
+        ∙ drop-set_before ys k (i + 1) (get_or ys i x) n in
+        let front : take (k + 1) ws ≡ take k ys ++ x ∷ [] = ap (λ j. take j ws) (add-one k) ∙ ap (take (suc k)) (swapped.3 x)
+        ∙ front-swapped ys k i x h.behind lt ∙ ap (λ y. take k ys ++ y ∷ []) (sym is) in
         record {
           behind = omega (arith, h.behind);
           long = same ∙ h.long;

@@ -15,6 +15,7 @@ pub mod Running
 mod Examples
 pub mod ListLemmas
 pub mod Clones
+pub mod Callable
 pub mod Chosen
 pub mod Keeping
 pub mod Parted

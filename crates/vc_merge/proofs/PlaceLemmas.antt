@@ -1,14 +1,14 @@
 -- A search in an ordered list: what one comparison tells of the others, and how a search comes to its end.
 --     less-before, less-upto, greater-from, greater-behind        what stands beside an element
 --     narrowed-whole, narrowed-up, narrowed-past, narrowed-down        the part that is searched, at first and after a comparison
---     ordered-rest, rest-whole, rest-part, rest-rest        the rest that is searched on
---     half-rest, quarter-rest, quarter-times        after one comparison, and after three
+--     ordered-rest, rest-part, rest-rest        the rest that is searched on
+--     half-rest, quarter-rest        after one comparison, and after three
 --     searched-half        after one comparison that may find it
 --     place-searched, place-equal, place-unequal        the place
 --     ordered-ascends, ascends-map        ascending lists are ordered round whatever is sought
 use Rattle.std.proofs.Common.{◌≡◌, ℕ, zero, suc, ◌+◌, ◌-◌, ◌*◌, ◌/◌, ◌<◌, ◌≤◌, Bool, true, false, ◌||◌, List, [], ◌∷◌, ◌++◌, map, length, take, drop, get_or, length-drop, ◌⊎◌, inl, inr, ⊎_elim, refl, sym, ap, subst, ◌∙◌, arith}
 use Rattle.std.proofs.lemmas.List.{get_or_default, get_or-drop, get_or-take, drop-append-le, drop-drop, drop-take, length-take-le, take-append-drop, take-take}
-use Rattle.std.proofs.Math.Seq.{take-add, take-length}
+use Rattle.std.proofs.Math.Seq.{take-add}
 use mathlib.Core.Bool.{true≢false}
 use Rattle.std.specs.List.{AllByRecursion, HoldsAt}
 use Rattle.std.specs.Int.{from_bool}
@@ -141,9 +141,6 @@ module _ {X : Type 0} (side : X → Ordering) where
   pub ordered-rest : (xs : List X) (start : ℕ) (rest : List X) → IsOrdered side xs → IsRest side xs start rest → IsOrdered side rest
   ordered-rest xs start rest p q = subst (IsOrdered side) (sym q.part) (ordered-take (drop start xs) (length rest) (ordered-drop xs start p))
 
-  pub rest-whole : (xs : List X) → IsRest side xs 0 xs
-  rest-whole xs = record { part = sym (take-length xs); narrowed = narrowed-whole xs }
-
   -- the rest as it is cut off
   rest-part : (xs : List X) (start n : ℕ) → IsNarrowed side xs start n → IsRest side xs start (take n (drop start xs))
   rest-part xs start n q =
@@ -179,7 +176,9 @@ module _ {X : Type 0} (side : X → Ordering) where
         narrowed = record {
           within = omega arith;
           less = subst (AllByRecursion (λ y. side y ≡ Less)) before (each-append (λ y. side y ≡ Less) (take start xs) (take passed ys) q.narrowed.less r.narrowed.less);
-          greater = subst (AllByRecursion (λ y. side y ≡ Greater)) behind (each-append (λ y. side y ≡ Greater) (drop (passed + m) ys) (drop n (drop start xs)) r.narrowed.greater (subst (AllByRecursion (λ y. side y ≡ Greater)) (sym (drop-drop n start xs)) q.narrowed.greater));
+          greater = subst (AllByRecursion (λ y. side y ≡ Greater)) behind
+              (each-append (λ y. side y ≡ Greater) (drop (passed + m) ys) (drop n (drop start xs)) r.narrowed.greater
+              (subst (AllByRecursion (λ y. side y ≡ Greater)) (sym (drop-drop n start xs)) q.narrowed.greater));
         };
       }
     where
@@ -216,8 +215,12 @@ module _ {X : Type 0} (side : X → Ordering) where
     half-rest half r m h e f reached =
         rest-part xs (r * half) m
         (⊎_elim
-        (λ z. subst (λ k. IsNarrowed side xs (k * half) m) (sym z.0) (subst (λ k. IsNarrowed side xs k m) (omega arith) (narrowed-down xs p 0 (length xs) (narrowed-whole xs) half m (omega arith) z.1 (omega arith) (omega arith))))
-        (λ o. subst (λ k. IsNarrowed side xs (k * half) m) (sym o.0) (subst (λ k. IsNarrowed side xs k m) (omega arith) (narrowed-up xs p 0 (length xs) (narrowed-whole xs) half m (omega arith) o.1 (omega arith))))
+        (λ z. subst (λ k. IsNarrowed side xs (k * half) m) (sym z.0)
+        (subst (λ k. IsNarrowed side xs k m) (omega arith)
+        (narrowed-down xs p 0 (length xs) (narrowed-whole xs) half m (omega arith) z.1 (omega arith) (omega arith))))
+        (λ o. subst (λ k. IsNarrowed side xs (k * half) m) (sym o.0)
+        (subst (λ k. IsNarrowed side xs k m) (omega arith)
+        (narrowed-up xs p 0 (length xs) (narrowed-whole xs) half m (omega arith) o.1 (omega arith))))
         (reached-cases xs half r reached))
 
     -- the four places that three comparisons lead to
@@ -226,7 +229,8 @@ module _ {X : Type 0} (side : X → Ordering) where
       at-first z = narrowed-down xs p 0 (length xs) (narrowed-whole xs) quarter m (omega arith) z (omega arith) (omega arith)
 
       -- from one part on that begins with no greater element, up to the next one, that begins with a greater one
-      at-part : (part next : ℕ) → next ≡ part + quarter → part + m ≤ length xs → next < length xs → HoldsAt (λ y. is_gt (side y) ≡ false) xs part → HoldsAt (λ y. side y ≡ Greater) xs next → IsNarrowed side xs part m
+      at-part : (part next : ℕ) → next ≡ part + quarter → part + m ≤ length xs → next < length xs
+          → HoldsAt (λ y. is_gt (side y) ≡ false) xs part → HoldsAt (λ y. side y ≡ Greater) xs next → IsNarrowed side xs part m
       at-part part next g k l o z =
           narrowed-down xs p part (length xs - part) (narrowed-up xs p 0 (length xs) (narrowed-whole xs) part (length xs - part) (omega arith) o (omega arith)) next m l z (omega arith) (omega arith)
 
@@ -248,17 +252,22 @@ module _ {X : Type 0} (side : X → Ordering) where
           (reached-cases xs (quarter * 2) b rb))
           (λ a1. ⊎_elim
           (λ b0. ⊎_elim
-          (λ c0. let x : a ≡ 1 = a1.0 in let y : b ≡ 0 = b0.0 in let z : c ≡ 0 = c0.0 in moved-to a b c quarter 1 (omega arith) (omega arith) (at-part quarter (quarter * 2) (omega arith) (omega arith) (omega arith) a1.1 b0.1))
+          (λ c0. let x : a ≡ 1 = a1.0 in let y : b ≡ 0 = b0.0 in let z : c ≡ 0 = c0.0 in
+          moved-to a b c quarter 1 (omega arith) (omega arith)
+          (at-part quarter (quarter * 2) (omega arith) (omega arith) (omega arith) a1.1 b0.1))
           (λ c1. absurd (not-later xs (quarter * 2) (quarter * 3) p (omega arith) (omega arith) b0.1 c1.1))
           (reached-cases xs (quarter * 3) c rc))
           (λ b1. ⊎_elim
-          (λ c0. let x : a ≡ 1 = a1.0 in let y : b ≡ 1 = b1.0 in let z : c ≡ 0 = c0.0 in moved-to a b c (quarter * 2) 2 (omega arith) (omega arith) (at-part (quarter * 2) (quarter * 3) (omega arith) (omega arith) (omega arith) b1.1 c0.1))
+          (λ c0. let x : a ≡ 1 = a1.0 in let y : b ≡ 1 = b1.0 in let z : c ≡ 0 = c0.0 in
+          moved-to a b c (quarter * 2) 2 (omega arith) (omega arith)
+          (at-part (quarter * 2) (quarter * 3) (omega arith) (omega arith) (omega arith) b1.1 c0.1))
           (λ c1. let x : a ≡ 1 = a1.0 in let y : b ≡ 1 = b1.0 in let z : c ≡ 1 = c1.0 in moved-to a b c (quarter * 3) 3 (omega arith) (omega arith) (at-fourth c1.1))
           (reached-cases xs (quarter * 3) c rc))
           (reached-cases xs (quarter * 2) b rb))
           (reached-cases xs quarter a ra)
 
-      pub quarter-rest : (a b c : ℕ) → IsReached side xs quarter a → IsReached side xs (quarter * 2) b → IsReached side xs (quarter * 3) c → IsRest side xs ((a + b + c) * quarter) (take m (drop ((a + b + c) * quarter) xs))
+      pub quarter-rest : (a b c : ℕ) → IsReached side xs quarter a → IsReached side xs (quarter * 2) b
+          → IsReached side xs (quarter * 3) c → IsRest side xs ((a + b + c) * quarter) (take m (drop ((a + b + c) * quarter) xs))
       quarter-rest a b c ra rb rc = rest-part xs ((a + b + c) * quarter) m (narrowed-quarter a b c ra rb rc)
 
   -- ---- one comparison that may find it
@@ -270,18 +279,13 @@ module _ {X : Type 0} (side : X → Ordering) where
       times : r ≡ 0 → (r ≤ 1) × (r * n ≤ n)
       times e = (omega arith, subst (λ k. k * n ≤ n) (sym e) (omega arith))
 
-  pub quarter-times : (xs : List X) (i j k a b c n : ℕ) → IsReached side xs i a → IsReached side xs j b → IsReached side xs k c → (a + b ≤ 2) × (a + b + c ≤ 3) × ((a + b + c) * n ≤ n * 3)
-  quarter-times xs i j k a b c n p q r =
-      let x = reached-times xs i a n p in
-      let y = reached-times xs j b n q in
-      let z = reached-times xs k c n r in (omega (arith, x.0, y.0), omega (arith, x.0, y.0, z.0), omega (arith, x.1, y.1, z.1))
-
   pub searched-within : (xs : List X) (start n : ℕ) (found : Bool) → IsSearched side xs start n found → start + n ≤ length xs
   searched-within xs start n true q = q.within
   searched-within xs start n false q = q.within
 
   module _ (xs : List X) (p : IsOrdered side xs) (start n middle m : ℕ) (h : middle + m ≡ start + n) (k : m + m ≤ n) (l : n ≤ suc (m + m)) (some : 0 < n) where
-    narrowed-half : (o : Ordering) (next : ℕ) (b : Bool) → IsNarrowed side xs start n → HoldsAt (λ y. side y ≡ o) xs (middle - 1) → (is_gt o ≡ true → next ≡ start) → (is_gt o ≡ false → next ≡ middle) → b ≡ is_eq o → IsSearched side xs next m b
+    narrowed-half : (o : Ordering) (next : ℕ) (b : Bool) → IsNarrowed side xs start n → HoldsAt (λ y. side y ≡ o) xs (middle - 1)
+        → (is_gt o ≡ true → next ≡ start) → (is_gt o ≡ false → next ≡ middle) → b ≡ is_eq o → IsSearched side xs next m b
     narrowed-half Less next b q e up down f =
         let w = q.within in
         let s : suc (middle - 1) ≡ next = let r = down refl in omega arith in
@@ -302,7 +306,9 @@ module _ {X : Type 0} (side : X → Ordering) where
         let r : next ≡ start = up (ap is_gt (f ∙ ap side e ∙ g y)) in
         record { within = omega arith; some = omega arith; equal = subst (λ i. HoldsAt (λ z. side z ≡ Equal) xs (i - 1)) (sym r) q.equal }
 
-    pub searched-half : (found b : Bool) (o : Ordering) (next : ℕ) (y : X) → IsSearched side xs start n found → y ≡ get_or xs (middle - 1) y → middle - 1 < length xs → o ≡ side y → (is_gt o ≡ true → next ≡ start) → (is_gt o ≡ false → next ≡ middle) → b ≡ is_eq o
+    pub searched-half : (found b : Bool) (o : Ordering) (next : ℕ) (y : X) → IsSearched side xs start n found
+        → y ≡ get_or xs (middle - 1) y → middle - 1 < length xs → o ≡ side y → (is_gt o ≡ true → next ≡ start)
+        → (is_gt o ≡ false → next ≡ middle) → b ≡ is_eq o
         → IsSearched side xs next m (found || b)
     searched-half true b o next y q e i f up down g = passed-half o next y q e f up
     searched-half false b o next y q e i f up down g = narrowed-half o next b q (holds-read (λ z. side z ≡ o) xs (middle - 1) y i e (sym f)) up down g
@@ -335,10 +341,19 @@ module _ {X : Type 0} (side : X → Ordering) where
 
     place-below : Less ≡ side y → IsGap side xs (start + 1)
     place-below f =
-        place-narrowed xs (start + 1) (subst (λ i. IsNarrowed side xs i 0) (omega arith) (narrowed-past xs p start 1 q start 0 in-bounds (holds-read (λ z. side z ≡ Less) xs start y in-bounds e (sym f)) (omega arith)))
+        place-narrowed xs (start + 1) (subst (λ i. IsNarrowed side xs i 0) (omega arith)
+        (narrowed-past xs p start 1 q start 0 in-bounds (holds-read (λ z. side z ≡ Less) xs start y in-bounds e (sym f))
+        (omega arith)))
 
     place-at : Equal ≡ side y → IsFound side xs start
-    place-at f = subst (λ i. IsFound side xs i) (omega arith) (place-passed xs (start + 1) p (record { within = (let l = in-bounds in omega arith); some = omega arith; equal = subst (λ i. HoldsAt (λ z. side z ≡ Equal) xs i) (omega arith) (holds-read (λ z. side z ≡ Equal) xs start y in-bounds e (sym f)) }))
+    place-at f = subst (λ i. IsFound side xs i) (omega arith)
+        (place-passed xs (start + 1) p
+        (record {
+          within = (let l = in-bounds in omega arith);
+          some = omega arith;
+          equal = subst (λ i. HoldsAt (λ z. side z ≡ Equal) xs i) (omega arith)
+              (holds-read (λ z. side z ≡ Equal) xs start y in-bounds e (sym f));
+        }))
 
     place-above : Greater ≡ side y → IsGap side xs start
     place-above f = place-narrowed xs start (narrowed-down xs p start 1 q start 0 in-bounds (holds-read (λ z. side z ≡ Greater) xs start y in-bounds e (sym f)) (omega arith) (omega arith))

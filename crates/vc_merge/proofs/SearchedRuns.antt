@@ -39,7 +39,8 @@ module _ {A B : Type 0} (order : A ⊎ B → A ⊎ B → Ordering) (total : IsTo
   placed ls rs x (Ok i) p q = (let w = q.within in omega arith, lower x ls (take i rs) p.left.0 q.less, heads-equal x ls rs i q.within q.equal)
   placed ls rs x (Err i) p q = (q.within, lower x ls (take i rs) p.left.0 q.less, first-below x ls (drop i rs) (upper x (drop i rs) q.greater))
 
-  pub place-left : (ls : List A) (rs : List B) (x : A) (r : Result ℕ ℕ) → BothAscend order ls rs → 0 < length ls → x ≡ get_or ls 0 x → IsPlace (λ y. order (inr y) (inl x)) rs r → IsLeftPlace order ls rs r
+  pub place-left : (ls : List A) (rs : List B) (x : A) (r : Result ℕ ℕ) → BothAscend order ls rs → 0 < length ls
+      → x ≡ get_or ls 0 x → IsPlace (λ y. order (inr y) (inl x)) rs r → IsLeftPlace order ls rs r
   place-left [] rs x r p h e q = absurd (omega arith)
   place-left (l ∷ ls) rs x r p h e q = placed ls rs l r p (subst (λ z. IsPlace (λ y. order (inr y) (inl z)) rs r) e q)
 
@@ -69,7 +70,8 @@ module _ {A B : Type 0} (order : A ⊎ B → A ⊎ B → Ordering) (total : IsTo
   place-swapped ls rs (Ok i) q = (q.0, q.1, heads-swapped (drop i ls) rs q.2)
   place-swapped ls rs (Err i) q = q
 
-  pub place-right : (ls : List A) (rs : List B) (y : B) (r : Result ℕ ℕ) → BothAscend order ls rs → 0 < length rs → y ≡ get_or rs 0 y → IsPlace (λ x. order (inl x) (inr y)) ls r → IsRightPlace order ls rs r
+  pub place-right : (ls : List A) (rs : List B) (y : B) (r : Result ℕ ℕ) → BothAscend order ls rs → 0 < length rs
+      → y ≡ get_or rs 0 y → IsPlace (λ x. order (inl x) (inr y)) ls r → IsRightPlace order ls rs r
   place-right ls rs y r p h e q = place-swapped ls rs r (place-left mirrored mirrored-total rs ls y r (record { left = p.right; right = p.left }) h e q)
 
 -- ---- what the searches cost

@@ -2,6 +2,7 @@
 ghost use Rattle.std.specs.Prelude.{◌≡◌, ◌≤◌, ◌++◌, length, take};
 ghost use Rattle.smallvec.specs.SmallVec.{HasRoomFor};
 ghost use Rattle.std.specs.Fn.{CalledAt};
+ghost use Rattle.std.specs.Iterator.{CallableOnAllAt, YieldsFirst};
 ghost use Rattle.std.specs.List.Retain.{IsFiltered};
 
 use smallvec::SmallVec;
@@ -11,7 +12,8 @@ use std::mem;
 
 /// Moves the elements of `that` to the end of `list`, which has room for them.
 ///
-/// What lies on the heap comes out of a `Vec` and goes into a variable, so that no element asks again where either list lies.
+/// What lies on the heap comes out of a `Vec` and goes into a variable, so that no element asks
+/// again where either list lies.
 pub fn append_moved<T: MadeWith<A> + Drop, const N: usize, const M: usize, A: Allocator + Copy>(
     list: &mut SmallVec<T, N, A>,
     mut that: SmallVec<T, M, A>,
@@ -31,9 +33,12 @@ pub fn append_moved<T: MadeWith<A> + Drop, const N: usize, const M: usize, A: Al
     *list = whole;
 }
 
-/// Moves the elements at which `f` answers true to the front, in their order, and answers how many these are.
+/// Moves the elements at which `f` answers true to the front, in their order, and answers how many
+/// these are.
+///
+/// `f` has to be callable at each element, one after the other.
 pub fn keep_in_front<T, F: FnMut(&T) -> bool>(list: &mut [T], mut f: F) -> usize
-    requires { F.IsAlwaysCallable f }
+    requires { CallableOnAllAt (YieldsFirst (λ rest. rest)) F.FnMut list.old f }
     ensures within { result ≤ length list.new }
     ensures kept { IsFiltered (CalledAt F.FnMut) f list.old (take result list.new) }
 {

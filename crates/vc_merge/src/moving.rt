@@ -1,4 +1,5 @@
-//! The state of a merge that sifts its left list: what it takes moves to the front, and nothing is cloned.
+//! The state of a merge that sifts its left list: what it takes moves to the front, and nothing is
+//! cloned.
 ghost use Rattle.std.specs.Prelude.{◌≡◌, ◌+◌, ◌<◌, ◌≤◌, [], ◌∷◌, ◌++◌, List, insert, IsOk, OnOk, OnErr, length, take};
 ghost use Rattle.core.specs.Mem.Slots.{IsFull, Refills, slots_items, slots_len};
 ghost use Rattle.smallvec.specs.SmallVec.{HasRoomFor};
@@ -14,10 +15,11 @@ use std::default::MadeWith;
 /// From so many elements on a run is long.
 const LONG_RUN: usize = 64;
 
-/// Moves the `n` elements from the place `at` on down to the place `kept`. Those that lay between end up behind them.
+/// Moves the `n` elements from the place `at` on down to the place `kept`. Those that lay between
+/// end up behind them.
 ///
-/// A long run that is no shorter than the gap is moved as a whole, which costs a move for each element of both. Else each element
-/// is swapped down, which costs nothing for what lies between.
+/// A long run that is no shorter than the gap is moved as a whole, which costs a move for each
+/// element of both. Else each element is swapped down, which costs nothing for what lies between.
 pub(crate) fn move_down<T>(list: &mut [T], kept: usize, at: usize, n: usize)
     requires order { kept ≤ at }
     requires within { at + n ≤ length list.old }
@@ -45,8 +47,8 @@ fn turn_in<T>(list: &mut [T], place: usize)
     }
 }
 
-/// Moves the last element to the front, and the others up by one. It stands out of line, where the loop that moves them is compiled to
-/// `memmove`.
+/// Moves the last element to the front, and the others up by one. It stands out of line, where the
+/// loop that moves them is compiled to `memmove`.
 #[inline(never)]
 fn turn<T>(list: &mut [T])
     requires { 0 < length list.old }
@@ -61,7 +63,8 @@ fn turn<T>(list: &mut [T])
 fn last_to_first<T>(mut row: Slots<T>, state: (), _given: ()) -> (Slots<T>, (), ())
     requires { IsFull row × (0 < slots_len row) }
     ensures full { Refills row result.0 }
-    ensures turned { (xs : List T) (x : T) → slots_items row ≡ xs ++ x ∷ [] → slots_items result.0 ≡ x ∷ xs }
+    ensures turned { (xs : List T) (x : T) → slots_items row ≡ xs ++ x ∷ []
+        → slots_items result.0 ≡ x ∷ xs }
 {
     let last = row.len() - 1;
     let element = row.take(last);
@@ -72,8 +75,9 @@ fn last_to_first<T>(mut row: Slots<T>, state: (), _given: ()) -> (Slots<T>, (), 
 
 /// Puts an element in at a place of a list, in front of those that stood there and behind it.
 ///
-/// It goes behind all others first, and is then turned into its place, which moves the elements behind it as
-/// `memmove` does. It is not refused where fewer than `N` are held. Refused, the list is as it was, and the element is dropped.
+/// It goes behind all others first, and is then turned into its place, which moves the elements
+/// behind it as `memmove` does. It is not refused where fewer than `N` are held. Refused, the list
+/// is as it was, and the element is dropped.
 pub fn insert_at<T: MadeWith<A> + Drop, const N: usize, A: Allocator + Copy>(
     list: &mut SmallVec<T, N, A>,
     place: usize,
@@ -93,9 +97,11 @@ pub fn insert_at<T: MadeWith<A> + Drop, const N: usize, A: Allocator + Copy>(
     Ok(())
 }
 
-/// A left list that is sifted in place, and a right one that is only looked at: what is taken of the left list moves to its front.
+/// A left list that is sifted in place, and a right one that is only looked at: what is taken of
+/// the left list moves to its front.
 ///
-/// It takes no memory, and no event is refused. What was skipped is still in the list, behind what was taken: the maker cuts it off.
+/// It takes no memory, and no event is refused. What was skipped is still in the list, behind what
+/// was taken: the maker cuts it off.
 #[derive(Drop)]
 pub struct SiftState<'a, 'b, T, U> {
     list: &'a mut [T],

@@ -12,11 +12,13 @@ use std::alloc::{AllocError, Allocator};
 use std::default::MadeWith;
 use std::mem;
 
-/// The most elements that lie between two parts: enough that what is left of the left part seldom moves.
+/// The most elements that lie between two parts: enough that what is left of the left part seldom
+/// moves.
 const LONGEST_GAP: usize = 64;
 
-/// Where the parts of a list stand that become one in its own places. What was built ends at `built`; what is left of the left part lies
-/// from `start` to `end`, and what is left of the right part from `next` on.
+/// Where the parts of a list stand that become one in its own places. What was built ends at
+/// `built`; what is left of the left part lies from `start` to `end`, and what is left of the right
+/// part from `next` on.
 #[derive(Clone, Copy, Drop)]
 pub struct Spans {
     pub built: usize,
@@ -28,15 +30,17 @@ pub struct Spans {
     ghost gap: { end ≤ next },
 }
 
-/// A list whose first and last part become one in its own places: what is taken of either is moved to the front.
+/// A list whose first and last part become one in its own places: what is taken of either is moved
+/// to the front.
 ///
-/// What was built stands in front. Behind it lie a hole, what is left of the left part, a gap, and what is left of the right
-/// part. In the hole and the gap lies what is of no use: what was skipped, and what lay between the parts. No event is
-/// refused, and none takes memory. The owner cuts off what lies behind the built elements.
+/// What was built stands in front. Behind it lie a hole, what is left of the left part, a gap, and
+/// what is left of the right part. In the hole and the gap lies what is of no use: what was
+/// skipped, and what lay between the parts. No event is refused, and none takes memory. The owner
+/// cuts off what lies behind the built elements.
 ///
-/// A run of the right part changes places with the hole where that is long enough, for which what is left of the left part may
-/// move up over the gap first. Otherwise it turns places with all that lies before it. So a few elements between the
-/// parts save many moves.
+/// A run of the right part changes places with the hole where that is long enough, for which what
+/// is left of the left part may move up over the gap first. Otherwise it turns places with all that
+/// lies before it. So a few elements between the parts save many moves.
 #[derive(Drop)]
 pub struct PartsState<'a, T> {
     list: &'a mut [T],
@@ -111,20 +115,24 @@ impl<'a, T> PartsState<'a, T> {
         self.built
     }
 
-    /// Puts `value` in the place of the first element that is left of the left part, and hands that out.
+    /// Puts `value` in the place of the first element that is left of the left part, and hands that
+    /// out.
     pub fn replace_left(&mut self, value: T) -> T
         requires { 0 < length (left_items self.old) }
         ensures first { left_items self.old ≡ result ∷ drop 1 (left_items self.old) }
-        ensures others { Shows (list_name self.old) (built_items self.old) (value ∷ drop 1 (left_items self.old)) (right_items self.old) self.new }
+        ensures others { Shows (list_name self.old) (built_items self.old)
+            (value ∷ drop 1 (left_items self.old)) (right_items self.old) self.new }
     {
         replace_at(self.list, self.start, value)
     }
 
-    /// Puts `value` in the place of the first element that is left of the right part, and hands that out.
+    /// Puts `value` in the place of the first element that is left of the right part, and hands
+    /// that out.
     pub fn replace_right(&mut self, value: T) -> T
         requires { 0 < length (right_items self.old) }
         ensures first { right_items self.old ≡ result ∷ drop 1 (right_items self.old) }
-        ensures others { Shows (list_name self.old) (built_items self.old) (left_items self.old) (value ∷ drop 1 (right_items self.old)) self.new }
+        ensures others { Shows (list_name self.old) (built_items self.old) (left_items self.old)
+            (value ∷ drop 1 (right_items self.old)) self.new }
     {
         replace_at(self.list, self.next, value)
     }
@@ -132,8 +140,8 @@ impl<'a, T> PartsState<'a, T> {
     /// Moves the first `n` elements that are left of the left part to the end of what is built.
     fn take_left(&mut self, n: usize)
         requires { n ≤ length (left_items self.old) }
-        ensures { Shows (list_name self.old) (built_items self.old ++ take n (left_items self.old)) (drop n (left_items self.old))
-            (right_items self.old) self.new }
+        ensures { Shows (list_name self.old) (built_items self.old ++ take n (left_items self.old))
+            (drop n (left_items self.old)) (right_items self.old) self.new }
     {
         move_down(self.list, self.built, self.start, n);
         self.built += n;
@@ -143,7 +151,8 @@ impl<'a, T> PartsState<'a, T> {
     /// Leaves the first `n` elements that are left of the left part to the hole.
     fn skip_left(&mut self, n: usize)
         requires { n ≤ length (left_items self.old) }
-        ensures { Shows (list_name self.old) (built_items self.old) (drop n (left_items self.old)) (right_items self.old) self.new }
+        ensures { Shows (list_name self.old) (built_items self.old) (drop n (left_items self.old))
+            (right_items self.old) self.new }
     {
         self.start += n;
     }
@@ -151,8 +160,8 @@ impl<'a, T> PartsState<'a, T> {
     /// Moves the first `n` elements that are left of the right part to the end of what is built.
     fn take_right(&mut self, n: usize)
         requires { n ≤ length (right_items self.old) }
-        ensures { Shows (list_name self.old) (built_items self.old ++ take n (right_items self.old)) (left_items self.old)
-            (drop n (right_items self.old)) self.new }
+        ensures { Shows (list_name self.old) (built_items self.old ++ take n (right_items self.old))
+            (left_items self.old) (drop n (right_items self.old)) self.new }
     {
         self.widen(n);
         if n <= self.start - self.built {
@@ -164,7 +173,8 @@ impl<'a, T> PartsState<'a, T> {
 
     /// Makes the hole `n` places long, where the gap has what it lacks.
     fn widen(&mut self, n: usize)
-        ensures { Shows (list_name self.old) (built_items self.old) (left_items self.old) (right_items self.old) self.new }
+        ensures { Shows (list_name self.old) (built_items self.old) (left_items self.old)
+            (right_items self.old) self.new }
     {
         let hole = self.start - self.built;
         if hole < n && n - hole <= self.next - self.end {
@@ -174,7 +184,8 @@ impl<'a, T> PartsState<'a, T> {
 
     /// Moves what is left of the left part up to the right one.
     fn lift(&mut self)
-        ensures { Shows (list_name self.old) (built_items self.old) (left_items self.old) (right_items self.old) self.new }
+        ensures { Shows (list_name self.old) (built_items self.old) (left_items self.old)
+            (right_items self.old) self.new }
     {
         let gap = self.next - self.end;
         move_up(self.list, self.start, self.end, self.next);
@@ -186,8 +197,8 @@ impl<'a, T> PartsState<'a, T> {
     fn trade(&mut self, n: usize)
         requires right { n ≤ length (right_items self.old) }
         requires hole { self.old.built + n ≤ self.old.start }
-        ensures { Shows (list_name self.old) (built_items self.old ++ take n (right_items self.old)) (left_items self.old)
-            (drop n (right_items self.old)) self.new }
+        ensures { Shows (list_name self.old) (built_items self.old ++ take n (right_items self.old))
+            (left_items self.old) (drop n (right_items self.old)) self.new }
     {
         trade_runs(self.list, self.built, self.next, n);
         self.built += n;
@@ -197,8 +208,8 @@ impl<'a, T> PartsState<'a, T> {
     /// Takes `n` elements of the right part before all that lies between.
     fn turn(&mut self, n: usize)
         requires { n ≤ length (right_items self.old) }
-        ensures { Shows (list_name self.old) (built_items self.old ++ take n (right_items self.old)) (left_items self.old)
-            (drop n (right_items self.old)) self.new }
+        ensures { Shows (list_name self.old) (built_items self.old ++ take n (right_items self.old))
+            (left_items self.old) (drop n (right_items self.old)) self.new }
     {
         turn_runs(self.list, self.built, self.next, n);
         self.built += n;
@@ -305,7 +316,8 @@ fn push_blanks<T: MadeWith<A> + Drop, const N: usize, A: Allocator + Copy>(
     }
 }
 
-/// Moves the elements from `start` to `end` up to the place `next`. Those that lay between end up before them, in any order.
+/// Moves the elements from `start` to `end` up to the place `next`. Those that lay between end up
+/// before them, in any order.
 fn move_up<T>(list: &mut [T], start: usize, end: usize, next: usize)
     requires order { start ≤ end }
     requires gap { end ≤ next }
@@ -320,7 +332,8 @@ fn move_up<T>(list: &mut [T], start: usize, end: usize, next: usize)
     front[start..end].swap_with_slice(&mut back[..len]);
 }
 
-/// Moves the `n` elements from the place `next` on down to the place `at`. Those that lay between move up behind them.
+/// Moves the `n` elements from the place `next` on down to the place `at`. Those that lay between
+/// move up behind them.
 fn turn_runs<T>(list: &mut [T], at: usize, next: usize, n: usize)
     requires order { at ≤ next }
     requires within { next + n ≤ length list.old }

@@ -1,8 +1,11 @@
-//! Searches in an ordered list, for one element by its order, for a pair by its key, or for whatever a [`Sought`] tells.
+//! Searches in an ordered list, for one element by its order, for a pair by its key, or for
+//! whatever a [`Sought`] tells.
 //!
-//! There are two forms, neither of which branches on an answer. [`search`] halves what is left, and makes no more comparisons than
-//! the length has binary digits: it serves counted calls, and those that promise a bound. [`look_up`] compares with three elements
-//! at a time that do not wait for each other, which makes half as many comparisons more and is faster, for numbers and for strings.
+//! There are two forms, neither of which branches on an answer. [`search`] halves what is left, and
+//! makes no more comparisons than the length has binary digits: it serves counted calls, and those
+//! that promise a bound. [`look_up`] compares with three elements at a time that do not wait for
+//! each other, which makes half as many comparisons more and is faster, for numbers and for
+//! strings.
 ghost use Rattle.std.specs.Prelude.{◌≡◌, ◌+◌, ◌-◌, ◌*◌, ◌/◌, ◌<◌, ◌≤◌, length};
 ghost use Rattle.std.specs.Map.{keys_of};
 ghost use Rattle.std.specs.declared.cmp.Ordering.{Ordering};
@@ -17,7 +20,8 @@ use std::cmp::Ordering;
 pub trait Sought<X, C: Count> {
     ghost side: { Self → X → Ordering };
 
-    /// How the element stands to what is sought: `Less` before it, `Greater` behind it. Ticks the counter once.
+    /// How the element stands to what is sought: `Less` before it, `Greater` behind it. Ticks the
+    /// counter once.
     fn compare(&self, element: &X, steps: &mut C) -> Ordering
         ensures value { result ≡ side self.now element.now }
         ensures ticks { C.counted steps.new ≡ ticked (C.counted steps.old) };
@@ -49,7 +53,8 @@ impl<'a, K: Ord, V, C: Count> Sought<(K, V), C> for Key<'a, K> {
     }
 }
 
-/// The place of the element that is equal to `value` in an ascending list, or the gap where it would stand.
+/// The place of the element that is equal to `value` in an ascending list, or the gap where it
+/// would stand.
 ///
 /// ```
 /// assert!(find(&[1, 3, 5], &3) == Ok(1));
@@ -62,7 +67,8 @@ pub fn find<T: Ord>(list: &[T], value: &T) -> Result<usize, usize>
     look_up(list, &Element(value))
 }
 
-/// The place of the pair with an equal key in a list that ascends by its keys, or the gap where it would stand.
+/// The place of the pair with an equal key in a list that ascends by its keys, or the gap where it
+/// would stand.
 pub fn find_key<K: Ord, V>(pairs: &[(K, V)], key: &K) -> Result<usize, usize>
     requires { Ascends K.cmp (keys_of pairs.now) }
     ensures { IsPlace (λ p. K.cmp p.0 key.now) pairs.now result }
@@ -70,9 +76,11 @@ pub fn find_key<K: Ord, V>(pairs: &[(K, V)], key: &K) -> Result<usize, usize>
     look_up(pairs, &Key(key))
 }
 
-/// The place of the element that is equal to what is sought, or the gap where one would stand. Nothing is counted.
+/// The place of the element that is equal to what is sought, or the gap where one would stand.
+/// Nothing is counted.
 ///
-/// Of a list of `n` elements it compares with about `1.5 * log2(n) + 1`.
+/// It compares fewer than `1.5 * log2(n) + 4` times with the elements of a list of `n`. How often
+/// hangs on `n` alone: 5 times of 8, 7 of 7, 10 of 19 or 64, 16 of 1000.
 pub fn look_up<X, S: Sought<X, Uncounted>>(list: &[X], sought: &S) -> Result<usize, usize>
     requires { IsOrdered (S.side sought.now) list.now }
     ensures { IsPlace (S.side sought.now) list.now result }
@@ -96,8 +104,8 @@ pub fn look_up<X, S: Sought<X, Uncounted>>(list: &[X], sought: &S) -> Result<usi
     Err(start + usize::from(order.is_lt()))
 }
 
-/// The last of four parts that begins with no greater element, or the first part where there is none, and how many elements stand
-/// before it.
+/// The last of four parts that begins with no greater element, or the first part where there is
+/// none, and how many elements stand before it.
 #[inline(always)]
 fn nearest_quarter<'a, X, S: Sought<X, Uncounted>>(list: &'a [X], sought: &S) -> (usize, &'a [X])
     requires ordered { IsOrdered (S.side sought.now) list.now }
@@ -113,7 +121,8 @@ fn nearest_quarter<'a, X, S: Sought<X, Uncounted>>(list: &'a [X], sought: &S) ->
     (start, &list[start..start + (list.len() - quarter * 3)])
 }
 
-/// The last of up to three elements that is not greater, or the first one where there is none, and how many stand before it.
+/// The last of up to three elements that is not greater, or the first one where there is none, and
+/// how many stand before it.
 ///
 /// Two halvings are written out, since a loop is compiled with a branch on each answer.
 #[inline(always)]
@@ -129,7 +138,8 @@ fn nearest_of_few<'a, X, S: Sought<X, Uncounted>>(list: &'a [X], sought: &S) -> 
     (before + between, one)
 }
 
-/// The part of two that is searched on, the second one unless it begins with a greater element, and how many elements stand before it.
+/// The part of two that is searched on, the second one unless it begins with a greater element, and
+/// how many elements stand before it.
 #[inline(always)]
 fn nearest_half<'a, X, S: Sought<X, Uncounted>>(list: &'a [X], sought: &S) -> (usize, &'a [X])
     requires ordered { IsOrdered (S.side sought.now) list.now }
@@ -153,8 +163,8 @@ fn reaches<X, S: Sought<X, Uncounted>>(list: &[X], place: usize, sought: &S) -> 
     usize::from(!sought.compare(&list[place], &mut Uncounted).is_gt())
 }
 
-/// The place of the element that is equal to what is sought, or the gap where one would stand, by no more comparisons than the
-/// length has binary digits.
+/// The place of the element that is equal to what is sought, or the gap where one would stand, by
+/// no more comparisons than the length has binary digits.
 pub fn search<X, C: Count, S: Sought<X, C>>(
     list: &[X],
     sought: &S,
@@ -184,7 +194,8 @@ pub fn search<X, C: Count, S: Sought<X, C>>(
     }
 }
 
-/// From so many elements on a list is halved in a loop first. Sixteen halvings leave nothing of a shorter one.
+/// From so many elements on a list is halved in a loop first. Sixteen halvings leave nothing of a
+/// shorter one.
 const LONG: usize = 1 << 16;
 
 /// The part of a list that is still searched, and whether the element before it is equal.
@@ -195,7 +206,8 @@ struct Part {
     found: bool,
 }
 
-/// Four times [`halve`] where there are `least` elements or more: then fewer are left of less than 16 times as many.
+/// Four times [`halve`] where there are `least` elements or more: then fewer are left of less than
+/// 16 times as many.
 #[inline(always)]
 fn halve_to<X, C: Count, S: Sought<X, C>>(
     least: usize,
@@ -208,7 +220,8 @@ fn halve_to<X, C: Count, S: Sought<X, C>>(
     requires searched { IsSearched (S.side sought.now) list.now part.start part.len part.found }
     ensures searched { IsSearched (S.side sought.now) list.now result.start result.len result.found }
     ensures shorter { part.len < 16 * least → result.len < least }
-    ensures counted { C.counted steps.new + digits result.len ≤ C.counted steps.old + digits part.len }
+    ensures counted { C.counted steps.new + digits result.len
+        ≤ C.counted steps.old + digits part.len }
 {
     if part.len < least {
         return part;
@@ -228,7 +241,8 @@ fn halve_four_times<X, C: Count, S: Sought<X, C>>(
     requires searched { IsSearched (S.side sought.now) list.now part.start part.len part.found }
     ensures searched { IsSearched (S.side sought.now) list.now result.start result.len result.found }
     ensures shorter { result.len ≡ part.len / 16 }
-    ensures counted { C.counted steps.new + digits result.len ≤ C.counted steps.old + digits part.len }
+    ensures counted { C.counted steps.new + digits result.len
+        ≤ C.counted steps.old + digits part.len }
 {
     let half = halve(list, part, sought, steps);
     let quarter = halve(list, half, sought, steps);
@@ -243,7 +257,8 @@ fn halve<X, C: Count, S: Sought<X, C>>(list: &[X], part: Part, sought: &S, steps
     requires searched { IsSearched (S.side sought.now) list.now part.start part.len part.found }
     ensures searched { IsSearched (S.side sought.now) list.now result.start result.len result.found }
     ensures shorter { result.len ≡ part.len / 2 }
-    ensures counted { C.counted steps.new + digits result.len ≤ C.counted steps.old + digits part.len }
+    ensures counted { C.counted steps.new + digits result.len
+        ≤ C.counted steps.old + digits part.len }
 {
     if part.len == 0 {
         return part;

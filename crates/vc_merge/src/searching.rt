@@ -1,4 +1,5 @@
-//! The searching body of a merge: each element of the shorter list is searched for in what is left of the longer one.
+//! The searching body of a merge: each element of the shorter list is searched for in what is left
+//! of the longer one.
 ghost use Rattle.std.specs.Prelude.{◌≡◌, ◌+◌, ◌*◌, ◌<◌, ◌≤◌, ◌↔◌, true, take, drop, length, min, max, IfOk, IsTrue};
 ghost use Rattle.std.proofs.Common.{inl, inr};
 ghost use Rattle.vc_merge.specs.Chain.{allows};
@@ -20,7 +21,8 @@ pub(crate) enum Side {
     Right,
 }
 
-/// Whether a walk along lists of these lengths compares no more often than searches in the longer one.
+/// Whether a walk along lists of these lengths compares no more often than searches in the longer
+/// one.
 pub(crate) fn is_walk_shorter(left: usize, right: usize) -> bool
     ensures { IsTrue result ↔ (left + right ≤ min left right * digits (max left right)) }
 {
@@ -29,8 +31,8 @@ pub(crate) fn is_walk_shorter(left: usize, right: usize) -> bool
     left as u128 + right as u128 <= searches * comparisons
 }
 
-/// Makes events until a list is used up, which it answers by true, or until an event answers false or is refused. Searches for
-/// each element of the shorter list.
+/// Makes events until a list is used up, which it answers by true, or until an event answers false
+/// or is refused. Searches for each element of the shorter list.
 pub(crate) fn search_each<M: MergeState, C: Count, O: MergeOperation<M, C>>(
     state: &mut M,
     op: &O,
@@ -39,11 +41,13 @@ pub(crate) fn search_each<M: MergeState, C: Count, O: MergeOperation<M, C>>(
 ) -> Result<bool, AllocError>
     requires ready { O.ready op.now state.old }
     requires ascend { BothAscend (O.order op.now) (M.left state.old) (M.right state.old) }
-    ensures walk { IsWalk (allows M.left M.right (O.gives op.now)) (O.order op.now) state.old result state.new }
+    ensures walk { IsWalk (allows M.left M.right (O.gives op.now)) (O.order op.now) state.old result
+        state.new }
     ensures ready { IfOk result (λ go_on. go_on ≡ true → O.ready op.now state.new) }
     ensures counted { let left = length (M.left state.old) in
         let right = length (M.right state.old) in
-        C.counted steps.new ≤ C.counted steps.old + fewer shorter left right * digits (more shorter left right) }
+        C.counted steps.new ≤ C.counted steps.old + fewer shorter left right
+        * digits (more shorter left right) }
 {
     'events: while !state.a_slice().is_empty() && !state.b_slice().is_empty() {
         if !place_first(state, op, shorter, steps)? {
@@ -53,7 +57,8 @@ pub(crate) fn search_each<M: MergeState, C: Count, O: MergeOperation<M, C>>(
     Ok(true)
 }
 
-/// Searches for the first element of the shorter list, and hands over what is below it and then that element.
+/// Searches for the first element of the shorter list, and hands over what is below it and then
+/// that element.
 fn place_first<M: MergeState, C: Count, O: MergeOperation<M, C>>(
     state: &mut M,
     op: &O,
@@ -64,11 +69,17 @@ fn place_first<M: MergeState, C: Count, O: MergeOperation<M, C>>(
     requires ascend { BothAscend (O.order op.now) (M.left state.old) (M.right state.old) }
     requires some_left { 0 < length (M.left state.old) }
     requires some_right { 0 < length (M.right state.old) }
-    ensures goes_on { GoesOn (allows M.left M.right (O.gives op.now)) (O.order op.now) state.old result state.new }
+    ensures goes_on { GoesOn (allows M.left M.right (O.gives op.now)) (O.order op.now) state.old
+        result state.new }
     ensures ready { IfOk result (λ go_on. go_on ≡ true → O.ready op.now state.new) }
-    ensures fewer { IfOk result (λ go_on. go_on ≡ true → fewer shorter (length (M.left state.new)) (length (M.right state.new)) < fewer shorter (length (M.left state.old)) (length (M.right state.old))) }
-    ensures no_more { IfOk result (λ go_on. go_on ≡ true → more shorter (length (M.left state.new)) (length (M.right state.new)) ≤ more shorter (length (M.left state.old)) (length (M.right state.old))) }
-    ensures counted { C.counted steps.new ≤ C.counted steps.old + digits (more shorter (length (M.left state.old)) (length (M.right state.old))) }
+    ensures fewer { IfOk result (λ go_on. go_on ≡ true
+        → fewer shorter (length (M.left state.new)) (length (M.right state.new))
+        < fewer shorter (length (M.left state.old)) (length (M.right state.old))) }
+    ensures no_more { IfOk result (λ go_on. go_on ≡ true
+        → more shorter (length (M.left state.new)) (length (M.right state.new))
+        ≤ more shorter (length (M.left state.old)) (length (M.right state.old))) }
+    ensures counted { C.counted steps.new ≤ C.counted steps.old
+        + digits (more shorter (length (M.left state.old)) (length (M.right state.old))) }
 {
     match shorter {
         Side::Left => place_left(state, op, steps),
@@ -76,7 +87,8 @@ fn place_first<M: MergeState, C: Count, O: MergeOperation<M, C>>(
     }
 }
 
-/// Hands over the right elements below the first left one, and then that one, alone or with its equal.
+/// Hands over the right elements below the first left one, and then that one, alone or with its
+/// equal.
 fn place_left<M: MergeState, C: Count, O: MergeOperation<M, C>>(
     state: &mut M,
     op: &O,
@@ -85,11 +97,15 @@ fn place_left<M: MergeState, C: Count, O: MergeOperation<M, C>>(
     requires ready { O.ready op.now state.old }
     requires ascend { BothAscend (O.order op.now) (M.left state.old) (M.right state.old) }
     requires some { 0 < length (M.left state.old) }
-    ensures goes_on { GoesOn (allows M.left M.right (O.gives op.now)) (O.order op.now) state.old result state.new }
+    ensures goes_on { GoesOn (allows M.left M.right (O.gives op.now)) (O.order op.now) state.old
+        result state.new }
     ensures ready { IfOk result (λ go_on. go_on ≡ true → O.ready op.now state.new) }
-    ensures fewer { IfOk result (λ go_on. go_on ≡ true → length (M.left state.new) < length (M.left state.old)) }
-    ensures no_more { IfOk result (λ go_on. go_on ≡ true → length (M.right state.new) ≤ length (M.right state.old)) }
-    ensures counted { C.counted steps.new ≤ C.counted steps.old + digits (length (M.right state.old)) }
+    ensures fewer { IfOk result (λ go_on. go_on ≡ true
+        → length (M.left state.new) < length (M.left state.old)) }
+    ensures no_more { IfOk result (λ go_on. go_on ≡ true
+        → length (M.right state.new) ≤ length (M.right state.old)) }
+    ensures counted { C.counted steps.new ≤ C.counted steps.old
+        + digits (length (M.right state.old)) }
 {
     match find_left(state, op, steps) {
         Ok(place) => {
@@ -107,7 +123,8 @@ fn place_left<M: MergeState, C: Count, O: MergeOperation<M, C>>(
     }
 }
 
-/// Hands over the left elements below the first right one, and then that one, alone or with its equal.
+/// Hands over the left elements below the first right one, and then that one, alone or with its
+/// equal.
 fn place_right<M: MergeState, C: Count, O: MergeOperation<M, C>>(
     state: &mut M,
     op: &O,
@@ -116,11 +133,15 @@ fn place_right<M: MergeState, C: Count, O: MergeOperation<M, C>>(
     requires ready { O.ready op.now state.old }
     requires ascend { BothAscend (O.order op.now) (M.left state.old) (M.right state.old) }
     requires some { 0 < length (M.right state.old) }
-    ensures goes_on { GoesOn (allows M.left M.right (O.gives op.now)) (O.order op.now) state.old result state.new }
+    ensures goes_on { GoesOn (allows M.left M.right (O.gives op.now)) (O.order op.now) state.old
+        result state.new }
     ensures ready { IfOk result (λ go_on. go_on ≡ true → O.ready op.now state.new) }
-    ensures fewer { IfOk result (λ go_on. go_on ≡ true → length (M.right state.new) < length (M.right state.old)) }
-    ensures no_more { IfOk result (λ go_on. go_on ≡ true → length (M.left state.new) ≤ length (M.left state.old)) }
-    ensures counted { C.counted steps.new ≤ C.counted steps.old + digits (length (M.left state.old)) }
+    ensures fewer { IfOk result (λ go_on. go_on ≡ true
+        → length (M.right state.new) < length (M.right state.old)) }
+    ensures no_more { IfOk result (λ go_on. go_on ≡ true
+        → length (M.left state.new) ≤ length (M.left state.old)) }
+    ensures counted { C.counted steps.new ≤ C.counted steps.old
+        + digits (length (M.left state.old)) }
 {
     match find_right(state, op, steps) {
         Ok(place) => {
@@ -148,7 +169,8 @@ fn pass_lefts<M: MergeState, C: Count, O: MergeOperation<M, C>>(
     requires ascend { BothAscend (O.order op.now) (M.left state.old) (M.right state.old) }
     requires within { n ≤ length (M.left state.old) }
     requires below { LeftBelow (O.order op.now) (take n (M.left state.old)) (M.right state.old) }
-    ensures goes_on { GoesOn (allows M.left M.right (O.gives op.now)) (O.order op.now) state.old result state.new }
+    ensures goes_on { GoesOn (allows M.left M.right (O.gives op.now)) (O.order op.now) state.old
+        result state.new }
     ensures takes { TakesLeft M.left M.right (O.ready op.now) n state.old result state.new }
 {
     if n == 0 {
@@ -167,7 +189,8 @@ fn pass_rights<M: MergeState, C: Count, O: MergeOperation<M, C>>(
     requires ascend { BothAscend (O.order op.now) (M.left state.old) (M.right state.old) }
     requires within { n ≤ length (M.right state.old) }
     requires below { RightBelow (O.order op.now) (take n (M.right state.old)) (M.left state.old) }
-    ensures goes_on { GoesOn (allows M.left M.right (O.gives op.now)) (O.order op.now) state.old result state.new }
+    ensures goes_on { GoesOn (allows M.left M.right (O.gives op.now)) (O.order op.now) state.old
+        result state.new }
     ensures takes { TakesRight M.left M.right (O.ready op.now) n state.old result state.new }
 {
     if n == 0 {
@@ -185,7 +208,8 @@ fn find_left<M: MergeState, C: Count, O: MergeOperation<M, C>>(
     requires ascend { BothAscend (O.order op.now) (M.left state.now) (M.right state.now) }
     requires some { 0 < length (M.left state.now) }
     ensures place { IsLeftPlace (O.order op.now) (M.left state.now) (M.right state.now) result }
-    ensures counted { C.counted steps.new ≤ C.counted steps.old + digits (length (M.right state.now)) }
+    ensures counted { C.counted steps.new ≤ C.counted steps.old
+        + digits (length (M.right state.now)) }
 {
     let sought = LeftElement {
         op,
@@ -203,7 +227,8 @@ fn find_right<M: MergeState, C: Count, O: MergeOperation<M, C>>(
     requires ascend { BothAscend (O.order op.now) (M.left state.now) (M.right state.now) }
     requires some { 0 < length (M.right state.now) }
     ensures place { IsRightPlace (O.order op.now) (M.left state.now) (M.right state.now) result }
-    ensures counted { C.counted steps.new ≤ C.counted steps.old + digits (length (M.left state.now)) }
+    ensures counted { C.counted steps.new ≤ C.counted steps.old
+        + digits (length (M.left state.now)) }
 {
     let sought = RightElement {
         op,

@@ -1,4 +1,5 @@
-//! The block of a builder: the built elements in front, a hole, and the elements that are left at the end.
+//! The block of a builder: the built elements in front, a hole, and the elements that are left at
+//! the end.
 ghost use Rattle.std.specs.Prelude.{◌≡◌, ◌+◌, ◌-◌, ◌<◌, ◌≤◌, [], ◌∷◌, ◌++◌, length, take, drop, vec_len, vec_capacity, IfOk};
 ghost use Rattle.vc_builder.specs.Builder.{builder};
 ghost use Rattle.vc_builder.specs.Block.{block_built, block_rest, block_view, IsBlock, Becomes};
@@ -8,7 +9,8 @@ use super::source::Source;
 use std::alloc::{AllocError, Allocator};
 use std_alloc::room::may_hold;
 
-/// The built elements lie from place 0 on, and those that are left from the place `start` on to the end.
+/// The built elements lie from place 0 on, and those that are left from the place `start` on to the
+/// end.
 pub struct Block<T, A: Allocator> {
     pub(super) base: Base<T>,
     pub(super) capacity: usize,
@@ -22,7 +24,8 @@ pub struct Block<T, A: Allocator> {
 impl<T, A: Allocator> Block<T, A> {
     /// A block that is all hole.
     pub(super) fn with_capacity(alloc: A, capacity: usize) -> Result<Self, AllocError>
-        ensures { IfOk result (λ b. IsBlock b × (b.capacity ≡ capacity) × (block_view b ≡ builder [] [] capacity)) }
+        ensures { IfOk result (λ b. IsBlock b × (b.capacity ≡ capacity)
+            × (block_view b ≡ builder [] [] capacity)) }
     {
         if !may_hold::<T>(capacity) {
             return Err(AllocError);
@@ -58,8 +61,8 @@ impl<T, A: Allocator> Block<T, A> {
     /// Puts a value in front of those that are left.
     pub(super) fn put_rest(&mut self, value: T)
         requires { IsBlock self.old × (self.old.built < self.old.start) }
-        ensures { Becomes self.old self.new
-            (builder (block_built self.old) (value ∷ block_rest self.old) (self.old.start - self.old.built - 1)) }
+        ensures { Becomes self.old self.new (builder (block_built self.old)
+            (value ∷ block_rest self.old) (self.old.start - self.old.built - 1)) }
     {
         self.start -= 1;
         self.places.write(self.base, self.start, value);
@@ -68,8 +71,8 @@ impl<T, A: Allocator> Block<T, A> {
     /// Puts a value behind the built ones.
     pub(super) fn put_built(&mut self, value: T)
         requires { IsBlock self.old × (self.old.built < self.old.start) }
-        ensures { Becomes self.old self.new
-            (builder (block_built self.old ++ value ∷ []) (block_rest self.old) (self.old.start - self.old.built - 1)) }
+        ensures { Becomes self.old self.new (builder (block_built self.old ++ value ∷ [])
+            (block_rest self.old) (self.old.start - self.old.built - 1)) }
     {
         self.places.write(self.base, self.built, value);
         self.built += 1;
@@ -80,18 +83,22 @@ impl<T, A: Allocator> Block<T, A> {
         requires { IsBlock self.old × (self.old.start < self.old.capacity) }
         ensures value { block_rest self.old ≡ result ∷ drop 1 (block_rest self.old) }
         ensures after { Becomes self.old self.new
-            (builder (block_built self.old) (drop 1 (block_rest self.old)) (self.old.start - self.old.built + 1)) }
+            (builder (block_built self.old) (drop 1 (block_rest self.old))
+            (self.old.start - self.old.built + 1)) }
     {
         let first = self.start;
         self.start += 1;
         self.places.read(self.base, first)
     }
 
-    /// Counts the first `count` of those that are left as built. There is no hole, so none of them moves.
+    /// Counts the first `count` of those that are left as built. There is no hole, so none of them
+    /// moves.
     pub(super) fn pass(&mut self, count: usize)
-        requires { IsBlock self.old × (self.old.built ≡ self.old.start) × (self.old.start + count ≤ self.old.capacity) }
-        ensures { Becomes self.old self.new
-            (builder (block_built self.old ++ take count (block_rest self.old)) (drop count (block_rest self.old)) 0) }
+        requires { IsBlock self.old × (self.old.built ≡ self.old.start)
+            × (self.old.start + count ≤ self.old.capacity) }
+        ensures { Becomes self.old self.new (builder
+            (block_built self.old ++ take count (block_rest self.old))
+            (drop count (block_rest self.old)) 0) }
     {
         self.built += count;
         self.start += count;
@@ -100,9 +107,9 @@ impl<T, A: Allocator> Block<T, A> {
     /// Moves the first `count` of those that are left over the hole, behind the built ones.
     pub(super) fn move_down(&mut self, count: usize)
         requires { IsBlock self.old × (self.old.start + count ≤ self.old.capacity) }
-        ensures { Becomes self.old self.new
-            (builder (block_built self.old ++ take count (block_rest self.old)) (drop count (block_rest self.old))
-            (self.old.start - self.old.built)) }
+        ensures { Becomes self.old self.new (builder
+            (block_built self.old ++ take count (block_rest self.old))
+            (drop count (block_rest self.old)) (self.old.start - self.old.built)) }
     {
         let (built, start) = (self.built, self.start);
         self.built += count;
@@ -151,7 +158,8 @@ impl<T, A: Allocator> Block<T, A> {
     pub(super) fn pour(&mut self, list: &mut Vec<T, A>)
         requires { IsBlock self.old × (block_rest self.old ≡ [])
             × (vec_len list.old + self.old.capacity ≤ vec_capacity list.old) }
-        ensures block { IsBlock self.new × (block_built self.new ≡ []) × (block_rest self.new ≡ []) }
+        ensures block { IsBlock self.new × (block_built self.new ≡ [])
+            × (block_rest self.new ≡ []) }
         ensures items { list.new.items ≡ list.old.items ++ block_built self.old }
     {
         let count = self.built;

@@ -1,4 +1,5 @@
-//! A block of raw memory as a row of places, each empty or holding a value. Only this file touches its pointer.
+//! A block of raw memory as a row of places, each empty or holding a value. Only this file touches
+//! its pointer.
 ghost use Rattle.std.specs.Prelude.{◌≡◌, ℕ, ◌+◌, ◌<◌, ◌≤◌, List, ◌++◌, Option, Some, None, map, length, take, drop, replicate, get_or, slice_set, vec_len, vec_capacity, IfOk, ⊤};
 ghost use Rattle.std.specs.Borrow.{sem};
 ghost use Rattle.std.specs.Vec.Ownership.{FitsInBlock};
@@ -62,8 +63,8 @@ pub(crate) fn allocate<T, A: Allocator>(
     count: usize,
 ) -> Result<(Base<T>, Places<T>, Deed<T, A>), AllocError>
     requires { FitsInBlock T.row count }
-    ensures { IfOk result (λ r. (r.1.at ≡ r.0.ptr) × (r.1.row ≡ replicate count None) × (r.2.at ≡ r.0.ptr)
-        × (r.2.count ≡ count) × (r.2.alloc ≡ alloc.now)) }
+    ensures { IfOk result (λ r. (r.1.at ≡ r.0.ptr) × (r.1.row ≡ replicate count None)
+        × (r.2.at ≡ r.0.ptr) × (r.2.count ≡ count) × (r.2.alloc ≡ alloc.now)) }
 {
     match alloc.allocate(count * size_of::<T>(), align_of::<T>()) {
         Ok(block) => {
@@ -103,8 +104,10 @@ impl<T> Places<T> {
 
     /// Puts a value into an empty place.
     pub(crate) fn write(&mut self, base: Base<T>, index: usize, value: T)
-        requires { (base.ptr ≡ self.old.at) × (index < length self.old.row) × (get_or self.old.row index None ≡ None) }
-        ensures { (self.new.at ≡ self.old.at) × (self.new.row ≡ slice_set self.old.row index (Some value)) }
+        requires { (base.ptr ≡ self.old.at) × (index < length self.old.row)
+            × (get_or self.old.row index None ≡ None) }
+        ensures { (self.new.at ≡ self.old.at)
+            × (self.new.row ≡ slice_set self.old.row index (Some value)) }
     {
         unsafe { base.ptr.add(index).write(value) }
     }

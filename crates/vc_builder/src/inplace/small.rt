@@ -7,8 +7,8 @@ use smallvec::SmallVec;
 use std::alloc::{AllocError, Allocator};
 use std::default::MadeWith;
 
-/// Moves all elements of `list` to the rest of a builder, which has room for `extra` more. What the builder makes
-/// goes back by `close`. It takes the builder's memory and no other.
+/// Moves all elements of `list` to the rest of a builder, which has room for `extra` more. What the
+/// builder makes goes back by `close`. It takes the builder's memory and no other.
 ///
 /// # Errors
 ///
@@ -24,9 +24,9 @@ pub fn open<T: MadeWith<A> + Drop, const N: usize, A: Allocator + Copy>(
     InPlace::made_of(*list.allocator(), list, extra)
 }
 
-/// Puts what was built in the place of the elements of `list`; what is left of the builder is dropped. It takes no
-/// memory: the allocation of what was built becomes that of `list`, or where it is no larger than the inline places,
-/// the elements move there.
+/// Puts what was built in the place of the elements of `list`; what is left of the builder is
+/// dropped. It takes no memory: the allocation of what was built becomes that of `list`, or where
+/// it is no larger than the inline places, the elements move there.
 pub fn close<T: MadeWith<A> + Drop, const N: usize, A: Allocator + Copy>(
     list: &mut SmallVec<T, N, A>,
     both: InPlace<T, A>,

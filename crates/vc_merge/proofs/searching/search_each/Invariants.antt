@@ -13,7 +13,9 @@ invariant-events g l =
       ready : g.O.MergeOperation.ready l.op l.state;
       so_far : SoFar (allows left right (g.O.MergeOperation.gives l.op)) (g.O.MergeOperation.order l.op) l.initial.state l.state;
       no_longer : more l.shorter (length (left l.state)) (length (right l.state)) ≤ longer;
-      counted : g.C.Count.counted l.steps + fewer l.shorter (length (left l.state)) (length (right l.state)) * digits longer ≤ g.C.Count.counted l.initial.steps + fewer l.shorter (length (left l.initial.state)) (length (right l.initial.state)) * digits longer;
+      counted : g.C.Count.counted l.steps + fewer l.shorter (length (left l.state)) (length (right l.state)) * digits longer
+          ≤ g.C.Count.counted l.initial.steps + fewer l.shorter (length (left l.initial.state)) (length (right l.initial.state))
+          * digits longer;
     }
 
 abbrev pub decreases-events : goal.decreases-events
