@@ -58,6 +58,8 @@ module _ {X : Type 0} (cmp : X → X → Ordering) (total : IsTotalOrder cmp) (i
     pub set_of-clones : (a b clones c : List X) → AllZip is_clone b clones → IsSetOf cmp L (λ y z. y ≡ z) f a clones c → IsSetOf cmp L is_clone f a b c
     set_of-clones a b clones c h s = record {
       ascends = s.ascends;
-      members = λ x. s.members x ∙ ap (λ m. f (member cmp a x) m) (member-is_some cmp clones x ∙ cloned-is_some (element_at cmp b x) (element_at cmp clones x) (cloned-at b clones x h) ∙ sym (member-is_some cmp b x));
+      members = λ x. s.members x ∙ ap (λ m. f (member cmp a x) m)
+          (member-is_some cmp clones x ∙ cloned-is_some (element_at cmp b x) (element_at cmp clones x) (cloned-at b clones x h)
+          ∙ sym (member-is_some cmp b x));
       kept = λ x. keeps-clone (element_at cmp a x) (element_at cmp b x) (element_at cmp clones x) (element_at cmp c x) (cloned-at b clones x h) (s.kept x);
     }

@@ -13,12 +13,15 @@ use Rattle.vc_sets.specs.SetOf.{IsSetOf}
 use Rattle.vc_sets.specs.Select.{both_sides, keeps, KeptAt}
 use Rattle.vc_sets.proofs.Selected.{set-of}
 
-module _ {X : Type 0} (cmp : X → X → Ordering) (total : IsTotalOrder cmp) (L R : X → X → Type 0) (left_equal : (x z : X) → L x z → cmp x z ≡ Equal) (right_equal : (x z : X) → R x z → cmp x z ≡ Equal) (left right both : Bool) where
+module _ {X : Type 0} (cmp : X → X → Ordering) (total : IsTotalOrder cmp) (L R : X → X → Type 0)
+    (left_equal : (x z : X) → L x z → cmp x z ≡ Equal) (right_equal : (x z : X) → R x z → cmp x z ≡ Equal)
+    (left right both : Bool) where
   -- what was built from nothing
   built-set_of : (a b c old : List X) → old ≡ [] → IsBuilt (both_sides cmp) (KeptAt (keeps left right both) L R) a b old c → IsSetOf cmp L R (keeps left right both) a b c
   built-set_of a b c old e h =
       let added : c ≡ h.appends.added = h.appends.items ∙ ap (λ l. l ++ h.appends.added) e in
-      set-of cmp total L R left_equal right_equal (keeps left right both) refl a b c h.events h.script (subst (λ l. Gathers (KeptAt (keeps left right both) L R) h.events l) (sym added) h.appends.gathered)
+      set-of cmp total L R left_equal right_equal (keeps left right both) refl a b c h.events h.script
+      (subst (λ l. Gathers (KeptAt (keeps left right both) L R) h.events l) (sym added) h.appends.gathered)
 
   module _ {M N : Type 0} (built : M → List X) (name : M → N) (op : Allows M X X) (first second : M → Answer → M → Type 0)
       (from_a : (s t : M) (n : ℕ) (answer : Answer) → op.gives.from_a s n answer t → Advances built name L op.left s n left answer t)
@@ -36,7 +39,8 @@ module _ {X : Type 0} (cmp : X → X → Ordering) (total : IsTotalOrder cmp) (L
     is-building = record {
       from_a = λ s t n answer h. advances-adds built name L op.left s t n left answer (from_a s t n answer h);
       from_b = from_b;
-      collision = λ s t answer h x y xs ys e i. both-adds built name (KeptAt (keeps left right both) L R) (collision x y ∷ []) first second s (λ u answered k. takes-left s u answered x y xs e k) skips t answer (meets s t answer h);
+      collision = λ s t answer h x y xs ys e i. both-adds built name (KeptAt (keeps left right both) L R) (collision x y ∷ [])
+          first second s (λ u answered k. takes-left s u answered x y xs e k) skips t answer (meets s t answer h);
     }
 
     -- what a merge leaves that was not refused

@@ -38,7 +38,8 @@ module _ {X : Type 0} (cmp : X → X → Ordering) (total : IsTotalOrder cmp) wh
   ascends-front [] ys p = tt
   ascends-front (x ∷ xs) ys p = (each-front (λ y. cmp x y ≡ Less) xs ys p.0, ascends-front xs ys p.1)
 
-  ascends-between : (xs : List X) (x : X) (ys : List X) → Ascends cmp xs → AllByRecursion (λ y. cmp y x ≡ Less) xs → Ascends cmp ys → AllByRecursion (λ y. cmp x y ≡ Less) ys → Ascends cmp (xs ++ x ∷ ys)
+  ascends-between : (xs : List X) (x : X) (ys : List X) → Ascends cmp xs → AllByRecursion (λ y. cmp y x ≡ Less) xs
+      → Ascends cmp ys → AllByRecursion (λ y. cmp x y ≡ Less) ys → Ascends cmp (xs ++ x ∷ ys)
   unfolding IsStrictlySortedBy
   ascends-between [] x ys p q r s = (s, r)
   ascends-between (a ∷ xs) x ys p q r s =
@@ -49,7 +50,8 @@ module _ {X : Type 0} (cmp : X → X → Ordering) (total : IsTotalOrder cmp) wh
   pub ascends-insert : (xs ys : List X) (x : X) (i : ℕ) → IsGap (λ y. cmp y x) xs i → Ascends cmp xs → ys ≡ insert xs i x → Ascends cmp ys
   ascends-insert xs ys x i p q e =
       let parts : Ascends cmp (take i xs ++ drop i xs) = subst (λ l. Ascends cmp l) (sym (take-append-drop i xs)) q in
-      subst (λ l. Ascends cmp l) (sym e) (ascends-between (take i xs) x (drop i xs) (ascends-front (take i xs) (drop i xs) parts) p.less (ascends-append cmp (take i xs) (drop i xs) parts) (gap-above cmp total xs x i p))
+      subst (λ l. Ascends cmp l) (sym e) (ascends-between (take i xs) x (drop i xs) (ascends-front (take i xs) (drop i xs) parts)
+      p.less (ascends-append cmp (take i xs) (drop i xs) parts) (gap-above cmp total xs x i p))
 
   inserted-by : (b : Bool) (xs : List X) (x z : X) (i : ℕ) → AllByRecursion (λ y. cmp y x ≡ Less) (take i xs) → eq_by_cmp cmp x z ≡ b
       → option_or (element_at cmp (take i xs) z) (cond b (Some x) (element_at cmp (drop i xs) z)) ≡ cond b (Some x) (element_at cmp xs z)
@@ -73,7 +75,8 @@ module _ {X : Type 0} (cmp : X → X → Ordering) (total : IsTotalOrder cmp) wh
   replaced-by true x y z o e f = refl
   replaced-by false x y z o e f = sym (ap (λ c. cond c (Some y) o) (sym (equal-alike cmp total y x z e) ∙ f))
 
-  passed-by : (b : Bool) (x y z : X) (o : Option X) → cmp y x ≡ Less → eq_by_cmp cmp x z ≡ b → cond (eq_by_cmp cmp y z) (Some y) (cond b (Some x) o) ≡ cond b (Some x) (cond (eq_by_cmp cmp y z) (Some y) o)
+  passed-by : (b : Bool) (x y z : X) (o : Option X) → cmp y x ≡ Less → eq_by_cmp cmp x z ≡ b
+      → cond (eq_by_cmp cmp y z) (Some y) (cond b (Some x) o) ≡ cond b (Some x) (cond (eq_by_cmp cmp y z) (Some y) o)
   passed-by true x y z o e f = ap (λ c. cond c (Some y) (Some x)) (ap is_eq (sym (alike_right total x z y (equal-from_is_eq (cmp x z) f)) ∙ e))
   passed-by false x y z o e f = refl
 
@@ -92,7 +95,9 @@ module _ {X : Type 0} (cmp : X → X → Ordering) (total : IsTotalOrder cmp) wh
   some-by true x o = refl
   some-by false x o = refl
 
-  pub members-put : (xs ys : List X) (x : X) → ((z : X) → element_at cmp ys z ≡ cond (eq_by_cmp cmp x z) (Some x) (element_at cmp xs z)) → (z : X) → member cmp ys z ≡ (eq_by_cmp cmp x z || member cmp xs z)
+  pub members-put : (xs ys : List X) (x : X) → ((z : X)
+      → element_at cmp ys z ≡ cond (eq_by_cmp cmp x z) (Some x) (element_at cmp xs z)) → (z : X)
+      → member cmp ys z ≡ (eq_by_cmp cmp x z || member cmp xs z)
   members-put xs ys x h z = member-is_some cmp ys z ∙ ap is_some (h z) ∙ some-by (eq_by_cmp cmp x z) x (element_at cmp xs z) ∙ ap (λ b. eq_by_cmp cmp x z || b) (sym (member-is_some cmp xs z))
 
   -- ---- the answer

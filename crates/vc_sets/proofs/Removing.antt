@@ -43,7 +43,9 @@ module _ {X : Type 0} (cmp : X → X → Ordering) where
     later-by false x y z o e f = refl
 
     -- what stands where, without the element that is equal to x
-    pub element_at-without : (xs : List X) (x : X) (i : ℕ) → i < length xs → ((d : X) → cmp (get_or xs i d) x ≡ Equal) → Ascends cmp xs → (z : X) → element_at cmp (take i xs ++ drop (suc i) xs) z ≡ cond (eq_by_cmp cmp x z) None (element_at cmp xs z)
+    pub element_at-without : (xs : List X) (x : X) (i : ℕ) → i < length xs → ((d : X) → cmp (get_or xs i d) x ≡ Equal)
+        → Ascends cmp xs → (z : X)
+        → element_at cmp (take i xs ++ drop (suc i) xs) z ≡ cond (eq_by_cmp cmp x z) None (element_at cmp xs z)
     unfolding IsStrictlySortedBy
     element_at-without [] x i h e p z = absurd (omega arith)
     element_at-without (y ∷ ys) x zero h e p z =
@@ -77,5 +79,7 @@ module _ {X : Type 0} (cmp : X → X → Ordering) where
     none-by false o = refl
 
     -- the members, once what is equal to x was taken out
-    pub members-taken : (xs ys : List X) (x : X) → ((z : X) → element_at cmp ys z ≡ cond (eq_by_cmp cmp x z) None (element_at cmp xs z)) → (z : X) → member cmp ys z ≡ (not (eq_by_cmp cmp x z) && member cmp xs z)
+    pub members-taken : (xs ys : List X) (x : X) → ((z : X)
+        → element_at cmp ys z ≡ cond (eq_by_cmp cmp x z) None (element_at cmp xs z)) → (z : X)
+        → member cmp ys z ≡ (not (eq_by_cmp cmp x z) && member cmp xs z)
     members-taken xs ys x h z = member-is_some cmp ys z ∙ ap is_some (h z) ∙ none-by (eq_by_cmp cmp x z) (element_at cmp xs z) ∙ ap (λ b. not (eq_by_cmp cmp x z) && b) (sym (member-is_some cmp xs z))

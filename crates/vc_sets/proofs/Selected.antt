@@ -39,7 +39,8 @@ module _ {X : Type 0} (cmp : X → X → Ordering) (total : IsTotalOrder cmp) wh
   lefts-above y (right_alone x ∷ es) p = lefts-above y es p.1
   lefts-above y (collision x w ∷ es) p = (p.0, lefts-above y es p.1)
 
-  rights-above : (y : X) (es : List (Event X X)) → AllByRecursion (λ e. cmp y (either (place e)) ≡ Less) es → AllByRecursion (IsMatched (both_sides cmp)) es → AllByRecursion (λ z. cmp y z ≡ Less) (rights es)
+  rights-above : (y : X) (es : List (Event X X)) → AllByRecursion (λ e. cmp y (either (place e)) ≡ Less) es
+      → AllByRecursion (IsMatched (both_sides cmp)) es → AllByRecursion (λ z. cmp y z ≡ Less) (rights es)
   rights-above y [] p m = tt
   rights-above y (left_alone x ∷ es) p m = rights-above y es p.1 m.1
   rights-above y (right_alone x ∷ es) p m = (p.0, rights-above y es p.1 m.1)
@@ -53,7 +54,8 @@ module _ {X : Type 0} (cmp : X → X → Ordering) (total : IsTotalOrder cmp) wh
   -- ---- one event: `first` is what is kept at it, `rest` what is kept later
 
   module _ (u : X) (P : X → Type 0) (equal : (z : X) → P z → cmp u z ≡ Equal) where
-    kept-above : (y : X) (b : Bool) (first rest zs : List X) → GivesIf b P first → zs ≡ first ++ rest → cmp y u ≡ Less → AllByRecursion (λ z. cmp y z ≡ Less) rest → AllByRecursion (λ z. cmp y z ≡ Less) zs
+    kept-above : (y : X) (b : Bool) (first rest zs : List X) → GivesIf b P first → zs ≡ first ++ rest → cmp y u ≡ Less
+        → AllByRecursion (λ z. cmp y z ≡ Less) rest → AllByRecursion (λ z. cmp y z ≡ Less) zs
     kept-above y true first rest zs g e h p = subst (λ l. AllByRecursion (λ z. cmp y z ≡ Less) l) (sym (e ∙ ap (λ l. l ++ rest) g.2)) (sym (alike_right total u g.0 y (equal g.0 g.1)) ∙ h, p)
     kept-above y false first rest zs g e h p = subst (λ l. AllByRecursion (λ z. cmp y z ≡ Less) l) (sym (e ∙ ap (λ l. l ++ rest) g)) p
 
@@ -98,25 +100,34 @@ module _ {X : Type 0} (cmp : X → X → Ordering) (total : IsTotalOrder cmp) wh
         → (q : Gathers (KeptAt f L R) (left_alone y ∷ es) zs) → IsKeptAt x es q.1 → (b : Bool) → eq_by_cmp cmp y x ≡ b → IsKeptAt x (left_alone y ∷ es) zs
     unfolding IsKeptAt
     at-left x y es zs p m q ih true e =
-        keeps-same f none L R (element_at-first cmp y (lefts es) x e) (element_at-none cmp total y x (rights es) (rights-above y es p m) e) refl (kept-at y (L y) (left_equal y) x (f true false) q.0 q.1 zs q.2 q.4 (all-above y es q.1 p q.3) e)
+        keeps-same f none L R (element_at-first cmp y (lefts es) x e)
+        (element_at-none cmp total y x (rights es) (rights-above y es p m) e) refl
+        (kept-at y (L y) (left_equal y) x (f true false) q.0 q.1 zs q.2 q.4 (all-above y es q.1 p q.3) e)
     at-left x y es zs p m q ih false e = keeps-same f none L R (element_at-later cmp y (lefts es) x e) refl (kept-elsewhere y (L y) (left_equal y) x (f true false) q.0 q.1 zs q.2 q.4 e) ih
 
     at-right : (x y : X) (es : List (Event X X)) (zs : List X) → AllByRecursion (λ e. cmp y (either (place e)) ≡ Less) es → AllByRecursion (IsMatched (both_sides cmp)) es
         → (q : Gathers (KeptAt f L R) (right_alone y ∷ es) zs) → IsKeptAt x es q.1 → (b : Bool) → eq_by_cmp cmp y x ≡ b → IsKeptAt x (right_alone y ∷ es) zs
     unfolding IsKeptAt
     at-right x y es zs p m q ih true e =
-        keeps-same f none L R (element_at-none cmp total y x (lefts es) (lefts-above y es p) e) (element_at-first cmp y (rights es) x e) refl (kept-at y (R y) (right_equal y) x (f false true) q.0 q.1 zs q.2 q.4 (all-above y es q.1 p q.3) e)
+        keeps-same f none L R (element_at-none cmp total y x (lefts es) (lefts-above y es p) e)
+        (element_at-first cmp y (rights es) x e) refl
+        (kept-at y (R y) (right_equal y) x (f false true) q.0 q.1 zs q.2 q.4 (all-above y es q.1 p q.3) e)
     at-right x y es zs p m q ih false e = keeps-same f none L R refl (element_at-later cmp y (rights es) x e) (kept-elsewhere y (R y) (right_equal y) x (f false true) q.0 q.1 zs q.2 q.4 e) ih
 
     at-both : (x y w : X) (es : List (Event X X)) (zs : List X) → cmp y w ≡ Equal → AllByRecursion (λ e. cmp y (either (place e)) ≡ Less) es
         → (q : Gathers (KeptAt f L R) (collision y w ∷ es) zs) → IsKeptAt x es q.1 → (b : Bool) → eq_by_cmp cmp y x ≡ b → IsKeptAt x (collision y w ∷ es) zs
     unfolding IsKeptAt
     at-both x y w es zs m p q ih true e =
-        keeps-same f none L R (element_at-first cmp y (lefts es) x e) (element_at-first cmp w (rights es) x (equal-alike cmp total y w x m ∙ e)) refl (kept-at y (L y) (left_equal y) x (f true true) q.0 q.1 zs q.2 q.4 (all-above y es q.1 p q.3) e)
+        keeps-same f none L R (element_at-first cmp y (lefts es) x e)
+        (element_at-first cmp w (rights es) x (equal-alike cmp total y w x m ∙ e)) refl
+        (kept-at y (L y) (left_equal y) x (f true true) q.0 q.1 zs q.2 q.4 (all-above y es q.1 p q.3) e)
     at-both x y w es zs m p q ih false e =
-        keeps-same f none L R (element_at-later cmp y (lefts es) x e) (element_at-later cmp w (rights es) x (equal-alike cmp total y w x m ∙ e)) (kept-elsewhere y (L y) (left_equal y) x (f true true) q.0 q.1 zs q.2 q.4 e) ih
+        keeps-same f none L R (element_at-later cmp y (lefts es) x e)
+        (element_at-later cmp w (rights es) x (equal-alike cmp total y w x m ∙ e))
+        (kept-elsewhere y (L y) (left_equal y) x (f true true) q.0 q.1 zs q.2 q.4 e) ih
 
-    kept_at : (x : X) (es : List (Event X X)) (zs : List X) → Ascends (λ d e. both_sides cmp (place d) (place e)) es → AllByRecursion (IsMatched (both_sides cmp)) es → Gathers (KeptAt f L R) es zs → IsKeptAt x es zs
+    kept_at : (x : X) (es : List (Event X X)) (zs : List X) → Ascends (λ d e. both_sides cmp (place d) (place e)) es
+        → AllByRecursion (IsMatched (both_sides cmp)) es → Gathers (KeptAt f L R) es zs → IsKeptAt x es zs
     unfolding IsKeptAt IsStrictlySortedBy
     kept_at x [] zs p m q = ap (λ l. element_at cmp l x) q
     kept_at x (left_alone y ∷ es) zs p m q = at-left x y es zs p.0 m.1 q (kept_at x es q.1 p.1 m.1 q.3) (eq_by_cmp cmp y x) refl
@@ -131,6 +142,8 @@ module _ {X : Type 0} (cmp : X → X → Ordering) (total : IsTotalOrder cmp) wh
         λ x. keeps-same f none L R (ap (λ l. element_at cmp l x) (sym s.left)) (ap (λ l. element_at cmp l x) (sym s.right)) refl (kept_at x es c s.ascends s.matched q) in
         record {
           ascends = all-ascend es c s.ascends q;
-          members = λ x. member-is_some cmp c x ∙ keeps-is_some f none L R (element_at cmp a x) (element_at cmp b x) (element_at cmp c x) (kept x) ∙ ap (λ t. f t (is_some (element_at cmp b x))) (sym (member-is_some cmp a x)) ∙ ap (λ t. f (member cmp a x) t) (sym (member-is_some cmp b x));
+          members = λ x. member-is_some cmp c x ∙ keeps-is_some f none L R (element_at cmp a x) (element_at cmp b x)
+              (element_at cmp c x) (kept x) ∙ ap (λ t. f t (is_some (element_at cmp b x))) (sym (member-is_some cmp a x))
+              ∙ ap (λ t. f (member cmp a x) t) (sym (member-is_some cmp b x));
           kept = kept;
         }

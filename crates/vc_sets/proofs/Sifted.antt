@@ -15,7 +15,11 @@ module _ {X : Type 0} (f g : Bool → Bool → Bool) (same : (x y : Bool) → f 
 
   -- operations that say the same
   set_of-same : (cmp : X → X → Ordering) (a b c : List X) → IsSetOf cmp L R f a b c → IsSetOf cmp L R g a b c
-  set_of-same cmp a b c s = record { ascends = s.ascends; members = λ x. s.members x ∙ same (member cmp a x) (member cmp b x); kept = λ x. keeps-same (element_at cmp a x) (element_at cmp b x) (element_at cmp c x) (s.kept x) }
+  set_of-same cmp a b c s = record {
+    ascends = s.ascends;
+    members = λ x. s.members x ∙ same (member cmp a x) (member cmp b x);
+    kept = λ x. keeps-same (element_at cmp a x) (element_at cmp b x) (element_at cmp c x) (s.kept x);
+  }
 
 keeps-and : (x y : Bool) → keeps (not true) false true x y ≡ (x && y)
 keeps-and true true = refl
@@ -39,8 +43,11 @@ module _ {X : Type 0} (cmp : X → X → Ordering) (L R : X → X → Type 0) wh
 
   pub sifted-and : (v : SmallVec X) (view those that lent written new : List X) (kept : ℕ) → v.items ≡ view → lent ≡ v.items → those ≡ that → length written ≡ length lent
       → new ≡ take kept (with_items v written).items → IsSetOf cmp L R (keeps (not true) false true) lent those (take kept written) → IsSetOf cmp L R ◌&&◌ view that new
-  sifted-and v view those that lent written new kept a b c l e s = set_of-same (keeps (not true) false true) ◌&&◌ keeps-and L R cmp view that new (sifted (keeps (not true) false true) v view those that lent written new kept a b c l e s)
+  sifted-and v view those that lent written new kept a b c l e s = set_of-same (keeps (not true) false true) ◌&&◌ keeps-and L R
+      cmp view that new (sifted (keeps (not true) false true) v view those that lent written new kept a b c l e s)
 
   pub sifted-and_not : (v : SmallVec X) (view those that lent written new : List X) (kept : ℕ) → v.items ≡ view → lent ≡ v.items → those ≡ that → length written ≡ length lent
       → new ≡ take kept (with_items v written).items → IsSetOf cmp L R (keeps (not false) false false) lent those (take kept written) → IsSetOf cmp L R and_not view that new
-  sifted-and_not v view those that lent written new kept a b c l e s = set_of-same (keeps (not false) false false) and_not keeps-and_not L R cmp view that new (sifted (keeps (not false) false false) v view those that lent written new kept a b c l e s)
+  sifted-and_not v view those that lent written new kept a b c l e s = set_of-same (keeps (not false) false false) and_not
+      keeps-and_not L R cmp view that new
+      (sifted (keeps (not false) false false) v view those that lent written new kept a b c l e s)

@@ -68,7 +68,8 @@ module _ {X : Type 0} (cmp : X → X → Ordering) (total : IsTotalOrder cmp) (l
   none-given : (a b : List X) (es : List (Event X X)) → IsScript (both_sides cmp) a b es → Gathers witness_at es [] → (x : X) → witness (member cmp a x) (member cmp b x) ≡ false
   none-given a b es s q x = sym ((witnesses a b [] es s q).members x)
 
-  some-given : (a b : List X) (es : List (Event X X)) (u : X) (us : List X) → IsScript (both_sides cmp) a b es → Gathers witness_at es (u ∷ us) → (x : X) × (witness (member cmp a x) (member cmp b x) ≡ true)
+  some-given : (a b : List X) (es : List (Event X X)) (u : X) (us : List X) → IsScript (both_sides cmp) a b es
+      → Gathers witness_at es (u ∷ us) → (x : X) × (witness (member cmp a x) (member cmp b x) ≡ true)
   some-given a b es u us s q = (u, sym ((witnesses a b (u ∷ us) es s q).members u) ∙ ap (λ o. is_eq o || member cmp us u) (tied_itself total u))
 
   -- ---- the merge

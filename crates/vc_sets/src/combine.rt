@@ -15,7 +15,10 @@ use std::default::MadeWith;
 use vc_merge::merge::{Count, merge};
 use vc_merge::states::SmallVecMergeState;
 
-/// What stands in either list alone and, if `BOTH`, the left one of what stands in both. It reserves room for all of it at the start.
+/// What stands in either list alone and, if `BOTH`, the left one of what stands in both.
+///
+/// Where each list fits in place, the result may: then it begins there, and grows if it has to.
+/// Else it makes room for all at the start.
 fn combine_either<
     const BOTH: bool,
     T: Ord + Clone + MadeWith<A>,
@@ -26,17 +29,26 @@ fn combine_either<
     requires a_ascends { Ascends T.cmp a.now }
     requires b_ascends { Ascends T.cmp b.now }
     requires clones { ClonesAreEqual T.cmp T.is_clone }
-    ensures combined { IfOk result (λ v. IsSetOf T.cmp T.is_clone T.is_clone (keeps true true BOTH) a.now b.now v.items) }
-    ensures counted { C.counted steps.new ≤ C.counted steps.old + bound (length a.now) (length b.now) }
+    ensures combined { IfOk result
+        (λ v. IsSetOf T.cmp T.is_clone T.is_clone (keeps true true BOTH) a.now b.now v.items) }
+    ensures counted { C.counted steps.new
+        ≤ C.counted steps.old + bound (length a.now) (length b.now) }
 {
-    let mut built = SmallVec::with_capacity(alloc, a.len().saturating_add(b.len()))?;
+    let may_fit = a.len().max(b.len()) <= N;
+    let room = if may_fit {
+        0
+    } else {
+        a.len().saturating_add(b.len())
+    };
+    let mut built = SmallVec::with_capacity(alloc, room)?;
     let mut state = SmallVecMergeState::new(a, b, &mut built);
     merge(&mut state, &EitherOp::<BOTH>, steps)?;
     Ok(built)
 }
 
-/// What stands in the left list alone or, if `BOTH`, the left one of what stands in both. What stands alone is at least as much as the left
-/// list has more than the right one: room for that is reserved at the start.
+/// What stands in the left list alone or, if `BOTH`, the left one of what stands in both. What
+/// stands alone is at least as much as the left list has more than the right one: room for that is
+/// reserved at the start.
 fn combine_left<
     const BOTH: bool,
     T: Ord + Clone + MadeWith<A>,
@@ -47,8 +59,10 @@ fn combine_left<
     requires a_ascends { Ascends T.cmp a.now }
     requires b_ascends { Ascends T.cmp b.now }
     requires clones { ClonesAreEqual T.cmp T.is_clone }
-    ensures combined { IfOk result (λ v. IsSetOf T.cmp T.is_clone T.is_clone (keeps (not BOTH) false BOTH) a.now b.now v.items) }
-    ensures counted { C.counted steps.new ≤ C.counted steps.old + bound (length a.now) (length b.now) }
+    ensures combined { IfOk result (λ v.
+        IsSetOf T.cmp T.is_clone T.is_clone (keeps (not BOTH) false BOTH) a.now b.now v.items) }
+    ensures counted { C.counted steps.new
+        ≤ C.counted steps.old + bound (length a.now) (length b.now) }
 {
     let least = if BOTH {
         0
@@ -74,8 +88,10 @@ pub fn combine<T: Ord + Clone + MadeWith<A>, C: Count, const N: usize, A: Alloca
     requires a_ascends { Ascends T.cmp a.now }
     requires b_ascends { Ascends T.cmp b.now }
     requires clones { ClonesAreEqual T.cmp T.is_clone }
-    ensures combined { IfOk result (λ v. IsSetOf T.cmp T.is_clone T.is_clone (made_by op) a.now b.now v.items) }
-    ensures counted { C.counted steps.new ≤ C.counted steps.old + bound (length a.now) (length b.now) }
+    ensures combined { IfOk result
+        (λ v. IsSetOf T.cmp T.is_clone T.is_clone (made_by op) a.now b.now v.items) }
+    ensures counted { C.counted steps.new
+        ≤ C.counted steps.old + bound (length a.now) (length b.now) }
 {
     match op {
         SetOp::Union => combine_either::<true, _, _, _, _>(alloc, a, b, steps),

@@ -8,10 +8,12 @@ use std::alloc::AllocError;
 use std::cmp::Ordering;
 use vc_merge::merge::{Count, MergeFromRight, MergeOperation, MergeStateMut};
 
-/// Keeps what stands on either side alone, and what stands on both if `BOTH`: the union, or the symmetric difference.
+/// Keeps what stands on either side alone, and what stands on both if `BOTH`: the union, or the
+/// symmetric difference.
 pub struct EitherOp<const BOTH: bool>;
 
-/// Keeps what stands on the left alone, or, if `BOTH`, what stands on both: the difference, or the intersection.
+/// Keeps what stands on the left alone, or, if `BOTH`, what stands on both: the difference, or the
+/// intersection.
 pub struct LeftOp<const BOTH: bool>;
 
 impl<const BOTH: bool, T: Ord, M: MergeFromRight<A = T, B = T>, C: Count> MergeOperation<M, C>
@@ -23,7 +25,8 @@ impl<const BOTH: bool, T: Ord, M: MergeFromRight<A = T, B = T>, C: Count> MergeO
     ghost gives = { λ _. record {
       from_a = λ s n answer t. M.advances_a s n true answer t;
       from_b = λ s n answer t. M.takes_b s n answer t;
-      collision = λ s answer t. Both (λ p r q. M.advances_a p 1 BOTH r q) (λ p r q. M.skips_b p 1 r q) s answer t;
+      collision = λ s answer t.
+          Both (λ p r q. M.advances_a p 1 BOTH r q) (λ p r q. M.skips_b p 1 r q) s answer t;
     } };
 
     ghost total = { λ _. both_sides-total T.cmp T.total };
@@ -54,7 +57,8 @@ impl<const BOTH: bool, T: Ord, M: MergeStateMut<A = T, B = T>, C: Count> MergeOp
     ghost gives = { λ _. record {
       from_a = λ s n answer t. M.advances_a s n (not BOTH) answer t;
       from_b = λ s n answer t. M.skips_b s n answer t;
-      collision = λ s answer t. Both (λ p r q. M.advances_a p 1 BOTH r q) (λ p r q. M.skips_b p 1 r q) s answer t;
+      collision = λ s answer t.
+          Both (λ p r q. M.advances_a p 1 BOTH r q) (λ p r q. M.skips_b p 1 r q) s answer t;
     } };
 
     ghost total = { λ _. both_sides-total T.cmp T.total };
@@ -81,8 +85,11 @@ fn keep_left<const BOTH: bool, M: MergeStateMut>(state: &mut M) -> Result<bool, 
     requires ready { M.ready state.old }
     requires some_left { 0 < length (M.left state.old) }
     requires some_right { 0 < length (M.right state.old) }
-    ensures gives { Both (λ p r q. M.advances_a p 1 BOTH r q) (λ p r q. M.skips_b p 1 r q) state.old result state.new }
-    ensures takes { IfOk result (λ go_on. go_on ≡ true → (M.left state.new ≡ drop 1 (M.left state.old)) × (M.right state.new ≡ drop 1 (M.right state.old)) × M.ready state.new) }
+    ensures gives { Both (λ p r q. M.advances_a p 1 BOTH r q) (λ p r q. M.skips_b p 1 r q) state.old
+        result state.new }
+    ensures takes { IfOk result (λ go_on. go_on ≡ true
+        → (M.left state.new ≡ drop 1 (M.left state.old))
+        × (M.right state.new ≡ drop 1 (M.right state.old)) × M.ready state.new) }
 {
     if state.advance_a(1, BOTH)? {
         state.skip_b(1)

@@ -23,7 +23,9 @@ use vc_merge::iterators::VecSetIter;
 use vc_merge::moving::insert_at;
 use vc_merge::search::find;
 
-/// A set, as a list of its elements in ascending order. Up to `N` of them stand in place, without an allocation.
+/// A set, as a list of its elements in ascending order. Up to `N` of them stand in place, without
+/// an allocation, unless the list was once given room for more: then it keeps its block until
+/// `shrink_to_fit`.
 ///
 /// Contracts see it as that list.
 ///
@@ -85,7 +87,8 @@ impl<T: Ord + MadeWith<A> + Drop, const N: usize, A: Allocator + Copy> VecSet<T,
         }
     }
 
-    /// The set of a list that ascends strictly, as [`ascends`](vc_merge::iterators::ascends) tells. The elements are moved.
+    /// The set of a list that ascends strictly, as [`ascends`](vc_merge::iterators::ascends) tells.
+    /// The elements are moved.
     ///
     /// Takes memory where there are more than `N`; refused, it drops the elements.
     #[inline(always)]
@@ -104,14 +107,19 @@ impl<T: Ord + MadeWith<A> + Drop, const N: usize, A: Allocator + Copy> VecSet<T,
         Ok(VecSet { elements })
     }
 
-    /// Puts an element in, in the place of an equal one if there is one, and answers whether there was none.
+    /// Puts an element in, in the place of an equal one if there is one, and answers whether there
+    /// was none.
     ///
-    /// Searches for its place, and moves the elements behind a new one. It takes memory only for a new element, where `N` or more are held;
-    /// refused, it leaves the set as it was and drops the element.
+    /// Compares as often as `contains`, and moves the elements behind a new one. It takes memory
+    /// only for a new element, where `N` or more are held; refused, it leaves the set as it was and
+    /// drops the element.
     pub fn insert(&mut self, that: T) -> Result<bool, AllocError>
         ensures answer { IfOk result (λ is_new. is_new ≡ not (member T.cmp self.old that)) }
-        ensures members { IfOk result (λ _. (x : T) → member T.cmp self.new x ≡ (eq_by_cmp T.cmp that x || member T.cmp self.old x)) }
-        ensures kept { IfOk result (λ _. (x : T) → element_at T.cmp self.new x ≡ cond (eq_by_cmp T.cmp that x) (Some that) (element_at T.cmp self.old x)) }
+        ensures members { IfOk result (λ _. (x : T)
+            → member T.cmp self.new x ≡ (eq_by_cmp T.cmp that x || member T.cmp self.old x)) }
+        ensures kept { IfOk result (λ _. (x : T)
+            → element_at T.cmp self.new x
+            ≡ cond (eq_by_cmp T.cmp that x) (Some that) (element_at T.cmp self.old x)) }
 
         // It succeeds on a known element, and where fewer than `N` are held.
         ensures known { IsTrue (member T.cmp self.old that) → IsOk result }
@@ -168,8 +176,8 @@ pub trait AbstractVecSet<T: Ord> {
         elements_of(self.as_slice())
     }
 
-    /// Whether an element is equal to `value`. Compares with some of the elements, about `1.5 * log2(n) + 1` of `n`, and takes no
-    /// memory.
+    /// Whether an element is equal to `value`. Compares fewer than `1.5 * log2(n) + 4` times among
+    /// `n` elements, and takes no memory.
     fn contains(&self, value: &T) -> bool
         ensures { result ≡ member T.cmp (elements self.now) value.now }
     {
@@ -183,16 +191,16 @@ pub trait AbstractVecSet<T: Ord> {
         algebra::is_disjoint(self, that)
     }
 
-    /// Whether each element of this set is in the other. It stops at the first that is not, and compares none where this set has more
-    /// elements. Takes no memory.
+    /// Whether each element of this set is in the other. It stops at the first that is not, and
+    /// compares none where this set has more elements. Takes no memory.
     final fn is_subset<S: AbstractVecSet<T>>(&self, that: &S) -> bool
         ensures { IsTrue result ↔ IsSubset T.cmp (elements self.now) (S.elements that.now) }
     {
         algebra::is_subset(self, that)
     }
 
-    /// Whether each element of the other set is in this one. It stops at the first that is not, and compares none where the other set has
-    /// more elements. Takes no memory.
+    /// Whether each element of the other set is in this one. It stops at the first that is not, and
+    /// compares none where the other set has more elements. Takes no memory.
     final fn is_superset<S: AbstractVecSet<T>>(&self, that: &S) -> bool
         ensures { IsTrue result ↔ IsSubset T.cmp (S.elements that.now) (elements self.now) }
     {

@@ -1,4 +1,5 @@
-//! A search for a witness: an element that stands on the left alone, on the right alone, or on both sides. It stops at the first one.
+//! A search for a witness: an element that stands on the left alone, on the right alone, or on both
+//! sides. It stops at the first one.
 ghost use Rattle.std.specs.Prelude.{◌≡◌, ◌+◌, ◌≤◌, ◌||◌, ◌↔◌, Ok, true, false, not, length, IsTrue, MatchBool};
 ghost use Rattle.vc_merge.specs.Ascending.{Ascends, member};
 ghost use Rattle.vc_merge.specs.Count.{bound};
@@ -36,7 +37,8 @@ impl<'a, T> MergeState for Witnesses<'a, T> {
     }
 }
 
-/// Stops at an element of the left alone if `LEFT`, of the right alone if `RIGHT`, and at one that stands on both sides if `BOTH`.
+/// Stops at an element of the left alone if `LEFT`, of the right alone if `RIGHT`, and at one that
+/// stands on both sides if `BOTH`.
 struct WitnessOp<const LEFT: bool, const RIGHT: bool, const BOTH: bool>;
 
 impl<'a, const LEFT: bool, const RIGHT: bool, const BOTH: bool, T: Ord, C: Count> MergeOperation<
@@ -79,7 +81,8 @@ impl<'a, const LEFT: bool, const RIGHT: bool, const BOTH: bool, T: Ord, C: Count
     }
 }
 
-/// Whether two ascending lists have a witness: an element of the left alone if `LEFT`, of the right alone if `RIGHT`, of both if `BOTH`.
+/// Whether two ascending lists have a witness: an element of the left alone if `LEFT`, of the right
+/// alone if `RIGHT`, of both if `BOTH`.
 pub fn has_witness<const LEFT: bool, const RIGHT: bool, const BOTH: bool, T: Ord, C: Count>(
     a: &[T],
     b: &[T],
@@ -90,19 +93,22 @@ pub fn has_witness<const LEFT: bool, const RIGHT: bool, const BOTH: bool, T: Ord
     ensures found { MatchBool result
         ((x : T) × (keeps LEFT RIGHT BOTH (member T.cmp a.now x) (member T.cmp b.now x) ≡ true))
         ((x : T) → keeps LEFT RIGHT BOTH (member T.cmp a.now x) (member T.cmp b.now x) ≡ false) }
-    ensures counted { C.counted steps.new ≤ C.counted steps.old + bound (length a.now) (length b.now) }
+    ensures counted { C.counted steps.new
+        ≤ C.counted steps.old + bound (length a.now) (length b.now) }
 {
     let mut state = Witnesses { a, b, found: false };
     let _never_refused = merge(&mut state, &WitnessOp::<LEFT, RIGHT, BOTH>, steps);
     state.found
 }
 
-/// Whether each element of the left list is in the right one. A longer list is in no shorter one, which takes no comparison.
+/// Whether each element of the left list is in the right one. A longer list is in no shorter one,
+/// which takes no comparison.
 pub fn is_within<T: Ord, C: Count>(a: &[T], b: &[T], steps: &mut C) -> bool
     requires a_ascends { Ascends T.cmp a.now }
     requires b_ascends { Ascends T.cmp b.now }
     ensures within { IsTrue result ↔ IsSubset T.cmp a.now b.now }
-    ensures counted { C.counted steps.new ≤ C.counted steps.old + bound (length a.now) (length b.now) }
+    ensures counted { C.counted steps.new
+        ≤ C.counted steps.old + bound (length a.now) (length b.now) }
 {
     a.len() <= b.len() && !has_witness::<true, false, false, _, _>(a, b, steps)
 }

@@ -1,7 +1,8 @@
 //! The laws of the definitions that contracts on total sets cite.
 //!
-//! Each function does nothing: its contract is the law. Code that calls one has the law in its proof. The laws of operations
-//! hold of both ways in which calls make sets: the operators on references, and the assigning methods.
+//! Each function does nothing: its contract is the law. Code that calls one has the law in its
+//! proof. The laws of operations hold of both ways in which calls make sets: the operators on
+//! references, and the assigning methods.
 ghost use Rattle.vc_total_sets.specs.Laws.{fresh_of, moved_of, OperationsArePointwise, OperationsMakeOne, ComplementsTurnOperations, ComplementIsTwofold, TotalTestsAreOfOperations};
 
 use vc_merge::laws::members_tell_the_list;
@@ -29,8 +30,8 @@ pub fn complements_turn_operations<T: Ord + Clone>()
     members_tell_the_list::<T>();
 }
 
-/// A set is a subset of another exactly where nothing is left of it without the other, and two sets are disjoint exactly where nothing is in
-/// both; nothing is the empty list, not negated.
+/// A set is a subset of another exactly where nothing is left of it without the other, and two sets
+/// are disjoint exactly where nothing is in both; nothing is the empty list, not negated.
 pub fn total_tests_are_of_operations<T: Ord + Clone>()
     ensures fresh { TotalTestsAreOfOperations T.cmp (fresh_of T.cmp T.is_clone) }
     ensures moved { TotalTestsAreOfOperations T.cmp (moved_of T.cmp) }

@@ -19,8 +19,9 @@ use vc_sets::vec_set::{AbstractVecSet, VecSet};
 
 /// A set that is a list of elements or, where it is negated, all values that are not in the list.
 ///
-/// Contracts see it as that list, in ascending order, and the flag. Two sets are equal where both are: over `bool`, the list of `false`
-/// and `true` has the same members as the negated empty list, and is not equal to it.
+/// Contracts see it as that list, in ascending order, and the flag. Two sets are equal where both
+/// are: over `bool`, the list of `false` and `true` has the same members as the negated empty list,
+/// and is not equal to it.
 ///
 /// ```
 /// let mut open: TotalVecSet<u16, 2> = TotalVecSet::all(alloc);
@@ -108,15 +109,19 @@ impl<T: Ord + MadeWith<A> + Drop, const N: usize, A: Allocator + Copy> TotalVecS
         Self::constant(alloc, true)
     }
 
-    /// Puts a value in. Into a list that is not negated it goes in the place of an equal element if there is one; from one that is
-    /// negated an equal element is taken out.
+    /// Puts a value in. Into a list that is not negated it goes in the place of an equal element if
+    /// there is one; from one that is negated an equal element is taken out.
     ///
-    /// Searches the list, and moves the elements behind. It takes memory only for a new element of a list that is not negated,
-    /// where `N` or more are held; refused, it leaves the set as it was and drops the value.
+    /// Searches the list, and moves the elements behind. It takes memory only for a new element of
+    /// a list that is not negated, where `N` or more are held; refused, it leaves the set as it was
+    /// and drops the value.
     pub fn insert(&mut self, that: T) -> Result<(), AllocError>
         ensures negated { self.new.negated ≡ self.old.negated }
-        ensures has { OnOk result ((x : T) → has T.cmp self.new x ≡ (eq_by_cmp T.cmp that x || has T.cmp self.old x)) }
-        ensures kept { OnOk result ((x : T) → element_at T.cmp self.new.elements x ≡ cond (eq_by_cmp T.cmp that x) (cond self.old.negated None (Some that)) (element_at T.cmp self.old.elements x)) }
+        ensures has { OnOk result
+            ((x : T) → has T.cmp self.new x ≡ (eq_by_cmp T.cmp that x || has T.cmp self.old x)) }
+        ensures kept { OnOk result ((x : T) → element_at T.cmp self.new.elements x
+            ≡ cond (eq_by_cmp T.cmp that x) (cond self.old.negated None (Some that))
+            (element_at T.cmp self.old.elements x)) }
 
         // It succeeds where the list is negated, has an equal element, or has fewer than `N`.
         ensures excluded { IsTrue self.old.negated → IsOk result }
@@ -132,7 +137,8 @@ impl<T: Ord + MadeWith<A> + Drop, const N: usize, A: Allocator + Copy> TotalVecS
         Ok(())
     }
 
-    /// Gives back memory that the list does not need. A refusal leaves the list where it is, so the call succeeds always.
+    /// Gives back memory that the list does not need. A refusal leaves the list where it is, so the
+    /// call succeeds always.
     pub fn shrink_to_fit(&mut self) -> Result<(), AllocError>
         ensures same { self.new ≡ self.old }
         ensures succeeds { IsOk result }
@@ -146,17 +152,20 @@ impl<T: Ord + Clone + MadeWith<A> + Drop, const N: usize, A: Allocator + Copy> T
     N,
     A,
 > {
-    /// Takes a value out. From a list that is not negated an equal element is taken; into one that is negated a clone of the value goes, in
-    /// the place of an equal element if there is one.
+    /// Takes a value out. From a list that is not negated an equal element is taken; into one that
+    /// is negated a clone of the value goes, in the place of an equal element if there is one.
     ///
-    /// Searches the list, and moves the elements behind. It can be refused only where the list is negated, at the clone or
-    /// at the memory for a new element; refused, it leaves the set as it was.
+    /// Searches the list, and moves the elements behind. It can be refused only where the list is
+    /// negated, at the clone or at the memory for a new element; refused, it leaves the set as it
+    /// was.
     pub fn remove(&mut self, that: &T) -> Result<(), AllocError>
         requires clones { ClonesAreEqual T.cmp T.is_clone }
         ensures negated { self.new.negated ≡ self.old.negated }
-        ensures has { OnOk result ((x : T) → has T.cmp self.new x ≡ and_not (has T.cmp self.old x) (eq_by_cmp T.cmp that.now x)) }
+        ensures has { OnOk result ((x : T)
+            → has T.cmp self.new x ≡ and_not (has T.cmp self.old x) (eq_by_cmp T.cmp that.now x)) }
         ensures kept { OnOk result ((x : T) → MatchBool (eq_by_cmp T.cmp that.now x)
-            (MatchBool self.old.negated (IsSomeAnd (element_at T.cmp self.new.elements x) (T.is_clone that.now)) (element_at T.cmp self.new.elements x ≡ None))
+            (MatchBool self.old.negated (IsSomeAnd (element_at T.cmp self.new.elements x)
+            (T.is_clone that.now)) (element_at T.cmp self.new.elements x ≡ None))
             (element_at T.cmp self.new.elements x ≡ element_at T.cmp self.old.elements x)) }
         ensures listed { IsFalse self.old.negated → IsOk result }
         ensures err { OnErr result (self.new ≡ self.old) }
@@ -173,7 +182,8 @@ impl<T: Ord + Clone + MadeWith<A> + Drop, const N: usize, A: Allocator + Copy> T
 impl<T: Ord + Clone + MadeWith<A>, const N: usize, A: Allocator + Copy> TotalVecSet<T, N, A> {
     /// A copy, element by element, with the allocator of this set.
     ///
-    /// Takes memory where there are more than `N` elements, and as their clones do; refused, it drops what was copied.
+    /// Takes memory where there are more than `N` elements, and as their clones do; refused, it
+    /// drops what was copied.
     pub fn clone(&self) -> Result<Self, AllocError>
         requires clones { ClonesAreEqual T.cmp T.is_clone }
         ensures { IfOk result (IsClonedTotal T.is_clone self.now) }

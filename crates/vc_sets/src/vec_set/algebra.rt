@@ -41,8 +41,9 @@ pub enum SetTest {
 
 /// What is in either of two sets, as clones. Of two equal elements the left one is kept.
 ///
-/// It grows once, at the start, for as many elements as both sets have, and compares at most as often. Refused there or at a clone, it
-/// drops what it built.
+/// Where either set has more than `N` elements, it grows once, at the start, for as many as both
+/// sets have. Else it grows only where the result has more than `N`. It compares at most as often
+/// as both sets have elements. Refused at a growth or a clone, it drops what it built.
 ///
 /// ```
 /// let tags: VecSet<u32, 4> = union(alloc, &ours, &theirs)?;
@@ -56,7 +57,8 @@ pub fn union<
     A: Allocator + Copy,
 >(alloc: A, this: &S, that: &U) -> Result<VecSet<T, N, A>, AllocError>
     requires clones { ClonesAreEqual T.cmp T.is_clone }
-    ensures union { IfOk result (IsSetOf T.cmp T.is_clone T.is_clone ◌||◌ (S.elements this.now) (U.elements that.now)) }
+    ensures union { IfOk result
+        (IsSetOf T.cmp T.is_clone T.is_clone ◌||◌ (S.elements this.now) (U.elements that.now)) }
 {
     let (a, b) = (this.as_slice(), that.as_slice());
     let elements = combine(alloc, a, b, SetOp::Union, &mut Uncounted)?;
@@ -65,7 +67,8 @@ pub fn union<
 
 /// What is in both of two sets, as clones of the left elements.
 ///
-/// It grows as it goes, and compares at most as often as both sets have elements. Refused at a growth or a clone, it drops what it built.
+/// It grows as it goes, and compares at most as often as both sets have elements. Refused at a
+/// growth or a clone, it drops what it built.
 pub fn intersection<
     T: Ord + Clone + MadeWith<A>,
     S: AbstractVecSet<T>,
@@ -74,7 +77,8 @@ pub fn intersection<
     A: Allocator + Copy,
 >(alloc: A, this: &S, that: &U) -> Result<VecSet<T, N, A>, AllocError>
     requires clones { ClonesAreEqual T.cmp T.is_clone }
-    ensures intersection { IfOk result (IsSetOf T.cmp T.is_clone T.is_clone ◌&&◌ (S.elements this.now) (U.elements that.now)) }
+    ensures intersection { IfOk result
+        (IsSetOf T.cmp T.is_clone T.is_clone ◌&&◌ (S.elements this.now) (U.elements that.now)) }
 {
     let (a, b) = (this.as_slice(), that.as_slice());
     let elements = combine(alloc, a, b, SetOp::Intersection, &mut Uncounted)?;
@@ -83,8 +87,9 @@ pub fn intersection<
 
 /// What is in exactly one of two sets, as clones.
 ///
-/// It grows once, at the start, for as many elements as both sets have, and compares at most as often. Refused there or at a clone, it
-/// drops what it built.
+/// Where either set has more than `N` elements, it grows once, at the start, for as many as both
+/// sets have. Else it grows only where the result has more than `N`. It compares at most as often
+/// as both sets have elements. Refused at a growth or a clone, it drops what it built.
 pub fn symmetric_difference<
     T: Ord + Clone + MadeWith<A>,
     S: AbstractVecSet<T>,
@@ -93,7 +98,9 @@ pub fn symmetric_difference<
     A: Allocator + Copy,
 >(alloc: A, this: &S, that: &U) -> Result<VecSet<T, N, A>, AllocError>
     requires clones { ClonesAreEqual T.cmp T.is_clone }
-    ensures symmetric_difference { IfOk result (IsSetOf T.cmp T.is_clone T.is_clone exactly_one (S.elements this.now) (U.elements that.now)) }
+    ensures symmetric_difference { IfOk result
+        (IsSetOf T.cmp T.is_clone T.is_clone exactly_one (S.elements this.now)
+        (U.elements that.now)) }
 {
     let (a, b) = (this.as_slice(), that.as_slice());
     let elements = combine(alloc, a, b, SetOp::SymmetricDifference, &mut Uncounted)?;
@@ -102,8 +109,9 @@ pub fn symmetric_difference<
 
 /// What is in the left one of two sets and not in the right one, as clones.
 ///
-/// It grows at the start for as many elements as the left set has more than the right one, and then as it goes, and compares at most as
-/// often as both sets have elements. Refused at a growth or a clone, it drops what it built.
+/// It grows at the start for as many elements as the left set has more than the right one, and then
+/// as it goes, and compares at most as often as both sets have elements. Refused at a growth or a
+/// clone, it drops what it built.
 pub fn difference<
     T: Ord + Clone + MadeWith<A>,
     S: AbstractVecSet<T>,
@@ -112,7 +120,8 @@ pub fn difference<
     A: Allocator + Copy,
 >(alloc: A, this: &S, that: &U) -> Result<VecSet<T, N, A>, AllocError>
     requires clones { ClonesAreEqual T.cmp T.is_clone }
-    ensures difference { IfOk result (IsSetOf T.cmp T.is_clone T.is_clone and_not (S.elements this.now) (U.elements that.now)) }
+    ensures difference { IfOk result
+        (IsSetOf T.cmp T.is_clone T.is_clone and_not (S.elements this.now) (U.elements that.now)) }
 {
     let (a, b) = (this.as_slice(), that.as_slice());
     let elements = combine(alloc, a, b, SetOp::Difference, &mut Uncounted)?;
@@ -150,55 +159,64 @@ pub(crate) fn is_superset<T: Ord, S: AbstractVecSet<T>, U: AbstractVecSet<T>>(
 }
 
 impl<T: Ord + Clone + MadeWith<A>, const N: usize, A: Allocator + Copy> VecSet<T, N, A> {
-    /// What is in either set, as clones, with the allocator of this set. Of two equal elements the left one is kept.
+    /// What is in either set, as clones, with the allocator of this set. Of two equal elements the
+    /// left one is kept.
     ///
-    /// It grows once, at the start, for as many elements as both sets have, and compares at most as often. Refused there or at a clone, it
-    /// drops what it built.
+    /// Where either set has more than `N` elements, it grows once, at the start, for as many as
+    /// both sets have. Else it grows only where the result has more than `N`. It compares at most
+    /// as often as both sets have elements. Refused at a growth or a clone, it drops what it built.
     pub fn union<S: AbstractVecSet<T>>(&self, that: &S) -> Result<Self, AllocError>
         requires clones { ClonesAreEqual T.cmp T.is_clone }
-        ensures union { IfOk result (IsSetOf T.cmp T.is_clone T.is_clone ◌||◌ self.now (S.elements that.now)) }
+        ensures union { IfOk result
+            (IsSetOf T.cmp T.is_clone T.is_clone ◌||◌ self.now (S.elements that.now)) }
     {
         union(*self.elements.allocator(), self, that)
     }
 
     /// What is in both sets, as clones of the left elements, with the allocator of this set.
     ///
-    /// It grows as it goes, and compares at most as often as both sets have elements. Refused at a growth or a clone, it drops what it
-    /// built.
+    /// It grows as it goes, and compares at most as often as both sets have elements. Refused at a
+    /// growth or a clone, it drops what it built.
     pub fn intersection<S: AbstractVecSet<T>>(&self, that: &S) -> Result<Self, AllocError>
         requires clones { ClonesAreEqual T.cmp T.is_clone }
-        ensures intersection { IfOk result (IsSetOf T.cmp T.is_clone T.is_clone ◌&&◌ self.now (S.elements that.now)) }
+        ensures intersection { IfOk result
+            (IsSetOf T.cmp T.is_clone T.is_clone ◌&&◌ self.now (S.elements that.now)) }
     {
         intersection(*self.elements.allocator(), self, that)
     }
 
     /// What is in exactly one of the sets, as clones, with the allocator of this set.
     ///
-    /// It grows once, at the start, for as many elements as both sets have, and compares at most as often. Refused there or at a clone, it
-    /// drops what it built.
+    /// Where either set has more than `N` elements, it grows once, at the start, for as many as
+    /// both sets have. Else it grows only where the result has more than `N`. It compares at most
+    /// as often as both sets have elements. Refused at a growth or a clone, it drops what it built.
     pub fn symmetric_difference<S: AbstractVecSet<T>>(&self, that: &S) -> Result<Self, AllocError>
         requires clones { ClonesAreEqual T.cmp T.is_clone }
-        ensures symmetric_difference { IfOk result (IsSetOf T.cmp T.is_clone T.is_clone exactly_one self.now (S.elements that.now)) }
+        ensures symmetric_difference { IfOk result
+            (IsSetOf T.cmp T.is_clone T.is_clone exactly_one self.now (S.elements that.now)) }
     {
         symmetric_difference(*self.elements.allocator(), self, that)
     }
 
     /// What is in this set and not in the other, as clones, with the allocator of this set.
     ///
-    /// It grows as it goes, and compares at most as often as both sets have elements. Refused at a growth or a clone, it drops what it
-    /// built.
+    /// It grows as it goes, and compares at most as often as both sets have elements. Refused at a
+    /// growth or a clone, it drops what it built.
     pub fn difference<S: AbstractVecSet<T>>(&self, that: &S) -> Result<Self, AllocError>
         requires clones { ClonesAreEqual T.cmp T.is_clone }
-        ensures difference { IfOk result (IsSetOf T.cmp T.is_clone T.is_clone and_not self.now (S.elements that.now)) }
+        ensures difference { IfOk result
+            (IsSetOf T.cmp T.is_clone T.is_clone and_not self.now (S.elements that.now)) }
     {
         difference(*self.elements.allocator(), self, that)
     }
 
-    /// The operation `op` of the two sets, as clones, with its comparisons added to `steps`: at most as many as both sets have elements, and
-    /// at most as many for each element of the shorter one as the length of the longer one has binary digits. Of two equal elements the
-    /// left one is kept.
+    /// The operation `op` of the two sets, as clones, with its comparisons added to `steps`: at
+    /// most as many as both sets have elements, and at most as many for each element of the shorter
+    /// one as the length of the longer one has binary digits. Of two equal elements the left one is
+    /// kept.
     ///
-    /// Refused at a growth or a clone, it drops what it built; the comparisons until then are counted.
+    /// Refused at a growth or a clone, it drops what it built; the comparisons until then are
+    /// counted.
     ///
     /// ```
     /// let mut steps = Steps::new();
@@ -212,8 +230,10 @@ impl<T: Ord + Clone + MadeWith<A>, const N: usize, A: Allocator + Copy> VecSet<T
         steps: &mut Steps,
     ) -> Result<Self, AllocError>
         requires clones { ClonesAreEqual T.cmp T.is_clone }
-        ensures combined { IfOk result (IsSetOf T.cmp T.is_clone T.is_clone (made_by op) self.now (S.elements that.now)) }
-        ensures counted { steps.new ≤ steps.old + bound (length self.now) (length (S.elements that.now)) }
+        ensures combined { IfOk result
+            (IsSetOf T.cmp T.is_clone T.is_clone (made_by op) self.now (S.elements that.now)) }
+        ensures counted { steps.new
+            ≤ steps.old + bound (length self.now) (length (S.elements that.now)) }
     {
         let alloc = *self.elements.allocator();
         let elements = combine(alloc, self.as_ref(), that.as_slice(), op, steps)?;
@@ -222,8 +242,8 @@ impl<T: Ord + Clone + MadeWith<A>, const N: usize, A: Allocator + Copy> VecSet<T
 }
 
 impl<T: Ord, const N: usize, A: Allocator> VecSet<T, N, A> {
-    /// The test of the two sets, with its comparisons added to `steps`: at most as many as [`combine_counted`](VecSet::combine_counted) makes.
-    /// Takes no memory.
+    /// The test of the two sets, with its comparisons added to `steps`: at most as many as
+    /// [`combine_counted`](VecSet::combine_counted) makes. Takes no memory.
     pub fn test_counted<S: AbstractVecSet<T>>(
         &self,
         that: &S,
@@ -231,7 +251,8 @@ impl<T: Ord, const N: usize, A: Allocator> VecSet<T, N, A> {
         steps: &mut Steps,
     ) -> bool
         ensures answer { IsTrue result ↔ IsTestedBy test T.cmp self.now (S.elements that.now) }
-        ensures counted { steps.new ≤ steps.old + bound (length self.now) (length (S.elements that.now)) }
+        ensures counted { steps.new
+            ≤ steps.old + bound (length self.now) (length (S.elements that.now)) }
     {
         let (a, b) = (self.as_ref(), that.as_slice());
         match test {
@@ -282,7 +303,8 @@ impl<
     }
 }
 
-/// `&a ^ &b` is what is in exactly one set, as by [`symmetric_difference`](VecSet::symmetric_difference).
+/// `&a ^ &b` is what is in exactly one set, as by
+/// [`symmetric_difference`](VecSet::symmetric_difference).
 impl<
     'a,
     'b,
@@ -295,7 +317,8 @@ impl<
 
     ghost can_bitxor = { λ _ _. ClonesAreEqual T.cmp T.is_clone };
 
-    ghost bitxor_gives = { λ a b r. IfOk r (IsSetOf T.cmp T.is_clone T.is_clone exactly_one a.now b.now) };
+    ghost bitxor_gives = { λ a b r.
+        IfOk r (IsSetOf T.cmp T.is_clone T.is_clone exactly_one a.now b.now) };
 
     fn bitxor(self, that: &'b VecSet<T, M, A>) -> Result<VecSet<T, N, A>, AllocError> {
         self.symmetric_difference(that)

@@ -47,7 +47,8 @@ impl<T: Ord + MadeWith<A> + Drop, const N: usize, A: Allocator + Copy> VecSet<T,
 
     /// The set of the items of an iterator that ascends strictly and ends. The items are moved.
     ///
-    /// Takes memory where there are more than `N`; refused, it drops the items that came and the iterator.
+    /// Takes memory where there are more than `N`; refused, it drops the items that came and the
+    /// iterator.
     pub fn from_iter<I: Iterator<Item = T> + SortedByItem>(
         alloc: A,
         iter: I,
@@ -85,8 +86,8 @@ impl<T: Ord + MadeWith<A> + Drop, const N: usize, A: Allocator + Copy> VecSet<T,
 impl<T: Ord + Clone + MadeWith<A>, const N: usize, A: Allocator + Copy> VecSet<T, N, A> {
     /// A copy, element by element, with the allocator of this set.
     ///
-    /// Takes memory where there are more than `N`, for as many as a set has room for that grew to hold them, and as the clones of the
-    /// elements do; refused, it drops what was copied.
+    /// Takes memory where there are more than `N`, for as many as a set has room for that grew to
+    /// hold them, and as the clones of the elements do; refused, it drops what was copied.
     #[inline(always)]
     pub fn clone(&self) -> Result<Self, AllocError>
         requires { ClonesAreEqual T.cmp T.is_clone }

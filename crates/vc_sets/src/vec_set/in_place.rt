@@ -1,4 +1,5 @@
-//! The set operations in place. Elements of the left set are moved and never cloned; of two equal elements the left one itself is kept.
+//! The set operations in place. Elements of the left set are moved and never cloned; of two equal
+//! elements the left one itself is kept.
 ghost use Rattle.std.specs.Prelude.{◌≡◌, ◌+◌, ◌≤◌, ◌||◌, ◌&&◌, false, true, not, take, drop, length, List, OnErr, OnOk};
 ghost use Rattle.std.specs.Iterator.{Drains, IsFinite};
 ghost use Rattle.std.specs.Iterator.Runs.{WholeRun};
@@ -20,33 +21,38 @@ use vc_merge::moving::SiftState;
 use vc_merge::parts::{PartsState, open_gap};
 use vc_merge::states::append_clones;
 
-/// Moves what stands in the left list alone or, if `BOTH`, what stands in both, to the front of the left list. Answers how many they are.
+/// Moves what stands in the left list alone or, if `BOTH`, what stands in both, to the front of the
+/// left list. Answers how many they are.
 fn sift<const BOTH: bool, T: Ord>(list: &mut [T], that: &[T]) -> usize
     requires left_ascends { Ascends T.cmp list.old }
     requires right_ascends { Ascends T.cmp that.now }
-    ensures { IsSetOf T.cmp (λ x y. x ≡ y) (λ x y. x ≡ y) (keeps (not BOTH) false BOTH) list.old that.now (take result list.new) }
+    ensures { IsSetOf T.cmp (λ x y. x ≡ y) (λ x y. x ≡ y) (keeps (not BOTH) false BOTH) list.old
+        that.now (take result list.new) }
 {
     let mut state = SiftState::new(list, that);
     let _never_refused = merge(&mut state, &LeftOp::<BOTH>, &mut Uncounted);
     state.kept()
 }
 
-/// Moves what stands in one of two parts alone or, if `BOTH`, the left one of what stands in both, to the front of their list.
-/// The parts are its first `end` elements and those from `next` on. Answers how many these are.
+/// Moves what stands in one of two parts alone or, if `BOTH`, the left one of what stands in both,
+/// to the front of their list. The parts are its first `end` elements and those from `next` on.
+/// Answers how many these are.
 fn join<const BOTH: bool, T: Ord>(list: &mut [T], end: usize, next: usize) -> usize
     requires order { end ≤ next }
     requires within { next ≤ length list.old }
     requires left_ascends { Ascends T.cmp (take end list.old) }
     requires right_ascends { Ascends T.cmp (drop next list.old) }
-    ensures { IsSetOf T.cmp (λ x y. x ≡ y) (λ x y. x ≡ y) (keeps true true BOTH) (take end list.old) (drop next list.old) (take result list.new) }
+    ensures { IsSetOf T.cmp (λ x y. x ≡ y) (λ x y. x ≡ y) (keeps true true BOTH) (take end list.old)
+        (drop next list.old) (take result list.new) }
 {
     let mut state = PartsState::new(list, end, next);
     let _never_refused = merge(&mut state, &EitherOp::<BOTH>, &mut Uncounted);
     state.kept()
 }
 
-/// Puts what stands in either list alone and, if `BOTH`, the left one of what stands in both, in the place of the left list.
-/// All of it is moved. The one growth comes before the first element is moved.
+/// Puts what stands in either list alone and, if `BOTH`, the left one of what stands in both, in
+/// the place of the left list. All of it is moved. The one growth comes before the first element is
+/// moved.
 fn absorb<
     const BOTH: bool,
     T: Ord + MadeWith<A> + Drop,
@@ -56,7 +62,8 @@ fn absorb<
 >(list: &mut SmallVec<T, N, A>, that: SmallVec<T, M, A>) -> Result<(), AllocError>
     requires left_ascends { Ascends T.cmp list.old.items }
     requires right_ascends { Ascends T.cmp that.items }
-    ensures ok { OnOk result (IsSetOf T.cmp (λ x y. x ≡ y) (λ x y. x ≡ y) (keeps true true BOTH) list.old.items that.items list.new.items) }
+    ensures ok { OnOk result (IsSetOf T.cmp (λ x y. x ≡ y) (λ x y. x ≡ y) (keeps true true BOTH)
+        list.old.items that.items list.new.items) }
     ensures err { OnErr result (list.new.items ≡ list.old.items) }
 {
     let end = list.len();
@@ -68,7 +75,8 @@ fn absorb<
     Ok(())
 }
 
-/// The same with clones of the elements of the right list. The one growth and all clones come before the first element is moved.
+/// The same with clones of the elements of the right list. The one growth and all clones come
+/// before the first element is moved.
 fn unite<
     const BOTH: bool,
     T: Ord + Clone + MadeWith<A> + Drop,
@@ -78,7 +86,8 @@ fn unite<
     requires left_ascends { Ascends T.cmp list.old.items }
     requires right_ascends { Ascends T.cmp that.now }
     requires clones { ClonesAreEqual T.cmp T.is_clone }
-    ensures ok { OnOk result (IsSetOf T.cmp (λ x y. x ≡ y) T.is_clone (keeps true true BOTH) list.old.items that.now list.new.items) }
+    ensures ok { OnOk result (IsSetOf T.cmp (λ x y. x ≡ y) T.is_clone (keeps true true BOTH)
+        list.old.items that.now list.new.items) }
     ensures err { OnErr result (list.new.items ≡ list.old.items) }
 {
     let end = list.len();
@@ -95,30 +104,37 @@ fn unite<
 }
 
 impl<T: Ord + MadeWith<A> + Drop, const N: usize, A: Allocator + Copy> VecSet<T, N, A> {
-    /// Adds the elements of the other set, which are moved. Of two equal elements the left one stays.
+    /// Adds the elements of the other set, which are moved. Of two equal elements the left one
+    /// stays.
     ///
-    /// It grows at most once, and not where both sets fit together. Refused, it leaves this set as it was and drops the other one.
+    /// It grows at most once, and not where both sets fit together. Refused, it leaves this set as
+    /// it was and drops the other one.
     pub fn bitor_assign<const M: usize>(&mut self, that: VecSet<T, M, A>) -> Result<(), AllocError>
-        ensures union { OnOk result (IsSetOf T.cmp (λ x y. x ≡ y) (λ x y. x ≡ y) ◌||◌ self.old that self.new) }
+        ensures union { OnOk result
+            (IsSetOf T.cmp (λ x y. x ≡ y) (λ x y. x ≡ y) ◌||◌ self.old that self.new) }
         ensures err { OnErr result (self.new ≡ self.old) }
     {
         absorb::<true, _, _, _, _>(&mut self.elements, that.into_inner())
     }
 
-    /// Keeps what is in exactly one of the sets: drops what is in both, and moves in what is in the other set alone.
+    /// Keeps what is in exactly one of the sets: drops what is in both, and moves in what is in the
+    /// other set alone.
     ///
-    /// It grows at most once, and not where both sets fit together. Refused, it leaves this set as it was and drops the other one.
+    /// It grows at most once, and not where both sets fit together. Refused, it leaves this set as
+    /// it was and drops the other one.
     pub fn bitxor_assign<const M: usize>(&mut self, that: VecSet<T, M, A>) -> Result<(), AllocError>
-        ensures symmetric_difference { OnOk result (IsSetOf T.cmp (λ x y. x ≡ y) (λ x y. x ≡ y) exactly_one self.old that self.new) }
+        ensures symmetric_difference { OnOk result
+            (IsSetOf T.cmp (λ x y. x ≡ y) (λ x y. x ≡ y) exactly_one self.old that self.new) }
         ensures err { OnErr result (self.new ≡ self.old) }
     {
         absorb::<false, _, _, _, _>(&mut self.elements, that.into_inner())
     }
 
-    /// Adds the items of an iterator that ascends strictly and ends, which are moved. Of two equal elements the left one stays.
+    /// Adds the items of an iterator that ascends strictly and ends, which are moved. Of two equal
+    /// elements the left one stays.
     ///
-    /// The items become a set first, which grows as `from_iter` does; then this one grows at most once. Refused, it leaves the set as it was, and drops
-    /// the items that came and the iterator.
+    /// The items become a set first, which grows as `from_iter` does; then this one grows at most
+    /// once. Refused, it leaves the set as it was, and drops the items that came and the iterator.
     pub fn extend<I: Iterator<Item = T> + SortedByItem>(
         &mut self,
         iter: I,
@@ -126,17 +142,21 @@ impl<T: Ord + MadeWith<A> + Drop, const N: usize, A: Allocator + Copy> VecSet<T,
         requires can { I.can_next iter }
         requires ends { IsFinite (I.remaining iter) }
         requires sorted { I.is_sorted iter }
-        ensures union { OnOk result ((items : List T) × Drains I.next_gives iter items × IsSetOf T.cmp (λ x y. x ≡ y) (λ x y. x ≡ y) ◌||◌ self.old items self.new) }
-        ensures runs { OnOk result (WholeRun I.next_gives iter (λ p. IsSetOf T.cmp (λ x y. x ≡ y) (λ x y. x ≡ y) ◌||◌ self.old p.items self.new)) }
+        ensures union { OnOk result ((items : List T) × Drains I.next_gives iter items
+            × IsSetOf T.cmp (λ x y. x ≡ y) (λ x y. x ≡ y) ◌||◌ self.old items self.new) }
+        ensures runs { OnOk result (WholeRun I.next_gives iter
+            (λ p. IsSetOf T.cmp (λ x y. x ≡ y) (λ x y. x ≡ y) ◌||◌ self.old p.items self.new)) }
         ensures err { OnErr result (self.new ≡ self.old) }
     {
         let that: VecSet<T, N, A> = VecSet::from_iter(*self.elements.allocator(), iter)?;
         self.bitor_assign(that)
     }
 
-    /// Keeps what is in the other set too, and drops the rest. An element that stays is the old one. Takes no memory.
+    /// Keeps what is in the other set too, and drops the rest. An element that stays is the old
+    /// one. Takes no memory.
     pub fn intersection_with<S: AbstractVecSet<T>>(&mut self, that: &S)
-        ensures { IsSetOf T.cmp (λ x y. x ≡ y) (λ x y. x ≡ y) ◌&&◌ self.old (S.elements that.now) self.new }
+        ensures { IsSetOf T.cmp (λ x y. x ≡ y) (λ x y. x ≡ y) ◌&&◌ self.old (S.elements that.now)
+            self.new }
     {
         let kept = sift::<true, _>(self.elements.as_mut_slice(), that.as_slice());
         self.elements.truncate(kept);
@@ -144,7 +164,8 @@ impl<T: Ord + MadeWith<A> + Drop, const N: usize, A: Allocator + Copy> VecSet<T,
 
     /// Keeps what is not in the other set, and drops the rest. Takes no memory.
     pub fn difference_with<S: AbstractVecSet<T>>(&mut self, that: &S)
-        ensures { IsSetOf T.cmp (λ x y. x ≡ y) (λ x y. x ≡ y) and_not self.old (S.elements that.now) self.new }
+        ensures { IsSetOf T.cmp (λ x y. x ≡ y) (λ x y. x ≡ y) and_not self.old (S.elements that.now)
+            self.new }
     {
         let kept = sift::<false, _>(self.elements.as_mut_slice(), that.as_slice());
         self.elements.truncate(kept);
@@ -154,7 +175,8 @@ impl<T: Ord + MadeWith<A> + Drop, const N: usize, A: Allocator + Copy> VecSet<T,
 impl<T: Ord + Clone + MadeWith<A> + Drop, const N: usize, A: Allocator + Copy> VecSet<T, N, A> {
     /// Adds what is in the other set, as clones. Of two equal elements the left one stays.
     ///
-    /// It grows at most once, and not where both sets fit together. Refused there or at a clone, it leaves the set as it was.
+    /// It grows at most once, and not where both sets fit together. Refused there or at a clone, it
+    /// leaves the set as it was.
     ///
     /// ```
     /// tags.union_with(&more)?;
@@ -162,25 +184,31 @@ impl<T: Ord + Clone + MadeWith<A> + Drop, const N: usize, A: Allocator + Copy> V
     /// ```
     pub fn union_with<S: AbstractVecSet<T>>(&mut self, that: &S) -> Result<(), AllocError>
         requires clones { ClonesAreEqual T.cmp T.is_clone }
-        ensures union { OnOk result (IsSetOf T.cmp (λ x y. x ≡ y) T.is_clone ◌||◌ self.old (S.elements that.now) self.new) }
+        ensures union { OnOk result
+            (IsSetOf T.cmp (λ x y. x ≡ y) T.is_clone ◌||◌ self.old (S.elements that.now) self.new) }
         ensures err { OnErr result (self.new ≡ self.old) }
     {
         unite::<true, _, _, _>(&mut self.elements, that.as_slice())
     }
 
-    /// Keeps what is in exactly one of the sets: drops what is in both, and adds clones of what is in the other set alone.
+    /// Keeps what is in exactly one of the sets: drops what is in both, and adds clones of what is
+    /// in the other set alone.
     ///
-    /// It grows at most once, and not where both sets fit together. Refused there or at a clone, it leaves the set as it was.
+    /// It grows at most once, and not where both sets fit together. Refused there or at a clone, it
+    /// leaves the set as it was.
     pub fn xor_with<S: AbstractVecSet<T>>(&mut self, that: &S) -> Result<(), AllocError>
         requires clones { ClonesAreEqual T.cmp T.is_clone }
-        ensures symmetric_difference { OnOk result (IsSetOf T.cmp (λ x y. x ≡ y) T.is_clone exactly_one self.old (S.elements that.now) self.new) }
+        ensures symmetric_difference { OnOk result
+            (IsSetOf T.cmp (λ x y. x ≡ y) T.is_clone exactly_one self.old (S.elements that.now)
+            self.new) }
         ensures err { OnErr result (self.new ≡ self.old) }
     {
         unite::<false, _, _, _>(&mut self.elements, that.as_slice())
     }
 }
 
-/// `a &= &b` keeps what is in `b` too, as [`intersection_with`](VecSet::intersection_with) does. Takes no memory.
+/// `a &= &b` keeps what is in `b` too, as [`intersection_with`](VecSet::intersection_with) does.
+/// Takes no memory.
 impl<
     'b,
     T: Ord + MadeWith<A> + Drop,
@@ -195,7 +223,8 @@ impl<
     }
 }
 
-/// `a -= &b` keeps what is not in `b`, as [`difference_with`](VecSet::difference_with) does. Takes no memory.
+/// `a -= &b` keeps what is not in `b`, as [`difference_with`](VecSet::difference_with) does. Takes
+/// no memory.
 impl<
     'b,
     T: Ord + MadeWith<A> + Drop,

@@ -38,7 +38,8 @@ impl<'a, T: Ord, const N: usize, A: Allocator> IntoIterator for &'a VecSet<T, N,
     }
 }
 
-/// The elements in ascending order, by value. Takes no memory. What is not taken is dropped with the iterator.
+/// The elements in ascending order, by value. Takes no memory. What is not taken is dropped with
+/// the iterator.
 impl<T: Ord + MadeWith<A> + Drop, const N: usize, A: Allocator + Copy> IntoIterator
     for VecSet<T, N, A> {
     type Item = T;

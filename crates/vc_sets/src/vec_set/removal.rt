@@ -1,6 +1,7 @@
 //! Elements taken out of a set, and the list made smaller.
 ghost use Rattle.std.specs.Prelude.{◌≡◌, ◌&&◌, not, cond, filter, Bool, None, IsOk, IsTrue};
 ghost use Rattle.std.specs.Fn.{CalledAt};
+ghost use Rattle.std.specs.Iterator.{CallableOnAllAt, YieldsFirst};
 ghost use Rattle.std.specs.List.Retain.{IsFiltered};
 ghost use Rattle.std.specs.Ordering.{eq_by_cmp};
 ghost use Rattle.vc_merge.specs.Ascending.{member, element_at};
@@ -15,11 +16,13 @@ use vc_merge::search::find;
 impl<T: Ord + MadeWith<A> + Drop, const N: usize, A: Allocator + Copy> VecSet<T, N, A> {
     /// Takes out and drops the element that is equal to `that`, and answers whether there was one.
     ///
-    /// Searches for its place, moves the elements behind it, and takes no memory.
+    /// Compares as often as `contains`, moves the elements behind it, and takes no memory.
     pub fn remove(&mut self, that: &T) -> bool
         ensures answer { result ≡ member T.cmp self.old that.now }
-        ensures members { (x : T) → member T.cmp self.new x ≡ (not (eq_by_cmp T.cmp that.now x) && member T.cmp self.old x) }
-        ensures kept { (x : T) → element_at T.cmp self.new x ≡ cond (eq_by_cmp T.cmp that.now x) None (element_at T.cmp self.old x) }
+        ensures members { (x : T) → member T.cmp self.new x
+            ≡ (not (eq_by_cmp T.cmp that.now x) && member T.cmp self.old x) }
+        ensures kept { (x : T) → element_at T.cmp self.new x
+            ≡ cond (eq_by_cmp T.cmp that.now x) None (element_at T.cmp self.old x) }
     {
         match find(self.elements.as_slice(), that) {
             Ok(index) => {
@@ -30,26 +33,30 @@ impl<T: Ord + MadeWith<A> + Drop, const N: usize, A: Allocator + Copy> VecSet<T,
         }
     }
 
-    /// Keeps the elements at which `f` answers true, and drops the others. `f` is asked once at each element, in
-    /// ascending order.
+    /// Keeps the elements at which `f` answers true, and drops the others. `f` is asked once at
+    /// each element, in ascending order.
     ///
-    /// Each element is asked at where it stands. Makes at most one swap for each, so that one that stays moves at most once. Takes no
-    /// memory.
+    /// Each element is asked at where it stands. Makes at most one swap for each, so that one that
+    /// stays moves at most once. Takes no memory.
     pub fn retain<F: FnMut(&T) -> bool>(&mut self, f: F)
-        requires { F.IsAlwaysCallable f }
+        requires { CallableOnAllAt (YieldsFirst (λ rest. rest)) F.FnMut self.old f }
         ensures filtered { IsFiltered (CalledAt F.FnMut) f self.old self.new }
-        ensures kept { (x : T) → IsRetained (CalledAt F.FnMut) (element_at T.cmp self.old x) (element_at T.cmp self.new x) }
-        ensures members { (x : T) → IsTrue (member T.cmp self.new x) → IsTrue (member T.cmp self.old x) }
+        ensures kept { (x : T) → IsRetained (CalledAt F.FnMut) (element_at T.cmp self.old x)
+            (element_at T.cmp self.new x) }
+        ensures members { (x : T) → IsTrue (member T.cmp self.new x)
+            → IsTrue (member T.cmp self.old x) }
 
-        // By a plain test, which answers as a function does, all that passes stays, and nothing else.
-        ensures plain { (test : T → Bool) → AnswersAs (CalledAt F.FnMut) f test → self.new ≡ filter test self.old }
+        // By a plain test, which answers as a function does, all that passes stays, and nothing
+        // else.
+        ensures plain { (test : T → Bool) → AnswersAs (CalledAt F.FnMut) f test
+            → self.new ≡ filter test self.old }
     {
         let kept = keep_in_front(self.elements.as_mut_slice(), f);
         self.elements.truncate(kept);
     }
 
-    /// Gives back memory that the elements do not need. A refusal leaves the list where it is, so the call succeeds
-    /// always.
+    /// Gives back memory that the elements do not need. A refusal leaves the list where it is, so
+    /// the call succeeds always.
     pub fn shrink_to_fit(&mut self) -> Result<(), AllocError>
         ensures elements { self.new ≡ self.old }
         ensures succeeds { IsOk result }

@@ -50,7 +50,8 @@ fn combine<T: Ord + Clone + MadeWith<A>, const N: usize, A: Allocator + Copy>(
     })
 }
 
-/// The same, but of two sets that are both negated the right one goes first: for an operation in which the sides may be swapped.
+/// The same, but of two sets that are both negated the right one goes first: for an operation in
+/// which the sides may be swapped.
 #[inline]
 fn combine_either<T: Ord + Clone + MadeWith<A>, const N: usize, A: Allocator + Copy>(
     a: &TotalVecSet<T, N, A>,
@@ -67,8 +68,8 @@ fn combine_either<T: Ord + Clone + MadeWith<A>, const N: usize, A: Allocator + C
     }
 }
 
-/// `&a & &b` is what is in both, as clones, with the allocator of `a` or `b`. Of two equal elements that both lists have, that of `a` is kept,
-/// and that of `b` where both sets are negated.
+/// `&a & &b` is what is in both, as clones, with the allocator of `a` or `b`. Of two equal elements
+/// that both lists have, that of `a` is kept, and that of `b` where both sets are negated.
 ///
 /// Refused at a growth or a clone, it drops what it built.
 impl<'a, 'b, T: Ord + Clone + MadeWith<A>, const N: usize, A: Allocator + Copy> BitAnd<
@@ -85,8 +86,8 @@ impl<'a, 'b, T: Ord + Clone + MadeWith<A>, const N: usize, A: Allocator + Copy> 
     }
 }
 
-/// `&a | &b` is what is in either, as clones. Of two equal elements that both lists have, that of `a` is kept, and that of `b` where both sets
-/// are negated.
+/// `&a | &b` is what is in either, as clones. Of two equal elements that both lists have, that of
+/// `a` is kept, and that of `b` where both sets are negated.
 ///
 /// Refused at a growth or a clone, it drops what it built.
 impl<'a, 'b, T: Ord + Clone + MadeWith<A>, const N: usize, A: Allocator + Copy> BitOr<
@@ -120,7 +121,8 @@ impl<'a, 'b, T: Ord + Clone + MadeWith<A>, const N: usize, A: Allocator + Copy> 
     }
 }
 
-/// `&a - &b` is what is in `a` and not in `b`, as clones. Of two equal elements that both lists have, that of `a` is kept.
+/// `&a - &b` is what is in `a` and not in `b`, as clones. Of two equal elements that both lists
+/// have, that of `a` is kept.
 ///
 /// Refused at a growth or a clone, it drops what it built.
 impl<'a, 'b, T: Ord + Clone + MadeWith<A>, const N: usize, A: Allocator + Copy> Sub<
@@ -138,8 +140,8 @@ impl<'a, 'b, T: Ord + Clone + MadeWith<A>, const N: usize, A: Allocator + Copy> 
 }
 
 impl<T: Ord, const N: usize, A: Allocator> TotalVecSet<T, N, A> {
-    /// Whether what is in this set is in the other, by their lists and flags: nothing is left of this set without the other. It stops at
-    /// the first element that decides, and takes no memory.
+    /// Whether what is in this set is in the other, by their lists and flags: nothing is left of
+    /// this set without the other. It stops at the first element that decides, and takes no memory.
     pub fn is_subset(&self, that: &Self) -> bool
         ensures { IsTrue result ↔ IsTotalSubset T.cmp self.now that.now }
     {
@@ -151,15 +153,16 @@ impl<T: Ord, const N: usize, A: Allocator> TotalVecSet<T, N, A> {
         }
     }
 
-    /// Whether what is in the other set is in this one, by their lists and flags. It stops at the first element that decides, and takes no
-    /// memory.
+    /// Whether what is in the other set is in this one, by their lists and flags. It stops at the
+    /// first element that decides, and takes no memory.
     pub fn is_superset(&self, that: &Self) -> bool
         ensures { IsTrue result ↔ IsTotalSubset T.cmp that.now self.now }
     {
         that.is_subset(self)
     }
 
-    /// Whether nothing is in both sets, by their lists and flags. It stops at the first element that decides, and takes no memory.
+    /// Whether nothing is in both sets, by their lists and flags. It stops at the first element
+    /// that decides, and takes no memory.
     pub fn is_disjoint(&self, that: &Self) -> bool
         ensures { IsTrue result ↔ IsTotalDisjoint T.cmp self.now that.now }
     {

@@ -15,7 +15,8 @@ use std::hash::{Hash, Hasher};
 impl<T: Ord, const N: usize, A: Allocator> PartialEq for TotalVecSet<T, N, A> {
     ghost eq = { λ s t. pointwise T.eq s.elements t.elements && beq s.negated t.negated };
 
-    ghost laws = { and_per (on_per (λ s. s.elements) (lists_per T.PartialEq.laws)) (on_per (λ s. s.negated) (partial_equiv_from_equiv bool_eq_equiv)) };
+    ghost laws = { and_per (on_per (λ s. s.elements) (lists_per T.PartialEq.laws))
+        (on_per (λ s. s.negated) (partial_equiv_from_equiv bool_eq_equiv)) };
 
     fn eq(&self, other: &Self) -> bool {
         self.elements == other.elements && self.negated == other.negated
@@ -23,14 +24,17 @@ impl<T: Ord, const N: usize, A: Allocator> PartialEq for TotalVecSet<T, N, A> {
 }
 
 impl<T: Ord, const N: usize, A: Allocator> Eq for TotalVecSet<T, N, A> {
-    ghost laws = { and_equiv (on_equiv (λ s. s.elements) (lists_equiv T.Eq.laws)) (on_equiv (λ s. s.negated) bool_eq_equiv) };
+    ghost laws = { and_equiv (on_equiv (λ s. s.elements) (lists_equiv T.Eq.laws))
+        (on_equiv (λ s. s.negated) bool_eq_equiv) };
 }
 
 /// The hash of the list, and then that of the flag.
 impl<T: Ord + Hash, const N: usize, A: Allocator> Hash for TotalVecSet<T, N, A> {
     ghost hash_input = { λ s. fed.slice T.hash_input s.elements ++ fed.bool s.negated };
 
-    ghost respects_eq = { (and-Alike (on_Alike (λ s. s.elements) (items_Alike (record { fed = T.respects_eq }))) (on_Alike (λ s. s.negated) (same_Alike fed.bool booleans_Decides))).fed };
+    ghost respects_eq = { (and-Alike (on_Alike (λ s. s.elements)
+        (items_Alike (record { fed = T.respects_eq })))
+        (on_Alike (λ s. s.negated) (same_Alike fed.bool booleans_Decides))).fed };
 
     fn hash<H: Hasher>(&self, state: &mut H) {
         self.elements.hash(state);

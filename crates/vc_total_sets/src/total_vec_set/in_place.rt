@@ -1,4 +1,5 @@
-//! The operations of total sets in place. Elements of either list are moved and never cloned; of two equal ones the left one itself is kept.
+//! The operations of total sets in place. Elements of either list are moved and never cloned; of
+//! two equal ones the left one itself is kept.
 ghost use Rattle.std.specs.Prelude.{◌≡◌, ◌||◌, ◌&&◌, IsTrue, IsFalse, IsOk, OnErr, OnOk};
 ghost use Rattle.vc_sets.specs.SetOf.{IsSetOf, and_not, exactly_one};
 ghost use Rattle.vc_total_sets.specs.Cases.{said_by, kept_by, keeps_either};
@@ -10,14 +11,16 @@ use std::alloc::{AllocError, Allocator};
 use std::default::MadeWith;
 use vc_sets::vec_set::VecSet;
 
-/// Puts what `op` makes of two lists in the place of the left one. It can be refused only where what stands in either list alone is kept.
+/// Puts what `op` makes of two lists in the place of the left one. It can be refused only where
+/// what stands in either list alone is kept.
 #[inline]
 fn assign_list<T: Ord + MadeWith<A> + Drop, const N: usize, A: Allocator + Copy>(
     list: &mut VecSet<T, N, A>,
     that: VecSet<T, N, A>,
     op: ListOp,
 ) -> Result<(), AllocError>
-    ensures made { OnOk result (IsSetOf T.cmp (λ x y. x ≡ y) (λ x y. x ≡ y) (kept_by op) list.old that list.new) }
+    ensures made { OnOk result
+        (IsSetOf T.cmp (λ x y. x ≡ y) (λ x y. x ≡ y) (kept_by op) list.old that list.new) }
     ensures succeeds { IsFalse (keeps_either (kept_by op)) → IsOk result }
     ensures err { OnErr result (list.new ≡ list.old) }
 {
@@ -43,7 +46,8 @@ fn assign<T: Ord + MadeWith<A> + Drop, const N: usize, A: Allocator + Copy>(
     op: TotalOp,
 ) -> Result<(), AllocError>
     ensures made { OnOk result (IsTotalOf T.cmp (λ x y. x ≡ y) (said_by op) set.old that set.new) }
-    ensures succeeds { IsFalse (keeps_either (listed_by (said_by op) set.old.negated that.negated)) → IsOk result }
+    ensures succeeds { IsFalse (keeps_either (listed_by (said_by op) set.old.negated that.negated))
+        → IsOk result }
     ensures err { OnErr result (set.new ≡ set.old) }
 {
     let case = op.case(set.negated, that.negated);
@@ -53,9 +57,12 @@ fn assign<T: Ord + MadeWith<A> + Drop, const N: usize, A: Allocator + Copy>(
 }
 
 impl<T: Ord + MadeWith<A> + Drop, const N: usize, A: Allocator + Copy> TotalVecSet<T, N, A> {
-    /// Keeps what is in both sets. Elements that are kept are moved; of two equal ones the left one stays.
+    /// Keeps what is in both sets. Elements that are kept are moved; of two equal ones the left one
+    /// stays.
     ///
-    /// It can be refused only where both sets are negated; then it leaves this set as it was and drops the other one.
+    /// Where this set alone is negated, what is left of the other list takes the place of this one,
+    /// with its allocator and its room. It can be refused only where both sets are negated; then it
+    /// leaves this set as it was and drops the other one.
     pub fn bitand_assign(&mut self, that: Self) -> Result<(), AllocError>
         ensures and { OnOk result (IsTotalOf T.cmp (λ x y. x ≡ y) ◌&&◌ self.old that self.new) }
         ensures succeeds { IsFalse (self.old.negated && that.negated) → IsOk result }
@@ -64,9 +71,12 @@ impl<T: Ord + MadeWith<A> + Drop, const N: usize, A: Allocator + Copy> TotalVecS
         assign(self, that, TotalOp::And)
     }
 
-    /// Adds what is in the other set. Elements that are kept are moved; of two equal ones the left one stays.
+    /// Adds what is in the other set. Elements that are kept are moved; of two equal ones the left
+    /// one stays.
     ///
-    /// It can be refused only where neither set is negated; then it leaves this set as it was and drops the other one.
+    /// Where the other set alone is negated, what is left of its list takes the place of this one,
+    /// with its allocator and its room. It can be refused only where neither set is negated; then
+    /// it leaves this set as it was and drops the other one.
     pub fn bitor_assign(&mut self, that: Self) -> Result<(), AllocError>
         ensures or { OnOk result (IsTotalOf T.cmp (λ x y. x ≡ y) ◌||◌ self.old that self.new) }
         ensures succeeds { IsTrue (self.old.negated || that.negated) → IsOk result }
@@ -79,16 +89,19 @@ impl<T: Ord + MadeWith<A> + Drop, const N: usize, A: Allocator + Copy> TotalVecS
     ///
     /// Refused, it leaves this set as it was and drops the other one.
     pub fn bitxor_assign(&mut self, that: Self) -> Result<(), AllocError>
-        ensures xor { OnOk result (IsTotalOf T.cmp (λ x y. x ≡ y) exactly_one self.old that self.new) }
+        ensures xor { OnOk result
+            (IsTotalOf T.cmp (λ x y. x ≡ y) exactly_one self.old that self.new) }
         ensures err { OnErr result (self.new ≡ self.old) }
     {
         assign(self, that, TotalOp::Xor)
     }
 
-    /// Takes out what is in the other set. Elements that are kept are moved; of two equal ones the left one stays.
+    /// Takes out what is in the other set. Elements that are kept are moved; of two equal ones the
+    /// left one stays.
     ///
-    /// It can be refused only where this set is negated and the other one is not; then it leaves this set as it was and drops the other
-    /// one.
+    /// Where both sets are negated, what is left of the other list takes the place of this one,
+    /// with its allocator and its room. It can be refused only where this set is negated and the
+    /// other one is not; then it leaves this set as it was and drops the other one.
     pub fn sub_assign(&mut self, that: Self) -> Result<(), AllocError>
         ensures minus { OnOk result (IsTotalOf T.cmp (λ x y. x ≡ y) and_not self.old that self.new) }
         ensures succeeds { IsFalse (and_not self.old.negated that.negated) → IsOk result }

@@ -63,5 +63,6 @@ returns-in_err-insert_at-in-Err-clause-room g c =
 pub returns-in_err-insert_at-in-Err-clause-known : goal.returns-in_err-insert_at-in-Err-clause-known
 returns-in_err-insert_at-in-Err-clause-known g c =
     let p = subst (λ l. IsGap (λ y. g.T.Ord.cmp y c.args.that) l c.in-Err.index) c.as_slice.ensures c.in-Err.ensures in
-    let n : true ≡ not (member g.T.Ord.cmp c.args.self.now c.args.that) = new-answer g.T.Ord.cmp g.met.T.Ord.total _ c.args.that c.in-Err.index p ∙ ap (λ l. not (member g.T.Ord.cmp l c.args.that)) c.self.view_is in
+    let n : true ≡ not (member g.T.Ord.cmp c.args.self.now c.args.that) = new-answer g.T.Ord.cmp g.met.T.Ord.total _ c.args.that
+    c.in-Err.index p ∙ ap (λ l. not (member g.T.Ord.cmp l c.args.that)) c.self.view_is in
     λ h. absurd (true≢false (n ∙ ap not h))

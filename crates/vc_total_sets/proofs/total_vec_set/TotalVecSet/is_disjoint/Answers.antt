@@ -8,7 +8,8 @@ returns-in-false-false g c =
 
 pub returns-in-false-true : goal.returns-in-false-true
 returns-in-false-true g c =
-    seen-so (IsTotalDisjoint g.T.Ord.cmp) _ _ _ _ _ _ _ _ _ c.self.view_is c.that.view_is c.in-false-true.is-0 c.in-false-true.is-1 c.is_subset-in-false-true.ensures (disjoint-from_negated g.T.Ord.cmp _ _)
+    seen-so (IsTotalDisjoint g.T.Ord.cmp) _ _ _ _ _ _ _ _ _ c.self.view_is c.that.view_is c.in-false-true.is-0
+    c.in-false-true.is-1 c.is_subset-in-false-true.ensures (disjoint-from_negated g.T.Ord.cmp _ _)
 
 pub returns-in-true-false : goal.returns-in-true-false
 returns-in-true-false g c =
