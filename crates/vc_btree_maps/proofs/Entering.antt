@@ -39,11 +39,6 @@ module _ {K V : Type 0} (cmp : K → K → Ordering) (total : IsTotalOrder cmp) 
   same-entry j k [] e = refl
   same-entry j k (p ∷ es) e = λ i. cond (is_eq (total.congr j k p.0 e i)) (Some p) (same-entry j k es e i)
 
-  -- nothing stands at a key that is below all keys
-  below-none : (k x : K) (es : List (K × V)) → cmp k x ≡ Equal → AllByRecursion (λ y. cmp x y ≡ Less) (keys_of es) → entry_at cmp es k ≡ None
-  below-none k x [] e all = refl
-  below-none k x (p ∷ es) e all = rw (ap is_eq (total.congr k x p.0 e ∙ all.0)) (below-none k x es e all.1)
-
   -- in a list that ascends by key, a pair stands at its own key, and nothing in front of it does
   pub here : (k : K) (front : List (K × V)) (p : K × V) (rest : List (K × V)) → AscendsByKey cmp (front ++ p ∷ rest) → is_at (cmp k) p.0 ≡ true
       → (entry_at cmp (front ++ p ∷ rest) k ≡ Some p) × (entry_at cmp front k ≡ None)

@@ -125,7 +125,8 @@ module _ {K V W : Type 0} (cmp : K → K → Ordering) (total : IsTotalOrder cmp
   grown-new (Some q) all None (Some p) e h g = subst (λ z. IsSomeAnd z (λ q. is_clone q.0 p.0 × Gives q.0 q.1 (Some p.1))) (sym (h q refl)) g
 
   -- what was given so far has grown the map
-  pub grown-of_given : (front rest others : List (K × W)) (old now new : List (K × V)) → others ≡ front ++ rest → new ≡ now → IsGiven cmp is_clone Gives front old now → IsGrown cmp is_clone Gives others old new
+  pub grown-of_given : (front rest others : List (K × W)) (old now new : List (K × V)) → others ≡ front ++ rest → new ≡ now
+      → IsGiven cmp is_clone Gives front old now → IsGrown cmp is_clone Gives others old new
   grown-of_given front rest others old now new e same j = subst (λ l. IsGrown cmp is_clone Gives others old l) (sym same) (record {
     old_stay = λ k t. grown-old (entry_at cmp front k) (entry_at cmp old k) (entry_at cmp now k) t (j.at k);
     new_given = λ k f. grown-new (entry_at cmp front k) (entry_at cmp others k) (entry_at cmp old k) (entry_at cmp now k) f
@@ -164,7 +165,8 @@ module _ {K V W : Type 0} (cmp : K → K → Ordering) (total : IsTotalOrder cmp
   give-next answer new shared e g put is = (
     front ++ (key.now, other.now) ∷ [],
     step-further cmp total others front left rest key other ascends splits first,
-    given-more cmp total is_clone Gives front (key.now, other.now) rest answer old now new (step-sorted cmp total others front left rest key other ascends splits first) (no-value cmp now key.now e) g put j,
+    given-more cmp total is_clone Gives front (key.now, other.now) rest answer old now new
+        (step-sorted cmp total others front left rest key other ascends splits first) (no-value cmp now key.now e) g put j,
     is ∙ sym (shared-more cmp total old front (key.now, other.now) false (ap is_some (new-in_old e)) ∙ append-nil (shared_with cmp old front)),
   )
 
@@ -269,7 +271,8 @@ module _ {K V W : Type 0} (cmp : K → K → Ordering) (total : IsTotalOrder cmp
         none-shared None a b s = s
         none-shared (Some p) a b s = s
 
-        alone-takes : (k : K) (q : Option (K × W)) (b : Option (K × V)) (x : OuterJoinArg K V W) → entry_at cmp others k ≡ q → entry_at cmp shared k ≡ b → asked kind.Left left_spelling b q ≡ Some x → AtAlone Takes x
+        alone-takes : (k : K) (q : Option (K × W)) (b : Option (K × V)) (x : OuterJoinArg K V W) → entry_at cmp others k ≡ q
+            → entry_at cmp shared k ≡ b → asked kind.Left left_spelling b q ≡ Some x → AtAlone Takes x
         alone-takes k None None x e f is = cc
         alone-takes k (Some r) None x e f is = cc
         alone-takes k None (Some s) x e f is =
@@ -331,7 +334,8 @@ module _ {K V W : Type 0} (cmp : K → K → Ordering) (total : IsTotalOrder cmp
   item-here : (entry_at cmp (map deref_pair (take i xs) ++ deref_pair x ∷ map deref_pair (drop (i + 1) xs)) x.0.now ≡ Some (deref_pair x)) × (entry_at cmp (map deref_pair (take i xs)) x.0.now ≡ None)
   item-here = here cmp total x.0.now (map deref_pair (take i xs)) (deref_pair x) (map deref_pair (drop (i + 1) xs)) item-sorted (ap is_eq (tied_itself total x.0.now))
 
-  taken : (Takes : OuterJoinArg K V W → Type 0) (z : Option (K × V)) (v : V) → option_map (λ p. p.1) z ≡ Some v → ((p : K × V) → z ≡ Some p → Takes (Both x.0.now p.1 x.1.now)) → Takes (Both x.0.now v x.1.now)
+  taken : (Takes : OuterJoinArg K V W → Type 0) (z : Option (K × V)) (v : V) → option_map (λ p. p.1) z ≡ Some v
+      → ((p : K × V) → z ≡ Some p → Takes (Both x.0.now p.1 x.1.now)) → Takes (Both x.0.now v x.1.now)
   taken Takes None v e h = cc
   taken Takes (Some p) v e h = let same : p.1 ≡ v = cc in subst (λ v. Takes (Both x.0.now v x.1.now)) same (h p refl)
 

@@ -242,7 +242,8 @@ module _ {K V W : Type 0} (cmp : K → K → Ordering) (total : IsTotalOrder cmp
   join-of_judged old new s j = record { ascends = s; at = λ k. answered k (entry_at cmp old k) (entry_at cmp new k) (λ e f. own-key cmp total k old e f) (j k) }
 
   -- each pair of the map is asked at
-  pub asked-in : (old before after : List (K × V)) (k : K) (v : V) → AscendsByKey cmp old → old ≡ before ++ (k, v) ∷ after → IsAsked cmp kind.Left left_spelling old others (at_pair k v (value_at cmp others k))
+  pub asked-in : (old before after : List (K × V)) (k : K) (v : V) → AscendsByKey cmp old → old ≡ before ++ (k, v) ∷ after
+      → IsAsked cmp kind.Left left_spelling old others (at_pair k v (value_at cmp others k))
   asked-in old before after k v s is =
       let own = ap is_eq (tied_itself total k) in
       let found : entry_at cmp old k ≡ Some (k, v) = ap (λ l. entry_at cmp l k) is ∙ (here cmp total k before (k, v) after (subst (λ l. AscendsByKey cmp l) is s) own).0 in
@@ -340,7 +341,8 @@ module _ {K V : Type 0} (cmp : K → K → Ordering) where
 
 -- ---- a step over the pairs of the other map, of which those of `left` are left
 
-module _ {K W : Type 0} (cmp : K → K → Ordering) (total : IsTotalOrder cmp) (others front left rest : List (K × W)) (key : Bor K) (other : Bor W) (ascends : AscendsByKey cmp others) (splits : others ≡ front ++ left)
+module _ {K W : Type 0} (cmp : K → K → Ordering) (total : IsTotalOrder cmp) (others front left rest : List (K × W)) (key : Bor K)
+    (other : Bor W) (ascends : AscendsByKey cmp others) (splits : others ≡ front ++ left)
     (first : left ≡ (key.now, other.now) ∷ rest) where
   pub step-split : others ≡ front ++ (key.now, other.now) ∷ rest
   step-split = splits ∙ ap (λ l. front ++ l) first
@@ -384,7 +386,9 @@ module _ {K V W : Type 0} (cmp : K → K → Ordering) (total : IsTotalOrder cmp
     pub asks-alone : (join : JoinKind) (old : List (K × V)) → asks_right join ≡ true → entry_at cmp old key.now ≡ None → IsAsked {V = V} cmp join right_spelling old others (Right key.now other.now)
     asks-alone join old t none = record {
       key = key.now;
-      asks = ap (λ q. asked join right_spelling (entry_at cmp old key.now) q) (step-found cmp total others front left rest key other ascends splits first) ∙ alone-question join key.now other.now (entry_at cmp old key.now) t none;
+      asks = ap (λ q. asked join right_spelling (entry_at cmp old key.now) q)
+          (step-found cmp total others front left rest key other ascends splits first)
+          ∙ alone-question join key.now other.now (entry_at cmp old key.now) t none;
     }
 
   -- the same, where the values in front are decided

@@ -91,4 +91,6 @@ module _ {K V W : Type 0} where
 -- new is the old map, and beside it some pairs at keys of the other map alone, each a clone of the key with a value that may be given there
 pub record IsGrown {K V W : Type 0} (cmp : K → K → Ordering) (is_clone : K → K → Type 0) (Gives : K → W → Option V → Type 0) (others : List (K × W)) (old new : List (K × V)) : Type 0 where
   pub old_stay : (k : K) → is_some (entry_at cmp old k) ≡ true → entry_at cmp new k ≡ entry_at cmp old k
-  pub new_given : (k : K) → is_some (entry_at cmp old k) ≡ false → MatchOption (entry_at cmp new k) (Unit {0}) (λ p. IsSomeAnd (entry_at cmp others k) (λ q. is_clone q.0 p.0 × Gives q.0 q.1 (Some p.1)))
+  pub new_given : (k : K) → is_some (entry_at cmp old k) ≡ false
+      → MatchOption (entry_at cmp new k) (Unit {0})
+      (λ p. IsSomeAnd (entry_at cmp others k) (λ q. is_clone q.0 p.0 × Gives q.0 q.1 (Some p.1)))

@@ -24,7 +24,8 @@ pub record IsPut {K X : Type 0} (cmp : K → K → Ordering) (is_clone : K → K
   pub at : (k : K) → MatchBool (is_at (cmp k) key) (IsPutAt is_clone key answer (entry_at cmp new k)) (entry_at cmp new k ≡ entry_at cmp old k)
 
 -- new is old with a possible answer to the question put at the key that it shows
-pub record IsAskedAndPut {K V W X : Type 0} (cmp : K → K → Ordering) (is_clone : K → K → Type 0) (May : OuterJoinArg K V W → Option X → Type 0) (a : OuterJoinArg K V W) (old new : List (K × X)) : Type 0 where
+pub record IsAskedAndPut {K V W X : Type 0} (cmp : K → K → Ordering) (is_clone : K → K → Type 0)
+    (May : OuterJoinArg K V W → Option X → Type 0) (a : OuterJoinArg K V W) (old new : List (K × X)) : Type 0 where
   pub answer : Option X
   pub may : May a answer
   pub put : IsPut cmp is_clone (shown_key a) answer old new

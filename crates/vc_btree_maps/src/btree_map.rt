@@ -60,10 +60,11 @@ pub trait AbstractBTreeMap<K: Ord, V> {
     fn get(&self, key: &K) -> Option<&V>
         ensures { option_copied result ≡ value_at K.cmp (pairs self.now) key.now };
 
-    /// The map of the answers of `f`, which is asked at each key of either map. A key of both is shown and kept as this map has it.
+    /// The map of the answers of `f`, which is asked at each key of either map. A key of both is
+    /// shown and kept as this map has it.
     ///
-    /// It looks each key up that it asks at, and inserts each answer under a clone of the key. Refused at a clone, at a request for memory
-    /// or by the closure, it drops what it built.
+    /// It looks each key up that it asks at, and inserts each answer under a clone of the key.
+    /// Refused at a clone, at a request for memory or by the closure, it drops what it built.
     final fn outer_join<
         W,
         X: Drop,
@@ -73,17 +74,23 @@ pub trait AbstractBTreeMap<K: Ord, V> {
     where
         K: Clone + Drop,
         requires clones { ClonesAreEqual K.cmp K.is_clone }
-        requires callable { (a : _) → IsAsked K.cmp kind.Outer left_spelling (pairs self.now) (M.pairs that.now) a → (shown : _) → seen shown ≡ a → F.pre f shown }
-        ensures joins { IfOk result (λ m. IsJoin K.cmp kind.Outer left_spelling (pairs self.now) (M.pairs that.now) (λ a r. MayAnswer F.Fn f a (Ok r)) (λ a. K.is_clone (shown_key a)) m.entries) }
-        ensures function { IfOk result (λ m. (h : _) → IsJoinBy K.cmp kind.Outer left_spelling (pairs self.now) (M.pairs that.now) (λ a r. MayAnswer F.Fn f a (Ok r)) h m.entries) }
+        requires callable { (a : _) → IsAsked K.cmp kind.Outer left_spelling (pairs self.now)
+            (M.pairs that.now) a → (shown : _) → seen shown ≡ a → F.pre f shown }
+        ensures joins { IfOk result (λ m. IsJoin K.cmp kind.Outer left_spelling (pairs self.now)
+            (M.pairs that.now) (λ a r. MayAnswer F.Fn f a (Ok r)) (λ a. K.is_clone (shown_key a))
+            m.entries) }
+        ensures function { IfOk result (λ m. (h : _)
+            → IsJoinBy K.cmp kind.Outer left_spelling (pairs self.now) (M.pairs that.now)
+            (λ a r. MayAnswer F.Fn f a (Ok r)) h m.entries) }
     {
         fresh::join_outer(alloc, self, that, &AskOuter(&f))
     }
 
-    /// The map of the answers of `f`, which is asked at each key of this map. Keys are shown and kept as this map has them.
+    /// The map of the answers of `f`, which is asked at each key of this map. Keys are shown and
+    /// kept as this map has them.
     ///
-    /// It looks each key up that it asks at, and inserts each answer under a clone of the key. Refused at a clone, at a request for memory
-    /// or by the closure, it drops what it built.
+    /// It looks each key up that it asks at, and inserts each answer under a clone of the key.
+    /// Refused at a clone, at a request for memory or by the closure, it drops what it built.
     final fn left_join<
         W,
         X: Drop,
@@ -93,17 +100,23 @@ pub trait AbstractBTreeMap<K: Ord, V> {
     where
         K: Clone + Drop,
         requires clones { ClonesAreEqual K.cmp K.is_clone }
-        requires callable { (a : _) → IsAsked K.cmp kind.Left left_spelling (pairs self.now) (M.pairs that.now) a → (k : _) (v : _) (w : _) → seen_left k v w ≡ a → F.pre f k v w }
-        ensures joins { IfOk result (λ m. IsJoin K.cmp kind.Left left_spelling (pairs self.now) (M.pairs that.now) (λ a r. MayAnswerLeft F.Fn f a (Ok r)) (λ a. K.is_clone (shown_key a)) m.entries) }
-        ensures function { IfOk result (λ m. (h : _) → IsJoinBy K.cmp kind.Left left_spelling (pairs self.now) (M.pairs that.now) (λ a r. MayAnswerLeft F.Fn f a (Ok r)) h m.entries) }
+        requires callable { (a : _) → IsAsked K.cmp kind.Left left_spelling (pairs self.now)
+            (M.pairs that.now) a → (k : _) (v : _) (w : _) → seen_left k v w ≡ a → F.pre f k v w }
+        ensures joins { IfOk result (λ m. IsJoin K.cmp kind.Left left_spelling (pairs self.now)
+            (M.pairs that.now) (λ a r. MayAnswerLeft F.Fn f a (Ok r))
+            (λ a. K.is_clone (shown_key a)) m.entries) }
+        ensures function { IfOk result (λ m. (h : _)
+            → IsJoinBy K.cmp kind.Left left_spelling (pairs self.now) (M.pairs that.now)
+            (λ a r. MayAnswerLeft F.Fn f a (Ok r)) h m.entries) }
     {
         fresh::join_left(alloc, self, that, &AskLeft(&f))
     }
 
-    /// The map of the answers of `f`, which is asked at each key of the other map. Keys are shown and kept as the other map has them.
+    /// The map of the answers of `f`, which is asked at each key of the other map. Keys are shown
+    /// and kept as the other map has them.
     ///
-    /// It looks each key up that it asks at, and inserts each answer under a clone of the key. Refused at a clone, at a request for memory
-    /// or by the closure, it drops what it built.
+    /// It looks each key up that it asks at, and inserts each answer under a clone of the key.
+    /// Refused at a clone, at a request for memory or by the closure, it drops what it built.
     final fn right_join<
         W,
         X: Drop,
@@ -113,17 +126,23 @@ pub trait AbstractBTreeMap<K: Ord, V> {
     where
         K: Clone + Drop,
         requires clones { ClonesAreEqual K.cmp K.is_clone }
-        requires callable { (a : _) → IsAsked K.cmp kind.Right right_spelling (pairs self.now) (M.pairs that.now) a → (k : _) (v : _) (w : _) → seen_right k v w ≡ a → F.pre f k v w }
-        ensures joins { IfOk result (λ m. IsJoin K.cmp kind.Right right_spelling (pairs self.now) (M.pairs that.now) (λ a r. MayAnswerRight F.Fn f a (Ok r)) (λ a. K.is_clone (shown_key a)) m.entries) }
-        ensures function { IfOk result (λ m. (h : _) → IsJoinBy K.cmp kind.Right right_spelling (pairs self.now) (M.pairs that.now) (λ a r. MayAnswerRight F.Fn f a (Ok r)) h m.entries) }
+        requires callable { (a : _) → IsAsked K.cmp kind.Right right_spelling (pairs self.now)
+            (M.pairs that.now) a → (k : _) (v : _) (w : _) → seen_right k v w ≡ a → F.pre f k v w }
+        ensures joins { IfOk result (λ m. IsJoin K.cmp kind.Right right_spelling (pairs self.now)
+            (M.pairs that.now) (λ a r. MayAnswerRight F.Fn f a (Ok r))
+            (λ a. K.is_clone (shown_key a)) m.entries) }
+        ensures function { IfOk result (λ m. (h : _)
+            → IsJoinBy K.cmp kind.Right right_spelling (pairs self.now) (M.pairs that.now)
+            (λ a r. MayAnswerRight F.Fn f a (Ok r)) h m.entries) }
     {
         fresh::join_right(alloc, self, that, &AskRight(&f))
     }
 
-    /// The map of the answers of `f`, which is asked at each key of both maps. Keys are shown and kept as the other map has them.
+    /// The map of the answers of `f`, which is asked at each key of both maps. Keys are shown and
+    /// kept as the other map has them.
     ///
-    /// It looks each key up that it asks at, and inserts each answer under a clone of the key. Refused at a clone, at a request for memory
-    /// or by the closure, it drops what it built.
+    /// It looks each key up that it asks at, and inserts each answer under a clone of the key.
+    /// Refused at a clone, at a request for memory or by the closure, it drops what it built.
     final fn inner_join<
         W,
         X: Drop,
@@ -133,9 +152,14 @@ pub trait AbstractBTreeMap<K: Ord, V> {
     where
         K: Clone + Drop,
         requires clones { ClonesAreEqual K.cmp K.is_clone }
-        requires callable { (a : _) → IsAsked K.cmp kind.Inner right_spelling (pairs self.now) (M.pairs that.now) a → (k : _) (v : _) (w : _) → seen_inner k v w ≡ a → F.pre f k v w }
-        ensures joins { IfOk result (λ m. IsJoin K.cmp kind.Inner right_spelling (pairs self.now) (M.pairs that.now) (λ a r. MayAnswerInner F.Fn f a (Ok r)) (λ a. K.is_clone (shown_key a)) m.entries) }
-        ensures function { IfOk result (λ m. (h : _) → IsJoinBy K.cmp kind.Inner right_spelling (pairs self.now) (M.pairs that.now) (λ a r. MayAnswerInner F.Fn f a (Ok r)) h m.entries) }
+        requires callable { (a : _) → IsAsked K.cmp kind.Inner right_spelling (pairs self.now)
+            (M.pairs that.now) a → (k : _) (v : _) (w : _) → seen_inner k v w ≡ a → F.pre f k v w }
+        ensures joins { IfOk result (λ m. IsJoin K.cmp kind.Inner right_spelling (pairs self.now)
+            (M.pairs that.now) (λ a r. MayAnswerInner F.Fn f a (Ok r))
+            (λ a. K.is_clone (shown_key a)) m.entries) }
+        ensures function { IfOk result (λ m. (h : _)
+            → IsJoinBy K.cmp kind.Inner right_spelling (pairs self.now) (M.pairs that.now)
+            (λ a r. MayAnswerInner F.Fn f a (Ok r)) h m.entries) }
     {
         fresh::join_inner(alloc, self, that, &AskInner(&f))
     }
@@ -166,10 +190,11 @@ pub trait InPlaceRelationalOps<K: Ord, V>: AbstractBTreeMap<K, V> {
     ghost use Rattle.std.specs.Option.{option_copied};
     ghost use Rattle.vc_merge.specs.Clones.{ClonesAreEqual};
 
-    /// Asks `f` at each key of both maps, which may write to the value, and keeps the value where it answers true. All others are dropped.
+    /// Asks `f` at each key of both maps, which may write to the value, and keeps the value where
+    /// it answers true. All others are dropped.
     ///
-    /// Asks once a key, in ascending order, and shows the key as this map has it. Looks each key of this map up in the other one, and
-    /// takes no memory.
+    /// Asks once a key, in ascending order, and shows the key as this map has it. Looks each key of
+    /// this map up in the other one, and takes no memory.
     ///
     /// ```
     /// stock.inner_join_with(&orders, |_: &u32, count: &mut u32, wanted: &u32| *count >= *wanted);
@@ -182,14 +207,19 @@ pub trait InPlaceRelationalOps<K: Ord, V>: AbstractBTreeMap<K, V> {
     where
         K: Drop,
         V: Drop,
-        requires callable { (k : _) (v : _) (w : _) → IsAsked K.cmp kind.Inner left_spelling (Self.pairs self.old) (M.pairs that.now) (arg.Both k.now v.now w.now) → F.pre f k v w }
-        ensures joins { IsJoin K.cmp kind.Inner left_spelling (Self.pairs self.old) (M.pairs that.now) (MayLeaveShared F.Fn f) MovedKey (Self.pairs self.new) }
-        ensures function { (h : _) → IsJoinBy K.cmp kind.Inner left_spelling (Self.pairs self.old) (M.pairs that.now) (MayLeaveShared F.Fn f) h (Self.pairs self.new) };
+        requires callable { (k : _) (v : _) (w : _)
+            → IsAsked K.cmp kind.Inner left_spelling (Self.pairs self.old) (M.pairs that.now)
+            (arg.Both k.now v.now w.now) → F.pre f k v w }
+        ensures joins { IsJoin K.cmp kind.Inner left_spelling (Self.pairs self.old)
+            (M.pairs that.now) (MayLeaveShared F.Fn f) MovedKey (Self.pairs self.new) }
+        ensures function { (h : _) → IsJoinBy K.cmp kind.Inner left_spelling (Self.pairs self.old)
+            (M.pairs that.now) (MayLeaveShared F.Fn f) h (Self.pairs self.new) };
 
-    /// Asks `f` at each key of this map, which may write to the value, and keeps the value where it answers true.
+    /// Asks `f` at each key of this map, which may write to the value, and keeps the value where it
+    /// answers true.
     ///
-    /// Asks once a key, in ascending order, and shows the key as this map has it. Looks each key up in the other map, and takes no
-    /// memory.
+    /// Asks once a key, in ascending order, and shows the key as this map has it. Looks each key up
+    /// in the other map, and takes no memory.
     fn left_join_with<W, M: AbstractBTreeMap<K, W>, F: Fn(&K, &mut V, Option<&W>) -> bool + Drop>(
         &mut self,
         that: &M,
@@ -198,15 +228,21 @@ pub trait InPlaceRelationalOps<K: Ord, V>: AbstractBTreeMap<K, V> {
     where
         K: Drop,
         V: Drop,
-        requires callable { (k : _) (v : _) (w : _) → IsAsked K.cmp kind.Left left_spelling (Self.pairs self.old) (M.pairs that.now) (at_pair k.now v.now (option_copied w)) → F.pre f k v w }
-        ensures joins { IsJoin K.cmp kind.Left left_spelling (Self.pairs self.old) (M.pairs that.now) (MayLeave F.Fn f) MovedKey (Self.pairs self.new) }
-        ensures function { (h : _) → IsJoinBy K.cmp kind.Left left_spelling (Self.pairs self.old) (M.pairs that.now) (MayLeave F.Fn f) h (Self.pairs self.new) };
+        requires callable { (k : _) (v : _) (w : _)
+            → IsAsked K.cmp kind.Left left_spelling (Self.pairs self.old) (M.pairs that.now)
+            (at_pair k.now v.now (option_copied w)) → F.pre f k v w }
+        ensures joins { IsJoin K.cmp kind.Left left_spelling (Self.pairs self.old)
+            (M.pairs that.now) (MayLeave F.Fn f) MovedKey (Self.pairs self.new) }
+        ensures function { (h : _) → IsJoinBy K.cmp kind.Left left_spelling (Self.pairs self.old)
+            (M.pairs that.now) (MayLeave F.Fn f) h (Self.pairs self.new) };
 
-    /// Asks at each key of the other map, and shows the key as that one has it: `f` at a key of both maps, which may write to the value
-    /// and drops it where it answers false, and `other_alone` at a key that this map lacks. Nothing is inserted there, and what this map
-    /// has at keys that the other one lacks stays as it is.
+    /// Asks at each key of the other map, and shows the key as that one has it: `f` at a key of
+    /// both maps, which may write to the value and drops it where it answers false, and
+    /// `other_alone` at a key that this map lacks. Nothing is inserted there, and what this map has
+    /// at keys that the other one lacks stays as it is.
     ///
-    /// Asks once a key, in ascending order. Looks each key of the other map up in this one, and takes no memory.
+    /// Asks once a key, in ascending order. Looks each key of the other map up in this one, and
+    /// takes no memory.
     fn right_join_with<
         W,
         M: AbstractBTreeMap<K, W>,
@@ -216,20 +252,30 @@ pub trait InPlaceRelationalOps<K: Ord, V>: AbstractBTreeMap<K, V> {
     where
         K: Drop,
         V: Drop,
-        requires callable { (k : _) (v : _) (w : _) → IsAsked K.cmp kind.Inner right_spelling (Self.pairs self.old) (M.pairs that.now) (arg.Both k.now v.now w.now) → F.pre f k v w }
-        requires callable_alone { (k : _) (w : _) → IsAsked K.cmp kind.Right right_spelling (Self.pairs self.old) (M.pairs that.now) (arg.Right k.now w.now) → G.pre other_alone k w }
-        ensures joins { IsJoin K.cmp kind.Left right_spelling (Self.pairs self.old) (M.pairs that.now) (OrStays (MayLeaveShared F.Fn f)) (StayedKey K.cmp (Self.pairs self.old)) (Self.pairs self.new) }
-        ensures function { (h : _) → IsJoinBy K.cmp kind.Left right_spelling (Self.pairs self.old) (M.pairs that.now) (OrStays (MayLeaveShared F.Fn f)) h (Self.pairs self.new) };
+        requires callable { (k : _) (v : _) (w : _)
+            → IsAsked K.cmp kind.Inner right_spelling (Self.pairs self.old) (M.pairs that.now)
+            (arg.Both k.now v.now w.now) → F.pre f k v w }
+        requires callable_alone { (k : _) (w : _)
+            → IsAsked K.cmp kind.Right right_spelling (Self.pairs self.old) (M.pairs that.now)
+            (arg.Right k.now w.now) → G.pre other_alone k w }
+        ensures joins { IsJoin K.cmp kind.Left right_spelling (Self.pairs self.old)
+            (M.pairs that.now) (OrStays (MayLeaveShared F.Fn f))
+            (StayedKey K.cmp (Self.pairs self.old)) (Self.pairs self.new) }
+        ensures function { (h : _) → IsJoinBy K.cmp kind.Left right_spelling (Self.pairs self.old)
+            (M.pairs that.now) (OrStays (MayLeaveShared F.Fn f)) h (Self.pairs self.new) };
 
-    /// Asks at each key of either map. First `other_alone` at the keys that the other map alone has, whose answers come in under clones
-    /// of them, and then `f` at the keys that this map had before, which may write to the value and drops it where it answers false.
+    /// Asks at each key of either map. First `other_alone` at the keys that the other map alone
+    /// has, whose answers come in under clones of them, and then `f` at the keys that this map had
+    /// before, which may write to the value and drops it where it answers false.
     ///
-    /// Asks once a key, and shows a key of both maps as the other one has it. The pairs of the other map at shared keys are kept in a
-    /// list between the two passes, so that `f` is asked at no key that came in; that costs two references a shared key, and each key of
-    /// either map is looked up in the other one at most twice.
+    /// Asks once a key, and shows a key of both maps as the other one has it. The pairs of the
+    /// other map at shared keys are kept in a list between the two passes, so that `f` is asked at
+    /// no key that came in; that costs two references a shared key, and each key of either map is
+    /// looked up in the other one at most twice.
     ///
-    /// Refused at that list, at a clone or at an insertion, it leaves the pairs that it had as they were, and beside them some that
-    /// `other_alone` gave at keys of the other map alone; `f` was not asked.
+    /// Refused at that list, at a clone or at an insertion, it leaves the pairs that it had as they
+    /// were, and beside them some that `other_alone` gave at keys of the other map alone; `f` was
+    /// not asked.
     fn outer_join_with<
         W,
         M: AbstractBTreeMap<K, W>,
@@ -240,11 +286,20 @@ pub trait InPlaceRelationalOps<K: Ord, V>: AbstractBTreeMap<K, V> {
         K: Clone + Drop,
         V: Drop,
         requires clones { ClonesAreEqual K.cmp K.is_clone }
-        requires callable { (k : _) (v : _) (w : _) → IsAsked K.cmp kind.Outer right_spelling (Self.pairs self.old) (M.pairs that.now) (at_pair k.now v.now (option_copied w)) → F.pre f k v w }
-        requires callable_alone { (k : _) (w : _) → IsAsked K.cmp kind.Outer right_spelling (Self.pairs self.old) (M.pairs that.now) (arg.Right k.now w.now) → G.pre other_alone k w }
-        ensures joins { OnOk result (IsJoin K.cmp kind.Outer right_spelling (Self.pairs self.old) (M.pairs that.now) (OrGives (MayLeave F.Fn f) (MayGive G.Fn other_alone)) (StayedOrCloned K.cmp (Self.pairs self.old) K.is_clone) (Self.pairs self.new)) }
-        ensures function { OnOk result ((h : _) → IsJoinBy K.cmp kind.Outer right_spelling (Self.pairs self.old) (M.pairs that.now) (OrGives (MayLeave F.Fn f) (MayGive G.Fn other_alone)) h (Self.pairs self.new)) }
-        ensures grown { OnErr result (IsGrown K.cmp K.is_clone (MayGive G.Fn other_alone) (M.pairs that.now) (Self.pairs self.old) (Self.pairs self.new)) };
+        requires callable { (k : _) (v : _) (w : _)
+            → IsAsked K.cmp kind.Outer right_spelling (Self.pairs self.old) (M.pairs that.now)
+            (at_pair k.now v.now (option_copied w)) → F.pre f k v w }
+        requires callable_alone { (k : _) (w : _)
+            → IsAsked K.cmp kind.Outer right_spelling (Self.pairs self.old) (M.pairs that.now)
+            (arg.Right k.now w.now) → G.pre other_alone k w }
+        ensures joins { OnOk result (IsJoin K.cmp kind.Outer right_spelling (Self.pairs self.old)
+            (M.pairs that.now) (OrGives (MayLeave F.Fn f) (MayGive G.Fn other_alone))
+            (StayedOrCloned K.cmp (Self.pairs self.old) K.is_clone) (Self.pairs self.new)) }
+        ensures function { OnOk result ((h : _)
+            → IsJoinBy K.cmp kind.Outer right_spelling (Self.pairs self.old) (M.pairs that.now)
+            (OrGives (MayLeave F.Fn f) (MayGive G.Fn other_alone)) h (Self.pairs self.new)) }
+        ensures grown { OnErr result (IsGrown K.cmp K.is_clone (MayGive G.Fn other_alone)
+            (M.pairs that.now) (Self.pairs self.old) (Self.pairs self.new)) };
 }
 
 impl<K: Ord, V> InPlaceRelationalOps<K, V> for BTreeMap<K, V> {

@@ -63,8 +63,17 @@ module _ {K V W : Type 0} (cmp : K → K → Ordering) (total : IsTotalOrder cmp
     pub lefts-passed : (R : Type 0) (xs' : List (K × V)) (ys' : List (K × W)) (answer : Answer) → IfOk answer (λ go_on. go_on ≡ true → (xs' ≡ drop n xs) × (ys' ≡ ys) × R)
         → IfOk answer (λ go_on. go_on ≡ true → (xs' ≡ drop n xs) × (ys' ≡ ys) × (R × BothAscend (by_key cmp) xs' ys' × CanAsk cmp kind Takes xs' ys'))
     lefts-passed R xs' ys' (Ok b) h = λ e.
-        let p = h e in
-        (p.0, p.1, (p.2, subst (λ l. BothAscend (by_key cmp) l ys') (sym p.0) (subst (λ l. BothAscend (by_key cmp) (drop n xs) l) (sym p.1) lefts-ascend), subst (λ l. CanAsk cmp kind Takes l ys') (sym p.0) (subst (λ l. CanAsk cmp kind Takes (drop n xs) l) (sym p.1) lefts-can)))
+        let p = h e in (
+          p.0,
+          p.1,
+          (
+            p.2,
+            subst (λ l. BothAscend (by_key cmp) l ys') (sym p.0)
+                (subst (λ l. BothAscend (by_key cmp) (drop n xs) l) (sym p.1) lefts-ascend),
+            subst (λ l. CanAsk cmp kind Takes l ys') (sym p.0)
+                (subst (λ l. CanAsk cmp kind Takes (drop n xs) l) (sym p.1) lefts-can),
+          ),
+        )
     lefts-passed R xs' ys' (Err x) h = tt
 
   module _ (n : ℕ) (xs : List (K × V)) (ys : List (K × W)) (ascend : BothAscend (by_key cmp) xs ys) (below : RightBelow (by_key cmp) (take n ys) xs) (can : CanAsk cmp kind Takes xs ys) where
@@ -94,13 +103,23 @@ module _ {K V W : Type 0} (cmp : K → K → Ordering) (total : IsTotalOrder cmp
     pub rights-passed : (R : Type 0) (xs' : List (K × V)) (ys' : List (K × W)) (answer : Answer) → IfOk answer (λ go_on. go_on ≡ true → (xs' ≡ xs) × (ys' ≡ drop n ys) × R)
         → IfOk answer (λ go_on. go_on ≡ true → (xs' ≡ xs) × (ys' ≡ drop n ys) × (R × BothAscend (by_key cmp) xs' ys' × CanAsk cmp kind Takes xs' ys'))
     rights-passed R xs' ys' (Ok b) h = λ e.
-        let p = h e in
-        (p.0, p.1, (p.2, subst (λ l. BothAscend (by_key cmp) l ys') (sym p.0) (subst (λ l. BothAscend (by_key cmp) xs l) (sym p.1) rights-ascend), subst (λ l. CanAsk cmp kind Takes l ys') (sym p.0) (subst (λ l. CanAsk cmp kind Takes xs l) (sym p.1) rights-can)))
+        let p = h e in (
+          p.0,
+          p.1,
+          (
+            p.2,
+            subst (λ l. BothAscend (by_key cmp) l ys') (sym p.0)
+                (subst (λ l. BothAscend (by_key cmp) xs l) (sym p.1) rights-ascend),
+            subst (λ l. CanAsk cmp kind Takes l ys') (sym p.0) (subst (λ l. CanAsk cmp kind Takes xs l) (sym p.1) rights-can),
+          ),
+        )
     rights-passed R xs' ys' (Err x) h = tt
 
   -- ---- two pairs with equal keys
 
-  heads-script : (x : K × V) (xs : List (K × V)) (y : K × W) (ys : List (K × W)) → BothAscend (by_key cmp) (x ∷ xs) (y ∷ ys) → by_key cmp (inl x) (inr y) ≡ Equal → (es : List (Event (K × V) (K × W))) → IsScript (by_key cmp) xs ys es → IsScript (by_key cmp) (x ∷ xs) (y ∷ ys) (collision x y ∷ es)
+  heads-script : (x : K × V) (xs : List (K × V)) (y : K × W) (ys : List (K × W)) → BothAscend (by_key cmp) (x ∷ xs) (y ∷ ys)
+      → by_key cmp (inl x) (inr y) ≡ Equal → (es : List (Event (K × V) (K × W))) → IsScript (by_key cmp) xs ys es
+      → IsScript (by_key cmp) (x ∷ xs) (y ∷ ys) (collision x y ∷ es)
   unfolding IsStrictlySortedBy
   heads-script x xs y ys ascend e es s = put-both (by_key cmp) (by_key-total cmp total) x y xs ys es e ascend.left.0 ascend.right.0 s
 
@@ -109,30 +128,45 @@ module _ {K V W : Type 0} (cmp : K → K → Ordering) (total : IsTotalOrder cmp
   tails-ascend x xs y ys ascend = record { left = ascend.left.1; right = ascend.right.1 }
 
   -- what stands first in both may be asked at
-  pub heads-asked : (xs : List (K × V)) (ys : List (K × W)) → BothAscend (by_key cmp) xs ys → HeadsCompare (by_key cmp) xs ys Equal → CanAsk cmp kind Takes xs ys → AtHeads (λ p q. Takes (Both p.0 p.1 q.1)) xs ys
+  pub heads-asked : (xs : List (K × V)) (ys : List (K × W)) → BothAscend (by_key cmp) xs ys
+      → HeadsCompare (by_key cmp) xs ys Equal → CanAsk cmp kind Takes xs ys → AtHeads (λ p q. Takes (Both p.0 p.1 q.1)) xs ys
   heads-asked [] ys ascend e can = e
   heads-asked (x ∷ xs) [] ascend e can = e
   heads-asked (x ∷ xs) (y ∷ ys) ascend e can =
       let script = some-script (by_key cmp) (by_key-total cmp total) xs ys (tails-ascend x xs y ys ascend) in
       (can.each (collision x y ∷ script.0) (heads-script x xs y ys ascend e script.0 script.1)).0 refl
 
-  tails-can : (x : K × V) (xs : List (K × V)) (y : K × W) (ys : List (K × W)) → BothAscend (by_key cmp) (x ∷ xs) (y ∷ ys) → by_key cmp (inl x) (inr y) ≡ Equal → CanAsk cmp kind Takes (x ∷ xs) (y ∷ ys) → CanAsk cmp kind Takes xs ys
+  tails-can : (x : K × V) (xs : List (K × V)) (y : K × W) (ys : List (K × W)) → BothAscend (by_key cmp) (x ∷ xs) (y ∷ ys)
+      → by_key cmp (inl x) (inr y) ≡ Equal → CanAsk cmp kind Takes (x ∷ xs) (y ∷ ys) → CanAsk cmp kind Takes xs ys
   tails-can x xs y ys ascend e can = record { each = λ es s. (can.each (collision x y ∷ es) (heads-script x xs y ys ascend e es s)).1 }
 
   -- what a call leaves that passed the first pair of each
-  pub heads-passed : (R : Type 0) (xs : List (K × V)) (ys : List (K × W)) (xs' : List (K × V)) (ys' : List (K × W)) → BothAscend (by_key cmp) xs ys → HeadsCompare (by_key cmp) xs ys Equal → CanAsk cmp kind Takes xs ys
+  pub heads-passed : (R : Type 0) (xs : List (K × V)) (ys : List (K × W)) (xs' : List (K × V)) (ys' : List (K × W))
+      → BothAscend (by_key cmp) xs ys → HeadsCompare (by_key cmp) xs ys Equal → CanAsk cmp kind Takes xs ys
       → (answer : Answer) → IfOk answer (λ go_on. go_on ≡ true → (xs' ≡ drop 1 xs) × (ys' ≡ drop 1 ys) × R)
       → IfOk answer (λ go_on. go_on ≡ true → (xs' ≡ drop 1 xs) × (ys' ≡ drop 1 ys) × (R × BothAscend (by_key cmp) xs' ys' × CanAsk cmp kind Takes xs' ys'))
   heads-passed R [] ys xs' ys' ascend e can answer h = absurd e
   heads-passed R (x ∷ xs) [] xs' ys' ascend e can answer h = absurd e
   heads-passed R (x ∷ xs) (y ∷ ys) xs' ys' ascend e can (Ok b) h = λ g.
-      let p = h g in
-      (p.0, p.1, (p.2, subst (λ l. BothAscend (by_key cmp) l ys') (sym p.0) (subst (λ l. BothAscend (by_key cmp) xs l) (sym p.1) (tails-ascend x xs y ys ascend)), subst (λ l. CanAsk cmp kind Takes l ys') (sym p.0) (subst (λ l. CanAsk cmp kind Takes xs l) (sym p.1) (tails-can x xs y ys ascend e can))))
+      let p = h g in (
+        p.0,
+        p.1,
+        (
+          p.2,
+          subst (λ l. BothAscend (by_key cmp) l ys') (sym p.0)
+              (subst (λ l. BothAscend (by_key cmp) xs l) (sym p.1) (tails-ascend x xs y ys ascend)),
+          subst (λ l. CanAsk cmp kind Takes l ys') (sym p.0)
+              (subst (λ l. CanAsk cmp kind Takes xs l) (sym p.1) (tails-can x xs y ys ascend e can)),
+        ),
+      )
   heads-passed R (x ∷ xs) (y ∷ ys) xs' ys' ascend e can (Err z) h = tt
 
   -- what may be asked at each key may be asked along the script
   pub can-ask : (xs : List (K × V)) (ys : List (K × W)) → ((a : OuterJoinArg K V W) → IsAsked cmp kind left_spelling xs ys a → Takes a) → CanAsk cmp kind Takes xs ys
-  can-ask xs ys h = record { each = λ es s. events-asked total {X = Unit {0}} kind left_spelling (λ i j e. tied_itself total i) (λ a r. Unit {0}) (λ a k. cmp (shown_key a) k ≡ Equal) (λ a k i e. e) Takes xs ys es s h }
+  can-ask xs ys h = record {
+    each = λ es s. events-asked total {X = Unit {0}} kind left_spelling (λ i j e. tied_itself total i)
+        (λ a r. Unit {0}) (λ a k. cmp (shown_key a) k ≡ Equal) (λ a k i e. e) Takes xs ys es s h;
+  }
 
 -- both lists ascend in the order of their keys
 pub both-ascend : {K V W : Type 0} (cmp : K → K → Ordering) (xs : List (K × V)) (ys : List (K × W)) → AscendsByKey cmp xs → AscendsByKey cmp ys → BothAscend (by_key cmp) xs ys

@@ -35,10 +35,13 @@ module _ {K V W : Type 0} (cmp : K → K → Ordering) (kind : JoinKind) where
 
   module _ {X : Type 0} (May : OuterJoinArg K V W → Option X → Type 0) (Keeps : OuterJoinArg K V W → K → Type 0) where
     -- a join of the lists behind two slices
-    pub join-of : (xs xs' : List (K × V)) (ys ys' : List (K × W)) (zs : List (K × X)) → xs' ≡ xs → ys' ≡ ys → IsJoin cmp kind left_spelling xs' ys' May Keeps zs → IsJoin cmp kind left_spelling xs ys May Keeps zs
+    pub join-of : (xs xs' : List (K × V)) (ys ys' : List (K × W)) (zs : List (K × X)) → xs' ≡ xs → ys' ≡ ys
+        → IsJoin cmp kind left_spelling xs' ys' May Keeps zs → IsJoin cmp kind left_spelling xs ys May Keeps zs
     join-of xs xs' ys ys' zs e f h = subst (λ l. IsJoin cmp kind left_spelling l ys May Keeps zs) e (subst (λ l. IsJoin cmp kind left_spelling xs' l May Keeps zs) f h)
 
-    pub join_by-of : (xs xs' : List (K × V)) (ys ys' : List (K × W)) (zs : List (K × X)) → xs' ≡ xs → ys' ≡ ys → IsJoin cmp kind left_spelling xs' ys' May Keeps zs → (h : OuterJoinArg K V W → Option X) → IsJoinBy cmp kind left_spelling xs ys May h zs
+    pub join_by-of : (xs xs' : List (K × V)) (ys ys' : List (K × W)) (zs : List (K × X)) → xs' ≡ xs → ys' ≡ ys
+        → IsJoin cmp kind left_spelling xs' ys' May Keeps zs → (h : OuterJoinArg K V W → Option X)
+        → IsJoinBy cmp kind left_spelling xs ys May h zs
     join_by-of xs xs' ys ys' zs e f h = joins-of_functions cmp May Keeps kind left_spelling xs ys zs (join-of xs xs' ys ys' zs e f h)
 
 -- what follows where a call is not refused
@@ -52,7 +55,9 @@ at-ok (Ok x) is p = p
 at-ok (Err e) is p = absurd (true≢false (sym is))
 
 -- a list of pairs that became a join, or was left as it was, ascends
-pub join-ascends : {E K V W : Type 0} (cmp : K → K → Ordering) (kind : JoinKind) (May : OuterJoinArg K V W → Option V → Type 0) (Keeps : OuterJoinArg K V W → K → Type 0) (result : Result (Unit {0}) E) (xs : List (K × V)) (ys : List (K × W)) (zs : List (K × V))
+pub join-ascends : {E K V W : Type 0} (cmp : K → K → Ordering) (kind : JoinKind) (May : OuterJoinArg K V W → Option V → Type 0)
+    (Keeps : OuterJoinArg K V W → K → Type 0) (result : Result (Unit {0}) E) (xs : List (K × V)) (ys : List (K × W))
+    (zs : List (K × V))
     → OnOk result (IsJoin cmp kind left_spelling xs ys May Keeps zs) → OnErr result (zs ≡ xs) → AscendsByKey cmp xs → AscendsByKey cmp zs
 join-ascends cmp kind May Keeps (Ok x) xs ys zs j e h = j.ascends
 join-ascends cmp kind May Keeps (Err r) xs ys zs j e h = subst (λ l. AscendsByKey cmp l) (sym e) h

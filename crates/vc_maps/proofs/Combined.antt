@@ -86,19 +86,24 @@ module _ {K V : Type 0} (cmp : K → K → Ordering) (xs ys zs : List (K × V)) 
   combines-weaker gives may f (Both k v w) None m = absurd m
   combines-weaker gives may f (Both k v w) (Some x) m = f v w x m
 
-  answered-weaker : (gives may : V → V → V → Type 0) → ((v w x : V) → gives v w x → may v w x) → (a : Option (OuterJoinArg K V V)) (found : Option (K × V)) → IsAnswered (Combines gives) MovedKey a found → IsAnswered (Combines may) MovedKey a found
+  answered-weaker : (gives may : V → V → V → Type 0) → ((v w x : V) → gives v w x → may v w x)
+      → (a : Option (OuterJoinArg K V V)) (found : Option (K × V)) → IsAnswered (Combines gives) MovedKey a found
+      → IsAnswered (Combines may) MovedKey a found
   answered-weaker gives may f None found h = h
   answered-weaker gives may f (Some a) None h = combines-weaker gives may f a None h
   answered-weaker gives may f (Some a) (Some p) h = (combines-weaker gives may f a (Some p.1) h.0, h.1)
 
-  join-weaker : (gives may : V → V → V → Type 0) → ((v w x : V) → gives v w x → may v w x) → IsJoin cmp Outer left_spelling xs ys (Combines gives) MovedKey zs → IsJoin cmp Outer left_spelling xs ys (Combines may) MovedKey zs
+  join-weaker : (gives may : V → V → V → Type 0) → ((v w x : V) → gives v w x → may v w x)
+      → IsJoin cmp Outer left_spelling xs ys (Combines gives) MovedKey zs
+      → IsJoin cmp Outer left_spelling xs ys (Combines may) MovedKey zs
   join-weaker gives may f j = record {
     ascends = j.ascends;
     at = λ k. answered-weaker gives may f (asked_at cmp Outer left_spelling xs ys k) (entry_at cmp zs k) (j.at k);
   }
 
   -- what a closure gives is what it may give
-  pub joins-weaker : {X E : Type 0} (result : Result X E) (gives may : V → V → V → Type 0) → OnOk result (IsJoin cmp Outer left_spelling xs ys (Combines gives) MovedKey zs) → ((v w x : V) → gives v w x → may v w x)
+  pub joins-weaker : {X E : Type 0} (result : Result X E) (gives may : V → V → V → Type 0)
+      → OnOk result (IsJoin cmp Outer left_spelling xs ys (Combines gives) MovedKey zs) → ((v w x : V) → gives v w x → may v w x)
       → OnOk result (IsJoin cmp Outer left_spelling xs ys (Combines may) MovedKey zs)
   joins-weaker result gives may j f = on-ok result (join-weaker gives may f) j
 

@@ -41,7 +41,8 @@ module _ {K V : Type 0} (cmp : K → K → Ordering) (total : IsTotalOrder cmp) 
   pub gap-split : (es : List (K × V)) (key : K) (i : ℕ) → IsGap (λ p. cmp p.0 key) es i → IsSplit es key (take i es) None (drop i es)
   gap-split es key i g = record { is = sym (take-append-drop i es); before = g.less; at = tt; behind = g.greater }
 
-  pub found-split : (es : List (K × V)) (key : K) (i : ℕ) (f : IsFound (λ p. cmp p.0 key) es i) → (p : K × V) × IsSplit es key (take i es) (Some p) (drop (suc i) es) × ((d : K × V) → get_or es i d ≡ p)
+  pub found-split : (es : List (K × V)) (key : K) (i : ℕ) (f : IsFound (λ p. cmp p.0 key) es i)
+      → (p : K × V) × IsSplit es key (take i es) (Some p) (drop (suc i) es) × ((d : K × V) → get_or es i d ≡ p)
   found-split es key i f =
       let s = split-at es i f.within in
       (s.0, record { is = s.1; before = f.less; at = subst (λ (p : K × V). cmp p.0 key ≡ Equal) (s.2 s.0) (f.equal s.0); behind = rw add-one at f.greater }, s.2)
@@ -68,11 +69,14 @@ module _ {K V : Type 0} (cmp : K → K → Ordering) (total : IsTotalOrder cmp) 
   at-mid : (k key : K) (p : K × V) → cmp p.0 key ≡ Equal → is_at (cmp k) p.0 ≡ is_at (cmp k) key
   at-mid k key p e = ap is_eq (alike_right total p.0 key k e)
 
-  mid-here : (k key : K) (mid : Option (K × V)) (back : List (K × V)) → cmp k key ≡ Equal → MatchOption mid (Unit {0}) (λ p. cmp p.0 key ≡ Equal) → AllByRecursion (λ p. cmp p.0 key ≡ Greater) back → entry_at cmp (cons_option mid back) k ≡ mid
+  mid-here : (k key : K) (mid : Option (K × V)) (back : List (K × V)) → cmp k key ≡ Equal
+      → MatchOption mid (Unit {0}) (λ p. cmp p.0 key ≡ Equal) → AllByRecursion (λ p. cmp p.0 key ≡ Greater) back
+      → entry_at cmp (cons_option mid back) k ≡ mid
   mid-here k key None back e at p = none-behind k key back e p
   mid-here k key (Some q) back e at p = ap (λ b. cond b (Some q) (entry_at cmp back k)) (at-mid k key q at ∙ ap is_eq e)
 
-  mid-elsewhere : (k key : K) (mid : Option (K × V)) (back : List (K × V)) → is_at (cmp k) key ≡ false → MatchOption mid (Unit {0}) (λ p. cmp p.0 key ≡ Equal) → entry_at cmp (cons_option mid back) k ≡ entry_at cmp back k
+  mid-elsewhere : (k key : K) (mid : Option (K × V)) (back : List (K × V)) → is_at (cmp k) key ≡ false
+      → MatchOption mid (Unit {0}) (λ p. cmp p.0 key ≡ Equal) → entry_at cmp (cons_option mid back) k ≡ entry_at cmp back k
   mid-elsewhere k key None back e at = refl
   mid-elsewhere k key (Some q) back e at = ap (λ b. cond b (Some q) (entry_at cmp back k)) (at-mid k key q at ∙ e)
 
@@ -97,14 +101,16 @@ module _ {K V : Type 0} (cmp : K → K → Ordering) (total : IsTotalOrder cmp) 
   set-split (y ∷ xs) zero x h = refl
   set-split (y ∷ xs) (suc i) x h = let k : i < length xs = omega arith in ap (λ l. y ∷ l) (set-split xs i x k)
 
-  put-split : (es new : List (K × V)) (key : K) (value : V) (front : List (K × V)) (mid : Option (K × V)) (back : List (K × V)) → IsSplit es key front mid back → new ≡ front ++ (key, value) ∷ back → IsSplit new key front (Some (key, value)) back
+  put-split : (es new : List (K × V)) (key : K) (value : V) (front : List (K × V)) (mid : Option (K × V)) (back : List (K × V))
+      → IsSplit es key front mid back → new ≡ front ++ (key, value) ∷ back → IsSplit new key front (Some (key, value)) back
   put-split es new key value front mid back s e = record { is = e; before = s.before; at = tied_itself total key; behind = s.behind }
 
   put-by : (b : Bool) (x : Option (K × V)) (o p q : Option (K × V)) → o ≡ cond b p q → cond b x q ≡ cond b x o
   put-by true x o p q e = refl
   put-by false x o p q e = sym e
 
-  pub put-entries : (es new : List (K × V)) (key : K) (value : V) (front : List (K × V)) (mid : Option (K × V)) (back : List (K × V)) → IsSplit es key front mid back → new ≡ front ++ (key, value) ∷ back
+  pub put-entries : (es new : List (K × V)) (key : K) (value : V) (front : List (K × V)) (mid : Option (K × V))
+      (back : List (K × V)) → IsSplit es key front mid back → new ≡ front ++ (key, value) ∷ back
       → (k : K) → entry_at cmp new k ≡ cond (eq_by_cmp cmp k key) (Some (key, value)) (entry_at cmp es k)
   put-entries es new key value front mid back s e k =
       let b = eq_by_cmp cmp k key in
@@ -118,7 +124,9 @@ module _ {K V : Type 0} (cmp : K → K → Ordering) (total : IsTotalOrder cmp) 
   pub put-values : (es new : List (K × V)) (key : K) (value : V) → ((k : K) → entry_at cmp new k ≡ cond (eq_by_cmp cmp k key) (Some (key, value)) (entry_at cmp es k))
       → (k : K) → value_at cmp new k ≡ cond (eq_by_cmp cmp k key) (Some value) (value_at cmp es k)
   put-values es new key value h k =
-      value-entry cmp new k ∙ ap (λ o. option_map (λ p. p.1) o) (h k) ∙ value-by (eq_by_cmp cmp k key) key value (entry_at cmp es k) ∙ ap (λ o. cond (eq_by_cmp cmp k key) (Some value) o) (sym (value-entry cmp es k))
+      value-entry cmp new k ∙ ap (λ o. option_map (λ p. p.1) o) (h k)
+      ∙ value-by (eq_by_cmp cmp k key) key value (entry_at cmp es k)
+      ∙ ap (λ o. cond (eq_by_cmp cmp k key) (Some value) o) (sym (value-entry cmp es k))
 
   -- ---- the order of the keys
 
@@ -147,17 +155,25 @@ module _ {K V : Type 0} (cmp : K → K → Ordering) (total : IsTotalOrder cmp) 
   back-ascends None back p = p
   back-ascends (Some q) back p = p.1
 
-  put-ascends_by : (key : K) (value : V) (front : List (K × V)) (mid : Option (K × V)) (back : List (K × V)) → AllByRecursion (λ p. cmp p.0 key ≡ Less) front → AllByRecursion (λ p. cmp p.0 key ≡ Greater) back
+  put-ascends_by : (key : K) (value : V) (front : List (K × V)) (mid : Option (K × V)) (back : List (K × V))
+      → AllByRecursion (λ p. cmp p.0 key ≡ Less) front → AllByRecursion (λ p. cmp p.0 key ≡ Greater) back
       → Ascends (by_first cmp) (front ++ cons_option mid back) → Ascends (by_first cmp) (front ++ (key, value) ∷ back)
   unfolding IsStrictlySortedBy
   put-ascends_by key value [] mid back p q s = (above-key key back q, back-ascends mid back s)
   put-ascends_by key value (x ∷ front) mid back p q s =
-      let P : K × V → Type 0 = λ y. by_first cmp x y ≡ Less in
-      (each-both P front ((key, value) ∷ back) (each-front P front (cons_option mid back) s.0) (p.0, each-of_back P mid back (each-back P front (cons_option mid back) s.0)), put-ascends_by key value front mid back p.1 q s.1)
+      let P : K × V → Type 0 = λ y. by_first cmp x y ≡ Less in (
+        each-both P front ((key, value) ∷ back) (each-front P front (cons_option mid back) s.0)
+            (p.0, each-of_back P mid back (each-back P front (cons_option mid back) s.0)),
+        put-ascends_by key value front mid back p.1 q s.1,
+      )
 
-  pub put-ascends : (es new : List (K × V)) (key : K) (value : V) (front : List (K × V)) (mid : Option (K × V)) (back : List (K × V)) → IsSplit es key front mid back → new ≡ front ++ (key, value) ∷ back → AscendsByKey cmp es → AscendsByKey cmp new
+  pub put-ascends : (es new : List (K × V)) (key : K) (value : V) (front : List (K × V)) (mid : Option (K × V))
+      (back : List (K × V)) → IsSplit es key front mid back → new ≡ front ++ (key, value) ∷ back → AscendsByKey cmp es
+      → AscendsByKey cmp new
   put-ascends es new key value front mid back s e p =
-      subst (λ l. AscendsByKey cmp l) (sym e) (keys-ascend cmp (front ++ (key, value) ∷ back) (put-ascends_by key value front mid back s.before s.behind (subst (λ l. Ascends (by_first cmp) l) s.is (pairs-ascend cmp es p))))
+      subst (λ l. AscendsByKey cmp l) (sym e) (keys-ascend cmp (front ++ (key, value) ∷ back)
+      (put-ascends_by key value front mid back s.before s.behind
+      (subst (λ l. Ascends (by_first cmp) l) s.is (pairs-ascend cmp es p))))
 
   -- ---- what a search tells
 
@@ -175,20 +191,23 @@ module _ {K V : Type 0} (cmp : K → K → Ordering) (total : IsTotalOrder cmp) 
     pub entries : (k : K) → entry_at cmp new k ≡ cond (eq_by_cmp cmp k key) (Some (key, value)) (entry_at cmp es k)
     pub values : (k : K) → value_at cmp new k ≡ cond (eq_by_cmp cmp k key) (Some value) (value_at cmp es k)
 
-  put-of : (es new : List (K × V)) (key : K) (value : V) (front : List (K × V)) (mid : Option (K × V)) (back : List (K × V)) → IsSplit es key front mid back → AscendsByKey cmp es → new ≡ front ++ (key, value) ∷ back → IsPut es key value new
+  put-of : (es new : List (K × V)) (key : K) (value : V) (front : List (K × V)) (mid : Option (K × V)) (back : List (K × V))
+      → IsSplit es key front mid back → AscendsByKey cmp es → new ≡ front ++ (key, value) ∷ back → IsPut es key value new
   put-of es new key value front mid back s p e =
       let h = put-entries es new key value front mid back s e in
       record { ascends = put-ascends es new key value front mid back s e p; entries = h; values = put-values es new key value h }
 
   -- over the pair with an equal key
-  pub found-put : (es slice new : List (K × V)) (key : K) (value : V) (i : ℕ) → slice ≡ es → IsFound (λ p. cmp p.0 key) slice i → AscendsByKey cmp es → new ≡ set es i (key, value) → IsPut es key value new
+  pub found-put : (es slice new : List (K × V)) (key : K) (value : V) (i : ℕ) → slice ≡ es → IsFound (λ p. cmp p.0 key) slice i
+      → AscendsByKey cmp es → new ≡ set es i (key, value) → IsPut es key value new
   found-put es slice new key value i e f p n =
       let g : IsFound (λ (p : K × V). cmp p.0 key) es i = subst (λ l. IsFound (λ (p : K × V). cmp p.0 key) l i) e f in
       let s = found-split es key i g in
       put-of es new key value (take i es) (Some s.0) (drop (suc i) es) s.1 p (n ∙ set-split es i (key, value) g.within)
 
   -- between the pairs with lesser keys and those with greater ones
-  pub gap-put : (es slice new : List (K × V)) (key : K) (value : V) (i : ℕ) → slice ≡ es → IsGap (λ p. cmp p.0 key) slice i → AscendsByKey cmp es → new ≡ take i es ++ (key, value) ∷ drop i es → IsPut es key value new
+  pub gap-put : (es slice new : List (K × V)) (key : K) (value : V) (i : ℕ) → slice ≡ es → IsGap (λ p. cmp p.0 key) slice i
+      → AscendsByKey cmp es → new ≡ take i es ++ (key, value) ∷ drop i es → IsPut es key value new
   gap-put es slice new key value i e f p n =
       let g : IsGap (λ (p : K × V). cmp p.0 key) es i = subst (λ l. IsGap (λ (p : K × V). cmp p.0 key) l i) e f in
       put-of es new key value (take i es) None (drop i es) (gap-split es key i g) p n

@@ -82,7 +82,8 @@ heads-some P [] ys p = absurd p
 heads-some P (x ∷ xs) [] p = absurd p
 heads-some P (x ∷ xs) (y ∷ ys) p = (omega arith, omega arith)
 
-module _ {K V W X M N : Type 0} (May : OuterJoinArg K V W → Option X → Type 0) (Keeps : OuterJoinArg K V W → K → Type 0) (kind : JoinKind) (built : M → List (K × X)) (name : M → N) (op : Allows M (K × V) (K × W)) where
+module _ {K V W X M N : Type 0} (May : OuterJoinArg K V W → Option X → Type 0) (Keeps : OuterJoinArg K V W → K → Type 0)
+    (kind : JoinKind) (built : M → List (K × X)) (name : M → N) (op : Allows M (K × V) (K × W)) where
   -- what a state that asks answers at each event
   pub record IsAsking : Type 0 where
     pub from_a : (s t : M) (n : ℕ) (answer : Answer) → op.gives.from_a s n answer t
@@ -157,6 +158,9 @@ module _ {K V W X M N : Type 0} (May : OuterJoinArg K V W → Option X → Type 
       → (s t : M) (result : Result (Unit {0}) AllocError) → IsMerged op (by_key cmp) s result t → IsAskingAlways → built s ≡ []
       → (name t ≡ name s) × IsJoin cmp kind left_spelling (op.left s) (op.right s) May Keeps (built t)
   always-join {cmp} total kept s t result m is e =
-      let done = merged-is_ok op (by_key cmp) s t result m (λ s t n answer h. always _ _ _ (asks_left kind) (is.from_a s t n answer h)) (λ s t n answer h. always _ _ _ (asks_right kind) (is.from_b s t n answer h)) (λ s t answer h. (is.collision s t answer h).0) in
+      let done = merged-is_ok op (by_key cmp) s t result m
+      (λ s t n answer h. always _ _ _ (asks_left kind) (is.from_a s t n answer h))
+      (λ s t n answer h. always _ _ _ (asks_right kind) (is.from_b s t n answer h))
+      (λ s t answer h. (is.collision s t answer h).0) in
       let named = merged-builds built name op (AnswersEvent kind left_spelling May Keeps) (asking-builds (always-asking is)) (by_key cmp) s t done in
       (named.0, merged-join total kept (always-asking is) s t (op.left s) (op.right s) (built t) refl refl e (λ _. refl) done)

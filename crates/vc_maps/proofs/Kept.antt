@@ -151,7 +151,8 @@ pub set-false : (n : ℕ) → n ≡ 0 → has_keys n ≡ false
 set-false n h = ap has_keys h
 
 -- what was added to a list, read where its parts stand
-pub appends-in : {X Z : Type 0} (gives : X → List Z → Type 0) (xs xs' : List X) (old old' new new' : List Z) → xs' ≡ xs → old' ≡ old → new ≡ new' → Appends gives xs' old' new' → Appends gives xs old new
+pub appends-in : {X Z : Type 0} (gives : X → List Z → Type 0) (xs xs' : List X) (old old' new new' : List Z) → xs' ≡ xs
+    → old' ≡ old → new ≡ new' → Appends gives xs' old' new' → Appends gives xs old new
 appends-in gives xs xs' old old' new new' e f h p = rw (sym e, sym f, h) p
 
 -- what a part from the beginning has
@@ -159,6 +160,7 @@ pub front-part : {X : Type 0} (xs : List X) (e : ℕ) → slice_range xs 0 e ≡
 front-part xs e = let k : e - 0 ≡ e = omega arith in ap (λ n. take n xs) k
 
 -- a join of what was left of two maps, in the list that it was built in
-pub join-moved : {K V W X : Type 0} (cmp : K → K → Ordering) (kind : JoinKind) (May : OuterJoinArg K V W → Option X → Type 0) (Keeps : OuterJoinArg K V W → K → Type 0) (xs xs' : List (K × V)) (ys ys' : List (K × W)) (zs zs' : List (K × X))
+pub join-moved : {K V W X : Type 0} (cmp : K → K → Ordering) (kind : JoinKind) (May : OuterJoinArg K V W → Option X → Type 0)
+    (Keeps : OuterJoinArg K V W → K → Type 0) (xs xs' : List (K × V)) (ys ys' : List (K × W)) (zs zs' : List (K × X))
     → xs' ≡ xs → ys' ≡ ys → IsJoin cmp kind left_spelling xs' ys' May Keeps zs' → zs ≡ zs' → IsJoin cmp kind left_spelling xs ys May Keeps zs
 join-moved cmp kind May Keeps xs xs' ys ys' zs zs' e f h i = subst (λ l. IsJoin cmp kind left_spelling xs ys May Keeps l) (sym i) (join-of cmp kind May Keeps xs xs' ys ys' zs' e f h)

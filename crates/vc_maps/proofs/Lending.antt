@@ -16,7 +16,9 @@ use Rattle.vc_maps.proofs.Editing.{found-split, found-value, gap-value, set-spli
 use mathlib.Core.Bool.{true≢false}
 
 module _ {K V : Type 0} where
-  none-by : (b : Bool) (test : K → Bool) (e : K × V) (es : List (K × V)) (w : V) → (lookup test es ≡ None → set_value test es w ≡ es) → cond b (Some e.1) (lookup test es) ≡ None → cond b ((e.0, w) ∷ es) (e ∷ set_value test es w) ≡ e ∷ es
+  none-by : (b : Bool) (test : K → Bool) (e : K × V) (es : List (K × V)) (w : V)
+      → (lookup test es ≡ None → set_value test es w ≡ es) → cond b (Some e.1) (lookup test es) ≡ None
+      → cond b ((e.0, w) ∷ es) (e ∷ set_value test es w) ≡ e ∷ es
   none-by true test e es w later h = absurd (true≢false (ap is_some h))
   none-by false test e es w later h = ap (λ l. e ∷ l) (later h)
 

@@ -1,11 +1,11 @@
 -- Maps whose values are turned into others: one more pair, and what stands at each key.
-use Rattle.std.proofs.Common.{◌≡◌, ℕ, zero, suc, ◌+◌, ◌<◌, Bool, true, false, cond, List, [], ◌∷◌, ◌++◌, length, take, drop, get_or, Option, Some, refl, sym, ap, subst, ◌∙◌, arith}
+use Rattle.std.proofs.Common.{◌≡◌, ℕ, zero, suc, ◌+◌, ◌<◌, Bool, true, false, cond, List, [], ◌∷◌, ◌++◌, length, take, drop, get_or, Option, Some, refl, sym, ap, subst, ◌∙◌, arith, add-one, drop-cons}
 use Rattle.std.specs.BTreeMap.{is_at}
 use Rattle.std.specs.Map.{keys_of, values_of}
 use Rattle.std.specs.declared.cmp.Ordering.{Ordering}
 use Rattle.std.proofs.lemmas.List.{take_more}
 use Rattle.vc_joins.specs.Entries.{entry_at}
-use Rattle.vc_maps.specs.Mapping.{AnswersInTurn, IsMapped}
+use Rattle.vc_maps.specs.Mapping.{AnswersInTurn, MapsEntry}
 
 keys-push : {K X : Type 0} (ps : List (K × X)) (p : K × X) → keys_of (ps ++ p ∷ []) ≡ keys_of ps ++ p.0 ∷ []
 keys-push [] p = refl
@@ -28,8 +28,15 @@ take-next now old i x e h l f =
     let k : i < length old = subst (λ n. i < n) l h in
     take_more old i x k ∙ ap (λ y. take i old ++ y ∷ []) (sym (same-at now old i x e h k f))
 
+-- the same of what is left
+pub drop-next : {X : Type 0} (now old : List X) (i : ℕ) (x : X) → drop i now ≡ drop i old → i < length now → length now ≡ length old → x ≡ get_or now i x → drop i old ≡ x ∷ drop (i + 1) old
+drop-next now old i x e h l f =
+    let k : i < length old = subst (λ n. i < n) l h in
+    drop-cons old i x k ∙ ap (λ y. y ∷ drop (suc i) old) (sym (same-at now old i x e h k f)) ∙ ap (λ j. x ∷ drop j old) (sym (add-one i))
+
 module _ {F V X : Type 0} (calls : F → V → X → F → Type 0) where
-  answers-push : (f : F) (vs : List V) (xs : List X) (mid : F) (v : V) (x : X) (last : F) → AnswersInTurn calls f vs xs mid → calls mid v x last → AnswersInTurn calls f (vs ++ v ∷ []) (xs ++ x ∷ []) last
+  answers-push : (f : F) (vs : List V) (xs : List X) (mid : F) (v : V) (x : X) (last : F) → AnswersInTurn calls f vs xs mid
+      → calls mid v x last → AnswersInTurn calls f (vs ++ v ∷ []) (xs ++ x ∷ []) last
   answers-push f [] [] mid v x last p c = (last, subst (λ s. calls s v x last) (sym p) c, refl)
   answers-push f [] (y ∷ xs) mid v x last p c = absurd p
   answers-push f (w ∷ vs) [] mid v x last p c = absurd p
@@ -52,25 +59,29 @@ module _ {K V X : Type 0} where
         (answers-push calls f (values_of (take i ps)) (values_of old) mid p.1 x last a c))
 
     -- what stands where the key is that of the first pair, or another one
-    head-mapped : (b : Bool) (p : K × V) (q : K × X) (f g : F) → q.0 ≡ p.0 → calls f p.1 q.1 g → (found : Option (K × V)) (rest : Option (K × X)) → IsMapped calls found rest → IsMapped calls (cond b (Some p) found) (cond b (Some q) rest)
+    head-mapped : (b : Bool) (p : K × V) (q : K × X) (f g : F) → q.0 ≡ p.0 → calls f p.1 q.1 g
+        → (found : Option (K × V)) (rest : Option (K × X)) → MapsEntry calls found rest
+        → MapsEntry calls (cond b (Some p) found) (cond b (Some q) rest)
     head-mapped true p q f g e c found rest h = (f, g, q.1, c, ap (λ k. Some (k, q.1)) e)
     head-mapped false p q f g e c found rest h = h
 
     -- what stands at each key of a map whose values were handed over in turn
     pub entries-mapped : (cmp : K → K → Ordering) (ps : List (K × V)) (qs : List (K × X)) (f last : F) → keys_of qs ≡ keys_of ps → AnswersInTurn calls f (values_of ps) (values_of qs) last
-        → (k : K) → IsMapped calls (entry_at cmp ps k) (entry_at cmp qs k)
+        → (k : K) → MapsEntry calls (entry_at cmp ps k) (entry_at cmp qs k)
     entries-mapped cmp [] [] f last e a k = refl
     entries-mapped cmp [] (q ∷ qs) f last e a k = absurd a
     entries-mapped cmp (p ∷ ps) [] f last e a k = absurd a
     entries-mapped cmp (p ∷ ps) (q ∷ qs) f last e a k =
         let same : q.0 ≡ p.0 = cc in let rest : keys_of qs ≡ keys_of ps = cc in
-        subst (λ j. IsMapped calls (cond (is_at (cmp k) p.0) (Some p) (entry_at cmp ps k)) (cond (is_at (cmp k) j) (Some q) (entry_at cmp qs k))) (sym same)
+        subst (λ j. MapsEntry calls (cond (is_at (cmp k) p.0) (Some p) (entry_at cmp ps k)) (cond (is_at (cmp k) j) (Some q) (entry_at cmp qs k))) (sym same)
         (head-mapped (is_at (cmp k) p.0) p q f a.0 same a.1 (entry_at cmp ps k) (entry_at cmp qs k) (entries-mapped cmp ps qs a.0 last rest a.2 k))
 
     -- the same, of a slice of the pairs
-    pub slice-mapped : (cmp : K → K → Ordering) (ps slice : List (K × V)) (qs : List (K × X)) (f last : F) → slice ≡ ps → keys_of qs ≡ keys_of slice → AnswersInTurn calls f (values_of slice) (values_of qs) last
-        → (k : K) → IsMapped calls (entry_at cmp ps k) (entry_at cmp qs k)
-    slice-mapped cmp ps slice qs f last e h a = subst (λ l. (k : K) → IsMapped calls (entry_at cmp l k) (entry_at cmp qs k)) e (entries-mapped cmp slice qs f last h a)
+    pub slice-mapped : (cmp : K → K → Ordering) (ps slice : List (K × V)) (qs : List (K × X)) (f last : F) → slice ≡ ps
+        → keys_of qs ≡ keys_of slice → AnswersInTurn calls f (values_of slice) (values_of qs) last
+        → (k : K) → MapsEntry calls (entry_at cmp ps k) (entry_at cmp qs k)
+    slice-mapped cmp ps slice qs f last e h a = subst (λ l. (k : K) → MapsEntry calls (entry_at cmp l k) (entry_at cmp qs k)) e (entries-mapped cmp slice qs f last h a)
 
-    pub slice-answers : (ps slice : List (K × V)) (qs : List (K × X)) (f last : F) → slice ≡ ps → AnswersInTurn calls f (values_of slice) (values_of qs) last → AnswersInTurn calls f (values_of ps) (values_of qs) last
+    pub slice-answers : (ps slice : List (K × V)) (qs : List (K × X)) (f last : F) → slice ≡ ps
+        → AnswersInTurn calls f (values_of slice) (values_of qs) last → AnswersInTurn calls f (values_of ps) (values_of qs) last
     slice-answers ps slice qs f last e a = subst (λ l. AnswersInTurn calls f (values_of l) (values_of qs) last) e a

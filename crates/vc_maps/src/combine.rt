@@ -21,7 +21,8 @@ use vc_merge::lists::append_moved;
 use vc_merge::merge::{MergeFromRight, MergeState, MergeStateMut, Uncounted, merge};
 use vc_merge::parts::{PartsState, Spans, open_gap};
 
-/// A closure that makes one value of the two that stand at a key of both maps. A value of one map alone stays.
+/// A closure that makes one value of the two that stand at a key of both maps. A value of one map
+/// alone stays.
 #[derive(Drop)]
 pub struct AskShared<'f, F>(pub &'f F);
 
@@ -60,7 +61,8 @@ impl<'a, 'c, K, V, A> MergeStateMut for CombineState<'a, 'c, K, V, A> {
 
     ghost ready = { λ _. Unit {0} };
 
-    ghost advances_a = { λ s n take answer t. IsOk answer × Skips built_pairs list_name s answer t };
+    ghost advances_a = { λ s n take answer t. IsOk answer
+        × Skips built_pairs list_name s answer t };
 
     ghost skips_b = { λ s n answer t. IsOk answer × Skips built_pairs list_name s answer t };
 
@@ -103,14 +105,18 @@ where
 
     ghost takes = { λ q a. CanCombine (λ v w. F.pre q.0.now v w) a };
 
-    ghost asks_a = { λ q s n answer t. IsOk answer × Adds built_pairs list_name
-        (λ p. AnswerAdds (Combines (λ v w x. F.post q.0.now v w x)) MovedKey (Some (arg.Left p.0 p.1))) (take n (left_pairs s)) s answer t };
+    ghost asks_a = { λ q s n answer t. IsOk answer
+        × Adds built_pairs list_name (λ p. AnswerAdds (Combines (λ v w x. F.post q.0.now v w x))
+        MovedKey (Some (arg.Left p.0 p.1))) (take n (left_pairs s)) s answer t };
 
-    ghost asks_b = { λ q s n answer t. IsOk answer × Adds built_pairs list_name
-        (λ p. AnswerAdds (Combines (λ v w x. F.post q.0.now v w x)) MovedKey (Some (arg.Right p.0 p.1))) (take n (right_pairs s)) s answer t };
+    ghost asks_b = { λ q s n answer t. IsOk answer
+        × Adds built_pairs list_name (λ p. AnswerAdds (Combines (λ v w x. F.post q.0.now v w x))
+        MovedKey (Some (arg.Right p.0 p.1))) (take n (right_pairs s)) s answer t };
 
-    ghost asks_both = { λ q s answer t. IsOk answer × AtHeads (λ p r. Adds built_pairs list_name
-        (λ a. AnswerAdds (Combines (λ v w x. F.post q.0.now v w x)) MovedKey (Some a)) (arg.Both p.0 p.1 r.1 ∷ []) s answer t) (left_pairs s) (right_pairs s) };
+    ghost asks_both = { λ q s answer t. IsOk answer
+        × AtHeads (λ p r. Adds built_pairs list_name
+        (λ a. AnswerAdds (Combines (λ v w x. F.post q.0.now v w x)) MovedKey (Some a))
+        (arg.Both p.0 p.1 r.1 ∷ []) s answer t) (left_pairs s) (right_pairs s) };
 
     fn ask_a(&mut self, _question: &AskShared<'f, F>, n: usize) -> Result<bool, AllocError> {
         self.spans = lefts_taken(self.list, self.spans, n);
@@ -128,38 +134,40 @@ where
     }
 }
 
-/// Moves the first `n` pairs that are left of the left part to the end of what is built, in a list whose parts stand at `spans`. Answers where
-/// they stand then.
+/// Moves the first `n` pairs that are left of the left part to the end of what is built, in a list
+/// whose parts stand at `spans`. Answers where they stand then.
 fn lefts_taken<T>(list: &mut [T], spans: Spans, n: usize) -> Spans
     requires places { spans.next ≤ length list.old }
     requires within { n ≤ length (left_at spans list.old) }
     ensures places { result.next ≤ length list.new }
     ensures left { left_at result list.new ≡ drop n (left_at spans list.old) }
     ensures right { right_at result list.new ≡ right_at spans list.old }
-    ensures built { built_at result list.new ≡ built_at spans list.old ++ take n (left_at spans list.old) }
+    ensures built { built_at result list.new
+        ≡ built_at spans list.old ++ take n (left_at spans list.old) }
 {
     let mut parts = PartsState::at(list, spans);
     let _never_refused = parts.advance_a(n, true);
     parts.spans()
 }
 
-/// Moves the first `n` pairs that are left of the right part to the end of what is built, in a list whose parts stand at `spans`. Answers where
-/// they stand then.
+/// Moves the first `n` pairs that are left of the right part to the end of what is built, in a list
+/// whose parts stand at `spans`. Answers where they stand then.
 fn rights_taken<T>(list: &mut [T], spans: Spans, n: usize) -> Spans
     requires places { spans.next ≤ length list.old }
     requires within { n ≤ length (right_at spans list.old) }
     ensures places { result.next ≤ length list.new }
     ensures left { left_at result list.new ≡ left_at spans list.old }
     ensures right { right_at result list.new ≡ drop n (right_at spans list.old) }
-    ensures built { built_at result list.new ≡ built_at spans list.old ++ take n (right_at spans list.old) }
+    ensures built { built_at result list.new
+        ≡ built_at spans list.old ++ take n (right_at spans list.old) }
 {
     let mut parts = PartsState::at(list, spans);
     let _never_refused = parts.take_b(n);
     parts.spans()
 }
 
-/// Makes one pair of the first one that is left of each part, which have equal keys, in a list whose parts stand at `spans`. Its key is that
-/// of the left part. Answers where they stand then.
+/// Makes one pair of the first one that is left of each part, which have equal keys, in a list
+/// whose parts stand at `spans`. Its key is that of the left part. Answers where they stand then.
 fn pair_combined<K: Drop, V: Drop, A: Allocator + Copy, F: Fn(V, V) -> V>(
     list: &mut [(K, V)],
     spans: Spans,
@@ -169,12 +177,15 @@ fn pair_combined<K: Drop, V: Drop, A: Allocator + Copy, F: Fn(V, V) -> V>(
 where
     (K, V): MadeWith<A>,
     requires places { spans.next ≤ length list.old }
-    requires callable { AtHeads (λ p r. F.pre f.now p.1 r.1) (left_at spans list.old) (right_at spans list.old) }
+    requires callable { AtHeads (λ p r. F.pre f.now p.1 r.1) (left_at spans list.old)
+        (right_at spans list.old) }
     ensures places { result.next ≤ length list.new }
     ensures left { left_at result list.new ≡ drop 1 (left_at spans list.old) }
     ensures right { right_at result list.new ≡ drop 1 (right_at spans list.old) }
-    ensures built { AtHeads (λ p r. Appends (λ a. AnswerAdds (Combines (λ v w x. F.post f.now v w x)) MovedKey (Some a)) (arg.Both p.0 p.1 r.1 ∷ [])
-        (built_at spans list.old) (built_at result list.new)) (left_at spans list.old) (right_at spans list.old) }
+    ensures built { AtHeads (λ p r. Appends
+        (λ a. AnswerAdds (Combines (λ v w x. F.post f.now v w x)) MovedKey (Some a))
+        (arg.Both p.0 p.1 r.1 ∷ []) (built_at spans list.old) (built_at result list.new))
+        (left_at spans list.old) (right_at spans list.old) }
 {
     let mut parts = PartsState::at(list, spans);
     let (_, other) = parts.replace_right(<(K, V)>::made_with(alloc));
@@ -185,8 +196,8 @@ where
     parts.spans()
 }
 
-/// Moves the pairs of two parts of a list to its front, where two with equal keys become one. The parts are its first `end` pairs and those
-/// from `next` on. Answers how many pairs these are then.
+/// Moves the pairs of two parts of a list to its front, where two with equal keys become one. The
+/// parts are its first `end` pairs and those from `next` on. Answers how many pairs these are then.
 pub fn combine_parts<K: Ord + Drop, V: Drop, A: Allocator + Copy, F: Fn(V, V) -> V>(
     alloc: &A,
     list: &mut [(K, V)],
@@ -200,8 +211,11 @@ where
     requires within { next ≤ length list.old }
     requires left_ascends { AscendsByKey K.cmp (take end list.old) }
     requires right_ascends { AscendsByKey K.cmp (drop next list.old) }
-    requires callable { (k : _) (v : _) (w : _) → IsAsked K.cmp JoinKind.Outer left_spelling (take end list.old) (drop next list.old) (arg.Both k v w) → F.pre f.now v w }
-    ensures { IsJoin K.cmp JoinKind.Outer left_spelling (take end list.old) (drop next list.old) (Combines (λ v w x. F.post f.now v w x)) MovedKey (take result list.new) }
+    requires callable { (k : _) (v : _) (w : _)
+        → IsAsked K.cmp JoinKind.Outer left_spelling (take end list.old) (drop next list.old)
+        (arg.Both k v w) → F.pre f.now v w }
+    ensures { IsJoin K.cmp JoinKind.Outer left_spelling (take end list.old) (drop next list.old)
+        (Combines (λ v w x. F.post f.now v w x)) MovedKey (take result list.new) }
 {
     let spans = Spans {
         built: 0,
@@ -219,14 +233,16 @@ where
     state.spans.built
 }
 
-/// Moves the elements of `that` behind those of a list and a gap. Answers the place of the first of them.
+/// Moves the elements of `that` behind those of a list and a gap. Answers the place of the first of
+/// them.
 ///
 /// The one growth comes before the first element is moved. Refused, the list has its elements.
 pub fn append_behind<T: MadeWith<A> + Drop, const N: usize, const M: usize, A: Allocator + Copy>(
     list: &mut SmallVec<T, N, A>,
     that: SmallVec<T, M, A>,
 ) -> Result<usize, AllocError>
-    ensures order { IfOk result (λ next. (length list.old.items ≤ next) × (next ≤ length list.new.items)) }
+    ensures order { IfOk result
+        (λ next. (length list.old.items ≤ next) × (next ≤ length list.new.items)) }
     ensures front { OnOk result (take (length list.old.items) list.new.items ≡ list.old.items) }
     ensures behind { IfOk result (λ next. drop next list.new.items ≡ that.items) }
     ensures err { OnErr result (list.new.items ≡ list.old.items) }

@@ -1,4 +1,5 @@
-//! Joins that build a fresh list: the pairs of both maps are shown, and each answer stands under a clone of the key that was shown.
+//! Joins that build a fresh list: the pairs of both maps are shown, and each answer stands under a
+//! clone of the key that was shown.
 ghost use Rattle.std.specs.Prelude.{◌≡◌, ◌+◌, ◌≤◌, [], ◌∷◌, ◌++◌, List, Ok, Some, take, length, IfOk, OnOk};
 ghost use Rattle.std.specs.List.{AllByRecursion};
 ghost use Rattle.std.specs.Option.{MatchOption};
@@ -99,7 +100,8 @@ impl<'a, 'b, 's, K, V, W, S: PairList> MergeStateMut for FreshState<'a, 'b, 's, 
 
     ghost ready = { λ _. Unit {0} };
 
-    ghost advances_a = { λ s n take answer t. Skips (λ s. S.pairs (lent_list s).now) list_name s answer t };
+    ghost advances_a = { λ s n take answer t.
+        Skips (λ s. S.pairs (lent_list s).now) list_name s answer t };
 
     ghost skips_b = { λ s n answer t. Skips (λ s. S.pairs (lent_list s).now) list_name s answer t };
 
@@ -130,13 +132,17 @@ impl<
     ghost takes = { Q.takes };
 
     ghost asks_a = { λ q s n answer t. Adds (λ s. S.pairs (lent_list s).now) list_name
-        (λ p. AnswerAdds (λ a r. Q.may q a (Ok r)) (ClonedKey K.is_clone) (Some (arg.Left p.0 p.1))) (take n (left_pairs s)) s answer t };
+        (λ p. AnswerAdds (λ a r. Q.may q a (Ok r)) (ClonedKey K.is_clone) (Some (arg.Left p.0 p.1)))
+        (take n (left_pairs s)) s answer t };
 
     ghost asks_b = { λ q s n answer t. Adds (λ s. S.pairs (lent_list s).now) list_name
-        (λ p. AnswerAdds (λ a r. Q.may q a (Ok r)) (ClonedKey K.is_clone) (Some (arg.Right p.0 p.1))) (take n (right_pairs s)) s answer t };
+        (λ p. AnswerAdds (λ a r. Q.may q a (Ok r)) (ClonedKey K.is_clone)
+        (Some (arg.Right p.0 p.1))) (take n (right_pairs s)) s answer t };
 
-    ghost asks_both = { λ q s answer t. AtHeads (λ p r. Adds (λ s. S.pairs (lent_list s).now) list_name
-        (λ a. AnswerAdds (λ a r. Q.may q a (Ok r)) (ClonedKey K.is_clone) (Some a)) (arg.Both p.0 p.1 r.1 ∷ []) s answer t) (left_pairs s) (right_pairs s) };
+    ghost asks_both = { λ q s answer t. AtHeads
+        (λ p r. Adds (λ s. S.pairs (lent_list s).now) list_name
+        (λ a. AnswerAdds (λ a r. Q.may q a (Ok r)) (ClonedKey K.is_clone) (Some a))
+        (arg.Both p.0 p.1 r.1 ∷ []) s answer t) (left_pairs s) (right_pairs s) };
 
     fn ask_a(&mut self, question: &Q, n: usize) -> Result<bool, AllocError> {
         ask_lefts(self.built, question, &self.a[..n])?;
@@ -169,7 +175,9 @@ fn ask_lefts<
     Q: Question<K, V, W, X>,
 >(built: &mut S, question: &Q, pairs: &[(K, V)]) -> Result<(), AllocError>
     requires { AllByRecursion (λ p. Q.takes question.now (arg.Left p.0 p.1)) pairs.now }
-    ensures { OnOk result (Appends (λ p. AnswerAdds (λ a r. Q.may question.now a (Ok r)) (ClonedKey K.is_clone) (Some (arg.Left p.0 p.1))) pairs.now (S.pairs built.old) (S.pairs built.new)) }
+    ensures { OnOk result
+        (Appends (λ p. AnswerAdds (λ a r. Q.may question.now a (Ok r)) (ClonedKey K.is_clone)
+        (Some (arg.Left p.0 p.1))) pairs.now (S.pairs built.old) (S.pairs built.new)) }
 {
     'pairs: for pair in pairs {
         let answer = ask_left(question, pair)?;
@@ -188,7 +196,9 @@ fn ask_rights<
     Q: Question<K, V, W, X>,
 >(built: &mut S, question: &Q, pairs: &[(K, W)]) -> Result<(), AllocError>
     requires { AllByRecursion (λ p. Q.takes question.now (arg.Right p.0 p.1)) pairs.now }
-    ensures { OnOk result (Appends (λ p. AnswerAdds (λ a r. Q.may question.now a (Ok r)) (ClonedKey K.is_clone) (Some (arg.Right p.0 p.1))) pairs.now (S.pairs built.old) (S.pairs built.new)) }
+    ensures { OnOk result
+        (Appends (λ p. AnswerAdds (λ a r. Q.may question.now a (Ok r)) (ClonedKey K.is_clone)
+        (Some (arg.Right p.0 p.1))) pairs.now (S.pairs built.old) (S.pairs built.new)) }
 {
     'pairs: for pair in pairs {
         let answer = ask_right(question, pair)?;
@@ -207,14 +217,18 @@ fn ask_pairs<
     Q: Question<K, V, W, X>,
 >(built: &mut S, question: &Q, left: &(K, V), right: &(K, W)) -> Result<(), AllocError>
     requires { Q.takes question.now (arg.Both left.now.0 left.now.1 right.now.1) }
-    ensures { OnOk result (Appends (λ a. AnswerAdds (λ a r. Q.may question.now a (Ok r)) (ClonedKey K.is_clone) (Some a)) (arg.Both left.now.0 left.now.1 right.now.1 ∷ []) (S.pairs built.old) (S.pairs built.new)) }
+    ensures { OnOk result
+        (Appends (λ a. AnswerAdds (λ a r. Q.may question.now a (Ok r)) (ClonedKey K.is_clone)
+        (Some a)) (arg.Both left.now.0 left.now.1 right.now.1 ∷ []) (S.pairs built.old)
+        (S.pairs built.new)) }
 {
     let answer = question.ask(OuterJoinArg::Both(&left.0, &left.1, &right.1))?;
     append_answer(built, &left.0, answer)?;
     Ok(())
 }
 
-/// Asks at a pair that stands on the left alone. One lifetime serves for the right, which has none of its own.
+/// Asks at a pair that stands on the left alone. One lifetime serves for the right, which has none
+/// of its own.
 fn ask_left<'a, K, V, W: 'a, X, Q: Question<K, V, W, X>>(
     question: &Q,
     pair: &'a (K, V),
@@ -226,7 +240,8 @@ fn ask_left<'a, K, V, W: 'a, X, Q: Question<K, V, W, X>>(
     question.ask(arg)
 }
 
-/// Asks at a pair that stands on the right alone. One lifetime serves for the left, which has none of its own.
+/// Asks at a pair that stands on the right alone. One lifetime serves for the left, which has none
+/// of its own.
 fn ask_right<'a, K, V: 'a, W, X, Q: Question<K, V, W, X>>(
     question: &Q,
     pair: &'a (K, W),
@@ -244,7 +259,9 @@ fn append_answer<K: Clone + Drop, X: Drop, S: PairList<Key = K, Value = X>>(
     key: &K,
     answer: Option<X>,
 ) -> Result<(), AllocError>
-    ensures { OnOk result (MatchOption answer (S.pairs built.new ≡ S.pairs built.old) (λ x. (k : K) × K.is_clone key.now k × (S.pairs built.new ≡ S.pairs built.old ++ (k, x) ∷ []))) }
+    ensures { OnOk result (MatchOption answer (S.pairs built.new ≡ S.pairs built.old)
+        (λ x. (k : K) × K.is_clone key.now k
+        × (S.pairs built.new ≡ S.pairs built.old ++ (k, x) ∷ []))) }
 {
     if let Some(value) = answer {
         built.append(key.clone()?, value)?;
@@ -278,8 +295,10 @@ where
     requires that_ascends { AscendsByKey K.cmp that.now }
     requires clones { ClonesAreEqual K.cmp K.is_clone }
     requires takes { TakesEach K.cmp kind (Q.takes question.now) this.now that.now }
-    ensures joins { IfOk result (λ v. IsJoin K.cmp kind left_spelling this.now that.now (λ a r. Q.may question.now a (Ok r)) (ClonedKey K.is_clone) v.items) }
-    ensures counted { C.counted steps.new ≤ C.counted steps.old + bound (length this.now) (length that.now) }
+    ensures joins { IfOk result (λ v. IsJoin K.cmp kind left_spelling this.now that.now
+        (λ a r. Q.may question.now a (Ok r)) (ClonedKey K.is_clone) v.items) }
+    ensures counted { C.counted steps.new
+        ≤ C.counted steps.old + bound (length this.now) (length that.now) }
 {
     let mut built = SmallVec::new(alloc);
     let mut state = FreshState::new(this, that, &mut built);
@@ -307,8 +326,10 @@ where
     requires this_ascends { AscendsByKey K.cmp this.now }
     requires that_ascends { AscendsByKey K.cmp that.now }
     requires clones { ClonesAreEqual K.cmp K.is_clone }
-    requires takes { (a : _) → IsAsked K.cmp JoinKind.Outer left_spelling this.now that.now a → Q.takes question.now a }
-    ensures joins { IfOk result (λ v. IsJoin K.cmp JoinKind.Outer left_spelling this.now that.now (λ a r. Q.may question.now a (Ok r)) (ClonedKey K.is_clone) v.items) }
+    requires takes { (a : _) → IsAsked K.cmp JoinKind.Outer left_spelling this.now that.now a
+        → Q.takes question.now a }
+    ensures joins { IfOk result (λ v. IsJoin K.cmp JoinKind.Outer left_spelling this.now that.now
+        (λ a r. Q.may question.now a (Ok r)) (ClonedKey K.is_clone) v.items) }
 {
     join(alloc, this, that, JoinKind::Outer, question, &mut Uncounted)
 }
@@ -328,8 +349,10 @@ where
     requires this_ascends { AscendsByKey K.cmp this.now }
     requires that_ascends { AscendsByKey K.cmp that.now }
     requires clones { ClonesAreEqual K.cmp K.is_clone }
-    requires callable { (a : _) → IsAsked K.cmp JoinKind.Outer left_spelling this.now that.now (seen a) → F.pre f.now a }
-    ensures joins { IfOk result (λ v. IsJoin K.cmp JoinKind.Outer left_spelling this.now that.now (λ a r. MayAnswer F.Fn f.now a (Ok r)) (ClonedKey K.is_clone) v.items) }
+    requires callable { (a : _)
+        → IsAsked K.cmp JoinKind.Outer left_spelling this.now that.now (seen a) → F.pre f.now a }
+    ensures joins { IfOk result (λ v. IsJoin K.cmp JoinKind.Outer left_spelling this.now that.now
+        (λ a r. MayAnswer F.Fn f.now a (Ok r)) (ClonedKey K.is_clone) v.items) }
 {
     join_asking(alloc, this, that, &AskOuter(f))
 }
@@ -349,8 +372,11 @@ where
     requires this_ascends { AscendsByKey K.cmp this.now }
     requires that_ascends { AscendsByKey K.cmp that.now }
     requires clones { ClonesAreEqual K.cmp K.is_clone }
-    requires callable { (k : _) (v : _) (w : _) → IsAsked K.cmp JoinKind.Left left_spelling this.now that.now (seen_left k v w) → F.pre f.now k v w }
-    ensures joins { IfOk result (λ v. IsJoin K.cmp JoinKind.Left left_spelling this.now that.now (λ a r. MayAnswerLeft F.Fn f.now a (Ok r)) (ClonedKey K.is_clone) v.items) }
+    requires callable { (k : _) (v : _) (w : _)
+        → IsAsked K.cmp JoinKind.Left left_spelling this.now that.now (seen_left k v w)
+        → F.pre f.now k v w }
+    ensures joins { IfOk result (λ v. IsJoin K.cmp JoinKind.Left left_spelling this.now that.now
+        (λ a r. MayAnswerLeft F.Fn f.now a (Ok r)) (ClonedKey K.is_clone) v.items) }
 {
     join(
         alloc,
@@ -377,8 +403,11 @@ where
     requires this_ascends { AscendsByKey K.cmp this.now }
     requires that_ascends { AscendsByKey K.cmp that.now }
     requires clones { ClonesAreEqual K.cmp K.is_clone }
-    requires callable { (k : _) (v : _) (w : _) → IsAsked K.cmp JoinKind.Right left_spelling this.now that.now (seen_right k v w) → F.pre f.now k v w }
-    ensures joins { IfOk result (λ v. IsJoin K.cmp JoinKind.Right left_spelling this.now that.now (λ a r. MayAnswerRight F.Fn f.now a (Ok r)) (ClonedKey K.is_clone) v.items) }
+    requires callable { (k : _) (v : _) (w : _)
+        → IsAsked K.cmp JoinKind.Right left_spelling this.now that.now (seen_right k v w)
+        → F.pre f.now k v w }
+    ensures joins { IfOk result (λ v. IsJoin K.cmp JoinKind.Right left_spelling this.now that.now
+        (λ a r. MayAnswerRight F.Fn f.now a (Ok r)) (ClonedKey K.is_clone) v.items) }
 {
     join(
         alloc,
@@ -405,8 +434,11 @@ where
     requires this_ascends { AscendsByKey K.cmp this.now }
     requires that_ascends { AscendsByKey K.cmp that.now }
     requires clones { ClonesAreEqual K.cmp K.is_clone }
-    requires callable { (k : _) (v : _) (w : _) → IsAsked K.cmp JoinKind.Inner left_spelling this.now that.now (seen_inner k v w) → F.pre f.now k v w }
-    ensures joins { IfOk result (λ v. IsJoin K.cmp JoinKind.Inner left_spelling this.now that.now (λ a r. MayAnswerInner F.Fn f.now a (Ok r)) (ClonedKey K.is_clone) v.items) }
+    requires callable { (k : _) (v : _) (w : _)
+        → IsAsked K.cmp JoinKind.Inner left_spelling this.now that.now (seen_inner k v w)
+        → F.pre f.now k v w }
+    ensures joins { IfOk result (λ v. IsJoin K.cmp JoinKind.Inner left_spelling this.now that.now
+        (λ a r. MayAnswerInner F.Fn f.now a (Ok r)) (ClonedKey K.is_clone) v.items) }
 {
     join(
         alloc,

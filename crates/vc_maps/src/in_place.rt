@@ -1,4 +1,5 @@
-//! Joins in place: values of the left map are moved through the question and back, and its keys stay.
+//! Joins in place: values of the left map are moved through the question and back, and its keys
+//! stay.
 ghost use Rattle.std.specs.Prelude.{◌≡◌, ◌+◌, ◌<◌, ◌≤◌, true, false, [], ◌∷◌, ◌++◌, Some, IsOk, IfOk, OnOk, OnErr, length, take, drop};
 ghost use Rattle.smallvec.specs.SmallVec.{small_vec_len, HasRoomFor};
 ghost use Rattle.std.specs.List.{AllByRecursion};
@@ -27,8 +28,9 @@ use vc_merge::parts::{PartsState, Spans, open_gap};
 
 /// A map that is built anew in its own places, and one that is only looked at.
 ///
-/// `KEYS` is how many clones of its key each pair of the other map has in the list: none, or one if such keys may come in. These are there
-/// from the start, in pairs of the right part of the list, so no event is refused.
+/// `KEYS` is how many clones of its key each pair of the other map has in the list: none, or one if
+/// such keys may come in. These are there from the start, in pairs of the right part of the list,
+/// so no event is refused.
 #[derive(Drop)]
 pub struct KeptState<'a, 'b, 'c, K, V, W, A, const KEYS: usize> {
     list: &'a mut [(K, V)],
@@ -67,9 +69,11 @@ impl<'a, 'b, 'c, K: Clone, V, W, A, const KEYS: usize> MergeStateMut
 
     ghost ready = { HasKeys KEYS K.is_clone };
 
-    ghost advances_a = { λ s n take answer t. IsOk answer × Skips kept.built_pairs kept.list_name s answer t };
+    ghost advances_a = { λ s n take answer t. IsOk answer
+        × Skips kept.built_pairs kept.list_name s answer t };
 
-    ghost skips_b = { λ s n answer t. IsOk answer × Skips kept.built_pairs kept.list_name s answer t };
+    ghost skips_b = { λ s n answer t. IsOk answer
+        × Skips kept.built_pairs kept.list_name s answer t };
 
     fn advance_a(&mut self, n: usize, _take: bool) -> Result<bool, AllocError> {
         self.spans.start += n;
@@ -151,14 +155,20 @@ where
 
     ghost takes = { λ q a. MayAskWith (has_keys KEYS) a × Q.takes q a };
 
-    ghost asks_a = { λ q s n answer t. IsOk answer × Adds kept.built_pairs kept.list_name
-        (λ p. AnswerAdds (Q.may q) (OldKey K.is_clone) (Some (arg.Left p.0 p.1))) (take n (left_pairs s)) s answer t };
+    ghost asks_a = { λ q s n answer t. IsOk answer
+        × Adds kept.built_pairs kept.list_name
+        (λ p. AnswerAdds (Q.may q) (OldKey K.is_clone) (Some (arg.Left p.0 p.1)))
+        (take n (left_pairs s)) s answer t };
 
-    ghost asks_b = { λ q s n answer t. IsOk answer × Adds kept.built_pairs kept.list_name
-        (λ p. AnswerAdds (Q.may q) (OldKey K.is_clone) (Some (arg.Right p.0 p.1))) (take n (right_pairs s)) s answer t };
+    ghost asks_b = { λ q s n answer t. IsOk answer
+        × Adds kept.built_pairs kept.list_name
+        (λ p. AnswerAdds (Q.may q) (OldKey K.is_clone) (Some (arg.Right p.0 p.1)))
+        (take n (right_pairs s)) s answer t };
 
-    ghost asks_both = { λ q s answer t. IsOk answer × AtHeads (λ p r. Adds kept.built_pairs kept.list_name
-        (λ a. AnswerAdds (Q.may q) (OldKey K.is_clone) (Some a)) (arg.Both p.0 p.1 r.1 ∷ []) s answer t) (left_pairs s) (right_pairs s) };
+    ghost asks_both = { λ q s answer t. IsOk answer
+        × AtHeads (λ p r. Adds kept.built_pairs kept.list_name
+        (λ a. AnswerAdds (Q.may q) (OldKey K.is_clone) (Some a)) (arg.Both p.0 p.1 r.1 ∷ []) s
+        answer t) (left_pairs s) (right_pairs s) };
 
     fn ask_a(&mut self, question: &Q, n: usize) -> Result<bool, AllocError> {
         self.spans = lefts_turned(self.list, self.spans, *self.alloc, question, n);
@@ -179,13 +189,15 @@ where
     }
 }
 
-/// Puts an answer under its key in the place of the first pair that is left of the left part, where there is one, and passes that place.
+/// Puts an answer under its key in the place of the first pair that is left of the left part, where
+/// there is one, and passes that place.
 pub fn keep_left<K: Drop, V: Drop>(parts: &mut PartsState<'_, (K, V)>, key: K, answer: Option<V>)
     requires { 0 < length (left_items parts.old) }
     ensures name { list_name parts.new ≡ list_name parts.old }
     ensures left { left_items parts.new ≡ drop 1 (left_items parts.old) }
     ensures right { right_items parts.new ≡ right_items parts.old }
-    ensures built { MatchOption answer (built_items parts.new ≡ built_items parts.old) (λ x. built_items parts.new ≡ built_items parts.old ++ (key, x) ∷ []) }
+    ensures built { MatchOption answer (built_items parts.new ≡ built_items parts.old)
+        (λ x. built_items parts.new ≡ built_items parts.old ++ (key, x) ∷ []) }
 {
     let kept = answer.is_some();
     if let Some(value) = answer {
@@ -194,13 +206,15 @@ pub fn keep_left<K: Drop, V: Drop>(parts: &mut PartsState<'_, (K, V)>, key: K, a
     let _never_refused = parts.advance_a(1, kept);
 }
 
-/// Puts an answer under its key in the place of the first pair that is left of the right part, where there is one, and takes or passes that.
+/// Puts an answer under its key in the place of the first pair that is left of the right part,
+/// where there is one, and takes or passes that.
 fn keep_right<K: Drop, V: Drop>(parts: &mut PartsState<'_, (K, V)>, key: K, answer: Option<V>)
     requires { 0 < length (right_items parts.old) }
     ensures name { list_name parts.new ≡ list_name parts.old }
     ensures left { left_items parts.new ≡ left_items parts.old }
     ensures right { right_items parts.new ≡ drop 1 (right_items parts.old) }
-    ensures built { MatchOption answer (built_items parts.new ≡ built_items parts.old) (λ x. built_items parts.new ≡ built_items parts.old ++ (key, x) ∷ []) }
+    ensures built { MatchOption answer (built_items parts.new ≡ built_items parts.old)
+        (λ x. built_items parts.new ≡ built_items parts.old ++ (key, x) ∷ []) }
 {
     let _never_refused = match answer {
         Some(value) => {
@@ -221,11 +235,14 @@ fn turn_lefts<K: Clone + Drop, V: Drop, W, Q: Turn<K, V, W>, A: Allocator + Copy
 where
     (K, V): MadeWith<A>,
     requires within { n ≤ length (left_items parts.old) }
-    requires takes { AllByRecursion (λ p. Q.takes question.now (arg.Left p.0 p.1)) (take n (left_items parts.old)) }
+    requires takes { AllByRecursion (λ p. Q.takes question.now (arg.Left p.0 p.1))
+        (take n (left_items parts.old)) }
     ensures name { list_name parts.new ≡ list_name parts.old }
     ensures left { left_items parts.new ≡ drop n (left_items parts.old) }
     ensures right { right_items parts.new ≡ right_items parts.old }
-    ensures built { Appends (λ p. AnswerAdds (Q.may question.now) (OldKey K.is_clone) (Some (arg.Left p.0 p.1))) (take n (left_items parts.old)) (built_items parts.old) (built_items parts.new) }
+    ensures built { Appends (λ p. AnswerAdds (Q.may question.now) (OldKey K.is_clone)
+        (Some (arg.Left p.0 p.1))) (take n (left_items parts.old)) (built_items parts.old)
+        (built_items parts.new) }
 {
     'pairs: for at in 0..n {
         let (key, value) = parts.replace_left(<(K, V)>::made_with(alloc));
@@ -234,7 +251,8 @@ where
     }
 }
 
-/// Asks at each of `pairs`, which stand on the right alone. The pairs of the right part have clones of their keys.
+/// Asks at each of `pairs`, which stand on the right alone. The pairs of the right part have clones
+/// of their keys.
 fn turn_rights<K: Clone + Drop, V: Drop, W, Q: Turn<K, V, W>, A: Allocator + Copy>(
     parts: &mut PartsState<'_, (K, V)>,
     alloc: A,
@@ -248,7 +266,8 @@ where
     ensures name { list_name parts.new ≡ list_name parts.old }
     ensures left { left_items parts.new ≡ left_items parts.old }
     ensures right { right_items parts.new ≡ drop (length pairs.now) (right_items parts.old) }
-    ensures built { Appends (λ p. AnswerAdds (Q.may question.now) (OldKey K.is_clone) (Some (arg.Right p.0 p.1))) pairs.now (built_items parts.old) (built_items parts.new) }
+    ensures built { Appends (λ p. AnswerAdds (Q.may question.now) (OldKey K.is_clone)
+        (Some (arg.Right p.0 p.1))) pairs.now (built_items parts.old) (built_items parts.new) }
 {
     'pairs: for pair in pairs {
         let (key, _) = parts.replace_right(<(K, V)>::made_with(alloc));
@@ -257,7 +276,8 @@ where
     }
 }
 
-/// Asks at a pair of the left and a value of the right, which stand at equal keys. The place of the pair is the first one of the left part.
+/// Asks at a pair of the left and a value of the right, which stand at equal keys. The place of the
+/// pair is the first one of the left part.
 fn turn_pair<K: Clone + Drop, V: Drop, W, Q: Turn<K, V, W>>(
     parts: &mut PartsState<'_, (K, V)>,
     question: &Q,
@@ -269,14 +289,16 @@ fn turn_pair<K: Clone + Drop, V: Drop, W, Q: Turn<K, V, W>>(
     ensures name { list_name parts.new ≡ list_name parts.old }
     ensures left { left_items parts.new ≡ drop 1 (left_items parts.old) }
     ensures right { right_items parts.new ≡ right_items parts.old }
-    ensures built { Appends (λ a. AnswerAdds (Q.may question.now) (OldKey K.is_clone) (Some a)) (arg.Both pair.0 pair.1 other.now ∷ []) (built_items parts.old) (built_items parts.new) }
+    ensures built { Appends (λ a. AnswerAdds (Q.may question.now) (OldKey K.is_clone) (Some a))
+        (arg.Both pair.0 pair.1 other.now ∷ []) (built_items parts.old) (built_items parts.new) }
 {
     let (key, value) = pair;
     let answer = question.turn(OuterJoinArg::Both(&key, value, other));
     keep_left(parts, key, answer);
 }
 
-/// Asks at the first `n` pairs that are left of the left part, in a list whose parts stand at `spans`. Answers where they stand then.
+/// Asks at the first `n` pairs that are left of the left part, in a list whose parts stand at
+/// `spans`. Answers where they stand then.
 fn lefts_turned<K: Clone + Drop, V: Drop, W, Q: Turn<K, V, W>, A: Allocator + Copy>(
     list: &mut [(K, V)],
     spans: Spans,
@@ -288,18 +310,22 @@ where
     (K, V): MadeWith<A>,
     requires places { spans.next ≤ length list.old }
     requires within { n ≤ length (left_at spans list.old) }
-    requires takes { AllByRecursion (λ p. Q.takes question.now (arg.Left p.0 p.1)) (take n (left_at spans list.old)) }
+    requires takes { AllByRecursion (λ p. Q.takes question.now (arg.Left p.0 p.1))
+        (take n (left_at spans list.old)) }
     ensures places { result.next ≤ length list.new }
     ensures left { left_at result list.new ≡ drop n (left_at spans list.old) }
     ensures right { right_at result list.new ≡ right_at spans list.old }
-    ensures built { Appends (λ p. AnswerAdds (Q.may question.now) (OldKey K.is_clone) (Some (arg.Left p.0 p.1))) (take n (left_at spans list.old)) (built_at spans list.old) (built_at result list.new) }
+    ensures built { Appends (λ p. AnswerAdds (Q.may question.now) (OldKey K.is_clone)
+        (Some (arg.Left p.0 p.1))) (take n (left_at spans list.old)) (built_at spans list.old)
+        (built_at result list.new) }
 {
     let mut parts = PartsState::at(list, spans);
     turn_lefts(&mut parts, alloc, question, n);
     parts.spans()
 }
 
-/// Asks at each of `pairs`, which stand on the right alone, in a list whose parts stand at `spans`. Answers where they stand then.
+/// Asks at each of `pairs`, which stand on the right alone, in a list whose parts stand at `spans`.
+/// Answers where they stand then.
 fn rights_turned<K: Clone + Drop, V: Drop, W, Q: Turn<K, V, W>, A: Allocator + Copy>(
     list: &mut [(K, V)],
     spans: Spans,
@@ -310,20 +336,22 @@ fn rights_turned<K: Clone + Drop, V: Drop, W, Q: Turn<K, V, W>, A: Allocator + C
 where
     (K, V): MadeWith<A>,
     requires places { spans.next ≤ length list.old }
-    requires keys { HaveKeys K.is_clone pairs.now (take (length pairs.now) (right_at spans list.old)) }
+    requires keys { HaveKeys K.is_clone pairs.now
+        (take (length pairs.now) (right_at spans list.old)) }
     requires takes { AllByRecursion (λ p. Q.takes question.now (arg.Right p.0 p.1)) pairs.now }
     ensures places { result.next ≤ length list.new }
     ensures left { left_at result list.new ≡ left_at spans list.old }
     ensures right { right_at result list.new ≡ drop (length pairs.now) (right_at spans list.old) }
-    ensures built { Appends (λ p. AnswerAdds (Q.may question.now) (OldKey K.is_clone) (Some (arg.Right p.0 p.1))) pairs.now (built_at spans list.old) (built_at result list.new) }
+    ensures built { Appends (λ p. AnswerAdds (Q.may question.now) (OldKey K.is_clone)
+        (Some (arg.Right p.0 p.1))) pairs.now (built_at spans list.old) (built_at result list.new) }
 {
     let mut parts = PartsState::at(list, spans);
     turn_rights(&mut parts, alloc, question, pairs);
     parts.spans()
 }
 
-/// Asks at the first pair that is left of the left part and the first one of `right`, which have equal keys, in a list whose parts stand at
-/// `spans`. Answers where they stand then.
+/// Asks at the first pair that is left of the left part and the first one of `right`, which have
+/// equal keys, in a list whose parts stand at `spans`. Answers where they stand then.
 fn pair_turned<K: Clone + Drop, V: Drop, W, Q: Turn<K, V, W>, A: Allocator + Copy>(
     list: &mut [(K, V)],
     spans: Spans,
@@ -334,12 +362,15 @@ fn pair_turned<K: Clone + Drop, V: Drop, W, Q: Turn<K, V, W>, A: Allocator + Cop
 where
     (K, V): MadeWith<A>,
     requires places { spans.next ≤ length list.old }
-    requires takes { AtHeads (λ p r. Q.takes question.now (arg.Both p.0 p.1 r.1)) (left_at spans list.old) right.now }
+    requires takes { AtHeads (λ p r. Q.takes question.now (arg.Both p.0 p.1 r.1))
+        (left_at spans list.old) right.now }
     ensures places { result.next ≤ length list.new }
     ensures left { left_at result list.new ≡ drop 1 (left_at spans list.old) }
     ensures right { right_at result list.new ≡ right_at spans list.old }
-    ensures built { AtHeads (λ p r. Appends (λ a. AnswerAdds (Q.may question.now) (OldKey K.is_clone) (Some a)) (arg.Both p.0 p.1 r.1 ∷ [])
-        (built_at spans list.old) (built_at result list.new)) (left_at spans list.old) right.now }
+    ensures built { AtHeads (λ p r. Appends
+        (λ a. AnswerAdds (Q.may question.now) (OldKey K.is_clone) (Some a))
+        (arg.Both p.0 p.1 r.1 ∷ []) (built_at spans list.old) (built_at result list.new))
+        (left_at spans list.old) right.now }
 {
     let mut parts = PartsState::at(list, spans);
     let pair = parts.replace_left(<(K, V)>::made_with(alloc));
@@ -347,7 +378,8 @@ where
     parts.spans()
 }
 
-/// Asks at a pair that stands on the left alone. One lifetime serves for the right, which has none of its own.
+/// Asks at a pair that stands on the left alone. One lifetime serves for the right, which has none
+/// of its own.
 fn turn_left<'a, K, V, W: 'a, Q: Turn<K, V, W>>(question: &Q, key: &'a K, value: V) -> Option<V>
     requires { Q.takes question.now (arg.Left key.now value) }
     ensures { Q.may question.now (arg.Left key.now value) result }
@@ -364,8 +396,9 @@ fn turn_right<K, V, W, Q: Turn<K, V, W>>(question: &Q, pair: &(K, W)) -> Option<
     question.turn(OuterJoinArg::Right(&pair.0, &pair.1))
 }
 
-/// Moves the join of a part of a list with another list to the front. The part is the first `end` pairs. If `KEYS` is not 0, the kind asks at
-/// the keys of the other list alone, and the pairs from `next` on have clones of these. Answers how many pairs the join has.
+/// Moves the join of a part of a list with another list to the front. The part is the first `end`
+/// pairs. If `KEYS` is not 0, the kind asks at the keys of the other list alone, and the pairs from
+/// `next` on have clones of these. Answers how many pairs the join has.
 fn join_parts<
     const KEYS: usize,
     K: Ord + Clone + Drop,
@@ -390,10 +423,14 @@ where
     requires kind { asks_right op.now.kind ≡ has_keys KEYS }
     requires this_ascends { AscendsByKey K.cmp (take end list.old) }
     requires that_ascends { AscendsByKey K.cmp right.now }
-    requires clones { asks_right op.now.kind ≡ true → ClonesAreEqual K.cmp K.is_clone × HaveKeys K.is_clone right.now (drop next list.old) }
-    requires takes { TakesEach K.cmp op.now.kind (Q.takes op.now.question.now) (take end list.old) right.now }
-    ensures joins { IsJoin K.cmp op.now.kind left_spelling (take end list.old) right.now (Q.may op.now.question.now) (OldKey K.is_clone) (take result list.new) }
-    ensures counted { C.counted steps.new ≤ C.counted steps.old + bound (length (take end list.old)) (length right.now) }
+    requires clones { asks_right op.now.kind ≡ true
+        → ClonesAreEqual K.cmp K.is_clone × HaveKeys K.is_clone right.now (drop next list.old) }
+    requires takes { TakesEach K.cmp op.now.kind (Q.takes op.now.question.now) (take end list.old)
+        right.now }
+    ensures joins { IsJoin K.cmp op.now.kind left_spelling (take end list.old) right.now
+        (Q.may op.now.question.now) (OldKey K.is_clone) (take result list.new) }
+    ensures counted { C.counted steps.new
+        ≤ C.counted steps.old + bound (length (take end list.old)) (length right.now) }
 {
     let spans = Spans {
         built: 0,
@@ -408,7 +445,8 @@ where
     state.spans.built
 }
 
-/// Puts a pair with a clone of the key of each of `pairs` behind a list. Answers the place of the first of them.
+/// Puts a pair with a clone of the key of each of `pairs` behind a list. Answers the place of the
+/// first of them.
 ///
 /// The one growth comes before the first clone. Refused, the list has its pairs.
 fn append_keys<K: Clone + Drop, V: Drop, W, const N: usize, A: Allocator + Copy>(
@@ -417,7 +455,8 @@ fn append_keys<K: Clone + Drop, V: Drop, W, const N: usize, A: Allocator + Copy>
 ) -> Result<usize, AllocError>
 where
     (K, V): MadeWith<A>,
-    ensures behind { IfOk result (λ next. (length list.old.items ≤ next) × (next ≤ length list.new.items)) }
+    ensures behind { IfOk result
+        (λ next. (length list.old.items ≤ next) × (next ≤ length list.new.items)) }
     ensures front { OnOk result (take (length list.old.items) list.new.items ≡ list.old.items) }
     ensures keys { IfOk result (λ next. HaveKeys K.is_clone pairs.now (drop next list.new.items)) }
     ensures err { OnErr result (list.new.items ≡ list.old.items) }
@@ -433,7 +472,8 @@ where
     Ok(next)
 }
 
-/// Pushes a pair with a clone of the key of each of `pairs`, for which there is room. Refused, it leaves those that were made.
+/// Pushes a pair with a clone of the key of each of `pairs`, for which there is room. Refused, it
+/// leaves those that were made.
 fn push_keys<K: Clone + Drop, V: Drop, W, const N: usize, A: Allocator + Copy>(
     list: &mut SmallVec<(K, V), N, A>,
     pairs: &[(K, W)],
@@ -452,7 +492,8 @@ where
     Ok(())
 }
 
-/// The join of a list of pairs with another one, in its place, of a kind that asks at the keys of the left or of both. Takes no memory.
+/// The join of a list of pairs with another one, in its place, of a kind that asks at the keys of
+/// the left or of both. Takes no memory.
 fn join_known<
     K: Ord + Clone + Drop,
     V: Drop,
@@ -468,8 +509,10 @@ where
     requires this_ascends { AscendsByKey K.cmp list.old.items }
     requires that_ascends { AscendsByKey K.cmp that.now }
     requires takes { TakesEach K.cmp kind (Q.takes question.now) list.old.items that.now }
-    ensures joins { IsJoin K.cmp kind left_spelling list.old.items that.now (Q.may question.now) (OldKey K.is_clone) list.new.items }
-    ensures counted { C.counted steps.new ≤ C.counted steps.old + bound (length list.old.items) (length that.now) }
+    ensures joins { IsJoin K.cmp kind left_spelling list.old.items that.now (Q.may question.now)
+        (OldKey K.is_clone) list.new.items }
+    ensures counted { C.counted steps.new
+        ≤ C.counted steps.old + bound (length list.old.items) (length that.now) }
 {
     let alloc = *list.allocator();
     let end = list.len();
@@ -486,8 +529,9 @@ where
     list.truncate(kept);
 }
 
-/// The join of a list of pairs with another one, in its place, of a kind that asks at the keys of the right. The one growth and all clones come
-/// before the first question; refused there, the list has its pairs.
+/// The join of a list of pairs with another one, in its place, of a kind that asks at the keys of
+/// the right. The one growth and all clones come before the first question; refused there, the list
+/// has its pairs.
 fn join_with_keys<
     K: Ord + Clone + Drop,
     V: Drop,
@@ -510,8 +554,10 @@ where
     requires that_ascends { AscendsByKey K.cmp that.now }
     requires clones { ClonesAreEqual K.cmp K.is_clone }
     requires takes { TakesEach K.cmp kind (Q.takes question.now) list.old.items that.now }
-    ensures joins { OnOk result (IsJoin K.cmp kind left_spelling list.old.items that.now (Q.may question.now) (OldKey K.is_clone) list.new.items) }
-    ensures counted { C.counted steps.new ≤ C.counted steps.old + bound (length list.old.items) (length that.now) }
+    ensures joins { OnOk result (IsJoin K.cmp kind left_spelling list.old.items that.now
+        (Q.may question.now) (OldKey K.is_clone) list.new.items) }
+    ensures counted { C.counted steps.new
+        ≤ C.counted steps.old + bound (length list.old.items) (length that.now) }
     ensures err { OnErr result (list.new.items ≡ list.old.items) }
 {
     let alloc = *list.allocator();
@@ -531,10 +577,11 @@ where
     Ok(())
 }
 
-/// The join of a list of pairs with another one, in its place, where both ascend by key. It takes memory only if the kind asks at the keys of
-/// the right.
+/// The join of a list of pairs with another one, in its place, where both ascend by key. It takes
+/// memory only if the kind asks at the keys of the right.
 ///
-/// Asks at most once a key, in ascending order of the keys. Refused before the first question, the list has its pairs.
+/// Asks at most once a key, in ascending order of the keys. Refused before the first question, the
+/// list has its pairs.
 pub fn join<
     K: Ord + Clone + Drop,
     V: Drop,
@@ -556,8 +603,10 @@ where
     requires that_ascends { AscendsByKey K.cmp that.now }
     requires clones { asks_right kind ≡ true → ClonesAreEqual K.cmp K.is_clone }
     requires takes { TakesEach K.cmp kind (Q.takes question.now) list.old.items that.now }
-    ensures joins { OnOk result (IsJoin K.cmp kind left_spelling list.old.items that.now (Q.may question.now) (OldKey K.is_clone) list.new.items) }
-    ensures counted { C.counted steps.new ≤ C.counted steps.old + bound (length list.old.items) (length that.now) }
+    ensures joins { OnOk result (IsJoin K.cmp kind left_spelling list.old.items that.now
+        (Q.may question.now) (OldKey K.is_clone) list.new.items) }
+    ensures counted { C.counted steps.new
+        ≤ C.counted steps.old + bound (length list.old.items) (length that.now) }
     ensures no_memory { asks_right kind ≡ false → IsOk result }
     ensures err { OnErr result (list.new.items ≡ list.old.items) }
 {

@@ -1,4 +1,5 @@
-//! The one operation of joins: at each event it asks a question, where the kind of the join asks one.
+//! The one operation of joins: at each event it asks a question, where the kind of the join asks
+//! one.
 ghost use Rattle.std.specs.Prelude.{◌≡◌, ℕ, ◌<◌, ◌≤◌, true, false, take, drop, length, IfOk};
 ghost use Rattle.std.specs.Bool.{MatchBool};
 ghost use Rattle.std.specs.List.{AllByRecursion};
@@ -18,7 +19,8 @@ use std::cmp::Ordering;
 use vc_joins::question::JoinKind;
 use vc_merge::merge::{Count, MergeOperation, MergeStateMut};
 
-/// A state that asks a question `Q` at the pairs that are left of two maps, and builds a map of the answers.
+/// A state that asks a question `Q` at the pairs that are left of two maps, and builds a map of the
+/// answers.
 pub trait JoinState<K, V, W, Q>: MergeStateMut<A = (K, V), B = (K, W)> {
     /// The question may be asked so.
     ghost takes: { Q → OuterJoinArg K V W → Type 0 };
@@ -29,28 +31,39 @@ pub trait JoinState<K, V, W, Q>: MergeStateMut<A = (K, V), B = (K, W)> {
 
     ghost asks_both: { Q → Self → Answer → Self → Type 0 };
 
-    /// Asks at the first `n` pairs of the left map, each of which stands there alone, and passes them.
+    /// Asks at the first `n` pairs of the left map, each of which stands there alone, and passes
+    /// them.
     fn ask_a(&mut self, question: &Q, n: usize) -> Result<bool, AllocError>
         requires ready { Self.ready self.old }
         requires within { n ≤ length (Self.left self.old) }
-        requires takes { AllByRecursion (λ p. takes question.now (arg.Left p.0 p.1)) (take n (Self.left self.old)) }
+        requires takes { AllByRecursion (λ p. takes question.now (arg.Left p.0 p.1))
+            (take n (Self.left self.old)) }
         ensures gives { asks_a question.now self.old n result self.new }
-        ensures passes { IfOk result (λ go_on. go_on ≡ true → (Self.left self.new ≡ drop n (Self.left self.old)) × (Self.right self.new ≡ Self.right self.old) × Self.ready self.new) };
+        ensures passes { IfOk result (λ go_on. go_on ≡ true
+            → (Self.left self.new ≡ drop n (Self.left self.old))
+            × (Self.right self.new ≡ Self.right self.old) × Self.ready self.new) };
 
-    /// Asks at the first `n` pairs of the right map, each of which stands there alone, and passes them.
+    /// Asks at the first `n` pairs of the right map, each of which stands there alone, and passes
+    /// them.
     fn ask_b(&mut self, question: &Q, n: usize) -> Result<bool, AllocError>
         requires ready { Self.ready self.old }
         requires within { n ≤ length (Self.right self.old) }
-        requires takes { AllByRecursion (λ p. takes question.now (arg.Right p.0 p.1)) (take n (Self.right self.old)) }
+        requires takes { AllByRecursion (λ p. takes question.now (arg.Right p.0 p.1))
+            (take n (Self.right self.old)) }
         ensures gives { asks_b question.now self.old n result self.new }
-        ensures passes { IfOk result (λ go_on. go_on ≡ true → (Self.left self.new ≡ Self.left self.old) × (Self.right self.new ≡ drop n (Self.right self.old)) × Self.ready self.new) };
+        ensures passes { IfOk result (λ go_on. go_on ≡ true
+            → (Self.left self.new ≡ Self.left self.old)
+            × (Self.right self.new ≡ drop n (Self.right self.old)) × Self.ready self.new) };
 
     /// Asks at the first pair of each map, which have equal keys, and passes both.
     fn ask_both(&mut self, question: &Q) -> Result<bool, AllocError>
         requires ready { Self.ready self.old }
-        requires takes { AtHeads (λ p q. takes question.now (arg.Both p.0 p.1 q.1)) (Self.left self.old) (Self.right self.old) }
+        requires takes { AtHeads (λ p q. takes question.now (arg.Both p.0 p.1 q.1))
+            (Self.left self.old) (Self.right self.old) }
         ensures gives { asks_both question.now self.old result self.new }
-        ensures passes { IfOk result (λ go_on. go_on ≡ true → (Self.left self.new ≡ drop 1 (Self.left self.old)) × (Self.right self.new ≡ drop 1 (Self.right self.old)) × Self.ready self.new) };
+        ensures passes { IfOk result (λ go_on. go_on ≡ true
+            → (Self.left self.new ≡ drop 1 (Self.left self.old))
+            × (Self.right self.new ≡ drop 1 (Self.right self.old)) × Self.ready self.new) };
 }
 
 /// Asks a question at the keys that a kind of join names, in ascending order, and drops all others.
@@ -75,8 +88,12 @@ impl<
         × CanAsk K.cmp op.kind (M.takes op.question.now) (M.left s) (M.right s) };
 
     ghost gives = { λ op. record {
-      from_a = λ s n answer t. MatchBool (asks_left op.kind) (M.asks_a op.question.now s n answer t) (M.advances_a s n false answer t);
-      from_b = λ s n answer t. MatchBool (asks_right op.kind) (M.asks_b op.question.now s n answer t) (M.skips_b s n answer t);
+      from_a = λ s n answer t.
+          MatchBool (asks_left op.kind) (M.asks_a op.question.now s n answer t)
+          (M.advances_a s n false answer t);
+      from_b = λ s n answer t.
+          MatchBool (asks_right op.kind) (M.asks_b op.question.now s n answer t)
+          (M.skips_b s n answer t);
       collision = λ s answer t. M.asks_both op.question.now s answer t;
     } };
 

@@ -26,7 +26,9 @@ use vc_merge::iterators::{VecMapIter, vec_map_iter_of};
 use vc_merge::moving::insert_at;
 use vc_merge::search::find_key;
 
-/// A map, as a list of its pairs in ascending order of their keys. Up to `N` of them stand in place, without an allocation.
+/// A map, as a list of its pairs in ascending order of their keys. Up to `N` of them stand in
+/// place, without an allocation, unless the list was once given room for more: then it keeps its
+/// block.
 ///
 /// Contracts see it as that list.
 ///
@@ -87,8 +89,9 @@ impl<K: Ord, V, const N: usize, A: Allocator> VecMap<K, V, N, A> {
         self.pairs.as_slice()
     }
 
-    /// The value at a key that is equal to `key`, to write through. What is written stands in its place; the keys and all other
-    /// values stay. Searches the list, and takes no memory.
+    /// The value at a key that is equal to `key`, to write through. What is written stands in its
+    /// place; the keys and all other values stay. Compares fewer than `1.5 * log2(n) + 4` times
+    /// among `n` pairs, and takes no memory.
     ///
     /// ```
     /// if let Some(open) = ports.get_mut(&80) {
@@ -122,14 +125,20 @@ where
         }
     }
 
-    /// Binds a key to a value. A known key is replaced together with its value, which is handed back.
+    /// Binds a key to a value. A known key is replaced together with its value, which is handed
+    /// back.
     ///
-    /// Searches the list, and moves the pairs behind a new one. It takes memory only for a new key, where `N` or more pairs are
-    /// held; refused, it leaves the map as it was and drops the key and the value.
+    /// Compares fewer than `1.5 * log2(n) + 4` times among `n` pairs, and moves the pairs behind a
+    /// new one. It takes memory only for a new key, where `N` or more pairs are held; refused, it
+    /// leaves the map as it was and drops the key and the value.
     pub fn insert(&mut self, key: K, value: V) -> Result<Option<V>, AllocError>
         ensures old { IfOk result (λ old. old ≡ value_at K.cmp self.old key) }
-        ensures values { IfOk result (λ _. (k : K) → value_at K.cmp self.new k ≡ cond (eq_by_cmp K.cmp k key) (Some value) (value_at K.cmp self.old k)) }
-        ensures entries { IfOk result (λ _. (k : K) → entry_at K.cmp self.new k ≡ cond (eq_by_cmp K.cmp k key) (Some (key, value)) (entry_at K.cmp self.old k)) }
+        ensures values { IfOk result (λ _. (k : K)
+            → value_at K.cmp self.new k
+            ≡ cond (eq_by_cmp K.cmp k key) (Some value) (value_at K.cmp self.old k)) }
+        ensures entries { IfOk result (λ _. (k : K)
+            → entry_at K.cmp self.new k
+            ≡ cond (eq_by_cmp K.cmp k key) (Some (key, value)) (entry_at K.cmp self.old k)) }
 
         // It succeeds on a known key, and where fewer than `N` pairs are held.
         ensures known { IsSome (value_at K.cmp self.old key) → IsOk result }
@@ -168,7 +177,8 @@ pub trait AbstractVecMap<K: Ord, V> {
         self.as_slice().is_empty()
     }
 
-    /// The value at a key that is equal to `key`. Searches the list, and takes no memory.
+    /// The value at a key that is equal to `key`. Compares fewer than `1.5 * log2(n) + 4` times
+    /// among `n` pairs, and takes no memory.
     fn get<'a>(&'a self, key: &K) -> Option<&'a V>
     where
         K: 'a,

@@ -20,13 +20,16 @@ some-is e = cc
 module _ {K V W : Type 0} (d : V) (e : W) (P : V → W → Type 0) where
   -- what holds of the values at a listed key holds of the values that a question about it shows
   asked-shows : (p : Option (K × V)) (q : Option (K × W)) (a : OuterJoinArg K V W) → asked Outer left_spelling p q ≡ Some a
-      → ((IsSome (option_map (λ p. p.1) p) ⊎ IsSome (option_map (λ p. p.1) q)) → P (unwrap_or (option_map (λ p. p.1) p) d) (unwrap_or (option_map (λ p. p.1) q) e)) → P (left_value d a) (right_value e a)
+      → ((IsSome (option_map (λ p. p.1) p) ⊎ IsSome (option_map (λ p. p.1) q))
+      → P (unwrap_or (option_map (λ p. p.1) p) d) (unwrap_or (option_map (λ p. p.1) q) e)) → P (left_value d a) (right_value e a)
   asked-shows (Some p) (Some q) a is h = let same : Both p.0 p.1 q.1 ≡ a = some-is is in subst (λ a. P (left_value d a) (right_value e a)) same (h (inl refl))
   asked-shows (Some p) None a is h = let same : Left p.0 p.1 ≡ a = some-is is in subst (λ a. P (left_value d a) (right_value e a)) same (h (inl refl))
   asked-shows None (Some q) a is h = let same : Right q.0 q.1 ≡ a = some-is is in subst (λ a. P (left_value d a) (right_value e a)) same (h (inr refl))
   asked-shows None None a is h = let none : None ≡ Some a = is in cc
 
-  pub takes-values : (cmp : K → K → Ordering) (xs : List (K × V)) (ys : List (K × W)) → HoldsEverywhere cmp P (total_map xs d) (total_map ys e) → (a : OuterJoinArg K V W) → IsAsked cmp Outer left_spelling xs ys a → P (left_value d a) (right_value e a)
+  pub takes-values : (cmp : K → K → Ordering) (xs : List (K × V)) (ys : List (K × W))
+      → HoldsEverywhere cmp P (total_map xs d) (total_map ys e) → (a : OuterJoinArg K V W)
+      → IsAsked cmp Outer left_spelling xs ys a → P (left_value d a) (right_value e a)
   takes-values cmp xs ys all a asks =
       asked-shows (entry_at cmp xs asks.key) (entry_at cmp ys asks.key) a asks.asks
       (rw (← value-entry cmp xs asks.key, ← value-entry cmp ys asks.key) (all.listed asks.key))
@@ -63,13 +66,15 @@ module _ {K V W X : Type 0} (eq : X → X → Bool) (May : V → W → X → Typ
     keys = λ k. answer-spells (entry_at cmp xs k) (entry_at cmp ys k) (entry_at cmp zs k) (joins.at k);
   }
 
-  pub joined-combines : {E : Type 0} (cmp : K → K → Ordering) (xs : List (K × V)) (ys : List (K × W)) (r : Result (SmallVec (K × X)) E) → IfOk r (λ v. IsJoin cmp Outer left_spelling xs ys MayAsk (ClonedKey is_clone) v.items)
+  pub joined-combines : {E : Type 0} (cmp : K → K → Ordering) (xs : List (K × V)) (ys : List (K × W))
+      (r : Result (SmallVec (K × X)) E) → IfOk r (λ v. IsJoin cmp Outer left_spelling xs ys MayAsk (ClonedKey is_clone) v.items)
       → IfOk r (λ v. IsCombined cmp eq May is_clone (total_map xs d) (total_map ys e) (total_map v.items f))
   joined-combines cmp xs ys (Ok v) joins = join-combines cmp xs ys v.items joins
   joined-combines cmp xs ys (Err e) joins = tt
 
 -- a join ascends
-pub joined-ascends : {K V W X E : Type 0} (May : OuterJoinArg K V W → Option X → Type 0) (Keeps : OuterJoinArg K V W → K → Type 0) (cmp : K → K → Ordering) (xs : List (K × V)) (ys : List (K × W)) (r : Result (SmallVec (K × X)) E)
+pub joined-ascends : {K V W X E : Type 0} (May : OuterJoinArg K V W → Option X → Type 0) (Keeps : OuterJoinArg K V W → K → Type 0)
+    (cmp : K → K → Ordering) (xs : List (K × V)) (ys : List (K × W)) (r : Result (SmallVec (K × X)) E)
     → IfOk r (λ v. IsJoin cmp Outer left_spelling xs ys May Keeps v.items) → IfOk r (λ v. AscendsByKey cmp v.items)
 joined-ascends May Keeps cmp xs ys (Ok v) joins = joins.ascends
 joined-ascends May Keeps cmp xs ys (Err e) joins = tt

@@ -55,7 +55,8 @@ differs-alike laws d e de S says None (Some w) a h = absurd a
 differs-alike laws d e de S says (Some v) None a h = absurd a
 differs-alike laws d e de S says (Some v) (Some w) a h = eq-alike laws v w d e (says v w a) de ∙ h
 
-pub copy-canonical : {K V : Type 0} (cmp : K → K → Ordering) → IsTotalOrder cmp → (eq : V → V → Bool) → IsEquivalence eq → (R : K → K → Type 0) → ClonesAreEqual cmp R → (S : V → V → Type 0) → ((v w : V) → S v w → eq v w ≡ true)
+pub copy-canonical : {K V : Type 0} (cmp : K → K → Ordering) → IsTotalOrder cmp → (eq : V → V → Bool) → IsEquivalence eq
+    → (R : K → K → Type 0) → ClonesAreEqual cmp R → (S : V → V → Type 0) → ((v w : V) → S v w → eq v w ≡ true)
     → (xs ys : List (K × V)) (d e : V) → AllZip (λ p q. R p.0 q.0 × S p.1 q.1) xs ys → S d e → NoneIsDefault cmp eq (total_map xs d) → NoneIsDefault cmp eq (total_map ys e)
 copy-canonical cmp total eq laws R clones S says xs ys d e pairs default h k =
     differs-alike laws d e (says d e default) S says (value_at cmp xs k) (value_at cmp ys k) (values-alike cmp total R clones S xs ys pairs k) (h k)
@@ -87,5 +88,7 @@ module _ {K V : Type 0} (eq : V → V → Bool) (d : V) where
   filter-canonical cmp es = apart-listed cmp (filter (λ p. not (eq p.1 d)) es) (filter-apart es)
 
 -- what is left by a test that answers each time as `test` does
-pub left-filtered : {F X : Type 0} (calls : F → X → Bool → F → Type 0) (f : F) (test : X → Bool) (xs ys : List X) → IsFiltered calls f xs ys → ((x : X) (answer : Bool) (after : F) → calls f x answer after → (answer ≡ test x) × (after ≡ f)) → ys ≡ filter test xs
+pub left-filtered : {F X : Type 0} (calls : F → X → Bool → F → Type 0) (f : F) (test : X → Bool) (xs ys : List X)
+    → IsFiltered calls f xs ys → ((x : X) (answer : Bool) (after : F) → calls f x answer after → (answer ≡ test x) × (after ≡ f))
+    → ys ≡ filter test xs
 left-filtered calls f test xs ys left says = filter_same calls test f says xs ys left

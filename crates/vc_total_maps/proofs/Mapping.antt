@@ -24,7 +24,8 @@ holds-there P d (Some v) p h = h
 holds-there P d None p h = p
 
 -- a key that comes in from the left map alone is a clone of the one there
-comes-from-left : {K V X : Type 0} (is_clone : K → K → Type 0) (p : Option (K × V)) (z : Option (K × X)) → IfSome z (λ r. ClonesFirst {W = V} is_clone p None r.0) → IfSome z (λ r. IsSomeAnd p (λ q. is_clone q.0 r.0))
+comes-from-left : {K V X : Type 0} (is_clone : K → K → Type 0) (p : Option (K × V)) (z : Option (K × X))
+    → IfSome z (λ r. ClonesFirst {W = V} is_clone p None r.0) → IfSome z (λ r. IsSomeAnd p (λ q. is_clone q.0 r.0))
 comes-from-left is_clone p None h = tt
 comes-from-left is_clone (Some q) (Some r) h = h
 comes-from-left is_clone None (Some r) h = h

@@ -30,7 +30,8 @@ ClonesFirst is_clone None (Some q) k = is_clone q.0 k
 ClonesFirst is_clone None None k = ⊥
 
 -- c is what answers that `May` allows make of a and b: one on the two defaults, and one on the two values at each key
-pub record IsCombined {K V W X : Type 0} (cmp : K → K → Ordering) (eq : X → X → Bool) (May : V → W → X → Type 0) (is_clone : K → K → Type 0) (a : TotalMap K V) (b : TotalMap K W) (c : TotalMap K X) : Type 0 where
+pub record IsCombined {K V W X : Type 0} (cmp : K → K → Ordering) (eq : X → X → Bool) (May : V → W → X → Type 0)
+    (is_clone : K → K → Type 0) (a : TotalMap K V) (b : TotalMap K W) (c : TotalMap K X) : Type 0 where
   pub default : May a.default b.default c.default
   pub values : (k : K) → (v : X) × May (at cmp a k) (at cmp b k) v × Stands eq c.default v (value_at cmp c.mappings k)
   pub keys : (k : K) → IfSome (entry_at cmp c.mappings k) (λ p. ClonesFirst is_clone (entry_at cmp a.mappings k) (entry_at cmp b.mappings k) p.0)

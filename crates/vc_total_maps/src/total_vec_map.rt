@@ -16,8 +16,8 @@ use std::marker::Model;
 use std::ops::Index;
 use vc_maps::vec_map::{AbstractVecMap, VecMap};
 
-/// A map with a value at every key: a `VecMap`, and a default for each key that it lacks. No key is mapped to a value that equals
-/// the default.
+/// A map with a value at every key: a `VecMap`, and a default for each key that it lacks. No key is
+/// mapped to a value that equals the default.
 ///
 /// Contracts see it as the list of its pairs and the default.
 ///
@@ -64,7 +64,8 @@ impl<K: Ord, V: Eq, const N: usize, A: Allocator> TotalVecMap<K, V, N, A> {
     }
 }
 
-/// The value at a key: the one of an equal key, and else the default. Searches the list, and takes no memory.
+/// The value at a key: the one of an equal key, and else the default. Searches the list, and takes
+/// no memory.
 impl<'a, K: Ord, V: Eq, const N: usize, A: Allocator> Index<&'a K> for TotalVecMap<K, V, N, A> {
     type Output = V;
 
@@ -94,7 +95,8 @@ where
 
     /// The map with the values of `map`, and `default` at each key that it lacks.
     ///
-    /// Pairs with a value that equals the default are dropped: at such a key stands the default itself. Takes no memory.
+    /// Pairs with a value that equals the default are dropped: at such a key stands the default
+    /// itself. Takes no memory.
     pub fn new(mut map: VecMap<K, V, N, A>, default: V) -> Self
         ensures { result ≡ total_map (filter (λ p. not (V.eq p.1 default)) map) default }
     {
@@ -121,7 +123,8 @@ where
 {
     /// A copy, pair by pair, and of the default.
     ///
-    /// Takes memory where there are more than `N` pairs, and as the clones do; refused, it drops what was copied.
+    /// Takes memory where there are more than `N` pairs, and as the clones do; refused, it drops
+    /// what was copied.
     pub fn clone(&self) -> Result<Self, AllocError>
         requires keys { ClonesAreEqual K.cmp K.is_clone }
         requires values { (x y : V) → V.is_clone x y → IsTrue (V.eq x y) }

@@ -1,4 +1,5 @@
-//! Joins that build a fresh map: a look-up for each key that is asked at, and an insertion for each answer.
+//! Joins that build a fresh map: a look-up for each key that is asked at, and an insertion for each
+//! answer.
 ghost use Rattle.std.specs.Prelude.{◌≡◌, None, Ok, IfOk, OnOk, OnErr};
 ghost use Rattle.vc_joins.specs.Answers.{seen_left, seen_right};
 ghost use Rattle.vc_joins.specs.Entries.{AscendsByKey, entry_at};
@@ -23,7 +24,8 @@ pub fn put_answer<K: Ord + Clone + Drop, X: Drop>(
     requires clones { ClonesAreEqual K.cmp K.is_clone }
     requires ascends { AscendsByKey K.cmp joined.old.entries }
     requires absent { entry_at K.cmp joined.old.entries key.now ≡ None }
-    ensures put { OnOk result (IsPut K.cmp K.is_clone key.now answer joined.old.entries joined.new.entries) }
+    ensures put { OnOk result
+        (IsPut K.cmp K.is_clone key.now answer joined.old.entries joined.new.entries) }
     ensures err { OnErr result (joined.new.entries ≡ joined.old.entries) }
 {
     match answer {
@@ -35,7 +37,8 @@ pub fn put_answer<K: Ord + Clone + Drop, X: Drop>(
     }
 }
 
-/// Asks at a key of the left map, and puts the answer. One lifetime serves for a value that is not there.
+/// Asks at a key of the left map, and puts the answer. One lifetime serves for a value that is not
+/// there.
 fn put_left<'a, K: Ord + Clone + Drop, V, W: 'a, X: Drop, Q: Question<K, V, W, X>>(
     joined: &mut BTreeMap<K, X>,
     key: &'a K,
@@ -47,7 +50,8 @@ fn put_left<'a, K: Ord + Clone + Drop, V, W: 'a, X: Drop, Q: Question<K, V, W, X
     requires takes { Q.takes question.now (seen_left key value other) }
     requires ascends { AscendsByKey K.cmp joined.old.entries }
     requires absent { entry_at K.cmp joined.old.entries key.now ≡ None }
-    ensures { OnOk result (IsAskedAndPut K.cmp K.is_clone (λ a r. Q.may question.now a (Ok r)) (seen_left key.entry value.entry other.entry) joined.old.entries joined.new.entries) }
+    ensures { OnOk result (IsAskedAndPut K.cmp K.is_clone (λ a r. Q.may question.now a (Ok r))
+        (seen_left key.entry value.entry other.entry) joined.old.entries joined.new.entries) }
 {
     match other {
         Some(other) => {
@@ -62,7 +66,8 @@ fn put_left<'a, K: Ord + Clone + Drop, V, W: 'a, X: Drop, Q: Question<K, V, W, X
     }
 }
 
-/// Asks at a key of the right map, and puts the answer. One lifetime serves for a value that is not there.
+/// Asks at a key of the right map, and puts the answer. One lifetime serves for a value that is not
+/// there.
 fn put_right<'a, K: Ord + Clone + Drop, V: 'a, W, X: Drop, Q: Question<K, V, W, X>>(
     joined: &mut BTreeMap<K, X>,
     key: &'a K,
@@ -74,7 +79,8 @@ fn put_right<'a, K: Ord + Clone + Drop, V: 'a, W, X: Drop, Q: Question<K, V, W, 
     requires takes { Q.takes question.now (seen_right key value other) }
     requires ascends { AscendsByKey K.cmp joined.old.entries }
     requires absent { entry_at K.cmp joined.old.entries key.now ≡ None }
-    ensures { OnOk result (IsAskedAndPut K.cmp K.is_clone (λ a r. Q.may question.now a (Ok r)) (seen_right key.entry value.entry other.entry) joined.old.entries joined.new.entries) }
+    ensures { OnOk result (IsAskedAndPut K.cmp K.is_clone (λ a r. Q.may question.now a (Ok r))
+        (seen_right key.entry value.entry other.entry) joined.old.entries joined.new.entries) }
 {
     match value {
         Some(value) => {
@@ -100,8 +106,11 @@ pub fn join_left<
     Q: Question<K, V, W, X>,
 >(alloc: Global, this: &L, that: &M, question: &Q) -> Result<BTreeMap<K, X>, AllocError>
     requires clones { ClonesAreEqual K.cmp K.is_clone }
-    requires takes { (a : _) → IsAsked K.cmp kind.Left left_spelling (L.pairs this.now) (M.pairs that.now) a → Q.takes question.now a }
-    ensures { IfOk result (λ m. IsJoin K.cmp kind.Left left_spelling (L.pairs this.now) (M.pairs that.now) (λ a r. Q.may question.now a (Ok r)) (λ a. K.is_clone (shown_key a)) m.entries) }
+    requires takes { (a : _) → IsAsked K.cmp kind.Left left_spelling (L.pairs this.now)
+        (M.pairs that.now) a → Q.takes question.now a }
+    ensures { IfOk result (λ m. IsJoin K.cmp kind.Left left_spelling (L.pairs this.now)
+        (M.pairs that.now) (λ a r. Q.may question.now a (Ok r)) (λ a. K.is_clone (shown_key a))
+        m.entries) }
 {
     let mut joined = BTreeMap::new(alloc);
     'keys: for (key, value) in this.iter() {
@@ -121,8 +130,11 @@ pub fn join_right<
     Q: Question<K, V, W, X>,
 >(alloc: Global, this: &L, that: &M, question: &Q) -> Result<BTreeMap<K, X>, AllocError>
     requires clones { ClonesAreEqual K.cmp K.is_clone }
-    requires takes { (a : _) → IsAsked K.cmp kind.Right right_spelling (L.pairs this.now) (M.pairs that.now) a → Q.takes question.now a }
-    ensures { IfOk result (λ m. IsJoin K.cmp kind.Right right_spelling (L.pairs this.now) (M.pairs that.now) (λ a r. Q.may question.now a (Ok r)) (λ a. K.is_clone (shown_key a)) m.entries) }
+    requires takes { (a : _) → IsAsked K.cmp kind.Right right_spelling (L.pairs this.now)
+        (M.pairs that.now) a → Q.takes question.now a }
+    ensures { IfOk result (λ m. IsJoin K.cmp kind.Right right_spelling (L.pairs this.now)
+        (M.pairs that.now) (λ a r. Q.may question.now a (Ok r)) (λ a. K.is_clone (shown_key a))
+        m.entries) }
 {
     let mut joined = BTreeMap::new(alloc);
     'keys: for (key, other) in that.iter() {
@@ -142,8 +154,11 @@ pub fn join_inner<
     Q: Question<K, V, W, X>,
 >(alloc: Global, this: &L, that: &M, question: &Q) -> Result<BTreeMap<K, X>, AllocError>
     requires clones { ClonesAreEqual K.cmp K.is_clone }
-    requires takes { (a : _) → IsAsked K.cmp kind.Inner right_spelling (L.pairs this.now) (M.pairs that.now) a → Q.takes question.now a }
-    ensures { IfOk result (λ m. IsJoin K.cmp kind.Inner right_spelling (L.pairs this.now) (M.pairs that.now) (λ a r. Q.may question.now a (Ok r)) (λ a. K.is_clone (shown_key a)) m.entries) }
+    requires takes { (a : _) → IsAsked K.cmp kind.Inner right_spelling (L.pairs this.now)
+        (M.pairs that.now) a → Q.takes question.now a }
+    ensures { IfOk result (λ m. IsJoin K.cmp kind.Inner right_spelling (L.pairs this.now)
+        (M.pairs that.now) (λ a r. Q.may question.now a (Ok r)) (λ a. K.is_clone (shown_key a))
+        m.entries) }
 {
     let mut joined = BTreeMap::new(alloc);
     'keys: for (key, other) in that.iter() {
@@ -166,8 +181,11 @@ pub fn join_outer<
     Q: Question<K, V, W, X>,
 >(alloc: Global, this: &L, that: &M, question: &Q) -> Result<BTreeMap<K, X>, AllocError>
     requires clones { ClonesAreEqual K.cmp K.is_clone }
-    requires takes { (a : _) → IsAsked K.cmp kind.Outer left_spelling (L.pairs this.now) (M.pairs that.now) a → Q.takes question.now a }
-    ensures { IfOk result (λ m. IsJoin K.cmp kind.Outer left_spelling (L.pairs this.now) (M.pairs that.now) (λ a r. Q.may question.now a (Ok r)) (λ a. K.is_clone (shown_key a)) m.entries) }
+    requires takes { (a : _) → IsAsked K.cmp kind.Outer left_spelling (L.pairs this.now)
+        (M.pairs that.now) a → Q.takes question.now a }
+    ensures { IfOk result (λ m. IsJoin K.cmp kind.Outer left_spelling (L.pairs this.now)
+        (M.pairs that.now) (λ a r. Q.may question.now a (Ok r)) (λ a. K.is_clone (shown_key a))
+        m.entries) }
 {
     let mut joined = join_left(alloc, this, that, question)?;
     'keys: for (key, other) in that.iter() {

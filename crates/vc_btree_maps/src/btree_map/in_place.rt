@@ -16,7 +16,8 @@ use super::keep::{Keep, KeepAlone};
 use std::alloc::{AllocError, Global};
 use std::collections::BTreeMap;
 
-/// The keys of a map ascend. Each call of a `BTreeMap` says so, and its type does not, so a walk along another map asks first.
+/// The keys of a map ascend. Each call of a `BTreeMap` says so, and its type does not, so a walk
+/// along another map asks first.
 fn keys_ascend<K: Ord, V>(map: &BTreeMap<K, V>)
     ensures { AscendsByKey K.cmp map.now.entries }
 {
@@ -29,27 +30,34 @@ pub fn keep_each<K: Ord + Drop, V: Drop, W, M: AbstractBTreeMap<K, W>, J: Keep<K
     that: &M,
     judge: &J,
 )
-    requires takes { (a : _) → IsAsked K.cmp kind.Left left_spelling this.old.entries (M.pairs that.now) a → J.takes judge.now a }
-    ensures { IsJoin K.cmp kind.Left left_spelling this.old.entries (M.pairs that.now) (J.may judge.now) MovedKey this.new.entries }
+    requires takes { (a : _) → IsAsked K.cmp kind.Left left_spelling this.old.entries
+        (M.pairs that.now) a → J.takes judge.now a }
+    ensures { IsJoin K.cmp kind.Left left_spelling this.old.entries (M.pairs that.now)
+        (J.may judge.now) MovedKey this.new.entries }
 {
     let stays = |key: &K, value: &mut V| -> bool
-        requires { J.takes judge.now (at_pair key.now value.old (value_at K.cmp (M.pairs that.now) key.now)) }
-        ensures { J.may judge.entry.now (at_pair key.entry.now value.old (value_at K.cmp (M.pairs that.entry.now) key.entry.now)) (if_kept result value.new) }
+        requires { J.takes judge.now
+            (at_pair key.now value.old (value_at K.cmp (M.pairs that.now) key.now)) }
+        ensures { J.may judge.entry.now (at_pair key.entry.now value.old
+            (value_at K.cmp (M.pairs that.entry.now) key.entry.now)) (if_kept result value.new) }
     { judge.keep(key, value, that.get(key)) };
     keys_ascend(this);
     this.retain(stays);
 }
 
-/// Decides whether the value at a key stays, and answers whether there is one. The key is shown as it is handed in.
+/// Decides whether the value at a key stays, and answers whether there is one. The key is shown as
+/// it is handed in.
 pub fn keep_at<K: Ord + Drop, V: Drop, W, J: Keep<K, V, W>>(
     this: &mut BTreeMap<K, V>,
     key: &K,
     other: &W,
     judge: &J,
 ) -> bool
-    requires takes { (v : _) → value_at K.cmp this.old.entries key.now ≡ Some v → J.takes judge.now (arg.Both key.now v other.now) }
+    requires takes { (v : _) → value_at K.cmp this.old.entries key.now ≡ Some v
+        → J.takes judge.now (arg.Both key.now v other.now) }
     ensures had { result ≡ is_some (value_at K.cmp this.old.entries key.now) }
-    ensures kept { IsKept K.cmp (J.may judge.now) key.now other.now this.old.entries this.new.entries }
+    ensures kept { IsKept K.cmp (J.may judge.now) key.now other.now this.old.entries
+        this.new.entries }
 {
     let Some(value) = this.get_mut(key) else {
         return false;
@@ -60,8 +68,8 @@ pub fn keep_at<K: Ord + Drop, V: Drop, W, J: Keep<K, V, W>>(
     true
 }
 
-/// Asks at each key of the other map: `judge` where the map has it, whose value then stays or goes, and `other_alone` where it does not,
-/// which changes nothing.
+/// Asks at each key of the other map: `judge` where the map has it, whose value then stays or goes,
+/// and `other_alone` where it does not, which changes nothing.
 pub fn keep_right<
     K: Ord + Drop,
     V: Drop,
@@ -70,9 +78,12 @@ pub fn keep_right<
     J: Keep<K, V, W>,
     G: Fn(&K, &W),
 >(this: &mut BTreeMap<K, V>, that: &M, judge: &J, other_alone: &G)
-    requires takes { (a : _) → IsAsked K.cmp kind.Inner right_spelling this.old.entries (M.pairs that.now) a → J.takes judge.now a }
-    requires callable { (k : _) (w : _) → IsAsked {V = V} K.cmp kind.Right right_spelling this.old.entries (M.pairs that.now) (arg.Right k.now w.now) → G.pre other_alone.now k w }
-    ensures { IsJoin K.cmp kind.Left right_spelling this.old.entries (M.pairs that.now) (OrStays (J.may judge.now)) (StayedKey K.cmp this.old.entries) this.new.entries }
+    requires takes { (a : _) → IsAsked K.cmp kind.Inner right_spelling this.old.entries
+        (M.pairs that.now) a → J.takes judge.now a }
+    requires callable { (k : _) (w : _) → IsAsked {V = V} K.cmp kind.Right right_spelling
+        this.old.entries (M.pairs that.now) (arg.Right k.now w.now) → G.pre other_alone.now k w }
+    ensures { IsJoin K.cmp kind.Left right_spelling this.old.entries (M.pairs that.now)
+        (OrStays (J.may judge.now)) (StayedKey K.cmp this.old.entries) this.new.entries }
 {
     keys_ascend(this);
     'keys: for (key, other) in that.iter() {
@@ -82,7 +93,8 @@ pub fn keep_right<
     }
 }
 
-/// Puts what `given` answers at each key that the other map alone has, and answers the pairs of the other map at the keys of both.
+/// Puts what `given` answers at each key that the other map alone has, and answers the pairs of the
+/// other map at the keys of both.
 ///
 /// Refused, it has put some of them.
 pub fn give_new<
@@ -99,11 +111,15 @@ pub fn give_new<
     given: &G,
 ) -> Result<Vec<(&'m K, &'m W)>, AllocError>
     requires clones { ClonesAreEqual K.cmp K.is_clone }
-    requires callable { (k : _) (w : _) → IsAsked {V = V} K.cmp kind.Outer right_spelling this.old.entries (M.pairs that.now) (arg.Right k.now w.now) → G.pre given.now k w }
+    requires callable { (k : _) (w : _) → IsAsked {V = V} K.cmp kind.Outer right_spelling
+        this.old.entries (M.pairs that.now) (arg.Right k.now w.now) → G.pre given.now k w }
     ensures ascends { AscendsByKey K.cmp (M.pairs that.now) }
-    ensures given { OnOk result (IsGiven K.cmp K.is_clone (MayGive G.Fn given.now) (M.pairs that.now) this.old.entries this.new.entries) }
-    ensures shared { IfOk result (λ shared. map deref_pair shared.items ≡ shared_with K.cmp this.old.entries (M.pairs that.now)) }
-    ensures grown { OnErr result (IsGrown K.cmp K.is_clone (MayGive G.Fn given.now) (M.pairs that.now) this.old.entries this.new.entries) }
+    ensures given { OnOk result (IsGiven K.cmp K.is_clone (MayGive G.Fn given.now)
+        (M.pairs that.now) this.old.entries this.new.entries) }
+    ensures shared { IfOk result (λ shared. map deref_pair shared.items
+        ≡ shared_with K.cmp this.old.entries (M.pairs that.now)) }
+    ensures grown { OnErr result (IsGrown K.cmp K.is_clone (MayGive G.Fn given.now)
+        (M.pairs that.now) this.old.entries this.new.entries) }
 {
     keys_ascend(this);
     let mut shared = Vec::new(alloc);
@@ -124,8 +140,10 @@ pub fn keep_shared<K: Ord + Drop, V: Drop, W, J: Keep<K, V, W>>(
     judge: &J,
 )
     requires ascends { AscendsByKey K.cmp (map deref_pair shared.now) }
-    requires takes { (k : K) (q : _) (p : _) → entry_at K.cmp (map deref_pair shared.now) k ≡ Some q → entry_at K.cmp this.old.entries k ≡ Some p → J.takes judge.now (arg.Both q.0 p.1 q.1) }
-    ensures { IsKeptAlong K.cmp (J.may judge.now) (map deref_pair shared.now) this.old.entries this.new.entries }
+    requires takes { (k : K) (q : _) (p : _) → entry_at K.cmp (map deref_pair shared.now) k ≡ Some q
+        → entry_at K.cmp this.old.entries k ≡ Some p → J.takes judge.now (arg.Both q.0 p.1 q.1) }
+    ensures { IsKeptAlong K.cmp (J.may judge.now) (map deref_pair shared.now) this.old.entries
+        this.new.entries }
 {
     keys_ascend(this);
     'pairs: for (key, other) in shared {
@@ -133,7 +151,8 @@ pub fn keep_shared<K: Ord + Drop, V: Drop, W, J: Keep<K, V, W>>(
     }
 }
 
-/// The outer join in place. First `given` is asked at the keys that the other map alone has, and then `judge` at those that the map had before.
+/// The outer join in place. First `given` is asked at the keys that the other map alone has, and
+/// then `judge` at those that the map had before.
 pub fn join_outer_with<
     K: Ord + Clone + Drop,
     V: Drop,
@@ -149,10 +168,16 @@ pub fn join_outer_with<
     given: &G,
 ) -> Result<(), AllocError>
     requires clones { ClonesAreEqual K.cmp K.is_clone }
-    requires takes { (k : K) (v : V) (w : _) → IsAsked K.cmp kind.Outer right_spelling this.old.entries (M.pairs that.now) (at_pair k v w) → J.takes judge.now (at_pair k v w) }
-    requires callable { (k : _) (w : _) → IsAsked {V = V} K.cmp kind.Outer right_spelling this.old.entries (M.pairs that.now) (arg.Right k.now w.now) → G.pre given.now k w }
-    ensures joins { OnOk result (IsJoin K.cmp kind.Outer right_spelling this.old.entries (M.pairs that.now) (OrGives (J.may judge.now) (MayGive G.Fn given.now)) (StayedOrCloned K.cmp this.old.entries K.is_clone) this.new.entries) }
-    ensures grown { OnErr result (IsGrown K.cmp K.is_clone (MayGive G.Fn given.now) (M.pairs that.now) this.old.entries this.new.entries) }
+    requires takes { (k : K) (v : V) (w : _)
+        → IsAsked K.cmp kind.Outer right_spelling this.old.entries (M.pairs that.now)
+        (at_pair k v w) → J.takes judge.now (at_pair k v w) }
+    requires callable { (k : _) (w : _) → IsAsked {V = V} K.cmp kind.Outer right_spelling
+        this.old.entries (M.pairs that.now) (arg.Right k.now w.now) → G.pre given.now k w }
+    ensures joins { OnOk result (IsJoin K.cmp kind.Outer right_spelling this.old.entries
+        (M.pairs that.now) (OrGives (J.may judge.now) (MayGive G.Fn given.now))
+        (StayedOrCloned K.cmp this.old.entries K.is_clone) this.new.entries) }
+    ensures grown { OnErr result (IsGrown K.cmp K.is_clone (MayGive G.Fn given.now)
+        (M.pairs that.now) this.old.entries this.new.entries) }
 {
     let shared = give_new(alloc, this, that, given)?;
     keep_shared(this, &shared, judge);

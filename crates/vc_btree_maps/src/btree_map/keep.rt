@@ -13,10 +13,12 @@ pub trait Keep<K, V, W> {
     /// This may stay.
     ghost may: { Self → OuterJoinArg K V W → Option V → Type 0 };
 
-    /// Whether the value stays at a key of the map, of which the other map has the value `other`, if any.
+    /// Whether the value stays at a key of the map, of which the other map has the value `other`,
+    /// if any.
     fn keep(&self, key: &K, value: &mut V, other: Option<&W>) -> bool
         requires { takes self.now (at_pair key.now value.old (option_copied other)) }
-        ensures { may self.now (at_pair key.entry.now value.old (option_copied other.entry)) (if_kept result value.new) };
+        ensures { may self.now (at_pair key.entry.now value.old (option_copied other.entry))
+            (if_kept result value.new) };
 }
 
 /// A closure that is asked at each key of the map.
@@ -32,7 +34,8 @@ pub struct KeepShared<'f, F>(pub &'f F);
 pub struct KeepAlone<'j, J>(pub &'j J);
 
 impl<'f, K, V, W, F: Fn(&K, &mut V, Option<&W>) -> bool> Keep<K, V, W> for KeepLeft<'f, F> {
-    ghost takes = { λ q a. (k : _) (v : _) (w : _) → at_pair k.now v.now (option_copied w) ≡ a → F.pre q.0.now k v w };
+    ghost takes = { λ q a. (k : _) (v : _) (w : _) → at_pair k.now v.now (option_copied w) ≡ a
+        → F.pre q.0.now k v w };
 
     ghost may = { λ q a r. MayLeave F.Fn q.0.now a r };
 
@@ -42,7 +45,8 @@ impl<'f, K, V, W, F: Fn(&K, &mut V, Option<&W>) -> bool> Keep<K, V, W> for KeepL
 }
 
 impl<'f, K, V, W, F: Fn(&K, &mut V, &W) -> bool> Keep<K, V, W> for KeepShared<'f, F> {
-    ghost takes = { λ q a. (k : _) (v : _) (w : _) → arg.Both k.now v.now w.now ≡ a → F.pre q.0.now k v w };
+    ghost takes = { λ q a. (k : _) (v : _) (w : _) → arg.Both k.now v.now w.now ≡ a
+        → F.pre q.0.now k v w };
 
     ghost may = { λ q a r. OrDropped (MayLeaveShared F.Fn q.0.now) a r };
 

@@ -1,6 +1,7 @@
 //! Pairs that go, and copies of a map.
 ghost use Rattle.std.specs.Prelude.{IfOk};
 ghost use Rattle.std.specs.Fn.{CalledAt};
+ghost use Rattle.std.specs.Iterator.{CallableOnAllAt, YieldsFirst};
 ghost use Rattle.std.specs.List.{AllZip};
 ghost use Rattle.std.specs.List.Retain.{IsFiltered};
 ghost use Rattle.vc_joins.specs.Entries.{entry_at};
@@ -17,13 +18,15 @@ impl<K: Ord + Drop, V: Drop, const N: usize, A: Allocator + Copy> VecMap<K, V, N
 where
     (K, V): MadeWith<A>,
 {
-    /// Keeps the pairs at which `f` answers true, and drops the others. `f` is asked once at each pair, in ascending order of the keys.
+    /// Keeps the pairs at which `f` answers true, and drops the others. `f` is asked once at each
+    /// pair, in ascending order of the keys.
     ///
     /// Makes at most one swap for each pair, and takes no memory.
     pub fn retain<F: FnMut(&(K, V)) -> bool>(&mut self, f: F)
-        requires { F.IsAlwaysCallable f }
+        requires { CallableOnAllAt (YieldsFirst (λ rest. rest)) F.FnMut self.old f }
         ensures filtered { IsFiltered (CalledAt F.FnMut) f self.old self.new }
-        ensures entries { (k : K) → IsRetained (CalledAt F.FnMut) (entry_at K.cmp self.old k) (entry_at K.cmp self.new k) }
+        ensures entries { (k : K) → IsRetained (CalledAt F.FnMut) (entry_at K.cmp self.old k)
+            (entry_at K.cmp self.new k) }
     {
         let kept = keep_in_front(self.pairs.as_mut_slice(), f);
         self.pairs.truncate(kept);
@@ -36,11 +39,12 @@ where
 {
     /// A copy, pair by pair, with the allocator of this map.
     ///
-    /// Takes memory where there are more than `N`, for as many as a map has room for that grew to hold them, and as the clones do; refused,
-    /// it drops what was copied.
+    /// Takes memory where there are more than `N`, for as many as a map has room for that grew to
+    /// hold them, and as the clones do; refused, it drops what was copied.
     pub fn clone(&self) -> Result<Self, AllocError>
         requires { ClonesAreEqual K.cmp K.is_clone }
-        ensures { IfOk result (λ copy. AllZip (λ p q. K.is_clone p.0 q.0 × V.is_clone p.1 q.1) self.now copy) }
+        ensures { IfOk result
+            (λ copy. AllZip (λ p q. K.is_clone p.0 q.0 × V.is_clone p.1 q.1) self.now copy) }
     {
         let pairs = clones_of(*self.pairs.allocator(), self.pairs.as_slice())?;
         Ok(VecMap { pairs })

@@ -20,13 +20,14 @@ impl<K: Ord + Drop, V: Drop, const N: usize, A: Allocator + Copy> VecMap<K, V, N
 where
     (K, V): MadeWith<A>,
 {
-    /// Takes in the pairs of `that`. At a key of both maps stands what `f` makes of the value of this map and that of `that`, under the key of
-    /// this map.
+    /// Takes in the pairs of `that`. At a key of both maps stands what `f` makes of the value of
+    /// this map and that of `that`, under the key of this map.
     ///
-    /// All pairs are moved. `f` is asked at the keys of both maps alone, once at each, in ascending order.
+    /// All pairs are moved. `f` is asked at the keys of both maps alone, once at each, in ascending
+    /// order.
     ///
-    /// It grows at most once, before the first question, and not where both maps fit together. Refused, it leaves this map as it was and drops
-    /// `that`, and has not asked `f`.
+    /// It grows at most once, before the first question, and not where both maps fit together.
+    /// Refused, it leaves this map as it was and drops `that`, and has not asked `f`.
     ///
     /// ```
     /// totals.combine_with(today, |held, more| held.max(more))?;
@@ -36,9 +37,13 @@ where
         that: VecMap<K, V, M, A>,
         f: F,
     ) -> Result<(), AllocError>
-        requires callable { (k : _) (v : _) (w : _) → IsAsked K.cmp JoinKind.Outer left_spelling self.old that (arg.Both k v w) → F.pre f v w }
-        ensures joins { OnOk result (IsJoin K.cmp JoinKind.Outer left_spelling self.old that (Combines (λ v w x. F.post f v w x)) MovedKey self.new) }
-        ensures function { OnOk result ((g : _) → IsCombinedBy K.cmp self.old that (λ v w x. F.post f v w x) g self.new) }
+        requires callable { (k : _) (v : _) (w : _)
+            → IsAsked K.cmp JoinKind.Outer left_spelling self.old that (arg.Both k v w)
+            → F.pre f v w }
+        ensures joins { OnOk result (IsJoin K.cmp JoinKind.Outer left_spelling self.old that
+            (Combines (λ v w x. F.post f v w x)) MovedKey self.new) }
+        ensures function { OnOk result
+            ((g : _) → IsCombinedBy K.cmp self.old that (λ v w x. F.post f v w x) g self.new) }
         ensures err { OnErr result (self.new ≡ self.old) }
     {
         let alloc = *self.pairs.allocator();
@@ -49,13 +54,17 @@ where
         Ok(())
     }
 
-    /// Takes in the pairs of `that`. At a key of both maps stands the value of `that`, under the key of this map.
+    /// Takes in the pairs of `that`. At a key of both maps stands the value of `that`, under the
+    /// key of this map.
     ///
-    /// All pairs are moved. It grows at most once, and not where both maps fit together. Refused, it leaves this map as it was and drops
-    /// `that`.
+    /// All pairs are moved. It grows at most once, and not where both maps fit together. Refused,
+    /// it leaves this map as it was and drops `that`.
     pub fn merge_with<const M: usize>(&mut self, that: VecMap<K, V, M, A>) -> Result<(), AllocError>
-        ensures joins { OnOk result (IsJoin K.cmp JoinKind.Outer left_spelling self.old that (Combines (λ v w x. x ≡ w)) MovedKey self.new) }
-        ensures values { OnOk result ((k : K) → value_at K.cmp self.new k ≡ option_or (value_at K.cmp that k) (value_at K.cmp self.old k)) }
+        ensures joins { OnOk result (IsJoin K.cmp JoinKind.Outer left_spelling self.old that
+            (Combines (λ v w x. x ≡ w)) MovedKey self.new) }
+        ensures values { OnOk result ((k : K)
+            → value_at K.cmp self.new k
+            ≡ option_or (value_at K.cmp that k) (value_at K.cmp self.old k)) }
         ensures err { OnErr result (self.new ≡ self.old) }
     {
         let take_other = |_held: V, other: V| -> V
@@ -64,11 +73,11 @@ where
         self.combine_with(that, take_other)
     }
 
-    /// Takes in the items of an iterator whose keys ascend strictly and which ends. At a key of both stands the value of the item, under the
-    /// key of this map.
+    /// Takes in the items of an iterator whose keys ascend strictly and which ends. At a key of
+    /// both stands the value of the item, under the key of this map.
     ///
-    /// The items become a map first, which grows as `from_iter` does; then this one grows at most once. Refused, it leaves this map as it was,
-    /// and drops the items that came and the iterator.
+    /// The items become a map first, which grows as `from_iter` does; then this one grows at most
+    /// once. Refused, it leaves this map as it was, and drops the items that came and the iterator.
     pub fn extend<I: Iterator<Item = (K, V)> + SortedByKey<K, V>>(
         &mut self,
         iter: I,
@@ -76,9 +85,15 @@ where
         requires can { I.can_next iter }
         requires ends { IsFinite (I.remaining iter) }
         requires sorted { I.is_sorted_by_key iter }
-        ensures joins { OnOk result ((items : List (K × V)) × Drains I.next_gives iter items × IsJoin K.cmp JoinKind.Outer left_spelling self.old items (Combines (λ v w x. x ≡ w)) MovedKey self.new) }
-        ensures runs { OnOk result (WholeRun I.next_gives iter (λ p. IsJoin K.cmp JoinKind.Outer left_spelling self.old p.items (Combines (λ v w x. x ≡ w)) MovedKey self.new)) }
-        ensures values { OnOk result (WholeRun I.next_gives iter (λ p. (k : K) → value_at K.cmp self.new k ≡ option_or (value_at K.cmp p.items k) (value_at K.cmp self.old k))) }
+        ensures joins { OnOk result ((items : List (K × V)) × Drains I.next_gives iter items
+            × IsJoin K.cmp JoinKind.Outer left_spelling self.old items (Combines (λ v w x. x ≡ w))
+            MovedKey self.new) }
+        ensures runs { OnOk result (WholeRun I.next_gives iter
+            (λ p. IsJoin K.cmp JoinKind.Outer left_spelling self.old p.items
+            (Combines (λ v w x. x ≡ w)) MovedKey self.new)) }
+        ensures values { OnOk result (WholeRun I.next_gives iter
+            (λ p. (k : K) → value_at K.cmp self.new k
+            ≡ option_or (value_at K.cmp p.items k) (value_at K.cmp self.old k))) }
         ensures err { OnErr result (self.new ≡ self.old) }
     {
         let that: VecMap<K, V, N, A> = VecMap::from_iter(*self.pairs.allocator(), iter)?;

@@ -16,7 +16,8 @@ use std::hash::{Hash, Hasher};
 impl<K: Ord, V: PartialEq, const N: usize, A: Allocator> PartialEq for VecMap<K, V, N, A> {
     ghost eq = { pointwise (λ p q. K.eq p.0 q.0 && V.eq p.1 q.1) };
 
-    ghost laws = { lists_per (and_per (on_per (λ p. p.0) K.PartialEq.laws) (on_per (λ p. p.1) V.laws)) };
+    ghost laws = { lists_per
+        (and_per (on_per (λ p. p.0) K.PartialEq.laws) (on_per (λ p. p.1) V.laws)) };
 
     fn eq(&self, other: &Self) -> bool {
         self.as_ref() == other.as_ref()
@@ -24,15 +25,18 @@ impl<K: Ord, V: PartialEq, const N: usize, A: Allocator> PartialEq for VecMap<K,
 }
 
 impl<K: Ord, V: Eq, const N: usize, A: Allocator> Eq for VecMap<K, V, N, A> {
-    ghost laws = { lists_equiv (and_equiv (on_equiv (λ p. p.0) K.Eq.laws) (on_equiv (λ p. p.1) V.Eq.laws)) };
+    ghost laws = { lists_equiv
+        (and_equiv (on_equiv (λ p. p.0) K.Eq.laws) (on_equiv (λ p. p.1) V.Eq.laws)) };
 }
 
-/// Maps are ordered as the lists of their pairs are: by the first place at which they differ, there by the key and then by the
-/// value, and a list that has ended comes first.
+/// Maps are ordered as the lists of their pairs are: by the first place at which they differ, there
+/// by the key and then by the value, and a list that has ended comes first.
 impl<K: Ord, V: PartialOrd, const N: usize, A: Allocator> PartialOrd for VecMap<K, V, N, A> {
-    ghost partial_cmp = { slice_partial_cmp (λ p q. partial_ordering_then (K.partial_cmp p.0 q.0) (V.partial_cmp p.1 q.1)) };
+    ghost partial_cmp = { slice_partial_cmp
+        (λ p q. partial_ordering_then (K.partial_cmp p.0 q.0) (V.partial_cmp p.1 q.1)) };
 
-    ghost laws = { lists_po (then_po (on_po (λ p. p.0) K.PartialOrd.laws) (on_po (λ p. p.1) V.PartialOrd.laws)) };
+    ghost laws = { lists_po
+        (then_po (on_po (λ p. p.0) K.PartialOrd.laws) (on_po (λ p. p.1) V.PartialOrd.laws)) };
 
     fn partial_cmp(&self, other: &Self) -> Option<Ordering> {
         self.as_ref().partial_cmp(&other.as_ref())
@@ -42,13 +46,16 @@ impl<K: Ord, V: PartialOrd, const N: usize, A: Allocator> PartialOrd for VecMap<
 impl<K: Ord, V: Ord, const N: usize, A: Allocator> Ord for VecMap<K, V, N, A> {
     ghost cmp = { slice_cmp (λ p q. ordering_then (K.cmp p.0 q.0) (V.cmp p.1 q.1)) };
 
-    ghost total = { lists_total (then_total (on_total (λ p. p.0) K.total) (on_total (λ p. p.1) V.total)) };
+    ghost total = { lists_total
+        (then_total (on_total (λ p. p.0) K.total) (on_total (λ p. p.1) V.total)) };
 
-    ghost matches_partial_cmp = { lists_agrees (then_agrees (λ p q. K.matches_partial_cmp p.0 q.0) (λ p q. V.matches_partial_cmp p.1 q.1)) };
+    ghost matches_partial_cmp = { lists_agrees
+        (then_agrees (λ p q. K.matches_partial_cmp p.0 q.0) (λ p q. V.matches_partial_cmp p.1 q.1)) };
 
-    ghost matches_eq = { let K' = K.cmp in
-        let V' = V.cmp in
-        lists_ties (λ p q. ordering_then (K' p.0 q.0) (V' p.1 q.1)) (λ p q. both_tied _ _ (K' p.0 q.0) (V' p.1 q.1) (K.matches_eq p.0 q.0) (V.matches_eq p.1 q.1)) };
+    ghost matches_eq = { let K' = K.cmp in let V' = V.cmp in
+        lists_ties (λ p q. ordering_then (K' p.0 q.0) (V' p.1 q.1))
+        (λ p q. both_tied _ _ (K' p.0 q.0) (V' p.1 q.1) (K.matches_eq p.0 q.0)
+        (V.matches_eq p.1 q.1)) };
 
     fn cmp(&self, other: &Self) -> Ordering {
         self.as_ref().cmp(&other.as_ref())
@@ -59,7 +66,9 @@ impl<K: Ord, V: Ord, const N: usize, A: Allocator> Ord for VecMap<K, V, N, A> {
 impl<K: Ord + Hash, V: Hash, const N: usize, A: Allocator> Hash for VecMap<K, V, N, A> {
     ghost hash_input = { fed.slice (λ p. K.hash_input p.0 ++ V.hash_input p.1) };
 
-    ghost respects_eq = { (items_Alike (and-Alike (on_Alike (λ p. p.0) (record { fed = K.respects_eq })) (on_Alike (λ p. p.1) (record { fed = V.respects_eq })))).fed };
+    ghost respects_eq = { (items_Alike (and-Alike
+        (on_Alike (λ p. p.0) (record { fed = K.respects_eq }))
+        (on_Alike (λ p. p.1) (record { fed = V.respects_eq })))).fed };
 
     fn hash<H: Hasher>(&self, state: &mut H) {
         self.as_ref().hash(state);

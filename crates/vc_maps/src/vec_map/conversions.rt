@@ -47,8 +47,8 @@ where
         Ok(VecMap { pairs })
     }
 
-    /// The map of a list whose keys ascend strictly, as [`ascends_by_key`](vc_merge::iterators::ascends_by_key) tells. The pairs
-    /// are moved.
+    /// The map of a list whose keys ascend strictly, as
+    /// [`ascends_by_key`](vc_merge::iterators::ascends_by_key) tells. The pairs are moved.
     ///
     /// Takes memory where there are more than `N`; refused, it drops the pairs.
     pub fn from_vec(alloc: A, vec: Vec<(K, V)>) -> Result<Self, AllocError>
@@ -59,9 +59,11 @@ where
         Ok(VecMap { pairs })
     }
 
-    /// The map of the items of an iterator whose keys ascend strictly and which ends. The items are moved.
+    /// The map of the items of an iterator whose keys ascend strictly and which ends. The items are
+    /// moved.
     ///
-    /// Takes memory where there are more than `N`; refused, it drops the items that came and the iterator.
+    /// Takes memory where there are more than `N`; refused, it drops the items that came and the
+    /// iterator.
     pub fn from_iter<I: Iterator<Item = (K, V)> + SortedByKey<K, V>>(
         alloc: A,
         iter: I,

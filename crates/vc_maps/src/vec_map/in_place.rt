@@ -1,4 +1,5 @@
-//! Joins that change a map in place. Its values are moved through the closure and back, and never cloned; its keys stay the old ones.
+//! Joins that change a map in place. Its values are moved through the closure and back, and never
+//! cloned; its keys stay the old ones.
 ghost use Rattle.std.specs.Prelude.{◌≡◌, ◌+◌, ◌≤◌, true, false, length, IsOk, OnErr, OnOk};
 ghost use Rattle.vc_joins.specs.InPlace.{handed, handed_left, handed_right, handed_inner, MayTurn, MayTurnLeft, MayTurnRight, MayTurnInner};
 ghost use Rattle.vc_joins.specs.Join.{IsAsked, IsJoin, IsJoinBy, OldKey};
@@ -20,11 +21,12 @@ where
 {
     /// Asks `f` at each key of either map, and binds the key to the answer, where there is one.
     ///
-    /// Asks once a key, in ascending order. `f` is handed the value of this map itself, and shown that of `that`. A key of this map is
-    /// shown and stays as it is; a key of `that` alone comes in as a clone.
+    /// Asks once a key, in ascending order. `f` is handed the value of this map itself, and shown
+    /// that of `that`. A key of this map is shown and stays as it is; a key of `that` alone comes
+    /// in as a clone.
     ///
-    /// It grows at most once, and clones each key of `that`, before the first question. Refused there, it leaves the map as it was and has not
-    /// asked `f`.
+    /// It grows at most once, and clones each key of `that`, before the first question. Refused
+    /// there, it leaves the map as it was and has not asked `f`.
     ///
     /// ```
     /// stock.outer_join_with(&delivery, |at: OuterJoinArg<&u32, u32, &u32>| match at {
@@ -39,9 +41,13 @@ where
         F: Fn(OuterJoinArg<&K, V, &W>) -> Option<V> + Drop,
     >(&mut self, that: &M, f: F) -> Result<(), AllocError>
         requires clones { ClonesAreEqual K.cmp K.is_clone }
-        requires callable { (a : _) → IsAsked K.cmp JoinKind.Outer left_spelling self.old (M.pairs that.now) (handed a) → F.pre f a }
-        ensures joins { OnOk result (IsJoin K.cmp JoinKind.Outer left_spelling self.old (M.pairs that.now) (λ a r. MayTurn F.Fn f a r) (OldKey K.is_clone) self.new) }
-        ensures function { OnOk result ((h : _) → IsJoinBy K.cmp JoinKind.Outer left_spelling self.old (M.pairs that.now) (λ a r. MayTurn F.Fn f a r) h self.new) }
+        requires callable { (a : _) → IsAsked K.cmp JoinKind.Outer left_spelling self.old
+            (M.pairs that.now) (handed a) → F.pre f a }
+        ensures joins { OnOk result (IsJoin K.cmp JoinKind.Outer left_spelling self.old
+            (M.pairs that.now) (λ a r. MayTurn F.Fn f a r) (OldKey K.is_clone) self.new) }
+        ensures function { OnOk result ((h : _)
+            → IsJoinBy K.cmp JoinKind.Outer left_spelling self.old (M.pairs that.now)
+            (λ a r. MayTurn F.Fn f a r) h self.new) }
         ensures err { OnErr result (self.new ≡ self.old) }
     {
         join(
@@ -53,18 +59,23 @@ where
         )
     }
 
-    /// Asks `f` at each key of this map, and binds the key to the answer, where there is one. `f` is handed the value of this map
-    /// itself, and shown that of `that`, where it has the key.
+    /// Asks `f` at each key of this map, and binds the key to the answer, where there is one. `f`
+    /// is handed the value of this map itself, and shown that of `that`, where it has the key.
     ///
-    /// Asks once a key, in ascending order. Keys stay as they are, and none is cloned. Takes no memory, so it always succeeds.
+    /// Asks once a key, in ascending order. Keys stay as they are, and none is cloned. Takes no
+    /// memory, so it always succeeds.
     pub fn left_join_with<W, M: AbstractVecMap<K, W>, F: Fn(&K, V, Option<&W>) -> Option<V> + Drop>(
         &mut self,
         that: &M,
         f: F,
     ) -> Result<(), AllocError>
-        requires callable { (k : _) (v : _) (w : _) → IsAsked K.cmp JoinKind.Left left_spelling self.old (M.pairs that.now) (handed_left k v w) → F.pre f k v w }
-        ensures joins { IsJoin K.cmp JoinKind.Left left_spelling self.old (M.pairs that.now) (λ a r. MayTurnLeft F.Fn f a r) (OldKey K.is_clone) self.new }
-        ensures function { (h : _) → IsJoinBy K.cmp JoinKind.Left left_spelling self.old (M.pairs that.now) (λ a r. MayTurnLeft F.Fn f a r) h self.new }
+        requires callable { (k : _) (v : _) (w : _)
+            → IsAsked K.cmp JoinKind.Left left_spelling self.old (M.pairs that.now)
+            (handed_left k v w) → F.pre f k v w }
+        ensures joins { IsJoin K.cmp JoinKind.Left left_spelling self.old (M.pairs that.now)
+            (λ a r. MayTurnLeft F.Fn f a r) (OldKey K.is_clone) self.new }
+        ensures function { (h : _) → IsJoinBy K.cmp JoinKind.Left left_spelling self.old
+            (M.pairs that.now) (λ a r. MayTurnLeft F.Fn f a r) h self.new }
         ensures always { IsOk result }
     {
         join(
@@ -76,22 +87,29 @@ where
         )
     }
 
-    /// Asks `f` at each key of `that`, and binds the key to the answer, where there is one. All other keys are dropped. `f` is
-    /// handed the value of this map itself, where it has the key, and shown that of `that`.
+    /// Asks `f` at each key of `that`, and binds the key to the answer, where there is one. All
+    /// other keys are dropped. `f` is handed the value of this map itself, where it has the key,
+    /// and shown that of `that`.
     ///
-    /// Asks once a key, in ascending order. A key of this map is shown and stays as it is; a key of `that` alone comes in as a clone.
+    /// Asks once a key, in ascending order. A key of this map is shown and stays as it is; a key of
+    /// `that` alone comes in as a clone.
     ///
-    /// It grows at most once, and clones each key of `that`, before the first question. Refused there, it leaves the map as it was and has not
-    /// asked `f`.
+    /// It grows at most once, and clones each key of `that`, before the first question. Refused
+    /// there, it leaves the map as it was and has not asked `f`.
     pub fn right_join_with<
         W,
         M: AbstractVecMap<K, W>,
         F: Fn(&K, Option<V>, &W) -> Option<V> + Drop,
     >(&mut self, that: &M, f: F) -> Result<(), AllocError>
         requires clones { ClonesAreEqual K.cmp K.is_clone }
-        requires callable { (k : _) (v : _) (w : _) → IsAsked K.cmp JoinKind.Right left_spelling self.old (M.pairs that.now) (handed_right k v w) → F.pre f k v w }
-        ensures joins { OnOk result (IsJoin K.cmp JoinKind.Right left_spelling self.old (M.pairs that.now) (λ a r. MayTurnRight F.Fn f a r) (OldKey K.is_clone) self.new) }
-        ensures function { OnOk result ((h : _) → IsJoinBy K.cmp JoinKind.Right left_spelling self.old (M.pairs that.now) (λ a r. MayTurnRight F.Fn f a r) h self.new) }
+        requires callable { (k : _) (v : _) (w : _)
+            → IsAsked K.cmp JoinKind.Right left_spelling self.old (M.pairs that.now)
+            (handed_right k v w) → F.pre f k v w }
+        ensures joins { OnOk result (IsJoin K.cmp JoinKind.Right left_spelling self.old
+            (M.pairs that.now) (λ a r. MayTurnRight F.Fn f a r) (OldKey K.is_clone) self.new) }
+        ensures function { OnOk result ((h : _)
+            → IsJoinBy K.cmp JoinKind.Right left_spelling self.old (M.pairs that.now)
+            (λ a r. MayTurnRight F.Fn f a r) h self.new) }
         ensures err { OnErr result (self.new ≡ self.old) }
     {
         join(
@@ -103,18 +121,24 @@ where
         )
     }
 
-    /// Asks `f` at each key of both maps, and binds the key to the answer, where there is one. All other keys are dropped. `f` is handed
-    /// the value of this map itself, and shown that of `that`.
+    /// Asks `f` at each key of both maps, and binds the key to the answer, where there is one. All
+    /// other keys are dropped. `f` is handed the value of this map itself, and shown that of
+    /// `that`.
     ///
-    /// Asks once a key, in ascending order. Keys stay as they are, and none is cloned. Takes no memory, so it always succeeds.
+    /// Asks once a key, in ascending order. Keys stay as they are, and none is cloned. Takes no
+    /// memory, so it always succeeds.
     pub fn inner_join_with<W, M: AbstractVecMap<K, W>, F: Fn(&K, V, &W) -> Option<V> + Drop>(
         &mut self,
         that: &M,
         f: F,
     ) -> Result<(), AllocError>
-        requires callable { (k : _) (v : _) (w : _) → IsAsked K.cmp JoinKind.Inner left_spelling self.old (M.pairs that.now) (handed_inner k v w) → F.pre f k v w }
-        ensures joins { IsJoin K.cmp JoinKind.Inner left_spelling self.old (M.pairs that.now) (λ a r. MayTurnInner F.Fn f a r) (OldKey K.is_clone) self.new }
-        ensures function { (h : _) → IsJoinBy K.cmp JoinKind.Inner left_spelling self.old (M.pairs that.now) (λ a r. MayTurnInner F.Fn f a r) h self.new }
+        requires callable { (k : _) (v : _) (w : _)
+            → IsAsked K.cmp JoinKind.Inner left_spelling self.old (M.pairs that.now)
+            (handed_inner k v w) → F.pre f k v w }
+        ensures joins { IsJoin K.cmp JoinKind.Inner left_spelling self.old (M.pairs that.now)
+            (λ a r. MayTurnInner F.Fn f a r) (OldKey K.is_clone) self.new }
+        ensures function { (h : _) → IsJoinBy K.cmp JoinKind.Inner left_spelling self.old
+            (M.pairs that.now) (λ a r. MayTurnInner F.Fn f a r) h self.new }
         ensures always { IsOk result }
     {
         join(
@@ -126,8 +150,9 @@ where
         )
     }
 
-    /// The join of this kind in place, as [`outer_join_with`](VecMap::outer_join_with) makes it, and counts the comparisons. `f` is
-    /// asked at the keys that the kind names alone. Makes one merge.
+    /// The join of this kind in place, as [`outer_join_with`](VecMap::outer_join_with) makes it,
+    /// and counts the comparisons. `f` is asked at the keys that the kind names alone. Makes one
+    /// merge.
     ///
     /// A left or inner join takes no memory, so it always succeeds.
     ///
@@ -141,10 +166,15 @@ where
         F: Fn(OuterJoinArg<&K, V, &W>) -> Option<V> + Drop,
     >(&mut self, that: &M, kind: JoinKind, f: F, steps: &mut Steps) -> Result<(), AllocError>
         requires clones { asks_right kind ≡ true → ClonesAreEqual K.cmp K.is_clone }
-        requires callable { (a : _) → IsAsked K.cmp kind left_spelling self.old (M.pairs that.now) (handed a) → F.pre f a }
-        ensures joins { OnOk result (IsJoin K.cmp kind left_spelling self.old (M.pairs that.now) (λ a r. MayTurn F.Fn f a r) (OldKey K.is_clone) self.new) }
-        ensures function { OnOk result ((h : _) → IsJoinBy K.cmp kind left_spelling self.old (M.pairs that.now) (λ a r. MayTurn F.Fn f a r) h self.new) }
-        ensures counted { steps.new ≤ steps.old + bound (length self.old) (length (M.pairs that.now)) }
+        requires callable { (a : _)
+            → IsAsked K.cmp kind left_spelling self.old (M.pairs that.now) (handed a) → F.pre f a }
+        ensures joins { OnOk result (IsJoin K.cmp kind left_spelling self.old (M.pairs that.now)
+            (λ a r. MayTurn F.Fn f a r) (OldKey K.is_clone) self.new) }
+        ensures function { OnOk result ((h : _)
+            → IsJoinBy K.cmp kind left_spelling self.old (M.pairs that.now)
+            (λ a r. MayTurn F.Fn f a r) h self.new) }
+        ensures counted { steps.new
+            ≤ steps.old + bound (length self.old) (length (M.pairs that.now)) }
         ensures no_memory { asks_right kind ≡ false → IsOk result }
         ensures err { OnErr result (self.new ≡ self.old) }
     {

@@ -31,7 +31,8 @@ impl<'a, K: Ord, V, const N: usize, A: Allocator> IntoIterator for &'a VecMap<K,
     }
 }
 
-/// The pairs in ascending order of their keys, by value. Takes no memory. What is not taken is dropped with the iterator.
+/// The pairs in ascending order of their keys, by value. Takes no memory. What is not taken is
+/// dropped with the iterator.
 impl<K: Ord + Drop, V: Drop, const N: usize, A: Allocator + Copy> IntoIterator
     for VecMap<K, V, N, A>
 where

@@ -16,8 +16,9 @@ use vc_merge::merge::Steps;
 
 /// Asks `f` at each key of either map, and binds the key to the answer, where there is one.
 ///
-/// Asks once a key, in ascending order, and shows a key of both maps as the left one has it. A key comes in as a clone of the
-/// one that was shown. Refused where memory, a clone or an answer of `f` is.
+/// Asks once a key, in ascending order, and shows a key of both maps as the left one has it. A key
+/// comes in as a clone of the one that was shown. Refused where memory, a clone or an answer of `f`
+/// is.
 ///
 /// ```
 /// let sums: VecMap<u32, u32, 4> = outer_join(alloc, &a, &b, |at: OuterJoinArg<&u32, &u32, &u32>| match at {
@@ -39,18 +40,24 @@ pub fn outer_join<
 where
     (K, X): MadeWith<A>,
     requires clones { ClonesAreEqual K.cmp K.is_clone }
-    requires callable { (a : _) → IsAsked K.cmp JoinKind.Outer left_spelling (L.pairs this.now) (M.pairs that.now) (seen a) → F.pre f a }
-    ensures joins { IfOk result (λ c. IsJoin K.cmp JoinKind.Outer left_spelling (L.pairs this.now) (M.pairs that.now) (λ a r. MayAnswer F.Fn f a (Ok r)) (ClonedKey K.is_clone) c) }
-    ensures function { IfOk result (λ c. (h : _) → IsJoinBy K.cmp JoinKind.Outer left_spelling (L.pairs this.now) (M.pairs that.now) (λ a r. MayAnswer F.Fn f a (Ok r)) h c) }
+    requires callable { (a : _) → IsAsked K.cmp JoinKind.Outer left_spelling (L.pairs this.now)
+        (M.pairs that.now) (seen a) → F.pre f a }
+    ensures joins { IfOk result (λ c. IsJoin K.cmp JoinKind.Outer left_spelling (L.pairs this.now)
+        (M.pairs that.now) (λ a r. MayAnswer F.Fn f a (Ok r)) (ClonedKey K.is_clone) c) }
+    ensures function { IfOk result (λ c. (h : _)
+        → IsJoinBy K.cmp JoinKind.Outer left_spelling (L.pairs this.now) (M.pairs that.now)
+        (λ a r. MayAnswer F.Fn f a (Ok r)) h c) }
 {
     let pairs = join_outer(alloc, this.as_slice(), that.as_slice(), &f)?;
     Ok(VecMap { pairs })
 }
 
-/// Asks `f` at each key of the left map, and binds the key to the answer, where there is one. `f` is shown the value of the right map, where that has the key.
+/// Asks `f` at each key of the left map, and binds the key to the answer, where there is one. `f`
+/// is shown the value of the right map, where that has the key.
 ///
-/// Asks once a key, in ascending order, and shows a key of both maps as the left one has it. A key comes in as a clone of the
-/// one that was shown. Refused where memory, a clone or an answer of `f` is.
+/// Asks once a key, in ascending order, and shows a key of both maps as the left one has it. A key
+/// comes in as a clone of the one that was shown. Refused where memory, a clone or an answer of `f`
+/// is.
 pub fn left_join<
     K: Ord + Clone + Drop,
     V,
@@ -65,18 +72,25 @@ pub fn left_join<
 where
     (K, X): MadeWith<A>,
     requires clones { ClonesAreEqual K.cmp K.is_clone }
-    requires callable { (k : _) (v : _) (w : _) → IsAsked K.cmp JoinKind.Left left_spelling (L.pairs this.now) (M.pairs that.now) (seen_left k v w) → F.pre f k v w }
-    ensures joins { IfOk result (λ c. IsJoin K.cmp JoinKind.Left left_spelling (L.pairs this.now) (M.pairs that.now) (λ a r. MayAnswerLeft F.Fn f a (Ok r)) (ClonedKey K.is_clone) c) }
-    ensures function { IfOk result (λ c. (h : _) → IsJoinBy K.cmp JoinKind.Left left_spelling (L.pairs this.now) (M.pairs that.now) (λ a r. MayAnswerLeft F.Fn f a (Ok r)) h c) }
+    requires callable { (k : _) (v : _) (w : _)
+        → IsAsked K.cmp JoinKind.Left left_spelling (L.pairs this.now) (M.pairs that.now)
+        (seen_left k v w) → F.pre f k v w }
+    ensures joins { IfOk result (λ c. IsJoin K.cmp JoinKind.Left left_spelling (L.pairs this.now)
+        (M.pairs that.now) (λ a r. MayAnswerLeft F.Fn f a (Ok r)) (ClonedKey K.is_clone) c) }
+    ensures function { IfOk result (λ c. (h : _)
+        → IsJoinBy K.cmp JoinKind.Left left_spelling (L.pairs this.now) (M.pairs that.now)
+        (λ a r. MayAnswerLeft F.Fn f a (Ok r)) h c) }
 {
     let pairs = join_left(alloc, this.as_slice(), that.as_slice(), &f)?;
     Ok(VecMap { pairs })
 }
 
-/// Asks `f` at each key of the right map, and binds the key to the answer, where there is one. `f` is shown the value of the left map, where that has the key.
+/// Asks `f` at each key of the right map, and binds the key to the answer, where there is one. `f`
+/// is shown the value of the left map, where that has the key.
 ///
-/// Asks once a key, in ascending order, and shows a key of both maps as the left one has it. A key comes in as a clone of the
-/// one that was shown. Refused where memory, a clone or an answer of `f` is.
+/// Asks once a key, in ascending order, and shows a key of both maps as the left one has it. A key
+/// comes in as a clone of the one that was shown. Refused where memory, a clone or an answer of `f`
+/// is.
 pub fn right_join<
     K: Ord + Clone + Drop,
     V,
@@ -91,9 +105,14 @@ pub fn right_join<
 where
     (K, X): MadeWith<A>,
     requires clones { ClonesAreEqual K.cmp K.is_clone }
-    requires callable { (k : _) (v : _) (w : _) → IsAsked K.cmp JoinKind.Right left_spelling (L.pairs this.now) (M.pairs that.now) (seen_right k v w) → F.pre f k v w }
-    ensures joins { IfOk result (λ c. IsJoin K.cmp JoinKind.Right left_spelling (L.pairs this.now) (M.pairs that.now) (λ a r. MayAnswerRight F.Fn f a (Ok r)) (ClonedKey K.is_clone) c) }
-    ensures function { IfOk result (λ c. (h : _) → IsJoinBy K.cmp JoinKind.Right left_spelling (L.pairs this.now) (M.pairs that.now) (λ a r. MayAnswerRight F.Fn f a (Ok r)) h c) }
+    requires callable { (k : _) (v : _) (w : _)
+        → IsAsked K.cmp JoinKind.Right left_spelling (L.pairs this.now) (M.pairs that.now)
+        (seen_right k v w) → F.pre f k v w }
+    ensures joins { IfOk result (λ c. IsJoin K.cmp JoinKind.Right left_spelling (L.pairs this.now)
+        (M.pairs that.now) (λ a r. MayAnswerRight F.Fn f a (Ok r)) (ClonedKey K.is_clone) c) }
+    ensures function { IfOk result (λ c. (h : _)
+        → IsJoinBy K.cmp JoinKind.Right left_spelling (L.pairs this.now) (M.pairs that.now)
+        (λ a r. MayAnswerRight F.Fn f a (Ok r)) h c) }
 {
     let pairs = join_right(alloc, this.as_slice(), that.as_slice(), &f)?;
     Ok(VecMap { pairs })
@@ -101,8 +120,9 @@ where
 
 /// Asks `f` at each key of both maps, and binds the key to the answer, where there is one.
 ///
-/// Asks once a key, in ascending order, and shows a key of both maps as the left one has it. A key comes in as a clone of the
-/// one that was shown. Refused where memory, a clone or an answer of `f` is.
+/// Asks once a key, in ascending order, and shows a key of both maps as the left one has it. A key
+/// comes in as a clone of the one that was shown. Refused where memory, a clone or an answer of `f`
+/// is.
 pub fn inner_join<
     K: Ord + Clone + Drop,
     V,
@@ -117,17 +137,22 @@ pub fn inner_join<
 where
     (K, X): MadeWith<A>,
     requires clones { ClonesAreEqual K.cmp K.is_clone }
-    requires callable { (k : _) (v : _) (w : _) → IsAsked K.cmp JoinKind.Inner left_spelling (L.pairs this.now) (M.pairs that.now) (seen_inner k v w) → F.pre f k v w }
-    ensures joins { IfOk result (λ c. IsJoin K.cmp JoinKind.Inner left_spelling (L.pairs this.now) (M.pairs that.now) (λ a r. MayAnswerInner F.Fn f a (Ok r)) (ClonedKey K.is_clone) c) }
-    ensures function { IfOk result (λ c. (h : _) → IsJoinBy K.cmp JoinKind.Inner left_spelling (L.pairs this.now) (M.pairs that.now) (λ a r. MayAnswerInner F.Fn f a (Ok r)) h c) }
+    requires callable { (k : _) (v : _) (w : _)
+        → IsAsked K.cmp JoinKind.Inner left_spelling (L.pairs this.now) (M.pairs that.now)
+        (seen_inner k v w) → F.pre f k v w }
+    ensures joins { IfOk result (λ c. IsJoin K.cmp JoinKind.Inner left_spelling (L.pairs this.now)
+        (M.pairs that.now) (λ a r. MayAnswerInner F.Fn f a (Ok r)) (ClonedKey K.is_clone) c) }
+    ensures function { IfOk result (λ c. (h : _)
+        → IsJoinBy K.cmp JoinKind.Inner left_spelling (L.pairs this.now) (M.pairs that.now)
+        (λ a r. MayAnswerInner F.Fn f a (Ok r)) h c) }
 {
     let pairs = join_inner(alloc, this.as_slice(), that.as_slice(), &f)?;
     Ok(VecMap { pairs })
 }
 
 impl<K: Ord + Clone + Drop, V, const N: usize, A: Allocator + Copy> VecMap<K, V, N, A> {
-    /// The join of this kind with another map, as [`outer_join`] makes it, and counts the comparisons. `f` is asked at the keys
-    /// that the kind names alone.
+    /// The join of this kind with another map, as [`outer_join`] makes it, and counts the
+    /// comparisons. `f` is asked at the keys that the kind names alone.
     ///
     /// ```
     /// let mut steps = Steps::new();
@@ -149,16 +174,22 @@ impl<K: Ord + Clone + Drop, V, const N: usize, A: Allocator + Copy> VecMap<K, V,
     where
         (K, X): MadeWith<A>,
         requires clones { ClonesAreEqual K.cmp K.is_clone }
-        requires callable { (a : _) → IsAsked K.cmp kind left_spelling self.now (M.pairs that.now) (seen a) → F.pre f a }
-        ensures joins { IfOk result (λ c. IsJoin K.cmp kind left_spelling self.now (M.pairs that.now) (λ a r. MayAnswer F.Fn f a (Ok r)) (ClonedKey K.is_clone) c) }
-        ensures function { IfOk result (λ c. (h : _) → IsJoinBy K.cmp kind left_spelling self.now (M.pairs that.now) (λ a r. MayAnswer F.Fn f a (Ok r)) h c) }
-        ensures counted { steps.new ≤ steps.old + bound (length self.now) (length (M.pairs that.now)) }
+        requires callable { (a : _)
+            → IsAsked K.cmp kind left_spelling self.now (M.pairs that.now) (seen a) → F.pre f a }
+        ensures joins { IfOk result (λ c. IsJoin K.cmp kind left_spelling self.now
+            (M.pairs that.now) (λ a r. MayAnswer F.Fn f a (Ok r)) (ClonedKey K.is_clone) c) }
+        ensures function { IfOk result (λ c. (h : _)
+            → IsJoinBy K.cmp kind left_spelling self.now (M.pairs that.now)
+            (λ a r. MayAnswer F.Fn f a (Ok r)) h c) }
+        ensures counted { steps.new
+            ≤ steps.old + bound (length self.now) (length (M.pairs that.now)) }
     {
         join_of_kind(self.allocator(), self, that, kind, f, steps)
     }
 }
 
-/// The join of this kind by a closure that is asked as that of an outer join. Counts its comparisons.
+/// The join of this kind by a closure that is asked as that of an outer join. Counts its
+/// comparisons.
 fn join_of_kind<
     K: Ord + Clone + Drop,
     V,
@@ -180,10 +211,15 @@ fn join_of_kind<
 where
     (K, X): MadeWith<A>,
     requires clones { ClonesAreEqual K.cmp K.is_clone }
-    requires callable { (a : _) → IsAsked K.cmp kind left_spelling (L.pairs this.now) (M.pairs that.now) (seen a) → F.pre f a }
-    ensures joins { IfOk result (λ c. IsJoin K.cmp kind left_spelling (L.pairs this.now) (M.pairs that.now) (λ a r. MayAnswer F.Fn f a (Ok r)) (ClonedKey K.is_clone) c) }
-    ensures function { IfOk result (λ c. (h : _) → IsJoinBy K.cmp kind left_spelling (L.pairs this.now) (M.pairs that.now) (λ a r. MayAnswer F.Fn f a (Ok r)) h c) }
-    ensures counted { steps.new ≤ steps.old + bound (length (L.pairs this.now)) (length (M.pairs that.now)) }
+    requires callable { (a : _) → IsAsked K.cmp kind left_spelling (L.pairs this.now)
+        (M.pairs that.now) (seen a) → F.pre f a }
+    ensures joins { IfOk result (λ c. IsJoin K.cmp kind left_spelling (L.pairs this.now)
+        (M.pairs that.now) (λ a r. MayAnswer F.Fn f a (Ok r)) (ClonedKey K.is_clone) c) }
+    ensures function { IfOk result (λ c. (h : _)
+        → IsJoinBy K.cmp kind left_spelling (L.pairs this.now) (M.pairs that.now)
+        (λ a r. MayAnswer F.Fn f a (Ok r)) h c) }
+    ensures counted { steps.new
+        ≤ steps.old + bound (length (L.pairs this.now)) (length (M.pairs that.now)) }
 {
     let (this, that) = (this.as_slice(), that.as_slice());
     let pairs = join(alloc, this, that, kind, &AskOuter(&f), steps)?;

@@ -1,9 +1,10 @@
 //! Maps whose values are turned into others.
 ghost use Rattle.std.specs.Prelude.{◌≡◌, ◌≤◌, [], IfOk, IsOk, length};
 ghost use Rattle.smallvec.specs.SmallVec.{HasRoomFor};
+ghost use Rattle.std.specs.Iterator.{CallableOnAll, YieldsFirst};
 ghost use Rattle.std.specs.Map.{keys_of, values_of};
 ghost use Rattle.vc_joins.specs.Entries.{entry_at};
-ghost use Rattle.vc_maps.specs.Mapping.{AnswersInTurn, IsMapped};
+ghost use Rattle.vc_maps.specs.Mapping.{AnswersInTurn, MapsEntry};
 
 use super::VecMap;
 use smallvec::SmallVec;
@@ -15,10 +16,11 @@ impl<K: Ord + Drop, V: Drop, const N: usize, A: Allocator + Copy> VecMap<K, V, N
 where
     (K, V): MadeWith<A>,
 {
-    /// The map with what `f` makes of each value, under the same keys. `f` is handed each value once, in ascending order of the keys.
+    /// The map with what `f` makes of each value, under the same keys. `f` is handed each value
+    /// once, in ascending order of the keys.
     ///
-    /// The pairs are moved. Takes memory only where there are more than `M`, and before the first question; refused, it drops the map, and has
-    /// not asked `f`.
+    /// The pairs are moved. Takes memory only where there are more than `M`, and before the first
+    /// question; refused, it drops the map, and has not asked `f`.
     ///
     /// ```
     /// let lengths: VecMap<u32, usize, 4> = names.map_values(|name| name.len())?;
@@ -29,10 +31,12 @@ where
     ) -> Result<VecMap<K, X, M, A>, AllocError>
     where
         (K, X): MadeWith<A>,
-        requires { F.IsAlwaysCallable f }
+        requires callable { CallableOnAll (YieldsFirst (λ rest. rest)) F.FnMut (values_of self) f }
         ensures keys { IfOk result (λ m. keys_of m ≡ keys_of self) }
-        ensures values { IfOk result (λ m. (last : _) × AnswersInTurn F.step f (values_of self) (values_of m) last) }
-        ensures entries { IfOk result (λ m. (k : K) → IsMapped F.step (entry_at K.cmp self k) (entry_at K.cmp m k)) }
+        ensures values { IfOk result
+            (λ m. (last : _) × AnswersInTurn F.step f (values_of self) (values_of m) last) }
+        ensures entries { IfOk result
+            (λ m. (k : K) → MapsEntry F.step (entry_at K.cmp self k) (entry_at K.cmp m k)) }
         ensures room { length self ≤ M → IsOk result }
     {
         let alloc = *self.pairs.allocator();
@@ -43,8 +47,8 @@ where
     }
 }
 
-/// Appends to an empty list, which has room for all, what `f` makes of the value of each pair, under the same key. Leaves blanks in their
-/// places.
+/// Appends to an empty list, which has room for all, what `f` makes of the value of each pair,
+/// under the same key. Leaves blanks in their places.
 fn push_mapped<
     K: Drop,
     V: Drop,
@@ -55,11 +59,12 @@ fn push_mapped<
 >(alloc: A, mapped: &mut SmallVec<(K, X), M, A>, pairs: &mut [(K, V)], mut f: F)
 where
     (K, V): MadeWith<A>,
-    requires callable { F.IsAlwaysCallable f }
+    requires callable { CallableOnAll (YieldsFirst (λ rest. rest)) F.FnMut (values_of pairs.old) f }
     requires empty { mapped.old.items ≡ [] }
     requires room { HasRoomFor mapped.old (length pairs.old) }
     ensures keys { keys_of mapped.new.items ≡ keys_of pairs.old }
-    ensures values { (last : _) × AnswersInTurn F.step f (values_of pairs.old) (values_of mapped.new.items) last }
+    ensures values { (last : _)
+        × AnswersInTurn F.step f (values_of pairs.old) (values_of mapped.new.items) last }
 {
     'pairs: for at in 0..pairs.len() {
         let (key, value) = mem::replace(&mut pairs[at], <(K, V)>::made_with(alloc));

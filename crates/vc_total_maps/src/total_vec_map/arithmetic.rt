@@ -1,4 +1,5 @@
-//! Arithmetic of total maps: that of their values, at every key. It is done on clones of the values.
+//! Arithmetic of total maps: that of their values, at every key. It is done on clones of the
+//! values.
 ghost use Rattle.std.specs.Prelude.{IfOk};
 ghost use Rattle.vc_merge.specs.Clones.{ClonesAreEqual};
 ghost use Rattle.vc_total_maps.specs.CombinedTotals.{HoldsEverywhere, IsCombined, CanOnClones, GivesOnClones};
@@ -67,8 +68,9 @@ impl<V: Clone + Div<V, Output = V>> Combine<V, V> for Quotient {
 
 /// `a + b` is at every key the sum of the values.
 ///
-/// The caller sees to it that the arithmetic of the values can be done for the two defaults and at each key that one of the maps lists. A
-/// value that equals the new default is not listed. Takes memory as [`combine_ref`](TotalVecMap::combine_ref) does; both maps are dropped.
+/// The caller sees to it that the arithmetic of the values can be done for the two defaults and at
+/// each key that one of the maps lists. A value that equals the new default is not listed. Takes
+/// memory as [`combine_ref`](TotalVecMap::combine_ref) does; both maps are dropped.
 impl<
     K: Ord + Clone + Drop,
     V: Eq + Clone + Drop + Add<V, Output = V>,
@@ -80,9 +82,11 @@ where
 {
     type Output = Result<TotalVecMap<K, V, N, A>, AllocError>;
 
-    ghost can_add = { λ a b. HoldsEverywhere K.cmp (CanOnClones V.is_clone V.can_add) a b × ClonesAreEqual K.cmp K.is_clone };
+    ghost can_add = { λ a b. HoldsEverywhere K.cmp (CanOnClones V.is_clone V.can_add) a b
+        × ClonesAreEqual K.cmp K.is_clone };
 
-    ghost add_gives = { λ a b r. IfOk r (IsCombined K.cmp V.eq (GivesOnClones V.is_clone V.add_gives) K.is_clone a b) };
+    ghost add_gives = { λ a b r.
+        IfOk r (IsCombined K.cmp V.eq (GivesOnClones V.is_clone V.add_gives) K.is_clone a b) };
 
     fn add(self, that: Self) -> Result<TotalVecMap<K, V, N, A>, AllocError> {
         combine_by(&self, &that, &Sum)
@@ -91,8 +95,9 @@ where
 
 /// `a - b` is at every key the value of `a` less that of `b`.
 ///
-/// The caller sees to it that the arithmetic of the values can be done for the two defaults and at each key that one of the maps lists. A
-/// value that equals the new default is not listed. Takes memory as [`combine_ref`](TotalVecMap::combine_ref) does; both maps are dropped.
+/// The caller sees to it that the arithmetic of the values can be done for the two defaults and at
+/// each key that one of the maps lists. A value that equals the new default is not listed. Takes
+/// memory as [`combine_ref`](TotalVecMap::combine_ref) does; both maps are dropped.
 impl<
     K: Ord + Clone + Drop,
     V: Eq + Clone + Drop + Sub<V, Output = V>,
@@ -104,9 +109,11 @@ where
 {
     type Output = Result<TotalVecMap<K, V, N, A>, AllocError>;
 
-    ghost can_sub = { λ a b. HoldsEverywhere K.cmp (CanOnClones V.is_clone V.can_sub) a b × ClonesAreEqual K.cmp K.is_clone };
+    ghost can_sub = { λ a b. HoldsEverywhere K.cmp (CanOnClones V.is_clone V.can_sub) a b
+        × ClonesAreEqual K.cmp K.is_clone };
 
-    ghost sub_gives = { λ a b r. IfOk r (IsCombined K.cmp V.eq (GivesOnClones V.is_clone V.sub_gives) K.is_clone a b) };
+    ghost sub_gives = { λ a b r.
+        IfOk r (IsCombined K.cmp V.eq (GivesOnClones V.is_clone V.sub_gives) K.is_clone a b) };
 
     fn sub(self, that: Self) -> Result<TotalVecMap<K, V, N, A>, AllocError> {
         combine_by(&self, &that, &Difference)
@@ -115,8 +122,9 @@ where
 
 /// `a * b` is at every key the product of the values.
 ///
-/// The caller sees to it that the arithmetic of the values can be done for the two defaults and at each key that one of the maps lists. A
-/// value that equals the new default is not listed. Takes memory as [`combine_ref`](TotalVecMap::combine_ref) does; both maps are dropped.
+/// The caller sees to it that the arithmetic of the values can be done for the two defaults and at
+/// each key that one of the maps lists. A value that equals the new default is not listed. Takes
+/// memory as [`combine_ref`](TotalVecMap::combine_ref) does; both maps are dropped.
 impl<
     K: Ord + Clone + Drop,
     V: Eq + Clone + Drop + Mul<V, Output = V>,
@@ -128,9 +136,11 @@ where
 {
     type Output = Result<TotalVecMap<K, V, N, A>, AllocError>;
 
-    ghost can_mul = { λ a b. HoldsEverywhere K.cmp (CanOnClones V.is_clone V.can_mul) a b × ClonesAreEqual K.cmp K.is_clone };
+    ghost can_mul = { λ a b. HoldsEverywhere K.cmp (CanOnClones V.is_clone V.can_mul) a b
+        × ClonesAreEqual K.cmp K.is_clone };
 
-    ghost mul_gives = { λ a b r. IfOk r (IsCombined K.cmp V.eq (GivesOnClones V.is_clone V.mul_gives) K.is_clone a b) };
+    ghost mul_gives = { λ a b r.
+        IfOk r (IsCombined K.cmp V.eq (GivesOnClones V.is_clone V.mul_gives) K.is_clone a b) };
 
     fn mul(self, that: Self) -> Result<TotalVecMap<K, V, N, A>, AllocError> {
         combine_by(&self, &that, &Product)
@@ -139,8 +149,9 @@ where
 
 /// `a / b` is at every key the value of `a` divided by that of `b`.
 ///
-/// The caller sees to it that the arithmetic of the values can be done for the two defaults and at each key that one of the maps lists. A
-/// value that equals the new default is not listed. Takes memory as [`combine_ref`](TotalVecMap::combine_ref) does; both maps are dropped.
+/// The caller sees to it that the arithmetic of the values can be done for the two defaults and at
+/// each key that one of the maps lists. A value that equals the new default is not listed. Takes
+/// memory as [`combine_ref`](TotalVecMap::combine_ref) does; both maps are dropped.
 impl<
     K: Ord + Clone + Drop,
     V: Eq + Clone + Drop + Div<V, Output = V>,
@@ -152,9 +163,11 @@ where
 {
     type Output = Result<TotalVecMap<K, V, N, A>, AllocError>;
 
-    ghost can_div = { λ a b. HoldsEverywhere K.cmp (CanOnClones V.is_clone V.can_div) a b × ClonesAreEqual K.cmp K.is_clone };
+    ghost can_div = { λ a b. HoldsEverywhere K.cmp (CanOnClones V.is_clone V.can_div) a b
+        × ClonesAreEqual K.cmp K.is_clone };
 
-    ghost div_gives = { λ a b r. IfOk r (IsCombined K.cmp V.eq (GivesOnClones V.is_clone V.div_gives) K.is_clone a b) };
+    ghost div_gives = { λ a b r.
+        IfOk r (IsCombined K.cmp V.eq (GivesOnClones V.is_clone V.div_gives) K.is_clone a b) };
 
     fn div(self, that: Self) -> Result<TotalVecMap<K, V, N, A>, AllocError> {
         combine_by(&self, &that, &Quotient)

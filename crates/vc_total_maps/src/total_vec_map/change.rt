@@ -41,7 +41,8 @@ impl<V: Clone + Neg<Output = V>> Combine<V, V> for Opposite {
 
 /// What `change` makes of the left value at every key, and of the default.
 ///
-/// It is asked for the new default first, and then once at each key that the map lists, in ascending order.
+/// It is asked for the new default first, and then once at each key that the map lists, in
+/// ascending order.
 fn change_by<
     K: Ord + Clone + Drop,
     V: Eq,
@@ -55,7 +56,8 @@ where
     (K, X): MadeWith<A>,
     requires clones { ClonesAreEqual K.cmp K.is_clone }
     requires callable { HoldsOfEach K.cmp (λ x. C.can change.now x map.now.default) map.now }
-    ensures { IfOk result (IsMapped K.cmp X.eq (λ x. C.may change.now x map.now.default) K.is_clone map.now) }
+    ensures { IfOk result
+        (IsMapped K.cmp X.eq (λ x. C.may change.now x map.now.default) K.is_clone map.now) }
 {
     let default = change.combine(map.default_value(), map.default_value())?;
     let maps = Combination::of_one(map, &default, change);
@@ -67,9 +69,9 @@ where
 impl<K: Ord + Clone + Drop, V: Eq, const N: usize, A: Allocator + Copy> TotalVecMap<K, V, N, A> {
     /// What `f` makes of the value at every key, and of the default.
     ///
-    /// `f` is asked for the new default first, with the old one, and then once at each key that is listed, in ascending order. An
-    /// answer that equals the new default is dropped. A key is listed as a clone. Refused where memory, a clone of a key or an answer
-    /// of `f` is.
+    /// `f` is asked for the new default first, with the old one, and then once at each key that is
+    /// listed, in ascending order. An answer that equals the new default is dropped. A key is
+    /// listed as a clone. Refused where memory, a clone of a key or an answer of `f` is.
     ///
     /// ```
     /// let is_called: TotalVecMap<u16, bool, 4> = calls.map_values(|count: &u32| Ok(*count > 0))?;
@@ -82,7 +84,8 @@ impl<K: Ord + Clone + Drop, V: Eq, const N: usize, A: Allocator + Copy> TotalVec
         (K, W): MadeWith<A>,
         requires clones { ClonesAreEqual K.cmp K.is_clone }
         requires callable { HoldsOfEach K.cmp (λ x. (p : _) → p.now ≡ x → F.pre f p) self.now }
-        ensures { IfOk result (IsMapped K.cmp W.eq (λ x v. FnReturnsAt F.Fn f x (Ok v)) K.is_clone self.now) }
+        ensures { IfOk result
+            (IsMapped K.cmp W.eq (λ x v. FnReturnsAt F.Fn f x (Ok v)) K.is_clone self.now) }
     {
         change_by(self, &OfLeft(&f))
     }
@@ -90,8 +93,9 @@ impl<K: Ord + Clone + Drop, V: Eq, const N: usize, A: Allocator + Copy> TotalVec
 
 /// `-a` is at every key the value of `a` with the other sign.
 ///
-/// The caller sees to it that the sign of the default can be turned, and of the value at each key that the map lists. A value that equals
-/// the new default is not listed. Takes memory as [`map_values`](TotalVecMap::map_values) does; the map is dropped.
+/// The caller sees to it that the sign of the default can be turned, and of the value at each key
+/// that the map lists. A value that equals the new default is not listed. Takes memory as
+/// [`map_values`](TotalVecMap::map_values) does; the map is dropped.
 impl<
     K: Ord + Clone + Drop,
     V: Eq + Clone + Drop + Neg<Output = V>,
@@ -103,9 +107,11 @@ where
 {
     type Output = Result<TotalVecMap<K, V, N, A>, AllocError>;
 
-    ghost can_neg = { λ a. HoldsOfEach K.cmp (CanOnClone V.is_clone V.can_neg) a × ClonesAreEqual K.cmp K.is_clone };
+    ghost can_neg = { λ a. HoldsOfEach K.cmp (CanOnClone V.is_clone V.can_neg) a
+        × ClonesAreEqual K.cmp K.is_clone };
 
-    ghost neg_gives = { λ a r. IfOk r (IsMapped K.cmp V.eq (GivesOnClone V.is_clone V.neg_gives) K.is_clone a) };
+    ghost neg_gives = { λ a r.
+        IfOk r (IsMapped K.cmp V.eq (GivesOnClone V.is_clone V.neg_gives) K.is_clone a) };
 
     fn neg(self) -> Result<TotalVecMap<K, V, N, A>, AllocError> {
         change_by(&self, &Opposite)

@@ -35,8 +35,8 @@ pub(super) trait Combine<V, X> {
         ensures { IfOk result (may self.now left.now right.now) };
 }
 
-/// Two maps that are combined, as pairs and defaults, and what their join asks at a key: a map that lacks it has its default there, and an
-/// answer that equals the default of the result is left out.
+/// Two maps that are combined, as pairs and defaults, and what their join asks at a key: a map that
+/// lacks it has its default there, and an answer that equals the default of the result is left out.
 #[derive(Drop)]
 pub(super) struct Combination<'q, K, V, X, C> {
     left: &'q [(K, V)],
@@ -48,7 +48,8 @@ pub(super) struct Combination<'q, K, V, X, C> {
 }
 
 impl<'q, K: Ord, V: Eq, X, C: Combine<V, X>> Combination<'q, K, V, X, C> {
-    /// Two maps, and the default of the result. It may be asked all that the outer join of their pairs asks.
+    /// Two maps, and the default of the result. It may be asked all that the outer join of their
+    /// pairs asks.
     fn of_two<const N: usize, A: Allocator>(
         this: &'q TotalVecMap<K, V, N, A>,
         that: &'q TotalVecMap<K, V, N, A>,
@@ -59,12 +60,15 @@ impl<'q, K: Ord, V: Eq, X, C: Combine<V, X>> Combination<'q, K, V, X, C> {
         requires default { C.may combine.now this.now.default that.now.default new_default.now }
         ensures left { total_map result.left.now result.left_default.now ≡ this.now }
         ensures right { total_map result.right.now result.right_default.now ≡ that.now }
-        ensures same { (result.new_default.now ≡ new_default.now) × (result.combine.now ≡ combine.now) }
+        ensures same { (result.new_default.now ≡ new_default.now)
+            × (result.combine.now ≡ combine.now) }
         ensures left_ascends { AscendsByKey K.cmp result.left.now }
         ensures right_ascends { AscendsByKey K.cmp result.right.now }
-        ensures takes { (a : _) → IsAsked K.cmp JoinKind.Outer left_spelling result.left.now result.right.now a
-            → C.can result.combine.now (left_value result.left_default.now a) (right_value result.right_default.now a) }
-        ensures default { C.may result.combine.now result.left_default.now result.right_default.now result.new_default.now }
+        ensures takes { (a : _) → IsAsked K.cmp JoinKind.Outer left_spelling result.left.now
+            result.right.now a → C.can result.combine.now (left_value result.left_default.now a)
+            (right_value result.right_default.now a) }
+        ensures default { C.may result.combine.now result.left_default.now result.right_default.now
+            result.new_default.now }
     {
         Combination {
             left: this.non_default_mappings().as_ref(),
@@ -85,13 +89,17 @@ impl<'q, K: Ord, V: Eq, X, C: Combine<V, X>> Combination<'q, K, V, X, C> {
         requires callable { HoldsOfEach K.cmp (λ x. C.can combine.now x map.now.default) map.now }
         requires default { C.may combine.now map.now.default map.now.default new_default.now }
         ensures left { total_map result.left.now result.left_default.now ≡ map.now }
-        ensures right { total_map result.right.now result.right_default.now ≡ total_map [] map.now.default }
-        ensures same { (result.new_default.now ≡ new_default.now) × (result.combine.now ≡ combine.now) }
+        ensures right { total_map result.right.now result.right_default.now
+            ≡ total_map [] map.now.default }
+        ensures same { (result.new_default.now ≡ new_default.now)
+            × (result.combine.now ≡ combine.now) }
         ensures left_ascends { AscendsByKey K.cmp result.left.now }
         ensures right_ascends { AscendsByKey K.cmp result.right.now }
-        ensures takes { (a : _) → IsAsked K.cmp JoinKind.Outer left_spelling result.left.now result.right.now a
-            → C.can result.combine.now (left_value result.left_default.now a) (right_value result.right_default.now a) }
-        ensures default { C.may result.combine.now result.left_default.now result.right_default.now result.new_default.now }
+        ensures takes { (a : _) → IsAsked K.cmp JoinKind.Outer left_spelling result.left.now
+            result.right.now a → C.can result.combine.now (left_value result.left_default.now a)
+            (right_value result.right_default.now a) }
+        ensures default { C.may result.combine.now result.left_default.now result.right_default.now
+            result.new_default.now }
     {
         let pairs = map.non_default_mappings().as_ref();
         Combination {
@@ -107,9 +115,11 @@ impl<'q, K: Ord, V: Eq, X, C: Combine<V, X>> Combination<'q, K, V, X, C> {
 
 impl<'q, K, V, X: Eq + Drop, C: Combine<V, X>> Question<K, V, V, X>
     for Combination<'q, K, V, X, C> {
-    ghost takes = { λ q a. C.can q.combine.now (left_value q.left_default.now a) (right_value q.right_default.now a) };
+    ghost takes = { λ q a.
+        C.can q.combine.now (left_value q.left_default.now a) (right_value q.right_default.now a) };
 
-    ghost may = { λ q a r. MayPlace X.eq (C.may q.combine.now (left_value q.left_default.now a) (right_value q.right_default.now a)) q.new_default.now r };
+    ghost may = { λ q a r. MayPlace X.eq (C.may q.combine.now (left_value q.left_default.now a)
+        (right_value q.right_default.now a)) q.new_default.now r };
 
     fn ask(&self, arg: OuterJoinArg<&K, &V, &V>) -> Result<Option<X>, AllocError> {
         let value = match arg {
@@ -139,18 +149,25 @@ where
     requires left_ascends { AscendsByKey K.cmp maps.now.left.now }
     requires right_ascends { AscendsByKey K.cmp maps.now.right.now }
     requires clones { ClonesAreEqual K.cmp K.is_clone }
-    requires takes { (a : _) → IsAsked K.cmp JoinKind.Outer left_spelling maps.now.left.now maps.now.right.now a
-        → C.can maps.now.combine.now (left_value maps.now.left_default.now a) (right_value maps.now.right_default.now a) }
-    requires default { C.may maps.now.combine.now maps.now.left_default.now maps.now.right_default.now maps.now.new_default.now }
+    requires takes { (a : _) → IsAsked K.cmp JoinKind.Outer left_spelling maps.now.left.now
+        maps.now.right.now a → C.can maps.now.combine.now (left_value maps.now.left_default.now a)
+        (right_value maps.now.right_default.now a) }
+    requires default { C.may maps.now.combine.now maps.now.left_default.now
+        maps.now.right_default.now maps.now.new_default.now }
     ensures ascends { IfOk result (λ pairs. AscendsByKey K.cmp pairs.items) }
-    ensures combined { IfOk result (λ pairs. IsCombined K.cmp X.eq (C.may maps.now.combine.now) K.is_clone (total_map maps.now.left.now maps.now.left_default.now) (total_map maps.now.right.now maps.now.right_default.now) (total_map pairs.items maps.now.new_default.now)) }
+    ensures combined { IfOk result (λ pairs.
+        IsCombined K.cmp X.eq (C.may maps.now.combine.now) K.is_clone
+        (total_map maps.now.left.now maps.now.left_default.now)
+        (total_map maps.now.right.now maps.now.right_default.now)
+        (total_map pairs.items maps.now.new_default.now)) }
 {
     join_asking(alloc, maps.left, maps.right, maps)
 }
 
 /// What `combine` makes of two total maps.
 ///
-/// It is asked for the new default first, on the two defaults, and then once at each key that one of the maps lists, in ascending order.
+/// It is asked for the new default first, on the two defaults, and then once at each key that one
+/// of the maps lists, in ascending order.
 pub(super) fn combine_by<
     K: Ord + Clone + Drop,
     V: Eq + Drop,
@@ -228,9 +245,10 @@ where
 {
     /// What `f` makes of the values of both maps at every key, and of the defaults.
     ///
-    /// `f` is asked for the new default first, with the two defaults, and then once at each key that one of the maps lists, in
-    /// ascending order. An answer that equals the new default is dropped. A key is listed as a clone of the one of this map, where
-    /// it lists the key, and else of the other's. Refused where memory, a clone of a key or an answer of `f` is.
+    /// `f` is asked for the new default first, with the two defaults, and then once at each key
+    /// that one of the maps lists, in ascending order. An answer that equals the new default is
+    /// dropped. A key is listed as a clone of the one of this map, where it lists the key, and else
+    /// of the other's. Refused where memory, a clone of a key or an answer of `f` is.
     ///
     /// ```
     /// let sums = a.combine_ref(&b, |x: &u32, y: &u32| Ok(x.saturating_add(*y)))?;
@@ -241,8 +259,10 @@ where
         f: F,
     ) -> Result<Self, AllocError>
         requires clones { ClonesAreEqual K.cmp K.is_clone }
-        requires callable { HoldsEverywhere K.cmp (λ x y. (p : _) (q : _) → p.now ≡ x → q.now ≡ y → F.pre f p q) self.now that.now }
-        ensures { IfOk result (IsCombined K.cmp V.eq (λ x y v. FnReturnsAtPair F.Fn f x y (Ok v)) K.is_clone self.now that.now) }
+        requires callable { HoldsEverywhere K.cmp
+            (λ x y. (p : _) (q : _) → p.now ≡ x → q.now ≡ y → F.pre f p q) self.now that.now }
+        ensures { IfOk result (IsCombined K.cmp V.eq (λ x y v. FnReturnsAtPair F.Fn f x y (Ok v))
+            K.is_clone self.now that.now) }
     {
         combine_by(self, that, &ByClosure(&f))
     }
@@ -257,22 +277,26 @@ impl<K: Ord + Clone + Drop, V: Ord + Clone + Drop, const N: usize, A: Allocator 
 where
     (K, V): MadeWith<A>,
 {
-    /// The greater of the two values at every key, and of the defaults, as a clone: that of `that` where the two are equal.
+    /// The greater of the two values at every key, and of the defaults, as a clone: that of `that`
+    /// where the two are equal.
     ///
     /// Refused where memory or a clone is.
     pub fn supremum(&self, that: &Self) -> Result<Self, AllocError>
         requires clones { ClonesAreEqual K.cmp K.is_clone }
-        ensures { IfOk result (IsCombined K.cmp V.eq (λ x y. V.is_clone (max_by_ordering (V.cmp x y) x y)) K.is_clone self.now that.now) }
+        ensures { IfOk result (IsCombined K.cmp V.eq
+            (λ x y. V.is_clone (max_by_ordering (V.cmp x y) x y)) K.is_clone self.now that.now) }
     {
         combine_by(self, that, &Greater)
     }
 
-    /// The lesser of the two values at every key, and of the defaults, as a clone: that of this map where the two are equal.
+    /// The lesser of the two values at every key, and of the defaults, as a clone: that of this map
+    /// where the two are equal.
     ///
     /// Refused where memory or a clone is.
     pub fn infimum(&self, that: &Self) -> Result<Self, AllocError>
         requires clones { ClonesAreEqual K.cmp K.is_clone }
-        ensures { IfOk result (IsCombined K.cmp V.eq (λ x y. V.is_clone (min_by_ordering (V.cmp x y) x y)) K.is_clone self.now that.now) }
+        ensures { IfOk result (IsCombined K.cmp V.eq
+            (λ x y. V.is_clone (min_by_ordering (V.cmp x y) x y)) K.is_clone self.now that.now) }
     {
         combine_by(self, that, &Lesser)
     }

@@ -14,9 +14,12 @@ use std::hash::{Hash, Hasher};
 
 /// Two total maps are equal where they have equal mappings, and equal defaults.
 impl<K: Ord, V: Eq, const N: usize, A: Allocator> PartialEq for TotalVecMap<K, V, N, A> {
-    ghost eq = { λ a b. pointwise (λ p q. K.eq p.0 q.0 && V.eq p.1 q.1) a.mappings b.mappings && V.eq a.default b.default };
+    ghost eq = { λ a b. pointwise (λ p q. K.eq p.0 q.0 && V.eq p.1 q.1) a.mappings b.mappings
+        && V.eq a.default b.default };
 
-    ghost laws = { and_per (on_per (λ m. m.mappings) (lists_per (and_per (on_per (λ p. p.0) K.PartialEq.laws) (on_per (λ p. p.1) V.PartialEq.laws)))) (on_per (λ m. m.default) V.PartialEq.laws) };
+    ghost laws = { and_per (on_per (λ m. m.mappings)
+        (lists_per (and_per (on_per (λ p. p.0) K.PartialEq.laws)
+        (on_per (λ p. p.1) V.PartialEq.laws)))) (on_per (λ m. m.default) V.PartialEq.laws) };
 
     fn eq(&self, other: &Self) -> bool {
         self.mappings == other.mappings && self.default == other.default
@@ -24,14 +27,20 @@ impl<K: Ord, V: Eq, const N: usize, A: Allocator> PartialEq for TotalVecMap<K, V
 }
 
 impl<K: Ord, V: Eq, const N: usize, A: Allocator> Eq for TotalVecMap<K, V, N, A> {
-    ghost laws = { and_equiv (on_equiv (λ m. m.mappings) (lists_equiv (and_equiv (on_equiv (λ p. p.0) K.Eq.laws) (on_equiv (λ p. p.1) V.Eq.laws)))) (on_equiv (λ m. m.default) V.Eq.laws) };
+    ghost laws = { and_equiv (on_equiv (λ m. m.mappings)
+        (lists_equiv (and_equiv (on_equiv (λ p. p.0) K.Eq.laws) (on_equiv (λ p. p.1) V.Eq.laws))))
+        (on_equiv (λ m. m.default) V.Eq.laws) };
 }
 
 /// Total maps are ordered as their mappings are, and those with equal mappings as their defaults.
 impl<K: Ord, V: Ord, const N: usize, A: Allocator> PartialOrd for TotalVecMap<K, V, N, A> {
-    ghost partial_cmp = { λ a b. partial_ordering_then (slice_partial_cmp (λ p q. partial_ordering_then (K.partial_cmp p.0 q.0) (V.partial_cmp p.1 q.1)) a.mappings b.mappings) (V.partial_cmp a.default b.default) };
+    ghost partial_cmp = { λ a b. partial_ordering_then
+        (slice_partial_cmp (λ p q. partial_ordering_then (K.partial_cmp p.0 q.0)
+        (V.partial_cmp p.1 q.1)) a.mappings b.mappings) (V.partial_cmp a.default b.default) };
 
-    ghost laws = { then_po (on_po (λ m. m.mappings) (lists_po (then_po (on_po (λ p. p.0) K.PartialOrd.laws) (on_po (λ p. p.1) V.PartialOrd.laws)))) (on_po (λ m. m.default) V.PartialOrd.laws) };
+    ghost laws = { then_po (on_po (λ m. m.mappings)
+        (lists_po (then_po (on_po (λ p. p.0) K.PartialOrd.laws)
+        (on_po (λ p. p.1) V.PartialOrd.laws)))) (on_po (λ m. m.default) V.PartialOrd.laws) };
 
     fn partial_cmp(&self, other: &Self) -> Option<Ordering> {
         Some(self.cmp(other))
@@ -39,16 +48,25 @@ impl<K: Ord, V: Ord, const N: usize, A: Allocator> PartialOrd for TotalVecMap<K,
 }
 
 impl<K: Ord, V: Ord, const N: usize, A: Allocator> Ord for TotalVecMap<K, V, N, A> {
-    ghost cmp = { λ a b. ordering_then (slice_cmp (λ p q. ordering_then (K.cmp p.0 q.0) (V.cmp p.1 q.1)) a.mappings b.mappings) (V.cmp a.default b.default) };
+    ghost cmp = { λ a b. ordering_then (slice_cmp
+        (λ p q. ordering_then (K.cmp p.0 q.0) (V.cmp p.1 q.1)) a.mappings b.mappings)
+        (V.cmp a.default b.default) };
 
-    ghost total = { then_total (on_total (λ m. m.mappings) (lists_total (then_total (on_total (λ p. p.0) K.total) (on_total (λ p. p.1) V.total)))) (on_total (λ m. m.default) V.total) };
+    ghost total = { then_total (on_total (λ m. m.mappings)
+        (lists_total (then_total (on_total (λ p. p.0) K.total) (on_total (λ p. p.1) V.total))))
+        (on_total (λ m. m.default) V.total) };
 
-    ghost matches_partial_cmp = { then_agrees (λ a b. lists_agrees (then_agrees (λ p q. K.matches_partial_cmp p.0 q.0) (λ p q. V.matches_partial_cmp p.1 q.1)) a.mappings b.mappings) (λ a b. V.matches_partial_cmp a.default b.default) };
+    ghost matches_partial_cmp = { then_agrees
+        (λ a b. lists_agrees (then_agrees (λ p q. K.matches_partial_cmp p.0 q.0)
+        (λ p q. V.matches_partial_cmp p.1 q.1)) a.mappings b.mappings)
+        (λ a b. V.matches_partial_cmp a.default b.default) };
 
-    ghost matches_eq = { let K' = K.cmp in
-        let V' = V.cmp in
-        let pairs = lists_ties (λ p q. ordering_then (K' p.0 q.0) (V' p.1 q.1)) (λ p q. both_tied _ _ (K' p.0 q.0) (V' p.1 q.1) (K.matches_eq p.0 q.0) (V.matches_eq p.1 q.1)) in
-        λ a b. both_tied _ _ (slice_cmp (λ p q. ordering_then (K' p.0 q.0) (V' p.1 q.1)) a.mappings b.mappings) (V' a.default b.default) (pairs a.mappings b.mappings) (V.matches_eq a.default b.default) };
+    ghost matches_eq = { let K' = K.cmp in let V' = V.cmp in
+        let pairs = lists_ties (λ p q. ordering_then (K' p.0 q.0) (V' p.1 q.1))
+        (λ p q. both_tied _ _ (K' p.0 q.0) (V' p.1 q.1) (K.matches_eq p.0 q.0)
+        (V.matches_eq p.1 q.1)) in λ a b. both_tied _ _
+        (slice_cmp (λ p q. ordering_then (K' p.0 q.0) (V' p.1 q.1)) a.mappings b.mappings)
+        (V' a.default b.default) (pairs a.mappings b.mappings) (V.matches_eq a.default b.default) };
 
     fn cmp(&self, other: &Self) -> Ordering {
         match self.mappings.cmp(&other.mappings) {
@@ -62,7 +80,10 @@ impl<K: Ord, V: Ord, const N: usize, A: Allocator> Ord for TotalVecMap<K, V, N, 
 impl<K: Ord + Hash, V: Eq + Hash, const N: usize, A: Allocator> Hash for TotalVecMap<K, V, N, A> {
     ghost hash_input = { λ m. fed.slice (λ p. K.hash_input p.0 ++ V.hash_input p.1) m.mappings };
 
-    ghost respects_eq = { (first_alike (λ x y. V.eq x.default y.default) (on_Alike (λ m. m.mappings) (items_Alike (and-Alike (on_Alike (λ p. p.0) (record { fed = K.respects_eq })) (on_Alike (λ p. p.1) (record { fed = V.respects_eq })))))).fed };
+    ghost respects_eq = { (first_alike (λ x y. V.eq x.default y.default)
+        (on_Alike (λ m. m.mappings) (items_Alike
+        (and-Alike (on_Alike (λ p. p.0) (record { fed = K.respects_eq }))
+        (on_Alike (λ p. p.1) (record { fed = V.respects_eq })))))).fed };
 
     fn hash<H: Hasher>(&self, state: &mut H) {
         self.mappings.hash(state);

@@ -22,7 +22,8 @@ where
 impl<K: Ord, V: Eq + Zero, const N: usize, A: Allocator> TotalVecMap<K, V, N, A> {
     /// Whether nothing is mapped and the default equals 0. Takes no memory.
     pub fn is_zero(&self) -> bool
-        ensures { IsTrue result ↔ ((self.now.mappings ≡ []) × IsTrue (V.eq self.now.default V.zero)) }
+        ensures { IsTrue result
+            ↔ ((self.now.mappings ≡ []) × IsTrue (V.eq self.now.default V.zero)) }
     {
         self.mappings.is_empty() && self.default.is_zero()
     }
@@ -43,7 +44,8 @@ where
 impl<K: Ord, V: Eq + One, const N: usize, A: Allocator> TotalVecMap<K, V, N, A> {
     /// Whether nothing is mapped and the default equals 1. Takes no memory.
     pub fn is_one(&self) -> bool
-        ensures { IsTrue result ↔ ((self.now.mappings ≡ []) × IsTrue (V.eq self.now.default V.one)) }
+        ensures { IsTrue result
+            ↔ ((self.now.mappings ≡ []) × IsTrue (V.eq self.now.default V.one)) }
     {
         self.mappings.is_empty() && self.default.is_one()
     }

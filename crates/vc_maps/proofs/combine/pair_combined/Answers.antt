@@ -14,7 +14,8 @@ returns-clause-built g c =
     let p = c.replace_left-key.result in let q = c.replace_right-other.result in
     let some = heads-some _ _ _ c.requires.callable in
     let righted = c.replace_right-other.ensures.others in let lefted = c.replace_left-key.ensures.others in
-    let passed = skipped built_items list_name c.keep_left.new.parts c.skip_b-never_refused.new.self c.skip_b-never_refused.result c.skip_b-never_refused.ensures.gives.0 c.skip_b-never_refused.ensures.gives.1 in
+    let passed = skipped built_items list_name c.keep_left.new.parts c.skip_b-never_refused.new.self c.skip_b-never_refused.result
+    c.skip_b-never_refused.ensures.gives.0 c.skip_b-never_refused.ensures.gives.1 in
     at-heads _ (left_at spans list) (right_at spans list) p q some.0 some.1
     (sym (ap (λ l. get_or l 0 p) (sym at.left ∙ sym righted.left ∙ c.replace_left-key.ensures.first)))
     (sym (ap (λ l. get_or l 0 q) (sym at.right ∙ c.replace_right-other.ensures.first)))

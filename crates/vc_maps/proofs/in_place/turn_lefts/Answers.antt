@@ -29,7 +29,9 @@ pairs-preserved g c =
       left = kept.left ∙ ap (drop 1) taken.left ∙ ap (drop 1) c.pairs.invariant.left ∙ drop-drop 1 i all;
       right = kept.right ∙ taken.right ∙ c.pairs.invariant.right;
       built = asked-one (λ a r. g.Q.Turn.may c.args.question.now a r) (OldKey g.K.Clone.is_clone) (λ p. Left p.0 p.1) all i p c.turn_left-answer.result _ _ _ some is
-          c.pairs.invariant.built c.turn_left-answer.ensures (under-key {W = g.row.W.Denot} (OldKey g.K.Clone.is_clone) (Left p.0 p.1) p.0 c.turn_left-answer.result _ _ refl (rw taken.built at kept.built));
+          c.pairs.invariant.built c.turn_left-answer.ensures
+          (under-key {W = g.row.W.Denot} (OldKey g.K.Clone.is_clone) (Left p.0 p.1) p.0 c.turn_left-answer.result _ _ refl
+          (rw taken.built at kept.built));
     }
 
 pub returns-clause-built : goal.returns-clause-built

@@ -17,13 +17,16 @@ pairs-preserved g c =
     let rights = right_items c.args.parts.now in let pairs = c.args.pairs.now in let i = c.pairs.pair-index in
     let p = c.pair-item.result in let q = c.replace_right-key.result in
     let taken = c.replace_right-key.ensures.others in let kept = c.keep_right.ensures in
-    let cloned : g.K.Clone.is_clone p.0 q.0 = zip-at (λ p q. g.K.Clone.is_clone p.0 q.0) pairs (length pairs) rights _ i p q c.requires.keys c.pairs-test.true c.pair-item.is (sym c.pairs.invariant.right ∙ c.replace_right-key.ensures.first) in
+    let cloned : g.K.Clone.is_clone p.0 q.0 = zip-at (λ p q. g.K.Clone.is_clone p.0 q.0) pairs (length pairs) rights _ i p q
+    c.requires.keys c.pairs-test.true c.pair-item.is (sym c.pairs.invariant.right ∙ c.replace_right-key.ensures.first) in
     record {
       name = kept.name ∙ taken.name ∙ c.pairs.invariant.name;
       left = kept.left ∙ taken.left ∙ c.pairs.invariant.left;
       right = kept.right ∙ ap (drop 1) taken.right ∙ ap (drop 1) c.pairs.invariant.right ∙ drop-drop 1 i rights;
       built = asked-one (λ a r. g.Q.Turn.may c.args.question.now a r) (OldKey g.K.Clone.is_clone) (λ p. Right p.0 p.1) pairs i p c.turn_right-answer.result _ _ _ c.pairs-test.true c.pair-item.is
-          c.pairs.invariant.built c.turn_right-answer.ensures (under-key {V = g.row.V.Denot} {W = g.row.W.Denot} (OldKey g.K.Clone.is_clone) (Right p.0 p.1) q.0 c.turn_right-answer.result _ _ cloned (rw taken.built at kept.built));
+          c.pairs.invariant.built c.turn_right-answer.ensures
+          (under-key {V = g.row.V.Denot} {W = g.row.W.Denot} (OldKey g.K.Clone.is_clone) (Right p.0 p.1) q.0
+          c.turn_right-answer.result _ _ cloned (rw taken.built at kept.built));
     }
 
 pub returns-clause-built : goal.returns-clause-built

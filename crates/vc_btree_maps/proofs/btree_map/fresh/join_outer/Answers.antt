@@ -13,19 +13,27 @@ keys-init g c =
 pub put_right-requires-clause-takes : goal.put_right-requires-clause-takes
 put_right-requires-clause-takes g c =
     let i = c.keys.invariant in
-    c.requires.takes _ (outer-asks g.K.Ord.cmp g.met.K.Ord.total g.K.Clone.is_clone (λ a r. g.Q.Question.may c.args.question.now a (Ok r)) _ _ i.0 _ _ c.in-Some.key c.get.result c.in-Some.other c.iter-key-items.ensures.ascends i.1 c.in-Some.ensures.steps c.get.ensures (c.is_none.ensures ∙ ap not c.if-is_none.true))
+    c.requires.takes _ (outer-asks g.K.Ord.cmp g.met.K.Ord.total g.K.Clone.is_clone
+    (λ a r. g.Q.Question.may c.args.question.now a (Ok r)) _ _ i.0 _ _ c.in-Some.key c.get.result c.in-Some.other
+    c.iter-key-items.ensures.ascends i.1 c.in-Some.ensures.steps c.get.ensures (c.is_none.ensures ∙ ap not c.if-is_none.true))
 
 pub put_right-requires-clause-absent : goal.put_right-requires-clause-absent
 put_right-requires-clause-absent g c =
     let i = c.keys.invariant in
-    outer-free g.K.Ord.cmp g.met.K.Ord.total g.K.Clone.is_clone _ _ _ i.0 _ _ c.in-Some.key c.get.result c.in-Some.other c.iter-key-items.ensures.ascends i.1 c.in-Some.ensures.steps c.get.ensures _ (c.is_none.ensures ∙ ap not c.if-is_none.true) i.2
+    outer-free g.K.Ord.cmp g.met.K.Ord.total g.K.Clone.is_clone _ _ _ i.0 _ _ c.in-Some.key c.get.result c.in-Some.other
+    c.iter-key-items.ensures.ascends i.1 c.in-Some.ensures.steps c.get.ensures _
+    (c.is_none.ensures ∙ ap not c.if-is_none.true) i.2
 
 pub keys-preserved-in-Continue-branch-2 : goal.keys-preserved-in-Continue-branch-2
 keys-preserved-in-Continue-branch-2 g c =
     let i = c.keys.invariant in
-    outer-next g.K.Ord.cmp g.met.K.Ord.total g.K.Clone.is_clone _ _ _ i.0 _ _ c.in-Some.key c.get.result c.in-Some.other c.iter-key-items.ensures.ascends i.1 c.in-Some.ensures.steps c.get.ensures _ _ (c.is_none.ensures ∙ ap not c.if-is_none.true) c.in_ok-put_right.ensures i.2
+    outer-next g.K.Ord.cmp g.met.K.Ord.total g.K.Clone.is_clone _ _ _ i.0 _ _ c.in-Some.key c.get.result c.in-Some.other
+    c.iter-key-items.ensures.ascends i.1 c.in-Some.ensures.steps c.get.ensures _ _
+    (c.is_none.ensures ∙ ap not c.if-is_none.true) c.in_ok-put_right.ensures i.2
 
 pub keys-preserved : goal.keys-preserved
 keys-preserved g c =
     let i = c.keys.invariant in
-    outer-pass g.K.Ord.cmp g.met.K.Ord.total g.K.Clone.is_clone _ _ _ i.0 _ _ c.in-Some.key c.get.result c.in-Some.other c.iter-key-items.ensures.ascends i.1 c.in-Some.ensures.steps c.get.ensures _ (c.is_none.ensures ∙ ap not c.if-is_none.false) i.2
+    outer-pass g.K.Ord.cmp g.met.K.Ord.total g.K.Clone.is_clone _ _ _ i.0 _ _ c.in-Some.key c.get.result c.in-Some.other
+    c.iter-key-items.ensures.ascends i.1 c.in-Some.ensures.steps c.get.ensures _
+    (c.is_none.ensures ∙ ap not c.if-is_none.false) i.2

@@ -8,4 +8,5 @@ use Rattle.vc_btree_maps.proofs.btree_map.fresh.join_outer.Given as goal
 abbrev pub invariant-keys : goal.invariant-keys
 invariant-keys g l =
     (front : List _) × (g.M.AbstractBTreeMap.pairs l.that ≡ front ++ pairs_left l.key-iterator)
-    × IsOuterPart g.K.Ord.cmp g.met.K.Ord.total g.K.Clone.is_clone (λ a r. g.Q.Question.may l.question a (Ok r)) (g.L.AbstractBTreeMap.pairs l.this) (g.M.AbstractBTreeMap.pairs l.that) front l.joined.entries
+    × IsOuterPart g.K.Ord.cmp g.met.K.Ord.total g.K.Clone.is_clone (λ a r. g.Q.Question.may l.question a (Ok r))
+    (g.L.AbstractBTreeMap.pairs l.this) (g.M.AbstractBTreeMap.pairs l.that) front l.joined.entries

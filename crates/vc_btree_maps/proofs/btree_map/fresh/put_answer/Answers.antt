@@ -7,7 +7,9 @@ returns-in_ok-insert-in-Some-clause-put g c =
     let clone = c.in_ok-clone-in-Some.ensures.cases in
     rw c.in-Some.is (record {
       ascends = c.in_ok-insert-in-Some.ensures.ordered;
-      at = put-some g.K.Ord.cmp g.met.K.Ord.total g.K.Clone.is_clone _ _ _ _ _ clone (clone-equal g.K.Ord.cmp g.met.K.Ord.total g.K.Clone.is_clone c.requires.clones _ _ clone) c.requires.absent c.in_ok-insert-in-Some.ensures.entries;
+      at = put-some g.K.Ord.cmp g.met.K.Ord.total g.K.Clone.is_clone _ _ _ _ _ clone
+          (clone-equal g.K.Ord.cmp g.met.K.Ord.total g.K.Clone.is_clone c.requires.clones _ _ clone) c.requires.absent
+          c.in_ok-insert-in-Some.ensures.entries;
     })
 
 pub returns-in-None-clause-put : goal.returns-in-None-clause-put

@@ -10,7 +10,8 @@ keep_shared-requires g c =
     let e = c.in_ok-shared.ensures in
     rw (c.deref.ensures.value, e.shared) (record {
       ascends = shared-ascends g.K.Ord.cmp g.met.K.Ord.total _ _ e.ascends;
-      takes = second-takes g.K.Ord.cmp g.met.K.Ord.total _ g.K.Clone.is_clone (MayGive g.G.Fn c.args.given.now) (g.J.Keep.may c.args.judge.now) _ _ e.given (g.J.Keep.takes c.args.judge.now) c.requires.takes;
+      takes = second-takes g.K.Ord.cmp g.met.K.Ord.total _ g.K.Clone.is_clone (MayGive g.G.Fn c.args.given.now)
+          (g.J.Keep.may c.args.judge.now) _ _ e.given (g.J.Keep.takes c.args.judge.now) c.requires.takes;
     })
 
 pub keep_each-requires : goal.keep_each-requires

@@ -14,23 +14,28 @@ keep_at-requires g c =
     let i = c.keys.invariant in
     record {
       takes = λ v e. c.requires.takes _
-          (asks-shared_along g.K.Ord.cmp g.met.K.Ord.total (g.J.Keep.may c.args.judge.now) _ i.0 _ _ c.in-Some.key c.in-Some.other c.iter-key-items.ensures.ascends i.1 c.in-Some.ensures.steps _ _ i.2 v e);
+          (asks-shared_along g.K.Ord.cmp g.met.K.Ord.total (g.J.Keep.may c.args.judge.now) _ i.0 _ _ c.in-Some.key c.in-Some.other
+          c.iter-key-items.ensures.ascends i.1 c.in-Some.ensures.steps _ _ i.2 v e);
     }
 
 pub keys-preserved : goal.keys-preserved
 keys-preserved g c =
     let i = c.keys.invariant in
-    along-next g.K.Ord.cmp g.met.K.Ord.total (g.J.Keep.may c.args.judge.now) _ i.0 _ _ c.in-Some.key c.in-Some.other c.iter-key-items.ensures.ascends i.1 c.in-Some.ensures.steps _ _ i.2 _ c.keep_at.ensures.kept
+    along-next g.K.Ord.cmp g.met.K.Ord.total (g.J.Keep.may c.args.judge.now) _ i.0 _ _ c.in-Some.key c.in-Some.other
+    c.iter-key-items.ensures.ascends i.1 c.in-Some.ensures.steps _ _ i.2 _ c.keep_at.ensures.kept
 
 pub keys-preserved-then-not-keep_at : goal.keys-preserved-then-not-keep_at
 keys-preserved-then-not-keep_at g c =
     let i = c.keys.invariant in
-    along-next g.K.Ord.cmp g.met.K.Ord.total (g.J.Keep.may c.args.judge.now) _ i.0 _ _ c.in-Some.key c.in-Some.other c.iter-key-items.ensures.ascends i.1 c.in-Some.ensures.steps _ _ i.2 _ c.keep_at.ensures.kept
+    along-next g.K.Ord.cmp g.met.K.Ord.total (g.J.Keep.may c.args.judge.now) _ i.0 _ _ c.in-Some.key c.in-Some.other
+    c.iter-key-items.ensures.ascends i.1 c.in-Some.ensures.steps _ _ i.2 _ c.keep_at.ensures.kept
 
 pub other_alone-requires : goal.other_alone-requires
 other_alone-requires g c =
     let i = c.keys.invariant in
-    c.requires.callable _ _ (asks-alone_along g.K.Ord.cmp g.met.K.Ord.total (g.J.Keep.may c.args.judge.now) _ i.0 _ _ c.in-Some.key c.in-Some.other c.iter-key-items.ensures.ascends i.1 c.in-Some.ensures.steps _ _ i.2 (sym c.keep_at.ensures.had ∙ c.if-not-keep_at.true))
+    c.requires.callable _ _ (asks-alone_along g.K.Ord.cmp g.met.K.Ord.total (g.J.Keep.may c.args.judge.now) _ i.0 _ _
+    c.in-Some.key c.in-Some.other c.iter-key-items.ensures.ascends i.1 c.in-Some.ensures.steps _ _ i.2
+    (sym c.keep_at.ensures.had ∙ c.if-not-keep_at.true))
 
 pub returns : goal.returns
 returns g c =

@@ -15,7 +15,8 @@ pub returns-clause-ready : goal.returns-clause-ready
 returns-clause-ready g c =
     let s = c.args.self.now in let n = c.args.n in
     elim c.if-this-gt0.branch [
-      | then-this-gt0 w ↦ rw w.self-is (keys-passed g.K.Clone.is_clone _ s.right.now _ (key_pairs s) _ n c.requires.ready (take_rest w.pass_keys.new.self.right.now n ∙ ap (drop n) w.pass_keys.ensures.right) (λ _. w.pass_keys.ensures.keys))
+      | then-this-gt0 w ↦ rw w.self-is (keys-passed g.K.Clone.is_clone _ s.right.now _ (key_pairs s) _ n c.requires.ready
+          (take_rest w.pass_keys.new.self.right.now n ∙ ap (drop n) w.pass_keys.ensures.right) (λ _. w.pass_keys.ensures.keys))
       | else-this-gt0 w ↦
           let none : g.row.KEYS ≡ 0 = omega (arith, w.if-this-gt0.false) in
           rw (w.self-is, set-false g.row.KEYS none) tt

@@ -34,7 +34,8 @@ combine_parts-kept-requires-clause-right_ascends g c =
 
 pub invariant_of-self-2 : goal.invariant_of-self-2
 invariant_of-self-2 g c =
-    let cut = cut-off c.append_behind.new.list _ c.combine_parts-kept.new.list c.truncate.new.self.items c.combine_parts-kept.result c.as_mut_slice.ensures.value c.combine_parts-kept.auto.list c.truncate.ensures.items in
+    let cut = cut-off c.append_behind.new.list _ c.combine_parts-kept.new.list c.truncate.new.self.items
+    c.combine_parts-kept.result c.as_mut_slice.ensures.value c.combine_parts-kept.auto.list c.truncate.ensures.items in
     subst (λ l. AscendsByKey g.K.Ord.cmp l) (sym cut) c.combine_parts-kept.ensures.ascends
 
 pub returns-clause-joins : goal.returns-clause-joins
@@ -44,7 +45,8 @@ returns-clause-joins g c =
     ap (λ n. take n c.as_mut_slice.result.now) c.len-end.ensures.value ∙ ap (take (length items)) c.as_mut_slice.ensures.value ∙ c.in_ok-next.ensures.front in
     let behind : drop c.in_ok-next.next c.as_mut_slice.result.now ≡ c.args.that =
     ap (drop c.in_ok-next.next) c.as_mut_slice.ensures.value ∙ c.in_ok-next.ensures.behind ∙ c.into_inner.ensures.pairs in
-    let cut = cut-off c.append_behind.new.list _ c.combine_parts-kept.new.list c.truncate.new.self.items c.combine_parts-kept.result c.as_mut_slice.ensures.value c.combine_parts-kept.auto.list c.truncate.ensures.items in
+    let cut = cut-off c.append_behind.new.list _ c.combine_parts-kept.new.list c.truncate.new.self.items
+    c.combine_parts-kept.result c.as_mut_slice.ensures.value c.combine_parts-kept.auto.list c.truncate.ensures.items in
     let given = Combines (λ v w x. g.F.Fn.post c.args.f (v, (w, tt)) x) in
     subst (λ zs. IsJoin g.K.Ord.cmp Outer left_spelling c.args.self.now c.args.that given MovedKey zs) (sym cut)
     (join-of g.K.Ord.cmp Outer given MovedKey _ _ _ _ _ (first ∙ c.self.view_is) behind c.combine_parts-kept.ensures)

@@ -43,16 +43,19 @@ returns-in-Ok-clause-old g c =
 
 pub invariant_of-self-in-Err : goal.invariant_of-self-in-Err
 invariant_of-self-in-Err g c =
-    (gap-put g.K.Ord.cmp g.met.K.Ord.total c.self.inside.pairs.items c.as_slice.result.now _ c.args.key c.args.value c.in-Err.place c.as_slice.ensures c.in-Err.ensures c.self.invariant c.in_ok-insert_at-in-Err.ensures.ok).ascends
+    (gap-put g.K.Ord.cmp g.met.K.Ord.total c.self.inside.pairs.items c.as_slice.result.now _ c.args.key c.args.value
+    c.in-Err.place c.as_slice.ensures c.in-Err.ensures c.self.invariant c.in_ok-insert_at-in-Err.ensures.ok).ascends
 
 pub returns-in_ok-insert_at-in-Err-clause-entries : goal.returns-in_ok-insert_at-in-Err-clause-entries
 returns-in_ok-insert_at-in-Err-clause-entries g c =
-    let put = gap-put g.K.Ord.cmp g.met.K.Ord.total c.self.inside.pairs.items c.as_slice.result.now _ c.args.key c.args.value c.in-Err.place c.as_slice.ensures c.in-Err.ensures c.self.invariant c.in_ok-insert_at-in-Err.ensures.ok in
+    let put = gap-put g.K.Ord.cmp g.met.K.Ord.total c.self.inside.pairs.items c.as_slice.result.now _ c.args.key c.args.value
+    c.in-Err.place c.as_slice.ensures c.in-Err.ensures c.self.invariant c.in_ok-insert_at-in-Err.ensures.ok in
     λ k. put.entries k ∙ ap (λ l. cond (eq_by_cmp g.K.Ord.cmp k c.args.key) (Some (c.args.key, c.args.value)) (entry_at g.K.Ord.cmp l k)) c.self.view_is
 
 pub returns-in_ok-insert_at-in-Err-clause-values : goal.returns-in_ok-insert_at-in-Err-clause-values
 returns-in_ok-insert_at-in-Err-clause-values g c =
-    let put = gap-put g.K.Ord.cmp g.met.K.Ord.total c.self.inside.pairs.items c.as_slice.result.now _ c.args.key c.args.value c.in-Err.place c.as_slice.ensures c.in-Err.ensures c.self.invariant c.in_ok-insert_at-in-Err.ensures.ok in
+    let put = gap-put g.K.Ord.cmp g.met.K.Ord.total c.self.inside.pairs.items c.as_slice.result.now _ c.args.key c.args.value
+    c.in-Err.place c.as_slice.ensures c.in-Err.ensures c.self.invariant c.in_ok-insert_at-in-Err.ensures.ok in
     λ k. put.values k ∙ ap (λ l. cond (eq_by_cmp g.K.Ord.cmp k c.args.key) (Some c.args.value) (value_at g.K.Ord.cmp l k)) c.self.view_is
 
 pub returns-in_ok-insert_at-in-Err-clause-old : goal.returns-in_ok-insert_at-in-Err-clause-old

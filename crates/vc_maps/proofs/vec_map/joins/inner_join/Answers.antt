@@ -11,4 +11,5 @@ returns-clause-joins g c =
 
 pub returns-clause-function : goal.returns-clause-function
 returns-clause-function g c =
-    join_by-of g.K.Ord.cmp Inner (λ a r. MayAnswerInner g.F.Fn c.args.f a (Ok r)) (ClonedKey g.K.Clone.is_clone) _ _ _ _ _ c.as_slice.ensures.pairs c.as_slice-2.ensures.pairs c.in_ok-pairs.ensures.joins
+    join_by-of g.K.Ord.cmp Inner (λ a r. MayAnswerInner g.F.Fn c.args.f a (Ok r)) (ClonedKey g.K.Clone.is_clone) _ _ _ _ _
+    c.as_slice.ensures.pairs c.as_slice-2.ensures.pairs c.in_ok-pairs.ensures.joins

@@ -12,8 +12,10 @@ returns-clause-counted g c = rw (c.as_slice-this.ensures.pairs, c.as_slice-that.
 
 pub returns-clause-joins : goal.returns-clause-joins
 returns-clause-joins g c =
-    join-of g.K.Ord.cmp c.args.kind (λ a r. MayAnswer g.F.Fn c.args.f a (Ok r)) (ClonedKey g.K.Clone.is_clone) _ _ _ _ _ c.as_slice-this.ensures.pairs c.as_slice-that.ensures.pairs c.in_ok-pairs.ensures.joins
+    join-of g.K.Ord.cmp c.args.kind (λ a r. MayAnswer g.F.Fn c.args.f a (Ok r)) (ClonedKey g.K.Clone.is_clone) _ _ _ _ _
+    c.as_slice-this.ensures.pairs c.as_slice-that.ensures.pairs c.in_ok-pairs.ensures.joins
 
 pub returns-clause-function : goal.returns-clause-function
 returns-clause-function g c =
-    join_by-of g.K.Ord.cmp c.args.kind (λ a r. MayAnswer g.F.Fn c.args.f a (Ok r)) (ClonedKey g.K.Clone.is_clone) _ _ _ _ _ c.as_slice-this.ensures.pairs c.as_slice-that.ensures.pairs c.in_ok-pairs.ensures.joins
+    join_by-of g.K.Ord.cmp c.args.kind (λ a r. MayAnswer g.F.Fn c.args.f a (Ok r)) (ClonedKey g.K.Clone.is_clone) _ _ _ _ _
+    c.as_slice-this.ensures.pairs c.as_slice-that.ensures.pairs c.in_ok-pairs.ensures.joins
