@@ -1,7 +1,6 @@
 -- What is left of a tree that one side alone has, where that is nothing; values that are copied; and calls of the closures that combines ask.
---     left-out        nothing is left
 --     may-answer        what a call answers
---     made-some, made-none        the combine of whole trees
+--     made-none        the combine of whole trees, of which no key is left
 use Rattle.std.proofs.Common.{◌≡◌, ℕ, [], ◌∷◌, ◌++◌, List, Option, None, Some, Result, Ok, Err, IfOk, refl, sym, ap, subst, ◌∙◌, take, drop}
 use Rattle.std.specs.Cmp.{IsTotalOrder}
 use Rattle.std.specs.Option.{option_copied}
@@ -18,13 +17,7 @@ use Rattle.vc_tree_model.specs.Shortened.{IsShortened}
 use Rattle.vc_tree_model.specs.Same.{IsAlike}
 use Rattle.vc_tree_model.proofs.AlikeLemmas.{tree-alike_lookup}
 use Rattle.vc_tree_model.proofs.KeyLemmas.{then_behind, behind-append, behind-itself}
-use Rattle.vc_tree_facing.specs.Made.{IsMade, IsBothMade}
-
-module _ {K : Type 0} (cmp : K → K → Ordering) where
-  module _ {V U : Type 0} where
-    -- nothing is left where nothing may be
-    pub left-out : (R : Option V → Option U → Type 0) → ((v : Option V) → R v None) → (t : Tree K V) → IsMade cmp R t None
-    left-out R h t = record { child = tt; begins = λ y e. tt; binds = λ k. h (lookup cmp t k) }
+use Rattle.vc_tree_facing.specs.Made.{IsBothMade}
 
 -- a clone is a copy
 kept_copies : {V : Type 0} (is_clone : V → V → Type 0) (v z : Option V) → IsKept is_clone v z → IsKept (Copies is_clone) v z
@@ -110,16 +103,11 @@ outer-answer kl kr g f p q r v w a b h = rw (a, b) (may-answer g f p q r h)
 -- ---- whole trees
 
 module _ {K V W U : Type 0} (cmp : K → K → Ordering) (R : Option V → Option W → Option U → Type 0) (t : Tree K V) (u : Tree K W) where
-  -- the combine of whole trees
-  pub made-some : (o : Option (Tree K U)) (m : Tree K U) → o ≡ Some m → IsBothMade cmp R (shortened 0 t) (shortened 0 u) o
-      → (k : List K) → R (lookup cmp t k) (lookup cmp u k) (lookup cmp m k)
-  made-some o m e w k = (subst (IsBothMade cmp R (shortened 0 t) (shortened 0 u)) e w).binds k
-
   nothing-in : (k : List K) → lookup cmp (no_tree {K = K} {V = U}) k ≡ None
   nothing-in [] = refl
   nothing-in (x ∷ k) = refl
 
-  -- and where no key is left
+  -- no key is left
   pub made-none : (o : Option (Tree K U)) (m : Tree K U) → o ≡ None → m ≡ no_tree
       → IsBothMade cmp R (shortened 0 t) (shortened 0 u) o → (k : List K) → R (lookup cmp t k) (lookup cmp u k) (lookup cmp m k)
   made-none o m e b w k =

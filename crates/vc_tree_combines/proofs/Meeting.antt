@@ -250,11 +250,6 @@ module _ {K : Type 0} (cmp : K → K → Ordering) (o : IsTotalOrder cmp) where
         each (x ∷ k) = h x k
     tells-nodes shared v w f g false m h = (h.0 ∷ h.1, h.2)
 
-    -- a value is missed
-    pub value-missed : (shared : Bool) (v : Option V) (w : Option W) (f : Forest K V) (g : Forest K W)
-        → IsMissed shared v w → TellsKeys cmp shared (node [] v f) (node [] w g) false
-    value-missed shared v w f g m = ([], m)
-
 -- ---- the public words
 
 module _ {K V W : Type 0} (cmp : K → K → Ordering) (t : Tree K V) (u : Tree K W) where

@@ -3,7 +3,7 @@
 --     inside-told, inside-none        the right one ends inside the left one
 --     behind-told        the left one ends
 --     within-told, within-none, within-bare        the right one goes on behind it
---     both-told, both-missed        both end
+--     both-told        both end
 --     some-at, before-end        a place that is not the end
 --     meeting-told        what is behind two trees that are met, tells of all
 --     found-agrees, agree-flip, found_smaller        the child that is found
@@ -24,8 +24,8 @@ use Rattle.vc_tree_nodes.specs.Parting.{Agree, PartsAt, IsParting}
 use Rattle.vc_tree_nodes.specs.Places.{IsNoChild, IsFoundChild}
 use Rattle.vc_tree_nodes.specs.declared.parting.Parting.{Parting}
 use Rattle.vc_tree_nodes.specs.declared.parting.Parting.TheVariants.{Lower, Higher}
-use Rattle.vc_tree_combines.specs.Meeting.{IsMet, IsMissed, TellsKeys, TellsKeysIn, IsMeeting}
-use Rattle.vc_tree_combines.proofs.Meeting.{tells-lifted, alone-parted, alone-childless, tells-child, tells-in_child, childless-met, bare-or_missed, tells-nodes, value-missed}
+use Rattle.vc_tree_combines.specs.Meeting.{IsMet, TellsKeys, TellsKeysIn, IsMeeting}
+use Rattle.vc_tree_combines.proofs.Meeting.{tells-lifted, alone-parted, alone-childless, tells-child, tells-in_child, childless-met, bare-or_missed, tells-nodes}
 use Rattle.vc_tree_facing.proofs.Opening.{goes-on}
 
 -- what goes on with a component is solid
@@ -201,15 +201,6 @@ module _ {K : Type 0} (cmp : K → K → Ordering) (o : IsTotalOrder cmp) where
         (subst (λ g. TellsKeys cmp shared (node [] v f) (node [] u.value g) below) eg
         (subst (λ w. TellsKeys cmp shared (node [] v f) (node [] w g) below) ew
         (tells-nodes cmp o shared v w f g below m h)))))
-
-    -- a value is missed
-    pub both-missed : (shared : Bool) (v : Option V) (w : Option W) → length u.prefix ≤ n → v ≡ t.value → w ≡ u.value
-        → IsMissed shared v w → TellsKeys cmp shared (shortened (length t.prefix) t) (shortened n u) false
-    both-missed shared v w l ev ew m =
-        at-ends shared [] false (ends u.prefix n l)
-        (subst (λ v. TellsKeys cmp shared (node [] v t.children) (node [] u.value u.children) false) ev
-        (subst (λ w. TellsKeys cmp shared (node [] v t.children) (node [] w u.children) false) ew
-        (value-missed cmp o shared v w t.children u.children m)))
 
 -- behind two trees that are met, the others tell of all
 pub meeting-told : {K V W A B : Type 0} (cmp : K → K → Ordering) (ta : A → Tree K V) (tb : B → Tree K W) (shared : Bool)

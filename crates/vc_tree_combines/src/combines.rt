@@ -1,8 +1,10 @@
-//! The combines of two trees that build a new one: what each makes of values, and of trees that one side alone has.
+//! The combines of two trees that build a new one: what each makes of values, and of trees that one
+//! side alone has.
 
 ghost use Rattle.std.specs.Prelude.{◌≡◌, ◌+◌, ◌*◌, ◌<◌, ◌≤◌, List, Option, Some, None, Ok, IfOk, length, option_map, refl};
 ghost use Rattle.std.specs.Option.{option_copied};
 ghost use Rattle.vc_tree_model.specs.Asking.{MayAnswer, CanAsk};
+ghost use Rattle.vc_tree_model.specs.Canonical.{IsCanonical};
 ghost use Rattle.vc_tree_model.specs.Combine.{IsCombined, IsInnerAt, IsOuterAt, IsUnionAt, IsIntersectionAt, IsDifferenceAt};
 ghost use Rattle.vc_tree_model.specs.Map.{lookup};
 ghost use Rattle.vc_tree_model.specs.Same.{IsAlike};
@@ -97,7 +99,8 @@ impl<
 > Combine<K, V, V, A, B> for Outer<'f, F, M> {
     type Made = M;
 
-    ghost says = { λ op. IsOuterAt V.is_clone V.is_clone (λ v w z. MayAnswer F.Fn op.answer.now v w (Ok z)) };
+    ghost says = { λ op.
+        IsOuterAt V.is_clone V.is_clone (λ v w z. MayAnswer F.Fn op.answer.now v w (Ok z)) };
 
     ghost asks = { λ op. CanAsk F.Fn op.answer.now };
 
@@ -267,9 +270,12 @@ pub fn inner_combine<
     M: Build<K, V>,
     F: Fn(&V, &W) -> Result<Option<V>, AllocError>,
 >(this: &A, that: &B, f: &F) -> Result<M, AllocError>
-    requires asks { (k : List K) → CanAsk F.Fn f.now (lookup K.cmp (A.tree this.now) k) (lookup K.cmp (B.tree that.now) k) }
-    ensures { IfOk result (λ made. IsCombined K.cmp (IsInnerAt (λ v w z. MayAnswer F.Fn f.now v w (Ok z)))
+    requires asks { (k : List K)
+        → CanAsk F.Fn f.now (lookup K.cmp (A.tree this.now) k) (lookup K.cmp (B.tree that.now) k) }
+    ensures made { IfOk result (λ made.
+        IsCombined K.cmp (IsInnerAt (λ v w z. MayAnswer F.Fn f.now v w (Ok z)))
         (A.tree this.now) (B.tree that.now) (M.tree made)) }
+    ensures canonical { IfOk result (λ made. IsCanonical K.cmp (M.tree made)) }
 {
     let op: Inner<'_, F, M> = Inner {
         answer: f,
@@ -288,10 +294,12 @@ pub fn outer_combine<
     F: Fn(&V, &V) -> Result<Option<V>, AllocError>,
     C: Count,
 >(this: &A, that: &B, f: &F, steps: &mut C) -> Result<M, AllocError>
-    requires asks { (k : List K) → CanAsk F.Fn f.now (lookup K.cmp (A.tree this.now) k) (lookup K.cmp (B.tree that.now) k) }
-    ensures made { IfOk result (λ made.
-        IsCombined K.cmp (IsOuterAt V.is_clone V.is_clone (λ v w z. MayAnswer F.Fn f.now v w (Ok z)))
+    requires asks { (k : List K)
+        → CanAsk F.Fn f.now (lookup K.cmp (A.tree this.now) k) (lookup K.cmp (B.tree that.now) k) }
+    ensures made { IfOk result (λ made. IsCombined K.cmp
+        (IsOuterAt V.is_clone V.is_clone (λ v w z. MayAnswer F.Fn f.now v w (Ok z)))
         (A.tree this.now) (B.tree that.now) (M.tree made)) }
+    ensures canonical { IfOk result (λ made. IsCanonical K.cmp (M.tree made)) }
     ensures counted { C.counted steps.new
         ≤ C.counted steps.old + 3 * (weight (A.tree this.now) + weight (B.tree that.now)) }
 {
@@ -307,8 +315,9 @@ pub fn union<K: TKey, V: TValue, A: Build<K, V>, B: RadixNode<K, V>>(
     this: &A,
     that: &B,
 ) -> Result<A, AllocError>
-    ensures { IfOk result (λ made.
-        IsCombined K.cmp (IsUnionAt (Copies V.is_clone) V.is_clone) (A.tree this.now) (B.tree that.now) (A.tree made)) }
+    ensures made { IfOk result (λ made. IsCombined K.cmp (IsUnionAt (Copies V.is_clone) V.is_clone)
+        (A.tree this.now) (B.tree that.now) (A.tree made)) }
+    ensures canonical { IfOk result (λ made. IsCanonical K.cmp (A.tree made)) }
 {
     let op: KeepAll<A> = KeepAll { made: PhantomData };
     combine_whole(this, that, &op, &mut Uncounted)
@@ -319,8 +328,9 @@ pub fn intersection<K: TKey, V: TValue, W: TValue, A: Build<K, V>, B: RadixNode<
     this: &A,
     that: &B,
 ) -> Result<A, AllocError>
-    ensures { IfOk result (λ made.
-        IsCombined K.cmp (IsIntersectionAt (Copies V.is_clone)) (A.tree this.now) (B.tree that.now) (A.tree made)) }
+    ensures made { IfOk result (λ made. IsCombined K.cmp (IsIntersectionAt (Copies V.is_clone))
+        (A.tree this.now) (B.tree that.now) (A.tree made)) }
+    ensures canonical { IfOk result (λ made. IsCanonical K.cmp (A.tree made)) }
 {
     let op: KeepShared<A> = KeepShared { made: PhantomData };
     combine_whole(this, that, &op, &mut Uncounted)
@@ -331,8 +341,9 @@ pub fn difference<K: TKey, V: TValue, W: TValue, A: Build<K, V>, B: RadixNode<K,
     this: &A,
     that: &B,
 ) -> Result<A, AllocError>
-    ensures { IfOk result (λ made.
-        IsCombined K.cmp (IsDifferenceAt (Copies V.is_clone)) (A.tree this.now) (B.tree that.now) (A.tree made)) }
+    ensures made { IfOk result (λ made. IsCombined K.cmp (IsDifferenceAt (Copies V.is_clone))
+        (A.tree this.now) (B.tree that.now) (A.tree made)) }
+    ensures canonical { IfOk result (λ made. IsCanonical K.cmp (A.tree made)) }
 {
     let op: KeepLeft<A> = KeepLeft { made: PhantomData };
     combine_whole(this, that, &op, &mut Uncounted)
@@ -344,8 +355,11 @@ pub fn materialize_shortened<K: TKey, V: TValue, A: RadixNode<K, V>, M: Build<K,
     n: usize,
 ) -> Result<M, AllocError>
     requires { n < length (A.tree tree.now).prefix }
-    ensures alike { IfOk result (λ made. IsAlike V.is_clone (shortened n (A.tree tree.now)) (M.tree made)) }
-    ensures map { IfOk result (λ made. IsShortened K.cmp V.is_clone n (A.tree tree.now) (M.tree made)) }
+    ensures alike { IfOk result
+        (λ made. IsAlike V.is_clone (shortened n (A.tree tree.now)) (M.tree made)) }
+    ensures map { IfOk result
+        (λ made. IsShortened K.cmp V.is_clone n (A.tree tree.now) (M.tree made)) }
+    ensures canonical { IfOk result (λ made. IsCanonical K.cmp (M.tree made)) }
 {
     copy_shortened(tree.allocator(), tree, n)
 }

@@ -6,7 +6,7 @@ ghost use Rattle.std.specs.Option.{option_copied};
 ghost use Rattle.vc_tree_model.specs.Combine.{IsCombined};
 ghost use Rattle.vc_tree_model.specs.Tree.{forest, shortened};
 ghost use Rattle.vc_tree_model.specs.Map.{lookup};
-ghost use Rattle.vc_tree_model.specs.Canonical.{AreChildren};
+ghost use Rattle.vc_tree_model.specs.Canonical.{AreChildren, IsCanonical};
 ghost use Rattle.vc_tree_model.specs.Child.{value_at as node_value};
 ghost use Rattle.vc_tree_model.specs.Shortened.{weight};
 ghost use Rattle.vc_tree_nodes.specs.Children.{seen};
@@ -21,14 +21,15 @@ use vc_tree_facing::facing::{Below, Facing, face};
 use vc_tree_facing::nodes::{finish, value_at};
 use vc_tree_facing::sides::{Side, Sides};
 use vc_tree_nodes::building::{Build, Seal};
-use vc_tree_nodes::reading::{RadixNode, TKey, TValue};
+use vc_tree_nodes::reading::{RadixNode, TKey, TValue, canonical};
 
 /// What a combine makes of values, and of trees that one side alone has.
 pub trait Combine<K: TKey, V: TValue, W: TValue, A: RadixNode<K, V>, B: RadixNode<K, W>> {
     /// The flavour that is made.
     type Made: Build<K, V>;
 
-    /// What the combine says of the values that the left tree, the right tree and the result bind to a key.
+    /// What the combine says of the values that the left tree, the right tree and the result bind
+    /// to a key.
     ghost says: { Self → Option V → Option W → Option V → Type 0 };
 
     /// What it needs in order to be asked of the values that both trees bind to a key.
@@ -42,7 +43,8 @@ pub trait Combine<K: TKey, V: TValue, W: TValue, A: RadixNode<K, V>, B: RadixNod
         requires { asks self.now (option_copied v) (option_copied w) }
         ensures { IfOk result (says self.now (option_copied v.entry) (option_copied w.entry)) };
 
-    /// What is left of a tree that the left side alone has, without the first `from` components of its prefix.
+    /// What is left of a tree that the left side alone has, without the first `from` components of
+    /// its prefix.
     fn left_alone(
         &self,
         alloc: Global,
@@ -50,11 +52,13 @@ pub trait Combine<K: TKey, V: TValue, W: TValue, A: RadixNode<K, V>, B: RadixNod
         from: usize,
     ) -> Result<Option<Self::Made>, AllocError>
         requires within { from < length (A.tree tree.now).prefix }
-        requires asks { (k : List K) → asks self.now (lookup K.cmp (shortened from (A.tree tree.now)) k) None }
-        ensures { IfOk result (λ made. IsMade K.cmp (λ v z. says self.now v None z) (shortened from (A.tree tree.now))
-            (option_map Self.Made.tree made)) };
+        requires asks { (k : List K)
+            → asks self.now (lookup K.cmp (shortened from (A.tree tree.now)) k) None }
+        ensures { IfOk result (λ made. IsMade K.cmp (λ v z. says self.now v None z)
+            (shortened from (A.tree tree.now)) (option_map Self.Made.tree made)) };
 
-    /// What is left of a tree that the right side alone has, without the first `from` components of its prefix.
+    /// What is left of a tree that the right side alone has, without the first `from` components of
+    /// its prefix.
     fn right_alone(
         &self,
         alloc: Global,
@@ -62,9 +66,10 @@ pub trait Combine<K: TKey, V: TValue, W: TValue, A: RadixNode<K, V>, B: RadixNod
         from: usize,
     ) -> Result<Option<Self::Made>, AllocError>
         requires within { from < length (B.tree tree.now).prefix }
-        requires asks { (k : List K) → asks self.now None (lookup K.cmp (shortened from (B.tree tree.now)) k) }
-        ensures { IfOk result (λ made. IsMade K.cmp (λ w z. says self.now None w z) (shortened from (B.tree tree.now))
-            (option_map Self.Made.tree made)) };
+        requires asks { (k : List K)
+            → asks self.now None (lookup K.cmp (shortened from (B.tree tree.now)) k) }
+        ensures { IfOk result (λ made. IsMade K.cmp (λ w z. says self.now None w z)
+            (shortened from (B.tree tree.now)) (option_map Self.Made.tree made)) };
 
     ghost says_none: { (op : Self) → says op None None None };
 
@@ -76,8 +81,8 @@ pub fn keep<K: TKey, V: TValue, M: Build<K, V>>(
     kids: &mut Vec<M>,
     kid: Option<M>,
 ) -> Result<(), AllocError>
-    ensures { IfOk result (λ _.
-        map M.tree kids.new.items ≡ map M.tree kids.old.items ++ cons_option (option_map M.tree kid) []) }
+    ensures { IfOk result (λ _. map M.tree kids.new.items
+        ≡ map M.tree kids.old.items ++ cons_option (option_map M.tree kid) []) }
 {
     if let Some(kid) = kid {
         kids.push(kid)?;
@@ -85,7 +90,8 @@ pub fn keep<K: TKey, V: TValue, M: Build<K, V>>(
     Ok(())
 }
 
-/// What the combine makes of the values of the nodes that stand behind equal fronts of two prefixes.
+/// What the combine makes of the values of the nodes that stand behind equal fronts of two
+/// prefixes.
 fn combine_values<
     K: TKey,
     V: TValue,
@@ -108,7 +114,8 @@ fn combine_values<
     op.at_values(value_at(a, i, front), value_at(b, j, front))
 }
 
-/// What the combine makes of two trees behind equal fronts of their prefixes, of the children that it has made.
+/// What the combine makes of two trees behind equal fronts of their prefixes, of the children that
+/// it has made.
 fn end<
     K: TKey,
     V: TValue,
@@ -134,10 +141,12 @@ fn end<
         (node_value (shortened i (A.tree a.now)) (drop front (drop i (A.tree a.now).prefix)))
         (node_value (shortened j (B.tree b.now)) (drop front (drop j (B.tree b.now).prefix))) }
     requires children { AreChildren K.cmp (seen O.Made.tree kids.items) }
-    ensures { IfOk result (λ made. IsEnded (O.says op.now
-        (node_value (shortened i (A.tree a.now)) (drop front (drop i (A.tree a.now).prefix)))
+    ensures { IfOk result
+        (λ made. IsEnded (O.says op.now (node_value (shortened i (A.tree a.now))
+        (drop front (drop i (A.tree a.now).prefix)))
         (node_value (shortened j (B.tree b.now)) (drop front (drop j (B.tree b.now).prefix))))
-        (take front (drop i (A.tree a.now).prefix)) (seen O.Made.tree kids.items) (option_map O.Made.tree made)) }
+        (take front (drop i (A.tree a.now).prefix)) (seen O.Made.tree kids.items)
+        (option_map O.Made.tree made)) }
 {
     let prefix = &a.prefix()[i..];
     let value = combine_values(a, i, b, j, front, op)?;
@@ -160,7 +169,8 @@ struct Begun<'a, 'b, A, B, M> {
     kids: Vec<M>,
 }
 
-/// Lays two trees side by side, each without the front of its prefix, and makes room for what comes of them.
+/// Lays two trees side by side, each without the front of its prefix, and makes room for what comes
+/// of them.
 fn begin<
     'a,
     'b,
@@ -184,11 +194,12 @@ fn begin<
     requires left { i ≤ length (A.tree a.now).prefix }
     requires right { j ≤ length (B.tree b.now).prefix }
     requires known { Agree K.cmp (drop i (A.tree a.now).prefix) (drop j (B.tree b.now).prefix) known }
-    ensures begun { IfOk result (λ s. IsBegun K.cmp A.tree B.tree (shortened i (A.tree a.now)) (shortened j (B.tree b.now)) s.front
-        (trees_below s.left) s.left.from (trees_below s.right) s.right.from s.sides.items (map O.Made.tree s.kids.items)
-        (C.counted steps.old) (C.counted steps.new)) }
-    ensures counted { C.counted steps.new
-        ≤ C.counted steps.old + weight (shortened i (A.tree a.now)) + weight (shortened j (B.tree b.now)) }
+    ensures begun { IfOk result (λ s. IsBegun K.cmp A.tree B.tree (shortened i (A.tree a.now))
+        (shortened j (B.tree b.now)) s.front (trees_below s.left) s.left.from (trees_below s.right)
+        s.right.from s.sides.items (map O.Made.tree s.kids.items) (C.counted steps.old)
+        (C.counted steps.new)) }
+    ensures counted { C.counted steps.new ≤ C.counted steps.old
+        + weight (shortened i (A.tree a.now)) + weight (shortened j (B.tree b.now)) }
 {
     let Facing {
         front,
@@ -206,8 +217,8 @@ fn begin<
     })
 }
 
-/// The combine of two trees, each without the front of its prefix: `None` where no key is left. The first `known` components that are
-/// left of either prefix are known to agree.
+/// The combine of two trees, each without the front of its prefix: `None` where no key is left. The
+/// first `known` components that are left of either prefix are known to agree.
 pub fn combine_at<
     K: TKey,
     V: TValue,
@@ -231,10 +242,11 @@ pub fn combine_at<
     requires known { Agree K.cmp (drop i (A.tree a.now).prefix) (drop j (B.tree b.now).prefix) known }
     requires asks { (k : List K) → O.asks op.now (lookup K.cmp (shortened i (A.tree a.now)) k)
         (lookup K.cmp (shortened j (B.tree b.now)) k) }
-    ensures made { IfOk result (λ made. IsBothMade K.cmp (O.says op.now) (shortened i (A.tree a.now))
-        (shortened j (B.tree b.now)) (option_map O.Made.tree made)) }
+    ensures made { IfOk result (λ made. IsBothMade K.cmp (O.says op.now)
+        (shortened i (A.tree a.now)) (shortened j (B.tree b.now)) (option_map O.Made.tree made)) }
     ensures counted { C.counted steps.new + 2
-        ≤ C.counted steps.old + 3 * (weight (shortened i (A.tree a.now)) + weight (shortened j (B.tree b.now))) }
+        ≤ C.counted steps.old + 3
+        * (weight (shortened i (A.tree a.now)) + weight (shortened j (B.tree b.now))) }
 {
     let Begun {
         front,
@@ -277,15 +289,19 @@ pub fn combine_whole<
     O: Combine<K, V, W, A, B>,
     C: Count,
 >(this: &A, that: &B, op: &O, steps: &mut C) -> Result<O::Made, AllocError>
-    requires asks { (k : List K) → O.asks op.now (lookup K.cmp (A.tree this.now) k) (lookup K.cmp (B.tree that.now) k) }
+    requires asks { (k : List K)
+        → O.asks op.now (lookup K.cmp (A.tree this.now) k) (lookup K.cmp (B.tree that.now) k) }
     ensures made { IfOk result (λ made.
         IsCombined K.cmp (O.says op.now) (A.tree this.now) (B.tree that.now) (O.Made.tree made)) }
+    ensures canonical { IfOk result (λ made. IsCanonical K.cmp (O.Made.tree made)) }
     ensures counted { C.counted steps.new
         ≤ C.counted steps.old + 3 * (weight (A.tree this.now) + weight (B.tree that.now)) }
 {
     let alloc = this.allocator();
-    match combine_at(alloc, this, 0, that, 0, 0, op, steps)? {
-        Some(tree) => Ok(tree),
-        None => Ok(O::Made::blank(alloc, Seal::new())),
-    }
+    let made = match combine_at(alloc, this, 0, that, 0, 0, op, steps)? {
+        Some(tree) => tree,
+        None => O::Made::blank(alloc, Seal::new()),
+    };
+    canonical(&made);
+    Ok(made)
 }

@@ -1,5 +1,5 @@
-//! Tests of the keys of two trees. They take no memory: where children of two nodes are merged, the merge stops at two that begin
-//! alike, these are tested, and what is behind them is merged on.
+//! Tests of the keys of two trees. They take no memory: where children of two nodes are merged, the
+//! merge stops at two that begin alike, these are tested, and what is behind them is merged on.
 
 ghost use Rattle.std.specs.Prelude.{◌≡◌, ◌+◌, ◌≤◌, Ok, List, drop, length, not, true, false, MatchBool};
 ghost use Rattle.std.specs.Option.{option_copied};
@@ -19,7 +19,8 @@ use vc_tree_nodes::parting::{Parting, find_parting};
 use vc_tree_nodes::places::child_at;
 use vc_tree_nodes::reading::{RadixNode, TKey, TValue, canonical, is_empty};
 
-/// What is left of two lists of trees, and whether a tree was missed: one that the left list alone has, where its keys are to be shared.
+/// What is left of two lists of trees, and whether a tree was missed: one that the left list alone
+/// has, where its keys are to be shared.
 #[derive(Drop)]
 struct Tails<'a, 'b, A, B> {
     left: &'a [A],
@@ -45,7 +46,8 @@ impl<'a, 'b, A, B> MergeState for Tails<'a, 'b, A, B> {
     }
 }
 
-/// Passes the trees that one list alone has, and stops at two that begin alike; and at one that is missed.
+/// Passes the trees that one list alone has, and stops at two that begin alike; and at one that is
+/// missed.
 #[derive(Drop)]
 struct PassAlone<K, V, W> {
     shared: bool,
@@ -142,8 +144,9 @@ fn next_meeting<'a, 'b, K: TKey, V: TValue, W: TValue, A: RadixNode<K, V>, B: Ra
     Next::Meeting(x, lefts, y, rights)
 }
 
-/// Whether all keys of the left tree are keys of the right one, if `shared`, or else whether none is. Of each tree the front of the
-/// prefix is left out, and the first `known` components that are left are known to agree.
+/// Whether all keys of the left tree are keys of the right one, if `shared`, or else whether none
+/// is. Of each tree the front of the prefix is left out, and the first `known` components that are
+/// left are known to agree.
 #[cycle(meeting)]
 fn keys_meet<K: TKey, V: TValue, W: TValue, A: RadixNode<K, V>, B: RadixNode<K, W>>(
     a: &A,
@@ -156,7 +159,8 @@ fn keys_meet<K: TKey, V: TValue, W: TValue, A: RadixNode<K, V>, B: RadixNode<K, 
     requires left { i ≤ length (A.tree a.now).prefix }
     requires right { j ≤ length (B.tree b.now).prefix }
     requires known { Agree K.cmp (drop i (A.tree a.now).prefix) (drop j (B.tree b.now).prefix) known }
-    ensures { TellsKeys K.cmp shared (shortened i (A.tree a.now)) (shortened j (B.tree b.now)) result }
+    ensures { TellsKeys K.cmp shared (shortened i (A.tree a.now)) (shortened j (B.tree b.now))
+        result }
 {
     let p = &a.prefix()[i..];
     let q = &b.prefix()[j..];
@@ -170,7 +174,8 @@ fn keys_meet<K: TKey, V: TValue, W: TValue, A: RadixNode<K, V>, B: RadixNode<K, 
     }
 }
 
-/// The same of what stands behind the prefix of the left tree, and of the right tree without `n` components.
+/// The same of what stands behind the prefix of the left tree, and of the right tree without `n`
+/// components.
 #[cycle(meeting)]
 fn keys_meet_behind<K: TKey, V: TValue, W: TValue, A: RadixNode<K, V>, B: RadixNode<K, W>>(
     a: &A,
@@ -179,7 +184,8 @@ fn keys_meet_behind<K: TKey, V: TValue, W: TValue, A: RadixNode<K, V>, B: RadixN
     shared: bool,
 ) -> bool
     requires { n ≤ length (B.tree b.now).prefix }
-    ensures { TellsKeys K.cmp shared (shortened (length (A.tree a.now).prefix) (A.tree a.now)) (shortened n (B.tree b.now)) result }
+    ensures { TellsKeys K.cmp shared (shortened (length (A.tree a.now).prefix) (A.tree a.now))
+        (shortened n (B.tree b.now)) result }
 {
     canonical(a);
     let whole = b.prefix();
@@ -227,7 +233,8 @@ fn keys_meet_below<K: TKey, V: TValue, W: TValue, A: RadixNode<K, V>, B: RadixNo
 
 /// The same of what two trees bind to one key.
 fn values_meet<V, W>(v: Option<&V>, w: Option<&W>, shared: bool) -> bool
-    ensures { MatchBool result (IsMet shared (option_copied v.entry) (option_copied w.entry)) (IsMissed shared (option_copied v.entry) (option_copied w.entry)) }
+    ensures { MatchBool result (IsMet shared (option_copied v.entry) (option_copied w.entry))
+        (IsMissed shared (option_copied v.entry) (option_copied w.entry)) }
 {
     v.is_none() || w.is_some() == shared
 }
@@ -237,7 +244,8 @@ pub fn is_disjoint<K: TKey, V: TValue, W: TValue, A: RadixNode<K, V>, B: RadixNo
     this: &A,
     that: &B,
 ) -> bool
-    ensures { MatchBool result (AreDisjoint K.cmp (A.tree this.now) (B.tree that.now)) (ShareKey K.cmp (A.tree this.now) (B.tree that.now)) }
+    ensures { MatchBool result (AreDisjoint K.cmp (A.tree this.now) (B.tree that.now))
+        (ShareKey K.cmp (A.tree this.now) (B.tree that.now)) }
 {
     keys_meet(this, 0, that, 0, 0, false)
 }
@@ -247,7 +255,8 @@ pub fn is_subset<K: TKey, V: TValue, W: TValue, A: RadixNode<K, V>, B: RadixNode
     this: &A,
     that: &B,
 ) -> bool
-    ensures { MatchBool result (HasKeysOf K.cmp (B.tree that.now) (A.tree this.now)) (LacksKeyOf K.cmp (B.tree that.now) (A.tree this.now)) }
+    ensures { MatchBool result (HasKeysOf K.cmp (B.tree that.now) (A.tree this.now))
+        (LacksKeyOf K.cmp (B.tree that.now) (A.tree this.now)) }
 {
     keys_meet(this, 0, that, 0, 0, true)
 }

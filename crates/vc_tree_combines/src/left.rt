@@ -5,7 +5,7 @@ ghost use Rattle.std.specs.Option.{option_copied};
 ghost use Rattle.vc_tree_model.specs.Asking.{MayAnswerAt, CanAskAt};
 ghost use Rattle.vc_tree_model.specs.Combine.{IsCombined, IsLeftAt};
 ghost use Rattle.vc_tree_model.specs.Map.{lookup};
-ghost use Rattle.vc_tree_model.specs.Canonical.{AreChildren};
+ghost use Rattle.vc_tree_model.specs.Canonical.{AreChildren, IsCanonical};
 ghost use Rattle.vc_tree_model.specs.Tree.{shortened};
 ghost use Rattle.vc_tree_facing.specs.Made.{IsMade};
 ghost use Rattle.vc_tree_combines.specs.Ended.{IsEnded};
@@ -20,7 +20,8 @@ use vc_tree_facing::sides::Side;
 use vc_tree_nodes::building::Build;
 use vc_tree_nodes::reading::{RadixNode, TKey, TValue, canonical};
 
-/// Keeps the keys of the left tree, with what a closure answers of the value and of what the right tree binds there.
+/// Keeps the keys of the left tree, with what a closure answers of the value and of what the right
+/// tree binds there.
 #[derive(Drop)]
 struct Left<'f, F, M> {
     answer: &'f F,
@@ -67,8 +68,8 @@ impl<
     }
 }
 
-/// What is left of a tree, without the first `from` components of its prefix, where the right tree has none of its keys: the
-/// closure is asked at each.
+/// What is left of a tree, without the first `from` components of its prefix, where the right tree
+/// has none of its keys: the closure is asked at each.
 fn answer_alone<
     K: TKey,
     V: TValue,
@@ -78,8 +79,10 @@ fn answer_alone<
     F: Fn(&V, Option<&W>) -> Result<Option<V>, AllocError>,
 >(alloc: Global, tree: &A, from: usize, answer: &F) -> Result<Option<M>, AllocError>
     requires within { from ≤ length (A.tree tree.now).prefix }
-    requires asks { (k : List K) → CanAskAt F.Fn answer.now (lookup K.cmp (shortened from (A.tree tree.now)) k) None }
-    ensures { IfOk result (λ made. IsMade K.cmp (λ v z. IsLeftAt (λ v w z. MayAnswerAt F.Fn answer.now v w (Ok z)) v None z)
+    requires asks { (k : List K)
+        → CanAskAt F.Fn answer.now (lookup K.cmp (shortened from (A.tree tree.now)) k) None }
+    ensures { IfOk result (λ made. IsMade K.cmp
+        (λ v z. IsLeftAt (λ v w z. MayAnswerAt F.Fn answer.now v w (Ok z)) v None z)
         (shortened from (A.tree tree.now)) (option_map M.tree made)) }
 {
     canonical(tree);
@@ -104,8 +107,10 @@ fn end_alone<
     requires within { from ≤ length (A.tree tree.now).prefix }
     requires asks { CanAskAt F.Fn answer.now (A.tree tree.now).value None }
     requires children { AreChildren K.cmp (seen M.tree kids.items) }
-    ensures { IfOk result (λ made. IsEnded (IsLeftAt (λ v w z. MayAnswerAt F.Fn answer.now v w (Ok z)) (A.tree tree.now).value None)
-        (drop from (A.tree tree.now).prefix) (seen M.tree kids.items) (option_map M.tree made)) }
+    ensures { IfOk result
+        (λ made. IsEnded (IsLeftAt (λ v w z. MayAnswerAt F.Fn answer.now v w (Ok z))
+        (A.tree tree.now).value None) (drop from (A.tree tree.now).prefix) (seen M.tree kids.items)
+        (option_map M.tree made)) }
 {
     let prefix = &tree.prefix()[from..];
     let value = answer_without(tree.value(), answer)?;
@@ -121,7 +126,8 @@ fn answer_without<'a, V, W, F: Fn(&V, Option<&W>) -> Result<Option<V>, AllocErro
 where
     W: 'a,
     requires { CanAskAt F.Fn answer.now (option_copied value) None }
-    ensures { IfOk result (IsLeftAt (λ v w z. MayAnswerAt F.Fn answer.now v w (Ok z)) (option_copied value.entry) None) }
+    ensures { IfOk result (IsLeftAt (λ v w z. MayAnswerAt F.Fn answer.now v w (Ok z))
+        (option_copied value.entry) None) }
 {
     let none: Option<&'a W> = None;
     match value {
@@ -130,7 +136,8 @@ where
     }
 }
 
-/// The keys of the left tree, with what the closure answers of the value there and of what the right tree binds, if anything.
+/// The keys of the left tree, with what the closure answers of the value there and of what the
+/// right tree binds, if anything.
 pub fn left_combine<
     K: TKey,
     V: TValue,
@@ -140,9 +147,12 @@ pub fn left_combine<
     M: Build<K, V>,
     F: Fn(&V, Option<&W>) -> Result<Option<V>, AllocError>,
 >(this: &A, that: &B, f: &F) -> Result<M, AllocError>
-    requires asks { (k : List K) → CanAskAt F.Fn f.now (lookup K.cmp (A.tree this.now) k) (lookup K.cmp (B.tree that.now) k) }
-    ensures { IfOk result (λ made. IsCombined K.cmp (IsLeftAt (λ v w z. MayAnswerAt F.Fn f.now v w (Ok z)))
+    requires asks { (k : List K) → CanAskAt F.Fn f.now (lookup K.cmp (A.tree this.now) k)
+        (lookup K.cmp (B.tree that.now) k) }
+    ensures made { IfOk result (λ made.
+        IsCombined K.cmp (IsLeftAt (λ v w z. MayAnswerAt F.Fn f.now v w (Ok z)))
         (A.tree this.now) (B.tree that.now) (M.tree made)) }
+    ensures canonical { IfOk result (λ made. IsCanonical K.cmp (M.tree made)) }
 {
     let op: Left<'_, F, M> = Left {
         answer: f,

@@ -2,22 +2,21 @@
 --     stayed        a tree that stays is what is said of a tree whose values are kept
 --     value_stays, value_goes        a value stays or goes by the verdict on its cover
 --     sifted_below, asked_below, asked-cover        the verdict is known to all that stands below
---     sifted-stays, sifted-goes        and so do all keys of a tree that no further key covers
---     removed-by, retained-by        what is said of all keys, as removal and retention
-use Rattle.std.proofs.Common.{◌≡◌, ℕ, ◌<◌, Bool, true, false, not, ◌∷◌, [], List, Option, None, Some, refl, sym, subst, length}
+--     sifted-stays        and so do all keys of a tree that no further key covers
+use Rattle.std.proofs.Common.{◌≡◌, ℕ, ◌<◌, Bool, true, false, ◌∷◌, [], List, Option, None, Some, refl, sym, subst, length}
 use Rattle.std.specs.Cmp.{IsTotalOrder}
 use Rattle.std.specs.declared.cmp.Ordering.{Ordering}
 use denote.Ref.{Bor}
 use denote.Param.Members.{Shared}
 use Rattle.vc_tree_model.specs.Canonical.{IsCanonical}
-use Rattle.vc_tree_model.specs.Cover.{StaysOrGoes, IsSifted, IsRemoved, IsRetained, cover}
+use Rattle.vc_tree_model.specs.Cover.{StaysOrGoes, cover}
 use Rattle.vc_tree_model.specs.Map.{or_else}
 use Rattle.vc_tree_model.specs.Snapshot.{tree_alike_refl}
 use Rattle.vc_tree_model.specs.Tree.{Tree, shortened}
 use Rattle.vc_tree_model.specs.Value.{IsKept}
 use Rattle.vc_tree_facing.specs.Made.{IsMade}
 use Rattle.vc_tree_facing.proofs.Copied.{copied-by}
-use Rattle.vc_tree_edits.specs.Editing.{CanJudge, IsJudged, IsSiftedBy, stays_by}
+use Rattle.vc_tree_edits.specs.Editing.{CanJudge, IsJudged, IsSiftedBy}
 
 -- a tree that stays is what is said of a tree whose values are kept
 pub stayed : {K V : Type 0} (cmp : K → K → Ordering) → IsTotalOrder cmp → (keeps : V → V → Type 0) → ((v : V) → keeps v v)
@@ -61,33 +60,12 @@ module _ {V W : Type 0} (keeps : V → V → Type 0) (may : W → Bool → Type 
   sifted_below known covered stays w j None o z h = h
   sifted_below known covered stays w j (Some v) o z h = (h.0, judged-below known covered h.0 w o j h.1, h.2)
 
-  -- all keys of a tree that no further key covers stay, or go
+  -- all keys of a tree that no further key covers stay
   pub sifted-stays : (known : Bool) (stays : Bool → Bool) → stays known ≡ true → (v z : Option V) → IsKept keeps v z
       → IsSiftedBy keeps may known stays v None z
   sifted-stays known stays e None None k = refl
   sifted-stays known stays e None (Some z) k = absurd k
   sifted-stays known stays e (Some v) z k = (known, refl, kept-stays (stays known) v z e k)
-
-  pub sifted-goes : (known : Bool) (stays : Bool → Bool) → stays known ≡ false → (v : Option V)
-      → IsSiftedBy keeps may known stays v None None
-  sifted-goes known stays e None = refl
-  sifted-goes known stays e (Some v) = (known, refl, gone-goes (stays known) v e)
-
-  -- what is said where nothing is known to be covered yet, as removal and retention say it
-  sifted-from : (stays : Bool → Bool) (c : Option W) (v z : Option V) → IsSiftedBy keeps may false stays v c z
-      → IsSifted keeps may stays c v z
-  sifted-from stays c None z h = h
-  sifted-from stays None (Some v) z h = h
-  sifted-from stays (Some w) (Some v) z h = h
-
-  module _ {K : Type 0} (q : List K → Option W) (f g : List K → Option V) where
-    pub removed-by : ((k : List K) → IsSiftedBy keeps may false (stays_by false) (f k) (cover q k) (g k))
-        → IsRemoved keeps may q f g
-    removed-by h k = sifted-from not (cover q k) (f k) (g k) (h k)
-
-    pub retained-by : ((k : List K) → IsSiftedBy keeps may false (stays_by true) (f k) (cover q k) (g k))
-        → IsRetained keeps may q f g
-    retained-by h k = sifted-from (λ b. b) (cover q k) (f k) (g k) (h k)
 
 module _ {W F : Type 0} (g : Shared F (Bor W × Unit {0}) Bool) (f : F) where
   -- what may be asked of a cover may be asked of each longer one

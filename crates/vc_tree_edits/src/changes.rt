@@ -67,7 +67,8 @@ impl<'f, F> Sift<'f, F> {
     where
         F: Fn(&W) -> bool,
         requires { CanJudge F.Fn self.now.judge.now (option_copied w) }
-        ensures { IsJudged (MayJudge F.Fn self.now.judge.now) self.now.covered (option_copied w.entry) result }
+        ensures { IsJudged (MayJudge F.Fn self.now.judge.now) self.now.covered
+            (option_copied w.entry) result }
     {
         match w {
             Some(w) => (self.judge)(w),
@@ -89,7 +90,8 @@ impl<
 
     ghost look = { λ cmp. covers cmp };
 
-    ghost says = { λ op. IsSiftedBy T.keeps (MayJudge F.Fn op.judge.now) op.covered (stays_by op.retains) };
+    ghost says = { λ op.
+        IsSiftedBy T.keeps (MayJudge F.Fn op.judge.now) op.covered (stays_by op.retains) };
 
     ghost asks = { λ op v w. CanJudge F.Fn op.judge.now w };
 
@@ -97,21 +99,23 @@ impl<
 
     ghost asks_none = { λ op. tt };
 
-    ghost says_kept = { λ op. sifted_kept T.keeps T.keeps_trans (MayJudge F.Fn op.judge.now) op.covered (stays_by op.retains) };
+    ghost says_kept = { λ op. sifted_kept T.keeps T.keeps_trans (MayJudge F.Fn op.judge.now)
+        op.covered (stays_by op.retains) };
 
     ghost asks_kept = { λ op u v w k a. a };
 
     #[tactic(auto, using(crate::proofs::Sifting::value_stays, crate::proofs::Sifting::value_goes, crate::proofs::Sifting::sifted_below, crate::proofs::Sifting::asked_below))]
     fn at_values(&self, v: Option<V>, w: Option<&W>) -> Result<(Option<V>, Sift<'f, F>), AllocError>
         requires { CanJudge F.Fn self.now.judge.now (option_copied w) }
-        ensures value { IfOk result (λ r. IsSiftedBy T.keeps (MayJudge F.Fn self.now.judge.now) self.now.covered
-            (stays_by self.now.retains) v (option_copied w.entry) r.0) }
+        ensures value { IfOk result (λ r. IsSiftedBy T.keeps (MayJudge F.Fn self.now.judge.now)
+            self.now.covered (stays_by self.now.retains) v (option_copied w.entry) r.0) }
         ensures below { IfOk result (λ r. (u : Option V) (o : Option W) (z : Option V)
-            → IsSiftedBy T.keeps (MayJudge F.Fn r.1.judge.now) r.1.covered (stays_by r.1.retains) u o z
-            → IsSiftedBy T.keeps (MayJudge F.Fn self.now.judge.now) self.now.covered (stays_by self.now.retains) u
-            (or_else o (option_copied w.entry)) z) }
+            → IsSiftedBy T.keeps (MayJudge F.Fn r.1.judge.now) r.1.covered (stays_by r.1.retains) u
+            o z → IsSiftedBy T.keeps (MayJudge F.Fn self.now.judge.now) self.now.covered
+            (stays_by self.now.retains) u (or_else o (option_copied w.entry)) z) }
         ensures asked { IfOk result (λ r. (u : Option V) (o : Option W)
-            → CanJudge F.Fn self.now.judge.now (or_else o (option_copied w.entry)) → CanJudge F.Fn r.1.judge.now o) }
+            → CanJudge F.Fn self.now.judge.now (or_else o (option_copied w.entry))
+            → CanJudge F.Fn r.1.judge.now o) }
     {
         let below = Sift {
             judge: self.judge,
@@ -242,12 +246,14 @@ impl<'m, K: TKey, V: TValue, B: RadixNode<K, V>, T: Build<K, V>, M: Meet<V, V>> 
         w: Option<&V>,
     ) -> Result<(Option<V>, KeepAll<'m, M>), AllocError>
         requires { CanMeet T.keeps (M.takes self.now.at.now) v (option_copied w) }
-        ensures value { IfOk result (λ r. IsOuterAt T.keeps V.is_clone (KeptThen T.keeps (M.may self.now.at.now)) v (option_copied w.entry) r.0) }
+        ensures value { IfOk result (λ r. IsOuterAt T.keeps V.is_clone
+            (KeptThen T.keeps (M.may self.now.at.now)) v (option_copied w.entry) r.0) }
         ensures below { IfOk result (λ r. (u : Option V) (o : Option V) (z : Option V)
             → IsOuterAt T.keeps V.is_clone (KeptThen T.keeps (M.may r.1.at.now)) u o z
             → IsOuterAt T.keeps V.is_clone (KeptThen T.keeps (M.may self.now.at.now)) u o z) }
         ensures asked { IfOk result (λ r. (u : Option V) (o : Option V)
-            → CanMeet T.keeps (M.takes self.now.at.now) u o → CanMeet T.keeps (M.takes r.1.at.now) u o) }
+            → CanMeet T.keeps (M.takes self.now.at.now) u o
+            → CanMeet T.keeps (M.takes r.1.at.now) u o) }
     {
         let kept = match v {
             Some(v) => match w {
@@ -307,12 +313,14 @@ impl<'m, K: TKey, V: TValue, W: TValue, B: RadixNode<K, W>, T: Build<K, V>, M: M
         w: Option<&W>,
     ) -> Result<(Option<V>, KeepLeft<'m, M>), AllocError>
         requires { CanMeet T.keeps (M.takes self.now.at.now) v (option_copied w) }
-        ensures value { IfOk result (λ r. IsMetAt T.keeps self.now.left_stays (KeptThen T.keeps (M.may self.now.at.now)) v (option_copied w.entry) r.0) }
+        ensures value { IfOk result (λ r. IsMetAt T.keeps self.now.left_stays
+            (KeptThen T.keeps (M.may self.now.at.now)) v (option_copied w.entry) r.0) }
         ensures below { IfOk result (λ r. (u : Option V) (o : Option W) (z : Option V)
             → IsMetAt T.keeps r.1.left_stays (KeptThen T.keeps (M.may r.1.at.now)) u o z
             → IsMetAt T.keeps self.now.left_stays (KeptThen T.keeps (M.may self.now.at.now)) u o z) }
         ensures asked { IfOk result (λ r. (u : Option V) (o : Option W)
-            → CanMeet T.keeps (M.takes self.now.at.now) u o → CanMeet T.keeps (M.takes r.1.at.now) u o) }
+            → CanMeet T.keeps (M.takes self.now.at.now) u o
+            → CanMeet T.keeps (M.takes r.1.at.now) u o) }
     {
         let kept = match v {
             Some(v) => match w {

@@ -15,7 +15,8 @@ use std::mem;
 use vc_tree_nodes::building::{Build, Seal};
 use vc_tree_nodes::reading::{RadixNode, TKey, TValue, canonical};
 
-/// Changes a whole tree. It is taken out, and the empty one stands in its place until the change has ended.
+/// Changes a whole tree. It is taken out, and the empty one stands in its place until the change
+/// has ended.
 fn change<
     K: TKey,
     V: TValue,
@@ -24,7 +25,8 @@ fn change<
     T: Build<K, V>,
     O: Change<K, V, W, B, T>,
 >(tree: &mut T, that: &B, op: &O) -> Result<(), AllocError>
-    requires asks { (k : List K) → O.asks op.now (lookup K.cmp (T.tree tree.old) k) ((O.look K.cmp).of_tree (B.tree that.now) k) }
+    requires asks { (k : List K) → O.asks op.now (lookup K.cmp (T.tree tree.old) k)
+        ((O.look K.cmp).of_tree (B.tree that.now) k) }
     ensures ok { OnOk result ((k : List K) → O.says op.now (lookup K.cmp (T.tree tree.old) k)
         ((O.look K.cmp).of_tree (B.tree that.now) k) (lookup K.cmp (T.tree tree.new) k)) }
     ensures err { OnErr result (T.tree tree.new ≡ no_tree) }
@@ -40,8 +42,9 @@ fn change<
     Ok(())
 }
 
-/// Removes each key that the other tree covers: of its keys that are prefixes of a key the longest decides, by what the closure answers
-/// at its value. The closure is asked once at each key of the other tree that is met.
+/// Removes each key that the other tree covers: of its keys that are prefixes of a key the longest
+/// decides, by what the closure answers at its value. The closure is asked once at each key of the
+/// other tree that is met.
 pub fn remove_prefix_with<
     K: TKey,
     V: TValue,
@@ -51,7 +54,8 @@ pub fn remove_prefix_with<
     F: Fn(&W) -> bool,
 >(tree: &mut T, that: &B, f: &F) -> Result<(), AllocError>
     requires asks { (k : List K) → CanJudge F.Fn f.now (lookup K.cmp (B.tree that.now) k) }
-    ensures ok { OnOk result (IsRemoved T.keeps (MayJudge F.Fn f.now) (lookup K.cmp (B.tree that.now)) (lookup K.cmp (T.tree tree.old))
+    ensures ok { OnOk result (IsRemoved T.keeps (MayJudge F.Fn f.now)
+        (lookup K.cmp (B.tree that.now)) (lookup K.cmp (T.tree tree.old))
         (lookup K.cmp (T.tree tree.new))) }
     ensures err { OnErr result (T.tree tree.new ≡ no_tree) }
     ensures canonical { IsCanonical K.cmp (T.tree tree.new) }
@@ -74,7 +78,8 @@ pub fn retain_prefix_with<
     F: Fn(&W) -> bool,
 >(tree: &mut T, that: &B, f: &F) -> Result<(), AllocError>
     requires asks { (k : List K) → CanJudge F.Fn f.now (lookup K.cmp (B.tree that.now) k) }
-    ensures ok { OnOk result (IsRetained T.keeps (MayJudge F.Fn f.now) (lookup K.cmp (B.tree that.now)) (lookup K.cmp (T.tree tree.old))
+    ensures ok { OnOk result (IsRetained T.keeps (MayJudge F.Fn f.now)
+        (lookup K.cmp (B.tree that.now)) (lookup K.cmp (T.tree tree.old))
         (lookup K.cmp (T.tree tree.new))) }
     ensures err { OnErr result (T.tree tree.new ≡ no_tree) }
     ensures canonical { IsCanonical K.cmp (T.tree tree.new) }
@@ -97,8 +102,8 @@ pub fn inner_combine_with<
     T: Build<K, V>,
     F: Fn(&mut V, &W) -> bool,
 >(tree: &mut T, that: &B, f: &F) -> Result<(), AllocError>
-    requires asks { (k : List K) → CanMeet T.keeps (CanLeave F.Fn f.now) (lookup K.cmp (T.tree tree.old) k)
-        (lookup K.cmp (B.tree that.now) k) }
+    requires asks { (k : List K) → CanMeet T.keeps (CanLeave F.Fn f.now)
+        (lookup K.cmp (T.tree tree.old) k) (lookup K.cmp (B.tree that.now) k) }
     ensures ok { OnOk result (IsCombined K.cmp (IsInnerAt (KeptThen T.keeps (MayLeave F.Fn f.now)))
         (T.tree tree.old) (B.tree that.now) (T.tree tree.new)) }
     ensures err { OnErr result (T.tree tree.new ≡ no_tree) }
@@ -111,7 +116,8 @@ pub fn inner_combine_with<
     change(tree, that, &op)
 }
 
-/// Keeps the keys of the tree, but the shared ones at which the closure, which may write to the value, answers false.
+/// Keeps the keys of the tree, but the shared ones at which the closure, which may write to the
+/// value, answers false.
 #[tactic(auto, using(crate::proofs::Meeting::left_from))]
 pub fn left_combine_with<
     K: TKey,
@@ -121,10 +127,11 @@ pub fn left_combine_with<
     T: Build<K, V>,
     F: Fn(&mut V, &W) -> bool,
 >(tree: &mut T, that: &B, f: &F) -> Result<(), AllocError>
-    requires asks { (k : List K) → CanMeet T.keeps (CanLeave F.Fn f.now) (lookup K.cmp (T.tree tree.old) k)
-        (lookup K.cmp (B.tree that.now) k) }
-    ensures ok { OnOk result (IsCombined K.cmp (IsLeftAt (OrStays T.keeps (KeptThen T.keeps (MayLeave F.Fn f.now))))
-        (T.tree tree.old) (B.tree that.now) (T.tree tree.new)) }
+    requires asks { (k : List K) → CanMeet T.keeps (CanLeave F.Fn f.now)
+        (lookup K.cmp (T.tree tree.old) k) (lookup K.cmp (B.tree that.now) k) }
+    ensures ok { OnOk result (IsCombined K.cmp
+        (IsLeftAt (OrStays T.keeps (KeptThen T.keeps (MayLeave F.Fn f.now)))) (T.tree tree.old)
+        (B.tree that.now) (T.tree tree.new)) }
     ensures err { OnErr result (T.tree tree.new ≡ no_tree) }
     ensures canonical { IsCanonical K.cmp (T.tree tree.new) }
 {
@@ -186,8 +193,8 @@ pub fn difference_with<K: TKey, V: TValue, W: TValue, B: RadixNode<K, W>, T: Bui
     change(tree, that, &op)
 }
 
-/// Keeps the keys of both: a value of one side alone stays, or comes in as a clone, and at a shared key the closure writes to the value,
-/// which stays where it answers true.
+/// Keeps the keys of both: a value of one side alone stays, or comes in as a clone, and at a shared
+/// key the closure writes to the value, which stays where it answers true.
 pub fn outer_combine_with<
     K: TKey,
     V: TValue,
@@ -195,10 +202,11 @@ pub fn outer_combine_with<
     T: Build<K, V>,
     F: Fn(&mut V, &V) -> bool,
 >(tree: &mut T, that: &B, f: &F) -> Result<(), AllocError>
-    requires asks { (k : List K) → CanMeet T.keeps (CanLeave F.Fn f.now) (lookup K.cmp (T.tree tree.old) k)
-        (lookup K.cmp (B.tree that.now) k) }
-    ensures ok { OnOk result (IsCombined K.cmp (IsOuterAt T.keeps V.is_clone (KeptThen T.keeps (MayLeave F.Fn f.now)))
-        (T.tree tree.old) (B.tree that.now) (T.tree tree.new)) }
+    requires asks { (k : List K) → CanMeet T.keeps (CanLeave F.Fn f.now)
+        (lookup K.cmp (T.tree tree.old) k) (lookup K.cmp (B.tree that.now) k) }
+    ensures ok { OnOk result (IsCombined K.cmp
+        (IsOuterAt T.keeps V.is_clone (KeptThen T.keeps (MayLeave F.Fn f.now))) (T.tree tree.old)
+        (B.tree that.now) (T.tree tree.new)) }
     ensures err { OnErr result (T.tree tree.new ≡ no_tree) }
     ensures canonical { IsCanonical K.cmp (T.tree tree.new) }
 {

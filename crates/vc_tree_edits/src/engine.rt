@@ -29,16 +29,18 @@ use vc_tree_nodes::children::{ChildList, Fragment, Parts};
 use vc_tree_nodes::making::{new_joined, stored};
 use vc_tree_nodes::reading::{RadixNode, TKey, TValue};
 
-/// What a change makes of values, and of trees that one side alone has. Values of the left tree are handed over, and those that
-/// stay are handed back.
+/// What a change makes of values, and of trees that one side alone has. Values of the left tree are
+/// handed over, and those that stay are handed back.
 pub trait Change<K: TKey, V: TValue, W: TValue, B: RadixNode<K, W>, T: Build<K, V>>: Sized + Drop {
-    /// Where the children of a node are built: in the list that they stand in, or with room for trees that come in.
+    /// Where the children of a node are built: in the list that they stand in, or with room for
+    /// trees that come in.
     type Row: Row<K, V, T>;
 
     /// How the right tree is read at a key.
     ghost look: { (cmp : K → K → Ordering) → Look cmp W (Option W) };
 
-    /// What the change says of the values that the left tree has, of what is read of the right one, and of the value that is left.
+    /// What the change says of the values that the left tree has, of what is read of the right one,
+    /// and of the value that is left.
     ghost says: { Self → Option V → Option W → Option V → Type 0 };
 
     /// What it needs in order to be asked there.
@@ -47,33 +49,38 @@ pub trait Change<K: TKey, V: TValue, W: TValue, B: RadixNode<K, W>, T: Build<K, 
     /// The value of a key of which the trees have these, and the change of all that stands below.
     fn at_values(&self, v: Option<V>, w: Option<&W>) -> Result<(Option<V>, Self), AllocError>
         requires { asks self.now v ((look K.cmp).at (option_copied w)) }
-        ensures value { IfOk result (λ r. says self.now v ((look K.cmp).at (option_copied w.entry)) r.0) }
-        ensures below { IfOk result (λ r. (u : Option V) (o : Option W) (z : Option V) → says r.1 u o z
-            → says self.now u ((look K.cmp).under (option_copied w.entry) o) z) }
-        ensures asked { IfOk result (λ r. (u : Option V) (o : Option W) → asks self.now u ((look K.cmp).under (option_copied w.entry) o)
-            → asks r.1 u o) };
+        ensures value { IfOk result
+            (λ r. says self.now v ((look K.cmp).at (option_copied w.entry)) r.0) }
+        ensures below { IfOk result (λ r. (u : Option V) (o : Option W) (z : Option V)
+            → says r.1 u o z → says self.now u ((look K.cmp).under (option_copied w.entry) o) z) }
+        ensures asked { IfOk result (λ r. (u : Option V) (o : Option W)
+            → asks self.now u ((look K.cmp).under (option_copied w.entry) o) → asks r.1 u o) };
 
-    /// What is left of a tree that the left side alone has, without the first `from` components of its prefix.
+    /// What is left of a tree that the left side alone has, without the first `from` components of
+    /// its prefix.
     fn left_alone(&self, alloc: Global, tree: T, from: usize) -> Result<Option<T>, AllocError>
         requires within { from < length (T.tree tree).prefix }
-        ensures { IfOk result (λ made. IsMade K.cmp (λ v z. says self.now v (look K.cmp).none z) (shortened from (T.tree tree))
-            (option_map T.tree made)) };
+        ensures { IfOk result (λ made. IsMade K.cmp (λ v z. says self.now v (look K.cmp).none z)
+            (shortened from (T.tree tree)) (option_map T.tree made)) };
 
-    /// What comes of a tree that the right side alone has, without the first `from` components of its prefix: nothing, where the row
-    /// has no room for it.
+    /// What comes of a tree that the right side alone has, without the first `from` components of
+    /// its prefix: nothing, where the row has no room for it.
     fn right_alone(&self, alloc: Global, tree: &B, from: usize) -> Result<Option<T>, AllocError>
         requires within { from < length (B.tree tree.now).prefix }
         ensures nothing { Self.Row.grows ≡ false → IfOk result (λ made. made ≡ None) }
-        ensures made { IfOk result (λ made. IsMadeBy K.cmp (look K.cmp) (λ w z. says self.now None w z) (shortened from (B.tree tree.now))
+        ensures made { IfOk result (λ made. IsMadeBy K.cmp (look K.cmp)
+            (λ w z. says self.now None w z) (shortened from (B.tree tree.now))
             (option_map T.tree made)) };
 
     ghost says_none: { (op : Self) → says op None (look K.cmp).none None };
 
     ghost asks_none: { (op : Self) → asks op None (look K.cmp).none };
 
-    ghost says_kept: { (op : Self) (u v : Option V) (w : Option W) (z : Option V) → IsKept T.keeps u v → says op v w z → says op u w z };
+    ghost says_kept: { (op : Self) (u v : Option V) (w : Option W) (z : Option V)
+        → IsKept T.keeps u v → says op v w z → says op u w z };
 
-    ghost asks_kept: { (op : Self) (u v : Option V) (w : Option W) → IsKept T.keeps u v → asks op u w → asks op v w };
+    ghost asks_kept: { (op : Self) (u v : Option V) (w : Option W) → IsKept T.keeps u v
+        → asks op u w → asks op v w };
 }
 
 /// Two trees side by side, of which the left one was let go.
@@ -98,9 +105,11 @@ fn meet<'b, K: TKey, V: TValue, W: TValue, T: RadixNode<K, V>, B: RadixNode<K, W
 ) -> Result<Meeting<'b, B>, AllocError>
     requires left { i ≤ length (T.tree tree.now).prefix }
     requires right { j ≤ length (B.tree that.now).prefix }
-    requires known { Agree K.cmp (drop i (T.tree tree.now).prefix) (drop j (B.tree that.now).prefix) known }
+    requires known { Agree K.cmp (drop i (T.tree tree.now).prefix) (drop j (B.tree that.now).prefix)
+        known }
     ensures met { let t = shortened i (T.tree tree.now) in let u = shortened j (B.tree that.now) in
-        IfOk result (λ m. IsMet T.tree K.cmp B.tree t u m.front (trees_below m.right) m.right.from m.sides.items) }
+        IfOk result (λ m. IsMet T.tree K.cmp B.tree t u m.front (trees_below m.right) m.right.from
+        m.sides.items) }
     ensures left_canonical { IsCanonical K.cmp (T.tree tree.now) }
     ensures right_canonical { IsCanonical K.cmp (B.tree that.now) }
 {
@@ -117,7 +126,8 @@ fn meet<'b, K: TKey, V: TValue, W: TValue, T: RadixNode<K, V>, B: RadixNode<K, W
     })
 }
 
-/// The parts of a tree without the front of its prefix, and of what stands below a place in what is left of it.
+/// The parts of a tree without the front of its prefix, and of what stands below a place in what is
+/// left of it.
 #[derive(Drop)]
 struct Taken<P, V, T> {
     /// The components up to that place.
@@ -141,8 +151,8 @@ fn take_apart<K: TKey, V: TValue, T: Build<K, V>>(
 ) -> Result<Taken<T::Prefix, V, T>, AllocError>
     requires within { i ≤ length (T.tree tree).prefix }
     requires front { front ≤ length (drop i (T.tree tree).prefix) }
-    ensures { IfOk result (λ o. IsTaken T.tree T.keeps (shortened i (T.tree tree)) front (T.Prefix.items o.prefix) o.value
-        (cons_option o.whole o.list.items) o.from) }
+    ensures { IfOk result (λ o. IsTaken T.tree T.keeps (shortened i (T.tree tree)) front
+        (T.Prefix.items o.prefix) o.value (cons_option o.whole o.list.items) o.from) }
 {
     let whole = tree.prefix();
     if i + front < whole.len() {
@@ -170,7 +180,8 @@ fn take_apart<K: TKey, V: TValue, T: Build<K, V>>(
     })
 }
 
-/// The components behind the first `i`. Asks for memory where `i` is above 0 and more than 16 are left.
+/// The components behind the first `i`. Asks for memory where `i` is above 0 and more than 16 are
+/// left.
 fn without_front<K, P: Fragment<K>>(alloc: Global, prefix: P, i: usize) -> Result<P, AllocError>
     requires { i ≤ length (P.items prefix) }
     ensures { IfOk result (λ left. P.items left ≡ drop i (P.items prefix)) }
@@ -186,7 +197,8 @@ fn take_list<K: TKey, V: TValue, T: Build<K, V>>(
     alloc: Global,
     children: Option<T::Children>,
 ) -> Result<Vec<T>, AllocError>
-    ensures { IfOk result (λ list. IsAlikeIn T.keeps (seen T.tree (listed T.Children.items children)) (seen T.tree list.items)) }
+    ensures { IfOk result (λ list. IsAlikeIn T.keeps
+        (seen T.tree (listed T.Children.items children)) (seen T.tree list.items)) }
 {
     let Some(mut children) = children else {
         return Ok(Vec::new(alloc));
@@ -219,8 +231,8 @@ fn keep<K: TKey, V: TValue, T: Build<K, V>, R: Row<K, V, T>>(row: &mut R, tree: 
     }
 }
 
-/// What the change makes of the value of a node that was taken apart, and of the value of the right node that stands behind an equal
-/// front.
+/// What the change makes of the value of a node that was taken apart, and of the value of the right
+/// node that stands behind an equal front.
 fn change_values<
     K: TKey,
     V: TValue,
@@ -231,14 +243,19 @@ fn change_values<
 >(value: Option<V>, that: &B, j: usize, front: usize, op: &O) -> Result<(Option<V>, O), AllocError>
     requires right { j ≤ length (B.tree that.now).prefix }
     requires front { front ≤ length (drop j (B.tree that.now).prefix) }
-    requires asks { O.asks op.now value
-        ((O.look K.cmp).at (node_value (shortened j (B.tree that.now)) (drop front (drop j (B.tree that.now).prefix)))) }
-    ensures value { let w = node_value (shortened j (B.tree that.now)) (drop front (drop j (B.tree that.now).prefix)) in
+    requires asks { O.asks op.now value ((O.look K.cmp).at
+        (node_value (shortened j (B.tree that.now)) (drop front (drop j (B.tree that.now).prefix)))) }
+    ensures value { let w = node_value (shortened j (B.tree that.now))
+        (drop front (drop j (B.tree that.now).prefix)) in
         IfOk result (λ r. O.says op.now value ((O.look K.cmp).at w) r.0) }
-    ensures below { let w = node_value (shortened j (B.tree that.now)) (drop front (drop j (B.tree that.now).prefix)) in
-        IfOk result (λ r. (u : Option V) (o : Option W) (z : Option V) → O.says r.1 u o z → O.says op.now u ((O.look K.cmp).under w o) z) }
-    ensures asked { let w = node_value (shortened j (B.tree that.now)) (drop front (drop j (B.tree that.now).prefix)) in
-        IfOk result (λ r. (u : Option V) (o : Option W) → O.asks op.now u ((O.look K.cmp).under w o) → O.asks r.1 u o) }
+    ensures below { let w = node_value (shortened j (B.tree that.now))
+        (drop front (drop j (B.tree that.now).prefix)) in
+        IfOk result (λ r. (u : Option V) (o : Option W) (z : Option V) → O.says r.1 u o z
+        → O.says op.now u ((O.look K.cmp).under w o) z) }
+    ensures asked { let w = node_value (shortened j (B.tree that.now))
+        (drop front (drop j (B.tree that.now).prefix)) in
+        IfOk result (λ r. (u : Option V) (o : Option W) → O.asks op.now u ((O.look K.cmp).under w o)
+        → O.asks r.1 u o) }
 {
     op.at_values(value, value_at(that, j, front))
 }
@@ -262,7 +279,8 @@ struct Begun<'b, P, V, B, O, R> {
     sides: Sides,
 }
 
-/// Takes a tree apart beside another one, and changes the value at the place where their prefixes part.
+/// Takes a tree apart beside another one, and changes the value at the place where their prefixes
+/// part.
 fn begin<
     'b,
     K: TKey,
@@ -282,12 +300,13 @@ fn begin<
 ) -> Result<Begun<'b, T::Prefix, V, B, O, O::Row>, AllocError>
     requires left { i ≤ length (T.tree tree).prefix }
     requires right { j ≤ length (B.tree that.now).prefix }
-    requires known { Agree K.cmp (drop i (T.tree tree).prefix) (drop j (B.tree that.now).prefix) known }
+    requires known { Agree K.cmp (drop i (T.tree tree).prefix) (drop j (B.tree that.now).prefix)
+        known }
     requires asks { (k : List K) → O.asks op.now (lookup K.cmp (shortened i (T.tree tree)) k)
         ((O.look K.cmp).of_tree (shortened j (B.tree that.now)) k) }
-    ensures { IfOk result (λ s. IsBegun K.cmp T.tree B.tree (O.look K.cmp) T.keeps O.Row.grows (O.says op.now) (O.says s.below)
-        (O.asks s.below) (shortened i (T.tree tree)) (shortened j (B.tree that.now)) (T.Prefix.items s.prefix) s.value
-        (O.Row.seen s.row) s.from
+    ensures { IfOk result (λ s. IsBegun K.cmp T.tree B.tree (O.look K.cmp) T.keeps O.Row.grows
+        (O.says op.now) (O.says s.below) (O.asks s.below) (shortened i (T.tree tree))
+        (shortened j (B.tree that.now)) (T.Prefix.items s.prefix) s.value (O.Row.seen s.row) s.from
         (trees_below s.right) s.right.from s.sides.items) }
 {
     let Meeting {
@@ -327,7 +346,8 @@ fn stay<
 >(alloc: Global, row: &mut O::Row, from: usize, op: &O) -> Result<(), AllocError>
     requires there { 0 < length (O.Row.seen row.old).rest }
     requires long { IsFirstLong T.tree from (O.Row.seen row.old).rest }
-    ensures { OnOk result (IsStayed K.cmp T.tree B.tree (O.look K.cmp) (O.says op.now) from (O.Row.seen row.old) (O.Row.seen row.new)) }
+    ensures { OnOk result (IsStayed K.cmp T.tree B.tree (O.look K.cmp) (O.says op.now) from
+        (O.Row.seen row.old) (O.Row.seen row.new)) }
 {
     let kid = op.left_alone(alloc, row.pop_first(), from)?;
     keep::<K, V, T, O::Row>(row, kid);
@@ -346,8 +366,9 @@ fn come<
 >(alloc: Global, row: &mut O::Row, that: &mut Below<'_, B>, op: &O) -> Result<(), AllocError>
     requires long { IsFirstLong B.tree that.old.from (trees_below that.old) }
     requires room { O.Row.grows ≡ true → 0 < (O.Row.seen row.old).room }
-    ensures come { OnOk result (IsCome K.cmp T.tree B.tree (O.look K.cmp) (O.says op.now) that.old.from (trees_below that.old)
-        (trees_below that.new) (O.Row.seen row.old) (O.Row.seen row.new)) }
+    ensures come { OnOk result (IsCome K.cmp T.tree B.tree (O.look K.cmp) (O.says op.now)
+        that.old.from (trees_below that.old) (trees_below that.new) (O.Row.seen row.old)
+        (O.Row.seen row.new)) }
     ensures from { that.new.from ≡ that.old.from }
 {
     let kid = op.right_alone(alloc, that.next(), that.from)?;
@@ -363,7 +384,8 @@ fn end<K: TKey, V: TValue, T: Build<K, V>, R: Row<K, V, T>>(
     row: R,
 ) -> Result<Option<T>, AllocError>
     requires { AreChildren K.cmp (seen T.tree (R.seen row).built) }
-    ensures { IfOk result (λ made. option_map T.tree made ≡ solid_child (T.Prefix.items prefix) value (seen T.tree (R.seen row).built)) }
+    ensures { IfOk result (λ made. option_map T.tree made
+        ≡ solid_child (T.Prefix.items prefix) value (seen T.tree (R.seen row).built)) }
 {
     let (whole, mut kids) = row.finish();
     let Some(kid) = whole else {
@@ -386,7 +408,8 @@ fn close<K: TKey, V: TValue, T: Build<K, V>, R: Row<K, V, T>>(
 ) -> Result<Option<T>, AllocError>
     requires done { length _left.now ≡ 0 }
     requires children { AreChildren K.cmp (seen T.tree (R.seen row).built) }
-    ensures { IfOk result (λ made. option_map T.tree made ≡ solid_child (T.Prefix.items prefix) value (seen T.tree (R.seen row).built)) }
+    ensures { IfOk result (λ made. option_map T.tree made
+        ≡ solid_child (T.Prefix.items prefix) value (seen T.tree (R.seen row).built)) }
 {
     end::<K, V, T, R>(alloc, prefix, value, row)
 }
@@ -399,7 +422,8 @@ fn finish_in<K: TKey, V: TValue, T: Build<K, V>>(
     kids: Vec<T>,
 ) -> Result<Option<T>, AllocError>
     requires { AreChildren K.cmp (seen T.tree kids.items) }
-    ensures { IfOk result (λ made. option_map T.tree made ≡ solid_child (T.Prefix.items prefix) value (seen T.tree kids.items)) }
+    ensures { IfOk result (λ made. option_map T.tree made
+        ≡ solid_child (T.Prefix.items prefix) value (seen T.tree kids.items)) }
 {
     if value.is_none() && kids.len() < 2 {
         return finish(alloc, prefix.as_slice(), value, kids);
@@ -408,8 +432,9 @@ fn finish_in<K: TKey, V: TValue, T: Build<K, V>>(
     Ok(Some(T::assemble(prefix, value, children, Seal::new())))
 }
 
-/// Changes a tree without the first `i` components of its prefix, by another one without the first `j` of its own: `None` where no
-/// key is left. The first `known` components that are left of either prefix are known to agree.
+/// Changes a tree without the first `i` components of its prefix, by another one without the first
+/// `j` of its own: `None` where no key is left. The first `known` components that are left of
+/// either prefix are known to agree.
 #[tactic(auto, using(crate::proofs::Stepping::room_kept))]
 pub fn change_at<
     K: TKey,
@@ -429,11 +454,12 @@ pub fn change_at<
 ) -> Result<Option<T>, AllocError>
     requires left { i ≤ length (T.tree tree).prefix }
     requires right { j ≤ length (B.tree that.now).prefix }
-    requires known { Agree K.cmp (drop i (T.tree tree).prefix) (drop j (B.tree that.now).prefix) known }
+    requires known { Agree K.cmp (drop i (T.tree tree).prefix) (drop j (B.tree that.now).prefix)
+        known }
     requires asks { (k : List K) → O.asks op.now (lookup K.cmp (shortened i (T.tree tree)) k)
         ((O.look K.cmp).of_tree (shortened j (B.tree that.now)) k) }
-    ensures { IfOk result (λ made. IsBothMadeBy K.cmp (O.look K.cmp) (O.says op.now) (shortened i (T.tree tree))
-        (shortened j (B.tree that.now)) (option_map T.tree made)) }
+    ensures { IfOk result (λ made. IsBothMadeBy K.cmp (O.look K.cmp) (O.says op.now)
+        (shortened i (T.tree tree)) (shortened j (B.tree that.now)) (option_map T.tree made)) }
 {
     let Begun {
         prefix,

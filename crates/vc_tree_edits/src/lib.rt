@@ -1,5 +1,6 @@
-//! Changes of a radix tree in place: components before all its keys, combines, and removal and retention of the keys that another
-//! tree covers. For the crates above; the trait that users name stands in `vc_trees`.
+//! Changes of a radix tree in place: components before all its keys, combines, and removal and
+//! retention of the keys that another tree covers. For the crates above; the trait that users name
+//! stands in `vc_trees`.
 #![tactic(auto)]
 
 mod changes;

@@ -16,8 +16,8 @@ pub fn prepend<K: TKey, V: TValue, T: Build<K, V>>(
     tree: &mut T,
     prefix: &[K],
 ) -> Result<(), AllocError>
-    ensures ok { OnOk result ((k : List K)
-        → lookup K.cmp (T.tree tree.new) k ≡ prefixed K.cmp (lookup K.cmp (T.tree tree.old)) prefix.now k) }
+    ensures ok { OnOk result ((k : List K) → lookup K.cmp (T.tree tree.new) k
+        ≡ prefixed K.cmp (lookup K.cmp (T.tree tree.old)) prefix.now k) }
     ensures err { OnErr result (T.tree tree.new ≡ T.tree tree.old) }
     ensures canonical { IsCanonical K.cmp (T.tree tree.new) }
 {

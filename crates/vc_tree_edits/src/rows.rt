@@ -11,7 +11,8 @@ use vc_builder::inplace::InPlace;
 use vc_tree_nodes::building::{Build, Seal};
 use vc_tree_nodes::reading::{TKey, TValue};
 
-/// A row of trees that is built out of another one: trees are taken out at the front of what is left, and put behind those that are built.
+/// A row of trees that is built out of another one: trees are taken out at the front of what is
+/// left, and put behind those that are built.
 pub trait Row<K: TKey, V: TValue, T: Build<K, V>>: Sized + Drop {
     ghost use Rattle.std.specs.Prelude.{◌≡◌, ◌<◌, Bool, cond, [], Some, IfOk, length};
     ghost use Rattle.std.specs.List.{cons_option};
@@ -24,9 +25,11 @@ pub trait Row<K: TKey, V: TValue, T: Build<K, V>>: Sized + Drop {
     /// Whether room is made for trees that come in.
     ghost grows: { Bool };
 
-    /// All these trees are left: the one, if there is one, and then the list. Where the row grows, there is room for `extra` more.
+    /// All these trees are left: the one, if there is one, and then the list. Where the row grows,
+    /// there is room for `extra` more.
     fn open(one: Option<T>, list: Vec<T>, extra: usize) -> Result<Self, AllocError>
-        ensures { IfOk result (λ row. seen row ≡ builder [] (cons_option one list.items) (cond grows extra 0)) };
+        ensures { IfOk result
+            (λ row. seen row ≡ builder [] (cons_option one list.items) (cond grows extra 0)) };
 
     /// Takes out the first tree that is left.
     fn pop_first(&mut self) -> T
@@ -38,7 +41,8 @@ pub trait Row<K: TKey, V: TValue, T: Build<K, V>>: Sized + Drop {
         requires { 0 < (seen self.old).room }
         ensures { IsAdded (seen self.old) (Some tree) (seen self.new) };
 
-    /// The trees that are built: one, if it stands alone, and then a list. Those that are left are dropped.
+    /// The trees that are built: one, if it stands alone, and then a list. Those that are left are
+    /// dropped.
     fn finish(self) -> (Option<T>, Vec<T>)
         ensures { cons_option result.0 result.1.items ≡ (seen self).built };
 }
@@ -72,8 +76,8 @@ impl<K: TKey, V: TValue, T: Build<K, V>> Row<K, V, T> for InPlace<T, Global> {
     }
 }
 
-/// A row into which nothing comes: what stays moves to the front of the same list, and a tree that is given apart from a list stays apart.
-/// It takes no memory.
+/// A row into which nothing comes: what stays moves to the front of the same list, and a tree that
+/// is given apart from a list stays apart. It takes no memory.
 #[derive(Drop)]
 pub struct Sifted<T> {
     /// The tree that was given apart, while it is left.
@@ -99,8 +103,8 @@ impl<T> Model for Sifted<T> {
 
     ghost coded = { builder_code T.code };
 
-    ghost view = { λ s. builder (cons_option s.built (take s.kept s.list.items)) (cons_option s.one (drop s.at s.list.items))
-        (s.free + (s.at - s.kept)) };
+    ghost view = { λ s. builder (cons_option s.built (take s.kept s.list.items))
+        (cons_option s.one (drop s.at s.list.items)) (s.free + (s.at - s.kept)) };
 
     ghost invariant = { λ s. (s.kept ≤ s.at) × (s.at ≤ length s.list.items)
         × (length (cons_option s.one []) + s.free + length (cons_option s.built []) ≤ 1)

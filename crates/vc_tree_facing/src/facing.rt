@@ -17,8 +17,8 @@ use vc_tree_nodes::parting::{Parting, find_parting};
 use vc_tree_nodes::places::child_place;
 use vc_tree_nodes::reading::{RadixNode, TKey, TValue, canonical};
 
-/// The trees that stand below a place in the prefix of a tree, each without its first `from` components: the children of the
-/// tree, or what is left of the tree itself.
+/// The trees that stand below a place in the prefix of a tree, each without its first `from`
+/// components: the children of the tree, or what is left of the tree itself.
 #[derive(Drop)]
 pub struct Below<'a, T> {
     whole: Option<&'a T>,
@@ -91,8 +91,8 @@ fn two_sides(alloc: Global, first: Side, second: Side) -> Result<Sides, AllocErr
     Ok(sides)
 }
 
-/// The sides of the events of `count` trees on the side `many` and a single tree on the side `one`: at `Ok` the tree that it
-/// meets, and at `Err` the number of trees before it.
+/// The sides of the events of `count` trees on the side `many` and a single tree on the side `one`:
+/// at `Ok` the tree that it meets, and at `Err` the number of trees before it.
 fn list_around(
     alloc: Global,
     place: Result<usize, usize>,
@@ -120,8 +120,8 @@ fn list_around(
     Ok(sides)
 }
 
-/// Lays two trees without the fronts of their prefixes side by side. The first `known` components that are left of either prefix are known to
-/// agree.
+/// Lays two trees without the fronts of their prefixes side by side. The first `known` components
+/// that are left of either prefix are known to agree.
 pub fn face<
     'a,
     'b,
@@ -143,14 +143,15 @@ pub fn face<
     requires left { i ≤ length (A.tree a.now).prefix }
     requires right { j ≤ length (B.tree b.now).prefix }
     requires known { Agree K.cmp (drop i (A.tree a.now).prefix) (drop j (B.tree b.now).prefix) known }
-    ensures counted { C.counted steps.new
-        ≤ C.counted steps.old + weight (shortened i (A.tree a.now)) + weight (shortened j (B.tree b.now)) }
+    ensures counted { C.counted steps.new ≤ C.counted steps.old
+        + weight (shortened i (A.tree a.now)) + weight (shortened j (B.tree b.now)) }
     ensures paid { let p = drop i (A.tree a.now).prefix in let q = drop j (B.tree b.now).prefix in
         IfOk result (λ f. C.counted steps.new
-        ≤ C.counted steps.old + min (length p) (length q) + length (trees_below f.left) + length (trees_below f.right)) }
+        ≤ C.counted steps.old + min (length p) (length q) + length (trees_below f.left)
+        + length (trees_below f.right)) }
     ensures faced { let t = shortened i (A.tree a.now) in let u = shortened j (B.tree b.now) in
-        IfOk result (λ f. IsFaced K.cmp A.tree B.tree t u f.front (trees_below f.left) f.left.from (trees_below f.right) f.right.from
-        f.sides.items) }
+        IfOk result (λ f. IsFaced K.cmp A.tree B.tree t u f.front (trees_below f.left) f.left.from
+        (trees_below f.right) f.right.from f.sides.items) }
     ensures left_canonical { IsCanonical K.cmp (A.tree a.now) }
     ensures right_canonical { IsCanonical K.cmp (B.tree b.now) }
 {
@@ -183,7 +184,8 @@ pub fn face<
     }
 }
 
-/// The same of two trees of which the left one's prefix ends where the right one's has `n` components more behind its front.
+/// The same of two trees of which the left one's prefix ends where the right one's has `n`
+/// components more behind its front.
 fn face_behind<
     'a,
     'b,
@@ -202,13 +204,16 @@ fn face_behind<
     steps: &mut C,
 ) -> Result<Facing<'a, 'b, A, B>, AllocError>
     requires within { j + n ≤ length (B.tree b.now).prefix }
-    ensures counted { C.counted steps.new
-        ≤ C.counted steps.old + forest_weight (A.tree a.now).children + forest_weight (B.tree b.now).children }
-    ensures paid { IfOk result (λ f.
-        C.counted steps.new ≤ C.counted steps.old + length (trees_below f.left) + length (trees_below f.right)) }
-    ensures left { IfOk result (λ f. IsOpened A.tree (A.tree a.now) [] (trees_below f.left) f.left.from) }
-    ensures right { IfOk result (λ f. IsOpened B.tree (B.tree b.now) (drop (j + n) (B.tree b.now).prefix) (trees_below f.right) f.right.from) }
-    ensures listed { IfOk result (λ f. IsListed (by_component A.tree B.tree f.left.from f.right.from K.cmp) (trees_below f.left)
+    ensures counted { C.counted steps.new ≤ C.counted steps.old
+        + forest_weight (A.tree a.now).children + forest_weight (B.tree b.now).children }
+    ensures paid { IfOk result (λ f. C.counted steps.new
+        ≤ C.counted steps.old + length (trees_below f.left) + length (trees_below f.right)) }
+    ensures left { IfOk result
+        (λ f. IsOpened A.tree (A.tree a.now) [] (trees_below f.left) f.left.from) }
+    ensures right { IfOk result (λ f. IsOpened B.tree (B.tree b.now)
+        (drop (j + n) (B.tree b.now).prefix) (trees_below f.right) f.right.from) }
+    ensures listed { IfOk result (λ f. IsListed
+        (by_component A.tree B.tree f.left.from f.right.from K.cmp) (trees_below f.left)
         (trees_below f.right) f.sides.items) }
     ensures front { IfOk result (λ f. f.front ≡ n) }
 {

@@ -1,4 +1,5 @@
-//! The nodes where the prefixes of two trees part: the value there, and the node that is made of it and of what was made below.
+//! The nodes where the prefixes of two trees part: the value there, and the node that is made of it
+//! and of what was made below.
 
 ghost use Rattle.std.specs.Prelude.{◌≡◌, ◌≤◌, IfOk, drop, length, option_map};
 ghost use Rattle.std.specs.Option.{option_copied};
@@ -20,8 +21,8 @@ pub fn value_at<K: TKey, V: TValue, T: RadixNode<K, V>>(
 ) -> Option<&V>
     requires from { from ≤ length (T.tree tree.now).prefix }
     requires front { front ≤ length (drop from (T.tree tree.now).prefix) }
-    ensures { option_copied result
-        ≡ node_value (shortened from (T.tree tree.now)) (drop front (drop from (T.tree tree.now).prefix)) }
+    ensures { option_copied result ≡ node_value (shortened from (T.tree tree.now))
+        (drop front (drop from (T.tree tree.now).prefix)) }
 {
     if front == tree.prefix()[from..].len() {
         tree.value()
@@ -30,7 +31,8 @@ pub fn value_at<K: TKey, V: TValue, T: RadixNode<K, V>>(
     }
 }
 
-/// The node of these parts as a child: `None` where it binds no key, and joined with its only child where it has no value.
+/// The node of these parts as a child: `None` where it binds no key, and joined with its only child
+/// where it has no value.
 pub fn finish<K: TKey, V: TValue, M: Build<K, V>>(
     alloc: Global,
     prefix: &[K],
@@ -38,7 +40,8 @@ pub fn finish<K: TKey, V: TValue, M: Build<K, V>>(
     mut kids: Vec<M>,
 ) -> Result<Option<M>, AllocError>
     requires { AreChildren K.cmp (seen M.tree kids.items) }
-    ensures { IfOk result (λ made. option_map M.tree made ≡ solid_child prefix.now value (seen M.tree kids.items)) }
+    ensures { IfOk result
+        (λ made. option_map M.tree made ≡ solid_child prefix.now value (seen M.tree kids.items)) }
 {
     if value.is_none() && kids.len() < 2 {
         return match kids.pop() {

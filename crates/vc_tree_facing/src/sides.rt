@@ -24,7 +24,8 @@ pub enum Side {
     Both,
 }
 
-/// The sides of some events. Few nodes have more children than fit in place, so this seldom asks for memory.
+/// The sides of some events. Few nodes have more children than fit in place, so this seldom asks
+/// for memory.
 pub type Sides = SmallVec<Side, 32>;
 
 /// What is left of two lists of trees, and the sides of the events up to now.
@@ -121,8 +122,10 @@ pub fn list_sides<K: TKey, V: TValue, W: TValue, A: RadixNode<K, V>, B: RadixNod
     steps: &mut C,
 ) -> Result<Sides, AllocError>
     requires { BothAscend (by_component A.tree B.tree 0 0 K.cmp) left.now right.now }
-    ensures listed { IfOk result (λ sides. IsListed (by_component A.tree B.tree 0 0 K.cmp) left.now right.now sides.items) }
-    ensures counted { C.counted steps.new ≤ C.counted steps.old + bound (length left.now) (length right.now) }
+    ensures listed { IfOk result
+        (λ sides. IsListed (by_component A.tree B.tree 0 0 K.cmp) left.now right.now sides.items) }
+    ensures counted { C.counted steps.new
+        ≤ C.counted steps.old + bound (length left.now) (length right.now) }
 {
     let op: ListSides<K, V, W> = ListSides {
         key: PhantomData,

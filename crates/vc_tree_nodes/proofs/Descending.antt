@@ -1,10 +1,10 @@
 -- What the way down a tree costs: at most one comparison and one search for each component of the key.
 --     IsWithin most d count left known        what was counted and what may come stay within the most that may be counted
---     down-behind, down-ended        one more prefix was compared with the key: it goes on behind it, or not
+--     down-behind        one more prefix was compared with the key, which goes on behind it
 --     behind-length, some-first, searched-within        how much of the key is left, and what a search of children costs
 --     down-searched, down-missed        the children were searched: for the next node, or in vain
-use Rattle.std.proofs.Common.{◌≡◌, ℕ, suc, ◌+◌, ◌-◌, ◌*◌, ◌≤◌, Bool, true, false, cond, [], ◌∷◌, List, Some, None, length, map, min, sym, ap, ◌∙◌, arith}
-use Rattle.std.proofs.Math.Nat.{mul-le-mul_right, add-mul, mul-add, mul-one, min-le_right}
+use Rattle.std.proofs.Common.{◌≡◌, ℕ, suc, ◌+◌, ◌-◌, ◌*◌, ◌≤◌, Bool, true, false, cond, [], ◌∷◌, List, Some, None, length, map, sym, ap, ◌∙◌, arith}
+use Rattle.std.proofs.Math.Nat.{mul-le-mul_right, add-mul, mul-add, mul-one}
 use Rattle.std.specs.Ordering.{is_eq}
 use Rattle.std.specs.Prelude.{slice_get}
 use Rattle.std.specs.declared.cmp.Ordering.{Ordering}
@@ -59,15 +59,6 @@ down-behind most d old new left known p rest h k e n =
     let parts : left * d ≡ p * d + rest * d = ap (λ m. m * d) e ∙ add-mul p rest d in
     let fewer : known * d ≤ p * d = mul-le-mul_right d k in
     omega (arith, whole, behind, parts, fewer)
-
--- the prefix was compared with the key behind the known components, and the key doesn't go on behind it
-pub down-ended : (most d old new left known p : ℕ) → IsWithin most d old left known → known ≤ left
-    → new ≤ old + (min p left - known) → new ≤ most
-down-ended most d old new left known p h k n =
-    let whole = each-twice left d in
-    let fewer : known * d ≤ left * d = mul-le-mul_right d k in
-    let least = min-le_right p left in
-    omega (arith, whole, fewer, least)
 
 -- the children were searched for the first component of what is left
 pub down-searched : (most d old new rest : ℕ) → old + rest * (1 + d) ≤ most → new ≤ old + d → IsWithin most d new rest 1

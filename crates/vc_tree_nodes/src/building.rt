@@ -12,12 +12,14 @@ ghost use Rattle.vc_tree_model.specs.Snapshot.{same_copies, alike_same, kept_ali
 use crate::children::{ChildList, Fragment, OwnedChildren, Parts, SharedChildren};
 use crate::plain::RadixTree;
 use crate::reading::{RadixNode, TKey, TValue};
+use crate::sealed::Sealed;
 use crate::shared::ArcRadixTree;
 use smallvec::SmallVec;
 use std::alloc::Global;
 use std::default::MadeWith;
 
-/// What only the crates of this workspace hand over, so that nobody who holds a tree by a bound takes its nodes apart.
+/// What only the crates of this workspace hand over, so that nobody who holds a tree by a bound
+/// takes its nodes apart.
 #[derive(Clone, Copy, Drop)]
 pub struct Seal {
     inner: (),
@@ -30,8 +32,9 @@ impl Seal {
     }
 }
 
-/// A flavour of tree: how its nodes are made and taken apart, and how a value that stays in place is kept.
-pub trait Build<K: TKey, V: TValue>: RadixNode<K, V> + Drop {
+/// A flavour of tree: how its nodes are made and taken apart, and how a value that stays in place
+/// is kept. No other crate can implement it, since one of its supertraits is private to this one.
+pub trait Build<K: TKey, V: TValue>: RadixNode<K, V> + Sealed + Drop {
     type Prefix: Fragment<K>;
 
     type Children: ChildList<Self>;
@@ -46,7 +49,8 @@ pub trait Build<K: TKey, V: TValue>: RadixNode<K, V> + Drop {
     fn take_apart(self, seal: Seal) -> Parts<Self::Prefix, V, Self::Children>
         ensures prefix { Self.Prefix.items result.prefix ≡ (Self.tree self).prefix }
         ensures value { result.value ≡ (Self.tree self).value }
-        ensures children { seen Self.tree (listed Self.Children.items result.children) ≡ (Self.tree self).children }
+        ensures children { seen Self.tree (listed Self.Children.items result.children)
+            ≡ (Self.tree self).children }
         ensures canonical { IsCanonical K.cmp (Self.tree self) };
 
     /// The tree of these parts.
@@ -56,10 +60,10 @@ pub trait Build<K: TKey, V: TValue>: RadixNode<K, V> + Drop {
         children: Option<Self::Children>,
         seal: Seal,
     ) -> Self
-        requires { IsCanonical K.cmp
-            (made (Self.Prefix.items prefix) value (map Self.tree (listed Self.Children.items children))) }
-        ensures { Self.tree result
-            ≡ made (Self.Prefix.items prefix) value (map Self.tree (listed Self.Children.items children)) };
+        requires { IsCanonical K.cmp (made (Self.Prefix.items prefix) value
+            (map Self.tree (listed Self.Children.items children))) }
+        ensures { Self.tree result ≡ made (Self.Prefix.items prefix) value
+            (map Self.tree (listed Self.Children.items children)) };
 
     ghost keeps_refl: { (v : V) → keeps v v };
 
@@ -102,7 +106,8 @@ impl<K: TKey + MadeWith<Global>, V: TValue> Build<K, V> for RadixTree<K, V> {
     ) -> Self
         requires { IsCanonical K.cmp
             (made prefix.items value (map (λ t. t) (listed (λ own. own.list.items) children))) }
-        ensures { result ≡ made prefix.items value (map (λ t. t) (listed (λ own. own.list.items) children)) }
+        ensures { result ≡ made prefix.items value
+            (map (λ t. t) (listed (λ own. own.list.items) children)) }
     {
         RadixTree::from_parts(prefix, value, children)
     }
@@ -140,9 +145,10 @@ impl<K: TKey + MadeWith<Global>, V: TValue> Build<K, V> for ArcRadixTree<K, V> {
         children: Option<SharedChildren<ArcRadixTree<K, V>>>,
         seal: Seal,
     ) -> Self
-        requires { IsCanonical K.cmp
-            (made prefix.items value (map (λ t. t) (listed (λ held. held.shared.value.items) children))) }
-        ensures { result ≡ made prefix.items value (map (λ t. t) (listed (λ held. held.shared.value.items) children)) }
+        requires { IsCanonical K.cmp (made prefix.items value
+            (map (λ t. t) (listed (λ held. held.shared.value.items) children))) }
+        ensures { result ≡ made prefix.items value
+            (map (λ t. t) (listed (λ held. held.shared.value.items) children)) }
     {
         ArcRadixTree::from_parts(prefix, value, children)
     }

@@ -4,9 +4,9 @@ ghost use Rattle.std.specs.Prelude.{◌≡◌, List, map, IfOk};
 ghost use Rattle.std.specs.Iterator.{IsFinite};
 ghost use Rattle.std.specs.Iterator.Runs.{WholeRun};
 ghost use Rattle.vc_tree_model.specs.Canonical.{IsCanonical};
+ghost use Rattle.vc_tree_model.specs.Matches.{AreCopies};
 ghost use Rattle.vc_tree_model.specs.OneTree.{IsOneTree, IsSmallest};
 ghost use Rattle.vc_tree_model.specs.Pairs.{IsCollected};
-ghost use Rattle.vc_tree_model.specs.Value.{Copies};
 
 use crate::insertion::insert;
 use crate::plain::RadixTree;
@@ -59,7 +59,8 @@ fn collect<K: TKey + MadeWith<Global>, V: TValue, S: Spelled<K>, I: Iterator<Ite
 }
 
 impl<K: TKey + MadeWith<Global>, V: TValue> RadixTree<K, V> {
-    /// The tree of the pairs, which may come in any order. Of pairs with equal keys the last one counts.
+    /// The tree of the pairs, which may come in any order. Of pairs with equal keys the last one
+    /// counts.
     ///
     /// Fails where memory is refused. The pairs that came and the iterator are then dropped.
     pub fn from_iter<'a, I: Iterator<Item = (&'a [K], V)>>(
@@ -72,13 +73,15 @@ impl<K: TKey + MadeWith<Global>, V: TValue> RadixTree<K, V> {
         requires ends { IsFinite (I.remaining iter) }
         ensures pairs { IfOk result (λ t. WholeRun I.next_gives iter
             (λ p. IsCollected K.cmp (map (λ b. (b.0.now, b.1)) p.items) t)) }
-        ensures one { IfOk result (λ t. IsOneTree K.cmp (Copies V.is_clone) t) }
-        ensures smallest { IfOk result (λ t. IsSmallest K.cmp (Copies V.is_clone) t) }
+        ensures canonical { IfOk result (IsCanonical K.cmp) }
+        ensures one { IfOk result (λ t. IsOneTree K.cmp (AreCopies V.is_clone) t) }
+        ensures smallest { IfOk result (λ t. IsSmallest K.cmp (AreCopies V.is_clone) t) }
     {
         collect(alloc, iter)
     }
 
-    /// The tree of the pairs, which may come in any order. Of pairs with equal keys the last one counts. The keys are dropped.
+    /// The tree of the pairs, which may come in any order. Of pairs with equal keys the last one
+    /// counts. The keys are dropped.
     ///
     /// Fails where memory is refused. The pairs that came and the iterator are then dropped.
     pub fn from_vecs<I: Iterator<Item = (Vec<K>, V)>>(
@@ -89,8 +92,9 @@ impl<K: TKey + MadeWith<Global>, V: TValue> RadixTree<K, V> {
         requires ends { IsFinite (I.remaining iter) }
         ensures pairs { IfOk result (λ t. WholeRun I.next_gives iter
             (λ p. IsCollected K.cmp (map (λ b. (b.0.items, b.1)) p.items) t)) }
-        ensures one { IfOk result (λ t. IsOneTree K.cmp (Copies V.is_clone) t) }
-        ensures smallest { IfOk result (λ t. IsSmallest K.cmp (Copies V.is_clone) t) }
+        ensures canonical { IfOk result (IsCanonical K.cmp) }
+        ensures one { IfOk result (λ t. IsOneTree K.cmp (AreCopies V.is_clone) t) }
+        ensures smallest { IfOk result (λ t. IsSmallest K.cmp (AreCopies V.is_clone) t) }
     {
         collect(alloc, iter)
     }

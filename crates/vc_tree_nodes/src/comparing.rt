@@ -71,8 +71,8 @@ impl<K: TKey, V: TValue + PartialEq> PartialEq for RadixTree<K, V> {
     fn eq(&self, other: &Self) -> bool
         ensures value { result ≡ same_tree K.cmp V.eq self.now other.now }
         ensures same { IsTrue result ↔ IsSame K.cmp (λ v w. IsTrue (V.eq v w)) self.now other.now }
-        ensures maps { IsTrue result
-            ↔ IsEqualMap (λ v w. IsTrue (V.eq v w)) (lookup K.cmp self.now) (lookup K.cmp other.now) }
+        ensures maps { IsTrue result ↔ IsEqualMap (λ v w. IsTrue (V.eq v w)) (lookup K.cmp self.now)
+            (lookup K.cmp other.now) }
     {
         canonical(self);
         canonical(other);

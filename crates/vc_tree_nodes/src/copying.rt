@@ -1,4 +1,5 @@
-//! How trees are copied: one of any type into a flavour, and one of a flavour as cheaply as that flavour can.
+//! How trees are copied: one of any type into a flavour, and one of a flavour as cheaply as that
+//! flavour can.
 
 ghost use Rattle.std.specs.Prelude.{◌≡◌, ◌≤◌, IfOk, length};
 ghost use Rattle.std.specs.Option.{option_copied};
@@ -13,7 +14,7 @@ use crate::building::{Build, Seal};
 use crate::children::Fragment;
 use crate::making::stored;
 use crate::plain::RadixTree;
-use crate::reading::{RadixNode, TKey, TValue};
+use crate::reading::{RadixNode, TKey, TValue, canonical};
 use crate::shared::ArcRadixTree;
 use std::alloc::{AllocError, Global};
 use std::default::MadeWith;
@@ -28,8 +29,8 @@ pub fn clone_value<V: Clone>(value: Option<&V>) -> Result<Option<V>, AllocError>
     }
 }
 
-/// A copy of the tree without the first `from` components of its prefix, with a clone of each value. Asks for each list of
-/// children once.
+/// A copy of the tree without the first `from` components of its prefix, with a clone of each
+/// value. Asks for each list of children once.
 #[cycle(copying)]
 pub fn copy_shortened<K: TKey, V: TValue, S: RadixNode<K, V>, T: Build<K, V>>(
     alloc: Global,
@@ -37,14 +38,18 @@ pub fn copy_shortened<K: TKey, V: TValue, S: RadixNode<K, V>, T: Build<K, V>>(
     from: usize,
 ) -> Result<T, AllocError>
     requires { from ≤ length (S.tree tree.now).prefix }
-    ensures alike { IfOk result (λ copy. IsAlike V.is_clone (shortened from (S.tree tree.now)) (T.tree copy)) }
+    ensures alike { IfOk result
+        (λ copy. IsAlike V.is_clone (shortened from (S.tree tree.now)) (T.tree copy)) }
     ensures canonical { IsCanonical K.cmp (S.tree tree.now) }
+    ensures copy_canonical { IfOk result (λ copy. IsCanonical K.cmp (T.tree copy)) }
 {
     let prefix = T::Prefix::from_slice(alloc, &tree.prefix()[from..])?;
     let value = clone_value(tree.value())?;
     let copies = copy_list::<K, V, S, T>(alloc, tree.children())?;
     let children = stored::<K, V, T>(copies)?;
-    Ok(T::assemble(prefix, value, children, Seal::new()))
+    let copy = T::assemble(prefix, value, children, Seal::new());
+    canonical(&copy);
+    Ok(copy)
 }
 
 /// Copies of the trees of a list.
@@ -53,7 +58,8 @@ fn copy_list<K: TKey, V: TValue, S: RadixNode<K, V>, T: Build<K, V>>(
     alloc: Global,
     list: &[S],
 ) -> Result<Vec<T>, AllocError>
-    ensures { IfOk result (λ copies. IsAlikeIn V.is_clone (seen S.tree list.now) (seen T.tree copies.items)) }
+    ensures { IfOk result
+        (λ copies. IsAlikeIn V.is_clone (seen S.tree list.now) (seen T.tree copies.items)) }
 {
     let mut copies = Vec::with_capacity(alloc, list.len())?;
     for tree in list {
@@ -67,7 +73,8 @@ impl<K: TKey + MadeWith<Global>, V: TValue> RadixTree<K, V> {
     ///
     /// Fails where memory is refused, or the clone of a value.
     pub fn clone(&self) -> Result<Self, AllocError>
-        ensures { IfOk result (IsAlike V.is_clone self.now) }
+        ensures alike { IfOk result (IsAlike V.is_clone self.now) }
+        ensures canonical { IfOk result (IsCanonical K.cmp) }
     {
         copy_shortened(self.allocator(), self, 0)
     }
@@ -81,8 +88,8 @@ impl<K: TKey + MadeWith<Global>, V: TValue> Clone for RadixTree<K, V> {
     }
 }
 
-/// A flavour of tree whose clone is alike to it: of the plain flavour each node is copied, of the shared one the root, with the
-/// very same children.
+/// A flavour of tree whose clone is alike to it: of the plain flavour each node is copied, of the
+/// shared one the root, with the very same children.
 pub trait CloneTree<K: TKey, V: TValue>: Build<K, V> + Clone {
     ghost clones_alike: { (t c : Self) → Self.is_clone t c
         → IsAlike (Copies V.is_clone) (Self.tree t) (Self.tree c) };

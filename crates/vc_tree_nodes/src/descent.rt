@@ -13,8 +13,8 @@ use crate::places::child_at;
 use crate::reading::{RadixNode, TKey, TValue};
 use vc_merge::merge::{Count, Uncounted};
 
-/// What is left of the key behind the prefix, if the key starts with it. The first `known` components of both are known to
-/// agree.
+/// What is left of the key behind the prefix, if the key starts with it. The first `known`
+/// components of both are known to agree.
 fn rest_behind<'k, K: Ord, C: Count>(
     prefix: &[K],
     key: &'k [K],

@@ -22,7 +22,8 @@ use vc_merge::merge::Uncounted;
 
 /// The tree that binds the empty key alone.
 pub fn leaf<K: TKey, V: TValue, T: Build<K, V>>(alloc: Global, value: V) -> T
-    ensures { T.tree result ≡ made [] (Some value) [] }
+    ensures is { T.tree result ≡ made [] (Some value) [] }
+    ensures canonical { IsCanonical K.cmp (T.tree result) }
 {
     let Parts {
         prefix,
@@ -40,6 +41,7 @@ pub fn single<K: TKey, V: TValue, T: Build<K, V>>(
 ) -> Result<T, AllocError>
     ensures is { IfOk result (λ one. T.tree one ≡ made key.now (Some value) []) }
     ensures short { length key.now ≤ 16 → IsOk result }
+    ensures canonical { IfOk result (λ one. IsCanonical K.cmp (T.tree one)) }
 {
     let prefix = T::Prefix::from_slice(alloc, key)?;
     Ok(T::assemble(prefix, Some(value), None, Seal::new()))
@@ -51,7 +53,8 @@ pub fn insert<K: TKey, V: TValue, T: Build<K, V>>(
     key: &[K],
     value: V,
 ) -> Result<(), AllocError>
-    ensures ok { OnOk result (IsInserted K.cmp T.keeps key.now value (T.tree tree.old) (T.tree tree.new)) }
+    ensures ok { OnOk result
+        (IsInserted K.cmp T.keeps key.now value (T.tree tree.old) (T.tree tree.new)) }
     ensures binds { OnOk result (lookup K.cmp (T.tree tree.new) key.now ≡ Some value) }
     ensures err { OnErr result (HaveEqualMaps K.cmp T.keeps (T.tree tree.old) (T.tree tree.new)) }
     ensures err_nodes { OnErr result (IsAlike T.keeps (T.tree tree.old) (T.tree tree.new)) }
@@ -66,8 +69,8 @@ pub fn insert<K: TKey, V: TValue, T: Build<K, V>>(
     insert_from(alloc, tree, key, 0, value)
 }
 
-/// Binds the key to the value in a tree that is not empty. The first `known` components of the prefix and of the key are known
-/// to agree.
+/// Binds the key to the value in a tree that is not empty. The first `known` components of the
+/// prefix and of the key are known to agree.
 #[cycle(insertion)]
 fn insert_from<K: TKey, V: TValue, T: Build<K, V>>(
     alloc: Global,
@@ -78,7 +81,8 @@ fn insert_from<K: TKey, V: TValue, T: Build<K, V>>(
 ) -> Result<(), AllocError>
     requires known { Agree K.cmp (T.tree tree.old).prefix key.now known }
     requires solid { IsSolid (T.tree tree.old).value (T.tree tree.old).children }
-    ensures ok { OnOk result (IsInserted K.cmp T.keeps key.now value (T.tree tree.old) (T.tree tree.new)) }
+    ensures ok { OnOk result
+        (IsInserted K.cmp T.keeps key.now value (T.tree tree.old) (T.tree tree.new)) }
     ensures grown { OnOk result (IsGrown K.cmp known (T.tree tree.old) (T.tree tree.new)) }
     ensures err { OnErr result (IsAlike T.keeps (T.tree tree.old) (T.tree tree.new)) }
 {
@@ -161,9 +165,10 @@ fn insert_into<K: TKey, V: TValue, T: Build<K, V>>(
         (lookup_in K.cmp (seen T.tree (T.Children.items children.old)))
         (lookup_in K.cmp (seen T.tree (T.Children.items children.new)))) }
     ensures canonical { AreChildren K.cmp (seen T.tree (T.Children.items children.new)) }
-    ensures as_many { length (T.Children.items children.new) ≡ length (T.Children.items children.old) }
-    ensures err { OnErr result
-        (IsAlikeIn T.keeps (seen T.tree (T.Children.items children.old)) (seen T.tree (T.Children.items children.new))) }
+    ensures as_many { length (T.Children.items children.new)
+        ≡ length (T.Children.items children.old) }
+    ensures err { OnErr result (IsAlikeIn T.keeps (seen T.tree (T.Children.items children.old))
+        (seen T.tree (T.Children.items children.new))) }
 {
     let list = children.make_mut()?;
     insert_from(alloc, &mut list[i], rest, 1, value)
@@ -171,7 +176,8 @@ fn insert_into<K: TKey, V: TValue, T: Build<K, V>>(
 
 /// Binds the prefix itself.
 fn set_value<K: TKey, V: TValue, T: Build<K, V>>(alloc: Global, tree: &mut T, value: V)
-    ensures { let t = T.tree tree.old in Inserted K.cmp T.keeps t t.prefix value t.prefix (T.tree tree.new) }
+    ensures { let t = T.tree tree.old in
+        Inserted K.cmp T.keeps t t.prefix value t.prefix (T.tree tree.new) }
 {
     let node = mem::replace(tree, T::blank(alloc, Seal::new()));
     let Parts {
@@ -216,10 +222,11 @@ fn add_to<K: TKey, V: TValue, T: Build<K, V>>(
     item: T,
 ) -> Result<(), AllocError>
     requires { i ≤ length (listed T.Children.items children.old) }
-    ensures ok { OnOk result
-        (Adds T.keeps T.tree (listed T.Children.items children.old) i item (listed T.Children.items children.new)) }
-    ensures err { OnErr result
-        (IsAlikeIn T.keeps (seen T.tree (listed T.Children.items children.old)) (seen T.tree (listed T.Children.items children.new))) }
+    ensures ok { OnOk result (Adds T.keeps T.tree (listed T.Children.items children.old) i item
+        (listed T.Children.items children.new)) }
+    ensures err { OnErr result (IsAlikeIn T.keeps
+        (seen T.tree (listed T.Children.items children.old))
+        (seen T.tree (listed T.Children.items children.new))) }
 {
     match children {
         Some(children) => add_to_some::<K, V, T>(children, i, item),
@@ -239,9 +246,10 @@ fn add_to_some<K: TKey, V: TValue, T: Build<K, V>>(
     item: T,
 ) -> Result<(), AllocError>
     requires { i ≤ length (T.Children.items children.old) }
-    ensures ok { OnOk result (Adds T.keeps T.tree (T.Children.items children.old) i item (T.Children.items children.new)) }
-    ensures err { OnErr result
-        (IsAlikeIn T.keeps (seen T.tree (T.Children.items children.old)) (seen T.tree (T.Children.items children.new))) }
+    ensures ok { OnOk result (Adds T.keeps T.tree (T.Children.items children.old) i item
+        (T.Children.items children.new)) }
+    ensures err { OnErr result (IsAlikeIn T.keeps (seen T.tree (T.Children.items children.old))
+        (seen T.tree (T.Children.items children.new))) }
 {
     let list = children.make_mut()?;
     list.insert(i, item)?;
@@ -272,8 +280,8 @@ fn split_above<K: TKey, V: TValue, T: Build<K, V>>(
     Ok(())
 }
 
-/// Binds the first `n` components of the prefix and then `rest`, by a new node above the rest of the prefix and a leaf of `rest`,
-/// which comes to place `i` of the two.
+/// Binds the first `n` components of the prefix and then `rest`, by a new node above the rest of
+/// the prefix and a leaf of `rest`, which comes to place `i` of the two.
 fn split_beside<K: TKey, V: TValue, T: Build<K, V>>(
     alloc: Global,
     tree: &mut T,
@@ -283,8 +291,9 @@ fn split_beside<K: TKey, V: TValue, T: Build<K, V>>(
     value: V,
 ) -> Result<(), AllocError>
     requires { SplitsAt K.cmp (T.tree tree.old) n rest.now i }
-    ensures ok { let t = T.tree tree.old in OnOk result
-        (Inserted K.cmp T.keeps t (take n t.prefix ++ rest.now) value (take n t.prefix) (T.tree tree.new)) }
+    ensures ok { let t = T.tree tree.old in
+        OnOk result (Inserted K.cmp T.keeps t (take n t.prefix ++ rest.now) value (take n t.prefix)
+        (T.tree tree.new)) }
     ensures err { OnErr result (T.tree tree.new ≡ T.tree tree.old) }
 {
     let whole = tree.prefix();
@@ -303,8 +312,10 @@ fn split_beside<K: TKey, V: TValue, T: Build<K, V>>(
 
 /// Takes the tree out, with this prefix in the place of its own, and leaves the empty one.
 fn cut<K: TKey, V: TValue, T: Build<K, V>>(alloc: Global, tree: &mut T, prefix: T::Prefix) -> T
-    requires { IsCanonical K.cmp (node (T.Prefix.items prefix) (T.tree tree.old).value (T.tree tree.old).children) }
-    ensures { T.tree result ≡ node (T.Prefix.items prefix) (T.tree tree.old).value (T.tree tree.old).children }
+    requires { IsCanonical K.cmp
+        (node (T.Prefix.items prefix) (T.tree tree.old).value (T.tree tree.old).children) }
+    ensures { T.tree result
+        ≡ node (T.Prefix.items prefix) (T.tree tree.old).value (T.tree tree.old).children }
 {
     let node = mem::replace(tree, T::blank(alloc, Seal::new()));
     let Parts {

@@ -1,5 +1,6 @@
-//! The nodes of radix trees: how they are read, the two flavours in which they are stored, how a key is looked up, and how it is
-//! bound. For the crates above; the traits that users name stand in `vc_trees`.
+//! The nodes of radix trees: how they are read, the two flavours in which they are stored, how a
+//! key is looked up, and how it is bound. For the crates above; the traits that users name stand in
+//! `vc_trees`.
 #![tactic(auto)]
 
 pub mod building;
@@ -14,6 +15,7 @@ pub mod parting;
 pub mod places;
 pub mod plain;
 pub mod reading;
+mod sealed;
 pub mod shared;
 pub mod sharing;
 pub mod showing;

@@ -44,8 +44,8 @@ pub fn new_joined<K: TKey, V: TValue, T: Build<K, V>>(
     tree: T,
 ) -> Result<T, AllocError>
     requires { IsSolid (T.tree tree).value (T.tree tree).children }
-    ensures { IfOk result (λ one.
-        T.tree one ≡ node (front.now ++ (T.tree tree).prefix) (T.tree tree).value (T.tree tree).children) }
+    ensures { IfOk result (λ one. T.tree one
+        ≡ node (front.now ++ (T.tree tree).prefix) (T.tree tree).value (T.tree tree).children) }
 {
     if front.is_empty() {
         return Ok(tree);

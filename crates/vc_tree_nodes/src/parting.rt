@@ -19,8 +19,8 @@ pub enum Parting {
     Higher(usize),
 }
 
-/// Where the key parts from the prefix, of which the first `known` components are known to agree. Compares each further
-/// component once.
+/// Where the key parts from the prefix, of which the first `known` components are known to agree.
+/// Compares each further component once.
 pub fn find_parting<K: Ord, C: Count>(
     prefix: &[K],
     key: &[K],

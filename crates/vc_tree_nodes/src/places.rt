@@ -20,7 +20,8 @@ struct First<'a, K, V> {
 }
 
 impl<'a, K: TKey, V: TValue, T: RadixNode<K, V>, C: Count> Sought<T, C> for First<'a, K, V> {
-    ghost side = { λ sought node. first_side K.cmp sought.component.now (slice_get (T.tree node).prefix 0) };
+    ghost side = { λ sought node.
+        first_side K.cmp sought.component.now (slice_get (T.tree node).prefix 0) };
 
     fn compare(&self, node: &T, steps: &mut C) -> Ordering {
         steps.tick();
@@ -31,8 +32,8 @@ impl<'a, K: TKey, V: TValue, T: RadixNode<K, V>, C: Count> Sought<T, C> for Firs
     }
 }
 
-/// Where the child stands that begins with the component, or where one that begins so would stand. Compares no more first
-/// components than the number of children has binary digits.
+/// Where the child stands that begins with the component, or where one that begins so would stand.
+/// Compares no more first components than the number of children has binary digits.
 pub fn child_place<K: TKey, V: TValue, T: RadixNode<K, V>, C: Count>(
     children: &[T],
     first: &K,
@@ -58,7 +59,8 @@ pub fn child_at<'a, K: TKey, V: TValue, T: RadixNode<K, V>, C: Count>(
 ) -> Option<&'a T>
     requires { AreChildren K.cmp (seen T.tree children.now) }
     ensures child { let kids = seen T.tree children.now in
-        MatchOption result (IsNoChild K.cmp kids first.now) (λ child. IsFoundChild K.cmp kids first.now (T.tree child.now)) }
+        MatchOption result (IsNoChild K.cmp kids first.now)
+        (λ child. IsFoundChild K.cmp kids first.now (T.tree child.now)) }
     ensures counted { C.counted steps.new ≤ C.counted steps.old + digits (length children.now) }
 {
     match child_place(children, first, steps) {

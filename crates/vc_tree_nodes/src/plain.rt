@@ -7,7 +7,11 @@ use std::alloc::Global;
 use std::default::MadeWith;
 use std::marker::Model;
 
-/// A radix tree that owns all its nodes. It is seen as a tree of prefixes, values and children, always canonical.
+/// A radix tree that owns all its nodes. It is seen as a tree of prefixes, values and children,
+/// always canonical.
+///
+/// Its drop and most calls take stack for each level. Levels are at most one more than the longest
+/// key has components, and no more than keys; a long key alone is one level.
 #[derive(Drop)]
 pub struct RadixTree<K: TKey, V: TValue> {
     prefix: SmallVec<K, 16>,
@@ -41,8 +45,9 @@ impl<K: TKey + MadeWith<Global>, V: TValue> RadixTree<K, V> {
     ghost use Rattle.vc_tree_nodes.specs.Children.{listed, seen};
 
     /// The empty tree.
-    pub fn bare(alloc: Global) -> Self
-        ensures { result ≡ no_tree }
+    pub(crate) fn bare(alloc: Global) -> Self
+        ensures is { result ≡ no_tree }
+        ensures canonical { IsCanonical K.cmp result }
     {
         RadixTree {
             prefix: SmallVec::new(alloc),
@@ -52,10 +57,11 @@ impl<K: TKey + MadeWith<Global>, V: TValue> RadixTree<K, V> {
     }
 
     /// The parts of the root.
-    pub fn into_parts(self) -> Parts<SmallVec<K, 16>, V, OwnedChildren<RadixTree<K, V>>>
+    pub(crate) fn into_parts(self) -> Parts<SmallVec<K, 16>, V, OwnedChildren<RadixTree<K, V>>>
         ensures prefix { result.prefix.items ≡ self.prefix }
         ensures value { result.value ≡ self.value }
-        ensures children { seen (λ t. t) (listed (λ own. own.list.items) result.children) ≡ self.children }
+        ensures children { seen (λ t. t) (listed (λ own. own.list.items) result.children)
+            ≡ self.children }
         ensures canonical { IsCanonical K.cmp self }
     {
         let RadixTree {
@@ -71,14 +77,15 @@ impl<K: TKey + MadeWith<Global>, V: TValue> RadixTree<K, V> {
     }
 
     /// The tree of these parts.
-    pub fn from_parts(
+    pub(crate) fn from_parts(
         prefix: SmallVec<K, 16>,
         value: Option<V>,
         children: Option<OwnedChildren<RadixTree<K, V>>>,
     ) -> Self
         requires { IsCanonical K.cmp
             (made prefix.items value (map (λ t. t) (listed (λ own. own.list.items) children))) }
-        ensures { result ≡ made prefix.items value (map (λ t. t) (listed (λ own. own.list.items) children)) }
+        ensures { result ≡ made prefix.items value
+            (map (λ t. t) (listed (λ own. own.list.items) children)) }
     {
         let children = match children {
             Some(own) => own.list,

@@ -19,8 +19,9 @@ pub trait TValue: Debug + Clone + Drop {}
 
 impl<V: Debug + Clone + Drop> TValue for V {}
 
-/// A node of a radix tree with all that lies below it. An implementation gives its prefix, value, children and allocator, and says
-/// by `tree` which tree that is; whoever writes these has all of the calls that read a tree.
+/// A node of a radix tree with all that lies below it. An implementation gives its prefix, value,
+/// children and allocator, and says by `tree` which tree that is; whoever writes these has all of
+/// the calls that read a tree.
 ///
 /// The law: the tree is canonical.
 pub trait RadixNode<K: TKey, V: TValue>: Sized {
@@ -45,8 +46,8 @@ pub trait RadixNode<K: TKey, V: TValue>: Sized {
     fn allocator(&self) -> Global;
 }
 
-/// Nothing but the law: the tree is canonical. A law of a type is a clause of a call, here of `prefix`; a proof that wants it and not the
-/// prefix has it from this call, by its name.
+/// Nothing but the law: the tree is canonical. A law of a type is a clause of a call, here of
+/// `prefix`; a proof that wants it and not the prefix has it from this call, by its name.
 pub fn canonical<K: TKey, V: TValue, T: RadixNode<K, V>>(tree: &T)
     ensures { IsCanonical K.cmp (T.tree tree.now) }
 {

@@ -1,19 +1,23 @@
-//! The shared flavour: several trees may hold the children of one node, and a write copies those that are shared.
+//! The shared flavour: several trees may hold the children of one node, and a write copies those
+//! that are shared.
 
 ghost use Rattle.std.specs.Prelude.{◌≡◌, IfOk};
 ghost use Rattle.vc_tree_model.specs.Value.{IsKept};
 ghost use Rattle.vc_tree_nodes.specs.Children.{listed};
 
 use crate::children::{Parts, SharedChildren};
-use crate::reading::{RadixNode, TKey, TValue};
+use crate::reading::{RadixNode, TKey, TValue, canonical};
 use smallvec::SmallVec;
 use std::alloc::{AllocError, Global};
 use std::default::MadeWith;
 use std::marker::Model;
 use std::rc::Rc;
 
-/// A radix tree whose clone shares its children, so that a clone is a snapshot. It is seen as a tree of prefixes, values and
-/// children, always canonical.
+/// A radix tree whose clone shares its children, so that a clone is a snapshot. It is seen as a
+/// tree of prefixes, values and children, always canonical.
+///
+/// Its drop and most calls take stack for each level. Levels are at most one more than the longest
+/// key has components, and no more than keys; a long key alone is one level.
 #[derive(Drop)]
 pub struct ArcRadixTree<K: TKey, V: TValue> {
     prefix: SmallVec<K, 16>,
@@ -31,15 +35,16 @@ impl<K: TKey, V: TValue> Model for ArcRadixTree<K, V> {
 
     ghost coded = { tree_code K.code V.code };
 
-    ghost view = { λ a. node a.prefix.items a.value (shared_forest (λ rc. rc.value.items) a.children) };
+    ghost view = { λ a. node a.prefix.items a.value
+        (shared_forest (λ rc. rc.value.items) a.children) };
 
     ghost invariant = { λ a. IsCanonical K.cmp
         (node a.prefix.items a.value (shared_forest (λ rc. rc.value.items) a.children)) };
 
     ghost size = { nodes };
 
-    ghost size_decreases = { λ a h.
-        shared_falls (λ rc. rc.value.items) (λ o. child_size (record a { children = o })) refl (λ r. refl) a.children };
+    ghost size_decreases = { λ a h. shared_falls (λ rc. rc.value.items)
+        (λ o. child_size (record a { children = o })) refl (λ r. refl) a.children };
 }
 
 impl<K: TKey + MadeWith<Global>, V: TValue> ArcRadixTree<K, V> {
@@ -49,8 +54,9 @@ impl<K: TKey + MadeWith<Global>, V: TValue> ArcRadixTree<K, V> {
     ghost use Rattle.vc_tree_nodes.specs.Children.{listed, seen};
 
     /// The empty tree.
-    pub fn bare(alloc: Global) -> Self
-        ensures { result ≡ no_tree }
+    pub(crate) fn bare(alloc: Global) -> Self
+        ensures is { result ≡ no_tree }
+        ensures canonical { IsCanonical K.cmp result }
     {
         ArcRadixTree {
             prefix: SmallVec::new(alloc),
@@ -60,10 +66,11 @@ impl<K: TKey + MadeWith<Global>, V: TValue> ArcRadixTree<K, V> {
     }
 
     /// The parts of the root.
-    pub fn into_parts(self) -> Parts<SmallVec<K, 16>, V, SharedChildren<ArcRadixTree<K, V>>>
+    pub(crate) fn into_parts(self) -> Parts<SmallVec<K, 16>, V, SharedChildren<ArcRadixTree<K, V>>>
         ensures prefix { result.prefix.items ≡ self.prefix }
         ensures value { result.value ≡ self.value }
-        ensures children { seen (λ t. t) (listed (λ held. held.shared.value.items) result.children) ≡ self.children }
+        ensures children { seen (λ t. t) (listed (λ held. held.shared.value.items) result.children)
+            ≡ self.children }
         ensures canonical { IsCanonical K.cmp self }
     {
         let ArcRadixTree {
@@ -86,14 +93,15 @@ impl<K: TKey + MadeWith<Global>, V: TValue> ArcRadixTree<K, V> {
     }
 
     /// The tree of these parts.
-    pub fn from_parts(
+    pub(crate) fn from_parts(
         prefix: SmallVec<K, 16>,
         value: Option<V>,
         children: Option<SharedChildren<ArcRadixTree<K, V>>>,
     ) -> Self
-        requires { IsCanonical K.cmp
-            (made prefix.items value (map (λ t. t) (listed (λ held. held.shared.value.items) children))) }
-        ensures { result ≡ made prefix.items value (map (λ t. t) (listed (λ held. held.shared.value.items) children)) }
+        requires { IsCanonical K.cmp (made prefix.items value
+            (map (λ t. t) (listed (λ held. held.shared.value.items) children))) }
+        ensures { result ≡ made prefix.items value
+            (map (λ t. t) (listed (λ held. held.shared.value.items) children)) }
     {
         let children = match children {
             Some(held) => some_unless_empty(held.shared),
@@ -135,23 +143,28 @@ fn share<T: Drop>(children: &Option<Rc<T>>) -> Result<Option<Rc<T>>, AllocError>
 }
 
 impl<K: TKey + MadeWith<Global>, V: TValue> ArcRadixTree<K, V> {
+    ghost use Rattle.vc_tree_model.specs.Canonical.{IsCanonical};
     ghost use Rattle.vc_tree_model.specs.Snapshot.{IsSnapshot};
 
-    /// A snapshot: a tree of its own with the same prefix, a clone of the root's value, and the very same children, which both
-    /// trees hold. A later change of either tree copies what it writes, and leaves the other as it is.
+    /// A snapshot: a tree of its own with the same prefix, a clone of the root's value, and the
+    /// very same children, which both trees hold. A later change of either tree copies what it
+    /// writes, and leaves the other as it is.
     ///
     /// Clones no value but the root's. Fails where memory is refused, or the value's own clone.
     pub fn clone(&self) -> Result<Self, AllocError>
-        ensures { IfOk result (IsSnapshot V.is_clone self.now) }
+        ensures snapshot { IfOk result (IsSnapshot V.is_clone self.now) }
+        ensures canonical { IfOk result (IsCanonical K.cmp) }
     {
         let prefix = SmallVec::from_slice(*self.prefix.allocator(), self.prefix.as_slice())?;
         let value = clone_value(&self.value)?;
         let children = share(&self.children)?;
-        Ok(ArcRadixTree {
+        let copy = ArcRadixTree {
             prefix,
             value,
             children,
-        })
+        };
+        canonical(&copy);
+        Ok(copy)
     }
 }
 

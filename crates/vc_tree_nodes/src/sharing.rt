@@ -2,8 +2,8 @@
 
 ghost use Rattle.std.specs.Prelude.{◌≡◌, IfOk};
 ghost use Rattle.vc_tree_model.specs.Canonical.{IsCanonical};
+ghost use Rattle.vc_tree_model.specs.Matches.{AreCopies};
 ghost use Rattle.vc_tree_model.specs.OneTree.{IsOneTree, IsSmallest};
-ghost use Rattle.vc_tree_model.specs.Value.{Copies};
 ghost use Rattle.vc_tree_nodes.specs.Children.{listed};
 
 use crate::children::{ChildList, Parts, SharedChildren};
@@ -38,7 +38,8 @@ fn share_tree<K: TKey + MadeWith<Global>, V: TValue>(
 fn share_list<K: TKey + MadeWith<Global>, V: TValue>(
     list: Vec<RadixTree<K, V>>,
 ) -> Result<Option<SharedChildren<ArcRadixTree<K, V>>>, AllocError>
-    ensures { IfOk result (λ children. listed (λ held. held.shared.value.items) children ≡ list.items) }
+    ensures { IfOk result
+        (λ children. listed (λ held. held.shared.value.items) children ≡ list.items) }
 {
     if list.is_empty() {
         return Ok(None);
@@ -56,8 +57,9 @@ impl<K: TKey + MadeWith<Global>, V: TValue> ArcRadixTree<K, V> {
     /// Fails where memory is refused for the children. The tree is then dropped.
     pub fn from_radix_tree(tree: RadixTree<K, V>) -> Result<Self, AllocError>
         ensures same { IfOk result (λ shared. shared ≡ tree) }
-        ensures one { IfOk result (λ shared. IsOneTree K.cmp (Copies V.is_clone) shared) }
-        ensures smallest { IfOk result (λ shared. IsSmallest K.cmp (Copies V.is_clone) shared) }
+        ensures canonical { IfOk result (IsCanonical K.cmp) }
+        ensures one { IfOk result (λ shared. IsOneTree K.cmp (AreCopies V.is_clone) shared) }
+        ensures smallest { IfOk result (λ shared. IsSmallest K.cmp (AreCopies V.is_clone) shared) }
     {
         share_tree(tree)
     }

@@ -21,7 +21,8 @@ fn show_root<K: TKey, V: TValue, W: fmt::Write>(
     f.write_str(", children: [")
 }
 
-/// Writes the tree as a struct of this name, with its prefix, its value and its children, each written the same way.
+/// Writes the tree as a struct of this name, with its prefix, its value and its children, each
+/// written the same way.
 fn show<K: TKey, V: TValue, T: RadixNode<K, V>, W: fmt::Write>(
     tree: &T,
     name: &str,

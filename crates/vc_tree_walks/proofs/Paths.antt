@@ -1,6 +1,6 @@
 -- Where a path of places leads, and what a step from there does to the pairs that are left.
 --     Leads        the places before a depth lead to a node
---     leads-root, leads-on, stops, ends        at the root, one node deeper, where no child is open, and where the path ends
+--     leads-on, stops, ends        one node deeper, where no child is open, and where the path ends
 --     opened-rows, opened-work        the row of a node that was opened
 --     started_at        what is left behind the root
 --     left-step, entered-step        a step out of the node that a path leads to, and a step to a child of it
@@ -62,10 +62,6 @@ module _ {K V : Type 0} where
     pub above : List (Forest K V × ℕ)
     pub within : depth < length path
     pub rows : (more : List Place) → rows_at root (take depth path ++ more) ≡ rows_at t more ++ above
-
-  -- the root
-  pub leads-root : (root : Tree K V) (path : List Place) → 0 < length path → Leads root path root 0
-  leads-root root path h = record { above = []; within = h; rows = λ more. sym (append-nil (rows_at root more)) }
 
   -- the rows below a node with an open child
   rows-open : (t c : Tree K V) (place : Place) (path : List Place) → entered place.entered t.children ≡ Some c

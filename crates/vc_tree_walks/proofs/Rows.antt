@@ -1,8 +1,7 @@
 -- What a step does to the pairs that are left of rows of trees.
 --     first-tree        the pairs of a row are those of its first tree, and then the others
 --     entered, entered-leaf        a step to a tree finds its own pair, and leaves those of its children and of the trees beside it
---     entered-rows, entered-rows_leaf        the same with rows as the iterator stores them
---     left-row, left-inner_row        a step out of a row of which nothing is left
+--     entered-rows        the same with rows as the iterator stores them
 use Rattle.std.proofs.Common.{◌≡◌, ℕ, zero, suc, ◌-◌, ◌≤◌, List, [], ◌∷◌, ◌++◌, length, take, map, Option, None, Some, refl, sym, ap, ◌∙◌, append_assoc, append-nil, length-append, arith}
 use Rattle.std.proofs.Math.Seq.{take-append_seam, take-length}
 use Rattle.std.proofs.lemmas.List.{reverse-append}
@@ -91,37 +90,7 @@ module _ {K V : Type 0} where
       ∙ ap (λ k. pair_at now v ++ (map (prepended k) (walk_in kids) ++ beside (take (length now - length p) k)))
       (sym (take-length now))
 
-  -- a step out of a row of which nothing is left, where less of the key stands before an outer row
-  pub left-row : (key : List K) (outer : Forest K V) (n m : ℕ) (rows : List (Forest K V × ℕ)) → m ≤ n
-      → rows_left key ((bare, n) ∷ (outer, m) ∷ rows) ≡ rows_left key ((outer, m) ∷ rows)
-  left-row key outer n m rows h =
-      ap (λ k. map (prepended k) (walk_in outer) ++ rows_left k rows) (take-within m n key h)
-
-  -- and where more does
-  pub left-inner_row : (key : List K) (outer : Forest K V) (n m : ℕ) (rows : List (Forest K V × ℕ)) → n ≤ m
-      → rows_left key ((bare, n) ∷ (outer, m) ∷ rows) ≡ rows_left key ((outer, n) ∷ rows)
-  left-inner_row key outer n m rows h =
-      ap (λ k. map (prepended k) (walk_in outer) ++ rows_left k rows) (take-beyond m n key h)
-
 module _ {K V T : Type 0} (tree : T → Tree K V) where
-  -- a step to a tree without children, with rows as the iterator stores them
-  pub entered-rows_leaf : (t : T) (key now shown p : List K) (row past : Row T) (rows : List (Row T))
-      → p ≡ (tree t).prefix → now ≡ take row.base key ++ p → shown ≡ now → (tree t).children ≡ bare
-      → past ≡ record { trees = row.trees; base = length shown - length p }
-      → rows_left key ((grow (tree t).prefix (tree t).value (tree t).children (seen tree row.trees.now), row.base) ∷ map (row_of tree) (reverse rows))
-      ≡ pair_at now (tree t).value ++ rows_left now (rows_of tree past rows)
-  entered-rows_leaf t key now shown p row past rows ep en es ek eb =
-      let q = (tree t).prefix in
-      let v = (tree t).value in
-      let others = seen tree row.trees.now in
-      let outer = map (row_of tree) (reverse rows) in
-      let e : now ≡ take row.base key ++ q = en ∙ ap (λ l. take row.base key ++ l) ep in
-      let second : ((others, length now - length q) ≡ row_of tree past) =
-      (λ i. (others, length (sym es i) - length (sym ep i))) ∙ ap (row_of tree) (sym eb) in
-      ap (λ f. rows_left key ((grow q v f others, row.base) ∷ outer)) ek
-      ∙ entered-leaf key now q v others row.base outer e
-      ∙ ap (λ r. pair_at now v ++ rows_left now (r ∷ outer)) second
-
   -- a step to a tree with children
   pub entered-rows : (t : T) (key now shown p : List K) (row beside below : Row T) (kids : Bor (List T))
       → (rows above : List (Row T)) → p ≡ (tree t).prefix → now ≡ take row.base key ++ p → shown ≡ now

@@ -1,6 +1,7 @@
 //! The tree of the keys that start with a prefix.
 
 ghost use Rattle.std.specs.Prelude.{IfOk};
+ghost use Rattle.vc_tree_model.specs.Canonical.{IsCanonical};
 ghost use Rattle.vc_tree_model.specs.Map.{lookup, IsEqualMap};
 ghost use Rattle.vc_tree_model.specs.Under.{under};
 ghost use Rattle.vc_tree_model.specs.Value.{Copies};
@@ -12,9 +13,23 @@ use vc_tree_nodes::copying::{CloneTree, copy_tree};
 use vc_tree_nodes::making::new_joined;
 use vc_tree_nodes::reading::{TKey, TValue, canonical, is_empty};
 
-/// The keys of a tree that start with the prefix, whole, with their values: a copy of the node below which they stand, and what
-/// stands before it of the prefix.
+/// The keys of a tree that start with the prefix, whole, with their values.
 pub fn filter_prefix<K: TKey, V: TValue, T: CloneTree<K, V>>(
+    tree: &T,
+    prefix: &[K],
+) -> Result<T, AllocError>
+    ensures made { IfOk result (λ made. IsEqualMap (Copies V.is_clone)
+        (under K.cmp (lookup K.cmp (T.tree tree.now)) prefix.now) (lookup K.cmp (T.tree made))) }
+    ensures canonical { IfOk result (λ made. IsCanonical K.cmp (T.tree made)) }
+{
+    let made = copy_under(tree, prefix)?;
+    canonical(&made);
+    Ok(made)
+}
+
+/// A copy of the node below which the keys stand that start with the prefix, and what stands before
+/// it of the prefix.
+fn copy_under<K: TKey, V: TValue, T: CloneTree<K, V>>(
     tree: &T,
     prefix: &[K],
 ) -> Result<T, AllocError>

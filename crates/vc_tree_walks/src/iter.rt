@@ -12,7 +12,8 @@ use std::marker::PhantomData;
 use std::mem;
 use vc_tree_nodes::reading::{RadixNode, TKey, TValue};
 
-/// Trees beside each other that are still to be walked, and how many components of the key stand before theirs.
+/// Trees beside each other that are still to be walked, and how many components of the key stand
+/// before theirs.
 #[derive(Drop)]
 struct Row<'a, T> {
     trees: &'a [T],
@@ -21,8 +22,8 @@ struct Row<'a, T> {
 
 /// The pairs of a tree, by ascending keys, each as its key and a reference to its value.
 ///
-/// A step takes no memory where the last key was let go and the walk has been as deep before, with a key as long. After an `Err`
-/// the walk is at its end.
+/// A step takes no memory where the last key was let go and the walk has been as deep before, with
+/// a key as long. After an `Err` the walk is at its end.
 pub struct Iter<'a, K, V, T> {
     alloc: Global,
     /// What stands before the keys of the tree, and the tree, until the first step.
@@ -64,7 +65,7 @@ fn item<'a, K: Drop, V>(
 
 impl<'a, K: TKey, V: TValue, T: RadixNode<K, V>> Iter<'a, K, V, T> {
     /// The pairs of a tree, with what stands before its keys, or no pair. Takes no memory.
-    pub fn new(alloc: Global, start: Option<(&'a [K], &'a T)>) -> Self
+    pub(crate) fn new(alloc: Global, start: Option<(&'a [K], &'a T)>) -> Self
         ensures { pairs_left T.tree result ≡ pairs_from T.tree start.entry }
     {
         Iter {
@@ -114,7 +115,8 @@ impl<'a, K: TKey, V: TValue + 'a, T: RadixNode<K, V>> Iter<'a, K, V, T> {
         Ok(Turn::Moved)
     }
 
-    /// Goes to a tree that stands before the innermost row: to its children, if it has some, and else past it.
+    /// Goes to a tree that stands before the innermost row: to its children, if it has some, and
+    /// else past it.
     fn enter(&mut self, tree: &'a T) -> Result<(), AllocError>
         ensures left { OnOk result
             (rows_left self.old.key (rows_before T.tree tree.now self.old)

@@ -9,8 +9,8 @@ use std::rc::Rc;
 
 /// The key of an item of a walk. It is seen as the list of its components.
 ///
-/// The walk and the keys that it gave share their components: a walk that goes on copies them where an earlier key was kept, and
-/// writes over them where not. So a key that is kept stays as it was.
+/// The walk and the keys that it gave share their components: a walk that goes on copies them where
+/// an earlier key was kept, and writes over them where not. So a key that is kept stays as it was.
 #[derive(Drop)]
 pub struct IterKey<K> {
     /// The components, of which the empty key has none.
@@ -69,7 +69,8 @@ impl<K: Copy> IterKey<K> {
         })
     }
 
-    /// Keeps the first `kept` components and puts others behind them: in the same list where no other key shares it.
+    /// Keeps the first `kept` components and puts others behind them: in the same list where no
+    /// other key shares it.
     pub(crate) fn turn_to(
         &mut self,
         alloc: Global,

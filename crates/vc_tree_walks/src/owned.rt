@@ -13,7 +13,8 @@ use std::alloc::{AllocError, Global};
 use std::marker::PhantomData;
 use vc_tree_nodes::reading::{RadixNode, TKey, TValue};
 
-/// An open node on the way: how many of its children were entered, and how many components of the key stand before theirs.
+/// An open node on the way: how many of its children were entered, and how many components of the
+/// key stand before theirs.
 #[derive(Clone, Copy)]
 struct Place {
     entered: usize,
@@ -32,10 +33,11 @@ struct Way<K> {
 
 /// The pairs of a tree that it holds, by ascending keys, each as its key and a clone of its value.
 ///
-/// The tree is dropped with the iterator. The walk keeps its key and a stack of places; a step finds the node where it stands from
-/// the root, by one place a node, and spells no more of the key than the next node adds. It takes no memory where the last key was
-/// let go and the walk has been as deep before, with a key as long, but for what the clone of a value takes. After an `Err` the walk
-/// is at its end.
+/// The tree is dropped with the iterator. The walk keeps its key and a stack of places; a step
+/// finds the node where it stands from the root, by one place a node, and spells no more of the key
+/// than the next node adds. It takes no memory where the last key was let go and the walk has been
+/// as deep before, with a key as long, but for what the clone of a value takes. After an `Err` the
+/// walk is at its end.
 #[derive(Drop)]
 pub struct ObjAndIter<K, V, T> {
     tree: T,
@@ -47,7 +49,7 @@ pub struct ObjAndIter<K, V, T> {
 
 impl<K: TKey, V: TValue, T: RadixNode<K, V> + Drop> ObjAndIter<K, V, T> {
     /// The pairs of a tree. Takes no memory.
-    pub fn new(tree: T) -> Self
+    pub(crate) fn new(tree: T) -> Self
         ensures { held_left T.tree result ≡ walk (T.tree tree) }
     {
         let alloc = tree.allocator();
@@ -100,9 +102,10 @@ impl<K: TKey> Way<K> {
         alloc: Global,
         tree: &T,
     ) -> Result<(), AllocError>
-        ensures left { OnOk result
-            (walk (T.tree tree.now) ≡ pair_at self.new.key (T.tree tree.now).value ++ way_left (T.tree tree.now) self.new) }
-        ensures work { OnOk result (way_work (T.tree tree.now) self.new < 1 + 2 * nodes (T.tree tree.now)) }
+        ensures left { OnOk result (walk (T.tree tree.now)
+            ≡ pair_at self.new.key (T.tree tree.now).value ++ way_left (T.tree tree.now) self.new) }
+        ensures work { OnOk result
+            (way_work (T.tree tree.now) self.new < 1 + 2 * nodes (T.tree tree.now)) }
     {
         self.path.clear();
         self.key.turn_to(alloc, 0, tree.prefix())?;
@@ -117,9 +120,10 @@ impl<K: TKey> Way<K> {
         tree: &'t T,
     ) -> Result<Option<&'t T>, AllocError>
         requires { 0 < length self.old.path.items }
-        ensures left { IfOk result (λ node.
-            way_left (T.tree tree.now) self.old ≡ own_pairs T.tree self.new.key node ++ way_left (T.tree tree.now) self.new) }
-        ensures work { OnOk result (way_work (T.tree tree.now) self.new < way_work (T.tree tree.now) self.old) }
+        ensures left { IfOk result (λ node. way_left (T.tree tree.now) self.old
+            ≡ own_pairs T.tree self.new.key node ++ way_left (T.tree tree.now) self.new) }
+        ensures work { OnOk result
+            (way_work (T.tree tree.now) self.new < way_work (T.tree tree.now) self.old) }
         ensures some_work { 0 < way_work (T.tree tree.now) self.old }
     {
         let (node, depth) = reach(tree, self.path.as_slice());
@@ -147,7 +151,8 @@ impl<K: TKey> Way<K> {
         node: &T,
         base: usize,
     ) -> Result<(), AllocError>
-        ensures path { OnOk result (self.new.path.items ≡ self.old.path.items ++ opened (T.tree node.now) base) }
+        ensures path { OnOk result
+            (self.new.path.items ≡ self.old.path.items ++ opened (T.tree node.now) base) }
         ensures key { self.new.key ≡ self.old.key }
         ensures front { self.new.front ≡ self.old.front }
     {
@@ -196,7 +201,8 @@ fn last_entered<'t, K: TKey, V: TValue, T: RadixNode<K, V>>(
     count: usize,
 ) -> Option<&'t T>
     ensures { let kids = (T.tree node.now).children in
-        MatchOption result (entered count kids ≡ None) (λ child. entered count kids ≡ Some (T.tree child.now)) }
+        MatchOption result (entered count kids ≡ None)
+        (λ child. entered count kids ≡ Some (T.tree child.now)) }
 {
     let children = node.children();
     if count == 0 {

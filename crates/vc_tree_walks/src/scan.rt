@@ -10,13 +10,14 @@ use vc_tree_nodes::parting::{Parting, find_parting};
 use vc_tree_nodes::places::child_at;
 use vc_tree_nodes::reading::{RadixNode, TKey, TValue};
 
-/// The node below which all keys of the tree stand that start with the prefix, and the part of the prefix that stands before the
-/// node's own. None where no key starts so.
+/// The node below which all keys of the tree stand that start with the prefix, and the part of the
+/// prefix that stands before the node's own. None where no key starts so.
 pub fn find_under<'a, K: TKey, V: TValue, T: RadixNode<K, V>>(
     tree: &'a T,
     prefix: &'a [K],
 ) -> Option<(&'a [K], &'a T)>
-    ensures { IsWalk K.cmp (under K.cmp (lookup K.cmp (T.tree tree.now)) prefix.now) (pairs_from T.tree result) }
+    ensures { IsWalk K.cmp (under K.cmp (lookup K.cmp (T.tree tree.now)) prefix.now)
+        (pairs_from T.tree result) }
 {
     let mut node = tree;
     let mut used = 0;

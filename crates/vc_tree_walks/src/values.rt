@@ -14,7 +14,8 @@ use vc_tree_nodes::reading::{RadixNode, TKey, TValue};
 
 /// References to the values of a tree, in the order of their keys.
 ///
-/// A step takes no memory where the walk has been as deep before. After an `Err` the walk is at its end.
+/// A step takes no memory where the walk has been as deep before. After an `Err` the walk is at its
+/// end.
 pub struct Values<'a, K, V, T> {
     /// The tree, until the first step.
     start: Option<&'a T>,
@@ -38,7 +39,7 @@ impl<'a, K, V, T> Drop for Values<'a, K, V, T> {
 
 impl<'a, K: TKey, V: TValue, T: RadixNode<K, V>> Values<'a, K, V, T> {
     /// The values of a tree. Takes no memory.
-    pub fn new(tree: &'a T) -> Self
+    pub(crate) fn new(tree: &'a T) -> Self
         ensures { values_left T.tree result ≡ map (λ b. b.1) (walk (T.tree tree.now)) }
     {
         Values {
@@ -75,11 +76,12 @@ impl<'a, K: TKey, V: TValue + 'a, T: RadixNode<K, V>> Values<'a, K, V, T> {
         Ok(Turn::Moved)
     }
 
-    /// Goes to a tree that stands before the innermost row: to its children, if it has some, and else past it.
+    /// Goes to a tree that stands before the innermost row: to its children, if it has some, and
+    /// else past it.
     fn enter(&mut self, tree: &'a T) -> Result<(), AllocError>
-        ensures left { OnOk result
-            (rows_values (rows_before T.tree tree.now self.old)
-            ≡ own_value (T.tree tree.now).value ++ rows_values (rows_of T.tree self.new.row.now self.new.above.items)) }
+        ensures left { OnOk result (rows_values (rows_before T.tree tree.now self.old)
+            ≡ own_value (T.tree tree.now).value
+            ++ rows_values (rows_of T.tree self.new.row.now self.new.above.items)) }
         ensures work { OnOk result
             (rows_work (rows_of T.tree self.new.row.now self.new.above.items)
             < rows_work (rows_before T.tree tree.now self.old)) }

@@ -28,7 +28,8 @@ pub fn scan_prefix<'a, K: TKey, V: TValue, T: RadixNode<K, V>>(
     tree: &'a T,
     prefix: &'a [K],
 ) -> Iter<'a, K, V, T>
-    ensures { IsWalk K.cmp (under K.cmp (lookup K.cmp (T.tree tree.now)) prefix.now) (pairs_left T.tree result) }
+    ensures { IsWalk K.cmp (under K.cmp (lookup K.cmp (T.tree tree.now)) prefix.now)
+        (pairs_left T.tree result) }
 {
     Iter::new(tree.allocator(), find_under(tree, prefix))
 }

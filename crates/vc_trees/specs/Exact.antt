@@ -1,11 +1,12 @@
 -- Where clones are equal to their sources, a shared tree keeps its values as a plain one does.
 use Rattle.std.specs.Prelude.{◌≡◌, List, Option, Some, None, refl}
 use Rattle.std.specs.declared.cmp.Ordering.{Ordering}
-use Rattle.std.proofs.Common.{sym, ap, ◌∙◌}
+use Rattle.std.proofs.Common.{sym, ap, ◌∙◌, inl, inr}
 use Rattle.vc_tree_model.specs.Value.{IsKept, Copies, itself, cloned}
+use Rattle.vc_tree_model.specs.Matches.{AreCopies, HaveOneSource}
 use Rattle.vc_tree_model.specs.Tree.{Tree, node}
-use Rattle.vc_tree_model.specs.Map.{lookup, IsInserted, HaveEqualMaps}
-use Rattle.vc_tree_model.specs.Snapshot.{IsSnapshot}
+use Rattle.vc_tree_model.specs.Map.{lookup, IsEqualMap, IsInserted, HaveEqualMaps}
+use Rattle.vc_tree_model.specs.Snapshot.{IsSnapshot, same_copies}
 
 module _ {V : Type 0} (is_clone : V → V → Type 0) (exact : (v w : V) → is_clone v w → w ≡ v) where
   -- a copy is the value itself
@@ -13,7 +14,16 @@ module _ {V : Type 0} (is_clone : V → V → Type 0) (exact : (v w : V) → is_
   copies-exact itself = refl
   copies-exact (cloned {u} {v} {w} c p) = sym (exact u v c) ∙ copies-exact p
 
-  -- so what is kept as a copy is kept as it is
+  -- so are values of which one is a copy of the other
+  pub are_copies-exact : {v w : V} → AreCopies is_clone v w → v ≡ w
+  are_copies-exact (inl c) = copies-exact c
+  are_copies-exact (inr c) = sym (copies-exact c)
+
+  -- and values with one source
+  pub one_source-exact : {v w : V} → HaveOneSource is_clone v w → v ≡ w
+  one_source-exact h = sym (copies-exact h.1) ∙ copies-exact h.2
+
+  -- what is kept as a copy is kept as it is
   pub kept-exact : (v w : Option V) → IsKept (Copies is_clone) v w → IsKept (λ x y. x ≡ y) v w
   kept-exact None None h = h
   kept-exact None (Some w) h = h
@@ -33,6 +43,17 @@ module _ {V : Type 0} (is_clone : V → V → Type 0) (exact : (v w : V) → is_
     pub equal_maps-exact : (t u : Tree K V) → HaveEqualMaps cmp (Copies is_clone) t u → HaveEqualMaps cmp (λ x y. x ≡ y) t u
     equal_maps-exact t u h = λ k. kept-exact (lookup cmp t k) (lookup cmp u k) (h k)
 
+  -- maps whose values have one source are one map
+  pub maps-exact : {K : Type 0} (f g : List K → Option V) → IsEqualMap (HaveOneSource is_clone) f g
+      → IsEqualMap (λ x y. x ≡ y) f g
+  maps-exact f g h k = by (f k) (g k) (h k)
+    where
+      by : (v w : Option V) → IsKept (HaveOneSource is_clone) v w → IsKept (λ x y. x ≡ y) v w
+      by None None h = h
+      by None (Some w) h = h
+      by (Some v) None h = h
+      by (Some v) (Some w) h = one_source-exact h
+
   -- a clone of a value, if there is one, is that value
   same_value : (v w : Option V) → IsKept is_clone v w → w ≡ v
   same_value None None h = refl
@@ -46,5 +67,19 @@ module _ {V : Type 0} (is_clone : V → V → Type 0) (exact : (v w : V) → is_
       ap (λ p. node p c.value c.children) h.0 ∙ ap (λ v. node t.prefix v c.children) (same_value t.value c.value h.1)
       ∙ ap (λ f. node t.prefix t.value f) h.2
 
+module _ {V : Type 0} (is_clone : V → V → Type 0) where
+  -- what is kept as it is has one source
+  kept-one_source : (v w : Option V) → IsKept (λ x y. x ≡ y) v w → IsKept (HaveOneSource is_clone) v w
+  kept-one_source None None h = h
+  kept-one_source None (Some w) h = h
+  kept-one_source (Some v) None h = h
+  kept-one_source (Some v) (Some w) h = (v, itself, same_copies is_clone v w h)
+
+  -- the values of one map have one source
+  pub maps-one_source : {K : Type 0} (f g : List K → Option V) → IsEqualMap (λ x y. x ≡ y) f g
+      → IsEqualMap (HaveOneSource is_clone) f g
+  maps-one_source f g h k = kept-one_source (f k) (g k) (h k)
+
 -- what calls cite where clones are exact
-pub ruleset exactly = (copies-exact, kept-exact, inserted-exact, equal_maps-exact, snapshot-exact)
+pub ruleset exactly =
+    (copies-exact, are_copies-exact, one_source-exact, kept-exact, inserted-exact, equal_maps-exact, maps-exact, snapshot-exact)

@@ -5,6 +5,7 @@ ghost use Rattle.vc_trees.specs.Commanded.{command_of};
 ghost use Rattle.vc_tree_model.specs.Canonical.{IsCanonical};
 ghost use Rattle.vc_tree_model.specs.Machine.{Run, after, refused};
 ghost use Rattle.vc_tree_model.specs.Map.{lookup, IsEqualMap};
+ghost use Rattle.vc_tree_model.specs.Matches.{AreCopies};
 ghost use Rattle.vc_tree_model.specs.OneTree.{IsOneTree, IsSmallest};
 ghost use Rattle.vc_tree_model.specs.Under.{under};
 ghost use Rattle.vc_tree_model.specs.Value.{Copies};
@@ -34,7 +35,8 @@ pub enum TreeCommand<K, V, T> {
     RetainPrefix(T),
 }
 
-/// Puts the tree of the keys that start with the prefix in the tree's place. A refusal leaves the tree as it was.
+/// Puts the tree of the keys that start with the prefix in the tree's place. A refusal leaves the
+/// tree as it was.
 fn filter<K: TKey, V: TValue, T: AbstractRadixTreeMut<K, V>>(
     tree: &mut T,
     prefix: &[K],
@@ -54,9 +56,11 @@ fn obey<K: TKey, V: TValue, T: AbstractRadixTreeMut<K, V>>(
     command: TreeCommand<K, V, T>,
 ) -> Result<(), AllocError>
     ensures ok { OnOk result (IsEqualMap (Copies V.is_clone)
-        (after K.cmp (command_of T.tree command) (lookup K.cmp (T.tree tree.old))) (lookup K.cmp (T.tree tree.new))) }
+        (after K.cmp (command_of T.tree command) (lookup K.cmp (T.tree tree.old)))
+        (lookup K.cmp (T.tree tree.new))) }
     ensures err { OnErr result (IsEqualMap (Copies V.is_clone)
-        (refused K.cmp (command_of T.tree command) (lookup K.cmp (T.tree tree.old))) (lookup K.cmp (T.tree tree.new))) }
+        (refused K.cmp (command_of T.tree command) (lookup K.cmp (T.tree tree.old)))
+        (lookup K.cmp (T.tree tree.new))) }
 {
     let admit = |_: &V| -> bool
         ensures { result ≡ true }
@@ -73,22 +77,23 @@ fn obey<K: TKey, V: TValue, T: AbstractRadixTreeMut<K, V>>(
     }
 }
 
-/// Does the commands on the tree, one after another, and says of each whether it was accepted. One that is refused does not stop the
-/// run.
+/// Does the commands on the tree, one after another, and says of each whether it was accepted. One
+/// that is refused does not stop the run.
 ///
-/// A command is refused only where memory is, or the clone of a value: by an insert, a prefix or a filter the tree then binds what it
-/// bound, and by another tree it is empty. What a command brought is dropped once it was done.
+/// A command is refused only where memory is, or the clone of a value: by an insert, a prefix or a
+/// filter the tree then binds what it bound, and by another tree it is empty. What a command
+/// brought is dropped once it was done.
 pub fn run<K: TKey, V: TValue, T: AbstractRadixTreeMut<K, V>>(
     tree: &mut T,
     commands: Vec<TreeCommand<K, V, T>>,
     accepted: &mut [bool],
 )
     requires { length accepted.old ≡ length commands.items }
-    ensures steps { Run K.cmp (Copies V.is_clone) (lookup K.cmp (T.tree tree.old)) (map (command_of T.tree) commands.items) accepted.new
-        (lookup K.cmp (T.tree tree.new)) }
+    ensures steps { Run K.cmp (Copies V.is_clone) (lookup K.cmp (T.tree tree.old))
+        (map (command_of T.tree) commands.items) accepted.new (lookup K.cmp (T.tree tree.new)) }
     ensures canonical { IsCanonical K.cmp (T.tree tree.new) }
-    ensures one { IsOneTree K.cmp (Copies V.is_clone) (T.tree tree.new) }
-    ensures smallest { IsSmallest K.cmp (Copies V.is_clone) (T.tree tree.new) }
+    ensures one { IsOneTree K.cmp (AreCopies V.is_clone) (T.tree tree.new) }
+    ensures smallest { IsSmallest K.cmp (AreCopies V.is_clone) (T.tree tree.new) }
 {
     for (at, command) in commands.into_iter().enumerate() {
         accepted[at] = obey(tree, command).is_ok();

@@ -1,9 +1,10 @@
 //! Canonical radix trees: finite maps from keys, which are lists of components, to values.
 //!
-//! A node has a prefix, an optional value and children. A key is what is joined of the prefixes on the way to a node with a
-//! value. A tree is canonical: a node with neither value nor children is the empty tree, with the empty prefix; no child has an
-//! empty prefix; children ascend strictly by the first components of their prefixes; and a node without a value does not have
-//! exactly one child. So trees of equal maps have the same shape.
+//! A node has a prefix, an optional value and children. A key is what is joined of the prefixes on
+//! the way to a node with a value. A tree is canonical: a node with neither value nor children is
+//! the empty tree, with the empty prefix; no child has an empty prefix; children ascend strictly by
+//! the first components of their prefixes; and a node without a value does not have exactly one
+//! child. So trees of equal maps have the same shape.
 //!
 //! ```text
 //! let mut tree = RadixTree::single(alloc, b"abc", 1)?;

@@ -5,6 +5,7 @@ ghost use Rattle.std.specs.Option.{is_some, option_copied};
 ghost use Rattle.vc_merge.specs.Count.{digits};
 ghost use Rattle.vc_tree_model.specs.Tree.{is_bare, shortened, width};
 ghost use Rattle.vc_tree_model.specs.Asking.{MayAnswer, MayAnswerAt, CanAsk, CanAskAt};
+ghost use Rattle.vc_tree_model.specs.Canonical.{IsCanonical};
 ghost use Rattle.vc_tree_model.specs.Combine.{IsCombined, IsOuterAt, IsInnerAt, IsLeftAt};
 ghost use Rattle.vc_tree_model.specs.KeySets.{AreDisjoint, HasKeysOf, LacksKeyOf, ShareKey};
 ghost use Rattle.vc_tree_model.specs.Map.{lookup};
@@ -47,7 +48,8 @@ pub trait AbstractRadixTree<K: TKey, V: TValue>: RadixNode<K, V> {
 
     /// The value that the tree binds the key to. Takes no memory.
     ///
-    /// Compares each component of the key at most once, but for a halving search among the children of each node on the way.
+    /// Compares each component of the key at most once, but for a halving search among the children
+    /// of each node on the way.
     final fn get(&self, key: &[K]) -> Option<&V>
         ensures { option_copied result ≡ lookup K.cmp (Self.tree self.now) key.now }
     {
@@ -56,11 +58,12 @@ pub trait AbstractRadixTree<K: TKey, V: TValue>: RadixNode<K, V> {
 
     /// [`get`](AbstractRadixTree::get), where each comparison of two components counts one more.
     ///
-    /// Of a key of `l` components these are at most `l * (1 + d)`, where `d` is how many binary digits the greatest number of
-    /// children of a node has.
+    /// Of a key of `l` components these are at most `l * (1 + d)`, where `d` is how many binary
+    /// digits the greatest number of children of a node has.
     final fn get_counted(&self, key: &[K], steps: &mut Steps) -> Option<&V>
         ensures value { option_copied result ≡ lookup K.cmp (Self.tree self.now) key.now }
-        ensures counted { steps.new ≤ steps.old + length key.now * (1 + digits (width (Self.tree self.now))) }
+        ensures counted { steps.new
+            ≤ steps.old + length key.now * (1 + digits (width (Self.tree self.now))) }
     {
         descent::get(self, key, steps)
     }
@@ -99,7 +102,8 @@ pub trait AbstractRadixTree<K: TKey, V: TValue>: RadixNode<K, V> {
 
     /// All pairs of the tree, by ascending keys. Takes no memory; a step may, for its key.
     ///
-    /// A key is kept for as long as the caller wants. A walk whose keys are let go writes each into the place of the last.
+    /// A key is kept for as long as the caller wants. A walk whose keys are let go writes each into
+    /// the place of the last.
     ///
     /// ```text
     /// for item in tree.iter() {
@@ -109,40 +113,45 @@ pub trait AbstractRadixTree<K: TKey, V: TValue>: RadixNode<K, V> {
     /// ```
     final fn iter(&self) -> Iter<'_, K, V, Self>
         ensures all { pairs_left Self.tree result ≡ walk (Self.tree self.now) }
-        ensures ascending { IsWalk K.cmp (lookup K.cmp (Self.tree self.now)) (pairs_left Self.tree result) }
+        ensures ascending { IsWalk K.cmp (lookup K.cmp (Self.tree self.now))
+            (pairs_left Self.tree result) }
     {
         walks::iter(self)
     }
 
-    /// The pairs of the tree whose keys start with the prefix, by ascending keys, each with its whole key. Takes no memory; a step
-    /// may, for its key.
+    /// The pairs of the tree whose keys start with the prefix, by ascending keys, each with its
+    /// whole key. Takes no memory; a step may, for its key.
     ///
     /// Goes down to the node below which these keys stand, as `get` does.
     final fn scan_prefix<'a>(&'a self, prefix: &'a [K]) -> Iter<'a, K, V, Self>
-        ensures { IsWalk K.cmp (under K.cmp (lookup K.cmp (Self.tree self.now)) prefix.now) (pairs_left Self.tree result) }
+        ensures { IsWalk K.cmp (under K.cmp (lookup K.cmp (Self.tree self.now)) prefix.now)
+            (pairs_left Self.tree result) }
     {
         walks::scan_prefix(self, prefix)
     }
 
-    /// The values of the tree, in the order of their keys, which is that of `iter`. Takes no memory; a step may, for its way back.
+    /// The values of the tree, in the order of their keys, which is that of `iter`. Takes no
+    /// memory; a step may, for its way back.
     final fn values(&self) -> Values<'_, K, V, Self>
         ensures { values_left Self.tree result ≡ map (λ b. b.1) (walk (Self.tree self.now)) }
     {
         walks::values(self)
     }
 
-    /// All pairs of the tree, by ascending keys, each with a clone of its value. The iterator holds the tree, and drops it. Takes no
-    /// memory; a step may, for its key and for the clone.
+    /// All pairs of the tree, by ascending keys, each with a clone of its value. The iterator holds
+    /// the tree, and drops it. Takes no memory; a step may, for its key and for the clone.
     final fn into_iter(self) -> ObjAndIter<K, V, Self>
     where
         Self: Drop,
         ensures all { held_left Self.tree result ≡ walk (Self.tree self) }
-        ensures ascending { IsWalk K.cmp (lookup K.cmp (Self.tree self)) (held_left Self.tree result) }
+        ensures ascending { IsWalk K.cmp (lookup K.cmp (Self.tree self))
+            (held_left Self.tree result) }
     {
         walks::into_iter(self)
     }
 
-    /// The tree with the first `n` components off every key: a fresh one, of any flavour, with clones of the values.
+    /// The tree with the first `n` components off every key: a fresh one, of any flavour, with
+    /// clones of the values.
     ///
     /// Fails only where memory is refused, or the clone of a value.
     final fn materialize_shortened<M: AbstractRadixTreeMut<K, V>>(
@@ -150,31 +159,38 @@ pub trait AbstractRadixTree<K: TKey, V: TValue>: RadixNode<K, V> {
         n: usize,
     ) -> Result<M, AllocError>
         requires { n < length (Self.tree self.now).prefix }
-        ensures alike { IfOk result (λ made. IsAlike V.is_clone (shortened n (Self.tree self.now)) (M.tree made)) }
-        ensures map { IfOk result (λ made. IsShortened K.cmp V.is_clone n (Self.tree self.now) (M.tree made)) }
+        ensures alike { IfOk result
+            (λ made. IsAlike V.is_clone (shortened n (Self.tree self.now)) (M.tree made)) }
+        ensures map { IfOk result
+            (λ made. IsShortened K.cmp V.is_clone n (Self.tree self.now) (M.tree made)) }
+        ensures canonical { IfOk result (λ made. IsCanonical K.cmp (M.tree made)) }
     {
         combines::materialize_shortened(self, n)
     }
 
-    /// A fresh tree of the keys of both: a key of one side alone has a clone of its value, and a shared key what the closure
-    /// answers, `None` for a key that is not to be there. Both trees stay as they were.
+    /// A fresh tree of the keys of both: a key of one side alone has a clone of its value, and a
+    /// shared key what the closure answers, `None` for a key that is not to be there. Both trees
+    /// stay as they were.
     ///
-    /// Fails only where memory is refused, the clone of a value, or a call of the closure. At most three comparisons of components
-    /// for each node and each component of a prefix of both trees.
+    /// Fails only where memory is refused, the clone of a value, or a call of the closure. At most
+    /// three comparisons of components for each node and each component of a prefix of both trees.
     final fn outer_combine<
         M: AbstractRadixTreeMut<K, V>,
         S: AbstractRadixTree<K, V>,
         F: Fn(&V, &V) -> Result<Option<V>, AllocError>,
     >(&self, that: &S, f: F) -> Result<M, AllocError>
-        requires { (k : List K) → CanAsk F.Fn f (lookup K.cmp (Self.tree self.now) k) (lookup K.cmp (S.tree that.now) k) }
-        ensures { IfOk result (λ made.
-            IsCombined K.cmp (IsOuterAt V.is_clone V.is_clone (λ v w z. MayAnswer F.Fn f v w (Ok z)))
+        requires { (k : List K) → CanAsk F.Fn f (lookup K.cmp (Self.tree self.now) k)
+            (lookup K.cmp (S.tree that.now) k) }
+        ensures made { IfOk result (λ made. IsCombined K.cmp
+            (IsOuterAt V.is_clone V.is_clone (λ v w z. MayAnswer F.Fn f v w (Ok z)))
             (Self.tree self.now) (S.tree that.now) (M.tree made)) }
+        ensures canonical { IfOk result (λ made. IsCanonical K.cmp (M.tree made)) }
     {
         combines::outer_combine(self, that, &f, &mut Uncounted)
     }
 
-    /// [`outer_combine`](AbstractRadixTree::outer_combine), where each comparison of two components counts one more.
+    /// [`outer_combine`](AbstractRadixTree::outer_combine), where each comparison of two components
+    /// counts one more.
     ///
     /// These are at most three for each node and each component of a prefix of both trees.
     final fn outer_combine_counted<
@@ -182,17 +198,20 @@ pub trait AbstractRadixTree<K: TKey, V: TValue>: RadixNode<K, V> {
         S: AbstractRadixTree<K, V>,
         F: Fn(&V, &V) -> Result<Option<V>, AllocError>,
     >(&self, that: &S, f: F, steps: &mut Steps) -> Result<M, AllocError>
-        requires { (k : List K) → CanAsk F.Fn f (lookup K.cmp (Self.tree self.now) k) (lookup K.cmp (S.tree that.now) k) }
-        ensures made { IfOk result (λ made.
-            IsCombined K.cmp (IsOuterAt V.is_clone V.is_clone (λ v w z. MayAnswer F.Fn f v w (Ok z)))
+        requires { (k : List K) → CanAsk F.Fn f (lookup K.cmp (Self.tree self.now) k)
+            (lookup K.cmp (S.tree that.now) k) }
+        ensures made { IfOk result (λ made. IsCombined K.cmp
+            (IsOuterAt V.is_clone V.is_clone (λ v w z. MayAnswer F.Fn f v w (Ok z)))
             (Self.tree self.now) (S.tree that.now) (M.tree made)) }
-        ensures counted { steps.new ≤ steps.old + 3 * (weight (Self.tree self.now) + weight (S.tree that.now)) }
+        ensures canonical { IfOk result (λ made. IsCanonical K.cmp (M.tree made)) }
+        ensures counted { steps.new
+            ≤ steps.old + 3 * (weight (Self.tree self.now) + weight (S.tree that.now)) }
     {
         combines::outer_combine(self, that, &f, steps)
     }
 
-    /// A fresh tree of the keys that both bind, with what the closure answers, `None` for a key that is not to be there. Both trees
-    /// stay as they were.
+    /// A fresh tree of the keys that both bind, with what the closure answers, `None` for a key
+    /// that is not to be there. Both trees stay as they were.
     ///
     /// Fails only where memory is refused, or a call of the closure.
     final fn inner_combine<
@@ -201,15 +220,19 @@ pub trait AbstractRadixTree<K: TKey, V: TValue>: RadixNode<K, V> {
         S: AbstractRadixTree<K, W>,
         F: Fn(&V, &W) -> Result<Option<V>, AllocError>,
     >(&self, that: &S, f: F) -> Result<M, AllocError>
-        requires { (k : List K) → CanAsk F.Fn f (lookup K.cmp (Self.tree self.now) k) (lookup K.cmp (S.tree that.now) k) }
-        ensures { IfOk result (λ made. IsCombined K.cmp (IsInnerAt (λ v w z. MayAnswer F.Fn f v w (Ok z)))
+        requires { (k : List K) → CanAsk F.Fn f (lookup K.cmp (Self.tree self.now) k)
+            (lookup K.cmp (S.tree that.now) k) }
+        ensures made { IfOk result (λ made.
+            IsCombined K.cmp (IsInnerAt (λ v w z. MayAnswer F.Fn f v w (Ok z)))
             (Self.tree self.now) (S.tree that.now) (M.tree made)) }
+        ensures canonical { IfOk result (λ made. IsCanonical K.cmp (M.tree made)) }
     {
         combines::inner_combine(self, that, &f)
     }
 
-    /// A fresh tree of keys of this tree: each has what the closure answers of its value and of what that tree binds there, if
-    /// anything, and `None` is for a key that is not to be there. Both trees stay as they were.
+    /// A fresh tree of keys of this tree: each has what the closure answers of its value and of
+    /// what that tree binds there, if anything, and `None` is for a key that is not to be there.
+    /// Both trees stay as they were.
     ///
     /// Fails only where memory is refused, or a call of the closure.
     ///
@@ -223,9 +246,12 @@ pub trait AbstractRadixTree<K: TKey, V: TValue>: RadixNode<K, V> {
         S: AbstractRadixTree<K, W>,
         F: Fn(&V, Option<&W>) -> Result<Option<V>, AllocError>,
     >(&self, that: &S, f: F) -> Result<M, AllocError>
-        requires { (k : List K) → CanAskAt F.Fn f (lookup K.cmp (Self.tree self.now) k) (lookup K.cmp (S.tree that.now) k) }
-        ensures { IfOk result (λ made. IsCombined K.cmp (IsLeftAt (λ v w z. MayAnswerAt F.Fn f v w (Ok z)))
+        requires { (k : List K) → CanAskAt F.Fn f (lookup K.cmp (Self.tree self.now) k)
+            (lookup K.cmp (S.tree that.now) k) }
+        ensures made { IfOk result (λ made.
+            IsCombined K.cmp (IsLeftAt (λ v w z. MayAnswerAt F.Fn f v w (Ok z)))
             (Self.tree self.now) (S.tree that.now) (M.tree made)) }
+        ensures canonical { IfOk result (λ made. IsCanonical K.cmp (M.tree made)) }
     {
         left::left_combine(self, that, &f)
     }

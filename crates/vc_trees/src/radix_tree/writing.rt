@@ -26,116 +26,141 @@ use vc_tree_walks::filtering;
 
 /// A radix tree to be made and changed: the two flavours, and no other type.
 ///
-/// A clause says by `keeps` how a value that a call leaves in place is kept. In a [`RadixTree`] it is the old value itself. In
-/// an [`ArcRadixTree`] it is the old value, or a clone of it over any number of clones, since shared children are copied before
-/// they are written.
+/// A clause says by `keeps` how a value that a call leaves in place is kept. In a [`RadixTree`] it
+/// is the old value itself. In an [`ArcRadixTree`] it is the old value, or a clone of it over any
+/// number of clones, since shared children are copied before they are written.
 pub trait AbstractRadixTreeMut<K: TKey, V: TValue>: CloneTree<K, V> + AbstractRadixTree<K, V> {
     /// The empty tree. Takes no memory.
     final fn empty(alloc: Global) -> Self
-        ensures { Self.tree result ≡ no_tree }
+        ensures is { Self.tree result ≡ no_tree }
+        ensures canonical { IsCanonical K.cmp (Self.tree result) }
     {
         Self::blank(alloc, Seal::new())
     }
 
     /// The tree that binds the empty key alone. Takes no memory.
     final fn leaf(alloc: Global, value: V) -> Self
-        ensures { Self.tree result ≡ made [] (Some value) [] }
+        ensures is { Self.tree result ≡ made [] (Some value) [] }
+        ensures canonical { IsCanonical K.cmp (Self.tree result) }
     {
         insertion::leaf(alloc, value)
     }
 
     /// The tree that binds this key alone.
     ///
-    /// Takes no memory for a key of at most 16 components. Fails only where memory is refused for a longer one; the value is then
-    /// dropped.
+    /// Takes no memory for a key of at most 16 components. Fails only where memory is refused for a
+    /// longer one; the value is then dropped.
     final fn single(alloc: Global, key: &[K], value: V) -> Result<Self, AllocError>
         ensures is { IfOk result (λ one. Self.tree one ≡ made key.now (Some value) []) }
         ensures short { length key.now ≤ 16 → IsOk result }
+        ensures canonical { IfOk result (λ one. IsCanonical K.cmp (Self.tree one)) }
     {
         insertion::single(alloc, key, value)
     }
 
-    /// Binds the key to the value, in the place of the value that it had. The other keys keep their values.
+    /// Binds the key to the value, in the place of the value that it had. The other keys keep their
+    /// values.
     ///
-    /// Fails only where memory is refused, for a prefix, for children or for the copy of shared children, or where the clone of
-    /// a value of those is refused; the tree then has the nodes that it had, and binds what it bound. The value that was handed
-    /// in is dropped.
+    /// Fails only where memory is refused, for a prefix, for children or for the copy of shared
+    /// children, or where the clone of a value of those is refused; the tree then has the nodes
+    /// that it had, and binds what it bound. The value that was handed in is dropped.
     ///
-    /// Compares each component of the key at most once, but for a halving search among the children of each node on the way.
+    /// Compares each component of the key at most once, but for a halving search among the children
+    /// of each node on the way.
     final fn insert(&mut self, key: &[K], value: V) -> Result<(), AllocError>
-        ensures ok { OnOk result (IsInserted K.cmp Self.keeps key.now value (Self.tree self.old) (Self.tree self.new)) }
+        ensures ok { OnOk result
+            (IsInserted K.cmp Self.keeps key.now value (Self.tree self.old) (Self.tree self.new)) }
         ensures binds { OnOk result (lookup K.cmp (Self.tree self.new) key.now ≡ Some value) }
-        ensures err { OnErr result (HaveEqualMaps K.cmp Self.keeps (Self.tree self.old) (Self.tree self.new)) }
-        ensures err_nodes { OnErr result (IsAlike Self.keeps (Self.tree self.old) (Self.tree self.new)) }
+        ensures err { OnErr result
+            (HaveEqualMaps K.cmp Self.keeps (Self.tree self.old) (Self.tree self.new)) }
+        ensures err_nodes { OnErr result
+            (IsAlike Self.keeps (Self.tree self.old) (Self.tree self.new)) }
         ensures canonical { IsCanonical K.cmp (Self.tree self.new) }
     {
         insertion::insert(self, key, value)
     }
 
-    /// A fresh tree of the keys that start with the prefix, whole, with copies of their values; the empty tree where no key does. This
-    /// tree stays as it was.
+    /// A fresh tree of the keys that start with the prefix, whole, with copies of their values; the
+    /// empty tree where no key does. This tree stays as it was.
     ///
-    /// Goes down to the node below which these keys stand, as `get` does, and copies it: in an [`ArcRadixTree`] what is below the
-    /// node is shared. Fails only where memory is refused, or the clone of a value.
+    /// Goes down to the node below which these keys stand, as `get` does, and copies it: in an
+    /// [`ArcRadixTree`] what is below the node is shared. Fails only where memory is refused, or
+    /// the clone of a value.
     final fn filter_prefix(&self, prefix: &[K]) -> Result<Self, AllocError>
-        ensures { IfOk result (λ made. IsEqualMap (Copies V.is_clone)
-            (under K.cmp (lookup K.cmp (Self.tree self.now)) prefix.now) (lookup K.cmp (Self.tree made))) }
+        ensures made { IfOk result (λ made. IsEqualMap (Copies V.is_clone)
+            (under K.cmp (lookup K.cmp (Self.tree self.now)) prefix.now)
+            (lookup K.cmp (Self.tree made))) }
+        ensures canonical { IfOk result (λ made. IsCanonical K.cmp (Self.tree made)) }
     {
         filtering::filter_prefix(self, prefix)
     }
 
-    /// A fresh tree of the keys of both, the shared ones with a copy of the left value. Both trees stay as they were.
+    /// A fresh tree of the keys of both, the shared ones with a copy of the left value. Both trees
+    /// stay as they were.
     ///
     /// Fails only where memory is refused, or the clone of a value.
     final fn union<S: AbstractRadixTree<K, V>>(&self, that: &S) -> Result<Self, AllocError>
-        ensures { IfOk result (λ made. IsCombined K.cmp (IsUnionAt (Copies V.is_clone) V.is_clone)
+        ensures made { IfOk result (λ made.
+            IsCombined K.cmp (IsUnionAt (Copies V.is_clone) V.is_clone)
             (Self.tree self.now) (S.tree that.now) (Self.tree made)) }
+        ensures canonical { IfOk result (λ made. IsCanonical K.cmp (Self.tree made)) }
     {
         combines::union(self, that)
     }
 
-    /// A fresh tree of the keys that both bind, with copies of the left values. Both trees stay as they were.
+    /// A fresh tree of the keys that both bind, with copies of the left values. Both trees stay as
+    /// they were.
     ///
     /// Fails only where memory is refused, or the clone of a value.
     final fn intersection<W: TValue, S: AbstractRadixTree<K, W>>(
         &self,
         that: &S,
     ) -> Result<Self, AllocError>
-        ensures { IfOk result (λ made. IsCombined K.cmp (IsIntersectionAt (Copies V.is_clone))
+        ensures made { IfOk result (λ made.
+            IsCombined K.cmp (IsIntersectionAt (Copies V.is_clone))
             (Self.tree self.now) (S.tree that.now) (Self.tree made)) }
+        ensures canonical { IfOk result (λ made. IsCanonical K.cmp (Self.tree made)) }
     {
         combines::intersection(self, that)
     }
 
-    /// A fresh tree of the keys that this tree alone binds, with copies of its values. Both trees stay as they were.
+    /// A fresh tree of the keys that this tree alone binds, with copies of its values. Both trees
+    /// stay as they were.
     ///
     /// Fails only where memory is refused, or the clone of a value.
     final fn difference<W: TValue, S: AbstractRadixTree<K, W>>(
         &self,
         that: &S,
     ) -> Result<Self, AllocError>
-        ensures { IfOk result (λ made. IsCombined K.cmp (IsDifferenceAt (Copies V.is_clone))
+        ensures made { IfOk result (λ made.
+            IsCombined K.cmp (IsDifferenceAt (Copies V.is_clone))
             (Self.tree self.now) (S.tree that.now) (Self.tree made)) }
+        ensures canonical { IfOk result (λ made. IsCanonical K.cmp (Self.tree made)) }
     {
         combines::difference(self, that)
     }
 
-    /// Puts these components before each key. The empty tree stays empty, and no value or child is touched.
+    /// Puts these components before each key. The empty tree stays empty, and no value or child is
+    /// touched.
     ///
-    /// Fails only where memory is refused for a prefix of more than 16 components; the tree is then as it was.
+    /// Fails only where memory is refused for a prefix of more than 16 components; the tree is then
+    /// as it was.
     final fn prepend(&mut self, prefix: &[K]) -> Result<(), AllocError>
         ensures ok { OnOk result ((k : List K)
-            → lookup K.cmp (Self.tree self.new) k ≡ prefixed K.cmp (lookup K.cmp (Self.tree self.old)) prefix.now k) }
+            → lookup K.cmp (Self.tree self.new) k
+            ≡ prefixed K.cmp (lookup K.cmp (Self.tree self.old)) prefix.now k) }
         ensures err { OnErr result (Self.tree self.new ≡ Self.tree self.old) }
         ensures canonical { IsCanonical K.cmp (Self.tree self.new) }
     {
         prepending::prepend(self, prefix)
     }
 
-    /// Adds the keys that the other tree alone binds, with clones of its values. The values of this tree stay in place.
+    /// Adds the keys that the other tree alone binds, with clones of its values. The values of this
+    /// tree stay in place.
     ///
-    /// Fails only where memory is refused, for a prefix of more than 16 components, for lists of children that are built anew, or for
-    /// the copy of shared children, or the clone of a value; the tree is then empty.
+    /// Fails only where memory is refused, for a prefix of more than 16 components, for lists of
+    /// children that are built anew, or for the copy of shared children, or the clone of a value;
+    /// the tree is then empty.
     final fn union_with<S: AbstractRadixTree<K, V>>(&mut self, that: &S) -> Result<(), AllocError>
         ensures ok { OnOk result (IsCombined K.cmp (IsUnionAt Self.keeps V.is_clone)
             (Self.tree self.old) (S.tree that.now) (Self.tree self.new)) }
@@ -147,9 +172,11 @@ pub trait AbstractRadixTreeMut<K: TKey, V: TValue>: CloneTree<K, V> + AbstractRa
 
     /// Keeps the keys that both bind. Their values stay in place.
     ///
-    /// Children that stay do so in their own list. Memory is asked for only where a prefix of more than 16 components is cut or joined,
-    /// where more than 32 children are told apart at one place, and in the shared flavour once for each node on the way that keeps
-    /// children, and for the copy of those that another tree holds too. Fails only where it is refused; the tree is then empty.
+    /// Children that stay do so in their own list. Memory is asked for only where a prefix of more
+    /// than 16 components is cut or joined, where more than 32 children are told apart at one
+    /// place, and in the shared flavour once for each node on the way that keeps children, and for
+    /// the copy of those that another tree holds too. Fails only where it is refused; the tree is
+    /// then empty.
     final fn intersection_with<W: TValue, S: AbstractRadixTree<K, W>>(
         &mut self,
         that: &S,
@@ -164,9 +191,11 @@ pub trait AbstractRadixTreeMut<K: TKey, V: TValue>: CloneTree<K, V> + AbstractRa
 
     /// Keeps the keys that this tree alone binds. Their values stay in place.
     ///
-    /// Children that stay do so in their own list. Memory is asked for only where a prefix of more than 16 components is cut or joined,
-    /// where more than 32 children are told apart at one place, and in the shared flavour once for each node on the way that keeps
-    /// children, and for the copy of those that another tree holds too. Fails only where it is refused; the tree is then empty.
+    /// Children that stay do so in their own list. Memory is asked for only where a prefix of more
+    /// than 16 components is cut or joined, where more than 32 children are told apart at one
+    /// place, and in the shared flavour once for each node on the way that keeps children, and for
+    /// the copy of those that another tree holds too. Fails only where it is refused; the tree is
+    /// then empty.
     final fn difference_with<W: TValue, S: AbstractRadixTree<K, W>>(
         &mut self,
         that: &S,
@@ -179,19 +208,22 @@ pub trait AbstractRadixTreeMut<K: TKey, V: TValue>: CloneTree<K, V> + AbstractRa
         combining::difference_with(self, that)
     }
 
-    /// Adds the keys that the other tree alone binds, with clones of its values; those of this tree alone keep their values, and of the
-    /// keys of both those stay at which the closure answers true. It is handed this tree's value itself, which it may write to, and
-    /// the other one's.
+    /// Adds the keys that the other tree alone binds, with clones of its values; those of this tree
+    /// alone keep their values, and of the keys of both those stay at which the closure answers
+    /// true. It is handed this tree's value itself, which it may write to, and the other one's.
     ///
-    /// Fails only where memory is refused, for a prefix of more than 16 components, for lists of children that are built anew, or for
-    /// the copy of shared children, or the clone of a value; the tree is then empty.
+    /// Fails only where memory is refused, for a prefix of more than 16 components, for lists of
+    /// children that are built anew, or for the copy of shared children, or the clone of a value;
+    /// the tree is then empty.
     final fn outer_combine_with<S: AbstractRadixTree<K, V>, F: Fn(&mut V, &V) -> bool>(
         &mut self,
         that: &S,
         f: F,
     ) -> Result<(), AllocError>
-        requires { (k : List K) → CanMeet Self.keeps (CanLeave F.Fn f) (lookup K.cmp (Self.tree self.old) k) (lookup K.cmp (S.tree that.now) k) }
-        ensures ok { OnOk result (IsCombined K.cmp (IsOuterAt Self.keeps V.is_clone (KeptThen Self.keeps (MayLeave F.Fn f)))
+        requires { (k : List K) → CanMeet Self.keeps (CanLeave F.Fn f)
+            (lookup K.cmp (Self.tree self.old) k) (lookup K.cmp (S.tree that.now) k) }
+        ensures ok { OnOk result (IsCombined K.cmp
+            (IsOuterAt Self.keeps V.is_clone (KeptThen Self.keeps (MayLeave F.Fn f)))
             (Self.tree self.old) (S.tree that.now) (Self.tree self.new)) }
         ensures err { OnErr result (Self.tree self.new ≡ no_tree) }
         ensures canonical { IsCanonical K.cmp (Self.tree self.new) }
@@ -199,39 +231,48 @@ pub trait AbstractRadixTreeMut<K: TKey, V: TValue>: CloneTree<K, V> + AbstractRa
         combining::outer_combine_with(self, that, &f)
     }
 
-    /// Keeps the keys that both bind and at which the closure answers true. It is handed this tree's value itself, which it may write
-    /// to, and the other one's.
+    /// Keeps the keys that both bind and at which the closure answers true. It is handed this
+    /// tree's value itself, which it may write to, and the other one's.
     ///
-    /// Children that stay do so in their own list. Memory is asked for only where a prefix of more than 16 components is cut or joined,
-    /// where more than 32 children are told apart at one place, and in the shared flavour once for each node on the way that keeps
-    /// children, and for the copy of those that another tree holds too. Fails only where it is refused; the tree is then empty.
+    /// Children that stay do so in their own list. Memory is asked for only where a prefix of more
+    /// than 16 components is cut or joined, where more than 32 children are told apart at one
+    /// place, and in the shared flavour once for each node on the way that keeps children, and for
+    /// the copy of those that another tree holds too. Fails only where it is refused; the tree is
+    /// then empty.
     final fn inner_combine_with<W: TValue, S: AbstractRadixTree<K, W>, F: Fn(&mut V, &W) -> bool>(
         &mut self,
         that: &S,
         f: F,
     ) -> Result<(), AllocError>
-        requires { (k : List K) → CanMeet Self.keeps (CanLeave F.Fn f) (lookup K.cmp (Self.tree self.old) k) (lookup K.cmp (S.tree that.now) k) }
-        ensures ok { OnOk result (IsCombined K.cmp (IsInnerAt (KeptThen Self.keeps (MayLeave F.Fn f)))
-            (Self.tree self.old) (S.tree that.now) (Self.tree self.new)) }
+        requires { (k : List K) → CanMeet Self.keeps (CanLeave F.Fn f)
+            (lookup K.cmp (Self.tree self.old) k) (lookup K.cmp (S.tree that.now) k) }
+        ensures ok { OnOk result (IsCombined K.cmp
+            (IsInnerAt (KeptThen Self.keeps (MayLeave F.Fn f))) (Self.tree self.old)
+            (S.tree that.now) (Self.tree self.new)) }
         ensures err { OnErr result (Self.tree self.new ≡ no_tree) }
         ensures canonical { IsCanonical K.cmp (Self.tree self.new) }
     {
         combining::inner_combine_with(self, that, &f)
     }
 
-    /// Keeps the keys that this tree alone binds, with their values, and those of both at which the closure answers true. It is handed
-    /// this tree's value itself, which it may write to, and the other one's.
+    /// Keeps the keys that this tree alone binds, with their values, and those of both at which the
+    /// closure answers true. It is handed this tree's value itself, which it may write to, and the
+    /// other one's.
     ///
-    /// Children that stay do so in their own list. Memory is asked for only where a prefix of more than 16 components is cut or joined,
-    /// where more than 32 children are told apart at one place, and in the shared flavour once for each node on the way that keeps
-    /// children, and for the copy of those that another tree holds too. Fails only where it is refused; the tree is then empty.
+    /// Children that stay do so in their own list. Memory is asked for only where a prefix of more
+    /// than 16 components is cut or joined, where more than 32 children are told apart at one
+    /// place, and in the shared flavour once for each node on the way that keeps children, and for
+    /// the copy of those that another tree holds too. Fails only where it is refused; the tree is
+    /// then empty.
     final fn left_combine_with<W: TValue, S: AbstractRadixTree<K, W>, F: Fn(&mut V, &W) -> bool>(
         &mut self,
         that: &S,
         f: F,
     ) -> Result<(), AllocError>
-        requires { (k : List K) → CanMeet Self.keeps (CanLeave F.Fn f) (lookup K.cmp (Self.tree self.old) k) (lookup K.cmp (S.tree that.now) k) }
-        ensures ok { OnOk result (IsCombined K.cmp (IsLeftAt (OrStays Self.keeps (KeptThen Self.keeps (MayLeave F.Fn f))))
+        requires { (k : List K) → CanMeet Self.keeps (CanLeave F.Fn f)
+            (lookup K.cmp (Self.tree self.old) k) (lookup K.cmp (S.tree that.now) k) }
+        ensures ok { OnOk result (IsCombined K.cmp
+            (IsLeftAt (OrStays Self.keeps (KeptThen Self.keeps (MayLeave F.Fn f))))
             (Self.tree self.old) (S.tree that.now) (Self.tree self.new)) }
         ensures err { OnErr result (Self.tree self.new ≡ no_tree) }
         ensures canonical { IsCanonical K.cmp (Self.tree self.new) }
@@ -239,40 +280,48 @@ pub trait AbstractRadixTreeMut<K: TKey, V: TValue>: CloneTree<K, V> + AbstractRa
         combining::left_combine_with(self, that, &f)
     }
 
-    /// Removes the keys that the other tree covers: of its keys that are prefixes of a key the longest decides, by what the closure
-    /// answers of its value. A key is a prefix of itself. The other values stay in place.
+    /// Removes the keys that the other tree covers: of its keys that are prefixes of a key the
+    /// longest decides, by what the closure answers of its value. A key is a prefix of itself. The
+    /// other values stay in place.
     ///
-    /// Children that stay do so in their own list. Memory is asked for only where a prefix of more than 16 components is cut or joined,
-    /// where more than 32 children are told apart at one place, and in the shared flavour once for each node on the way that keeps
-    /// children, and for the copy of those that another tree holds too. Fails only where it is refused; the tree is then empty.
+    /// Children that stay do so in their own list. Memory is asked for only where a prefix of more
+    /// than 16 components is cut or joined, where more than 32 children are told apart at one
+    /// place, and in the shared flavour once for each node on the way that keeps children, and for
+    /// the copy of those that another tree holds too. Fails only where it is refused; the tree is
+    /// then empty.
     final fn remove_prefix_with<W: TValue, S: AbstractRadixTree<K, W>, F: Fn(&W) -> bool>(
         &mut self,
         that: &S,
         f: F,
     ) -> Result<(), AllocError>
         requires { (k : List K) → CanJudge F.Fn f (lookup K.cmp (S.tree that.now) k) }
-        ensures ok { OnOk result (IsRemoved Self.keeps (MayJudge F.Fn f) (lookup K.cmp (S.tree that.now))
-            (lookup K.cmp (Self.tree self.old)) (lookup K.cmp (Self.tree self.new))) }
+        ensures ok { OnOk result (IsRemoved Self.keeps (MayJudge F.Fn f)
+            (lookup K.cmp (S.tree that.now)) (lookup K.cmp (Self.tree self.old))
+            (lookup K.cmp (Self.tree self.new))) }
         ensures err { OnErr result (Self.tree self.new ≡ no_tree) }
         ensures canonical { IsCanonical K.cmp (Self.tree self.new) }
     {
         combining::remove_prefix_with(self, that, &f)
     }
 
-    /// Keeps exactly the keys that the other tree covers: of its keys that are prefixes of a key the longest decides, by what the
-    /// closure answers of its value. A key is a prefix of itself. Values that stay do so in place.
+    /// Keeps exactly the keys that the other tree covers: of its keys that are prefixes of a key
+    /// the longest decides, by what the closure answers of its value. A key is a prefix of itself.
+    /// Values that stay do so in place.
     ///
-    /// Children that stay do so in their own list. Memory is asked for only where a prefix of more than 16 components is cut or joined,
-    /// where more than 32 children are told apart at one place, and in the shared flavour once for each node on the way that keeps
-    /// children, and for the copy of those that another tree holds too. Fails only where it is refused; the tree is then empty.
+    /// Children that stay do so in their own list. Memory is asked for only where a prefix of more
+    /// than 16 components is cut or joined, where more than 32 children are told apart at one
+    /// place, and in the shared flavour once for each node on the way that keeps children, and for
+    /// the copy of those that another tree holds too. Fails only where it is refused; the tree is
+    /// then empty.
     final fn retain_prefix_with<W: TValue, S: AbstractRadixTree<K, W>, F: Fn(&W) -> bool>(
         &mut self,
         that: &S,
         f: F,
     ) -> Result<(), AllocError>
         requires { (k : List K) → CanJudge F.Fn f (lookup K.cmp (S.tree that.now) k) }
-        ensures ok { OnOk result (IsRetained Self.keeps (MayJudge F.Fn f) (lookup K.cmp (S.tree that.now))
-            (lookup K.cmp (Self.tree self.old)) (lookup K.cmp (Self.tree self.new))) }
+        ensures ok { OnOk result (IsRetained Self.keeps (MayJudge F.Fn f)
+            (lookup K.cmp (S.tree that.now)) (lookup K.cmp (Self.tree self.old))
+            (lookup K.cmp (Self.tree self.new))) }
         ensures err { OnErr result (Self.tree self.new ≡ no_tree) }
         ensures canonical { IsCanonical K.cmp (Self.tree self.new) }
     {

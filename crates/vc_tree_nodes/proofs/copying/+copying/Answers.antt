@@ -10,8 +10,8 @@ use Rattle.vc_tree_nodes.proofs.Events.{low-from}
 use Rattle.vc_tree_nodes.proofs.Finding.{child-nodes}
 use Rattle.vc_tree_nodes.proofs.copying.+copying.Goals as goal
 
-pub copy_shortened-assemble-requires : goal.copy_shortened-assemble-requires
-copy_shortened-assemble-requires g t c =
+pub copy_shortened-assemble-copy-requires : goal.copy_shortened-assemble-copy-requires
+copy_shortened-assemble-copy-requires g t c =
     let tree = g.S.RadixNode.tree c.args.tree.now in
     let made = g.T.Prefix.Fragment.items c.in_ok-prefix.prefix in
     let copies = seen g.T.RadixNode.tree (listed g.T.Children.ChildList.items c.in_ok-children.children) in

@@ -79,7 +79,8 @@ loop-here-preserved g c =
     c.in-Behind.ensures.is t.back begins below in
     let front : take (used + here) prefix ≡ c.split_at.result.0.now ++ take whole c.split_at.result.1.now =
     take-add used here prefix
-    ∙ ap (λ l. l ++ take here (drop used prefix)) (sym s.front) ∙ ap (λ l. c.split_at.result.0.now ++ take here l) (sym s.back) ∙ ap (λ n. c.split_at.result.0.now ++ take n c.split_at.result.1.now) t.front_len in
+    ∙ ap (λ l. l ++ take here (drop used prefix)) (sym s.front) ∙ ap (λ l. c.split_at.result.0.now ++ take here l) (sym s.back)
+    ∙ ap (λ n. c.split_at.result.0.now ++ take n c.split_at.result.1.now) t.front_len in
     let rest : drop (used + here) prefix ≡ left =
     sym (drop-drop here used prefix) ∙ ap (drop here) (sym s.back) ∙ ap (λ n. drop n c.split_at.result.1.now) t.front_len ∙ sym t.back in
     record {

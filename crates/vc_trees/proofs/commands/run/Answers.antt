@@ -7,6 +7,7 @@ use Rattle.vc_tree_model.specs.Map.{lookup}
 use Rattle.vc_tree_model.proofs.Uniqueness.{canonical-one}
 use Rattle.vc_tree_model.proofs.Smallness.{canonical-smallest}
 use Rattle.vc_tree_model.specs.Snapshot.{kept_itself}
+use Rattle.vc_tree_model.specs.Matches.{AreCopies}
 use Rattle.vc_tree_model.specs.Value.{Copies, itself}
 use Rattle.vc_trees.proofs.Chaining.{stepped, leads-turn, leads-through}
 use Rattle.vc_trees.specs.Commanded.{command_of}
@@ -47,10 +48,10 @@ returns-clause-steps g c =
 
 pub returns-clause-one : goal.returns-clause-one
 returns-clause-one g c =
-    canonical-one g.K.Ord.cmp g.met.K.Ord.total (Copies g.V.Clone.is_clone) (g.T.RadixNode.tree c.loop-at.tree)
+    canonical-one g.K.Ord.cmp g.met.K.Ord.total (AreCopies g.V.Clone.is_clone) (g.T.RadixNode.tree c.loop-at.tree)
     c.canonical.ensures
 
 pub returns-clause-smallest : goal.returns-clause-smallest
 returns-clause-smallest g c =
-    canonical-smallest g.K.Ord.cmp (Copies g.V.Clone.is_clone) g.met.K.Ord.total (g.T.RadixNode.tree c.loop-at.tree)
+    canonical-smallest g.K.Ord.cmp (AreCopies g.V.Clone.is_clone) g.met.K.Ord.total (g.T.RadixNode.tree c.loop-at.tree)
     c.canonical.ensures

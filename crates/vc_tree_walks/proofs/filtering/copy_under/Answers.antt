@@ -6,7 +6,7 @@ use Rattle.vc_tree_model.specs.Value.{Copies}
 use Rattle.vc_tree_model.specs.Walk.{IsWalk}
 use Rattle.vc_tree_walks.specs.IterLeft.{pairs_from}
 use Rattle.vc_tree_walks.proofs.Filtered.{filtered-none, filtered-bare, filtered, copy-solid}
-use Rattle.vc_tree_walks.proofs.filtering.filter_prefix.Goals as goal
+use Rattle.vc_tree_walks.proofs.filtering.copy_under.Goals as goal
 
 pub returns-in_default : goal.returns-in_default
 returns-in_default g c =
