@@ -3,13 +3,15 @@
 --     Decides        what is left to decide at a node on the way
 --     decided-above, decided-below        the way ends above a node, or goes on below it
 --     covers-empty, covers-none, covers-child        what children cover of a path
+--     allowed-itself        the rule of a path decides on it
 use Rattle.std.proofs.Common.{◌≡◌, [], ◌∷◌, List, Option, None, Some, ◌+◌, ◌&&◌, Bool, true, false, cond, length, take, drop, refl, sym, ap, ◌∙◌}
 use Rattle.std.specs.Cmp.Lexicographic.{pointwise}
 use Rattle.std.specs.Borrow.{Bor}
-use Rattle.std.specs.Option.{option_copied, option_or, MatchOption}
+use Rattle.std.specs.Option.{option_copied, option_or, unwrap_or, MatchOption}
 use Rattle.std.specs.Ordering.{is_eq}
 use Rattle.std.specs.Prelude.{slice_get}
 use Rattle.std.specs.declared.cmp.Ordering.{Ordering}
+use Rattle.vc_path_filter.specs.Allowed.{is_allowed}
 use Rattle.vc_tree_model.specs.Canonical.{AreChildren}
 use Rattle.vc_tree_model.specs.Cover.{cover}
 use Rattle.vc_tree_model.specs.Key.{behind, same_key}
@@ -110,3 +112,15 @@ module _ {K W : Type 0} (cmp : K → K → Ordering) where
       → cover (lookup_in cmp f) path ≡ None
   covers-empty f a [] e = lookup_in-empty cmp f (children-ordered cmp f a)
   covers-empty f a (y ∷ others) e = cc
+
+-- what is bound at a path covers it, since no longer key is a prefix of it
+cover-itself : {K W : Type 0} (q : List K → Option W) (path : List K) (w : W) → q path ≡ Some w
+    → cover q path ≡ Some w
+cover-itself q [] w e = e
+cover-itself q (x ∷ path) w e = ap (λ o. or_else o (q [])) (cover-itself (λ rest. q (x ∷ rest)) path w e)
+
+-- the rule of a path decides on it
+pub allowed-itself : {K : Type 0} (cmp : K → K → Ordering) (rules : Tree K Bool) (path : List K) (allowed : Bool)
+    → lookup cmp rules path ≡ Some allowed → is_allowed cmp rules path ≡ allowed
+allowed-itself cmp rules path allowed e =
+    ap (λ o. unwrap_or o false) (cover-itself (lookup cmp rules) path allowed e)

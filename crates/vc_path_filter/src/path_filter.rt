@@ -1,7 +1,7 @@
 //! Filters of paths: rules that allow a path or deny it, with all that lies below it.
 //!
-//! Of the rules whose paths are prefixes of a path the longest decides. A path is a prefix of itself. Where no rule is a prefix,
-//! the path is not allowed.
+//! Of the rules whose paths are prefixes of a path the longest decides. A path is a prefix of
+//! itself. Where no rule is a prefix, the path is not allowed.
 //!
 //! ```text
 //! let mut filter = PathFilter::new(alloc);
@@ -27,11 +27,13 @@ use std::default::MadeWith;
 use std::marker::Model;
 use vc_merge::merge::{Count, Uncounted};
 use vc_merge::search::{Sought, look_up};
+use vc_tree_nodes::reading::canonical;
 use vc_trees::radix_tree::{
     AbstractRadixTree, AbstractRadixTreeMut, ArcRadixTree, RadixNode, TKey, TValue,
 };
 
-/// Rules on paths. It is seen as the tree of its rules, which has true at the paths that were allowed, and false at those that were denied.
+/// Rules on paths. It is seen as the tree of its rules, which has true at the paths that were
+/// allowed, and false at those that were denied.
 #[derive(Drop)]
 pub struct PathFilter<K: TKey> {
     rules: ArcRadixTree<K, bool>,
@@ -53,44 +55,55 @@ impl<K: TKey> Model for PathFilter<K> {
 impl<K: TKey + MadeWith<Global>> PathFilter<K> {
     /// The filter without rules, which allows no path. Takes no memory.
     pub fn new(alloc: Global) -> Self
-        ensures { result ≡ no_tree }
+        ensures is { result ≡ no_tree }
+        ensures canonical { IsCanonical K.cmp result }
     {
         PathFilter {
             rules: ArcRadixTree::empty(alloc),
         }
     }
 
-    /// Allows a path and what lies below it, but for what longer rules say. A rule that the path had is replaced.
+    /// Allows a path and what lies below it, but for what longer rules say. A rule that the path
+    /// had is replaced, and `check` answers true at the path itself.
     ///
     /// Fails only where memory is refused; each path then has the rule that it had.
     pub fn allow(&mut self, path: &[K]) -> Result<(), AllocError>
         ensures ok { OnOk result (IsInserted K.cmp (λ v w. v ≡ w) path.now true self.old self.new) }
+        ensures allowed { OnOk result (is_allowed K.cmp self.new path.now ≡ true) }
         ensures err { OnErr result (HaveEqualMaps K.cmp (λ v w. v ≡ w) self.old self.new) }
+        ensures canonical { IsCanonical K.cmp self.new }
     {
         self.set(path, true)
     }
 
-    /// Denies a path and what lies below it, but for what longer rules say. A rule that the path had is replaced.
+    /// Denies a path and what lies below it, but for what longer rules say. A rule that the path
+    /// had is replaced, and `check` answers false at the path itself.
     ///
     /// Fails only where memory is refused; each path then has the rule that it had.
     pub fn deny(&mut self, path: &[K]) -> Result<(), AllocError>
         ensures ok { OnOk result (IsInserted K.cmp (λ v w. v ≡ w) path.now false self.old self.new) }
+        ensures denied { OnOk result (is_allowed K.cmp self.new path.now ≡ false) }
         ensures err { OnErr result (HaveEqualMaps K.cmp (λ v w. v ≡ w) self.old self.new) }
+        ensures canonical { IsCanonical K.cmp self.new }
     {
         self.set(path, false)
     }
 
     /// Sets the rule of a path.
     fn set(&mut self, path: &[K], allowed: bool) -> Result<(), AllocError>
-        ensures ok { OnOk result (IsInserted K.cmp (λ v w. v ≡ w) path.now allowed self.old self.new) }
+        ensures ok { OnOk result
+            (IsInserted K.cmp (λ v w. v ≡ w) path.now allowed self.old self.new) }
+        ensures decides { OnOk result (is_allowed K.cmp self.new path.now ≡ allowed) }
         ensures err { OnErr result (HaveEqualMaps K.cmp (λ v w. v ≡ w) self.old self.new) }
+        ensures canonical { IsCanonical K.cmp self.new }
     {
         self.rules.insert(path, allowed)
     }
 }
 
 impl<K: TKey> PathFilter<K> {
-    /// Whether the longest rule that is a prefix of the path allows it; false where no rule is a prefix of it. Takes no memory.
+    /// Whether the longest rule that is a prefix of the path allows it; false where no rule is a
+    /// prefix of it. Takes no memory.
     ///
     /// Goes down the tree of rules once, with a search among the children of each node on the way.
     pub fn check(&self, path: &[K]) -> bool
@@ -99,10 +112,11 @@ impl<K: TKey> PathFilter<K> {
         longest_rule(&self.rules, path).unwrap_or(false)
     }
 
-    /// Keeps the keys of a tree that the filter allows, with their values, and drops the others: those that it denies, and those that no rule
-    /// covers.
+    /// Keeps the keys of a tree that the filter allows, with their values, and drops the others:
+    /// those that it denies, and those that no rule covers.
     ///
-    /// Goes down both trees at once, and asks each rule that it meets once. Refused, it leaves the empty tree.
+    /// Goes down both trees at once, and asks each rule that it meets once. Refused, it leaves the
+    /// empty tree.
     ///
     /// ```text
     /// filter.restrict(&mut files)?;
@@ -111,7 +125,8 @@ impl<K: TKey> PathFilter<K> {
         &self,
         tree: &mut T,
     ) -> Result<(), AllocError>
-        ensures ok { OnOk result (IsRestricted K.cmp self.now T.keeps (lookup K.cmp (T.tree tree.old)) (lookup K.cmp (T.tree tree.new))) }
+        ensures ok { OnOk result (IsRestricted K.cmp self.now T.keeps
+            (lookup K.cmp (T.tree tree.old)) (lookup K.cmp (T.tree tree.new))) }
         ensures err { OnErr result (T.tree tree.new ≡ no_tree) }
         ensures canonical { IsCanonical K.cmp (T.tree tree.new) }
     {
@@ -123,10 +138,13 @@ impl<K: TKey> PathFilter<K> {
         )
     }
 
-    /// The rules: the tree has true at the paths that were allowed, and false at those that were denied. Takes no memory.
+    /// The rules: the tree has true at the paths that were allowed, and false at those that were
+    /// denied. Takes no memory.
     pub fn rules(&self) -> &ArcRadixTree<K, bool>
-        ensures { result.now ≡ self.now }
+        ensures is { result.now ≡ self.now }
+        ensures canonical { IsCanonical K.cmp result.now }
     {
+        canonical(&self.rules);
         &self.rules
     }
 }
@@ -168,7 +186,8 @@ fn rest_behind<'p, K: Ord>(prefix: &[K], path: &'p [K]) -> Option<&'p [K]>
     path.strip_prefix(prefix)
 }
 
-/// The node among children that covers what they cover of the path: the one that begins as the path does.
+/// The node among children that covers what they cover of the path: the one that begins as the path
+/// does.
 fn child_on<'a, K: TKey>(
     children: &'a [ArcRadixTree<K, bool>],
     path: &[K],
@@ -176,7 +195,8 @@ fn child_on<'a, K: TKey>(
     requires { AreChildren K.cmp (seen (λ t. t) children.now) }
     ensures covers { let below = cover (lookup_in K.cmp (seen (λ t. t) children.now)) path.now in
         MatchOption result (below ≡ None) (λ child. below ≡ cover (lookup K.cmp child.now) path.now) }
-    ensures smaller { IfSome result (λ child. nodes child.now ≤ forest_nodes (seen (λ t. t) children.now)) }
+    ensures smaller { IfSome result
+        (λ child. nodes child.now ≤ forest_nodes (seen (λ t. t) children.now)) }
 {
     let Some(first) = path.first() else {
         return None;

@@ -1,8 +1,9 @@
--- Clones of rules are the rules, so those that stay are the very same.
+-- Clones of rules are the rules, so those that stay are the very same. The rule of a path decides on it.
 use Rattle.std.proofs.Common.{◌≡◌, subst}
 use Rattle.std.proofs.lemmas.Result.{on_ok_weaker, on_err_weaker}
 use Rattle.vc_tree_model.specs.Map.{IsInserted, HaveEqualMaps}
 use Rattle.vc_trees.specs.Exact.{inserted-exact, equal_maps-exact}
+use Rattle.vc_path_filter.proofs.Deciding.{allowed-itself}
 use Rattle.vc_path_filter.proofs.path_filter.PathFilter.set.Goals as goal
 
 pub returns-clause-ok : goal.returns-clause-ok
@@ -19,3 +20,9 @@ returns-clause-err g c =
     (λ h. subst (λ t. HaveEqualMaps g.K.Ord.cmp (λ v w. v ≡ w) t c.insert.new.self) c.self.view_is
     (equal_maps-exact _ (λ v w e. e) g.K.Ord.cmp c.self.inside.rules c.insert.new.self h))
     c.insert.ensures.err
+
+pub returns-clause-decides : goal.returns-clause-decides
+returns-clause-decides g c =
+    on_ok_weaker c.insert.result
+    (allowed-itself g.K.Ord.cmp c.insert.new.self c.args.path.now c.args.allowed)
+    c.insert.ensures.binds
