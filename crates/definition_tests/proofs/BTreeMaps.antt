@@ -111,7 +111,10 @@ stayed_or_new = refl
 
 -- 1 to 10 beside 2 to 5 grows by 2 to 5
 is_grown : IsGrown {V = ℕ} {W = ℕ} order same (λ k w r. r ≡ Some w) ((two, 5) ∷ []) ((one, 10) ∷ []) ((one, 10) ∷ (two, 5) ∷ [])
-is_grown = record { old_stay = each _ (λ e. refl) (λ e. not_true e) (λ e. not_true e) (λ e. not_true e) (λ e. not_true e); new_given = each _ (λ e. not_true (sym e)) (λ e. (refl, refl)) (λ e. tt) (λ e. tt) (λ e. tt) }
+is_grown = record {
+  old_stay = each _ (λ e. refl) (λ e. not_true e) (λ e. not_true e) (λ e. not_true e) (λ e. not_true e);
+  new_given = each _ (λ e. not_true (sym e)) (λ e. (refl, refl)) (λ e. tt) (λ e. tt) (λ e. tt);
+}
 
 -- and not by a key that the other map lacks
 not_grown : IsGrown {V = ℕ} {W = ℕ} order same (λ k w r. r ≡ Some w) ((two, 5) ∷ []) ((one, 10) ∷ []) ((one, 10) ∷ (three, 7) ∷ []) → ⊥

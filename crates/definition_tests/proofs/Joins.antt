@@ -46,7 +46,9 @@ nothing_at_three = refl
 -- ---- questions
 
 -- a left join asks at the keys of the left map and of both, and not at those of the right one alone
-left_join_asks : (asks {K = ℕ} {V = ℕ} {W = ℕ} kind.Left (Left 1 10) ≡ true) × (asks {K = ℕ} {V = ℕ} {W = ℕ} kind.Left (Right 1 20) ≡ false) × (asks {K = ℕ} {V = ℕ} {W = ℕ} kind.Left (Both 1 10 20) ≡ true)
+left_join_asks : (asks {K = ℕ} {V = ℕ} {W = ℕ} kind.Left (Left 1 10) ≡ true)
+    × (asks {K = ℕ} {V = ℕ} {W = ℕ} kind.Left (Right 1 20) ≡ false)
+    × (asks {K = ℕ} {V = ℕ} {W = ℕ} kind.Left (Both 1 10 20) ≡ true)
 left_join_asks = (refl, refl, refl)
 
 -- of 1 to 10 and 1 to 20 a left join asks of both

@@ -3,7 +3,7 @@ use Rattle.std.specs.Prelude.{◌≡◌, ℕ, ◌+◌, nat_le, List, [], ◌∷�
 use Rattle.vc_joins.specs.declared.question.OuterJoinArg.TheVariants.{Left, Both}
 use Rattle.vc_maps.specs.Combining.{CanCombine, Combines, combined, IsCombinedBy}
 use Rattle.vc_maps.specs.Lending.{IsWritten}
-use Rattle.vc_maps.specs.Mapping.{AnswersInTurn, IsMapped}
+use Rattle.vc_maps.specs.Mapping.{AnswersInTurn, MapsEntry}
 use Rattle.definition_tests.proofs.Digits.{Digit, one, two, three, four, order, each, not_true}
 
 -- ---- a value that is written
@@ -67,8 +67,8 @@ one_answer : AnswersInTurn AddsUp 0 (1 ∷ 2 ∷ 3 ∷ []) (1 ∷ []) 1 → ⊥
 one_answer h = h.2
 
 -- at a state of 1 it turns 2 into 3, under the same key; where nothing stood, nothing stands
-is_mapped : IsMapped {K = ℕ} AddsUp (Some (9, 2)) (Some (9, 3))
-is_mapped = (1, 3, 3, (refl, refl), refl)
+maps_entry : MapsEntry {K = ℕ} AddsUp (Some (9, 2)) (Some (9, 3))
+maps_entry = (1, 3, 3, (refl, refl), refl)
 
-nothing_mapped : IsMapped {K = ℕ} AddsUp None None
-nothing_mapped = refl
+maps_nothing : MapsEntry {K = ℕ} AddsUp None None
+maps_nothing = refl

@@ -1,16 +1,18 @@
 -- Worked rows of the definitions on trees, beside those that stand with them.
 use Rattle.std.specs.Prelude.{◌≡◌, ℕ, suc, ◌==◌, true, false, [], ◌∷◌, Some, None, codes, refl}
-use Rattle.std.proofs.Common.{inl, sym, arith, nat_cmp}
+use Rattle.std.proofs.Common.{inl, inr, sym, arith, nat_cmp}
 use Rattle.std.proofs.lemmas.Cmp.{nat_cmp_total}
 use Rattle.std.specs.declared.cmp.Ordering.TheVariants.{Less, Equal, Greater}
 use Rattle.vc_tree_model.specs.Key.{same_key, BeginsBelow}
 use Rattle.vc_tree_model.specs.Value.{IsKept, Copies, itself, cloned}
+use Rattle.vc_tree_model.specs.Matches.{AreCopies, HaveOneSource}
 use Rattle.vc_tree_model.specs.Tree.{Tree, bare, grow, forest, trees, node, made, no_tree, is_bare, width, shortened}
 use Rattle.vc_tree_model.specs.Map.{lookup, IsEqualMap, IsUpdated, IsInserted, HaveEqualMaps}
 use Rattle.vc_tree_model.specs.Canonical.{IsCanonical}
 use Rattle.vc_tree_model.specs.Conditions.{BareIsWhole, HavePrefixes, ChildrenAscend, NoLoneChild, MeetsConditions}
 use Rattle.vc_tree_model.specs.Same.{IsSame, IsAlike}
 use Rattle.vc_tree_model.specs.OneTree.{IsOneTree, IsSmallest}
+use Rattle.vc_tree_model.specs.Depth.{forest_depth, depth, IsShallow}
 use Rattle.vc_tree_model.specs.Walk.{IsWalk}
 use Rattle.vc_tree_model.specs.Snapshot.{IsSnapshot}
 use Rattle.vc_tree_model.specs.Equal.{same_tree}
@@ -21,6 +23,7 @@ use Rattle.vc_tree_model.proofs.LookupLemmas.{children-ordered}
 use Rattle.vc_tree_model.proofs.FourConditions.{canonical-conditions}
 use Rattle.vc_tree_model.proofs.Uniqueness.{canonical-one}
 use Rattle.vc_tree_model.proofs.Smallness.{canonical-smallest}
+use Rattle.vc_tree_model.proofs.Shallowness.{canonical-shallow}
 use Rattle.vc_tree_model.proofs.Walking.{walk-is}
 use Rattle.vc_tree_nodes.specs.Children.{seen}
 use Rattle.definition_tests.proofs.Digits.{same, not_true}
@@ -46,6 +49,14 @@ is_lost h = h
 -- where a clone has the next number, 3 is a copy of 1: a clone of a clone
 copies : Copies (λ v w. w ≡ suc v) 1 3
 copies = cloned {v = 2} refl (cloned refl itself)
+
+-- so they match both ways round
+are_copies : AreCopies (λ v w. w ≡ suc v) 1 3 × AreCopies (λ v w. w ≡ suc v) 3 1
+are_copies = (inl copies, inr copies)
+
+-- where every number is a clone of 0, 1 and 2 have one source
+one_source : HaveOneSource {V = ℕ} (λ v w. v ≡ 0) 1 2
+one_source = (0, cloned refl itself, cloned refl itself)
 
 -- ---- trees
 
@@ -81,6 +92,10 @@ bare_tree = (refl, refl)
 -- two children at most
 width_of_three : width three ≡ 2
 width_of_three = refl
+
+-- two levels; below the root there is one
+depth_of_three : (depth three ≡ 2) × (forest_depth three.children ≡ 1)
+depth_of_three = (refl, refl)
 
 -- without the first two letters it is bb*(cc* ee*)
 shortened_by_two : shortened 2 three ≡ made (codes "bb") (Some 2) (leaf (codes "cc") 1 ∷ leaf (codes "ee") 3 ∷ [])
@@ -178,6 +193,9 @@ is_one_tree = canonical-one nat_cmp nat_cmp_total same three three_canonical
 
 is_smallest : IsSmallest nat_cmp same three
 is_smallest = canonical-smallest nat_cmp same nat_cmp_total three three_canonical
+
+is_shallow : IsShallow nat_cmp three
+is_shallow = canonical-shallow nat_cmp nat_cmp_total three three_canonical
 
 is_walk : IsWalk nat_cmp (lookup nat_cmp three) ((codes "aabb", 2) ∷ (codes "aabbcc", 1) ∷ (codes "aabbee", 3) ∷ [])
 is_walk = walk-is nat_cmp nat_cmp_total three (children-ordered nat_cmp three.children three_canonical.1)

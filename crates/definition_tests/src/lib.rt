@@ -1,4 +1,5 @@
-//! Worked rows of the definitions that contracts cite. Each is a proof of `proofs/`, and `docs/DEFINITIONS.md` names it.
+//! Worked rows of the definitions that contracts cite. Each is a proof of `proofs/`, and
+//! `docs/DEFINITIONS.md` names it.
 #![tactic(auto)]
 
 ghost use Rattle.std.specs.Prelude.{◌≡◌, true, [], ◌∷◌};

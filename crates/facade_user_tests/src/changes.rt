@@ -1,4 +1,5 @@
-//! What changed between two sorted lists: a merge with an operation and a state of this crate's own.
+//! What changed between two sorted lists: a merge with an operation and a state of this crate's
+//! own.
 ghost use Rattle.std.specs.Prelude.{◌≡◌, ◌+◌, ◌<◌, ◌≤◌, ◌++◌, ◌∷◌, [], map, length, true, cond, IfOk, OnOk};
 ghost use Rattle.std.specs.Ordering.{nat_cmp};
 ghost use Rattle.std.proofs.Common.{inl, inr};
@@ -85,7 +86,8 @@ impl<'a> MergeFromRight for Diff<'a> {
 
 /// Appends the numbers as gone.
 fn note_gone(changes: &mut Vec<Change>, numbers: &[u32]) -> Result<(), AllocError>
-    ensures { OnOk result (changes.new.items ≡ changes.old.items ++ map (λ x. Change.Gone x) numbers.now) }
+    ensures { OnOk result
+        (changes.new.items ≡ changes.old.items ++ map (λ x. Change.Gone x) numbers.now) }
 {
     for number in numbers {
         changes.push(Change::Gone(*number))?;
@@ -95,7 +97,8 @@ fn note_gone(changes: &mut Vec<Change>, numbers: &[u32]) -> Result<(), AllocErro
 
 /// Appends the numbers as new.
 fn note_new(changes: &mut Vec<Change>, numbers: &[u32]) -> Result<(), AllocError>
-    ensures { OnOk result (changes.new.items ≡ changes.old.items ++ map (λ y. Change.New y) numbers.now) }
+    ensures { OnOk result
+        (changes.new.items ≡ changes.old.items ++ map (λ y. Change.New y) numbers.now) }
 {
     for number in numbers {
         changes.push(Change::New(*number))?;
@@ -148,7 +151,8 @@ impl<'a, C: Count> MergeOperation<Diff<'a>, C> for Noting {
     }
 }
 
-/// The changes from the old list to the new one, in ascending order, with the comparisons added to `steps`.
+/// The changes from the old list to the new one, in ascending order, with the comparisons added to
+/// `steps`.
 pub fn changes<C: Count>(
     alloc: Global,
     old: &[u32],
@@ -157,8 +161,10 @@ pub fn changes<C: Count>(
 ) -> Result<Vec<Change>, AllocError>
     requires old_ascends { Ascends nat_cmp old.now }
     requires new_ascends { Ascends nat_cmp new.now }
-    ensures changes { IfOk result (λ list. IsScript by_number old.now new.now (map event_of list.items)) }
-    ensures counted { C.counted steps.new ≤ C.counted steps.old + bound (length old.now) (length new.now) }
+    ensures changes { IfOk result
+        (λ list. IsScript by_number old.now new.now (map event_of list.items)) }
+    ensures counted { C.counted steps.new
+        ≤ C.counted steps.old + bound (length old.now) (length new.now) }
 {
     let mut state = Diff {
         old,

@@ -1,23 +1,61 @@
-//! Filters of paths from outside: which paths rules allow, and snapshots of rules.
-ghost use Rattle.std.specs.Prelude.{◌≡◌, ◌&&◌, false, IfOk, OnOk};
+//! Filters of paths from outside: rules, which paths they allow, what they leave of a tree, and
+//! snapshots of rules.
+ghost use Rattle.std.specs.Prelude.{◌≡◌, ◌&&◌, true, false, IfOk, OnOk};
 ghost use Rattle.std.specs.Ordering.{nat_cmp};
-ghost use Rattle.vec_collections.specs.Allowed.{is_allowed};
+ghost use Rattle.vec_collections.specs.Allowed.{is_allowed, IsRestricted};
+ghost use Rattle.vec_collections.specs.Map.{lookup, IsInserted};
+ghost use Rattle.vec_collections.specs.Tree.{no_tree};
 
-use std::alloc::AllocError;
+use std::alloc::{AllocError, Global};
 use vec_collections::path_filter::PathFilter;
+use vec_collections::radix_tree::{AbstractRadixTree, AbstractRadixTreeMut};
 
 /// Which folders of a site may be read, each with all that lies in it.
 pub type Readable = PathFilter<u8>;
 
+/// A site without rules.
+pub fn new_site(alloc: Global) -> Readable
+    ensures { result ≡ no_tree }
+{
+    PathFilter::new(alloc)
+}
+
+/// Opens a folder to readers.
+pub fn open(site: &mut Readable, folder: &[u8]) -> Result<(), AllocError>
+    ensures bound { OnOk result
+        (IsInserted nat_cmp (λ v w. v ≡ w) folder.now true site.old site.new) }
+    ensures readable { OnOk result (is_allowed nat_cmp site.new folder.now ≡ true) }
+{
+    site.allow(folder)
+}
+
+/// The rule that a folder has of its own.
+pub fn rule_of(site: &Readable, folder: &[u8]) -> Option<bool>
+    ensures { result ≡ lookup nat_cmp site.now folder.now }
+{
+    site.rules().get(folder).copied()
+}
+
+/// Drops the files that may not be read.
+pub fn keep_readable<T: AbstractRadixTreeMut<u8, u32>>(
+    site: &Readable,
+    files: &mut T,
+) -> Result<(), AllocError>
+    ensures { OnOk result (IsRestricted nat_cmp site.now T.keeps (lookup nat_cmp (T.tree files.old))
+        (lookup nat_cmp (T.tree files.new))) }
+{
+    site.restrict(files)
+}
+
 /// Whether both files may be read.
 pub fn may_read_both(site: &Readable, first: &[u8], second: &[u8]) -> bool
-    ensures { result ≡ (is_allowed nat_cmp site.now first.now && is_allowed nat_cmp site.now second.now) }
+    ensures { result ≡ (is_allowed nat_cmp site.now first.now
+        && is_allowed nat_cmp site.now second.now) }
 {
     site.check(first) && site.check(second)
 }
 
 /// Closes a folder, and answers what could be read before.
-#[tactic(auto, using(crate::proofs::Closing::closed_itself))]
 pub fn close(site: &mut Readable, folder: &[u8]) -> Result<Readable, AllocError>
     ensures before { IfOk result (λ before. before ≡ site.old) }
     ensures closed { OnOk result (is_allowed nat_cmp site.new folder.now ≡ false) }

@@ -29,7 +29,8 @@ pub fn port_counted<T: AbstractRadixTree<u8, u32>>(
     steps: &mut Steps,
 ) -> Option<u32>
     ensures port { result ≡ lookup nat_cmp (T.tree ports.now) server.now }
-    ensures counted { steps.new ≤ steps.old + length server.now * (1 + digits (width (T.tree ports.now))) }
+    ensures counted { steps.new
+        ≤ steps.old + length server.now * (1 + digits (width (T.tree ports.now))) }
 {
     ports.get_counted(server, steps).copied()
 }
@@ -47,10 +48,17 @@ pub fn compare_servers<S: AbstractRadixTree<u8, u32>, T: AbstractRadixTree<u8, u
     a: &S,
     b: &T,
 ) -> ServersCompared
-    ensures intersects { MatchBool result.intersects (ShareKey nat_cmp (S.tree a.now) (T.tree b.now)) (AreDisjoint nat_cmp (S.tree a.now) (T.tree b.now)) }
-    ensures is_disjoint { MatchBool result.is_disjoint (AreDisjoint nat_cmp (S.tree a.now) (T.tree b.now)) (ShareKey nat_cmp (S.tree a.now) (T.tree b.now)) }
-    ensures is_subset { MatchBool result.is_subset (HasKeysOf nat_cmp (T.tree b.now) (S.tree a.now)) (LacksKeyOf nat_cmp (T.tree b.now) (S.tree a.now)) }
-    ensures is_superset { MatchBool result.is_superset (HasKeysOf nat_cmp (S.tree a.now) (T.tree b.now)) (LacksKeyOf nat_cmp (S.tree a.now) (T.tree b.now)) }
+    ensures intersects { MatchBool result.intersects
+        (ShareKey nat_cmp (S.tree a.now) (T.tree b.now))
+        (AreDisjoint nat_cmp (S.tree a.now) (T.tree b.now)) }
+    ensures is_disjoint { MatchBool result.is_disjoint
+        (AreDisjoint nat_cmp (S.tree a.now) (T.tree b.now))
+        (ShareKey nat_cmp (S.tree a.now) (T.tree b.now)) }
+    ensures is_subset { MatchBool result.is_subset (HasKeysOf nat_cmp (T.tree b.now) (S.tree a.now))
+        (LacksKeyOf nat_cmp (T.tree b.now) (S.tree a.now)) }
+    ensures is_superset { MatchBool result.is_superset
+        (HasKeysOf nat_cmp (S.tree a.now) (T.tree b.now))
+        (LacksKeyOf nat_cmp (S.tree a.now) (T.tree b.now)) }
 {
     ServersCompared {
         intersects: a.intersects(b),
@@ -62,7 +70,8 @@ pub fn compare_servers<S: AbstractRadixTree<u8, u32>, T: AbstractRadixTree<u8, u
 
 /// Whether two trees have the same ports.
 pub fn are_same(a: &Ports, b: &Ports) -> bool
-    ensures { IsTrue result ↔ IsEqualMap (λ v w. IsTrue (v == w)) (lookup nat_cmp a.now) (lookup nat_cmp b.now) }
+    ensures { IsTrue result
+        ↔ IsEqualMap (λ v w. IsTrue (v == w)) (lookup nat_cmp a.now) (lookup nat_cmp b.now) }
 {
     *a == *b
 }

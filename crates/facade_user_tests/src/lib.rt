@@ -1,5 +1,5 @@
-//! Code of a user, with all names from `vec_collections`: each public call, operator and iteration of sets, trees and merges, with contracts in the words of
-//! the subject.
+//! Code of a user, with all names from `vec_collections`: each public call, operator and iteration
+//! of sets, trees and merges, with contracts in the words of the subject.
 #![tactic(auto)]
 
 pub mod changes;
@@ -7,6 +7,7 @@ pub mod combines;
 pub mod filters;
 pub mod keys;
 pub mod maps;
+pub mod one_tree;
 pub mod sets;
 pub mod trees;
 pub mod walks;

@@ -39,10 +39,13 @@ pub fn recount(stock: &mut Stock, article: u32, pieces: u32) -> Result<Option<u3
     stock.insert(article, pieces)
 }
 
-/// Corrects how many pieces there are of an article that is in stock, and answers whether it is. No other article changes.
+/// Corrects how many pieces there are of an article that is in stock, and answers whether it is. No
+/// other article changes.
 pub fn correct(stock: &mut Stock, article: u32, pieces: u32) -> bool
     ensures known { IsTrue result ↔ IsSome (value_at nat_cmp stock.old article) }
-    ensures corrected { IsTrue result → (k : ℕ) → value_at nat_cmp stock.new k ≡ cond (eq_by_cmp nat_cmp k article) (Some pieces) (value_at nat_cmp stock.old k) }
+    ensures corrected { IsTrue result → (k : ℕ)
+        → value_at nat_cmp stock.new k
+        ≡ cond (eq_by_cmp nat_cmp k article) (Some pieces) (value_at nat_cmp stock.old k) }
     ensures unknown { ¬ (IsTrue result) → stock.new ≡ stock.old }
     ensures articles { keys_of stock.new ≡ keys_of stock.old }
 {

@@ -135,7 +135,9 @@ pub fn add_each(tags: &mut Tags, more: Tags) -> Result<(), AllocError>
 
 /// Keeps the tags that each of four articles has.
 pub fn keep_both(tags: &mut Tags, b: &Tags, c: &VecSet2<u32>, d: VecSet2<u32>)
-    ensures { (tag : ℕ) → IsTrue (has tags.new tag) ↔ (IsTrue (has tags.old tag) × IsTrue (has b.now tag) × IsTrue (has c.now tag) × IsTrue (has d tag)) }
+    ensures { (tag : ℕ) → IsTrue (has tags.new tag)
+        ↔ (IsTrue (has tags.old tag) × IsTrue (has b.now tag) × IsTrue (has c.now tag)
+        × IsTrue (has d tag)) }
 {
     tags.intersection_with(b);
     *tags &= c;
@@ -144,7 +146,8 @@ pub fn keep_both(tags: &mut Tags, b: &Tags, c: &VecSet2<u32>, d: VecSet2<u32>)
 
 /// Takes the tags of three other articles out.
 pub fn keep_rest(tags: &mut Tags, b: &Tags, c: &VecSet2<u32>, d: VecSet2<u32>)
-    ensures { (tag : ℕ) → has tags.new tag ≡ (((has tags.old tag && not (has b.now tag)) && not (has c.now tag)) && not (has d tag)) }
+    ensures { (tag : ℕ) → has tags.new tag
+        ≡ (((has tags.old tag && not (has b.now tag)) && not (has c.now tag)) && not (has d tag)) }
 {
     tags.difference_with(b);
     *tags -= c;
@@ -181,9 +184,11 @@ pub fn standing_counted(a: &Tags, b: &Tags, steps: &mut Steps) -> Standing
     }
 }
 
-/// Whether an article has all tags that are asked for, by what is left of them: a law ties the difference to the test.
+/// Whether an article has all tags that are asked for, by what is left of them: a law ties the
+/// difference to the test.
 pub fn has_all(tags: &Tags, asked: &Tags) -> Result<bool, AllocError>
-    ensures { IfOk result (λ has_all. IsTrue has_all ↔ ((tag : ℕ) → IsTrue (has asked.now tag) → IsTrue (has tags.now tag))) }
+    ensures { IfOk result (λ has_all. IsTrue has_all
+        ↔ ((tag : ℕ) → IsTrue (has asked.now tag) → IsTrue (has tags.now tag))) }
 {
     tests_are_of_operations::<u32>();
     Ok(asked.difference(tags)?.is_empty())
@@ -192,7 +197,8 @@ pub fn has_all(tags: &Tags, asked: &Tags) -> Result<bool, AllocError>
 /// Puts one tag in the place of another, and says whether the other one was there.
 pub fn rename(tags: &mut Tags, from: u32, to: u32) -> Result<bool, AllocError>
     ensures found { IfOk result (λ found. found ≡ has tags.old from) }
-    ensures renamed { OnOk result ((tag : ℕ) → has tags.new tag ≡ ((to == tag) || (not (from == tag) && has tags.old tag))) }
+    ensures renamed { OnOk result
+        ((tag : ℕ) → has tags.new tag ≡ ((to == tag) || (not (from == tag) && has tags.old tag))) }
 {
     let found = tags.contains(&from);
     tags.remove(&from);
@@ -310,7 +316,8 @@ type List = SmallVec<u32, 4>;
 
 /// The tags as lists: two that may stand in place, and a `Vec`.
 pub fn lists(a: Tags, b: Tags, c: Tags) -> Result<(List, Vec<u32>, List), AllocError>
-    ensures { IfOk result (λ three. (three.0.items ≡ a) × (three.1.items ≡ b) × (three.2.items ≡ c)) }
+    ensures { IfOk result (λ three. (three.0.items ≡ a) × (three.1.items ≡ b) × (three.2.items ≡ c))
+        }
 {
     Ok((a.into_inner(), b.into_vec()?, c.into()))
 }

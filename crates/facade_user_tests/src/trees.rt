@@ -1,4 +1,5 @@
-//! Radix trees from outside: each call at both flavours, generic code, and a tree of this crate's own with children.
+//! Radix trees from outside: each call at both flavours, generic code, and a tree of this crate's
+//! own with children.
 ghost use Rattle.std.specs.Prelude.{◌≡◌, ◌<◌, [], ◌∷◌, Some, None, true, length, map, IfOk, OnOk, OnErr};
 ghost use Rattle.std.specs.Ordering.{nat_cmp};
 ghost use Rattle.std.specs.Option.{option_copied};
@@ -29,7 +30,8 @@ pub fn set_shared_port(
     port: u32,
 ) -> Result<Option<u32>, AllocError>
     ensures had { IfOk result (λ had. had ≡ lookup nat_cmp ports.old server.now) }
-    ensures set { OnOk result (IsInserted nat_cmp (λ x y. x ≡ y) server.now port ports.old ports.new) }
+    ensures set { OnOk result
+        (IsInserted nat_cmp (λ x y. x ≡ y) server.now port ports.old ports.new) }
 {
     let had = ports.get(server).copied();
     ports.insert(server, port)?;
@@ -41,8 +43,9 @@ pub fn change_ports(
     ports: &mut Ports,
     changes: Vec<TreeCommand<u8, u32, Ports>>,
 ) -> Result<Vec<bool>, AllocError>
-    ensures made { IfOk result (λ made. Run nat_cmp (Copies (λ x y. y ≡ x)) (lookup nat_cmp ports.old)
-        (map (command_of (λ t. t)) changes.items) made.items (lookup nat_cmp ports.new)) }
+    ensures made { IfOk result (λ made. Run nat_cmp (Copies (λ x y. y ≡ x))
+        (lookup nat_cmp ports.old) (map (command_of (λ t. t)) changes.items) made.items
+        (lookup nat_cmp ports.new)) }
     ensures err { OnErr result (ports.new ≡ ports.old) }
 {
     let mut made = vec![in *changes.allocator(); false; changes.len()]?;
@@ -88,7 +91,8 @@ pub fn one_port(alloc: Global, server: &[u8], port: u32) -> Result<Ports, AllocE
     Ports::single(alloc, server, port)
 }
 
-/// How long the beginning of all names of servers is, the port of that name itself, and whether there is no port.
+/// How long the beginning of all names of servers is, the port of that name itself, and whether
+/// there is no port.
 pub fn root_of(ports: &Ports) -> (usize, Option<u32>, bool)
     ensures prefix { result.0 ≡ length ports.now.prefix }
     ensures value { result.1 ≡ ports.now.value }
@@ -107,7 +111,8 @@ pub fn get_first<'a, K: TKey, V: TValue, S: AbstractRadixTree<K, V>, T: Abstract
     second: &'a T,
     key: &[K],
 ) -> Option<&'a V>
-    ensures { option_copied result ≡ or_else (lookup K.cmp (S.tree first.now) key.now) (lookup K.cmp (T.tree second.now) key.now) }
+    ensures { option_copied result ≡ or_else (lookup K.cmp (S.tree first.now) key.now)
+        (lookup K.cmp (T.tree second.now) key.now) }
 {
     match first.get(key) {
         Some(value) => Some(value),
@@ -180,7 +185,8 @@ impl Catalogue {
     /// The catalogue of two articles, the lower shelf first.
     pub fn of_two(alloc: Global, low: (u8, u32), high: (u8, u32)) -> Result<Catalogue, AllocError>
         requires { low.0 < high.0 }
-        ensures { IfOk result (λ c. c ≡ made [] None (made (low.0 ∷ []) (Some low.1) [] ∷ made (high.0 ∷ []) (Some high.1) [] ∷ [])) }
+        ensures { IfOk result (λ c. c ≡ made [] None
+            (made (low.0 ∷ []) (Some low.1) [] ∷ made (high.0 ∷ []) (Some high.1) [] ∷ [])) }
     {
         let low = Catalogue::of_one(alloc, low.0, low.1)?;
         let high = Catalogue::of_one(alloc, high.0, high.1)?;

@@ -1,4 +1,5 @@
-//! Walks from outside: the walks of one tree beside each other, their steps, and the keys that they give.
+//! Walks from outside: the walks of one tree beside each other, their steps, and the keys that they
+//! give.
 ghost use Rattle.std.specs.Prelude.{◌≡◌, IfOk, length, map};
 ghost use Rattle.std.specs.Ordering.{nat_cmp};
 ghost use Rattle.vec_collections.specs.IterLeft.{pairs_left};
@@ -14,7 +15,8 @@ use vec_collections::radix_tree::{
     AbstractRadixTree, Iter, IterKey, ObjAndIter, TKey, TValue, Values,
 };
 
-/// The pairs of a tree by ascending keys, and its values, which are those of the pairs in their order.
+/// The pairs of a tree by ascending keys, and its values, which are those of the pairs in their
+/// order.
 pub fn pairs_and_values<'a, K: TKey, V: TValue + 'a, T: AbstractRadixTree<K, V>>(
     tree: &'a T,
 ) -> (Iter<'a, K, V, T>, Values<'a, K, V, T>)
@@ -29,7 +31,8 @@ pub fn pairs_below<'a, K: TKey, V: TValue + 'a, T: AbstractRadixTree<K, V>>(
     tree: &'a T,
     folder: &'a [K],
 ) -> Iter<'a, K, V, T>
-    ensures { IsWalk K.cmp (under K.cmp (lookup K.cmp (T.tree tree.now)) folder.now) (pairs_left T.tree result) }
+    ensures { IsWalk K.cmp (under K.cmp (lookup K.cmp (T.tree tree.now)) folder.now)
+        (pairs_left T.tree result) }
 {
     tree.scan_prefix(folder)
 }

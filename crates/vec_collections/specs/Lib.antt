@@ -22,6 +22,7 @@ pub use Rattle.vc_merge.specs.Fronts
 pub use Rattle.vc_merge.specs.Laws as MergeLaws
 pub use Rattle.vc_merge.specs.Retaining
 pub use Rattle.vc_merge.specs.Script
+pub use Rattle.vc_merge.specs.Showing
 pub use Rattle.vc_merge.specs.Takes
 pub use Rattle.vc_merge.specs.Yielded
 pub use Rattle.vc_path_filter.specs.Allowed
@@ -47,12 +48,14 @@ pub use Rattle.vc_tree_model.specs.Canonical
 pub use Rattle.vc_tree_model.specs.Combine
 pub use Rattle.vc_tree_model.specs.Conditions
 pub use Rattle.vc_tree_model.specs.Cover
+pub use Rattle.vc_tree_model.specs.Depth
 pub use Rattle.vc_tree_model.specs.Equal
 pub use Rattle.vc_tree_model.specs.Key
 pub use Rattle.vc_tree_model.specs.KeySets
 pub use Rattle.vc_tree_model.specs.Laws as TreeLaws
 pub use Rattle.vc_tree_model.specs.Machine
 pub use Rattle.vc_tree_model.specs.Map
+pub use Rattle.vc_tree_model.specs.Matches
 pub use Rattle.vc_tree_model.specs.OneTree
 pub use Rattle.vc_tree_model.specs.Pairs as TreePairs
 pub use Rattle.vc_tree_model.specs.PrefixLaws

@@ -1,4 +1,5 @@
-//! The example of the README, as a user writes it, with all names from this crate. Its contracts are in the words of the subject.
+//! The example of the README, as a user writes it, with all names from this crate. Its contracts
+//! are in the words of the subject.
 ghost use Rattle.std.specs.Prelude.{◌≡◌, ◌||◌, ◌&&◌, ◌↔◌, not, IfOk, OnOk, IsTrue, ℕ};
 ghost use Rattle.std.specs.Option.{option_copied};
 ghost use Rattle.std.specs.Ordering.{nat_cmp};
@@ -21,35 +22,41 @@ pub type Tags = VecSet<u32, 4>;
 
 /// The tags that two articles have between them.
 pub fn all_tags(alloc: Global, a: &Tags, b: &Tags) -> Result<Tags, AllocError>
-    ensures { IfOk result (λ all. (tag : ℕ) → member nat_cmp all tag ≡ (member nat_cmp a.now tag || member nat_cmp b.now tag)) }
+    ensures { IfOk result (λ all. (tag : ℕ)
+        → member nat_cmp all tag ≡ (member nat_cmp a.now tag || member nat_cmp b.now tag)) }
 {
     union(alloc, a, b)
 }
 
 /// The tags that both articles have.
 pub fn shared_tags(alloc: Global, a: &Tags, b: &Tags) -> Result<Tags, AllocError>
-    ensures { IfOk result (λ all. (tag : ℕ) → member nat_cmp all tag ≡ (member nat_cmp a.now tag && member nat_cmp b.now tag)) }
+    ensures { IfOk result (λ all. (tag : ℕ)
+        → member nat_cmp all tag ≡ (member nat_cmp a.now tag && member nat_cmp b.now tag)) }
 {
     intersection(alloc, a, b)
 }
 
 /// The tags of the first article that the second one lacks.
 pub fn missing_tags(alloc: Global, a: &Tags, b: &Tags) -> Result<Tags, AllocError>
-    ensures { IfOk result (λ all. (tag : ℕ) → member nat_cmp all tag ≡ (member nat_cmp a.now tag && not (member nat_cmp b.now tag))) }
+    ensures { IfOk result (λ all. (tag : ℕ)
+        → member nat_cmp all tag ≡ (member nat_cmp a.now tag && not (member nat_cmp b.now tag))) }
 {
     difference(alloc, a, b)
 }
 
 /// The tags in which the articles differ.
 pub fn differing_tags(alloc: Global, a: &Tags, b: &Tags) -> Result<Tags, AllocError>
-    ensures { IfOk result (λ all. (tag : ℕ) → member nat_cmp all tag ≡ exactly_one (member nat_cmp a.now tag) (member nat_cmp b.now tag)) }
+    ensures { IfOk result (λ all. (tag : ℕ)
+        → member nat_cmp all tag
+        ≡ exactly_one (member nat_cmp a.now tag) (member nat_cmp b.now tag)) }
 {
     symmetric_difference(alloc, a, b)
 }
 
 /// Whether an article has all tags that are asked for.
 pub fn has_tags(tags: &Tags, asked: &Tags) -> bool
-    ensures { IsTrue result ↔ ((tag : ℕ) → IsTrue (member nat_cmp asked.now tag) → IsTrue (member nat_cmp tags.now tag)) }
+    ensures { IsTrue result ↔ ((tag : ℕ) → IsTrue (member nat_cmp asked.now tag)
+        → IsTrue (member nat_cmp tags.now tag)) }
 {
     asked.is_subset(tags)
 }
@@ -61,7 +68,8 @@ pub fn set_port(
     port: u32,
 ) -> Result<Option<u32>, AllocError>
     ensures had { IfOk result (λ had. had ≡ lookup nat_cmp ports.old server.now) }
-    ensures set { OnOk result (IsInserted nat_cmp (λ x y. x ≡ y) server.now port ports.old ports.new) }
+    ensures set { OnOk result
+        (IsInserted nat_cmp (λ x y. x ≡ y) server.now port ports.old ports.new) }
 {
     let had = ports.get(server).copied();
     ports.insert(server, port)?;

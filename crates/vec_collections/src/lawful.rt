@@ -4,19 +4,22 @@ ghost use Rattle.vec_collections.specs.Join.{ClonedKey};
 ghost use Rattle.vec_collections.specs.JoinLaws.{KindsInWords, JoinsOfFunctions};
 ghost use Rattle.vec_collections.specs.MergeLaws.{AscendingHaveOneScript, MembersAreElements, MembersTellTheList, TicksStay, RunsAreBeginnings};
 ghost use Rattle.vec_collections.specs.SetLaws.{InEachWay, SetOfIsOne, OperationsInWords, TestsAreOfOperations};
-ghost use Rattle.vec_collections.specs.TreeLaws.{KeysAreOrdered, LeftBehindIsRest, BindsIsLookup, CanonicalIsConditions, CanonicalIsUnique, CanonicalIsSmallest, WalkIsOne};
-ghost use Rattle.vec_collections.specs.PrefixLaws.{WalkUnder, WalkPrefixed, WalkIsFiltered, CoverIsLongest, RemovalAndRetentionPart, RunIsFunction};
+ghost use Rattle.vec_collections.specs.TreeLaws.{KeysAreOrdered, LeftBehindIsRest, BindsIsLookup, CanonicalIsConditions, CanonicalIsUnique, CanonicalIsSmallest, CanonicalIsShallow, WalkIsOne};
+ghost use Rattle.vec_collections.specs.PrefixLaws.{WalkUnder, WalkPrefixed, WalkIsFiltered, CoverIsLongest, RemovalAndRetentionPart};
+ghost use Rattle.vec_collections.specs.PrefixLaws.{InsertsCommute, RunIsFunction};
 ghost use Rattle.vec_collections.specs.TotalMapLaws.{StandingIsAt, CombinedIsPointwise, MappedIsPointwise};
 ghost use Rattle.vec_collections.specs.TotalLaws.{moved_of, OperationsArePointwise, OperationsMakeOne, ComplementsTurnOperations, TotalTestsAreOfOperations};
+ghost use Rattle.vec_collections.specs.Matches.{AreCopies};
 ghost use Rattle.vec_collections.specs.Value.{Copies};
 ghost use Rattle.std.specs.Fn.{FnReturnsAt, FnReturnsAtPair};
-ghost use Rattle.std.specs.Prelude.{Ok, IsTrue};
+ghost use Rattle.std.specs.Prelude.{◌≡◌, Ok, IsTrue};
 
 use crate::laws::{
-    ByClone, ByEq, Question, binds_is_lookup, canonical_is_conditions, canonical_is_smallest,
-    canonical_is_unique, combined_is_pointwise, complements_turn_operations, cover_is_longest,
-    joins_of_functions, keys_are_ordered, kinds_are_as_named, left_behind_is_rest,
-    mapped_is_pointwise, members_are_elements, members_tell_the_list, operations_are_as_named,
+    ByClone, ByEither, ByEq, ByItself, Question, binds_is_lookup, canonical_is_conditions,
+    canonical_is_shallow, canonical_is_smallest, canonical_is_unique, combined_is_pointwise,
+    complements_turn_operations, cover_is_longest, inserts_commute, joins_of_functions,
+    keys_are_ordered, kinds_are_as_named, left_behind_is_rest, mapped_is_pointwise,
+    members_are_elements, members_tell_the_list, operations_are_as_named,
     removal_and_retention_part, run_is_function, runs_are_beginnings, script_is_one, set_of_is_one,
     standing_is_at, tests_are_of_operations, ticks_stay, total_operations_are_pointwise,
     total_operations_make_one, total_tests_are_of_operations, walk_is_filtered, walk_is_one,
@@ -54,7 +57,8 @@ pub fn of_sets<T: Ord + Clone>()
 /// The laws of joins.
 pub fn of_joins<K: Ord + Clone, V, W, X, Q: Question<K, V, W, X>>()
     ensures kinds { KindsInWords K V W K.cmp }
-    ensures functions { (q : Q) → JoinsOfFunctions K V W K.cmp (λ a r. Q.may q a (Ok r)) (ClonedKey K.is_clone) }
+    ensures functions { (q : Q)
+        → JoinsOfFunctions K V W K.cmp (λ a r. Q.may q a (Ok r)) (ClonedKey K.is_clone) }
 {
     kinds_are_as_named::<K, V, W>();
     joins_of_functions::<K, V, W, X, Q>();
@@ -81,8 +85,10 @@ pub fn of_total_maps<
     G: Fn(&V) -> Result<V, AllocError>,
 >(combining: &F, changing: &G)
     ensures standing { StandingIsAt K V K.cmp V.eq }
-    ensures combined { CombinedIsPointwise K.cmp V.eq K.is_clone (λ x y v. FnReturnsAtPair F.Fn combining.now x y (Ok v)) }
-    ensures mapped { MappedIsPointwise K.cmp V.eq K.is_clone (λ x v. FnReturnsAt G.Fn changing.now x (Ok v)) }
+    ensures combined { CombinedIsPointwise K.cmp V.eq K.is_clone
+        (λ x y v. FnReturnsAtPair F.Fn combining.now x y (Ok v)) }
+    ensures mapped { MappedIsPointwise K.cmp V.eq K.is_clone
+        (λ x v. FnReturnsAt G.Fn changing.now x (Ok v)) }
 {
     standing_is_at::<K, V>();
     combined_is_pointwise::<K, V, F>(combining);
@@ -106,25 +112,31 @@ pub fn of_keys<K: Ord, V>()
 pub fn of_trees<K: Ord, V: PartialEq + Clone>()
     ensures conditions { CanonicalIsConditions K V K.cmp }
     ensures unique { CanonicalIsUnique K V K.cmp (λ v w. IsTrue (V.eq v w)) }
-    ensures smallest { CanonicalIsSmallest K V K.cmp (Copies V.is_clone) }
+    ensures one { CanonicalIsUnique K V K.cmp (λ v w. v ≡ w) }
+    ensures smallest { CanonicalIsSmallest K V K.cmp (AreCopies V.is_clone) }
+    ensures shallow { CanonicalIsShallow K V K.cmp }
 {
     canonical_is_conditions::<K, V>();
     canonical_is_unique::<K, V, ByEq>();
-    canonical_is_smallest::<K, V, ByClone>();
+    canonical_is_unique::<K, V, ByItself>();
+    canonical_is_smallest::<K, V, ByEither>();
+    canonical_is_shallow::<K, V>();
 }
 
-/// The laws of prefixes, of covers and of the machine.
-pub fn of_prefixes<K: Ord, V: PartialEq + Clone, W>()
+/// The laws of prefixes, of covers, of insertions and of the machine.
+pub fn of_prefixes<K: Ord, V: Clone, W>()
     ensures under { WalkUnder K V K.cmp }
     ensures prefixed { WalkPrefixed K V K.cmp }
     ensures filtered { WalkIsFiltered K V K.cmp (Copies V.is_clone) }
     ensures longest { CoverIsLongest K W K.cmp }
     ensures parts { RemovalAndRetentionPart K V W (Copies V.is_clone) }
-    ensures runs { RunIsFunction K V K.cmp (λ v w. IsTrue (V.eq v w)) }
+    ensures inserts { InsertsCommute K V K.cmp }
+    ensures runs { RunIsFunction K V K.cmp V.is_clone }
 {
     walks_by_prefix::<K, V>();
     walk_is_filtered::<K, V, ByClone>();
     cover_is_longest::<K, W>();
     removal_and_retention_part::<K, V, W, ByClone>();
-    run_is_function::<K, V, ByEq>();
+    inserts_commute::<K, V>();
+    run_is_function::<K, V>();
 }

@@ -1,8 +1,10 @@
 //! Small sorted sets, radix trees that are always canonical, and filters of paths.
 //!
-//! Every name that a user writes comes from this crate: it exports the modules `merge`, `iterators`, `vec_set`, `vec_map`, `total_vec_set`, `total_vec_map`,
-//! `btree_map`, `radix_tree`, `path_filter`, `macros` and `laws` of the crates below it, and the items of `vec_set` and `vec_map` also at its root. A user's line
-//! of `crates.txt` lists those crates too, since operators and loops on references to their types are found only where they are listed.
+//! Every name that a user writes comes from this crate: it exports the modules `merge`,
+//! `iterators`, `vec_set`, `vec_map`, `total_vec_set`, `total_vec_map`, `btree_map`, `radix_tree`,
+//! `path_filter`, `macros` and `laws` of the crates below it, and the items of `vec_set` and
+//! `vec_map` also at its root. A user's line of `crates.txt` lists those crates too, since
+//! operators and loops on references to their types are found only where they are listed.
 #![tactic(auto)]
 
 mod example;
@@ -72,7 +74,8 @@ pub mod path_filter {
     pub use vc_path_filter::path_filter::PathFilter;
 }
 
-/// The laws of the words that contracts cite. Each function does nothing: code that calls one has its law in the proof.
+/// The laws of the words that contracts cite. Each function does nothing: code that calls one has
+/// its law in the proof.
 pub mod laws {
     pub use vc_joins::answers::{AskInner, AskLeft, AskOuter, AskRight, Question};
     pub use vc_joins::laws::{joins_of_functions, kinds_are_as_named};
@@ -86,10 +89,10 @@ pub mod laws {
         total_tests_are_of_operations,
     };
     pub use vc_tree_model::laws::{
-        ByClone, ByEq, Matching, binds_is_lookup, canonical_is_conditions, canonical_is_smallest,
-        canonical_is_unique, cover_is_longest, keys_are_ordered, left_behind_is_rest,
-        removal_and_retention_part, run_is_function, walk_is_filtered, walk_is_one,
-        walks_by_prefix,
+        ByClone, ByEither, ByEq, ByItself, Matching, binds_is_lookup, canonical_is_conditions,
+        canonical_is_shallow, canonical_is_smallest, canonical_is_unique, cover_is_longest,
+        inserts_commute, keys_are_ordered, left_behind_is_rest, removal_and_retention_part,
+        run_is_function, walk_is_filtered, walk_is_one, walks_by_prefix,
     };
 }
 
