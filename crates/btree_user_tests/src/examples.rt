@@ -1,4 +1,5 @@
-//! Worked examples of each join that builds a `BTreeMap`, with answers from outside and the questions counted.
+//! Worked examples of each join that builds a `BTreeMap`, with answers from outside and the
+//! questions counted.
 
 use std::alloc::{AllocError, Global};
 use std::cell::Cell;

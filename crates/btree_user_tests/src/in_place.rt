@@ -1,4 +1,5 @@
-//! Worked examples of each join in place, with the questions counted and the spelling of the keys that were shown.
+//! Worked examples of each join in place, with the questions counted and the spelling of the keys
+//! that were shown.
 
 use crate::examples::{Map, Marked, count, is_map, map_of};
 use std::alloc::{AllocError, Global};
@@ -19,6 +20,8 @@ struct Asked {
     misspelled: Cell<bool>,
     /// Whether a value of this map was shown before the last key of the other map alone.
     early: Cell<bool>,
+    /// The digits of the keys that were shown, one question after another.
+    keys: Cell<u64>,
 }
 
 impl Asked {
@@ -29,11 +32,20 @@ impl Asked {
             other_alone: Cell::new(0),
             misspelled: Cell::new(false),
             early: Cell::new(false),
+            keys: Cell::new(0),
         }
     }
 
-    /// Notes a question at a key of this map, and adds the other value, where there is one. Answers whether there is.
+    /// Notes the key of a question.
+    fn note(&self, key: &Marked) {
+        let digits = self.keys.get().saturating_mul(10);
+        self.keys.set(digits.saturating_add(u64::from(key.number)));
+    }
+
+    /// Notes a question at a key of this map, and adds the other value, where there is one. Answers
+    /// whether there is.
     fn add(&self, mark: char, key: &Marked, value: &mut u32, other: Option<&u32>) -> bool {
+        self.note(key);
         match other {
             Some(other) => {
                 count(&self.shared);
@@ -50,9 +62,11 @@ impl Asked {
         }
     }
 
-    /// Whether just these questions were asked: at shared keys, at keys of this map alone, at keys of the other one alone.
-    fn is(&self, shared: u32, alone: u32, other_alone: u32) -> bool {
+    /// Whether just these questions were asked: at shared keys, at keys of this map alone, at keys
+    /// of the other one alone; and at these keys, by their digits.
+    fn is(&self, shared: u32, alone: u32, other_alone: u32, keys: u64) -> bool {
         !self.misspelled.get()
+            && self.keys.get() == keys
             && !self.early.get()
             && self.shared.get() == shared
             && self.alone.get() == alone
@@ -98,12 +112,16 @@ fn right_sums(alloc: Global, right: &Map, keeps: bool, asked: &Asked) -> Result<
         |key: &Marked, value: &mut u32, other: &u32| {
             asked.add('b', key, value, Some(other)) && keeps
         },
-        |_: &Marked, _: &u32| count(&asked.other_alone),
+        |key: &Marked, _: &u32| {
+            asked.note(key);
+            count(&asked.other_alone);
+        },
     );
     Ok(map)
 }
 
-/// Adds and keeps at shared keys, takes the other map's values, of which there are `others` alone, and drops this one's.
+/// Adds and keeps at shared keys, takes the other map's values, of which there are `others` alone,
+/// and drops this one's.
 fn outer_sums(alloc: Global, right: &Map, others: u32, asked: &Asked) -> Result<Map, AllocError> {
     let mut map = left(alloc)?;
     map.outer_join_with(
@@ -115,7 +133,8 @@ fn outer_sums(alloc: Global, right: &Map, others: u32, asked: &Asked) -> Result<
             }
             asked.add('b', key, value, other)
         },
-        |_: &Marked, other: &u32| {
+        |key: &Marked, other: &u32| {
+            asked.note(key);
             count(&asked.other_alone);
             Some(*other)
         },
@@ -128,7 +147,7 @@ fn is_inner(alloc: Global, others: &[(u32, u32)]) -> Result<bool, AllocError> {
     let right = map_of(alloc, 'b', others)?;
     let asked = Asked::new();
     let map = inner(alloc, &right, &asked)?;
-    Ok(is_map(&map, &[(2, 'a', 20)]) && asked.is(1, 0, 0))
+    Ok(is_map(&map, &[(2, 'a', 20)]) && asked.is(1, 0, 0, 2))
 }
 
 /// Whether the left join is.
@@ -136,7 +155,7 @@ fn is_left(alloc: Global, others: &[(u32, u32)]) -> Result<bool, AllocError> {
     let right = map_of(alloc, 'b', others)?;
     let asked = Asked::new();
     let map = left_sums(alloc, &right, &asked)?;
-    Ok(is_map(&map, &[(1, 'a', 10), (2, 'a', 25)]) && asked.is(1, 1, 0))
+    Ok(is_map(&map, &[(1, 'a', 10), (2, 'a', 25)]) && asked.is(1, 1, 0, 12))
 }
 
 #[test]
@@ -147,12 +166,13 @@ fn inner_and_left_joins_in_place(rt: HostRuntime) -> Result<(), Fail> {
     Ok(())
 }
 
-/// Whether the right join, which keeps sums or drops them, leaves these pairs and asks as worked out.
+/// Whether the right join, which keeps sums or drops them, leaves these pairs and asks as worked
+/// out.
 fn is_right(alloc: Global, keeps: bool, pairs: &[(u32, char, u32)]) -> Result<bool, AllocError> {
     let right = map_of(alloc, 'b', &[(2, 5), (3, 7)])?;
     let asked = Asked::new();
     let map = right_sums(alloc, &right, keeps, &asked)?;
-    Ok(is_map(&map, pairs) && asked.is(1, 0, 1))
+    Ok(is_map(&map, pairs) && asked.is(1, 0, 1, 23))
 }
 
 #[test]
@@ -162,17 +182,19 @@ fn right_joins_in_place_insert_nothing(rt: HostRuntime) -> Result<(), Fail> {
     Ok(())
 }
 
-/// Whether the outer join with a map of these pairs, of which so many keys are its alone, makes those pairs and asks as worked out.
+/// Whether the outer join with a map of these pairs, of which so many keys are its alone, makes
+/// those pairs and asks as worked out, at these keys.
 fn is_outer(
     alloc: Global,
     others: &[(u32, u32)],
     alone: u32,
+    keys: u64,
     pairs: &[(u32, char, u32)],
 ) -> Result<bool, AllocError> {
     let right = map_of(alloc, 'b', others)?;
     let asked = Asked::new();
     let map = outer_sums(alloc, &right, alone, &asked)?;
-    Ok(is_map(&map, pairs) && asked.is(1, 1, alone))
+    Ok(is_map(&map, pairs) && asked.is(1, 1, alone, keys))
 }
 
 #[test]
@@ -181,14 +203,16 @@ fn outer_joins_in_place_ask_for_new_pairs_first(rt: HostRuntime) -> Result<(), F
         rt.alloc(),
         &[(2, 5), (3, 7)],
         1,
+        321,
         &[(2, 'a', 25), (3, 'b', 7)],
     )?;
     assert!(rt; two);
     let three = is_outer(
         rt.alloc(),
-        &[(0, 4), (2, 5), (3, 7)],
+        &[(4, 4), (2, 5), (3, 7)],
         2,
-        &[(0, 'b', 4), (2, 'a', 25), (3, 'b', 7)],
+        3421,
+        &[(2, 'a', 25), (3, 'b', 7), (4, 'b', 4)],
     )?;
     assert!(rt; three);
     Ok(())

@@ -1,4 +1,5 @@
-//! A crate that uses joins of maps from outside: worked examples, joins in place, and a refused one.
+//! A crate that uses joins of maps from outside: worked examples, joins in place, and a refused
+//! one.
 #![tactic(auto)]
 
 #[cfg(test)]

@@ -51,8 +51,9 @@ fn is_tens(map: &BTreeMap<Held, u32>, numbers: &[u32]) -> bool {
         })
 }
 
-/// Joins `{10, 20}` with `{5, 10, 15, 25}`, where the key `refusing` refuses. Answers whether that was refused and left the old pairs and
-/// `stays` beside them, and whether the closure for the map's own values was asked.
+/// Joins `{10, 20}` with `{5, 10, 15, 25}`, where the key `refusing` refuses. Answers whether that
+/// was refused and left the old pairs and `stays` beside them, and whether the closure for the
+/// map's own values was asked.
 fn refused_at(alloc: Global, refusing: u32, stays: &[u32]) -> Result<(bool, bool), AllocError> {
     let mut map = tens(alloc, &[10, 20], refusing)?;
     let other = tens(alloc, &[5, 10, 15, 25], refusing)?;

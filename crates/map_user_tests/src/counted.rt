@@ -1,4 +1,5 @@
-//! Comparisons of joins by lengths: keys that count their own see no more than the bound, and a counted join counts each of them.
+//! Comparisons of joins by lengths: keys that count their own see no more than the bound, and a
+//! counted join counts each of them.
 
 use set_user_tests::compared::Compared;
 use set_user_tests::lengths::{LENGTHS, PLACES, Place};
@@ -18,7 +19,8 @@ const KINDS: [JoinKind; 4] = [
     JoinKind::Inner,
 ];
 
-/// The map of so many numbers to 1, beside one of `many` numbers. Its keys count their comparisons on `count`.
+/// The map of so many numbers to 1, beside one of `many` numbers. Its keys count their comparisons
+/// on `count`.
 fn map_of<'a>(
     alloc: Global,
     place: Place,
@@ -127,7 +129,8 @@ enum Form {
     InPlace,
 }
 
-/// Whether the join compares as often as it counts and at most so often, and what it made. Where both maps have keys it compares.
+/// Whether the join compares as often as it counts and at most so often, and what it made. Where
+/// both maps have keys it compares.
 fn counted_agrees<'s, 'a>(
     form: Form,
     kind: JoinKind,
@@ -147,7 +150,8 @@ fn counted_agrees<'s, 'a>(
     Ok((agrees, made))
 }
 
-/// Whether the join compares as often as it counts, and at most so often with a counter and without, and makes the same.
+/// Whether the join compares as often as it counts, and at most so often with a counter and
+/// without, and makes the same.
 fn agrees<'s, 'a>(
     alloc: Global,
     form: Form,

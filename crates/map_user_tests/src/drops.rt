@@ -1,5 +1,5 @@
-//! What calls drop is dropped once, refused ones too, and nothing else is; they clone nothing of what they keep or move, and ask nothing
-//! before a refusal.
+//! What calls drop is dropped once, refused ones too, and nothing else is; they clone nothing of
+//! what they keep or move, and ask nothing before a refusal.
 
 use super::sides::{Map, Memory, Sides, memory_over, numbered};
 use set_user_tests::held::{Held, Shared};
@@ -128,8 +128,9 @@ impl Change {
     }
 }
 
-/// A call, how many requests it makes and how many questions its closure counts, and how many hold the four shares once the right map is
-/// gone. The function that an outer join and a counted one ask counts none.
+/// A call, how many requests it makes and how many questions its closure counts, and how many hold
+/// the four shares once the right map is gone. The function that an outer join and a counted one
+/// ask counts none.
 type Row = (Change, u64, u64, [usize; 4]);
 
 const ROWS: [Row; 11] = [
@@ -152,7 +153,8 @@ const ALONE: [usize; 4] = [1, 1, 1, 1];
 /// The holders where a call was refused.
 const UNCHANGED: [usize; 4] = [3, 3, 1, 1];
 
-/// Makes the call with the request of that number and the next one refused: whether it succeeded, and how many questions were counted.
+/// Makes the call with the request of that number and the next one refused: whether it succeeded,
+/// and how many questions were counted.
 fn make_refused<'a>(
     memory: &Memory,
     change: Change,
@@ -167,8 +169,8 @@ fn make_refused<'a>(
     (is_made, asked.get())
 }
 
-/// Whether the call drops each key and value once and clones none that it keeps or moves, where the request of that number and the next one
-/// are refused. A refused call has asked nothing.
+/// Whether the call drops each key and value once and clones none that it keeps or moves, where the
+/// request of that number and the next one are refused. A refused call has asked nothing.
 fn is_dropped_once(
     sides: &Sides,
     memory: &Memory,
@@ -230,7 +232,8 @@ fn numbers(memory: &Memory, first: u32, refuses: bool) -> Result<Numbers<'_>, Al
     Ok(map)
 }
 
-/// Whether an outer join in place succeeds, with the request of that number and the next one refused, and how many questions it asked.
+/// Whether an outer join in place succeeds, with the request of that number and the next one
+/// refused, and how many questions it asked.
 fn outer_asks(
     memory: &Memory,
     right_refuses: bool,
@@ -248,7 +251,8 @@ fn outer_asks(
     Ok((outcome.is_ok(), asked.get()))
 }
 
-/// Whether keys of the right map refuse to be cloned, the request that is refused, and what that answers then.
+/// Whether keys of the right map refuse to be cloned, the request that is refused, and what that
+/// answers then.
 const OUTCOMES: [(bool, u64, (bool, u64)); 3] = [
     (false, 0, (true, 3)),
     (false, 1, (false, 0)),
@@ -265,8 +269,8 @@ fn a_refused_outer_join_asks_nothing(rt: HostRuntime) -> Result<(), Fail> {
     Ok(())
 }
 
-/// Whether the values of a map are turned into others, each shown once and no key cloned, with the request of that number
-/// and the next one refused.
+/// Whether the values of a map are turned into others, each shown once and no key cloned, with the
+/// request of that number and the next one refused.
 fn is_turned_once(sides: &Sides, memory: &Memory, number: u64) -> Result<bool, AllocError> {
     let asked = Cell::new(0);
     let map = sides.left.map(memory, 1, true)?;
@@ -326,7 +330,8 @@ fn keep_first(sides: &Sides, map: &mut Map<'_>) -> [usize; 4] {
     sides.holders()
 }
 
-/// The holders after the first pair was taken out of a map, which is left in an iterator, and after the iterator is gone.
+/// The holders after the first pair was taken out of a map, which is left in an iterator, and after
+/// the iterator is gone.
 fn take_first(sides: &Sides, map: Map<'_>) -> ([usize; 4], [usize; 4]) {
     let mut pairs = map.into_iter();
     drop(pairs.next());
@@ -335,8 +340,8 @@ fn take_first(sides: &Sides, map: Map<'_>) -> ([usize; 4], [usize; 4]) {
     (left, sides.holders())
 }
 
-/// The holders after a known key came again, after the first value was written over, after the map kept its first pair, and after the
-/// key came again.
+/// The holders after a known key came again, after the first value was written over, after the map
+/// kept its first pair, and after the key came again.
 fn change_one(sides: &Sides, map: &mut Map<'_>) -> Result<[[usize; 4]; 4], AllocError> {
     let inserted = insert_again(sides, map)?;
     let written = write_first(sides, map);

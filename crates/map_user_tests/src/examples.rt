@@ -1,7 +1,9 @@
-//! Each call on one map, and each operator and conversion, on a worked example, and what no clause says of them: printed text and hashes.
+//! Each call on one map, and each operator and conversion, on a worked example, and what no clause
+//! says of them: printed text and hashes.
 
 use smallvec::SmallVec;
 use std::alloc::{AllocError, Global};
+use std::cell::Cell;
 use std::collections::BTreeMap;
 use std::hash::{FoldHasher, Hash, Hasher};
 use std::test::Fail;
@@ -47,10 +49,14 @@ fn finds(map: &mut Map) -> bool {
     are_found && write(map, 3) && !write(map, 4)
 }
 
-/// Whether a retain leaves what was worked out.
+/// Whether a retain leaves what was worked out, and asks once at each key, in ascending order.
 fn keeps(map: &mut Map) -> bool {
-    map.retain(|pair| pair.0 != 2);
-    map.as_ref() == [(1, 2), (3, 8)].as_slice()
+    let asked = Cell::new(0u32);
+    map.retain(|pair| {
+        asked.set(asked.get().wrapping_mul(10).wrapping_add(pair.0));
+        pair.0 != 2
+    });
+    asked.get() == 123 && map.as_ref() == [(1, 2), (3, 8)].as_slice()
 }
 
 #[test]

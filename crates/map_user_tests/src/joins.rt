@@ -1,4 +1,5 @@
-//! Each join, fresh and in place, with a counter and without: at which keys it asks, in which order and spelling, and what it makes.
+//! Each join, fresh and in place, with a counter and without: at which keys it asks, in which order
+//! and spelling, and what it makes.
 
 use set_user_tests::marked::Marked;
 use std::alloc::{AllocError, Allocator, Global};
@@ -23,8 +24,8 @@ enum Answer {
     Right,
 }
 
-/// What a closure answers, and the keys that it was asked at, in their order: two digits for each, of which the second is 1 in the spelling
-/// of the right map.
+/// What a closure answers, and the keys that it was asked at, in their order: two digits for each,
+/// of which the second is 1 in the spelling of the right map.
 #[derive(Drop)]
 struct Asked {
     answer: Answer,
@@ -367,7 +368,8 @@ const ROWS: [Row; 13] = [
     },
 ];
 
-/// Whether the call makes the map of the row, and asks once at each key that it asks at, in ascending order.
+/// Whether the call makes the map of the row, and asks once at each key that it asks at, in
+/// ascending order.
 fn agrees(alloc: Global, way: Way, row: Row) -> Result<bool, AllocError> {
     let asked = Asked {
         answer: row.answer,

@@ -1,5 +1,5 @@
-//! A crate that uses maps and their joins from outside: worked examples, which keys are asked at and in which spelling, counted comparisons, drops,
-//! and clones and requests that are refused.
+//! A crate that uses maps and their joins from outside: worked examples, which keys are asked at
+//! and in which spelling, counted comparisons, drops, and clones and requests that are refused.
 #![tactic(auto)]
 
 #[cfg(test)]
@@ -10,6 +10,8 @@ mod drops;
 mod examples;
 #[cfg(test)]
 mod joins;
+#[cfg(test)]
+mod lookups;
 #[cfg(test)]
 mod sides;
 #[cfg(test)]

@@ -1,4 +1,5 @@
-//! Two maps whose keys and values share counts with the test, and whose keys may refuse to be cloned.
+//! Two maps whose keys and values share counts with the test, and whose keys may refuse to be
+//! cloned.
 
 use set_user_tests::held::{Held, Shared, hold, holders_of};
 use set_user_tests::nth::Nth;

@@ -1,5 +1,6 @@
-//! Calls that take another map in whole, and values that are turned into others: what they make, what they ask in which order, and which
-//! spelling of a key stays. Where both maps fit in the place of the left one, no request is made.
+//! Calls that take another map in whole, and values that are turned into others: what they make,
+//! what they ask in which order, and which spelling of a key stays. Where both maps fit in the
+//! place of the left one, no request is made.
 
 use super::joins::{has, map_of};
 use set_user_tests::marked::Marked;
@@ -47,7 +48,8 @@ fn take_in<'a>(
 /// Pairs of a map, whose keys have marks.
 type Marks = &'static [(u32, char, u32)];
 
-/// Two maps, whose keys are marked `a` and `b`, what a combine of them makes and what it is shown, and what a merge of them makes.
+/// Two maps, whose keys are marked `a` and `b`, what a combine of them makes and what it is shown,
+/// and what a merge of them makes.
 #[derive(Clone, Copy)]
 struct Row {
     left: &'static [(u32, u32)],

@@ -1,4 +1,5 @@
-//! A builder on its happy path, and each of its elements dropped once, also where it is dropped early.
+//! A builder on its happy path, and each of its elements dropped once, also where it is dropped
+//! early.
 
 use crate::nth::Nth;
 use smallvec::SmallVec;
@@ -90,8 +91,8 @@ fn clones(alloc: Global, counted: &Rc<u32>, number: u32) -> Result<Vec<Rc<u32>>,
     Ok(list)
 }
 
-/// How many hold a count while a builder of a list of its clones drops one, before and after, and once it has finished, and how long
-/// the list is then.
+/// How many hold a count while a builder of a list of its clones drops one, before and after, and
+/// once it has finished, and how long the list is then.
 fn drop_in_builder(
     counted: &Rc<u32>,
     mut list: Vec<Rc<u32>>,
@@ -121,7 +122,8 @@ fn drops_each_element_once(rt: HostRuntime) -> Result<(), Fail> {
     Ok(())
 }
 
-/// How many hold a count while a builder has one more of it, and once the builder was dropped early.
+/// How many hold a count while a builder has one more of it, and once the builder was dropped
+/// early.
 fn drop_early(counted: &Rc<u32>, mut list: Vec<Rc<u32>>) -> Result<[usize; 2], AllocError> {
     if list.is_empty() {
         return Ok([0; 2]);
@@ -147,15 +149,17 @@ fn drops_each_element_once_where_it_is_dropped_early(rt: HostRuntime) -> Result<
     Ok(())
 }
 
-/// Each request that is refused, whether the builder is made then, and whether the request had come: there are two.
+/// Each request that is refused, whether the builder is made then, and whether the request had
+/// come: there are two.
 const REFUSED: [(u64, (bool, bool)); 3] = [
     (1, (false, true)),
     (2, (false, true)),
     (3, (true, false)),
 ];
 
-/// Builds in a list of eight numbers with three extra places, where the request of that number is refused. Says whether
-/// the builder was made, and whether that request had come once it was finished.
+/// Builds in a list of eight numbers with three extra places, where the request of that number is
+/// refused. Says whether the builder was made, and whether that request had come once it was
+/// finished.
 fn finish(memory: &Nth<Global>, number: u64) -> Result<(bool, bool), AllocError> {
     let mut list = vec![in memory; 1, 2, 3, 4, 5, 6, 7, 8]?;
     memory.refuse(number);
@@ -179,8 +183,8 @@ fn takes_memory_twice_and_at_the_start(rt: HostRuntime) -> Result<(), Fail> {
     Ok(())
 }
 
-/// Makes a builder of a list of two numbers in place, where the request of that number is refused. Says whether it was made, and whether that
-/// request had come.
+/// Makes a builder of a list of two numbers in place, where the request of that number is refused.
+/// Says whether it was made, and whether that request had come.
 fn open_in_place(memory: &Nth<Global>, number: u64) -> Result<(bool, bool), AllocError> {
     let mut list: SmallVec<u32, 2, &Nth<Global>> = SmallVec::new(memory);
     list.push(1)?;

@@ -8,14 +8,16 @@ use vc_sets::vec_set::{AbstractVecSet, VecSet};
 
 /// The tags with more tags, which are moved in one by one.
 pub fn add_tags(tags: &mut VecSet<u32, 4>, more: VecSet<u32, 4>) -> Result<(), AllocError>
-    ensures { OnOk result ((x : ℕ) → member nat_cmp tags.new x ≡ (member nat_cmp tags.old x || member nat_cmp more x)) }
+    ensures { OnOk result ((x : ℕ)
+        → member nat_cmp tags.new x ≡ (member nat_cmp tags.old x || member nat_cmp more x)) }
 {
     tags.extend(more.into_iter())
 }
 
 /// The even ones.
 pub fn keep_even(numbers: &mut VecSet<u32, 4>)
-    ensures { (x : ℕ) → IsTrue (member nat_cmp numbers.new x) → IsTrue (member nat_cmp numbers.old x) }
+    ensures { (x : ℕ) → IsTrue (member nat_cmp numbers.new x)
+        → IsTrue (member nat_cmp numbers.old x) }
 {
     numbers.retain(|x| *x % 2 == 0);
 }

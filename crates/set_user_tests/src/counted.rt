@@ -1,4 +1,5 @@
-//! Comparisons by lengths: elements that count their own see no more than the bound, and a counted call counts each of them.
+//! Comparisons by lengths: elements that count their own see no more than the bound, and a counted
+//! call counts each of them.
 
 use crate::compared::Compared;
 use crate::lengths::{LENGTHS, PLACES, Place};
@@ -118,7 +119,8 @@ fn is_made_within<'s, 'a>(
     taken(count) <= bound && made == *counted
 }
 
-/// Whether the operation without a counter makes the same, fresh and in place, and compares no more often than the bound.
+/// Whether the operation without a counter makes the same, fresh and in place, and compares no more
+/// often than the bound.
 fn uncounted_agrees<'s, 'a>(
     a: &'s Compareds<'a>,
     b: &'s Compareds<'a>,
@@ -134,8 +136,8 @@ fn uncounted_agrees<'s, 'a>(
     )
 }
 
-/// Whether the operation compares as often as it counts, at most so often, and no more often where it counts none, fresh and in place.
-/// Where both sets have elements it compares.
+/// Whether the operation compares as often as it counts, at most so often, and no more often where
+/// it counts none, fresh and in place. Where both sets have elements it compares.
 fn operation_agrees<'s, 'a>(
     a: &'s Compareds<'a>,
     b: &'s Compareds<'a>,
@@ -151,7 +153,8 @@ fn operation_agrees<'s, 'a>(
     Ok(is_counted && uncounted_agrees(a, b, op, &counted, bound, count)?)
 }
 
-/// Whether the test compares as often as it counts, at most so often, and no more often where it counts none.
+/// Whether the test compares as often as it counts, at most so often, and no more often where it
+/// counts none.
 fn test_agrees<'s, 'a>(
     a: &'s Compareds<'a>,
     b: &'s Compareds<'a>,

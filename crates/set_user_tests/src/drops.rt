@@ -1,5 +1,6 @@
-//! What calls drop is dropped once, refused ones too, and nothing else is; and calls in place clone nothing of what they keep or
-//! move: elements that share a count with the test, and may refuse to be cloned.
+//! What calls drop is dropped once, refused ones too, and nothing else is; and calls in place clone
+//! nothing of what they keep or move: elements that share a count with the test, and may refuse to
+//! be cloned.
 use crate::held::{Held, Shared, hold, holders_of};
 use crate::nth::Nth;
 use std::alloc::{AllocError, Global};
@@ -148,8 +149,9 @@ const CHANGES: [(Change, [usize; 6]); 11] = [
 /// The holders of the six shares where a change was refused.
 const UNCHANGED: [usize; 6] = [2, 2, 2, 1, 1, 1];
 
-/// Makes the call on a left set that refuses all clones, with the request of that number and the next one refused. Says whether
-/// it succeeded, and how many held the six shares before the left set was dropped.
+/// Makes the call on a left set that refuses all clones, with the request of that number and the
+/// next one refused. Says whether it succeeded, and how many held the six shares before the left
+/// set was dropped.
 fn try_change(
     six: &Six,
     memory: &Memory,
@@ -165,8 +167,8 @@ fn try_change(
     Ok((is_made, six.holders()))
 }
 
-/// Whether the call drops each element once and clones none that it keeps, where the request of that number and the next one are
-/// refused.
+/// Whether the call drops each element once and clones none that it keeps, where the request of
+/// that number and the next one are refused.
 fn is_dropped_once(
     six: &Six,
     memory: &Memory,
@@ -333,7 +335,8 @@ fn into_vec(memory: &Memory, six: &Six, number: u64) -> Result<(), AllocError> {
     Ok(())
 }
 
-/// Makes the call so, and says whether it was refused where it asks alone, and each element is dropped once.
+/// Makes the call so, and says whether it was refused where it asks alone, and each element is
+/// dropped once.
 fn takes(alloc: Global, memory: &Memory, six: &Six, call: Taking, number: u64) -> bool {
     let is_made = call.make(alloc, memory, six, number).is_ok();
     memory.refuse_two(0);
@@ -375,7 +378,8 @@ fn keep_first(six: &Six, set: &mut Set<'_>) -> [usize; 6] {
     six.holders()
 }
 
-/// The holders after the first element was taken out of a set, which is left in an iterator, and after the iterator is gone.
+/// The holders after the first element was taken out of a set, which is left in an iterator, and
+/// after the iterator is gone.
 fn take_first(six: &Six, set: Set<'_>) -> ([usize; 6], [usize; 6]) {
     let mut elements = set.into_iter();
     drop(elements.next());
@@ -384,7 +388,8 @@ fn take_first(six: &Six, set: Set<'_>) -> ([usize; 6], [usize; 6]) {
     (left, six.holders())
 }
 
-/// The holders after a number was inserted again and removed, after the set kept its first element, and after the number came again.
+/// The holders after a number was inserted again and removed, after the set kept its first element,
+/// and after the number came again.
 fn change_one(six: &Six, set: &mut Set<'_>) -> Result<[[usize; 6]; 4], AllocError> {
     let inserted = insert_again(six, set)?;
     let removed = remove(six, set)?;

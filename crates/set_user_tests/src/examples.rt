@@ -1,4 +1,5 @@
-//! Worked examples of sets, with answers from outside, and what no clause says of them: printed text and hashes.
+//! Worked examples of sets, with answers from outside, and what no clause says of them: printed
+//! text and hashes.
 
 use crate::marked::Marked;
 use smallvec::SmallVec;
@@ -144,8 +145,8 @@ fn one(alloc: Global, mark: char) -> Result<VecSet<Marked, 2>, AllocError> {
     VecSet::single(alloc, Marked { number: 1, mark })
 }
 
-/// Whether the element was new to an insert, and the marks after that, after a union with a set that stays and one with a set that is
-/// moved.
+/// Whether the element was new to an insert, and the marks after that, after a union with a set
+/// that stays and one with a set that is moved.
 fn marks(
     set: &mut VecSet<Marked, 2>,
     that: VecSet<Marked, 2>,
@@ -246,7 +247,8 @@ fn hash_of<const N: usize>(set: &VecSet<u32, N>) -> u64 {
     hasher.finish()
 }
 
-/// Whether a set is ordered before the set of 1 and 3, and hashed as a set that was longer, but not as that one.
+/// Whether a set is ordered before the set of 1 and 3, and hashed as a set that was longer, but not
+/// as that one.
 fn compares(alloc: Global, set: &Numbers) -> Result<bool, AllocError> {
     let greater = numbers(alloc, &[1, 3])?;
     let mut spilled = numbers(alloc, &[1, 2, 3])?;
@@ -264,11 +266,18 @@ fn is_shown<T: Debug>(alloc: Global, value: &T, text: &str) -> Result<bool, Allo
     Ok(shown.as_str() == text)
 }
 
+/// Whether a value is shown over several lines as the text.
+fn is_spread<T: Debug>(alloc: Global, value: &T, text: &str) -> Result<bool, AllocError> {
+    let shown = format!(in alloc; "{value:#?}")?;
+    Ok(shown.as_str() == text)
+}
+
 #[test]
 fn sets_are_shown_ordered_and_hashed_as_lists(rt: HostRuntime) -> Result<(), Fail> {
     let set = numbers(rt.alloc(), &[2, 1])?;
     assert!(rt; compares(rt.alloc(), &set)?);
     assert!(rt; is_shown(rt.alloc(), &set, "{1, 2}")?);
+    assert!(rt; is_spread(rt.alloc(), &set, "{\n    1,\n    2,\n}")?);
     Ok(())
 }
 

@@ -7,7 +7,8 @@ use std::rc::Rc;
 /// A count of holders.
 pub type Shared = Option<Rc<u32>>;
 
-/// A number that holds a share, and may refuse to be cloned. The number alone counts in comparisons.
+/// A number that holds a share, and may refuse to be cloned. The number alone counts in
+/// comparisons.
 #[derive_where(Debug, PartialEq, Eq, PartialOrd, Ord)]
 #[derive(Drop)]
 pub struct Held {

@@ -15,6 +15,24 @@ pub const LENGTHS: [(u32, u32, u128); 11] = [
     (8, 8, 16),
 ];
 
+/// The lengths of lists, and the most comparisons of a look-up there: less than `1.5 * log2(n) +
+/// 4`.
+pub const LOOK_UPS: [(u32, u128); 13] = [
+    (0, 0),
+    (1, 1),
+    (2, 2),
+    (3, 3),
+    (4, 4),
+    (5, 5),
+    (7, 7),
+    (8, 5),
+    (16, 7),
+    (19, 10),
+    (67, 13),
+    (100, 13),
+    (300, 15),
+];
+
 /// The first number of the long list; the others follow two by two.
 const FIRST: u32 = 2000;
 

@@ -1,6 +1,7 @@
-//! A crate that uses sets from outside, and the builder that they are changed in: worked examples, contracts, drops, counted
-//! comparisons, elements that refuse to be cloned, refused memory, and calls that take none. The allocator, three of its elements
-//! and the lengths by which comparisons are counted are there for tests of other crates.
+//! A crate that uses sets from outside, and the builder that they are changed in: worked examples,
+//! contracts, drops, counted comparisons, elements that refuse to be cloned, refused memory, and
+//! calls that take none. The allocator, three of its elements and the lengths by which comparisons
+//! are counted are there for tests of other crates.
 #![tactic(auto)]
 
 #[cfg(test)]
@@ -16,6 +17,8 @@ mod drops;
 mod examples;
 pub mod held;
 pub mod lengths;
+#[cfg(test)]
+mod lookups;
 pub mod marked;
 pub mod nth;
 #[cfg(test)]

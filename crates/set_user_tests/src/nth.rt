@@ -30,7 +30,8 @@ impl<B: Allocator> Nth<B> {
 }
 
 impl<B: Allocator> Nth<Nth<B>> {
-    /// Refuses the request of that number, counted from now on from 1, and the next one. At 0 it grants each.
+    /// Refuses the request of that number, counted from now on from 1, and the next one. At 0 it
+    /// grants each.
     pub fn refuse_two(&self, number: u64) {
         self.refuse(number);
         self.inner.refuse(number);

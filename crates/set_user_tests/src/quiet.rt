@@ -1,10 +1,13 @@
-//! The calls of sets that take no memory, each with every request refused, and those that take some only where it is needed.
+//! The calls of sets that take no memory, each with every request refused, and those that take some
+//! only where it is needed.
 
 use crate::nth::Nth;
 use smallvec::SmallVec;
 use std::alloc::{AllocError, Global};
+use std::collections::BTreeSet;
 use std::hash::{FoldHasher, Hash};
 use std::test::Fail;
+use vc_merge::iterators::ascends;
 use vc_merge::merge::Steps;
 use vc_sets::vec_set::{AbstractVecSet, SetTest, VecSet};
 
@@ -72,9 +75,10 @@ const CALLS: [Call; 17] = [
 ];
 
 /// Sets that stand in place, and sets that do not.
-const LISTS: [(&[u32], &[u32]); 4] = [
+const LISTS: [(&[u32], &[u32]); 5] = [
     (&[1, 2], &[2]),
     (&[1, 2, 3, 4, 5], &[2, 4, 6]),
+    (&[1, 2, 3, 4, 5], &[2, 3, 4]),
     (&[2], &[1, 2, 3, 4]),
     (&[1, 3, 5], &[7]),
 ];
@@ -188,12 +192,18 @@ fn insert_known<'s, 'a>(left: &'s mut Numbers<'a>, right: &'s Numbers<'a>) {
     }
 }
 
-/// Makes sets that fit in place.
-fn make_in_place(memory: &Nth<Global>) {
+/// Makes sets that fit in place, of one element or of as many as stand there.
+fn make_in_place(memory: &Nth<Global>, list: Vec<u32>, tree: BTreeSet<u32>) {
     let mut set = Numbers::empty(memory);
     let _first = set.insert(2);
     let _second = set.insert(1);
     let _one = Numbers::single(memory, 3);
+    let _copy = set.clone();
+    if ascends(list.as_slice()) {
+        let _of_list = Numbers::from_vec(memory, list);
+    }
+    let _of_tree = Numbers::from_btree_set(memory, tree);
+    let _of_items = Numbers::from_iter(memory, set.into_iter());
 }
 
 /// The set of the numbers of a list.
@@ -238,7 +248,9 @@ fn calls_that_need_no_memory_ask_for_none(rt: HostRuntime) -> Result<(), Fail> {
 #[test]
 fn sets_that_fit_in_place_ask_for_no_memory(rt: HostRuntime) -> Result<(), Fail> {
     let memory = Nth::new(rt.alloc(), 1);
-    make_in_place(&memory);
+    let list = [4_u32, 5].to_vec(rt.alloc())?;
+    let tree: BTreeSet<u32> = [4_u32, 5].into_iter().collect(rt.alloc())?;
+    make_in_place(&memory, list, tree);
     assert!(rt; !memory.is_done());
     Ok(())
 }
@@ -313,6 +325,61 @@ fn sets_that_fit_together_ask_for_no_memory_and_others_twice_at_most(
     for join in JOINS {
         for (left, right, most) in REQUESTS {
             assert!(rt; asks_at_most(&memory, join, left, right, most)?, "{join:?}");
+        }
+    }
+    Ok(())
+}
+
+/// Two lists, and the most requests of a fresh union of their sets, or of what is in exactly one of
+/// them.
+const FRESH: [(&[u32], &[u32], u64); 5] = [
+    (&[1, 2, 3, 4], &[1, 2, 3, 4], 0),
+    (&[2, 4], &[1, 2, 3, 4], 0),
+    (&[1, 2, 3], &[3, 4], 0),
+    (&[1, 3, 5, 7], &[2, 4, 6, 8], 1),
+    (&[1, 2, 3, 4, 5], &[1, 2, 3, 4, 6], 1),
+];
+
+/// The union of two sets, or what is in exactly one of them.
+fn fresh<'s, 'a>(
+    is_union: bool,
+    left: &'s Four<'a>,
+    right: &'s Four<'a>,
+) -> Result<Four<'a>, AllocError> {
+    if is_union {
+        left.union(right)
+    } else {
+        left.symmetric_difference(right)
+    }
+}
+
+/// Whether a fresh set makes so many requests at most, and stands in place where it makes none.
+fn fresh_asks_at_most(
+    memory: &Nth<Global>,
+    is_union: bool,
+    left: &[u32],
+    right: &[u32],
+    most: u64,
+) -> Result<bool, AllocError> {
+    let left: Four<'_> = set_of(memory, left)?;
+    let right: Four<'_> = set_of(memory, right)?;
+    memory.refuse(most.saturating_add(1));
+    let made = fresh(is_union, &left, &right)?;
+    let has_come = memory.is_done();
+    memory.refuse(0);
+    let has_spilled = made.into_inner().spilled();
+    Ok(!has_come && (most != 0 || !has_spilled))
+}
+
+#[test]
+fn fresh_sets_that_fit_in_place_ask_for_no_memory_and_others_once(
+    rt: HostRuntime,
+) -> Result<(), Fail> {
+    let memory = Nth::new(rt.alloc(), 0);
+    for is_union in [true, false] {
+        for (left, right, most) in FRESH {
+            let asks = fresh_asks_at_most(&memory, is_union, left, right, most)?;
+            assert!(rt; asks, "{left:?} {right:?}");
         }
     }
     Ok(())

@@ -1,4 +1,5 @@
-//! Each call of sets that takes memory, with each of its requests refused in turn, alone and with the next one.
+//! Each call of sets that takes memory, with each of its requests refused in turn, alone and with
+//! the next one.
 
 use crate::nth::Nth;
 use std::alloc::{AllocError, Global};
@@ -156,8 +157,8 @@ impl Call {
         )
     }
 
-    /// What becomes of it where it succeeds, by whether it is right, whether a request came that was refused, and whether the next one was
-    /// refused too.
+    /// What becomes of it where it succeeds, by whether it is right, whether a request came that
+    /// was refused, and whether the next one was refused too.
     fn outcome(self, is_right: bool, has_come: bool, with_next: bool) -> Outcome {
         if !has_come && is_right {
             Outcome::Ends
@@ -174,7 +175,8 @@ impl Call {
 enum Outcome {
     /// It makes fewer requests, and succeeds.
     Ends,
-    /// It is refused and leaves the sets as they were, or does without where it may. Once memory is granted, it succeeds.
+    /// It is refused and leaves the sets as they were, or does without where it may. Once memory is
+    /// granted, it succeeds.
     Stands,
     /// Anything else.
     Fails,
@@ -390,8 +392,8 @@ impl<'a> Case<'a> {
         Ok(self.succeeds(call, left, right, moved)? && stands)
     }
 
-    /// Makes the call with its request of that number refused, alone or with the next one. Answers whether that request came, and whether
-    /// the call succeeded and was right.
+    /// Makes the call with its request of that number refused, alone or with the next one. Answers
+    /// whether that request came, and whether the call succeeded and was right.
     fn make_refused<const N: usize>(
         self,
         call: Call,
@@ -412,7 +414,8 @@ impl<'a> Case<'a> {
         Ok((has_come, answer))
     }
 
-    /// What becomes of the call where its request of that number is refused, alone or with the next one.
+    /// What becomes of the call where its request of that number is refused, alone or with the next
+    /// one.
     fn outcome<const N: usize>(
         self,
         call: Call,
@@ -443,8 +446,8 @@ impl<'a> Case<'a> {
         })
     }
 
-    /// Refuses each request of the call in turn, alone or with the next one. Says whether there was one, or nothing where a call is not as
-    /// it should be.
+    /// Refuses each request of the call in turn, alone or with the next one. Says whether there was
+    /// one, or nothing where a call is not as it should be.
     fn is_refused<const N: usize>(
         self,
         call: Call,
@@ -469,14 +472,15 @@ impl<'a> Case<'a> {
         Ok(any_refused([none, one, two]))
     }
 
-    /// Gives back the room that a set with the left numbers does not need, and says whether it has them still.
+    /// Gives back the room that a set with the left numbers does not need, and says whether it has
+    /// them still.
     fn shrink<const N: usize>(self, set: &mut Numbers<'a, N>) -> Result<bool, AllocError> {
         set.shrink_to_fit()?;
         Ok(self.lists(Which::Left, set.as_ref()))
     }
 
-    /// Refuses the request of a set with too much room that shrinks. Says whether there was one, or nothing where the set is not as it
-    /// should be.
+    /// Refuses the request of a set with too much room that shrinks. Says whether there was one, or
+    /// nothing where the set is not as it should be.
     fn shrinks<const N: usize>(self, mut set: Numbers<'a, N>) -> Result<Option<bool>, AllocError> {
         set.retain(|number| self.has(Which::Left, *number));
         self.memory.refuse(1);
@@ -550,7 +554,8 @@ fn any_refused(answers: [Option<bool>; 3]) -> Option<bool> {
     Some(none? | one? | two?)
 }
 
-/// Refuses each request of the call, at all lengths and sizes, alone or with the next one, and sees that there was one.
+/// Refuses each request of the call, at all lengths and sizes, alone or with the next one, and sees
+/// that there was one.
 fn refuse_requests(
     rt: &impl Abort,
     alloc: Global,

@@ -7,7 +7,8 @@ use std::test::Fail;
 use vec_collections::total_vec_map::{TotalVecMap, TotalVecMap1};
 use vec_collections::vec_map::VecMap1;
 
-/// A number whose arithmetic can always be done: it stays at the greatest or the least number, and what is divided by 0 is 0.
+/// A number whose arithmetic can always be done: it stays at the greatest or the least number, and
+/// what is divided by 0 is 0.
 #[derive(Clone, Copy, Debug, Default, PartialEq, Eq, PartialOrd, Ord, Hash)]
 struct Number(i32);
 

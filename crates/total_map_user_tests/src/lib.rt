@@ -1,4 +1,5 @@
-//! A crate that uses total maps from outside, and maps that are written out: worked cases, counted questions, and what is printed.
+//! A crate that uses total maps from outside, and maps that are written out: worked cases, counted
+//! questions, and what is printed.
 #![tactic(auto)]
 
 #[cfg(test)]

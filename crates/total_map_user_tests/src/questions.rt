@@ -95,7 +95,8 @@ fn answer(asked: &Asked, refused: u32, value: u32) -> Result<u32, AllocError> {
     }
 }
 
-/// Whether `map_values` is refused where its closure refuses at this value, and what was shown by then.
+/// Whether `map_values` is refused where its closure refuses at this value, and what was shown by
+/// then.
 fn change_refused(map: &Numbers, refused: u32) -> (bool, u64) {
     let asked = Asked(Cell::new(0));
     let made: Result<Numbers, AllocError> = map.map_values(|x: &u32| answer(&asked, refused, *x));

@@ -1,4 +1,5 @@
-//! Each case of the operations and tests of total sets, with answers from outside, and each call of one set.
+//! Each case of the operations and tests of total sets, with answers from outside, and each call of
+//! one set.
 
 use std::alloc::{AllocError, Global};
 use std::hash::{DefaultHasher, Hash, Hasher};

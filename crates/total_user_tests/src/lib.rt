@@ -1,4 +1,5 @@
-//! A crate that uses total sets from outside, and sets that are written out: worked cases, and refused memory.
+//! A crate that uses total sets from outside, and sets that are written out: worked cases, and
+//! refused memory.
 #![tactic(auto)]
 
 #[cfg(test)]

@@ -10,7 +10,8 @@ use vec_collections::total_vec_set::TotalVecSet;
 /// A set of numbers of whose requests for memory one can be refused.
 type Numbers<'a> = TotalVecSet<u32, 2, &'a Nth<Global>>;
 
-/// The list of the left set, and that of the right one. Each stands in place, and a third element does not.
+/// The list of the left set, and that of the right one. Each stands in place, and a third element
+/// does not.
 const LISTS: [[u32; 2]; 2] = [[2, 4], [3, 4]];
 
 /// What is inserted into the left set, and what is removed from it: neither is in its list.
@@ -86,7 +87,8 @@ impl Flags {
         (0..END).all(|number| set.contains(&number) == self.says(call, number))
     }
 
-    /// Whether the call is one of those that may be refused with these flags: all that make a set, and some that change one.
+    /// Whether the call is one of those that may be refused with these flags: all that make a set,
+    /// and some that change one.
     fn may_be_refused(self, call: Call) -> bool {
         match call {
             Call::Assign(Operation::And) => self.left && self.right,
@@ -168,8 +170,9 @@ fn stands<'a>(
     Ok(*left == unchanged && succeeds(flags, call, left, right)?)
 }
 
-/// Makes the call with its request of that number refused. Says whether that request came, or nothing where the call is not as it should
-/// be: one that is refused leaves the left set as it was, and then succeeds.
+/// Makes the call with its request of that number refused. Says whether that request came, or
+/// nothing where the call is not as it should be: one that is refused leaves the left set as it
+/// was, and then succeeds.
 fn comes(
     memory: &Nth<Global>,
     flags: Flags,

@@ -1,4 +1,5 @@
-//! Runs of commands, in both flavours: worked rows with ample memory, and a run that goes on behind a refusal.
+//! Runs of commands, in both flavours: worked rows with ample memory, and a run that goes on behind
+//! a refusal.
 use super::tests::{Counted, DEPTH, Tally, number_at, print_shape};
 use std::alloc::{AllocError, Global};
 use std::test::Fail;
@@ -45,7 +46,7 @@ fn command_of<T: AbstractRadixTreeMut<u8, ()>>(
 }
 
 /// Keys of a tree, two orders, and the shape of what they leave.
-const ROWS: [(&[&str], [Order; 2], &str); 9] = [
+const ROWS: [(&[&str], [Order; 2], &str); 12] = [
     (
         &["aabb", "aabbcc"],
         [Order::Difference(&["aabb"]), Order::Prepend("x")],
@@ -90,6 +91,21 @@ const ROWS: [(&[&str], [Order; 2], &str); 9] = [
         ],
         "",
     ),
+    (
+        &["a", "ab"],
+        [Order::Insert("b"), Order::Difference(&["a", "ab", "b"])],
+        "",
+    ),
+    (
+        &["a", "ab"],
+        [Order::Prepend("b"), Order::Retain(&["a"])],
+        "",
+    ),
+    (
+        &["a", "ab"],
+        [Order::Filter("b"), Order::Union(&["c"])],
+        "c*",
+    ),
 ];
 
 /// Whether two orders on the tree of the keys are both accepted, and leave a tree of this shape.
@@ -122,8 +138,8 @@ fn commands_are_done_in_order(rt: HostRuntime) -> Result<(), Fail> {
     Ok(())
 }
 
-/// Inserts at `a`, adds a tree whose values may not be cloned, and inserts at `c`. Answers which were accepted, and the numbers at `a`, `b`
-/// and `c`.
+/// Inserts at `a`, adds a tree whose values may not be cloned, and inserts at `c`. Answers which
+/// were accepted, and the numbers at `a`, `b` and `c`.
 fn run_with_refusal<'a, T: AbstractRadixTreeMut<u8, Counted<'a>>>(
     alloc: Global,
     tally: &'a Tally,
@@ -153,5 +169,46 @@ fn a_refused_command_does_not_stop_the_run(rt: HostRuntime) -> Result<(), Fail> 
     let shared = run_with_refusal::<ArcRadixTree<u8, Counted>>(rt.alloc(), &tally)?;
     assert_eq!(rt; shared, plain);
     assert_eq!(rt; tally.drops(), tally.made_and_cloned());
+    Ok(())
+}
+
+/// Runs the commands by another tree that are done in place. No value of the tree may be cloned.
+/// Answers which were accepted, and the numbers at `a`, `ab` and `b`.
+fn run_in_place<'a, T: AbstractRadixTreeMut<u8, Counted<'a>>>(
+    alloc: Global,
+    left: &'a Tally,
+    right: &'a Tally,
+) -> Result<([bool; 5], [u32; 3]), AllocError> {
+    let of = |key: &str| -> Result<T, AllocError> {
+        T::single(alloc, key.as_bytes(), Counted::new(5, right))
+    };
+    let mut tree = T::single(alloc, b"a", Counted::new(1, left))?;
+    tree.insert(b"ab", Counted::new(2, left))?;
+    let mut commands = Vec::new(alloc);
+    commands.push(TreeCommand::Union(of("b")?))?;
+    commands.push(TreeCommand::Difference(of("c")?))?;
+    commands.push(TreeCommand::RemovePrefix(of("abc")?))?;
+    commands.push(TreeCommand::RetainPrefix(of("")?))?;
+    commands.push(TreeCommand::Intersection(of("ab")?))?;
+    left.clones_left.set(0);
+    let mut accepted = [false; 5];
+    run(&mut tree, commands, &mut accepted);
+    let numbers = [
+        number_at(&tree, b"a"),
+        number_at(&tree, b"ab"),
+        number_at(&tree, b"b"),
+    ];
+    Ok((accepted, numbers))
+}
+
+#[test]
+fn commands_clone_no_value_of_the_tree(rt: HostRuntime) -> Result<(), Fail> {
+    let (left, right) = (Tally::new(), Tally::new());
+    let plain = run_in_place::<RadixTree<u8, Counted>>(rt.alloc(), &left, &right)?;
+    assert_eq!(rt; plain, ([true; 5], [0, 2, 0]));
+    let shared = run_in_place::<ArcRadixTree<u8, Counted>>(rt.alloc(), &left, &right)?;
+    assert_eq!(rt; shared, plain);
+    assert_eq!(rt; left.drops(), left.made_and_cloned());
+    assert_eq!(rt; right.drops(), right.made_and_cloned());
     Ok(())
 }

@@ -48,7 +48,8 @@ impl Eq for Compared<'_> {
 impl PartialOrd for Compared<'_> {
     ghost partial_cmp = { as_partial_cmp (on (λ e. e.number) nat_cmp) };
 
-    ghost laws = { partial_order_from_own_ties (Prim.search (comparing, rules)) (Prim.search (comparing, rules)) };
+    ghost laws = { partial_order_from_own_ties (Prim.search (comparing, rules))
+        (Prim.search (comparing, rules)) };
 
     fn partial_cmp(&self, other: &Self) -> Option<Ordering> {
         Some(self.cmp(other))

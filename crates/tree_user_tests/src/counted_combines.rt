@@ -1,15 +1,17 @@
-//! Combines of trees whose components count their own comparisons: a counted combine counts each, and stays within its bound.
+//! Trees whose components count their own comparisons: a counted combine and a counted look-up
+//! count each, and combines and tests of keys stay within their bound.
 
 use super::compared::Compared;
 use super::lookups::{nested, wide};
+use super::tests::{FORTY, FORTY_ELSE};
 use std::alloc::{AllocError, Global};
 use std::cell::Cell;
 use std::test::Fail;
 use vc_merge::merge::{Count, Steps};
 use vc_trees::radix_tree::{AbstractRadixTree, AbstractRadixTreeMut, ArcRadixTree, RadixTree};
 
-/// Whether combines of two trees, counted or not, and the test of their keys compare components at most as often as this, and each
-/// comparison of the counted one counts.
+/// Whether combines of two trees, counted or not, and the tests of their keys compare components at
+/// most as often as this, and each comparison of the counted one counts.
 fn combines_within<'a, T: AbstractRadixTreeMut<Compared<'a>, u32>>(
     left: &T,
     right: &T,
@@ -24,18 +26,21 @@ fn combines_within<'a, T: AbstractRadixTreeMut<Compared<'a>, u32>>(
     let _again: T = left.outer_combine(right, |v, _| Ok(Some(*v)))?;
     let uncounted = count.get();
     count.set(0);
-    let is_subset = left.is_subset(right);
+    let _is_subset = left.is_subset(right);
+    let of_subset = count.get();
+    count.set(0);
+    let _is_disjoint = left.is_disjoint(right);
     Ok(
         counted <= steps.count()
             && steps.count() <= most
             && uncounted <= most
-            && count.get() <= most
-            && is_subset,
+            && of_subset <= most
+            && count.get() <= most,
     )
 }
 
-/// Whether the tree of 200 nested keys, and that of 1000 keys of one component, are combined with themselves within the bounds:
-/// three comparisons for each node and each component of both.
+/// Whether the tree of 200 nested keys, and that of 1000 keys of one component, are combined with
+/// themselves within the bounds: three comparisons for each node and each component of both.
 fn stays_within<'a, T: AbstractRadixTreeMut<Compared<'a>, u32>>(
     alloc: Global,
     count: &'a Cell<u128>,
@@ -54,6 +59,101 @@ fn combines_stay_within_their_bound(rt: HostRuntime) -> Result<(), Fail> {
     let plain = stays_within::<RadixTree<Compared, u32>>(rt.alloc(), &count)?;
     assert!(rt; plain);
     let shared = stays_within::<ArcRadixTree<Compared, u32>>(rt.alloc(), &count)?;
+    assert!(rt; shared);
+    Ok(())
+}
+
+/// Keys of two trees, and three comparisons for each node and each component of both. Their
+/// prefixes part, long ones too, or one ends where the other goes on, beside no children, at one of
+/// them or between them, or both end at one place.
+const ROWS: [(&[&str], &[&str], u128); 9] = [
+    (&["abc"], &["abd"], 24),
+    (&[FORTY], &[FORTY_ELSE], 246),
+    (&["abcd"], &["ab"], 24),
+    (&["ab", "ac"], &["abx"], 30),
+    (&["ab", "ac"], &["ad"], 27),
+    (&["abc", "abd"], &["abcd"], 36),
+    (&["ab", "abc", "abd"], &["abd", "abe"], 42),
+    (&["ab", "abc", "abd"], &["abcc", "abcd", "abx"], 54),
+    (
+        &["xa", "xb", "xc", "xd", "xe", "xf", "xg", "xh"],
+        &["xeb"],
+        66,
+    ),
+];
+
+/// The key of these letters, which count their comparisons.
+fn key_of<'a>(
+    alloc: Global,
+    letters: &str,
+    count: &'a Cell<u128>,
+) -> Result<Vec<Compared<'a>>, AllocError> {
+    let mut key = Vec::new(alloc);
+    for letter in letters.as_bytes() {
+        key.push(Compared {
+            number: u32::from(*letter),
+            count: Some(count),
+        })?;
+    }
+    Ok(key)
+}
+
+/// The tree of these keys.
+fn tree_of<'a, T: AbstractRadixTreeMut<Compared<'a>, u32>>(
+    alloc: Global,
+    keys: &[&str],
+    count: &'a Cell<u128>,
+) -> Result<T, AllocError> {
+    let mut tree = T::empty(alloc);
+    for letters in keys {
+        tree.insert(&key_of(alloc, letters, count)?, 1)?;
+    }
+    Ok(tree)
+}
+
+/// Whether a counted look-up of each of these keys counts each comparison.
+fn lookups_count<'a, T: AbstractRadixTree<Compared<'a>, u32>>(
+    alloc: Global,
+    tree: &T,
+    keys: &[&str],
+    count: &'a Cell<u128>,
+) -> Result<bool, AllocError> {
+    let mut all = true;
+    for letters in keys {
+        let key = key_of(alloc, letters, count)?;
+        let mut steps = Steps::new();
+        count.set(0);
+        let _value = tree.get_counted(&key, &mut steps);
+        all = all && count.get() <= steps.count();
+    }
+    Ok(all)
+}
+
+/// Whether each comparison counts where two trees of all rows are combined, and the keys of one are
+/// looked up in the other, both ways round.
+fn each_is_counted<'a, T: AbstractRadixTreeMut<Compared<'a>, u32>>(
+    alloc: Global,
+    count: &'a Cell<u128>,
+) -> Result<bool, AllocError> {
+    let mut all = true;
+    for (left_keys, right_keys, most) in ROWS {
+        let left: T = tree_of(alloc, left_keys, count)?;
+        let right: T = tree_of(alloc, right_keys, count)?;
+        all = all
+            && combines_within(&left, &right, most, count)?
+            && combines_within(&right, &left, most, count)?
+            && lookups_count(alloc, &left, right_keys, count)?
+            && lookups_count(alloc, &right, left_keys, count)?;
+    }
+    Ok(all)
+}
+
+#[test]
+fn comparisons_of_trees_that_differ_are_counted(rt: HostRuntime) -> Result<(), Fail> {
+    let count = Cell::new(0);
+    let plain = each_is_counted::<RadixTree<Compared, u32>>(rt.alloc(), &count)?;
+    assert!(rt; plain);
+    let shared = each_is_counted::<ArcRadixTree<Compared, u32>>(rt.alloc(), &count)?;
     assert!(rt; shared);
     Ok(())
 }

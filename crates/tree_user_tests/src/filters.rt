@@ -1,5 +1,5 @@
-//! Filters of paths: the tables of rules, of what the longest one decides, and of what they leave of a tree; snapshots of rules; and trees
-//! whose values refuse to be cloned.
+//! Filters of paths: the tables of rules, of what the longest one decides, and of what they leave
+//! of a tree; snapshots of rules; and trees whose values refuse to be cloned.
 use super::walks::{print_pairs, tree_of};
 use std::alloc::{AllocError, Global};
 use std::test::Fail;
@@ -61,8 +61,9 @@ fn the_longest_rule_decides(rt: HostRuntime) -> Result<(), Fail> {
     Ok(())
 }
 
-/// A path that is allowed, and then denied: whether a snapshot of before still allows it, and whether the filter does; whether the
-/// filter allows a path that a longer rule allows; and the rule of a path between them.
+/// A path that is allowed, and then denied: whether a snapshot of before still allows it, and
+/// whether the filter does; whether the filter allows a path that a longer rule allows; and the
+/// rule of a path between them.
 fn deny_beside_snapshot(alloc: Global) -> Result<(bool, bool, bool, Option<bool>), AllocError> {
     let mut filter = filter_of(alloc, &["a", "!ab", "abcd"])?;
     let before = filter.clone()?;
@@ -86,7 +87,8 @@ fn a_snapshot_of_rules_stays(rt: HostRuntime) -> Result<(), Fail> {
     Ok(())
 }
 
-/// Rules, the keys of a tree, each bound to its place in the list, and the pairs that the rules leave.
+/// Rules, the keys of a tree, each bound to its place in the list, and the pairs that the rules
+/// leave.
 const RESTRICTED: [(&[&str], &[&str], &str); 5] = [
     (
         &["a", "!ab", "abcd"],
@@ -180,7 +182,8 @@ fn restrict_alone<T: AbstractRadixTreeMut<u8, Unique>>(
     restrict(alloc, &mut tree)
 }
 
-/// Restricts a tree that shares its nodes with a clone: whether that was refused, the numbers that are left, and those of the clone.
+/// Restricts a tree that shares its nodes with a clone: whether that was refused, the numbers that
+/// are left, and those of the clone.
 fn restrict_shared<T: AbstractRadixTreeMut<u8, Unique> + Clone>(
     alloc: Global,
 ) -> Result<(bool, [u32; 4], [u32; 4]), AllocError> {

@@ -1,5 +1,5 @@
-//! Changes of trees in place, in both flavours: each call at every key of either tree, what it clones and drops, and what is left where a
-//! clone is refused; and changes worked out by hand.
+//! Changes of trees in place, in both flavours: each call at every key of either tree, what it
+//! clones and drops, and what is left where a clone is refused; and changes worked out by hand.
 use super::tests::{Counted, DEPTH, Tally, number_at, print_shape};
 use super::walks::put_pair;
 use std::alloc::{AllocError, Global};
@@ -19,7 +19,7 @@ const LEFT: [(&str, u32); 3] = [("a", 1), ("ab", 2), ("abc", 3)];
 const RIGHT: [(&str, u32); 3] = [("a", 6), ("abc", 5), ("b", 7)];
 
 /// The tree of these keys and numbers.
-fn tree_of<'a, T: AbstractRadixTreeMut<u8, Counted<'a>>>(
+pub(crate) fn tree_of<'a, T: AbstractRadixTreeMut<u8, Counted<'a>>>(
     alloc: Global,
     pairs: &[(&str, u32)],
     tally: &'a Tally,
@@ -54,7 +54,8 @@ enum Change {
     Prepend,
 }
 
-/// What closures answer: they add the numbers, and keep a sum below the limit; keys with a number above the floor cover.
+/// What closures answer: they add the numbers, and keep a sum below the limit; keys with a number
+/// above the floor cover.
 #[derive(Clone, Copy)]
 struct Answers {
     limit: u32,
@@ -147,8 +148,9 @@ fn changes_clone_no_value_of_the_left(rt: HostRuntime) -> Result<(), Fail> {
 /// How many clones are granted to the changes that are refused.
 const GRANTED: u32 = 3;
 
-/// Changes a tree of which a clone is kept, where from then on all clones of values but the first few are refused. Answers whether the
-/// change was refused, and the numbers of the tree and of its clone.
+/// Changes a tree of which a clone is kept, where from then on all clones of values but the first
+/// few are refused. Answers whether the change was refused, and the numbers of the tree and of its
+/// clone.
 fn changed_beside_clone<'a, T: AbstractRadixTreeMut<u8, Counted<'a>> + Clone>(
     alloc: Global,
     change: Change,
@@ -164,15 +166,16 @@ fn changed_beside_clone<'a, T: AbstractRadixTreeMut<u8, Counted<'a>> + Clone>(
     Ok((is_refused, row_of(&tree), row_of(&kept)))
 }
 
-/// Whether that is the empty tree where the change was refused, and else the changed one, beside the clone.
+/// Whether that is the empty tree where the change was refused, and else the changed one, beside
+/// the clone.
 fn is_as_refused(outcome: (bool, Row, Row), row: Row) -> bool {
     let (is_refused, left, kept) = outcome;
     let expected = if is_refused { [0; KEYS.len()] } else { row };
     left == expected && kept == [0, 1, 2, 3, 0, 0]
 }
 
-/// Whether that holds of both flavours, all values are dropped, and a shared tree of which no value may be cloned refuses all changes
-/// but a prepend.
+/// Whether that holds of both flavours, all values are dropped, and a shared tree of which no value
+/// may be cloned refuses all changes but a prepend.
 fn are_as_refused(
     alloc: Global,
     (change, row): (Change, Row),
@@ -202,8 +205,8 @@ fn a_refused_change_leaves_the_empty_tree(rt: HostRuntime) -> Result<(), Fail> {
 /// The keys and numbers of a tree.
 type Pairs = &'static [(&'static str, u32)];
 
-/// The pairs of a tree, a change, the pairs of the tree that it is changed by, what closures answer, and the pairs and the shape that are
-/// left.
+/// The pairs of a tree, a change, the pairs of the tree that it is changed by, what closures
+/// answer, and the pairs and the shape that are left.
 const WORKED: [(Pairs, Change, Pairs, Answers, &str, &str); 8] = [
     (
         &[("ab", 1), ("ac", 2)],

@@ -1,4 +1,5 @@
-//! A crate that uses radix trees from outside: a tree of its own, generic code, and each call at both flavours.
+//! A crate that uses radix trees from outside: a tree of its own, generic code, and each call at
+//! both flavours.
 #![tactic(auto)]
 
 ghost use Rattle.std.specs.Prelude.{◌≡◌, Some, None, IsSome, OnOk, OnErr};
@@ -10,6 +11,8 @@ use std::cell::Cell;
 use vc_trees::radix_tree::{AbstractRadixTree, AbstractRadixTreeMut, RadixNode, TKey, TValue};
 
 #[cfg(test)]
+mod asked;
+#[cfg(test)]
 mod combines;
 #[cfg(test)]
 mod commands;
@@ -17,6 +20,8 @@ mod commands;
 mod compared;
 #[cfg(test)]
 mod counted_combines;
+#[cfg(test)]
+mod drops;
 #[cfg(test)]
 mod filters;
 #[cfg(test)]
@@ -83,7 +88,8 @@ pub fn insert_missing<K: TKey, V: TValue, T: AbstractRadixTreeMut<K, V>>(
     key: &[K],
     value: V,
 ) -> Result<(), AllocError>
-    ensures known { IsSome (lookup K.cmp (T.tree tree.old) key.now) → T.tree tree.new ≡ T.tree tree.old }
+    ensures known { IsSome (lookup K.cmp (T.tree tree.old) key.now)
+        → T.tree tree.new ≡ T.tree tree.old }
     ensures missing { lookup K.cmp (T.tree tree.old) key.now ≡ None
         → OnOk result (IsInserted K.cmp T.keeps key.now value (T.tree tree.old) (T.tree tree.new)) }
     ensures err { OnErr result (HaveEqualMaps K.cmp T.keeps (T.tree tree.old) (T.tree tree.new)) }

@@ -1,4 +1,5 @@
-//! Components that count their own comparisons: a counted look-up counts each of them, and stays within its bound.
+//! Components that count their own comparisons: a counted look-up counts each of them, and stays
+//! within its bound.
 use super::Word;
 use super::compared::Compared;
 use std::alloc::{AllocError, Global};
@@ -16,7 +17,8 @@ fn repeated(alloc: Global, length: u32) -> Result<Vec<Compared<'static>>, AllocE
     Ok(key)
 }
 
-/// The tree of the keys of 1, 2 and so on up to 200 equal components, which count their comparisons.
+/// The tree of the keys of 1, 2 and so on up to 200 equal components, which count their
+/// comparisons.
 pub(crate) fn nested<'a, T: AbstractRadixTreeMut<Compared<'a>, u32>>(
     alloc: Global,
     count: &'a Cell<u128>,
@@ -49,8 +51,8 @@ pub(crate) fn wide<'a, T: AbstractRadixTreeMut<Compared<'a>, u32>>(
     Ok(tree)
 }
 
-/// Whether a look-up of the key, counted or not, compares components at most as often as this, each of which counts, and finds
-/// it or not.
+/// Whether a look-up of the key, counted or not, compares components at most as often as this, each
+/// of which counts, and finds it or not.
 fn is_within<'a, T: AbstractRadixTree<Compared<'a>, u32>>(
     tree: &T,
     key: &[Compared<'a>],

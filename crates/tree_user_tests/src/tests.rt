@@ -1,10 +1,12 @@
-//! What no clause says: that calls succeed with ample memory, shapes as worked out, comparisons, clones and drops of values.
+//! What no clause says: that calls succeed with ample memory, shapes as worked out, comparisons,
+//! clones and drops of values.
 use super::Word;
 use super::compared::Compared;
 use std::alloc::{AllocError, Global};
 use std::cell::Cell;
 use std::fmt;
 use std::test::Fail;
+use vc_merge::merge::Steps;
 use vc_trees::radix_tree::{
     AbstractRadixTree, AbstractRadixTreeMut, ArcRadixTree, RadixNode, RadixTree, TKey, TValue,
 };
@@ -12,7 +14,8 @@ use vc_trees::radix_tree::{
 /// How deep the shapes of these tests are read.
 pub(crate) const DEPTH: u8 = 9;
 
-/// Prints the shape of a tree of letters: each prefix, `*` behind one that has a value, and the children in parentheses.
+/// Prints the shape of a tree of letters: each prefix, `*` behind one that has a value, and the
+/// children in parentheses.
 pub(crate) fn print_shape<V: TValue, T: AbstractRadixTree<u8, V>>(
     tree: &T,
     text: &mut String,
@@ -37,8 +40,8 @@ pub(crate) fn print_shape<V: TValue, T: AbstractRadixTree<u8, V>>(
     text.push(')')
 }
 
-/// Whether the tree of the keys, inserted in order with their places as values, has this shape and finds each key, and no other
-/// of the keys of all rows.
+/// Whether the tree of the keys, inserted in order with their places as values, has this shape and
+/// finds each key, and no other of the keys of all rows.
 fn is_as_worked_out<T: AbstractRadixTreeMut<u8, usize>>(
     alloc: Global,
     keys: &[&str],
@@ -139,6 +142,31 @@ fn a_tree_of_another_crate_is_read_without_its_allocator(rt: HostRuntime) -> Res
     Ok(())
 }
 
+#[test]
+fn trees_of_another_crate_are_tested_without_their_allocators(rt: HostRuntime) -> Result<(), Fail> {
+    let word = Word::new(b"abc".to_vec(rt.alloc())?, 7);
+    for letters in ["abc", "ab", "abd", "abcd"] {
+        let other = Word::new(letters.as_bytes().to_vec(rt.alloc())?, 1);
+        let is_same = letters == "abc";
+        assert_eq!(rt; word.contains_key(letters.as_bytes()), is_same);
+        assert_eq!(rt;
+            word.get_counted(letters.as_bytes(), &mut Steps::new())
+                .is_some(),
+            is_same
+        );
+        assert_eq!(rt;
+            (word.is_subset(&other), word.is_superset(&other)),
+            (is_same, is_same)
+        );
+        assert_eq!(rt;
+            (word.intersects(&other), word.is_disjoint(&other)),
+            (is_same, !is_same)
+        );
+        assert_eq!(rt; (word.asked(), other.asked()), (0, 0), "{letters}");
+    }
+    Ok(())
+}
+
 /// A letter whose case does not count.
 #[derive(Clone, Copy)]
 #[derive_where(Debug, PartialEq, Eq, PartialOrd, Ord)]
@@ -198,8 +226,8 @@ fn components_are_compared_by_their_order(rt: HostRuntime) -> Result<(), Fail> {
 /// How many letters the longest key of the next tree has.
 const LETTERS: usize = 6;
 
-/// How often letters are compared where a key of six letters is looked up and bound in a tree that binds the keys of two and of four
-/// of these letters too, one below the other.
+/// How often letters are compared where a key of six letters is looked up and bound in a tree that
+/// binds the keys of two and of four of these letters too, one below the other.
 fn comparisons<'a, T: AbstractRadixTreeMut<Compared<'a>, u32>>(
     alloc: Global,
     count: &'a Cell<u128>,
@@ -337,7 +365,8 @@ const KEYS: [(&str, u32); 8] = [
     ("eeeef", 8),
 ];
 
-/// How many values an insert at `bcd` copies where a snapshot holds the eight keys too: those at `a`, `b` and `bc`.
+/// How many values an insert at `bcd` copies where a snapshot holds the eight keys too: those at
+/// `a`, `b` and `bc`.
 const COPIED: u32 = 3;
 
 /// Inserts the eight keys, one of them twice.
@@ -377,8 +406,8 @@ fn insert_clones_no_value_that_is_not_shared(rt: HostRuntime) -> Result<(), Fail
     Ok(())
 }
 
-/// Inserts a key into the tree of the eight keys, of which a copy is kept. Answers the numbers there in the tree and in the copy, and how
-/// many values the copy cloned.
+/// Inserts a key into the tree of the eight keys, of which a copy is kept. Answers the numbers
+/// there in the tree and in the copy, and how many values the copy cloned.
 fn insert_beside_copy<'a, T: AbstractRadixTreeMut<u8, Counted<'a>> + Clone>(
     alloc: Global,
     tally: &'a Tally,
@@ -412,8 +441,9 @@ fn has_eight<'a, T: AbstractRadixTree<u8, Counted<'a>>>(tree: &T) -> bool {
     has_all
 }
 
-/// Inserts a key twice into the tree of the eight keys, where all clones of a value but the first few are refused: beside a
-/// copy, and when the copy is gone. Answers whether only the first was refused, and left both as they were.
+/// Inserts a key twice into the tree of the eight keys, where all clones of a value but the first
+/// few are refused: beside a copy, and when the copy is gone. Answers whether only the first was
+/// refused, and left both as they were.
 fn is_refused_beside_a_copy_alone<'a, T: AbstractRadixTreeMut<u8, Counted<'a>> + Clone>(
     alloc: Global,
     granted: u32,

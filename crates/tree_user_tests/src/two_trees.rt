@@ -1,5 +1,6 @@
-//! Two trees side by side, in both flavours and with a tree of another crate: tests of their keys, shapes of what combines make, the
-//! combine that asks at each key of the left, and the keys under a prefix.
+//! Two trees side by side, in both flavours and with a tree of another crate: tests of their keys,
+//! shapes of what combines make, the combine that asks at each key of the left, and the keys under
+//! a prefix.
 
 use super::Word;
 use super::tests::{DEPTH, FORTY, FORTY_ELSE, Letter, capital, print_shape, small};
@@ -150,8 +151,8 @@ const SHAPES: [(&[&str], &[&str], [&str; 3]); 10] = [
     ),
 ];
 
-/// Whether the union, the intersection and the difference of two trees have these shapes, and a combine that keeps the left value that
-/// of the union.
+/// Whether the union, the intersection and the difference of two trees have these shapes, and a
+/// combine that keeps the left value that of the union.
 fn are_combined<T: AbstractRadixTreeMut<u8, u32>, S: AbstractRadixTree<u8, u32>>(
     alloc: Global,
     left: &T,
@@ -239,7 +240,8 @@ fn keys_under_a_prefix_are_filtered(rt: HostRuntime) -> Result<(), Fail> {
     Ok(())
 }
 
-/// Whether a left combine of `{a=>0, ab=>1, abc=>2}` with `{ab=>7}` asks once at each key of the left.
+/// Whether a left combine of `{a=>0, ab=>1, abc=>2}` with `{ab=>7}` asks once at each key of the
+/// left.
 fn asks_once<T: AbstractRadixTreeMut<u8, u32>, S: AbstractRadixTree<u8, u32>>(
     alloc: Global,
     tree: &T,
@@ -331,7 +333,8 @@ fn key(is_capital: bool) -> [Letter; 2] {
     }
 }
 
-/// Whether keys that are equal and spelled otherwise are one key to tests and set operations of two trees.
+/// Whether keys that are equal and spelled otherwise are one key to tests and set operations of two
+/// trees.
 fn keys_are_one<T: AbstractRadixTreeMut<Letter, u32>>(
     left: &T,
     right: &T,
@@ -385,7 +388,8 @@ const COLLECTED: [(&[(&str, u32)], &[(&str, u32)], bool); 6] = [
     (&[("", 1)], &[], false),
 ];
 
-/// Whether the trees of both lists, one made of slices and one of keys that are moved in, are equal.
+/// Whether the trees of both lists, one made of slices and one of keys that are moved in, are
+/// equal.
 fn are_equal(
     alloc: Global,
     left: &[(&str, u32)],

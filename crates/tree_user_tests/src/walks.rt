@@ -78,7 +78,8 @@ pub(crate) fn tree_of<T: AbstractRadixTreeMut<u8, u32>>(
     Ok(tree)
 }
 
-/// The keys of a tree, a prefix, and what the walks of the tree give: all pairs, the pairs under the prefix, and the values.
+/// The keys of a tree, a prefix, and what the walks of the tree give: all pairs, the pairs under
+/// the prefix, and the values.
 type Row = (
     &'static [&'static str],
     &'static str,
@@ -223,7 +224,8 @@ fn three<'a, T: AbstractRadixTreeMut<u8, Counted<'a>>>(
     Ok(tree)
 }
 
-/// Takes the first item of the walk that holds such a tree, and lets the walk go. Answers the number that came.
+/// Takes the first item of the walk that holds such a tree, and lets the walk go. Answers the
+/// number that came.
 fn first_number<'a, T: AbstractRadixTreeMut<u8, Counted<'a>>>(
     alloc: Global,
     tally: &'a Tally,
@@ -245,8 +247,9 @@ fn a_walk_that_is_let_go_drops_what_is_left(rt: HostRuntime) -> Result<(), Fail>
     Ok(())
 }
 
-/// Walks a tree of three counted values, which the walk holds, until the clones that are granted are used up. Answers the sum of the
-/// numbers that came, and whether the walk was refused and is at its end.
+/// Walks a tree of three counted values, which the walk holds, until the clones that are granted
+/// are used up. Answers the sum of the numbers that came, and whether the walk was refused and is
+/// at its end.
 fn sum_of_granted<'a, T: AbstractRadixTreeMut<u8, Counted<'a>>>(
     alloc: Global,
     granted: u32,
@@ -288,7 +291,8 @@ fn a_held_tree_is_dropped_once(rt: HostRuntime) -> Result<(), Fail> {
 /// How many nested keys the deep trees have.
 const DEPTH: u32 = 5000;
 
-/// How many those have that a walk holds, of which each step goes along the way to where the walk stands.
+/// How many those have that a walk holds, of which each step goes along the way to where the walk
+/// stands.
 const HELD_DEPTH: u32 = 2000;
 
 /// How many a shared one has: dropping a node of it takes more of the stack.
@@ -320,7 +324,8 @@ fn count_pairs<T: AbstractRadixTree<u8, u32>>(
     Ok(pairs)
 }
 
-/// How many pairs the walks of a tree give, of all and of those under a prefix, and how many values, each of them 1.
+/// How many pairs the walks of a tree give, of all and of those under a prefix, and how many
+/// values, each of them 1.
 fn counts_of<T: AbstractRadixTree<u8, u32>>(tree: &T) -> Result<[u32; 3], AllocError> {
     let mut values = 0u32;
     for value in tree.values() {
@@ -373,8 +378,8 @@ fn deep_trees_are_walked(rt: HostRuntime) -> Result<(), Fail> {
     Ok(())
 }
 
-/// How many nested keys are left where those that start with the one of a hundred letters are removed, if each is a letter longer
-/// than the one before it.
+/// How many nested keys are left where those that start with the one of a hundred letters are
+/// removed, if each is a letter longer than the one before it.
 fn count_below_hundred<T: AbstractRadixTreeMut<u8, u32>>(
     alloc: Global,
 ) -> Result<usize, AllocError> {

@@ -77,8 +77,8 @@ fn shapes_of_shared(alloc: Global) -> Result<(String, String), AllocError> {
     shapes_beside_clone(alloc, shared_of(plain)?)
 }
 
-/// Inserts a third key into a tree of two, of which a clone is kept, where so many clones of values are granted. Answers whether
-/// that was refused, and the shapes of the tree and of its clone.
+/// Inserts a third key into a tree of two, of which a clone is kept, where so many clones of values
+/// are granted. Answers whether that was refused, and the shapes of the tree and of its clone.
 fn shapes_beside_insert<'a, T: AbstractRadixTreeMut<u8, Counted<'a>> + Clone>(
     alloc: Global,
     granted: u32,

@@ -1,0 +1,138 @@
+//! How often the closure of each call of two trees is asked at each key, in both flavours.
+
+use std::alloc::{AllocError, Global};
+use std::cell::Cell;
+use std::test::Fail;
+use vc_merge::merge::Steps;
+use vc_trees::radix_tree::{AbstractRadixTree, AbstractRadixTreeMut, ArcRadixTree, RadixTree};
+
+/// The keys and values of two trees. Each value is a decimal digit of its own, so a digit of the
+/// sum of all values that a closure was handed says how often it was handed that value.
+const LEFT: [(&str, u32); 3] = [("a", 1), ("ab", 10), ("abc", 100)];
+
+const RIGHT: [(&str, u32); 3] = [("ab", 1000), ("abc", 10_000), ("b", 100_000)];
+
+/// A call of two trees that asks a closure.
+#[derive(Clone, Copy, Debug)]
+enum Call {
+    Outer,
+    Counted,
+    Inner,
+    Left,
+    OuterWith,
+    InnerWith,
+    LeftWith,
+    RemoveWith,
+    RetainWith,
+}
+
+/// The calls, and the sum of what each closure is handed: once at each key of both trees; by a
+/// fresh left combine at each key of the left; of keys that may cover others, once at each that is
+/// met.
+const CALLS: [(Call, u32); 9] = [
+    (Call::Outer, 11_110),
+    (Call::Counted, 11_110),
+    (Call::Inner, 11_110),
+    (Call::Left, 11_111),
+    (Call::OuterWith, 11_110),
+    (Call::InnerWith, 11_110),
+    (Call::LeftWith, 11_110),
+    (Call::RemoveWith, 11_000),
+    (Call::RetainWith, 11_000),
+];
+
+/// The tree of these keys and values.
+fn tree_of<T: AbstractRadixTreeMut<u8, u32>>(
+    alloc: Global,
+    pairs: &[(&str, u32)],
+) -> Result<T, AllocError> {
+    let mut tree = T::empty(alloc);
+    for (key, value) in pairs {
+        tree.insert(key.as_bytes(), *value)?;
+    }
+    Ok(tree)
+}
+
+/// Adds what a closure was handed.
+fn note(handed: &Cell<u32>, v: u32, w: u32) {
+    handed.set(handed.get().saturating_add(v).saturating_add(w));
+}
+
+/// Makes a fresh combine.
+fn combine<T: AbstractRadixTreeMut<u8, u32>>(
+    call: Call,
+    tree: &T,
+    that: &T,
+    handed: &Cell<u32>,
+) -> Result<T, AllocError> {
+    let answer = |v: &u32, w: &u32| -> Result<Option<u32>, AllocError> {
+        note(handed, *v, *w);
+        Ok(Some(*v))
+    };
+    match call {
+        Call::Counted => tree.outer_combine_counted(that, answer, &mut Steps::new()),
+        Call::Inner => tree.inner_combine(that, answer),
+        Call::Left => tree.left_combine(that, |v, w| {
+            note(handed, *v, w.copied().unwrap_or(0));
+            Ok(Some(*v))
+        }),
+        _ => tree.outer_combine(that, answer),
+    }
+}
+
+/// Changes a tree in place, or makes a fresh one in its place.
+fn change<T: AbstractRadixTreeMut<u8, u32>>(
+    call: Call,
+    tree: &mut T,
+    that: &T,
+    handed: &Cell<u32>,
+) -> Result<(), AllocError> {
+    let stays = |v: &mut u32, w: &u32| -> bool {
+        note(handed, *v, *w);
+        true
+    };
+    let covers = |w: &u32| -> bool {
+        note(handed, 0, *w);
+        true
+    };
+    match call {
+        Call::OuterWith => tree.outer_combine_with(that, stays),
+        Call::InnerWith => tree.inner_combine_with(that, stays),
+        Call::LeftWith => tree.left_combine_with(that, stays),
+        Call::RemoveWith => tree.remove_prefix_with(that, covers),
+        Call::RetainWith => tree.retain_prefix_with(that, covers),
+        _ => {
+            *tree = combine(call, tree, that, handed)?;
+            Ok(())
+        }
+    }
+}
+
+/// The sum of what the closure of a call was handed.
+fn handed_to<T: AbstractRadixTreeMut<u8, u32>>(
+    alloc: Global,
+    call: Call,
+) -> Result<u32, AllocError> {
+    let mut tree: T = tree_of(alloc, &LEFT)?;
+    let that: T = tree_of(alloc, &RIGHT)?;
+    let handed = Cell::new(0);
+    change(call, &mut tree, &that, &handed)?;
+    Ok(handed.get())
+}
+
+#[test]
+fn closures_are_asked_once_at_a_key(rt: HostRuntime) -> Result<(), Fail> {
+    for (call, sum) in CALLS {
+        assert_eq!(rt;
+            handed_to::<RadixTree<u8, u32>>(rt.alloc(), call)?,
+            sum,
+            "{call:?}"
+        );
+        assert_eq!(rt;
+            handed_to::<ArcRadixTree<u8, u32>>(rt.alloc(), call)?,
+            sum,
+            "{call:?}"
+        );
+    }
+    Ok(())
+}

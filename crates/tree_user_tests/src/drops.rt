@@ -1,0 +1,139 @@
+//! Calls that take a value, a tree or commands by value, and walks that are let go, where clones
+//! are refused from the k-th on: whatever comes of them, each value is dropped once.
+
+use super::in_place::tree_of;
+use super::tests::{Counted, Tally};
+use std::alloc::{AllocError, Global};
+use std::test::Fail;
+use vc_path_filter::path_filter::PathFilter;
+use vc_trees::commands::{TreeCommand, run};
+use vc_trees::radix_tree::{AbstractRadixTree, AbstractRadixTreeMut, ArcRadixTree, RadixTree};
+
+/// A call that takes values over.
+#[derive(Clone, Copy, Debug)]
+enum Call {
+    Leaf,
+    Single,
+    Insert,
+    Slices,
+    Shared,
+    Walk,
+    HalfWalk,
+    Run,
+    Restrict,
+}
+
+const CALLS: [Call; 9] = [
+    Call::Leaf,
+    Call::Single,
+    Call::Insert,
+    Call::Slices,
+    Call::Shared,
+    Call::Walk,
+    Call::HalfWalk,
+    Call::Run,
+    Call::Restrict,
+];
+
+/// The pairs that calls are made on, of which two have one key.
+const PAIRS: [(&str, u32); 5] = [("a", 1), ("ab", 2), ("abc", 3), ("ab", 4), ("b", 5)];
+
+/// The tree of the pairs by slices, or by lists and then shared.
+fn collect<'a>(alloc: Global, is_shared: bool, tally: &'a Tally) -> Result<(), AllocError> {
+    let mut slices = Vec::new(alloc);
+    let mut lists = Vec::new(alloc);
+    for (key, number) in PAIRS {
+        slices.push((key.as_bytes(), Counted::new(number, tally)))?;
+        lists.push((key.as_bytes().to_vec(alloc)?, Counted::new(number, tally)))?;
+    }
+    if is_shared {
+        let tree = RadixTree::from_vecs(alloc, lists.into_iter())?;
+        let _shared = ArcRadixTree::from_radix_tree(tree)?;
+    } else {
+        let _tree = RadixTree::from_iter(alloc, slices.into_iter())?;
+    }
+    Ok(())
+}
+
+/// Takes so many steps of the walk that holds a tree, if it has so many.
+fn walk<'a, T: AbstractRadixTreeMut<u8, Counted<'a>>>(
+    tree: T,
+    steps: u32,
+) -> Result<(), AllocError> {
+    let mut walk = tree.into_iter();
+    for _ in 0..steps {
+        if let Some(item) = walk.next() {
+            let _pair = item?;
+        }
+    }
+    Ok(())
+}
+
+/// Runs commands that bring values and trees.
+fn obey<'a, T: AbstractRadixTreeMut<u8, Counted<'a>>>(
+    alloc: Global,
+    tree: &mut T,
+    tally: &'a Tally,
+) -> Result<(), AllocError> {
+    let mut commands = Vec::new(alloc);
+    commands.push(TreeCommand::Insert(b"ab".to_vec(alloc)?, Counted::new(6, tally)))?;
+    commands.push(TreeCommand::Union(T::single(alloc, b"c", Counted::new(7, tally))?))?;
+    commands.push(TreeCommand::Filter(b"a".to_vec(alloc)?))?;
+    let mut accepted = [false; 3];
+    run(tree, commands, &mut accepted);
+    Ok(())
+}
+
+/// Restricts a tree to what a filter allows.
+fn restrict<'a, T: AbstractRadixTreeMut<u8, Counted<'a>>>(
+    alloc: Global,
+    tree: &mut T,
+) -> Result<(), AllocError> {
+    let mut filter = PathFilter::new(alloc);
+    filter.allow(b"a")?;
+    filter.deny(b"ab")?;
+    filter.restrict(tree)
+}
+
+/// Makes a call, on a tree of which a clone is kept, and drops all. From the call on clones are
+/// refused but for the first few.
+fn make<'a, T: AbstractRadixTreeMut<u8, Counted<'a>> + Clone>(
+    alloc: Global,
+    call: Call,
+    granted: u32,
+    tally: &'a Tally,
+) -> Result<(), AllocError> {
+    tally.clones_left.set(u32::MAX);
+    let mut tree: T = tree_of(alloc, &PAIRS, tally)?;
+    let kept = tree.clone()?;
+    tally.clones_left.set(granted);
+    match call {
+        Call::Leaf => drop(T::leaf(alloc, Counted::new(6, tally))),
+        Call::Single => drop(T::single(alloc, b"ab", Counted::new(6, tally))?),
+        Call::Insert => tree.insert(b"abcd", Counted::new(6, tally))?,
+        Call::Slices => collect(alloc, false, tally)?,
+        Call::Shared => collect(alloc, true, tally)?,
+        Call::Walk => walk(kept, 4)?,
+        Call::HalfWalk => walk(kept, 2)?,
+        Call::Run => obey(alloc, &mut tree, tally)?,
+        Call::Restrict => restrict(alloc, &mut tree)?,
+    }
+    Ok(())
+}
+
+#[test]
+fn calls_by_value_drop_each_value_once(rt: HostRuntime) -> Result<(), Fail> {
+    for call in CALLS {
+        for granted in 0..4 {
+            let tally = Tally::new();
+            let _plain = make::<RadixTree<u8, Counted>>(rt.alloc(), call, granted, &tally);
+            let _shared = make::<ArcRadixTree<u8, Counted>>(rt.alloc(), call, granted, &tally);
+            assert_eq!(rt;
+                tally.drops(),
+                tally.made_and_cloned(),
+                "{call:?} with {granted}"
+            );
+        }
+    }
+    Ok(())
+}
