@@ -1,4 +1,5 @@
-//! Versions of a configuration: each change makes a new version, which shares what it does not change with the one before.
+//! Versions of a configuration: each change makes a new version, which shares what it does not
+//! change with the one before.
 
 ghost use Rattle.std.specs.Prelude.{◌≡◌, ◌+◌, ◌<◌, cond, None, Some, ℕ, IfOk, OnOk, OnErr};
 ghost use Rattle.std.specs.Option.{option_copied};
@@ -35,11 +36,15 @@ impl History {
         self.version(version)?.get(path).copied()
     }
 
-    /// Makes a version in which the path has this value. The versions before it stay as they are; refused, no version is made.
+    /// Makes a version in which the path has this value. The versions before it stay as they are;
+    /// refused, no version is made.
     pub fn set(&mut self, alloc: Global, path: &[u8], value: u64) -> Result<(), AllocError>
         ensures one { OnOk result (count self.new ≡ count self.old + 1) }
-        ensures set { OnOk result ((other : Path) → latest self.new other ≡ cond (same_path path.now other) (Some value) (latest self.old other)) }
-        ensures past { OnOk result ((version : ℕ) (other : Path) → version < count self.old → setting self.new version other ≡ setting self.old version other) }
+        ensures set { OnOk result ((other : Path)
+            → latest self.new other
+            ≡ cond (same_path path.now other) (Some value) (latest self.old other)) }
+        ensures past { OnOk result ((version : ℕ) (other : Path) → version < count self.old
+            → setting self.new version other ≡ setting self.old version other) }
         ensures err { OnErr result (HaveSameVersions self.old self.new) }
     {
         let mut next = self.draft(alloc)?;
@@ -47,11 +52,14 @@ impl History {
         self.publish(next)
     }
 
-    /// Makes a version in which nothing is set at the folder or below it. Those before it stay as they are; refused, none is made.
+    /// Makes a version in which nothing is set at the folder or below it. Those before it stay as
+    /// they are; refused, none is made.
     pub fn unset(&mut self, alloc: Global, folder: &[u8]) -> Result<(), AllocError>
         ensures one { OnOk result (count self.new ≡ count self.old + 1) }
-        ensures unset { OnOk result ((path : Path) → latest self.new path ≡ cond (is_below folder.now path) None (latest self.old path)) }
-        ensures past { OnOk result ((version : ℕ) (path : Path) → version < count self.old → setting self.new version path ≡ setting self.old version path) }
+        ensures unset { OnOk result ((path : Path)
+            → latest self.new path ≡ cond (is_below folder.now path) None (latest self.old path)) }
+        ensures past { OnOk result ((version : ℕ) (path : Path) → version < count self.old
+            → setting self.new version path ≡ setting self.old version path) }
         ensures err { OnErr result (HaveSameVersions self.old self.new) }
     {
         let mut next = self.draft(alloc)?;
@@ -62,7 +70,9 @@ impl History {
 
     /// What changed between two versions. In a version that is not there nothing is set.
     pub fn changes(&self, alloc: Global, from: usize, to: usize) -> Result<Changes, AllocError>
-        ensures { IfOk result (λ changes. (path : Path) → is_changed changes path ≡ are_different (setting self.now from path) (setting self.now to path)) }
+        ensures { IfOk result (λ changes. (path : Path)
+            → is_changed changes path
+            ≡ are_different (setting self.now from path) (setting self.now to path)) }
     {
         let nothing = Settings::empty(alloc);
         let old = self.version(from).unwrap_or(&nothing);
@@ -75,7 +85,8 @@ impl History {
     fn publish(&mut self, next: Settings) -> Result<(), AllocError>
         ensures one { OnOk result (count self.new ≡ count self.old + 1) }
         ensures last { OnOk result ((path : Path) → latest self.new path ≡ set_in next path) }
-        ensures past { OnOk result ((version : ℕ) (path : Path) → version < count self.old → setting self.new version path ≡ setting self.old version path) }
+        ensures past { OnOk result ((version : ℕ) (path : Path) → version < count self.old
+            → setting self.new version path ≡ setting self.old version path) }
         ensures err { OnErr result (HaveSameVersions self.old self.new) }
     {
         self.versions.push(next)?;

@@ -26,7 +26,8 @@ impl Counters {
 
     /// A count at one name, and none at the others.
     pub fn one(alloc: Global, name: u32, count: u64) -> Result<Self, AllocError>
-        ensures { IfOk result (λ made. (other : ℕ) → count_of made other ≡ cond (other == name) count 0) }
+        ensures { IfOk result
+            (λ made. (other : ℕ) → count_of made other ≡ cond (other == name) count 0) }
     {
         let counts = TotalVecMap::new(VecMap::single(alloc, (name, count))?, 0);
         Ok(Counters { counts })
@@ -41,7 +42,8 @@ impl Counters {
 
     /// The sums of two counts, or the greatest number where a sum does not fit.
     pub fn sum(&self, other: &Self) -> Result<Self, AllocError>
-        ensures { IfOk result (λ made. (name : ℕ) → count_of made name ≡ bounded (count_of self.now name + count_of other.now name)) }
+        ensures { IfOk result (λ made. (name : ℕ)
+            → count_of made name ≡ bounded (count_of self.now name + count_of other.now name)) }
     {
         let add = |x: &u64, y: &u64| -> Result<u64, AllocError>
             ensures { result ≡ Ok (bounded (x.now + y.now)) }
@@ -53,7 +55,8 @@ impl Counters {
 
     /// The greater of two counts.
     pub fn greater(&self, other: &Self) -> Result<Self, AllocError>
-        ensures { IfOk result (λ made. (name : ℕ) → count_of made name ≡ max (count_of self.now name) (count_of other.now name)) }
+        ensures { IfOk result (λ made. (name : ℕ)
+            → count_of made name ≡ max (count_of self.now name) (count_of other.now name)) }
     {
         standing_is_at::<u32, u64>();
         let counts = self.counts.supremum(&other.counts)?;
@@ -62,7 +65,8 @@ impl Counters {
 
     /// Each count so many times, or the greatest number where that does not fit.
     pub fn scaled(&self, factor: u64) -> Result<Self, AllocError>
-        ensures { IfOk result (λ made. (name : ℕ) → count_of made name ≡ bounded (count_of self.now name * factor)) }
+        ensures { IfOk result
+            (λ made. (name : ℕ) → count_of made name ≡ bounded (count_of self.now name * factor)) }
     {
         let scale = |x: &u64| -> Result<u64, AllocError>
             ensures { result ≡ Ok (bounded (x.now * factor)) }

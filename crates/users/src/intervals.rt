@@ -7,10 +7,11 @@ ghost use Rattle.users.specs.Points.{holds, says, turned};
 use std::alloc::{AllocError, Global};
 use vec_collections::VecSet;
 
-/// A set of numbers of 64 bits: a number is in it where an odd count of the turns are at or below it.
+/// A set of numbers of 64 bits: a number is in it where an odd count of the turns are at or below
+/// it.
 ///
-/// An interval has two turns, its least number and the one behind its greatest. Up to `TURNS` turns stand in place, and take no memory:
-/// an `Intervals<8>` has room for four intervals.
+/// An interval has two turns, its least number and the one behind its greatest. Up to `TURNS` turns
+/// stand in place, and take no memory: an `Intervals<8>` has room for four intervals.
 #[derive(Drop)]
 pub struct Intervals<const TURNS: usize> {
     turns: VecSet<u64, TURNS>,
@@ -89,7 +90,8 @@ impl<const TURNS: usize> Intervals<TURNS> {
 
     /// The numbers of exactly one of the sets.
     pub fn xor(&self, other: &Self) -> Result<Self, AllocError>
-        ensures { IfOk result (λ made. (x : ℕ) → holds made x ≡ exactly_one (holds self.now x) (holds other.now x)) }
+        ensures { IfOk result
+            (λ made. (x : ℕ) → holds made x ≡ exactly_one (holds self.now x) (holds other.now x)) }
     {
         let turns = self.turns.symmetric_difference(&other.turns)?;
         Ok(Intervals { turns })
@@ -106,33 +108,38 @@ impl<const TURNS: usize> Intervals<TURNS> {
 
     /// The numbers of either set.
     pub fn union(&self, other: &Self) -> Result<Self, AllocError>
-        ensures { IfOk result (λ made. (x : ℕ) → holds made x ≡ (holds self.now x || holds other.now x)) }
+        ensures { IfOk result
+            (λ made. (x : ℕ) → holds made x ≡ (holds self.now x || holds other.now x)) }
     {
         self.combine(other, Formula::Or)
     }
 
     /// The numbers of both sets.
     pub fn intersection(&self, other: &Self) -> Result<Self, AllocError>
-        ensures { IfOk result (λ made. (x : ℕ) → holds made x ≡ (holds self.now x && holds other.now x)) }
+        ensures { IfOk result
+            (λ made. (x : ℕ) → holds made x ≡ (holds self.now x && holds other.now x)) }
     {
         self.combine(other, Formula::And)
     }
 
     /// The numbers of this set that the other one lacks.
     pub fn difference(&self, other: &Self) -> Result<Self, AllocError>
-        ensures { IfOk result (λ made. (x : ℕ) → holds made x ≡ (holds self.now x && not (holds other.now x))) }
+        ensures { IfOk result
+            (λ made. (x : ℕ) → holds made x ≡ (holds self.now x && not (holds other.now x))) }
     {
         self.combine(other, Formula::AndNot)
     }
 
     /// What the formula says of both sets: it turns only where one of them does.
     fn combine(&self, other: &Self, formula: Formula) -> Result<Self, AllocError>
-        ensures { IfOk result (λ made. (x : ℕ) → holds made x ≡ says formula (holds self.now x) (holds other.now x)) }
+        ensures { IfOk result
+            (λ made. (x : ℕ) → holds made x ≡ says formula (holds self.now x) (holds other.now x)) }
     {
         let mut turns = self.turns.union(&other.turns)?;
         turns.retain(
             |turn: &u64| -> bool
-                ensures { result ≡ turned (λ y. says formula (holds self.entry.now y) (holds other.entry.now y)) turn.now }
+                ensures { result ≡ turned (λ y.
+                    says formula (holds self.entry.now y) (holds other.entry.now y)) turn.now }
             { formula.turns_at(self, other, *turn) },
         );
         Ok(Intervals { turns })

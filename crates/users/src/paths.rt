@@ -26,8 +26,11 @@ impl Files {
 
     /// Notes the size of a file. Refused, each file has the size that it had.
     pub fn add(&mut self, path: &[u8], size: u64) -> Result<(), AllocError>
-        ensures ok { OnOk result ((other : Path) → size_of self.new other ≡ cond (same_path path.now other) (Some size) (size_of self.old other)) }
-        ensures err { OnErr result ((other : Path) → size_of self.new other ≡ size_of self.old other) }
+        ensures ok { OnOk result ((other : Path)
+            → size_of self.new other
+            ≡ cond (same_path path.now other) (Some size) (size_of self.old other)) }
+        ensures err { OnErr result
+            ((other : Path) → size_of self.new other ≡ size_of self.old other) }
     {
         self.sizes.insert(path, size)
     }
@@ -41,7 +44,8 @@ impl Files {
 
     /// Keeps the files that the longest rule on their path allows. Refused, no file remains.
     pub fn keep(&mut self, filter: &PathFilter<u8>) -> Result<(), AllocError>
-        ensures ok { OnOk result ((path : Path) → size_of self.new path ≡ cond (allows filter.now path) (size_of self.old path) None) }
+        ensures ok { OnOk result ((path : Path)
+            → size_of self.new path ≡ cond (allows filter.now path) (size_of self.old path) None) }
         ensures err { OnErr result ((path : Path) → size_of self.new path ≡ None) }
     {
         filter.restrict(&mut self.sizes)

@@ -1,4 +1,5 @@
-//! Articles by their tags, and queries whose answers are sets with complements, so that they can be combined.
+//! Articles by their tags, and queries whose answers are sets with complements, so that they can be
+//! combined.
 
 ghost use Rattle.std.specs.Prelude.{◌≡◌, ◌||◌, ◌&&◌, ◌==◌, not, false, IfOk, OnOk, OnErr, ℕ};
 ghost use Rattle.users.specs.Tagged.{tagged, has_all, has_any, is_among, is_found};
@@ -30,7 +31,8 @@ impl Index {
 
     /// Tags an article. Refused, each article has the tags that it had.
     pub fn tag(&mut self, alloc: Global, article: u64, tag: u32) -> Result<(), AllocError>
-        ensures ok { OnOk result ((t : ℕ) (a : ℕ) → tagged self.new t a ≡ (tagged self.old t a || (tag == t && article == a))) }
+        ensures ok { OnOk result ((t : ℕ) (a : ℕ)
+            → tagged self.new t a ≡ (tagged self.old t a || (tag == t && article == a))) }
         ensures err { OnErr result ((t : ℕ) (a : ℕ) → tagged self.new t a ≡ tagged self.old t a) }
     {
         let mut articles = self.articles(alloc, tag)?;
@@ -41,7 +43,8 @@ impl Index {
 
     /// The articles that have the tag.
     fn articles(&self, alloc: Global, tag: u32) -> Result<Articles, AllocError>
-        ensures { IfOk result (λ articles. (article : ℕ) → is_among articles article ≡ tagged self.now tag article) }
+        ensures { IfOk result
+            (λ articles. (article : ℕ) → is_among articles article ≡ tagged self.now tag article) }
     {
         match self.by_tag.get(&tag) {
             Some(articles) => articles.clone(),
@@ -51,7 +54,8 @@ impl Index {
 
     /// The articles that have each of the tags.
     pub fn all_of(&self, alloc: Global, tags: &[u32]) -> Result<Found, AllocError>
-        ensures { IfOk result (λ found. (article : ℕ) → is_found found article ≡ has_all self.now tags.now article) }
+        ensures { IfOk result
+            (λ found. (article : ℕ) → is_found found article ≡ has_all self.now tags.now article) }
     {
         let mut found = Found {
             articles: TotalVecSet::all(alloc),
@@ -64,7 +68,8 @@ impl Index {
 
     /// The articles that have a tag among these.
     pub fn any_of(&self, alloc: Global, tags: &[u32]) -> Result<Found, AllocError>
-        ensures { IfOk result (λ found. (article : ℕ) → is_found found article ≡ has_any self.now tags.now article) }
+        ensures { IfOk result
+            (λ found. (article : ℕ) → is_found found article ≡ has_any self.now tags.now article) }
     {
         let mut found = Found {
             articles: TotalVecSet::empty(alloc),
@@ -77,7 +82,8 @@ impl Index {
 
     /// The articles that have no tag among these: those with no tag at all, too.
     pub fn none_of(&self, alloc: Global, tags: &[u32]) -> Result<Found, AllocError>
-        ensures { IfOk result (λ found. (article : ℕ) → is_found found article ≡ not (has_any self.now tags.now article)) }
+        ensures { IfOk result (λ found. (article : ℕ)
+            → is_found found article ≡ not (has_any self.now tags.now article)) }
     {
         let found = self.any_of(alloc, tags)?;
         Ok(Found {
@@ -102,7 +108,8 @@ impl Found {
 
     /// The articles that both queries find.
     pub fn and(&self, other: &Self) -> Result<Self, AllocError>
-        ensures { IfOk result (λ both. (article : ℕ) → is_found both article ≡ (is_found self.now article && is_found other.now article)) }
+        ensures { IfOk result (λ both. (article : ℕ)
+            → is_found both article ≡ (is_found self.now article && is_found other.now article)) }
     {
         total_operations_are_pointwise::<u64>();
         let articles = (&self.articles & &other.articles)?;
@@ -111,7 +118,8 @@ impl Found {
 
     /// Keeps what is among the articles too.
     fn narrow(&mut self, articles: Articles) -> Result<(), AllocError>
-        ensures { OnOk result ((article : ℕ) → is_found self.new article ≡ (is_found self.old article && is_among articles article)) }
+        ensures { OnOk result ((article : ℕ) → is_found self.new article
+            ≡ (is_found self.old article && is_among articles article)) }
     {
         total_operations_are_pointwise::<u64>();
         self.articles.bitand_assign(TotalVecSet::from(articles))
@@ -119,7 +127,8 @@ impl Found {
 
     /// Adds the articles.
     fn widen(&mut self, articles: Articles) -> Result<(), AllocError>
-        ensures { OnOk result ((article : ℕ) → is_found self.new article ≡ (is_found self.old article || is_among articles article)) }
+        ensures { OnOk result ((article : ℕ) → is_found self.new article
+            ≡ (is_found self.old article || is_among articles article)) }
     {
         total_operations_are_pointwise::<u64>();
         self.articles.bitor_assign(TotalVecSet::from(articles))

@@ -23,7 +23,8 @@ Progress-same lines start new s t count fault p = record {
 }
 
 -- a session that ended its line and took the first piece of the next
-pub Underway-step : (lines : List (List ℕ)) (taken piece : List ℕ) (whole text behind : List (List ℕ)) (start old new : Option (List ℕ)) (r s t : Session) → (u : Underway lines taken whole text start old r)
+pub Underway-step : (lines : List (List ℕ)) (taken piece : List ℕ) (whole text behind : List (List ℕ))
+    (start old new : Option (List ℕ)) (r s t : Session) → (u : Underway lines taken whole text start old r)
     → text ≡ piece ∷ behind → Progress (u.done ++ strip_carriage_return u.line ∷ []) start new s → t.lines ≡ s.lines → t.has_fault ≡ s.has_fault → Holds t piece → MissesSome t piece
     → Underway lines taken whole behind start new t
 Underway-step lines taken piece whole text behind start old new r s t u cut p count fault h m = record {
@@ -41,7 +42,8 @@ Stands-take lines taken piece start new s t stood count fault h m =
     record { progress = Progress-same lines start new s t count fault stood.progress; holds = h; misses = m }
 
 -- a session that took a whole chunk
-pub Underway-end : (lines : List (List ℕ)) (taken piece : List ℕ) (whole rest parts : List (List ℕ)) (start new : Option (List ℕ)) (s : Session) → Underway lines (taken ++ piece) whole rest start new s
+pub Underway-end : (lines : List (List ℕ)) (taken piece : List ℕ) (whole rest parts : List (List ℕ)) (start new : Option (List ℕ))
+    (s : Session) → Underway lines (taken ++ piece) whole rest start new s
     → rest ≡ [] → parts ≡ piece ∷ whole → Stands (lines ++ ended_in taken parts) (left_of taken parts) start new s
 Underway-end lines taken piece whole rest parts start new s u none cut =
     let ended : u.done ≡ lines ++ ended_in taken parts =

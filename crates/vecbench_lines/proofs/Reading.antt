@@ -23,7 +23,9 @@ no-number true false n big = refl
 no-number true true n big = ap (λ fits. if fits then Some n else None) (le-ltb n (2 ^ 64) (big refl))
 
 -- a word whose first byte can't be appended to n says no number behind n
-pub number_after-refused : (n : ℕ) (word : List ℕ) → 1 ≤ length word → ¬ (IsTrue (is_ascii_digit (slice_index word 0)) × (n * 10 + digit_value (slice_index word 0) < 2 ^ 64)) → number_after n word ≡ None
+pub number_after-refused : (n : ℕ) (word : List ℕ) → 1 ≤ length word
+    → ¬ (IsTrue (is_ascii_digit (slice_index word 0)) × (n * 10 + digit_value (slice_index word 0) < 2 ^ 64))
+    → number_after n word ≡ None
 number_after-refused n [] some refused = absurd (omega (arith, some))
 number_after-refused n (c ∷ cs) some refused =
     no-number (is_ascii_digit c) (all_ascii_digits cs) (digits_value_after 10 (n * 10 + digit_value c) cs) (λ is.

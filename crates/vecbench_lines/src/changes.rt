@@ -17,7 +17,8 @@ pub type KeyCommand = TreeCommand<u8, (), KeyTree>;
 /// The key that a word says, in a list of its own.
 fn read_own_key(alloc: Global, word: &[u8]) -> Result<Vec<u8>, Fault>
     ensures key { IfOk result (λ key. key_in word.now ≡ Some key.items) }
-    ensures judged { MatchResult result (λ _. fault_in_key word.now ≡ None) (λ fault. IsFault (fault_in_key word.now) fault) }
+    ensures judged { MatchResult result (λ _. fault_in_key word.now ≡ None)
+        (λ fault. IsFault (fault_in_key word.now) fault) }
 {
     let key = read_key(word).ok_or(Fault::NotANumberOrKey)?;
     Ok(key.to_vec(alloc)?)

@@ -41,9 +41,10 @@ impl Command {
 
     /// The command of the first word `name`, with the words behind it.
     pub fn read(alloc: Global, name: &[u8], words: Words<'_>) -> Result<Command, Fault>
-        ensures says { IfOk result (λ command. SaysCommand (name.now ∷ words_left words.entry) command) }
-        ensures judged { MatchResult result (λ _. fault_in_words (name.now ∷ words_left words.entry) ≡ None)
-            (λ fault. IsFault (fault_in_words (name.now ∷ words_left words.entry)) fault) }
+        ensures says { IfOk result
+            (λ command. SaysCommand (name.now ∷ words_left words.entry) command) }
+        ensures judged { MatchResult result (λ _. fault_in_words (name.now ∷ words_left words.entry)
+            ≡ None) (λ fault. IsFault (fault_in_words (name.now ∷ words_left words.entry)) fault) }
     {
         if name == b"set".as_slice() {
             Ok(Command::Set(SetLine::read(alloc, words)?))
@@ -64,7 +65,8 @@ impl Command {
 
     /// Puts the answer behind `text`.
     pub fn answer(self, text: &mut String) -> Result<(), AllocError>
-        ensures { OnOk result ((answer : List ℕ) × Answers self answer × (string_bytes text.new ≡ string_bytes text.old ++ answer)) }
+        ensures { OnOk result ((answer : List ℕ) × Answers self answer
+            × (string_bytes text.new ≡ string_bytes text.old ++ answer)) }
     {
         match self {
             Command::Set(line) => line.answer(text),
@@ -77,10 +79,11 @@ impl Command {
     }
 }
 
-/// Puts the answer to a line and an LF behind `text`, and nothing for a line without words. After a fault, `text` may
-/// have a part of an answer behind it.
+/// Puts the answer to a line and an LF behind `text`, and nothing for a line without words. After a
+/// fault, `text` may have a part of an answer behind it.
 pub fn answer_line(alloc: Global, line: &[u8], text: &mut String) -> Result<(), Fault>
-    ensures answers { OnOk result ((answer : List ℕ) × AnswersWords (words_of line.now) answer × (string_bytes text.new ≡ string_bytes text.old ++ answer)) }
+    ensures answers { OnOk result ((answer : List ℕ) × AnswersWords (words_of line.now) answer
+        × (string_bytes text.new ≡ string_bytes text.old ++ answer)) }
     ensures judged { MatchResult result (λ _. fault_in_words (words_of line.now) ≡ None)
         (λ fault. IsFault (fault_in_words (words_of line.now)) fault) }
 {

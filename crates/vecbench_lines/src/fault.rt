@@ -51,7 +51,8 @@ impl Fault {
 
     /// Writes what stands in the place of line `line`, piece by piece: it takes no memory.
     pub fn write<W: Write>(self, line: u64, output: &mut W) -> io::Result<()>
-        ensures { OnOk result (Appends (W.contents output.old) (W.contents output.new) (fault_line line self)) }
+        ensures { OnOk result
+            (Appends (W.contents output.old) (W.contents output.new) (fault_line line self)) }
     {
         let number = self.number();
         let text = self.text();

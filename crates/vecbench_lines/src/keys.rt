@@ -28,7 +28,8 @@ fn is_letters(word: &[u8]) -> bool
     word.iter().all(|letter| letter.is_ascii_lowercase())
 }
 
-/// The key that a word says: `.` is the empty key, and else there are one or more letters from a to z and nothing else.
+/// The key that a word says: `.` is the empty key, and else there are one or more letters from a to
+/// z and nothing else.
 pub fn read_key(word: &[u8]) -> Option<&[u8]>
     ensures { option_copied result ≡ key_in word.now }
 {
@@ -41,10 +42,13 @@ pub fn read_key(word: &[u8]) -> Option<&[u8]>
     Some(word)
 }
 
-/// The tree of the keys of a list, in any order and with repeats: `-` has none, and else commas part them.
+/// The tree of the keys of a list, in any order and with repeats: `-` has none, and else commas
+/// part them.
 pub fn read_tree(alloc: Global, word: &[u8]) -> Result<KeyTree, Fault>
-    ensures keys { IfOk result (λ tree. (keys : List (List ℕ)) × (keys_in word.now ≡ Some keys) × HasKeys keys tree) }
-    ensures judged { MatchResult result (λ _. fault_in_keys word.now ≡ None) (λ fault. IsFault (fault_in_keys word.now) fault) }
+    ensures keys { IfOk result
+        (λ tree. (keys : List (List ℕ)) × (keys_in word.now ≡ Some keys) × HasKeys keys tree) }
+    ensures judged { MatchResult result (λ _. fault_in_keys word.now ≡ None)
+        (λ fault. IsFault (fault_in_keys word.now) fault) }
 {
     let mut tree = KeyTree::empty(alloc);
     if word == b"-".as_slice() {
@@ -59,8 +63,8 @@ pub fn read_tree(alloc: Global, word: &[u8]) -> Result<KeyTree, Fault>
     Ok(tree)
 }
 
-/// Puts a key of letters behind `text`, in the form in which keys are read: `.` for the empty key, and else its letters. Of
-/// any other key each component is put as the character of its number.
+/// Puts a key of letters behind `text`, in the form in which keys are read: `.` for the empty key,
+/// and else its letters. Of any other key each component is put as the character of its number.
 pub fn put_key(text: &mut String, key: &[u8]) -> Result<(), AllocError>
     ensures { OnOk result (string_bytes text.new ≡ string_bytes text.old ++ key_text key.now) }
 {
@@ -75,7 +79,8 @@ pub fn put_key(text: &mut String, key: &[u8]) -> Result<(), AllocError>
 
 /// Puts the keys of a tree behind `text`, ascending, in the form in which a list of keys is read.
 pub fn put_keys(text: &mut String, tree: &KeyTree) -> Result<(), AllocError>
-    ensures { OnOk result ((answer : List ℕ) × ListsKeys (λ key. is_some (lookup nat_cmp tree.now key)) answer
+    ensures { OnOk result ((answer : List ℕ)
+        × ListsKeys (λ key. is_some (lookup nat_cmp tree.now key)) answer
         × (string_bytes text.new ≡ string_bytes text.old ++ answer)) }
 {
     let mut pairs = tree.iter();
@@ -94,7 +99,8 @@ pub fn put_keys(text: &mut String, tree: &KeyTree) -> Result<(), AllocError>
 
 /// Puts `*` behind `text` where there is a value.
 fn put_mark<V>(text: &mut String, value: Option<&V>) -> Result<(), AllocError>
-    ensures { OnOk result (string_bytes text.new ≡ string_bytes text.old ++ value_mark (option_copied value.entry)) }
+    ensures { OnOk result
+        (string_bytes text.new ≡ string_bytes text.old ++ value_mark (option_copied value.entry)) }
 {
     match value {
         Some(_) => text.push('*'),
@@ -102,13 +108,14 @@ fn put_mark<V>(text: &mut String, value: Option<&V>) -> Result<(), AllocError>
     }
 }
 
-/// Puts the shape of a tree behind `text`: its prefix, `*` where it has a value, and the shapes of its children in
-/// parentheses, if there are any.
+/// Puts the shape of a tree behind `text`: its prefix, `*` where it has a value, and the shapes of
+/// its children in parentheses, if there are any.
 pub fn put_shape<V: TValue, T: AbstractRadixTree<u8, V>>(
     text: &mut String,
     tree: &T,
 ) -> Result<(), AllocError>
-    ensures { OnOk result (string_bytes text.new ≡ string_bytes text.old ++ shape_text (T.tree tree.now)) }
+    ensures { OnOk result
+        (string_bytes text.new ≡ string_bytes text.old ++ shape_text (T.tree tree.now)) }
 {
     put_key(text, tree.prefix())?;
     put_mark(text, tree.value())?;

@@ -17,10 +17,11 @@ use vec_collections::iterators::ascends;
 /// A set of numbers, of which the first two stand in place.
 pub type NumberSet = VecSet2<u64>;
 
-/// The number whose digits are those of `value` and one more, if that is a digit and the number fits.
+/// The number whose digits are those of `value` and one more, if that is a digit and the number
+/// fits.
 fn append_digit(value: u64, digit: u8) -> Option<u64>
-    ensures { SomeIff result (IsTrue (is_ascii_digit digit) × (value * 10 + digit_value digit < 2 ^ 64))
-        (value * 10 + digit_value digit) }
+    ensures { SomeIff result (IsTrue (is_ascii_digit digit)
+        × (value * 10 + digit_value digit < 2 ^ 64)) (value * 10 + digit_value digit) }
 {
     if !digit.is_ascii_digit() {
         return None;
@@ -44,11 +45,12 @@ pub fn read_number(word: &[u8]) -> Option<u64>
     Some(value)
 }
 
-/// The numbers of a list in the order in which they stand, with no regard to whether they ascend: `-` has none, and
-/// else commas part them.
+/// The numbers of a list in the order in which they stand, with no regard to whether they ascend:
+/// `-` has none, and else commas part them.
 pub fn read_numbers(alloc: Global, word: &[u8]) -> Result<Vec<u64>, Fault>
     ensures { MatchResult result (λ numbers. numbers_in word.now ≡ Some numbers.items)
-        (λ fault. IsFault (option_map_or (λ _. None) (numbers_in word.now) (Some NotANumberOrKey)) fault) }
+        (λ fault. IsFault (option_map_or (λ _. None) (numbers_in word.now) (Some NotANumberOrKey))
+        fault) }
 {
     let mut numbers = Vec::new(alloc);
     if word == b"-".as_slice() {
@@ -63,11 +65,12 @@ pub fn read_numbers(alloc: Global, word: &[u8]) -> Result<Vec<u64>, Fault>
     Ok(numbers)
 }
 
-/// The set of the numbers of a list. A list with a member that is no number is `NotANumberOrKey`, also where its
-/// numbers do not ascend.
+/// The set of the numbers of a list. A list with a member that is no number is `NotANumberOrKey`,
+/// also where its numbers do not ascend.
 pub fn read_set(alloc: Global, word: &[u8]) -> Result<NumberSet, Fault>
     ensures numbers { IfOk result (λ set. numbers_in word.now ≡ Some set) }
-    ensures judged { MatchResult result (λ _. fault_in_list word.now ≡ None) (λ fault. IsFault (fault_in_list word.now) fault) }
+    ensures judged { MatchResult result (λ _. fault_in_list word.now ≡ None)
+        (λ fault. IsFault (fault_in_list word.now) fault) }
 {
     let numbers = read_numbers(alloc, word)?;
     if !ascends(numbers.as_slice()) {

@@ -39,7 +39,8 @@ impl Separator {
     }
 }
 
-/// The parts of a text from the first one on, also those that are empty. An empty text has one part.
+/// The parts of a text from the first one on, also those that are empty. An empty text has one
+/// part.
 #[derive(Clone, Copy)]
 pub struct Parts<'a> {
     separator: Separator,
@@ -114,7 +115,8 @@ impl<'a> Words<'a> {
 
     /// The word, if there is one alone.
     pub fn one(mut self) -> Option<&'a [u8]>
-        ensures { MatchOption result (length (words_left self.entry) ≢ 1) (λ word. words_left self.entry ≡ word.now ∷ []) }
+        ensures { MatchOption result (length (words_left self.entry) ≢ 1)
+            (λ word. words_left self.entry ≡ word.now ∷ []) }
     {
         let word = self.next()?;
         if self.next().is_some() {

@@ -21,7 +21,8 @@ impl PermitLine {
     ghost use Rattle.vecbench_lines.specs.Judged.{fault_in_permit, IsFault};
     ghost use Rattle.vecbench_lines.specs.Answers.{SaysPermitLine, AnswersPermit};
 
-    /// The line whose words behind the first are `words`. Their count is judged first, then the rules and the keys.
+    /// The line whose words behind the first are `words`. Their count is judged first, then the
+    /// rules and the keys.
     pub fn read(alloc: Global, words: Words<'_>) -> Result<PermitLine, Fault>
         ensures says { IfOk result (λ line. SaysPermitLine (words_left words.entry) line) }
         ensures judged { MatchResult result (λ _. fault_in_permit (words_left words.entry) ≡ None)
@@ -35,7 +36,8 @@ impl PermitLine {
 
     /// Puts the answer behind `text`.
     pub fn answer(self, text: &mut String) -> Result<(), AllocError>
-        ensures { OnOk result ((answer : List ℕ) × AnswersPermit self answer × (string_bytes text.new ≡ string_bytes text.old ++ answer)) }
+        ensures { OnOk result ((answer : List ℕ) × AnswersPermit self answer
+            × (string_bytes text.new ≡ string_bytes text.old ++ answer)) }
     {
         let PermitLine { filter, mut tree } = self;
         filter.restrict(&mut tree)?;

@@ -54,8 +54,8 @@ impl PrefixLine {
     ghost use Rattle.vecbench_lines.specs.Judged.{fault_in_prefix, IsFault};
     ghost use Rattle.vecbench_lines.specs.Answers.{SaysPrefixLine, KeysStay, AnswersPrefix};
 
-    /// The line whose words behind the first are `words`. Their count is judged first, then the operation, the keys
-    /// and the rules.
+    /// The line whose words behind the first are `words`. Their count is judged first, then the
+    /// operation, the keys and the rules.
     pub fn read(alloc: Global, words: Words<'_>) -> Result<PrefixLine, Fault>
         ensures says { IfOk result (λ line. SaysPrefixLine (words_left words.entry) line) }
         ensures judged { MatchResult result (λ _. fault_in_prefix (words_left words.entry) ≡ None)
@@ -74,7 +74,8 @@ impl PrefixLine {
 
     /// The tree of the keys that stay.
     fn sift(self) -> Result<KeyTree, AllocError>
-        ensures { IfOk result (λ left. KeysStay self.operation (is_allowed nat_cmp self.filter) (lookup nat_cmp self.tree) (lookup nat_cmp left)) }
+        ensures { IfOk result (λ left. KeysStay self.operation (is_allowed nat_cmp self.filter)
+            (lookup nat_cmp self.tree) (lookup nat_cmp left)) }
     {
         let PrefixLine {
             operation,
@@ -93,7 +94,8 @@ impl PrefixLine {
 
     /// Puts the answer behind `text`.
     pub fn answer(self, text: &mut String) -> Result<(), AllocError>
-        ensures { OnOk result ((answer : List ℕ) × AnswersPrefix self answer × (string_bytes text.new ≡ string_bytes text.old ++ answer)) }
+        ensures { OnOk result ((answer : List ℕ) × AnswersPrefix self answer
+            × (string_bytes text.new ≡ string_bytes text.old ++ answer)) }
     {
         let left = self.sift()?;
         put_keys(text, &left)

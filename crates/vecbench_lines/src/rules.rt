@@ -39,8 +39,10 @@ fn put_rule(filter: &mut KeyFilter, key: &[u8], allowed: bool) -> Result<(), All
 
 /// The filter of the rules of a list, done in their order: `-` has none, and else commas part them.
 pub fn read_filter(alloc: Global, word: &[u8]) -> Result<KeyFilter, Fault>
-    ensures rules { IfOk result (λ filter. (rules : List (List ℕ × Bool)) × (rules_in word.now ≡ Some rules) × IsCollected nat_cmp rules filter) }
-    ensures judged { MatchResult result (λ _. fault_in_rules word.now ≡ None) (λ fault. IsFault (fault_in_rules word.now) fault) }
+    ensures rules { IfOk result (λ filter. (rules : List (List ℕ × Bool))
+        × (rules_in word.now ≡ Some rules) × IsCollected nat_cmp rules filter) }
+    ensures judged { MatchResult result (λ _. fault_in_rules word.now ≡ None)
+        (λ fault. IsFault (fault_in_rules word.now) fault) }
 {
     let mut filter = KeyFilter::new(alloc);
     if word == b"-".as_slice() {

@@ -47,7 +47,8 @@ impl Session {
     ghost use Rattle.vecbench_lines.specs.declared.parts.Separator.TheVariants.{Newline};
 
     fn new(alloc: Global) -> Result<Session, AllocError>
-        ensures { IfOk result (λ s. (s.is_stored ≡ true) × (s.line.items ≡ []) × (s.lines ≡ 0) × (s.has_fault ≡ false)) }
+        ensures { IfOk result (λ s. (s.is_stored ≡ true) × (s.line.items ≡ []) × (s.lines ≡ 0)
+            × (s.has_fault ≡ false)) }
     {
         Ok(Session {
             alloc,
@@ -68,9 +69,12 @@ impl Session {
 
     /// Takes a piece of the line.
     fn take(&mut self, piece: &[u8])
-        ensures holds { (taken : List ℕ) → Holds self.old taken → Holds self.new (taken ++ piece.now) }
-        ensures misses { (taken : List ℕ) → MissesSome self.old taken → MissesSome self.new (taken ++ piece.now) }
-        ensures same { (self.new.lines ≡ self.old.lines) × (self.new.has_fault ≡ self.old.has_fault) }
+        ensures holds { (taken : List ℕ) → Holds self.old taken
+            → Holds self.new (taken ++ piece.now) }
+        ensures misses { (taken : List ℕ) → MissesSome self.old taken
+            → MissesSome self.new (taken ++ piece.now) }
+        ensures same { (self.new.lines ≡ self.old.lines)
+            × (self.new.has_fault ≡ self.old.has_fault) }
     {
         if self.is_stored && self.line.extend_from_slice(piece).is_err() {
             self.is_stored = false;
@@ -79,17 +83,21 @@ impl Session {
 
     /// Whether a piece of a line was taken.
     fn is_within_line(&self) -> bool
-        ensures { (taken : List ℕ) → Holds self.now taken → MissesSome self.now taken → IsTrue result ↔ (0 < length taken) }
+        ensures { (taken : List ℕ) → Holds self.now taken → MissesSome self.now taken
+            → IsTrue result ↔ (0 < length taken) }
     {
         !self.is_stored || !self.line.is_empty()
     }
 
     /// Makes the answer to the line that was taken, or says its fault.
     fn make_answer(&mut self) -> Result<(), Fault>
-        ensures answers { (taken : List ℕ) → Holds self.old taken → OnOk result (AnswersWords (words_of taken) (string_bytes self.new.answer)) }
-        ensures judged { (taken : List ℕ) → Holds self.old taken → MatchResult result (λ _. fault_in_words (words_of taken) ≡ None)
+        ensures answers { (taken : List ℕ) → Holds self.old taken
+            → OnOk result (AnswersWords (words_of taken) (string_bytes self.new.answer)) }
+        ensures judged { (taken : List ℕ) → Holds self.old taken
+            → MatchResult result (λ _. fault_in_words (words_of taken) ≡ None)
             (λ fault. IsFault (fault_in_words (words_of taken)) fault) }
-        ensures same { (self.new.lines ≡ self.old.lines) × (self.new.has_fault ≡ self.old.has_fault) }
+        ensures same { (self.new.lines ≡ self.old.lines)
+            × (self.new.has_fault ≡ self.old.has_fault) }
     {
         if !self.is_stored {
             return Err(Fault::NoMemory);
@@ -100,8 +108,8 @@ impl Session {
 
     /// Answers the line that was taken, and begins the next one.
     fn answer_taken<O: Write>(&mut self, output: &mut O) -> io::Result<()>
-        ensures replies { (taken : List ℕ) → (lines : List (List ℕ)) → (start : Option (List ℕ)) → Holds self.old taken
-            → Progress lines start (O.contents output.old) self.old
+        ensures replies { (taken : List ℕ) → (lines : List (List ℕ)) → (start : Option (List ℕ))
+            → Holds self.old taken → Progress lines start (O.contents output.old) self.old
             → OnOk result (Progress (lines ++ taken ∷ []) start (O.contents output.new) self.new) }
         ensures begins { (self.new.is_stored ≡ true) × (self.new.line.items ≡ []) }
     {
@@ -120,9 +128,10 @@ impl Session {
 
     /// Answers the line that was taken, at the LF that ends it: a CR before that is no part of it.
     fn end_line<O: Write>(&mut self, output: &mut O) -> io::Result<()>
-        ensures replies { (taken : List ℕ) → (lines : List (List ℕ)) → (start : Option (List ℕ)) → Holds self.old taken
-            → Progress lines start (O.contents output.old) self.old
-            → OnOk result (Progress (lines ++ strip_carriage_return taken ∷ []) start (O.contents output.new) self.new) }
+        ensures replies { (taken : List ℕ) → (lines : List (List ℕ)) → (start : Option (List ℕ))
+            → Holds self.old taken → Progress lines start (O.contents output.old) self.old
+            → OnOk result (Progress (lines ++ strip_carriage_return taken ∷ []) start
+            (O.contents output.new) self.new) }
         ensures begins { (self.new.is_stored ≡ true) × (self.new.line.items ≡ []) }
     {
         if self.line.last() == Some(&b'\r') {
@@ -135,8 +144,8 @@ impl Session {
     fn take_chunk<O: Write>(&mut self, chunk: &[u8], output: &mut O) -> io::Result<()>
         ensures { (lines : List (List ℕ)) → (taken : List ℕ) → (start : Option (List ℕ))
             → Stands lines taken start (O.contents output.old) self.old
-            → OnOk result (Stands (lines ++ ended_in taken (parts_of Newline chunk.now)) (left_of taken (parts_of Newline chunk.now))
-            start (O.contents output.new) self.new) }
+            → OnOk result (Stands (lines ++ ended_in taken (parts_of Newline chunk.now))
+            (left_of taken (parts_of Newline chunk.now)) start (O.contents output.new) self.new) }
     {
         let (piece, mut rest) = Separator::Newline.cut(chunk);
         self.take(piece);
@@ -153,7 +162,8 @@ impl Session {
     fn finish<O: Write>(&mut self, output: &mut O) -> io::Result<()>
         ensures { (lines : List (List ℕ)) → (taken : List ℕ) → (start : Option (List ℕ))
             → Stands lines taken start (O.contents output.old) self.old
-            → OnOk result (Progress (lines ++ lines_of_parts (taken ∷ [])) start (O.contents output.new) self.new) }
+            → OnOk result (Progress (lines ++ lines_of_parts (taken ∷ [])) start
+            (O.contents output.new) self.new) }
     {
         if !self.is_within_line() {
             return output.flush();
@@ -172,7 +182,8 @@ impl Session {
         requires { 0 < length chunk.old }
         ensures { (text : List ℕ) → I.remaining input.old ≡ Some text
             → Stands [] [] (O.contents output.old) (O.contents output.old) self.old
-            → OnOk result (Progress (lines text) (O.contents output.old) (O.contents output.new) self.new) }
+            → OnOk result (Progress (lines text) (O.contents output.old) (O.contents output.new)
+            self.new) }
     {
         // Counted, so that the call returns whatever the input does. No input is so long.
         for _ in 0..u64::MAX {
@@ -209,10 +220,11 @@ fn read_some<I: Read>(input: &mut I, chunk: &mut [u8]) -> io::Result<usize>
     Err(io::Error::from(ErrorKind::Other))
 }
 
-/// Answers each line of `input` on `output`, in the order of the lines, and says how it went: `ANSWERED`, `FAULTY` or
-/// `FAILED`.
+/// Answers each line of `input` on `output`, in the order of the lines, and says how it went:
+/// `ANSWERED`, `FAULTY` or `FAILED`.
 ///
-/// The buffers are made before the first read. Where reading or writing fails, what was answered before stands.
+/// The buffers are made before the first read. Where reading or writing fails, what was answered
+/// before stands.
 pub fn serve<I: Read, O: Write>(alloc: Global, input: &mut I, output: &mut O) -> u8
     ensures status { result ≤ 2 }
     ensures served { (text : List ℕ) → I.remaining input.old ≡ Some text → result < 2

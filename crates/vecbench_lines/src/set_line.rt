@@ -71,8 +71,8 @@ impl SetLine {
     ghost use Rattle.vec_collections.specs.Algebra.{made_by, IsTestedBy};
     ghost use Rattle.vecbench_lines.specs.Answers.{SaysSetLine, IsPicked, AnswersSets};
 
-    /// The line whose words behind the first are `words`. Their count is judged first, then the operation, the left
-    /// list and the right list.
+    /// The line whose words behind the first are `words`. Their count is judged first, then the
+    /// operation, the left list and the right list.
     pub fn read(alloc: Global, words: Words<'_>) -> Result<SetLine, Fault>
         ensures says { IfOk result (λ line. SaysSetLine (words_left words.entry) line) }
         ensures judged { MatchResult result (λ _. fault_in_set (words_left words.entry) ≡ None)
@@ -114,7 +114,8 @@ impl SetLine {
 
     /// Puts the answer behind `text`.
     pub fn answer(&self, text: &mut String) -> Result<(), AllocError>
-        ensures { OnOk result ((answer : List ℕ) × AnswersSets self.now.operation self.now.left self.now.right answer
+        ensures { OnOk result ((answer : List ℕ)
+            × AnswersSets self.now.operation self.now.left self.now.right answer
             × (string_bytes text.new ≡ string_bytes text.old ++ answer)) }
     {
         match self.operation {

@@ -19,7 +19,8 @@ impl ShapeLine {
     ghost use Rattle.vecbench_lines.specs.Answers.{SaysShapeLine};
     ghost use Rattle.vecbench_lines.specs.Shapes.{shape_text};
 
-    /// The line whose words behind the first are `words`. Their count is judged first, then the list.
+    /// The line whose words behind the first are `words`. Their count is judged first, then the
+    /// list.
     pub fn read(alloc: Global, words: Words<'_>) -> Result<ShapeLine, Fault>
         ensures says { IfOk result (λ line. SaysShapeLine (words_left words.entry) line) }
         ensures judged { MatchResult result (λ _. fault_in_shape (words_left words.entry) ≡ None)
@@ -32,7 +33,8 @@ impl ShapeLine {
 
     /// Puts the answer behind `text`.
     pub fn answer(&self, text: &mut String) -> Result<(), AllocError>
-        ensures { OnOk result (string_bytes text.new ≡ string_bytes text.old ++ shape_text self.now.tree) }
+        ensures { OnOk result
+            (string_bytes text.new ≡ string_bytes text.old ++ shape_text self.now.tree) }
     {
         put_shape(text, &self.tree)
     }

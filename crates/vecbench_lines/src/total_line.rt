@@ -47,8 +47,8 @@ impl TotalLine {
         }
     }
 
-    /// The line whose words behind the first are `words`. Their count is judged first, then the operation, the left
-    /// set and the right set.
+    /// The line whose words behind the first are `words`. Their count is judged first, then the
+    /// operation, the left set and the right set.
     pub fn read(alloc: Global, words: Words<'_>) -> Result<TotalLine, Fault>
         ensures says { IfOk result (λ line. SaysTotalLine (words_left words.entry) line) }
         ensures judged { MatchResult result (λ _. fault_in_total (words_left words.entry) ≡ None)
@@ -91,7 +91,8 @@ impl TotalLine {
 
     /// Puts the answer behind `text`.
     pub fn answer(&self, text: &mut String) -> Result<(), AllocError>
-        ensures { OnOk result ((answer : List ℕ) × AnswersTotals self.now.operation self.now.left self.now.right answer
+        ensures { OnOk result ((answer : List ℕ)
+            × AnswersTotals self.now.operation self.now.left self.now.right answer
             × (string_bytes text.new ≡ string_bytes text.old ++ answer)) }
     {
         match self.operation {

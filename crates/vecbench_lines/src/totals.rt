@@ -12,10 +12,12 @@ use vec_collections::total_vec_set::TotalVecSet2;
 /// A total set of numbers, of whose list the first two stand in place.
 pub type NumberTotal = TotalVecSet2<u64>;
 
-/// The total set that a word says: a list of numbers or, behind `!`, all but these. Its list is judged as by [`read_set`].
+/// The total set that a word says: a list of numbers or, behind `!`, all but these. Its list is
+/// judged as by [`read_set`].
 pub fn read_total(alloc: Global, word: &[u8]) -> Result<NumberTotal, Fault>
     ensures set { IfOk result (λ set. total_in word.now ≡ Some set) }
-    ensures judged { MatchResult result (λ _. fault_in_list (list_in word.now) ≡ None) (λ fault. IsFault (fault_in_list (list_in word.now)) fault) }
+    ensures judged { MatchResult result (λ _. fault_in_list (list_in word.now) ≡ None)
+        (λ fault. IsFault (fault_in_list (list_in word.now)) fault) }
 {
     if let [b'!', list @ ..] = word {
         let excluded = NumberTotal::from(read_set(alloc, list)?);

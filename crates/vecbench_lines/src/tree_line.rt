@@ -28,8 +28,8 @@ impl TreeLine {
     ghost use Rattle.vecbench_lines.specs.Answers.{SaysTreeLine, AnswersTree};
     ghost use Rattle.vecbench_lines.specs.Changes.{Leads};
 
-    /// The line whose words behind the first are `words`. Their count is judged first, then the list and the
-    /// commands from the left.
+    /// The line whose words behind the first are `words`. Their count is judged first, then the
+    /// list and the commands from the left.
     pub fn read(alloc: Global, mut words: Words<'_>) -> Result<TreeLine, Fault>
         ensures says { IfOk result (λ line. SaysTreeLine (words_left words.entry) line) }
         ensures judged { MatchResult result (λ _. fault_in_tree (words_left words.entry) ≡ None)
@@ -46,7 +46,8 @@ impl TreeLine {
 
     /// The tree once all is done.
     fn change(self) -> Result<KeyTree, AllocError>
-        ensures { IfOk result (λ changed. Leads self.changes.items (lookup nat_cmp self.tree) (lookup nat_cmp changed)) }
+        ensures { IfOk result (λ changed.
+            Leads self.changes.items (lookup nat_cmp self.tree) (lookup nat_cmp changed)) }
     {
         let TreeLine { mut tree, changes } = self;
         let mut flags = unset(*changes.allocator(), changes.len())?;
@@ -61,7 +62,8 @@ impl TreeLine {
 
     /// Puts the answer behind `text`. A command that is refused for memory has no answer.
     pub fn answer(self, text: &mut String) -> Result<(), AllocError>
-        ensures { OnOk result ((answer : List ℕ) × AnswersTree self answer × (string_bytes text.new ≡ string_bytes text.old ++ answer)) }
+        ensures { OnOk result ((answer : List ℕ) × AnswersTree self answer
+            × (string_bytes text.new ≡ string_bytes text.old ++ answer)) }
     {
         let changed = self.change()?;
         put_keys(text, &changed)

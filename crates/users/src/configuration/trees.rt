@@ -1,4 +1,5 @@
-//! The trees of settings, and the three steps that versions are made by. Their clauses are in the words of trees.
+//! The trees of settings, and the three steps that versions are made by. Their clauses are in the
+//! words of trees.
 
 ghost use Rattle.std.specs.Prelude.{◌≡◌, ◌==◌, cond, None, Some, Ok, IfOk, OnOk};
 ghost use Rattle.std.specs.Option.{is_some};
@@ -19,7 +20,8 @@ pub type Settings = ArcRadixTree<u8, u64>;
 /// Sets the value of a path.
 #[tactic(auto, using(vec_collections::specs::Exact::exactly))]
 pub fn bind(settings: &mut Settings, path: &[u8], value: u64) -> Result<(), AllocError>
-    ensures { OnOk result (IsInserted nat_cmp (λ x y. x ≡ y) path.now value settings.old settings.new) }
+    ensures { OnOk result
+        (IsInserted nat_cmp (λ x y. x ≡ y) path.now value settings.old settings.new) }
 {
     settings.insert(path, value)
 }
@@ -29,7 +31,9 @@ pub fn take_out<T: AbstractRadixTreeMut<u8, u64>>(
     settings: &mut T,
     removed: &RadixTree<u8, bool>,
 ) -> Result<(), AllocError>
-    ensures { OnOk result (IsRemoved T.keeps (λ named covered. covered ≡ named) (lookup nat_cmp removed.now) (lookup nat_cmp (T.tree settings.old)) (lookup nat_cmp (T.tree settings.new))) }
+    ensures { OnOk result (IsRemoved T.keeps (λ named covered. covered ≡ named)
+        (lookup nat_cmp removed.now) (lookup nat_cmp (T.tree settings.old))
+        (lookup nat_cmp (T.tree settings.new))) }
 {
     settings.remove_prefix_with(
         removed,
@@ -39,12 +43,16 @@ pub fn take_out<T: AbstractRadixTreeMut<u8, u64>>(
     )
 }
 
-/// The paths at which two trees have other settings. Each has the one of the new tree, or of the old one where the new tree has none.
+/// The paths at which two trees have other settings. Each has the one of the new tree, or of the
+/// old one where the new tree has none.
 pub fn differing<S: AbstractRadixTree<u8, u64>>(
     old: &S,
     new: &S,
 ) -> Result<RadixTree<u8, u64>, AllocError>
-    ensures { IfOk result (λ paths. (path : Path) → is_some (lookup nat_cmp paths path) ≡ are_different (lookup nat_cmp (S.tree old.now) path) (lookup nat_cmp (S.tree new.now) path)) }
+    ensures { IfOk result (λ paths. (path : Path)
+        → is_some (lookup nat_cmp paths path)
+        ≡ are_different (lookup nat_cmp (S.tree old.now) path)
+        (lookup nat_cmp (S.tree new.now) path)) }
 {
     old.outer_combine(
         new,

@@ -10,12 +10,12 @@ use Rattle.vecbench_lines.proofs.keys.read_tree.Goals as goal
 pub returns-then-eq-clause-keys : goal.returns-then-eq-clause-keys
 returns-then-eq-clause-keys c =
     let none : keys_in c.args.word.now ≡ Some [] = search rules in
-    ([], none, HasKeys-empty c.empty-tree.result c.empty-tree.ensures)
+    ([], none, HasKeys-empty c.empty-tree.result c.empty-tree.ensures.is)
 
 pub loop-part-init : goal.loop-part-init
 loop-part-init c =
     let parts : parts_left c.into_iter-part-iterator.result ≡ parts_of Comma c.args.word.now = search rules in
-    (tt, tt, [], keys-none (keys_in_all (parts_left c.into_iter-part-iterator.result)) ∙ ap keys_in_all parts, HasKeys-empty c.empty-tree.result c.empty-tree.ensures)
+    (tt, tt, [], keys-none (keys_in_all (parts_left c.into_iter-part-iterator.result)) ∙ ap keys_in_all parts, HasKeys-empty c.empty-tree.result c.empty-tree.ensures.is)
 
 pub same-tree : goal.same-tree
 same-tree c = refl

@@ -11,12 +11,12 @@ use Rattle.vecbench_lines.proofs.rules.read_filter.Goals as goal
 pub returns-then-eq-clause-rules : goal.returns-then-eq-clause-rules
 returns-then-eq-clause-rules c =
     let none : rules_in c.args.word.now ≡ Some [] = search rules in
-    ([], none, collected-empty c.new-filter.result c.new-filter.ensures)
+    ([], none, collected-empty c.new-filter.result c.new-filter.ensures.is)
 
 pub loop-part-init : goal.loop-part-init
 loop-part-init c =
     let parts : parts_left c.into_iter-part-iterator.result ≡ parts_of Comma c.args.word.now = search rules in
-    (tt, tt, [], keys-none (rules_in_all (parts_left c.into_iter-part-iterator.result)) ∙ ap rules_in_all parts, collected-empty c.new-filter.result c.new-filter.ensures)
+    (tt, tt, [], keys-none (rules_in_all (parts_left c.into_iter-part-iterator.result)) ∙ ap rules_in_all parts, collected-empty c.new-filter.result c.new-filter.ensures.is)
 
 pub loop-part-preserved : goal.loop-part-preserved
 loop-part-preserved c =

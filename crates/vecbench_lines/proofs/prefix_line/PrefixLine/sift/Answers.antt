@@ -17,7 +17,7 @@ returns c =
       | in-Remove+in_ok-remove_prefix_with-in-Remove w ↦
           let left = removed-keys (λ v w. v ≡ w) _ (λ rule admitted h. h.answers ∙ h.shows) w.rules.result.now
           (lookup nat_cmp c.args.self.tree) _ w.in_ok-remove_prefix_with-in-Remove.ensures.ok in
-          search (rules, left, w.tree-is, w.in-Remove.is, w.rules.ensures)
+          search (rules, left, w.tree-is, w.in-Remove.is, w.rules.ensures.is)
       | in-Retain+in_ok-retain_prefix_with-in-Retain w ↦
           let left = retained-keys (λ v w. v ≡ w) _ (λ rule admitted h. h.answers ∙ h.shows) w.rules-in-Retain.result.now
           (lookup nat_cmp c.args.self.tree) _ w.in_ok-retain_prefix_with-in-Retain.ensures.ok in
