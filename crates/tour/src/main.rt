@@ -25,7 +25,7 @@ fn main(rt: HostRuntime) -> io::Result<()> {
 /// The hours at which a bakery is open, or a bar.
 fn either_is_open(alloc: Global) -> Result<Intervals<4>, AllocError>
     ensures { IfOk result (λ hours. (hour : ℕ)
-       → holds hours hour ≡ ((leb 6 hour && ltb hour 14) || (leb 12 hour && ltb hour 20))) }
+        → holds hours hour ≡ ((leb 6 hour && ltb hour 14) || (leb 12 hour && ltb hour 20))) }
 {
     let bakery = Intervals::between(alloc, 6, 14)?;
     let bar = Intervals::between(alloc, 12, 20)?;
