@@ -21,5 +21,5 @@ returns c =
       | in-Retain+in_ok-retain_prefix_with-in-Retain w ↦
           let left = retained-keys (λ v w. v ≡ w) _ (λ rule admitted h. h.answers ∙ h.shows) w.rules-in-Retain.result.now
           (lookup nat_cmp c.args.self.tree) _ w.in_ok-retain_prefix_with-in-Retain.ensures.ok in
-          search (rules, left, w.tree-is, w.in-Retain.is, w.rules-in-Retain.ensures)
+          search (rules, left, w.tree-is, w.in-Retain.is, w.rules-in-Retain.ensures.is)
     ]
