@@ -97,8 +97,10 @@ pub fn of_entries(alloc: Global, entries: Vec<(Vec<u8>, u32)>) -> Result<Ports, 
     RadixTree::from_vecs(alloc, entries.into_iter())
 }
 
-/// The same of a list that lends the names. No clause says here what it makes.
-pub fn of_names<'a>(alloc: Global, entries: Vec<(&'a [u8], u32)>) -> Result<Ports, AllocError> {
+/// The same of a list that lends the names.
+pub fn of_names<'a>(alloc: Global, entries: Vec<(&'a [u8], u32)>) -> Result<Ports, AllocError>
+    ensures { IfOk result (IsCollected nat_cmp (map (λ b. (b.0.now, b.1)) entries.entry.items)) }
+{
     RadixTree::from_iter(alloc, entries.into_iter())
 }
 
