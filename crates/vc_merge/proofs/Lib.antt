@@ -20,3 +20,4 @@ pub mod Chosen
 pub mod Keeping
 pub mod Parted
 pub mod Retained
+pub mod Strides

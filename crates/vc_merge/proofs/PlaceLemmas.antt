@@ -4,11 +4,12 @@
 --     ordered-rest, rest-part, rest-rest        the rest that is searched on
 --     half-rest, quarter-rest        after one comparison, and after three
 --     searched-half        after one comparison that may find it
---     place-searched, place-equal, place-unequal        the place
+--     place-met, place-behind, place-searched, place-equal, place-unequal        the place
 --     ordered-ascends, ascends-map        ascending lists are ordered round whatever is sought
-use Rattle.std.proofs.Common.{◌≡◌, ℕ, zero, suc, ◌+◌, ◌-◌, ◌*◌, ◌/◌, ◌<◌, ◌≤◌, Bool, true, false, ◌||◌, List, [], ◌∷◌, ◌++◌, map, length, take, drop, get_or, length-drop, ◌⊎◌, inl, inr, ⊎_elim, refl, sym, ap, subst, ◌∙◌, arith}
+use Rattle.std.proofs.Common.{◌≡◌, ℕ, zero, suc, ◌+◌, ◌-◌, ◌*◌, ◌/◌, ◌<◌, ◌≤◌, Bool, true, false, ◌||◌, List, [], ◌∷◌, ◌++◌, map, length, take, drop, get_or, length-drop, ◌⊎◌, inl, inr, ⊎_elim, Result, Ok, Err, refl, sym, ap, subst, ◌∙◌, arith}
 use Rattle.std.proofs.lemmas.List.{get_or_default, get_or-drop, get_or-take, drop-append-le, drop-drop, drop-take, length-take-le, take-append-drop, take-take}
 use Rattle.std.proofs.Math.Seq.{take-add}
+use Rattle.std.proofs.lemmas.Bool.{cases_lt}
 use mathlib.Core.Bool.{true≢false}
 use Rattle.std.specs.List.{AllByRecursion, HoldsAt}
 use Rattle.std.specs.Int.{from_bool}
@@ -18,7 +19,7 @@ use Rattle.std.specs.Ordering.{is_gt, is_eq, is_lt, ordering_reverse}
 use Rattle.std.specs.declared.cmp.Ordering.{Ordering}
 use Rattle.std.specs.declared.cmp.Ordering.TheVariants.{Less, Equal, Greater}
 use Rattle.vc_merge.specs.Ascending.{Ascends}
-use Rattle.vc_merge.specs.Place.{IsOrdered, IsFound, IsGap, IsNarrowed, IsPassed, IsRest, IsSearched, IsReached}
+use Rattle.vc_merge.specs.Place.{IsOrdered, IsFound, IsGap, IsPlace, IsNarrowed, IsPassed, IsRest, IsSearched, IsReached, place_of}
 use Rattle.vc_merge.proofs.ListLemmas.{each-at}
 
 -- what holds of each element holds of those behind the first k
@@ -315,8 +316,8 @@ module _ {X : Type 0} (side : X → Ordering) where
 
   -- ---- the place
 
-  place-passed : (xs : List X) (start : ℕ) → IsOrdered side xs → IsPassed side xs start 0 → IsFound side xs (start - 1)
-  place-passed xs start p q =
+  place-passed : (xs : List X) (start n : ℕ) → IsOrdered side xs → IsPassed side xs start n → IsFound side xs (start - 1)
+  place-passed xs start n p q =
       let w = q.within in
       let s = q.some in
       let i : start - 1 < length xs = omega arith in
@@ -328,9 +329,40 @@ module _ {X : Type 0} (side : X → Ordering) where
         greater = subst (λ k. AllByRecursion (λ y. side y ≡ Greater) (drop k xs)) j (greater-behind xs (start - 1) p i (λ d. ap is_lt (q.equal d)));
       }
 
-  pub place-searched : (xs : List X) (start n : ℕ) (found : Bool) → IsOrdered side xs → IsSearched side xs start n found → found ≡ true → n ≡ 0 → IsFound side xs (start - 1)
-  place-searched xs start n true p q f e = place-passed xs start p (subst (λ m. IsPassed side xs start m) e q)
-  place-searched xs start n false p q f e = absurd (true≢false (sym f))
+  not-below : (i start : ℕ) → (i < start → ⊥) → start ≤ i
+  not-below i start f = ⊎_elim (λ h. absurd (f h)) (λ h. h) (cases_lt i start)
+
+  -- among those that are less none is not
+  both : (xs : List X) (start i : ℕ) → i < start → AllByRecursion (λ y. side y ≡ Less) (take start xs) → i < length xs → HoldsAt (λ y. is_lt (side y) ≡ false) xs i → ⊥
+  both [] start i h p k e = omega arith
+  both (x ∷ xs) zero i h p k e = omega arith
+  both (x ∷ xs) (suc start) zero h p k e = less-not x (e x) p.0
+  both (x ∷ xs) (suc start) (suc i) h p k e = both xs start i (omega arith) p.1 (omega arith) e
+
+  gap : (xs : List X) (start i : ℕ) → i < start → AllByRecursion (λ y. side y ≡ Less) (take start xs) → start ≤ length xs → AllByRecursion (λ y. side y ≡ Greater) (drop i xs) → ⊥
+  gap [] start i h p k e = omega arith
+  gap (x ∷ xs) zero i h p k e = omega arith
+  gap (x ∷ xs) (suc start) zero h p k e = less-not x (ap is_lt e.0) p.0
+  gap (x ∷ xs) (suc start) (suc i) h p k e = gap xs start i (omega arith) p.1 (omega arith) e
+
+  -- an element that was read and is equal
+  pub place-met : (xs : List X) (i : ℕ) (y : X) → IsOrdered side xs → i < length xs → y ≡ get_or xs i y → Equal ≡ side y → IsFound side xs i
+  place-met xs i y p h e f = subst (λ i. IsFound side xs i) (omega arith)
+      (place-passed xs (i + 1) 0 p
+      (record {
+        within = omega arith;
+        some = omega arith;
+        equal = subst (λ i. HoldsAt (λ z. side z ≡ Equal) xs i) (omega arith) (holds-read (λ z. side z ≡ Equal) xs i y h e (sym f));
+      }))
+
+  -- no place is among the elements that are known to be less
+  pub place-behind : (xs : List X) (start n : ℕ) (r : Result ℕ ℕ) → IsNarrowed side xs start n → IsPlace side xs r → start ≤ place_of r
+  place-behind xs start n (Ok i) q r = not-below i start (λ h. both xs start i h q.less r.within (λ d. ap is_lt (r.equal d)))
+  place-behind xs start n (Err i) q r = not-below i start (λ h. gap xs start i h q.less (let w = q.within in omega arith) r.greater)
+
+  pub place-searched : (xs : List X) (start n : ℕ) (found : Bool) → IsOrdered side xs → IsSearched side xs start n found → found ≡ true → IsFound side xs (start - 1)
+  place-searched xs start n true p q f = place-passed xs start n p q
+  place-searched xs start n false p q f = absurd (true≢false (sym f))
 
   place-narrowed : (xs : List X) (start : ℕ) → IsNarrowed side xs start 0 → IsGap side xs start
   place-narrowed xs start q = record { within = (let w = q.within in omega arith); less = q.less; greater = subst (λ k. AllByRecursion (λ y. side y ≡ Greater) (drop k xs)) (omega arith) q.greater }
@@ -346,14 +378,7 @@ module _ {X : Type 0} (side : X → Ordering) where
         (omega arith)))
 
     place-at : Equal ≡ side y → IsFound side xs start
-    place-at f = subst (λ i. IsFound side xs i) (omega arith)
-        (place-passed xs (start + 1) p
-        (record {
-          within = (let l = in-bounds in omega arith);
-          some = omega arith;
-          equal = subst (λ i. HoldsAt (λ z. side z ≡ Equal) xs i) (omega arith)
-              (holds-read (λ z. side z ≡ Equal) xs start y in-bounds e (sym f));
-        }))
+    place-at f = place-met xs start y p in-bounds e f
 
     place-above : Greater ≡ side y → IsGap side xs start
     place-above f = place-narrowed xs start (narrowed-down xs p start 1 q start 0 in-bounds (holds-read (λ z. side z ≡ Greater) xs start y in-bounds e (sym f)) (omega arith) (omega arith))

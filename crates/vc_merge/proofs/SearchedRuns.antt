@@ -1,7 +1,7 @@
 -- What a search for the first element of one list in the other says of both lists, in either direction.
 --     place-left        for the first left element in the right list
 --     place-right        for the first right element in the left list: the same under the order that has its sides swapped
-use Rattle.std.proofs.Common.{◌≡◌, ℕ, zero, suc, ◌+◌, ◌-◌, ◌*◌, ◌<◌, ◌≤◌, List, [], ◌∷◌, length, take, drop, get_or, mul-le-mul_right, length-drop, Result, Ok, Err, ◌⊎◌, inl, inr, ap, subst, ◌∙◌, arith}
+use Rattle.std.proofs.Common.{◌≡◌, ℕ, zero, suc, ◌+◌, ◌-◌, ◌<◌, ◌≤◌, List, [], ◌∷◌, length, take, drop, get_or, length-drop, Result, Ok, Err, ◌⊎◌, inl, inr, ap, subst, ◌∙◌, arith}
 use Rattle.std.specs.Cmp.{IsTotalOrder}
 use Rattle.std.specs.List.{AllByRecursion, HoldsAt}
 use Rattle.std.specs.List.Sorted.{IsStrictlySortedBy}
@@ -74,21 +74,11 @@ module _ {A B : Type 0} (order : A ⊎ B → A ⊎ B → Ordering) (total : IsTo
       → y ≡ get_or rs 0 y → IsPlace (λ x. order (inl x) (inr y)) ls r → IsRightPlace order ls rs r
   place-right ls rs y r p h e q = place-swapped ls rs r (place-left mirrored mirrored-total rs ls y r (record { left = p.right; right = p.left }) h e q)
 
--- ---- what the searches cost
+-- ---- what the searches leave
 
--- one element of the shorter list more was searched for
-pub paid-more_search : (a b few before d start : ℕ) → few < before → b ≤ a + d → a + before * d ≤ start → b + few * d ≤ start
-paid-more_search a b few before d start h k l =
-    let m : suc few * d ≤ before * d = mul-le-mul_right d h in
-    omega arith
-
--- the last one was
-pub paid-last_search : (a b before d start : ℕ) → 0 < before → b ≤ a + d → a + before * d ≤ start → b ≤ start
-paid-last_search a b before d start h k l = let m = paid-more_search a b 0 before d start h k l in omega arith
-
--- what is left of what is left is no longer
-pub drop-no_longer : {X : Type 0} (xs ys zs : List X) (m n : ℕ) → xs ≡ drop m ys → ys ≡ drop n zs → length xs ≤ length zs
-drop-no_longer xs ys zs m n e f =
+-- what is left of what is left is shorter by what was taken, where there was so much
+pub drop-shorter : {X : Type 0} (xs ys zs : List X) (m n : ℕ) → xs ≡ drop m ys → ys ≡ drop n zs → n ≤ length zs → length xs + n ≤ length zs
+drop-shorter xs ys zs m n e f h =
     let p : length xs ≡ length ys - m = ap length e ∙ length-drop m ys in
     let q : length ys ≡ length zs - n = ap length f ∙ length-drop n zs in
     omega arith

@@ -7,6 +7,11 @@ use Rattle.std.specs.Ordering.{is_gt}
 use Rattle.std.specs.declared.cmp.Ordering.{Ordering}
 use Rattle.std.specs.declared.cmp.Ordering.TheVariants.{Less, Equal, Greater}
 
+-- the place of an answer, of an element that is equal or of a gap
+abbrev pub place_of : Result ℕ ℕ → ℕ
+place_of (Ok i) = i
+place_of (Err i) = i
+
 module _ {X : Type 0} (side : X → Ordering) where
   -- first those that are less, then at most one that is equal, then those that are greater: each is less, or all behind it are greater
   abbrev pub IsOrdered : List X → Type 0

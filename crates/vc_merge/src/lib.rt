@@ -9,5 +9,5 @@ pub mod merge;
 pub mod moving;
 pub mod parts;
 pub mod search;
-mod searching;
+pub mod searching;
 pub mod states;

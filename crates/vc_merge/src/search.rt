@@ -1,17 +1,17 @@
 //! Searches in an ordered list, for one element by its order, for a pair by its key, or for
 //! whatever a [`Sought`] tells.
 //!
-//! There are two forms, neither of which branches on an answer. [`search`] halves what is left, and
-//! makes no more comparisons than the length has binary digits: it serves counted calls, and those
-//! that promise a bound. [`look_up`] compares with three elements at a time that do not wait for
-//! each other, which makes half as many comparisons more and is faster, for numbers and for
-//! strings.
-ghost use Rattle.std.specs.Prelude.{◌≡◌, ◌+◌, ◌-◌, ◌*◌, ◌/◌, ◌<◌, ◌≤◌, length};
+//! There are three forms. [`search`] halves what is left, without a branch on an answer, and makes
+//! no more comparisons than the length has binary digits: it serves counted calls, and those that
+//! promise a bound. [`search_near`] goes in strides from the front on, and halves what stands before
+//! the last of them. [`look_up`] compares with three elements at a time that do not wait for each
+//! other, which makes half as many comparisons more and is faster, for numbers and for strings.
+ghost use Rattle.std.specs.Prelude.{◌≡◌, ◌+◌, ◌-◌, ◌*◌, ◌/◌, ◌^◌, ◌<◌, ◌≤◌, length, min};
 ghost use Rattle.std.specs.Map.{keys_of};
 ghost use Rattle.std.specs.declared.cmp.Ordering.{Ordering};
 ghost use Rattle.vc_merge.specs.Ascending.{Ascends};
 ghost use Rattle.vc_merge.specs.Count.{ticked, digits};
-ghost use Rattle.vc_merge.specs.Place.{IsOrdered, IsPlace, IsRest, IsReached, IsSearched};
+ghost use Rattle.vc_merge.specs.Place.{IsOrdered, IsPlace, IsNarrowed, IsRest, IsReached, IsSearched, place_of};
 
 use crate::merge::{Count, Uncounted};
 use std::cmp::Ordering;
@@ -174,9 +174,64 @@ pub fn search<X, C: Count, S: Sought<X, C>>(
     ensures place { IsPlace (S.side sought.now) list.now result }
     ensures counted { C.counted steps.new ≤ C.counted steps.old + digits (length list.now) }
 {
+    search_part(list, 0, list.len(), sought, steps)
+}
+
+/// The same as [`search`], for what is near the front: it looks at every `2 ^ exponent`-th element
+/// until one is not less, and halves what stands before that. Each of those elements but the last
+/// one that it looks at stands before the place.
+pub fn search_near<X, C: Count, S: Sought<X, C>>(
+    list: &[X],
+    sought: &S,
+    exponent: u32,
+    steps: &mut C,
+) -> Result<usize, usize>
+    requires ordered { IsOrdered (S.side sought.now) list.now }
+    requires exponent { exponent < 64 }
+    ensures place { IsPlace (S.side sought.now) list.now result }
+    ensures counted { C.counted steps.new ≤ C.counted steps.old + exponent
+        + min (length list.now / 2 ^ exponent) (place_of result / 2 ^ exponent + 1) }
+{
+    let stride = power(exponent);
+    let mut start = 0;
+    'strides: while list.len() - start >= stride {
+        let last = start + (stride - 1);
+        match sought.compare(&list[last], steps) {
+            Ordering::Less => start = last + 1,
+            Ordering::Equal => return Ok(last),
+            Ordering::Greater => return search_part(list, start, stride - 1, sought, steps),
+        }
+    }
+    search_part(list, start, list.len() - start, sought, steps)
+}
+
+/// `2 ^ exponent`.
+#[inline(always)]
+fn power(exponent: u32) -> usize
+    requires { exponent < 64 }
+    ensures { result ≡ 2 ^ exponent }
+{
+    1 << exponent
+}
+
+/// The same where the elements before `start` are known to be less, and those behind the `len` from
+/// there on to be greater.
+#[inline(always)]
+fn search_part<X, C: Count, S: Sought<X, C>>(
+    list: &[X],
+    start: usize,
+    len: usize,
+    sought: &S,
+    steps: &mut C,
+) -> Result<usize, usize>
+    requires ordered { IsOrdered (S.side sought.now) list.now }
+    requires narrowed { IsNarrowed (S.side sought.now) list.now start len }
+    ensures place { IsPlace (S.side sought.now) list.now result }
+    ensures counted { C.counted steps.new ≤ C.counted steps.old + digits len }
+{
     let mut part = Part {
-        start: 0,
-        len: list.len(),
+        start,
+        len,
         found: false,
     };
     'long: while part.len >= LONG {

@@ -1,16 +1,17 @@
 //! The searching body of a merge: each element of the shorter list is searched for in what is left
 //! of the longer one.
-ghost use Rattle.std.specs.Prelude.{◌≡◌, ◌+◌, ◌*◌, ◌<◌, ◌≤◌, ◌↔◌, true, take, drop, length, min, max, IfOk, IsTrue};
+ghost use Rattle.std.specs.Prelude.{◌≡◌, ◌+◌, ◌*◌, ◌/◌, ◌^◌, ◌<◌, ◌≤◌, ◌↔◌, true, take, drop, length, min, max, IfOk, IsTrue};
 ghost use Rattle.std.proofs.Common.{inl, inr};
 ghost use Rattle.vc_merge.specs.Chain.{allows};
-ghost use Rattle.vc_merge.specs.Count.{digits};
+ghost use Rattle.vc_merge.specs.Count.{by_strides, digits};
+ghost use Rattle.vc_merge.specs.Place.{place_of};
 ghost use Rattle.vc_merge.specs.Script.{BothAscend};
 ghost use Rattle.vc_merge.specs.Progress.{GoesOn, IsWalk, IsLeftPlace, IsRightPlace, LeftBelow, RightBelow, fewer, more};
 ghost use Rattle.vc_merge.specs.Takes.{TakesLeft, TakesRight};
 
 use crate::linear::{meet, pass_left, pass_right};
 use crate::merge::{Count, MergeOperation, MergeState};
-use crate::search::{Sought, search};
+use crate::search::{Sought, search_near};
 use std::alloc::AllocError;
 use std::cmp::Ordering;
 
@@ -22,8 +23,8 @@ pub(crate) enum Side {
 }
 
 /// Whether a walk along lists of these lengths compares no more often than searches in the longer
-/// one.
-pub(crate) fn is_walk_shorter(left: usize, right: usize) -> bool
+/// one. Then a merge walks along both.
+pub fn is_walk_shorter(left: usize, right: usize) -> bool
     ensures { IsTrue result ↔ (left + right ≤ min left right * digits (max left right)) }
 {
     let searches = left.min(right) as u128;
@@ -31,26 +32,42 @@ pub(crate) fn is_walk_shorter(left: usize, right: usize) -> bool
     left as u128 + right as u128 <= searches * comparisons
 }
 
+/// How far apart the elements are that searches for `few` elements in `many` others begin with, as
+/// an exponent of two: at most as far as there are others for each, and more than half as far.
+pub(crate) fn stride_exponent(few: usize, many: usize) -> u32
+    requires { few ≤ many }
+    ensures exponent { result < 64 }
+    ensures searches { by_strides result few many ≤ few * digits many }
+{
+    if few == 0 {
+        return 0;
+    }
+    let share = many / few;
+    (usize::BITS - 1) - share.leading_zeros()
+}
+
 /// Makes events until a list is used up, which it answers by true, or until an event answers false
-/// or is refused. Searches for each element of the shorter list.
+/// or is refused. Searches for each element of the shorter list, by strides of `2 ^ exponent`.
 pub(crate) fn search_each<M: MergeState, C: Count, O: MergeOperation<M, C>>(
     state: &mut M,
     op: &O,
     shorter: Side,
+    exponent: u32,
     steps: &mut C,
 ) -> Result<bool, AllocError>
     requires ready { O.ready op.now state.old }
     requires ascend { BothAscend (O.order op.now) (M.left state.old) (M.right state.old) }
+    requires exponent { exponent < 64 }
     ensures walk { IsWalk (allows M.left M.right (O.gives op.now)) (O.order op.now) state.old result
         state.new }
     ensures ready { IfOk result (λ go_on. go_on ≡ true → O.ready op.now state.new) }
     ensures counted { let left = length (M.left state.old) in
         let right = length (M.right state.old) in
-        C.counted steps.new ≤ C.counted steps.old + fewer shorter left right
-        * digits (more shorter left right) }
+        C.counted steps.new ≤ C.counted steps.old
+        + by_strides exponent (fewer shorter left right) (more shorter left right) }
 {
     'events: while !state.a_slice().is_empty() && !state.b_slice().is_empty() {
-        if !place_first(state, op, shorter, steps)? {
+        if !place_first(state, op, shorter, exponent, steps)? {
             return Ok(false);
         }
     }
@@ -63,10 +80,12 @@ fn place_first<M: MergeState, C: Count, O: MergeOperation<M, C>>(
     state: &mut M,
     op: &O,
     shorter: Side,
+    exponent: u32,
     steps: &mut C,
 ) -> Result<bool, AllocError>
     requires ready { O.ready op.now state.old }
     requires ascend { BothAscend (O.order op.now) (M.left state.old) (M.right state.old) }
+    requires exponent { exponent < 64 }
     requires some_left { 0 < length (M.left state.old) }
     requires some_right { 0 < length (M.right state.old) }
     ensures goes_on { GoesOn (allows M.left M.right (O.gives op.now)) (O.order op.now) state.old
@@ -75,15 +94,18 @@ fn place_first<M: MergeState, C: Count, O: MergeOperation<M, C>>(
     ensures fewer { IfOk result (λ go_on. go_on ≡ true
         → fewer shorter (length (M.left state.new)) (length (M.right state.new))
         < fewer shorter (length (M.left state.old)) (length (M.right state.old))) }
-    ensures no_more { IfOk result (λ go_on. go_on ≡ true
-        → more shorter (length (M.left state.new)) (length (M.right state.new))
-        ≤ more shorter (length (M.left state.old)) (length (M.right state.old))) }
-    ensures counted { C.counted steps.new ≤ C.counted steps.old
-        + digits (more shorter (length (M.left state.old)) (length (M.right state.old))) }
+    ensures paid { let before = more shorter (length (M.left state.old))
+        (length (M.right state.old)) in
+        IfOk result (λ go_on. go_on ≡ true → C.counted steps.new
+        + more shorter (length (M.left state.new)) (length (M.right state.new)) / 2 ^ exponent
+        ≤ C.counted steps.old + (exponent + 1) + before / 2 ^ exponent) }
+    ensures counted { let before = more shorter (length (M.left state.old))
+        (length (M.right state.old)) in
+        C.counted steps.new ≤ C.counted steps.old + exponent + before / 2 ^ exponent }
 {
     match shorter {
-        Side::Left => place_left(state, op, steps),
-        Side::Right => place_right(state, op, steps),
+        Side::Left => place_left(state, op, exponent, steps),
+        Side::Right => place_right(state, op, exponent, steps),
     }
 }
 
@@ -92,22 +114,25 @@ fn place_first<M: MergeState, C: Count, O: MergeOperation<M, C>>(
 fn place_left<M: MergeState, C: Count, O: MergeOperation<M, C>>(
     state: &mut M,
     op: &O,
+    exponent: u32,
     steps: &mut C,
 ) -> Result<bool, AllocError>
     requires ready { O.ready op.now state.old }
     requires ascend { BothAscend (O.order op.now) (M.left state.old) (M.right state.old) }
+    requires exponent { exponent < 64 }
     requires some { 0 < length (M.left state.old) }
     ensures goes_on { GoesOn (allows M.left M.right (O.gives op.now)) (O.order op.now) state.old
         result state.new }
     ensures ready { IfOk result (λ go_on. go_on ≡ true → O.ready op.now state.new) }
     ensures fewer { IfOk result (λ go_on. go_on ≡ true
         → length (M.left state.new) < length (M.left state.old)) }
-    ensures no_more { IfOk result (λ go_on. go_on ≡ true
-        → length (M.right state.new) ≤ length (M.right state.old)) }
-    ensures counted { C.counted steps.new ≤ C.counted steps.old
-        + digits (length (M.right state.old)) }
+    ensures paid { IfOk result (λ go_on. go_on ≡ true
+        → C.counted steps.new + length (M.right state.new) / 2 ^ exponent
+        ≤ C.counted steps.old + (exponent + 1) + length (M.right state.old) / 2 ^ exponent) }
+    ensures counted { C.counted steps.new
+        ≤ C.counted steps.old + exponent + length (M.right state.old) / 2 ^ exponent }
 {
-    match find_left(state, op, steps) {
+    match find_left(state, op, exponent, steps) {
         Ok(place) => {
             if !pass_rights(state, op, place)? {
                 return Ok(false);
@@ -128,22 +153,25 @@ fn place_left<M: MergeState, C: Count, O: MergeOperation<M, C>>(
 fn place_right<M: MergeState, C: Count, O: MergeOperation<M, C>>(
     state: &mut M,
     op: &O,
+    exponent: u32,
     steps: &mut C,
 ) -> Result<bool, AllocError>
     requires ready { O.ready op.now state.old }
     requires ascend { BothAscend (O.order op.now) (M.left state.old) (M.right state.old) }
+    requires exponent { exponent < 64 }
     requires some { 0 < length (M.right state.old) }
     ensures goes_on { GoesOn (allows M.left M.right (O.gives op.now)) (O.order op.now) state.old
         result state.new }
     ensures ready { IfOk result (λ go_on. go_on ≡ true → O.ready op.now state.new) }
     ensures fewer { IfOk result (λ go_on. go_on ≡ true
         → length (M.right state.new) < length (M.right state.old)) }
-    ensures no_more { IfOk result (λ go_on. go_on ≡ true
-        → length (M.left state.new) ≤ length (M.left state.old)) }
-    ensures counted { C.counted steps.new ≤ C.counted steps.old
-        + digits (length (M.left state.old)) }
+    ensures paid { IfOk result (λ go_on. go_on ≡ true
+        → C.counted steps.new + length (M.left state.new) / 2 ^ exponent
+        ≤ C.counted steps.old + (exponent + 1) + length (M.left state.old) / 2 ^ exponent) }
+    ensures counted { C.counted steps.new
+        ≤ C.counted steps.old + exponent + length (M.left state.old) / 2 ^ exponent }
 {
-    match find_right(state, op, steps) {
+    match find_right(state, op, exponent, steps) {
         Ok(place) => {
             if !pass_lefts(state, op, place)? {
                 return Ok(false);
@@ -203,38 +231,42 @@ fn pass_rights<M: MergeState, C: Count, O: MergeOperation<M, C>>(
 fn find_left<M: MergeState, C: Count, O: MergeOperation<M, C>>(
     state: &M,
     op: &O,
+    exponent: u32,
     steps: &mut C,
 ) -> Result<usize, usize>
     requires ascend { BothAscend (O.order op.now) (M.left state.now) (M.right state.now) }
+    requires exponent { exponent < 64 }
     requires some { 0 < length (M.left state.now) }
     ensures place { IsLeftPlace (O.order op.now) (M.left state.now) (M.right state.now) result }
-    ensures counted { C.counted steps.new ≤ C.counted steps.old
-        + digits (length (M.right state.now)) }
+    ensures counted { C.counted steps.new ≤ C.counted steps.old + exponent
+        + min (length (M.right state.now) / 2 ^ exponent) (place_of result / 2 ^ exponent + 1) }
 {
     let sought = LeftElement {
         op,
         element: &state.a_slice()[0],
     };
-    search(state.b_slice(), &sought, steps)
+    search_near(state.b_slice(), &sought, exponent, steps)
 }
 
 /// Where the first right element stands in the left list.
 fn find_right<M: MergeState, C: Count, O: MergeOperation<M, C>>(
     state: &M,
     op: &O,
+    exponent: u32,
     steps: &mut C,
 ) -> Result<usize, usize>
     requires ascend { BothAscend (O.order op.now) (M.left state.now) (M.right state.now) }
+    requires exponent { exponent < 64 }
     requires some { 0 < length (M.right state.now) }
     ensures place { IsRightPlace (O.order op.now) (M.left state.now) (M.right state.now) result }
-    ensures counted { C.counted steps.new ≤ C.counted steps.old
-        + digits (length (M.left state.now)) }
+    ensures counted { C.counted steps.new ≤ C.counted steps.old + exponent
+        + min (length (M.left state.now) / 2 ^ exponent) (place_of result / 2 ^ exponent + 1) }
 {
     let sought = RightElement {
         op,
         element: &state.b_slice()[0],
     };
-    search(state.a_slice(), &sought, steps)
+    search_near(state.a_slice(), &sought, exponent, steps)
 }
 
 /// A left element that is sought in the right list.

@@ -1,6 +1,7 @@
 use Rattle.std.proofs.Common.{◌≡◌, ◌-◌, length, ap, ◌∙◌, length-drop, arith}
 use Rattle.vc_merge.proofs.Chains.{goes_on-next, goes_on-after, goes_on-true, if_true-weaker}
-use Rattle.vc_merge.proofs.SearchedRuns.{drop-no_longer}
+use Rattle.vc_merge.proofs.SearchedRuns.{drop-shorter}
+use Rattle.vc_merge.proofs.Strides.{place-paid}
 use Rattle.vc_merge.proofs.searching.place_right.Goals as goal
 
 pub returns-else-not-branch-clause-goes_on : goal.returns-else-not-branch-clause-goes_on
@@ -18,12 +19,17 @@ returns-else-not-branch-clause-fewer g c =
     omega arith)
     c.meet.ensures.takes
 
-pub returns-else-not-branch-clause-no_more : goal.returns-else-not-branch-clause-no_more
-returns-else-not-branch-clause-no_more g c =
+pub returns-else-not-branch-clause-paid : goal.returns-else-not-branch-clause-paid
+returns-else-not-branch-clause-paid g c =
     let passed = c.in_ok-pass_lefts-in-Ok.ensures.takes c.if-not-branch.false in
-    if_true-weaker _ (λ met. drop-no_longer _ _ _ 1 c.in-Ok.place met.0 passed.0) c.meet.ensures.takes
+    if_true-weaker _ (λ met. place-paid _ _ _ c.in-Ok.place _ _ c.in-Ok.ensures.counted (drop-shorter _ _ _ 1 c.in-Ok.place met.0 passed.0 c.in-Ok.ensures.place.0)) c.meet.ensures.takes
 
 pub returns-else-not-branch-2-clause-goes_on : goal.returns-else-not-branch-2-clause-goes_on
 returns-else-not-branch-2-clause-goes_on g c =
     let p = goes_on-true _ _ _ _ _ c.in_ok-pass_lefts-in-Err.ensures.goes_on c.if-not-branch-2.false in
     goes_on-after _ _ _ _ _ _ p (goes_on-next _ _ _ _ _ p.ascend c.pass_right.ensures.next)
+
+pub returns-else-not-branch-2-clause-paid : goal.returns-else-not-branch-2-clause-paid
+returns-else-not-branch-2-clause-paid g c =
+    let passed = c.in_ok-pass_lefts-in-Err.ensures.takes c.if-not-branch-2.false in
+    if_true-weaker _ (λ met. place-paid _ _ _ c.in-Err.gap _ _ c.in-Err.ensures.counted (drop-shorter _ _ _ 0 c.in-Err.gap met.0 passed.0 c.in-Err.ensures.place.0)) c.pass_right.ensures.takes

@@ -1,12 +1,12 @@
 use Rattle.std.proofs.Common.{◌<◌, length, arith, rules}
 use Rattle.std.proofs.lemmas.Result.{err_from_is_err_and}
 use Rattle.vc_merge.proofs.Chains.{so_far-none, so_far-append, then_next-append, goes_on-true, walk-failed}
-use Rattle.vc_merge.proofs.Digits.{digits-monotone}
-use Rattle.vc_merge.proofs.SearchedRuns.{paid-more_search, paid-last_search, fewer-some}
+use Rattle.vc_merge.proofs.SearchedRuns.{fewer-some}
+use Rattle.vc_merge.proofs.Strides.{more-paid, last-paid}
 use Rattle.vc_merge.proofs.searching.search_each.Goals as goal
 
 pub events-init : goal.events-init
-events-init g c = record { ready = c.requires.ready; so_far = so_far-none _ _ _ c.requires.ascend; no_longer = omega arith; counted = omega arith }
+events-init g c = record { ready = c.requires.ready; so_far = so_far-none _ _ _ c.requires.ascend; counted = omega arith }
 
 pub returns-in_err-place_first-clause-walk : goal.returns-in_err-place_first-clause-walk
 returns-in_err-place_first-clause-walk g c =
@@ -17,9 +17,7 @@ pub returns-in_err-place_first-clause-counted : goal.returns-in_err-place_first-
 returns-in_err-place_first-clause-counted g c =
     let left : 0 < length (g.M.MergeState.left c.events.state) = search rules in
     let right : 0 < length (g.M.MergeState.right c.events.state) = search rules in
-    let d = digits-monotone _ _ c.events.invariant.no_longer in
-    let k = c.in_err-place_first.ensures.counted in
-    paid-last_search _ _ _ _ _ (fewer-some c.args.shorter _ _ left right) (omega arith) c.events.invariant.counted
+    last-paid c.args.exponent _ _ _ _ _ (fewer-some c.args.shorter _ _ left right) c.in_err-place_first.ensures.counted c.events.invariant.counted
 
 pub returns-then-not-branch-clause-walk : goal.returns-then-not-branch-clause-walk
 returns-then-not-branch-clause-walk g c =
@@ -29,19 +27,14 @@ pub returns-then-not-branch-clause-counted : goal.returns-then-not-branch-clause
 returns-then-not-branch-clause-counted g c =
     let left : 0 < length (g.M.MergeState.left c.events.state) = search rules in
     let right : 0 < length (g.M.MergeState.right c.events.state) = search rules in
-    let d = digits-monotone _ _ c.events.invariant.no_longer in
-    let k = c.in_ok-place_first.ensures.counted in
-    paid-last_search _ _ _ _ _ (fewer-some c.args.shorter _ _ left right) (omega arith) c.events.invariant.counted
+    last-paid c.args.exponent _ _ _ _ _ (fewer-some c.args.shorter _ _ left right) c.in_ok-place_first.ensures.counted c.events.invariant.counted
 
 pub events-preserved : goal.events-preserved
 events-preserved g c =
     let on = c.if-not-branch.false in
-    let more = c.in_ok-place_first.ensures.no_more on in
-    let d = digits-monotone _ _ c.events.invariant.no_longer in
-    let k = c.in_ok-place_first.ensures.counted in
     record {
       ready = c.in_ok-place_first.ensures.ready on;
       so_far = so_far-append _ _ _ _ _ c.events.invariant.so_far (goes_on-true _ _ _ _ _ c.in_ok-place_first.ensures.goes_on on);
-      no_longer = omega (arith, c.events.invariant.no_longer);
-      counted = paid-more_search _ _ _ _ _ _ (c.in_ok-place_first.ensures.fewer on) (omega arith) c.events.invariant.counted;
+      counted = more-paid c.args.exponent _ _ _ _ _ _ _ (c.in_ok-place_first.ensures.fewer on) c.in_ok-place_first.ensures.counted
+          (c.in_ok-place_first.ensures.paid on) c.events.invariant.counted;
     }

@@ -1,7 +1,7 @@
 use Rattle.std.proofs.Common.{◌+◌, ◌≤◌}
 use Rattle.vc_merge.specs.Count.{digits}
 use Rattle.vc_merge.specs.Place.{IsSearched}
-use Rattle.vc_merge.proofs.search.search.Given as goal
+use Rattle.vc_merge.proofs.search.search_part.Given as goal
 
 abbrev pub invariant-long : goal.invariant-long
 invariant-long g l =
