@@ -43,11 +43,17 @@ module _ {X : Type 0} (cmp : X → X → Ordering) (total : IsTotalOrder cmp) (L
           first second s (λ u answered k. takes-left s u answered x y xs e k) skips t answer (meets s t answer h);
     }
 
+    -- what a merge that was not refused has built, behind what was built before
+    pub merged-built : (s t : M) (a b old c : List X) → Finishes op (both_sides cmp) s t ⊎ Stops op (both_sides cmp) s (Ok false) t
+        → op.left s ≡ a → op.right s ≡ b → built s ≡ old → (name t ≡ name s → c ≡ built t) → IsBuilt (both_sides cmp) (KeptAt (keeps left right both) L R) a b old c
+    merged-built s t a b old c m l r e k =
+        let w = merged-builds built name op (KeptAt (keeps left right both) L R) is-building (both_sides cmp) s t m in
+        subst (λ z. IsBuilt (both_sides cmp) (KeptAt (keeps left right both) L R) a b old z) (sym (k w.0))
+        (subst (λ z. IsBuilt (both_sides cmp) (KeptAt (keeps left right both) L R) a b z (built t)) e
+        (subst (λ z. IsBuilt (both_sides cmp) (KeptAt (keeps left right both) L R) a z (built s) (built t)) r
+        (subst (λ z. IsBuilt (both_sides cmp) (KeptAt (keeps left right both) L R) z (op.right s) (built s) (built t)) l w.1)))
+
     -- what a merge leaves that was not refused
     pub merged-set_of : (s t : M) (a b c : List X) → Finishes op (both_sides cmp) s t ⊎ Stops op (both_sides cmp) s (Ok false) t
         → op.left s ≡ a → op.right s ≡ b → built s ≡ [] → (name t ≡ name s → c ≡ built t) → IsSetOf cmp L R (keeps left right both) a b c
-    merged-set_of s t a b c m l r e k =
-        let w = merged-builds built name op (KeptAt (keeps left right both) L R) is-building (both_sides cmp) s t m in
-        subst (λ z. IsSetOf cmp L R (keeps left right both) a b z) (sym (k w.0))
-        (subst (λ z. IsSetOf cmp L R (keeps left right both) a z (built t)) r (subst (λ z. IsSetOf cmp L R (keeps left right both) z (op.right s) (built t)) l
-        (built-set_of (op.left s) (op.right s) (built t) (built s) e w.1)))
+    merged-set_of s t a b c m l r e k = built-set_of a b c [] refl (merged-built s t a b [] c m l r e k)

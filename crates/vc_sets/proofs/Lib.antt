@@ -1,4 +1,5 @@
 pub mod Selected
+pub mod Begun
 pub mod Combined
 pub mod Searching
 pub mod Clones

@@ -4,3 +4,4 @@ pub mod Algebra
 pub mod Select
 pub mod Laws
 pub mod Iterating
+pub mod Begun

@@ -7,6 +7,7 @@ ghost use Rattle.vc_sets.specs.SetOf.{IsSetOf};
 ghost use Rattle.vc_sets.specs.Algebra.{made_by};
 ghost use Rattle.vc_sets.specs.Select.{keeps};
 
+use crate::choosing::{begin, begin_left};
 use crate::operations::{EitherOp, LeftOp};
 use crate::vec_set::SetOp;
 use smallvec::SmallVec;
@@ -41,6 +42,7 @@ fn combine_either<
         a.len().saturating_add(b.len())
     };
     let mut built = SmallVec::with_capacity(alloc, room)?;
+    let (a, b) = begin::<true, true, BOTH, _, _, _, _>(a, b, &mut built, steps)?;
     let mut state = SmallVecMergeState::new(a, b, &mut built);
     merge(&mut state, &EitherOp::<BOTH>, steps)?;
     Ok(built)
@@ -71,6 +73,7 @@ fn combine_left<
     };
     let mut built = SmallVec::new(alloc);
     built.reserve(least)?;
+    let (a, b) = begin_left::<BOTH, _, _, _, _>(a, b, &mut built, steps)?;
     let mut state = SmallVecMergeState::new(a, b, &mut built);
     merge(&mut state, &LeftOp::<BOTH>, steps)?;
     Ok(built)

@@ -1,6 +1,7 @@
 //! Sets as ascending lists.
 #![tactic(auto)]
 
+mod choosing;
 mod combine;
 pub mod laws;
 mod operations;

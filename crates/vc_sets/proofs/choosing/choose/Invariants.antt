@@ -1,0 +1,20 @@
+use Rattle.std.proofs.Common.{◌≡◌, ◌+◌, ◌-◌, ◌≤◌, [], drop, take, map, length}
+use Rattle.vc_sets.specs.Begun.{IsBegun}
+use Rattle.vc_sets.specs.Select.{keeps}
+use Rattle.vc_sets.proofs.Begun.{is_set}
+use Rattle.vc_sets.proofs.choosing.choose.Given as goal
+
+abbrev pub invariant-events : goal.invariant-events
+invariant-events g l = record {
+  within_left : l.left ≤ length l.a;
+  within_right : l.right ≤ length l.b;
+  places : length l.kept ≡ 32;
+  room : l.count ≤ 32;
+  some : l.count ≤ l.left + l.right;
+  few : l.left + l.right ≤ 64;
+  counted : g.C.Count.counted l.steps ≤ g.C.Count.counted l.fn.steps + (l.left + l.right);
+  begun : IsBegun g.T.Ord.cmp (λ x y. x ≡ y) (keeps (is_set g.row.LEFT) (is_set g.row.RIGHT) (is_set g.row.BOTH)) l.a l.b (drop l.left l.a) (drop l.right l.b) [] (map (λ p. p.now) (take l.count l.kept));
+}
+
+abbrev pub decreases-events : goal.decreases-events
+decreases-events g l = (length l.a - l.left) + (length l.b - l.right)

@@ -1,0 +1,30 @@
+-- How far a walk along two sets has come that takes their events one by one. No public clause cites these words.
+use Rattle.std.specs.Prelude.{Bool, true, false, List, [], ◌∷◌, ◌++◌}
+use Rattle.std.specs.declared.cmp.Ordering.{Ordering}
+use Rattle.std.specs.declared.cmp.Ordering.TheVariants.{Less, Equal, Greater}
+use Rattle.vc_merge.specs.Script.{Event, IsScript, BothAscend}
+use Rattle.vc_merge.specs.Gathering.{Appends}
+use Rattle.vc_sets.specs.Select.{both_sides, KeptAt}
+
+-- whether an operation keeps something at an event, by the order of the two heads
+abbrev pub kept_at : (Bool → Bool → Bool) → Ordering → Bool
+kept_at f Less = f true false
+kept_at f Equal = f true true
+kept_at f Greater = f false true
+
+-- the lesser of two elements that compare so, or the left one of two equal ones
+abbrev pub lesser_of : {X : Type 0} → Ordering → X → X → X
+lesser_of Less x y = x
+lesser_of Equal x y = x
+lesser_of Greater x y = y
+
+-- what is kept at an event by itself
+abbrev pub kept_of : {X : Type 0} → (Bool → Bool → Bool) → Ordering → X → X → List X
+kept_of f o x y = elim (kept_at f o) [ true ↦ lesser_of o x y ∷ [] | false ↦ [] ]
+
+-- the first events of xs and ys were taken, which leaves ls and rs; what f keeps of them comes by `from`, and was appended to old
+pub record IsBegun {X : Type 0} (cmp : X → X → Ordering) (from : X → X → Type 0) (f : Bool → Bool → Bool) (xs ys ls rs old new : List X) : Type 0 where
+  pub events : List (Event X X)
+  pub appends : Appends (KeptAt f from from) events old new
+  pub leads : (es : List (Event X X)) → IsScript (both_sides cmp) ls rs es → IsScript (both_sides cmp) xs ys (events ++ es)
+  pub ascend : BothAscend (both_sides cmp) ls rs

@@ -1,0 +1,264 @@
+//! The first events of two lists that are walked along, by choices in the place of branches.
+//!
+//! A processor guesses wrongly which of two heads is the lesser in every second event, or nearly.
+//! So an event stores a reference to the lesser head whatever the operation does with it, and
+//! moves the places by numbers that are 0 or 1.
+ghost use Rattle.std.specs.Prelude.{◌≡◌, ◌+◌, ◌<◌, ◌≤◌, [], drop, take, map, length, not, false, IfOk, OnOk, IsTrue};
+ghost use Rattle.vc_merge.specs.Ascending.{Ascends};
+ghost use Rattle.vc_merge.specs.Building.{Extends};
+ghost use Rattle.vc_merge.specs.Count.{bound};
+ghost use Rattle.vc_sets.specs.Begun.{IsBegun, kept_at, lesser_of};
+ghost use Rattle.vc_sets.specs.Select.{keeps};
+
+use crate::operations::compare;
+use smallvec::SmallVec;
+use std::alloc::{AllocError, Allocator};
+use std::cmp::Ordering;
+use std::default::MadeWith;
+use vc_merge::merge::Count;
+use vc_merge::searching::is_walk_shorter;
+
+/// How many elements a block takes of both lists, but for the second one of a last collision.
+const BLOCK: usize = 32;
+
+/// What a block of one list alone counts. Each other block takes one off.
+const ONE_SIDED: usize = 8;
+
+/// From so much on the lists are taken to come in long runs.
+const LONG_RUNS: usize = 32;
+
+/// References to what is kept of some events, and how much of each list these took.
+#[derive(Drop)]
+struct Chosen<'a, T> {
+    kept: [&'a T; BLOCK],
+    count: usize,
+    left: usize,
+    right: usize,
+}
+
+/// Takes the first events of two lists that are walked along, and appends what is kept of them:
+/// of what stands on the left alone if `LEFT`, on the right alone if `RIGHT`, and on both sides
+/// the left one if `BOTH`. Answers what is left of the lists.
+///
+/// It goes on until a list is used up, or the lists come in long runs, which are handed over faster
+/// as a whole.
+pub fn begin<
+    'a,
+    const LEFT: bool,
+    const RIGHT: bool,
+    const BOTH: bool,
+    T: Ord + Clone + MadeWith<A>,
+    C: Count,
+    const N: usize,
+    A: Allocator + Copy,
+>(
+    a: &'a [T],
+    b: &'a [T],
+    built: &mut SmallVec<T, N, A>,
+    steps: &mut C,
+) -> Result<(&'a [T], &'a [T]), AllocError>
+    requires a_ascends { Ascends T.cmp a.now }
+    requires b_ascends { Ascends T.cmp b.now }
+    ensures begun { IfOk result (λ rest.
+        IsBegun T.cmp T.is_clone (keeps LEFT RIGHT BOTH) a.now b.now rest.0.now rest.1.now
+        built.old.items built.new.items) }
+    ensures counted { IfOk result (λ rest. C.counted steps.new
+        + bound (length rest.0.now) (length rest.1.now)
+        ≤ C.counted steps.old + bound (length a.now) (length b.now)) }
+    ensures refused { C.counted steps.new
+        ≤ C.counted steps.old + bound (length a.now) (length b.now) }
+{
+    if !is_worth_a_block(a.len(), b.len()) {
+        return Ok((a, b));
+    }
+    let mut a = a;
+    let mut b = b;
+    let mut runs = 0;
+    'blocks: while !a.is_empty() && !b.is_empty() && runs < LONG_RUNS {
+        let (left, right) = take_block::<LEFT, RIGHT, BOTH, T, C, N, A>(a, b, built, steps)?;
+        a = behind(a, left);
+        b = behind(b, right);
+        runs = and_next(runs, left, right);
+    }
+    Ok((a, b))
+}
+
+/// The same for an operation that keeps what stands on the left alone or, if `BOTH`, the left one
+/// of what stands on both sides.
+#[inline(always)]
+pub fn begin_left<
+    'a,
+    const BOTH: bool,
+    T: Ord + Clone + MadeWith<A>,
+    C: Count,
+    const N: usize,
+    A: Allocator + Copy,
+>(
+    a: &'a [T],
+    b: &'a [T],
+    built: &mut SmallVec<T, N, A>,
+    steps: &mut C,
+) -> Result<(&'a [T], &'a [T]), AllocError>
+    requires a_ascends { Ascends T.cmp a.now }
+    requires b_ascends { Ascends T.cmp b.now }
+    ensures begun { IfOk result (λ rest.
+        IsBegun T.cmp T.is_clone (keeps (not BOTH) false BOTH) a.now b.now rest.0.now rest.1.now
+        built.old.items built.new.items) }
+    ensures counted { IfOk result (λ rest. C.counted steps.new
+        + bound (length rest.0.now) (length rest.1.now)
+        ≤ C.counted steps.old + bound (length a.now) (length b.now)) }
+    ensures refused { C.counted steps.new
+        ≤ C.counted steps.old + bound (length a.now) (length b.now) }
+{
+    if BOTH {
+        begin::<false, false, true, T, C, N, A>(a, b, built, steps)
+    } else {
+        begin::<true, false, false, T, C, N, A>(a, b, built, steps)
+    }
+}
+
+/// Whether lists of these lengths are walked along, long enough to be worth a block, and so alike
+/// that the order of two heads cannot be guessed.
+#[inline(always)]
+fn is_worth_a_block(left: usize, right: usize) -> bool
+    ensures { IsTrue result → bound left right ≡ left + right }
+{
+    let shorter = left.min(right);
+    let longer = left.max(right);
+    longer >= 8 && longer / 4 < shorter && is_walk_shorter(left, right)
+}
+
+/// What the blocks count that came from one list alone, with one that took so much of each list.
+#[inline(always)]
+fn and_next(runs: usize, left: usize, right: usize) -> usize
+    requires { runs < 32 }
+{
+    if left.min(right) == 0 {
+        runs + ONE_SIDED
+    } else {
+        runs.saturating_sub(1)
+    }
+}
+
+/// What is behind the first `n` elements.
+#[inline(always)]
+fn behind<'a, T>(items: &'a [T], n: usize) -> &'a [T]
+    requires { n ≤ length items.now }
+    ensures { result.now ≡ drop n items.now }
+{
+    &items[n..]
+}
+
+/// Takes the next events, and answers how much of each list they took.
+#[inline(always)]
+fn take_block<
+    const LEFT: bool,
+    const RIGHT: bool,
+    const BOTH: bool,
+    T: Ord + Clone + MadeWith<A>,
+    C: Count,
+    const N: usize,
+    A: Allocator + Copy,
+>(
+    a: &[T],
+    b: &[T],
+    built: &mut SmallVec<T, N, A>,
+    steps: &mut C,
+) -> Result<(usize, usize), AllocError>
+    requires some_left { 0 < length a.now }
+    requires some_right { 0 < length b.now }
+    requires a_ascends { Ascends T.cmp a.now }
+    requires b_ascends { Ascends T.cmp b.now }
+    ensures left { IfOk result (λ taken. taken.0 ≤ length a.now) }
+    ensures right { IfOk result (λ taken. taken.1 ≤ length b.now) }
+    ensures some { IfOk result (λ taken. 0 < taken.0 + taken.1) }
+    ensures begun { IfOk result (λ taken.
+        IsBegun T.cmp T.is_clone (keeps LEFT RIGHT BOTH) a.now b.now
+        (drop taken.0 a.now) (drop taken.1 b.now) built.old.items built.new.items) }
+    ensures counted { IfOk result (λ taken.
+        C.counted steps.new ≤ C.counted steps.old + (taken.0 + taken.1)) }
+    ensures refused { C.counted steps.new ≤ C.counted steps.old + (length a.now + length b.now) }
+{
+    let chosen = choose::<LEFT, RIGHT, BOTH, T, C>(a, b, steps);
+    append_chosen(built, &chosen.kept[..chosen.count])?;
+    Ok((chosen.left, chosen.right))
+}
+
+/// What is kept of the first events: of those that take `BLOCK` elements, or of all until a list is
+/// used up.
+#[inline(always)]
+fn choose<'a, const LEFT: bool, const RIGHT: bool, const BOTH: bool, T: Ord, C: Count>(
+    a: &'a [T],
+    b: &'a [T],
+    steps: &mut C,
+) -> Chosen<'a, T>
+    requires some_left { 0 < length a.now }
+    requires some_right { 0 < length b.now }
+    requires a_ascends { Ascends T.cmp a.now }
+    requires b_ascends { Ascends T.cmp b.now }
+    ensures left { result.left ≤ length a.now }
+    ensures right { result.right ≤ length b.now }
+    ensures count { result.count ≤ 32 }
+    ensures some { 0 < result.left + result.right }
+    ensures begun { IsBegun T.cmp (λ x y. x ≡ y) (keeps LEFT RIGHT BOTH) a.now b.now
+        (drop result.left a.now) (drop result.right b.now) []
+        (map (λ p. p.now) (take result.count result.kept)) }
+    ensures counted { C.counted steps.new ≤ C.counted steps.old + (result.left + result.right) }
+{
+    let mut kept = [&a[0]; BLOCK];
+    let mut count = 0;
+    let mut left = 0;
+    let mut right = 0;
+    'events: while left < a.len() && right < b.len() && left + right < BLOCK {
+        let x = &a[left];
+        let y = &b[right];
+        let order = compare(x, y, steps);
+        kept[count] = lesser(order, x, y);
+        count += usize::from(is_kept::<LEFT, RIGHT, BOTH>(order));
+        left += usize::from(order.is_le());
+        right += usize::from(order.is_ge());
+    }
+    Chosen {
+        kept,
+        count,
+        left,
+        right,
+    }
+}
+
+/// The lesser of two elements that compare so, or the left one of two equal ones.
+#[inline(always)]
+fn lesser<'a, T>(order: Ordering, left: &'a T, right: &'a T) -> &'a T
+    ensures { result.now ≡ lesser_of order left.now right.now }
+{
+    if order.is_le() { left } else { right }
+}
+
+/// Whether something is kept at an event, by the order of the two heads.
+#[inline(always)]
+fn is_kept<const LEFT: bool, const RIGHT: bool, const BOTH: bool>(order: Ordering) -> bool
+    ensures { result ≡ kept_at (keeps LEFT RIGHT BOTH) order }
+{
+    match order {
+        Ordering::Less => LEFT,
+        Ordering::Equal => BOTH,
+        Ordering::Greater => RIGHT,
+    }
+}
+
+/// Appends a clone of each of `items`, with one look at the room. Where a clone is refused, those
+/// before it were appended.
+#[inline(always)]
+fn append_chosen<'a, T: Clone + MadeWith<A>, const N: usize, A: Allocator + Copy>(
+    built: &mut SmallVec<T, N, A>,
+    items: &[&'a T],
+) -> Result<(), AllocError>
+    ensures { OnOk result
+        (Extends T.is_clone (map (λ p. p.now) items.now) built.old.items built.new.items) }
+{
+    built.reserve(items.len())?;
+    for item in items {
+        built.push_reserved((*item).clone()?);
+    }
+    Ok(())
+}
