@@ -13,6 +13,8 @@ mod joins;
 #[cfg(test)]
 mod lookups;
 #[cfg(test)]
+mod room;
+#[cfg(test)]
 mod sides;
 #[cfg(test)]
 mod whole;

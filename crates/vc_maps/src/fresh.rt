@@ -269,9 +269,29 @@ fn append_answer<K: Clone + Drop, X: Drop, S: PairList<Key = K, Value = X>>(
     Ok(())
 }
 
+/// The room that a fresh join of so many pairs makes at the start, in a list of `N` places: for all
+/// that can come.
+///
+/// Where each map fits in place, an outer join may, too: then it begins there, and grows if it has
+/// to. An inner join grows as answers come, since few keys may be in both.
+fn room_of<const N: usize>(kind: JoinKind, left: usize, right: usize) -> usize {
+    match kind {
+        JoinKind::Outer => {
+            if left.max(right) <= N {
+                0
+            } else {
+                left.saturating_add(right)
+            }
+        }
+        JoinKind::Left => left,
+        JoinKind::Right => right,
+        JoinKind::Inner => 0,
+    }
+}
+
 /// The join of two lists of pairs that ascend by key.
 ///
-/// Asks at most once a key, in ascending order of the keys. The list grows as answers come.
+/// Asks at most once a key, in ascending order of the keys, and makes its room before.
 pub fn join<
     K: Ord + Clone + Drop,
     V,
@@ -300,7 +320,8 @@ where
     ensures counted { C.counted steps.new
         ≤ C.counted steps.old + bound (length this.now) (length that.now) }
 {
-    let mut built = SmallVec::new(alloc);
+    let room = room_of::<N>(kind, this.len(), that.len());
+    let mut built = SmallVec::with_capacity(alloc, room)?;
     let mut state = FreshState::new(this, that, &mut built);
     merge(&mut state, &JoinOp { kind, question }, steps)?;
     Ok(built)

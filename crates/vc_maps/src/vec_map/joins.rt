@@ -20,6 +20,9 @@ use vc_merge::merge::Steps;
 /// comes in as a clone of the one that was shown. Refused where memory, a clone or an answer of `f`
 /// is.
 ///
+/// Where a map has more than `N` pairs, it makes room for as many as both have, at the start; else
+/// it begins in place, and grows where the result has more than `N`.
+///
 /// ```
 /// let sums: VecMap<u32, u32, 4> = outer_join(alloc, &a, &b, |at: OuterJoinArg<&u32, &u32, &u32>| match at {
 ///     OuterJoinArg::Left(_, v) | OuterJoinArg::Right(_, v) => Ok(Some(*v)),
@@ -58,6 +61,8 @@ where
 /// Asks once a key, in ascending order, and shows a key of both maps as the left one has it. A key
 /// comes in as a clone of the one that was shown. Refused where memory, a clone or an answer of `f`
 /// is.
+///
+/// It makes room for as many pairs as the left map has, at the start.
 pub fn left_join<
     K: Ord + Clone + Drop,
     V,
@@ -91,6 +96,8 @@ where
 /// Asks once a key, in ascending order, and shows a key of both maps as the left one has it. A key
 /// comes in as a clone of the one that was shown. Refused where memory, a clone or an answer of `f`
 /// is.
+///
+/// It makes room for as many pairs as the right map has, at the start.
 pub fn right_join<
     K: Ord + Clone + Drop,
     V,
@@ -123,6 +130,8 @@ where
 /// Asks once a key, in ascending order, and shows a key of both maps as the left one has it. A key
 /// comes in as a clone of the one that was shown. Refused where memory, a clone or an answer of `f`
 /// is.
+///
+/// It grows as answers come.
 pub fn inner_join<
     K: Ord + Clone + Drop,
     V,

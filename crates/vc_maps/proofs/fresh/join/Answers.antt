@@ -24,6 +24,6 @@ returns-clause-joins g c =
     appended_pairs list_name _ g.met.K.Ord.total
     (λ a k i h. clone-equal g.K.Ord.cmp g.met.K.Ord.total g.K.Clone.is_clone c.requires.clones _ _ h)
     (record { from_a = λ s t n r h. h; from_b = λ s t n r h. h; collision = λ s t r h. h }) _ _ _ _ _ c.new-state.ensures.a c.new-state.ensures.b
-    (rw c.new-state.ensures.same_reference c.new-built.ensures.items)
+    (rw c.new-state.ensures.same_reference c.in_ok-built.ensures.items)
     (λ e. let k = c.new-state.ensures.same_reference in let n = ap (λ r. r.ghost_name) k in grind arith)
     c.in_ok-merge.ensures.merged
