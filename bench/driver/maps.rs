@@ -1,17 +1,32 @@
 //! The rows of maps: the work of each by std's maps and by hand over sorted `Vec`s of pairs.
 
+use crate::clock::{Side, Times};
+use crate::data::{Data, Numbers};
 use std::cmp::Ordering;
 use std::collections::{BTreeMap, HashMap};
 use std::hint::black_box;
 
-/// What a row of maps does: its name, its number in the library, and whether one operation is a look-up or an insert of one key.
-pub struct MapRow {
-    pub name: &'static str,
-    pub number: u64,
-    pub one_by_one: bool,
+#[rustfmt::skip]
+unsafe extern "C" {
+    fn bench_maps(
+        row: u64, left: *const u64, left_len: usize, m: usize,
+        right: *const u64, right_len: usize, n: usize, rounds: u64,
+    ) -> u64;
+    fn bench_totals(
+        left: *const u64, left_len: usize, m: usize,
+        right: *const u64, right_len: usize, n: usize, rounds: u64,
+    ) -> u64;
 }
 
-pub const MAP_ROWS: [MapRow; 7] = [
+/// What a row of maps does: its name, its number in the library, and whether one operation is a
+/// look-up or an insert of one key.
+struct MapRow {
+    name: &'static str,
+    number: u64,
+    one_by_one: bool,
+}
+
+const MAP_ROWS: [MapRow; 7] = [
     MapRow { name: "outer join", number: 0, one_by_one: false },
     MapRow { name: "inner join", number: 1, one_by_one: false },
     MapRow { name: "clone, outer join in place", number: 2, one_by_one: false },
@@ -21,23 +36,127 @@ pub const MAP_ROWS: [MapRow; 7] = [
     MapRow { name: "insert into a map, greatest first", number: 6, one_by_one: true },
 ];
 
-pub type Pairs = [(u64, u64)];
+/// The row over total maps.
+const TOTAL: MapRow =
+    MapRow { name: "greatest, key by key, of total maps", number: 0, one_by_one: false };
 
-/// The functions of one kind of std's maps: the work of a row on two of them, of which the second has these pairs, and the greatest of two values
-/// at each key of either.
+const ALL: usize = MAP_ROWS.len();
+const JOINS: usize = 2;
+
+/// The data and sizes, and how many of the rows above are timed on them.
+const CASES: [(Data, (usize, usize), usize); 18] = [
+    (Data::Random, (4, 4), ALL),
+    (Data::Random, (8, 8), ALL),
+    (Data::Random, (64, 64), ALL),
+    (Data::Random, (1000, 1000), ALL),
+    (Data::Random, (100_000, 100_000), ALL),
+    (Data::Random, (1000, 100), JOINS),
+    (Data::Random, (1, 1000), ALL),
+    (Data::Random, (1000, 1), ALL),
+    (Data::Random, (10, 100_000), ALL),
+    (Data::Random, (1, 100_000), JOINS),
+    (Data::Random, (100, 100_000), JOINS),
+    (Data::Random, (1000, 100_000), JOINS),
+    (Data::Random, (10_000, 100_000), JOINS),
+    (Data::Regular, (8, 8), JOINS),
+    (Data::Regular, (64, 64), JOINS),
+    (Data::Regular, (1000, 1000), JOINS),
+    (Data::Regular, (100_000, 100_000), JOINS),
+    (Data::Clustered, (1000, 100), JOINS),
+];
+
+/// Prints the table of maps.
+pub fn print(only: &str) {
+    println!("| row | data | sizes | this library | BTreeMap | HashMap | sorted `Vec` by hand |");
+    println!("|---|---|---|---|---|---|---|");
+    for (data, sizes, count) in CASES {
+        let wanted =
+            |row: &&MapRow| row.name.contains(only) && (row.number < 6 || sizes.1 <= 10_000);
+        let rows: Vec<&MapRow> = MAP_ROWS[..count].iter().filter(wanted).collect();
+        let total = Some(&TOTAL).filter(wanted).filter(|_| count == ALL);
+        if !rows.is_empty() || total.is_some() {
+            time_maps(&rows, total, &Numbers::new(data, sizes));
+        }
+    }
+}
+
+type Pairs = [(u64, u64)];
+
+/// Two maps, as lists and as both of std's.
+struct Maps {
+    lists: [Vec<(u64, u64)>; 2],
+    sorted: [BTreeMap<u64, u64>; 2],
+    hashed: [HashMap<u64, u64>; 2],
+}
+
+impl Maps {
+    /// The maps of each number to itself.
+    fn new(a: &[u64], b: &[u64]) -> Maps {
+        let lists = [a, b].map(|list| list.iter().map(|number| (*number, *number)).collect());
+        let sorted = lists.each_ref().map(|list: &Vec<_>| list.iter().copied().collect());
+        let hashed = lists.each_ref().map(|list| list.iter().copied().collect());
+        Maps { lists, sorted, hashed }
+    }
+}
+
+/// Rows over pairs of maps, and the one of total maps.
+fn time_maps(rows: &[&MapRow], total: Option<&MapRow>, data: &Numbers) {
+    let maps: Vec<Maps> = data.cut().map(|(a, b)| Maps::new(a, b)).collect();
+    let (left, right, m, n) = (&data.left, &data.right, data.m, data.n);
+    let (a, b, a_len, b_len) = (left.as_ptr(), right.as_ptr(), left.len(), right.len());
+    for row in rows {
+        let number = row.number;
+        let sides = [
+            // SAFETY: the pointers and lengths are those of the lists.
+            Side::of(move |rounds| unsafe { bench_maps(number, a, a_len, m, b, b_len, n, rounds) }),
+            Side::repeating(|| summed(&maps, |it| by_btree(number, &it.sorted, &it.lists[1]))),
+            Side::repeating(|| summed(&maps, |it| by_hash(number, &it.hashed, &it.lists[1]))),
+            Side::repeating(|| summed(&maps, |it| by_hand(number, &it.lists))),
+        ];
+        print_row(row, data, &sides);
+    }
+    if let Some(row) = total {
+        let sides = [
+            // SAFETY: as above.
+            Side::of(move |rounds| unsafe { bench_totals(a, a_len, m, b, b_len, n, rounds) }),
+            Side::repeating(|| summed(&maps, |it| greatest_by_btree(&it.sorted))),
+            Side::repeating(|| summed(&maps, |it| greatest_by_hash(&it.hashed))),
+            Side::repeating(|| summed(&maps, |it| greatest_by_hand(&it.lists))),
+        ];
+        print_row(row, data, &sides);
+    }
+}
+
+/// The sum of what the work on each pair of maps answers.
+fn summed(maps: &[Maps], work: impl Fn(&Maps) -> u64) -> u64 {
+    maps.iter().map(work).sum()
+}
+
+fn print_row(row: &MapRow, data: &Numbers, sides: &[Side]) {
+    let operations = data.pairs() * if row.one_by_one { data.n } else { 1 };
+    let cells = Times::of(operations, sides).cells().join(" | ");
+    println!("| {} | {} | {} | {cells} |", row.name, data.data.name(), data.sizes());
+}
+
+/// The functions of one kind of std's maps: the work of a row on two of them, of which the second
+/// has these pairs, and the greatest of two values at each key of either.
 macro_rules! by_map {
     ($map:ident, $work:ident, $greatest:ident) => {
-        pub fn $work(row: u64, a: &$map<u64, u64>, b: &$map<u64, u64>, pairs: &Pairs) -> u64 {
+        fn $work(row: u64, [a, b]: &[$map<u64, u64>; 2], pairs: &Pairs) -> u64 {
             let length = |map: $map<u64, u64>| black_box(map).len() as u64;
             match row {
                 0 | 2 => {
                     let mut sums = a.clone();
                     for (key, value) in b {
-                        sums.entry(*key).and_modify(|sum| *sum = sum.wrapping_add(*value)).or_insert(*value);
+                        let sum = sums.entry(*key).or_insert(0);
+                        *sum = sum.wrapping_add(*value);
                     }
                     length(sums)
                 }
-                1 => length(a.iter().filter_map(|(key, v)| b.get(key).map(|w| (*key, v.wrapping_add(*w)))).collect()),
+                1 => {
+                    let sum = |(key, v): (&u64, &u64)| Some((*key, v.wrapping_add(*b.get(key)?)));
+                    length(a.iter().filter_map(sum).collect())
+                }
                 3 => {
                     let mut kept = a.clone();
                     kept.retain(|key, v| b.get(key).map(|w| *v = v.wrapping_add(*w)).is_some());
@@ -52,7 +171,7 @@ macro_rules! by_map {
             }
         }
 
-        pub fn $greatest(a: &$map<u64, u64>, b: &$map<u64, u64>) -> u64 {
+        fn $greatest([a, b]: &[$map<u64, u64>; 2]) -> u64 {
             let mut greatest = a.clone();
             for (key, value) in b {
                 greatest.entry(*key).and_modify(|old| *old = (*old).max(*value)).or_insert(*value);
@@ -66,7 +185,7 @@ by_map!(BTreeMap, by_btree, greatest_by_btree);
 by_map!(HashMap, by_hash, greatest_by_hash);
 
 /// The work of a row on two lists of pairs that ascend by key.
-pub fn by_hand(row: u64, a: &Pairs, b: &Pairs) -> u64 {
+fn by_hand(row: u64, [a, b]: &[Vec<(u64, u64)>; 2]) -> u64 {
     let length = |list: Vec<(u64, u64)>| black_box(list).len() as u64;
     match row {
         0 => length(outer(a, b)),
@@ -74,7 +193,10 @@ pub fn by_hand(row: u64, a: &Pairs, b: &Pairs) -> u64 {
         2 => length(outer(&black_box(a.to_vec()), b)),
         3 => length(inner(&black_box(a.to_vec()), b)),
         4 => length(a.to_vec()),
-        5 => b.iter().filter(|(key, _)| a.binary_search_by_key(key, |pair| pair.0).is_ok()).count() as u64,
+        5 => {
+            let is_found = |key| a.binary_search_by_key(key, |pair| pair.0).is_ok();
+            b.iter().filter(|(key, _)| is_found(key)).count() as u64
+        }
         _ => length(b.iter().rev().fold(Vec::new(), |mut list: Vec<(u64, u64)>, pair| {
             if let Err(place) = list.binary_search_by_key(&pair.0, |pair| pair.0) {
                 list.insert(place, *pair);
@@ -85,7 +207,7 @@ pub fn by_hand(row: u64, a: &Pairs, b: &Pairs) -> u64 {
 }
 
 /// The greatest of two values at each key of either list.
-pub fn greatest_by_hand(a: &Pairs, b: &Pairs) -> u64 {
+fn greatest_by_hand([a, b]: &[Vec<(u64, u64)>; 2]) -> u64 {
     black_box(walk(a, b, true, u64::max)).len() as u64
 }
 

@@ -1,5 +1,8 @@
-//! The rows of trees: the work of each by std's maps of whole keys, and by hand over a sorted `Vec` of pairs.
+//! The rows of trees: the work of each by std's maps of whole keys, and by hand over a sorted `Vec`
+//! of pairs.
 
+use crate::clock::{Side, Times};
+use crate::data::Keys;
 use std::cmp::Ordering;
 use std::collections::{BTreeMap, HashMap};
 use std::hint::black_box;
@@ -7,8 +10,105 @@ use std::hint::black_box;
 type Key = Vec<u8>;
 type Pair = (Key, u64);
 
+/// What the library's two functions take: see there.
+type TreeExport = unsafe extern "C" fn(
+    u64,
+    *const u8,
+    usize,
+    *const usize,
+    usize,
+    *const u8,
+    usize,
+    *const usize,
+    usize,
+    u64,
+) -> u64;
+
+#[rustfmt::skip]
+unsafe extern "C" {
+    fn bench_plain_tree(
+        row: u64, bytes: *const u8, len: usize, ends: *const usize, count: usize,
+        asked: *const u8, asked_len: usize, asked_ends: *const usize, asked_count: usize,
+        rounds: u64,
+    ) -> u64;
+    fn bench_shared_tree(
+        row: u64, bytes: *const u8, len: usize, ends: *const usize, count: usize,
+        asked: *const u8, asked_len: usize, asked_ends: *const usize, asked_count: usize,
+        rounds: u64,
+    ) -> u64;
+}
+
+/// What a row of trees does: its name, its number in the library, and whether there is no such row
+/// of plain trees.
+struct TreeRow {
+    name: &'static str,
+    number: u64,
+    shared_alone: bool,
+}
+
+const TREE_ROWS: [TreeRow; 8] = [
+    TreeRow { name: "build", number: 0, shared_alone: false },
+    TreeRow { name: "get", number: 1, shared_alone: false },
+    TreeRow { name: "snapshot and insert", number: 2, shared_alone: true },
+    TreeRow { name: "iter", number: 3, shared_alone: false },
+    TreeRow { name: "values", number: 4, shared_alone: false },
+    TreeRow { name: "into_iter of a snapshot", number: 5, shared_alone: true },
+    TreeRow { name: "union of two trees", number: 6, shared_alone: false },
+    TreeRow { name: "keys in one folder", number: 7, shared_alone: false },
+];
+
+/// Prints the table of trees.
+pub fn print(only: &str) {
+    println!(
+        "| row | keys | plain tree | shared tree | BTreeMap | HashMap | sorted `Vec` by hand |"
+    );
+    println!("|---|---|---|---|---|---|---|");
+    for count in [10, 100, 1000, 10_000] {
+        let keys = Keys::paths(count);
+        for row in TREE_ROWS.iter().filter(|row| row.name.contains(only)) {
+            time_trees(row, &keys);
+        }
+    }
+}
+
+/// A row over trees of path-like keys.
+fn time_trees(row: &TreeRow, keys: &Keys) {
+    let list: Vec<Key> = keys.list().collect();
+    let asked = match row.number {
+        6 => Keys::paths(list.len() + 1),
+        7 => Keys::folder("src/"),
+        _ => Keys::paths(list.len()),
+    };
+    let maps = StdMaps::new(&list, asked.list().collect());
+    let operations = match row.number {
+        2 => 1,
+        7 => maps.under().count().max(1),
+        _ => list.len(),
+    };
+    let ours = |export| ours(export, row.number, keys, &asked);
+    let sides = [
+        if row.shared_alone { Side::none() } else { ours(bench_plain_tree) },
+        ours(bench_shared_tree),
+        Side::repeating(|| maps.by_btree(row.number)),
+        Side::repeating(|| maps.by_hash(row.number)),
+        Side::repeating(|| maps.by_hand(row.number)),
+    ];
+    let cells = Times::of(operations, &sides).cells().join(" | ");
+    println!("| {} | {} | {cells} |", row.name, list.len());
+}
+
+/// The side of one flavour of trees.
+fn ours<'a>(export: TreeExport, row: u64, keys: &'a Keys, asked: &'a Keys) -> Side<'a> {
+    let (a, a_len, a_ends, a_count) = keys.parts();
+    let (b, b_len, b_ends, b_count) = asked.parts();
+    // SAFETY: the pointers and lengths are those of the keys.
+    Side::of(move |rounds| unsafe {
+        export(row, a, a_len, a_ends, a_count, b, b_len, b_ends, b_count, rounds)
+    })
+}
+
 /// The keys of a tree, each with its place, and those that are asked for or come in.
-pub struct StdMaps {
+struct StdMaps {
     list: Vec<Key>,
     asked: Vec<Key>,
     sorted: BTreeMap<Key, u64>,
@@ -20,9 +120,9 @@ pub struct StdMaps {
 }
 
 impl StdMaps {
-    pub fn new(list: &[Key], asked: Vec<Key>) -> StdMaps {
-        let sorted: BTreeMap<Key, u64> = list.iter().cloned().zip(0..).collect();
-        let other_sorted: BTreeMap<Key, u64> = asked.iter().cloned().zip(0..).collect();
+    fn new(list: &[Key], asked: Vec<Key>) -> StdMaps {
+        let sorted: BTreeMap<Key, u64> = numbered(list);
+        let other_sorted: BTreeMap<Key, u64> = numbered(&asked);
         StdMaps {
             list: list.to_vec(),
             asked,
@@ -36,16 +136,21 @@ impl StdMaps {
     }
 
     /// The pairs whose keys begin with the first key that is asked for.
-    pub fn under(&self) -> impl Iterator<Item = (&Key, &u64)> {
+    fn under(&self) -> impl Iterator<Item = (&Key, &u64)> {
         let prefix = &self.asked[0];
         self.sorted.range(prefix.clone()..).take_while(move |(key, _)| key.starts_with(prefix))
     }
 
+    /// The sum of what the keys that are asked for are bound to.
+    fn finds<'a>(&'a self, get: impl Fn(&Key) -> Option<&'a u64>) -> u64 {
+        self.asked.iter().filter_map(get).map(|number| number + 1).sum()
+    }
+
     /// The work of a row on a `BTreeMap`.
-    pub fn by_btree(&self, row: u64) -> u64 {
+    fn by_btree(&self, row: u64) -> u64 {
         match row {
-            0 => built(self.list.iter().cloned().zip(0..).collect::<BTreeMap<Key, u64>>().get(&self.list[0])),
-            1 => self.asked.iter().filter_map(|key| self.sorted.get(key)).map(|number| number + 1).sum(),
+            0 => built(numbered::<BTreeMap<Key, u64>>(&self.list).get(&self.list[0])),
+            1 => self.finds(|key| self.sorted.get(key)),
             2 => {
                 let mut copy = self.sorted.clone();
                 copy.insert(self.list[0].clone(), 7);
@@ -67,10 +172,10 @@ impl StdMaps {
     }
 
     /// The work of a row on a `HashMap`, which has no order: what a row walks comes in any.
-    pub fn by_hash(&self, row: u64) -> u64 {
+    fn by_hash(&self, row: u64) -> u64 {
         match row {
-            0 => built(self.list.iter().cloned().zip(0..).collect::<HashMap<Key, u64>>().get(&self.list[0])),
-            1 => self.asked.iter().filter_map(|key| self.hashed.get(key)).map(|number| number + 1).sum(),
+            0 => built(numbered::<HashMap<Key, u64>>(&self.list).get(&self.list[0])),
+            1 => self.finds(|key| self.hashed.get(key)),
             2 => {
                 let mut copy = self.hashed.clone();
                 copy.insert(self.list[0].clone(), 7);
@@ -87,19 +192,22 @@ impl StdMaps {
                 }
                 built(both.get(&self.asked[0]))
             }
-            _ => self.hashed.iter().filter(|(key, _)| key.starts_with(&self.asked[0])).map(|(key, value)| value + key.len() as u64).sum(),
+            _ => {
+                let under = self.hashed.iter().filter(|(key, _)| key.starts_with(&self.asked[0]));
+                under.map(|(key, value)| value + key.len() as u64).sum()
+            }
         }
     }
 
     /// The work of a row on a sorted list.
-    pub fn by_hand(&self, row: u64) -> u64 {
+    fn by_hand(&self, row: u64) -> u64 {
         match row {
             0 => {
-                let mut pairs: Vec<Pair> = self.list.iter().cloned().zip(0..).collect();
+                let mut pairs: Vec<Pair> = numbered(&self.list);
                 pairs.sort();
                 built(found(&pairs, &self.list[0]))
             }
-            1 => self.asked.iter().filter_map(|key| found(&self.pairs, key)).map(|number| number + 1).sum(),
+            1 => self.finds(|key| found(&self.pairs, key)),
             2 => {
                 let mut copy = self.pairs.clone();
                 if let Ok(at) = copy.binary_search_by(|pair| pair.0.cmp(&self.list[0])) {
@@ -115,10 +223,19 @@ impl StdMaps {
             _ => {
                 let prefix = &self.asked[0];
                 let start = self.pairs.partition_point(|pair| pair.0 < *prefix);
-                self.pairs[start..].iter().take_while(|(key, _)| key.starts_with(prefix)).map(|(key, value)| value + key.len() as u64).sum()
+                self.pairs[start..]
+                    .iter()
+                    .take_while(|(key, _)| key.starts_with(prefix))
+                    .map(|(key, value)| value + key.len() as u64)
+                    .sum()
             }
         }
     }
+}
+
+/// Each key with its place.
+fn numbered<M: FromIterator<Pair>>(keys: &[Key]) -> M {
+    keys.iter().cloned().zip(0..).collect()
 }
 
 /// What a row that builds answers: a value that it can look up.
@@ -128,7 +245,10 @@ fn built(found: Option<&u64>) -> u64 {
 
 /// The pairs as a walk by value gives them, each key cloned.
 fn cloned<'a>(pairs: impl Iterator<Item = (&'a Key, &'a u64)>) -> u64 {
-    pairs.map(|(key, value)| (key.clone(), *value)).map(|(key, value)| value + key.len() as u64).sum()
+    pairs
+        .map(|(key, value)| (key.clone(), *value))
+        .map(|(key, value)| value + key.len() as u64)
+        .sum()
 }
 
 fn found<'a>(pairs: &'a [Pair], key: &Key) -> Option<&'a u64> {
