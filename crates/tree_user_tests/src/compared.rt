@@ -37,6 +37,9 @@ impl PartialEq for Compared<'_> {
     ghost laws = { Prim.search (comparing, rules) };
 
     fn eq(&self, other: &Self) -> bool {
+        if let Some(count) = self.count {
+            count.set(count.get().saturating_add(1));
+        }
         self.number == other.number
     }
 }

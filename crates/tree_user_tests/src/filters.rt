@@ -1,7 +1,10 @@
 //! Filters of paths: the tables of rules, of what the longest one decides, and of what they leave
 //! of a tree; snapshots of rules; and trees whose values refuse to be cloned.
+use super::compared::Compared;
+use super::lookups::repeated;
 use super::walks::{print_pairs, tree_of};
 use std::alloc::{AllocError, Global};
+use std::cell::Cell;
 use std::test::Fail;
 use vc_path_filter::path_filter::PathFilter;
 use vc_trees::radix_tree::{AbstractRadixTree, AbstractRadixTreeMut, ArcRadixTree, RadixTree};
@@ -50,6 +53,83 @@ fn count_allowed(alloc: Global, rules: &[&str], paths: &[&str]) -> Result<usize,
         count = count.saturating_add(usize::from(filter.check(path.as_bytes())));
     }
     Ok(count)
+}
+
+/// The filter that allows the paths of 1, 2 and so on up to 200 equal components, which count how
+/// often they are compared.
+fn nested<'a>(
+    alloc: Global,
+    count: &'a Cell<u128>,
+) -> Result<PathFilter<Compared<'a>>, AllocError> {
+    let mut filter = PathFilter::new(alloc);
+    let mut path = Vec::new(alloc);
+    for _ in 0..200 {
+        path.push(Compared {
+            number: 0,
+            count: Some(count),
+        })?;
+        filter.allow(&path)?;
+    }
+    Ok(filter)
+}
+
+/// The filter that allows 1000 paths of one component each, every second number, which count how
+/// often they are compared.
+fn wide<'a>(alloc: Global, count: &'a Cell<u128>) -> Result<PathFilter<Compared<'a>>, AllocError> {
+    let mut filter = PathFilter::new(alloc);
+    for number in 0..1000 {
+        filter.allow(&[Compared {
+            number: 2 * number,
+            count: Some(count),
+        }])?;
+    }
+    Ok(filter)
+}
+
+/// Whether the filter compares no more often than this to answer so at the path.
+fn is_within<'a>(
+    filter: &PathFilter<Compared<'a>>,
+    path: &[Compared<'a>],
+    is_allowed: bool,
+    most: u128,
+    count: &Cell<u128>,
+) -> bool {
+    count.set(0);
+    filter.check(path) == is_allowed && count.get() <= most
+}
+
+#[test]
+fn filters_stay_within_their_bound(rt: HostRuntime) -> Result<(), Fail> {
+    let count = Cell::new(0);
+    let deep = nested(rt.alloc(), &count)?;
+    let rows: [(u32, bool, u128); 6] = [
+        (0, false, 0),
+        (1, true, 2),
+        (7, true, 14),
+        (100, true, 200),
+        (200, true, 400),
+        (201, true, 400),
+    ];
+    for (length, is_allowed, most) in rows {
+        let path = repeated(rt.alloc(), length)?;
+        assert!(rt;
+            is_within(&deep, &path, is_allowed, most, &count),
+            "of {length}"
+        );
+    }
+    let broad = wide(rt.alloc(), &count)?;
+    for number in 0..2001 {
+        let first = Compared {
+            number,
+            count: None,
+        };
+        let is_allowed = number % 2 == 0 && number < 2000;
+        assert!(rt;
+            is_within(&broad, &[first], is_allowed, 17, &count),
+            "at {number}"
+        );
+    }
+    Ok(())
 }
 
 #[test]

@@ -9,7 +9,7 @@ use vc_merge::merge::{Count, Steps};
 use vc_trees::radix_tree::{AbstractRadixTree, AbstractRadixTreeMut, ArcRadixTree, RadixTree};
 
 /// The key of as many equal components.
-fn repeated(alloc: Global, length: u32) -> Result<Vec<Compared<'static>>, AllocError> {
+pub(crate) fn repeated(alloc: Global, length: u32) -> Result<Vec<Compared<'static>>, AllocError> {
     let mut key = Vec::new(alloc);
     for _ in 0..length {
         key.push(Compared::default())?;
