@@ -80,15 +80,14 @@ fn left(alloc: Global) -> Result<Map, AllocError> {
 }
 
 /// Keeps shared values as they are.
-fn inner(alloc: Global, right: &Map, asked: &Asked) -> Result<Map, AllocError> {
-    let mut map = left(alloc)?;
+fn inner(mut map: Map, right: &Map, asked: &Asked) -> Map {
     map.inner_join_with(right, |key: &Marked, value: &mut u32, other: &u32| {
         let before = *value;
         let shared = asked.add('a', key, value, Some(other));
         *value = before;
         shared
     });
-    Ok(map)
+    map
 }
 
 /// Adds where the other map has a value, and keeps all.
@@ -105,8 +104,7 @@ fn left_sums(alloc: Global, right: &Map, asked: &Asked) -> Result<Map, AllocErro
 }
 
 /// Adds at shared keys, and keeps the sums or drops them.
-fn right_sums(alloc: Global, right: &Map, keeps: bool, asked: &Asked) -> Result<Map, AllocError> {
-    let mut map = left(alloc)?;
+fn right_sums(mut map: Map, right: &Map, keeps: bool, asked: &Asked) -> Map {
     map.right_join_with(
         right,
         |key: &Marked, value: &mut u32, other: &u32| {
@@ -117,7 +115,7 @@ fn right_sums(alloc: Global, right: &Map, keeps: bool, asked: &Asked) -> Result<
             count(&asked.other_alone);
         },
     );
-    Ok(map)
+    map
 }
 
 /// Adds and keeps at shared keys, takes the other map's values, of which there are `others` alone,
@@ -146,8 +144,28 @@ fn outer_sums(alloc: Global, right: &Map, others: u32, asked: &Asked) -> Result<
 fn is_inner(alloc: Global, others: &[(u32, u32)]) -> Result<bool, AllocError> {
     let right = map_of(alloc, 'b', others)?;
     let asked = Asked::new();
-    let map = inner(alloc, &right, &asked)?;
+    let map = inner(left(alloc)?, &right, &asked);
     Ok(is_map(&map, &[(2, 'a', 20)]) && asked.is(1, 0, 0, 2))
+}
+
+/// Maps that share two keys, with a key of each alone between them: `{1: 10, 2: 20, 4: 40}` and
+/// `{1: 1, 3: 3, 4: 4}`.
+fn two_shared(alloc: Global) -> Result<(Map, Map), AllocError> {
+    let left = map_of(alloc, 'a', &[(1, 10), (2, 20), (4, 40)])?;
+    Ok((left, map_of(alloc, 'b', &[(1, 1), (3, 3), (4, 4)])?))
+}
+
+/// Whether inner and right joins of these ask at each key in ascending order.
+fn are_asked_in_order(alloc: Global) -> Result<bool, AllocError> {
+    let (left, right) = two_shared(alloc)?;
+    let asked = Asked::new();
+    let both = inner(left, &right, &asked);
+    let are_both = is_map(&both, &[(1, 'a', 10), (4, 'a', 40)]) && asked.is(2, 0, 0, 14);
+    let (left, right) = two_shared(alloc)?;
+    let asked = Asked::new();
+    let sums = right_sums(left, &right, true, &asked);
+    let pairs = [(1, 'a', 11), (2, 'a', 20), (4, 'a', 44)];
+    Ok(are_both && is_map(&sums, &pairs) && asked.is(2, 0, 1, 134))
 }
 
 /// Whether the left join is.
@@ -166,12 +184,18 @@ fn inner_and_left_joins_in_place(rt: HostRuntime) -> Result<(), Fail> {
     Ok(())
 }
 
+#[test]
+fn joins_in_place_ask_in_ascending_order(rt: HostRuntime) -> Result<(), Fail> {
+    assert!(rt; are_asked_in_order(rt.alloc())?);
+    Ok(())
+}
+
 /// Whether the right join, which keeps sums or drops them, leaves these pairs and asks as worked
 /// out.
 fn is_right(alloc: Global, keeps: bool, pairs: &[(u32, char, u32)]) -> Result<bool, AllocError> {
     let right = map_of(alloc, 'b', &[(2, 5), (3, 7)])?;
     let asked = Asked::new();
-    let map = right_sums(alloc, &right, keeps, &asked)?;
+    let map = right_sums(left(alloc)?, &right, keeps, &asked);
     Ok(is_map(&map, pairs) && asked.is(1, 0, 1, 23))
 }
 

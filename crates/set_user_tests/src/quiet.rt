@@ -42,6 +42,7 @@ enum Change {
 enum Take {
     Hand,
     IntoList,
+    IntoVec,
     AndAssign,
     MinusAssign,
 }
@@ -54,7 +55,7 @@ enum Call {
     Take(Take),
 }
 
-const CALLS: [Call; 17] = [
+const CALLS: [Call; 18] = [
     Call::Read(Read::Look),
     Call::Read(Read::Test),
     Call::Read(Read::TestCounted),
@@ -70,6 +71,7 @@ const CALLS: [Call; 17] = [
     Call::Change(Change::MinusAssignReference),
     Call::Take(Take::Hand),
     Call::Take(Take::IntoList),
+    Call::Take(Take::IntoVec),
     Call::Take(Take::AndAssign),
     Call::Take(Take::MinusAssign),
 ];
@@ -121,6 +123,7 @@ impl Take {
         match self {
             Take::Hand => for _element in left {},
             Take::IntoList => into_lists(left, right),
+            Take::IntoVec => into_vec(left),
             Take::AndAssign => left &= right,
             Take::MinusAssign => left -= right,
         }
@@ -168,6 +171,13 @@ fn test_counted<'s, 'a>(left: &'s Numbers<'a>, right: &'s Numbers<'a>) {
 fn into_lists<'a>(left: Numbers<'a>, right: Numbers<'a>) {
     drop(left.into_inner());
     let _list: SmallVec<u32, 2, &'a Nth<Global>> = right.into();
+}
+
+/// Takes the list of a set that does not stand in place.
+fn into_vec<'a>(set: Numbers<'a>) {
+    if set.len() > 2 {
+        drop(set.into_vec());
+    }
 }
 
 /// Goes over a set by each iterator, and looks its elements up in the other one.

@@ -111,7 +111,7 @@ fn filters_stay_within_their_bound(rt: HostRuntime) -> Result<(), Fail> {
         (201, true, 400),
     ];
     for (length, is_allowed, most) in rows {
-        let path = repeated(rt.alloc(), length)?;
+        let path = repeated(rt.alloc(), length, Some(&count))?;
         assert!(rt;
             is_within(&deep, &path, is_allowed, most, &count),
             "of {length}"
@@ -121,7 +121,7 @@ fn filters_stay_within_their_bound(rt: HostRuntime) -> Result<(), Fail> {
     for number in 0..2001 {
         let first = Compared {
             number,
-            count: None,
+            count: Some(&count),
         };
         let is_allowed = number % 2 == 0 && number < 2000;
         assert!(rt;

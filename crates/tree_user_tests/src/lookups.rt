@@ -8,11 +8,15 @@ use std::test::Fail;
 use vc_merge::merge::{Count, Steps};
 use vc_trees::radix_tree::{AbstractRadixTree, AbstractRadixTreeMut, ArcRadixTree, RadixTree};
 
-/// The key of as many equal components.
-pub(crate) fn repeated(alloc: Global, length: u32) -> Result<Vec<Compared<'static>>, AllocError> {
+/// The key of as many equal components, with this counter.
+pub(crate) fn repeated<'a>(
+    alloc: Global,
+    length: u32,
+    count: Option<&'a Cell<u128>>,
+) -> Result<Vec<Compared<'a>>, AllocError> {
     let mut key = Vec::new(alloc);
     for _ in 0..length {
-        key.push(Compared::default())?;
+        key.push(Compared { number: 0, count })?;
     }
     Ok(key)
 }
@@ -91,7 +95,7 @@ fn stays_within<'a, T: AbstractRadixTreeMut<Compared<'a>, u32>>(
         (201, false, 402),
     ];
     for (length, is_bound, most) in rows {
-        let key = repeated(alloc, length)?;
+        let key = repeated(alloc, length, None)?;
         all = all && is_within(&deep, &key, is_bound, most, count);
         count.set(0);
         deep.insert(&key, 0)?;
