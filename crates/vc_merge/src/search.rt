@@ -1,11 +1,12 @@
 //! Searches in an ordered list, for one element by its order, for a pair by its key, or for
 //! whatever a [`Sought`] tells.
 //!
-//! There are three forms. [`search`] halves what is left, without a branch on an answer, and makes
-//! no more comparisons than the length has binary digits: it serves counted calls, and those that
-//! promise a bound. [`search_near`] goes in strides from the front on, and halves what stands before
-//! the last of them. [`look_up`] compares with three elements at a time that do not wait for each
-//! other, which makes half as many comparisons more and is faster, for numbers and for strings.
+//! There are three forms. [`search`] halves what is left until it meets an equal element, and makes
+//! no more comparisons than the length has binary digits: trees find children by it.
+//! [`search_near`] goes in strides from the front on, and halves what stands before the last of
+//! them, without a branch on an answer: counted calls and merges search by it. [`look_up`] compares
+//! with three elements at a time that do not wait for each other, which makes half as many
+//! comparisons more and is faster, for numbers and for strings.
 ghost use Rattle.std.specs.Prelude.{◌≡◌, ◌+◌, ◌-◌, ◌*◌, ◌/◌, ◌^◌, ◌<◌, ◌≤◌, length, min};
 ghost use Rattle.std.specs.Map.{keys_of};
 ghost use Rattle.std.specs.declared.cmp.Ordering.{Ordering};
@@ -174,7 +175,18 @@ pub fn search<X, C: Count, S: Sought<X, C>>(
     ensures place { IsPlace (S.side sought.now) list.now result }
     ensures counted { C.counted steps.new ≤ C.counted steps.old + digits (length list.now) }
 {
-    search_part(list, 0, list.len(), sought, steps)
+    let mut part = Part {
+        start: 0,
+        len: list.len(),
+        found: false,
+    };
+    'halves: while part.len > 0 {
+        part = halve(list, part, sought, steps);
+        if part.found {
+            return Ok(part.start - 1);
+        }
+    }
+    Err(part.start)
 }
 
 /// The same as [`search`], for what is near the front: it looks at every `2 ^ exponent`-th element

@@ -1,5 +1,15 @@
-use Rattle.vc_merge.proofs.PlaceLemmas.{narrowed-whole}
+use Rattle.std.proofs.Common.{refl, arith}
+use Rattle.vc_merge.proofs.PlaceLemmas.{narrowed-whole, place-searched}
 use Rattle.vc_merge.proofs.search.search.Goals as goal
 
-pub search_part-requires-clause-narrowed : goal.search_part-requires-clause-narrowed
-search_part-requires-clause-narrowed g c = narrowed-whole (g.S.Sought.side c.args.sought.now) c.args.list.now
+pub halves-init : goal.halves-init
+halves-init g c = record {
+  searched = narrowed-whole (g.S.Sought.side c.args.sought.now) c.args.list.now;
+  unfound = refl;
+  counted = omega arith;
+}
+
+pub returns-then-part-clause-place : goal.returns-then-part-clause-place
+returns-then-part-clause-place g c =
+    let part = c.halve-part.result in
+    place-searched (g.S.Sought.side c.args.sought.now) c.args.list.now part.start part.len part.found c.requires c.halve-part.ensures.searched c.if-part.true
