@@ -125,7 +125,7 @@ fn filters_stay_within_their_bound(rt: HostRuntime) -> Result<(), Fail> {
         };
         let is_allowed = number % 2 == 0 && number < 2000;
         assert!(rt;
-            is_within(&broad, &[first], is_allowed, 17, &count),
+            is_within(&broad, &[first], is_allowed, 11, &count),
             "at {number}"
         );
     }

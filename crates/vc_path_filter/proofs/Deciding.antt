@@ -2,21 +2,22 @@
 --     stripped        what `strip_prefix` says of a path and a prefix
 --     Decides        what is left to decide at a node on the way
 --     decided-above, decided-below        the way ends above a node, or goes on below it
---     covers-empty, covers-none, covers-child        what children cover of a path
+--     covers-empty, covers-found        what children cover of a path
+--     smaller-found        a child that is found has no more nodes than all of them
 --     allowed-itself        the rule of a path decides on it
 use Rattle.std.proofs.Common.{◌≡◌, [], ◌∷◌, List, Option, None, Some, ◌+◌, ◌&&◌, Bool, true, false, cond, length, take, drop, refl, sym, ap, ◌∙◌}
 use Rattle.std.specs.Cmp.Lexicographic.{pointwise}
 use Rattle.std.specs.Borrow.{Bor}
 use Rattle.std.specs.Option.{option_copied, option_or, unwrap_or, MatchOption}
 use Rattle.std.specs.Ordering.{is_eq}
-use Rattle.std.specs.Prelude.{slice_get}
+use Rattle.std.specs.Prelude.{◌≤◌, IfSome, slice_get}
 use Rattle.std.specs.declared.cmp.Ordering.{Ordering}
 use Rattle.vc_path_filter.specs.Allowed.{is_allowed}
 use Rattle.vc_tree_model.specs.Canonical.{AreChildren}
 use Rattle.vc_tree_model.specs.Cover.{cover}
 use Rattle.vc_tree_model.specs.Key.{behind, same_key}
 use Rattle.vc_tree_model.specs.Map.{or_else, lookup, lookup_in}
-use Rattle.vc_tree_model.specs.Tree.{Tree, Forest, node}
+use Rattle.vc_tree_model.specs.Tree.{Tree, Forest, node, nodes, forest_nodes}
 use Rattle.vc_tree_nodes.specs.Places.{IsFoundChild, IsNoChild}
 use Rattle.vc_tree_model.proofs.CoverNodes.{cover-node, cover-none, cover-below, node_cover}
 use Rattle.vc_tree_model.proofs.KeyLemmas.{none-some}
@@ -82,7 +83,7 @@ module _ {K W : Type 0} (cmp : K → K → Ordering) where
         ∙ ap (or_else below) (ap (λ o. option_or o longest) (sym ev) ∙ sym en)
 
   -- no tree of a list begins as the path does
-  pub covers-none : (f : Forest K W) → AreChildren cmp f → (x : K) (path : List K) → slice_get path 0 ≡ Some x
+  covers-none : (f : Forest K W) → AreChildren cmp f → (x : K) (path : List K) → slice_get path 0 ≡ Some x
       → IsNoChild cmp f x → cover (lookup_in cmp f) path ≡ None
   covers-none f a x [] e none = none-some x e
   covers-none f a x (y ∷ others) e none =
@@ -92,7 +93,7 @@ module _ {K W : Type 0} (cmp : K → K → Ordering) where
       ∙ cover-none (λ r. None) (λ r. refl) (y ∷ others)
 
   -- one does
-  pub covers-child : (f : Forest K W) → AreChildren cmp f → (x : K) (path : List K) (child : Tree K W)
+  covers-child : (f : Forest K W) → AreChildren cmp f → (x : K) (path : List K) (child : Tree K W)
       → slice_get path 0 ≡ Some x → IsFoundChild cmp f x child
       → cover (lookup_in cmp f) path ≡ cover (lookup cmp child) path
   covers-child f a x [] child e found = none-some x e
@@ -106,6 +107,20 @@ module _ {K W : Type 0} (cmp : K → K → Ordering) where
           → lookup cmp (node p child.value child.children) [] ≡ None
       no-empty [] b = cc
       no-empty (y ∷ p) b = refl
+
+  -- what is found for the first component of the path covers what they cover
+  pub covers-found : (f : Forest K W) → AreChildren cmp f → (x : K) (path : List K) (r : Option (Bor (Tree K W)))
+      → slice_get path 0 ≡ Some x → MatchOption r (IsNoChild cmp f x) (λ child. IsFoundChild cmp f x child.now)
+      → MatchOption r (cover (lookup_in cmp f) path ≡ None)
+      (λ child. cover (lookup_in cmp f) path ≡ cover (lookup cmp child.now) path)
+  covers-found f a x path None e none = covers-none f a x path e none
+  covers-found f a x path (Some child) e found = covers-child f a x path child.now e found
+
+  pub smaller-found : (f : Forest K W) (x : K) (r : Option (Bor (Tree K W)))
+      → MatchOption r (IsNoChild cmp f x) (λ child. IsFoundChild cmp f x child.now)
+      → IfSome r (λ child. nodes child.now ≤ forest_nodes f)
+  smaller-found f x None none = tt
+  smaller-found f x (Some child) found = found.smaller
 
   -- the empty path
   pub covers-empty : (f : Forest K W) → AreChildren cmp f → (path : List K) → slice_get path 0 ≡ None

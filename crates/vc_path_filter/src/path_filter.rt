@@ -10,7 +10,7 @@
 //! assert!(rt; filter.check(b"ac") && !filter.check(b"abc"));
 //! ```
 
-ghost use Rattle.std.specs.Prelude.{◌≡◌, ◌≤◌, None, true, false, IfSome, OnOk, OnErr, MatchOption, slice_get};
+ghost use Rattle.std.specs.Prelude.{◌≡◌, ◌≤◌, None, true, false, IfSome, OnOk, OnErr, MatchOption};
 ghost use Rattle.std.specs.Option.{option_copied};
 ghost use Rattle.vc_path_filter.specs.Allowed.{is_allowed, IsRestricted};
 ghost use Rattle.vc_tree_model.specs.Canonical.{AreChildren, IsCanonical};
@@ -19,14 +19,12 @@ ghost use Rattle.vc_tree_model.specs.Key.{behind};
 ghost use Rattle.vc_tree_model.specs.Map.{lookup, lookup_in, HaveEqualMaps, IsInserted};
 ghost use Rattle.vc_tree_model.specs.Tree.{no_tree, nodes, forest_nodes};
 ghost use Rattle.vc_tree_nodes.specs.Children.{seen};
-ghost use Rattle.vc_tree_nodes.specs.Places.{first_side};
 
 use std::alloc::{AllocError, Global};
-use std::cmp::Ordering;
 use std::default::MadeWith;
 use std::marker::Model;
-use vc_merge::merge::{Count, Uncounted};
-use vc_merge::search::{Sought, look_up};
+use vc_merge::merge::Uncounted;
+use vc_tree_nodes::places::child_at;
 use vc_tree_nodes::reading::canonical;
 use vc_trees::radix_tree::{
     AbstractRadixTree, AbstractRadixTreeMut, ArcRadixTree, RadixNode, TKey, TValue,
@@ -201,24 +199,5 @@ fn child_on<'a, K: TKey>(
     let Some(first) = path.first() else {
         return None;
     };
-    match look_up(children, &Component(first)) {
-        Ok(i) => Some(&children[i]),
-        Err(_) => None,
-    }
-}
-
-/// A component that is sought among the first components of nodes.
-#[derive(Drop)]
-struct Component<'a, K>(&'a K);
-
-impl<'a, K: TKey> Sought<ArcRadixTree<K, bool>, Uncounted> for Component<'a, K> {
-    ghost side = { λ sought node. first_side K.cmp sought.0.now (slice_get node.prefix 0) };
-
-    fn compare(&self, node: &ArcRadixTree<K, bool>, steps: &mut Uncounted) -> Ordering {
-        steps.tick();
-        match node.prefix().first() {
-            Some(start) => start.cmp(self.0),
-            None => Ordering::Less,
-        }
-    }
+    child_at::<K, bool, ArcRadixTree<K, bool>, Uncounted>(children, first, &mut Uncounted)
 }
