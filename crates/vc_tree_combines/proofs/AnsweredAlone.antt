@@ -31,7 +31,7 @@ use Rattle.vc_tree_facing.specs.Made.{IsMade, IsMadeAt}
 use Rattle.vc_tree_facing.specs.Doing.{IsAskedAt}
 use Rattle.vc_tree_combines.specs.Ended.{AreMadeAlone}
 use Rattle.vc_tree_facing.specs.Sides.{by_component}
-use Rattle.vc_tree_facing.proofs.Around.{children-ascend}
+use Rattle.vc_tree_facing.proofs.Components.{children-ascend}
 use Rattle.vc_tree_facing.proofs.Making.{script-made, script-asked}
 
 -- a node without value and children binds nothing

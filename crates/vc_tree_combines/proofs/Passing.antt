@@ -20,7 +20,7 @@ use Rattle.vc_tree_nodes.specs.Parting.{Agree}
 use Rattle.vc_tree_facing.specs.Doing.{IsAskedAt}
 use Rattle.vc_tree_combines.specs.Meeting.{IsMet, IsMissed, TellsKeysIn, IsMeeting}
 use Rattle.vc_tree_facing.specs.Sides.{by_component}
-use Rattle.vc_tree_facing.proofs.Around.{components}
+use Rattle.vc_tree_facing.proofs.Components.{components}
 use Rattle.vc_tree_model.specs.Look.{values}
 use Rattle.vc_tree_facing.proofs.Making.{script-asked, script-all}
 use Rattle.vc_tree_combines.proofs.Meeting.{met-alone}

@@ -25,7 +25,7 @@ use Rattle.vc_tree_facing.specs.Made.{IsBothMadeBy}
 use Rattle.vc_tree_facing.specs.Sides.{component, by_component, side_of, IsListed}
 use Rattle.vc_tree_facing.specs.declared.sides.Side.{Side}
 use Rattle.vc_tree_facing.specs.declared.sides.Side.TheVariants.{Left, Right, Both}
-use Rattle.vc_tree_facing.proofs.Around.{get-drop}
+use Rattle.vc_tree_facing.proofs.Components.{get-drop}
 use Rattle.vc_tree_edits.specs.Taken.{IsMet, IsTaken}
 
 module _ {K V W T B : Type 0} (cmp : K → K → Ordering) (tree : T → Tree K V) (tb : B → Tree K W) (j : ℕ) where

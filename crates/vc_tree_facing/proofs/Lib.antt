@@ -1,5 +1,5 @@
 pub mod Listing
-pub mod Around
+pub mod Components
 pub mod Opening
 pub mod Doing
 pub mod Making

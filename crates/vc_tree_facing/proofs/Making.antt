@@ -25,7 +25,7 @@ use Rattle.vc_tree_facing.specs.Facing.{shortened_in}
 use Rattle.vc_tree_facing.specs.Made.{IsMadeAt}
 use Rattle.vc_tree_facing.specs.Doing.{IsAskedAt}
 use Rattle.vc_tree_facing.specs.Sides.{component, by_component}
-use Rattle.vc_tree_facing.proofs.Around.{get-drop, components}
+use Rattle.vc_tree_facing.proofs.Components.{get-drop, components}
 
 module _ {K : Type 0} (cmp : K → K → Ordering) (o : IsTotalOrder cmp) where
   -- the other side of two components that are equal

@@ -18,7 +18,7 @@ use Rattle.vc_tree_facing.specs.Doing.{IsAskedAt, IsDoing, owed}
 use Rattle.vc_tree_facing.specs.Sides.{by_component, side_of}
 use Rattle.vc_tree_facing.specs.declared.sides.Side.{Side}
 use Rattle.vc_tree_facing.specs.declared.sides.Side.TheVariants.{Left, Right, Both}
-use Rattle.vc_tree_facing.proofs.Around.{get-drop, components}
+use Rattle.vc_tree_facing.proofs.Components.{get-drop, components}
 use Rattle.vc_tree_facing.proofs.Doing.{left-first, right-first, both-first, left-is, right-is}
 use Rattle.vc_tree_facing.proofs.Paying.{apart-or_ended}
 

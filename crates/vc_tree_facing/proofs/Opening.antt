@@ -1,28 +1,24 @@
 -- What stands below a place in the prefix of a tree.
 --     goes-on        a key that goes on with a component
 --     opened-all        where the prefix ended, the children
---     opened-rest, opened-behind        where it goes on, the tree itself
---     faced-lower, faced-higher, faced-inside, faced-behind        two trees side by side
-use Rattle.std.proofs.Common.{◌≡◌, ℕ, ◌+◌, ◌-◌, ◌<◌, ◌≤◌, [], ◌∷◌, List, Option, Some, None, is_none, Result, Ok, Err, IfOk, get_or, refl, sym, ap, subst, ◌∙◌, arith, true≢false, map, take, drop, length-drop, inl, inr, length, slice_get, zero, suc, false}
+--     opened-rest        where it goes on, the tree itself
+--     parts-at        two prefixes part where both go on
+--     one-at        the component at a place, as a list
+use Rattle.std.proofs.Common.{◌≡◌, ℕ, ◌+◌, ◌-◌, ◌<◌, ◌≤◌, [], ◌∷◌, List, Option, Some, None, is_none, get_or, refl, sym, ap, ◌∙◌, arith, true≢false, map, take, drop, length-drop, length, slice_get, zero, suc, false}
 use Rattle.std.proofs.lemmas.List.{take_all, drop-drop}
 use Rattle.std.proofs.lemmas.Option.{slice_get-get_or}
 use Rattle.std.proofs.Math.ListN.{drop_of_length-le}
-use Rattle.std.specs.Cmp.{IsTotalOrder}
 use Rattle.std.specs.List.{AllByRecursion}
+use Rattle.std.specs.Option.{option_to_list}
 use Rattle.std.specs.Ordering.{is_eq}
 use Rattle.std.specs.declared.cmp.Ordering.{Ordering}
-use Rattle.std.specs.declared.cmp.Ordering.TheVariants.{Less, Greater}
-use Rattle.vc_tree_model.specs.Tree.{Tree, Forest, forest, made, shortened, nodes, forest_nodes}
+use Rattle.vc_tree_model.specs.Tree.{Tree, Forest, forest, made, nodes, forest_nodes}
 use Rattle.vc_tree_model.specs.Child.{value_at, solid_child}
 use Rattle.vc_tree_model.proofs.KeyLemmas.{none-some}
-use Rattle.vc_tree_model.specs.Canonical.{AreChildren, IsWhole}
-use Rattle.vc_tree_nodes.specs.Parting.{Agree, PartsAt}
-use Rattle.vc_tree_facing.specs.Around.{sides_around}
-use Rattle.vc_tree_facing.specs.Facing.{shortened_in, GoesOn, IsOpened, IsFaced}
-use Rattle.vc_tree_facing.specs.Sides.{by_component, IsListed}
-use Rattle.vc_tree_facing.specs.declared.sides.Side.{Side}
-use Rattle.vc_tree_facing.specs.declared.sides.Side.TheVariants.{Left, Right}
-use Rattle.vc_tree_facing.proofs.Around.{IsPlaceOf, get-drop, apart-lower, apart-higher, around-right}
+use Rattle.vc_tree_model.specs.Canonical.{IsWhole}
+use Rattle.vc_tree_nodes.specs.Parting.{PartsAt}
+use Rattle.vc_tree_facing.specs.Facing.{GoesOn, IsOpened, Parts}
+use Rattle.vc_tree_facing.proofs.Components.{get-drop}
 
 -- a key that goes on with a component
 pub goes-on : {K : Type 0} (n : ℕ) (p : List K) (x : K) → slice_get p n ≡ Some x → (rest : List K) × (drop n p ≡ x ∷ rest)
@@ -30,26 +26,12 @@ goes-on n [] x e = none-some x e
 goes-on zero (y ∷ p) x e = (p, let h : y ≡ x = cc in rw h refl)
 goes-on (suc n) (y ∷ p) x e = goes-on n p x e
 
--- what holds of an answer, if there is one, by four things that hold of it
-pub if-ok_all : {X E : Type 0} (r : Result X E) (P Q R S T : X → Type 0) → IfOk r P → IfOk r Q → IfOk r R → IfOk r S
-    → ((x : X) → P x → Q x → R x → S x → T x) → IfOk r T
-if-ok_all (Ok x) P Q R S T p q r s f = f x p q r s
-if-ok_all (Err e) P Q R S T p q r s f = tt
-
-pub always : {X E : Type 0} (r : Result X E) → IfOk r (λ x. Unit {0})
-always (Ok x) = tt
-always (Err e) = tt
-
 -- a component that was read
 pub found : {K : Type 0} (p : List K) (n : ℕ) (x : K) → n < length p → x ≡ get_or p n x → slice_get p n ≡ Some x
 found p n x h e = slice_get-get_or p n x h ∙ ap Some (sym e)
 
 pub found_in : {K : Type 0} (p q : List K) (n : ℕ) (x : K) → p ≡ q → n < length p → x ≡ get_or p n x → slice_get q n ≡ Some x
 found_in p q n x e h w = ap (λ z. slice_get z n) (sym e) ∙ found p n x h w
-
--- nothing is left behind all of a key
-pub nothing-left : {K : Type 0} (p q : List K) (n : ℕ) → p ≡ q → length p ≤ n → drop n q ≡ []
-nothing-left p q n e h = ap (drop n) (sym e) ∙ drop_of_length-le p h
 
 -- the value of a node inside a prefix, and where it ends
 value-by : {K V : Type 0} (t : Tree K V) (p : List K) (n : ℕ) → n ≤ length p → (n ≡ length p → ⊥) → None ≡ value_at t (drop n p)
@@ -64,16 +46,6 @@ value-inside t p q n e h w = value-by t p n h (λ k. w (k ∙ ap length (sym e))
 pub value-ended : {K V : Type 0} (t : Tree K V) (p q : List K) (n : ℕ) → q ≡ p → n ≡ length q → t.value ≡ value_at t (drop n p)
 value-ended t p q n e h =
     let none : drop n p ≡ [] = ap (drop n) (sym e) ∙ drop_of_length-le q (omega (arith, h)) in rw none refl
-
--- a front of what is left of a prefix is a front of the prefix
-pub front-within : {K : Type 0} (p : List K) (j : ℕ) (n : ℕ) (q : List K) → q ≡ drop j p → n ≤ length q → j ≤ length p → j + n ≤ length p
-front-within {K = K} p j n q e h w =
-    let l : length q ≡ length p - j = ap length e ∙ length-drop {A = K} j p in omega (arith, l, h, w)
-
--- a component behind a front
-component-at : {K : Type 0} (i n : ℕ) (p : List K) (x : K) → slice_get (drop i p) n ≡ Some x → slice_get p (i + n) ≡ Some x
-component-at i n p x e =
-    sym (get-drop (i + n) p) ∙ ap (λ l. slice_get l 0) (sym (drop-drop n i p)) ∙ get-drop n (drop i p) ∙ e
 
 -- what is left of a slice
 pub slice-from : {K : Type 0} (s whole p : List K) (i : ℕ) → s ≡ take (length whole - i) (drop i whole) → whole ≡ p
@@ -102,7 +74,7 @@ module _ {T K V : Type 0} (tree : T → Tree K V) where
     first = all-go_on xs;
   })
 
-  opened-by : (x : T) (t : Tree K V) (rest : List K) (n : ℕ) → drop n (tree x).prefix ≡ rest → (tree x).value ≡ t.value
+  pub opened-by : (x : T) (t : Tree K V) (rest : List K) (n : ℕ) → drop n (tree x).prefix ≡ rest → (tree x).value ≡ t.value
       → (tree x).children ≡ t.children → 0 < length rest → IsOpened tree t rest (x ∷ []) n
   opened-by x t [] n d v c h = absurd (omega (arith, h))
   opened-by x t (y ∷ rest) n d v c h = record {
@@ -117,17 +89,19 @@ module _ {T K V : Type 0} (tree : T → Tree K V) where
   opened-rest x t i n v c h =
       opened-by x t (drop n (drop i (tree x).prefix)) (i + n) (sym (drop-drop n i (tree x).prefix)) v c h
 
-  -- the same, where a component was found there
-  pub opened-behind : (x : T) (i : ℕ) (y : K) → slice_get (tree x).prefix i ≡ Some y
-      → IsOpened tree (tree x) (drop i (tree x).prefix) (x ∷ []) i
-  opened-behind x i y e =
-      let g = goes-on i (tree x).prefix y e in
-      opened-by x (tree x) (drop i (tree x).prefix) i refl refl refl (rw g.1 (omega arith))
+-- two prefixes part where both go on
+pub parts-at : {K : Type 0} (cmp : K → K → Ordering) (p q : List K) (n : ℕ) (r : Ordering) → is_eq r ≡ false
+    → PartsAt cmp r p q n → Parts cmp (drop n p) (drop n q)
+parts-at cmp p q n r unequal h =
+    let gx = goes-on n p h.old h.old_at in
+    let gy = goes-on n q h.new h.new_at in
+    rw (gx.1, gy.1, h.ordered) unequal
 
-  -- the same of equal parts
-  pub opened-as : (t : Tree K V) (rest : List K) (xs xs' : List T) (i i' : ℕ) → xs ≡ xs' → i ≡ i'
-      → IsOpened tree t rest xs' i' → IsOpened tree t rest xs i
-  opened-as t rest xs xs' i i' a b h = rw (a, b) h
+-- the component at a place, as a list
+pub one-at : {K : Type 0} (m n : ℕ) (p : List K) → m ≡ 1 → n < length p → take m (drop n p) ≡ option_to_list (slice_get p n)
+one-at m n [] e h = absurd (omega (arith, h))
+one-at m zero (x ∷ p) e h = rw e refl
+one-at m (suc n) (x ∷ p) e h = one-at m n p e (omega (arith, h))
 
 -- ---- nodes that are made of parts
 
@@ -153,86 +127,3 @@ module _ {K V T : Type 0} (tree : T → Tree K V) where
       → (solid_child p v (forest (map tree xs)) ≡ Some (made p v (map tree xs))) × IsWhole p v (forest (map tree xs))
   whole-of_many p None xs h = many-whole p xs h
   whole-of_many p (Some v) xs h = (refl, some-whole p v (forest (map tree xs)))
-
-module _ {K V W A B : Type 0} (cmp : K → K → Ordering) (o : IsTotalOrder cmp) (ta : A → Tree K V) (tb : B → Tree K W) where
-  -- the same facts of equal parts
-  pub faced-by : (t : Tree K V) (u : Tree K W) (n : ℕ) (xs xs' : List A) (i i' : ℕ) (ys ys' : List B) (j j' : ℕ) (s s' : List Side)
-      → xs ≡ xs' → i ≡ i' → ys ≡ ys' → j ≡ j' → s ≡ s' → IsFaced cmp ta tb t u n xs' i' ys' j' s'
-      → IsFaced cmp ta tb t u n xs i ys j s
-  faced-by t u n xs xs' i i' ys ys' j j' s s' a b c d e h = rw (a, b, c, d, e) h
-
-  pub listed-as : (xs xs' : List A) (i i' : ℕ) (ys ys' : List B) (j j' : ℕ) (s s' : List Side) → xs ≡ xs' → i ≡ i' → ys ≡ ys'
-      → j ≡ j' → s ≡ s' → IsListed (by_component ta tb i' j' cmp) xs' ys' s' → IsListed (by_component ta tb i j cmp) xs ys s
-  listed-as xs xs' i i' ys ys' j j' s s' a b c d e h = rw (a, b, c, d, e) h
-
-  module _ (a : A) (b : B) (i j : ℕ) (p q : List K) (ep : p ≡ drop i (ta a).prefix) (eq : q ≡ drop j (tb b).prefix) where
-    left-component : (n : ℕ) (x : K) → slice_get p n ≡ Some x → slice_get (ta a).prefix (i + n) ≡ Some x
-    left-component n x e = component-at i n (ta a).prefix x (ap (λ z. slice_get z n) (sym ep) ∙ e)
-
-    right-component : (n : ℕ) (y : K) → slice_get q n ≡ Some y → slice_get (tb b).prefix (j + n) ≡ Some y
-    right-component n y e = component-at j n (tb b).prefix y (ap (λ z. slice_get z n) (sym eq) ∙ e)
-
-    -- both prefixes go on where they part
-    apart : (r : Ordering) (n : ℕ) (sides : List Side) → is_eq r ≡ false → PartsAt cmp r p q n
-        → (by_component ta tb (i + n) (j + n) cmp (inl a) (inr b) ≡ r
-        → IsListed (by_component ta tb (i + n) (j + n) cmp) (a ∷ []) (b ∷ []) sides)
-        → IsFaced cmp ta tb (shortened i (ta a)) (shortened j (tb b)) n (a ∷ []) (i + n) (b ∷ []) (j + n) sides
-    apart r n sides unequal h l =
-        let gx = goes-on n (drop i (ta a).prefix) h.old (ap (λ z. slice_get z n) (sym ep) ∙ h.old_at) in
-        let gy = goes-on n (drop j (tb b).prefix) h.new (ap (λ z. slice_get z n) (sym eq) ∙ h.new_at) in
-        record {
-          left_within = subst (λ z. n ≤ length z) ep h.agree.within_prefix;
-          right_within = subst (λ z. n ≤ length z) eq h.agree.within_key;
-          same = rw (← ep, ← eq) h.agree.same;
-          parts = rw (gx.1, gy.1, h.ordered) unequal;
-          left = opened-rest ta a (shortened i (ta a)) i n refl refl (rw gx.1 (omega arith));
-          right = opened-rest tb b (shortened j (tb b)) j n refl refl (rw gy.1 (omega arith));
-          listed = l (rw (left-component n h.old h.old_at, right-component n h.new h.new_at) h.ordered);
-        }
-
-    pub faced-lower : (n : ℕ) → PartsAt cmp Less p q n
-        → IsFaced cmp ta tb (shortened i (ta a)) (shortened j (tb b)) n (a ∷ []) (i + n) (b ∷ []) (j + n) (Left ∷ Right ∷ [])
-    faced-lower n h = apart Less n _ refl h (apart-lower cmp o ta tb (i + n) (j + n) a b)
-
-    pub faced-higher : (n : ℕ) → PartsAt cmp Greater p q n
-        → IsFaced cmp ta tb (shortened i (ta a)) (shortened j (tb b)) n (a ∷ []) (i + n) (b ∷ []) (j + n) (Right ∷ Left ∷ [])
-    faced-higher n h = apart Greater n _ refl h (apart-higher cmp o ta tb (i + n) (j + n) a b)
-
-    -- the right prefix ends inside the left one
-    pub faced-inside : (n : ℕ) (x : K) (ys : List B) (r : Result ℕ ℕ)
-        → Agree cmp p q n × (n ≡ length q) × (n < length p)
-        → slice_get p n ≡ Some x → forest (map tb ys) ≡ (tb b).children → AreChildren cmp (shortened_in tb 0 ys)
-        → IsPlaceOf cmp o ta tb i j tb 0 ys x r
-        → IsFaced cmp ta tb (shortened i (ta a)) (shortened j (tb b)) n (a ∷ []) (i + n) ys 0
-        (sides_around r (length ys) Right Left)
-    faced-inside n x ys r h ex k c place =
-        let gx = goes-on n (drop i (ta a).prefix) x (ap (λ z. slice_get z n) (sym ep) ∙ ex) in
-        let none : drop n (drop j (tb b).prefix) ≡ [] = ap (drop n) (sym eq) ∙ drop_of_length-le q (omega (arith, h.1)) in
-        record {
-          left_within = subst (λ z. n ≤ length z) ep h.0.within_prefix;
-          right_within = subst (λ z. n ≤ length z) eq h.0.within_key;
-          same = rw (← ep, ← eq) h.0.same;
-          parts = rw (gx.1, none) tt;
-          left = opened-rest ta a (shortened i (ta a)) i n refl refl (rw gx.1 (omega arith));
-          right = opened-all tb (shortened j (tb b)) (drop n (drop j (tb b).prefix)) ys none k;
-          listed = around-right cmp o ta tb (i + n) 0 a ys x r c (left-component n x ex) place;
-        }
-
-    -- the left prefix ends, inside the right one or with it
-    pub faced-behind : (n : ℕ) (xs : List A) (i' : ℕ) (ys : List B) (j' : ℕ) (sides : List Side)
-        → Agree cmp p q (length p) → n ≡ length p → IsOpened ta (ta a) [] xs i'
-        → IsOpened tb (tb b) (drop (j + length p) (tb b).prefix) ys j' → IsListed (by_component ta tb i' j' cmp) xs ys sides
-        → IsFaced cmp ta tb (shortened i (ta a)) (shortened j (tb b)) n xs i' ys j' sides
-    faced-behind n xs i' ys j' sides g e l r s =
-        let none : drop (length p) (drop i (ta a).prefix) ≡ [] =
-        ap (drop (length p)) (sym ep) ∙ drop_of_length-le p (omega arith) in
-        let rest : drop (j + length p) (tb b).prefix ≡ drop (length p) (drop j (tb b).prefix) = sym (drop-drop (length p) j (tb b).prefix) in
-        rw e (record {
-          left_within = subst (λ z. length p ≤ length z) ep g.within_prefix;
-          right_within = subst (λ z. length p ≤ length z) eq g.within_key;
-          same = rw (← ep, ← eq) g.same;
-          parts = rw none tt;
-          left = rw none (record { children = l.children; smaller = l.smaller; first = l.first });
-          right = rw (← rest) (record { children = r.children; smaller = r.smaller; first = r.first });
-          listed = s;
-        })

@@ -1,17 +1,14 @@
 -- What the comparisons of a combine are paid by: three for each node and component.
 --     apart-or_ended        two trees that meet below two prefixes show that one of these ended
---     few-children, digits-few        each child weighs at least one, and takes one comparison at most
+--     few-children        each child weighs at least one
 --     face-paid        what laying two trees side by side takes, and what is owed to the trees that meet, is paid by both trees
-use Rattle.std.proofs.Common.{◌≡◌, ℕ, ◌+◌, ◌*◌, ◌<◌, ◌^◌, ◌≤◌, zero, suc, min, [], ◌∷◌, List, Option, Some, refl, sym, ap, ◌∙◌, arith, map, drop, length, slice_get, true≢false, inl, inr}
+use Rattle.std.proofs.Common.{◌≡◌, ℕ, ◌+◌, ◌*◌, ◌≤◌, min, [], ◌∷◌, List, Option, Some, refl, sym, ap, ◌∙◌, arith, map, drop, length, slice_get, true≢false, inl, inr}
 use Rattle.std.proofs.lemmas.List.{length-drop}
 use Rattle.std.specs.List.{AllByRecursion}
 use Rattle.std.specs.Option.{option_cmp}
 use Rattle.std.specs.Ordering.{is_eq}
 use Rattle.std.specs.declared.cmp.Ordering.{Ordering}
 use Rattle.std.specs.declared.cmp.Ordering.TheVariants.{Equal}
-use Rattle.std.proofs.Math.Nat.{pow-suc}
-use Rattle.vc_merge.specs.Count.{digits}
-use Rattle.vc_merge.proofs.Digits.{digits-least}
 use Rattle.vc_merge.specs.Script.{Event, left_alone, right_alone, collision, lefts, rights, IsMatched, IsScript}
 use Rattle.vc_tree_model.specs.Shortened.{weight, forest_weight}
 use Rattle.vc_tree_model.specs.Tree.{Tree, Forest, forest}
@@ -67,14 +64,6 @@ module _ {K V W A B : Type 0} (cmp : K → K → Ordering) (ta : A → Tree K V)
 few-below : {T K V : Type 0} (tree : T → Tree K V) (i : ℕ) (xs : List T) → length xs ≤ forest_weight (shortened_in tree i xs)
 few-below tree i [] = omega arith
 few-below tree i (x ∷ xs) = let r = few-below tree i xs in omega (arith, r)
-
--- a search takes no more comparisons than there are trees
-pub digits-few : (n : ℕ) → digits n ≤ n
-digits-few n = digits-least n n (below-power n)
-  where
-    below-power : (n : ℕ) → n < 2 ^ n
-    below-power zero = omega arith
-    below-power (suc n) = let r = below-power n in let p = pow-suc 2 n in omega (arith, r, p)
 
 -- the weight of a tree, at a place of its prefix
 opened-weight : {T K V : Type 0} (tree : T → Tree K V) (t : Tree K V) (n : ℕ) (rest : List K) (xs : List T) (from : ℕ)

@@ -12,15 +12,27 @@ use Rattle.vc_tree_model.specs.Tree.{Tree}
 use Rattle.vc_tree_facing.specs.declared.sides.Side.{Side}
 use Rattle.vc_tree_facing.specs.declared.sides.Side.TheVariants.{Left, Right, Both}
 
+-- the component by which a left element stands, or a right one
+abbrev pub head : {K A B : Type 0} → (A → Option K) → (B → Option K) → A ⊎ B → Option K
+head f g (inl a) = f a
+head f g (inr b) = g b
+
+-- elements in the order of those components
+abbrev pub by_head : {K A B : Type 0} → (A → Option K) → (B → Option K) → (K → K → Ordering) → A ⊎ B → A ⊎ B → Ordering
+by_head f g cmp x y = option_cmp cmp (head f g x) (head f g y)
+
+pub by_head_total : {K A B : Type 0} (f : A → Option K) (g : B → Option K) {cmp : K → K → Ordering} → IsTotalOrder cmp
+    → IsTotalOrder (by_head f g cmp)
+by_head_total f g o = on_total (head f g) (options_total o)
+
 module _ {K V W A B : Type 0} (ta : A → Tree K V) (tb : B → Tree K W) (i j : ℕ) where
   -- the component at place i of a left tree's prefix, or at place j of a right one's
   abbrev pub component : A ⊎ B → Option K
-  component (inl a) = slice_get (ta a).prefix i
-  component (inr b) = slice_get (tb b).prefix j
+  component = head (λ a. slice_get (ta a).prefix i) (λ b. slice_get (tb b).prefix j)
 
   -- trees in the order of those components
   abbrev pub by_component : (K → K → Ordering) → A ⊎ B → A ⊎ B → Ordering
-  by_component cmp x y = option_cmp cmp (component x) (component y)
+  by_component = by_head (λ a. slice_get (ta a).prefix i) (λ b. slice_get (tb b).prefix j)
 
   pub by_component_total : {cmp : K → K → Ordering} → IsTotalOrder cmp → IsTotalOrder (by_component cmp)
   by_component_total o = on_total component (options_total o)

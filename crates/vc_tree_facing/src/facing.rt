@@ -1,21 +1,19 @@
 //! Two trees side by side: where their prefixes part, and what stands below.
 
-ghost use Rattle.std.specs.Prelude.{◌≡◌, ◌+◌, ◌≤◌, ◌<◌, ◌∷◌, ◌++◌, [], Result, min, length, drop, replicate, IfOk, MatchResult};
+ghost use Rattle.std.specs.Prelude.{◌≡◌, ◌+◌, ◌≤◌, ◌<◌, ◌∷◌, min, length, drop, slice_get, IfOk};
+ghost use Rattle.std.specs.Option.{option_to_list};
 ghost use Rattle.vc_tree_model.specs.Canonical.{IsCanonical};
 ghost use Rattle.vc_tree_model.specs.Shortened.{weight, forest_weight};
 ghost use Rattle.vc_tree_model.specs.Tree.{shortened};
 ghost use Rattle.vc_tree_nodes.specs.Parting.{Agree};
-ghost use Rattle.vc_tree_facing.specs.Facing.{trees_below, IsOpened, IsFaced};
-ghost use Rattle.vc_tree_facing.specs.Around.{sides_around};
+ghost use Rattle.vc_tree_facing.specs.Facing.{trees_below, Parts, IsBelow, IsOpened, IsFaced};
 ghost use Rattle.vc_tree_facing.specs.Sides.{by_component, IsListed};
 
-use crate::sides::{Side, Sides, list_sides, push_times};
-use smallvec::SmallVec;
+use crate::sides::{ByPrefix, Itself, Sides, list_sides};
 use std::alloc::{AllocError, Global};
 use vc_merge::merge::Count;
 use vc_tree_nodes::parting::{Parting, find_parting};
-use vc_tree_nodes::places::child_place;
-use vc_tree_nodes::reading::{RadixNode, TKey, TValue, canonical};
+use vc_tree_nodes::reading::{RadixNode, TKey, TValue};
 
 /// The trees that stand below a place in the prefix of a tree, each without its first `from`
 /// components: the children of the tree, or what is left of the tree itself.
@@ -27,30 +25,6 @@ pub struct Below<'a, T> {
 }
 
 impl<'a, T> Below<'a, T> {
-    /// The children of a tree whose prefix has ended.
-    fn of_children(children: &'a [T]) -> Self
-        ensures trees { trees_below result ≡ children.now }
-        ensures from { result.from ≡ 0 }
-    {
-        Below {
-            whole: None,
-            children,
-            from: 0,
-        }
-    }
-
-    /// A tree whose prefix goes on.
-    fn of_tree(tree: &'a T, from: usize) -> Self
-        ensures trees { trees_below result ≡ tree.now ∷ [] }
-        ensures from { result.from ≡ from }
-    {
-        Below {
-            whole: Some(tree),
-            children: &[],
-            from,
-        }
-    }
-
     /// Takes the first of the trees.
     pub fn next(&mut self) -> &'a T
         requires { 0 < length (trees_below self.old) }
@@ -60,11 +34,36 @@ impl<'a, T> Below<'a, T> {
         if let Some(tree) = self.whole.take() {
             return tree;
         }
-        let Some((tree, others)) = self.children.split_first() else {
-            unreachable!()
-        };
-        self.children = others;
+        let tree = &self.children[0];
+        self.children = &self.children[1..];
         tree
+    }
+}
+
+/// What stands in a tree below the first `place` components of its prefix.
+fn below_place<'a, K: TKey, V: TValue, T: RadixNode<K, V>>(
+    tree: &'a T,
+    place: usize,
+) -> Below<'a, T>
+    requires { place ≤ length (T.tree tree.now).prefix }
+    ensures opened { let t = T.tree tree.now in
+        IsOpened T.tree t (drop place t.prefix) (trees_below result) result.from }
+    ensures below { IsBelow K.cmp T.tree result }
+    ensures few { length (trees_below result) ≤ 1 + forest_weight (T.tree tree.now).children }
+    ensures canonical { IsCanonical K.cmp (T.tree tree.now) }
+{
+    if place < tree.prefix().len() {
+        Below {
+            whole: Some(tree),
+            children: &[],
+            from: place,
+        }
+    } else {
+        Below {
+            whole: None,
+            children: tree.children(),
+            from: 0,
+        }
     }
 }
 
@@ -81,43 +80,61 @@ pub struct Facing<'a, 'b, A, B> {
     pub sides: Sides,
 }
 
-/// Two sides, one after the other.
-fn two_sides(alloc: Global, first: Side, second: Side) -> Result<Sides, AllocError>
-    ensures { IfOk result (λ sides. sides.items ≡ first ∷ second ∷ []) }
+/// For how many components two prefixes agree, of which the first `known` do.
+fn common_front<K: Ord, C: Count>(p: &[K], q: &[K], known: usize, steps: &mut C) -> usize
+    requires { Agree K.cmp p.now q.now known }
+    ensures agree { Agree K.cmp p.now q.now result }
+    ensures parts { Parts K.cmp (drop result p.now) (drop result q.now) }
+    ensures counted { C.counted steps.new
+        ≤ C.counted steps.old + min (length p.now) (length q.now) }
 {
-    let mut sides = SmallVec::new(alloc);
-    sides.push(first)?;
-    sides.push(second)?;
-    Ok(sides)
+    match find_parting(p, q, known, steps) {
+        Parting::Behind => p.len(),
+        Parting::Inside(n) | Parting::Lower(n) | Parting::Higher(n) => n,
+    }
 }
 
-/// The sides of the events of `count` trees on the side `many` and a single tree on the side `one`:
-/// at `Ok` the tree that it meets, and at `Err` the number of trees before it.
-fn list_around(
-    alloc: Global,
-    place: Result<usize, usize>,
-    count: usize,
-    many: Side,
-    one: Side,
-) -> Result<Sides, AllocError>
-    requires { MatchResult place (λ k. k < count) (λ k. k ≤ count) }
-    ensures { IfOk result (λ sides. sides.items ≡ sides_around place count many one) }
+/// The component at a place of a prefix, as a list.
+fn component_at<K: TKey, V: TValue, T: RadixNode<K, V>>(tree: &T, place: usize) -> &[K]
+    requires { place < length (T.tree tree.now).prefix }
+    ensures { result.now ≡ option_to_list (slice_get (T.tree tree.now).prefix place) }
 {
-    let mut sides = SmallVec::new(alloc);
-    let passed = match place {
-        Ok(k) => {
-            push_times(&mut sides, many, k)?;
-            sides.push(Side::Both)?;
-            k + 1
+    &tree.prefix()[place..place + 1]
+}
+
+/// The sides of the events of what stands below two places. A tree that goes on stands there as the
+/// list of the one component with which it does.
+fn list_below<K: TKey, V: TValue, W: TValue, A: RadixNode<K, V>, B: RadixNode<K, W>, C: Count>(
+    alloc: Global,
+    left: &Below<'_, A>,
+    right: &Below<'_, B>,
+    steps: &mut C,
+) -> Result<Sides, AllocError>
+    requires left { IsBelow K.cmp A.tree left.now }
+    requires right { IsBelow K.cmp B.tree right.now }
+    ensures listed { IfOk result (λ sides.
+        IsListed (by_component A.tree B.tree left.now.from right.now.from K.cmp)
+        (trees_below left.now) (trees_below right.now) sides.items) }
+    ensures counted { C.counted steps.new ≤ C.counted steps.old
+        + length (trees_below left.now) + length (trees_below right.now) }
+{
+    let kids: ByPrefix<V> = ByPrefix::new();
+    let others: ByPrefix<W> = ByPrefix::new();
+    match (left.whole, right.whole) {
+        (None, None) => list_sides(alloc, left.children, kids, right.children, others, steps),
+        (None, Some(b)) => {
+            let one = component_at(b, right.from);
+            list_sides(alloc, left.children, kids, one, Itself, steps)
         }
-        Err(k) => {
-            push_times(&mut sides, many, k)?;
-            sides.push(one)?;
-            k
+        (Some(a), None) => {
+            let one = component_at(a, left.from);
+            list_sides(alloc, one, Itself, right.children, others, steps)
         }
-    };
-    push_times(&mut sides, many, count - passed)?;
-    Ok(sides)
+        (Some(a), Some(b)) => {
+            let (one, other) = (component_at(a, left.from), component_at(b, right.from));
+            list_sides(alloc, one, Itself, other, Itself, steps)
+        }
+    }
 }
 
 /// Lays two trees without the fronts of their prefixes side by side. The first `known` components
@@ -157,84 +174,14 @@ pub fn face<
 {
     let p = &a.prefix()[i..];
     let q = &b.prefix()[j..];
-    match find_parting(p, q, known, steps) {
-        Parting::Lower(n) => Ok(Facing {
-            front: n,
-            left: Below::of_tree(a, i + n),
-            right: Below::of_tree(b, j + n),
-            sides: two_sides(alloc, Side::Left, Side::Right)?,
-        }),
-        Parting::Higher(n) => Ok(Facing {
-            front: n,
-            left: Below::of_tree(a, i + n),
-            right: Below::of_tree(b, j + n),
-            sides: two_sides(alloc, Side::Right, Side::Left)?,
-        }),
-        Parting::Inside(n) => {
-            let kids = b.children();
-            let place = child_place(kids, &p[n], steps);
-            Ok(Facing {
-                front: n,
-                left: Below::of_tree(a, i + n),
-                right: Below::of_children(kids),
-                sides: list_around(alloc, place, kids.len(), Side::Right, Side::Left)?,
-            })
-        }
-        Parting::Behind => face_behind(alloc, a, b, j, p.len(), steps),
-    }
-}
-
-/// The same of two trees of which the left one's prefix ends where the right one's has `n`
-/// components more behind its front.
-fn face_behind<
-    'a,
-    'b,
-    K: TKey,
-    V: TValue,
-    W: TValue,
-    A: RadixNode<K, V>,
-    B: RadixNode<K, W>,
-    C: Count,
->(
-    alloc: Global,
-    a: &'a A,
-    b: &'b B,
-    j: usize,
-    n: usize,
-    steps: &mut C,
-) -> Result<Facing<'a, 'b, A, B>, AllocError>
-    requires within { j + n ≤ length (B.tree b.now).prefix }
-    ensures counted { C.counted steps.new ≤ C.counted steps.old
-        + forest_weight (A.tree a.now).children + forest_weight (B.tree b.now).children }
-    ensures paid { IfOk result (λ f. C.counted steps.new
-        ≤ C.counted steps.old + length (trees_below f.left) + length (trees_below f.right)) }
-    ensures left { IfOk result
-        (λ f. IsOpened A.tree (A.tree a.now) [] (trees_below f.left) f.left.from) }
-    ensures right { IfOk result (λ f. IsOpened B.tree (B.tree b.now)
-        (drop (j + n) (B.tree b.now).prefix) (trees_below f.right) f.right.from) }
-    ensures listed { IfOk result (λ f. IsListed
-        (by_component A.tree B.tree f.left.from f.right.from K.cmp) (trees_below f.left)
-        (trees_below f.right) f.sides.items) }
-    ensures front { IfOk result (λ f. f.front ≡ n) }
-{
-    canonical(a);
-    let kids = a.children();
-    let left = Below::of_children(kids);
-    let whole = b.prefix();
-    if j + n < whole.len() {
-        let place = child_place(kids, &whole[j + n], steps);
-        return Ok(Facing {
-            front: n,
-            left,
-            right: Below::of_tree(b, j + n),
-            sides: list_around(alloc, place, kids.len(), Side::Left, Side::Right)?,
-        });
-    }
-    let others = b.children();
+    let front = common_front(p, q, known, steps);
+    let left = below_place(a, i + front);
+    let right = below_place(b, j + front);
+    let sides = list_below(alloc, &left, &right, steps)?;
     Ok(Facing {
-        front: n,
+        front,
         left,
-        right: Below::of_children(others),
-        sides: list_sides(alloc, kids, others, steps)?,
+        right,
+        sides,
     })
 }

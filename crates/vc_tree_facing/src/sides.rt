@@ -1,9 +1,11 @@
 //! The events of two lists of trees, listed by the merge engine as the sides on which they stand.
+//! A tree whose prefix goes on stands there as the list of the one component with which it does.
 
-ghost use Rattle.std.specs.Prelude.{◌≡◌, ◌+◌, ◌≤◌, ◌++◌, replicate, length, IfOk};
+ghost use Rattle.std.specs.Prelude.{◌≡◌, ◌+◌, ◌≤◌, ◌++◌, Option, Some, replicate, length, slice_get, IfOk};
+ghost use Rattle.std.specs.Option.{option_copied};
 ghost use Rattle.vc_merge.specs.Count.{bound};
 ghost use Rattle.vc_merge.specs.Script.{BothAscend};
-ghost use Rattle.vc_tree_facing.specs.Sides.{by_component, by_component_total, lists, IsListed};
+ghost use Rattle.vc_tree_facing.specs.Sides.{by_head, by_head_total, lists, IsListed};
 
 use smallvec::SmallVec;
 use std::alloc::{AllocError, Global};
@@ -64,49 +66,88 @@ pub fn push_times(sides: &mut Sides, side: Side, n: usize) -> Result<(), AllocEr
     Ok(())
 }
 
-/// Lists the events of two lists of trees by the first components of their prefixes.
-#[derive(Drop)]
-struct ListSides<K, V, W> {
-    key: PhantomData<K>,
-    left_value: PhantomData<V>,
-    right_value: PhantomData<W>,
+/// By which components the elements of a list stand in its order.
+pub trait Heads<K, X>: Drop {
+    ghost head: { X → Option K };
+
+    /// The component by which the element stands.
+    fn head<'x>(&self, element: &'x X) -> Option<&'x K>
+        ensures { option_copied result ≡ head element.now };
 }
 
-impl<
-    'a,
-    K: TKey,
-    V: TValue,
-    W: TValue,
-    A: RadixNode<K, V>,
-    B: RadixNode<K, W>,
-    C: Count,
-> MergeOperation<Listing<'a, A, B>, C> for ListSides<K, V, W> {
-    ghost order = { λ _. by_component A.tree B.tree 0 0 K.cmp };
+/// Trees stand by the first components of their prefixes.
+#[derive(Drop)]
+pub struct ByPrefix<V> {
+    values: PhantomData<V>,
+}
+
+impl<V> ByPrefix<V> {
+    /// These heads.
+    pub fn new() -> Self {
+        ByPrefix {
+            values: PhantomData,
+        }
+    }
+}
+
+impl<K: TKey, V: TValue, T: RadixNode<K, V>> Heads<K, T> for ByPrefix<V> {
+    ghost head = { λ t. slice_get (T.tree t).prefix 0 };
+
+    fn head<'x>(&self, element: &'x T) -> Option<&'x K> {
+        element.prefix().first()
+    }
+}
+
+/// A component stands by itself.
+#[derive(Drop)]
+pub struct Itself;
+
+impl<K> Heads<K, K> for Itself {
+    ghost head = { λ x. Some x };
+
+    fn head<'x>(&self, element: &'x K) -> Option<&'x K> {
+        Some(element)
+    }
+}
+
+/// Lists the events of two lists by the heads of their elements.
+#[derive(Drop)]
+struct ListSides<K, F, G> {
+    left: F,
+    right: G,
+    key: PhantomData<K>,
+}
+
+impl<'a, K: TKey, X, Y, F: Heads<K, X>, G: Heads<K, Y>, C: Count> MergeOperation<
+    Listing<'a, X, Y>,
+    C,
+> for ListSides<K, F, G> {
+    ghost order = { λ _. by_head F.head G.head K.cmp };
 
     ghost ready = { λ _ _. Unit {0} };
 
     ghost gives = { λ _. lists (λ s. s.sides.items) };
 
-    ghost total = { λ _. by_component_total A.tree B.tree 0 0 K.total };
+    ghost total = { λ _. by_head_total F.head G.head K.total };
 
-    fn cmp(&self, a: &A, b: &B, steps: &mut C) -> Ordering {
+    fn cmp(&self, a: &X, b: &Y, steps: &mut C) -> Ordering {
         steps.tick();
-        a.prefix().first().cmp(&b.prefix().first())
+        self.left.head(a).cmp(&self.right.head(b))
     }
 
-    fn from_a(&self, state: &mut Listing<'a, A, B>, n: usize) -> Result<bool, AllocError> {
+    fn from_a(&self, state: &mut Listing<'a, X, Y>, n: usize) -> Result<bool, AllocError> {
         push_times(&mut state.sides, Side::Left, n)?;
         state.left = &state.left[n..];
         Ok(true)
     }
 
-    fn from_b(&self, state: &mut Listing<'a, A, B>, n: usize) -> Result<bool, AllocError> {
+    fn from_b(&self, state: &mut Listing<'a, X, Y>, n: usize) -> Result<bool, AllocError> {
         push_times(&mut state.sides, Side::Right, n)?;
         state.right = &state.right[n..];
         Ok(true)
     }
 
-    fn collision(&self, state: &mut Listing<'a, A, B>) -> Result<bool, AllocError> {
+    fn collision(&self, state: &mut Listing<'a, X, Y>) -> Result<bool, AllocError> {
         state.sides.push(Side::Both)?;
         state.left = &state.left[1..];
         state.right = &state.right[1..];
@@ -114,23 +155,25 @@ impl<
     }
 }
 
-/// The sides of the events of two lists of children.
-pub fn list_sides<K: TKey, V: TValue, W: TValue, A: RadixNode<K, V>, B: RadixNode<K, W>, C: Count>(
+/// The sides of the events of two lists, by the heads of their elements.
+pub fn list_sides<K: TKey, X, Y, F: Heads<K, X>, G: Heads<K, Y>, C: Count>(
     alloc: Global,
-    left: &[A],
-    right: &[B],
+    left: &[X],
+    left_heads: F,
+    right: &[Y],
+    right_heads: G,
     steps: &mut C,
 ) -> Result<Sides, AllocError>
-    requires { BothAscend (by_component A.tree B.tree 0 0 K.cmp) left.now right.now }
+    requires { BothAscend (by_head F.head G.head K.cmp) left.now right.now }
     ensures listed { IfOk result
-        (λ sides. IsListed (by_component A.tree B.tree 0 0 K.cmp) left.now right.now sides.items) }
+        (λ sides. IsListed (by_head F.head G.head K.cmp) left.now right.now sides.items) }
     ensures counted { C.counted steps.new
         ≤ C.counted steps.old + bound (length left.now) (length right.now) }
 {
-    let op: ListSides<K, V, W> = ListSides {
+    let op: ListSides<K, F, G> = ListSides {
+        left: left_heads,
+        right: right_heads,
         key: PhantomData,
-        left_value: PhantomData,
-        right_value: PhantomData,
     };
     let mut state = Listing {
         left,

@@ -1,6 +1,6 @@
 -- What a merge that stops at two trees that begin alike has passed.
 use Rattle.std.proofs.Common.{refl, inl, inr}
-use Rattle.vc_tree_facing.proofs.Around.{children-ascend}
+use Rattle.vc_tree_facing.proofs.Components.{children-ascend}
 use Rattle.vc_tree_facing.proofs.Next.{nil-by}
 use Rattle.vc_tree_combines.proofs.Passing.{passed, told-missed, told-meeting, told-end}
 use Rattle.vc_tree_combines.proofs.keys.next_meeting.Goals as goal
