@@ -1,5 +1,5 @@
 //! Maps from outside: look-ups, changes and joins in place, with what a user says of them.
-ghost use Rattle.std.specs.Prelude.{◌≡◌, ◌↔◌, cond, Some, ℕ, IsSome, IsTrue, IfOk, IfSome, IsOk, OnOk, OnErr};
+ghost use Rattle.std.specs.Prelude.{◌≡◌, ◌↔◌, cond, Some, None, ℕ, IsSome, IsTrue, IfOk, IfSome, IsOk, OnOk, OnErr};
 ghost use Rattle.std.specs.Map.{keys_of};
 ghost use Rattle.std.specs.Option.{option_copied};
 ghost use Rattle.std.specs.Ordering.{eq_by_cmp, nat_cmp};
@@ -54,6 +54,16 @@ pub fn correct(stock: &mut Stock, article: u32, pieces: u32) -> bool
     };
     *held = pieces;
     true
+}
+
+/// Takes an article out of stock, and answers how many pieces of it there were. No other article
+/// changes.
+pub fn discontinue(stock: &mut Stock, article: u32) -> Option<u32>
+    ensures held { result ≡ value_at nat_cmp stock.old article }
+    ensures rest { (k : ℕ) → value_at nat_cmp stock.new k
+        ≡ cond (eq_by_cmp nat_cmp k article) None (value_at nat_cmp stock.old k) }
+{
+    stock.remove(&article)
 }
 
 /// Takes a delivery in.

@@ -14,6 +14,7 @@ mod in_place;
 mod iteration;
 mod joins;
 mod mapping;
+mod removal;
 
 pub use crate::fresh::join_asking;
 pub use joins::{inner_join, left_join, outer_join, right_join};
