@@ -346,6 +346,26 @@ fn removes(sides: &Sides, memory: &Memory) -> Result<[[usize; 4]; 3], AllocError
     Ok([held, let_go, sides.holders()])
 }
 
+/// The holders while the first pair is held, which was taken out of a map of two, once it is let go,
+/// and once the map was cleared.
+fn pops(sides: &Sides, memory: &Memory) -> Result<[[usize; 4]; 3], AllocError> {
+    let mut map = sides.left.map(memory, 1, true)?;
+    let first = map.pop_first();
+    let held = sides.holders();
+    drop(first);
+    let let_go = sides.holders();
+    map.clear();
+    Ok([held, let_go, sides.holders()])
+}
+
+#[test]
+fn pairs_that_are_popped_are_handed_over(rt: HostRuntime) -> Result<(), Fail> {
+    let sides = Sides::new(rt.alloc())?;
+    let memory = memory_over(rt.alloc());
+    assert_eq!(rt; pops(&sides, &memory)?, [[3, 3, 1, 1], [2, 2, 1, 1], ALONE]);
+    Ok(())
+}
+
 #[test]
 fn removed_values_are_handed_back(rt: HostRuntime) -> Result<(), Fail> {
     let sides = Sides::new(rt.alloc())?;

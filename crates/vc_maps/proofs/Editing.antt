@@ -1,5 +1,5 @@
 -- What stands at a key of a list of pairs that was searched, and that list with a pair put in or taken out.
-use Rattle.std.proofs.Common.{◌≡◌, ℕ, zero, suc, ◌<◌, Bool, true, false, cond, List, [], ◌∷◌, ◌++◌, length, take, drop, get_or, set, add-one, arith, Option, Some, None, refl, sym, ap, subst, ◌∙◌}
+use Rattle.std.proofs.Common.{◌≡◌, ℕ, zero, suc, ◌<◌, Bool, true, false, cond, List, [], ◌∷◌, ◌++◌, length, take, drop, get_or, set, add-one, arith, Option, Some, None, Result, Ok, Err, is_ok, is_some, refl, sym, ap, subst, ◌∙◌}
 use Rattle.std.proofs.Math.ListN.{take-append-drop}
 use Rattle.std.specs.BTreeMap.{is_at}
 use Rattle.std.specs.Cmp.{IsTotalOrder, Equal-is, alike_right, tied_itself}
@@ -10,7 +10,7 @@ use Rattle.std.specs.Ordering.{eq_by_cmp, is_eq, ordering_reverse}
 use Rattle.std.specs.declared.cmp.Ordering.{Ordering}
 use Rattle.std.specs.declared.cmp.Ordering.TheVariants.{Less, Equal, Greater}
 use Rattle.vc_merge.specs.Ascending.{Ascends}
-use Rattle.vc_merge.specs.Place.{IsFound, IsGap}
+use Rattle.vc_merge.specs.Place.{IsFound, IsGap, IsPlace}
 use Rattle.vc_merge.specs.Yielded.{by_first, keys-ascend}
 use Rattle.vc_merge.proofs.ListLemmas.{pairs-ascend}
 use Rattle.vc_joins.specs.Entries.{AscendsByKey, entry_at, value_at}
@@ -185,6 +185,13 @@ module _ {K V : Type 0} (cmp : K → K → Ordering) (total : IsTotalOrder cmp) 
   pub gap-value : (es : List (K × V)) (key : K) (i : ℕ) → IsGap (λ p. cmp p.0 key) es i → value_at cmp es key ≡ None
   gap-value es key i g = split-value es key (take i es) None (drop i es) (gap-split es key i g)
 
+  -- a place is found where there is a value
+  pub place-has_value : (es : List (K × V)) (key : K) (r : Result ℕ ℕ) → IsPlace (λ p. cmp p.0 key) es r → is_ok r ≡ is_some (value_at cmp es key)
+  place-has_value es key (Ok i) f =
+      let s = found-split es key i f in
+      sym (ap is_some (split-value es key (take i es) (Some s.0) (drop (suc i) es) s.1))
+  place-has_value es key (Err i) g = sym (ap is_some (gap-value es key i g))
+
   -- what a list is once a pair stands at its key
   pub record IsPut (es : List (K × V)) (key : K) (value : V) (new : List (K × V)) : Type 0 where
     pub ascends : AscendsByKey cmp new
@@ -274,3 +281,9 @@ module _ {K V : Type 0} (cmp : K → K → Ordering) (total : IsTotalOrder cmp) 
   gap-taken es slice key i e f p =
       let g : IsGap (λ (p : K × V). cmp p.0 key) es i = subst (λ l. IsGap (λ (p : K × V). cmp p.0 key) l i) e f in
       taken-of es es key (take i es) None (drop i es) (gap-split es key i g) p (sym (take-append-drop i es))
+
+  -- without the first pair
+  pub rest-ascends : (es : List (K × V)) → AscendsByKey cmp es → AscendsByKey cmp (drop (suc zero) es)
+  unfolding IsStrictlySortedBy
+  rest-ascends [] p = tt
+  rest-ascends (e ∷ es) p = p.1

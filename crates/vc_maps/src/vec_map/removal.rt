@@ -1,5 +1,5 @@
-//! One pair taken out of a map by its key.
-ghost use Rattle.std.specs.Prelude.{◌≡◌, cond, None};
+//! Pairs taken out of a map: one by its key, or all.
+ghost use Rattle.std.specs.Prelude.{◌≡◌, [], cond, None};
 ghost use Rattle.std.specs.Ordering.{eq_by_cmp};
 ghost use Rattle.vc_joins.specs.Entries.{entry_at, value_at};
 
@@ -37,5 +37,13 @@ where
             }
             Err(_) => None,
         }
+    }
+
+    /// Drops all pairs. The list keeps its room, so that as many can come again without memory.
+    /// Takes no memory.
+    pub fn clear(&mut self)
+        ensures { self.new ≡ [] }
+    {
+        self.pairs.clear();
     }
 }
