@@ -1,5 +1,5 @@
 //! Maps from outside: look-ups, changes and joins in place, with what a user says of them.
-ghost use Rattle.std.specs.Prelude.{◌≡◌, ◌↔◌, cond, Some, ℕ, IsSome, IsTrue, IfOk, IfSome, IsOk, OnOk, OnErr};
+ghost use Rattle.std.specs.Prelude.{◌≡◌, ◌-◌, ◌↔◌, [], cond, drop, length, slice_get, take, Some, None, ℕ, IsSome, IsTrue, IfOk, IfSome, IsOk, OnOk, OnErr};
 ghost use Rattle.std.specs.Map.{keys_of};
 ghost use Rattle.std.specs.Option.{option_copied};
 ghost use Rattle.std.specs.Ordering.{eq_by_cmp, nat_cmp};
@@ -54,6 +54,54 @@ pub fn correct(stock: &mut Stock, article: u32, pieces: u32) -> bool
     };
     *held = pieces;
     true
+}
+
+/// Takes an article out of stock, and answers how many pieces of it there were. No other article
+/// changes.
+pub fn discontinue(stock: &mut Stock, article: u32) -> Option<u32>
+    ensures held { result ≡ value_at nat_cmp stock.old article }
+    ensures rest { (k : ℕ) → value_at nat_cmp stock.new k
+        ≡ cond (eq_by_cmp nat_cmp k article) None (value_at nat_cmp stock.old k) }
+{
+    stock.remove(&article)
+}
+
+/// Whether an article is in stock.
+pub fn is_listed(stock: &Stock, article: u32) -> bool
+    ensures { IsTrue result ↔ IsSome (value_at nat_cmp stock.now article) }
+{
+    stock.contains_key(&article)
+}
+
+/// The articles with the least and the greatest number, or none where nothing is in stock.
+pub fn ends(stock: &Stock) -> (Option<&(u32, u32)>, Option<&(u32, u32)>)
+    ensures least { option_copied result.0 ≡ slice_get stock.now 0 }
+    ensures greatest { option_copied result.1 ≡ slice_get stock.now (length stock.now - 1) }
+{
+    (stock.first(), stock.last())
+}
+
+/// Takes the article with the least number out of stock.
+pub fn take_least(stock: &mut Stock) -> Option<(u32, u32)>
+    ensures least { result ≡ slice_get stock.old 0 }
+    ensures rest { stock.new ≡ drop 1 stock.old }
+{
+    stock.pop_first()
+}
+
+/// Takes the article with the greatest number out of stock.
+pub fn take_greatest(stock: &mut Stock) -> Option<(u32, u32)>
+    ensures greatest { result ≡ slice_get stock.old (length stock.old - 1) }
+    ensures rest { stock.new ≡ take (length stock.old - 1) stock.old }
+{
+    stock.pop_last()
+}
+
+/// Takes all articles out of stock.
+pub fn sell_out(stock: &mut Stock)
+    ensures { stock.new ≡ [] }
+{
+    stock.clear();
 }
 
 /// Takes a delivery in.

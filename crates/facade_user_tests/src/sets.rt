@@ -1,5 +1,6 @@
 //! Sets from outside: each call, operator and iteration, with what a user says of it.
-ghost use Rattle.std.specs.Prelude.{◌≡◌, ◌==◌, ◌||◌, ◌&&◌, ◌↔◌, ◌≤◌, ◌%◌, not, IfOk, IfSome, IsNone, OnOk, OnErr, IsOk, IsTrue, Some, [], ◌∷◌, ℕ, length, count_by, filter, nat_le};
+ghost use Rattle.std.specs.Prelude.{◌≡◌, ◌==◌, ◌||◌, ◌&&◌, ◌↔◌, ◌≤◌, ◌-◌, ◌%◌, not, IfOk, IfSome, IsNone, OnOk, OnErr, IsOk, IsTrue, Some, [], ◌∷◌, ℕ, length, count_by, drop, filter, nat_le, slice_get, take};
+ghost use Rattle.std.specs.Option.{option_copied};
 ghost use Rattle.std.specs.Ordering.{nat_cmp};
 ghost use Rattle.vec_collections.specs.Ascending.{member};
 ghost use Rattle.std.specs.Hash as fed;
@@ -204,6 +205,37 @@ pub fn rename(tags: &mut Tags, from: u32, to: u32) -> Result<bool, AllocError>
     tags.remove(&from);
     tags.insert(to)?;
     Ok(found)
+}
+
+/// The least and the greatest tag, or none where there is no tag.
+pub fn ends(tags: &Tags) -> (Option<&u32>, Option<&u32>)
+    ensures least { option_copied result.0 ≡ slice_get tags.now 0 }
+    ensures greatest { option_copied result.1 ≡ slice_get tags.now (length tags.now - 1) }
+{
+    (tags.first(), tags.last())
+}
+
+/// Takes the least tag out, and answers it.
+pub fn take_least(tags: &mut Tags) -> Option<u32>
+    ensures least { result ≡ slice_get tags.old 0 }
+    ensures rest { tags.new ≡ drop 1 tags.old }
+{
+    tags.pop_first()
+}
+
+/// Takes the greatest tag out, and answers it.
+pub fn take_greatest(tags: &mut Tags) -> Option<u32>
+    ensures greatest { result ≡ slice_get tags.old (length tags.old - 1) }
+    ensures rest { tags.new ≡ take (length tags.old - 1) tags.old }
+{
+    tags.pop_last()
+}
+
+/// Drops all tags.
+pub fn drop_all(tags: &mut Tags)
+    ensures { tags.new ≡ [] }
+{
+    tags.clear();
 }
 
 /// Drops the tags below a limit, and keeps all others.

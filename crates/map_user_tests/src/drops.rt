@@ -330,6 +330,53 @@ fn keep_first(sides: &Sides, map: &mut Map<'_>) -> [usize; 4] {
     sides.holders()
 }
 
+/// The holders after a pair was removed, while its value is held and once that is let go.
+fn remove_second(sides: &Sides, map: &mut Map<'_>) -> [[usize; 4]; 2] {
+    let value = map.remove(&numbered(2));
+    let held = sides.holders();
+    drop(value);
+    [held, sides.holders()]
+}
+
+/// Those holders of a map of two pairs, and those once the map is gone.
+fn removes(sides: &Sides, memory: &Memory) -> Result<[[usize; 4]; 3], AllocError> {
+    let mut map = sides.left.map(memory, 1, true)?;
+    let [held, let_go] = remove_second(sides, &mut map);
+    drop(map);
+    Ok([held, let_go, sides.holders()])
+}
+
+/// The holders while the first pair is held, which was taken out of a map of two, once it is let go,
+/// and once the map was cleared.
+fn pops(sides: &Sides, memory: &Memory) -> Result<[[usize; 4]; 3], AllocError> {
+    let mut map = sides.left.map(memory, 1, true)?;
+    let first = map.pop_first();
+    let held = sides.holders();
+    drop(first);
+    let let_go = sides.holders();
+    map.clear();
+    Ok([held, let_go, sides.holders()])
+}
+
+#[test]
+fn pairs_that_are_popped_are_handed_over(rt: HostRuntime) -> Result<(), Fail> {
+    let sides = Sides::new(rt.alloc())?;
+    let memory = memory_over(rt.alloc());
+    assert_eq!(rt; pops(&sides, &memory)?, [[3, 3, 1, 1], [2, 2, 1, 1], ALONE]);
+    Ok(())
+}
+
+#[test]
+fn removed_values_are_handed_back(rt: HostRuntime) -> Result<(), Fail> {
+    let sides = Sides::new(rt.alloc())?;
+    let memory = memory_over(rt.alloc());
+    assert_eq!(rt;
+        removes(&sides, &memory)?,
+        [[2, 3, 1, 1], [2, 2, 1, 1], ALONE]
+    );
+    Ok(())
+}
+
 /// The holders after the first pair was taken out of a map, which is left in an iterator, and after
 /// the iterator is gone.
 fn take_first(sides: &Sides, map: Map<'_>) -> ([usize; 4], [usize; 4]) {

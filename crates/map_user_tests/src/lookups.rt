@@ -16,6 +16,7 @@ enum Call {
     Get,
     GetMut,
     Insert,
+    Remove,
 }
 
 /// The key of a number, which counts its comparisons.
@@ -44,13 +45,18 @@ fn comparisons<'a>(
 ) -> Result<u128, AllocError> {
     let sought = key(number, count);
     count.set(0);
-    let _is_in = match call {
+    let is_in = match call {
         Call::Get => map.get(&sought).is_some(),
         Call::GetMut => map.get_mut(&sought).is_some(),
         Call::Insert => map.insert(sought, 1)?.is_some(),
+        Call::Remove => map.remove(&sought).is_some(),
     };
     map.retain(|pair| pair.0.number % 2 == 0);
-    Ok(count.get())
+    let compared = count.get();
+    if is_in {
+        map.insert(key(number, count), 1)?;
+    }
+    Ok(compared)
 }
 
 /// Whether the call compares no more often than the bound, at each key of the map and beside it.
@@ -77,7 +83,7 @@ fn length_stays_within(alloc: Global, call: Call, row: (u32, u128)) -> Result<bo
 
 #[test]
 fn look_ups_stay_within_their_bound(rt: HostRuntime) -> Result<(), Fail> {
-    for call in [Call::Get, Call::GetMut, Call::Insert] {
+    for call in [Call::Get, Call::GetMut, Call::Insert, Call::Remove] {
         for row in LOOK_UPS {
             assert!(rt;
                 length_stays_within(rt.alloc(), call, row)?,

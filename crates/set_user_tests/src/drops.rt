@@ -378,6 +378,29 @@ fn keep_first(six: &Six, set: &mut Set<'_>) -> [usize; 6] {
     six.holders()
 }
 
+/// The holders while the least and the greatest element are held, which were taken out of a set,
+/// once they are let go, and once the set was cleared.
+fn pops(six: &Six, memory: &Memory) -> Result<[[usize; 6]; 3], AllocError> {
+    let mut set: Set<'_> = set_of(memory, six.left.as_slice(), true)?;
+    let ends = (set.pop_first(), set.pop_last());
+    let held = six.holders();
+    drop(ends);
+    let let_go = six.holders();
+    set.clear();
+    Ok([held, let_go, six.holders()])
+}
+
+#[test]
+fn elements_that_are_popped_are_handed_over(rt: HostRuntime) -> Result<(), Fail> {
+    let six = Six::new(rt.alloc())?;
+    let memory = Nth::new(Nth::new(rt.alloc(), 0), 0);
+    assert_eq!(rt;
+        pops(&six, &memory)?,
+        [[2, 2, 2, 1, 1, 1], [1, 2, 1, 1, 1, 1], ALONE]
+    );
+    Ok(())
+}
+
 /// The holders after the first element was taken out of a set, which is left in an iterator, and
 /// after the iterator is gone.
 fn take_first(six: &Six, set: Set<'_>) -> ([usize; 6], [usize; 6]) {

@@ -29,6 +29,8 @@ enum Read {
 #[derive(Clone, Copy, Debug)]
 enum Change {
     Remove,
+    Pop,
+    Refill,
     Retain,
     InsertKnown,
     IntersectionWith,
@@ -55,7 +57,7 @@ enum Call {
     Take(Take),
 }
 
-const CALLS: [Call; 18] = [
+const CALLS: [Call; 20] = [
     Call::Read(Read::Look),
     Call::Read(Read::Test),
     Call::Read(Read::TestCounted),
@@ -63,6 +65,8 @@ const CALLS: [Call; 18] = [
     Call::Read(Read::Hash),
     Call::Read(Read::Walk),
     Call::Change(Change::Remove),
+    Call::Change(Change::Pop),
+    Call::Change(Change::Refill),
     Call::Change(Change::Retain),
     Call::Change(Change::InsertKnown),
     Call::Change(Change::IntersectionWith),
@@ -107,6 +111,8 @@ impl Change {
                 left.remove(&1);
                 left.remove(&1);
             }
+            Change::Pop => pop(left),
+            Change::Refill => refill(left, right),
             Change::Retain => left.retain(|element| element % 2 == 1),
             Change::InsertKnown => insert_known(left, right),
             Change::IntersectionWith => left.intersection_with(right),
@@ -146,6 +152,7 @@ fn look<'s, 'a>(set: &'s Numbers<'a>) {
     let _few = (set.len(), set.is_empty(), set.as_ref().len());
     let _in_trait = (AbstractVecSet::is_empty(set), set.contains(&2));
     let _length = AbstractVecSet::as_slice(set).len();
+    let _ends = (set.first(), set.last());
 }
 
 /// Tests two sets.
@@ -190,6 +197,25 @@ fn walk<'s, 'a>(left: &'s Numbers<'a>, right: &'s Numbers<'a>) {
     }
     for element in AbstractVecSet::iter(left) {
         let _is_in = right.contains(element);
+    }
+}
+
+/// Takes out elements at both ends, until none is left.
+fn pop<'s, 'a>(set: &'s mut Numbers<'a>) {
+    for _ in 0..set.len() {
+        set.pop_first();
+        set.pop_last();
+    }
+}
+
+/// Clears a set, and puts in as many elements of another one as it had.
+fn refill<'s, 'a>(left: &'s mut Numbers<'a>, right: &'s Numbers<'a>) {
+    let length = left.len();
+    left.clear();
+    for element in right {
+        if left.len() < length {
+            let _always = left.insert(*element);
+        }
     }
 }
 

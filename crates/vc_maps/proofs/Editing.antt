@@ -1,5 +1,5 @@
--- What stands at a key of a list of pairs that was searched, and that list with a pair put in.
-use Rattle.std.proofs.Common.{◌≡◌, ℕ, zero, suc, ◌<◌, Bool, true, false, cond, List, [], ◌∷◌, ◌++◌, length, take, drop, get_or, set, add-one, arith, Option, Some, None, refl, sym, ap, subst, ◌∙◌}
+-- What stands at a key of a list of pairs that was searched, and that list with a pair put in or taken out.
+use Rattle.std.proofs.Common.{◌≡◌, ℕ, zero, suc, ◌<◌, Bool, true, false, cond, List, [], ◌∷◌, ◌++◌, length, take, drop, get_or, set, add-one, arith, Option, Some, None, Result, Ok, Err, is_ok, is_some, refl, sym, ap, subst, ◌∙◌}
 use Rattle.std.proofs.Math.ListN.{take-append-drop}
 use Rattle.std.specs.BTreeMap.{is_at}
 use Rattle.std.specs.Cmp.{IsTotalOrder, Equal-is, alike_right, tied_itself}
@@ -10,7 +10,7 @@ use Rattle.std.specs.Ordering.{eq_by_cmp, is_eq, ordering_reverse}
 use Rattle.std.specs.declared.cmp.Ordering.{Ordering}
 use Rattle.std.specs.declared.cmp.Ordering.TheVariants.{Less, Equal, Greater}
 use Rattle.vc_merge.specs.Ascending.{Ascends}
-use Rattle.vc_merge.specs.Place.{IsFound, IsGap}
+use Rattle.vc_merge.specs.Place.{IsFound, IsGap, IsPlace}
 use Rattle.vc_merge.specs.Yielded.{by_first, keys-ascend}
 use Rattle.vc_merge.proofs.ListLemmas.{pairs-ascend}
 use Rattle.vc_joins.specs.Entries.{AscendsByKey, entry_at, value_at}
@@ -185,6 +185,13 @@ module _ {K V : Type 0} (cmp : K → K → Ordering) (total : IsTotalOrder cmp) 
   pub gap-value : (es : List (K × V)) (key : K) (i : ℕ) → IsGap (λ p. cmp p.0 key) es i → value_at cmp es key ≡ None
   gap-value es key i g = split-value es key (take i es) None (drop i es) (gap-split es key i g)
 
+  -- a place is found where there is a value
+  pub place-has_value : (es : List (K × V)) (key : K) (r : Result ℕ ℕ) → IsPlace (λ p. cmp p.0 key) es r → is_ok r ≡ is_some (value_at cmp es key)
+  place-has_value es key (Ok i) f =
+      let s = found-split es key i f in
+      sym (ap is_some (split-value es key (take i es) (Some s.0) (drop (suc i) es) s.1))
+  place-has_value es key (Err i) g = sym (ap is_some (gap-value es key i g))
+
   -- what a list is once a pair stands at its key
   pub record IsPut (es : List (K × V)) (key : K) (value : V) (new : List (K × V)) : Type 0 where
     pub ascends : AscendsByKey cmp new
@@ -211,3 +218,72 @@ module _ {K V : Type 0} (cmp : K → K → Ordering) (total : IsTotalOrder cmp) 
   gap-put es slice new key value i e f p n =
       let g : IsGap (λ (p : K × V). cmp p.0 key) es i = subst (λ l. IsGap (λ (p : K × V). cmp p.0 key) l i) e f in
       put-of es new key value (take i es) None (drop i es) (gap-split es key i g) p n
+
+  -- ---- a pair taken out
+
+  taken-entries : (es new : List (K × V)) (key : K) (front : List (K × V)) (mid : Option (K × V)) (back : List (K × V))
+      → IsSplit es key front mid back → new ≡ front ++ back
+      → (k : K) → entry_at cmp new k ≡ cond (eq_by_cmp cmp k key) None (entry_at cmp es k)
+  taken-entries es new key front mid back s e k =
+      let b = eq_by_cmp cmp k key in
+      split-by new key front None back (record { is = e; before = s.before; at = tt; behind = s.behind }) k b refl
+      ∙ put-by b None (entry_at cmp es k) mid (option_or (entry_at cmp front k) (entry_at cmp back k)) (split-by es key front mid back s k b refl)
+
+  no-value-by : (b : Bool) (o : Option (K × V)) → option_map (λ p. p.1) (cond b None o) ≡ cond b None (option_map (λ p. p.1) o)
+  no-value-by true o = refl
+  no-value-by false o = refl
+
+  taken-values : (es new : List (K × V)) (key : K) → ((k : K) → entry_at cmp new k ≡ cond (eq_by_cmp cmp k key) None (entry_at cmp es k))
+      → (k : K) → value_at cmp new k ≡ cond (eq_by_cmp cmp k key) None (value_at cmp es k)
+  taken-values es new key h k =
+      value-entry cmp new k ∙ ap (λ o. option_map (λ p. p.1) o) (h k)
+      ∙ no-value-by (eq_by_cmp cmp k key) (entry_at cmp es k)
+      ∙ ap (λ o. cond (eq_by_cmp cmp k key) None o) (sym (value-entry cmp es k))
+
+  taken-ascends_by : (front : List (K × V)) (mid : Option (K × V)) (back : List (K × V))
+      → Ascends (by_first cmp) (front ++ cons_option mid back) → Ascends (by_first cmp) (front ++ back)
+  unfolding IsStrictlySortedBy
+  taken-ascends_by [] mid back s = back-ascends mid back s
+  taken-ascends_by (x ∷ front) mid back s =
+      let P : K × V → Type 0 = λ y. by_first cmp x y ≡ Less in (
+        each-both P front back (each-front P front (cons_option mid back) s.0) (each-of_back P mid back (each-back P front (cons_option mid back) s.0)),
+        taken-ascends_by front mid back s.1,
+      )
+
+  taken-ascends : (es new : List (K × V)) (key : K) (front : List (K × V)) (mid : Option (K × V)) (back : List (K × V))
+      → IsSplit es key front mid back → new ≡ front ++ back → AscendsByKey cmp es → AscendsByKey cmp new
+  taken-ascends es new key front mid back s e p =
+      subst (λ l. AscendsByKey cmp l) (sym e) (keys-ascend cmp (front ++ back)
+      (taken-ascends_by front mid back (subst (λ l. Ascends (by_first cmp) l) s.is (pairs-ascend cmp es p))))
+
+  -- what a list is once nothing stands at a key
+  pub record IsTaken (es : List (K × V)) (key : K) (new : List (K × V)) : Type 0 where
+    pub ascends : AscendsByKey cmp new
+    pub entries : (k : K) → entry_at cmp new k ≡ cond (eq_by_cmp cmp k key) None (entry_at cmp es k)
+    pub values : (k : K) → value_at cmp new k ≡ cond (eq_by_cmp cmp k key) None (value_at cmp es k)
+
+  taken-of : (es new : List (K × V)) (key : K) (front : List (K × V)) (mid : Option (K × V)) (back : List (K × V))
+      → IsSplit es key front mid back → AscendsByKey cmp es → new ≡ front ++ back → IsTaken es key new
+  taken-of es new key front mid back s p e =
+      let h = taken-entries es new key front mid back s e in
+      record { ascends = taken-ascends es new key front mid back s e p; entries = h; values = taken-values es new key h }
+
+  -- without the pair that has an equal key
+  pub found-taken : (es slice new : List (K × V)) (key : K) (i : ℕ) → slice ≡ es → IsFound (λ p. cmp p.0 key) slice i
+      → AscendsByKey cmp es → new ≡ take i es ++ drop (suc i) es → IsTaken es key new
+  found-taken es slice new key i e f p n =
+      let g : IsFound (λ (p : K × V). cmp p.0 key) es i = subst (λ l. IsFound (λ (p : K × V). cmp p.0 key) l i) e f in
+      let s = found-split es key i g in
+      taken-of es new key (take i es) (Some s.0) (drop (suc i) es) s.1 p n
+
+  -- where no pair has an equal key
+  pub gap-taken : (es slice : List (K × V)) (key : K) (i : ℕ) → slice ≡ es → IsGap (λ p. cmp p.0 key) slice i → AscendsByKey cmp es → IsTaken es key es
+  gap-taken es slice key i e f p =
+      let g : IsGap (λ (p : K × V). cmp p.0 key) es i = subst (λ l. IsGap (λ (p : K × V). cmp p.0 key) l i) e f in
+      taken-of es es key (take i es) None (drop i es) (gap-split es key i g) p (sym (take-append-drop i es))
+
+  -- without the first pair
+  pub rest-ascends : (es : List (K × V)) → AscendsByKey cmp es → AscendsByKey cmp (drop (suc zero) es)
+  unfolding IsStrictlySortedBy
+  rest-ascends [] p = tt
+  rest-ascends (e ∷ es) p = p.1

@@ -1,5 +1,5 @@
 //! `VecMap`, a small map as a list of pairs that ascends by key.
-ghost use Rattle.std.specs.Prelude.{◌≡◌, ◌<◌, ◌↔◌, [], List, cond, Some, IsSome, length, IfOk, IsOk, OnErr, IsTrue};
+ghost use Rattle.std.specs.Prelude.{◌≡◌, ◌<◌, ◌-◌, ◌↔◌, [], List, cond, Some, IsSome, is_some, length, slice_get, IfOk, IsOk, OnErr, IsTrue};
 ghost use Rattle.std.specs.Borrow.{sem};
 ghost use Rattle.std.specs.Option.{option_copied, option_copied_mut};
 ghost use Rattle.std.specs.Ordering.{eq_by_cmp};
@@ -14,6 +14,8 @@ mod in_place;
 mod iteration;
 mod joins;
 mod mapping;
+mod ordered;
+mod removal;
 
 pub use crate::fresh::join_asking;
 pub use joins::{inner_join, left_join, outer_join, right_join};
@@ -189,6 +191,30 @@ pub trait AbstractVecMap<K: Ord, V> {
             Ok(place) => Some(&pairs[place].1),
             Err(_) => None,
         }
+    }
+
+    /// Whether a key is equal to `key`. Compares as often as `get`, and takes no memory.
+    fn contains_key(&self, key: &K) -> bool
+        ensures { result ≡ is_some (value_at K.cmp (pairs self.now) key.now) }
+    {
+        find_key(self.as_slice(), key).is_ok()
+    }
+
+    /// The pair with the least key, or none where there is no pair. Compares none, and takes no
+    /// memory.
+    fn first(&self) -> Option<&(K, V)>
+        ensures { option_copied result ≡ slice_get (pairs self.now) 0 }
+    {
+        self.as_slice().first()
+    }
+
+    /// The pair with the greatest key, or none where there is no pair. Compares none, and takes no
+    /// memory.
+    fn last(&self) -> Option<&(K, V)>
+        ensures { option_copied result
+            ≡ slice_get (pairs self.now) (length (pairs self.now) - 1) }
+    {
+        self.as_slice().last()
     }
 
     /// The pairs in ascending order of their keys, by reference. Takes no memory.

@@ -33,7 +33,7 @@ module _ {X : Type 0} where
   each-set P (y ∷ ys) (suc i) x h p = (p.0, each-set P ys i x h p.1)
 
 module _ {X : Type 0} (cmp : X → X → Ordering) (total : IsTotalOrder cmp) where
-  ascends-front : (xs ys : List X) → Ascends cmp (xs ++ ys) → Ascends cmp xs
+  pub ascends-front : (xs ys : List X) → Ascends cmp (xs ++ ys) → Ascends cmp xs
   unfolding IsStrictlySortedBy
   ascends-front [] ys p = tt
   ascends-front (x ∷ xs) ys p = (each-front (λ y. cmp x y ≡ Less) xs ys p.0, ascends-front xs ys p.1)

@@ -1,5 +1,6 @@
 //! `VecSet`, a small set as an ascending list.
-ghost use Rattle.std.specs.Prelude.{◌≡◌, ◌<◌, ◌||◌, ◌↔◌, [], ◌==◌, List, not, cond, Some, length, IfOk, IsOk, OnErr, IsTrue};
+ghost use Rattle.std.specs.Prelude.{◌≡◌, ◌<◌, ◌-◌, ◌||◌, ◌↔◌, [], ◌==◌, List, not, cond, Some, length, slice_get, IfOk, IsOk, OnErr, IsTrue};
+ghost use Rattle.std.specs.Option.{option_copied};
 ghost use Rattle.std.specs.Ordering.{eq_by_cmp};
 ghost use Rattle.vc_merge.specs.Ascending.{Ascends, member, element_at};
 ghost use Rattle.vc_sets.specs.Iterating.{Shows};
@@ -10,6 +11,7 @@ mod comparisons;
 pub mod conversions;
 mod in_place;
 mod iteration;
+mod ordered;
 mod removal;
 
 pub use algebra::{SetOp, SetTest, difference, intersection, symmetric_difference, union};
@@ -167,6 +169,21 @@ pub trait AbstractVecSet<T: Ord> {
         ensures { IsTrue result ↔ (elements self.now ≡ []) }
     {
         self.as_slice().is_empty()
+    }
+
+    /// The least element, or none where there is no element. Compares none, and takes no memory.
+    fn first(&self) -> Option<&T>
+        ensures { option_copied result ≡ slice_get (elements self.now) 0 }
+    {
+        self.as_slice().first()
+    }
+
+    /// The greatest element, or none where there is no element. Compares none, and takes no memory.
+    fn last(&self) -> Option<&T>
+        ensures { option_copied result
+            ≡ slice_get (elements self.now) (length (elements self.now) - 1) }
+    {
+        self.as_slice().last()
     }
 
     /// The elements in ascending order, by reference. Takes no memory.

@@ -1,5 +1,5 @@
 //! Elements taken out of a set, and the list made smaller.
-ghost use Rattle.std.specs.Prelude.{◌≡◌, ◌&&◌, not, cond, filter, Bool, None, IsOk, IsTrue};
+ghost use Rattle.std.specs.Prelude.{◌≡◌, ◌&&◌, [], not, cond, filter, Bool, None, IsOk, IsTrue};
 ghost use Rattle.std.specs.Fn.{CalledAt};
 ghost use Rattle.std.specs.Iterator.{CallableOnAllAt, YieldsFirst};
 ghost use Rattle.std.specs.List.Retain.{IsFiltered};
@@ -53,6 +53,14 @@ impl<T: Ord + MadeWith<A> + Drop, const N: usize, A: Allocator + Copy> VecSet<T,
     {
         let kept = keep_in_front(self.elements.as_mut_slice(), f);
         self.elements.truncate(kept);
+    }
+
+    /// Drops all elements. The list keeps its room, so that as many can come again without memory;
+    /// `shrink_to_fit` gives it back. Takes no memory.
+    pub fn clear(&mut self)
+        ensures { self.new ≡ [] }
+    {
+        self.elements.clear();
     }
 
     /// Gives back memory that the elements do not need. A refusal leaves the list where it is, so

@@ -1,0 +1,49 @@
+//! Pairs taken out of a map: one by its key, or all.
+ghost use Rattle.std.specs.Prelude.{◌≡◌, [], cond, None};
+ghost use Rattle.std.specs.Ordering.{eq_by_cmp};
+ghost use Rattle.vc_joins.specs.Entries.{entry_at, value_at};
+
+use super::VecMap;
+use std::alloc::Allocator;
+use std::default::MadeWith;
+use vc_merge::search::find_key;
+
+impl<K: Ord + Drop, V: Drop, const N: usize, A: Allocator + Copy> VecMap<K, V, N, A>
+where
+    (K, V): MadeWith<A>,
+{
+    /// Takes out the pair whose key is equal to `key`, and hands back its value, or none where no
+    /// such pair is held. The key that was held is dropped; all other pairs stay, and so does the
+    /// room of the list.
+    ///
+    /// Compares fewer than `1.5 * log2(n) + 4` times among `n` pairs, moves the pairs behind that
+    /// one, and takes no memory.
+    ///
+    /// ```
+    /// assert!(ports.remove(&80) == Some(true));
+    /// assert!(ports.get(&80).is_none());
+    /// ```
+    pub fn remove(&mut self, key: &K) -> Option<V>
+        ensures old { result ≡ value_at K.cmp self.old key.now }
+        ensures values { (k : K) → value_at K.cmp self.new k
+            ≡ cond (eq_by_cmp K.cmp k key.now) None (value_at K.cmp self.old k) }
+        ensures entries { (k : K) → entry_at K.cmp self.new k
+            ≡ cond (eq_by_cmp K.cmp k key.now) None (entry_at K.cmp self.old k) }
+    {
+        match find_key(self.pairs.as_slice(), key) {
+            Ok(place) => {
+                let (_, value) = self.pairs.remove(place);
+                Some(value)
+            }
+            Err(_) => None,
+        }
+    }
+
+    /// Drops all pairs. The list keeps its room, so that as many can come again without memory.
+    /// Takes no memory.
+    pub fn clear(&mut self)
+        ensures { self.new ≡ [] }
+    {
+        self.pairs.clear();
+    }
+}
