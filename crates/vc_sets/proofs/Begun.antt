@@ -16,9 +16,9 @@ use Rattle.vc_merge.specs.Building.{Extends}
 use Rattle.vc_merge.specs.Gathering.{Gathers, GivesIf, Appends, IsBuilt}
 use Rattle.vc_merge.proofs.Builds.{appends-nothing, appends-append}
 use Rattle.vc_merge.proofs.Scripts.{put-lefts, put-rights, put-both, below-rights, below-lefts, turned}
-use Rattle.vc_sets.specs.Begun.{IsBegun, kept_of}
+use Rattle.vc_sets.specs.Begun.{IsBegun, kept_of, lesser_of}
 use Rattle.vc_sets.specs.SetOf.{IsSetOf}
-use Rattle.vc_sets.specs.Select.{both_sides, both_sides-total, KeptAt}
+use Rattle.vc_sets.specs.Select.{both_sides, both_sides-total, KeptAt, keeps}
 use Rattle.vc_sets.proofs.Selected.{set-of}
 
 -- what a `const` of a function says by its number
@@ -30,6 +30,11 @@ set-true n h = ap not (ne_eqb n 0 h)
 
 pub set-false : (n : ℕ) → n ≡ 0 → is_set n ≡ false
 set-false n e = ap is_set e
+
+-- each event keeps an element
+pub keeps-each : (left right both : ℕ) → (left ≡ 0 → ⊥) → (right ≡ 0 → ⊥) → (both ≡ 0 → ⊥) → keeps (is_set left) (is_set right) (is_set both) ≡ keeps true true true
+keeps-each left right both l r b =
+    ap (λ n. keeps n (is_set right) (is_set both)) (set-true left l) ∙ ap (λ n. keeps true n (is_set both)) (set-true right r) ∙ ap (λ n. keeps true true n) (set-true both b)
 
 -- the event of two heads that compare so
 abbrev event_at : {X : Type 0} → Ordering → X → X → Event X X
@@ -43,6 +48,21 @@ from_left o = from_bool (is_le o)
 
 abbrev from_right : Ordering → ℕ
 from_right o = from_bool (is_ge o)
+
+-- what one event gives
+appends-one : {X : Type 0} (gives : Event X X → List X → Type 0) (e : Event X X) (zs old new : List X) → gives e zs → new ≡ old ++ zs → Appends gives (e ∷ []) old new
+appends-one gives e zs old new k i = record {
+  added = zs;
+  gathered = (zs, [], k, refl, sym (append-nil zs));
+  items = i;
+}
+
+-- a clone of the lesser head, where an element of each event is kept
+pub appends-clone : {X : Type 0} (from : X → X → Type 0) (x y z : X) (old new : List X) (o : Ordering) → from (lesser_of o x y) z → new ≡ old ++ z ∷ []
+    → Appends (KeptAt (keeps true true true) from from) (event_at o x y ∷ []) old new
+appends-clone from x y z old new Less c i = appends-one (KeptAt (keeps true true true) from from) (left_alone x) (z ∷ []) old new (z, c, refl) i
+appends-clone from x y z old new Equal c i = appends-one (KeptAt (keeps true true true) from from) (collision x y) (z ∷ []) old new (z, c, refl) i
+appends-clone from x y z old new Greater c i = appends-one (KeptAt (keeps true true true) from from) (right_alone y) (z ∷ []) old new (z, c, refl) i
 
 module _ {X : Type 0} (cmp : X → X → Ordering) (total : IsTotalOrder cmp) (f : Bool → Bool → Bool) where
   module _ (from : X → X → Type 0) where
@@ -90,46 +110,39 @@ module _ {X : Type 0} (cmp : X → X → Ordering) (total : IsTotalOrder cmp) (f
       ascend = record { left = p.left; right = p.right.1 };
     }
 
+    -- the event at the fronts of two lists
+    at-fronts : (xs ys ls rs old new : List X) (x y : X) (o : Ordering) → xs ≡ x ∷ ls → ys ≡ y ∷ rs → cmp x y ≡ o → BothAscend (both_sides cmp) xs ys
+        → Appends (KeptAt f from from) (event_at o x y ∷ []) old new → IsBegun cmp from f xs ys (drop (from_left o) xs) (drop (from_right o) ys) old new
+    at-fronts xs ys ls rs old new x y o p q e s i =
+        subst (λ l. IsBegun cmp from f l ys (drop (from_left o) l) (drop (from_right o) ys) old new) (sym p)
+        (subst (λ l. IsBegun cmp from f (x ∷ ls) l (drop (from_left o) (x ∷ ls)) (drop (from_right o) l) old new) (sym q)
+        (one-event x y ls rs old new o e (subst (λ l. BothAscend (both_sides cmp) (x ∷ ls) l) q (subst (λ l. BothAscend (both_sides cmp) l ys) p s)) i))
+
+    -- one event more, at two places
+    pub begun-step : (xs ys old mid new : List X) (i j i' j' : ℕ) (x y : X) (o : Ordering) → i < length xs → j < length ys → x ≡ get_or xs i x → y ≡ get_or ys j y
+        → o ≡ cmp x y → i' ≡ i + from_bool (is_le o) → j' ≡ j + from_bool (is_ge o) → Appends (KeptAt f from from) (event_at o x y ∷ []) mid new
+        → IsBegun cmp from f xs ys (drop i xs) (drop j ys) old mid → IsBegun cmp from f xs ys (drop i' xs) (drop j' ys) old new
+    begun-step xs ys old mid new i j i' j' x y o a b p q e k l n h =
+        let front : drop i xs ≡ x ∷ drop (i + 1) xs = drop_more xs i x a ∙ ap (λ w. w ∷ drop (i + 1) xs) (sym p) in
+        let side : drop j ys ≡ y ∷ drop (j + 1) ys = drop_more ys j y b ∙ ap (λ w. w ∷ drop (j + 1) ys) (sym q) in
+        let next = at-fronts (drop i xs) (drop j ys) (drop (i + 1) xs) (drop (j + 1) ys) mid new x y o front side (sym e) h.ascend n in
+        let left : drop (from_left o) (drop i xs) ≡ drop i' xs = drop-drop (from_left o) i xs ∙ ap (λ m. drop m xs) (sym k) in
+        let right : drop (from_right o) (drop j ys) ≡ drop j' ys = drop-drop (from_right o) j ys ∙ ap (λ m. drop m ys) (sym l) in
+        begun-append xs ys (drop i xs) (drop j ys) (drop i' xs) (drop j' ys) old mid new h
+        (subst (λ l. IsBegun cmp from f (drop i xs) (drop j ys) l (drop j' ys) mid new) left
+        (subst (λ r. IsBegun cmp from f (drop i xs) (drop j ys) (drop (from_left o) (drop i xs)) r mid new) right next))
+
   -- ---- elements themselves
 
   gives-if : (b : Bool) (z : X) → GivesIf b (λ w. z ≡ w) (elim b [ true ↦ z ∷ [] | false ↦ [] ])
   gives-if true z = (z, refl, refl)
   gives-if false z = refl
 
-  appends-one : (e : Event X X) (b : Bool) (z : X) (old new : List X) → ((zs : List X) → GivesIf b (λ w. z ≡ w) zs → KeptAt f (λ x y. x ≡ y) (λ x y. x ≡ y) e zs)
-      → new ≡ old ++ elim b [ true ↦ z ∷ [] | false ↦ [] ] → Appends (KeptAt f (λ x y. x ≡ y) (λ x y. x ≡ y)) (e ∷ []) old new
-  appends-one e b z old new k i = let first : List X = elim b [ true ↦ z ∷ [] | false ↦ [] ] in record {
-    added = first;
-    gathered = (first, [], k first (gives-if b z), refl, sym (append-nil first));
-    items = i;
-  }
-
-  appends-event : (x y : X) (old new : List X) (o : Ordering) → new ≡ old ++ kept_of f o x y → Appends (KeptAt f (λ x y. x ≡ y) (λ x y. x ≡ y)) (event_at o x y ∷ []) old new
-  appends-event x y old new Less i = appends-one (left_alone x) (f true false) x old new (λ zs h. h) i
-  appends-event x y old new Equal i = appends-one (collision x y) (f true true) x old new (λ zs h. h) i
-  appends-event x y old new Greater i = appends-one (right_alone y) (f false true) y old new (λ zs h. h) i
-
-  -- the event at the fronts of two lists
-  at-fronts : (xs ys ls rs old new : List X) (x y : X) (o : Ordering) → xs ≡ x ∷ ls → ys ≡ y ∷ rs → cmp x y ≡ o → BothAscend (both_sides cmp) xs ys
-      → new ≡ old ++ kept_of f o x y → IsBegun cmp (λ x y. x ≡ y) f xs ys (drop (from_left o) xs) (drop (from_right o) ys) old new
-  at-fronts xs ys ls rs old new x y o p q e s i =
-      subst (λ l. IsBegun cmp (λ x y. x ≡ y) f l ys (drop (from_left o) l) (drop (from_right o) ys) old new) (sym p)
-      (subst (λ l. IsBegun cmp (λ x y. x ≡ y) f (x ∷ ls) l (drop (from_left o) (x ∷ ls)) (drop (from_right o) l) old new) (sym q)
-      (one-event (λ x y. x ≡ y) x y ls rs old new o e (subst (λ l. BothAscend (both_sides cmp) (x ∷ ls) l) q (subst (λ l. BothAscend (both_sides cmp) l ys) p s)) (appends-event x y old new o i)))
-
-  -- one event more, at two places
-  pub begun-step : (xs ys old mid new : List X) (i j i' j' : ℕ) (x y : X) (o : Ordering) → i < length xs → j < length ys → x ≡ get_or xs i x → y ≡ get_or ys j y
-      → o ≡ cmp x y → i' ≡ i + from_bool (is_le o) → j' ≡ j + from_bool (is_ge o) → new ≡ mid ++ kept_of f o x y
-      → IsBegun cmp (λ x y. x ≡ y) f xs ys (drop i xs) (drop j ys) old mid → IsBegun cmp (λ x y. x ≡ y) f xs ys (drop i' xs) (drop j' ys) old new
-  begun-step xs ys old mid new i j i' j' x y o a b p q e k l n h =
-      let front : drop i xs ≡ x ∷ drop (i + 1) xs = drop_more xs i x a ∙ ap (λ w. w ∷ drop (i + 1) xs) (sym p) in
-      let side : drop j ys ≡ y ∷ drop (j + 1) ys = drop_more ys j y b ∙ ap (λ w. w ∷ drop (j + 1) ys) (sym q) in
-      let next = at-fronts (drop i xs) (drop j ys) (drop (i + 1) xs) (drop (j + 1) ys) mid new x y o front side (sym e) h.ascend n in
-      let left : drop (from_left o) (drop i xs) ≡ drop i' xs = drop-drop (from_left o) i xs ∙ ap (λ m. drop m xs) (sym k) in
-      let right : drop (from_right o) (drop j ys) ≡ drop j' ys = drop-drop (from_right o) j ys ∙ ap (λ m. drop m ys) (sym l) in
-      begun-append (λ x y. x ≡ y) xs ys (drop i xs) (drop j ys) (drop i' xs) (drop j' ys) old mid new h
-      (subst (λ l. IsBegun cmp (λ x y. x ≡ y) f (drop i xs) (drop j ys) l (drop j' ys) mid new) left
-      (subst (λ r. IsBegun cmp (λ x y. x ≡ y) f (drop i xs) (drop j ys) (drop (from_left o) (drop i xs)) r mid new) right next))
+  -- what is kept at an event, by itself
+  pub appends-event : (x y : X) (old new : List X) (o : Ordering) → new ≡ old ++ kept_of f o x y → Appends (KeptAt f (λ x y. x ≡ y) (λ x y. x ≡ y)) (event_at o x y ∷ []) old new
+  appends-event x y old new Less i = appends-one (KeptAt f (λ x y. x ≡ y) (λ x y. x ≡ y)) (left_alone x) (kept_of f Less x y) old new (gives-if (f true false) x) i
+  appends-event x y old new Equal i = appends-one (KeptAt f (λ x y. x ≡ y) (λ x y. x ≡ y)) (collision x y) (kept_of f Equal x y) old new (gives-if (f true true) x) i
+  appends-event x y old new Greater i = appends-one (KeptAt f (λ x y. x ≡ y) (λ x y. x ≡ y)) (right_alone y) (kept_of f Greater x y) old new (gives-if (f false true) y) i
 
   -- ---- clones of what is kept
 

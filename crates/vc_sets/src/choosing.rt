@@ -1,9 +1,11 @@
 //! The first events of two lists that are walked along, by choices in the place of branches.
 //!
 //! A processor guesses wrongly which of two heads is the lesser in every second event, or nearly.
-//! So an event stores a reference to the lesser head whatever the operation does with it, and
-//! moves the places by numbers that are 0 or 1.
-ghost use Rattle.std.specs.Prelude.{◌≡◌, ◌+◌, ◌<◌, ◌≤◌, [], drop, take, map, length, not, false, IfOk, OnOk, IsTrue};
+//! So an event chooses the lesser head whatever the operation does with it, and moves the places by
+//! numbers that are 0 or 1. A union appends a clone of it at once; the others store a reference to
+//! it, and append clones of what they keep behind some events.
+ghost use Rattle.std.specs.Prelude.{◌≡◌, ◌+◌, ◌<◌, ◌≤◌, [], drop, take, map, length, not, true, false, IfOk, OnOk, IsTrue};
+ghost use Rattle.smallvec.specs.SmallVec.{HasRoomFor};
 ghost use Rattle.vc_merge.specs.Ascending.{Ascends};
 ghost use Rattle.vc_merge.specs.Building.{Extends};
 ghost use Rattle.vc_merge.specs.Count.{bound};
@@ -18,7 +20,8 @@ use std::default::MadeWith;
 use vc_merge::merge::Count;
 use vc_merge::searching::is_walk_shorter;
 
-/// How many elements a block takes of both lists, but for the second one of a last collision.
+/// How many elements a block takes of both lists, but for the second one of a last collision. A
+/// block of a union has so many events.
 const BLOCK: usize = 32;
 
 /// What a block of one list alone counts. Each other block takes one off.
@@ -27,10 +30,9 @@ const ONE_SIDED: usize = 8;
 /// From so much on the lists are taken to come in long runs.
 const LONG_RUNS: usize = 32;
 
-/// References to what is kept of some events, and how much of each list these took.
+/// How much of each list some events took, and how many elements are kept of these.
 #[derive(Drop)]
-struct Chosen<'a, T> {
-    kept: [&'a T; BLOCK],
+struct Chosen {
     count: usize,
     left: usize,
     right: usize,
@@ -73,9 +75,12 @@ pub fn begin<
     }
     let mut a = a;
     let mut b = b;
+    let mut kept = [&a[0]; BLOCK];
     let mut runs = 0;
     'blocks: while !a.is_empty() && !b.is_empty() && runs < LONG_RUNS {
-        let (left, right) = take_block::<LEFT, RIGHT, BOTH, T, C, N, A>(a, b, built, steps)?;
+        let (left, right) = take_block::<LEFT, RIGHT, BOTH, T, C, N, A>(
+            a, b, &mut kept, built, steps,
+        )?;
         a = behind(a, left);
         b = behind(b, right);
         runs = and_next(runs, left, right);
@@ -121,7 +126,8 @@ pub fn begin_left<
 /// that the order of two heads cannot be guessed.
 #[inline(always)]
 fn is_worth_a_block(left: usize, right: usize) -> bool
-    ensures { IsTrue result → bound left right ≡ left + right }
+    ensures walked { IsTrue result → bound left right ≡ left + right }
+    ensures some { IsTrue result → 0 < left }
 {
     let shorter = left.min(right);
     let longer = left.max(right);
@@ -149,9 +155,11 @@ fn behind<'a, T>(items: &'a [T], n: usize) -> &'a [T]
     &items[n..]
 }
 
-/// Takes the next events, and answers how much of each list they took.
+/// Takes the next events, and answers how much of each list they took. `kept` is a place for what
+/// they keep.
 #[inline(always)]
 fn take_block<
+    'a,
     const LEFT: bool,
     const RIGHT: bool,
     const BOTH: bool,
@@ -160,8 +168,9 @@ fn take_block<
     const N: usize,
     A: Allocator + Copy,
 >(
-    a: &[T],
-    b: &[T],
+    a: &'a [T],
+    b: &'a [T],
+    kept: &mut [&'a T; BLOCK],
     built: &mut SmallVec<T, N, A>,
     steps: &mut C,
 ) -> Result<(usize, usize), AllocError>
@@ -179,19 +188,79 @@ fn take_block<
         C.counted steps.new ≤ C.counted steps.old + (taken.0 + taken.1)) }
     ensures refused { C.counted steps.new ≤ C.counted steps.old + (length a.now + length b.now) }
 {
-    let chosen = choose::<LEFT, RIGHT, BOTH, T, C>(a, b, steps);
-    append_chosen(built, &chosen.kept[..chosen.count])?;
+    if LEFT && RIGHT && BOTH {
+        return take_each(a, b, built, steps);
+    }
+    let chosen = choose::<LEFT, RIGHT, BOTH, T, C>(a, b, kept, steps);
+    append_chosen(built, &kept[..chosen.count])?;
     Ok((chosen.left, chosen.right))
 }
 
-/// What is kept of the first events: of those that take `BLOCK` elements, or of all until a list is
-/// used up.
+/// The same for the union, which keeps an element of each event: a clone of it is appended at once.
+#[inline(always)]
+fn take_each<T: Ord + Clone + MadeWith<A>, C: Count, const N: usize, A: Allocator + Copy>(
+    a: &[T],
+    b: &[T],
+    built: &mut SmallVec<T, N, A>,
+    steps: &mut C,
+) -> Result<(usize, usize), AllocError>
+    requires some_left { 0 < length a.now }
+    requires some_right { 0 < length b.now }
+    requires a_ascends { Ascends T.cmp a.now }
+    requires b_ascends { Ascends T.cmp b.now }
+    ensures left { IfOk result (λ taken. taken.0 ≤ length a.now) }
+    ensures right { IfOk result (λ taken. taken.1 ≤ length b.now) }
+    ensures some { IfOk result (λ taken. 0 < taken.0 + taken.1) }
+    ensures begun { IfOk result (λ taken.
+        IsBegun T.cmp T.is_clone (keeps true true true) a.now b.now
+        (drop taken.0 a.now) (drop taken.1 b.now) built.old.items built.new.items) }
+    ensures counted { IfOk result (λ taken.
+        C.counted steps.new ≤ C.counted steps.old + (taken.0 + taken.1)) }
+    ensures refused { C.counted steps.new ≤ C.counted steps.old + (length a.now + length b.now) }
+{
+    let most = room_for_some(built, a.len().saturating_add(b.len()))?;
+    let mut left_taken = 0;
+    let mut right_taken = 0;
+    let mut count = 0;
+    'events: while left_taken < a.len() && right_taken < b.len() && count < most {
+        let x = &a[left_taken];
+        let y = &b[right_taken];
+        let order = compare(x, y, steps);
+        built.push_reserved(lesser(order, x, y).clone()?);
+        left_taken += usize::from(order.is_le());
+        right_taken += usize::from(order.is_ge());
+        count += 1;
+    }
+    Ok((left_taken, right_taken))
+}
+
+/// For how many more elements a list has room, `BLOCK` at most. A full list grows first, by room
+/// for the `most` that may come: so it grows once.
+#[inline(always)]
+fn room_for_some<T: MadeWith<A> + Drop, const N: usize, A: Allocator + Copy>(
+    built: &mut SmallVec<T, N, A>,
+    most: usize,
+) -> Result<usize, AllocError>
+    requires { 0 < most }
+    ensures items { built.new.items ≡ built.old.items }
+    ensures some { IfOk result (λ n. 0 < n) }
+    ensures room { IfOk result (λ n. HasRoomFor built.new n) }
+{
+    if built.len() == built.capacity() {
+        built.reserve(most)?;
+    }
+    Ok(BLOCK.min(built.capacity() - built.len()))
+}
+
+/// Puts what is kept of the first events into `kept`: of those that take `BLOCK` elements, or of
+/// all until a list is used up.
 #[inline(always)]
 fn choose<'a, const LEFT: bool, const RIGHT: bool, const BOTH: bool, T: Ord, C: Count>(
     a: &'a [T],
     b: &'a [T],
+    kept: &mut [&'a T; BLOCK],
     steps: &mut C,
-) -> Chosen<'a, T>
+) -> Chosen
     requires some_left { 0 < length a.now }
     requires some_right { 0 < length b.now }
     requires a_ascends { Ascends T.cmp a.now }
@@ -202,10 +271,9 @@ fn choose<'a, const LEFT: bool, const RIGHT: bool, const BOTH: bool, T: Ord, C: 
     ensures some { 0 < result.left + result.right }
     ensures begun { IsBegun T.cmp (λ x y. x ≡ y) (keeps LEFT RIGHT BOTH) a.now b.now
         (drop result.left a.now) (drop result.right b.now) []
-        (map (λ p. p.now) (take result.count result.kept)) }
+        (map (λ p. p.now) (take result.count kept.new)) }
     ensures counted { C.counted steps.new ≤ C.counted steps.old + (result.left + result.right) }
 {
-    let mut kept = [&a[0]; BLOCK];
     let mut count = 0;
     let mut left = 0;
     let mut right = 0;
@@ -218,12 +286,7 @@ fn choose<'a, const LEFT: bool, const RIGHT: bool, const BOTH: bool, T: Ord, C: 
         left += usize::from(order.is_le());
         right += usize::from(order.is_ge());
     }
-    Chosen {
-        kept,
-        count,
-        left,
-        right,
-    }
+    Chosen { count, left, right }
 }
 
 /// The lesser of two elements that compare so, or the left one of two equal ones.

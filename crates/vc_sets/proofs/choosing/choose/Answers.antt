@@ -1,17 +1,17 @@
-use Rattle.std.proofs.Common.{◌≡◌, ◌+◌, [], ap, refl, ◌∙◌, arith}
+use Rattle.std.proofs.Common.{rules, ◌≡◌, ◌+◌, [], ap, ◌∙◌, arith}
 use Rattle.std.specs.Int.{from_bool}
 use Rattle.std.specs.Ordering.{is_le, is_ge}
 use Rattle.std.proofs.lemmas.List.{length-set}
 use Rattle.vc_sets.specs.Begun.{kept_at, lesser_of}
 use Rattle.vc_sets.specs.Select.{keeps}
-use Rattle.vc_sets.proofs.Begun.{is_set, begun-nothing, begun-step, kept-more, bit-most, event-some}
+use Rattle.vc_sets.proofs.Begun.{is_set, begun-nothing, begun-step, appends-event, kept-more, bit-most, event-some}
 use Rattle.vc_sets.proofs.choosing.choose.Goals as goal
 
 pub events-init : goal.events-init
 events-init g c = record {
   within_left = omega arith;
   within_right = omega arith;
-  places = refl;
+  places = search rules;
   room = omega arith;
   some = omega arith;
   few = omega arith;
@@ -37,7 +37,8 @@ events-preserved g c =
       some = omega (arith, left, right, count, one, some, was.some);
       few = omega (arith, left, right, one_left, one_right, in_kept);
       counted = omega (arith, left, right, some, was.counted, ticks);
-      begun = begun-step g.T.Ord.cmp g.met.T.Ord.total f c.args.a.now c.args.b.now [] _ _ c.events.left c.events.right _ _ x y o in_left in_right c.index-a-left.is c.index-b-right.is
+      begun = begun-step g.T.Ord.cmp g.met.T.Ord.total f (λ x y. x ≡ y) c.args.a.now c.args.b.now [] _ _ c.events.left c.events.right _ _ x y o in_left in_right c.index-a-left.is c.index-b-right.is
           c.compare-order.ensures.value (ap (λ n. c.events.left + n) left) (ap (λ n. c.events.right + n) right)
-          (kept-more c.events.kept c.events.count _ c.lesser.result (lesser_of o x y) (kept_at f o) (omega (arith, was.places, in_kept, was.some)) c.lesser.ensures (ap (λ n. c.events.count + n) count)) was.begun;
+          (appends-event g.T.Ord.cmp g.met.T.Ord.total f x y _ _ o
+          (kept-more c.events.kept c.events.count _ c.lesser.result (lesser_of o x y) (kept_at f o) (omega (arith, was.places, in_kept, was.some)) c.lesser.ensures (ap (λ n. c.events.count + n) count))) was.begun;
     }
