@@ -152,7 +152,7 @@ fn look<'s, 'a>(set: &'s Numbers<'a>) {
     let _few = (set.len(), set.is_empty(), set.as_ref().len());
     let _in_trait = (AbstractVecSet::is_empty(set), set.contains(&2));
     let _length = AbstractVecSet::as_slice(set).len();
-    let _ends = (set.first(), set.last());
+    let _ends = (set.first().is_some(), set.last().is_some());
 }
 
 /// Tests two sets.
