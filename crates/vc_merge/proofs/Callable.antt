@@ -2,7 +2,8 @@
 use Rattle.std.proofs.Common.{◌≡◌, List, [], ◌∷◌, refl}
 use Rattle.std.specs.Iterator.{CallableAtEachTurn, YieldsFirst}
 
-module _ {P X : Type 0} (R : P → X → P → Type 0) (Q : P → X → Type 0) (p : P) (x : X) (xs all : List X) (is : all ≡ x ∷ xs) (h : CallableAtEachTurn (YieldsFirst (λ rest. rest)) R Q all p) where
+module _ {P X : Type 0} (R : P → X → P → Type 0) (Q : P → X → Type 0) (p : P) (x : X) (xs all : List X)
+    (is : all ≡ x ∷ xs) (h : CallableAtEachTurn (YieldsFirst (λ rest. rest)) R Q all p) where
   -- it may be called at the first one
   pub callable-first : Q p x
   callable-first = h.at [] all p x xs refl refl is

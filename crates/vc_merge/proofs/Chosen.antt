@@ -11,7 +11,8 @@ use Rattle.vc_merge.specs.Ascending.{Ascends}
 use Rattle.vc_merge.specs.Yielded.{taken}
 
 -- all of the list has come
-pub all-taken : {X : Type 0} (s t xs : List X) (u : List X) → Yields (TakesFirst (λ x. x)) s xs t → TakesFirst (λ x. x) t None u → xs ≡ s
+pub all-taken : {X : Type 0} (s t xs : List X) (u : List X) → Yields (TakesFirst (λ x. x)) s xs t
+    → TakesFirst (λ x. x) t None u → xs ≡ s
 all-taken s t xs u y n = sym (taken s t xs y ∙ ap (λ l. xs ++ l) n.0 ∙ append-nil xs)
 
 module _ {X : Type 0} (P : X → Type 0) where

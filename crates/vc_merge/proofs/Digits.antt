@@ -2,7 +2,8 @@
 --     digits-enough, digits-least        n is below 2 ^ digits n, and below no lesser power
 --     digits-monotone, digits-half        of a greater number, and of half a number
 --     digits-from_zeros        as many as the bits below the leading zeros
-use Rattle.std.proofs.Common.{◌≡◌, ℕ, zero, suc, ◌+◌, ◌-◌, ◌*◌, ◌/◌, ◌^◌, ◌<◌, ◌≤◌, Bool, true, false, ⊎_elim, refl, sym, subst, ◌∙◌, arith}
+use Rattle.std.proofs.Common.{◌≡◌, ℕ, zero, suc, ◌+◌, ◌-◌, ◌*◌, ◌/◌, ◌^◌, ◌<◌, ◌≤◌, Bool, true, false, ⊎_elim, refl}
+use Rattle.std.proofs.Common.{sym, subst, ◌∙◌, arith}
 use Rattle.std.proofs.Math.Dec.{ltb}
 use Rattle.std.proofs.Math.Nat.{pow-suc, eq-or-lt_of_le}
 use Rattle.std.proofs.Math.Pow.{pow_mono}
@@ -29,7 +30,9 @@ unfolding digits_from
 least n zero d e k h = k
 least n (suc tries) d e k h =
     either (λ r. r ≤ e) (ltb n (2 ^ d)) d (digits_from n tries (suc d)) (λ t. k)
-    (λ f. least n tries (suc d) e (⊎_elim (λ s. absurd (true≢false (sym (lt-ltb n (2 ^ d) (subst (λ i. n < 2 ^ i) (sym s) h)) ∙ f))) (λ s. omega arith) (eq-or-lt_of_le k)) h)
+    (λ f. least n tries (suc d) e (⊎_elim
+    (λ s. absurd (true≢false (sym (lt-ltb n (2 ^ d) (subst (λ i. n < 2 ^ i) (sym s) h)) ∙ f))) (λ s. omega arith)
+    (eq-or-lt_of_le k)) h)
 
 below-power : (n : ℕ) → n < 2 ^ n
 below-power zero = pow_pos 0

@@ -1,5 +1,7 @@
 -- A loop over a list that asks a test at each element and moves what it accepts to the front.
-use Rattle.std.proofs.Common.{◌≡◌, ℕ, zero, suc, ◌+◌, ◌<◌, ◌≤◌, Bool, true, false, cond, List, [], ◌∷◌, ◌++◌, length, take, drop, set, get_or, refl, sym, ap, ◌∙◌, subst, arith, append_assoc, add-one, drop-cons}
+use Rattle.std.proofs.Common.{◌≡◌, ℕ, zero, suc, ◌+◌, ◌<◌, ◌≤◌, Bool, true, false, cond, List, [], ◌∷◌, ◌++◌, length}
+use Rattle.std.proofs.Common.{take, drop, set, get_or, refl, sym, ap, ◌∙◌, subst, arith, append_assoc, add-one}
+use Rattle.std.proofs.Common.{drop-cons}
 use Rattle.std.proofs.lemmas.List.{append-nil}
 use Rattle.std.specs.List.{SwappedAt, items_where_true, refill}
 use Rattle.smallvec.proofs.SmallVecLemmas.{items-with_items}
@@ -14,7 +16,8 @@ module _ {X : Type 0} where
   drop-set_before (x ∷ l) (suc i) (suc j) b h = drop-set_before l i j b (omega arith)
 
   -- the front of a list, once the element at i was swapped to k
-  front-swapped : (ys : List X) (k i : ℕ) (d : X) → k ≤ i → i < length ys → take (suc k) (set (set ys k (get_or ys i d)) i (get_or ys k d)) ≡ take k ys ++ get_or ys i d ∷ []
+  front-swapped : (ys : List X) (k i : ℕ) (d : X) → k ≤ i → i < length ys
+      → take (suc k) (set (set ys k (get_or ys i d)) i (get_or ys k d)) ≡ take k ys ++ get_or ys i d ∷ []
   front-swapped [] k i d le lt = absurd (omega arith)
   front-swapped (y ∷ ys) zero zero d le lt = refl
   front-swapped (y ∷ ys) zero (suc i) d le lt = refl
@@ -23,13 +26,16 @@ module _ {X : Type 0} where
 
 module _ {S X : Type 0} (R : S → X → Bool → S → Type 0) where
   -- what is chosen of a list, by its first element
-  chosen-cons : (b : Bool) (bs : List Bool) (x : X) (xs : List X) → cond b (x ∷ items_where_true bs xs) (items_where_true bs xs) ≡ items_where_true (b ∷ bs) (x ∷ xs)
+  chosen-cons : (b : Bool) (bs : List Bool) (x : X) (xs : List X)
+      → cond b (x ∷ items_where_true bs xs) (items_where_true bs xs) ≡ items_where_true (b ∷ bs) (x ∷ xs)
   chosen-cons true bs x xs = refl
   chosen-cons false bs x xs = refl
 
   -- a test that is asked at one more element in front
-  filtered-cons : (s t : S) (x : X) (b : Bool) (xs zs : List X) → R s x b t → IsFiltered R t xs zs → IsFiltered R s (x ∷ xs) (cond b (x ∷ zs) zs)
-  filtered-cons s t x b xs zs r f = (b ∷ f.0, f.1, ap suc f.2, (t, r, f.3), ap (λ l. cond b (x ∷ l) l) f.4 ∙ chosen-cons b f.0 x xs)
+  filtered-cons : (s t : S) (x : X) (b : Bool) (xs zs : List X) → R s x b t → IsFiltered R t xs zs
+      → IsFiltered R s (x ∷ xs) (cond b (x ∷ zs) zs)
+  filtered-cons s t x b xs zs r f =
+      (b ∷ f.0, f.1, ap suc f.2, (t, r, f.3), ap (λ l. cond b (x ∷ l) l) f.4 ∙ chosen-cons b f.0 x xs)
 
   -- the test began as s₀, at the list xs, and has been asked up to i. It is s now, and the first k of ys are what it accepted
   pub record KeepsInFront (s₀ : S) (xs : List X) (s : S) (ys : List X) (k i : ℕ) : Type 0 where
@@ -42,7 +48,8 @@ module _ {S X : Type 0} (R : S → X → Bool → S → Type 0) where
   pub KeepsInFront-start : (s : S) (xs : List X) → KeepsInFront s xs s xs 0 0
   KeepsInFront-start s xs = record { behind = omega arith; long = refl; rest = refl; going = λ zs f. f }
 
-  module _ (s₀ : S) (xs : List X) (s t : S) (ys : List X) (k i : ℕ) (x : X) (h : KeepsInFront s₀ xs s ys k i) (lt : i < length ys) (is : x ≡ get_or ys i x) where
+  module _ (s₀ : S) (xs : List X) (s t : S) (ys : List X) (k i : ℕ) (x : X) (h : KeepsInFront s₀ xs s ys k i)
+      (lt : i < length ys) (is : x ≡ get_or ys i x) where
     -- the element at i, and what stands behind it, are what is left of the list
     both : x ∷ drop (suc i) ys ≡ drop i xs
     both = ap (λ y. y ∷ drop (suc i) ys) is ∙ sym (drop-cons ys i x lt) ∙ h.rest
@@ -58,17 +65,22 @@ module _ {S X : Type 0} (R : S → X → Bool → S → Type 0) where
     KeepsInFront-next = sym both ∙ ap (λ l. x ∷ l) (ap (λ j. drop j ys) (sym (add-one i)) ∙ later)
 
     -- one more answer
-    asked : (b : Bool) (zs : List X) → R s x b t → IsFiltered R t (drop (i + 1) xs) zs → IsFiltered R s₀ xs (take k ys ++ cond b (x ∷ zs) zs)
+    asked : (b : Bool) (zs : List X) → R s x b t → IsFiltered R t (drop (i + 1) xs) zs
+        → IsFiltered R s₀ xs (take k ys ++ cond b (x ∷ zs) zs)
     asked b zs r f =
-        let g : IsFiltered R t (drop (suc i) ys) zs = subst (λ l. IsFiltered R t l zs) (sym later ∙ ap (λ j. drop j ys) (add-one i)) f in
-        h.going (cond b (x ∷ zs) zs) (subst (λ l. IsFiltered R s l (cond b (x ∷ zs) zs)) both (filtered-cons s t x b (drop (suc i) ys) zs r g))
+        let g : IsFiltered R t (drop (suc i) ys) zs =
+        subst (λ l. IsFiltered R t l zs) (sym later ∙ ap (λ j. drop j ys) (add-one i)) f in
+        h.going (cond b (x ∷ zs) zs) (subst (λ l. IsFiltered R s l (cond b (x ∷ zs) zs)) both
+        (filtered-cons s t x b (drop (suc i) ys) zs r g))
 
     -- an element is refused, and stays where it is
     pub KeepsInFront-refused : R s x false t → KeepsInFront s₀ xs t ys k (i + 1)
-    KeepsInFront-refused r = record { behind = omega (arith, h.behind); long = h.long; rest = later; going = λ zs f. asked false zs r f }
+    KeepsInFront-refused r = record
+        { behind = omega (arith, h.behind); long = h.long; rest = later; going = λ zs f. asked false zs r f }
 
     -- an element is accepted, and swapped to the end of those in front
-    pub KeepsInFront-accepted : (ws : List X) → R s x true t → length ws ≡ length ys → SwappedAt ys ws k i → KeepsInFront s₀ xs t ws (k + 1) (i + 1)
+    pub KeepsInFront-accepted : (ws : List X) → R s x true t → length ws ≡ length ys → SwappedAt ys ws k i
+        → KeepsInFront s₀ xs t ws (k + 1) (i + 1)
     KeepsInFront-accepted ws r same swapped =
         let n : k < i + 1 = omega (arith, h.behind) in
         let m : i < i + 1 = omega arith in
@@ -81,7 +93,8 @@ module _ {S X : Type 0} (R : S → X → Bool → S → Type 0) where
           behind = omega (arith, h.behind);
           long = same ∙ h.long;
           rest = back ∙ later;
-          going = λ zs f. subst (λ l. IsFiltered R s₀ xs l) (sym (ap (λ l. l ++ zs) front ∙ append_assoc (take k ys) (x ∷ []) zs)) (asked true zs r f);
+          going = λ zs f. subst (λ l. IsFiltered R s₀ xs l)
+              (sym (ap (λ l. l ++ zs) front ∙ append_assoc (take k ys) (x ∷ []) zs)) (asked true zs r f);
         }
 
   -- nothing is left behind the end
@@ -92,11 +105,14 @@ module _ {S X : Type 0} (R : S → X → Bool → S → Type 0) where
   drop-past (x ∷ xs) (suc i) le = drop-past xs i (omega arith)
 
   -- all were asked
-  pub KeepsInFront-all : (s₀ : S) (xs : List X) (s : S) (ys : List X) (k i : ℕ) → KeepsInFront s₀ xs s ys k i → length xs ≤ i → IsFiltered R s₀ xs (take k ys)
+  pub KeepsInFront-all : (s₀ : S) (xs : List X) (s : S) (ys : List X) (k i : ℕ) → KeepsInFront s₀ xs s ys k i
+      → length xs ≤ i → IsFiltered R s₀ xs (take k ys)
   KeepsInFront-all s₀ xs s ys k i h le =
-      let none : IsFiltered R s (drop i xs) [] = subst (λ l. IsFiltered R s l []) (sym (drop-past xs i le)) ([], s, refl, refl, refl) in
+      let none : IsFiltered R s (drop i xs) [] =
+      subst (λ l. IsFiltered R s l []) (sym (drop-past xs i le)) ([], s, refl, refl, refl) in
       subst (λ l. IsFiltered R s₀ xs l) (append-nil (take k ys)) (h.going [] none)
 
 -- a list is shortened to its first k elements, once it was written through a slice of the same length
-pub front-refilled : {X : Type 0} (xs ys : List X) (k : ℕ) → k ≤ length ys → length ys ≡ length xs → take k (refill (length xs) xs ys) ≡ take k ys
+pub front-refilled : {X : Type 0} (xs ys : List X) (k : ℕ) → k ≤ length ys → length ys ≡ length xs
+    → take k (refill (length xs) xs ys) ≡ take k ys
 front-refilled xs ys k le same = ap (take k) (items-with_items (record { items = xs; capacity = 0 }) ys same)

@@ -1,3 +1,4 @@
+pub mod BothWays
 pub mod Builds
 pub mod Chains
 pub mod Digits
@@ -12,6 +13,7 @@ pub mod Members
 pub mod OneScript
 pub mod OneList
 pub mod Running
+pub mod Cutting
 mod Examples
 pub mod ListLemmas
 pub mod Clones
@@ -21,3 +23,4 @@ pub mod Keeping
 pub mod Parted
 pub mod Retained
 pub mod Strides
+pub mod Unordered

@@ -1,5 +1,6 @@
 -- A list with a gap behind its elements, and others behind that.
-use Rattle.std.proofs.Common.{◌≡◌, ℕ, ◌≤◌, Result, IsOk, is_err, Ok, Err, OnOk, Bool, false, List, ◌++◌, length, take, drop, sym, ap, ◌∙◌, refl, drop_at}
+use Rattle.std.proofs.Common.{◌≡◌, ℕ, ◌≤◌, Result, IsOk, is_err, Ok, Err, OnOk, Bool, false, List, ◌++◌, length, take}
+use Rattle.std.proofs.Common.{drop, sym, ap, ◌∙◌, refl, drop_at}
 use mathlib.Core.Bool.{true≢false}
 use Rattle.std.proofs.lemmas.List.{take-append-le}
 use Rattle.smallvec.specs.SmallVec.{SmallVec, with_items}
@@ -10,7 +11,8 @@ pub granted : {A E : Type 0} (result : Result A E) (P : Type 0) → IsOk result 
 granted (Ok a) P ok h = h
 granted (Err e) P ok h = absurd (true≢false (sym ok))
 
-pub not-refused : {A E : Type 0} (result : Result A E) (P : Type 0) (refused : Bool) → refused ≡ is_err result → refused ≡ false → OnOk result P → P
+pub not-refused : {A E : Type 0} (result : Result A E) (P : Type 0) (refused : Bool) → refused ≡ is_err result
+    → refused ≡ false → OnOk result P → P
 not-refused (Ok a) P refused e f h = h
 not-refused (Err e) P refused i f h = absurd (true≢false (sym i ∙ f))
 
@@ -25,7 +27,8 @@ pub record IsParted {X : Type 0} (old added all : List X) (end next : ℕ) : Typ
   pub right : drop next all ≡ added
 
 -- a list once a gap was put behind its elements, and others behind that
-pub is-parted : {X : Type 0} (old gapped added pushed all : List X) (end next : ℕ) → end ≡ length old → next ≡ length gapped → take (length old) gapped ≡ old → length old ≤ length gapped
+pub is-parted : {X : Type 0} (old gapped added pushed all : List X) (end next : ℕ) → end ≡ length old → next
+    ≡ length gapped → take (length old) gapped ≡ old → length old ≤ length gapped
     → pushed ≡ gapped ++ added → all ≡ pushed → IsParted old added all end next
 is-parted old gapped added pushed all end next ends nexts front gap items same = record {
   left = (λ i. take (ends i) ((same ∙ items) i)) ∙ take-append-le (length old) gapped added gap ∙ front;

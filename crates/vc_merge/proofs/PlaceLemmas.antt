@@ -6,8 +6,11 @@
 --     searched-half        after one comparison that may find it
 --     place-met, place-behind, place-searched, place-equal, place-unequal        the place
 --     ordered-ascends, ascends-map        ascending lists are ordered round whatever is sought
-use Rattle.std.proofs.Common.{◌≡◌, ℕ, zero, suc, ◌+◌, ◌-◌, ◌*◌, ◌/◌, ◌<◌, ◌≤◌, Bool, true, false, ◌||◌, List, [], ◌∷◌, ◌++◌, map, length, take, drop, get_or, length-drop, ◌⊎◌, inl, inr, ⊎_elim, Result, Ok, Err, refl, sym, ap, subst, ◌∙◌, arith}
-use Rattle.std.proofs.lemmas.List.{get_or_default, get_or-drop, get_or-take, drop-append-le, drop-drop, drop-take, length-take-le, take-append-drop, take-take}
+use Rattle.std.proofs.Common.{◌≡◌, ℕ, zero, suc, ◌+◌, ◌-◌, ◌*◌, ◌/◌, ◌<◌, ◌≤◌, Bool, true, false, ◌||◌, List, [], ◌∷◌}
+use Rattle.std.proofs.Common.{◌++◌, map, length, take, drop, get_or, length-drop, ◌⊎◌, inl, inr, ⊎_elim, Result, Ok}
+use Rattle.std.proofs.Common.{Err, refl, sym, ap, subst, ◌∙◌, arith}
+use Rattle.std.proofs.lemmas.List.{get_or_default, get_or-drop, get_or-take, drop-append-le, drop-drop, drop-take}
+use Rattle.std.proofs.lemmas.List.{length-take-le, take-append-drop, take-take}
 use Rattle.std.proofs.Math.Seq.{take-add}
 use Rattle.std.proofs.lemmas.Bool.{cases_lt}
 use mathlib.Core.Bool.{true≢false}
@@ -19,7 +22,8 @@ use Rattle.std.specs.Ordering.{is_gt, is_eq, is_lt, ordering_reverse}
 use Rattle.std.specs.declared.cmp.Ordering.{Ordering}
 use Rattle.std.specs.declared.cmp.Ordering.TheVariants.{Less, Equal, Greater}
 use Rattle.vc_merge.specs.Ascending.{Ascends}
-use Rattle.vc_merge.specs.Place.{IsOrdered, IsFound, IsGap, IsPlace, IsNarrowed, IsPassed, IsRest, IsSearched, IsReached, place_of}
+use Rattle.vc_merge.specs.Place.{IsOrdered, IsFound, IsGap, IsPlace, IsNarrowed, IsPassed, IsRest, IsSearched}
+use Rattle.vc_merge.specs.Place.{IsReached, place_of}
 use Rattle.vc_merge.proofs.ListLemmas.{each-at}
 
 -- what holds of each element holds of those behind the first k
@@ -30,7 +34,8 @@ each-drop P (x ∷ xs) zero p = p
 each-drop P (x ∷ xs) (suc k) p = each-drop P xs k p.1
 
 -- what was read at a place holds there
-pub holds-read : {X : Type 0} (P : X → Type 0) (xs : List X) (i : ℕ) (y : X) → i < length xs → y ≡ get_or xs i y → P y → HoldsAt P xs i
+pub holds-read : {X : Type 0} (P : X → Type 0) (xs : List X) (i : ℕ) (y : X) → i < length xs → y ≡ get_or xs i y
+    → P y → HoldsAt P xs i
 holds-read P xs i y h e p = λ d. subst P (e ∙ get_or_default xs i y d h) p
 
 module _ {X : Type 0} (side : X → Ordering) where
@@ -41,38 +46,49 @@ module _ {X : Type 0} (side : X → Ordering) where
   less-not y f e = true≢false (sym (ap is_lt e) ∙ f)
 
   -- before an element that is not greater all are less
-  less-before : (xs : List X) (i : ℕ) → IsOrdered side xs → i < length xs → HoldsAt (λ y. is_gt (side y) ≡ false) xs i → AllByRecursion (λ y. side y ≡ Less) (take i xs)
+  less-before : (xs : List X) (i : ℕ) → IsOrdered side xs → i < length xs
+      → HoldsAt (λ y. is_gt (side y) ≡ false) xs i → AllByRecursion (λ y. side y ≡ Less) (take i xs)
   less-before [] i p h e = absurd (omega arith)
   less-before (x ∷ xs) zero p h e = tt
   less-before (x ∷ xs) (suc i) p h e =
-      let k : i < length xs = omega arith in
-      (⊎_elim (λ l. l) (λ g. absurd (greater-not (get_or xs i x) (e x) (each-at (λ y. side y ≡ Greater) xs i x k g))) p.0, less-before xs i p.1 k e)
+      let k : i < length xs = omega arith in (
+        ⊎_elim (λ l. l) (λ g. absurd (greater-not (get_or xs i x) (e x) (each-at (λ y. side y ≡ Greater) xs i x k g)))
+            p.0,
+        less-before xs i p.1 k e,
+      )
 
-  less-upto : (xs : List X) (i : ℕ) → IsOrdered side xs → i < length xs → HoldsAt (λ y. side y ≡ Less) xs i → AllByRecursion (λ y. side y ≡ Less) (take (suc i) xs)
+  less-upto : (xs : List X) (i : ℕ) → IsOrdered side xs → i < length xs → HoldsAt (λ y. side y ≡ Less) xs i
+      → AllByRecursion (λ y. side y ≡ Less) (take (suc i) xs)
   less-upto [] i p h e = absurd (omega arith)
   less-upto (x ∷ xs) zero p h e = (e x, tt)
   less-upto (x ∷ xs) (suc i) p h e =
-      let k : i < length xs = omega arith in
-      (⊎_elim (λ l. l) (λ g. absurd (less-greater (get_or xs i x) (e x) (each-at (λ y. side y ≡ Greater) xs i x k g))) p.0, less-upto xs i p.1 k e)
+      let k : i < length xs = omega arith in (
+        ⊎_elim (λ l. l) (λ g. absurd (less-greater (get_or xs i x) (e x)
+            (each-at (λ y. side y ≡ Greater) xs i x k g))) p.0,
+        less-upto xs i p.1 k e,
+      )
     where
       less-greater : (y : X) → side y ≡ Less → side y ≡ Greater → ⊥
       less-greater y l g = cc
 
   -- behind an element that is greater all are, and behind one that is not less
-  greater-from : (xs : List X) (i k : ℕ) → IsOrdered side xs → i < length xs → HoldsAt (λ y. side y ≡ Greater) xs i → i ≤ k → AllByRecursion (λ y. side y ≡ Greater) (drop k xs)
+  greater-from : (xs : List X) (i k : ℕ) → IsOrdered side xs → i < length xs → HoldsAt (λ y. side y ≡ Greater) xs i
+      → i ≤ k → AllByRecursion (λ y. side y ≡ Greater) (drop k xs)
   greater-from [] i k p h e l = absurd (omega arith)
   greater-from (x ∷ xs) zero zero p h e l = (e x, ⊎_elim (λ m. absurd (greater-less x (e x) m)) (λ g. g) p.0)
     where
       greater-less : (y : X) → side y ≡ Greater → side y ≡ Less → ⊥
       greater-less y g m = cc
-  greater-from (x ∷ xs) zero (suc k) p h e l = each-drop (λ y. side y ≡ Greater) xs k (⊎_elim (λ m. absurd (greater-less x (e x) m)) (λ g. g) p.0)
+  greater-from (x ∷ xs) zero (suc k) p h e l =
+      each-drop (λ y. side y ≡ Greater) xs k (⊎_elim (λ m. absurd (greater-less x (e x) m)) (λ g. g) p.0)
     where
       greater-less : (y : X) → side y ≡ Greater → side y ≡ Less → ⊥
       greater-less y g m = cc
   greater-from (x ∷ xs) (suc i) zero p h e l = absurd (omega arith)
   greater-from (x ∷ xs) (suc i) (suc k) p h e l = greater-from xs i k p.1 (omega arith) e (omega arith)
 
-  greater-behind : (xs : List X) (i : ℕ) → IsOrdered side xs → i < length xs → HoldsAt (λ y. is_lt (side y) ≡ false) xs i → AllByRecursion (λ y. side y ≡ Greater) (drop (suc i) xs)
+  greater-behind : (xs : List X) (i : ℕ) → IsOrdered side xs → i < length xs
+      → HoldsAt (λ y. is_lt (side y) ≡ false) xs i → AllByRecursion (λ y. side y ≡ Greater) (drop (suc i) xs)
   greater-behind [] i p h e = absurd (omega arith)
   greater-behind (x ∷ xs) zero p h e = ⊎_elim (λ m. absurd (less-not x (e x) m)) (λ g. g) p.0
   greater-behind (x ∷ xs) (suc i) p h e = greater-behind xs i p.1 (omega arith) e
@@ -84,7 +100,12 @@ module _ {X : Type 0} (side : X → Ordering) where
   none-behind (x ∷ xs) = none-behind xs
 
   pub narrowed-whole : (xs : List X) → IsNarrowed side xs 0 (length xs)
-  narrowed-whole xs = record { within = omega arith; less = take-none xs; greater = subst (λ k. AllByRecursion (λ y. side y ≡ Greater) (drop k xs)) (omega arith) (none-behind xs) }
+  narrowed-whole xs = record {
+    within = omega arith;
+    less = take-none xs;
+    greater =
+        subst (λ k. AllByRecursion (λ y. side y ≡ Greater) (drop k xs)) (omega arith) (none-behind xs);
+  }
     where
       take-none : (xs : List X) → AllByRecursion (λ y. side y ≡ Less) (take 0 xs)
       take-none [] = tt
@@ -92,7 +113,8 @@ module _ {X : Type 0} (side : X → Ordering) where
 
   module _ (xs : List X) (p : IsOrdered side xs) (start n : ℕ) (q : IsNarrowed side xs start n) where
     -- from an element on that is not greater
-    pub narrowed-up : (s m : ℕ) → s < length xs → HoldsAt (λ y. is_gt (side y) ≡ false) xs s → start + n ≡ s + m → IsNarrowed side xs s m
+    pub narrowed-up : (s m : ℕ) → s < length xs → HoldsAt (λ y. is_gt (side y) ≡ false) xs s → start + n ≡ s + m
+        → IsNarrowed side xs s m
     narrowed-up s m h e f = record {
       within = (let w = q.within in omega arith);
       less = less-before xs s p h e;
@@ -100,7 +122,8 @@ module _ {X : Type 0} (side : X → Ordering) where
     }
 
     -- behind one that is less
-    pub narrowed-past : (i m : ℕ) → i < length xs → HoldsAt (λ y. side y ≡ Less) xs i → start + n ≡ suc i + m → IsNarrowed side xs (suc i) m
+    pub narrowed-past : (i m : ℕ) → i < length xs → HoldsAt (λ y. side y ≡ Less) xs i → start + n ≡ suc i + m
+        → IsNarrowed side xs (suc i) m
     narrowed-past i m h e f = record {
       within = (let w = q.within in omega arith);
       less = less-upto xs i p h e;
@@ -108,7 +131,8 @@ module _ {X : Type 0} (side : X → Ordering) where
     }
 
     -- before one that is greater
-    pub narrowed-down : (i m : ℕ) → i < length xs → HoldsAt (λ y. side y ≡ Greater) xs i → i ≤ start + m → m ≤ n → IsNarrowed side xs start m
+    pub narrowed-down : (i m : ℕ) → i < length xs → HoldsAt (λ y. side y ≡ Greater) xs i → i ≤ start + m → m ≤ n
+        → IsNarrowed side xs start m
     narrowed-down i m h e l k = record {
       within = (let w = q.within in omega arith);
       less = q.less;
@@ -137,10 +161,13 @@ module _ {X : Type 0} (side : X → Ordering) where
   ordered-take [] zero p = tt
   ordered-take [] (suc k) p = tt
   ordered-take (x ∷ xs) zero p = tt
-  ordered-take (x ∷ xs) (suc k) p = (⊎_elim (λ l. inl l) (λ g. inr (each-take (λ y. side y ≡ Greater) xs k g)) p.0, ordered-take xs k p.1)
+  ordered-take (x ∷ xs) (suc k) p =
+      (⊎_elim (λ l. inl l) (λ g. inr (each-take (λ y. side y ≡ Greater) xs k g)) p.0, ordered-take xs k p.1)
 
-  pub ordered-rest : (xs : List X) (start : ℕ) (rest : List X) → IsOrdered side xs → IsRest side xs start rest → IsOrdered side rest
-  ordered-rest xs start rest p q = subst (IsOrdered side) (sym q.part) (ordered-take (drop start xs) (length rest) (ordered-drop xs start p))
+  pub ordered-rest : (xs : List X) (start : ℕ) (rest : List X) → IsOrdered side xs → IsRest side xs start rest
+      → IsOrdered side rest
+  ordered-rest xs start rest p q =
+      subst (IsOrdered side) (sym q.part) (ordered-take (drop start xs) (length rest) (ordered-drop xs start p))
 
   -- the rest as it is cut off
   rest-part : (xs : List X) (start n : ℕ) → IsNarrowed side xs start n → IsRest side xs start (take n (drop start xs))
@@ -151,12 +178,15 @@ module _ {X : Type 0} (side : X → Ordering) where
       record { part = ap (λ k. take k (drop start xs)) (sym l); narrowed = subst (IsNarrowed side xs start) (sym l) q }
 
   -- the first element of the rest stands where the rest begins
-  rest-first : (xs : List X) (start : ℕ) (rest : List X) (y : X) → IsRest side xs start rest → 0 < length rest → y ≡ get_or rest 0 y → y ≡ get_or xs start y
+  rest-first : (xs : List X) (start : ℕ) (rest : List X) (y : X) → IsRest side xs start rest → 0 < length rest → y
+      ≡ get_or rest 0 y → y ≡ get_or xs start y
   rest-first xs start rest y q h e =
-      e ∙ ap (λ l. get_or l 0 y) q.part ∙ get_or-take (length rest) (drop start xs) 0 y h ∙ get_or-drop start xs 0 y ∙ ap (λ k. get_or xs k y) (omega arith)
+      e ∙ ap (λ l. get_or l 0 y) q.part ∙ get_or-take (length rest) (drop start xs) 0 y h ∙ get_or-drop start xs 0 y
+      ∙ ap (λ k. get_or xs k y) (omega arith)
 
   -- what is left of the rest is a rest of the whole list
-  pub rest-rest : (xs ys zs : List X) (start passed : ℕ) → IsRest side xs start ys → IsRest side ys passed zs → IsRest side xs (start + passed) zs
+  pub rest-rest : (xs ys zs : List X) (start passed : ℕ) → IsRest side xs start ys → IsRest side ys passed zs
+      → IsRest side xs (start + passed) zs
   rest-rest xs ys zs start passed q r =
       let w = q.narrowed.within in
       let v = r.narrowed.within in
@@ -176,7 +206,8 @@ module _ {X : Type 0} (side : X → Ordering) where
         part = r.part ∙ ap (λ l. take m (drop passed l)) q.part ∙ cut ∙ ap (take m) (drop-drop passed start xs);
         narrowed = record {
           within = omega arith;
-          less = subst (AllByRecursion (λ y. side y ≡ Less)) before (each-append (λ y. side y ≡ Less) (take start xs) (take passed ys) q.narrowed.less r.narrowed.less);
+          less = subst (AllByRecursion (λ y. side y ≡ Less)) before
+              (each-append (λ y. side y ≡ Less) (take start xs) (take passed ys) q.narrowed.less r.narrowed.less);
           greater = subst (AllByRecursion (λ y. side y ≡ Greater)) behind
               (each-append (λ y. side y ≡ Greater) (drop (passed + m) ys) (drop n (drop start xs)) r.narrowed.greater
               (subst (AllByRecursion (λ y. side y ≡ Greater)) (sym (drop-drop n start xs)) q.narrowed.greater));
@@ -194,7 +225,8 @@ module _ {X : Type 0} (side : X → Ordering) where
   -- ---- one comparison, and three
 
   -- what stands behind an element that is not less is greater
-  greater-later : (xs : List X) (i j : ℕ) → IsOrdered side xs → i < j → j < length xs → HoldsAt (λ y. is_lt (side y) ≡ false) xs i → HoldsAt (λ y. side y ≡ Greater) xs j
+  greater-later : (xs : List X) (i j : ℕ) → IsOrdered side xs → i < j → j < length xs
+      → HoldsAt (λ y. is_lt (side y) ≡ false) xs i → HoldsAt (λ y. side y ≡ Greater) xs j
   greater-later [] i j p l h e = absurd (omega arith)
   greater-later (x ∷ xs) i zero p l h e = absurd (omega arith)
   greater-later (x ∷ xs) zero (suc j) p l h e =
@@ -202,17 +234,21 @@ module _ {X : Type 0} (side : X → Ordering) where
       ⊎_elim (λ m. absurd (less-not x (e x) m)) (λ g d. each-at (λ y. side y ≡ Greater) xs j d k g) p.0
   greater-later (x ∷ xs) (suc i) (suc j) p l h e = greater-later xs i j p.1 (omega arith) (omega arith) e
 
-  reached-cases : (xs : List X) (i r : ℕ) → IsReached side xs i r → ((r ≡ 0) × HoldsAt (λ y. side y ≡ Greater) xs i) ⊎ ((r ≡ 1) × HoldsAt (λ y. is_gt (side y) ≡ false) xs i)
+  reached-cases : (xs : List X) (i r : ℕ) → IsReached side xs i r
+      → ((r ≡ 0) × HoldsAt (λ y. side y ≡ Greater) xs i) ⊎ ((r ≡ 1) × HoldsAt (λ y. is_gt (side y) ≡ false) xs i)
   reached-cases xs i zero h = inl (refl, h)
   reached-cases xs i (suc r) h = inr (ap suc h.0, h.1)
 
   -- what is not greater is not behind what is
-  not-later : (xs : List X) (i j : ℕ) → IsOrdered side xs → i < j → j < length xs → HoldsAt (λ y. side y ≡ Greater) xs i → HoldsAt (λ y. is_gt (side y) ≡ false) xs j → ⊥
+  not-later : (xs : List X) (i j : ℕ) → IsOrdered side xs → i < j → j < length xs
+      → HoldsAt (λ y. side y ≡ Greater) xs i → HoldsAt (λ y. is_gt (side y) ≡ false) xs j → ⊥
   not-later [] i j p l h e f = absurd (omega arith)
-  not-later (x ∷ xs) i j p l h e f = greater-not (get_or (x ∷ xs) j x) (f x) (greater-later (x ∷ xs) i j p l h (λ d. ap is_lt (e d)) x)
+  not-later (x ∷ xs) i j p l h e f =
+      greater-not (get_or (x ∷ xs) j x) (f x) (greater-later (x ∷ xs) i j p l h (λ d. ap is_lt (e d)) x)
 
   module _ (xs : List X) (p : IsOrdered side xs) where
-    pub half-rest : (half r m : ℕ) → 2 ≤ length xs → half ≡ length xs / 2 → m ≡ length xs - half → IsReached side xs half r → IsRest side xs (r * half) (take m (drop (r * half) xs))
+    pub half-rest : (half r m : ℕ) → 2 ≤ length xs → half ≡ length xs / 2 → m ≡ length xs - half
+        → IsReached side xs half r → IsRest side xs (r * half) (take m (drop (r * half) xs))
     half-rest half r m h e f reached =
         rest-part xs (r * half) m
         (⊎_elim
@@ -233,20 +269,26 @@ module _ {X : Type 0} (side : X → Ordering) where
       at-part : (part next : ℕ) → next ≡ part + quarter → part + m ≤ length xs → next < length xs
           → HoldsAt (λ y. is_gt (side y) ≡ false) xs part → HoldsAt (λ y. side y ≡ Greater) xs next → IsNarrowed side xs part m
       at-part part next g k l o z =
-          narrowed-down xs p part (length xs - part) (narrowed-up xs p 0 (length xs) (narrowed-whole xs) part (length xs - part) (omega arith) o (omega arith)) next m l z (omega arith) (omega arith)
+          narrowed-down xs p part (length xs - part)
+          (narrowed-up xs p 0 (length xs) (narrowed-whole xs) part (length xs - part) (omega arith) o
+          (omega arith)) next m l z (omega arith) (omega arith)
 
       at-fourth : HoldsAt (λ y. is_gt (side y) ≡ false) xs (quarter * 3) → IsNarrowed side xs (quarter * 3) m
       at-fourth o = narrowed-up xs p 0 (length xs) (narrowed-whole xs) (quarter * 3) m (omega arith) o (omega arith)
 
-      moved-to : (a b c : ℕ) (to : ℕ) (times : ℕ) → a + b + c ≡ times → to ≡ times * quarter → IsNarrowed side xs to m → IsNarrowed side xs ((a + b + c) * quarter) m
-      moved-to a b c to times s t w = subst (λ k. IsNarrowed side xs (k * quarter) m) (sym s) (subst (λ k. IsNarrowed side xs k m) t w)
+      moved-to : (a b c : ℕ) (to : ℕ) (times : ℕ) → a + b + c ≡ times → to ≡ times * quarter
+          → IsNarrowed side xs to m → IsNarrowed side xs ((a + b + c) * quarter) m
+      moved-to a b c to times s t w =
+          subst (λ k. IsNarrowed side xs (k * quarter) m) (sym s) (subst (λ k. IsNarrowed side xs k m) t w)
 
-      narrowed-quarter : (a b c : ℕ) → IsReached side xs quarter a → IsReached side xs (quarter * 2) b → IsReached side xs (quarter * 3) c → IsNarrowed side xs ((a + b + c) * quarter) m
+      narrowed-quarter : (a b c : ℕ) → IsReached side xs quarter a → IsReached side xs (quarter * 2) b
+          → IsReached side xs (quarter * 3) c → IsNarrowed side xs ((a + b + c) * quarter) m
       narrowed-quarter a b c ra rb rc =
           ⊎_elim
           (λ a0. ⊎_elim
           (λ b0. ⊎_elim
-          (λ c0. let x : a ≡ 0 = a0.0 in let y : b ≡ 0 = b0.0 in let z : c ≡ 0 = c0.0 in moved-to a b c 0 0 (omega arith) (omega arith) (at-first a0.1))
+          (λ c0. let x : a ≡ 0 = a0.0 in let y : b ≡ 0 = b0.0 in let z : c ≡ 0 = c0.0 in
+          moved-to a b c 0 0 (omega arith) (omega arith) (at-first a0.1))
           (λ c1. absurd (not-later xs (quarter * 2) (quarter * 3) p (omega arith) (omega arith) b0.1 c1.1))
           (reached-cases xs (quarter * 3) c rc))
           (λ b1. absurd (not-later xs quarter (quarter * 2) p (omega arith) (omega arith) a0.1 b1.1))
@@ -262,7 +304,8 @@ module _ {X : Type 0} (side : X → Ordering) where
           (λ c0. let x : a ≡ 1 = a1.0 in let y : b ≡ 1 = b1.0 in let z : c ≡ 0 = c0.0 in
           moved-to a b c (quarter * 2) 2 (omega arith) (omega arith)
           (at-part (quarter * 2) (quarter * 3) (omega arith) (omega arith) (omega arith) b1.1 c0.1))
-          (λ c1. let x : a ≡ 1 = a1.0 in let y : b ≡ 1 = b1.0 in let z : c ≡ 1 = c1.0 in moved-to a b c (quarter * 3) 3 (omega arith) (omega arith) (at-fourth c1.1))
+          (λ c1. let x : a ≡ 1 = a1.0 in let y : b ≡ 1 = b1.0 in let z : c ≡ 1 = c1.0 in
+          moved-to a b c (quarter * 3) 3 (omega arith) (omega arith) (at-fourth c1.1))
           (reached-cases xs (quarter * 3) c rc))
           (reached-cases xs (quarter * 2) b rb))
           (reached-cases xs quarter a ra)
@@ -273,46 +316,57 @@ module _ {X : Type 0} (side : X → Ordering) where
 
   -- ---- one comparison that may find it
 
-  -- a product with the one or the none of a comparison
-  pub reached-times : (xs : List X) (i r n : ℕ) → IsReached side xs i r → (r ≤ 1) × (r * n ≤ n)
-  reached-times xs i r n h = ⊎_elim (λ z. let e : r ≡ 0 = z.0 in times e) (λ o. let e : r ≡ 1 = o.0 in (omega arith, subst (λ k. k * n ≤ n) (sym e) (omega arith))) (reached-cases xs i r h)
-    where
-      times : r ≡ 0 → (r ≤ 1) × (r * n ≤ n)
-      times e = (omega arith, subst (λ k. k * n ≤ n) (sym e) (omega arith))
-
   pub searched-within : (xs : List X) (start n : ℕ) (found : Bool) → IsSearched side xs start n found → start + n ≤ length xs
   searched-within xs start n true q = q.within
   searched-within xs start n false q = q.within
 
-  module _ (xs : List X) (p : IsOrdered side xs) (start n middle m : ℕ) (h : middle + m ≡ start + n) (k : m + m ≤ n) (l : n ≤ suc (m + m)) (some : 0 < n) where
+  module _ (xs : List X) (p : IsOrdered side xs) (start n middle m : ℕ) (h : middle + m ≡ start + n) (k : m + m ≤ n)
+      (l : n ≤ suc (m + m)) (some : 0 < n) where
     narrowed-half : (o : Ordering) (next : ℕ) (b : Bool) → IsNarrowed side xs start n → HoldsAt (λ y. side y ≡ o) xs (middle - 1)
         → (is_gt o ≡ true → next ≡ start) → (is_gt o ≡ false → next ≡ middle) → b ≡ is_eq o → IsSearched side xs next m b
     narrowed-half Less next b q e up down f =
         let w = q.within in
         let s : suc (middle - 1) ≡ next = let r = down refl in omega arith in
-        subst (λ b. IsSearched side xs next m b) (sym f) (subst (λ i. IsNarrowed side xs i m) s (narrowed-past xs p start n q (middle - 1) m (omega arith) e (omega arith)))
+        subst (λ b. IsSearched side xs next m b) (sym f)
+        (subst (λ i. IsNarrowed side xs i m) s (narrowed-past xs p start n q (middle - 1) m (omega arith) e (omega arith)))
     narrowed-half Equal next b q e up down f =
         let w = q.within in
         let r = down refl in
-        subst (λ b. IsSearched side xs next m b) (sym f) (record { within = omega arith; some = omega arith; equal = subst (λ i. HoldsAt (λ y. side y ≡ Equal) xs (i - 1)) (sym r) e })
+        subst (λ b. IsSearched side xs next m b) (sym f)
+        (record {
+          within = omega arith;
+          some = omega arith;
+          equal =
+              subst (λ i. HoldsAt (λ y. side y ≡ Equal) xs (i - 1)) (sym r) e;
+        })
     narrowed-half Greater next b q e up down f =
         let w = q.within in
-        subst (λ b. IsSearched side xs next m b) (sym f) (subst (λ i. IsNarrowed side xs i m) (sym (up refl)) (narrowed-down xs p start n q (middle - 1) m (omega arith) e (omega arith) (omega arith)))
+        subst (λ b. IsSearched side xs next m b) (sym f)
+        (subst (λ i. IsNarrowed side xs i m) (sym (up refl))
+        (narrowed-down xs p start n q (middle - 1) m (omega arith) e (omega arith) (omega arith)))
 
-    passed-half : (o : Ordering) (next : ℕ) (y : X) → IsPassed side xs start n → y ≡ get_or xs (middle - 1) y → o ≡ side y → (is_gt o ≡ true → next ≡ start) → IsPassed side xs next m
+    passed-half : (o : Ordering) (next : ℕ) (y : X) → IsPassed side xs start n → y ≡ get_or xs (middle - 1) y → o
+        ≡ side y → (is_gt o ≡ true → next ≡ start) → IsPassed side xs next m
     passed-half o next y q e f up =
         let w = q.within in
         let s = q.some in
-        let g : HoldsAt (λ z. side z ≡ Greater) xs (middle - 1) = greater-later xs (start - 1) (middle - 1) p (omega arith) (omega arith) (λ d. ap is_lt (q.equal d)) in
+        let g : HoldsAt (λ z. side z ≡ Greater) xs (middle - 1) =
+        greater-later xs (start - 1) (middle - 1) p (omega arith) (omega arith) (λ d. ap is_lt (q.equal d)) in
         let r : next ≡ start = up (ap is_gt (f ∙ ap side e ∙ g y)) in
-        record { within = omega arith; some = omega arith; equal = subst (λ i. HoldsAt (λ z. side z ≡ Equal) xs (i - 1)) (sym r) q.equal }
+        record {
+          within = omega arith;
+          some = omega arith;
+          equal =
+              subst (λ i. HoldsAt (λ z. side z ≡ Equal) xs (i - 1)) (sym r) q.equal;
+        }
 
     pub searched-half : (found b : Bool) (o : Ordering) (next : ℕ) (y : X) → IsSearched side xs start n found
         → y ≡ get_or xs (middle - 1) y → middle - 1 < length xs → o ≡ side y → (is_gt o ≡ true → next ≡ start)
         → (is_gt o ≡ false → next ≡ middle) → b ≡ is_eq o
         → IsSearched side xs next m (found || b)
     searched-half true b o next y q e i f up down g = passed-half o next y q e f up
-    searched-half false b o next y q e i f up down g = narrowed-half o next b q (holds-read (λ z. side z ≡ o) xs (middle - 1) y i e (sym f)) up down g
+    searched-half false b o next y q e i f up down g =
+        narrowed-half o next b q (holds-read (λ z. side z ≡ o) xs (middle - 1) y i e (sym f)) up down g
 
   -- ---- the place
 
@@ -326,48 +380,62 @@ module _ {X : Type 0} (side : X → Ordering) where
         within = i;
         equal = q.equal;
         less = less-before xs (start - 1) p i (λ d. ap is_gt (q.equal d));
-        greater = subst (λ k. AllByRecursion (λ y. side y ≡ Greater) (drop k xs)) j (greater-behind xs (start - 1) p i (λ d. ap is_lt (q.equal d)));
+        greater = subst (λ k. AllByRecursion (λ y. side y ≡ Greater) (drop k xs)) j
+            (greater-behind xs (start - 1) p i (λ d. ap is_lt (q.equal d)));
       }
 
   not-below : (i start : ℕ) → (i < start → ⊥) → start ≤ i
   not-below i start f = ⊎_elim (λ h. absurd (f h)) (λ h. h) (cases_lt i start)
 
   -- among those that are less none is not
-  both : (xs : List X) (start i : ℕ) → i < start → AllByRecursion (λ y. side y ≡ Less) (take start xs) → i < length xs → HoldsAt (λ y. is_lt (side y) ≡ false) xs i → ⊥
+  both : (xs : List X) (start i : ℕ) → i < start → AllByRecursion (λ y. side y ≡ Less) (take start xs)
+      → i < length xs → HoldsAt (λ y. is_lt (side y) ≡ false) xs i → ⊥
   both [] start i h p k e = omega arith
   both (x ∷ xs) zero i h p k e = omega arith
   both (x ∷ xs) (suc start) zero h p k e = less-not x (e x) p.0
   both (x ∷ xs) (suc start) (suc i) h p k e = both xs start i (omega arith) p.1 (omega arith) e
 
-  gap : (xs : List X) (start i : ℕ) → i < start → AllByRecursion (λ y. side y ≡ Less) (take start xs) → start ≤ length xs → AllByRecursion (λ y. side y ≡ Greater) (drop i xs) → ⊥
+  gap : (xs : List X) (start i : ℕ) → i < start → AllByRecursion (λ y. side y ≡ Less) (take start xs) → start
+      ≤ length xs → AllByRecursion (λ y. side y ≡ Greater) (drop i xs) → ⊥
   gap [] start i h p k e = omega arith
   gap (x ∷ xs) zero i h p k e = omega arith
   gap (x ∷ xs) (suc start) zero h p k e = less-not x (ap is_lt e.0) p.0
   gap (x ∷ xs) (suc start) (suc i) h p k e = gap xs start i (omega arith) p.1 (omega arith) e
 
   -- an element that was read and is equal
-  pub place-met : (xs : List X) (i : ℕ) (y : X) → IsOrdered side xs → i < length xs → y ≡ get_or xs i y → Equal ≡ side y → IsFound side xs i
+  pub place-met : (xs : List X) (i : ℕ) (y : X) → IsOrdered side xs → i < length xs → y ≡ get_or xs i y → Equal
+      ≡ side y → IsFound side xs i
   place-met xs i y p h e f = subst (λ i. IsFound side xs i) (omega arith)
       (place-passed xs (i + 1) 0 p
       (record {
         within = omega arith;
         some = omega arith;
-        equal = subst (λ i. HoldsAt (λ z. side z ≡ Equal) xs i) (omega arith) (holds-read (λ z. side z ≡ Equal) xs i y h e (sym f));
+        equal = subst (λ i. HoldsAt (λ z. side z ≡ Equal) xs i) (omega arith)
+            (holds-read (λ z. side z ≡ Equal) xs i y h e (sym f));
       }))
 
   -- no place is among the elements that are known to be less
-  pub place-behind : (xs : List X) (start n : ℕ) (r : Result ℕ ℕ) → IsNarrowed side xs start n → IsPlace side xs r → start ≤ place_of r
+  pub place-behind : (xs : List X) (start n : ℕ) (r : Result ℕ ℕ) → IsNarrowed side xs start n → IsPlace side xs r
+      → start ≤ place_of r
   place-behind xs start n (Ok i) q r = not-below i start (λ h. both xs start i h q.less r.within (λ d. ap is_lt (r.equal d)))
-  place-behind xs start n (Err i) q r = not-below i start (λ h. gap xs start i h q.less (let w = q.within in omega arith) r.greater)
+  place-behind xs start n (Err i) q r =
+      not-below i start (λ h. gap xs start i h q.less (let w = q.within in omega arith) r.greater)
 
-  pub place-searched : (xs : List X) (start n : ℕ) (found : Bool) → IsOrdered side xs → IsSearched side xs start n found → found ≡ true → IsFound side xs (start - 1)
+  pub place-searched : (xs : List X) (start n : ℕ) (found : Bool) → IsOrdered side xs
+      → IsSearched side xs start n found → found ≡ true → IsFound side xs (start - 1)
   place-searched xs start n true p q f = place-passed xs start n p q
   place-searched xs start n false p q f = absurd (true≢false (sym f))
 
   place-narrowed : (xs : List X) (start : ℕ) → IsNarrowed side xs start 0 → IsGap side xs start
-  place-narrowed xs start q = record { within = (let w = q.within in omega arith); less = q.less; greater = subst (λ k. AllByRecursion (λ y. side y ≡ Greater) (drop k xs)) (omega arith) q.greater }
+  place-narrowed xs start q = record {
+    within = (let w = q.within in omega arith);
+    less = q.less;
+    greater =
+        subst (λ k. AllByRecursion (λ y. side y ≡ Greater) (drop k xs)) (omega arith) q.greater;
+  }
 
-  module _ (xs : List X) (start : ℕ) (p : IsOrdered side xs) (q : IsNarrowed side xs start 1) (y : X) (e : y ≡ get_or xs start y) where
+  module _ (xs : List X) (start : ℕ) (p : IsOrdered side xs) (q : IsNarrowed side xs start 1) (y : X)
+      (e : y ≡ get_or xs start y) where
     in-bounds : start < length xs
     in-bounds = let w = q.within in omega arith
 
@@ -381,10 +449,13 @@ module _ {X : Type 0} (side : X → Ordering) where
     place-at f = place-met xs start y p in-bounds e f
 
     place-above : Greater ≡ side y → IsGap side xs start
-    place-above f = place-narrowed xs start (narrowed-down xs p start 1 q start 0 in-bounds (holds-read (λ z. side z ≡ Greater) xs start y in-bounds e (sym f)) (omega arith) (omega arith))
+    place-above f = place-narrowed xs start
+        (narrowed-down xs p start 1 q start 0 in-bounds
+        (holds-read (λ z. side z ≡ Greater) xs start y in-bounds e (sym f)) (omega arith) (omega arith))
 
   -- the same where one element is left to search, and compares as `o`
-  module _ (xs : List X) (start : ℕ) (one : List X) (p : IsOrdered side xs) (q : IsRest side xs start one) (h : length one ≡ 1) (y : X) (e : y ≡ get_or one 0 y) where
+  module _ (xs : List X) (start : ℕ) (one : List X) (p : IsOrdered side xs) (q : IsRest side xs start one)
+      (h : length one ≡ 1) (y : X) (e : y ≡ get_or one 0 y) where
     narrowed-one : IsNarrowed side xs start 1
     narrowed-one = subst (IsNarrowed side xs start) h q.narrowed
 
@@ -397,10 +468,14 @@ module _ {X : Type 0} (side : X → Ordering) where
     place-equal Greater f g = absurd (true≢false (sym g))
 
     -- one place further where the element is less
-    pub place-unequal : (o : Ordering) (b : Bool) → o ≡ side y → is_eq o ≡ false → b ≡ is_lt o → IsGap side xs (start + from_bool b)
-    place-unequal Less b f g k = subst (λ b. IsGap side xs (start + from_bool b)) (sym k) (place-below xs start p narrowed-one y at-start f)
+    pub place-unequal : (o : Ordering) (b : Bool) → o ≡ side y → is_eq o ≡ false → b ≡ is_lt o
+        → IsGap side xs (start + from_bool b)
+    place-unequal Less b f g k = subst (λ b. IsGap side xs (start + from_bool b)) (sym k)
+        (place-below xs start p narrowed-one y at-start f)
     place-unequal Equal b f g k = absurd (true≢false g)
-    place-unequal Greater b f g k = subst (λ b. IsGap side xs (start + from_bool b)) (sym k) (subst (IsGap side xs) (omega arith) (place-above xs start p narrowed-one y at-start f))
+    place-unequal Greater b f g k =
+        subst (λ b. IsGap side xs (start + from_bool b)) (sym k)
+        (subst (IsGap side xs) (omega arith) (place-above xs start p narrowed-one y at-start f))
 
 -- ---- ascending lists are ordered round whatever is sought
 
@@ -409,14 +484,18 @@ module _ {K : Type 0} (cmp : K → K → Ordering) (total : IsTotalOrder cmp) (k
   greater-above : (i j : K) (o : Ordering) → cmp i k ≡ o → is_lt o ≡ false → cmp i j ≡ Less → cmp j k ≡ Greater
   greater-above i j Less e f l = absurd (true≢false f)
   greater-above i j Equal e f l = total.antisymm j k ∙ ap ordering_reverse (sym (total.congr i k j e) ∙ l)
-  greater-above i j Greater e f l = total.antisymm j k ∙ ap ordering_reverse (total.trans k i j (total.antisymm k i ∙ ap ordering_reverse e) l)
+  greater-above i j Greater e f l = total.antisymm j k
+      ∙ ap ordering_reverse (total.trans k i j (total.antisymm k i ∙ ap ordering_reverse e) l)
 
   module _ {X : Type 0} (key : X → K) where
-    all-above : (x : X) (o : Ordering) → cmp (key x) k ≡ o → is_lt o ≡ false → (ys : List X) → AllByRecursion (λ y. cmp (key x) (key y) ≡ Less) ys → AllByRecursion (λ y. cmp (key y) k ≡ Greater) ys
+    all-above : (x : X) (o : Ordering) → cmp (key x) k ≡ o → is_lt o ≡ false → (ys : List X)
+        → AllByRecursion (λ y. cmp (key x) (key y) ≡ Less) ys → AllByRecursion (λ y. cmp (key y) k ≡ Greater) ys
     all-above x o e f [] p = tt
     all-above x o e f (y ∷ ys) p = (greater-above (key x) (key y) o e f p.0, all-above x o e f ys p.1)
 
-    beside : (x : X) (ys : List X) (o : Ordering) → cmp (key x) k ≡ o → AllByRecursion (λ y. cmp (key x) (key y) ≡ Less) ys → (cmp (key x) k ≡ Less) ⊎ AllByRecursion (λ y. cmp (key y) k ≡ Greater) ys
+    beside : (x : X) (ys : List X) (o : Ordering) → cmp (key x) k ≡ o
+        → AllByRecursion (λ y. cmp (key x) (key y) ≡ Less) ys
+        → (cmp (key x) k ≡ Less) ⊎ AllByRecursion (λ y. cmp (key y) k ≡ Greater) ys
     beside x ys Less e p = inl e
     beside x ys Equal e p = inr (all-above x Equal e refl ys p)
     beside x ys Greater e p = inr (all-above x Greater e refl ys p)

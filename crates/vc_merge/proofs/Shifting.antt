@@ -1,5 +1,6 @@
 -- Elements that move within a list, and what a merge of two parts of a list shows of them.
-use Rattle.std.proofs.Common.{◌≡◌, ℕ, zero, suc, ◌+◌, ◌-◌, ◌≤◌, List, ◌∷◌, ◌++◌, length, take, drop, set, refl, sym, ap, ◌∙◌, arith, rules, drop-drop}
+use Rattle.std.proofs.Common.{◌≡◌, ℕ, zero, suc, ◌+◌, ◌-◌, ◌≤◌, List, ◌∷◌, ◌++◌, length, take, drop, set, refl, sym}
+use Rattle.std.proofs.Common.{ap, ◌∙◌, arith, rules, drop-drop}
 use Rattle.std.proofs.lemmas.List.{same_lists, places, drop-set-add, take-set-le}
 use borrow.Rule.Slice.PartMut.{put_mid}
 use Rattle.vc_merge.specs.MovesDown.{MovesDown}
@@ -23,10 +24,12 @@ module _ {X : Type 0} where
   part-drop xs s e n h = same_lists _ _ (search (rules, places)) (λ k d h. grind (arith, places))
 
   -- a part of a part
-  part-part : (xs : List X) (a b s e : ℕ) → a ≤ s → s ≤ e → e ≤ b → take (e - s) (drop (s - a) (take (b - a) (drop a xs))) ≡ take (e - s) (drop s xs)
+  part-part : (xs : List X) (a b s e : ℕ) → a ≤ s → s ≤ e → e ≤ b
+      → take (e - s) (drop (s - a) (take (b - a) (drop a xs))) ≡ take (e - s) (drop s xs)
   part-part xs a b s e h i j =
       let count : b - a - (s - a) ≡ b - s = omega arith in let from : a + (s - a) ≡ s = omega arith in
-      ap (take (e - s)) (drop-take (s - a) (b - a) (drop a xs) (omega arith) ∙ (λ k. take (count k) (drop-drop (s - a) a xs k)) ∙ ap (λ k. take (b - s) (drop k xs)) from)
+      ap (take (e - s)) (drop-take (s - a) (b - a) (drop a xs) (omega arith)
+      ∙ (λ k. take (count k) (drop-drop (s - a) a xs k)) ∙ ap (λ k. take (b - s) (drop k xs)) from)
       ∙ take-take (e - s) (b - s) (drop s xs) (omega arith)
 
   -- ---- calls on slices
@@ -44,8 +47,10 @@ module _ {X : Type 0} where
       }
 
   -- the same by a trade, where the gap is long enough
-  pub MovesUp-swapped : (xs front back sub other : List X) (start end next : ℕ) → start ≤ end → end ≤ next → end - start ≤ next - end → next ≤ length xs
-      → front ≡ take (next - (end - start)) xs → back ≡ drop (next - (end - start)) xs → sub ≡ take (end - start) back → other ≡ take (end - start) (drop start front)
+  pub MovesUp-swapped : (xs front back sub other : List X) (start end next : ℕ) → start ≤ end → end ≤ next
+      → end - start ≤ next - end → next ≤ length xs
+      → front ≡ take (next - (end - start)) xs → back ≡ drop (next - (end - start)) xs → sub
+      ≡ take (end - start) back → other ≡ take (end - start) (drop start front)
       → MovesUp xs start end next (put_mid start (end - start) front sub ++ (other ++ drop (end - start) back))
   MovesUp-swapped xs front back sub other start end next low high apart within a b c d =
       rw (d, c, b, a) record {
@@ -68,8 +73,10 @@ module _ {X : Type 0} where
       }
 
   -- two runs changed places, each in its part of the list
-  pub Trades-swapped : (xs front back sub other : List X) (at next n : ℕ) → at + n ≤ next → next + n ≤ length xs → front ≡ take next xs → back ≡ drop next xs
-      → sub ≡ take n back → other ≡ take (at + n - at) (drop at front) → Trades xs at next n (put_mid at (at + n - at) front sub ++ (other ++ drop n back))
+  pub Trades-swapped : (xs front back sub other : List X) (at next n : ℕ) → at + n ≤ next → next + n ≤ length xs
+      → front ≡ take next xs → back ≡ drop next xs
+      → sub ≡ take n back → other ≡ take (at + n - at) (drop at front)
+      → Trades xs at next n (put_mid at (at + n - at) front sub ++ (other ++ drop n back))
   Trades-swapped xs front back sub other at next n apart within a b c d =
       let count : at + n - at ≡ n = omega arith in
       rw (d, c, b, a, count) record {
@@ -114,7 +121,8 @@ module _ {X : Type 0} where
       module _ (turned : Turns xs b next n ys) where
         pub turn-left : take (e + n - (s + n)) (drop (s + n) ys) ≡ take (e - s) (drop s xs)
         turn-left =
-            let low : b + n ≤ s + n = omega arith in let order : s + n ≤ e + n = omega arith in let high : e + n ≤ next + n = omega arith in
+            let low : b + n ≤ s + n = omega arith in let order : s + n ≤ e + n = omega arith in let high : e + n
+            ≤ next + n = omega arith in
             let same : e + n - (s + n) ≡ e - s = omega arith in let from : s + n - (b + n) ≡ s - b = omega arith in
             sym (part-part ys (b + n) (next + n) (s + n) (e + n) low order high)
             ∙ ap (λ l. take (e + n - (s + n)) (drop (s + n - (b + n)) l)) turned.moved
@@ -137,7 +145,9 @@ module _ {X : Type 0} where
   rest-over ws ys zs x y e f = rw (e, f) refl
 
   -- a part before the place
-  pub part-before : (xs : List X) (s e i : ℕ) (x : X) → s ≤ i → e ≤ i → take (e - s) (drop s (set xs i x)) ≡ take (e - s) (drop s xs)
+  pub part-before : (xs : List X) (s e i : ℕ) (x : X) → s ≤ i → e ≤ i → take (e - s) (drop s (set xs i x))
+      ≡ take (e - s) (drop s xs)
   part-before xs s e i x h k =
       let at : s + (i - s) ≡ i = omega arith in
-      ap (λ j. take (e - s) (drop s (set xs j x))) (sym at) ∙ ap (take (e - s)) (drop-set-add s xs (i - s) x) ∙ take-set-le (e - s) (drop s xs) (i - s) x (omega arith)
+      ap (λ j. take (e - s) (drop s (set xs j x))) (sym at) ∙ ap (take (e - s)) (drop-set-add s xs (i - s) x)
+      ∙ take-set-le (e - s) (drop s xs) (i - s) x (omega arith)

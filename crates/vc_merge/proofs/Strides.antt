@@ -3,7 +3,8 @@
 --     place-paid, more-paid, last-paid        the searches for some elements, one behind the other
 --     strides-few        by strides of the share that each element has of the others, they spend no more than by halves
 use Rattle.std.proofs.Common.{◌≡◌, ℕ, zero, suc, ◌+◌, ◌-◌, ◌*◌, ◌/◌, ◌^◌, ◌<◌, ◌≤◌, min, ⊎_elim, refl, sym, subst, ◌∙◌, ap, arith}
-use Rattle.std.proofs.Math.Nat.{add-div_right, add-mul-div_right, div-mul-le_self, mul-le-mul_left, mul-le-mul_right, mul-add, mul_assoc, mul_comm, div-lt_iff_lt-mul, lt-mul-div-succ, pow-suc}
+use Rattle.std.proofs.Math.Nat.{add-div_right, add-mul-div_right, div-mul-le_self, mul-le-mul_left, mul-le-mul_right}
+use Rattle.std.proofs.Math.Nat.{mul-add, mul_assoc, mul_comm, div-lt_iff_lt-mul, lt-mul-div-succ, pow-suc}
 use Rattle.std.proofs.lemmas.Bool.{cases_lt}
 use Rattle.std.proofs.lemmas.Nat.{le-div, pow_pos}
 use Rattle.vc_merge.specs.Count.{by_strides, digits}
@@ -28,7 +29,8 @@ apart m n k h =
 -- ---- one search more
 
 -- the search that found a place behind p of n others, which leaves r of them
-pub place-paid : (t a b p n r : ℕ) → b ≤ a + t + min (n / 2 ^ t) (p / 2 ^ t + 1) → r + p ≤ n → b + r / 2 ^ t ≤ a + (t + 1) + n / 2 ^ t
+pub place-paid : (t a b p n r : ℕ) → b ≤ a + t + min (n / 2 ^ t) (p / 2 ^ t + 1) → r + p ≤ n → b + r / 2 ^ t
+    ≤ a + (t + 1) + n / 2 ^ t
 place-paid t a b p n r h l =
     let some = pow_pos t in
     let sum : p / 2 ^ t + r / 2 ^ t ≤ (p + r) / 2 ^ t = apart p r (2 ^ t) some in
@@ -39,7 +41,9 @@ place-paid t a b p n r h l =
 pub more-paid : (t a b few before n r start : ℕ) → few < before → b ≤ a + t + n / 2 ^ t → b + r / 2 ^ t ≤ a + (t + 1) + n / 2 ^ t
     → a + by_strides t before n ≤ start → b + by_strides t few r ≤ start
 more-paid t a b few zero n r start h k l w = absurd (omega arith)
-more-paid t a b zero (suc before) n r start h k l w = let m : 1 * t ≤ suc before * t = mul-le-mul_right {m = 1} {n = suc before} t (omega arith) in omega arith
+more-paid t a b zero (suc before) n r start h k l w =
+    let m : 1 * t ≤ suc before * t = mul-le-mul_right {m = 1} {n = suc before} t (omega arith) in
+    omega arith
 more-paid t a b (suc few) (suc before) n r start h k l w =
     let m : suc (suc few) * t ≤ suc before * t = mul-le-mul_right {m = suc (suc few)} {n = suc before} t (omega arith) in
     let sum : suc (suc few) * t ≡ suc few * t + t = omega arith in
@@ -47,7 +51,10 @@ more-paid t a b (suc few) (suc before) n r start h k l w =
 
 -- it was the last search
 pub last-paid : (t a b before n start : ℕ) → 0 < before → b ≤ a + t + n / 2 ^ t → a + by_strides t before n ≤ start → b ≤ start
-last-paid t a b before n start h k w = let m = more-paid t a b 0 before n 0 start h k (let e : 0 / 2 ^ t ≤ n / 2 ^ t = stride-within 0 n (2 ^ t) (pow_pos t) (omega arith) in omega arith) w in omega arith
+last-paid t a b before n start h k w =
+    let e : 0 / 2 ^ t ≤ n / 2 ^ t = stride-within 0 n (2 ^ t) (pow_pos t) (omega arith) in
+    let m = more-paid t a b 0 before n 0 start h k (omega arith) w in
+    omega arith
 
 -- ---- strides of the share
 
@@ -104,12 +111,14 @@ strides-few (suc s) n q t h l e d =
     let turned : 2 ^ t * suc s ≡ suc s * 2 ^ t = mul_comm (2 ^ t) (suc s) in
     let least : suc s ≤ n / 2 ^ t = le-div (suc s) n (2 ^ t) (pow_pos t) (omega arith) in
     let most : n / 2 ^ t < 2 * suc s
-    = (div-lt_iff_lt-mul (pow_pos t)).1 (below-twice (suc s) n q (2 ^ t) (subst (λ k. n < suc s * (k + 1)) (sym e) (lt-mul-div-succ n (omega arith))) (omega arith)) in
+    = (div-lt_iff_lt-mul (pow_pos t)).1 (below-twice (suc s) n q (2 ^ t)
+    (subst (λ k. n < suc s * (k + 1)) (sym e) (lt-mul-div-succ n (omega arith))) (omega arith)) in
     let paid = strides-paid (suc s) (n / 2 ^ t) h least most in
     let shifted : t + digits (n / 2 ^ t) ≤ digits (n / 2 ^ t * 2 ^ t) = digits-shifted t (n / 2 ^ t) (omega arith) in
     let within : digits (n / 2 ^ t * 2 ^ t) ≤ digits n = digits-monotone (n / 2 ^ t * 2 ^ t) n (div-mul-le_self n (2 ^ t)) in
     let all : suc s * (t + digits (n / 2 ^ t)) ≤ suc s * digits n = mul-le-mul_left (suc s) (omega arith) in
-    let parts : suc s * (t + digits (n / 2 ^ t)) ≡ suc s * t + suc s * digits (n / 2 ^ t) = mul-add (suc s) t (digits (n / 2 ^ t)) in
+    let parts : suc s * (t + digits (n / 2 ^ t)) ≡ suc s * t + suc s * digits (n / 2 ^ t) =
+    mul-add (suc s) t (digits (n / 2 ^ t)) in
     omega arith
   where
     below-twice : (s n q p : ℕ) → n < s * (q + 1) → q + 1 ≤ p * 2 → n < 2 * s * p

@@ -1,8 +1,10 @@
 pub mod Ascending
+pub mod Backwards
 pub mod Both
 pub mod Building
 pub mod Chain
 pub mod Count
+pub mod Cuts
 pub mod Fronts
 pub mod Place
 pub mod Progress

@@ -1,11 +1,20 @@
 -- What an iterator over a list shows.
 use Rattle.std.specs.Prelude.{◌≡◌, ◌^◌, ◌<◌, List, length}
-use Rattle.std.specs.Iterator.Runs.{EveryRun, ItemsMapTo}
-use Rattle.std.specs.Slice.Iter.{iter_rest, iter_steps}
+use Rattle.std.specs.Iterator.Runs.{EveryRun, ItemsMapTo, ItemsMapToReversed}
+use Rattle.std.specs.Map.Iter.{ShowsInOrder, ShowsInReverse, deref}
+use Rattle.std.specs.Slice.Iter.{iter_rest, iter_steps, iter_steps_back}
 use Rattle.std.specs.declared.slice.Iter.{Iter}
 
--- it shows the elements of xs, by reference and in order
+-- from behind it shows what is left, by reference and in reverse
+abbrev pub ShowsBackwards : Type 0 → Type 0
+ShowsBackwards X = EveryRun (iter_steps_back {A = X}) (λ p. ItemsMapToReversed p (λ x. x.now) (iter_rest p.from))
+
+-- it shows the elements of xs, by reference and in order, and from behind in reverse
 abbrev pub ShowsItems : {X : Type 0} → List X → Iter X → Type 0
 ShowsItems {X} xs it =
     (iter_rest it ≡ xs) × (length (iter_rest it) < 2 ^ 64)
-    × EveryRun (iter_steps {A = X}) (λ p. ItemsMapTo p (λ x. x.now) (iter_rest p.from))
+    × EveryRun (iter_steps {A = X}) (λ p. ItemsMapTo p (λ x. x.now) (iter_rest p.from)) × ShowsBackwards X
+
+-- the same of an iterator that is seen as the list of what it has left
+abbrev pub ShowsBothWays : {X : Type 0} → List X → List X → Type 0
+ShowsBothWays {X} xs it = (it ≡ xs) × (length it < 2 ^ 64) × ShowsInOrder (deref {X = X}) × ShowsInReverse (deref {X = X})

@@ -4,9 +4,9 @@
 //! There are three forms. [`search`] halves what is left until it meets an equal element, and makes
 //! no more comparisons than the length has binary digits: trees find children by it.
 //! [`search_near`] goes in strides from the front on, and halves what stands before the last of
-//! them, without a branch on an answer: counted calls and merges search by it. [`look_up`] compares
-//! with three elements at a time that do not wait for each other, which makes half as many
-//! comparisons more and is faster, for numbers and for strings.
+//! them, without a branch on an answer: merges search by it. [`look_up`] compares with three
+//! elements at a time that do not wait for each other, which makes half as many comparisons more
+//! and is faster, for numbers and for strings.
 ghost use Rattle.std.specs.Prelude.{◌≡◌, ◌+◌, ◌-◌, ◌*◌, ◌/◌, ◌^◌, ◌<◌, ◌≤◌, length, min};
 ghost use Rattle.std.specs.Map.{keys_of};
 ghost use Rattle.std.specs.declared.cmp.Ordering.{Ordering};
@@ -14,7 +14,10 @@ ghost use Rattle.vc_merge.specs.Ascending.{Ascends};
 ghost use Rattle.vc_merge.specs.Count.{ticked, digits};
 ghost use Rattle.vc_merge.specs.Place.{IsOrdered, IsPlace, IsNarrowed, IsRest, IsReached, IsSearched, place_of};
 
+mod ranges;
+
 use crate::merge::{Count, Uncounted};
+pub use ranges::{elements_between, pairs_between};
 use std::cmp::Ordering;
 
 /// What is sought in a list: it tells how an element stands to it.

@@ -1,7 +1,8 @@
 use Rattle.std.proofs.Common.{◌<◌, Bool, length, sym, subst, arith}
 use Rattle.std.specs.Fn.{CalledAt, TakesAt}
 use Rattle.vc_merge.proofs.Callable.{callable-first, callable-others}
-use Rattle.vc_merge.proofs.Keeping.{KeepsInFront-start, KeepsInFront-next, KeepsInFront-refused, KeepsInFront-accepted, KeepsInFront-all}
+use Rattle.vc_merge.proofs.Keeping.{KeepsInFront-start, KeepsInFront-next, KeepsInFront-refused}
+use Rattle.vc_merge.proofs.Keeping.{KeepsInFront-accepted, KeepsInFront-all}
 use Rattle.vc_merge.proofs.lists.keep_in_front.Goals as goal
 use Rattle.vc_merge.proofs.lists.keep_in_front.Goals.{then-f, else-f}
 
@@ -40,4 +41,6 @@ elements-preserved g c =
     }
 
 pub returns-clause-kept : goal.returns-clause-kept
-returns-clause-kept g c = KeepsInFront-all (CalledAt g.F.FnMut) c.args.f c.args.list.now c.elements.f c.elements.list c.elements.kept c.elements.at c.elements.invariant.keeps c.elements-test.false
+returns-clause-kept g c = KeepsInFront-all
+    (CalledAt g.F.FnMut) c.args.f c.args.list.now c.elements.f c.elements.list c.elements.kept c.elements.at
+    c.elements.invariant.keeps c.elements-test.false

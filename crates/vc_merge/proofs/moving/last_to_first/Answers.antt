@@ -1,16 +1,19 @@
-use Rattle.std.proofs.Common.{◌≡◌, ℕ, zero, suc, ◌+◌, ◌-◌, ◌<◌, List, [], ◌∷◌, ◌++◌, length, length-append, length-set, get_or, slice_set, ap, ◌∙◌, arith}
+use Rattle.std.proofs.Common.{◌≡◌, ℕ, zero, suc, ◌+◌, ◌-◌, ◌<◌, List, [], ◌∷◌, ◌++◌, length, length-append}
+use Rattle.std.proofs.Common.{length-set, get_or, slice_set, ap, ◌∙◌, arith}
 use Rattle.std.proofs.lemmas.List.{same_lists, get_or-set_same, get_or-set_other, get_or_append_left}
 use Rattle.std.proofs.Math.Seq.{get_or-append_seam}
 use Rattle.vc_merge.proofs.moving.last_to_first.Goals as goal
 
 -- `ms` is `ls` with all but the last value moved up by one, and then the last one is put in front
-module _ {X : Type 0} (xs ls ms : List X) (x y : X) (e : ls ≡ xs ++ x ∷ []) (last : y ≡ get_or ls (length xs) y) (long : length ms ≡ length ls)
+module _ {X : Type 0} (xs ls ms : List X) (x y : X) (e : ls ≡ xs ++ x ∷ []) (last : y ≡ get_or ls (length xs) y)
+    (long : length ms ≡ length ls)
     (moved : (k : ℕ) (d : X) → k < length xs → get_or ms (1 + k) d ≡ get_or ls k d) where
   longer : length ls ≡ length xs + 1
   longer = ap length e ∙ length-append xs (x ∷ [])
 
   at-each : (k : ℕ) (d : X) → k < length xs + 1 → get_or (slice_set ms 0 y) k d ≡ get_or (x ∷ xs) k d
-  at-each zero d h = get_or-set_same ms 0 y d (let l = longer in omega arith) ∙ last ∙ ap (λ l. get_or l (length xs) y) e ∙ get_or-append_seam xs x [] y
+  at-each zero d h = get_or-set_same ms 0 y d (let l = longer in omega arith) ∙ last
+      ∙ ap (λ l. get_or l (length xs) y) e ∙ get_or-append_seam xs x [] y
   at-each (suc k) d h =
       get_or-set_other ms 0 (suc k) y d (omega arith) ∙ ap (λ i. get_or ms i d) (omega arith) ∙ moved k d (omega arith)
       ∙ ap (λ l. get_or l k d) e ∙ get_or_append_left xs (x ∷ []) d k (omega arith)
@@ -33,4 +36,5 @@ returns-clause-turned g c xs x e =
     c.put.ensures.items ∙ turned xs row.items c.move_within.new.self.items x c.take-element.result e
     (took.value ∙ ap (λ i. get_or row.items i c.take-element.result) last)
     (let p = moved.places.count in let q = took.places.count in omega arith)
-    (λ k d h. moved.moved k d (omega arith) ∙ ap (λ i. get_or c.take-element.new.self.items i d) (omega arith) ∙ ap (λ l. get_or l k d) took.items)
+    (λ k d h. moved.moved k d (omega arith) ∙ ap (λ i. get_or c.take-element.new.self.items i d) (omega arith)
+    ∙ ap (λ l. get_or l k d) took.items)

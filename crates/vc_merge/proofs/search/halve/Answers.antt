@@ -14,10 +14,20 @@ returns-clause-searched g c =
     let middle = part.start + (part.len - len) in
     let some = c.if-part-eq0.false in
     let w = searched-within side c.args.list.now part.start part.len part.found c.requires.searched in
-    searched-half side c.args.list.now c.requires.ordered part.start part.len middle len (omega arith) (omega arith) (omega arith) (omega arith)
-    part.found c.is_eq.result c.compare-side.result c.if-is_gt.start c.index-list-middle.result c.requires.searched c.index-list-middle.is (omega arith) c.compare-side.ensures.value
-    (λ e. elim c.if-is_gt.branch [ then-is_gt w ↦ w.start-is | else-is_gt w ↦ absurd (true≢false (sym e ∙ sym c.is_gt.ensures ∙ w.if-is_gt.false)) ])
-    (λ e. elim c.if-is_gt.branch [ then-is_gt w ↦ absurd (true≢false (sym w.if-is_gt.true ∙ c.is_gt.ensures ∙ e)) | else-is_gt w ↦ w.start-is ])
+    searched-half side c.args.list.now c.requires.ordered part.start part.len middle len (omega arith) (omega arith)
+    (omega arith) (omega arith)
+    part.found c.is_eq.result c.compare-side.result c.if-is_gt.start c.index-list-middle.result c.requires.searched
+    c.index-list-middle.is (omega arith) c.compare-side.ensures.value
+    (λ e. elim c.if-is_gt.branch [
+      | then-is_gt w ↦ w.start-is
+      | else-is_gt w ↦ absurd
+          (true≢false (sym e ∙ sym c.is_gt.ensures ∙ w.if-is_gt.false))
+    ])
+    (λ e. elim c.if-is_gt.branch [
+      | then-is_gt w ↦ absurd
+          (true≢false (sym w.if-is_gt.true ∙ c.is_gt.ensures ∙ e))
+      | else-is_gt w ↦ w.start-is
+    ])
     c.is_eq.ensures
 
 pub returns-clause-counted : goal.returns-clause-counted

@@ -12,4 +12,5 @@ leb_product n a b c d e f =
     (λ t. subst (λ m. n ≤ m) same (leb-true n (a * b) t), λ h. le-leb n (a * b) (subst (λ m. n ≤ m) (sym same) h))
 
 pub returns : goal.returns
-returns c = leb_product _ _ _ _ _ c.min-searches.ensures (c.from-comparisons.ensures ∙ digits-from_zeros 64 c.max.result c.max.type_inv ∙ ap digits c.max.ensures)
+returns c = leb_product _ _ _ _ _ c.min-searches.ensures
+    (c.from-comparisons.ensures ∙ digits-from_zeros 64 c.max.result c.max.type_inv ∙ ap digits c.max.ensures)

@@ -15,14 +15,16 @@ returns-else-not-branch-clause-fewer g c =
     let some = c.requires.some in
     if_true-weaker _
     (λ met.
-    let e : length (g.M.MergeState.right c.meet.new.state) ≡ length (g.M.MergeState.right c.args.state.now) - 1 = ap length met.1 ∙ length-drop 1 _ ∙ ap (λ l. length l - 1) passed.1 in
+    let e : length (g.M.MergeState.right c.meet.new.state) ≡ length (g.M.MergeState.right c.args.state.now) - 1 =
+    ap length met.1 ∙ length-drop 1 _ ∙ ap (λ l. length l - 1) passed.1 in
     omega arith)
     c.meet.ensures.takes
 
 pub returns-else-not-branch-clause-paid : goal.returns-else-not-branch-clause-paid
 returns-else-not-branch-clause-paid g c =
     let passed = c.in_ok-pass_lefts-in-Ok.ensures.takes c.if-not-branch.false in
-    if_true-weaker _ (λ met. place-paid _ _ _ c.in-Ok.place _ _ c.in-Ok.ensures.counted (drop-shorter _ _ _ 1 c.in-Ok.place met.0 passed.0 c.in-Ok.ensures.place.0)) c.meet.ensures.takes
+    if_true-weaker _ (λ met. place-paid _ _ _ c.in-Ok.place _ _ c.in-Ok.ensures.counted
+    (drop-shorter _ _ _ 1 c.in-Ok.place met.0 passed.0 c.in-Ok.ensures.place.0)) c.meet.ensures.takes
 
 pub returns-else-not-branch-2-clause-goes_on : goal.returns-else-not-branch-2-clause-goes_on
 returns-else-not-branch-2-clause-goes_on g c =
@@ -32,4 +34,5 @@ returns-else-not-branch-2-clause-goes_on g c =
 pub returns-else-not-branch-2-clause-paid : goal.returns-else-not-branch-2-clause-paid
 returns-else-not-branch-2-clause-paid g c =
     let passed = c.in_ok-pass_lefts-in-Err.ensures.takes c.if-not-branch-2.false in
-    if_true-weaker _ (λ met. place-paid _ _ _ c.in-Err.gap _ _ c.in-Err.ensures.counted (drop-shorter _ _ _ 0 c.in-Err.gap met.0 passed.0 c.in-Err.ensures.place.0)) c.pass_right.ensures.takes
+    if_true-weaker _ (λ met. place-paid _ _ _ c.in-Err.gap _ _ c.in-Err.ensures.counted
+    (drop-shorter _ _ _ 0 c.in-Err.gap met.0 passed.0 c.in-Err.ensures.place.0)) c.pass_right.ensures.takes

@@ -17,7 +17,8 @@ pub returns-in_err-place_first-clause-counted : goal.returns-in_err-place_first-
 returns-in_err-place_first-clause-counted g c =
     let left : 0 < length (g.M.MergeState.left c.events.state) = search rules in
     let right : 0 < length (g.M.MergeState.right c.events.state) = search rules in
-    last-paid c.args.exponent _ _ _ _ _ (fewer-some c.args.shorter _ _ left right) c.in_err-place_first.ensures.counted c.events.invariant.counted
+    last-paid c.args.exponent _ _ _ _ _
+    (fewer-some c.args.shorter _ _ left right) c.in_err-place_first.ensures.counted c.events.invariant.counted
 
 pub returns-then-not-branch-clause-walk : goal.returns-then-not-branch-clause-walk
 returns-then-not-branch-clause-walk g c =
@@ -27,7 +28,8 @@ pub returns-then-not-branch-clause-counted : goal.returns-then-not-branch-clause
 returns-then-not-branch-clause-counted g c =
     let left : 0 < length (g.M.MergeState.left c.events.state) = search rules in
     let right : 0 < length (g.M.MergeState.right c.events.state) = search rules in
-    last-paid c.args.exponent _ _ _ _ _ (fewer-some c.args.shorter _ _ left right) c.in_ok-place_first.ensures.counted c.events.invariant.counted
+    last-paid c.args.exponent _ _ _ _ _
+    (fewer-some c.args.shorter _ _ left right) c.in_ok-place_first.ensures.counted c.events.invariant.counted
 
 pub events-preserved : goal.events-preserved
 events-preserved g c =

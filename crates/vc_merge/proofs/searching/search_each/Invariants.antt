@@ -12,7 +12,8 @@ invariant-events g l =
       ready : g.O.MergeOperation.ready l.op l.state;
       so_far : SoFar (allows left right (g.O.MergeOperation.gives l.op)) (g.O.MergeOperation.order l.op) l.initial.state l.state;
       counted : g.C.Count.counted l.steps
-          + by_strides l.exponent (fewer l.shorter (length (left l.state)) (length (right l.state))) (more l.shorter (length (left l.state)) (length (right l.state)))
+          + by_strides l.exponent (fewer l.shorter (length (left l.state)) (length (right l.state)))
+          (more l.shorter (length (left l.state)) (length (right l.state)))
           ≤ g.C.Count.counted l.initial.steps
           + by_strides l.exponent (fewer l.shorter (length (left l.initial.state)) (length (right l.initial.state)))
           (more l.shorter (length (left l.initial.state)) (length (right l.initial.state)));

@@ -14,6 +14,7 @@ returns-clause-searches c =
     let some : 0 < few = omega arith in
     let least : 1 ≤ many / few = le-div 1 many few some (omega arith) in
     let most = div-le_self many few in
-    let zeros : 64 - count_leading_zeros 64 (many / few) ≡ digits (many / few) = digits-from_zeros 64 (many / few) (omega arith) in
+    let zeros : 64 - count_leading_zeros 64 (many / few) ≡ digits (many / few) =
+    digits-from_zeros 64 (many / few) (omega arith) in
     let one : 1 ≤ digits (many / few) = digits-some (many / few) least in
     strides-few few many (many / few) (63 - count_leading_zeros 64 (many / few)) some ordered refl (omega arith)

@@ -15,6 +15,7 @@ returns-clause-others g c =
     record {
       name = refl;
       built = ap (take s.built) c.replace_at.ensures.new ∙ take-set-le s.built s.list.now s.start _ s.hole;
-      left = first-over (s.end - s.start) _ _ _ _ _ c.replace_at.ensures.old (ap (drop s.start) c.replace_at.ensures.new ∙ drop-set s.list.now s.start _ (omega arith)) some;
+      left = first-over (s.end - s.start) _ _ _ _ _ c.replace_at.ensures.old
+          (ap (drop s.start) c.replace_at.ensures.new ∙ drop-set s.list.now s.start _ (omega arith)) some;
       right = ap (drop s.next) c.replace_at.ensures.new ∙ drop-set-lt s.next s.list.now s.start _ (omega arith);
     }

@@ -12,6 +12,9 @@ returns-clause-others g c =
     record {
       name = refl;
       built = ap (take s.built) c.replace_at.ensures.new ∙ take-set-le s.built s.list.now s.next _ (omega arith);
-      left = ap (λ l. take (s.end - s.start) (drop s.start l)) c.replace_at.ensures.new ∙ part-before s.list.now s.start s.end s.next _ (omega arith) (omega arith);
-      right = rest-over _ _ _ _ _ c.replace_at.ensures.old (ap (drop s.next) c.replace_at.ensures.new ∙ drop-set s.list.now s.next _ (omega (arith, length-drop s.next s.list.now)));
+      left = ap (λ l. take (s.end - s.start) (drop s.start l)) c.replace_at.ensures.new
+          ∙ part-before s.list.now s.start s.end s.next _ (omega arith) (omega arith);
+      right = rest-over _ _ _ _ _ c.replace_at.ensures.old
+          (ap (drop s.next) c.replace_at.ensures.new
+          ∙ drop-set s.list.now s.next _ (omega (arith, length-drop s.next s.list.now)));
     }

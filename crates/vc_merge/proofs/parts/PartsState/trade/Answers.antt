@@ -8,6 +8,7 @@ returns g c =
     record {
       name = refl;
       built = traded.front;
-      left = trade-left s.list.now c.trade_runs.new.list s.built s.start s.end s.next s.hole s.left s.gap n c.requires.hole traded;
+      left = trade-left s.list.now c.trade_runs.new.list s.built s.start s.end s.next s.hole s.left s.gap n
+          c.requires.hole traded;
       right = traded.rest ∙ sym (drop-drop n s.next s.list.now);
     }

@@ -10,6 +10,7 @@ returns-clause-gives g c =
       (
         refl,
         c.take_right.ensures.name,
-        extends-same (take c.args.n (right_items s)) (built_items s) (built_items c.take_right.new.self) c.take_right.ensures.built,
+        extends-same (take c.args.n (right_items s)) (built_items s)
+            (built_items c.take_right.new.self) c.take_right.ensures.built,
       ),
     )
