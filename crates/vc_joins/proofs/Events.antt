@@ -38,7 +38,8 @@ module _ {K : Type 0} {cmp : K → K → Ordering} (total : IsTotalOrder cmp) wh
   below-alike x y z e less = sym (alike_right total y z x e) ∙ less
 
   -- what a key is below is above what is equal to the key
-  above-alike : (x z : K) (ys : List K) → cmp x z ≡ Equal → AllByRecursion (λ y. cmp x y ≡ Less) ys → AllByRecursion (λ y. cmp z y ≡ Less) ys
+  above-alike : (x z : K) (ys : List K) → cmp x z ≡ Equal → AllByRecursion (λ y. cmp x y ≡ Less) ys
+      → AllByRecursion (λ y. cmp z y ≡ Less) ys
   above-alike x z [] e p = tt
   above-alike x z (y ∷ ys) e p = (sym (total.congr x z y e) ∙ p.0, above-alike x z ys e p.1)
 
@@ -47,11 +48,13 @@ module _ {K : Type 0} {cmp : K → K → Ordering} (total : IsTotalOrder cmp) wh
     entry-first : (k : K) (p : K × X) (es : List (K × X)) → is_at (cmp k) p.0 ≡ true → entry_at cmp (p ∷ es) k ≡ Some p
     entry-first k p es e = ap (λ b. cond b (Some p) (entry_at cmp es k)) e
 
-    entry-later : (k : K) (p : K × X) (es : List (K × X)) → is_at (cmp k) p.0 ≡ false → entry_at cmp (p ∷ es) k ≡ entry_at cmp es k
+    entry-later : (k : K) (p : K × X) (es : List (K × X)) → is_at (cmp k) p.0 ≡ false → entry_at cmp (p ∷ es) k
+        ≡ entry_at cmp es k
     entry-later k p es e = ap (λ b. cond b (Some p) (entry_at cmp es k)) e
 
     -- nothing stands at x above x
-    entry-above : (k x : K) (es : List (K × X)) → is_at (cmp k) x ≡ true → AllByRecursion (λ y. cmp x y ≡ Less) (keys_of es) → entry_at cmp es k ≡ None
+    entry-above : (k x : K) (es : List (K × X)) → is_at (cmp k) x ≡ true
+        → AllByRecursion (λ y. cmp x y ≡ Less) (keys_of es) → entry_at cmp es k ≡ None
     entry-above k x [] e p = refl
     entry-above k x (q ∷ es) e p = entry-later k q es (at-above k x q.0 e p.0) ∙ entry-above k x es e p.1
 
@@ -74,14 +77,16 @@ module _ {K : Type 0} {cmp : K → K → Ordering} (total : IsTotalOrder cmp) wh
     front-here k x None rest i e p = entry-above k x rest i p
     front-here k x (Some q) rest i e p = entry-first k q rest (at-alike k x q.0 e ∙ i)
 
-    front-elsewhere : (k x : K) (z : Option (K × X)) (rest : List (K × X)) → is_at (cmp k) x ≡ false → IsAtKey cmp x z → entry_at cmp (cons_option z rest) k ≡ entry_at cmp rest k
+    front-elsewhere : (k x : K) (z : Option (K × X)) (rest : List (K × X)) → is_at (cmp k) x ≡ false
+        → IsAtKey cmp x z → entry_at cmp (cons_option z rest) k ≡ entry_at cmp rest k
     front-elsewhere k x None rest i e = refl
     front-elsewhere k x (Some q) rest i e = entry-later k q rest (at-alike k x q.0 e ∙ i)
 
   module _ {V W : Type 0} where
     -- ---- the two sides of a script
 
-    lefts-above : (x : K) (es : List (Event (K × V) (K × W))) → AllByRecursion (λ e. cmp x (event_key e) ≡ Less) es → AllByRecursion (λ y. cmp x y ≡ Less) (keys_of (lefts es))
+    lefts-above : (x : K) (es : List (Event (K × V) (K × W))) → AllByRecursion (λ e. cmp x (event_key e) ≡ Less) es
+        → AllByRecursion (λ y. cmp x y ≡ Less) (keys_of (lefts es))
     lefts-above x [] p = tt
     lefts-above x (left_alone q ∷ es) p = (p.0, lefts-above x es p.1)
     lefts-above x (right_alone q ∷ es) p = lefts-above x es p.1
@@ -94,18 +99,21 @@ module _ {K : Type 0} {cmp : K → K → Ordering} (total : IsTotalOrder cmp) wh
     rights-above x (right_alone q ∷ es) m p = (p.0, rights-above x es m.1 p.1)
     rights-above x (collision q r ∷ es) m p = (below-alike x q.0 r.0 m.0 p.0, rights-above x es m.1 p.1)
 
-    module _ {X : Type 0} (kind : JoinKind) (spelled : K → K → K) (alike : (j k : K) → cmp j k ≡ Equal → cmp j (spelled j k) ≡ Equal)
+    module _ {X : Type 0} (kind : JoinKind) (spelled : K → K → K)
+        (alike : (j k : K) → cmp j k ≡ Equal → cmp j (spelled j k) ≡ Equal)
         (May : OuterJoinArg K V W → Option X → Type 0) (Keeps : OuterJoinArg K V W → K → Type 0)
         (kept : (a : OuterJoinArg K V W) (k : K) → asks kind a ≡ true → Keeps a k → cmp (shown_key a) k ≡ Equal) where
       -- ---- one event
 
       -- the question of an event shows a key that is equal to its own
-      shown-alike : (e : Event (K × V) (K × W)) → IsMatched (by_key cmp) e → (y : K) → cmp (shown_key (question_of spelled e)) y ≡ cmp (event_key e) y
+      shown-alike : (e : Event (K × V) (K × W)) → IsMatched (by_key cmp) e → (y : K)
+          → cmp (shown_key (question_of spelled e)) y ≡ cmp (event_key e) y
       shown-alike (left_alone p) m y = refl
       shown-alike (right_alone q) m y = refl
       shown-alike (collision p q) m y = sym (total.congr p.0 (spelled p.0 q.0) y (alike p.0 q.0 m))
 
-      answer-key : (a : OuterJoinArg K V W) (b : Bool) (z : Option (K × X)) → asks kind a ≡ b → IsAnswered May Keeps (cond b (Some a) None) z → IsAtKey cmp (shown_key a) z
+      answer-key : (a : OuterJoinArg K V W) (b : Bool) (z : Option (K × X)) → asks kind a ≡ b
+          → IsAnswered May Keeps (cond b (Some a) None) z → IsAtKey cmp (shown_key a) z
       answer-key a b None q h = tt
       answer-key a true (Some p) q h = kept a p.0 q h.1
       answer-key a false (Some p) q h = let none : Some p ≡ None = h in cc
@@ -115,7 +123,8 @@ module _ {K : Type 0} {cmp : K → K → Ordering} (total : IsTotalOrder cmp) wh
       moved x y (Some p) f h = sym (f p.0) ∙ h
 
       -- what an event adds stands at its key
-      added-key : (e : Event (K × V) (K × W)) (z : Option (K × X)) → IsMatched (by_key cmp) e → IsAnswered May Keeps (if_asked kind (question_of spelled e)) z → IsAtKey cmp (event_key e) z
+      added-key : (e : Event (K × V) (K × W)) (z : Option (K × X)) → IsMatched (by_key cmp) e
+          → IsAnswered May Keeps (if_asked kind (question_of spelled e)) z → IsAtKey cmp (event_key e) z
       added-key e z m h =
           let a = question_of spelled e in
           moved (shown_key a) (event_key e) z (shown-alike e m) (answer-key a (asks kind a) z refl h)
@@ -123,7 +132,8 @@ module _ {K : Type 0} {cmp : K → K → Ordering} (total : IsTotalOrder cmp) wh
       -- what is asked at the key of the first event is its question
       asked-here : (k : K) (e : Event (K × V) (K × W)) (es : List (Event (K × V) (K × W))) → is_at (cmp k) (event_key e) ≡ true
           → AllByRecursion (λ d. cmp (event_key e) (event_key d) ≡ Less) es → AllByRecursion (IsMatched (by_key cmp)) (e ∷ es)
-          → asked kind spelled (entry_at cmp (lefts (e ∷ es)) k) (entry_at cmp (rights (e ∷ es)) k) ≡ if_asked kind (question_of spelled e)
+          → asked kind spelled (entry_at cmp (lefts (e ∷ es)) k) (entry_at cmp (rights (e ∷ es)) k)
+          ≡ if_asked kind (question_of spelled e)
       asked-here k (left_alone p) es i above m = ap (λ o. asked kind spelled o (entry_at cmp (rights es) k))
           (entry-first k p (lefts es) i)
           ∙ ap (λ o. asked kind spelled (Some p) o) (entry-above k p.0 (rights es) i (rights-above p.0 es m.1 above))
@@ -135,10 +145,14 @@ module _ {K : Type 0} {cmp : K → K → Ordering} (total : IsTotalOrder cmp) wh
           ∙ ap (λ o. asked kind spelled (Some p) o) (entry-first k q (rights es) (at-alike k p.0 q.0 m.0 ∙ i))
 
       -- elsewhere the later events ask
-      asked-elsewhere : (k : K) (e : Event (K × V) (K × W)) (es : List (Event (K × V) (K × W))) → is_at (cmp k) (event_key e) ≡ false → IsMatched (by_key cmp) e
-          → asked kind spelled (entry_at cmp (lefts (e ∷ es)) k) (entry_at cmp (rights (e ∷ es)) k) ≡ asked kind spelled (entry_at cmp (lefts es) k) (entry_at cmp (rights es) k)
-      asked-elsewhere k (left_alone p) es i m = ap (λ o. asked kind spelled o (entry_at cmp (rights es) k)) (entry-later k p (lefts es) i)
-      asked-elsewhere k (right_alone q) es i m = ap (λ o. asked kind spelled (entry_at cmp (lefts es) k) o) (entry-later k q (rights es) i)
+      asked-elsewhere : (k : K) (e : Event (K × V) (K × W)) (es : List (Event (K × V) (K × W)))
+          → is_at (cmp k) (event_key e) ≡ false → IsMatched (by_key cmp) e
+          → asked kind spelled (entry_at cmp (lefts (e ∷ es)) k) (entry_at cmp (rights (e ∷ es)) k)
+          ≡ asked kind spelled (entry_at cmp (lefts es) k) (entry_at cmp (rights es) k)
+      asked-elsewhere k (left_alone p) es i m =
+          ap (λ o. asked kind spelled o (entry_at cmp (rights es) k)) (entry-later k p (lefts es) i)
+      asked-elsewhere k (right_alone q) es i m =
+          ap (λ o. asked kind spelled (entry_at cmp (lefts es) k) o) (entry-later k q (rights es) i)
       asked-elsewhere k (collision p q) es i m = ap (λ o. asked kind spelled o (entry_at cmp (q ∷ rights es) k))
           (entry-later k p (lefts es) i)
           ∙ ap (λ o. asked kind spelled (entry_at cmp (lefts es) k) o) (entry-later k q (rights es) (at-alike k p.0 q.0 m ∙ i))
@@ -146,7 +160,8 @@ module _ {K : Type 0} {cmp : K → K → Ordering} (total : IsTotalOrder cmp) wh
       -- ---- what is asked at the events
 
       AsksAt : List (Event (K × V) (K × W)) → Event (K × V) (K × W) → Type 0
-      AsksAt es e = asked kind spelled (entry_at cmp (lefts es) (event_key e)) (entry_at cmp (rights es) (event_key e)) ≡ if_asked kind (question_of spelled e)
+      AsksAt es e = asked kind spelled (entry_at cmp (lefts es) (event_key e))
+          (entry_at cmp (rights es) (event_key e)) ≡ if_asked kind (question_of spelled e)
 
       asked-later : (d : Event (K × V) (K × W)) (es : List (Event (K × V) (K × W))) → IsMatched (by_key cmp) d
           → (later : List (Event (K × V) (K × W))) → AllByRecursion (λ e. cmp (event_key d) (event_key e) ≡ Less) later
@@ -158,10 +173,15 @@ module _ {K : Type 0} {cmp : K → K → Ordering} (total : IsTotalOrder cmp) wh
           (asked-elsewhere (event_key e) d es (ap is_eq greater) m ∙ h.0, asked-later d es m later p.1 h.1)
 
       -- at the key of each event its question is asked
-      all-asked : (es : List (Event (K × V) (K × W))) → Ascends (λ d e. by_key cmp (place d) (place e)) es → AllByRecursion (IsMatched (by_key cmp)) es → AllByRecursion (AsksAt es) es
+      all-asked : (es : List (Event (K × V) (K × W))) → Ascends (λ d e. by_key cmp (place d) (place e)) es
+          → AllByRecursion (IsMatched (by_key cmp)) es → AllByRecursion (AsksAt es) es
       unfolding AsksAt IsStrictlySortedBy
       all-asked [] s m = tt
-      all-asked (e ∷ es) s m = (asked-here (event_key e) e es (ap is_eq (tied_itself total (event_key e))) s.0 m, asked-later e es m.0 es s.0 (all-asked es s.1 m.1))
+      all-asked (e ∷ es) s m = (
+        asked-here (event_key e) e es
+            (ap is_eq (tied_itself total (event_key e))) s.0 m,
+        asked-later e es m.0 es s.0 (all-asked es s.1 m.1),
+      )
 
       -- what holds of each question that is asked of two maps holds of that of each event that the join asks at
       pub events-asked : (P : OuterJoinArg K V W → Type 0) (xs : List (K × V)) (ys : List (K × W))
@@ -176,7 +196,8 @@ module _ {K : Type 0} {cmp : K → K → Ordering} (total : IsTotalOrder cmp) wh
           λ e is q. h (question_of spelled e) (record {
             key = event_key e;
             asks = ap (λ l. asked kind spelled (entry_at cmp l (event_key e)) (entry_at cmp ys (event_key e))) (sym s.left)
-                ∙ ap (λ l. asked kind spelled (entry_at cmp (lefts es) (event_key e)) (entry_at cmp l (event_key e))) (sym s.right)
+                ∙ ap (λ l. asked kind spelled (entry_at cmp (lefts es) (event_key e)) (entry_at cmp l (event_key e)))
+                (sym s.right)
                 ∙ is ∙ ap (λ b. cond b (Some (question_of spelled e)) None) q;
           }) in
           each-weaker (λ e. asked kind spelled (entry_at cmp (lefts es) (event_key e)) (entry_at cmp (rights es) (event_key e))
@@ -189,7 +210,8 @@ module _ {K : Type 0} {cmp : K → K → Ordering} (total : IsTotalOrder cmp) wh
       Added es zs = Gathers (AnswersEvent kind spelled May Keeps) es zs
 
       -- what the first event adds, in front of what the others add
-      front-added : (z : Option (K × X)) (first rest zs : List (K × X)) → first ≡ option_to_list z → zs ≡ first ++ rest → zs ≡ cons_option z rest
+      front-added : (z : Option (K × X)) (first rest zs : List (K × X)) → first ≡ option_to_list z → zs
+          ≡ first ++ rest → zs ≡ cons_option z rest
       front-added None first rest zs e f = f ∙ ap (λ l. l ++ rest) e
       front-added (Some p) first rest zs e f = f ∙ ap (λ l. l ++ rest) e
 
@@ -208,12 +230,15 @@ module _ {K : Type 0} {cmp : K → K → Ordering} (total : IsTotalOrder cmp) wh
       added-ascends [] zs s m h = subst (λ l. AscendsByKey cmp l) (sym h) tt
       added-ascends (e ∷ es) zs s m (first, rest, (z, answers, adds), others, is) =
           subst (λ l. AscendsByKey cmp l) (sym (front-added z first rest zs adds is))
-          (front-ascends (event_key e) z rest (added-key e z m.0 answers) (added-above (event_key e) es rest s.0 m.1 others) (added-ascends es rest s.1 m.1 others))
+          (front-ascends (event_key e) z rest (added-key e z m.0 answers)
+          (added-above (event_key e) es rest s.0 m.1 others) (added-ascends es rest s.1 m.1 others))
 
       AnsweredAt : K → List (Event (K × V) (K × W)) → List (K × X) → Type 0
-      AnsweredAt k es zs = IsAnswered May Keeps (asked kind spelled (entry_at cmp (lefts es) k) (entry_at cmp (rights es) k)) (entry_at cmp zs k)
+      AnsweredAt k es zs = IsAnswered May Keeps
+          (asked kind spelled (entry_at cmp (lefts es) k) (entry_at cmp (rights es) k)) (entry_at cmp zs k)
 
-      answered-by : (k : K) (e : Event (K × V) (K × W)) (es : List (Event (K × V) (K × W))) (z : Option (K × X)) (rest : List (K × X)) (b : Bool) → is_at (cmp k) (event_key e) ≡ b
+      answered-by : (k : K) (e : Event (K × V) (K × W)) (es : List (Event (K × V) (K × W))) (z : Option (K × X))
+          (rest : List (K × X)) (b : Bool) → is_at (cmp k) (event_key e) ≡ b
           → AllByRecursion (λ d. cmp (event_key e) (event_key d) ≡ Less) es → AllByRecursion (IsMatched (by_key cmp)) (e ∷ es)
           → IsAnswered May Keeps (if_asked kind (question_of spelled e)) z → Added es rest
           → AnsweredAt k es rest → AnsweredAt k (e ∷ es) (cons_option z rest)
@@ -234,18 +259,23 @@ module _ {K : Type 0} {cmp : K → K → Ordering} (total : IsTotalOrder cmp) wh
       unfolding AnsweredAt Added IsStrictlySortedBy
       answered k [] zs s m h = ap (λ l. entry_at cmp l k) h
       answered k (e ∷ es) zs s m (first, rest, (z, answers, adds), others, is) =
-          let here : AnsweredAt k (e ∷ es) (cons_option z rest) = answered-by k e es z rest (is_at (cmp k) (event_key e)) refl s.0 m answers others (answered k es rest s.1 m.1 others) in
+          let here : AnsweredAt k (e ∷ es) (cons_option z rest) =
+          answered-by k e es z rest (is_at (cmp k) (event_key e)) refl s.0 m answers others
+          (answered k es rest s.1 m.1 others) in
           subst (λ l. AnsweredAt k (e ∷ es) l) (sym (front-added z first rest zs adds is)) here
 
       -- what is built by answers to the events of two maps is their join
-      pub join-built : (xs : List (K × V)) (ys : List (K × W)) (zs : List (K × X)) → IsBuilt (by_key cmp) (AnswersEvent kind spelled May Keeps) xs ys [] zs → IsJoin cmp kind spelled xs ys May Keeps zs
+      pub join-built : (xs : List (K × V)) (ys : List (K × W)) (zs : List (K × X))
+          → IsBuilt (by_key cmp) (AnswersEvent kind spelled May Keeps) xs ys [] zs → IsJoin cmp kind spelled xs ys May Keeps zs
       unfolding AnsweredAt Added
       join-built xs ys zs b =
           let s = b.script in
-          let h = subst (λ l. Gathers (AnswersEvent kind spelled May Keeps) b.events l) (sym b.appends.items) b.appends.gathered in
+          let h = subst (λ l. Gathers (AnswersEvent kind spelled May Keeps) b.events l)
+          (sym b.appends.items) b.appends.gathered in
           record {
             ascends = added-ascends b.events zs s.ascends s.matched h;
-            at = λ k. subst (λ l. IsAnswered May Keeps (asked kind spelled (entry_at cmp l k) (entry_at cmp ys k)) (entry_at cmp zs k)) s.left
+            at = λ k. subst (λ l. IsAnswered May Keeps (asked kind spelled (entry_at cmp l k) (entry_at cmp ys k))
+                (entry_at cmp zs k)) s.left
                 (subst (λ l. IsAnswered May Keeps (asked kind spelled (entry_at cmp (lefts b.events) k) (entry_at cmp l k))
                 (entry_at cmp zs k)) s.right (answered k b.events zs s.ascends s.matched h));
           }

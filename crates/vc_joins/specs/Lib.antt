@@ -5,3 +5,4 @@ pub mod InPlace
 pub mod Join
 pub mod Laws
 pub mod Question
+pub mod Values
