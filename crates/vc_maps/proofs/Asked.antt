@@ -22,7 +22,8 @@ use Rattle.vc_joins.specs.Question.{asks_left, asks_right, left_spelling, shown_
 use Rattle.vc_joins.proofs.Events.{events-asked}
 use Rattle.vc_maps.specs.Asking.{AtHeads, MayAsk, CanAsk}
 
-each-front : {X Y : Type 0} (P : Y → Type 0) (f : X → Y) (xs : List X) (ys : List Y) → AllByRecursion P (map f xs ++ ys) → AllByRecursion (λ x. P (f x)) xs
+each-front : {X Y : Type 0} (P : Y → Type 0) (f : X → Y) (xs : List X) (ys : List Y)
+    → AllByRecursion P (map f xs ++ ys) → AllByRecursion (λ x. P (f x)) xs
 each-front P f [] ys p = tt
 each-front P f (x ∷ xs) ys p = (p.0, each-front P f xs ys p.1)
 
@@ -30,22 +31,28 @@ each-back : {X : Type 0} (P : X → Type 0) (xs ys : List X) → AllByRecursion 
 each-back P [] ys p = p
 each-back P (x ∷ xs) ys p = each-back P xs ys p.1
 
-each-where : {X : Type 0} (Q : Type 0) (P : X → Type 0) → Q → (xs : List X) → AllByRecursion (λ x. Q → P x) xs → AllByRecursion P xs
+each-where : {X : Type 0} (Q : Type 0) (P : X → Type 0) → Q → (xs : List X) → AllByRecursion (λ x. Q → P x) xs
+    → AllByRecursion P xs
 each-where Q P q [] p = tt
 each-where Q P q (x ∷ xs) p = (p.0 q, each-where Q P q xs p.1)
 
-module _ {K V W : Type 0} (cmp : K → K → Ordering) (total : IsTotalOrder cmp) (kind : JoinKind) (Takes : OuterJoinArg K V W → Type 0) where
-  module _ (n : ℕ) (xs : List (K × V)) (ys : List (K × W)) (ascend : BothAscend (by_key cmp) xs ys) (below : LeftBelow (by_key cmp) (take n xs) ys) (can : CanAsk cmp kind Takes xs ys) where
+module _ {K V W : Type 0} (cmp : K → K → Ordering) (total : IsTotalOrder cmp) (kind : JoinKind)
+    (Takes : OuterJoinArg K V W → Type 0) where
+  module _ (n : ℕ) (xs : List (K × V)) (ys : List (K × W)) (ascend : BothAscend (by_key cmp) xs ys)
+      (below : LeftBelow (by_key cmp) (take n xs) ys) (can : CanAsk cmp kind Takes xs ys) where
     -- a script of what is left behind the first n, with these in front
-    lefts-script : (es : List (Event (K × V) (K × W))) → IsScript (by_key cmp) (drop n xs) ys es → IsScript (by_key cmp) xs ys (map (λ x. left_alone x) (take n xs) ++ es)
+    lefts-script : (es : List (Event (K × V) (K × W))) → IsScript (by_key cmp) (drop n xs) ys es
+        → IsScript (by_key cmp) xs ys (map (λ x. left_alone x) (take n xs) ++ es)
     lefts-script es s =
         let e : take n xs ++ drop n xs ≡ xs = take-append-drop n xs in
         subst (λ l. IsScript (by_key cmp) l ys (map (λ x. left_alone x) (take n xs) ++ es)) e
-        (put-lefts (by_key cmp) (by_key-total cmp total) (take n xs) (drop n xs) ys es (subst (λ l. Ascends (λ x z. cmp x.0 z.0) l) (sym e) ascend.left) below s)
+        (put-lefts (by_key cmp) (by_key-total cmp total) (take n xs) (drop n xs) ys es
+        (subst (λ l. Ascends (λ x z. cmp x.0 z.0) l) (sym e) ascend.left) below s)
 
     pub lefts-ascend : BothAscend (by_key cmp) (drop n xs) ys
     lefts-ascend = record {
-      left = ascends-append (λ x z. cmp x.0 z.0) (take n xs) (drop n xs) (subst (λ l. Ascends (λ x z. cmp x.0 z.0) l) (sym (take-append-drop n xs)) ascend.left);
+      left = ascends-append (λ x z. cmp x.0 z.0) (take n xs) (drop n xs)
+          (subst (λ l. Ascends (λ x z. cmp x.0 z.0) l) (sym (take-append-drop n xs)) ascend.left);
       right = ascend.right;
     }
 
@@ -54,14 +61,20 @@ module _ {K V W : Type 0} (cmp : K → K → Ordering) (total : IsTotalOrder cmp
     lefts-asked q =
         let script = some-script (by_key cmp) (by_key-total cmp total) (drop n xs) ys lefts-ascend in
         each-where (asks_left kind ≡ true) (λ p. Takes (Left p.0 p.1)) q (take n xs)
-        (each-front (MayAsk cmp kind Takes) (λ x. left_alone x) (take n xs) script.0 (can.each (map (λ x. left_alone x) (take n xs) ++ script.0) (lefts-script script.0 script.1)))
+        (each-front (MayAsk cmp kind Takes) (λ x. left_alone x) (take n xs) script.0
+        (can.each (map (λ x. left_alone x) (take n xs) ++ script.0) (lefts-script script.0 script.1)))
 
     pub lefts-can : CanAsk cmp kind Takes (drop n xs) ys
-    lefts-can = record { each = λ es s. each-back (MayAsk cmp kind Takes) (map (λ x. left_alone x) (take n xs)) es (can.each (map (λ x. left_alone x) (take n xs) ++ es) (lefts-script es s)) }
+    lefts-can = record {
+      each = λ es s. each-back (MayAsk cmp kind Takes) (map (λ x. left_alone x) (take n xs)) es
+          (can.each (map (λ x. left_alone x) (take n xs) ++ es) (lefts-script es s));
+    }
 
     -- what a call leaves that passed the first n
-    pub lefts-passed : (R : Type 0) (xs' : List (K × V)) (ys' : List (K × W)) (answer : Answer) → IfOk answer (λ go_on. go_on ≡ true → (xs' ≡ drop n xs) × (ys' ≡ ys) × R)
-        → IfOk answer (λ go_on. go_on ≡ true → (xs' ≡ drop n xs) × (ys' ≡ ys) × (R × BothAscend (by_key cmp) xs' ys' × CanAsk cmp kind Takes xs' ys'))
+    pub lefts-passed : (R : Type 0) (xs' : List (K × V)) (ys' : List (K × W)) (answer : Answer)
+        → IfOk answer (λ go_on. go_on ≡ true → (xs' ≡ drop n xs) × (ys' ≡ ys) × R)
+        → IfOk answer (λ go_on. go_on ≡ true → (xs' ≡ drop n xs) × (ys' ≡ ys)
+        × (R × BothAscend (by_key cmp) xs' ys' × CanAsk cmp kind Takes xs' ys'))
     lefts-passed R xs' ys' (Ok b) h = λ e.
         let p = h e in (
           p.0,
@@ -76,17 +89,21 @@ module _ {K V W : Type 0} (cmp : K → K → Ordering) (total : IsTotalOrder cmp
         )
     lefts-passed R xs' ys' (Err x) h = tt
 
-  module _ (n : ℕ) (xs : List (K × V)) (ys : List (K × W)) (ascend : BothAscend (by_key cmp) xs ys) (below : RightBelow (by_key cmp) (take n ys) xs) (can : CanAsk cmp kind Takes xs ys) where
-    rights-script : (es : List (Event (K × V) (K × W))) → IsScript (by_key cmp) xs (drop n ys) es → IsScript (by_key cmp) xs ys (map (λ y. right_alone y) (take n ys) ++ es)
+  module _ (n : ℕ) (xs : List (K × V)) (ys : List (K × W)) (ascend : BothAscend (by_key cmp) xs ys)
+      (below : RightBelow (by_key cmp) (take n ys) xs) (can : CanAsk cmp kind Takes xs ys) where
+    rights-script : (es : List (Event (K × V) (K × W))) → IsScript (by_key cmp) xs (drop n ys) es
+        → IsScript (by_key cmp) xs ys (map (λ y. right_alone y) (take n ys) ++ es)
     rights-script es s =
         let e : take n ys ++ drop n ys ≡ ys = take-append-drop n ys in
         subst (λ l. IsScript (by_key cmp) xs l (map (λ y. right_alone y) (take n ys) ++ es)) e
-        (put-rights (by_key cmp) (by_key-total cmp total) (take n ys) xs (drop n ys) es (subst (λ l. Ascends (λ y z. cmp y.0 z.0) l) (sym e) ascend.right) below s)
+        (put-rights (by_key cmp) (by_key-total cmp total) (take n ys) xs (drop n ys) es
+        (subst (λ l. Ascends (λ y z. cmp y.0 z.0) l) (sym e) ascend.right) below s)
 
     pub rights-ascend : BothAscend (by_key cmp) xs (drop n ys)
     rights-ascend = record {
       left = ascend.left;
-      right = ascends-append (λ y z. cmp y.0 z.0) (take n ys) (drop n ys) (subst (λ l. Ascends (λ y z. cmp y.0 z.0) l) (sym (take-append-drop n ys)) ascend.right);
+      right = ascends-append (λ y z. cmp y.0 z.0) (take n ys) (drop n ys)
+          (subst (λ l. Ascends (λ y z. cmp y.0 z.0) l) (sym (take-append-drop n ys)) ascend.right);
     }
 
     -- each of the first n may be asked at
@@ -94,14 +111,20 @@ module _ {K V W : Type 0} (cmp : K → K → Ordering) (total : IsTotalOrder cmp
     rights-asked q =
         let script = some-script (by_key cmp) (by_key-total cmp total) xs (drop n ys) rights-ascend in
         each-where (asks_right kind ≡ true) (λ p. Takes (Right p.0 p.1)) q (take n ys)
-        (each-front (MayAsk cmp kind Takes) (λ y. right_alone y) (take n ys) script.0 (can.each (map (λ y. right_alone y) (take n ys) ++ script.0) (rights-script script.0 script.1)))
+        (each-front (MayAsk cmp kind Takes) (λ y. right_alone y) (take n ys) script.0
+        (can.each (map (λ y. right_alone y) (take n ys) ++ script.0) (rights-script script.0 script.1)))
 
     pub rights-can : CanAsk cmp kind Takes xs (drop n ys)
-    rights-can = record { each = λ es s. each-back (MayAsk cmp kind Takes) (map (λ y. right_alone y) (take n ys)) es (can.each (map (λ y. right_alone y) (take n ys) ++ es) (rights-script es s)) }
+    rights-can = record {
+      each = λ es s. each-back (MayAsk cmp kind Takes) (map (λ y. right_alone y) (take n ys)) es
+          (can.each (map (λ y. right_alone y) (take n ys) ++ es) (rights-script es s));
+    }
 
     -- what a call leaves that passed the first n
-    pub rights-passed : (R : Type 0) (xs' : List (K × V)) (ys' : List (K × W)) (answer : Answer) → IfOk answer (λ go_on. go_on ≡ true → (xs' ≡ xs) × (ys' ≡ drop n ys) × R)
-        → IfOk answer (λ go_on. go_on ≡ true → (xs' ≡ xs) × (ys' ≡ drop n ys) × (R × BothAscend (by_key cmp) xs' ys' × CanAsk cmp kind Takes xs' ys'))
+    pub rights-passed : (R : Type 0) (xs' : List (K × V)) (ys' : List (K × W)) (answer : Answer)
+        → IfOk answer (λ go_on. go_on ≡ true → (xs' ≡ xs) × (ys' ≡ drop n ys) × R)
+        → IfOk answer (λ go_on. go_on ≡ true → (xs' ≡ xs) × (ys' ≡ drop n ys)
+        × (R × BothAscend (by_key cmp) xs' ys' × CanAsk cmp kind Takes xs' ys'))
     rights-passed R xs' ys' (Ok b) h = λ e.
         let p = h e in (
           p.0,
@@ -121,9 +144,11 @@ module _ {K V W : Type 0} (cmp : K → K → Ordering) (total : IsTotalOrder cmp
       → by_key cmp (inl x) (inr y) ≡ Equal → (es : List (Event (K × V) (K × W))) → IsScript (by_key cmp) xs ys es
       → IsScript (by_key cmp) (x ∷ xs) (y ∷ ys) (collision x y ∷ es)
   unfolding IsStrictlySortedBy
-  heads-script x xs y ys ascend e es s = put-both (by_key cmp) (by_key-total cmp total) x y xs ys es e ascend.left.0 ascend.right.0 s
+  heads-script x xs y ys ascend e es s =
+      put-both (by_key cmp) (by_key-total cmp total) x y xs ys es e ascend.left.0 ascend.right.0 s
 
-  tails-ascend : (x : K × V) (xs : List (K × V)) (y : K × W) (ys : List (K × W)) → BothAscend (by_key cmp) (x ∷ xs) (y ∷ ys) → BothAscend (by_key cmp) xs ys
+  tails-ascend : (x : K × V) (xs : List (K × V)) (y : K × W) (ys : List (K × W))
+      → BothAscend (by_key cmp) (x ∷ xs) (y ∷ ys) → BothAscend (by_key cmp) xs ys
   unfolding IsStrictlySortedBy
   tails-ascend x xs y ys ascend = record { left = ascend.left.1; right = ascend.right.1 }
 
@@ -138,13 +163,15 @@ module _ {K V W : Type 0} (cmp : K → K → Ordering) (total : IsTotalOrder cmp
 
   tails-can : (x : K × V) (xs : List (K × V)) (y : K × W) (ys : List (K × W)) → BothAscend (by_key cmp) (x ∷ xs) (y ∷ ys)
       → by_key cmp (inl x) (inr y) ≡ Equal → CanAsk cmp kind Takes (x ∷ xs) (y ∷ ys) → CanAsk cmp kind Takes xs ys
-  tails-can x xs y ys ascend e can = record { each = λ es s. (can.each (collision x y ∷ es) (heads-script x xs y ys ascend e es s)).1 }
+  tails-can x xs y ys ascend e can =
+      record { each = λ es s. (can.each (collision x y ∷ es) (heads-script x xs y ys ascend e es s)).1 }
 
   -- what a call leaves that passed the first pair of each
   pub heads-passed : (R : Type 0) (xs : List (K × V)) (ys : List (K × W)) (xs' : List (K × V)) (ys' : List (K × W))
       → BothAscend (by_key cmp) xs ys → HeadsCompare (by_key cmp) xs ys Equal → CanAsk cmp kind Takes xs ys
       → (answer : Answer) → IfOk answer (λ go_on. go_on ≡ true → (xs' ≡ drop 1 xs) × (ys' ≡ drop 1 ys) × R)
-      → IfOk answer (λ go_on. go_on ≡ true → (xs' ≡ drop 1 xs) × (ys' ≡ drop 1 ys) × (R × BothAscend (by_key cmp) xs' ys' × CanAsk cmp kind Takes xs' ys'))
+      → IfOk answer (λ go_on. go_on ≡ true → (xs' ≡ drop 1 xs) × (ys' ≡ drop 1 ys)
+      × (R × BothAscend (by_key cmp) xs' ys' × CanAsk cmp kind Takes xs' ys'))
   heads-passed R [] ys xs' ys' ascend e can answer h = absurd e
   heads-passed R (x ∷ xs) [] xs' ys' ascend e can answer h = absurd e
   heads-passed R (x ∷ xs) (y ∷ ys) xs' ys' ascend e can (Ok b) h = λ g.
@@ -162,12 +189,14 @@ module _ {K V W : Type 0} (cmp : K → K → Ordering) (total : IsTotalOrder cmp
   heads-passed R (x ∷ xs) (y ∷ ys) xs' ys' ascend e can (Err z) h = tt
 
   -- what may be asked at each key may be asked along the script
-  pub can-ask : (xs : List (K × V)) (ys : List (K × W)) → ((a : OuterJoinArg K V W) → IsAsked cmp kind left_spelling xs ys a → Takes a) → CanAsk cmp kind Takes xs ys
+  pub can-ask : (xs : List (K × V)) (ys : List (K × W))
+      → ((a : OuterJoinArg K V W) → IsAsked cmp kind left_spelling xs ys a → Takes a) → CanAsk cmp kind Takes xs ys
   can-ask xs ys h = record {
     each = λ es s. events-asked total {X = Unit {0}} kind left_spelling (λ i j e. tied_itself total i)
         (λ a r. Unit {0}) (λ a k. cmp (shown_key a) k ≡ Equal) (λ a k i e. e) Takes xs ys es s h;
   }
 
 -- both lists ascend in the order of their keys
-pub both-ascend : {K V W : Type 0} (cmp : K → K → Ordering) (xs : List (K × V)) (ys : List (K × W)) → AscendsByKey cmp xs → AscendsByKey cmp ys → BothAscend (by_key cmp) xs ys
+pub both-ascend : {K V W : Type 0} (cmp : K → K → Ordering) (xs : List (K × V)) (ys : List (K × W))
+    → AscendsByKey cmp xs → AscendsByKey cmp ys → BothAscend (by_key cmp) xs ys
 both-ascend cmp xs ys p q = record { left = pairs-ascend cmp xs p; right = pairs-ascend cmp ys q }

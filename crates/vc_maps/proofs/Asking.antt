@@ -1,5 +1,6 @@
 -- What is asked of two maps: each question is one that the kind of the join asks, and may be asked where its parts may.
-use Rattle.std.proofs.Common.{◌≡◌, Bool, true, false, cond, List, Option, Some, None, Result, Ok, Err, IsOk, OnOk, OnErr, refl, sym, subst}
+use Rattle.std.proofs.Common.{◌≡◌, Bool, true, false, cond, List, Option, Some, None, Result, Ok, Err, IsOk, OnOk}
+use Rattle.std.proofs.Common.{OnErr, refl, sym, subst}
 use mathlib.Core.Bool.{true≢false}
 use Rattle.std.specs.declared.cmp.Ordering.{Ordering}
 use Rattle.vc_joins.specs.declared.question.OuterJoinArg.{OuterJoinArg}
@@ -15,34 +16,42 @@ some-if P x y true e h = let same : x ≡ y = cc in subst (λ z. P z ≡ true) s
 some-if P x y false e h = let none : None ≡ Some y = h in cc
 
 module _ {K V W : Type 0} (cmp : K → K → Ordering) (kind : JoinKind) where
-  asked-asks : (p : Option (K × V)) (q : Option (K × W)) (a : OuterJoinArg K V W) → asked kind left_spelling p q ≡ Some a → asks kind a ≡ true
+  asked-asks : (p : Option (K × V)) (q : Option (K × W)) (a : OuterJoinArg K V W) → asked kind left_spelling p q
+      ≡ Some a → asks kind a ≡ true
   asked-asks (Some p) (Some q) a e = some-if (asks kind) (Both p.0 p.1 q.1) a true refl e
   asked-asks (Some p) None a e = some-if (asks kind) (Left p.0 p.1) a (asks_left kind) refl e
   asked-asks None (Some q) a e = some-if (asks kind) (Right q.0 q.1) a (asks_right kind) refl e
   asked-asks None None a e = let none : None ≡ Some a = e in cc
 
   -- what is asked of two maps, read through slices of these
-  pub asked-of : (xs xs' : List (K × V)) (ys ys' : List (K × W)) (a : OuterJoinArg K V W) → xs' ≡ xs → ys' ≡ ys → IsAsked cmp kind left_spelling xs' ys' a → IsAsked cmp kind left_spelling xs ys a
-  asked-of xs xs' ys ys' a e f h = subst (λ l. IsAsked cmp kind left_spelling l ys a) e (subst (λ l. IsAsked cmp kind left_spelling xs' l a) f h)
+  pub asked-of : (xs xs' : List (K × V)) (ys ys' : List (K × W)) (a : OuterJoinArg K V W) → xs' ≡ xs → ys' ≡ ys
+      → IsAsked cmp kind left_spelling xs' ys' a → IsAsked cmp kind left_spelling xs ys a
+  asked-of xs xs' ys ys' a e f h =
+      subst (λ l. IsAsked cmp kind left_spelling l ys a) e (subst (λ l. IsAsked cmp kind left_spelling xs' l a) f h)
 
   -- a question that is asked is one that the kind asks
-  pub asked-kind : {xs : List (K × V)} {ys : List (K × W)} (a : OuterJoinArg K V W) → IsAsked cmp kind left_spelling xs ys a → asks kind a ≡ true
+  pub asked-kind : {xs : List (K × V)} {ys : List (K × W)} (a : OuterJoinArg K V W)
+      → IsAsked cmp kind left_spelling xs ys a → asks kind a ≡ true
   asked-kind {xs} {ys} a h = asked-asks (entry_at cmp xs h.key) (entry_at cmp ys h.key) a h.asks
 
   -- the same question, in parts that make it
-  pub asked-as : {xs : List (K × V)} {ys : List (K × W)} (a b : OuterJoinArg K V W) → b ≡ a → IsAsked cmp kind left_spelling xs ys a → IsAsked cmp kind left_spelling xs ys b
+  pub asked-as : {xs : List (K × V)} {ys : List (K × W)} (a b : OuterJoinArg K V W) → b ≡ a
+      → IsAsked cmp kind left_spelling xs ys a → IsAsked cmp kind left_spelling xs ys b
   asked-as {xs} {ys} a b e h = subst (λ c. IsAsked cmp kind left_spelling xs ys c) (sym e) h
 
   module _ {X : Type 0} (May : OuterJoinArg K V W → Option X → Type 0) (Keeps : OuterJoinArg K V W → K → Type 0) where
     -- a join of the lists behind two slices
     pub join-of : (xs xs' : List (K × V)) (ys ys' : List (K × W)) (zs : List (K × X)) → xs' ≡ xs → ys' ≡ ys
         → IsJoin cmp kind left_spelling xs' ys' May Keeps zs → IsJoin cmp kind left_spelling xs ys May Keeps zs
-    join-of xs xs' ys ys' zs e f h = subst (λ l. IsJoin cmp kind left_spelling l ys May Keeps zs) e (subst (λ l. IsJoin cmp kind left_spelling xs' l May Keeps zs) f h)
+    join-of xs xs' ys ys' zs e f h =
+        subst (λ l. IsJoin cmp kind left_spelling l ys May Keeps zs) e
+        (subst (λ l. IsJoin cmp kind left_spelling xs' l May Keeps zs) f h)
 
     pub join_by-of : (xs xs' : List (K × V)) (ys ys' : List (K × W)) (zs : List (K × X)) → xs' ≡ xs → ys' ≡ ys
         → IsJoin cmp kind left_spelling xs' ys' May Keeps zs → (h : OuterJoinArg K V W → Option X)
         → IsJoinBy cmp kind left_spelling xs ys May h zs
-    join_by-of xs xs' ys ys' zs e f h = joins-of_functions cmp May Keeps kind left_spelling xs ys zs (join-of xs xs' ys ys' zs e f h)
+    join_by-of xs xs' ys ys' zs e f h =
+        joins-of_functions cmp May Keeps kind left_spelling xs ys zs (join-of xs xs' ys ys' zs e f h)
 
 -- what follows where a call is not refused
 pub on-ok : {X E : Type 0} (result : Result X E) {P Q : Type 0} → (P → Q) → OnOk result P → OnOk result Q
@@ -58,6 +67,7 @@ at-ok (Err e) is p = absurd (true≢false (sym is))
 pub join-ascends : {E K V W : Type 0} (cmp : K → K → Ordering) (kind : JoinKind) (May : OuterJoinArg K V W → Option V → Type 0)
     (Keeps : OuterJoinArg K V W → K → Type 0) (result : Result (Unit {0}) E) (xs : List (K × V)) (ys : List (K × W))
     (zs : List (K × V))
-    → OnOk result (IsJoin cmp kind left_spelling xs ys May Keeps zs) → OnErr result (zs ≡ xs) → AscendsByKey cmp xs → AscendsByKey cmp zs
+    → OnOk result (IsJoin cmp kind left_spelling xs ys May Keeps zs) → OnErr result (zs ≡ xs) → AscendsByKey cmp xs
+    → AscendsByKey cmp zs
 join-ascends cmp kind May Keeps (Ok x) xs ys zs j e h = j.ascends
 join-ascends cmp kind May Keeps (Err r) xs ys zs j e h = subst (λ l. AscendsByKey cmp l) (sym e) h

@@ -1,5 +1,6 @@
 -- Maps that take in another one whole: what each event adds, and what stands at each key in the end.
-use Rattle.std.proofs.Common.{◌≡◌, IsOk, List, [], ◌∷◌, ◌++◌, Option, Some, None, Result, Ok, Err, OnOk, refl, sym, ap, subst, ◌∙◌}
+use Rattle.std.proofs.Common.{◌≡◌, IsOk, List, [], ◌∷◌, ◌++◌, Option, Some, None, Result, Ok, Err, OnOk, refl, sym}
+use Rattle.std.proofs.Common.{ap, subst, ◌∙◌}
 use mathlib.Core.Bool.{true≢false}
 use Rattle.std.specs.Cmp.{IsTotalOrder, tied_itself}
 use Rattle.std.specs.Option.{option_map, option_or, option_and_then}
@@ -20,19 +21,22 @@ use Rattle.vc_maps.proofs.Asking.{on-ok}
 use Rattle.vc_maps.specs.Combining.{CanCombine, Combines, combined, IsCombinedBy}
 
 -- what was passed by a call that is never refused
-pub skipped : {M X N : Type 0} (built : M → List X) (name : M → N) (s t : M) (answer : Answer) → IsOk answer → Skips built name s answer t → (name t ≡ name s) × (built t ≡ built s)
+pub skipped : {M X N : Type 0} (built : M → List X) (name : M → N) (s t : M) (answer : Answer) → IsOk answer
+    → Skips built name s answer t → (name t ≡ name s) × (built t ≡ built s)
 skipped built name s t (Ok go_on) i h = (h.1, h.2)
 skipped built name s t (Err e) i h = absurd (true≢false (sym i))
 
 module _ {K V : Type 0} where
   -- the closure may be called at a question that is asked
-  pub can-combine : (can : V → V → Type 0) (a : OuterJoinArg K V V) → ((k : K) (v w : V) → a ≡ Both k v w → can v w) → CanCombine can a
+  pub can-combine : (can : V → V → Type 0) (a : OuterJoinArg K V V) → ((k : K) (v w : V) → a ≡ Both k v w → can v w)
+      → CanCombine can a
   can-combine can (Left k v) h = tt
   can-combine can (Right k w) h = tt
   can-combine can (Both k v w) h = h k v w refl
 
   -- a key that was moved is equal to the one that was shown
-  pub moved-equal : (cmp : K → K → Ordering) → IsTotalOrder cmp → (a : OuterJoinArg K V V) (k : K) → MovedKey a k → cmp (shown_key a) k ≡ Equal
+  pub moved-equal : (cmp : K → K → Ordering) → IsTotalOrder cmp → (a : OuterJoinArg K V V) (k : K) → MovedKey a k
+      → cmp (shown_key a) k ≡ Equal
   moved-equal cmp total a k h = subst (λ l. cmp (shown_key a) l ≡ Equal) (sym h) (tied_itself total (shown_key a))
 
 module _ {K V : Type 0} (gives : V → V → V → Type 0) where
@@ -45,10 +49,12 @@ module _ {K V : Type 0} (gives : V → V → V → Type 0) where
   rights-gathered (p ∷ ps) = (p ∷ [], ps, (Some p, (refl, refl), refl), rights-gathered ps, refl)
 
   -- pairs of one map alone are added as they are
-  pub lefts-added : (ps old new : List (K × V)) → new ≡ old ++ ps → Appends (λ p. AnswerAdds (Combines gives) MovedKey (Some (Left p.0 p.1))) ps old new
+  pub lefts-added : (ps old new : List (K × V)) → new ≡ old ++ ps
+      → Appends (λ p. AnswerAdds (Combines gives) MovedKey (Some (Left p.0 p.1))) ps old new
   lefts-added ps old new e = record { added = ps; gathered = lefts-gathered ps; items = e }
 
-  pub rights-added : (ps old new : List (K × V)) → new ≡ old ++ ps → Appends (λ p. AnswerAdds (Combines gives) MovedKey (Some (Right p.0 p.1))) ps old new
+  pub rights-added : (ps old new : List (K × V)) → new ≡ old ++ ps
+      → Appends (λ p. AnswerAdds (Combines gives) MovedKey (Some (Right p.0 p.1))) ps old new
   rights-added ps old new e = record { added = ps; gathered = rights-gathered ps; items = e }
 
 -- ---- values
@@ -60,13 +66,15 @@ module _ {K V : Type 0} (g : V → V → V) where
   answer_of (Right k w) = Some w
   answer_of (Both k v w) = Some (g v w)
 
-  one-answer : (gives : V → V → V → Type 0) (a : OuterJoinArg K V V) (r : Option V) → ((k : K) (v w x : V) → a ≡ Both k v w → gives v w x → x ≡ g v w) → Combines gives a r → r ≡ answer_of a
+  one-answer : (gives : V → V → V → Type 0) (a : OuterJoinArg K V V) (r : Option V)
+      → ((k : K) (v w x : V) → a ≡ Both k v w → gives v w x → x ≡ g v w) → Combines gives a r → r ≡ answer_of a
   one-answer gives (Left k v) r one m = m
   one-answer gives (Right k w) r one m = m
   one-answer gives (Both k v w) None one m = absurd m
   one-answer gives (Both k v w) (Some x) one m = ap Some (one k v w x refl m)
 
-  values-combined : (p q : Option (K × V)) → option_and_then answer_of (asked Outer left_spelling p q) ≡ combined g (option_map (λ p. p.1) p) (option_map (λ p. p.1) q)
+  values-combined : (p q : Option (K × V)) → option_and_then answer_of (asked Outer left_spelling p q)
+      ≡ combined g (option_map (λ p. p.1) p) (option_map (λ p. p.1) q)
   values-combined (Some p) (Some q) = refl
   values-combined (Some p) None = refl
   values-combined None (Some q) = refl
@@ -74,13 +82,16 @@ module _ {K V : Type 0} (g : V → V → V) where
 
 module _ {K V : Type 0} (cmp : K → K → Ordering) (xs ys zs : List (K × V)) where
   -- where the closure gives one answer to the two values of each key, that stands there
-  pub combined-by : (gives : V → V → V → Type 0) → IsJoin cmp Outer left_spelling xs ys (Combines gives) MovedKey zs → (g : V → V → V) → IsCombinedBy cmp xs ys gives g zs
+  pub combined-by : (gives : V → V → V → Type 0) → IsJoin cmp Outer left_spelling xs ys (Combines gives) MovedKey zs
+      → (g : V → V → V) → IsCombinedBy cmp xs ys gives g zs
   combined-by gives j g one k =
       joins-of_functions cmp (Combines gives) MovedKey Outer left_spelling xs ys zs j (answer_of g)
-      (λ a r i m. one-answer g gives a r (λ l v w x e. one l v w x (subst (λ b. IsAsked cmp Outer left_spelling xs ys b) e i)) m) k
+      (λ a r i m. one-answer g gives a r
+      (λ l v w x e. one l v w x (subst (λ b. IsAsked cmp Outer left_spelling xs ys b) e i)) m) k
       ∙ rw (value-entry cmp xs k, value-entry cmp ys k) (values-combined g (entry_at cmp xs k) (entry_at cmp ys k))
 
-  combines-weaker : (gives may : V → V → V → Type 0) → ((v w x : V) → gives v w x → may v w x) → (a : OuterJoinArg K V V) (r : Option V) → Combines gives a r → Combines may a r
+  combines-weaker : (gives may : V → V → V → Type 0) → ((v w x : V) → gives v w x → may v w x)
+      → (a : OuterJoinArg K V V) (r : Option V) → Combines gives a r → Combines may a r
   combines-weaker gives may f (Left k v) r m = m
   combines-weaker gives may f (Right k w) r m = m
   combines-weaker gives may f (Both k v w) None m = absurd m
@@ -114,5 +125,7 @@ module _ {K V : Type 0} (cmp : K → K → Ordering) (xs ys zs : List (K × V)) 
   right-or-left None None = refl
 
   -- where the value of the right takes the place of the left one
-  pub right-values : IsJoin cmp Outer left_spelling xs ys (Combines (λ v w x. x ≡ w)) MovedKey zs → (k : K) → value_at cmp zs k ≡ option_or (value_at cmp ys k) (value_at cmp xs k)
-  right-values j k = combined-by (λ v w x. x ≡ w) j (λ v w. w) (λ l v w x i e. e) k ∙ right-or-left (value_at cmp xs k) (value_at cmp ys k)
+  pub right-values : IsJoin cmp Outer left_spelling xs ys (Combines (λ v w x. x ≡ w)) MovedKey zs → (k : K)
+      → value_at cmp zs k ≡ option_or (value_at cmp ys k) (value_at cmp xs k)
+  right-values j k = combined-by (λ v w x. x ≡ w) j (λ v w. w) (λ l v w x i e. e) k
+      ∙ right-or-left (value_at cmp xs k) (value_at cmp ys k)

@@ -1,5 +1,7 @@
 -- A merge that asks at its events builds the join of its two maps.
-use Rattle.std.proofs.Common.{◌≡◌, ℕ, zero, suc, ◌+◌, ◌<◌, length, get_or, add-one, arith, Bool, true, false, List, [], ◌∷◌, ◌++◌, take, cond, append-nil, Option, Some, None, Result, Ok, Err, IsOk, ◌⊎◌, refl, sym, ap, subst, ◌∙◌}
+use Rattle.std.proofs.Common.{◌≡◌, ℕ, zero, suc, ◌+◌, ◌<◌, length, get_or, add-one, arith, Bool, true, false, List}
+use Rattle.std.proofs.Common.{[], ◌∷◌, ◌++◌, take, cond, append-nil, Option, Some, None, Result, Ok, Err, IsOk, ◌⊎◌}
+use Rattle.std.proofs.Common.{refl, sym, ap, subst, ◌∙◌}
 use Rattle.std.specs.Bool.{MatchBool}
 use Rattle.std.specs.Option.{MatchOption}
 use Rattle.std.specs.Cmp.{IsTotalOrder, tied_itself}
@@ -24,24 +26,35 @@ use Rattle.vc_maps.specs.Asking.{AtHeads}
 take-one : {X : Type 0} (xs : List X) (i : ℕ) (x : X) → i < length xs → x ≡ get_or xs i x → take (i + 1) xs ≡ take i xs ++ x ∷ []
 take-one [] i x h e = absurd (omega arith)
 take-one (y ∷ xs) zero x h e = ap (λ z. z ∷ []) (sym e)
-take-one (y ∷ xs) (suc i) x h e = let k : i < length xs = omega arith in rw add-one (ap (λ l. y ∷ l) (rw add-one at (take-one xs i x k e)))
+take-one (y ∷ xs) (suc i) x h e = let k : i < length xs = omega arith in
+    rw add-one (ap (λ l. y ∷ l) (rw add-one at (take-one xs i x k e)))
 
 module _ {X Z : Type 0} (gives : X → List Z → Type 0) where
   -- what one more element gives
-  pub appends-one : (xs : List X) (x : X) (old mid new : List Z) (added : List Z) → Appends gives xs old mid → gives x added → new ≡ mid ++ added → Appends gives (xs ++ x ∷ []) old new
+  pub appends-one : (xs : List X) (x : X) (old mid new : List Z) (added : List Z) → Appends gives xs old mid
+      → gives x added → new ≡ mid ++ added → Appends gives (xs ++ x ∷ []) old new
   appends-one xs x old mid new added p g e =
-      appends-append gives xs (x ∷ []) old mid new p (record { added = added ++ []; gathered = (added, [], g, refl, refl); items = e ∙ ap (λ l. mid ++ l) (sym (append-nil added)) })
+      appends-append gives xs (x ∷ []) old mid new p
+      (record {
+        added = added ++ [];
+        gathered = (added, [], g, refl, refl);
+        items =
+            e ∙ ap (λ l. mid ++ l) (sym (append-nil added));
+      })
 
 module _ {K V W X : Type 0} (May : OuterJoinArg K V W → Option X → Type 0) (Keeps : OuterJoinArg K V W → K → Type 0) where
   -- an answer that is put under a key adds the pair
-  pub answer-adds : (a : OuterJoinArg K V W) (r : Option X) (old new : List (K × X)) → May a r → MatchOption r (new ≡ old) (λ x. (k : K) × Keeps a k × (new ≡ old ++ (k, x) ∷ []))
+  pub answer-adds : (a : OuterJoinArg K V W) (r : Option X) (old new : List (K × X)) → May a r
+      → MatchOption r (new ≡ old) (λ x. (k : K) × Keeps a k × (new ≡ old ++ (k, x) ∷ []))
       → (added : List (K × X)) × AnswerAdds May Keeps (Some a) added × (new ≡ old ++ added)
   answer-adds a None old new m h = ([], (None, m, refl), h ∙ sym (append-nil old))
   answer-adds a (Some x) old new m (k, s, e) = ((k, x) ∷ [], (Some (k, x), (m, s), refl), e)
 
   -- what one more question adds, asked at the element behind the first i
-  pub asked-one : {P : Type 0} (question : P → OuterJoinArg K V W) (all : List P) (i : ℕ) (x : P) (r : Option X) (old mid new : List (K × X)) → i < length all → x ≡ get_or all i x
-      → Appends (λ p. AnswerAdds May Keeps (Some (question p))) (take i all) old mid → May (question x) r → MatchOption r (new ≡ mid) (λ v. (k : K) × Keeps (question x) k × (new ≡ mid ++ (k, v) ∷ []))
+  pub asked-one : {P : Type 0} (question : P → OuterJoinArg K V W) (all : List P) (i : ℕ) (x : P) (r : Option X)
+      (old mid new : List (K × X)) → i < length all → x ≡ get_or all i x
+      → Appends (λ p. AnswerAdds May Keeps (Some (question p))) (take i all) old mid → May (question x) r
+      → MatchOption r (new ≡ mid) (λ v. (k : K) × Keeps (question x) k × (new ≡ mid ++ (k, v) ∷ []))
       → Appends (λ p. AnswerAdds May Keeps (Some (question p))) (take (i + 1) all) old new
   asked-one question all i x r old mid new h is p m e =
       let g = answer-adds (question x) r mid new m e in
@@ -49,11 +62,13 @@ module _ {K V W X : Type 0} (May : OuterJoinArg K V W → Option X → Type 0) (
       (appends-one (λ p. AnswerAdds May Keeps (Some (question p))) (take i all) x old mid new g.0 p g.1 g.2)
 
   -- what one question adds
-  pub asked-once : (a : OuterJoinArg K V W) (r : Option X) (old new : List (K × X)) → May a r → MatchOption r (new ≡ old) (λ v. (k : K) × Keeps a k × (new ≡ old ++ (k, v) ∷ []))
+  pub asked-once : (a : OuterJoinArg K V W) (r : Option X) (old new : List (K × X)) → May a r
+      → MatchOption r (new ≡ old) (λ v. (k : K) × Keeps a k × (new ≡ old ++ (k, v) ∷ []))
       → Appends (λ a. AnswerAdds May Keeps (Some a)) (a ∷ []) old new
   asked-once a r old new m e =
       let g = answer-adds a r old new m e in
-      appends-one (λ a. AnswerAdds May Keeps (Some a)) [] a old old new g.0 (appends-nothing (λ a. AnswerAdds May Keeps (Some a)) old old refl) g.1 g.2
+      appends-one (λ a. AnswerAdds May Keeps (Some a)) [] a old old new g.0
+      (appends-nothing (λ a. AnswerAdds May Keeps (Some a)) old old refl) g.1 g.2
 
 -- what holds in either case, and what holds beside it
 always : (P Q R : Type 0) (b : Bool) → MatchBool b (P × Q) (P × R) → P
@@ -65,19 +80,22 @@ beside P Q R true h = h.1
 beside P Q R false h = h.1
 
 -- what holds of the first elements of two lists
-pub at-heads : {X Y : Type 0} (P : X → Y → Type 0) (xs : List X) (ys : List Y) (x : X) (y : Y) → 0 < length xs → 0 < length ys → x ≡ get_or xs 0 x → y ≡ get_or ys 0 y → P x y → AtHeads P xs ys
+pub at-heads : {X Y : Type 0} (P : X → Y → Type 0) (xs : List X) (ys : List Y) (x : X) (y : Y) → 0 < length xs
+    → 0 < length ys → x ≡ get_or xs 0 x → y ≡ get_or ys 0 y → P x y → AtHeads P xs ys
 at-heads P [] ys x y h k e f p = absurd (omega arith)
 at-heads P (z ∷ xs) [] x y h k e f p = absurd (omega arith)
 at-heads P (z ∷ xs) (w ∷ ys) x y h k e f p = subst (λ v. P v w) e (subst (λ v. P x v) f p)
 
 -- what follows of the first elements of two lists
-pub heads-weaker : {X Y : Type 0} (P Q : X → Y → Type 0) (xs : List X) (ys : List Y) → ((x : X) (y : Y) → P x y → Q x y) → AtHeads P xs ys → AtHeads Q xs ys
+pub heads-weaker : {X Y : Type 0} (P Q : X → Y → Type 0) (xs : List X) (ys : List Y)
+    → ((x : X) (y : Y) → P x y → Q x y) → AtHeads P xs ys → AtHeads Q xs ys
 heads-weaker P Q [] ys f p = p
 heads-weaker P Q (x ∷ xs) [] f p = p
 heads-weaker P Q (x ∷ xs) (y ∷ ys) f p = f x y p
 
 -- both lists have a first element where something holds of these
-pub heads-some : {X Y : Type 0} (P : X → Y → Type 0) (xs : List X) (ys : List Y) → AtHeads P xs ys → (0 < length xs) × (0 < length ys)
+pub heads-some : {X Y : Type 0} (P : X → Y → Type 0) (xs : List X) (ys : List Y) → AtHeads P xs ys → (0 < length xs)
+    × (0 < length ys)
 heads-some P [] ys p = absurd p
 heads-some P (x ∷ xs) [] p = absurd p
 heads-some P (x ∷ xs) (y ∷ ys) p = (omega arith, omega arith)
@@ -87,30 +105,39 @@ module _ {K V W X M N : Type 0} (May : OuterJoinArg K V W → Option X → Type 
   -- what a state that asks answers at each event
   pub record IsAsking : Type 0 where
     pub from_a : (s t : M) (n : ℕ) (answer : Answer) → op.gives.from_a s n answer t
-        → MatchBool (asks_left kind) (Adds built name (λ p. AnswerAdds May Keeps (Some (Left p.0 p.1))) (take n (op.left s)) s answer t) (Skips built name s answer t)
+        → MatchBool (asks_left kind) (Adds built name (λ p. AnswerAdds May Keeps (Some (Left p.0 p.1)))
+        (take n (op.left s)) s answer t) (Skips built name s answer t)
     pub from_b : (s t : M) (n : ℕ) (answer : Answer) → op.gives.from_b s n answer t
-        → MatchBool (asks_right kind) (Adds built name (λ q. AnswerAdds May Keeps (Some (Right q.0 q.1))) (take n (op.right s)) s answer t) (Skips built name s answer t)
+        → MatchBool (asks_right kind) (Adds built name (λ q. AnswerAdds May Keeps (Some (Right q.0 q.1)))
+        (take n (op.right s)) s answer t) (Skips built name s answer t)
     pub collision : (s t : M) (answer : Answer) → op.gives.collision s answer t
-        → AtHeads (λ p q. Adds built name (λ a. AnswerAdds May Keeps (Some a)) (Both p.0 p.1 q.1 ∷ []) s answer t) (op.left s) (op.right s)
+        → AtHeads (λ p q. Adds built name (λ a. AnswerAdds May Keeps (Some a)) (Both p.0 p.1 q.1 ∷ []) s answer t)
+        (op.left s) (op.right s)
 
-  skips-none : {Y : Type 0} (gives : Y → List (K × X) → Type 0) → ((y : Y) → gives y []) → (ys : List Y) (s t : M) (answer : Answer) → Skips built name s answer t → Adds built name gives ys s answer t
+  skips-none : {Y : Type 0} (gives : Y → List (K × X) → Type 0) → ((y : Y) → gives y [])
+      → (ys : List Y) (s t : M) (answer : Answer) → Skips built name s answer t → Adds built name gives ys s answer t
   skips-none gives none ys s t (Ok b) p = (p.0, p.1, appends-none gives none ys (built s) (built t) p.2)
   skips-none gives none ys s t (Err e) p = tt
 
   lefts-add : (b : Bool) (s t : M) (n : ℕ) (answer : Answer)
-      → MatchBool b (Adds built name (λ p. AnswerAdds May Keeps (Some (Left p.0 p.1))) (take n (op.left s)) s answer t) (Skips built name s answer t)
+      → MatchBool b (Adds built name (λ p. AnswerAdds May Keeps (Some (Left p.0 p.1)))
+      (take n (op.left s)) s answer t) (Skips built name s answer t)
       → Adds built name (λ p. AnswerAdds May Keeps (cond b (Some (Left p.0 p.1)) None)) (take n (op.left s)) s answer t
   lefts-add true s t n answer h = h
-  lefts-add false s t n answer h = skips-none (λ p. AnswerAdds May Keeps None) (λ p. (None, refl, refl)) (take n (op.left s)) s t answer h
+  lefts-add false s t n answer h =
+      skips-none (λ p. AnswerAdds May Keeps None) (λ p. (None, refl, refl)) (take n (op.left s)) s t answer h
 
   rights-add : (b : Bool) (s t : M) (n : ℕ) (answer : Answer)
-      → MatchBool b (Adds built name (λ q. AnswerAdds May Keeps (Some (Right q.0 q.1))) (take n (op.right s)) s answer t) (Skips built name s answer t)
+      → MatchBool b (Adds built name (λ q. AnswerAdds May Keeps (Some (Right q.0 q.1)))
+      (take n (op.right s)) s answer t) (Skips built name s answer t)
       → Adds built name (λ q. AnswerAdds May Keeps (cond b (Some (Right q.0 q.1)) None)) (take n (op.right s)) s answer t
   rights-add true s t n answer h = h
-  rights-add false s t n answer h = skips-none (λ q. AnswerAdds May Keeps None) (λ q. (None, refl, refl)) (take n (op.right s)) s t answer h
+  rights-add false s t n answer h =
+      skips-none (λ q. AnswerAdds May Keeps None) (λ q. (None, refl, refl)) (take n (op.right s)) s t answer h
 
   -- the one question of two pairs, by its event
-  heads-add : (x : K × V) (y : K × W) (s t : M) (answer : Answer) → Adds built name (λ a. AnswerAdds May Keeps (Some a)) (Both x.0 x.1 y.1 ∷ []) s answer t
+  heads-add : (x : K × V) (y : K × W) (s t : M) (answer : Answer)
+      → Adds built name (λ a. AnswerAdds May Keeps (Some a)) (Both x.0 x.1 y.1 ∷ []) s answer t
       → Adds built name (AnswersEvent kind left_spelling May Keeps) (collision x y ∷ []) s answer t
   heads-add x y s t (Ok b) h = (h.0, h.1, record { added = h.2.added; gathered = h.2.gathered; items = h.2.items })
   heads-add x y s t (Err e) h = tt
@@ -120,13 +147,18 @@ module _ {K V W X M N : Type 0} (May : OuterJoinArg K V W → Option X → Type 
     from_a = λ s t n answer h. lefts-add (asks_left kind) s t n answer (is.from_a s t n answer h);
     from_b = λ s t n answer h. rights-add (asks_right kind) s t n answer (is.from_b s t n answer h);
     collision = λ s t answer h x y xs ys e f.
-        let at = subst (λ l. AtHeads (λ p q. Adds built name (λ a. AnswerAdds May Keeps (Some a)) (Both p.0 p.1 q.1 ∷ []) s answer t) l (op.right s)) e (is.collision s t answer h) in
-        heads-add x y s t answer (subst (λ l. AtHeads (λ p q. Adds built name (λ a. AnswerAdds May Keeps (Some a)) (Both p.0 p.1 q.1 ∷ []) s answer t) (x ∷ xs) l) f at);
+        let at = subst (λ l. AtHeads (λ p q. Adds built name (λ a. AnswerAdds May Keeps (Some a))
+        (Both p.0 p.1 q.1 ∷ []) s answer t) l (op.right s)) e (is.collision s t answer h) in
+        heads-add x y s t answer (subst
+        (λ l. AtHeads (λ p q. Adds built name (λ a. AnswerAdds May Keeps (Some a))
+        (Both p.0 p.1 q.1 ∷ []) s answer t) (x ∷ xs) l) f at);
   }
 
   -- such a merge that is not refused leaves the join, where keys are kept in equal spellings
-  pub merged-join : {cmp : K → K → Ordering} → IsTotalOrder cmp → ((a : OuterJoinArg K V W) (k : K) → asks kind a ≡ true → Keeps a k → cmp (shown_key a) k ≡ Equal) → IsAsking
-      → (s t : M) (xs : List (K × V)) (ys : List (K × W)) (zs : List (K × X)) → op.left s ≡ xs → op.right s ≡ ys → built s ≡ [] → (name t ≡ name s → zs ≡ built t)
+  pub merged-join : {cmp : K → K → Ordering} → IsTotalOrder cmp
+      → ((a : OuterJoinArg K V W) (k : K) → asks kind a ≡ true → Keeps a k → cmp (shown_key a) k ≡ Equal) → IsAsking
+      → (s t : M) (xs : List (K × V)) (ys : List (K × W)) (zs : List (K × X)) → op.left s ≡ xs → op.right s ≡ ys
+      → built s ≡ [] → (name t ≡ name s → zs ≡ built t)
       → Finishes op (by_key cmp) s t ⊎ Stops op (by_key cmp) s (Ok false) t → IsJoin cmp kind left_spelling xs ys May Keeps zs
   merged-join {cmp} total kept is s t xs ys zs l r e k m =
       let b = merged-builds built name op (AnswersEvent kind left_spelling May Keeps) (asking-builds is) (by_key cmp) s t m in
@@ -134,17 +166,22 @@ module _ {K V W X M N : Type 0} (May : OuterJoinArg K V W → Option X → Type 
       subst (λ z. IsBuilt (by_key cmp) (AnswersEvent kind left_spelling May Keeps) z ys [] zs) l
       (subst (λ z. IsBuilt (by_key cmp) (AnswersEvent kind left_spelling May Keeps) (op.left s) z [] zs) r
       (subst (λ z. IsBuilt (by_key cmp) (AnswersEvent kind left_spelling May Keeps) (op.left s) (op.right s) z zs) e
-      (subst (λ z. IsBuilt (by_key cmp) (AnswersEvent kind left_spelling May Keeps) (op.left s) (op.right s) (built s) z) (sym (k b.0)) b.1))) in
+      (subst (λ z. IsBuilt (by_key cmp) (AnswersEvent kind left_spelling May Keeps) (op.left s) (op.right s)
+      (built s) z) (sym (k b.0)) b.1))) in
       join-built total kind left_spelling (λ i j h. tied_itself total i) May Keeps kept xs ys zs built_of
 
   -- what a state that asks and is never refused answers at each event
   pub record IsAskingAlways : Type 0 where
     pub from_a : (s t : M) (n : ℕ) (answer : Answer) → op.gives.from_a s n answer t
-        → MatchBool (asks_left kind) (IsOk answer × Adds built name (λ p. AnswerAdds May Keeps (Some (Left p.0 p.1))) (take n (op.left s)) s answer t) (IsOk answer × Skips built name s answer t)
+        → MatchBool (asks_left kind) (IsOk answer × Adds built name (λ p. AnswerAdds May Keeps (Some (Left p.0 p.1)))
+        (take n (op.left s)) s answer t) (IsOk answer × Skips built name s answer t)
     pub from_b : (s t : M) (n : ℕ) (answer : Answer) → op.gives.from_b s n answer t
-        → MatchBool (asks_right kind) (IsOk answer × Adds built name (λ q. AnswerAdds May Keeps (Some (Right q.0 q.1))) (take n (op.right s)) s answer t) (IsOk answer × Skips built name s answer t)
+        → MatchBool (asks_right kind) (IsOk answer
+        × Adds built name (λ q. AnswerAdds May Keeps (Some (Right q.0 q.1))) (take n (op.right s)) s answer t)
+        (IsOk answer × Skips built name s answer t)
     pub collision : (s t : M) (answer : Answer) → op.gives.collision s answer t
-        → IsOk answer × AtHeads (λ p q. Adds built name (λ a. AnswerAdds May Keeps (Some a)) (Both p.0 p.1 q.1 ∷ []) s answer t) (op.left s) (op.right s)
+        → IsOk answer × AtHeads (λ p q. Adds built name (λ a. AnswerAdds May Keeps (Some a))
+        (Both p.0 p.1 q.1 ∷ []) s answer t) (op.left s) (op.right s)
 
   always-asking : IsAskingAlways → IsAsking
   always-asking is = record {
@@ -154,7 +191,8 @@ module _ {K V W X M N : Type 0} (May : OuterJoinArg K V W → Option X → Type 
   }
 
   -- such a merge leaves the join, in the list that it began with
-  pub always-join : {cmp : K → K → Ordering} → IsTotalOrder cmp → ((a : OuterJoinArg K V W) (k : K) → asks kind a ≡ true → Keeps a k → cmp (shown_key a) k ≡ Equal)
+  pub always-join : {cmp : K → K → Ordering} → IsTotalOrder cmp
+      → ((a : OuterJoinArg K V W) (k : K) → asks kind a ≡ true → Keeps a k → cmp (shown_key a) k ≡ Equal)
       → (s t : M) (result : Result (Unit {0}) AllocError) → IsMerged op (by_key cmp) s result t → IsAskingAlways → built s ≡ []
       → (name t ≡ name s) × IsJoin cmp kind left_spelling (op.left s) (op.right s) May Keeps (built t)
   always-join {cmp} total kept s t result m is e =
@@ -162,5 +200,6 @@ module _ {K V W X M N : Type 0} (May : OuterJoinArg K V W → Option X → Type 
       (λ s t n answer h. always _ _ _ (asks_left kind) (is.from_a s t n answer h))
       (λ s t n answer h. always _ _ _ (asks_right kind) (is.from_b s t n answer h))
       (λ s t answer h. (is.collision s t answer h).0) in
-      let named = merged-builds built name op (AnswersEvent kind left_spelling May Keeps) (asking-builds (always-asking is)) (by_key cmp) s t done in
+      let named = merged-builds built name op (AnswersEvent kind left_spelling May Keeps)
+      (asking-builds (always-asking is)) (by_key cmp) s t done in
       (named.0, merged-join total kept (always-asking is) s t (op.left s) (op.right s) (built t) refl refl e (λ _. refl) done)

@@ -8,3 +8,4 @@ pub mod Lending
 pub mod Mapped
 pub mod PairSets
 pub mod Retaining
+pub mod Unsorted

@@ -1,5 +1,6 @@
 -- Maps whose values are turned into others: one more pair, and what stands at each key.
-use Rattle.std.proofs.Common.{◌≡◌, ℕ, zero, suc, ◌+◌, ◌<◌, Bool, true, false, cond, List, [], ◌∷◌, ◌++◌, length, take, drop, get_or, Option, Some, refl, sym, ap, subst, ◌∙◌, arith, add-one, drop-cons}
+use Rattle.std.proofs.Common.{◌≡◌, ℕ, zero, suc, ◌+◌, ◌<◌, Bool, true, false, cond, List, [], ◌∷◌, ◌++◌, length, take}
+use Rattle.std.proofs.Common.{drop, get_or, Option, Some, refl, sym, ap, subst, ◌∙◌, arith, add-one, drop-cons}
 use Rattle.std.specs.BTreeMap.{is_at}
 use Rattle.std.specs.Map.{keys_of, values_of}
 use Rattle.std.specs.declared.cmp.Ordering.{Ordering}
@@ -16,23 +17,28 @@ values-push [] p = refl
 values-push (q ∷ ps) p = ap (λ l. q.1 ∷ l) (values-push ps p)
 
 -- the element at a place from which on two lists are one
-same-at : {X : Type 0} (now old : List X) (i : ℕ) (x : X) → drop i now ≡ drop i old → i < length now → i < length old → x ≡ get_or now i x → x ≡ get_or old i x
+same-at : {X : Type 0} (now old : List X) (i : ℕ) (x : X) → drop i now ≡ drop i old → i < length now → i < length old
+    → x ≡ get_or now i x → x ≡ get_or old i x
 same-at [] old i x e h k f = absurd (omega arith)
 same-at (y ∷ now) [] i x e h k f = absurd (omega arith)
 same-at (y ∷ now) (z ∷ old) zero x e h k f = let same : y ≡ z = cc in f ∙ same
-same-at (y ∷ now) (z ∷ old) (suc i) x e h k f = let a : i < length now = omega arith in let b : i < length old = omega arith in same-at now old i x e a b f
+same-at (y ∷ now) (z ∷ old) (suc i) x e h k f = let a : i < length now = omega arith in let b : i < length old =
+    omega arith in same-at now old i x e a b f
 
 -- the first places of a list, and the next one of a list that is the same from there on
-pub take-next : {X : Type 0} (now old : List X) (i : ℕ) (x : X) → drop i now ≡ drop i old → i < length now → length now ≡ length old → x ≡ get_or now i x → take (i + 1) old ≡ take i old ++ x ∷ []
+pub take-next : {X : Type 0} (now old : List X) (i : ℕ) (x : X) → drop i now ≡ drop i old → i < length now
+    → length now ≡ length old → x ≡ get_or now i x → take (i + 1) old ≡ take i old ++ x ∷ []
 take-next now old i x e h l f =
     let k : i < length old = subst (λ n. i < n) l h in
     take_more old i x k ∙ ap (λ y. take i old ++ y ∷ []) (sym (same-at now old i x e h k f))
 
 -- the same of what is left
-pub drop-next : {X : Type 0} (now old : List X) (i : ℕ) (x : X) → drop i now ≡ drop i old → i < length now → length now ≡ length old → x ≡ get_or now i x → drop i old ≡ x ∷ drop (i + 1) old
+pub drop-next : {X : Type 0} (now old : List X) (i : ℕ) (x : X) → drop i now ≡ drop i old → i < length now
+    → length now ≡ length old → x ≡ get_or now i x → drop i old ≡ x ∷ drop (i + 1) old
 drop-next now old i x e h l f =
     let k : i < length old = subst (λ n. i < n) l h in
-    drop-cons old i x k ∙ ap (λ y. y ∷ drop (suc i) old) (sym (same-at now old i x e h k f)) ∙ ap (λ j. x ∷ drop j old) (sym (add-one i))
+    drop-cons old i x k ∙ ap (λ y. y ∷ drop (suc i) old) (sym (same-at now old i x e h k f))
+    ∙ ap (λ j. x ∷ drop j old) (sym (add-one i))
 
 module _ {F V X : Type 0} (calls : F → V → X → F → Type 0) where
   answers-push : (f : F) (vs : List V) (xs : List X) (mid : F) (v : V) (x : X) (last : F) → AnswersInTurn calls f vs xs mid
@@ -44,18 +50,22 @@ module _ {F V X : Type 0} (calls : F → V → X → F → Type 0) where
 
 module _ {K V X : Type 0} where
   -- one more key
-  pub keys-mapped : (ps : List (K × V)) (i : ℕ) (p : K × V) (mid new : List (K × X)) (x : X) → take (i + 1) ps ≡ take i ps ++ p ∷ [] → new ≡ mid ++ (p.0, x) ∷ [] → keys_of mid ≡ keys_of (take i ps)
+  pub keys-mapped : (ps : List (K × V)) (i : ℕ) (p : K × V) (mid new : List (K × X)) (x : X) → take (i + 1) ps
+      ≡ take i ps ++ p ∷ [] → new ≡ mid ++ (p.0, x) ∷ [] → keys_of mid ≡ keys_of (take i ps)
       → keys_of new ≡ keys_of (take (i + 1) ps)
   keys-mapped ps i p mid new x more e k =
       ap keys_of e ∙ keys-push mid (p.0, x) ∙ ap (λ l. l ++ p.0 ∷ []) k ∙ sym (keys-push (take i ps) p) ∙ ap keys_of (sym more)
 
   module _ {F : Type 0} (calls : F → V → X → F → Type 0) where
     -- one more answer
-    pub values-mapped : (ps : List (K × V)) (i : ℕ) (p : K × V) (old new : List (K × X)) (f mid last : F) (x : X) → take (i + 1) ps ≡ take i ps ++ p ∷ [] → new ≡ old ++ (p.0, x) ∷ []
-        → AnswersInTurn calls f (values_of (take i ps)) (values_of old) mid → calls mid p.1 x last → AnswersInTurn calls f (values_of (take (i + 1) ps)) (values_of new) last
+    pub values-mapped : (ps : List (K × V)) (i : ℕ) (p : K × V) (old new : List (K × X)) (f mid last : F) (x : X)
+        → take (i + 1) ps ≡ take i ps ++ p ∷ [] → new ≡ old ++ (p.0, x) ∷ []
+        → AnswersInTurn calls f (values_of (take i ps)) (values_of old) mid → calls mid p.1 x last
+        → AnswersInTurn calls f (values_of (take (i + 1) ps)) (values_of new) last
     values-mapped ps i p old new f mid last x more e a c =
         subst (λ l. AnswersInTurn calls f l (values_of new) last) (sym (ap values_of more ∙ values-push (take i ps) p))
-        (subst (λ l. AnswersInTurn calls f (values_of (take i ps) ++ p.1 ∷ []) l last) (sym (ap values_of e ∙ values-push old (p.0, x)))
+        (subst (λ l. AnswersInTurn calls f (values_of (take i ps) ++ p.1 ∷ []) l last)
+        (sym (ap values_of e ∙ values-push old (p.0, x)))
         (answers-push calls f (values_of (take i ps)) (values_of old) mid p.1 x last a c))
 
     -- what stands where the key is that of the first pair, or another one
@@ -66,21 +76,25 @@ module _ {K V X : Type 0} where
     head-mapped false p q f g e c found rest h = h
 
     -- what stands at each key of a map whose values were handed over in turn
-    pub entries-mapped : (cmp : K → K → Ordering) (ps : List (K × V)) (qs : List (K × X)) (f last : F) → keys_of qs ≡ keys_of ps → AnswersInTurn calls f (values_of ps) (values_of qs) last
+    pub entries-mapped : (cmp : K → K → Ordering) (ps : List (K × V)) (qs : List (K × X)) (f last : F) → keys_of qs
+        ≡ keys_of ps → AnswersInTurn calls f (values_of ps) (values_of qs) last
         → (k : K) → MapsEntry calls (entry_at cmp ps k) (entry_at cmp qs k)
     entries-mapped cmp [] [] f last e a k = refl
     entries-mapped cmp [] (q ∷ qs) f last e a k = absurd a
     entries-mapped cmp (p ∷ ps) [] f last e a k = absurd a
     entries-mapped cmp (p ∷ ps) (q ∷ qs) f last e a k =
         let same : q.0 ≡ p.0 = cc in let rest : keys_of qs ≡ keys_of ps = cc in
-        subst (λ j. MapsEntry calls (cond (is_at (cmp k) p.0) (Some p) (entry_at cmp ps k)) (cond (is_at (cmp k) j) (Some q) (entry_at cmp qs k))) (sym same)
-        (head-mapped (is_at (cmp k) p.0) p q f a.0 same a.1 (entry_at cmp ps k) (entry_at cmp qs k) (entries-mapped cmp ps qs a.0 last rest a.2 k))
+        subst (λ j. MapsEntry calls (cond (is_at (cmp k) p.0) (Some p) (entry_at cmp ps k))
+        (cond (is_at (cmp k) j) (Some q) (entry_at cmp qs k))) (sym same)
+        (head-mapped (is_at (cmp k) p.0) p q f a.0 same a.1 (entry_at cmp ps k) (entry_at cmp qs k)
+        (entries-mapped cmp ps qs a.0 last rest a.2 k))
 
     -- the same, of a slice of the pairs
     pub slice-mapped : (cmp : K → K → Ordering) (ps slice : List (K × V)) (qs : List (K × X)) (f last : F) → slice ≡ ps
         → keys_of qs ≡ keys_of slice → AnswersInTurn calls f (values_of slice) (values_of qs) last
         → (k : K) → MapsEntry calls (entry_at cmp ps k) (entry_at cmp qs k)
-    slice-mapped cmp ps slice qs f last e h a = subst (λ l. (k : K) → MapsEntry calls (entry_at cmp l k) (entry_at cmp qs k)) e (entries-mapped cmp slice qs f last h a)
+    slice-mapped cmp ps slice qs f last e h a =
+        subst (λ l. (k : K) → MapsEntry calls (entry_at cmp l k) (entry_at cmp qs k)) e (entries-mapped cmp slice qs f last h a)
 
     pub slice-answers : (ps slice : List (K × V)) (qs : List (K × X)) (f last : F) → slice ≡ ps
         → AnswersInTurn calls f (values_of slice) (values_of qs) last → AnswersInTurn calls f (values_of ps) (values_of qs) last

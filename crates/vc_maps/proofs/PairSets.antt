@@ -13,7 +13,8 @@ module _ {K V : Type 0} (cmp : K → K → Ordering) (values : V → V → Order
   abbrev pub by_both : K × V → K × V → Ordering
   by_both p q = ordering_then (cmp p.0 q.0) (values p.1 q.1)
 
-  above-as_pairs : (p : K × V) (xs : List (K × V)) → AllByRecursion (λ k. cmp p.0 k ≡ Less) (keys_of xs) → AllByRecursion (λ q. by_both p q ≡ Less) xs
+  above-as_pairs : (p : K × V) (xs : List (K × V)) → AllByRecursion (λ k. cmp p.0 k ≡ Less) (keys_of xs)
+      → AllByRecursion (λ q. by_both p q ≡ Less) xs
   above-as_pairs p [] h = tt
   above-as_pairs p (x ∷ xs) h = (ap (λ o. ordering_then o (values p.1 x.1)) h.0, above-as_pairs p xs h.1)
 

@@ -33,11 +33,14 @@ module _ {K V : Type 0} (cmp : K → K → Ordering) (total : IsTotalOrder cmp) 
   entry-element : (es : List (K × V)) (k : K) (v : V) → entry_at cmp es k ≡ element_at (by_first cmp) es (k, v)
   entry-element [] k v = refl
   entry-element (e ∷ es) k v =
-      let same : is_at (cmp k) e.0 ≡ eq_by_cmp (by_first cmp) e (k, v) = ap is_eq (total.antisymm k e.0) ∙ reversed-is_eq (cmp e.0 k) in
-      ap (λ b. cond b (Some e) (entry_at cmp es k)) same ∙ ap (λ o. cond (eq_by_cmp (by_first cmp) e (k, v)) (Some e) o) (entry-element es k v)
+      let same : is_at (cmp k) e.0 ≡ eq_by_cmp (by_first cmp) e (k, v) = ap is_eq (total.antisymm k e.0)
+      ∙ reversed-is_eq (cmp e.0 k) in
+      ap (λ b. cond b (Some e) (entry_at cmp es k)) same
+      ∙ ap (λ o. cond (eq_by_cmp (by_first cmp) e (k, v)) (Some e) o) (entry-element es k v)
 
   module _ {F : Type 0} (calls : F → K × V → Bool → F → Type 0) where
-    pub entries-asked : (f : F) (xs ys : List (K × V)) → AscendsByKey cmp xs → IsFiltered calls f xs ys → (k : K) → IsRetained calls (entry_at cmp xs k) (entry_at cmp ys k)
+    pub entries-asked : (f : F) (xs ys : List (K × V)) → AscendsByKey cmp xs → IsFiltered calls f xs ys → (k : K)
+        → IsRetained calls (entry_at cmp xs k) (entry_at cmp ys k)
     entries-asked f [] ys p h k = ap (λ l. entry_at cmp l k) (none-left h.0 ys h.4)
     entries-asked f (x ∷ xs) ys p h k =
         subst (λ o. IsRetained calls o (entry_at cmp ys k)) (sym (entry-element (x ∷ xs) k x.1))
@@ -48,7 +51,8 @@ module _ {K V : Type 0} (cmp : K → K → Ordering) (total : IsTotalOrder cmp) 
   chosen-ascends bs xs p = keys-ascend cmp (items_where_true bs xs) (ascends-chosen (by_first cmp) bs xs (pairs-ascend cmp xs p))
 
 -- the clones of pairs have the clones of the keys
-pub keys-cloned : {K V : Type 0} (R : K → K → Type 0) (S : V → V → Type 0) (xs ys : List (K × V)) → AllZip (λ p q. R p.0 q.0 × S p.1 q.1) xs ys → AllZip R (keys_of xs) (keys_of ys)
+pub keys-cloned : {K V : Type 0} (R : K → K → Type 0) (S : V → V → Type 0) (xs ys : List (K × V))
+    → AllZip (λ p q. R p.0 q.0 × S p.1 q.1) xs ys → AllZip R (keys_of xs) (keys_of ys)
 keys-cloned R S [] [] h = tt
 keys-cloned R S [] (y ∷ ys) h = absurd h
 keys-cloned R S (x ∷ xs) [] h = absurd h

@@ -1,10 +1,13 @@
 //! `VecMap`, a small map as a list of pairs that ascends by key.
 ghost use Rattle.std.specs.Prelude.{◌≡◌, ◌<◌, ◌-◌, ◌↔◌, [], List, cond, Some, IsSome, is_some, length, slice_get, IfOk, IsOk, OnErr, IsTrue};
+ghost use Rattle.std.specs.BTreeMap.Range.{entries_between};
 ghost use Rattle.std.specs.Borrow.{sem};
+ghost use Rattle.std.specs.Map.{keys_of, values_of};
 ghost use Rattle.std.specs.Option.{option_copied, option_copied_mut};
 ghost use Rattle.std.specs.Ordering.{eq_by_cmp};
 ghost use Rattle.vc_joins.specs.Entries.{AscendsByKey, entry_at, value_at};
-ghost use Rattle.vc_merge.specs.Showing.{ShowsItems};
+ghost use Rattle.vc_merge.specs.Ascending.{Ascends};
+ghost use Rattle.vc_merge.specs.Showing.{ShowsBothWays, ShowsItems};
 
 mod changes;
 mod combining;
@@ -23,10 +26,13 @@ use smallvec::SmallVec;
 use std::alloc::{AllocError, Allocator, Global};
 use std::default::MadeWith;
 use std::marker::Model;
+use std::ops::RangeBounds;
 use std::{mem, slice};
-use vc_merge::iterators::{VecMapIter, vec_map_iter_of};
+use vc_merge::iterators::{
+    VecMapIter, VecMapKeys, VecMapValues, vec_map_iter_of, vec_map_keys_of, vec_map_values_of,
+};
 use vc_merge::moving::insert_at;
-use vc_merge::search::find_key;
+use vc_merge::search::{find_key, pairs_between};
 
 /// A map, as a list of its pairs in ascending order of their keys. Up to `N` of them stand in
 /// place, without an allocation, unless the list was once given room for more: then it keeps its
@@ -217,11 +223,41 @@ pub trait AbstractVecMap<K: Ord, V> {
         self.as_slice().last()
     }
 
+    /// The pairs whose keys lie in a range of keys, in ascending order of their keys. A range that
+    /// runs backwards has none.
+    ///
+    /// Compares as often as `get` for each end that the range has, and takes no memory.
+    ///
+    /// ```
+    /// assert!(ports.range(..1024) == [(22, false), (80, true)].as_slice());
+    /// ```
+    final fn range<R: RangeBounds<K>>(&self, range: R) -> &[(K, V)]
+        ensures { R.has_bounds range → result.now
+            ≡ entries_between K.cmp (R.start_bound range) (R.end_bound range) (pairs self.now) }
+    {
+        pairs_between(self.as_slice(), range)
+    }
+
     /// The pairs in ascending order of their keys, by reference. Takes no memory.
     fn iter(&self) -> VecMapIter<slice::Iter<'_, (K, V)>>
         ensures { ShowsItems (pairs self.now) result }
     {
         vec_map_iter_of(self.as_slice())
+    }
+
+    /// The keys in ascending order, by reference. Takes no memory.
+    fn keys(&self) -> VecMapKeys<'_, K, V>
+        ensures keys { ShowsBothWays (keys_of (pairs self.now)) result }
+        ensures ascends { Ascends K.cmp result }
+    {
+        vec_map_keys_of(self.as_slice())
+    }
+
+    /// The values in ascending order of their keys, by reference. Takes no memory.
+    fn values(&self) -> VecMapValues<'_, K, V>
+        ensures { ShowsBothWays (values_of (pairs self.now)) result }
+    {
+        vec_map_values_of(self.as_slice())
     }
 }
 

@@ -1,8 +1,8 @@
 //! Maps from pairs and lists, and lists from maps.
-ghost use Rattle.std.specs.Prelude.{◌≡◌, ◌≤◌, [], ◌∷◌, IsOk, IfOk};
+ghost use Rattle.std.specs.Prelude.{◌≡◌, ◌≤◌, [], ◌∷◌, IsOk, IfOk, reverse};
 ghost use Rattle.std.specs.Iterator.{Drains, IsFinite};
 ghost use Rattle.std.specs.Iterator.Runs.{WholeRun};
-ghost use Rattle.vc_joins.specs.Entries.{AscendsByKey};
+ghost use Rattle.vc_joins.specs.Entries.{AscendsByKey, entry_at, value_at};
 
 use super::VecMap;
 use smallvec::SmallVec;
@@ -21,6 +21,23 @@ pub fn map_of_list<K: Ord, V, const N: usize, A: Allocator>(
     ensures { result ≡ pairs.items }
 {
     VecMap { pairs }
+}
+
+/// The pairs of a list in ascending order of their keys, and of those with equal keys the last
+/// alone.
+fn in_order<K: Ord + Drop, V: Drop>(vec: Vec<(K, V)>) -> Result<Vec<(K, V)>, AllocError>
+    ensures ascends { IfOk result (λ list. AscendsByKey K.cmp list.items) }
+    ensures values { IfOk result
+        (λ list. (k : K) → value_at K.cmp list.items k ≡ value_at K.cmp (reverse vec.items) k) }
+    ensures entries { IfOk result
+        (λ list. (k : K) → entry_at K.cmp list.items k ≡ entry_at K.cmp (reverse vec.items) k) }
+{
+    let mut list = vec;
+    list.reverse();
+    // A stable sort leaves what was the last of equal keys in front of the others.
+    list.sort_by(|left, right| left.0.cmp(&right.0))?;
+    list.dedup_by(|later, kept| later.0 == kept.0);
+    Ok(list)
 }
 
 impl<K: Ord, V, const N: usize, A: Allocator> VecMap<K, V, N, A> {
@@ -57,6 +74,27 @@ where
     {
         let pairs = vec.into_iter().collect(alloc)?;
         Ok(VecMap { pairs })
+    }
+
+    /// The map of the pairs of a list that may stand in any order. Of pairs with equal keys the
+    /// last one of the list is kept, as if each were inserted in turn. The pairs are moved.
+    ///
+    /// Sorts in the place of the list, and compares `O(n * log(n))` times. Takes memory for the
+    /// sort where there are more than 20, from the allocator of the list, and where more than `N`
+    /// are left; refused, it drops the pairs.
+    ///
+    /// ```
+    /// let pairs = vec![in alloc; (80, true), (22, true), (22, false)]?;
+    /// let ports: VecMap<u16, bool, 4> = VecMap::from_unsorted(alloc, pairs)?;
+    /// assert!(ports.as_ref() == [(22, false), (80, true)].as_slice());
+    /// ```
+    pub fn from_unsorted(alloc: A, vec: Vec<(K, V)>) -> Result<Self, AllocError>
+        ensures values { IfOk result
+            (λ m. (k : K) → value_at K.cmp m k ≡ value_at K.cmp (reverse vec.items) k) }
+        ensures entries { IfOk result
+            (λ m. (k : K) → entry_at K.cmp m k ≡ entry_at K.cmp (reverse vec.items) k) }
+    {
+        Self::from_vec(alloc, in_order(vec)?)
     }
 
     /// The map of the items of an iterator whose keys ascend strictly and which ends. The items are

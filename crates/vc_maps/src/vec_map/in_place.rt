@@ -4,6 +4,7 @@ ghost use Rattle.std.specs.Prelude.{◌≡◌, ◌+◌, ◌≤◌, true, false, 
 ghost use Rattle.vc_joins.specs.InPlace.{handed, handed_left, handed_right, handed_inner, MayTurn, MayTurnLeft, MayTurnRight, MayTurnInner};
 ghost use Rattle.vc_joins.specs.Join.{IsAsked, IsJoin, IsJoinBy, OldKey};
 ghost use Rattle.vc_joins.specs.Question.{asks_right, left_spelling};
+ghost use Rattle.vc_joins.specs.Values.{in_both, in_either, in_kind, in_left, in_right, JoinsValues, TurnsBy, TurnsInnerBy, TurnsLeftBy, TurnsRightBy};
 ghost use Rattle.vc_merge.specs.Count.{bound};
 ghost use Rattle.vc_merge.specs.Clones.{ClonesAreEqual};
 
@@ -48,6 +49,8 @@ where
         ensures function { OnOk result ((h : _)
             → IsJoinBy K.cmp JoinKind.Outer left_spelling self.old (M.pairs that.now)
             (λ a r. MayTurn F.Fn f a r) h self.new) }
+        ensures values { OnOk result ((h : _) → TurnsBy F.Fn f h
+            → JoinsValues K.cmp (in_either h) self.old (M.pairs that.now) self.new) }
         ensures err { OnErr result (self.new ≡ self.old) }
     {
         join(
@@ -76,6 +79,8 @@ where
             (λ a r. MayTurnLeft F.Fn f a r) (OldKey K.is_clone) self.new }
         ensures function { (h : _) → IsJoinBy K.cmp JoinKind.Left left_spelling self.old
             (M.pairs that.now) (λ a r. MayTurnLeft F.Fn f a r) h self.new }
+        ensures values { (h : _) → TurnsLeftBy F.Fn f h
+            → JoinsValues K.cmp (in_left h) self.old (M.pairs that.now) self.new }
         ensures always { IsOk result }
     {
         join(
@@ -110,6 +115,8 @@ where
         ensures function { OnOk result ((h : _)
             → IsJoinBy K.cmp JoinKind.Right left_spelling self.old (M.pairs that.now)
             (λ a r. MayTurnRight F.Fn f a r) h self.new) }
+        ensures values { OnOk result ((h : _) → TurnsRightBy F.Fn f h
+            → JoinsValues K.cmp (in_right h) self.old (M.pairs that.now) self.new) }
         ensures err { OnErr result (self.new ≡ self.old) }
     {
         join(
@@ -139,6 +146,8 @@ where
             (λ a r. MayTurnInner F.Fn f a r) (OldKey K.is_clone) self.new }
         ensures function { (h : _) → IsJoinBy K.cmp JoinKind.Inner left_spelling self.old
             (M.pairs that.now) (λ a r. MayTurnInner F.Fn f a r) h self.new }
+        ensures values { (h : _) → TurnsInnerBy F.Fn f h
+            → JoinsValues K.cmp (in_both h) self.old (M.pairs that.now) self.new }
         ensures always { IsOk result }
     {
         join(
@@ -173,6 +182,8 @@ where
         ensures function { OnOk result ((h : _)
             → IsJoinBy K.cmp kind left_spelling self.old (M.pairs that.now)
             (λ a r. MayTurn F.Fn f a r) h self.new) }
+        ensures values { OnOk result ((h : _) → TurnsBy F.Fn f h
+            → JoinsValues K.cmp (in_kind kind h) self.old (M.pairs that.now) self.new) }
         ensures counted { steps.new
             ≤ steps.old + bound (length self.old) (length (M.pairs that.now)) }
         ensures no_memory { asks_right kind ≡ false → IsOk result }

@@ -3,6 +3,7 @@ ghost use Rattle.std.specs.Prelude.{◌+◌, ◌≤◌, Ok, length, IfOk};
 ghost use Rattle.vc_joins.specs.Answers.{seen, seen_left, seen_right, seen_inner, MayAnswer, MayAnswerLeft, MayAnswerRight, MayAnswerInner};
 ghost use Rattle.vc_joins.specs.Join.{ClonedKey, IsAsked, IsJoin, IsJoinBy};
 ghost use Rattle.vc_joins.specs.Question.{left_spelling};
+ghost use Rattle.vc_joins.specs.Values.{in_both, in_either, in_kind, in_left, in_right, AnswersBy, AnswersInnerBy, AnswersLeftBy, AnswersRightBy, JoinsValues};
 ghost use Rattle.vc_merge.specs.Count.{bound};
 ghost use Rattle.vc_merge.specs.Clones.{ClonesAreEqual};
 
@@ -50,6 +51,8 @@ where
     ensures function { IfOk result (λ c. (h : _)
         → IsJoinBy K.cmp JoinKind.Outer left_spelling (L.pairs this.now) (M.pairs that.now)
         (λ a r. MayAnswer F.Fn f a (Ok r)) h c) }
+    ensures values { IfOk result (λ c. (h : _) → AnswersBy F.Fn f h
+        → JoinsValues K.cmp (in_either h) (L.pairs this.now) (M.pairs that.now) c) }
 {
     let pairs = join_outer(alloc, this.as_slice(), that.as_slice(), &f)?;
     Ok(VecMap { pairs })
@@ -85,6 +88,8 @@ where
     ensures function { IfOk result (λ c. (h : _)
         → IsJoinBy K.cmp JoinKind.Left left_spelling (L.pairs this.now) (M.pairs that.now)
         (λ a r. MayAnswerLeft F.Fn f a (Ok r)) h c) }
+    ensures values { IfOk result (λ c. (h : _) → AnswersLeftBy F.Fn f h
+        → JoinsValues K.cmp (in_left h) (L.pairs this.now) (M.pairs that.now) c) }
 {
     let pairs = join_left(alloc, this.as_slice(), that.as_slice(), &f)?;
     Ok(VecMap { pairs })
@@ -120,6 +125,8 @@ where
     ensures function { IfOk result (λ c. (h : _)
         → IsJoinBy K.cmp JoinKind.Right left_spelling (L.pairs this.now) (M.pairs that.now)
         (λ a r. MayAnswerRight F.Fn f a (Ok r)) h c) }
+    ensures values { IfOk result (λ c. (h : _) → AnswersRightBy F.Fn f h
+        → JoinsValues K.cmp (in_right h) (L.pairs this.now) (M.pairs that.now) c) }
 {
     let pairs = join_right(alloc, this.as_slice(), that.as_slice(), &f)?;
     Ok(VecMap { pairs })
@@ -154,6 +161,8 @@ where
     ensures function { IfOk result (λ c. (h : _)
         → IsJoinBy K.cmp JoinKind.Inner left_spelling (L.pairs this.now) (M.pairs that.now)
         (λ a r. MayAnswerInner F.Fn f a (Ok r)) h c) }
+    ensures values { IfOk result (λ c. (h : _) → AnswersInnerBy F.Fn f h
+        → JoinsValues K.cmp (in_both h) (L.pairs this.now) (M.pairs that.now) c) }
 {
     let pairs = join_inner(alloc, this.as_slice(), that.as_slice(), &f)?;
     Ok(VecMap { pairs })
@@ -190,6 +199,8 @@ impl<K: Ord + Clone + Drop, V, const N: usize, A: Allocator + Copy> VecMap<K, V,
         ensures function { IfOk result (λ c. (h : _)
             → IsJoinBy K.cmp kind left_spelling self.now (M.pairs that.now)
             (λ a r. MayAnswer F.Fn f a (Ok r)) h c) }
+        ensures values { IfOk result (λ c. (h : _) → AnswersBy F.Fn f h
+            → JoinsValues K.cmp (in_kind kind h) self.now (M.pairs that.now) c) }
         ensures counted { steps.new
             ≤ steps.old + bound (length self.now) (length (M.pairs that.now)) }
     {
@@ -227,6 +238,8 @@ where
     ensures function { IfOk result (λ c. (h : _)
         → IsJoinBy K.cmp kind left_spelling (L.pairs this.now) (M.pairs that.now)
         (λ a r. MayAnswer F.Fn f a (Ok r)) h c) }
+    ensures values { IfOk result (λ c. (h : _) → AnswersBy F.Fn f h
+        → JoinsValues K.cmp (in_kind kind h) (L.pairs this.now) (M.pairs that.now) c) }
     ensures counted { steps.new
         ≤ steps.old + bound (length (L.pairs this.now)) (length (M.pairs that.now)) }
 {

@@ -5,4 +5,5 @@ use Rattle.vc_maps.proofs.fresh.ask_pairs.Goals as goal
 
 pub returns : goal.returns
 returns g c =
-    asked-once (λ a r. g.Q.Question.may c.args.question.now a (Ok r)) (λ a. g.K.Clone.is_clone (shown_key a)) _ c.in_ok-answer.answer _ _ c.in_ok-answer.ensures c.in_ok-append_answer.ensures
+    asked-once (λ a r. g.Q.Question.may c.args.question.now a (Ok r))
+    (λ a. g.K.Clone.is_clone (shown_key a)) _ c.in_ok-answer.answer _ _ c.in_ok-answer.ensures c.in_ok-append_answer.ensures

@@ -16,14 +16,17 @@ merge-requires-clause-ready g c =
     )
 
 pub merge-requires-clause-ascend : goal.merge-requires-clause-ascend
-merge-requires-clause-ascend g c = rw (c.new-state.ensures.a, c.new-state.ensures.b) (both-ascend g.K.Ord.cmp _ _ c.requires.this_ascends c.requires.that_ascends)
+merge-requires-clause-ascend g c =
+    rw (c.new-state.ensures.a, c.new-state.ensures.b)
+    (both-ascend g.K.Ord.cmp _ _ c.requires.this_ascends c.requires.that_ascends)
 
 pub returns-clause-joins : goal.returns-clause-joins
 returns-clause-joins g c =
     merged-join (λ a r. g.Q.Question.may c.args.question.now a (Ok r)) (λ a. g.K.Clone.is_clone (shown_key a)) c.args.kind
     appended_pairs list_name _ g.met.K.Ord.total
     (λ a k i h. clone-equal g.K.Ord.cmp g.met.K.Ord.total g.K.Clone.is_clone c.requires.clones _ _ h)
-    (record { from_a = λ s t n r h. h; from_b = λ s t n r h. h; collision = λ s t r h. h }) _ _ _ _ _ c.new-state.ensures.a c.new-state.ensures.b
+    (record { from_a = λ s t n r h. h; from_b = λ s t n r h. h; collision = λ s t r h. h }) _ _ _ _ _
+    c.new-state.ensures.a c.new-state.ensures.b
     (rw c.new-state.ensures.same_reference c.in_ok-built.ensures.items)
     (λ e. let k = c.new-state.ensures.same_reference in let n = ap (λ r. r.ghost_name) k in grind arith)
     c.in_ok-merge.ensures.merged

@@ -26,5 +26,7 @@ returns-clause-joins g c =
     ∙ take_all c.len-end.result items (omega (arith, c.len-end.ensures.value)) in
     let cut = cut-off c.args.list.now _ c.join_parts-kept.new.list c.truncate.new.self.items c.join_parts-kept.result
     c.as_mut_slice.ensures.value c.join_parts-kept.auto.list c.truncate.ensures.items in
-    subst (λ zs. IsJoin g.K.Ord.cmp c.args.kind left_spelling items c.args.that.now (g.Q.Turn.may c.args.question.now) (OldKey g.K.Clone.is_clone) zs) (sym cut)
-    (join-of g.K.Ord.cmp c.args.kind (g.Q.Turn.may c.args.question.now) (OldKey g.K.Clone.is_clone) _ _ _ _ _ first refl c.join_parts-kept.ensures.joins)
+    subst (λ zs. IsJoin g.K.Ord.cmp c.args.kind left_spelling items c.args.that.now
+    (g.Q.Turn.may c.args.question.now) (OldKey g.K.Clone.is_clone) zs) (sym cut)
+    (join-of g.K.Ord.cmp c.args.kind (g.Q.Turn.may c.args.question.now)
+    (OldKey g.K.Clone.is_clone) _ _ _ _ _ first refl c.join_parts-kept.ensures.joins)

@@ -12,21 +12,29 @@ use Rattle.vc_maps.proofs.in_place.join_parts.Goals as goal
 pub merge-never_refused-requires-clause-ascend : goal.merge-never_refused-requires-clause-ascend
 merge-never_refused-requires-clause-ascend g c =
     let made = c.new-state.ensures in let front = made.left ∙ front-part c.args.list.now c.args.end in
-    both-ascend g.K.Ord.cmp _ _ (subst (λ l. AscendsByKey g.K.Ord.cmp l) (sym front) c.requires.this_ascends) (subst (λ l. AscendsByKey g.K.Ord.cmp l) (sym made.right) c.requires.that_ascends)
+    both-ascend g.K.Ord.cmp _ _ (subst (λ l. AscendsByKey g.K.Ord.cmp l) (sym front) c.requires.this_ascends)
+    (subst (λ l. AscendsByKey g.K.Ord.cmp l) (sym made.right) c.requires.that_ascends)
 
 pub merge-never_refused-requires-clause-ready : goal.merge-never_refused-requires-clause-ready
 merge-never_refused-requires-clause-ready g c =
-    let kind = c.args.op.now.kind in let made = c.new-state.ensures in let front = made.left ∙ front-part c.args.list.now c.args.end in let s = c.new-state.result in (
-      has-keys _ kind (HaveKeys g.K.Clone.is_clone (right_pairs s) (key_pairs s)) c.requires.kind (λ i. rw (made.right, made.keys) (c.requires.clones i).1),
-      both-ascend g.K.Ord.cmp _ _ (subst (λ l. AscendsByKey g.K.Ord.cmp l) (sym front) c.requires.this_ascends) (subst (λ l. AscendsByKey g.K.Ord.cmp l) (sym made.right) c.requires.that_ascends),
+    let kind = c.args.op.now.kind in let made = c.new-state.ensures in let front =
+    made.left ∙ front-part c.args.list.now c.args.end in let s = c.new-state.result in (
+      has-keys _ kind (HaveKeys g.K.Clone.is_clone (right_pairs s) (key_pairs s)) c.requires.kind
+          (λ i. rw (made.right, made.keys) (c.requires.clones i).1),
+      both-ascend g.K.Ord.cmp _ _ (subst (λ l. AscendsByKey g.K.Ord.cmp l) (sym front) c.requires.this_ascends)
+          (subst (λ l. AscendsByKey g.K.Ord.cmp l) (sym made.right) c.requires.that_ascends),
       can-ask g.K.Ord.cmp g.met.K.Ord.total kind _ _ _ (λ a h.
-          let asks = asked-kind g.K.Ord.cmp kind a h in
-          (may-ask _ kind a c.requires.kind asks, c.requires.takes a (asked-of g.K.Ord.cmp kind _ _ _ _ a front made.right h) asks)),
+          let asks = asked-kind g.K.Ord.cmp kind a h in (
+            may-ask _ kind a c.requires.kind asks,
+            c.requires.takes a
+                (asked-of g.K.Ord.cmp kind _ _ _ _ a front made.right h) asks,
+          )),
     )
 
 pub returns-clause-joins : goal.returns-clause-joins
 returns-clause-joins g c =
-    let kind = c.args.op.now.kind in let made = c.new-state.ensures in let front = made.left ∙ front-part c.args.list.now c.args.end in
+    let kind = c.args.op.now.kind in let made = c.new-state.ensures in let front =
+    made.left ∙ front-part c.args.list.now c.args.end in
     let done =
     always-join (g.Q.Turn.may c.args.op.now.question.now) (OldKey g.K.Clone.is_clone) kind built_pairs list_name _
     g.met.K.Ord.total (old-equal g.K.Ord.cmp g.met.K.Ord.total g.K.Clone.is_clone kind (λ i. (c.requires.clones i).0))

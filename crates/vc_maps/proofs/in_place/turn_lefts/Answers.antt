@@ -9,14 +9,22 @@ use Rattle.vc_maps.proofs.in_place.turn_lefts.Goals as goal
 pub replace_left-key-requires : goal.replace_left-key-requires
 replace_left-key-requires g c =
     let all = left_items c.args.parts.now in
-    omega (arith, ap length {y = drop c.pairs.at all} c.pairs.invariant.left, length-drop c.pairs.at all, c.requires.within, c.pairs-test)
+    omega (
+      arith,
+      ap length {y = drop c.pairs.at all} c.pairs.invariant.left,
+      length-drop c.pairs.at
+          all,
+      c.requires.within,
+      c.pairs-test,
+    )
 
 pub turn_left-answer-requires : goal.turn_left-answer-requires
 turn_left-answer-requires g c =
     let all = left_items c.args.parts.now in let p = c.replace_left-key.result in
     let some : c.pairs.at < length all = omega arith in
     let is = next-is all (left_items c.pairs.parts) c.pairs.at p c.pairs.invariant.left c.replace_left-key.ensures.first some in
-    each-next (λ p. g.Q.Turn.takes c.args.question.now (Left p.0 p.1)) all c.args.n c.pairs.at p c.requires.takes (omega arith) some is
+    each-next (λ p. g.Q.Turn.takes c.args.question.now (Left p.0 p.1)) all c.args.n c.pairs.at p c.requires.takes
+    (omega arith) some is
 
 pub pairs-preserved : goal.pairs-preserved
 pairs-preserved g c =
@@ -28,7 +36,8 @@ pairs-preserved g c =
       name = kept.name ∙ taken.name ∙ c.pairs.invariant.name;
       left = kept.left ∙ ap (drop 1) taken.left ∙ ap (drop 1) c.pairs.invariant.left ∙ drop-drop 1 i all;
       right = kept.right ∙ taken.right ∙ c.pairs.invariant.right;
-      built = asked-one (λ a r. g.Q.Turn.may c.args.question.now a r) (OldKey g.K.Clone.is_clone) (λ p. Left p.0 p.1) all i p c.turn_left-answer.result _ _ _ some is
+      built = asked-one (λ a r. g.Q.Turn.may c.args.question.now a r) (OldKey g.K.Clone.is_clone)
+          (λ p. Left p.0 p.1) all i p c.turn_left-answer.result _ _ _ some is
           c.pairs.invariant.built c.turn_left-answer.ensures
           (under-key {W = g.row.W.Denot} (OldKey g.K.Clone.is_clone) (Left p.0 p.1) p.0 c.turn_left-answer.result _ _ refl
           (rw taken.built at kept.built));

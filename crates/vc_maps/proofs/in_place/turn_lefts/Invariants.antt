@@ -11,5 +11,6 @@ invariant-pairs g l = record {
   name : list_name l.parts ≡ list_name l.fn.parts;
   left : left_items l.parts ≡ drop l.at (left_items l.fn.parts);
   right : right_items l.parts ≡ right_items l.fn.parts;
-  built : Appends (λ p. AnswerAdds (g.Q.Turn.may l.fn.question) (OldKey g.K.Clone.is_clone) (Some (Left p.0 p.1))) (take l.at (left_items l.fn.parts)) (built_items l.fn.parts) (built_items l.parts);
+  built : Appends (λ p. AnswerAdds (g.Q.Turn.may l.fn.question) (OldKey g.K.Clone.is_clone) (Some (Left p.0 p.1)))
+      (take l.at (left_items l.fn.parts)) (built_items l.fn.parts) (built_items l.parts);
 }

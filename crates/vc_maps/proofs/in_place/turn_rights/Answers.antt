@@ -10,7 +10,14 @@ pub replace_right-key-requires : goal.replace_right-key-requires
 replace_right-key-requires g c =
     let rights = right_items c.args.parts.now in let pairs = c.args.pairs.now in
     let long = zip-within (λ p q. g.K.Clone.is_clone p.0 q.0) pairs (length pairs) rights c.requires.keys in
-    omega (arith, ap length {y = drop c.pairs.pair-index rights} c.pairs.invariant.right, length-drop c.pairs.pair-index rights, long, c.pairs-test.true)
+    omega (
+      arith,
+      ap length {y = drop c.pairs.pair-index rights} c.pairs.invariant.right,
+      length-drop
+          c.pairs.pair-index rights,
+      long,
+      c.pairs-test.true,
+    )
 
 pub pairs-preserved : goal.pairs-preserved
 pairs-preserved g c =
@@ -23,7 +30,8 @@ pairs-preserved g c =
       name = kept.name ∙ taken.name ∙ c.pairs.invariant.name;
       left = kept.left ∙ taken.left ∙ c.pairs.invariant.left;
       right = kept.right ∙ ap (drop 1) taken.right ∙ ap (drop 1) c.pairs.invariant.right ∙ drop-drop 1 i rights;
-      built = asked-one (λ a r. g.Q.Turn.may c.args.question.now a r) (OldKey g.K.Clone.is_clone) (λ p. Right p.0 p.1) pairs i p c.turn_right-answer.result _ _ _ c.pairs-test.true c.pair-item.is
+      built = asked-one (λ a r. g.Q.Turn.may c.args.question.now a r) (OldKey g.K.Clone.is_clone)
+          (λ p. Right p.0 p.1) pairs i p c.turn_right-answer.result _ _ _ c.pairs-test.true c.pair-item.is
           c.pairs.invariant.built c.turn_right-answer.ensures
           (under-key {V = g.row.V.Denot} {W = g.row.W.Denot} (OldKey g.K.Clone.is_clone) (Right p.0 p.1) q.0
           c.turn_right-answer.result _ _ cloned (rw taken.built at kept.built));

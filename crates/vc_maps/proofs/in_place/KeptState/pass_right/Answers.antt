@@ -8,8 +8,11 @@ use Rattle.vc_maps.proofs.in_place.KeptState.pass_right.Goals.{then-this-gt0, el
 pub pass_keys-requires : goal.pass_keys-requires
 pass_keys-requires g c =
     let s = c.args.self.now in
-    let some : 0 < g.row.KEYS = omega (arith, c.if-this-gt0.true) in
-    (omega arith, keys-within g.K.Clone.is_clone _ s.right.now (key_pairs s) c.args.n (set-true g.row.KEYS some) c.requires.within c.requires.ready)
+    let some : 0 < g.row.KEYS = omega (arith, c.if-this-gt0.true) in (
+      omega arith,
+      keys-within g.K.Clone.is_clone _ s.right.now (key_pairs s) c.args.n
+          (set-true g.row.KEYS some) c.requires.within c.requires.ready,
+    )
 
 pub returns-clause-ready : goal.returns-clause-ready
 returns-clause-ready g c =

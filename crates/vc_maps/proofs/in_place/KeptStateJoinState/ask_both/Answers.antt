@@ -6,5 +6,8 @@ use Rattle.vc_maps.proofs.in_place.KeptStateJoinState.ask_both.Goals as goal
 
 pub returns-clause-gives : goal.returns-clause-gives
 returns-clause-gives g c =
-    let s = c.args.self.now in let passed = c.pass_right.ensures in
-    (refl, heads-weaker _ _ (left_pairs s) s.right.now (λ p r h. (refl, passed.name, appends-of _ _ _ _ _ _ refl passed.built h)) c.pair_turned-self.ensures.built)
+    let s = c.args.self.now in let passed = c.pass_right.ensures in (
+      refl,
+      heads-weaker _ _ (left_pairs s) s.right.now
+          (λ p r h. (refl, passed.name, appends-of _ _ _ _ _ _ refl passed.built h)) c.pair_turned-self.ensures.built,
+    )

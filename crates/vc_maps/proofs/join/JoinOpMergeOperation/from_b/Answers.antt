@@ -3,10 +3,14 @@ use Rattle.vc_maps.proofs.Asked.{rights-asked, rights-passed}
 use Rattle.vc_maps.proofs.join.JoinOpMergeOperation.from_b.Goals as goal
 
 pub ask_b-requires-clause-takes : goal.ask_b-requires-clause-takes
-ask_b-requires-clause-takes g c = let r = c.requires.ready in rights-asked g.K.Ord.cmp g.met.K.Ord.total _ _ c.args.n _ _ r.1 c.requires.alone r.2 (sym c.asks_right.ensures ∙ c.if-asks_right.true)
+ask_b-requires-clause-takes g c = let r = c.requires.ready in
+    rights-asked g.K.Ord.cmp g.met.K.Ord.total _ _ c.args.n _ _ r.1 c.requires.alone r.2
+    (sym c.asks_right.ensures ∙ c.if-asks_right.true)
 
 pub returns-then-asks_right-clause-takes : goal.returns-then-asks_right-clause-takes
-returns-then-asks_right-clause-takes g c = let r = c.requires.ready in rights-passed g.K.Ord.cmp g.met.K.Ord.total _ _ c.args.n _ _ r.1 c.requires.alone r.2 _ _ _ _ c.ask_b.ensures.passes
+returns-then-asks_right-clause-takes g c = let r = c.requires.ready in
+    rights-passed g.K.Ord.cmp g.met.K.Ord.total _ _ c.args.n _ _ r.1 c.requires.alone r.2 _ _ _ _ c.ask_b.ensures.passes
 
 pub returns-else-asks_right-clause-takes : goal.returns-else-asks_right-clause-takes
-returns-else-asks_right-clause-takes g c = let r = c.requires.ready in rights-passed g.K.Ord.cmp g.met.K.Ord.total _ _ c.args.n _ _ r.1 c.requires.alone r.2 _ _ _ _ c.skip_b.ensures.takes
+returns-else-asks_right-clause-takes g c = let r = c.requires.ready in
+    rights-passed g.K.Ord.cmp g.met.K.Ord.total _ _ c.args.n _ _ r.1 c.requires.alone r.2 _ _ _ _ c.skip_b.ensures.takes

@@ -14,7 +14,8 @@ pub combine_parts-kept-requires-clause-callable : goal.combine_parts-kept-requir
 combine_parts-kept-requires-clause-callable g c =
     let items = c.self.inside.pairs.items in
     let first : take c.len-end.result c.as_mut_slice.result.now ≡ items =
-    ap (λ n. take n c.as_mut_slice.result.now) c.len-end.ensures.value ∙ ap (take (length items)) c.as_mut_slice.ensures.value ∙ c.in_ok-next.ensures.front in
+    ap (λ n. take n c.as_mut_slice.result.now) c.len-end.ensures.value
+    ∙ ap (take (length items)) c.as_mut_slice.ensures.value ∙ c.in_ok-next.ensures.front in
     let behind : drop c.in_ok-next.next c.as_mut_slice.result.now ≡ c.args.that =
     ap (drop c.in_ok-next.next) c.as_mut_slice.ensures.value ∙ c.in_ok-next.ensures.behind ∙ c.into_inner.ensures.pairs in
     λ k v w h. c.requires.callable k v w (asked-of g.K.Ord.cmp Outer _ _ _ _ (Both k v w) (first ∙ c.self.view_is) behind h)
@@ -23,7 +24,8 @@ pub combine_parts-kept-requires-clause-left_ascends : goal.combine_parts-kept-re
 combine_parts-kept-requires-clause-left_ascends g c =
     let items = c.self.inside.pairs.items in
     let first : take c.len-end.result c.as_mut_slice.result.now ≡ items =
-    ap (λ n. take n c.as_mut_slice.result.now) c.len-end.ensures.value ∙ ap (take (length items)) c.as_mut_slice.ensures.value ∙ c.in_ok-next.ensures.front in
+    ap (λ n. take n c.as_mut_slice.result.now) c.len-end.ensures.value
+    ∙ ap (take (length items)) c.as_mut_slice.ensures.value ∙ c.in_ok-next.ensures.front in
     subst (λ l. AscendsByKey g.K.Ord.cmp l) (sym first) c.self.invariant
 
 pub combine_parts-kept-requires-clause-right_ascends : goal.combine_parts-kept-requires-clause-right_ascends
@@ -42,7 +44,8 @@ pub returns-clause-joins : goal.returns-clause-joins
 returns-clause-joins g c =
     let items = c.self.inside.pairs.items in
     let first : take c.len-end.result c.as_mut_slice.result.now ≡ items =
-    ap (λ n. take n c.as_mut_slice.result.now) c.len-end.ensures.value ∙ ap (take (length items)) c.as_mut_slice.ensures.value ∙ c.in_ok-next.ensures.front in
+    ap (λ n. take n c.as_mut_slice.result.now) c.len-end.ensures.value
+    ∙ ap (take (length items)) c.as_mut_slice.ensures.value ∙ c.in_ok-next.ensures.front in
     let behind : drop c.in_ok-next.next c.as_mut_slice.result.now ≡ c.args.that =
     ap (drop c.in_ok-next.next) c.as_mut_slice.ensures.value ∙ c.in_ok-next.ensures.behind ∙ c.into_inner.ensures.pairs in
     let cut = cut-off c.append_behind.new.list _ c.combine_parts-kept.new.list c.truncate.new.self.items
@@ -52,4 +55,5 @@ returns-clause-joins g c =
     (join-of g.K.Ord.cmp Outer given MovedKey _ _ _ _ _ (first ∙ c.self.view_is) behind c.combine_parts-kept.ensures)
 
 pub returns-clause-function : goal.returns-clause-function
-returns-clause-function g c = combined-by g.K.Ord.cmp _ _ _ (λ v w x. g.F.Fn.post c.args.f (v, (w, tt)) x) (returns-clause-joins g c)
+returns-clause-function g c = combined-by g.K.Ord.cmp _ _ _ (λ v w x. g.F.Fn.post c.args.f (v, (w, tt)) x)
+    (returns-clause-joins g c)

@@ -5,7 +5,8 @@ use Rattle.vc_merge.proofs.Chosen.{all-taken}
 use Rattle.vc_maps.proofs.vec_map.VecMap.from_btree_map.Goals as goal
 
 -- what drains the iterator over a list is the list
-drained : {X E : Type 0} (ks keys : List X) (r : Result (List X) E) → ks ≡ keys → IfOk r (λ m. Drains (TakesFirst (λ x. x)) ks m) → IfOk r (λ m. m ≡ keys)
+drained : {X E : Type 0} (ks keys : List X) (r : Result (List X) E) → ks ≡ keys
+    → IfOk r (λ m. Drains (TakesFirst (λ x. x)) ks m) → IfOk r (λ m. m ≡ keys)
 drained ks keys (Ok m) e d = all-taken ks d.1.0 m d.0 d.1.1 d.1.2 ∙ e
 drained ks keys (Err x) e d = tt
 

@@ -13,7 +13,13 @@ invariant_of-self-lent g c w =
 pub returns-in-Some : goal.returns-in-Some
 returns-in-Some g c =
     let found = rw (c.as_slice.ensures) at c.in-Ok.ensures in (
-      (refl, (λ w. rw (← c.self.view_is) (written g.K.Ord.cmp g.met.K.Ord.total c.self.inside.pairs.items c.args.key.now c.in-Ok.place c.in-Some.field-0.now found c.in-Some.ensures.value w)), refl),
+      (
+        refl,
+        (λ w. rw (← c.self.view_is)
+            (written g.K.Ord.cmp g.met.K.Ord.total c.self.inside.pairs.items c.args.key.now c.in-Ok.place
+            c.in-Some.field-0.now found c.in-Some.ensures.value w)),
+        refl,
+      ),
       record {
         writes_back = tt;
         value = rw (← c.self.view_is)
@@ -25,6 +31,16 @@ returns-in-Some g c =
 pub returns-in-Err : goal.returns-in-Err
 returns-in-Err g c =
     let gap = rw (c.as_slice.ensures) at c.in-Err.ensures in (
-      (refl, (λ w. rw (← c.self.view_is) (unwritten g.K.Ord.cmp g.met.K.Ord.total c.self.inside.pairs.items c.args.key.now c.in-Err.field-0 gap w)), c.self.view_is),
-      record { writes_back = tt; value = rw (← c.self.view_is) (sym (gap-value g.K.Ord.cmp g.met.K.Ord.total c.self.inside.pairs.items c.args.key.now c.in-Err.field-0 gap)) },
+      (
+        refl,
+        (λ w. rw (← c.self.view_is)
+            (unwritten g.K.Ord.cmp g.met.K.Ord.total c.self.inside.pairs.items c.args.key.now c.in-Err.field-0 gap w)),
+        c.self.view_is,
+      ),
+      record {
+        writes_back = tt;
+        value =
+            rw (← c.self.view_is) (sym (gap-value g.K.Ord.cmp g.met.K.Ord.total c.self.inside.pairs.items
+            c.args.key.now c.in-Err.field-0 gap));
+      },
     )

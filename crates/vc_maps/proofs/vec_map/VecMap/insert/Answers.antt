@@ -18,25 +18,33 @@ written xs ys i x z e f =
 
 pub invariant_of-self : goal.invariant_of-self
 invariant_of-self g c =
-    (found-put g.K.Ord.cmp g.met.K.Ord.total c.self.inside.pairs.items c.as_slice.result.now _ c.args.key c.args.value c.in-Ok.place c.as_slice.ensures c.in-Ok.ensures c.self.invariant
+    (found-put g.K.Ord.cmp g.met.K.Ord.total c.self.inside.pairs.items c.as_slice.result.now _ c.args.key
+    c.args.value c.in-Ok.place c.as_slice.ensures c.in-Ok.ensures c.self.invariant
     (written _ _ c.in-Ok.place _ _ c.as_mut_slice.ensures.value c.replace-old.ensures.after)).ascends
 
 pub returns-in-Ok-clause-entries : goal.returns-in-Ok-clause-entries
 returns-in-Ok-clause-entries g c =
-    let put = found-put g.K.Ord.cmp g.met.K.Ord.total c.self.inside.pairs.items c.as_slice.result.now _ c.args.key c.args.value c.in-Ok.place c.as_slice.ensures c.in-Ok.ensures c.self.invariant
+    let put = found-put g.K.Ord.cmp g.met.K.Ord.total c.self.inside.pairs.items c.as_slice.result.now _ c.args.key
+    c.args.value c.in-Ok.place c.as_slice.ensures c.in-Ok.ensures c.self.invariant
     (written _ _ c.in-Ok.place _ _ c.as_mut_slice.ensures.value c.replace-old.ensures.after) in
-    λ k. put.entries k ∙ ap (λ l. cond (eq_by_cmp g.K.Ord.cmp k c.args.key) (Some (c.args.key, c.args.value)) (entry_at g.K.Ord.cmp l k)) c.self.view_is
+    λ k. put.entries k ∙ ap (λ l. cond (eq_by_cmp g.K.Ord.cmp k c.args.key) (Some (c.args.key, c.args.value))
+    (entry_at g.K.Ord.cmp l k)) c.self.view_is
 
 pub returns-in-Ok-clause-values : goal.returns-in-Ok-clause-values
 returns-in-Ok-clause-values g c =
-    let put = found-put g.K.Ord.cmp g.met.K.Ord.total c.self.inside.pairs.items c.as_slice.result.now _ c.args.key c.args.value c.in-Ok.place c.as_slice.ensures c.in-Ok.ensures c.self.invariant
+    let put = found-put g.K.Ord.cmp g.met.K.Ord.total c.self.inside.pairs.items c.as_slice.result.now _ c.args.key
+    c.args.value c.in-Ok.place c.as_slice.ensures c.in-Ok.ensures c.self.invariant
     (written _ _ c.in-Ok.place _ _ c.as_mut_slice.ensures.value c.replace-old.ensures.after) in
-    λ k. put.values k ∙ ap (λ l. cond (eq_by_cmp g.K.Ord.cmp k c.args.key) (Some c.args.value) (value_at g.K.Ord.cmp l k)) c.self.view_is
+    λ k. put.values k ∙ ap (λ l. cond (eq_by_cmp g.K.Ord.cmp k c.args.key) (Some c.args.value)
+    (value_at g.K.Ord.cmp l k)) c.self.view_is
 
 pub returns-in-Ok-clause-old : goal.returns-in-Ok-clause-old
 returns-in-Ok-clause-old g c =
-    let at = found-value g.K.Ord.cmp g.met.K.Ord.total c.as_slice.result.now c.args.key c.in-Ok.place c.index-as_mut_slice-place.result c.in-Ok.ensures in
-    ap (λ p. Some p.1) (c.replace-old.ensures.value ∙ ap (λ l. get_or l c.in-Ok.place c.index-as_mut_slice-place.result) (c.as_mut_slice.ensures.value ∙ sym c.as_slice.ensures))
+    let at = found-value g.K.Ord.cmp g.met.K.Ord.total c.as_slice.result.now c.args.key c.in-Ok.place
+    c.index-as_mut_slice-place.result c.in-Ok.ensures in
+    ap (λ p. Some p.1) (c.replace-old.ensures.value
+    ∙ ap (λ l. get_or l c.in-Ok.place c.index-as_mut_slice-place.result)
+    (c.as_mut_slice.ensures.value ∙ sym c.as_slice.ensures))
     ∙ sym at ∙ ap (λ l. value_at g.K.Ord.cmp l c.args.key) (c.as_slice.ensures ∙ c.self.view_is)
 
 -- ---- a new key
@@ -50,17 +58,20 @@ pub returns-in_ok-insert_at-in-Err-clause-entries : goal.returns-in_ok-insert_at
 returns-in_ok-insert_at-in-Err-clause-entries g c =
     let put = gap-put g.K.Ord.cmp g.met.K.Ord.total c.self.inside.pairs.items c.as_slice.result.now _ c.args.key c.args.value
     c.in-Err.place c.as_slice.ensures c.in-Err.ensures c.self.invariant c.in_ok-insert_at-in-Err.ensures.ok in
-    λ k. put.entries k ∙ ap (λ l. cond (eq_by_cmp g.K.Ord.cmp k c.args.key) (Some (c.args.key, c.args.value)) (entry_at g.K.Ord.cmp l k)) c.self.view_is
+    λ k. put.entries k ∙ ap (λ l. cond (eq_by_cmp g.K.Ord.cmp k c.args.key) (Some (c.args.key, c.args.value))
+    (entry_at g.K.Ord.cmp l k)) c.self.view_is
 
 pub returns-in_ok-insert_at-in-Err-clause-values : goal.returns-in_ok-insert_at-in-Err-clause-values
 returns-in_ok-insert_at-in-Err-clause-values g c =
     let put = gap-put g.K.Ord.cmp g.met.K.Ord.total c.self.inside.pairs.items c.as_slice.result.now _ c.args.key c.args.value
     c.in-Err.place c.as_slice.ensures c.in-Err.ensures c.self.invariant c.in_ok-insert_at-in-Err.ensures.ok in
-    λ k. put.values k ∙ ap (λ l. cond (eq_by_cmp g.K.Ord.cmp k c.args.key) (Some c.args.value) (value_at g.K.Ord.cmp l k)) c.self.view_is
+    λ k. put.values k ∙ ap (λ l. cond (eq_by_cmp g.K.Ord.cmp k c.args.key) (Some c.args.value)
+    (value_at g.K.Ord.cmp l k)) c.self.view_is
 
 pub returns-in_ok-insert_at-in-Err-clause-old : goal.returns-in_ok-insert_at-in-Err-clause-old
 returns-in_ok-insert_at-in-Err-clause-old g c =
-    sym (gap-value g.K.Ord.cmp g.met.K.Ord.total c.as_slice.result.now c.args.key c.in-Err.place c.in-Err.ensures) ∙ ap (λ l. value_at g.K.Ord.cmp l c.args.key) (c.as_slice.ensures ∙ c.self.view_is)
+    sym (gap-value g.K.Ord.cmp g.met.K.Ord.total c.as_slice.result.now c.args.key c.in-Err.place c.in-Err.ensures)
+    ∙ ap (λ l. value_at g.K.Ord.cmp l c.args.key) (c.as_slice.ensures ∙ c.self.view_is)
 
 pub returns-in_err-insert_at-in-Err-clause-room : goal.returns-in_err-insert_at-in-Err-clause-room
 returns-in_err-insert_at-in-Err-clause-room g c =
@@ -72,4 +83,5 @@ returns-in_err-insert_at-in-Err-clause-room g c =
 pub returns-in_err-insert_at-in-Err-clause-known : goal.returns-in_err-insert_at-in-Err-clause-known
 returns-in_err-insert_at-in-Err-clause-known g c =
     let none = gap-value g.K.Ord.cmp g.met.K.Ord.total c.as_slice.result.now c.args.key c.in-Err.place c.in-Err.ensures in
-    λ h. absurd (true≢false (sym h ∙ ap (λ l. is_some (value_at g.K.Ord.cmp l c.args.key)) (sym c.self.view_is ∙ sym c.as_slice.ensures) ∙ ap is_some none))
+    λ h. absurd (true≢false (sym h
+    ∙ ap (λ l. is_some (value_at g.K.Ord.cmp l c.args.key)) (sym c.self.view_is ∙ sym c.as_slice.ensures) ∙ ap is_some none))

@@ -1,5 +1,7 @@
 use Rattle.vc_joins.specs.InPlace.{MayTurn}
 use Rattle.vc_joins.specs.Join.{OldKey}
+use Rattle.vc_joins.specs.Question.{left_spelling}
+use Rattle.vc_joins.proofs.Values.{turns-kind}
 use Rattle.vc_maps.proofs.Asking.{join-of, join_by-of, on-ok}
 use Rattle.vc_maps.proofs.vec_map.VecMap.join_with_counted.Goals as goal
 
@@ -13,3 +15,7 @@ returns-clause-function g c = on-ok c.join.result (join_by-of g.K.Ord.cmp c.args
 
 pub returns-clause-counted : goal.returns-clause-counted
 returns-clause-counted g c = rw (c.self.view_is, c.as_slice.ensures.pairs) at c.join.ensures.counted
+
+pub returns-clause-values : goal.returns-clause-values
+returns-clause-values g c = on-ok c.join.result
+    (turns-kind g.K.Ord.cmp left_spelling _ _ _ c.args.f c.args.kind g.F.Fn) (returns-clause-function g c)

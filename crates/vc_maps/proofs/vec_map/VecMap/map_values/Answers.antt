@@ -5,7 +5,8 @@ use Rattle.vc_maps.proofs.vec_map.VecMap.map_values.Goals as goal
 
 pub returns-in_err-mapped-clause-room : goal.returns-in_err-mapped-clause-room
 returns-in_err-mapped-clause-room g c = λ h.
-    absurd (true≢false (sym (c.in_err-mapped.ensures.succeeds (subst (λ n. n ≤ g.row.M) (sym (c.len.ensures.value ∙ ap length c.into_inner-pairs.ensures.pairs)) h))))
+    absurd (true≢false (sym (c.in_err-mapped.ensures.succeeds
+    (subst (λ n. n ≤ g.row.M) (sym (c.len.ensures.value ∙ ap length c.into_inner-pairs.ensures.pairs)) h))))
 
 pub returns-clause-values : goal.returns-clause-values
 returns-clause-values g c =

@@ -8,7 +8,9 @@ use Rattle.vc_maps.proofs.Retaining.{chosen-ascends, entries-asked}
 use Rattle.vc_maps.proofs.vec_map.VecMap.retain.Goals as goal
 
 pub keep_in_front-kept-requires : goal.keep_in_front-kept-requires
-keep_in_front-kept-requires g c = subst (λ l. CallableOnAllAt (YieldsFirst (λ rest. rest)) g.F.FnMut l c.args.f) (sym (c.as_mut_slice.ensures.value ∙ c.self.view_is)) c.requires
+keep_in_front-kept-requires g c =
+    subst (λ l. CallableOnAllAt (YieldsFirst (λ rest. rest)) g.F.FnMut l c.args.f)
+    (sym (c.as_mut_slice.ensures.value ∙ c.self.view_is)) c.requires
 
 pub invariant_of-self : goal.invariant_of-self
 invariant_of-self g c =
@@ -16,7 +18,8 @@ invariant_of-self g c =
     let e = c.truncate.ensures.items ∙ front-refilled c.self.inside.pairs.items c.keep_in_front-kept.new.list
     c.keep_in_front-kept.result c.keep_in_front-kept.ensures.within
     (c.keep_in_front-kept.auto.list ∙ ap length c.as_mut_slice.ensures.value) ∙ f.4 in
-    rw e (chosen-ascends g.K.Ord.cmp g.met.K.Ord.total f.0 c.as_mut_slice.result.now (subst (λ l. AscendsByKey g.K.Ord.cmp l) (sym c.as_mut_slice.ensures.value) c.self.invariant))
+    rw e (chosen-ascends g.K.Ord.cmp g.met.K.Ord.total f.0 c.as_mut_slice.result.now
+    (subst (λ l. AscendsByKey g.K.Ord.cmp l) (sym c.as_mut_slice.ensures.value) c.self.invariant))
 
 pub returns-clause-filtered : goal.returns-clause-filtered
 returns-clause-filtered g c =
@@ -28,4 +31,5 @@ returns-clause-filtered g c =
 
 pub returns-clause-entries : goal.returns-clause-entries
 returns-clause-entries g c =
-    entries-asked g.K.Ord.cmp g.met.K.Ord.total (CalledAt g.F.FnMut) c.args.f _ _ (subst (λ l. AscendsByKey g.K.Ord.cmp l) c.self.view_is c.self.invariant) (returns-clause-filtered g c)
+    entries-asked g.K.Ord.cmp g.met.K.Ord.total (CalledAt g.F.FnMut) c.args.f _ _
+    (subst (λ l. AscendsByKey g.K.Ord.cmp l) c.self.view_is c.self.invariant) (returns-clause-filtered g c)

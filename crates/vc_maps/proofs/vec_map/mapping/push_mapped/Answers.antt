@@ -15,7 +15,8 @@ f-answer-requires g c =
     let is : p ≡ get_or c.pairs.pairs i p = value ∙ ap (λ d. get_or c.pairs.pairs i d) (sym (value ∙ sym c.index-pairs-at.is)) in
     let within : i < length c.pairs.pairs = subst (λ n. i < n) (sym c.pairs.auto.pairs) c.pairs-test.true in
     let left = drop-next c.pairs.pairs c.args.pairs.now i p before.rest within c.pairs.auto.pairs is in
-    callable-first (λ s v t. (x : _) × Called g.F.FnMut s (v, tt) x t) (λ s v. Takes g.F.FnMut s (v, tt)) c.pairs.f p.1 _ _ (ap values_of left) before.callable
+    callable-first (λ s v t. (x : _) × Called g.F.FnMut s (v, tt) x t)
+    (λ s v. Takes g.F.FnMut s (v, tt)) c.pairs.f p.1 _ _ (ap values_of left) before.callable
 
 pub pairs-preserved : goal.pairs-preserved
 pairs-preserved g c =
@@ -30,10 +31,16 @@ pairs-preserved g c =
       callable = callable-others (λ s v t. (x : _) × Called g.F.FnMut s (v, tt) x t) (λ s v. Takes g.F.FnMut s (v, tt)) c.pairs.f
           p.1 _ _ (ap values_of left) before.callable c.f-answer.new.self (c.f-answer.result, c.f-answer.ensures);
       room = room-push _ _ _ _ _ _ _ pushed c.push_reserved.ensures.capacity c.pairs-test.true before.room;
-      rest = drop-set-lt (i + 1) c.pairs.pairs i c.replace-key.new.dest (omega arith) ∙ sym (drop-drop 1 i c.pairs.pairs) ∙ ap (drop 1) before.rest ∙ drop-drop 1 i old;
+      rest = drop-set-lt (i + 1) c.pairs.pairs i c.replace-key.new.dest (omega arith)
+          ∙ sym (drop-drop 1 i c.pairs.pairs) ∙ ap (drop 1) before.rest ∙ drop-drop 1 i old;
       keys = keys-mapped old i p c.pairs.mapped.items c.push_reserved.new.self.items c.f-answer.result more pushed before.keys;
-      values = values-mapped _ old i p c.pairs.mapped.items c.push_reserved.new.self.items c.args.f c.pairs.f c.f-answer.new.self c.f-answer.result more pushed before.values c.f-answer.ensures;
+      values = values-mapped _ old i p c.pairs.mapped.items c.push_reserved.new.self.items c.args.f c.pairs.f
+          c.f-answer.new.self c.f-answer.result more pushed before.values c.f-answer.ensures;
     }
 
 pub returns-clause-values : goal.returns-clause-values
-returns-clause-values g c = (c.pairs.f, slice-answers _ _ _ _ _ _ (take_all c.pairs.at c.args.pairs.now c.pairs-test.false) c.pairs.invariant.values)
+returns-clause-values g c = (
+  c.pairs.f,
+  slice-answers _ _ _ _ _ _
+      (take_all c.pairs.at c.args.pairs.now c.pairs-test.false) c.pairs.invariant.values,
+)

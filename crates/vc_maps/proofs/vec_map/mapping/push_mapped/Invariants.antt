@@ -11,5 +11,6 @@ invariant-pairs g l = record {
   room : HasRoomFor l.mapped (length l.fn.pairs - l.at);
   rest : drop l.at l.pairs ≡ drop l.at l.fn.pairs;
   keys : keys_of l.mapped.items ≡ keys_of (take l.at l.fn.pairs);
-  values : AnswersInTurn (λ p v x q. goal.F-step g p v x q) l.initial.f (values_of (take l.at l.fn.pairs)) (values_of l.mapped.items) l.f;
+  values : AnswersInTurn (λ p v x q. goal.F-step g p v x q) l.initial.f (values_of (take l.at l.fn.pairs))
+      (values_of l.mapped.items) l.f;
 }

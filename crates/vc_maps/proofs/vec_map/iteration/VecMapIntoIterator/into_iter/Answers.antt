@@ -8,9 +8,11 @@ use Rattle.vc_merge.proofs.ListLemmas.{pairs-ascend}
 use Rattle.vc_maps.proofs.vec_map.iteration.VecMapIntoIterator.into_iter.Goals as goal
 
 -- whatever comes of a list of pairs whose keys ascend
-goes_on : {K V : Type 0} (cmp : K → K → Ordering) (it pairs : List (K × V)) → it ≡ pairs → AscendsByKey cmp pairs → AscendsAlong (YieldsFirst {A = K × V} (λ rest. rest)) (by_first cmp) it
+goes_on : {K V : Type 0} (cmp : K → K → Ordering) (it pairs : List (K × V)) → it ≡ pairs → AscendsByKey cmp pairs
+    → AscendsAlong (YieldsFirst {A = K × V} (λ rest. rest)) (by_first cmp) it
 goes_on {K} {V} cmp it pairs e p =
-    list-along (YieldsFirst {A = K × V} (λ rest. rest)) (λ x. x) (λ rest. rest) (λ s x t h. h) (by_first cmp) (λ s t h. h.0 ∙ sym h.1) it
+    list-along (YieldsFirst {A = K × V} (λ rest. rest)) (λ x. x) (λ rest. rest) (λ s x t h. h) (by_first cmp)
+    (λ s t h. h.0 ∙ sym h.1) it
     (subst (λ l. Ascends (by_first cmp) l) (sym e) (pairs-ascend cmp pairs p))
 
 pub vec_map_iter-requires : goal.vec_map_iter-requires
@@ -21,7 +23,8 @@ returns g c =
     record {
       into_iter_gives = (
         c.vec_map_iter.ensures ∙ c.into_iter.ensures.into_iter_gives.0 ∙ c.self.view_is,
-        rw c.vec_map_iter.ensures (goes_on g.K.Ord.cmp c.into_iter.result _ c.into_iter.ensures.into_iter_gives.0 c.self.invariant),
+        rw c.vec_map_iter.ensures (goes_on g.K.Ord.cmp c.into_iter.result _ c.into_iter.ensures.into_iter_gives.0
+            c.self.invariant),
         c.into_iter.ensures.into_iter_gives.1,
       );
     }
