@@ -1,5 +1,6 @@
 -- Pairs of lists that ascend by key: what stands at a key behind a front, and what an insertion changes.
-use Rattle.std.proofs.Common.{◌≡◌, Bool, true, false, cond, List, [], ◌∷◌, ◌++◌, Option, Some, None, MatchBool, refl, sym, ap, subst, ◌∙◌}
+use Rattle.std.proofs.Common.{◌≡◌, Bool, true, false, cond, List, [], ◌∷◌, ◌++◌, Option, Some, None, MatchBool, refl}
+use Rattle.std.proofs.Common.{sym, ap, subst, ◌∙◌}
 use Rattle.std.specs.Cmp.{IsTotalOrder, alike_right}
 use Rattle.std.specs.List.{AllByRecursion}
 use Rattle.std.specs.List.Sorted.{IsStrictlySortedBy}
@@ -30,7 +31,8 @@ swapped false true x y z h = refl
 swapped false false x y z h = refl
 
 -- a key that is equal to one below k is not equal to k
-apart : {K : Type 0} (cmp : K → K → Ordering) → IsTotalOrder cmp → (q k x : K) → is_at (cmp q) x ≡ true → cmp k x ≡ Greater → is_at (cmp q) k ≡ false
+apart : {K : Type 0} (cmp : K → K → Ordering) → IsTotalOrder cmp → (q k x : K) → is_at (cmp q) x ≡ true → cmp k x
+    ≡ Greater → is_at (cmp q) k ≡ false
 apart cmp total q k x t g = ap is_eq (total.congr q x k (equal-by (cmp q x) t) ∙ (total.antisymm x k ∙ ap ordering_reverse g))
 
 module _ {K V : Type 0} (cmp : K → K → Ordering) (total : IsTotalOrder cmp) where
@@ -40,27 +42,32 @@ module _ {K V : Type 0} (cmp : K → K → Ordering) (total : IsTotalOrder cmp) 
   same-entry j k (p ∷ es) e = λ i. cond (is_eq (total.congr j k p.0 e i)) (Some p) (same-entry j k es e i)
 
   -- in a list that ascends by key, a pair stands at its own key, and nothing in front of it does
-  pub here : (k : K) (front : List (K × V)) (p : K × V) (rest : List (K × V)) → AscendsByKey cmp (front ++ p ∷ rest) → is_at (cmp k) p.0 ≡ true
+  pub here : (k : K) (front : List (K × V)) (p : K × V) (rest : List (K × V)) → AscendsByKey cmp (front ++ p ∷ rest)
+      → is_at (cmp k) p.0 ≡ true
       → (entry_at cmp (front ++ p ∷ rest) k ≡ Some p) × (entry_at cmp front k ≡ None)
   unfolding IsStrictlySortedBy
   here k [] p rest s e = (rw e, refl)
   here k (q ∷ front) p rest s e =
       let later = here k front p rest s.1 e in
       let less : cmp q.0 p.0 ≡ Less = less-later q.0 front p rest s.0 in
-      let other : is_at (cmp k) q.0 ≡ false = ap is_eq (total.congr k p.0 q.0 (equal-by (cmp k p.0) e) ∙ (total.antisymm p.0 q.0 ∙ ap ordering_reverse less)) in
+      let other : is_at (cmp k) q.0 ≡ false =
+      ap is_eq (total.congr k p.0 q.0 (equal-by (cmp k p.0) e) ∙ (total.antisymm p.0 q.0 ∙ ap ordering_reverse less)) in
       (rw other later.0, rw other later.1)
     where
-      less-later : (x : K) (front : List (K × V)) (p : K × V) (rest : List (K × V)) → AllByRecursion (λ y. cmp x y ≡ Less) (keys_of (front ++ p ∷ rest)) → cmp x p.0 ≡ Less
+      less-later : (x : K) (front : List (K × V)) (p : K × V) (rest : List (K × V))
+          → AllByRecursion (λ y. cmp x y ≡ Less) (keys_of (front ++ p ∷ rest)) → cmp x p.0 ≡ Less
       less-later x [] p rest all = all.0
       less-later x (q ∷ front) p rest all = less-later x front p rest all.1
 
   -- one more pair changes nothing at other keys
-  pub elsewhere : (k : K) (front : List (K × V)) (p : K × V) → is_at (cmp k) p.0 ≡ false → entry_at cmp (front ++ p ∷ []) k ≡ entry_at cmp front k
+  pub elsewhere : (k : K) (front : List (K × V)) (p : K × V) → is_at (cmp k) p.0 ≡ false
+      → entry_at cmp (front ++ p ∷ []) k ≡ entry_at cmp front k
   elsewhere k [] p e = rw e
   elsewhere k (q ∷ front) p e = ap (cond (is_at (cmp k) q.0) (Some q)) (elsewhere k front p e)
 
   -- and it stands at its own key, if no other does
-  pub at-last : (k : K) (front : List (K × V)) (p : K × V) → is_at (cmp k) p.0 ≡ true → entry_at cmp front k ≡ None → entry_at cmp (front ++ p ∷ []) k ≡ Some p
+  pub at-last : (k : K) (front : List (K × V)) (p : K × V) → is_at (cmp k) p.0 ≡ true → entry_at cmp front k ≡ None
+      → entry_at cmp (front ++ p ∷ []) k ≡ Some p
   at-last k [] p e n = rw e
   at-last k (q ∷ front) p e n =
       by-test (is_at (cmp k) q.0)
@@ -75,18 +82,23 @@ module _ {K V : Type 0} (cmp : K → K → Ordering) (total : IsTotalOrder cmp) 
   not-equal : (k : K) (e : K × V) (es : List (K × V)) → entry_at cmp (e ∷ es) k ≡ None → cmp k e.0 ≡ Equal → ⊥
   not-equal k e es n q = let h : Some e ≡ None = rw q at n in cc
 
-  absent-behind : (k : K) (e : K × V) (es : List (K × V)) (r : Ordering) → cmp k e.0 ≡ r → entry_at cmp (e ∷ es) k ≡ None → entry_at cmp es k ≡ None
+  absent-behind : (k : K) (e : K × V) (es : List (K × V)) (r : Ordering) → cmp k e.0 ≡ r → entry_at cmp (e ∷ es) k
+      ≡ None → entry_at cmp es k ≡ None
   absent-behind k e es Less r n = rw r at n
   absent-behind k e es Equal r n = absurd (not-equal k e es n r)
   absent-behind k e es Greater r n = rw r at n
 
-  inserted-by : (e : K × V) (es : List (K × V)) (k : K) (v : V) (q : K) → entry_at cmp (e ∷ es) k ≡ None → (r : Ordering) → cmp k e.0 ≡ r
-      → (entry_at cmp es k ≡ None → entry_at cmp (insert_entry cmp es k v) q ≡ cond (is_at (cmp q) k) (Some (k, v)) (entry_at cmp es q))
+  inserted-by : (e : K × V) (es : List (K × V)) (k : K) (v : V) (q : K) → entry_at cmp (e ∷ es) k ≡ None
+      → (r : Ordering) → cmp k e.0 ≡ r
+      → (entry_at cmp es k ≡ None → entry_at cmp (insert_entry cmp es k v) q
+      ≡ cond (is_at (cmp q) k) (Some (k, v)) (entry_at cmp es q))
       → entry_at cmp (insert_entry cmp (e ∷ es) k v) q ≡ cond (is_at (cmp q) k) (Some (k, v)) (entry_at cmp (e ∷ es) q)
   inserted-by e es k v q n Less r i = rw r
   inserted-by e es k v q n Equal r i = absurd (not-equal k e es n r)
   inserted-by e es k v q n Greater r i =
-      rw r (rw (i (absent-behind k e es Greater r n)) (swapped (is_at (cmp q) k) (is_at (cmp q) e.0) (Some e) (Some (k, v)) (entry_at cmp es q) (λ t. apart cmp total q k e.0 t r)))
+      rw r (rw (i (absent-behind k e es Greater r n))
+      (swapped (is_at (cmp q) k) (is_at (cmp q) e.0) (Some e) (Some (k, v)) (entry_at cmp es q)
+      (λ t. apart cmp total q k e.0 t r)))
 
   -- what stands at each key after the insertion of one that was not there
   pub inserted : (es : List (K × V)) (k : K) (v : V) (q : K) → entry_at cmp es k ≡ None
@@ -102,9 +114,11 @@ module _ {K V : Type 0} (cmp : K → K → Ordering) (total : IsTotalOrder cmp) 
   placed is_clone key other x false new old c e = e
 
   -- a value that is put under a clone of the key
-  pub put-some : (is_clone : K → K → Type 0) (key other : K) (x : V) (old new : List (K × V)) → is_clone key other → cmp key other ≡ Equal
+  pub put-some : (is_clone : K → K → Type 0) (key other : K) (x : V) (old new : List (K × V)) → is_clone key other
+      → cmp key other ≡ Equal
       → entry_at cmp old key ≡ None → new ≡ insert_entry cmp old other x → (k : K)
-      → MatchBool (is_at (cmp k) key) (IsPutAt is_clone key (Some x) (entry_at cmp new k)) (entry_at cmp new k ≡ entry_at cmp old k)
+      → MatchBool (is_at (cmp k) key) (IsPutAt is_clone key (Some x) (entry_at cmp new k))
+      (entry_at cmp new k ≡ entry_at cmp old k)
   put-some is_clone key other x old new c e n is k =
       placed is_clone key other x (is_at (cmp k) key) (entry_at cmp new k) (entry_at cmp old k) c
       (ap (λ l. entry_at cmp l k) is ∙ inserted old other x k (sym (same-entry key other old e) ∙ n)
@@ -117,4 +131,5 @@ module _ {K V : Type 0} (cmp : K → K → Ordering) (total : IsTotalOrder cmp) 
   -- no value that is put
   pub put-none : (key : K) (old : List (K × V)) → entry_at cmp old key ≡ None → (k : K)
       → MatchBool (is_at (cmp k) key) (entry_at cmp old k ≡ None) (entry_at cmp old k ≡ entry_at cmp old k)
-  put-none key old n k = none-placed (is_at (cmp k) key) (entry_at cmp old k) (λ t. same-entry k key old (equal-by (cmp k key) t) ∙ n)
+  put-none key old n k = none-placed (is_at (cmp k) key) (entry_at cmp old k)
+      (λ t. same-entry k key old (equal-by (cmp k key) t) ∙ n)

@@ -1,5 +1,6 @@
 mod Entering
 mod Asking
 mod Staying
+mod Values
 mod Giving
 mod OneAnswer

@@ -46,6 +46,7 @@ pub trait AbstractBTreeMap<K: Ord, V> {
     ghost use Rattle.vc_joins.specs.Entries.{AscendsByKey, value_at};
     ghost use Rattle.vc_joins.specs.Join.{IsAsked, IsJoin, IsJoinBy};
     ghost use Rattle.vc_joins.specs.Question.{left_spelling, right_spelling, shown_key};
+    ghost use Rattle.vc_joins.specs.Values.{in_both, in_either, in_left, in_right, AnswersBy, AnswersInnerBy, AnswersLeftBy, AnswersRightBy, JoinsValues};
     ghost use Rattle.vc_joins.specs.declared.question.JoinKind.TheVariants as kind;
     ghost use Rattle.vc_merge.specs.Clones.{ClonesAreEqual};
 
@@ -82,6 +83,8 @@ pub trait AbstractBTreeMap<K: Ord, V> {
         ensures function { IfOk result (λ m. (h : _)
             → IsJoinBy K.cmp kind.Outer left_spelling (pairs self.now) (M.pairs that.now)
             (λ a r. MayAnswer F.Fn f a (Ok r)) h m.entries) }
+        ensures values { IfOk result (λ m. (h : _) → AnswersBy F.Fn f h
+            → JoinsValues K.cmp (in_either h) (pairs self.now) (M.pairs that.now) m.entries) }
     {
         fresh::join_outer(alloc, self, that, &AskOuter(&f))
     }
@@ -108,6 +111,8 @@ pub trait AbstractBTreeMap<K: Ord, V> {
         ensures function { IfOk result (λ m. (h : _)
             → IsJoinBy K.cmp kind.Left left_spelling (pairs self.now) (M.pairs that.now)
             (λ a r. MayAnswerLeft F.Fn f a (Ok r)) h m.entries) }
+        ensures values { IfOk result (λ m. (h : _) → AnswersLeftBy F.Fn f h
+            → JoinsValues K.cmp (in_left h) (pairs self.now) (M.pairs that.now) m.entries) }
     {
         fresh::join_left(alloc, self, that, &AskLeft(&f))
     }
@@ -134,6 +139,8 @@ pub trait AbstractBTreeMap<K: Ord, V> {
         ensures function { IfOk result (λ m. (h : _)
             → IsJoinBy K.cmp kind.Right right_spelling (pairs self.now) (M.pairs that.now)
             (λ a r. MayAnswerRight F.Fn f a (Ok r)) h m.entries) }
+        ensures values { IfOk result (λ m. (h : _) → AnswersRightBy F.Fn f h
+            → JoinsValues K.cmp (in_right h) (pairs self.now) (M.pairs that.now) m.entries) }
     {
         fresh::join_right(alloc, self, that, &AskRight(&f))
     }
@@ -160,6 +167,8 @@ pub trait AbstractBTreeMap<K: Ord, V> {
         ensures function { IfOk result (λ m. (h : _)
             → IsJoinBy K.cmp kind.Inner right_spelling (pairs self.now) (M.pairs that.now)
             (λ a r. MayAnswerInner F.Fn f a (Ok r)) h m.entries) }
+        ensures values { IfOk result (λ m. (h : _) → AnswersInnerBy F.Fn f h
+            → JoinsValues K.cmp (in_both h) (pairs self.now) (M.pairs that.now) m.entries) }
     {
         fresh::join_inner(alloc, self, that, &AskInner(&f))
     }
@@ -186,7 +195,9 @@ pub trait InPlaceRelationalOps<K: Ord, V>: AbstractBTreeMap<K, V> {
     ghost use Rattle.vc_joins.specs.declared.question.JoinKind.TheVariants as kind;
     ghost use Rattle.vc_joins.specs.Join.{IsAsked, IsJoin, IsJoinBy, MovedKey};
     ghost use Rattle.vc_joins.specs.Question.{left_spelling, right_spelling};
+    ghost use Rattle.vc_joins.specs.Values.{in_both, in_left, JoinsValues};
     ghost use Rattle.vc_btree_maps.specs.Keeping.{at_pair, MayLeave, MayLeaveShared, MayGive, OrStays, OrGives, StayedKey, StayedOrCloned, IsGrown};
+    ghost use Rattle.vc_btree_maps.specs.KeepingValues.{or_stays, or_given, LeavesBy, LeavesSharedBy, GivesBy};
     ghost use Rattle.std.specs.Option.{option_copied};
     ghost use Rattle.vc_merge.specs.Clones.{ClonesAreEqual};
 
@@ -213,7 +224,9 @@ pub trait InPlaceRelationalOps<K: Ord, V>: AbstractBTreeMap<K, V> {
         ensures joins { IsJoin K.cmp kind.Inner left_spelling (Self.pairs self.old)
             (M.pairs that.now) (MayLeaveShared F.Fn f) MovedKey (Self.pairs self.new) }
         ensures function { (h : _) → IsJoinBy K.cmp kind.Inner left_spelling (Self.pairs self.old)
-            (M.pairs that.now) (MayLeaveShared F.Fn f) h (Self.pairs self.new) };
+            (M.pairs that.now) (MayLeaveShared F.Fn f) h (Self.pairs self.new) }
+        ensures values { (h : _) → LeavesSharedBy F.Fn f h → JoinsValues K.cmp (in_both h)
+            (Self.pairs self.old) (M.pairs that.now) (Self.pairs self.new) };
 
     /// Asks `f` at each key of this map, which may write to the value, and keeps the value where it
     /// answers true.
@@ -234,7 +247,9 @@ pub trait InPlaceRelationalOps<K: Ord, V>: AbstractBTreeMap<K, V> {
         ensures joins { IsJoin K.cmp kind.Left left_spelling (Self.pairs self.old)
             (M.pairs that.now) (MayLeave F.Fn f) MovedKey (Self.pairs self.new) }
         ensures function { (h : _) → IsJoinBy K.cmp kind.Left left_spelling (Self.pairs self.old)
-            (M.pairs that.now) (MayLeave F.Fn f) h (Self.pairs self.new) };
+            (M.pairs that.now) (MayLeave F.Fn f) h (Self.pairs self.new) }
+        ensures values { (h : _) → LeavesBy F.Fn f h → JoinsValues K.cmp (in_left h)
+            (Self.pairs self.old) (M.pairs that.now) (Self.pairs self.new) };
 
     /// Asks at each key of the other map, and shows the key as that one has it: `f` at a key of
     /// both maps, which may write to the value and drops it where it answers false, and
@@ -262,7 +277,10 @@ pub trait InPlaceRelationalOps<K: Ord, V>: AbstractBTreeMap<K, V> {
             (M.pairs that.now) (OrStays (MayLeaveShared F.Fn f))
             (StayedKey K.cmp (Self.pairs self.old)) (Self.pairs self.new) }
         ensures function { (h : _) → IsJoinBy K.cmp kind.Left right_spelling (Self.pairs self.old)
-            (M.pairs that.now) (OrStays (MayLeaveShared F.Fn f)) h (Self.pairs self.new) };
+            (M.pairs that.now) (OrStays (MayLeaveShared F.Fn f)) h (Self.pairs self.new) }
+        ensures values { (h : _) → LeavesSharedBy F.Fn f h
+            → JoinsValues K.cmp (in_left (or_stays h)) (Self.pairs self.old) (M.pairs that.now)
+            (Self.pairs self.new) };
 
     /// Asks at each key of either map. First `other_alone` at the keys that the other map alone
     /// has, whose answers come in under clones of them, and then `f` at the keys that this map had
@@ -298,6 +316,9 @@ pub trait InPlaceRelationalOps<K: Ord, V>: AbstractBTreeMap<K, V> {
         ensures function { OnOk result ((h : _)
             → IsJoinBy K.cmp kind.Outer right_spelling (Self.pairs self.old) (M.pairs that.now)
             (OrGives (MayLeave F.Fn f) (MayGive G.Fn other_alone)) h (Self.pairs self.new)) }
+        ensures values { OnOk result ((h : _) (i : _) → LeavesBy F.Fn f h
+            → GivesBy G.Fn other_alone i → JoinsValues K.cmp (or_given h i)
+            (Self.pairs self.old) (M.pairs that.now) (Self.pairs self.new)) }
         ensures grown { OnErr result (IsGrown K.cmp K.is_clone (MayGive G.Fn other_alone)
             (M.pairs that.now) (Self.pairs self.old) (Self.pairs self.new)) };
 }

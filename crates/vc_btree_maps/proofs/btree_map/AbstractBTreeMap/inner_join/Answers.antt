@@ -3,12 +3,20 @@ use Rattle.vc_joins.specs.Answers.{MayAnswerInner}
 use Rattle.vc_joins.specs.declared.question.JoinKind.TheVariants as kind
 use Rattle.vc_joins.specs.Question.{right_spelling, shown_key}
 use Rattle.vc_btree_maps.proofs.Asking.{asked-by_kind}
+use Rattle.vc_joins.proofs.Values.{answers-inner}
 use Rattle.vc_btree_maps.proofs.OneAnswer.{function-if}
+use Rattle.vc_btree_maps.proofs.Values.{if-ok}
 use Rattle.vc_btree_maps.proofs.btree_map.AbstractBTreeMap.inner_join.Goals as goal
 
 pub join_inner-requires-clause-takes : goal.join_inner-requires-clause-takes
-join_inner-requires-clause-takes g c = λ a h. (asked-by_kind kind.Inner right_spelling g.K.Ord.cmp _ _ a h, c.requires.callable a h)
+join_inner-requires-clause-takes g c =
+    λ a h. (asked-by_kind kind.Inner right_spelling g.K.Ord.cmp _ _ a h, c.requires.callable a h)
 
 pub returns-clause-function : goal.returns-clause-function
 returns-clause-function g c =
-    function-if g.K.Ord.cmp kind.Inner right_spelling (λ a r. MayAnswerInner g.F.Fn c.args.f a (Ok r)) (λ a. g.K.Clone.is_clone (shown_key a)) _ _ c.join_inner.result c.join_inner.ensures
+    function-if g.K.Ord.cmp kind.Inner right_spelling (λ a r. MayAnswerInner g.F.Fn c.args.f a (Ok r))
+    (λ a. g.K.Clone.is_clone (shown_key a)) _ _ c.join_inner.result c.join_inner.ensures
+
+pub returns-clause-values : goal.returns-clause-values
+returns-clause-values g c =
+    if-ok c.join_inner.result (λ m. answers-inner g.K.Ord.cmp right_spelling _ _ _ c.args.f g.F.Fn) (returns-clause-function g c)

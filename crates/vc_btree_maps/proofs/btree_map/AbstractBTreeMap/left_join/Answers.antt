@@ -3,7 +3,9 @@ use Rattle.vc_joins.specs.Answers.{MayAnswerLeft}
 use Rattle.vc_joins.specs.declared.question.JoinKind.TheVariants as kind
 use Rattle.vc_joins.specs.Question.{left_spelling, shown_key}
 use Rattle.vc_btree_maps.proofs.Asking.{asked-by_kind}
+use Rattle.vc_joins.proofs.Values.{answers-left}
 use Rattle.vc_btree_maps.proofs.OneAnswer.{function-if}
+use Rattle.vc_btree_maps.proofs.Values.{if-ok}
 use Rattle.vc_btree_maps.proofs.btree_map.AbstractBTreeMap.left_join.Goals as goal
 
 pub join_left-requires-clause-takes : goal.join_left-requires-clause-takes
@@ -11,4 +13,9 @@ join_left-requires-clause-takes g c = λ a h. (asked-by_kind kind.Left left_spel
 
 pub returns-clause-function : goal.returns-clause-function
 returns-clause-function g c =
-    function-if g.K.Ord.cmp kind.Left left_spelling (λ a r. MayAnswerLeft g.F.Fn c.args.f a (Ok r)) (λ a. g.K.Clone.is_clone (shown_key a)) _ _ c.join_left.result c.join_left.ensures
+    function-if g.K.Ord.cmp kind.Left left_spelling (λ a r. MayAnswerLeft g.F.Fn c.args.f a (Ok r))
+    (λ a. g.K.Clone.is_clone (shown_key a)) _ _ c.join_left.result c.join_left.ensures
+
+pub returns-clause-values : goal.returns-clause-values
+returns-clause-values g c =
+    if-ok c.join_left.result (λ m. answers-left g.K.Ord.cmp left_spelling _ _ _ c.args.f g.F.Fn) (returns-clause-function g c)

@@ -10,4 +10,5 @@ use Rattle.vc_btree_maps.proofs.btree_map.fresh.join_inner.Given as goal
 abbrev pub invariant-keys : goal.invariant-keys
 invariant-keys g l =
     (front : List _) × (g.M.AbstractBTreeMap.pairs l.that ≡ front ++ pairs_left l.key-iterator)
-    × IsJoin g.K.Ord.cmp kind.Inner right_spelling (g.L.AbstractBTreeMap.pairs l.this) front (λ a r. g.Q.Question.may l.question a (Ok r)) (λ a. g.K.Clone.is_clone (shown_key a)) l.joined.entries
+    × IsJoin g.K.Ord.cmp kind.Inner right_spelling (g.L.AbstractBTreeMap.pairs l.this) front
+    (λ a r. g.Q.Question.may l.question a (Ok r)) (λ a. g.K.Clone.is_clone (shown_key a)) l.joined.entries

@@ -12,7 +12,8 @@ put_left-requires-clause-takes g c =
 pub put_left-requires-clause-absent : goal.put_left-requires-clause-absent
 put_left-requires-clause-absent g c =
     let i = c.keys.invariant in
-    left-free g.K.Ord.cmp g.met.K.Ord.total g.K.Clone.is_clone _ _ _ i.0 _ _ c.in-Some.key c.in-Some.value c.get.result c.iter-key-items.ensures.ascends i.1 c.in-Some.ensures.steps c.get.ensures _ i.2
+    left-free g.K.Ord.cmp g.met.K.Ord.total g.K.Clone.is_clone _ _ _ i.0 _ _ c.in-Some.key c.in-Some.value
+    c.get.result c.iter-key-items.ensures.ascends i.1 c.in-Some.ensures.steps c.get.ensures _ i.2
 
 pub keys-preserved : goal.keys-preserved
 keys-preserved g c =

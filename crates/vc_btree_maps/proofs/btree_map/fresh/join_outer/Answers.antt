@@ -7,8 +7,12 @@ use Rattle.vc_btree_maps.proofs.btree_map.fresh.join_outer.Goals as goal
 pub keys-init : goal.keys-init
 keys-init g c =
     let same = c.into_iter-key-iterator.ensures.into_iter_gives in
-    let pairs = c.iter-key-items.ensures.pairs in
-    ([], sym (ap pairs_left same ∙ pairs), outer-start g.K.Ord.cmp g.met.K.Ord.total g.K.Clone.is_clone _ _ _ _ c.in_ok-joined.ensures)
+    let pairs = c.iter-key-items.ensures.pairs in (
+      [],
+      sym (ap pairs_left same ∙ pairs),
+      outer-start g.K.Ord.cmp g.met.K.Ord.total g.K.Clone.is_clone _ _ _ _
+          c.in_ok-joined.ensures,
+    )
 
 pub put_right-requires-clause-takes : goal.put_right-requires-clause-takes
 put_right-requires-clause-takes g c =

@@ -13,4 +13,5 @@ returns-in_ok-insert-in-Some-clause-put g c =
     })
 
 pub returns-in-None-clause-put : goal.returns-in-None-clause-put
-returns-in-None-clause-put g c = rw c.in-None.is (record { ascends = c.requires.ascends; at = put-none g.K.Ord.cmp g.met.K.Ord.total _ _ c.requires.absent })
+returns-in-None-clause-put g c =
+    rw c.in-None.is (record { ascends = c.requires.ascends; at = put-none g.K.Ord.cmp g.met.K.Ord.total _ _ c.requires.absent })

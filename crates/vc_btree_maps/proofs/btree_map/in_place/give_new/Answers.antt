@@ -14,7 +14,8 @@ keys-preserved-in-Continue-1 g c =
 pub returns-in_err-push-clause-grown : goal.returns-in_err-push-clause-grown
 returns-in_err-push-clause-grown g c =
     let i = c.keys.invariant in
-    after-error _ (grown-of_given g.K.Ord.cmp g.met.K.Ord.total g.K.Clone.is_clone (MayGive g.G.Fn c.args.given.now) i.0 _ _ _ _ _ i.1 refl i.2)
+    after-error _ (grown-of_given g.K.Ord.cmp g.met.K.Ord.total g.K.Clone.is_clone
+    (MayGive g.G.Fn c.args.given.now) i.0 _ _ _ _ _ i.1 refl i.2)
 
 pub given-requires : goal.given-requires
 given-requires g c =
@@ -36,4 +37,5 @@ keys-preserved g c =
 pub returns-in_err-put_answer-clause-grown : goal.returns-in_err-put_answer-clause-grown
 returns-in_err-put_answer-clause-grown g c =
     let i = c.keys.invariant in
-    after-error _ (grown-of_given g.K.Ord.cmp g.met.K.Ord.total g.K.Clone.is_clone (MayGive g.G.Fn c.args.given.now) i.0 _ _ _ _ _ i.1 c.in_err-put_answer.ensures.err i.2)
+    after-error _ (grown-of_given g.K.Ord.cmp g.met.K.Ord.total g.K.Clone.is_clone
+    (MayGive g.G.Fn c.args.given.now) i.0 _ _ _ _ _ i.1 c.in_err-put_answer.ensures.err i.2)

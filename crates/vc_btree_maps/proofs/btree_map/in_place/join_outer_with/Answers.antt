@@ -18,12 +18,15 @@ pub keep_each-requires : goal.keep_each-requires
 keep_each-requires g c =
     let e = c.in_ok-shared.ensures in
     record {
-      takes = third-takes g.K.Ord.cmp g.met.K.Ord.total _ g.K.Clone.is_clone (MayGive g.G.Fn c.args.given.now) (g.J.Keep.may c.args.judge.now) _ _ _ _
-          (ap (map deref_pair) c.deref.ensures.value ∙ e.shared) e.given c.keep_shared.ensures (g.J.Keep.takes c.args.judge.now) c.requires.takes;
+      takes = third-takes g.K.Ord.cmp g.met.K.Ord.total _ g.K.Clone.is_clone (MayGive g.G.Fn c.args.given.now)
+          (g.J.Keep.may c.args.judge.now) _ _ _ _
+          (ap (map deref_pair) c.deref.ensures.value ∙ e.shared) e.given c.keep_shared.ensures
+          (g.J.Keep.takes c.args.judge.now) c.requires.takes;
     }
 
 pub returns-clause-joins : goal.returns-clause-joins
 returns-clause-joins g c =
     let e = c.in_ok-shared.ensures in
-    outer-of_passes g.K.Ord.cmp g.met.K.Ord.total _ g.K.Clone.is_clone (MayGive g.G.Fn c.args.given.now) (g.J.Keep.may c.args.judge.now) _ _ _ _
+    outer-of_passes g.K.Ord.cmp g.met.K.Ord.total _ g.K.Clone.is_clone (MayGive g.G.Fn c.args.given.now)
+    (g.J.Keep.may c.args.judge.now) _ _ _ _
     (ap (map deref_pair) c.deref.ensures.value ∙ e.shared) e.given c.keep_shared.ensures _ c.keep_each.ensures

@@ -6,8 +6,12 @@ use Rattle.vc_btree_maps.proofs.btree_map.in_place.keep_right.Goals as goal
 pub keys-init : goal.keys-init
 keys-init g c =
     let same = c.into_iter-key-iterator.ensures.into_iter_gives in
-    let pairs = c.iter-key-items.ensures.pairs in
-    ([], sym (ap pairs_left same ∙ pairs), along-start g.K.Ord.cmp g.met.K.Ord.total (g.J.Keep.may c.args.judge.now) _ c.keys_ascend.ensures)
+    let pairs = c.iter-key-items.ensures.pairs in (
+      [],
+      sym (ap pairs_left same ∙ pairs),
+      along-start g.K.Ord.cmp g.met.K.Ord.total
+          (g.J.Keep.may c.args.judge.now) _ c.keys_ascend.ensures,
+    )
 
 pub keep_at-requires : goal.keep_at-requires
 keep_at-requires g c =

@@ -11,4 +11,6 @@ keep_at-requires g c =
 
 pub pairs-preserved : goal.pairs-preserved
 pairs-preserved g c =
-    item-more g.K.Ord.cmp g.met.K.Ord.total (g.J.Keep.may c.args.judge.now) _ _ c.pairs-item.result c.pairs-test.true c.pairs-item.is c.requires.ascends _ _ c.pairs.invariant _ c.keep_at.ensures.kept
+    item-more g.K.Ord.cmp g.met.K.Ord.total
+    (g.J.Keep.may c.args.judge.now) _ _ c.pairs-item.result c.pairs-test.true c.pairs-item.is c.requires.ascends
+    _ _ c.pairs.invariant _ c.keep_at.ensures.kept
