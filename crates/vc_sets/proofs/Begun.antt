@@ -1,5 +1,6 @@
 -- Events that are taken one by one, and what is kept of them.
-use Rattle.std.proofs.Common.{◌≡◌, ℕ, ◌+◌, ◌<◌, Bool, true, false, List, [], ◌∷◌, ◌++◌, map, take, drop, set, length, get_or, not, nat_eq, ne_eqb, ◌≤◌, arith, refl, sym, ap, subst, ◌∙◌, append_assoc}
+use Rattle.std.proofs.Common.{◌≡◌, ℕ, ◌+◌, ◌<◌, Bool, true, false, List, [], ◌∷◌, ◌++◌, map, take, drop, set, length}
+use Rattle.std.proofs.Common.{get_or, not, nat_eq, ne_eqb, ◌≤◌, arith, refl, sym, ap, subst, ◌∙◌, append_assoc}
 use Rattle.std.specs.Int.{from_bool}
 use Rattle.std.specs.Ordering.{is_le, is_ge}
 use denote.Ref.{Bor}
@@ -31,10 +32,16 @@ set-true n h = ap not (ne_eqb n 0 h)
 pub set-false : (n : ℕ) → n ≡ 0 → is_set n ≡ false
 set-false n e = ap is_set e
 
+-- the formula of an operation by its three `const`s
+abbrev pub keeps_by : ℕ → ℕ → ℕ → Bool → Bool → Bool
+keeps_by left right both = keeps (is_set left) (is_set right) (is_set both)
+
 -- each event keeps an element
-pub keeps-each : (left right both : ℕ) → (left ≡ 0 → ⊥) → (right ≡ 0 → ⊥) → (both ≡ 0 → ⊥) → keeps (is_set left) (is_set right) (is_set both) ≡ keeps true true true
+pub keeps-each : (left right both : ℕ) → (left ≡ 0 → ⊥) → (right ≡ 0 → ⊥) → (both ≡ 0 → ⊥)
+    → keeps_by left right both ≡ keeps true true true
 keeps-each left right both l r b =
-    ap (λ n. keeps n (is_set right) (is_set both)) (set-true left l) ∙ ap (λ n. keeps true n (is_set both)) (set-true right r) ∙ ap (λ n. keeps true true n) (set-true both b)
+    ap (λ n. keeps n (is_set right) (is_set both)) (set-true left l)
+    ∙ ap (λ n. keeps true n (is_set both)) (set-true right r) ∙ ap (λ n. keeps true true n) (set-true both b)
 
 -- the event of two heads that compare so
 abbrev event_at : {X : Type 0} → Ordering → X → X → Event X X
@@ -50,7 +57,8 @@ abbrev from_right : Ordering → ℕ
 from_right o = from_bool (is_ge o)
 
 -- what one event gives
-appends-one : {X : Type 0} (gives : Event X X → List X → Type 0) (e : Event X X) (zs old new : List X) → gives e zs → new ≡ old ++ zs → Appends gives (e ∷ []) old new
+appends-one : {X : Type 0} (gives : Event X X → List X → Type 0) (e : Event X X) (zs old new : List X) → gives e zs
+    → new ≡ old ++ zs → Appends gives (e ∷ []) old new
 appends-one gives e zs old new k i = record {
   added = zs;
   gathered = (zs, [], k, refl, sym (append-nil zs));
@@ -58,11 +66,15 @@ appends-one gives e zs old new k i = record {
 }
 
 -- a clone of the lesser head, where an element of each event is kept
-pub appends-clone : {X : Type 0} (from : X → X → Type 0) (x y z : X) (old new : List X) (o : Ordering) → from (lesser_of o x y) z → new ≡ old ++ z ∷ []
+pub appends-clone : {X : Type 0} (from : X → X → Type 0) (x y z : X) (old new : List X) (o : Ordering)
+    → from (lesser_of o x y) z → new ≡ old ++ z ∷ []
     → Appends (KeptAt (keeps true true true) from from) (event_at o x y ∷ []) old new
-appends-clone from x y z old new Less c i = appends-one (KeptAt (keeps true true true) from from) (left_alone x) (z ∷ []) old new (z, c, refl) i
-appends-clone from x y z old new Equal c i = appends-one (KeptAt (keeps true true true) from from) (collision x y) (z ∷ []) old new (z, c, refl) i
-appends-clone from x y z old new Greater c i = appends-one (KeptAt (keeps true true true) from from) (right_alone y) (z ∷ []) old new (z, c, refl) i
+appends-clone from x y z old new Less c i =
+    appends-one (KeptAt (keeps true true true) from from) (left_alone x) (z ∷ []) old new (z, c, refl) i
+appends-clone from x y z old new Equal c i =
+    appends-one (KeptAt (keeps true true true) from from) (collision x y) (z ∷ []) old new (z, c, refl) i
+appends-clone from x y z old new Greater c i =
+    appends-one (KeptAt (keeps true true true) from from) (right_alone y) (z ∷ []) old new (z, c, refl) i
 
 module _ {X : Type 0} (cmp : X → X → Ordering) (total : IsTotalOrder cmp) (f : Bool → Bool → Bool) where
   module _ (from : X → X → Type 0) where
@@ -76,11 +88,13 @@ module _ {X : Type 0} (cmp : X → X → Ordering) (total : IsTotalOrder cmp) (f
     }
 
     -- some events, and then others
-    pub begun-append : (xs ys ms ns ls rs old mid new : List X) → IsBegun cmp from f xs ys ms ns old mid → IsBegun cmp from f ms ns ls rs mid new → IsBegun cmp from f xs ys ls rs old new
+    pub begun-append : (xs ys ms ns ls rs old mid new : List X) → IsBegun cmp from f xs ys ms ns old mid
+        → IsBegun cmp from f ms ns ls rs mid new → IsBegun cmp from f xs ys ls rs old new
     begun-append xs ys ms ns ls rs old mid new p q = record {
       events = p.events ++ q.events;
       appends = appends-append (KeptAt f from from) p.events q.events old mid new p.appends q.appends;
-      leads = λ es s. subst (λ l. IsScript (both_sides cmp) xs ys l) (sym (append_assoc p.events q.events es)) (p.leads (q.events ++ es) (q.leads es s));
+      leads = λ es s. subst (λ l. IsScript (both_sides cmp) xs ys l) (sym (append_assoc p.events q.events es))
+          (p.leads (q.events ++ es) (q.leads es s));
       ascend = q.ascend;
     }
 
@@ -105,27 +119,36 @@ module _ {X : Type 0} (cmp : X → X → Ordering) (total : IsTotalOrder cmp) (f
     one-event x y ls rs old new Greater e p q = record {
       events = right_alone y ∷ [];
       appends = q;
-      leads = λ es s. put-rights (both_sides cmp) (both_sides-total cmp total) (y ∷ []) (x ∷ ls) rs es p.right
-          (below-lefts (both_sides cmp) (both_sides-total cmp total) x y ls (turned (both_sides cmp) (both_sides-total cmp total) x y e) p.left.0, tt) s;
+      leads = λ es s. put-rights (both_sides cmp) (both_sides-total cmp total) (y ∷ []) (x ∷ ls) rs es p.right (
+        below-lefts (both_sides cmp) (both_sides-total cmp total) x y ls
+            (turned (both_sides cmp) (both_sides-total cmp total) x y e) p.left.0,
+        tt,
+      ) s;
       ascend = record { left = p.left; right = p.right.1 };
     }
 
     -- the event at the fronts of two lists
-    at-fronts : (xs ys ls rs old new : List X) (x y : X) (o : Ordering) → xs ≡ x ∷ ls → ys ≡ y ∷ rs → cmp x y ≡ o → BothAscend (both_sides cmp) xs ys
-        → Appends (KeptAt f from from) (event_at o x y ∷ []) old new → IsBegun cmp from f xs ys (drop (from_left o) xs) (drop (from_right o) ys) old new
+    at-fronts : (xs ys ls rs old new : List X) (x y : X) (o : Ordering) → xs ≡ x ∷ ls → ys ≡ y ∷ rs → cmp x y ≡ o
+        → BothAscend (both_sides cmp) xs ys
+        → Appends (KeptAt f from from) (event_at o x y ∷ []) old new
+        → IsBegun cmp from f xs ys (drop (from_left o) xs) (drop (from_right o) ys) old new
     at-fronts xs ys ls rs old new x y o p q e s i =
         subst (λ l. IsBegun cmp from f l ys (drop (from_left o) l) (drop (from_right o) ys) old new) (sym p)
         (subst (λ l. IsBegun cmp from f (x ∷ ls) l (drop (from_left o) (x ∷ ls)) (drop (from_right o) l) old new) (sym q)
-        (one-event x y ls rs old new o e (subst (λ l. BothAscend (both_sides cmp) (x ∷ ls) l) q (subst (λ l. BothAscend (both_sides cmp) l ys) p s)) i))
+        (one-event x y ls rs old new o e
+        (subst (λ l. BothAscend (both_sides cmp) (x ∷ ls) l) q (subst (λ l. BothAscend (both_sides cmp) l ys) p s)) i))
 
     -- one event more, at two places
-    pub begun-step : (xs ys old mid new : List X) (i j i' j' : ℕ) (x y : X) (o : Ordering) → i < length xs → j < length ys → x ≡ get_or xs i x → y ≡ get_or ys j y
-        → o ≡ cmp x y → i' ≡ i + from_bool (is_le o) → j' ≡ j + from_bool (is_ge o) → Appends (KeptAt f from from) (event_at o x y ∷ []) mid new
+    pub begun-step : (xs ys old mid new : List X) (i j i' j' : ℕ) (x y : X) (o : Ordering) → i < length xs
+        → j < length ys → x ≡ get_or xs i x → y ≡ get_or ys j y
+        → o ≡ cmp x y → i' ≡ i + from_bool (is_le o) → j' ≡ j + from_bool (is_ge o)
+        → Appends (KeptAt f from from) (event_at o x y ∷ []) mid new
         → IsBegun cmp from f xs ys (drop i xs) (drop j ys) old mid → IsBegun cmp from f xs ys (drop i' xs) (drop j' ys) old new
     begun-step xs ys old mid new i j i' j' x y o a b p q e k l n h =
         let front : drop i xs ≡ x ∷ drop (i + 1) xs = drop_more xs i x a ∙ ap (λ w. w ∷ drop (i + 1) xs) (sym p) in
         let side : drop j ys ≡ y ∷ drop (j + 1) ys = drop_more ys j y b ∙ ap (λ w. w ∷ drop (j + 1) ys) (sym q) in
-        let next = at-fronts (drop i xs) (drop j ys) (drop (i + 1) xs) (drop (j + 1) ys) mid new x y o front side (sym e) h.ascend n in
+        let next = at-fronts (drop i xs) (drop j ys) (drop (i + 1) xs) (drop (j + 1) ys) mid new x y o front side
+        (sym e) h.ascend n in
         let left : drop (from_left o) (drop i xs) ≡ drop i' xs = drop-drop (from_left o) i xs ∙ ap (λ m. drop m xs) (sym k) in
         let right : drop (from_right o) (drop j ys) ≡ drop j' ys = drop-drop (from_right o) j ys ∙ ap (λ m. drop m ys) (sym l) in
         begun-append xs ys (drop i xs) (drop j ys) (drop i' xs) (drop j' ys) old mid new h
@@ -139,23 +162,32 @@ module _ {X : Type 0} (cmp : X → X → Ordering) (total : IsTotalOrder cmp) (f
   gives-if false z = refl
 
   -- what is kept at an event, by itself
-  pub appends-event : (x y : X) (old new : List X) (o : Ordering) → new ≡ old ++ kept_of f o x y → Appends (KeptAt f (λ x y. x ≡ y) (λ x y. x ≡ y)) (event_at o x y ∷ []) old new
-  appends-event x y old new Less i = appends-one (KeptAt f (λ x y. x ≡ y) (λ x y. x ≡ y)) (left_alone x) (kept_of f Less x y) old new (gives-if (f true false) x) i
-  appends-event x y old new Equal i = appends-one (KeptAt f (λ x y. x ≡ y) (λ x y. x ≡ y)) (collision x y) (kept_of f Equal x y) old new (gives-if (f true true) x) i
-  appends-event x y old new Greater i = appends-one (KeptAt f (λ x y. x ≡ y) (λ x y. x ≡ y)) (right_alone y) (kept_of f Greater x y) old new (gives-if (f false true) y) i
+  pub appends-event : (x y : X) (old new : List X) (o : Ordering) → new ≡ old ++ kept_of f o x y
+      → Appends (KeptAt f (λ x y. x ≡ y) (λ x y. x ≡ y)) (event_at o x y ∷ []) old new
+  appends-event x y old new Less i =
+      appends-one (KeptAt f (λ x y. x ≡ y) (λ x y. x ≡ y)) (left_alone x) (kept_of f Less x y) old new
+      (gives-if (f true false) x) i
+  appends-event x y old new Equal i =
+      appends-one (KeptAt f (λ x y. x ≡ y) (λ x y. x ≡ y)) (collision x y) (kept_of f Equal x y) old new
+      (gives-if (f true true) x) i
+  appends-event x y old new Greater i =
+      appends-one (KeptAt f (λ x y. x ≡ y) (λ x y. x ≡ y)) (right_alone y) (kept_of f Greater x y) old new
+      (gives-if (f false true) y) i
 
   -- ---- clones of what is kept
 
   module _ (from : X → X → Type 0) where
     Parted : List X → Bool → X → List X → Type 0
-    Parted zs b u rest = (first : List X) × (more : List X) × GivesIf b (from u) first × AllZip from rest more × (zs ≡ first ++ more)
+    Parted zs b u rest = (first : List X) × (more : List X) × GivesIf b (from u) first × AllZip from rest more
+        × (zs ≡ first ++ more)
 
     first-cloned : (u z : X) (rest zs : List X) → u ≡ z → AllZip from (z ∷ rest) zs → Parted zs true u rest
     unfolding Parted
     first-cloned u z rest [] e h = absurd h
     first-cloned u z rest (w ∷ zs) e h = (w ∷ [], zs, (w, subst (λ v. from v w) (sym e) h.0, refl), h.1, refl)
 
-    gives-cloned : (u : X) (b : Bool) (first rest zs : List X) → GivesIf b (λ z. u ≡ z) first → AllZip from (first ++ rest) zs → Parted zs b u rest
+    gives-cloned : (u : X) (b : Bool) (first rest zs : List X) → GivesIf b (λ z. u ≡ z) first
+        → AllZip from (first ++ rest) zs → Parted zs b u rest
     unfolding Parted
     gives-cloned u true first rest zs g h = first-cloned u g.0 rest zs g.1 (subst (λ l. AllZip from (l ++ rest) zs) g.2 h)
     gives-cloned u false first rest zs g h = ([], zs, refl, subst (λ l. AllZip from (l ++ rest) zs) g h, refl)
@@ -164,23 +196,30 @@ module _ {X : Type 0} (cmp : X → X → Ordering) (total : IsTotalOrder cmp) (f
     none-cloned [] h = refl
     none-cloned (z ∷ zs) h = absurd h
 
-    gathers-cloned : (es : List (Event X X)) (ks zs : List X) → Gathers (KeptAt f (λ x y. x ≡ y) (λ x y. x ≡ y)) es ks → AllZip from ks zs → Gathers (KeptAt f from from) es zs
+    gathers-cloned : (es : List (Event X X)) (ks zs : List X)
+        → Gathers (KeptAt f (λ x y. x ≡ y) (λ x y. x ≡ y)) es ks → AllZip from ks zs → Gathers (KeptAt f from from) es zs
     unfolding Parted
     gathers-cloned [] ks zs g h = none-cloned zs (subst (λ l. AllZip from l zs) g h)
     gathers-cloned (left_alone x ∷ es) ks zs g h =
-        let r = gives-cloned x (f true false) g.0 g.1 zs g.2 (subst (λ l. AllZip from l zs) g.4 h) in (r.0, r.1, r.2, gathers-cloned es g.1 r.1 g.3 r.3, r.4)
+        let r = gives-cloned x (f true false) g.0 g.1 zs g.2 (subst (λ l. AllZip from l zs) g.4 h) in
+        (r.0, r.1, r.2, gathers-cloned es g.1 r.1 g.3 r.3, r.4)
     gathers-cloned (right_alone y ∷ es) ks zs g h =
-        let r = gives-cloned y (f false true) g.0 g.1 zs g.2 (subst (λ l. AllZip from l zs) g.4 h) in (r.0, r.1, r.2, gathers-cloned es g.1 r.1 g.3 r.3, r.4)
+        let r = gives-cloned y (f false true) g.0 g.1 zs g.2 (subst (λ l. AllZip from l zs) g.4 h) in
+        (r.0, r.1, r.2, gathers-cloned es g.1 r.1 g.3 r.3, r.4)
     gathers-cloned (collision x y ∷ es) ks zs g h =
-        let r = gives-cloned x (f true true) g.0 g.1 zs g.2 (subst (λ l. AllZip from l zs) g.4 h) in (r.0, r.1, r.2, gathers-cloned es g.1 r.1 g.3 r.3, r.4)
+        let r = gives-cloned x (f true true) g.0 g.1 zs g.2 (subst (λ l. AllZip from l zs) g.4 h) in
+        (r.0, r.1, r.2, gathers-cloned es g.1 r.1 g.3 r.3, r.4)
 
     -- the same events, where a clone of each element that is kept was appended
-    pub begun-cloned : (xs ys ls rs ks old new : List X) → IsBegun cmp (λ x y. x ≡ y) f xs ys ls rs [] ks → Extends from ks old new → IsBegun cmp from f xs ys ls rs old new
+    pub begun-cloned : (xs ys ls rs ks old new : List X) → IsBegun cmp (λ x y. x ≡ y) f xs ys ls rs [] ks
+        → Extends from ks old new → IsBegun cmp from f xs ys ls rs old new
     begun-cloned xs ys ls rs ks old new h k = record {
       events = h.events;
       appends = record {
         added = k.added;
-        gathered = gathers-cloned h.events ks k.added (subst (λ l. Gathers (KeptAt f (λ x y. x ≡ y) (λ x y. x ≡ y)) h.events l) (sym h.appends.items) h.appends.gathered) k.come;
+        gathered = gathers-cloned h.events ks k.added
+            (subst (λ l. Gathers (KeptAt f (λ x y. x ≡ y) (λ x y. x ≡ y)) h.events l)
+            (sym h.appends.items) h.appends.gathered) k.come;
         items = k.items;
       };
       leads = h.leads;
@@ -188,7 +227,8 @@ module _ {X : Type 0} (cmp : X → X → Ordering) (total : IsTotalOrder cmp) (f
     }
 
     -- events that were taken one by one, and then those that a merge has built
-    pub begun-set_of : f false false ≡ false → ((x z : X) → from x z → cmp x z ≡ Equal) → (xs ys ls rs mid new : List X) → IsBegun cmp from f xs ys ls rs [] mid
+    pub begun-set_of : f false false ≡ false → ((x z : X) → from x z → cmp x z ≡ Equal)
+        → (xs ys ls rs mid new : List X) → IsBegun cmp from f xs ys ls rs [] mid
         → IsBuilt (both_sides cmp) (KeptAt f from from) ls rs mid new → IsSetOf cmp from from f xs ys new
     begun-set_of none equal xs ys ls rs mid new h k =
         let whole = appends-append (KeptAt f from from) h.events k.events [] mid new h.appends k.appends in
@@ -196,12 +236,15 @@ module _ {X : Type 0} (cmp : X → X → Ordering) (total : IsTotalOrder cmp) (f
         (subst (λ l. Gathers (KeptAt f from from) (h.events ++ k.events) l) (sym whole.items) whole.gathered)
 
 -- a reference more, where it is kept
-pub kept-more : {X : Type 0} (ps : List (Bor X)) (n m : ℕ) (p : Bor X) (z : X) (b : Bool) → n < length ps → p.now ≡ z → m ≡ n + from_bool b
+pub kept-more : {X : Type 0} (ps : List (Bor X)) (n m : ℕ) (p : Bor X) (z : X) (b : Bool) → n < length ps → p.now ≡ z
+    → m ≡ n + from_bool b
     → map (λ r. r.now) (take m (set ps n p)) ≡ map (λ r. r.now) (take n ps) ++ elim b [ true ↦ z ∷ [] | false ↦ [] ]
 kept-more ps n m p z true h e k =
-    ap (map (λ r. r.now)) (take-set_at ps n m p k h) ∙ map-append (λ r. r.now) (take n ps) (p ∷ []) ∙ ap (λ w. map (λ r. r.now) (take n ps) ++ w ∷ []) e
+    ap (map (λ r. r.now)) (take-set_at ps n m p k h) ∙ map-append (λ r. r.now) (take n ps) (p ∷ [])
+    ∙ ap (λ w. map (λ r. r.now) (take n ps) ++ w ∷ []) e
 kept-more ps n m p z false h e k =
-    ap (λ i. map (λ r. r.now) (take i (set ps n p))) (k ∙ (let same : n + 0 ≡ n = omega arith in same)) ∙ ap (map (λ r. r.now)) (take-set ps n p) ∙ sym (append-nil (map (λ r. r.now) (take n ps)))
+    ap (λ i. map (λ r. r.now) (take i (set ps n p))) (k ∙ (let same : n + 0 ≡ n = omega arith in same))
+    ∙ ap (map (λ r. r.now)) (take-set ps n p) ∙ sym (append-nil (map (λ r. r.now) (take n ps)))
 
 -- ---- how many comparisons
 

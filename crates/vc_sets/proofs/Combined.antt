@@ -17,23 +17,29 @@ module _ {X : Type 0} (cmp : X → X → Ordering) (total : IsTotalOrder cmp) (L
     (left_equal : (x z : X) → L x z → cmp x z ≡ Equal) (right_equal : (x z : X) → R x z → cmp x z ≡ Equal)
     (left right both : Bool) where
   -- what was built from nothing
-  built-set_of : (a b c old : List X) → old ≡ [] → IsBuilt (both_sides cmp) (KeptAt (keeps left right both) L R) a b old c → IsSetOf cmp L R (keeps left right both) a b c
+  built-set_of : (a b c old : List X) → old ≡ []
+      → IsBuilt (both_sides cmp) (KeptAt (keeps left right both) L R) a b old c → IsSetOf cmp L R (keeps left right both) a b c
   built-set_of a b c old e h =
       let added : c ≡ h.appends.added = h.appends.items ∙ ap (λ l. l ++ h.appends.added) e in
       set-of cmp total L R left_equal right_equal (keeps left right both) refl a b c h.events h.script
       (subst (λ l. Gathers (KeptAt (keeps left right both) L R) h.events l) (sym added) h.appends.gathered)
 
   module _ {M N : Type 0} (built : M → List X) (name : M → N) (op : Allows M X X) (first second : M → Answer → M → Type 0)
-      (from_a : (s t : M) (n : ℕ) (answer : Answer) → op.gives.from_a s n answer t → Advances built name L op.left s n left answer t)
-      (from_b : (s t : M) (n : ℕ) (answer : Answer) → op.gives.from_b s n answer t → Adds built name (λ y. GivesIf right (R y)) (take n (op.right s)) s answer t)
+      (from_a : (s t : M) (n : ℕ) (answer : Answer) → op.gives.from_a s n answer t
+      → Advances built name L op.left s n left answer t)
+      (from_b : (s t : M) (n : ℕ) (answer : Answer) → op.gives.from_b s n answer t
+      → Adds built name (λ y. GivesIf right (R y)) (take n (op.right s)) s answer t)
       (meets : (s t : M) (answer : Answer) → op.gives.collision s answer t → Both first second s answer t)
       (takes : (s t : M) (answer : Answer) → first s answer t → Advances built name L op.left s 1 both answer t)
       (skips : (s t : M) (answer : Answer) → second s answer t → Skips built name s answer t) where
     -- the left one of two equal elements is taken, or skipped
-    takes-left : (s t : M) (answer : Answer) (x y : X) (xs : List X) → op.left s ≡ x ∷ xs → first s answer t → Adds built name (KeptAt (keeps left right both) L R) (collision x y ∷ []) s answer t
+    takes-left : (s t : M) (answer : Answer) (x y : X) (xs : List X) → op.left s ≡ x ∷ xs → first s answer t
+        → Adds built name (KeptAt (keeps left right both) L R) (collision x y ∷ []) s answer t
     takes-left s t answer x y xs e h =
-        adds-one built name (λ z. GivesIf both (L z)) (KeptAt (keeps left right both) L R) x (collision x y) (λ zs k. k) s t answer
-        (subst (λ l. Adds built name (λ z. GivesIf both (L z)) (take 1 l) s answer t) e (advances-adds built name L op.left s t 1 both answer (takes s t answer h)))
+        adds-one built name (λ z. GivesIf both (L z)) (KeptAt (keeps left right both) L R) x (collision x y)
+        (λ zs k. k) s t answer
+        (subst (λ l. Adds built name (λ z. GivesIf both (L z)) (take 1 l) s answer t) e
+        (advances-adds built name L op.left s t 1 both answer (takes s t answer h)))
 
     is-building : IsBuilding built name op (KeptAt (keeps left right both) L R)
     is-building = record {
@@ -44,8 +50,10 @@ module _ {X : Type 0} (cmp : X → X → Ordering) (total : IsTotalOrder cmp) (L
     }
 
     -- what a merge that was not refused has built, behind what was built before
-    pub merged-built : (s t : M) (a b old c : List X) → Finishes op (both_sides cmp) s t ⊎ Stops op (both_sides cmp) s (Ok false) t
-        → op.left s ≡ a → op.right s ≡ b → built s ≡ old → (name t ≡ name s → c ≡ built t) → IsBuilt (both_sides cmp) (KeptAt (keeps left right both) L R) a b old c
+    pub merged-built : (s t : M) (a b old c : List X)
+        → Finishes op (both_sides cmp) s t ⊎ Stops op (both_sides cmp) s (Ok false) t
+        → op.left s ≡ a → op.right s ≡ b → built s ≡ old → (name t ≡ name s → c ≡ built t)
+        → IsBuilt (both_sides cmp) (KeptAt (keeps left right both) L R) a b old c
     merged-built s t a b old c m l r e k =
         let w = merged-builds built name op (KeptAt (keeps left right both) L R) is-building (both_sides cmp) s t m in
         subst (λ z. IsBuilt (both_sides cmp) (KeptAt (keeps left right both) L R) a b old z) (sym (k w.0))
@@ -55,5 +63,6 @@ module _ {X : Type 0} (cmp : X → X → Ordering) (total : IsTotalOrder cmp) (L
 
     -- what a merge leaves that was not refused
     pub merged-set_of : (s t : M) (a b c : List X) → Finishes op (both_sides cmp) s t ⊎ Stops op (both_sides cmp) s (Ok false) t
-        → op.left s ≡ a → op.right s ≡ b → built s ≡ [] → (name t ≡ name s → c ≡ built t) → IsSetOf cmp L R (keeps left right both) a b c
+        → op.left s ≡ a → op.right s ≡ b → built s ≡ [] → (name t ≡ name s → c ≡ built t)
+        → IsSetOf cmp L R (keeps left right both) a b c
     merged-set_of s t a b c m l r e k = built-set_of a b c [] refl (merged-built s t a b [] c m l r e k)

@@ -1,5 +1,7 @@
 -- An ascending list with an element put in, replaced or taken out.
-use Rattle.std.proofs.Common.{◌≡◌, ℕ, zero, suc, ◌<◌, Bool, true, false, not, cond, ◌||◌, List, [], ◌∷◌, ◌++◌, length, take, drop, get_or, insert, set, Option, Some, is_some, refl, sym, ap, subst, ◌∙◌, arith}
+use Rattle.std.proofs.Common.{◌≡◌, ℕ, zero, suc, ◌<◌, Bool, true, false, not, cond, ◌||◌, List, [], ◌∷◌, ◌++◌, length}
+use Rattle.std.proofs.Common.{take, drop, get_or, insert, set, Option, Some, is_some, refl, sym, ap, subst, ◌∙◌}
+use Rattle.std.proofs.Common.{arith}
 use Rattle.std.proofs.Math.ListN.{take-append-drop}
 use Rattle.std.specs.List.{AllByRecursion}
 use Rattle.std.specs.List.Sorted.{IsStrictlySortedBy}
@@ -42,52 +44,72 @@ module _ {X : Type 0} (cmp : X → X → Ordering) (total : IsTotalOrder cmp) wh
       → Ascends cmp ys → AllByRecursion (λ y. cmp x y ≡ Less) ys → Ascends cmp (xs ++ x ∷ ys)
   unfolding IsStrictlySortedBy
   ascends-between [] x ys p q r s = (s, r)
-  ascends-between (a ∷ xs) x ys p q r s =
-      (each-append (λ y. cmp a y ≡ Less) xs (x ∷ ys) p.0 (q.0, each-weaker (λ y. cmp x y ≡ Less) (λ y. cmp a y ≡ Less) (λ y e. total.trans a x y q.0 e) ys s), ascends-between xs x ys p.1 q.1 r s)
+  ascends-between (a ∷ xs) x ys p q r s = (
+    each-append (λ y. cmp a y ≡ Less) xs (x ∷ ys) p.0
+        (q.0, each-weaker (λ y. cmp x y ≡ Less) (λ y. cmp a y ≡ Less) (λ y e. total.trans a x y q.0 e) ys s),
+    ascends-between xs x ys p.1 q.1 r s,
+  )
 
   -- ---- a new element
 
-  pub ascends-insert : (xs ys : List X) (x : X) (i : ℕ) → IsGap (λ y. cmp y x) xs i → Ascends cmp xs → ys ≡ insert xs i x → Ascends cmp ys
+  pub ascends-insert : (xs ys : List X) (x : X) (i : ℕ) → IsGap (λ y. cmp y x) xs i → Ascends cmp xs → ys
+      ≡ insert xs i x → Ascends cmp ys
   ascends-insert xs ys x i p q e =
       let parts : Ascends cmp (take i xs ++ drop i xs) = subst (λ l. Ascends cmp l) (sym (take-append-drop i xs)) q in
       subst (λ l. Ascends cmp l) (sym e) (ascends-between (take i xs) x (drop i xs) (ascends-front (take i xs) (drop i xs) parts)
       p.less (ascends-append cmp (take i xs) (drop i xs) parts) (gap-above cmp total xs x i p))
 
-  inserted-by : (b : Bool) (xs : List X) (x z : X) (i : ℕ) → AllByRecursion (λ y. cmp y x ≡ Less) (take i xs) → eq_by_cmp cmp x z ≡ b
-      → option_or (element_at cmp (take i xs) z) (cond b (Some x) (element_at cmp (drop i xs) z)) ≡ cond b (Some x) (element_at cmp xs z)
-  inserted-by true xs x z i p e = ap (λ o. option_or o (Some x)) (none-below cmp total (take i xs) x z p (equal-from_is_eq (cmp x z) e))
-  inserted-by false xs x z i p e = sym (element_at-append cmp (take i xs) (drop i xs) z) ∙ ap (λ l. element_at cmp l z) (take-append-drop i xs)
+  inserted-by : (b : Bool) (xs : List X) (x z : X) (i : ℕ) → AllByRecursion (λ y. cmp y x ≡ Less) (take i xs)
+      → eq_by_cmp cmp x z ≡ b
+      → option_or (element_at cmp (take i xs) z) (cond b (Some x) (element_at cmp (drop i xs) z))
+      ≡ cond b (Some x) (element_at cmp xs z)
+  inserted-by true xs x z i p e =
+      ap (λ o. option_or o (Some x)) (none-below cmp total (take i xs) x z p (equal-from_is_eq (cmp x z) e))
+  inserted-by false xs x z i p e = sym (element_at-append cmp (take i xs) (drop i xs) z)
+      ∙ ap (λ l. element_at cmp l z) (take-append-drop i xs)
 
-  pub element_at-insert : (xs ys : List X) (x : X) (i : ℕ) → IsGap (λ y. cmp y x) xs i → ys ≡ insert xs i x → (z : X) → element_at cmp ys z ≡ cond (eq_by_cmp cmp x z) (Some x) (element_at cmp xs z)
-  element_at-insert xs ys x i p e z = ap (λ l. element_at cmp l z) e ∙ element_at-append cmp (take i xs) (x ∷ drop i xs) z ∙ inserted-by (eq_by_cmp cmp x z) xs x z i p.less refl
+  pub element_at-insert : (xs ys : List X) (x : X) (i : ℕ) → IsGap (λ y. cmp y x) xs i → ys ≡ insert xs i x → (z : X)
+      → element_at cmp ys z ≡ cond (eq_by_cmp cmp x z) (Some x) (element_at cmp xs z)
+  element_at-insert xs ys x i p e z = ap (λ l. element_at cmp l z) e
+      ∙ element_at-append cmp (take i xs) (x ∷ drop i xs) z ∙ inserted-by (eq_by_cmp cmp x z) xs x z i p.less refl
 
   -- ---- a new element in the place of an equal one
 
   pub ascends-set : (xs : List X) (x : X) (i : ℕ) → StandsAt cmp xs x i → Ascends cmp xs → Ascends cmp (set xs i x)
   unfolding IsStrictlySortedBy
   ascends-set [] x i h p = tt
-  ascends-set (y ∷ ys) x zero h p = (each-weaker (λ z. cmp y z ≡ Less) (λ z. cmp x z ≡ Less) (λ z k. sym (total.congr y x z (h.1 x)) ∙ k) ys p.0, p.1)
+  ascends-set (y ∷ ys) x zero h p =
+      (each-weaker (λ z. cmp y z ≡ Less) (λ z. cmp x z ≡ Less) (λ z k. sym (total.congr y x z (h.1 x)) ∙ k) ys p.0, p.1)
   ascends-set (y ∷ ys) x (suc i) h p =
-      let k : i < length ys = omega (arith, h.0) in
-      (each-set (λ z. cmp y z ≡ Less) ys i x (sym (alike_right total (get_or ys i x) x y (h.1 x)) ∙ each-at (λ z. cmp y z ≡ Less) ys i x k p.0) p.0, ascends-set ys x i (k, h.1) p.1)
+      let k : i < length ys = omega (arith, h.0) in (
+        each-set (λ z. cmp y z ≡ Less) ys i x
+            (sym (alike_right total (get_or ys i x) x y (h.1 x)) ∙ each-at (λ z. cmp y z ≡ Less) ys i x k p.0)
+            p.0,
+        ascends-set ys x i (k, h.1) p.1,
+      )
 
-  replaced-by : (b : Bool) (x y z : X) (o : Option X) → cmp y x ≡ Equal → eq_by_cmp cmp x z ≡ b → cond b (Some x) o ≡ cond b (Some x) (cond (eq_by_cmp cmp y z) (Some y) o)
+  replaced-by : (b : Bool) (x y z : X) (o : Option X) → cmp y x ≡ Equal → eq_by_cmp cmp x z ≡ b → cond b (Some x) o
+      ≡ cond b (Some x) (cond (eq_by_cmp cmp y z) (Some y) o)
   replaced-by true x y z o e f = refl
   replaced-by false x y z o e f = sym (ap (λ c. cond c (Some y) o) (sym (equal-alike cmp total y x z e) ∙ f))
 
   passed-by : (b : Bool) (x y z : X) (o : Option X) → cmp y x ≡ Less → eq_by_cmp cmp x z ≡ b
       → cond (eq_by_cmp cmp y z) (Some y) (cond b (Some x) o) ≡ cond b (Some x) (cond (eq_by_cmp cmp y z) (Some y) o)
-  passed-by true x y z o e f = ap (λ c. cond c (Some y) (Some x)) (ap is_eq (sym (alike_right total x z y (equal-from_is_eq (cmp x z) f)) ∙ e))
+  passed-by true x y z o e f = ap (λ c. cond c (Some y) (Some x))
+      (ap is_eq (sym (alike_right total x z y (equal-from_is_eq (cmp x z) f)) ∙ e))
   passed-by false x y z o e f = refl
 
-  pub element_at-set : (xs : List X) (x : X) (i : ℕ) → StandsAt cmp xs x i → Ascends cmp xs → (z : X) → element_at cmp (set xs i x) z ≡ cond (eq_by_cmp cmp x z) (Some x) (element_at cmp xs z)
+  pub element_at-set : (xs : List X) (x : X) (i : ℕ) → StandsAt cmp xs x i → Ascends cmp xs → (z : X)
+      → element_at cmp (set xs i x) z ≡ cond (eq_by_cmp cmp x z) (Some x) (element_at cmp xs z)
   unfolding IsStrictlySortedBy
   element_at-set [] x i h p z = absurd (omega (arith, h.0))
   element_at-set (y ∷ ys) x zero h p z = replaced-by (eq_by_cmp cmp x z) x y z (element_at cmp ys z) (h.1 x) refl
   element_at-set (y ∷ ys) x (suc i) h p z =
       let k : i < length ys = omega (arith, h.0) in
-      let below : cmp y x ≡ Less = sym (alike_right total (get_or ys i x) x y (h.1 x)) ∙ each-at (λ z. cmp y z ≡ Less) ys i x k p.0 in
-      ap (λ o. cond (eq_by_cmp cmp y z) (Some y) o) (element_at-set ys x i (k, h.1) p.1 z) ∙ passed-by (eq_by_cmp cmp x z) x y z (element_at cmp ys z) below refl
+      let below : cmp y x ≡ Less = sym (alike_right total (get_or ys i x) x y (h.1 x))
+      ∙ each-at (λ z. cmp y z ≡ Less) ys i x k p.0 in
+      ap (λ o. cond (eq_by_cmp cmp y z) (Some y) o) (element_at-set ys x i (k, h.1) p.1 z)
+      ∙ passed-by (eq_by_cmp cmp x z) x y z (element_at cmp ys z) below refl
 
   -- ---- members follow from what is kept
 
@@ -98,7 +120,8 @@ module _ {X : Type 0} (cmp : X → X → Ordering) (total : IsTotalOrder cmp) wh
   pub members-put : (xs ys : List X) (x : X) → ((z : X)
       → element_at cmp ys z ≡ cond (eq_by_cmp cmp x z) (Some x) (element_at cmp xs z)) → (z : X)
       → member cmp ys z ≡ (eq_by_cmp cmp x z || member cmp xs z)
-  members-put xs ys x h z = member-is_some cmp ys z ∙ ap is_some (h z) ∙ some-by (eq_by_cmp cmp x z) x (element_at cmp xs z) ∙ ap (λ b. eq_by_cmp cmp x z || b) (sym (member-is_some cmp xs z))
+  members-put xs ys x h z = member-is_some cmp ys z ∙ ap is_some (h z)
+      ∙ some-by (eq_by_cmp cmp x z) x (element_at cmp xs z) ∙ ap (λ b. eq_by_cmp cmp x z || b) (sym (member-is_some cmp xs z))
 
   -- ---- the answer
 

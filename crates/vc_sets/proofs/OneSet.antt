@@ -1,5 +1,6 @@
 -- An operation makes one list of two sets, and its members are those that its name says.
-use Rattle.std.proofs.Common.{◌≡◌, ◌↔◌, Bool, true, false, ◌||◌, ◌&&◌, List, [], ◌∷◌, ◌⊎◌, inl, inr, ⊎_elim, Option, Some, None, IsSomeAnd, MatchBool, IsTrue, is_some, refl, sym, ap, subst, ◌∙◌}
+use Rattle.std.proofs.Common.{◌≡◌, ◌↔◌, Bool, true, false, ◌||◌, ◌&&◌, List, [], ◌∷◌, ◌⊎◌, inl, inr, ⊎_elim, Option}
+use Rattle.std.proofs.Common.{Some, None, IsSomeAnd, MatchBool, IsTrue, is_some, refl, sym, ap, subst, ◌∙◌}
 use mathlib.Core.Bool.{true≢false}
 use Rattle.std.specs.Cmp.{IsTotalOrder, tied_itself}
 use Rattle.std.specs.List.{AllZip}
@@ -9,7 +10,8 @@ use Rattle.std.specs.declared.cmp.Ordering.TheVariants.{Equal}
 use Rattle.vc_merge.specs.Ascending.{member, element_at}
 use Rattle.vc_merge.proofs.OneList.{members-tell_the_list}
 use Rattle.vc_sets.specs.SetOf.{Keeps, IsSetOf, and_not, exactly_one}
-use Rattle.vc_sets.specs.Laws.{InEachWay, SetOfIsOne, SetOfIsOneUpToEqual, OperationsInWords, UnionKeepsTheLeft, TestsAreOfOperations}
+use Rattle.vc_sets.specs.Laws.{InEachWay, SetOfIsOne, SetOfIsOneUpToEqual, OperationsInWords, UnionKeepsTheLeft}
+use Rattle.vc_sets.specs.Laws.{TestsAreOfOperations}
 
 -- ---- the words on two tests
 
@@ -55,14 +57,16 @@ by-words {P} e h = subst (λ b. IsTrue b ↔ P) (sym e) h
 
 module _ {X : Type 0} (f : Bool → Bool → Bool) where
   -- where an element is taken as it is, one is kept
-  one-by : (b : Bool) (x : X) (p q : Option X) → MatchBool b (IsSomeAnd p (λ z. x ≡ z)) (p ≡ None) → MatchBool b (IsSomeAnd q (λ z. x ≡ z)) (q ≡ None) → p ≡ q
+  one-by : (b : Bool) (x : X) (p q : Option X) → MatchBool b (IsSomeAnd p (λ z. x ≡ z)) (p ≡ None)
+      → MatchBool b (IsSomeAnd q (λ z. x ≡ z)) (q ≡ None) → p ≡ q
   one-by true x (Some y) (Some z) h k = ap (λ w. Some w) (sym h ∙ k)
   one-by true x (Some y) None h k = absurd k
   one-by true x None q h k = absurd h
   one-by false x p q h k = h ∙ sym k
 
   -- what is kept in one place is one
-  one-kept : (left right p q : Option X) → Keeps f (λ x z. x ≡ z) (λ y z. y ≡ z) left right p → Keeps f (λ x z. x ≡ z) (λ y z. y ≡ z) left right q → p ≡ q
+  one-kept : (left right p q : Option X) → Keeps f (λ x z. x ≡ z) (λ y z. y ≡ z) left right p
+      → Keeps f (λ x z. x ≡ z) (λ y z. y ≡ z) left right q → p ≡ q
   one-kept (Some x) right p q h k = one-by (f true (is_some right)) x p q h k
   one-kept None (Some y) p q h k = one-by (f false true) y p q h k
   one-kept None None p q h k = h ∙ sym k
@@ -77,7 +81,8 @@ module _ {X : Type 0} (cmp : X → X → Ordering) (total : IsTotalOrder cmp) wh
   module _ (L R : X → X → Type 0) where
     -- what an operation makes of two sets is one list up to equality
     pub set-of_is_one_up_to_equal : SetOfIsOneUpToEqual cmp L R
-    set-of_is_one_up_to_equal f a b c d s t = (members-tell_the_list cmp total).members c d s.ascends t.ascends (λ x. s.members x ∙ sym (t.members x))
+    set-of_is_one_up_to_equal f a b c d s t =
+        (members-tell_the_list cmp total).members c d s.ascends t.ascends (λ x. s.members x ∙ sym (t.members x))
 
     -- the four operations are as named
     pub operations-in_words : OperationsInWords cmp L R
@@ -92,7 +97,8 @@ module _ {X : Type 0} (cmp : X → X → Ordering) (total : IsTotalOrder cmp) wh
     pub union-keeps_the_left : UnionKeepsTheLeft cmp L R
     union-keeps_the_left = record {
       left = λ a b c s x y e. subst (λ o. Keeps ◌||◌ L R o (element_at cmp b x) (element_at cmp c x)) e (s.kept x);
-      right = λ a b c s x y e h. subst (λ o. Keeps ◌||◌ L R None o (element_at cmp c x)) h (subst (λ o. Keeps ◌||◌ L R o (element_at cmp b x) (element_at cmp c x)) e (s.kept x));
+      right = λ a b c s x y e h. subst (λ o. Keeps ◌||◌ L R None o (element_at cmp c x)) h
+          (subst (λ o. Keeps ◌||◌ L R o (element_at cmp b x) (element_at cmp c x)) e (s.kept x));
     }
 
     -- ---- nothing is in a list that has no member
@@ -107,11 +113,13 @@ module _ {X : Type 0} (cmp : X → X → Ordering) (total : IsTotalOrder cmp) wh
     empty-member c x e h = not_true (sym (ap (λ l. member cmp l x) e) ∙ h)
 
     -- the members of an intersection
-    in-both : (a b c : List X) → IsSetOf cmp L R ◌&&◌ a b c → (x : X) → IsTrue (member cmp c x) ↔ (IsTrue (member cmp a x) × IsTrue (member cmp b x))
+    in-both : (a b c : List X) → IsSetOf cmp L R ◌&&◌ a b c → (x : X)
+        → IsTrue (member cmp c x) ↔ (IsTrue (member cmp a x) × IsTrue (member cmp b x))
     in-both a b c s = operations-in_words.intersection a b c s
 
     -- the members of a difference
-    in-left_alone : (a b c : List X) → IsSetOf cmp L R and_not a b c → (x : X) → IsTrue (member cmp c x) ↔ (IsTrue (member cmp a x) × (IsTrue (member cmp b x) → ⊥))
+    in-left_alone : (a b c : List X) → IsSetOf cmp L R and_not a b c → (x : X)
+        → IsTrue (member cmp c x) ↔ (IsTrue (member cmp a x) × (IsTrue (member cmp b x) → ⊥))
     in-left_alone a b c s = operations-in_words.difference a b c s
 
     -- a test that is not false is true
@@ -120,13 +128,15 @@ module _ {X : Type 0} (cmp : X → X → Ordering) (total : IsTotalOrder cmp) wh
     member-or_not false h = absurd (h not_true)
 
     -- the members of a union
-    in-either : (a b c : List X) → IsSetOf cmp L R ◌||◌ a b c → (x : X) → IsTrue (member cmp c x) ↔ (IsTrue (member cmp a x) ⊎ IsTrue (member cmp b x))
+    in-either : (a b c : List X) → IsSetOf cmp L R ◌||◌ a b c → (x : X)
+        → IsTrue (member cmp c x) ↔ (IsTrue (member cmp a x) ⊎ IsTrue (member cmp b x))
     in-either a b c s = operations-in_words.union a b c s
 
     -- lists that are equal place by place have the same members
     equal-members : (xs ys : List X) → AllZip (λ x y. cmp x y ≡ Equal) xs ys → (w : X) → member cmp xs w ≡ member cmp ys w
     equal-members [] [] h w = refl
-    equal-members (x ∷ xs) (y ∷ ys) h w = ap (λ o. is_eq o || member cmp xs w) (total.congr x y w h.0) ∙ ap (λ b. is_eq (cmp y w) || b) (equal-members xs ys h.1 w)
+    equal-members (x ∷ xs) (y ∷ ys) h w = ap (λ o. is_eq o || member cmp xs w) (total.congr x y w h.0)
+        ∙ ap (λ b. is_eq (cmp y w) || b) (equal-members xs ys h.1 w)
     equal-members [] (y ∷ ys) h w = absurd h
     equal-members (x ∷ xs) [] h w = absurd h
 
@@ -142,7 +152,8 @@ module _ {X : Type 0} (cmp : X → X → Ordering) (total : IsTotalOrder cmp) wh
         λ e x p. member-or_not (member cmp b x) (λ n. empty-member c x e ((in-left_alone a b c s x).1 (p, n))),
       );
       subset_by_union = λ a b c p s. (
-        (λ h. (members-tell_the_list cmp total).members c b s.ascends p (λ x. s.members x ∙ or-of_less (member cmp a x) (member cmp b x) (h x))),
+        (λ h. (members-tell_the_list cmp total).members c b s.ascends p
+            (λ x. s.members x ∙ or-of_less (member cmp a x) (member cmp b x) (h x))),
         λ e x m. sym (equal-members c b e x) ∙ (in-either a b c s x).1 (inl m),
       );
     }
@@ -150,4 +161,5 @@ module _ {X : Type 0} (cmp : X → X → Ordering) (total : IsTotalOrder cmp) wh
 -- a law of all relations holds in each way
 pub in-each_way : {X : Type 0} (is_clone : X → X → Type 0) (Law : (X → X → Type 0) → (X → X → Type 0) → Type 0)
     → ((L R : X → X → Type 0) → Law L R) → InEachWay is_clone Law
-in-each_way is_clone Law h = record { fresh = h is_clone is_clone; in_place = h (λ x z. x ≡ z) is_clone; moved = h (λ x z. x ≡ z) (λ y z. y ≡ z) }
+in-each_way is_clone Law h = record
+    { fresh = h is_clone is_clone; in_place = h (λ x z. x ≡ z) is_clone; moved = h (λ x z. x ≡ z) (λ y z. y ≡ z) }

@@ -1,5 +1,6 @@
 -- An ascending list with an element taken out.
-use Rattle.std.proofs.Common.{◌≡◌, ℕ, zero, suc, ◌<◌, Bool, true, false, not, cond, ◌&&◌, List, [], ◌∷◌, ◌++◌, length, take, drop, get_or, Option, Some, None, is_some, refl, sym, ap, ◌∙◌, arith}
+use Rattle.std.proofs.Common.{◌≡◌, ℕ, zero, suc, ◌<◌, Bool, true, false, not, cond, ◌&&◌, List, [], ◌∷◌, ◌++◌, length}
+use Rattle.std.proofs.Common.{take, drop, get_or, Option, Some, None, is_some, refl, sym, ap, ◌∙◌, arith}
 use Rattle.std.specs.List.{AllByRecursion}
 use Rattle.std.specs.List.Sorted.{IsStrictlySortedBy}
 use Rattle.std.specs.Cmp.{IsTotalOrder, alike_right}
@@ -33,13 +34,16 @@ module _ {X : Type 0} (cmp : X → X → Ordering) where
     -- ---- an equal element is taken out
 
     -- the element in front is the one that is taken out
-    first-by : (b : Bool) (y z : X) (ys : List X) → AllByRecursion (λ w. cmp y w ≡ Less) ys → eq_by_cmp cmp y z ≡ b → element_at cmp ys z ≡ cond b None (cond b (Some y) (element_at cmp ys z))
+    first-by : (b : Bool) (y z : X) (ys : List X) → AllByRecursion (λ w. cmp y w ≡ Less) ys → eq_by_cmp cmp y z ≡ b
+        → element_at cmp ys z ≡ cond b None (cond b (Some y) (element_at cmp ys z))
     first-by true y z ys p e = element_at-none cmp total y z ys p e
     first-by false y z ys p e = refl
 
     -- the one that is taken out stands behind
-    later-by : (b : Bool) (x y z : X) (o : Option X) → cmp y x ≡ Less → eq_by_cmp cmp x z ≡ b → cond (eq_by_cmp cmp y z) (Some y) (cond b None o) ≡ cond b None (cond (eq_by_cmp cmp y z) (Some y) o)
-    later-by true x y z o e f = ap (λ c. cond c (Some y) None) (ap is_eq (sym (alike_right total x z y (equal-from_is_eq (cmp x z) f)) ∙ e))
+    later-by : (b : Bool) (x y z : X) (o : Option X) → cmp y x ≡ Less → eq_by_cmp cmp x z ≡ b
+        → cond (eq_by_cmp cmp y z) (Some y) (cond b None o) ≡ cond b None (cond (eq_by_cmp cmp y z) (Some y) o)
+    later-by true x y z o e f = ap (λ c. cond c (Some y) None)
+        (ap is_eq (sym (alike_right total x z y (equal-from_is_eq (cmp x z) f)) ∙ e))
     later-by false x y z o e f = refl
 
     -- what stands where, without the element that is equal to x
@@ -49,11 +53,15 @@ module _ {X : Type 0} (cmp : X → X → Ordering) where
     unfolding IsStrictlySortedBy
     element_at-without [] x i h e p z = absurd (omega arith)
     element_at-without (y ∷ ys) x zero h e p z =
-        first-by (eq_by_cmp cmp y z) y z ys p.0 refl ∙ ap (λ b. cond b None (cond (eq_by_cmp cmp y z) (Some y) (element_at cmp ys z))) (sym (equal-alike cmp total y x z (e x)))
+        first-by (eq_by_cmp cmp y z) y z ys p.0 refl
+        ∙ ap (λ b. cond b None (cond (eq_by_cmp cmp y z) (Some y) (element_at cmp ys z)))
+        (sym (equal-alike cmp total y x z (e x)))
     element_at-without (y ∷ ys) x (suc i) h e p z =
         let k : i < length ys = omega arith in
-        let below : cmp y x ≡ Less = sym (alike_right total (get_or ys i x) x y (e x)) ∙ each-at (λ z. cmp y z ≡ Less) ys i x k p.0 in
-        ap (λ o. cond (eq_by_cmp cmp y z) (Some y) o) (element_at-without ys x i k e p.1 z) ∙ later-by (eq_by_cmp cmp x z) x y z (element_at cmp ys z) below refl
+        let below : cmp y x ≡ Less = sym (alike_right total (get_or ys i x) x y (e x))
+        ∙ each-at (λ z. cmp y z ≡ Less) ys i x k p.0 in
+        ap (λ o. cond (eq_by_cmp cmp y z) (Some y) o) (element_at-without ys x i k e p.1 z)
+        ∙ later-by (eq_by_cmp cmp x z) x y z (element_at cmp ys z) below refl
 
     -- ---- no equal element stands there
 
@@ -63,12 +71,14 @@ module _ {X : Type 0} (cmp : X → X → Ordering) where
     element_at-alike (y ∷ ys) x z e = (λ i. cond (is_eq (alike_right total x z y e i)) (Some y) (element_at-alike ys x z e i))
 
     -- nothing stands at what is equal to an element that is not there
-    nothing-by : (b : Bool) (xs : List X) (x z : X) → element_at cmp xs x ≡ None → eq_by_cmp cmp x z ≡ b → element_at cmp xs z ≡ cond b None (element_at cmp xs z)
+    nothing-by : (b : Bool) (xs : List X) (x z : X) → element_at cmp xs x ≡ None → eq_by_cmp cmp x z ≡ b
+        → element_at cmp xs z ≡ cond b None (element_at cmp xs z)
     nothing-by true xs x z n e = sym (element_at-alike xs x z (equal-from_is_eq (cmp x z) e)) ∙ n
     nothing-by false xs x z n e = refl
 
     -- what stands where, if no element is equal to x
-    pub element_at-not_there : (xs : List X) (x : X) (i : ℕ) → IsGap (λ y. cmp y x) xs i → (z : X) → element_at cmp xs z ≡ cond (eq_by_cmp cmp x z) None (element_at cmp xs z)
+    pub element_at-not_there : (xs : List X) (x : X) (i : ℕ) → IsGap (λ y. cmp y x) xs i → (z : X)
+        → element_at cmp xs z ≡ cond (eq_by_cmp cmp x z) None (element_at cmp xs z)
     element_at-not_there xs x i p z = nothing-by (eq_by_cmp cmp x z) xs x z (gap-none cmp total xs x i p) refl
 
     -- ---- members follow from what is kept
@@ -82,4 +92,6 @@ module _ {X : Type 0} (cmp : X → X → Ordering) where
     pub members-taken : (xs ys : List X) (x : X) → ((z : X)
         → element_at cmp ys z ≡ cond (eq_by_cmp cmp x z) None (element_at cmp xs z)) → (z : X)
         → member cmp ys z ≡ (not (eq_by_cmp cmp x z) && member cmp xs z)
-    members-taken xs ys x h z = member-is_some cmp ys z ∙ ap is_some (h z) ∙ none-by (eq_by_cmp cmp x z) (element_at cmp xs z) ∙ ap (λ b. not (eq_by_cmp cmp x z) && b) (sym (member-is_some cmp xs z))
+    members-taken xs ys x h z = member-is_some cmp ys z ∙ ap is_some (h z)
+        ∙ none-by (eq_by_cmp cmp x z) (element_at cmp xs z)
+        ∙ ap (λ b. not (eq_by_cmp cmp x z) && b) (sym (member-is_some cmp xs z))

@@ -1,5 +1,6 @@
 -- What a search in an ascending list finds.
-use Rattle.std.proofs.Common.{◌≡◌, ℕ, zero, suc, ◌<◌, Bool, true, false, ◌||◌, List, [], ◌∷◌, length, take, drop, get_or, None, is_some, Result, Ok, Err, is_ok, refl, sym, ap, ◌∙◌, arith}
+use Rattle.std.proofs.Common.{◌≡◌, ℕ, zero, suc, ◌<◌, Bool, true, false, ◌||◌, List, [], ◌∷◌, length, take, drop}
+use Rattle.std.proofs.Common.{get_or, None, is_some, Result, Ok, Err, is_ok, refl, sym, ap, ◌∙◌, arith}
 use Rattle.std.proofs.Math.ListN.{take-append-drop}
 use Rattle.std.specs.List.{AllByRecursion}
 use Rattle.std.specs.Cmp.{IsTotalOrder, alike_right, tied_itself}
@@ -18,13 +19,16 @@ or-true false = refl
 
 module _ {X : Type 0} (cmp : X → X → Ordering) (total : IsTotalOrder cmp) where
   -- nothing of what is below x stands at what is equal to x
-  pub none-below : (xs : List X) (x z : X) → AllByRecursion (λ y. cmp y x ≡ Less) xs → cmp x z ≡ Equal → element_at cmp xs z ≡ None
+  pub none-below : (xs : List X) (x z : X) → AllByRecursion (λ y. cmp y x ≡ Less) xs → cmp x z ≡ Equal
+      → element_at cmp xs z ≡ None
   none-below [] x z p e = refl
-  none-below (y ∷ ys) x z p e = element_at-later cmp y ys z (ap is_eq (sym (alike_right total x z y e) ∙ p.0)) ∙ none-below ys x z p.1 e
+  none-below (y ∷ ys) x z p e = element_at-later cmp y ys z (ap is_eq (sym (alike_right total x z y e) ∙ p.0))
+      ∙ none-below ys x z p.1 e
 
   -- what is behind a gap is above
   pub gap-above : (xs : List X) (x : X) (i : ℕ) → IsGap (λ y. cmp y x) xs i → AllByRecursion (λ y. cmp x y ≡ Less) (drop i xs)
-  gap-above xs x i p = each-weaker (λ y. cmp y x ≡ Greater) (λ y. cmp x y ≡ Less) (λ y e. total.antisymm x y ∙ ap ordering_reverse e) (drop i xs) p.greater
+  gap-above xs x i p = each-weaker (λ y. cmp y x ≡ Greater) (λ y. cmp x y ≡ Less)
+      (λ y e. total.antisymm x y ∙ ap ordering_reverse e) (drop i xs) p.greater
 
   -- nothing stands at a gap
   pub gap-none : (xs : List X) (x : X) (i : ℕ) → IsGap (λ y. cmp y x) xs i → element_at cmp xs x ≡ None
@@ -33,10 +37,12 @@ module _ {X : Type 0} (cmp : X → X → Ordering) (total : IsTotalOrder cmp) wh
       ∙ ap (λ o. option_or o (element_at cmp (drop i xs) x)) (none-below (take i xs) x x p.less (tied_itself total x))
       ∙ element_at-none cmp total x x (drop i xs) (gap-above xs x i p) (ap is_eq (tied_itself total x))
 
-  found-member : (xs : List X) (x : X) (i : ℕ) → i < length xs → ((d : X) → cmp (get_or xs i d) x ≡ Equal) → member cmp xs x ≡ true
+  found-member : (xs : List X) (x : X) (i : ℕ) → i < length xs → ((d : X) → cmp (get_or xs i d) x ≡ Equal)
+      → member cmp xs x ≡ true
   found-member [] x i h e = absurd (omega arith)
   found-member (y ∷ ys) x zero h e = ap (λ o. is_eq o || member cmp ys x) (e x)
-  found-member (y ∷ ys) x (suc i) h e = let k : i < length ys = omega arith in ap (λ b. eq_by_cmp cmp y x || b) (found-member ys x i k e) ∙ or-true (eq_by_cmp cmp y x)
+  found-member (y ∷ ys) x (suc i) h e = let k : i < length ys = omega arith in
+      ap (λ b. eq_by_cmp cmp y x || b) (found-member ys x i k e) ∙ or-true (eq_by_cmp cmp y x)
 
   -- a place is found where x is a member
   pub place-is_ok : (xs : List X) (x : X) (r : Result ℕ ℕ) → IsPlace (λ y. cmp y x) xs r → is_ok r ≡ member cmp xs x

@@ -20,7 +20,8 @@ member-or false c e = e
 
 module _ {X : Type 0} (cmp : X → X → Ordering) (total : IsTotalOrder cmp) where
   -- what is a member of a list above y is above y
-  above-by : (b : Bool) (y z w : X) (zs : List X) → eq_by_cmp cmp z w ≡ b → cmp y z ≡ Less → (member cmp zs w ≡ true → cmp y w ≡ Less)
+  above-by : (b : Bool) (y z w : X) (zs : List X) → eq_by_cmp cmp z w ≡ b → cmp y z ≡ Less
+      → (member cmp zs w ≡ true → cmp y w ≡ Less)
       → (b || member cmp zs w) ≡ true → cmp y w ≡ Less
   above-by true y z w zs e p rest h = sym (alike_right total z w y (equal-from_is_eq (cmp z w) e)) ∙ p
   above-by false y z w zs e p rest h = rest h
@@ -33,13 +34,15 @@ module _ {X : Type 0} (cmp : X → X → Ordering) (total : IsTotalOrder cmp) wh
   member-first x xs = ap (λ o. is_eq o || member cmp xs x) (tied_itself total x)
 
   -- x is below w, and y is not above x: then y is not equal to w
-  below-first : (b : Bool) (x y w : X) (ys : List X) → eq_by_cmp cmp y x ≡ b → AllByRecursion (λ z. cmp y z ≡ Less) ys → cmp x w ≡ Less
+  below-first : (b : Bool) (x y w : X) (ys : List X) → eq_by_cmp cmp y x ≡ b
+      → AllByRecursion (λ z. cmp y z ≡ Less) ys → cmp x w ≡ Less
       → (b || member cmp ys x) ≡ true → cmp y w ≡ Less
   below-first true x y w ys e p less h = total.congr y x w (equal-from_is_eq (cmp y x) e) ∙ less
   below-first false x y w ys e p less h = total.trans y x w (member-above y x ys p h) less
 
   -- so w stands behind y
-  later-by : (b : Bool) (y w : X) (ys : List X) → eq_by_cmp cmp y w ≡ b → cmp y w ≡ Less → (b || member cmp ys w) ≡ true → IsTrue (member cmp ys w)
+  later-by : (b : Bool) (y w : X) (ys : List X) → eq_by_cmp cmp y w ≡ b → cmp y w ≡ Less → (b || member cmp ys w)
+      ≡ true → IsTrue (member cmp ys w)
   later-by true y w ys e less h = absurd (true≢false (sym e ∙ less-is_eq (cmp y w) less))
   later-by false y w ys e less h = h
 

@@ -1,5 +1,6 @@
 -- What is left of a list that was sifted, by the name of its operation.
-use Rattle.std.proofs.Common.{◌≡◌, ℕ, Bool, true, false, not, ◌&&◌, List, length, take, Option, Some, None, is_some, IsSomeAnd, MatchBool, refl, sym, ap, subst, ◌∙◌}
+use Rattle.std.proofs.Common.{◌≡◌, ℕ, Bool, true, false, not, ◌&&◌, List, length, take, Option, Some, None, is_some}
+use Rattle.std.proofs.Common.{IsSomeAnd, MatchBool, refl, sym, ap, subst, ◌∙◌}
 use Rattle.smallvec.specs.SmallVec.{SmallVec, with_items}
 use Rattle.smallvec.proofs.SmallVecLemmas.{items-with_items}
 use Rattle.std.specs.declared.cmp.Ordering.{Ordering}
@@ -35,19 +36,27 @@ keeps-and_not false false = refl
 
 module _ {X : Type 0} (cmp : X → X → Ordering) (L R : X → X → Type 0) where
   -- the list was written through its slice, and cut off behind what was kept
-  sifted : (f : Bool → Bool → Bool) (v : SmallVec X) (view those that lent written new : List X) (kept : ℕ) → v.items ≡ view → lent ≡ v.items → those ≡ that → length written ≡ length lent
-      → new ≡ take kept (with_items v written).items → IsSetOf cmp L R f lent those (take kept written) → IsSetOf cmp L R f view that new
+  sifted : (f : Bool → Bool → Bool) (v : SmallVec X) (view those that lent written new : List X) (kept : ℕ) → v.items
+      ≡ view → lent ≡ v.items → those ≡ that → length written ≡ length lent
+      → new ≡ take kept (with_items v written).items → IsSetOf cmp L R f lent those (take kept written)
+      → IsSetOf cmp L R f view that new
   sifted f v view those that lent written new kept a b c l e s =
       let w = e ∙ ap (λ l. take kept l) (items-with_items v written (l ∙ ap length b)) in
-      subst (λ z. IsSetOf cmp L R f view that z) (sym w) (subst (λ z. IsSetOf cmp L R f view z (take kept written)) c (subst (λ z. IsSetOf cmp L R f z those (take kept written)) (b ∙ a) s))
+      subst (λ z. IsSetOf cmp L R f view that z) (sym w)
+      (subst (λ z. IsSetOf cmp L R f view z (take kept written)) c
+      (subst (λ z. IsSetOf cmp L R f z those (take kept written)) (b ∙ a) s))
 
-  pub sifted-and : (v : SmallVec X) (view those that lent written new : List X) (kept : ℕ) → v.items ≡ view → lent ≡ v.items → those ≡ that → length written ≡ length lent
-      → new ≡ take kept (with_items v written).items → IsSetOf cmp L R (keeps (not true) false true) lent those (take kept written) → IsSetOf cmp L R ◌&&◌ view that new
+  pub sifted-and : (v : SmallVec X) (view those that lent written new : List X) (kept : ℕ) → v.items ≡ view → lent
+      ≡ v.items → those ≡ that → length written ≡ length lent
+      → new ≡ take kept (with_items v written).items
+      → IsSetOf cmp L R (keeps (not true) false true) lent those (take kept written) → IsSetOf cmp L R ◌&&◌ view that new
   sifted-and v view those that lent written new kept a b c l e s = set_of-same (keeps (not true) false true) ◌&&◌ keeps-and L R
       cmp view that new (sifted (keeps (not true) false true) v view those that lent written new kept a b c l e s)
 
-  pub sifted-and_not : (v : SmallVec X) (view those that lent written new : List X) (kept : ℕ) → v.items ≡ view → lent ≡ v.items → those ≡ that → length written ≡ length lent
-      → new ≡ take kept (with_items v written).items → IsSetOf cmp L R (keeps (not false) false false) lent those (take kept written) → IsSetOf cmp L R and_not view that new
+  pub sifted-and_not : (v : SmallVec X) (view those that lent written new : List X) (kept : ℕ) → v.items ≡ view
+      → lent ≡ v.items → those ≡ that → length written ≡ length lent
+      → new ≡ take kept (with_items v written).items
+      → IsSetOf cmp L R (keeps (not false) false false) lent those (take kept written) → IsSetOf cmp L R and_not view that new
   sifted-and_not v view those that lent written new kept a b c l e s = set_of-same (keeps (not false) false false) and_not
       keeps-and_not L R cmp view that new
       (sifted (keeps (not false) false false) v view those that lent written new kept a b c l e s)

@@ -1,5 +1,6 @@
 -- A merge that stops at the first witness tells whether there is one.
-use Rattle.std.proofs.Common.{◌≡◌, Bool, true, false, not, ◌||◌, List, [], ◌∷◌, ◌++◌, map, Result, Ok, Err, refl, sym, ap, subst, ◌∙◌, arith, MatchBool, ⊎_elim}
+use Rattle.std.proofs.Common.{◌≡◌, Bool, true, false, not, ◌||◌, List, [], ◌∷◌, ◌++◌, map, Result, Ok, Err, refl, sym}
+use Rattle.std.proofs.Common.{ap, subst, ◌∙◌, arith, MatchBool, ⊎_elim}
 use mathlib.Core.Bool.{true≢false}
 use Rattle.std.specs.Cmp.{IsTotalOrder, tied_itself}
 use Rattle.std.specs.Ordering.{is_eq}
@@ -8,7 +9,8 @@ use Rattle.std.specs.declared.cmp.Ordering.TheVariants.{Equal}
 use Rattle.std.specs.declared.alloc.AllocError.{AllocError}
 use Rattle.vc_merge.specs.Ascending.{member}
 use Rattle.vc_merge.specs.Script.{Event, left_alone, right_alone, collision, IsScript}
-use Rattle.vc_merge.specs.Chain.{Answer, Allows, allows, Run, of_left, of_right, of_both, run_events, events, IsAtFront, IsAllowed, Step, Steps, Finishes, Stops, IsMerged}
+use Rattle.vc_merge.specs.Chain.{Answer, Allows, allows, Run, of_left, of_right, of_both, run_events, events}
+use Rattle.vc_merge.specs.Chain.{IsAtFront, IsAllowed, Step, Steps, Finishes, Stops, IsMerged}
 use Rattle.vc_sets.specs.SetOf.{IsSetOf}
 use Rattle.vc_merge.specs.Gathering.{Gathers, GivesIf}
 use Rattle.vc_merge.proofs.Builds.{gathers-append, gathers-map, gathers-none}
@@ -60,17 +62,25 @@ module _ {X : Type 0} (cmp : X → X → Ordering) (total : IsTotalOrder cmp) (l
 
   all-given : (es : List (Event X X)) → (zs : List X) × Gathers witness_at es zs
   all-given [] = ([], refl)
-  all-given (e ∷ es) = let first = given-at e in let rest = all-given es in (first.0 ++ rest.0, (first.0, rest.0, first.1, rest.1, refl))
+  all-given (e ∷ es) = let first = given-at e in let rest = all-given es in
+      (first.0 ++ rest.0, (first.0, rest.0, first.1, rest.1, refl))
 
-  witnesses : (a b zs : List X) (es : List (Event X X)) → IsScript (both_sides cmp) a b es → Gathers witness_at es zs → IsSetOf cmp (λ x z. x ≡ z) (λ y z. y ≡ z) witness a b zs
-  witnesses a b zs es s q = set-of cmp total (λ x z. x ≡ z) (λ y z. y ≡ z) (same-equal cmp total) (same-equal cmp total) witness refl a b zs es s q
+  witnesses : (a b zs : List X) (es : List (Event X X)) → IsScript (both_sides cmp) a b es → Gathers witness_at es zs
+      → IsSetOf cmp (λ x z. x ≡ z) (λ y z. y ≡ z) witness a b zs
+  witnesses a b zs es s q = set-of cmp total (λ x z. x ≡ z) (λ y z. y ≡ z) (same-equal cmp total)
+      (same-equal cmp total) witness refl a b zs es s q
 
-  none-given : (a b : List X) (es : List (Event X X)) → IsScript (both_sides cmp) a b es → Gathers witness_at es [] → (x : X) → witness (member cmp a x) (member cmp b x) ≡ false
+  none-given : (a b : List X) (es : List (Event X X)) → IsScript (both_sides cmp) a b es → Gathers witness_at es []
+      → (x : X) → witness (member cmp a x) (member cmp b x) ≡ false
   none-given a b es s q x = sym ((witnesses a b [] es s q).members x)
 
   some-given : (a b : List X) (es : List (Event X X)) (u : X) (us : List X) → IsScript (both_sides cmp) a b es
       → Gathers witness_at es (u ∷ us) → (x : X) × (witness (member cmp a x) (member cmp b x) ≡ true)
-  some-given a b es u us s q = (u, sym ((witnesses a b (u ∷ us) es s q).members u) ∙ ap (λ o. is_eq o || member cmp us u) (tied_itself total u))
+  some-given a b es u us s q = (
+    u,
+    sym ((witnesses a b (u ∷ us) es s q).members u)
+        ∙ ap (λ o. is_eq o || member cmp us u) (tied_itself total u),
+  )
 
   -- ---- the merge
 
@@ -91,16 +101,25 @@ module _ {X : Type 0} (cmp : X → X → Ordering) (total : IsTotalOrder cmp) (l
     gives-itself b u e = subst (λ b. GivesIf b (λ z. u ≡ z) (u ∷ [])) (sym e) (u, refl, refl)
 
     -- nothing was found by runs that were all answered by true
-    step-none : (s t : M) (run : Run X X) → Step witness_allows s run t → (found t ≡ found s) × Gathers witness_at (run_events run) []
+    step-none : (s t : M) (run : Run X X) → Step witness_allows s run t → (found t ≡ found s)
+        × Gathers witness_at (run_events run) []
     step-none s t (of_left xs) p =
-        let e = goes-on l p.allowed.0 in
-        (p.allowed.1 ∙ not-found_or (found s) l e, gathers-map witness_at (λ x. left_alone x) xs [] (gathers-none (λ x. witness_at (left_alone x)) (λ x. gives-none l x e) xs))
+        let e = goes-on l p.allowed.0 in (
+          p.allowed.1 ∙ not-found_or (found s) l e,
+          gathers-map witness_at (λ x. left_alone x) xs []
+              (gathers-none (λ x. witness_at (left_alone x)) (λ x. gives-none l x e) xs),
+        )
     step-none s t (of_right ys) p =
-        let e = goes-on r p.allowed.0 in
-        (p.allowed.1 ∙ not-found_or (found s) r e, gathers-map witness_at (λ y. right_alone y) ys [] (gathers-none (λ y. witness_at (right_alone y)) (λ y. gives-none r y e) ys))
-    step-none s t (of_both x y) p = let e = goes-on both p.allowed.0 in (p.allowed.1 ∙ not-found_or (found s) both e, ([], [], gives-none both x e, refl, refl))
+        let e = goes-on r p.allowed.0 in (
+          p.allowed.1 ∙ not-found_or (found s) r e,
+          gathers-map witness_at (λ y. right_alone y) ys []
+              (gathers-none (λ y. witness_at (right_alone y)) (λ y. gives-none r y e) ys),
+        )
+    step-none s t (of_both x y) p = let e = goes-on both p.allowed.0 in
+        (p.allowed.1 ∙ not-found_or (found s) both e, ([], [], gives-none both x e, refl, refl))
 
-    steps-none : (s t : M) (runs : List (Run X X)) → Steps witness_allows s runs t → (found t ≡ found s) × Gathers witness_at (events runs) []
+    steps-none : (s t : M) (runs : List (Run X X)) → Steps witness_allows s runs t → (found t ≡ found s)
+        × Gathers witness_at (events runs) []
     steps-none s t [] e = (ap found (sym e), refl)
     steps-none s t (run ∷ runs) e =
         let p = step-none s e.0 run e.1 in
@@ -108,7 +127,8 @@ module _ {X : Type 0} (cmp : X → X → Ordering) (total : IsTotalOrder cmp) (l
         (q.0 ∙ p.0, gathers-append witness_at (run_events run) (events runs) [] [] p.1 q.1)
 
     -- the last run was answered otherwise: it begins with a witness
-    last-some : (s t : M) (run : Run X X) (answer : Answer) (ls rs : List X) → IsAtFront (left s) (right s) run ls rs → IsAllowed witness_allows s run answer t → (answer ≡ Ok true → ⊥)
+    last-some : (s t : M) (run : Run X X) (answer : Answer) (ls rs : List X) → IsAtFront (left s) (right s) run ls rs
+        → IsAllowed witness_allows s run answer t → (answer ≡ Ok true → ⊥)
         → (found t ≡ true) × ((u : X) × (us : List X) × Gathers witness_at (run_events run) (u ∷ us))
     last-some s t (of_left []) answer ls rs p q stop = let none = p.0 in absurd (omega arith)
     last-some s t (of_left (x ∷ xs)) answer ls rs p q stop =
@@ -120,15 +140,18 @@ module _ {X : Type 0} (cmp : X → X → Ordering) (total : IsTotalOrder cmp) (l
         let e = stops-at r answer q.0 stop in
         let rest = all-given (map (λ y. right_alone y) ys) in
         (q.1 ∙ found-or (found s) r e, (y, rest.0, (y ∷ [], rest.0, gives-itself r y e, rest.1, refl)))
-    last-some s t (of_both x y) answer ls rs p q stop = let e = stops-at both answer q.0 stop in (q.1 ∙ found-or (found s) both e, (x, [], (x ∷ [], [], gives-itself both x e, refl, refl)))
+    last-some s t (of_both x y) answer ls rs p q stop = let e = stops-at both answer q.0 stop in
+        (q.1 ∙ found-or (found s) both e, (x, [], (x ∷ [], [], gives-itself both x e, refl, refl)))
 
     -- whether there is a witness
     Tells : Bool → List X → List X → Type 0
-    Tells c a b = MatchBool c ((x : X) × (witness (member cmp a x) (member cmp b x) ≡ true)) ((x : X) → witness (member cmp a x) (member cmp b x) ≡ false)
+    Tells c a b = MatchBool c ((x : X) × (witness (member cmp a x) (member cmp b x) ≡ true))
+        ((x : X) → witness (member cmp a x) (member cmp b x) ≡ false)
 
     finished : (s t : M) → found s ≡ false → Finishes witness_allows (both_sides cmp) s t → Tells (found t) (left s) (right s)
     unfolding Tells
-    finished s t g w = let p = steps-none s t w.runs w.steps in subst (λ c. Tells c (left s) (right s)) (sym (p.0 ∙ g)) (none-given (left s) (right s) (events w.runs) w.script p.1)
+    finished s t g w = let p = steps-none s t w.runs w.steps in
+        subst (λ c. Tells c (left s) (right s)) (sym (p.0 ∙ g)) (none-given (left s) (right s) (events w.runs) w.script p.1)
 
     stopped : (s t : M) (answer : Answer) → Stops witness_allows (both_sides cmp) s answer t → Tells (found t) (left s) (right s)
     unfolding Tells
@@ -138,11 +161,14 @@ module _ {X : Type 0} (cmp : X → X → Ordering) (total : IsTotalOrder cmp) (l
         let rest = all-given w.rest in
         let until = gathers-append witness_at (events w.runs) (run_events w.last) [] (q.1.0 ∷ q.1.1) p.1 q.1.2 in
         let all = gathers-append witness_at (events w.runs ++ run_events w.last) w.rest (q.1.0 ∷ q.1.1) rest.0 until rest.1 in
-        subst (λ c. Tells c (left s) (right s)) (sym q.0) (some-given (left s) (right s) ((events w.runs ++ run_events w.last) ++ w.rest) q.1.0 (q.1.1 ++ rest.0) w.script all)
+        subst (λ c. Tells c (left s) (right s)) (sym q.0)
+        (some-given (left s) (right s) ((events w.runs ++ run_events w.last) ++ w.rest) q.1.0 (q.1.1 ++ rest.0) w.script all)
 
     -- the merge tells whether there is a witness
-    pub witnessed : (s t : M) (answer : Result (Unit {0}) AllocError) → found s ≡ false → IsMerged witness_allows (both_sides cmp) s answer t
-        → MatchBool (found t) ((x : X) × (witness (member cmp (left s) x) (member cmp (right s) x) ≡ true)) ((x : X) → witness (member cmp (left s) x) (member cmp (right s) x) ≡ false)
+    pub witnessed : (s t : M) (answer : Result (Unit {0}) AllocError) → found s ≡ false
+        → IsMerged witness_allows (both_sides cmp) s answer t
+        → MatchBool (found t) ((x : X) × (witness (member cmp (left s) x) (member cmp (right s) x) ≡ true))
+        ((x : X) → witness (member cmp (left s) x) (member cmp (right s) x) ≡ false)
     unfolding Tells
     witnessed s t (Ok u) g m = ⊎_elim (λ w. finished s t g w) (λ w. stopped s t (Ok false) w) m
     witnessed s t (Err x) g m = stopped s t (Err x) m

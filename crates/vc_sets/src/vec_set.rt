@@ -1,5 +1,6 @@
 //! `VecSet`, a small set as an ascending list.
-ghost use Rattle.std.specs.Prelude.{◌≡◌, ◌<◌, ◌-◌, ◌||◌, ◌↔◌, [], ◌==◌, List, not, cond, Some, length, slice_get, IfOk, IsOk, OnErr, IsTrue};
+ghost use Rattle.std.specs.Prelude.{◌≡◌, ◌<◌, ◌-◌, ◌||◌, ◌↔◌, [], ◌==◌, List, not, cond, Some, filter, length, slice_get, IfOk, IsOk, OnErr, IsTrue};
+ghost use Rattle.std.specs.BTreeMap.Range.{range_contains};
 ghost use Rattle.std.specs.Option.{option_copied};
 ghost use Rattle.std.specs.Ordering.{eq_by_cmp};
 ghost use Rattle.vc_merge.specs.Ascending.{Ascends, member, element_at};
@@ -20,10 +21,11 @@ use smallvec::SmallVec;
 use std::alloc::{AllocError, Allocator, Global};
 use std::default::MadeWith;
 use std::marker::Model;
+use std::ops::RangeBounds;
 use std::slice;
 use vc_merge::iterators::VecSetIter;
 use vc_merge::moving::insert_at;
-use vc_merge::search::find;
+use vc_merge::search::{elements_between, find};
 
 /// A set, as a list of its elements in ascending order. Up to `N` of them stand in place, without
 /// an allocation, unless the list was once given room for more: then it keeps its block until
@@ -199,6 +201,22 @@ pub trait AbstractVecSet<T: Ord> {
         ensures { result ≡ member T.cmp (elements self.now) value.now }
     {
         find(self.as_slice(), value).is_ok()
+    }
+
+    /// The elements that lie in a range of elements, in ascending order. A range that runs
+    /// backwards has none.
+    ///
+    /// Compares as often as `contains` for each end that the range has, and takes no memory.
+    ///
+    /// ```
+    /// assert!(primes.range(3..11) == [3, 5, 7].as_slice());
+    /// assert!(primes.range(..=2) == [2].as_slice());
+    /// ```
+    final fn range<R: RangeBounds<T>>(&self, range: R) -> &[T]
+        ensures { R.has_bounds range → result.now ≡ filter
+            (range_contains T.cmp (R.start_bound range) (R.end_bound range)) (elements self.now) }
+    {
+        elements_between(self.as_slice(), range)
     }
 
     /// Whether no element is in both sets. It stops at the first that is, and takes no memory.

@@ -1,9 +1,9 @@
 //! Sets from elements and lists, and lists from sets.
-ghost use Rattle.std.specs.Prelude.{◌≡◌, ◌≤◌, [], ◌∷◌, IsOk, IfOk};
+ghost use Rattle.std.specs.Prelude.{◌≡◌, ◌≤◌, [], ◌∷◌, IsOk, IfOk, reverse};
 ghost use Rattle.std.specs.Iterator.{Drains, IsFinite};
 ghost use Rattle.std.specs.Iterator.Runs.{WholeRun};
 ghost use Rattle.std.specs.List.{AllZip};
-ghost use Rattle.vc_merge.specs.Ascending.{Ascends};
+ghost use Rattle.vc_merge.specs.Ascending.{Ascends, element_at, member};
 ghost use Rattle.vc_merge.specs.Clones.{ClonesAreEqual};
 
 use super::VecSet;
@@ -22,6 +22,20 @@ pub fn set_of_list<T: Ord, const N: usize, A: Allocator>(
     ensures { result ≡ elements.items }
 {
     VecSet { elements }
+}
+
+/// The elements of a list in ascending order, and of equal ones the last alone.
+fn in_order<T: Ord + Drop>(vec: Vec<T>) -> Result<Vec<T>, AllocError>
+    ensures ascends { IfOk result (λ list. Ascends T.cmp list.items) }
+    ensures kept { IfOk result
+        (λ list. (x : T) → element_at T.cmp list.items x ≡ element_at T.cmp (reverse vec.items) x) }
+{
+    let mut list = vec;
+    list.reverse();
+    // A stable sort leaves what was the last of equal elements in front of the others.
+    list.sort()?;
+    list.dedup();
+    Ok(list)
 }
 
 impl<T: Ord, const N: usize, A: Allocator> VecSet<T, N, A> {
@@ -70,6 +84,26 @@ impl<T: Ord + MadeWith<A> + Drop, const N: usize, A: Allocator + Copy> VecSet<T,
         ensures { IfOk result (λ s. s ≡ set.keys) }
     {
         Self::from_iter(alloc, set.into_iter())
+    }
+
+    /// The set of the elements of a list that may stand in any order. Of equal elements the last
+    /// one of the list is kept, as if each were inserted in turn. The elements are moved.
+    ///
+    /// Sorts in the place of the list, and compares `O(n * log(n))` times. Takes memory for the
+    /// sort where there are more than 20, from the allocator of the list, and where more than `N`
+    /// are left; refused, it drops the elements.
+    ///
+    /// ```
+    /// let primes: VecSet<u32, 4> = VecSet::from_unsorted(alloc, vec![in alloc; 5, 2, 3, 2]?)?;
+    /// assert!(primes.as_ref() == [2, 3, 5].as_slice());
+    /// ```
+    pub fn from_unsorted(alloc: A, vec: Vec<T>) -> Result<Self, AllocError>
+        ensures members { IfOk result
+            (λ s. (x : T) → member T.cmp s x ≡ member T.cmp vec.items x) }
+        ensures kept { IfOk result
+            (λ s. (x : T) → element_at T.cmp s x ≡ element_at T.cmp (reverse vec.items) x) }
+    {
+        Self::from_vec(alloc, in_order(vec)?)
     }
 
     /// The elements in ascending order, as a `Vec`.

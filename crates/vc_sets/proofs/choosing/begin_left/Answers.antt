@@ -6,10 +6,14 @@ use Rattle.vc_sets.proofs.choosing.begin_left.Goals as goal
 
 pub returns-then-this-ne0-clause-begun : goal.returns-then-this-ne0-clause-begun
 returns-then-this-ne0-clause-begun g c =
-    subst (λ (both : Bool). IfOk c.begin.result (λ rest. IsBegun g.T.Ord.cmp g.T.Clone.is_clone (keeps (not both) false both) c.args.a.now c.args.b.now
-    rest.0.now rest.1.now c.args.built.now.items c.begin.new.built.items)) (sym (set-true g.row.BOTH c.if-this-ne0.true)) c.begin.ensures.begun
+    subst (λ (both : Bool). IfOk c.begin.result
+    (λ rest. IsBegun g.T.Ord.cmp g.T.Clone.is_clone (keeps (not both) false both) c.args.a.now c.args.b.now
+    rest.0.now rest.1.now c.args.built.now.items c.begin.new.built.items))
+    (sym (set-true g.row.BOTH c.if-this-ne0.true)) c.begin.ensures.begun
 
 pub returns-else-this-ne0-clause-begun : goal.returns-else-this-ne0-clause-begun
 returns-else-this-ne0-clause-begun g c =
-    subst (λ (both : Bool). IfOk c.begin-else-this-ne0.result (λ rest. IsBegun g.T.Ord.cmp g.T.Clone.is_clone (keeps (not both) false both) c.args.a.now c.args.b.now
-    rest.0.now rest.1.now c.args.built.now.items c.begin-else-this-ne0.new.built.items)) (sym (set-false g.row.BOTH c.if-this-ne0.false)) c.begin-else-this-ne0.ensures.begun
+    subst (λ (both : Bool). IfOk c.begin-else-this-ne0.result
+    (λ rest. IsBegun g.T.Ord.cmp g.T.Clone.is_clone (keeps (not both) false both) c.args.a.now c.args.b.now
+    rest.0.now rest.1.now c.args.built.now.items c.begin-else-this-ne0.new.built.items))
+    (sym (set-false g.row.BOTH c.if-this-ne0.false)) c.begin-else-this-ne0.ensures.begun

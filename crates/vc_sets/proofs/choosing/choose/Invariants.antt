@@ -1,7 +1,6 @@
 use Rattle.std.proofs.Common.{◌≡◌, ◌+◌, ◌-◌, ◌≤◌, [], drop, take, map, length}
 use Rattle.vc_sets.specs.Begun.{IsBegun}
-use Rattle.vc_sets.specs.Select.{keeps}
-use Rattle.vc_sets.proofs.Begun.{is_set}
+use Rattle.vc_sets.proofs.Begun.{keeps_by}
 use Rattle.vc_sets.proofs.choosing.choose.Given as goal
 
 abbrev pub invariant-events : goal.invariant-events
@@ -13,7 +12,8 @@ invariant-events g l = record {
   some : l.count ≤ l.left + l.right;
   few : l.left + l.right ≤ 64;
   counted : g.C.Count.counted l.steps ≤ g.C.Count.counted l.fn.steps + (l.left + l.right);
-  begun : IsBegun g.T.Ord.cmp (λ x y. x ≡ y) (keeps (is_set g.row.LEFT) (is_set g.row.RIGHT) (is_set g.row.BOTH)) l.a l.b (drop l.left l.a) (drop l.right l.b) [] (map (λ p. p.now) (take l.count l.kept));
+  begun : IsBegun g.T.Ord.cmp (λ x y. x ≡ y) (keeps_by g.row.LEFT g.row.RIGHT g.row.BOTH)
+      l.a l.b (drop l.left l.a) (drop l.right l.b) [] (map (λ p. p.now) (take l.count l.kept));
 }
 
 abbrev pub decreases-events : goal.decreases-events

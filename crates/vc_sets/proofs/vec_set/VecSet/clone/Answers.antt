@@ -6,4 +6,5 @@ use Rattle.vc_sets.proofs.vec_set.VecSet.clone.Goals as goal
 pub invariant_of-result : goal.invariant_of-result
 invariant_of-result g c =
     let ascends = subst (λ l. Ascends g.T.Ord.cmp l) (sym c.as_slice.ensures) c.self.invariant in
-    clones-ascend g.T.Ord.cmp g.met.T.Ord.total g.T.Clone.is_clone (clone-equal g.T.Ord.cmp g.met.T.Ord.total g.T.Clone.is_clone c.requires) _ _ c.in_ok-elements.ensures ascends
+    clones-ascend g.T.Ord.cmp g.met.T.Ord.total g.T.Clone.is_clone
+    (clone-equal g.T.Ord.cmp g.met.T.Ord.total g.T.Clone.is_clone c.requires) _ _ c.in_ok-elements.ensures ascends

@@ -5,7 +5,8 @@ use Rattle.vc_merge.proofs.Chosen.{all-taken}
 use Rattle.vc_sets.proofs.vec_set.VecSet.from_btree_set.Goals as goal
 
 -- what drains the iterator over a list is the list
-drained : {X E : Type 0} (ks keys : List X) (r : Result (List X) E) → ks ≡ keys → IfOk r (λ s. Drains (TakesFirst (λ x. x)) ks s) → IfOk r (λ s. s ≡ keys)
+drained : {X E : Type 0} (ks keys : List X) (r : Result (List X) E) → ks ≡ keys
+    → IfOk r (λ s. Drains (TakesFirst (λ x. x)) ks s) → IfOk r (λ s. s ≡ keys)
 drained ks keys (Ok s) e d = all-taken ks d.1.0 s d.0 d.1.1 d.1.2 ∙ e
 drained ks keys (Err x) e d = tt
 

@@ -20,7 +20,8 @@ written xs ys i x e =
 pub invariant_of-self : goal.invariant_of-self
 invariant_of-self g c =
     let p = subst (λ l. IsFound (λ y. g.T.Ord.cmp y c.args.that) l c.in-Ok.index) c.as_slice.ensures c.in-Ok.ensures in
-    rw (written _ _ c.in-Ok.index c.args.that c.as_mut_slice.ensures.value) (ascends-set g.T.Ord.cmp g.met.T.Ord.total _ c.args.that c.in-Ok.index (p.within, p.equal) c.self.invariant)
+    rw (written _ _ c.in-Ok.index c.args.that c.as_mut_slice.ensures.value)
+    (ascends-set g.T.Ord.cmp g.met.T.Ord.total _ c.args.that c.in-Ok.index (p.within, p.equal) c.self.invariant)
 
 pub returns-in-Ok-clause-kept : goal.returns-in-Ok-clause-kept
 returns-in-Ok-clause-kept g c =
@@ -37,21 +38,25 @@ returns-in-Ok-clause-members g c = members-put g.T.Ord.cmp g.met.T.Ord.total _ _
 pub invariant_of-self-in-Err : goal.invariant_of-self-in-Err
 invariant_of-self-in-Err g c =
     let p = subst (λ l. IsGap (λ y. g.T.Ord.cmp y c.args.that) l c.in-Err.index) c.as_slice.ensures c.in-Err.ensures in
-    ascends-insert g.T.Ord.cmp g.met.T.Ord.total c.self.inside.elements.items c.insert_at.new.list.items c.args.that c.in-Err.index p c.self.invariant c.in_ok-insert_at-in-Err.ensures.ok
+    ascends-insert g.T.Ord.cmp g.met.T.Ord.total c.self.inside.elements.items c.insert_at.new.list.items c.args.that
+    c.in-Err.index p c.self.invariant c.in_ok-insert_at-in-Err.ensures.ok
 
 pub returns-in_ok-insert_at-in-Err-clause-answer : goal.returns-in_ok-insert_at-in-Err-clause-answer
 returns-in_ok-insert_at-in-Err-clause-answer g c =
     let p = subst (λ l. IsGap (λ y. g.T.Ord.cmp y c.args.that) l c.in-Err.index) c.as_slice.ensures c.in-Err.ensures in
-    new-answer g.T.Ord.cmp g.met.T.Ord.total _ c.args.that c.in-Err.index p ∙ ap (λ l. not (member g.T.Ord.cmp l c.args.that)) c.self.view_is
+    new-answer g.T.Ord.cmp g.met.T.Ord.total _ c.args.that c.in-Err.index p
+    ∙ ap (λ l. not (member g.T.Ord.cmp l c.args.that)) c.self.view_is
 
 pub returns-in_ok-insert_at-in-Err-clause-kept : goal.returns-in_ok-insert_at-in-Err-clause-kept
 returns-in_ok-insert_at-in-Err-clause-kept g c =
     let p = subst (λ l. IsGap (λ y. g.T.Ord.cmp y c.args.that) l c.in-Err.index) c.as_slice.ensures c.in-Err.ensures in
-    λ z. element_at-insert g.T.Ord.cmp g.met.T.Ord.total c.self.inside.elements.items c.insert_at.new.list.items c.args.that c.in-Err.index p c.in_ok-insert_at-in-Err.ensures.ok z
+    λ z. element_at-insert g.T.Ord.cmp g.met.T.Ord.total c.self.inside.elements.items c.insert_at.new.list.items
+    c.args.that c.in-Err.index p c.in_ok-insert_at-in-Err.ensures.ok z
     ∙ ap (λ l. cond (eq_by_cmp g.T.Ord.cmp c.args.that z) (Some c.args.that) (element_at g.T.Ord.cmp l z)) c.self.view_is
 
 pub returns-in_ok-insert_at-in-Err-clause-members : goal.returns-in_ok-insert_at-in-Err-clause-members
-returns-in_ok-insert_at-in-Err-clause-members g c = members-put g.T.Ord.cmp g.met.T.Ord.total _ _ c.args.that (returns-in_ok-insert_at-in-Err-clause-kept g c)
+returns-in_ok-insert_at-in-Err-clause-members g c =
+    members-put g.T.Ord.cmp g.met.T.Ord.total _ _ c.args.that (returns-in_ok-insert_at-in-Err-clause-kept g c)
 
 pub returns-in_err-insert_at-in-Err-clause-room : goal.returns-in_err-insert_at-in-Err-clause-room
 returns-in_err-insert_at-in-Err-clause-room g c =

@@ -6,7 +6,9 @@ use Rattle.vc_sets.proofs.Combined.{merged-set_of}
 use Rattle.vc_sets.proofs.vec_set.in_place.join.Goals as goal
 
 pub merge-never_refused-requires-clause-ascend : goal.merge-never_refused-requires-clause-ascend
-merge-never_refused-requires-clause-ascend g c = rw (c.new-state.ensures.left, c.new-state.ensures.right) (record { left = c.requires.left_ascends; right = c.requires.right_ascends })
+merge-never_refused-requires-clause-ascend g c =
+    rw (c.new-state.ensures.left, c.new-state.ensures.right)
+    (record { left = c.requires.left_ascends; right = c.requires.right_ascends })
 
 pub returns : goal.returns
 returns g c =

@@ -8,15 +8,19 @@ use Rattle.vc_sets.proofs.vec_set.in_place.unite.Goals as goal
 
 pub join-kept-requires-clause-left_ascends : goal.join-kept-requires-clause-left_ascends
 join-kept-requires-clause-left_ascends g c =
-    let made = not-refused c.append_clones-cloned.result _ c.is_err.result c.is_err.ensures.value c.if-is_err.false c.append_clones-cloned.ensures.clones in
-    let parts = is-parted _ _ made.added _ c.as_mut_slice.result.now c.len-end.result c.len-next.result c.len-end.ensures.value c.len-next.ensures.value
+    let made = not-refused c.append_clones-cloned.result _ c.is_err.result c.is_err.ensures.value c.if-is_err.false
+    c.append_clones-cloned.ensures.clones in
+    let parts = is-parted _ _ made.added _ c.as_mut_slice.result.now c.len-end.result c.len-next.result
+    c.len-end.ensures.value c.len-next.ensures.value
     c.in_ok-open_gap.ensures.front c.in_ok-open_gap.ensures.gap made.items c.as_mut_slice.ensures.value in
     subst (λ l. Ascends g.T.Ord.cmp l) (sym parts.left) c.requires.left_ascends
 
 pub join-kept-requires-clause-right_ascends : goal.join-kept-requires-clause-right_ascends
 join-kept-requires-clause-right_ascends g c =
-    let made = not-refused c.append_clones-cloned.result _ c.is_err.result c.is_err.ensures.value c.if-is_err.false c.append_clones-cloned.ensures.clones in
-    let parts = is-parted _ _ made.added _ c.as_mut_slice.result.now c.len-end.result c.len-next.result c.len-end.ensures.value c.len-next.ensures.value
+    let made = not-refused c.append_clones-cloned.result _ c.is_err.result c.is_err.ensures.value c.if-is_err.false
+    c.append_clones-cloned.ensures.clones in
+    let parts = is-parted _ _ made.added _ c.as_mut_slice.result.now c.len-end.result c.len-next.result
+    c.len-end.ensures.value c.len-next.ensures.value
     c.in_ok-open_gap.ensures.front c.in_ok-open_gap.ensures.gap made.items c.as_mut_slice.ensures.value in
     subst (λ l. Ascends g.T.Ord.cmp l) (sym parts.right)
     (clones-ascend g.T.Ord.cmp g.met.T.Ord.total g.T.Clone.is_clone
@@ -25,10 +29,14 @@ join-kept-requires-clause-right_ascends g c =
 
 pub returns-clause-ok : goal.returns-clause-ok
 returns-clause-ok g c =
-    let made = not-refused c.append_clones-cloned.result _ c.is_err.result c.is_err.ensures.value c.if-is_err.false c.append_clones-cloned.ensures.clones in
-    let parts = is-parted _ _ made.added _ c.as_mut_slice.result.now c.len-end.result c.len-next.result c.len-end.ensures.value c.len-next.ensures.value
+    let made = not-refused c.append_clones-cloned.result _ c.is_err.result c.is_err.ensures.value c.if-is_err.false
+    c.append_clones-cloned.ensures.clones in
+    let parts = is-parted _ _ made.added _ c.as_mut_slice.result.now c.len-end.result c.len-next.result
+    c.len-end.ensures.value c.len-next.ensures.value
     c.in_ok-open_gap.ensures.front c.in_ok-open_gap.ensures.gap made.items c.as_mut_slice.ensures.value in
     let cut = cut-off c.append_clones-cloned.new.list _ c.join-kept.new.list c.truncate-2.new.self.items c.join-kept.result
     c.as_mut_slice.ensures.value c.join-kept.auto.list c.truncate-2.ensures.items in
-    set_of-clones g.T.Ord.cmp g.met.T.Ord.total g.T.Clone.is_clone (clone-equal g.T.Ord.cmp g.met.T.Ord.total g.T.Clone.is_clone c.requires.clones) _ (λ x y. x ≡ y) _ _ made.added _ made.come
+    set_of-clones g.T.Ord.cmp g.met.T.Ord.total g.T.Clone.is_clone
+    (clone-equal g.T.Ord.cmp g.met.T.Ord.total g.T.Clone.is_clone c.requires.clones) _
+    (λ x y. x ≡ y) _ _ made.added _ made.come
     (set_of-parts g.T.Ord.cmp _ _ _ _ _ _ _ _ _ _ parts cut c.join-kept.ensures)

@@ -15,5 +15,7 @@ pub returns : goal.returns
 returns g c = (
   ap iter_rest c.vec_set_iter.ensures ∙ c.iter.ensures.rest,
   subst (λ it. length (iter_rest it) < 2 ^ 64) (sym c.vec_set_iter.ensures) c.iter.ensures.bound,
-  inside-every iter_steps (λ x y. g.T.Ord.cmp x.now y.now) (λ p. ItemsMapTo p (λ x. x.now) (iter_rest p.from)) c.iter.ensures.runs,
+  inside-every iter_steps (λ x y. g.T.Ord.cmp x.now y.now)
+      (λ p. ItemsMapTo p (λ x. x.now) (iter_rest p.from)) c.iter.ensures.runs,
+  c.iter.ensures.runs_back,
 )

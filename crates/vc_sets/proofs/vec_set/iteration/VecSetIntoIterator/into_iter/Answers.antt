@@ -8,7 +8,8 @@ use Rattle.vc_sets.proofs.vec_set.iteration.VecSetIntoIterator.into_iter.Goals a
 
 pub vec_set_iter-requires : goal.vec_set_iter-requires
 vec_set_iter-requires g c =
-    list-along (YieldsFirst (λ rest. rest)) (λ x. x) (λ rest. rest) (λ s x t h. h) g.T.Ord.cmp (λ s t h. h.0 ∙ sym h.1) c.into_iter.result
+    list-along (YieldsFirst (λ rest. rest)) (λ x. x) (λ rest. rest) (λ s x t h. h) g.T.Ord.cmp
+    (λ s t h. h.0 ∙ sym h.1) c.into_iter.result
     (subst (λ l. Ascends g.T.Ord.cmp l) (sym c.into_iter.ensures.into_iter_gives.0) c.self.invariant)
 
 pub returns : goal.returns
