@@ -2,7 +2,8 @@
 --     alike-trans, alike-push, alike-more        how trees are alike
 --     alike-solid, alike-children, alike-canonical, tree-alike_canonical, alike-nodes, alike-lookup, tree-alike_lookup        what two that are alike share
 --     snapshot-canonical        what a snapshot of a canonical tree is
-use Rattle.std.proofs.Common.{◌≡◌, ℕ, ◌+◌, ◌<◌, List, [], ◌∷◌, ◌++◌, get_or, length, map, take, Option, Some, None, refl, sym, ap, ◌∙◌, arith}
+use Rattle.std.proofs.Common.{◌≡◌, ℕ, ◌+◌, ◌<◌, List, [], ◌∷◌, ◌++◌, get_or, length, map, take, Option, Some, None}
+use Rattle.std.proofs.Common.{refl, sym, ap, ◌∙◌, arith}
 use Rattle.std.proofs.lemmas.List.{take_more}
 use Rattle.std.specs.declared.cmp.Ordering.{Ordering}
 use Rattle.vc_tree_model.specs.Key.{behind}

@@ -2,7 +2,8 @@
 --     lookup-binds        what is looked up is bound, in any tree
 --     binds-lookup, binds-lookup_same        the other way round where children are in order, also at an equal key
 --     ordered-binds        both, of a tree whose prefixes are in order
-use Rattle.std.proofs.Common.{◌≡◌, [], ◌∷◌, ◌++◌, List, Option, None, Some, refl, sym, ap, ◌∙◌, true, false, Bool, append-nil, ◌⊎◌, inl, inr, ◌↔◌}
+use Rattle.std.proofs.Common.{◌≡◌, [], ◌∷◌, ◌++◌, List, Option, None, Some, refl, sym, ap, ◌∙◌, true, false, Bool}
+use Rattle.std.proofs.Common.{append-nil, ◌⊎◌, inl, inr, ◌↔◌}
 use Rattle.std.specs.declared.cmp.Ordering.{Ordering}
 use Rattle.std.specs.Ordering.{is_eq}
 use Rattle.std.specs.Cmp.{IsTotalOrder, Equal-is}

@@ -1,7 +1,9 @@
 -- The cover of a key is the value of the longest key that is a prefix of it, and removal and retention part a map.
+--     Respects, longest-next, longest-empty, only-empty        the longest key that is a prefix, component by component
 --     cover-is        the law of covers
 --     removal-retention        each pair is removed or retained, and never both
-use Rattle.std.proofs.Common.{◌≡◌, ◌≤◌, [], ◌∷◌, ◌++◌, List, Option, None, Some, length, refl, sym, ap, ◌∙◌, true, false, Bool, not, cond, true≢false, inl, inr, ◌⊎◌, subst, arith}
+use Rattle.std.proofs.Common.{◌≡◌, ◌≤◌, [], ◌∷◌, ◌++◌, List, Option, None, Some, length, refl, sym, ap, ◌∙◌, true}
+use Rattle.std.proofs.Common.{false, Bool, not, cond, true≢false, inl, inr, ◌⊎◌, subst, arith}
 use Rattle.std.specs.declared.cmp.Ordering.{Ordering}
 use Rattle.std.specs.Ordering.{is_eq}
 use Rattle.std.specs.Cmp.{IsTotalOrder, tied_itself}
@@ -52,17 +54,17 @@ else-none None b e = (refl, e)
 else-none (Some w) b e = cc
 
 -- the first of two that is there
-else-some : {W : Type 0} (a b : Option W) (w : W) → or_else a b ≡ Some w → (a ≡ Some w) ⊎ ((a ≡ None) × (b ≡ Some w))
+pub else-some : {W : Type 0} (a b : Option W) (w : W) → or_else a b ≡ Some w → (a ≡ Some w) ⊎ ((a ≡ None) × (b ≡ Some w))
 else-some None b w e = inr (refl, e)
 else-some (Some u) b w e = inl e
 
 module _ {K W : Type 0} (cmp : K → K → Ordering) (o : IsTotalOrder cmp) where
   -- a map has one value at equal keys
-  abbrev Respects : (List K → Option W) → Type 0
+  abbrev pub Respects : (List K → Option W) → Type 0
   Respects q = (j k : List K) → same_key cmp j k ≡ true → q j ≡ q k
 
   -- the map behind a component has one value at equal keys too
-  respects-behind : (q : List K → Option W) → Respects q → (x : K) → Respects (λ rest. q (x ∷ rest))
+  pub respects-behind : (q : List K → Option W) → Respects q → (x : K) → Respects (λ rest. q (x ∷ rest))
   respects-behind q r x j k h = r (x ∷ j) (x ∷ k) (same-cons cmp o x j k h)
 
   -- at a prefix that goes on the map has what it has behind the key's own first component
@@ -81,7 +83,7 @@ module _ {K W : Type 0} (cmp : K → K → Ordering) (o : IsTotalOrder cmp) wher
       respelled q r x y p next.0 ∙ uncovered (λ rest. q (x ∷ rest)) (respects-behind q r x) k p none next.1
 
   -- a longest cover behind a component is one with the component before it
-  longest-next : (q : List K → Option W) → Respects q → (x : K) (k p : List K) (w : W)
+  pub longest-next : (q : List K → Option W) → Respects q → (x : K) (k p : List K) (w : W)
       → IsLongestCover cmp (λ rest. q (x ∷ rest)) k p w → IsLongestCover cmp q (x ∷ k) (x ∷ p) w
   longest-next q r x k p w l = record { prefix = next-starts cmp o x k p l.prefix; bound = l.bound; longest = by }
     where
@@ -93,7 +95,7 @@ module _ {K W : Type 0} (cmp : K → K → Ordering) (o : IsTotalOrder cmp) wher
           omega (arith, most)
 
   -- where no longer prefix is bound, the empty key is the longest
-  longest-empty : (q : List K → Option W) → Respects q → (x : K) (k : List K) (w : W)
+  pub longest-empty : (q : List K → Option W) → Respects q → (x : K) (k : List K) (w : W)
       → cover (λ rest. q (x ∷ rest)) k ≡ None → q [] ≡ Some w → IsLongestCover cmp q (x ∷ k) [] w
   longest-empty q r x k w e b = record { prefix = empty-starts cmp o (x ∷ k); bound = b; longest = by }
     where
@@ -105,7 +107,7 @@ module _ {K W : Type 0} (cmp : K → K → Ordering) (o : IsTotalOrder cmp) wher
           (sym (respelled q r x y j next.0 ∙ uncovered (λ rest. q (x ∷ rest)) (respects-behind q r x) k j e next.1) ∙ b)
 
   -- no key but the empty one is a prefix of the empty key
-  only-empty : (q : List K → Option W) (j : List K) (u : W) → Starts cmp [] j → q j ≡ Some u → length j ≤ 0
+  pub only-empty : (q : List K → Option W) (j : List K) (u : W) → Starts cmp [] j → q j ≡ Some u → length j ≤ 0
   only-empty q [] u s b = omega arith
   only-empty q (y ∷ j) u s b = absurd (true≢false (sym s.1))
 

@@ -2,7 +2,8 @@
 --     meets-ordered        the two conditions on prefixes
 --     canonical-meets, meets-canonical        all four
 --     canonical-conditions        both ways
-use Rattle.std.proofs.Common.{◌≡◌, ◌≢◌, ℕ, suc, ◌<◌, [], ◌∷◌, List, length, get_or, Option, None, Some, refl, sym, ap, ◌∙◌, subst, true, true≢false, inl, inr, ◌↔◌, suc-le-suc, not-suc-le-zero, arith}
+use Rattle.std.proofs.Common.{◌≡◌, ◌≢◌, ℕ, suc, ◌<◌, [], ◌∷◌, List, length, get_or, Option, None, Some, refl, sym, ap}
+use Rattle.std.proofs.Common.{◌∙◌, subst, true, true≢false, inl, inr, ◌↔◌, suc-le-suc, not-suc-le-zero, arith}
 use Rattle.std.specs.Prelude.{All, AllPairs, IsNone}
 use Rattle.std.proofs.lemmas.List.Elements.{All-cons, All-nil}
 use Rattle.std.proofs.lemmas.List.Kept.{AllPairs-cons}
@@ -10,7 +11,8 @@ use Rattle.std.specs.declared.cmp.Ordering.{Ordering}
 use Rattle.vc_tree_model.specs.Key.{BeginsBelow}
 use Rattle.vc_tree_model.specs.Tree.{Tree, Forest, bare, grow, node, trees, lacks_both, is_bare}
 use Rattle.vc_tree_model.specs.Canonical.{AllAbove, AreOrdered, AreChildren, IsSolid, IsWhole, IsCanonical}
-use Rattle.vc_tree_model.specs.Conditions.{IsBelow, BareIsWhole, HavePrefixes, ChildrenAscend, NoLoneChild, MeetsConditions, IsOrdered}
+use Rattle.vc_tree_model.specs.Conditions.{IsBelow, BareIsWhole, HavePrefixes, ChildrenAscend, NoLoneChild}
+use Rattle.vc_tree_model.specs.Conditions.{MeetsConditions, IsOrdered}
 use Rattle.vc_tree_model.proofs.LookupLemmas.{children-ordered}
 
 module _ {K V : Type 0} where

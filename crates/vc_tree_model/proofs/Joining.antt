@@ -5,7 +5,8 @@
 --     joined-same, joined-child, joined-begins        the node of some parts, as a child
 --     value-asked, children-asked        what holds at each key of two trees, holds at the nodes there
 --     trees-combined        all four ways in which one prefix lies on the other
-use Rattle.std.proofs.Common.{◌≡◌, [], ◌∷◌, ◌++◌, List, Option, None, Some, refl, sym, ap, subst, ◌∙◌, cond, true, false, Bool, append-nil}
+use Rattle.std.proofs.Common.{◌≡◌, [], ◌∷◌, ◌++◌, List, Option, None, Some, refl, sym, ap, subst, ◌∙◌, cond, true}
+use Rattle.std.proofs.Common.{false, Bool, append-nil}
 use Rattle.std.specs.Cmp.{IsTotalOrder, Equal-is}
 use Rattle.std.specs.Ordering.{is_eq}
 use Rattle.std.specs.declared.cmp.Ordering.{Ordering}

@@ -4,7 +4,8 @@
 --     same-behind, behind-joins, left-behind        equal keys and what is left of one
 --     not-before, not-both_before, less-prepended        which of two keys comes first
 --     keys-ordered, left-is_rest        the laws on keys
-use Rattle.std.proofs.Common.{◌≡◌, ℕ, zero, suc, [], ◌∷◌, ◌++◌, take, drop, List, Option, None, Some, is_some, refl, sym, ap, ◌∙◌, true, false, Bool, cond, true≢false}
+use Rattle.std.proofs.Common.{◌≡◌, ℕ, zero, suc, [], ◌∷◌, ◌++◌, take, drop, List, Option, None, Some, is_some, refl}
+use Rattle.std.proofs.Common.{sym, ap, ◌∙◌, true, false, Bool, cond, true≢false}
 use Rattle.std.specs.List.{AllZip}
 use Rattle.std.specs.declared.cmp.Ordering.{Ordering}
 use Rattle.std.specs.declared.cmp.Ordering.TheVariants.{Less, Equal, Greater}

@@ -21,4 +21,5 @@ pub mod Covering
 pub mod Running
 pub mod PrefixExamples
 pub mod CoverNodes
+pub mod LongestKeys
 pub mod Inserting

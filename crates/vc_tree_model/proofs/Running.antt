@@ -8,7 +8,8 @@ use Rattle.vc_tree_model.specs.Value.{IsKept, Copies, itself, copies_trans}
 use Rattle.vc_tree_model.specs.Matches.{HaveOneSource}
 use Rattle.vc_tree_model.specs.Map.{or_else, lookup, IsEqualMap}
 use Rattle.vc_tree_model.specs.Cover.{cover}
-use Rattle.vc_tree_model.specs.Machine.{Command, insert, prepend, filter, union, intersection, difference, remove_prefix, retain_prefix, unless_some, after, refused, Step, Run}
+use Rattle.vc_tree_model.specs.Machine.{Command, insert, prepend, filter, union, intersection, difference}
+use Rattle.vc_tree_model.specs.Machine.{remove_prefix, retain_prefix, unless_some, after, refused, Step, Run}
 use Rattle.vc_tree_model.specs.PrefixLaws.{RunIsFunction}
 use Rattle.vc_tree_model.proofs.ValueLemmas.{kept-refl, kept-trans}
 

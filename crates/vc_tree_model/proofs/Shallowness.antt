@@ -3,7 +3,8 @@
 --     levels-keys        no more than keys, where there is one
 --     deepest-in        some key has a component for each level below the root
 --     canonical-shallow        all three
-use Rattle.std.proofs.Common.{ℕ, ◌+◌, ◌≤◌, ◌-◌, [], ◌∷◌, ◌++◌, List, Option, None, Some, length, max, refl, sym, subst, IsSome, inl, inr, length-append, arith}
+use Rattle.std.proofs.Common.{ℕ, ◌+◌, ◌≤◌, ◌-◌, [], ◌∷◌, ◌++◌, List, Option, None, Some, length, max, refl, sym}
+use Rattle.std.proofs.Common.{subst, IsSome, inl, inr, length-append, arith}
 use Rattle.std.proofs.Math.Nat.{le-max_left, max-le}
 use Rattle.std.proofs.lemmas.Bool.{cases_lt}
 use Rattle.std.specs.declared.cmp.Ordering.{Ordering}

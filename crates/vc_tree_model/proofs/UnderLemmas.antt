@@ -3,7 +3,8 @@
 --     walk-under, walk-prefixed        the walk of the pairs under a prefix, and with a prefix before their keys
 --     lookup-prepended        what a tree with a prefix before its own binds
 --     lists-equal_map        a walk lists what an equal map binds
-use Rattle.std.proofs.Common.{◌≡◌, [], ◌∷◌, ◌++◌, List, Option, None, Some, map, refl, sym, ap, ◌∙◌, true, false, Bool, is_some, subst, inl, inr, ◌⊎◌, cond, true≢false}
+use Rattle.std.proofs.Common.{◌≡◌, [], ◌∷◌, ◌++◌, List, Option, None, Some, map, refl, sym, ap, ◌∙◌, true, false}
+use Rattle.std.proofs.Common.{Bool, is_some, subst, inl, inr, ◌⊎◌, cond, true≢false}
 use Rattle.std.specs.List.{filter}
 use Rattle.std.specs.Option.{option_and, option_and_then}
 use Rattle.std.specs.declared.cmp.Ordering.{Ordering}

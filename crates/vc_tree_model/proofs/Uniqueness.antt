@@ -4,7 +4,8 @@
 --     same-in, canonical-same        so canonical trees of equal maps are the same, tree by tree
 --     equal-in, same-equal        trees that are the same have equal maps
 --     canonical-unique, canonical-one        both ways, and as a fact of one tree
-use Rattle.std.proofs.Common.{◌≡◌, [], ◌∷◌, ◌++◌, List, Option, None, Some, refl, sym, ap, ◌∙◌, true, false, Bool, true≢false, ◌⊎◌, inl, inr, ◌↔◌}
+use Rattle.std.proofs.Common.{◌≡◌, [], ◌∷◌, ◌++◌, List, Option, None, Some, refl, sym, ap, ◌∙◌, true, false, Bool}
+use Rattle.std.proofs.Common.{true≢false, ◌⊎◌, inl, inr, ◌↔◌}
 use Rattle.std.specs.declared.cmp.Ordering.{Ordering}
 use Rattle.std.specs.declared.cmp.Ordering.TheVariants.{Less, Equal, Greater}
 use Rattle.std.specs.Ordering.{is_eq}
@@ -18,7 +19,9 @@ use Rattle.vc_tree_model.specs.Same.{IsSameIn, IsSame}
 use Rattle.vc_tree_model.specs.OneTree.{IsOneTree}
 use Rattle.vc_tree_model.proofs.KeyLemmas.{none-some, less, behind-same}
 use Rattle.vc_tree_model.proofs.ValueLemmas.{kept_by, kept-else, bound-left, not-lost, maps-flip}
-use Rattle.vc_tree_model.proofs.LookupLemmas.{children-ordered, lookup_in-empty, lookup-equal, lookup-other, lookup-begins, lookup_in-skip, above-less, above-equal, lookup_in-above, first-bound, tree-bound, AreNothing, whole-cases, nothing-bound}
+use Rattle.vc_tree_model.proofs.LookupLemmas.{children-ordered, lookup_in-empty, lookup-equal, lookup-other}
+use Rattle.vc_tree_model.proofs.LookupLemmas.{lookup-begins, lookup_in-skip, above-less, above-equal, lookup_in-above}
+use Rattle.vc_tree_model.proofs.LookupLemmas.{first-bound, tree-bound, AreNothing, whole-cases, nothing-bound}
 
 module _ {K V : Type 0} (cmp : K → K → Ordering) (o : IsTotalOrder cmp) where
   -- ---- what one side alone binds

@@ -4,7 +4,8 @@
 --     walk-is        both: it is the walk of the tree's map
 --     ascend-prepended, lists-prepended        a prefix before the keys of a list
 --     length-walk        it is as long as the tree has values
-use Rattle.std.proofs.Common.{◌≡◌, ◌+◌, [], ◌∷◌, ◌++◌, List, Option, None, Some, map, length, length-append, refl, sym, ap, ◌∙◌, true, inl, inr, ◌↔◌, subst, arith, append-nil}
+use Rattle.std.proofs.Common.{◌≡◌, ◌+◌, [], ◌∷◌, ◌++◌, List, Option, None, Some, map, length, length-append, refl}
+use Rattle.std.proofs.Common.{sym, ap, ◌∙◌, true, inl, inr, ◌↔◌, subst, arith, append-nil}
 use Rattle.std.proofs.lemmas.List.{length-map}
 use Rattle.std.specs.declared.cmp.Ordering.{Ordering}
 use Rattle.std.specs.declared.cmp.Ordering.TheVariants.{Less}

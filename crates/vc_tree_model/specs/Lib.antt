@@ -25,3 +25,4 @@ pub mod Under
 pub mod Cover
 pub mod Machine
 pub mod PrefixLaws
+pub mod Sized

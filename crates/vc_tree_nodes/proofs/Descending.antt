@@ -3,7 +3,8 @@
 --     down-behind        one more prefix was compared with the key, which goes on behind it
 --     behind-length, some-first, searched-within        how much of the key is left, and what a search of children costs
 --     down-searched, down-missed        the children were searched: for the next node, or in vain
-use Rattle.std.proofs.Common.{◌≡◌, ℕ, suc, ◌+◌, ◌-◌, ◌*◌, ◌≤◌, Bool, true, false, cond, [], ◌∷◌, List, Some, None, length, map, sym, ap, ◌∙◌, arith}
+use Rattle.std.proofs.Common.{◌≡◌, ℕ, suc, ◌+◌, ◌-◌, ◌*◌, ◌≤◌, Bool, true, false, cond, [], ◌∷◌, List, Some, None}
+use Rattle.std.proofs.Common.{length, map, sym, ap, ◌∙◌, arith}
 use Rattle.std.proofs.Math.Nat.{mul-le-mul_right, add-mul, mul-add, mul-one}
 use Rattle.std.specs.Ordering.{is_eq}
 use Rattle.std.specs.Prelude.{slice_get}

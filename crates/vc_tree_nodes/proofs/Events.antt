@@ -4,7 +4,9 @@
 --     parts-canonical        a node whose children stayed alike
 --     leads_.., list-updated, list-grown, list-alike        the child that the key leads to, and the list once it is changed
 --     empty-kept, length-kept, one-put, two-put, top-from, low-from        lists that were lent or copied
-use Rattle.std.proofs.Common.{◌≡◌, ℕ, zero, suc, ◌<◌, ◌≤◌, [], ◌∷◌, ◌++◌, List, Option, None, Some, refl, sym, ap, subst, ◌∙◌, arith, get_or, set, map, take, drop, length, append-nil, length-drop, ◌-◌, true, cond, true≢false}
+use Rattle.std.proofs.Common.{◌≡◌, ℕ, zero, suc, ◌<◌, ◌≤◌, [], ◌∷◌, ◌++◌, List, Option, None, Some, refl, sym, ap}
+use Rattle.std.proofs.Common.{subst, ◌∙◌, arith, get_or, set, map, take, drop, length, append-nil, length-drop, ◌-◌}
+use Rattle.std.proofs.Common.{true, cond, true≢false}
 use Rattle.std.proofs.lemmas.List.{take-append-drop, take_all}
 use Rattle.std.specs.Cmp.{IsTotalOrder, Equal-is}
 use Rattle.std.specs.List.{insert}
@@ -23,8 +25,10 @@ use Rattle.vc_tree_model.proofs.AlikeLemmas.{alike-children, alike-solid, alike-
 use Rattle.vc_tree_nodes.proofs.Finding.{begins-below, child-nodes}
 use Rattle.vc_tree_nodes.proofs.Firsts.{child_first-map, rest-children}
 use Rattle.vc_tree_nodes.proofs.Parted.{agree-one}
-use Rattle.vc_tree_nodes.proofs.Growing.{solid-canonical, pair-solid, solid-insert, solid-length, gap-alike, children-insert, children-set, alike-set, alike-first}
-use Rattle.vc_tree_nodes.proofs.Updating.{lookup-leaf, updated-behind, updated-value, updated-children, updated-split, updated-insert, updated-set, updated-alike}
+use Rattle.vc_tree_nodes.proofs.Growing.{solid-canonical, pair-solid, solid-insert, solid-length, gap-alike}
+use Rattle.vc_tree_nodes.proofs.Growing.{children-insert, children-set, alike-set, alike-first}
+use Rattle.vc_tree_nodes.proofs.Updating.{lookup-leaf, updated-behind, updated-value, updated-children, updated-split}
+use Rattle.vc_tree_nodes.proofs.Updating.{updated-insert, updated-set, updated-alike}
 
 -- two nodes of equal parts
 pub node-equal : {K V : Type 0} (p q : List K) (v w : Option V) (f g : Forest K V) → p ≡ q → v ≡ w → f ≡ g

@@ -3,7 +3,8 @@
 --     found-at, gap-none        what a found child binds; that no child binds what has a gap for its place
 --     child-nodes, list-nodes        a child has no more nodes than the list
 --     trees-length        how many children a node has
-use Rattle.std.proofs.Common.{◌≡◌, ℕ, zero, suc, ◌<◌, ◌≤◌, [], ◌∷◌, List, Option, None, Some, refl, sym, ap, ◌∙◌, arith, get_or, map, length, take, true}
+use Rattle.std.proofs.Common.{◌≡◌, ℕ, zero, suc, ◌<◌, ◌≤◌, [], ◌∷◌, List, Option, None, Some, refl, sym, ap, ◌∙◌}
+use Rattle.std.proofs.Common.{arith, get_or, map, length, take, true}
 use Rattle.std.specs.Cmp.{IsTotalOrder, Equal-is, alike_right}
 use Rattle.std.specs.Ordering.{is_eq}
 use Rattle.std.specs.Prelude.{slice_get}

@@ -2,7 +2,8 @@
 --     above-at, rest-children, child_first-map        the first components of children
 --     children-ordered        they stand in order to each component
 --     place-found        a place in that order is one among them
-use Rattle.std.proofs.Common.{◌≡◌, ℕ, ◌<◌, ◌≤◌, [], ◌∷◌, List, Option, ◌⊎◌, None, Some, Result, Ok, Err, refl, sym, ap, ◌∙◌, arith, zero, suc, get_or, map, length, take, drop, inl, inr}
+use Rattle.std.proofs.Common.{◌≡◌, ℕ, ◌<◌, ◌≤◌, [], ◌∷◌, List, Option, ◌⊎◌, None, Some, Result, Ok, Err, refl, sym}
+use Rattle.std.proofs.Common.{ap, ◌∙◌, arith, zero, suc, get_or, map, length, take, drop, inl, inr}
 use Rattle.std.specs.Cmp.{IsTotalOrder}
 use Rattle.std.specs.List.{AllByRecursion, HoldsAt}
 use Rattle.std.specs.Ordering.{is_eq, ordering_reverse}

@@ -3,7 +3,8 @@
 --     solid-whole, whole_solid, not-bare_solid        a value or at least two children
 --     solid-insert, children-insert, gap-within, gap-alike        one more tree of a list
 --     solid-length, children-set, alike-set        one tree of a list is changed
-use Rattle.std.proofs.Common.{◌≡◌, ℕ, zero, suc, ◌≤◌, [], ◌∷◌, List, Option, None, Some, refl, sym, ap, subst, ◌∙◌, arith, false, get_or, set, map, take, length, true≢false}
+use Rattle.std.proofs.Common.{◌≡◌, ℕ, zero, suc, ◌≤◌, [], ◌∷◌, List, Option, None, Some, refl, sym, ap, subst, ◌∙◌}
+use Rattle.std.proofs.Common.{arith, false, get_or, set, map, take, length, true≢false}
 use Rattle.std.specs.List.{insert}
 use Rattle.std.specs.Prelude.{slice_get}
 use Rattle.std.specs.declared.cmp.Ordering.{Ordering}

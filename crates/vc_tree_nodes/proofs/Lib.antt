@@ -7,3 +7,4 @@ pub mod Updating
 pub mod Growing
 pub mod Events
 pub mod Parted
+pub mod Longest

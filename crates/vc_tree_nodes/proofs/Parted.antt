@@ -4,7 +4,9 @@
 --     splits-lower, splits-higher, grown-from        how the node is split there, and how it has grown
 --     agree-one        a child that begins as a key agrees with it in one component
 --     behind-whole, behind-parted        what is left of the key behind the prefix
-use Rattle.std.proofs.Common.{◌≡◌, ◌≢◌, ℕ, zero, suc, ◌-◌, ◌<◌, ◌≤◌, [], ◌∷◌, ◌++◌, List, ◌⊎◌, inl, inr, Option, None, Some, Bool, refl, sym, ap, subst, ◌∙◌, arith, take, drop, length, length-drop, true, false, true≢false, cond}
+use Rattle.std.proofs.Common.{◌≡◌, ◌≢◌, ℕ, zero, suc, ◌-◌, ◌<◌, ◌≤◌, [], ◌∷◌, ◌++◌, List, ◌⊎◌, inl, inr, Option, None}
+use Rattle.std.proofs.Common.{Some, Bool, refl, sym, ap, subst, ◌∙◌, arith, take, drop, length, length-drop, true}
+use Rattle.std.proofs.Common.{false, true≢false, cond}
 use Rattle.std.proofs.lemmas.Bool.{cases_lt}
 use Rattle.std.proofs.lemmas.List.{take-take, take_all, take-append-drop}
 use Rattle.std.specs.Cmp.{IsTotalOrder}

@@ -2,7 +2,8 @@
 --     get-at        the element that an index reads
 --     agree-more, parts-here        one more component agrees, or doesn't
 --     ticked-one        a tick counts at most one
-use Rattle.std.proofs.Common.{◌≡◌, ℕ, zero, suc, ◌+◌, ◌-◌, ◌^◌, ◌<◌, ◌≤◌, [], ◌∷◌, take, List, length, get_or, Some, refl, sym, ap, arith, add-one, true, false, cond}
+use Rattle.std.proofs.Common.{◌≡◌, ℕ, zero, suc, ◌+◌, ◌-◌, ◌^◌, ◌<◌, ◌≤◌, [], ◌∷◌, take, List, length, get_or, Some}
+use Rattle.std.proofs.Common.{refl, sym, ap, arith, add-one, true, false, cond}
 use Rattle.std.proofs.Math.Nat.{min-le_left}
 use Rattle.std.specs.Ordering.{is_eq}
 use Rattle.std.specs.Prelude.{slice_get}

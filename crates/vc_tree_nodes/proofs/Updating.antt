@@ -3,7 +3,8 @@
 --     updated-value, updated-children, updated-split        a change of a node's value or of its children, or of a node split in two
 --     updated-insert, updated-set        one more tree of a list, or one that is changed
 --     updated-alike, updated-respelled        a change of what is alike, and of an equal key
-use Rattle.std.proofs.Common.{◌≡◌, ℕ, zero, suc, ◌<◌, [], ◌∷◌, ◌++◌, List, Option, None, Some, refl, sym, ap, subst, ◌∙◌, arith, true, false, Bool, cond, true≢false, get_or, set, map, length}
+use Rattle.std.proofs.Common.{◌≡◌, ℕ, zero, suc, ◌<◌, [], ◌∷◌, ◌++◌, List, Option, None, Some, refl, sym, ap, subst}
+use Rattle.std.proofs.Common.{◌∙◌, arith, true, false, Bool, cond, true≢false, get_or, set, map, length}
 use Rattle.std.specs.Cmp.{IsTotalOrder, Equal-is, alike_right}
 use Rattle.std.specs.Cmp.Lexicographic.{slice_cmp, lists_total}
 use Rattle.std.specs.List.{insert}
@@ -17,7 +18,8 @@ use Rattle.vc_tree_model.specs.Tree.{Tree, Forest, bare, grow, forest, node}
 use Rattle.vc_tree_model.specs.Map.{or_else, node_lookup, lookup, lookup_in, IsUpdated, or_else-none}
 use Rattle.vc_tree_model.specs.Canonical.{AreChildren}
 use Rattle.vc_tree_nodes.specs.Places.{child_first, IsGapAt}
-use Rattle.vc_tree_model.proofs.KeyLemmas.{none-some, both-true, then_same, then_behind, behind-append, same-append, same-slice_cmp}
+use Rattle.vc_tree_model.proofs.KeyLemmas.{none-some, both-true, then_same, then_behind, behind-append, same-append}
+use Rattle.vc_tree_model.proofs.KeyLemmas.{same-slice_cmp}
 use Rattle.vc_tree_model.proofs.ValueLemmas.{kept-refl, kept-trans, kept-else}
 use Rattle.vc_tree_model.proofs.LookupLemmas.{lookup-other}
 use Rattle.vc_tree_nodes.proofs.Firsts.{above-at, rest-children}

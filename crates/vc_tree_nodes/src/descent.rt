@@ -1,11 +1,13 @@
 //! The way down a tree along a key.
 
-ghost use Rattle.std.specs.Prelude.{◌≡◌, ◌+◌, ◌-◌, ◌*◌, ◌≤◌, length, min};
-ghost use Rattle.std.specs.Option.{option_copied, is_some};
+ghost use Rattle.std.specs.Prelude.{◌≡◌, ◌+◌, ◌-◌, ◌*◌, ◌≤◌, IfSome, length, min, take};
+ghost use Rattle.std.specs.Option.{option_copied, option_map, is_some};
 ghost use Rattle.vc_merge.specs.Count.{digits};
+ghost use Rattle.vc_tree_model.specs.Cover.{cover, IsLongestCover};
 ghost use Rattle.vc_tree_model.specs.Key.{behind};
+ghost use Rattle.vc_tree_model.specs.Map.{lookup, or_else};
+ghost use Rattle.vc_tree_model.specs.Sized.{beside, sized};
 ghost use Rattle.vc_tree_model.specs.Tree.{width};
-ghost use Rattle.vc_tree_model.specs.Map.{lookup};
 ghost use Rattle.vc_tree_nodes.specs.Parting.{Agree};
 
 use crate::parting::{Parting, find_parting};
@@ -61,4 +63,62 @@ pub fn contains_key<K: TKey, V: TValue, T: RadixNode<K, V>>(tree: &T, key: &[K])
     ensures { result ≡ is_some (lookup K.cmp (T.tree tree.now) key.now) }
 {
     get(tree, key, &mut Uncounted).is_some()
+}
+
+/// The longest key of the tree that is a prefix of the path: how many components it has, and its
+/// value.
+pub fn get_longest<'a, K: TKey, V: TValue, T: RadixNode<K, V>>(
+    tree: &'a T,
+    path: &[K],
+) -> Option<(usize, &'a V)>
+    ensures value { option_map (λ b. b.1.now) result
+        ≡ cover (lookup K.cmp (T.tree tree.now)) path.now }
+    ensures key { IfSome result (λ b. IsLongestCover K.cmp (lookup K.cmp (T.tree tree.now))
+        path.now (take b.0 path.now) b.1.now) }
+    ensures within { IfSome result (λ b. b.0 ≤ length path.now) }
+{
+    longest_on(tree, path)
+}
+
+/// `get_longest`, by the cover of the path by values that carry the lengths of their keys.
+fn longest_on<'a, K: TKey, V: TValue, T: RadixNode<K, V>>(
+    tree: &'a T,
+    path: &[K],
+) -> Option<(usize, &'a V)>
+    ensures { option_map (λ b. (b.0, b.1.now)) result
+        ≡ cover (sized 0 (lookup K.cmp (T.tree tree.now))) path.now }
+{
+    let mut node = tree;
+    let mut rest = path;
+    let mut agreed = 0;
+    let mut longest = None;
+    while let Some(left) = rest_behind(node.prefix(), rest, agreed, &mut Uncounted) {
+        longest = own_or(node, path.len() - left.len(), longest);
+        let Some(first) = left.first() else {
+            return longest;
+        };
+        let Some(child) = child_at(node.children(), first, &mut Uncounted) else {
+            return longest;
+        };
+        node = child;
+        rest = left;
+        agreed = 1;
+    }
+    longest
+}
+
+/// The value of the node beside the length of its key, or what stands above where it has none.
+fn own_or<'a, K: TKey, V: TValue, T: RadixNode<K, V>>(
+    node: &'a T,
+    length: usize,
+    above: Option<(usize, &'a V)>,
+) -> Option<(usize, &'a V)>
+    ensures { option_map (λ b. (b.0, b.1.now)) result
+        ≡ or_else (beside length (T.tree node.now).value)
+        (option_map (λ b. (b.0, b.1.now)) above.entry) }
+{
+    match node.value() {
+        Some(value) => Some((length, value)),
+        None => above,
+    }
 }

@@ -7,8 +7,11 @@ use Rattle.vc_tree_model.specs.Same.{IsAlike}
 use Rattle.vc_tree_model.specs.Snapshot.{tree_alike_refl}
 use Rattle.vc_tree_model.specs.Tree.{forest}
 use Rattle.vc_tree_model.proofs.AlikeLemmas.{alike-children}
-use Rattle.vc_tree_nodes.proofs.Events.{on-ok, on-err, on-both, child-grown, parts-canonical, inserted-canonical, leads-within, leads-agree, leads-solid, leads-nodes, list-updated, list-grown, list-alike, length-kept}
-use Rattle.vc_tree_nodes.proofs.Parted.{same-joined, same-behind_whole, same-ended, known-within, splits-lower, splits-higher, grown-from}
+use Rattle.vc_tree_nodes.proofs.Events.{on-ok, on-err, on-both, child-grown, parts-canonical, inserted-canonical}
+use Rattle.vc_tree_nodes.proofs.Events.{leads-within, leads-agree, leads-solid, leads-nodes, list-updated, list-grown}
+use Rattle.vc_tree_nodes.proofs.Events.{list-alike, length-kept}
+use Rattle.vc_tree_nodes.proofs.Parted.{same-joined, same-behind_whole, same-ended, known-within, splits-lower}
+use Rattle.vc_tree_nodes.proofs.Parted.{splits-higher, grown-from}
 use Rattle.vc_tree_nodes.proofs.Updating.{updated-respelled}
 use Rattle.vc_tree_nodes.proofs.insertion.+insertion.Goals as goal
 

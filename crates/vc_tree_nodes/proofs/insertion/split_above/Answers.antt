@@ -1,6 +1,7 @@
 -- A new node with the value, above the rest of the old one.
 use Rattle.std.proofs.Common.{refl, ap, ◌∙◌, arith, is_ok, length, ◌<◌}
-use Rattle.vc_tree_nodes.proofs.Events.{whole-solid, top-made, inserted-canonical, node-equal, top-from, low-from, one-put, empty-kept}
+use Rattle.vc_tree_nodes.proofs.Events.{whole-solid, top-made, inserted-canonical, node-equal, top-from, low-from}
+use Rattle.vc_tree_nodes.proofs.Events.{one-put, empty-kept}
 use Rattle.vc_tree_nodes.proofs.Growing.{solid-whole}
 use Rattle.vc_tree_nodes.proofs.insertion.split_above.Goals as goal
 

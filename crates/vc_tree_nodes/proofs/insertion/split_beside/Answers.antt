@@ -18,7 +18,8 @@ assemble-requires g c =
     c.in_ok-leaf.ensures.is
     (two-put _ c.put-2.new.list.items c.put.new.list.items c.reserve_exact.new.self.items c.in_ok-list.list.now.items
     c.args.i c.cut-low.result c.in_ok-leaf.leaf
-    (c.make_mut.follows.holds _ (ap is_ok c.in_ok-list.was)) c.put-2.ensures.items c.put.ensures.items c.reserve_exact.ensures.items
+    (c.make_mut.follows.holds _ (ap is_ok c.in_ok-list.was)) c.put-2.ensures.items c.put.ensures.items
+    c.reserve_exact.ensures.items
     (empty-kept g.T.Build.keeps tree _ _ (c.in_ok-children.ensures.ok ∙ c.new.ensures.items)
     (g.met.T.Build.kept_alike _ _ c.in_ok-list.ensures.value)))
     refl)
@@ -37,7 +38,8 @@ returns-clause-ok g c =
     c.in_ok-leaf.ensures.is
     (two-put _ c.put-2.new.list.items c.put.new.list.items c.reserve_exact.new.self.items c.in_ok-list.list.now.items
     c.args.i c.cut-low.result c.in_ok-leaf.leaf
-    (c.make_mut.follows.holds _ (ap is_ok c.in_ok-list.was)) c.put-2.ensures.items c.put.ensures.items c.reserve_exact.ensures.items
+    (c.make_mut.follows.holds _ (ap is_ok c.in_ok-list.was)) c.put-2.ensures.items c.put.ensures.items
+    c.reserve_exact.ensures.items
     (empty-kept g.T.Build.keeps tree _ _ (c.in_ok-children.ensures.ok ∙ c.new.ensures.items)
     (g.met.T.Build.kept_alike _ _ c.in_ok-list.ensures.value)))
     c.assemble.ensures

@@ -20,4 +20,5 @@ returns-in-Ok-clause-child g c =
     c.requires c.in-Ok.ensures.place c.index-children-i.is
 
 pub returns-in-Err-clause-child : goal.returns-in-Err-clause-child
-returns-in-Err-clause-child g c = gap-none g.K.Ord.cmp g.met.K.Ord.total _ c.args.first.now c.in-Err.field-0 c.in-Err.ensures.place
+returns-in-Err-clause-child g c =
+    gap-none g.K.Ord.cmp g.met.K.Ord.total _ c.args.first.now c.in-Err.field-0 c.in-Err.ensures.place

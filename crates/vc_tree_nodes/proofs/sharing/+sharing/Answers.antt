@@ -12,7 +12,8 @@ share_list-share_tree-requires g t c κs within =
     let gives = c.into_iter-tree-iterator.ensures.into_iter_gives in
     let turn =
     YieldsList-turn (YieldsList-from_vec c.args.list.items gives.0 (gives.1 ∙ c.args.list.ok.0)) c.loop-tree.yielded
-    c.loop-tree.tree-iterator c.loop-tree.yielded_by c.next.result c.next.new.self c.in-Some.tree c.in-Some.is c.next.ensures.steps in
+    c.loop-tree.tree-iterator c.loop-tree.yielded_by c.next.result c.next.new.self c.in-Some.tree c.in-Some.is
+    c.next.ensures.steps in
     let fewer : nodes c.in-Some.tree ≤ forest_nodes (forest c.args.list.items) =
     rw turn.1 (list-nodes c.args.list.items (length c.loop-tree.yielded) c.in-Some.tree turn.0) in
     search rules

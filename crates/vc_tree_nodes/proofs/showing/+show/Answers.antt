@@ -11,6 +11,7 @@ show-requires g t c κs within =
     let all : forest_nodes (seen tree c.children-child-items.result.now) ≡ forest_nodes (tree c.args.tree.now).children =
     ap forest_nodes c.children-child-items.ensures in
     let fewer : nodes (tree c.child-item.result) ≤ forest_nodes (seen tree c.children-child-items.result.now) =
-    rw c.child-item.is (child-nodes g.K.Ord.cmp tree c.children-child-items.result.now c.loop-child.child-index c.child-item.result
+    rw c.child-item.is (child-nodes g.K.Ord.cmp tree c.children-child-items.result.now c.loop-child.child-index
+    c.child-item.result
     c.loop-child-test.true) in
     search rules
