@@ -2,7 +2,8 @@
 --     filtered-none, filtered-bare        no key starts so
 --     filtered        a copy of the node that they stand below, with what stands before it
 --     copy-solid        such a copy is solid
-use Rattle.std.proofs.Common.{◌≡◌, [], ◌∷◌, ◌++◌, List, Option, None, Some, true, false, Result, Ok, Err, IfOk, ◌⊎◌, inl, inr, refl, sym, ap, ◌∙◌, map, true≢false}
+use Rattle.std.proofs.Common.{◌≡◌, [], ◌∷◌, ◌++◌, List, Option, None, Some, true, false, Result, Ok, Err, IfOk, ◌⊎◌}
+use Rattle.std.proofs.Common.{inl, inr, refl, sym, ap, ◌∙◌, map, true≢false}
 use Rattle.std.specs.Cmp.{IsTotalOrder}
 use Rattle.std.specs.Option.{option_and_then}
 use Rattle.std.specs.declared.cmp.Ordering.{Ordering}
@@ -80,7 +81,8 @@ module _ {K V : Type 0} (cmp : K → K → Ordering) (o : IsTotalOrder cmp) wher
       filtered-copy : (copy u : Tree K V) → IsAlike keeps t copy → u ≡ node (front ++ copy.prefix) copy.value copy.children
           → IsEqualMap keeps (under cmp f p) (lookup cmp u)
       filtered-copy copy u a e k =
-          kept_by keeps (option_and_then (lookup cmp t) (behind cmp front k)) (option_and_then (lookup cmp copy) (behind cmp front k))
+          kept_by keeps (option_and_then (lookup cmp t) (behind cmp front k))
+          (option_and_then (lookup cmp copy) (behind cmp front k))
           (under cmp f p k) (lookup cmp u k) (sym (part k))
           (sym (ap (λ z. lookup cmp z k) e ∙ lookup-prepended cmp front copy k)) (then-kept (behind cmp front k))
         where

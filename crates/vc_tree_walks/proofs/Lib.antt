@@ -4,3 +4,4 @@ pub mod Scanning
 pub mod Paths
 pub mod WholeWalks
 pub mod Filtered
+pub mod KeyCounts

@@ -5,7 +5,9 @@
 --     started_at        what is left behind the root
 --     left-step, entered-step        a step out of the node that a path leads to, and a step to a child of it
 --     last-child        the child that was entered last
-use Rattle.std.proofs.Common.{◌≡◌, ℕ, zero, suc, ◌+◌, ◌-◌, ◌*◌, ◌<◌, ◌≤◌, List, [], ◌∷◌, ◌++◌, length, take, drop, get_or, map, Option, None, Some, refl, sym, ap, ◌∙◌, append_assoc, append-nil, add-one, subst, arith, min, ◌==◌, true≢false, false}
+use Rattle.std.proofs.Common.{◌≡◌, ℕ, zero, suc, ◌+◌, ◌-◌, ◌*◌, ◌<◌, ◌≤◌, List, [], ◌∷◌, ◌++◌, length, take, drop}
+use Rattle.std.proofs.Common.{get_or, map, Option, None, Some, refl, sym, ap, ◌∙◌, append_assoc, append-nil, add-one}
+use Rattle.std.proofs.Common.{subst, arith, min, ◌==◌, true≢false, false}
 use Rattle.std.proofs.Math.Nat.{min-zero, suc-min-suc, zero-min}
 use Rattle.std.proofs.Math.Seq.{take-length}
 use Rattle.std.proofs.lemmas.List.{take_more, take-append-drop, drop_all}
@@ -166,7 +168,8 @@ module _ {K V : Type 0} where
   pub started-work : (t : Tree K V) (front : ℕ) (path : List Place) → path ≡ opened t front
       → outer_work (rows_at t path) < 1 + 2 * nodes t
   started-work t front path ep =
-      let same : rows_at t path ≡ rows_at t (opened t front) ++ [] = ap (rows_at t) ep ∙ sym (append-nil (rows_at t (opened t front))) in
+      let same : rows_at t path ≡ rows_at t (opened t front) ++ [] = ap (rows_at t) ep
+      ∙ sym (append-nil (rows_at t (opened t front))) in
       let work = ap outer_work same in
       let most = opened-work t front [] in
       omega (arith, work, most)
@@ -182,18 +185,21 @@ module _ {K V : Type 0} where
       let whole : rows_at root path ≡ (bare, place.base) ∷ r.above = r.here place e ∙ ap (λ f. (f, place.base) ∷ r.above) es in
       let work = ap outer_work whole in
       let less = ap outer_work back in (
-        ap (rows_left (take front key)) whole ∙ ap (λ k. rows_left k r.above) (take-taken place.base front key ∙ ap (λ n. take n key) (sym ex))
+        ap (rows_left (take front key)) whole
+            ∙ ap (λ k. rows_left k r.above) (take-taken place.base front key ∙ ap (λ n. take n key) (sym ex))
             ∙ ap (rows_left (take next key)) (sym back),
         omega (arith, work, less),
       )
 
   -- a step to a child of it
-  pub entered-node : (root : Tree K V) (path now : List Place) (t c : Tree K V) (d : ℕ) (place : Place) (key spelled : List K) (front next base : ℕ)
+  pub entered-node : (root : Tree K V) (path now : List Place) (t c : Tree K V) (d : ℕ) (place : Place)
+      (key spelled : List K) (front next base : ℕ)
       → IsReached root path t d → place ≡ get_or path d place → tree_at place.entered t.children ≡ Some c
       → skip place.entered t.children ≡ grow c.prefix c.value c.children (skip (suc place.entered) t.children)
       → spelled ≡ take (min place.base front) key ++ c.prefix → next ≡ length spelled → base ≡ next - length c.prefix
       → now ≡ (take d path ++ record { entered = place.entered + 1; base = base } ∷ []) ++ opened c next
-      → (rows_left (take front key) (rows_at root path) ≡ pair_at spelled c.value ++ rows_left (take next spelled) (rows_at root now))
+      → (rows_left (take front key) (rows_at root path)
+      ≡ pair_at spelled c.value ++ rows_left (take next spelled) (rows_at root now))
       × (outer_work (rows_at root now) < outer_work (rows_at root path))
   entered-node root path now t c d place key spelled front next base r e ec es ek ex eb en =
       let others = skip (suc place.entered) t.children in
@@ -201,12 +207,14 @@ module _ {K V : Type 0} where
       let beside : Place = record { entered = place.entered + 1; base = base } in
       let back : rows_at root now ≡ rows_at c (opened c next) ++ (others, base) ∷ r.above =
       ap (rows_at root) (en ∙ append_assoc (take d path) (beside ∷ []) (opened c next)) ∙ r.rows (beside ∷ opened c next)
-      ∙ ap (λ xs. xs ++ r.above) (rows-open t c beside (opened c next) (ap (λ n. entered n t.children) (add-one place.entered) ∙ ec))
+      ∙ ap (λ xs. xs ++ r.above) (rows-open t c beside (opened c next)
+      (ap (λ n. entered n t.children) (add-one place.entered) ∙ ec))
       ∙ append_assoc (rows_at c (opened c next)) ((skip (place.entered + 1) t.children, base) ∷ []) r.above
       ∙ ap (λ n. rows_at c (opened c next) ++ (skip n t.children, base) ∷ r.above) (add-one place.entered) in
       let whole : rows_at root path ≡ (grow c.prefix c.value c.children others, place.base) ∷ r.above =
       r.here place e ∙ ap (λ f. (f, place.base) ∷ r.above) es in
-      let spelt : spelled ≡ take place.base k ++ c.prefix = ek ∙ ap (λ q. q ++ c.prefix) (sym (take-taken place.base front key)) in
+      let spelt : spelled ≡ take place.base k ++ c.prefix =
+      ek ∙ ap (λ q. q ++ c.prefix) (sym (take-taken place.base front key)) in
       let all : take next spelled ≡ spelled = ap (λ n. take n spelled) ex ∙ take-length spelled in
       let work = ap outer_work whole in
       let less = ap outer_work back in
@@ -291,7 +299,8 @@ module _ {K V T : Type 0} (tree : T → Tree K V) where
       → (rows_left (take front key) (rows_at root path)
       ≡ pair_at spelled (tree child).value ++ rows_left (take next spelled) (rows_at root now))
       × (outer_work (rows_at root now) < outer_work (rows_at root path))
-  entered-step root path slice path₁ path₂ now t child d place key spelled p shown front least next base kids r es e ek lt eh ep el esp ew ex eb e₁ e₂ e₃ =
+  entered-step root path slice path₁ path₂ now t child d place key spelled p shown front least next base kids r es e
+      ek lt eh ep el esp ew ex eb e₁ e₂ e₃ =
       let there : tree_at place.entered (tree t).children ≡ Some (tree child) =
       ap (tree_at place.entered) (sym ek) ∙ tree-of_list kids place.entered child lt ∙ ap (λ y. Some (tree y)) (sym eh) in
       entered-node root path now (tree t) (tree child) d place key spelled front next base

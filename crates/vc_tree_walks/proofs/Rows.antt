@@ -2,7 +2,8 @@
 --     first-tree        the pairs of a row are those of its first tree, and then the others
 --     entered, entered-leaf        a step to a tree finds its own pair, and leaves those of its children and of the trees beside it
 --     entered-rows        the same with rows as the iterator stores them
-use Rattle.std.proofs.Common.{◌≡◌, ℕ, zero, suc, ◌-◌, ◌≤◌, List, [], ◌∷◌, ◌++◌, length, take, map, Option, None, Some, refl, sym, ap, ◌∙◌, append_assoc, append-nil, length-append, arith}
+use Rattle.std.proofs.Common.{◌≡◌, ℕ, zero, suc, ◌-◌, ◌≤◌, List, [], ◌∷◌, ◌++◌, length, take, map, Option, None, Some}
+use Rattle.std.proofs.Common.{refl, sym, ap, ◌∙◌, append_assoc, append-nil, length-append, arith}
 use Rattle.std.proofs.Math.Seq.{take-append_seam, take-length}
 use Rattle.std.proofs.lemmas.List.{reverse-append}
 use Rattle.std.specs.Prelude.{reverse}
@@ -97,7 +98,8 @@ module _ {K V T : Type 0} (tree : T → Tree K V) where
       → seen tree kids.now ≡ (tree t).children
       → beside ≡ record { trees = row.trees; base = length shown - length p }
       → below ≡ record { trees = kids; base = length shown } → above ≡ rows ++ beside ∷ []
-      → rows_left key ((grow (tree t).prefix (tree t).value (tree t).children (seen tree row.trees.now), row.base) ∷ map (row_of tree) (reverse rows))
+      → rows_left key ((grow (tree t).prefix (tree t).value (tree t).children (seen tree row.trees.now), row.base) ∷
+      map (row_of tree) (reverse rows))
       ≡ pair_at now (tree t).value ++ rows_left now (rows_of tree below above)
   entered-rows t key now shown p row beside below kids rows above ep en es ek eb ew ea =
       let q = (tree t).prefix in

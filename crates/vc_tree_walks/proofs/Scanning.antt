@@ -4,7 +4,8 @@
 --     walk-ended, walk-inside        the pairs of such a node, where the prefix ends behind or in that of the node
 --     child-agrees        the child agrees with what is left in one component
 --     walk-default, walk-childless        where the two part, and where no child is, there are none
-use Rattle.std.proofs.Common.{◌≡◌, ◌≢◌, ℕ, zero, suc, [], ◌∷◌, ◌++◌, take, drop, List, length, Option, None, Some, refl, sym, ap, ◌∙◌, true, false, Bool, cond, true≢false, subst, map, arith}
+use Rattle.std.proofs.Common.{◌≡◌, ◌≢◌, ℕ, zero, suc, [], ◌∷◌, ◌++◌, take, drop, List, length, Option, None, Some}
+use Rattle.std.proofs.Common.{refl, sym, ap, ◌∙◌, true, false, Bool, cond, true≢false, subst, map, arith}
 use Rattle.std.proofs.Math.Seq.{take-length}
 use Rattle.std.specs.Option.{option_and, option_and_then}
 use Rattle.std.specs.Ordering.{is_eq, ordering_reverse}
@@ -23,7 +24,8 @@ use Rattle.vc_tree_nodes.specs.Parting.{Agree, PartsAt, IsParting}
 use Rattle.vc_tree_nodes.specs.declared.parting.Parting.{Parting}
 use Rattle.vc_tree_nodes.specs.declared.parting.Parting.TheVariants.{Behind, Inside, Lower, Higher}
 use Rattle.vc_tree_nodes.specs.Places.{IsNoChild, IsFoundChild}
-use Rattle.vc_tree_model.proofs.KeyLemmas.{none-some, behind-append, behind-joins, behind-same, then_behind, same-itself, same-flip, both-true}
+use Rattle.vc_tree_model.proofs.KeyLemmas.{none-some, behind-append, behind-joins, behind-same, then_behind}
+use Rattle.vc_tree_model.proofs.KeyLemmas.{same-itself, same-flip, both-true}
 use Rattle.vc_tree_model.proofs.LookupLemmas.{children-ordered, lookup_in-same, lookup-same}
 use Rattle.vc_tree_model.proofs.UnderLemmas.{is_walk-equal, walk-prefixed}
 use Rattle.vc_tree_model.proofs.Walking.{walk-is}
@@ -231,7 +233,8 @@ module _ {K V : Type 0} where
       pub part-start : (root : Tree K V) (prefix : List K) → IsPart root prefix root [] prefix
       part-start root prefix = record { same = λ k. refl }
 
-      module _ (root : Tree K V) (prefix : List K) (t : Tree K V) (front rest : List K) (p : IsPart root prefix t front rest) where
+      module _ (root : Tree K V) (prefix : List K) (t : Tree K V) (front rest : List K)
+          (p : IsPart root prefix t front rest) where
         -- a node of which all keys are under the rest
         walk-node : IsCanonical cmp t → ((k : List K) → under cmp (lookup cmp t) rest k ≡ lookup cmp t k)
             → IsWalk cmp (under cmp (lookup cmp root) prefix) (map (prepended front) (walk t))
@@ -260,7 +263,8 @@ module _ {K V : Type 0} where
             agree : same_key cmp (take (length rest) rest) (take (length rest) t.prefix) ≡ true
             agree =
                 same-flip cmp o (take (length rest) rest) (take (length rest) t.prefix)
-                ∙ ap (λ m. same_key cmp (take m t.prefix) (take m rest)) (sym h) ∙ ap (λ l. same_key cmp (take n l) (take n rest)) (sym e) ∙ a.same
+                ∙ ap (λ m. same_key cmp (take m t.prefix) (take m rest)) (sym h)
+                ∙ ap (λ l. same_key cmp (take n l) (take n rest)) (sym e) ∙ a.same
 
         -- the rest of the prefix behind that of the node
         left_of : (q : List K) → q ≡ t.prefix → Agree cmp q rest (length q)
@@ -298,7 +302,11 @@ module _ {K V : Type 0} where
 
         -- the same node with its front and rest as slices
         pub part-split : (a b : List K) → a ≡ front → b ≡ rest → IsPart root prefix t a b
-        part-split a b e h = record { same = λ k. p.same k ∙ ap (λ r. prefixed cmp (under cmp (lookup cmp t) r) front k) (sym h) ∙ ap (λ f. prefixed cmp (under cmp (lookup cmp t) b) f k) (sym e) }
+        part-split a b e h = record {
+          same =
+              λ k. p.same k ∙ ap (λ r. prefixed cmp (under cmp (lookup cmp t) r) front k) (sym h)
+              ∙ ap (λ f. prefixed cmp (under cmp (lookup cmp t) b) f k) (sym e);
+        }
 
         -- the child where the rest leads
         pub part-next : (q left : List K) (x : K) (l : List K) (child : Tree K V) → q ≡ t.prefix

@@ -42,7 +42,8 @@ module _ {K V : Type 0} where
 pub entered-values : {K V T : Type 0} (tree : T → Tree K V) (t : T) (row kids beside below : Bor (List T))
     → (rows above : List (Bor (List T))) → seen tree kids.now ≡ (tree t).children → beside ≡ row → below ≡ kids
     → above ≡ rows ++ beside ∷ []
-    → rows_values ((grow (tree t).prefix (tree t).value (tree t).children (seen tree row.now), 0) ∷ map (λ r. (seen tree r.now, 0)) (reverse rows))
+    → rows_values ((grow (tree t).prefix (tree t).value (tree t).children (seen tree row.now), 0) ∷ map
+    (λ r. (seen tree r.now, 0)) (reverse rows))
     ≡ own_value (tree t).value ++ rows_values (rows_of tree below.now above)
 entered-values {K = K} {V = V} {T = T} tree t row kids beside below rows above ek eb ew ea =
     let v = (tree t).value in

@@ -1,8 +1,9 @@
 //! Walks over radix trees of any flavour: iterators of all pairs, of the pairs under a prefix, of
-//! the values, and of the pairs of a tree that the iterator holds; and the tree of the keys under a
-//! prefix. For the crates above; the calls that users make stand in `vc_trees`.
+//! the values, and of the pairs of a tree that the iterator holds; how many these are; and the tree
+//! of the keys under a prefix. For the crates above; the calls that users make stand in `vc_trees`.
 #![tactic(auto)]
 
+pub mod counting;
 pub mod filtering;
 pub mod iter;
 pub mod key;

@@ -13,7 +13,9 @@ returns-in_default g c =
     filtered-none g.K.Ord.cmp g.met.K.Ord.total (Copies g.V.Clone.is_clone)
     (lookup g.K.Ord.cmp (g.T.RadixNode.tree c.args.tree.now)) c.args.prefix.now (g.T.RadixNode.tree c.blank.result)
     c.blank.ensures
-    (subst (λ r. IsWalk g.K.Ord.cmp (under g.K.Ord.cmp (lookup g.K.Ord.cmp (g.T.RadixNode.tree c.args.tree.now)) c.args.prefix.now) (pairs_from g.T.RadixNode.tree r))
+    (subst (λ r. IsWalk g.K.Ord.cmp
+    (under g.K.Ord.cmp (lookup g.K.Ord.cmp (g.T.RadixNode.tree c.args.tree.now)) c.args.prefix.now)
+    (pairs_from g.T.RadixNode.tree r))
     c.in_default.is c.find_under.ensures)
 
 pub returns-then-is_empty : goal.returns-then-is_empty
@@ -21,7 +23,9 @@ returns-then-is_empty g c =
     filtered-bare g.K.Ord.cmp g.met.K.Ord.total (Copies g.V.Clone.is_clone)
     (lookup g.K.Ord.cmp (g.T.RadixNode.tree c.args.tree.now)) c.args.prefix.now c.in-Some.front.now
     (g.T.RadixNode.tree c.in-Some.node.now) c.canonical.ensures
-    (subst (λ r. IsWalk g.K.Ord.cmp (under g.K.Ord.cmp (lookup g.K.Ord.cmp (g.T.RadixNode.tree c.args.tree.now)) c.args.prefix.now) (pairs_from g.T.RadixNode.tree r))
+    (subst (λ r. IsWalk g.K.Ord.cmp
+    (under g.K.Ord.cmp (lookup g.K.Ord.cmp (g.T.RadixNode.tree c.args.tree.now)) c.args.prefix.now)
+    (pairs_from g.T.RadixNode.tree r))
     c.in-Some.is c.find_under.ensures)
     (g.T.RadixNode.tree c.blank-then-is_empty.result) c.blank-then-is_empty.ensures (sym c.is_empty.ensures ∙ c.if-is_empty.true)
 
@@ -30,9 +34,12 @@ returns g c =
     filtered g.K.Ord.cmp g.met.K.Ord.total (Copies g.V.Clone.is_clone)
     (lookup g.K.Ord.cmp (g.T.RadixNode.tree c.args.tree.now)) c.args.prefix.now c.in-Some.front.now
     (g.T.RadixNode.tree c.in-Some.node.now) c.canonical.ensures
-    (subst (λ r. IsWalk g.K.Ord.cmp (under g.K.Ord.cmp (lookup g.K.Ord.cmp (g.T.RadixNode.tree c.args.tree.now)) c.args.prefix.now) (pairs_from g.T.RadixNode.tree r))
+    (subst (λ r. IsWalk g.K.Ord.cmp
+    (under g.K.Ord.cmp (lookup g.K.Ord.cmp (g.T.RadixNode.tree c.args.tree.now)) c.args.prefix.now)
+    (pairs_from g.T.RadixNode.tree r))
     c.in-Some.is c.find_under.ensures)
-    g.T.RadixNode.tree (g.T.RadixNode.tree c.in_ok-copy_tree.field-0) c.new_joined.result c.in_ok-copy_tree.ensures c.new_joined.ensures
+    g.T.RadixNode.tree (g.T.RadixNode.tree c.in_ok-copy_tree.field-0) c.new_joined.result c.in_ok-copy_tree.ensures
+    c.new_joined.ensures
 
 pub new_joined-requires : goal.new_joined-requires
 new_joined-requires g c =

@@ -6,7 +6,8 @@ use Rattle.std.proofs.lemmas.List.{drop-drop}
 use Rattle.vc_tree_nodes.specs.Children.{seen}
 use Rattle.vc_tree_nodes.specs.Parting.{Agree}
 use Rattle.vc_tree_nodes.specs.Places.{IsNoChild, IsFoundChild}
-use Rattle.vc_tree_walks.proofs.Scanning.{no-first, first-cons, none-of, some-of, part-split, part-next, child-agrees, walk-inside, walk-ended, walk-default, walk-childless}
+use Rattle.vc_tree_walks.proofs.Scanning.{no-first, first-cons, none-of, some-of, part-split, part-next, child-agrees}
+use Rattle.vc_tree_walks.proofs.Scanning.{walk-inside, walk-ended, walk-default, walk-childless}
 use Rattle.vc_tree_walks.proofs.scan.find_under.Goals as goal
 
 pub returns-in-Inside : goal.returns-in-Inside
@@ -82,7 +83,8 @@ loop-here-preserved g c =
     ∙ ap (λ l. l ++ take here (drop used prefix)) (sym s.front) ∙ ap (λ l. c.split_at.result.0.now ++ take here l) (sym s.back)
     ∙ ap (λ n. c.split_at.result.0.now ++ take n c.split_at.result.1.now) t.front_len in
     let rest : drop (used + here) prefix ≡ left =
-    sym (drop-drop here used prefix) ∙ ap (drop here) (sym s.back) ∙ ap (λ n. drop n c.split_at.result.1.now) t.front_len ∙ sym t.back in
+    sym (drop-drop here used prefix) ∙ ap (drop here) (sym s.back)
+    ∙ ap (λ n. drop n c.split_at.result.1.now) t.front_len ∙ sym t.back in
     record {
       part = part-split cmp o _ _ _ _ _ next _ _ front rest;
       within = let a = t.back_len in let b = s.back_len in omega (arith, a, b);
