@@ -10,25 +10,17 @@
 //! assert!(rt; filter.check(b"ac") && !filter.check(b"abc"));
 //! ```
 
-ghost use Rattle.std.specs.Prelude.{◌≡◌, ◌≤◌, None, true, false, IfSome, OnOk, OnErr, MatchOption};
-ghost use Rattle.std.specs.Option.{option_copied};
+ghost use Rattle.std.specs.Prelude.{◌≡◌, true, false, OnOk, OnErr};
 ghost use Rattle.vc_path_filter.specs.Allowed.{is_allowed, IsRestricted};
-ghost use Rattle.vc_tree_model.specs.Canonical.{AreChildren, IsCanonical};
-ghost use Rattle.vc_tree_model.specs.Cover.{cover};
-ghost use Rattle.vc_tree_model.specs.Key.{behind};
-ghost use Rattle.vc_tree_model.specs.Map.{lookup, lookup_in, HaveEqualMaps, IsInserted};
-ghost use Rattle.vc_tree_model.specs.Tree.{no_tree, nodes, forest_nodes};
-ghost use Rattle.vc_tree_nodes.specs.Children.{seen};
+ghost use Rattle.vc_tree_model.specs.Canonical.{IsCanonical};
+ghost use Rattle.vc_tree_model.specs.Map.{lookup, HaveEqualMaps, IsInserted};
+ghost use Rattle.vc_tree_model.specs.Tree.{no_tree};
 
 use std::alloc::{AllocError, Global};
 use std::default::MadeWith;
 use std::marker::Model;
-use vc_merge::merge::Uncounted;
-use vc_tree_nodes::places::child_at;
 use vc_tree_nodes::reading::canonical;
-use vc_trees::radix_tree::{
-    AbstractRadixTree, AbstractRadixTreeMut, ArcRadixTree, RadixNode, TKey, TValue,
-};
+use vc_trees::radix_tree::{AbstractRadixTree, AbstractRadixTreeMut, ArcRadixTree, TKey, TValue};
 
 /// Rules on paths. It is seen as the tree of its rules, which has true at the paths that were
 /// allowed, and false at those that were denied.
@@ -107,7 +99,7 @@ impl<K: TKey> PathFilter<K> {
     pub fn check(&self, path: &[K]) -> bool
         ensures { result ≡ is_allowed K.cmp self.now path.now }
     {
-        longest_rule(&self.rules, path).unwrap_or(false)
+        matches!(self.rules.get_longest(path), Some((_, true)))
     }
 
     /// Keeps the keys of a tree that the filter allows, with their values, and drops the others:
@@ -157,47 +149,4 @@ impl<K: TKey + MadeWith<Global>> Clone for PathFilter<K> {
             rules: self.rules.clone()?,
         })
     }
-}
-
-/// The longest rule that is a prefix of the path.
-fn longest_rule<K: TKey>(rules: &ArcRadixTree<K, bool>, path: &[K]) -> Option<bool>
-    ensures { result ≡ cover (lookup K.cmp rules.now) path.now }
-{
-    let mut node = rules;
-    let mut rest = path;
-    let mut longest = None;
-    while let Some(left) = rest_behind(node.prefix(), rest) {
-        longest = node.value().copied().or(longest);
-        let Some(child) = child_on(node.children(), left) else {
-            return longest;
-        };
-        node = child;
-        rest = left;
-    }
-    longest
-}
-
-/// What is left of the path behind the prefix, if the path starts with it.
-fn rest_behind<'p, K: Ord>(prefix: &[K], path: &'p [K]) -> Option<&'p [K]>
-    ensures { option_copied result ≡ behind K.cmp prefix.now path.now }
-{
-    path.strip_prefix(prefix)
-}
-
-/// The node among children that covers what they cover of the path: the one that begins as the path
-/// does.
-fn child_on<'a, K: TKey>(
-    children: &'a [ArcRadixTree<K, bool>],
-    path: &[K],
-) -> Option<&'a ArcRadixTree<K, bool>>
-    requires { AreChildren K.cmp (seen (λ t. t) children.now) }
-    ensures covers { let below = cover (lookup_in K.cmp (seen (λ t. t) children.now)) path.now in
-        MatchOption result (below ≡ None) (λ child. below ≡ cover (lookup K.cmp child.now) path.now) }
-    ensures smaller { IfSome result
-        (λ child. nodes child.now ≤ forest_nodes (seen (λ t. t) children.now)) }
-{
-    let Some(first) = path.first() else {
-        return None;
-    };
-    child_at::<K, bool, ArcRadixTree<K, bool>, Uncounted>(children, first, &mut Uncounted)
 }
