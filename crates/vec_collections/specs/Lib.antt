@@ -1,6 +1,7 @@
 -- What the public clauses of the exported items cite, and the words of the laws, so that a user has every name from this crate.
 pub mod Exact
 pub use Rattle.vc_btree_maps.specs.Keeping
+pub use Rattle.vc_btree_maps.specs.KeepingValues
 pub use Rattle.vc_btree_maps.specs.Pairs
 pub use Rattle.vc_joins.specs.Answers
 pub use Rattle.vc_joins.specs.Entries
@@ -8,6 +9,7 @@ pub use Rattle.vc_joins.specs.InPlace as JoinInPlace
 pub use Rattle.vc_joins.specs.Join
 pub use Rattle.vc_joins.specs.Laws as JoinLaws
 pub use Rattle.vc_joins.specs.Question
+pub use Rattle.vc_joins.specs.Values as JoinValues
 pub use Rattle.vc_joins.specs.declared.question.JoinKind
 pub use Rattle.vc_joins.specs.declared.question.OuterJoinArg
 pub use Rattle.vc_maps.specs.Combining as MapCombining
