@@ -5,7 +5,8 @@
 --     united-at        what a union makes at one key
 --     on-refused        what follows of a refusal
 --     of-list        what holds of all that an iterator over a list gives, holds of the list
-use Rattle.std.proofs.Common.{◌≡◌, ◌==◌, ℕ, Bool, List, Option, None, Some, Result, Ok, Err, IsTrue, IsFalse, OnErr, refl, sym, ap, subst, ◌∙◌, rules}
+use Rattle.std.proofs.Common.{◌≡◌, ◌==◌, ℕ, Bool, List, Option, None, Some, Result, Ok, Err, IsTrue, IsFalse, OnErr}
+use Rattle.std.proofs.Common.{refl, sym, ap, subst, ◌∙◌, rules}
 use Rattle.std.proofs.lemmas.Bool.{eqb-true}
 use Rattle.std.specs.Iterator.Runs.{EveryRun, ItemsAre, WholeRun}
 use Rattle.std.specs.declared.cmp.Ordering.{Ordering}

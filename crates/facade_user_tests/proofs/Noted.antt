@@ -1,9 +1,11 @@
 -- What a merge notes is the script of its two lists.
-use Rattle.std.proofs.Common.{◌≡◌, ℕ, false, List, [], ◌∷◌, ◌++◌, map, take, length, Ok, inl, inr, refl, sym, ap, subst, ◌∙◌, append_assoc}
+use Rattle.std.proofs.Common.{◌≡◌, ℕ, false, List, [], ◌∷◌, ◌++◌, map, take, length, Ok, inl, inr, refl, sym, ap}
+use Rattle.std.proofs.Common.{subst, ◌∙◌, append_assoc}
 use Rattle.std.proofs.lemmas.List.{append-nil}
 use Rattle.std.proofs.Math.Seq.{take-append_seam}
 use mathlib.Core.Bool.{true≢false}
-use Rattle.vec_collections.specs.Chain.{Allows, allows, Run, Step, of_left, of_right, of_both, run_events, events, IsAllowed, Steps, IsMerged}
+use Rattle.vec_collections.specs.Chain.{Allows, allows, Run, Step, of_left, of_right, of_both, run_events, events}
+use Rattle.vec_collections.specs.Chain.{IsAllowed, Steps, IsMerged}
 use Rattle.vec_collections.specs.Script.{left_alone, right_alone, IsScript}
 use Rattle.facade_user_tests.specs.declared.changes.Change.{Change}
 use Rattle.facade_user_tests.specs.declared.changes.Change.TheVariants.{Gone, New}
@@ -11,12 +13,14 @@ use Rattle.facade_user_tests.specs.declared.changes.Diff.{Diff}
 use Rattle.facade_user_tests.specs.Changes.{event_of, by_number, noted, noting, first_of_both, old_left, new_left}
 
 -- the events of changes behind others
-pub gone-append : (cs : List Change) (xs : List ℕ) → map event_of (cs ++ map (λ x. Gone x) xs) ≡ map event_of cs ++ map (λ x. left_alone x) xs
+pub gone-append : (cs : List Change) (xs : List ℕ) → map event_of (cs ++ map (λ x. Gone x) xs)
+    ≡ map event_of cs ++ map (λ x. left_alone x) xs
 gone-append [] [] = refl
 gone-append [] (x ∷ xs) = ap (λ es. left_alone x ∷ es) (gone-append [] xs)
 gone-append (c ∷ cs) xs = ap (λ es. event_of c ∷ es) (gone-append cs xs)
 
-pub come-append : (cs : List Change) (ys : List ℕ) → map event_of (cs ++ map (λ y. New y) ys) ≡ map event_of cs ++ map (λ y. right_alone y) ys
+pub come-append : (cs : List Change) (ys : List ℕ) → map event_of (cs ++ map (λ y. New y) ys)
+    ≡ map event_of cs ++ map (λ y. right_alone y) ys
 come-append [] [] = refl
 come-append [] (y ∷ ys) = ap (λ es. right_alone y ∷ es) (come-append [] ys)
 come-append (c ∷ cs) ys = ap (λ es. event_of c ∷ es) (come-append cs ys)
@@ -56,5 +60,6 @@ goes-on s t (of_both x y) h = true≢false (sym h.0)
 pub script-noted : (s t : Diff) (done : Unit {0}) → IsMerged diffs by_number s (Ok done) t → noted s ≡ []
     → IsScript by_number (old_left s) (new_left s) (noted t)
 script-noted s t done (inl w) e =
-    subst (λ es. IsScript by_number (old_left s) (new_left s) es) (sym (noted-steps s t w.runs w.steps ∙ ap (λ es. es ++ events w.runs) e)) w.script
+    subst (λ es. IsScript by_number (old_left s) (new_left s) es)
+    (sym (noted-steps s t w.runs w.steps ∙ ap (λ es. es ++ events w.runs) e)) w.script
 script-noted s t done (inr w) e = absurd (goes-on w.before t w.last w.allowed)

@@ -1,13 +1,15 @@
-//! Trees from outside: look-ups with a counter, tests of keys, and whole trees made of others.
-ghost use Rattle.std.specs.Prelude.{◌≡◌, ◌↔◌, ◌==◌, ◌+◌, ◌*◌, ◌≤◌, MatchBool, IfOk, IsTrue, length, map};
-ghost use Rattle.std.specs.Option.{is_some};
+//! Trees from outside: look-ups by the longest key and with a counter, tests of keys, and whole
+//! trees made of others.
+ghost use Rattle.std.specs.Prelude.{◌≡◌, ◌↔◌, ◌==◌, ◌+◌, ◌-◌, ◌*◌, ◌^◌, ◌≤◌, MatchBool, IfOk, IsTrue, length, map, min};
+ghost use Rattle.std.specs.Option.{is_some, option_map};
 ghost use Rattle.std.specs.Ordering.{nat_cmp};
 ghost use Rattle.vec_collections.specs.Children.{seen};
 ghost use Rattle.vec_collections.specs.Count.{digits};
+ghost use Rattle.vec_collections.specs.Cover.{cover};
 ghost use Rattle.vec_collections.specs.KeySets.{AreDisjoint, HasKeysOf, LacksKeyOf, ShareKey};
 ghost use Rattle.vec_collections.specs.Map.{lookup, IsEqualMap};
 ghost use Rattle.vec_collections.specs.Same.{IsAlike};
-ghost use Rattle.vec_collections.specs.Tree.{width};
+ghost use Rattle.vec_collections.specs.Tree.{key_count, width};
 ghost use Rattle.vec_collections.specs.TreePairs.{IsCollected};
 
 use crate::trees::{Ports, SharedPorts};
@@ -15,11 +17,30 @@ use std::alloc::{AllocError, Global};
 use vec_collections::merge::Steps;
 use vec_collections::radix_tree::{AbstractRadixTree, ArcRadixTree, RadixNode, RadixTree};
 
+/// How many servers have a port.
+pub fn count_servers<T: AbstractRadixTree<u8, u32>>(ports: &T) -> usize
+    ensures { result ≡ min (key_count (T.tree ports.now)) (2 ^ 64 - 1) }
+{
+    ports.len()
+}
+
 /// Whether a server has a port.
 pub fn has_port<T: AbstractRadixTree<u8, u32>>(ports: &T, server: &[u8]) -> bool
     ensures { result ≡ is_some (lookup nat_cmp (T.tree ports.now) server.now) }
 {
     ports.contains_key(server)
+}
+
+/// The port of the domain with the longest name that this one begins with, and what is left of the
+/// name behind it.
+pub fn port_of_domain<'n, T: AbstractRadixTree<u8, u32>>(
+    ports: &T,
+    name: &'n [u8],
+) -> Option<(u32, &'n [u8])>
+    ensures { option_map (λ b. b.0) result ≡ cover (lookup nat_cmp (T.tree ports.now)) name.now }
+{
+    let (length, port) = ports.get_longest(name)?;
+    Some((*port, &name[length..]))
 }
 
 /// The port of a server, with the comparisons added to `steps`.

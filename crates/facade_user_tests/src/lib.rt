@@ -5,7 +5,10 @@
 pub mod changes;
 pub mod combines;
 pub mod filters;
+pub mod generic;
 pub mod keys;
+pub mod ledgers;
+pub mod loading;
 pub mod maps;
 pub mod one_tree;
 pub mod sets;

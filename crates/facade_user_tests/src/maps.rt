@@ -1,13 +1,19 @@
-//! Maps from outside: look-ups, changes and joins in place, with what a user says of them.
-ghost use Rattle.std.specs.Prelude.{◌≡◌, ◌-◌, ◌↔◌, [], cond, drop, length, slice_get, take, Some, None, ℕ, IsSome, IsTrue, IfOk, IfSome, IsOk, OnOk, OnErr};
-ghost use Rattle.std.specs.Map.{keys_of};
+//! Maps from outside: look-ups, changes and joins, with what a user says of them.
+ghost use Rattle.std.specs.Prelude.{◌≡◌, ◌-◌, ◌↔◌, [], cond, drop, length, min, reverse, slice_get, take, Some, None, ℕ, IsSome, IsTrue, IfOk, IfSome, IsOk, OnOk, OnErr};
+ghost use Rattle.std.specs.BTreeMap.Range.{entries_between};
+ghost use Rattle.std.specs.Map.{keys_of, values_of};
 ghost use Rattle.std.specs.Option.{option_copied};
 ghost use Rattle.std.specs.Ordering.{eq_by_cmp, nat_cmp};
+ghost use Rattle.std.specs.declared.ops.Bound.TheVariants.{Included, Excluded};
 ghost use Rattle.vec_collections.specs.Entries.{value_at};
+ghost use Rattle.vec_collections.specs.JoinValues.{in_both, in_either, in_left, in_right};
+ghost use Rattle.facade_user_tests.specs.Stock.{filled, left_over, together};
 
 use std::alloc::{AllocError, Global};
 use vec_collections::iterators::ascends_by_key;
-use vec_collections::vec_map::{AbstractVecMap, OuterJoinArg, VecMap};
+use vec_collections::vec_map::{
+    AbstractVecMap, OuterJoinArg, VecMap, inner_join, left_join, outer_join, right_join,
+};
 
 /// How many pieces there are of each article, of which four need no allocation.
 pub type Stock = VecMap<u32, u32, 4>;
@@ -81,6 +87,42 @@ pub fn ends(stock: &Stock) -> (Option<&(u32, u32)>, Option<&(u32, u32)>)
     (stock.first(), stock.last())
 }
 
+/// The articles from one number on and below another, none where that is not above the first.
+pub fn articles_within(stock: &Stock, from: u32, to: u32) -> &[(u32, u32)]
+    ensures { result.now ≡ entries_between nat_cmp (Included from) (Excluded to) stock.now }
+{
+    stock.range(from..to)
+}
+
+/// The numbers of all articles, the greatest first.
+pub fn numbers_backwards(alloc: Global, stock: &Stock) -> Result<Vec<u32>, AllocError>
+    ensures { IfOk result (λ list. list.items ≡ reverse (keys_of stock.now)) }
+{
+    stock.keys().rev().copied().collect(alloc)
+}
+
+/// How many pieces there are of each article, in ascending order of the articles.
+pub fn all_pieces(alloc: Global, stock: &Stock) -> Result<Vec<u32>, AllocError>
+    ensures { IfOk result (λ list. list.items ≡ values_of stock.now) }
+{
+    stock.values().copied().collect(alloc)
+}
+
+/// How many articles an iterator shows.
+pub fn count_shown(stock: &Stock) -> usize
+    ensures { result ≡ length stock.now }
+{
+    stock.iter().len()
+}
+
+/// The stock of a list in any order. Of an article that stands there twice the last entry counts.
+pub fn of_any_list(alloc: Global, list: Vec<(u32, u32)>) -> Result<Stock, AllocError>
+    ensures { IfOk result (λ stock. (article : ℕ)
+        → value_at nat_cmp stock article ≡ value_at nat_cmp (reverse list.items) article) }
+{
+    Stock::from_unsorted(alloc, list)
+}
+
 /// Takes the article with the least number out of stock.
 pub fn take_least(stock: &mut Stock) -> Option<(u32, u32)>
     ensures least { result ≡ slice_get stock.old 0 }
@@ -106,6 +148,8 @@ pub fn sell_out(stock: &mut Stock)
 
 /// Takes a delivery in.
 pub fn deliver(stock: &mut Stock, delivery: &Stock) -> Result<(), AllocError>
+    ensures pieces { OnOk result ((k : ℕ) → value_at nat_cmp stock.new k
+        ≡ in_either together (value_at nat_cmp stock.old k) (value_at nat_cmp delivery.now k)) }
     ensures err { OnErr result (stock.new ≡ stock.old) }
 {
     stock.outer_join_with(
@@ -120,21 +164,28 @@ pub fn deliver(stock: &mut Stock, delivery: &Stock) -> Result<(), AllocError>
     )
 }
 
-/// Takes what was sold out. An article of which nothing is left goes.
+/// Takes out of stock what was sold.
 pub fn sell(stock: &mut Stock, sold: &Stock) -> Result<(), AllocError>
+    ensures pieces { (k : ℕ) → value_at nat_cmp stock.new k
+        ≡ in_left left_over (value_at nat_cmp stock.old k) (value_at nat_cmp sold.now k) }
     ensures always { IsOk result }
 {
     stock.left_join_with(
         sold,
         |_: &u32, held: u32, sold: Option<&u32>| -> Option<u32> {
-            let left = held.saturating_sub(*sold.unwrap_or(&0));
-            if left == 0 { None } else { Some(left) }
+            match sold {
+                Some(sold) => Some(held.saturating_sub(*sold)),
+                None => Some(held),
+            }
         },
     )
 }
 
 /// Keeps the articles that a list names.
 pub fn keep_listed(stock: &mut Stock, list: &Stock) -> Result<(), AllocError>
+    ensures pieces { (k : ℕ) → value_at nat_cmp stock.new k
+        ≡ in_both (λ held listed. Some held) (value_at nat_cmp stock.old k)
+        (value_at nat_cmp list.now k) }
     ensures always { IsOk result }
 {
     stock.inner_join_with(list, |_: &u32, held: u32, _: &u32| -> Option<u32> {
@@ -144,6 +195,8 @@ pub fn keep_listed(stock: &mut Stock, list: &Stock) -> Result<(), AllocError>
 
 /// Makes the stock what a list says, and at least what is there.
 pub fn fill_up(stock: &mut Stock, list: &Stock) -> Result<(), AllocError>
+    ensures pieces { OnOk result ((k : ℕ) → value_at nat_cmp stock.new k
+        ≡ in_right filled (value_at nat_cmp stock.old k) (value_at nat_cmp list.now k)) }
     ensures err { OnErr result (stock.new ≡ stock.old) }
 {
     stock.right_join_with(
@@ -153,6 +206,77 @@ pub fn fill_up(stock: &mut Stock, list: &Stock) -> Result<(), AllocError>
                 Some(held) => Some(held.max(*listed)),
                 None => Some(*listed),
             }
+        },
+    )
+}
+
+/// The pieces of two stocks together.
+pub fn pool(alloc: Global, here: &Stock, there: &Stock) -> Result<Stock, AllocError>
+    ensures { IfOk result (λ all. (k : ℕ) → value_at nat_cmp all k
+        ≡ in_either together (value_at nat_cmp here.now k) (value_at nat_cmp there.now k)) }
+{
+    outer_join(
+        alloc,
+        here,
+        there,
+        |at: OuterJoinArg<&u32, &u32, &u32>| -> Result<Option<u32>, AllocError> {
+            Ok(match at {
+                OuterJoinArg::Left(_, held) => Some(*held),
+                OuterJoinArg::Right(_, more) => Some(*more),
+                OuterJoinArg::Both(_, held, more) => Some(held.saturating_add(*more)),
+            })
+        },
+    )
+}
+
+/// What is left of a stock once these pieces are sold.
+pub fn after_sale(alloc: Global, stock: &Stock, sold: &Stock) -> Result<Stock, AllocError>
+    ensures { IfOk result (λ rest. (k : ℕ) → value_at nat_cmp rest k
+        ≡ in_left left_over (value_at nat_cmp stock.now k) (value_at nat_cmp sold.now k)) }
+{
+    left_join(
+        alloc,
+        stock,
+        sold,
+        |_: &u32, held: &u32, sold: Option<&u32>| -> Result<Option<u32>, AllocError> {
+            match sold {
+                Some(sold) => Ok(Some(held.saturating_sub(*sold))),
+                None => Ok(Some(*held)),
+            }
+        },
+    )
+}
+
+/// What is to be there by a list, and at least what is there.
+pub fn filled_up(alloc: Global, stock: &Stock, list: &Stock) -> Result<Stock, AllocError>
+    ensures { IfOk result (λ full. (k : ℕ) → value_at nat_cmp full k
+        ≡ in_right filled (value_at nat_cmp stock.now k) (value_at nat_cmp list.now k)) }
+{
+    right_join(
+        alloc,
+        stock,
+        list,
+        |_: &u32, held: Option<&u32>, listed: &u32| -> Result<Option<u32>, AllocError> {
+            match held {
+                Some(held) => Ok(Some((*held).max(*listed))),
+                None => Ok(Some(*listed)),
+            }
+        },
+    )
+}
+
+/// What each order of an article gets, which is no more than is there.
+pub fn served(alloc: Global, stock: &Stock, orders: &Stock) -> Result<Stock, AllocError>
+    ensures { IfOk result (λ sent. (k : ℕ) → value_at nat_cmp sent k
+        ≡ in_both (λ held wanted. Some (min held wanted)) (value_at nat_cmp stock.now k)
+        (value_at nat_cmp orders.now k)) }
+{
+    inner_join(
+        alloc,
+        stock,
+        orders,
+        |_: &u32, held: &u32, wanted: &u32| -> Result<Option<u32>, AllocError> {
+            Ok(Some((*held).min(*wanted)))
         },
     )
 }

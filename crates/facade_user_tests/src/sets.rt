@@ -1,7 +1,9 @@
 //! Sets from outside: each call, operator and iteration, with what a user says of it.
-ghost use Rattle.std.specs.Prelude.{◌≡◌, ◌==◌, ◌||◌, ◌&&◌, ◌↔◌, ◌≤◌, ◌-◌, ◌%◌, not, IfOk, IfSome, IsNone, OnOk, OnErr, IsOk, IsTrue, Some, [], ◌∷◌, ℕ, length, count_by, drop, filter, nat_le, slice_get, take};
+ghost use Rattle.std.specs.Prelude.{◌≡◌, ◌==◌, ◌||◌, ◌&&◌, ◌↔◌, ◌≤◌, ◌-◌, ◌%◌, not, IfOk, IfSome, IsNone, OnOk, OnErr, IsOk, IsTrue, Some, [], ◌∷◌, ℕ, length, count_by, drop, filter, nat_le, reverse, slice_get, take};
+ghost use Rattle.std.specs.BTreeMap.Range.{range_contains};
 ghost use Rattle.std.specs.Option.{option_copied};
 ghost use Rattle.std.specs.Ordering.{nat_cmp};
+ghost use Rattle.std.specs.declared.ops.Bound.TheVariants.{Included, Excluded};
 ghost use Rattle.vec_collections.specs.Ascending.{member};
 ghost use Rattle.std.specs.Hash as fed;
 ghost use Rattle.std.specs.List.{fold};
@@ -213,6 +215,35 @@ pub fn ends(tags: &Tags) -> (Option<&u32>, Option<&u32>)
     ensures greatest { option_copied result.1 ≡ slice_get tags.now (length tags.now - 1) }
 {
     (tags.first(), tags.last())
+}
+
+/// The tags from one number on and below another, none where that is not above the first.
+pub fn tags_within(tags: &Tags, from: u32, to: u32) -> &[u32]
+    ensures { result.now ≡ filter (range_contains nat_cmp (Included from) (Excluded to)) tags.now }
+{
+    tags.range(from..to)
+}
+
+/// The tags, the greatest first.
+pub fn greatest_first(alloc: Global, tags: &Tags) -> Result<Vec<u32>, AllocError>
+    ensures { IfOk result (λ list. list.items ≡ reverse tags.now) }
+{
+    tags.iter().rev().copied().collect(alloc)
+}
+
+/// How many tags an iterator shows.
+pub fn count_shown(tags: &Tags) -> usize
+    ensures { result ≡ length tags.now }
+{
+    tags.iter().len()
+}
+
+/// The tags of a list in any order, in which some may stand twice.
+pub fn of_any_list(alloc: Global, list: Vec<u32>) -> Result<Tags, AllocError>
+    ensures { IfOk result (λ tags. (tag : ℕ)
+        → member nat_cmp tags tag ≡ member nat_cmp list.items tag) }
+{
+    Tags::from_unsorted(alloc, list)
 }
 
 /// Takes the least tag out, and answers it.
