@@ -346,8 +346,8 @@ fn removes(sides: &Sides, memory: &Memory) -> Result<[[usize; 4]; 3], AllocError
     Ok([held, let_go, sides.holders()])
 }
 
-/// The holders while the first pair is held, which was taken out of a map of two, once it is let go,
-/// and once the map was cleared.
+/// The holders while the first pair is held, which was taken out of a map of two, once it is let
+/// go, and once the map was cleared.
 fn pops(sides: &Sides, memory: &Memory) -> Result<[[usize; 4]; 3], AllocError> {
     let mut map = sides.left.map(memory, 1, true)?;
     let first = map.pop_first();

@@ -104,10 +104,21 @@ fn is_same(made: Map, map: &Map) -> bool {
     made == *map
 }
 
+/// The map of a list of the pairs from behind, in which the first key has another value before.
+fn of_any_list(alloc: Global) -> Result<Map, AllocError> {
+    let mut pairs = Vec::new(alloc);
+    pairs.push((PAIRS[0].0, 9))?;
+    for pair in PAIRS.iter().rev() {
+        pairs.push(*pair)?;
+    }
+    Map::from_unsorted(alloc, pairs)
+}
+
 /// Whether each conversion makes the map.
 fn conversions_agree(alloc: Global, map: &Map) -> Result<bool, AllocError> {
     Ok(
         is_same(of_list(alloc)?, map)
+            && is_same(of_any_list(alloc)?, map)
             && is_same(of_tree(alloc)?, map)
             && is_same(of_items(alloc, map)?, map)
             && is_same(of_inner(map)?, map),
@@ -138,6 +149,27 @@ fn shows_pairs(map: &Map) -> bool {
     map.into_iter().eq(PAIRS.iter())
         && map.iter().eq(PAIRS.iter())
         && AbstractVecMap::iter(map).eq(PAIRS.iter())
+        && map.iter().rev().eq(PAIRS.iter().rev())
+        && map.iter().len() == PAIRS.len()
+}
+
+/// Whether the iterators over keys and over values show them, from both ends.
+fn shows_parts(map: &Map) -> bool {
+    let keys = PAIRS.iter().map(|pair| pair.0);
+    let values = PAIRS.iter().rev().map(|pair| pair.1);
+    map.keys().len() == PAIRS.len()
+        && map.values().len() == PAIRS.len()
+        && map.keys().copied().eq(keys)
+        && map.values().rev().copied().eq(values)
+}
+
+/// Whether the parts of a map in ranges of keys are those of its list.
+fn lends_parts(map: &Map) -> bool {
+    map.range(..).len() == PAIRS.len()
+        && map.range(2..) == &PAIRS[1..]
+        && map.range(..3) == &PAIRS[..2]
+        && map.range(2..=2) == &PAIRS[1..2]
+        && map.range(3..1).is_empty()
 }
 
 #[test]
@@ -145,6 +177,7 @@ fn maps_turn_into_lists_and_sets(rt: HostRuntime) -> Result<(), Fail> {
     let map = map_of(rt.alloc(), PAIRS.as_slice())?;
     assert!(rt; set_agrees(&map)?);
     assert!(rt; list_agrees(&map)? && shows_pairs(&map));
+    assert!(rt; shows_parts(&map) && lends_parts(&map));
     Ok(())
 }
 

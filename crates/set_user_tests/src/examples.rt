@@ -9,6 +9,7 @@ use std::cmp::{Ordering, Reverse};
 use std::collections::BTreeSet;
 use std::fmt::Debug;
 use std::hash::{FoldHasher, Hash, Hasher};
+use std::ops::Bound;
 use std::test::Fail;
 use vc_merge::iterators::ascends;
 use vc_sets::vec_set::conversions::set_of_list;
@@ -319,5 +320,46 @@ fn retain_asks_once_at_each_element(rt: HostRuntime) -> Result<(), Fail> {
     let order = keep_odd(&mut set);
     assert_eq!(rt; order, 12345);
     assert!(rt; set.as_ref() == [1, 3, 5].as_slice());
+    Ok(())
+}
+
+/// Whether the parts of a set in ranges are those of its list.
+fn lends_parts(set: &Numbers) -> bool {
+    set.range(..).len() == 4
+        && set.range(3..7) == [3, 5].as_slice()
+        && set.range(..=5) == [1, 3, 5].as_slice()
+        && set.range(4..) == [5, 7].as_slice()
+        && set.range((Bound::Excluded(1), Bound::Included(3))) == [3].as_slice()
+        && set.range(7..3).is_empty()
+}
+
+#[test]
+fn ranges_are_parts_of_a_set(rt: HostRuntime) -> Result<(), Fail> {
+    let set = numbers(rt.alloc(), &[1, 3, 5, 7])?;
+    assert!(rt; lends_parts(&set));
+    assert!(rt; set.iter().rev().copied().eq([7, 5, 3, 1].iter().copied()));
+    Ok(())
+}
+
+/// The marks in the set of a list of numbers that are marked in turn from `a` on.
+fn marks_of_list(alloc: Global, list: &[u32]) -> Result<Vec<char>, AllocError> {
+    let mut elements = Vec::new(alloc);
+    for (number, mark) in list.iter().zip('a'..'z') {
+        elements.push(Marked {
+            number: *number,
+            mark,
+        })?;
+    }
+    let set: VecSet<Marked, 2> = VecSet::from_unsorted(alloc, elements)?;
+    set.iter().map(|element| element.mark).collect(alloc)
+}
+
+#[test]
+fn the_last_of_equal_elements_is_kept(rt: HostRuntime) -> Result<(), Fail> {
+    assert_eq!(rt;
+        marks_of_list(rt.alloc(), &[2, 1, 2, 3, 1])?.as_slice(),
+        ['e', 'c', 'd'].as_slice()
+    );
+    assert_eq!(rt; marks_of_list(rt.alloc(), &[])?.len(), 0);
     Ok(())
 }

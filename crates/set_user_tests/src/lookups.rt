@@ -16,6 +16,7 @@ enum Call {
     Contains,
     Insert,
     Remove,
+    Range,
 }
 
 /// The element of a number, which counts its comparisons.
@@ -53,6 +54,7 @@ fn comparisons<'a>(
         Call::Contains => set.contains(&sought),
         Call::Insert => set.insert(sought)?,
         Call::Remove => set.remove(&sought),
+        Call::Range => set.range(&sought..).is_empty(),
     };
     let seen = count.get();
     if is_in {
@@ -87,7 +89,7 @@ fn length_stays_within(alloc: Global, call: Call, row: (u32, u128)) -> Result<bo
 
 #[test]
 fn look_ups_stay_within_their_bound(rt: HostRuntime) -> Result<(), Fail> {
-    for call in [Call::Contains, Call::Insert, Call::Remove] {
+    for call in [Call::Contains, Call::Insert, Call::Remove, Call::Range] {
         for row in LOOK_UPS {
             assert!(rt;
                 length_stays_within(rt.alloc(), call, row)?,

@@ -112,7 +112,7 @@ impl Change {
                 left.remove(&1);
             }
             Change::Pop => pop(left),
-            Change::Refill => refill(left, right),
+            Change::Refill => refill(left),
             Change::Retain => left.retain(|element| element % 2 == 1),
             Change::InsertKnown => insert_known(left, right),
             Change::IntersectionWith => left.intersection_with(right),
@@ -153,6 +153,7 @@ fn look<'s, 'a>(set: &'s Numbers<'a>) {
     let _in_trait = (AbstractVecSet::is_empty(set), set.contains(&2));
     let _length = AbstractVecSet::as_slice(set).len();
     let _ends = (set.first().is_some(), set.last().is_some());
+    let _parts = (set.range(1..3).len(), set.range(2..).len());
 }
 
 /// Tests two sets.
@@ -195,28 +196,37 @@ fn walk<'s, 'a>(left: &'s Numbers<'a>, right: &'s Numbers<'a>) {
     for element in left.iter() {
         let _is_in = right.contains(element);
     }
+    let mut elements = left.iter();
+    let _greatest = (elements.next_back().is_some(), elements.len());
     for element in AbstractVecSet::iter(left) {
         let _is_in = right.contains(element);
     }
 }
 
-/// Takes out elements at both ends, until none is left.
-fn pop<'s, 'a>(set: &'s mut Numbers<'a>) {
-    for _ in 0..set.len() {
-        set.pop_first();
-        set.pop_last();
+/// Puts numbers into an empty set, until it has so many elements as it had before.
+fn fill<'s, 'a>(set: &'s mut Numbers<'a>, length: usize) {
+    for number in 0..9 {
+        if set.len() < length {
+            let _always = set.insert(number);
+        }
     }
 }
 
-/// Clears a set, and puts in as many elements of another one as it had.
-fn refill<'s, 'a>(left: &'s mut Numbers<'a>, right: &'s Numbers<'a>) {
-    let length = left.len();
-    left.clear();
-    for element in right {
-        if left.len() < length {
-            let _always = left.insert(*element);
-        }
+/// Takes out elements at both ends, until none is left, and puts as many in.
+fn pop<'s, 'a>(set: &'s mut Numbers<'a>) {
+    let length = set.len();
+    for _ in 0..length {
+        set.pop_first();
+        set.pop_last();
     }
+    fill(set, length);
+}
+
+/// Clears a set, and puts in as many elements as it had.
+fn refill<'s, 'a>(set: &'s mut Numbers<'a>) {
+    let length = set.len();
+    set.clear();
+    fill(set, length);
 }
 
 /// Inserts what is in the set already.

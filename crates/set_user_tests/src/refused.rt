@@ -113,14 +113,16 @@ const WAYS: [Way; 4] = [Way::Method, Way::Function, Way::Operator, Way::Counted]
 #[derive(Clone, Copy, Debug)]
 enum Conversion {
     FromVec,
+    FromUnsorted,
     FromIter,
     FromBtreeSet,
     Single,
     Clone,
 }
 
-const CONVERSIONS: [Conversion; 5] = [
+const CONVERSIONS: [Conversion; 6] = [
     Conversion::FromVec,
+    Conversion::FromUnsorted,
     Conversion::FromIter,
     Conversion::FromBtreeSet,
     Conversion::Single,
@@ -331,6 +333,13 @@ impl<'a> Case<'a> {
         Numbers::from_vec(self.memory, list)
     }
 
+    /// The set of a list of the left numbers, the greatest first.
+    fn of_unsorted<const N: usize>(self) -> Result<Numbers<'a, N>, AllocError> {
+        let mut list = self.granted(Which::Left)?.into_vec()?;
+        list.reverse();
+        Numbers::from_unsorted(self.memory, list)
+    }
+
     /// The set of the items of an iterator over the left numbers.
     fn of_iter<const N: usize>(self) -> Result<Numbers<'a, N>, AllocError> {
         let elements = self.granted(Which::Left)?.into_iter();
@@ -345,6 +354,7 @@ impl<'a> Case<'a> {
     ) -> Result<Numbers<'a, N>, AllocError> {
         match conversion {
             Conversion::FromVec => self.of_vec(),
+            Conversion::FromUnsorted => self.of_unsorted(),
             Conversion::FromIter => self.of_iter(),
             Conversion::FromBtreeSet => self.set(Which::Left),
             Conversion::Single => Numbers::single(self.memory, 7),
