@@ -1,7 +1,7 @@
 //! Filters of paths: the tables of rules, of what the longest one decides, and of what they leave
 //! of a tree; snapshots of rules; and trees whose values refuse to be cloned.
 use super::compared::Compared;
-use super::lookups::repeated;
+use super::lookups::{LENGTHS, repeated};
 use super::walks::{print_pairs, tree_of};
 use std::alloc::{AllocError, Global};
 use std::cell::Cell;
@@ -102,18 +102,11 @@ fn is_within<'a>(
 fn filters_stay_within_their_bound(rt: HostRuntime) -> Result<(), Fail> {
     let count = Cell::new(0);
     let deep = nested(rt.alloc(), &count)?;
-    let rows: [(u32, bool, u128); 6] = [
-        (0, false, 0),
-        (1, true, 2),
-        (7, true, 14),
-        (100, true, 200),
-        (200, true, 400),
-        (201, true, 400),
-    ];
-    for (length, is_allowed, most) in rows {
+    for (length, _) in LENGTHS {
         let path = repeated(rt.alloc(), length, Some(&count))?;
+        let most = u128::from(length.min(200));
         assert!(rt;
-            is_within(&deep, &path, is_allowed, most, &count),
+            is_within(&deep, &path, length != 0, most, &count),
             "of {length}"
         );
     }
@@ -125,7 +118,7 @@ fn filters_stay_within_their_bound(rt: HostRuntime) -> Result<(), Fail> {
         };
         let is_allowed = number % 2 == 0 && number < 2000;
         assert!(rt;
-            is_within(&broad, &[first], is_allowed, 11, &count),
+            is_within(&broad, &[first], is_allowed, 10, &count),
             "at {number}"
         );
     }

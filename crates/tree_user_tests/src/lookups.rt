@@ -1,12 +1,24 @@
 //! Components that count their own comparisons: a counted look-up counts each of them, and stays
-//! within its bound.
+//! within its bound. And the longest keys that are prefixes of paths.
 use super::Word;
 use super::compared::Compared;
+use super::walks::tree_of;
 use std::alloc::{AllocError, Global};
 use std::cell::Cell;
 use std::test::Fail;
 use vc_merge::merge::{Count, Steps};
 use vc_trees::radix_tree::{AbstractRadixTree, AbstractRadixTreeMut, ArcRadixTree, RadixTree};
+
+/// How many equal components a key has, and how often a look-up of it among the keys of
+/// [`nested`] may compare.
+pub(crate) const LENGTHS: [(u32, u128); 6] = [
+    (0, 0),
+    (1, 2),
+    (7, 14),
+    (100, 200),
+    (200, 400),
+    (201, 402),
+];
 
 /// The key of as many equal components, with this counter.
 pub(crate) fn repeated<'a>(
@@ -86,15 +98,8 @@ fn stays_within<'a, T: AbstractRadixTreeMut<Compared<'a>, u32>>(
 ) -> Result<bool, AllocError> {
     let mut all = true;
     let mut deep: T = nested(alloc, count)?;
-    let rows: [(u32, bool, u128); 6] = [
-        (0, false, 0),
-        (1, true, 2),
-        (7, true, 14),
-        (100, true, 200),
-        (200, true, 400),
-        (201, false, 402),
-    ];
-    for (length, is_bound, most) in rows {
+    for (length, most) in LENGTHS {
+        let is_bound = length != 0 && length <= 200;
         let key = repeated(alloc, length, None)?;
         all = all && is_within(&deep, &key, is_bound, most, count);
         count.set(0);
@@ -132,6 +137,47 @@ fn a_tree_of_another_crate_is_looked_up(rt: HostRuntime) -> Result<(), Fail> {
         assert_eq!(rt; is_found, is_bound, "at {key}");
         assert_eq!(rt; word.contains_key(key.as_bytes()), is_bound, "at {key}");
         assert!(rt; steps.count() <= 3, "at {key}");
+    }
+    Ok(())
+}
+
+/// The keys of a tree, each bound to its place in the list, a path, and the longest key that is a
+/// prefix of it: how many letters it has, and its place.
+type Longest = (&'static [&'static str], &'static str, Option<(usize, u32)>);
+
+const LONGEST: [Longest; 9] = [
+    (&[], "a", None),
+    (&["a", "ab", "abcd"], "abc", Some((2, 2))),
+    (&["a", "ab", "abcd"], "abcd", Some((4, 3))),
+    (&["a", "ab", "abcd"], "abcde", Some((4, 3))),
+    (&["a", "ab", "abcd"], "b", None),
+    (&["a", "ab", "abcd"], "", None),
+    (&["", "abc", "abd"], "ab", Some((0, 1))),
+    (&["", "abc", "abd"], "abdabc", Some((3, 3))),
+    (&["abc", "abd"], "abe", None),
+];
+
+/// How many keys the tree of the keys has, and the longest of them on the path.
+fn longest_of<T: AbstractRadixTreeMut<u8, u32>>(
+    alloc: Global,
+    keys: &[&str],
+    path: &str,
+) -> Result<(usize, Option<(usize, u32)>), AllocError> {
+    let tree = tree_of::<T>(alloc, keys)?;
+    let longest = match tree.get_longest(path.as_bytes()) {
+        Some((length, number)) => Some((length, *number)),
+        None => None,
+    };
+    Ok((tree.len(), longest))
+}
+
+#[test]
+fn the_longest_key_on_a_path_is_found(rt: HostRuntime) -> Result<(), Fail> {
+    for (keys, path, longest) in LONGEST {
+        let plain = longest_of::<RadixTree<u8, u32>>(rt.alloc(), keys, path)?;
+        assert_eq!(rt; plain, (keys.len(), longest), "on {path}");
+        let shared = longest_of::<ArcRadixTree<u8, u32>>(rt.alloc(), keys, path)?;
+        assert_eq!(rt; shared, (keys.len(), longest), "on {path}");
     }
     Ok(())
 }

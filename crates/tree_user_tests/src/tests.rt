@@ -154,6 +154,9 @@ fn trees_of_another_crate_are_tested_without_their_allocators(rt: HostRuntime) -
                 .is_some(),
             is_same
         );
+        assert_eq!(rt; word.len(), 1);
+        let longest = word.get_longest(letters.as_bytes());
+        assert_eq!(rt; longest.is_some(), letters.starts_with("abc"));
         assert_eq!(rt;
             (word.is_subset(&other), word.is_superset(&other)),
             (is_same, is_same)
