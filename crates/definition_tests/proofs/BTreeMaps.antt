@@ -10,7 +10,8 @@ use Rattle.vc_joins.specs.declared.question.OuterJoinArg.{OuterJoinArg}
 use Rattle.vc_joins.specs.declared.question.OuterJoinArg.TheVariants.{Left, Right, Both}
 use Rattle.vc_btree_maps.specs.Pairs.{pairs_left, GivesFirst}
 use Rattle.vc_btree_maps.specs.declared.btree_map.AbstractBTreeMapIter.TheVariants.{BTreeMap}
-use Rattle.vc_btree_maps.specs.Keeping.{at_pair, MayLeave, MayLeaveShared, MayGive, OrStays, OrGives, StayedKey, StayedOrCloned, IsGrown}
+use Rattle.vc_btree_maps.specs.Keeping.{at_pair, MayLeave, MayLeaveShared, MayGive, OrStays, OrGives, StayedKey}
+use Rattle.vc_btree_maps.specs.Keeping.{StayedOrCloned, IsGrown}
 use Rattle.definition_tests.proofs.Digits.{one, two, three, order, each, same, not_true}
 use Rattle.definition_tests.proofs.Closures.{ref, ref_mut, closure}
 
@@ -46,14 +47,34 @@ adds = closure (λ a. Unit {0}) (λ a r. (r.0 ≡ true) × (r.1.0.now ≡ a.1.0.
 
 -- at 20 beside 5 it leaves 25
 may_leave : MayLeave {K = ℕ} {V = ℕ} {W = ℕ} adds tt (Both 1 20 5) (Some 25)
-may_leave = record { key = ref 1; value = ref_mut 20; other = Some (ref 5); shows = refl; kept = true; left = ref_mut 25; says = (refl, refl); stays = refl }
+may_leave = record {
+  key = ref 1;
+  value = ref_mut 20;
+  other = Some (ref 5);
+  shows = refl;
+  kept = true;
+  left =
+      ref_mut 25;
+  says = (refl, refl);
+  stays = refl;
+}
 
 -- one that answers false leaves nothing
 abbrev refuses : Shared (Unit {0}) (Bor ℕ × (MutBor ℕ × (Bor ℕ × Unit {0}))) (Bool × (MutBor ℕ × Unit {0}))
 refuses = closure (λ a. Unit {0}) (λ a r. r.0 ≡ false)
 
 may_leave_nothing : MayLeaveShared {K = ℕ} {V = ℕ} {W = ℕ} refuses tt (Both 1 20 5) None
-may_leave_nothing = record { key = ref 1; value = ref_mut 20; other = ref 5; shows = refl; kept = false; left = ref_mut 20; says = refl; stays = refl }
+may_leave_nothing = record {
+  key = ref 1;
+  value = ref_mut 20;
+  other = ref 5;
+  shows = refl;
+  kept = false;
+  left =
+      ref_mut 20;
+  says = refl;
+  stays = refl;
+}
 
 -- a closure for keys of the other map alone, which gives the value there
 abbrev gives : Shared (Unit {0}) (Bor ℕ × (Bor ℕ × Unit {0})) (Option ℕ)
@@ -117,5 +138,6 @@ is_grown = record {
 }
 
 -- and not by a key that the other map lacks
-not_grown : IsGrown {V = ℕ} {W = ℕ} order same (λ k w r. r ≡ Some w) ((two, 5) ∷ []) ((one, 10) ∷ []) ((one, 10) ∷ (three, 7) ∷ []) → ⊥
+not_grown : IsGrown {V = ℕ} {W = ℕ} order same (λ k w r. r ≡ Some w) ((two, 5) ∷ []) ((one, 10) ∷ [])
+    ((one, 10) ∷ (three, 7) ∷ []) → ⊥
 not_grown h = h.new_given three refl

@@ -1,5 +1,6 @@
 -- Worked rows of the definitions on combines, covers and the machine of commands.
-use Rattle.std.specs.Prelude.{◌≡◌, ℕ, ◌+◌, ◌≤◌, nat_le, Bool, true, false, List, [], ◌∷◌, length, Option, Some, None, IsTrue, refl}
+use Rattle.std.specs.Prelude.{◌≡◌, ℕ, ◌+◌, ◌≤◌, nat_le, Bool, true, false, List, [], ◌∷◌, length, Option, Some, None}
+use Rattle.std.specs.Prelude.{IsTrue, refl}
 use Rattle.std.proofs.Common.{arith}
 use denote.Ref.{Bor}
 use denote.Param.Members.{Shared}
@@ -25,13 +26,15 @@ abbrev SumsOrDrops : ℕ → Option ℕ → Option ℕ → Type 0
 SumsOrDrops v (Some w) z = z ≡ Some (v + w)
 SumsOrDrops v None z = z ≡ None
 
-outer_at : IsOuterAt same same Sums (Some 2) (Some 5) (Some 7) × IsOuterAt same same Sums (Some 1) None (Some 1) × IsOuterAt same same Sums None (Some 7) (Some 7)
+outer_at : IsOuterAt same same Sums (Some 2) (Some 5) (Some 7) × IsOuterAt same same Sums (Some 1) None (Some 1)
+    × IsOuterAt same same Sums None (Some 7) (Some 7)
 outer_at = (refl, refl, refl)
 
 inner_at : IsInnerAt Sums (Some 2) (Some 5) (Some 7) × IsInnerAt {U = ℕ} Sums (Some 1) None None
 inner_at = (refl, refl)
 
-left_at : IsLeftAt SumsOrDrops (Some 2) (Some 5) (Some 7) × IsLeftAt SumsOrDrops (Some 1) None None × IsLeftAt SumsOrDrops None (Some 5) None
+left_at : IsLeftAt SumsOrDrops (Some 2) (Some 5) (Some 7) × IsLeftAt SumsOrDrops (Some 1) None None
+    × IsLeftAt SumsOrDrops None (Some 5) None
 left_at = (refl, refl, refl)
 
 union_at : IsUnionAt {V = ℕ} same same (Some 1) (Some 5) (Some 1)
@@ -46,7 +49,8 @@ difference_at = refl
 -- ---- whole trees
 
 -- the union of a to 1 and ab to 5
-union_of_trees : IsCombined {V = ℕ} {W = ℕ} {U = ℕ} by_letter (IsUnionAt same same) (leaf (a ∷ []) 1) (leaf (a ∷ b ∷ []) 5) (a_and_ab 1 5)
+union_of_trees : IsCombined {V = ℕ} {W = ℕ} {U = ℕ} by_letter (IsUnionAt same same) (leaf (a ∷ []) 1)
+    (leaf (a ∷ b ∷ []) 5) (a_and_ab 1 5)
 union_of_trees = each_key _ tt refl (λ k. tt) refl (λ y k. tt) tt (λ y k. tt)
 
 -- a to 1, ab to 2, and ab to 5, b to 7
@@ -57,7 +61,8 @@ abbrev right_tree : Tree Letter ℕ
 right_tree = made [] None (leaf (a ∷ b ∷ []) 5 ∷ leaf (b ∷ []) 7 ∷ [])
 
 -- summed: a to 1, ab to 7, b to 7
-outer_of_trees : IsCombined {V = ℕ} {W = ℕ} {U = ℕ} by_letter (IsOuterAt same same Sums) left_tree right_tree (made [] None (a_and_ab 1 7 ∷ leaf (b ∷ []) 7 ∷ []))
+outer_of_trees : IsCombined {V = ℕ} {W = ℕ} {U = ℕ} by_letter (IsOuterAt same same Sums) left_tree right_tree
+    (made [] None (a_and_ab 1 7 ∷ leaf (b ∷ []) 7 ∷ []))
 outer_of_trees = each_key _ tt refl (λ k. tt) refl (λ y k. tt) refl (λ y k. tt)
 
 -- the same two, summed at shared keys alone: ab to 7
@@ -69,7 +74,8 @@ left_of_trees : IsCombined {V = ℕ} {W = ℕ} {U = ℕ} by_letter (IsLeftAt Sum
 left_of_trees = each_key _ refl refl (λ k. refl) refl (λ y k. refl) refl (λ y k. refl)
 
 -- the keys of both, with the values of the left: ab to 2
-intersection_of_trees : IsCombined {V = ℕ} {W = ℕ} {U = ℕ} by_letter (IsIntersectionAt same) left_tree right_tree (leaf (a ∷ b ∷ []) 2)
+intersection_of_trees : IsCombined {V = ℕ} {W = ℕ} {U = ℕ} by_letter (IsIntersectionAt same) left_tree right_tree
+    (leaf (a ∷ b ∷ []) 2)
 intersection_of_trees = each_key _ refl refl (λ k. refl) refl (λ y k. refl) tt (λ y k. refl)
 
 -- the keys of the left alone: a to 1
@@ -133,14 +139,18 @@ is_longest_cover = record {
 }
   where
     longest : (r : List Letter) (u : Bool) → rules r ≡ Some u → length r ≤ 2
-    longest = each_key _ (λ u e. not_some e) (λ u e. omega arith) (λ k u e. not_some e) (λ u e. omega arith) (λ y k u e. not_some e) (λ u e. not_some e) (λ y k u e. not_some e)
+    longest = each_key _ (λ u e. not_some e) (λ u e. omega arith) (λ k u e. not_some e) (λ u e. omega arith)
+        (λ y k u e. not_some e) (λ u e. not_some e) (λ y k u e. not_some e)
 
 -- of a, ab and b they remove a
-is_removed : IsRemoved {V = ℕ} same Says rules (lookup by_letter (made [] None (a_and_ab 1 2 ∷ leaf (b ∷ []) 3 ∷ []))) (lookup by_letter (made [] None (leaf (a ∷ b ∷ []) 2 ∷ leaf (b ∷ []) 3 ∷ [])))
+is_removed : IsRemoved {V = ℕ} same Says rules
+    (lookup by_letter (made [] None (a_and_ab 1 2 ∷ leaf (b ∷ []) 3 ∷ [])))
+    (lookup by_letter (made [] None (leaf (a ∷ b ∷ []) 2 ∷ leaf (b ∷ []) 3 ∷ [])))
 is_removed = each_key _ refl (true, refl, refl) (λ k. refl) (false, refl, refl) (λ y k. refl) (false, refl, refl) (λ y k. refl)
 
 -- and retain it alone
-is_retained : IsRetained {V = ℕ} same Says rules (lookup by_letter (made [] None (a_and_ab 1 2 ∷ leaf (b ∷ []) 3 ∷ []))) (lookup by_letter (leaf (a ∷ []) 1))
+is_retained : IsRetained {V = ℕ} same Says rules
+    (lookup by_letter (made [] None (a_and_ab 1 2 ∷ leaf (b ∷ []) 3 ∷ []))) (lookup by_letter (leaf (a ∷ []) 1))
 is_retained = each_key _ refl (true, refl, refl) (λ k. refl) (false, refl, refl) (λ y k. refl) (false, refl, refl) (λ y k. refl)
 
 -- ---- the machine
@@ -157,8 +167,13 @@ step : Step {V = ℕ} by_letter same no_map (insert (a ∷ b ∷ []) 9) true (lo
 step = each_key _ tt tt (λ k. tt) refl (λ y k. tt) tt (λ y k. tt)
 
 -- insert a, union with b refused, insert ab: ab alone is left
-run : Run {V = ℕ} by_letter same no_map (insert (a ∷ []) 1 ∷ union (leaf (b ∷ []) 2) ∷ insert (a ∷ b ∷ []) 9 ∷ []) (true ∷ false ∷ true ∷ []) (lookup by_letter (leaf (a ∷ b ∷ []) 9))
-run = (lookup by_letter (leaf (a ∷ []) 1), inserted, (no_map, (λ k. tt), (lookup by_letter (leaf (a ∷ b ∷ []) 9), step, (λ k. kept_itself same (λ v. refl) _))))
+run : Run {V = ℕ} by_letter same no_map (insert (a ∷ []) 1 ∷ union (leaf (b ∷ []) 2) ∷ insert (a ∷ b ∷ []) 9 ∷ [])
+    (true ∷ false ∷ true ∷ []) (lookup by_letter (leaf (a ∷ b ∷ []) 9))
+run = (
+  lookup by_letter (leaf (a ∷ []) 1),
+  inserted,
+  (no_map, (λ k. tt), (lookup by_letter (leaf (a ∷ b ∷ []) 9), step, (λ k. kept_itself same (λ v. refl) _))),
+)
   where
     inserted : Step {V = ℕ} by_letter same no_map (insert (a ∷ []) 1) true (lookup by_letter (leaf (a ∷ []) 1))
     inserted = each_key _ tt refl (λ k. tt) tt (λ y k. tt) tt (λ y k. tt)

@@ -12,7 +12,15 @@ adds = closure (λ v. IsTrue (nat_le (v.0.now + v.1.0.now) 255)) (λ v z. (z.0 �
 
 -- 2 and 5 leave 7
 may_leave : MayLeave adds tt 2 5 (Some 7)
-may_leave = record { given = ref_mut 2; other = ref 5; shows = (refl, refl); stays = true; left = ref_mut 7; answers = (refl, refl); leaves = refl }
+may_leave = record {
+  given = ref_mut 2;
+  other = ref 5;
+  shows = (refl, refl);
+  stays = true;
+  left = ref_mut 7;
+  answers = (refl, refl);
+  leaves = refl;
+}
 
 can_leave : CanLeave adds tt 2 5
 can_leave p q e h = rw (e, h) refl

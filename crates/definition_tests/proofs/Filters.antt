@@ -19,5 +19,6 @@ denied : (is_allowed nat_cmp rules (codes "abc") ≡ false) × (is_allowed nat_c
 denied = (refl, refl)
 
 -- where a is allowed and ab is denied, of a, ab and b only a is left
-is_restricted : IsRestricted by_letter (a_and_ab true false) {V = ℕ} same (lookup by_letter (made [] None (a_and_ab 1 2 ∷ leaf (b ∷ []) 3 ∷ []))) (lookup by_letter (leaf (a ∷ []) 1))
+is_restricted : IsRestricted by_letter (a_and_ab true false) {V = ℕ} same
+    (lookup by_letter (made [] None (a_and_ab 1 2 ∷ leaf (b ∷ []) 3 ∷ []))) (lookup by_letter (leaf (a ∷ []) 1))
 is_restricted = each_key _ refl refl (λ k. refl) refl (λ y k. refl) refl (λ y k. refl)

@@ -8,8 +8,10 @@ use denote.Param.Members.{Shared}
 use Rattle.vc_joins.specs.Entries.{AscendsByKey, entry_at, value_at}
 use Rattle.vc_joins.specs.Question.{asks, asked, left_spelling, right_spelling}
 use Rattle.vc_joins.specs.Join.{IsAnswered, IsAsked, IsJoin, IsJoinBy, ClonedKey, OldKey, MovedKey}
-use Rattle.vc_joins.specs.Answers.{seen, seen_left, seen_right, seen_inner, MayAnswer, MayAnswerLeft, MayAnswerRight, MayAnswerInner}
-use Rattle.vc_joins.specs.InPlace.{handed, handed_left, handed_right, handed_inner, MayTurn, MayTurnLeft, MayTurnRight, MayTurnInner}
+use Rattle.vc_joins.specs.Answers.{seen, seen_left, seen_right, seen_inner, MayAnswer, MayAnswerLeft, MayAnswerRight}
+use Rattle.vc_joins.specs.Answers.{MayAnswerInner}
+use Rattle.vc_joins.specs.InPlace.{handed, handed_left, handed_right, handed_inner, MayTurn, MayTurnLeft}
+use Rattle.vc_joins.specs.InPlace.{MayTurnRight, MayTurnInner}
 use Rattle.vc_joins.specs.declared.question.OuterJoinArg.{OuterJoinArg}
 use Rattle.vc_joins.specs.declared.question.OuterJoinArg.TheVariants.{Left, Right, Both}
 use Rattle.vc_joins.specs.declared.question.JoinKind.TheVariants as kind
@@ -98,7 +100,11 @@ unasked = refl
 -- the outer join is 1 to 10, 2 to 25, 3 to 7
 is_join : IsJoin order kind.Outer left_spelling left_map right_map Sums MovedKey ((one, 10) ∷ (two, 25) ∷ (three, 7) ∷ [])
 unfolding IsStrictlySortedBy
-is_join = record { ascends = ((refl, (refl, tt)), ((refl, tt), (tt, tt))); at = each _ (refl, refl) (refl, refl) (refl, refl) refl refl }
+is_join = record {
+  ascends = ((refl, (refl, tt)), ((refl, tt), (tt, tt)));
+  at =
+      each _ (refl, refl) (refl, refl) (refl, refl) refl refl;
+}
 
 -- the inner join is 2 to 25
 is_inner_join : IsJoin order kind.Inner left_spelling left_map right_map Sums MovedKey ((two, 25) ∷ [])

@@ -17,7 +17,8 @@ by_letter b b = Equal
 
 -- what holds of the empty key, a, ab, b, and of the keys behind these, holds of all keys
 pub each_key : (P : List Letter → Type 0) → P [] → P (a ∷ []) → ((k : List Letter) → P (a ∷ a ∷ k)) → P (a ∷ b ∷ [])
-    → ((y : Letter) (k : List Letter) → P (a ∷ b ∷ y ∷ k)) → P (b ∷ []) → ((y : Letter) (k : List Letter) → P (b ∷ y ∷ k)) → (k : List Letter) → P k
+    → ((y : Letter) (k : List Letter) → P (a ∷ b ∷ y ∷ k)) → P (b ∷ [])
+    → ((y : Letter) (k : List Letter) → P (b ∷ y ∷ k)) → (k : List Letter) → P k
 each_key P p q r s t u v [] = p
 each_key P p q r s t u v (a ∷ []) = q
 each_key P p q r s t u v (a ∷ a ∷ k) = r k

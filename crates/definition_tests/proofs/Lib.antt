@@ -5,6 +5,7 @@ pub mod Merges
 pub mod Sets
 pub mod Totals
 pub mod Joins
+pub mod JoinValues
 pub mod Maps
 pub mod TotalMaps
 pub mod BTreeMaps

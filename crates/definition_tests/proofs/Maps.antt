@@ -45,11 +45,13 @@ can_keep = tt
 cannot_combine : CanCombine {K = ℕ} Fits (Both 2 200 100) → ⊥
 cannot_combine h = not_true h
 
-combined_values : (combined ◌+◌ (Some 2) (Some 5) ≡ Some 7) × (combined ◌+◌ (Some 2) None ≡ Some 2) × (combined ◌+◌ None (Some 5) ≡ Some 5)
+combined_values : (combined ◌+◌ (Some 2) (Some 5) ≡ Some 7) × (combined ◌+◌ (Some 2) None ≡ Some 2)
+    × (combined ◌+◌ None (Some 5) ≡ Some 5)
 combined_values = (refl, refl, refl)
 
 -- 1 to 1, 2 to 2 takes in 2 to 5, 4 to 4
-is_combined_by : IsCombinedBy order ((one, 1) ∷ (two, 2) ∷ []) ((two, 5) ∷ (four, 4) ∷ []) Sums ◌+◌ ((one, 1) ∷ (two, 7) ∷ (four, 4) ∷ [])
+is_combined_by : IsCombinedBy order ((one, 1) ∷ (two, 2) ∷ []) ((two, 5) ∷ (four, 4) ∷ []) Sums ◌+◌
+    ((one, 1) ∷ (two, 7) ∷ (four, 4) ∷ [])
 is_combined_by answers = each _ refl refl refl refl refl
 
 -- ---- values that are turned into others

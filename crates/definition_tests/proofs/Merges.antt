@@ -1,5 +1,6 @@
 -- Worked rows of the definitions on merges, beside those that stand with them.
-use Rattle.std.specs.Prelude.{◌≡◌, ℕ, ◌==◌, ◌||◌, true, false, List, [], ◌∷◌, ◌++◌, take, drop, Option, Some, None, Ok, Err, ◌⊎◌, refl}
+use Rattle.std.specs.Prelude.{◌≡◌, ℕ, ◌==◌, ◌||◌, true, false, List, [], ◌∷◌, ◌++◌, take, drop, Option, Some, None}
+use Rattle.std.specs.Prelude.{Ok, Err, ◌⊎◌, refl}
 use Rattle.std.proofs.Common.{inl, inr, ap, sym, ◌∙◌, arith}
 use Rattle.std.proofs.lemmas.List.{append-nil}
 use Rattle.std.specs.List.Sorted.{IsStrictlySortedBy}
@@ -8,8 +9,10 @@ use Rattle.std.specs.Ordering.{nat_cmp}
 use Rattle.std.specs.declared.alloc.AllocError.{AllocError}
 use Rattle.std.specs.declared.cmp.Ordering.{Ordering}
 use Rattle.std.specs.declared.cmp.Ordering.TheVariants.{Less, Equal, Greater}
-use Rattle.vc_merge.specs.Script.{Event, left_alone, right_alone, collision, lefts, rights, place, IsMatched, BothAscend, IsScript}
-use Rattle.vc_merge.specs.Chain.{Answer, Allows, allows, of_left, of_right, of_both, IsAtFront, IsAllowed, Step, Steps, Finishes, Stops, IsMerged}
+use Rattle.vc_merge.specs.Script.{Event, left_alone, right_alone, collision, lefts, rights, place, IsMatched}
+use Rattle.vc_merge.specs.Script.{BothAscend, IsScript}
+use Rattle.vc_merge.specs.Chain.{Answer, Allows, allows, of_left, of_right, of_both, IsAtFront, IsAllowed, Step}
+use Rattle.vc_merge.specs.Chain.{Steps, Finishes, Stops, IsMerged}
 use Rattle.vc_merge.specs.Fronts.{LeftBelow, RightBelow, HeadsCompare}
 use Rattle.vc_merge.specs.Takes.{TakesLeft, TakesRight, TakesBoth}
 use Rattle.vc_merge.specs.Both.{Both, Follows}
@@ -51,7 +54,13 @@ both_ascend = record { left = ((refl, (refl, tt)), ((refl, tt), (tt, tt))); righ
 
 is_script : IsScript numbers (1 ∷ 3 ∷ 5 ∷ []) (2 ∷ 3 ∷ []) script
 unfolding IsStrictlySortedBy
-is_script = record { left = refl; right = refl; ascends = ((refl, (refl, (refl, tt))), ((refl, (refl, tt)), ((refl, tt), (tt, tt)))); matched = (tt, (tt, (refl, (tt, tt)))) }
+is_script = record {
+  left = refl;
+  right = refl;
+  ascends =
+      ((refl, (refl, (refl, tt))), ((refl, (refl, tt)), ((refl, tt), (tt, tt))));
+  matched = (tt, (tt, (refl, (tt, tt))));
+}
 
 -- ---- operations, on what is left of two lists and what was built
 
@@ -89,7 +98,8 @@ is_at_front : IsAtFront {A = ℕ} {B = ℕ} (1 ∷ 3 ∷ 5 ∷ []) (4 ∷ []) (o
 is_at_front = (omega arith, refl, refl)
 
 -- after the left run 1 3 a union answers true, and has 1 3
-is_allowed : IsAllowed union (state (1 ∷ 3 ∷ 5 ∷ []) (4 ∷ []) []) (of_left (1 ∷ 3 ∷ [])) (Ok true) (state (5 ∷ []) (4 ∷ []) (1 ∷ 3 ∷ []))
+is_allowed : IsAllowed union (state (1 ∷ 3 ∷ 5 ∷ []) (4 ∷ []) []) (of_left (1 ∷ 3 ∷ [])) (Ok true)
+    (state (5 ∷ []) (4 ∷ []) (1 ∷ 3 ∷ []))
 is_allowed = (refl, refl)
 
 -- the left run 1
@@ -108,7 +118,8 @@ last_step : Step union (state (5 ∷ []) [] (1 ∷ 2 ∷ 3 ∷ [])) (of_left (5 
 last_step = record { front = (omega arith, refl, refl); allowed = (refl, refl) }
 
 -- the two runs 1 and 2 take a union from the empty list to 1 2
-steps : Steps union (state (1 ∷ 3 ∷ 5 ∷ []) (2 ∷ 3 ∷ []) []) (of_left (1 ∷ []) ∷ of_right (2 ∷ []) ∷ []) (state (3 ∷ 5 ∷ []) (3 ∷ []) (1 ∷ 2 ∷ []))
+steps : Steps union (state (1 ∷ 3 ∷ 5 ∷ []) (2 ∷ 3 ∷ []) []) (of_left (1 ∷ []) ∷ of_right (2 ∷ []) ∷ [])
+    (state (3 ∷ 5 ∷ []) (3 ∷ []) (1 ∷ 2 ∷ []))
 steps = (state (3 ∷ 5 ∷ []) (2 ∷ 3 ∷ []) (1 ∷ []), step, (state (3 ∷ 5 ∷ []) (3 ∷ []) (1 ∷ 2 ∷ []), next_step, refl))
 
 -- a union of 1 3 5 and 2 3 finishes, and has 1 2 3 5
@@ -171,13 +182,16 @@ heads_compare : HeadsCompare numbers (3 ∷ 5 ∷ []) (3 ∷ []) Equal
 heads_compare = refl
 
 -- after 2 of the left list 1 3 5 it shows 5
-takes_left : TakesLeft {M = State} {A = ℕ} {B = ℕ} (λ s. s.0) (λ s. s.1) (λ s. Unit {0}) 2 (state (1 ∷ 3 ∷ 5 ∷ []) (4 ∷ []) []) (Ok true) (state (5 ∷ []) (4 ∷ []) [])
+takes_left : TakesLeft {M = State} {A = ℕ} {B = ℕ} (λ s. s.0) (λ s. s.1) (λ s. Unit {0}) 2
+    (state (1 ∷ 3 ∷ 5 ∷ []) (4 ∷ []) []) (Ok true) (state (5 ∷ []) (4 ∷ []) [])
 takes_left e = (refl, refl, tt)
 
-takes_right : TakesRight {M = State} {A = ℕ} {B = ℕ} (λ s. s.0) (λ s. s.1) (λ s. Unit {0}) 1 (state (5 ∷ []) (2 ∷ 3 ∷ []) []) (Ok true) (state (5 ∷ []) (3 ∷ []) [])
+takes_right : TakesRight {M = State} {A = ℕ} {B = ℕ} (λ s. s.0) (λ s. s.1) (λ s. Unit {0}) 1
+    (state (5 ∷ []) (2 ∷ 3 ∷ []) []) (Ok true) (state (5 ∷ []) (3 ∷ []) [])
 takes_right e = (refl, refl, tt)
 
-takes_both : TakesBoth {M = State} {A = ℕ} {B = ℕ} (λ s. s.0) (λ s. s.1) (λ s. Unit {0}) (state (3 ∷ 5 ∷ []) (3 ∷ []) []) (Ok true) (state (5 ∷ []) [] [])
+takes_both : TakesBoth {M = State} {A = ℕ} {B = ℕ} (λ s. s.0) (λ s. s.1) (λ s. Unit {0})
+    (state (3 ∷ 5 ∷ []) (3 ∷ []) []) (Ok true) (state (5 ∷ []) [] [])
 takes_both e = (refl, refl, tt)
 
 -- take the left 3, then skip the right 3
@@ -188,7 +202,13 @@ abbrev SkipsRight : State → Answer → State → Type 0
 SkipsRight s answer t = (answer ≡ Ok true) × (t ≡ state s.0 (drop 1 s.1) s.2)
 
 both_calls : Both Takes SkipsRight (state (3 ∷ 5 ∷ []) (3 ∷ []) []) (Ok true) (state (5 ∷ []) [] (3 ∷ []))
-both_calls = record { between = state (5 ∷ []) (3 ∷ []) (3 ∷ []); answered = Ok true; first = (refl, refl); second = (refl, refl) }
+both_calls = record {
+  between = state (5 ∷ []) (3 ∷ []) (3 ∷ []);
+  answered = Ok true;
+  first = (refl, refl);
+  second =
+      (refl, refl);
+}
 
 -- where the first call answers false, the second is not made
 first_alone : Follows SkipsRight (state (3 ∷ []) (3 ∷ []) []) (Ok false) (Ok false) (state (3 ∷ []) (3 ∷ []) [])
@@ -234,14 +254,17 @@ built_skipped : Built {X = ℕ} same (1 ∷ 3 ∷ 5 ∷ []) 2 false (7 ∷ []) (
 built_skipped = refl
 
 -- taking 1 behind 7 leaves 7 1, or is refused
-advances : Advances {M = State} {X = ℕ} {N = Unit {0}} (λ s. s.2) (λ s. tt) same (λ s. s.0) (state (1 ∷ []) [] (7 ∷ [])) 1 true (Ok true) (state [] [] (7 ∷ 1 ∷ []))
+advances : Advances {M = State} {X = ℕ} {N = Unit {0}} (λ s. s.2) (λ s. tt) same (λ s. s.0)
+    (state (1 ∷ []) [] (7 ∷ [])) 1 true (Ok true) (state [] [] (7 ∷ 1 ∷ []))
 advances = (refl, refl, record { added = 1 ∷ []; come = (refl, tt); items = refl })
 
-advances_refused : (e : AllocError) → Advances {M = State} {X = ℕ} {N = Unit {0}} (λ s. s.2) (λ s. tt) same (λ s. s.0) (state (1 ∷ []) [] (7 ∷ [])) 1 true (Err e) (state (1 ∷ []) [] (7 ∷ []))
+advances_refused : (e : AllocError) → Advances {M = State} {X = ℕ} {N = Unit {0}} (λ s. s.2) (λ s. tt) same
+    (λ s. s.0) (state (1 ∷ []) [] (7 ∷ [])) 1 true (Err e) (state (1 ∷ []) [] (7 ∷ []))
 advances_refused e = tt
 
 -- skipping leaves 7
-skips : Skips {M = State} {X = ℕ} {N = Unit {0}} (λ s. s.2) (λ s. tt) (state (1 ∷ []) [] (7 ∷ [])) (Ok true) (state [] [] (7 ∷ []))
+skips : Skips {M = State} {X = ℕ} {N = Unit {0}} (λ s. s.2) (λ s. tt) (state (1 ∷ []) [] (7 ∷ [])) (Ok true)
+    (state [] [] (7 ∷ []))
 skips = (refl, refl, refl)
 
 -- an even number below 6 gives itself
@@ -267,7 +290,13 @@ is_built : IsBuilt numbers UnionGives (1 ∷ 3 ∷ []) (3 ∷ 5 ∷ []) [] (1 �
 unfolding IsStrictlySortedBy
 is_built = record {
   events = left_alone 1 ∷ collision 3 3 ∷ right_alone 5 ∷ [];
-  script = record { left = refl; right = refl; ascends = ((refl, (refl, tt)), ((refl, tt), (tt, tt))); matched = (tt, (refl, (tt, tt))) };
+  script = record {
+    left = refl;
+    right = refl;
+    ascends = ((refl, (refl, tt)), ((refl, tt), (tt, tt)));
+    matched =
+        (tt, (refl, (tt, tt)));
+  };
   appends = record {
     added = 1 ∷ 3 ∷ 5 ∷ [];
     gathered = (1 ∷ [], 3 ∷ 5 ∷ [], refl, (3 ∷ [], 5 ∷ [], refl, (5 ∷ [], [], refl, refl, refl), refl), refl);
@@ -294,7 +323,8 @@ calls = ([], refl, ([], (refl, refl), ([], (refl, refl), refl)))
 -- whatever comes from before 1 3 ascends
 ascends_along : AscendsAlong moves nat_cmp (1 ∷ 3 ∷ [])
 unfolding IsStrictlySortedBy
-ascends_along = list-along moves (λ x. x) (λ l. l) (λ s x t h. h) nat_cmp (λ s t h. h.0 ∙ sym h.1) (1 ∷ 3 ∷ []) ((refl, tt), (tt, tt))
+ascends_along = list-along moves (λ x. x) (λ l. l) (λ s x t h. h) nat_cmp (λ s t h. h.0 ∙ sym h.1) (1 ∷ 3 ∷ [])
+    ((refl, tt), (tt, tt))
 
 -- such a step gives 1, and stands before 3
 gives_ascending_step : gives_ascending moves nat_cmp (1 ∷ 3 ∷ []) (Some 1) (3 ∷ [])
@@ -329,8 +359,10 @@ nothing_gathered (x ∷ xs) = ([], [], refl, nothing_gathered xs, refl)
 nothing_appended : {X : Type 0} (xs : List X) (zs : List ℕ) → Appends {X = X} {Z = ℕ} (λ x zs. zs ≡ []) xs zs zs
 nothing_appended xs zs = record { added = []; gathered = nothing_gathered xs; items = sym (append-nil zs) }
 
-left_appended : (s : State) (x y : ℕ) (xs : List ℕ) → s.0 ≡ x ∷ xs → Appends IntersectionGives (collision x y ∷ []) s.2 (s.2 ++ take 1 s.0)
-left_appended s x y xs e = record { added = x ∷ []; gathered = (x ∷ [], [], refl, refl, refl); items = ap (λ l. s.2 ++ take 1 l) e }
+left_appended : (s : State) (x y : ℕ) (xs : List ℕ) → s.0 ≡ x ∷ xs
+    → Appends IntersectionGives (collision x y ∷ []) s.2 (s.2 ++ take 1 s.0)
+left_appended s x y xs e = record
+    { added = x ∷ []; gathered = (x ∷ [], [], refl, refl, refl); items = ap (λ l. s.2 ++ take 1 l) e }
 
 is_building : IsBuilding {M = State} {Z = ℕ} {N = Unit {0}} (λ s. s.2) (λ s. tt) intersection IntersectionGives
 is_building = record {

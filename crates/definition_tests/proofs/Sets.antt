@@ -46,7 +46,12 @@ right_is_not_kept h = h
 -- the union of 1 3 and 3 5 is 1 3 5
 is_union : IsSetOf order same same ◌||◌ (one ∷ three ∷ []) (three ∷ five ∷ []) (one ∷ three ∷ five ∷ [])
 unfolding IsStrictlySortedBy
-is_union = record { ascends = ((refl, (refl, tt)), ((refl, tt), (tt, tt))); members = each _ refl refl refl refl refl; kept = each _ refl refl refl refl refl }
+is_union = record {
+  ascends = ((refl, (refl, tt)), ((refl, tt), (tt, tt)));
+  members =
+      each _ refl refl refl refl refl;
+  kept = each _ refl refl refl refl refl;
+}
 
 -- 1 3 without 3 5 is 1
 is_difference : IsSetOf order same same and_not (one ∷ three ∷ []) (three ∷ five ∷ []) (one ∷ [])
@@ -56,17 +61,20 @@ is_difference = record { ascends = (tt, tt); members = each _ refl refl refl ref
 -- exactly one of 1 3 and 3 5 has 1 and 5
 is_symmetric_difference : IsSetOf order same same exactly_one (one ∷ three ∷ []) (three ∷ five ∷ []) (one ∷ five ∷ [])
 unfolding IsStrictlySortedBy
-is_symmetric_difference = record { ascends = ((refl, tt), (tt, tt)); members = each _ refl refl refl refl refl; kept = each _ refl refl refl refl refl }
+is_symmetric_difference = record
+    { ascends = ((refl, tt), (tt, tt)); members = each _ refl refl refl refl refl; kept = each _ refl refl refl refl refl }
 
 -- 1 3 5 is not the intersection of 1 3 and 3 5, which lacks 1
 no_intersection : IsSetOf order same same ◌&&◌ (one ∷ three ∷ []) (three ∷ five ∷ []) (one ∷ three ∷ five ∷ []) → ⊥
 no_intersection h = not_true (sym (h.members one))
 
 -- what the two formulas say
-in_the_left_alone : (and_not true false ≡ true) × (and_not true true ≡ false) × (and_not false true ≡ false) × (and_not false false ≡ false)
+in_the_left_alone : (and_not true false ≡ true) × (and_not true true ≡ false) × (and_not false true ≡ false)
+    × (and_not false false ≡ false)
 in_the_left_alone = (refl, refl, refl, refl)
 
-in_exactly_one : (exactly_one true false ≡ true) × (exactly_one true true ≡ false) × (exactly_one false true ≡ true) × (exactly_one false false ≡ false)
+in_exactly_one : (exactly_one true false ≡ true) × (exactly_one true true ≡ false) × (exactly_one false true ≡ true)
+    × (exactly_one false false ≡ false)
 in_exactly_one = (refl, refl, refl, refl)
 
 -- the test "at least 3", which stays as it is

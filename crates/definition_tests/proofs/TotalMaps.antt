@@ -1,8 +1,10 @@
 -- Worked rows of the definitions on total maps.
-use Rattle.std.specs.Prelude.{◌≡◌, ℕ, suc, ◌+◌, ◌==◌, nat_le, Bool, true, false, if◌then◌else◌, List, [], ◌∷◌, Option, Some, None, IsTrue, refl}
+use Rattle.std.specs.Prelude.{◌≡◌, ℕ, suc, ◌+◌, ◌==◌, nat_le, Bool, true, false, if◌then◌else◌, List, [], ◌∷◌, Option}
+use Rattle.std.specs.Prelude.{Some, None, IsTrue, refl}
 use Rattle.std.proofs.Common.{inl, inr, sym}
 use Rattle.vc_total_maps.specs.TotalMap.{TotalMap, total_map, at, NoneIsDefault, IsClonedMap}
-use Rattle.vc_total_maps.specs.CombinedTotals.{IsListed, HoldsEverywhere, Stands, ClonesFirst, IsCombined, CanOnClones, GivesOnClones}
+use Rattle.vc_total_maps.specs.CombinedTotals.{IsListed, HoldsEverywhere, Stands, ClonesFirst, IsCombined}
+use Rattle.vc_total_maps.specs.CombinedTotals.{CanOnClones, GivesOnClones}
 use Rattle.vc_total_maps.specs.MappedTotals.{HoldsOfEach, IsMapped, CanOnClone, GivesOnClone}
 use Rattle.definition_tests.proofs.Digits.{Digit, one, two, three, four, five, order, each, same, not_true}
 
@@ -60,11 +62,22 @@ Sums v w x = x ≡ v + w
 
 -- 5 to 1 and else 0, plus 5 to 1 and else 2, is 2 everywhere
 is_combined : IsCombined order ◌==◌ Sums same marks (total_map ((five, 1) ∷ []) 2) (total_map [] 2)
-is_combined = record { default = refl; values = each _ (2, refl, refl) (2, refl, refl) (2, refl, refl) (2, refl, refl) (2, refl, refl); keys = each _ tt tt tt tt tt }
+is_combined = record {
+  default = refl;
+  values =
+      each _ (2, refl, refl) (2, refl, refl) (2, refl, refl) (2, refl, refl) (2, refl, refl);
+  keys = each _ tt tt tt tt tt;
+}
 
 -- plus itself it is 5 to 2, and else 0
 is_doubled : IsCombined order ◌==◌ Sums same marks marks (total_map ((five, 2) ∷ []) 0)
-is_doubled = record { default = refl; values = each _ (0, refl, refl) (0, refl, refl) (0, refl, refl) (0, refl, refl) (2, refl, (refl, refl)); keys = each _ tt tt tt tt refl }
+is_doubled = record {
+  default = refl;
+  values =
+      each _ (0, refl, refl) (0, refl, refl) (0, refl, refl) (0, refl, refl) (2, refl, (refl, refl));
+  keys =
+      each _ tt tt tt tt refl;
+}
 
 -- where a clone has the next number, an adding operator gives 9 of 2 and 5
 gives_on_clones : GivesOnClones (λ v w. w ≡ suc v) Sums 2 5 9
@@ -83,7 +96,12 @@ Signs v x = x ≡ (if v == 0 then 0 else 1)
 
 -- the signs of 1 to 6 and else 1: 1 everywhere
 is_mapped : IsMapped order ◌==◌ Signs same (total_map ((one, 6) ∷ []) 1) (total_map [] 1)
-is_mapped = record { default = refl; values = each _ (1, refl, refl) (1, refl, refl) (1, refl, refl) (1, refl, refl) (1, refl, refl); keys = each _ tt tt tt tt tt }
+is_mapped = record {
+  default = refl;
+  values =
+      each _ (1, refl, refl) (1, refl, refl) (1, refl, refl) (1, refl, refl) (1, refl, refl);
+  keys = each _ tt tt tt tt tt;
+}
 
 -- of a clone of 2, which is 3, the sign is 1
 gives_on_clone : GivesOnClone (λ v w. w ≡ suc v) Signs 2 1

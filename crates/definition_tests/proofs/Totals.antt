@@ -34,13 +34,23 @@ no_clone : IsClonedTotal same (total (one ∷ []) true) (total (one ∷ []) fals
 no_clone h = not_true (sym h.negated)
 
 -- "and" of two negated sets lists what either lists
-and_of_negated : (listed_by ◌&&◌ true true true false ≡ true) × (listed_by ◌&&◌ true true false true ≡ true) × (listed_by ◌&&◌ true true false false ≡ false)
+and_of_negated : (listed_by ◌&&◌ true true true false ≡ true) × (listed_by ◌&&◌ true true false true ≡ true)
+    × (listed_by ◌&&◌ true true false false ≡ false)
 and_of_negated = (refl, refl, refl)
 
 -- all but 1 "and" all but 2 is all but 1 2
 is_total_of : IsTotalOf order same ◌&&◌ (total (one ∷ []) true) (total (two ∷ []) true) (total (one ∷ two ∷ []) true)
 unfolding IsStrictlySortedBy
-is_total_of = record { negated = refl; elements = record { ascends = ((refl, tt), (tt, tt)); members = each _ refl refl refl refl refl; kept = each _ refl refl refl refl refl } }
+is_total_of = record {
+  negated = refl;
+  elements =
+      record {
+        ascends = ((refl, tt), (tt, tt));
+        members = each _ refl refl refl refl refl;
+        kept =
+            each _ refl refl refl refl refl;
+      };
+}
 
 -- a letter in either case
 data Letter : Type 0 where
@@ -51,7 +61,8 @@ abbrev any_case : Letter → Letter → Ordering
 any_case p q = Equal
 
 -- all but a "or" all but A is all but A: of two negated sets the elements of the right one go first
-is_total_of_either : IsTotalOfEither any_case same ◌||◌ (total (small_a ∷ []) true) (total (large_a ∷ []) true) (total (large_a ∷ []) true)
+is_total_of_either : IsTotalOfEither any_case same ◌||◌ (total (small_a ∷ []) true) (total (large_a ∷ []) true)
+    (total (large_a ∷ []) true)
 unfolding IsStrictlySortedBy
 is_total_of_either = record { negated = refl; elements = record { ascends = (tt, tt); members = λ x. refl; kept = λ x. refl } }
 
@@ -66,11 +77,18 @@ no_subset h = not_true (h.elsewhere refl)
 
 -- 1 is a subset of all but 2
 is_subset : IsTotalSubset order (total (one ∷ []) false) (total (two ∷ []) true)
-is_subset = record { at = each _ (λ p. refl) (λ p. not_true p) (λ p. not_true p) (λ p. not_true p) (λ p. not_true p); elsewhere = λ p. refl }
+is_subset = record {
+  at = each _ (λ p. refl) (λ p. not_true p) (λ p. not_true p) (λ p. not_true p) (λ p. not_true p);
+  elsewhere = λ p. refl;
+}
 
 -- nothing is in both 1 and all but 1
 is_disjoint : IsTotalDisjoint order (total (one ∷ []) false) (total (one ∷ []) true)
-is_disjoint = record { at = each _ (λ p q. not_true q) (λ p q. not_true p) (λ p q. not_true p) (λ p q. not_true p) (λ p q. not_true p); elsewhere = λ p q. not_true p }
+is_disjoint = record {
+  at = each _ (λ p q. not_true q) (λ p q. not_true p) (λ p q. not_true p) (λ p q. not_true p)
+      (λ p q. not_true p);
+  elsewhere = λ p q. not_true p;
+}
 
 -- of two negated sets values in neither list are in both
 negated_meet : IsTotalDisjoint order (total (one ∷ []) true) (total (two ∷ []) true) → ⊥

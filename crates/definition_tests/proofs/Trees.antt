@@ -108,7 +108,8 @@ weight_of_three = refl
 -- ---- maps, at trees of a and ab
 
 -- a*(b*) and .(a*(b*)), which is not canonical, have equal maps
-is_equal_map : IsEqualMap {K = Letter} {V = ℕ} same (lookup by_letter (a_and_ab 1 2)) (lookup by_letter (made [] None (a_and_ab 1 2 ∷ [])))
+is_equal_map : IsEqualMap {K = Letter} {V = ℕ} same (lookup by_letter (a_and_ab 1 2))
+    (lookup by_letter (made [] None (a_and_ab 1 2 ∷ [])))
 is_equal_map = each_key _ tt refl (λ k. tt) refl (λ y k. tt) tt (λ y k. tt)
 
 -- a* and a*(b*) have not
@@ -119,9 +120,11 @@ have_equal_maps : HaveEqualMaps {V = ℕ} by_letter same (a_and_ab 1 2) (a_and_a
 have_equal_maps = each_key _ tt refl (λ k. tt) refl (λ y k. tt) tt (λ y k. tt)
 
 -- ab into a* gives a*(b*)
-is_updated : IsUpdated {V = ℕ} by_letter same (a ∷ b ∷ []) 2 (lookup by_letter (leaf (a ∷ []) 1)) (lookup by_letter (a_and_ab 1 2))
+is_updated : IsUpdated {V = ℕ} by_letter same (a ∷ b ∷ []) 2 (lookup by_letter (leaf (a ∷ []) 1))
+    (lookup by_letter (a_and_ab 1 2))
 is_updated = record {
-  at = each_key _ (λ e. not_true e) (λ e. not_true e) (λ k e. not_true e) (λ e. refl) (λ y k e. not_true e) (λ e. not_true e) (λ y k e. not_true e);
+  at = each_key _ (λ e. not_true e) (λ e. not_true e) (λ k e. not_true e) (λ e. refl) (λ y k e. not_true e)
+      (λ e. not_true e) (λ y k e. not_true e);
   others = each_key _ (λ e. tt) (λ e. refl) (λ k e. tt) (λ e. not_true (sym e)) (λ y k e. tt) (λ e. tt) (λ y k e. tt);
 }
 
@@ -132,7 +135,8 @@ is_inserted = is_updated
 last_of_b : last_bound {V = ℕ} by_letter ((b ∷ [], 1) ∷ (a ∷ [], 2) ∷ (b ∷ [], 3) ∷ []) (b ∷ []) ≡ Some 3
 last_of_b = refl
 
-is_collected : IsCollected {V = ℕ} by_letter ((b ∷ [], 1) ∷ (a ∷ [], 2) ∷ (b ∷ [], 3) ∷ []) (made [] None (leaf (a ∷ []) 2 ∷ leaf (b ∷ []) 3 ∷ []))
+is_collected : IsCollected {V = ℕ} by_letter ((b ∷ [], 1) ∷ (a ∷ [], 2) ∷ (b ∷ [], 3) ∷ [])
+    (made [] None (leaf (a ∷ []) 2 ∷ leaf (b ∷ []) 3 ∷ []))
 is_collected = each_key _ refl refl (λ k. refl) refl (λ y k. refl) refl (λ y k. refl)
 
 -- ---- canonical trees
@@ -184,7 +188,8 @@ is_alike = (refl, refl, (refl, refl, tt, tt))
 is_snapshot : IsSnapshot {K = Letter} {V = ℕ} same (a_and_ab 1 2) (a_and_ab 1 2)
 is_snapshot = (refl, refl, refl)
 
-same_as_test : (same_tree by_letter ◌==◌ (a_and_ab 1 2) (a_and_ab 1 2) ≡ true) × (same_tree by_letter ◌==◌ (a_and_ab 1 2) (a_and_ab 1 3) ≡ false)
+same_as_test : (same_tree by_letter ◌==◌ (a_and_ab 1 2) (a_and_ab 1 2) ≡ true)
+    × (same_tree by_letter ◌==◌ (a_and_ab 1 2) (a_and_ab 1 3) ≡ false)
 same_as_test = (refl, refl)
 
 -- aabb*(cc* ee*) is the one canonical tree of its map, the smallest, and its walk lists it
@@ -208,11 +213,13 @@ share_key = (a ∷ b ∷ [], refl, refl)
 
 -- a and ab share none
 are_disjoint : AreDisjoint {V = ℕ} {W = ℕ} by_letter (leaf (a ∷ []) 1) (leaf (a ∷ b ∷ []) 5)
-are_disjoint = each_key _ (λ p q. not_true p) (λ p q. not_true q) (λ k p q. not_true p) (λ p q. not_true p) (λ y k p q. not_true p) (λ p q. not_true p) (λ y k p q. not_true p)
+are_disjoint = each_key _ (λ p q. not_true p) (λ p q. not_true q) (λ k p q. not_true p) (λ p q. not_true p)
+    (λ y k p q. not_true p) (λ p q. not_true p) (λ y k p q. not_true p)
 
 -- a, ab has the keys of ab
 has_keys_of : HasKeysOf {V = ℕ} {W = ℕ} by_letter (a_and_ab 1 2) (leaf (a ∷ b ∷ []) 5)
-has_keys_of = each_key _ (λ p. not_true p) (λ p. refl) (λ k p. not_true p) (λ p. refl) (λ y k p. not_true p) (λ p. not_true p) (λ y k p. not_true p)
+has_keys_of = each_key _ (λ p. not_true p) (λ p. refl) (λ k p. not_true p) (λ p. refl) (λ y k p. not_true p)
+    (λ p. not_true p) (λ y k p. not_true p)
 
 -- ab lacks a of a, ab
 lacks_key_of : LacksKeyOf {V = ℕ} {W = ℕ} by_letter (leaf (a ∷ b ∷ []) 5) (a_and_ab 1 2)
