@@ -3,7 +3,8 @@
 --     asked-taken        what may be asked at each key of the tree, may be asked at each key of its parts
 --     taken-nodes        the parts have as many nodes
 --     made-taken        what is made of the parts is what the change says of the tree
-use Rattle.std.proofs.Common.{◌≡◌, ℕ, ◌≤◌, [], ◌∷◌, List, Option, refl, sym, ap, subst, ◌∙◌, map, drop, take, length, slice_get, arith}
+use Rattle.std.proofs.Common.{◌≡◌, ℕ, ◌≤◌, [], ◌∷◌, List, Option, refl, sym, ap, subst, ◌∙◌, map, drop, take, length}
+use Rattle.std.proofs.Common.{slice_get, arith}
 use Rattle.std.specs.List.{AllByRecursion}
 use Rattle.std.specs.List.Sorted.{IsStrictlySortedBy}
 use Rattle.std.specs.Option.{option_cmp}
@@ -149,7 +150,8 @@ module _ {K V W T B : Type 0} (cmp : K → K → Ordering) (tree : T → Tree K 
     below-alike t s [] a = a.2
     below-alike t s (x ∷ rest) a = (refl, a.1, a.2, tt)
 
-    module _ (t : Tree K V) (u : Tree K W) (n : ℕ) (ys : List B) (sides : List Side) (front : List K) (value : Option V) (list : List T)
+    module _ (t : Tree K V) (u : Tree K W) (n : ℕ) (ys : List B) (sides : List Side) (front : List K)
+        (value : Option V) (list : List T)
         (from : ℕ) (h : IsTaken tree keeps t n front value list from) where
       -- the parts stand beside the right tree as the tree did
       pub faced-taken : (m : IsMet tree cmp tb t u n ys j sides) → IsFaced cmp tree tb h.taken u n list from ys j sides

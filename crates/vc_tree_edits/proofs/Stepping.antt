@@ -7,7 +7,8 @@
 --     room-there, room_come, room_kept        each tree that is put there finds its place
 --     falls-below        two trees that meet have fewer nodes than those that they stand below
 --     finished-children, finished        what was built is canonical children, and the node of it is what the change says
-use Rattle.std.proofs.Common.{◌≡◌, Bool, true, false, cond, ℕ, ◌+◌, ◌<◌, ◌≤◌, [], ◌∷◌, ◌++◌, List, Option, None, Some, option_map, refl, sym, ap, subst, ◌∙◌, map, drop, take, length, arith}
+use Rattle.std.proofs.Common.{◌≡◌, Bool, true, false, cond, ℕ, ◌+◌, ◌<◌, ◌≤◌, [], ◌∷◌, ◌++◌, List, Option, None, Some}
+use Rattle.std.proofs.Common.{option_map, refl, sym, ap, subst, ◌∙◌, map, drop, take, length, arith}
 use Rattle.std.proofs.lemmas.List.{take-append-drop}
 use Rattle.std.specs.Cmp.{IsTotalOrder}
 use Rattle.std.specs.List.{cons_option}
@@ -74,7 +75,8 @@ module _ {K V W O T B : Type 0} (cmp : K → K → Ordering) (tree : T → Tree 
     d.0,
     doing-both cmp tree tb i j l R asks xs ys b.rest rs all (map tree b.built) 0 d.0 d.1 others (map tree b''.built)
         (option_map tree kid)
-        (ap (map tree) (added.built ∙ ap (λ k. k ++ cons_option kid []) next.built) ∙ pushed tree b.built kid) x b''.rest y rs' 0 z
+        (ap (map tree) (added.built ∙ ap (λ k. k ++ cons_option kid []) next.built) ∙ pushed tree b.built kid) x
+        b''.rest y rs' 0 z
         (next.rest ∙ ap (λ k. x ∷ k) (sym added.rest)) e w (omega arith),
   )
 
@@ -202,8 +204,10 @@ module _ {K V W O T B : Type 0} (cmp : K → K → Ordering) (o : IsTotalOrder c
       → IsNext b x b' → rs ≡ y ∷ rs' → all ≡ Both ∷ others → nodes (tree x) + nodes (tb y) < nodes t + nodes u
   falls-below b b' rs rs' all others x y d next e z =
       let same = taken-nodes cmp tree tb j keeps t u s.length_front ys sides front s.value row.rest i s.taken in
-      let down = falls cmp tree tb i j l R asks row.rest ys b.rest rs all (map tree b.built) 0 d.0 d.1 others z x b'.rest y rs' next.rest e
-      s.taken.taken u (drop s.length_front s.taken.taken.prefix) (drop s.length_front u.prefix) faced.left faced.right faced.parts in
+      let down = falls cmp tree tb i j l R asks row.rest ys b.rest rs all
+      (map tree b.built) 0 d.0 d.1 others z x b'.rest y rs' next.rest e
+      s.taken.taken u (drop s.length_front s.taken.taken.prefix)
+      (drop s.length_front u.prefix) faced.left faced.right faced.parts in
       omega (arith, same, down)
 
   module _ (b : Builder T) (rs : List B) (todo : List Side)

@@ -2,7 +2,8 @@
 --     taken-rest        where the prefix goes on, the tree itself stands below
 --     taken-all        where it ended, the children
 --     cut-all        the components up to the end of a prefix
-use Rattle.std.proofs.Common.{◌≡◌, ℕ, ◌+◌, ◌-◌, ◌<◌, ◌≤◌, [], ◌∷◌, List, Option, None, refl, sym, ap, subst, ◌∙◌, arith, map, take, drop, length, length-drop}
+use Rattle.std.proofs.Common.{◌≡◌, ℕ, ◌+◌, ◌-◌, ◌<◌, ◌≤◌, [], ◌∷◌, List, Option, None, refl, sym, ap, subst, ◌∙◌}
+use Rattle.std.proofs.Common.{arith, map, take, drop, length, length-drop}
 use Rattle.std.proofs.Math.ListN.{drop_of_length-le}
 use Rattle.std.proofs.lemmas.List.{take_all}
 use Rattle.vc_tree_model.specs.Child.{value_at}

@@ -13,7 +13,8 @@ invariant-loop-side g l = record {
   doing :
       (budget : ℕ)
       × IsDoing g.K.Ord.cmp g.T.RadixNode.tree g.B.RadixNode.tree l.from l.initial.right.from (g.O.Change.look g.K.Ord.cmp)
-      (g.O.Change.says l.below) (g.O.Change.asks l.below) (g.O.Row.Row.seen l.initial.row).rest (trees_below l.initial.right) (g.O.Row.Row.seen l.row).rest
+      (g.O.Change.says l.below) (g.O.Change.asks l.below) (g.O.Row.Row.seen l.initial.row).rest
+      (trees_below l.initial.right) (g.O.Row.Row.seen l.row).rest
       (trees_below l.right) l.todo (map g.T.RadixNode.tree (g.O.Row.Row.seen l.row).built) 0 budget;
   right_from : l.right.from ≡ l.initial.right.from;
   room : g.O.Row.Row.grows ≡ true → length l.todo ≤ (g.O.Row.Row.seen l.row).room;

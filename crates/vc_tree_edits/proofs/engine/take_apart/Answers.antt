@@ -9,8 +9,11 @@ returns-then-i-front g c =
 
 pub returns : goal.returns
 returns g c =
-    taken-all g.T.RadixNode.tree g.T.Build.keeps g.met.T.Build.keeps_refl c.args.tree c.args.i c.args.front c.args.front c.prefix-whole.result.now _
+    taken-all g.T.RadixNode.tree g.T.Build.keeps g.met.T.Build.keeps_refl c.args.tree c.args.i c.args.front
+    c.args.front c.prefix-whole.result.now _
     c.prefix-whole.ensures.value
-    (cut-all c.args.i c.args.front c.prefix-whole.result.now _ _ (c.take_apart-prefix.ensures.prefix ∙ sym c.prefix-whole.ensures.value) c.in_ok-prefix.ensures (omega (arith, c.if-i-front.false)))
+    (cut-all c.args.i c.args.front c.prefix-whole.result.now _ _
+    (c.take_apart-prefix.ensures.prefix ∙ sym c.prefix-whole.ensures.value) c.in_ok-prefix.ensures
+    (omega (arith, c.if-i-front.false)))
     (omega arith) (omega (arith, c.if-i-front.false)) _ _ _
     c.take_apart-prefix.ensures.value c.take_apart-prefix.ensures.children c.in_ok-list.ensures

@@ -8,4 +8,5 @@ pub returns : goal.returns
 returns g c =
     stayed g.K.Ord.cmp g.met.K.Ord.total g.T.Build.keeps g.met.T.Build.keeps_refl (g.T.RadixNode.tree c.args.tree) _ c.args.from
     c.in_ok-shorten.ensures.canonical c.requires.within c.in_ok-shorten.ensures.left _
-    (λ v z k. alone_met g.T.Build.keeps c.args.self.now.left_stays (KeptThen g.T.Build.keeps (g.M.Meet.may c.args.self.now.at.now)) v z c.if-not-self.false k)
+    (λ v z k. alone_met g.T.Build.keeps c.args.self.now.left_stays
+    (KeptThen g.T.Build.keeps (g.M.Meet.may c.args.self.now.at.now)) v z c.if-not-self.false k)
