@@ -1,7 +1,7 @@
 -- One event more of a script is done.
 --     doing-start        none is done yet
 --     doing-left, doing-right, doing-both        one more is
---     left-is, right-is        what the next trees are
+--     left-next, right-next        what the next trees are
 use Rattle.std.proofs.Common.{◌≡◌, ℕ, ◌+◌, ◌*◌, ◌≤◌, [], ◌∷◌, ◌++◌, List, Option, None, refl, sym, ap, subst, ◌∙◌, map, arith}
 use Rattle.std.specs.List.{AllByRecursion, filter_map, cons_option}
 use Rattle.std.proofs.lemmas.List.Elements.{filter_map-append}
@@ -96,13 +96,16 @@ module _ {K V W U O A B : Type 0} (cmp : K → K → Ordering) (ta : A → Tree 
     Next e = (rest : List (Event A B)) × (d.rest ≡ e ∷ rest)
 
     -- the next tree of the left list, where an event takes one
-    pub left-is : (a : A) (rest : List (Event A B)) (x : A) (ls' : List A) → a ∷ lefts rest ≡ lefts d.rest → ls ≡ x ∷ ls' → (x ≡ a) × (ls' ≡ lefts rest)
-    left-is a rest x ls' h e = let g : x ∷ ls' ≡ a ∷ lefts rest = sym e ∙ d.left ∙ sym h in (cc, cc)
+    pub left-next : (a : A) (rest : List (Event A B)) (x : A) (ls' : List A) → a ∷ lefts rest ≡ lefts d.rest → ls
+        ≡ x ∷ ls' → (x ≡ a) × (ls' ≡ lefts rest)
+    left-next a rest x ls' h e = let g : x ∷ ls' ≡ a ∷ lefts rest = sym e ∙ d.left ∙ sym h in (cc, cc)
 
-    pub right-is : (b : B) (rest : List (Event A B)) (y : B) (rs' : List B) → b ∷ rights rest ≡ rights d.rest → rs ≡ y ∷ rs' → (y ≡ b) × (rs' ≡ rights rest)
-    right-is b rest y rs' h e = let g : y ∷ rs' ≡ b ∷ rights rest = sym e ∙ d.right ∙ sym h in (cc, cc)
+    pub right-next : (b : B) (rest : List (Event A B)) (y : B) (rs' : List B) → b ∷ rights rest ≡ rights d.rest → rs
+        ≡ y ∷ rs' → (y ≡ b) × (rs' ≡ rights rest)
+    right-next b rest y rs' h e = let g : y ∷ rs' ≡ b ∷ rights rest = sym e ∙ d.right ∙ sym h in (cc, cc)
 
-    module _ (sides : List Side) (made' : List (Tree K U)) (o : Option (Tree K U)) (pushed : made' ≡ made ++ cons_option o []) where
+    module _ (sides : List Side) (made' : List (Tree K U)) (o : Option (Tree K U))
+        (pushed : made' ≡ made ++ cons_option o []) where
       script-next : (e : Event A B) (rest : List (Event A B)) → d.rest ≡ e ∷ rest
           → IsScript (by_component ta tb i j cmp) xs ys (map (λ d. d.0) d.done ++ e ∷ rest)
       script-next e rest h = subst (λ l. IsScript (by_component ta tb i j cmp) xs ys (map (λ d. d.0) d.done ++ l)) h d.script
@@ -113,14 +116,15 @@ module _ {K V W U O A B : Type 0} (cmp : K → K → Ordering) (ta : A → Tree 
 
       sides-next : (e : Event A B) (rest : List (Event A B)) (s : Side) → d.rest ≡ e ∷ rest → all ≡ s ∷ sides
           → sides ≡ map (λ e. side_of e) rest
-      sides-next e rest s h z = let g : s ∷ sides ≡ side_of e ∷ map (λ e. side_of e) rest = sym z ∙ d.sides_are ∙ ap (map (λ e. side_of e)) h in cc
+      sides-next e rest s h z = let g : s ∷ sides ≡ side_of e ∷ map (λ e. side_of e) rest = sym z ∙ d.sides_are
+          ∙ ap (map (λ e. side_of e)) h in cc
 
       pub doing-left : (x : A) (ls' : List A) → all ≡ Left ∷ sides → ls ≡ x ∷ ls'
           → IsMade cmp (λ v z. R v l.none z) (shortened i (ta x)) o
           → IsDoing cmp ta tb i j l R asks xs ys ls' rs sides made' spent budget
       doing-left x ls' z e w =
           let f = left-first sides d.rest (sym z ∙ d.sides_are) in
-          let g = left-is f.0 f.1 x ls' (ap lefts (sym f.2)) e in
+          let g = left-next f.0 f.1 x ls' (ap lefts (sym f.2)) e in
           more ls' rs sides made made' spent budget d.done (left_alone f.0) f.1 o (script-next _ _ f.2) d.made_at d.made_are
           (subst (λ x. IsMade cmp (λ v z. R v l.none z) (shortened i (ta x)) o) g.0 w) pushed g.1
           (d.right ∙ ap rights f.2) (sides-next _ _ Left f.2 z) (asked-next _ _ f.2)
@@ -131,7 +135,7 @@ module _ {K V W U O A B : Type 0} (cmp : K → K → Ordering) (ta : A → Tree 
           → IsDoing cmp ta tb i j l R asks xs ys ls rs' sides made' spent budget
       doing-right y rs' z e w =
           let f = right-first sides d.rest (sym z ∙ d.sides_are) in
-          let g = right-is f.0 f.1 y rs' (ap rights (sym f.2)) e in
+          let g = right-next f.0 f.1 y rs' (ap rights (sym f.2)) e in
           more ls rs' sides made made' spent budget d.done (right_alone f.0) f.1 o (script-next _ _ f.2) d.made_at d.made_are
           (subst (λ y. IsMadeBy cmp l (λ w z. R None w z) (shortened j (tb y)) o) g.0 w) pushed
           (d.left ∙ ap lefts f.2) g.1 (sides-next _ _ Right f.2 z) (asked-next _ _ f.2)
@@ -143,8 +147,8 @@ module _ {K V W U O A B : Type 0} (cmp : K → K → Ordering) (ta : A → Tree 
           → IsDoing cmp ta tb i j l R asks xs ys ls' rs' sides made' spent' budget
       doing-both x ls' y rs' spent' z e e' w c =
           let f = both-first sides d.rest (sym z ∙ d.sides_are) in
-          let g = left-is f.0 f.2 x ls' (ap lefts (sym f.3)) e in
-          let h = right-is f.1 f.2 y rs' (ap rights (sym f.3)) e' in
+          let g = left-next f.0 f.2 x ls' (ap lefts (sym f.3)) e in
+          let h = right-next f.1 f.2 y rs' (ap rights (sym f.3)) e' in
           let same = subst (λ y. IsBothMadeBy cmp l R (shortened i (ta f.0)) (shortened j (tb y)) o) h.0
           (subst (λ x. IsBothMadeBy cmp l R (shortened i (ta x)) (shortened j (tb y)) o) g.0 w) in
           let cost = subst (λ y. spent' + 2 ≤ spent + 3 * (weight (shortened i (ta f.0)) + weight (shortened j (tb y)))) h.0

@@ -4,7 +4,8 @@
 --     values-asked        what may be asked of the values at the fronts
 --     made-children        the trees that were made are canonical children
 --     combined        the node of these trees is what the combine says of both
-use Rattle.std.proofs.Common.{◌≡◌, ℕ, ◌+◌, ◌-◌, ◌*◌, ◌≤◌, [], ◌∷◌, ◌++◌, List, Option, None, Some, sym, ap, subst, ◌∙◌, map, take, drop, zero, suc, min, slice_get, append-nil, true≢false, arith, length}
+use Rattle.std.proofs.Common.{◌≡◌, ℕ, ◌+◌, ◌-◌, ◌*◌, ◌≤◌, [], ◌∷◌, ◌++◌, List, Option, None, Some, sym, ap, subst}
+use Rattle.std.proofs.Common.{◌∙◌, map, take, drop, zero, suc, min, slice_get, append-nil, true≢false, arith, length}
 use Rattle.std.proofs.lemmas.List.{take-append-drop}
 use Rattle.std.specs.Cmp.{IsTotalOrder, tied_itself}
 use Rattle.std.specs.Ordering.{is_eq}
@@ -16,7 +17,8 @@ use Rattle.vc_tree_model.specs.Map.{lookup}
 use Rattle.vc_tree_model.specs.Canonical.{AreChildren, IsCanonical}
 use Rattle.vc_tree_model.specs.Child.{BeginsWith, solid_child, value_at, children_at}
 use Rattle.vc_tree_model.specs.Shortened.{weight}
-use Rattle.vc_tree_model.proofs.Joining.{opened-children, joined-child, joined-begins, trees-combined, value-asked, children-asked}
+use Rattle.vc_tree_model.proofs.Joining.{opened-children, joined-child, joined-begins, trees-combined, value-asked}
+use Rattle.vc_tree_model.proofs.Joining.{children-asked}
 use Rattle.vc_tree_model.specs.Look.{Look}
 use Rattle.vc_tree_model.proofs.Places.{IsCombinedIn}
 use Rattle.vc_tree_facing.specs.Facing.{shortened_in, Parts, IsOpened, IsFaced}

@@ -2,7 +2,8 @@
 --     script-made        the trees that are made are canonical children, and what the combine says of both lists
 --     script-asked        what may be asked at each key of both lists, may be asked at each event
 --     script-all        and the other way round
-use Rattle.std.proofs.Common.{◌≡◌, ℕ, [], ◌∷◌, List, Option, None, Some, refl, sym, ap, subst, ◌∙◌, map, drop, slice_get, true≢false}
+use Rattle.std.proofs.Common.{◌≡◌, ℕ, [], ◌∷◌, List, Option, None, Some, refl, sym, ap, subst, ◌∙◌, map, drop}
+use Rattle.std.proofs.Common.{slice_get, true≢false}
 use Rattle.std.specs.Cmp.{IsTotalOrder, tied_itself}
 use Rattle.std.specs.List.{AllByRecursion, filter_map}
 use Rattle.std.specs.List.Sorted.{IsStrictlySortedBy}
@@ -172,7 +173,8 @@ module _ {K : Type 0} (cmp : K → K → Ordering) (o : IsTotalOrder cmp) where
                 (rows-combined cmp o l R none (rows ds h) a r))),
           )
 
-  module _ {V W A B : Type 0} (ta : A → Tree K V) (tb : B → Tree K W) (i j : ℕ) {O : Type 0} (l : Look cmp W O) (asks : Option V → O → Type 0) where
+  module _ {V W A B : Type 0} (ta : A → Tree K V) (tb : B → Tree K W) (i j : ℕ) {O : Type 0} (l : Look cmp W O)
+      (asks : Option V → O → Type 0) where
     -- events of which nothing is made
     unmade : List (Event A B) → List (Event A B × Option (Tree K V))
     unmade [] = []
@@ -204,22 +206,27 @@ module _ {K : Type 0} (cmp : K → K → Ordering) (o : IsTotalOrder cmp) where
     pub script-asked : asks None l.none → (xs : List A) (ys : List B) (es : List (Event A B))
         → AreChildren cmp (shortened_in ta i xs) → AreChildren cmp (shortened_in tb j ys)
         → IsScript (by_component ta tb i j cmp) xs ys es
-        → ((x : K) (q : List K) → asks (lookup_in cmp (shortened_in ta i xs) (x ∷ q)) (l.of_forest (shortened_in tb j ys) (x ∷ q)))
+        → ((x : K) (q : List K) → asks (lookup_in cmp (shortened_in ta i xs) (x ∷ q))
+        (l.of_forest (shortened_in tb j ys) (x ∷ q)))
         → AllByRecursion (IsAskedAt cmp ta tb i j l asks) es
     script-asked none xs ys es ca cb s p =
         let ds = unmade es in
         let events = unmade-events es in
         let h : AllByRecursion (HasPlace ta tb i j) ds =
-        places ta tb i j ds (rw (events, s.left) (components cmp ta i xs ca)) (rw (events, s.right) (components cmp tb j ys cb)) in
+        places ta tb i j ds (rw (events, s.left) (components cmp ta i xs ca))
+        (rw (events, s.right) (components cmp tb j ys cb)) in
         let a = ascend ta tb i j ds h (rw events s.ascends) in
         let r = all-rows ta tb i j l (λ v w u. ⊤) ds h (rw events s.matched) (nothing-made es) in
         let left : side (λ r. r.left) (rows ta tb i j ds h) ≡ shortened_in ta i xs =
-        ap forest (left-side ta tb i j ds h ∙ ap (λ es. map (λ x. shortened i (ta x)) (lefts es)) events ∙ ap (map (λ x. shortened i (ta x))) s.left) in
+        ap forest (left-side ta tb i j ds h ∙ ap (λ es. map (λ x. shortened i (ta x)) (lefts es)) events
+        ∙ ap (map (λ x. shortened i (ta x))) s.left) in
         let right : side (λ r. r.right) (rows ta tb i j ds h) ≡ shortened_in tb j ys =
-        ap forest (right-side ta tb i j ds h ∙ ap (λ es. map (λ x. shortened j (tb x)) (rights es)) events ∙ ap (map (λ x. shortened j (tb x))) s.right) in
+        ap forest (right-side ta tb i j ds h ∙ ap (λ es. map (λ x. shortened j (tb x)) (rights es)) events
+        ∙ ap (map (λ x. shortened j (tb x))) s.right) in
         asked-rows es h
         (rows-asked cmp o l (λ v w u. ⊤) asks none (rows ta tb i j ds h) a r
-        (λ x q. subst (λ f. asks (lookup_in cmp f (x ∷ q)) (l.of_forest (side (λ r. r.right) (rows ta tb i j ds h)) (x ∷ q))) (sym left)
+        (λ x q. subst (λ f. asks (lookup_in cmp f (x ∷ q))
+        (l.of_forest (side (λ r. r.right) (rows ta tb i j ds h)) (x ∷ q))) (sym left)
         (subst (λ g. asks (lookup_in cmp (shortened_in ta i xs) (x ∷ q)) (l.of_forest g (x ∷ q))) (sym right) (p x q))))
 
     -- what holds at each key of an event, as a row of which nothing is made
@@ -234,7 +241,8 @@ module _ {K : Type 0} (cmp : K → K → Ordering) (o : IsTotalOrder cmp) where
     -- what holds at each key of each event, holds at each key of both lists
     pub script-all : asks None l.none → (xs : List A) (ys : List B) (es : List (Event A B))
         → AreChildren cmp (shortened_in ta i xs) → AreChildren cmp (shortened_in tb j ys)
-        → IsScript (by_component ta tb i j cmp) xs ys es → AllByRecursion (IsAskedAt cmp ta tb i j l asks) es → (x : K) (q : List K)
+        → IsScript (by_component ta tb i j cmp) xs ys es → AllByRecursion (IsAskedAt cmp ta tb i j l asks) es
+        → (x : K) (q : List K)
         → asks (lookup_in cmp (shortened_in ta i xs) (x ∷ q)) (l.of_forest (shortened_in tb j ys) (x ∷ q))
     script-all none xs ys es ca cb s a =
         (script-made ta tb i j l (λ v w u. asks v w) none xs ys (unmade es) ca cb (rw (unmade-events es) s) (all-unmade es a)).1

@@ -1,7 +1,8 @@
 -- What is known of the trees of the next event of a combine.
 --     left_next, right_next, both_next        the next trees are there, they go on at the place, and may be asked of
 --     falls        two trees that meet have fewer nodes than those that they stand below
-use Rattle.std.proofs.Common.{◌≡◌, ℕ, ◌+◌, ◌*◌, ◌<◌, ◌≤◌, [], ◌∷◌, ◌++◌, List, Option, None, Some, refl, sym, ap, subst, ◌∙◌, map, arith, length, drop, slice_get, inl, inr}
+use Rattle.std.proofs.Common.{◌≡◌, ℕ, ◌+◌, ◌*◌, ◌<◌, ◌≤◌, [], ◌∷◌, ◌++◌, List, Option, None, Some, refl, sym, ap}
+use Rattle.std.proofs.Common.{subst, ◌∙◌, map, arith, length, drop, slice_get, inl, inr}
 use Rattle.std.proofs.lemmas.Option.{slice_get_within}
 use Rattle.std.specs.List.{AllByRecursion}
 use Rattle.std.specs.declared.cmp.Ordering.{Ordering}
@@ -19,7 +20,7 @@ use Rattle.vc_tree_facing.specs.Sides.{by_component, side_of}
 use Rattle.vc_tree_facing.specs.declared.sides.Side.{Side}
 use Rattle.vc_tree_facing.specs.declared.sides.Side.TheVariants.{Left, Right, Both}
 use Rattle.vc_tree_facing.proofs.Components.{get-drop, components}
-use Rattle.vc_tree_facing.proofs.Doing.{left-first, right-first, both-first, left-is, right-is}
+use Rattle.vc_tree_facing.proofs.Doing.{left-first, right-first, both-first, left-next, right-next}
 use Rattle.vc_tree_facing.proofs.Paying.{apart-or_ended}
 
 module _ {A B : Type 0} where
@@ -123,7 +124,7 @@ module _ {K V W U O A B : Type 0} (cmp : K → K → Ordering) (ta : A → Tree 
       → asks (lookup cmp (shortened i (ta x)) k) l.none
   left-asked sides z x ls' e =
       let f = left-first sides d.rest (sym z ∙ d.sides_are) in
-      let g = left-is cmp ta tb i j l R asks xs ys ls rs all made spent budget d f.0 f.1 x ls' (ap lefts (sym f.2)) e in
+      let g = left-next cmp ta tb i j l R asks xs ys ls rs all made spent budget d f.0 f.1 x ls' (ap lefts (sym f.2)) e in
       subst (λ x. (k : List K) → asks (lookup cmp (shortened i (ta x)) k) l.none) (sym g.0)
       (subst (AllByRecursion (IsAskedAt cmp ta tb i j l asks)) f.2 d.asked).0
 
@@ -131,7 +132,7 @@ module _ {K V W U O A B : Type 0} (cmp : K → K → Ordering) (ta : A → Tree 
       → asks None (l.of_tree (shortened j (tb y)) k)
   right-asked sides z y rs' e =
       let f = right-first sides d.rest (sym z ∙ d.sides_are) in
-      let g = right-is cmp ta tb i j l R asks xs ys ls rs all made spent budget d f.0 f.1 y rs' (ap rights (sym f.2)) e in
+      let g = right-next cmp ta tb i j l R asks xs ys ls rs all made spent budget d f.0 f.1 y rs' (ap rights (sym f.2)) e in
       subst (λ y. (k : List K) → asks None (l.of_tree (shortened j (tb y)) k)) (sym g.0)
       (subst (AllByRecursion (IsAskedAt cmp ta tb i j l asks)) f.2 d.asked).0
 
@@ -140,8 +141,8 @@ module _ {K V W U O A B : Type 0} (cmp : K → K → Ordering) (ta : A → Tree 
     pub both-asked : (k : List K) → asks (lookup cmp (shortened i (ta x)) k) (l.of_tree (shortened j (tb y)) k)
     both-asked =
         let f = both-first sides d.rest (sym z ∙ d.sides_are) in
-        let g = left-is cmp ta tb i j l R asks xs ys ls rs all made spent budget d f.0 f.2 x ls' (ap lefts (sym f.3)) el in
-        let h = right-is cmp ta tb i j l R asks xs ys ls rs all made spent budget d f.1 f.2 y rs' (ap rights (sym f.3)) er in
+        let g = left-next cmp ta tb i j l R asks xs ys ls rs all made spent budget d f.0 f.2 x ls' (ap lefts (sym f.3)) el in
+        let h = right-next cmp ta tb i j l R asks xs ys ls rs all made spent budget d f.1 f.2 y rs' (ap rights (sym f.3)) er in
         subst (λ x. (k : List K) → asks (lookup cmp (shortened i (ta x)) k) (l.of_tree (shortened j (tb y)) k)) (sym g.0)
         (subst (λ y. (k : List K) → asks (lookup cmp (shortened i (ta f.0)) k) (l.of_tree (shortened j (tb y)) k)) (sym h.0)
         (subst (AllByRecursion (IsAskedAt cmp ta tb i j l asks)) f.3 d.asked).0)
@@ -151,8 +152,8 @@ module _ {K V W U O A B : Type 0} (cmp : K → K → Ordering) (ta : A → Tree 
         → spent' ≤ budget
     both-paid spent' c =
         let f = both-first sides d.rest (sym z ∙ d.sides_are) in
-        let g = left-is cmp ta tb i j l R asks xs ys ls rs all made spent budget d f.0 f.2 x ls' (ap lefts (sym f.3)) el in
-        let h = right-is cmp ta tb i j l R asks xs ys ls rs all made spent budget d f.1 f.2 y rs' (ap rights (sym f.3)) er in
+        let g = left-next cmp ta tb i j l R asks xs ys ls rs all made spent budget d f.0 f.2 x ls' (ap lefts (sym f.3)) el in
+        let h = right-next cmp ta tb i j l R asks xs ys ls rs all made spent budget d f.1 f.2 y rs' (ap rights (sym f.3)) er in
         let cost = rw (g.0, h.0) at c in
         let paid = subst (λ l. spent + owed cmp ta tb i j l ≤ budget) f.3 d.paid in
         omega (arith, cost, paid)
@@ -160,8 +161,8 @@ module _ {K V W U O A B : Type 0} (cmp : K → K → Ordering) (ta : A → Tree 
     matched : by_component ta tb i j cmp (inl x) (inr y) ≡ Equal
     matched =
         let f = both-first sides d.rest (sym z ∙ d.sides_are) in
-        let g = left-is cmp ta tb i j l R asks xs ys ls rs all made spent budget d f.0 f.2 x ls' (ap lefts (sym f.3)) el in
-        let h = right-is cmp ta tb i j l R asks xs ys ls rs all made spent budget d f.1 f.2 y rs' (ap rights (sym f.3)) er in
+        let g = left-next cmp ta tb i j l R asks xs ys ls rs all made spent budget d f.0 f.2 x ls' (ap lefts (sym f.3)) el in
+        let h = right-next cmp ta tb i j l R asks xs ys ls rs all made spent budget d f.1 f.2 y rs' (ap rights (sym f.3)) er in
         let m = event-rest (IsMatched (by_component ta tb i j cmp)) (map (λ d. d.0) d.done) d.rest d.script.matched in
         rw (g.0, h.0) (subst (AllByRecursion (IsMatched (by_component ta tb i j cmp))) f.3 m).0
 

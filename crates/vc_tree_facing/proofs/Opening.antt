@@ -4,7 +4,9 @@
 --     opened-rest        where it goes on, the tree itself
 --     parts-at        two prefixes part where both go on
 --     one-at        the component at a place, as a list
-use Rattle.std.proofs.Common.{◌≡◌, ℕ, ◌+◌, ◌-◌, ◌<◌, ◌≤◌, [], ◌∷◌, List, Option, Some, None, is_none, get_or, refl, sym, ap, ◌∙◌, arith, true≢false, map, take, drop, length-drop, length, slice_get, zero, suc, false}
+use Rattle.std.proofs.Common.{◌≡◌, ℕ, ◌+◌, ◌-◌, ◌<◌, ◌≤◌, [], ◌∷◌, List, Option, Some, None, is_none, get_or, refl}
+use Rattle.std.proofs.Common.{sym, ap, ◌∙◌, arith, true≢false, map, take, drop, length-drop, length, slice_get, zero}
+use Rattle.std.proofs.Common.{suc, false}
 use Rattle.std.proofs.lemmas.List.{take_all, drop-drop}
 use Rattle.std.proofs.lemmas.Option.{slice_get-get_or}
 use Rattle.std.proofs.Math.ListN.{drop_of_length-le}
@@ -70,7 +72,8 @@ module _ {T K V : Type 0} (tree : T → Tree K V) where
       → IsOpened tree t rest xs 0
   opened-all t rest xs r c = rw r (record {
     children = c;
-    smaller = all-smaller xs (nodes t) (let k : forest_nodes (forest (map tree xs)) ≡ forest_nodes t.children = ap forest_nodes c in omega (arith, k));
+    smaller = all-smaller xs (nodes t)
+        (let k : forest_nodes (forest (map tree xs)) ≡ forest_nodes t.children = ap forest_nodes c in omega (arith, k));
     first = all-go_on xs;
   })
 

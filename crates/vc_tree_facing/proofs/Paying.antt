@@ -2,7 +2,8 @@
 --     apart-or_ended        two trees that meet below two prefixes show that one of these ended
 --     few-children        each child weighs at least one
 --     face-paid        what laying two trees side by side takes, and what is owed to the trees that meet, is paid by both trees
-use Rattle.std.proofs.Common.{◌≡◌, ℕ, ◌+◌, ◌*◌, ◌≤◌, min, [], ◌∷◌, List, Option, Some, refl, sym, ap, ◌∙◌, arith, map, drop, length, slice_get, true≢false, inl, inr}
+use Rattle.std.proofs.Common.{◌≡◌, ℕ, ◌+◌, ◌*◌, ◌≤◌, min, [], ◌∷◌, List, Option, Some, refl, sym, ap, ◌∙◌, arith, map}
+use Rattle.std.proofs.Common.{drop, length, slice_get, true≢false, inl, inr}
 use Rattle.std.proofs.lemmas.List.{length-drop}
 use Rattle.std.specs.List.{AllByRecursion}
 use Rattle.std.specs.Option.{option_cmp}
@@ -103,7 +104,8 @@ module _ {K V W A B : Type 0} (cmp : K → K → Ordering) (ta : A → Tree K V)
           → length (lefts es) ≡ length xs → length (rights es) ≡ length ys
           → forest_weight (shortened_in ta i (lefts es)) ≡ forest_weight (shortened_in ta i xs)
           → forest_weight (shortened_in tb j (rights es)) ≡ forest_weight (shortened_in tb j ys)
-          → min (length t.prefix) (length u.prefix) + length xs + length ys + owed cmp ta tb i j es + 2 ≤ 3 * (weight t + weight u)
+          → min (length t.prefix) (length u.prefix) + length xs + length ys + owed cmp ta tb i j es + 2
+          ≤ 3 * (weight t + weight u)
       by-ends [] q lt lu l r w wt wu xl yl xw yw =
           let e = events-paid cmp ta tb i j es in omega (arith, wt, wu, lt, lu, xl, yl, xw, yw, e)
       by-ends (x ∷ p) [] lt lu l r w wt wu xl yl xw yw =
@@ -118,9 +120,11 @@ module _ {K V W A B : Type 0} (cmp : K → K → Ordering) (ta : A → Tree K V)
 
   -- what laying two trees side by side takes, and what is owed to the trees that meet, is paid by both trees
   pub face-paid : (sides : List Side) → (f : IsFaced cmp ta tb t u n xs i ys j sides)
-      → min (length t.prefix) (length u.prefix) + length xs + length ys + owed cmp ta tb i j f.listed.events + 2 ≤ 3 * (weight t + weight u)
+      → min (length t.prefix) (length u.prefix) + length xs + length ys + owed cmp ta tb i j f.listed.events + 2
+      ≤ 3 * (weight t + weight u)
   face-paid sides f =
-      paid-by (drop n t.prefix) (drop n u.prefix) (whole n t.prefix f.left_within) (whole n u.prefix f.right_within) f.left f.right
+      paid-by (drop n t.prefix) (drop n u.prefix) (whole n t.prefix f.left_within)
+      (whole n u.prefix f.right_within) f.left f.right
       f.parts f.listed.events f.listed.script
     where
       whole : (n : ℕ) (p : List K) → n ≤ length p → length p ≡ n + length (drop n p)

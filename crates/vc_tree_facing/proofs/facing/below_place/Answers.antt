@@ -21,7 +21,8 @@ returns-then-place-prefix-clause-below g c =
     let w = ap length c.prefix.ensures.value in
     record {
       are_children =
-          below-children g.K.Ord.cmp g.T.RadixNode.tree t c.prefix.ensures.canonical c.args.place (c.args.tree.now ∷ []) c.args.place
+          below-children g.K.Ord.cmp g.T.RadixNode.tree t c.prefix.ensures.canonical c.args.place
+          (c.args.tree.now ∷ []) c.args.place
           (opened-by g.T.RadixNode.tree c.args.tree.now t (drop c.args.place t.prefix) c.args.place refl refl refl
           (omega (arith, l, w, c.if-place-prefix.true)));
       alone = refl;
