@@ -1,7 +1,8 @@
 -- What is left of a tree that one side alone has, where that is nothing; values that are copied; and calls of the closures that combines ask.
 --     may-answer        what a call answers
 --     made-none        the combine of whole trees, of which no key is left
-use Rattle.std.proofs.Common.{◌≡◌, ℕ, [], ◌∷◌, ◌++◌, List, Option, None, Some, Result, Ok, Err, IfOk, refl, sym, ap, subst, ◌∙◌, take, drop}
+use Rattle.std.proofs.Common.{◌≡◌, ℕ, [], ◌∷◌, ◌++◌, List, Option, None, Some, Result, Ok, Err, IfOk, refl, sym, ap}
+use Rattle.std.proofs.Common.{subst, ◌∙◌, take, drop}
 use Rattle.std.specs.Cmp.{IsTotalOrder}
 use Rattle.std.specs.Option.{option_copied}
 use Rattle.std.specs.declared.cmp.Ordering.{Ordering}
@@ -102,7 +103,8 @@ outer-answer kl kr g f p q r v w a b h = rw (a, b) (may-answer g f p q r h)
 
 -- ---- whole trees
 
-module _ {K V W U : Type 0} (cmp : K → K → Ordering) (R : Option V → Option W → Option U → Type 0) (t : Tree K V) (u : Tree K W) where
+module _ {K V W U : Type 0} (cmp : K → K → Ordering) (R : Option V → Option W → Option U → Type 0) (t : Tree K V)
+    (u : Tree K W) where
   nothing-in : (k : List K) → lookup cmp (no_tree {K = K} {V = U}) k ≡ None
   nothing-in [] = refl
   nothing-in (x ∷ k) = refl

@@ -3,7 +3,8 @@
 --     made-none, made-next        what was made of the children up to now
 --     made-alone        the node of what was made
 --     may-answer_at, left-answer        what a call answers
-use Rattle.std.proofs.Common.{◌≡◌, ℕ, ◌+◌, ◌<◌, [], ◌∷◌, ◌++◌, List, Option, None, Some, Result, Ok, Err, IfOk, refl, sym, ap, subst, ◌∙◌, map, take, length, slice_get, append-nil, zero, suc, arith, get_or}
+use Rattle.std.proofs.Common.{◌≡◌, ℕ, ◌+◌, ◌<◌, [], ◌∷◌, ◌++◌, List, Option, None, Some, Result, Ok, Err, IfOk, refl}
+use Rattle.std.proofs.Common.{sym, ap, subst, ◌∙◌, map, take, length, slice_get, append-nil, zero, suc, arith, get_or}
 use Rattle.std.proofs.Math.Seq.{take-suc}
 use Rattle.std.specs.Cmp.{IsTotalOrder, tied_itself}
 use Rattle.std.specs.List.{AllByRecursion, filter_map, cons_option}
@@ -108,7 +109,8 @@ module _ {K : Type 0} (cmp : K → K → Ordering) (o : IsTotalOrder cmp) where
     pub children-alone : (xs : List A) → seen ta xs ≡ t.children → AreChildren cmp (seen ta xs)
         → AllByRecursion (λ x. (k : List K) → asks (lookup cmp (ta x) k) None) xs
     children-alone xs e c =
-        all-alone xs (script-asked cmp o ta (λ t. t) 0 0 (values cmp) asks none xs [] (alone W ta xs) c tt (script-alone W ta xs c)
+        all-alone xs (script-asked cmp o ta (λ t. t) 0 0 (values cmp) asks none xs [] (alone W ta xs) c tt
+        (script-alone W ta xs c)
         (subst (λ f. (x : K) (q : List K) → asks (lookup_in cmp f (x ∷ q)) None) (sym e)
         (children-asked cmp o (values cmp) asks t (node t.prefix None bare) t.prefix [] t.prefix [] (sym (append-nil t.prefix))
         (sym (append-nil t.prefix)) (same-itself cmp o t.prefix) beside)))
@@ -201,13 +203,15 @@ module _ {K : Type 0} (cmp : K → K → Ordering) (o : IsTotalOrder cmp) where
       })
 
 -- what holds of all elements holds of the one at a place
-pub all-at : {X : Type 0} (P : X → Type 0) (xs : List X) (i : ℕ) (x : X) → i < length xs → x ≡ get_or xs i x → AllByRecursion P xs → P x
+pub all-at : {X : Type 0} (P : X → Type 0) (xs : List X) (i : ℕ) (x : X) → i < length xs → x ≡ get_or xs i x
+    → AllByRecursion P xs → P x
 all-at P [] i x h e a = absurd (omega (arith, h))
 all-at P (z ∷ xs) zero x h e a = rw e a.0
 all-at P (z ∷ xs) (suc i) x h e a = all-at P xs i x (omega (arith, h)) e a.1
 
 -- a place further, one element more is taken
-pub taken-next : {X : Type 0} (xs : List X) (i : ℕ) (x : X) → i < length xs → x ≡ get_or xs i x → take (i + 1) xs ≡ take i xs ++ x ∷ []
+pub taken-next : {X : Type 0} (xs : List X) (i : ℕ) (x : X) → i < length xs → x ≡ get_or xs i x → take (i + 1) xs
+    ≡ take i xs ++ x ∷ []
 taken-next xs i x h e =
     let n : i + 1 ≡ suc i = omega arith in
     ap (λ n. take n xs) n ∙ take-suc xs i x h ∙ ap (λ z. take i xs ++ z ∷ []) (sym e)
@@ -220,7 +224,8 @@ pub may-answer_at : {V W F E X : Type 0} (g : Shared F (Bor V × (Option (Bor W)
 may-answer_at g f p q (Ok z) h = record { left = p; right = q; shows = (refl, refl); answers = h }
 may-answer_at g f p q (Err e) h = tt
 
-pub left-answer : {V W F E U : Type 0} (g : Shared F (Bor V × (Option (Bor W) × Unit {0})) (Result (Option U) E)) (f : F) (p : Bor V)
+pub left-answer : {V W F E U : Type 0} (g : Shared F (Bor V × (Option (Bor W) × Unit {0})) (Result (Option U) E))
+    (f : F) (p : Bor V)
     (r : Result (Option U) E) (v : Option (Bor V)) (w : Option (Bor W)) → v ≡ Some p → g.post f (p, (w, tt)) r
     → IfOk r (IsLeftAt (λ v w z. MayAnswerAt g f v w (Ok z)) (option_copied v) (option_copied w))
 left-answer g f p r v w a h = rw a (may-answer_at g f p w r h)

@@ -5,7 +5,8 @@
 --     bare-or_missed, childless-met        or in none
 --     tells-nodes        both prefixes end
 --     disjoint-told, subset-told        the public words
-use Rattle.std.proofs.Common.{◌≡◌, [], ◌∷◌, ◌++◌, List, Option, None, Some, is_some, Bool, true, false, not, ◌⊎◌, inl, inr, refl, sym, ap, subst, ◌∙◌, true≢false}
+use Rattle.std.proofs.Common.{◌≡◌, [], ◌∷◌, ◌++◌, List, Option, None, Some, is_some, Bool, true, false, not, ◌⊎◌, inl}
+use Rattle.std.proofs.Common.{inr, refl, sym, ap, subst, ◌∙◌, true≢false}
 use Rattle.std.specs.Cmp.{IsTotalOrder, Equal-is, tied_itself, tied_back}
 use Rattle.std.specs.Option.{option_and_then}
 use Rattle.std.specs.Ordering.{is_eq}
@@ -19,7 +20,8 @@ use Rattle.vc_tree_model.specs.Map.{lookup, lookup_in}
 use Rattle.vc_tree_model.specs.Canonical.{AreChildren, IsSolid, IsWhole}
 use Rattle.vc_tree_model.specs.Under.{prefixed}
 use Rattle.vc_tree_model.proofs.KeyLemmas.{behind-itself, behind-same, same-itself}
-use Rattle.vc_tree_model.proofs.LookupLemmas.{lookup-other, lookup_in-skip, lookup_in-same, lookup-same, first-bound, tree-bound, whole-cases, nothing-bound}
+use Rattle.vc_tree_model.proofs.LookupLemmas.{lookup-other, lookup_in-skip, lookup_in-same, lookup-same, first-bound}
+use Rattle.vc_tree_model.proofs.LookupLemmas.{tree-bound, whole-cases, nothing-bound}
 use Rattle.vc_tree_model.proofs.UnderLemmas.{lookup-prepended}
 use Rattle.vc_tree_nodes.specs.Places.{IsNoChild, IsFoundChild}
 use Rattle.vc_tree_combines.specs.Meeting.{IsMet, IsMissed, TellsKeys, TellsKeysIn}
@@ -158,12 +160,14 @@ module _ {K : Type 0} (cmp : K → K → Ordering) (o : IsTotalOrder cmp) where
         tells-where shared (lookup cmp (node (x ∷ p) v f)) (lookup cmp t) (lookup cmp (node (x ∷ p) v f))
         (lookup cmp (node [] w g)) each answer h
       where
-        each : (k : List K) → SaysSame shared (lookup cmp (node (x ∷ p) v f)) (lookup cmp t) (lookup cmp (node (x ∷ p) v f)) (lookup cmp (node [] w g)) k
+        each : (k : List K) → SaysSame shared (lookup cmp (node (x ∷ p) v f)) (lookup cmp t)
+            (lookup cmp (node (x ∷ p) v f)) (lookup cmp (node [] w g)) k
         each [] = inr (silent-left shared None w refl, silent-left shared None (lookup cmp t []) refl)
         each (y ∷ k) = by (is_eq (cmp x y)) refl
           where
             by : (b : Bool) → is_eq (cmp x y) ≡ b
-                → SaysSame shared (lookup cmp (node (x ∷ p) v f)) (lookup cmp t) (lookup cmp (node (x ∷ p) v f)) (lookup cmp (node [] w g)) (y ∷ k)
+                → SaysSame shared (lookup cmp (node (x ∷ p) v f)) (lookup cmp t) (lookup cmp (node (x ∷ p) v f))
+                (lookup cmp (node [] w g)) (y ∷ k)
             by true e = inl (refl, in-child g x y t k c ((Equal-is (cmp x y)).0 e))
             by false e =
                 let n = lookup-other cmp x y p k v f e in
@@ -177,12 +181,14 @@ module _ {K : Type 0} (cmp : K → K → Ordering) (o : IsTotalOrder cmp) where
         tells-where false (lookup cmp t) (lookup cmp (node (y ∷ q) w g)) (lookup cmp (node [] v f))
         (lookup cmp (node (y ∷ q) w g)) each answer h
       where
-        each : (k : List K) → SaysSame false (lookup cmp t) (lookup cmp (node (y ∷ q) w g)) (lookup cmp (node [] v f)) (lookup cmp (node (y ∷ q) w g)) k
+        each : (k : List K) → SaysSame false (lookup cmp t) (lookup cmp (node (y ∷ q) w g))
+            (lookup cmp (node [] v f)) (lookup cmp (node (y ∷ q) w g)) k
         each [] = inr (silent-right false v None refl refl, silent-right false (lookup cmp t []) None refl refl)
         each (z ∷ k) = by (is_eq (cmp y z)) refl
           where
             by : (b : Bool) → is_eq (cmp y z) ≡ b
-                → SaysSame false (lookup cmp t) (lookup cmp (node (y ∷ q) w g)) (lookup cmp (node [] v f)) (lookup cmp (node (y ∷ q) w g)) (z ∷ k)
+                → SaysSame false (lookup cmp t) (lookup cmp (node (y ∷ q) w g)) (lookup cmp (node [] v f))
+                (lookup cmp (node (y ∷ q) w g)) (z ∷ k)
             by true e = inl (in-child f y z t k c ((Equal-is (cmp y z)).0 e), refl)
             by false e =
                 let n = lookup-other cmp y z q k w g e in
@@ -216,8 +222,14 @@ module _ {K : Type 0} (cmp : K → K → Ordering) (o : IsTotalOrder cmp) where
             (x ∷ b.key, rw (b.is, lookup-other cmp y x q b.key w g e) refl)
         by true e =
             let b = first-bound cmp o (grow (z ∷ r) u more rest) c.3 in
-            let d : is_eq (cmp y z) ≡ false = ap is_eq (o.congr y x z ((Equal-is (cmp y x)).0 e)) ∙ less in
-            (z ∷ b.key, rw (lookup_in-skip cmp x z p b.key v kids (grow (z ∷ r) u more rest) less ∙ b.is, lookup-other cmp y z q b.key w g d) refl)
+            let d : is_eq (cmp y z) ≡ false = ap is_eq (o.congr y x z ((Equal-is (cmp y x)).0 e)) ∙ less in (
+              z ∷ b.key,
+              rw (
+                lookup_in-skip cmp x z p b.key v kids (grow (z ∷ r) u more rest) less
+                    ∙ b.is,
+                lookup-other cmp y z q b.key w g d,
+              ) refl,
+            )
 
     solid-missed : (y : K) (q : List K) (w : Option W) (g : Forest K W) (v : Option V) (f : Forest K V) → IsSolid v f
         → AreChildren cmp f → (lacks_both v f ≡ false) × TellsKeys cmp true (node [] v f) (node (y ∷ q) w g) false
@@ -238,7 +250,8 @@ module _ {K : Type 0} (cmp : K → K → Ordering) (o : IsTotalOrder cmp) where
         by : IsSolid v f ⊎ ((p ≡ []) × (v ≡ None) × (f ≡ bare)) → TellsKeys cmp true (node [] v f) (node (y ∷ q) w g) answer
         by (inl h) = let m = solid-missed y q w g v f h c in rw (e ∙ m.0) m.1
         by (inr h) =
-            rw (e, h.1, h.2) (λ k. subst (λ m. IsMet true m (lookup cmp (node (y ∷ q) w g) k)) (sym (nothing-bound cmp [] v f (refl, h.1, h.2) k)) tt)
+            rw (e, h.1, h.2) (λ k. subst (λ m. IsMet true m (lookup cmp (node (y ∷ q) w g) k))
+            (sym (nothing-bound cmp [] v f (refl, h.1, h.2) k)) tt)
 
     -- both prefixes end: the values are met, and the children are
     pub tells-nodes : (shared : Bool) (v : Option V) (w : Option W) (f : Forest K V) (g : Forest K W) (below : Bool)

@@ -1,7 +1,9 @@
 -- A merge that passes the trees of one list alone, and stops at two that begin alike or at one that is missed.
 --     passed        what the merge has passed, and where it stopped
 --     end-told, missed-told, meets        what that tells of the keys of both lists
-use Rattle.std.proofs.Common.{◌≡◌, ℕ, ◌+◌, ◌≤◌, [], ◌∷◌, ◌++◌, List, Option, Some, Bool, true, false, not, Result, Ok, Err, ◌⊎◌, inl, inr, refl, sym, ap, subst, ◌∙◌, map, true≢false, append_assoc, append-nil, slice_get, arith}
+use Rattle.std.proofs.Common.{◌≡◌, ℕ, ◌+◌, ◌≤◌, [], ◌∷◌, ◌++◌, List, Option, Some, Bool, true, false, not, Result, Ok}
+use Rattle.std.proofs.Common.{Err, ◌⊎◌, inl, inr, refl, sym, ap, subst, ◌∙◌, map, true≢false, append_assoc}
+use Rattle.std.proofs.Common.{append-nil, slice_get, arith}
 use Rattle.std.proofs.lemmas.List.{append_cancel_left}
 use Rattle.std.specs.Cmp.{IsTotalOrder}
 use Rattle.std.specs.List.{AllByRecursion}
@@ -9,7 +11,8 @@ use Rattle.std.specs.List.Sorted.{IsStrictlySortedBy}
 use Rattle.std.specs.declared.alloc.AllocError.{AllocError}
 use Rattle.std.specs.declared.cmp.Ordering.{Ordering}
 use Rattle.vc_merge.specs.Ascending.{Ascends}
-use Rattle.vc_merge.specs.Chain.{Answer, Allows, allows, Run, of_left, of_right, of_both, run_events, events, IsAtFront, IsAllowed, Step, Steps, Finishes, Stops, IsMerged}
+use Rattle.vc_merge.specs.Chain.{Answer, Allows, allows, Run, of_left, of_right, of_both, run_events, events}
+use Rattle.vc_merge.specs.Chain.{IsAtFront, IsAllowed, Step, Steps, Finishes, Stops, IsMerged}
 use Rattle.vc_merge.specs.Script.{Event, left_alone, right_alone, collision, lefts, rights, place, IsMatched, IsScript}
 use Rattle.vc_tree_model.specs.Canonical.{AreChildren, IsSolid}
 use Rattle.vc_tree_model.specs.Map.{lookup}
@@ -55,7 +58,8 @@ rights-passed : (A : Type 0) {B : Type 0} (shared : Bool) (ys : List B)
 rights-passed A shared [] = tt
 rights-passed A shared (y ∷ ys) = (tt, rights-passed A shared ys)
 
-all-append : {X : Type 0} (P : X → Type 0) (xs ys : List X) → AllByRecursion P xs → AllByRecursion P ys → AllByRecursion P (xs ++ ys)
+all-append : {X : Type 0} (P : X → Type 0) (xs ys : List X) → AllByRecursion P xs → AllByRecursion P ys
+    → AllByRecursion P (xs ++ ys)
 all-append P [] ys a b = b
 all-append P (x ∷ xs) ys a b = (a.0, all-append P xs ys a.1 b)
 
@@ -193,7 +197,8 @@ module _ {M A B : Type 0} (left : M → List A) (right : M → List B) (missed :
         stopped-by s t answer w w.last refl w.front w.allowed (steps-passed s w.before w.runs z w.steps)
 
     -- what the merge has passed, and where it stopped
-    pub passed : (s t : M) (answer : Result (Unit {0}) AllocError) → missed s ≡ false → IsMerged passes order s answer t → Passed s t
+    pub passed : (s t : M) (answer : Result (Unit {0}) AllocError) → missed s ≡ false
+        → IsMerged passes order s answer t → Passed s t
     passed s t (Ok u) z (inl f) = finished s t z f
     passed s t (Ok u) z (inr w) = stopped s t (Ok false) z w
     passed s t (Err x) z w = stopped s t (Err x) z w
@@ -283,7 +288,8 @@ module _ {K V W A B : Type 0} (cmp : K → K → Ordering) (o : IsTotalOrder cmp
   missed-told es x rest s e =
       let c = stands-in cmp ta xs (lefts es) x (lefts rest) (sym (lefts-append es (left_alone x ∷ rest)) ∙ s.left) ca in
       let b = tree-bound cmp o (ta x).prefix (ta x).value (ta x).children c.solid c.below in
-      (event-rest _ es (left_alone x ∷ rest) (missed-in (es ++ left_alone x ∷ rest) s)).0 ((ta x).prefix ++ b.key) (rw (e, b.is) refl)
+      (event-rest _ es (left_alone x ∷ rest) (missed-in (es ++ left_alone x ∷ rest) s)).0 ((ta x).prefix ++ b.key)
+      (rw (e, b.is) refl)
 
   -- two trees meet
   pub meets : (es : List (Event A B)) (x : A) (y : B) (rest : List (Event A B))
@@ -302,11 +308,15 @@ module _ {K V W A B : Type 0} (cmp : K → K → Ordering) (o : IsTotalOrder cmp
         right_nodes = r.smaller;
         all_met = λ h g.
             script-all cmp o ta tb 0 0 (values cmp) (IsMet shared) tt xs ys (es ++ collision x y ∷ rest) ca cb s
-            (all-append (IsAskedAt cmp ta tb 0 0 (values cmp) (IsMet shared)) es (collision x y ∷ rest) (passed-met es a)
-            (h, script-asked cmp o ta tb 0 0 (values cmp) (IsMet shared) tt (lefts rest) (rights rest) rest l.others r.others own g));
+            (all-append (IsAskedAt cmp ta tb 0 0 (values cmp) (IsMet shared)) es (collision x y ∷ rest) (passed-met es a) (
+              h,
+              script-asked cmp o ta tb 0 0 (values cmp) (IsMet shared) tt (lefts rest)
+                  (rights rest) rest l.others r.others own g,
+            ));
         here_missed = λ h. each.0 h.0 h.1;
         later_missed = λ h.
-            script-all cmp o ta tb 0 0 (values cmp) (λ v w. IsMissed shared v w → SomeMissed) (λ m. absurd m) (lefts rest) (rights rest) rest
+            script-all cmp o ta tb 0 0 (values cmp) (λ v w. IsMissed shared v w → SomeMissed) (λ m. absurd m)
+            (lefts rest) (rights rest) rest
             l.others r.others own each.1 h.0 h.1 h.2;
       }
     where

@@ -7,7 +7,9 @@
 --     some-at, before-end        a place that is not the end
 --     meeting-told        what is behind two trees that are met, tells of all
 --     found-agrees, agree-flip, found_smaller        the child that is found
-use Rattle.std.proofs.Common.{◌≡◌, ℕ, zero, suc, ◌+◌, ◌<◌, ◌≤◌, [], ◌∷◌, ◌++◌, List, Option, Some, Bool, true, false, not, ◌⊎◌, inl, inr, refl, sym, ap, subst, ◌∙◌, take, drop, length, slice_get, true≢false, arith}
+use Rattle.std.proofs.Common.{◌≡◌, ℕ, zero, suc, ◌+◌, ◌<◌, ◌≤◌, [], ◌∷◌, ◌++◌, List, Option, Some, Bool, true, false}
+use Rattle.std.proofs.Common.{not, ◌⊎◌, inl, inr, refl, sym, ap, subst, ◌∙◌, take, drop, length, slice_get}
+use Rattle.std.proofs.Common.{true≢false, arith}
 use Rattle.std.proofs.lemmas.List.{take-append-drop, drop-drop}
 use Rattle.std.proofs.Math.ListN.{drop_of_length-le}
 use Rattle.std.specs.Cmp.{IsTotalOrder}
@@ -25,7 +27,8 @@ use Rattle.vc_tree_nodes.specs.Places.{IsNoChild, IsFoundChild}
 use Rattle.vc_tree_nodes.specs.declared.parting.Parting.{Parting}
 use Rattle.vc_tree_nodes.specs.declared.parting.Parting.TheVariants.{Lower, Higher}
 use Rattle.vc_tree_combines.specs.Meeting.{IsMet, TellsKeys, TellsKeysIn, IsMeeting}
-use Rattle.vc_tree_combines.proofs.Meeting.{tells-lifted, alone-parted, alone-childless, tells-child, tells-in_child, childless-met, bare-or_missed, tells-nodes}
+use Rattle.vc_tree_combines.proofs.Meeting.{tells-lifted, alone-parted, alone-childless, tells-child, tells-in_child}
+use Rattle.vc_tree_combines.proofs.Meeting.{childless-met, bare-or_missed, tells-nodes}
 use Rattle.vc_tree_facing.proofs.Opening.{goes-on}
 
 -- what goes on with a component is solid
@@ -145,7 +148,8 @@ module _ {K : Type 0} (cmp : K → K → Ordering) (o : IsTotalOrder cmp) where
       behind-told answer h m =
           let none : drop (length p) (drop i t.prefix) ≡ drop (length t.prefix) t.prefix =
           ap (drop (length p)) (sym ep) ∙ drop_of_length-le p (omega arith) ∙ sym (drop_of_length-le t.prefix (omega arith)) in
-          lifted (length p) (drop (length t.prefix) t.prefix) (drop (j + length p) u.prefix) answer none (drop-drop (length p) j u.prefix)
+          lifted (length p) (drop (length t.prefix) t.prefix) (drop (j + length p) u.prefix) answer none
+          (drop-drop (length p) j u.prefix)
           (rw (← ep, ← eq) h.same) m
 
   -- ---- the left prefix has ended
@@ -182,7 +186,8 @@ module _ {K : Type 0} (cmp : K → K → Ordering) (o : IsTotalOrder cmp) where
           (rw s (childless-met cmp o y g.0 t.value u.value t.children u.children (rw (← e) k)))
 
       -- keys that are to be shared
-      pub within-bare : (shared : Bool) (answer : Bool) → IsCanonical cmp t → shared ≡ true → answer ≡ lacks_both t.value t.children
+      pub within-bare : (shared : Bool) (answer : Bool) → IsCanonical cmp t → shared ≡ true → answer
+          ≡ lacks_both t.value t.children
           → TellsKeys cmp shared (shortened (length t.prefix) t) (shortened n u) answer
       within-bare shared answer c s e =
           let g = goes-on n u.prefix y ey in

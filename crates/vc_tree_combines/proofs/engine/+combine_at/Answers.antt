@@ -4,7 +4,9 @@ use Rattle.vc_tree_model.specs.Look.{values}
 use Rattle.vc_tree_facing.specs.declared.sides.Side.TheVariants.{Left, Right, Both}
 use Rattle.vc_tree_facing.proofs.Doing.{doing-left, doing-right, doing-both}
 use Rattle.vc_tree_facing.proofs.Ending.{left-children, right-children, values-asked, combine-started, made-children, combined}
-use Rattle.vc_tree_facing.proofs.Next.{left-not_right, right-not_left, both-not_right, both-not_left, left-there, right-there, left_within, right_within, left-asked, right-asked, both-asked, both-agree, both-paid, falls, nil-by, at-most}
+use Rattle.vc_tree_facing.proofs.Next.{left-not_right, right-not_left, both-not_right, both-not_left, left-there}
+use Rattle.vc_tree_facing.proofs.Next.{right-there, left_within, right_within, left-asked, right-asked, both-asked}
+use Rattle.vc_tree_facing.proofs.Next.{both-agree, both-paid, falls, nil-by, at-most}
 use Rattle.vc_tree_combines.proofs.engine.+combine_at.Goals as goal
 
 pub loop-side-init : goal.loop-side-init
@@ -100,28 +102,41 @@ combine_at-requires g t c κs within =
                           within.1.1.1.1.1.1.1.1.1,
                           (
                             (at-most _ _ (left_within g.K.Ord.cmp g.A.RadixNode.tree g.B.RadixNode.tree _ _ _ _ _ _ _ _ _ _ _ _ _
-                                c.loop-side.invariant.doing (left-children g.K.Ord.cmp g.met.K.Ord.total g.A.RadixNode.tree g.B.RadixNode.tree
+                                c.loop-side.invariant.doing (left-children g.K.Ord.cmp g.met.K.Ord.total
+                                g.A.RadixNode.tree g.B.RadixNode.tree
                                 (values g.K.Ord.cmp) (g.O.Combine.says c.args.op.now) (g.O.Combine.asks c.args.op.now)
                                 (g.met.O.Combine.says_none c.args.op.now) _ _ c.in_ok-front.ensures.begun.left_canonical
-                                c.in_ok-front.ensures.begun.right_canonical _ _ _ _ _ _ c.in_ok-front.ensures.begun.faced) _ _ c.next-x.ensures.first)),
+                                c.in_ok-front.ensures.begun.right_canonical _ _ _ _ _ _
+                                c.in_ok-front.ensures.begun.faced) _ _ c.next-x.ensures.first)),
                             (
-                              (at-most _ _ (right_within g.K.Ord.cmp g.A.RadixNode.tree g.B.RadixNode.tree _ _ _ _ _ _ _ _ _ _ _ _ _
-                                  c.loop-side.invariant.doing (right-children g.K.Ord.cmp g.met.K.Ord.total g.A.RadixNode.tree g.B.RadixNode.tree
+                              (at-most _ _ (right_within g.K.Ord.cmp g.A.RadixNode.tree g.B.RadixNode.tree _ _ _ _ _
+                                  _ _ _ _ _ _ _ _
+                                  c.loop-side.invariant.doing (right-children g.K.Ord.cmp g.met.K.Ord.total
+                                  g.A.RadixNode.tree g.B.RadixNode.tree
                                   (values g.K.Ord.cmp) (g.O.Combine.says c.args.op.now) (g.O.Combine.asks c.args.op.now)
                                   (g.met.O.Combine.says_none c.args.op.now) _ _ c.in_ok-front.ensures.begun.left_canonical
-                                  c.in_ok-front.ensures.begun.right_canonical _ _ _ _ _ _ c.in_ok-front.ensures.begun.faced) _ _ c.next-y.ensures.first)),
+                                  c.in_ok-front.ensures.begun.right_canonical _ _ _ _ _ _
+                                  c.in_ok-front.ensures.begun.faced) _ _ c.next-y.ensures.first)),
                               (
-                                (both-agree g.K.Ord.cmp g.A.RadixNode.tree g.B.RadixNode.tree _ _ _ _ _ _ _ _ _ _ _ _ _ c.loop-side.invariant.doing
-                                    c.in-Some.others.now (c.in-Some.ensures.cases.0 ∙ ap (λ s. s ∷ c.in-Some.others.now) e) _ _ _ _ c.next-x.ensures.first
-                                    c.next-y.ensures.first (left-children g.K.Ord.cmp g.met.K.Ord.total g.A.RadixNode.tree g.B.RadixNode.tree (values g.K.Ord.cmp)
-                                    (g.O.Combine.says c.args.op.now) (g.O.Combine.asks c.args.op.now) (g.met.O.Combine.says_none c.args.op.now) _ _
-                                    c.in_ok-front.ensures.begun.left_canonical c.in_ok-front.ensures.begun.right_canonical _ _ _ _ _ _
-                                    c.in_ok-front.ensures.begun.faced) (right-children g.K.Ord.cmp g.met.K.Ord.total g.A.RadixNode.tree g.B.RadixNode.tree
+                                (both-agree g.K.Ord.cmp g.A.RadixNode.tree g.B.RadixNode.tree _ _ _ _ _ _ _ _ _ _ _ _
+                                    _ c.loop-side.invariant.doing
+                                    c.in-Some.others.now (c.in-Some.ensures.cases.0
+                                    ∙ ap (λ s. s ∷ c.in-Some.others.now) e) _ _ _ _ c.next-x.ensures.first
+                                    c.next-y.ensures.first (left-children g.K.Ord.cmp g.met.K.Ord.total
+                                    g.A.RadixNode.tree g.B.RadixNode.tree (values g.K.Ord.cmp)
+                                    (g.O.Combine.says c.args.op.now) (g.O.Combine.asks c.args.op.now)
+                                    (g.met.O.Combine.says_none c.args.op.now) _ _
+                                    c.in_ok-front.ensures.begun.left_canonical
+                                    c.in_ok-front.ensures.begun.right_canonical _ _ _ _ _ _
+                                    c.in_ok-front.ensures.begun.faced)
+                                    (right-children g.K.Ord.cmp g.met.K.Ord.total g.A.RadixNode.tree g.B.RadixNode.tree
                                     (values g.K.Ord.cmp) (g.O.Combine.says c.args.op.now) (g.O.Combine.asks c.args.op.now)
                                     (g.met.O.Combine.says_none c.args.op.now) _ _ c.in_ok-front.ensures.begun.left_canonical
                                     c.in_ok-front.ensures.begun.right_canonical _ _ _ _ _ _ c.in_ok-front.ensures.begun.faced)),
-                                (both-asked g.K.Ord.cmp g.A.RadixNode.tree g.B.RadixNode.tree _ _ _ _ _ _ _ _ _ _ _ _ _ c.loop-side.invariant.doing
-                                    c.in-Some.others.now (c.in-Some.ensures.cases.0 ∙ ap (λ s. s ∷ c.in-Some.others.now) e) _ _ _ _ c.next-x.ensures.first
+                                (both-asked g.K.Ord.cmp g.A.RadixNode.tree g.B.RadixNode.tree _ _ _ _ _ _ _ _ _ _ _ _
+                                    _ c.loop-side.invariant.doing
+                                    c.in-Some.others.now (c.in-Some.ensures.cases.0
+                                    ∙ ap (λ s. s ∷ c.in-Some.others.now) e) _ _ _ _ c.next-x.ensures.first
                                     c.next-y.ensures.first),
                               ),
                             ),

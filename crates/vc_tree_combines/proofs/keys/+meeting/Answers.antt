@@ -4,7 +4,9 @@ use Rattle.vc_tree_model.specs.Tree.{forest_nodes}
 use Rattle.vc_tree_nodes.specs.Children.{seen}
 use Rattle.vc_tree_nodes.specs.Parting.{Agree}
 use Rattle.vc_tree_facing.proofs.Opening.{slice-from, found, found_in}
-use Rattle.vc_tree_combines.proofs.Testing.{parted-told, inside-told, inside-none, inside-agrees, behind-told, within-told, within-none, within-bare, both-told, some-at, before-end, meeting-told}
+use Rattle.vc_tree_combines.proofs.Testing.{parted-told, inside-told, inside-none, inside-agrees, behind-told}
+use Rattle.vc_tree_combines.proofs.Testing.{within-told, within-none, within-bare, both-told, some-at, before-end}
+use Rattle.vc_tree_combines.proofs.Testing.{meeting-told}
 use Rattle.vc_tree_combines.proofs.keys.+meeting.Goals as goal
 
 pub keys_meet-keys_meet-requires : goal.keys_meet-keys_meet-requires
@@ -14,8 +16,10 @@ keys_meet-keys_meet-requires g t c κs within =
     ap forest_nodes c.children.ensures in
     let fewer = c.in-Some.ensures.child.smaller in
     let p = ap length (slice-from _ _ _ c.args.i refl c.prefix.ensures.value) in
-    let agree : Agree g.K.Ord.cmp (drop (c.args.i + c.in-Inside.n) (g.A.RadixNode.tree c.args.a.now).prefix) (tree c.in-Some.kid.now).prefix 1 =
-    inside-agrees g.K.Ord.cmp g.met.K.Ord.total c.args.shared (g.A.RadixNode.tree c.args.a.now) (tree c.args.b.now) c.args.i c.args.j _ _
+    let agree : Agree g.K.Ord.cmp (drop (c.args.i + c.in-Inside.n) (g.A.RadixNode.tree c.args.a.now).prefix)
+    (tree c.in-Some.kid.now).prefix 1 =
+    inside-agrees g.K.Ord.cmp g.met.K.Ord.total c.args.shared (g.A.RadixNode.tree c.args.a.now)
+    (tree c.args.b.now) c.args.i c.args.j _ _
     (slice-from _ _ _ _ refl c.prefix.ensures.value) (slice-from _ _ _ _ refl c.prefix-2.ensures.value)
     c.prefix.ensures.canonical c.in-Inside.n _ c.in-Inside.ensures.is
     (found _ c.in-Inside.n _ c.in-Inside.ensures.is.2 c.index-p-n.is) _ _ c.in-Some.ensures.child in
@@ -99,7 +103,8 @@ keys_meet_below-loop-x-preserved g t c =
       right = c.in-Meeting.ensures.right;
       left_nodes = omega (arith, left, lefts);
       right_nodes = omega (arith, right, rights);
-      tells = λ answer h. c.loop-x.invariant.tells answer (meeting-told _ _ _ _ _ _ _ _ _ _ c.in-Meeting.ensures c.if-not-keys_meet.ensures answer h);
+      tells = λ answer h. c.loop-x.invariant.tells answer
+          (meeting-told _ _ _ _ _ _ _ _ _ _ c.in-Meeting.ensures c.if-not-keys_meet.ensures answer h);
     }
 
 pub keys_meet_behind-returns-then-values_meet : goal.keys_meet_behind-returns-then-values_meet
@@ -112,7 +117,8 @@ keys_meet_behind-returns-then-values_meet g t c =
 pub keys_meet_behind-returns-then-shared : goal.keys_meet_behind-returns-then-shared
 keys_meet_behind-returns-then-shared g t c =
     let at = some-at _ _ c.args.n c.prefix-whole.ensures.value c.requires c.if-n-whole.false in
-    within-bare g.K.Ord.cmp g.met.K.Ord.total (g.A.RadixNode.tree c.args.a.now) (g.B.RadixNode.tree c.args.b.now) c.args.n at.0 at.1
+    within-bare g.K.Ord.cmp g.met.K.Ord.total (g.A.RadixNode.tree c.args.a.now)
+    (g.B.RadixNode.tree c.args.b.now) c.args.n at.0 at.1
     c.args.shared _ c.canonical.ensures c.if-shared.true c.is_empty.ensures
 
 pub keys_meet_behind-returns-in-Some : goal.keys_meet_behind-returns-in-Some

@@ -22,7 +22,8 @@ invariant-keys_meet_below-loop-x g l = record {
   right : AreChildren g.K.Ord.cmp (seen g.B.RadixNode.tree l.rights);
   left_nodes : forest_nodes (seen g.A.RadixNode.tree l.lefts) ≤ forest_nodes (seen g.A.RadixNode.tree l.left);
   right_nodes : forest_nodes (seen g.B.RadixNode.tree l.rights) ≤ forest_nodes (seen g.B.RadixNode.tree l.right);
-  tells : (answer : Bool) → TellsKeysIn g.K.Ord.cmp l.shared (seen g.A.RadixNode.tree l.lefts) (seen g.B.RadixNode.tree l.rights) answer
+  tells : (answer : Bool) → TellsKeysIn g.K.Ord.cmp l.shared (seen g.A.RadixNode.tree l.lefts)
+      (seen g.B.RadixNode.tree l.rights) answer
       → TellsKeysIn g.K.Ord.cmp l.shared (seen g.A.RadixNode.tree l.left) (seen g.B.RadixNode.tree l.right) answer;
 }
 

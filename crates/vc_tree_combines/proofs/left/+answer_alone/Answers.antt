@@ -8,7 +8,8 @@ use Rattle.vc_tree_model.specs.Map.{lookup}
 use Rattle.vc_tree_model.specs.Tree.{nodes, forest_nodes, shortened}
 use Rattle.vc_tree_nodes.specs.Children.{seen}
 use Rattle.vc_tree_nodes.proofs.Finding.{child-nodes}
-use Rattle.vc_tree_combines.proofs.AnsweredAlone.{value-alone, children-alone, made-none, made-next, alone-children, made-alone, all-at, taken-next}
+use Rattle.vc_tree_combines.proofs.AnsweredAlone.{value-alone, children-alone, made-none, made-next, alone-children}
+use Rattle.vc_tree_combines.proofs.AnsweredAlone.{made-alone, all-at, taken-next}
 use Rattle.vc_tree_combines.proofs.left.+answer_alone.Goals as goal
 
 pub loop-child-init : goal.loop-child-init
@@ -25,7 +26,8 @@ answer_alone-requires g t c κs within =
     c.loop-child-test.true) in
     let kids : forest_nodes (seen tree c.children-children.result.now) ≡ forest_nodes (tree c.args.tree.now).children =
     ap forest_nodes c.children-children.ensures in
-    let asked : (k : List g.row.K.Denot) → CanAskAt {W = g.row.W.Denot} g.F.Fn c.args.answer.now (lookup g.K.Ord.cmp (tree c.child-item.result) k) None =
+    let asked : (k : List g.row.K.Denot)
+    → CanAskAt {W = g.row.W.Denot} g.F.Fn c.args.answer.now (lookup g.K.Ord.cmp (tree c.child-item.result) k) None =
     all-at _ _ _ _ c.loop-child-test.true c.child-item.is
     (children-alone g.K.Ord.cmp g.met.K.Ord.total tree (CanAskAt g.F.Fn c.args.answer.now) tt
     (shortened c.args.from (tree c.args.tree.now)) c.requires.asks c.children-children.result.now c.children-children.ensures
