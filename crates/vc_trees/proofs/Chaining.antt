@@ -2,7 +2,8 @@
 --     Leads cmp matches m cs oks n        what a run does from n on, it does from m on behind these commands
 --     stepped        a command's outcome, as a step
 --     leads-turn, leads-through        one command more, and all of them
-use Rattle.std.proofs.Common.{◌≡◌, ◌∙◌, ◌+◌, ◌<◌, ◌≤◌, ℕ, [], ◌∷◌, ◌++◌, List, Option, Bool, Result, Ok, Err, ap, subst, sym, length, map, take, set, refl}
+use Rattle.std.proofs.Common.{◌≡◌, ◌∙◌, ◌+◌, ◌<◌, ◌≤◌, ℕ, [], ◌∷◌, ◌++◌, List, Option, Bool, Result, Ok, Err, ap}
+use Rattle.std.proofs.Common.{subst, sym, length, map, take, set, refl}
 use Rattle.std.proofs.lemmas.Grind.{take-set_at}
 use Rattle.std.proofs.lemmas.List.{append_assoc, append-nil, length_push, map-append, map-id, take_all}
 use Rattle.std.specs.List.{enumerate_from}

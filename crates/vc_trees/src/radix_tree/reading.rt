@@ -1,12 +1,13 @@
 //! The calls that read a radix tree.
 
-ghost use Rattle.std.specs.Prelude.{◌≡◌, ◌+◌, ◌*◌, ◌<◌, ◌≤◌, List, Ok, IfOk, length, map, MatchBool};
-ghost use Rattle.std.specs.Option.{is_some, option_copied};
+ghost use Rattle.std.specs.Prelude.{◌≡◌, ◌+◌, ◌-◌, ◌*◌, ◌^◌, ◌<◌, ◌≤◌, List, Ok, IfOk, IfSome, length, map, min, take, MatchBool};
+ghost use Rattle.std.specs.Option.{is_some, option_copied, option_map};
 ghost use Rattle.vc_merge.specs.Count.{digits};
-ghost use Rattle.vc_tree_model.specs.Tree.{is_bare, shortened, width};
+ghost use Rattle.vc_tree_model.specs.Tree.{is_bare, key_count, shortened, width};
 ghost use Rattle.vc_tree_model.specs.Asking.{MayAnswer, MayAnswerAt, CanAsk, CanAskAt};
 ghost use Rattle.vc_tree_model.specs.Canonical.{IsCanonical};
 ghost use Rattle.vc_tree_model.specs.Combine.{IsCombined, IsOuterAt, IsInnerAt, IsLeftAt};
+ghost use Rattle.vc_tree_model.specs.Cover.{cover, IsLongestCover};
 ghost use Rattle.vc_tree_model.specs.KeySets.{AreDisjoint, HasKeysOf, LacksKeyOf, ShareKey};
 ghost use Rattle.vc_tree_model.specs.Map.{lookup};
 ghost use Rattle.vc_tree_model.specs.Same.{IsAlike};
@@ -26,7 +27,7 @@ use vc_tree_nodes::{descent, reading};
 use vc_tree_walks::iter::Iter;
 use vc_tree_walks::owned::ObjAndIter;
 use vc_tree_walks::values::Values;
-use vc_tree_walks::walks;
+use vc_tree_walks::{counting, walks};
 
 /// A radix tree to be read: both flavours, and each type that is a [`RadixNode`].
 ///
@@ -37,6 +38,16 @@ pub trait AbstractRadixTree<K: TKey, V: TValue>: RadixNode<K, V> {
         ensures { result ≡ is_bare (Self.tree self.now) }
     {
         reading::is_empty(self)
+    }
+
+    /// How many keys the tree has, and `usize::MAX` where it has more, as trees can whose nodes
+    /// share their children. Takes no memory.
+    ///
+    /// Goes through all nodes.
+    final fn len(&self) -> usize
+        ensures { result ≡ min (key_count (Self.tree self.now)) (2 ^ 64 - 1) }
+    {
+        counting::len(self)
     }
 
     /// Whether the tree binds the key. Takes no memory.
@@ -66,6 +77,27 @@ pub trait AbstractRadixTree<K: TKey, V: TValue>: RadixNode<K, V> {
             ≤ steps.old + length key.now * (1 + digits (width (Self.tree self.now))) }
     {
         descent::get(self, key, steps)
+    }
+
+    /// The longest key of the tree that is a prefix of the path: how many components of the path it
+    /// is, and its value; `None` where no key is. A key is a prefix of itself. Takes no memory.
+    ///
+    /// Compares each component of the path at most once, but for a halving search among the
+    /// children of each node on the way.
+    ///
+    /// ```text
+    /// // The handler of the longest route, and what is left of the path behind it.
+    /// let (length, handler) = routes.get_longest(path)?;
+    /// handler.call(&path[length..])
+    /// ```
+    final fn get_longest(&self, path: &[K]) -> Option<(usize, &V)>
+        ensures value { option_map (λ b. b.1.now) result
+            ≡ cover (lookup K.cmp (Self.tree self.now)) path.now }
+        ensures key { IfSome result (λ b. IsLongestCover K.cmp (lookup K.cmp (Self.tree self.now))
+            path.now (take b.0 path.now) b.1.now) }
+        ensures within { IfSome result (λ b. b.0 ≤ length path.now) }
+    {
+        descent::get_longest(self, path)
     }
 
     /// Whether some key is bound by both trees. Takes no memory.

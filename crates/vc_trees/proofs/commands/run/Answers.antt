@@ -42,7 +42,8 @@ returns-clause-steps g c =
     c.loop-at.at-iterator c.loop-at.yielded_by c.next.result c.next.new.self c.in-None.is c.next.ensures.steps in
     let flags : length c.loop-at.accepted ≡ length c.args.commands.items = search rules in
     let all = end.1 ∙ length-enumerate_from 0 c.args.commands.items in
-    leads-through g.K.Ord.cmp (Copies g.V.Clone.is_clone) (command_of g.T.RadixNode.tree) _ _ c.args.commands.items c.loop-at.yielded
+    leads-through g.K.Ord.cmp (Copies g.V.Clone.is_clone)
+    (command_of g.T.RadixNode.tree) _ _ c.args.commands.items c.loop-at.yielded
     c.loop-at.accepted end.0 (omega (arith, flags, all)) c.loop-at.invariant
     (λ k. kept_itself (Copies g.V.Clone.is_clone) (λ v. itself) _)
 
