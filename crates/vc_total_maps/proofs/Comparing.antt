@@ -15,8 +15,11 @@ then-other Greater p not = refl
 pub then-equal : (o p r : Ordering) → o ≡ Equal → r ≡ p → r ≡ ordering_then o p
 then-equal o p r e h = rw e h
 
-pub pairs-agree : {K V : Type 0} {C : K → K → Option Ordering} {R : K → K → Ordering} {D : V → V → Option Ordering} {S : V → V → Ordering} → Agrees C R → Agrees D S → (xs ys : List (K × V)) (d e : V)
+pub pairs-agree : {K V : Type 0} {C : K → K → Option Ordering} {R : K → K → Ordering} {D : V → V → Option Ordering}
+    {S : V → V → Ordering} → Agrees C R → Agrees D S → (xs ys : List (K × V)) (d e : V)
     → Some (ordering_then (slice_cmp (λ p q. ordering_then (R p.0 q.0) (S p.1 q.1)) xs ys) (S d e))
     ≡ partial_ordering_then (slice_partial_cmp (λ p q. partial_ordering_then (C p.0 q.0) (D p.1 q.1)) xs ys) (D d e)
 pairs-agree {K} {V} keys values xs ys d e =
-    sym (then_agrees {K = List (K × V) × V} (λ a b. lists_agrees (then_agrees {K = K × V} (λ p q. keys p.0 q.0) (λ p q. values p.1 q.1)) a.0 b.0) (λ a b. values a.1 b.1) (xs, d) (ys, e))
+    sym (then_agrees {K = List (K × V) × V}
+    (λ a b. lists_agrees (then_agrees {K = K × V} (λ p q. keys p.0 q.0) (λ p q. values p.1 q.1)) a.0 b.0)
+    (λ a b. values a.1 b.1) (xs, d) (ys, e))

@@ -32,19 +32,32 @@ comes-from-left is_clone None (Some r) h = h
 
 module _ {K V : Type 0} (cmp : K → K → Ordering) (m : TotalMap K V) (e : V) where
   pub each-everywhere : (P : V → V → Type 0) → HoldsOfEach cmp (λ v. P v e) m → HoldsEverywhere cmp P m (total_map [] e)
-  each-everywhere P h = record { defaults = h.default; listed = λ k either. holds-there (λ v. P v e) m.default (value_at cmp m.mappings k) h.default (h.listed k) }
+  each-everywhere P h = record {
+    defaults = h.default;
+    listed =
+        λ k either. holds-there (λ v. P v e) m.default (value_at cmp m.mappings k) h.default (h.listed k);
+  }
 
   -- what is made of a map and one that lists nothing is made of the map
   pub combined-maps : {X : Type 0} (eq : X → X → Bool) (May : V → V → X → Type 0) (is_clone : K → K → Type 0) (c : TotalMap K X)
       → IsCombined cmp eq May is_clone m (total_map [] e) c → IsMapped cmp eq (λ v. May v e) is_clone m c
-  combined-maps eq May is_clone c h = record { default = h.default; values = h.values; keys = λ k. comes-from-left is_clone (entry_at cmp m.mappings k) (entry_at cmp c.mappings k) (h.keys k) }
+  combined-maps eq May is_clone c h =
+      record {
+        default = h.default;
+        values = h.values;
+        keys =
+            λ k. comes-from-left is_clone (entry_at cmp m.mappings k) (entry_at cmp c.mappings k) (h.keys k);
+      }
 
 -- a changed map lists no value that equals its default
-pub mapped-canonical : {K V X : Type 0} (cmp : K → K → Ordering) (eq : X → X → Bool) (May : V → X → Type 0) (is_clone : K → K → Type 0) (m : TotalMap K V) (c : TotalMap K X)
+pub mapped-canonical : {K V X : Type 0} (cmp : K → K → Ordering) (eq : X → X → Bool) (May : V → X → Type 0)
+    (is_clone : K → K → Type 0) (m : TotalMap K V) (c : TotalMap K X)
     → IsMapped cmp eq May is_clone m c → NoneIsDefault cmp eq c
-mapped-canonical cmp eq May is_clone m c made k = let v = made.values k in stands-apart eq c.default v.0 (value_at cmp c.mappings k) v.2
+mapped-canonical cmp eq May is_clone m c made k = let v = made.values k in
+    stands-apart eq c.default v.0 (value_at cmp c.mappings k) v.2
 
 -- a closure that answered says so
-pub if-says : {F T X E : Type 0} (g : Shared F (Bor T × Unit {0}) (Result X E)) (f : F) (y : Bor T) (r : Result X E) → g.post f (y, tt) r → IfOk r (λ v. FnReturnsAt g f y.now (Ok v))
+pub if-says : {F T X E : Type 0} (g : Shared F (Bor T × Unit {0}) (Result X E)) (f : F) (y : Bor T) (r : Result X E)
+    → g.post f (y, tt) r → IfOk r (λ v. FnReturnsAt g f y.now (Ok v))
 if-says g f y (Ok v) says = says_at g says refl
 if-says g f y (Err e) says = tt

@@ -13,7 +13,8 @@ module _ {X : Type 0} {eq : X → X → Bool} (laws : IsEquivalence eq) where
   placed-equal default v (Some x) h = rw h.0 (laws.refl v)
   placed-equal default v None h = laws.symm default v ∙ h
 
-  listed-stands : (default : X) (placed : Option X) → IfSome placed (λ v. eq v default ≡ false) → Stands eq default (unwrap_or placed default) placed
+  listed-stands : (default : X) (placed : Option X) → IfSome placed (λ v. eq v default ≡ false)
+      → Stands eq default (unwrap_or placed default) placed
   listed-stands default (Some x) h = (refl, h)
   listed-stands default None h = laws.refl default
 
@@ -24,12 +25,14 @@ module _ {X : Type 0} {eq : X → X → Bool} (laws : IsEquivalence eq) where
       stands = λ m none k. listed-stands m.default (value_at cmp m.mappings k) (none k);
     }
 
-    pub combined-is-pointwise : {V W : Type 0} (is_clone : K → K → Type 0) (May : V → W → X → Type 0) → CombinedIsPointwise {V = V} cmp eq is_clone May
+    pub combined-is-pointwise : {V W : Type 0} (is_clone : K → K → Type 0) (May : V → W → X → Type 0)
+        → CombinedIsPointwise {V = V} cmp eq is_clone May
     combined-is-pointwise is_clone May f answers a b c h k =
         let made = h.values k in
         rw (← answers (at cmp a k) (at cmp b k) made.0 made.1) (placed-equal c.default made.0 (value_at cmp c.mappings k) made.2)
 
-    pub mapped-is-pointwise : {V : Type 0} (is_clone : K → K → Type 0) (May : V → X → Type 0) → MappedIsPointwise {V = V} cmp eq is_clone May
+    pub mapped-is-pointwise : {V : Type 0} (is_clone : K → K → Type 0) (May : V → X → Type 0)
+        → MappedIsPointwise {V = V} cmp eq is_clone May
     mapped-is-pointwise is_clone May f answers m c h k =
         let made = h.values k in
         rw (← answers (at cmp m k) made.0 made.1) (placed-equal c.default made.0 (value_at cmp c.mappings k) made.2)
