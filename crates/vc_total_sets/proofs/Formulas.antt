@@ -68,7 +68,8 @@ and-of_not false q = refl
 turned-listed : (f h : Bool → Bool → Bool) → ((p q : Bool) → h (not p) (not q) ≡ not (f p q)) → (p q x y : Bool)
     → listed_by h (not p) (not q) x y ≡ listed_by f p q x y
 turned-listed f h e p q x y =
-    rw (turned p x, turned q y, e p q, e (exactly_one p x) (exactly_one q y)) (both-turned (f p q) (f (exactly_one p x) (exactly_one q y)))
+    rw (turned p x, turned q y, e p q, e (exactly_one p x) (exactly_one q y))
+    (both-turned (f p q) (f (exactly_one p x) (exactly_one q y)))
 
 pub or-turned : (p q x y : Bool) → listed_by ◌||◌ (not p) (not q) x y ≡ listed_by ◌&&◌ p q x y
 or-turned = turned-listed ◌&&◌ ◌||◌ or-of_not

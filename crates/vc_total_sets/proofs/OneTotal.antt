@@ -11,15 +11,18 @@ use Rattle.vc_merge.specs.Laws.{MembersTellTheList}
 use Rattle.vc_sets.specs.SetOf.{and_not, exactly_one}
 use Rattle.vc_total_sets.specs.TotalSet.{TotalSet, total, complement, has, IsEqualTotal}
 use Rattle.vc_total_sets.specs.TotalOf.{IsTotalOf, IsPointwise, listed_by}
-use Rattle.vc_total_sets.specs.Laws.{Operations, fresh_of, moved_of, OperationsArePointwise, OperationsMakeOne, ComplementsTurnOperations, TotalTestsAreOfOperations}
-use Rattle.vc_total_sets.proofs.Formulas.{none-left, had-by_second, none-shared, not-both, or-of_not, and-of_not, or-turned, and-turned, and-swapped, or-swapped, has-listed}
+use Rattle.vc_total_sets.specs.Laws.{Operations, fresh_of, moved_of, OperationsArePointwise, OperationsMakeOne}
+use Rattle.vc_total_sets.specs.Laws.{ComplementsTurnOperations, TotalTestsAreOfOperations}
+use Rattle.vc_total_sets.proofs.Formulas.{none-left, had-by_second, none-shared, not-both, or-of_not, and-of_not}
+use Rattle.vc_total_sets.proofs.Formulas.{or-turned, and-turned, and-swapped, or-swapped, has-listed}
 
 module _ {X : Type 0} (cmp : X → X → Ordering) where
   -- what an operation makes, but for which of equal elements it has
   pub record HasListed (f : Bool → Bool → Bool) (a b c : TotalSet X) : Type 0 where
     pub negated : c.negated ≡ f a.negated b.negated
     pub ascends : Ascends cmp c.elements
-    pub members : (x : X) → member cmp c.elements x ≡ listed_by f a.negated b.negated (member cmp a.elements x) (member cmp b.elements x)
+    pub members : (x : X) → member cmp c.elements x
+        ≡ listed_by f a.negated b.negated (member cmp a.elements x) (member cmp b.elements x)
 
   -- what is known of each of the four operations
   pub record AllListed (made : Operations X) : Type 0 where
@@ -34,15 +37,18 @@ module _ {X : Type 0} (cmp : X → X → Ordering) where
   listed from f a b c s = record { negated = s.negated; ascends = s.elements.ascends; members = s.elements.members }
 
   -- it is no matter which set goes first, where the sides of the formula may be swapped
-  listed-swapped : (f : Bool → Bool → Bool) → ((p q : Bool) → f p q ≡ f q p) → (a b c : TotalSet X) → HasListed f b a c → HasListed f a b c
+  listed-swapped : (f : Bool → Bool → Bool) → ((p q : Bool) → f p q ≡ f q p) → (a b c : TotalSet X)
+      → HasListed f b a c → HasListed f a b c
   listed-swapped f swapped a b c s = record {
     negated = s.negated ∙ swapped b.negated a.negated;
     ascends = s.ascends;
     members = λ x. s.members x
-        ∙ (λ i. exactly_one (swapped b.negated a.negated i) (swapped (exactly_one b.negated (member cmp b.elements x)) (exactly_one a.negated (member cmp a.elements x)) i));
+        ∙ (λ i. exactly_one (swapped b.negated a.negated i)
+        (swapped (exactly_one b.negated (member cmp b.elements x)) (exactly_one a.negated (member cmp a.elements x)) i));
   }
 
-  listed-either : (from : X → X → Type 0) (f : Bool → Bool → Bool) → ((p q : Bool) → f p q ≡ f q p) → (a b c : TotalSet X) (both : Bool)
+  listed-either : (from : X → X → Type 0) (f : Bool → Bool → Bool) → ((p q : Bool) → f p q ≡ f q p)
+      → (a b c : TotalSet X) (both : Bool)
       → MatchBool both (IsTotalOf cmp from f b a c) (IsTotalOf cmp from f a b c) → HasListed f a b c
   listed-either from f swapped a b c true s = listed-swapped f swapped a b c (listed from f b a c s)
   listed-either from f swapped a b c false s = listed from f a b c s
@@ -66,7 +72,8 @@ module _ {X : Type 0} (cmp : X → X → Ordering) where
   -- ---- pointwise
 
   -- at each value a result has what the formula says
-  pointwise : (f : Bool → Bool → Bool) (a b c : TotalSet X) → HasListed f a b c → (x : X) → has cmp c x ≡ f (has cmp a x) (has cmp b x)
+  pointwise : (f : Bool → Bool → Bool) (a b c : TotalSet X) → HasListed f a b c → (x : X) → has cmp c x
+      ≡ f (has cmp a x) (has cmp b x)
   pointwise f a b c s x = rw (s.negated, s.members x) (has-listed (f a.negated b.negated) (f (has cmp a x) (has cmp b x)))
 
   listed-pointwise : (f : Bool → Bool → Bool) (a b c : TotalSet X) → HasListed f a b c → IsPointwise cmp f a b c
@@ -82,7 +89,8 @@ module _ {X : Type 0} (cmp : X → X → Ordering) where
 
   -- ---- one set
 
-  one-total : MembersTellTheList cmp → (f : Bool → Bool → Bool) (a b c d : TotalSet X) → HasListed f a b c → HasListed f a b d → IsEqualTotal cmp c d
+  one-total : MembersTellTheList cmp → (f : Bool → Bool → Bool) (a b c d : TotalSet X) → HasListed f a b c
+      → HasListed f a b d → IsEqualTotal cmp c d
   one-total told f a b c d s t = record {
     elements = told.members c.elements d.elements s.ascends t.ascends (λ x. s.members x ∙ sym (t.members x));
     negated = s.negated ∙ sym t.negated;
@@ -102,20 +110,23 @@ module _ {X : Type 0} (cmp : X → X → Ordering) where
     -- lists that are equal place by place have the same members
     equal-members : (xs ys : List X) → AllZip (λ x y. cmp x y ≡ Equal) xs ys → (w : X) → member cmp xs w ≡ member cmp ys w
     equal-members [] [] h w = refl
-    equal-members (x ∷ xs) (y ∷ ys) h w = ap (λ o. is_eq o || member cmp xs w) (total_order.congr x y w h.0) ∙ ap (λ b. is_eq (cmp y w) || b) (equal-members xs ys h.1 w)
+    equal-members (x ∷ xs) (y ∷ ys) h w = ap (λ o. is_eq o || member cmp xs w) (total_order.congr x y w h.0)
+        ∙ ap (λ b. is_eq (cmp y w) || b) (equal-members xs ys h.1 w)
     equal-members [] (y ∷ ys) h w = absurd h
     equal-members (x ∷ xs) [] h w = absurd h
 
     -- the complement of one result is another, where the formula of the one is that of the other on complements
     complement-is : MembersTellTheList cmp → (f h : Bool → Bool → Bool)
-        → ((p q : Bool) → h (not p) (not q) ≡ not (f p q)) → ((p q x y : Bool) → listed_by h (not p) (not q) x y ≡ listed_by f p q x y)
+        → ((p q : Bool) → h (not p) (not q) ≡ not (f p q))
+        → ((p q x y : Bool) → listed_by h (not p) (not q) x y ≡ listed_by f p q x y)
         → (a b not_a not_b c d : TotalSet X) → IsEqualTotal cmp not_a (complement a) → IsEqualTotal cmp not_b (complement b)
         → HasListed f a b c → HasListed h not_a not_b d → IsEqualTotal cmp (complement c) d
     complement-is told f h flags lists a b not_a not_b c d m n s t = record {
       elements = told.members c.elements d.elements s.ascends t.ascends (λ x.
           s.members x
           ∙ sym (lists a.negated b.negated (member cmp a.elements x) (member cmp b.elements x))
-          ∙ (λ i. listed_by h (sym m.negated i) (sym n.negated i) (sym (equal-members _ _ m.elements x) i) (sym (equal-members _ _ n.elements x) i))
+          ∙ (λ i. listed_by h (sym m.negated i) (sym n.negated i) (sym (equal-members _ _ m.elements x) i)
+          (sym (equal-members _ _ n.elements x) i))
           ∙ sym (t.members x));
       negated = ap not s.negated ∙ sym (flags a.negated b.negated) ∙ (λ i. h (sym m.negated i) (sym n.negated i)) ∙ sym t.negated;
     }
@@ -123,8 +134,10 @@ module _ {X : Type 0} (cmp : X → X → Ordering) where
     -- complements turn "and" into "or", and "or" into "and"
     pub complements-turn : MembersTellTheList cmp → (made : Operations X) → AllListed made → ComplementsTurnOperations cmp made
     complements-turn told made all = record {
-      and = λ a b not_a not_b c d m n s t. complement-is told ◌&&◌ ◌||◌ or-of_not or-turned a b not_a not_b c d m n (all.and a b c s) (all.or not_a not_b d t);
-      or = λ a b not_a not_b c d m n s t. complement-is told ◌||◌ ◌&&◌ and-of_not and-turned a b not_a not_b c d m n (all.or a b c s) (all.and not_a not_b d t);
+      and = λ a b not_a not_b c d m n s t. complement-is told ◌&&◌ ◌||◌ or-of_not or-turned a b not_a not_b c d m n
+          (all.and a b c s) (all.or not_a not_b d t);
+      or = λ a b not_a not_b c d m n s t. complement-is told ◌||◌ ◌&&◌ and-of_not and-turned a b not_a not_b c d m n
+          (all.or a b c s) (all.and not_a not_b d t);
     }
 
     -- ---- tests
@@ -144,14 +157,16 @@ module _ {X : Type 0} (cmp : X → X → Ordering) where
     pub tests-are_of : (made : Operations X) → AllListed made → TotalTestsAreOfOperations cmp made
     tests-are_of made all = record {
       subset = λ a b c m. let s = all.minus a b c m in (
-        (λ h. nothing-there c (s.negated ∙ none-left a.negated b.negated h.elsewhere) (λ x. pointwise and_not a b c s x ∙ none-left (has cmp a x) (has cmp b x) (h.at x))),
+        (λ h. nothing-there c (s.negated ∙ none-left a.negated b.negated h.elsewhere)
+            (λ x. pointwise and_not a b c s x ∙ none-left (has cmp a x) (has cmp b x) (h.at x))),
         λ e. record {
           at = λ x. had-by_second (has cmp a x) (has cmp b x) (sym (pointwise and_not a b c s x) ∙ ap (λ t. has cmp t x) e);
           elsewhere = had-by_second a.negated b.negated (sym s.negated ∙ ap (λ t. t.negated) e);
         },
       );
       disjoint = λ a b c m. let s = all.and a b c m in (
-        (λ h. nothing-there c (s.negated ∙ none-shared a.negated b.negated h.elsewhere) (λ x. pointwise ◌&&◌ a b c s x ∙ none-shared (has cmp a x) (has cmp b x) (h.at x))),
+        (λ h. nothing-there c (s.negated ∙ none-shared a.negated b.negated h.elsewhere)
+            (λ x. pointwise ◌&&◌ a b c s x ∙ none-shared (has cmp a x) (has cmp b x) (h.at x))),
         λ e. record {
           at = λ x. not-both (has cmp a x) (has cmp b x) (sym (pointwise ◌&&◌ a b c s x) ∙ ap (λ t. has cmp t x) e);
           elsewhere = not-both a.negated b.negated (sym s.negated ∙ ap (λ t. t.negated) e);
