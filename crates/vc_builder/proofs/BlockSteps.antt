@@ -1,5 +1,7 @@
 -- What each step on a block makes of it.
-use Rattle.std.proofs.Common.{◌≡◌, ℕ, suc, ◌+◌, ◌-◌, ◌^◌, ◌<◌, ◌≤◌, List, [], ◌∷◌, ◌++◌, map, length, take, drop, set, get_or, replicate, Some, None, refl, sym, ap, ◌∙◌, Option, arith, append_assoc, drop-drop, length-append, length-take, length-drop, take_all}
+use Rattle.std.proofs.Common.{◌≡◌, ℕ, suc, ◌+◌, ◌-◌, ◌^◌, ◌<◌, ◌≤◌, List, [], ◌∷◌, ◌++◌, map, length, take, drop, set}
+use Rattle.std.proofs.Common.{get_or, replicate, Some, None, refl, sym, ap, ◌∙◌, Option, arith, append_assoc}
+use Rattle.std.proofs.Common.{drop-drop, length-append, length-take, length-drop, take_all}
 use Rattle.std.proofs.lemmas.List.{length-map, take-append-drop}
 use Rattle.std.specs.List.{refill, length_refill}
 use Rattle.vc_builder.specs.Places.{values, IsFilled, spliced, laid}
@@ -9,7 +11,9 @@ use Rattle.vc_builder.specs.Block.{block_built, block_rest, block_view, IsBlock}
 use Rattle.vc_builder.specs.declared.inplace.block.Block.{Block}
 use Rattle.vc_builder.specs.declared.inplace.places.Places.{Places}
 use Rattle.vc_builder.proofs.BuilderTakes.{take-next}
-use Rattle.vc_builder.proofs.PlacesLaid.{values-map, length-laid, laid-push, laid-pop, laid-unpop, laid-pass, get_or-laid_first, get_or-laid_hole, IsFilled-laid, take-laid, drop-laid, laid-emptied, laid-spliced}
+use Rattle.vc_builder.proofs.PlacesLaid.{values-map, length-laid, laid-push, laid-pop, laid-unpop, laid-pass}
+use Rattle.vc_builder.proofs.PlacesLaid.{get_or-laid_first, get_or-laid_hole, IsFilled-laid, take-laid, drop-laid}
+use Rattle.vc_builder.proofs.PlacesLaid.{laid-emptied, laid-spliced}
 
 module _ {X A : Type 0} where
   -- a block whose places are laid so is seen so
@@ -48,13 +52,13 @@ module _ {X A : Type 0} (b : Block X A) (h : IsBlock b) where
   abbrev hole : ℕ
   hole = b.start - b.built
 
-  start-is : b.start ≡ length xs + hole
-  start-is = omega (arith, h.bounds.0, h.counts.0)
+  start-behind_hole : b.start ≡ length xs + hole
+  start-behind_hole = omega (arith, h.bounds.0, h.counts.0)
 
   pub hole-at : (i : ℕ) → b.built ≤ i → i < b.start → (b.base.ptr ≡ b.places.at) × (i < length b.places.row)
       × (get_or b.places.row i None ≡ None)
   hole-at i low high =
-      let built = h.counts.0 in let start = start-is in (
+      let built = h.counts.0 in let start = start-behind_hole in (
         sym h.owns.0,
         omega (arith, h.bounds.1, h.bounds.3),
         ap (λ l. get_or l i None) h.lies
@@ -67,7 +71,7 @@ module _ {X A : Type 0} (b : Block X A) (h : IsBlock b) where
       → let c = record b { built = b.built + 1; places = p } in
       IsBlock c × (c.capacity ≡ b.capacity) × (block_view c ≡ builder (xs ++ x ∷ []) ys (hole - 1))
   built-put room x p at is =
-      let c = record b { built = b.built + 1; places = p } in let built = h.counts.0 in let start = start-is in
+      let c = record b { built = b.built + 1; places = p } in let built = h.counts.0 in let start = start-behind_hole in
       let all = h.counts.1 in
       let less : hole ≡ suc (hole - 1) = omega arith in let more = length-append xs (x ∷ []) in
       let made = settled c (xs ++ x ∷ []) (hole - 1) ys (at ∙ h.owns.0, h.owns.1, h.owns.2, h.owns.3) h.bounds.2
@@ -82,7 +86,7 @@ module _ {X A : Type 0} (b : Block X A) (h : IsBlock b) where
       → let c = record b { start = b.start - 1; places = p } in
       IsBlock c × (c.capacity ≡ b.capacity) × (block_view c ≡ builder xs (x ∷ ys) (hole - 1))
   rest-put room x p at is =
-      let c = record b { start = b.start - 1; places = p } in let built = h.counts.0 in let start = start-is in
+      let c = record b { start = b.start - 1; places = p } in let built = h.counts.0 in let start = start-behind_hole in
       let all = h.counts.1 in
       let less : hole ≡ suc (hole - 1) = omega arith in
       let made = settled c xs (hole - 1) (x ∷ ys) (at ∙ h.owns.0, h.owns.1, h.owns.2, h.owns.3) h.bounds.2 (omega arith)
@@ -97,7 +101,7 @@ module _ {X A : Type 0} (b : Block X A) (h : IsBlock b) where
         e.0,
         e.1,
         ap (λ l. get_or l b.start None) (h.lies ∙ ap (laid xs hole) e.1)
-            ∙ get_or-laid_first xs hole (drop 1 ys) e.0 b.start start-is,
+            ∙ get_or-laid_first xs hole (drop 1 ys) e.0 b.start start-behind_hole,
       )
 
   -- the first of those that are left was taken
@@ -105,7 +109,7 @@ module _ {X A : Type 0} (b : Block X A) (h : IsBlock b) where
       → let c = record b { start = b.start + 1; places = p } in
       IsBlock c × (c.capacity ≡ b.capacity) × (block_view c ≡ builder xs (drop 1 ys) (hole + 1))
   rest-taken some p at is =
-      let c = record b { start = b.start + 1; places = p } in let built = h.counts.0 in let start = start-is in
+      let c = record b { start = b.start + 1; places = p } in let built = h.counts.0 in let start = start-behind_hole in
       let all = h.counts.1 in let e = uncons ys (omega arith) in
       let fewer = ap length e.1 in let more : suc hole ≡ hole + 1 = omega arith in let low = h.bounds.0 in
       let made = settled c xs (hole + 1) (drop 1 ys) (at ∙ h.owns.0, h.owns.1, h.owns.2, h.owns.3) h.bounds.2
@@ -128,9 +132,10 @@ module _ {X A : Type 0} (b : Block X A) (h : IsBlock b) where
 
   -- the i-th of those that are left, where those before it were moved down
   pub next-left : (i : ℕ) → b.start + i < b.capacity
-      → (x : X) × (drop i ys ≡ x ∷ drop 1 (drop i ys)) × (get_or (laid (xs ++ take i ys) hole (drop i ys)) (b.start + i) None ≡ Some x)
+      → (x : X) × (drop i ys ≡ x ∷ drop 1 (drop i ys))
+      × (get_or (laid (xs ++ take i ys) hole (drop i ys)) (b.start + i) None ≡ Some x)
   next-left i within =
-      let all = h.counts.1 in let built = h.counts.0 in let start = start-is in
+      let all = h.counts.1 in let built = h.counts.0 in let start = start-behind_hole in
       let long = length-take i ys in let short = length-drop i ys in let both = length-append xs (take i ys) in
       let e = uncons (drop i ys) (omega arith) in (
         e.0,
@@ -145,7 +150,7 @@ module _ {X A : Type 0} (b : Block X A) (h : IsBlock b) where
       → (b.built + i < length row) × (get_or row (b.built + i) None ≡ None)
       × (set row (b.built + i) (Some x) ≡ laid (xs ++ take (i + 1) ys) hole (drop (i + 1) ys))
   next-moved i x within e row is =
-      let all = h.counts.1 in let built = h.counts.0 in let start = start-is in
+      let all = h.counts.1 in let built = h.counts.0 in let start = start-behind_hole in
       let long = length-take i ys in let short = length-drop i ys in let both = length-append xs (take i ys) in
       let others = drop 1 (drop i ys) in
       let popped : row ≡ laid (xs ++ take i ys) (suc hole) others =
@@ -164,14 +169,17 @@ module _ {X A : Type 0} (b : Block X A) (h : IsBlock b) where
       )
 
   -- the first n of those that are left were moved down
-  pub rest-moved : (n : ℕ) → b.start + n ≤ b.capacity → (c : Block X A) → c.base ≡ b.base → c.capacity ≡ b.capacity → c.deed ≡ b.deed → c.alloc ≡ b.alloc
-      → c.built ≡ b.built + n → c.start ≡ b.start + n → c.places.at ≡ b.places.at → c.places.row ≡ laid (xs ++ take n ys) hole (drop n ys)
+  pub rest-moved : (n : ℕ) → b.start + n ≤ b.capacity → (c : Block X A) → c.base ≡ b.base → c.capacity ≡ b.capacity
+      → c.deed ≡ b.deed → c.alloc ≡ b.alloc
+      → c.built ≡ b.built + n → c.start ≡ b.start + n → c.places.at ≡ b.places.at → c.places.row
+      ≡ laid (xs ++ take n ys) hole (drop n ys)
       → IsBlock c × (c.capacity ≡ b.capacity) × (block_view c ≡ builder (xs ++ take n ys) (drop n ys) hole)
   rest-moved n within c base capacity deed alloc more_built more_start at is =
       let built = h.counts.0 in let all = h.counts.1 in let low = h.bounds.0 in let long = length-take n ys in
       let short = length-drop n ys in let both = length-append xs (take n ys) in
       let begins = sym (ap (λ p. p.ptr) base) in let small = h.bounds.2 in
-      let owns : (c.places.at ≡ c.base.ptr) × (c.deed.at ≡ c.base.ptr) × (c.deed.count ≡ c.capacity) × (c.deed.alloc ≡ c.alloc) = (
+      let owns : (c.places.at ≡ c.base.ptr) × (c.deed.at ≡ c.base.ptr) × (c.deed.count ≡ c.capacity)
+      × (c.deed.alloc ≡ c.alloc) = (
         at ∙ h.owns.0 ∙ begins,
         ap (λ d. d.at) deed ∙ h.owns.1 ∙ begins,
         ap (λ d. d.count) deed ∙ h.owns.2 ∙ sym capacity,
@@ -184,7 +192,7 @@ module _ {X A : Type 0} (b : Block X A) (h : IsBlock b) where
   rest-run =
       let all = h.counts.1 in
       ap (λ l. take (b.capacity - b.start) (drop b.start l)) h.lies
-      ∙ ap (take (b.capacity - b.start)) (drop-laid xs hole ys b.start start-is)
+      ∙ ap (take (b.capacity - b.start)) (drop-laid xs hole ys b.start start-behind_hole)
       ∙ take_all (b.capacity - b.start) (map Some ys) (omega (arith, length-map ys Some))
 
   pub built-filled : (p : ℕ) → p < b.built → IsFilled b.places.row p
@@ -222,6 +230,6 @@ module _ {X A : Type 0} (b : Block X A) (h : IsBlock b) where
         places = with_row b.places
             (spliced b.places.row b.start count (refill count (values (take count (drop b.start b.places.row))) zs));
       } in
-      settled c xs hole new h.owns h.bounds.2 built start-is (omega arith)
+      settled c xs hole new h.owns h.bounds.2 built start-behind_hole (omega arith)
       (ap (spliced b.places.row b.start count) same ∙ ap (λ l. spliced l b.start count new) h.lies
-      ∙ laid-spliced xs hole ys new b.start count start-is is)
+      ∙ laid-spliced xs hole ys new b.start count start-behind_hole is)

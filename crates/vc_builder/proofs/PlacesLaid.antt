@@ -1,5 +1,7 @@
 -- Lists that lie in a row of places, and what a write, a read or a run of either makes of them.
-use Rattle.std.proofs.Common.{◌≡◌, ℕ, zero, suc, ◌+◌, ◌<◌, ◌≤◌, List, [], ◌∷◌, ◌++◌, map, length, take, drop, set, get_or, replicate, Option, Some, None, refl, sym, ap, ◌∙◌, arith, length-append, append-nil, take_at, drop_at, append_assoc}
+use Rattle.std.proofs.Common.{◌≡◌, ℕ, zero, suc, ◌+◌, ◌<◌, ◌≤◌, List, [], ◌∷◌, ◌++◌, map, length, take, drop, set}
+use Rattle.std.proofs.Common.{get_or, replicate, Option, Some, None, refl, sym, ap, ◌∙◌, arith, length-append}
+use Rattle.std.proofs.Common.{append-nil, take_at, drop_at, append_assoc}
 use Rattle.std.proofs.lemmas.List.{drop_all, length-map, length-replicate}
 use Rattle.vc_builder.specs.Places.{values, IsFilled, spliced, laid}
 

@@ -6,7 +6,16 @@ use denote.Struct.Owning.{shape}
 use denote.Struct.Declared as Declared
 use denote.Struct.Tuple.{Tuple, tuple_type}
 use borrow.Table.OneValue.{part_in, part_out}
-use Rattle.vc_builder.proofs.WalkNames.{◌≡◌, refl, sym, ap, subst, ◌∙◌, List, [], ◌∷◌, ◌++◌, map, ℕ, zero, suc, ◌+◌, ◌*◌, ◌<◌, ◌≤◌, arith, zero-mul, suc-mul, length, take, drop_l, set, get_or, replicate, take-append-drop, length-take, length-drop, drop-cons, drop-drop, set_split, Ura, full_share, ent, sep, emp, ex, guard, via, snd∗, id⊢, mono_r, Fml, Lft, ftrue, fsep, fat, froom, ty_array, Val, vstruct, vcons, vnil, of_list, Logic, sem, cells, Item, Goal, Seq, Step, step, ‵, some, pick, ◌⊛◌, ◌$◌, ◌∵◌, !, qed, by, move, keep, drop, use1, use2, split, check, show, rewrite, fsplit, fjoin, fpick, fpack, feq_i, feq_l, done, Is, shows, mem, part_at, RattleType, Valss, Ptr, RawPtr, ptr_val, elements_shared, nothing, peeks, Option, Some, None, type_size, El, R, el_x, elτ, Good, lawful, word}
+use Rattle.vc_builder.proofs.WalkNames.{◌≡◌, refl, sym, ap, subst, ◌∙◌, List, [], ◌∷◌, ◌++◌, map, ℕ, zero, suc, ◌+◌}
+use Rattle.vc_builder.proofs.WalkNames.{◌*◌, ◌<◌, ◌≤◌, arith, zero-mul, suc-mul, length, take, drop_l, set, get_or}
+use Rattle.vc_builder.proofs.WalkNames.{replicate, take-append-drop, length-take, length-drop, drop-cons, drop-drop}
+use Rattle.vc_builder.proofs.WalkNames.{set_split, Ura, full_share, ent, sep, emp, ex, guard, via, snd∗, id⊢, mono_r}
+use Rattle.vc_builder.proofs.WalkNames.{Fml, Lft, ftrue, fsep, fat, froom, ty_array, Val, vstruct, vcons, vnil}
+use Rattle.vc_builder.proofs.WalkNames.{of_list, Logic, sem, cells, Item, Goal, Seq, Step, step, ‵, some, pick, ◌⊛◌}
+use Rattle.vc_builder.proofs.WalkNames.{◌$◌, ◌∵◌, !, qed, by, move, keep, drop, use1, use2, split, check, show}
+use Rattle.vc_builder.proofs.WalkNames.{rewrite, fsplit, fjoin, fpick, fpack, feq_i, feq_l, done, Is, shows, mem}
+use Rattle.vc_builder.proofs.WalkNames.{part_at, RattleType, Valss, Ptr, RawPtr, ptr_val, elements_shared, nothing}
+use Rattle.vc_builder.proofs.WalkNames.{peeks, Option, Some, None, type_size, El, R, el_x, elτ, Good, lawful, word}
 use Rattle.vc_builder.specs.PlacesOwned.{place_owned, row_owned, place_lent, row_lent}
 use Rattle.vc_builder.specs.contracts.inplace.places.Places as places
 use Rattle.vc_builder.specs.contracts.inplace.places.Base as base

@@ -1,5 +1,16 @@
 -- `allocate` cuts a new block into empty places, and keeps the right to free it. Assumes `Logic`.
-use Rattle.vc_builder.proofs.WalkNames.{ !, [], ◌≡◌, refl, sym, ap, subst, true, false, List, ◌∷◌, ◌++◌, ℕ, ◌*◌, ◌<◌, ◌^◌, arith, lit<, length, replicate, length-replicate, SProp, ent, id⊢, Lft, Share, ftrue, flft, Incl-trans, w64, ty_array, inst_fn, Val, vptr, vint, vstruct, vcons, vnil, Env, WpFn, Item, ⋆, ‵, raw, later, await, at_ret, ◌⊛◌, ◌$◌, ◌∵◌, qed, by, move, keep, use0, use1, use2, use3, split, join, fsplit, fsplit3, fjoin, feq_l, flt_i, flt_l, suffices, frame, done, whole, agg, lit, stop, fld, bin, of_opd, size_word, align_word, and_then, no_more, first, exec, returns, enter, alloc_all, pass_all, free_all, look_at, get, get_in, get_tag, sets, sets_last, lands_as, is, env, fact, tables, ◌⊑◌, RefOf, usize, yes, Is, layout, RattleType, owns, Ptr, block_ptr, plain, types_at, nothing, heard, says, Stays, stay_dropped, walk_of, ends_at, Goes-dropped, None, proved_at, El, R, elτ, uncapped, as_written, word, word-Good}
+use Rattle.vc_builder.proofs.WalkNames.{ !, [], ◌≡◌, refl, sym, ap, subst, true, false, List, ◌∷◌, ◌++◌, ℕ, ◌*◌, ◌<◌}
+use Rattle.vc_builder.proofs.WalkNames.{◌^◌, arith, lit<, length, replicate, length-replicate, SProp, ent, id⊢, Lft}
+use Rattle.vc_builder.proofs.WalkNames.{Share, ftrue, flft, Incl-trans, w64, ty_array, inst_fn, Val, vptr, vint}
+use Rattle.vc_builder.proofs.WalkNames.{vstruct, vcons, vnil, Env, WpFn, Item, ⋆, ‵, raw, later, await, at_ret, ◌⊛◌}
+use Rattle.vc_builder.proofs.WalkNames.{◌$◌, ◌∵◌, qed, by, move, keep, use0, use1, use2, use3, split, join, fsplit}
+use Rattle.vc_builder.proofs.WalkNames.{fsplit3, fjoin, feq_l, flt_i, flt_l, suffices, frame, done, whole, agg, lit}
+use Rattle.vc_builder.proofs.WalkNames.{stop, fld, bin, of_opd, size_word, align_word, and_then, no_more, first, exec}
+use Rattle.vc_builder.proofs.WalkNames.{returns, enter, alloc_all, pass_all, free_all, look_at, get, get_in, get_tag}
+use Rattle.vc_builder.proofs.WalkNames.{sets, sets_last, lands_as, is, env, fact, tables, ◌⊑◌, RefOf, usize, yes, Is}
+use Rattle.vc_builder.proofs.WalkNames.{layout, RattleType, owns, Ptr, block_ptr, plain, types_at, nothing, heard}
+use Rattle.vc_builder.proofs.WalkNames.{says, Stays, stay_dropped, walk_of, ends_at, Goes-dropped, None, proved_at}
+use Rattle.vc_builder.proofs.WalkNames.{El, R, elτ, uncapped, as_written, word, word-Good}
 use mir.Syntax.{Body}
 use prog.Memory.{align, capped}
 use prog.Capped.{capped_fits}

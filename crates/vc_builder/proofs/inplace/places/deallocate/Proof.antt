@@ -1,5 +1,16 @@
 -- `deallocate` makes the block of its empty places, and gives it back. Assumes `Logic`.
-use Rattle.vc_builder.proofs.WalkNames.{ !, [], ◌≡◌, refl, sym, ap, subst, ◌∙◌, List, ◌∷◌, ◌++◌, ℕ, ◌*◌, ◌<◌, ◌^◌, arith, replicate, length-replicate, SProp, ent, never, id⊢, Lft, Share, ftrue, froom, flft, Incl-trans, w64, ty_array, ty_unit, inst_fn, Val, vptr, vint, vunit, has_ty, WT, Env, WpFn, Item, ‵, raw, given, later, await, learn, at_ret, ◌⊛◌, ◌$◌, ◌∵◌, qed, move, keep, use1, split, join, group, rewrite, fsplit, fsplit3, fjoin, feq_i, feq_l, flt_l, suffices, done, whole, sub, stop, fld, bin, of_opd, unit_lit, size_word, align_word, and_then, no_more, first, blocks, exec, returns, enter, alloc_all, pass_all, free_all, look_at, get, get_in, sets, lands_last, is, env, fact, tables, ◌⊑◌, RefOf, usize, yes, no, RattleType, owns, Ptr, ptr_val, in_a_block, plain, types_at, nothing, heard, Stays, stay_dropped, walk_of, ends_at, Goes-dropped, Option, None, proved_at, tail, El, R, elτ, uncapped, as_raw, word, word-Good}
+use Rattle.vc_builder.proofs.WalkNames.{ !, [], ◌≡◌, refl, sym, ap, subst, ◌∙◌, List, ◌∷◌, ◌++◌, ℕ, ◌*◌, ◌<◌, ◌^◌}
+use Rattle.vc_builder.proofs.WalkNames.{arith, replicate, length-replicate, SProp, ent, never, id⊢, Lft, Share, ftrue}
+use Rattle.vc_builder.proofs.WalkNames.{froom, flft, Incl-trans, w64, ty_array, ty_unit, inst_fn, Val, vptr, vint}
+use Rattle.vc_builder.proofs.WalkNames.{vunit, has_ty, WT, Env, WpFn, Item, ‵, raw, given, later, await, learn}
+use Rattle.vc_builder.proofs.WalkNames.{at_ret, ◌⊛◌, ◌$◌, ◌∵◌, qed, move, keep, use1, split, join, group, rewrite}
+use Rattle.vc_builder.proofs.WalkNames.{fsplit, fsplit3, fjoin, feq_i, feq_l, flt_l, suffices, done, whole, sub, stop}
+use Rattle.vc_builder.proofs.WalkNames.{fld, bin, of_opd, unit_lit, size_word, align_word, and_then, no_more, first}
+use Rattle.vc_builder.proofs.WalkNames.{blocks, exec, returns, enter, alloc_all, pass_all, free_all, look_at, get}
+use Rattle.vc_builder.proofs.WalkNames.{get_in, sets, lands_last, is, env, fact, tables, ◌⊑◌, RefOf, usize, yes, no}
+use Rattle.vc_builder.proofs.WalkNames.{RattleType, owns, Ptr, ptr_val, in_a_block, plain, types_at, nothing, heard}
+use Rattle.vc_builder.proofs.WalkNames.{Stays, stay_dropped, walk_of, ends_at, Goes-dropped, Option, None, proved_at}
+use Rattle.vc_builder.proofs.WalkNames.{tail, El, R, elτ, uncapped, as_raw, word, word-Good}
 use lib.Dec.{T}
 use prog.Memory.{align, capped}
 use prog.Capped.{capped_fits}

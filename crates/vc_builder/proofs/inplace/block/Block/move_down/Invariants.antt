@@ -14,5 +14,6 @@ invariant-loop-moved g l =
       built : l.self.built ≡ b.built + l.fn.count;
       start : l.self.start ≡ b.start + l.fn.count;
       at : l.self.places.at ≡ b.places.at;
-      row : l.self.places.row ≡ laid (block_built b ++ take l.moved (block_rest b)) (b.start - b.built) (drop l.moved (block_rest b));
+      row : l.self.places.row ≡ laid (block_built b ++ take l.moved (block_rest b)) (b.start - b.built)
+          (drop l.moved (block_rest b));
     }

@@ -1,4 +1,5 @@
-use Rattle.std.proofs.Common.{◌≡◌, ◌<◌, [], ◌∷◌, ◌++◌, length, take, set, get_or, Some, None, refl, sym, ap, ◌∙◌, arith, append_assoc}
+use Rattle.std.proofs.Common.{◌≡◌, ◌<◌, [], ◌∷◌, ◌++◌, length, take, set, get_or, Some, None, refl, sym, ap, ◌∙◌}
+use Rattle.std.proofs.Common.{arith, append_assoc}
 use Rattle.vc_builder.specs.Places.{values}
 use Rattle.vc_builder.proofs.PlacesLaid.{get_or-emptied, emptied-next, values-take_next}
 use Rattle.vc_builder.proofs.inplace.places.Places.move_front.Goals as goal

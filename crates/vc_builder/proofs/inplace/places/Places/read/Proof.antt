@@ -1,5 +1,17 @@
 -- `read` moves a value out, and its place is empty. Assumes `Logic`.
-use Rattle.vc_builder.proofs.WalkNames.{ !, ◌≡◌, refl, sym, subst, ◌∙◌, List, [], ◌∷◌, ◌++◌, ℕ, ◌+◌, ◌*◌, ◌<◌, ◌^◌, arith, length, set, get_or, length-set, full_share, SProp, ent, never, id⊢, Lft, Share, ftrue, fat, froom, flft, w64, a_type, inst_fn, Val, vptr, vint, Env, WpFn, ‵, raw, some, given, pick, learn, at_ret, ◌⊛◌, ◌$◌, ◌∵◌, qed, move, keep, use1, use2, split, join, rewrite, fsplit, fsplit3, fjoin, fjoin3, feq_i, feq_l, flt_i, flt_l, suffices, frame, done, whole, sub, look, load, stop, fld, bin, of_opd, size_lit, first, blocks, exec, returns, enter, alloc_all, pass_all, free_all, take_at, give_at, look_at, get, get_in, through, sets, sets_last, env, fact, tables, ◌⊑◌, usize, yes, no, layout, layouts, owns, Ptr, in_a_block, plain, types_at, nothing, heard, opens, closes, says, Stays, stay_dropped, stay_ref, walk_of, ends_at, Goes-dropped, Goes-ref, Option, None, proved_at, tail, El, R, elτ, Good, times_below, one_below, as_raw, word, word-Good}
+use Rattle.vc_builder.proofs.WalkNames.{ !, ◌≡◌, refl, sym, subst, ◌∙◌, List, [], ◌∷◌, ◌++◌, ℕ, ◌+◌, ◌*◌, ◌<◌, ◌^◌}
+use Rattle.vc_builder.proofs.WalkNames.{arith, length, set, get_or, length-set, full_share, SProp, ent, never, id⊢}
+use Rattle.vc_builder.proofs.WalkNames.{Lft, Share, ftrue, fat, froom, flft, w64, a_type, inst_fn, Val, vptr, vint}
+use Rattle.vc_builder.proofs.WalkNames.{Env, WpFn, ‵, raw, some, given, pick, learn, at_ret, ◌⊛◌, ◌$◌, ◌∵◌, qed, move}
+use Rattle.vc_builder.proofs.WalkNames.{keep, use1, use2, split, join, rewrite, fsplit, fsplit3, fjoin, fjoin3, feq_i}
+use Rattle.vc_builder.proofs.WalkNames.{feq_l, flt_i, flt_l, suffices, frame, done, whole, sub, look, load, stop, fld}
+use Rattle.vc_builder.proofs.WalkNames.{bin, of_opd, size_lit, first, blocks, exec, returns, enter, alloc_all}
+use Rattle.vc_builder.proofs.WalkNames.{pass_all, free_all, take_at, give_at, look_at, get, get_in, through, sets}
+use Rattle.vc_builder.proofs.WalkNames.{sets_last, env, fact, tables, ◌⊑◌, usize, yes, no, layout, layouts, owns, Ptr}
+use Rattle.vc_builder.proofs.WalkNames.{in_a_block, plain, types_at, nothing, heard, opens, closes, says, Stays}
+use Rattle.vc_builder.proofs.WalkNames.{stay_dropped, stay_ref, walk_of, ends_at, Goes-dropped, Goes-ref, Option}
+use Rattle.vc_builder.proofs.WalkNames.{None, proved_at, tail, El, R, elτ, Good, times_below, one_below, as_raw, word}
+use Rattle.vc_builder.proofs.WalkNames.{word-Good}
 use Rattle.vc_builder.specs.Places.{IsFilled}
 use Rattle.vc_builder.specs.PlacesLend.{with_row}
 use Rattle.vc_builder.specs.PlacesOwned.{place_owned, row_owned, places_owned}

@@ -1,5 +1,16 @@
 -- `slice` shows a run of values that the places lend. Assumes `Logic`.
-use Rattle.vc_builder.proofs.WalkNames.{ !, ◌≡◌, refl, sym, ap, subst, ◌∙◌, List, [], ◌∷◌, ◌++◌, ℕ, ◌+◌, ◌*◌, ◌<◌, ◌^◌, arith, length, drop_l, length-take, length-drop, full_share, SProp, ent, never, id⊢, Lft, Share, ftrue, fat, flft, w64, a_type, inst_fn, Val, vptr, vint, Env, WpFn, ‵, raw, at_ret, ◌⊛◌, ◌$◌, ◌∵◌, qed, move, keep, drop, use1, split, join, rewrite, fsplit, fjoin, feq_i, feq_l, flt_i, flt_l, suffices, frame, done, whole, sub, agg, stop, fld, bin, of_opd, size_word, and_then, no_more, first, blocks, exec, returns, enter, alloc_all, pass_all, free_all, take_at, give_at, look_at, get, get_in, sets, sets_last, is, env, fact, tables, ◌⊑◌, RefOf, usize, yes, no, hide, unhide, layout, layouts, owns, Ptr, in_a_block, plain, types_at, slice_val, elements_shared, nothing, heard, says, Stays, stay_dropped, walk_of, ends_at, Goes-dropped, Some, length-map, proved_at, tail, El, R, times_below, uncapped, word, word-Good}
+use Rattle.vc_builder.proofs.WalkNames.{ !, ◌≡◌, refl, sym, ap, subst, ◌∙◌, List, [], ◌∷◌, ◌++◌, ℕ, ◌+◌, ◌*◌, ◌<◌, ◌^◌}
+use Rattle.vc_builder.proofs.WalkNames.{arith, length, drop_l, length-take, length-drop, full_share, SProp, ent}
+use Rattle.vc_builder.proofs.WalkNames.{never, id⊢, Lft, Share, ftrue, fat, flft, w64, a_type, inst_fn, Val, vptr}
+use Rattle.vc_builder.proofs.WalkNames.{vint, Env, WpFn, ‵, raw, at_ret, ◌⊛◌, ◌$◌, ◌∵◌, qed, move, keep, drop, use1}
+use Rattle.vc_builder.proofs.WalkNames.{split, join, rewrite, fsplit, fjoin, feq_i, feq_l, flt_i, flt_l, suffices}
+use Rattle.vc_builder.proofs.WalkNames.{frame, done, whole, sub, agg, stop, fld, bin, of_opd, size_word, and_then}
+use Rattle.vc_builder.proofs.WalkNames.{no_more, first, blocks, exec, returns, enter, alloc_all, pass_all, free_all}
+use Rattle.vc_builder.proofs.WalkNames.{take_at, give_at, look_at, get, get_in, sets, sets_last, is, env, fact}
+use Rattle.vc_builder.proofs.WalkNames.{tables, ◌⊑◌, RefOf, usize, yes, no, hide, unhide, layout, layouts, owns, Ptr}
+use Rattle.vc_builder.proofs.WalkNames.{in_a_block, plain, types_at, slice_val, elements_shared, nothing, heard, says}
+use Rattle.vc_builder.proofs.WalkNames.{Stays, stay_dropped, walk_of, ends_at, Goes-dropped, Some, length-map}
+use Rattle.vc_builder.proofs.WalkNames.{proved_at, tail, El, R, times_below, uncapped, word, word-Good}
 use Rattle.vc_builder.specs.Places.{IsRun}
 use Rattle.vc_builder.specs.PlacesOwned.{places_lent}
 use Rattle.vc_builder.proofs.PlacesMemory.{Row, Start, bytes, word-had, run-seen}

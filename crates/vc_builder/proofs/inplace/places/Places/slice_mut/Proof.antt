@@ -1,5 +1,20 @@
 -- `slice_mut` lends a run of values, and the places follow it. Assumes `Logic`.
-use Rattle.vc_builder.proofs.WalkNames.{ !, split3, ◌≡◌, refl, sym, ap, subst, ◌∙◌, List, [], ◌∷◌, ◌++◌, map, ℕ, ◌+◌, ◌*◌, ◌<◌, ◌≤◌, ◌^◌, arith, length, take, drop_l, length-take, length-drop, length-append, take_front, Ura, full_share, SProp, ent, sep, never, id⊢, Fml, Lft, GName, Share, ftrue, fsep, fat, flft, named, w64, a_type, inst_fn, Val, vptr, vint, Env, WpFn, Logic, sem, cells, ‵, raw, some, later, await, pick, at_ret, ◌⊛◌, ◌$◌, ◌∵◌, qed, move, keep, use1, use2, split, join, group, rewrite, fsplit, fsplit3, fjoin, fjoin3, fpack, feq_l, flt_i, flt_l, suffices, frame, done, whole, sub, agg, stop, fld, bin, of_opd, size_word, and_then, no_more, first, blocks, exec, returns, enter, alloc_all, pass_all, free_all, take_at, give_at, look_at, get, get_in, sets, sets_last, is, env, fact, tables, ◌⊑◌, Array, usize, yes, no, follows, mem, part_of, cell_at, layout, layouts, owns, Ptr, block_ptr, in_a_block, MutBor, plain, mut_ref_to, types_at, MutSlice, slice_val, nothing, heard, opens, says, Stays, stay_dropped, walk_of, ends_at, Goes-dropped, Goes-spent_ref, Option, Some, refill, length-map, proved_at, tail, El, R, el_x, times_below, uncapped, word, word-Good}
+use Rattle.vc_builder.proofs.WalkNames.{ !, split3, ◌≡◌, refl, sym, ap, subst, ◌∙◌, List, [], ◌∷◌, ◌++◌, map, ℕ, ◌+◌}
+use Rattle.vc_builder.proofs.WalkNames.{◌*◌, ◌<◌, ◌≤◌, ◌^◌, arith, length, take, drop_l, length-take, length-drop}
+use Rattle.vc_builder.proofs.WalkNames.{length-append, take_front, Ura, full_share, SProp, ent, sep, never, id⊢, Fml}
+use Rattle.vc_builder.proofs.WalkNames.{Lft, GName, Share, ftrue, fsep, fat, flft, named, w64, a_type, inst_fn, Val}
+use Rattle.vc_builder.proofs.WalkNames.{vptr, vint, Env, WpFn, Logic, sem, cells, ‵, raw, some, later, await, pick}
+use Rattle.vc_builder.proofs.WalkNames.{at_ret, ◌⊛◌, ◌$◌, ◌∵◌, qed, move, keep, use1, use2, split, join, group}
+use Rattle.vc_builder.proofs.WalkNames.{rewrite, fsplit, fsplit3, fjoin, fjoin3, fpack, feq_l, flt_i, flt_l, suffices}
+use Rattle.vc_builder.proofs.WalkNames.{frame, done, whole, sub, agg, stop, fld, bin, of_opd, size_word, and_then}
+use Rattle.vc_builder.proofs.WalkNames.{no_more, first, blocks, exec, returns, enter, alloc_all, pass_all, free_all}
+use Rattle.vc_builder.proofs.WalkNames.{take_at, give_at, look_at, get, get_in, sets, sets_last, is, env, fact}
+use Rattle.vc_builder.proofs.WalkNames.{tables, ◌⊑◌, Array, usize, yes, no, follows, mem, part_of, cell_at, layout}
+use Rattle.vc_builder.proofs.WalkNames.{layouts, owns, Ptr, block_ptr, in_a_block, MutBor, plain, mut_ref_to}
+use Rattle.vc_builder.proofs.WalkNames.{types_at, MutSlice, slice_val, nothing, heard, opens, says, Stays}
+use Rattle.vc_builder.proofs.WalkNames.{stay_dropped, walk_of, ends_at, Goes-dropped, Goes-spent_ref, Option, Some}
+use Rattle.vc_builder.proofs.WalkNames.{refill, length-map, proved_at, tail, El, R, el_x, times_below, uncapped, word}
+use Rattle.vc_builder.proofs.WalkNames.{word-Good}
 use denote.FollowSlice.{lends_Elements}
 use Rattle.vc_builder.specs.Places.{values, IsRun, spliced}
 use Rattle.vc_builder.specs.PlacesLend.{with_row}

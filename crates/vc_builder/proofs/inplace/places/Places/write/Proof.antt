@@ -1,5 +1,17 @@
 -- `write` fills an empty place. Assumes `Logic`.
-use Rattle.vc_builder.proofs.WalkNames.{◌≡◌, refl, sym, subst, ◌∙◌, List, [], ◌∷◌, ◌++◌, ℕ, ◌+◌, ◌*◌, ◌<◌, ◌^◌, arith, length, set, get_or, length-set, full_share, SProp, ent, never, id⊢, Lft, Share, ftrue, fat, flft, a_type, w64, inst_fn, Val, vptr, vint, vunit, Env, WpFn, ‵, raw, ◌⊛◌, at_ret, ◌$◌, ◌∵◌, !, qed, move, keep, use1, use2, split, join, rewrite, fsplit, fsplit3, fjoin, fjoin3, feq_i, feq_l, flt_i, flt_l, suffices, frame, done, whole, sub, init, stop, fld, bin, of_opd, unit_lit, size_lit, assigns_last, first, blocks, exec, returns, enter, alloc_all, pass_all, free_all, take_at, give_at, look_at, get, get_in, through, sets, env, fact, tables, ◌⊑◌, usize, yes, no, layout, layouts, owns, Ptr, in_a_block, plain, types_at, nothing, heard, opens, closes, says, Stays, stay_dropped, stay_ref, walk_of, ends_at, Goes-dropped, Goes-ref, Some, None, proved_at, tail, El, R, elτ, one, Good, lawful, times_below, one_below, as_written, word, word-Good}
+use Rattle.vc_builder.proofs.WalkNames.{◌≡◌, refl, sym, subst, ◌∙◌, List, [], ◌∷◌, ◌++◌, ℕ, ◌+◌, ◌*◌, ◌<◌, ◌^◌, arith}
+use Rattle.vc_builder.proofs.WalkNames.{length, set, get_or, length-set, full_share, SProp, ent, never, id⊢, Lft}
+use Rattle.vc_builder.proofs.WalkNames.{Share, ftrue, fat, flft, a_type, w64, inst_fn, Val, vptr, vint, vunit, Env}
+use Rattle.vc_builder.proofs.WalkNames.{WpFn, ‵, raw, ◌⊛◌, at_ret, ◌$◌, ◌∵◌, !, qed, move, keep, use1, use2, split}
+use Rattle.vc_builder.proofs.WalkNames.{join, rewrite, fsplit, fsplit3, fjoin, fjoin3, feq_i, feq_l, flt_i, flt_l}
+use Rattle.vc_builder.proofs.WalkNames.{suffices, frame, done, whole, sub, init, stop, fld, bin, of_opd, unit_lit}
+use Rattle.vc_builder.proofs.WalkNames.{size_lit, assigns_last, first, blocks, exec, returns, enter, alloc_all}
+use Rattle.vc_builder.proofs.WalkNames.{pass_all, free_all, take_at, give_at, look_at, get, get_in, through, sets}
+use Rattle.vc_builder.proofs.WalkNames.{env, fact, tables, ◌⊑◌, usize, yes, no, layout, layouts, owns, Ptr}
+use Rattle.vc_builder.proofs.WalkNames.{in_a_block, plain, types_at, nothing, heard, opens, closes, says, Stays}
+use Rattle.vc_builder.proofs.WalkNames.{stay_dropped, stay_ref, walk_of, ends_at, Goes-dropped, Goes-ref, Some, None}
+use Rattle.vc_builder.proofs.WalkNames.{proved_at, tail, El, R, elτ, one, Good, lawful, times_below, one_below}
+use Rattle.vc_builder.proofs.WalkNames.{as_written, word, word-Good}
 use Rattle.vc_builder.specs.PlacesOwned.{place_owned, row_owned, places_owned}
 use Rattle.vc_builder.proofs.PlacesMemory.{Row, Start, bytes, word-had, value-in, Around, place-out, place-in}
 use Rattle.vc_builder.specs.PlacesLend.{with_row}
