@@ -21,7 +21,8 @@ and-holds true b p q = q
 and-holds false b p q = p
 
 -- what is below y, which is below each of these, is below each of them
-pub below-all : (x y : ℕ) (zs : List ℕ) → x < y → AllByRecursion (λ z. nat_cmp y z ≡ Less) zs → AllByRecursion (λ z. nat_cmp x z ≡ Less) zs
+pub below-all : (x y : ℕ) (zs : List ℕ) → x < y → AllByRecursion (λ z. nat_cmp y z ≡ Less) zs
+    → AllByRecursion (λ z. nat_cmp x z ≡ Less) zs
 below-all x y [] below all = all
 below-all x y (z ∷ zs) below all =
     let less : y < z = ranked y z Less (sym all.0) in
@@ -44,7 +45,8 @@ unfolding IsStrictlySortedBy
 test-from_Ascends [] ascends = refl
 test-from_Ascends (x ∷ []) ascends = refl
 test-from_Ascends (x ∷ y ∷ ys) ascends =
-    and-holds (nat_lt x y) (is_ascending (y ∷ ys)) (lt-ltb x y (ranked x y Less (sym ascends.0.0))) (test-from_Ascends (y ∷ ys) ascends.1)
+    and-holds (nat_lt x y) (is_ascending (y ∷ ys)) (lt-ltb x y (ranked x y Less (sym ascends.0.0)))
+    (test-from_Ascends (y ∷ ys) ascends.1)
 
 -- what answers whether a list ascends gives the test's answer
 pub is_ascending-answer : (xs : List ℕ) (answer : Bool) → (IsTrue answer ↔ Ascends nat_cmp xs) → is_ascending xs ≡ answer

@@ -1,5 +1,6 @@
 -- Trees into which keys are inserted one by one.
-use Rattle.std.proofs.Common.{◌≡◌, ◌∙◌, ap, refl, sym, subst, ℕ, ◌||◌, Bool, true, false, List, [], ◌∷◌, ◌++◌, Option, Some, None, IsTrue, IsFalse}
+use Rattle.std.proofs.Common.{◌≡◌, ◌∙◌, ap, refl, sym, subst, ℕ, ◌||◌, Bool, true, false, List, [], ◌∷◌, ◌++◌, Option}
+use Rattle.std.proofs.Common.{Some, None, IsTrue, IsFalse}
 use Rattle.std.proofs.lemmas.List.{append_assoc}
 use Rattle.std.specs.List.{list_any}
 use Rattle.std.specs.Option.{is_some, option_map, option_and_then}
@@ -41,7 +42,8 @@ pub HasKeys-inserted : {V : Type 0} {keeps : V → V → Type 0} (keys : List (L
 HasKeys-inserted {V} {keeps} keys key value t u inserted canonical has =
     record {
       canonical = canonical;
-      binds = λ k. bound keeps (same_key nat_cmp key k) value (lookup nat_cmp t k) (lookup nat_cmp u k) (inserted.at k) (inserted.others k) ∙
+      binds = λ k. bound keeps (same_key nat_cmp key k) value (lookup nat_cmp t k) (lookup nat_cmp u k)
+          (inserted.at k) (inserted.others k) ∙
           ap (λ b. same_key nat_cmp key k || b) (has.binds k) ∙ sym (any-snoc (λ j. same_key nat_cmp j k) keys key);
     }
 
@@ -68,4 +70,6 @@ HasKeys-empty {V} t is = subst (λ u. HasKeys [] u) (sym is) (record { canonical
 pub keys-read : (done : List (List ℕ)) (part key : List ℕ) (parts : List (List ℕ)) → key_in part ≡ Some key
     → option_map (λ ks. (done ++ key ∷ []) ++ ks) (keys_in_all parts) ≡ option_map (λ ks. done ++ ks) (keys_in_all (part ∷ parts))
 keys-read done part key parts is =
-    key-behind done key (keys_in_all parts) ∙ ap (λ k. option_map (λ ks. done ++ ks) (option_and_then (λ j. option_map (λ ks. j ∷ ks) (keys_in_all parts)) k)) (sym is)
+    key-behind done key (keys_in_all parts)
+    ∙ ap (λ k. option_map (λ ks. done ++ ks)
+    (option_and_then (λ j. option_map (λ ks. j ∷ ks) (keys_in_all parts)) k)) (sym is)

@@ -1,5 +1,6 @@
 -- The lines of a text that comes in two pieces.
-use Rattle.std.proofs.Common.{arith, ◌≡◌, ◌∙◌, ap, sym, refl, subst, ℕ, ◌<◌, ◌==◌, Bool, true, false, cond, List, [], ◌∷◌, ◌++◌, length, if◌then◌else◌, Option, Some, None}
+use Rattle.std.proofs.Common.{arith, ◌≡◌, ◌∙◌, ap, sym, refl, subst, ℕ, ◌<◌, ◌==◌, Bool, true, false, cond, List, []}
+use Rattle.std.proofs.Common.{◌∷◌, ◌++◌, length, if◌then◌else◌, Option, Some, None}
 use Rattle.std.proofs.lemmas.List.{append_assoc, append-nil}
 use Rattle.std.proofs.lemmas.Bool.{true≢false}
 use Rattle.std.proofs.lemmas.List.Splits.{length-slice_split}
@@ -43,7 +44,8 @@ glue-some (p ∷ []) (q ∷ qs) some = omega arith
 glue-some (p ∷ r ∷ more) qs some = omega arith
 
 -- one byte more before the first text
-pub glue-cons : (b : Bool) (x : ℕ) (ps qs rs : List (List ℕ)) → 0 < length ps → rs ≡ glue ps qs → cond b ([] ∷ rs) (onto_first x rs) ≡ glue (cond b ([] ∷ ps) (onto_first x ps)) qs
+pub glue-cons : (b : Bool) (x : ℕ) (ps qs rs : List (List ℕ)) → 0 < length ps → rs ≡ glue ps qs
+    → cond b ([] ∷ rs) (onto_first x rs) ≡ glue (cond b ([] ∷ ps) (onto_first x ps)) qs
 glue-cons b x [] qs rs some is = absurd (omega (arith, some))
 glue-cons true x (p ∷ ps) qs rs some is = ap (λ l. [] ∷ l) is
 glue-cons false x (p ∷ []) [] rs some is = ap (λ l. onto_first x l) is
@@ -53,10 +55,12 @@ glue-cons false x (p ∷ r ∷ more) qs rs some is = ap (λ l. onto_first x l) i
 -- the parts of two texts side by side
 pub parts-append : (xs ys : List ℕ) → parts_of Newline (xs ++ ys) ≡ glue (parts_of Newline xs) (parts_of Newline ys)
 parts-append [] ys = sym (onto-nil (parts_of Newline ys) (parts-some ys))
-parts-append (x ∷ xs) ys = glue-cons (parts_at Newline x) x (parts_of Newline xs) (parts_of Newline ys) (parts_of Newline (xs ++ ys)) (parts-some xs) (parts-append xs ys)
+parts-append (x ∷ xs) ys = glue-cons (parts_at Newline x) x (parts_of Newline xs) (parts_of Newline ys)
+    (parts_of Newline (xs ++ ys)) (parts-some xs) (parts-append xs ys)
 
 -- a part that others follow is a line that ends
-pub lines_of_parts-cons : (p : List ℕ) (ps : List (List ℕ)) → 0 < length ps → lines_of_parts (p ∷ ps) ≡ strip_carriage_return p ∷ lines_of_parts ps
+pub lines_of_parts-cons : (p : List ℕ) (ps : List (List ℕ)) → 0 < length ps → lines_of_parts (p ∷ ps)
+    ≡ strip_carriage_return p ∷ lines_of_parts ps
 lines_of_parts-cons p [] some = absurd (omega (arith, some))
 lines_of_parts-cons p (r ∷ more) some = refl
 
@@ -73,7 +77,8 @@ lines_of_parts-glue taken (p ∷ r ∷ others) qs some more =
     (ap lines_of_parts (sym (onto-nil (glue (r ∷ others) qs) there)) ∙ lines_of_parts-glue [] (r ∷ others) qs (omega arith) more)
 
 -- the lines behind what was taken, where a chunk of the text is taken next
-pub lines_behind-append : (taken chunk rest : List ℕ) → lines_behind taken (chunk ++ rest) ≡ ended_in taken (parts_of Newline chunk) ++ lines_behind (left_of taken (parts_of Newline chunk)) rest
+pub lines_behind-append : (taken chunk rest : List ℕ) → lines_behind taken (chunk ++ rest)
+    ≡ ended_in taken (parts_of Newline chunk) ++ lines_behind (left_of taken (parts_of Newline chunk)) rest
 lines_behind-append taken chunk rest =
     ap (λ ps. lines_of_parts (onto taken ps)) (parts-append chunk rest) ∙
     lines_of_parts-glue taken (parts_of Newline chunk) (parts_of Newline rest) (parts-some chunk) (parts-some rest)
@@ -92,7 +97,8 @@ pub record Reading (text : List ℕ) (remaining start new : Option (List ℕ)) (
   pub whole : lines text ≡ done ++ lines_behind taken rest
 
 -- what a read took of a known text
-pub read-known : (rest bs : List ℕ) (new : Option (List ℕ)) → Consumes (Some rest) new bs → (more : List ℕ) × (new ≡ Some more) × (rest ≡ bs ++ more)
+pub read-known : (rest bs : List ℕ) (new : Option (List ℕ)) → Consumes (Some rest) new bs → (more : List ℕ)
+    × (new ≡ Some more) × (rest ≡ bs ++ more)
 read-known rest bs None took = absurd took
 read-known rest bs (Some more) took = (more, refl, took)
 
@@ -103,12 +109,14 @@ unended-some (x ∷ xs) some =
     ap (λ b. if b then [] else ((x ∷ xs) ∷ [])) more
 
 -- what was replied is as it was where the writer is flushed
-pub Progress-kept : (ls : List (List ℕ)) (start old new : Option (List ℕ)) (s : Session) → Keeps old new → Progress ls start old s → Progress ls start new s
+pub Progress-kept : (ls : List (List ℕ)) (start old new : Option (List ℕ)) (s : Session) → Keeps old new
+    → Progress ls start old s → Progress ls start new s
 Progress-kept ls start old new s kept p =
     record { text = p.text; replies = p.replies; count = p.count; written = Appends-kept start old new p.text p.written kept }
 
 -- a session that begins
-pub Stands-fresh : (start : Option (List ℕ)) (s : Session) → (s.is_stored ≡ true) × (s.line.items ≡ []) × (s.lines ≡ 0) × (s.has_fault ≡ false) → Stands [] [] start start s
+pub Stands-fresh : (start : Option (List ℕ)) (s : Session) → (s.is_stored ≡ true) × (s.line.items ≡ [])
+    × (s.lines ≡ 0) × (s.has_fault ≡ false) → Stands [] [] start start s
 Stands-fresh start s fresh = record {
   progress = record { text = []; replies = (refl, fresh.3); count = fresh.2; written = Appends-nil start };
   holds = λ stored. fresh.1;
@@ -116,13 +124,16 @@ Stands-fresh start s fresh = record {
 }
 
 -- what stands with a writer stands where that is flushed
-pub Stands-kept : (ls : List (List ℕ)) (taken : List ℕ) (start old new : Option (List ℕ)) (s : Session) → Keeps old new → Stands ls taken start old s → Stands ls taken start new s
+pub Stands-kept : (ls : List (List ℕ)) (taken : List ℕ) (start old new : Option (List ℕ)) (s : Session)
+    → Keeps old new → Stands ls taken start old s → Stands ls taken start new s
 Stands-kept ls taken start old new s kept stood =
     record { progress = Progress-kept ls start old new s kept stood.progress; holds = stood.holds; misses = stood.misses }
 
 -- a chunk was read and taken
-pub Reading-chunk : (text chunk : List ℕ) (before after start old new : Option (List ℕ)) (s t : Session) → (r : Reading text before start old s) → Consumes before after chunk
-    → Stands (r.done ++ ended_in r.taken (parts_of Newline chunk)) (left_of r.taken (parts_of Newline chunk)) start new t → Reading text after start new t
+pub Reading-chunk : (text chunk : List ℕ) (before after start old new : Option (List ℕ)) (s t : Session)
+    → (r : Reading text before start old s) → Consumes before after chunk
+    → Stands (r.done ++ ended_in r.taken (parts_of Newline chunk))
+    (left_of r.taken (parts_of Newline chunk)) start new t → Reading text after start new t
 Reading-chunk text chunk before after start old new s t r took stands =
     let read = read-known r.rest chunk after (subst (λ b. Consumes b after chunk) r.reader took) in
     record {
@@ -131,12 +142,15 @@ Reading-chunk text chunk before after start old new s t r took stands =
       rest = read.0;
       reader = read.1;
       stands = stands;
-      whole = r.whole ∙ ap (λ bs. r.done ++ lines_behind r.taken bs) read.2 ∙ ap (λ ls. r.done ++ ls) (lines_behind-append r.taken chunk read.0) ∙
-          sym (append_assoc r.done (ended_in r.taken (parts_of Newline chunk)) (lines_behind (left_of r.taken (parts_of Newline chunk)) read.0));
+      whole = r.whole ∙ ap (λ bs. r.done ++ lines_behind r.taken bs) read.2
+          ∙ ap (λ ls. r.done ++ ls) (lines_behind-append r.taken chunk read.0) ∙
+          sym (append_assoc r.done (ended_in r.taken (parts_of Newline chunk))
+          (lines_behind (left_of r.taken (parts_of Newline chunk)) read.0));
     }
 
 -- at the end of the text its last line is left
-pub Reading-end : (text : List ℕ) (before after start old : Option (List ℕ)) (s : Session) → (r : Reading text before start old s) → Consumes before after [] → IsAtEnd after
+pub Reading-end : (text : List ℕ) (before after start old : Option (List ℕ)) (s : Session)
+    → (r : Reading text before start old s) → Consumes before after [] → IsAtEnd after
     → lines text ≡ r.done ++ lines_of_parts (r.taken ∷ [])
 Reading-end text before after start old s r took end =
     let read = read-known r.rest [] after (subst (λ b. Consumes b after []) r.reader took) in

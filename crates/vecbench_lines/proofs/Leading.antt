@@ -19,7 +19,8 @@ says-next all left words name word changes change is says before more h =
     (before (change ∷ more) (subst (λ l. SaysChanges l (change ∷ more)) (sym is) (says, h)))
 
 -- a command without a fault leaves the fault to those behind it
-pub no-fault-next : (left words : List (List ℕ)) (name word : List ℕ) → left ≡ name ∷ word ∷ words → fault_in_change name word ≡ None
+pub no-fault-next : (left words : List (List ℕ)) (name word : List ℕ) → left ≡ name ∷ word ∷ words
+    → fault_in_change name word ≡ None
     → fault_in_changes left ≡ fault_in_changes words
 no-fault-next left words name word is none =
     ap fault_in_changes is ∙ ap (λ fault. first_fault fault (fault_in_changes words)) none
@@ -31,12 +32,14 @@ module _ {V : Type 0} (matches others : V → V → Type 0) (weaker : (v w : V) 
   kept-weaker (Some v) None h = absurd h
   kept-weaker (Some v) (Some w) h = weaker v w h
 
-  step-weaker : (m n : List ℕ → Option V) (c : Command ℕ V) (ok : Bool) → Step nat_cmp matches m c ok n → Step nat_cmp others m c ok n
+  step-weaker : (m n : List ℕ → Option V) (c : Command ℕ V) (ok : Bool) → Step nat_cmp matches m c ok n
+      → Step nat_cmp others m c ok n
   step-weaker m n c true h = λ k. kept-weaker (after nat_cmp c m k) (n k) (h k)
   step-weaker m n c false h = λ k. kept-weaker (refused nat_cmp c m k) (n k) (h k)
 
   -- a run up to values that match is one up to what follows of these
-  pub run-weaker : (m n : List ℕ → Option V) (cs : List (Command ℕ V)) (oks : List Bool) → Run nat_cmp matches m cs oks n → Run nat_cmp others m cs oks n
+  pub run-weaker : (m n : List ℕ → Option V) (cs : List (Command ℕ V)) (oks : List Bool)
+      → Run nat_cmp matches m cs oks n → Run nat_cmp others m cs oks n
   run-weaker m n [] [] h = λ k. kept-weaker (m k) (n k) (h k)
   run-weaker m n [] (ok ∷ oks) h = absurd h
   run-weaker m n (c ∷ cs) [] h = absurd h

@@ -3,7 +3,8 @@
 --     keys-where        the same keys by a test that agrees
 --     restricted-listed        the keys that rules leave of a tree
 --     removed-keys, retained-keys, left-listed        the keys that stay by whether they are admitted
-use Rattle.std.proofs.Common.{◌≡◌, ◌∙◌, ap, sym, refl, subst, ℕ, Bool, true, false, not, true≢false, ◌||◌, ◌&&◌, List, [], ◌∷◌, Option, Some, None, inl, inr}
+use Rattle.std.proofs.Common.{◌≡◌, ◌∙◌, ap, sym, refl, subst, ℕ, Bool, true, false, not, true≢false, ◌||◌, ◌&&◌, List}
+use Rattle.std.proofs.Common.{[], ◌∷◌, Option, Some, None, inl, inr}
 use Rattle.std.proofs.lemmas.Option.{none-some}
 use Rattle.std.specs.List.{list_any}
 use Rattle.std.specs.Map.{keys_of}
@@ -31,7 +32,8 @@ module _ {V : Type 0} where
   listed-has : (l : List (List ℕ × V)) (key : List ℕ) (v : V) → Lists nat_cmp l key v → has_key l key ≡ true
   listed-has [] key v h = absurd h
   listed-has (b ∷ l) key v (inl h) = ap (λ same. same || has_key l key) h.0
-  listed-has (b ∷ l) key v (inr h) = ap (λ has. same_key nat_cmp b.0 key || has) (listed-has l key v h) ∙ or-true (same_key nat_cmp b.0 key)
+  listed-has (b ∷ l) key v (inr h) = ap (λ has. same_key nat_cmp b.0 key || has) (listed-has l key v h)
+      ∙ or-true (same_key nat_cmp b.0 key)
 
   -- a key of the list is listed with a value
   has-listed : (l : List (List ℕ × V)) (key : List ℕ) → has_key l key ≡ true → (v : V) × Lists nat_cmp l key v
@@ -44,7 +46,8 @@ module _ {V : Type 0} where
       by false e h behind = let more = behind h in (more.0, inr more.1)
 
   -- the list has the keys that the map binds
-  has-bound : (f : List ℕ → Option V) (l : List (List ℕ × V)) → IsWalk nat_cmp f l → (key : List ℕ) → has_key l key ≡ is_some (f key)
+  has-bound : (f : List ℕ → Option V) (l : List (List ℕ × V)) → IsWalk nat_cmp f l → (key : List ℕ) → has_key l key
+      ≡ is_some (f key)
   has-bound f l walk key = by (f key) refl (has_key l key) refl
     where
       by : (o : Option V) → f key ≡ o → (has : Bool) → has_key l key ≡ has → has_key l key ≡ is_some (f key)
@@ -53,19 +56,23 @@ module _ {V : Type 0} where
       by None e true h = let more = has-listed l key h in absurd (none-some more.0 (sym e ∙ (walk.lists key more.0).0 more.1))
 
   -- the keys of a walk are those that the map binds
-  pub keys-walked : (f : List ℕ → Option V) (l : List (List ℕ × V)) → IsWalk nat_cmp f l → AreKeys (λ key. is_some (f key)) (keys_of l)
+  pub keys-walked : (f : List ℕ → Option V) (l : List (List ℕ × V)) → IsWalk nat_cmp f l
+      → AreKeys (λ key. is_some (f key)) (keys_of l)
   keys-walked f l walk = record { ascend = walk.ascends; members = has-bound f l walk }
 
 -- the keys of a walk are listed by their text
-pub walk-listed : {V : Type 0} (f : List ℕ → Option V) (l : List (List ℕ × V)) → IsWalk nat_cmp f l → ListsKeys (λ key. is_some (f key)) (keys_text (keys_of l))
+pub walk-listed : {V : Type 0} (f : List ℕ → Option V) (l : List (List ℕ × V)) → IsWalk nat_cmp f l
+    → ListsKeys (λ key. is_some (f key)) (keys_text (keys_of l))
 walk-listed f l walk = (keys_of l, keys-walked f l walk, refl)
 
 -- where no pair is walked, none is listed
-pub none-listed : {V : Type 0} (f : List ℕ → Option V) (l : List (List ℕ × V)) → IsWalk nat_cmp f l → l ≡ [] → ListsKeys (λ key. is_some (f key)) (45 ∷ [])
+pub none-listed : {V : Type 0} (f : List ℕ → Option V) (l : List (List ℕ × V)) → IsWalk nat_cmp f l → l ≡ []
+    → ListsKeys (λ key. is_some (f key)) (45 ∷ [])
 none-listed f l walk none = ([], subst (λ m. AreKeys (λ key. is_some (f key)) (keys_of m)) none (keys-walked f l walk), refl)
 
 -- the same keys pass a test that agrees
-pub keys-where : (test other : List ℕ → Bool) (text : List ℕ) → ((key : List ℕ) → test key ≡ other key) → ListsKeys test text → ListsKeys other text
+pub keys-where : (test other : List ℕ → Bool) (text : List ℕ) → ((key : List ℕ) → test key ≡ other key)
+    → ListsKeys test text → ListsKeys other text
 keys-where test other text same lists =
     (lists.0, record { ascend = lists.1.ascend; members = λ key. lists.1.members key ∙ same key }, lists.2)
 
@@ -84,11 +91,13 @@ restricted-listed rules keeps f g text h lists =
     keys-where _ _ text (λ key. passed-is_some rules keeps (is_allowed nat_cmp rules key) (f key) (g key) (h key)) lists
 
 -- a value that stays is there, and one that goes is not
-stays-is_some : {V : Type 0} (keeps : V → V → Type 0) (stays : Bool) (v : V) (p : Option V) → StaysOrGoes keeps stays v p → is_some p ≡ stays
+stays-is_some : {V : Type 0} (keeps : V → V → Type 0) (stays : Bool) (v : V) (p : Option V)
+    → StaysOrGoes keeps stays v p → is_some p ≡ stays
 stays-is_some keeps true v p h = is_some-kept keeps (Some v) p h
 stays-is_some keeps false v p h = ap is_some h
 
-module _ {V : Type 0} (keeps : V → V → Type 0) (may : Bool → Bool → Type 0) (exact : (rule admitted : Bool) → may rule admitted → admitted ≡ rule) where
+module _ {V : Type 0} (keeps : V → V → Type 0) (may : Bool → Bool → Type 0)
+    (exact : (rule admitted : Bool) → may rule admitted → admitted ≡ rule) where
   -- the verdict on a key is that of its longest rule
   verdict-is : (c : Option Bool) (admitted : Bool) → IsVerdict may c admitted → admitted ≡ unwrap_or c false
   verdict-is None admitted h = h
@@ -108,7 +117,8 @@ module _ {V : Type 0} (keeps : V → V → Type 0) (may : Bool → Bool → Type
   -- and where they stay
   pub retained-keys : (rules : Tree ℕ Bool) (f g : List ℕ → Option V) → IsRetained keeps may (lookup nat_cmp rules) f g
       → KeysStay Retain (is_allowed nat_cmp rules) f g
-  retained-keys rules f g h = λ key. sifted-is_some (λ admitted. admitted) (cover (lookup nat_cmp rules) key) (f key) (g key) (h key)
+  retained-keys rules f g h = λ key. sifted-is_some (λ admitted. admitted) (cover (lookup nat_cmp rules) key) (f key)
+      (g key) (h key)
 
 -- the keys that stay are listed by what lists the keys that are left
 pub left-listed : {V : Type 0} (operation : PrefixOperation) (admitted : List ℕ → Bool) (f g : List ℕ → Option V) (text : List ℕ)

@@ -17,8 +17,10 @@ join-with_commas x [] = sym (append-nil x)
 join-with_commas x (n ∷ ns) = ap (λ others. x ++ (44 ∷ others)) (join-with_commas (decimal n) ns)
 
 -- the text of a list, once its first number and those behind it are written
-pub list_text-written : (old begun done numbers : List ℕ) (i : ℕ) → 1 ≤ length numbers → begun ≡ old ++ decimal (slice_index numbers 0)
-    → done ≡ begun ++ with_commas (take i (take (length numbers - 1) (drop 1 numbers))) → i ≤ length (take (length numbers - 1) (drop 1 numbers))
+pub list_text-written : (old begun done numbers : List ℕ) (i : ℕ) → 1 ≤ length numbers → begun
+    ≡ old ++ decimal (slice_index numbers 0)
+    → done ≡ begun ++ with_commas (take i (take (length numbers - 1) (drop 1 numbers))) → i
+    ≤ length (take (length numbers - 1) (drop 1 numbers))
     → length (take (length numbers - 1) (drop 1 numbers)) ≤ i → done ≡ old ++ list_text numbers
 list_text-written old begun done [] i some first written below above = absurd (omega (arith, some))
 list_text-written old begun done (n ∷ ns) i some first written below above =

@@ -21,7 +21,8 @@ collected-empty t e = λ k. ap (λ u. lookup nat_cmp u k) e ∙ none k
     none (x ∷ k) = refl
 
 -- a pair behind the others decides where its key is equal, and else the others do
-behind-others : (rules : List (List ℕ × Bool)) (key : List ℕ) (allowed : Bool) (k : List ℕ) (same : Bool) → same_key nat_cmp key k ≡ same
+behind-others : (rules : List (List ℕ × Bool)) (key : List ℕ) (allowed : Bool) (k : List ℕ) (same : Bool)
+    → same_key nat_cmp key k ≡ same
     → last_bound nat_cmp (rules ++ (key, allowed) ∷ []) k ≡ cond same (Some allowed) (last_bound nat_cmp rules k)
 behind-others [] key allowed k true e = ap (λ b. cond b (Some allowed) None) e
 behind-others [] key allowed k false e = ap (λ b. cond b (Some allowed) None) e
@@ -51,7 +52,11 @@ collected-inserted rules key allowed t u put has = λ k. by k (same_key nat_cmp 
         ∙ sym (behind-others rules key allowed k false e)
 
 -- the rules of the parts that are left, where one more was read
-pub rules-read : (done : List (List ℕ × Bool)) (part : List ℕ) (rule : List ℕ × Bool) (parts : List (List ℕ)) → rule_in part ≡ Some rule
-    → option_map (λ rs. (done ++ rule ∷ []) ++ rs) (rules_in_all parts) ≡ option_map (λ rs. done ++ rs) (rules_in_all (part ∷ parts))
+pub rules-read : (done : List (List ℕ × Bool)) (part : List ℕ) (rule : List ℕ × Bool) (parts : List (List ℕ))
+    → rule_in part ≡ Some rule
+    → option_map (λ rs. (done ++ rule ∷ []) ++ rs) (rules_in_all parts)
+    ≡ option_map (λ rs. done ++ rs) (rules_in_all (part ∷ parts))
 rules-read done part rule parts is =
-    key-behind done rule (rules_in_all parts) ∙ ap (λ r. option_map (λ rs. done ++ rs) (option_and_then (λ j. option_map (λ rs. j ∷ rs) (rules_in_all parts)) r)) (sym is)
+    key-behind done rule (rules_in_all parts)
+    ∙ ap (λ r. option_map (λ rs. done ++ rs)
+    (option_and_then (λ j. option_map (λ rs. j ∷ rs) (rules_in_all parts)) r)) (sym is)

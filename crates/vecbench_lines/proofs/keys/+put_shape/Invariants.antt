@@ -11,4 +11,5 @@ decreases-put_shape g l = nodes (g.T.RadixNode.tree l.tree.now)
 -- the shapes up to here are written, each behind a space
 abbrev pub invariant-loop-child : goal.invariant-loop-child
 invariant-loop-child g l =
-    string_bytes l.text ≡ string_bytes l.initial.text ++ flat_map (λ t. 32 ∷ shape_text (g.T.RadixNode.tree t)) (take l.child-index l.others)
+    string_bytes l.text ≡ string_bytes l.initial.text ++ flat_map (λ t. 32 ∷ shape_text (g.T.RadixNode.tree t))
+    (take l.child-index l.others)

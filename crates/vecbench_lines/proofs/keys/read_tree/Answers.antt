@@ -14,8 +14,14 @@ returns-then-eq-clause-keys c =
 
 pub loop-part-init : goal.loop-part-init
 loop-part-init c =
-    let parts : parts_left c.into_iter-part-iterator.result ≡ parts_of Comma c.args.word.now = search rules in
-    (tt, tt, [], keys-none (keys_in_all (parts_left c.into_iter-part-iterator.result)) ∙ ap keys_in_all parts, HasKeys-empty c.empty-tree.result c.empty-tree.ensures.is)
+    let parts : parts_left c.into_iter-part-iterator.result ≡ parts_of Comma c.args.word.now = search rules in (
+      tt,
+      tt,
+      [],
+      keys-none (keys_in_all (parts_left c.into_iter-part-iterator.result))
+          ∙ ap keys_in_all parts,
+      HasKeys-empty c.empty-tree.result c.empty-tree.ensures.is,
+    )
 
 pub same-tree : goal.same-tree
 same-tree c = refl
@@ -33,5 +39,6 @@ loop-part-preserved c =
       before.2 ++ c.in-Some-read_key.key.now ∷ [],
       keys-read before.2 c.in-Some.part.now c.in-Some-read_key.key.now (parts_left c.next.new.self) key ∙
           ap (λ ps. option_map (λ ks. before.2 ++ ks) (keys_in_all ps)) (sym parts) ∙ before.3,
-      HasKeys-inserted before.2 c.in-Some-read_key.key.now _ _ _ c.in_ok-insert.ensures.ok c.in_ok-insert.ensures.canonical before.4,
+      HasKeys-inserted before.2 c.in-Some-read_key.key.now _ _ _ c.in_ok-insert.ensures.ok
+          c.in_ok-insert.ensures.canonical before.4,
     )

@@ -11,4 +11,5 @@ abbrev pub invariant-loop-part : goal.invariant-loop-part
 invariant-loop-part l =
     (goal.iterator-loop-part).can_next l.part-iterator ×
     (goal.iterator-loop-part).is_finite l.part-iterator ×
-    (done : List (List ℕ)) × (option_map (λ ks. done ++ ks) (keys_in_all (parts_left l.part-iterator)) ≡ keys_in_all (parts_of Comma l.fn.word)) × HasKeys done l.tree
+    (done : List (List ℕ)) × (option_map (λ ks. done ++ ks) (keys_in_all (parts_left l.part-iterator))
+    ≡ keys_in_all (parts_of Comma l.fn.word)) × HasKeys done l.tree

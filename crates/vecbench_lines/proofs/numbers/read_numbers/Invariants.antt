@@ -11,4 +11,5 @@ abbrev pub invariant-loop-part : goal.invariant-loop-part
 invariant-loop-part l =
     (goal.iterator-loop-part).can_next l.part-iterator ×
     (goal.iterator-loop-part).is_finite l.part-iterator ×
-    (option_map (λ ns. l.numbers.items ++ ns) (numbers_in_all (parts_left l.part-iterator)) ≡ numbers_in_all (parts_of Comma l.fn.word))
+    (option_map (λ ns. l.numbers.items ++ ns) (numbers_in_all (parts_left l.part-iterator))
+    ≡ numbers_in_all (parts_of Comma l.fn.word))

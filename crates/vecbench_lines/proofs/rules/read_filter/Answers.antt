@@ -15,8 +15,14 @@ returns-then-eq-clause-rules c =
 
 pub loop-part-init : goal.loop-part-init
 loop-part-init c =
-    let parts : parts_left c.into_iter-part-iterator.result ≡ parts_of Comma c.args.word.now = search rules in
-    (tt, tt, [], keys-none (rules_in_all (parts_left c.into_iter-part-iterator.result)) ∙ ap rules_in_all parts, collected-empty c.new-filter.result c.new-filter.ensures.is)
+    let parts : parts_left c.into_iter-part-iterator.result ≡ parts_of Comma c.args.word.now = search rules in (
+      tt,
+      tt,
+      [],
+      keys-none (rules_in_all (parts_left c.into_iter-part-iterator.result))
+          ∙ ap rules_in_all parts,
+      collected-empty c.new-filter.result c.new-filter.ensures.is,
+    )
 
 pub loop-part-preserved : goal.loop-part-preserved
 loop-part-preserved c =
@@ -29,5 +35,6 @@ loop-part-preserved c =
       before.2 ++ rule ∷ [],
       rules-read before.2 c.in-Some.part.now rule (parts_left c.next.new.self) read ∙
           ap (λ ps. option_map (λ rs. before.2 ++ rs) (rules_in_all ps)) (sym parts) ∙ before.3,
-      collected-inserted before.2 c.in-Some-read_rule.key.now c.in-Some-read_rule.allowed c.loop-part.filter c.put_rule.new.filter c.in_ok-put_rule.ensures before.4,
+      collected-inserted before.2 c.in-Some-read_rule.key.now c.in-Some-read_rule.allowed c.loop-part.filter
+          c.put_rule.new.filter c.in_ok-put_rule.ensures before.4,
     )

@@ -13,4 +13,6 @@ abbrev pub invariant-loop-part : goal.invariant-loop-part
 invariant-loop-part l =
     (goal.iterator-loop-part).can_next l.part-iterator ×
     (goal.iterator-loop-part).is_finite l.part-iterator ×
-    (done : List (List ℕ × Bool)) × (option_map (λ rs. done ++ rs) (rules_in_all (parts_left l.part-iterator)) ≡ rules_in_all (parts_of Comma l.fn.word)) × IsCollected nat_cmp done l.filter
+    (done : List (List ℕ × Bool)) ×
+    (option_map (λ rs. done ++ rs) (rules_in_all (parts_left l.part-iterator))
+    ≡ rules_in_all (parts_of Comma l.fn.word)) × IsCollected nat_cmp done l.filter

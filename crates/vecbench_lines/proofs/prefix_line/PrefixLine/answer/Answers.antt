@@ -11,7 +11,8 @@ returns c =
     on_ok-map c.put_keys.result
     (λ written. (
       written.0,
-      left-listed line.operation (is_allowed nat_cmp line.filter) (lookup nat_cmp line.tree) _ written.0 c.in_ok-left.ensures written.1,
+      left-listed line.operation (is_allowed nat_cmp line.filter)
+          (lookup nat_cmp line.tree) _ written.0 c.in_ok-left.ensures written.1,
       written.2,
     ))
     c.put_keys.ensures

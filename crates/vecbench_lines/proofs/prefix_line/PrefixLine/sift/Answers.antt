@@ -3,7 +3,8 @@ use Rattle.std.specs.Ordering.{nat_cmp}
 use Rattle.vec_collections.specs.Map.{lookup}
 use Rattle.vecbench_lines.proofs.Listing.{removed-keys, retained-keys}
 use Rattle.vecbench_lines.proofs.prefix_line.PrefixLine.sift.Goals as goal
-use Rattle.vecbench_lines.proofs.prefix_line.PrefixLine.sift.Goals.{in-Remove+in_ok-remove_prefix_with-in-Remove, in-Retain+in_ok-retain_prefix_with-in-Retain}
+use Rattle.vecbench_lines.proofs.prefix_line.PrefixLine.sift.Goals.{in-Remove+in_ok-remove_prefix_with-in-Remove}
+use Rattle.vecbench_lines.proofs.prefix_line.PrefixLine.sift.Goals.{in-Retain+in_ok-retain_prefix_with-in-Retain}
 
 pub same-tree : goal.same-tree
 same-tree c = refl

@@ -12,7 +12,8 @@ returns-in-Ok-clause-replies g c taken lines start holds before =
     let says : AnswersWords (words_of taken) c.as_bytes.result.now =
     subst (λ text. AnswersWords (words_of taken) text) (sym c.as_bytes.ensures.value) (c.in-Ok.ensures.answers taken holds) in
     on_ok-map c.write_all.result (λ written.
-    Progress-snoc lines start _ _ c.args.self.now _ taken c.as_bytes.result.now false before (c.in-Ok.ensures.judged taken holds, says) written
+    Progress-snoc lines start _ _ c.args.self.now _ taken c.as_bytes.result.now false before
+    (c.in-Ok.ensures.judged taken holds, says) written
     (made.same.1 ∙ sym (or-false c.args.self.now.has_fault))
     (c.saturating_add-self.ensures ∙ ap (λ m. counted (m + 1)) made.same.0)) c.write_all.ensures.bytes
 

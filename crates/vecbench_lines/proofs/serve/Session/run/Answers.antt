@@ -11,7 +11,8 @@ returns-then-count-eq0 g c text is stood =
     let took = c.in_ok-count.ensures.bytes in
     let zero : c.in_ok-count.count ≡ 0 = search (rules, c.if-count-eq0.true) in
     let some : 0 < length c.read_some.new.chunk = omega (arith, c.loop.invariant.0, c.read_some.auto.chunk) in
-    let none = subst (λ n. Consumes (g.I.Read.remaining c.loop.input) (g.I.Read.remaining c.read_some.new.input) (take n c.read_some.new.chunk)) zero took.0 in
+    let none = subst (λ n. Consumes (g.I.Read.remaining c.loop.input) (g.I.Read.remaining c.read_some.new.input)
+    (take n c.read_some.new.chunk)) zero took.0 in
     on_ok-map c.finish.result
     (λ p. subst (λ ls. Progress ls (g.O.Write.contents c.args.output.now) (g.O.Write.contents c.finish.new.output)
     c.finish.new.self) (sym (Reading-end text _ _ _ _ _ reading none (took.1 zero some))) p)

@@ -9,7 +9,8 @@ use Rattle.vecbench_lines.proofs.serve.Session.take_chunk.Given as goal
 abbrev pub invariant-loop-rest : goal.invariant-loop-rest
 invariant-loop-rest g l = (lines : List (List ℕ)) → (taken : List ℕ) → (start : Option (List ℕ))
     → Stands lines taken start (g.O.Write.contents l.initial.output) l.initial.self
-    → Underway lines taken (parts_of_rest Newline l.initial.rest) (parts_of_rest Newline l.rest) start (g.O.Write.contents l.output) l.self
+    → Underway lines taken (parts_of_rest Newline l.initial.rest) (parts_of_rest Newline l.rest) start
+    (g.O.Write.contents l.output) l.self
 
 abbrev pub decreases-loop-rest : goal.decreases-loop-rest
 decreases-loop-rest g l = length (parts_of_rest Newline l.rest)
