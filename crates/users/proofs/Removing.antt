@@ -1,7 +1,8 @@
 -- Of a tree with one key the paths below that key have a cover, and no other path does.
 --     cover-one        by the key alone
 --     removed-below        so removal takes these paths out
-use Rattle.std.proofs.Common.{◌≡◌, ℕ, Bool, true, false, not, cond, List, [], ◌∷◌, Option, Some, None, Result, Ok, Err, OnOk, refl, sym, subst, ap, ◌∙◌}
+use Rattle.std.proofs.Common.{◌≡◌, ℕ, Bool, true, false, not, cond, List, [], ◌∷◌, Option, Some, None, Result, Ok}
+use Rattle.std.proofs.Common.{Err, OnOk, refl, sym, subst, ap, ◌∙◌}
 use Rattle.std.specs.Option.{is_some}
 use Rattle.std.specs.Ordering.{is_eq, nat_cmp}
 use Rattle.vec_collections.specs.Cover.{cover, IsRemoved, IsSifted, StaysOrGoes}
@@ -50,7 +51,8 @@ module _ {V : Type 0} (is_clone : V → V → Type 0) (exact : (v w : V) → is_
 
   -- at one path: what is below the key that is named goes, and else the value stays
   sifted : (below : Bool) (v z : Option V)
-      → IsSifted (Copies is_clone) (λ (named covered : Bool). covered ≡ named) not (cond below (Some true) None) v z → z ≡ cond below None v
+      → IsSifted (Copies is_clone) (λ (named covered : Bool). covered ≡ named) not (cond below (Some true) None) v z
+      → z ≡ cond below None v
   sifted true None z h = h
   sifted false None z h = h
   sifted true (Some v) z (covered, is_covered, h) = subst (λ b. StaysOrGoes (Copies is_clone) (not b) v z) is_covered h
@@ -63,8 +65,10 @@ module _ {V : Type 0} (is_clone : V → V → Type 0) (exact : (v w : V) → is_
       → (path : List ℕ) → g path ≡ cond (is_below folder path) None (f path)
   removed-below folder named e f g h path =
       sifted (is_below folder path) (f path) (g path)
-      (subst (λ c. IsSifted (Copies is_clone) (λ (named covered : Bool). covered ≡ named) not c (f path) (g path)) (cover-one true folder path)
-      (subst (λ n. IsSifted (Copies is_clone) (λ (named covered : Bool). covered ≡ named) not (cover (lookup nat_cmp n) path) (f path) (g path)) e (h path)))
+      (subst (λ c. IsSifted (Copies is_clone) (λ (named covered : Bool). covered ≡ named) not c (f path) (g path))
+      (cover-one true folder path)
+      (subst (λ n. IsSifted (Copies is_clone) (λ (named covered : Bool). covered ≡ named) not
+      (cover (lookup nat_cmp n) path) (f path) (g path)) e (h path)))
 
 -- what follows from a fact on an outcome that is no refusal
 pub on-ok : {E P Q : Type 0} (r : Result (Unit {0}) E) → (P → Q) → OnOk r P → OnOk r Q

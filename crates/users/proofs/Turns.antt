@@ -2,7 +2,8 @@
 --     along-turned        what turns where f turns is f
 --     along-exactly_one        what turns where exactly one of two turns
 --     along-none, along-one        of no turn, and of one
-use Rattle.std.proofs.Common.{◌≡◌, ℕ, zero, suc, ◌≤◌, ◌<◌, ◌%◌, Bool, true, false, not, ◌&&◌, ◌||◌, List, [], ◌∷◌, length, take, drop, refl, sym, ap, ◌∙◌, rules, arith}
+use Rattle.std.proofs.Common.{◌≡◌, ℕ, zero, suc, ◌≤◌, ◌<◌, ◌%◌, Bool, true, false, not, ◌&&◌, ◌||◌, List, [], ◌∷◌}
+use Rattle.std.proofs.Common.{length, take, drop, refl, sym, ap, ◌∙◌, rules, arith}
 use Rattle.std.specs.List.{AllByRecursion, AllWithin}
 use Rattle.std.specs.Ordering.{nat_cmp, eq_by_cmp}
 use Rattle.std.specs.List.Sorted.{IsStrictlySortedBy, IsPartitionPoint}
@@ -38,7 +39,8 @@ cancelled false q = refl
 pub along-alike : (t u : ℕ → Bool) (x : ℕ) → ((y : ℕ) → y ≤ x → t y ≡ u y) → along t x ≡ along u x
 along-alike t u zero h = h zero (omega arith)
 along-alike t u (suc x) h =
-    ap (λ p. exactly_one p (t (suc x))) (along-alike t u x (λ y k. h y (omega arith))) ∙ ap (exactly_one (along u x)) (h (suc x) (omega arith))
+    ap (λ p. exactly_one p (t (suc x))) (along-alike t u x (λ y k. h y (omega arith)))
+    ∙ ap (exactly_one (along u x)) (h (suc x) (omega arith))
 
 pub along-turned : (f : ℕ → Bool) (x : ℕ) → along (turned f) x ≡ f x
 along-turned f zero = refl
@@ -47,7 +49,8 @@ along-turned f (suc x) = ap (λ p. exactly_one p (turned f (suc x))) (along-turn
 pub along-exactly_one : (t u : ℕ → Bool) (x : ℕ) → along (λ y. exactly_one (t y) (u y)) x ≡ exactly_one (along t x) (along u x)
 along-exactly_one t u zero = refl
 along-exactly_one t u (suc x) =
-    ap (λ p. exactly_one p (exactly_one (t (suc x)) (u (suc x)))) (along-exactly_one t u x) ∙ regrouped (along t x) (along u x) (t (suc x)) (u (suc x))
+    ap (λ p. exactly_one p (exactly_one (t (suc x)) (u (suc x)))) (along-exactly_one t u x)
+    ∙ regrouped (along t x) (along u x) (t (suc x)) (u (suc x))
 
 pub along-none : (x : ℕ) → along (λ y. false) x ≡ false
 along-none zero = refl
@@ -79,12 +82,14 @@ either-none p q e f = ap (λ b. b || q) e ∙ f
 -- no number up to x is in a list of greater ones
 absent : (l : List ℕ) (x y : ℕ) → y ≤ x → AllByRecursion (λ z. leb z x ≡ false) l → member nat_cmp l y ≡ false
 absent [] x y h p = refl
-absent (z ∷ l) x y h p = either-none (eq_by_cmp nat_cmp z y) (member nat_cmp l y) (same z y ∙ above z x y h p.0) (absent l x y h p.1)
+absent (z ∷ l) x y h p = either-none (eq_by_cmp nat_cmp z y) (member nat_cmp l y) (same z y ∙ above z x y h p.0)
+    (absent l x y h p.1)
 
 -- b is not in a list of greater ones
 below : (b : ℕ) (l : List ℕ) (y : ℕ) → AllByRecursion (λ z. nat_cmp b z ≡ Less) l → nat_eq b y ≡ true → member nat_cmp l y ≡ false
 below b [] y a e = refl
-below b (z ∷ l) y a e = either-none (eq_by_cmp nat_cmp z y) (member nat_cmp l y) (same z y ∙ apart b z y a.0 e) (below b l y a.1 e)
+below b (z ∷ l) y a e = either-none (eq_by_cmp nat_cmp z y) (member nat_cmp l y) (same z y ∙ apart b z y a.0 e)
+    (below b l y a.1 e)
 
 one-alone : (p q : Bool) → (p ≡ true → q ≡ false) → (p || q) ≡ exactly_one p q
 one-alone true q h = sym (ap not (h refl))
@@ -99,7 +104,8 @@ parted b l y a = ap (λ p. p || member nat_cmp l y) (same b y) ∙ one-alone (na
 odd-next : (n : ℕ) → not (nat_eq (n % 2) 1) ≡ nat_eq (suc n % 2) 1
 odd-next n = search rules
 
-pub along-counted : (l : List ℕ) (n x : ℕ) → Ascends nat_cmp l → AllByRecursion (λ y. leb y x ≡ true) (take n l) → AllByRecursion (λ y. leb y x ≡ false) (drop n l)
+pub along-counted : (l : List ℕ) (n x : ℕ) → Ascends nat_cmp l → AllByRecursion (λ y. leb y x ≡ true) (take n l)
+    → AllByRecursion (λ y. leb y x ≡ false) (drop n l)
     → n ≤ length l → along (member nat_cmp l) x ≡ nat_eq (n % 2) 1
 unfolding IsStrictlySortedBy
 along-counted l zero x a p q h = along-alike (member nat_cmp l) (λ y. false) x (λ y k. absent l x y k q) ∙ along-none x
@@ -119,16 +125,22 @@ module _ (P : ℕ → Type 0) where
   all-take [] zero h w = tt
   all-take [] (suc n) h w = absurd (omega arith)
   all-take (b ∷ l) zero h w = tt
-  all-take (b ∷ l) (suc n) h w = (w 0 b (omega arith) (omega arith), all-take l n (omega arith) (λ k d p q. w (suc k) d (omega arith) (omega arith)))
+  all-take (b ∷ l) (suc n) h w =
+      (w 0 b (omega arith) (omega arith), all-take l n (omega arith) (λ k d p q. w (suc k) d (omega arith) (omega arith)))
 
   all-drop : (l : List ℕ) (n : ℕ) → AllWithin P l n (length l) → AllByRecursion P (drop n l)
   all-drop [] zero w = tt
   all-drop [] (suc n) w = tt
-  all-drop (b ∷ l) zero w = (w 0 b (omega arith) (omega arith), all-drop l zero (shifted b l zero (length l) (λ k d p q. w k d (omega arith) q)))
+  all-drop (b ∷ l) zero w = (
+    w 0 b (omega arith) (omega arith),
+    all-drop l zero
+        (shifted b l zero (length l) (λ k d p q. w k d (omega arith) q)),
+  )
   all-drop (b ∷ l) (suc n) w = all-drop l n (shifted b l n (length l) w)
 
 -- an odd count of turns stand at or below x exactly where x is in the set
-pub counted-holds : (l : List ℕ) (n x : ℕ) → Ascends nat_cmp l → n ≤ length l → IsPartitionPoint (λ y. leb y x ≡ true) (λ y. leb y x ≡ false) l n
+pub counted-holds : (l : List ℕ) (n x : ℕ) → Ascends nat_cmp l → n ≤ length l
+    → IsPartitionPoint (λ y. leb y x ≡ true) (λ y. leb y x ≡ false) l n
     → nat_eq (n % 2) 1 ≡ along (member nat_cmp l) x
 counted-holds l n x a h p =
     sym (along-counted l n x a (all-take (λ y. leb y x ≡ true) l n h p.0) (all-drop (λ y. leb y x ≡ false) l n p.1) h)
@@ -148,27 +160,31 @@ or-false false = refl
 
 -- one turn alone
 along-single : (b x : ℕ) → along (member nat_cmp (b ∷ [])) x ≡ leb b x
-along-single b x = along-alike (member nat_cmp (b ∷ [])) (nat_eq b) x (λ y k. ap (λ p. p || false) (same b y) ∙ or-false (nat_eq b y)) ∙ along-one b x
+along-single b x = along-alike (member nat_cmp (b ∷ [])) (nat_eq b) x
+    (λ y k. ap (λ p. p || false) (same b y) ∙ or-false (nat_eq b y)) ∙ along-one b x
 
 last-none : (p : Bool) → exactly_one p true ≡ not p
 last-none true = refl
 last-none false = refl
 
 -- a turn at 0 more turns all
-pub turned-everywhere : (a s : List ℕ) → ((x : ℕ) → member nat_cmp s x ≡ exactly_one (member nat_cmp a x) (member nat_cmp (0 ∷ []) x))
+pub turned-everywhere : (a s : List ℕ)
+    → ((x : ℕ) → member nat_cmp s x ≡ exactly_one (member nat_cmp a x) (member nat_cmp (0 ∷ []) x))
     → (x : ℕ) → along (member nat_cmp s) x ≡ not (along (member nat_cmp a) x)
 turned-everywhere a s h x =
     holds-exactly_one a (0 ∷ []) s h x ∙ ap (exactly_one (along (member nat_cmp a) x)) (along-single 0 x ∙ leb-zero x) ∙
     last-none (along (member nat_cmp a) x)
 
-one-of-two : (b e y : ℕ) → b < e → (eq_by_cmp nat_cmp e y || (eq_by_cmp nat_cmp b y || false)) ≡ exactly_one (nat_eq b y) (nat_eq e y)
+one-of-two : (b e y : ℕ) → b < e → (eq_by_cmp nat_cmp e y || (eq_by_cmp nat_cmp b y || false))
+    ≡ exactly_one (nat_eq b y) (nat_eq e y)
 one-of-two b e y l = search rules
 
 first-alone : (b e x : ℕ) → b < e → exactly_one (leb b x) (leb e x) ≡ (leb b x && ltb x e)
 first-alone b e x l = search rules
 
 -- turns at two numbers
-pub turned-between : (b e : ℕ) (s : List ℕ) → b < e → ((x : ℕ) → member nat_cmp s x ≡ (eq_by_cmp nat_cmp e x || (eq_by_cmp nat_cmp b x || false)))
+pub turned-between : (b e : ℕ) (s : List ℕ) → b < e
+    → ((x : ℕ) → member nat_cmp s x ≡ (eq_by_cmp nat_cmp e x || (eq_by_cmp nat_cmp b x || false)))
     → (x : ℕ) → along (member nat_cmp s) x ≡ (leb b x && ltb x e)
 turned-between b e s l h x =
     along-alike (member nat_cmp s) (λ y. exactly_one (nat_eq b y) (nat_eq e y)) x (λ y k. h y ∙ one-of-two b e y l) ∙
@@ -191,11 +207,14 @@ says-none And = refl
 says-none AndNot = refl
 
 -- where neither set turns, nothing turns of what a formula says of them
-still : (f : Formula) (t u : ℕ → Bool) (x : ℕ) → t x ≡ false → u x ≡ false → turned (λ y. says f (along t y) (along u y)) x ≡ false
+still : (f : Formula) (t u : ℕ → Bool) (x : ℕ) → t x ≡ false → u x ≡ false
+    → turned (λ y. says f (along t y) (along u y)) x ≡ false
 still f t u zero e h = ap (λ p. says f p (u zero)) e ∙ ap (says f false) h ∙ says-none f
 still f t u (suc x) e h =
-    ap (λ p. exactly_one (says f (along t x) (along u x)) (says f p (along u (suc x)))) (ap (exactly_one (along t x)) e ∙ last-false (along t x)) ∙
-    ap (λ p. exactly_one (says f (along t x) (along u x)) (says f (along t x) p)) (ap (exactly_one (along u x)) h ∙ last-false (along u x)) ∙
+    ap (λ p. exactly_one (says f (along t x) (along u x)) (says f p (along u (suc x))))
+    (ap (exactly_one (along t x)) e ∙ last-false (along t x)) ∙
+    ap (λ p. exactly_one (says f (along t x) (along u x)) (says f (along t x) p))
+    (ap (exactly_one (along u x)) h ∙ last-false (along u x)) ∙
     both-same (says f (along t x) (along u x))
 
 -- what is false where both are false is not changed by asking for one of them
@@ -206,7 +225,8 @@ only-there true false false h = sym (h refl refl)
 only-there false m n h = refl
 
 -- of the turns of two sets those stay at which a formula turns
-pub turned-formula : (f : Formula) (a b all kept : List ℕ) → ((x : ℕ) → member nat_cmp all x ≡ (member nat_cmp a x || member nat_cmp b x))
+pub turned-formula : (f : Formula) (a b all kept : List ℕ)
+    → ((x : ℕ) → member nat_cmp all x ≡ (member nat_cmp a x || member nat_cmp b x))
     → kept ≡ filter (turned (λ y. says f (along (member nat_cmp a) y) (along (member nat_cmp b) y))) all
     → (x : ℕ) → along (member nat_cmp kept) x ≡ says f (along (member nat_cmp a) x) (along (member nat_cmp b) x)
 turned-formula f a b all kept either stays x =

@@ -8,4 +8,5 @@ use Rattle.users.proofs.intervals.Intervals.between.Goals as goal
 pub returns-clause-numbers : goal.returns-clause-numbers
 returns-clause-numbers g c =
     turned-between c.args.least c.args.end c.insert.new.self (search arith)
-    (λ x. c.in_ok-insert.ensures.members x ∙ ap (λ l. eq_by_cmp nat_cmp c.args.end x || member nat_cmp l x) c.in_ok-turns.ensures.element)
+    (λ x. c.in_ok-insert.ensures.members x
+    ∙ ap (λ l. eq_by_cmp nat_cmp c.args.end x || member nat_cmp l x) c.in_ok-turns.ensures.element)

@@ -14,5 +14,6 @@ returns g c =
     let ascends = subst (Ascends nat_cmp) (sym c.as_ref.ensures.elements) c.as_ref.ensures.ascends in
     let point = IsPartitionPoint-from_clause (λ y. leb y c.args.x) _ _ c.partition_point-turns_before.ensures.partitioned
     (IsPartitionedBy-leb (λ y. y) turns c.args.x (non_decreasing_from_sorted turns ascends)) (λ a r q k. search rules) in
-    counted-holds turns c.partition_point-turns_before.result c.args.x ascends c.partition_point-turns_before.ensures.bound point ∙
+    counted-holds turns c.partition_point-turns_before.result c.args.x ascends
+    c.partition_point-turns_before.ensures.bound point ∙
     ap (λ l. along (member nat_cmp l) c.args.x) c.as_ref.ensures.elements
