@@ -1,3 +1,4 @@
 pub mod Tags
 pub mod Changes
 pub mod Stock
+pub mod Overlays

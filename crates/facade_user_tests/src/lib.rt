@@ -11,6 +11,7 @@ pub mod ledgers;
 pub mod loading;
 pub mod maps;
 pub mod one_tree;
+pub mod overlays;
 pub mod sets;
 pub mod trees;
 pub mod walks;
