@@ -28,6 +28,7 @@ use Rattle.vc_tree_model.proofs.Walking.{walk-is}
 use Rattle.vc_tree_nodes.specs.Children.{seen}
 use Rattle.definition_tests.proofs.Digits.{same, not_true}
 use Rattle.definition_tests.proofs.Letters.{Letter, a, b, by_letter, each_key, leaf, a_and_ab}
+use Rattle.vc_tree_removal.specs.Without.{IsWithout}
 
 -- ---- keys and values
 
@@ -130,6 +131,15 @@ is_updated = record {
 
 is_inserted : IsInserted {V = ℕ} by_letter same (a ∷ b ∷ []) 2 (leaf (a ∷ []) 1) (a_and_ab 1 2)
 is_inserted = is_updated
+
+-- a*(b*) without ab is a*
+is_without : IsWithout {V = ℕ} by_letter same (a ∷ b ∷ []) (lookup by_letter (a_and_ab 1 2))
+    (lookup by_letter (leaf (a ∷ []) 1))
+is_without = record {
+  at = each_key _ (λ e. not_true e) (λ e. not_true e) (λ k e. not_true e) (λ e. refl) (λ y k e. not_true e)
+      (λ e. not_true e) (λ y k e. not_true e);
+  others = each_key _ (λ e. tt) (λ e. refl) (λ k e. tt) (λ e. not_true (sym e)) (λ y k e. tt) (λ e. tt) (λ y k e. tt);
+}
 
 -- what the last pair of a key says counts
 last_of_b : last_bound {V = ℕ} by_letter ((b ∷ [], 1) ∷ (a ∷ [], 2) ∷ (b ∷ [], 3) ∷ []) (b ∷ []) ≡ Some 3

@@ -7,7 +7,8 @@ ghost use Rattle.vec_collections.specs.Commanded.{command_of};
 ghost use Rattle.vec_collections.specs.Machine.{Run};
 ghost use Rattle.vec_collections.specs.Map.{lookup, or_else, IsInserted};
 ghost use Rattle.vec_collections.specs.Tree.{made, no_tree, is_bare};
-ghost use Rattle.vec_collections.specs.Value.{Copies};
+ghost use Rattle.vec_collections.specs.Value.{Copies, IsKept};
+ghost use Rattle.vec_collections.specs.Without.{IsWithout};
 
 use std::alloc::{AllocError, Global};
 use std::marker::Model;
@@ -36,6 +37,16 @@ pub fn set_shared_port(
     let had = ports.get(server).copied();
     ports.insert(server, port)?;
     Ok(had)
+}
+
+/// Takes the port of a server away, and answers it.
+#[tactic(auto, using(vec_collections::specs::Exact::exactly))]
+pub fn forget_port(ports: &mut Ports, server: &[u8]) -> Result<Option<u32>, AllocError>
+    ensures had { IfOk result (IsKept (λ x y. x ≡ y) (lookup nat_cmp ports.old server.now)) }
+    ensures gone { OnOk result (IsWithout nat_cmp (λ x y. x ≡ y) server.now
+        (lookup nat_cmp ports.old) (lookup nat_cmp ports.new)) }
+{
+    ports.remove(server)
 }
 
 /// Changes the ports, one change after another, and says which changes were made.

@@ -15,6 +15,7 @@ enum Call {
     Leaf,
     Single,
     Insert,
+    Remove,
     Slices,
     Shared,
     Walk,
@@ -23,10 +24,11 @@ enum Call {
     Restrict,
 }
 
-const CALLS: [Call; 9] = [
+const CALLS: [Call; 10] = [
     Call::Leaf,
     Call::Single,
     Call::Insert,
+    Call::Remove,
     Call::Slices,
     Call::Shared,
     Call::Walk,
@@ -111,6 +113,7 @@ fn make<'a, T: AbstractRadixTreeMut<u8, Counted<'a>> + Clone>(
         Call::Leaf => drop(T::leaf(alloc, Counted::new(6, tally))),
         Call::Single => drop(T::single(alloc, b"ab", Counted::new(6, tally))?),
         Call::Insert => tree.insert(b"abcd", Counted::new(6, tally))?,
+        Call::Remove => drop(tree.remove(b"ab")?),
         Call::Slices => collect(alloc, false, tally)?,
         Call::Shared => collect(alloc, true, tally)?,
         Call::Walk => walk(kept, 4)?,

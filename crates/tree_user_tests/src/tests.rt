@@ -465,6 +465,37 @@ fn is_refused_beside_a_copy_alone<'a, T: AbstractRadixTreeMut<u8, Counted<'a>> +
     Ok(is_refused && is_unchanged && is_granted && is_bound)
 }
 
+/// Takes keys out of the tree of the eight keys beside a copy, where each clone of a value is
+/// refused: such as are not bound, and `eeeef`, once beside the copy and once when it is gone.
+/// Answers whether the second alone was refused, and left both as they were.
+fn is_removed_without_a_copy<'a, T: AbstractRadixTreeMut<u8, Counted<'a>> + Clone>(
+    alloc: Global,
+    tally: &'a Tally,
+) -> Result<bool, AllocError> {
+    let mut tree = T::empty(alloc);
+    insert_eight(&mut tree, tally)?;
+    let copy = tree.clone()?;
+    tally.clones_left.set(0);
+    let mut is_right = true;
+    for key in ["", "aaaa", "bcd", "eeee", "z"] {
+        is_right = is_right && tree.remove(key.as_bytes())?.is_none();
+    }
+    is_right = is_right && tree.remove(b"eeeef").is_err() && has_eight(&tree) && has_eight(&copy);
+    drop(copy);
+    let removed = tree.remove(b"eeeef")?.map(|value| value.number);
+    Ok(is_right && removed == Some(8) && number_at(&tree, b"eeeef") == 0)
+}
+
+#[test]
+fn a_key_that_is_not_bound_copies_nothing(rt: HostRuntime) -> Result<(), Fail> {
+    let tally = Tally::new();
+    let is_right = is_removed_without_a_copy::<ArcRadixTree<u8, Counted>>(rt.alloc(), &tally)?;
+    assert!(rt; is_right);
+    let counts = (tally.clones.get(), tally.drops.get());
+    assert_eq!(rt; counts, (0, tally.made_and_cloned()));
+    Ok(())
+}
+
 #[test]
 fn a_refused_copy_leaves_the_same_map(rt: HostRuntime) -> Result<(), Fail> {
     for granted in 0..COPIED {

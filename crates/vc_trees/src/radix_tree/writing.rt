@@ -1,14 +1,15 @@
 //! The trait by which the two flavours are made and changed.
 
-ghost use Rattle.std.specs.Prelude.{◌≡◌, ◌≤◌, List, [], Some, length, IfOk, IsOk, OnOk, OnErr};
+ghost use Rattle.std.specs.Prelude.{◌≡◌, ◌≤◌, List, [], None, Some, length, IfOk, IsOk, OnOk, OnErr};
 ghost use Rattle.vc_tree_model.specs.Tree.{made, no_tree};
 ghost use Rattle.vc_tree_model.specs.Combine.{IsCombined, IsInnerAt, IsLeftAt, IsOuterAt, IsUnionAt, IsIntersectionAt, IsDifferenceAt};
 ghost use Rattle.vc_tree_model.specs.Cover.{IsRemoved, IsRetained};
-ghost use Rattle.vc_tree_model.specs.Value.{Copies};
+ghost use Rattle.vc_tree_model.specs.Value.{Copies, IsKept};
 ghost use Rattle.vc_tree_model.specs.Map.{HaveEqualMaps, IsEqualMap, IsInserted, lookup};
 ghost use Rattle.vc_tree_model.specs.Canonical.{IsCanonical};
 ghost use Rattle.vc_tree_model.specs.Same.{IsAlike};
 ghost use Rattle.vc_tree_model.specs.Under.{prefixed, under};
+ghost use Rattle.vc_tree_removal.specs.Without.{IsWithout};
 ghost use Rattle.vc_tree_edits.specs.Editing.{MayLeave, CanLeave, KeptThen, CanMeet, OrStays, CanJudge, MayJudge};
 
 use crate::radix_tree::reading::AbstractRadixTree;
@@ -22,6 +23,7 @@ use vc_tree_nodes::insertion;
 use vc_tree_nodes::plain::RadixTree;
 use vc_tree_nodes::reading::{TKey, TValue};
 use vc_tree_nodes::shared::ArcRadixTree;
+use vc_tree_removal::removal;
 use vc_tree_walks::filtering;
 
 /// A radix tree to be made and changed: the two flavours, and no other type.
@@ -78,6 +80,32 @@ pub trait AbstractRadixTreeMut<K: TKey, V: TValue>: CloneTree<K, V> + AbstractRa
         ensures canonical { IsCanonical K.cmp (Self.tree self.new) }
     {
         insertion::insert(self, key, value)
+    }
+
+    /// Takes the key out, and answers the value that it had, or none where it was not bound. The
+    /// other keys keep their values.
+    ///
+    /// A key that is not bound costs the look-up alone: no memory is asked for, and nothing is
+    /// copied. Fails only where memory is refused, for the joined prefix of a node that is left
+    /// with one child or for the copy of shared children, or where the clone of a value of those is
+    /// refused; the tree then has the nodes that it had, and binds what it bound.
+    ///
+    /// Compares each component of the key at most once, but for two halving searches among the
+    /// children of each node on the way.
+    final fn remove(&mut self, key: &[K]) -> Result<Option<V>, AllocError>
+        ensures old { IfOk result
+            (IsKept Self.keeps (lookup K.cmp (Self.tree self.old) key.now)) }
+        ensures ok { OnOk result (IsWithout K.cmp Self.keeps key.now
+            (lookup K.cmp (Self.tree self.old)) (lookup K.cmp (Self.tree self.new))) }
+        ensures absent { lookup K.cmp (Self.tree self.old) key.now ≡ None
+            → Self.tree self.new ≡ Self.tree self.old }
+        ensures err { OnErr result
+            (HaveEqualMaps K.cmp Self.keeps (Self.tree self.old) (Self.tree self.new)) }
+        ensures err_nodes { OnErr result
+            (IsAlike Self.keeps (Self.tree self.old) (Self.tree self.new)) }
+        ensures canonical { IsCanonical K.cmp (Self.tree self.new) }
+    {
+        removal::remove(self, key)
     }
 
     /// A fresh tree of the keys that start with the prefix, whole, with copies of their values; the

@@ -1,0 +1,4 @@
+pub mod Withouts
+pub mod Lists
+pub mod Removing
+pub mod Reaching

@@ -1,0 +1,463 @@
+-- The events of a removal: what each makes of a node.
+--     solid-itself, solid-without, many-solid        a value or at least two children
+--     value-removed, own-removed, lone-removed        the value of a node goes
+--     leaf-removed, loses-removed, pair-removed        a leaf of its children goes
+--     lost, lost-canonical, part-solid, became        the parts of a node that loses a child, or becomes one
+--     child-removed, leads-bound, leads-deep, list-removed, list-alike        a key of a child goes
+--     removed-respelled        an equal key
+use Rattle.std.proofs.Common.{◌≡◌, ℕ, zero, suc, ◌+◌, ◌<◌, ◌≤◌, [], ◌∷◌, ◌++◌, List, Option, None, Some, refl, sym, ap}
+use Rattle.std.proofs.Common.{subst, ◌∙◌, arith, get_or, set, map, take, length, append-nil, true, false, true≢false, is_some}
+use Rattle.std.proofs.Common.{Bor}
+use Rattle.std.proofs.lemmas.List.{take-take}
+use Rattle.std.proofs.Math.Seq.{take-append_seam, take-length}
+use Rattle.std.specs.Cmp.{IsTotalOrder, Equal-is}
+use Rattle.std.specs.List.{remove}
+use Rattle.std.specs.Option.{option_copied, option_map}
+use Rattle.std.specs.Prelude.{IfOk, IsSome, OnErr, Result, Ok, Err}
+use Rattle.std.specs.declared.cmp.Ordering.{Ordering}
+use Rattle.std.specs.declared.cmp.Ordering.TheVariants.{Equal}
+use Rattle.vc_tree_model.specs.Key.{same_key}
+use Rattle.vc_tree_model.specs.Value.{IsKept}
+use Rattle.vc_tree_model.specs.Tree.{Tree, Forest, bare, grow, forest, node, trees}
+use Rattle.vc_tree_model.specs.Map.{node_lookup, lookup, lookup_in}
+use Rattle.vc_tree_model.specs.Canonical.{IsSolid, AreChildren, IsCanonical}
+use Rattle.vc_tree_model.specs.Child.{IsChild, solid_child}
+use Rattle.vc_tree_model.specs.Look.{values}
+use Rattle.vc_tree_model.specs.Same.{IsAlike, IsAlikeIn}
+use Rattle.vc_tree_model.specs.Snapshot.{alike_refl, kept_itself}
+use Rattle.vc_tree_model.proofs.AlikeLemmas.{alike-children, alike-lookup, alike-solid, alike-trans, tree-alike_lookup}
+use Rattle.vc_tree_model.proofs.Joining.{joined-same, joined-child}
+use Rattle.vc_tree_model.proofs.KeyLemmas.{behind-itself, same-prepended, none-some}
+use Rattle.vc_tree_model.proofs.LookupLemmas.{lookup-same}
+use Rattle.vc_tree_model.proofs.Places.{look}
+use Rattle.vc_tree_model.proofs.ValueLemmas.{kept-refl, kept-trans}
+use Rattle.vc_tree_nodes.specs.Growth.{IsGrown}
+use Rattle.vc_tree_nodes.specs.Places.{LeadsTo, child_first}
+use Rattle.vc_tree_nodes.proofs.Events.{leads-agree, leads-kept, leads-within, kept-children, length-kept, node-equal}
+use Rattle.vc_tree_nodes.proofs.Finding.{lookup_in-at}
+use Rattle.vc_tree_nodes.proofs.Growing.{children-set, alike-set, solid-canonical, solid-length}
+use Rattle.vc_tree_removal.specs.Without.{IsWithout}
+use Rattle.vc_tree_removal.specs.Taking.{tree_at, without, gone, AreSome, IsDeep, IsLeafAt, Removed, RemovedIn}
+use Rattle.vc_tree_removal.specs.Taking.{Becomes, Loses, Parts, Takes}
+use Rattle.vc_tree_removal.proofs.Lists.{at-alike, trees-alike, without-alike_in, children-without, without-map, tree_at-map}
+use Rattle.vc_tree_removal.proofs.Lists.{deep-alike, parts-first, remove-long}
+use Rattle.vc_tree_removal.proofs.Withouts.{at-children, value-at, without-leaf, without-set, without-behind}
+use Rattle.vc_tree_removal.proofs.Withouts.{without-value, without-children, without-alike, without-respelled}
+
+-- what follows from each outcome, of which the good one has a value
+pub if-both : {X E B C : Type 0} {P : X → Type 0} (r : Result X E) → IfOk r P → OnErr r B → ((x : X) → P x → C)
+    → (B → C) → C
+if-both (Ok x) a b f g = f x a
+if-both (Err e) a b f g = g b
+
+-- what holds of the value of one outcome, where it follows
+pub if-ok : {X E : Type 0} {P Q : X → Type 0} (r : Result X E) → ((x : X) → P x → Q x) → IfOk r P → IfOk r Q
+if-ok (Ok x) f a = f x a
+if-ok (Err e) f a = tt
+
+-- what keeps a value is one
+some-kept : {V : Type 0} (keeps : V → V → Type 0) (a b : Option V) → IsKept keeps a b → IsSome a → IsSome b
+some-kept keeps (Some v) (Some w) k s = refl
+some-kept keeps (Some v) None k s = absurd k
+some-kept keeps None b k s = absurd (true≢false (sym s))
+
+-- a value behind a reference is there where the reference is
+pub some-copied : {V : Type 0} (o : Option (Bor V)) (v : Option V) → option_copied o ≡ v → is_some o ≡ true → v ≡ None → ⊥
+some-copied (Some w) v e s n = none-some w.now (sym (e ∙ n))
+some-copied None v e s n = true≢false (sym s)
+
+pub none-copied : {V : Type 0} (o : Option (Bor V)) (v : Option V) → option_copied o ≡ v → is_some o ≡ false → v ≡ None
+none-copied (Some w) v e s = absurd (true≢false s)
+none-copied None v e s = sym e
+
+module _ {K V : Type 0} where
+  -- the node of a value or of at least two children stays as a child
+  pub solid-itself : (p : List K) (v : Option V) (f : Forest K V) → IsSolid v f → solid_child p v f ≡ Some (node p v f)
+  solid-itself p (Some v) f s = refl
+  solid-itself p None bare s = absurd s
+  solid-itself p None (grow q w more bare) s = absurd s
+  solid-itself p None (grow q w more (grow r u most rest)) s = refl
+
+  -- a node that becomes a child begins as it did
+  child-begins : (p : List K) (v : Option V) (f : Forest K V) (u : Tree K V) → solid_child p v f ≡ Some u
+      → take (length p) u.prefix ≡ take (length p) p
+  child-begins p (Some v) f u e =
+      let k : node p (Some v) f ≡ u = cc in ap (λ t. take (length p) t.prefix) (sym k)
+  child-begins p None bare u e = none-some u e
+  child-begins p None (grow q w more bare) u e =
+      let k : node (p ++ q) w more ≡ u = cc in
+      ap (λ t. take (length p) t.prefix) (sym k) ∙ take-append_seam p q ∙ sym (take-length p)
+  child-begins p None (grow q w more (grow r x most rest)) u e =
+      let k : node p None (grow q w more (grow r x most rest)) ≡ u = cc in
+      ap (λ t. take (length p) t.prefix) (sym k)
+
+  -- a lone child, with the prefix of its parent before its own
+  lone : (p : List K) (v : Option V) (f : Forest K V) (c : Tree K V) → length (trees f) ≡ 1 → tree_at f 0 ≡ Some c
+      → (solid_child p None f ≡ Some (node (p ++ c.prefix) c.value c.children)) × (gone v (tree_at (without f 0) 0) ≡ v)
+  lone p v bare c n e = none-some c e
+  lone p v (grow q w more bare) c n e =
+      let k : node q w more ≡ c = cc in (ap (λ t. Some (node (p ++ t.prefix) t.value t.children)) k, refl)
+  lone p v (grow q w more (grow x u most rest)) c n e = absurd (omega (arith, n))
+
+  -- one of two children, without the other
+  pair : (p : List K) (f : Forest K V) (i j : ℕ) (c : Tree K V) → length (trees f) ≡ 2 → i + j ≡ 1
+      → tree_at f j ≡ Some c
+      → (d : Tree K V) × ((tree_at f i ≡ Some d) × (gone None (tree_at (without f j) 0) ≡ d.value)
+      × (solid_child p None (without f i) ≡ Some (node (p ++ c.prefix) c.value c.children)))
+  pair p bare i j c n one e = none-some c e
+  pair p (grow q w more bare) i j c n one e = absurd (omega (arith, n))
+  pair p (grow q w more (grow x u most (grow y s rest others))) i j c n one e = absurd (omega (arith, n))
+  pair p (grow q w more (grow x u most bare)) zero zero c n one e = absurd (omega (arith, one))
+  pair p (grow q w more (grow x u most bare)) zero (suc (suc j)) c n one e = absurd (omega (arith, one))
+  pair p (grow q w more (grow x u most bare)) (suc i) (suc j) c n one e = absurd (omega (arith, one))
+  pair p (grow q w more (grow x u most bare)) (suc (suc i)) zero c n one e = absurd (omega (arith, one))
+  pair p (grow q w more (grow x u most bare)) zero (suc zero) c n one e =
+      let k : node x u most ≡ c = cc in
+      (node q w more, (refl, refl, ap (λ t. Some (node (p ++ t.prefix) t.value t.children)) k))
+  pair p (grow q w more (grow x u most bare)) (suc zero) zero c n one e =
+      let k : node q w more ≡ c = cc in
+      (node x u most, (refl, refl, ap (λ t. Some (node (p ++ t.prefix) t.value t.children)) k))
+
+  -- a node that has a value, or more than two children, can do without one of them
+  pub solid-without : (v : Option V) (f : Forest K V) (i : ℕ) → IsSolid v f → (v ≡ None → length (trees f) ≡ 2 → ⊥)
+      → IsSolid v (without f i)
+  solid-without (Some v) f i s n = tt
+  solid-without None bare i s n = absurd s
+  solid-without None (grow q w more bare) i s n = absurd s
+  solid-without None (grow q w more (grow x u most bare)) i s n = absurd (n refl (omega arith))
+  solid-without None (grow q w more (grow x u most (grow y z rest others))) zero s n = tt
+  solid-without None (grow q w more (grow x u most (grow y z rest others))) (suc zero) s n = tt
+  solid-without None (grow q w more (grow x u most (grow y z rest others))) (suc (suc i)) s n = tt
+
+  -- children that are no lone one are two at least
+  pub many-solid : (f : Forest K V) → AreSome f → (length (trees f) ≡ 1 → ⊥) → IsSolid None f
+  many-solid bare s n = absurd s
+  many-solid (grow q w more bare) s n = absurd (n (omega arith))
+  many-solid (grow q w more (grow x u most rest)) s n = tt
+
+  -- what is alike to a leaf is one
+  leaf-alike : (keeps : V → V → Type 0) (q : List K) (value : V) (c : Tree K V)
+      → IsAlike keeps (node q (Some value) bare) c
+      → (w : V) × ((c ≡ node q (Some w) bare) × keeps value w)
+  leaf-alike keeps q value c a = by c.prefix c.value c.children a
+    where
+      by : (p : List K) (v : Option V) (kids : Forest K V) → IsAlike keeps (node q (Some value) bare) (node p v kids)
+          → (w : V) × ((node p v kids ≡ node q (Some w) bare) × keeps value w)
+      by p (Some w) bare a = (w, (ap (λ l. node l (Some w) bare) (sym a.0), a.1))
+      by p None kids a = absurd a.1
+      by p (Some w) (grow r x more rest) a = absurd a.2
+
+module _ {K V : Type 0} (cmp : K → K → Ordering) (keeps : V → V → Type 0) (r : (v : V) → keeps v v)
+    (trans : (u v w : V) → keeps u v → keeps v w → keeps u w) (o : IsTotalOrder cmp) where
+  -- a key behind the prefix is looked up in the children
+  lookup-behind : (p : List K) (v : Option V) (f : Forest K V) (k : List K)
+      → lookup cmp (node p v f) (p ++ k) ≡ node_lookup v (lookup_in cmp f) (Some k)
+  lookup-behind p v f k = ap (node_lookup v (lookup_in cmp f)) (behind-itself cmp o p k)
+
+  -- what is made of a node, as a child, is without the key where the node is
+  settled : (t u : Tree K V) (rest : List K) (value : Option V) (w : Option V) (f g : Forest K V)
+      → AreChildren cmp g → IsAlikeIn keeps t.children f → IsKept keeps (lookup cmp t (t.prefix ++ rest)) value
+      → IsWithout cmp keeps rest (lookup cmp (node [] t.value f)) (lookup cmp (node [] w g))
+      → solid_child t.prefix w g ≡ Some u → Removed cmp keeps t (t.prefix ++ rest) value u
+  settled t u rest value w f g a alike taken h e =
+      let child : IsChild cmp (Some u) = subst (IsChild cmp) e (joined-child cmp t.prefix w g a) in
+      let reads : (k : List K) → lookup cmp (node t.prefix w g) k ≡ lookup cmp u k =
+      λ k. sym (joined-same cmp (values cmp) t.prefix w g k a) ∙ ap (λ s. look cmp (values cmp) s k) e in
+      let behind_it =
+      without-alike cmp keeps trans (t.prefix ++ rest) (lookup cmp t) (lookup cmp (node t.prefix t.value f))
+      (lookup cmp (node t.prefix w g))
+      (tree-alike_lookup keeps cmp t (node t.prefix t.value f) (refl, kept_itself keeps r t.value, alike))
+      (without-behind cmp keeps rest t.value w f g h t.prefix) in
+      record {
+        taken = taken;
+        without = record {
+          at = λ k s. sym (reads k) ∙ behind_it.at k s;
+          others = λ k s. subst (IsKept keeps (lookup cmp t k)) (reads k) (behind_it.others k s);
+        };
+        grown = record {
+          begins = child-begins t.prefix w g u e;
+          solid = child.0;
+          children = child.1;
+        };
+      }
+
+  -- the value of a node goes
+  pub value-removed : (t u : Tree K V) (f : Forest K V) (value : Option V) → AreChildren cmp t.children
+      → IsAlikeIn keeps t.children f → value ≡ t.value → solid_child t.prefix None f ≡ Some u
+      → Removed cmp keeps t t.prefix value u
+  value-removed t u f value a alike v e =
+      subst (λ k. Removed cmp keeps t k value u) (append-nil t.prefix)
+      (settled t u [] value None f f (alike-children keeps cmp t.children f alike a) alike
+      (rw (lookup-behind t.prefix t.value t.children [], v) (kept-refl keeps r t.value))
+      (without-value cmp keeps r t.value f) e)
+
+  -- an equal key goes
+  pub removed-respelled : (t u : Tree K V) (j key : List K) (value : Option V) → same_key cmp j key ≡ true
+      → Removed cmp keeps t j value u → Removed cmp keeps t key value u
+  removed-respelled t u j key value s h = record {
+    taken = subst (λ l. IsKept keeps l value) (lookup-same cmp o t j key s) h.taken;
+    without = without-respelled cmp keeps o j key (lookup cmp t) (lookup cmp u) s h.without;
+    grown = h.grown;
+  }
+
+  -- a leaf of the children goes
+  pub leaf-removed : (t u c : Tree K V) (f : Forest K V) (i : ℕ) (rest : List K) (value : Option V)
+      → AreChildren cmp t.children → IsLeafAt cmp t.children rest i → IsAlikeIn keeps t.children f
+      → tree_at f i ≡ Some c → value ≡ c.value → solid_child t.prefix t.value (without f i) ≡ Some u
+      → AreChildren cmp (without f i)
+      → Removed cmp keeps t (t.prefix ++ rest) value u
+  leaf-removed t u c f i rest value a leaf alike at v e others =
+      let both = leaf-alike keeps leaf.prefix leaf.value c
+      (at-alike keeps t.children f i (node leaf.prefix (Some leaf.value) bare) c alike leaf.is at) in
+      let kids = alike-children keeps cmp t.children f alike a in
+      let is : tree_at f i ≡ Some (node leaf.prefix (Some both.0) bare) = at ∙ ap Some both.1.0 in
+      removed-respelled t u (t.prefix ++ leaf.prefix) (t.prefix ++ rest) value
+      (same-prepended cmp o t.prefix leaf.prefix rest leaf.same)
+      (by leaf.prefix both.0 (at-children cmp keeps f i (node leaf.prefix (Some both.0) bare) kids is) is
+      (value-at cmp keeps o t.children i leaf.prefix (Some leaf.value) bare a leaf.is)
+      (v ∙ ap (λ t. t.value) both.1.0) both.1.1)
+    where
+      by : (q : List K) (w : V) → AreChildren cmp (grow q (Some w) bare bare) → tree_at f i ≡ Some (node q (Some w) bare)
+          → lookup_in cmp t.children q ≡ Some leaf.value → value ≡ Some w → keeps leaf.value w
+          → Removed cmp keeps t (t.prefix ++ q) value u
+      by [] w b is found v k = absurd b
+      by (y ∷ q) w b is found v k =
+          settled t u (y ∷ q) value t.value f (without f i) others alike
+          (rw (lookup-behind t.prefix t.value t.children (y ∷ q), found, v) k)
+          (without-children cmp keeps r y q t.value f (without f i)
+          (without-leaf cmp keeps o r f i (y ∷ q) w (alike-children keeps cmp t.children f alike a) is)) e
+
+  -- ---- a child that is taken out
+
+  -- what a leaf that was taken out leaves
+  pub loses-removed : (t u : Tree K V) (i : ℕ) (rest : List K) (value : Option V) → AreChildren cmp t.children
+      → IsLeafAt cmp t.children rest i → IsSolid t.value (without t.children i) → Loses keeps t i value u
+      → Removed cmp keeps t (t.prefix ++ rest) value u
+  loses-removed t u i rest value a leaf solid lost =
+      let kids = alike-children keeps cmp t.children lost.kept lost.alike a in
+      let firm : IsSolid t.value (without lost.kept i) =
+      alike-solid keeps t.value t.value (without t.children i) (without lost.kept i) (kept_itself keeps r t.value)
+      (without-alike_in keeps t.children lost.kept i lost.alike) solid in
+      leaf-removed t u lost.child lost.kept i rest value a leaf lost.alike lost.at lost.value
+      (solid-itself t.prefix t.value (without lost.kept i) firm ∙ ap Some (sym lost.is))
+      (children-without cmp lost.kept i kids)
+
+  -- a lone child in the place of its parent
+  pub lone-removed : (t u : Tree K V) (value : Option V) → AreChildren cmp t.children → length (trees t.children) ≡ 1
+      → Becomes keeps t 0 value u → Removed cmp keeps t t.prefix value u
+  lone-removed t u value a n b =
+      let l = lone t.prefix t.value b.kept b.child (sym (trees-alike keeps t.children b.kept b.alike) ∙ n) b.at in
+      value-removed t u b.kept value a b.alike (b.value ∙ l.1) (l.0 ∙ ap Some (sym b.is))
+
+  -- one of two children in the place of its parent
+  pub pair-removed : (t u : Tree K V) (i j : ℕ) (rest : List K) (value : Option V) → AreChildren cmp t.children
+      → t.value ≡ None → length (trees t.children) ≡ 2 → i + j ≡ 1 → IsLeafAt cmp t.children rest i
+      → Becomes keeps t j value u → Removed cmp keeps t (t.prefix ++ rest) value u
+  pair-removed t u i j rest value a none n one leaf b =
+      let l =
+      pair t.prefix b.kept i j b.child (sym (trees-alike keeps t.children b.kept b.alike) ∙ n) one b.at in
+      let kids = alike-children keeps cmp t.children b.kept b.alike a in
+      leaf-removed t u l.0 b.kept i rest value a leaf b.alike l.1.0
+      (b.value ∙ ap (λ v. gone v (tree_at (without b.kept j) 0)) none ∙ l.1.1)
+      (ap (λ v. solid_child t.prefix v (without b.kept i)) none ∙ l.1.2 ∙ ap Some (sym b.is))
+      (children-without cmp b.kept i kids)
+
+  -- the value of a node that has no lone child goes
+  pub own-removed : (t u : Tree K V) (value : Option V) → AreChildren cmp t.children → IsSolid None t.children
+      → value ≡ t.value → u ≡ node t.prefix None t.children → Removed cmp keeps t t.prefix value u
+  own-removed t u value a solid v e =
+      value-removed t u t.children value a (alike_refl keeps r t.children) v
+      (solid-itself t.prefix None t.children solid ∙ ap Some (sym e))
+
+  module _ {T : Type 0} (tree : T → Tree K V) where
+    -- ---- the parts of a node
+
+    -- a node without one of its children
+    pub lost : (t u : Tree K V) (p : List K) (v : Option V) (old new : List T) (i : ℕ) (item : T) (value : Option V)
+        → p ≡ t.prefix → v ≡ t.value → forest (map tree old) ≡ t.children → i < length old
+        → u ≡ node p v (forest (map tree new)) → value ≡ (tree item).value → Takes keeps tree old i item new
+        → Loses keeps t i value u
+    lost t u p v old new i item value a b c h e d takes =
+        let long = length-kept keeps tree old takes.kept takes.alike in
+        record {
+          kept = forest (map tree takes.kept);
+          alike = subst (λ f. IsAlikeIn keeps f (forest (map tree takes.kept))) c takes.alike;
+          child = tree item;
+          at = tree_at-map tree takes.kept i item (omega (arith, h, long)) ∙ ap (λ x. Some (tree x)) (sym takes.item_is);
+          is =
+              e ∙ node-equal p t.prefix v t.value (forest (map tree new)) (without (forest (map tree takes.kept)) i) a b
+              (ap (λ l. forest (map tree l)) takes.is ∙ without-map tree takes.kept i);
+          value = d;
+        }
+
+    -- it is canonical where it can do without that child
+    pub lost-canonical : (t : Tree K V) (p : List K) (v : Option V) (old new : List T) (i : ℕ) (item : T)
+        → p ≡ t.prefix → v ≡ t.value → forest (map tree old) ≡ t.children → IsCanonical cmp t
+        → IsSolid t.value (without t.children i) → Takes keeps tree old i item new
+        → IsCanonical cmp (node p v (forest (map tree new)))
+    lost-canonical t p v old new i item a b c canonical solid takes =
+        let f = forest (map tree takes.kept) in
+        let alike : IsAlikeIn keeps t.children f = subst (λ g. IsAlikeIn keeps g f) c takes.alike in
+        let same : forest (map tree new) ≡ without f i =
+        ap (λ l. forest (map tree l)) takes.is ∙ without-map tree takes.kept i in
+        rw (a, b, same) (solid-canonical cmp t.prefix t.value (without f i)
+        (alike-solid keeps t.value t.value (without t.children i) (without f i) (kept_itself keeps r t.value)
+        (without-alike_in keeps t.children f i alike) solid)
+        (children-without cmp f i (alike-children keeps cmp t.children f alike canonical.1)))
+
+    -- a tree that is taken out of canonical children is solid
+    pub part-solid : (f : Forest K V) (old : List T) (i : ℕ) (item : T) (other : Option T) → forest (map tree old) ≡ f
+        → AreChildren cmp f → i < length old → Parts keeps tree old i item other
+        → IsSolid (tree item).value (tree item).children
+    part-solid f old i item other c a h parts =
+        let long = length-kept keeps tree old parts.kept parts.alike in
+        let kids =
+        alike-children keeps cmp (forest (map tree old)) (forest (map tree parts.kept)) parts.alike (rw c a) in
+        alone (tree item).prefix (tree item).value (tree item).children
+        (at-children cmp keeps (forest (map tree parts.kept)) i (tree item) kids
+        (tree_at-map tree parts.kept i item (omega (arith, h, long)) ∙ ap (λ x. Some (tree x)) (sym parts.item_is)))
+      where
+        alone : (p : List K) (v : Option V) (kids : Forest K V) → AreChildren cmp (grow p v kids bare) → IsSolid v kids
+        alone [] v kids b = absurd b
+        alone (x ∷ p) v kids b = b.0
+
+    -- a node that becomes one of its children
+    pub became : (t u first : Tree K V) (v value : Option V) (old : List T) (i : ℕ) (item : T) (other : Option T)
+        (joined : List K) → v ≡ t.value → forest (map tree old) ≡ t.children → i < length old → length old ≤ 2
+        → tree_at t.children i ≡ Some first → joined ≡ t.prefix ++ first.prefix
+        → u ≡ node joined (tree item).value (tree item).children → value ≡ gone v (option_map tree other)
+        → Parts keeps tree old i item other → Becomes keeps t i value u
+    became t u first v value old i item other joined b c h few at j e d parts =
+        let f = forest (map tree parts.kept) in
+        let long = length-kept keeps tree old parts.kept parts.alike in
+        let left = remove-long tree parts.kept i (omega (arith, h, long)) in
+        let alike : IsAlikeIn keeps t.children f = subst (λ g. IsAlikeIn keeps g f) c parts.alike in
+        let here : tree_at f i ≡ Some (tree item) =
+        tree_at-map tree parts.kept i item (omega (arith, h, long)) ∙ ap (λ x. Some (tree x)) (sym parts.item_is) in
+        let begins = (at-alike keeps t.children f i first (tree item) alike at here).0 in
+        record {
+          kept = f;
+          alike = alike;
+          child = tree item;
+          at = here;
+          is =
+              e ∙ ap (λ p. node p (tree item).value (tree item).children) (j ∙ ap (λ q. t.prefix ++ q) begins);
+          value =
+              d
+              ∙ ap (gone v) (sym (parts-first tree (remove parts.kept i) parts.rest other parts.is parts.ended
+              (omega (arith, left, few, long))))
+              ∙ ap (λ g. gone v (tree_at g 0)) (without-map tree parts.kept i)
+              ∙ ap (λ w. gone w (tree_at (without f i) 0)) b;
+        }
+
+    -- ---- a key of a child
+
+    -- a key of the children goes
+    pub child-removed : (t u : Tree K V) (p : List K) (v : Option V) (old new : List T) (rest : List K) (value : Option V)
+        (y : K) (q : List K)
+        → p ≡ t.prefix → v ≡ t.value → forest (map tree old) ≡ t.children → u ≡ node p v (forest (map tree new))
+        → IsSolid t.value t.children → rest ≡ y ∷ q → length new ≡ length old
+        → RemovedIn cmp keeps (forest (map tree old)) rest value (forest (map tree new))
+        → Removed cmp keeps t (t.prefix ++ rest) value u
+    child-removed t u p v old new rest value y q a b c e solid key n gone =
+        let g = forest (map tree new) in
+        let h : RemovedIn cmp keeps t.children (y ∷ q) value g =
+        subst (λ k. RemovedIn cmp keeps t.children k value g) key
+        (subst (λ f. RemovedIn cmp keeps f rest value g) c gone) in
+        subst (λ u. Removed cmp keeps t (t.prefix ++ rest) value u)
+        (sym (e ∙ node-equal p t.prefix v t.value g g a b refl))
+        (subst (λ k. Removed cmp keeps t (t.prefix ++ k) value (node t.prefix t.value g)) (sym key)
+        (record {
+          taken = rw (lookup-behind t.prefix t.value t.children (y ∷ q)) h.taken;
+          without =
+              without-behind cmp keeps (y ∷ q) t.value t.value t.children g
+              (without-children cmp keeps r y q t.value t.children g h.without) t.prefix;
+          grown = record {
+            begins = refl;
+            solid = solid-length tree t.value old new (sym n) (subst (IsSolid t.value) (sym c) solid);
+            children = h.children;
+          };
+        }))
+
+    -- a node that begins as far, begins with one component
+    grown-one : (n : ℕ) (t u : Tree K V) → 1 ≤ n → IsGrown cmp n t u → IsGrown cmp 1 t u
+    grown-one n t u h g = record {
+      begins = sym (take-take 1 n u.prefix h) ∙ ap (take 1) g.begins ∙ take-take 1 n t.prefix h;
+      solid = g.solid;
+      children = g.children;
+    }
+
+    module _ (old kept : List T) (i : ℕ) (rest : List K) (leads : LeadsTo cmp (forest (map tree old)) rest i)
+        (alike : IsAlikeIn keeps (forest (map tree old)) (forest (map tree kept)))
+        (canonical : AreChildren cmp (forest (map tree old))) where
+      here-kept : child_first (forest (map tree kept)) i ≡ Some leads.begins.here
+      here-kept = leads-kept cmp keeps r trans o tree old kept i rest leads alike canonical
+
+      kids-kept : AreChildren cmp (forest (map tree kept))
+      kids-kept = kept-children cmp keeps r trans o tree old kept i rest leads alike canonical
+
+      within-kept : i < length kept
+      within-kept = leads-within cmp keeps r trans o tree old kept i rest leads alike canonical
+
+      begins-equal : cmp leads.begins.here leads.first ≡ Equal
+      begins-equal = (Equal-is (cmp leads.begins.here leads.first)).0 leads.begins.equal
+
+      -- the list binds the key as the tree does that it leads to
+      found-kept : (child : T) → child ≡ get_or kept i child
+          → lookup_in cmp (forest (map tree kept)) rest ≡ lookup cmp (tree child) rest
+      found-kept child is =
+          rw leads.key_is
+          (lookup_in-at cmp tree o kept i child leads.begins.here leads.first leads.others kids-kept here-kept begins-equal
+          ∙ ap (λ c. lookup cmp (tree c) (leads.first ∷ leads.others)) (sym is))
+
+      -- and so it is bound there
+      pub leads-bound : (child : T) → child ≡ get_or kept i child → IsSome (lookup_in cmp (forest (map tree old)) rest)
+          → IsSome (lookup cmp (tree child) rest)
+      leads-bound child is s =
+          subst IsSome (found-kept child is)
+          (some-kept keeps _ _ (alike-lookup keeps cmp (forest (map tree old)) (forest (map tree kept)) alike rest) s)
+
+      -- it has children where the old one has
+      pub leads-deep : (child : T) → child ≡ get_or kept i child → IsDeep (tree_at (forest (map tree old)) i)
+          → AreSome (tree child).children
+      leads-deep child is s =
+          subst (λ d. IsDeep d) (tree_at-map tree kept i child within-kept ∙ ap (λ x. Some (tree x)) (sym is))
+          (deep-alike keeps (forest (map tree old)) (forest (map tree kept)) i alike s)
+
+      module _ (child item : T) (new : List T) (is : child ≡ get_or kept i child) (set_is : new ≡ set kept i item) where
+        -- the list without the key
+        pub list-removed : (value : Option V) → Removed cmp keeps (tree child) rest value (tree item)
+            → RemovedIn cmp keeps (forest (map tree old)) rest value (forest (map tree new))
+        list-removed value h =
+            let long =
+            (leads-agree cmp keeps r trans o tree old kept i rest leads alike canonical child is).within_prefix in
+            record {
+              taken =
+                  kept-trans keeps trans (lookup_in cmp (forest (map tree old)) rest)
+                  (lookup_in cmp (forest (map tree kept)) rest) value
+                  (alike-lookup keeps cmp (forest (map tree old)) (forest (map tree kept)) alike rest)
+                  (subst (λ l. IsKept keeps l value) (sym (found-kept child is)) h.taken);
+              without =
+                  rw (leads.key_is, set_is)
+                  (without-alike cmp keeps trans (leads.first ∷ leads.others) (lookup_in cmp (forest (map tree old)))
+                  (lookup_in cmp (forest (map tree kept))) (lookup_in cmp (forest (map tree (set kept i item))))
+                  (alike-lookup keeps cmp (forest (map tree old)) (forest (map tree kept)) alike)
+                  (without-set cmp keeps o r tree kept i item child leads.begins.here leads.first leads.others
+                  here-kept begins-equal kids-kept
+                  (subst (λ c. IsWithout cmp keeps (leads.first ∷ leads.others) (lookup cmp (tree c))
+                  (lookup cmp (tree item))) is
+                  (subst (λ k. IsWithout cmp keeps k (lookup cmp (tree child)) (lookup cmp (tree item)))
+                  leads.key_is h.without))));
+              children =
+                  rw set_is (children-set cmp tree kept i item child
+                  (subst (λ c. IsGrown cmp 1 (tree c) (tree item)) is
+                  (grown-one (length (tree child).prefix) (tree child) (tree item) long h.grown)) kids-kept);
+            }
+
+        -- the list is alike where that tree is
+        pub list-alike : IsAlike keeps (tree child) (tree item)
+            → IsAlikeIn keeps (forest (map tree old)) (forest (map tree new))
+        list-alike h =
+            rw set_is (alike-trans keeps trans (forest (map tree old)) (forest (map tree kept))
+            (forest (map tree (set kept i item))) alike
+            (alike-set keeps r tree kept i item child (subst (λ c. IsAlike keeps (tree c) (tree item)) is h)))

@@ -1,0 +1,222 @@
+-- The recursion of a removal: what is left of the key is bound below, and each call goes to a child that it leads to.
+use Rattle.std.proofs.Common.{refl, sym, ap, subst, ◌∙◌, arith, drop, is_ok, length, map, rules}
+use Rattle.std.proofs.Math.ListN.{length-set}
+use Rattle.vc_tree_model.specs.Canonical.{AreChildren, IsCanonical}
+use Rattle.vc_tree_model.specs.Tree.{forest}
+use Rattle.vc_tree_model.proofs.KeyLemmas.{behind-joins}
+use Rattle.vc_tree_nodes.specs.Children.{listed}
+use Rattle.vc_tree_nodes.specs.Places.{BeginsAt, IsGapAt, LeadsTo}
+use Rattle.vc_tree_nodes.proofs.Events.{on-err, parts-canonical, leads-within, leads-solid, leads-nodes, length-kept}
+use Rattle.vc_tree_nodes.proofs.Finding.{begins-below}
+use Rattle.vc_tree_nodes.proofs.Growing.{solid-canonical}
+use Rattle.vc_tree_removal.specs.Taking.{AreSome}
+use Rattle.vc_tree_removal.proofs.Lists.{empty-false, empty-true, none-seen, some-seen}
+use Rattle.vc_tree_removal.proofs.Reaching.{bound-within, deep-found, first-is, leaf-found, none-first, rest-bound, rest-ended}
+use Rattle.vc_tree_removal.proofs.Reaching.{rest-reaches}
+use Rattle.vc_tree_removal.proofs.Removing.{child-removed, if-both, if-ok, leads-bound, leads-deep, list-alike, list-removed}
+use Rattle.vc_tree_removal.proofs.Removing.{removed-respelled}
+use Rattle.vc_tree_removal.proofs.removal.+removal.Goals as goal
+
+pub remove_below-assemble-requires : goal.remove_below-assemble-requires
+remove_below-assemble-requires g t c =
+    let tree = g.T.RadixNode.tree in
+    let prefix = c.take_apart-prefix.ensures.prefix ∙ ap (λ t. (tree t).prefix) c.replace-node.ensures.value in
+    let value = c.take_apart-prefix.ensures.value ∙ ap (λ t. (tree t).value) c.replace-node.ensures.value in
+    let children =
+    ap (λ o. forest (map tree (listed g.T.Children.ChildList.items o))) (sym c.in-Some.is) ∙
+    c.take_apart-prefix.ensures.children ∙ ap (λ t. (tree t).children) c.replace-node.ensures.value in
+    let canonical =
+    subst (λ t. IsCanonical g.K.Ord.cmp (tree t)) c.replace-node.ensures.value c.take_apart-prefix.ensures.canonical in
+    if-both c.remove_in-done.result c.remove_in-done.ensures.ok c.remove_in-done.ensures.err
+    (λ taken removed.
+    let whole = child-removed g.K.Ord.cmp g.T.Build.keeps g.met.T.Build.keeps_refl g.met.T.Build.keeps_trans
+    g.met.K.Ord.total tree (tree c.args.tree.now) _ _ _ _ _ c.args.rest.now taken c.requires.leads.first
+    c.requires.leads.others prefix value children refl c.requires.solid c.requires.leads.key_is
+    c.remove_in-done.ensures.as_many removed in
+    solid-canonical g.K.Ord.cmp _ _ _ whole.grown.solid whole.grown.children)
+    (λ alike. parts-canonical g.K.Ord.cmp g.T.Build.keeps g.met.T.Build.keeps_refl g.met.T.Build.keeps_trans
+    g.met.K.Ord.total tree (tree c.args.tree.now) _ _ _ _ prefix value children canonical alike)
+
+pub remove_below-returns-clause-ok : goal.remove_below-returns-clause-ok
+remove_below-returns-clause-ok g t c =
+    let tree = g.T.RadixNode.tree in
+    let prefix = c.take_apart-prefix.ensures.prefix ∙ ap (λ t. (tree t).prefix) c.replace-node.ensures.value in
+    let value = c.take_apart-prefix.ensures.value ∙ ap (λ t. (tree t).value) c.replace-node.ensures.value in
+    let children =
+    ap (λ o. forest (map tree (listed g.T.Children.ChildList.items o))) (sym c.in-Some.is) ∙
+    c.take_apart-prefix.ensures.children ∙ ap (λ t. (tree t).children) c.replace-node.ensures.value in
+    if-ok c.remove_in-done.result
+    (λ taken removed. child-removed g.K.Ord.cmp g.T.Build.keeps g.met.T.Build.keeps_refl g.met.T.Build.keeps_trans
+    g.met.K.Ord.total tree (tree c.args.tree.now) _ _ _ _ _ c.args.rest.now taken c.requires.leads.first
+    c.requires.leads.others prefix value children c.assemble.ensures c.requires.solid c.requires.leads.key_is
+    c.remove_in-done.ensures.as_many removed)
+    c.remove_in-done.ensures.ok
+
+pub remove_from-rest_of-rest-requires-clause-within : goal.remove_from-rest_of-rest-requires-clause-within
+remove_from-rest_of-rest-requires-clause-within g t c =
+    bound-within g.K.Ord.cmp (g.T.RadixNode.tree c.args.tree.now) c.args.key.now c.requires.bound
+
+pub remove_from-returns-in_default-clause-ok : goal.remove_from-returns-in_default-clause-ok
+remove_from-returns-in_default-clause-ok g t c =
+    let tree = g.T.RadixNode.tree in
+    if-ok c.take_value.result
+    (λ value removed. removed-respelled g.K.Ord.cmp g.T.Build.keeps g.met.T.Build.keeps_refl
+    g.met.T.Build.keeps_trans g.met.K.Ord.total (tree c.args.tree.now) (tree c.take_value.new.tree)
+    (tree c.args.tree.now).prefix c.args.key.now value
+    (rest-ended g.K.Ord.cmp g.met.K.Ord.total (tree c.args.tree.now).prefix c.args.key.now c.rest_of-rest.result.now
+    c.rest_of-rest.ensures (none-first c.rest_of-rest.result.now (sym c.in_default.ensures.value))) removed)
+    c.take_value.ensures.ok
+
+pub remove_from-child_place-requires : goal.remove_from-child_place-requires
+remove_from-child_place-requires g t c = subst (AreChildren g.K.Ord.cmp) (sym c.children.ensures) c.canonical.ensures.1
+
+pub remove_from-unreachable-requires : goal.remove_from-unreachable-requires
+remove_from-unreachable-requires g t c =
+    let tree = g.T.RadixNode.tree in
+    let begun = first-is c.rest_of-rest.result.now c.in-Some.first.now (sym c.in-Some.ensures.value) in
+    rest-reaches g.K.Ord.cmp g.met.K.Ord.total (tree c.args.tree.now).children c.rest_of-rest.result.now
+    c.in-Some.first.now _ c.in_default-child_place.field-0 begun
+    (rest-bound g.K.Ord.cmp (tree c.args.tree.now) c.args.key.now c.rest_of-rest.result.now c.in-Some.first.now _
+    c.rest_of-rest.ensures begun c.requires.bound)
+    (subst (λ f. IsGapAt g.K.Ord.cmp f c.in-Some.first.now c.in_default-child_place.field-0) c.children.ensures
+    c.in_default-child_place.ensures.place)
+
+pub remove_from-bounds-children-i : goal.remove_from-bounds-children-i
+remove_from-bounds-children-i g t c =
+    begins-below g.K.Ord.cmp g.T.RadixNode.tree c.children-2.result.now c.in-Some.first.now c.in-Ok.i
+    (subst (λ f. BeginsAt g.K.Ord.cmp f c.in-Some.first.now c.in-Ok.i) (c.children.ensures ∙ sym c.children-2.ensures)
+    c.in-Ok.ensures.place)
+
+pub remove_from-offset_bounds-children-i : goal.remove_from-offset_bounds-children-i
+remove_from-offset_bounds-children-i g t c =
+    let h = begins-below g.K.Ord.cmp g.T.RadixNode.tree c.children-2.result.now c.in-Some.first.now c.in-Ok.i
+    (subst (λ f. BeginsAt g.K.Ord.cmp f c.in-Some.first.now c.in-Ok.i) (c.children.ensures ∙ sym c.children-2.ensures)
+    c.in-Ok.ensures.place) in
+    omega (arith, h)
+
+pub remove_from-take_leaf-requires-clause-leaf : goal.remove_from-take_leaf-requires-clause-leaf
+remove_from-take_leaf-requires-clause-leaf g t c =
+    let tree = g.T.RadixNode.tree in
+    let begun = first-is c.rest_of-rest.result.now c.in-Some.first.now (sym c.in-Some.ensures.value) in
+    let none =
+    empty-true c.children-3.result.now c.is_empty.result c.is_empty.ensures c.if-is_empty.true in
+    leaf-found g.K.Ord.cmp g.met.K.Ord.total tree (tree c.args.tree.now).children c.children-2.result.now c.in-Ok.i
+    c.index-children-i.result c.rest_of-rest.result.now c.in-Some.first.now _ c.children-2.ensures c.index-children-i.is
+    (subst (λ f. BeginsAt g.K.Ord.cmp f c.in-Some.first.now c.in-Ok.i) c.children.ensures c.in-Ok.ensures.place)
+    c.canonical.ensures.1
+    (sym c.children-3.ensures ∙ none-seen tree c.children-3.result.now none) begun
+    (rest-bound g.K.Ord.cmp (tree c.args.tree.now) c.args.key.now c.rest_of-rest.result.now c.in-Some.first.now _
+    c.rest_of-rest.ensures begun c.requires.bound)
+
+pub remove_from-remove_below-requires : goal.remove_from-remove_below-requires
+remove_from-remove_below-requires g t c κs within =
+    let tree = g.T.RadixNode.tree in
+    let begun = first-is c.rest_of-rest.result.now c.in-Some.first.now (sym c.in-Some.ensures.value) in
+    let begins = subst (λ f. BeginsAt g.K.Ord.cmp f c.in-Some.first.now c.in-Ok.i) c.children.ensures c.in-Ok.ensures.place in
+    let some =
+    empty-false c.children-3.result.now c.is_empty.result c.is_empty.ensures c.if-is_empty.false in
+    let leads : LeadsTo g.K.Ord.cmp (tree c.args.tree.now).children c.rest_of-rest.result.now c.in-Ok.i =
+    record { first = c.in-Some.first.now; others = drop 1 c.rest_of-rest.result.now; key_is = begun; begins = begins } in
+    let bound =
+    rest-bound g.K.Ord.cmp (tree c.args.tree.now) c.args.key.now c.rest_of-rest.result.now c.in-Some.first.now _
+    c.rest_of-rest.ensures begun c.requires.bound in
+    let deep =
+    deep-found g.K.Ord.cmp g.met.K.Ord.total tree (tree c.args.tree.now).children c.children-2.result.now c.in-Ok.i
+    c.index-children-i.result c.rest_of-rest.result.now c.in-Some.first.now (drop 1 c.rest_of-rest.result.now)
+    c.children-2.ensures c.index-children-i.is
+    begins (subst AreSome c.children-3.ensures (some-seen tree c.children-3.result.now some)) in
+    search rules
+
+pub remove_from-returns-then-is_empty-clause-ok : goal.remove_from-returns-then-is_empty-clause-ok
+remove_from-returns-then-is_empty-clause-ok g t c =
+    let tree = g.T.RadixNode.tree in
+    if-ok c.take_leaf.result
+    (λ value removed. removed-respelled g.K.Ord.cmp g.T.Build.keeps g.met.T.Build.keeps_refl
+    g.met.T.Build.keeps_trans g.met.K.Ord.total (tree c.args.tree.now) (tree c.take_leaf.new.tree)
+    _ c.args.key.now value
+    (behind-joins g.K.Ord.cmp g.met.K.Ord.total (tree c.args.tree.now).prefix c.args.key.now c.rest_of-rest.result.now
+    c.rest_of-rest.ensures) removed)
+    c.take_leaf.ensures.ok
+
+pub remove_from-returns-else-is_empty-clause-ok : goal.remove_from-returns-else-is_empty-clause-ok
+remove_from-returns-else-is_empty-clause-ok g t c =
+    let tree = g.T.RadixNode.tree in
+    if-ok c.remove_below.result
+    (λ value removed. removed-respelled g.K.Ord.cmp g.T.Build.keeps g.met.T.Build.keeps_refl
+    g.met.T.Build.keeps_trans g.met.K.Ord.total (tree c.args.tree.now) (tree c.remove_below.new.tree)
+    _ c.args.key.now value
+    (behind-joins g.K.Ord.cmp g.met.K.Ord.total (tree c.args.tree.now).prefix c.args.key.now c.rest_of-rest.result.now
+    c.rest_of-rest.ensures) removed)
+    c.remove_below.ensures.ok
+
+pub remove_in-returns-in_err-list-clause-as_many : goal.remove_in-returns-in_err-list-clause-as_many
+remove_in-returns-in_err-list-clause-as_many g t c =
+    let kept = g.met.T.Build.kept_alike _ _ (rw c.in_err-list.was at c.make_mut.follows.holds-at-none) in
+    sym (length-kept g.T.Build.keeps g.T.RadixNode.tree _ _ kept)
+
+pub remove_in-index_mut-requires : goal.remove_in-index_mut-requires
+remove_in-index_mut-requires g t c =
+    let h =
+    leads-within g.K.Ord.cmp g.T.Build.keeps g.met.T.Build.keeps_refl g.met.T.Build.keeps_trans g.met.K.Ord.total
+    g.T.RadixNode.tree
+    (g.T.Children.ChildList.items c.args.children.now) c.in_ok-list.list.now.items c.args.i c.args.rest.now
+    c.requires.leads (g.met.T.Build.kept_alike _ _ c.in_ok-list.ensures.value) c.requires.canonical in
+    omega (arith, h, c.in_ok-list.list.now.ok.0)
+
+pub remove_in-remove_from-requires : goal.remove_in-remove_from-requires
+remove_in-remove_from-requires g t c κs within =
+    let bound =
+    leads-bound g.K.Ord.cmp g.T.Build.keeps g.met.T.Build.keeps_refl g.met.T.Build.keeps_trans g.met.K.Ord.total
+    g.T.RadixNode.tree
+    (g.T.Children.ChildList.items c.args.children.now) c.in_ok-list.list.now.items c.args.i c.args.rest.now
+    c.requires.leads (g.met.T.Build.kept_alike _ _ c.in_ok-list.ensures.value) c.requires.canonical
+    c.index_mut.result.now c.index_mut.ensures.value c.requires.bound in
+    let deep =
+    leads-deep g.K.Ord.cmp g.T.Build.keeps g.met.T.Build.keeps_refl g.met.T.Build.keeps_trans g.met.K.Ord.total
+    g.T.RadixNode.tree
+    (g.T.Children.ChildList.items c.args.children.now) c.in_ok-list.list.now.items c.args.i c.args.rest.now
+    c.requires.leads (g.met.T.Build.kept_alike _ _ c.in_ok-list.ensures.value) c.requires.canonical
+    c.index_mut.result.now c.index_mut.ensures.value c.requires.deep in
+    let solid =
+    leads-solid g.K.Ord.cmp g.T.Build.keeps g.met.T.Build.keeps_refl g.met.T.Build.keeps_trans g.met.K.Ord.total
+    g.T.RadixNode.tree
+    (g.T.Children.ChildList.items c.args.children.now) c.in_ok-list.list.now.items c.args.i c.args.rest.now
+    c.requires.leads (g.met.T.Build.kept_alike _ _ c.in_ok-list.ensures.value) c.requires.canonical
+    c.index_mut.result.now c.index_mut.ensures.value in
+    let fewer =
+    leads-nodes g.K.Ord.cmp g.T.Build.keeps g.met.T.Build.keeps_refl g.met.T.Build.keeps_trans g.met.K.Ord.total
+    g.T.RadixNode.tree
+    (g.T.Children.ChildList.items c.args.children.now) c.in_ok-list.list.now.items c.args.i c.args.rest.now
+    c.requires.leads (g.met.T.Build.kept_alike _ _ c.in_ok-list.ensures.value) c.requires.canonical
+    c.index_mut.result.now c.index_mut.ensures.value in
+    search rules
+
+pub remove_in-returns-clause-ok : goal.remove_in-returns-clause-ok
+remove_in-returns-clause-ok g t c =
+    if-ok c.remove_from.result
+    (list-removed g.K.Ord.cmp g.T.Build.keeps g.met.T.Build.keeps_refl g.met.T.Build.keeps_trans g.met.K.Ord.total
+    g.T.RadixNode.tree
+    (g.T.Children.ChildList.items c.args.children.now) c.in_ok-list.list.now.items c.args.i c.args.rest.now
+    c.requires.leads (g.met.T.Build.kept_alike _ _ c.in_ok-list.ensures.value) c.requires.canonical
+    c.index_mut.result.now c.remove_from.new.tree _ c.index_mut.ensures.value
+    (c.make_mut.follows.holds _ (ap is_ok c.in_ok-list.was)))
+    c.remove_from.ensures.ok
+
+pub remove_in-returns-clause-err : goal.remove_in-returns-clause-err
+remove_in-returns-clause-err g t c =
+    on-err c.remove_from.result
+    (list-alike g.K.Ord.cmp g.T.Build.keeps g.met.T.Build.keeps_refl g.met.T.Build.keeps_trans g.met.K.Ord.total
+    g.T.RadixNode.tree
+    (g.T.Children.ChildList.items c.args.children.now) c.in_ok-list.list.now.items c.args.i c.args.rest.now
+    c.requires.leads (g.met.T.Build.kept_alike _ _ c.in_ok-list.ensures.value) c.requires.canonical
+    c.index_mut.result.now c.remove_from.new.tree _ c.index_mut.ensures.value
+    (c.make_mut.follows.holds _ (ap is_ok c.in_ok-list.was)))
+    c.remove_from.ensures.err
+
+pub remove_in-returns-clause-as_many : goal.remove_in-returns-clause-as_many
+remove_in-returns-clause-as_many g t c =
+    let kept =
+    length-kept g.T.Build.keeps g.T.RadixNode.tree _ _
+    (g.met.T.Build.kept_alike _ _ c.in_ok-list.ensures.value) in
+    ap length (c.make_mut.follows.holds _ (ap is_ok c.in_ok-list.was)) ∙ length-set c.in_ok-list.list.now.items
+    c.args.i c.remove_from.new.tree ∙ sym kept

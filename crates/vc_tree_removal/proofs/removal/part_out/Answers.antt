@@ -1,0 +1,10 @@
+-- The list to be written is as long as the one that was there.
+use Rattle.std.proofs.Common.{arith}
+use Rattle.vc_tree_nodes.proofs.Events.{length-kept}
+use Rattle.vc_tree_removal.proofs.removal.part_out.Goals as goal
+
+pub remove-item-requires : goal.remove-item-requires
+remove-item-requires g c =
+    let kept = g.met.T.Build.kept_alike _ _ c.in_ok-list.ensures.value in
+    let long = length-kept g.T.Build.keeps g.T.RadixNode.tree _ _ kept in
+    omega (arith, long, c.in_ok-list.list.now.ok.0, c.requires)

@@ -1,0 +1,5 @@
+//! How a key is taken out of a radix tree in place. For the crates above; the trait that users name
+//! stands in `vc_trees`.
+#![tactic(auto)]
+
+pub mod removal;
