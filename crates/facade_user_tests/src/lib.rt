@@ -12,5 +12,6 @@ pub mod loading;
 pub mod maps;
 pub mod one_tree;
 pub mod sets;
+pub mod totals;
 pub mod trees;
 pub mod walks;
