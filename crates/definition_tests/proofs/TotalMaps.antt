@@ -3,7 +3,7 @@ use Rattle.std.specs.Prelude.{◌≡◌, ℕ, suc, ◌+◌, ◌==◌, nat_le, Bo
 use Rattle.std.specs.Prelude.{Some, None, IsTrue, refl}
 use Rattle.std.proofs.Common.{inl, inr, sym}
 use Rattle.vc_total_maps.specs.TotalMap.{TotalMap, total_map, at, NoneIsDefault, IsClonedMap}
-use Rattle.vc_total_maps.specs.CombinedTotals.{IsListed, HoldsEverywhere, Stands, ClonesFirst, IsCombined}
+use Rattle.vc_total_maps.specs.CombinedTotals.{IsListed, HoldsEverywhere, Stands, ClonesFirst, IsCombined, CombinesValues}
 use Rattle.vc_total_maps.specs.CombinedTotals.{CanOnClones, GivesOnClones}
 use Rattle.vc_total_maps.specs.MappedTotals.{HoldsOfEach, IsMapped, CanOnClone, GivesOnClone}
 use Rattle.definition_tests.proofs.Digits.{Digit, one, two, three, four, five, order, each, same, not_true}
@@ -78,6 +78,10 @@ is_doubled = record {
   keys =
       each _ tt tt tt tt refl;
 }
+
+-- so it has at every key the sum of the two values there
+combines_values : CombinesValues order (λ v w. v + w) marks marks (total_map ((five, 2) ∷ []) 0)
+combines_values = each _ refl refl refl refl refl
 
 -- where a clone has the next number, an adding operator gives 9 of 2 and 5
 gives_on_clones : GivesOnClones (λ v w. w ≡ suc v) Sums 2 5 9

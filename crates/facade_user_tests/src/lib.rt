@@ -13,5 +13,6 @@ pub mod maps;
 pub mod one_tree;
 pub mod overlays;
 pub mod sets;
+pub mod totals;
 pub mod trees;
 pub mod walks;

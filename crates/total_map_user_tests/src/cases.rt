@@ -144,10 +144,8 @@ enum Operator {
     Over,
 }
 
-/// What the operator makes of clones of the maps.
-fn computed(left: &Numbers, right: &Numbers, operator: Operator) -> Result<Numbers, AllocError> {
-    let left = left.clone()?;
-    let right = right.clone()?;
+/// What the operator makes of the maps.
+fn of_values(left: Numbers, right: Numbers, operator: Operator) -> Result<Numbers, AllocError> {
     match operator {
         Operator::Plus => left + right,
         Operator::Minus => left - right,
@@ -156,13 +154,43 @@ fn computed(left: &Numbers, right: &Numbers, operator: Operator) -> Result<Numbe
     }
 }
 
+/// What the operator makes of the maps, which stay.
+fn of_references(
+    left: &Numbers,
+    right: &Numbers,
+    operator: Operator,
+) -> Result<Numbers, AllocError> {
+    match operator {
+        Operator::Plus => left + right,
+        Operator::Minus => left - right,
+        Operator::Times => left * right,
+        Operator::Over => left / right,
+    }
+}
+
+/// Whether the operator makes that of the maps, and of clones of them by value.
+fn is_computed(
+    left: &Numbers,
+    right: &Numbers,
+    operator: Operator,
+    expected: Listed,
+) -> Result<bool, AllocError> {
+    Ok(
+        is(of_references(left, right, operator)?, expected)
+            && is(
+                of_values(left.clone()?, right.clone()?, operator)?,
+                expected,
+            ),
+    )
+}
+
 /// Whether arithmetic makes of the maps what the row says.
 fn computes(left: &Numbers, right: &Numbers, row: &Row) -> Result<bool, AllocError> {
     Ok(
-        is(computed(left, right, Operator::Plus)?, row.sum)
-            && is(computed(left, right, Operator::Minus)?, row.difference)
-            && is(computed(left, right, Operator::Times)?, row.product)
-            && is(computed(left, right, Operator::Over)?, row.quotient),
+        is_computed(left, right, Operator::Plus, row.sum)?
+            && is_computed(left, right, Operator::Minus, row.difference)?
+            && is_computed(left, right, Operator::Times, row.product)?
+            && is_computed(left, right, Operator::Over, row.quotient)?,
     )
 }
 

@@ -36,6 +36,10 @@ pub record IsCombined {K V W X : Type 0} (cmp : K → K → Ordering) (eq : X �
   pub values : (k : K) → (v : X) × May (at cmp a k) (at cmp b k) v × Stands eq c.default v (value_at cmp c.mappings k)
   pub keys : (k : K) → IfSome (entry_at cmp c.mappings k) (λ p. ClonesFirst is_clone (entry_at cmp a.mappings k) (entry_at cmp b.mappings k) p.0)
 
+-- c has at every key what h makes of the two values there
+abbrev pub CombinesValues : {K V W X : Type 0} → (K → K → Ordering) → (V → W → X) → TotalMap K V → TotalMap K W → TotalMap K X → Type 0
+CombinesValues {K} cmp h a b c = (k : K) → at cmp c k ≡ h (at cmp a k) (at cmp b k)
+
 -- ---- operators, which are used on clones
 
 module _ {V : Type 0} (is_clone : V → V → Type 0) where

@@ -1,5 +1,6 @@
 -- What the public clauses of the exported items cite, and the words of the laws, so that a user has every name from this crate.
 pub mod Exact
+pub mod Pointwise
 pub use Rattle.vc_btree_maps.specs.Keeping
 pub use Rattle.vc_btree_maps.specs.KeepingValues
 pub use Rattle.vc_btree_maps.specs.Pairs

@@ -173,3 +173,103 @@ where
         combine_by(&self, &that, &Quotient)
     }
 }
+
+/// `&a + &b` is what `a + b` is, under the same condition; both maps stay as they are.
+impl<
+    'a,
+    'b,
+    K: Ord + Clone + Drop,
+    V: Eq + Clone + Drop + Add<V, Output = V>,
+    const N: usize,
+    A: Allocator + Copy,
+> Add<&'b TotalVecMap<K, V, N, A>> for &'a TotalVecMap<K, V, N, A>
+where
+    (K, V): MadeWith<A>,
+{
+    type Output = Result<TotalVecMap<K, V, N, A>, AllocError>;
+
+    ghost can_add = { λ a b. HoldsEverywhere K.cmp (CanOnClones V.is_clone V.can_add) a.now b.now
+        × ClonesAreEqual K.cmp K.is_clone };
+
+    ghost add_gives = { λ a b r. IfOk r
+        (IsCombined K.cmp V.eq (GivesOnClones V.is_clone V.add_gives) K.is_clone a.now b.now) };
+
+    fn add(self, that: &'b TotalVecMap<K, V, N, A>) -> Result<TotalVecMap<K, V, N, A>, AllocError> {
+        combine_by(self, that, &Sum)
+    }
+}
+
+/// `&a - &b` is what `a - b` is, under the same condition; both maps stay as they are.
+impl<
+    'a,
+    'b,
+    K: Ord + Clone + Drop,
+    V: Eq + Clone + Drop + Sub<V, Output = V>,
+    const N: usize,
+    A: Allocator + Copy,
+> Sub<&'b TotalVecMap<K, V, N, A>> for &'a TotalVecMap<K, V, N, A>
+where
+    (K, V): MadeWith<A>,
+{
+    type Output = Result<TotalVecMap<K, V, N, A>, AllocError>;
+
+    ghost can_sub = { λ a b. HoldsEverywhere K.cmp (CanOnClones V.is_clone V.can_sub) a.now b.now
+        × ClonesAreEqual K.cmp K.is_clone };
+
+    ghost sub_gives = { λ a b r. IfOk r
+        (IsCombined K.cmp V.eq (GivesOnClones V.is_clone V.sub_gives) K.is_clone a.now b.now) };
+
+    fn sub(self, that: &'b TotalVecMap<K, V, N, A>) -> Result<TotalVecMap<K, V, N, A>, AllocError> {
+        combine_by(self, that, &Difference)
+    }
+}
+
+/// `&a * &b` is what `a * b` is, under the same condition; both maps stay as they are.
+impl<
+    'a,
+    'b,
+    K: Ord + Clone + Drop,
+    V: Eq + Clone + Drop + Mul<V, Output = V>,
+    const N: usize,
+    A: Allocator + Copy,
+> Mul<&'b TotalVecMap<K, V, N, A>> for &'a TotalVecMap<K, V, N, A>
+where
+    (K, V): MadeWith<A>,
+{
+    type Output = Result<TotalVecMap<K, V, N, A>, AllocError>;
+
+    ghost can_mul = { λ a b. HoldsEverywhere K.cmp (CanOnClones V.is_clone V.can_mul) a.now b.now
+        × ClonesAreEqual K.cmp K.is_clone };
+
+    ghost mul_gives = { λ a b r. IfOk r
+        (IsCombined K.cmp V.eq (GivesOnClones V.is_clone V.mul_gives) K.is_clone a.now b.now) };
+
+    fn mul(self, that: &'b TotalVecMap<K, V, N, A>) -> Result<TotalVecMap<K, V, N, A>, AllocError> {
+        combine_by(self, that, &Product)
+    }
+}
+
+/// `&a / &b` is what `a / b` is, under the same condition; both maps stay as they are.
+impl<
+    'a,
+    'b,
+    K: Ord + Clone + Drop,
+    V: Eq + Clone + Drop + Div<V, Output = V>,
+    const N: usize,
+    A: Allocator + Copy,
+> Div<&'b TotalVecMap<K, V, N, A>> for &'a TotalVecMap<K, V, N, A>
+where
+    (K, V): MadeWith<A>,
+{
+    type Output = Result<TotalVecMap<K, V, N, A>, AllocError>;
+
+    ghost can_div = { λ a b. HoldsEverywhere K.cmp (CanOnClones V.is_clone V.can_div) a.now b.now
+        × ClonesAreEqual K.cmp K.is_clone };
+
+    ghost div_gives = { λ a b r. IfOk r
+        (IsCombined K.cmp V.eq (GivesOnClones V.is_clone V.div_gives) K.is_clone a.now b.now) };
+
+    fn div(self, that: &'b TotalVecMap<K, V, N, A>) -> Result<TotalVecMap<K, V, N, A>, AllocError> {
+        combine_by(self, that, &Quotient)
+    }
+}
