@@ -1,6 +1,6 @@
 //! How a key is taken out of a tree.
 
-ghost use Rattle.std.specs.Prelude.{◌≡◌, ◌++◌, ◌<◌, ◌≤◌, length, None, Some};
+ghost use Rattle.std.specs.Prelude.{◌≡◌, ◌++◌, ◌<◌, ◌≤◌, length, None, Ok, Some};
 ghost use Rattle.std.specs.Prelude.{IfOk, IsSome, OnOk, OnErr};
 ghost use Rattle.std.specs.Option.{option_map};
 ghost use Rattle.vc_tree_model.specs.Key.{behind};
@@ -43,7 +43,7 @@ pub fn remove<K: TKey, V: TValue, T: Build<K, V>>(
     ensures ok { OnOk result (IsWithout K.cmp T.keeps key.now
         (lookup K.cmp (T.tree tree.old)) (lookup K.cmp (T.tree tree.new))) }
     ensures absent { lookup K.cmp (T.tree tree.old) key.now ≡ None
-        → T.tree tree.new ≡ T.tree tree.old }
+        → (result ≡ Ok None) × (T.tree tree.new ≡ T.tree tree.old) }
     ensures err { OnErr result (HaveEqualMaps K.cmp T.keeps (T.tree tree.old) (T.tree tree.new)) }
     ensures err_nodes { OnErr result (IsAlike T.keeps (T.tree tree.old) (T.tree tree.new)) }
     ensures canonical { IsCanonical K.cmp (T.tree tree.new) }

@@ -1,6 +1,6 @@
 //! The trait by which the two flavours are made and changed.
 
-ghost use Rattle.std.specs.Prelude.{◌≡◌, ◌≤◌, List, [], None, Some, length, IfOk, IsOk, OnOk, OnErr};
+ghost use Rattle.std.specs.Prelude.{◌≡◌, ◌≤◌, List, [], None, Ok, Some, length, IfOk, IsOk, OnOk, OnErr};
 ghost use Rattle.vc_tree_model.specs.Tree.{made, no_tree};
 ghost use Rattle.vc_tree_model.specs.Combine.{IsCombined, IsInnerAt, IsLeftAt, IsOuterAt, IsUnionAt, IsIntersectionAt, IsDifferenceAt};
 ghost use Rattle.vc_tree_model.specs.Cover.{IsRemoved, IsRetained};
@@ -98,7 +98,7 @@ pub trait AbstractRadixTreeMut<K: TKey, V: TValue>: CloneTree<K, V> + AbstractRa
         ensures ok { OnOk result (IsWithout K.cmp Self.keeps key.now
             (lookup K.cmp (Self.tree self.old)) (lookup K.cmp (Self.tree self.new))) }
         ensures absent { lookup K.cmp (Self.tree self.old) key.now ≡ None
-            → Self.tree self.new ≡ Self.tree self.old }
+            → (result ≡ Ok None) × (Self.tree self.new ≡ Self.tree self.old) }
         ensures err { OnErr result
             (HaveEqualMaps K.cmp Self.keeps (Self.tree self.old) (Self.tree self.new)) }
         ensures err_nodes { OnErr result
