@@ -123,6 +123,18 @@ impl Numbers {
         Numbers { data, left, m, right, n }
     }
 
+    /// The same, with each right list in an order that cannot be foreseen.
+    pub fn with_right_lists_mixed(&self) -> Numbers {
+        let mut random = Random(self.n as u64);
+        let mut right = self.right.clone();
+        for list in right.chunks_mut(self.n) {
+            for at in (1..list.len()).rev() {
+                list.swap(at, random.below(at + 1));
+            }
+        }
+        Numbers { left: self.left.clone(), right, ..*self }
+    }
+
     pub fn pairs(&self) -> usize {
         self.left.len() / self.m
     }
@@ -179,6 +191,11 @@ impl Keys {
     /// Words of sixteen letters, in the order of the numbers.
     pub fn words(numbers: &[u64]) -> Keys {
         Keys::of(numbers.iter().map(|number| format!("word{number:012}")))
+    }
+
+    /// Paths of files that lie two folders below each of the keys.
+    pub fn two_below(&self) -> Keys {
+        Keys::of(self.texts().into_iter().map(|key| key + "/static/index.html"))
     }
 
     /// One key.

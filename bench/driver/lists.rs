@@ -126,6 +126,13 @@ pub fn work<T: Ord + Clone>(row: u64, a: &[T], b: &[T]) -> u64 {
         7 => u64::from(a.iter().all(|x| b.binary_search(x).is_ok())),
         8 => u64::from(!meet(a, b)),
         9 => b.iter().filter(|x| a.binary_search(x).is_ok()).count() as u64,
+        11 => b.iter().filter(|x| a.partition_point(|y| y < x) < a.len()).count() as u64,
+        12 => {
+            let mut list = b.to_vec();
+            list.sort();
+            list.dedup();
+            length(list)
+        }
         _ => length(b.iter().rev().cloned().fold(Vec::new(), put)),
     }
 }

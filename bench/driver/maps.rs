@@ -26,7 +26,7 @@ struct MapRow {
     one_by_one: bool,
 }
 
-const MAP_ROWS: [MapRow; 7] = [
+const MAP_ROWS: [MapRow; 8] = [
     MapRow { name: "outer join", number: 0, one_by_one: false },
     MapRow { name: "inner join", number: 1, one_by_one: false },
     MapRow { name: "clone, outer join in place", number: 2, one_by_one: false },
@@ -34,6 +34,7 @@ const MAP_ROWS: [MapRow; 7] = [
     MapRow { name: "clone of a map", number: 4, one_by_one: false },
     MapRow { name: "get of a map", number: 5, one_by_one: true },
     MapRow { name: "insert into a map, greatest first", number: 6, one_by_one: true },
+    MapRow { name: "clone, remove key by key", number: 7, one_by_one: true },
 ];
 
 /// The row over total maps.
@@ -164,6 +165,13 @@ macro_rules! by_map {
                 }
                 4 => length(a.clone()),
                 5 => b.keys().filter(|key| a.contains_key(key)).count() as u64,
+                7 => {
+                    let mut rest = a.clone();
+                    for key in b.keys() {
+                        rest.remove(key);
+                    }
+                    length(rest)
+                }
                 _ => length(pairs.iter().rev().fold($map::new(), |mut map, (key, value)| {
                     map.insert(*key, *value);
                     map
@@ -196,6 +204,15 @@ fn by_hand(row: u64, [a, b]: &[Vec<(u64, u64)>; 2]) -> u64 {
         5 => {
             let is_found = |key| a.binary_search_by_key(key, |pair| pair.0).is_ok();
             b.iter().filter(|(key, _)| is_found(key)).count() as u64
+        }
+        7 => {
+            let mut rest = a.to_vec();
+            for (key, _) in b {
+                if let Ok(place) = rest.binary_search_by_key(key, |pair| pair.0) {
+                    rest.remove(place);
+                }
+            }
+            length(rest)
         }
         _ => length(b.iter().rev().fold(Vec::new(), |mut list: Vec<(u64, u64)>, pair| {
             if let Err(place) = list.binary_search_by_key(&pair.0, |pair| pair.0) {

@@ -36,7 +36,7 @@ struct SetRow {
     one_by_one: bool,
 }
 
-const SET_ROWS: [SetRow; 11] = [
+const SET_ROWS: [SetRow; 13] = [
     SetRow { name: "union", number: 0, one_by_one: false },
     SetRow { name: "intersection", number: 1, one_by_one: false },
     SetRow { name: "difference", number: 2, one_by_one: false },
@@ -48,7 +48,12 @@ const SET_ROWS: [SetRow; 11] = [
     SetRow { name: "disjoint", number: 8, one_by_one: false },
     SetRow { name: "contains", number: 9, one_by_one: true },
     SetRow { name: "insert, greatest first", number: 10, one_by_one: true },
+    SetRow { name: "first of a range", number: 11, one_by_one: true },
+    SetRow { name: "from_unsorted", number: FROM_UNSORTED, one_by_one: true },
 ];
+
+/// The row whose lists are in any order.
+const FROM_UNSORTED: u64 = 12;
 
 /// The union of a set with the complement of another one: all but what the other one alone has. The
 /// others make the elements that it lacks, a difference.
@@ -102,7 +107,7 @@ pub fn print(only: &str) {
     println!("|---|---|---|---|---|---|---|---|---|---|---|");
     for (data, sizes, count) in CASES {
         let wanted =
-            |row: &&SetRow| row.name.contains(only) && (row.number < 10 || sizes.1 <= 10_000);
+            |row: &&SetRow| row.name.contains(only) && (row.number != 10 || sizes.1 <= 10_000);
         let rows: Vec<&SetRow> = SET_ROWS[..count].iter().filter(wanted).collect();
         let total = Some(&TOTAL).filter(wanted).filter(|_| count == ALL);
         if !rows.is_empty() || total.is_some() {
@@ -151,7 +156,10 @@ impl<T: Ord + Clone> Pairs<T> {
         } else {
             (Side::repeating(move || self.by_lists(|a, b| work(row, a, b))), Side::none())
         };
-        let std_set = Side::repeating(move || self.by_trees(|a, b| by_btree(row, a, b)));
+        let std_set = match row {
+            FROM_UNSORTED => Side::repeating(move || self.by_lists(|_, b| collected(b))),
+            _ => Side::repeating(move || self.by_trees(|a, b| by_btree(row, a, b))),
+        };
         [ours, plain, galloping, copies, flat, std_set]
     }
 }
@@ -159,10 +167,16 @@ impl<T: Ord + Clone> Pairs<T> {
 /// Rows over pairs of sets of numbers, and the one of total sets.
 fn time_numbers(rows: &[&SetRow], total: Option<&SetRow>, data: &Numbers) {
     let pairs = Pairs::new(data.cut().map(|(a, b)| (a.to_vec(), b.to_vec())).collect());
-    let (left, right, m, n) = (&data.left, &data.right, data.m, data.n);
-    let (a, b, a_len, b_len) = (left.as_ptr(), right.as_ptr(), left.len(), right.len());
+    let mixed = data.with_right_lists_mixed();
+    let in_any_order = Pairs::new(mixed.cut().map(|(a, b)| (a.to_vec(), b.to_vec())).collect());
     for row in rows {
         let number = row.number;
+        let (data, pairs) = match number {
+            FROM_UNSORTED => (&mixed, &in_any_order),
+            _ => (data, &pairs),
+        };
+        let (left, right, m, n) = (&data.left, &data.right, data.m, data.n);
+        let (a, b, a_len, b_len) = (left.as_ptr(), right.as_ptr(), left.len(), right.len());
         // SAFETY: the pointers and lengths are those of the lists.
         let ours = Side::of(move |rounds| unsafe {
             bench_numbers(number, a, a_len, m, b, b_len, n, rounds)
@@ -175,6 +189,8 @@ fn time_numbers(rows: &[&SetRow], total: Option<&SetRow>, data: &Numbers) {
         print_row(row, "u64", data, &sides);
     }
     if let Some(row) = total {
+        let (left, right, m, n) = (&data.left, &data.right, data.m, data.n);
+        let (a, b, a_len, b_len) = (left.as_ptr(), right.as_ptr(), left.len(), right.len());
         // SAFETY: as above.
         let ours =
             Side::of(move |rounds| unsafe { bench_total_sets(a, a_len, m, b, b_len, n, rounds) });
@@ -212,7 +228,7 @@ fn time_words(rows: &[&SetRow], data: &Numbers) {
     let (m, n) = (data.m, data.n);
     let (a, a_len, a_ends, a_count) = left.parts();
     let (b, b_len, b_ends, b_count) = right.parts();
-    for row in rows {
+    for row in rows.iter().filter(|row| row.number != FROM_UNSORTED) {
         let number = row.number;
         // SAFETY: the pointers and lengths are those of the keys.
         let ours = Side::of(move |rounds| unsafe {
@@ -245,11 +261,17 @@ fn by_btree<T: Ord + Clone>(row: u64, a: &BTreeSet<T>, b: &BTreeSet<T>) -> u64 {
         7 => u64::from(a.is_subset(b)),
         8 => u64::from(a.is_disjoint(b)),
         9 => b.iter().filter(|x| a.contains(x)).count() as u64,
+        11 => b.iter().filter(|x| a.range(*x..).next().is_some()).count() as u64,
         _ => length(b.iter().rev().cloned().fold(BTreeSet::new(), |mut set, x| {
             set.insert(x);
             set
         })),
     }
+}
+
+/// The number of elements of a set of std's, made of a list in any order.
+fn collected<T: Ord + Clone>(list: &[T]) -> u64 {
+    black_box(list.iter().cloned().collect::<BTreeSet<T>>()).len() as u64
 }
 
 fn print_row(row: &SetRow, elements: &str, data: &Numbers, sides: &[Side; 6]) {

@@ -46,7 +46,7 @@ struct TreeRow {
     shared_alone: bool,
 }
 
-const TREE_ROWS: [TreeRow; 8] = [
+const TREE_ROWS: [TreeRow; 10] = [
     TreeRow { name: "build", number: 0, shared_alone: false },
     TreeRow { name: "get", number: 1, shared_alone: false },
     TreeRow { name: "snapshot and insert", number: 2, shared_alone: true },
@@ -55,6 +55,8 @@ const TREE_ROWS: [TreeRow; 8] = [
     TreeRow { name: "into_iter of a snapshot", number: 5, shared_alone: true },
     TreeRow { name: "union of two trees", number: 6, shared_alone: false },
     TreeRow { name: "keys in one folder", number: 7, shared_alone: false },
+    TreeRow { name: "longest beginning", number: 8, shared_alone: false },
+    TreeRow { name: "build, remove each key", number: 9, shared_alone: false },
 ];
 
 /// Prints the table of trees.
@@ -77,6 +79,7 @@ fn time_trees(row: &TreeRow, keys: &Keys) {
     let asked = match row.number {
         6 => Keys::paths(list.len() + 1),
         7 => Keys::folder("src/"),
+        8 => keys.two_below(),
         _ => Keys::paths(list.len()),
     };
     let maps = StdMaps::new(&list, asked.list().collect());
@@ -146,6 +149,18 @@ impl StdMaps {
         self.asked.iter().filter_map(get).map(|number| number + 1).sum()
     }
 
+    /// The sum of what the longest beginnings of the paths are bound to, and of their lengths: each
+    /// beginning is looked up, the longest first.
+    fn longest<'a>(&'a self, get: impl Fn(&[u8]) -> Option<&'a u64>) -> u64 {
+        let longest = |path: &Key| (0..=path.len()).rev().find_map(|n| Some((n, get(&path[..n])?)));
+        self.asked.iter().filter_map(longest).map(|(n, number)| number + n as u64).sum()
+    }
+
+    /// The sum of the values that come back where each key is taken out.
+    fn removed(&self, mut remove: impl FnMut(&Key) -> Option<u64>) -> u64 {
+        self.list.iter().filter_map(&mut remove).sum()
+    }
+
     /// The work of a row on a `BTreeMap`.
     fn by_btree(&self, row: u64) -> u64 {
         match row {
@@ -166,6 +181,11 @@ impl StdMaps {
                     both.entry(key.clone()).or_insert(*value);
                 }
                 built(both.get(&self.asked[0]))
+            }
+            8 => self.longest(|key| self.sorted.get(key)),
+            9 => {
+                let mut map: BTreeMap<Key, u64> = numbered(&self.list);
+                self.removed(|key| map.remove(key))
             }
             _ => self.under().map(|(key, value)| value + key.len() as u64).sum(),
         }
@@ -191,6 +211,11 @@ impl StdMaps {
                     both.entry(key.clone()).or_insert(*value);
                 }
                 built(both.get(&self.asked[0]))
+            }
+            8 => self.longest(|key| self.hashed.get(key)),
+            9 => {
+                let mut map: HashMap<Key, u64> = numbered(&self.list);
+                self.removed(|key| map.remove(key))
             }
             _ => {
                 let under = self.hashed.iter().filter(|(key, _)| key.starts_with(&self.asked[0]));
@@ -220,6 +245,13 @@ impl StdMaps {
             4 => self.pairs.iter().map(|(_, value)| value).sum(),
             5 => cloned(self.pairs.iter().map(|(key, value)| (key, value))),
             6 => built(found(&united(&self.pairs, &self.other_pairs), &self.asked[0])),
+            8 => self.longest(|key| found(&self.pairs, key)),
+            9 => {
+                let mut pairs: Vec<Pair> = numbered(&self.list);
+                pairs.sort();
+                let at = |pairs: &[Pair], key: &Key| pairs.binary_search_by(|it| it.0.cmp(key)).ok();
+                self.removed(|key| at(&pairs, key).map(|place| pairs.remove(place).1))
+            }
             _ => {
                 let prefix = &self.asked[0];
                 let start = self.pairs.partition_point(|pair| pair.0 < *prefix);
@@ -251,8 +283,8 @@ fn cloned<'a>(pairs: impl Iterator<Item = (&'a Key, &'a u64)>) -> u64 {
         .sum()
 }
 
-fn found<'a>(pairs: &'a [Pair], key: &Key) -> Option<&'a u64> {
-    pairs.binary_search_by(|pair| pair.0.cmp(key)).ok().map(|at| &pairs[at].1)
+fn found<'a>(pairs: &'a [Pair], key: &[u8]) -> Option<&'a u64> {
+    pairs.binary_search_by(|pair| pair.0.as_slice().cmp(key)).ok().map(|at| &pairs[at].1)
 }
 
 /// Both lists as one; of two equal keys the left pair is kept.
