@@ -14,7 +14,7 @@ use Rattle.vc_merge.specs.Ascending.{Ascends, member, element_at}
 use Rattle.vc_merge.proofs.ListLemmas.{each-weaker, each-at, ascends-append}
 use Rattle.vc_merge.specs.Place.{IsGap}
 use Rattle.vc_merge.proofs.Members.{member-is_some, element_at-append, equal-alike, equal-from_is_eq}
-use Rattle.vc_sets.proofs.Searching.{none-below, gap-above, gap-none}
+use Rattle.vc_sets.proofs.Searching.{none-below, gap-above, gap-element}
 
 -- the element at i is equal to x
 abbrev pub StandsAt : {X : Type 0} → (X → X → Ordering) → List X → X → ℕ → Type 0
@@ -126,4 +126,4 @@ module _ {X : Type 0} (cmp : X → X → Ordering) (total : IsTotalOrder cmp) wh
   -- ---- the answer
 
   pub new-answer : (xs : List X) (x : X) (i : ℕ) → IsGap (λ y. cmp y x) xs i → true ≡ not (member cmp xs x)
-  new-answer xs x i p = ap not (sym (member-is_some cmp xs x ∙ ap is_some (gap-none cmp total xs x i p)))
+  new-answer xs x i p = ap not (sym (member-is_some cmp xs x ∙ ap is_some (gap-element (λ y. cmp y x) xs i p)))

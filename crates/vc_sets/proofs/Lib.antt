@@ -9,4 +9,5 @@ pub mod Witnessed
 pub mod Sifted
 mod OneSet
 pub mod Removing
+pub mod ByForm
 pub mod Shorter

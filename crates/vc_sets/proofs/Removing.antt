@@ -11,7 +11,7 @@ use Rattle.vc_merge.specs.Ascending.{Ascends, member, element_at}
 use Rattle.vc_merge.proofs.ListLemmas.{each-at}
 use Rattle.vc_merge.specs.Place.{IsGap}
 use Rattle.vc_merge.proofs.Members.{member-is_some, element_at-none, equal-alike, equal-from_is_eq}
-use Rattle.vc_sets.proofs.Searching.{gap-none}
+use Rattle.vc_sets.proofs.Searching.{gap-element}
 
 module _ {X : Type 0} (P : X → Type 0) where
   -- what holds of each element holds of those that are left without one
@@ -79,7 +79,7 @@ module _ {X : Type 0} (cmp : X → X → Ordering) where
     -- what stands where, if no element is equal to x
     pub element_at-not_there : (xs : List X) (x : X) (i : ℕ) → IsGap (λ y. cmp y x) xs i → (z : X)
         → element_at cmp xs z ≡ cond (eq_by_cmp cmp x z) None (element_at cmp xs z)
-    element_at-not_there xs x i p z = nothing-by (eq_by_cmp cmp x z) xs x z (gap-none cmp total xs x i p) refl
+    element_at-not_there xs x i p z = nothing-by (eq_by_cmp cmp x z) xs x z (gap-element (λ y. cmp y x) xs i p) refl
 
     -- ---- members follow from what is kept
 
@@ -88,10 +88,10 @@ module _ {X : Type 0} (cmp : X → X → Ordering) where
     none-by true o = refl
     none-by false o = refl
 
-    -- the members, once what is equal to x was taken out
-    pub members-taken : (xs ys : List X) (x : X) → ((z : X)
-        → element_at cmp ys z ≡ cond (eq_by_cmp cmp x z) None (element_at cmp xs z)) → (z : X)
-        → member cmp ys z ≡ (not (eq_by_cmp cmp x z) && member cmp xs z)
-    members-taken xs ys x h z = member-is_some cmp ys z ∙ ap is_some (h z)
-        ∙ none-by (eq_by_cmp cmp x z) (element_at cmp xs z)
-        ∙ ap (λ b. not (eq_by_cmp cmp x z) && b) (sym (member-is_some cmp xs z))
+    -- the members, once some were taken out
+    pub members-taken : (xs ys : List X) (gone : X → Bool) → ((z : X)
+        → element_at cmp ys z ≡ cond (gone z) None (element_at cmp xs z)) → (z : X)
+        → member cmp ys z ≡ (not (gone z) && member cmp xs z)
+    members-taken xs ys gone h z = member-is_some cmp ys z ∙ ap is_some (h z)
+        ∙ none-by (gone z) (element_at cmp xs z)
+        ∙ ap (λ b. not (gone z) && b) (sym (member-is_some cmp xs z))

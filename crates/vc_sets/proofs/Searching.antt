@@ -1,21 +1,63 @@
--- What a search in an ascending list finds.
-use Rattle.std.proofs.Common.{◌≡◌, ℕ, zero, suc, ◌<◌, Bool, true, false, ◌||◌, List, [], ◌∷◌, length, take, drop}
-use Rattle.std.proofs.Common.{get_or, None, is_some, Result, Ok, Err, is_ok, refl, sym, ap, ◌∙◌, arith}
-use Rattle.std.proofs.Math.ListN.{take-append-drop}
-use Rattle.std.specs.List.{AllByRecursion}
-use Rattle.std.specs.Cmp.{IsTotalOrder, alike_right, tied_itself}
-use Rattle.std.specs.Option.{option_or}
-use Rattle.std.specs.Ordering.{eq_by_cmp, is_eq, ordering_reverse}
+-- What a search in an ascending list finds. `side` says how an element stands to what is sought.
+--     found-element, gap-element, place-is_ok        what a place tells, whatever the order is
+--     none-below, gap-above        what stands below and above what is sought
+use Rattle.std.proofs.Common.{◌≡◌, ℕ, zero, suc, ◌<◌, Bool, true, false, cond, ◌||◌, List, [], ◌∷◌, length, take}
+use Rattle.std.proofs.Common.{drop, get_or, Option, Some, None, is_some, Result, Ok, Err, is_ok, refl, sym, ap, ◌∙◌, arith}
+use Rattle.std.specs.List.{AllByRecursion, HoldsAt}
+use Rattle.std.specs.Cmp.{IsTotalOrder, alike_right}
+use Rattle.std.specs.Ordering.{is_eq, ordering_reverse}
 use Rattle.std.specs.declared.cmp.Ordering.{Ordering}
 use Rattle.std.specs.declared.cmp.Ordering.TheVariants.{Less, Equal, Greater}
-use Rattle.vc_merge.specs.Ascending.{member, element_at}
-use Rattle.vc_merge.specs.Place.{IsGap, IsPlace}
+use Rattle.vc_merge.specs.Ascending.{element_at}
+use Rattle.vc_merge.specs.Place.{IsFound, IsGap, IsPlace}
 use Rattle.vc_merge.proofs.ListLemmas.{each-weaker}
-use Rattle.vc_merge.proofs.Members.{member-is_some, element_at-later, element_at-none, element_at-append}
+use Rattle.vc_merge.proofs.Members.{element_at-later}
+use Rattle.vc_sets.specs.Borrowed.{member_by, element_by}
 
-or-true : (b : Bool) → (b || true) ≡ true
-or-true true = refl
-or-true false = refl
+module _ {X : Type 0} (side : X → Ordering) where
+  some-by : (b : Bool) (y : X) (m : Bool) (o : Option X) → m ≡ is_some o → (b || m) ≡ is_some (cond b (Some y) o)
+  some-by true y m o e = refl
+  some-by false y m o e = e
+
+  -- a member is an element that stands there
+  member_by-is_some : (xs : List X) → member_by side xs ≡ is_some (element_by side xs)
+  member_by-is_some [] = refl
+  member_by-is_some (y ∷ ys) = some-by (is_eq (side y)) y (member_by side ys) (element_by side ys) (member_by-is_some ys)
+
+  found-by : (xs : List X) (i : ℕ) (d : X) → i < length xs → HoldsAt (λ y. side y ≡ Equal) xs i
+      → AllByRecursion (λ y. side y ≡ Less) (take i xs) → element_by side xs ≡ Some (get_or xs i d)
+  found-by [] i d h e p = absurd (omega arith)
+  found-by (y ∷ ys) zero d h e p = ap (λ o. cond (is_eq o) (Some y) (element_by side ys)) (e d)
+  found-by (y ∷ ys) (suc i) d h e p = let k : i < length ys = omega arith in
+      ap (λ o. cond (is_eq o) (Some y) (element_by side ys)) p.0 ∙ found-by ys i d k e p.1
+
+  -- the element at the place
+  pub found-element : (xs : List X) (i : ℕ) (d : X) → IsFound side xs i → element_by side xs ≡ Some (get_or xs i d)
+  found-element xs i d f = found-by xs i d f.within f.equal f.less
+
+  none-of : (xs : List X) (o : Ordering) → is_eq o ≡ false → AllByRecursion (λ y. side y ≡ o) xs → element_by side xs ≡ None
+  none-of [] o e p = refl
+  none-of (y ∷ ys) o e p =
+      ap (λ b. cond b (Some y) (element_by side ys)) (ap is_eq p.0 ∙ e) ∙ none-of ys o e p.1
+
+  gap-by : (xs : List X) (i : ℕ) → AllByRecursion (λ y. side y ≡ Less) (take i xs)
+      → AllByRecursion (λ y. side y ≡ Greater) (drop i xs) → element_by side xs ≡ None
+  gap-by [] i p q = refl
+  gap-by (y ∷ ys) zero p q = none-of (y ∷ ys) Greater refl q
+  gap-by (y ∷ ys) (suc i) p q = ap (λ o. cond (is_eq o) (Some y) (element_by side ys)) p.0 ∙ gap-by ys i p.1 q
+
+  -- nothing stands at a gap
+  pub gap-element : (xs : List X) (i : ℕ) → IsGap side xs i → element_by side xs ≡ None
+  gap-element xs i g = gap-by xs i g.less g.greater
+
+  found-member : (xs : List X) (i : ℕ) → i < length xs → IsFound side xs i → member_by side xs ≡ true
+  found-member [] i h f = absurd (omega arith)
+  found-member (y ∷ ys) i h f = member_by-is_some (y ∷ ys) ∙ ap is_some (found-element (y ∷ ys) i y f)
+
+  -- a place is found where some element is equal
+  pub place-is_ok : (xs : List X) (r : Result ℕ ℕ) → IsPlace side xs r → is_ok r ≡ member_by side xs
+  place-is_ok xs (Ok i) f = sym (found-member xs i f.within f)
+  place-is_ok xs (Err i) g = sym (member_by-is_some xs ∙ ap is_some (gap-element xs i g))
 
 module _ {X : Type 0} (cmp : X → X → Ordering) (total : IsTotalOrder cmp) where
   -- nothing of what is below x stands at what is equal to x
@@ -29,22 +71,3 @@ module _ {X : Type 0} (cmp : X → X → Ordering) (total : IsTotalOrder cmp) wh
   pub gap-above : (xs : List X) (x : X) (i : ℕ) → IsGap (λ y. cmp y x) xs i → AllByRecursion (λ y. cmp x y ≡ Less) (drop i xs)
   gap-above xs x i p = each-weaker (λ y. cmp y x ≡ Greater) (λ y. cmp x y ≡ Less)
       (λ y e. total.antisymm x y ∙ ap ordering_reverse e) (drop i xs) p.greater
-
-  -- nothing stands at a gap
-  pub gap-none : (xs : List X) (x : X) (i : ℕ) → IsGap (λ y. cmp y x) xs i → element_at cmp xs x ≡ None
-  gap-none xs x i p =
-      ap (λ l. element_at cmp l x) (sym (take-append-drop i xs)) ∙ element_at-append cmp (take i xs) (drop i xs) x
-      ∙ ap (λ o. option_or o (element_at cmp (drop i xs) x)) (none-below (take i xs) x x p.less (tied_itself total x))
-      ∙ element_at-none cmp total x x (drop i xs) (gap-above xs x i p) (ap is_eq (tied_itself total x))
-
-  found-member : (xs : List X) (x : X) (i : ℕ) → i < length xs → ((d : X) → cmp (get_or xs i d) x ≡ Equal)
-      → member cmp xs x ≡ true
-  found-member [] x i h e = absurd (omega arith)
-  found-member (y ∷ ys) x zero h e = ap (λ o. is_eq o || member cmp ys x) (e x)
-  found-member (y ∷ ys) x (suc i) h e = let k : i < length ys = omega arith in
-      ap (λ b. eq_by_cmp cmp y x || b) (found-member ys x i k e) ∙ or-true (eq_by_cmp cmp y x)
-
-  -- a place is found where x is a member
-  pub place-is_ok : (xs : List X) (x : X) (r : Result ℕ ℕ) → IsPlace (λ y. cmp y x) xs r → is_ok r ≡ member cmp xs x
-  place-is_ok xs x (Ok i) p = sym (found-member xs x i p.within p.equal)
-  place-is_ok xs x (Err i) p = sym (member-is_some cmp xs x ∙ ap is_some (gap-none xs x i p))

@@ -5,3 +5,4 @@ pub mod Select
 pub mod Laws
 pub mod Iterating
 pub mod Begun
+pub mod Borrowed

@@ -1,6 +1,7 @@
 //! Sets as ascending lists.
 #![tactic(auto)]
 
+pub mod borrowed;
 mod choosing;
 mod combine;
 pub mod laws;

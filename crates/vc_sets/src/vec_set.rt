@@ -4,10 +4,13 @@ ghost use Rattle.std.specs.BTreeMap.Range.{range_contains};
 ghost use Rattle.std.specs.Option.{option_copied};
 ghost use Rattle.std.specs.Ordering.{eq_by_cmp};
 ghost use Rattle.vc_merge.specs.Ascending.{Ascends, member, element_at};
+ghost use Rattle.std.specs.declared.cmp.Ordering.TheVariants.{Equal};
+ghost use Rattle.vc_sets.specs.Borrowed.{member_by, element_by};
 ghost use Rattle.vc_sets.specs.Iterating.{Shows};
 ghost use Rattle.vc_sets.specs.Tests.{IsDisjoint, IsSubset};
 
 mod algebra;
+mod borrowed;
 mod comparisons;
 pub mod conversions;
 mod in_place;
@@ -15,7 +18,9 @@ mod iteration;
 mod ordered;
 mod removal;
 
+use crate::borrowed::Borrowed;
 pub use algebra::{SetOp, SetTest, difference, intersection, symmetric_difference, union};
+use borrowed::find_by;
 use iteration::elements_of;
 use smallvec::SmallVec;
 use std::alloc::{AllocError, Allocator, Global};
@@ -201,6 +206,42 @@ pub trait AbstractVecSet<T: Ord> {
         ensures { result ≡ member T.cmp (elements self.now) value.now }
     {
         find(self.as_slice(), value).is_ok()
+    }
+
+    /// Whether an element is equal to a borrowed form, as a `&str` among `String`s. Compares as
+    /// often as `contains`, and takes no memory.
+    ///
+    /// ```
+    /// assert!(names.contains_by("ada"));
+    /// ```
+    final fn contains_by<Q: Borrowed<T>>(&self, sought: Q) -> bool
+        ensures answer { result ≡ member_by (Q.side sought) (elements self.now) }
+
+        // It answers as `contains` does by any element that is equal to the form.
+        ensures equal { (x : T) → Q.side sought x ≡ Equal
+            → result ≡ member T.cmp (elements self.now) x }
+    {
+        find_by(self.as_slice(), sought).is_ok()
+    }
+
+    /// The element that is equal to a borrowed form, as the set holds it. By a reference to an
+    /// element it shows which of two equal ones that is.
+    ///
+    /// Compares as often as `contains`, and takes no memory.
+    ///
+    /// ```
+    /// assert!(names.get_by("ada").is_some());
+    /// ```
+    final fn get_by<Q: Borrowed<T>>(&self, sought: Q) -> Option<&T>
+        ensures element { option_copied result ≡ element_by (Q.side sought) (elements self.now) }
+        ensures equal { (x : T) → Q.side sought x ≡ Equal
+            → option_copied result ≡ element_at T.cmp (elements self.now) x }
+    {
+        let elements = self.as_slice();
+        match find_by(elements, sought) {
+            Ok(place) => Some(&elements[place]),
+            Err(_) => None,
+        }
     }
 
     /// The elements that lie in a range of elements, in ascending order. A range that runs

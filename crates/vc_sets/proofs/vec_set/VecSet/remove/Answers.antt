@@ -22,15 +22,15 @@ returns-in-Ok-clause-kept g c =
 
 pub returns-in-Ok-clause-members : goal.returns-in-Ok-clause-members
 returns-in-Ok-clause-members g c =
-    members-taken g.T.Ord.cmp g.met.T.Ord.total c.args.self.now c.remove.new.self.items c.args.that.now
-    (returns-in-Ok-clause-kept g c)
+    members-taken g.T.Ord.cmp g.met.T.Ord.total c.args.self.now c.remove.new.self.items
+    (λ z. eq_by_cmp g.T.Ord.cmp c.args.that.now z) (returns-in-Ok-clause-kept g c)
 
 -- ---- no equal element was found
 
 pub returns-in-Err-clause-answer : goal.returns-in-Err-clause-answer
 returns-in-Err-clause-answer g c =
     let p = subst (λ l. IsGap (λ y. g.T.Ord.cmp y c.args.that.now) l c.in-Err.field-0) c.as_slice.ensures c.in-Err.ensures in
-    place-is_ok g.T.Ord.cmp g.met.T.Ord.total c.self.inside.elements.items c.args.that.now (Err c.in-Err.field-0) p
+    place-is_ok (λ y. g.T.Ord.cmp y c.args.that.now) c.self.inside.elements.items (Err c.in-Err.field-0) p
     ∙ ap (λ l. member g.T.Ord.cmp l c.args.that.now) c.self.view_is
 
 pub returns-in-Err-clause-kept : goal.returns-in-Err-clause-kept
@@ -42,4 +42,5 @@ returns-in-Err-clause-kept g c =
 
 pub returns-in-Err-clause-members : goal.returns-in-Err-clause-members
 returns-in-Err-clause-members g c =
-    members-taken g.T.Ord.cmp g.met.T.Ord.total c.args.self.now c.args.self.now c.args.that.now (returns-in-Err-clause-kept g c)
+    members-taken g.T.Ord.cmp g.met.T.Ord.total c.args.self.now c.args.self.now
+    (λ z. eq_by_cmp g.T.Ord.cmp c.args.that.now z) (returns-in-Err-clause-kept g c)

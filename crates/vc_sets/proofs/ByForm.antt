@@ -1,0 +1,92 @@
+-- What a look-up by a borrowed form finds. `side` says how an element stands to the form.
+--     member-equal, element-equal        an element that is equal to the form is found as the form is
+--     ordered        an ascending list is ordered round a form
+--     element_at-without_form, element_at-no_form        an element taken out
+use Rattle.std.proofs.Common.{◌≡◌, ℕ, zero, suc, ◌<◌, Bool, true, false, cond, List, [], ◌∷◌, ◌++◌, length}
+use Rattle.std.proofs.Common.{take, drop, get_or, ◌⊎◌, inl, inr, None, refl, sym, ap, ◌∙◌, arith}
+use mathlib.Core.Bool.{true≢false}
+use Rattle.std.specs.List.{AllByRecursion}
+use Rattle.std.specs.List.Sorted.{IsStrictlySortedBy}
+use Rattle.std.specs.Cmp.{IsTotalOrder, tied_itself, eq_by_cmp_equiv}
+use Rattle.std.specs.Ordering.{eq_by_cmp, is_eq, is_lt, ordering_reverse}
+use Rattle.std.specs.declared.cmp.Ordering.{Ordering}
+use Rattle.std.specs.declared.cmp.Ordering.TheVariants.{Less, Equal, Greater}
+use Rattle.vc_merge.specs.Ascending.{Ascends, member, element_at}
+use Rattle.vc_merge.specs.Place.{IsFound, IsGap, IsOrdered}
+use Rattle.vc_merge.proofs.ListLemmas.{each-weaker}
+use Rattle.vc_merge.proofs.Members.{equal-from_is_eq}
+use Rattle.vc_sets.specs.Borrowed.{member_by, element_by}
+use Rattle.vc_sets.proofs.Searching.{gap-element}
+use Rattle.vc_sets.proofs.Removing.{element_at-without}
+
+-- an element of a list, which is the same whatever is read beyond its end
+pub at-place : {X : Type 0} (xs : List X) (i : ℕ) → i < length xs → (x : X) × ((d : X) → get_or xs i d ≡ x)
+at-place [] i h = absurd (omega arith)
+at-place (x ∷ xs) zero h = (x, λ d. refl)
+at-place (x ∷ xs) (suc i) h = let k : i < length xs = omega arith in at-place xs i k
+
+module _ {K : Type 0} (cmp : K → K → Ordering) (side : K → Ordering)
+    (equal : (x y : K) → side x ≡ Equal → side y ≡ cmp y x) where
+  -- elements stand to the form as to an element that is equal to it
+  pub side-equal : (x : K) → side x ≡ Equal → side ≡ (λ y. cmp y x)
+  side-equal x e = λ i y. equal x y e i
+
+  -- that element is found as the form is
+  pub member-equal : (xs : List K) (x : K) → side x ≡ Equal → member_by side xs ≡ member cmp xs x
+  member-equal xs x e = ap (λ s. member_by s xs) (side-equal x e)
+
+  pub element-equal : (xs : List K) (x : K) → side x ≡ Equal → element_by side xs ≡ element_at cmp xs x
+  element-equal xs x e = ap (λ s. element_by s xs) (side-equal x e)
+
+  -- ---- a list is ordered round a form
+
+  module _ (total : IsTotalOrder cmp) (behind : (x y : K) → side x ≡ Greater → cmp x y ≡ Less → side y ≡ Greater) where
+    behind-by : (x : K) (o : Ordering) → side x ≡ o → is_lt o ≡ false → (y : K) → cmp x y ≡ Less → side y ≡ Greater
+    behind-by x Less e f y l = absurd (true≢false f)
+    behind-by x Equal e f y l = equal x y e ∙ total.antisymm y x ∙ ap ordering_reverse l
+    behind-by x Greater e f y l = behind x y e l
+
+    module _ {X : Type 0} (key : X → K) where
+      all-behind : (x : X) (o : Ordering) → side (key x) ≡ o → is_lt o ≡ false → (ys : List X)
+          → AllByRecursion (λ y. cmp (key x) (key y) ≡ Less) ys → AllByRecursion (λ y. side (key y) ≡ Greater) ys
+      all-behind x o e f ys = each-weaker (λ y. cmp (key x) (key y) ≡ Less) (λ y. side (key y) ≡ Greater)
+          (λ y. behind-by (key x) o e f (key y)) ys
+
+      beside : (x : X) (ys : List X) (o : Ordering) → side (key x) ≡ o
+          → AllByRecursion (λ y. cmp (key x) (key y) ≡ Less) ys
+          → (side (key x) ≡ Less) ⊎ AllByRecursion (λ y. side (key y) ≡ Greater) ys
+      beside x ys Less e p = inl e
+      beside x ys Equal e p = inr (all-behind x Equal e refl ys p)
+      beside x ys Greater e p = inr (all-behind x Greater e refl ys p)
+
+      -- a list that ascends by its keys is ordered round a form of keys
+      pub ordered : (xs : List X) → Ascends (λ x y. cmp (key x) (key y)) xs → IsOrdered (λ x. side (key x)) xs
+      unfolding IsStrictlySortedBy
+      ordered [] p = tt
+      ordered (x ∷ xs) p = (beside x xs (side (key x)) refl p.0, ordered xs p.1)
+
+  -- ---- an element taken out
+
+  module _ (total : IsTotalOrder cmp) where
+    -- what is equal to the form is equal to an element that is
+    alike : (x z : K) → side x ≡ Equal → eq_by_cmp cmp x z ≡ is_eq (side z)
+    alike x z e = (eq_by_cmp_equiv total).symm x z ∙ ap is_eq (sym (equal x z e))
+
+    -- what stands where, without the element that is equal to the form
+    pub element_at-without_form : (xs : List K) (i : ℕ) → IsFound side xs i → Ascends cmp xs → (z : K)
+        → element_at cmp (take i xs ++ drop (suc i) xs) z ≡ cond (is_eq (side z)) None (element_at cmp xs z)
+    element_at-without_form xs i f p z =
+        let r = at-place xs i f.within in
+        element_at-without cmp total xs r.0 i f.within (λ d. ap (λ y. cmp y r.0) (r.1 d) ∙ tied_itself total r.0) p z
+        ∙ ap (λ b. cond b None (element_at cmp xs z)) (alike r.0 z (ap side (sym (r.1 r.0)) ∙ f.equal r.0))
+
+  nothing-by : (b : Bool) (xs : List K) (i : ℕ) (z : K) → IsGap side xs i → is_eq (side z) ≡ b
+      → element_at cmp xs z ≡ cond b None (element_at cmp xs z)
+  nothing-by true xs i z g e =
+      sym (element-equal xs z (equal-from_is_eq (side z) e)) ∙ gap-element side xs i g
+  nothing-by false xs i z g e = refl
+
+  -- what stands where, if no element is equal to the form
+  pub element_at-no_form : (xs : List K) (i : ℕ) → IsGap side xs i → (z : K)
+      → element_at cmp xs z ≡ cond (is_eq (side z)) None (element_at cmp xs z)
+  element_at-no_form xs i g z = nothing-by (is_eq (side z)) xs i z g refl

@@ -1,0 +1,90 @@
+//! Borrowed forms, by which elements are looked up without an element at hand.
+ghost use Rattle.std.specs.Prelude.{◌≡◌, refl};
+ghost use Rattle.std.specs.Cmp.Lexicographic.{lists_total, nat_list_cmp_total, slice_cmp};
+ghost use Rattle.std.specs.Ordering.{nat_cmp};
+ghost use Rattle.std.specs.String.{string_bytes};
+ghost use Rattle.std.specs.declared.cmp.Ordering.{Ordering};
+ghost use Rattle.std.specs.declared.cmp.Ordering.TheVariants.{Less, Equal, Greater};
+ghost use Rattle.vc_sets.specs.Borrowed.{equal_by_form, behind_by_form};
+
+use std::alloc::Allocator;
+use std::cmp::Ordering;
+
+/// A borrowed form of elements: it stands among them where an element that is equal to it does.
+/// `&str` is one of `String`, `&[T]` of `Vec<T>`, and `&T` of any `T`.
+///
+/// An implementation says how an element stands to the form, and proves two laws. Where elements
+/// are ordered by what they lend, `equal_by_form` and `behind_by_form` of `specs::Borrowed` are
+/// these laws.
+///
+/// ```
+/// assert!(names.contains_by("ada"));
+/// ```
+pub trait Borrowed<T: Ord>: Copy {
+    ghost side: { Self → T → Ordering };
+
+    /// How the element stands to the form: `Less` before it, `Equal` at it, `Greater` behind it.
+    fn compare(&self, element: &T) -> Ordering
+        ensures { result ≡ side self.now element.now };
+
+    // An element that is equal to the form orders all elements as the form does.
+    ghost orders_as_equal: { (q : Self) (x y : T) → side q x ≡ Equal → side q y ≡ T.cmp y x };
+
+    // Behind an element that stands behind the form all stands behind it.
+    ghost stays_behind: { (q : Self) (x y : T)
+        → side q x ≡ Greater → T.cmp x y ≡ Less → side q y ≡ Greater };
+}
+
+impl<T: Ord> Borrowed<T> for &T {
+    ghost side = { λ q x. T.cmp x q.now };
+
+    ghost orders_as_equal = { λ q. equal_by_form T.total (λ x. x) (λ x y. refl) q.now };
+
+    ghost stays_behind = { λ q. behind_by_form T.total (λ x. x) (λ x y. refl) q.now };
+
+    fn compare(&self, element: &T) -> Ordering {
+        element.cmp(*self)
+    }
+}
+
+impl<A: Allocator> Borrowed<String<A>> for &str {
+    ghost side = { λ q x. slice_cmp nat_cmp (string_bytes x) q.now };
+
+    ghost orders_as_equal = { λ q.
+        equal_by_form nat_list_cmp_total (λ x. string_bytes x) (λ x y. refl) q.now };
+
+    ghost stays_behind = { λ q.
+        behind_by_form nat_list_cmp_total (λ x. string_bytes x) (λ x y. refl) q.now };
+
+    fn compare(&self, element: &String<A>) -> Ordering {
+        texts(element.as_str(), *self)
+    }
+}
+
+impl<T: Ord, B: Allocator> Borrowed<Vec<T, B>> for &[T] {
+    ghost side = { λ q x. slice_cmp T.cmp x.items q.now };
+
+    ghost orders_as_equal = { λ q.
+        equal_by_form (lists_total T.total) (λ x. x.items) (λ x y. refl) q.now };
+
+    ghost stays_behind = { λ q.
+        behind_by_form (lists_total T.total) (λ x. x.items) (λ x y. refl) q.now };
+
+    fn compare(&self, element: &Vec<T, B>) -> Ordering {
+        slices(element.as_slice(), *self)
+    }
+}
+
+/// Two slices, both lent as long, as their comparison asks.
+fn slices<'x, T: Ord>(a: &'x [T], b: &'x [T]) -> Ordering
+    ensures { result ≡ slice_cmp T.cmp a.now b.now }
+{
+    Ord::cmp(&a, &b)
+}
+
+/// Two texts, both lent as long, as their comparison asks.
+fn texts<'x>(a: &'x str, b: &'x str) -> Ordering
+    ensures { result ≡ slice_cmp nat_cmp a.now b.now }
+{
+    Ord::cmp(&a, &b)
+}
