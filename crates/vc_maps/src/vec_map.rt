@@ -5,10 +5,13 @@ ghost use Rattle.std.specs.Borrow.{sem};
 ghost use Rattle.std.specs.Map.{keys_of, values_of};
 ghost use Rattle.std.specs.Option.{option_copied, option_copied_mut};
 ghost use Rattle.std.specs.Ordering.{eq_by_cmp};
+ghost use Rattle.std.specs.declared.cmp.Ordering.TheVariants.{Equal};
 ghost use Rattle.vc_joins.specs.Entries.{AscendsByKey, entry_at, value_at};
+ghost use Rattle.vc_maps.specs.Borrowed.{value_by};
 ghost use Rattle.vc_merge.specs.Ascending.{Ascends};
 ghost use Rattle.vc_merge.specs.Showing.{ShowsBothWays, ShowsItems};
 
+mod borrowed;
 mod changes;
 mod combining;
 mod comparisons;
@@ -21,6 +24,7 @@ mod ordered;
 mod removal;
 
 pub use crate::fresh::join_asking;
+use borrowed::find_key_by;
 pub use joins::{inner_join, left_join, outer_join, right_join};
 use smallvec::SmallVec;
 use std::alloc::{AllocError, Allocator, Global};
@@ -33,6 +37,7 @@ use vc_merge::iterators::{
 };
 use vc_merge::moving::insert_at;
 use vc_merge::search::{find_key, pairs_between};
+use vc_sets::borrowed::Borrowed;
 
 /// A map, as a list of its pairs in ascending order of their keys. Up to `N` of them stand in
 /// place, without an allocation, unless the list was once given room for more: then it keeps its
@@ -204,6 +209,37 @@ pub trait AbstractVecMap<K: Ord, V> {
         ensures { result ≡ is_some (value_at K.cmp (pairs self.now) key.now) }
     {
         find_key(self.as_slice(), key).is_ok()
+    }
+
+    /// The value at the key that is equal to a borrowed form, as a `&str` among `String`s. Compares
+    /// as often as `get`, and takes no memory.
+    ///
+    /// ```
+    /// assert!(ages.get_by("ada") == Some(&36));
+    /// ```
+    final fn get_by<'a, Q: Borrowed<K>>(&'a self, sought: Q) -> Option<&'a V>
+    where
+        K: 'a,
+        ensures value { option_copied result ≡ value_by (Q.side sought) (pairs self.now) }
+
+        // It answers as `get` does by any key that is equal to the form.
+        ensures equal { (k : K) → Q.side sought k ≡ Equal
+            → option_copied result ≡ value_at K.cmp (pairs self.now) k }
+    {
+        let pairs = self.as_slice();
+        match find_key_by(pairs, sought) {
+            Ok(found) => Some(&pairs[found].1),
+            Err(_) => None,
+        }
+    }
+
+    /// Whether a key is equal to a borrowed form. Compares as often as `get`, and takes no memory.
+    final fn contains_key_by<Q: Borrowed<K>>(&self, sought: Q) -> bool
+        ensures answer { result ≡ is_some (value_by (Q.side sought) (pairs self.now)) }
+        ensures equal { (k : K) → Q.side sought k ≡ Equal
+            → result ≡ is_some (value_at K.cmp (pairs self.now) k) }
+    {
+        find_key_by(self.as_slice(), sought).is_ok()
     }
 
     /// The pair with the least key, or none where there is no pair. Compares none, and takes no

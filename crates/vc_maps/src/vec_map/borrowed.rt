@@ -1,0 +1,73 @@
+//! Look-ups and removals by a borrowed form of keys.
+ghost use Rattle.std.specs.Prelude.{◌≡◌, cond, None};
+ghost use Rattle.std.specs.Map.{keys_of};
+ghost use Rattle.std.specs.Ordering.{is_eq};
+ghost use Rattle.std.specs.declared.cmp.Ordering.TheVariants.{Equal};
+ghost use Rattle.vc_joins.specs.Entries.{entry_at, value_at};
+ghost use Rattle.vc_maps.specs.Borrowed.{value_by};
+ghost use Rattle.vc_merge.specs.Ascending.{Ascends};
+ghost use Rattle.vc_merge.specs.Place.{IsPlace};
+
+use super::VecMap;
+use std::alloc::Allocator;
+use std::cmp::Ordering;
+use std::default::MadeWith;
+use vc_merge::merge::Count;
+use vc_merge::search::{Sought, look_up};
+use vc_sets::borrowed::Borrowed;
+
+/// A form of keys that is sought in a list of pairs.
+#[derive(Clone, Copy)]
+struct KeyForm<Q>(Q);
+
+impl<K: Ord, V, Q: Borrowed<K>, C: Count> Sought<(K, V), C> for KeyForm<Q> {
+    ghost side = { λ s p. Q.side s.0 p.0 };
+
+    fn compare(&self, pair: &(K, V), steps: &mut C) -> Ordering {
+        steps.tick();
+        self.0.compare(&pair.0)
+    }
+}
+
+/// The place of the pair whose key is equal to a form in a list that ascends by its keys, or the
+/// gap where it would stand.
+pub fn find_key_by<K: Ord, V, Q: Borrowed<K>>(pairs: &[(K, V)], sought: Q) -> Result<usize, usize>
+    requires { Ascends K.cmp (keys_of pairs.now) }
+    ensures { IsPlace (λ p. Q.side sought p.0) pairs.now result }
+{
+    look_up(pairs, &KeyForm(sought))
+}
+
+impl<K: Ord + Drop, V: Drop, const N: usize, A: Allocator + Copy> VecMap<K, V, N, A>
+where
+    (K, V): MadeWith<A>,
+{
+    /// Takes out the pair whose key is equal to a borrowed form, and hands back its value, or none
+    /// where no such pair is held. The key that was held is dropped; all other pairs stay, and so
+    /// does the room of the list.
+    ///
+    /// Compares as often as `get`, moves the pairs behind that one, and takes no memory.
+    ///
+    /// ```
+    /// assert!(ages.remove_by("ada") == Some(36));
+    /// assert!(ages.get_by("ada").is_none());
+    /// ```
+    pub fn remove_by<Q: Borrowed<K>>(&mut self, sought: Q) -> Option<V>
+        ensures old { result ≡ value_by (Q.side sought) self.old }
+        ensures values { (k : K) → value_at K.cmp self.new k
+            ≡ cond (is_eq (Q.side sought k)) None (value_at K.cmp self.old k) }
+        ensures entries { (k : K) → entry_at K.cmp self.new k
+            ≡ cond (is_eq (Q.side sought k)) None (entry_at K.cmp self.old k) }
+
+        // It answers as `remove` does by any key that is equal to the form.
+        ensures equal { (k : K) → Q.side sought k ≡ Equal → result ≡ value_at K.cmp self.old k }
+    {
+        match find_key_by(self.pairs.as_slice(), sought) {
+            Ok(place) => {
+                let (_, value) = self.pairs.remove(place);
+                Some(value)
+            }
+            Err(_) => None,
+        }
+    }
+}
