@@ -5,6 +5,8 @@
 #![tactic(auto)]
 
 #[cfg(test)]
+mod borrowed;
+#[cfg(test)]
 mod builder;
 pub mod compared;
 #[cfg(test)]

@@ -9,6 +9,7 @@ use std::hash::{FoldHasher, Hash};
 use std::test::Fail;
 use vc_merge::iterators::ascends;
 use vc_merge::merge::Steps;
+use vc_sets::borrowed::Borrowed;
 use vc_sets::vec_set::{AbstractVecSet, SetTest, VecSet};
 
 /// A set of numbers, of which two stand in place.
@@ -110,6 +111,8 @@ impl Change {
             Change::Remove => {
                 left.remove(&1);
                 left.remove(&1);
+                left.remove_by(&2);
+                left.remove_by(&2);
             }
             Change::Pop => pop(left),
             Change::Refill => refill(left),
@@ -154,6 +157,8 @@ fn look<'s, 'a>(set: &'s Numbers<'a>) {
     let _length = AbstractVecSet::as_slice(set).len();
     let _ends = (set.first().is_some(), set.last().is_some());
     let _parts = (set.range(1..3).len(), set.range(2..).len());
+    let _by_form = (set.contains_by(&2), set.get_by(&2).is_some());
+    let _order = Borrowed::compare(&&2u32, &3);
 }
 
 /// Tests two sets.

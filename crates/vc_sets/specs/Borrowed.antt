@@ -1,9 +1,11 @@
 -- Look-ups by a borrowed form, of which `side` says how an element stands to it: `Less` before it, `Equal` at it, `Greater` behind it.
-use Rattle.std.specs.Prelude.{◌≡◌, Bool, List, Option}
+use Rattle.std.specs.Prelude.{◌≡◌, Bool, List, Option, Some, None, refl}
 use Rattle.std.proofs.Common.{sym, ap, ◌∙◌}
+use mathlib.Core.Bool.{true≢false}
 use Rattle.std.specs.List.{find, list_any}
 use Rattle.std.specs.Cmp.{IsTotalOrder, alike_right}
-use Rattle.std.specs.Ordering.{is_eq, ordering_reverse}
+use Rattle.std.specs.Option.{option_cmp}
+use Rattle.std.specs.Ordering.{is_eq, is_gt, is_lt, ordering_reverse}
 use Rattle.std.specs.declared.cmp.Ordering.{Ordering}
 use Rattle.std.specs.declared.cmp.Ordering.TheVariants.{Less, Equal, Greater}
 
@@ -28,3 +30,33 @@ module _ {X F : Type 0} {order : F → F → Ordering} (total : IsTotalOrder ord
   pub behind_by_form : (q : F) (x y : X) → order (lent x) q ≡ Greater → cmp x y ≡ Less → order (lent y) q ≡ Greater
   behind_by_form q x y e l = total.antisymm (lent y) q ∙ ap ordering_reverse
       (total.trans q (lent x) (lent y) (total.antisymm q (lent x) ∙ ap ordering_reverse e) (sym (same x y) ∙ l))
+
+-- ---- forms of elements that may be missing, which then stand first
+
+module _ {X Q : Type 0} (side : Q → X → Ordering) where
+  -- how an element that may be missing stands to a form that may be
+  abbrev pub option_side : Option Q → Option X → Ordering
+  option_side None None = Equal
+  option_side None (Some y) = Greater
+  option_side (Some q) None = Less
+  option_side (Some q) (Some y) = side q y
+
+  module _ (cmp : X → X → Ordering) where
+    pub equal_by_option : ((q : Q) (x y : X) → side q x ≡ Equal → side q y ≡ cmp y x) → (q : Option Q) (x y : Option X)
+        → option_side q x ≡ Equal → option_side q y ≡ option_cmp cmp y x
+    equal_by_option law None None None e = refl
+    equal_by_option law None None (Some y) e = refl
+    equal_by_option law None (Some x) y e = absurd (true≢false (sym (ap is_eq e)))
+    equal_by_option law (Some q) None y e = absurd (true≢false (sym (ap is_eq e)))
+    equal_by_option law (Some q) (Some x) None e = refl
+    equal_by_option law (Some q) (Some x) (Some y) e = law q x y e
+
+    pub behind_by_option : ((q : Q) (x y : X) → side q x ≡ Greater → cmp x y ≡ Less → side q y ≡ Greater)
+        → (q : Option Q) (x y : Option X) → option_side q x ≡ Greater → option_cmp cmp x y ≡ Less
+        → option_side q y ≡ Greater
+    behind_by_option law None None y e l = absurd (true≢false (ap is_eq e))
+    behind_by_option law None (Some x) None e l = absurd (true≢false (ap is_gt l))
+    behind_by_option law None (Some x) (Some y) e l = refl
+    behind_by_option law (Some q) None y e l = absurd (true≢false (ap is_lt e))
+    behind_by_option law (Some q) (Some x) None e l = absurd (true≢false (ap is_gt l))
+    behind_by_option law (Some q) (Some x) (Some y) e l = law q x y e l

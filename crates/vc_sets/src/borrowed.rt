@@ -5,13 +5,14 @@ ghost use Rattle.std.specs.Ordering.{nat_cmp};
 ghost use Rattle.std.specs.String.{string_bytes};
 ghost use Rattle.std.specs.declared.cmp.Ordering.{Ordering};
 ghost use Rattle.std.specs.declared.cmp.Ordering.TheVariants.{Less, Equal, Greater};
-ghost use Rattle.vc_sets.specs.Borrowed.{equal_by_form, behind_by_form};
+ghost use Rattle.vc_sets.specs.Borrowed.{equal_by_form, behind_by_form, equal_by_option, behind_by_option, option_side};
 
 use std::alloc::Allocator;
 use std::cmp::Ordering;
 
 /// A borrowed form of elements: it stands among them where an element that is equal to it does.
-/// `&str` is one of `String`, `&[T]` of `Vec<T>`, and `&T` of any `T`.
+/// `&str` is one of `String`, `&[T]` of `Vec<T>`, `&T` of any `T`, and `Option<Q>` of `Option<T>`
+/// where `Q` is one of `T`.
 ///
 /// An implementation says how an element stands to the form, and proves two laws. Where elements
 /// are ordered by what they lend, `equal_by_form` and `behind_by_form` of `specs::Borrowed` are
@@ -72,6 +73,27 @@ impl<T: Ord, B: Allocator> Borrowed<Vec<T, B>> for &[T] {
 
     fn compare(&self, element: &Vec<T, B>) -> Ordering {
         slices(element.as_slice(), *self)
+    }
+}
+
+impl<T: Ord, Q: Borrowed<T>> Borrowed<Option<T>> for Option<Q> {
+    ghost side = { option_side Q.side };
+
+    ghost orders_as_equal = { equal_by_option Q.side T.cmp Q.orders_as_equal };
+
+    ghost stays_behind = { behind_by_option Q.side T.cmp Q.stays_behind };
+
+    fn compare(&self, element: &Option<T>) -> Ordering {
+        match self {
+            Some(form) => match element {
+                Some(held) => form.compare(held),
+                None => Ordering::Less,
+            },
+            None => match element {
+                Some(_) => Ordering::Greater,
+                None => Ordering::Equal,
+            },
+        }
     }
 }
 
