@@ -15,19 +15,15 @@ invariant_of-self g c =
 
 pub returns-in-Ok-clause-entries : goal.returns-in-Ok-clause-entries
 returns-in-Ok-clause-entries g c =
-    let side = g.Q.Borrowed.side c.args.sought in
-    let taken = found-taken_by g.K.Ord.cmp side (g.met.Q.Borrowed.orders_as_equal c.args.sought)
-    g.met.K.Ord.total c.self.inside.pairs.items c.as_slice.result.now _ c.in-Ok.place
-    c.as_slice.ensures c.in-Ok.ensures c.self.invariant c.remove-value.ensures.items in
-    λ k. taken.entries k ∙ ap (λ l. cond (is_eq (side k)) None (entry_at g.K.Ord.cmp l k)) c.self.view_is
+    rw (← c.self.view_is) (found-taken_by g.K.Ord.cmp (g.Q.Borrowed.side c.args.sought)
+    (g.met.Q.Borrowed.orders_as_equal c.args.sought) g.met.K.Ord.total c.self.inside.pairs.items c.as_slice.result.now _
+    c.in-Ok.place c.as_slice.ensures c.in-Ok.ensures c.self.invariant c.remove-value.ensures.items).entries
 
 pub returns-in-Ok-clause-values : goal.returns-in-Ok-clause-values
 returns-in-Ok-clause-values g c =
-    let side = g.Q.Borrowed.side c.args.sought in
-    let taken = found-taken_by g.K.Ord.cmp side (g.met.Q.Borrowed.orders_as_equal c.args.sought)
-    g.met.K.Ord.total c.self.inside.pairs.items c.as_slice.result.now _ c.in-Ok.place
-    c.as_slice.ensures c.in-Ok.ensures c.self.invariant c.remove-value.ensures.items in
-    λ k. taken.values k ∙ ap (λ l. cond (is_eq (side k)) None (value_at g.K.Ord.cmp l k)) c.self.view_is
+    rw (← c.self.view_is) (found-taken_by g.K.Ord.cmp (g.Q.Borrowed.side c.args.sought)
+    (g.met.Q.Borrowed.orders_as_equal c.args.sought) g.met.K.Ord.total c.self.inside.pairs.items c.as_slice.result.now _
+    c.in-Ok.place c.as_slice.ensures c.in-Ok.ensures c.self.invariant c.remove-value.ensures.items).values
 
 pub returns-in-Ok-clause-old : goal.returns-in-Ok-clause-old
 returns-in-Ok-clause-old g c =
