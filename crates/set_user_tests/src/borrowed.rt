@@ -22,79 +22,34 @@ fn words(alloc: Global, list: &[&str]) -> Result<Words, AllocError> {
     Ok(set)
 }
 
-/// A set of words, a word, and where it would stand, if the set has it.
-#[derive(Clone, Copy)]
-struct Row {
-    words: &'static [&'static str],
-    sought: &'static str,
-    place: Option<usize>,
-}
-
-const ROWS: [Row; 8] = [
-    Row {
-        words: &[],
-        sought: "b",
-        place: None,
-    },
-    Row {
-        words: &["b", "d", "f"],
-        sought: "a",
-        place: None,
-    },
-    Row {
-        words: &["b", "d", "f"],
-        sought: "b",
-        place: Some(0),
-    },
-    Row {
-        words: &["b", "d", "f"],
-        sought: "da",
-        place: None,
-    },
-    Row {
-        words: &["b", "d", "f"],
-        sought: "d",
-        place: Some(1),
-    },
-    Row {
-        words: &["b", "d", "f"],
-        sought: "f",
-        place: Some(2),
-    },
-    Row {
-        words: &["b", "d", "f"],
-        sought: "g",
-        place: None,
-    },
-    Row {
-        words: &["", "b"],
-        sought: "",
-        place: Some(0),
-    },
+/// The words of a set, a word that is sought, and whether the set has it.
+const ROWS: [(&[&str], &str, bool); 8] = [
+    (&[], "b", false),
+    (&["b", "d", "f"], "a", false),
+    (&["b", "d", "f"], "b", true),
+    (&["b", "d", "f"], "da", false),
+    (&["b", "d", "f"], "d", true),
+    (&["b", "d", "f"], "f", true),
+    (&["b", "d", "f"], "g", false),
+    (&["", "b"], "", true),
 ];
 
-/// Whether the word is found where it stands or nowhere, is taken out once, and leaves the others.
-fn is_right(alloc: Global, row: &Row) -> Result<bool, AllocError> {
-    let mut set = words(alloc, row.words)?;
-    let is_held = row.place.is_some();
-    let shown = set
-        .get_by(row.sought)
-        .map(|word| word.as_str() == row.sought);
-    let is_found = set.contains_by(row.sought) == is_held && shown.unwrap_or(false) == is_held;
-    let is_removed = set.remove_by(row.sought) == is_held && !set.remove_by(row.sought);
+/// Whether the word is found if it is held, taken out once, and leaves the others.
+fn is_right(alloc: Global, list: &[&str], sought: &str, is_held: bool) -> Result<bool, AllocError> {
+    let mut set = words(alloc, list)?;
+    let shown = set.get_by(sought).map(|word| word.as_str() == sought);
+    let is_found = set.contains_by(sought) == is_held && shown.unwrap_or(false) == is_held;
+    let is_removed = set.remove_by(sought) == is_held && !set.remove_by(sought);
     let left = set.as_ref().iter().map(|word| word.as_str());
-    let stays = row.words.iter().copied().filter(|word| *word != row.sought);
-    Ok(is_found && is_removed && left.eq(stays))
+    Ok(is_found && is_removed && left.eq(list.iter().copied().filter(|word| *word != sought)))
 }
 
 #[test]
 fn words_are_found_by_their_letters(rt: HostRuntime) -> Result<(), Fail> {
-    for row in &ROWS {
+    for (list, sought, is_held) in ROWS {
         assert!(rt;
-            is_right(rt.alloc(), row)?,
-            "{:?} in {:?}",
-            row.sought,
-            row.words
+            is_right(rt.alloc(), list, sought, is_held)?,
+            "{sought:?} in {list:?}"
         );
     }
     Ok(())
