@@ -3,9 +3,11 @@ use Rattle.std.specs.Prelude.{◌≡◌, ℕ, ◌+◌, true, false, List, [], �
 use Rattle.std.proofs.Common.{sym}
 use Rattle.std.specs.List.Sorted.{IsStrictlySortedBy}
 use Rattle.std.specs.Ordering.{nat_cmp}
+use Rattle.std.specs.declared.cmp.Ordering.{Ordering}
 use denote.Ref.{Bor}
 use denote.Param.Members.{Shared}
 use Rattle.vc_joins.specs.Entries.{AscendsByKey, entry_at, value_at}
+use Rattle.vc_maps.specs.Borrowed.{value_by}
 use Rattle.vc_joins.specs.Question.{asks, asked, left_spelling, right_spelling}
 use Rattle.vc_joins.specs.Join.{IsAnswered, IsAsked, IsJoin, IsJoinBy, ClonedKey, OldKey, MovedKey}
 use Rattle.vc_joins.specs.Answers.{seen, seen_left, seen_right, seen_inner, MayAnswer, MayAnswerLeft, MayAnswerRight}
@@ -44,6 +46,17 @@ value_of_two = refl
 
 nothing_at_three : value_at nat_cmp tens 3 ≡ None
 nothing_at_three = refl
+
+-- the same by the forms of 2 and 3
+value_by_two : value_by (λ j. nat_cmp j 2) tens ≡ Some 20
+value_by_two = refl
+
+nothing_by_three : value_by (λ j. nat_cmp j 3) tens ≡ None
+nothing_by_three = refl
+
+-- a key as its own form
+value_by_key : {K V : Type 0} (cmp : K → K → Ordering) (es : List (K × V)) (k : K) → value_by (cmp k) es ≡ value_at cmp es k
+value_by_key cmp es k = refl
 
 -- ---- questions
 

@@ -1,10 +1,13 @@
 -- Worked rows of the definitions on sets.
-use Rattle.std.specs.Prelude.{◌≡◌, ℕ, suc, nat_le, Bool, true, false, not, ◌||◌, ◌&&◌, [], ◌∷◌, Some, None, refl}
+use Rattle.std.specs.Prelude.{◌≡◌, ℕ, suc, nat_le, Bool, true, false, not, ◌||◌, ◌&&◌, List, [], ◌∷◌, Some, None, refl}
 use Rattle.std.proofs.Common.{sym, ap}
 use Rattle.std.specs.List.Sorted.{IsStrictlySortedBy}
 use Rattle.std.specs.Ordering.{nat_cmp}
-use Rattle.vc_merge.specs.Ascending.{Ascends}
+use Rattle.std.specs.declared.cmp.Ordering.{Ordering}
+use Rattle.std.specs.declared.cmp.Ordering.TheVariants.{Less, Greater}
+use Rattle.vc_merge.specs.Ascending.{Ascends, member, element_at}
 use Rattle.vc_merge.specs.Clones.{ClonesAreEqual}
+use Rattle.vc_sets.specs.Borrowed.{member_by, element_by, option_side}
 use Rattle.vc_sets.specs.SetOf.{Keeps, IsSetOf, and_not, exactly_one}
 use Rattle.vc_sets.specs.Tests.{IsDisjoint, IsSubset}
 use Rattle.vc_sets.specs.Algebra.{made_by, IsTestedBy}
@@ -118,3 +121,36 @@ named_operation = (refl, refl)
 
 named_test : IsTestedBy Superset order (one ∷ three ∷ []) (three ∷ [])
 named_test = is_subset
+
+-- ---- borrowed forms
+
+-- by the forms of 3 and 2, in 1 3 5
+three_is_found : member_by (λ y. nat_cmp y 3) (1 ∷ 3 ∷ 5 ∷ []) ≡ true
+three_is_found = refl
+
+two_is_not_found : member_by (λ y. nat_cmp y 2) (1 ∷ 3 ∷ 5 ∷ []) ≡ false
+two_is_not_found = refl
+
+three_is_shown : element_by (λ y. nat_cmp y 3) (1 ∷ 3 ∷ 5 ∷ []) ≡ Some 3
+three_is_shown = refl
+
+nothing_is_shown : element_by (λ y. nat_cmp y 2) (1 ∷ 3 ∷ 5 ∷ []) ≡ None
+nothing_is_shown = refl
+
+-- an element as its own form
+member_by_element : {X : Type 0} (cmp : X → X → Ordering) (xs : List X) (x : X) → member_by (λ y. cmp y x) xs ≡ member cmp xs x
+member_by_element cmp xs x = refl
+
+element_by_element : {X : Type 0} (cmp : X → X → Ordering) (xs : List X) (x : X)
+    → element_by (λ y. cmp y x) xs ≡ element_at cmp xs x
+element_by_element cmp xs x = refl
+
+-- what is missing stands first
+missing_is_less : option_side (λ q y. nat_cmp y q) (Some 3) None ≡ Less
+missing_is_less = refl
+
+five_is_greater : option_side (λ q y. nat_cmp y q) (Some 3) (Some 5) ≡ Greater
+five_is_greater = refl
+
+nothing_stands_first : option_side (λ q y. nat_cmp y q) None (Some 5) ≡ Greater
+nothing_stands_first = refl

@@ -2,3 +2,4 @@ pub mod Tags
 pub mod Changes
 pub mod Stock
 pub mod Overlays
+pub mod Names

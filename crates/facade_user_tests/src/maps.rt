@@ -1,12 +1,14 @@
 //! Maps from outside: look-ups, changes and joins, with what a user says of them.
-ghost use Rattle.std.specs.Prelude.{◌≡◌, ◌-◌, ◌↔◌, [], cond, drop, length, min, reverse, slice_get, take, Some, None, ℕ, IsSome, IsTrue, IfOk, IfSome, IsOk, OnOk, OnErr};
+ghost use Rattle.std.specs.Prelude.{◌≡◌, ◌-◌, ◌↔◌, [], cond, drop, length, min, reverse, slice_get, take, false, Some, None, ℕ, IsSome, IsTrue, IfOk, IfSome, IsOk, OnOk, OnErr};
 ghost use Rattle.std.specs.BTreeMap.Range.{entries_between};
-ghost use Rattle.std.specs.Map.{keys_of, values_of};
-ghost use Rattle.std.specs.Option.{option_copied};
+ghost use Rattle.std.specs.Map.{keys_of, lookup, values_of};
+ghost use Rattle.std.specs.String.{string_cmp};
+ghost use Rattle.std.specs.Option.{option_cmp, option_copied};
 ghost use Rattle.std.specs.Ordering.{eq_by_cmp, nat_cmp};
 ghost use Rattle.std.specs.declared.ops.Bound.TheVariants.{Included, Excluded};
 ghost use Rattle.vec_collections.specs.Entries.{value_at};
 ghost use Rattle.vec_collections.specs.JoinValues.{in_both, in_either, in_left, in_right};
+ghost use Rattle.facade_user_tests.specs.Names.{has_letters, IsSpelled};
 ghost use Rattle.facade_user_tests.specs.Stock.{filled, left_over, together};
 
 use std::alloc::{AllocError, Global};
@@ -77,6 +79,34 @@ pub fn is_listed(stock: &Stock, article: u32) -> bool
     ensures { IsTrue result ↔ IsSome (value_at nat_cmp stock.now article) }
 {
     stock.contains_key(&article)
+}
+
+/// The desk of a user, in any map by names, or none where he has none.
+pub fn desk_of<'a, M: AbstractVecMap<String, u32>>(desks: &'a M, name: &str) -> Option<&'a u32>
+    ensures { option_copied result ≡ lookup (has_letters name.now) (M.pairs desks.now) }
+{
+    desks.get_by(name)
+}
+
+/// Whether a user has a desk, in any map by names.
+pub fn has_desk<M: AbstractVecMap<String, u32>>(desks: &M, name: &str) -> bool
+    ensures { IsTrue result ↔ IsSome (lookup (has_letters name.now) (M.pairs desks.now)) }
+{
+    desks.contains_key_by(name)
+}
+
+/// The desks of users by their names, of which four need no allocation. One may be nobody's.
+pub type Desks = VecMap<Option<String>, u32, 4>;
+
+/// Takes the desk of a user away, and answers which one it was. All others keep theirs.
+pub fn clear_desk(desks: &mut Desks, name: &str) -> Option<u32>
+    ensures was { (user : _) → IsSpelled name.now user
+        → result ≡ value_at (option_cmp string_cmp) desks.old (Some user) }
+    ensures desks { (user : _) → value_at (option_cmp string_cmp) desks.new (Some user)
+        ≡ cond (has_letters name.now user) None
+        (value_at (option_cmp string_cmp) desks.old (Some user)) }
+{
+    desks.remove_by(Some(name))
 }
 
 /// The articles with the least and the greatest number, or none where nothing is in stock.

@@ -1,13 +1,15 @@
 //! Sets from outside: each call, operator and iteration, with what a user says of it.
-ghost use Rattle.std.specs.Prelude.{◌≡◌, ◌==◌, ◌||◌, ◌&&◌, ◌↔◌, ◌≤◌, ◌-◌, ◌%◌, not, IfOk, IfSome, IsNone, OnOk, OnErr, IsOk, IsTrue, Some, [], ◌∷◌, ℕ, length, count_by, drop, filter, nat_le, reverse, slice_get, take};
+ghost use Rattle.std.specs.Prelude.{◌≡◌, ◌==◌, ◌||◌, ◌&&◌, ◌↔◌, ◌≤◌, ◌-◌, ◌%◌, not, IfOk, IfSome, IsNone, OnOk, OnErr, IsOk, IsTrue, Some, [], ◌∷◌, ℕ, false, length, count_by, drop, filter, nat_le, reverse, slice_get, take};
 ghost use Rattle.std.specs.BTreeMap.Range.{range_contains};
 ghost use Rattle.std.specs.Option.{option_copied};
 ghost use Rattle.std.specs.Ordering.{nat_cmp};
 ghost use Rattle.std.specs.declared.ops.Bound.TheVariants.{Included, Excluded};
 ghost use Rattle.vec_collections.specs.Ascending.{member};
 ghost use Rattle.std.specs.Hash as fed;
-ghost use Rattle.std.specs.List.{fold};
+ghost use Rattle.std.specs.List.{find, fold, list_any};
+ghost use Rattle.std.specs.String.{string_cmp};
 ghost use Rattle.std.specs.Cmp.Lexicographic.{slice_cmp, slice_partial_cmp};
+ghost use Rattle.facade_user_tests.specs.Names.{has_letters};
 ghost use Rattle.facade_user_tests.specs.Tags.{has, IsEither, IsBoth, IsOne, IsRest, AreMade, AreTested};
 
 use smallvec::SmallVec;
@@ -54,6 +56,32 @@ pub fn names_by_operators(
     b: &VecSet<String, 4>,
 ) -> Result<[VecSet<String, 4>; 4], AllocError> {
     Ok([(a | b)?, (a & b)?, (a ^ b)?, (a - b)?])
+}
+
+/// The names of users, of which four need no allocation.
+pub type Names = VecSet<String, 4>;
+
+/// Whether a name is taken: whether one of the names that are held has its letters.
+pub fn is_taken(names: &Names, name: &str) -> bool
+    ensures { result ≡ list_any (λ held. has_letters name.now held) names.now }
+{
+    names.contains_by(name)
+}
+
+/// A name as it is held, or none where it is free.
+pub fn held_name<'a>(names: &'a Names, name: &str) -> Option<&'a String>
+    ensures { option_copied result ≡ find (λ held. has_letters name.now held) names.now }
+{
+    names.get_by(name)
+}
+
+/// Gives a name free, and answers whether it was taken. Each other name stays.
+pub fn give_free(names: &mut Names, name: &str) -> bool
+    ensures was_taken { result ≡ list_any (λ held. has_letters name.now held) names.old }
+    ensures others { (other : _) → has_letters name.now other ≡ false
+        → member string_cmp names.new other ≡ member string_cmp names.old other }
+{
+    names.remove_by(name)
 }
 
 /// By the methods.

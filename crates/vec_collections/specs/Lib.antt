@@ -13,6 +13,7 @@ pub use Rattle.vc_joins.specs.Question
 pub use Rattle.vc_joins.specs.Values as JoinValues
 pub use Rattle.vc_joins.specs.declared.question.JoinKind
 pub use Rattle.vc_joins.specs.declared.question.OuterJoinArg
+pub use Rattle.vc_maps.specs.Borrowed as MapBorrowed
 pub use Rattle.vc_maps.specs.Combining as MapCombining
 pub use Rattle.vc_maps.specs.Iterating as MapIterating
 pub use Rattle.vc_maps.specs.Lending
@@ -30,6 +31,7 @@ pub use Rattle.vc_merge.specs.Takes
 pub use Rattle.vc_merge.specs.Yielded
 pub use Rattle.vc_path_filter.specs.Allowed
 pub use Rattle.vc_sets.specs.Algebra
+pub use Rattle.vc_sets.specs.Borrowed
 pub use Rattle.vc_sets.specs.Iterating
 pub use Rattle.vc_sets.specs.Laws as SetLaws
 pub use Rattle.vc_sets.specs.SetOf

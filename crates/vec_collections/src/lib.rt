@@ -29,6 +29,7 @@ pub mod iterators {
 
 /// Small sets as ascending lists.
 pub mod vec_set {
+    pub use vc_sets::borrowed::Borrowed;
     pub use vc_sets::vec_set::{
         AbstractVecSet, SetOp, SetTest, VecSet, VecSet2, difference, intersection,
         symmetric_difference, union,
@@ -41,6 +42,7 @@ pub mod vec_map {
     pub use vc_maps::vec_map::{
         AbstractVecMap, VecMap, VecMap1, inner_join, left_join, outer_join, right_join,
     };
+    pub use vc_sets::borrowed::Borrowed;
 }
 
 /// Sets that are a list, or all that is not in it.
@@ -103,6 +105,6 @@ pub use vec_map::{
     right_join,
 };
 pub use vec_set::{
-    AbstractVecSet, SetOp, SetTest, VecSet, VecSet2, difference, intersection,
+    AbstractVecSet, Borrowed, SetOp, SetTest, VecSet, VecSet2, difference, intersection,
     symmetric_difference, union,
 };

@@ -8,6 +8,7 @@ ghost use Rattle.std.specs.Ordering.{nat_cmp};
 ghost use Rattle.std.specs.Prelude.{◌≡◌, ◌↔◌, Ok, IfOk, IsTrue, length, map};
 ghost use Rattle.vec_collections.specs.Answers.{MayAnswer, MayAnswerInner, MayAnswerLeft, MayAnswerRight, seen};
 ghost use Rattle.vec_collections.specs.Ascending.{Ascends};
+ghost use Rattle.vec_collections.specs.Borrowed.{member_by};
 ghost use Rattle.vec_collections.specs.Chain.{allows, IsMerged};
 ghost use Rattle.vec_collections.specs.Commanded.{command_of};
 ghost use Rattle.vec_collections.specs.Entries.{value_at};
@@ -29,7 +30,8 @@ use crate::laws::{AskInner, AskLeft, AskOuter, AskRight, Question};
 use crate::merge::{Count, MergeOperation, MergeState, merge};
 use crate::radix_tree::{RadixTree, TreeCommand, run};
 use crate::{
-    JoinKind, OuterJoinArg, VecMap1, VecSet2, inner_join, left_join, outer_join, right_join,
+    AbstractVecSet, Borrowed, JoinKind, OuterJoinArg, VecMap1, VecSet2, inner_join, left_join,
+    outer_join, right_join,
 };
 use std::alloc::{AllocError, Global};
 use std::slice;
@@ -158,6 +160,13 @@ pub fn elements_of(set: &VecSet2<u32>) -> VecSetIter<slice::Iter<'_, u32>>
     ensures { Shows nat_cmp set.now result }
 {
     set.iter()
+}
+
+/// Whether a set of texts has an element that is equal to a borrowed form.
+pub fn has_form<Q: Borrowed<String>>(set: &VecSet2<String>, form: Q) -> bool
+    ensures { result ≡ member_by (Q.side form) set.now }
+{
+    set.contains_by(form)
 }
 
 /// The pairs of a map in ascending order of keys.
