@@ -6,3 +6,4 @@ pub mod Laws
 pub mod Iterating
 pub mod Begun
 pub mod Borrowed
+pub mod EqualClones

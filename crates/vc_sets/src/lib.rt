@@ -3,6 +3,7 @@
 
 pub mod borrowed;
 mod choosing;
+pub mod cloning;
 mod combine;
 pub mod laws;
 mod operations;

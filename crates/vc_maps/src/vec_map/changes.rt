@@ -1,5 +1,5 @@
 //! Pairs that go, and copies of a map.
-ghost use Rattle.std.specs.Prelude.{IfOk};
+ghost use Rattle.std.specs.Prelude.{◌≡◌, [], IfOk};
 ghost use Rattle.std.specs.Fn.{CalledAt};
 ghost use Rattle.std.specs.Iterator.{CallableOnAllAt, YieldsFirst};
 ghost use Rattle.std.specs.List.{AllZip};
@@ -7,12 +7,14 @@ ghost use Rattle.std.specs.List.Retain.{IsFiltered};
 ghost use Rattle.vc_joins.specs.Entries.{entry_at};
 ghost use Rattle.vc_merge.specs.Retaining.{IsRetained};
 ghost use Rattle.vc_merge.specs.Clones.{ClonesAreEqual};
+ghost use Rattle.vc_sets.specs.EqualClones.{lists_equal, pairs_equal};
 
 use super::VecMap;
 use std::alloc::{AllocError, Allocator};
 use std::default::MadeWith;
 use vc_merge::lists::keep_in_front;
 use vc_merge::states::clones_of;
+use vc_sets::cloning::ClonesEqual;
 
 impl<K: Ord + Drop, V: Drop, const N: usize, A: Allocator + Copy> VecMap<K, V, N, A>
 where
@@ -48,5 +50,37 @@ where
     {
         let pairs = clones_of(*self.pairs.allocator(), self.pairs.as_slice())?;
         Ok(VecMap { pairs })
+    }
+}
+
+/// Takes memory as [`clone`](VecMap::clone) does.
+impl<K: ClonesEqual, V: Clone, const N: usize, A: Allocator + Copy> Clone for VecMap<K, V, N, A>
+where
+    (K, V): MadeWith<A>,
+{
+    ghost is_clone = { AllZip (λ p q. K.is_clone p.0 q.0 × V.is_clone p.1 q.1) };
+
+    fn clone(&self) -> Result<Self, AllocError> {
+        VecMap::clone(self)
+    }
+}
+
+impl<K: ClonesEqual, V: ClonesEqual, const N: usize, A: Allocator + Copy> ClonesEqual
+    for VecMap<K, V, N, A>
+where
+    (K, V): MadeWith<A>,
+{
+    ghost clones_equal = { lists_equal (pairs_equal K.clones_equal V.clones_equal) };
+}
+
+/// The map with no pair. Takes no memory.
+impl<K: Ord + Drop, V: Drop, const N: usize, A: Allocator + Copy> MadeWith<A> for VecMap<K, V, N, A>
+where
+    (K, V): MadeWith<A>,
+{
+    ghost is_made_with = { λ m. m ≡ [] };
+
+    fn made_with(alloc: A) -> Self {
+        Self::empty(alloc)
     }
 }

@@ -7,6 +7,7 @@ ghost use Rattle.vc_merge.specs.Ascending.{Ascends, element_at, member};
 ghost use Rattle.vc_merge.specs.Clones.{ClonesAreEqual};
 
 use super::VecSet;
+use crate::cloning::ClonesEqual;
 use smallvec::SmallVec;
 use std::alloc::{AllocError, Allocator};
 use std::collections::BTreeSet;
@@ -129,6 +130,25 @@ impl<T: Ord + Clone + MadeWith<A>, const N: usize, A: Allocator + Copy> VecSet<T
     {
         let elements = clones_of(*self.elements.allocator(), self.elements.as_slice())?;
         Ok(VecSet { elements })
+    }
+}
+
+/// Takes memory as [`clone`](VecSet::clone) does.
+impl<T: ClonesEqual + MadeWith<A>, const N: usize, A: Allocator + Copy> Clone for VecSet<T, N, A> {
+    ghost is_clone = { AllZip T.is_clone };
+
+    fn clone(&self) -> Result<Self, AllocError> {
+        VecSet::clone(self)
+    }
+}
+
+/// The set with no element. Takes no memory.
+impl<T: Ord + MadeWith<A> + Drop, const N: usize, A: Allocator + Copy> MadeWith<A>
+    for VecSet<T, N, A> {
+    ghost is_made_with = { λ s. s ≡ [] };
+
+    fn made_with(alloc: A) -> Self {
+        Self::empty(alloc)
     }
 }
 
