@@ -5,6 +5,7 @@ use crate::nth::Nth;
 use smallvec::SmallVec;
 use std::alloc::{AllocError, Global};
 use std::collections::BTreeSet;
+use std::default::MadeWith;
 use std::hash::{FoldHasher, Hash};
 use std::test::Fail;
 use vc_merge::iterators::ascends;
@@ -245,11 +246,13 @@ fn insert_known<'s, 'a>(left: &'s mut Numbers<'a>, right: &'s Numbers<'a>) {
 
 /// Makes sets that fit in place, of one element or of as many as stand there.
 fn make_in_place(memory: &Nth<Global>, list: Vec<u32>, tree: BTreeSet<u32>) {
+    let _none = Numbers::made_with(memory);
     let mut set = Numbers::empty(memory);
     let _first = set.insert(2);
     let _second = set.insert(1);
     let _one = Numbers::single(memory, 3);
     let _copy = set.clone();
+    let _by_trait = Clone::clone(&set);
     if ascends(list.as_slice()) {
         let _of_list = Numbers::from_vec(memory, list);
     }

@@ -15,6 +15,7 @@ use std::default::MadeWith;
 use std::marker::Model;
 use std::ops::Index;
 use vc_maps::vec_map::{AbstractVecMap, VecMap};
+use vc_sets::cloning::ClonesEqual;
 
 /// A map with a value at every key: a `VecMap`, and a default for each key that it lacks. No key is
 /// mapped to a value that equals the default.
@@ -133,5 +134,18 @@ where
         let mappings = self.mappings.clone()?;
         let default = self.default.clone()?;
         Ok(TotalVecMap { mappings, default })
+    }
+}
+
+/// Takes memory as [`clone`](TotalVecMap::clone) does.
+impl<K: ClonesEqual, V: ClonesEqual, const N: usize, A: Allocator + Copy> Clone
+    for TotalVecMap<K, V, N, A>
+where
+    (K, V): MadeWith<A>,
+{
+    ghost is_clone = { IsClonedMap K.is_clone V.is_clone };
+
+    fn clone(&self) -> Result<Self, AllocError> {
+        TotalVecMap::clone(self)
     }
 }

@@ -15,6 +15,7 @@ use std::alloc::{AllocError, Allocator, Global};
 use std::default::MadeWith;
 use std::marker::Model;
 use std::ops::Not;
+use vc_sets::cloning::ClonesEqual;
 use vc_sets::vec_set::{AbstractVecSet, VecSet};
 
 /// A set that is a list of elements or, where it is negated, all values that are not in the list.
@@ -192,6 +193,26 @@ impl<T: Ord + Clone + MadeWith<A>, const N: usize, A: Allocator + Copy> TotalVec
             elements: self.elements.clone()?,
             negated: self.negated,
         })
+    }
+}
+
+/// Takes memory as [`clone`](TotalVecSet::clone) does.
+impl<T: ClonesEqual + MadeWith<A>, const N: usize, A: Allocator + Copy> Clone
+    for TotalVecSet<T, N, A> {
+    ghost is_clone = { IsClonedTotal T.is_clone };
+
+    fn clone(&self) -> Result<Self, AllocError> {
+        TotalVecSet::clone(self)
+    }
+}
+
+/// The set of no value. Takes no memory.
+impl<T: Ord + MadeWith<A> + Drop, const N: usize, A: Allocator + Copy> MadeWith<A>
+    for TotalVecSet<T, N, A> {
+    ghost is_made_with = { λ s. s ≡ total [] false };
+
+    fn made_with(alloc: A) -> Self {
+        Self::empty(alloc)
     }
 }
 
