@@ -32,6 +32,7 @@ pub use Rattle.vc_merge.specs.Yielded
 pub use Rattle.vc_path_filter.specs.Allowed
 pub use Rattle.vc_sets.specs.Algebra
 pub use Rattle.vc_sets.specs.Borrowed
+pub use Rattle.vc_sets.specs.EqualClones
 pub use Rattle.vc_sets.specs.Iterating
 pub use Rattle.vc_sets.specs.Laws as SetLaws
 pub use Rattle.vc_sets.specs.SetOf

@@ -27,9 +27,11 @@ pub mod iterators {
     };
 }
 
-/// Small sets as ascending lists.
+/// Small sets as ascending lists, the law of elements by which sets have `Clone`, and forms that
+/// elements are looked up by.
 pub mod vec_set {
     pub use vc_sets::borrowed::Borrowed;
+    pub use vc_sets::cloning::ClonesEqual;
     pub use vc_sets::vec_set::{
         AbstractVecSet, SetOp, SetTest, VecSet, VecSet2, difference, intersection,
         symmetric_difference, union,
@@ -105,6 +107,6 @@ pub use vec_map::{
     right_join,
 };
 pub use vec_set::{
-    AbstractVecSet, Borrowed, SetOp, SetTest, VecSet, VecSet2, difference, intersection,
-    symmetric_difference, union,
+    AbstractVecSet, Borrowed, ClonesEqual, SetOp, SetTest, VecSet, VecSet2, difference,
+    intersection, symmetric_difference, union,
 };

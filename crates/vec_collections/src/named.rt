@@ -5,9 +5,9 @@ ghost use Rattle.std.specs.Iterator.{Drains, IsFinite};
 ghost use Rattle.std.specs.Map.{keys_of};
 ghost use Rattle.std.specs.Option.{option_copied};
 ghost use Rattle.std.specs.Ordering.{nat_cmp};
-ghost use Rattle.std.specs.Prelude.{◌≡◌, ◌↔◌, Ok, IfOk, IsTrue, length, map};
+ghost use Rattle.std.specs.Prelude.{◌≡◌, ◌↔◌, ◌&&◌, Ok, IfOk, IsTrue, length, map};
 ghost use Rattle.vec_collections.specs.Answers.{MayAnswer, MayAnswerInner, MayAnswerLeft, MayAnswerRight, seen};
-ghost use Rattle.vec_collections.specs.Ascending.{Ascends};
+ghost use Rattle.vec_collections.specs.Ascending.{Ascends, member};
 ghost use Rattle.vec_collections.specs.Borrowed.{member_by};
 ghost use Rattle.vec_collections.specs.Chain.{allows, IsMerged};
 ghost use Rattle.vec_collections.specs.Commanded.{command_of};
@@ -30,10 +30,11 @@ use crate::laws::{AskInner, AskLeft, AskOuter, AskRight, Question};
 use crate::merge::{Count, MergeOperation, MergeState, merge};
 use crate::radix_tree::{RadixTree, TreeCommand, run};
 use crate::{
-    AbstractVecSet, Borrowed, JoinKind, OuterJoinArg, VecMap1, VecSet2, inner_join, left_join,
-    outer_join, right_join,
+    AbstractVecSet, Borrowed, ClonesEqual, JoinKind, OuterJoinArg, VecMap1, VecSet2, inner_join,
+    left_join, outer_join, right_join,
 };
 use std::alloc::{AllocError, Global};
+use std::default::MadeWith;
 use std::slice;
 
 /// Whether a list ascends, and whether a list of pairs does by its keys.
@@ -140,6 +141,17 @@ pub fn set_of<I: Iterator<Item = u32> + SortedByItem>(
     ensures { IfOk result (λ set. Drains I.next_gives items set) }
 {
     VecSet2::from_iter(alloc, items)
+}
+
+/// What is in both of two sets, of any elements whose clones are equal to them.
+pub fn in_both<T: ClonesEqual + MadeWith<Global>>(
+    left: &VecSet2<T>,
+    right: &VecSet2<T>,
+) -> Result<VecSet2<T>, AllocError>
+    ensures { IfOk result (λ both. (x : T)
+        → member T.cmp both x ≡ (member T.cmp left.now x && member T.cmp right.now x)) }
+{
+    left.intersection(right)
 }
 
 /// The map of the pairs of an iterator whose keys ascend.
