@@ -10,6 +10,7 @@ pub mod keys;
 pub mod ledgers;
 pub mod loading;
 pub mod maps;
+pub mod nested;
 pub mod one_tree;
 pub mod overlays;
 pub mod sets;
