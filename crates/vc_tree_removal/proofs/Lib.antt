@@ -1,4 +1,6 @@
+pub mod Going
 pub mod Withouts
 pub mod Lists
 pub mod Removing
 pub mod Reaching
+pub mod Beginning

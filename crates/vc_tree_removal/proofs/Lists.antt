@@ -2,18 +2,21 @@
 --     tree_at-map, without-map, trees-long        the tree at a place, the list without it, how many there are
 --     parts-first        what is left of two trees at most
 --     at-within, at-alike, first-alike, without-alike_in        two lists that are alike
-use Rattle.std.proofs.Common.{◌≡◌, ℕ, zero, suc, ◌+◌, ◌<◌, ◌≤◌, [], ◌∷◌, ◌++◌, List, Option, None, Some, refl, sym, ap, ◌∙◌}
+use Rattle.std.proofs.Common.{◌≡◌, ℕ, zero, suc, ◌+◌, ◌<◌, ◌≤◌, [], ◌∷◌, ◌++◌, List, Option, None, Some, refl, sym, ap}
+use Rattle.std.proofs.Common.{◌∙◌, subst}
 use Rattle.std.proofs.Common.{arith, get_or, map, length, length-append, Bool, true, false}
 use Rattle.std.specs.List.{remove}
 use Rattle.std.specs.Option.{option_map, option_to_list}
 use Rattle.std.specs.Prelude.{IfNone, ◌==◌}
 use Rattle.std.specs.declared.cmp.Ordering.{Ordering}
+use Rattle.vc_tree_model.specs.Key.{behind}
 use Rattle.vc_tree_model.specs.Tree.{Tree, Forest, bare, grow, forest, node, trees}
 use Rattle.vc_tree_model.specs.Canonical.{AllAbove, AreChildren}
 use Rattle.vc_tree_model.specs.Same.{IsAlike, IsAlikeIn}
 use Rattle.vc_tree_model.proofs.KeyLemmas.{none-some}
 use Rattle.vc_tree_nodes.proofs.Finding.{trees-length}
-use Rattle.vc_tree_removal.specs.Taking.{AreSome, IsDeep, tree_at, without}
+use Rattle.vc_tree_removal.specs.Taking.{AreSome, IsDeepAt, IsLeft, tree_at, without}
+use Rattle.vc_tree_removal.specs.declared.removal.Extent.{Extent}
 
 module _ {K V T : Type 0} (tree : T → Tree K V) where
   -- the tree at a place
@@ -115,11 +118,16 @@ module _ {K V : Type 0} where
     deep-alike_in (grow p v kids rest) bare a s = absurd a
     deep-alike_in (grow p v kids rest) (grow q w more others) a s = tt
 
-    pub deep-alike : (f g : Forest K V) (i : ℕ) → IsAlikeIn keeps f g → IsDeep (tree_at f i) → IsDeep (tree_at g i)
-    deep-alike bare g i a s = absurd s
-    deep-alike (grow p v kids rest) bare i a s = absurd a
-    deep-alike (grow p v kids rest) (grow q w more others) zero a s = deep-alike_in kids more a.2 s
-    deep-alike (grow p v kids rest) (grow q w more others) (suc i) a s = deep-alike rest others i a.3 s
+    pub deep-alike : (cmp : K → K → Ordering) (e : Extent) (key : List K) (f g : Forest K V) (i : ℕ) → IsAlikeIn keeps f g
+        → IsDeepAt cmp e key (tree_at f i) → IsDeepAt cmp e key (tree_at g i)
+    deep-alike cmp e key bare g i a s = absurd s
+    deep-alike cmp e key (grow p v kids rest) bare i a s = absurd a
+    deep-alike cmp e key (grow p v kids rest) (grow q w more others) zero a s = record {
+      some = deep-alike_in kids more a.2 s.some;
+      left = subst (λ l. IsLeft e (behind cmp l key)) a.0 s.left;
+    }
+    deep-alike cmp e key (grow p v kids rest) (grow q w more others) (suc i) a s =
+        deep-alike cmp e key rest others i a.3 s
 
     -- alike lists are as long
     pub trees-alike : (f g : Forest K V) → IsAlikeIn keeps f g → length (trees f) ≡ length (trees g)

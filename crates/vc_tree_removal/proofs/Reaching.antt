@@ -1,37 +1,38 @@
--- The way to a key that a tree binds: what is left of it behind the prefix, and the child that it leads to.
---     bound-within, bound-rest, rest-ended        the key is the prefix and the rest
---     first-is, rest-bound, leads-on        the rest leads to a child
---     leaf-found, deep-found        which is a leaf, or has children
---     root-gone, absent-without        a root without children, and a key that is not bound
+-- The way to keys that a tree binds: what is left of a key behind the prefix, and the child that it leads to.
+--     left-within, left-rest, rest-ended        the key is the prefix and the rest
+--     first-is, met-rest, met-child        keys that go with the rest are bound below a child
+--     child-within, child-stands        which is there
+--     wholly-gone, wholly-value, bare-left, long-deep        all keys of a tree go, or some below its children
+--     root-taken, root-without, absent-without        all keys of a root go, or none of them
 use Rattle.std.proofs.Common.{◌≡◌, ℕ, ◌-◌, ◌<◌, ◌≤◌, [], ◌∷◌, ◌++◌, List, Option, None, Some, refl, sym, ap}
 use Rattle.std.proofs.Common.{subst, ◌∙◌, arith, get_or, map, take, drop, length, length-drop, append-nil, true, false, Bool}
 use Rattle.std.proofs.Common.{cond, is_some, true≢false}
+use Rattle.std.proofs.lemmas.Bool.{leb-false, leb-true}
 use Rattle.std.proofs.lemmas.List.{take_all}
 use Rattle.std.specs.Cmp.{IsTotalOrder, Equal-is}
 use Rattle.std.specs.Ordering.{is_eq}
-use Rattle.std.specs.Prelude.{IsSome, slice_get}
+use Rattle.std.specs.Prelude.{IsSome, MatchBool, leb, slice_get, ◌==◌}
 use Rattle.std.specs.declared.cmp.Ordering.{Ordering}
+use Rattle.std.specs.declared.cmp.Ordering.TheVariants.{Equal}
+use Rattle.vc_tree_model.specs.Child.{Begins}
 use Rattle.vc_tree_model.specs.Key.{same_key, behind}
 use Rattle.vc_tree_model.specs.Value.{IsKept}
 use Rattle.vc_tree_model.specs.Tree.{Tree, Forest, bare, grow, forest, node, no_tree}
 use Rattle.vc_tree_model.specs.Map.{node_lookup, lookup, lookup_in}
 use Rattle.vc_tree_model.specs.Canonical.{AreChildren, IsSolid, IsWhole}
-use Rattle.vc_tree_model.proofs.KeyLemmas.{none-some, behind-joins}
-use Rattle.vc_tree_model.proofs.LookupLemmas.{lookup-same, nothing-bound}
+use Rattle.vc_tree_model.proofs.KeyLemmas.{none-some, behind-joins, behind-of_same, same-flip, same-itself, same-trans}
+use Rattle.vc_tree_model.proofs.LookupLemmas.{lookup-same, lookup_in-same, nothing-bound}
 use Rattle.vc_tree_model.proofs.ValueLemmas.{kept-refl}
 use Rattle.vc_tree_nodes.specs.Places.{BeginsAt, IsGapAt}
 use Rattle.vc_tree_nodes.proofs.Descending.{behind-length}
 use Rattle.vc_tree_nodes.proofs.Finding.{begins-below, gap-none, lookup_in-at}
-use Rattle.vc_tree_nodes.proofs.Updating.{lookup-leaf}
-use Rattle.vc_tree_removal.specs.Without.{IsWithout}
-use Rattle.vc_tree_removal.specs.Taking.{AreSome, IsDeep, IsLeafAt, tree_at}
-use Rattle.vc_tree_removal.proofs.Lists.{tree_at-map}
-use Rattle.vc_tree_removal.proofs.Withouts.{without-respelled}
-
--- what is no value is none
-pub none-of : {V : Type 0} (o : Option V) → is_some o ≡ false → o ≡ None
-none-of None e = refl
-none-of (Some v) e = absurd (true≢false e)
+use Rattle.vc_tree_removal.specs.Without.{IsWithoutAll}
+use Rattle.vc_tree_removal.specs.Taking.{AreSome, IsDeep, IsLeft, IsWholly, Meets, goes, tree_at}
+use Rattle.vc_tree_removal.specs.declared.removal.Extent.{Extent}
+use Rattle.vc_tree_removal.specs.declared.removal.Extent.TheVariants.{Alone, Below}
+use Rattle.vc_tree_removal.proofs.Going.{begins-trans, goes-begins, goes-same, goes-append, none-unless, shorter-begins}
+use Rattle.vc_tree_removal.proofs.Going.{some-kept, then_goes}
+use Rattle.vc_tree_removal.proofs.Lists.{empty-false, empty-true, none-seen, some-seen, tree_at-map}
 
 -- the first of a list begins it
 pub first-is : {X : Type 0} (xs : List X) (x : X) → slice_get xs 0 ≡ Some x → xs ≡ x ∷ drop 1 xs
@@ -73,39 +74,32 @@ module _ {K : Type 0} (cmp : K → K → Ordering) where
   rest-ended o p key rest b e =
       subst (λ l. same_key cmp l key ≡ true) (ap (λ l. p ++ l) e ∙ append-nil p) (behind-joins cmp o p key rest b)
 
-module _ {K V : Type 0} (cmp : K → K → Ordering) where
-  -- there is some of a key that is bound
-  some-behind : (p : List K) (v : Option V) (f : Forest K V) (key : List K) → IsSome (lookup cmp (node p v f) key)
-      → (rest : List K) × (behind cmp p key ≡ Some rest)
-  some-behind p v f key s = by (behind cmp p key) refl
-    where
-      by : (o : Option (List K)) → behind cmp p key ≡ o → (rest : List K) × (behind cmp p key ≡ Some rest)
-      by None e = absurd (true≢false (sym s ∙ ap (λ l. is_some (node_lookup v (lookup_in cmp f) l)) e))
-      by (Some rest) e = (rest, e)
+  -- what there is
+  is-some : (o : Option (List K)) → IsSome o → (rest : List K) × (o ≡ Some rest)
+  is-some None s = absurd (true≢false (sym s))
+  is-some (Some rest) s = (rest, refl)
 
-  -- a key that is bound is no shorter than the prefix
-  pub bound-within : (t : Tree K V) (key : List K) → IsSome (lookup cmp t key) → length t.prefix ≤ length key
-  bound-within t key s =
-      let b = some-behind t.prefix t.value t.children key s in
-      let l = behind-length cmp t.prefix key b.0 b.1 in
+  -- a key that goes on behind a prefix is no shorter
+  pub left-within : (p key : List K) → IsSome (behind cmp p key) → length p ≤ length key
+  left-within p key s =
+      let b = is-some (behind cmp p key) s in
+      let l = behind-length cmp p key b.0 b.1 in
       omega (arith, l)
 
   -- behind the prefix the slice of the key is left
-  pub bound-rest : (t : Tree K V) (key whole : List K) → whole ≡ t.prefix → IsSome (lookup cmp t key)
-      → behind cmp t.prefix key ≡ Some (take (length key - length whole) (drop (length whole) key))
-  bound-rest t key whole e s =
-      let b = some-behind t.prefix t.value t.children key s in
-      b.1 ∙ ap Some (behind-drop cmp t.prefix key b.0 b.1 ∙ ap (λ p. drop (length p) key) (sym e)
+  pub left-rest : (p key whole : List K) → whole ≡ p → IsSome (behind cmp p key)
+      → behind cmp p key ≡ Some (take (length key - length whole) (drop (length whole) key))
+  left-rest p key whole e s =
+      let b = is-some (behind cmp p key) s in
+      b.1 ∙ ap Some (behind-drop p key b.0 b.1 ∙ ap (λ p. drop (length p) key) (sym e)
       ∙ sym (take_all (length key - length whole) (drop (length whole) key)
       (omega (arith, length-drop {A = K} (length whole) key))))
 
-  -- the children bind the rest
-  pub rest-bound : (t : Tree K V) (key rest : List K) (y : K) (q : List K) → behind cmp t.prefix key ≡ Some rest
-      → rest ≡ y ∷ q → IsSome (lookup cmp t key) → IsSome (lookup_in cmp t.children rest)
-  rest-bound t key rest y q b e s =
-      let long : behind cmp t.prefix key ≡ Some (y ∷ q) = b ∙ ap Some e in
-      subst (λ k. IsSome (lookup_in cmp t.children k)) (sym e)
-      (subst (λ l. IsSome (node_lookup t.value (lookup_in cmp t.children) l)) long s)
+module _ {K V : Type 0} (cmp : K → K → Ordering) where
+  -- there is some of a key that is bound
+  some-behind : (v : Option V) (f : List K → Option V) (o : Option (List K)) → IsSome (node_lookup v f o) → IsSome o
+  some-behind v f None s = absurd (true≢false (sym s))
+  some-behind v f (Some rest) s = refl
 
   -- a leaf binds no key but its own
   leaf-bound : (p : List K) (v : Option V) (key : List K) → IsSome (lookup cmp (node p v bare) key)
@@ -118,88 +112,189 @@ module _ {K V : Type 0} (cmp : K → K → Ordering) where
       by (Some []) e = (ap (node_lookup v (λ k. None)) e, e)
       by (Some (x ∷ k)) e = absurd (true≢false (sym s ∙ ap (λ l. is_some (node_lookup v (λ k. None) l)) e))
 
-  module _ (o : IsTotalOrder cmp) where
+  module _ (o : IsTotalOrder cmp) (e : Extent) where
+    -- ---- what is bound below
+
+    -- behind the prefix a key is bound that goes with the rest
+    pub met-rest : (t : Tree K V) (key rest : List K) (y : K) (q : List K) → behind cmp t.prefix key ≡ Some rest
+        → rest ≡ y ∷ q → Meets cmp e key (lookup cmp t) → Meets cmp e rest (lookup_in cmp t.children)
+    met-rest t key rest y q b is m =
+        subst (λ k. Meets cmp e k (lookup_in cmp t.children)) (sym is)
+        (by (behind cmp t.prefix m.met)
+        (sym (goes-append cmp e t.prefix (y ∷ q) m.met)
+        ∙ goes-same cmp o e (t.prefix ++ y ∷ q) key m.met (behind-joins cmp o t.prefix key (y ∷ q) (b ∙ ap Some is))
+        ∙ m.goes_with) m.bound)
+      where
+        by : (l : Option (List K)) → then_goes cmp e (y ∷ q) l ≡ true → IsSome (node_lookup t.value (lookup_in cmp t.children) l)
+            → Meets cmp e (y ∷ q) (lookup_in cmp t.children)
+        by None h s = absurd (true≢false (sym h))
+        by (Some []) h s = absurd (goes-begins cmp e y q [] h)
+        by (Some (x ∷ l)) h s = record { met = x ∷ l; goes_with = h; bound = s }
+
     -- a child is there that the rest leads to
-    pub rest-reaches : (f : Forest K V) (rest : List K) (y : K) (q : List K) (i : ℕ) → rest ≡ y ∷ q
-        → IsSome (lookup_in cmp f rest) → IsGapAt cmp f y i → ⊥
-    rest-reaches f rest y q i e s gap =
-        true≢false (sym s ∙ ap is_some (ap (lookup_in cmp f) e ∙ gap-none cmp o f y i gap q))
+    pub met-reaches : (f : Forest K V) (rest : List K) (y : K) (q : List K) (i : ℕ) → rest ≡ y ∷ q
+        → Meets cmp e rest (lookup_in cmp f) → IsGapAt cmp f y i → ⊥
+    met-reaches f rest y q i is m gap =
+        by m.met (goes-begins cmp e y q m.met (ap (λ k. goes cmp e k m.met) (sym is) ∙ m.goes_with)) m.bound
+      where
+        by : (k : List K) → Begins cmp y k → IsSome (lookup_in cmp f k) → ⊥
+        by [] b s = b
+        by (x ∷ k) b s =
+            let same : same_key cmp (y ∷ k) (x ∷ k) ≡ true = rw b (same-itself cmp o k) in
+            true≢false (sym s ∙ ap is_some (sym (lookup_in-same cmp o f (y ∷ k) (x ∷ k) same)
+            ∙ gap-none cmp o f y i gap k))
 
-    module _ {T : Type 0} (tree : T → Tree K V) (f : Forest K V) (xs : List T) (i : ℕ) (child : T) (rest : List K) (y : K)
-        (q : List K) (seen : forest (map tree xs) ≡ f) (is : child ≡ get_or xs i child)
-        (begins : BeginsAt cmp f y i) where
-      within : i < length xs
-      within = begins-below cmp tree xs y i (subst (λ g. BeginsAt cmp g y i) (sym seen) begins)
+    -- ---- a whole tree
 
-      stands : tree_at f i ≡ Some (tree child)
-      stands = ap (λ g. tree_at g i) (sym seen) ∙ tree_at-map tree xs i child within ∙ ap (λ x. Some (tree x)) (sym is)
+    -- where all keys of a tree go, it binds no other
+    pub wholly-gone : (key : List K) (t : Tree K V) → IsWholly cmp e key t → Meets cmp e key (lookup cmp t)
+        → (k : List K) → goes cmp e key k ≡ false → lookup cmp t k ≡ None
+    wholly-gone key t w m k n = none-unless (lookup cmp t k) (λ s. true≢false (sym (by e w m s) ∙ n))
+      where
+        by : (e : Extent) → IsWholly cmp e key t → Meets cmp e key (lookup cmp t) → IsSome (lookup cmp t k)
+            → goes cmp e key k ≡ true
+        by Alone w m s =
+            let own : (k : List K) → IsSome (lookup cmp t k) → same_key cmp t.prefix k ≡ true =
+            λ k s. rest-ended cmp o t.prefix k [] ((leaf-bound t.prefix t.value k
+            (subst (λ f. IsSome (lookup cmp (node t.prefix t.value f) k)) w s)).1) refl in
+            same-trans cmp o key m.met k m.goes_with
+            (same-trans cmp o m.met t.prefix k (same-flip cmp o m.met t.prefix ∙ own m.met m.bound) (own k s))
+        by Below w m s =
+            begins-trans cmp o key t.prefix k w
+            (some-behind t.value (lookup_in cmp t.children) (behind cmp t.prefix k) s)
 
-      -- it has children
-      pub deep-found : AreSome (tree child).children → IsDeep (tree_at f i)
-      deep-found s = subst (λ d. IsDeep d) (sym stands) s
+    -- the value of a key that goes alone is that of its node
+    pub wholly-value : (key : List K) (t : Tree K V) → e ≡ Alone → IsWholly cmp e key t → Meets cmp e key (lookup cmp t)
+        → lookup cmp t key ≡ t.value
+    wholly-value key t is w m = by e is w m
+      where
+        by : (e : Extent) → e ≡ Alone → IsWholly cmp e key t → Meets cmp e key (lookup cmp t) → lookup cmp t key ≡ t.value
+        by Alone is w m =
+            let s = subst IsSome (sym (lookup-same cmp o t key m.met m.goes_with)) m.bound in
+            ap (λ f. lookup cmp (node t.prefix t.value f) key) w
+            ∙ (leaf-bound t.prefix t.value key (subst (λ f. IsSome (lookup cmp (node t.prefix t.value f) key)) w s)).0
+        by Below is w m = cc
 
-      -- it is a leaf with the key
-      pub leaf-found : AreChildren cmp f → (tree child).children ≡ bare → rest ≡ y ∷ q → IsSome (lookup_in cmp f rest)
-          → IsLeafAt cmp f rest i
-      leaf-found a none e s =
-          by (tree child).prefix (tree child).value (stands ∙ ap (λ k. Some (node (tree child).prefix (tree child).value k)) none)
-          (subst IsSome (ap (λ k. lookup cmp (node (tree child).prefix (tree child).value k) rest) none) there)
-        where
-          there : IsSome (lookup cmp (tree child) rest)
-          there =
-              let b = subst (λ g. BeginsAt cmp g y i) (sym seen) begins in
-              let found =
-              lookup_in-at cmp tree o xs i child b.here y q (subst (AreChildren cmp) (sym seen) a) b.at
-              ((Equal-is (cmp b.here y)).0 b.equal) in
-              subst IsSome
-              (ap (lookup_in cmp f) e ∙ ap (λ g. lookup_in cmp g (y ∷ q)) (sym seen) ∙ found
-              ∙ ap (λ c. lookup cmp (tree c) (y ∷ q)) (sym is) ∙ ap (lookup cmp (tree child)) (sym e)) s
+    -- a root of which all keys go, answers its value and is empty without them
+    pub root-taken : (keeps : V → V → Type 0) → ((v : V) → keeps v v) → (key : List K) (t : Tree K V) (value : Option V)
+        → value ≡ t.value → IsWholly cmp e key t → Meets cmp e key (lookup cmp t) → e ≡ Alone
+        → IsKept keeps (lookup cmp t key) value
+    root-taken keeps r key t value v w m is = rw (wholly-value key t is w m, v) (kept-refl keeps r t.value)
 
-          by : (p : List K) (v : Option V) → tree_at f i ≡ Some (node p v bare)
-              → IsSome (lookup cmp (node p v bare) rest) → IsLeafAt cmp f rest i
-          by p None at s = absurd (true≢false (sym s ∙ ap is_some ((leaf-bound p None rest s).0)))
-          by p (Some w) at s = record {
-            prefix = p;
-            value = w;
-            same = rest-ended cmp o p rest [] ((leaf-bound p (Some w) rest s).1) refl;
-            is = at;
-          }
+    pub root-without : (keeps : V → V → Type 0) (key : List K) (t u : Tree K V) → u ≡ no_tree → IsWholly cmp e key t
+        → Meets cmp e key (lookup cmp t) → IsWithoutAll keeps (goes cmp e key) (lookup cmp t) (lookup cmp u)
+    root-without keeps key t u is w m = record {
+      at = λ k s. none u is k;
+      others = λ k s. rw (wholly-gone key t w m k s, none u is k) tt;
+    }
+      where
+        none : (u : Tree K V) → u ≡ no_tree → (k : List K) → lookup cmp u k ≡ None
+        none u is k = rw is (nothing-bound cmp [] None bare (refl, refl, refl) k)
 
-    module _ (keeps : V → V → Type 0) (r : (v : V) → keeps v v) where
-      -- ---- the whole tree
+    -- ---- keys that are not bound
 
-      -- a root without children binds its prefix alone
-      pub root-taken : (t : Tree K V) (key : List K) (value : Option V) → t.children ≡ bare → value ≡ t.value
-          → IsSome (lookup cmp t key) → IsKept keeps (lookup cmp t key) value
-      root-taken t key value none v s =
-          let s' : IsSome (lookup cmp (node t.prefix t.value bare) key) =
-          subst (λ f. IsSome (lookup cmp (node t.prefix t.value f) key)) none s in
-          rw (none, (leaf-bound t.prefix t.value key s').0, v) (kept-refl keeps r t.value)
+    -- a tree is without keys that it does not bind
+    pub absent-without : (keeps : V → V → Type 0) → ((v : V) → keeps v v) → (t : Tree K V) (key : List K)
+        → ((k : List K) → goes cmp e key k ≡ true → lookup cmp t k ≡ None)
+        → IsWithoutAll keeps (goes cmp e key) (lookup cmp t) (lookup cmp t)
+    absent-without keeps r t key n = record {
+      at = n;
+      others = λ k s. kept-refl keeps r (lookup cmp t k);
+    }
 
-      -- and is empty without it
-      pub root-without : (t u : Tree K V) (key : List K) → t.children ≡ bare → u ≡ no_tree
-          → IsSome (lookup cmp t key) → IsWithout cmp keeps key (lookup cmp t) (lookup cmp u)
-      root-without t u key none e s =
-          rw (none, e) (by t.value (subst (λ f. IsSome (lookup cmp (node t.prefix t.value f) key)) none s))
-        where
-          empty : (k : List K) → lookup {V = V} cmp no_tree k ≡ None
-          empty k = nothing-bound cmp [] None bare (refl, refl, refl) k
+  module _ (o : IsTotalOrder cmp) (key : List K) (t : Tree K V) where
+    -- ---- a tree of which not all keys go
 
-          by : (v : Option V) → IsSome (lookup cmp (node t.prefix v bare) key)
-              → IsWithout cmp keeps key (lookup cmp (node t.prefix v bare)) (lookup cmp no_tree)
-          by None s = absurd (true≢false (sym s ∙ ap is_some ((leaf-bound t.prefix None key s).0)))
-          by (Some w) s =
-              without-respelled cmp keeps o t.prefix key (lookup cmp (node t.prefix (Some w) bare)) (lookup cmp no_tree)
-              (rest-ended cmp o t.prefix key [] ((leaf-bound t.prefix (Some w) key s).1) refl)
-              (record {
-                at = λ k h. empty k;
-                others = λ k h. rw (lookup-leaf cmp keeps t.prefix k w, h, empty k) tt;
-              })
+    -- a key that a tree with children binds, ends at its prefix or goes on behind it
+    pub alone-left : Meets cmp Alone key (lookup cmp t) → IsLeft Alone (behind cmp t.prefix key)
+    alone-left m =
+        by (behind cmp t.prefix key) (some-kept (λ j k. same_key cmp j k ≡ true) _ _
+        (behind-of_same cmp o t.prefix m.met key (same-flip cmp o m.met key ∙ m.goes_with))
+        (some-behind t.value (lookup_in cmp t.children) (behind cmp t.prefix m.met) m.bound))
+      where
+        by : (l : Option (List K)) → IsSome l → IsLeft Alone l
+        by None s = absurd (true≢false (sym s))
+        by (Some rest) s = tt
 
-      -- a tree is without a key that it does not bind
-      pub absent-without : (t : Tree K V) (key : List K) → lookup cmp t key ≡ None
-          → IsWithout cmp keeps key (lookup cmp t) (lookup cmp t)
-      absent-without t key e = record {
-        at = λ k s. sym (lookup-same cmp o t key k s) ∙ e;
-        others = λ k s. kept-refl keeps r (lookup cmp t k);
-      }
+    -- a tree whose prefix is no shorter than the key begins with it
+    pub short-wholly : Meets cmp Below key (lookup cmp t) → length key ≤ length t.prefix → IsSome (behind cmp key t.prefix)
+    short-wholly m h =
+        shorter-begins cmp o key t.prefix m.met m.goes_with
+        (some-behind t.value (lookup_in cmp t.children) (behind cmp t.prefix m.met) m.bound) h
+
+    -- behind a shorter one the key goes on, below some children
+    pub long-deep : Meets cmp Below key (lookup cmp t) → length t.prefix < length key → IsDeep cmp Below key t
+    long-deep m h = record {
+      some = some t.children refl;
+      left = left (behind cmp t.prefix key) refl (shorter-begins cmp o t.prefix key m.met own m.goes_with (omega (arith, h)));
+    }
+      where
+        own : IsSome (behind cmp t.prefix m.met)
+        own = some-behind t.value (lookup_in cmp t.children) (behind cmp t.prefix m.met) m.bound
+
+        left : (l : Option (List K)) → behind cmp t.prefix key ≡ l → IsSome l → IsLeft Below l
+        left None e s = absurd (true≢false (sym s))
+        left (Some []) e s = let n = behind-length cmp t.prefix key [] e in absurd (omega (arith, n, h))
+        left (Some (x ∷ rest)) e s = tt
+
+        some : (f : Forest K V) → t.children ≡ f → AreSome f
+        some bare e =
+            let b = leaf-bound t.prefix t.value m.met
+            (subst (λ f. IsSome (lookup cmp (node t.prefix t.value f) m.met)) e m.bound) in
+            let n = behind-length cmp t.prefix m.met [] b.1 in
+            let l = left-within cmp key m.met m.goes_with in
+            absurd (omega (arith, n, l, h))
+        some (grow p v kids rest) e = tt
+
+    -- a tree without children goes with a key that goes alone
+    pub alone-tells : {T : Type 0} (tree : T → Tree K V) (e : Extent) → e ≡ Alone → (xs : List T) (b : Bool)
+        → b ≡ (length xs == 0) → forest (map tree xs) ≡ t.children → Meets cmp e key (lookup cmp t)
+        → MatchBool b (IsWholly cmp e key t) (IsDeep cmp e key t)
+    alone-tells tree Alone is xs true l c m = sym c ∙ none-seen tree xs (empty-true xs true l refl)
+    alone-tells tree Alone is xs false l c m = record {
+      some = subst AreSome c (some-seen tree xs (empty-false xs false l refl));
+      left = alone-left m;
+    }
+    alone-tells tree Below is xs b l c m = cc
+
+    -- a tree with a prefix that is no shorter goes with what begins with the key
+    pub below-tells : (e : Extent) → e ≡ Below → (b : Bool) → b ≡ leb (length key) (length t.prefix)
+        → Meets cmp e key (lookup cmp t) → MatchBool b (IsWholly cmp e key t) (IsDeep cmp e key t)
+    below-tells Alone is b l m = cc
+    below-tells Below is true l m = short-wholly m (leb-true (length key) (length t.prefix) (sym l))
+    below-tells Below is false l m = long-deep m (leb-false (length key) (length t.prefix) (sym l))
+
+  module _ (o : IsTotalOrder cmp) {T : Type 0} (tree : T → Tree K V) (f : Forest K V) (xs : List T) (i : ℕ) (child : T)
+      (y : K) (seen : forest (map tree xs) ≡ f) (is : child ≡ get_or xs i child) (begins : BeginsAt cmp f y i) where
+    -- ---- the child that the rest leads to
+
+    here : BeginsAt cmp (forest (map tree xs)) y i
+    here = subst (λ g. BeginsAt cmp g y i) (sym seen) begins
+
+    -- it is there
+    pub child-within : i < length xs
+    child-within = begins-below cmp tree xs y i here
+
+    pub child-stands : tree_at f i ≡ Some (tree child)
+    child-stands =
+        ap (λ g. tree_at g i) (sym seen) ∙ tree_at-map tree xs i child child-within ∙ ap (λ x. Some (tree x)) (sym is)
+
+    -- it binds what all children bind of the keys that begin so
+    pub child-found : AreChildren cmp f → (k : List K) → Begins cmp y k → lookup_in cmp f k ≡ lookup cmp (tree child) k
+    child-found a [] b = absurd b
+    child-found a (x ∷ k) b =
+        let equal : cmp here.here x ≡ Equal = o.congr here.here y x ((Equal-is (cmp here.here y)).0 here.equal) ∙ b in
+        ap (λ g. lookup_in cmp g (x ∷ k)) (sym seen)
+        ∙ lookup_in-at cmp tree o xs i child here.here x k (subst (AreChildren cmp) (sym seen) a) here.at equal
+        ∙ ap (λ c. lookup cmp (tree c) (x ∷ k)) (sym is)
+
+    -- it binds a key that goes with the rest
+    pub met-child : (e : Extent) (rest q : List K) → AreChildren cmp f → rest ≡ y ∷ q → Meets cmp e rest (lookup_in cmp f)
+        → Meets cmp e rest (lookup cmp (tree child))
+    met-child e rest q a r m = record {
+      met = m.met;
+      goes_with = m.goes_with;
+      bound =
+          subst IsSome (child-found a m.met (goes-begins cmp e y q m.met (ap (λ k. goes cmp e k m.met) (sym r)
+          ∙ m.goes_with))) m.bound;
+    }

@@ -1,48 +1,50 @@
 -- The events of a removal: what each makes of a node.
 --     solid-itself, solid-without, many-solid        a value or at least two children
 --     value-removed, own-removed, lone-removed        the value of a node goes
---     leaf-removed, loses-removed, pair-removed        a leaf of its children goes
+--     loses-lacks, pair-lacks, lacks-removed        one of its children goes
 --     lost, lost-canonical, part-solid, became        the parts of a node that loses a child, or becomes one
---     child-removed, leads-bound, leads-deep, list-removed, list-alike        a key of a child goes
+--     child-removed, leads-met, leads-deep, list-removed, list-alike        keys of a child go
 --     removed-respelled        an equal key
 use Rattle.std.proofs.Common.{◌≡◌, ℕ, zero, suc, ◌+◌, ◌<◌, ◌≤◌, [], ◌∷◌, ◌++◌, List, Option, None, Some, refl, sym, ap}
 use Rattle.std.proofs.Common.{subst, ◌∙◌, arith, get_or, set, map, take, length, append-nil, true, false, true≢false, is_some}
 use Rattle.std.proofs.Common.{Bor}
 use Rattle.std.proofs.lemmas.List.{take-take}
 use Rattle.std.proofs.Math.Seq.{take-append_seam, take-length}
-use Rattle.std.specs.Cmp.{IsTotalOrder, Equal-is}
+use Rattle.std.specs.Cmp.{IsTotalOrder, Equal-is, tied_itself}
 use Rattle.std.specs.List.{remove}
 use Rattle.std.specs.Option.{option_copied, option_map}
-use Rattle.std.specs.Prelude.{IfOk, IsSome, OnErr, Result, Ok, Err}
+use Rattle.std.specs.Prelude.{IfOk, OnErr, Result, Ok, Err}
 use Rattle.std.specs.declared.cmp.Ordering.{Ordering}
-use Rattle.std.specs.declared.cmp.Ordering.TheVariants.{Equal}
 use Rattle.vc_tree_model.specs.Key.{same_key}
 use Rattle.vc_tree_model.specs.Value.{IsKept}
 use Rattle.vc_tree_model.specs.Tree.{Tree, Forest, bare, grow, forest, node, trees}
 use Rattle.vc_tree_model.specs.Map.{node_lookup, lookup, lookup_in}
 use Rattle.vc_tree_model.specs.Canonical.{IsSolid, AreChildren, IsCanonical}
-use Rattle.vc_tree_model.specs.Child.{IsChild, solid_child}
+use Rattle.vc_tree_model.specs.Child.{Begins, IsChild, solid_child}
 use Rattle.vc_tree_model.specs.Look.{values}
 use Rattle.vc_tree_model.specs.Same.{IsAlike, IsAlikeIn}
 use Rattle.vc_tree_model.specs.Snapshot.{alike_refl, kept_itself}
 use Rattle.vc_tree_model.proofs.AlikeLemmas.{alike-children, alike-lookup, alike-solid, alike-trans, tree-alike_lookup}
 use Rattle.vc_tree_model.proofs.Joining.{joined-same, joined-child}
-use Rattle.vc_tree_model.proofs.KeyLemmas.{behind-itself, same-prepended, none-some}
+use Rattle.vc_tree_model.proofs.KeyLemmas.{behind-itself, none-some}
 use Rattle.vc_tree_model.proofs.LookupLemmas.{lookup-same}
 use Rattle.vc_tree_model.proofs.Places.{look}
 use Rattle.vc_tree_model.proofs.ValueLemmas.{kept-refl, kept-trans}
 use Rattle.vc_tree_nodes.specs.Growth.{IsGrown}
-use Rattle.vc_tree_nodes.specs.Places.{LeadsTo, child_first}
-use Rattle.vc_tree_nodes.proofs.Events.{leads-agree, leads-kept, leads-within, kept-children, length-kept, node-equal}
-use Rattle.vc_tree_nodes.proofs.Finding.{lookup_in-at}
-use Rattle.vc_tree_nodes.proofs.Growing.{children-set, alike-set, solid-canonical, solid-length}
-use Rattle.vc_tree_removal.specs.Without.{IsWithout}
-use Rattle.vc_tree_removal.specs.Taking.{tree_at, without, gone, AreSome, IsDeep, IsLeafAt, Removed, RemovedIn}
-use Rattle.vc_tree_removal.specs.Taking.{Becomes, Loses, Parts, Takes}
+use Rattle.vc_tree_nodes.specs.Places.{BeginsAt, LeadsTo, child_first}
+use Rattle.vc_tree_nodes.proofs.Events.{leads-agree, leads-kept, kept-children, length-kept, node-equal}
+use Rattle.vc_tree_nodes.proofs.Growing.{alike-first, children-set, alike-set, solid-canonical, solid-length}
+use Rattle.vc_tree_removal.specs.Without.{IsWithoutAll}
+use Rattle.vc_tree_removal.specs.Taking.{tree_at, without, gone, goes, AreSome, IsDeep, IsDeepAt, IsWholly, Meets}
+use Rattle.vc_tree_removal.specs.Taking.{Becomes, Lacks, Loses, Parts, Removed, RemovedIn, Takes}
+use Rattle.vc_tree_removal.specs.declared.removal.Extent.{Extent}
+use Rattle.vc_tree_removal.specs.declared.removal.Extent.TheVariants.{Alone}
+use Rattle.vc_tree_removal.proofs.Going.{goes-begins, goes-same, none-kept, some-kept}
 use Rattle.vc_tree_removal.proofs.Lists.{at-alike, trees-alike, without-alike_in, children-without, without-map, tree_at-map}
 use Rattle.vc_tree_removal.proofs.Lists.{deep-alike, parts-first, remove-long}
-use Rattle.vc_tree_removal.proofs.Withouts.{at-children, value-at, without-leaf, without-set, without-behind}
-use Rattle.vc_tree_removal.proofs.Withouts.{without-value, without-children, without-alike, without-respelled}
+use Rattle.vc_tree_removal.proofs.Reaching.{child-found, child-stands, met-child, wholly-gone, wholly-value}
+use Rattle.vc_tree_removal.proofs.Withouts.{at-children, without-behind, without-children, without-set, without-tree}
+use Rattle.vc_tree_removal.proofs.Withouts.{without-value, without-alike, without-respelled}
 
 -- what follows from each outcome, of which the good one has a value
 pub if-both : {X E B C : Type 0} {P : X → Type 0} (r : Result X E) → IfOk r P → OnErr r B → ((x : X) → P x → C)
@@ -54,12 +56,6 @@ if-both (Err e) a b f g = g b
 pub if-ok : {X E : Type 0} {P Q : X → Type 0} (r : Result X E) → ((x : X) → P x → Q x) → IfOk r P → IfOk r Q
 if-ok (Ok x) f a = f x a
 if-ok (Err e) f a = tt
-
--- what keeps a value is one
-some-kept : {V : Type 0} (keeps : V → V → Type 0) (a b : Option V) → IsKept keeps a b → IsSome a → IsSome b
-some-kept keeps (Some v) (Some w) k s = refl
-some-kept keeps (Some v) None k s = absurd k
-some-kept keeps None b k s = absurd (true≢false (sym s))
 
 -- a value behind a reference is there where the reference is
 pub some-copied : {V : Type 0} (o : Option (Bor V)) (v : Option V) → option_copied o ≡ v → is_some o ≡ true → v ≡ None → ⊥
@@ -135,18 +131,6 @@ module _ {K V : Type 0} where
   many-solid (grow q w more bare) s n = absurd (n (omega arith))
   many-solid (grow q w more (grow x u most rest)) s n = tt
 
-  -- what is alike to a leaf is one
-  leaf-alike : (keeps : V → V → Type 0) (q : List K) (value : V) (c : Tree K V)
-      → IsAlike keeps (node q (Some value) bare) c
-      → (w : V) × ((c ≡ node q (Some w) bare) × keeps value w)
-  leaf-alike keeps q value c a = by c.prefix c.value c.children a
-    where
-      by : (p : List K) (v : Option V) (kids : Forest K V) → IsAlike keeps (node q (Some value) bare) (node p v kids)
-          → (w : V) × ((node p v kids ≡ node q (Some w) bare) × keeps value w)
-      by p (Some w) bare a = (w, (ap (λ l. node l (Some w) bare) (sym a.0), a.1))
-      by p None kids a = absurd a.1
-      by p (Some w) (grow r x more rest) a = absurd a.2
-
 module _ {K V : Type 0} (cmp : K → K → Ordering) (keeps : V → V → Type 0) (r : (v : V) → keeps v v)
     (trans : (u v w : V) → keeps u v → keeps v w → keeps u w) (o : IsTotalOrder cmp) where
   -- a key behind the prefix is looked up in the children
@@ -154,20 +138,21 @@ module _ {K V : Type 0} (cmp : K → K → Ordering) (keeps : V → V → Type 0
       → lookup cmp (node p v f) (p ++ k) ≡ node_lookup v (lookup_in cmp f) (Some k)
   lookup-behind p v f k = ap (node_lookup v (lookup_in cmp f)) (behind-itself cmp o p k)
 
-  -- what is made of a node, as a child, is without the key where the node is
-  settled : (t u : Tree K V) (rest : List K) (value : Option V) (w : Option V) (f g : Forest K V)
-      → AreChildren cmp g → IsAlikeIn keeps t.children f → IsKept keeps (lookup cmp t (t.prefix ++ rest)) value
-      → IsWithout cmp keeps rest (lookup cmp (node [] t.value f)) (lookup cmp (node [] w g))
-      → solid_child t.prefix w g ≡ Some u → Removed cmp keeps t (t.prefix ++ rest) value u
-  settled t u rest value w f g a alike taken h e =
-      let child : IsChild cmp (Some u) = subst (IsChild cmp) e (joined-child cmp t.prefix w g a) in
+  -- what is made of a node, as a child, is without the keys where the node is
+  settled : (e : Extent) (t u : Tree K V) (rest : List K) (value : Option V) (w : Option V) (f g : Forest K V)
+      → AreChildren cmp g → IsAlikeIn keeps t.children f
+      → (e ≡ Alone → IsKept keeps (lookup cmp t (t.prefix ++ rest)) value)
+      → IsWithoutAll keeps (goes cmp e rest) (lookup cmp (node [] t.value f)) (lookup cmp (node [] w g))
+      → solid_child t.prefix w g ≡ Some u → Removed cmp keeps e t (t.prefix ++ rest) value u
+  settled e t u rest value w f g a alike taken h is =
+      let child : IsChild cmp (Some u) = subst (IsChild cmp) is (joined-child cmp t.prefix w g a) in
       let reads : (k : List K) → lookup cmp (node t.prefix w g) k ≡ lookup cmp u k =
-      λ k. sym (joined-same cmp (values cmp) t.prefix w g k a) ∙ ap (λ s. look cmp (values cmp) s k) e in
+      λ k. sym (joined-same cmp (values cmp) t.prefix w g k a) ∙ ap (λ s. look cmp (values cmp) s k) is in
       let behind_it =
-      without-alike cmp keeps trans (t.prefix ++ rest) (lookup cmp t) (lookup cmp (node t.prefix t.value f))
+      without-alike keeps trans (goes cmp e (t.prefix ++ rest)) (lookup cmp t) (lookup cmp (node t.prefix t.value f))
       (lookup cmp (node t.prefix w g))
       (tree-alike_lookup keeps cmp t (node t.prefix t.value f) (refl, kept_itself keeps r t.value, alike))
-      (without-behind cmp keeps rest t.value w f g h t.prefix) in
+      (without-behind cmp keeps e rest t.value w f g h t.prefix) in
       record {
         taken = taken;
         without = record {
@@ -175,7 +160,7 @@ module _ {K V : Type 0} (cmp : K → K → Ordering) (keeps : V → V → Type 0
           others = λ k s. subst (IsKept keeps (lookup cmp t k)) (reads k) (behind_it.others k s);
         };
         grown = record {
-          begins = child-begins t.prefix w g u e;
+          begins = child-begins t.prefix w g u is;
           solid = child.0;
           children = child.1;
         };
@@ -184,87 +169,100 @@ module _ {K V : Type 0} (cmp : K → K → Ordering) (keeps : V → V → Type 0
   -- the value of a node goes
   pub value-removed : (t u : Tree K V) (f : Forest K V) (value : Option V) → AreChildren cmp t.children
       → IsAlikeIn keeps t.children f → value ≡ t.value → solid_child t.prefix None f ≡ Some u
-      → Removed cmp keeps t t.prefix value u
+      → Removed cmp keeps Alone t t.prefix value u
   value-removed t u f value a alike v e =
-      subst (λ k. Removed cmp keeps t k value u) (append-nil t.prefix)
-      (settled t u [] value None f f (alike-children keeps cmp t.children f alike a) alike
-      (rw (lookup-behind t.prefix t.value t.children [], v) (kept-refl keeps r t.value))
+      subst (λ k. Removed cmp keeps Alone t k value u) (append-nil t.prefix)
+      (settled Alone t u [] value None f f (alike-children keeps cmp t.children f alike a) alike
+      (λ i. rw (lookup-behind t.prefix t.value t.children [], v) (kept-refl keeps r t.value))
       (without-value cmp keeps r t.value f) e)
 
-  -- an equal key goes
-  pub removed-respelled : (t u : Tree K V) (j key : List K) (value : Option V) → same_key cmp j key ≡ true
-      → Removed cmp keeps t j value u → Removed cmp keeps t key value u
-  removed-respelled t u j key value s h = record {
-    taken = subst (λ l. IsKept keeps l value) (lookup-same cmp o t j key s) h.taken;
-    without = without-respelled cmp keeps o j key (lookup cmp t) (lookup cmp u) s h.without;
+  -- what goes with an equal key goes
+  pub removed-respelled : (e : Extent) (t u : Tree K V) (j key : List K) (value : Option V) → same_key cmp j key ≡ true
+      → Removed cmp keeps e t j value u → Removed cmp keeps e t key value u
+  removed-respelled e t u j key value s h = record {
+    taken = λ i. subst (λ l. IsKept keeps l value) (lookup-same cmp o t j key s) (h.taken i);
+    without =
+        without-respelled keeps (goes cmp e j) (goes cmp e key) (lookup cmp t) (lookup cmp u)
+        (λ k. goes-same cmp o e j key k s) h.without;
     grown = h.grown;
   }
 
-  -- a leaf of the children goes
-  pub leaf-removed : (t u c : Tree K V) (f : Forest K V) (i : ℕ) (rest : List K) (value : Option V)
-      → AreChildren cmp t.children → IsLeafAt cmp t.children rest i → IsAlikeIn keeps t.children f
-      → tree_at f i ≡ Some c → value ≡ c.value → solid_child t.prefix t.value (without f i) ≡ Some u
-      → AreChildren cmp (without f i)
-      → Removed cmp keeps t (t.prefix ++ rest) value u
-  leaf-removed t u c f i rest value a leaf alike at v e others =
-      let both = leaf-alike keeps leaf.prefix leaf.value c
-      (at-alike keeps t.children f i (node leaf.prefix (Some leaf.value) bare) c alike leaf.is at) in
-      let kids = alike-children keeps cmp t.children f alike a in
-      let is : tree_at f i ≡ Some (node leaf.prefix (Some both.0) bare) = at ∙ ap Some both.1.0 in
-      removed-respelled t u (t.prefix ++ leaf.prefix) (t.prefix ++ rest) value
-      (same-prepended cmp o t.prefix leaf.prefix rest leaf.same)
-      (by leaf.prefix both.0 (at-children cmp keeps f i (node leaf.prefix (Some both.0) bare) kids is) is
-      (value-at cmp keeps o t.children i leaf.prefix (Some leaf.value) bare a leaf.is)
-      (v ∙ ap (λ t. t.value) both.1.0) both.1.1)
-    where
-      by : (q : List K) (w : V) → AreChildren cmp (grow q (Some w) bare bare) → tree_at f i ≡ Some (node q (Some w) bare)
-          → lookup_in cmp t.children q ≡ Some leaf.value → value ≡ Some w → keeps leaf.value w
-          → Removed cmp keeps t (t.prefix ++ q) value u
-      by [] w b is found v k = absurd b
-      by (y ∷ q) w b is found v k =
-          settled t u (y ∷ q) value t.value f (without f i) others alike
-          (rw (lookup-behind t.prefix t.value t.children (y ∷ q), found, v) k)
-          (without-children cmp keeps r y q t.value f (without f i)
-          (without-leaf cmp keeps o r f i (y ∷ q) w (alike-children keeps cmp t.children f alike a) is)) e
-
   -- ---- a child that is taken out
 
-  -- what a leaf that was taken out leaves
-  pub loses-removed : (t u : Tree K V) (i : ℕ) (rest : List K) (value : Option V) → AreChildren cmp t.children
-      → IsLeafAt cmp t.children rest i → IsSolid t.value (without t.children i) → Loses keeps t i value u
-      → Removed cmp keeps t (t.prefix ++ rest) value u
-  loses-removed t u i rest value a leaf solid lost =
-      let kids = alike-children keeps cmp t.children lost.kept lost.alike a in
+  -- a node that can do without the child
+  pub loses-lacks : (t u : Tree K V) (i : ℕ) (value : Option V) → IsSolid t.value (without t.children i)
+      → Loses keeps t i value u → Lacks keeps t i value u
+  loses-lacks t u i value solid lost =
       let firm : IsSolid t.value (without lost.kept i) =
       alike-solid keeps t.value t.value (without t.children i) (without lost.kept i) (kept_itself keeps r t.value)
       (without-alike_in keeps t.children lost.kept i lost.alike) solid in
-      leaf-removed t u lost.child lost.kept i rest value a leaf lost.alike lost.at lost.value
-      (solid-itself t.prefix t.value (without lost.kept i) firm ∙ ap Some (sym lost.is))
-      (children-without cmp lost.kept i kids)
+      record {
+        kept = lost.kept;
+        alike = lost.alike;
+        child = lost.child;
+        at = lost.at;
+        is = solid-itself t.prefix t.value (without lost.kept i) firm ∙ ap Some (sym lost.is);
+        value = lost.value;
+      }
+
+  -- one of two children in the place of its parent
+  pub pair-lacks : (t u : Tree K V) (i j : ℕ) (value : Option V) → t.value ≡ None → length (trees t.children) ≡ 2
+      → i + j ≡ 1 → Becomes keeps t j value u → Lacks keeps t i value u
+  pair-lacks t u i j value none n one b =
+      let l =
+      pair t.prefix b.kept i j b.child (sym (trees-alike keeps t.children b.kept b.alike) ∙ n) one b.at in
+      record {
+        kept = b.kept;
+        alike = b.alike;
+        child = l.0;
+        at = l.1.0;
+        is = ap (λ v. solid_child t.prefix v (without b.kept i)) none ∙ l.1.2 ∙ ap Some (sym b.is);
+        value = b.value ∙ ap (λ v. gone v (tree_at (without b.kept j) 0)) none ∙ l.1.1;
+      }
+
+  -- what a child leaves, of which all keys go
+  module _ (e : Extent) (t u c : Tree K V) (i : ℕ) (rest : List K) (y : K) (q : List K) (value : Option V)
+      (a : AreChildren cmp t.children) (at : tree_at t.children i ≡ Some c) (begins : BeginsAt cmp t.children y i)
+      (key_is : rest ≡ y ∷ q) (found : lookup_in cmp t.children rest ≡ lookup cmp c rest)
+      (m : Meets cmp e rest (lookup cmp c)) (w : IsWholly cmp e rest c) (lacks : Lacks keeps t i value u) where
+    child-alike : IsAlike keeps c lacks.child
+    child-alike = at-alike keeps t.children lacks.kept i c lacks.child lacks.alike at lacks.at
+
+    child-taken : e ≡ Alone → IsKept keeps (lookup cmp t (t.prefix ++ rest)) value
+    child-taken is =
+        subst (λ l. IsKept keeps l value)
+        (sym (lookup-behind t.prefix t.value t.children rest
+        ∙ ap (λ k. node_lookup t.value (lookup_in cmp t.children) (Some k)) key_is
+        ∙ ap (lookup_in cmp t.children) (sym key_is) ∙ found ∙ wholly-value cmp o e rest c is w m))
+        (subst (IsKept keeps c.value) (sym lacks.value) child-alike.1)
+
+    test-begins : (k : List K) → goes cmp e rest k ≡ true → Begins cmp y k
+    test-begins k h = goes-begins cmp e y q k (ap (λ l. goes cmp e l k) (sym key_is) ∙ h)
+
+    pub lacks-removed : Removed cmp keeps e t (t.prefix ++ rest) value u
+    lacks-removed =
+        let kids = alike-children keeps cmp t.children lacks.kept lacks.alike a in
+        settled e t u rest value t.value lacks.kept (without lacks.kept i) (children-without cmp lacks.kept i kids)
+        lacks.alike child-taken
+        (without-children cmp keeps o r (goes cmp e rest) y test-begins t.value lacks.kept (without lacks.kept i)
+        (without-tree cmp keeps o r (goes cmp e rest) y test-begins lacks.kept i lacks.child begins.here kids lacks.at
+        (sym (alike-first keeps t.children lacks.kept i lacks.alike) ∙ begins.at)
+        ((Equal-is (cmp begins.here y)).0 begins.equal)
+        (λ k h. none-kept keeps (lookup cmp c k) (lookup cmp lacks.child k)
+        (tree-alike_lookup keeps cmp c lacks.child child-alike k) (wholly-gone cmp o e rest c w m k h)))) lacks.is
+
+  -- ---- the value of a node
 
   -- a lone child in the place of its parent
   pub lone-removed : (t u : Tree K V) (value : Option V) → AreChildren cmp t.children → length (trees t.children) ≡ 1
-      → Becomes keeps t 0 value u → Removed cmp keeps t t.prefix value u
+      → Becomes keeps t 0 value u → Removed cmp keeps Alone t t.prefix value u
   lone-removed t u value a n b =
       let l = lone t.prefix t.value b.kept b.child (sym (trees-alike keeps t.children b.kept b.alike) ∙ n) b.at in
       value-removed t u b.kept value a b.alike (b.value ∙ l.1) (l.0 ∙ ap Some (sym b.is))
 
-  -- one of two children in the place of its parent
-  pub pair-removed : (t u : Tree K V) (i j : ℕ) (rest : List K) (value : Option V) → AreChildren cmp t.children
-      → t.value ≡ None → length (trees t.children) ≡ 2 → i + j ≡ 1 → IsLeafAt cmp t.children rest i
-      → Becomes keeps t j value u → Removed cmp keeps t (t.prefix ++ rest) value u
-  pair-removed t u i j rest value a none n one leaf b =
-      let l =
-      pair t.prefix b.kept i j b.child (sym (trees-alike keeps t.children b.kept b.alike) ∙ n) one b.at in
-      let kids = alike-children keeps cmp t.children b.kept b.alike a in
-      leaf-removed t u l.0 b.kept i rest value a leaf b.alike l.1.0
-      (b.value ∙ ap (λ v. gone v (tree_at (without b.kept j) 0)) none ∙ l.1.1)
-      (ap (λ v. solid_child t.prefix v (without b.kept i)) none ∙ l.1.2 ∙ ap Some (sym b.is))
-      (children-without cmp b.kept i kids)
-
   -- the value of a node that has no lone child goes
   pub own-removed : (t u : Tree K V) (value : Option V) → AreChildren cmp t.children → IsSolid None t.children
-      → value ≡ t.value → u ≡ node t.prefix None t.children → Removed cmp keeps t t.prefix value u
+      → value ≡ t.value → u ≡ node t.prefix None t.children → Removed cmp keeps Alone t t.prefix value u
   own-removed t u value a solid v e =
       value-removed t u t.children value a (alike_refl keeps r t.children) v
       (solid-itself t.prefix None t.children solid ∙ ap Some (sym e))
@@ -352,26 +350,27 @@ module _ {K V : Type 0} (cmp : K → K → Ordering) (keeps : V → V → Type 0
 
     -- ---- a key of a child
 
-    -- a key of the children goes
-    pub child-removed : (t u : Tree K V) (p : List K) (v : Option V) (old new : List T) (rest : List K) (value : Option V)
-        (y : K) (q : List K)
+    -- keys of the children go
+    pub child-removed : (e : Extent) (t u : Tree K V) (p : List K) (v : Option V) (old new : List T) (rest : List K)
+        (value : Option V) (y : K) (q : List K)
         → p ≡ t.prefix → v ≡ t.value → forest (map tree old) ≡ t.children → u ≡ node p v (forest (map tree new))
         → IsSolid t.value t.children → rest ≡ y ∷ q → length new ≡ length old
-        → RemovedIn cmp keeps (forest (map tree old)) rest value (forest (map tree new))
-        → Removed cmp keeps t (t.prefix ++ rest) value u
-    child-removed t u p v old new rest value y q a b c e solid key n gone =
+        → RemovedIn cmp keeps e (forest (map tree old)) rest value (forest (map tree new))
+        → Removed cmp keeps e t (t.prefix ++ rest) value u
+    child-removed e t u p v old new rest value y q a b c is solid key n gone =
         let g = forest (map tree new) in
-        let h : RemovedIn cmp keeps t.children (y ∷ q) value g =
-        subst (λ k. RemovedIn cmp keeps t.children k value g) key
-        (subst (λ f. RemovedIn cmp keeps f rest value g) c gone) in
-        subst (λ u. Removed cmp keeps t (t.prefix ++ rest) value u)
-        (sym (e ∙ node-equal p t.prefix v t.value g g a b refl))
-        (subst (λ k. Removed cmp keeps t (t.prefix ++ k) value (node t.prefix t.value g)) (sym key)
+        let h : RemovedIn cmp keeps e t.children (y ∷ q) value g =
+        subst (λ k. RemovedIn cmp keeps e t.children k value g) key
+        (subst (λ f. RemovedIn cmp keeps e f rest value g) c gone) in
+        subst (λ u. Removed cmp keeps e t (t.prefix ++ rest) value u)
+        (sym (is ∙ node-equal p t.prefix v t.value g g a b refl))
+        (subst (λ k. Removed cmp keeps e t (t.prefix ++ k) value (node t.prefix t.value g)) (sym key)
         (record {
-          taken = rw (lookup-behind t.prefix t.value t.children (y ∷ q)) h.taken;
+          taken = λ i. rw (lookup-behind t.prefix t.value t.children (y ∷ q)) (h.taken i);
           without =
-              without-behind cmp keeps (y ∷ q) t.value t.value t.children g
-              (without-children cmp keeps r y q t.value t.children g h.without) t.prefix;
+              without-behind cmp keeps e (y ∷ q) t.value t.value t.children g
+              (without-children cmp keeps o r (goes cmp e (y ∷ q)) y (goes-begins cmp e y q) t.value t.children g
+              h.without) t.prefix;
           grown = record {
             begins = refl;
             solid = solid-length tree t.value old new (sym n) (subst (IsSolid t.value) (sym c) solid);
@@ -396,58 +395,58 @@ module _ {K V : Type 0} (cmp : K → K → Ordering) (keeps : V → V → Type 0
       kids-kept : AreChildren cmp (forest (map tree kept))
       kids-kept = kept-children cmp keeps r trans o tree old kept i rest leads alike canonical
 
-      within-kept : i < length kept
-      within-kept = leads-within cmp keeps r trans o tree old kept i rest leads alike canonical
+      begins-kept : BeginsAt cmp (forest (map tree kept)) leads.first i
+      begins-kept = record { here = leads.begins.here; at = here-kept; equal = leads.begins.equal }
 
-      begins-equal : cmp leads.begins.here leads.first ≡ Equal
-      begins-equal = (Equal-is (cmp leads.begins.here leads.first)).0 leads.begins.equal
+      -- a key that goes with the rest is bound below that tree
+      pub leads-met : (e : Extent) (child : T) → child ≡ get_or kept i child
+          → Meets cmp e rest (lookup_in cmp (forest (map tree old))) → Meets cmp e rest (lookup cmp (tree child))
+      leads-met e child is m =
+          met-child cmp o tree (forest (map tree kept)) kept i child leads.first refl is begins-kept e rest leads.others
+          kids-kept leads.key_is
+          (record {
+            met = m.met;
+            goes_with = m.goes_with;
+            bound =
+                some-kept keeps _ _
+                (alike-lookup keeps cmp (forest (map tree old)) (forest (map tree kept)) alike m.met) m.bound;
+          })
 
-      -- the list binds the key as the tree does that it leads to
-      found-kept : (child : T) → child ≡ get_or kept i child
-          → lookup_in cmp (forest (map tree kept)) rest ≡ lookup cmp (tree child) rest
-      found-kept child is =
-          rw leads.key_is
-          (lookup_in-at cmp tree o kept i child leads.begins.here leads.first leads.others kids-kept here-kept begins-equal
-          ∙ ap (λ c. lookup cmp (tree c) (leads.first ∷ leads.others)) (sym is))
-
-      -- and so it is bound there
-      pub leads-bound : (child : T) → child ≡ get_or kept i child → IsSome (lookup_in cmp (forest (map tree old)) rest)
-          → IsSome (lookup cmp (tree child) rest)
-      leads-bound child is s =
-          subst IsSome (found-kept child is)
-          (some-kept keeps _ _ (alike-lookup keeps cmp (forest (map tree old)) (forest (map tree kept)) alike rest) s)
-
-      -- it has children where the old one has
-      pub leads-deep : (child : T) → child ≡ get_or kept i child → IsDeep (tree_at (forest (map tree old)) i)
-          → AreSome (tree child).children
-      leads-deep child is s =
-          subst (λ d. IsDeep d) (tree_at-map tree kept i child within-kept ∙ ap (λ x. Some (tree x)) (sym is))
-          (deep-alike keeps (forest (map tree old)) (forest (map tree kept)) i alike s)
+      -- it is as deep as the old one
+      pub leads-deep : (e : Extent) (child : T) → child ≡ get_or kept i child
+          → IsDeepAt cmp e rest (tree_at (forest (map tree old)) i) → IsDeep cmp e rest (tree child)
+      leads-deep e child is s =
+          subst (λ d. IsDeepAt cmp e rest d)
+          (child-stands cmp o tree (forest (map tree kept)) kept i child leads.first refl is begins-kept)
+          (deep-alike keeps cmp e rest (forest (map tree old)) (forest (map tree kept)) i alike s)
 
       module _ (child item : T) (new : List T) (is : child ≡ get_or kept i child) (set_is : new ≡ set kept i item) where
-        -- the list without the key
-        pub list-removed : (value : Option V) → Removed cmp keeps (tree child) rest value (tree item)
-            → RemovedIn cmp keeps (forest (map tree old)) rest value (forest (map tree new))
-        list-removed value h =
+        -- the list without the keys
+        pub list-removed : (e : Extent) (value : Option V) → Removed cmp keeps e (tree child) rest value (tree item)
+            → RemovedIn cmp keeps e (forest (map tree old)) rest value (forest (map tree new))
+        list-removed e value h =
             let long =
             (leads-agree cmp keeps r trans o tree old kept i rest leads alike canonical child is).within_prefix in
+            let begins : (k : List K) → goes cmp e rest k ≡ true → Begins cmp leads.first k =
+            λ k s. goes-begins cmp e leads.first leads.others k (ap (λ l. goes cmp e l k) (sym leads.key_is) ∙ s) in
+            let found =
+            child-found cmp o tree (forest (map tree kept)) kept i child leads.first refl is begins-kept kids-kept rest
+            (subst (Begins cmp leads.first) (sym leads.key_is) (tied_itself o leads.first)) in
             record {
-              taken =
+              taken = λ i.
                   kept-trans keeps trans (lookup_in cmp (forest (map tree old)) rest)
                   (lookup_in cmp (forest (map tree kept)) rest) value
                   (alike-lookup keeps cmp (forest (map tree old)) (forest (map tree kept)) alike rest)
-                  (subst (λ l. IsKept keeps l value) (sym (found-kept child is)) h.taken);
+                  (subst (λ l. IsKept keeps l value) (sym found) (h.taken i));
               without =
-                  rw (leads.key_is, set_is)
-                  (without-alike cmp keeps trans (leads.first ∷ leads.others) (lookup_in cmp (forest (map tree old)))
+                  rw set_is
+                  (without-alike keeps trans (goes cmp e rest) (lookup_in cmp (forest (map tree old)))
                   (lookup_in cmp (forest (map tree kept))) (lookup_in cmp (forest (map tree (set kept i item))))
                   (alike-lookup keeps cmp (forest (map tree old)) (forest (map tree kept)) alike)
-                  (without-set cmp keeps o r tree kept i item child leads.begins.here leads.first leads.others
-                  here-kept begins-equal kids-kept
-                  (subst (λ c. IsWithout cmp keeps (leads.first ∷ leads.others) (lookup cmp (tree c))
-                  (lookup cmp (tree item))) is
-                  (subst (λ k. IsWithout cmp keeps k (lookup cmp (tree child)) (lookup cmp (tree item)))
-                  leads.key_is h.without))));
+                  (without-set cmp keeps o r (goes cmp e rest) leads.first begins tree kept i item child leads.begins.here
+                  here-kept ((Equal-is (cmp leads.begins.here leads.first)).0 leads.begins.equal) kids-kept
+                  (subst (λ c. IsWithoutAll keeps (goes cmp e rest) (lookup cmp (tree c)) (lookup cmp (tree item))) is
+                  h.without)));
               children =
                   rw set_is (children-set cmp tree kept i item child
                   (subst (λ c. IsGrown cmp 1 (tree c) (tree item)) is

@@ -1,9 +1,11 @@
--- What a removal makes of a node and of its children. No public clause cites these words.
-use Rattle.std.specs.Prelude.{◌≡◌, ℕ, zero, suc, ◌++◌, IsTrue, List, length, Option, Some, None, get_or, IfNone, [], ⊤}
+-- Which keys a removal takes out, and what it makes of a node and of its children. No public clause cites these words.
+use Rattle.std.specs.Prelude.{◌≡◌, ℕ, zero, suc, [], ◌∷◌, ◌++◌, Bool, IsSome, IsTrue, List, length, Option, Some, None, get_or}
+use Rattle.std.specs.Prelude.{IfNone, ⊤}
 use Rattle.std.specs.List.{remove}
-use Rattle.std.specs.Option.{option_to_list}
+use Rattle.std.specs.Option.{is_some, option_to_list}
 use Rattle.std.specs.declared.cmp.Ordering.{Ordering}
-use Rattle.vc_tree_model.specs.Key.{same_key}
+use Rattle.vc_tree_model.specs.Child.{solid_child}
+use Rattle.vc_tree_model.specs.Key.{same_key, behind}
 use Rattle.vc_tree_model.specs.Value.{IsKept}
 use Rattle.vc_tree_model.specs.Tree.{Tree, Forest, bare, grow, node}
 use Rattle.vc_tree_model.specs.Map.{lookup, lookup_in}
@@ -11,7 +13,23 @@ use Rattle.vc_tree_model.specs.Canonical.{AreChildren}
 use Rattle.vc_tree_model.specs.Same.{IsAlikeIn}
 use Rattle.vc_tree_nodes.specs.Children.{seen}
 use Rattle.vc_tree_nodes.specs.Growth.{IsGrown}
-use Rattle.vc_tree_removal.specs.Without.{IsWithout}
+use Rattle.vc_tree_removal.specs.Without.{IsWithoutAll}
+use Rattle.vc_tree_removal.specs.declared.removal.Extent.{Extent}
+use Rattle.vc_tree_removal.specs.declared.removal.Extent.TheVariants.{Alone, Below}
+
+module _ {K : Type 0} where
+  -- whether a key goes with that one: it equals it, or begins with it
+  abbrev pub goes : (K → K → Ordering) → Extent → List K → List K → Bool
+  goes cmp Alone key = same_key cmp key
+  goes cmp Below key = λ k. is_some (behind cmp key k)
+
+  -- what is left of a key leads to its end, or there is more of it
+  abbrev pub IsLeft : Extent → Option (List K) → Type 0
+  IsLeft Alone None = ⊥
+  IsLeft Alone (Some rest) = ⊤
+  IsLeft Below None = ⊥
+  IsLeft Below (Some []) = ⊥
+  IsLeft Below (Some (x ∷ rest)) = ⊤
 
 module _ {K V : Type 0} where
   -- the tree at a place of a list
@@ -31,35 +49,45 @@ module _ {K V : Type 0} where
   AreSome bare = ⊥
   AreSome (grow p v kids rest) = ⊤
 
-  -- there is such a tree, and it has children
-  abbrev pub IsDeep : Option (Tree K V) → Type 0
-  IsDeep None = ⊥
-  IsDeep (Some t) = AreSome t.children
-
   -- the value that goes with a node that becomes one of its children: that of its other child, if it has one, else its own
   abbrev pub gone : Option V → Option (Tree K V) → Option V
   gone v None = v
   gone v (Some t) = t.value
 
-  -- the tree at place i is a leaf with that key
-  pub record IsLeafAt (cmp : K → K → Ordering) (f : Forest K V) (key : List K) (i : ℕ) : Type 0 where
-    pub prefix : List K
-    pub value : V
-    pub same : IsTrue (same_key cmp prefix key)
-    pub is : tree_at f i ≡ Some (node prefix (Some value) bare)
+  -- a key is bound that goes with that one
+  pub record Meets (cmp : K → K → Ordering) (extent : Extent) (key : List K) (f : List K → Option V) : Type 0 where
+    pub met : List K
+    pub goes_with : IsTrue (goes cmp extent key met)
+    pub bound : IsSome (f met)
 
-  -- u is t without the key, whose value was o; it begins as t does, and can stand where t stood
-  pub record Removed (cmp : K → K → Ordering) (keeps : V → V → Type 0) (t : Tree K V) (key : List K) (o : Option V)
-      (u : Tree K V) : Type 0 where
-    pub taken : IsKept keeps (lookup cmp t key) o
-    pub without : IsWithout cmp keeps key (lookup cmp t) (lookup cmp u)
+  -- of a tree that binds a key that goes with that one, all keys go
+  abbrev pub IsWholly : (K → K → Ordering) → Extent → List K → Tree K V → Type 0
+  IsWholly cmp Alone key t = t.children ≡ bare
+  IsWholly cmp Below key t = IsSome (behind cmp key t.prefix)
+
+  -- the key ends at the prefix of a tree with children, or goes on behind it; to take out what begins with it, it goes on
+  pub record IsDeep (cmp : K → K → Ordering) (extent : Extent) (key : List K) (t : Tree K V) : Type 0 where
+    pub some : AreSome t.children
+    pub left : IsLeft extent (behind cmp t.prefix key)
+
+  -- there is such a tree
+  abbrev pub IsDeepAt : (K → K → Ordering) → Extent → List K → Option (Tree K V) → Type 0
+  IsDeepAt cmp extent key None = ⊥
+  IsDeepAt cmp extent key (Some t) = IsDeep cmp extent key t
+
+  -- u is t without the keys that go with that one, and o the value of the one alone; u begins as t does, and can stand
+  -- where t stood
+  pub record Removed (cmp : K → K → Ordering) (keeps : V → V → Type 0) (extent : Extent) (t : Tree K V) (key : List K)
+      (o : Option V) (u : Tree K V) : Type 0 where
+    pub taken : extent ≡ Alone → IsKept keeps (lookup cmp t key) o
+    pub without : IsWithoutAll keeps (goes cmp extent key) (lookup cmp t) (lookup cmp u)
     pub grown : IsGrown cmp (length t.prefix) t u
 
-  -- g is f without the key, whose value was o, and as many canonical children
-  pub record RemovedIn (cmp : K → K → Ordering) (keeps : V → V → Type 0) (f : Forest K V) (key : List K)
+  -- g is f without the keys that go with that one, and o the value of the one alone; g has canonical children
+  pub record RemovedIn (cmp : K → K → Ordering) (keeps : V → V → Type 0) (extent : Extent) (f : Forest K V) (key : List K)
       (o : Option V) (g : Forest K V) : Type 0 where
-    pub taken : IsKept keeps (lookup_in cmp f key) o
-    pub without : IsWithout cmp keeps key (lookup_in cmp f) (lookup_in cmp g)
+    pub taken : extent ≡ Alone → IsKept keeps (lookup_in cmp f key) o
+    pub without : IsWithoutAll keeps (goes cmp extent key) (lookup_in cmp f) (lookup_in cmp g)
     pub children : AreChildren cmp g
 
   -- the item is the one at place i of a list that is an old one's alike, and the new list is that one without it
@@ -96,4 +124,13 @@ module _ {K V : Type 0} where
     pub child : Tree K V
     pub at : tree_at kept i ≡ Some child
     pub is : u ≡ node t.prefix t.value (without kept i)
+    pub value : o ≡ child.value
+
+  -- u is what is left of t without its child at place i, whose value is o
+  pub record Lacks (keeps : V → V → Type 0) (t : Tree K V) (i : ℕ) (o : Option V) (u : Tree K V) : Type 0 where
+    pub kept : Forest K V
+    pub alike : IsAlikeIn keeps t.children kept
+    pub child : Tree K V
+    pub at : tree_at kept i ≡ Some child
+    pub is : solid_child t.prefix t.value (without kept i) ≡ Some u
     pub value : o ≡ child.value

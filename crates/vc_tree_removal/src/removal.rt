@@ -1,7 +1,7 @@
-//! How a key is taken out of a tree.
+//! How a key is taken out of a tree, alone or with all keys that begin with it.
 
 ghost use Rattle.std.specs.Prelude.{◌≡◌, ◌++◌, ◌<◌, ◌≤◌, length, None, Ok, Some};
-ghost use Rattle.std.specs.Prelude.{IfOk, IsSome, OnOk, OnErr};
+ghost use Rattle.std.specs.Prelude.{IfOk, IsSome, MatchBool, OnOk, OnErr};
 ghost use Rattle.std.specs.Option.{option_map};
 ghost use Rattle.vc_tree_model.specs.Key.{behind};
 ghost use Rattle.vc_tree_model.specs.Tree.{bare, no_tree, node, trees};
@@ -11,10 +11,12 @@ ghost use Rattle.vc_tree_model.specs.Canonical.{AreChildren, IsCanonical, IsSoli
 ghost use Rattle.vc_tree_model.specs.Same.{IsAlike, IsAlikeIn};
 ghost use Rattle.vc_tree_nodes.specs.Children.{seen};
 ghost use Rattle.vc_tree_nodes.specs.Places.{LeadsTo};
-ghost use Rattle.vc_tree_removal.specs.Without.{IsWithout};
-ghost use Rattle.vc_tree_removal.specs.Taking.{AreSome, IsDeep, IsLeafAt, Removed, RemovedIn};
-ghost use Rattle.vc_tree_removal.specs.Taking.{Becomes, Loses, Parts as PartsOf, Takes};
-ghost use Rattle.vc_tree_removal.specs.Taking.{gone as gone_value, tree_at, without};
+ghost use Rattle.vc_tree_removal.specs.Without.{IsWithout, IsWithoutAll};
+ghost use Rattle.vc_tree_removal.specs.Taking.{AreSome, IsDeep, IsDeepAt, IsWholly, Meets};
+ghost use Rattle.vc_tree_removal.specs.Taking.{Becomes, Lacks, Loses, Parts as PartsOf, Takes};
+ghost use Rattle.vc_tree_removal.specs.Taking.{Removed, RemovedIn, goes, tree_at, without};
+ghost use Rattle.vc_tree_removal.specs.Taking.{gone as gone_value};
+ghost use Rattle.vc_tree_removal.specs.declared.removal.Extent.TheVariants.{Alone};
 
 use std::alloc::{AllocError, Global};
 use std::mem;
@@ -24,6 +26,15 @@ use vc_tree_nodes::children::{ChildList, Fragment, Parts};
 use vc_tree_nodes::descent::contains_key;
 use vc_tree_nodes::places::child_place;
 use vc_tree_nodes::reading::{RadixNode, TKey, TValue, canonical};
+
+/// Which keys go with one.
+#[derive(Clone, Copy)]
+pub(crate) enum Extent {
+    /// The key alone.
+    Alone,
+    /// All keys that begin with it.
+    Below,
+}
 
 /// Takes the key out, and answers the value that it had, or none where it was not bound. The other
 /// keys keep their values.
@@ -48,15 +59,47 @@ pub fn remove<K: TKey, V: TValue, T: Build<K, V>>(
     ensures err_nodes { OnErr result (IsAlike T.keeps (T.tree tree.old) (T.tree tree.new)) }
     ensures canonical { IsCanonical K.cmp (T.tree tree.new) }
 {
-    let alloc = tree.allocator();
     canonical(tree);
     if !contains_key(tree, key) {
         return Ok(None);
     }
-    if tree.children().is_empty() {
+    remove_met(tree, key, Extent::Alone)
+}
+
+/// Takes the keys out that go with a key, of which the tree binds some. Answers the value of the
+/// key, where it goes alone.
+pub(crate) fn remove_met<K: TKey, V: TValue, T: Build<K, V>>(
+    tree: &mut T,
+    key: &[K],
+    extent: Extent,
+) -> Result<Option<V>, AllocError>
+    requires { Meets K.cmp extent key.now (lookup K.cmp (T.tree tree.old)) }
+    ensures old { extent ≡ Alone
+        → IfOk result (IsKept T.keeps (lookup K.cmp (T.tree tree.old) key.now)) }
+    ensures ok { OnOk result (IsWithoutAll T.keeps (goes K.cmp extent key.now)
+        (lookup K.cmp (T.tree tree.old)) (lookup K.cmp (T.tree tree.new))) }
+    ensures err_nodes { OnErr result (IsAlike T.keeps (T.tree tree.old) (T.tree tree.new)) }
+    ensures canonical { IsCanonical K.cmp (T.tree tree.new) }
+{
+    let alloc = tree.allocator();
+    canonical(tree);
+    if goes_wholly(tree, key, extent) {
         return Ok(take_root(alloc, tree));
     }
-    remove_from(alloc, tree, key)
+    remove_from(alloc, tree, key, extent)
+}
+
+/// Whether all keys of a tree go with a key, of which it binds some. Where not, some of them stand
+/// below the tree's children.
+fn goes_wholly<K: TKey, V: TValue, T: RadixNode<K, V>>(tree: &T, key: &[K], extent: Extent) -> bool
+    requires { Meets K.cmp extent key.now (lookup K.cmp (T.tree tree.now)) }
+    ensures { MatchBool result (IsWholly K.cmp extent key.now (T.tree tree.now))
+        (IsDeep K.cmp extent key.now (T.tree tree.now)) }
+{
+    match extent {
+        Extent::Alone => tree.children().is_empty(),
+        Extent::Below => key.len() <= tree.prefix().len(),
+    }
 }
 
 /// Leaves the empty tree, and answers the value of the root.
@@ -74,18 +117,20 @@ fn take_root<K: TKey, V: TValue, T: Build<K, V>>(alloc: Global, tree: &mut T) ->
     value
 }
 
-/// Takes a key out that a tree with children binds.
+/// Takes the keys out that go with a key, of which the tree binds some. The key is the tree's
+/// prefix or goes on behind it.
 #[cycle(removal)]
 fn remove_from<K: TKey, V: TValue, T: Build<K, V>>(
     alloc: Global,
     tree: &mut T,
     key: &[K],
+    extent: Extent,
 ) -> Result<Option<V>, AllocError>
-    requires bound { IsSome (lookup K.cmp (T.tree tree.old) key.now) }
-    requires deep { AreSome (T.tree tree.old).children }
+    requires met { Meets K.cmp extent key.now (lookup K.cmp (T.tree tree.old)) }
+    requires deep { IsDeep K.cmp extent key.now (T.tree tree.old) }
     requires solid { IsSolid (T.tree tree.old).value (T.tree tree.old).children }
-    ensures ok { IfOk result
-        (λ value. Removed K.cmp T.keeps (T.tree tree.old) key.now value (T.tree tree.new)) }
+    ensures ok { IfOk result (λ value.
+        Removed K.cmp T.keeps extent (T.tree tree.old) key.now value (T.tree tree.new)) }
     ensures err { OnErr result (IsAlike T.keeps (T.tree tree.old) (T.tree tree.new)) }
 {
     canonical(tree);
@@ -96,37 +141,37 @@ fn remove_from<K: TKey, V: TValue, T: Build<K, V>>(
     let Ok(i) = child_place(tree.children(), first, &mut Uncounted) else {
         unreachable!()
     };
-    if tree.children()[i].children().is_empty() {
-        take_leaf(alloc, tree, i, rest)
+    if goes_wholly(&tree.children()[i], rest, extent) {
+        take_child(alloc, tree, i)
     } else {
-        remove_below(alloc, tree, i, rest)
+        remove_deeper(alloc, tree, i, rest, extent)
     }
 }
 
-/// What is left behind the prefix of a key that the tree binds.
+/// What is left of a key behind the prefix of a tree.
 fn rest_of<'k, K: TKey, V: TValue, T: RadixNode<K, V>>(tree: &T, key: &'k [K]) -> &'k [K]
-    requires within { length (T.tree tree.now).prefix ≤ length key.now }
-    requires bound { IsSome (lookup K.cmp (T.tree tree.now) key.now) }
+    requires { IsSome (behind K.cmp (T.tree tree.now).prefix key.now) }
     ensures { behind K.cmp (T.tree tree.now).prefix key.now ≡ Some result.now }
 {
     &key[tree.prefix().len()..]
 }
 
-/// Takes a key out that is the prefix and then `rest`, and that the child at place `i` binds, which
-/// has children.
+/// Takes the keys out that go with the prefix and then `rest`. They stand below the child at place
+/// `i`.
 #[cycle(removal)]
-fn remove_below<K: TKey, V: TValue, T: Build<K, V>>(
+fn remove_deeper<K: TKey, V: TValue, T: Build<K, V>>(
     alloc: Global,
     tree: &mut T,
     i: usize,
     rest: &[K],
+    extent: Extent,
 ) -> Result<Option<V>, AllocError>
     requires leads { LeadsTo K.cmp (T.tree tree.old).children rest.now i }
-    requires bound { IsSome (lookup_in K.cmp (T.tree tree.old).children rest.now) }
-    requires deep { IsDeep (tree_at (T.tree tree.old).children i) }
+    requires met { Meets K.cmp extent rest.now (lookup_in K.cmp (T.tree tree.old).children) }
+    requires deep { IsDeepAt K.cmp extent rest.now (tree_at (T.tree tree.old).children i) }
     requires solid { IsSolid (T.tree tree.old).value (T.tree tree.old).children }
-    ensures ok { let t = T.tree tree.old in IfOk result
-        (λ value. Removed K.cmp T.keeps t (t.prefix ++ rest.now) value (T.tree tree.new)) }
+    ensures ok { let t = T.tree tree.old in IfOk result (λ value.
+        Removed K.cmp T.keeps extent t (t.prefix ++ rest.now) value (T.tree tree.new)) }
     ensures err { OnErr result (IsAlike T.keeps (T.tree tree.old) (T.tree tree.new)) }
 {
     let node = mem::replace(tree, T::blank(alloc, Seal::new()));
@@ -138,26 +183,27 @@ fn remove_below<K: TKey, V: TValue, T: Build<K, V>>(
     let Some(mut children) = children else {
         unreachable!()
     };
-    let done = remove_in::<K, V, T>(alloc, &mut children, i, rest);
+    let done = remove_in::<K, V, T>(alloc, &mut children, i, rest, extent);
     *tree = T::assemble(prefix, own, Some(children), Seal::new());
     done
 }
 
-/// Takes the key `rest` out of the children, of which the one at place `i` binds it and has
-/// children.
+/// Takes the keys out of the children that go with `rest`. They stand below the child at place `i`.
 #[cycle(removal)]
 fn remove_in<K: TKey, V: TValue, T: Build<K, V>>(
     alloc: Global,
     children: &mut T::Children,
     i: usize,
     rest: &[K],
+    extent: Extent,
 ) -> Result<Option<V>, AllocError>
     requires leads { LeadsTo K.cmp (seen T.tree (T.Children.items children.old)) rest.now i }
-    requires bound { IsSome (lookup_in K.cmp (seen T.tree (T.Children.items children.old))
-        rest.now) }
-    requires deep { IsDeep (tree_at (seen T.tree (T.Children.items children.old)) i) }
+    requires met { Meets K.cmp extent rest.now
+        (lookup_in K.cmp (seen T.tree (T.Children.items children.old))) }
+    requires deep { IsDeepAt K.cmp extent rest.now
+        (tree_at (seen T.tree (T.Children.items children.old)) i) }
     requires canonical { AreChildren K.cmp (seen T.tree (T.Children.items children.old)) }
-    ensures ok { IfOk result (λ value. RemovedIn K.cmp T.keeps
+    ensures ok { IfOk result (λ value. RemovedIn K.cmp T.keeps extent
         (seen T.tree (T.Children.items children.old)) rest.now value
         (seen T.tree (T.Children.items children.new))) }
     ensures as_many { length (T.Children.items children.new)
@@ -166,7 +212,7 @@ fn remove_in<K: TKey, V: TValue, T: Build<K, V>>(
         (seen T.tree (T.Children.items children.new))) }
 {
     let list = children.make_mut()?;
-    remove_from(alloc, &mut list[i], rest)
+    remove_from(alloc, &mut list[i], rest, extent)
 }
 
 /// Takes out the key that is the prefix of a node with children. A lone child is joined with it.
@@ -176,7 +222,7 @@ fn take_value<K: TKey, V: TValue, T: Build<K, V>>(
 ) -> Result<Option<V>, AllocError>
     requires deep { AreSome (T.tree tree.old).children }
     ensures ok { let t = T.tree tree.old in IfOk result
-        (λ value. Removed K.cmp T.keeps t t.prefix value (T.tree tree.new)) }
+        (λ value. Removed K.cmp T.keeps Alone t t.prefix value (T.tree tree.new)) }
     ensures err { OnErr result (IsAlike T.keeps (T.tree tree.old) (T.tree tree.new)) }
 {
     canonical(tree);
@@ -193,21 +239,19 @@ fn take_value<K: TKey, V: TValue, T: Build<K, V>>(
     Ok(value)
 }
 
-/// Takes out the key that is the prefix and then `_rest`, which is that of the leaf at place `i`.
-/// What is left of a node without a value and with two children is the other child, joined with it.
-fn take_leaf<K: TKey, V: TValue, T: Build<K, V>>(
+/// Takes the child at place `i` out of a node, and answers its value. What is left of a node
+/// without a value and with two children is the other child, joined with it.
+fn take_child<K: TKey, V: TValue, T: Build<K, V>>(
     alloc: Global,
     tree: &mut T,
     i: usize,
-    _rest: &[K],
 ) -> Result<Option<V>, AllocError>
-    requires leaf { IsLeafAt K.cmp (T.tree tree.old).children _rest.now i }
+    requires within { i < length (trees (T.tree tree.old).children) }
     requires solid { IsSolid (T.tree tree.old).value (T.tree tree.old).children }
-    ensures ok { let t = T.tree tree.old in IfOk result
-        (λ value. Removed K.cmp T.keeps t (t.prefix ++ _rest.now) value (T.tree tree.new)) }
+    ensures ok { IfOk result
+        (λ value. Lacks T.keeps (T.tree tree.old) i value (T.tree tree.new)) }
     ensures err { OnErr result (IsAlike T.keeps (T.tree tree.old) (T.tree tree.new)) }
 {
-    canonical(tree);
     if tree.value().is_none() && tree.children().len() == 2 {
         return become_child(alloc, tree, 1 - i);
     }

@@ -1,7 +1,9 @@
 -- The recursion of a removal: what is left of the key is bound below, and each call goes to a child that it leads to.
 use Rattle.std.proofs.Common.{refl, sym, ap, subst, ◌∙◌, arith, drop, is_ok, length, map, rules}
 use Rattle.std.proofs.Math.ListN.{length-set}
+use Rattle.std.specs.Cmp.{tied_itself}
 use Rattle.vc_tree_model.specs.Canonical.{AreChildren, IsCanonical}
+use Rattle.vc_tree_model.specs.Child.{Begins}
 use Rattle.vc_tree_model.specs.Tree.{forest}
 use Rattle.vc_tree_model.proofs.KeyLemmas.{behind-joins}
 use Rattle.vc_tree_nodes.specs.Children.{listed}
@@ -9,16 +11,17 @@ use Rattle.vc_tree_nodes.specs.Places.{BeginsAt, IsGapAt, LeadsTo}
 use Rattle.vc_tree_nodes.proofs.Events.{on-err, parts-canonical, leads-within, leads-solid, leads-nodes, length-kept}
 use Rattle.vc_tree_nodes.proofs.Finding.{begins-below}
 use Rattle.vc_tree_nodes.proofs.Growing.{solid-canonical}
-use Rattle.vc_tree_removal.specs.Taking.{AreSome}
-use Rattle.vc_tree_removal.proofs.Lists.{empty-false, empty-true, none-seen, some-seen}
-use Rattle.vc_tree_removal.proofs.Reaching.{bound-within, deep-found, first-is, leaf-found, none-first, rest-bound, rest-ended}
-use Rattle.vc_tree_removal.proofs.Reaching.{rest-reaches}
-use Rattle.vc_tree_removal.proofs.Removing.{child-removed, if-both, if-ok, leads-bound, leads-deep, list-alike, list-removed}
-use Rattle.vc_tree_removal.proofs.Removing.{removed-respelled}
+use Rattle.vc_tree_removal.specs.Taking.{IsDeepAt, IsLeft, Removed}
+use Rattle.vc_tree_removal.proofs.Going.{left-ended, left-some}
+use Rattle.vc_tree_removal.proofs.Lists.{seen-long}
+use Rattle.vc_tree_removal.proofs.Reaching.{child-found, child-stands, child-within, first-is, met-child, met-reaches}
+use Rattle.vc_tree_removal.proofs.Reaching.{met-rest, none-first, rest-ended}
+use Rattle.vc_tree_removal.proofs.Removing.{child-removed, if-both, if-ok, leads-met, leads-deep, list-alike, list-removed}
+use Rattle.vc_tree_removal.proofs.Removing.{lacks-removed, removed-respelled}
 use Rattle.vc_tree_removal.proofs.removal.+removal.Goals as goal
 
-pub remove_below-assemble-requires : goal.remove_below-assemble-requires
-remove_below-assemble-requires g t c =
+pub remove_deeper-assemble-requires : goal.remove_deeper-assemble-requires
+remove_deeper-assemble-requires g t c =
     let tree = g.T.RadixNode.tree in
     let prefix = c.take_apart-prefix.ensures.prefix ∙ ap (λ t. (tree t).prefix) c.replace-node.ensures.value in
     let value = c.take_apart-prefix.ensures.value ∙ ap (λ t. (tree t).value) c.replace-node.ensures.value in
@@ -30,15 +33,15 @@ remove_below-assemble-requires g t c =
     if-both c.remove_in-done.result c.remove_in-done.ensures.ok c.remove_in-done.ensures.err
     (λ taken removed.
     let whole = child-removed g.K.Ord.cmp g.T.Build.keeps g.met.T.Build.keeps_refl g.met.T.Build.keeps_trans
-    g.met.K.Ord.total tree (tree c.args.tree.now) _ _ _ _ _ c.args.rest.now taken c.requires.leads.first
+    g.met.K.Ord.total tree c.args.extent (tree c.args.tree.now) _ _ _ _ _ c.args.rest.now taken c.requires.leads.first
     c.requires.leads.others prefix value children refl c.requires.solid c.requires.leads.key_is
     c.remove_in-done.ensures.as_many removed in
     solid-canonical g.K.Ord.cmp _ _ _ whole.grown.solid whole.grown.children)
     (λ alike. parts-canonical g.K.Ord.cmp g.T.Build.keeps g.met.T.Build.keeps_refl g.met.T.Build.keeps_trans
     g.met.K.Ord.total tree (tree c.args.tree.now) _ _ _ _ prefix value children canonical alike)
 
-pub remove_below-returns-clause-ok : goal.remove_below-returns-clause-ok
-remove_below-returns-clause-ok g t c =
+pub remove_deeper-returns-clause-ok : goal.remove_deeper-returns-clause-ok
+remove_deeper-returns-clause-ok g t c =
     let tree = g.T.RadixNode.tree in
     let prefix = c.take_apart-prefix.ensures.prefix ∙ ap (λ t. (tree t).prefix) c.replace-node.ensures.value in
     let value = c.take_apart-prefix.ensures.value ∙ ap (λ t. (tree t).value) c.replace-node.ensures.value in
@@ -47,24 +50,29 @@ remove_below-returns-clause-ok g t c =
     c.take_apart-prefix.ensures.children ∙ ap (λ t. (tree t).children) c.replace-node.ensures.value in
     if-ok c.remove_in-done.result
     (λ taken removed. child-removed g.K.Ord.cmp g.T.Build.keeps g.met.T.Build.keeps_refl g.met.T.Build.keeps_trans
-    g.met.K.Ord.total tree (tree c.args.tree.now) _ _ _ _ _ c.args.rest.now taken c.requires.leads.first
+    g.met.K.Ord.total tree c.args.extent (tree c.args.tree.now) _ _ _ _ _ c.args.rest.now taken c.requires.leads.first
     c.requires.leads.others prefix value children c.assemble.ensures c.requires.solid c.requires.leads.key_is
     c.remove_in-done.ensures.as_many removed)
     c.remove_in-done.ensures.ok
 
-pub remove_from-rest_of-rest-requires-clause-within : goal.remove_from-rest_of-rest-requires-clause-within
-remove_from-rest_of-rest-requires-clause-within g t c =
-    bound-within g.K.Ord.cmp (g.T.RadixNode.tree c.args.tree.now) c.args.key.now c.requires.bound
+pub remove_from-rest_of-rest-requires : goal.remove_from-rest_of-rest-requires
+remove_from-rest_of-rest-requires g t c = left-some c.args.extent _ c.requires.deep.left
 
 pub remove_from-returns-in_default-clause-ok : goal.remove_from-returns-in_default-clause-ok
 remove_from-returns-in_default-clause-ok g t c =
     let tree = g.T.RadixNode.tree in
+    let t = tree c.args.tree.now in
+    let none = none-first c.rest_of-rest.result.now (sym c.in_default.ensures.value) in
+    let alone =
+    left-ended c.args.extent c.rest_of-rest.result.now
+    (subst (λ o. IsLeft c.args.extent o) c.rest_of-rest.ensures c.requires.deep.left) none in
     if-ok c.take_value.result
     (λ value removed. removed-respelled g.K.Ord.cmp g.T.Build.keeps g.met.T.Build.keeps_refl
-    g.met.T.Build.keeps_trans g.met.K.Ord.total (tree c.args.tree.now) (tree c.take_value.new.tree)
-    (tree c.args.tree.now).prefix c.args.key.now value
-    (rest-ended g.K.Ord.cmp g.met.K.Ord.total (tree c.args.tree.now).prefix c.args.key.now c.rest_of-rest.result.now
-    c.rest_of-rest.ensures (none-first c.rest_of-rest.result.now (sym c.in_default.ensures.value))) removed)
+    g.met.T.Build.keeps_trans g.met.K.Ord.total c.args.extent t (tree c.take_value.new.tree)
+    t.prefix c.args.key.now value
+    (rest-ended g.K.Ord.cmp g.met.K.Ord.total t.prefix c.args.key.now c.rest_of-rest.result.now
+    c.rest_of-rest.ensures none)
+    (subst (λ e. Removed g.K.Ord.cmp g.T.Build.keeps e t t.prefix value (tree c.take_value.new.tree)) (sym alone) removed))
     c.take_value.ensures.ok
 
 pub remove_from-child_place-requires : goal.remove_from-child_place-requires
@@ -74,10 +82,10 @@ pub remove_from-unreachable-requires : goal.remove_from-unreachable-requires
 remove_from-unreachable-requires g t c =
     let tree = g.T.RadixNode.tree in
     let begun = first-is c.rest_of-rest.result.now c.in-Some.first.now (sym c.in-Some.ensures.value) in
-    rest-reaches g.K.Ord.cmp g.met.K.Ord.total (tree c.args.tree.now).children c.rest_of-rest.result.now
+    met-reaches g.K.Ord.cmp g.met.K.Ord.total c.args.extent (tree c.args.tree.now).children c.rest_of-rest.result.now
     c.in-Some.first.now _ c.in_default-child_place.field-0 begun
-    (rest-bound g.K.Ord.cmp (tree c.args.tree.now) c.args.key.now c.rest_of-rest.result.now c.in-Some.first.now _
-    c.rest_of-rest.ensures begun c.requires.bound)
+    (met-rest g.K.Ord.cmp g.met.K.Ord.total c.args.extent (tree c.args.tree.now) c.args.key.now c.rest_of-rest.result.now
+    c.in-Some.first.now _ c.rest_of-rest.ensures begun c.requires.met)
     (subst (λ f. IsGapAt g.K.Ord.cmp f c.in-Some.first.now c.in_default-child_place.field-0) c.children.ensures
     c.in_default-child_place.ensures.place)
 
@@ -94,60 +102,82 @@ remove_from-offset_bounds-children-i g t c =
     c.in-Ok.ensures.place) in
     omega (arith, h)
 
-pub remove_from-take_leaf-requires-clause-leaf : goal.remove_from-take_leaf-requires-clause-leaf
-remove_from-take_leaf-requires-clause-leaf g t c =
+pub remove_from-goes_wholly-requires : goal.remove_from-goes_wholly-requires
+remove_from-goes_wholly-requires g t c =
     let tree = g.T.RadixNode.tree in
     let begun = first-is c.rest_of-rest.result.now c.in-Some.first.now (sym c.in-Some.ensures.value) in
-    let none =
-    empty-true c.children-3.result.now c.is_empty.result c.is_empty.ensures c.if-is_empty.true in
-    leaf-found g.K.Ord.cmp g.met.K.Ord.total tree (tree c.args.tree.now).children c.children-2.result.now c.in-Ok.i
-    c.index-children-i.result c.rest_of-rest.result.now c.in-Some.first.now _ c.children-2.ensures c.index-children-i.is
+    met-child g.K.Ord.cmp g.met.K.Ord.total tree (tree c.args.tree.now).children c.children-2.result.now c.in-Ok.i
+    c.index-children-i.result c.in-Some.first.now c.children-2.ensures c.index-children-i.is
     (subst (λ f. BeginsAt g.K.Ord.cmp f c.in-Some.first.now c.in-Ok.i) c.children.ensures c.in-Ok.ensures.place)
-    c.canonical.ensures.1
-    (sym c.children-3.ensures ∙ none-seen tree c.children-3.result.now none) begun
-    (rest-bound g.K.Ord.cmp (tree c.args.tree.now) c.args.key.now c.rest_of-rest.result.now c.in-Some.first.now _
-    c.rest_of-rest.ensures begun c.requires.bound)
+    c.args.extent c.rest_of-rest.result.now _ c.canonical.ensures.1 begun
+    (met-rest g.K.Ord.cmp g.met.K.Ord.total c.args.extent (tree c.args.tree.now) c.args.key.now c.rest_of-rest.result.now
+    c.in-Some.first.now _ c.rest_of-rest.ensures begun c.requires.met)
 
-pub remove_from-remove_below-requires : goal.remove_from-remove_below-requires
-remove_from-remove_below-requires g t c κs within =
+pub remove_from-take_child-requires-clause-within : goal.remove_from-take_child-requires-clause-within
+remove_from-take_child-requires-clause-within g t c =
+    let tree = g.T.RadixNode.tree in
+    let long = seen-long tree _ _ c.children-2.ensures in
+    let within =
+    child-within g.K.Ord.cmp g.met.K.Ord.total tree (tree c.args.tree.now).children c.children-2.result.now c.in-Ok.i
+    c.index-children-i.result c.in-Some.first.now c.children-2.ensures c.index-children-i.is
+    (subst (λ f. BeginsAt g.K.Ord.cmp f c.in-Some.first.now c.in-Ok.i) c.children.ensures c.in-Ok.ensures.place) in
+    omega (arith, long, within)
+
+pub remove_from-remove_deeper-requires : goal.remove_from-remove_deeper-requires
+remove_from-remove_deeper-requires g t c κs within =
     let tree = g.T.RadixNode.tree in
     let begun = first-is c.rest_of-rest.result.now c.in-Some.first.now (sym c.in-Some.ensures.value) in
     let begins = subst (λ f. BeginsAt g.K.Ord.cmp f c.in-Some.first.now c.in-Ok.i) c.children.ensures c.in-Ok.ensures.place in
-    let some =
-    empty-false c.children-3.result.now c.is_empty.result c.is_empty.ensures c.if-is_empty.false in
     let leads : LeadsTo g.K.Ord.cmp (tree c.args.tree.now).children c.rest_of-rest.result.now c.in-Ok.i =
     record { first = c.in-Some.first.now; others = drop 1 c.rest_of-rest.result.now; key_is = begun; begins = begins } in
-    let bound =
-    rest-bound g.K.Ord.cmp (tree c.args.tree.now) c.args.key.now c.rest_of-rest.result.now c.in-Some.first.now _
-    c.rest_of-rest.ensures begun c.requires.bound in
+    let met =
+    met-rest g.K.Ord.cmp g.met.K.Ord.total c.args.extent (tree c.args.tree.now) c.args.key.now c.rest_of-rest.result.now
+    c.in-Some.first.now _ c.rest_of-rest.ensures begun c.requires.met in
     let deep =
-    deep-found g.K.Ord.cmp g.met.K.Ord.total tree (tree c.args.tree.now).children c.children-2.result.now c.in-Ok.i
-    c.index-children-i.result c.rest_of-rest.result.now c.in-Some.first.now (drop 1 c.rest_of-rest.result.now)
-    c.children-2.ensures c.index-children-i.is
-    begins (subst AreSome c.children-3.ensures (some-seen tree c.children-3.result.now some)) in
+    subst (λ d. IsDeepAt g.K.Ord.cmp c.args.extent c.rest_of-rest.result.now d)
+    (sym (child-stands g.K.Ord.cmp g.met.K.Ord.total tree (tree c.args.tree.now).children c.children-2.result.now c.in-Ok.i
+    c.index-children-i.result c.in-Some.first.now c.children-2.ensures c.index-children-i.is begins))
+    c.if-goes_wholly.ensures in
     search rules
 
-pub remove_from-returns-then-is_empty-clause-ok : goal.remove_from-returns-then-is_empty-clause-ok
-remove_from-returns-then-is_empty-clause-ok g t c =
+pub remove_from-returns-then-goes_wholly-clause-ok : goal.remove_from-returns-then-goes_wholly-clause-ok
+remove_from-returns-then-goes_wholly-clause-ok g t c =
+    let cmp = g.K.Ord.cmp in
     let tree = g.T.RadixNode.tree in
-    if-ok c.take_leaf.result
-    (λ value removed. removed-respelled g.K.Ord.cmp g.T.Build.keeps g.met.T.Build.keeps_refl
-    g.met.T.Build.keeps_trans g.met.K.Ord.total (tree c.args.tree.now) (tree c.take_leaf.new.tree)
-    _ c.args.key.now value
-    (behind-joins g.K.Ord.cmp g.met.K.Ord.total (tree c.args.tree.now).prefix c.args.key.now c.rest_of-rest.result.now
-    c.rest_of-rest.ensures) removed)
-    c.take_leaf.ensures.ok
+    let o = g.met.K.Ord.total in
+    let e = c.args.extent in
+    let y = c.in-Some.first.now in
+    let rest = c.rest_of-rest.result.now in
+    let kids = (tree c.args.tree.now).children in
+    let begun = first-is rest y (sym c.in-Some.ensures.value) in
+    let begins = subst (λ f. BeginsAt cmp f y c.in-Ok.i) c.children.ensures c.in-Ok.ensures.place in
+    let met =
+    met-rest cmp o e (tree c.args.tree.now) c.args.key.now rest y _ c.rest_of-rest.ensures begun c.requires.met in
+    if-ok c.take_child.result
+    (λ value lacks. removed-respelled cmp g.T.Build.keeps g.met.T.Build.keeps_refl g.met.T.Build.keeps_trans o e
+    (tree c.args.tree.now) (tree c.take_child.new.tree) _ c.args.key.now value
+    (behind-joins cmp o (tree c.args.tree.now).prefix c.args.key.now rest c.rest_of-rest.ensures)
+    (lacks-removed cmp g.T.Build.keeps g.met.T.Build.keeps_refl g.met.T.Build.keeps_trans o e (tree c.args.tree.now)
+    (tree c.take_child.new.tree) (tree c.index-children-i.result) c.in-Ok.i rest y _ value c.canonical.ensures.1
+    (child-stands cmp o tree kids c.children-2.result.now c.in-Ok.i c.index-children-i.result y c.children-2.ensures
+    c.index-children-i.is begins) begins begun
+    (child-found cmp o tree kids c.children-2.result.now c.in-Ok.i c.index-children-i.result y c.children-2.ensures
+    c.index-children-i.is begins c.canonical.ensures.1 rest (subst (Begins cmp y) (sym begun) (tied_itself o y)))
+    (met-child cmp o tree kids c.children-2.result.now c.in-Ok.i c.index-children-i.result y c.children-2.ensures
+    c.index-children-i.is begins e rest _ c.canonical.ensures.1 begun met)
+    c.if-goes_wholly.ensures lacks))
+    c.take_child.ensures.ok
 
-pub remove_from-returns-else-is_empty-clause-ok : goal.remove_from-returns-else-is_empty-clause-ok
-remove_from-returns-else-is_empty-clause-ok g t c =
+pub remove_from-returns-else-goes_wholly-clause-ok : goal.remove_from-returns-else-goes_wholly-clause-ok
+remove_from-returns-else-goes_wholly-clause-ok g t c =
     let tree = g.T.RadixNode.tree in
-    if-ok c.remove_below.result
+    if-ok c.remove_deeper.result
     (λ value removed. removed-respelled g.K.Ord.cmp g.T.Build.keeps g.met.T.Build.keeps_refl
-    g.met.T.Build.keeps_trans g.met.K.Ord.total (tree c.args.tree.now) (tree c.remove_below.new.tree)
+    g.met.T.Build.keeps_trans g.met.K.Ord.total c.args.extent (tree c.args.tree.now) (tree c.remove_deeper.new.tree)
     _ c.args.key.now value
     (behind-joins g.K.Ord.cmp g.met.K.Ord.total (tree c.args.tree.now).prefix c.args.key.now c.rest_of-rest.result.now
     c.rest_of-rest.ensures) removed)
-    c.remove_below.ensures.ok
+    c.remove_deeper.ensures.ok
 
 pub remove_in-returns-in_err-list-clause-as_many : goal.remove_in-returns-in_err-list-clause-as_many
 remove_in-returns-in_err-list-clause-as_many g t c =
@@ -165,18 +195,18 @@ remove_in-index_mut-requires g t c =
 
 pub remove_in-remove_from-requires : goal.remove_in-remove_from-requires
 remove_in-remove_from-requires g t c κs within =
-    let bound =
-    leads-bound g.K.Ord.cmp g.T.Build.keeps g.met.T.Build.keeps_refl g.met.T.Build.keeps_trans g.met.K.Ord.total
+    let met =
+    leads-met g.K.Ord.cmp g.T.Build.keeps g.met.T.Build.keeps_refl g.met.T.Build.keeps_trans g.met.K.Ord.total
     g.T.RadixNode.tree
     (g.T.Children.ChildList.items c.args.children.now) c.in_ok-list.list.now.items c.args.i c.args.rest.now
     c.requires.leads (g.met.T.Build.kept_alike _ _ c.in_ok-list.ensures.value) c.requires.canonical
-    c.index_mut.result.now c.index_mut.ensures.value c.requires.bound in
+    c.args.extent c.index_mut.result.now c.index_mut.ensures.value c.requires.met in
     let deep =
     leads-deep g.K.Ord.cmp g.T.Build.keeps g.met.T.Build.keeps_refl g.met.T.Build.keeps_trans g.met.K.Ord.total
     g.T.RadixNode.tree
     (g.T.Children.ChildList.items c.args.children.now) c.in_ok-list.list.now.items c.args.i c.args.rest.now
     c.requires.leads (g.met.T.Build.kept_alike _ _ c.in_ok-list.ensures.value) c.requires.canonical
-    c.index_mut.result.now c.index_mut.ensures.value c.requires.deep in
+    c.args.extent c.index_mut.result.now c.index_mut.ensures.value c.requires.deep in
     let solid =
     leads-solid g.K.Ord.cmp g.T.Build.keeps g.met.T.Build.keeps_refl g.met.T.Build.keeps_trans g.met.K.Ord.total
     g.T.RadixNode.tree
@@ -199,7 +229,7 @@ remove_in-returns-clause-ok g t c =
     (g.T.Children.ChildList.items c.args.children.now) c.in_ok-list.list.now.items c.args.i c.args.rest.now
     c.requires.leads (g.met.T.Build.kept_alike _ _ c.in_ok-list.ensures.value) c.requires.canonical
     c.index_mut.result.now c.remove_from.new.tree _ c.index_mut.ensures.value
-    (c.make_mut.follows.holds _ (ap is_ok c.in_ok-list.was)))
+    (c.make_mut.follows.holds _ (ap is_ok c.in_ok-list.was)) c.args.extent)
     c.remove_from.ensures.ok
 
 pub remove_in-returns-clause-err : goal.remove_in-returns-clause-err

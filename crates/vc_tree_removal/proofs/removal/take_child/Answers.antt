@@ -1,16 +1,15 @@
--- The other one of two children stands in the place of a node without a value; any other node loses the leaf.
+-- The other one of two children stands in the place of a node without a value; any other node loses the child.
 use Rattle.std.proofs.Common.{◌≡◌, ◌+◌, ◌-◌, sym, ap, ◌∙◌, arith, not}
-use Rattle.vc_tree_removal.proofs.Lists.{seen-long, within-at}
-use Rattle.vc_tree_removal.proofs.Removing.{if-ok, loses-removed, none-copied, pair-removed, solid-without, some-copied}
-use Rattle.vc_tree_removal.proofs.removal.take_leaf.Goals.{else-is_none-via-then-is_none+else-children-eq2}
-use Rattle.vc_tree_removal.proofs.removal.take_leaf.Goals.{else-is_none-via-else-is_none}
-use Rattle.vc_tree_removal.proofs.removal.take_leaf.Goals as goal
+use Rattle.vc_tree_removal.proofs.Lists.{seen-long}
+use Rattle.vc_tree_removal.proofs.Removing.{if-ok, loses-lacks, none-copied, pair-lacks, solid-without, some-copied}
+use Rattle.vc_tree_removal.proofs.removal.take_child.Goals.{else-is_none-via-then-is_none+else-children-eq2}
+use Rattle.vc_tree_removal.proofs.removal.take_child.Goals.{else-is_none-via-else-is_none}
+use Rattle.vc_tree_removal.proofs.removal.take_child.Goals as goal
 
 pub overflow_sub-i : goal.overflow_sub-i
 overflow_sub-i g c =
     let long = seen-long g.T.RadixNode.tree _ _ c.children.ensures in
-    let within = within-at (g.T.RadixNode.tree c.args.tree.now).children c.args.i _ c.requires.leaf.is in
-    omega (arith, long, within, c.if-children-eq2.true)
+    omega (arith, long, c.requires.within, c.if-children-eq2.true)
 
 pub become_child-requires-clause-few : goal.become_child-requires-clause-few
 become_child-requires-clause-few g c =
@@ -20,19 +19,13 @@ pub returns-then-children-eq2-clause-ok : goal.returns-then-children-eq2-clause-
 returns-then-children-eq2-clause-ok g c =
     let t = g.T.RadixNode.tree c.args.tree.now in
     let long = seen-long g.T.RadixNode.tree _ _ c.children.ensures in
-    let within = within-at t.children c.args.i _ c.requires.leaf.is in
-    let one : c.args.i + (1 - c.args.i) ≡ 1 = omega (arith, long, within, c.if-children-eq2.true) in
+    let one : c.args.i + (1 - c.args.i) ≡ 1 = omega (arith, long, c.requires.within, c.if-children-eq2.true) in
     if-ok c.become_child.result
-    (λ value became. pair-removed g.K.Ord.cmp g.T.Build.keeps g.met.T.Build.keeps_refl g.met.T.Build.keeps_trans
-    g.met.K.Ord.total t (g.T.RadixNode.tree c.become_child.new.tree) c.args.i (1 - c.args.i) c.args._rest.now value
-    c.canonical.ensures.1
+    (λ value became. pair-lacks g.K.Ord.cmp g.T.Build.keeps g.met.T.Build.keeps_refl g.met.T.Build.keeps_trans
+    g.met.K.Ord.total t (g.T.RadixNode.tree c.become_child.new.tree) c.args.i (1 - c.args.i) value
     (none-copied c.value.result t.value c.value.ensures (c.is_none.ensures ∙ ap not c.if-is_none.true))
-    (sym long ∙ c.if-children-eq2.true) one c.requires.leaf became)
+    (sym long ∙ c.if-children-eq2.true) one became)
     c.become_child.ensures.ok
-
-pub lose_child-requires-clause-within : goal.lose_child-requires-clause-within
-lose_child-requires-clause-within g c =
-    within-at (g.T.RadixNode.tree c.args.tree.now).children c.args.i _ c.requires.leaf.is
 
 pub lose_child-requires-clause-solid : goal.lose_child-requires-clause-solid
 lose_child-requires-clause-solid g c =
@@ -49,9 +42,8 @@ pub returns-clause-ok : goal.returns-clause-ok
 returns-clause-ok g c =
     let t = g.T.RadixNode.tree c.args.tree.now in
     if-ok c.lose_child.result
-    (λ value lost. loses-removed g.K.Ord.cmp g.T.Build.keeps g.met.T.Build.keeps_refl g.met.T.Build.keeps_trans
-    g.met.K.Ord.total t (g.T.RadixNode.tree c.lose_child.new.tree) c.args.i c.args._rest.now value
-    c.canonical.ensures.1 c.requires.leaf
+    (λ value lost. loses-lacks g.K.Ord.cmp g.T.Build.keeps g.met.T.Build.keeps_refl g.met.T.Build.keeps_trans
+    g.met.K.Ord.total t (g.T.RadixNode.tree c.lose_child.new.tree) c.args.i value
     (solid-without t.value t.children c.args.i c.requires.solid
     (λ none two. elim c.else-is_none.branch [
       | else-is_none-via-then-is_none+else-children-eq2 w ↦
