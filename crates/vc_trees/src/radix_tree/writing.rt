@@ -9,7 +9,7 @@ ghost use Rattle.vc_tree_model.specs.Map.{HaveEqualMaps, IsEqualMap, IsInserted,
 ghost use Rattle.vc_tree_model.specs.Canonical.{IsCanonical};
 ghost use Rattle.vc_tree_model.specs.Same.{IsAlike};
 ghost use Rattle.vc_tree_model.specs.Under.{prefixed, under};
-ghost use Rattle.vc_tree_removal.specs.Without.{IsWithout};
+ghost use Rattle.vc_tree_removal.specs.Without.{IsWithout, IsWithoutBelow};
 ghost use Rattle.vc_tree_edits.specs.Editing.{MayLeave, CanLeave, KeptThen, CanMeet, OrStays, CanJudge, MayJudge};
 
 use crate::radix_tree::reading::AbstractRadixTree;
@@ -23,7 +23,7 @@ use vc_tree_nodes::insertion;
 use vc_tree_nodes::plain::RadixTree;
 use vc_tree_nodes::reading::{TKey, TValue};
 use vc_tree_nodes::shared::ArcRadixTree;
-use vc_tree_removal::removal;
+use vc_tree_removal::{removal, removal_below};
 use vc_tree_walks::filtering;
 
 /// A radix tree to be made and changed: the two flavours, and no other type.
@@ -106,6 +106,31 @@ pub trait AbstractRadixTreeMut<K: TKey, V: TValue>: CloneTree<K, V> + AbstractRa
         ensures canonical { IsCanonical K.cmp (Self.tree self.new) }
     {
         removal::remove(self, key)
+    }
+
+    /// Takes out all keys that begin with `prefix`, with their values. The other keys keep theirs.
+    ///
+    /// Where no key begins with it, that costs a walk down to where one would stand: no memory is
+    /// asked for, and nothing is copied. Fails only where memory is refused, for the joined prefix
+    /// of a node that is left with one child or for the copy of shared children, or where the clone
+    /// of a value of those is refused; the tree then has the nodes that it had, and binds what it
+    /// bound.
+    ///
+    /// Compares each component of the prefix at most once, but for two halving searches among the
+    /// children of each node on the way. What goes is dropped, node by node.
+    final fn remove_below(&mut self, prefix: &[K]) -> Result<(), AllocError>
+        ensures ok { OnOk result (IsWithoutBelow K.cmp Self.keeps prefix.now
+            (lookup K.cmp (Self.tree self.old)) (lookup K.cmp (Self.tree self.new))) }
+        ensures absent { let f = lookup K.cmp (Self.tree self.old) in
+            ((k : List K) → under K.cmp f prefix.now k ≡ None)
+            → (result ≡ Ok tt) × (Self.tree self.new ≡ Self.tree self.old) }
+        ensures err { OnErr result
+            (HaveEqualMaps K.cmp Self.keeps (Self.tree self.old) (Self.tree self.new)) }
+        ensures err_nodes { OnErr result
+            (IsAlike Self.keeps (Self.tree self.old) (Self.tree self.new)) }
+        ensures canonical { IsCanonical K.cmp (Self.tree self.new) }
+    {
+        removal_below::remove_below(self, prefix)
     }
 
     /// A fresh tree of the keys that start with the prefix, whole, with copies of their values; the
