@@ -1,2 +1,1 @@
-mod Removing
 mod Turns

@@ -9,7 +9,7 @@ ghost use Rattle.users.specs.Settings.{count, setting, latest, set_in, version_o
 mod trees;
 
 use std::alloc::{AllocError, Global};
-use trees::{Settings, bind, differing, take_out};
+use trees::{Settings, bind, differing};
 use vec_collections::radix_tree::{AbstractRadixTree, AbstractRadixTreeMut, RadixTree};
 
 /// The versions of a configuration, numbered from 0.
@@ -63,8 +63,7 @@ impl History {
         ensures err { OnErr result (HaveSameVersions self.old self.new) }
     {
         let mut next = self.draft(alloc)?;
-        let removed = RadixTree::single(alloc, folder, true)?;
-        take_out(&mut next, &removed)?;
+        next.remove_below(folder)?;
         self.publish(next)
     }
 

@@ -1,10 +1,9 @@
-//! The trees of settings, and the three steps that versions are made by. Their clauses are in the
+//! The trees of settings, and the two steps that versions are made by. Their clauses are in the
 //! words of trees.
 
 ghost use Rattle.std.specs.Prelude.{◌≡◌, ◌==◌, cond, None, Some, Ok, IfOk, OnOk};
 ghost use Rattle.std.specs.Option.{is_some};
 ghost use Rattle.std.specs.Ordering.{nat_cmp};
-ghost use Rattle.vec_collections.specs.Cover.{IsRemoved};
 ghost use Rattle.vec_collections.specs.Map.{lookup, IsInserted};
 ghost use Rattle.users.specs.Path.{Path};
 ghost use Rattle.users.specs.Settings.{are_different};
@@ -24,23 +23,6 @@ pub fn bind(settings: &mut Settings, path: &[u8], value: u64) -> Result<(), Allo
         (IsInserted nat_cmp (λ x y. x ≡ y) path.now value settings.old settings.new) }
 {
     settings.insert(path, value)
-}
-
-/// Takes out the paths that rules name, each with what lies below it.
-pub fn take_out<T: AbstractRadixTreeMut<u8, u64>>(
-    settings: &mut T,
-    removed: &RadixTree<u8, bool>,
-) -> Result<(), AllocError>
-    ensures { OnOk result (IsRemoved T.keeps (λ named covered. covered ≡ named)
-        (lookup nat_cmp removed.now) (lookup nat_cmp (T.tree settings.old))
-        (lookup nat_cmp (T.tree settings.new))) }
-{
-    settings.remove_prefix_with(
-        removed,
-        |named: &bool| -> bool
-            ensures { result ≡ named.now }
-        { *named },
-    )
 }
 
 /// The paths at which two trees have other settings. Each has the one of the new tree, or of the
