@@ -28,7 +28,7 @@ use Rattle.vc_tree_model.proofs.Walking.{walk-is}
 use Rattle.vc_tree_nodes.specs.Children.{seen}
 use Rattle.definition_tests.proofs.Digits.{same, not_true}
 use Rattle.definition_tests.proofs.Letters.{Letter, a, b, by_letter, each_key, leaf, a_and_ab}
-use Rattle.vc_tree_removal.specs.Without.{IsWithout}
+use Rattle.vc_tree_removal.specs.Without.{IsWithout, IsWithoutBelow}
 
 -- ---- keys and values
 
@@ -139,6 +139,15 @@ is_without = record {
   at = each_key _ (λ e. not_true e) (λ e. not_true e) (λ k e. not_true e) (λ e. refl) (λ y k e. not_true e)
       (λ e. not_true e) (λ y k e. not_true e);
   others = each_key _ (λ e. tt) (λ e. refl) (λ k e. tt) (λ e. not_true (sym e)) (λ y k e. tt) (λ e. tt) (λ y k e. tt);
+}
+
+-- a*(b*) without what begins with a is the empty tree
+is_without_below : IsWithoutBelow {V = ℕ} by_letter same (a ∷ []) (lookup by_letter (a_and_ab 1 2)) (lookup by_letter no_tree)
+is_without_below = record {
+  at = each_key _ (λ e. not_true e) (λ e. refl) (λ k e. refl) (λ e. refl) (λ y k e. refl) (λ e. not_true e)
+      (λ y k e. not_true e);
+  others = each_key _ (λ e. tt) (λ e. not_true (sym e)) (λ k e. not_true (sym e)) (λ e. not_true (sym e))
+      (λ y k e. not_true (sym e)) (λ e. tt) (λ y k e. tt);
 }
 
 -- what the last pair of a key says counts

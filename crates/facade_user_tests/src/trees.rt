@@ -5,10 +5,10 @@ ghost use Rattle.std.specs.Ordering.{nat_cmp};
 ghost use Rattle.std.specs.Option.{option_copied};
 ghost use Rattle.vec_collections.specs.Commanded.{command_of};
 ghost use Rattle.vec_collections.specs.Machine.{Run};
-ghost use Rattle.vec_collections.specs.Map.{lookup, or_else, IsInserted};
+ghost use Rattle.vec_collections.specs.Map.{lookup, or_else, HaveEqualMaps, IsInserted};
 ghost use Rattle.vec_collections.specs.Tree.{made, no_tree, is_bare};
 ghost use Rattle.vec_collections.specs.Value.{Copies, IsKept};
-ghost use Rattle.vec_collections.specs.Without.{IsWithout};
+ghost use Rattle.vec_collections.specs.Without.{IsWithout, IsWithoutBelow};
 
 use std::alloc::{AllocError, Global};
 use std::marker::Model;
@@ -47,6 +47,15 @@ pub fn forget_port(ports: &mut Ports, server: &[u8]) -> Result<Option<u32>, Allo
         (lookup nat_cmp ports.old) (lookup nat_cmp ports.new)) }
 {
     ports.remove(server)
+}
+
+/// Takes the ports of all servers away whose names begin with the zone.
+pub fn forget_zone(ports: &mut Ports, zone: &[u8]) -> Result<(), AllocError>
+    ensures gone { OnOk result (IsWithoutBelow nat_cmp (λ x y. x ≡ y) zone.now
+        (lookup nat_cmp ports.old) (lookup nat_cmp ports.new)) }
+    ensures err { OnErr result (HaveEqualMaps nat_cmp (λ x y. x ≡ y) ports.old ports.new) }
+{
+    ports.remove_below(zone)
 }
 
 /// Changes the ports, one change after another, and says which changes were made.

@@ -2,7 +2,7 @@
 --     left-within, left-rest, rest-ended        the key is the prefix and the rest
 --     first-is, met-rest, met-child        keys that go with the rest are bound below a child
 --     child-within, child-stands        which is there
---     wholly-gone, wholly-value, bare-left, long-deep        all keys of a tree go, or some below its children
+--     wholly-gone, wholly-value, alone-tells, below-tells        all keys of a tree go, or some below its children
 --     root-taken, root-without, absent-without        all keys of a root go, or none of them
 use Rattle.std.proofs.Common.{◌≡◌, ℕ, ◌-◌, ◌<◌, ◌≤◌, [], ◌∷◌, ◌++◌, List, Option, None, Some, refl, sym, ap}
 use Rattle.std.proofs.Common.{subst, ◌∙◌, arith, get_or, map, take, drop, length, length-drop, append-nil, true, false, Bool}

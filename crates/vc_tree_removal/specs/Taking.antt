@@ -23,7 +23,7 @@ module _ {K : Type 0} where
   goes cmp Alone key = same_key cmp key
   goes cmp Below key = λ k. is_some (behind cmp key k)
 
-  -- what is left of a key leads to its end, or there is more of it
+  -- the key is as long as the prefix that this is left of it behind; and longer, where what begins with it is to go
   abbrev pub IsLeft : Extent → Option (List K) → Type 0
   IsLeft Alone None = ⊥
   IsLeft Alone (Some rest) = ⊤
@@ -54,7 +54,7 @@ module _ {K V : Type 0} where
   gone v None = v
   gone v (Some t) = t.value
 
-  -- a key is bound that goes with that one
+  -- some key is bound that goes with that one
   pub record Meets (cmp : K → K → Ordering) (extent : Extent) (key : List K) (f : List K → Option V) : Type 0 where
     pub met : List K
     pub goes_with : IsTrue (goes cmp extent key met)
@@ -65,7 +65,7 @@ module _ {K V : Type 0} where
   IsWholly cmp Alone key t = t.children ≡ bare
   IsWholly cmp Below key t = IsSome (behind cmp key t.prefix)
 
-  -- the key ends at the prefix of a tree with children, or goes on behind it; to take out what begins with it, it goes on
+  -- the tree has children, and the key goes on behind its prefix, or is its prefix where it goes alone
   pub record IsDeep (cmp : K → K → Ordering) (extent : Extent) (key : List K) (t : Tree K V) : Type 0 where
     pub some : AreSome t.children
     pub left : IsLeft extent (behind cmp t.prefix key)
