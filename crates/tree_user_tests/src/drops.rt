@@ -16,6 +16,7 @@ enum Call {
     Single,
     Insert,
     Remove,
+    RemoveBelow,
     Slices,
     Shared,
     Walk,
@@ -24,11 +25,12 @@ enum Call {
     Restrict,
 }
 
-const CALLS: [Call; 10] = [
+const CALLS: [Call; 11] = [
     Call::Leaf,
     Call::Single,
     Call::Insert,
     Call::Remove,
+    Call::RemoveBelow,
     Call::Slices,
     Call::Shared,
     Call::Walk,
@@ -114,6 +116,7 @@ fn make<'a, T: AbstractRadixTreeMut<u8, Counted<'a>> + Clone>(
         Call::Single => drop(T::single(alloc, b"ab", Counted::new(6, tally))?),
         Call::Insert => tree.insert(b"abcd", Counted::new(6, tally))?,
         Call::Remove => drop(tree.remove(b"ab")?),
+        Call::RemoveBelow => tree.remove_below(b"ab")?,
         Call::Slices => collect(alloc, false, tally)?,
         Call::Shared => collect(alloc, true, tally)?,
         Call::Walk => walk(kept, 4)?,

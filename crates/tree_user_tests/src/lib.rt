@@ -13,6 +13,8 @@ use vc_trees::radix_tree::{AbstractRadixTree, AbstractRadixTreeMut, RadixNode, T
 #[cfg(test)]
 mod asked;
 #[cfg(test)]
+mod below;
+#[cfg(test)]
 mod combines;
 #[cfg(test)]
 mod commands;

@@ -357,7 +357,7 @@ pub(crate) fn number_at<'a, T: AbstractRadixTree<u8, Counted<'a>>>(tree: &T, key
 }
 
 /// Eight keys and the numbers that `insert_eight` leaves there.
-const KEYS: [(&str, u32); 8] = [
+pub(crate) const KEYS: [(&str, u32); 8] = [
     ("a", 1),
     ("aa", 9),
     ("aaa", 3),
@@ -436,7 +436,7 @@ fn a_snapshot_stays_and_few_values_are_copied(rt: HostRuntime) -> Result<(), Fai
 }
 
 /// Whether a tree binds the eight keys to their numbers, and no other key of these tests.
-fn has_eight<'a, T: AbstractRadixTree<u8, Counted<'a>>>(tree: &T) -> bool {
+pub(crate) fn has_eight<'a, T: AbstractRadixTree<u8, Counted<'a>>>(tree: &T) -> bool {
     let mut has_all = number_at(tree, b"bcd") == 0;
     for (key, number) in KEYS {
         has_all = has_all && number_at(tree, key.as_bytes()) == number;

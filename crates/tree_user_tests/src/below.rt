@@ -1,0 +1,115 @@
+//! Removals of all keys that begin with a prefix, in both flavours: shapes worked out by hand, how
+//! many values are dropped, and what is copied beside a snapshot.
+
+use super::in_place::tree_of;
+use super::tests::{
+    Counted, DEPTH, FORTY, FORTY_ELSE, KEYS, Tally, has_eight, number_at, print_shape,
+};
+use std::alloc::{AllocError, Global};
+use std::test::Fail;
+use vc_trees::radix_tree::{AbstractRadixTreeMut, ArcRadixTree, RadixTree};
+
+/// Keys of a tree, with numbers.
+type Pairs = &'static [(&'static str, u32)];
+
+/// The keys of `(a*(a*(a*) b*) b*(c*) eeee(e* f*))`.
+const EIGHT: Pairs = &KEYS;
+
+/// The keys of `ab(c* d*)` beside `e*`.
+const THREE: Pairs = &[("abc", 1), ("abd", 2), ("e", 3)];
+
+/// Two keys of forty letters that part behind the twentieth.
+const LONG: Pairs = &[(FORTY, 1), (FORTY_ELSE, 2)];
+
+/// The keys of a tree, a prefix, the shape of what is left of the tree without the keys that begin
+/// with it, and how many these are.
+const ROWS: [(Pairs, &str, &str, u32); 15] = [
+    (&[], "a", "", 0),
+    (EIGHT, "", "", 8),
+    (EIGHT, "a", "(b*(c*) eeee(e* f*))", 4),
+    (EIGHT, "aa", "(a*(b*) b*(c*) eeee(e* f*))", 2),
+    (EIGHT, "aaa", "(a*(a* b*) b*(c*) eeee(e* f*))", 1),
+    (EIGHT, "b", "(a*(a*(a*) b*) eeee(e* f*))", 2),
+    (EIGHT, "bc", "(a*(a*(a*) b*) b* eeee(e* f*))", 1),
+    (EIGHT, "ee", "(a*(a*(a*) b*) b*(c*))", 2),
+    (EIGHT, "eeeef", "(a*(a*(a*) b*) b*(c*) eeeee*)", 1),
+    (EIGHT, "eef", "(a*(a*(a*) b*) b*(c*) eeee(e* f*))", 0),
+    (THREE, "e", "ab(c* d*)", 1),
+    (THREE, "a", "e*", 2),
+    (THREE, "abcd", "(ab(c* d*) e*)", 0),
+    (LONG, "abcdefghijklmnopqrst-", FORTY_STAR, 1),
+    (LONG, "abc", "", 2),
+];
+
+/// The shape of the tree of the forty letters alone.
+const FORTY_STAR: &str = "abcdefghijklmnopqrstuvwxyzabcdefghijklmn*";
+
+/// Takes the keys out that begin with the prefix, where no value may be cloned. Answers the shape
+/// that is left, and how many values the call dropped.
+fn cut<'a, T: AbstractRadixTreeMut<u8, Counted<'a>>>(
+    alloc: Global,
+    pairs: Pairs,
+    prefix: &str,
+    tally: &'a Tally,
+) -> Result<(String, u32), AllocError> {
+    let mut tree: T = tree_of(alloc, pairs, tally)?;
+    tally.clones_left.set(0);
+    tree.remove_below(prefix.as_bytes())?;
+    let dropped = tally.drops();
+    let mut text = String::new(alloc);
+    print_shape(&tree, &mut text, DEPTH)?;
+    Ok((text, dropped))
+}
+
+#[test]
+fn keys_below_a_prefix_go(rt: HostRuntime) -> Result<(), Fail> {
+    for (pairs, prefix, shape, count) in ROWS {
+        let tally = Tally::new();
+        let (plain, dropped) = cut::<RadixTree<u8, Counted>>(rt.alloc(), pairs, prefix, &tally)?;
+        assert_eq!(rt; (plain.as_str(), dropped), (shape, count), "{prefix}");
+        assert_eq!(rt; tally.drops(), tally.made_and_cloned(), "{prefix}");
+        let tally = Tally::new();
+        let (shared, dropped) = cut::<ArcRadixTree<u8, Counted>>(
+            rt.alloc(),
+            pairs,
+            prefix,
+            &tally,
+        )?;
+        assert_eq!(rt; (shared.as_str(), dropped), (shape, count), "{prefix}");
+        assert_eq!(rt; tally.drops(), tally.made_and_cloned(), "{prefix}");
+    }
+    Ok(())
+}
+
+/// Takes keys out of the tree of the eight keys beside a copy, where each clone of a value is
+/// refused: below prefixes with which no key begins, and below `ee`, once beside the copy and once
+/// when it is gone. Answers whether the second alone was refused, and left both as they were.
+fn is_cut_without_a_copy<'a, T: AbstractRadixTreeMut<u8, Counted<'a>> + Clone>(
+    alloc: Global,
+    tally: &'a Tally,
+) -> Result<bool, AllocError> {
+    let mut tree: T = tree_of(alloc, EIGHT, tally)?;
+    let copy = tree.clone()?;
+    tally.clones_left.set(0);
+    for prefix in ["aaaa", "bd", "eeee-", "eeeeef", "z"] {
+        tree.remove_below(prefix.as_bytes())?;
+    }
+    let is_refused = tree.remove_below(b"ee").is_err();
+    let are_left = has_eight(&tree) && has_eight(&copy);
+    drop(copy);
+    tree.remove_below(b"ee")?;
+    let are_gone = number_at(&tree, b"eeeee") == 0 && number_at(&tree, b"eeeef") == 0;
+    Ok(is_refused && are_left && are_gone && number_at(&tree, b"bc") == 6)
+}
+
+#[test]
+fn a_prefix_of_no_key_copies_nothing(rt: HostRuntime) -> Result<(), Fail> {
+    let tally = Tally::new();
+    let is_right = is_cut_without_a_copy::<ArcRadixTree<u8, Counted>>(rt.alloc(), &tally)?;
+    assert!(rt; is_right);
+    assert_eq!(rt;
+        (tally.clones(), tally.drops()),
+        (0, tally.made_and_cloned())
+    );
+    Ok(())
+}
