@@ -44,7 +44,7 @@ pub fn on_shelf(shelves: &Shelves, shelf: u32) -> Option<&Articles>
     }
 }
 
-/// Puts one more article on a shelf.
+/// Puts one more article on a shelf. Refused, it leaves the shelf without any.
 pub fn put_on_shelf(shelves: &mut Shelves, shelf: u32, article: u32) -> Result<(), AllocError>
     ensures { OnOk result ((other : ℕ)
         → member nat_cmp (unwrap_or (option_flatten (value_at nat_cmp shelves.new shelf)) []) other
@@ -95,6 +95,28 @@ pub fn index_article(index: &mut Index, word: &[u8], article: u32) -> Result<(),
     articles.insert(article)?;
     index.insert(word, articles)?;
     Ok(())
+}
+
+/// How often each word stands in each article.
+pub type Counts = RadixTree<u8, VecMap<u32, u32, 4>>;
+
+/// How often a word stands in an article.
+pub fn count_in(counts: &Counts, word: &[u8], article: u32) -> Option<u32>
+    ensures { result
+        ≡ value_at nat_cmp (unwrap_or (lookup nat_cmp counts.now word.now) []) article }
+{
+    counts.get(word)?.get(&article).copied()
+}
+
+/// Says of a word how often it stands in each article.
+pub fn set_counts(
+    counts: &mut Counts,
+    word: &[u8],
+    in_articles: VecMap<u32, u32, 4>,
+) -> Result<(), AllocError>
+    ensures { OnOk result (lookup nat_cmp counts.new word.now ≡ Some in_articles) }
+{
+    counts.insert(word, in_articles)
 }
 
 /// Groups of articles, each of them once.
