@@ -5,6 +5,8 @@
 #[cfg(test)]
 mod cases;
 #[cfg(test)]
+mod nested;
+#[cfg(test)]
 mod questions;
 #[cfg(test)]
 mod written;
