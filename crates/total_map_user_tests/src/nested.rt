@@ -93,10 +93,25 @@ fn all_have_one_set(alloc: Global) -> Result<bool, AllocError> {
 }
 
 #[test]
-fn sets_stand_inside_others(rt: HostRuntime) -> Result<(), Fail> {
+fn sets_are_values_of_maps(rt: HostRuntime) -> Result<(), Fail> {
     assert!(rt; shelves_are_copied(rt.alloc())?);
+    Ok(())
+}
+
+#[test]
+fn sets_are_values_of_trees(rt: HostRuntime) -> Result<(), Fail> {
     assert!(rt; an_index_is_copied(rt.alloc())?);
+    Ok(())
+}
+
+#[test]
+fn sets_are_elements_and_fields(rt: HostRuntime) -> Result<(), Fail> {
     assert!(rt; groups_and_pages(rt.alloc())?);
+    Ok(())
+}
+
+#[test]
+fn sets_are_values_of_total_maps(rt: HostRuntime) -> Result<(), Fail> {
     assert!(rt; all_have_one_set(rt.alloc())?);
     Ok(())
 }

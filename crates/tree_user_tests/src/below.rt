@@ -48,7 +48,7 @@ const FORTY_STAR: &str = "abcdefghijklmnopqrstuvwxyzabcdefghijklmn*";
 /// that is left, and how many values the call dropped.
 fn cut<'a, T: AbstractRadixTreeMut<u8, Counted<'a>>>(
     alloc: Global,
-    pairs: Pairs,
+    pairs: &[(&str, u32)],
     prefix: &str,
     tally: &'a Tally,
 ) -> Result<(String, u32), AllocError> {
