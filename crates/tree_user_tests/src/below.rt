@@ -81,19 +81,20 @@ fn keys_below_a_prefix_go(rt: HostRuntime) -> Result<(), Fail> {
     Ok(())
 }
 
-/// Takes keys out of the tree of the eight keys beside a copy, where each clone of a value is
-/// refused: below prefixes with which no key begins, and below `ee`, once beside the copy and once
-/// when it is gone. Answers whether the second alone was refused, and left both as they were.
+/// Takes keys out of the tree of the eight keys beside a copy: below prefixes with which no key
+/// begins, and then, where each clone of a value is refused, below `ee`, once beside the copy and
+/// once when it is gone. Answers whether the removal beside the copy alone was refused, and left
+/// both as they were.
 fn is_cut_without_a_copy<'a, T: AbstractRadixTreeMut<u8, Counted<'a>> + Clone>(
     alloc: Global,
     tally: &'a Tally,
 ) -> Result<bool, AllocError> {
     let mut tree: T = tree_of(alloc, EIGHT, tally)?;
     let copy = tree.clone()?;
-    tally.clones_left.set(0);
     for prefix in ["aaaa", "bd", "eeee-", "eeeeef", "z"] {
         tree.remove_below(prefix.as_bytes())?;
     }
+    tally.clones_left.set(0);
     let is_refused = tree.remove_below(b"ee").is_err();
     let are_left = has_eight(&tree) && has_eight(&copy);
     drop(copy);
