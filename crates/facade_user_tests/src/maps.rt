@@ -1,5 +1,5 @@
 //! Maps from outside: look-ups, changes and joins, with what a user says of them.
-ghost use Rattle.std.specs.Prelude.{◌≡◌, ◌-◌, ◌↔◌, [], cond, drop, length, min, reverse, slice_get, take, false, Some, None, ℕ, IsSome, IsTrue, IfOk, IfSome, IsOk, OnOk, OnErr};
+ghost use Rattle.std.specs.Prelude.{◌≡◌, ◌==◌, ◌-◌, ◌↔◌, [], cond, count_by, drop, length, min, reverse, slice_get, take, false, Some, None, ℕ, IsSome, IsTrue, IfOk, IfSome, IsOk, OnOk, OnErr};
 ghost use Rattle.std.specs.BTreeMap.Range.{entries_between};
 ghost use Rattle.std.specs.Map.{keys_of, lookup, values_of};
 ghost use Rattle.std.specs.String.{string_cmp};
@@ -79,6 +79,19 @@ pub fn is_listed(stock: &Stock, article: u32) -> bool
     ensures { IsTrue result ↔ IsSome (value_at nat_cmp stock.now article) }
 {
     stock.contains_key(&article)
+}
+
+/// How many articles are sold out, by a loop.
+pub fn count_sold_out(stock: &Stock) -> usize
+    ensures { result ≡ count_by (λ pair. pair.1 == 0) stock.now }
+{
+    let mut count = 0;
+    for (_, pieces) in stock {
+        if *pieces == 0 {
+            count += 1;
+        }
+    }
+    count
 }
 
 /// The desk of a user, in any map by names, or none where he has none.
