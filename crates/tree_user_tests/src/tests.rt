@@ -465,9 +465,9 @@ fn is_refused_beside_a_copy_alone<'a, T: AbstractRadixTreeMut<u8, Counted<'a>> +
     Ok(is_refused && is_unchanged && is_granted && is_bound)
 }
 
-/// Takes keys out of the tree of the eight keys beside a copy: such as are not bound, and then, where
-/// each clone of a value is refused, `eeeef`, once beside the copy and once when it is gone. Answers
-/// whether the removal beside the copy alone was refused, and left both as they were.
+/// Takes keys out of the tree of the eight keys beside a copy: such as are not bound, and then,
+/// where each clone of a value is refused, `eeeef`, once beside the copy and once when it is gone.
+/// Answers whether the removal beside the copy alone was refused, and left both as they were.
 fn is_removed_without_a_copy<'a, T: AbstractRadixTreeMut<u8, Counted<'a>> + Clone>(
     alloc: Global,
     tally: &'a Tally,

@@ -10,8 +10,9 @@ use std::alloc::Allocator;
 use std::default::MadeWith;
 
 /// Elements whose clones are equal to them: a clone compares with every element as its source does.
-/// Sets of such elements, and maps with such keys, have `Clone`, so they can be values of other maps
-/// and of trees, elements of other sets, and fields of a struct that derives `Clone`.
+///
+/// Sets of such elements, and maps with such keys, have `Clone`. So they can be values of other
+/// maps and of trees, elements of other sets, and fields of a struct that derives `Clone`.
 ///
 /// The law: clones are equal.
 pub trait ClonesEqual: Ord + Clone {
