@@ -1,6 +1,6 @@
 //! Sets and maps inside others: a set as the value of a map, of a total map and of a tree, as the
 //! element of a set, and as a field of a type of this crate's own.
-ghost use Rattle.std.specs.Prelude.{◌≡◌, ◌||◌, ◌==◌, ℕ, List, [], Some, not, string_bytes, IfOk, IsFalse, OnOk};
+ghost use Rattle.std.specs.Prelude.{◌≡◌, ◌||◌, ◌==◌, ℕ, List, [], Some, not, string_bytes, IfOk, IsFalse, OnErr, OnOk};
 ghost use Rattle.std.proofs.Common.{rules};
 ghost use Rattle.std.specs.Cmp.Lexicographic.{slice_cmp};
 ghost use Rattle.std.specs.Option.{option_copied, option_flatten, unwrap_or};
@@ -44,17 +44,26 @@ pub fn on_shelf(shelves: &Shelves, shelf: u32) -> Option<&Articles>
     }
 }
 
-/// Puts one more article on a shelf. Refused, it leaves the shelf without any.
+/// A copy of the articles on a shelf, which may have none.
+pub fn copy_of_shelf(shelves: &Shelves, shelf: u32) -> Result<Articles, AllocError>
+    ensures { IfOk result (λ articles. articles
+        ≡ unwrap_or (option_flatten (value_at nat_cmp shelves.now shelf)) []) }
+{
+    match shelves.get(&shelf) {
+        Some(Some(articles)) => articles.clone(),
+        _ => Ok(Articles::empty(shelves.allocator())),
+    }
+}
+
+/// Puts one more article on a shelf. Refused, it leaves all shelves as they were.
 pub fn put_on_shelf(shelves: &mut Shelves, shelf: u32, article: u32) -> Result<(), AllocError>
-    ensures { OnOk result ((other : ℕ)
+    ensures put { OnOk result ((other : ℕ)
         → member nat_cmp (unwrap_or (option_flatten (value_at nat_cmp shelves.new shelf)) []) other
         ≡ (article == other || member nat_cmp
         (unwrap_or (option_flatten (value_at nat_cmp shelves.old shelf)) []) other)) }
+    ensures err { OnErr result (shelves.new ≡ shelves.old) }
 {
-    let mut articles = match shelves.remove(&shelf) {
-        Some(Some(articles)) => articles,
-        _ => Articles::empty(shelves.allocator()),
-    };
+    let mut articles = copy_of_shelf(shelves, shelf)?;
     articles.insert(article)?;
     shelves.insert(shelf, Some(articles))?;
     Ok(())
