@@ -128,10 +128,10 @@ module _ {K V : Type 0} (cmp : K → K → Ordering) (total : IsTotalOrder cmp) 
     decided v r (Some p) new h m e = (r, subst (λ x. May (Both key x w) r) (h p refl) m, e)
 
     -- the value that was written stays
-    pub kept-written : (old new : List (K × V)) (v left : V) → AscendsByKey cmp new → value_at cmp old key ≡ Some v
+    pub kept-written : {old new : List (K × V)} {v left : V} → AscendsByKey cmp new → value_at cmp old key ≡ Some v
         → May (Both key v w) (Some left) → new ≡ set_value (is_at (cmp key)) old left
         → IsKept cmp May key w old new
-    kept-written old new v left s e m is = record {
+    kept-written {old} {new} {v} {left} s e m is = record {
       ascends = s;
       at = λ k. chosen (is_at (cmp k) key)
           (λ t. decided v (Some left) (entry_at cmp old k) (entry_at cmp new k)
@@ -145,10 +145,10 @@ module _ {K V : Type 0} (cmp : K → K → Ordering) (total : IsTotalOrder cmp) 
         map-or_none left (Some p) = refl
 
     -- or it is taken out
-    pub kept-removed : (old mid new : List (K × V)) (v left : V) → AscendsByKey cmp mid → AscendsByKey cmp new
+    pub kept-removed : {old mid new : List (K × V)} {v : V} (left : V) → AscendsByKey cmp mid → AscendsByKey cmp new
         → value_at cmp old key ≡ Some v → May (Both key v w) None
         → mid ≡ set_value (is_at (cmp key)) old left → new ≡ remove_entry (is_at (cmp key)) mid → IsKept cmp May key w old new
-    kept-removed old mid new v left t s e m was is = record {
+    kept-removed {old} {mid} {new} {v} left t s e m was is = record {
       ascends = s;
       at = λ k. chosen (is_at (cmp k) key)
           (λ h. decided v None (entry_at cmp old k) (entry_at cmp new k)

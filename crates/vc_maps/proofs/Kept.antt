@@ -113,10 +113,10 @@ module _ {X Y : Type 0} (R : X → Y → Type 0) where
   zip-take (suc n) (x ∷ xs) (y ∷ ys) p = (p.0, zip-take n xs ys p.1)
 
 -- one more key was cloned
-pub keys-more : {K V W : Type 0} (is_clone : K → K → Type 0) (ps : List (K × W)) (i : ℕ) (old mid new : List (K × V))
+pub keys-more : {K V W : Type 0} (is_clone : K → K → Type 0) (ps : List (K × W)) (i : ℕ) {old mid new : List (K × V)}
     (p : K × W) (q : K × V) → i < length ps → p ≡ get_or ps i p → is_clone p.0 q.0
     → new ≡ mid ++ q ∷ [] → ClonesKeys is_clone (take i ps) old mid → ClonesKeys is_clone (take (i + 1) ps) old new
-keys-more is_clone ps i old mid new p q h e c f k = record {
+keys-more is_clone ps i {old} {mid} {new} p q h e c f k = record {
   added = k.added ++ q ∷ [];
   have = subst (λ l. HaveKeys is_clone l (k.added ++ q ∷ []))
       (ap (λ w. take i ps ++ w ∷ []) e ∙ sym (take_more ps i p h))
@@ -162,9 +162,9 @@ module _ {K V W : Type 0} (is_clone : K → K → Type 0) where
   keys-within false ps qs n e h k = absurd (true≢false (sym e))
 
 -- what was added between two states, read at the states before and behind
-pub appends-of : {X Z : Type 0} (gives : X → List Z → Type 0) (xs : List X) (old mid mid' new : List Z) → mid ≡ old
+pub appends-of : {X Z : Type 0} {gives : X → List Z → Type 0} {xs : List X} {old mid mid' new : List Z} → mid ≡ old
     → new ≡ mid' → Appends gives xs mid mid' → Appends gives xs old new
-appends-of gives xs old mid mid' new e f p =
+appends-of {gives} {xs} {old} {mid} {mid'} {new} e f p =
     record { added = p.added; gathered = p.gathered; items = f ∙ p.items ∙ ap (λ l. l ++ p.added) e }
 
 -- a number of clones, as its test reads it
@@ -176,9 +176,9 @@ pub set-false : (n : ℕ) → n ≡ 0 → has_keys n ≡ false
 set-false n h = ap has_keys h
 
 -- what was added to a list, read where its parts stand
-pub appends-in : {X Z : Type 0} (gives : X → List Z → Type 0) (xs xs' : List X) (old old' new new' : List Z) → xs' ≡ xs
+pub appends-in : {X Z : Type 0} {gives : X → List Z → Type 0} {xs xs' : List X} {old old' new new' : List Z} → xs' ≡ xs
     → old' ≡ old → new ≡ new' → Appends gives xs' old' new' → Appends gives xs old new
-appends-in gives xs xs' old old' new new' e f h p = rw (sym e, sym f, h) p
+appends-in {gives} {xs} {xs'} {old} {old'} {new} {new'} e f h p = rw (sym e, sym f, h) p
 
 -- what a part from the beginning has
 pub front-part : {X : Type 0} (xs : List X) (e : ℕ) → slice_range xs 0 e ≡ take e xs
@@ -186,8 +186,8 @@ front-part xs e = let k : e - 0 ≡ e = omega arith in ap (λ n. take n xs) k
 
 -- a join of what was left of two maps, in the list that it was built in
 pub join-moved : {K V W X : Type 0} (cmp : K → K → Ordering) (kind : JoinKind) (May : OuterJoinArg K V W → Option X → Type 0)
-    (Keeps : OuterJoinArg K V W → K → Type 0) (xs xs' : List (K × V)) (ys ys' : List (K × W)) (zs zs' : List (K × X))
+    (Keeps : OuterJoinArg K V W → K → Type 0) {xs xs' : List (K × V)} {ys ys' : List (K × W)} {zs zs' : List (K × X)}
     → xs' ≡ xs → ys' ≡ ys → IsJoin cmp kind left_spelling xs' ys' May Keeps zs' → zs ≡ zs'
     → IsJoin cmp kind left_spelling xs ys May Keeps zs
-join-moved cmp kind May Keeps xs xs' ys ys' zs zs' e f h i =
+join-moved cmp kind May Keeps {xs} {xs'} {ys} {ys'} {zs} {zs'} e f h i =
     subst (λ l. IsJoin cmp kind left_spelling xs ys May Keeps l) (sym i) (join-of cmp kind May Keeps xs xs' ys ys' zs' e f h)

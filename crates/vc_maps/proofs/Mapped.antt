@@ -96,6 +96,6 @@ module _ {K V X : Type 0} where
     slice-mapped cmp ps slice qs f last e h a =
         subst (λ l. (k : K) → MapsEntry calls (entry_at cmp l k) (entry_at cmp qs k)) e (entries-mapped cmp slice qs f last h a)
 
-    pub slice-answers : (ps slice : List (K × V)) (qs : List (K × X)) (f last : F) → slice ≡ ps
+    pub slice-answers : {ps slice : List (K × V)} (qs : List (K × X)) (f last : F) → slice ≡ ps
         → AnswersInTurn calls f (values_of slice) (values_of qs) last → AnswersInTurn calls f (values_of ps) (values_of qs) last
-    slice-answers ps slice qs f last e a = subst (λ l. AnswersInTurn calls f (values_of l) (values_of qs) last) e a
+    slice-answers {ps} {slice} qs f last e a = subst (λ l. AnswersInTurn calls f (values_of l) (values_of qs) last) e a

@@ -27,10 +27,10 @@ pub record IsParted {X : Type 0} (old added all : List X) (end next : ℕ) : Typ
   pub right : drop next all ≡ added
 
 -- a list once a gap was put behind its elements, and others behind that
-pub is-parted : {X : Type 0} (old gapped added pushed all : List X) (end next : ℕ) → end ≡ length old → next
+pub is-parted : {X : Type 0} {old : List X} (gapped : List X) {added pushed all : List X} {end next : ℕ} → end ≡ length old → next
     ≡ length gapped → take (length old) gapped ≡ old → length old ≤ length gapped
     → pushed ≡ gapped ++ added → all ≡ pushed → IsParted old added all end next
-is-parted old gapped added pushed all end next ends nexts front gap items same = record {
+is-parted {old} gapped {added} {pushed} {all} {end} {next} ends nexts front gap items same = record {
   left = (λ i. take (ends i) ((same ∙ items) i)) ∙ take-append-le (length old) gapped added gap ∙ front;
   right = (λ i. drop (nexts i) ((same ∙ items) i)) ∙ drop_at gapped added (length gapped) refl;
 }

@@ -38,13 +38,14 @@ place-paid t a b p n r h l =
     omega arith
 
 -- one element fewer is left to search for, and r others of n
-pub more-paid : (t a b few before n r start : ℕ) → few < before → b ≤ a + t + n / 2 ^ t → b + r / 2 ^ t ≤ a + (t + 1) + n / 2 ^ t
+pub more-paid : (t a : ℕ) {b : ℕ} (few before n r : ℕ) {start : ℕ} → few < before → b ≤ a + t + n / 2 ^ t → b + r / 2 ^ t ≤ a +
+    (t + 1) + n / 2 ^ t
     → a + by_strides t before n ≤ start → b + by_strides t few r ≤ start
-more-paid t a b few zero n r start h k l w = absurd (omega arith)
-more-paid t a b zero (suc before) n r start h k l w =
+more-paid t a {b} few zero n r {start} h k l w = absurd (omega arith)
+more-paid t a {b} zero (suc before) n r {start} h k l w =
     let m : 1 * t ≤ suc before * t = mul-le-mul_right {m = 1} {n = suc before} t (omega arith) in
     omega arith
-more-paid t a b (suc few) (suc before) n r start h k l w =
+more-paid t a {b} (suc few) (suc before) n r {start} h k l w =
     let m : suc (suc few) * t ≤ suc before * t = mul-le-mul_right {m = suc (suc few)} {n = suc before} t (omega arith) in
     let sum : suc (suc few) * t ≡ suc few * t + t = omega arith in
     omega arith
@@ -53,7 +54,7 @@ more-paid t a b (suc few) (suc before) n r start h k l w =
 pub last-paid : (t a b before n start : ℕ) → 0 < before → b ≤ a + t + n / 2 ^ t → a + by_strides t before n ≤ start → b ≤ start
 last-paid t a b before n start h k w =
     let e : 0 / 2 ^ t ≤ n / 2 ^ t = stride-within 0 n (2 ^ t) (pow_pos t) (omega arith) in
-    let m = more-paid t a b 0 before n 0 start h k (omega arith) w in
+    let m = more-paid t a 0 before n 0 h k (omega arith) w in
     omega arith
 
 -- ---- strides of the share

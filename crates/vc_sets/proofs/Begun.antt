@@ -88,9 +88,9 @@ module _ {X : Type 0} (cmp : X → X → Ordering) (total : IsTotalOrder cmp) (f
     }
 
     -- some events, and then others
-    pub begun-append : (xs ys ms ns ls rs old mid new : List X) → IsBegun cmp from f xs ys ms ns old mid
+    pub begun-append : {xs ys ms ns ls rs old mid new : List X} → IsBegun cmp from f xs ys ms ns old mid
         → IsBegun cmp from f ms ns ls rs mid new → IsBegun cmp from f xs ys ls rs old new
-    begun-append xs ys ms ns ls rs old mid new p q = record {
+    begun-append {xs} {ys} {ms} {ns} {ls} {rs} {old} {mid} {new} p q = record {
       events = p.events ++ q.events;
       appends = appends-append (KeptAt f from from) p.events q.events old mid new p.appends q.appends;
       leads = λ es s. subst (λ l. IsScript (both_sides cmp) xs ys l) (sym (append_assoc p.events q.events es))
@@ -151,7 +151,7 @@ module _ {X : Type 0} (cmp : X → X → Ordering) (total : IsTotalOrder cmp) (f
         (sym e) h.ascend n in
         let left : drop (from_left o) (drop i xs) ≡ drop i' xs = drop-drop (from_left o) i xs ∙ ap (λ m. drop m xs) (sym k) in
         let right : drop (from_right o) (drop j ys) ≡ drop j' ys = drop-drop (from_right o) j ys ∙ ap (λ m. drop m ys) (sym l) in
-        begun-append xs ys (drop i xs) (drop j ys) (drop i' xs) (drop j' ys) old mid new h
+        begun-append {ms = drop i xs} {ns = drop j ys} {ls = drop i' xs} {rs = drop j' ys} h
         (subst (λ l. IsBegun cmp from f (drop i xs) (drop j ys) l (drop j' ys) mid new) left
         (subst (λ r. IsBegun cmp from f (drop i xs) (drop j ys) (drop (from_left o) (drop i xs)) r mid new) right next))
 
@@ -211,9 +211,9 @@ module _ {X : Type 0} (cmp : X → X → Ordering) (total : IsTotalOrder cmp) (f
         (r.0, r.1, r.2, gathers-cloned es g.1 r.1 g.3 r.3, r.4)
 
     -- the same events, where a clone of each element that is kept was appended
-    pub begun-cloned : (xs ys ls rs ks old new : List X) → IsBegun cmp (λ x y. x ≡ y) f xs ys ls rs [] ks
+    pub begun-cloned : {xs ys ls rs ks old new : List X} → IsBegun cmp (λ x y. x ≡ y) f xs ys ls rs [] ks
         → Extends from ks old new → IsBegun cmp from f xs ys ls rs old new
-    begun-cloned xs ys ls rs ks old new h k = record {
+    begun-cloned {xs} {ys} {ls} {rs} {ks} {old} {new} h k = record {
       events = h.events;
       appends = record {
         added = k.added;

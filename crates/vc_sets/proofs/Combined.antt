@@ -50,11 +50,11 @@ module _ {X : Type 0} (cmp : X → X → Ordering) (total : IsTotalOrder cmp) (L
     }
 
     -- what a merge that was not refused has built, behind what was built before
-    pub merged-built : (s t : M) (a b old c : List X)
+    pub merged-built : {s t : M} {a b old c : List X}
         → Finishes op (both_sides cmp) s t ⊎ Stops op (both_sides cmp) s (Ok false) t
         → op.left s ≡ a → op.right s ≡ b → built s ≡ old → (name t ≡ name s → c ≡ built t)
         → IsBuilt (both_sides cmp) (KeptAt (keeps left right both) L R) a b old c
-    merged-built s t a b old c m l r e k =
+    merged-built {s} {t} {a} {b} {old} {c} m l r e k =
         let w = merged-builds built name op (KeptAt (keeps left right both) L R) is-building (both_sides cmp) s t m in
         subst (λ z. IsBuilt (both_sides cmp) (KeptAt (keeps left right both) L R) a b old z) (sym (k w.0))
         (subst (λ z. IsBuilt (both_sides cmp) (KeptAt (keeps left right both) L R) a b z (built t)) e
@@ -65,4 +65,4 @@ module _ {X : Type 0} (cmp : X → X → Ordering) (total : IsTotalOrder cmp) (L
     pub merged-set_of : (s t : M) (a b c : List X) → Finishes op (both_sides cmp) s t ⊎ Stops op (both_sides cmp) s (Ok false) t
         → op.left s ≡ a → op.right s ≡ b → built s ≡ [] → (name t ≡ name s → c ≡ built t)
         → IsSetOf cmp L R (keeps left right both) a b c
-    merged-set_of s t a b c m l r e k = built-set_of a b c [] refl (merged-built s t a b [] c m l r e k)
+    merged-set_of s t a b c m l r e k = built-set_of a b c [] refl (merged-built {old = []} m l r e k)

@@ -6,10 +6,10 @@ use Rattle.vc_sets.specs.SetOf.{IsSetOf}
 
 -- what is made of the parts is made of the lists
 pub set_of-parts : {X : Type 0} (cmp : X → X → Ordering) (L R : X → X → Type 0) (f : Bool → Bool → Bool)
-    (old added all kept new : List X) (end next : ℕ)
+    {old added all kept new : List X} {end next : ℕ}
     → IsParted old added all end next → new ≡ kept → IsSetOf cmp L R f (take end all) (drop next all) kept
     → IsSetOf cmp L R f old added new
-set_of-parts cmp L R f old added all kept new end next parts e s =
+set_of-parts cmp L R f {old} {added} {all} {kept} {new} {end} {next} parts e s =
     subst (λ c. IsSetOf cmp L R f old added c) (sym e)
     (subst (λ b. IsSetOf cmp L R f old b kept) parts.right
     (subst (λ a. IsSetOf cmp L R f a (drop next all) kept) parts.left s))

@@ -46,17 +46,21 @@ module _ {X : Type 0} (cmp : X → X → Ordering) (L R : X → X → Type 0) wh
       (subst (λ z. IsSetOf cmp L R f view z (take kept written)) c
       (subst (λ z. IsSetOf cmp L R f z those (take kept written)) (b ∙ a) s))
 
-  pub sifted-and : (v : SmallVec X) (view those that lent written new : List X) (kept : ℕ) → v.items ≡ view → lent
+  pub sifted-and : (v : SmallVec X) {view those that lent : List X} (written : List X) {new : List X} (kept : ℕ) → v.items ≡
+      view → lent
       ≡ v.items → those ≡ that → length written ≡ length lent
       → new ≡ take kept (with_items v written).items
       → IsSetOf cmp L R (keeps (not true) false true) lent those (take kept written) → IsSetOf cmp L R ◌&&◌ view that new
-  sifted-and v view those that lent written new kept a b c l e s = set_of-same (keeps (not true) false true) ◌&&◌ keeps-and L R
+  sifted-and v {view} {those} {that} {lent} written {new} kept a b c l e s = set_of-same (keeps (not true) false true) ◌&&◌
+      keeps-and L R
       cmp view that new (sifted (keeps (not true) false true) v view those that lent written new kept a b c l e s)
 
-  pub sifted-and_not : (v : SmallVec X) (view those that lent written new : List X) (kept : ℕ) → v.items ≡ view
+  pub sifted-and_not : (v : SmallVec X) {view those that lent : List X} (written : List X) {new : List X} (kept : ℕ) → v.items ≡
+      view
       → lent ≡ v.items → those ≡ that → length written ≡ length lent
       → new ≡ take kept (with_items v written).items
       → IsSetOf cmp L R (keeps (not false) false false) lent those (take kept written) → IsSetOf cmp L R and_not view that new
-  sifted-and_not v view those that lent written new kept a b c l e s = set_of-same (keeps (not false) false false) and_not
+  sifted-and_not v {view} {those} {that} {lent} written {new} kept a b c l e s = set_of-same (keeps (not false) false false)
+      and_not
       keeps-and_not L R cmp view that new
       (sifted (keeps (not false) false false) v view those that lent written new kept a b c l e s)

@@ -9,11 +9,11 @@ use Rattle.vc_total_sets.proofs.Formulas.{not_true, not-so, so-not, so-if_not_no
 
 module _ {X : Type 0} where
   -- a test of the lists is one of the sets that are seen with these lists and flags
-  pub seen-so : (Test : TotalSet X → TotalSet X → Type 0) {P : Type 0} (answer : Bool) (xs ys : List X)
-      (p q r s : Bool) (a b : TotalSet X)
+  pub seen-so : (Test : TotalSet X → TotalSet X → Type 0) {P : Type 0} {answer : Bool} {xs ys : List X} {p q r s : Bool}
+      {a b : TotalSet X}
       → total xs p ≡ a → total ys q ≡ b → p ≡ r → q ≡ s → IsTrue answer ↔ P → P ↔ Test (total xs r) (total ys s)
       → IsTrue answer ↔ Test a b
-  seen-so Test answer xs ys p q r s a b is_a is_b is_r is_s here there =
+  seen-so Test {answer} {xs} {ys} {p} {q} {r} {s} {a} {b} is_a is_b is_r is_s here there =
       let into_a : total xs r ≡ a = ap (λ flag. total xs flag) (sym is_r) ∙ is_a in
       let into_b : total ys s ≡ b = ap (λ flag. total ys flag) (sym is_s) ∙ is_b in
       let both : IsTrue answer ↔ Test (total xs r) (total ys s) = (λ h. there.0 (here.0 h), λ t. here.1 (there.1 t)) in

@@ -38,5 +38,5 @@ returns g c =
     (λ a k i h. moved-equal g.K.Ord.cmp g.met.K.Ord.total a k h)
     c.new-state.result c.merge-never_refused.new.state c.merge-never_refused.result c.merge-never_refused.ensures.merged
     (record { from_a = λ s t n r h. h; from_b = λ s t n r h. h; collision = λ s t r h. h }) made.built in
-    join-moved g.K.Ord.cmp Outer given MovedKey _ _ _ _ _ _ front made.right done.1
+    join-moved g.K.Ord.cmp Outer given MovedKey front made.right done.1
     (let e = done.0 in let n = ap (λ l. l.ghost_name) made.same_reference in grind arith)

@@ -19,7 +19,7 @@ returns-clause-built g c =
     at-heads _ (left_at spans list) (right_at spans list) p q some.0 some.1
     (sym (ap (λ l. get_or l 0 p) (sym at.left ∙ sym righted.left ∙ c.replace_left-key.ensures.first)))
     (sym (ap (λ l. get_or l 0 q) (sym at.right ∙ c.replace_right-other.ensures.first)))
-    (appends-in _ _ _ _ _ _ _ refl (lefted.built ∙ righted.built ∙ at.built)
+    (appends-in refl (lefted.built ∙ righted.built ∙ at.built)
     (let k = c.spans.ensures in let s = passed.1 in let t = passed.0 ∙ c.keep_left.ensures.name ∙ lefted.name
     ∙ righted.name in let n = ap (λ l. l.ghost_name) at.same_reference in grind arith)
     (asked-once (Combines (λ v w x. g.F.Fn.post c.args.f.now (v, (w, tt)) x)) MovedKey (Both p.0 p.1 q.1)

@@ -40,5 +40,5 @@ returns-clause-joins g c =
     g.met.K.Ord.total (old-equal g.K.Ord.cmp g.met.K.Ord.total g.K.Clone.is_clone kind (λ i. (c.requires.clones i).0))
     c.new-state.result c.merge-never_refused.new.state c.merge-never_refused.result c.merge-never_refused.ensures.merged
     (record { from_a = λ s t n r h. h; from_b = λ s t n r h. h; collision = λ s t r h. h }) made.built in
-    join-moved g.K.Ord.cmp kind (g.Q.Turn.may c.args.op.now.question.now) (OldKey g.K.Clone.is_clone) _ _ _ _ _ _ front made.right
+    join-moved g.K.Ord.cmp kind (g.Q.Turn.may c.args.op.now.question.now) (OldKey g.K.Clone.is_clone) front made.right
     done.1 (let e = done.0 in let n = ap (λ l. l.ghost_name) made.same_reference in grind arith)

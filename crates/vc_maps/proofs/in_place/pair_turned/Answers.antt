@@ -12,6 +12,6 @@ returns-clause-built g c =
     at-heads _ (left_at c.args.spans c.args.list.now) right p (get_or right 0 c.index-right-0.result) some.0 some.1
     (sym (ap (λ l. get_or l 0 p) (sym at.left ∙ c.replace_left-pair.ensures.first)))
     (ap (λ q. get_or right 0 q) c.index-right-0.is)
-    (appends-in _ _ _ _ _ _ _ refl (taken.built ∙ at.built)
+    (appends-in refl (taken.built ∙ at.built)
     (let k = c.spans.ensures in let t = turned.name ∙ taken.name in let n =
     ap (λ l. l.ghost_name) at.same_reference in grind arith) turned.built)

@@ -13,7 +13,7 @@ pairs-preserved g c =
     record {
       front = ap (take (length old)) pushed ∙ take-append-le (length old) mid (q ∷ []) behind ∙ c.pairs.invariant.front;
       behind = omega arith;
-      cloned = keys-more g.K.Clone.is_clone _ _ _ _ _ _ q c.pairs-test.true c.pair-item.is
+      cloned = keys-more g.K.Clone.is_clone _ _ _ q c.pairs-test.true c.pair-item.is
           c.in_ok-clone.ensures.cases pushed c.pairs.invariant.cloned;
-      room = room-push _ _ _ _ _ _ _ pushed c.push_reserved.ensures.capacity c.pairs-test.true c.pairs.invariant.room;
+      room = room-push _ _ pushed c.push_reserved.ensures.capacity c.pairs-test.true c.pairs.invariant.room;
     }

@@ -7,7 +7,7 @@ use Rattle.vc_merge.proofs.searching.place_right.Goals as goal
 pub returns-else-not-branch-clause-goes_on : goal.returns-else-not-branch-clause-goes_on
 returns-else-not-branch-clause-goes_on g c =
     let p = goes_on-true _ _ _ _ _ c.in_ok-pass_lefts-in-Ok.ensures.goes_on c.if-not-branch.false in
-    goes_on-after _ _ _ _ _ _ p (goes_on-next _ _ _ _ _ p.ascend c.meet.ensures.next)
+    goes_on-after _ _ _ _ p (goes_on-next _ _ _ p.ascend c.meet.ensures.next)
 
 pub returns-else-not-branch-clause-fewer : goal.returns-else-not-branch-clause-fewer
 returns-else-not-branch-clause-fewer g c =
@@ -29,7 +29,7 @@ returns-else-not-branch-clause-paid g c =
 pub returns-else-not-branch-2-clause-goes_on : goal.returns-else-not-branch-2-clause-goes_on
 returns-else-not-branch-2-clause-goes_on g c =
     let p = goes_on-true _ _ _ _ _ c.in_ok-pass_lefts-in-Err.ensures.goes_on c.if-not-branch-2.false in
-    goes_on-after _ _ _ _ _ _ p (goes_on-next _ _ _ _ _ p.ascend c.pass_right.ensures.next)
+    goes_on-after _ _ _ _ p (goes_on-next _ _ _ p.ascend c.pass_right.ensures.next)
 
 pub returns-else-not-branch-2-clause-paid : goal.returns-else-not-branch-2-clause-paid
 returns-else-not-branch-2-clause-paid g c =

@@ -11,7 +11,7 @@ events-init g c = record { ready = c.requires.ready; so_far = so_far-none _ _ _ 
 pub returns-in_err-place_first-clause-walk : goal.returns-in_err-place_first-clause-walk
 returns-in_err-place_first-clause-walk g c =
     let p = err_from_is_err_and c.from_residual.result c.from_residual.ensures.1 in
-    walk-failed _ _ _ _ _ _ _ c.events.invariant.so_far c.in_err-place_first.ensures.goes_on p.1
+    walk-failed _ _ c.events.invariant.so_far c.in_err-place_first.ensures.goes_on p.1
 
 pub returns-in_err-place_first-clause-counted : goal.returns-in_err-place_first-clause-counted
 returns-in_err-place_first-clause-counted g c =
@@ -22,7 +22,7 @@ returns-in_err-place_first-clause-counted g c =
 
 pub returns-then-not-branch-clause-walk : goal.returns-then-not-branch-clause-walk
 returns-then-not-branch-clause-walk g c =
-    then_next-append _ _ _ _ _ _ c.events.invariant.so_far (rw c.if-not-branch.true at c.in_ok-place_first.ensures.goes_on)
+    then_next-append _ _ c.events.invariant.so_far (rw c.if-not-branch.true at c.in_ok-place_first.ensures.goes_on)
 
 pub returns-then-not-branch-clause-counted : goal.returns-then-not-branch-clause-counted
 returns-then-not-branch-clause-counted g c =
@@ -37,6 +37,6 @@ events-preserved g c =
     record {
       ready = c.in_ok-place_first.ensures.ready on;
       so_far = so_far-append _ _ _ _ _ c.events.invariant.so_far (goes_on-true _ _ _ _ _ c.in_ok-place_first.ensures.goes_on on);
-      counted = more-paid c.args.exponent _ _ _ _ _ _ _ (c.in_ok-place_first.ensures.fewer on) c.in_ok-place_first.ensures.counted
+      counted = more-paid c.args.exponent _ _ _ _ _ (c.in_ok-place_first.ensures.fewer on) c.in_ok-place_first.ensures.counted
           (c.in_ok-place_first.ensures.paid on) c.events.invariant.counted;
     }

@@ -12,7 +12,7 @@ loop-item-preserved g c =
     record {
       front = ap (take (length old)) pushed ∙ take-append-le (length old) mid more behind ∙ c.loop-item.invariant.front;
       behind = omega arith;
-      extended = extends-more g.T.Clone.is_clone _ _ _ _ _ _ _ c.loop-item-test.true c.item-item.is
+      extended = extends-more g.T.Clone.is_clone _ _ _ _ c.loop-item-test.true c.item-item.is
           c.in_ok-clone.ensures.cases pushed c.loop-item.invariant.extended;
-      room = room-push _ _ _ _ _ _ _ pushed c.push_reserved.ensures.capacity c.loop-item-test.true c.loop-item.invariant.room;
+      room = room-push _ _ pushed c.push_reserved.ensures.capacity c.loop-item-test.true c.loop-item.invariant.room;
     }

@@ -10,10 +10,10 @@ loop-item-preserved g c =
     let within : i < length (map (λ p. p.now) items) =
     subst (λ n. i < n) (sym (length-map items (λ p. p.now))) c.loop-item-test.true in
     record {
-      extended = extends-more g.T.Clone.is_clone (map (λ p. p.now) items) i _ _ _ item.now _ within
+      extended = extends-more g.T.Clone.is_clone (map (λ p. p.now) items) i item.now _ within
           (ap (λ p. p.now) c.item-item.is ∙ sym (get_or-map (λ p. p.now) items i item item.now c.loop-item-test.true))
           c.in_ok-clone.ensures.cases c.push_reserved.ensures.items c.loop-item.invariant.extended;
-      room = room-push _ _ _ _ _ _ _ c.push_reserved.ensures.items c.push_reserved.ensures.capacity
+      room = room-push _ _ c.push_reserved.ensures.items c.push_reserved.ensures.capacity
           c.loop-item-test.true c.loop-item.invariant.room;
     }
 

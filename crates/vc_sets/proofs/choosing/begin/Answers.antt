@@ -27,6 +27,6 @@ blocks-2-preserved g c =
     let in_left = c.in_ok-left.ensures.left in let in_right = c.in_ok-left.ensures.right in
     record {
       begun = begun-append g.T.Ord.cmp g.met.T.Ord.total (keeps_by g.row.LEFT g.row.RIGHT g.row.BOTH) g.T.Clone.is_clone
-          _ _ _ _ _ _ _ _ _ c.blocks-2.invariant.begun (rw (c.behind-a.ensures, c.behind-b.ensures) c.in_ok-left.ensures.begun);
+          c.blocks-2.invariant.begun (rw (c.behind-a.ensures, c.behind-b.ensures) c.in_ok-left.ensures.begun);
       counted = omega (arith, left, right, was, more, in_left, in_right);
     }

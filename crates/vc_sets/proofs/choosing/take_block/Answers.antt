@@ -6,7 +6,7 @@ use Rattle.vc_sets.proofs.choosing.take_block.Goals as goal
 pub returns-clause-begun : goal.returns-clause-begun
 returns-clause-begun g c =
     begun-cloned g.T.Ord.cmp g.met.T.Ord.total (keeps_by g.row.LEFT g.row.RIGHT g.row.BOTH) g.T.Clone.is_clone
-    _ _ _ _ _ _ _ c.choose-chosen.ensures.begun c.in_ok-append_chosen.ensures
+    c.choose-chosen.ensures.begun c.in_ok-append_chosen.ensures
 
 pub returns-then-this-ne0-3-clause-begun : goal.returns-then-this-ne0-3-clause-begun
 returns-then-this-ne0-3-clause-begun g c =

@@ -34,7 +34,7 @@ events-preserved g c =
       within_right = omega (arith, right, one_right, in_right);
       within = omega (arith, in_block);
       some = omega (arith, left, right, some, was.some);
-      room = room-push _ _ _ _ _ _ _ c.push_reserved.ensures.items c.push_reserved.ensures.capacity in_block was.room;
+      room = room-push _ _ c.push_reserved.ensures.items c.push_reserved.ensures.capacity in_block was.room;
       counted = omega (arith, left, right, some, was.counted, ticks);
       begun = begun-step g.T.Ord.cmp g.met.T.Ord.total (keeps true true true) g.T.Clone.is_clone c.args.a.now c.args.b.now
           _ _ _ c.events.left_taken c.events.right_taken _ _ x y o

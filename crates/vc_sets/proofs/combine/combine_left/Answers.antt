@@ -21,6 +21,6 @@ returns-clause-combined g c =
     built_items list_name _ _ _
     (λ s t n answer h. h) (λ s t n answer h. skips-adds built_items list_name g.T.Clone.is_clone
     (take n (right_items s)) s t answer h)
-    (λ s t answer h. h) (λ s t answer h. h) (λ s t answer h. h) _ _ _ _ _ _
+    (λ s t answer h. h) (λ s t answer h. h) (λ s t answer h. h)
     c.in_ok-merge.ensures.merged c.new-state.ensures.a c.new-state.ensures.b (rw c.new-state.ensures.same_reference refl)
     (λ e. let k = c.new-state.ensures.same_reference in let n = ap (λ r. r.ghost_name) k in grind arith))

@@ -13,11 +13,11 @@ pub returns-then-not-keep-clause-kept : goal.returns-then-not-keep-clause-kept
 returns-then-not-keep-clause-kept g c =
     let wrote = c.get_mut.follows.holds c.keep.new.value in
     kept-removed g.K.Ord.cmp g.met.K.Ord.total
-    (g.J.Keep.may c.args.judge.now) _ _ _ _ _ _ _ wrote.4 c.remove.ensures.ordered (sym c.in-Some.ensures.value)
+    (g.J.Keep.may c.args.judge.now) _ _ _ wrote.4 c.remove.ensures.ordered (sym c.in-Some.ensures.value)
     (rw c.if-not-keep.true at c.keep.ensures) wrote.0 c.remove.ensures.entries
 
 pub returns-else-not-keep-clause-kept : goal.returns-else-not-keep-clause-kept
 returns-else-not-keep-clause-kept g c =
     let wrote = c.get_mut.follows.holds c.keep.new.value in
-    kept-written g.K.Ord.cmp g.met.K.Ord.total (g.J.Keep.may c.args.judge.now) _ _ _ _ _ _ wrote.4 (sym c.in-Some.ensures.value)
+    kept-written g.K.Ord.cmp g.met.K.Ord.total (g.J.Keep.may c.args.judge.now) _ _ wrote.4 (sym c.in-Some.ensures.value)
     (rw c.if-not-keep.false at c.keep.ensures) wrote.0

@@ -9,5 +9,5 @@ returns-clause-gives g c =
     let s = c.args.self.now in let passed = c.pass_right.ensures in (
       refl,
       heads-weaker _ _ (left_pairs s) s.right.now
-          (λ p r h. (refl, passed.name, appends-of _ _ _ _ _ _ refl passed.built h)) c.pair_turned-self.ensures.built,
+          (λ p r h. (refl, passed.name, appends-of refl passed.built h)) c.pair_turned-self.ensures.built,
     )

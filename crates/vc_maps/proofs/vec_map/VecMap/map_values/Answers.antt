@@ -11,7 +11,7 @@ returns-in_err-mapped-clause-room g c = λ h.
 pub returns-clause-values : goal.returns-clause-values
 returns-clause-values g c =
     let same = c.as_mut_slice.ensures.value ∙ c.into_inner-pairs.ensures.pairs in
-    (c.push_mapped.ensures.values.0, slice-answers _ _ _ _ _ _ same c.push_mapped.ensures.values.1)
+    (c.push_mapped.ensures.values.0, slice-answers _ _ _ _ same c.push_mapped.ensures.values.1)
 
 pub returns-clause-entries : goal.returns-clause-entries
 returns-clause-entries g c =

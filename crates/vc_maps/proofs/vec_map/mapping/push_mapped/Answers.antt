@@ -30,7 +30,7 @@ pairs-preserved g c =
     record {
       callable = callable-others (λ s v t. (x : _) × Called g.F.FnMut s (v, tt) x t) (λ s v. Takes g.F.FnMut s (v, tt)) c.pairs.f
           p.1 _ _ (ap values_of left) before.callable c.f-answer.new.self (c.f-answer.result, c.f-answer.ensures);
-      room = room-push _ _ _ _ _ _ _ pushed c.push_reserved.ensures.capacity c.pairs-test.true before.room;
+      room = room-push _ _ pushed c.push_reserved.ensures.capacity c.pairs-test.true before.room;
       rest = drop-set-lt (i + 1) c.pairs.pairs i c.replace-key.new.dest (omega arith)
           ∙ sym (drop-drop 1 i c.pairs.pairs) ∙ ap (drop 1) before.rest ∙ drop-drop 1 i old;
       keys = keys-mapped old i p c.pairs.mapped.items c.push_reserved.new.self.items c.f-answer.result more pushed before.keys;
@@ -41,6 +41,6 @@ pairs-preserved g c =
 pub returns-clause-values : goal.returns-clause-values
 returns-clause-values g c = (
   c.pairs.f,
-  slice-answers _ _ _ _ _ _
+  slice-answers _ _ _ _
       (take_all c.pairs.at c.args.pairs.now c.pairs-test.false) c.pairs.invariant.values,
 )

@@ -3,5 +3,5 @@ use Rattle.vc_sets.proofs.vec_set.VecSet.intersection_with.Goals as goal
 
 pub returns : goal.returns
 returns g c =
-    sifted-and g.T.Ord.cmp _ _ c.self.inside.elements _ _ _ _ _ _ c.sift-kept.result c.self.view_is c.as_mut_slice.ensures.value
+    sifted-and g.T.Ord.cmp _ _ c.self.inside.elements _ c.sift-kept.result c.self.view_is c.as_mut_slice.ensures.value
     c.as_slice.ensures.elements c.sift-kept.auto.list c.truncate.ensures.items c.sift-kept.ensures

@@ -10,7 +10,8 @@ pub join-kept-requires-clause-left_ascends : goal.join-kept-requires-clause-left
 join-kept-requires-clause-left_ascends g c =
     let made = not-refused c.append_clones-cloned.result _ c.is_err.result c.is_err.ensures.value c.if-is_err.false
     c.append_clones-cloned.ensures.clones in
-    let parts = is-parted _ _ made.added _ c.as_mut_slice.result.now c.len-end.result c.len-next.result
+    let parts = is-parted _ {added = made.added} {all = c.as_mut_slice.result.now} {end = c.len-end.result}
+    {next = c.len-next.result}
     c.len-end.ensures.value c.len-next.ensures.value
     c.in_ok-open_gap.ensures.front c.in_ok-open_gap.ensures.gap made.items c.as_mut_slice.ensures.value in
     subst (λ l. Ascends g.T.Ord.cmp l) (sym parts.left) c.requires.left_ascends
@@ -19,7 +20,8 @@ pub join-kept-requires-clause-right_ascends : goal.join-kept-requires-clause-rig
 join-kept-requires-clause-right_ascends g c =
     let made = not-refused c.append_clones-cloned.result _ c.is_err.result c.is_err.ensures.value c.if-is_err.false
     c.append_clones-cloned.ensures.clones in
-    let parts = is-parted _ _ made.added _ c.as_mut_slice.result.now c.len-end.result c.len-next.result
+    let parts = is-parted _ {added = made.added} {all = c.as_mut_slice.result.now} {end = c.len-end.result}
+    {next = c.len-next.result}
     c.len-end.ensures.value c.len-next.ensures.value
     c.in_ok-open_gap.ensures.front c.in_ok-open_gap.ensures.gap made.items c.as_mut_slice.ensures.value in
     subst (λ l. Ascends g.T.Ord.cmp l) (sym parts.right)
@@ -31,7 +33,8 @@ pub returns-clause-ok : goal.returns-clause-ok
 returns-clause-ok g c =
     let made = not-refused c.append_clones-cloned.result _ c.is_err.result c.is_err.ensures.value c.if-is_err.false
     c.append_clones-cloned.ensures.clones in
-    let parts = is-parted _ _ made.added _ c.as_mut_slice.result.now c.len-end.result c.len-next.result
+    let parts = is-parted _ {added = made.added} {all = c.as_mut_slice.result.now} {end = c.len-end.result}
+    {next = c.len-next.result}
     c.len-end.ensures.value c.len-next.ensures.value
     c.in_ok-open_gap.ensures.front c.in_ok-open_gap.ensures.gap made.items c.as_mut_slice.ensures.value in
     let cut = cut-off c.append_clones-cloned.new.list _ c.join-kept.new.list c.truncate-2.new.self.items c.join-kept.result
@@ -39,4 +42,4 @@ returns-clause-ok g c =
     set_of-clones g.T.Ord.cmp g.met.T.Ord.total g.T.Clone.is_clone
     (clone-equal g.T.Ord.cmp g.met.T.Ord.total g.T.Clone.is_clone c.requires.clones) _
     (λ x y. x ≡ y) _ _ made.added _ made.come
-    (set_of-parts g.T.Ord.cmp _ _ _ _ _ _ _ _ _ _ parts cut c.join-kept.ensures)
+    (set_of-parts g.T.Ord.cmp _ _ _ parts cut c.join-kept.ensures)
