@@ -53,12 +53,17 @@ impl<'a> Side<'a> {
         rounds
     }
 
-    /// The processor time of this thread that so many rounds take: other programs add nothing.
-    fn seconds(&self, rounds: u64) -> f64 {
-        let start = processor_time();
+    /// Does the row's work so many times.
+    pub fn run(&self, rounds: u64) {
         if let Some(run) = &self.run {
             black_box(run(rounds));
         }
+    }
+
+    /// The processor time of this thread that so many rounds take: other programs add nothing.
+    fn seconds(&self, rounds: u64) -> f64 {
+        let start = processor_time();
+        self.run(rounds);
         processor_time() - start
     }
 }

@@ -173,6 +173,7 @@ fn lists(random: &mut Random, places: &[Place], m: usize, n: usize) -> (Vec<u64>
 }
 
 /// Keys as bytes, cut at the ends.
+#[derive(Clone)]
 pub struct Keys {
     bytes: Vec<u8>,
     ends: Vec<usize>,
@@ -210,6 +211,13 @@ impl Keys {
         let mut folder = || folders[random.below(8)];
         let mut path = |i| format!("{}/{}/{}/file{i}", folder(), folder(), folder());
         Keys::of((0..count).map(&mut path))
+    }
+
+    /// The same keys in ascending order.
+    pub fn ascending(&self) -> Keys {
+        let mut texts = self.texts();
+        texts.sort();
+        Keys::of(texts.into_iter())
     }
 
     pub fn list(&self) -> impl Iterator<Item = Vec<u8>> {

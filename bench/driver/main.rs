@@ -8,9 +8,17 @@ mod clock;
 mod data;
 mod lists;
 mod maps;
+#[cfg(counted)]
+mod memory;
 mod sets;
 mod trees;
 
+#[cfg(counted)]
+fn main() {
+    memory::print();
+}
+
+#[cfg(not(counted))]
 fn main() {
     clock::keep_freed_memory();
     let only = std::env::args().nth(1).unwrap_or_default();

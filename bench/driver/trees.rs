@@ -46,18 +46,51 @@ struct TreeRow {
     shared_alone: bool,
 }
 
-const TREE_ROWS: [TreeRow; 10] = [
-    TreeRow { name: "build", number: 0, shared_alone: false },
-    TreeRow { name: "get", number: 1, shared_alone: false },
-    TreeRow { name: "snapshot and insert", number: 2, shared_alone: true },
-    TreeRow { name: "iter", number: 3, shared_alone: false },
-    TreeRow { name: "values", number: 4, shared_alone: false },
-    TreeRow { name: "into_iter of a snapshot", number: 5, shared_alone: true },
-    TreeRow { name: "union of two trees", number: 6, shared_alone: false },
-    TreeRow { name: "keys in one folder", number: 7, shared_alone: false },
-    TreeRow { name: "longest beginning", number: 8, shared_alone: false },
-    TreeRow { name: "build, remove each key", number: 9, shared_alone: false },
+impl TreeRow {
+    const fn of(name: &'static str, number: u64) -> TreeRow {
+        TreeRow { name, number, shared_alone: false }
+    }
+
+    const fn of_shared(name: &'static str, number: u64) -> TreeRow {
+        TreeRow { name, number, shared_alone: true }
+    }
+}
+
+const TREE_ROWS: [TreeRow; 14] = [
+    TreeRow::of("build", 0),
+    TreeRow::of("build, key by key", 12),
+    TreeRow::of("build, in ascending order", 13),
+    TreeRow::of("get", 1),
+    TreeRow::of_shared("snapshot and insert", 2),
+    TreeRow::of("iter", 3),
+    TreeRow::of("iter, bytes read", 10),
+    TreeRow::of("values", 4),
+    TreeRow::of_shared("into_iter of a snapshot", 5),
+    TreeRow::of("union of two trees", 6),
+    TreeRow::of("keys in one folder", 7),
+    TreeRow::of("keys in one folder, bytes read", 11),
+    TreeRow::of("longest beginning", 8),
+    TreeRow::of("build, remove each key", 9),
 ];
+
+/// From so many keys on a sorted list is not changed key by key, which takes time by the square of
+/// their number, nor are whole maps cloned for one key.
+const MANY: usize = 100_000;
+
+/// Prints the table of what the rows that build take of memory, an amount each for a side.
+#[cfg(counted)]
+pub fn print_memory(names: [&str; 2], amounts: impl Fn(&Side) -> [usize; 2]) {
+    for count in [10, 100, 1000, 10_000, MANY] {
+        for row in TREE_ROWS.iter().filter(|row| [12, 13].contains(&row.number)) {
+            let keys = if row.number == 13 { Keys::paths(count).ascending() } else { Keys::paths(count) };
+            let taken = with_sides(row, &keys, |_, sides| sides.iter().map(&amounts).collect::<Vec<_>>());
+            for (at, name) in names.iter().enumerate() {
+                let cells = taken.iter().map(|it| format!("{:.1}", it[at] as f64 / count as f64));
+                println!("| {}: {name} | {count} | {} |", row.name, cells.collect::<Vec<_>>().join(" | "));
+            }
+        }
+    }
+}
 
 /// Prints the table of trees.
 pub fn print(only: &str) {
@@ -65,27 +98,37 @@ pub fn print(only: &str) {
         "| row | keys | plain tree | shared tree | BTreeMap | HashMap | sorted `Vec` by hand |"
     );
     println!("|---|---|---|---|---|---|---|");
-    for count in [10, 100, 1000, 10_000] {
+    for count in [10, 100, 1000, 10_000, MANY] {
         let keys = Keys::paths(count);
         for row in TREE_ROWS.iter().filter(|row| row.name.contains(only)) {
-            time_trees(row, &keys);
+            match row.number {
+                2 | 9 if count == MANY => {}
+                13 => time_trees(row, &keys.ascending()),
+                _ => time_trees(row, &keys),
+            }
         }
     }
 }
 
 /// A row over trees of path-like keys.
 fn time_trees(row: &TreeRow, keys: &Keys) {
+    let times = with_sides(row, keys, Times::of);
+    println!("| {} | {} | {} |", row.name, keys.list().count(), times.cells().join(" | "));
+}
+
+/// What is made of the operations of a row's round and its sides, in the order of the columns.
+fn with_sides<R>(row: &TreeRow, keys: &Keys, work: impl FnOnce(usize, &[Side]) -> R) -> R {
     let list: Vec<Key> = keys.list().collect();
     let asked = match row.number {
         6 => Keys::paths(list.len() + 1),
-        7 => Keys::folder("src/"),
+        7 | 11 => Keys::folder("src/"),
         8 => keys.two_below(),
-        _ => Keys::paths(list.len()),
+        _ => keys.clone(),
     };
     let maps = StdMaps::new(&list, asked.list().collect());
     let operations = match row.number {
         2 => 1,
-        7 => maps.under().count().max(1),
+        7 | 11 => maps.under().count().max(1),
         _ => list.len(),
     };
     let ours = |export| ours(export, row.number, keys, &asked);
@@ -96,8 +139,7 @@ fn time_trees(row: &TreeRow, keys: &Keys) {
         Side::repeating(|| maps.by_hash(row.number)),
         Side::repeating(|| maps.by_hand(row.number)),
     ];
-    let cells = Times::of(operations, &sides).cells().join(" | ");
-    println!("| {} | {} | {cells} |", row.name, list.len());
+    work(operations, &sides)
 }
 
 /// The side of one flavour of trees.
@@ -164,7 +206,14 @@ impl StdMaps {
     /// The work of a row on a `BTreeMap`.
     fn by_btree(&self, row: u64) -> u64 {
         match row {
-            0 => built(numbered::<BTreeMap<Key, u64>>(&self.list).get(&self.list[0])),
+            0 | 13 => built(numbered::<BTreeMap<Key, u64>>(&self.list).get(&self.list[0])),
+            12 => {
+                let mut map = BTreeMap::new();
+                for (key, number) in self.list.iter().zip(0..) {
+                    map.insert(key.clone(), number);
+                }
+                built(map.get(&self.list[0]))
+            }
             1 => self.finds(|key| self.sorted.get(key)),
             2 => {
                 let mut copy = self.sorted.clone();
@@ -173,6 +222,8 @@ impl StdMaps {
                 1
             }
             3 => self.sorted.iter().map(|(key, value)| value + key.len() as u64).sum(),
+            10 => self.sorted.iter().map(|(key, value)| value + bytes_of(key)).sum(),
+            11 => self.under().map(|(key, value)| value + bytes_of(key)).sum(),
             4 => self.sorted.values().sum(),
             5 => cloned(self.sorted.iter()),
             6 => {
@@ -194,7 +245,14 @@ impl StdMaps {
     /// The work of a row on a `HashMap`, which has no order: what a row walks comes in any.
     fn by_hash(&self, row: u64) -> u64 {
         match row {
-            0 => built(numbered::<HashMap<Key, u64>>(&self.list).get(&self.list[0])),
+            0 | 13 => built(numbered::<HashMap<Key, u64>>(&self.list).get(&self.list[0])),
+            12 => {
+                let mut map = HashMap::new();
+                for (key, number) in self.list.iter().zip(0..) {
+                    map.insert(key.clone(), number);
+                }
+                built(map.get(&self.list[0]))
+            }
             1 => self.finds(|key| self.hashed.get(key)),
             2 => {
                 let mut copy = self.hashed.clone();
@@ -203,6 +261,7 @@ impl StdMaps {
                 1
             }
             3 => self.hashed.iter().map(|(key, value)| value + key.len() as u64).sum(),
+            10 => self.hashed.iter().map(|(key, value)| value + bytes_of(key)).sum(),
             4 => self.hashed.values().sum(),
             5 => cloned(self.hashed.iter()),
             6 => {
@@ -217,21 +276,32 @@ impl StdMaps {
                 let mut map: HashMap<Key, u64> = numbered(&self.list);
                 self.removed(|key| map.remove(key))
             }
-            _ => {
-                let under = self.hashed.iter().filter(|(key, _)| key.starts_with(&self.asked[0]));
-                under.map(|(key, value)| value + key.len() as u64).sum()
-            }
+            11 => self.under_unordered().map(|(key, value)| value + bytes_of(key)).sum(),
+            _ => self.under_unordered().map(|(key, value)| value + key.len() as u64).sum(),
         }
+    }
+
+    /// The pairs whose keys begin with the first key that is asked for, by a look at each.
+    fn under_unordered(&self) -> impl Iterator<Item = (&Key, &u64)> {
+        self.hashed.iter().filter(|(key, _)| key.starts_with(&self.asked[0]))
+    }
+
+    /// The same in a sorted list.
+    fn under_in_list(&self) -> impl Iterator<Item = &Pair> {
+        let prefix = &self.asked[0];
+        let start = self.pairs.partition_point(|pair| pair.0 < *prefix);
+        self.pairs[start..].iter().take_while(move |(key, _)| key.starts_with(prefix))
     }
 
     /// The work of a row on a sorted list.
     fn by_hand(&self, row: u64) -> u64 {
         match row {
-            0 => {
+            0 | 12 => {
                 let mut pairs: Vec<Pair> = numbered(&self.list);
                 pairs.sort();
                 built(found(&pairs, &self.list[0]))
             }
+            13 => built(found(&numbered::<Vec<Pair>>(&self.list), &self.list[0])),
             1 => self.finds(|key| found(&self.pairs, key)),
             2 => {
                 let mut copy = self.pairs.clone();
@@ -242,6 +312,8 @@ impl StdMaps {
                 1
             }
             3 => self.pairs.iter().map(|(key, value)| value + key.len() as u64).sum(),
+            10 => self.pairs.iter().map(|(key, value)| value + bytes_of(key)).sum(),
+            11 => self.under_in_list().map(|(key, value)| value + bytes_of(key)).sum(),
             4 => self.pairs.iter().map(|(_, value)| value).sum(),
             5 => cloned(self.pairs.iter().map(|(key, value)| (key, value))),
             6 => built(found(&united(&self.pairs, &self.other_pairs), &self.asked[0])),
@@ -252,17 +324,14 @@ impl StdMaps {
                 let at = |pairs: &[Pair], key: &Key| pairs.binary_search_by(|it| it.0.cmp(key)).ok();
                 self.removed(|key| at(&pairs, key).map(|place| pairs.remove(place).1))
             }
-            _ => {
-                let prefix = &self.asked[0];
-                let start = self.pairs.partition_point(|pair| pair.0 < *prefix);
-                self.pairs[start..]
-                    .iter()
-                    .take_while(|(key, _)| key.starts_with(prefix))
-                    .map(|(key, value)| value + key.len() as u64)
-                    .sum()
-            }
+            _ => self.under_in_list().map(|(key, value)| value + key.len() as u64).sum(),
         }
     }
+}
+
+/// The sum of the bytes of a key, all of which a walk reads that does something with keys.
+fn bytes_of(key: &Key) -> u64 {
+    key.iter().map(|byte| u64::from(*byte)).sum()
 }
 
 /// Each key with its place.
