@@ -29,6 +29,7 @@ use Rattle.vc_tree_nodes.specs.Children.{seen}
 use Rattle.definition_tests.proofs.Digits.{same, not_true}
 use Rattle.definition_tests.proofs.Letters.{Letter, a, b, by_letter, each_key, leaf, a_and_ab}
 use Rattle.vc_tree_removal.specs.Without.{IsWithout, IsWithoutBelow}
+use Rattle.vc_tree_walks.specs.Ends.{IsGreatestPair, IsLeastPair}
 
 -- ---- keys and values
 
@@ -223,6 +224,25 @@ is_shallow = canonical-shallow nat_cmp nat_cmp_total three three_canonical
 
 is_walk : IsWalk nat_cmp (lookup nat_cmp three) ((codes "aabb", 2) ∷ (codes "aabbcc", 1) ∷ (codes "aabbee", 3) ∷ [])
 is_walk = walk-is nat_cmp nat_cmp_total three (children-ordered nat_cmp three.children three_canonical.1)
+
+-- of a and ab, a comes first and ab last
+is_least_pair : IsLeastPair {V = ℕ} by_letter (lookup by_letter (a_and_ab 1 2)) (a ∷ [], 1)
+is_least_pair = record {
+  bound = refl;
+  least = each_key _ (λ s. not_true s) (λ s e. cc) (λ k s. not_true s) (λ s e. cc) (λ y k s. not_true s) (λ s. not_true s)
+      (λ y k s. not_true s);
+}
+
+is_greatest_pair : IsGreatestPair {V = ℕ} by_letter (lookup by_letter (a_and_ab 1 2)) (a ∷ b ∷ [], 2)
+is_greatest_pair = record {
+  bound = refl;
+  greatest = each_key _ (λ s. not_true s) (λ s e. cc) (λ k s. not_true s) (λ s e. cc) (λ y k s. not_true s)
+      (λ s. not_true s) (λ y k s. not_true s);
+}
+
+-- ab does not come first
+is_no_least_pair : IsLeastPair {V = ℕ} by_letter (lookup by_letter (a_and_ab 1 2)) (a ∷ b ∷ [], 2) → ⊥
+is_no_least_pair h = h.least (a ∷ []) refl refl
 
 -- ---- keys of two trees
 

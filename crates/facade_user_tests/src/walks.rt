@@ -1,7 +1,8 @@
 //! Walks from outside: the walks of one tree beside each other, their steps, and the keys that they
 //! give.
-ghost use Rattle.std.specs.Prelude.{◌≡◌, IfOk, length, map};
+ghost use Rattle.std.specs.Prelude.{◌≡◌, ℕ, List, None, IfOk, IsSome, MatchOption, length, map};
 ghost use Rattle.std.specs.Ordering.{nat_cmp};
+ghost use Rattle.vec_collections.specs.Ends.{IsGreatestPair, IsLeastPair};
 ghost use Rattle.vec_collections.specs.IterLeft.{pairs_left};
 ghost use Rattle.vec_collections.specs.Left.{Walks};
 ghost use Rattle.vec_collections.specs.Map.{lookup};
@@ -76,4 +77,27 @@ pub fn key_again(key: &IterKey<u8>) -> Result<(IterKey<u8>, usize), AllocError>
     ensures { IfOk result (λ two. (two.0 ≡ key.now) × (two.1 ≡ length key.now)) }
 {
     Ok((key.clone()?, key.as_ref().len()))
+}
+
+/// The server whose name comes first, and its port.
+pub fn first_server<T: AbstractRadixTree<u8, u32>>(
+    ports: &T,
+) -> Result<Option<(Vec<u8>, u32)>, AllocError>
+    ensures { let port_of = lookup nat_cmp (T.tree ports.now) in
+        IfOk result (λ found. MatchOption found ((k : List ℕ) → port_of k ≡ None)
+        (λ b. IsLeastPair nat_cmp port_of (b.0.items, b.1))) }
+{
+    let Some((name, port)) = ports.first_key_value()? else {
+        return Ok(None);
+    };
+    Ok(Some((name, *port)))
+}
+
+/// The name that comes last of the names of servers.
+pub fn last_name<T: AbstractRadixTree<u8, u32>>(ports: &T) -> Result<Option<Vec<u8>>, AllocError>
+    ensures { let port_of = lookup nat_cmp (T.tree ports.now) in
+        IfOk result (λ found. MatchOption found ((k : List ℕ) → port_of k ≡ None)
+        (λ name. IsSome (port_of name.items))) }
+{
+    Ok(ports.last_key_value()?.map(|(name, _)| name))
 }

@@ -25,6 +25,8 @@ mod counted_combines;
 #[cfg(test)]
 mod drops;
 #[cfg(test)]
+mod ends;
+#[cfg(test)]
 mod filters;
 #[cfg(test)]
 mod in_place;

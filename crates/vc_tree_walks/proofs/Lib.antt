@@ -5,3 +5,4 @@ pub mod Paths
 pub mod WholeWalks
 pub mod Filtered
 pub mod KeyCounts
+pub mod EndPairs

@@ -2,3 +2,5 @@ pub mod Left
 pub mod IterLeft
 pub mod ValuesLeft
 pub mod OwnedLeft
+pub mod Ends
+pub mod Towards

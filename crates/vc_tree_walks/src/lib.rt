@@ -4,6 +4,7 @@
 #![tactic(auto)]
 
 pub mod counting;
+pub mod ends;
 pub mod filtering;
 pub mod iter;
 pub mod key;

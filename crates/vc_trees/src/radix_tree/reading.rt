@@ -1,6 +1,6 @@
 //! The calls that read a radix tree.
 
-ghost use Rattle.std.specs.Prelude.{◌≡◌, ◌+◌, ◌-◌, ◌*◌, ◌^◌, ◌<◌, ◌≤◌, List, Ok, IfOk, IfSome, length, map, min, take, MatchBool};
+ghost use Rattle.std.specs.Prelude.{◌≡◌, ◌+◌, ◌-◌, ◌*◌, ◌^◌, ◌<◌, ◌≤◌, List, None, Ok, IfOk, IfSome, IsTrue, length, map, min, slice_get, take, MatchBool, MatchOption};
 ghost use Rattle.std.specs.Option.{is_some, option_copied, option_map};
 ghost use Rattle.vc_merge.specs.Count.{digits};
 ghost use Rattle.vc_tree_model.specs.Tree.{is_bare, key_count, shortened, width};
@@ -14,6 +14,7 @@ ghost use Rattle.vc_tree_model.specs.Same.{IsAlike};
 ghost use Rattle.vc_tree_model.specs.Shortened.{weight, IsShortened};
 ghost use Rattle.vc_tree_model.specs.Under.{under};
 ghost use Rattle.vc_tree_model.specs.Walk.{IsWalk, walk};
+ghost use Rattle.vc_tree_walks.specs.Ends.{IsGreatestPair, IsLeastPair};
 ghost use Rattle.vc_tree_walks.specs.IterLeft.{pairs_left};
 ghost use Rattle.vc_tree_walks.specs.OwnedLeft.{held_left};
 ghost use Rattle.vc_tree_walks.specs.ValuesLeft.{values_left};
@@ -27,7 +28,7 @@ use vc_tree_nodes::{descent, reading};
 use vc_tree_walks::iter::Iter;
 use vc_tree_walks::owned::ObjAndIter;
 use vc_tree_walks::values::Values;
-use vc_tree_walks::{counting, walks};
+use vc_tree_walks::{counting, ends, walks};
 
 /// A radix tree to be read: both flavours, and each type that is a [`RadixNode`].
 ///
@@ -98,6 +99,45 @@ pub trait AbstractRadixTree<K: TKey, V: TValue>: RadixNode<K, V> {
         ensures within { IfSome result (λ b. b.0 ≤ length path.now) }
     {
         descent::get_longest(self, path)
+    }
+
+    /// The least key of the tree and its value, or none where the tree is empty.
+    ///
+    /// The key is spelled in a list of its own: memory is asked for once, for as many components as
+    /// it has, and not at all where it has none. Fails only where that is refused. Compares none,
+    /// and goes down to the key twice.
+    ///
+    /// ```text
+    /// if let Some((name, port)) = ports.first_key_value()? {
+    ///     ..
+    /// }
+    /// ```
+    final fn first_key_value(&self) -> Result<Option<(Vec<K>, &V)>, AllocError>
+        ensures pair { IfOk result (λ found. option_map (λ b. (b.0.items, b.1.now)) found
+            ≡ slice_get (walk (Self.tree self.now)) 0) }
+        ensures least { let f = lookup K.cmp (Self.tree self.now) in
+            IfOk result (λ found. MatchOption found ((k : List K) → f k ≡ None)
+            (λ b. IsLeastPair K.cmp f (b.0.items, b.1.now))) }
+        ensures none { IsTrue (is_bare (Self.tree self.now)) → result ≡ Ok None }
+    {
+        ends::first_key_value(self)
+    }
+
+    /// The greatest key of the tree and its value, or none where the tree is empty.
+    ///
+    /// The key is spelled in a list of its own: memory is asked for once, for as many components as
+    /// it has, and not at all where it has none. Fails only where that is refused. Compares none,
+    /// and goes down to the key twice.
+    final fn last_key_value(&self) -> Result<Option<(Vec<K>, &V)>, AllocError>
+        ensures pair { let pairs = walk (Self.tree self.now) in
+            IfOk result (λ found. option_map (λ b. (b.0.items, b.1.now)) found
+            ≡ slice_get pairs (length pairs - 1)) }
+        ensures greatest { let f = lookup K.cmp (Self.tree self.now) in
+            IfOk result (λ found. MatchOption found ((k : List K) → f k ≡ None)
+            (λ b. IsGreatestPair K.cmp f (b.0.items, b.1.now))) }
+        ensures none { IsTrue (is_bare (Self.tree self.now)) → result ≡ Ok None }
+    {
+        ends::last_key_value(self)
     }
 
     /// Whether some key is bound by both trees. Takes no memory.
