@@ -1,12 +1,13 @@
 //! Radix trees from outside: each call at both flavours, generic code, and a tree of this crate's
 //! own with children.
-ghost use Rattle.std.specs.Prelude.{◌≡◌, ◌<◌, [], ◌∷◌, Some, None, true, length, map, IfOk, OnOk, OnErr};
+ghost use Rattle.std.specs.Prelude.{◌≡◌, ◌<◌, ℕ, List, [], ◌∷◌, Some, None, true, length, map, IfOk, OnOk, OnErr};
 ghost use Rattle.std.specs.Ordering.{nat_cmp};
 ghost use Rattle.std.specs.Option.{option_copied};
 ghost use Rattle.vec_collections.specs.Commanded.{command_of};
 ghost use Rattle.vec_collections.specs.Machine.{Run};
 ghost use Rattle.vec_collections.specs.Map.{lookup, or_else, HaveEqualMaps, IsInserted};
 ghost use Rattle.vec_collections.specs.Tree.{made, no_tree, is_bare};
+ghost use Rattle.vec_collections.specs.Under.{under};
 ghost use Rattle.vec_collections.specs.Value.{Copies, IsKept};
 ghost use Rattle.vec_collections.specs.Without.{IsWithout, IsWithoutBelow};
 
@@ -56,6 +57,18 @@ pub fn forget_zone(ports: &mut Ports, zone: &[u8]) -> Result<(), AllocError>
     ensures err { OnErr result (HaveEqualMaps nat_cmp (λ x y. x ≡ y) ports.old ports.new) }
 {
     ports.remove_below(zone)
+}
+
+/// Hands the servers over whose names begin with the zone, with their ports.
+#[tactic(auto, using(vec_collections::specs::Exact::exactly))]
+pub fn split_zone(ports: &mut Ports, zone: &[u8]) -> Result<Ports, AllocError>
+    ensures handed { IfOk result (λ handed. (k : List ℕ)
+        → lookup nat_cmp handed k ≡ under nat_cmp (lookup nat_cmp ports.old) zone.now k) }
+    ensures gone { OnOk result (IsWithoutBelow nat_cmp (λ x y. x ≡ y) zone.now
+        (lookup nat_cmp ports.old) (lookup nat_cmp ports.new)) }
+    ensures err { OnErr result (HaveEqualMaps nat_cmp (λ x y. x ≡ y) ports.old ports.new) }
+{
+    ports.split_below(zone)
 }
 
 /// Changes the ports, one change after another, and says which changes were made.

@@ -1,5 +1,6 @@
-//! Removals of all keys that begin with a prefix, in both flavours: shapes worked out by hand, how
-//! many values are dropped, and what is copied beside a snapshot.
+//! Removals of all keys that begin with a prefix, in both flavours, where these are dropped and
+//! where they are handed over: shapes worked out by hand, how many values are dropped, and what is
+//! copied beside a snapshot.
 
 use super::in_place::tree_of;
 use super::tests::{
@@ -78,6 +79,95 @@ fn keys_below_a_prefix_go(rt: HostRuntime) -> Result<(), Fail> {
         assert_eq!(rt; (shared.as_str(), dropped), (shape, count), "{prefix}");
         assert_eq!(rt; tally.drops(), tally.made_and_cloned(), "{prefix}");
     }
+    Ok(())
+}
+
+/// The shape of a tree.
+fn shape_of<'a, T: AbstractRadixTreeMut<u8, Counted<'a>>>(
+    alloc: Global,
+    tree: &T,
+) -> Result<String, AllocError> {
+    let mut text = String::new(alloc);
+    print_shape(tree, &mut text, DEPTH)?;
+    Ok(text)
+}
+
+/// Splits the keys off that begin with the prefix, where no value may be cloned, and puts them back
+/// by a union. Whether nothing was dropped by the split, what is left has the shape, what was split
+/// off that of a tree of these keys, and the whole then the one that it had.
+fn is_split<'a, T: AbstractRadixTreeMut<u8, Counted<'a>>>(
+    alloc: Global,
+    pairs: &[(&str, u32)],
+    prefix: &str,
+    shape: &str,
+    tally: &'a Tally,
+) -> Result<bool, AllocError> {
+    let mut below: T = T::empty(alloc);
+    for (key, number) in pairs {
+        if key.as_bytes().starts_with(prefix.as_bytes()) {
+            below.insert(key.as_bytes(), Counted::new(*number, tally))?;
+        }
+    }
+    let mut tree: T = tree_of(alloc, pairs, tally)?;
+    let whole = shape_of(alloc, &tree)?;
+    let dropped = tally.drops();
+    tally.clones_left.set(0);
+    let made = tree.split_below(prefix.as_bytes())?;
+    tally.clones_left.set(u32::MAX);
+    let is_left = tally.drops() == dropped && shape_of(alloc, &tree)?.as_str() == shape;
+    let is_made = shape_of(alloc, &made)?.as_str() == shape_of(alloc, &below)?.as_str();
+    tree.union_with(&made)?;
+    Ok(is_left && is_made && shape_of(alloc, &tree)?.as_str() == whole.as_str())
+}
+
+#[test]
+fn keys_below_a_prefix_are_split_off(rt: HostRuntime) -> Result<(), Fail> {
+    for (pairs, prefix, shape, _) in ROWS {
+        let tally = Tally::new();
+        let is_plain = is_split::<RadixTree<u8, Counted>>(
+            rt.alloc(),
+            pairs,
+            prefix,
+            shape,
+            &tally,
+        )?;
+        assert!(rt; is_plain, "{prefix}");
+        let is_shared = is_split::<ArcRadixTree<u8, Counted>>(
+            rt.alloc(),
+            pairs,
+            prefix,
+            shape,
+            &tally,
+        )?;
+        assert!(rt; is_shared, "{prefix}");
+        assert_eq!(rt; tally.drops(), tally.made_and_cloned(), "{prefix}");
+    }
+    Ok(())
+}
+
+/// Splits keys off the tree of the eight keys beside a copy, where each clone of a value is refused,
+/// and where it is not. Whether the first was refused and left both as they were, and the second
+/// left the copy so.
+fn is_split_beside_a_copy<'a, T: AbstractRadixTreeMut<u8, Counted<'a>> + Clone>(
+    alloc: Global,
+    tally: &'a Tally,
+) -> Result<bool, AllocError> {
+    let mut tree: T = tree_of(alloc, EIGHT, tally)?;
+    let copy = tree.clone()?;
+    tally.clones_left.set(0);
+    let is_refused = tree.split_below(b"ee").is_err() && has_eight(&tree) && has_eight(&copy);
+    tally.clones_left.set(u32::MAX);
+    let made = tree.split_below(b"ee")?;
+    let is_made = number_at(&made, b"eeeee") == 7 && number_at(&made, b"eeeef") == 8;
+    Ok(is_refused && is_made && number_at(&tree, b"eeeee") == 0 && has_eight(&copy))
+}
+
+#[test]
+fn a_snapshot_stays_beside_a_split(rt: HostRuntime) -> Result<(), Fail> {
+    let tally = Tally::new();
+    let is_right = is_split_beside_a_copy::<ArcRadixTree<u8, Counted>>(rt.alloc(), &tally)?;
+    assert!(rt; is_right);
+    assert_eq!(rt; tally.drops(), tally.made_and_cloned());
     Ok(())
 }
 

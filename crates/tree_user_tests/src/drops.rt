@@ -17,6 +17,7 @@ enum Call {
     Insert,
     Remove,
     RemoveBelow,
+    SplitBelow,
     Slices,
     Shared,
     Walk,
@@ -25,12 +26,13 @@ enum Call {
     Restrict,
 }
 
-const CALLS: [Call; 11] = [
+const CALLS: [Call; 12] = [
     Call::Leaf,
     Call::Single,
     Call::Insert,
     Call::Remove,
     Call::RemoveBelow,
+    Call::SplitBelow,
     Call::Slices,
     Call::Shared,
     Call::Walk,
@@ -117,6 +119,7 @@ fn make<'a, T: AbstractRadixTreeMut<u8, Counted<'a>> + Clone>(
         Call::Insert => tree.insert(b"abcd", Counted::new(6, tally))?,
         Call::Remove => drop(tree.remove(b"ab")?),
         Call::RemoveBelow => tree.remove_below(b"ab")?,
+        Call::SplitBelow => drop(tree.split_below(b"ab")?),
         Call::Slices => collect(alloc, false, tally)?,
         Call::Shared => collect(alloc, true, tally)?,
         Call::Walk => walk(kept, 4)?,

@@ -1,21 +1,23 @@
 -- Whether some key begins with a prefix: as the walk of the pairs under it tells.
---     pairs-none, pairs-tell        no pairs, and those below a node
-use Rattle.std.proofs.Common.{◌≡◌, [], ◌∷◌, List, Option, None, Some, map, refl, sym, ap, subst, inl, ◌++◌}
-use Rattle.std.proofs.Common.{true, false, Bool, is_some, not, true≢false}
+--     pairs-none, pairs-bare, pairs-under        no pairs, and those below a node
+use Rattle.std.proofs.Common.{◌≡◌, [], List, Option, None, Some, map, refl, sym, ap, subst, inl, ◌++◌}
+use Rattle.std.proofs.Common.{true, false, is_some, true≢false, Ok, Result}
 use Rattle.std.specs.Cmp.{IsTotalOrder}
 use Rattle.std.specs.Option.{option_and}
-use Rattle.std.specs.Prelude.{MatchBool}
 use Rattle.std.specs.declared.cmp.Ordering.{Ordering}
 use Rattle.vc_tree_model.specs.Canonical.{IsCanonical}
 use Rattle.vc_tree_model.specs.Key.{behind}
+use Rattle.vc_tree_model.specs.Snapshot.{tree_alike_refl}
 use Rattle.vc_tree_model.specs.Tree.{Tree, Forest, bare, grow, is_bare, lacks_both, node}
 use Rattle.vc_tree_model.specs.Under.{under}
-use Rattle.vc_tree_model.specs.Walk.{IsWalk, Lists, prepended, walk}
+use Rattle.vc_tree_model.specs.Walk.{IsWalk, prepended, walk}
 use Rattle.vc_tree_model.proofs.KeyLemmas.{none-some, same-itself}
-use Rattle.vc_tree_model.proofs.LookupLemmas.{children-ordered, tree-bound}
-use Rattle.vc_tree_model.proofs.Walking.{walk-is}
+use Rattle.vc_tree_model.proofs.UnderLemmas.{lookup-prepended}
+use Rattle.vc_tree_model.proofs.ValueLemmas.{kept_by}
 use Rattle.vc_tree_nodes.proofs.Growing.{not-bare_solid}
-use Rattle.vc_tree_removal.specs.Taking.{Meets}
+use Rattle.vc_tree_walks.proofs.EndPairs.{IsBegun, walk-begun}
+use Rattle.vc_tree_walks.proofs.Filtered.{filtered}
+use Rattle.vc_tree_removal.specs.Taking.{IsFoundUnder, Meets}
 use Rattle.vc_tree_removal.specs.declared.removal.Extent.TheVariants.{Below}
 
 -- a bare tree has no pairs
@@ -28,23 +30,6 @@ walk-bare {K} {V} t h = by t.prefix t.value t.children h
     by p (Some v) f h = absurd (true≢false (sym h))
 
 module _ {K V : Type 0} (cmp : K → K → Ordering) (o : IsTotalOrder cmp) where
-  -- a list of pairs, of which one has a key, has a first
-  pub record IsBegun (l : List (List K × V)) : Type 0 where
-    pub first : List K × V
-    pub others : List (List K × V)
-    pub is : l ≡ first ∷ others
-
-  listed-begun : (l : List (List K × V)) (k : List K) (v : V) → Lists cmp l k v → IsBegun l
-  listed-begun [] k v h = absurd h
-  listed-begun (b ∷ l) k v h = record { first = b; others = l; is = refl }
-
-  -- so the walk of a canonical tree that is not bare
-  walk-begun : (t : Tree K V) → IsCanonical cmp t → is_bare t ≡ false → IsBegun (walk t)
-  walk-begun t c h =
-      let bound = tree-bound cmp o t.prefix t.value t.children (not-bare_solid t c.0 h) c.1 in
-      listed-begun (walk t) (t.prefix ++ bound.key) bound.value
-      (((walk-is cmp o t (children-ordered cmp t.children c.1)).lists (t.prefix ++ bound.key) bound.value).1 bound.is)
-
   -- a value beside what is left of a key
   and-met : (p k : List K) (f : List K → Option V) (v : V) → option_and (behind cmp p k) (f k) ≡ Some v → Meets cmp Below p f
   and-met p k f v h = by (behind cmp p k) refl (f k) refl h
@@ -70,17 +55,36 @@ module _ {K V : Type 0} (cmp : K → K → Ordering) (o : IsTotalOrder cmp) wher
         let h = subst (IsWalk cmp (under cmp f p)) b.is w in
         and-met p b.first.0 f b.first.1 ((h.lists b.first.0 b.first.1).0 (inl (same-itself cmp o b.first.0, refl)))
 
-    -- that a node below is bare tells which
-    pub pairs-tell : (front : List K) (t : Tree K V) → IsCanonical cmp t → (b : Bool) → b ≡ is_bare t
-        → IsWalk cmp (under cmp f p) (map (prepended front) (walk t))
-        → MatchBool (not b) (Meets cmp Below p f) ((k : List K) → under cmp f p k ≡ None)
-    pairs-tell front t c true e w =
-        pairs-none (subst (λ l. IsWalk cmp (under cmp f p) (map (prepended front) l)) (walk-bare t (sym e)) w)
-    pairs-tell front t c false e w =
-        let begun = walk-begun t c (sym e) in
-        pairs-met (map (prepended front) (walk t))
-        (record {
-          first = prepended front begun.first;
-          others = map (prepended front) begun.others;
-          is = ap (map (prepended front)) begun.is;
-        }) w
+    -- a node with a front before its prefix
+    abbrev whole : List K → Tree K V → Result (Tree K V) (List K)
+    whole front t = Ok (node (front ++ t.prefix) t.value t.children)
+
+    -- it has none where the node below is bare
+    pub pairs-bare : (front : List K) (t : Tree K V) → is_bare t ≡ true
+        → IsWalk cmp (under cmp f p) (map (prepended front) (walk t)) → (k : List K) → under cmp f p k ≡ None
+    pairs-bare front t e w =
+        pairs-none (subst (λ l. IsWalk cmp (under cmp f p) (map (prepended front) l)) (walk-bare t e) w)
+
+    -- and some where it is not
+    pub pairs-under : (front : List K) (t : Tree K V) → IsCanonical cmp t → is_bare t ≡ false
+        → IsWalk cmp (under cmp f p) (map (prepended front) (walk t)) → IsFoundUnder cmp p f front t
+    pairs-under front t c e w =
+        let begun = walk-begun cmp o t (not-bare_solid t c.0 e) c.1 in
+        record {
+          met =
+              pairs-met (map (prepended front) (walk t))
+              (record {
+                first = prepended front begun.first;
+                others = map (prepended front) begun.others;
+                is = ap (map (prepended front)) begun.is;
+              }) w;
+          stands = record {
+            binds = λ k.
+                kept_by (λ v w. v ≡ w) _ _ _ _ refl (lookup-prepended cmp front t k)
+                (filtered cmp o (λ v w. v ≡ w) f p front t c w (λ u. u) t
+                (whole front t) (tree_alike_refl (λ v w. v ≡ w) (λ v. refl) t) refl
+                k);
+            solid = not-bare_solid t c.0 e;
+            children = c.1;
+          };
+        }

@@ -3,7 +3,7 @@
 --     first-is, met-rest, met-child        keys that go with the rest are bound below a child
 --     child-within, child-stands        which is there
 --     wholly-gone, wholly-value, alone-tells, below-tells        all keys of a tree go, or some below its children
---     root-taken, root-without, absent-without        all keys of a root go, or none of them
+--     root-without, absent-without        all keys of a root go, or none of them
 use Rattle.std.proofs.Common.{◌≡◌, ℕ, ◌-◌, ◌<◌, ◌≤◌, [], ◌∷◌, ◌++◌, List, Option, None, Some, refl, sym, ap}
 use Rattle.std.proofs.Common.{subst, ◌∙◌, arith, get_or, map, take, drop, length, length-drop, append-nil, true, false, Bool}
 use Rattle.std.proofs.Common.{cond, is_some, true≢false}
@@ -16,7 +16,6 @@ use Rattle.std.specs.declared.cmp.Ordering.{Ordering}
 use Rattle.std.specs.declared.cmp.Ordering.TheVariants.{Equal}
 use Rattle.vc_tree_model.specs.Child.{Begins}
 use Rattle.vc_tree_model.specs.Key.{same_key, behind}
-use Rattle.vc_tree_model.specs.Value.{IsKept}
 use Rattle.vc_tree_model.specs.Tree.{Tree, Forest, bare, grow, forest, node, no_tree}
 use Rattle.vc_tree_model.specs.Map.{node_lookup, lookup, lookup_in}
 use Rattle.vc_tree_model.specs.Canonical.{AreChildren, IsSolid, IsWhole}
@@ -175,12 +174,7 @@ module _ {K V : Type 0} (cmp : K → K → Ordering) where
             ∙ (leaf-bound t.prefix t.value key (subst (λ f. IsSome (lookup cmp (node t.prefix t.value f) key)) w s)).0
         by Below is w m = cc
 
-    -- a root of which all keys go, answers its value and is empty without them
-    pub root-taken : (keeps : V → V → Type 0) → ((v : V) → keeps v v) → (key : List K) (t : Tree K V) (value : Option V)
-        → value ≡ t.value → IsWholly cmp e key t → Meets cmp e key (lookup cmp t) → e ≡ Alone
-        → IsKept keeps (lookup cmp t key) value
-    root-taken keeps r key t value v w m is = rw (wholly-value key t is w m, v) (kept-refl keeps r t.value)
-
+    -- a root of which all keys go is empty without them
     pub root-without : (keeps : V → V → Type 0) (key : List K) (t u : Tree K V) → u ≡ no_tree → IsWholly cmp e key t
         → Meets cmp e key (lookup cmp t) → IsWithoutAll keeps (goes cmp e key) (lookup cmp t) (lookup cmp u)
     root-without keeps key t u is w m = record {

@@ -10,7 +10,7 @@ use Rattle.std.proofs.Common.{subst, ◌∙◌, arith, get_or, set, map, take, l
 use Rattle.std.proofs.Common.{Bor}
 use Rattle.std.proofs.lemmas.List.{take-take}
 use Rattle.std.proofs.Math.Seq.{take-append_seam, take-length}
-use Rattle.std.specs.Cmp.{IsTotalOrder, Equal-is, tied_itself}
+use Rattle.std.specs.Cmp.{IsTotalOrder, Equal-is}
 use Rattle.std.specs.List.{remove}
 use Rattle.std.specs.Option.{option_copied, option_map}
 use Rattle.std.specs.Prelude.{IfOk, OnErr, Result, Ok, Err}
@@ -29,20 +29,22 @@ use Rattle.vc_tree_model.proofs.Joining.{joined-same, joined-child}
 use Rattle.vc_tree_model.proofs.KeyLemmas.{behind-itself, none-some}
 use Rattle.vc_tree_model.proofs.LookupLemmas.{lookup-same}
 use Rattle.vc_tree_model.proofs.Places.{look}
-use Rattle.vc_tree_model.proofs.ValueLemmas.{kept-refl, kept-trans}
+use Rattle.vc_tree_model.proofs.ValueLemmas.{kept-refl}
 use Rattle.vc_tree_nodes.specs.Growth.{IsGrown}
 use Rattle.vc_tree_nodes.specs.Places.{BeginsAt, LeadsTo, child_first}
 use Rattle.vc_tree_nodes.proofs.Events.{leads-agree, leads-kept, kept-children, length-kept, node-equal}
 use Rattle.vc_tree_nodes.proofs.Growing.{alike-first, children-set, alike-set, solid-canonical, solid-length}
 use Rattle.vc_tree_removal.specs.Without.{IsWithoutAll}
-use Rattle.vc_tree_removal.specs.Taking.{tree_at, without, gone, goes, AreSome, IsDeep, IsDeepAt, IsWholly, Meets}
+use Rattle.vc_tree_removal.specs.Taking.{alone, tree_at, without, gone, goes, AreSome, IsDeep, IsDeepAt, IsTaken, IsWholly, Meets}
 use Rattle.vc_tree_removal.specs.Taking.{Becomes, Lacks, Loses, Parts, Removed, RemovedIn, Takes}
 use Rattle.vc_tree_removal.specs.declared.removal.Extent.{Extent}
 use Rattle.vc_tree_removal.specs.declared.removal.Extent.TheVariants.{Alone}
 use Rattle.vc_tree_removal.proofs.Going.{goes-begins, goes-same, none-kept, some-kept}
 use Rattle.vc_tree_removal.proofs.Lists.{at-alike, trees-alike, without-alike_in, children-without, without-map, tree_at-map}
 use Rattle.vc_tree_removal.proofs.Lists.{deep-alike, parts-first, remove-long}
-use Rattle.vc_tree_removal.proofs.Reaching.{child-found, child-stands, met-child, wholly-gone, wholly-value}
+use Rattle.vc_tree_removal.proofs.Reaching.{child-found, child-stands, met-child, wholly-gone}
+use Rattle.vc_tree_removal.proofs.Taken.{at-below, at-solid, taken-agrees, taken-alike, taken-behind, taken-respelled}
+use Rattle.vc_tree_removal.proofs.Taken.{wholly-taken}
 use Rattle.vc_tree_removal.proofs.Withouts.{at-children, without-behind, without-children, without-set, without-tree}
 use Rattle.vc_tree_removal.proofs.Withouts.{without-value, without-alike, without-respelled}
 
@@ -89,7 +91,7 @@ module _ {K V : Type 0} where
 
   -- a lone child, with the prefix of its parent before its own
   lone : (p : List K) (v : Option V) (f : Forest K V) (c : Tree K V) → length (trees f) ≡ 1 → tree_at f 0 ≡ Some c
-      → (solid_child p None f ≡ Some (node (p ++ c.prefix) c.value c.children)) × (gone v (tree_at (without f 0) 0) ≡ v)
+      → (solid_child p None f ≡ Some (node (p ++ c.prefix) c.value c.children)) × (gone v (tree_at (without f 0) 0) ≡ alone v)
   lone p v bare c n e = none-some c e
   lone p v (grow q w more bare) c n e =
       let k : node q w more ≡ c = cc in (ap (λ t. Some (node (p ++ t.prefix) t.value t.children)) k, refl)
@@ -98,7 +100,7 @@ module _ {K V : Type 0} where
   -- one of two children, without the other
   pair : (p : List K) (f : Forest K V) (i j : ℕ) (c : Tree K V) → length (trees f) ≡ 2 → i + j ≡ 1
       → tree_at f j ≡ Some c
-      → (d : Tree K V) × ((tree_at f i ≡ Some d) × (gone None (tree_at (without f j) 0) ≡ d.value)
+      → (d : Tree K V) × ((tree_at f i ≡ Some d) × (gone None (tree_at (without f j) 0) ≡ d)
       × (solid_child p None (without f i) ≡ Some (node (p ++ c.prefix) c.value c.children)))
   pair p bare i j c n one e = none-some c e
   pair p (grow q w more bare) i j c n one e = absurd (omega (arith, n))
@@ -139,12 +141,11 @@ module _ {K V : Type 0} (cmp : K → K → Ordering) (keeps : V → V → Type 0
   lookup-behind p v f k = ap (node_lookup v (lookup_in cmp f)) (behind-itself cmp o p k)
 
   -- what is made of a node, as a child, is without the keys where the node is
-  settled : (e : Extent) (t u : Tree K V) (rest : List K) (value : Option V) (w : Option V) (f g : Forest K V)
-      → AreChildren cmp g → IsAlikeIn keeps t.children f
-      → (e ≡ Alone → IsKept keeps (lookup cmp t (t.prefix ++ rest)) value)
+  settled : (e : Extent) (t u : Tree K V) (rest : List K) (d : Tree K V) (w : Option V) (f g : Forest K V)
+      → AreChildren cmp g → IsAlikeIn keeps t.children f → IsTaken cmp keeps e (t.prefix ++ rest) (lookup cmp t) d
       → IsWithoutAll keeps (goes cmp e rest) (lookup cmp (node [] t.value f)) (lookup cmp (node [] w g))
-      → solid_child t.prefix w g ≡ Some u → Removed cmp keeps e t (t.prefix ++ rest) value u
-  settled e t u rest value w f g a alike taken h is =
+      → solid_child t.prefix w g ≡ Some u → Removed cmp keeps e t (t.prefix ++ rest) d u
+  settled e t u rest d w f g a alike taken h is =
       let child : IsChild cmp (Some u) = subst (IsChild cmp) is (joined-child cmp t.prefix w g a) in
       let reads : (k : List K) → lookup cmp (node t.prefix w g) k ≡ lookup cmp u k =
       λ k. sym (joined-same cmp (values cmp) t.prefix w g k a) ∙ ap (λ s. look cmp (values cmp) s k) is in
@@ -167,20 +168,20 @@ module _ {K V : Type 0} (cmp : K → K → Ordering) (keeps : V → V → Type 0
       }
 
   -- the value of a node goes
-  pub value-removed : (t u : Tree K V) (f : Forest K V) (value : Option V) → AreChildren cmp t.children
-      → IsAlikeIn keeps t.children f → value ≡ t.value → solid_child t.prefix None f ≡ Some u
-      → Removed cmp keeps Alone t t.prefix value u
-  value-removed t u f value a alike v e =
-      subst (λ k. Removed cmp keeps Alone t k value u) (append-nil t.prefix)
-      (settled Alone t u [] value None f f (alike-children keeps cmp t.children f alike a) alike
-      (λ i. rw (lookup-behind t.prefix t.value t.children [], v) (kept-refl keeps r t.value))
+  pub value-removed : (t u : Tree K V) (f : Forest K V) (d : Tree K V) → AreChildren cmp t.children
+      → IsAlikeIn keeps t.children f → d ≡ alone t.value → solid_child t.prefix None f ≡ Some u
+      → Removed cmp keeps Alone t t.prefix d u
+  value-removed t u f d a alike v e =
+      subst (λ k. Removed cmp keeps Alone t k d u) (append-nil t.prefix)
+      (settled Alone t u [] d None f f (alike-children keeps cmp t.children f alike a) alike
+      (rw (lookup-behind t.prefix t.value t.children [], v) (kept-refl keeps r t.value))
       (without-value cmp keeps r t.value f) e)
 
   -- what goes with an equal key goes
-  pub removed-respelled : (e : Extent) (t u : Tree K V) (j key : List K) (value : Option V) → same_key cmp j key ≡ true
-      → Removed cmp keeps e t j value u → Removed cmp keeps e t key value u
-  removed-respelled e t u j key value s h = record {
-    taken = λ i. subst (λ l. IsKept keeps l value) (lookup-same cmp o t j key s) (h.taken i);
+  pub removed-respelled : (e : Extent) (t u : Tree K V) (j key : List K) (d : Tree K V) → same_key cmp j key ≡ true
+      → Removed cmp keeps e t j d u → Removed cmp keeps e t key d u
+  removed-respelled e t u j key d s h = record {
+    taken = taken-respelled cmp keeps o e j key (lookup cmp t) d s (lookup-same cmp o t j key s) h.taken;
     without =
         without-respelled keeps (goes cmp e j) (goes cmp e key) (lookup cmp t) (lookup cmp u)
         (λ k. goes-same cmp o e j key k s) h.without;
@@ -190,102 +191,97 @@ module _ {K V : Type 0} (cmp : K → K → Ordering) (keeps : V → V → Type 0
   -- ---- a child that is taken out
 
   -- a node that can do without the child
-  pub loses-lacks : (t u : Tree K V) (i : ℕ) (value : Option V) → IsSolid t.value (without t.children i)
-      → Loses keeps t i value u → Lacks keeps t i value u
-  loses-lacks t u i value solid lost =
+  pub loses-lacks : (t u : Tree K V) (i : ℕ) (d : Tree K V) → IsSolid t.value (without t.children i)
+      → Loses keeps t i d u → Lacks keeps t i d u
+  loses-lacks t u i d solid lost =
       let firm : IsSolid t.value (without lost.kept i) =
       alike-solid keeps t.value t.value (without t.children i) (without lost.kept i) (kept_itself keeps r t.value)
       (without-alike_in keeps t.children lost.kept i lost.alike) solid in
       record {
         kept = lost.kept;
         alike = lost.alike;
-        child = lost.child;
         at = lost.at;
         is = solid-itself t.prefix t.value (without lost.kept i) firm ∙ ap Some (sym lost.is);
-        value = lost.value;
       }
 
   -- one of two children in the place of its parent
-  pub pair-lacks : (t u : Tree K V) (i j : ℕ) (value : Option V) → t.value ≡ None → length (trees t.children) ≡ 2
-      → i + j ≡ 1 → Becomes keeps t j value u → Lacks keeps t i value u
-  pair-lacks t u i j value none n one b =
+  pub pair-lacks : (t u : Tree K V) (i j : ℕ) (d : Tree K V) → t.value ≡ None → length (trees t.children) ≡ 2
+      → i + j ≡ 1 → Becomes keeps t j d u → Lacks keeps t i d u
+  pair-lacks t u i j d none n one b =
       let l =
       pair t.prefix b.kept i j b.child (sym (trees-alike keeps t.children b.kept b.alike) ∙ n) one b.at in
       record {
         kept = b.kept;
         alike = b.alike;
-        child = l.0;
-        at = l.1.0;
+        at =
+            l.1.0
+            ∙ ap Some (sym (b.taken ∙ ap (λ v. gone v (tree_at (without b.kept j) 0)) none ∙ l.1.1));
         is = ap (λ v. solid_child t.prefix v (without b.kept i)) none ∙ l.1.2 ∙ ap Some (sym b.is);
-        value = b.value ∙ ap (λ v. gone v (tree_at (without b.kept j) 0)) none ∙ l.1.1;
       }
 
   -- what a child leaves, of which all keys go
-  module _ (e : Extent) (t u c : Tree K V) (i : ℕ) (rest : List K) (y : K) (q : List K) (value : Option V)
+  module _ (e : Extent) (t u c : Tree K V) (i : ℕ) (rest : List K) (y : K) (q : List K) (d : Tree K V)
       (a : AreChildren cmp t.children) (at : tree_at t.children i ≡ Some c) (begins : BeginsAt cmp t.children y i)
-      (key_is : rest ≡ y ∷ q) (found : lookup_in cmp t.children rest ≡ lookup cmp c rest)
-      (m : Meets cmp e rest (lookup cmp c)) (w : IsWholly cmp e rest c) (lacks : Lacks keeps t i value u) where
-    child-alike : IsAlike keeps c lacks.child
-    child-alike = at-alike keeps t.children lacks.kept i c lacks.child lacks.alike at lacks.at
-
-    child-taken : e ≡ Alone → IsKept keeps (lookup cmp t (t.prefix ++ rest)) value
-    child-taken is =
-        subst (λ l. IsKept keeps l value)
-        (sym (lookup-behind t.prefix t.value t.children rest
-        ∙ ap (λ k. node_lookup t.value (lookup_in cmp t.children) (Some k)) key_is
-        ∙ ap (lookup_in cmp t.children) (sym key_is) ∙ found ∙ wholly-value cmp o e rest c is w m))
-        (subst (IsKept keeps c.value) (sym lacks.value) child-alike.1)
+      (key_is : rest ≡ y ∷ q) (found : (k : List K) → Begins cmp y k → lookup_in cmp t.children k ≡ lookup cmp c k)
+      (m : Meets cmp e rest (lookup cmp c)) (w : IsWholly cmp e rest c) (lacks : Lacks keeps t i d u) where
+    child-alike : IsAlike keeps c d
+    child-alike = at-alike keeps t.children lacks.kept i c d lacks.alike at lacks.at
 
     test-begins : (k : List K) → goes cmp e rest k ≡ true → Begins cmp y k
     test-begins k h = goes-begins cmp e y q k (ap (λ l. goes cmp e l k) (sym key_is) ∙ h)
 
-    pub lacks-removed : Removed cmp keeps e t (t.prefix ++ rest) value u
+    child-taken : IsTaken cmp keeps e (t.prefix ++ rest) (lookup cmp t) d
+    child-taken =
+        taken-behind cmp keeps o e t.prefix t.value t.children rest y q key_is d
+        (taken-agrees cmp keeps o e rest (lookup cmp c) (lookup_in cmp t.children) d
+        (λ k h. found k (test-begins k h))
+        (wholly-taken cmp keeps o e rest c d w m child-alike (at-solid cmp t.children i c a at)
+        (alike-children keeps cmp c.children d.children child-alike.2 (at-below cmp t.children i c a at))))
+
+    pub lacks-removed : Removed cmp keeps e t (t.prefix ++ rest) d u
     lacks-removed =
         let kids = alike-children keeps cmp t.children lacks.kept lacks.alike a in
-        settled e t u rest value t.value lacks.kept (without lacks.kept i) (children-without cmp lacks.kept i kids)
+        settled e t u rest d t.value lacks.kept (without lacks.kept i) (children-without cmp lacks.kept i kids)
         lacks.alike child-taken
         (without-children cmp keeps o r (goes cmp e rest) y test-begins t.value lacks.kept (without lacks.kept i)
-        (without-tree cmp keeps o r (goes cmp e rest) y test-begins lacks.kept i lacks.child begins.here kids lacks.at
+        (without-tree cmp keeps o r (goes cmp e rest) y test-begins lacks.kept i d begins.here kids lacks.at
         (sym (alike-first keeps t.children lacks.kept i lacks.alike) ∙ begins.at)
         ((Equal-is (cmp begins.here y)).0 begins.equal)
-        (λ k h. none-kept keeps (lookup cmp c k) (lookup cmp lacks.child k)
-        (tree-alike_lookup keeps cmp c lacks.child child-alike k) (wholly-gone cmp o e rest c w m k h)))) lacks.is
+        (λ k h. none-kept keeps (lookup cmp c k) (lookup cmp d k)
+        (tree-alike_lookup keeps cmp c d child-alike k) (wholly-gone cmp o e rest c w m k h)))) lacks.is
 
   -- ---- the value of a node
 
   -- a lone child in the place of its parent
-  pub lone-removed : (t u : Tree K V) (value : Option V) → AreChildren cmp t.children → length (trees t.children) ≡ 1
-      → Becomes keeps t 0 value u → Removed cmp keeps Alone t t.prefix value u
-  lone-removed t u value a n b =
+  pub lone-removed : (t u : Tree K V) (d : Tree K V) → AreChildren cmp t.children → length (trees t.children) ≡ 1
+      → Becomes keeps t 0 d u → Removed cmp keeps Alone t t.prefix d u
+  lone-removed t u d a n b =
       let l = lone t.prefix t.value b.kept b.child (sym (trees-alike keeps t.children b.kept b.alike) ∙ n) b.at in
-      value-removed t u b.kept value a b.alike (b.value ∙ l.1) (l.0 ∙ ap Some (sym b.is))
+      value-removed t u b.kept d a b.alike (b.taken ∙ l.1) (l.0 ∙ ap Some (sym b.is))
 
   -- the value of a node that has no lone child goes
-  pub own-removed : (t u : Tree K V) (value : Option V) → AreChildren cmp t.children → IsSolid None t.children
-      → value ≡ t.value → u ≡ node t.prefix None t.children → Removed cmp keeps Alone t t.prefix value u
-  own-removed t u value a solid v e =
-      value-removed t u t.children value a (alike_refl keeps r t.children) v
+  pub own-removed : (t u : Tree K V) (d : Tree K V) → AreChildren cmp t.children → IsSolid None t.children
+      → d ≡ alone t.value → u ≡ node t.prefix None t.children → Removed cmp keeps Alone t t.prefix d u
+  own-removed t u d a solid v e =
+      value-removed t u t.children d a (alike_refl keeps r t.children) v
       (solid-itself t.prefix None t.children solid ∙ ap Some (sym e))
 
   module _ {T : Type 0} (tree : T → Tree K V) where
     -- ---- the parts of a node
 
     -- a node without one of its children
-    pub lost : (t u : Tree K V) (p : List K) (v : Option V) (old new : List T) (i : ℕ) (item : T) (value : Option V)
+    pub lost : (t u : Tree K V) (p : List K) (v : Option V) (old new : List T) (i : ℕ) (item : T)
         → p ≡ t.prefix → v ≡ t.value → forest (map tree old) ≡ t.children → i < length old
-        → u ≡ node p v (forest (map tree new)) → value ≡ (tree item).value → Takes keeps tree old i item new
-        → Loses keeps t i value u
-    lost t u p v old new i item value a b c h e d takes =
+        → u ≡ node p v (forest (map tree new)) → Takes keeps tree old i item new → Loses keeps t i (tree item) u
+    lost t u p v old new i item a b c h e takes =
         let long = length-kept keeps tree old takes.kept takes.alike in
         record {
           kept = forest (map tree takes.kept);
           alike = subst (λ f. IsAlikeIn keeps f (forest (map tree takes.kept))) c takes.alike;
-          child = tree item;
           at = tree_at-map tree takes.kept i item (omega (arith, h, long)) ∙ ap (λ x. Some (tree x)) (sym takes.item_is);
           is =
               e ∙ node-equal p t.prefix v t.value (forest (map tree new)) (without (forest (map tree takes.kept)) i) a b
               (ap (λ l. forest (map tree l)) takes.is ∙ without-map tree takes.kept i);
-          value = d;
         }
 
     -- it is canonical where it can do without that child
@@ -320,12 +316,12 @@ module _ {K V : Type 0} (cmp : K → K → Ordering) (keeps : V → V → Type 0
         alone (x ∷ p) v kids b = b.0
 
     -- a node that becomes one of its children
-    pub became : (t u first : Tree K V) (v value : Option V) (old : List T) (i : ℕ) (item : T) (other : Option T)
+    pub became : (t u first d : Tree K V) (v : Option V) (old : List T) (i : ℕ) (item : T) (other : Option T)
         (joined : List K) → v ≡ t.value → forest (map tree old) ≡ t.children → i < length old → length old ≤ 2
         → tree_at t.children i ≡ Some first → joined ≡ t.prefix ++ first.prefix
-        → u ≡ node joined (tree item).value (tree item).children → value ≡ gone v (option_map tree other)
-        → Parts keeps tree old i item other → Becomes keeps t i value u
-    became t u first v value old i item other joined b c h few at j e d parts =
+        → u ≡ node joined (tree item).value (tree item).children → d ≡ gone v (option_map tree other)
+        → Parts keeps tree old i item other → Becomes keeps t i d u
+    became t u first d v old i item other joined b c h few at j e s parts =
         let f = forest (map tree parts.kept) in
         let long = length-kept keeps tree old parts.kept parts.alike in
         let left = remove-long tree parts.kept i (omega (arith, h, long)) in
@@ -340,8 +336,8 @@ module _ {K V : Type 0} (cmp : K → K → Ordering) (keeps : V → V → Type 0
           at = here;
           is =
               e ∙ ap (λ p. node p (tree item).value (tree item).children) (j ∙ ap (λ q. t.prefix ++ q) begins);
-          value =
-              d
+          taken =
+              s
               ∙ ap (gone v) (sym (parts-first tree (remove parts.kept i) parts.rest other parts.is parts.ended
               (omega (arith, left, few, long))))
               ∙ ap (λ g. gone v (tree_at g 0)) (without-map tree parts.kept i)
@@ -352,21 +348,21 @@ module _ {K V : Type 0} (cmp : K → K → Ordering) (keeps : V → V → Type 0
 
     -- keys of the children go
     pub child-removed : (e : Extent) (t u : Tree K V) (p : List K) (v : Option V) (old new : List T) (rest : List K)
-        (value : Option V) (y : K) (q : List K)
+        (d : Tree K V) (y : K) (q : List K)
         → p ≡ t.prefix → v ≡ t.value → forest (map tree old) ≡ t.children → u ≡ node p v (forest (map tree new))
         → IsSolid t.value t.children → rest ≡ y ∷ q → length new ≡ length old
-        → RemovedIn cmp keeps e (forest (map tree old)) rest value (forest (map tree new))
-        → Removed cmp keeps e t (t.prefix ++ rest) value u
-    child-removed e t u p v old new rest value y q a b c is solid key n gone =
+        → RemovedIn cmp keeps e (forest (map tree old)) rest d (forest (map tree new))
+        → Removed cmp keeps e t (t.prefix ++ rest) d u
+    child-removed e t u p v old new rest d y q a b c is solid key n gone =
         let g = forest (map tree new) in
-        let h : RemovedIn cmp keeps e t.children (y ∷ q) value g =
-        subst (λ k. RemovedIn cmp keeps e t.children k value g) key
-        (subst (λ f. RemovedIn cmp keeps e f rest value g) c gone) in
-        subst (λ u. Removed cmp keeps e t (t.prefix ++ rest) value u)
+        let h : RemovedIn cmp keeps e t.children (y ∷ q) d g =
+        subst (λ k. RemovedIn cmp keeps e t.children k d g) key
+        (subst (λ f. RemovedIn cmp keeps e f rest d g) c gone) in
+        subst (λ u. Removed cmp keeps e t (t.prefix ++ rest) d u)
         (sym (is ∙ node-equal p t.prefix v t.value g g a b refl))
-        (subst (λ k. Removed cmp keeps e t (t.prefix ++ k) value (node t.prefix t.value g)) (sym key)
+        (subst (λ k. Removed cmp keeps e t (t.prefix ++ k) d (node t.prefix t.value g)) (sym key)
         (record {
-          taken = λ i. rw (lookup-behind t.prefix t.value t.children (y ∷ q)) (h.taken i);
+          taken = taken-behind cmp keeps o e t.prefix t.value t.children (y ∷ q) y q refl d h.taken;
           without =
               without-behind cmp keeps e (y ∷ q) t.value t.value t.children g
               (without-children cmp keeps o r (goes cmp e (y ∷ q)) y (goes-begins cmp e y q) t.value t.children g
@@ -422,22 +418,22 @@ module _ {K V : Type 0} (cmp : K → K → Ordering) (keeps : V → V → Type 0
 
       module _ (child item : T) (new : List T) (is : child ≡ get_or kept i child) (set_is : new ≡ set kept i item) where
         -- the list without the keys
-        pub list-removed : (e : Extent) (value : Option V) → Removed cmp keeps e (tree child) rest value (tree item)
-            → RemovedIn cmp keeps e (forest (map tree old)) rest value (forest (map tree new))
-        list-removed e value h =
+        pub list-removed : (e : Extent) (d : Tree K V) → Removed cmp keeps e (tree child) rest d (tree item)
+            → RemovedIn cmp keeps e (forest (map tree old)) rest d (forest (map tree new))
+        list-removed e d h =
             let long =
             (leads-agree cmp keeps r trans o tree old kept i rest leads alike canonical child is).within_prefix in
             let begins : (k : List K) → goes cmp e rest k ≡ true → Begins cmp leads.first k =
             λ k s. goes-begins cmp e leads.first leads.others k (ap (λ l. goes cmp e l k) (sym leads.key_is) ∙ s) in
             let found =
-            child-found cmp o tree (forest (map tree kept)) kept i child leads.first refl is begins-kept kids-kept rest
-            (subst (Begins cmp leads.first) (sym leads.key_is) (tied_itself o leads.first)) in
+            child-found cmp o tree (forest (map tree kept)) kept i child leads.first refl is begins-kept kids-kept in
             record {
-              taken = λ i.
-                  kept-trans keeps trans (lookup_in cmp (forest (map tree old)) rest)
-                  (lookup_in cmp (forest (map tree kept)) rest) value
-                  (alike-lookup keeps cmp (forest (map tree old)) (forest (map tree kept)) alike rest)
-                  (subst (λ l. IsKept keeps l value) (sym found) (h.taken i));
+              taken =
+                  taken-alike cmp keeps trans e rest (lookup_in cmp (forest (map tree old)))
+                  (lookup_in cmp (forest (map tree kept))) d
+                  (alike-lookup keeps cmp (forest (map tree old)) (forest (map tree kept)) alike)
+                  (taken-agrees cmp keeps o e rest (lookup cmp (tree child)) (lookup_in cmp (forest (map tree kept))) d
+                  (λ k s. found k (begins k s)) h.taken);
               without =
                   rw set_is
                   (without-alike keeps trans (goes cmp e rest) (lookup_in cmp (forest (map tree old)))

@@ -8,9 +8,10 @@ use Rattle.vc_tree_model.specs.Child.{solid_child}
 use Rattle.vc_tree_model.specs.Key.{same_key, behind}
 use Rattle.vc_tree_model.specs.Value.{IsKept}
 use Rattle.vc_tree_model.specs.Tree.{Tree, Forest, bare, grow, node}
-use Rattle.vc_tree_model.specs.Map.{lookup, lookup_in}
-use Rattle.vc_tree_model.specs.Canonical.{AreChildren}
+use Rattle.vc_tree_model.specs.Map.{IsEqualMap, lookup, lookup_in}
+use Rattle.vc_tree_model.specs.Canonical.{AreChildren, IsSolid}
 use Rattle.vc_tree_model.specs.Same.{IsAlikeIn}
+use Rattle.vc_tree_model.specs.Under.{prefixed, under}
 use Rattle.vc_tree_nodes.specs.Children.{seen}
 use Rattle.vc_tree_nodes.specs.Growth.{IsGrown}
 use Rattle.vc_tree_removal.specs.Without.{IsWithoutAll}
@@ -49,16 +50,38 @@ module _ {K V : Type 0} where
   AreSome bare = ⊥
   AreSome (grow p v kids rest) = ⊤
 
-  -- the value that goes with a node that becomes one of its children: that of its other child, if it has one, else its own
-  abbrev pub gone : Option V → Option (Tree K V) → Option V
-  gone v None = v
-  gone v (Some t) = t.value
+  -- a node with this value, and nothing else
+  abbrev pub alone : Option V → Tree K V
+  alone v = node [] v bare
+
+  -- what goes of a node that becomes one of its children: its other child, if it has one, else its own value
+  abbrev pub gone : Option V → Option (Tree K V) → Tree K V
+  gone v None = alone v
+  gone v (Some t) = t
 
   -- some key is bound that goes with that one
   pub record Meets (cmp : K → K → Ordering) (extent : Extent) (key : List K) (f : List K → Option V) : Type 0 where
     pub met : List K
     pub goes_with : IsTrue (goes cmp extent key met)
     pub bound : IsSome (f met)
+
+  -- the keys of f that begin with that one are those of t, kept, with the front before them; t can stand among children
+  pub record StandsUnder (cmp : K → K → Ordering) (keeps : V → V → Type 0) (key : List K) (f : List K → Option V)
+      (front : List K) (t : Tree K V) : Type 0 where
+    pub binds : IsEqualMap keeps (under cmp f key) (prefixed cmp (lookup cmp t) front)
+    pub solid : IsSolid t.value t.children
+    pub children : AreChildren cmp t.children
+
+  -- some key is bound that begins with that one, and t stands under that one behind the front
+  pub record IsFoundUnder (cmp : K → K → Ordering) (key : List K) (f : List K → Option V) (front : List K) (t : Tree K V)
+      : Type 0 where
+    pub met : Meets cmp Below key f
+    pub stands : StandsUnder cmp (λ v w. v ≡ w) key f front t
+
+  -- t is what goes with the key: it has the value of one that goes alone, or stands under it behind some front
+  abbrev pub IsTaken : (K → K → Ordering) → (V → V → Type 0) → Extent → List K → (List K → Option V) → Tree K V → Type 0
+  IsTaken cmp keeps Alone key f t = IsKept keeps (f key) t.value
+  IsTaken cmp keeps Below key f t = (front : List K) × StandsUnder cmp keeps key f front t
 
   -- of a tree that binds a key that goes with that one, all keys go
   abbrev pub IsWholly : (K → K → Ordering) → Extent → List K → Tree K V → Type 0
@@ -75,18 +98,17 @@ module _ {K V : Type 0} where
   IsDeepAt cmp extent key None = ⊥
   IsDeepAt cmp extent key (Some t) = IsDeep cmp extent key t
 
-  -- u is t without the keys that go with that one, and o the value of the one alone; u begins as t does, and can stand
-  -- where t stood
+  -- u is t without the keys that go with that one, and d is what goes; u begins as t does, and can stand where t stood
   pub record Removed (cmp : K → K → Ordering) (keeps : V → V → Type 0) (extent : Extent) (t : Tree K V) (key : List K)
-      (o : Option V) (u : Tree K V) : Type 0 where
-    pub taken : extent ≡ Alone → IsKept keeps (lookup cmp t key) o
+      (d u : Tree K V) : Type 0 where
+    pub taken : IsTaken cmp keeps extent key (lookup cmp t) d
     pub without : IsWithoutAll keeps (goes cmp extent key) (lookup cmp t) (lookup cmp u)
     pub grown : IsGrown cmp (length t.prefix) t u
 
-  -- g is f without the keys that go with that one, and o the value of the one alone; g has canonical children
+  -- g is f without the keys that go with that one, and d is what goes; g has canonical children
   pub record RemovedIn (cmp : K → K → Ordering) (keeps : V → V → Type 0) (extent : Extent) (f : Forest K V) (key : List K)
-      (o : Option V) (g : Forest K V) : Type 0 where
-    pub taken : extent ≡ Alone → IsKept keeps (lookup_in cmp f key) o
+      (d : Tree K V) (g : Forest K V) : Type 0 where
+    pub taken : IsTaken cmp keeps extent key (lookup_in cmp f) d
     pub without : IsWithoutAll keeps (goes cmp extent key) (lookup_in cmp f) (lookup_in cmp g)
     pub children : AreChildren cmp g
 
@@ -108,29 +130,25 @@ module _ {K V : Type 0} where
     pub is : remove kept i ≡ rest ++ option_to_list other
     pub ended : IfNone other (remove kept i ≡ [])
 
-  -- u is the child of t at place i with the prefix of t before its own, and o is the value that goes
-  pub record Becomes (keeps : V → V → Type 0) (t : Tree K V) (i : ℕ) (o : Option V) (u : Tree K V) : Type 0 where
+  -- u is the child of t at place i with the prefix of t before its own, and d is what goes
+  pub record Becomes (keeps : V → V → Type 0) (t : Tree K V) (i : ℕ) (d u : Tree K V) : Type 0 where
     pub kept : Forest K V
     pub alike : IsAlikeIn keeps t.children kept
     pub child : Tree K V
     pub at : tree_at kept i ≡ Some child
     pub is : u ≡ node (t.prefix ++ child.prefix) child.value child.children
-    pub value : o ≡ gone t.value (tree_at (without kept i) 0)
+    pub taken : d ≡ gone t.value (tree_at (without kept i) 0)
 
-  -- u is the node of t with the value v, without its child at place i, whose value is o
-  pub record Loses (keeps : V → V → Type 0) (t : Tree K V) (i : ℕ) (o : Option V) (u : Tree K V) : Type 0 where
+  -- u is the node of t without its child at place i, which is d
+  pub record Loses (keeps : V → V → Type 0) (t : Tree K V) (i : ℕ) (d u : Tree K V) : Type 0 where
     pub kept : Forest K V
     pub alike : IsAlikeIn keeps t.children kept
-    pub child : Tree K V
-    pub at : tree_at kept i ≡ Some child
+    pub at : tree_at kept i ≡ Some d
     pub is : u ≡ node t.prefix t.value (without kept i)
-    pub value : o ≡ child.value
 
-  -- u is what is left of t without its child at place i, whose value is o
-  pub record Lacks (keeps : V → V → Type 0) (t : Tree K V) (i : ℕ) (o : Option V) (u : Tree K V) : Type 0 where
+  -- u is what is left of t without its child at place i, which is d
+  pub record Lacks (keeps : V → V → Type 0) (t : Tree K V) (i : ℕ) (d u : Tree K V) : Type 0 where
     pub kept : Forest K V
     pub alike : IsAlikeIn keeps t.children kept
-    pub child : Tree K V
-    pub at : tree_at kept i ≡ Some child
+    pub at : tree_at kept i ≡ Some d
     pub is : solid_child t.prefix t.value (without kept i) ≡ Some u
-    pub value : o ≡ child.value

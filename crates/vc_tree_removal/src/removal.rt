@@ -12,10 +12,10 @@ ghost use Rattle.vc_tree_model.specs.Same.{IsAlike, IsAlikeIn};
 ghost use Rattle.vc_tree_nodes.specs.Children.{seen};
 ghost use Rattle.vc_tree_nodes.specs.Places.{LeadsTo};
 ghost use Rattle.vc_tree_removal.specs.Without.{IsWithout, IsWithoutAll};
-ghost use Rattle.vc_tree_removal.specs.Taking.{AreSome, IsDeep, IsDeepAt, IsWholly, Meets};
+ghost use Rattle.vc_tree_removal.specs.Taking.{AreSome, IsDeep, IsDeepAt, IsTaken, IsWholly, Meets};
 ghost use Rattle.vc_tree_removal.specs.Taking.{Becomes, Lacks, Loses, Parts as PartsOf, Takes};
 ghost use Rattle.vc_tree_removal.specs.Taking.{Removed, RemovedIn, goes, tree_at, without};
-ghost use Rattle.vc_tree_removal.specs.Taking.{gone as gone_value};
+ghost use Rattle.vc_tree_removal.specs.Taking.{alone as alone_tree, gone as gone_tree};
 ghost use Rattle.vc_tree_removal.specs.declared.removal.Extent.TheVariants.{Alone};
 
 use std::alloc::{AllocError, Global};
@@ -24,6 +24,7 @@ use vc_merge::merge::Uncounted;
 use vc_tree_nodes::building::{Build, Seal};
 use vc_tree_nodes::children::{ChildList, Fragment, Parts};
 use vc_tree_nodes::descent::contains_key;
+use vc_tree_nodes::insertion::leaf;
 use vc_tree_nodes::places::child_place;
 use vc_tree_nodes::reading::{RadixNode, TKey, TValue, canonical};
 
@@ -63,19 +64,25 @@ pub fn remove<K: TKey, V: TValue, T: Build<K, V>>(
     if !contains_key(tree, key) {
         return Ok(None);
     }
-    remove_met(tree, key, Extent::Alone)
+    let taken = remove_met(tree, key, Extent::Alone)?;
+    let Parts {
+        prefix: _,
+        value,
+        children: _,
+    } = taken.take_apart(Seal::new());
+    Ok(value)
 }
 
-/// Takes the keys out that go with a key, of which the tree binds some. Answers the value of the
-/// key, where it goes alone.
+/// Takes the keys out that go with a key, of which the tree binds some. Answers what goes: the node
+/// below which all keys stand that begin so, or a node with the value of a key that goes alone.
 pub(crate) fn remove_met<K: TKey, V: TValue, T: Build<K, V>>(
     tree: &mut T,
     key: &[K],
     extent: Extent,
-) -> Result<Option<V>, AllocError>
+) -> Result<T, AllocError>
     requires { Meets K.cmp extent key.now (lookup K.cmp (T.tree tree.old)) }
-    ensures old { extent ≡ Alone
-        → IfOk result (IsKept T.keeps (lookup K.cmp (T.tree tree.old) key.now)) }
+    ensures taken { IfOk result (λ taken. IsTaken K.cmp T.keeps extent key.now
+        (lookup K.cmp (T.tree tree.old)) (T.tree taken)) }
     ensures ok { OnOk result (IsWithoutAll T.keeps (goes K.cmp extent key.now)
         (lookup K.cmp (T.tree tree.old)) (lookup K.cmp (T.tree tree.new))) }
     ensures err_nodes { OnErr result (IsAlike T.keeps (T.tree tree.old) (T.tree tree.new)) }
@@ -91,7 +98,11 @@ pub(crate) fn remove_met<K: TKey, V: TValue, T: Build<K, V>>(
 
 /// Whether all keys of a tree go with a key, of which it binds some. Where not, some of them stand
 /// below the tree's children.
-fn goes_wholly<K: TKey, V: TValue, T: RadixNode<K, V>>(tree: &T, key: &[K], extent: Extent) -> bool
+pub(crate) fn goes_wholly<K: TKey, V: TValue, T: RadixNode<K, V>>(
+    tree: &T,
+    key: &[K],
+    extent: Extent,
+) -> bool
     requires { Meets K.cmp extent key.now (lookup K.cmp (T.tree tree.now)) }
     ensures { MatchBool result (IsWholly K.cmp extent key.now (T.tree tree.now))
         (IsDeep K.cmp extent key.now (T.tree tree.now)) }
@@ -102,35 +113,29 @@ fn goes_wholly<K: TKey, V: TValue, T: RadixNode<K, V>>(tree: &T, key: &[K], exte
     }
 }
 
-/// Leaves the empty tree, and answers the value of the root.
-fn take_root<K: TKey, V: TValue, T: Build<K, V>>(alloc: Global, tree: &mut T) -> Option<V>
+/// Leaves the empty tree, and answers the one that was there.
+pub(crate) fn take_root<K: TKey, V: TValue, T: Build<K, V>>(alloc: Global, tree: &mut T) -> T
     ensures is { T.tree tree.new ≡ no_tree }
-    ensures value { result ≡ (T.tree tree.old).value }
+    ensures taken { T.tree result ≡ T.tree tree.old }
     ensures canonical { IsCanonical K.cmp (T.tree tree.new) }
 {
-    let root = mem::replace(tree, T::blank(alloc, Seal::new()));
-    let Parts {
-        prefix: _,
-        value,
-        children: _,
-    } = root.take_apart(Seal::new());
-    value
+    mem::replace(tree, T::blank(alloc, Seal::new()))
 }
 
-/// Takes the keys out that go with a key, of which the tree binds some. The key is the tree's
-/// prefix or goes on behind it.
+/// Takes the keys out that go with a key, of which the tree binds some, and answers what goes. The
+/// key is the tree's prefix or goes on behind it.
 #[cycle(removal)]
-fn remove_from<K: TKey, V: TValue, T: Build<K, V>>(
+pub(crate) fn remove_from<K: TKey, V: TValue, T: Build<K, V>>(
     alloc: Global,
     tree: &mut T,
     key: &[K],
     extent: Extent,
-) -> Result<Option<V>, AllocError>
+) -> Result<T, AllocError>
     requires met { Meets K.cmp extent key.now (lookup K.cmp (T.tree tree.old)) }
     requires deep { IsDeep K.cmp extent key.now (T.tree tree.old) }
     requires solid { IsSolid (T.tree tree.old).value (T.tree tree.old).children }
-    ensures ok { IfOk result (λ value.
-        Removed K.cmp T.keeps extent (T.tree tree.old) key.now value (T.tree tree.new)) }
+    ensures ok { IfOk result (λ taken.
+        Removed K.cmp T.keeps extent (T.tree tree.old) key.now (T.tree taken) (T.tree tree.new)) }
     ensures err { OnErr result (IsAlike T.keeps (T.tree tree.old) (T.tree tree.new)) }
 {
     canonical(tree);
@@ -165,13 +170,13 @@ fn remove_deeper<K: TKey, V: TValue, T: Build<K, V>>(
     i: usize,
     rest: &[K],
     extent: Extent,
-) -> Result<Option<V>, AllocError>
+) -> Result<T, AllocError>
     requires leads { LeadsTo K.cmp (T.tree tree.old).children rest.now i }
     requires met { Meets K.cmp extent rest.now (lookup_in K.cmp (T.tree tree.old).children) }
     requires deep { IsDeepAt K.cmp extent rest.now (tree_at (T.tree tree.old).children i) }
     requires solid { IsSolid (T.tree tree.old).value (T.tree tree.old).children }
-    ensures ok { let t = T.tree tree.old in IfOk result (λ value.
-        Removed K.cmp T.keeps extent t (t.prefix ++ rest.now) value (T.tree tree.new)) }
+    ensures ok { let t = T.tree tree.old in IfOk result (λ taken. Removed
+        K.cmp T.keeps extent t (t.prefix ++ rest.now) (T.tree taken) (T.tree tree.new)) }
     ensures err { OnErr result (IsAlike T.keeps (T.tree tree.old) (T.tree tree.new)) }
 {
     let node = mem::replace(tree, T::blank(alloc, Seal::new()));
@@ -196,15 +201,15 @@ fn remove_in<K: TKey, V: TValue, T: Build<K, V>>(
     i: usize,
     rest: &[K],
     extent: Extent,
-) -> Result<Option<V>, AllocError>
+) -> Result<T, AllocError>
     requires leads { LeadsTo K.cmp (seen T.tree (T.Children.items children.old)) rest.now i }
     requires met { Meets K.cmp extent rest.now
         (lookup_in K.cmp (seen T.tree (T.Children.items children.old))) }
     requires deep { IsDeepAt K.cmp extent rest.now
         (tree_at (seen T.tree (T.Children.items children.old)) i) }
     requires canonical { AreChildren K.cmp (seen T.tree (T.Children.items children.old)) }
-    ensures ok { IfOk result (λ value. RemovedIn K.cmp T.keeps extent
-        (seen T.tree (T.Children.items children.old)) rest.now value
+    ensures ok { IfOk result (λ taken. RemovedIn K.cmp T.keeps extent
+        (seen T.tree (T.Children.items children.old)) rest.now (T.tree taken)
         (seen T.tree (T.Children.items children.new))) }
     ensures as_many { length (T.Children.items children.new)
         ≡ length (T.Children.items children.old) }
@@ -219,10 +224,10 @@ fn remove_in<K: TKey, V: TValue, T: Build<K, V>>(
 fn take_value<K: TKey, V: TValue, T: Build<K, V>>(
     alloc: Global,
     tree: &mut T,
-) -> Result<Option<V>, AllocError>
+) -> Result<T, AllocError>
     requires deep { AreSome (T.tree tree.old).children }
     ensures ok { let t = T.tree tree.old in IfOk result
-        (λ value. Removed K.cmp T.keeps Alone t t.prefix value (T.tree tree.new)) }
+        (λ taken. Removed K.cmp T.keeps Alone t t.prefix (T.tree taken) (T.tree tree.new)) }
     ensures err { OnErr result (IsAlike T.keeps (T.tree tree.old) (T.tree tree.new)) }
 {
     canonical(tree);
@@ -236,20 +241,20 @@ fn take_value<K: TKey, V: TValue, T: Build<K, V>>(
         children,
     } = node.take_apart(Seal::new());
     *tree = T::assemble(prefix, None, children, Seal::new());
-    Ok(value)
+    Ok(alone(alloc, value))
 }
 
-/// Takes the child at place `i` out of a node, and answers its value. What is left of a node
-/// without a value and with two children is the other child, joined with it.
+/// Takes the child at place `i` out of a node. What is left of a node without a value and with two
+/// children is the other child, joined with it.
 fn take_child<K: TKey, V: TValue, T: Build<K, V>>(
     alloc: Global,
     tree: &mut T,
     i: usize,
-) -> Result<Option<V>, AllocError>
+) -> Result<T, AllocError>
     requires within { i < length (trees (T.tree tree.old).children) }
     requires solid { IsSolid (T.tree tree.old).value (T.tree tree.old).children }
     ensures ok { IfOk result
-        (λ value. Lacks T.keeps (T.tree tree.old) i value (T.tree tree.new)) }
+        (λ taken. Lacks T.keeps (T.tree tree.old) i (T.tree taken) (T.tree tree.new)) }
     ensures err { OnErr result (IsAlike T.keeps (T.tree tree.old) (T.tree tree.new)) }
 {
     if tree.value().is_none() && tree.children().len() == 2 {
@@ -258,16 +263,16 @@ fn take_child<K: TKey, V: TValue, T: Build<K, V>>(
     lose_child(alloc, tree, i)
 }
 
-/// Takes the child at place `i` out of a node that can do without it, and answers its value.
+/// Takes the child at place `i` out of a node that can do without it.
 fn lose_child<K: TKey, V: TValue, T: Build<K, V>>(
     alloc: Global,
     tree: &mut T,
     i: usize,
-) -> Result<Option<V>, AllocError>
+) -> Result<T, AllocError>
     requires within { i < length (trees (T.tree tree.old).children) }
     requires solid { IsSolid (T.tree tree.old).value (without (T.tree tree.old).children i) }
     ensures ok { IfOk result
-        (λ value. Loses T.keeps (T.tree tree.old) i value (T.tree tree.new)) }
+        (λ taken. Loses T.keeps (T.tree tree.old) i (T.tree taken) (T.tree tree.new)) }
     ensures err { OnErr result (IsAlike T.keeps (T.tree tree.old) (T.tree tree.new)) }
 {
     let node = mem::replace(tree, T::blank(alloc, Seal::new()));
@@ -281,25 +286,20 @@ fn lose_child<K: TKey, V: TValue, T: Build<K, V>>(
     };
     let taken = take_out::<K, V, T>(&mut children, i);
     *tree = T::assemble(prefix, own, Some(children), Seal::new());
-    let Parts {
-        prefix: _,
-        value,
-        children: _,
-    } = taken?.take_apart(Seal::new());
-    Ok(value)
+    taken
 }
 
-/// Makes a node its child at place `j`, joined with its prefix, and answers the value of its other
-/// child, or its own where it has no other.
+/// Makes a node its child at place `j`, joined with its prefix, and answers its other child, or its
+/// own value where it has no other.
 fn become_child<K: TKey, V: TValue, T: Build<K, V>>(
     alloc: Global,
     tree: &mut T,
     j: usize,
-) -> Result<Option<V>, AllocError>
+) -> Result<T, AllocError>
     requires within { j < length (trees (T.tree tree.old).children) }
     requires few { length (trees (T.tree tree.old).children) ≤ 2 }
     ensures ok { IfOk result
-        (λ value. Becomes T.keeps (T.tree tree.old) j value (T.tree tree.new)) }
+        (λ taken. Becomes T.keeps (T.tree tree.old) j (T.tree taken) (T.tree tree.new)) }
     ensures err { OnErr result (IsAlike T.keeps (T.tree tree.old) (T.tree tree.new)) }
 {
     let joined = T::Prefix::joined(alloc, tree.prefix(), tree.children()[j].prefix())?;
@@ -315,7 +315,7 @@ fn become_child<K: TKey, V: TValue, T: Build<K, V>>(
     match part_out::<K, V, T>(&mut children, j) {
         Ok((child, other)) => {
             *tree = with_prefix(joined, child);
-            Ok(gone(value, other))
+            Ok(gone(alloc, value, other))
         }
         Err(refused) => {
             *tree = T::assemble(prefix, value, Some(children), Seal::new());
@@ -325,7 +325,7 @@ fn become_child<K: TKey, V: TValue, T: Build<K, V>>(
 }
 
 /// The tree with this prefix in the place of its own.
-fn with_prefix<K: TKey, V: TValue, T: Build<K, V>>(prefix: T::Prefix, tree: T) -> T
+pub(crate) fn with_prefix<K: TKey, V: TValue, T: Build<K, V>>(prefix: T::Prefix, tree: T) -> T
     requires { IsSolid (T.tree tree).value (T.tree tree).children }
     ensures { T.tree result
         ≡ node (T.Prefix.items prefix) (T.tree tree).value (T.tree tree).children }
@@ -338,19 +338,24 @@ fn with_prefix<K: TKey, V: TValue, T: Build<K, V>>(prefix: T::Prefix, tree: T) -
     T::assemble(prefix, value, children, Seal::new())
 }
 
-/// The value of the other tree, or this one where there is no other.
-fn gone<K: TKey, V: TValue, T: Build<K, V>>(own: Option<V>, other: Option<T>) -> Option<V>
-    ensures { result ≡ gone_value own (option_map T.tree other) }
+/// The other tree, or a node with this value where there is no other.
+fn gone<K: TKey, V: TValue, T: Build<K, V>>(alloc: Global, own: Option<V>, other: Option<T>) -> T
+    ensures { T.tree result ≡ gone_tree own (option_map T.tree other) }
 {
-    let Some(other) = other else {
-        return own;
-    };
-    let Parts {
-        prefix: _,
-        value,
-        children: _,
-    } = other.take_apart(Seal::new());
-    value
+    match other {
+        Some(other) => other,
+        None => alone(alloc, own),
+    }
+}
+
+/// A node with this value, and nothing else.
+fn alone<K: TKey, V: TValue, T: Build<K, V>>(alloc: Global, value: Option<V>) -> T
+    ensures { T.tree result ≡ alone_tree value }
+{
+    match value {
+        Some(value) => leaf(alloc, value),
+        None => T::blank(alloc, Seal::new()),
+    }
 }
 
 /// Takes the tree at place `i` out of the children.

@@ -1,17 +1,18 @@
 //! How all keys that begin with a prefix are taken out of a tree.
 
-ghost use Rattle.std.specs.Prelude.{◌≡◌, List, MatchBool, None, Ok, OnOk, OnErr};
-ghost use Rattle.vc_tree_model.specs.Map.{HaveEqualMaps, lookup};
+ghost use Rattle.std.specs.Prelude.{◌≡◌, IfOk, IsOk, List, MatchOption, None, Ok, OnOk, OnErr};
+ghost use Rattle.vc_tree_model.specs.Map.{HaveEqualMaps, IsEqualMap, lookup};
 ghost use Rattle.vc_tree_model.specs.Canonical.{IsCanonical};
 ghost use Rattle.vc_tree_model.specs.Same.{IsAlike};
+ghost use Rattle.vc_tree_model.specs.Tree.{no_tree};
 ghost use Rattle.vc_tree_model.specs.Under.{under};
 ghost use Rattle.vc_tree_removal.specs.Without.{IsWithoutBelow};
-ghost use Rattle.vc_tree_removal.specs.Taking.{Meets};
-ghost use Rattle.vc_tree_removal.specs.declared.removal.Extent.TheVariants.{Below};
+ghost use Rattle.vc_tree_removal.specs.Taking.{IsFoundUnder};
 
-use crate::removal::{Extent, remove_met};
+use crate::removal::{Extent, goes_wholly, remove_from, remove_met, take_root, with_prefix};
 use std::alloc::AllocError;
-use vc_tree_nodes::building::Build;
+use vc_tree_nodes::building::{Build, Seal};
+use vc_tree_nodes::children::Fragment;
 use vc_tree_nodes::reading::{RadixNode, TKey, TValue, canonical, is_empty};
 use vc_tree_walks::scan::find_under;
 
@@ -38,21 +39,73 @@ pub fn remove_below<K: TKey, V: TValue, T: Build<K, V>>(
     ensures canonical { IsCanonical K.cmp (T.tree tree.new) }
 {
     canonical(tree);
-    if !begins_some(tree, prefix) {
+    if found_under(tree, prefix).is_none() {
         return Ok(());
     }
     remove_met(tree, prefix, Extent::Below)?;
     Ok(())
 }
 
-/// Whether some key of the tree begins with the prefix.
-fn begins_some<K: TKey, V: TValue, T: RadixNode<K, V>>(tree: &T, prefix: &[K]) -> bool
-    ensures { let f = lookup K.cmp (T.tree tree.now) in MatchBool result
-        (Meets K.cmp Below prefix.now f) ((k : List K) → under K.cmp f prefix.now k ≡ None) }
+/// Takes out all keys that begin with `prefix`, with their values, and answers them as a tree of
+/// their own, each key whole; the empty tree where none begins so. The other keys keep their values.
+///
+/// The keys stand below one node, which is moved as it is, with a longer prefix: nothing below it is
+/// touched. What stands before the node's own prefix is spelled as in `prefix`.
+///
+/// Where no key begins with it, that is found by a walk down alone: no memory is asked for, and
+/// nothing is copied; nor is it where all keys begin with it. Fails only where memory is refused,
+/// for the prefix of the answer's root, where that has more than 16 components, for the joined
+/// prefix of a node that is left with one child or for the copy of shared children, or where the
+/// clone of a value of those is refused. The tree then has the nodes that it had, and binds what it
+/// bound.
+///
+/// Compares each component of the prefix at most once, but for two halving searches among the
+/// children of each node on the way.
+pub fn split_below<K: TKey, V: TValue, T: Build<K, V>>(
+    tree: &mut T,
+    prefix: &[K],
+) -> Result<T, AllocError>
+    ensures made { IfOk result (λ made. IsEqualMap T.keeps
+        (under K.cmp (lookup K.cmp (T.tree tree.old)) prefix.now) (lookup K.cmp (T.tree made))) }
+    ensures made_canonical { IfOk result (λ made. IsCanonical K.cmp (T.tree made)) }
+    ensures ok { OnOk result (IsWithoutBelow K.cmp T.keeps prefix.now
+        (lookup K.cmp (T.tree tree.old)) (lookup K.cmp (T.tree tree.new))) }
+    ensures absent { let f = lookup K.cmp (T.tree tree.old) in
+        ((k : List K) → under K.cmp f prefix.now k ≡ None)
+        → IsOk result × (T.tree tree.new ≡ T.tree tree.old) }
+    ensures err { OnErr result (HaveEqualMaps K.cmp T.keeps (T.tree tree.old) (T.tree tree.new)) }
+    ensures err_nodes { OnErr result (IsAlike T.keeps (T.tree tree.old) (T.tree tree.new)) }
+    ensures canonical { IsCanonical K.cmp (T.tree tree.new) }
 {
-    let Some((_, node)) = find_under(tree, prefix) else {
-        return false;
+    let alloc = tree.allocator();
+    canonical(tree);
+    let Some((front, node)) = found_under(tree, prefix) else {
+        return Ok(T::blank(alloc, Seal::new()));
+    };
+    if goes_wholly(tree, prefix, Extent::Below) {
+        return Ok(take_root(alloc, tree));
+    }
+    let joined = T::Prefix::joined(alloc, front, node.prefix())?;
+    let taken = remove_from(alloc, tree, prefix, Extent::Below)?;
+    Ok(with_prefix(joined, taken))
+}
+
+/// The node below which all keys of the tree stand that begin with the prefix, and the part of the
+/// prefix that stands before the node's own. None where no key begins so.
+fn found_under<'a, K: TKey, V: TValue, T: RadixNode<K, V>>(
+    tree: &'a T,
+    prefix: &'a [K],
+) -> Option<(&'a [K], &'a T)>
+    ensures { let f = lookup K.cmp (T.tree tree.now) in MatchOption result
+        ((k : List K) → under K.cmp f prefix.now k ≡ None)
+        (λ found. IsFoundUnder K.cmp prefix.now f found.0.now (T.tree found.1.now)) }
+{
+    let Some((front, node)) = find_under(tree, prefix) else {
+        return None;
     };
     canonical(node);
-    !is_empty(node)
+    if is_empty(node) {
+        return None;
+    }
+    Some((front, node))
 }

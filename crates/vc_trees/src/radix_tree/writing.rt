@@ -133,6 +133,45 @@ pub trait AbstractRadixTreeMut<K: TKey, V: TValue>: CloneTree<K, V> + AbstractRa
         removal_below::remove_below(self, prefix)
     }
 
+    /// Takes out all keys that begin with `prefix`, with their values, and answers them as a tree of
+    /// their own, each key whole; the empty tree where none begins so. The other keys keep their
+    /// values. `union_with` of the answer puts the keys back.
+    ///
+    /// The keys stand below one node, which is moved as it is, with a longer prefix: nothing below
+    /// it is touched. What stands before the node's own prefix is spelled as in `prefix`.
+    ///
+    /// Where no key begins with it, that costs a walk down to where one would stand: no memory is
+    /// asked for, and nothing is copied; nor is it where all keys begin with it. Fails only where
+    /// memory is refused, for the prefix of the answer's root, where that has more than 16
+    /// components, for the joined prefix of a node that is left with one child or for the copy of
+    /// shared children, or where the clone of a value of those is refused; the tree then has the
+    /// nodes that it had, and binds what it bound.
+    ///
+    /// Compares each component of the prefix at most once, but for two halving searches among the
+    /// children of each node on the way.
+    ///
+    /// ```text
+    /// let moved = servers.split_below(b"eu/")?;
+    /// ```
+    final fn split_below(&mut self, prefix: &[K]) -> Result<Self, AllocError>
+        ensures made { IfOk result (λ made. IsEqualMap Self.keeps
+            (under K.cmp (lookup K.cmp (Self.tree self.old)) prefix.now)
+            (lookup K.cmp (Self.tree made))) }
+        ensures made_canonical { IfOk result (λ made. IsCanonical K.cmp (Self.tree made)) }
+        ensures ok { OnOk result (IsWithoutBelow K.cmp Self.keeps prefix.now
+            (lookup K.cmp (Self.tree self.old)) (lookup K.cmp (Self.tree self.new))) }
+        ensures absent { let f = lookup K.cmp (Self.tree self.old) in
+            ((k : List K) → under K.cmp f prefix.now k ≡ None)
+            → IsOk result × (Self.tree self.new ≡ Self.tree self.old) }
+        ensures err { OnErr result
+            (HaveEqualMaps K.cmp Self.keeps (Self.tree self.old) (Self.tree self.new)) }
+        ensures err_nodes { OnErr result
+            (IsAlike Self.keeps (Self.tree self.old) (Self.tree self.new)) }
+        ensures canonical { IsCanonical K.cmp (Self.tree self.new) }
+    {
+        removal_below::split_below(self, prefix)
+    }
+
     /// A fresh tree of the keys that start with the prefix, whole, with copies of their values; the
     /// empty tree where no key does. This tree stays as it was.
     ///

@@ -1,9 +1,7 @@
 -- The recursion of a removal: what is left of the key is bound below, and each call goes to a child that it leads to.
 use Rattle.std.proofs.Common.{refl, sym, ap, subst, ◌∙◌, arith, drop, is_ok, length, map, rules}
 use Rattle.std.proofs.Math.ListN.{length-set}
-use Rattle.std.specs.Cmp.{tied_itself}
 use Rattle.vc_tree_model.specs.Canonical.{AreChildren, IsCanonical}
-use Rattle.vc_tree_model.specs.Child.{Begins}
 use Rattle.vc_tree_model.specs.Tree.{forest}
 use Rattle.vc_tree_model.proofs.KeyLemmas.{behind-joins}
 use Rattle.vc_tree_nodes.specs.Children.{listed}
@@ -33,7 +31,7 @@ remove_deeper-assemble-requires g t c =
     if-both c.remove_in-done.result c.remove_in-done.ensures.ok c.remove_in-done.ensures.err
     (λ taken removed.
     let whole = child-removed g.K.Ord.cmp g.T.Build.keeps g.met.T.Build.keeps_refl g.met.T.Build.keeps_trans
-    g.met.K.Ord.total tree c.args.extent (tree c.args.tree.now) _ _ _ _ _ c.args.rest.now taken c.requires.leads.first
+    g.met.K.Ord.total tree c.args.extent (tree c.args.tree.now) _ _ _ _ _ c.args.rest.now _ c.requires.leads.first
     c.requires.leads.others prefix value children refl c.requires.solid c.requires.leads.key_is
     c.remove_in-done.ensures.as_many removed in
     solid-canonical g.K.Ord.cmp _ _ _ whole.grown.solid whole.grown.children)
@@ -50,7 +48,7 @@ remove_deeper-returns-clause-ok g t c =
     c.take_apart-prefix.ensures.children ∙ ap (λ t. (tree t).children) c.replace-node.ensures.value in
     if-ok c.remove_in-done.result
     (λ taken removed. child-removed g.K.Ord.cmp g.T.Build.keeps g.met.T.Build.keeps_refl g.met.T.Build.keeps_trans
-    g.met.K.Ord.total tree c.args.extent (tree c.args.tree.now) _ _ _ _ _ c.args.rest.now taken c.requires.leads.first
+    g.met.K.Ord.total tree c.args.extent (tree c.args.tree.now) _ _ _ _ _ c.args.rest.now _ c.requires.leads.first
     c.requires.leads.others prefix value children c.assemble.ensures c.requires.solid c.requires.leads.key_is
     c.remove_in-done.ensures.as_many removed)
     c.remove_in-done.ensures.ok
@@ -67,12 +65,12 @@ remove_from-returns-in_default-clause-ok g t c =
     left-ended c.args.extent c.rest_of-rest.result.now
     (subst (λ o. IsLeft c.args.extent o) c.rest_of-rest.ensures c.requires.deep.left) none in
     if-ok c.take_value.result
-    (λ value removed. removed-respelled g.K.Ord.cmp g.T.Build.keeps g.met.T.Build.keeps_refl
+    (λ taken removed. removed-respelled g.K.Ord.cmp g.T.Build.keeps g.met.T.Build.keeps_refl
     g.met.T.Build.keeps_trans g.met.K.Ord.total c.args.extent t (tree c.take_value.new.tree)
-    t.prefix c.args.key.now value
+    t.prefix c.args.key.now _
     (rest-ended g.K.Ord.cmp g.met.K.Ord.total t.prefix c.args.key.now c.rest_of-rest.result.now
     c.rest_of-rest.ensures none)
-    (subst (λ e. Removed g.K.Ord.cmp g.T.Build.keeps e t t.prefix value (tree c.take_value.new.tree)) (sym alone) removed))
+    (subst (λ e. Removed g.K.Ord.cmp g.T.Build.keeps e t t.prefix (tree taken) (tree c.take_value.new.tree)) (sym alone) removed))
     c.take_value.ensures.ok
 
 pub remove_from-child_place-requires : goal.remove_from-child_place-requires
@@ -154,15 +152,15 @@ remove_from-returns-then-goes_wholly-clause-ok g t c =
     let met =
     met-rest cmp o e (tree c.args.tree.now) c.args.key.now rest y _ c.rest_of-rest.ensures begun c.requires.met in
     if-ok c.take_child.result
-    (λ value lacks. removed-respelled cmp g.T.Build.keeps g.met.T.Build.keeps_refl g.met.T.Build.keeps_trans o e
-    (tree c.args.tree.now) (tree c.take_child.new.tree) _ c.args.key.now value
+    (λ taken lacks. removed-respelled cmp g.T.Build.keeps g.met.T.Build.keeps_refl g.met.T.Build.keeps_trans o e
+    (tree c.args.tree.now) (tree c.take_child.new.tree) _ c.args.key.now _
     (behind-joins cmp o (tree c.args.tree.now).prefix c.args.key.now rest c.rest_of-rest.ensures)
     (lacks-removed cmp g.T.Build.keeps g.met.T.Build.keeps_refl g.met.T.Build.keeps_trans o e (tree c.args.tree.now)
-    (tree c.take_child.new.tree) (tree c.index-children-i.result) c.in-Ok.i rest y _ value c.canonical.ensures.1
+    (tree c.take_child.new.tree) (tree c.index-children-i.result) c.in-Ok.i rest y _ _ c.canonical.ensures.1
     (child-stands cmp o tree kids c.children-2.result.now c.in-Ok.i c.index-children-i.result y c.children-2.ensures
     c.index-children-i.is begins) begins begun
     (child-found cmp o tree kids c.children-2.result.now c.in-Ok.i c.index-children-i.result y c.children-2.ensures
-    c.index-children-i.is begins c.canonical.ensures.1 rest (subst (Begins cmp y) (sym begun) (tied_itself o y)))
+    c.index-children-i.is begins c.canonical.ensures.1)
     (met-child cmp o tree kids c.children-2.result.now c.in-Ok.i c.index-children-i.result y c.children-2.ensures
     c.index-children-i.is begins e rest _ c.canonical.ensures.1 begun met)
     c.if-goes_wholly.ensures lacks))
@@ -172,9 +170,9 @@ pub remove_from-returns-else-goes_wholly-clause-ok : goal.remove_from-returns-el
 remove_from-returns-else-goes_wholly-clause-ok g t c =
     let tree = g.T.RadixNode.tree in
     if-ok c.remove_deeper.result
-    (λ value removed. removed-respelled g.K.Ord.cmp g.T.Build.keeps g.met.T.Build.keeps_refl
+    (λ taken removed. removed-respelled g.K.Ord.cmp g.T.Build.keeps g.met.T.Build.keeps_refl
     g.met.T.Build.keeps_trans g.met.K.Ord.total c.args.extent (tree c.args.tree.now) (tree c.remove_deeper.new.tree)
-    _ c.args.key.now value
+    _ c.args.key.now _
     (behind-joins g.K.Ord.cmp g.met.K.Ord.total (tree c.args.tree.now).prefix c.args.key.now c.rest_of-rest.result.now
     c.rest_of-rest.ensures) removed)
     c.remove_deeper.ensures.ok
@@ -224,12 +222,12 @@ remove_in-remove_from-requires g t c κs within =
 pub remove_in-returns-clause-ok : goal.remove_in-returns-clause-ok
 remove_in-returns-clause-ok g t c =
     if-ok c.remove_from.result
-    (list-removed g.K.Ord.cmp g.T.Build.keeps g.met.T.Build.keeps_refl g.met.T.Build.keeps_trans g.met.K.Ord.total
+    (λ taken. list-removed g.K.Ord.cmp g.T.Build.keeps g.met.T.Build.keeps_refl g.met.T.Build.keeps_trans g.met.K.Ord.total
     g.T.RadixNode.tree
     (g.T.Children.ChildList.items c.args.children.now) c.in_ok-list.list.now.items c.args.i c.args.rest.now
     c.requires.leads (g.met.T.Build.kept_alike _ _ c.in_ok-list.ensures.value) c.requires.canonical
     c.index_mut.result.now c.remove_from.new.tree _ c.index_mut.ensures.value
-    (c.make_mut.follows.holds _ (ap is_ok c.in_ok-list.was)) c.args.extent)
+    (c.make_mut.follows.holds _ (ap is_ok c.in_ok-list.was)) c.args.extent (g.T.RadixNode.tree taken))
     c.remove_from.ensures.ok
 
 pub remove_in-returns-clause-err : goal.remove_in-returns-clause-err

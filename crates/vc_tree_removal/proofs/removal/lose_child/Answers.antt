@@ -5,7 +5,7 @@ use Rattle.vc_tree_model.specs.Tree.{forest}
 use Rattle.vc_tree_nodes.specs.Children.{listed}
 use Rattle.vc_tree_nodes.proofs.Events.{parts-canonical}
 use Rattle.vc_tree_removal.proofs.Lists.{seen-long}
-use Rattle.vc_tree_removal.proofs.Removing.{if-both, lost, lost-canonical}
+use Rattle.vc_tree_removal.proofs.Removing.{if-both, if-ok, lost, lost-canonical}
 use Rattle.vc_tree_removal.proofs.removal.lose_child.Goals as goal
 
 pub take_out-taken-requires : goal.take_out-taken-requires
@@ -43,6 +43,8 @@ returns-clause-ok g c =
     ap (λ o. forest (map tree (listed g.T.Children.ChildList.items o))) (sym c.in-Some.is) ∙
     c.take_apart-prefix.ensures.children ∙ ap (λ t. (tree t).children) c.replace-node.ensures.value in
     let long = seen-long tree _ _ children in
-    lost g.K.Ord.cmp g.T.Build.keeps g.met.T.Build.keeps_refl g.met.T.Build.keeps_trans g.met.K.Ord.total tree
-    (tree c.args.tree.now) _ _ _ _ _ c.args.i c.in_ok-taken.field-0 _ prefix value children
-    (omega (arith, long, c.requires.within)) c.assemble.ensures c.take_apart-value.ensures.value c.in_ok-taken.ensures.ok
+    if-ok c.take_out-taken.result
+    (λ item takes. lost g.K.Ord.cmp g.T.Build.keeps g.met.T.Build.keeps_refl g.met.T.Build.keeps_trans g.met.K.Ord.total tree
+    (tree c.args.tree.now) _ _ _ _ _ c.args.i item prefix value children
+    (omega (arith, long, c.requires.within)) c.assemble.ensures takes)
+    c.take_out-taken.ensures.ok

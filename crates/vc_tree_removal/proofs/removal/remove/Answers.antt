@@ -3,7 +3,7 @@ use Rattle.std.proofs.Common.{sym, ◌∙◌, true≢false}
 use Rattle.vc_tree_model.proofs.AlikeLemmas.{tree-alike_lookup}
 use Rattle.vc_tree_model.proofs.KeyLemmas.{same-itself}
 use Rattle.vc_tree_model.proofs.LookupLemmas.{lookup-same}
-use Rattle.vc_tree_nodes.proofs.Events.{on-err}
+use Rattle.vc_tree_nodes.proofs.Events.{always-err}
 use Rattle.vc_tree_removal.specs.declared.removal.Extent.TheVariants.{Alone}
 use Rattle.vc_tree_removal.proofs.Going.{none-unless}
 use Rattle.vc_tree_removal.proofs.Reaching.{absent-without}
@@ -24,8 +24,8 @@ remove_met-requires g c = record {
   bound = sym c.contains_key.ensures ∙ c.if-not-contains_key.false;
 }
 
-pub returns-clause-err : goal.returns-clause-err
-returns-clause-err g c =
-    on-err c.remove_met.result (tree-alike_lookup g.T.Build.keeps g.K.Ord.cmp
-    (g.T.RadixNode.tree c.args.tree.now) (g.T.RadixNode.tree c.remove_met.new.tree))
-    c.remove_met.ensures.err_nodes
+pub returns-in_err-taken-clause-err : goal.returns-in_err-taken-clause-err
+returns-in_err-taken-clause-err g c =
+    always-err c.from_residual.result
+    (tree-alike_lookup g.T.Build.keeps g.K.Ord.cmp (g.T.RadixNode.tree c.args.tree.now)
+    (g.T.RadixNode.tree c.remove_met.new.tree) c.in_err-taken.ensures.err_nodes)

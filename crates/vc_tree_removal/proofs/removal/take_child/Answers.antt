@@ -21,8 +21,8 @@ returns-then-children-eq2-clause-ok g c =
     let long = seen-long g.T.RadixNode.tree _ _ c.children.ensures in
     let one : c.args.i + (1 - c.args.i) ≡ 1 = omega (arith, long, c.requires.within, c.if-children-eq2.true) in
     if-ok c.become_child.result
-    (λ value became. pair-lacks g.K.Ord.cmp g.T.Build.keeps g.met.T.Build.keeps_refl g.met.T.Build.keeps_trans
-    g.met.K.Ord.total t (g.T.RadixNode.tree c.become_child.new.tree) c.args.i (1 - c.args.i) value
+    (λ taken became. pair-lacks g.K.Ord.cmp g.T.Build.keeps g.met.T.Build.keeps_refl g.met.T.Build.keeps_trans
+    g.met.K.Ord.total t (g.T.RadixNode.tree c.become_child.new.tree) c.args.i (1 - c.args.i) _
     (none-copied c.value.result t.value c.value.ensures (c.is_none.ensures ∙ ap not c.if-is_none.true))
     (sym long ∙ c.if-children-eq2.true) one became)
     c.become_child.ensures.ok
@@ -42,8 +42,8 @@ pub returns-clause-ok : goal.returns-clause-ok
 returns-clause-ok g c =
     let t = g.T.RadixNode.tree c.args.tree.now in
     if-ok c.lose_child.result
-    (λ value lost. loses-lacks g.K.Ord.cmp g.T.Build.keeps g.met.T.Build.keeps_refl g.met.T.Build.keeps_trans
-    g.met.K.Ord.total t (g.T.RadixNode.tree c.lose_child.new.tree) c.args.i value
+    (λ taken lost. loses-lacks g.K.Ord.cmp g.T.Build.keeps g.met.T.Build.keeps_refl g.met.T.Build.keeps_trans
+    g.met.K.Ord.total t (g.T.RadixNode.tree c.lose_child.new.tree) c.args.i _
     (solid-without t.value t.children c.args.i c.requires.solid
     (λ none two. elim c.else-is_none.branch [
       | else-is_none-via-then-is_none+else-children-eq2 w ↦

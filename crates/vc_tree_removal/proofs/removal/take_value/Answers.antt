@@ -5,6 +5,7 @@ use Rattle.vc_tree_nodes.proofs.Events.{node-equal}
 use Rattle.vc_tree_nodes.proofs.Growing.{solid-canonical}
 use Rattle.vc_tree_removal.proofs.Lists.{seen-long}
 use Rattle.vc_tree_removal.proofs.Removing.{if-ok, lone-removed, many-solid, own-removed}
+use Rattle.vc_tree_removal.specs.Taking.{alone}
 use Rattle.vc_tree_removal.proofs.removal.take_value.Goals as goal
 
 pub become_child-requires-clause-few : goal.become_child-requires-clause-few
@@ -15,8 +16,8 @@ pub returns-then-children-eq1-clause-ok : goal.returns-then-children-eq1-clause-
 returns-then-children-eq1-clause-ok g c =
     let long = seen-long g.T.RadixNode.tree _ _ c.children.ensures in
     if-ok c.become_child.result
-    (λ value became. lone-removed g.K.Ord.cmp g.T.Build.keeps g.met.T.Build.keeps_refl g.met.T.Build.keeps_trans
-    g.met.K.Ord.total (g.T.RadixNode.tree c.args.tree.now) (g.T.RadixNode.tree c.become_child.new.tree) value
+    (λ taken became. lone-removed g.K.Ord.cmp g.T.Build.keeps g.met.T.Build.keeps_refl g.met.T.Build.keeps_trans
+    g.met.K.Ord.total (g.T.RadixNode.tree c.args.tree.now) (g.T.RadixNode.tree c.become_child.new.tree) _
     c.canonical.ensures.1 (sym long ∙ c.if-children-eq1.true) became)
     c.become_child.ensures.ok
 
@@ -39,6 +40,6 @@ returns-clause-ok g c =
     let value = c.take_apart-prefix.ensures.value ∙ ap (λ t. (tree t).value) c.replace-node.ensures.value in
     let children = c.take_apart-prefix.ensures.children ∙ ap (λ t. (tree t).children) c.replace-node.ensures.value in
     own-removed g.K.Ord.cmp g.T.Build.keeps g.met.T.Build.keeps_refl g.met.T.Build.keeps_trans g.met.K.Ord.total t
-    (tree c.assemble.result) c.take_apart-prefix.result.value c.canonical.ensures.1
+    (tree c.assemble.result) (tree c.alone.result) c.canonical.ensures.1
     (many-solid t.children c.requires.deep (λ e. c.if-children-eq1.false (long ∙ e)))
-    value (c.assemble.ensures ∙ node-equal _ t.prefix None None _ t.children prefix refl children)
+    (c.alone.ensures ∙ ap alone value) (c.assemble.ensures ∙ node-equal _ t.prefix None None _ t.children prefix refl children)
