@@ -1,0 +1,9 @@
+mod Turned
+mod Kept
+mod Walked
+mod Sought
+mod Ranged
+mod Tested
+mod OneList
+mod Swept
+mod Sorted

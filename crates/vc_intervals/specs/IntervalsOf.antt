@@ -1,0 +1,31 @@
+-- What an operation makes of two interval sets. It is given by f, which says of "in the left one" and "in the right one" whether a place is in the result.
+use Rattle.std.specs.Prelude.{◌≡◌, Bool, Option, Some, None, IsTrue}
+use Rattle.std.specs.declared.cmp.Ordering.{Ordering}
+use Rattle.vc_merge.specs.Ascending.{Ascends, element_at}
+use Rattle.vc_intervals.specs.Turns.{Intervals, holds}
+
+-- a turn of the result, where it has one, comes by `from` from the left turn there, where that is one, and else from the right one
+abbrev pub Comes : {X : Type 0} → (X → X → Type 0) → Option X → Option X → Option X → Type 0
+Comes from None left right = Unit {0}
+Comes from (Some z) (Some x) right = from x z
+Comes from (Some z) None (Some y) = from y z
+Comes from (Some z) None None = ⊥
+
+module _ {X : Type 0} (cmp : X → X → Ordering) where
+  -- c is what f makes of a and b: at each place, and below all turns. A turn of it comes by `from` from one of a, where a has an equal
+  -- one, and else from one of b
+  pub record IsIntervalsOf (from : X → X → Type 0) (f : Bool → Bool → Bool) (a b c : Intervals X) : Type 0 where
+    pub ascends : Ascends cmp c.turns
+    pub below : c.below ≡ f a.below b.below
+    pub at : (x : X) → holds cmp c x ≡ f (holds cmp a x) (holds cmp b x)
+    pub kept : (x : X) → Comes from (element_at cmp c.turns x) (element_at cmp a.turns x) (element_at cmp b.turns x)
+
+  -- what is in a is in b: at each place, and below all turns
+  pub record IsIntervalSubset (a b : Intervals X) : Type 0 where
+    pub at : (x : X) → IsTrue (holds cmp a x) → IsTrue (holds cmp b x)
+    pub below : IsTrue a.below → IsTrue b.below
+
+  -- nothing is in both
+  pub record IsIntervalDisjoint (a b : Intervals X) : Type 0 where
+    pub at : (x : X) → IsTrue (holds cmp a x) → IsTrue (holds cmp b x) → ⊥
+    pub below : IsTrue a.below → IsTrue b.below → ⊥

@@ -1,0 +1,7 @@
+pub mod Turns
+pub mod IntervalsOf
+pub mod Listed
+pub mod Ranges
+pub mod Laws
+pub mod Events
+pub mod WalkViews

@@ -1,0 +1,29 @@
+-- What a contract sees of a walk over the turns of two sets. No public clause cites these words.
+use Rattle.std.specs.Prelude.{ℕ, Bool, List}
+use base.Fml.{GName}
+use Rattle.vc_intervals.specs.declared.combine.Walk.{Walk}
+
+module _ {X A : Type 0} {n : ℕ} where
+  -- the turns that are left of the left set
+  abbrev pub left_turns : Walk X n A → List X
+  left_turns s = s.a.now
+
+  -- the turns that are left of the right set
+  abbrev pub right_turns : Walk X n A → List X
+  right_turns s = s.b.now
+
+  -- whether the place that it has come to is in the left set
+  abbrev pub is_in_a : Walk X n A → Bool
+  is_in_a s = s.in_a
+
+  -- and in the right one
+  abbrev pub is_in_b : Walk X n A → Bool
+  is_in_b s = s.in_b
+
+  -- the turns that were kept
+  abbrev pub built_turns : Walk X n A → List X
+  built_turns s = s.built.now.items
+
+  -- which list they stand in
+  abbrev pub list_name : Walk X n A → GName
+  list_name s = s.built.ghost_name

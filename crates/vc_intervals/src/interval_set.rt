@@ -1,0 +1,219 @@
+//! `IntervalSet`, a set of half-open intervals over an ordered type.
+ghost use Rattle.std.specs.Prelude.{◌≡◌, ◌≤◌, ◌↔◌, [], ◌∷◌, true, false, cond, IfOk, IsOk, IsTrue};
+ghost use Rattle.std.specs.BTreeMap.Range.{range_contains};
+ghost use Rattle.std.specs.Ordering.{is_lt};
+ghost use Rattle.std.specs.declared.ops.Bound.TheVariants.{Included, Excluded, Unbounded};
+ghost use Rattle.vc_merge.specs.Ascending.{Ascends};
+ghost use Rattle.vc_merge.specs.Clones.{ClonesAreEqual};
+ghost use Rattle.vc_intervals.specs.Turns.{intervals, holds, complement, IsClonedIntervals};
+
+mod algebra;
+mod comparisons;
+mod iteration;
+mod ranges;
+
+pub use iteration::IntervalSetIter;
+use smallvec::SmallVec;
+use std::alloc::{AllocError, Allocator, Global};
+use std::default::MadeWith;
+use std::marker::Model;
+use std::ops::Not;
+use vc_merge::search::find;
+use vc_merge::states::clones_of;
+use vc_sets::cloning::ClonesEqual;
+
+/// A set of half-open intervals of an ordered type, kept as the places at which membership turns.
+///
+/// Contracts see it as the list of these turns, in ascending order, and whether it has what lies
+/// below all of them: a value is in the set where that answer, turned once by each turn at or below
+/// the value, is true. The interval from 3 on that ends before 7 has the turns 3 and 7. Up to `N`
+/// turns stand in place, without an allocation.
+///
+/// ```
+/// let open: IntervalSet<u16, 4> = (&IntervalSet::between(alloc, 9, 17)? - &lunch)?;
+/// assert!(open.contains(&9) && !open.contains(&17));
+/// ```
+#[derive(Drop)]
+pub struct IntervalSet<T: Ord, const N: usize, A: Allocator = Global> {
+    turns: SmallVec<T, N, A>,
+    below: bool,
+}
+
+impl<T: Ord, const N: usize, A: Allocator> Model for IntervalSet<T, N, A> {
+    ghost use Rattle.vc_intervals.specs.Turns.{Intervals, intervals, intervals_code};
+    ghost use Rattle.vc_merge.specs.Ascending.{Ascends};
+
+    ghost Value = { Intervals T };
+
+    ghost coded = { intervals_code T.code };
+
+    ghost view = { λ s. intervals s.turns.items s.below };
+
+    ghost invariant = { λ s. Ascends T.cmp s.turns.items };
+}
+
+impl<T: Ord, const N: usize, A: Allocator> IntervalSet<T, N, A> {
+    /// The places at which membership turns, in ascending order. Takes no memory.
+    pub fn turns(&self) -> &[T]
+        ensures turns { result.now ≡ self.now.turns }
+        ensures ascends { Ascends T.cmp self.now.turns }
+    {
+        self.turns.as_slice()
+    }
+
+    /// Whether the set has what lies below all turns. Takes no memory.
+    pub fn is_unbounded_below(&self) -> bool
+        ensures { result ≡ self.now.below }
+    {
+        self.below
+    }
+
+    /// Whether the set has no turn, and nothing below. Takes no memory.
+    pub fn is_empty(&self) -> bool
+        ensures { IsTrue result ↔ (self.now ≡ intervals [] false) }
+    {
+        !self.below && self.turns.is_empty()
+    }
+
+    /// Whether the set has no turn, and all below. Takes no memory.
+    pub fn is_all(&self) -> bool
+        ensures { IsTrue result ↔ (self.now ≡ intervals [] true) }
+    {
+        self.turns.is_empty() && self.below
+    }
+
+    /// Whether a value is in the set. Searches the turns once, with fewer than `1.5 * log2(n) + 4`
+    /// comparisons among `n` of them, and takes no memory.
+    pub fn contains(&self, value: &T) -> bool
+        ensures { result ≡ holds T.cmp self.now value.now }
+    {
+        let reached = match find(self.turns.as_slice(), value) {
+            Ok(place) => place + 1,
+            Err(place) => place,
+        };
+        self.below ^ (reached % 2 == 1)
+    }
+}
+
+impl<T: Ord + MadeWith<A> + Drop, const N: usize, A: Allocator + Copy> IntervalSet<T, N, A> {
+    /// The set of no value. Takes no memory.
+    pub fn empty(alloc: A) -> Self
+        ensures { result ≡ intervals [] false }
+    {
+        IntervalSet {
+            turns: SmallVec::new(alloc),
+            below: false,
+        }
+    }
+
+    /// The set of all values. Takes no memory.
+    pub fn all(alloc: A) -> Self
+        ensures { result ≡ intervals [] true }
+    {
+        IntervalSet {
+            turns: SmallVec::new(alloc),
+            below: true,
+        }
+    }
+
+    /// The values from `least` on that are less than `end`: none, where `end` is not greater.
+    ///
+    /// The two values are moved. Compares them once, and takes memory only where `N` is less than
+    /// 2; refused, it drops them.
+    pub fn between(alloc: A, least: T, end: T) -> Result<Self, AllocError>
+        ensures turns { IfOk result (λ s. s ≡ cond (is_lt (T.cmp least end))
+            (intervals (least ∷ end ∷ []) false) (intervals [] false)) }
+        ensures holds { IfOk result (λ s. (x : T)
+            → holds T.cmp s x ≡ range_contains T.cmp (Included least) (Excluded end) x) }
+        ensures room { 2 ≤ N → IsOk result }
+    {
+        if !least.cmp(&end).is_lt() {
+            return Ok(Self::empty(alloc));
+        }
+        let mut turns = SmallVec::with_capacity(alloc, 2)?;
+        turns.push_reserved(least);
+        turns.push_reserved(end);
+        Ok(IntervalSet {
+            turns,
+            below: false,
+        })
+    }
+
+    /// The values from `least` on, which is moved. Takes memory only where `N` is 0; refused, it
+    /// drops the value.
+    pub fn at_least(alloc: A, least: T) -> Result<Self, AllocError>
+        ensures turns { IfOk result (λ s. s ≡ intervals (least ∷ []) false) }
+        ensures holds { IfOk result (λ s. (x : T)
+            → holds T.cmp s x ≡ range_contains T.cmp (Included least) Unbounded x) }
+        ensures room { 1 ≤ N → IsOk result }
+    {
+        let mut turns = SmallVec::new(alloc);
+        turns.push(least)?;
+        Ok(IntervalSet {
+            turns,
+            below: false,
+        })
+    }
+
+    /// The values that are less than `end`, which is moved. Takes memory only where `N` is 0;
+    /// refused, it drops the value.
+    pub fn below(alloc: A, end: T) -> Result<Self, AllocError>
+        ensures turns { IfOk result (λ s. s ≡ intervals (end ∷ []) true) }
+        ensures holds { IfOk result (λ s. (x : T)
+            → holds T.cmp s x ≡ range_contains T.cmp Unbounded (Excluded end) x) }
+        ensures room { 1 ≤ N → IsOk result }
+    {
+        Ok(!Self::at_least(alloc, end)?)
+    }
+}
+
+impl<T: Ord + Clone + MadeWith<A>, const N: usize, A: Allocator + Copy> IntervalSet<T, N, A> {
+    /// A copy, turn by turn, with the allocator of this set.
+    ///
+    /// Takes memory where there are more than `N` turns, and as their clones do; refused, it drops
+    /// what was copied.
+    pub fn clone(&self) -> Result<Self, AllocError>
+        requires clones { ClonesAreEqual T.cmp T.is_clone }
+        ensures { IfOk result (IsClonedIntervals T.is_clone self.now) }
+    {
+        Ok(IntervalSet {
+            turns: clones_of(*self.turns.allocator(), self.turns.as_slice())?,
+            below: self.below,
+        })
+    }
+}
+
+/// Takes memory as [`clone`](IntervalSet::clone) does.
+impl<T: ClonesEqual + MadeWith<A>, const N: usize, A: Allocator + Copy> Clone
+    for IntervalSet<T, N, A> {
+    ghost is_clone = { IsClonedIntervals T.is_clone };
+
+    fn clone(&self) -> Result<Self, AllocError> {
+        IntervalSet::clone(self)
+    }
+}
+
+/// The set of no value. Takes no memory.
+impl<T: Ord + MadeWith<A> + Drop, const N: usize, A: Allocator + Copy> MadeWith<A>
+    for IntervalSet<T, N, A> {
+    ghost is_made_with = { λ s. s ≡ intervals [] false };
+
+    fn made_with(alloc: A) -> Self {
+        Self::empty(alloc)
+    }
+}
+
+/// `!a` is all that is not in `a`: the same turns, moved, and the other answer below them. Takes no
+/// memory.
+impl<T: Ord, const N: usize, A: Allocator> Not for IntervalSet<T, N, A> {
+    type Output = IntervalSet<T, N, A>;
+
+    ghost not_gives = { λ s r. r ≡ complement s };
+
+    fn not(self) -> IntervalSet<T, N, A> {
+        IntervalSet {
+            turns: self.turns,
+            below: !self.below,
+        }
+    }
+}

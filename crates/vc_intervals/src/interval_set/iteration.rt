@@ -1,0 +1,90 @@
+//! The intervals of a set, one after the other.
+ghost use Rattle.std.specs.Prelude.{◌≡◌, length};
+ghost use Rattle.std.specs.BTreeMap.Range.{range_contains};
+ghost use Rattle.std.specs.Iterator.{at_most};
+ghost use Rattle.std.specs.List.{list_any};
+ghost use Rattle.std.specs.Map.Iter.{ShowsInOrder, TakesFirst};
+ghost use Rattle.vc_intervals.specs.Turns.{holds};
+ghost use Rattle.vc_intervals.specs.Listed.{listed, shown_ends};
+
+use super::IntervalSet;
+use std::alloc::Allocator;
+use std::marker::Model;
+use std::ops::Bound;
+
+/// The intervals of a set in ascending order, each by its two ends. Contracts see the list of those
+/// that are left.
+///
+/// A step takes no memory.
+#[derive(Drop)]
+pub struct IntervalSetIter<'a, T> {
+    turns: &'a [T],
+    has_begun: bool,
+}
+
+impl<'a, T> Model for IntervalSetIter<'a, T> {
+    ghost use Rattle.std.specs.Prelude.{List};
+    ghost use Rattle.std.specs.declared.ops.Bound.{Bound};
+    ghost use Rattle.vc_intervals.specs.Listed.{begun_start, listed_from};
+
+    ghost Value = { List (Bound T × Bound T) };
+
+    ghost view = { λ s. listed_from (begun_start s.has_begun) s.turns.now };
+}
+
+impl<'a, T> Iterator for IntervalSetIter<'a, T> {
+    type Item = (Bound<&'a T>, Bound<&'a T>);
+
+    ghost next_gives = { TakesFirst shown_ends };
+
+    ghost remaining = { λ s. at_most (length s) };
+
+    fn next(&mut self) -> Option<(Bound<&'a T>, Bound<&'a T>)> {
+        let start = if self.has_begun {
+            self.has_begun = false;
+            Bound::Unbounded
+        } else {
+            let (first, rest) = self.turns.split_first()?;
+            self.turns = rest;
+            Bound::Included(first)
+        };
+        let Some((end, rest)) = self.turns.split_first() else {
+            return Some((start, Bound::Unbounded));
+        };
+        self.turns = rest;
+        Some((start, Bound::Excluded(end)))
+    }
+}
+
+impl<T: Ord, const N: usize, A: Allocator> IntervalSet<T, N, A> {
+    /// The intervals in ascending order, each by its start, which is included where there is one,
+    /// and its end, which is excluded. Takes no memory.
+    ///
+    /// ```
+    /// assert!(open.iter().next() == Some((Bound::Included(&9), Bound::Excluded(&12))));
+    /// ```
+    pub fn iter(&self) -> IntervalSetIter<'_, T>
+        ensures intervals { result ≡ listed self.now }
+        ensures holds { (x : T) → holds T.cmp self.now x
+            ≡ list_any (λ ends. range_contains T.cmp ends.0 ends.1 x) result }
+        ensures runs { ShowsInOrder (shown_ends {X = T}) }
+    {
+        IntervalSetIter {
+            turns: self.turns.as_slice(),
+            has_begun: self.below,
+        }
+    }
+}
+
+/// The intervals in ascending order. Takes no memory.
+impl<'a, T: Ord, const N: usize, A: Allocator> IntoIterator for &'a IntervalSet<T, N, A> {
+    type Item = (Bound<&'a T>, Bound<&'a T>);
+
+    type IntoIter = IntervalSetIter<'a, T>;
+
+    ghost into_iter_gives = { λ s it. (it ≡ listed s.now) × ShowsInOrder (shown_ends {X = T}) };
+
+    fn into_iter(self) -> IntervalSetIter<'a, T> {
+        self.iter()
+    }
+}

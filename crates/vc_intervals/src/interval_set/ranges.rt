@@ -1,0 +1,100 @@
+//! Sets of ranges that stand in any order.
+ghost use Rattle.std.specs.Prelude.{◌≡◌, ◌+◌, ◌≤◌, ◌-◌, ◌++◌, ◌∷◌, [], ◌||◌, true, false, length, slice_get, Some, IfOk, IsOk, IfSome, IfNone};
+ghost use Rattle.std.specs.List.Sorted.{IsPermutation, IsSortedByKey};
+ghost use Rattle.std.specs.Ordering.{is_lt};
+ghost use Rattle.smallvec.specs.SmallVec.{HasRoomFor, small_vec_len};
+ghost use Rattle.vc_intervals.specs.Turns.{turned, holds};
+ghost use Rattle.vc_intervals.specs.Ranges.{in_range, in_some, IsSwept};
+
+use super::IntervalSet;
+use smallvec::SmallVec;
+use std::alloc::{AllocError, Allocator};
+use std::default::MadeWith;
+use std::ops::Range;
+
+/// Sorts ranges by their starts, in their place.
+fn sort_by_start<T: Ord>(ranges: &mut Vec<Range<T>>)
+    ensures permutation { IsPermutation ranges.old.items ranges.new.items }
+    ensures len { length ranges.new.items ≡ length ranges.old.items }
+    ensures sorted { IsSortedByKey (λ range. range.start) T.cmp ranges.new.items }
+{
+    ranges.sort_unstable_by(|a, b| a.start.cmp(&b.start));
+}
+
+/// Takes the last turn out, unless it is less than `start`.
+fn pop_reached<T: Ord + MadeWith<A> + Drop, const N: usize, A: Allocator + Copy>(
+    turns: &mut SmallVec<T, N, A>,
+    start: &T,
+) -> Option<T>
+    ensures reached { IfSome result
+        (λ last. (turns.old.items ≡ turns.new.items ++ last ∷ [])
+        × (is_lt (T.cmp last start.now) ≡ false) × (turns.new.capacity ≡ turns.old.capacity)) }
+    ensures passed { IfNone result ((turns.new ≡ turns.old) × ((last : T)
+        → slice_get turns.old.items (length turns.old.items - 1) ≡ Some last
+        → is_lt (T.cmp last start.now) ≡ true)) }
+{
+    let is_reached = match turns.as_slice().last() {
+        Some(last) => !last.cmp(start).is_lt(),
+        None => false,
+    };
+    if is_reached { turns.pop() } else { None }
+}
+
+/// Adds a range that starts no earlier than those before it: it lengthens the last interval where
+/// it meets that one, and else is a new one.
+fn add_last<T: Ord + MadeWith<A> + Drop, const N: usize, A: Allocator + Copy>(
+    turns: &mut SmallVec<T, N, A>,
+    range: Range<T>,
+)
+    requires room { HasRoomFor turns.old 2 }
+    requires swept { IsSwept T.cmp range.start turns.old.items }
+    ensures swept { IsSwept T.cmp range.start turns.new.items }
+    ensures added { (x : T) → turned T.cmp false turns.new.items x
+        ≡ (in_range T.cmp range x || turned T.cmp false turns.old.items x) }
+    ensures capacity { turns.new.capacity ≡ turns.old.capacity }
+    ensures len { length turns.new.items ≤ length turns.old.items + 2 }
+{
+    if !range.start.cmp(&range.end).is_lt() {
+        return;
+    }
+    let Range { start, end } = range;
+    match pop_reached(turns, &start) {
+        Some(last) => turns.push_reserved(last.max(end)),
+        None => {
+            turns.push_reserved(start);
+            turns.push_reserved(end);
+        }
+    }
+}
+
+impl<T: Ord + MadeWith<A> + Drop, const N: usize, A: Allocator + Copy> IntervalSet<T, N, A> {
+    /// The values that lie in one of the ranges, which may stand in any order, overlap, or be
+    /// empty. Their ends are moved.
+    ///
+    /// Sorts the ranges by their starts in their place, and compares `O(n * log(n))` times. Takes
+    /// memory once, for two turns a range, where that is more than `N`; refused, it drops the
+    /// ranges.
+    ///
+    /// ```
+    /// let open = IntervalSet::<u16, 4>::from_ranges(alloc, vec![in alloc; 13..17, 9..12, 11..12]?)?;
+    /// assert!(open.turns() == [9, 12, 13, 17].as_slice());
+    /// ```
+    pub fn from_ranges(alloc: A, ranges: Vec<Range<T>>) -> Result<Self, AllocError>
+        ensures holds { IfOk result
+            (λ s. (x : T) → holds T.cmp s x ≡ in_some T.cmp ranges.items x) }
+        ensures below { IfOk result (λ s. s.below ≡ false) }
+        ensures room { length ranges.items + length ranges.items ≤ N → IsOk result }
+    {
+        let mut sorted = ranges;
+        sort_by_start(&mut sorted);
+        let room = sorted.len().checked_mul(2).ok_or(AllocError)?;
+        let mut turns = SmallVec::with_capacity(alloc, room)?;
+        for range in sorted {
+            add_last(&mut turns, range);
+        }
+        Ok(IntervalSet {
+            turns,
+            below: false,
+        })
+    }
+}

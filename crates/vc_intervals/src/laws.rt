@@ -1,0 +1,21 @@
+//! The laws of the definitions that contracts on interval sets cite.
+//!
+//! Each function does nothing: its contract is the law. Code that calls one has the law in its
+//! proof.
+ghost use Rattle.vc_intervals.specs.Laws.{MembersTellTheTurns, ListedIntervalsHold, IntervalsOfAreOne};
+
+/// Sets with the same members, and the same answer below all turns, have equal turns; and equal
+/// sets have the same members.
+pub fn members_tell_the_turns<T: Ord>()
+    ensures { MembersTellTheTurns T.cmp }
+{}
+
+/// A value is in a set exactly where it lies in one of the intervals that `iter` lists.
+pub fn listed_intervals_hold<T: Ord>()
+    ensures { ListedIntervalsHold T.cmp }
+{}
+
+/// What an operation makes of two interval sets is one set, up to equality of the turns.
+pub fn intervals_of_are_one<T: Ord + Clone>()
+    ensures { IntervalsOfAreOne T.cmp T.is_clone }
+{}
