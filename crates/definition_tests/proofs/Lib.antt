@@ -4,6 +4,7 @@ pub mod Letters
 pub mod Merges
 pub mod Sets
 pub mod Totals
+pub mod Intervals
 pub mod Joins
 pub mod JoinValues
 pub mod Maps

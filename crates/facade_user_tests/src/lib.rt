@@ -6,6 +6,7 @@ pub mod changes;
 pub mod combines;
 pub mod filters;
 pub mod generic;
+pub mod intervals;
 pub mod keys;
 pub mod ledgers;
 pub mod loading;

@@ -2,20 +2,20 @@
 #![tactic(auto)]
 
 ghost use Rattle.std.specs.Prelude.{◌≡◌, ◌||◌, ◌&&◌, IfOk, ℕ, leb, ltb};
-ghost use Rattle.users.specs.Points.{holds};
+ghost use Rattle.users.specs.Hours.{is_open};
 
 use std::alloc::{AllocError, Global};
 use std::io;
 use users::configuration::History;
 use users::counters::Counters;
-use users::intervals::Intervals;
+use users::hours::Hours;
 use users::paths::Files;
 use users::tags::{Found, Index};
 use vec_collections::path_filter::PathFilter;
 
 fn main(rt: HostRuntime) -> io::Result<()> {
     let alloc = rt.alloc();
-    show_intervals(&rt, alloc)?;
+    show_openings(&rt, alloc)?;
     show_tags(&rt, alloc)?;
     show_configuration(&rt, alloc)?;
     show_counters(&rt, alloc)?;
@@ -23,31 +23,31 @@ fn main(rt: HostRuntime) -> io::Result<()> {
 }
 
 /// The hours at which a bakery is open, or a bar.
-fn either_is_open(alloc: Global) -> Result<Intervals<4>, AllocError>
+fn either_is_open(alloc: Global) -> Result<Hours, AllocError>
     ensures { IfOk result (λ hours. (hour : ℕ)
-        → holds hours hour ≡ ((leb 6 hour && ltb hour 14) || (leb 12 hour && ltb hour 20))) }
+        → is_open hours hour ≡ ((leb 6 hour && ltb hour 14) || (leb 12 hour && ltb hour 20))) }
 {
-    let bakery = Intervals::between(alloc, 6, 14)?;
-    let bar = Intervals::between(alloc, 12, 20)?;
-    bakery.union(&bar)
+    let bakery = Hours::between(alloc, 6, 14)?;
+    let bar = Hours::between(alloc, 12, 20)?;
+    bakery.either(&bar)
 }
 
 /// Opening hours of two shops.
-fn show_intervals(rt: &impl Print, alloc: Global) -> io::Result<()> {
-    let bakery = Intervals::<4>::between(alloc, 6, 14)?;
-    let bar = Intervals::<4>::between(alloc, 12, 20)?;
+fn show_openings(rt: &impl Print, alloc: Global) -> io::Result<()> {
+    let bakery = Hours::between(alloc, 6, 14)?;
+    let bar = Hours::between(alloc, 12, 20)?;
     let either = either_is_open(alloc)?;
     show_hours(rt, "either is open", &either)?;
-    show_hours(rt, "both are open", &bakery.intersection(&bar)?)?;
-    show_hours(rt, "the bakery alone is open", &bakery.difference(&bar)?)?;
-    show_hours(rt, "only one is open", &bakery.xor(&bar)?)?;
-    show_hours(rt, "both are closed", &either.complement(alloc)?)
+    show_hours(rt, "both are open", &bakery.both(&bar)?)?;
+    show_hours(rt, "the bakery alone is open", &bakery.alone(&bar)?)?;
+    show_hours(rt, "only one is open", &bakery.only_one(&bar)?)?;
+    show_hours(rt, "both are closed", &either.closed())
 }
 
 /// The hours of a day that are in the set, as one mark each.
-fn show_hours(rt: &impl Print, what: &str, hours: &Intervals<4>) -> io::Result<()> {
+fn show_hours(rt: &impl Print, what: &str, hours: &Hours) -> io::Result<()> {
     for hour in 0..24 {
-        print!(rt; "{}", if hours.contains(hour) { '#' } else { '.' })?;
+        print!(rt; "{}", if hours.is_open(hour) { '#' } else { '.' })?;
     }
     println!(rt; " {what}")
 }

@@ -1,6 +1,6 @@
 pub mod Counts
 pub mod Files
+pub mod Hours
 pub mod Path
-pub mod Points
 pub mod Settings
 pub mod Tagged

@@ -4,6 +4,6 @@
 
 pub mod configuration;
 pub mod counters;
-pub mod intervals;
+pub mod hours;
 pub mod paths;
 pub mod tags;

@@ -1,5 +1,5 @@
 //! `IntervalSet`, a set of half-open intervals over an ordered type.
-ghost use Rattle.std.specs.Prelude.{◌≡◌, ◌≤◌, ◌↔◌, [], ◌∷◌, true, false, cond, IfOk, IsOk, IsTrue};
+ghost use Rattle.std.specs.Prelude.{◌≡◌, ◌≤◌, ◌↔◌, [], ◌∷◌, true, false, not, cond, IfOk, IsOk, IsTrue};
 ghost use Rattle.std.specs.BTreeMap.Range.{range_contains};
 ghost use Rattle.std.specs.Ordering.{is_lt};
 ghost use Rattle.std.specs.declared.ops.Bound.TheVariants.{Included, Excluded, Unbounded};
@@ -87,7 +87,7 @@ impl<T: Ord, const N: usize, A: Allocator> IntervalSet<T, N, A> {
     pub fn contains(&self, value: &T) -> bool
         ensures { result ≡ holds T.cmp self.now value.now }
     {
-        let reached = match find(self.turns.as_slice(), value) {
+        let reached = match find(self.turns(), value) {
             Ok(place) => place + 1,
             Err(place) => place,
         };
@@ -96,24 +96,28 @@ impl<T: Ord, const N: usize, A: Allocator> IntervalSet<T, N, A> {
 }
 
 impl<T: Ord + MadeWith<A> + Drop, const N: usize, A: Allocator + Copy> IntervalSet<T, N, A> {
+    /// The set of all values if `value`, and else that of none. Takes no memory.
+    pub fn constant(alloc: A, value: bool) -> Self
+        ensures { result ≡ intervals [] value }
+    {
+        IntervalSet {
+            turns: SmallVec::new(alloc),
+            below: value,
+        }
+    }
+
     /// The set of no value. Takes no memory.
     pub fn empty(alloc: A) -> Self
         ensures { result ≡ intervals [] false }
     {
-        IntervalSet {
-            turns: SmallVec::new(alloc),
-            below: false,
-        }
+        Self::constant(alloc, false)
     }
 
     /// The set of all values. Takes no memory.
     pub fn all(alloc: A) -> Self
         ensures { result ≡ intervals [] true }
     {
-        IntervalSet {
-            turns: SmallVec::new(alloc),
-            below: true,
-        }
+        Self::constant(alloc, true)
     }
 
     /// The values from `least` on that are less than `end`: none, where `end` is not greater.
@@ -147,10 +151,10 @@ impl<T: Ord + MadeWith<A> + Drop, const N: usize, A: Allocator + Copy> IntervalS
             → holds T.cmp s x ≡ range_contains T.cmp (Included least) Unbounded x) }
         ensures room { 1 ≤ N → IsOk result }
     {
-        let mut turns = SmallVec::new(alloc);
-        turns.push(least)?;
+        let mut single = SmallVec::new(alloc);
+        single.push(least)?;
         Ok(IntervalSet {
-            turns,
+            turns: single,
             below: false,
         })
     }
@@ -177,7 +181,7 @@ impl<T: Ord + Clone + MadeWith<A>, const N: usize, A: Allocator + Copy> Interval
         ensures { IfOk result (IsClonedIntervals T.is_clone self.now) }
     {
         Ok(IntervalSet {
-            turns: clones_of(*self.turns.allocator(), self.turns.as_slice())?,
+            turns: clones_of(*self.turns.allocator(), self.turns())?,
             below: self.below,
         })
     }
@@ -208,7 +212,8 @@ impl<T: Ord + MadeWith<A> + Drop, const N: usize, A: Allocator + Copy> MadeWith<
 impl<T: Ord, const N: usize, A: Allocator> Not for IntervalSet<T, N, A> {
     type Output = IntervalSet<T, N, A>;
 
-    ghost not_gives = { λ s r. r ≡ complement s };
+    ghost not_gives = { λ s r. (r ≡ complement s)
+        × ((x : T) → holds T.cmp r x ≡ not (holds T.cmp s x)) };
 
     fn not(self) -> IntervalSet<T, N, A> {
         IntervalSet {

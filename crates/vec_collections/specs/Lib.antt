@@ -4,6 +4,11 @@ pub mod Pointwise
 pub use Rattle.vc_btree_maps.specs.Keeping
 pub use Rattle.vc_btree_maps.specs.KeepingValues
 pub use Rattle.vc_btree_maps.specs.Pairs
+pub use Rattle.vc_intervals.specs.IntervalsOf
+pub use Rattle.vc_intervals.specs.Laws as IntervalLaws
+pub use Rattle.vc_intervals.specs.Listed
+pub use Rattle.vc_intervals.specs.Ranges
+pub use Rattle.vc_intervals.specs.Turns
 pub use Rattle.vc_joins.specs.Answers
 pub use Rattle.vc_joins.specs.Entries
 pub use Rattle.vc_joins.specs.InPlace as JoinInPlace

@@ -1,9 +1,9 @@
 //! Small sorted sets, radix trees that are always canonical, and filters of paths.
 //!
 //! Every name that a user writes comes from this crate: it exports the modules `merge`,
-//! `iterators`, `vec_set`, `vec_map`, `total_vec_set`, `total_vec_map`, `btree_map`, `radix_tree`,
-//! `path_filter`, `macros` and `laws` of the crates below it, and the items of `vec_set` and
-//! `vec_map` also at its root. A user's line of `crates.txt` lists those crates too, since
+//! `iterators`, `vec_set`, `vec_map`, `total_vec_set`, `total_vec_map`, `interval_set`, `btree_map`,
+//! `radix_tree`, `path_filter`, `macros` and `laws` of the crates below it, and the items of
+//! `vec_set` and `vec_map` also at its root. A user's line of `crates.txt` lists those crates too, since
 //! operators and loops on references to their types are found only where they are listed.
 #![tactic(auto)]
 
@@ -52,6 +52,11 @@ pub mod total_vec_set {
     pub use vc_total_sets::total_vec_set::{TotalVecSet, TotalVecSet2};
 }
 
+/// Sets of half-open intervals over an ordered type.
+pub mod interval_set {
+    pub use vc_intervals::interval_set::{IntervalSet, IntervalSetIter};
+}
+
 /// Maps with a value at every key.
 pub mod total_vec_map {
     pub use vc_total_maps::total_vec_map::{TotalVecMap, TotalVecMap1};
@@ -82,6 +87,9 @@ pub mod path_filter {
 /// The laws of the words that contracts cite. Each function does nothing: code that calls one has
 /// its law in the proof.
 pub mod laws {
+    pub use vc_intervals::laws::{
+        intervals_of_are_one, listed_intervals_hold, members_tell_the_turns,
+    };
     pub use vc_joins::answers::{AskInner, AskLeft, AskOuter, AskRight, Question};
     pub use vc_joins::laws::{joins_of_functions, kinds_are_as_named};
     pub use vc_merge::laws::{

@@ -13,6 +13,7 @@ ghost use Rattle.vec_collections.specs.Chain.{allows, IsMerged};
 ghost use Rattle.vec_collections.specs.Commanded.{command_of};
 ghost use Rattle.vec_collections.specs.Entries.{value_at};
 ghost use Rattle.vec_collections.specs.Iterating.{Shows};
+ghost use Rattle.vec_collections.specs.Listed.{listed};
 ghost use Rattle.vec_collections.specs.Join.{IsJoin, MovedKey};
 ghost use Rattle.vec_collections.specs.Keeping.{MayLeaveShared};
 ghost use Rattle.vec_collections.specs.Machine.{Run};
@@ -23,6 +24,7 @@ ghost use Rattle.vec_collections.specs.Value.{Copies};
 ghost use Rattle.vc_merge.specs.Showing.{ShowsItems};
 
 use crate::btree_map::{AbstractBTreeMap, InPlaceRelationalOps};
+use crate::interval_set::{IntervalSet, IntervalSetIter};
 use crate::iterators::{
     SortedByItem, SortedByKey, VecMapIter, VecSetIter, ascends, ascends_by_key,
 };
@@ -43,6 +45,13 @@ pub fn do_ascend(list: &[u32], pairs: &[(u32, u32)]) -> (bool, bool)
     ensures pairs { IsTrue result.1 ↔ Ascends nat_cmp (keys_of pairs.now) }
 {
     (ascends(list), ascends_by_key(pairs))
+}
+
+/// The intervals of a set of numbers.
+pub fn intervals_of(numbers: &IntervalSet<u32, 4>) -> IntervalSetIter<'_, u32>
+    ensures { result ≡ listed numbers.now }
+{
+    numbers.iter()
 }
 
 /// Merges two lists.
