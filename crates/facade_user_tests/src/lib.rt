@@ -15,6 +15,7 @@ pub mod nested;
 pub mod one_tree;
 pub mod overlays;
 pub mod sets;
+pub mod settings;
 pub mod totals;
 pub mod trees;
 pub mod walks;

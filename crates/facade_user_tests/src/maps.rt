@@ -3,7 +3,7 @@ ghost use Rattle.std.specs.Prelude.{◌≡◌, ◌==◌, ◌-◌, ◌↔◌, [],
 ghost use Rattle.std.specs.BTreeMap.Range.{entries_between};
 ghost use Rattle.std.specs.Map.{keys_of, lookup, values_of};
 ghost use Rattle.std.specs.String.{string_cmp};
-ghost use Rattle.std.specs.Option.{option_cmp, option_copied};
+ghost use Rattle.std.specs.Option.{option_cmp, option_copied, option_or};
 ghost use Rattle.std.specs.Ordering.{eq_by_cmp, nat_cmp};
 ghost use Rattle.std.specs.declared.ops.Bound.TheVariants.{Included, Excluded};
 ghost use Rattle.vec_collections.specs.Entries.{value_at};
@@ -187,6 +187,33 @@ pub fn sell_out(stock: &mut Stock)
     ensures { stock.new ≡ [] }
 {
     stock.clear();
+}
+
+/// The price of each article: that of today where there is one, else that of the list.
+pub fn of_today(alloc: Global, list: &Stock, today: &Stock) -> Result<Stock, AllocError>
+    ensures { IfOk result (λ prices. (k : ℕ) → value_at nat_cmp prices k
+        ≡ in_either (λ listed new. option_or new listed) (value_at nat_cmp list.now k)
+        (value_at nat_cmp today.now k)) }
+{
+    outer_join(
+        alloc,
+        list,
+        today,
+        |at: OuterJoinArg<&u32, &u32, &u32>| -> Result<Option<u32>, AllocError> {
+            Ok(match at {
+                OuterJoinArg::Left(_, price) => Some(*price),
+                OuterJoinArg::Right(_, price) | OuterJoinArg::Both(_, _, price) => Some(*price),
+            })
+        },
+    )
+}
+
+/// Lets the prices of today stand in the place of those of the list.
+pub fn renew_prices(list: &mut Stock, today: Stock) -> Result<(), AllocError>
+    ensures { OnOk result ((k : ℕ) → value_at nat_cmp list.new k
+        ≡ option_or (value_at nat_cmp today k) (value_at nat_cmp list.old k)) }
+{
+    list.merge_with(today)
 }
 
 /// Takes a delivery in.

@@ -1,5 +1,5 @@
 //! Sets from outside: each call, operator and iteration, with what a user says of it.
-ghost use Rattle.std.specs.Prelude.{◌≡◌, ◌==◌, ◌||◌, ◌&&◌, ◌↔◌, ◌≤◌, ◌-◌, ◌%◌, not, IfOk, IfSome, IsNone, OnOk, OnErr, IsOk, IsTrue, Some, [], ◌∷◌, ℕ, false, length, count_by, drop, filter, nat_le, reverse, slice_get, take};
+ghost use Rattle.std.specs.Prelude.{◌≡◌, ◌==◌, ◌||◌, ◌&&◌, ◌↔◌, ◌≤◌, ◌-◌, ◌<◌, ◌^◌, ◌%◌, not, IfOk, IfSome, IsNone, OnOk, OnErr, IsOk, IsTrue, Some, [], ◌∷◌, ℕ, false, length, count_by, drop, filter, nat_le, reverse, slice_get, sum, take};
 ghost use Rattle.std.specs.BTreeMap.Range.{range_contains};
 ghost use Rattle.std.specs.Option.{option_copied};
 ghost use Rattle.std.specs.Ordering.{nat_cmp};
@@ -315,6 +315,14 @@ pub fn keep_even(tags: &mut Tags)
     ensures { tags.new ≡ filter (λ tag. tag % 2 == 0) tags.old }
 {
     tags.retain(is_even);
+}
+
+/// The sum of all tags.
+pub fn sum_of(tags: &Tags) -> u64
+    requires { sum tags.now < 2 ^ 64 }
+    ensures { result ≡ sum tags.now }
+{
+    tags.iter().map(|tag| u64::from(*tag)).sum()
 }
 
 /// How many tags are odd, by a loop.
