@@ -70,7 +70,8 @@ pub fn begin<
     ensures refused { C.counted steps.new
         ≤ C.counted steps.old + bound (length a.now) (length b.now) }
 {
-    if !is_worth_a_block(a.len(), b.len()) {
+    let is_union = LEFT && RIGHT && BOTH;
+    if !is_worth_a_block(a.len(), b.len(), is_union) {
         return Ok((a, b));
     }
     let mut a = a;
@@ -123,15 +124,17 @@ pub fn begin_left<
 }
 
 /// Whether lists of these lengths are walked along, long enough to be worth a block, and so alike
-/// that the order of two heads cannot be guessed.
+/// that the order of two heads cannot be guessed. A block of a union, which stores no references,
+/// is worth it for two elements.
 #[inline(always)]
-fn is_worth_a_block(left: usize, right: usize) -> bool
+fn is_worth_a_block(left: usize, right: usize, is_union: bool) -> bool
     ensures walked { IsTrue result → bound left right ≡ left + right }
     ensures some { IsTrue result → 0 < left }
 {
     let shorter = left.min(right);
     let longer = left.max(right);
-    longer >= 8 && longer / 4 < shorter && is_walk_shorter(left, right)
+    let least = if is_union { 2 } else { 8 };
+    longer >= least && longer / 4 < shorter && is_walk_shorter(left, right)
 }
 
 /// What the blocks count that came from one list alone, with one that took so much of each list.
