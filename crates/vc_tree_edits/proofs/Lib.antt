@@ -4,3 +4,5 @@ pub mod Stepping
 pub mod Sifting
 pub mod Prepended
 pub mod Meeting
+pub mod Leaving
+pub mod Advancing

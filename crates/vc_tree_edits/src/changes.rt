@@ -12,7 +12,7 @@ ghost use Rattle.vc_tree_edits.specs.Editing.{MayLeave, CanLeave, KeptThen, CanM
 ghost use Rattle.vc_tree_edits.specs.Saying.{sifted_kept, outer_kept, met_kept, meet_kept};
 
 use crate::engine::Change;
-use crate::rows::Sifted;
+use crate::lessening::Lessen;
 use std::alloc::{AllocError, Global};
 use vc_builder::inplace::InPlace;
 use vc_tree_nodes::building::{Build, Seal};
@@ -77,17 +77,8 @@ impl<'f, F> Sift<'f, F> {
     }
 }
 
-impl<
-    'f,
-    K: TKey,
-    V: TValue,
-    W: TValue,
-    B: RadixNode<K, W>,
-    T: Build<K, V>,
-    F: Fn(&W) -> bool,
-> Change<K, V, W, B, T> for Sift<'f, F> {
-    type Row = Sifted<T>;
-
+impl<'f, K: TKey, V: TValue, W: TValue, T: Build<K, V>, F: Fn(&W) -> bool> Lessen<K, V, W, T>
+    for Sift<'f, F> {
     ghost look = { λ cmp. covers cmp };
 
     ghost says = { λ op.
@@ -95,7 +86,7 @@ impl<
 
     ghost asks = { λ op v w. CanJudge F.Fn op.judge.now w };
 
-    ghost says_none = { λ op. refl };
+    ghost says_nothing = { λ op w. refl };
 
     ghost asks_none = { λ op. tt };
 
@@ -105,17 +96,17 @@ impl<
     ghost asks_kept = { λ op u v w k a. a };
 
     #[tactic(auto, using(crate::proofs::Sifting::value_stays, crate::proofs::Sifting::value_goes, crate::proofs::Sifting::sifted_below, crate::proofs::Sifting::asked_below))]
-    fn at_values(&self, v: Option<V>, w: Option<&W>) -> Result<(Option<V>, Sift<'f, F>), AllocError>
+    fn at_values(&self, v: Option<V>, w: Option<&W>) -> (Option<V>, Sift<'f, F>)
         requires { CanJudge F.Fn self.now.judge.now (option_copied w) }
-        ensures value { IfOk result (λ r. IsSiftedBy T.keeps (MayJudge F.Fn self.now.judge.now)
-            self.now.covered (stays_by self.now.retains) v (option_copied w.entry) r.0) }
-        ensures below { IfOk result (λ r. (u : Option V) (o : Option W) (z : Option V)
-            → IsSiftedBy T.keeps (MayJudge F.Fn r.1.judge.now) r.1.covered (stays_by r.1.retains) u
-            o z → IsSiftedBy T.keeps (MayJudge F.Fn self.now.judge.now) self.now.covered
-            (stays_by self.now.retains) u (or_else o (option_copied w.entry)) z) }
-        ensures asked { IfOk result (λ r. (u : Option V) (o : Option W)
+        ensures value { IsSiftedBy T.keeps (MayJudge F.Fn self.now.judge.now) self.now.covered
+            (stays_by self.now.retains) v (option_copied w.entry) result.0 }
+        ensures below { (u : Option V) (o : Option W) (z : Option V) → IsSiftedBy T.keeps
+            (MayJudge F.Fn result.1.judge.now) result.1.covered (stays_by result.1.retains) u o z
+            → IsSiftedBy T.keeps (MayJudge F.Fn self.now.judge.now) self.now.covered
+            (stays_by self.now.retains) u (or_else o (option_copied w.entry)) z }
+        ensures asked { (u : Option V) (o : Option W)
             → CanJudge F.Fn self.now.judge.now (or_else o (option_copied w.entry))
-            → CanJudge F.Fn r.1.judge.now o) }
+            → CanJudge F.Fn result.1.judge.now o }
     {
         let below = Sift {
             judge: self.judge,
@@ -123,18 +114,11 @@ impl<
             retains: self.retains,
         };
         let kept = if below.stays() { v } else { None };
-        Ok((kept, below))
+        (kept, below)
     }
 
-    fn left_alone(&self, alloc: Global, tree: T, from: usize) -> Result<Option<T>, AllocError> {
-        if !self.stays() {
-            return Ok(None);
-        }
-        Ok(Some(shorten(alloc, tree, from)?))
-    }
-
-    fn right_alone(&self, alloc: Global, tree: &B, from: usize) -> Result<Option<T>, AllocError> {
-        Ok(None)
+    fn left_stays(&self) -> bool {
+        self.stays()
     }
 }
 
@@ -283,22 +267,15 @@ pub struct KeepLeft<'m, M> {
     pub left_stays: bool,
 }
 
-impl<'m, K: TKey, V: TValue, W: TValue, B: RadixNode<K, W>, T: Build<K, V>, M: Meet<V, W>> Change<
-    K,
-    V,
-    W,
-    B,
-    T,
-> for KeepLeft<'m, M> {
-    type Row = Sifted<T>;
-
+impl<'m, K: TKey, V: TValue, W: TValue, T: Build<K, V>, M: Meet<V, W>> Lessen<K, V, W, T>
+    for KeepLeft<'m, M> {
     ghost look = { λ cmp. values cmp };
 
     ghost says = { λ op. IsMetAt T.keeps op.left_stays (KeptThen T.keeps (M.may op.at.now)) };
 
     ghost asks = { λ op. CanMeet T.keeps (M.takes op.at.now) };
 
-    ghost says_none = { λ op. refl };
+    ghost says_nothing = { λ op w. refl };
 
     ghost asks_none = { λ op. tt };
 
@@ -307,20 +284,15 @@ impl<'m, K: TKey, V: TValue, W: TValue, B: RadixNode<K, W>, T: Build<K, V>, M: M
     ghost asks_kept = { λ op. meet_kept T.keeps T.keeps_trans (M.takes op.at.now) };
 
     #[tactic(auto, using(crate::proofs::Meeting::alone_met, crate::proofs::Meeting::alone_gone))]
-    fn at_values(
-        &self,
-        v: Option<V>,
-        w: Option<&W>,
-    ) -> Result<(Option<V>, KeepLeft<'m, M>), AllocError>
+    fn at_values(&self, v: Option<V>, w: Option<&W>) -> (Option<V>, KeepLeft<'m, M>)
         requires { CanMeet T.keeps (M.takes self.now.at.now) v (option_copied w) }
-        ensures value { IfOk result (λ r. IsMetAt T.keeps self.now.left_stays
-            (KeptThen T.keeps (M.may self.now.at.now)) v (option_copied w.entry) r.0) }
-        ensures below { IfOk result (λ r. (u : Option V) (o : Option W) (z : Option V)
-            → IsMetAt T.keeps r.1.left_stays (KeptThen T.keeps (M.may r.1.at.now)) u o z
-            → IsMetAt T.keeps self.now.left_stays (KeptThen T.keeps (M.may self.now.at.now)) u o z) }
-        ensures asked { IfOk result (λ r. (u : Option V) (o : Option W)
-            → CanMeet T.keeps (M.takes self.now.at.now) u o
-            → CanMeet T.keeps (M.takes r.1.at.now) u o) }
+        ensures value { IsMetAt T.keeps self.now.left_stays
+            (KeptThen T.keeps (M.may self.now.at.now)) v (option_copied w.entry) result.0 }
+        ensures below { (u : Option V) (o : Option W) (z : Option V)
+            → IsMetAt T.keeps result.1.left_stays (KeptThen T.keeps (M.may result.1.at.now)) u o z
+            → IsMetAt T.keeps self.now.left_stays (KeptThen T.keeps (M.may self.now.at.now)) u o z }
+        ensures asked { (u : Option V) (o : Option W) → CanMeet T.keeps (M.takes self.now.at.now) u o
+            → CanMeet T.keeps (M.takes result.1.at.now) u o }
     {
         let kept = match v {
             Some(v) => match w {
@@ -333,17 +305,10 @@ impl<'m, K: TKey, V: TValue, W: TValue, B: RadixNode<K, W>, T: Build<K, V>, M: M
             at: self.at,
             left_stays: self.left_stays,
         };
-        Ok((kept, below))
+        (kept, below)
     }
 
-    fn left_alone(&self, alloc: Global, tree: T, from: usize) -> Result<Option<T>, AllocError> {
-        if !self.left_stays {
-            return Ok(None);
-        }
-        Ok(Some(shorten(alloc, tree, from)?))
-    }
-
-    fn right_alone(&self, alloc: Global, tree: &B, from: usize) -> Result<Option<T>, AllocError> {
-        Ok(None)
+    fn left_stays(&self) -> bool {
+        self.left_stays
     }
 }

@@ -10,6 +10,7 @@ ghost use Rattle.vc_tree_edits.specs.Editing.{MayLeave, CanLeave, KeptThen, CanM
 
 use crate::changes::{Asked, AskedAlike, Goes, KeepAll, KeepLeft, Sift, Stays};
 use crate::engine::{Change, change_at};
+use crate::lessening::{Lessen, lessen_at};
 use std::alloc::AllocError;
 use std::mem;
 use vc_tree_nodes::building::{Build, Seal};
@@ -42,6 +43,30 @@ fn change<
     Ok(())
 }
 
+/// Changes a whole tree into which nothing comes. It is taken out, and the empty one stands in its
+/// place until the change has ended.
+fn lessen<K: TKey, V: TValue, W: TValue, B: RadixNode<K, W>, T: Build<K, V>, O: Lessen<K, V, W, T>>(
+    tree: &mut T,
+    that: &B,
+    op: &O,
+) -> Result<(), AllocError>
+    requires asks { (k : List K) → O.asks op.now (lookup K.cmp (T.tree tree.old) k)
+        ((O.look K.cmp).of_tree (B.tree that.now) k) }
+    ensures ok { OnOk result ((k : List K) → O.says op.now (lookup K.cmp (T.tree tree.old) k)
+        ((O.look K.cmp).of_tree (B.tree that.now) k) (lookup K.cmp (T.tree tree.new) k)) }
+    ensures err { OnErr result (T.tree tree.new ≡ no_tree) }
+    ensures canonical { IsCanonical K.cmp (T.tree tree.new) }
+{
+    let alloc = tree.allocator();
+    let mut whole = mem::replace(tree, T::blank(alloc, Seal::new()));
+    canonical(tree);
+    if lessen_at(alloc, &mut whole, 0, that, 0, 0, op)? {
+        canonical(&whole);
+        *tree = whole;
+    }
+    Ok(())
+}
+
 /// Removes each key that the other tree covers: of its keys that are prefixes of a key the longest
 /// decides, by what the closure answers at its value. The closure is asked once at each key of the
 /// other tree that is met.
@@ -65,7 +90,7 @@ pub fn remove_prefix_with<
         covered: false,
         retains: false,
     };
-    change(tree, that, &op)
+    lessen(tree, that, &op)
 }
 
 /// Keeps exactly the keys that the other tree covers.
@@ -89,7 +114,7 @@ pub fn retain_prefix_with<
         covered: false,
         retains: true,
     };
-    change(tree, that, &op)
+    lessen(tree, that, &op)
 }
 
 /// Keeps the shared keys at which the closure, which may write to the value, answers true.
@@ -113,7 +138,7 @@ pub fn inner_combine_with<
         at: &Asked(f),
         left_stays: false,
     };
-    change(tree, that, &op)
+    lessen(tree, that, &op)
 }
 
 /// Keeps the keys of the tree, but the shared ones at which the closure, which may write to the
@@ -139,7 +164,7 @@ pub fn left_combine_with<
         at: &Asked(f),
         left_stays: true,
     };
-    change(tree, that, &op)
+    lessen(tree, that, &op)
 }
 
 /// Adds the keys of the other tree that this one has not, with clones of their values.
@@ -172,7 +197,7 @@ pub fn intersection_with<K: TKey, V: TValue, W: TValue, B: RadixNode<K, W>, T: B
         at: &Stays,
         left_stays: false,
     };
-    change(tree, that, &op)
+    lessen(tree, that, &op)
 }
 
 /// Keeps the keys that the other tree has not.
@@ -190,7 +215,7 @@ pub fn difference_with<K: TKey, V: TValue, W: TValue, B: RadixNode<K, W>, T: Bui
         at: &Goes,
         left_stays: true,
     };
-    change(tree, that, &op)
+    lessen(tree, that, &op)
 }
 
 /// Keeps the keys of both: a value of one side alone stays, or comes in as a clone, and at a shared

@@ -6,5 +6,6 @@
 mod changes;
 pub mod combining;
 pub mod engine;
+pub mod lessening;
 pub mod prepending;
 mod rows;

@@ -38,7 +38,7 @@ module _ {K : Type 0} (cmp : K → K → Ordering) where
       rw h.children (opened-children cmp t (take n t.prefix) (drop n t.prefix) (sym (take-append-drop n t.prefix)) c)
 
   -- a node at the front where both prefixes agree begins as they do
-  front-begins : {U : Type 0} (o : IsTotalOrder cmp) (n : ℕ) (p q : List K) (v : Option U) (f : Forest K U) (y z : K)
+  pub front-begins : {U : Type 0} (o : IsTotalOrder cmp) (n : ℕ) (p q : List K) (v : Option U) (f : Forest K U) (y z : K)
       → slice_get p 0 ≡ Some y → slice_get q 0 ≡ Some z → cmp y z ≡ Equal → Parts cmp (drop n p) (drop n q)
       → BeginsWith cmp y (solid_child (take n p) v f)
   front-begins o n [] q v f y z e d t w = absurd (cc)

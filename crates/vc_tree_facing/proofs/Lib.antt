@@ -7,3 +7,5 @@ pub mod Paying
 pub mod Next
 pub mod Ending
 pub mod Copied
+pub mod Seeking
+pub mod Deciding

@@ -78,12 +78,12 @@ module _ {K V W U O A B : Type 0} (cmp : K → K → Ordering) (ta : A → Tree 
     (ls : List A) (rs : List B) (all : List Side) (made : List (Tree K U)) (spent budget : ℕ)
     (d : IsDoing cmp ta tb i j l R asks xs ys ls rs all made spent budget) where
   -- what holds of all trees of a side, holds of the next one
-  left-head : (P : A → Type 0) (x : A) (ls' : List A) → ls ≡ x ∷ ls' → AllByRecursion P xs → P x
+  pub left-head : (P : A → Type 0) (x : A) (ls' : List A) → ls ≡ x ∷ ls' → AllByRecursion P xs → P x
   left-head P x ls' e a =
       (subst (AllByRecursion P) (sym d.left ∙ e)
       (left-rest P (map (λ d. d.0) d.done) d.rest (subst (AllByRecursion P) (sym d.script.left) a))).0
 
-  right-head : (P : B → Type 0) (y : B) (rs' : List B) → rs ≡ y ∷ rs' → AllByRecursion P ys → P y
+  pub right-head : (P : B → Type 0) (y : B) (rs' : List B) → rs ≡ y ∷ rs' → AllByRecursion P ys → P y
   right-head P y rs' e a =
       (subst (AllByRecursion P) (sym d.right ∙ e)
       (right-rest P (map (λ d. d.0) d.done) d.rest (subst (AllByRecursion P) (sym d.script.right) a))).0

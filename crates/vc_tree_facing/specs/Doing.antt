@@ -41,3 +41,10 @@ module _ {K V W A B : Type 0} (cmp : K → K → Ordering) (ta : A → Tree K V)
     pub made_are : made ≡ filter_map (λ d. d.1) done
     pub asked : AllByRecursion (IsAskedAt l asks) rest
     pub paid : spent + owed rest ≤ budget
+
+  -- some events are done, and have made these trees, and the others are left
+  pub record IsGoingOn {U O : Type 0} (l : Look cmp W O) (R : Option V → O → Option U → Type 0) (asks : Option V → O → Type 0)
+      (xs : List A) (ys : List B) (ls : List A) (rs : List B) (made : List (Tree K U)) : Type 0 where
+    pub todo : List Side
+    pub budget : ℕ
+    pub doing : IsDoing l R asks xs ys ls rs todo made 0 budget

@@ -2,3 +2,4 @@ pub mod Sides
 pub mod Facing
 pub mod Made
 pub mod Doing
+pub mod Seeking

@@ -1,16 +1,19 @@
 //! Two trees side by side: where their prefixes part, and what stands below.
 
-ghost use Rattle.std.specs.Prelude.{◌≡◌, ◌+◌, ◌≤◌, ◌<◌, ◌∷◌, min, length, drop, slice_get, IfOk};
-ghost use Rattle.std.specs.Option.{option_to_list};
+ghost use Rattle.std.specs.Prelude.{◌≡◌, ◌+◌, ◌≤◌, ◌<◌, true, [], ◌∷◌, min, length, drop, slice_get, IfOk};
+ghost use Rattle.std.specs.Option.{option_copied, option_to_list};
 ghost use Rattle.vc_tree_model.specs.Canonical.{IsCanonical};
 ghost use Rattle.vc_tree_model.specs.Shortened.{weight, forest_weight};
 ghost use Rattle.vc_tree_model.specs.Tree.{shortened};
 ghost use Rattle.vc_tree_nodes.specs.Parting.{Agree};
+ghost use Rattle.vc_tree_nodes.specs.Places.{first_side};
 ghost use Rattle.vc_tree_facing.specs.Facing.{trees_below, Parts, IsBelow, IsOpened, IsFaced};
+ghost use Rattle.vc_tree_facing.specs.Seeking.{IsSought};
 ghost use Rattle.vc_tree_facing.specs.Sides.{by_component, IsListed};
 
 use crate::sides::{ByPrefix, Itself, Sides, list_sides};
 use std::alloc::{AllocError, Global};
+use std::cmp::Ordering;
 use vc_merge::merge::Count;
 use vc_tree_nodes::parting::{Parting, find_parting};
 use vc_tree_nodes::reading::{RadixNode, TKey, TValue};
@@ -25,6 +28,13 @@ pub struct Below<'a, T> {
 }
 
 impl<'a, T> Below<'a, T> {
+    /// Whether none is left.
+    pub fn is_empty(&self) -> bool
+        ensures { result ≡ true → trees_below self.now ≡ [] }
+    {
+        self.whole.is_none() && self.children.is_empty()
+    }
+
     /// Takes the first of the trees.
     pub fn next(&mut self) -> &'a T
         requires { 0 < length (trees_below self.old) }
@@ -40,8 +50,66 @@ impl<'a, T> Below<'a, T> {
     }
 }
 
+/// How a tree stands to a component by the one at a place of its prefix.
+fn side_of<K: TKey, V: TValue, T: RadixNode<K, V>>(
+    tree: &T,
+    place: usize,
+    component: &K,
+) -> Ordering
+    ensures { result ≡ first_side K.cmp component.now (slice_get (T.tree tree.now).prefix place) }
+{
+    match tree.prefix().get(place) {
+        Some(own) => own.cmp(component),
+        None => Ordering::Less,
+    }
+}
+
+/// Passes the trees that go on at a place with a lesser component than this one, and takes the next
+/// one where it goes on with an equal one. Answers that one, and the trees that are left.
+fn seek_in<'a, K: TKey, V: TValue, T: RadixNode<K, V>>(
+    trees: &'a [T],
+    place: usize,
+    component: &K,
+) -> (Option<&'a T>, &'a [T])
+    ensures { IsSought K.cmp T.tree place component.now trees.now (option_copied result.0)
+        result.1.now }
+{
+    let mut rest = trees;
+    while let Some((tree, others)) = rest.split_first() {
+        match side_of(tree, place, component) {
+            Ordering::Less => rest = others,
+            Ordering::Equal => return (Some(tree), others),
+            Ordering::Greater => return (None, rest),
+        }
+    }
+    (None, rest)
+}
+
+/// Passes the trees that go on with a lesser component than this one, and takes the next one where
+/// it goes on with an equal one. Compares once with each tree that it passes or takes, and once
+/// with the one before which it stops.
+pub fn seek<'a, K: TKey, V: TValue, T: RadixNode<K, V>>(
+    below: &mut Below<'a, T>,
+    component: &K,
+) -> Option<&'a T>
+    ensures sought { IsSought K.cmp T.tree below.old.from component.now (trees_below below.old)
+        (option_copied result) (trees_below below.new) }
+    ensures from { below.new.from ≡ below.old.from }
+{
+    if let Some(tree) = below.whole {
+        match side_of(tree, below.from, component) {
+            Ordering::Less => below.whole = None,
+            Ordering::Equal => return below.whole.take(),
+            Ordering::Greater => return None,
+        }
+    }
+    let (found, rest) = seek_in(below.children, below.from, component);
+    below.children = rest;
+    found
+}
+
 /// What stands in a tree below the first `place` components of its prefix.
-fn below_place<'a, K: TKey, V: TValue, T: RadixNode<K, V>>(
+pub fn below_place<'a, K: TKey, V: TValue, T: RadixNode<K, V>>(
     tree: &'a T,
     place: usize,
 ) -> Below<'a, T>
@@ -81,7 +149,7 @@ pub struct Facing<'a, 'b, A, B> {
 }
 
 /// For how many components two prefixes agree, of which the first `known` do.
-fn common_front<K: Ord, C: Count>(p: &[K], q: &[K], known: usize, steps: &mut C) -> usize
+pub fn common_front<K: Ord, C: Count>(p: &[K], q: &[K], known: usize, steps: &mut C) -> usize
     requires { Agree K.cmp p.now q.now known }
     ensures agree { Agree K.cmp p.now q.now result }
     ensures parts { Parts K.cmp (drop result p.now) (drop result q.now) }

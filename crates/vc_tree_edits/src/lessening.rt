@@ -1,0 +1,417 @@
+//! The recursion of the changes of a tree into which nothing comes, in place.
+
+ghost use Rattle.std.specs.Prelude.{◌≡◌, ◌+◌, ◌<◌, ◌≤◌, ◌++◌, ◌∷◌, true, false, List, [], Option, Some, None, IfOk, MatchBool, drop, take, length, slice_get, get_or, option_map};
+ghost use Rattle.std.specs.List.{cons_option};
+ghost use Rattle.std.specs.Option.{is_none, option_copied};
+ghost use Rattle.std.specs.declared.cmp.Ordering.{Ordering};
+ghost use Rattle.vc_tree_model.specs.Tree.{shortened};
+ghost use Rattle.vc_tree_model.specs.Map.{lookup, lookup_in};
+ghost use Rattle.vc_tree_model.specs.Value.{IsKept};
+ghost use Rattle.vc_tree_model.specs.Look.{Look};
+ghost use Rattle.vc_tree_model.specs.Canonical.{AreChildren, IsCanonical};
+ghost use Rattle.vc_tree_model.specs.Child.{solid_child};
+ghost use Rattle.vc_tree_nodes.specs.Children.{listed, seen};
+ghost use Rattle.vc_tree_nodes.specs.Parting.{Agree};
+ghost use Rattle.vc_tree_facing.specs.Facing.{trees_below, shortened_in, Parts as PartAtOnce};
+ghost use Rattle.vc_tree_facing.specs.Seeking.{IsSought};
+ghost use Rattle.vc_tree_edits.specs.Lessening.{IsLessened, IsInside, IsNodeLeft, IsLessenedUnder, IsLessenedIn, AreKids, alone};
+
+use std::alloc::{AllocError, Global};
+use std::mem;
+use vc_merge::states::Uncounted;
+use vc_tree_facing::facing::{Below, below_place, common_front, seek};
+use vc_tree_facing::nodes::value_at;
+use vc_tree_nodes::building::{Build, Seal};
+use vc_tree_nodes::children::{ChildList, Fragment, Parts};
+use vc_tree_nodes::making::new_joined;
+use vc_tree_nodes::reading::{RadixNode, TKey, TValue, canonical};
+
+/// What a change into which nothing comes makes of values, and of trees that the left side alone
+/// has. Values are handed over, and those that stay are handed back.
+pub trait Lessen<K: TKey, V: TValue, W: TValue, T: Build<K, V>>: Sized + Drop {
+    /// How the right tree is read at a key.
+    ghost look: { (cmp : K → K → Ordering) → Look cmp W (Option W) };
+
+    /// What the change says of the values that the left tree has, of what is read of the right one,
+    /// and of the value that is left.
+    ghost says: { Self → Option V → Option W → Option V → Type 0 };
+
+    /// What it needs in order to be asked there.
+    ghost asks: { Self → Option V → Option W → Type 0 };
+
+    /// What is left of the value of a key of which the trees have these, and the change of all that
+    /// stands below.
+    fn at_values(&self, v: Option<V>, w: Option<&W>) -> (Option<V>, Self)
+        requires { asks self.now v ((look K.cmp).at (option_copied w)) }
+        ensures value { says self.now v ((look K.cmp).at (option_copied w.entry)) result.0 }
+        ensures below { (u : Option V) (o : Option W) (z : Option V) → says result.1 u o z
+            → says self.now u ((look K.cmp).under (option_copied w.entry) o) z }
+        ensures asked { (u : Option V) (o : Option W)
+            → asks self.now u ((look K.cmp).under (option_copied w.entry) o) → asks result.1 u o };
+
+    /// Whether keys stay of which the right tree says nothing.
+    fn left_stays(&self) -> bool
+        ensures { MatchBool result
+            ((v z : Option V) → IsKept T.keeps v z → says self.now v (look K.cmp).none z)
+            ((v : Option V) → says self.now v (look K.cmp).none None) };
+
+    ghost says_nothing: { (op : Self) (w : Option W) → says op None w None };
+
+    ghost asks_none: { (op : Self) → asks op None (look K.cmp).none };
+
+    ghost says_kept: { (op : Self) (u v : Option V) (w : Option W) (z : Option V)
+        → IsKept T.keeps u v → says op v w z → says op u w z };
+
+    ghost asks_kept: { (op : Self) (u v : Option V) (w : Option W) → IsKept T.keeps u v
+        → asks op u w → asks op v w };
+}
+
+/// For how many components what is left of the prefixes of two trees agrees, of which the first
+/// `known` do.
+fn front_of<K: TKey, V: TValue, W: TValue, T: RadixNode<K, V>, B: RadixNode<K, W>>(
+    tree: &T,
+    i: usize,
+    that: &B,
+    j: usize,
+    known: usize,
+) -> usize
+    requires left { i ≤ length (T.tree tree.now).prefix }
+    requires right { j ≤ length (B.tree that.now).prefix }
+    requires known { Agree K.cmp (drop i (T.tree tree.now).prefix) (drop j (B.tree that.now).prefix)
+        known }
+    ensures agree { Agree K.cmp (drop i (T.tree tree.now).prefix) (drop j (B.tree that.now).prefix)
+        result }
+    ensures parts { PartAtOnce K.cmp (drop result (drop i (T.tree tree.now).prefix))
+        (drop result (drop j (B.tree that.now).prefix)) }
+    ensures left_canonical { IsCanonical K.cmp (T.tree tree.now) }
+    ensures right_canonical { IsCanonical K.cmp (B.tree that.now) }
+{
+    common_front(
+        &tree.prefix()[i..],
+        &that.prefix()[j..],
+        known,
+        &mut Uncounted,
+    )
+}
+
+/// What the change makes of the value of a node, beside that of the right node.
+fn change_value<K: TKey, V: TValue, W: TValue, T: Build<K, V>, O: Lessen<K, V, W, T>>(
+    value: Option<V>,
+    that: Option<&W>,
+    op: &O,
+) -> (Option<V>, O)
+    requires asks { O.asks op.now value ((O.look K.cmp).at (option_copied that)) }
+    ensures value { O.says op.now value ((O.look K.cmp).at (option_copied that.entry)) result.0 }
+    ensures below { (u : Option V) (o : Option W) (z : Option V) → O.says result.1 u o z
+        → O.says op.now u ((O.look K.cmp).under (option_copied that.entry) o) z }
+    ensures asked { (u : Option V) (o : Option W)
+        → O.asks op.now u ((O.look K.cmp).under (option_copied that.entry) o) → O.asks result.1 u o }
+{
+    op.at_values(value, that)
+}
+
+/// Whether what the left side alone has stays.
+fn stays_alone<K: TKey, V: TValue, W: TValue, T: Build<K, V>, O: Lessen<K, V, W, T>>(op: &O) -> bool
+    ensures { MatchBool result
+        ((v z : Option V) → IsKept T.keeps v z → O.says op.now v (O.look K.cmp).none z)
+        ((v : Option V) → O.says op.now v (O.look K.cmp).none None) }
+{
+    op.left_stays()
+}
+
+/// The tree of the right side that goes on as this tree does at a place of its prefix. Those that
+/// go on with lesser components are passed.
+fn seek_alike<'b, K: TKey, V: TValue, W: TValue, T: RadixNode<K, V>, B: RadixNode<K, W>>(
+    right: &mut Below<'b, B>,
+    tree: &T,
+    place: usize,
+) -> Option<&'b B>
+    requires { place < length (T.tree tree.now).prefix }
+    ensures sought { (x : K) → slice_get (T.tree tree.now).prefix place ≡ Some x
+        → IsSought K.cmp B.tree right.old.from x (trees_below right.old) (option_copied result)
+        (trees_below right.new) }
+    ensures from { right.new.from ≡ right.old.from }
+    ensures canonical { IsCanonical K.cmp (T.tree tree.now) }
+{
+    seek(right, &tree.prefix()[place])
+}
+
+/// Moves a tree that stays down to those that stay before it. What stood between comes behind it.
+fn keep_at<T>(list: &mut [T], kept: usize, at: usize)
+    requires order { kept ≤ at }
+    requires within { at < length list.old }
+    ensures built { take (kept + 1) list.new ≡ take kept list.old ++ take 1 (drop at list.old) }
+    ensures rest { drop (at + 1) list.new ≡ drop (at + 1) list.old }
+    ensures long { length list.new ≡ length list.old }
+{
+    if kept < at {
+        list.swap(kept, at);
+    }
+}
+
+/// What is left of the children of a node.
+#[derive(Drop)]
+struct Kids<C, T> {
+    /// How many are stored.
+    many: usize,
+    /// These.
+    stored: Option<C>,
+    /// And the only one, where the node has no value.
+    lone: Option<T>,
+}
+
+/// The node of what is left as a child.
+fn remake<K: TKey, V: TValue, T: Build<K, V>>(
+    alloc: Global,
+    prefix: T::Prefix,
+    value: Option<V>,
+    kids: Kids<T::Children, T>,
+) -> Result<Option<T>, AllocError>
+    requires kids { AreKids (is_none value) kids.lone (listed T.Children.items kids.stored) kids.many }
+    requires canonical { AreChildren K.cmp
+        (seen T.tree (cons_option kids.lone (listed T.Children.items kids.stored))) }
+    ensures { IfOk result (λ made. option_map T.tree made ≡ solid_child (T.Prefix.items prefix)
+        value (seen T.tree (cons_option kids.lone (listed T.Children.items kids.stored)))) }
+{
+    let Kids { many, stored, lone } = kids;
+    if let Some(kid) = lone {
+        return Ok(Some(new_joined(alloc, prefix.as_slice(), kid)?));
+    }
+    if value.is_none() && many == 0 {
+        return Ok(None);
+    }
+    Ok(Some(T::assemble(prefix, value, stored, Seal::new())))
+}
+
+/// Changes a tree behind the first `i` components of its prefix, which stay, by another one behind
+/// the first `j` of its own, and answers whether a key is left. The first `known` components that
+/// are left of either prefix are known to agree. What is left where none is, or where memory is
+/// refused, is any tree.
+#[cycle(lessening)]
+pub fn lessen_at<
+    K: TKey,
+    V: TValue,
+    W: TValue,
+    B: RadixNode<K, W>,
+    T: Build<K, V>,
+    O: Lessen<K, V, W, T>,
+>(
+    alloc: Global,
+    tree: &mut T,
+    i: usize,
+    that: &B,
+    j: usize,
+    known: usize,
+    op: &O,
+) -> Result<bool, AllocError>
+    requires left { i ≤ length (T.tree tree.old).prefix }
+    requires right { j ≤ length (B.tree that.now).prefix }
+    requires known { Agree K.cmp (drop i (T.tree tree.old).prefix) (drop j (B.tree that.now).prefix)
+        known }
+    requires asks { (k : List K) → O.asks op.now (lookup K.cmp (shortened i (T.tree tree.old)) k)
+        ((O.look K.cmp).of_tree (shortened j (B.tree that.now)) k) }
+    ensures { IfOk result (λ stays. IsLessened K.cmp (O.look K.cmp) (O.says op.now) i
+        (T.tree tree.old) (shortened j (B.tree that.now)) stays (T.tree tree.new)) }
+{
+    let whole = tree.prefix().len();
+    let other_whole = that.prefix().len();
+    let front = front_of(tree, i, that, j, known);
+    let (place, other_place) = (i + front, j + front);
+    if place < whole {
+        if other_place < other_whole {
+            return Ok(stays_alone::<K, V, W, T, O>(op));
+        }
+        return lessen_inside(alloc, tree, place, that, op);
+    }
+    let right = below_place(that, other_place);
+    lessen_node(alloc, tree, i, value_at(that, j, front), right, op)
+}
+
+/// The same where the right prefix has ended at a place in the left one.
+#[cycle(lessening)]
+fn lessen_inside<
+    K: TKey,
+    V: TValue,
+    W: TValue,
+    B: RadixNode<K, W>,
+    T: Build<K, V>,
+    O: Lessen<K, V, W, T>,
+>(alloc: Global, tree: &mut T, place: usize, that: &B, op: &O) -> Result<bool, AllocError>
+    requires within { place < length (T.tree tree.old).prefix }
+    requires asks_value { O.asks op.now None ((O.look K.cmp).at (B.tree that.now).value) }
+    requires asks_below { (x : K) (q : List K) → O.asks op.now
+        (lookup_in K.cmp (alone place (T.tree tree.old)) (x ∷ q)) ((O.look K.cmp).under
+        (B.tree that.now).value ((O.look K.cmp).of_forest (B.tree that.now).children (x ∷ q))) }
+    ensures { IfOk result (λ stays. IsInside K.cmp (O.look K.cmp) (O.says op.now) place
+        (T.tree tree.old) (B.tree that.now).value (B.tree that.now).children stays
+        (T.tree tree.new)) }
+{
+    let mut right = below_place(that, that.prefix().len());
+    let (_, below) = change_value::<K, V, W, T, O>(None, that.value(), op);
+    match seek_alike(&mut right, tree, place) {
+        Some(other) => lessen_at(alloc, tree, place, other, right.from, 1, &below),
+        None => Ok(stays_alone::<K, V, W, T, O>(&below)),
+    }
+}
+
+/// The same where the left prefix has ended, beside the value of the right node and what stands
+/// below it.
+#[cycle(lessening)]
+fn lessen_node<
+    K: TKey,
+    V: TValue,
+    W: TValue,
+    B: RadixNode<K, W>,
+    T: Build<K, V>,
+    O: Lessen<K, V, W, T>,
+>(
+    alloc: Global,
+    tree: &mut T,
+    i: usize,
+    that: Option<&W>,
+    right: Below<'_, B>,
+    op: &O,
+) -> Result<bool, AllocError>
+    requires within { i ≤ length (T.tree tree.old).prefix }
+    requires right { AreChildren K.cmp (shortened_in B.tree right.from (trees_below right)) }
+    requires asks_value { O.asks op.now (T.tree tree.old).value
+        ((O.look K.cmp).at (option_copied that)) }
+    requires asks_below { (x : K) (q : List K) → O.asks op.now
+        (lookup_in K.cmp (T.tree tree.old).children (x ∷ q)) ((O.look K.cmp).under
+        (option_copied that) ((O.look K.cmp).of_forest
+        (shortened_in B.tree right.from (trees_below right)) (x ∷ q))) }
+    ensures { IfOk result (λ stays. IsNodeLeft K.cmp (O.look K.cmp) (O.says op.now) i
+        (T.tree tree.old) (option_copied that.entry)
+        (shortened_in B.tree right.entry.from (trees_below right.entry)) stays (T.tree tree.new)) }
+{
+    let had = tree.children().len();
+    let node = mem::replace(tree, T::blank(alloc, Seal::new()));
+    let Parts {
+        prefix,
+        value,
+        children,
+    } = node.take_apart(Seal::new());
+    let (value, below) = change_value::<K, V, W, T, O>(value, that, op);
+    let kids = lessen_kids::<K, V, W, B, T, O>(
+        alloc,
+        children,
+        had,
+        value.is_none(),
+        right,
+        &below,
+    )?;
+    let Some(made) = remake::<K, V, T>(alloc, prefix, value, kids)? else {
+        return Ok(false);
+    };
+    *tree = made;
+    Ok(true)
+}
+
+/// What is left of the `had` children of a node, which has no value where `is_bare`. Children that
+/// meet nothing stay where they are stored, or go all together.
+#[cycle(lessening)]
+fn lessen_kids<
+    K: TKey,
+    V: TValue,
+    W: TValue,
+    B: RadixNode<K, W>,
+    T: Build<K, V>,
+    O: Lessen<K, V, W, T>,
+>(
+    alloc: Global,
+    children: Option<T::Children>,
+    had: usize,
+    is_bare: bool,
+    right: Below<'_, B>,
+    op: &O,
+) -> Result<Kids<T::Children, T>, AllocError>
+    requires had { had ≡ length (listed T.Children.items children) }
+    requires left { AreChildren K.cmp (seen T.tree (listed T.Children.items children)) }
+    requires right { AreChildren K.cmp (shortened_in B.tree right.from (trees_below right)) }
+    requires asks { (x : K) (q : List K) → O.asks op.now
+        (lookup_in K.cmp (seen T.tree (listed T.Children.items children)) (x ∷ q))
+        ((O.look K.cmp).of_forest (shortened_in B.tree right.from (trees_below right)) (x ∷ q)) }
+    ensures kids { IfOk result
+        (λ kids. AreKids is_bare kids.lone (listed T.Children.items kids.stored) kids.many) }
+    ensures children { IfOk result (λ kids. AreChildren K.cmp
+        (seen T.tree (cons_option kids.lone (listed T.Children.items kids.stored)))) }
+    ensures below { IfOk result (λ kids. IsLessenedIn K.cmp (O.look K.cmp) (O.says op.now)
+        (seen T.tree (listed T.Children.items children))
+        (shortened_in B.tree right.entry.from (trees_below right.entry))
+        (seen T.tree (cons_option kids.lone (listed T.Children.items kids.stored)))) }
+{
+    let Some(mut children) = children else {
+        return Ok(Kids {
+            many: 0,
+            stored: None,
+            lone: None,
+        });
+    };
+    if right.is_empty() && !(is_bare && had == 1) {
+        let stays = stays_alone::<K, V, W, T, O>(op);
+        return Ok(Kids {
+            many: if stays { had } else { 0 },
+            stored: if stays { Some(children) } else { None },
+            lone: None,
+        });
+    }
+    let (many, lone) = lessen_in::<K, V, W, B, T, O>(alloc, &mut children, is_bare, right, op)?;
+    Ok(Kids {
+        many,
+        stored: Some(children),
+        lone,
+    })
+}
+
+/// What is left of children that are stored: how many stay there, and the only one, which is taken
+/// out where it is not to stand alone.
+#[cycle(lessening)]
+fn lessen_in<
+    K: TKey,
+    V: TValue,
+    W: TValue,
+    B: RadixNode<K, W>,
+    T: Build<K, V>,
+    O: Lessen<K, V, W, T>,
+>(
+    alloc: Global,
+    children: &mut T::Children,
+    is_bare: bool,
+    right: Below<'_, B>,
+    op: &O,
+) -> Result<(usize, Option<T>), AllocError>
+    requires left { AreChildren K.cmp (seen T.tree (T.Children.items children.old)) }
+    requires right { AreChildren K.cmp (shortened_in B.tree right.from (trees_below right)) }
+    requires asks { (x : K) (q : List K) → O.asks op.now
+        (lookup_in K.cmp (seen T.tree (T.Children.items children.old)) (x ∷ q))
+        ((O.look K.cmp).of_forest (shortened_in B.tree right.from (trees_below right)) (x ∷ q)) }
+    ensures kids { IfOk result
+        (λ left. AreKids is_bare left.1 (T.Children.items children.new) left.0) }
+    ensures children { IfOk result (λ left.
+        AreChildren K.cmp (seen T.tree (cons_option left.1 (T.Children.items children.new)))) }
+    ensures below { IfOk result (λ left. IsLessenedIn K.cmp (O.look K.cmp) (O.says op.now)
+        (seen T.tree (T.Children.items children.old))
+        (shortened_in B.tree right.entry.from (trees_below right.entry))
+        (seen T.tree (cons_option left.1 (T.Children.items children.new)))) }
+{
+    let mut right = right;
+    let list = children.make_mut()?;
+    let mut kept = 0;
+    let mut at = 0;
+    while at < list.len() {
+        let stays = match seek_alike(&mut right, &list[at], 0) {
+            Some(other) => lessen_at(alloc, &mut list[at], 0, other, right.from, 1, op)?,
+            None => stays_alone::<K, V, W, T, O>(op),
+        };
+        if stays {
+            keep_at(list, kept, at);
+            kept += 1;
+        }
+        at += 1;
+    }
+    list.truncate(kept);
+    if is_bare && kept == 1 {
+        return Ok((0, list.pop()));
+    }
+    Ok((kept, None))
+}
