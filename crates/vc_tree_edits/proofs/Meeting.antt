@@ -2,7 +2,6 @@
 --     met_both        a value that is there itself is one that was kept
 --     union_from, inner_from, left_from, intersection_from, difference_from        what is said at each key, as each combine says it
 use Rattle.std.proofs.Common.{◌≡◌, Bool, true, false, Option, None, Some, refl, sym, subst}
-use Rattle.std.specs.Prelude.{MatchBool}
 use Rattle.vc_tree_model.specs.Combine.{IsInnerAt, IsLeftAt, IsOuterAt, IsUnionAt, IsIntersectionAt, IsDifferenceAt}
 use Rattle.vc_tree_model.specs.Value.{IsKept}
 use Rattle.vc_tree_edits.specs.Editing.{KeptThen, OrStays, IsMetAt}
@@ -57,12 +56,6 @@ module _ {V : Type 0} (keeps : V → V → Type 0) where
     alone_gone true may v e = absurd (cc)
     alone_gone false may None e = refl
     alone_gone false may (Some v) e = refl
-
-    pub met_alone : (may : V → W → Option V → Type 0) (b : Bool)
-        → MatchBool b ((v z : Option V) → IsKept keeps v z → IsMetAt keeps b may v None z)
-        ((v : Option V) → IsMetAt keeps b may v None None)
-    met_alone may true = λ v z. alone_met true may v z refl
-    met_alone may false = λ v. alone_gone false may v refl
 
   -- a tree of one side alone stays, or comes in
   pub alone-outer : (is_clone : V → V → Type 0) (may : V → V → Option V → Type 0) (v z : Option V) → IsKept keeps v z

@@ -2,10 +2,8 @@
 --     stayed        a tree that stays is what is said of a tree whose values are kept
 --     value_stays, value_goes        a value stays or goes by the verdict on its cover
 --     sifted_below, asked_below, asked-cover        the verdict is known to all that stands below
---     sifted-stays        and so do all keys of a tree that no further key covers
 use Rattle.std.proofs.Common.{◌≡◌, ℕ, ◌<◌, Bool, true, false, ◌∷◌, [], List, Option, None, Some, refl, sym, subst, length}
 use Rattle.std.specs.Cmp.{IsTotalOrder}
-use Rattle.std.specs.Prelude.{MatchBool}
 use Rattle.std.specs.declared.cmp.Ordering.{Ordering}
 use denote.Ref.{Bor}
 use denote.Param.Members.{Shared}
@@ -60,20 +58,6 @@ module _ {V W : Type 0} (keeps : V → V → Type 0) (may : W → Bool → Type 
       → IsSiftedBy keeps may known stays v (or_else o w) z
   sifted_below known covered stays w j None o z h = h
   sifted_below known covered stays w j (Some v) o z h = (h.0, judged-below known covered h.0 w o j h.1, h.2)
-
-  -- all keys of a tree that no further key covers stay
-  pub sifted-stays : (known : Bool) (stays : Bool → Bool) → stays known ≡ true → (v z : Option V) → IsKept keeps v z
-      → IsSiftedBy keeps may known stays v None z
-  sifted-stays known stays e None None k = refl
-  sifted-stays known stays e None (Some z) k = absurd k
-  sifted-stays known stays e (Some v) z k = (known, refl, kept-stays (stays known) v z e k)
-
-  -- or all of them go
-  pub sifted_alone : (known : Bool) (stays : Bool → Bool) (b : Bool) → b ≡ stays known
-      → MatchBool b ((v z : Option V) → IsKept keeps v z → IsSiftedBy keeps may known stays v None z)
-      ((v : Option V) → IsSiftedBy keeps may known stays v None None)
-  sifted_alone known stays true e = sifted-stays known stays (sym e)
-  sifted_alone known stays false e = λ v. value_goes known known stays v None refl (sym e)
 
 module _ {W F : Type 0} (g : Shared F (Bor W × Unit {0}) Bool) (f : F) where
   -- what may be asked of a cover may be asked of each longer one
