@@ -6,6 +6,7 @@
 
 mod clock;
 mod data;
+mod intervals;
 mod lists;
 mod maps;
 #[cfg(counted)]
@@ -27,4 +28,6 @@ fn main() {
     maps::print(&only);
     println!();
     trees::print(&only);
+    println!();
+    intervals::print(&only);
 }
