@@ -4,6 +4,7 @@ use Rattle.vc_joins.specs.declared.question.OuterJoinArg.TheVariants.{Left, Both
 use Rattle.vc_maps.specs.Combining.{CanCombine, Combines, combined, IsCombinedBy}
 use Rattle.vc_maps.specs.Lending.{IsWritten}
 use Rattle.vc_maps.specs.Mapping.{AnswersInTurn, MapsEntry}
+use Rattle.vc_maps.specs.Writing.{WritesEntry, WritesInTurn}
 use Rattle.definition_tests.proofs.Digits.{Digit, one, two, three, four, order, each, not_true}
 
 -- ---- a value that is written
@@ -74,3 +75,24 @@ maps_entry = (1, 3, 3, (refl, refl), refl)
 
 maps_nothing : MapsEntry {K = ℕ} AddsUp None None
 maps_nothing = refl
+
+-- ---- values that are written to
+
+-- a counter that adds up the values that it is lent, and leaves the sum so far
+abbrev Leaves : ℕ → ℕ → ℕ → ℕ → ℕ → Type 0
+Leaves before k v w after = (w ≡ before + v) × (after ≡ before + v)
+
+-- it makes 7:1 9:3 of 7:1 9:2
+writes_in_turn : WritesInTurn Leaves 0 ((7, 1) ∷ (9, 2) ∷ []) ((7, 1) ∷ (9, 3) ∷ []) 3
+writes_in_turn = (1, (refl, refl), refl, (3, (refl, refl), refl, refl))
+
+-- and not 7:1 alone
+one_written : WritesInTurn Leaves 0 ((7, 1) ∷ (9, 2) ∷ []) ((7, 1) ∷ []) 1 → ⊥
+one_written h = h.3
+
+-- at a state of 1 it leaves 3 where 2 was, under the same key; where nothing stood, nothing stands
+writes_entry : WritesEntry Leaves (Some (9, 2)) (Some (9, 3))
+writes_entry = (1, 3, 3, (refl, refl), refl)
+
+writes_nothing : WritesEntry Leaves None None
+writes_nothing = refl

@@ -6,7 +6,7 @@ ghost use Rattle.std.specs.String.{string_cmp};
 ghost use Rattle.std.specs.Option.{option_cmp, option_copied, option_or};
 ghost use Rattle.std.specs.Ordering.{eq_by_cmp, nat_cmp};
 ghost use Rattle.std.specs.declared.ops.Bound.TheVariants.{Included, Excluded};
-ghost use Rattle.vec_collections.specs.Entries.{value_at};
+ghost use Rattle.vec_collections.specs.Entries.{entry_at, value_at};
 ghost use Rattle.vec_collections.specs.JoinValues.{in_both, in_either, in_left, in_right};
 ghost use Rattle.facade_user_tests.specs.Names.{has_letters, IsSpelled};
 ghost use Rattle.facade_user_tests.specs.Stock.{filled, left_over, together};
@@ -349,4 +349,13 @@ pub fn served(alloc: Global, stock: &Stock, orders: &Stock) -> Result<Stock, All
             Ok(Some((*held).min(*wanted)))
         },
     )
+}
+
+/// Counts one piece more of each article, as far as numbers go. The articles stay.
+pub fn add_one_of_each(stock: &mut Stock)
+    ensures articles { keys_of stock.new ≡ keys_of stock.old }
+    ensures pieces { (article : ℕ) → IsSome (entry_at nat_cmp stock.old article)
+        → IsSome (entry_at nat_cmp stock.new article) }
+{
+    stock.for_each_value(|_: &u32, pieces: &mut u32| *pieces = pieces.saturating_add(1));
 }

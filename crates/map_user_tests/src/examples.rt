@@ -59,11 +59,21 @@ fn keeps(map: &mut Map) -> bool {
     asked.get() == 123 && map.as_ref() == [(1, 2), (3, 8)].as_slice()
 }
 
+/// Whether each value is lent once, in ascending order of the keys, and what is left there stands.
+fn writes_each(map: &mut Map) -> bool {
+    let mut sum = 0u32;
+    map.for_each_value(|key, value| {
+        sum = sum.wrapping_mul(10).wrapping_add(*key);
+        *value = sum;
+    });
+    map.as_ref() == [(1, 1), (3, 13)].as_slice()
+}
+
 #[test]
 fn maps_change_as_worked_out(rt: HostRuntime) -> Result<(), Fail> {
     let mut map = map_of(rt.alloc(), &[(3, 6), (1, 2), (2, 4)])?;
     assert!(rt; inserts(&mut map)?);
-    assert!(rt; finds(&mut map) && keeps(&mut map));
+    assert!(rt; finds(&mut map) && keeps(&mut map) && writes_each(&mut map));
     Ok(())
 }
 

@@ -10,3 +10,4 @@ pub mod Mapped
 pub mod PairSets
 pub mod Retaining
 pub mod Unsorted
+pub mod Written

@@ -8,3 +8,4 @@ pub mod Keeping
 pub mod KeptViews
 pub mod Lending
 pub mod Mapping
+pub mod Writing

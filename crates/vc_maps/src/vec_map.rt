@@ -22,6 +22,7 @@ mod joins;
 mod mapping;
 mod ordered;
 mod removal;
+mod writing;
 
 pub use crate::fresh::join_asking;
 use borrowed::find_key_by;

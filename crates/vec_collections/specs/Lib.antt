@@ -23,6 +23,7 @@ pub use Rattle.vc_maps.specs.Combining as MapCombining
 pub use Rattle.vc_maps.specs.Iterating as MapIterating
 pub use Rattle.vc_maps.specs.Lending
 pub use Rattle.vc_maps.specs.Mapping as MapMapping
+pub use Rattle.vc_maps.specs.Writing as MapWriting
 pub use Rattle.vc_merge.specs.Ascending
 pub use Rattle.vc_merge.specs.Chain
 pub use Rattle.vc_merge.specs.Clones

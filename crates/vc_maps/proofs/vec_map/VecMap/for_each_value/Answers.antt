@@ -1,0 +1,34 @@
+-- The list is what was written through the slice of all of it.
+use Rattle.std.proofs.Common.{length, sym, ap, subst, ◌∙◌}
+use Rattle.std.specs.Map.{keys_of}
+use Rattle.vc_merge.specs.Ascending.{Ascends}
+use Rattle.vc_maps.specs.Writing.{WritesAt, WritesInTurn}
+use Rattle.vc_maps.proofs.Written.{entries-written, refilled, written-keys}
+use Rattle.vc_maps.proofs.vec_map.VecMap.for_each_value.Goals as goal
+
+pub invariant_of-self : goal.invariant_of-self
+invariant_of-self g c =
+    let same = c.as_mut_slice.ensures.value in let w = c.write_each.ensures in
+    let whole = refilled c.self.inside.pairs.items c.write_each.new.pairs (c.write_each.auto.pairs ∙ ap length same) in
+    subst (Ascends g.K.Ord.cmp)
+    (sym (ap keys_of whole ∙ written-keys (WritesAt g.F.FnMut) _ _ _ w.0 w.1 ∙ ap keys_of same)) c.self.invariant
+
+pub returns-clause-keys : goal.returns-clause-keys
+returns-clause-keys g c =
+    let same = c.as_mut_slice.ensures.value in let w = c.write_each.ensures in
+    let whole = refilled c.self.inside.pairs.items c.write_each.new.pairs (c.write_each.auto.pairs ∙ ap length same) in
+    ap keys_of whole ∙ written-keys (WritesAt g.F.FnMut) _ _ _ w.0 w.1 ∙ ap keys_of (same ∙ c.self.view_is)
+
+pub returns-clause-values : goal.returns-clause-values
+returns-clause-values g c =
+    let same = c.as_mut_slice.ensures.value in let w = c.write_each.ensures in
+    let whole = refilled c.self.inside.pairs.items c.write_each.new.pairs (c.write_each.auto.pairs ∙ ap length same) in (
+      w.0,
+      rw whole (subst (λ l. WritesInTurn (WritesAt g.F.FnMut) c.args.f l c.write_each.new.pairs w.0)
+          (same ∙ c.self.view_is) w.1),
+    )
+
+pub returns-clause-entries : goal.returns-clause-entries
+returns-clause-entries g c k =
+    let w = returns-clause-values g c in
+    entries-written (WritesAt g.F.FnMut) g.K.Ord.cmp c.args.f _ _ w.0 w.1 k
