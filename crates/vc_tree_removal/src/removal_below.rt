@@ -47,7 +47,8 @@ pub fn remove_below<K: TKey, V: TValue, T: Build<K, V>>(
 }
 
 /// Takes out all keys that begin with `prefix`, with their values, and answers them as a tree of
-/// their own, each key whole; the empty tree where none begins so. The other keys keep their values.
+/// their own, each key whole; the empty tree where none begins so. The other keys keep their
+/// values.
 ///
 /// The keys stand below one node, which is moved as it is, with a longer prefix: nothing below it is
 /// touched. What stands before the node's own prefix is spelled as in `prefix`.
