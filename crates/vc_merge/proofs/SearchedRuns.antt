@@ -10,10 +10,11 @@ use Rattle.std.specs.Ordering.{ordering_reverse}
 use Rattle.std.specs.declared.cmp.Ordering.{Ordering}
 use Rattle.std.specs.declared.cmp.Ordering.TheVariants.{Less, Equal, Greater}
 use Rattle.vc_merge.specs.Place.{IsPlace}
-use Rattle.vc_merge.specs.Progress.{LeftBelow, RightBelow, HeadsCompare, IsLeftPlace, IsRightPlace, fewer}
+use Rattle.vc_merge.specs.Progress.{LeftBelow, RightBelow, HeadsCompare, IsLeftPlace, IsRightPlace}
+use Rattle.vc_merge.specs.Plan.{fewer}
 use Rattle.vc_merge.specs.Script.{BothAscend}
-use Rattle.vc_merge.specs.declared.searching.Side.{Side}
-use Rattle.vc_merge.specs.declared.searching.Side.TheVariants.{Left, Right}
+use Rattle.vc_merge.specs.declared.plan.Side.{Side}
+use Rattle.vc_merge.specs.declared.plan.Side.TheVariants.{Left, Right}
 use Rattle.vc_merge.proofs.ListLemmas.{each-weaker}
 use Rattle.vc_merge.proofs.Scripts.{below-lefts}
 

@@ -1,13 +1,18 @@
 -- What is spent by a search that goes in strides, and by searches one after the other.
 --     stride-more, stride-within        how many strides lead to a place
 --     place-paid, more-paid, last-paid        the searches for some elements, one behind the other
+--     strides-fewer, planned-fewer        shorter lists
 --     strides-few        by strides of the share that each element has of the others, they spend no more than by halves
-use Rattle.std.proofs.Common.{◌≡◌, ℕ, zero, suc, ◌+◌, ◌-◌, ◌*◌, ◌/◌, ◌^◌, ◌<◌, ◌≤◌, min, ⊎_elim, refl, sym, subst, ◌∙◌, ap, arith}
+use Rattle.std.proofs.Common.{◌≡◌, ℕ, zero, suc, ◌+◌, ◌*◌, ◌/◌, ◌^◌, ◌<◌, ◌≤◌, min, ⊎_elim, sym, subst, ◌∙◌, ap, arith}
 use Rattle.std.proofs.Math.Nat.{add-div_right, add-mul-div_right, div-mul-le_self, mul-le-mul_left, mul-le-mul_right}
 use Rattle.std.proofs.Math.Nat.{mul-add, mul_assoc, mul_comm, div-lt_iff_lt-mul, lt-mul-div-succ, pow-suc}
 use Rattle.std.proofs.lemmas.Bool.{cases_lt}
 use Rattle.std.proofs.lemmas.Nat.{le-div, pow_pos}
 use Rattle.vc_merge.specs.Count.{by_strides, digits}
+use Rattle.vc_merge.specs.declared.plan.Plan.{Plan}
+use Rattle.vc_merge.specs.declared.plan.Plan.TheVariants.{Walk, Search}
+use Rattle.vc_merge.specs.declared.plan.Side.TheVariants.{Left, Right}
+use Rattle.vc_merge.specs.Plan.{planned}
 use Rattle.vc_merge.proofs.Digits.{digits-enough, digits-least, digits-half, digits-monotone}
 
 -- one stride further
@@ -56,6 +61,23 @@ last-paid t a b before n start h k w =
     let e : 0 / 2 ^ t ≤ n / 2 ^ t = stride-within 0 n (2 ^ t) (pow_pos t) (omega arith) in
     let m = more-paid t a 0 before n 0 h k (omega arith) w in
     omega arith
+
+-- ---- shorter lists
+
+-- searches for fewer elements in no more others spend no more
+pub strides-fewer : (t s n few r : ℕ) → few ≤ s → r ≤ n → by_strides t few r ≤ by_strides t s n
+strides-fewer t s n zero r h l = omega arith
+strides-fewer t zero n (suc few) r h l = absurd (omega arith)
+strides-fewer t (suc s) n (suc few) r h l =
+    let m : suc few * t ≤ suc s * t = mul-le-mul_right {m = suc few} {n = suc s} t h in
+    let w : r / 2 ^ t ≤ n / 2 ^ t = stride-within r n (2 ^ t) (pow_pos t) l in
+    omega (arith, m, w, h)
+
+-- a plan spends no more on shorter lists
+pub planned-fewer : (p : Plan) (left right m n : ℕ) → m ≤ left → n ≤ right → planned p m n ≤ planned p left right
+planned-fewer Walk left right m n h l = omega (arith, h, l)
+planned-fewer (Search Left t) left right m n h l = strides-fewer t left right m n h l
+planned-fewer (Search Right t) left right m n h l = strides-fewer t right left n m l h
 
 -- ---- strides of the share
 

@@ -7,6 +7,7 @@ pub mod Count
 pub mod Cuts
 pub mod Fronts
 pub mod Place
+pub mod Plan
 pub mod Progress
 pub mod Script
 pub mod MovesDown

@@ -8,6 +8,7 @@ pub mod lists;
 pub mod merge;
 pub mod moving;
 pub mod parts;
+pub mod plan;
 pub mod search;
 pub mod searching;
 pub mod states;

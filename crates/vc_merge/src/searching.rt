@@ -6,30 +6,33 @@ ghost use Rattle.vc_merge.specs.Chain.{allows};
 ghost use Rattle.vc_merge.specs.Count.{by_strides, digits};
 ghost use Rattle.vc_merge.specs.Place.{place_of};
 ghost use Rattle.vc_merge.specs.Script.{BothAscend};
-ghost use Rattle.vc_merge.specs.Progress.{GoesOn, IsWalk, IsLeftPlace, IsRightPlace, LeftBelow, RightBelow, fewer, more};
+ghost use Rattle.vc_merge.specs.Plan.{fewer, more};
+ghost use Rattle.vc_merge.specs.Progress.{GoesOn, IsWalk, IsLeftPlace, IsRightPlace, LeftBelow, RightBelow};
 ghost use Rattle.vc_merge.specs.Takes.{TakesLeft, TakesRight};
 
 use crate::linear::{meet, pass_left, pass_right};
 use crate::merge::{Count, MergeOperation, MergeState};
+use crate::plan::Side;
 use crate::search::{Sought, search_near};
 use std::alloc::AllocError;
 use std::cmp::Ordering;
-
-/// One of the two lists.
-#[derive(Clone, Copy)]
-pub(crate) enum Side {
-    Left,
-    Right,
-}
 
 /// Whether a walk along lists of these lengths compares no more often than searches in the longer
 /// one. Then a merge walks along both.
 pub fn is_walk_shorter(left: usize, right: usize) -> bool
     ensures { IsTrue result ↔ (left + right ≤ min left right * digits (max left right)) }
 {
+    left as u128 + right as u128 <= comparisons_by_halves(left, right)
+}
+
+/// How often searches for each element of the shorter list compare at most that halve the longer
+/// one.
+pub(crate) fn comparisons_by_halves(left: usize, right: usize) -> u128
+    ensures { result ≡ min left right * digits (max left right) }
+{
     let searches = left.min(right) as u128;
     let comparisons = u128::from(usize::BITS - left.max(right).leading_zeros());
-    left as u128 + right as u128 <= searches * comparisons
+    searches * comparisons
 }
 
 /// How far apart the elements are that searches for `few` elements in `many` others begin with, as

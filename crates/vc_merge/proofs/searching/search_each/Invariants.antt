@@ -1,7 +1,8 @@
 use Rattle.std.proofs.Common.{◌+◌, ◌≤◌, length}
 use Rattle.vc_merge.specs.Chain.{allows}
 use Rattle.vc_merge.specs.Count.{by_strides}
-use Rattle.vc_merge.specs.Progress.{SoFar, fewer, more}
+use Rattle.vc_merge.specs.Plan.{fewer, more}
+use Rattle.vc_merge.specs.Progress.{SoFar}
 use Rattle.vc_merge.proofs.searching.search_each.Given as goal
 
 abbrev pub invariant-events : goal.invariant-events

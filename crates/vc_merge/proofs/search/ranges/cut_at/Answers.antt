@@ -1,6 +1,3 @@
-use Rattle.std.proofs.Common.{length, not, sym, subst}
-use Rattle.vc_merge.specs.Cuts.{IsCut, is_in_front}
-use Rattle.vc_merge.proofs.Cutting.{cut-none, cut-whole}
 use Rattle.vc_merge.proofs.search.ranges.cut_at.Goals as goal
 
 pub count_passing-requires : goal.count_passing-requires
