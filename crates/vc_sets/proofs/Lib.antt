@@ -1,5 +1,6 @@
 pub mod Selected
 pub mod Begun
+mod Spending
 pub mod Combined
 pub mod Searching
 pub mod Clones

@@ -1,7 +1,11 @@
 -- How far a walk along two sets has come that takes their events one by one. No public clause cites these words.
-use Rattle.std.specs.Prelude.{Bool, true, false, List, [], ◌∷◌, ◌++◌}
+use Rattle.std.specs.Prelude.{ℕ, ◌+◌, ◌-◌, ◌≤◌, ⊤, Bool, true, false, List, [], ◌∷◌, ◌++◌}
 use Rattle.std.specs.declared.cmp.Ordering.{Ordering}
 use Rattle.std.specs.declared.cmp.Ordering.TheVariants.{Less, Equal, Greater}
+use Rattle.vc_merge.specs.Count.{bound}
+use Rattle.vc_merge.specs.declared.plan.Plan.{Plan}
+use Rattle.vc_merge.specs.declared.plan.Plan.TheVariants.{Walk, Search}
+use Rattle.vc_merge.specs.Plan.{planned}
 use Rattle.vc_merge.specs.Script.{Event, IsScript, BothAscend}
 use Rattle.vc_merge.specs.Gathering.{Appends}
 use Rattle.vc_sets.specs.Select.{both_sides, KeptAt}
@@ -28,3 +32,11 @@ pub record IsBegun {X : Type 0} (cmp : X → X → Ordering) (from : X → X →
   pub appends : Appends (KeptAt f from from) events old new
   pub leads : (es : List (Event X X)) → IsScript (both_sides cmp) ls rs es → IsScript (both_sides cmp) xs ys (events ++ es)
   pub ascend : BothAscend (both_sides cmp) ls rs
+
+-- lists of which this is left were compared as often as they took elements: with a block of comparisons more, a merge of any part of
+-- that by the plan stays within the bound of the whole. A walk compares with each element once, and so does a block
+abbrev pub LeavesEnough : Plan → (block all_left all_right left right : ℕ) → Type 0
+LeavesEnough Walk block all_left all_right left right = ⊤
+LeavesEnough (Search shorter exponent) block all_left all_right left right =
+    (m n : ℕ) → m ≤ left → n ≤ right
+    → (all_left + all_right - (left + right)) + block + planned (Search shorter exponent) m n ≤ bound all_left all_right

@@ -9,7 +9,8 @@ ghost use Rattle.smallvec.specs.SmallVec.{HasRoomFor};
 ghost use Rattle.vc_merge.specs.Ascending.{Ascends};
 ghost use Rattle.vc_merge.specs.Building.{Extends};
 ghost use Rattle.vc_merge.specs.Count.{bound};
-ghost use Rattle.vc_sets.specs.Begun.{IsBegun, kept_at, lesser_of};
+ghost use Rattle.vc_merge.specs.Plan.{IsPlan, planned};
+ghost use Rattle.vc_sets.specs.Begun.{IsBegun, LeavesEnough, kept_at, lesser_of};
 ghost use Rattle.vc_sets.specs.Select.{keeps};
 
 use crate::operations::compare;
@@ -18,14 +19,18 @@ use std::alloc::{AllocError, Allocator};
 use std::cmp::Ordering;
 use std::default::MadeWith;
 use vc_merge::merge::Count;
-use vc_merge::searching::is_walk_shorter;
+use vc_merge::plan::{Plan, comparisons, most_comparisons};
 
 /// How many elements a block takes of both lists, but for the second one of a last collision. A
 /// block of a union has so many events.
 const BLOCK: usize = 32;
 
-/// What a block of one list alone counts. Each other block takes one off.
+/// What a block counts that is nearly of one list alone. Each other block takes one off.
 const ONE_SIDED: usize = 8;
+
+/// How many elements of each list a block has to take in order not to count so. For a union, which
+/// drops none but second ones, it is one.
+const FEW: usize = 6;
 
 /// From so much on the lists are taken to come in long runs.
 const LONG_RUNS: usize = 32;
@@ -43,7 +48,8 @@ struct Chosen {
 /// the left one if `BOTH`. Answers what is left of the lists.
 ///
 /// It goes on until a list is used up, or the lists come in long runs, which are handed over faster
-/// as a whole.
+/// as a whole; and only as long as a merge of what is left by the plan stays within the bound of
+/// the whole.
 pub fn begin<
     'a,
     const LEFT: bool,
@@ -56,35 +62,45 @@ pub fn begin<
 >(
     a: &'a [T],
     b: &'a [T],
+    plan: Plan,
     built: &mut SmallVec<T, N, A>,
     steps: &mut C,
 ) -> Result<(&'a [T], &'a [T]), AllocError>
     requires a_ascends { Ascends T.cmp a.now }
     requires b_ascends { Ascends T.cmp b.now }
+    requires plan { IsPlan plan }
+    requires planned { planned plan (length a.now) (length b.now)
+        ≤ bound (length a.now) (length b.now) }
     ensures begun { IfOk result (λ rest.
         IsBegun T.cmp T.is_clone (keeps LEFT RIGHT BOTH) a.now b.now rest.0.now rest.1.now
         built.old.items built.new.items) }
     ensures counted { IfOk result (λ rest. C.counted steps.new
-        + bound (length rest.0.now) (length rest.1.now)
+        + planned plan (length rest.0.now) (length rest.1.now)
         ≤ C.counted steps.old + bound (length a.now) (length b.now)) }
     ensures refused { C.counted steps.new
         ≤ C.counted steps.old + bound (length a.now) (length b.now) }
 {
+    let (all_left, all_right) = (a.len(), b.len());
     let is_union = LEFT && RIGHT && BOTH;
-    if !is_worth_a_block(a.len(), b.len(), is_union) {
+    if !is_worth_a_block(all_left, all_right, is_union) {
         return Ok((a, b));
     }
+    let few = if is_union { 1 } else { FEW };
     let mut a = a;
     let mut b = b;
     let mut kept = [&a[0]; BLOCK];
     let mut runs = 0;
-    'blocks: while !a.is_empty() && !b.is_empty() && runs < LONG_RUNS {
+    'blocks: while !a.is_empty()
+        && !b.is_empty()
+        && runs < LONG_RUNS
+        && leaves_enough(plan, all_left, all_right, a.len(), b.len())
+    {
         let (left, right) = take_block::<LEFT, RIGHT, BOTH, T, C, N, A>(
             a, b, &mut kept, built, steps,
         )?;
         a = behind(a, left);
         b = behind(b, right);
-        runs = and_next(runs, left, right);
+        runs = and_next(runs, left.min(right) < few);
     }
     Ok((a, b))
 }
@@ -102,47 +118,71 @@ pub fn begin_left<
 >(
     a: &'a [T],
     b: &'a [T],
+    plan: Plan,
     built: &mut SmallVec<T, N, A>,
     steps: &mut C,
 ) -> Result<(&'a [T], &'a [T]), AllocError>
     requires a_ascends { Ascends T.cmp a.now }
     requires b_ascends { Ascends T.cmp b.now }
+    requires plan { IsPlan plan }
+    requires planned { planned plan (length a.now) (length b.now)
+        ≤ bound (length a.now) (length b.now) }
     ensures begun { IfOk result (λ rest.
         IsBegun T.cmp T.is_clone (keeps (not BOTH) false BOTH) a.now b.now rest.0.now rest.1.now
         built.old.items built.new.items) }
     ensures counted { IfOk result (λ rest. C.counted steps.new
-        + bound (length rest.0.now) (length rest.1.now)
+        + planned plan (length rest.0.now) (length rest.1.now)
         ≤ C.counted steps.old + bound (length a.now) (length b.now)) }
     ensures refused { C.counted steps.new
         ≤ C.counted steps.old + bound (length a.now) (length b.now) }
 {
     if BOTH {
-        begin::<false, false, true, T, C, N, A>(a, b, built, steps)
+        begin::<false, false, true, T, C, N, A>(a, b, plan, built, steps)
     } else {
-        begin::<true, false, false, T, C, N, A>(a, b, built, steps)
+        begin::<true, false, false, T, C, N, A>(a, b, plan, built, steps)
     }
 }
 
-/// Whether lists of these lengths are walked along, long enough to be worth a block, and so alike
-/// that the order of two heads cannot be guessed. A block of a union, which stores no references,
-/// is worth it for two elements.
+/// Whether lists of these lengths are long enough to be worth a block, and so alike that the order
+/// of two heads cannot be guessed. A block of a union, which stores no references, is worth it for
+/// two elements.
 #[inline(always)]
 fn is_worth_a_block(left: usize, right: usize, is_union: bool) -> bool
-    ensures walked { IsTrue result → bound left right ≡ left + right }
     ensures some { IsTrue result → 0 < left }
 {
     let shorter = left.min(right);
     let longer = left.max(right);
     let least = if is_union { 2 } else { 8 };
-    longer >= least && longer / 4 < shorter && is_walk_shorter(left, right)
+    longer >= least && longer / 16 < shorter
 }
 
-/// What the blocks count that came from one list alone, with one that took so much of each list.
+/// Whether a merge of what is left of two lists may go by their plan behind one block more. A block
+/// compares `BLOCK` times at most, and those before it as often as they took elements.
 #[inline(always)]
-fn and_next(runs: usize, left: usize, right: usize) -> usize
+fn leaves_enough(plan: Plan, all_left: usize, all_right: usize, left: usize, right: usize) -> bool
+    requires { IsPlan plan }
+    ensures { IsTrue result → LeavesEnough plan 32 all_left all_right left right }
+{
+    match plan {
+        Plan::Walk => true,
+        Plan::Search {
+            shorter: _,
+            exponent: _,
+        } => {
+            let all = all_left as u128 + all_right as u128;
+            let spent = all.saturating_sub(left as u128 + right as u128);
+            spent + BLOCK as u128 + comparisons(plan, left, right)
+                <= most_comparisons(all_left, all_right)
+        }
+    }
+}
+
+/// What the blocks count that came nearly from one list alone, with a further one.
+#[inline(always)]
+fn and_next(runs: usize, is_one_sided: bool) -> usize
     requires { runs < 32 }
 {
-    if left.min(right) == 0 {
+    if is_one_sided {
         runs + ONE_SIDED
     } else {
         runs.saturating_sub(1)
@@ -190,6 +230,7 @@ fn take_block<
     ensures counted { IfOk result (λ taken.
         C.counted steps.new ≤ C.counted steps.old + (taken.0 + taken.1)) }
     ensures refused { C.counted steps.new ≤ C.counted steps.old + (length a.now + length b.now) }
+    ensures few { C.counted steps.new ≤ C.counted steps.old + 32 }
 {
     if LEFT && RIGHT && BOTH {
         return take_each(a, b, built, steps);
@@ -220,6 +261,7 @@ fn take_each<T: Ord + Clone + MadeWith<A>, C: Count, const N: usize, A: Allocato
     ensures counted { IfOk result (λ taken.
         C.counted steps.new ≤ C.counted steps.old + (taken.0 + taken.1)) }
     ensures refused { C.counted steps.new ≤ C.counted steps.old + (length a.now + length b.now) }
+    ensures few { C.counted steps.new ≤ C.counted steps.old + 32 }
 {
     let most = room_for_some(built, a.len().saturating_add(b.len()))?;
     let mut left_taken = 0;
@@ -247,6 +289,7 @@ fn room_for_some<T: MadeWith<A> + Drop, const N: usize, A: Allocator + Copy>(
     requires { 0 < most }
     ensures items { built.new.items ≡ built.old.items }
     ensures some { IfOk result (λ n. 0 < n) }
+    ensures few { IfOk result (λ n. n ≤ 32) }
     ensures room { IfOk result (λ n. HasRoomFor built.new n) }
 {
     if built.len() == built.capacity() {
@@ -276,6 +319,7 @@ fn choose<'a, const LEFT: bool, const RIGHT: bool, const BOTH: bool, T: Ord, C: 
         (drop result.left a.now) (drop result.right b.now) []
         (map (λ p. p.now) (take result.count kept.new)) }
     ensures counted { C.counted steps.new ≤ C.counted steps.old + (result.left + result.right) }
+    ensures few { C.counted steps.new ≤ C.counted steps.old + 32 }
 {
     let mut count = 0;
     let mut left = 0;

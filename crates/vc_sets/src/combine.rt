@@ -13,7 +13,8 @@ use crate::vec_set::SetOp;
 use smallvec::SmallVec;
 use std::alloc::{AllocError, Allocator};
 use std::default::MadeWith;
-use vc_merge::merge::{Count, merge};
+use vc_merge::merge::{Count, merge_as};
+use vc_merge::plan::plan_of;
 use vc_merge::states::SmallVecMergeState;
 
 /// What stands in either list alone and, if `BOTH`, the left one of what stands in both.
@@ -42,9 +43,10 @@ fn combine_either<
         a.len().saturating_add(b.len())
     };
     let mut built = SmallVec::with_capacity(alloc, room)?;
-    let (a, b) = begin::<true, true, BOTH, _, _, _, _>(a, b, &mut built, steps)?;
+    let plan = plan_of(a.len(), b.len());
+    let (a, b) = begin::<true, true, BOTH, _, _, _, _>(a, b, plan, &mut built, steps)?;
     let mut state = SmallVecMergeState::new(a, b, &mut built);
-    merge(&mut state, &EitherOp::<BOTH>, steps)?;
+    merge_as(&mut state, &EitherOp::<BOTH>, plan, steps)?;
     Ok(built)
 }
 
@@ -73,9 +75,10 @@ fn combine_left<
     };
     let mut built = SmallVec::new(alloc);
     built.reserve(least)?;
-    let (a, b) = begin_left::<BOTH, _, _, _, _>(a, b, &mut built, steps)?;
+    let plan = plan_of(a.len(), b.len());
+    let (a, b) = begin_left::<BOTH, _, _, _, _>(a, b, plan, &mut built, steps)?;
     let mut state = SmallVecMergeState::new(a, b, &mut built);
-    merge(&mut state, &LeftOp::<BOTH>, steps)?;
+    merge_as(&mut state, &LeftOp::<BOTH>, plan, steps)?;
     Ok(built)
 }
 

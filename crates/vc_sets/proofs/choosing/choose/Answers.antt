@@ -15,6 +15,7 @@ events-init g c = record {
   some = omega arith;
   few = omega arith;
   counted = omega arith;
+  block = omega arith;
   begun = begun-nothing g.T.Ord.cmp g.met.T.Ord.total (keeps_by g.row.LEFT g.row.RIGHT g.row.BOTH) (λ x y. x ≡ y)
       c.args.a.now c.args.b.now [] c.requires.a_ascends c.requires.b_ascends;
 }
@@ -38,6 +39,7 @@ events-preserved g c =
       some = omega (arith, left, right, count, one, some, was.some);
       few = omega (arith, left, right, one_left, one_right, in_kept);
       counted = omega (arith, left, right, some, was.counted, ticks);
+      block = omega (arith, was.counted, in_kept, ticks);
       begun = begun-step g.T.Ord.cmp g.met.T.Ord.total f (λ x y. x ≡ y) c.args.a.now c.args.b.now []
           _ _ c.events.left c.events.right _ _ x y o in_left in_right c.index-a-left.is c.index-b-right.is
           c.compare-order.ensures.value (ap (λ n. c.events.left + n) left) (ap (λ n. c.events.right + n) right)

@@ -12,6 +12,7 @@ invariant-events g l = record {
   some : l.count ≤ l.left + l.right;
   few : l.left + l.right ≤ 64;
   counted : g.C.Count.counted l.steps ≤ g.C.Count.counted l.fn.steps + (l.left + l.right);
+  block : g.C.Count.counted l.steps ≤ g.C.Count.counted l.fn.steps + 32;
   begun : IsBegun g.T.Ord.cmp (λ x y. x ≡ y) (keeps_by g.row.LEFT g.row.RIGHT g.row.BOTH)
       l.a l.b (drop l.left l.a) (drop l.right l.b) [] (map (λ p. p.now) (take l.count l.kept));
 }

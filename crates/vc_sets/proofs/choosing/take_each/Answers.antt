@@ -15,6 +15,7 @@ events-init g c = let room = c.in_ok-most.ensures.room in record {
   some = omega arith;
   room = omega (arith, room);
   counted = omega arith;
+  block = omega arith;
   begun = subst (λ l. IsBegun g.T.Ord.cmp g.T.Clone.is_clone (keeps true true true)
       c.args.a.now c.args.b.now c.args.a.now c.args.b.now c.args.built.now.items l) (sym c.room_for_some.ensures.items)
       (begun-nothing g.T.Ord.cmp g.met.T.Ord.total (keeps true true true) g.T.Clone.is_clone
@@ -36,6 +37,7 @@ events-preserved g c =
       some = omega (arith, left, right, some, was.some);
       room = room-push _ _ c.push_reserved.ensures.items c.push_reserved.ensures.capacity in_block was.room;
       counted = omega (arith, left, right, some, was.counted, ticks);
+      block = omega (arith, was.block, ticks);
       begun = begun-step g.T.Ord.cmp g.met.T.Ord.total (keeps true true true) g.T.Clone.is_clone c.args.a.now c.args.b.now
           _ _ _ c.events.left_taken c.events.right_taken _ _ x y o
           in_left in_right c.index-a-left_taken.is c.index-b-right_taken.is c.compare-order.ensures.value

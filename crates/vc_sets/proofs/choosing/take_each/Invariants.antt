@@ -12,6 +12,7 @@ invariant-events g l = record {
   some : l.count ≤ l.left_taken + l.right_taken;
   room : HasRoomFor l.built (l.most - l.count);
   counted : g.C.Count.counted l.steps ≤ g.C.Count.counted l.fn.steps + (l.left_taken + l.right_taken);
+  block : g.C.Count.counted l.steps ≤ g.C.Count.counted l.fn.steps + l.count;
   begun : IsBegun g.T.Ord.cmp g.T.Clone.is_clone (keeps true true true) l.a l.b (drop l.left_taken l.a)
       (drop l.right_taken l.b) l.fn.built.items l.built.items;
 }

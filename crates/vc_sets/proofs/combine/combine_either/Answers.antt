@@ -7,8 +7,8 @@ use Rattle.vc_sets.proofs.Begun.{is_set, begun-set_of}
 use Rattle.vc_sets.proofs.Combined.{merged-built}
 use Rattle.vc_sets.proofs.combine.combine_either.Goals as goal
 
-pub merge-requires-clause-ascend : goal.merge-requires-clause-ascend
-merge-requires-clause-ascend g c = rw (c.new-state.ensures.a, c.new-state.ensures.b) c.in_ok-a.ensures.begun.ascend
+pub merge_as-requires-clause-ascend : goal.merge_as-requires-clause-ascend
+merge_as-requires-clause-ascend g c = rw (c.new-state.ensures.a, c.new-state.ensures.b) c.in_ok-a.ensures.begun.ascend
 
 pub returns-clause-combined : goal.returns-clause-combined
 returns-clause-combined g c =
@@ -21,5 +21,5 @@ returns-clause-combined g c =
     (λ s t n answer h. h) (λ s t n answer h. advances-adds built_items list_name g.T.Clone.is_clone right_items s t n
     true answer h)
     (λ s t answer h. h) (λ s t answer h. h) (λ s t answer h. h)
-    c.in_ok-merge.ensures.merged c.new-state.ensures.a c.new-state.ensures.b (rw c.new-state.ensures.same_reference refl)
+    c.in_ok-merge_as.ensures.merged c.new-state.ensures.a c.new-state.ensures.b (rw c.new-state.ensures.same_reference refl)
     (λ e. let k = c.new-state.ensures.same_reference in let n = ap (λ r. r.ghost_name) k in grind arith))
