@@ -197,8 +197,8 @@ module _ {X : Type 0} (cmp : X → X → Ordering) (total : IsTotalOrder cmp) (f
   comes-second true t ks x e a = subst (λ o. Comes (λ v w. v ≡ w) o None (Some t)) (sym (element_at-first cmp t ks x e)) refl
   comes-second false t ks x e a = subst (λ o. Comes (λ v w. v ≡ w) o None (Some t)) (sym (element_at-none cmp total t x ks a e)) tt
 
-  comes-as : (o p q r s t : Option X) → o ≡ p → q ≡ r → s ≡ t → Comes (λ v w. v ≡ w) o q s → Comes (λ v w. v ≡ w) p r t
-  comes-as o p q r s t e g h k =
+  comes-as : {o p q r s t : Option X} → o ≡ p → q ≡ r → s ≡ t → Comes (λ v w. v ≡ w) o q s → Comes (λ v w. v ≡ w) p r t
+  comes-as {o} {p} {q} {r} {s} {t} e g h k =
       subst (λ z. Comes (λ v w. v ≡ w) p r z) h (subst (λ z. Comes (λ v w. v ≡ w) p z s) g
       (subst (λ z. Comes (λ v w. v ≡ w) z q s) e k))
 
@@ -208,11 +208,11 @@ module _ {X : Type 0} (cmp : X → X → Ordering) (total : IsTotalOrder cmp) (f
       → Comes (λ v w. v ≡ w) (element_at cmp (kept f p q (left_alone t ∷ es)) x) (element_at cmp (t ∷ lefts es) x)
       (element_at cmp (rights es) x)
   comes-left p q t es x true e a rest =
-      comes-as _ _ _ _ _ _ refl (sym (element_at-first cmp t (lefts es) x e)) refl
+      comes-as refl (sym (element_at-first cmp t (lefts es) x e)) refl
       (comes-first (exactly_one (f p q) (f (not p) q)) t (kept f (not p) q es) x (element_at cmp (rights es) x) e
       (each-kept (λ z. cmp t z ≡ Less) (not p) q es a))
   comes-left p q t es x false e a rest =
-      comes-as _ _ _ _ _ _ (sym (element-put_if (exactly_one (f p q) (f (not p) q)) t (kept f (not p) q es) x e))
+      comes-as (sym (element-put_if (exactly_one (f p q) (f (not p) q)) t (kept f (not p) q es) x e))
       (sym (element_at-later cmp t (lefts es) x e)) refl rest
 
   comes-right : (p q : Bool) (t : X) (es : List (Event X X)) (x : X) (c : Bool) → eq_by_cmp cmp t x ≡ c
@@ -221,13 +221,13 @@ module _ {X : Type 0} (cmp : X → X → Ordering) (total : IsTotalOrder cmp) (f
       → Comes (λ v w. v ≡ w) (element_at cmp (kept f p q (right_alone t ∷ es)) x) (element_at cmp (lefts es) x)
       (element_at cmp (t ∷ rights es) x)
   comes-right p q t es x true e a rest =
-      comes-as _ _ _ _ _ _ refl
+      comes-as refl
       (sym (element_at-none cmp total t x (lefts es) (each-left (λ z. cmp t z ≡ Less) es a) e))
       (sym (element_at-first cmp t (rights es) x e))
       (comes-second (exactly_one (f p q) (f p (not q))) t (kept f p (not q) es) x e
       (each-kept (λ z. cmp t z ≡ Less) p (not q) es a))
   comes-right p q t es x false e a rest =
-      comes-as _ _ _ _ _ _ (sym (element-put_if (exactly_one (f p q) (f p (not q))) t (kept f p (not q) es) x e))
+      comes-as (sym (element-put_if (exactly_one (f p q) (f p (not q))) t (kept f p (not q) es) x e))
       refl (sym (element_at-later cmp t (rights es) x e)) rest
 
   comes-both : (p q : Bool) (t u : X) (es : List (Event X X)) (x : X) (c : Bool) → eq_by_cmp cmp t x ≡ c → cmp t u ≡ Equal
@@ -237,11 +237,11 @@ module _ {X : Type 0} (cmp : X → X → Ordering) (total : IsTotalOrder cmp) (f
       → Comes (λ v w. v ≡ w) (element_at cmp (kept f p q (collision t u ∷ es)) x) (element_at cmp (t ∷ lefts es) x)
       (element_at cmp (u ∷ rights es) x)
   comes-both p q t u es x true e m a rest =
-      comes-as _ _ _ _ _ _ refl (sym (element_at-first cmp t (lefts es) x e)) refl
+      comes-as refl (sym (element_at-first cmp t (lefts es) x e)) refl
       (comes-first (exactly_one (f p q) (f (not p) (not q))) t (kept f (not p) (not q) es) x (element_at cmp (u ∷ rights es) x)
       e (each-kept (λ z. cmp t z ≡ Less) (not p) (not q) es a))
   comes-both p q t u es x false e m a rest =
-      comes-as _ _ _ _ _ _
+      comes-as
       (sym (element-put_if (exactly_one (f p q) (f (not p) (not q))) t (kept f (not p) (not q) es) x e))
       (sym (element_at-later cmp t (lefts es) x e))
       (sym (element_at-later cmp u (rights es) x (ap is_eq (sym (total.congr t u x m)) ∙ e))) rest
@@ -269,6 +269,6 @@ module _ {X : Type 0} (cmp : X → X → Ordering) (total : IsTotalOrder cmp) (f
         at = λ x. at a.below b.below es x o
             ∙ ap (λ l. f (turned cmp a.below l x) (turned cmp b.below (rights es) x)) s.left
             ∙ ap (λ r. f (turned cmp a.below a.turns x) (turned cmp b.below r x)) s.right;
-        kept = λ x. comes-as _ _ _ _ _ _ refl (ap (λ l. element_at cmp l x) s.left) (ap (λ r. element_at cmp r x) s.right)
+        kept = λ x. comes-as refl (ap (λ l. element_at cmp l x) s.left) (ap (λ r. element_at cmp r x) s.right)
             (comes a.below b.below es x o);
       }

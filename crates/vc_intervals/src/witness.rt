@@ -53,10 +53,10 @@ impl<'a, const LEFT: bool, const RIGHT: bool, const BOTH: bool, T: Ord, C: Count
     ghost ready = { λ _ _. Unit {0} };
 
     ghost gives = { λ _. record {
-      from_a = λ s n answer t. Seeks (keeps LEFT RIGHT BOTH) (λ u. u.in_a) (λ u. u.in_b) (λ u. u.found)
-          true false n s answer t;
-      from_b = λ s n answer t. Seeks (keeps LEFT RIGHT BOTH) (λ u. u.in_a) (λ u. u.in_b) (λ u. u.found)
-          false true n s answer t;
+      from_a = λ s n answer t. Seeks (keeps LEFT RIGHT BOTH) (λ u. u.in_a) (λ u. u.in_b)
+          (λ u. u.found) true false n s answer t;
+      from_b = λ s n answer t. Seeks (keeps LEFT RIGHT BOTH) (λ u. u.in_a) (λ u. u.in_b)
+          (λ u. u.found) false true n s answer t;
       collision = λ s answer t. Seeks (keeps LEFT RIGHT BOTH) (λ u. u.in_a) (λ u. u.in_b)
           (λ u. u.found) true true 1 s answer t;
     } };
