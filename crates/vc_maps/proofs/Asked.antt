@@ -167,14 +167,15 @@ module _ {K V W : Type 0} (cmp : K → K → Ordering) (total : IsTotalOrder cmp
       record { each = λ es s. (can.each (collision x y ∷ es) (heads-script x xs y ys ascend e es s)).1 }
 
   -- what a call leaves that passed the first pair of each
-  pub heads-passed : (R : Type 0) (xs : List (K × V)) (ys : List (K × W)) (xs' : List (K × V)) (ys' : List (K × W))
+  pub heads-passed : (xs : List (K × V)) (ys : List (K × W))
       → BothAscend (by_key cmp) xs ys → HeadsCompare (by_key cmp) xs ys Equal → CanAsk cmp kind Takes xs ys
-      → (answer : Answer) → IfOk answer (λ go_on. go_on ≡ true → (xs' ≡ drop 1 xs) × (ys' ≡ drop 1 ys) × R)
+      → (R : Type 0) (xs' : List (K × V)) (ys' : List (K × W)) (answer : Answer)
+      → IfOk answer (λ go_on. go_on ≡ true → (xs' ≡ drop 1 xs) × (ys' ≡ drop 1 ys) × R)
       → IfOk answer (λ go_on. go_on ≡ true → (xs' ≡ drop 1 xs) × (ys' ≡ drop 1 ys)
       × (R × BothAscend (by_key cmp) xs' ys' × CanAsk cmp kind Takes xs' ys'))
-  heads-passed R [] ys xs' ys' ascend e can answer h = absurd e
-  heads-passed R (x ∷ xs) [] xs' ys' ascend e can answer h = absurd e
-  heads-passed R (x ∷ xs) (y ∷ ys) xs' ys' ascend e can (Ok b) h = λ g.
+  heads-passed [] ys ascend e can R xs' ys' answer h = absurd e
+  heads-passed (x ∷ xs) [] ascend e can R xs' ys' answer h = absurd e
+  heads-passed (x ∷ xs) (y ∷ ys) ascend e can R xs' ys' (Ok b) h = λ g.
       let p = h g in (
         p.0,
         p.1,
@@ -186,7 +187,7 @@ module _ {K V W : Type 0} (cmp : K → K → Ordering) (total : IsTotalOrder cmp
               (subst (λ l. CanAsk cmp kind Takes xs l) (sym p.1) (tails-can x xs y ys ascend e can)),
         ),
       )
-  heads-passed R (x ∷ xs) (y ∷ ys) xs' ys' ascend e can (Err z) h = tt
+  heads-passed (x ∷ xs) (y ∷ ys) ascend e can R xs' ys' (Err z) h = tt
 
   -- what may be asked at each key may be asked along the script
   pub can-ask : (xs : List (K × V)) (ys : List (K × W))

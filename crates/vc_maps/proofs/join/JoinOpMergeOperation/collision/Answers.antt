@@ -7,4 +7,4 @@ ask_both-requires-clause-takes g c = let r = c.requires.ready in
 
 pub returns-clause-takes : goal.returns-clause-takes
 returns-clause-takes g c = let r = c.requires.ready in
-    heads-passed g.K.Ord.cmp g.met.K.Ord.total _ _ _ _ _ _ _ r.1 c.requires.equal r.2 _ c.ask_both.ensures.passes
+    heads-passed g.K.Ord.cmp g.met.K.Ord.total _ _ _ _ r.1 c.requires.equal r.2 _ _ _ _ c.ask_both.ensures.passes
