@@ -124,17 +124,17 @@ Stands-fresh start s fresh = record {
 }
 
 -- what stands with a writer stands where that is flushed
-pub Stands-kept : (ls : List (List ℕ)) (taken : List ℕ) (start old new : Option (List ℕ)) (s : Session)
+pub Stands-kept : {ls : List (List ℕ)} {taken : List ℕ} {start old new : Option (List ℕ)} {s : Session}
     → Keeps old new → Stands ls taken start old s → Stands ls taken start new s
-Stands-kept ls taken start old new s kept stood =
+Stands-kept {ls} {taken} {start} {old} {new} {s} kept stood =
     record { progress = Progress-kept ls start old new s kept stood.progress; holds = stood.holds; misses = stood.misses }
 
 -- a chunk was read and taken
-pub Reading-chunk : (text chunk : List ℕ) (before after start old new : Option (List ℕ)) (s t : Session)
+pub Reading-chunk : {text : List ℕ} (chunk : List ℕ) {before after start old new : Option (List ℕ)} {s t : Session}
     → (r : Reading text before start old s) → Consumes before after chunk
     → Stands (r.done ++ ended_in r.taken (parts_of Newline chunk))
     (left_of r.taken (parts_of Newline chunk)) start new t → Reading text after start new t
-Reading-chunk text chunk before after start old new s t r took stands =
+Reading-chunk {text} chunk {before} {after} {start} {old} {new} {s} {t} r took stands =
     let read = read-known r.rest chunk after (subst (λ b. Consumes b after chunk) r.reader took) in
     record {
       done = r.done ++ ended_in r.taken (parts_of Newline chunk);

@@ -11,13 +11,13 @@ use Rattle.vecbench_lines.proofs.Cutting.{take-drop_rest}
 use Rattle.vecbench_lines.proofs.Replying.{on_ok-map}
 
 -- what is written piece by piece is the prefix, the mark and the children in parentheses
-pub pieces-written : {E : Type 0} (r : Result (Unit {0}) E)
-    (old keyed marked opened begun done new prefix mark first others children : List ℕ)
+pub pieces-written : {E : Type 0} {keyed marked opened begun done children : List ℕ} (old prefix mark first others : List ℕ)
+    (r : Result (Unit {0}) E) (new : List ℕ)
     → keyed ≡ old ++ prefix → marked ≡ keyed ++ mark → opened ≡ marked ++ 40 ∷ [] → begun ≡ opened ++ first → done
     ≡ begun ++ others
     → children ≡ 40 ∷ ((first ++ others) ++ 41 ∷ []) → OnOk r (new ≡ done ++ 41 ∷ [])
     → OnOk r (new ≡ old ++ (prefix ++ mark ++ children))
-pieces-written r old keyed marked opened begun done new prefix mark first others children e1 e2 e3 e4 e5 e6 closed =
+pieces-written {E} {keyed} {marked} {opened} {begun} {done} {children} old prefix mark first others r new e1 e2 e3 e4 e5 e6 closed =
     let start : List ℕ = (old ++ prefix) ++ mark in
     let pieces : done ≡ ((start ++ 40 ∷ []) ++ first) ++ others =
     e5 ∙ ap (λ l. l ++ others) (e4 ∙ ap (λ l. l ++ first) (e3 ∙ ap (λ l. l ++ 40 ∷ []) (e2 ∙ ap (λ l. l ++ mark) e1))) in

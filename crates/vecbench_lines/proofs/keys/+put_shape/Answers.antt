@@ -25,4 +25,4 @@ returns g t c =
     search rules in
     let children = children-written tree c.children.result.now (tree c.args.tree.now) c.first-item.result c.loop-child.child-index
     c.children.ensures c.in-len1-up.len_at_least c.first-item.is c.loop-child.auto.child-index-end c.loop-child-test.false in
-    pieces-written c.push-2.result _ _ _ _ _ _ _ _ _ _ _ _ keyed marked opened begun c.loop-child.invariant children closed
+    pieces-written _ _ _ _ _ c.push-2.result _ keyed marked opened begun c.loop-child.invariant children closed

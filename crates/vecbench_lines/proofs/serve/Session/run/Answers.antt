@@ -16,13 +16,13 @@ returns-then-count-eq0 g c text is stood =
     on_ok-map c.finish.result
     (λ p. subst (λ ls. Progress ls (g.O.Write.contents c.args.output.now) (g.O.Write.contents c.finish.new.output)
     c.finish.new.self) (sym (Reading-end text _ _ _ _ _ reading none (took.1 zero some))) p)
-    (c.finish.ensures reading.done reading.taken _ (Stands-kept _ _ _ _ _ _ c.flush.ensures.bytes reading.stands))
+    (c.finish.ensures reading.done reading.taken _ (Stands-kept c.flush.ensures.bytes reading.stands))
 
 pub loop-preserved : goal.loop-preserved
 loop-preserved g c = (
   omega (arith, c.loop.invariant.0, c.read_some.auto.chunk),
   λ text is stood.
       let reading = c.loop.invariant.1 text is stood in
-      Reading-chunk text _ _ _ _ _ _ _ _ reading c.in_ok-count.ensures.bytes.0
-      (c.in_ok-take_chunk.ensures reading.done reading.taken _ (Stands-kept _ _ _ _ _ _ c.flush.ensures.bytes reading.stands)),
+      Reading-chunk _ reading c.in_ok-count.ensures.bytes.0
+      (c.in_ok-take_chunk.ensures reading.done reading.taken _ (Stands-kept c.flush.ensures.bytes reading.stands)),
 )
