@@ -72,20 +72,20 @@ module _ {K V : Type 0} (cmp : K → K → Ordering) (is_clone : V → V → Typ
   }
 
   -- two keys that are bound in either order, after maps that are equal
-  pub inserts-alike : (j k : List K) (v w : V) (m n left both right others : List K → Option V) → InsertsCommute K V cmp
-      → IsFalse (same_key cmp j k) → IsEqualMap (λ x y. x ≡ y) m n
+  pub inserts-alike : (j k : List K) (v w : V) → InsertsCommute K V cmp → IsFalse (same_key cmp j k)
+      → (m n : List K → Option V) → IsEqualMap (λ x y. x ≡ y) m n → (left both right others : List K → Option V)
       → IsUpdated cmp (λ x y. x ≡ y) j v m left → IsUpdated cmp (λ x y. x ≡ y) k w left both
       → IsUpdated cmp (Copies is_clone) k w n right → IsUpdated cmp (Copies is_clone) j v right others
       → IsEqualMap (λ x y. x ≡ y) both others
-  inserts-alike j k v w m n left both right others law two e a b c d =
+  inserts-alike j k v w law two m n e left both right others a b c d =
       law j k v w m left both right others two a b (updated-after k w m n right e c) (updated-exact j v right others d)
 
   -- one run of commands, accepted alike, from maps that are equal
-  pub runs-alike : (m n : List K → Option V) (cs ds : List (Command K V)) (oks more : List Bool) (left others : List K → Option V)
+  pub runs-alike : (m n left others : List K → Option V) {cs ds : List (Command K V)} {oks more : List Bool}
       → RunIsFunction K V cmp is_clone → IsEqualMap (λ x y. x ≡ y) m n → ds ≡ cs → more ≡ oks
       → Run cmp (Copies is_clone) m cs oks left → Run cmp (Copies is_clone) n ds more others
       → IsEqualMap (λ x y. x ≡ y) left others
-  runs-alike m n cs ds oks more left others law e same accepted h k =
+  runs-alike m n left others {cs} {ds} {oks} {more} law e same accepted h k =
       maps-exact is_clone exact left others
       (law m n cs oks left others (maps-one_source is_clone m n e) h
       (subst (λ xs. Run cmp (Copies is_clone) n xs oks others) same

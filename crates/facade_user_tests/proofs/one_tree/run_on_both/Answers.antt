@@ -7,5 +7,5 @@ use Rattle.facade_user_tests.proofs.one_tree.run_on_both.Goals as goal
 pub returns : goal.returns
 returns c = λ accepted.
     (c.canonical_is_unique.ensures _ _ c.run.ensures.canonical c.run-2.ensures.canonical).1
-    (runs-alike nat_cmp (λ x y. y ≡ x) (λ x y e. e) _ _ _ _ _ _ _ _ c.run_is_function.ensures c.requires.alike
+    (runs-alike nat_cmp (λ x y. y ≡ x) (λ x y e. e) _ _ _ _ c.run_is_function.ensures c.requires.alike
     c.requires.changes accepted c.run.ensures.steps c.run-2.ensures.steps)
