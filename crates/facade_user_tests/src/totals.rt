@@ -1,6 +1,6 @@
 //! Arithmetic of total maps from outside, by operators on references, with what a user says of the
 //! value at each key.
-ghost use Rattle.std.specs.Prelude.{◌≡◌, ◌==◌, ◌+◌, ◌-◌, ◌*◌, ◌/◌, ◌^◌, ◌<◌, ◌≤◌, ℕ, cond, min, Ok, IfOk};
+ghost use Rattle.std.specs.Prelude.{◌≡◌, ◌==◌, ◌+◌, ◌-◌, ◌*◌, ◌/◌, ◌^◌, ◌<◌, ◌≤◌, ℕ, cond, min, Ok, IfOk, OnOk};
 ghost use Rattle.std.specs.Ordering.{nat_cmp};
 ghost use Rattle.vec_collections.specs.CombinedTotals.{HoldsEverywhere, CombinesValues};
 ghost use Rattle.vec_collections.specs.TotalMap.{at};
@@ -36,6 +36,14 @@ pub fn only(alloc: Global, article: u32, pieces: u32) -> Result<Tally, AllocErro
         → at nat_cmp tally other ≡ cond (other == article) pieces 0) }
 {
     Ok(TotalVecMap::new(VecMap::single(alloc, (article, pieces))?, 0))
+}
+
+/// Counts one article anew. The pieces of all others stay.
+pub fn recount(tally: &mut Tally, article: u32, pieces: u32) -> Result<(), AllocError>
+    ensures { OnOk result ((other : ℕ) → at nat_cmp tally.new other
+        ≡ cond (other == article) pieces (at nat_cmp tally.old other)) }
+{
+    tally.set(article, pieces)
 }
 
 /// The pieces of each article together, or the greatest number where they are more.

@@ -242,6 +242,15 @@ fn is_read(map: &Numbers) -> Result<bool, AllocError> {
     Ok(is_shown && map.clone()? == *map)
 }
 
+/// Whether what is put into a map of 4 to 7, and of all else to 1, stands there: a value of its own,
+/// and the default, which is not listed.
+fn is_written(map: &Numbers) -> Result<bool, AllocError> {
+    let mut map = map.clone()?;
+    map.set(9, Number(3))?;
+    map.set(4, Number(1))?;
+    Ok(has(&map, (1, &[(9, 3)])))
+}
+
 /// Whether the maps of 1 and of 2 alone are ordered by their values, which are not hashed.
 fn constants_compare(alloc: Global) -> bool {
     let one = Numbers::constant(alloc, Number(1));
@@ -262,6 +271,7 @@ const PRINTED: &str = "TotalVecMap { values: {4: Number(7)}, default: Number(1) 
 fn maps_are_read_and_compared(rt: HostRuntime) -> Result<(), Fail> {
     let map = numbers(rt.alloc(), (1, &[(2, 1), (4, 7)]))?;
     assert!(rt; is_read(&map)?);
+    assert!(rt; is_written(&map)?);
     assert!(rt; constants_compare(rt.alloc()));
     assert!(rt; is_printed(rt.alloc(), &map, PRINTED)?);
     Ok(())

@@ -1,5 +1,5 @@
 -- What a contract sees of a `TotalVecMap`: pairs in ascending order of their keys, and the value that stands at each other key.
-use Rattle.std.specs.Prelude.{Bool, List, IfSome, IsFalse, refl}
+use Rattle.std.specs.Prelude.{Bool, cond, List, Option, Some, None, IfSome, IsFalse, refl}
 use Rattle.std.specs.Coded.{Coded, code_by, coded×, coded_list}
 use Rattle.std.specs.List.{AllZip}
 use Rattle.std.specs.Option.{unwrap_or}
@@ -23,6 +23,14 @@ module _ {K V : Type 0} where
   -- the value at a key: the one that is mapped, and else the default
   abbrev pub at : (K → K → Ordering) → TotalMap K V → K → V
   at cmp m k = unwrap_or (value_at cmp m.mappings k) m.default
+
+  -- the value that stands where v is put: v, or the default itself where v equals it
+  abbrev pub put_value : (V → V → Bool) → TotalMap K V → V → V
+  put_value eq m v = cond (eq v m.default) m.default v
+
+  -- the pair that is listed where p is put: none, where its value equals the default
+  abbrev pub put_entry : (V → V → Bool) → TotalMap K V → K × V → Option (K × V)
+  put_entry eq m p = cond (eq p.1 m.default) None (Some p)
 
   -- no key is mapped to a value that equals the default
   abbrev pub NoneIsDefault : (K → K → Ordering) → (V → V → Bool) → TotalMap K V → Type 0
