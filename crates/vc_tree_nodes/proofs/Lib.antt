@@ -8,3 +8,5 @@ pub mod Growing
 pub mod Events
 pub mod Parted
 pub mod Longest
+pub mod Runs
+pub mod Groups

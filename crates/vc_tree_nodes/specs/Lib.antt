@@ -3,3 +3,4 @@ pub mod Places
 pub mod Parting
 pub mod Growth
 pub mod SameTests
+pub mod Ascending

@@ -8,38 +8,14 @@ ghost use Rattle.vc_tree_model.specs.Matches.{AreCopies};
 ghost use Rattle.vc_tree_model.specs.OneTree.{IsOneTree, IsSmallest};
 ghost use Rattle.vc_tree_model.specs.Pairs.{IsCollected};
 
-use crate::insertion::insert;
+use crate::gathering::Gathering;
 use crate::plain::RadixTree;
-use crate::reading::{RadixNode, TKey, TValue, canonical};
+use crate::reading::{TKey, TValue, canonical};
+use crate::spelling::Spelled;
 use std::alloc::{AllocError, Global};
 use std::default::MadeWith;
 
-/// A list of components that is handed in as a key.
-trait Spelled<K>: Drop {
-    ghost components: { Self → List K };
-
-    /// The components.
-    fn as_key(&self) -> &[K]
-        ensures { result.now ≡ components self.now };
-}
-
-impl<'a, K> Spelled<K> for &'a [K] {
-    ghost components = { λ key. key.now };
-
-    fn as_key(&self) -> &[K] {
-        self
-    }
-}
-
-impl<K: Drop> Spelled<K> for Vec<K> {
-    ghost components = { λ key. key.items };
-
-    fn as_key(&self) -> &[K] {
-        self.as_slice()
-    }
-}
-
-/// Binds the pairs one after the other.
+/// The tree of the pairs: in one go as far as their keys ascend, and then one by one.
 fn collect<K: TKey + MadeWith<Global>, V: TValue, S: Spelled<K>, I: Iterator<Item = (S, V)>>(
     alloc: Global,
     iter: I,
@@ -51,9 +27,11 @@ fn collect<K: TKey + MadeWith<Global>, V: TValue, S: Spelled<K>, I: Iterator<Ite
     ensures canonical { IfOk result (IsCanonical K.cmp) }
 {
     let mut tree = RadixTree::bare(alloc);
+    let mut gathering = Gathering::new(alloc);
     for (key, value) in iter {
-        insert(&mut tree, key.as_key(), value)?;
+        gathering.add(alloc, &mut tree, key, value)?;
     }
+    gathering.finish(alloc, &mut tree)?;
     canonical(&tree);
     Ok(tree)
 }

@@ -3,12 +3,14 @@
 //! `vc_trees`.
 #![tactic(auto)]
 
+mod ascending;
 pub mod building;
 pub mod children;
 pub mod collecting;
 pub mod comparing;
 pub mod copying;
 pub mod descent;
+mod gathering;
 pub mod insertion;
 pub mod making;
 pub mod parting;
@@ -19,3 +21,4 @@ mod sealed;
 pub mod shared;
 pub mod sharing;
 pub mod showing;
+mod spelling;

@@ -2,13 +2,15 @@
 use Rattle.std.proofs.Common.{map, sym, subst, ◌∙◌}
 use Rattle.std.proofs.iter.SoFar.{exit_by}
 use Rattle.vc_tree_model.specs.Pairs.{IsCollected}
-use Rattle.vc_tree_model.proofs.Collecting.{collected-next}
+use Rattle.vc_tree_nodes.proofs.Runs.{yielded-more}
 use Rattle.vc_tree_nodes.proofs.collecting.collect.Goals as goal
 
 pub loop-key-preserved : goal.loop-key-preserved
-loop-key-preserved g c =
-    collected-next g.K.Ord.cmp g.S.Spelled.components c.loop-key.yielded (c.in-Some.key, c.in-Some.value)
-    c.as_key.result.now c.loop-key.tree c.insert.new.tree c.as_key.ensures c.loop-key.invariant c.in_ok-insert.ensures.ok
+loop-key-preserved g c = (
+  c.in_ok-add.ensures.grows,
+  yielded-more g.K.Ord.cmp g.S.Spelled.components c.loop-key.yielded (c.in-Some.key, c.in-Some.value) _ _
+      c.loop-key.invariant.1 c.in_ok-add.ensures.binds,
+)
 
 pub returns-clause-pairs : goal.returns-clause-pairs
 returns-clause-pairs g c =
@@ -18,6 +20,6 @@ returns-clause-pairs g c =
       whole.0,
       whole.1 ∙ c.into_iter-key-iterator.ensures.into_iter_gives,
       whole.2,
-      subst (λ xs. IsCollected g.K.Ord.cmp (map (λ b. (g.S.Spelled.components b.0, b.1)) xs) c.loop-key.tree)
-          (sym whole.3.0) c.loop-key.invariant,
+      subst (λ xs. IsCollected g.K.Ord.cmp (map (λ b. (g.S.Spelled.components b.0, b.1)) xs) c.finish.new.tree)
+          (sym whole.3.0) (λ k. c.in_ok-finish.ensures k ∙ c.loop-key.invariant.1 k),
     )

@@ -1,0 +1,203 @@
+//! Trees of keys that ascend. Each node is made once, with as much room as its children take.
+
+ghost use Rattle.std.specs.Prelude.{◌≡◌, ◌<◌, ◌≤◌, ◌∷◌, length, drop, IfOk, OnOk, IfSome};
+ghost use Rattle.std.specs.Vec.Iter.{into_iter_items};
+ghost use Rattle.vc_tree_model.specs.Canonical.{AreChildren};
+ghost use Rattle.vc_tree_nodes.specs.Ascending.{Follows, HasCommon, HaveCommon, IsGroupOf};
+ghost use Rattle.vc_tree_nodes.specs.Ascending.{IsRunBehind, GoOnBehind, HeadAbove, FirstEnds, IsAdded, IsBuilt};
+ghost use Rattle.vc_tree_nodes.specs.Ascending.{pairs_behind};
+ghost use Rattle.vc_tree_nodes.specs.Children.{seen};
+
+use crate::building::Build;
+use crate::insertion::single;
+use crate::making::new_node;
+use crate::parting::{Parting, find_parting};
+use crate::reading::{TKey, TValue};
+use crate::spelling::Spelled;
+use std::alloc::{AllocError, Global};
+use std::vec::IntoIter;
+use vc_merge::merge::Uncounted;
+
+/// A key of a run.
+#[derive(Drop)]
+pub struct Step<S> {
+    pub key: S,
+    /// With how many components of the key before it this key begins.
+    pub common: usize,
+}
+
+/// With how many components of the key before it the key begins, where it is the greater one.
+pub fn common_front<K: Ord>(before: &[K], key: &[K]) -> Option<usize>
+    ensures { IfSome result (Follows K.cmp before.now key.now) }
+{
+    match find_parting(before, key, 0, &mut Uncounted) {
+        Parting::Lower(n) => Some(n),
+        Parting::Behind if before.len() < key.len() => Some(before.len()),
+        _ => None,
+    }
+}
+
+/// The least number of components that a key has in common with the one before it, and of how many
+/// keys it is the number.
+fn least_common<S>(run: &[Step<S>]) -> (usize, usize)
+    requires { 0 < length run.now }
+    ensures least { HaveCommon (λ s. s.common) result.0 run.now }
+    ensures has { HasCommon (λ s. s.common) result.0 run.now }
+    ensures count { result.1 ≤ length run.now }
+{
+    let mut least = run[0].common;
+    let mut count = 0;
+    for step in run {
+        if step.common < least {
+            least = step.common;
+            count = 1;
+        } else if step.common == least {
+            count += 1;
+        }
+    }
+    (least, count)
+}
+
+/// How many keys there are before the second one that has no more than so many components in common
+/// with the one before it.
+fn group_len<S>(run: &[Step<S>], common: usize) -> usize
+    requires { 0 < length run.now }
+    ensures { IsGroupOf (λ s. s.common) common result run.now }
+{
+    let mut len = 1;
+    while len < run.len() && common < run[len].common {
+        len += 1;
+    }
+    len
+}
+
+/// The next value.
+fn take_next<V: Drop>(values: &mut IntoIter<V, Global>) -> V
+    requires { 0 < length (into_iter_items values.old) }
+    ensures { into_iter_items values.old ≡ result ∷ into_iter_items values.new }
+{
+    match values.next() {
+        Some(value) => value,
+        None => unreachable!(),
+    }
+}
+
+/// The tree of what is left of the keys of a run behind `depth` components that all of them have in
+/// common. The values come in the order of the keys.
+#[cycle(ascending)]
+pub fn build_run<K: TKey, V: TValue, S: Spelled<K>, T: Build<K, V>>(
+    alloc: Global,
+    run: &[Step<S>],
+    depth: usize,
+    values: &mut IntoIter<V, Global>,
+) -> Result<T, AllocError>
+    requires run { IsRunBehind K.cmp (λ s. S.components s.key) (λ s. s.common) depth run.now }
+    requires values { length run.now ≤ length (into_iter_items values.old) }
+    ensures built { IfOk result (λ t. IsBuilt K.cmp (λ s. S.components s.key) (λ s. s.common)
+        depth run.now (into_iter_items values.old) (T.tree t)) }
+    ensures left { OnOk result
+        (into_iter_items values.new ≡ drop (length run.now) (into_iter_items values.old)) }
+{
+    let key = run[0].key.as_key();
+    if run.len() == 1 {
+        return single(alloc, &key[depth..], take_next(values));
+    }
+    let (_, others) = run.split_at(1);
+    let (common, count) = least_common(others);
+    if common == key.len() {
+        build_ended(alloc, run, depth, common, count, values)
+    } else {
+        build_open(alloc, run, depth, common, count, values)
+    }
+}
+
+/// The same, where all keys begin with the first one, which has `common` components.
+#[cycle(ascending)]
+fn build_ended<K: TKey, V: TValue, S: Spelled<K>, T: Build<K, V>>(
+    alloc: Global,
+    run: &[Step<S>],
+    depth: usize,
+    common: usize,
+    room: usize,
+    values: &mut IntoIter<V, Global>,
+) -> Result<T, AllocError>
+    requires run { IsRunBehind K.cmp (λ s. S.components s.key) (λ s. s.common) common run.now }
+    requires ends { FirstEnds K.cmp (λ s. S.components s.key) (λ s. s.common) common run.now }
+    requires two { 1 < length run.now }
+    requires deeper { depth ≤ common }
+    requires values { length run.now ≤ length (into_iter_items values.old) }
+    ensures built { IfOk result (λ t. IsBuilt K.cmp (λ s. S.components s.key) (λ s. s.common)
+        depth run.now (into_iter_items values.old) (T.tree t)) }
+    ensures left { OnOk result
+        (into_iter_items values.new ≡ drop (length run.now) (into_iter_items values.old)) }
+{
+    let mut children = Vec::with_capacity(alloc, room)?;
+    let value = take_next(values);
+    let (_, others) = run.split_at(1);
+    build_groups(alloc, others, common, values, &mut children)?;
+    let key = run[0].key.as_key();
+    new_node(alloc, &key[depth..common], Some(value), children)
+}
+
+/// The same, where all keys go on behind `common` components that they have in common, and have no
+/// more in common.
+#[cycle(ascending)]
+fn build_open<K: TKey, V: TValue, S: Spelled<K>, T: Build<K, V>>(
+    alloc: Global,
+    run: &[Step<S>],
+    depth: usize,
+    common: usize,
+    count: usize,
+    values: &mut IntoIter<V, Global>,
+) -> Result<T, AllocError>
+    requires some { 0 < length run.now }
+    requires run { GoOnBehind K.cmp (λ s. S.components s.key) (λ s. s.common) common run.now }
+    requires parts { HasCommon (λ s. s.common) common (drop 1 run.now) }
+    requires count { count < length run.now }
+    requires deeper { depth ≤ common }
+    requires values { length run.now ≤ length (into_iter_items values.old) }
+    ensures built { IfOk result (λ t. IsBuilt K.cmp (λ s. S.components s.key) (λ s. s.common)
+        depth run.now (into_iter_items values.old) (T.tree t)) }
+    ensures left { OnOk result
+        (into_iter_items values.new ≡ drop (length run.now) (into_iter_items values.old)) }
+{
+    let mut children = Vec::with_capacity(alloc, count + 1)?;
+    let (group, others) = run.split_at(group_len(run, common));
+    children.push(build_run(alloc, group, common, values)?)?;
+    build_groups(alloc, others, common, values, &mut children)?;
+    let key = run[0].key.as_key();
+    new_node(alloc, &key[depth..common], None, children)
+}
+
+/// Puts the trees of the groups of a run behind the children: the keys of a group have more than
+/// `depth` components in common.
+#[cycle(ascending)]
+fn build_groups<K: TKey, V: TValue, S: Spelled<K>, T: Build<K, V>>(
+    alloc: Global,
+    run: &[Step<S>],
+    depth: usize,
+    values: &mut IntoIter<V, Global>,
+    children: &mut Vec<T>,
+) -> Result<(), AllocError>
+    requires some { 0 < length run.now }
+    requires run { GoOnBehind K.cmp (λ s. S.components s.key) (λ s. s.common) depth run.now }
+    requires values { length run.now ≤ length (into_iter_items values.old) }
+    requires children { AreChildren K.cmp (seen T.tree children.old.items) }
+    requires above { HeadAbove K.cmp (λ s. S.components s.key) depth
+        (seen T.tree children.old.items) run.now }
+    ensures pairs { OnOk result (IsAdded K.cmp (pairs_behind (λ s. S.components s.key) depth
+        run.now (into_iter_items values.old)) (seen T.tree children.old.items)
+        (seen T.tree children.new.items)) }
+    ensures children { OnOk result (AreChildren K.cmp (seen T.tree children.new.items)) }
+    ensures more { OnOk result (length children.old.items < length children.new.items) }
+    ensures left { OnOk result
+        (into_iter_items values.new ≡ drop (length run.now) (into_iter_items values.old)) }
+{
+    let mut rest = run;
+    while !rest.is_empty() {
+        let (group, others) = rest.split_at(group_len(rest, depth));
+        children.push(build_run(alloc, group, depth, values)?)?;
+        rest = others;
+    }
+    Ok(())
+}
