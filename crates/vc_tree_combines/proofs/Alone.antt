@@ -1,5 +1,5 @@
 -- What is left of a tree that one side alone has, where that is nothing; values that are copied; and calls of the closures that combines ask.
---     may-answer        what a call answers
+--     inner-answer, outer-answer, left-answer        what a call answers
 --     made-none        the combine of whole trees, of which no key is left
 use Rattle.std.proofs.Common.{◌≡◌, ℕ, [], ◌∷◌, ◌++◌, List, Option, None, Some, Result, Ok, Err, IfOk, refl, sym, ap}
 use Rattle.std.proofs.Common.{subst, ◌∙◌, take, drop}
@@ -8,8 +8,8 @@ use Rattle.std.specs.Option.{option_copied}
 use Rattle.std.specs.declared.cmp.Ordering.{Ordering}
 use denote.Ref.{Bor}
 use denote.Param.Members.{Shared}
-use Rattle.vc_tree_model.specs.Asking.{MayAnswer}
-use Rattle.vc_tree_model.specs.Combine.{IsInnerAt, IsOuterAt, IsUnionAt, IsIntersectionAt, IsDifferenceAt}
+use Rattle.vc_tree_model.specs.Asking.{MayAnswer, MayAnswerAt}
+use Rattle.vc_tree_model.specs.Combine.{IsInnerAt, IsLeftAt, IsOuterAt, IsUnionAt, IsIntersectionAt, IsDifferenceAt}
 use Rattle.vc_tree_model.specs.Tree.{Tree, no_tree, node, shortened}
 use Rattle.vc_tree_model.specs.Map.{node_lookup, lookup, lookup_in}
 use Rattle.vc_tree_model.specs.Value.{IsKept, Copies, itself, cloned}
@@ -86,20 +86,31 @@ outer-left l r answers None (Some z) h = absurd h
 outer-left l r answers (Some v) z h = h
 
 -- what a call answers
-pub may-answer : {V W F E X : Type 0} (g : Shared F (Bor V × (Bor W × Unit {0})) (Result X E)) (f : F) (p : Bor V) (q : Bor W)
+may-answer : {V W F E X : Type 0} (g : Shared F (Bor V × (Bor W × Unit {0})) (Result X E)) (f : F) (p : Bor V) (q : Bor W)
     (r : Result X E) → g.post f (p, (q, tt)) r → IfOk r (λ z. MayAnswer g f p.now q.now (Ok z))
 may-answer g f p q (Ok z) h = record { left = p; right = q; shows = (refl, refl); answers = h }
 may-answer g f p q (Err e) h = tt
 
-pub inner-answer : {V W F E U : Type 0} (g : Shared F (Bor V × (Bor W × Unit {0})) (Result (Option U) E)) (f : F) (p : Bor V)
-    (q : Bor W) (r : Result (Option U) E) (v : Option (Bor V)) (w : Option (Bor W)) → v ≡ Some p → w ≡ Some q
+pub inner-answer : {V W F E U : Type 0} (g : Shared F (Bor V × (Bor W × Unit {0})) (Result (Option U) E)) (f : F)
+    (r : Result (Option U) E) {p : Bor V} {q : Bor W} {v : Option (Bor V)} {w : Option (Bor W)} → v ≡ Some p → w ≡ Some q
     → g.post f (p, (q, tt)) r → IfOk r (IsInnerAt (λ v w z. MayAnswer g f v w (Ok z)) (option_copied v) (option_copied w))
-inner-answer g f p q r v w a b h = rw (a, b) (may-answer g f p q r h)
+inner-answer g f r {p} {q} a b h = rw (a, b) (may-answer g f p q r h)
 
 pub outer-answer : {V F E : Type 0} (kl kr : V → V → Type 0) (g : Shared F (Bor V × (Bor V × Unit {0})) (Result (Option V) E))
-    (f : F) (p q : Bor V) (r : Result (Option V) E) (v w : Option (Bor V)) → v ≡ Some p → w ≡ Some q → g.post f (p, (q, tt)) r
+    (f : F) (r : Result (Option V) E) {p q : Bor V} {v w : Option (Bor V)} → v ≡ Some p → w ≡ Some q → g.post f (p, (q, tt)) r
     → IfOk r (IsOuterAt kl kr (λ v w z. MayAnswer g f v w (Ok z)) (option_copied v) (option_copied w))
-outer-answer kl kr g f p q r v w a b h = rw (a, b) (may-answer g f p q r h)
+outer-answer kl kr g f r {p} {q} a b h = rw (a, b) (may-answer g f p q r h)
+
+-- and one of what the right tree binds, if anything
+may-answer_at : {V W F E X : Type 0} (g : Shared F (Bor V × (Option (Bor W) × Unit {0})) (Result X E)) (f : F) (p : Bor V)
+    (q : Option (Bor W)) (r : Result X E) → g.post f (p, (q, tt)) r → IfOk r (λ z. MayAnswerAt g f p.now (option_copied q) (Ok z))
+may-answer_at g f p q (Ok z) h = record { left = p; right = q; shows = (refl, refl); answers = h }
+may-answer_at g f p q (Err e) h = tt
+
+pub left-answer : {V W F E U : Type 0} (g : Shared F (Bor V × (Option (Bor W) × Unit {0})) (Result (Option U) E)) (f : F)
+    (r : Result (Option U) E) (w : Option (Bor W)) {p : Bor V} {v : Option (Bor V)} → v ≡ Some p → g.post f (p, (w, tt)) r
+    → IfOk r (IsLeftAt (λ v w z. MayAnswerAt g f v w (Ok z)) (option_copied v) (option_copied w))
+left-answer g f r w {p} a h = rw a (may-answer_at g f p w r h)
 
 -- ---- whole trees
 

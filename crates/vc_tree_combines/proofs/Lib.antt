@@ -2,4 +2,4 @@ pub mod Alone
 pub mod Meeting
 pub mod Passing
 pub mod Testing
-pub mod AnsweredAlone
+pub mod Narrowed

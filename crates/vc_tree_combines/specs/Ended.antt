@@ -1,12 +1,10 @@
--- How a combine begins, and what it makes of a node and of trees that one side alone has. No public clause cites these words.
-use Rattle.std.specs.Prelude.{◌≡◌, ℕ, ◌+◌, ◌≤◌, List, [], map, min, length, Option}
-use Rattle.std.specs.List.{AllByRecursion, filter_map}
+-- How a combine begins, and what it makes of a node. No public clause cites these words.
+use Rattle.std.specs.Prelude.{◌≡◌, ℕ, ◌+◌, ◌≤◌, List, [], min, length, Option}
 use Rattle.std.specs.declared.cmp.Ordering.{Ordering}
 use Rattle.vc_tree_model.specs.Tree.{Tree, Forest}
 use Rattle.vc_tree_model.specs.Child.{solid_child}
 use Rattle.vc_tree_model.specs.Canonical.{IsCanonical}
 use Rattle.vc_tree_facing.specs.Facing.{IsFaced}
-use Rattle.vc_tree_facing.specs.Made.{IsMade}
 use Rattle.vc_tree_facing.specs.declared.sides.Side.{Side}
 
 -- the trees t and u lie side by side, part at n, and nothing is made yet of what stands below. It was compared at most as often as the
@@ -24,11 +22,3 @@ pub record IsEnded {K V : Type 0} (R : Option V → Type 0) (prefix : List K) (k
   pub value : Option V
   pub said : R value
   pub child : o ≡ solid_child prefix value kids
-
--- what is made of some trees that one side alone has, one after another
-pub record AreMadeAlone {K V U A : Type 0} (cmp : K → K → Ordering) (R : Option V → Option U → Type 0) (ta : A → Tree K V) (xs : List A)
-    (made : List (Tree K U)) : Type 0 where
-  pub done : List (A × Option (Tree K U))
-  pub trees : map (λ d. d.0) done ≡ xs
-  pub made_at : AllByRecursion (λ d. IsMade cmp R (ta d.0) d.1) done
-  pub made_are : made ≡ filter_map (λ d. d.1) done

@@ -1,2 +1,4 @@
 pub mod Meeting
 pub mod Ended
+pub mod Narrowing
+pub mod Saying

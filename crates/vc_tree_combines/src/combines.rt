@@ -12,24 +12,18 @@ ghost use Rattle.vc_tree_model.specs.Shortened.{weight, IsShortened};
 ghost use Rattle.vc_tree_model.specs.Tree.{shortened};
 ghost use Rattle.vc_tree_model.specs.Value.{Copies};
 ghost use Rattle.vc_tree_facing.specs.Made.{IsMade};
+ghost use Rattle.vc_tree_combines.specs.Narrowing.{IsTold};
+ghost use Rattle.vc_tree_combines.specs.Saying.{intersection_nothing, difference_nothing};
 
 use crate::engine::{Combine, combine_whole};
+use crate::narrowing::{Alone, Narrow, narrow_whole};
 use std::alloc::{AllocError, Global};
 use std::marker::PhantomData;
 use vc_merge::merge::Count;
 use vc_merge::states::Uncounted;
-use vc_tree_facing::sides::Side;
 use vc_tree_nodes::building::Build;
 use vc_tree_nodes::copying::{clone_value, copy_shortened};
 use vc_tree_nodes::reading::{RadixNode, TKey, TValue};
-
-/// How many events of two lists stand on both sides.
-fn meetings(sides: &[Side]) -> usize {
-    sides
-        .iter()
-        .filter(|side| matches!(side, Side::Both))
-        .count()
-}
 
 /// Keeps the shared keys, with what a closure answers.
 #[derive(Drop)]
@@ -44,22 +38,21 @@ impl<
     V: TValue,
     W: TValue,
     A: RadixNode<K, V>,
-    B: RadixNode<K, W>,
     M: Build<K, V>,
     F: Fn(&V, &W) -> Result<Option<V>, AllocError>,
-> Combine<K, V, W, A, B> for Inner<'f, F, M> {
+> Narrow<K, V, W, A> for Inner<'f, F, M> {
     type Made = M;
 
     ghost says = { λ op. IsInnerAt (λ v w z. MayAnswer F.Fn op.answer.now v w (Ok z)) };
 
     ghost asks = { λ op. CanAsk F.Fn op.answer.now };
 
-    ghost says_none = { λ op. refl };
+    ghost says_nothing = { λ op w. refl };
 
     ghost asks_none = { λ op. tt };
 
-    fn expected(&self, sides: &[Side]) -> usize {
-        meetings(sides)
+    fn expected(&self, left: usize) -> usize {
+        0
     }
 
     fn at_values(&self, v: Option<&V>, w: Option<&W>) -> Result<Option<V>, AllocError> {
@@ -72,12 +65,8 @@ impl<
         }
     }
 
-    fn left_alone(&self, alloc: Global, tree: &A, from: usize) -> Result<Option<M>, AllocError> {
-        Ok(None)
-    }
-
-    fn right_alone(&self, alloc: Global, tree: &B, from: usize) -> Result<Option<M>, AllocError> {
-        Ok(None)
+    fn left_alone(&self, alloc: Global, tree: &A, from: usize) -> Result<Alone<M>, AllocError> {
+        Ok(Alone::Goes)
     }
 }
 
@@ -107,10 +96,6 @@ impl<
     ghost says_none = { λ op. tt };
 
     ghost asks_none = { λ op. tt };
-
-    fn expected(&self, sides: &[Side]) -> usize {
-        sides.len()
-    }
 
     fn at_values(&self, v: Option<&V>, w: Option<&V>) -> Result<Option<V>, AllocError> {
         match v {
@@ -154,10 +139,6 @@ impl<K: TKey, V: TValue, A: RadixNode<K, V>, B: RadixNode<K, V>, M: Build<K, V>>
 
     ghost asks_none = { λ _. tt };
 
-    fn expected(&self, sides: &[Side]) -> usize {
-        sides.len()
-    }
-
     fn at_values(&self, v: Option<&V>, w: Option<&V>) -> Result<Option<V>, AllocError> {
         match v {
             Some(v) => clone_value(Some(v)),
@@ -180,25 +161,20 @@ struct KeepShared<M> {
     made: PhantomData<M>,
 }
 
-impl<K: TKey, V: TValue, W: TValue, A: RadixNode<K, V>, B: RadixNode<K, W>, M: Build<K, V>> Combine<
-    K,
-    V,
-    W,
-    A,
-    B,
-> for KeepShared<M> {
+impl<K: TKey, V: TValue, W: TValue, A: RadixNode<K, V>, M: Build<K, V>> Narrow<K, V, W, A>
+    for KeepShared<M> {
     type Made = M;
 
     ghost says = { λ _. IsIntersectionAt (Copies V.is_clone) };
 
     ghost asks = { λ _ _ _. Unit {0} };
 
-    ghost says_none = { λ _. refl };
+    ghost says_nothing = { λ op w. intersection_nothing (Copies V.is_clone) w };
 
     ghost asks_none = { λ _. tt };
 
-    fn expected(&self, sides: &[Side]) -> usize {
-        meetings(sides)
+    fn expected(&self, left: usize) -> usize {
+        0
     }
 
     fn at_values(&self, v: Option<&V>, w: Option<&W>) -> Result<Option<V>, AllocError> {
@@ -208,12 +184,8 @@ impl<K: TKey, V: TValue, W: TValue, A: RadixNode<K, V>, B: RadixNode<K, W>, M: B
         }
     }
 
-    fn left_alone(&self, alloc: Global, tree: &A, from: usize) -> Result<Option<M>, AllocError> {
-        Ok(None)
-    }
-
-    fn right_alone(&self, alloc: Global, tree: &B, from: usize) -> Result<Option<M>, AllocError> {
-        Ok(None)
+    fn left_alone(&self, alloc: Global, tree: &A, from: usize) -> Result<Alone<M>, AllocError> {
+        Ok(Alone::Goes)
     }
 }
 
@@ -223,25 +195,20 @@ struct KeepLeft<M> {
     made: PhantomData<M>,
 }
 
-impl<K: TKey, V: TValue, W: TValue, A: RadixNode<K, V>, B: RadixNode<K, W>, M: Build<K, V>> Combine<
-    K,
-    V,
-    W,
-    A,
-    B,
-> for KeepLeft<M> {
+impl<K: TKey, V: TValue, W: TValue, A: RadixNode<K, V>, M: Build<K, V>> Narrow<K, V, W, A>
+    for KeepLeft<M> {
     type Made = M;
 
     ghost says = { λ _. IsDifferenceAt (Copies V.is_clone) };
 
     ghost asks = { λ _ _ _. Unit {0} };
 
-    ghost says_none = { λ _. tt };
+    ghost says_nothing = { λ op w. difference_nothing (Copies V.is_clone) w };
 
     ghost asks_none = { λ _. tt };
 
-    fn expected(&self, sides: &[Side]) -> usize {
-        sides.len()
+    fn expected(&self, left: usize) -> usize {
+        left
     }
 
     fn at_values(&self, v: Option<&V>, w: Option<&W>) -> Result<Option<V>, AllocError> {
@@ -251,12 +218,8 @@ impl<K: TKey, V: TValue, W: TValue, A: RadixNode<K, V>, B: RadixNode<K, W>, M: B
         }
     }
 
-    fn left_alone(&self, alloc: Global, tree: &A, from: usize) -> Result<Option<M>, AllocError> {
-        Ok(Some(copy_shortened(alloc, tree, from)?))
-    }
-
-    fn right_alone(&self, alloc: Global, tree: &B, from: usize) -> Result<Option<M>, AllocError> {
-        Ok(None)
+    fn left_alone(&self, alloc: Global, tree: &A, from: usize) -> Result<Alone<M>, AllocError> {
+        Ok(Alone::Stays(copy_shortened(alloc, tree, 0)?))
     }
 }
 
@@ -281,7 +244,7 @@ pub fn inner_combine<
         answer: f,
         made: PhantomData,
     };
-    combine_whole(this, that, &op, &mut Uncounted)
+    narrow_whole(this, that, &op)
 }
 
 /// The keys of both trees, the shared ones with what the closure answers.
@@ -333,7 +296,7 @@ pub fn intersection<K: TKey, V: TValue, W: TValue, A: Build<K, V>, B: RadixNode<
     ensures canonical { IfOk result (λ made. IsCanonical K.cmp (A.tree made)) }
 {
     let op: KeepShared<A> = KeepShared { made: PhantomData };
-    combine_whole(this, that, &op, &mut Uncounted)
+    narrow_whole(this, that, &op)
 }
 
 /// The keys that the left tree alone binds.
@@ -346,7 +309,7 @@ pub fn difference<K: TKey, V: TValue, W: TValue, A: Build<K, V>, B: RadixNode<K,
     ensures canonical { IfOk result (λ made. IsCanonical K.cmp (A.tree made)) }
 {
     let op: KeepLeft<A> = KeepLeft { made: PhantomData };
-    combine_whole(this, that, &op, &mut Uncounted)
+    narrow_whole(this, that, &op)
 }
 
 /// The tree with the first `n` components off every key.

@@ -35,9 +35,6 @@ pub trait Combine<K: TKey, V: TValue, W: TValue, A: RadixNode<K, V>, B: RadixNod
     /// What it needs in order to be asked of the values that both trees bind to a key.
     ghost asks: { Self → Option V → Option W → Type 0 };
 
-    /// How many trees the events can leave, at most.
-    fn expected(&self, sides: &[Side]) -> usize;
-
     /// The value of a key to which the trees bind these.
     fn at_values(&self, v: Option<&V>, w: Option<&W>) -> Result<Option<V>, AllocError>
         requires { asks self.now (option_copied v) (option_copied w) }
@@ -188,7 +185,6 @@ fn begin<
     b: &'b B,
     j: usize,
     known: usize,
-    op: &O,
     steps: &mut C,
 ) -> Result<Begun<'a, 'b, A, B, O::Made>, AllocError>
     requires left { i ≤ length (A.tree a.now).prefix }
@@ -207,7 +203,7 @@ fn begin<
         right,
         sides,
     } = face(alloc, a, i, b, j, known, steps)?;
-    let kids = Vec::with_capacity(alloc, op.expected(sides.as_slice()))?;
+    let kids = Vec::with_capacity(alloc, sides.len())?;
     Ok(Begun {
         front,
         left,
@@ -254,7 +250,7 @@ pub fn combine_at<
         mut right,
         sides,
         mut kids,
-    } = begin(alloc, a, i, b, j, known, op, steps)?;
+    } = begin::<K, V, W, A, B, O, C>(alloc, a, i, b, j, known, steps)?;
     let (from, other_from) = (left.from, right.from);
     let mut todo = sides.as_slice();
     while let Some((side, others)) = todo.split_first() {

@@ -1,24 +1,18 @@
 //! The combine that asks a closure at each key of the left tree.
 
-ghost use Rattle.std.specs.Prelude.{◌≤◌, List, Option, None, Ok, IfOk, drop, length, option_map, refl};
+ghost use Rattle.std.specs.Prelude.{◌<◌, List, Option, None, Ok, IfOk, length, refl};
 ghost use Rattle.std.specs.Option.{option_copied};
 ghost use Rattle.vc_tree_model.specs.Asking.{MayAnswerAt, CanAskAt};
 ghost use Rattle.vc_tree_model.specs.Combine.{IsCombined, IsLeftAt};
 ghost use Rattle.vc_tree_model.specs.Map.{lookup};
-ghost use Rattle.vc_tree_model.specs.Canonical.{AreChildren, IsCanonical};
-ghost use Rattle.vc_tree_model.specs.Tree.{shortened};
-ghost use Rattle.vc_tree_facing.specs.Made.{IsMade};
-ghost use Rattle.vc_tree_combines.specs.Ended.{IsEnded};
-ghost use Rattle.vc_tree_nodes.specs.Children.{seen};
+ghost use Rattle.vc_tree_model.specs.Canonical.{IsCanonical};
+ghost use Rattle.vc_tree_combines.specs.Narrowing.{IsTold};
 
-use crate::engine::{Combine, combine_whole, keep};
+use crate::narrowing::{Alone, Narrow, narrow_whole};
 use std::alloc::{AllocError, Global};
 use std::marker::PhantomData;
-use vc_merge::states::Uncounted;
-use vc_tree_facing::nodes::finish;
-use vc_tree_facing::sides::Side;
 use vc_tree_nodes::building::Build;
-use vc_tree_nodes::reading::{RadixNode, TKey, TValue, canonical};
+use vc_tree_nodes::reading::{RadixNode, TKey, TValue};
 
 /// Keeps the keys of the left tree, with what a closure answers of the value and of what the right
 /// tree binds there.
@@ -34,22 +28,21 @@ impl<
     V: TValue,
     W: TValue,
     A: RadixNode<K, V>,
-    B: RadixNode<K, W>,
     M: Build<K, V>,
     F: Fn(&V, Option<&W>) -> Result<Option<V>, AllocError>,
-> Combine<K, V, W, A, B> for Left<'f, F, M> {
+> Narrow<K, V, W, A> for Left<'f, F, M> {
     type Made = M;
 
     ghost says = { λ op. IsLeftAt (λ v w z. MayAnswerAt F.Fn op.answer.now v w (Ok z)) };
 
     ghost asks = { λ op. CanAskAt F.Fn op.answer.now };
 
-    ghost says_none = { λ op. refl };
+    ghost says_nothing = { λ op w. refl };
 
     ghost asks_none = { λ op. tt };
 
-    fn expected(&self, sides: &[Side]) -> usize {
-        sides.len()
+    fn expected(&self, left: usize) -> usize {
+        left
     }
 
     fn at_values(&self, v: Option<&V>, w: Option<&W>) -> Result<Option<V>, AllocError> {
@@ -59,80 +52,8 @@ impl<
         }
     }
 
-    fn left_alone(&self, alloc: Global, tree: &A, from: usize) -> Result<Option<M>, AllocError> {
-        answer_alone(alloc, tree, from, self.answer)
-    }
-
-    fn right_alone(&self, alloc: Global, tree: &B, from: usize) -> Result<Option<M>, AllocError> {
-        Ok(None)
-    }
-}
-
-/// What is left of a tree, without the first `from` components of its prefix, where the right tree
-/// has none of its keys: the closure is asked at each.
-fn answer_alone<
-    K: TKey,
-    V: TValue,
-    W: TValue,
-    A: RadixNode<K, V>,
-    M: Build<K, V>,
-    F: Fn(&V, Option<&W>) -> Result<Option<V>, AllocError>,
->(alloc: Global, tree: &A, from: usize, answer: &F) -> Result<Option<M>, AllocError>
-    requires within { from ≤ length (A.tree tree.now).prefix }
-    requires asks { (k : List K)
-        → CanAskAt F.Fn answer.now (lookup K.cmp (shortened from (A.tree tree.now)) k) None }
-    ensures { IfOk result (λ made. IsMade K.cmp
-        (λ v z. IsLeftAt (λ v w z. MayAnswerAt F.Fn answer.now v w (Ok z)) v None z)
-        (shortened from (A.tree tree.now)) (option_map M.tree made)) }
-{
-    canonical(tree);
-    let children = tree.children();
-    let mut kids = Vec::with_capacity(alloc, children.len())?;
-    for child in children {
-        keep(&mut kids, answer_alone(alloc, child, 0, answer)?)?;
-    }
-    let made = end_alone(alloc, tree, from, answer, kids)?;
-    Ok(made)
-}
-
-/// What is left of a tree, of the children that are left.
-fn end_alone<
-    K: TKey,
-    V: TValue,
-    W: TValue,
-    A: RadixNode<K, V>,
-    M: Build<K, V>,
-    F: Fn(&V, Option<&W>) -> Result<Option<V>, AllocError>,
->(alloc: Global, tree: &A, from: usize, answer: &F, kids: Vec<M>) -> Result<Option<M>, AllocError>
-    requires within { from ≤ length (A.tree tree.now).prefix }
-    requires asks { CanAskAt F.Fn answer.now (A.tree tree.now).value None }
-    requires children { AreChildren K.cmp (seen M.tree kids.items) }
-    ensures { IfOk result
-        (λ made. IsEnded (IsLeftAt (λ v w z. MayAnswerAt F.Fn answer.now v w (Ok z))
-        (A.tree tree.now).value None) (drop from (A.tree tree.now).prefix) (seen M.tree kids.items)
-        (option_map M.tree made)) }
-{
-    let prefix = &tree.prefix()[from..];
-    let value = answer_without(tree.value(), answer)?;
-    let made = finish(alloc, prefix, value, kids)?;
-    Ok(made)
-}
-
-/// What the closure answers of the value of a key that the right tree has not.
-fn answer_without<'a, V, W, F: Fn(&V, Option<&W>) -> Result<Option<V>, AllocError>>(
-    value: Option<&'a V>,
-    answer: &F,
-) -> Result<Option<V>, AllocError>
-where
-    W: 'a,
-    requires { CanAskAt F.Fn answer.now (option_copied value) None }
-    ensures { IfOk result (IsLeftAt (λ v w z. MayAnswerAt F.Fn answer.now v w (Ok z))
-        (option_copied value.entry) None) }
-{
-    let none: Option<&'a W> = None;
-    match value {
-        Some(v) => answer(v, none),
-        None => Ok(None),
+    fn left_alone(&self, alloc: Global, tree: &A, from: usize) -> Result<Alone<M>, AllocError> {
+        Ok(Alone::Asked)
     }
 }
 
@@ -158,5 +79,5 @@ pub fn left_combine<
         answer: f,
         made: PhantomData,
     };
-    combine_whole(this, that, &op, &mut Uncounted)
+    narrow_whole(this, that, &op)
 }

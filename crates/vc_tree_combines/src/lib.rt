@@ -7,3 +7,4 @@ pub mod combines;
 pub mod engine;
 pub mod keys;
 pub mod left;
+pub mod narrowing;

@@ -150,43 +150,45 @@ module _ {K V W T B : Type 0} (cmp : K → K → Ordering) (tree : T → Tree K 
     below-alike t s [] a = a.2
     below-alike t s (x ∷ rest) a = (refl, a.1, a.2, tt)
 
-    module _ (t : Tree K V) (u : Tree K W) (n : ℕ) (ys : List B) (sides : List Side) (front : List K)
-        (value : Option V) (list : List T)
-        (from : ℕ) (h : IsTaken tree keeps t n front value list from) where
-      -- the parts stand beside the right tree as the tree did
-      pub faced-taken : (m : IsMet tree cmp tb t u n ys j sides) → IsFaced cmp tree tb h.taken u n list from ys j sides
-      faced-taken m =
-          let e : t.prefix ≡ h.taken.prefix = h.alike.0 in
-          let below : IsAlikeIn keeps (shortened_in tree m.from m.below) (shortened_in tree from list) =
-          rw (m.faced.left.children, h.opened.children, ap (drop n) e) (below-alike t h.taken (drop n h.taken.prefix) h.alike) in
-          record {
-            left_within = subst (λ p. n ≤ length p) e m.faced.left_within;
-            right_within = m.faced.right_within;
-            same = subst (λ p. IsTrue (same_key cmp (take n p) (take n u.prefix))) e m.faced.same;
-            parts = subst (λ p. Parts cmp (drop n p) (drop n u.prefix)) e m.faced.parts;
-            left = h.opened;
-            right = m.faced.right;
-            listed =
-                relisted m.from from m.below list ys sides (alike-firsts m.from from m.below list below) m.faced.listed;
-          }
+module _ {K V W T B : Type 0} {cmp : K → K → Ordering} {tree : T → Tree K V} {tb : B → Tree K W} {keeps : V → V → Type 0}
+    {t : Tree K V} {u : Tree K W} {n : ℕ} {ys : List B} {j : ℕ} {sides : List Side} {front : List K} {value : Option V}
+    {list : List T} {from : ℕ} (h : IsTaken tree keeps t n front value list from) (m : IsMet tree cmp tb t u n ys j sides) where
+  -- the parts stand beside the right tree as the tree did
+  pub faced-taken : IsFaced cmp tree tb h.taken u n list from ys j sides
+  faced-taken =
+      let e : t.prefix ≡ h.taken.prefix = h.alike.0 in
+      let below : IsAlikeIn keeps (shortened_in tree m.from m.below) (shortened_in tree from list) =
+      rw (m.faced.left.children, h.opened.children, ap (drop n) e)
+      (below-alike cmp tree tb j keeps t h.taken (drop n h.taken.prefix) h.alike) in
+      record {
+        left_within = subst (λ p. n ≤ length p) e m.faced.left_within;
+        right_within = m.faced.right_within;
+        same = subst (λ p. IsTrue (same_key cmp (take n p) (take n u.prefix))) e m.faced.same;
+        parts = subst (λ p. Parts cmp (drop n p) (drop n u.prefix)) e m.faced.parts;
+        left = h.opened;
+        right = m.faced.right;
+        listed =
+            relisted cmp tree tb j m.from from m.below list ys sides
+            (alike-firsts cmp tree tb j keeps m.from from m.below list below) m.faced.listed;
+      }
 
-      -- the parts have as many nodes
-      pub taken-nodes : nodes h.taken ≡ nodes t
-      taken-nodes = let e = alike-nodes keeps t.children h.taken.children h.alike.2 in omega (arith, e)
+  -- the parts have as many nodes
+  pub taken-nodes : nodes h.taken ≡ nodes t
+  taken-nodes = let e = alike-nodes keeps t.children h.taken.children h.alike.2 in omega (arith, e)
 
-      module _ {O : Type 0} (l : Look cmp W O) where
-        -- what may be asked at each key of the tree, may be asked at each key of its parts
-        pub asked-taken : (asks : Option V → O → Type 0)
-            → ((v w : Option V) (z : O) → IsKept keeps v w → asks v z → asks w z)
-            → ((k : List K) → asks (lookup cmp t k) (l.of_tree u k)) → (k : List K) → asks (lookup cmp h.taken k) (l.of_tree u k)
-        asked-taken asks kept a k = kept _ _ _ (tree-alike_lookup keeps cmp t h.taken h.alike k) (a k)
+  module _ {O : Type 0} (l : Look cmp W O) where
+    -- what may be asked at each key of the tree, may be asked at each key of its parts
+    pub asked-taken : (asks : Option V → O → Type 0)
+        → ((v w : Option V) (z : O) → IsKept keeps v w → asks v z → asks w z)
+        → ((k : List K) → asks (lookup cmp t k) (l.of_tree u k)) → (k : List K) → asks (lookup cmp h.taken k) (l.of_tree u k)
+    asked-taken asks kept a k = kept _ _ _ (tree-alike_lookup keeps cmp t h.taken h.alike k) (a k)
 
-        -- what is made of the parts is what the change says of the tree
-        pub made-taken : (R : Option V → O → Option V → Type 0)
-            → ((v w : Option V) (z : O) (y : Option V) → IsKept keeps v w → R w z y → R v z y) → (o : Option (Tree K V))
-            → IsBothMadeBy cmp l R h.taken u o → IsBothMadeBy cmp l R t u o
-        made-taken R kept o m = record {
-          child = m.child;
-          begins = λ y z e. m.begins y z (ap (λ p. slice_get p 0) (sym h.alike.0) ∙ e);
-          binds = λ k. kept _ _ _ _ (tree-alike_lookup keeps cmp t h.taken h.alike k) (m.binds k);
-        }
+    -- what is made of the parts is what the change says of the tree
+    pub made-taken : {R : Option V → O → Option V → Type 0}
+        → ((v w : Option V) (z : O) (y : Option V) → IsKept keeps v w → R w z y → R v z y) → {o : Option (Tree K V)}
+        → IsBothMadeBy cmp l R h.taken u o → IsBothMadeBy cmp l R t u o
+    made-taken kept m = record {
+      child = m.child;
+      begins = λ y z e. m.begins y z (ap (λ p. slice_get p 0) (sym h.alike.0) ∙ e);
+      binds = λ k. kept _ _ _ _ (tree-alike_lookup keeps cmp t h.taken h.alike k) (m.binds k);
+    }

@@ -4,5 +4,4 @@ pub mod Stepping
 pub mod Sifting
 pub mod Prepended
 pub mod Meeting
-pub mod Leaving
-pub mod Advancing
+pub mod Placed

@@ -2,4 +2,4 @@ pub mod Covers
 pub mod Editing
 pub mod Saying
 pub mod Taken
-pub mod Lessening
+pub mod Kids

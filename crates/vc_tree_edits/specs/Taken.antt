@@ -1,5 +1,5 @@
 -- Trees that a change in place takes apart. No public clause cites these words.
-use Rattle.std.specs.Prelude.{◌≡◌, Bool, true, ℕ, ◌+◌, ◌<◌, ◌≤◌, List, [], ◌∷◌, ◌++◌, map, length, Option, None, option_map, drop, take}
+use Rattle.std.specs.Prelude.{◌≡◌, ℕ, ◌+◌, ◌<◌, ◌≤◌, List, [], ◌∷◌, ◌++◌, map, length, Option, None, option_map, drop, take}
 use Rattle.std.specs.List.{cons_option}
 use Rattle.std.specs.declared.cmp.Ordering.{Ordering}
 use Rattle.vc_builder.specs.Builder.{Builder}
@@ -12,6 +12,7 @@ use Rattle.vc_tree_facing.specs.Facing.{shortened_in, IsOpened, IsFaced}
 use Rattle.vc_tree_facing.specs.Made.{IsMade, IsMadeBy}
 use Rattle.vc_tree_facing.specs.Doing.{IsDoing}
 use Rattle.vc_tree_facing.specs.declared.sides.Side.{Side}
+use Rattle.vc_tree_facing.specs.declared.sides.Side.TheVariants.{Left, Right, Both}
 
 module _ {K V T : Type 0} (tree : T → Tree K V) where
   -- some trees stood below the front of the left one
@@ -42,10 +43,17 @@ module _ {T : Type 0} where
     pub rest : new.rest ≡ old.rest
     pub room : old.room ≤ new.room + 1
 
+-- how many events are of the right side alone
+abbrev pub arrivals_of : List Side → ℕ
+arrivals_of [] = 0
+arrivals_of (Left ∷ sides) = arrivals_of sides
+arrivals_of (Right ∷ sides) = 1 + arrivals_of sides
+arrivals_of (Both ∷ sides) = arrivals_of sides
+
 module _ {K V W O T B : Type 0} (cmp : K → K → Ordering) (tree : T → Tree K V) (tb : B → Tree K W) (l : Look cmp W O) where
-  -- t, taken apart beside u: its values at the fronts have become `made`, no event is done yet, and where the row grows, there is
-  -- room for a tree at each
-  pub record IsBegun (keeps : V → V → Type 0) (grows : Bool) (says below : Option V → O → Option V → Type 0) (asks : Option V → O → Type 0)
+  -- t, taken apart beside u: its values at the fronts have become `made`, no event is done yet, and there is room for a tree at each
+  -- event of the right side alone
+  pub record IsBegun (keeps : V → V → Type 0) (says below : Option V → O → Option V → Type 0) (asks : Option V → O → Type 0)
       (t : Tree K V) (u : Tree K W) (front : List K) (made : Option V) (row : Builder T) (i : ℕ) (ys : List B) (j : ℕ)
       (sides : List Side) : Type 0 where
     pub length_front : ℕ
@@ -60,7 +68,7 @@ module _ {K V W O T B : Type 0} (cmp : K → K → Ordering) (tree : T → Tree 
     pub left : AreChildren cmp (shortened_in tree i row.rest)
     pub right : AreChildren cmp (shortened_in tb j ys)
     pub doing : (budget : ℕ) × IsDoing cmp tree tb i j l below asks row.rest ys row.rest ys sides (map tree row.built) 0 budget
-    pub room : grows ≡ true → length sides ≤ row.room
+    pub room : arrivals_of sides ≤ row.room
 
   -- the first tree that is left was taken out, and what the change leaves of it stands behind the others
   pub record IsStayed (says : Option V → O → Option V → Type 0) (from : ℕ) (old new : Builder T) : Type 0 where

@@ -14,7 +14,6 @@ ghost use Rattle.vc_tree_edits.specs.Saying.{sifted_kept, outer_kept, met_kept, 
 use crate::engine::Change;
 use crate::lessening::Lessen;
 use std::alloc::{AllocError, Global};
-use vc_builder::inplace::InPlace;
 use vc_tree_nodes::building::{Build, Seal};
 use vc_tree_nodes::children::{Fragment, Parts};
 use vc_tree_nodes::copying::{clone_value, copy_shortened};
@@ -208,8 +207,6 @@ impl<'m, K: TKey, V: TValue, B: RadixNode<K, V>, T: Build<K, V>, M: Meet<V, V>> 
     B,
     T,
 > for KeepAll<'m, M> {
-    type Row = InPlace<T, Global>;
-
     ghost look = { λ cmp. values cmp };
 
     ghost says = { λ op. IsOuterAt T.keeps V.is_clone (KeptThen T.keeps (M.may op.at.now)) };

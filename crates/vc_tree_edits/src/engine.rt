@@ -1,6 +1,6 @@
 //! The one recursion of all changes of a tree by another tree, in place.
 
-ghost use Rattle.std.specs.Prelude.{◌≡◌, ◌<◌, ◌≤◌, ◌++◌, ◌∷◌, true, false, List, [], Option, None, IfOk, OnOk, drop, length, map, option_map};
+ghost use Rattle.std.specs.Prelude.{◌≡◌, ◌<◌, ◌≤◌, ◌∷◌, List, [], Option, Some, None, IfOk, OnOk, drop, length, map, option_map};
 ghost use Rattle.std.specs.List.{cons_option};
 ghost use Rattle.std.specs.Option.{option_copied};
 ghost use Rattle.std.specs.declared.cmp.Ordering.{Ordering};
@@ -15,27 +15,24 @@ ghost use Rattle.vc_tree_facing.specs.Facing.{trees_below};
 ghost use Rattle.vc_tree_facing.specs.Made.{IsMade, IsMadeBy, IsBothMadeBy};
 ghost use Rattle.vc_tree_model.specs.Canonical.{AreChildren, IsCanonical};
 ghost use Rattle.vc_tree_model.specs.Child.{solid_child, value_at as node_value};
-ghost use Rattle.vc_tree_edits.specs.Taken.{IsMet, IsTaken, IsBegun, IsNext, IsAdded, IsFirstLong, IsStayed, IsCome};
+ghost use Rattle.vc_builder.specs.Builder.{builder};
+ghost use Rattle.vc_tree_edits.specs.Taken.{IsMet, IsTaken, IsBegun, IsNext, IsAdded, IsFirstLong, IsStayed, IsCome, arrivals_of};
 
-use crate::rows::Row;
 use std::alloc::{AllocError, Global};
 use std::mem;
+use vc_builder::inplace::InPlace;
 use vc_merge::states::Uncounted;
 use vc_tree_facing::facing::{Below, Facing, face};
 use vc_tree_facing::nodes::{finish, value_at};
 use vc_tree_facing::sides::{Side, Sides};
 use vc_tree_nodes::building::{Build, Seal};
 use vc_tree_nodes::children::{ChildList, Fragment, Parts};
-use vc_tree_nodes::making::{new_joined, stored};
+use vc_tree_nodes::making::stored;
 use vc_tree_nodes::reading::{RadixNode, TKey, TValue};
 
 /// What a change makes of values, and of trees that one side alone has. Values of the left tree are
 /// handed over, and those that stay are handed back.
 pub trait Change<K: TKey, V: TValue, W: TValue, B: RadixNode<K, W>, T: Build<K, V>>: Sized + Drop {
-    /// Where the children of a node are built: in the list that they stand in, or with room for
-    /// trees that come in.
-    type Row: Row<K, V, T>;
-
     /// How the right tree is read at a key.
     ghost look: { (cmp : K → K → Ordering) → Look cmp W (Option W) };
 
@@ -64,11 +61,10 @@ pub trait Change<K: TKey, V: TValue, W: TValue, B: RadixNode<K, W>, T: Build<K, 
             (shortened from (T.tree tree)) (option_map T.tree made)) };
 
     /// What comes of a tree that the right side alone has, without the first `from` components of
-    /// its prefix: nothing, where the row has no room for it.
+    /// its prefix.
     fn right_alone(&self, alloc: Global, tree: &B, from: usize) -> Result<Option<T>, AllocError>
         requires within { from < length (B.tree tree.now).prefix }
-        ensures nothing { Self.Row.grows ≡ false → IfOk result (λ made. made ≡ None) }
-        ensures made { IfOk result (λ made. IsMadeBy K.cmp (look K.cmp)
+        ensures { IfOk result (λ made. IsMadeBy K.cmp (look K.cmp)
             (λ w z. says self.now None w z) (shortened from (B.tree tree.now))
             (option_map T.tree made)) };
 
@@ -207,27 +203,71 @@ fn take_list<K: TKey, V: TValue, T: Build<K, V>>(
     Ok(mem::replace(list, Vec::new(alloc)))
 }
 
+/// The trees below a place, from which what stays and what comes in is built: trees are taken out
+/// at the front of what is left, and put behind those that are built.
+type Row<T> = InPlace<T, Global>;
+
+/// How many of the events are of the right side alone.
+fn arrivals(sides: &[Side]) -> usize
+    ensures { result ≡ arrivals_of sides.now }
+{
+    let mut many = 0;
+    let mut rest = sides;
+    while let Some((side, others)) = rest.split_first() {
+        if matches!(side, Side::Right) {
+            many += 1;
+        }
+        rest = others;
+    }
+    many
+}
+
+/// A row in which all these trees are left: the one, if there is one, and then the list. There is
+/// room for `extra` more.
+fn open<T: Drop>(one: Option<T>, list: Vec<T>, extra: usize) -> Result<Row<T>, AllocError>
+    ensures { IfOk result (λ row. row ≡ builder [] (cons_option one list.items) extra) }
+{
+    let mut all = list;
+    if let Some(tree) = one {
+        all.insert(0, tree)?;
+    }
+    InPlace::new(&mut all, extra)
+}
+
+/// Takes out the first tree that is left.
+fn pop<T>(row: &mut Row<T>) -> T
+    requires { 0 < length row.old.rest }
+    ensures { IsNext row.old result row.new }
+{
+    row.pop_first()
+}
+
 /// Takes out the first trees that are left on both sides.
-fn next<'b, K: TKey, V: TValue, B, T: Build<K, V>, R: Row<K, V, T>>(
-    row: &mut R,
-    that: &mut Below<'b, B>,
-) -> (T, &'b B)
-    requires left { 0 < length (R.seen row.old).rest }
+fn next<'b, B, T>(row: &mut Row<T>, that: &mut Below<'b, B>) -> (T, &'b B)
+    requires left { 0 < length row.old.rest }
     requires right { 0 < length (trees_below that.old) }
-    ensures left { IsNext (R.seen row.old) result.0 (R.seen row.new) }
+    ensures left { IsNext row.old result.0 row.new }
     ensures right { trees_below that.old ≡ result.1.now ∷ trees_below that.new }
     ensures from { that.new.from ≡ that.old.from }
 {
-    (row.pop_first(), that.next())
+    (pop(row), that.next())
+}
+
+/// Puts a tree behind those that are built.
+fn put<T>(row: &mut Row<T>, tree: T)
+    requires { 0 < row.old.room }
+    ensures { IsAdded row.old (Some tree) row.new }
+{
+    row.push(tree);
 }
 
 /// Puts a tree, if there is one, behind those that are built.
-fn keep<K: TKey, V: TValue, T: Build<K, V>, R: Row<K, V, T>>(row: &mut R, tree: Option<T>)
-    requires { length (cons_option tree []) ≤ (R.seen row.old).room }
-    ensures { IsAdded (R.seen row.old) tree (R.seen row.new) }
+fn keep<T: Drop>(row: &mut Row<T>, tree: Option<T>)
+    requires { length (cons_option tree []) ≤ row.old.room }
+    ensures { IsAdded row.old tree row.new }
 {
     if let Some(tree) = tree {
-        row.push(tree);
+        put(row, tree);
     }
 }
 
@@ -262,7 +302,7 @@ fn change_values<
 
 /// The state of a change, before the first event is done.
 #[derive(Drop)]
-struct Begun<'b, P, V, B, O, R> {
+struct Begun<'b, P, V, B, O, T> {
     /// The components up to the place where the prefixes part.
     prefix: P,
     /// What is left of the value there.
@@ -270,7 +310,7 @@ struct Begun<'b, P, V, B, O, R> {
     /// The change of all that stands below.
     below: O,
     /// What stands below in the left tree, to be built anew.
-    row: R,
+    row: Row<T>,
     /// How many components of their prefixes stand before the place.
     from: usize,
     /// What stands below in the right tree.
@@ -297,16 +337,16 @@ fn begin<
     j: usize,
     known: usize,
     op: &O,
-) -> Result<Begun<'b, T::Prefix, V, B, O, O::Row>, AllocError>
+) -> Result<Begun<'b, T::Prefix, V, B, O, T>, AllocError>
     requires left { i ≤ length (T.tree tree).prefix }
     requires right { j ≤ length (B.tree that.now).prefix }
     requires known { Agree K.cmp (drop i (T.tree tree).prefix) (drop j (B.tree that.now).prefix)
         known }
     requires asks { (k : List K) → O.asks op.now (lookup K.cmp (shortened i (T.tree tree)) k)
         ((O.look K.cmp).of_tree (shortened j (B.tree that.now)) k) }
-    ensures { IfOk result (λ s. IsBegun K.cmp T.tree B.tree (O.look K.cmp) T.keeps O.Row.grows
+    ensures { IfOk result (λ s. IsBegun K.cmp T.tree B.tree (O.look K.cmp) T.keeps
         (O.says op.now) (O.says s.below) (O.asks s.below) (shortened i (T.tree tree))
-        (shortened j (B.tree that.now)) (T.Prefix.items s.prefix) s.value (O.Row.seen s.row) s.from
+        (shortened j (B.tree that.now)) (T.Prefix.items s.prefix) s.value s.row s.from
         (trees_below s.right) s.right.from s.sides.items) }
 {
     let Meeting {
@@ -322,7 +362,7 @@ fn begin<
         from,
     } = take_apart(alloc, tree, i, front)?;
     let (value, below) = change_values(value, that, j, front, op)?;
-    let row = O::Row::open(whole, list, sides.len())?;
+    let row = open(whole, list, arrivals(sides.as_slice()))?;
     Ok(Begun {
         prefix,
         value,
@@ -343,14 +383,14 @@ fn stay<
     B: RadixNode<K, W>,
     T: Build<K, V>,
     O: Change<K, V, W, B, T>,
->(alloc: Global, row: &mut O::Row, from: usize, op: &O) -> Result<(), AllocError>
-    requires there { 0 < length (O.Row.seen row.old).rest }
-    requires long { IsFirstLong T.tree from (O.Row.seen row.old).rest }
-    ensures { OnOk result (IsStayed K.cmp T.tree B.tree (O.look K.cmp) (O.says op.now) from
-        (O.Row.seen row.old) (O.Row.seen row.new)) }
+>(alloc: Global, row: &mut Row<T>, from: usize, op: &O) -> Result<(), AllocError>
+    requires there { 0 < length row.old.rest }
+    requires long { IsFirstLong T.tree from row.old.rest }
+    ensures { OnOk result (IsStayed K.cmp T.tree B.tree (O.look K.cmp) (O.says op.now) from row.old
+        row.new) }
 {
-    let kid = op.left_alone(alloc, row.pop_first(), from)?;
-    keep::<K, V, T, O::Row>(row, kid);
+    let kid = op.left_alone(alloc, pop(row), from)?;
+    keep(row, kid);
     Ok(())
 }
 
@@ -363,55 +403,32 @@ fn come<
     B: RadixNode<K, W>,
     T: Build<K, V>,
     O: Change<K, V, W, B, T>,
->(alloc: Global, row: &mut O::Row, that: &mut Below<'_, B>, op: &O) -> Result<(), AllocError>
+>(alloc: Global, row: &mut Row<T>, that: &mut Below<'_, B>, op: &O) -> Result<(), AllocError>
     requires long { IsFirstLong B.tree that.old.from (trees_below that.old) }
-    requires room { O.Row.grows ≡ true → 0 < (O.Row.seen row.old).room }
+    requires room { 0 < row.old.room }
     ensures come { OnOk result (IsCome K.cmp T.tree B.tree (O.look K.cmp) (O.says op.now)
-        that.old.from (trees_below that.old) (trees_below that.new) (O.Row.seen row.old)
-        (O.Row.seen row.new)) }
+        that.old.from (trees_below that.old) (trees_below that.new) row.old row.new) }
     ensures from { that.new.from ≡ that.old.from }
 {
     let kid = op.right_alone(alloc, that.next(), that.from)?;
-    keep::<K, V, T, O::Row>(row, kid);
+    keep(row, kid);
     Ok(())
 }
 
-/// The node of what was built, as a child.
-fn end<K: TKey, V: TValue, T: Build<K, V>, R: Row<K, V, T>>(
-    alloc: Global,
-    prefix: T::Prefix,
-    value: Option<V>,
-    row: R,
-) -> Result<Option<T>, AllocError>
-    requires { AreChildren K.cmp (seen T.tree (R.seen row).built) }
-    ensures { IfOk result (λ made. option_map T.tree made
-        ≡ solid_child (T.Prefix.items prefix) value (seen T.tree (R.seen row).built)) }
-{
-    let (whole, mut kids) = row.finish();
-    let Some(kid) = whole else {
-        return finish_in::<K, V, T>(alloc, prefix, value, kids);
-    };
-    if value.is_none() && kids.is_empty() {
-        return Ok(Some(new_joined(alloc, prefix.as_slice(), kid)?));
-    }
-    kids.insert(0, kid)?;
-    finish_in::<K, V, T>(alloc, prefix, value, kids)
-}
-
 /// The node of what was built, as a child, once no event is left.
-fn close<K: TKey, V: TValue, T: Build<K, V>, R: Row<K, V, T>>(
+fn close<K: TKey, V: TValue, T: Build<K, V>>(
     alloc: Global,
     prefix: T::Prefix,
     value: Option<V>,
-    row: R,
+    row: Row<T>,
     _left: &[Side],
 ) -> Result<Option<T>, AllocError>
     requires done { length _left.now ≡ 0 }
-    requires children { AreChildren K.cmp (seen T.tree (R.seen row).built) }
+    requires children { AreChildren K.cmp (seen T.tree row.built) }
     ensures { IfOk result (λ made. option_map T.tree made
-        ≡ solid_child (T.Prefix.items prefix) value (seen T.tree (R.seen row).built)) }
+        ≡ solid_child (T.Prefix.items prefix) value (seen T.tree row.built)) }
 {
-    end::<K, V, T, R>(alloc, prefix, value, row)
+    finish_in::<K, V, T>(alloc, prefix, value, row.finish())
 }
 
 /// The node of these parts as a child. A prefix that stays is moved.
@@ -480,13 +497,13 @@ pub fn change_at<
                 come::<K, V, W, B, T, O>(alloc, &mut row, &mut right, &below)?;
             }
             Side::Both => {
-                let (x, y) = next::<K, V, B, T, O::Row>(&mut row, &mut right);
+                let (x, y) = next(&mut row, &mut right);
                 let kid = change_at(alloc, x, from, y, right.from, 1, &below)?;
-                keep::<K, V, T, O::Row>(&mut row, kid);
+                keep(&mut row, kid);
             }
         }
         todo = others;
     }
-    let made = close::<K, V, T, O::Row>(alloc, prefix, value, row, todo)?;
+    let made = close::<K, V, T>(alloc, prefix, value, row, todo)?;
     Ok(made)
 }

@@ -12,14 +12,13 @@ ghost use Rattle.vc_tree_model.specs.Canonical.{AreChildren, IsCanonical};
 ghost use Rattle.vc_tree_model.specs.Child.{solid_child};
 ghost use Rattle.vc_tree_nodes.specs.Children.{listed, seen};
 ghost use Rattle.vc_tree_nodes.specs.Parting.{Agree};
-ghost use Rattle.vc_tree_facing.specs.Facing.{trees_below, shortened_in, Parts as PartAtOnce};
-ghost use Rattle.vc_tree_facing.specs.Seeking.{IsSought};
-ghost use Rattle.vc_tree_edits.specs.Lessening.{IsLessened, IsInside, IsNodeLeft, IsLessenedUnder, IsLessenedIn, AreKids, alone};
+ghost use Rattle.vc_tree_facing.specs.Facing.{trees_below, shortened_in};
+ghost use Rattle.vc_tree_facing.specs.Lessening.{IsLessened, IsInside, IsNodeLeft, IsLessenedIn, alone};
+ghost use Rattle.vc_tree_edits.specs.Kids.{AreKids};
 
 use std::alloc::{AllocError, Global};
 use std::mem;
-use vc_merge::states::Uncounted;
-use vc_tree_facing::facing::{Below, below_place, common_front, seek};
+use vc_tree_facing::facing::{Below, below_place, seek_alike, split};
 use vc_tree_facing::nodes::value_at;
 use vc_tree_nodes::building::{Build, Seal};
 use vc_tree_nodes::children::{ChildList, Fragment, Parts};
@@ -66,34 +65,6 @@ pub trait Lessen<K: TKey, V: TValue, W: TValue, T: Build<K, V>>: Sized + Drop {
         → asks op u w → asks op v w };
 }
 
-/// For how many components what is left of the prefixes of two trees agrees, of which the first
-/// `known` do.
-fn front_of<K: TKey, V: TValue, W: TValue, T: RadixNode<K, V>, B: RadixNode<K, W>>(
-    tree: &T,
-    i: usize,
-    that: &B,
-    j: usize,
-    known: usize,
-) -> usize
-    requires left { i ≤ length (T.tree tree.now).prefix }
-    requires right { j ≤ length (B.tree that.now).prefix }
-    requires known { Agree K.cmp (drop i (T.tree tree.now).prefix) (drop j (B.tree that.now).prefix)
-        known }
-    ensures agree { Agree K.cmp (drop i (T.tree tree.now).prefix) (drop j (B.tree that.now).prefix)
-        result }
-    ensures parts { PartAtOnce K.cmp (drop result (drop i (T.tree tree.now).prefix))
-        (drop result (drop j (B.tree that.now).prefix)) }
-    ensures left_canonical { IsCanonical K.cmp (T.tree tree.now) }
-    ensures right_canonical { IsCanonical K.cmp (B.tree that.now) }
-{
-    common_front(
-        &tree.prefix()[i..],
-        &that.prefix()[j..],
-        known,
-        &mut Uncounted,
-    )
-}
-
 /// What the change makes of the value of a node, beside that of the right node.
 fn change_value<K: TKey, V: TValue, W: TValue, T: Build<K, V>, O: Lessen<K, V, W, T>>(
     value: Option<V>,
@@ -117,23 +88,6 @@ fn stays_alone<K: TKey, V: TValue, W: TValue, T: Build<K, V>, O: Lessen<K, V, W,
         ((v : Option V) → O.says op.now v (O.look K.cmp).none None) }
 {
     op.left_stays()
-}
-
-/// The tree of the right side that goes on as this tree does at a place of its prefix. Those that
-/// go on with lesser components are passed.
-fn seek_alike<'b, K: TKey, V: TValue, W: TValue, T: RadixNode<K, V>, B: RadixNode<K, W>>(
-    right: &mut Below<'b, B>,
-    tree: &T,
-    place: usize,
-) -> Option<&'b B>
-    requires { place < length (T.tree tree.now).prefix }
-    ensures sought { (x : K) → slice_get (T.tree tree.now).prefix place ≡ Some x
-        → IsSought K.cmp B.tree right.old.from x (trees_below right.old) (option_copied result)
-        (trees_below right.new) }
-    ensures from { right.new.from ≡ right.old.from }
-    ensures canonical { IsCanonical K.cmp (T.tree tree.now) }
-{
-    seek(right, &tree.prefix()[place])
 }
 
 /// Moves a tree that stays down to those that stay before it. What stood between comes behind it.
@@ -215,7 +169,7 @@ pub fn lessen_at<
 {
     let whole = tree.prefix().len();
     let other_whole = that.prefix().len();
-    let front = front_of(tree, i, that, j, known);
+    let front = split(tree, i, that, j, known);
     let (place, other_place) = (i + front, j + front);
     if place < whole {
         if other_place < other_whole {

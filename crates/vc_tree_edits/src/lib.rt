@@ -8,4 +8,3 @@ pub mod combining;
 pub mod engine;
 pub mod lessening;
 pub mod prepending;
-mod rows;

@@ -1,9 +1,9 @@
 -- The first event that is left of a script, by how the first trees of both sides go on.
 --     first-left, first-right, first-both        on which side the first event is
 --     passed-all        trees of the right side that go on with lesser components are passed
---     left-done, both-done        one event more is done, by what was sought
---     rights-done        once no tree of the left side is left, none of the right side is
---     list-begun, list-done        the state before the first event, and behind the last one
+--     left-next, both-next        on which side the next event is, by what was sought
+--     left-done, both-done        it is done
+--     list-begun, list-done        the state before the first event, and once no tree of the left side is left
 use Rattle.std.proofs.Common.{◌≡◌, ℕ, [], ◌∷◌, ◌++◌, List, Option, None, Some, refl, sym, ap, subst, ◌∙◌, map}
 use Rattle.std.proofs.Common.{slice_get, inl, inr, ◌⊎◌, append-nil, arith}
 use Rattle.std.specs.Cmp.{IsTotalOrder, alike_right}
@@ -28,7 +28,7 @@ use Rattle.vc_tree_facing.specs.Made.{IsMade, IsBothMadeBy}
 use Rattle.vc_tree_facing.specs.Seeking.{side_at, Stops}
 use Rattle.vc_tree_facing.specs.Sides.{by_component, by_component_total, side_of}
 use Rattle.vc_tree_facing.specs.declared.sides.Side.{Side}
-use Rattle.vc_tree_facing.specs.declared.sides.Side.TheVariants.{Both}
+use Rattle.vc_tree_facing.specs.declared.sides.Side.TheVariants.{Left, Both}
 use Rattle.vc_tree_facing.proofs.Components.{children-ascend}
 use Rattle.vc_tree_facing.proofs.Doing.{doing-start, doing-left, doing-right, doing-both}
 use Rattle.vc_tree_facing.proofs.Making.{script-made, script-asked}
@@ -120,144 +120,158 @@ ascends-rest r (d ∷ ds) es a = ascends-rest r ds es a.1
 
 -- ---- events that are left
 
-module _ {K V W U O A B : Type 0} (cmp : K → K → Ordering) (o : IsTotalOrder cmp) (ta : A → Tree K V) (tb : B → Tree K W) (i j : ℕ)
-    (l : Look cmp W O) (R : Option V → O → Option U → Type 0) (asks : Option V → O → Type 0) (xs : List A) (ys : List B) where
-  abbrev Doing : List A → List B → List (Tree K U) → Type 0
-  Doing = IsGoingOn cmp ta tb i j l R asks xs ys
+-- how trees of both sides stand to each other
+by-side : {K V W A B : Type 0} (cmp : K → K → Ordering) (ta : A → Tree K V) (tb : B → Tree K W) (i j : ℕ) (a : A) (c : K)
+    → slice_get (ta a).prefix i ≡ Some c → (b : B) → by_component ta tb i j cmp (inr b) (inl a) ≡ side_at cmp tb j c b
+by-side cmp ta tb i j a c e b = ap (option_cmp cmp (slice_get (tb b).prefix j)) e ∙ by (slice_get (tb b).prefix j)
+  where
+    by : (s : Option _) → option_cmp cmp s (Some c) ≡ first_side cmp c s
+    by None = refl
+    by (Some y) = refl
 
-  total : IsTotalOrder (by_component ta tb i j cmp)
-  total = by_component_total ta tb i j o
+-- where nothing sought is left, what stands first on the right side is above
+stops-above : {K W B : Type 0} (cmp : K → K → Ordering) (tb : B → Tree K W) (j : ℕ) (c : K) (rs : List B)
+    → Stops cmp tb j c None rs → (y : B) (qs : List B) → rs ≡ y ∷ qs → side_at cmp tb j c y ≡ Greater
+stops-above cmp tb j c [] s y qs e = absurd (cc)
+stops-above cmp tb j c (z ∷ rs) s y qs e =
+    let h : z ≡ y = cc in subst (λ z. side_at cmp tb j c z ≡ Greater) h s
 
-  -- how trees of both sides stand to each other
-  by-side : (a : A) (c : K) → slice_get (ta a).prefix i ≡ Some c → (b : B)
-      → by_component ta tb i j cmp (inr b) (inl a) ≡ side_at cmp tb j c b
-  by-side a c e b = ap (option_cmp cmp (slice_get (tb b).prefix j)) e ∙ by (slice_get (tb b).prefix j)
-    where
-      by : (s : Option K) → option_cmp cmp s (Some c) ≡ first_side cmp c s
-      by None = refl
-      by (Some y) = refl
+-- no event has a tree of the left side, or of either
+nil : {A B : Type 0} (es : List (Event A B)) → [] ≡ lefts es → [] ≡ rights es → es ≡ []
+nil [] l r = refl
+nil (left_alone x ∷ es) l r = absurd (cc)
+nil (right_alone y ∷ es) l r = absurd (cc)
+nil (collision x y ∷ es) l r = absurd (cc)
 
-  module _ (a : A) (ls : List A) (c : K) (at : slice_get (ta a).prefix i ≡ Some c) where
+next : {A B : Type 0} (y : B) (rs : List B) (es : List (Event A B)) → [] ≡ lefts es → y ∷ rs ≡ rights es
+    → (rest : List (Event A B)) × (es ≡ right_alone y ∷ rest)
+next y rs [] l r = absurd (cc)
+next y rs (left_alone x ∷ es) l r = absurd (cc)
+next y rs (right_alone b ∷ es) l r = let e : b ≡ y = cc in (es, ap (λ b. right_alone b ∷ es) e)
+next y rs (collision x b ∷ es) l r = absurd (cc)
+
+module _ {K V W U O A B : Type 0} {cmp : K → K → Ordering} {ta : A → Tree K V} {tb : B → Tree K W} {i j : ℕ} {l : Look cmp W O}
+    {R : Option V → O → Option U → Type 0} {asks : Option V → O → Type 0} {xs : List A} {ys : List B} where
+  -- one of the right side is passed
+  passes : {ls : List A} {y : B} {rs : List B} {made : List (Tree K U)}
+      → (d : IsGoingOn cmp ta tb i j l R asks xs ys ls (y ∷ rs) made) → (rest : List (Event A B))
+      → d.doing.rest ≡ right_alone y ∷ rest → IsGoingOn cmp ta tb i j l R asks xs ys ls rs made
+  passes {made = made} d rest e = record {
+    total = d.total;
+    nothing = d.nothing;
+    left = d.left;
+    right = d.right;
+    todo = map (λ e. side_of e) rest;
+    budget = d.budget;
+    doing =
+        doing-right d.doing {o = None} (sym (append-nil made)) (d.doing.sides_are ∙ ap (map (λ e. side_of e)) e) refl
+        (record { child = tt; begins = λ y e. tt; binds = λ k. d.nothing _ });
+  }
+
+  module _ {a : A} {ls : List A} {c : K} (at : slice_get (ta a).prefix i ≡ Some c) where
     -- trees of the right side that go on with lesser components are passed
-    passed-one : R None l.none None → ((w : O) → R None w None) → (y : B) (rs : List B) (made : List (Tree K U))
-        → side_at cmp tb j c y ≡ Less → Doing (a ∷ ls) (y ∷ rs) made → Doing (a ∷ ls) rs made
-    passed-one none nothing y rs made s d =
+    passed-one : (y : B) (rs : List B) {made : List (Tree K U)} → side_at cmp tb j c y ≡ Less
+        → IsGoingOn cmp ta tb i j l R asks xs ys (a ∷ ls) (y ∷ rs) made
+        → IsGoingOn cmp ta tb i j l R asks xs ys (a ∷ ls) rs made
+    passed-one y rs s d =
         let es = d.doing.rest in
-        let f = first-right (by_component ta tb i j cmp) total a ls y rs es
+        let f = first-right (by_component ta tb i j cmp) (by_component_total ta tb i j d.total) a ls y rs es
         (ascends-rest _ (map (λ d. d.0) d.doing.done) es d.doing.script.ascends)
         (event-rest _ (map (λ d. d.0) d.doing.done) es d.doing.script.matched) (sym d.doing.left) (sym d.doing.right)
-        (by-side a c at y ∙ s) in
-        record {
-          todo = map (λ e. side_of e) f.0;
-          budget = d.budget;
-          doing =
-              doing-right cmp ta tb i j l R asks xs ys (a ∷ ls) (y ∷ rs) d.todo made 0 d.budget d.doing (map (λ e. side_of e) f.0)
-              made None (sym (append-nil made)) y rs (d.doing.sides_are ∙ ap (map (λ e. side_of e)) f.1) refl
-              (record { child = tt; begins = λ y e. tt; binds = λ k. nothing _ });
-        }
+        (by-side cmp ta tb i j a c at y ∙ s) in
+        passes d f.0 f.1
 
-    pub passed-all : R None l.none None → ((w : O) → R None w None) → (ps rs : List B) (made : List (Tree K U))
-        → AllByRecursion (λ y. side_at cmp tb j c y ≡ Less) ps → Doing (a ∷ ls) (ps ++ rs) made → Doing (a ∷ ls) rs made
-    passed-all none nothing [] rs made s d = d
-    passed-all none nothing (y ∷ ps) rs made s d =
-        passed-all none nothing ps rs made s.1 (passed-one none nothing y (ps ++ rs) made s.0 d)
+    pub passed-all : (ps : List B) {rs : List B} {made : List (Tree K U)} → AllByRecursion (λ y. side_at cmp tb j c y ≡ Less) ps
+        → IsGoingOn cmp ta tb i j l R asks xs ys (a ∷ ls) (ps ++ rs) made
+        → IsGoingOn cmp ta tb i j l R asks xs ys (a ∷ ls) rs made
+    passed-all [] s d = d
+    passed-all (y ∷ ps) {rs} s d = passed-all ps s.1 (passed-one y (ps ++ rs) s.0 d)
 
-    -- the first event is of the left side alone
-    pub left-done : (rs : List B) (made made' : List (Tree K U)) (u : Option (Tree K U)) → Stops cmp tb j c None rs
-        → Doing (a ∷ ls) rs made → IsMade cmp (λ v z. R v l.none z) (shortened i (ta a)) u → made' ≡ made ++ cons_option u []
-        → Doing ls rs made'
-    left-done rs made made' u s d w p =
-        let es = d.doing.rest in
-        let f = first-left (by_component ta tb i j cmp) total a ls es
-        (ascends-rest _ (map (λ d. d.0) d.doing.done) es d.doing.script.ascends)
-        (event-rest _ (map (λ d. d.0) d.doing.done) es d.doing.script.matched) (sym d.doing.left)
-        (λ y qs e. by-side a c at y ∙ stops rs s y qs (d.doing.right ∙ e)) in
-        record {
-          todo = map (λ e. side_of e) f.0;
-          budget = d.budget;
-          doing =
-              doing-left cmp ta tb i j l R asks xs ys (a ∷ ls) rs d.todo made 0 d.budget d.doing (map (λ e. side_of e) f.0)
-              made' u p a ls (d.doing.sides_are ∙ ap (map (λ e. side_of e)) f.1) refl w;
-        }
-      where
-        stops : (rs : List B) → Stops cmp tb j c None rs → (y : B) (qs : List B) → rs ≡ y ∷ qs → side_at cmp tb j c y ≡ Greater
-        stops [] s y qs e = absurd (cc)
-        stops (z ∷ rs) s y qs e = let h : z ≡ y = cc in subst (λ z. side_at cmp tb j c z ≡ Greater) h s
+    module _ {rs : List B} {made : List (Tree K U)} (d : IsGoingOn cmp ta tb i j l R asks xs ys (a ∷ ls) rs made) where
+      -- the first event is of the left side alone
+      pub left-next : Stops cmp tb j c None rs → (others : List Side) × (d.todo ≡ Left ∷ others)
+      left-next s =
+          let es = d.doing.rest in
+          let f = first-left (by_component ta tb i j cmp) (by_component_total ta tb i j d.total) a ls es
+          (ascends-rest _ (map (λ d. d.0) d.doing.done) es d.doing.script.ascends)
+          (event-rest _ (map (λ d. d.0) d.doing.done) es d.doing.script.matched) (sym d.doing.left)
+          (λ y qs e. by-side cmp ta tb i j a c at y ∙ stops-above cmp tb j c rs s y qs (d.doing.right ∙ e)) in
+          (map (λ e. side_of e) f.0, d.doing.sides_are ∙ ap (map (λ e. side_of e)) f.1)
 
-    module _ (y : B) (rs : List B) (made : List (Tree K U)) (s : side_at cmp tb j c y ≡ Equal)
-        (d : Doing (a ∷ ls) (y ∷ rs) made) where
+      pub left-done : Stops cmp tb j c None rs → {u : Option (Tree K U)} → IsMade cmp (λ v z. R v l.none z) (shortened i (ta a)) u
+          → {made' : List (Tree K U)} → made' ≡ made ++ cons_option u [] → IsGoingOn cmp ta tb i j l R asks xs ys ls rs made'
+      left-done s w p =
+          let f = left-next s in
+          record {
+            total = d.total;
+            nothing = d.nothing;
+            left = d.left;
+            right = d.right;
+            todo = f.0;
+            budget = d.budget;
+            doing = doing-left d.doing p f.1 refl w;
+          }
+
+    module _ {y : B} {rs : List B} {made : List (Tree K U)} (s : side_at cmp tb j c y ≡ Equal)
+        (d : IsGoingOn cmp ta tb i j l R asks xs ys (a ∷ ls) (y ∷ rs) made) where
       -- it is of both sides
       pub both-next : (others : List Side) × (d.todo ≡ Both ∷ others)
       both-next =
           let es = d.doing.rest in
-          let f = first-both (by_component ta tb i j cmp) total a ls y rs es
+          let f = first-both (by_component ta tb i j cmp) (by_component_total ta tb i j d.total) a ls y rs es
           (ascends-rest _ (map (λ d. d.0) d.doing.done) es d.doing.script.ascends)
           (event-rest _ (map (λ d. d.0) d.doing.done) es d.doing.script.matched) (sym d.doing.left) (sym d.doing.right)
-          (by-side a c at y ∙ s) in
+          (by-side cmp ta tb i j a c at y ∙ s) in
           (map (λ e. side_of e) f.0, d.doing.sides_are ∙ ap (map (λ e. side_of e)) f.1)
 
-      pub both-done : (made' : List (Tree K U)) (u : Option (Tree K U))
-          → IsBothMadeBy cmp l R (shortened i (ta a)) (shortened j (tb y)) u → made' ≡ made ++ cons_option u [] → Doing ls rs made'
-      both-done made' u w p = record {
+      pub both-done : {u : Option (Tree K U)} → IsBothMadeBy cmp l R (shortened i (ta a)) (shortened j (tb y)) u
+          → {made' : List (Tree K U)} → made' ≡ made ++ cons_option u [] → IsGoingOn cmp ta tb i j l R asks xs ys ls rs made'
+      both-done w p = record {
+        total = d.total;
+        nothing = d.nothing;
+        left = d.left;
+        right = d.right;
         todo = both-next.0;
         budget = d.budget;
-        doing =
-            doing-both cmp ta tb i j l R asks xs ys (a ∷ ls) (y ∷ rs) d.todo made 0 d.budget d.doing both-next.0 made' u p a ls y rs 0
-            both-next.1 refl refl w (omega arith);
+        doing = doing-both d.doing p {spent' = 0} both-next.1 refl refl w (omega arith);
       }
 
   -- once no tree of the left side is left, the others are passed
-  pub rights-done : R None l.none None → ((w : O) → R None w None) → (rs : List B) (made : List (Tree K U)) → Doing [] rs made
-      → (d : Doing [] [] made) × (d.todo ≡ [])
-  rights-done none nothing [] made d = (d, d.doing.sides_are ∙ ap (map (λ e. side_of e)) (nil d.doing.rest d.doing.left d.doing.right))
-    where
-      nil : (es : List (Event A B)) → [] ≡ lefts es → [] ≡ rights es → es ≡ []
-      nil [] l r = refl
-      nil (left_alone x ∷ es) l r = absurd (cc)
-      nil (right_alone y ∷ es) l r = absurd (cc)
-      nil (collision x y ∷ es) l r = absurd (cc)
-  rights-done none nothing (y ∷ rs) made d =
-      let f = next d.doing.rest d.doing.left d.doing.right in
-      rights-done none nothing rs made (record {
-        todo = map (λ e. side_of e) f.0;
-        budget = d.budget;
+  pub rights-done : (rs : List B) {made : List (Tree K U)} → IsGoingOn cmp ta tb i j l R asks xs ys [] rs made
+      → (d : IsGoingOn cmp ta tb i j l R asks xs ys [] [] made) × (d.todo ≡ [])
+  rights-done [] d = (d, d.doing.sides_are ∙ ap (map (λ e. side_of e)) (nil d.doing.rest d.doing.left d.doing.right))
+  rights-done (y ∷ rs) d = let f = next y rs d.doing.rest d.doing.left d.doing.right in rights-done rs (passes d f.0 f.1)
+
+  -- none is done yet
+  pub list-begun : IsTotalOrder cmp → ((o : O) → R None o None) → asks None l.none
+      → AreChildren cmp (shortened_in ta i xs) → AreChildren cmp (shortened_in tb j ys)
+      → ((x : K) (q : List K) → asks (lookup_in cmp (shortened_in ta i xs) (x ∷ q)) (l.of_forest (shortened_in tb j ys) (x ∷ q)))
+      → IsGoingOn cmp ta tb i j l R asks xs ys xs ys []
+  list-begun o nothing an ca cb ask =
+      let s = some-script (by_component ta tb i j cmp) (by_component_total ta tb i j o) xs ys
+      (record { left = children-ascend cmp ta i xs ca; right = children-ascend cmp tb j ys cb }) in
+      record {
+        total = o;
+        nothing = nothing;
+        left = ca;
+        right = cb;
+        todo = map (λ e. side_of e) s.0;
+        budget = owed cmp ta tb i j s.0;
         doing =
-            doing-right cmp ta tb i j l R asks xs ys [] (y ∷ rs) d.todo made 0 d.budget d.doing (map (λ e. side_of e) f.0)
-            made None (sym (append-nil made)) y rs (d.doing.sides_are ∙ ap (map (λ e. side_of e)) f.1) refl
-            (record { child = tt; begins = λ y e. tt; binds = λ k. nothing _ });
-      })
+            doing-start refl (record { events = s.0; script = s.1; sides_are = refl })
+            (script-asked cmp o ta tb i j l asks an xs ys s.0 ca cb s.1 ask) (omega arith);
+      }
+
+  -- the trees that were made, once no tree of the left side is left, are canonical children and what is said of both lists
+  pub list-done : {rs : List B} {made : List (Tree K U)} → IsGoingOn cmp ta tb i j l R asks xs ys [] rs made
+      → AreChildren cmp (forest made) × IsCombinedIn cmp l R (shortened_in ta i xs) (shortened_in tb j ys) (forest made)
+  list-done {rs} d =
+      let f = rights-done rs d in
+      let e = f.0.doing in
+      rw e.made_are (script-made cmp d.total ta tb i j l R (d.nothing l.none) xs ys e.done d.left d.right
+      (whole e.rest (map (λ d. d.0) e.done) (sym f.1 ∙ e.sides_are) e.script) e.made_at)
     where
-      next : (es : List (Event A B)) → [] ≡ lefts es → y ∷ rs ≡ rights es → (rest : List (Event A B)) × (es ≡ right_alone y ∷ rest)
-      next [] l r = absurd (cc)
-      next (left_alone x ∷ es) l r = absurd (cc)
-      next (right_alone b ∷ es) l r = let e : b ≡ y = cc in (es, ap (λ b. right_alone b ∷ es) e)
-      next (collision x b ∷ es) l r = absurd (cc)
-
-  module _ (ca : AreChildren cmp (shortened_in ta i xs)) (cb : AreChildren cmp (shortened_in tb j ys)) where
-    -- none is done yet
-    pub list-begun : asks None l.none
-        → ((x : K) (q : List K) → asks (lookup_in cmp (shortened_in ta i xs) (x ∷ q)) (l.of_forest (shortened_in tb j ys) (x ∷ q)))
-        → Doing xs ys []
-    list-begun an ask =
-        let s = some-script (by_component ta tb i j cmp) total xs ys
-        (record { left = children-ascend cmp ta i xs ca; right = children-ascend cmp tb j ys cb }) in
-        record {
-          todo = map (λ e. side_of e) s.0;
-          budget = owed cmp ta tb i j s.0;
-          doing =
-              doing-start cmp ta tb i j l R asks xs ys (map (λ e. side_of e) s.0) [] 0 (owed cmp ta tb i j s.0) refl
-              (record { events = s.0; script = s.1; sides_are = refl })
-              (script-asked cmp o ta tb i j l asks an xs ys s.0 ca cb s.1 ask) (omega arith);
-        }
-
-    -- the trees that were made, once no event is left, are canonical children and what is said of both lists
-    pub list-done : R None l.none None → (ls : List A) (rs : List B) (made : List (Tree K U)) (d : Doing ls rs made) → d.todo ≡ []
-        → AreChildren cmp (forest made) × IsCombinedIn cmp l R (shortened_in ta i xs) (shortened_in tb j ys) (forest made)
-    list-done none ls rs made d end =
-        rw d.doing.made_are (script-made cmp o ta tb i j l R none xs ys d.doing.done ca cb
-        (whole d.doing.rest (map (λ d. d.0) d.doing.done) (sym end ∙ d.doing.sides_are) d.doing.script) d.doing.made_at)
-      where
-        whole : (rest done : List (Event A B)) → ◌≡◌ {A = List Side} [] (map (λ e. side_of e) rest)
-            → IsScript (by_component ta tb i j cmp) xs ys (done ++ rest) → IsScript (by_component ta tb i j cmp) xs ys done
-        whole [] done e s = subst (λ l. IsScript (by_component ta tb i j cmp) xs ys l) (append-nil done) s
-        whole (e ∷ es) done z s = absurd (cc)
+      whole : (rest done : List (Event A B)) → ◌≡◌ {A = List Side} [] (map (λ e. side_of e) rest)
+          → IsScript (by_component ta tb i j cmp) xs ys (done ++ rest) → IsScript (by_component ta tb i j cmp) xs ys done
+      whole [] done e s = subst (λ l. IsScript (by_component ta tb i j cmp) xs ys l) (append-nil done) s
+      whole (e ∷ es) done z s = absurd (cc)

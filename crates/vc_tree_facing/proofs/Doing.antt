@@ -2,6 +2,7 @@
 --     doing-start        none is done yet
 --     doing-left, doing-right, doing-both        one more is
 --     left-next, right-next        what the next trees are
+--     first-side        the side of the first event that is left
 use Rattle.std.proofs.Common.{◌≡◌, ℕ, ◌+◌, ◌*◌, ◌≤◌, [], ◌∷◌, ◌++◌, List, Option, None, refl, sym, ap, subst, ◌∙◌, map, arith}
 use Rattle.std.specs.List.{AllByRecursion, filter_map, cons_option}
 use Rattle.std.proofs.lemmas.List.Elements.{filter_map-append}
@@ -43,14 +44,18 @@ module _ {A B : Type 0} where
   both-first sides (right_alone b ∷ es) e = absurd (cc)
   both-first sides (collision a b ∷ es) e = (a, b, es, refl)
 
-module _ {K V W U O A B : Type 0} (cmp : K → K → Ordering) (ta : A → Tree K V) (tb : B → Tree K W) (i j : ℕ) (l : Look cmp W O)
-    (R : Option V → O → Option U → Type 0) (asks : Option V → O → Type 0) (xs : List A) (ys : List B) where
+-- the side of the first event that is left, as a match tells it
+pub first-side : {s r : Side} {all sides : List Side} → all ≡ s ∷ sides → s ≡ r → all ≡ r ∷ sides
+first-side {sides = sides} z e = z ∙ ap (λ s. s ∷ sides) e
+
+module _ {K V W U O A B : Type 0} {cmp : K → K → Ordering} {ta : A → Tree K V} {tb : B → Tree K W} {i j : ℕ} {l : Look cmp W O}
+    {R : Option V → O → Option U → Type 0} {asks : Option V → O → Type 0} {xs : List A} {ys : List B} where
   -- none is done yet
-  pub doing-start : (sides : List Side) (made : List (Tree K U)) (spent budget : ℕ) → made ≡ []
+  pub doing-start : {sides : List Side} {made : List (Tree K U)} {spent budget : ℕ} → made ≡ []
       → (m : IsListed (by_component ta tb i j cmp) xs ys sides)
       → AllByRecursion (IsAskedAt cmp ta tb i j l asks) m.events → spent + owed cmp ta tb i j m.events ≤ budget
       → IsDoing cmp ta tb i j l R asks xs ys xs ys sides made spent budget
-  doing-start sides made spent budget e m a p = record {
+  doing-start e m a p = record {
     done = [];
     rest = m.events;
     script = m.script;
@@ -64,14 +69,14 @@ module _ {K V W U O A B : Type 0} (cmp : K → K → Ordering) (ta : A → Tree 
   }
 
   -- one more is done
-  more : (ls : List A) (rs : List B) (sides : List Side) (made made' : List (Tree K U)) (spent budget : ℕ)
+  more : {ls : List A} {rs : List B} {sides : List Side} {made made' : List (Tree K U)} {spent budget : ℕ}
       (done : List (Event A B × Option (Tree K U))) (e : Event A B) (es : List (Event A B)) (o : Option (Tree K U))
       → IsScript (by_component ta tb i j cmp) xs ys (map (λ d. d.0) done ++ e ∷ es)
       → AllByRecursion (λ d. IsMadeAt cmp l R ta tb i j d.0 d.1) done → made ≡ filter_map (λ d. d.1) done
       → IsMadeAt cmp l R ta tb i j e o → made' ≡ made ++ cons_option o [] → ls ≡ lefts es → rs ≡ rights es
       → sides ≡ map (λ e. side_of e) es → AllByRecursion (IsAskedAt cmp ta tb i j l asks) es
       → spent + owed cmp ta tb i j es ≤ budget → IsDoing cmp ta tb i j l R asks xs ys ls rs sides made' spent budget
-  more ls rs sides made made' spent budget done e es o s m k w p f r z a c = record {
+  more done e es o s m k w p f r z a c = record {
     done = done ++ (e, o) ∷ [];
     rest = es;
     script = subst (λ l. IsScript (by_component ta tb i j cmp) xs ys l) (events-push done) s;
@@ -89,70 +94,65 @@ module _ {K V W U O A B : Type 0} (cmp : K → K → Ordering) (ta : A → Tree 
       events-push [] = refl
       events-push (x ∷ ds) = ap (λ l. x.0 ∷ l) (events-push ds)
 
-  module _ (ls : List A) (rs : List B) (all : List Side) (made : List (Tree K U)) (spent budget : ℕ)
+  module _ {ls : List A} {rs : List B} {all : List Side} {made : List (Tree K U)} {spent budget : ℕ}
       (d : IsDoing cmp ta tb i j l R asks xs ys ls rs all made spent budget) where
-    -- the events that are left begin with the next one
-    abbrev Next : Event A B → Type 0
-    Next e = (rest : List (Event A B)) × (d.rest ≡ e ∷ rest)
-
     -- the next tree of the left list, where an event takes one
-    pub left-next : (a : A) (rest : List (Event A B)) (x : A) (ls' : List A) → a ∷ lefts rest ≡ lefts d.rest → ls
-        ≡ x ∷ ls' → (x ≡ a) × (ls' ≡ lefts rest)
-    left-next a rest x ls' h e = let g : x ∷ ls' ≡ a ∷ lefts rest = sym e ∙ d.left ∙ sym h in (cc, cc)
+    pub left-next : {a x : A} {ls' : List A} (rest : List (Event A B)) → a ∷ lefts rest ≡ lefts d.rest → ls ≡ x ∷ ls'
+        → (x ≡ a) × (ls' ≡ lefts rest)
+    left-next {a} {x} {ls'} rest h e = let g : x ∷ ls' ≡ a ∷ lefts rest = sym e ∙ d.left ∙ sym h in (cc, cc)
 
-    pub right-next : (b : B) (rest : List (Event A B)) (y : B) (rs' : List B) → b ∷ rights rest ≡ rights d.rest → rs
-        ≡ y ∷ rs' → (y ≡ b) × (rs' ≡ rights rest)
-    right-next b rest y rs' h e = let g : y ∷ rs' ≡ b ∷ rights rest = sym e ∙ d.right ∙ sym h in (cc, cc)
+    pub right-next : {b y : B} {rs' : List B} (rest : List (Event A B)) → b ∷ rights rest ≡ rights d.rest → rs ≡ y ∷ rs'
+        → (y ≡ b) × (rs' ≡ rights rest)
+    right-next {b} {y} {rs'} rest h e = let g : y ∷ rs' ≡ b ∷ rights rest = sym e ∙ d.right ∙ sym h in (cc, cc)
 
-    module _ (sides : List Side) (made' : List (Tree K U)) (o : Option (Tree K U))
-        (pushed : made' ≡ made ++ cons_option o []) where
-      script-next : (e : Event A B) (rest : List (Event A B)) → d.rest ≡ e ∷ rest
-          → IsScript (by_component ta tb i j cmp) xs ys (map (λ d. d.0) d.done ++ e ∷ rest)
-      script-next e rest h = subst (λ l. IsScript (by_component ta tb i j cmp) xs ys (map (λ d. d.0) d.done ++ l)) h d.script
+    script-next : (e : Event A B) (rest : List (Event A B)) → d.rest ≡ e ∷ rest
+        → IsScript (by_component ta tb i j cmp) xs ys (map (λ d. d.0) d.done ++ e ∷ rest)
+    script-next e rest h = subst (λ l. IsScript (by_component ta tb i j cmp) xs ys (map (λ d. d.0) d.done ++ l)) h d.script
 
-      asked-next : (e : Event A B) (rest : List (Event A B)) → d.rest ≡ e ∷ rest
-          → AllByRecursion (IsAskedAt cmp ta tb i j l asks) rest
-      asked-next e rest h = (subst (AllByRecursion (IsAskedAt cmp ta tb i j l asks)) h d.asked).1
+    asked-next : (e : Event A B) (rest : List (Event A B)) → d.rest ≡ e ∷ rest
+        → AllByRecursion (IsAskedAt cmp ta tb i j l asks) rest
+    asked-next e rest h = (subst (AllByRecursion (IsAskedAt cmp ta tb i j l asks)) h d.asked).1
 
-      sides-next : (e : Event A B) (rest : List (Event A B)) (s : Side) → d.rest ≡ e ∷ rest → all ≡ s ∷ sides
-          → sides ≡ map (λ e. side_of e) rest
-      sides-next e rest s h z = let g : s ∷ sides ≡ side_of e ∷ map (λ e. side_of e) rest = sym z ∙ d.sides_are
-          ∙ ap (map (λ e. side_of e)) h in cc
+    sides-next : (sides : List Side) (e : Event A B) (rest : List (Event A B)) (s : Side) → d.rest ≡ e ∷ rest → all ≡ s ∷ sides
+        → sides ≡ map (λ e. side_of e) rest
+    sides-next sides e rest s h z =
+        let g : s ∷ sides ≡ side_of e ∷ map (λ e. side_of e) rest = sym z ∙ d.sides_are ∙ ap (map (λ e. side_of e)) h in cc
 
-      pub doing-left : (x : A) (ls' : List A) → all ≡ Left ∷ sides → ls ≡ x ∷ ls'
+    module _ {sides : List Side} {made' : List (Tree K U)} {o : Option (Tree K U)} (pushed : made' ≡ made ++ cons_option o []) where
+      pub doing-left : {x : A} {ls' : List A} → all ≡ Left ∷ sides → ls ≡ x ∷ ls'
           → IsMade cmp (λ v z. R v l.none z) (shortened i (ta x)) o
           → IsDoing cmp ta tb i j l R asks xs ys ls' rs sides made' spent budget
-      doing-left x ls' z e w =
+      doing-left z e w =
           let f = left-first sides d.rest (sym z ∙ d.sides_are) in
-          let g = left-next f.0 f.1 x ls' (ap lefts (sym f.2)) e in
-          more ls' rs sides made made' spent budget d.done (left_alone f.0) f.1 o (script-next _ _ f.2) d.made_at d.made_are
+          let g = left-next f.1 (ap lefts (sym f.2)) e in
+          more d.done (left_alone f.0) f.1 o (script-next _ _ f.2) d.made_at d.made_are
           (subst (λ x. IsMade cmp (λ v z. R v l.none z) (shortened i (ta x)) o) g.0 w) pushed g.1
-          (d.right ∙ ap rights f.2) (sides-next _ _ Left f.2 z) (asked-next _ _ f.2)
+          (d.right ∙ ap rights f.2) (sides-next _ _ _ Left f.2 z) (asked-next _ _ f.2)
           (subst (λ l. spent + owed cmp ta tb i j l ≤ budget) f.2 d.paid)
 
-      pub doing-right : (y : B) (rs' : List B) → all ≡ Right ∷ sides → rs ≡ y ∷ rs'
+      pub doing-right : {y : B} {rs' : List B} → all ≡ Right ∷ sides → rs ≡ y ∷ rs'
           → IsMadeBy cmp l (λ w z. R None w z) (shortened j (tb y)) o
           → IsDoing cmp ta tb i j l R asks xs ys ls rs' sides made' spent budget
-      doing-right y rs' z e w =
+      doing-right z e w =
           let f = right-first sides d.rest (sym z ∙ d.sides_are) in
-          let g = right-next f.0 f.1 y rs' (ap rights (sym f.2)) e in
-          more ls rs' sides made made' spent budget d.done (right_alone f.0) f.1 o (script-next _ _ f.2) d.made_at d.made_are
+          let g = right-next f.1 (ap rights (sym f.2)) e in
+          more d.done (right_alone f.0) f.1 o (script-next _ _ f.2) d.made_at d.made_are
           (subst (λ y. IsMadeBy cmp l (λ w z. R None w z) (shortened j (tb y)) o) g.0 w) pushed
-          (d.left ∙ ap lefts f.2) g.1 (sides-next _ _ Right f.2 z) (asked-next _ _ f.2)
+          (d.left ∙ ap lefts f.2) g.1 (sides-next _ _ _ Right f.2 z) (asked-next _ _ f.2)
           (subst (λ l. spent + owed cmp ta tb i j l ≤ budget) f.2 d.paid)
 
-      pub doing-both : (x : A) (ls' : List A) (y : B) (rs' : List B) (spent' : ℕ) → all ≡ Both ∷ sides → ls ≡ x ∷ ls'
+      pub doing-both : {x : A} {ls' : List A} {y : B} {rs' : List B} {spent' : ℕ} → all ≡ Both ∷ sides → ls ≡ x ∷ ls'
           → rs ≡ y ∷ rs' → IsBothMadeBy cmp l R (shortened i (ta x)) (shortened j (tb y)) o
           → spent' + 2 ≤ spent + 3 * (weight (shortened i (ta x)) + weight (shortened j (tb y)))
           → IsDoing cmp ta tb i j l R asks xs ys ls' rs' sides made' spent' budget
-      doing-both x ls' y rs' spent' z e e' w c =
+      doing-both {y = y} {spent' = spent'} z e e' w c =
           let f = both-first sides d.rest (sym z ∙ d.sides_are) in
-          let g = left-next f.0 f.2 x ls' (ap lefts (sym f.3)) e in
-          let h = right-next f.1 f.2 y rs' (ap rights (sym f.3)) e' in
+          let g = left-next f.2 (ap lefts (sym f.3)) e in
+          let h = right-next f.2 (ap rights (sym f.3)) e' in
           let same = subst (λ y. IsBothMadeBy cmp l R (shortened i (ta f.0)) (shortened j (tb y)) o) h.0
           (subst (λ x. IsBothMadeBy cmp l R (shortened i (ta x)) (shortened j (tb y)) o) g.0 w) in
           let cost = subst (λ y. spent' + 2 ≤ spent + 3 * (weight (shortened i (ta f.0)) + weight (shortened j (tb y)))) h.0
           (subst (λ x. spent' + 2 ≤ spent + 3 * (weight (shortened i (ta x)) + weight (shortened j (tb y)))) g.0 c) in
           let paid = subst (λ l. spent + owed cmp ta tb i j l ≤ budget) f.3 d.paid in
-          more ls' rs' sides made made' spent' budget d.done (collision f.0 f.1) f.2 o (script-next _ _ f.3) d.made_at d.made_are
-          same pushed g.1 h.1 (sides-next _ _ Both f.3 z) (asked-next _ _ f.3) (omega (arith, cost, paid))
+          more d.done (collision f.0 f.1) f.2 o (script-next _ _ f.3) d.made_at d.made_are
+          same pushed g.1 h.1 (sides-next _ _ _ Both f.3 z) (asked-next _ _ f.3) (omega (arith, cost, paid))

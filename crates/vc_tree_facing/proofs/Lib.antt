@@ -9,3 +9,6 @@ pub mod Ending
 pub mod Copied
 pub mod Seeking
 pub mod Deciding
+pub mod Leaving
+pub mod Advancing
+pub mod Apart

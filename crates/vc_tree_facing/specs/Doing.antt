@@ -1,12 +1,15 @@
 -- The events of two lists of trees, of which some are done and the others are left. No public clause cites these words.
 use Rattle.std.specs.Prelude.{◌≡◌, ℕ, ◌+◌, ◌*◌, ◌-◌, ◌≤◌, List, [], ◌∷◌, ◌++◌, map, Option, None}
 use Rattle.std.specs.List.{AllByRecursion, filter_map}
+use Rattle.std.specs.Cmp.{IsTotalOrder}
 use Rattle.std.specs.declared.cmp.Ordering.{Ordering}
 use Rattle.vc_merge.specs.Script.{Event, left_alone, right_alone, collision, IsScript, lefts, rights}
+use Rattle.vc_tree_model.specs.Canonical.{AreChildren}
 use Rattle.vc_tree_model.specs.Tree.{Tree, shortened}
 use Rattle.vc_tree_model.specs.Map.{lookup}
 use Rattle.vc_tree_model.specs.Shortened.{weight}
 use Rattle.vc_tree_model.specs.Look.{Look}
+use Rattle.vc_tree_facing.specs.Facing.{shortened_in}
 use Rattle.vc_tree_facing.specs.Made.{IsMadeAt}
 use Rattle.vc_tree_facing.specs.Sides.{by_component, side_of}
 use Rattle.vc_tree_facing.specs.declared.sides.Side.{Side}
@@ -42,9 +45,14 @@ module _ {K V W A B : Type 0} (cmp : K → K → Ordering) (ta : A → Tree K V)
     pub asked : AllByRecursion (IsAskedAt l asks) rest
     pub paid : spent + owed rest ≤ budget
 
-  -- some events are done, and have made these trees, and the others are left
+  -- two lists of canonical children side by side, where nothing comes of the right one alone: some events are done, and have made
+  -- these trees, and the others are left
   pub record IsGoingOn {U O : Type 0} (l : Look cmp W O) (R : Option V → O → Option U → Type 0) (asks : Option V → O → Type 0)
       (xs : List A) (ys : List B) (ls : List A) (rs : List B) (made : List (Tree K U)) : Type 0 where
+    pub total : IsTotalOrder cmp
+    pub nothing : (o : O) → R None o None
+    pub left : AreChildren cmp (shortened_in ta i xs)
+    pub right : AreChildren cmp (shortened_in tb j ys)
     pub todo : List Side
     pub budget : ℕ
     pub doing : IsDoing l R asks xs ys ls rs todo made 0 budget

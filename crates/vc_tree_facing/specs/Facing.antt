@@ -1,13 +1,15 @@
 -- Two trees side by side: what stands below the fronts of their prefixes that agree. No public clause cites these words.
 use Rattle.std.specs.Prelude.{◌≡◌, ℕ, ◌+◌, ◌≤◌, List, [], ◌∷◌, ◌++◌, map, length, take, drop, Option, Some, MatchOption, slice_get, IsTrue, IsFalse, ⊤}
+use Rattle.std.specs.Cmp.{IsTotalOrder}
 use Rattle.std.specs.List.{AllByRecursion}
 use Rattle.std.specs.Option.{option_copied, option_to_list}
 use Rattle.std.specs.Ordering.{is_eq}
 use Rattle.std.specs.declared.cmp.Ordering.{Ordering}
 use Rattle.vc_tree_model.specs.Key.{same_key}
 use Rattle.vc_tree_model.specs.Tree.{Tree, Forest, forest, shortened, nodes}
-use Rattle.vc_tree_model.specs.Canonical.{AreChildren}
+use Rattle.vc_tree_model.specs.Canonical.{AreChildren, IsCanonical}
 use Rattle.vc_tree_model.specs.Child.{children_at}
+use Rattle.vc_tree_nodes.specs.Parting.{Agree}
 use Rattle.vc_tree_facing.specs.Sides.{by_component, IsListed}
 use Rattle.vc_tree_facing.specs.declared.facing.Below.{Below}
 use Rattle.vc_tree_facing.specs.declared.sides.Side.{Side}
@@ -58,3 +60,11 @@ pub record IsFaced {K V W A B : Type 0} (cmp : K → K → Ordering) (ta : A →
   pub left : IsOpened ta t (drop n t.prefix) xs i
   pub right : IsOpened tb u (drop n u.prefix) ys j
   pub listed : IsListed (by_component ta tb i j cmp) xs ys sides
+
+-- the prefixes of two canonical trees, t without its first i components and u without its first j, agree for n more and part there
+pub record IsSplit {K V W : Type 0} (cmp : K → K → Ordering) (t : Tree K V) (i : ℕ) (u : Tree K W) (j n : ℕ) : Type 0 where
+  pub total : IsTotalOrder cmp
+  pub left : IsCanonical cmp t
+  pub right : IsCanonical cmp u
+  pub agree : Agree cmp (drop i t.prefix) (drop j u.prefix) n
+  pub parts : Parts cmp (drop n (drop i t.prefix)) (drop n (drop j u.prefix))

@@ -3,3 +3,4 @@ pub mod Facing
 pub mod Made
 pub mod Doing
 pub mod Seeking
+pub mod Lessening

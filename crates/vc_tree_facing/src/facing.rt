@@ -1,13 +1,13 @@
 //! Two trees side by side: where their prefixes part, and what stands below.
 
-ghost use Rattle.std.specs.Prelude.{◌≡◌, ◌+◌, ◌≤◌, ◌<◌, true, [], ◌∷◌, min, length, drop, slice_get, IfOk};
+ghost use Rattle.std.specs.Prelude.{◌≡◌, ◌+◌, ◌≤◌, ◌<◌, true, [], ◌∷◌, Some, min, length, drop, slice_get, IfOk};
 ghost use Rattle.std.specs.Option.{option_copied, option_to_list};
 ghost use Rattle.vc_tree_model.specs.Canonical.{IsCanonical};
 ghost use Rattle.vc_tree_model.specs.Shortened.{weight, forest_weight};
 ghost use Rattle.vc_tree_model.specs.Tree.{shortened};
 ghost use Rattle.vc_tree_nodes.specs.Parting.{Agree};
 ghost use Rattle.vc_tree_nodes.specs.Places.{first_side};
-ghost use Rattle.vc_tree_facing.specs.Facing.{trees_below, Parts, IsBelow, IsOpened, IsFaced};
+ghost use Rattle.vc_tree_facing.specs.Facing.{trees_below, Parts, IsBelow, IsOpened, IsFaced, IsSplit};
 ghost use Rattle.vc_tree_facing.specs.Seeking.{IsSought};
 ghost use Rattle.vc_tree_facing.specs.Sides.{by_component, IsListed};
 
@@ -15,6 +15,7 @@ use crate::sides::{ByPrefix, Itself, Sides, list_sides};
 use std::alloc::{AllocError, Global};
 use std::cmp::Ordering;
 use vc_merge::merge::Count;
+use vc_merge::states::Uncounted;
 use vc_tree_nodes::parting::{Parting, find_parting};
 use vc_tree_nodes::reading::{RadixNode, TKey, TValue};
 
@@ -28,6 +29,17 @@ pub struct Below<'a, T> {
 }
 
 impl<'a, T> Below<'a, T> {
+    /// No trees.
+    pub fn none() -> Self
+        ensures { trees_below result ≡ [] }
+    {
+        Below {
+            whole: None,
+            children: &[],
+            from: 0,
+        }
+    }
+
     /// Whether none is left.
     pub fn is_empty(&self) -> bool
         ensures { result ≡ true → trees_below self.now ≡ [] }
@@ -108,6 +120,23 @@ pub fn seek<'a, K: TKey, V: TValue, T: RadixNode<K, V>>(
     found
 }
 
+/// The tree that goes on as this one does at a place of its prefix. Those that go on with lesser
+/// components are passed.
+pub fn seek_alike<'b, K: TKey, V: TValue, W: TValue, T: RadixNode<K, V>, B: RadixNode<K, W>>(
+    below: &mut Below<'b, B>,
+    tree: &T,
+    place: usize,
+) -> Option<&'b B>
+    requires { place < length (T.tree tree.now).prefix }
+    ensures sought { (x : K) → slice_get (T.tree tree.now).prefix place ≡ Some x
+        → IsSought K.cmp B.tree below.old.from x (trees_below below.old) (option_copied result)
+        (trees_below below.new) }
+    ensures from { below.new.from ≡ below.old.from }
+    ensures canonical { IsCanonical K.cmp (T.tree tree.now) }
+{
+    seek(below, &tree.prefix()[place])
+}
+
 /// What stands in a tree below the first `place` components of its prefix.
 pub fn below_place<'a, K: TKey, V: TValue, T: RadixNode<K, V>>(
     tree: &'a T,
@@ -160,6 +189,25 @@ pub fn common_front<K: Ord, C: Count>(p: &[K], q: &[K], known: usize, steps: &mu
         Parting::Behind => p.len(),
         Parting::Inside(n) | Parting::Lower(n) | Parting::Higher(n) => n,
     }
+}
+
+/// For how many components the prefixes of two trees agree, without their first `i` and `j`. The
+/// first `known` of these are known to.
+pub fn split<K: TKey, V: TValue, W: TValue, T: RadixNode<K, V>, B: RadixNode<K, W>>(
+    tree: &T,
+    i: usize,
+    that: &B,
+    j: usize,
+    known: usize,
+) -> usize
+    requires left { i ≤ length (T.tree tree.now).prefix }
+    requires right { j ≤ length (B.tree that.now).prefix }
+    requires known { Agree K.cmp (drop i (T.tree tree.now).prefix) (drop j (B.tree that.now).prefix)
+        known }
+    ensures { IsSplit K.cmp (T.tree tree.now) i (B.tree that.now) j result }
+{
+    let (p, q) = (&tree.prefix()[i..], &that.prefix()[j..]);
+    common_front(p, q, known, &mut Uncounted)
 }
 
 /// The component at a place of a prefix, as a list.

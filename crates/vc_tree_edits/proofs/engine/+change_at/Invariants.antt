@@ -1,8 +1,9 @@
--- The events up to now are done, and there is room for a tree at each of the others; each call goes down to fewer nodes.
-use Rattle.std.proofs.Common.{◌≡◌, ◌≤◌, true, ℕ, ◌+◌, map, length}
+-- The events up to now are done, and there is room for a tree at each of the others that comes in; each call goes down to fewer nodes.
+use Rattle.std.proofs.Common.{◌≡◌, ◌≤◌, ℕ, ◌+◌, map, length}
 use Rattle.vc_tree_model.specs.Tree.{nodes}
 use Rattle.vc_tree_facing.specs.Facing.{trees_below}
 use Rattle.vc_tree_facing.specs.Doing.{IsDoing}
+use Rattle.vc_tree_edits.specs.Taken.{arrivals_of}
 use Rattle.vc_tree_edits.proofs.engine.+change_at.Given as goal
 
 abbrev pub decreases-change_at : goal.decreases-change_at
@@ -13,11 +14,11 @@ invariant-loop-side g l = record {
   doing :
       (budget : ℕ)
       × IsDoing g.K.Ord.cmp g.T.RadixNode.tree g.B.RadixNode.tree l.from l.initial.right.from (g.O.Change.look g.K.Ord.cmp)
-      (g.O.Change.says l.below) (g.O.Change.asks l.below) (g.O.Row.Row.seen l.initial.row).rest
-      (trees_below l.initial.right) (g.O.Row.Row.seen l.row).rest
-      (trees_below l.right) l.todo (map g.T.RadixNode.tree (g.O.Row.Row.seen l.row).built) 0 budget;
+      (g.O.Change.says l.below) (g.O.Change.asks l.below) l.initial.row.rest
+      (trees_below l.initial.right) l.row.rest
+      (trees_below l.right) l.todo (map g.T.RadixNode.tree l.row.built) 0 budget;
   right_from : l.right.from ≡ l.initial.right.from;
-  room : g.O.Row.Row.grows ≡ true → length l.todo ≤ (g.O.Row.Row.seen l.row).room;
+  room : arrivals_of l.todo ≤ l.row.room;
   value_is : l.value ≡ l.initial.value;
   prefix_is : l.prefix ≡ l.initial.prefix;
 }

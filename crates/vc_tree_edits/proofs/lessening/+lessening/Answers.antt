@@ -1,6 +1,6 @@
 -- What is left of two trees, by where their prefixes end, and of the children one after the other.
 use Rattle.std.proofs.Common.{◌≡◌, ◌+◌, ◌<◌, ◌≤◌, ◌∷◌, [], None, refl, sym, ap, subst, ◌∙◌, arith, rules, take}
-use Rattle.std.proofs.Common.{length, length-drop, is_ok, true≢false}
+use Rattle.std.proofs.Common.{length, length-drop, is_ok, true≢false, List}
 use Rattle.std.proofs.Math.ListN.{length-set}
 use Rattle.std.specs.List.{cons_option}
 use Rattle.std.specs.Option.{option_copied}
@@ -8,16 +8,16 @@ use Rattle.vc_tree_model.specs.Canonical.{AreChildren}
 use Rattle.vc_tree_model.specs.Map.{lookup_in}
 use Rattle.vc_tree_model.specs.Tree.{forest_nodes, nodes}
 use Rattle.vc_tree_model.proofs.AlikeLemmas.{alike-children, alike-lookup, alike-nodes}
-use Rattle.vc_tree_nodes.specs.Children.{listed}
+use Rattle.vc_tree_nodes.specs.Children.{listed, seen}
 use Rattle.vc_tree_facing.specs.Facing.{trees_below, shortened_in}
-use Rattle.vc_tree_facing.proofs.Deciding.{list-begun}
-use Rattle.vc_tree_edits.specs.Lessening.{alone}
-use Rattle.vc_tree_edits.proofs.Advancing.{next-within, next-fewer, meets-asked, meets-agree, meets-within, meets-all, each-fewer}
-use Rattle.vc_tree_edits.proofs.Advancing.{same-place, IsStepped, next-here, stepped-alone, stepped-both, after-kept}
-use Rattle.vc_tree_edits.proofs.Advancing.{after-gone, inside-alone, inside-both, alone-made, all-gone, none-left, only-popped, first-long}
-use Rattle.vc_tree_edits.proofs.Advancing.{same-many, whole-back}
-use Rattle.vc_tree_edits.proofs.Leaving.{if-ok, by-itself, node-lessened, inside-lessened, apart-lessened, value-may, below-may}
-use Rattle.vc_tree_edits.proofs.Leaving.{node-kids, node-smaller, inner-list, ended-value, ended-children, inner-value, inner-children, below-children_at, below-fewer}
+use Rattle.vc_tree_facing.proofs.Advancing.{next-within, next-fewer, meets-asked, meets-agree, meets-within, meets-all, each-fewer}
+use Rattle.vc_tree_facing.proofs.Advancing.{inside-alone, inside-both}
+use Rattle.vc_tree_facing.proofs.Apart.{apart-lessened}
+use Rattle.vc_tree_facing.proofs.Deciding.{list-begun, list-done}
+use Rattle.vc_tree_facing.proofs.Leaving.{if-ok, node-lessened, inside-lessened, value-may, below-may, node-kids, node-smaller, inner-list}
+use Rattle.vc_tree_facing.proofs.Leaving.{ended-value, ended-children, inner-value, inner-children, below-children_at, below-fewer}
+use Rattle.vc_tree_edits.proofs.Placed.{same-place, same-at, set-at, IsStepped, next-here, stepped-alone, stepped-both, after-kept}
+use Rattle.vc_tree_edits.proofs.Placed.{after-gone, alone-made, none-left, only-popped, first-long, same-many, whole-back}
 use Rattle.vc_tree_edits.proofs.lessening.+lessening.Goals.{lessen_in-in-Some+in_ok-stays-in-Some, lessen_in-in-None}
 use Rattle.vc_tree_edits.proofs.lessening.+lessening.Goals.{lessen_in-then-stays, lessen_in-else-stays}
 use Rattle.vc_tree_edits.proofs.lessening.+lessening.Goals.{lessen_in-else-is_bare-via-then-is_bare+else-kept-eq1}
@@ -28,7 +28,7 @@ pub lessen_at-overflow_add-place : goal.lessen_at-overflow_add-place
 lessen_at-overflow_add-place g t c =
     let v = ap length c.prefix-whole.ensures.value in
     let k = length-drop c.args.i (g.T.RadixNode.tree c.args.tree.now).prefix in
-    let h = c.front_of-front.ensures.agree.within_prefix in
+    let h = c.split-front.ensures.agree.within_prefix in
     let small = c.prefix-whole.type_inv.0 in
     let left = c.requires.left in
     omega (arith, v, k, h, small, left)
@@ -37,205 +37,144 @@ pub lessen_at-overflow_add-other_place : goal.lessen_at-overflow_add-other_place
 lessen_at-overflow_add-other_place g t c =
     let v = ap length c.prefix-other_whole.ensures.value in
     let k = length-drop c.args.j (g.B.RadixNode.tree c.args.that.now).prefix in
-    let h = c.front_of-front.ensures.agree.within_key in
+    let h = c.split-front.ensures.agree.within_key in
     let small = c.prefix-other_whole.type_inv.0 in
     let right = c.requires.right in
     omega (arith, v, k, h, small, right)
 
 pub lessen_at-returns-then-other_place-other_whole : goal.lessen_at-returns-then-other_place-other_whole
 lessen_at-returns-then-other_place-other_whole g t c =
-    let within : c.args.i + c.front_of-front.result < length (g.T.RadixNode.tree c.args.tree.now).prefix =
-    subst (λ p. c.args.i + c.front_of-front.result < length p) c.prefix-whole.ensures.value c.if-place-whole.true in
-    let beyond : c.args.j + c.front_of-front.result < length (g.B.RadixNode.tree c.args.that.now).prefix =
-    subst (λ p. c.args.j + c.front_of-front.result < length p) c.prefix-other_whole.ensures.value
-    c.if-other_place-other_whole.true in
-    apart-lessened g.K.Ord.cmp g.met.K.Ord.total (g.O.Lessen.look g.K.Ord.cmp) (g.O.Lessen.says c.args.op.now)
-    (g.met.O.Lessen.says_nothing c.args.op.now) c.args.i c.args.j c.front_of-front.result _ _ c.front_of-front.ensures.agree
-    c.front_of-front.ensures.parts c.stays_alone.result _ c.front_of-front.ensures.left_canonical within beyond
-    (by-itself g.T.Build.keeps g.met.T.Build.keeps_refl (g.O.Lessen.says c.args.op.now) _ c.stays_alone.result
-    c.stays_alone.ensures) refl
+    let tree = g.T.RadixNode.tree in
+    let op = c.args.op.now in
+    let within : c.args.i + c.split-front.result < length (g.T.RadixNode.tree c.args.tree.now).prefix =
+    subst (λ p. c.args.i + c.split-front.result < length p) c.prefix-whole.ensures.value c.if-place-whole.true in
+    let beyond : c.args.j + c.split-front.result < length (g.B.RadixNode.tree c.args.that.now).prefix =
+    subst (λ p. c.args.j + c.split-front.result < length p) c.prefix-other_whole.ensures.value c.if-other_place-other_whole.true in
+    apart-lessened tree c.args.tree.now g.B.RadixNode.tree c.args.that.now c.split-front.ensures within beyond (g.O.Lessen.look g.K.Ord.cmp)
+    (g.O.Lessen.says op) (g.O.Lessen.asks op) (g.met.O.Lessen.says_nothing op) (g.met.O.Lessen.asks_none op) c.requires.asks
+    (λ s. refl) (alone-made g.K.Ord.cmp g.met.K.Ord.total g.T.Build.keeps g.met.T.Build.keeps_refl (g.O.Lessen.says op) _
+    (tree c.args.tree.now) _ c.split-front.ensures.left within c.stays_alone.result c.stays_alone.ensures)
 
 pub lessen_at-lessen_inside-requires : goal.lessen_at-lessen_inside-requires
 lessen_at-lessen_inside-requires g t c κs inside =
+    let s = c.split-front.ensures in
     let tree = g.T.RadixNode.tree c.args.tree.now in
     let that = g.B.RadixNode.tree c.args.that.now in
-    let within : c.args.i + c.front_of-front.result < length tree.prefix =
-    subst (λ p. c.args.i + c.front_of-front.result < length p) c.prefix-whole.ensures.value c.if-place-whole.true in
-    let long : length that.prefix ≤ c.args.j + c.front_of-front.result =
-    subst (λ p. length p ≤ c.args.j + c.front_of-front.result) c.prefix-other_whole.ensures.value
-    c.if-other_place-other_whole.false in
-    let value =
-    value-may g.K.Ord.cmp g.met.K.Ord.total (g.O.Lessen.look g.K.Ord.cmp) (g.O.Lessen.asks c.args.op.now) c.args.i c.args.j
-    c.front_of-front.result tree that c.front_of-front.ensures.agree c.requires.asks None that.value
-    (inner-value c.args.i c.front_of-front.result tree within) (ended-value c.args.j c.front_of-front.result that long) in
-    let below =
-    below-may g.K.Ord.cmp g.met.K.Ord.total (g.O.Lessen.look g.K.Ord.cmp) (g.O.Lessen.asks c.args.op.now) c.args.i c.args.j
-    c.front_of-front.result tree that c.front_of-front.ensures.agree c.requires.asks
-    (alone (c.args.i + c.front_of-front.result) tree) that.value that.children
-    (inner-children c.args.i c.front_of-front.result tree within) (ended-value c.args.j c.front_of-front.result that long)
-    (ended-children c.args.j c.front_of-front.result that long) in
+    let within : c.args.i + c.split-front.result < length (g.T.RadixNode.tree c.args.tree.now).prefix =
+    subst (λ p. c.args.i + c.split-front.result < length p) c.prefix-whole.ensures.value c.if-place-whole.true in
+    let ended : length (g.B.RadixNode.tree c.args.that.now).prefix ≤ c.args.j + c.split-front.result =
+    subst (λ p. length p ≤ c.args.j + c.split-front.result) c.prefix-other_whole.ensures.value c.if-other_place-other_whole.false in
+    let w = ended-value c.args.j c.split-front.result that ended in
+    let value = value-may s (g.O.Lessen.look g.K.Ord.cmp) (g.O.Lessen.asks c.args.op.now) c.requires.asks
+    (inner-value c.args.i c.split-front.result tree within) w in
+    let below = below-may s (g.O.Lessen.look g.K.Ord.cmp) (g.O.Lessen.asks c.args.op.now) c.requires.asks
+    (inner-children c.args.i c.split-front.result tree within) w (ended-children c.args.j c.split-front.result that ended) in
     search rules
 
 pub lessen_at-returns-then-place-whole : goal.lessen_at-returns-then-place-whole
 lessen_at-returns-then-place-whole g t c =
-    let within : c.args.i + c.front_of-front.result < length (g.T.RadixNode.tree c.args.tree.now).prefix =
-    subst (λ p. c.args.i + c.front_of-front.result < length p) c.prefix-whole.ensures.value c.if-place-whole.true in
-    let long : length (g.B.RadixNode.tree c.args.that.now).prefix ≤ c.args.j + c.front_of-front.result =
-    subst (λ p. length p ≤ c.args.j + c.front_of-front.result) c.prefix-other_whole.ensures.value
-    c.if-other_place-other_whole.false in
+    let that = g.B.RadixNode.tree c.args.that.now in
+    let within : c.args.i + c.split-front.result < length (g.T.RadixNode.tree c.args.tree.now).prefix =
+    subst (λ p. c.args.i + c.split-front.result < length p) c.prefix-whole.ensures.value c.if-place-whole.true in
+    let ended : length (g.B.RadixNode.tree c.args.that.now).prefix ≤ c.args.j + c.split-front.result =
+    subst (λ p. length p ≤ c.args.j + c.split-front.result) c.prefix-other_whole.ensures.value c.if-other_place-other_whole.false in
     if-ok c.lessen_inside.result
-    (λ stays h. inside-lessened g.K.Ord.cmp g.met.K.Ord.total (g.O.Lessen.look g.K.Ord.cmp) (g.O.Lessen.says c.args.op.now)
-    (g.met.O.Lessen.says_nothing c.args.op.now) c.args.i c.args.j c.front_of-front.result _ _ c.front_of-front.ensures.agree
-    c.front_of-front.ensures.parts stays _ within long h) c.lessen_inside.ensures
+    (λ stays h. inside-lessened c.split-front.ensures h (g.met.O.Lessen.says_nothing c.args.op.now _) within
+    (ended-value c.args.j c.split-front.result that ended) (ended-children c.args.j c.split-front.result that ended))
+    c.lessen_inside.ensures
 
 pub lessen_at-lessen_node-requires : goal.lessen_at-lessen_node-requires
 lessen_at-lessen_node-requires g t c κs inside =
+    let s = c.split-front.ensures in
     let tree = g.T.RadixNode.tree c.args.tree.now in
     let that = g.B.RadixNode.tree c.args.that.now in
-    let long : length tree.prefix ≤ c.args.i + c.front_of-front.result =
-    subst (λ p. length p ≤ c.args.i + c.front_of-front.result) c.prefix-whole.ensures.value c.if-place-whole.false in
+    let long : length (g.T.RadixNode.tree c.args.tree.now).prefix ≤ c.args.i + c.split-front.result =
+    subst (λ p. length p ≤ c.args.i + c.split-front.result) c.prefix-whole.ensures.value c.if-place-whole.false in
     let opened = c.below_place-right.ensures.opened in
     let children = c.below_place-right.ensures.below.are_children in
-    let fewer = below-fewer g.B.RadixNode.tree that _ _ _ opened in
-    let value =
-    value-may g.K.Ord.cmp g.met.K.Ord.total (g.O.Lessen.look g.K.Ord.cmp) (g.O.Lessen.asks c.args.op.now) c.args.i c.args.j
-    c.front_of-front.result tree that c.front_of-front.ensures.agree c.requires.asks tree.value (option_copied c.value_at.result)
-    (ended-value c.args.i c.front_of-front.result tree long) c.value_at.ensures in
-    let below =
-    below-may g.K.Ord.cmp g.met.K.Ord.total (g.O.Lessen.look g.K.Ord.cmp) (g.O.Lessen.asks c.args.op.now) c.args.i c.args.j
-    c.front_of-front.result tree that c.front_of-front.ensures.agree c.requires.asks tree.children
-    (option_copied c.value_at.result)
-    (shortened_in g.B.RadixNode.tree c.below_place-right.result.from (trees_below c.below_place-right.result))
-    (ended-children c.args.i c.front_of-front.result tree long) c.value_at.ensures
-    (below-children_at c.args.j c.front_of-front.result that g.B.RadixNode.tree _ _ opened) in
+    let fewer = below-fewer opened in
+    let value = value-may s (g.O.Lessen.look g.K.Ord.cmp) (g.O.Lessen.asks c.args.op.now) c.requires.asks
+    (ended-value c.args.i c.split-front.result tree long) c.value_at.ensures in
+    let below = below-may s (g.O.Lessen.look g.K.Ord.cmp) (g.O.Lessen.asks c.args.op.now) c.requires.asks
+    (ended-children c.args.i c.split-front.result tree long) c.value_at.ensures
+    (below-children_at c.args.j c.split-front.result that opened) in
     search rules
 
 pub lessen_at-returns : goal.lessen_at-returns
 lessen_at-returns g t c =
-    let long : length (g.T.RadixNode.tree c.args.tree.now).prefix ≤ c.args.i + c.front_of-front.result =
-    subst (λ p. length p ≤ c.args.i + c.front_of-front.result) c.prefix-whole.ensures.value c.if-place-whole.false in
+    let long : length (g.T.RadixNode.tree c.args.tree.now).prefix ≤ c.args.i + c.split-front.result =
+    subst (λ p. length p ≤ c.args.i + c.split-front.result) c.prefix-whole.ensures.value c.if-place-whole.false in
     if-ok c.lessen_node.result
-    (λ stays h. node-lessened g.K.Ord.cmp g.met.K.Ord.total (g.O.Lessen.look g.K.Ord.cmp) (g.O.Lessen.says c.args.op.now)
-    (g.met.O.Lessen.says_nothing c.args.op.now) c.args.i c.args.j c.front_of-front.result _ _ c.front_of-front.ensures.agree
-    c.front_of-front.ensures.parts stays _ g.B.RadixNode.tree _ _ _ long c.value_at.ensures
-    c.below_place-right.ensures.opened h) c.lessen_node.ensures
+    (λ stays h. node-lessened c.split-front.ensures h (g.met.O.Lessen.says_nothing c.args.op.now _) long c.value_at.ensures
+    (below-children_at c.args.j c.split-front.result (g.B.RadixNode.tree c.args.that.now) c.below_place-right.ensures.opened))
+    c.lessen_node.ensures
 
 -- ---- inside the left prefix
 
 pub lessen_inside-lessen_at-requires : goal.lessen_inside-lessen_at-requires
 lessen_inside-lessen_at-requires g t c κs inside =
-    let tree = g.T.RadixNode.tree in
     let tb = g.B.RadixNode.tree in
     let op = c.change_value-below.result.1 in
-    let xs = c.args.tree.now ∷ [] in
-    let ys = trees_below c.below_place-right.result in
-    let from = c.below_place-right.result.from in
-    let ca = inner-list g.K.Ord.cmp tree c.args.tree.now c.args.place c.seek_alike.ensures.canonical c.requires.within in
-    let cb = c.below_place-right.ensures.below.are_children in
-    let kids = node-kids tb (tb c.args.that.now) _ _ ys from c.prefix.ensures.value (omega arith) c.below_place-right.ensures.opened in
-    let d = list-begun g.K.Ord.cmp g.met.K.Ord.total tree tb c.args.place from (g.O.Lessen.look g.K.Ord.cmp)
-    (g.O.Lessen.says op) (g.O.Lessen.asks op) xs ys ca cb (g.met.O.Lessen.asks_none op)
+    let opened = c.below_place-right.ensures.opened in
+    let kids = node-kids opened c.prefix.ensures.value (omega arith) in
+    let d = list-begun {ta = g.T.RadixNode.tree} {tb = tb} {i = c.args.place} {j = c.below_place-right.result.from}
+    {l = g.O.Lessen.look g.K.Ord.cmp} {R = g.O.Lessen.says op}
+    {asks = g.O.Lessen.asks op} {xs = c.args.tree.now ∷ []}
+    {ys = trees_below c.below_place-right.result} g.met.K.Ord.total (g.met.O.Lessen.says_nothing op)
+    (g.met.O.Lessen.asks_none op)
+    (inner-list g.K.Ord.cmp g.T.RadixNode.tree c.args.tree.now c.args.place c.seek_alike.ensures.canonical c.requires.within)
+    c.below_place-right.ensures.below.are_children
     (λ x q. c.change_value-below.ensures.asked _ _ (rw (c.value.ensures, kids) (c.requires.asks_below x q))) in
+    let sought = c.seek_alike.ensures.sought in
     let e = ap option_copied c.in-Some.is in
-    let asked = meets-asked g.K.Ord.cmp g.met.K.Ord.total tree tb c.args.place from (g.O.Lessen.look g.K.Ord.cmp)
-    (g.O.Lessen.says op) (g.O.Lessen.asks op) (g.met.O.Lessen.says_nothing op) xs ys ca cb c.args.tree.now [] ys [] d
-    (option_copied c.seek_alike.result) (trees_below c.seek_alike.new.right) c.seek_alike.ensures.sought c.in-Some.other.now e in
-    let agree = meets-agree g.K.Ord.cmp g.met.K.Ord.total tree tb c.args.place from (g.O.Lessen.look g.K.Ord.cmp)
-    (g.O.Lessen.says op) (g.O.Lessen.asks op) (g.met.O.Lessen.says_nothing op) xs ys ca cb c.args.tree.now [] ys [] d
-    (option_copied c.seek_alike.result) (trees_below c.seek_alike.new.right) c.seek_alike.ensures.sought c.in-Some.other.now e in
-    let within = meets-within g.K.Ord.cmp g.met.K.Ord.total tree tb c.args.place from (g.O.Lessen.look g.K.Ord.cmp)
-    (g.O.Lessen.says op) (g.O.Lessen.asks op) (g.met.O.Lessen.says_nothing op) xs ys ca cb c.args.tree.now [] ys [] d
-    (option_copied c.seek_alike.result) (trees_below c.seek_alike.new.right) c.seek_alike.ensures.sought c.in-Some.other.now e in
-    let smaller = meets-all g.K.Ord.cmp g.met.K.Ord.total tree tb c.args.place from (g.O.Lessen.look g.K.Ord.cmp)
-    (g.O.Lessen.says op) (g.O.Lessen.asks op) (g.met.O.Lessen.says_nothing op) xs ys ca cb c.args.tree.now [] ys [] d
-    (option_copied c.seek_alike.result) (trees_below c.seek_alike.new.right) c.seek_alike.ensures.sought c.in-Some.other.now e
-    (λ y. nodes (tb y) + 1 ≤ nodes (tb c.args.that.now))
-    (node-smaller tb (tb c.args.that.now) _ _ ys from c.prefix.ensures.value (omega arith) c.below_place-right.ensures.opened) in
-    let place : c.args.place ≤ length (tree c.args.tree.now).prefix =
-    (let w = c.requires.within in omega (arith, w)) in
-    let lives = inside.1 in
-    let more = lives.1.1.1 in (
-      rw (← c.decreases) (omega (arith, smaller)),
-      (
-        inside.0,
-        (
-          lives.0,
-          (
-            lives.1.0,
-            (
-              lives.1.1.0,
-              (
-                more.0,
-                (
-                  more.1.0,
-                  (
-                    more.1.1.0,
-                    (
-                      more.1.1.1,
-                      (
-                        place,
-                        (
-                          rw c.seek_alike.ensures.from within,
-                          (
-                            rw c.seek_alike.ensures.from agree,
-                            rw c.seek_alike.ensures.from asked,
-                          ),
-                        ),
-                      ),
-                    ),
-                  ),
-                ),
-              ),
-            ),
-          ),
-        ),
-      ),
-    )
+    let from = c.seek_alike.ensures.from in
+    let asks = meets-asked d sought e in
+    let agree = meets-agree d sought e in
+    let within = meets-within d sought e in
+    let asks_from = rw (← from) at asks in
+    let agree_from = rw (← from) at agree in
+    let within_from = rw (← from) at within in
+    let smaller = meets-all d sought e (λ y. nodes (tb y) + 1 ≤ nodes (tb c.args.that.now))
+    (node-smaller opened c.prefix.ensures.value (omega arith)) in
+    search rules
 
 pub lessen_inside-returns-in-Some : goal.lessen_inside-returns-in-Some
 lessen_inside-returns-in-Some g t c =
-    let tree = g.T.RadixNode.tree in
     let tb = g.B.RadixNode.tree in
     let op = c.change_value-below.result.1 in
-    let ys = trees_below c.below_place-right.result in
-    let from = c.below_place-right.result.from in
-    let ca = inner-list g.K.Ord.cmp tree c.args.tree.now c.args.place c.seek_alike.ensures.canonical c.requires.within in
-    let cb = c.below_place-right.ensures.below.are_children in
-    let kids = node-kids tb (tb c.args.that.now) _ _ ys from c.prefix.ensures.value (omega arith)
-    c.below_place-right.ensures.opened in
-    let d = list-begun g.K.Ord.cmp g.met.K.Ord.total tree tb c.args.place from (g.O.Lessen.look g.K.Ord.cmp)
-    (g.O.Lessen.says op) (g.O.Lessen.asks op) (c.args.tree.now ∷ []) ys ca cb (g.met.O.Lessen.asks_none op)
+    let opened = c.below_place-right.ensures.opened in
+    let kids = node-kids opened c.prefix.ensures.value (omega arith) in
+    let d = list-begun {ta = g.T.RadixNode.tree} {tb = tb} {i = c.args.place} {j = c.below_place-right.result.from}
+    {l = g.O.Lessen.look g.K.Ord.cmp} {R = g.O.Lessen.says op}
+    {asks = g.O.Lessen.asks op} {xs = c.args.tree.now ∷ []}
+    {ys = trees_below c.below_place-right.result} g.met.K.Ord.total (g.met.O.Lessen.says_nothing op)
+    (g.met.O.Lessen.asks_none op)
+    (inner-list g.K.Ord.cmp g.T.RadixNode.tree c.args.tree.now c.args.place c.seek_alike.ensures.canonical c.requires.within)
+    c.below_place-right.ensures.below.are_children
     (λ x q. c.change_value-below.ensures.asked _ _ (rw (c.value.ensures, kids) (c.requires.asks_below x q))) in
     if-ok c.lessen_at.result
-    (λ stays h. inside-both g.K.Ord.cmp g.met.K.Ord.total tree tb c.args.place from (g.O.Lessen.look g.K.Ord.cmp)
-    (g.O.Lessen.says op) (g.O.Lessen.asks op) (g.met.O.Lessen.says_nothing op) c.args.tree.now ys ca cb d
-    (option_copied c.seek_alike.result) (trees_below c.seek_alike.new.right) c.seek_alike.ensures.sought
-    (g.O.Lessen.says c.args.op.now) _ _ kids (rw c.value.ensures at c.change_value-below.ensures.below)
-    (g.met.O.Lessen.says_nothing c.args.op.now _) stays _ h.front c.in-Some.other.now (ap option_copied c.in-Some.is)
+    (λ stays h. inside-both d c.seek_alike.ensures.sought kids (rw c.value.ensures at c.change_value-below.ensures.below)
+    (g.met.O.Lessen.says_nothing c.args.op.now _) h.front (ap option_copied c.in-Some.is)
     (rw c.seek_alike.ensures.from at h.made)) c.lessen_at.ensures
 
 pub lessen_inside-returns : goal.lessen_inside-returns
 lessen_inside-returns g t c =
-    let tree = g.T.RadixNode.tree in
     let tb = g.B.RadixNode.tree in
     let op = c.change_value-below.result.1 in
-    let ys = trees_below c.below_place-right.result in
-    let from = c.below_place-right.result.from in
-    let ca = inner-list g.K.Ord.cmp tree c.args.tree.now c.args.place c.seek_alike.ensures.canonical c.requires.within in
-    let cb = c.below_place-right.ensures.below.are_children in
-    let kids = node-kids tb (tb c.args.that.now) _ _ ys from c.prefix.ensures.value (omega arith)
-    c.below_place-right.ensures.opened in
-    let d = list-begun g.K.Ord.cmp g.met.K.Ord.total tree tb c.args.place from (g.O.Lessen.look g.K.Ord.cmp)
-    (g.O.Lessen.says op) (g.O.Lessen.asks op) (c.args.tree.now ∷ []) ys ca cb (g.met.O.Lessen.asks_none op)
+    let opened = c.below_place-right.ensures.opened in
+    let kids = node-kids opened c.prefix.ensures.value (omega arith) in
+    let d = list-begun {ta = g.T.RadixNode.tree} {tb = tb} {i = c.args.place} {j = c.below_place-right.result.from}
+    {l = g.O.Lessen.look g.K.Ord.cmp} {R = g.O.Lessen.says op}
+    {asks = g.O.Lessen.asks op} {xs = c.args.tree.now ∷ []}
+    {ys = trees_below c.below_place-right.result} g.met.K.Ord.total (g.met.O.Lessen.says_nothing op)
+    (g.met.O.Lessen.asks_none op)
+    (inner-list g.K.Ord.cmp g.T.RadixNode.tree c.args.tree.now c.args.place c.seek_alike.ensures.canonical c.requires.within)
+    c.below_place-right.ensures.below.are_children
     (λ x q. c.change_value-below.ensures.asked _ _ (rw (c.value.ensures, kids) (c.requires.asks_below x q))) in
-    inside-alone g.K.Ord.cmp g.met.K.Ord.total tree tb c.args.place from (g.O.Lessen.look g.K.Ord.cmp)
-    (g.O.Lessen.says op) (g.O.Lessen.asks op) (g.met.O.Lessen.says_nothing op) c.args.tree.now ys ca cb d
-    (option_copied c.seek_alike.result) (trees_below c.seek_alike.new.right) c.seek_alike.ensures.sought
-    (g.O.Lessen.says c.args.op.now) _ _ kids (rw c.value.ensures at c.change_value-below.ensures.below)
-    (g.met.O.Lessen.says_nothing c.args.op.now _) c.stays_alone.result (tree c.args.tree.now) (λ e. refl)
-    (ap option_copied c.in-None.is)
+    inside-alone d c.seek_alike.ensures.sought kids (rw c.value.ensures at c.change_value-below.ensures.below)
+    (g.met.O.Lessen.says_nothing c.args.op.now _) (λ e. refl) (ap option_copied c.in-None.is)
     (alone-made g.K.Ord.cmp g.met.K.Ord.total g.T.Build.keeps g.met.T.Build.keeps_refl (g.O.Lessen.says op) _
-    (tree c.args.tree.now) c.args.place c.seek_alike.ensures.canonical c.requires.within c.stays_alone.result
+    (g.T.RadixNode.tree c.args.tree.now) c.args.place c.seek_alike.ensures.canonical c.requires.within c.stays_alone.result
     c.stays_alone.ensures)
 
 -- ---- the children
@@ -247,103 +186,42 @@ lessen_in-loop-at-init g t c =
       order = omega arith;
       within = omega arith;
       from = refl;
-      doing =
-          list-begun g.K.Ord.cmp g.met.K.Ord.total g.T.RadixNode.tree g.B.RadixNode.tree 0 c.args.right.from
-          (g.O.Lessen.look g.K.Ord.cmp) (g.O.Lessen.says c.args.op.now) (g.O.Lessen.asks c.args.op.now)
-          c.in_ok-list.list.now.items (trees_below c.args.right)
+      going =
+          list-begun g.met.K.Ord.total (g.met.O.Lessen.says_nothing c.args.op.now) (g.met.O.Lessen.asks_none c.args.op.now)
           (alike-children g.T.Build.keeps g.K.Ord.cmp _ _ alike c.requires.left) c.requires.right
-          (g.met.O.Lessen.asks_none c.args.op.now)
           (λ x q. g.met.O.Lessen.asks_kept c.args.op.now _ _ _
           (alike-lookup g.T.Build.keeps g.K.Ord.cmp _ _ alike (x ∷ q)) (c.requires.asks x q));
     }
 
 pub lessen_in-seek_alike-requires : goal.lessen_in-seek_alike-requires
 lessen_in-seek_alike-requires g t c =
-    let alike = g.met.T.Build.kept_alike _ _ c.in_ok-list.ensures.value in
-    let ca = alike-children g.T.Build.keeps g.K.Ord.cmp _ _ alike c.requires.left in
-    next-within g.K.Ord.cmp g.met.K.Ord.total g.T.RadixNode.tree g.B.RadixNode.tree 0 c.args.right.from
-    (g.O.Lessen.look g.K.Ord.cmp) (g.O.Lessen.says c.args.op.now) (g.O.Lessen.asks c.args.op.now)
-    (g.met.O.Lessen.says_nothing c.args.op.now) c.in_ok-list.list.now.items (trees_below c.args.right) ca c.requires.right
-    c.index.result.now _ _ _
-    (next-here g.K.Ord.cmp g.met.K.Ord.total g.T.RadixNode.tree g.B.RadixNode.tree c.args.right.from
-    (g.O.Lessen.look g.K.Ord.cmp) (g.O.Lessen.says c.args.op.now) (g.O.Lessen.asks c.args.op.now)
-    (g.met.O.Lessen.says_nothing c.args.op.now) c.in_ok-list.list.now.items (trees_below c.args.right) ca c.requires.right
-    c.loop-at.list.items c.loop-at.at c.loop-at.kept (trees_below c.loop-at.right) c.loop-at.invariant.doing
-    c.index.result.now (search rules) c.index.ensures)
+    let at : c.loop-at.at < length c.loop-at.list.items = search rules in
+    let d = next-here c.loop-at.list.items c.loop-at.at c.loop-at.invariant.going at c.index.ensures in
+    next-within d
 
 pub lessen_in-lessen_at-requires : goal.lessen_in-lessen_at-requires
 lessen_in-lessen_at-requires g t c κs inside =
-    let tree = g.T.RadixNode.tree in
     let tb = g.B.RadixNode.tree in
-    let x = c.index.result.now in
     let alike = g.met.T.Build.kept_alike _ _ c.in_ok-list.ensures.value in
-    let ca = alike-children g.T.Build.keeps g.K.Ord.cmp _ _ alike c.requires.left in
     let at : c.loop-at.at < length c.loop-at.list.items = search rules in
-    let same : c.index_mut.result.now ≡ x =
-    same-place c.loop-at.list.items c.loop-at.at _ _ at c.index_mut.ensures.value c.index.ensures in
-    let d = next-here g.K.Ord.cmp g.met.K.Ord.total tree tb c.args.right.from
-    (g.O.Lessen.look g.K.Ord.cmp) (g.O.Lessen.says c.args.op.now) (g.O.Lessen.asks c.args.op.now)
-    (g.met.O.Lessen.says_nothing c.args.op.now) c.in_ok-list.list.now.items (trees_below c.args.right) ca c.requires.right
-    c.loop-at.list.items c.loop-at.at c.loop-at.kept (trees_below c.loop-at.right) c.loop-at.invariant.doing
-    x at c.index.ensures in
+    let d = next-here c.loop-at.list.items c.loop-at.at c.loop-at.invariant.going at c.index.ensures in
+    let same = same-place c.loop-at.list.items c.loop-at.at _ _ at c.index_mut.ensures.value c.index.ensures in
     let from = c.seek_alike.ensures.from ∙ c.loop-at.invariant.from in
     let sought = rw c.loop-at.invariant.from at c.seek_alike.ensures.sought in
     let e = ap option_copied c.in-Some.is in
-    let asked = meets-asked g.K.Ord.cmp g.met.K.Ord.total tree tb 0 c.args.right.from (g.O.Lessen.look g.K.Ord.cmp)
-    (g.O.Lessen.says c.args.op.now) (g.O.Lessen.asks c.args.op.now) (g.met.O.Lessen.says_nothing c.args.op.now)
-    c.in_ok-list.list.now.items (trees_below c.args.right) ca c.requires.right x _ _ _ d
-    (option_copied c.seek_alike.result) (trees_below c.seek_alike.new.right) sought c.in-Some.other.now e in
-    let agree = meets-agree g.K.Ord.cmp g.met.K.Ord.total tree tb 0 c.args.right.from (g.O.Lessen.look g.K.Ord.cmp)
-    (g.O.Lessen.says c.args.op.now) (g.O.Lessen.asks c.args.op.now) (g.met.O.Lessen.says_nothing c.args.op.now)
-    c.in_ok-list.list.now.items (trees_below c.args.right) ca c.requires.right x _ _ _ d
-    (option_copied c.seek_alike.result) (trees_below c.seek_alike.new.right) sought c.in-Some.other.now e in
-    let within = meets-within g.K.Ord.cmp g.met.K.Ord.total tree tb 0 c.args.right.from (g.O.Lessen.look g.K.Ord.cmp)
-    (g.O.Lessen.says c.args.op.now) (g.O.Lessen.asks c.args.op.now) (g.met.O.Lessen.says_nothing c.args.op.now)
-    c.in_ok-list.list.now.items (trees_below c.args.right) ca c.requires.right x _ _ _ d
-    (option_copied c.seek_alike.result) (trees_below c.seek_alike.new.right) sought c.in-Some.other.now e in
-    let smaller = meets-all g.K.Ord.cmp g.met.K.Ord.total tree tb 0 c.args.right.from (g.O.Lessen.look g.K.Ord.cmp)
-    (g.O.Lessen.says c.args.op.now) (g.O.Lessen.asks c.args.op.now) (g.met.O.Lessen.says_nothing c.args.op.now)
-    c.in_ok-list.list.now.items (trees_below c.args.right) ca c.requires.right x _ _ _ d
-    (option_copied c.seek_alike.result) (trees_below c.seek_alike.new.right) sought c.in-Some.other.now e
+    let asks = meets-asked d sought e in
+    let agree = meets-agree d sought e in
+    let within = meets-within d sought e in
+    let asks_from = rw (← same, ← from) at asks in
+    let agree_from = rw (← same, ← from) at agree in
+    let within_from = rw (← from) at within in
+    let smaller = meets-all d sought e
     (λ y. nodes (tb y) ≤ forest_nodes (shortened_in tb c.args.right.from (trees_below c.args.right)))
     (each-fewer tb c.args.right.from (trees_below c.args.right)) in
-    let fewer = next-fewer g.K.Ord.cmp g.met.K.Ord.total tree tb 0 c.args.right.from (g.O.Lessen.look g.K.Ord.cmp)
-    (g.O.Lessen.says c.args.op.now) (g.O.Lessen.asks c.args.op.now) (g.met.O.Lessen.says_nothing c.args.op.now)
-    c.in_ok-list.list.now.items (trees_below c.args.right) ca c.requires.right x _ _ _ d in
+    let few = next-fewer d in
+    let fewer = rw (← same) at few in
     let many = alike-nodes g.T.Build.keeps _ _ alike in
-    let few = ap (λ y. nodes (tree y)) same in
-    let lives = inside.1 in
-    let more = lives.1.1.1 in (
-      rw (← c.decreases) (omega (arith, smaller, fewer, many, few)),
-      (
-        inside.0,
-        (
-          lives.0,
-          (
-            lives.1.0,
-            (
-              lives.1.1.0,
-              (
-                more.0,
-                (
-                  more.1.0,
-                  (
-                    more.1.1.0,
-                    (
-                      more.1.1.1,
-                      (
-                        omega arith,
-                        (rw from within, (rw (same, from) agree, rw (same, from) asked)),
-                      ),
-                    ),
-                  ),
-                ),
-              ),
-            ),
-          ),
-        ),
-      ),
-    )
+    search rules
 
 pub lessen_in-keep_at-requires-clause-order : goal.lessen_in-keep_at-requires-clause-order
 lessen_in-keep_at-requires-clause-order g t c = c.loop-at.invariant.order
@@ -370,46 +248,25 @@ lessen_in-loop-at-smaller g t c =
 pub lessen_in-loop-at-preserved : goal.lessen_in-loop-at-preserved
 lessen_in-loop-at-preserved g t c =
     let tree = g.T.RadixNode.tree in
-    let tb = g.B.RadixNode.tree in
     let x = c.index.result.now in
-    let alike = g.met.T.Build.kept_alike _ _ c.in_ok-list.ensures.value in
-    let ca = alike-children g.T.Build.keeps g.K.Ord.cmp _ _ alike c.requires.left in
     let at : c.loop-at.at < length c.loop-at.list.items = search rules in
+    let d = next-here c.loop-at.list.items c.loop-at.at c.loop-at.invariant.going at c.index.ensures in
     let from = c.seek_alike.ensures.from ∙ c.loop-at.invariant.from in
     let sought = rw c.loop-at.invariant.from at c.seek_alike.ensures.sought in
-    let on = next-within g.K.Ord.cmp g.met.K.Ord.total tree tb 0 c.args.right.from (g.O.Lessen.look g.K.Ord.cmp)
-    (g.O.Lessen.says c.args.op.now) (g.O.Lessen.asks c.args.op.now) (g.met.O.Lessen.says_nothing c.args.op.now)
-    c.in_ok-list.list.now.items (trees_below c.args.right) ca c.requires.right x _ _ _
-    (next-here g.K.Ord.cmp g.met.K.Ord.total tree tb c.args.right.from (g.O.Lessen.look g.K.Ord.cmp)
-    (g.O.Lessen.says c.args.op.now) (g.O.Lessen.asks c.args.op.now) (g.met.O.Lessen.says_nothing c.args.op.now)
-    c.in_ok-list.list.now.items (trees_below c.args.right) ca c.requires.right c.loop-at.list.items c.loop-at.at c.loop-at.kept
-    (trees_below c.loop-at.right) c.loop-at.invariant.doing x at c.index.ensures) in
-    let s : IsStepped g.K.Ord.cmp g.met.K.Ord.total tree tb c.args.right.from (g.O.Lessen.look g.K.Ord.cmp)
-    (g.O.Lessen.says c.args.op.now) (g.O.Lessen.asks c.args.op.now) (g.met.O.Lessen.says_nothing c.args.op.now)
-    c.in_ok-list.list.now.items (trees_below c.args.right) ca c.requires.right c.loop-at.list.items c.loop-at.at c.loop-at.kept
-    (trees_below c.loop-at.right) c.match-seek_alike.list.items c.match-seek_alike.stays (trees_below c.seek_alike.new.right) =
+    let s : IsStepped g.K.Ord.cmp tree g.B.RadixNode.tree c.args.right.from (g.O.Lessen.look g.K.Ord.cmp) (g.O.Lessen.says c.args.op.now)
+    (g.O.Lessen.asks c.args.op.now) c.in_ok-list.list.now.items (trees_below c.args.right) c.loop-at.list.items c.loop-at.at
+    c.loop-at.kept c.match-seek_alike.list.items c.match-seek_alike.stays (trees_below c.seek_alike.new.below) =
     elim c.match-seek_alike.branch [
       | lessen_in-in-Some+in_ok-stays-in-Some w ↦
-          let same : w.index_mut.result.now ≡ x =
-          same-place c.loop-at.list.items c.loop-at.at _ _ at w.index_mut.ensures.value c.index.ensures in
-          stepped-both g.K.Ord.cmp g.met.K.Ord.total tree tb c.args.right.from (g.O.Lessen.look g.K.Ord.cmp)
-          (g.O.Lessen.says c.args.op.now) (g.O.Lessen.asks c.args.op.now) (g.met.O.Lessen.says_nothing c.args.op.now)
-          c.in_ok-list.list.now.items (trees_below c.args.right) ca c.requires.right c.loop-at.list.items c.loop-at.at
-          c.loop-at.kept (trees_below c.loop-at.right) c.loop-at.invariant.doing x at c.index.ensures
-          (option_copied c.seek_alike.result) (trees_below c.seek_alike.new.right) sought c.match-seek_alike.list.items
-          c.match-seek_alike.stays w.in-Some.other.now (ap option_copied w.in-Some.is) w.lessen_at.new.tree
-          (ap (λ v. v.items) w.list-is)
+          let same = same-place c.loop-at.list.items c.loop-at.at _ _ at w.index_mut.ensures.value c.index.ensures in
+          stepped-both d sought (ap option_copied w.in-Some.is) (set-at _ _ _ _ at (ap (λ v. v.items) w.list-is))
           (rw w.stays-is (rw (same, from) at w.in_ok-stays-in-Some.ensures.made))
       | lessen_in-in-None w ↦
-          stepped-alone g.K.Ord.cmp g.met.K.Ord.total tree tb c.args.right.from (g.O.Lessen.look g.K.Ord.cmp)
-          (g.O.Lessen.says c.args.op.now) (g.O.Lessen.asks c.args.op.now) (g.met.O.Lessen.says_nothing c.args.op.now)
-          c.in_ok-list.list.now.items (trees_below c.args.right) ca c.requires.right c.loop-at.list.items c.loop-at.at
-          c.loop-at.kept (trees_below c.loop-at.right) c.loop-at.invariant.doing x at c.index.ensures
-          (option_copied c.seek_alike.result) (trees_below c.seek_alike.new.right) sought c.match-seek_alike.list.items
-          c.match-seek_alike.stays (ap option_copied w.in-None.is) (ap (λ v. v.items) w.list-is)
+          stepped-alone d sought (ap option_copied w.in-None.is)
+          (same-at _ _ _ _ at c.index.ensures (ap (λ v. v.items) w.list-is))
           (rw w.stays-is (alone-made g.K.Ord.cmp g.met.K.Ord.total g.T.Build.keeps g.met.T.Build.keeps_refl
-          (g.O.Lessen.says c.args.op.now) _ (tree x) 0 c.seek_alike.ensures.canonical on w.stays_alone-stays.result
-          w.stays_alone-stays.ensures))
+          (g.O.Lessen.says c.args.op.now) _ (tree x) 0 c.seek_alike.ensures.canonical (next-within d)
+          w.stays_alone-stays.result w.stays_alone-stays.ensures))
     ] in
     let order = c.loop-at.invariant.order in
     let long = s.set_at.long in
@@ -426,13 +283,9 @@ lessen_in-loop-at-preserved g t c =
             order = more;
             within = inside;
             from = from;
-            doing =
-                after-kept g.K.Ord.cmp g.met.K.Ord.total tree tb c.args.right.from (g.O.Lessen.look g.K.Ord.cmp)
-                (g.O.Lessen.says c.args.op.now) (g.O.Lessen.asks c.args.op.now)
-                (g.met.O.Lessen.says_nothing c.args.op.now) c.in_ok-list.list.now.items (trees_below c.args.right) ca
-                c.requires.right c.loop-at.list.items c.loop-at.at c.loop-at.kept (trees_below c.loop-at.right)
-                c.match-seek_alike.list.items (trees_below c.seek_alike.new.right) order (rw w.if-stays.true at s)
-                w.keep_at.new.list (rw old at w.keep_at.ensures.built) (rw old at w.keep_at.ensures.rest);
+            going =
+                after-kept order (rw w.if-stays.true at s) w.keep_at.new.list (rw old at w.keep_at.ensures.built)
+                (rw old at w.keep_at.ensures.rest);
           })
       | lessen_in-else-stays w ↦
           let more : c.loop-at.kept ≤ c.loop-at.at + 1 = omega (arith, order) in
@@ -441,27 +294,14 @@ lessen_in-loop-at-preserved g t c =
             order = more;
             within = inside;
             from = from;
-            doing =
-                after-gone g.K.Ord.cmp g.met.K.Ord.total tree tb c.args.right.from (g.O.Lessen.look g.K.Ord.cmp)
-                (g.O.Lessen.says c.args.op.now) (g.O.Lessen.asks c.args.op.now)
-                (g.met.O.Lessen.says_nothing c.args.op.now) c.in_ok-list.list.now.items (trees_below c.args.right) ca
-                c.requires.right c.loop-at.list.items c.loop-at.at c.loop-at.kept (trees_below c.loop-at.right)
-                c.match-seek_alike.list.items (trees_below c.seek_alike.new.right) order (rw w.if-stays.false at s);
+            going = after-gone order (rw w.if-stays.false at s);
           })
     ]
 
-pub lessen_in-returns-then-kept-eq1-clause-children :
-    goal.lessen_in-returns-then-kept-eq1-clause-children
+pub lessen_in-returns-then-kept-eq1-clause-children : goal.lessen_in-returns-then-kept-eq1-clause-children
 lessen_in-returns-then-kept-eq1-clause-children g t c =
-    let tree = g.T.RadixNode.tree in
-    let tb = g.B.RadixNode.tree in
-    let alike = g.met.T.Build.kept_alike _ _ c.in_ok-list.ensures.value in
-    let ca = alike-children g.T.Build.keeps g.K.Ord.cmp _ _ alike c.requires.left in
     let end : length c.loop-at.list.items ≤ c.loop-at.at = search rules in
-    let gone = all-gone g.K.Ord.cmp g.met.K.Ord.total tree tb 0 c.args.right.from (g.O.Lessen.look g.K.Ord.cmp)
-    (g.O.Lessen.says c.args.op.now) (g.O.Lessen.asks c.args.op.now) (g.met.O.Lessen.says_nothing c.args.op.now)
-    c.in_ok-list.list.now.items (trees_below c.args.right) ca c.requires.right _ _
-    (rw (none-left c.loop-at.list.items c.loop-at.at end) at c.loop-at.invariant.doing) in
+    let gone = list-done (rw (none-left c.loop-at.list.items c.loop-at.at end) at c.loop-at.invariant.going) in
     let enough : c.loop-at.kept ≤ length c.loop-at.list.items =
     (let k = c.loop-at.invariant.order in let w = c.loop-at.invariant.within in omega (arith, k, w)) in
     let one : length (take c.loop-at.kept c.loop-at.list.items) ≡ 1 =
@@ -472,18 +312,10 @@ lessen_in-returns-then-kept-eq1-clause-children g t c =
     ∙ only-popped _ _ c.pop.result (sym c.truncate.ensures.items ∙ c.pop.ensures.items) one in
     rw items gone.0
 
-pub lessen_in-returns-then-kept-eq1-clause-below :
-    goal.lessen_in-returns-then-kept-eq1-clause-below
+pub lessen_in-returns-then-kept-eq1-clause-below : goal.lessen_in-returns-then-kept-eq1-clause-below
 lessen_in-returns-then-kept-eq1-clause-below g t c =
-    let tree = g.T.RadixNode.tree in
-    let tb = g.B.RadixNode.tree in
-    let alike = g.met.T.Build.kept_alike _ _ c.in_ok-list.ensures.value in
-    let ca = alike-children g.T.Build.keeps g.K.Ord.cmp _ _ alike c.requires.left in
     let end : length c.loop-at.list.items ≤ c.loop-at.at = search rules in
-    let gone = all-gone g.K.Ord.cmp g.met.K.Ord.total tree tb 0 c.args.right.from (g.O.Lessen.look g.K.Ord.cmp)
-    (g.O.Lessen.says c.args.op.now) (g.O.Lessen.asks c.args.op.now) (g.met.O.Lessen.says_nothing c.args.op.now)
-    c.in_ok-list.list.now.items (trees_below c.args.right) ca c.requires.right _ _
-    (rw (none-left c.loop-at.list.items c.loop-at.at end) at c.loop-at.invariant.doing) in
+    let gone = list-done (rw (none-left c.loop-at.list.items c.loop-at.at end) at c.loop-at.invariant.going) in
     let enough : c.loop-at.kept ≤ length c.loop-at.list.items =
     (let k = c.loop-at.invariant.order in let w = c.loop-at.invariant.within in omega (arith, k, w)) in
     let one : length (take c.loop-at.kept c.loop-at.list.items) ≡ 1 =
@@ -492,6 +324,7 @@ lessen_in-returns-then-kept-eq1-clause-below g t c =
     ≡ take c.loop-at.kept c.loop-at.list.items =
     ap (cons_option c.pop.result) (c.make_mut.follows.holds _ (ap is_ok c.in_ok-list.was))
     ∙ only-popped _ _ c.pop.result (sym c.truncate.ensures.items ∙ c.pop.ensures.items) one in
+    let alike = g.met.T.Build.kept_alike _ _ c.in_ok-list.ensures.value in
     rw items (λ x q. g.met.O.Lessen.says_kept c.args.op.now _ _ _ _
     (alike-lookup g.T.Build.keeps g.K.Ord.cmp _ _ alike (x ∷ q)) (gone.1 x q))
 
@@ -519,15 +352,8 @@ lessen_in-returns-clause-kids g t c =
 
 pub lessen_in-returns-clause-children : goal.lessen_in-returns-clause-children
 lessen_in-returns-clause-children g t c =
-    let tree = g.T.RadixNode.tree in
-    let tb = g.B.RadixNode.tree in
-    let alike = g.met.T.Build.kept_alike _ _ c.in_ok-list.ensures.value in
-    let ca = alike-children g.T.Build.keeps g.K.Ord.cmp _ _ alike c.requires.left in
     let end : length c.loop-at.list.items ≤ c.loop-at.at = search rules in
-    let gone = all-gone g.K.Ord.cmp g.met.K.Ord.total tree tb 0 c.args.right.from (g.O.Lessen.look g.K.Ord.cmp)
-    (g.O.Lessen.says c.args.op.now) (g.O.Lessen.asks c.args.op.now) (g.met.O.Lessen.says_nothing c.args.op.now)
-    c.in_ok-list.list.now.items (trees_below c.args.right) ca c.requires.right _ _
-    (rw (none-left c.loop-at.list.items c.loop-at.at end) at c.loop-at.invariant.doing) in
+    let gone = list-done (rw (none-left c.loop-at.list.items c.loop-at.at end) at c.loop-at.invariant.going) in
     let items : g.T.Children.ChildList.items c.else-is_bare.children ≡ take c.loop-at.kept c.loop-at.list.items =
     elim c.else-is_bare.branch [
       | lessen_in-else-is_bare-via-then-is_bare+else-kept-eq1 w ↦
@@ -541,15 +367,8 @@ lessen_in-returns-clause-children g t c =
 
 pub lessen_in-returns-clause-below : goal.lessen_in-returns-clause-below
 lessen_in-returns-clause-below g t c =
-    let tree = g.T.RadixNode.tree in
-    let tb = g.B.RadixNode.tree in
-    let alike = g.met.T.Build.kept_alike _ _ c.in_ok-list.ensures.value in
-    let ca = alike-children g.T.Build.keeps g.K.Ord.cmp _ _ alike c.requires.left in
     let end : length c.loop-at.list.items ≤ c.loop-at.at = search rules in
-    let gone = all-gone g.K.Ord.cmp g.met.K.Ord.total tree tb 0 c.args.right.from (g.O.Lessen.look g.K.Ord.cmp)
-    (g.O.Lessen.says c.args.op.now) (g.O.Lessen.asks c.args.op.now) (g.met.O.Lessen.says_nothing c.args.op.now)
-    c.in_ok-list.list.now.items (trees_below c.args.right) ca c.requires.right _ _
-    (rw (none-left c.loop-at.list.items c.loop-at.at end) at c.loop-at.invariant.doing) in
+    let gone = list-done (rw (none-left c.loop-at.list.items c.loop-at.at end) at c.loop-at.invariant.going) in
     let items : g.T.Children.ChildList.items c.else-is_bare.children ≡ take c.loop-at.kept c.loop-at.list.items =
     elim c.else-is_bare.branch [
       | lessen_in-else-is_bare-via-then-is_bare+else-kept-eq1 w ↦
@@ -559,6 +378,7 @@ lessen_in-returns-clause-below g t c =
           ap g.T.Children.ChildList.items w.children-is ∙ c.make_mut.follows.holds _ (ap is_ok c.in_ok-list.was)
           ∙ c.truncate.ensures.items
     ] in
+    let alike = g.met.T.Build.kept_alike _ _ c.in_ok-list.ensures.value in
     rw items (λ x q. g.met.O.Lessen.says_kept c.args.op.now _ _ _ _
     (alike-lookup g.T.Build.keeps g.K.Ord.cmp _ _ alike (x ∷ q)) (gone.1 x q))
 
@@ -570,38 +390,8 @@ lessen_kids-lessen_in-requires g t c κs inside =
     let left = rw children at c.requires.left in
     let asks = rw children at c.requires.asks in
     let right = c.requires.right in
-    let lives = inside.1 in
-    let more = lives.1.1.1 in (
-      rw (← c.decreases, children) (omega arith),
-      (
-        inside.0,
-        (
-          lives.0,
-          (
-            lives.1.0,
-            (
-              lives.1.1.0,
-              (
-                more.0,
-                (
-                  more.1.0,
-                  (
-                    more.1.1.0,
-                    (
-                      more.1.1.1,
-                      (
-                        left,
-                        (right, asks),
-                      ),
-                    ),
-                  ),
-                ),
-              ),
-            ),
-          ),
-        ),
-      ),
-    )
+    let fewer = ap forest_nodes (ap (seen g.T.RadixNode.tree) children) in
+    search rules
 
 pub lessen_node-lessen_kids-requires : goal.lessen_node-lessen_kids-requires
 lessen_node-lessen_kids-requires g t c κs inside =
@@ -612,45 +402,6 @@ lessen_node-lessen_kids-requires g t c κs inside =
     let left = subst (AreChildren g.K.Ord.cmp) (sym kids) canonical in
     let had = same-many tree tree _ _ (c.children-had.ensures ∙ sym kids) in
     let fewer = ap forest_nodes kids in
-    let lives = inside.1 in
-    let more = lives.1.1.1 in (
-      rw (← c.decreases) (omega (arith, fewer)),
-      (
-        inside.0,
-        (
-          lives.0,
-          (
-            lives.1.0,
-            (
-              lives.1.1.0,
-              (
-                more.0,
-                (
-                  more.1.0,
-                  (
-                    more.1.1.0,
-                    (
-                      more.1.1.1,
-                      (
-                        had,
-                        (
-                          left,
-                          (
-                            c.requires.right,
-                            λ x q. c.change_value-value.ensures.asked _ _
-                                (subst (λ f. g.O.Lessen.asks c.args.op.now (lookup_in g.K.Ord.cmp f (x ∷ q)) ((g.O.Lessen.look g.K.Ord.cmp).under
-                                (option_copied c.args.that) ((g.O.Lessen.look g.K.Ord.cmp).of_forest
-                                (shortened_in g.B.RadixNode.tree c.args.right.from (trees_below c.args.right)) (x ∷ q)))) (sym kids)
-                                (c.requires.asks_below x q)),
-                          ),
-                        ),
-                      ),
-                    ),
-                  ),
-                ),
-              ),
-            ),
-          ),
-        ),
-      ),
-    )
+    let asks = rw (← kids) at c.requires.asks_below in
+    let asked = λ (x : g.row.K.Denot) (q : List g.row.K.Denot). c.change_value-value.ensures.asked _ _ (asks x q) in
+    search rules

@@ -32,7 +32,7 @@ invariant-lessen_in-loop-at g l = record {
   order : l.kept ≤ l.at;
   within : l.at ≤ length l.list.items;
   from : l.right.from ≡ l.initial.right.from;
-  doing :
+  going :
       IsGoingOn g.K.Ord.cmp g.T.RadixNode.tree g.B.RadixNode.tree 0 l.initial.right.from (g.O.Lessen.look g.K.Ord.cmp)
       (g.O.Lessen.says l.op) (g.O.Lessen.asks l.op) l.initial.list.items (trees_below l.initial.right)
       (drop l.at l.list.items) (trees_below l.right) (map g.T.RadixNode.tree (take l.kept l.list.items));

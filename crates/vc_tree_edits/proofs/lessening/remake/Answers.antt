@@ -5,7 +5,7 @@ use Rattle.vc_tree_model.specs.Canonical.{AreChildren}
 use Rattle.vc_tree_model.specs.Child.{solid_child}
 use Rattle.vc_tree_facing.proofs.Opening.{whole-of_value, whole-of_many}
 use Rattle.vc_tree_nodes.specs.Children.{listed, seen}
-use Rattle.vc_tree_edits.proofs.Leaving.{two-stored}
+use Rattle.vc_tree_edits.proofs.Placed.{two-stored}
 use Rattle.vc_tree_edits.proofs.lessening.remake.Goals.{else-is_none-via-then-is_none+else-many-eq0}
 use Rattle.vc_tree_edits.proofs.lessening.remake.Goals.{else-is_none-via-else-is_none}
 use Rattle.vc_tree_edits.proofs.lessening.remake.Goals as goal

@@ -1,5 +1,5 @@
 -- A tree that goes on behind the place, or the children of one that does not.
-use Rattle.std.proofs.Common.{◌∙◌, [], ◌∷◌, refl, sym, ap, arith, drop, length, length-drop}
+use Rattle.std.proofs.Common.{◌∙◌, refl, sym, ap, arith, drop, length, length-drop}
 use Rattle.std.proofs.Math.ListN.{drop_of_length-le}
 use Rattle.vc_tree_facing.proofs.Ending.{below-children}
 use Rattle.vc_tree_facing.proofs.Opening.{opened-all, opened-by}
@@ -21,8 +21,7 @@ returns-then-place-prefix-clause-below g c =
     let w = ap length c.prefix.ensures.value in
     record {
       are_children =
-          below-children g.K.Ord.cmp g.T.RadixNode.tree t c.prefix.ensures.canonical c.args.place
-          (c.args.tree.now ∷ []) c.args.place
+          below-children g.K.Ord.cmp c.args.place c.prefix.ensures.canonical
           (opened-by g.T.RadixNode.tree c.args.tree.now t (drop c.args.place t.prefix) c.args.place refl refl refl
           (omega (arith, l, w, c.if-place-prefix.true)));
       alone = refl;

@@ -2,7 +2,7 @@
 use Rattle.vc_tree_facing.proofs.Copied.{copied-by}
 use Rattle.vc_tree_edits.proofs.changes.KeepAllChange.right_alone.Goals as goal
 
-pub returns-clause-made : goal.returns-clause-made
-returns-clause-made g c =
+pub returns : goal.returns
+returns g c =
     copied-by g.K.Ord.cmp g.met.K.Ord.total g.V.Clone.is_clone (g.B.RadixNode.tree c.args.tree.now) _ c.args.from
     c.in_ok-copy_shortened.ensures.canonical c.requires.within c.in_ok-copy_shortened.ensures.alike _ (λ v z k. k)

@@ -1,5 +1,5 @@
 -- What a change into which nothing comes leaves of a tree. No public clause cites these words.
-use Rattle.std.specs.Prelude.{◌≡◌, Bool, true, cond, ℕ, List, ◌∷◌, [], Option, Some, None, take, drop, length, IfSome}
+use Rattle.std.specs.Prelude.{◌≡◌, Bool, true, cond, ℕ, List, ◌∷◌, Option, Some, None, take, drop}
 use Rattle.std.specs.declared.cmp.Ordering.{Ordering}
 use Rattle.vc_tree_model.specs.Canonical.{AreChildren}
 use Rattle.vc_tree_model.specs.Child.{solid_child}
@@ -52,10 +52,3 @@ module _ {K V W O : Type 0} (cmp : K → K → Ordering) (l : Look cmp W O) (R :
     pub children : AreChildren cmp kids
     pub is : left_of stays i new ≡ solid_child (drop i t.prefix) value kids
     pub front : KeepsFront i t stays new
-
--- a lone child of a node without a value stands apart; else as many are stored as were counted, and a node without a value has not
--- one alone
-pub record AreKids {T : Type 0} (is_bare : Bool) (lone : Option T) (stored : List T) (many : ℕ) : Type 0 where
-  pub apart : IfSome lone (λ _. (is_bare ≡ true) × (stored ≡ []))
-  pub counted : lone ≡ None → many ≡ length stored
-  pub enough : lone ≡ None → is_bare ≡ true → many ≡ 1 → ⊥

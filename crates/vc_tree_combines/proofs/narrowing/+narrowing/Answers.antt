@@ -1,0 +1,289 @@
+-- What is made of two trees, by where their prefixes end, and of the children one after the other.
+use Rattle.std.proofs.Common.{◌≡◌, ◌+◌, ◌<◌, ◌≤◌, ◌∷◌, [], None, refl, ap, subst, ◌∙◌, arith, rules, map, option_map}
+use Rattle.std.proofs.Common.{length, length-drop}
+use Rattle.std.specs.Option.{option_copied}
+use Rattle.vc_tree_model.specs.Canonical.{AreChildren}
+use Rattle.vc_tree_model.specs.Look.{values}
+use Rattle.vc_tree_model.specs.Tree.{forest_nodes, nodes, shortened}
+use Rattle.vc_tree_nodes.specs.Children.{seen}
+use Rattle.vc_tree_facing.specs.Facing.{trees_below, shortened_in}
+use Rattle.vc_tree_facing.proofs.Advancing.{next-within, next-fewer, alone-asked, meets-asked, meets-agree, meets-within}
+use Rattle.vc_tree_facing.proofs.Advancing.{meets-all, each-fewer, goes-alone, goes-both, inside-alone, inside-both}
+use Rattle.vc_tree_facing.proofs.Apart.{apart-asked, apart-lessened}
+use Rattle.vc_tree_facing.proofs.Deciding.{list-begun, list-done}
+use Rattle.vc_tree_facing.proofs.Leaving.{if-ok, node-lessened, inside-lessened, value-may, below-may, node-kids, node-smaller, inner-list}
+use Rattle.vc_tree_facing.proofs.Leaving.{ended-value, ended-children, inner-value, inner-children, below-children_at, below-fewer}
+use Rattle.vc_tree_facing.proofs.Next.{nil-by}
+use Rattle.vc_tree_combines.proofs.Narrowed.{value-alone, below-alone, node-alone, both-whole, alone-whole, made-node}
+use Rattle.vc_tree_combines.proofs.narrowing.+narrowing.Goals.{narrow_kids-in-Some-seek_alike+in_ok-kid-in-Some-seek_alike}
+use Rattle.vc_tree_combines.proofs.narrowing.+narrowing.Goals.{narrow_kids-in-None+in_ok-kid-in-None}
+use Rattle.vc_tree_combines.proofs.narrowing.+narrowing.Goals as goal
+
+pub narrow_at-overflow_add-place : goal.narrow_at-overflow_add-place
+narrow_at-overflow_add-place g t c =
+    let v = ap length c.prefix-whole.ensures.value in
+    let k = length-drop c.args.i (g.A.RadixNode.tree c.args.a.now).prefix in
+    let h = c.split-front.ensures.agree.within_prefix in
+    let small = c.prefix-whole.type_inv.0 in
+    let left = c.requires.left in
+    omega (arith, v, k, h, small, left)
+
+pub narrow_at-overflow_add-other_place : goal.narrow_at-overflow_add-other_place
+narrow_at-overflow_add-other_place g t c =
+    let v = ap length c.prefix-other_whole.ensures.value in
+    let k = length-drop c.args.j (g.B.RadixNode.tree c.args.b.now).prefix in
+    let h = c.split-front.ensures.agree.within_key in
+    let small = c.prefix-other_whole.type_inv.0 in
+    let right = c.requires.right in
+    omega (arith, v, k, h, small, right)
+
+pub narrow_at-narrow_alone-requires : goal.narrow_at-narrow_alone-requires
+narrow_at-narrow_alone-requires g t c κs inside =
+    let tree = g.A.RadixNode.tree in
+    let within : c.args.i + c.split-front.result < length (g.A.RadixNode.tree c.args.a.now).prefix =
+    subst (λ p. c.args.i + c.split-front.result < length p) c.prefix-whole.ensures.value c.if-place-whole.true in
+    let beyond : c.args.j + c.split-front.result < length (g.B.RadixNode.tree c.args.b.now).prefix =
+    subst (λ p. c.args.j + c.split-front.result < length p) c.prefix-other_whole.ensures.value c.if-other_place-other_whole.true in
+    let asked = apart-asked tree c.args.a.now g.B.RadixNode.tree c.args.b.now c.split-front.ensures within beyond (values g.K.Ord.cmp)
+    (g.O.Narrow.says c.args.op.now) (g.O.Narrow.asks c.args.op.now) (g.met.O.Narrow.says_nothing c.args.op.now) (g.met.O.Narrow.asks_none c.args.op.now) c.requires.asks in
+    search rules
+
+pub narrow_at-returns-then-other_place-other_whole : goal.narrow_at-returns-then-other_place-other_whole
+narrow_at-returns-then-other_place-other_whole g t c =
+    let tree = g.A.RadixNode.tree in
+    let within : c.args.i + c.split-front.result < length (g.A.RadixNode.tree c.args.a.now).prefix =
+    subst (λ p. c.args.i + c.split-front.result < length p) c.prefix-whole.ensures.value c.if-place-whole.true in
+    let beyond : c.args.j + c.split-front.result < length (g.B.RadixNode.tree c.args.b.now).prefix =
+    subst (λ p. c.args.j + c.split-front.result < length p) c.prefix-other_whole.ensures.value c.if-other_place-other_whole.true in
+    if-ok c.narrow_alone.result
+    (λ made h. apart-lessened tree c.args.a.now g.B.RadixNode.tree c.args.b.now c.split-front.ensures within beyond (values g.K.Ord.cmp)
+    (g.O.Narrow.says c.args.op.now) (g.O.Narrow.asks c.args.op.now) (g.met.O.Narrow.says_nothing c.args.op.now) (g.met.O.Narrow.asks_none c.args.op.now) c.requires.asks h.front h.made)
+    c.narrow_alone.ensures
+
+pub narrow_at-narrow_inside-requires : goal.narrow_at-narrow_inside-requires
+narrow_at-narrow_inside-requires g t c κs inside =
+    let tree = g.A.RadixNode.tree c.args.a.now in
+    let that = g.B.RadixNode.tree c.args.b.now in
+    let within : c.args.i + c.split-front.result < length (g.A.RadixNode.tree c.args.a.now).prefix =
+    subst (λ p. c.args.i + c.split-front.result < length p) c.prefix-whole.ensures.value c.if-place-whole.true in
+    let ended : length (g.B.RadixNode.tree c.args.b.now).prefix ≤ c.args.j + c.split-front.result =
+    subst (λ p. length p ≤ c.args.j + c.split-front.result) c.prefix-other_whole.ensures.value c.if-other_place-other_whole.false in
+    let below = below-may c.split-front.ensures (values g.K.Ord.cmp) (g.O.Narrow.asks c.args.op.now) c.requires.asks
+    (inner-children c.args.i c.split-front.result tree within) (ended-value c.args.j c.split-front.result that ended)
+    (ended-children c.args.j c.split-front.result that ended) in
+    search rules
+
+pub narrow_at-returns-then-place-whole : goal.narrow_at-returns-then-place-whole
+narrow_at-returns-then-place-whole g t c =
+    let that = g.B.RadixNode.tree c.args.b.now in
+    let within : c.args.i + c.split-front.result < length (g.A.RadixNode.tree c.args.a.now).prefix =
+    subst (λ p. c.args.i + c.split-front.result < length p) c.prefix-whole.ensures.value c.if-place-whole.true in
+    let ended : length (g.B.RadixNode.tree c.args.b.now).prefix ≤ c.args.j + c.split-front.result =
+    subst (λ p. length p ≤ c.args.j + c.split-front.result) c.prefix-other_whole.ensures.value c.if-other_place-other_whole.false in
+    if-ok c.narrow_inside.result
+    (λ made h. inside-lessened c.split-front.ensures (record {
+      said = (g.met.O.Narrow.says_nothing c.args.op.now) _;
+      below = h.below;
+      children = h.children;
+      front = h.front;
+    }) ((g.met.O.Narrow.says_nothing c.args.op.now) _) within (ended-value c.args.j c.split-front.result that ended)
+    (ended-children c.args.j c.split-front.result that ended)) c.narrow_inside.ensures
+
+pub narrow_at-narrow_node-requires : goal.narrow_at-narrow_node-requires
+narrow_at-narrow_node-requires g t c κs inside =
+    let s = c.split-front.ensures in
+    let tree = g.A.RadixNode.tree c.args.a.now in
+    let that = g.B.RadixNode.tree c.args.b.now in
+    let long : length (g.A.RadixNode.tree c.args.a.now).prefix ≤ c.args.i + c.split-front.result =
+    subst (λ p. length p ≤ c.args.i + c.split-front.result) c.prefix-whole.ensures.value c.if-place-whole.false in
+    let opened = c.below_place-right.ensures.opened in
+    let children = c.below_place-right.ensures.below.are_children in
+    let fewer = below-fewer opened in
+    let value = value-may s (values g.K.Ord.cmp) (g.O.Narrow.asks c.args.op.now) c.requires.asks
+    (ended-value c.args.i c.split-front.result tree long) c.value_at.ensures in
+    let below = below-may s (values g.K.Ord.cmp) (g.O.Narrow.asks c.args.op.now) c.requires.asks
+    (ended-children c.args.i c.split-front.result tree long) c.value_at.ensures
+    (below-children_at c.args.j c.split-front.result that opened) in
+    search rules
+
+pub narrow_at-returns : goal.narrow_at-returns
+narrow_at-returns g t c =
+    let long : length (g.A.RadixNode.tree c.args.a.now).prefix ≤ c.args.i + c.split-front.result =
+    subst (λ p. length p ≤ c.args.i + c.split-front.result) c.prefix-whole.ensures.value c.if-place-whole.false in
+    if-ok c.narrow_node.result
+    (λ made h. node-lessened c.split-front.ensures h ((g.met.O.Narrow.says_nothing c.args.op.now) _) long c.value_at.ensures
+    (below-children_at c.args.j c.split-front.result (g.B.RadixNode.tree c.args.b.now) c.below_place-right.ensures.opened))
+    c.narrow_node.ensures
+
+-- ---- inside the left prefix
+
+pub narrow_inside-narrow_at-requires : goal.narrow_inside-narrow_at-requires
+narrow_inside-narrow_at-requires g t c κs inside =
+    let tb = g.B.RadixNode.tree in
+    let opened = c.below_place-right.ensures.opened in
+    let kids = node-kids opened c.prefix.ensures.value (omega arith) in
+    let d = list-begun {ta = g.A.RadixNode.tree} {tb = tb} {i = c.args.place} {j = c.below_place-right.result.from}
+    {l = values g.K.Ord.cmp}
+    {R = g.O.Narrow.says c.args.op.now} {asks = g.O.Narrow.asks c.args.op.now} {xs = c.args.a.now ∷ []}
+    {ys = trees_below c.below_place-right.result} g.met.K.Ord.total
+    (g.met.O.Narrow.says_nothing c.args.op.now) (g.met.O.Narrow.asks_none c.args.op.now)
+    (inner-list g.K.Ord.cmp g.A.RadixNode.tree c.args.a.now c.args.place c.seek_alike.ensures.canonical c.requires.within)
+    c.below_place-right.ensures.below.are_children (λ x q. rw kids (c.requires.asks x q)) in
+    let sought = c.seek_alike.ensures.sought in
+    let e = ap option_copied c.in-Some.is in
+    let from = c.seek_alike.ensures.from in
+    let asks = meets-asked d sought e in
+    let agree = meets-agree d sought e in
+    let within = meets-within d sought e in
+    let asks_from = rw (← from) at asks in
+    let agree_from = rw (← from) at agree in
+    let within_from = rw (← from) at within in
+    let smaller = meets-all d sought e (λ y. nodes (tb y) + 1 ≤ nodes (tb c.args.b.now))
+    (node-smaller opened c.prefix.ensures.value (omega arith)) in
+    search rules
+
+pub narrow_inside-narrow_alone-requires : goal.narrow_inside-narrow_alone-requires
+narrow_inside-narrow_alone-requires g t c κs inside =
+    let tb = g.B.RadixNode.tree in
+    let opened = c.below_place-right.ensures.opened in
+    let kids = node-kids opened c.prefix.ensures.value (omega arith) in
+    let d = list-begun {ta = g.A.RadixNode.tree} {tb = tb} {i = c.args.place} {j = c.below_place-right.result.from}
+    {l = values g.K.Ord.cmp}
+    {R = g.O.Narrow.says c.args.op.now} {asks = g.O.Narrow.asks c.args.op.now} {xs = c.args.a.now ∷ []}
+    {ys = trees_below c.below_place-right.result} g.met.K.Ord.total
+    (g.met.O.Narrow.says_nothing c.args.op.now) (g.met.O.Narrow.asks_none c.args.op.now)
+    (inner-list g.K.Ord.cmp g.A.RadixNode.tree c.args.a.now c.args.place c.seek_alike.ensures.canonical c.requires.within)
+    c.below_place-right.ensures.below.are_children (λ x q. rw kids (c.requires.asks x q)) in
+    let asked = alone-asked d c.seek_alike.ensures.sought (ap option_copied c.in-None.is) in
+    search rules
+
+pub narrow_inside-returns-in-Some : goal.narrow_inside-returns-in-Some
+narrow_inside-returns-in-Some g t c =
+    let tb = g.B.RadixNode.tree in
+    let opened = c.below_place-right.ensures.opened in
+    let kids = node-kids opened c.prefix.ensures.value (omega arith) in
+    let d = list-begun {ta = g.A.RadixNode.tree} {tb = tb} {i = c.args.place} {j = c.below_place-right.result.from}
+    {l = values g.K.Ord.cmp}
+    {R = g.O.Narrow.says c.args.op.now} {asks = g.O.Narrow.asks c.args.op.now} {xs = c.args.a.now ∷ []}
+    {ys = trees_below c.below_place-right.result} g.met.K.Ord.total
+    (g.met.O.Narrow.says_nothing c.args.op.now) (g.met.O.Narrow.asks_none c.args.op.now)
+    (inner-list g.K.Ord.cmp g.A.RadixNode.tree c.args.a.now c.args.place c.seek_alike.ensures.canonical c.requires.within)
+    c.below_place-right.ensures.below.are_children (λ x q. rw kids (c.requires.asks x q)) in
+    if-ok c.narrow_at.result
+    (λ made h. inside-both d c.seek_alike.ensures.sought kids (λ v p z h. h) ((g.met.O.Narrow.says_nothing c.args.op.now) None)
+    h.front (ap option_copied c.in-Some.is) (rw c.seek_alike.ensures.from at h.made)) c.narrow_at.ensures
+
+pub narrow_inside-returns-in-None : goal.narrow_inside-returns-in-None
+narrow_inside-returns-in-None g t c =
+    let tb = g.B.RadixNode.tree in
+    let opened = c.below_place-right.ensures.opened in
+    let kids = node-kids opened c.prefix.ensures.value (omega arith) in
+    let d = list-begun {ta = g.A.RadixNode.tree} {tb = tb} {i = c.args.place} {j = c.below_place-right.result.from}
+    {l = values g.K.Ord.cmp}
+    {R = g.O.Narrow.says c.args.op.now} {asks = g.O.Narrow.asks c.args.op.now} {xs = c.args.a.now ∷ []}
+    {ys = trees_below c.below_place-right.result} g.met.K.Ord.total
+    (g.met.O.Narrow.says_nothing c.args.op.now) (g.met.O.Narrow.asks_none c.args.op.now)
+    (inner-list g.K.Ord.cmp g.A.RadixNode.tree c.args.a.now c.args.place c.seek_alike.ensures.canonical c.requires.within)
+    c.below_place-right.ensures.below.are_children (λ x q. rw kids (c.requires.asks x q)) in
+    if-ok c.narrow_alone.result
+    (λ made h. inside-alone d c.seek_alike.ensures.sought kids (λ v p z h. h) ((g.met.O.Narrow.says_nothing c.args.op.now) None)
+    h.front (ap option_copied c.in-None.is) h.made) c.narrow_alone.ensures
+
+-- ---- where the right side has no key
+
+pub narrow_alone-narrow_node-requires : goal.narrow_alone-narrow_node-requires
+narrow_alone-narrow_node-requires g t c κs inside =
+    let t = shortened c.args.from (g.A.RadixNode.tree c.args.a.now) in
+    let value = value-alone g.met.K.Ord.total t (g.O.Narrow.asks c.args.op.now) c.requires.asks in
+    let below = below-alone g.met.K.Ord.total t (g.O.Narrow.asks c.args.op.now) c.requires.asks in
+    let none = c.none-right.ensures in
+    search rules
+
+pub narrow_alone-returns-in-Asked : goal.narrow_alone-returns-in-Asked
+narrow_alone-returns-in-Asked g t c =
+    if-ok c.narrow_node.result
+    (λ made h. node-alone g.K.Ord.cmp g.met.K.Ord.total c.args.from _ (g.O.Narrow.says c.args.op.now) _ ((g.met.O.Narrow.says_nothing c.args.op.now) None)
+    (rw c.none-right.ensures at h)) c.narrow_node.ensures
+
+-- ---- the children
+
+pub narrow_kids-loop-child-init : goal.narrow_kids-loop-child-init
+narrow_kids-loop-child-init g t c = record {
+  from = refl;
+  going =
+      rw (ap (map g.O.Made.RadixNode.tree) c.in_ok-kids.ensures.items)
+      (list-begun g.met.K.Ord.total (g.met.O.Narrow.says_nothing c.args.op.now) (g.met.O.Narrow.asks_none c.args.op.now) c.requires.left c.requires.right c.requires.asks);
+}
+
+pub narrow_kids-seek_alike-requires : goal.narrow_kids-seek_alike-requires
+narrow_kids-seek_alike-requires g t c = next-within (rw c.in-Some.ensures.cases.0 at c.loop-child.invariant.going)
+
+pub narrow_kids-narrow_at-requires : goal.narrow_kids-narrow_at-requires
+narrow_kids-narrow_at-requires g t c κs inside =
+    let tb = g.B.RadixNode.tree in
+    let d = rw c.in-Some.ensures.cases.0 at c.loop-child.invariant.going in
+    let sought = rw c.loop-child.invariant.from at c.seek_alike.ensures.sought in
+    let from = c.seek_alike.ensures.from ∙ c.loop-child.invariant.from in
+    let e = ap option_copied c.in-Some-seek_alike.is in
+    let asks = meets-asked d sought e in
+    let agree = meets-agree d sought e in
+    let within = meets-within d sought e in
+    let asks_from = rw (← from) at asks in
+    let agree_from = rw (← from) at agree in
+    let within_from = rw (← from) at within in
+    let smaller = meets-all d sought e
+    (λ y. nodes (tb y) ≤ forest_nodes (shortened_in tb c.args.right.from (trees_below c.args.right)))
+    (each-fewer tb c.args.right.from (trees_below c.args.right)) in
+    let fewer = next-fewer d in
+    search rules
+
+pub narrow_kids-narrow_alone-requires : goal.narrow_kids-narrow_alone-requires
+narrow_kids-narrow_alone-requires g t c κs inside =
+    let d = rw c.in-Some.ensures.cases.0 at c.loop-child.invariant.going in
+    let sought = rw c.loop-child.invariant.from at c.seek_alike.ensures.sought in
+    let asked = alone-asked d sought (ap option_copied c.in-None.is) in
+    let within = next-within d in
+    let fewer = next-fewer d in
+    search rules
+
+pub narrow_kids-loop-child-preserved : goal.narrow_kids-loop-child-preserved
+narrow_kids-loop-child-preserved g t c =
+    let d = rw c.in-Some.ensures.cases.0 at c.loop-child.invariant.going in
+    let sought = rw c.loop-child.invariant.from at c.seek_alike.ensures.sought in
+    let from = c.seek_alike.ensures.from ∙ c.loop-child.invariant.from in
+    let kid = option_map g.O.Made.RadixNode.tree c.match-seek_alike.kid in
+    record {
+      from = from;
+      going = elim c.match-seek_alike.branch [
+        | narrow_kids-in-Some-seek_alike+in_ok-kid-in-Some-seek_alike w ↦
+            goes-both d sought (ap option_copied w.in-Some-seek_alike.is) {u = kid}
+            (both-whole kid (rw (w.kid-is, ← from) w.in_ok-kid-in-Some-seek_alike.ensures)) c.in_ok-keep.ensures
+        | narrow_kids-in-None+in_ok-kid-in-None w ↦
+            goes-alone d sought (ap option_copied w.in-None.is) {u = kid}
+            (alone-whole kid (rw w.kid-is w.in_ok-kid-in-None.ensures)) c.in_ok-keep.ensures
+      ];
+    }
+
+pub narrow_kids-returns-clause-children : goal.narrow_kids-returns-clause-children
+narrow_kids-returns-clause-children g t c =
+    let none = nil-by _ c.in_default.ensures.cases in
+    (list-done (rw none at c.loop-child.invariant.going)).0
+
+pub narrow_kids-returns-clause-below : goal.narrow_kids-returns-clause-below
+narrow_kids-returns-clause-below g t c =
+    let none = nil-by _ c.in_default.ensures.cases in
+    (list-done (rw none at c.loop-child.invariant.going)).1
+
+pub narrow_node-returns : goal.narrow_node-returns
+narrow_node-returns g t c =
+    let made = made-node c.args.i (g.A.RadixNode.tree c.args.a.now) _ _ _ c.prefix.ensures.value c.requires.within _
+    c.in_ok-made.ensures in
+    record {
+      value = c.in_ok-value.value;
+      kids = seen g.O.Made.RadixNode.tree c.in_ok-kids.kids.items;
+      said = rw c.value.ensures at c.in_ok-value.ensures;
+      below = rw c.children.ensures at c.in_ok-kids.ensures.below;
+      children = c.in_ok-kids.ensures.children;
+      is = made.0;
+      front = made.1;
+    }

@@ -1,0 +1,168 @@
+-- The trees of a list that is lessened in its places.
+--     stepped-alone, stepped-both, after-kept, after-gone        one tree more is done, and stays or goes
+--     alone-made        a tree that the left side alone has
+--     two-stored        a node without a value keeps two children, if any
+use Rattle.std.proofs.Common.{◌≡◌, ℕ, suc, ◌+◌, ◌<◌, ◌≤◌, [], ◌∷◌, ◌++◌, List, Option, None, Some, refl, sym, ap, subst}
+use Rattle.std.proofs.Common.{◌∙◌, map, take, drop, set, get_or, length, slice_get, arith, append-nil, length-append, drop-cons, Bool, true, false}
+use Rattle.std.proofs.Math.ListN.{length-set, drop_of_length-le}
+use Rattle.std.proofs.lemmas.List.{take-set-le, drop-set-lt, drop-set, map-append, length-take, take_all}
+use Rattle.std.specs.Cmp.{IsTotalOrder}
+use Rattle.std.specs.List.{cons_option}
+use Rattle.std.specs.Option.{option_to_list}
+use Rattle.std.specs.Prelude.{MatchBool}
+use Rattle.std.specs.declared.cmp.Ordering.{Ordering}
+use Rattle.vc_tree_model.specs.Canonical.{IsCanonical}
+use Rattle.vc_tree_model.specs.Look.{Look}
+use Rattle.vc_tree_model.specs.Tree.{Tree, forest, shortened}
+use Rattle.vc_tree_model.specs.Value.{IsKept}
+use Rattle.vc_tree_facing.specs.Doing.{IsGoingOn}
+use Rattle.vc_tree_facing.specs.Lessening.{left_of}
+use Rattle.vc_tree_facing.specs.Made.{IsMade, IsBothMadeBy}
+use Rattle.vc_tree_facing.specs.Seeking.{IsSought}
+use Rattle.vc_tree_facing.proofs.Advancing.{goes-alone, goes-both}
+use Rattle.vc_tree_edits.specs.Kids.{AreKids}
+use Rattle.vc_tree_edits.proofs.Sifting.{stayed}
+
+-- the list with x at a place
+pub record IsSetAt {A : Type 0} (xs : List A) (at : ℕ) (x : A) (ys : List A) : Type 0 where
+  pub front : (n : ℕ) → n ≤ at → take n ys ≡ take n xs
+  pub here : drop at ys ≡ x ∷ drop (at + 1) xs
+  pub rest : drop (at + 1) ys ≡ drop (at + 1) xs
+  pub long : length ys ≡ length xs
+
+first-at : {A : Type 0} (xs : List A) (at : ℕ) (x : A) → at < length xs → x ≡ get_or xs at x → drop at xs ≡ x ∷ drop (at + 1) xs
+first-at xs at x h e =
+    let s : suc at ≡ at + 1 = omega arith in
+    drop-cons xs at x h ∙ ap (λ y. y ∷ drop (suc at) xs) (sym e) ∙ ap (λ n. x ∷ drop n xs) s
+
+pub same-at : {A : Type 0} (xs ys : List A) (at : ℕ) (x : A) → at < length xs → x ≡ get_or xs at x → ys ≡ xs
+    → IsSetAt xs at x ys
+same-at xs ys at x h e z =
+    rw z (record { front = λ n k. refl; here = first-at xs at x h e; rest = refl; long = refl })
+
+pub set-at : {A : Type 0} (xs ys : List A) (at : ℕ) (x : A) → at < length xs → ys ≡ set xs at x → IsSetAt xs at x ys
+set-at xs ys at x h z =
+    rw z (record {
+      front = λ n k. take-set-le n xs at x k;
+      here = drop-set xs at x h;
+      rest = drop-set-lt (at + 1) xs at x (omega arith);
+      long = length-set xs at x;
+    })
+
+module _ {K V T : Type 0} (tree : T → Tree K V) {xs ys : List T} {at : ℕ} {x : T} (h : IsSetAt xs at x ys) (kept : ℕ) (order : kept ≤ at) where
+  -- it stays behind those that stay
+  kept-made : (zs : List T) → take (kept + 1) zs ≡ take kept ys ++ take 1 (drop at ys)
+      → map tree (take (kept + 1) zs) ≡ map tree (take kept xs) ++ cons_option (left_of true 0 (tree x)) []
+  kept-made zs e =
+      ap (map tree) (e ∙ ap (λ l. l ++ take 1 (drop at ys)) (h.front kept order) ∙ ap (λ l. take kept xs ++ take 1 l) h.here)
+      ∙ map-append tree (take kept xs) (x ∷ [])
+
+  gone-made : map tree (take kept ys) ≡ map tree (take kept xs) ++ cons_option (left_of false 0 (tree x)) []
+  gone-made = ap (map tree) (h.front kept order) ∙ sym (append-nil (map tree (take kept xs)))
+
+-- a tree that the left side alone has stays or goes
+pub alone-made : {K V O : Type 0} (cmp : K → K → Ordering) → IsTotalOrder cmp → (keeps : V → V → Type 0) → ((v : V) → keeps v v)
+    → (R : Option V → O → Option V → Type 0) (none : O) (t : Tree K V) (i : ℕ) → IsCanonical cmp t → i < length t.prefix → (b : Bool)
+    → MatchBool b ((v z : Option V) → IsKept keeps v z → R v none z) ((v : Option V) → R v none None)
+    → IsMade cmp (λ v z. R v none z) (shortened i t) (left_of b i t)
+alone-made cmp o keeps itself R none t i c h true k =
+    stayed cmp o keeps itself t (shortened i t) i c h refl (λ v z. R v none z) k
+alone-made cmp o keeps itself R none t i c h false k = record { child = tt; begins = λ y e. tt; binds = λ q. k _ }
+
+-- two readings of one place
+pub same-place : {A : Type 0} (xs : List A) (at : ℕ) (x y : A) → at < length xs → x ≡ get_or xs at x → y ≡ get_or xs at y → x ≡ y
+same-place xs at x y h e f =
+    let z : x ∷ drop (at + 1) xs ≡ y ∷ drop (at + 1) xs = sym (first-at xs at x h e) ∙ first-at xs at y h f in cc
+
+-- ---- a list in its places, of which some trees are done
+
+-- the trees that were made, once a tree was changed and stays or goes
+pub record IsStepped {K V W O T B : Type 0} (cmp : K → K → Ordering) (tree : T → Tree K V) (tb : B → Tree K W) (j : ℕ) (l : Look cmp W O)
+    (R : Option V → O → Option V → Type 0) (asks : Option V → O → Type 0) (all : List T) (ys : List B) (xs : List T) (at kept : ℕ)
+    (zs : List T) (b : Bool) (rs : List B) : Type 0 where
+  pub tree_left : T
+  pub set_at : IsSetAt xs at tree_left zs
+  pub going :
+      IsGoingOn cmp tree tb 0 j l R asks all ys (drop (at + 1) xs) rs
+      (map tree (take kept xs) ++ cons_option (left_of b 0 (tree tree_left)) [])
+
+module _ {K V W O T B : Type 0} {cmp : K → K → Ordering} {tree : T → Tree K V} {tb : B → Tree K W} {j : ℕ} {l : Look cmp W O}
+    {R : Option V → O → Option V → Type 0} {asks : Option V → O → Type 0} {all : List T} {ys : List B} {rs : List B} where
+  -- the next tree stands at its place
+  pub next-here : (xs : List T) (at : ℕ) {x : T} {made : List (Tree K V)}
+      → IsGoingOn cmp tree tb 0 j l R asks all ys (drop at xs) rs made → at < length xs → x ≡ get_or xs at x
+      → IsGoingOn cmp tree tb 0 j l R asks all ys (x ∷ drop (at + 1) xs) rs made
+  next-here xs at {x} {made} d h e =
+      subst (λ ls. IsGoingOn cmp tree tb 0 j l R asks all ys ls rs made) (first-at xs at x h e) d
+
+  module _ {xs : List T} {at kept : ℕ} {x : T}
+      (d : IsGoingOn cmp tree tb 0 j l R asks all ys (x ∷ drop (at + 1) xs) rs (map tree (take kept xs))) {found : Option B} {rs' : List B}
+      (s : (k : K) → slice_get (tree x).prefix 0 ≡ Some k → IsSought cmp tb j k rs found rs') {zs : List T} {b : Bool} where
+    pub stepped-alone : found ≡ None → IsSetAt xs at x zs → IsMade cmp (λ v z. R v l.none z) (shortened 0 (tree x)) (left_of b 0 (tree x))
+        → IsStepped cmp tree tb j l R asks all ys xs at kept zs b rs'
+    stepped-alone n z m = record { tree_left = x; set_at = z; going = goes-alone d s n m refl }
+
+    pub stepped-both : {y : B} → found ≡ Some y → {new : T} → IsSetAt xs at new zs
+        → IsBothMadeBy cmp l R (shortened 0 (tree x)) (shortened j (tb y)) (left_of b 0 (tree new))
+        → IsStepped cmp tree tb j l R asks all ys xs at kept zs b rs'
+    stepped-both f {new} z m = record { tree_left = new; set_at = z; going = goes-both d s f m refl }
+
+  module _ {xs : List T} {at kept : ℕ} {zs : List T} (order : kept ≤ at) where
+    -- it stays
+    pub after-kept : IsStepped cmp tree tb j l R asks all ys xs at kept zs true rs → (us : List T)
+        → take (kept + 1) us ≡ take kept zs ++ take 1 (drop at zs) → drop (at + 1) us ≡ drop (at + 1) zs
+        → IsGoingOn cmp tree tb 0 j l R asks all ys (drop (at + 1) us) rs (map tree (take (kept + 1) us))
+    after-kept s us e f =
+        let m = kept-made tree s.set_at kept order us e in
+        let r = f ∙ s.set_at.rest in
+        subst (λ ls. IsGoingOn cmp tree tb 0 j l R asks all ys ls rs (map tree (take (kept + 1) us))) (sym r)
+        (subst (λ made. IsGoingOn cmp tree tb 0 j l R asks all ys (drop (at + 1) xs) rs made) (sym m) s.going)
+
+    -- or goes
+    pub after-gone : IsStepped cmp tree tb j l R asks all ys xs at kept zs false rs
+        → IsGoingOn cmp tree tb 0 j l R asks all ys (drop (at + 1) zs) rs (map tree (take kept zs))
+    after-gone s =
+        let m = gone-made tree s.set_at kept order in
+        subst (λ ls. IsGoingOn cmp tree tb 0 j l R asks all ys ls rs (map tree (take kept zs))) (sym s.set_at.rest)
+        (subst (λ made. IsGoingOn cmp tree tb 0 j l R asks all ys (drop (at + 1) xs) rs made) (sym m) s.going)
+
+-- ---- the end of the list
+
+-- where a node without a value keeps some children where they are stored, it keeps two
+pub two-stored : {T : Type 0} (b : Bool) (o : Option T) (stored : List T) (many : ℕ) → AreKids b o stored many → o ≡ None
+    → b ≡ true → (many ≡ 0 → ⊥) → 2 ≤ length stored
+two-stored b o stored many k n e z =
+    let c = k.counted n in
+    let one = k.enough n e in
+    omega (arith, c, one, z)
+
+-- the only tree of a list, taken out
+pub only-popped : {A : Type 0} (xs ys : List A) (r : Option A) → xs ≡ ys ++ option_to_list r → length xs ≡ 1 → cons_option r ys ≡ xs
+only-popped xs ys None e n = sym (e ∙ append-nil ys)
+only-popped xs [] (Some x) e n = sym e
+only-popped xs (y ∷ ys) (Some x) e n =
+    let h = ap length e in
+    let k = length-append ys (x ∷ []) in absurd (omega (arith, h, k, n))
+
+pub first-long : {A : Type 0} (xs : List A) (n : ℕ) → n ≤ length xs → length (take n xs) ≡ n
+first-long xs n h = let k = length-take n xs in omega (arith, k, h)
+
+-- no more are left
+pub none-left : {A : Type 0} (xs : List A) (at : ℕ) → length xs ≤ at → drop at xs ≡ []
+none-left xs at h = drop_of_length-le xs h
+
+-- as many trees
+pub same-many : {K V A B : Type 0} (t : A → Tree K V) (u : B → Tree K V) (xs : List A) (ys : List B)
+    → forest (map t xs) ≡ forest (map u ys) → length xs ≡ length ys
+same-many t u [] [] e = refl
+same-many t u [] (y ∷ ys) e = absurd (cc)
+same-many t u (x ∷ xs) [] e = absurd (cc)
+same-many t u (x ∷ xs) (y ∷ ys) e = ap suc (same-many t u xs ys (cc))
+
+-- a slice that was lent whole
+pub whole-back : {A : Type 0} (n : ℕ) (xs ys : List A) → n ≡ length xs → length ys ≡ length xs
+    → take n (ys ++ drop (length ys) xs) ≡ ys
+whole-back n xs ys e f =
+    ap (λ r. take n (ys ++ r)) (drop_of_length-le xs (omega (arith, f)))
+    ∙ ap (take n) (append-nil ys)
+    ∙ take_all n ys (omega (arith, e, f))
