@@ -2,7 +2,8 @@
 --     value-alone, below-alone        what may be asked of the parts of a tree of which the right side has no key
 --     node-alone, copied-alone        what is left of it, as what is left of its node, and as a copy
 --     both-whole, alone-whole, made-node        what was made, as what is left of a whole tree, and of a node
-use Rattle.std.proofs.Common.{◌≡◌, ℕ, ◌<◌, ◌≤◌, ◌++◌, [], ◌∷◌, List, Option, None, Some, refl, sym, ap, subst, ◌∙◌, is_some, true, false}
+use Rattle.std.proofs.Common.{◌≡◌, ℕ, ◌<◌, ◌≤◌, ◌++◌, [], ◌∷◌, List, Option, None, Some, refl, sym, ap, subst, ◌∙◌, is_some}
+use Rattle.std.proofs.Common.{true, false}
 use Rattle.std.proofs.Common.{take, drop, length, append-nil, slice_get}
 use Rattle.std.proofs.lemmas.List.{drop-append-le, take-append-le}
 use Rattle.std.specs.Cmp.{IsTotalOrder, tied_itself}
@@ -107,13 +108,15 @@ whole-bound cmp R t u o m e h =
     (both-whole (Some m) (subst (λ o. IsNarrowed cmp 0 t R (shortened 0 u) o) e h)).binds
 
 -- of a node with this prefix
-pub made-node : {K V : Type 0} (n : ℕ) (t : Tree K V) (p : List K) (v : Option V) (f : Forest K V) → p ≡ t.prefix → n ≤ length t.prefix
+pub made-node : {K V : Type 0} (n : ℕ) (t : Tree K V) (p : List K) (v : Option V) (f : Forest K V) → p ≡ t.prefix
+    → n ≤ length t.prefix
     → (o : Option (Tree K V)) → o ≡ solid_child p v f
     → (left_of (is_some o) n (made_or t o) ≡ solid_child (drop n t.prefix) v f) × KeepsFront n t (is_some o) (made_or t o)
 made-node n t p v f e h o z = rw (z, e) (by v f)
   where
     by : (v : Option _) (f : Forest _ _)
-        → (left_of (is_some (solid_child t.prefix v f)) n (made_or t (solid_child t.prefix v f)) ≡ solid_child (drop n t.prefix) v f)
+        → (left_of (is_some (solid_child t.prefix v f)) n (made_or t (solid_child t.prefix v f))
+        ≡ solid_child (drop n t.prefix) v f)
         × KeepsFront n t (is_some (solid_child t.prefix v f)) (made_or t (solid_child t.prefix v f))
     by (Some v) f = (refl, λ s. refl)
     by None bare = (refl, λ s. refl)

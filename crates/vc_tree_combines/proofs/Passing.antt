@@ -196,12 +196,15 @@ module _ {M A B : Type 0} (left : M → List A) (right : M → List B) (missed :
     stopped s t answer z w =
         stopped-by s t answer w w.last refl w.front w.allowed (steps-passed s w.before w.runs z w.steps)
 
-    -- what the merge has passed, and where it stopped
-    pub passed : (s t : M) (answer : Result (Unit {0}) AllocError) → missed s ≡ false
-        → IsMerged passes order s answer t → Passed s t
-    passed s t (Ok u) z (inl f) = finished s t z f
-    passed s t (Ok u) z (inr w) = stopped s t (Ok false) z w
-    passed s t (Err x) z w = stopped s t (Err x) z w
+-- what the merge has passed, and where it stopped
+pub passed : {M A B : Type 0} {left : M → List A} {right : M → List B} {missed : M → Bool} {shared : Bool}
+    {order : A ⊎ B → A ⊎ B → Ordering} {s t : M} (answer : Result (Unit {0}) AllocError) → missed s ≡ false
+    → IsMerged (passes left right missed shared) order s answer t → Passed left right missed shared order s t
+passed {left = left} {right} {missed} {shared} {order} {s} {t} (Ok u) z (inl f) = finished left right missed shared order s t z f
+passed {left = left} {right} {missed} {shared} {order} {s} {t} (Ok u) z (inr w) =
+    stopped left right missed shared order s t (Ok false) z w
+passed {left = left} {right} {missed} {shared} {order} {s} {t} (Err x) z w =
+    stopped left right missed shared order s t (Err x) z w
 
 -- ---- the rest of a script
 

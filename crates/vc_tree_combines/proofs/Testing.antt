@@ -208,9 +208,9 @@ module _ {K : Type 0} (cmp : K → K → Ordering) (o : IsTotalOrder cmp) where
         (tells-nodes cmp o shared v w f g below m h)))))
 
 -- behind two trees that are met, the others tell of all
-pub meeting-told : {K V W A B : Type 0} (cmp : K → K → Ordering) (ta : A → Tree K V) (tb : B → Tree K W) (shared : Bool)
-    (xs : List A) (ys : List B) (x : A) (ls : List A) (y : B) (rs : List B) → IsMeeting cmp ta tb shared xs ys x ls y rs
+pub meeting-told : {K V W A B : Type 0} {cmp : K → K → Ordering} {ta : A → Tree K V} {tb : B → Tree K W} {shared : Bool}
+    {xs : List A} {ys : List B} {x : A} {ls : List A} {y : B} {rs : List B} → IsMeeting cmp ta tb shared xs ys x ls y rs
     → TellsKeys cmp shared (ta x) (tb y) true → (answer : Bool) → TellsKeysIn cmp shared (seen ta ls) (seen tb rs) answer
     → TellsKeysIn cmp shared (seen ta xs) (seen tb ys) answer
-meeting-told cmp ta tb shared xs ys x ls y rs m h true g = m.all_met h g
-meeting-told cmp ta tb shared xs ys x ls y rs m h false g = m.later_missed g
+meeting-told m h true g = m.all_met h g
+meeting-told m h false g = m.later_missed g

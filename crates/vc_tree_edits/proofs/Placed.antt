@@ -3,7 +3,8 @@
 --     alone-made        a tree that the left side alone has
 --     two-stored        a node without a value keeps two children, if any
 use Rattle.std.proofs.Common.{◌≡◌, ℕ, suc, ◌+◌, ◌<◌, ◌≤◌, [], ◌∷◌, ◌++◌, List, Option, None, Some, refl, sym, ap, subst}
-use Rattle.std.proofs.Common.{◌∙◌, map, take, drop, set, get_or, length, slice_get, arith, append-nil, length-append, drop-cons, Bool, true, false}
+use Rattle.std.proofs.Common.{◌∙◌, map, take, drop, set, get_or, length, slice_get, arith, append-nil, length-append, drop-cons}
+use Rattle.std.proofs.Common.{Bool, true, false}
 use Rattle.std.proofs.Math.ListN.{length-set, drop_of_length-le}
 use Rattle.std.proofs.lemmas.List.{take-set-le, drop-set-lt, drop-set, map-append, length-take, take_all}
 use Rattle.std.specs.Cmp.{IsTotalOrder}
@@ -49,7 +50,8 @@ set-at xs ys at x h z =
       long = length-set xs at x;
     })
 
-module _ {K V T : Type 0} (tree : T → Tree K V) {xs ys : List T} {at : ℕ} {x : T} (h : IsSetAt xs at x ys) (kept : ℕ) (order : kept ≤ at) where
+module _ {K V T : Type 0} (tree : T → Tree K V) {xs ys : List T} {at : ℕ} {x : T} (h : IsSetAt xs at x ys) (kept : ℕ)
+    (order : kept ≤ at) where
   -- it stays behind those that stay
   kept-made : (zs : List T) → take (kept + 1) zs ≡ take kept ys ++ take 1 (drop at ys)
       → map tree (take (kept + 1) zs) ≡ map tree (take kept xs) ++ cons_option (left_of true 0 (tree x)) []
@@ -62,7 +64,8 @@ module _ {K V T : Type 0} (tree : T → Tree K V) {xs ys : List T} {at : ℕ} {x
 
 -- a tree that the left side alone has stays or goes
 pub alone-made : {K V O : Type 0} (cmp : K → K → Ordering) → IsTotalOrder cmp → (keeps : V → V → Type 0) → ((v : V) → keeps v v)
-    → (R : Option V → O → Option V → Type 0) (none : O) (t : Tree K V) (i : ℕ) → IsCanonical cmp t → i < length t.prefix → (b : Bool)
+    → (R : Option V → O → Option V → Type 0) (none : O) (t : Tree K V) (i : ℕ) → IsCanonical cmp t → i < length t.prefix
+    → (b : Bool)
     → MatchBool b ((v z : Option V) → IsKept keeps v z → R v none z) ((v : Option V) → R v none None)
     → IsMade cmp (λ v z. R v none z) (shortened i t) (left_of b i t)
 alone-made cmp o keeps itself R none t i c h true k =
@@ -77,7 +80,8 @@ same-place xs at x y h e f =
 -- ---- a list in its places, of which some trees are done
 
 -- the trees that were made, once a tree was changed and stays or goes
-pub record IsStepped {K V W O T B : Type 0} (cmp : K → K → Ordering) (tree : T → Tree K V) (tb : B → Tree K W) (j : ℕ) (l : Look cmp W O)
+pub record IsStepped {K V W O T B : Type 0} (cmp : K → K → Ordering) (tree : T → Tree K V) (tb : B → Tree K W) (j : ℕ)
+    (l : Look cmp W O)
     (R : Option V → O → Option V → Type 0) (asks : Option V → O → Type 0) (all : List T) (ys : List B) (xs : List T) (at kept : ℕ)
     (zs : List T) (b : Bool) (rs : List B) : Type 0 where
   pub tree_left : T
@@ -96,9 +100,11 @@ module _ {K V W O T B : Type 0} {cmp : K → K → Ordering} {tree : T → Tree 
       subst (λ ls. IsGoingOn cmp tree tb 0 j l R asks all ys ls rs made) (first-at xs at x h e) d
 
   module _ {xs : List T} {at kept : ℕ} {x : T}
-      (d : IsGoingOn cmp tree tb 0 j l R asks all ys (x ∷ drop (at + 1) xs) rs (map tree (take kept xs))) {found : Option B} {rs' : List B}
+      (d : IsGoingOn cmp tree tb 0 j l R asks all ys (x ∷ drop (at + 1) xs) rs (map tree (take kept xs))) {found : Option B}
+      {rs' : List B}
       (s : (k : K) → slice_get (tree x).prefix 0 ≡ Some k → IsSought cmp tb j k rs found rs') {zs : List T} {b : Bool} where
-    pub stepped-alone : found ≡ None → IsSetAt xs at x zs → IsMade cmp (λ v z. R v l.none z) (shortened 0 (tree x)) (left_of b 0 (tree x))
+    pub stepped-alone : found ≡ None → IsSetAt xs at x zs
+        → IsMade cmp (λ v z. R v l.none z) (shortened 0 (tree x)) (left_of b 0 (tree x))
         → IsStepped cmp tree tb j l R asks all ys xs at kept zs b rs'
     stepped-alone n z m = record { tree_left = x; set_at = z; going = goes-alone d s n m refl }
 
@@ -137,7 +143,8 @@ two-stored b o stored many k n e z =
     omega (arith, c, one, z)
 
 -- the only tree of a list, taken out
-pub only-popped : {A : Type 0} (xs ys : List A) (r : Option A) → xs ≡ ys ++ option_to_list r → length xs ≡ 1 → cons_option r ys ≡ xs
+pub only-popped : {A : Type 0} (xs ys : List A) (r : Option A) → xs ≡ ys ++ option_to_list r → length xs ≡ 1
+    → cons_option r ys ≡ xs
 only-popped xs ys None e n = sym (e ∙ append-nil ys)
 only-popped xs [] (Some x) e n = sym e
 only-popped xs (y ∷ ys) (Some x) e n =

@@ -85,7 +85,8 @@ fewer Right others = omega arith
 fewer Both others = omega arith
 
 module _ {T : Type 0} {all others : List Side} where
-  pub room-next : {b b' b'' : Builder T} {s : Side} {x : T} {kid : Option T} → IsNext b x b' → IsAdded b' kid b'' → all ≡ s ∷ others
+  pub room-next : {b b' b'' : Builder T} {s : Side} {x : T} {kid : Option T} → IsNext b x b' → IsAdded b' kid b''
+      → all ≡ s ∷ others
       → arrivals_of all ≤ b.room → arrivals_of others ≤ b''.room
   room-next {s = s} next added z room =
       let e = ap arrivals_of z in

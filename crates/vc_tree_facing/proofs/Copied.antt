@@ -1,5 +1,6 @@
 -- A copy of a tree that one side alone has.
---     copied-by        a copy is a child that begins as the tree did, and what is said of each value and its copy is said of the two
+--     copied-by        a copy is a child that begins as the tree did, and what is said of each value and its copy is said of
+-- the two
 use Rattle.std.proofs.Common.{◌≡◌, ℕ, ◌<◌, [], ◌∷◌, List, Option, Some, subst, drop, length, slice_get, arith}
 use Rattle.std.specs.Cmp.{IsTotalOrder, tied_itself}
 use Rattle.std.specs.declared.cmp.Ordering.{Ordering}

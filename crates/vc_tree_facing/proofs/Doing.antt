@@ -118,41 +118,42 @@ module _ {K V W U O A B : Type 0} {cmp : K → K → Ordering} {ta : A → Tree 
     sides-next sides e rest s h z =
         let g : s ∷ sides ≡ side_of e ∷ map (λ e. side_of e) rest = sym z ∙ d.sides_are ∙ ap (map (λ e. side_of e)) h in cc
 
-    module _ {sides : List Side} {made' : List (Tree K U)} {o : Option (Tree K U)} (pushed : made' ≡ made ++ cons_option o []) where
-      pub doing-left : {x : A} {ls' : List A} → all ≡ Left ∷ sides → ls ≡ x ∷ ls'
-          → IsMade cmp (λ v z. R v l.none z) (shortened i (ta x)) o
-          → IsDoing cmp ta tb i j l R asks xs ys ls' rs sides made' spent budget
-      doing-left z e w =
-          let f = left-first sides d.rest (sym z ∙ d.sides_are) in
-          let g = left-next f.1 (ap lefts (sym f.2)) e in
-          more d.done (left_alone f.0) f.1 o (script-next _ _ f.2) d.made_at d.made_are
-          (subst (λ x. IsMade cmp (λ v z. R v l.none z) (shortened i (ta x)) o) g.0 w) pushed g.1
-          (d.right ∙ ap rights f.2) (sides-next _ _ _ Left f.2 z) (asked-next _ _ f.2)
-          (subst (λ l. spent + owed cmp ta tb i j l ≤ budget) f.2 d.paid)
+    module _ {sides : List Side} {made' : List (Tree K U)} {o : Option (Tree K U)} (pushed : made' ≡ made ++ cons_option o [])
+      where
+        pub doing-left : {x : A} {ls' : List A} → all ≡ Left ∷ sides → ls ≡ x ∷ ls'
+            → IsMade cmp (λ v z. R v l.none z) (shortened i (ta x)) o
+            → IsDoing cmp ta tb i j l R asks xs ys ls' rs sides made' spent budget
+        doing-left z e w =
+            let f = left-first sides d.rest (sym z ∙ d.sides_are) in
+            let g = left-next f.1 (ap lefts (sym f.2)) e in
+            more d.done (left_alone f.0) f.1 o (script-next _ _ f.2) d.made_at d.made_are
+            (subst (λ x. IsMade cmp (λ v z. R v l.none z) (shortened i (ta x)) o) g.0 w) pushed g.1
+            (d.right ∙ ap rights f.2) (sides-next _ _ _ Left f.2 z) (asked-next _ _ f.2)
+            (subst (λ l. spent + owed cmp ta tb i j l ≤ budget) f.2 d.paid)
 
-      pub doing-right : {y : B} {rs' : List B} → all ≡ Right ∷ sides → rs ≡ y ∷ rs'
-          → IsMadeBy cmp l (λ w z. R None w z) (shortened j (tb y)) o
-          → IsDoing cmp ta tb i j l R asks xs ys ls rs' sides made' spent budget
-      doing-right z e w =
-          let f = right-first sides d.rest (sym z ∙ d.sides_are) in
-          let g = right-next f.1 (ap rights (sym f.2)) e in
-          more d.done (right_alone f.0) f.1 o (script-next _ _ f.2) d.made_at d.made_are
-          (subst (λ y. IsMadeBy cmp l (λ w z. R None w z) (shortened j (tb y)) o) g.0 w) pushed
-          (d.left ∙ ap lefts f.2) g.1 (sides-next _ _ _ Right f.2 z) (asked-next _ _ f.2)
-          (subst (λ l. spent + owed cmp ta tb i j l ≤ budget) f.2 d.paid)
+        pub doing-right : {y : B} {rs' : List B} → all ≡ Right ∷ sides → rs ≡ y ∷ rs'
+            → IsMadeBy cmp l (λ w z. R None w z) (shortened j (tb y)) o
+            → IsDoing cmp ta tb i j l R asks xs ys ls rs' sides made' spent budget
+        doing-right z e w =
+            let f = right-first sides d.rest (sym z ∙ d.sides_are) in
+            let g = right-next f.1 (ap rights (sym f.2)) e in
+            more d.done (right_alone f.0) f.1 o (script-next _ _ f.2) d.made_at d.made_are
+            (subst (λ y. IsMadeBy cmp l (λ w z. R None w z) (shortened j (tb y)) o) g.0 w) pushed
+            (d.left ∙ ap lefts f.2) g.1 (sides-next _ _ _ Right f.2 z) (asked-next _ _ f.2)
+            (subst (λ l. spent + owed cmp ta tb i j l ≤ budget) f.2 d.paid)
 
-      pub doing-both : {x : A} {ls' : List A} {y : B} {rs' : List B} {spent' : ℕ} → all ≡ Both ∷ sides → ls ≡ x ∷ ls'
-          → rs ≡ y ∷ rs' → IsBothMadeBy cmp l R (shortened i (ta x)) (shortened j (tb y)) o
-          → spent' + 2 ≤ spent + 3 * (weight (shortened i (ta x)) + weight (shortened j (tb y)))
-          → IsDoing cmp ta tb i j l R asks xs ys ls' rs' sides made' spent' budget
-      doing-both {y = y} {spent' = spent'} z e e' w c =
-          let f = both-first sides d.rest (sym z ∙ d.sides_are) in
-          let g = left-next f.2 (ap lefts (sym f.3)) e in
-          let h = right-next f.2 (ap rights (sym f.3)) e' in
-          let same = subst (λ y. IsBothMadeBy cmp l R (shortened i (ta f.0)) (shortened j (tb y)) o) h.0
-          (subst (λ x. IsBothMadeBy cmp l R (shortened i (ta x)) (shortened j (tb y)) o) g.0 w) in
-          let cost = subst (λ y. spent' + 2 ≤ spent + 3 * (weight (shortened i (ta f.0)) + weight (shortened j (tb y)))) h.0
-          (subst (λ x. spent' + 2 ≤ spent + 3 * (weight (shortened i (ta x)) + weight (shortened j (tb y)))) g.0 c) in
-          let paid = subst (λ l. spent + owed cmp ta tb i j l ≤ budget) f.3 d.paid in
-          more d.done (collision f.0 f.1) f.2 o (script-next _ _ f.3) d.made_at d.made_are
-          same pushed g.1 h.1 (sides-next _ _ _ Both f.3 z) (asked-next _ _ f.3) (omega (arith, cost, paid))
+        pub doing-both : {x : A} {ls' : List A} {y : B} {rs' : List B} {spent' : ℕ} → all ≡ Both ∷ sides → ls ≡ x ∷ ls'
+            → rs ≡ y ∷ rs' → IsBothMadeBy cmp l R (shortened i (ta x)) (shortened j (tb y)) o
+            → spent' + 2 ≤ spent + 3 * (weight (shortened i (ta x)) + weight (shortened j (tb y)))
+            → IsDoing cmp ta tb i j l R asks xs ys ls' rs' sides made' spent' budget
+        doing-both {y = y} {spent' = spent'} z e e' w c =
+            let f = both-first sides d.rest (sym z ∙ d.sides_are) in
+            let g = left-next f.2 (ap lefts (sym f.3)) e in
+            let h = right-next f.2 (ap rights (sym f.3)) e' in
+            let same = subst (λ y. IsBothMadeBy cmp l R (shortened i (ta f.0)) (shortened j (tb y)) o) h.0
+            (subst (λ x. IsBothMadeBy cmp l R (shortened i (ta x)) (shortened j (tb y)) o) g.0 w) in
+            let cost = subst (λ y. spent' + 2 ≤ spent + 3 * (weight (shortened i (ta f.0)) + weight (shortened j (tb y)))) h.0
+            (subst (λ x. spent' + 2 ≤ spent + 3 * (weight (shortened i (ta x)) + weight (shortened j (tb y)))) g.0 c) in
+            let paid = subst (λ l. spent + owed cmp ta tb i j l ≤ budget) f.3 d.paid in
+            more d.done (collision f.0 f.1) f.2 o (script-next _ _ f.3) d.made_at d.made_are
+            same pushed g.1 h.1 (sides-next _ _ _ Both f.3 z) (asked-next _ _ f.3) (omega (arith, cost, paid))

@@ -83,14 +83,17 @@ module _ {K V : Type 0} (i n : ℕ) (t : Tree K V) where
   -- and else what is left of the tree
   pub inner-value : i + n < length t.prefix → None ≡ value_at (shortened i t) (drop n (drop i t.prefix))
   inner-value within =
-      sym (ap (value_at (shortened i t)) (drop-drop n i t.prefix) ∙ no-value (shortened i t) (drop (i + n) t.prefix) (more within))
+      sym (ap (value_at (shortened i t)) (drop-drop n i t.prefix) ∙ no-value (shortened i t) (drop (i + n) t.prefix)
+      (more within))
 
   pub inner-children : i + n < length t.prefix → alone (i + n) t ≡ children_at (shortened i t) (drop n (drop i t.prefix))
   inner-children within =
-      sym (ap (children_at (shortened i t)) (drop-drop n i t.prefix) ∙ goes-on (shortened i t) (drop (i + n) t.prefix) (more within))
+      sym (ap (children_at (shortened i t)) (drop-drop n i t.prefix) ∙ goes-on (shortened i t) (drop (i + n) t.prefix)
+      (more within))
 
   -- the trees below the place
-  pub below-children_at : {B : Type 0} {tb : B → Tree K V} {ys : List B} {from : ℕ} → IsOpened tb t (drop (i + n) t.prefix) ys from
+  pub below-children_at : {B : Type 0} {tb : B → Tree K V} {ys : List B} {from : ℕ}
+      → IsOpened tb t (drop (i + n) t.prefix) ys from
       → shortened_in tb from ys ≡ children_at (shortened i t) (drop n (drop i t.prefix))
   below-children_at h =
       h.children ∙ same t (drop (i + n) t.prefix) ∙ ap (children_at (shortened i t)) (sym (drop-drop n i t.prefix))
@@ -102,7 +105,8 @@ module _ {K V : Type 0} (i n : ℕ) (t : Tree K V) where
 -- the children of a node whose prefix has ended
 pub node-kids : {K V B : Type 0} {tb : B → Tree K V} {t : Tree K V} {whole : List K} {n : ℕ} {ys : List B} {from : ℕ}
     → IsOpened tb t (drop n t.prefix) ys from → whole ≡ t.prefix → length whole ≤ n → shortened_in tb from ys ≡ t.children
-node-kids {t = t} {n = n} h e long = h.children ∙ ap (children_at t) (drop_of_length-le t.prefix (subst (λ p. length p ≤ n) e long))
+node-kids {t =
+    t} {n = n} h e long = h.children ∙ ap (children_at t) (drop_of_length-le t.prefix (subst (λ p. length p ≤ n) e long))
 
 -- which have fewer nodes
 pub node-smaller : {K V B : Type 0} {tb : B → Tree K V} {t : Tree K V} {whole : List K} {n : ℕ} {ys : List B} {from : ℕ}
@@ -132,71 +136,74 @@ below-fewer {t = t} {r = r} h = rw h.children (by r)
 
 -- ---- what is left of both trees at the place where they part
 
-module _ {K V W : Type 0} {cmp : K → K → Ordering} {t : Tree K V} {i : ℕ} {u : Tree K W} {j n : ℕ} (s : IsSplit cmp t i u j n) where
-  module _ {O : Type 0} (l : Look cmp W O) (asks : Option V → O → Type 0)
-      (a : (k : List K) → asks (lookup cmp (shortened i t) k) (l.of_tree (shortened j u) k)) where
-    -- may be asked of the values there
-    pub value-may : {v : Option V} {w : Option W} → v ≡ value_at (shortened i t) (drop n (drop i t.prefix))
-        → w ≡ value_at (shortened j u) (drop n (drop j u.prefix)) → asks v (l.at w)
-    value-may ev ew =
-        rw (ev, ew) (value-asked cmp s.total l asks (shortened i t) (shortened j u) (take n (drop i t.prefix))
-        (drop n (drop i t.prefix)) (take n (drop j u.prefix)) (drop n (drop j u.prefix))
-        (sym (take-append-drop n (drop i t.prefix))) (sym (take-append-drop n (drop j u.prefix))) s.agree.same a)
+module _ {K V W : Type 0} {cmp : K → K → Ordering} {t : Tree K V} {i : ℕ} {u : Tree K W} {j n : ℕ} (s : IsSplit cmp t i u j n)
+  where
+    module _ {O : Type 0} (l : Look cmp W O) (asks : Option V → O → Type 0)
+        (a : (k : List K) → asks (lookup cmp (shortened i t) k) (l.of_tree (shortened j u) k)) where
+      -- may be asked of the values there
+      pub value-may : {v : Option V} {w : Option W} → v ≡ value_at (shortened i t) (drop n (drop i t.prefix))
+          → w ≡ value_at (shortened j u) (drop n (drop j u.prefix)) → asks v (l.at w)
+      value-may ev ew =
+          rw (ev, ew) (value-asked cmp s.total l asks (shortened i t) (shortened j u) (take n (drop i t.prefix))
+          (drop n (drop i t.prefix)) (take n (drop j u.prefix)) (drop n (drop j u.prefix))
+          (sym (take-append-drop n (drop i t.prefix))) (sym (take-append-drop n (drop j u.prefix))) s.agree.same a)
 
-    -- and of what stands below
-    pub below-may : {f : Forest K V} {w : Option W} {g : Forest K W} → f ≡ children_at (shortened i t) (drop n (drop i t.prefix))
-        → w ≡ value_at (shortened j u) (drop n (drop j u.prefix)) → g ≡ children_at (shortened j u) (drop n (drop j u.prefix))
-        → (x : K) (q : List K) → asks (lookup_in cmp f (x ∷ q)) (l.under w (l.of_forest g (x ∷ q)))
-    below-may ef ew eg x q =
-        rw (ef, ew, eg) (children-asked cmp s.total l asks (shortened i t) (shortened j u) (take n (drop i t.prefix))
-        (drop n (drop i t.prefix)) (take n (drop j u.prefix)) (drop n (drop j u.prefix))
-        (sym (take-append-drop n (drop i t.prefix))) (sym (take-append-drop n (drop j u.prefix))) s.agree.same a x q)
+      -- and of what stands below
+      pub below-may : {f : Forest K V} {w : Option W} {g : Forest K W} → f ≡ children_at (shortened i t) (drop n (drop i t.prefix))
+          → w ≡ value_at (shortened j u) (drop n (drop j u.prefix)) → g ≡ children_at (shortened j u) (drop n (drop j u.prefix))
+          → (x : K) (q : List K) → asks (lookup_in cmp f (x ∷ q)) (l.under w (l.of_forest g (x ∷ q)))
+      below-may ef ew eg x q =
+          rw (ef, ew, eg) (children-asked cmp s.total l asks (shortened i t) (shortened j u) (take n (drop i t.prefix))
+          (drop n (drop i t.prefix)) (take n (drop j u.prefix)) (drop n (drop j u.prefix))
+          (sym (take-append-drop n (drop i t.prefix))) (sym (take-append-drop n (drop j u.prefix))) s.agree.same a x q)
 
-  module _ {O : Type 0} {l : Look cmp W O} {R : Option V → O → Option V → Type 0} {w : Option W} {g : Forest K W} where
-    -- the node of what is left of both
-    at-front : (v : Option V) (f : Forest K V) (value : Option V) (kids : Forest K V)
-        → v ≡ value_at (shortened i t) (drop n (drop i t.prefix)) → w ≡ value_at (shortened j u) (drop n (drop j u.prefix))
-        → f ≡ children_at (shortened i t) (drop n (drop i t.prefix)) → g ≡ children_at (shortened j u) (drop n (drop j u.prefix))
-        → R v (l.at w) value → IsLessenedUnder cmp l R w f g kids → AreChildren cmp kids → R None l.none None
-        → (out : Option (Tree K V)) → out ≡ solid_child (take n (drop i t.prefix)) value kids
-        → IsBothMadeBy cmp l R (shortened i t) (shortened j u) out
-    at-front v f value kids ev ew ef eg root below c none out e =
-        let p = drop i t.prefix in
-        let q = drop j u.prefix in
-        subst (λ z. IsBothMadeBy cmp l R (shortened i t) (shortened j u) z) (sym e) (record {
-          child = joined-child cmp (take n p) value kids c;
-          begins = λ y z a b r. front-begins s.total n p q value kids y z a b r s.parts;
-          binds =
-              trees-combined cmp s.total l R none (shortened i t) (shortened j u) (take n p) (drop n p) (take n q) (drop n q)
-              value kids (sym (take-append-drop n p)) (sym (take-append-drop n q)) s.agree.same c
-              (rw (ev, ew) at root) (rw (ef, eg, ew) at below);
-        })
+    module _ {O : Type 0} {l : Look cmp W O} {R : Option V → O → Option V → Type 0} {w : Option W} {g : Forest K W} where
+      -- the node of what is left of both
+      at-front : (v : Option V) (f : Forest K V) (value : Option V) (kids : Forest K V)
+          → v ≡ value_at (shortened i t) (drop n (drop i t.prefix)) → w ≡ value_at (shortened j u) (drop n (drop j u.prefix))
+          → f ≡ children_at (shortened i t) (drop n (drop i t.prefix)) → g ≡ children_at (shortened j u) (drop n (drop j u.prefix))
+          → R v (l.at w) value → IsLessenedUnder cmp l R w f g kids → AreChildren cmp kids → R None l.none None
+          → (out : Option (Tree K V)) → out ≡ solid_child (take n (drop i t.prefix)) value kids
+          → IsBothMadeBy cmp l R (shortened i t) (shortened j u) out
+      at-front v f value kids ev ew ef eg root below c none out e =
+          let p = drop i t.prefix in
+          let q = drop j u.prefix in
+          subst (λ z. IsBothMadeBy cmp l R (shortened i t) (shortened j u) z) (sym e) (record {
+            child = joined-child cmp (take n p) value kids c;
+            begins = λ y z a b r. front-begins s.total n p q value kids y z a b r s.parts;
+            binds =
+                trees-combined cmp s.total l R none (shortened i t) (shortened j u) (take n p) (drop n p) (take n q) (drop n q)
+                value kids (sym (take-append-drop n p)) (sym (take-append-drop n q)) s.agree.same c
+                (rw (ev, ew) at root) (rw (ef, eg, ew) at below);
+          })
 
-    -- where the left prefix has ended
-    pub node-lessened : {stays : Bool} {new : Tree K V} → IsNodeLeft cmp l R i t w g stays new → R None l.none None → length t.prefix ≤ i + n
-        → w ≡ value_at (shortened j u) (drop n (drop j u.prefix)) → g ≡ children_at (shortened j u) (drop n (drop j u.prefix))
-        → IsLessened cmp l R i t (shortened j u) stays new
-    node-lessened {stays} {new} h none long ew eg =
-        let k = length-drop i t.prefix in
-        let whole : take n (drop i t.prefix) ≡ drop i t.prefix = take_all n (drop i t.prefix) (omega (arith, k, long)) in
-        record {
-          made =
-              at-front t.value t.children h.value h.kids (ended-value i n t long) ew (ended-children i n t long) eg h.said h.below
-              h.children none (left_of stays i new) (h.is ∙ ap (λ p. solid_child p h.value h.kids) (sym whole));
-          front = h.front;
-        }
+      -- where the left prefix has ended
+      pub node-lessened : {stays : Bool} {new : Tree K V} → IsNodeLeft cmp l R i t w g stays new → R None l.none None
+          → length t.prefix ≤ i + n
+          → w ≡ value_at (shortened j u) (drop n (drop j u.prefix)) → g ≡ children_at (shortened j u) (drop n (drop j u.prefix))
+          → IsLessened cmp l R i t (shortened j u) stays new
+      node-lessened {stays} {new} h none long ew eg =
+          let k = length-drop i t.prefix in
+          let whole : take n (drop i t.prefix) ≡ drop i t.prefix = take_all n (drop i t.prefix) (omega (arith, k, long)) in
+          record {
+            made =
+                at-front t.value t.children h.value h.kids (ended-value i n t long) ew (ended-children i n t long) eg h.said h.below
+                h.children none (left_of stays i new) (h.is ∙ ap (λ p. solid_child p h.value h.kids) (sym whole));
+            front = h.front;
+          }
 
-    -- where it goes on
-    pub inside-lessened : {stays : Bool} {new : Tree K V} → IsInside cmp l R (i + n) t w g stays new → R None l.none None → i + n < length t.prefix
-        → w ≡ value_at (shortened j u) (drop n (drop j u.prefix)) → g ≡ children_at (shortened j u) (drop n (drop j u.prefix))
-        → IsLessened cmp l R i t (shortened j u) stays new
-    inside-lessened {stays} {new} h none within ew eg = record {
-      made =
-          at-front None (alone (i + n) t) None (cond stays (alone (i + n) new) bare) (inner-value i n t within) ew
-          (inner-children i n t within) eg h.said h.below h.children none (left_of stays i new)
-          (inside-is i n t new stays h.front);
-      front = shorter-front i n t new stays h.front;
-    }
+      -- where it goes on
+      pub inside-lessened : {stays : Bool} {new : Tree K V} → IsInside cmp l R (i + n) t w g stays new → R None l.none None
+          → i + n < length t.prefix
+          → w ≡ value_at (shortened j u) (drop n (drop j u.prefix)) → g ≡ children_at (shortened j u) (drop n (drop j u.prefix))
+          → IsLessened cmp l R i t (shortened j u) stays new
+      inside-lessened {stays} {new} h none within ew eg = record {
+        made =
+            at-front None (alone (i + n) t) None (cond stays (alone (i + n) new) bare) (inner-value i n t within) ew
+            (inner-children i n t within) eg h.said h.below h.children none (left_of stays i new)
+            (inside-is i n t new stays h.front);
+        front = shorter-front i n t new stays h.front;
+      }
 
 -- ---- two trees that go on with components of their own
 

@@ -17,36 +17,36 @@ all-one : {X : Type 0} (P : X → Type 0) (xs : List X) (x : X) → AllByRecursi
 all-one P [] x a p = (p, tt)
 all-one P (y ∷ ys) x a p = (a.0, all-one P ys x a.1 p)
 
-module _ {K V T : Type 0} (cmp : K → K → Ordering) (tree : T → Tree K V) (n : ℕ) (x : K) where
-  pub passed-none : (xs : List T) → IsPassed cmp tree n x xs xs
-  passed-none xs = record { passed = []; is = refl; lower = tt }
+module _ {K V T : Type 0} {cmp : K → K → Ordering} {tree : T → Tree K V} {n : ℕ} {x : K} where
+  pub passed-none : {xs : List T} → IsPassed cmp tree n x xs xs
+  passed-none = record { passed = []; is = refl; lower = tt }
 
-  pub passed-one : (old rest others : List T) (t : T) → IsPassed cmp tree n x old rest → rest ≡ t ∷ others
+  pub passed-one : {old rest others : List T} {t : T} → IsPassed cmp tree n x old rest → rest ≡ t ∷ others
       → side_at cmp tree n x t ≡ Less → IsPassed cmp tree n x old others
-  passed-one old rest others t p e s = record {
+  passed-one {others = others} {t} p e s = record {
     passed = p.passed ++ t ∷ [];
     is = p.is ∙ ap (λ l. p.passed ++ l) e ∙ append-one p.passed t others;
     lower = all-one (λ t. side_at cmp tree n x t ≡ Less) p.passed t p.lower s;
   }
 
-  pub found-here : (old rest others : List T) (t : T) → IsPassed cmp tree n x old rest → rest ≡ t ∷ others
+  pub found-here : {old rest others : List T} {t : T} → IsPassed cmp tree n x old rest → rest ≡ t ∷ others
       → side_at cmp tree n x t ≡ Equal → IsSought cmp tree n x old (Some t) others
-  found-here old rest others t p e s = record {
+  found-here p e s = record {
     passes = record { passed = p.passed; is = p.is ∙ ap (λ l. p.passed ++ l) e; lower = p.lower };
     stops = s;
   }
 
-  pub stopped-here : (old rest others : List T) (t : T) → IsPassed cmp tree n x old rest → rest ≡ t ∷ others
+  pub stopped-here : {old rest others : List T} {t : T} → IsPassed cmp tree n x old rest → rest ≡ t ∷ others
       → side_at cmp tree n x t ≡ Greater → IsSought cmp tree n x old None rest
-  stopped-here old rest others t p e s = record { passes = p; stops = rw e s }
+  stopped-here p e s = record { passes = p; stops = rw e s }
 
-  pub stopped-end : (old rest : List T) → IsPassed cmp tree n x old rest → length rest ≡ 0 → IsSought cmp tree n x old None rest
-  stopped-end old rest p e = record { passes = p; stops = rw (nil-by rest e) tt }
+  pub stopped-end : {old rest : List T} → IsPassed cmp tree n x old rest → length rest ≡ 0 → IsSought cmp tree n x old None rest
+  stopped-end {rest = rest} p e = record { passes = p; stops = rw (nil-by rest e) tt }
 
   -- one tree more was passed before
-  pub passed-whole : (t : T) (old : List T) (found : Option T) (new : List T) → side_at cmp tree n x t ≡ Less
+  pub passed-whole : {t : T} {old : List T} {found : Option T} {new : List T} → side_at cmp tree n x t ≡ Less
       → IsSought cmp tree n x old found new → IsSought cmp tree n x (t ∷ old) found new
-  passed-whole t old found new s h = record {
+  passed-whole {t} s h = record {
     passes = record {
       passed = t ∷ h.passes.passed;
       is = ap (λ l. t ∷ l) h.passes.is;

@@ -21,45 +21,54 @@ loop-side-init g t c =
 
 pub next-requires : goal.next-requires
 next-requires g t c =
-    let z : c.loop-side.todo.now ≡ Left ∷ c.in-Some.others.now = first-side c.in-Some.ensures.cases.0 (search rules) in
+    let z : c.loop-side.todo.now ≡ Left ∷ c.in-Some.others.now =
+    first-side c.in-Some.ensures.cases.0 (search rules) in
     left-there c.loop-side.invariant.doing z
 
 pub left_alone-requires-clause-within : goal.left_alone-requires-clause-within
 left_alone-requires-clause-within g t c =
-    let b = c.in_ok-front.ensures.begun in left_within c.loop-side.invariant.doing (left-children b.faced b.left_canonical) c.next.ensures.first
+    let b = c.in_ok-front.ensures.begun in
+    left_within c.loop-side.invariant.doing (left-children b.faced b.left_canonical) c.next.ensures.first
 
 pub left_alone-requires-clause-asks : goal.left_alone-requires-clause-asks
 left_alone-requires-clause-asks g t c =
-    let z : c.loop-side.todo.now ≡ Left ∷ c.in-Some.others.now = first-side c.in-Some.ensures.cases.0 (search rules) in
+    let z : c.loop-side.todo.now ≡ Left ∷ c.in-Some.others.now =
+    first-side c.in-Some.ensures.cases.0 (search rules) in
     left-asked c.loop-side.invariant.doing z c.next.ensures.first
 
 pub next-requires-in-Right : goal.next-requires-in-Right
 next-requires-in-Right g t c =
-    let z : c.loop-side.todo.now ≡ Right ∷ c.in-Some.others.now = first-side c.in-Some.ensures.cases.0 (search rules) in
+    let z : c.loop-side.todo.now ≡ Right ∷ c.in-Some.others.now =
+    first-side c.in-Some.ensures.cases.0 (search rules) in
     right-there c.loop-side.invariant.doing z
 
 pub right_alone-requires-clause-within : goal.right_alone-requires-clause-within
 right_alone-requires-clause-within g t c =
-    let b = c.in_ok-front.ensures.begun in right_within c.loop-side.invariant.doing (right-children b.faced b.right_canonical) c.next-in-Right.ensures.first
+    let b = c.in_ok-front.ensures.begun in
+    right_within c.loop-side.invariant.doing (right-children b.faced b.right_canonical) c.next-in-Right.ensures.first
 
 pub right_alone-requires-clause-asks : goal.right_alone-requires-clause-asks
 right_alone-requires-clause-asks g t c =
-    let z : c.loop-side.todo.now ≡ Right ∷ c.in-Some.others.now = first-side c.in-Some.ensures.cases.0 (search rules) in
+    let z : c.loop-side.todo.now ≡ Right ∷ c.in-Some.others.now =
+    first-side c.in-Some.ensures.cases.0 (search rules) in
     right-asked c.loop-side.invariant.doing z c.next-in-Right.ensures.first
 
 pub next-x-requires : goal.next-x-requires
 next-x-requires g t c =
-    let z : c.loop-side.todo.now ≡ Both ∷ c.in-Some.others.now = first-side c.in-Some.ensures.cases.0 (search rules) in
+    let z : c.loop-side.todo.now ≡ Both ∷ c.in-Some.others.now =
+    first-side c.in-Some.ensures.cases.0 (search rules) in
     (both-there c.loop-side.invariant.doing z).0
 
 pub next-y-requires : goal.next-y-requires
 next-y-requires g t c =
-    let z : c.loop-side.todo.now ≡ Both ∷ c.in-Some.others.now = first-side c.in-Some.ensures.cases.0 (search rules) in
+    let z : c.loop-side.todo.now ≡ Both ∷ c.in-Some.others.now =
+    first-side c.in-Some.ensures.cases.0 (search rules) in
     (both-there c.loop-side.invariant.doing z).1
 
 pub combine_at-requires : goal.combine_at-requires
 combine_at-requires g t c κs within =
-    let z : c.loop-side.todo.now ≡ Both ∷ c.in-Some.others.now = first-side c.in-Some.ensures.cases.0 (search rules) in
+    let z : c.loop-side.todo.now ≡ Both ∷ c.in-Some.others.now =
+    first-side c.in-Some.ensures.cases.0 (search rules) in
     let b = c.in_ok-front.ensures.begun in
     let d = c.loop-side.invariant.doing in
     let x = c.next-x.ensures.first in
@@ -75,33 +84,44 @@ combine_at-requires g t c κs within =
 
 pub returns-in_err-kid-in-Both-clause-counted : goal.returns-in_err-kid-in-Both-clause-counted
 returns-in_err-kid-in-Both-clause-counted g t c =
-    let z : c.loop-side.todo.now ≡ Both ∷ c.in-Some.others.now = first-side c.in-Some.ensures.cases.0 (search rules) in
-    let paid = both-paid c.loop-side.invariant.doing z c.next-x.ensures.first c.next-y.ensures.first _ c.combine_at.ensures.counted in
+    let z : c.loop-side.todo.now ≡ Both ∷ c.in-Some.others.now =
+    first-side c.in-Some.ensures.cases.0 (search rules) in
+    let paid = both-paid c.loop-side.invariant.doing z c.next-x.ensures.first c.next-y.ensures.first _
+    c.combine_at.ensures.counted in
     omega (arith, paid)
 
 pub returns-in_err-keep-in-Both-clause-counted : goal.returns-in_err-keep-in-Both-clause-counted
 returns-in_err-keep-in-Both-clause-counted g t c =
-    let z : c.loop-side.todo.now ≡ Both ∷ c.in-Some.others.now = first-side c.in-Some.ensures.cases.0 (search rules) in
-    let paid = both-paid c.loop-side.invariant.doing z c.next-x.ensures.first c.next-y.ensures.first _ c.combine_at.ensures.counted in
+    let z : c.loop-side.todo.now ≡ Both ∷ c.in-Some.others.now =
+    first-side c.in-Some.ensures.cases.0 (search rules) in
+    let paid = both-paid c.loop-side.invariant.doing z c.next-x.ensures.first c.next-y.ensures.first _
+    c.combine_at.ensures.counted in
     omega (arith, paid)
 
 pub loop-side-preserved-in_ok-keep-in-Left : goal.loop-side-preserved-in_ok-keep-in-Left
 loop-side-preserved-in_ok-keep-in-Left g t c =
-    let z : c.loop-side.todo.now ≡ Left ∷ c.in-Some.others.now = first-side c.in-Some.ensures.cases.0 (search rules) in
+    let z : c.loop-side.todo.now ≡ Left ∷ c.in-Some.others.now =
+    first-side c.in-Some.ensures.cases.0 (search rules) in
     record {
-      doing = doing-left c.loop-side.invariant.doing c.in_ok-keep-in-Left.ensures z c.next.ensures.first c.in_ok-kid-in-Left.ensures;
+      doing =
+          doing-left c.loop-side.invariant.doing c.in_ok-keep-in-Left.ensures z c.next.ensures.first
+          c.in_ok-kid-in-Left.ensures;
     }
 
 pub loop-side-preserved-in_ok-keep-in-Right : goal.loop-side-preserved-in_ok-keep-in-Right
 loop-side-preserved-in_ok-keep-in-Right g t c =
-    let z : c.loop-side.todo.now ≡ Right ∷ c.in-Some.others.now = first-side c.in-Some.ensures.cases.0 (search rules) in
+    let z : c.loop-side.todo.now ≡ Right ∷ c.in-Some.others.now =
+    first-side c.in-Some.ensures.cases.0 (search rules) in
     record {
-      doing = doing-right c.loop-side.invariant.doing c.in_ok-keep-in-Right.ensures z c.next-in-Right.ensures.first c.in_ok-kid-in-Right.ensures;
+      doing =
+          doing-right c.loop-side.invariant.doing c.in_ok-keep-in-Right.ensures z c.next-in-Right.ensures.first
+          c.in_ok-kid-in-Right.ensures;
     }
 
 pub loop-side-preserved : goal.loop-side-preserved
 loop-side-preserved g t c =
-    let z : c.loop-side.todo.now ≡ Both ∷ c.in-Some.others.now = first-side c.in-Some.ensures.cases.0 (search rules) in
+    let z : c.loop-side.todo.now ≡ Both ∷ c.in-Some.others.now =
+    first-side c.in-Some.ensures.cases.0 (search rules) in
     record {
       doing =
           doing-both c.loop-side.invariant.doing c.in_ok-keep-in-Both.ensures z c.next-x.ensures.first c.next-y.ensures.first
@@ -110,7 +130,8 @@ loop-side-preserved g t c =
 
 pub end-requires-clause-asks : goal.end-requires-clause-asks
 end-requires-clause-asks g t c =
-    values-asked c.in_ok-front.ensures.begun.faced g.met.K.Ord.total (values g.K.Ord.cmp) (g.O.Combine.asks c.args.op.now) c.requires.asks
+    values-asked c.in_ok-front.ensures.begun.faced g.met.K.Ord.total (values g.K.Ord.cmp) (g.O.Combine.asks c.args.op.now)
+    c.requires.asks
 
 pub end-requires-clause-children : goal.end-requires-clause-children
 end-requires-clause-children g t c =

@@ -104,7 +104,7 @@ keys_meet_below-loop-x-preserved g t c =
       left_nodes = omega (arith, left, lefts);
       right_nodes = omega (arith, right, rights);
       tells = λ answer h. c.loop-x.invariant.tells answer
-          (meeting-told _ _ _ _ _ _ _ _ _ _ c.in-Meeting.ensures c.if-not-keys_meet.ensures answer h);
+          (meeting-told c.in-Meeting.ensures c.if-not-keys_meet.ensures answer h);
     }
 
 pub keys_meet_behind-returns-then-values_meet : goal.keys_meet_behind-returns-then-values_meet

@@ -11,8 +11,10 @@ use Rattle.vc_tree_facing.proofs.Advancing.{next-within, next-fewer, alone-asked
 use Rattle.vc_tree_facing.proofs.Advancing.{meets-all, each-fewer, goes-alone, goes-both, inside-alone, inside-both}
 use Rattle.vc_tree_facing.proofs.Apart.{apart-asked, apart-lessened}
 use Rattle.vc_tree_facing.proofs.Deciding.{list-begun, list-done}
-use Rattle.vc_tree_facing.proofs.Leaving.{if-ok, node-lessened, inside-lessened, value-may, below-may, node-kids, node-smaller, inner-list}
-use Rattle.vc_tree_facing.proofs.Leaving.{ended-value, ended-children, inner-value, inner-children, below-children_at, below-fewer}
+use Rattle.vc_tree_facing.proofs.Leaving.{if-ok, node-lessened, inside-lessened, value-may, below-may, node-kids, node-smaller}
+use Rattle.vc_tree_facing.proofs.Leaving.{inner-list}
+use Rattle.vc_tree_facing.proofs.Leaving.{ended-value, ended-children, inner-value, inner-children, below-children_at}
+use Rattle.vc_tree_facing.proofs.Leaving.{below-fewer}
 use Rattle.vc_tree_facing.proofs.Next.{nil-by}
 use Rattle.vc_tree_combines.proofs.Narrowed.{value-alone, below-alone, node-alone, both-whole, alone-whole, made-node}
 use Rattle.vc_tree_combines.proofs.narrowing.+narrowing.Goals.{narrow_kids-in-Some-seek_alike+in_ok-kid-in-Some-seek_alike}
@@ -43,9 +45,11 @@ narrow_at-narrow_alone-requires g t c κs inside =
     let within : c.args.i + c.split-front.result < length (g.A.RadixNode.tree c.args.a.now).prefix =
     subst (λ p. c.args.i + c.split-front.result < length p) c.prefix-whole.ensures.value c.if-place-whole.true in
     let beyond : c.args.j + c.split-front.result < length (g.B.RadixNode.tree c.args.b.now).prefix =
-    subst (λ p. c.args.j + c.split-front.result < length p) c.prefix-other_whole.ensures.value c.if-other_place-other_whole.true in
-    let asked = apart-asked tree c.args.a.now g.B.RadixNode.tree c.args.b.now c.split-front.ensures within beyond (values g.K.Ord.cmp)
-    (g.O.Narrow.says c.args.op.now) (g.O.Narrow.asks c.args.op.now) (g.met.O.Narrow.says_nothing c.args.op.now) (g.met.O.Narrow.asks_none c.args.op.now) c.requires.asks in
+    subst (λ p. c.args.j + c.split-front.result < length p) c.prefix-other_whole.ensures.value
+    c.if-other_place-other_whole.true in
+    let asked = apart-asked tree c.args.a.now g.B.RadixNode.tree c.args.b.now c.split-front.ensures within beyond
+    (values g.K.Ord.cmp) (g.O.Narrow.says c.args.op.now) (g.O.Narrow.asks c.args.op.now)
+    (g.met.O.Narrow.says_nothing c.args.op.now) (g.met.O.Narrow.asks_none c.args.op.now) c.requires.asks in
     search rules
 
 pub narrow_at-returns-then-other_place-other_whole : goal.narrow_at-returns-then-other_place-other_whole
@@ -54,10 +58,12 @@ narrow_at-returns-then-other_place-other_whole g t c =
     let within : c.args.i + c.split-front.result < length (g.A.RadixNode.tree c.args.a.now).prefix =
     subst (λ p. c.args.i + c.split-front.result < length p) c.prefix-whole.ensures.value c.if-place-whole.true in
     let beyond : c.args.j + c.split-front.result < length (g.B.RadixNode.tree c.args.b.now).prefix =
-    subst (λ p. c.args.j + c.split-front.result < length p) c.prefix-other_whole.ensures.value c.if-other_place-other_whole.true in
+    subst (λ p. c.args.j + c.split-front.result < length p) c.prefix-other_whole.ensures.value
+    c.if-other_place-other_whole.true in
     if-ok c.narrow_alone.result
-    (λ made h. apart-lessened tree c.args.a.now g.B.RadixNode.tree c.args.b.now c.split-front.ensures within beyond (values g.K.Ord.cmp)
-    (g.O.Narrow.says c.args.op.now) (g.O.Narrow.asks c.args.op.now) (g.met.O.Narrow.says_nothing c.args.op.now) (g.met.O.Narrow.asks_none c.args.op.now) c.requires.asks h.front h.made)
+    (λ made h. apart-lessened tree c.args.a.now g.B.RadixNode.tree c.args.b.now c.split-front.ensures within beyond
+    (values g.K.Ord.cmp) (g.O.Narrow.says c.args.op.now) (g.O.Narrow.asks c.args.op.now)
+    (g.met.O.Narrow.says_nothing c.args.op.now) (g.met.O.Narrow.asks_none c.args.op.now) c.requires.asks h.front h.made)
     c.narrow_alone.ensures
 
 pub narrow_at-narrow_inside-requires : goal.narrow_at-narrow_inside-requires
@@ -67,7 +73,8 @@ narrow_at-narrow_inside-requires g t c κs inside =
     let within : c.args.i + c.split-front.result < length (g.A.RadixNode.tree c.args.a.now).prefix =
     subst (λ p. c.args.i + c.split-front.result < length p) c.prefix-whole.ensures.value c.if-place-whole.true in
     let ended : length (g.B.RadixNode.tree c.args.b.now).prefix ≤ c.args.j + c.split-front.result =
-    subst (λ p. length p ≤ c.args.j + c.split-front.result) c.prefix-other_whole.ensures.value c.if-other_place-other_whole.false in
+    subst (λ p. length p ≤ c.args.j + c.split-front.result) c.prefix-other_whole.ensures.value
+    c.if-other_place-other_whole.false in
     let below = below-may c.split-front.ensures (values g.K.Ord.cmp) (g.O.Narrow.asks c.args.op.now) c.requires.asks
     (inner-children c.args.i c.split-front.result tree within) (ended-value c.args.j c.split-front.result that ended)
     (ended-children c.args.j c.split-front.result that ended) in
@@ -79,7 +86,8 @@ narrow_at-returns-then-place-whole g t c =
     let within : c.args.i + c.split-front.result < length (g.A.RadixNode.tree c.args.a.now).prefix =
     subst (λ p. c.args.i + c.split-front.result < length p) c.prefix-whole.ensures.value c.if-place-whole.true in
     let ended : length (g.B.RadixNode.tree c.args.b.now).prefix ≤ c.args.j + c.split-front.result =
-    subst (λ p. length p ≤ c.args.j + c.split-front.result) c.prefix-other_whole.ensures.value c.if-other_place-other_whole.false in
+    subst (λ p. length p ≤ c.args.j + c.split-front.result) c.prefix-other_whole.ensures.value
+    c.if-other_place-other_whole.false in
     if-ok c.narrow_inside.result
     (λ made h. inside-lessened c.split-front.ensures (record {
       said = (g.met.O.Narrow.says_nothing c.args.op.now) _;
@@ -202,7 +210,8 @@ narrow_alone-narrow_node-requires g t c κs inside =
 pub narrow_alone-returns-in-Asked : goal.narrow_alone-returns-in-Asked
 narrow_alone-returns-in-Asked g t c =
     if-ok c.narrow_node.result
-    (λ made h. node-alone g.K.Ord.cmp g.met.K.Ord.total c.args.from _ (g.O.Narrow.says c.args.op.now) _ ((g.met.O.Narrow.says_nothing c.args.op.now) None)
+    (λ made h. node-alone g.K.Ord.cmp g.met.K.Ord.total c.args.from _ (g.O.Narrow.says c.args.op.now) _
+    ((g.met.O.Narrow.says_nothing c.args.op.now) None)
     (rw c.none-right.ensures at h)) c.narrow_node.ensures
 
 -- ---- the children
@@ -212,7 +221,8 @@ narrow_kids-loop-child-init g t c = record {
   from = refl;
   going =
       rw (ap (map g.O.Made.RadixNode.tree) c.in_ok-kids.ensures.items)
-      (list-begun g.met.K.Ord.total (g.met.O.Narrow.says_nothing c.args.op.now) (g.met.O.Narrow.asks_none c.args.op.now) c.requires.left c.requires.right c.requires.asks);
+      (list-begun g.met.K.Ord.total (g.met.O.Narrow.says_nothing c.args.op.now) (g.met.O.Narrow.asks_none c.args.op.now)
+      c.requires.left c.requires.right c.requires.asks);
 }
 
 pub narrow_kids-seek_alike-requires : goal.narrow_kids-seek_alike-requires

@@ -19,38 +19,46 @@ loop-side-init g t c = record {
 
 pub stay-requires-clause-there : goal.stay-requires-clause-there
 stay-requires-clause-there g t c =
-    let z : c.loop-side.todo.now ≡ Left ∷ c.in-Some.others.now = first-side c.in-Some.ensures.cases.0 (search rules) in
+    let z : c.loop-side.todo.now ≡ Left ∷ c.in-Some.others.now =
+    first-side c.in-Some.ensures.cases.0 (search rules) in
     left-there c.loop-side.invariant.doing.1 z
 
 pub stay-requires-clause-long : goal.stay-requires-clause-long
 stay-requires-clause-long g t c =
-    let z : c.loop-side.todo.now ≡ Left ∷ c.in-Some.others.now = first-side c.in-Some.ensures.cases.0 (search rules) in
-    first-long g.T.RadixNode.tree _ _ (left-there c.loop-side.invariant.doing.1 z) (λ x rest e. left_within c.loop-side.invariant.doing.1 c.in_ok-prefix.ensures.left e)
+    let z : c.loop-side.todo.now ≡ Left ∷ c.in-Some.others.now =
+    first-side c.in-Some.ensures.cases.0 (search rules) in
+    first-long g.T.RadixNode.tree _ _ (left-there c.loop-side.invariant.doing.1 z)
+    (λ x rest e. left_within c.loop-side.invariant.doing.1 c.in_ok-prefix.ensures.left e)
 
 pub come-requires-clause-long : goal.come-requires-clause-long
 come-requires-clause-long g t c =
-    let z : c.loop-side.todo.now ≡ Right ∷ c.in-Some.others.now = first-side c.in-Some.ensures.cases.0 (search rules) in
+    let z : c.loop-side.todo.now ≡ Right ∷ c.in-Some.others.now =
+    first-side c.in-Some.ensures.cases.0 (search rules) in
     rw c.loop-side.invariant.right_from (first-long g.B.RadixNode.tree _ _ (right-there c.loop-side.invariant.doing.1 z)
     (λ y rest e. right_within c.loop-side.invariant.doing.1 c.in_ok-prefix.ensures.right e))
 
 pub come-requires-clause-room : goal.come-requires-clause-room
 come-requires-clause-room g t c =
-    let z : c.loop-side.todo.now ≡ Right ∷ c.in-Some.others.now = first-side c.in-Some.ensures.cases.0 (search rules) in
+    let z : c.loop-side.todo.now ≡ Right ∷ c.in-Some.others.now =
+    first-side c.in-Some.ensures.cases.0 (search rules) in
     room-there z c.loop-side.invariant.room
 
 pub next-x-requires-clause-left : goal.next-x-requires-clause-left
 next-x-requires-clause-left g t c =
-    let z : c.loop-side.todo.now ≡ Both ∷ c.in-Some.others.now = first-side c.in-Some.ensures.cases.0 (search rules) in
+    let z : c.loop-side.todo.now ≡ Both ∷ c.in-Some.others.now =
+    first-side c.in-Some.ensures.cases.0 (search rules) in
     (both-there c.loop-side.invariant.doing.1 z).0
 
 pub next-x-requires-clause-right : goal.next-x-requires-clause-right
 next-x-requires-clause-right g t c =
-    let z : c.loop-side.todo.now ≡ Both ∷ c.in-Some.others.now = first-side c.in-Some.ensures.cases.0 (search rules) in
+    let z : c.loop-side.todo.now ≡ Both ∷ c.in-Some.others.now =
+    first-side c.in-Some.ensures.cases.0 (search rules) in
     (both-there c.loop-side.invariant.doing.1 z).1
 
 pub change_at-requires : goal.change_at-requires
 change_at-requires g t c κs within =
-    let z : c.loop-side.todo.now ≡ Both ∷ c.in-Some.others.now = first-side c.in-Some.ensures.cases.0 (search rules) in
+    let z : c.loop-side.todo.now ≡ Both ∷ c.in-Some.others.now =
+    first-side c.in-Some.ensures.cases.0 (search rules) in
     let d = c.loop-side.invariant.doing.1 in
     let x = c.next-x.ensures.left.rest in
     let y = c.next-x.ensures.right in
@@ -67,7 +75,8 @@ change_at-requires g t c κs within =
 
 pub loop-side-preserved-in_ok-stay-in-Left : goal.loop-side-preserved-in_ok-stay-in-Left
 loop-side-preserved-in_ok-stay-in-Left g t c =
-    let z : c.loop-side.todo.now ≡ Left ∷ c.in-Some.others.now = first-side c.in-Some.ensures.cases.0 (search rules) in
+    let z : c.loop-side.todo.now ≡ Left ∷ c.in-Some.others.now =
+    first-side c.in-Some.ensures.cases.0 (search rules) in
     let stayed = c.in_ok-stay-in-Left.ensures in
     record {
       doing = after-left c.loop-side.invariant.doing stayed z;
@@ -79,7 +88,8 @@ loop-side-preserved-in_ok-stay-in-Left g t c =
 
 pub loop-side-preserved-in_ok-come-in-Right : goal.loop-side-preserved-in_ok-come-in-Right
 loop-side-preserved-in_ok-come-in-Right g t c =
-    let z : c.loop-side.todo.now ≡ Right ∷ c.in-Some.others.now = first-side c.in-Some.ensures.cases.0 (search rules) in
+    let z : c.loop-side.todo.now ≡ Right ∷ c.in-Some.others.now =
+    first-side c.in-Some.ensures.cases.0 (search rules) in
     let come = c.in_ok-come-in-Right.ensures in
     record {
       doing = after-right c.loop-side.invariant.doing (rw c.loop-side.invariant.right_from at come.come) z;
@@ -91,7 +101,8 @@ loop-side-preserved-in_ok-come-in-Right g t c =
 
 pub loop-side-preserved : goal.loop-side-preserved
 loop-side-preserved g t c =
-    let z : c.loop-side.todo.now ≡ Both ∷ c.in-Some.others.now = first-side c.in-Some.ensures.cases.0 (search rules) in
+    let z : c.loop-side.todo.now ≡ Both ∷ c.in-Some.others.now =
+    first-side c.in-Some.ensures.cases.0 (search rules) in
     let from = c.next-x.ensures.from ∙ c.loop-side.invariant.right_from in
     record {
       doing =
@@ -105,7 +116,8 @@ loop-side-preserved g t c =
 
 pub close-requires-clause-children : goal.close-requires-clause-children
 close-requires-clause-children g t c =
-    finished-children c.in_ok-prefix.ensures g.met.K.Ord.total (g.met.O.Change.says_none c.in_ok-prefix.field-0.below) c.loop-side.row
+    finished-children c.in_ok-prefix.ensures g.met.K.Ord.total (g.met.O.Change.says_none c.in_ok-prefix.field-0.below)
+    c.loop-side.row
     c.loop-side.invariant.doing (nil-by _ c.in_default.ensures.cases)
 
 pub returns : goal.returns

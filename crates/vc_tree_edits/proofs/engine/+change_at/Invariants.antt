@@ -1,4 +1,5 @@
--- The events up to now are done, and there is room for a tree at each of the others that comes in; each call goes down to fewer nodes.
+-- The events up to now are done, and there is room for a tree at each of the others that comes in; each call goes down to
+-- fewer nodes.
 use Rattle.std.proofs.Common.{◌≡◌, ◌≤◌, ℕ, ◌+◌, map, length}
 use Rattle.vc_tree_model.specs.Tree.{nodes}
 use Rattle.vc_tree_facing.specs.Facing.{trees_below}

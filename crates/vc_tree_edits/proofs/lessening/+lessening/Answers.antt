@@ -10,13 +10,17 @@ use Rattle.vc_tree_model.specs.Tree.{forest_nodes, nodes}
 use Rattle.vc_tree_model.proofs.AlikeLemmas.{alike-children, alike-lookup, alike-nodes}
 use Rattle.vc_tree_nodes.specs.Children.{listed, seen}
 use Rattle.vc_tree_facing.specs.Facing.{trees_below, shortened_in}
-use Rattle.vc_tree_facing.proofs.Advancing.{next-within, next-fewer, meets-asked, meets-agree, meets-within, meets-all, each-fewer}
+use Rattle.vc_tree_facing.proofs.Advancing.{next-within, next-fewer, meets-asked, meets-agree, meets-within, meets-all}
+use Rattle.vc_tree_facing.proofs.Advancing.{each-fewer}
 use Rattle.vc_tree_facing.proofs.Advancing.{inside-alone, inside-both}
 use Rattle.vc_tree_facing.proofs.Apart.{apart-lessened}
 use Rattle.vc_tree_facing.proofs.Deciding.{list-begun, list-done}
-use Rattle.vc_tree_facing.proofs.Leaving.{if-ok, node-lessened, inside-lessened, value-may, below-may, node-kids, node-smaller, inner-list}
-use Rattle.vc_tree_facing.proofs.Leaving.{ended-value, ended-children, inner-value, inner-children, below-children_at, below-fewer}
-use Rattle.vc_tree_edits.proofs.Placed.{same-place, same-at, set-at, IsStepped, next-here, stepped-alone, stepped-both, after-kept}
+use Rattle.vc_tree_facing.proofs.Leaving.{if-ok, node-lessened, inside-lessened, value-may, below-may, node-kids, node-smaller}
+use Rattle.vc_tree_facing.proofs.Leaving.{inner-list}
+use Rattle.vc_tree_facing.proofs.Leaving.{ended-value, ended-children, inner-value, inner-children, below-children_at}
+use Rattle.vc_tree_facing.proofs.Leaving.{below-fewer}
+use Rattle.vc_tree_edits.proofs.Placed.{same-place, same-at, set-at, IsStepped, next-here, stepped-alone, stepped-both}
+use Rattle.vc_tree_edits.proofs.Placed.{after-kept}
 use Rattle.vc_tree_edits.proofs.Placed.{after-gone, alone-made, none-left, only-popped, first-long, same-many, whole-back}
 use Rattle.vc_tree_edits.proofs.lessening.+lessening.Goals.{lessen_in-in-Some+in_ok-stays-in-Some, lessen_in-in-None}
 use Rattle.vc_tree_edits.proofs.lessening.+lessening.Goals.{lessen_in-then-stays, lessen_in-else-stays}
@@ -49,8 +53,10 @@ lessen_at-returns-then-other_place-other_whole g t c =
     let within : c.args.i + c.split-front.result < length (g.T.RadixNode.tree c.args.tree.now).prefix =
     subst (λ p. c.args.i + c.split-front.result < length p) c.prefix-whole.ensures.value c.if-place-whole.true in
     let beyond : c.args.j + c.split-front.result < length (g.B.RadixNode.tree c.args.that.now).prefix =
-    subst (λ p. c.args.j + c.split-front.result < length p) c.prefix-other_whole.ensures.value c.if-other_place-other_whole.true in
-    apart-lessened tree c.args.tree.now g.B.RadixNode.tree c.args.that.now c.split-front.ensures within beyond (g.O.Lessen.look g.K.Ord.cmp)
+    subst (λ p. c.args.j + c.split-front.result < length p) c.prefix-other_whole.ensures.value
+    c.if-other_place-other_whole.true in
+    apart-lessened tree c.args.tree.now g.B.RadixNode.tree c.args.that.now c.split-front.ensures within beyond
+    (g.O.Lessen.look g.K.Ord.cmp)
     (g.O.Lessen.says op) (g.O.Lessen.asks op) (g.met.O.Lessen.says_nothing op) (g.met.O.Lessen.asks_none op) c.requires.asks
     (λ s. refl) (alone-made g.K.Ord.cmp g.met.K.Ord.total g.T.Build.keeps g.met.T.Build.keeps_refl (g.O.Lessen.says op) _
     (tree c.args.tree.now) _ c.split-front.ensures.left within c.stays_alone.result c.stays_alone.ensures)
@@ -63,7 +69,8 @@ lessen_at-lessen_inside-requires g t c κs inside =
     let within : c.args.i + c.split-front.result < length (g.T.RadixNode.tree c.args.tree.now).prefix =
     subst (λ p. c.args.i + c.split-front.result < length p) c.prefix-whole.ensures.value c.if-place-whole.true in
     let ended : length (g.B.RadixNode.tree c.args.that.now).prefix ≤ c.args.j + c.split-front.result =
-    subst (λ p. length p ≤ c.args.j + c.split-front.result) c.prefix-other_whole.ensures.value c.if-other_place-other_whole.false in
+    subst (λ p. length p ≤ c.args.j + c.split-front.result) c.prefix-other_whole.ensures.value
+    c.if-other_place-other_whole.false in
     let w = ended-value c.args.j c.split-front.result that ended in
     let value = value-may s (g.O.Lessen.look g.K.Ord.cmp) (g.O.Lessen.asks c.args.op.now) c.requires.asks
     (inner-value c.args.i c.split-front.result tree within) w in
@@ -77,7 +84,8 @@ lessen_at-returns-then-place-whole g t c =
     let within : c.args.i + c.split-front.result < length (g.T.RadixNode.tree c.args.tree.now).prefix =
     subst (λ p. c.args.i + c.split-front.result < length p) c.prefix-whole.ensures.value c.if-place-whole.true in
     let ended : length (g.B.RadixNode.tree c.args.that.now).prefix ≤ c.args.j + c.split-front.result =
-    subst (λ p. length p ≤ c.args.j + c.split-front.result) c.prefix-other_whole.ensures.value c.if-other_place-other_whole.false in
+    subst (λ p. length p ≤ c.args.j + c.split-front.result) c.prefix-other_whole.ensures.value
+    c.if-other_place-other_whole.false in
     if-ok c.lessen_inside.result
     (λ stays h. inside-lessened c.split-front.ensures h (g.met.O.Lessen.says_nothing c.args.op.now _) within
     (ended-value c.args.j c.split-front.result that ended) (ended-children c.args.j c.split-front.result that ended))
@@ -253,7 +261,8 @@ lessen_in-loop-at-preserved g t c =
     let d = next-here c.loop-at.list.items c.loop-at.at c.loop-at.invariant.going at c.index.ensures in
     let from = c.seek_alike.ensures.from ∙ c.loop-at.invariant.from in
     let sought = rw c.loop-at.invariant.from at c.seek_alike.ensures.sought in
-    let s : IsStepped g.K.Ord.cmp tree g.B.RadixNode.tree c.args.right.from (g.O.Lessen.look g.K.Ord.cmp) (g.O.Lessen.says c.args.op.now)
+    let s : IsStepped g.K.Ord.cmp tree g.B.RadixNode.tree c.args.right.from (g.O.Lessen.look g.K.Ord.cmp)
+    (g.O.Lessen.says c.args.op.now)
     (g.O.Lessen.asks c.args.op.now) c.in_ok-list.list.now.items (trees_below c.args.right) c.loop-at.list.items c.loop-at.at
     c.loop-at.kept c.match-seek_alike.list.items c.match-seek_alike.stays (trees_below c.seek_alike.new.below) =
     elim c.match-seek_alike.branch [

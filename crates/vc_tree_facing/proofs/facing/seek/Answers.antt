@@ -7,7 +7,7 @@ use Rattle.vc_tree_facing.proofs.facing.seek.Goals as goal
 pub returns-clause-sought : goal.returns-clause-sought
 returns-clause-sought g c = elim c.match-below.branch [
   | in-Some+in-Less w ↦
-      rw (w.below-is, w.in-Some.is) (passed-whole g.K.Ord.cmp g.T.RadixNode.tree _ _ _ _ _ _
+      rw (w.below-is, w.in-Some.is) (passed-whole
       (sym w.side_of.ensures ∙ w.in-Less.is) (rw w.below-is at c.seek_in.ensures))
   | in_default w ↦ rw (w.below-is, w.in_default.is) (rw w.below-is at c.seek_in.ensures)
 ]
