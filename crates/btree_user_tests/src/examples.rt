@@ -1,10 +1,10 @@
 //! Worked examples of each join that builds a `BTreeMap`, with answers from outside and the
 //! questions counted.
 
+use crate::outcomes::holds;
 use std::alloc::{AllocError, Global};
 use std::cell::Cell;
 use std::collections::BTreeMap;
-use std::test::Fail;
 use vc_btree_maps::btree_map::AbstractBTreeMap;
 use vc_joins::question::OuterJoinArg;
 
@@ -125,7 +125,6 @@ fn examples_agree(alloc: Global) -> Result<bool, AllocError> {
 }
 
 #[test]
-fn joins_build_maps_as_worked_out(rt: HostRuntime) -> Result<(), Fail> {
-    assert!(rt; examples_agree(rt.alloc())?);
-    Ok(())
+fn joins_build_maps_as_worked_out(rt: HostRuntime) {
+    holds(&rt, &"the examples", examples_agree(rt.alloc()));
 }

@@ -2,9 +2,9 @@
 //! that were shown.
 
 use crate::examples::{Map, Marked, count, is_map, map_of};
+use crate::outcomes::holds;
 use std::alloc::{AllocError, Global};
 use std::cell::Cell;
-use std::test::Fail;
 use vc_btree_maps::btree_map::InPlaceRelationalOps;
 
 /// What the closures were asked.
@@ -177,17 +177,19 @@ fn is_left(alloc: Global, others: &[(u32, u32)]) -> Result<bool, AllocError> {
 }
 
 #[test]
-fn inner_and_left_joins_in_place(rt: HostRuntime) -> Result<(), Fail> {
-    assert!(rt; is_inner(rt.alloc(), &[(2, 5)])?);
-    assert!(rt; is_inner(rt.alloc(), &[(2, 5), (3, 7)])?);
-    assert!(rt; is_left(rt.alloc(), &[(2, 5), (3, 7)])?);
-    Ok(())
+fn inner_and_left_joins_in_place(rt: HostRuntime) {
+    holds(&rt, &"inner, of one", is_inner(rt.alloc(), &[(2, 5)]));
+    holds(
+        &rt,
+        &"inner, of two",
+        is_inner(rt.alloc(), &[(2, 5), (3, 7)]),
+    );
+    holds(&rt, &"left, of two", is_left(rt.alloc(), &[(2, 5), (3, 7)]));
 }
 
 #[test]
-fn joins_in_place_ask_in_ascending_order(rt: HostRuntime) -> Result<(), Fail> {
-    assert!(rt; are_asked_in_order(rt.alloc())?);
-    Ok(())
+fn joins_in_place_ask_in_ascending_order(rt: HostRuntime) {
+    holds(&rt, &"the order", are_asked_in_order(rt.alloc()));
 }
 
 /// Whether the right join, which keeps sums or drops them, leaves these pairs and asks as worked
@@ -200,10 +202,11 @@ fn is_right(alloc: Global, keeps: bool, pairs: &[(u32, char, u32)]) -> Result<bo
 }
 
 #[test]
-fn right_joins_in_place_insert_nothing(rt: HostRuntime) -> Result<(), Fail> {
-    assert!(rt; is_right(rt.alloc(), true, &[(1, 'a', 10), (2, 'a', 25)])?);
-    assert!(rt; is_right(rt.alloc(), false, &[(1, 'a', 10)])?);
-    Ok(())
+fn right_joins_in_place_insert_nothing(rt: HostRuntime) {
+    let sums = is_right(rt.alloc(), true, &[(1, 'a', 10), (2, 'a', 25)]);
+    holds(&rt, &"sums that are kept", sums);
+    let none = is_right(rt.alloc(), false, &[(1, 'a', 10)]);
+    holds(&rt, &"sums that go", none);
 }
 
 /// Whether the outer join with a map of these pairs, of which so many keys are its alone, makes
@@ -222,22 +225,11 @@ fn is_outer(
 }
 
 #[test]
-fn outer_joins_in_place_ask_for_new_pairs_first(rt: HostRuntime) -> Result<(), Fail> {
-    let two = is_outer(
-        rt.alloc(),
-        &[(2, 5), (3, 7)],
-        1,
-        321,
-        &[(2, 'a', 25), (3, 'b', 7)],
-    )?;
-    assert!(rt; two);
-    let three = is_outer(
-        rt.alloc(),
-        &[(4, 4), (2, 5), (3, 7)],
-        2,
-        3421,
-        &[(2, 'a', 25), (3, 'b', 7), (4, 'b', 4)],
-    )?;
-    assert!(rt; three);
-    Ok(())
+fn outer_joins_in_place_ask_for_new_pairs_first(rt: HostRuntime) {
+    let pairs = [(2, 'a', 25), (3, 'b', 7)];
+    let two = is_outer(rt.alloc(), &[(2, 5), (3, 7)], 1, 321, &pairs);
+    holds(&rt, &"two pairs", two);
+    let pairs = [(2, 'a', 25), (3, 'b', 7), (4, 'b', 4)];
+    let three = is_outer(rt.alloc(), &[(4, 4), (2, 5), (3, 7)], 2, 3421, &pairs);
+    holds(&rt, &"three pairs", three);
 }

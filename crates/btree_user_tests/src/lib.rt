@@ -7,4 +7,6 @@ mod examples;
 #[cfg(test)]
 mod in_place;
 #[cfg(test)]
+mod outcomes;
+#[cfg(test)]
 mod refused;
