@@ -38,7 +38,7 @@ fn collect<K: TKey + MadeWith<Global>, V: TValue, S: Spelled<K>, I: Iterator<Ite
 
 impl<K: TKey + MadeWith<Global>, V: TValue> RadixTree<K, V> {
     /// The tree of the pairs, which may come in any order. Of pairs with equal keys the last one
-    /// counts.
+    /// counts. As far as keys ascend the tree is built in one go, which takes less time.
     ///
     /// Fails where memory is refused. The pairs that came and the iterator are then dropped.
     pub fn from_iter<'a, I: Iterator<Item = (&'a [K], V)>>(
@@ -59,7 +59,8 @@ impl<K: TKey + MadeWith<Global>, V: TValue> RadixTree<K, V> {
     }
 
     /// The tree of the pairs, which may come in any order. Of pairs with equal keys the last one
-    /// counts. The keys are dropped.
+    /// counts. The keys are dropped. As far as they ascend the tree is built in one go, which takes
+    /// less time.
     ///
     /// Fails where memory is refused. The pairs that came and the iterator are then dropped.
     pub fn from_vecs<I: Iterator<Item = (Vec<K>, V)>>(
