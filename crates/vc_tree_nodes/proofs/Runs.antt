@@ -13,7 +13,7 @@ use Rattle.std.specs.Ordering.{is_eq}
 use Rattle.std.specs.declared.cmp.Ordering.{Ordering}
 use Rattle.std.specs.declared.cmp.Ordering.TheVariants.{Less}
 use Rattle.vc_tree_model.specs.Key.{same_key, BeginsBelow}
-use Rattle.vc_tree_model.specs.Tree.{Tree, Forest, bare, grow}
+use Rattle.vc_tree_model.specs.Tree.{Tree, Forest, bare, grow, node}
 use Rattle.vc_tree_model.specs.Map.{or_else, lookup, or_else-none, IsUpdated}
 use Rattle.vc_tree_model.specs.Pairs.{last_bound, IsCollected}
 use Rattle.vc_tree_nodes.specs.Ascending.{Follows, HasCommon, HaveCommon, IsGroup, RunsOn, IsRunBehind, pairs_behind}
@@ -589,6 +589,12 @@ module _ {K R : Type 0} (cmp : K → K → Ordering) (key : R → List K) (commo
       last-follows cmp key common run r k n
       (subst (λ z. slice_get z (length z - 1) ≡ Some r) e (sym l)) (subst (λ z. Follows cmp z k n) f h)
 
+  -- no pairs may grow
+  pub none-grows : {V : Type 0} (b : Bool) (run : List R) (vs : List V) → run ≡ [] → vs ≡ []
+      → MayGrow cmp key common b run vs
+  none-grows true run vs f g = rw (f, g) (tt, refl)
+  none-grows false run vs f g = tt
+
   -- one more pair is kept
   pub keep-grows : {V : Type 0} (b : Bool) (run more : List R) (vs left : List V) (r : R) (v : V) → b ≡ true
       → MayGrow cmp key common b run vs → FollowsLast cmp key common run (key r) (common r) → more ≡ run ++ r ∷ []
@@ -615,6 +621,13 @@ module _ {K R V : Type 0} (cmp : K → K → Ordering) (key : R → List K) wher
       → IsCollected cmp (pairs_behind key 0 run vs) u → (k : List K) → lookup cmp u k ≡ gathered cmp key b run vs t k
   run-binds true run vs t u e h k = h k
   run-binds false run vs t u e h k = absurd (true≢false (sym e))
+
+  -- no pairs bind nothing
+  pub none-came : (b : Bool) (run : List R) (vs : List V) (t : Tree K V) (k : List K) → run ≡ [] → t ≡ node [] None bare
+      → gathered cmp key b run vs t k ≡ None
+  none-came true run vs t k e f = rw e refl
+  none-came false run vs t [] e f = rw f refl
+  none-came false run vs t (x ∷ k) e f = rw f refl
 
   -- a key that is bound in the tree is one more
   pub added-binds : (f : List K → Option V) (b : Bool) (run : List R) (vs : List V) (t u : Tree K V) (front k : List K) (v : V)

@@ -15,6 +15,17 @@ use crate::spelling::Spelled;
 use std::alloc::{AllocError, Global};
 use std::default::MadeWith;
 
+/// So many pairs are inserted one by one. It takes no more time, and asks for memory less often.
+const FEW: usize = 8;
+
+/// Whether more pairs may come than that.
+fn may_be_many(most: Option<usize>) -> bool {
+    match most {
+        Some(most) => FEW < most,
+        None => true,
+    }
+}
+
 /// The tree of the pairs: in one go as far as their keys ascend, and then one by one.
 fn collect<K: TKey + MadeWith<Global>, V: TValue, S: Spelled<K>, I: Iterator<Item = (S, V)>>(
     alloc: Global,
@@ -27,7 +38,7 @@ fn collect<K: TKey + MadeWith<Global>, V: TValue, S: Spelled<K>, I: Iterator<Ite
     ensures canonical { IfOk result (IsCanonical K.cmp) }
 {
     let mut tree = RadixTree::bare(alloc);
-    let mut gathering = Gathering::new(alloc);
+    let mut gathering = Gathering::new(alloc, may_be_many(iter.size_hint().1));
     for (key, value) in iter {
         gathering.add(alloc, &mut tree, key, value)?;
     }

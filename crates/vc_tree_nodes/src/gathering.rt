@@ -20,7 +20,7 @@ use std::mem;
 /// The pairs that came, as long as their keys ascend.
 #[derive(Drop)]
 pub struct Gathering<K, V, S> {
-    /// Whether each key came behind the one before it.
+    /// Whether pairs are kept: each key came behind the one before it.
     ascends: bool,
     /// The keys, as long as they ascend.
     run: Vec<Step<S>>,
@@ -47,14 +47,14 @@ fn build<K: TKey + MadeWith<Global>, V: TValue, S: Spelled<K>>(
 }
 
 impl<K: TKey + MadeWith<Global>, V: TValue, S: Spelled<K>> Gathering<K, V, S> {
-    /// No pairs.
-    pub fn new(alloc: Global) -> Self
-        ensures ascends { result.ascends ≡ true }
+    /// No pairs. Those that come are kept as long as their keys ascend, or are all inserted.
+    pub fn new(alloc: Global, ascends: bool) -> Self
+        ensures ascends { result.ascends ≡ ascends }
         ensures none { result.run.items ≡ [] }
         ensures no_values { result.values.items ≡ [] }
     {
         Gathering {
-            ascends: true,
+            ascends,
             run: Vec::new(alloc),
             values: Vec::new(alloc),
             components: PhantomData,

@@ -2,8 +2,18 @@
 use Rattle.std.proofs.Common.{map, sym, subst, ◌∙◌}
 use Rattle.std.proofs.iter.SoFar.{exit_by}
 use Rattle.vc_tree_model.specs.Pairs.{IsCollected}
-use Rattle.vc_tree_nodes.proofs.Runs.{yielded-more}
+use Rattle.vc_tree_nodes.proofs.Runs.{none-grows, none-came, yielded-more}
 use Rattle.vc_tree_nodes.proofs.collecting.collect.Goals as goal
+
+pub loop-key-init : goal.loop-key-init
+loop-key-init g c = (
+  none-grows g.K.Ord.cmp (λ s. g.S.Spelled.components s.key) (λ s. s.common) c.new-gathering.result.ascends
+      c.new-gathering.result.run.items c.new-gathering.result.values.items c.new-gathering.ensures.none
+      c.new-gathering.ensures.no_values,
+  λ k. none-came g.K.Ord.cmp (λ s. g.S.Spelled.components s.key) c.new-gathering.result.ascends
+      c.new-gathering.result.run.items c.new-gathering.result.values.items c.bare-tree.result k
+      c.new-gathering.ensures.none c.bare-tree.ensures.is,
+)
 
 pub loop-key-preserved : goal.loop-key-preserved
 loop-key-preserved g c = (
