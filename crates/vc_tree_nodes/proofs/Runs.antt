@@ -1,8 +1,9 @@
 -- Runs of keys that ascend, in parts.
---     below-trans, below-within, equal-below, first-below        which key begins below another
+--     below-trans, below-within, equal-below, first-below, alike-below        which key begins below another
 --     pairs-parted, bound-parted        the pairs of two parts
 --     group-run, group-within, group-rest, group-below        a group, and the keys behind it
---     behind-node, empty-free        the pairs behind a common prefix
+--     group-found, least-new, least-stays        how a group and the least number in common are found
+--     last-front, keep-grows, keep-binds, yielded-more        pairs that are kept
 use Rattle.std.proofs.Common.{◌≡◌, ◌≢◌, ℕ, zero, suc, ◌+◌, ◌-◌, ◌<◌, ◌≤◌, [], ◌∷◌, ◌++◌, List, inl, inr, Option, None}
 use Rattle.std.proofs.Common.{Some, Bool, refl, sym, ap, subst, ◌∙◌, arith, take, drop, length, map, true, false}
 use Rattle.std.proofs.Common.{true≢false, cond, get_or, add-one, length-drop, length-append}
@@ -464,10 +465,6 @@ module _ {R : Type 0} (common : R → ℕ) where
   least-stays least n y run l w e h =
       let same = ap common e in
       record { have = rw add-one (have-more least n y run l.have w (omega (arith, same, h))); has = l.has }
-
-  -- at the end it is the least of all
-  pub least-all : (least : ℕ) (run : List R) → LeastSoFar least run (length run) → HaveCommon common least run
-  least-all least run l = subst (HaveCommon common least) (take_all (length run) run (omega arith)) l.have
 
 -- ---- how a key follows another
 

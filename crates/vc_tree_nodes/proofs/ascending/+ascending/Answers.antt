@@ -23,7 +23,8 @@ build_groups-build_run-requires g t c κs within =
     (group-within g.K.Ord.cmp (λ s. g.S.Spelled.components s.key) (λ s. s.common) c.args.depth
     c.group_len.result c.loop-rest.rest.now c.group_len.ensures).1 in
     let run =
-    subst (IsRunBehind g.K.Ord.cmp (λ s. g.S.Spelled.components s.key) (λ s. s.common) c.args.depth) (sym c.split_at.ensures.front)
+    subst (IsRunBehind g.K.Ord.cmp (λ s. g.S.Spelled.components s.key) (λ s. s.common) c.args.depth) (sym
+    c.split_at.ensures.front)
     (run-fewer g.K.Ord.cmp (λ s. g.S.Spelled.components s.key) (λ s. s.common) c.args.depth _
     (group-run g.K.Ord.cmp (λ s. g.S.Spelled.components s.key) (λ s. s.common) c.args.depth c.group_len.result
     c.loop-rest.rest.now c.loop-rest.invariant.behind c.group_len.ensures)) in
@@ -53,7 +54,8 @@ build_groups-loop-rest-preserved g t c =
 pub build_run-returns-then-run-eq1-clause-built : goal.build_run-returns-then-run-eq1-clause-built
 build_run-returns-then-run-eq1-clause-built g t c =
     if-ok c.single.result
-    (λ one is. built-one g.K.Ord.cmp (λ s. g.S.Spelled.components s.key) (λ s. s.common) g.met.K.Ord.total c.args.depth c.args.run.now
+    (λ one is. built-one g.K.Ord.cmp (λ s. g.S.Spelled.components s.key) (λ s. s.common) g.met.K.Ord.total
+    c.args.depth c.args.run.now
     (into_iter_items c.args.values.now) (into_iter_items c.take_next.new.values) c.index-run-0.result
     c.as_key-key.result.now c.take_next.result (g.T.RadixNode.tree one) c.if-run-eq1.true c.take_next.ensures
     c.as_key-key.ensures is) c.single.ensures.is
@@ -109,14 +111,16 @@ build_ended-build_groups-requires g t c κs within =
     let some : 0 < length c.split_at.result.1.now = omega (arith, size, two) in
     let run =
     subst (GoOnBehind g.K.Ord.cmp (λ s. g.S.Spelled.components s.key) (λ s. s.common) c.args.common) (sym c.split_at.ensures.back)
-    (group-rest g.K.Ord.cmp (λ s. g.S.Spelled.components s.key) (λ s. s.common) c.args.common 1 c.args.run.now (omega arith) c.requires.run) in
+    (group-rest g.K.Ord.cmp (λ s. g.S.Spelled.components s.key) (λ s. s.common) c.args.common 1 c.args.run.now (omega
+    arith) c.requires.run) in
     let taken = ap length c.take_next-value.ensures in
     let all = c.requires.values in
     let enough : length c.split_at.result.1.now ≤ length (into_iter_items c.take_next-value.new.values) =
     omega (arith, size, taken, all) in
     let children = children-none g.T.RadixNode.tree g.K.Ord.cmp _ c.in_ok-children.ensures.items in
     let above =
-    above-none g.K.Ord.cmp (λ s. g.S.Spelled.components s.key) (λ s. s.common) g.met.K.Ord.total g.T.RadixNode.tree c.args.common c.split_at.result.1.now _ c.in_ok-children.ensures.items in
+    above-none g.K.Ord.cmp (λ s. g.S.Spelled.components s.key) (λ s. s.common) g.met.K.Ord.total g.T.RadixNode.tree
+    c.args.common c.split_at.result.1.now _ c.in_ok-children.ensures.items in
     search rules
 
 pub build_ended-offset_bounds-key-depth : goal.build_ended-offset_bounds-key-depth
@@ -145,7 +149,8 @@ build_ended-new_node-requires g t c = solid-canonical g.K.Ord.cmp _ _ _ tt c.in_
 pub build_ended-returns-clause-built : goal.build_ended-returns-clause-built
 build_ended-returns-clause-built g t c =
     if-ok c.new_node.result
-    (λ one is. built-ended g.K.Ord.cmp (λ s. g.S.Spelled.components s.key) (λ s. s.common) g.met.K.Ord.total g.T.RadixNode.tree c.args.depth
+    (λ one is. built-ended g.K.Ord.cmp (λ s. g.S.Spelled.components s.key) (λ s. s.common) g.met.K.Ord.total
+    g.T.RadixNode.tree c.args.depth
     c.args.common c.args.run.now c.split_at.result.1.now (into_iter_items c.args.values.now)
     (into_iter_items c.take_next-value.new.values) c.index-run-0.result c.as_key-key.result.now
     c.take_next-value.result c.build_groups.new.children.items (g.T.RadixNode.tree one) c.requires.deeper c.requires.run
@@ -159,7 +164,8 @@ build_ended-returns-clause-built g t c =
 pub build_ended-returns-clause-left : goal.build_ended-returns-clause-left
 build_ended-returns-clause-left g t c =
     on-any c.new_node.result
-    (left-ended g.K.Ord.cmp (λ s. g.S.Spelled.components s.key) (λ s. s.common) g.met.K.Ord.total c.args.run.now c.split_at.result.1.now
+    (left-ended g.K.Ord.cmp (λ s. g.S.Spelled.components s.key) (λ s. s.common) g.met.K.Ord.total c.args.run.now
+    c.split_at.result.1.now
     (into_iter_items c.args.values.now) (into_iter_items c.take_next-value.new.values)
     (into_iter_items c.build_groups.new.values) c.take_next-value.result (omega (arith, c.requires.two))
     c.take_next-value.ensures c.split_at.ensures.back c.in_ok-build_groups.ensures.left)
@@ -177,7 +183,8 @@ build_open-build_run-requires g t c κs within =
     group-parts g.K.Ord.cmp (λ s. g.S.Spelled.components s.key) (λ s. s.common) c.args.common c.group_len.result c.args.run.now
     c.group_len.ensures c.requires.parts in
     let run =
-    subst (IsRunBehind g.K.Ord.cmp (λ s. g.S.Spelled.components s.key) (λ s. s.common) c.args.common) (sym c.split_at.ensures.front)
+    subst (IsRunBehind g.K.Ord.cmp (λ s. g.S.Spelled.components s.key) (λ s. s.common) c.args.common) (sym
+    c.split_at.ensures.front)
     (run-fewer g.K.Ord.cmp (λ s. g.S.Spelled.components s.key) (λ s. s.common) c.args.common _
     (group-run g.K.Ord.cmp (λ s. g.S.Spelled.components s.key) (λ s. s.common) c.args.common c.group_len.result
     c.args.run.now c.requires.run c.group_len.ensures)) in
@@ -199,7 +206,8 @@ build_open-build_groups-requires g t c κs within =
     let some : 0 < length c.split_at.result.1.now = omega (arith, size, few) in
     let run =
     subst (GoOnBehind g.K.Ord.cmp (λ s. g.S.Spelled.components s.key) (λ s. s.common) c.args.common) (sym c.split_at.ensures.back)
-    (group-on g.K.Ord.cmp (λ s. g.S.Spelled.components s.key) (λ s. s.common) c.args.common c.group_len.result c.args.run.now nonzero
+    (group-on g.K.Ord.cmp (λ s. g.S.Spelled.components s.key) (λ s. s.common) c.args.common c.group_len.result
+    c.args.run.now nonzero
     c.requires.run) in
     let taken =
     ap length c.in_ok-build_run.ensures.left
@@ -209,12 +217,14 @@ build_open-build_groups-requires g t c κs within =
     omega (arith, size, front, taken, all) in
     let one = c.in_ok-push.ensures.items ∙ ap (λ l. l ++ c.in_ok-build_run.field-0 ∷ []) c.in_ok-children.ensures.items in
     let children =
-    children-one g.K.Ord.cmp (λ s. g.S.Spelled.components s.key) (λ s. s.common) g.met.K.Ord.total g.T.RadixNode.tree c.args.common c.group_len.result
+    children-one g.K.Ord.cmp (λ s. g.S.Spelled.components s.key) (λ s. s.common) g.met.K.Ord.total g.T.RadixNode.tree
+    c.args.common c.group_len.result
     c.args.run.now c.split_at.result.0.now (into_iter_items c.args.values.now) c.push.new.self.items
     c.in_ok-build_run.field-0 c.requires.run c.group_len.ensures c.split_at.ensures.front
     c.in_ok-build_run.ensures.built one in
     let above =
-    above-one g.K.Ord.cmp (λ s. g.S.Spelled.components s.key) (λ s. s.common) g.met.K.Ord.total g.T.RadixNode.tree c.args.common c.group_len.result
+    above-one g.K.Ord.cmp (λ s. g.S.Spelled.components s.key) (λ s. s.common) g.met.K.Ord.total g.T.RadixNode.tree
+    c.args.common c.group_len.result
     c.args.run.now c.split_at.result.0.now c.split_at.result.1.now (into_iter_items c.args.values.now)
     c.push.new.self.items c.in_ok-build_run.field-0 c.requires.run c.group_len.ensures c.split_at.ensures.front
     c.split_at.ensures.back c.in_ok-build_run.ensures.built one in
@@ -223,7 +233,8 @@ build_open-build_groups-requires g t c κs within =
 pub build_open-offset_bounds-key-depth : goal.build_open-offset_bounds-key-depth
 build_open-offset_bounds-key-depth g t c =
     let long =
-    length-longer g.K.Ord.cmp (λ s. g.S.Spelled.components s.key) (λ s. s.common) c.args.common c.args.run.now c.index-run-0.result
+    length-longer g.K.Ord.cmp (λ s. g.S.Spelled.components s.key) (λ s. s.common) c.args.common c.args.run.now
+    c.index-run-0.result
     c.as_key-key.result.now c.requires.some c.requires.run c.as_key-key.ensures in
     omega (arith, long, c.requires.deeper)
 
@@ -236,7 +247,8 @@ build_open-slice_bounds-new_node-start g t c = c.requires.deeper
 pub build_open-slice_bounds-new_node-end : goal.build_open-slice_bounds-new_node-end
 build_open-slice_bounds-new_node-end g t c =
     let long =
-    length-longer g.K.Ord.cmp (λ s. g.S.Spelled.components s.key) (λ s. s.common) c.args.common c.args.run.now c.index-run-0.result
+    length-longer g.K.Ord.cmp (λ s. g.S.Spelled.components s.key) (λ s. s.common) c.args.common c.args.run.now
+    c.index-run-0.result
     c.as_key-key.result.now c.requires.some c.requires.run c.as_key-key.ensures in
     omega (arith, long)
 
@@ -254,7 +266,8 @@ build_open-returns-clause-built g t c =
     let one = c.in_ok-push.ensures.items ∙ ap (λ l. l ++ c.in_ok-build_run.field-0 ∷ []) c.in_ok-children.ensures.items in
     let size = ap length one in
     if-ok c.new_node.result
-    (λ made is. open-from g.K.Ord.cmp (λ s. g.S.Spelled.components s.key) (λ s. s.common) g.met.K.Ord.total g.T.RadixNode.tree c.args.depth
+    (λ made is. open-from g.K.Ord.cmp (λ s. g.S.Spelled.components s.key) (λ s. s.common) g.met.K.Ord.total
+    g.T.RadixNode.tree c.args.depth
     c.args.common c.group_len.result c.args.run.now c.split_at.result.0.now c.split_at.result.1.now
     (into_iter_items c.args.values.now) (into_iter_items c.build_run.new.values) c.index-run-0.result
     c.as_key-key.result.now c.in_ok-build_run.field-0 c.push.new.self.items c.build_groups.new.children.items
