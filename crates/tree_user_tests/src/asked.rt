@@ -1,8 +1,9 @@
 //! How often the closure of each call of two trees is asked at each key, in both flavours.
 
+use super::combines::tree_of;
+use super::outcomes::same;
 use std::alloc::{AllocError, Global};
 use std::cell::Cell;
-use std::test::Fail;
 use vc_merge::merge::Steps;
 use vc_trees::radix_tree::{AbstractRadixTree, AbstractRadixTreeMut, ArcRadixTree, RadixTree};
 
@@ -40,18 +41,6 @@ const CALLS: [(Call, u32); 9] = [
     (Call::RemoveWith, 11_000),
     (Call::RetainWith, 11_000),
 ];
-
-/// The tree of these keys and values.
-fn tree_of<T: AbstractRadixTreeMut<u8, u32>>(
-    alloc: Global,
-    pairs: &[(&str, u32)],
-) -> Result<T, AllocError> {
-    let mut tree = T::empty(alloc);
-    for (key, value) in pairs {
-        tree.insert(key.as_bytes(), *value)?;
-    }
-    Ok(tree)
-}
 
 /// Adds what a closure was handed.
 fn note(handed: &Cell<u32>, v: u32, w: u32) {
@@ -121,18 +110,11 @@ fn handed_to<T: AbstractRadixTreeMut<u8, u32>>(
 }
 
 #[test]
-fn closures_are_asked_once_at_a_key(rt: HostRuntime) -> Result<(), Fail> {
+fn closures_are_asked_once_at_a_key(rt: HostRuntime) {
     for (call, sum) in CALLS {
-        assert_eq!(rt;
-            handed_to::<RadixTree<u8, u32>>(rt.alloc(), call)?,
-            sum,
-            "{call:?}"
-        );
-        assert_eq!(rt;
-            handed_to::<ArcRadixTree<u8, u32>>(rt.alloc(), call)?,
-            sum,
-            "{call:?}"
-        );
+        let plain = handed_to::<RadixTree<u8, u32>>(rt.alloc(), call);
+        same(&rt, &call, &plain, &Ok(sum));
+        let shared = handed_to::<ArcRadixTree<u8, u32>>(rt.alloc(), call);
+        same(&rt, &call, &shared, &Ok(sum));
     }
-    Ok(())
 }

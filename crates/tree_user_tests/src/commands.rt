@@ -1,8 +1,10 @@
 //! Runs of commands, in both flavours: worked rows with ample memory, and a run that goes on behind
 //! a refusal.
+ghost use Rattle.std.specs.Prelude.{◌≡◌, length, IfOk};
+
+use super::outcomes::{holds, same};
 use super::tests::{Counted, DEPTH, Tally, number_at, print_shape};
 use std::alloc::{AllocError, Global};
-use std::test::Fail;
 use vc_trees::commands::{TreeCommand, run};
 use vc_trees::radix_tree::{AbstractRadixTreeMut, ArcRadixTree, RadixTree};
 
@@ -128,14 +130,39 @@ fn runs_as_worked_out<T: AbstractRadixTreeMut<u8, ()>>(
 }
 
 #[test]
-fn commands_are_done_in_order(rt: HostRuntime) -> Result<(), Fail> {
+fn commands_are_done_in_order(rt: HostRuntime) {
     for (keys, orders, shape) in ROWS {
-        let plain = runs_as_worked_out::<RadixTree<u8, ()>>(rt.alloc(), keys, orders, shape)?;
-        assert!(rt; plain, "{shape}");
-        let shared = runs_as_worked_out::<ArcRadixTree<u8, ()>>(rt.alloc(), keys, orders, shape)?;
-        assert!(rt; shared, "{shape}");
+        let plain = runs_as_worked_out::<RadixTree<u8, ()>>(rt.alloc(), keys, orders, shape);
+        holds(&rt, &shape, plain);
+        let shared = runs_as_worked_out::<ArcRadixTree<u8, ()>>(rt.alloc(), keys, orders, shape);
+        holds(&rt, &shape, shared);
     }
-    Ok(())
+}
+
+/// The command that inserts a number.
+fn insert_of<'a, T: AbstractRadixTreeMut<u8, Counted<'a>>>(
+    alloc: Global,
+    key: &str,
+    number: u32,
+    tally: &'a Tally,
+) -> Result<TreeCommand<u8, Counted<'a>, T>, AllocError> {
+    let key = key.as_bytes().to_vec(alloc)?;
+    Ok(TreeCommand::Insert(key, Counted::new(number, tally)))
+}
+
+/// Commands that insert at `a`, add a tree that binds `b`, and insert at `c`.
+fn inserts_of<'a, T: AbstractRadixTreeMut<u8, Counted<'a>>>(
+    alloc: Global,
+    tally: &'a Tally,
+) -> Result<Vec<TreeCommand<u8, Counted<'a>, T>>, AllocError>
+    ensures { IfOk result (λ commands. length commands.items ≡ 3) }
+{
+    let mut commands = Vec::new(alloc);
+    commands.push(insert_of(alloc, "a", 1, tally)?)?;
+    let added = T::single(alloc, b"b", Counted::new(2, tally))?;
+    commands.push(TreeCommand::Union(added))?;
+    commands.push(insert_of(alloc, "c", 3, tally)?)?;
+    Ok(commands)
 }
 
 /// Inserts at `a`, adds a tree whose values may not be cloned, and inserts at `c`. Answers which
@@ -145,11 +172,7 @@ fn run_with_refusal<'a, T: AbstractRadixTreeMut<u8, Counted<'a>>>(
     tally: &'a Tally,
 ) -> Result<([bool; 3], [u32; 3]), AllocError> {
     let mut tree = T::empty(alloc);
-    let added = T::single(alloc, b"b", Counted::new(2, tally))?;
-    let mut commands = Vec::new(alloc);
-    commands.push(TreeCommand::Insert(b"a".to_vec(alloc)?, Counted::new(1, tally)))?;
-    commands.push(TreeCommand::Union(added))?;
-    commands.push(TreeCommand::Insert(b"c".to_vec(alloc)?, Counted::new(3, tally)))?;
+    let commands = inserts_of::<T>(alloc, tally)?;
     tally.clones_left.set(0);
     let mut accepted = [false; 3];
     run(&mut tree, commands, &mut accepted);
@@ -162,14 +185,39 @@ fn run_with_refusal<'a, T: AbstractRadixTreeMut<u8, Counted<'a>>>(
 }
 
 #[test]
-fn a_refused_command_does_not_stop_the_run(rt: HostRuntime) -> Result<(), Fail> {
+fn a_refused_command_does_not_stop_the_run(rt: HostRuntime) {
     let tally = Tally::new();
-    let plain = run_with_refusal::<RadixTree<u8, Counted>>(rt.alloc(), &tally)?;
-    assert_eq!(rt; plain, ([true, false, true], [0, 0, 3]));
-    let shared = run_with_refusal::<ArcRadixTree<u8, Counted>>(rt.alloc(), &tally)?;
-    assert_eq!(rt; shared, plain);
-    assert_eq!(rt; tally.drops(), tally.made_and_cloned());
-    Ok(())
+    let wanted = Ok(([true, false, true], [0, 0, 3]));
+    let plain = run_with_refusal::<RadixTree<u8, Counted>>(rt.alloc(), &tally);
+    same(&rt, &"plain", &plain, &wanted);
+    let shared = run_with_refusal::<ArcRadixTree<u8, Counted>>(rt.alloc(), &tally);
+    same(&rt, &"shared", &shared, &wanted);
+    same(&rt, &"the drops", &tally.drops(), &tally.made_and_cloned());
+}
+
+/// The tree that binds this key alone, to five.
+fn five_at<'a, T: AbstractRadixTreeMut<u8, Counted<'a>>>(
+    alloc: Global,
+    key: &str,
+    tally: &'a Tally,
+) -> Result<T, AllocError> {
+    T::single(alloc, key.as_bytes(), Counted::new(5, tally))
+}
+
+/// Commands that are done in place, each by a tree of one key.
+fn commands_by<'a, T: AbstractRadixTreeMut<u8, Counted<'a>>>(
+    alloc: Global,
+    tally: &'a Tally,
+) -> Result<Vec<TreeCommand<u8, Counted<'a>, T>>, AllocError>
+    ensures { IfOk result (λ commands. length commands.items ≡ 5) }
+{
+    let mut commands = Vec::new(alloc);
+    commands.push(TreeCommand::Union(five_at(alloc, "b", tally)?))?;
+    commands.push(TreeCommand::Difference(five_at(alloc, "c", tally)?))?;
+    commands.push(TreeCommand::RemovePrefix(five_at(alloc, "abc", tally)?))?;
+    commands.push(TreeCommand::RetainPrefix(five_at(alloc, "", tally)?))?;
+    commands.push(TreeCommand::Intersection(five_at(alloc, "ab", tally)?))?;
+    Ok(commands)
 }
 
 /// Runs the commands by another tree that are done in place. No value of the tree may be cloned.
@@ -179,17 +227,9 @@ fn run_in_place<'a, T: AbstractRadixTreeMut<u8, Counted<'a>>>(
     left: &'a Tally,
     right: &'a Tally,
 ) -> Result<([bool; 5], [u32; 3]), AllocError> {
-    let of = |key: &str| -> Result<T, AllocError> {
-        T::single(alloc, key.as_bytes(), Counted::new(5, right))
-    };
     let mut tree = T::single(alloc, b"a", Counted::new(1, left))?;
     tree.insert(b"ab", Counted::new(2, left))?;
-    let mut commands = Vec::new(alloc);
-    commands.push(TreeCommand::Union(of("b")?))?;
-    commands.push(TreeCommand::Difference(of("c")?))?;
-    commands.push(TreeCommand::RemovePrefix(of("abc")?))?;
-    commands.push(TreeCommand::RetainPrefix(of("")?))?;
-    commands.push(TreeCommand::Intersection(of("ab")?))?;
+    let commands = commands_by::<T>(alloc, right)?;
     left.clones_left.set(0);
     let mut accepted = [false; 5];
     run(&mut tree, commands, &mut accepted);
@@ -202,13 +242,23 @@ fn run_in_place<'a, T: AbstractRadixTreeMut<u8, Counted<'a>>>(
 }
 
 #[test]
-fn commands_clone_no_value_of_the_tree(rt: HostRuntime) -> Result<(), Fail> {
+fn commands_clone_no_value_of_the_tree(rt: HostRuntime) {
     let (left, right) = (Tally::new(), Tally::new());
-    let plain = run_in_place::<RadixTree<u8, Counted>>(rt.alloc(), &left, &right)?;
-    assert_eq!(rt; plain, ([true; 5], [0, 2, 0]));
-    let shared = run_in_place::<ArcRadixTree<u8, Counted>>(rt.alloc(), &left, &right)?;
-    assert_eq!(rt; shared, plain);
-    assert_eq!(rt; left.drops(), left.made_and_cloned());
-    assert_eq!(rt; right.drops(), right.made_and_cloned());
-    Ok(())
+    let wanted = Ok(([true; 5], [0, 2, 0]));
+    let plain = run_in_place::<RadixTree<u8, Counted>>(rt.alloc(), &left, &right);
+    same(&rt, &"plain", &plain, &wanted);
+    let shared = run_in_place::<ArcRadixTree<u8, Counted>>(rt.alloc(), &left, &right);
+    same(&rt, &"shared", &shared, &wanted);
+    same(
+        &rt,
+        &"the left drops",
+        &left.drops(),
+        &left.made_and_cloned(),
+    );
+    same(
+        &rt,
+        &"the right drops",
+        &right.drops(),
+        &right.made_and_cloned(),
+    );
 }

@@ -3,10 +3,11 @@
 
 use super::compared::Compared;
 use super::lookups::{nested, wide};
+use super::outcomes::holds;
+use super::questions::left as left_value;
 use super::tests::{FORTY, FORTY_ELSE};
 use std::alloc::{AllocError, Global};
 use std::cell::Cell;
-use std::test::Fail;
 use vc_merge::merge::{Count, Steps};
 use vc_trees::radix_tree::{AbstractRadixTree, AbstractRadixTreeMut, ArcRadixTree, RadixTree};
 
@@ -20,10 +21,10 @@ fn combines_within<'a, T: AbstractRadixTreeMut<Compared<'a>, u32>>(
 ) -> Result<bool, AllocError> {
     let mut steps = Steps::new();
     count.set(0);
-    let _made: T = left.outer_combine_counted(right, |v, _| Ok(Some(*v)), &mut steps)?;
+    let _made: T = left.outer_combine_counted(right, left_value, &mut steps)?;
     let counted = count.get();
     count.set(0);
-    let _again: T = left.outer_combine(right, |v, _| Ok(Some(*v)))?;
+    let _again: T = left.outer_combine(right, left_value)?;
     let uncounted = count.get();
     count.set(0);
     let _is_subset = left.is_subset(right);
@@ -54,13 +55,12 @@ fn stays_within<'a, T: AbstractRadixTreeMut<Compared<'a>, u32>>(
 }
 
 #[test]
-fn combines_stay_within_their_bound(rt: HostRuntime) -> Result<(), Fail> {
+fn combines_stay_within_their_bound(rt: HostRuntime) {
     let count = Cell::new(0);
-    let plain = stays_within::<RadixTree<Compared, u32>>(rt.alloc(), &count)?;
-    assert!(rt; plain);
-    let shared = stays_within::<ArcRadixTree<Compared, u32>>(rt.alloc(), &count)?;
-    assert!(rt; shared);
-    Ok(())
+    let plain = stays_within::<RadixTree<Compared, u32>>(rt.alloc(), &count);
+    holds(&rt, &"plain", plain);
+    let shared = stays_within::<ArcRadixTree<Compared, u32>>(rt.alloc(), &count);
+    holds(&rt, &"shared", shared);
 }
 
 /// Keys of two trees, and three comparisons for each node and each component of both. Their
@@ -149,11 +149,10 @@ fn each_is_counted<'a, T: AbstractRadixTreeMut<Compared<'a>, u32>>(
 }
 
 #[test]
-fn comparisons_of_trees_that_differ_are_counted(rt: HostRuntime) -> Result<(), Fail> {
+fn comparisons_of_trees_that_differ_are_counted(rt: HostRuntime) {
     let count = Cell::new(0);
-    let plain = each_is_counted::<RadixTree<Compared, u32>>(rt.alloc(), &count)?;
-    assert!(rt; plain);
-    let shared = each_is_counted::<ArcRadixTree<Compared, u32>>(rt.alloc(), &count)?;
-    assert!(rt; shared);
-    Ok(())
+    let plain = each_is_counted::<RadixTree<Compared, u32>>(rt.alloc(), &count);
+    holds(&rt, &"plain", plain);
+    let shared = each_is_counted::<ArcRadixTree<Compared, u32>>(rt.alloc(), &count);
+    holds(&rt, &"shared", shared);
 }

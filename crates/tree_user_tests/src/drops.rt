@@ -2,9 +2,9 @@
 //! are refused from the k-th on: whatever comes of them, each value is dropped once.
 
 use super::in_place::tree_of;
+use super::outcomes::same;
 use super::tests::{Counted, Tally};
 use std::alloc::{AllocError, Global};
-use std::test::Fail;
 use vc_path_filter::path_filter::PathFilter;
 use vc_trees::commands::{TreeCommand, run};
 use vc_trees::radix_tree::{AbstractRadixTree, AbstractRadixTreeMut, ArcRadixTree, RadixTree};
@@ -44,20 +44,24 @@ const CALLS: [Call; 12] = [
 /// The pairs that calls are made on, of which two have one key.
 const PAIRS: [(&str, u32); 5] = [("a", 1), ("ab", 2), ("abc", 3), ("ab", 4), ("b", 5)];
 
-/// The tree of the pairs by slices, or by lists and then shared.
-fn collect<'a>(alloc: Global, is_shared: bool, tally: &'a Tally) -> Result<(), AllocError> {
+/// The tree of the pairs by slices.
+fn collect_slices<'a>(alloc: Global, tally: &'a Tally) -> Result<(), AllocError> {
     let mut slices = Vec::new(alloc);
-    let mut lists = Vec::new(alloc);
     for (key, number) in PAIRS {
         slices.push((key.as_bytes(), Counted::new(number, tally)))?;
+    }
+    let _tree = RadixTree::from_iter(alloc, slices.into_iter())?;
+    Ok(())
+}
+
+/// The tree of the pairs by lists, which is then shared.
+fn collect_shared<'a>(alloc: Global, tally: &'a Tally) -> Result<(), AllocError> {
+    let mut lists = Vec::new(alloc);
+    for (key, number) in PAIRS {
         lists.push((key.as_bytes().to_vec(alloc)?, Counted::new(number, tally)))?;
     }
-    if is_shared {
-        let tree = RadixTree::from_vecs(alloc, lists.into_iter())?;
-        let _shared = ArcRadixTree::from_radix_tree(tree)?;
-    } else {
-        let _tree = RadixTree::from_iter(alloc, slices.into_iter())?;
-    }
+    let tree = RadixTree::from_vecs(alloc, lists.into_iter())?;
+    let _shared = ArcRadixTree::from_radix_tree(tree)?;
     Ok(())
 }
 
@@ -101,6 +105,40 @@ fn restrict<'a, T: AbstractRadixTreeMut<u8, Counted<'a>>>(
     filter.restrict(tree)
 }
 
+/// Makes a call that takes no tree over.
+fn make_on<'a, T: AbstractRadixTreeMut<u8, Counted<'a>>>(
+    alloc: Global,
+    call: Call,
+    tree: &mut T,
+    tally: &'a Tally,
+) -> Result<(), AllocError> {
+    match call {
+        Call::Insert => tree.insert(b"abcd", Counted::new(6, tally)),
+        Call::RemoveBelow => tree.remove_below(b"ab"),
+        Call::Slices => collect_slices(alloc, tally),
+        Call::Shared => collect_shared(alloc, tally),
+        Call::Run => obey(alloc, tree, tally),
+        Call::Restrict => restrict(alloc, tree),
+        Call::Leaf => {
+            drop(T::leaf(alloc, Counted::new(6, tally)));
+            Ok(())
+        }
+        Call::Single => {
+            drop(T::single(alloc, b"ab", Counted::new(6, tally))?);
+            Ok(())
+        }
+        Call::Remove => {
+            drop(tree.remove(b"ab")?);
+            Ok(())
+        }
+        Call::SplitBelow => {
+            drop(tree.split_below(b"ab")?);
+            Ok(())
+        }
+        Call::Walk | Call::HalfWalk => Ok(()),
+    }
+}
+
 /// Makes a call, on a tree of which a clone is kept, and drops all. From the call on clones are
 /// refused but for the first few.
 fn make<'a, T: AbstractRadixTreeMut<u8, Counted<'a>> + Clone>(
@@ -114,35 +152,25 @@ fn make<'a, T: AbstractRadixTreeMut<u8, Counted<'a>> + Clone>(
     let kept = tree.clone()?;
     tally.clones_left.set(granted);
     match call {
-        Call::Leaf => drop(T::leaf(alloc, Counted::new(6, tally))),
-        Call::Single => drop(T::single(alloc, b"ab", Counted::new(6, tally))?),
-        Call::Insert => tree.insert(b"abcd", Counted::new(6, tally))?,
-        Call::Remove => drop(tree.remove(b"ab")?),
-        Call::RemoveBelow => tree.remove_below(b"ab")?,
-        Call::SplitBelow => drop(tree.split_below(b"ab")?),
-        Call::Slices => collect(alloc, false, tally)?,
-        Call::Shared => collect(alloc, true, tally)?,
-        Call::Walk => walk(kept, 4)?,
-        Call::HalfWalk => walk(kept, 2)?,
-        Call::Run => obey(alloc, &mut tree, tally)?,
-        Call::Restrict => restrict(alloc, &mut tree)?,
+        Call::Walk => walk(kept, 4),
+        Call::HalfWalk => walk(kept, 2),
+        _ => make_on(alloc, call, &mut tree, tally),
     }
-    Ok(())
 }
 
 #[test]
-fn calls_by_value_drop_each_value_once(rt: HostRuntime) -> Result<(), Fail> {
+fn calls_by_value_drop_each_value_once(rt: HostRuntime) {
     for call in CALLS {
         for granted in 0..4 {
             let tally = Tally::new();
             let _plain = make::<RadixTree<u8, Counted>>(rt.alloc(), call, granted, &tally);
             let _shared = make::<ArcRadixTree<u8, Counted>>(rt.alloc(), call, granted, &tally);
-            assert_eq!(rt;
-                tally.drops(),
-                tally.made_and_cloned(),
-                "{call:?} with {granted}"
+            same(
+                &rt,
+                &(call, granted),
+                &tally.drops(),
+                &tally.made_and_cloned(),
             );
         }
     }
-    Ok(())
 }

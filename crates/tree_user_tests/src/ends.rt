@@ -2,9 +2,9 @@
 //! keys worked out by hand, in lists that have room for their components and no more.
 
 use super::Word;
+use super::outcomes::holds;
 use super::tests::{FORTY, FORTY_ELSE};
 use std::alloc::{AllocError, Global};
-use std::test::Fail;
 use vc_trees::radix_tree::{AbstractRadixTree, AbstractRadixTreeMut, ArcRadixTree, RadixTree};
 
 /// A pair of a tree: the key and its number.
@@ -60,14 +60,20 @@ fn has_ends<T: AbstractRadixTreeMut<u8, u32>>(
     Ok(is_pair(tree.first_key_value()?, first) && is_pair(tree.last_key_value()?, last))
 }
 
+/// Whether the ends of a tree of another crate are its one pair.
+fn has_ends_of_a_word(alloc: Global) -> Result<bool, AllocError> {
+    let word = Word::new(b"abc".to_vec(alloc)?, 7);
+    let pair = Some(("abc", 7));
+    Ok(is_pair(word.first_key_value()?, pair) && is_pair(word.last_key_value()?, pair))
+}
+
 #[test]
-fn ends_are_spelled_in_lists_of_their_size(rt: HostRuntime) -> Result<(), Fail> {
+fn ends_are_spelled_in_lists_of_their_size(rt: HostRuntime) {
     for (pairs, first, last) in ROWS {
-        assert!(rt; has_ends::<RadixTree<u8, u32>>(rt.alloc(), pairs, first, last)?);
-        assert!(rt; has_ends::<ArcRadixTree<u8, u32>>(rt.alloc(), pairs, first, last)?);
+        let plain = has_ends::<RadixTree<u8, u32>>(rt.alloc(), pairs, first, last);
+        holds(&rt, &(pairs, "plain"), plain);
+        let shared = has_ends::<ArcRadixTree<u8, u32>>(rt.alloc(), pairs, first, last);
+        holds(&rt, &(pairs, "shared"), shared);
     }
-    let word = Word::new(b"abc".to_vec(rt.alloc())?, 7);
-    assert!(rt; is_pair(word.first_key_value()?, Some(("abc", 7))));
-    assert!(rt; is_pair(word.last_key_value()?, Some(("abc", 7))));
-    Ok(())
+    holds(&rt, &"a word", has_ends_of_a_word(rt.alloc()));
 }

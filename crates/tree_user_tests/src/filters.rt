@@ -2,10 +2,10 @@
 //! of a tree; snapshots of rules; and trees whose values refuse to be cloned.
 use super::compared::Compared;
 use super::lookups::{LENGTHS, repeated};
+use super::outcomes::{reads, same};
 use super::walks::{print_pairs, tree_of};
 use std::alloc::{AllocError, Global};
 use std::cell::Cell;
-use std::test::Fail;
 use vc_path_filter::path_filter::PathFilter;
 use vc_trees::radix_tree::{AbstractRadixTree, AbstractRadixTreeMut, ArcRadixTree, RadixTree};
 
@@ -98,40 +98,68 @@ fn is_within<'a>(
     filter.check(path) == is_allowed && count.get() <= most
 }
 
-#[test]
-fn filters_stay_within_their_bound(rt: HostRuntime) -> Result<(), Fail> {
-    let count = Cell::new(0);
-    let deep = nested(rt.alloc(), &count)?;
+/// The first length of a path of equal components at which the filter of those is beyond the bound.
+fn wrong_length(alloc: Global, count: &Cell<u128>) -> Result<Option<u32>, AllocError> {
+    let deep = nested(alloc, count)?;
     for (length, _) in LENGTHS {
-        let path = repeated(rt.alloc(), length, Some(&count))?;
+        let path = repeated(alloc, length, Some(count))?;
         let most = u128::from(length.min(200));
-        assert!(rt;
-            is_within(&deep, &path, length != 0, most, &count),
-            "of {length}"
-        );
+        if !is_within(&deep, &path, length != 0, most, count) {
+            return Ok(Some(length));
+        }
     }
-    let broad = wide(rt.alloc(), &count)?;
+    Ok(None)
+}
+
+/// The first number at which the filter of every second one is beyond the bound.
+fn wrong_number(alloc: Global, count: &Cell<u128>) -> Result<Option<u32>, AllocError> {
+    let broad = wide(alloc, count)?;
     for number in 0..2001 {
         let first = Compared {
             number,
-            count: Some(&count),
+            count: Some(count),
         };
         let is_allowed = number % 2 == 0 && number < 2000;
-        assert!(rt;
-            is_within(&broad, &[first], is_allowed, 10, &count),
-            "at {number}"
-        );
+        if !is_within(&broad, &[first], is_allowed, 10, count) {
+            return Ok(Some(number));
+        }
     }
-    Ok(())
+    Ok(None)
 }
 
 #[test]
-fn the_longest_rule_decides(rt: HostRuntime) -> Result<(), Fail> {
+fn filters_stay_within_their_bound(rt: HostRuntime) {
+    let count = Cell::new(0);
+    same(
+        &rt,
+        &"the first length that is wrong",
+        &wrong_length(rt.alloc(), &count),
+        &Ok(None),
+    );
+    same(
+        &rt,
+        &"the first number that is wrong",
+        &wrong_number(rt.alloc(), &count),
+        &Ok(None),
+    );
+}
+
+#[test]
+fn the_longest_rule_decides(rt: HostRuntime) {
     for (rules, allowed, denied) in ROWS {
-        assert_eq!(rt; count_allowed(rt.alloc(), rules, allowed)?, allowed.len());
-        assert_eq!(rt; count_allowed(rt.alloc(), rules, denied)?, 0);
+        same(
+            &rt,
+            &allowed,
+            &count_allowed(rt.alloc(), rules, allowed),
+            &Ok(allowed.len()),
+        );
+        same(
+            &rt,
+            &denied,
+            &count_allowed(rt.alloc(), rules, denied),
+            &Ok(0),
+        );
     }
-    Ok(())
 }
 
 /// A path that is allowed, and then denied: whether a snapshot of before still allows it, and
@@ -151,13 +179,14 @@ fn deny_beside_snapshot(alloc: Global) -> Result<(bool, bool, bool, Option<bool>
 }
 
 #[test]
-fn a_snapshot_of_rules_stays(rt: HostRuntime) -> Result<(), Fail> {
-    let (before, after, longer, rule) = deny_beside_snapshot(rt.alloc())?;
-    assert!(rt; before);
-    assert!(rt; !after);
-    assert!(rt; longer);
-    assert_eq!(rt; rule, Some(false));
-    Ok(())
+fn a_snapshot_of_rules_stays(rt: HostRuntime) {
+    let answers = deny_beside_snapshot(rt.alloc());
+    same(
+        &rt,
+        &"the rules",
+        &answers,
+        &Ok((true, false, true, Some(false))),
+    );
 }
 
 /// Rules, the keys of a tree, each bound to its place in the list, and the pairs that the rules
@@ -186,14 +215,13 @@ fn print_restricted<T: AbstractRadixTreeMut<u8, u32>>(
 }
 
 #[test]
-fn trees_of_both_flavours_are_restricted(rt: HostRuntime) -> Result<(), Fail> {
+fn trees_of_both_flavours_are_restricted(rt: HostRuntime) {
     for (rules, keys, left) in RESTRICTED {
-        let plain = print_restricted::<RadixTree<u8, u32>>(rt.alloc(), rules, keys)?;
-        assert_eq!(rt; plain.as_str(), left);
-        let shared = print_restricted::<ArcRadixTree<u8, u32>>(rt.alloc(), rules, keys)?;
-        assert_eq!(rt; shared.as_str(), left);
+        let plain = print_restricted::<RadixTree<u8, u32>>(rt.alloc(), rules, keys);
+        reads(&rt, &keys, plain, left);
+        let shared = print_restricted::<ArcRadixTree<u8, u32>>(rt.alloc(), rules, keys);
+        reads(&rt, &keys, shared, left);
     }
-    Ok(())
 }
 
 /// A number that refuses to be cloned.
@@ -267,21 +295,21 @@ fn restrict_shared<T: AbstractRadixTreeMut<u8, Unique> + Clone>(
 }
 
 #[test]
-fn values_that_stay_are_not_cloned(rt: HostRuntime) -> Result<(), Fail> {
-    let (is_refused, left) = restrict_alone::<RadixTree<u8, Unique>>(rt.alloc())?;
-    assert!(rt; !is_refused);
-    assert_eq!(rt; left, [1, 0, 3, 0]);
-    let (is_refused, left) = restrict_alone::<ArcRadixTree<u8, Unique>>(rt.alloc())?;
-    assert!(rt; !is_refused);
-    assert_eq!(rt; left, [1, 0, 3, 0]);
-    Ok(())
+fn values_that_stay_are_not_cloned(rt: HostRuntime) {
+    let wanted = Ok((false, [1, 0, 3, 0]));
+    let plain = restrict_alone::<RadixTree<u8, Unique>>(rt.alloc());
+    same(&rt, &"plain", &plain, &wanted);
+    let shared = restrict_alone::<ArcRadixTree<u8, Unique>>(rt.alloc());
+    same(&rt, &"shared", &shared, &wanted);
 }
 
 #[test]
-fn a_refused_restrict_leaves_the_empty_tree(rt: HostRuntime) -> Result<(), Fail> {
-    let (is_refused, left, kept) = restrict_shared::<ArcRadixTree<u8, Unique>>(rt.alloc())?;
-    assert!(rt; is_refused);
-    assert_eq!(rt; left, [0; 4]);
-    assert_eq!(rt; kept, [1, 2, 3, 4]);
-    Ok(())
+fn a_refused_restrict_leaves_the_empty_tree(rt: HostRuntime) {
+    let outcome = restrict_shared::<ArcRadixTree<u8, Unique>>(rt.alloc());
+    same(
+        &rt,
+        &"the trees",
+        &outcome,
+        &Ok((true, [0; 4], [1, 2, 3, 4])),
+    );
 }

@@ -1,9 +1,9 @@
 //! Changes of trees in place, in both flavours: each call at every key of either tree, what it
 //! clones and drops, and what is left where a clone is refused; and changes worked out by hand.
+use super::outcomes::{holds, same};
 use super::tests::{Counted, DEPTH, Tally, number_at, print_shape};
 use super::walks::put_pair;
 use std::alloc::{AllocError, Global};
-use std::test::Fail;
 use vc_trees::radix_tree::{AbstractRadixTree, AbstractRadixTreeMut, ArcRadixTree, RadixTree};
 
 /// The numbers that a tree binds to the keys of the rows, and 0 where it binds none.
@@ -133,16 +133,15 @@ fn are_dropped_once(left: &Tally, right: &Tally) -> bool {
 }
 
 #[test]
-fn changes_clone_no_value_of_the_left(rt: HostRuntime) -> Result<(), Fail> {
+fn changes_clone_no_value_of_the_left(rt: HostRuntime) {
     for (change, row) in CHANGES {
         let (left, right) = (Tally::new(), Tally::new());
-        let plain = changed::<RadixTree<u8, Counted>>(rt.alloc(), change, &left, &right)?;
-        assert_eq!(rt; plain, row, "{change:?}");
-        let shared = changed::<ArcRadixTree<u8, Counted>>(rt.alloc(), change, &left, &right)?;
-        assert_eq!(rt; shared, row, "{change:?}");
-        assert!(rt; are_dropped_once(&left, &right), "{change:?}");
+        let plain = changed::<RadixTree<u8, Counted>>(rt.alloc(), change, &left, &right);
+        same(&rt, &change, &plain, &Ok(row));
+        let shared = changed::<ArcRadixTree<u8, Counted>>(rt.alloc(), change, &left, &right);
+        same(&rt, &change, &shared, &Ok(row));
+        holds(&rt, &(change, "drops"), Ok(are_dropped_once(&left, &right)));
     }
-    Ok(())
 }
 
 /// How many clones are granted to the changes that are refused.
@@ -189,17 +188,15 @@ fn are_as_refused(
 }
 
 #[test]
-fn a_refused_change_leaves_the_empty_tree(rt: HostRuntime) -> Result<(), Fail> {
+fn a_refused_change_leaves_the_empty_tree(rt: HostRuntime) {
     for row in CHANGES {
         for granted in 0..=GRANTED {
             let tally = Tally::new();
-            let are_right = are_as_refused(rt.alloc(), row, granted, &tally)?;
-            assert!(rt; are_right, "{:?} with {granted}", row.0);
-            let are_dropped = tally.drops() == tally.made_and_cloned();
-            assert!(rt; are_dropped, "{:?} with {granted}", row.0);
+            let at = (row.0, granted);
+            holds(&rt, &at, are_as_refused(rt.alloc(), row, granted, &tally));
+            same(&rt, &at, &tally.drops(), &tally.made_and_cloned());
         }
     }
-    Ok(())
 }
 
 /// The keys and numbers of a tree.
@@ -316,19 +313,18 @@ fn is_worked_out<'a, T: AbstractRadixTreeMut<u8, Counted<'a>>>(
 }
 
 #[test]
-fn changed_trees_are_as_worked_out(rt: HostRuntime) -> Result<(), Fail> {
+fn changed_trees_are_as_worked_out(rt: HostRuntime) {
     for (left, change, right, answers, pairs, shape) in WORKED {
         let tally = Tally::new();
         let alloc = rt.alloc();
         let expected = (pairs, shape);
         let plain = is_worked_out::<RadixTree<u8, Counted>>(
             alloc, left, change, right, answers, expected, &tally,
-        )?;
-        assert!(rt; plain, "{pairs}");
+        );
+        holds(&rt, &pairs, plain);
         let shared = is_worked_out::<ArcRadixTree<u8, Counted>>(
             alloc, left, change, right, answers, expected, &tally,
-        )?;
-        assert!(rt; shared, "{pairs}");
+        );
+        holds(&rt, &pairs, shared);
     }
-    Ok(())
 }

@@ -33,6 +33,10 @@ mod in_place;
 #[cfg(test)]
 mod lookups;
 #[cfg(test)]
+mod outcomes;
+#[cfg(test)]
+mod questions;
+#[cfg(test)]
 mod tests;
 #[cfg(test)]
 mod two_trees;

@@ -2,10 +2,10 @@
 //! within its bound. And the longest keys that are prefixes of paths.
 use super::Word;
 use super::compared::Compared;
+use super::outcomes::{holds, same};
 use super::walks::tree_of;
 use std::alloc::{AllocError, Global};
 use std::cell::Cell;
-use std::test::Fail;
 use vc_merge::merge::{Count, Steps};
 use vc_trees::radix_tree::{AbstractRadixTree, AbstractRadixTreeMut, ArcRadixTree, RadixTree};
 
@@ -119,26 +119,33 @@ fn stays_within<'a, T: AbstractRadixTreeMut<Compared<'a>, u32>>(
 }
 
 #[test]
-fn lookups_stay_within_their_bound(rt: HostRuntime) -> Result<(), Fail> {
+fn lookups_stay_within_their_bound(rt: HostRuntime) {
     let count = Cell::new(0);
-    let plain = stays_within::<RadixTree<Compared, u32>>(rt.alloc(), &count)?;
-    assert!(rt; plain);
-    let shared = stays_within::<ArcRadixTree<Compared, u32>>(rt.alloc(), &count)?;
-    assert!(rt; shared);
-    Ok(())
+    let plain = stays_within::<RadixTree<Compared, u32>>(rt.alloc(), &count);
+    holds(&rt, &"plain", plain);
+    let shared = stays_within::<ArcRadixTree<Compared, u32>>(rt.alloc(), &count);
+    holds(&rt, &"shared", shared);
+}
+
+/// Whether a tree of another crate that binds `abc` binds the key, counted and not, and whether the
+/// counted look-up compared at most three times.
+fn looked_up(alloc: Global, key: &str) -> Result<(bool, bool, bool), AllocError> {
+    let word = Word::new(b"abc".to_vec(alloc)?, 7);
+    let mut steps = Steps::new();
+    let is_found = word.get_counted(key.as_bytes(), &mut steps).is_some();
+    Ok((
+        is_found,
+        word.contains_key(key.as_bytes()),
+        steps.count() <= 3,
+    ))
 }
 
 #[test]
-fn a_tree_of_another_crate_is_looked_up(rt: HostRuntime) -> Result<(), Fail> {
-    let word = Word::new(b"abc".to_vec(rt.alloc())?, 7);
+fn a_tree_of_another_crate_is_looked_up(rt: HostRuntime) {
     for (key, is_bound) in [("abc", true), ("ab", false), ("abcd", false), ("", false)] {
-        let mut steps = Steps::new();
-        let is_found = word.get_counted(key.as_bytes(), &mut steps).is_some();
-        assert_eq!(rt; is_found, is_bound, "at {key}");
-        assert_eq!(rt; word.contains_key(key.as_bytes()), is_bound, "at {key}");
-        assert!(rt; steps.count() <= 3, "at {key}");
+        let found = looked_up(rt.alloc(), key);
+        same(&rt, &key, &found, &Ok((is_bound, is_bound, true)));
     }
-    Ok(())
 }
 
 /// The keys of a tree, each bound to its place in the list, a path, and the longest key that is a
@@ -172,12 +179,12 @@ fn longest_of<T: AbstractRadixTreeMut<u8, u32>>(
 }
 
 #[test]
-fn the_longest_key_on_a_path_is_found(rt: HostRuntime) -> Result<(), Fail> {
+fn the_longest_key_on_a_path_is_found(rt: HostRuntime) {
     for (keys, path, longest) in LONGEST {
-        let plain = longest_of::<RadixTree<u8, u32>>(rt.alloc(), keys, path)?;
-        assert_eq!(rt; plain, (keys.len(), longest), "on {path}");
-        let shared = longest_of::<ArcRadixTree<u8, u32>>(rt.alloc(), keys, path)?;
-        assert_eq!(rt; shared, (keys.len(), longest), "on {path}");
+        let wanted = Ok((keys.len(), longest));
+        let plain = longest_of::<RadixTree<u8, u32>>(rt.alloc(), keys, path);
+        same(&rt, &path, &plain, &wanted);
+        let shared = longest_of::<ArcRadixTree<u8, u32>>(rt.alloc(), keys, path);
+        same(&rt, &path, &shared, &wanted);
     }
-    Ok(())
 }

@@ -2,10 +2,10 @@
 //! clones and drops of values.
 use super::Word;
 use super::compared::Compared;
+use super::outcomes::{holds, same};
 use std::alloc::{AllocError, Global};
 use std::cell::Cell;
 use std::fmt;
-use std::test::Fail;
 use vc_merge::merge::Steps;
 use vc_trees::radix_tree::{
     AbstractRadixTree, AbstractRadixTreeMut, ArcRadixTree, RadixNode, RadixTree, TKey, TValue,
@@ -101,14 +101,13 @@ const ROWS: [(&[&str], &str); 14] = [
 ];
 
 #[test]
-fn trees_are_as_worked_out(rt: HostRuntime) -> Result<(), Fail> {
+fn trees_are_as_worked_out(rt: HostRuntime) {
     for (keys, shape) in ROWS {
-        let plain = is_as_worked_out::<RadixTree<u8, usize>>(rt.alloc(), keys, shape)?;
-        assert!(rt; plain, "{shape}");
-        let shared = is_as_worked_out::<ArcRadixTree<u8, usize>>(rt.alloc(), keys, shape)?;
-        assert!(rt; shared, "{shape}");
+        let plain = is_as_worked_out::<RadixTree<u8, usize>>(rt.alloc(), keys, shape);
+        holds(&rt, &shape, plain);
+        let shared = is_as_worked_out::<ArcRadixTree<u8, usize>>(rt.alloc(), keys, shape);
+        holds(&rt, &shape, shared);
     }
-    Ok(())
 }
 
 /// Whether the trees of one key are found at that key alone.
@@ -125,49 +124,72 @@ fn are_made_at_once<T: AbstractRadixTreeMut<u8, u32>>(alloc: Global) -> Result<b
 }
 
 #[test]
-fn both_flavours_are_made_at_once(rt: HostRuntime) -> Result<(), Fail> {
-    assert!(rt; are_made_at_once::<RadixTree<u8, u32>>(rt.alloc())?);
-    assert!(rt; are_made_at_once::<ArcRadixTree<u8, u32>>(rt.alloc())?);
-    Ok(())
+fn both_flavours_are_made_at_once(rt: HostRuntime) {
+    holds(
+        &rt,
+        &"plain",
+        are_made_at_once::<RadixTree<u8, u32>>(rt.alloc()),
+    );
+    holds(
+        &rt,
+        &"shared",
+        are_made_at_once::<ArcRadixTree<u8, u32>>(rt.alloc()),
+    );
+}
+
+/// What a tree of another crate that binds `abc` to 7 binds to `abc`, `ab` and `abcd`, whether it
+/// is empty, and how often it was asked for its allocator.
+fn read_word(alloc: Global) -> Result<([Option<u32>; 3], bool, u32), AllocError> {
+    let word = Word::new(b"abc".to_vec(alloc)?, 7);
+    let values = [
+        word.get(b"abc").copied(),
+        word.get(b"ab").copied(),
+        word.get(b"abcd").copied(),
+    ];
+    Ok((values, word.is_empty(), word.asked()))
 }
 
 #[test]
-fn a_tree_of_another_crate_is_read_without_its_allocator(rt: HostRuntime) -> Result<(), Fail> {
-    let word = Word::new(b"abc".to_vec(rt.alloc())?, 7);
-    assert_eq!(rt; word.get(b"abc").copied(), Some(7));
-    assert_eq!(rt; word.get(b"ab"), None);
-    assert_eq!(rt; word.get(b"abcd"), None);
-    assert!(rt; !word.is_empty());
-    assert_eq!(rt; word.asked(), 0);
-    Ok(())
+fn a_tree_of_another_crate_is_read_without_its_allocator(rt: HostRuntime) {
+    let wanted = Ok(([Some(7), None, None], false, 0));
+    same(&rt, &"the word", &read_word(rt.alloc()), &wanted);
+}
+
+/// What is asked of a tree of another crate that binds `abc`, and of one that binds other letters:
+/// whether the first one contains the letters, binds them by a counted look-up, and has a key that
+/// is a prefix of them, whether it is a subset and a superset of the other one, and whether they
+/// intersect and are disjoint; how many keys it has, and how often both were asked for their
+/// allocators.
+fn asked_of_words(
+    alloc: Global,
+    letters: &str,
+) -> Result<([bool; 7], usize, (u32, u32)), AllocError> {
+    let word = Word::new(b"abc".to_vec(alloc)?, 7);
+    let other = Word::new(letters.as_bytes().to_vec(alloc)?, 1);
+    let letters = letters.as_bytes();
+    let answers = [
+        word.contains_key(letters),
+        word.get_counted(letters, &mut Steps::new()).is_some(),
+        word.get_longest(letters).is_some(),
+        word.is_subset(&other),
+        word.is_superset(&other),
+        word.intersects(&other),
+        word.is_disjoint(&other),
+    ];
+    Ok((answers, word.len(), (word.asked(), other.asked())))
 }
 
 #[test]
-fn trees_of_another_crate_are_tested_without_their_allocators(rt: HostRuntime) -> Result<(), Fail> {
-    let word = Word::new(b"abc".to_vec(rt.alloc())?, 7);
+fn trees_of_another_crate_are_tested_without_their_allocators(rt: HostRuntime) {
     for letters in ["abc", "ab", "abd", "abcd"] {
-        let other = Word::new(letters.as_bytes().to_vec(rt.alloc())?, 1);
         let is_same = letters == "abc";
-        assert_eq!(rt; word.contains_key(letters.as_bytes()), is_same);
-        assert_eq!(rt;
-            word.get_counted(letters.as_bytes(), &mut Steps::new())
-                .is_some(),
-            is_same
-        );
-        assert_eq!(rt; word.len(), 1);
-        let longest = word.get_longest(letters.as_bytes());
-        assert_eq!(rt; longest.is_some(), letters.starts_with("abc"));
-        assert_eq!(rt;
-            (word.is_subset(&other), word.is_superset(&other)),
-            (is_same, is_same)
-        );
-        assert_eq!(rt;
-            (word.intersects(&other), word.is_disjoint(&other)),
-            (is_same, !is_same)
-        );
-        assert_eq!(rt; (word.asked(), other.asked()), (0, 0), "{letters}");
+        let starts = letters.starts_with("abc");
+        let answers = [
+            is_same, is_same, starts, is_same, is_same, is_same, !is_same,
+        ];
+        let asked = asked_of_words(rt.alloc(), letters);
+        same(&rt, &letters, &asked, &Ok((answers, 1, (0, 0))));
     }
-    Ok(())
 }
 
 /// A letter whose case does not count.
@@ -220,10 +242,17 @@ fn finds_each_spelling<T: AbstractRadixTreeMut<Letter, u32>>(
 }
 
 #[test]
-fn components_are_compared_by_their_order(rt: HostRuntime) -> Result<(), Fail> {
-    assert!(rt; finds_each_spelling::<RadixTree<Letter, u32>>(rt.alloc())?);
-    assert!(rt; finds_each_spelling::<ArcRadixTree<Letter, u32>>(rt.alloc())?);
-    Ok(())
+fn components_are_compared_by_their_order(rt: HostRuntime) {
+    holds(
+        &rt,
+        &"plain",
+        finds_each_spelling::<RadixTree<Letter, u32>>(rt.alloc()),
+    );
+    holds(
+        &rt,
+        &"shared",
+        finds_each_spelling::<ArcRadixTree<Letter, u32>>(rt.alloc()),
+    );
 }
 
 /// How many letters the longest key of the next tree has.
@@ -251,17 +280,12 @@ fn comparisons<'a, T: AbstractRadixTreeMut<Compared<'a>, u32>>(
 }
 
 #[test]
-fn each_component_is_compared_once(rt: HostRuntime) -> Result<(), Fail> {
+fn each_component_is_compared_once(rt: HostRuntime) {
     let count = Cell::new(0);
-    assert_eq!(rt;
-        comparisons::<RadixTree<Compared, u32>>(rt.alloc(), &count)?,
-        (6, 6)
-    );
-    assert_eq!(rt;
-        comparisons::<ArcRadixTree<Compared, u32>>(rt.alloc(), &count)?,
-        (6, 6)
-    );
-    Ok(())
+    let plain = comparisons::<RadixTree<Compared, u32>>(rt.alloc(), &count);
+    same(&rt, &"plain", &plain, &Ok((6, 6)));
+    let shared = comparisons::<ArcRadixTree<Compared, u32>>(rt.alloc(), &count);
+    same(&rt, &"shared", &shared, &Ok((6, 6)));
 }
 
 /// How often values were made, cloned and dropped, and how many more clones are granted.
@@ -395,18 +419,13 @@ fn drops_of_eight<'a, T: AbstractRadixTreeMut<u8, Counted<'a>>>(
 }
 
 #[test]
-fn insert_clones_no_value_that_is_not_shared(rt: HostRuntime) -> Result<(), Fail> {
+fn insert_clones_no_value_that_is_not_shared(rt: HostRuntime) {
     let tally = Tally::new();
     tally.clones_left.set(0);
-    let plain = drops_of_eight::<RadixTree<u8, Counted>>(rt.alloc(), &tally)?;
-    assert_eq!(rt; plain, 1);
-    let dropped = tally.drops.get();
-    assert_eq!(rt; dropped, 9);
-    let shared = drops_of_eight::<ArcRadixTree<u8, Counted>>(rt.alloc(), &tally)?;
-    assert_eq!(rt; shared, 10);
-    let dropped = tally.drops.get();
-    assert_eq!(rt; dropped, 18);
-    Ok(())
+    let plain = drops_of_eight::<RadixTree<u8, Counted>>(rt.alloc(), &tally);
+    same(&rt, &"plain", &(plain, tally.drops()), &(Ok(1), 9));
+    let shared = drops_of_eight::<ArcRadixTree<u8, Counted>>(rt.alloc(), &tally);
+    same(&rt, &"shared", &(shared, tally.drops()), &(Ok(10), 18));
 }
 
 /// Inserts a key into the tree of the eight keys, of which a copy is kept. Answers the numbers
@@ -424,15 +443,12 @@ fn insert_beside_copy<'a, T: AbstractRadixTreeMut<u8, Counted<'a>> + Clone>(
 }
 
 #[test]
-fn a_snapshot_stays_and_few_values_are_copied(rt: HostRuntime) -> Result<(), Fail> {
+fn a_snapshot_stays_and_few_values_are_copied(rt: HostRuntime) {
     let tally = Tally::new();
-    let numbers = insert_beside_copy::<ArcRadixTree<u8, Counted>>(rt.alloc(), &tally)?;
-    assert_eq!(rt; numbers, (10, 0, 0));
-    let clones = tally.clones.get();
-    assert!(rt; clones <= COPIED);
-    let dropped = tally.drops.get();
-    assert_eq!(rt; dropped, tally.made_and_cloned());
-    Ok(())
+    let numbers = insert_beside_copy::<ArcRadixTree<u8, Counted>>(rt.alloc(), &tally);
+    same(&rt, &"the numbers", &numbers, &Ok((10, 0, 0)));
+    holds(&rt, &tally.clones(), Ok(tally.clones() <= COPIED));
+    same(&rt, &"the drops", &tally.drops(), &tally.made_and_cloned());
 }
 
 /// Whether a tree binds the eight keys to their numbers, and no other key of these tests.
@@ -466,38 +482,48 @@ fn is_refused_beside_a_copy_alone<'a, T: AbstractRadixTreeMut<u8, Counted<'a>> +
 }
 
 /// Takes keys out of the tree of the eight keys beside a copy: such as are not bound, and then,
-/// where each clone of a value is refused, `eeeef`, once beside the copy and once when it is gone.
-/// Answers whether the removal beside the copy alone was refused, and left both as they were.
+/// where each clone of a value is refused, `eeeef`. Answers whether that alone was refused, and left
+/// both as they were.
+fn is_kept_beside_a_copy<'a, T: AbstractRadixTreeMut<u8, Counted<'a>> + Clone>(
+    tree: &mut T,
+    tally: &'a Tally,
+) -> Result<bool, AllocError> {
+    let copy = tree.clone()?;
+    for key in ["", "aaaa", "bcd", "eeee", "z"] {
+        if tree.remove(key.as_bytes())?.is_some() {
+            return Ok(false);
+        }
+    }
+    tally.clones_left.set(0);
+    Ok(tree.remove(b"eeeef").is_err() && has_eight(tree) && has_eight(&copy))
+}
+
+/// Does that, and takes `eeeef` out once the copy is gone. Answers whether that is granted.
 fn is_removed_without_a_copy<'a, T: AbstractRadixTreeMut<u8, Counted<'a>> + Clone>(
     alloc: Global,
     tally: &'a Tally,
 ) -> Result<bool, AllocError> {
     let mut tree = T::empty(alloc);
     insert_eight(&mut tree, tally)?;
-    let copy = tree.clone()?;
-    let mut is_right = true;
-    for key in ["", "aaaa", "bcd", "eeee", "z"] {
-        is_right = is_right && tree.remove(key.as_bytes())?.is_none();
-    }
-    tally.clones_left.set(0);
-    is_right = is_right && tree.remove(b"eeeef").is_err() && has_eight(&tree) && has_eight(&copy);
-    drop(copy);
-    let removed = tree.remove(b"eeeef")?.map(|value| value.number);
-    Ok(is_right && removed == Some(8) && number_at(&tree, b"eeeef") == 0)
+    let is_kept = is_kept_beside_a_copy(&mut tree, tally)?;
+    let is_removed = match tree.remove(b"eeeef")? {
+        Some(value) => value.number == 8,
+        None => false,
+    };
+    Ok(is_kept && is_removed && number_at(&tree, b"eeeef") == 0)
 }
 
 #[test]
-fn a_key_that_is_not_bound_copies_nothing(rt: HostRuntime) -> Result<(), Fail> {
+fn a_key_that_is_not_bound_copies_nothing(rt: HostRuntime) {
     let tally = Tally::new();
-    let is_right = is_removed_without_a_copy::<ArcRadixTree<u8, Counted>>(rt.alloc(), &tally)?;
-    assert!(rt; is_right);
-    let counts = (tally.clones.get(), tally.drops.get());
-    assert_eq!(rt; counts, (0, tally.made_and_cloned()));
-    Ok(())
+    let is_right = is_removed_without_a_copy::<ArcRadixTree<u8, Counted>>(rt.alloc(), &tally);
+    holds(&rt, &"the removals", is_right);
+    let counts = (tally.clones(), tally.drops());
+    same(&rt, &"the counts", &counts, &(0, tally.made_and_cloned()));
 }
 
 #[test]
-fn a_refused_copy_leaves_the_same_map(rt: HostRuntime) -> Result<(), Fail> {
+fn a_refused_copy_leaves_the_same_map(rt: HostRuntime) {
     for granted in 0..COPIED {
         let tally = Tally::new();
         let of_new = Tally::new();
@@ -506,14 +532,14 @@ fn a_refused_copy_leaves_the_same_map(rt: HostRuntime) -> Result<(), Fail> {
             granted,
             &tally,
             &of_new,
-        )?;
-        let counts = (tally.clones.get(), tally.drops.get(), of_new.drops.get());
-        assert!(rt; alone, "at {granted}");
-        assert_eq!(rt;
-            counts,
-            (granted, tally.made_and_cloned(), 2),
-            "at {granted}"
+        );
+        holds(&rt, &granted, alone);
+        let counts = (tally.clones(), tally.drops(), of_new.drops());
+        same(
+            &rt,
+            &granted,
+            &counts,
+            &(granted, tally.made_and_cloned(), 2),
         );
     }
-    Ok(())
 }

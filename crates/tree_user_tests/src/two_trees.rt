@@ -3,7 +3,10 @@
 //! a prefix.
 
 use super::Word;
-use super::tests::{DEPTH, FORTY, FORTY_ELSE, Letter, capital, print_shape, small};
+use super::outcomes::holds;
+use super::questions::{left as left_value, sum_of_both};
+use super::tests::{FORTY, FORTY_ELSE, Letter, capital, small};
+use super::whole_trees::shape_of;
 use std::alloc::{AllocError, Global};
 use std::cell::Cell;
 use std::test::Fail;
@@ -23,13 +26,6 @@ fn tree_of<T: AbstractRadixTreeMut<u8, u32>>(
     Ok(tree)
 }
 
-/// The shape of a tree.
-fn shape_of<T: AbstractRadixTree<u8, u32>>(alloc: Global, tree: &T) -> Result<String, AllocError> {
-    let mut text = String::new(alloc);
-    print_shape(tree, &mut text, DEPTH)?;
-    Ok(text)
-}
-
 /// Whether a tree has this shape.
 fn has_shape<T: AbstractRadixTree<u8, u32>>(
     alloc: Global,
@@ -40,13 +36,13 @@ fn has_shape<T: AbstractRadixTree<u8, u32>>(
     Ok(text.as_str() == shape)
 }
 
-/// Whether a tree that was made has this shape.
+/// Whether a tree was made, and has this shape.
 fn is_made<T: AbstractRadixTreeMut<u8, u32>>(
     alloc: Global,
-    made: T,
+    made: Result<T, AllocError>,
     shape: &str,
 ) -> Result<bool, AllocError> {
-    has_shape(alloc, &made, shape)
+    has_shape(alloc, &made?, shape)
 }
 
 /// Keys on both sides, and whether they are disjoint, a subset, and a superset.
@@ -113,12 +109,11 @@ fn all_tests_answer<T: AbstractRadixTreeMut<u8, u32>, S: AbstractRadixTreeMut<u8
 }
 
 #[test]
-fn keys_of_two_trees_are_tested(rt: HostRuntime) -> Result<(), Fail> {
-    let plain = all_tests_answer::<RadixTree<u8, u32>, ArcRadixTree<u8, u32>>(rt.alloc())?;
-    assert!(rt; plain);
-    let shared = all_tests_answer::<ArcRadixTree<u8, u32>, RadixTree<u8, u32>>(rt.alloc())?;
-    assert!(rt; shared);
-    Ok(())
+fn keys_of_two_trees_are_tested(rt: HostRuntime) {
+    let plain = all_tests_answer::<RadixTree<u8, u32>, ArcRadixTree<u8, u32>>(rt.alloc());
+    holds(&rt, &"plain", plain);
+    let shared = all_tests_answer::<ArcRadixTree<u8, u32>, RadixTree<u8, u32>>(rt.alloc());
+    holds(&rt, &"shared", shared);
 }
 
 /// Keys on both sides, and the shapes of their union, intersection and difference.
@@ -159,12 +154,12 @@ fn are_combined<T: AbstractRadixTreeMut<u8, u32>, S: AbstractRadixTree<u8, u32>>
     right: &S,
     [union, intersection, difference]: [&str; 3],
 ) -> Result<bool, AllocError> {
-    let both: T = left.outer_combine(right, |v, _| Ok(Some(*v)))?;
+    let both: Result<T, AllocError> = left.outer_combine(right, left_value);
     Ok(
         is_made(alloc, both, union)?
-            && is_made(alloc, left.union(right)?, union)?
-            && is_made(alloc, left.intersection(right)?, intersection)?
-            && is_made(alloc, left.difference(right)?, difference)?,
+            && is_made(alloc, left.union(right), union)?
+            && is_made(alloc, left.intersection(right), intersection)?
+            && is_made(alloc, left.difference(right), difference)?,
     )
 }
 
@@ -182,12 +177,11 @@ fn have_shapes<T: AbstractRadixTreeMut<u8, u32>, S: AbstractRadixTreeMut<u8, u32
 }
 
 #[test]
-fn combined_trees_have_their_shapes(rt: HostRuntime) -> Result<(), Fail> {
-    let plain = have_shapes::<RadixTree<u8, u32>, ArcRadixTree<u8, u32>>(rt.alloc())?;
-    assert!(rt; plain);
-    let shared = have_shapes::<ArcRadixTree<u8, u32>, RadixTree<u8, u32>>(rt.alloc())?;
-    assert!(rt; shared);
-    Ok(())
+fn combined_trees_have_their_shapes(rt: HostRuntime) {
+    let plain = have_shapes::<RadixTree<u8, u32>, ArcRadixTree<u8, u32>>(rt.alloc());
+    holds(&rt, &"plain", plain);
+    let shared = have_shapes::<ArcRadixTree<u8, u32>, RadixTree<u8, u32>>(rt.alloc());
+    holds(&rt, &"shared", shared);
 }
 
 /// Keys, a prefix, and the shape of the tree of the keys that start with it.
@@ -226,18 +220,17 @@ fn are_filtered<T: AbstractRadixTreeMut<u8, u32>>(alloc: Global) -> Result<bool,
     let mut all = true;
     for (keys, prefix, shape) in FILTERED {
         let tree: T = tree_of(alloc, keys)?;
-        all = all && is_made(alloc, tree.filter_prefix(prefix.as_bytes())?, shape)?;
+        all = all && is_made(alloc, tree.filter_prefix(prefix.as_bytes()), shape)?;
     }
     Ok(all)
 }
 
 #[test]
-fn keys_under_a_prefix_are_filtered(rt: HostRuntime) -> Result<(), Fail> {
-    let plain = are_filtered::<RadixTree<u8, u32>>(rt.alloc())?;
-    assert!(rt; plain);
-    let shared = are_filtered::<ArcRadixTree<u8, u32>>(rt.alloc())?;
-    assert!(rt; shared);
-    Ok(())
+fn keys_under_a_prefix_are_filtered(rt: HostRuntime) {
+    let plain = are_filtered::<RadixTree<u8, u32>>(rt.alloc());
+    holds(&rt, &"plain", plain);
+    let shared = are_filtered::<ArcRadixTree<u8, u32>>(rt.alloc());
+    holds(&rt, &"shared", shared);
 }
 
 /// Whether a left combine of `{a=>0, ab=>1, abc=>2}` with `{ab=>7}` asks once at each key of the
@@ -256,7 +249,7 @@ fn asks_once<T: AbstractRadixTreeMut<u8, u32>, S: AbstractRadixTree<u8, u32>>(
         && all.get(b"a") == Some(&10)
         && all.get(b"ab") == Some(&8)
         && all.get(b"abc") == Some(&12);
-    Ok(is_right && is_made(alloc, all, "a*(b*(c*))")?)
+    Ok(is_right && has_shape(alloc, &all, "a*(b*(c*))")?)
 }
 
 /// Whether it drops the keys at which it answers none.
@@ -282,10 +275,10 @@ fn asks_at_each_key<T: AbstractRadixTreeMut<u8, u32>, S: AbstractRadixTree<u8, u
 #[test]
 fn a_left_combine_asks_at_each_key(rt: HostRuntime) -> Result<(), Fail> {
     let word = Word::new(b"ab".to_vec(rt.alloc())?, 7);
-    let plain = asks_at_each_key::<RadixTree<u8, u32>, Word>(rt.alloc(), &word)?;
-    assert!(rt; plain);
-    let shared = asks_at_each_key::<ArcRadixTree<u8, u32>, Word>(rt.alloc(), &word)?;
-    assert!(rt; shared);
+    let plain = asks_at_each_key::<RadixTree<u8, u32>, Word>(rt.alloc(), &word);
+    holds(&rt, &"plain", plain);
+    let shared = asks_at_each_key::<ArcRadixTree<u8, u32>, Word>(rt.alloc(), &word);
+    holds(&rt, &"shared", shared);
     Ok(())
 }
 
@@ -295,8 +288,8 @@ fn is_summed<T: AbstractRadixTreeMut<u8, u32>>(
     word: &Word,
     tree: &T,
 ) -> Result<bool, AllocError> {
-    let kept: T = word.left_combine(tree, |v, w| Ok(w.map(|w| v.saturating_add(*w))))?;
-    Ok(kept.get(b"abc") == Some(&8) && is_made(alloc, kept, "abc*")?)
+    let kept: T = word.left_combine(tree, sum_of_both)?;
+    Ok(kept.get(b"abc") == Some(&8) && has_shape(alloc, &kept, "abc*")?)
 }
 
 /// Whether a tree of another crate is tested on both sides, and combined into a flavour.
@@ -310,17 +303,17 @@ fn is_told_of_a_word<T: AbstractRadixTreeMut<u8, u32>>(
         tests_answer(word, &tree, [false, true, false])
             && tests_answer(word, &other, [true, false, false])
             && is_summed(alloc, word, &tree)?
-            && is_made(alloc, other.union(word)?, "ab*(c* d*)")?,
+            && is_made(alloc, other.union(word), "ab*(c* d*)")?,
     )
 }
 
 #[test]
 fn a_tree_of_another_crate_is_told_of(rt: HostRuntime) -> Result<(), Fail> {
     let word = Word::new(b"abc".to_vec(rt.alloc())?, 7);
-    let plain = is_told_of_a_word::<RadixTree<u8, u32>>(rt.alloc(), &word)?;
-    assert!(rt; plain);
-    let shared = is_told_of_a_word::<ArcRadixTree<u8, u32>>(rt.alloc(), &word)?;
-    assert!(rt; shared);
+    let plain = is_told_of_a_word::<RadixTree<u8, u32>>(rt.alloc(), &word);
+    holds(&rt, &"plain", plain);
+    let shared = is_told_of_a_word::<ArcRadixTree<u8, u32>>(rt.alloc(), &word);
+    holds(&rt, &"shared", shared);
     Ok(())
 }
 
@@ -352,7 +345,7 @@ fn keys_are_found<T: AbstractRadixTreeMut<Letter, u32>>(
     right: &T,
 ) -> Result<bool, AllocError> {
     let under = left.filter_prefix(&[capital(0)])?;
-    let summed: T = left.left_combine(right, |v, w| Ok(w.map(|w| v.saturating_add(*w))))?;
+    let summed: T = left.left_combine(right, sum_of_both)?;
     Ok(under.get(&key(false)) == Some(&1) && summed.get(&key(false)) == Some(&3))
 }
 
@@ -366,12 +359,11 @@ fn spellings_are_one_key<T: AbstractRadixTreeMut<Letter, u32>>(
 }
 
 #[test]
-fn equal_components_are_combined(rt: HostRuntime) -> Result<(), Fail> {
-    let plain = spellings_are_one_key::<RadixTree<Letter, u32>>(rt.alloc())?;
-    assert!(rt; plain);
-    let shared = spellings_are_one_key::<ArcRadixTree<Letter, u32>>(rt.alloc())?;
-    assert!(rt; shared);
-    Ok(())
+fn equal_components_are_combined(rt: HostRuntime) {
+    let plain = spellings_are_one_key::<RadixTree<Letter, u32>>(rt.alloc());
+    holds(&rt, &"plain", plain);
+    let shared = spellings_are_one_key::<ArcRadixTree<Letter, u32>>(rt.alloc());
+    holds(&rt, &"shared", shared);
 }
 
 /// Pairs in two orders, and whether their trees are equal.
@@ -420,8 +412,6 @@ fn all_are_collected(alloc: Global) -> Result<bool, AllocError> {
 }
 
 #[test]
-fn collected_trees_are_compared(rt: HostRuntime) -> Result<(), Fail> {
-    let all = all_are_collected(rt.alloc())?;
-    assert!(rt; all);
-    Ok(())
+fn collected_trees_are_compared(rt: HostRuntime) {
+    holds(&rt, &"the rows", all_are_collected(rt.alloc()));
 }

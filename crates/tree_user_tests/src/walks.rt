@@ -1,6 +1,8 @@
 //! Walks: the rows of keys, kept keys, clones and drops of values, and deep trees.
 
 use super::Word;
+use super::outcomes::{holds, reads, same};
+use super::questions::always;
 use super::tests::{Counted, Tally};
 use std::alloc::{AllocError, Global};
 use std::test::Fail;
@@ -155,27 +157,30 @@ fn walks_row<T: AbstractRadixTreeMut<u8, u32>>(
 }
 
 #[test]
-fn walks_ascend(rt: HostRuntime) -> Result<(), Fail> {
+fn walks_ascend(rt: HostRuntime) {
     for row in ROWS {
-        assert!(rt;
-            walks_row::<RadixTree<u8, u32>>(rt.alloc(), row)?,
-            "{:?}",
-            row.0
+        holds(
+            &rt,
+            &row.0,
+            walks_row::<RadixTree<u8, u32>>(rt.alloc(), row),
         );
-        assert!(rt;
-            walks_row::<ArcRadixTree<u8, u32>>(rt.alloc(), row)?,
-            "{:?}",
-            row.0
+        holds(
+            &rt,
+            &row.0,
+            walks_row::<ArcRadixTree<u8, u32>>(rt.alloc(), row),
         );
     }
-    Ok(())
 }
 
 #[test]
 fn a_tree_of_another_crate_is_walked(rt: HostRuntime) -> Result<(), Fail> {
     let word = Word::new(b"abc".to_vec(rt.alloc())?, 7);
-    assert!(rt; gives(rt.alloc(), word.iter(), "7abc")?);
-    assert!(rt; gives(rt.alloc(), word.scan_prefix(b"ab"), "7abc")?);
+    holds(&rt, &"all", gives(rt.alloc(), word.iter(), "7abc"));
+    holds(
+        &rt,
+        &"under ab",
+        gives(rt.alloc(), word.scan_prefix(b"ab"), "7abc"),
+    );
     Ok(())
 }
 
@@ -204,12 +209,11 @@ const KEPT: &str =
     "[IterKey([97]), IterKey([97]), IterKey([97, 98]), IterKey([97, 98]), IterKey([97, 98, 99]), IterKey([97, 98, 99]), IterKey([98]), IterKey([98])]";
 
 #[test]
-fn kept_keys_stay(rt: HostRuntime) -> Result<(), Fail> {
-    let text = print_kept_of::<RadixTree<u8, u32>>(rt.alloc())?;
-    assert_eq!(rt; text.as_str(), KEPT);
-    let text = print_kept_of::<ArcRadixTree<u8, u32>>(rt.alloc())?;
-    assert_eq!(rt; text.as_str(), KEPT);
-    Ok(())
+fn kept_keys_stay(rt: HostRuntime) {
+    let plain = print_kept_of::<RadixTree<u8, u32>>(rt.alloc());
+    reads(&rt, &"plain", plain, KEPT);
+    let shared = print_kept_of::<ArcRadixTree<u8, u32>>(rt.alloc());
+    reads(&rt, &"shared", shared, KEPT);
 }
 
 /// The tree of three counted values.
@@ -238,13 +242,22 @@ fn first_number<'a, T: AbstractRadixTreeMut<u8, Counted<'a>>>(
 }
 
 #[test]
-fn a_walk_that_is_let_go_drops_what_is_left(rt: HostRuntime) -> Result<(), Fail> {
+fn a_walk_that_is_let_go_drops_what_is_left(rt: HostRuntime) {
     let tally = Tally::new();
-    let plain = first_number::<RadixTree<u8, Counted>>(rt.alloc(), &tally)?;
-    assert_eq!(rt; (plain, tally.clones(), tally.drops()), (1, 1, 4));
-    let shared = first_number::<ArcRadixTree<u8, Counted>>(rt.alloc(), &tally)?;
-    assert_eq!(rt; (shared, tally.clones(), tally.drops()), (1, 2, 8));
-    Ok(())
+    let plain = first_number::<RadixTree<u8, Counted>>(rt.alloc(), &tally);
+    same(
+        &rt,
+        &"plain",
+        &(plain, tally.clones(), tally.drops()),
+        &(Ok(1), 1, 4),
+    );
+    let shared = first_number::<ArcRadixTree<u8, Counted>>(rt.alloc(), &tally);
+    same(
+        &rt,
+        &"shared",
+        &(shared, tally.clones(), tally.drops()),
+        &(Ok(1), 2, 8),
+    );
 }
 
 /// Walks a tree of three counted values, which the walk holds, until the clones that are granted
@@ -270,22 +283,19 @@ fn sum_of_granted<'a, T: AbstractRadixTreeMut<u8, Counted<'a>>>(
 }
 
 #[test]
-fn a_held_tree_is_dropped_once(rt: HostRuntime) -> Result<(), Fail> {
+fn a_held_tree_is_dropped_once(rt: HostRuntime) {
     for (granted, sum) in [(0, 0u32), (1, 1), (2, 3)] {
         for shared in [false, true] {
             let tally = Tally::new();
             let walked = if shared {
-                sum_of_granted::<ArcRadixTree<u8, Counted>>(rt.alloc(), granted, &tally)?
+                sum_of_granted::<ArcRadixTree<u8, Counted>>(rt.alloc(), granted, &tally)
             } else {
-                sum_of_granted::<RadixTree<u8, Counted>>(rt.alloc(), granted, &tally)?
+                sum_of_granted::<RadixTree<u8, Counted>>(rt.alloc(), granted, &tally)
             };
-            assert_eq!(rt; walked.0, sum, "at {granted}");
-            assert!(rt; walked.1, "at {granted}");
-            let dropped = tally.drops.get();
-            assert_eq!(rt; dropped, tally.made_and_cloned(), "at {granted}");
+            same(&rt, &granted, &walked, &Ok((sum, true)));
+            same(&rt, &granted, &tally.drops(), &tally.made_and_cloned());
         }
     }
-    Ok(())
 }
 
 /// How many nested keys the deep trees have.
@@ -366,16 +376,20 @@ fn count_held_nested<T: AbstractRadixTreeMut<u8, u32>>(
 }
 
 #[test]
-fn deep_trees_are_walked(rt: HostRuntime) -> Result<(), Fail> {
-    let plain = count_nested::<RadixTree<u8, u32>>(rt.alloc(), DEPTH)?;
-    assert_eq!(rt; plain, [DEPTH, DEPTH - 1, DEPTH]);
-    let shared = count_nested::<ArcRadixTree<u8, u32>>(rt.alloc(), SHARED_DEPTH)?;
-    assert_eq!(rt; shared, [SHARED_DEPTH, SHARED_DEPTH - 1, SHARED_DEPTH]);
-    let held = count_held_nested::<RadixTree<u8, u32>>(rt.alloc(), HELD_DEPTH)?;
-    assert_eq!(rt; held, HELD_DEPTH);
-    let held = count_held_nested::<ArcRadixTree<u8, u32>>(rt.alloc(), SHARED_DEPTH)?;
-    assert_eq!(rt; held, SHARED_DEPTH);
-    Ok(())
+fn deep_trees_are_walked(rt: HostRuntime) {
+    let plain = count_nested::<RadixTree<u8, u32>>(rt.alloc(), DEPTH);
+    same(&rt, &"plain", &plain, &Ok([DEPTH, DEPTH - 1, DEPTH]));
+    let shared = count_nested::<ArcRadixTree<u8, u32>>(rt.alloc(), SHARED_DEPTH);
+    same(
+        &rt,
+        &"shared",
+        &shared,
+        &Ok([SHARED_DEPTH, SHARED_DEPTH - 1, SHARED_DEPTH]),
+    );
+    let held = count_held_nested::<RadixTree<u8, u32>>(rt.alloc(), HELD_DEPTH);
+    same(&rt, &"held", &held, &Ok(HELD_DEPTH));
+    let held = count_held_nested::<ArcRadixTree<u8, u32>>(rt.alloc(), SHARED_DEPTH);
+    same(&rt, &"held and shared", &held, &Ok(SHARED_DEPTH));
 }
 
 /// How many nested keys are left where those that start with the one of a hundred letters are
@@ -385,7 +399,7 @@ fn count_below_hundred<T: AbstractRadixTreeMut<u8, u32>>(
 ) -> Result<usize, AllocError> {
     let mut tree = nested::<T>(alloc, 200)?;
     let hundred = T::single(alloc, &[b'a'; 100], 1)?;
-    tree.remove_prefix_with(&hundred, |_: &u32| -> bool { true })?;
+    tree.remove_prefix_with(&hundred, always)?;
     let mut count = 0usize;
     for item in tree.iter() {
         let (key, _) = item?;
@@ -398,9 +412,8 @@ fn count_below_hundred<T: AbstractRadixTreeMut<u8, u32>>(
 }
 
 #[test]
-fn nested_keys_are_removed(rt: HostRuntime) -> Result<(), Fail> {
-    let plain = count_below_hundred::<RadixTree<u8, u32>>(rt.alloc())?;
-    let shared = count_below_hundred::<ArcRadixTree<u8, u32>>(rt.alloc())?;
-    assert_eq!(rt; (plain, shared), (99, 99));
-    Ok(())
+fn nested_keys_are_removed(rt: HostRuntime) {
+    let plain = count_below_hundred::<RadixTree<u8, u32>>(rt.alloc());
+    let shared = count_below_hundred::<ArcRadixTree<u8, u32>>(rt.alloc());
+    same(&rt, &"the keys", &(plain, shared), &(Ok(99), Ok(99)));
 }

@@ -1,5 +1,7 @@
 //! Whole trees: made of pairs, cloned, shared and shown.
 
+use super::outcomes::{holds, same};
+use super::questions::always;
 use super::tests::{Counted, DEPTH, Tally, print_shape};
 use std::alloc::{AllocError, Global};
 use std::test::Fail;
@@ -38,19 +40,17 @@ fn shown(alloc: Global) -> Result<(String, String), AllocError> {
 #[test]
 fn trees_are_shown(rt: HostRuntime) -> Result<(), Fail> {
     let (plain, shared) = shown(rt.alloc())?;
-    assert_eq!(rt;
-        plain.as_str(),
-        "RadixTree { prefix: [97], value: None, children: [RadixTree { prefix: [98], value: Some(1), children: [] }, RadixTree { prefix: [99], value: Some(2), children: [] }] }"
-    );
-    assert_eq!(rt;
-        shared.as_str(),
-        "ArcRadixTree { prefix: [97], value: None, children: [ArcRadixTree { prefix: [98], value: Some(1), children: [] }, ArcRadixTree { prefix: [99], value: Some(2), children: [] }] }"
-    );
+    let wanted =
+        "RadixTree { prefix: [97], value: None, children: [RadixTree { prefix: [98], value: Some(1), children: [] }, RadixTree { prefix: [99], value: Some(2), children: [] }] }";
+    same(&rt, &"plain", &plain.as_str(), &wanted);
+    let wanted =
+        "ArcRadixTree { prefix: [97], value: None, children: [ArcRadixTree { prefix: [98], value: Some(1), children: [] }, ArcRadixTree { prefix: [99], value: Some(2), children: [] }] }";
+    same(&rt, &"shared", &shared.as_str(), &wanted);
     Ok(())
 }
 
 /// The shape of a tree.
-fn shape_of<V: TValue, T: AbstractRadixTree<u8, V>>(
+pub(crate) fn shape_of<V: TValue, T: AbstractRadixTree<u8, V>>(
     alloc: Global,
     tree: &T,
 ) -> Result<String, AllocError> {
@@ -67,7 +67,7 @@ fn shapes_beside_clone<T: AbstractRadixTreeMut<u8, u32> + Clone>(
     let mut tree = tree;
     let kept = tree.clone()?;
     let that = T::single(alloc, b"aabbc", 1)?;
-    tree.remove_prefix_with(&that, |_: &u32| -> bool { true })?;
+    tree.remove_prefix_with(&that, always)?;
     Ok((shape_of(alloc, &tree)?, shape_of(alloc, &kept)?))
 }
 
@@ -95,8 +95,8 @@ fn shapes_beside_insert<'a, T: AbstractRadixTreeMut<u8, Counted<'a>> + Clone>(
 #[test]
 fn a_kept_clone_stays(rt: HostRuntime) -> Result<(), Fail> {
     let (left, kept) = shapes_of_shared(rt.alloc())?;
-    assert_eq!(rt; left.as_str(), "aabb*(ee*)");
-    assert_eq!(rt; kept.as_str(), "aabb*(cc* ee*)");
+    let wanted = ("aabb*(ee*)", "aabb*(cc* ee*)");
+    same(&rt, &"a removal", &(left.as_str(), kept.as_str()), &wanted);
     for (granted, shape) in [(0, "a*(b*)"), (1, "a*(b*(c*))")] {
         let tally = Tally::new();
         let (is_refused, left, kept) = shapes_beside_insert::<ArcRadixTree<u8, Counted>>(
@@ -104,9 +104,8 @@ fn a_kept_clone_stays(rt: HostRuntime) -> Result<(), Fail> {
             granted,
             &tally,
         )?;
-        assert_eq!(rt; is_refused, granted == 0);
-        assert_eq!(rt; left.as_str(), shape);
-        assert_eq!(rt; kept.as_str(), "a*(b*)");
+        let found = (is_refused, left.as_str(), kept.as_str());
+        same(&rt, &granted, &found, &(granted == 0, shape, "a*(b*)"));
     }
     Ok(())
 }
@@ -139,13 +138,10 @@ fn counts_of_sharing(alloc: Global, tally: &Tally) -> Result<(u32, u32), AllocEr
 }
 
 #[test]
-fn a_shared_tree_takes_the_values_over(rt: HostRuntime) -> Result<(), Fail> {
+fn a_shared_tree_takes_the_values_over(rt: HostRuntime) {
     let tally = Tally::new();
-    let counts = counts_of_sharing(rt.alloc(), &tally)?;
-    assert_eq!(rt; counts, (0, 0));
-    let dropped = tally.drops();
-    assert_eq!(rt; dropped, 3);
-    Ok(())
+    let counts = counts_of_sharing(rt.alloc(), &tally);
+    same(&rt, &"shared", &(counts, tally.drops()), &(Ok((0, 0)), 3));
 }
 
 /// Whether a prefix longer than its place is split and copied, and a node has eight children.
@@ -174,10 +170,15 @@ fn is_wide_and_long<T: AbstractRadixTreeMut<u8, u32> + Clone>(
 }
 
 #[test]
-fn long_prefixes_and_many_children(rt: HostRuntime) -> Result<(), Fail> {
-    let plain = is_wide_and_long::<RadixTree<u8, u32>>(rt.alloc())?;
-    assert!(rt; plain);
-    let shared = is_wide_and_long::<ArcRadixTree<u8, u32>>(rt.alloc())?;
-    assert!(rt; shared);
-    Ok(())
+fn long_prefixes_and_many_children(rt: HostRuntime) {
+    holds(
+        &rt,
+        &"plain",
+        is_wide_and_long::<RadixTree<u8, u32>>(rt.alloc()),
+    );
+    holds(
+        &rt,
+        &"shared",
+        is_wide_and_long::<ArcRadixTree<u8, u32>>(rt.alloc()),
+    );
 }
