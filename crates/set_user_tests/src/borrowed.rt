@@ -4,10 +4,10 @@ ghost use Rattle.std.specs.String.{string_bytes};
 ghost use Rattle.set_user_tests.specs.Releases.{release_cmp, release_total};
 ghost use Rattle.vc_sets.specs.Borrowed.{equal_by_form, behind_by_form};
 
+use crate::outcomes::holds;
 use std::alloc::{AllocError, Global};
 use std::cmp::Ordering;
 use std::default::MadeWith;
-use std::test::Fail;
 use vc_sets::borrowed::Borrowed;
 use vc_sets::vec_set::{AbstractVecSet, VecSet};
 
@@ -45,14 +45,11 @@ fn is_right(alloc: Global, list: &[&str], sought: &str, is_held: bool) -> Result
 }
 
 #[test]
-fn words_are_found_by_their_letters(rt: HostRuntime) -> Result<(), Fail> {
+fn words_are_found_by_their_letters(rt: HostRuntime) {
     for (list, sought, is_held) in ROWS {
-        assert!(rt;
-            is_right(rt.alloc(), list, sought, is_held)?,
-            "{sought:?} in {list:?}"
-        );
+        let answer = is_right(rt.alloc(), list, sought, is_held);
+        holds(&rt, &(sought, list), answer);
     }
-    Ok(())
 }
 
 /// Which of two lists of numbers is found by its numbers, and which of two numbers by a reference.
@@ -68,9 +65,8 @@ fn are_found(alloc: Global) -> Result<bool, AllocError> {
 }
 
 #[test]
-fn lists_and_numbers_are_found(rt: HostRuntime) -> Result<(), Fail> {
-    assert!(rt; are_found(rt.alloc())?);
-    Ok(())
+fn lists_and_numbers_are_found(rt: HostRuntime) {
+    holds(&rt, &"the lists", are_found(rt.alloc()));
 }
 
 /// A release of a program. Releases are ordered by name, and then by number.
@@ -123,7 +119,6 @@ fn is_found_by_name(alloc: Global) -> Result<bool, AllocError> {
 }
 
 #[test]
-fn releases_are_found_by_their_names(rt: HostRuntime) -> Result<(), Fail> {
-    assert!(rt; is_found_by_name(rt.alloc())?);
-    Ok(())
+fn releases_are_found_by_their_names(rt: HostRuntime) {
+    holds(&rt, &"the names", is_found_by_name(rt.alloc()));
 }

@@ -2,6 +2,7 @@
 //! early.
 
 use crate::nth::Nth;
+use crate::outcomes::{holds, same};
 use smallvec::SmallVec;
 use std::alloc::{AllocError, Global};
 use std::rc::Rc;
@@ -33,9 +34,8 @@ fn is_built(alloc: Global) -> Result<bool, AllocError> {
 }
 
 #[test]
-fn builds_in_front_of_what_is_left(rt: HostRuntime) -> Result<(), Fail> {
-    assert!(rt; is_built(rt.alloc())?);
-    Ok(())
+fn builds_in_front_of_what_is_left(rt: HostRuntime) {
+    holds(&rt, &"the list", is_built(rt.alloc()));
 }
 
 /// Whether a builder takes the list, and shows what it has and hands it out.
@@ -48,9 +48,8 @@ fn is_shown(alloc: Global) -> Result<bool, AllocError> {
 }
 
 #[test]
-fn shows_what_is_left(rt: HostRuntime) -> Result<(), Fail> {
-    assert!(rt; is_shown(rt.alloc())?);
-    Ok(())
+fn shows_what_is_left(rt: HostRuntime) {
+    holds(&rt, &"the text", is_shown(rt.alloc()));
 }
 
 /// Builds in a small list, and says whether that was empty meanwhile.
@@ -77,9 +76,8 @@ fn builds_small(alloc: Global) -> Result<bool, AllocError> {
 }
 
 #[test]
-fn goes_from_a_small_list_and_back(rt: HostRuntime) -> Result<(), Fail> {
-    assert!(rt; builds_small(rt.alloc())?);
-    Ok(())
+fn goes_from_a_small_list_and_back(rt: HostRuntime) {
+    holds(&rt, &"the lists", builds_small(rt.alloc()));
 }
 
 /// A list of clones of a count.
@@ -117,9 +115,13 @@ fn drop_of_four(alloc: Global) -> Result<([usize; 3], usize), AllocError> {
 }
 
 #[test]
-fn drops_each_element_once(rt: HostRuntime) -> Result<(), Fail> {
-    assert_eq!(rt; drop_of_four(rt.alloc())?, ([5, 4, 2], 1));
-    Ok(())
+fn drops_each_element_once(rt: HostRuntime) {
+    same(
+        &rt,
+        &"the drops",
+        &drop_of_four(rt.alloc()),
+        &Ok(([5, 4, 2], 1)),
+    );
 }
 
 /// How many hold a count while a builder has one more of it, and once the builder was dropped
@@ -144,9 +146,13 @@ fn drop_three_early(alloc: Global) -> Result<[usize; 2], AllocError> {
 }
 
 #[test]
-fn drops_each_element_once_where_it_is_dropped_early(rt: HostRuntime) -> Result<(), Fail> {
-    assert_eq!(rt; drop_three_early(rt.alloc())?, [5, 1]);
-    Ok(())
+fn drops_each_element_once_where_it_is_dropped_early(rt: HostRuntime) {
+    same(
+        &rt,
+        &"the drops",
+        &drop_three_early(rt.alloc()),
+        &Ok([5, 1]),
+    );
 }
 
 /// Each request that is refused, whether the builder is made then, and whether the request had
@@ -175,12 +181,11 @@ fn finish(memory: &Nth<Global>, number: u64) -> Result<(bool, bool), AllocError>
 }
 
 #[test]
-fn takes_memory_twice_and_at_the_start(rt: HostRuntime) -> Result<(), Fail> {
+fn takes_memory_twice_and_at_the_start(rt: HostRuntime) {
     let memory = Nth::new(rt.alloc(), 0);
     for (number, outcome) in REFUSED {
-        assert!(rt; finish(&memory, number)? == outcome, "{number}");
+        same(&rt, &number, &finish(&memory, number), &Ok(outcome));
     }
-    Ok(())
 }
 
 /// Makes a builder of a list of two numbers in place, where the request of that number is refused.
@@ -198,10 +203,9 @@ fn open_in_place(memory: &Nth<Global>, number: u64) -> Result<(bool, bool), Allo
 }
 
 #[test]
-fn takes_no_memory_for_the_way_from_a_list_in_place(rt: HostRuntime) -> Result<(), Fail> {
+fn takes_no_memory_for_the_way_from_a_list_in_place(rt: HostRuntime) {
     let memory = Nth::new(rt.alloc(), 0);
     for (number, outcome) in REFUSED {
-        assert!(rt; open_in_place(&memory, number)? == outcome, "{number}");
+        same(&rt, &number, &open_in_place(&memory, number), &Ok(outcome));
     }
-    Ok(())
 }

@@ -3,9 +3,9 @@
 
 use crate::compared::Compared;
 use crate::lengths::{LENGTHS, PLACES, Place};
+use crate::outcomes;
 use std::alloc::{AllocError, Global};
 use std::cell::Cell;
-use std::test::Fail;
 use vc_merge::merge::{Count, Steps};
 use vc_sets::vec_set::{AbstractVecSet, SetOp, SetTest, VecSet};
 
@@ -215,15 +215,12 @@ fn lengths_agree<'a>(
 }
 
 #[test]
-fn each_comparison_is_counted_and_none_is_beyond_the_bound(rt: HostRuntime) -> Result<(), Fail> {
+fn each_comparison_is_counted_and_none_is_beyond_the_bound(rt: HostRuntime) {
     for row in LENGTHS {
         for place in PLACES {
             let count = Cell::new(0);
-            assert!(rt;
-                lengths_agree(rt.alloc(), place, row, &count)?,
-                "{place:?} {row:?}"
-            );
+            let agree = lengths_agree(rt.alloc(), place, row, &count);
+            outcomes::holds(&rt, &(place, row), agree);
         }
     }
-    Ok(())
 }

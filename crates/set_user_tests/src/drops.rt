@@ -3,6 +3,7 @@
 //! be cloned.
 use crate::held::{Held, Shared, hold, holders_of};
 use crate::nth::Nth;
+use crate::outcomes::{holds, same};
 use std::alloc::{AllocError, Global};
 use std::collections::BTreeSet;
 use std::rc::Rc;
@@ -208,14 +209,8 @@ fn changes_drop_each_element_once_and_clone_none_that_they_keep(
     let six = Six::new(rt.alloc())?;
     let memory = Nth::new(Nth::new(rt.alloc(), 0), 0);
     for row in CHANGES {
-        assert!(rt;
-            is_always_dropped_once(&six, &memory, row, false)?,
-            "{row:?}"
-        );
-        assert!(rt;
-            is_always_dropped_once(&six, &memory, row, true)?,
-            "{row:?}"
-        );
+        holds(&rt, &row, is_always_dropped_once(&six, &memory, row, false));
+        holds(&rt, &row, is_always_dropped_once(&six, &memory, row, true));
     }
     Ok(())
 }
@@ -349,10 +344,8 @@ fn refused_calls_drop_what_they_took_once(rt: HostRuntime) -> Result<(), Fail> {
     let memory = Nth::new(Nth::new(rt.alloc(), 0), 0);
     for call in TAKING {
         for number in 0..LIMIT {
-            assert!(rt;
-                takes(rt.alloc(), &memory, &six, call, number),
-                "{call:?} at {number}"
-            );
+            let are_dropped = takes(rt.alloc(), &memory, &six, call, number);
+            holds(&rt, &(call, number), Ok(are_dropped));
         }
     }
     Ok(())
@@ -394,10 +387,8 @@ fn pops(six: &Six, memory: &Memory) -> Result<[[usize; 6]; 3], AllocError> {
 fn elements_that_are_popped_are_handed_over(rt: HostRuntime) -> Result<(), Fail> {
     let six = Six::new(rt.alloc())?;
     let memory = Nth::new(Nth::new(rt.alloc(), 0), 0);
-    assert_eq!(rt;
-        pops(&six, &memory)?,
-        [[2, 2, 2, 1, 1, 1], [1, 2, 1, 1, 1, 1], ALONE]
-    );
+    let wanted = Ok([[2, 2, 2, 1, 1, 1], [1, 2, 1, 1, 1, 1], ALONE]);
+    same(&rt, &"the holders", &pops(&six, &memory), &wanted);
     Ok(())
 }
 
@@ -442,6 +433,6 @@ const LET_GO: [[usize; 6]; 6] = [
 fn elements_that_go_are_dropped(rt: HostRuntime) -> Result<(), Fail> {
     let six = Six::new(rt.alloc())?;
     let memory = Nth::new(Nth::new(rt.alloc(), 0), 0);
-    assert_eq!(rt; let_go(&six, &memory)?, LET_GO);
+    same(&rt, &"the holders", &let_go(&six, &memory), &Ok(LET_GO));
     Ok(())
 }

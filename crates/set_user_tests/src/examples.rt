@@ -2,6 +2,7 @@
 //! text and hashes.
 
 use crate::marked::Marked;
+use crate::outcomes::{holds, same};
 use smallvec::SmallVec;
 use std::alloc::{AllocError, Global};
 use std::cell::Cell;
@@ -126,11 +127,10 @@ fn agrees(alloc: Global, row: &Row) -> Result<bool, AllocError> {
 }
 
 #[test]
-fn operations_are_as_worked_out(rt: HostRuntime) -> Result<(), Fail> {
+fn operations_are_as_worked_out(rt: HostRuntime) {
     for row in &ROWS {
-        assert!(rt; agrees(rt.alloc(), row)?, "{:?}", row.union);
+        holds(&rt, &row.union, agrees(rt.alloc(), row));
     }
-    Ok(())
 }
 
 /// The mark of the only element, or a blank.
@@ -170,9 +170,9 @@ fn marks_of_one(alloc: Global) -> Result<(bool, [char; 3]), AllocError> {
 }
 
 #[test]
-fn insert_takes_the_new_and_union_the_left(rt: HostRuntime) -> Result<(), Fail> {
-    assert_eq!(rt; marks_of_one(rt.alloc())?, (false, ['b', 'b', 'b']));
-    Ok(())
+fn insert_takes_the_new_and_union_the_left(rt: HostRuntime) {
+    let wanted = Ok((false, ['b', 'b', 'b']));
+    same(&rt, &"the marks", &marks_of_one(rt.alloc()), &wanted);
 }
 
 /// The set of a list, or of no element where that does not ascend.
@@ -217,7 +217,7 @@ fn conversions_agree(alloc: Global, set: &Numbers) -> Result<bool, AllocError> {
 #[test]
 fn sets_come_from_lists(rt: HostRuntime) -> Result<(), Fail> {
     let set = numbers(rt.alloc(), &[3, 1, 2])?;
-    assert!(rt; conversions_agree(rt.alloc(), &set)?);
+    holds(&rt, &set, conversions_agree(rt.alloc(), &set));
     Ok(())
 }
 
@@ -236,8 +236,14 @@ fn lists_elements(set: &Numbers) -> Result<bool, AllocError> {
 #[test]
 fn sets_turn_into_lists(rt: HostRuntime) -> Result<(), Fail> {
     let set = numbers(rt.alloc(), &[3, 1, 2])?;
-    assert!(rt; is_same(of_small_list(&set)?, &set) && lists_elements(&set)?);
-    assert!(rt; set.into_inner().as_slice() == [1, 2, 3].as_slice());
+    holds(
+        &rt,
+        &"the small list",
+        Ok(is_same(of_small_list(&set)?, &set)),
+    );
+    holds(&rt, &"the elements", lists_elements(&set));
+    let is_list = set.into_inner().as_slice() == [1, 2, 3].as_slice();
+    holds(&rt, &"the list", Ok(is_list));
     Ok(())
 }
 
@@ -276,9 +282,13 @@ fn is_spread<T: Debug>(alloc: Global, value: &T, text: &str) -> Result<bool, All
 #[test]
 fn sets_are_shown_ordered_and_hashed_as_lists(rt: HostRuntime) -> Result<(), Fail> {
     let set = numbers(rt.alloc(), &[2, 1])?;
-    assert!(rt; compares(rt.alloc(), &set)?);
-    assert!(rt; is_shown(rt.alloc(), &set, "{1, 2}")?);
-    assert!(rt; is_spread(rt.alloc(), &set, "{\n    1,\n    2,\n}")?);
+    holds(&rt, &"the order", compares(rt.alloc(), &set));
+    holds(&rt, &"a line", is_shown(rt.alloc(), &set, "{1, 2}"));
+    holds(
+        &rt,
+        &"lines",
+        is_spread(rt.alloc(), &set, "{\n    1,\n    2,\n}"),
+    );
     Ok(())
 }
 
@@ -299,8 +309,13 @@ fn becomes_union_with_two(
 fn an_order_may_run_backwards(rt: HostRuntime) -> Result<(), Fail> {
     let mut set = Backwards::single(rt.alloc(), Reverse(1))?;
     let union = [Reverse(2), Reverse(1)];
-    assert!(rt; becomes_union_with_two(rt.alloc(), &mut set, union.as_slice())?);
-    assert!(rt; is_shown(rt.alloc(), &set, "{Reverse(2), Reverse(1)}")?);
+    let is_union = becomes_union_with_two(rt.alloc(), &mut set, union.as_slice());
+    holds(&rt, &"the union", is_union);
+    holds(
+        &rt,
+        &"the text",
+        is_shown(rt.alloc(), &set, "{Reverse(2), Reverse(1)}"),
+    );
     Ok(())
 }
 
@@ -318,8 +333,8 @@ fn keep_odd(set: &mut Numbers) -> u32 {
 fn retain_asks_once_at_each_element(rt: HostRuntime) -> Result<(), Fail> {
     let mut set = numbers(rt.alloc(), &[1, 2, 3, 4, 5])?;
     let order = keep_odd(&mut set);
-    assert_eq!(rt; order, 12345);
-    assert!(rt; set.as_ref() == [1, 3, 5].as_slice());
+    let is_odd = set.as_ref() == [1, 3, 5].as_slice();
+    same(&rt, &"the order", &(order, is_odd), &(12345, true));
     Ok(())
 }
 
@@ -336,8 +351,9 @@ fn lends_parts(set: &Numbers) -> bool {
 #[test]
 fn ranges_are_parts_of_a_set(rt: HostRuntime) -> Result<(), Fail> {
     let set = numbers(rt.alloc(), &[1, 3, 5, 7])?;
-    assert!(rt; lends_parts(&set));
-    assert!(rt; set.iter().rev().copied().eq([7, 5, 3, 1].iter().copied()));
+    holds(&rt, &"the parts", Ok(lends_parts(&set)));
+    let is_reversed = set.iter().rev().copied().eq([7, 5, 3, 1].iter().copied());
+    holds(&rt, &"backwards", Ok(is_reversed));
     Ok(())
 }
 
@@ -356,10 +372,14 @@ fn marks_of_list(alloc: Global, list: &[u32]) -> Result<Vec<char>, AllocError> {
 
 #[test]
 fn the_last_of_equal_elements_is_kept(rt: HostRuntime) -> Result<(), Fail> {
-    assert_eq!(rt;
-        marks_of_list(rt.alloc(), &[2, 1, 2, 3, 1])?.as_slice(),
-        ['e', 'c', 'd'].as_slice()
+    let marks = marks_of_list(rt.alloc(), &[2, 1, 2, 3, 1])?;
+    same(
+        &rt,
+        &"five numbers",
+        &marks.as_slice(),
+        &['e', 'c', 'd'].as_slice(),
     );
-    assert_eq!(rt; marks_of_list(rt.alloc(), &[])?.len(), 0);
+    let marks = marks_of_list(rt.alloc(), &[])?;
+    same(&rt, &"no number", &marks.len(), &0);
     Ok(())
 }

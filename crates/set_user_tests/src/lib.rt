@@ -24,6 +24,8 @@ mod lookups;
 pub mod marked;
 pub mod nth;
 #[cfg(test)]
+mod outcomes;
+#[cfg(test)]
 mod quiet;
 #[cfg(test)]
 mod refused;

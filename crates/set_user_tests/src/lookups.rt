@@ -3,9 +3,9 @@
 
 use crate::compared::Compared;
 use crate::lengths::LOOK_UPS;
+use crate::outcomes::holds;
 use std::alloc::{AllocError, Global};
 use std::cell::Cell;
-use std::test::Fail;
 use vc_sets::vec_set::{AbstractVecSet, VecSet};
 
 type Compareds<'a> = VecSet<Compared<'a>, 2>;
@@ -88,14 +88,14 @@ fn length_stays_within(alloc: Global, call: Call, row: (u32, u128)) -> Result<bo
 }
 
 #[test]
-fn look_ups_stay_within_their_bound(rt: HostRuntime) -> Result<(), Fail> {
+fn look_ups_stay_within_their_bound(rt: HostRuntime) {
     for call in [Call::Contains, Call::Insert, Call::Remove, Call::Range] {
         for row in LOOK_UPS {
-            assert!(rt;
-                length_stays_within(rt.alloc(), call, row)?,
-                "{call:?} at {row:?}"
+            holds(
+                &rt,
+                &(call, row),
+                length_stays_within(rt.alloc(), call, row),
             );
         }
     }
-    Ok(())
 }

@@ -2,6 +2,7 @@
 //! only where it is needed.
 
 use crate::nth::Nth;
+use crate::outcomes::holds;
 use smallvec::SmallVec;
 use std::alloc::{AllocError, Global};
 use std::collections::BTreeSet;
@@ -289,14 +290,13 @@ fn is_quiet(
 }
 
 #[test]
-fn calls_that_need_no_memory_ask_for_none(rt: HostRuntime) -> Result<(), Fail> {
+fn calls_that_need_no_memory_ask_for_none(rt: HostRuntime) {
     let memory = Nth::new(rt.alloc(), 0);
     for call in CALLS {
         for (left, right) in LISTS {
-            assert!(rt; is_quiet(&memory, call, left, right)?, "{call:?}");
+            holds(&rt, &call, is_quiet(&memory, call, left, right));
         }
     }
-    Ok(())
 }
 
 #[test]
@@ -305,7 +305,7 @@ fn sets_that_fit_in_place_ask_for_no_memory(rt: HostRuntime) -> Result<(), Fail>
     let list = [4_u32, 5].to_vec(rt.alloc())?;
     let tree: BTreeSet<u32> = [4_u32, 5].into_iter().collect(rt.alloc())?;
     make_in_place(&memory, list, tree);
-    assert!(rt; !memory.is_done());
+    holds(&rt, &"the sets", Ok(!memory.is_done()));
     Ok(())
 }
 
@@ -372,16 +372,13 @@ fn asks_at_most(
 }
 
 #[test]
-fn sets_that_fit_together_ask_for_no_memory_and_others_twice_at_most(
-    rt: HostRuntime,
-) -> Result<(), Fail> {
+fn sets_that_fit_together_ask_for_no_memory_and_others_twice_at_most(rt: HostRuntime) {
     let memory = Nth::new(rt.alloc(), 0);
     for join in JOINS {
         for (left, right, most) in REQUESTS {
-            assert!(rt; asks_at_most(&memory, join, left, right, most)?, "{join:?}");
+            holds(&rt, &join, asks_at_most(&memory, join, left, right, most));
         }
     }
-    Ok(())
 }
 
 /// Two lists, and the most requests of a fresh union of their sets, or of what is in exactly one of
@@ -426,15 +423,12 @@ fn fresh_asks_at_most(
 }
 
 #[test]
-fn fresh_sets_that_fit_in_place_ask_for_no_memory_and_others_once(
-    rt: HostRuntime,
-) -> Result<(), Fail> {
+fn fresh_sets_that_fit_in_place_ask_for_no_memory_and_others_once(rt: HostRuntime) {
     let memory = Nth::new(rt.alloc(), 0);
     for is_union in [true, false] {
         for (left, right, most) in FRESH {
-            let asks = fresh_asks_at_most(&memory, is_union, left, right, most)?;
-            assert!(rt; asks, "{left:?} {right:?}");
+            let asks = fresh_asks_at_most(&memory, is_union, left, right, most);
+            holds(&rt, &(left, right), asks);
         }
     }
-    Ok(())
 }

@@ -2,6 +2,7 @@
 //! the next one.
 
 use crate::nth::Nth;
+use crate::outcomes::holds;
 use std::alloc::{AllocError, Global};
 use std::collections::BTreeSet;
 use std::process::Abort;
@@ -583,11 +584,11 @@ fn refuse_requests(
                 right,
             };
             let answer = case.is_refused_at_sizes(call, with_next)?;
-            assert!(rt; answer.is_some(), "{call:?} at {left} and {right}");
+            holds(rt, &(call, left, right), Ok(answer.is_some()));
             is_refused |= answer == Some(true);
         }
     }
-    assert!(rt; is_refused, "{call:?}");
+    holds(rt, &call, Ok(is_refused));
     Ok(())
 }
 
@@ -644,9 +645,9 @@ fn a_set_that_is_refused_still_shrinks(rt: HostRuntime) -> Result<(), Fail> {
             right: 8,
         };
         let answer = case.shrinks_at_sizes()?;
-        assert!(rt; answer.is_some(), "at {left}");
+        holds(&rt, &left, Ok(answer.is_some()));
         is_refused |= answer == Some(true);
     }
-    assert!(rt; is_refused);
+    holds(&rt, &"a length", Ok(is_refused));
     Ok(())
 }
