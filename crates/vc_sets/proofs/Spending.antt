@@ -20,14 +20,14 @@ enough-told {p} {shorter} {t} {spent} {most} {cost} all_left all_right left righ
     (λ m n h k. let f = subst (λ q. planned q m n ≤ cost) is (fewer m n h k) in omega (arith, was, limit, test, f))
 
 -- a block took i and j of what was left
-pub next-within : (p : Plan) (old before after all_left all_right left right i j : ℕ)
-    → before + (left + right) ≤ old + (all_left + all_right) → LeavesEnough p 32 all_left all_right left right
-    → before + planned p left right ≤ old + bound all_left all_right → i ≤ left → j ≤ right
+pub next-within : (p : Plan) (all_left all_right left right : ℕ) → LeavesEnough p 32 all_left all_right left right
+    → (old before : ℕ) → before + (left + right) ≤ old + (all_left + all_right)
+    → before + planned p left right ≤ old + bound all_left all_right → (after i j : ℕ) → i ≤ left → j ≤ right
     → after ≤ before + (i + j) → after ≤ before + 32
     → after + planned p (left - i) (right - j) ≤ old + bound all_left all_right
-next-within Walk old before after all_left all_right left right i j taken enough spent h k each few =
+next-within Walk all_left all_right left right enough old before taken spent after i j h k each few =
     omega (arith, spent, h, k, each)
-next-within (Search shorter t) old before after all_left all_right left right i j taken enough spent h k each few =
+next-within (Search shorter t) all_left all_right left right enough old before taken spent after i j h k each few =
     let m = enough (left - i) (right - j) (omega arith) (omega arith) in
     omega (arith, taken, few, m)
 

@@ -31,6 +31,6 @@ blocks-2-preserved g c =
       begun = begun-append g.T.Ord.cmp g.met.T.Ord.total (keeps_by g.row.LEFT g.row.RIGHT g.row.BOTH) g.T.Clone.is_clone
           c.blocks-2.invariant.begun (rw (c.behind-a.ensures, c.behind-b.ensures) c.in_ok-left.ensures.begun);
       taken = omega (arith, left, right, was.taken, more, in_left, in_right);
-      spent = rw (left, right) (next-within c.args.plan _ _ _ _ _ _ _ _ _ was.taken
-          (c.leaves_enough.ensures c.if-leaves_enough.true) was.spent in_left in_right more c.in_ok-left.ensures.few);
+      spent = rw (left, right) (next-within c.args.plan _ _ _ _ (c.leaves_enough.ensures c.if-leaves_enough.true) _ _
+          was.taken was.spent _ _ _ in_left in_right more c.in_ok-left.ensures.few);
     }
