@@ -242,8 +242,8 @@ fn is_read(map: &Numbers) -> Result<bool, AllocError> {
     Ok(is_shown && map.clone()? == *map)
 }
 
-/// Whether what is put into a map of 4 to 7, and of all else to 1, stands there: a value of its own,
-/// and the default, which is not listed.
+/// Whether what is put into a map of 4 to 7, and of all else to 1, stands there: a value of its
+/// own, and the default, which is not listed.
 fn is_written(map: &Numbers) -> Result<bool, AllocError> {
     let mut map = map.clone()?;
     map.set(9, Number(3))?;

@@ -482,8 +482,8 @@ fn is_refused_beside_a_copy_alone<'a, T: AbstractRadixTreeMut<u8, Counted<'a>> +
 }
 
 /// Takes keys out of the tree of the eight keys beside a copy: such as are not bound, and then,
-/// where each clone of a value is refused, `eeeef`. Answers whether that alone was refused, and left
-/// both as they were.
+/// where each clone of a value is refused, `eeeef`. Answers whether that alone was refused, and
+/// left both as they were.
 fn is_kept_beside_a_copy<'a, T: AbstractRadixTreeMut<u8, Counted<'a>> + Clone>(
     tree: &mut T,
     tally: &'a Tally,

@@ -118,8 +118,9 @@ where
     ///
     /// A value that equals the default is dropped, and the key is not mapped then: the default
     /// itself stands there. Else a known key is replaced together with its value. Compares fewer
-    /// than `1.5 * log2(n) + 4` times among `n` pairs. It takes memory only for a new key, where `N`
-    /// or more pairs are held; refused, it leaves the map as it was and drops the key and the value.
+    /// than `1.5 * log2(n) + 4` times among `n` pairs. It takes memory only for a new key, where
+    /// `N` or more pairs are held; refused, it leaves the map as it was and drops the key and the
+    /// value.
     ///
     /// ```
     /// counts.set(80, 5)?;
