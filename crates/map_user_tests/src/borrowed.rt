@@ -1,7 +1,7 @@
 //! Maps whose keys are texts, or missing, asked by a text that is only lent.
 
+use super::outcomes::holds;
 use std::alloc::{AllocError, Global};
-use std::test::Fail;
 use vc_maps::vec_map::{AbstractVecMap, VecMap};
 
 type Ages = VecMap<Option<String>, u32, 2>;
@@ -43,9 +43,8 @@ fn is_right(alloc: Global, row: &Row) -> Result<bool, AllocError> {
 }
 
 #[test]
-fn names_are_found_by_their_letters(rt: HostRuntime) -> Result<(), Fail> {
+fn names_are_found_by_their_letters(rt: HostRuntime) {
     for row in &ROWS {
-        assert!(rt; is_right(rt.alloc(), row)?, "{row:?}");
+        holds(&rt, row, is_right(rt.alloc(), row));
     }
-    Ok(())
 }

@@ -1,11 +1,12 @@
 //! Comparisons of joins by lengths: keys that count their own see no more than the bound, and a
 //! counted join counts each of them.
 
+use super::outcomes::holds;
 use set_user_tests::compared::Compared;
 use set_user_tests::lengths::{LENGTHS, PLACES, Place};
 use std::alloc::{AllocError, Global};
 use std::cell::Cell;
-use std::test::Fail;
+use std::process::Abort;
 use vc_joins::question::{JoinKind, OuterJoinArg};
 use vc_maps::vec_map::{VecMap, inner_join, left_join, outer_join, right_join};
 use vc_merge::merge::{Count, Steps};
@@ -189,41 +190,48 @@ fn all_agree<'s, 'a>(
 /// Whether it holds of them in both orders.
 fn both_agree<'s, 'a>(
     alloc: Global,
+    form: Form,
     short: &'s Map<'a>,
     long: &'s Map<'a>,
     bound: u128,
     count: &'a Cell<u128>,
 ) -> Result<bool, AllocError> {
-    let mut agree = true;
-    for form in [Form::Fresh, Form::InPlace] {
-        agree &= all_agree(alloc, form, short, long, bound, count)?
-            && all_agree(alloc, form, long, short, bound, count)?;
-    }
-    Ok(agree)
+    Ok(
+        all_agree(alloc, form, short, long, bound, count)?
+            && all_agree(alloc, form, long, short, bound, count)?,
+    )
 }
 
 /// Whether it holds of a short map and a long one.
 fn lengths_agree<'a>(
     alloc: Global,
+    form: Form,
     place: Place,
     (few, many, bound): (u32, u32, u128),
     count: &'a Cell<u128>,
 ) -> Result<bool, AllocError> {
     let short = map_of(alloc, place, few, many, count)?;
     let long = map_of(alloc, Place::Among, many, many, count)?;
-    both_agree(alloc, &short, &long, bound, count)
+    both_agree(alloc, form, &short, &long, bound, count)
 }
 
-#[test]
-fn each_comparison_is_counted_and_none_is_beyond_the_bound(rt: HostRuntime) -> Result<(), Fail> {
+/// Ends the test where it does not hold of some lengths.
+fn all_lengths_agree(rt: &impl Abort, alloc: Global, form: Form) {
     for row in LENGTHS {
         for place in PLACES {
             let count = Cell::new(0);
-            assert!(rt;
-                lengths_agree(rt.alloc(), place, row, &count)?,
-                "{place:?} {row:?}"
-            );
+            let agree = lengths_agree(alloc, form, place, row, &count);
+            holds(rt, &(place, row), agree);
         }
     }
-    Ok(())
+}
+
+#[test]
+fn each_comparison_of_fresh_joins_is_counted_and_none_is_beyond_the_bound(rt: HostRuntime) {
+    all_lengths_agree(&rt, rt.alloc(), Form::Fresh);
+}
+
+#[test]
+fn each_comparison_of_joins_in_place_is_counted_and_none_is_beyond_the_bound(rt: HostRuntime) {
+    all_lengths_agree(&rt, rt.alloc(), Form::InPlace);
 }

@@ -1,6 +1,7 @@
 //! What calls drop is dropped once, refused ones too, and nothing else is; they clone nothing of
 //! what they keep or move, and ask nothing before a refusal.
 
+use super::outcomes::{holds, same};
 use super::sides::{Map, Memory, Sides, memory_over, numbered};
 use set_user_tests::held::{Held, Shared};
 use std::alloc::AllocError;
@@ -214,8 +215,8 @@ fn calls_drop_each_pair_once_and_clone_none_that_they_keep(rt: HostRuntime) -> R
     let memory = memory_over(rt.alloc());
     for row in ROWS {
         for right_refuses in [false, true] {
-            let is_right = is_always_dropped_once(&sides, &memory, row, right_refuses)?;
-            assert!(rt; is_right, "{:?}", row.3);
+            let is_right = is_always_dropped_once(&sides, &memory, row, right_refuses);
+            holds(&rt, &row.3, is_right);
         }
     }
     Ok(())
@@ -260,13 +261,12 @@ const OUTCOMES: [(bool, u64, (bool, u64)); 3] = [
 ];
 
 #[test]
-fn a_refused_outer_join_asks_nothing(rt: HostRuntime) -> Result<(), Fail> {
+fn a_refused_outer_join_asks_nothing(rt: HostRuntime) {
     let memory = memory_over(rt.alloc());
     for (right_refuses, number, outcome) in OUTCOMES {
-        let is_right = outer_asks(&memory, right_refuses, number)? == outcome;
-        assert!(rt; is_right, "{number} {right_refuses}");
+        let asks = outer_asks(&memory, right_refuses, number);
+        same(&rt, &(number, right_refuses), &asks, &Ok(outcome));
     }
-    Ok(())
 }
 
 /// Whether the values of a map are turned into others, each shown once and no key cloned, with the
@@ -293,8 +293,8 @@ fn values_that_are_turned_are_dropped(rt: HostRuntime) -> Result<(), Fail> {
     let sides = Sides::new(rt.alloc())?;
     let memory = memory_over(rt.alloc());
     for number in 0..LIMIT {
-        let is_right = is_turned_once(&sides, &memory, number)? && sides.holders() == ALONE;
-        assert!(rt; is_right, "{number}");
+        holds(&rt, &number, is_turned_once(&sides, &memory, number));
+        same(&rt, &number, &sides.holders(), &ALONE);
     }
     Ok(())
 }
@@ -362,7 +362,8 @@ fn pops(sides: &Sides, memory: &Memory) -> Result<[[usize; 4]; 3], AllocError> {
 fn pairs_that_are_popped_are_handed_over(rt: HostRuntime) -> Result<(), Fail> {
     let sides = Sides::new(rt.alloc())?;
     let memory = memory_over(rt.alloc());
-    assert_eq!(rt; pops(&sides, &memory)?, [[3, 3, 1, 1], [2, 2, 1, 1], ALONE]);
+    let wanted = Ok([[3, 3, 1, 1], [2, 2, 1, 1], ALONE]);
+    same(&rt, &"the holders", &pops(&sides, &memory), &wanted);
     Ok(())
 }
 
@@ -370,10 +371,8 @@ fn pairs_that_are_popped_are_handed_over(rt: HostRuntime) -> Result<(), Fail> {
 fn removed_values_are_handed_back(rt: HostRuntime) -> Result<(), Fail> {
     let sides = Sides::new(rt.alloc())?;
     let memory = memory_over(rt.alloc());
-    assert_eq!(rt;
-        removes(&sides, &memory)?,
-        [[2, 3, 1, 1], [2, 2, 1, 1], ALONE]
-    );
+    let wanted = Ok([[2, 3, 1, 1], [2, 2, 1, 1], ALONE]);
+    same(&rt, &"the holders", &removes(&sides, &memory), &wanted);
     Ok(())
 }
 
@@ -418,7 +417,11 @@ const LET_GO: [[usize; 4]; 6] = [
 fn pairs_that_go_are_dropped(rt: HostRuntime) -> Result<(), Fail> {
     let sides = Sides::new(rt.alloc())?;
     let memory = memory_over(rt.alloc());
-    assert!(rt; drops_what_is_refused(&sides, &memory)?);
-    assert_eq!(rt; let_go(&sides, &memory)?, LET_GO);
+    holds(
+        &rt,
+        &"what is refused",
+        drops_what_is_refused(&sides, &memory),
+    );
+    same(&rt, &"the holders", &let_go(&sides, &memory), &Ok(LET_GO));
     Ok(())
 }

@@ -1,6 +1,7 @@
 //! Each call on one map, and each operator and conversion, on a worked example, and what no clause
 //! says of them: printed text and hashes.
 
+use super::outcomes::holds;
 use smallvec::SmallVec;
 use std::alloc::{AllocError, Global};
 use std::cell::Cell;
@@ -72,8 +73,9 @@ fn writes_each(map: &mut Map) -> bool {
 #[test]
 fn maps_change_as_worked_out(rt: HostRuntime) -> Result<(), Fail> {
     let mut map = map_of(rt.alloc(), &[(3, 6), (1, 2), (2, 4)])?;
-    assert!(rt; inserts(&mut map)?);
-    assert!(rt; finds(&mut map) && keeps(&mut map) && writes_each(&mut map));
+    holds(&rt, &"inserts", inserts(&mut map));
+    let changes = finds(&mut map) && keeps(&mut map) && writes_each(&mut map);
+    holds(&rt, &"changes", Ok(changes));
     Ok(())
 }
 
@@ -138,7 +140,7 @@ fn conversions_agree(alloc: Global, map: &Map) -> Result<bool, AllocError> {
 #[test]
 fn maps_come_from_lists_trees_and_iterators(rt: HostRuntime) -> Result<(), Fail> {
     let map = map_of(rt.alloc(), PAIRS.as_slice())?;
-    assert!(rt; conversions_agree(rt.alloc(), &map)?);
+    holds(&rt, &"the maps", conversions_agree(rt.alloc(), &map));
     Ok(())
 }
 
@@ -185,9 +187,10 @@ fn lends_parts(map: &Map) -> bool {
 #[test]
 fn maps_turn_into_lists_and_sets(rt: HostRuntime) -> Result<(), Fail> {
     let map = map_of(rt.alloc(), PAIRS.as_slice())?;
-    assert!(rt; set_agrees(&map)?);
-    assert!(rt; list_agrees(&map)? && shows_pairs(&map));
-    assert!(rt; shows_parts(&map) && lends_parts(&map));
+    holds(&rt, &"the set", set_agrees(&map));
+    holds(&rt, &"the list", list_agrees(&map));
+    let are_shown = shows_pairs(&map) && shows_parts(&map) && lends_parts(&map);
+    holds(&rt, &"the parts", Ok(are_shown));
     Ok(())
 }
 
@@ -221,9 +224,8 @@ fn is_printed(alloc: Global) -> Result<bool, AllocError> {
 }
 
 #[test]
-fn maps_are_ordered_hashed_and_shown(rt: HostRuntime) -> Result<(), Fail> {
-    assert!(rt; are_compared(rt.alloc())?);
-    assert!(rt; Map::empty(rt.alloc()).is_empty());
-    assert!(rt; is_printed(rt.alloc())?);
-    Ok(())
+fn maps_are_ordered_hashed_and_shown(rt: HostRuntime) {
+    holds(&rt, &"the order", are_compared(rt.alloc()));
+    holds(&rt, &"no pair", Ok(Map::empty(rt.alloc()).is_empty()));
+    holds(&rt, &"the text", is_printed(rt.alloc()));
 }

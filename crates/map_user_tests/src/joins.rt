@@ -1,10 +1,10 @@
 //! Each join, fresh and in place, with a counter and without: at which keys it asks, in which order
 //! and spelling, and what it makes.
 
+use super::outcomes::holds;
 use set_user_tests::marked::Marked;
 use std::alloc::{AllocError, Allocator, Global};
 use std::cell::Cell;
-use std::test::Fail;
 use vc_joins::question::{JoinKind, OuterJoinArg};
 use vc_maps::vec_map::{VecMap, inner_join, left_join, outer_join, right_join};
 use vc_merge::merge::Steps;
@@ -382,13 +382,12 @@ fn agrees(alloc: Global, way: Way, row: Row) -> Result<bool, AllocError> {
 }
 
 #[test]
-fn joins_ask_once_a_key_and_make_what_was_worked_out(rt: HostRuntime) -> Result<(), Fail> {
+fn joins_ask_once_a_key_and_make_what_was_worked_out(rt: HostRuntime) {
     for row in ROWS {
         for way in WAYS {
-            assert!(rt; agrees(rt.alloc(), way, row)?, "{way:?} of {:?}", row.made);
+            holds(&rt, &(way, row.made), agrees(rt.alloc(), way, row));
         }
     }
-    Ok(())
 }
 
 /// The outer join of `{1: 1, 2: 2}` and `{2: 5}` with the left and the right value by turns.
@@ -421,8 +420,9 @@ fn has_by_turns(
 }
 
 #[test]
-fn a_closure_may_answer_by_turns(rt: HostRuntime) -> Result<(), Fail> {
-    assert!(rt; has_by_turns(rt.alloc(), false, &[(1, 'a', 1), (2, 'a', 2)])?);
-    assert!(rt; has_by_turns(rt.alloc(), true, &[(1, 'a', 1), (2, 'a', 5)])?);
-    Ok(())
+fn a_closure_may_answer_by_turns(rt: HostRuntime) {
+    let left = has_by_turns(rt.alloc(), false, &[(1, 'a', 1), (2, 'a', 2)]);
+    holds(&rt, &"first the left", left);
+    let right = has_by_turns(rt.alloc(), true, &[(1, 'a', 1), (2, 'a', 5)]);
+    holds(&rt, &"first the right", right);
 }

@@ -15,6 +15,8 @@ mod joins;
 #[cfg(test)]
 mod lookups;
 #[cfg(test)]
+mod outcomes;
+#[cfg(test)]
 mod room;
 #[cfg(test)]
 mod sides;

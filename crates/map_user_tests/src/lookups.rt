@@ -1,11 +1,11 @@
 //! Comparisons of look-ups: keys that count their own see no more than the bound of the map's
 //! length.
 
+use super::outcomes::holds;
 use set_user_tests::compared::Compared;
 use set_user_tests::lengths::LOOK_UPS;
 use std::alloc::{AllocError, Global};
 use std::cell::Cell;
-use std::test::Fail;
 use vc_maps::vec_map::{AbstractVecMap, VecMap};
 
 type Map<'a> = VecMap<Compared<'a>, u32, 2>;
@@ -82,14 +82,11 @@ fn length_stays_within(alloc: Global, call: Call, row: (u32, u128)) -> Result<bo
 }
 
 #[test]
-fn look_ups_stay_within_their_bound(rt: HostRuntime) -> Result<(), Fail> {
+fn look_ups_stay_within_their_bound(rt: HostRuntime) {
     for call in [Call::Get, Call::GetMut, Call::Insert, Call::Remove] {
         for row in LOOK_UPS {
-            assert!(rt;
-                length_stays_within(rt.alloc(), call, row)?,
-                "{call:?} at {row:?}"
-            );
+            let is_within = length_stays_within(rt.alloc(), call, row);
+            holds(&rt, &(call, row), is_within);
         }
     }
-    Ok(())
 }

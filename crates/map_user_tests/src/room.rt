@@ -1,9 +1,9 @@
 //! How often fresh joins ask for memory: once where they make room for all that can come, and not
 //! where the pairs fit in place.
 
+use super::outcomes::holds;
 use set_user_tests::nth::Nth;
 use std::alloc::{AllocError, Global};
-use std::test::Fail;
 use vc_joins::question::{JoinKind, OuterJoinArg};
 use vc_maps::vec_map::{VecMap, inner_join, left_join, outer_join, right_join};
 use vc_merge::merge::Steps;
@@ -133,13 +133,12 @@ fn asks_as_often(
 }
 
 #[test]
-fn fresh_joins_make_their_room_once(rt: HostRuntime) -> Result<(), Fail> {
+fn fresh_joins_make_their_room_once(rt: HostRuntime) {
     let memory = Nth::new(rt.alloc(), 0);
     for row in ROWS {
         for is_counted in [false, true] {
-            let is_right = asks_as_often(&memory, is_counted, row)?;
-            assert!(rt; is_right, "{:?} {:?}", row.1, row.2);
+            let is_right = asks_as_often(&memory, is_counted, row);
+            holds(&rt, &(row.1, row.2), is_right);
         }
     }
-    Ok(())
 }

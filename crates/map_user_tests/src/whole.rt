@@ -3,11 +3,11 @@
 //! place of the left one, no request is made.
 
 use super::joins::{has, map_of};
+use super::outcomes::holds;
 use set_user_tests::marked::Marked;
 use set_user_tests::nth::Nth;
 use std::alloc::{AllocError, Global};
 use std::cell::Cell;
-use std::test::Fail;
 use vc_maps::vec_map::VecMap;
 
 /// A map in whose place six pairs fit, and whose memory refuses a request.
@@ -125,17 +125,12 @@ fn agrees(alloc: Global, way: Way, row: Row) -> Result<bool, AllocError> {
 }
 
 #[test]
-fn maps_are_taken_in_as_worked_out(rt: HostRuntime) -> Result<(), Fail> {
+fn maps_are_taken_in_as_worked_out(rt: HostRuntime) {
     for row in ROWS {
         for way in [Way::Combine, Way::Merge, Way::Extend] {
-            assert!(rt;
-                agrees(rt.alloc(), way, row)?,
-                "{way:?} to {:?}",
-                row.merged
-            );
+            holds(&rt, &(way, row.merged), agrees(rt.alloc(), way, row));
         }
     }
-    Ok(())
 }
 
 /// The values of a map turned into the sums of those up to there.
@@ -155,7 +150,6 @@ fn adds_up(alloc: Global) -> Result<bool, AllocError> {
 }
 
 #[test]
-fn values_are_turned_in_their_order(rt: HostRuntime) -> Result<(), Fail> {
-    assert!(rt; adds_up(rt.alloc())?);
-    Ok(())
+fn values_are_turned_in_their_order(rt: HostRuntime) {
+    holds(&rt, &"the sums", adds_up(rt.alloc()));
 }

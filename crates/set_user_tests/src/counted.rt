@@ -6,6 +6,7 @@ use crate::lengths::{LENGTHS, PLACES, Place};
 use crate::outcomes;
 use std::alloc::{AllocError, Global};
 use std::cell::Cell;
+use std::process::Abort;
 use vc_merge::merge::{Count, Steps};
 use vc_sets::vec_set::{AbstractVecSet, SetOp, SetTest, VecSet};
 
@@ -170,57 +171,79 @@ fn test_agrees<'s, 'a>(
     steps.count() == seen && seen <= bound && taken(count) <= bound && same
 }
 
-/// Whether that holds of each operation and each test.
+/// The calls that are counted.
+#[derive(Clone, Copy, Debug)]
+enum Calls {
+    Operations,
+    Tests,
+}
+
+/// Whether that holds of each operation, or of each test.
 fn all_agree<'s, 'a>(
+    calls: Calls,
     a: &'s Compareds<'a>,
     b: &'s Compareds<'a>,
     bound: u128,
     count: &'a Cell<u128>,
 ) -> Result<bool, AllocError> {
     let mut agree = true;
-    for op in [
-        SetOp::Union,
-        SetOp::Intersection,
-        SetOp::SymmetricDifference,
-        SetOp::Difference,
-    ] {
-        agree &= operation_agrees(a, b, op, bound, count)?;
-    }
-    for test in [SetTest::Disjoint, SetTest::Subset, SetTest::Superset] {
-        agree &= test_agrees(a, b, test, bound, count);
+    match calls {
+        Calls::Operations => for op in [
+            SetOp::Union,
+            SetOp::Intersection,
+            SetOp::SymmetricDifference,
+            SetOp::Difference,
+        ] {
+            agree &= operation_agrees(a, b, op, bound, count)?;
+        },
+        Calls::Tests => for test in [SetTest::Disjoint, SetTest::Subset, SetTest::Superset] {
+            agree &= test_agrees(a, b, test, bound, count);
+        },
     }
     Ok(agree)
 }
 
 /// Whether it holds of two sets in both orders.
 fn both_agree<'s, 'a>(
+    calls: Calls,
     short: &'s Compareds<'a>,
     long: &'s Compareds<'a>,
     bound: u128,
     count: &'a Cell<u128>,
 ) -> Result<bool, AllocError> {
-    Ok(all_agree(short, long, bound, count)? && all_agree(long, short, bound, count)?)
+    Ok(all_agree(calls, short, long, bound, count)? && all_agree(calls, long, short, bound, count)?)
 }
 
 /// Whether it holds of a short and a long list.
 fn lengths_agree<'a>(
     alloc: Global,
+    calls: Calls,
     place: Place,
     (few, many, bound): (u32, u32, u128),
     count: &'a Cell<u128>,
 ) -> Result<bool, AllocError> {
     let short = short_set(alloc, place, few, many, count)?;
     let long = short_set(alloc, Place::Among, many, many, count)?;
-    both_agree(&short, &long, bound, count)
+    both_agree(calls, &short, &long, bound, count)
 }
 
-#[test]
-fn each_comparison_is_counted_and_none_is_beyond_the_bound(rt: HostRuntime) {
+/// Ends the test where it does not hold of some lengths.
+fn all_lengths_agree(rt: &impl Abort, alloc: Global, calls: Calls) {
     for row in LENGTHS {
         for place in PLACES {
             let count = Cell::new(0);
-            let agree = lengths_agree(rt.alloc(), place, row, &count);
-            outcomes::holds(&rt, &(place, row), agree);
+            let agree = lengths_agree(alloc, calls, place, row, &count);
+            outcomes::holds(rt, &(place, row), agree);
         }
     }
+}
+
+#[test]
+fn each_comparison_of_operations_is_counted_and_none_is_beyond_the_bound(rt: HostRuntime) {
+    all_lengths_agree(&rt, rt.alloc(), Calls::Operations);
+}
+
+#[test]
+fn each_comparison_of_tests_is_counted_and_none_is_beyond_the_bound(rt: HostRuntime) {
+    all_lengths_agree(&rt, rt.alloc(), Calls::Tests);
 }

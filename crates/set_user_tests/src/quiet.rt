@@ -8,6 +8,7 @@ use std::alloc::{AllocError, Global};
 use std::collections::BTreeSet;
 use std::default::MadeWith;
 use std::hash::{FoldHasher, Hash};
+use std::process::Abort;
 use std::test::Fail;
 use vc_merge::iterators::ascends;
 use vc_merge::merge::Steps;
@@ -60,27 +61,35 @@ enum Call {
     Take(Take),
 }
 
-const CALLS: [Call; 20] = [
+const READS: [Call; 6] = [
     Call::Read(Read::Look),
     Call::Read(Read::Test),
     Call::Read(Read::TestCounted),
     Call::Read(Read::Compare),
     Call::Read(Read::Hash),
     Call::Read(Read::Walk),
-    Call::Change(Change::Remove),
-    Call::Change(Change::Pop),
-    Call::Change(Change::Refill),
-    Call::Change(Change::Retain),
+];
+
+/// Calls that take out what another set tells, or nothing.
+const MEETINGS: [Call; 7] = [
     Call::Change(Change::InsertKnown),
     Call::Change(Change::IntersectionWith),
     Call::Change(Change::DifferenceWith),
     Call::Change(Change::AndAssignReference),
     Call::Change(Change::MinusAssignReference),
+    Call::Take(Take::AndAssign),
+    Call::Take(Take::MinusAssign),
+];
+
+const REMOVALS: [Call; 2] = [Call::Change(Change::Remove), Call::Change(Change::Retain)];
+
+const ENDS: [Call; 1] = [Call::Change(Change::Pop)];
+
+const EMPTYINGS: [Call; 4] = [
+    Call::Change(Change::Refill),
     Call::Take(Take::Hand),
     Call::Take(Take::IntoList),
     Call::Take(Take::IntoVec),
-    Call::Take(Take::AndAssign),
-    Call::Take(Take::MinusAssign),
 ];
 
 /// Sets that stand in place, and sets that do not.
@@ -289,14 +298,39 @@ fn is_quiet(
     Ok(is_quiet)
 }
 
-#[test]
-fn calls_that_need_no_memory_ask_for_none(rt: HostRuntime) {
-    let memory = Nth::new(rt.alloc(), 0);
-    for call in CALLS {
+/// Ends the test where one of the calls makes a request.
+fn are_quiet(rt: &impl Abort, alloc: Global, calls: &[Call]) {
+    let memory = Nth::new(alloc, 0);
+    for call in calls {
         for (left, right) in LISTS {
-            holds(&rt, &call, is_quiet(&memory, call, left, right));
+            holds(rt, call, is_quiet(&memory, *call, left, right));
         }
     }
+}
+
+#[test]
+fn reads_ask_for_no_memory(rt: HostRuntime) {
+    are_quiet(&rt, rt.alloc(), &READS);
+}
+
+#[test]
+fn changes_by_another_set_that_take_out_ask_for_no_memory(rt: HostRuntime) {
+    are_quiet(&rt, rt.alloc(), &MEETINGS);
+}
+
+#[test]
+fn removals_ask_for_no_memory(rt: HostRuntime) {
+    are_quiet(&rt, rt.alloc(), &REMOVALS);
+}
+
+#[test]
+fn ends_are_taken_out_without_memory(rt: HostRuntime) {
+    are_quiet(&rt, rt.alloc(), &ENDS);
+}
+
+#[test]
+fn sets_are_emptied_without_memory(rt: HostRuntime) {
+    are_quiet(&rt, rt.alloc(), &EMPTYINGS);
 }
 
 #[test]

@@ -4,6 +4,7 @@ use super::combines::tree_of;
 use super::outcomes::same;
 use std::alloc::{AllocError, Global};
 use std::cell::Cell;
+use std::process::Abort;
 use vc_merge::merge::Steps;
 use vc_trees::radix_tree::{AbstractRadixTree, AbstractRadixTreeMut, ArcRadixTree, RadixTree};
 
@@ -27,20 +28,24 @@ enum Call {
     RetainWith,
 }
 
-/// The calls, and the sum of what each closure is handed: once at each key of both trees; by a
-/// fresh left combine at each key of the left; of keys that may cover others, once at each that is
-/// met.
-const CALLS: [(Call, u32); 9] = [
+/// Fresh combines, and the sum of what each closure is handed: once at each key of both trees, and
+/// by a left combine at each key of the left.
+const FRESH: [(Call, u32); 4] = [
     (Call::Outer, 11_110),
     (Call::Counted, 11_110),
     (Call::Inner, 11_110),
     (Call::Left, 11_111),
+];
+
+/// Combines in place, likewise.
+const IN_PLACE: [(Call, u32); 3] = [
     (Call::OuterWith, 11_110),
     (Call::InnerWith, 11_110),
     (Call::LeftWith, 11_110),
-    (Call::RemoveWith, 11_000),
-    (Call::RetainWith, 11_000),
 ];
+
+/// Changes by keys that may cover others, which are asked about once where they are met.
+const BY_COVERS: [(Call, u32); 2] = [(Call::RemoveWith, 11_000), (Call::RetainWith, 11_000)];
 
 /// Adds what a closure was handed.
 fn note(handed: &Cell<u32>, v: u32, w: u32) {
@@ -109,12 +114,27 @@ fn handed_to<T: AbstractRadixTreeMut<u8, u32>>(
     Ok(handed.get())
 }
 
-#[test]
-fn closures_are_asked_once_at_a_key(rt: HostRuntime) {
-    for (call, sum) in CALLS {
-        let plain = handed_to::<RadixTree<u8, u32>>(rt.alloc(), call);
-        same(&rt, &call, &plain, &Ok(sum));
-        let shared = handed_to::<ArcRadixTree<u8, u32>>(rt.alloc(), call);
-        same(&rt, &call, &shared, &Ok(sum));
+/// Ends the test where the closure of a call is handed another sum, in either flavour.
+fn are_handed(rt: &impl Abort, alloc: Global, calls: &[(Call, u32)]) {
+    for (call, sum) in calls {
+        let plain = handed_to::<RadixTree<u8, u32>>(alloc, *call);
+        same(rt, call, &plain, &Ok(*sum));
+        let shared = handed_to::<ArcRadixTree<u8, u32>>(alloc, *call);
+        same(rt, call, &shared, &Ok(*sum));
     }
+}
+
+#[test]
+fn fresh_combines_ask_once_at_a_key(rt: HostRuntime) {
+    are_handed(&rt, rt.alloc(), &FRESH);
+}
+
+#[test]
+fn combines_in_place_ask_once_at_a_key(rt: HostRuntime) {
+    are_handed(&rt, rt.alloc(), &IN_PLACE);
+}
+
+#[test]
+fn covers_are_asked_about_once(rt: HostRuntime) {
+    are_handed(&rt, rt.alloc(), &BY_COVERS);
 }

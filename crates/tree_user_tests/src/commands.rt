@@ -129,6 +129,26 @@ fn runs_as_worked_out<T: AbstractRadixTreeMut<u8, ()>>(
     Ok(accepted == [true; 2] && text.as_str() == shape)
 }
 
+/// Whether a removal of what a tree binds alone is accepted, on a tree that was made at once.
+fn removes_all<T: AbstractRadixTreeMut<u8, ()>>(alloc: Global) -> Result<bool, AllocError> {
+    let mut tree = T::single(alloc, b"ab", ())?;
+    let mut commands = Vec::new(alloc);
+    commands.push(TreeCommand::RemovePrefix(T::single(alloc, b"a", ())?))?;
+    let mut accepted = [false];
+    run(&mut tree, commands, &mut accepted);
+    Ok(accepted == [true] && tree.is_empty())
+}
+
+#[test]
+fn a_command_is_accepted(rt: HostRuntime) {
+    holds(&rt, &"plain", removes_all::<RadixTree<u8, ()>>(rt.alloc()));
+    holds(
+        &rt,
+        &"shared",
+        removes_all::<ArcRadixTree<u8, ()>>(rt.alloc()),
+    );
+}
+
 #[test]
 fn commands_are_done_in_order(rt: HostRuntime) {
     for (keys, orders, shape) in ROWS {

@@ -5,6 +5,7 @@ use super::in_place::tree_of;
 use super::outcomes::same;
 use super::tests::{Counted, Tally};
 use std::alloc::{AllocError, Global};
+use std::process::Abort;
 use vc_path_filter::path_filter::PathFilter;
 use vc_trees::commands::{TreeCommand, run};
 use vc_trees::radix_tree::{AbstractRadixTree, AbstractRadixTreeMut, ArcRadixTree, RadixTree};
@@ -26,7 +27,7 @@ enum Call {
     Restrict,
 }
 
-const CALLS: [Call; 12] = [
+const CALLS: [Call; 9] = [
     Call::Leaf,
     Call::Single,
     Call::Insert,
@@ -35,11 +36,10 @@ const CALLS: [Call; 12] = [
     Call::SplitBelow,
     Call::Slices,
     Call::Shared,
-    Call::Walk,
-    Call::HalfWalk,
-    Call::Run,
     Call::Restrict,
 ];
+
+const WALKS: [Call; 2] = [Call::Walk, Call::HalfWalk];
 
 /// The pairs that calls are made on, of which two have one key.
 const PAIRS: [(&str, u32); 5] = [("a", 1), ("ab", 2), ("abc", 3), ("ab", 4), ("b", 5)];
@@ -158,19 +158,30 @@ fn make<'a, T: AbstractRadixTreeMut<u8, Counted<'a>> + Clone>(
     }
 }
 
-#[test]
-fn calls_by_value_drop_each_value_once(rt: HostRuntime) {
-    for call in CALLS {
+/// Ends the test where a call drops a value never, or more than once.
+fn each_is_dropped_once(rt: &impl Abort, alloc: Global, calls: &[Call]) {
+    for call in calls {
         for granted in 0..4 {
             let tally = Tally::new();
-            let _plain = make::<RadixTree<u8, Counted>>(rt.alloc(), call, granted, &tally);
-            let _shared = make::<ArcRadixTree<u8, Counted>>(rt.alloc(), call, granted, &tally);
-            same(
-                &rt,
-                &(call, granted),
-                &tally.drops(),
-                &tally.made_and_cloned(),
-            );
+            let _plain = make::<RadixTree<u8, Counted>>(alloc, *call, granted, &tally);
+            let _shared = make::<ArcRadixTree<u8, Counted>>(alloc, *call, granted, &tally);
+            let at = (*call, granted);
+            same(rt, &at, &tally.drops(), &tally.made_and_cloned());
         }
     }
+}
+
+#[test]
+fn calls_by_value_drop_each_value_once(rt: HostRuntime) {
+    each_is_dropped_once(&rt, rt.alloc(), &CALLS);
+}
+
+#[test]
+fn walks_by_value_drop_each_value_once(rt: HostRuntime) {
+    each_is_dropped_once(&rt, rt.alloc(), &WALKS);
+}
+
+#[test]
+fn runs_of_commands_drop_each_value_once(rt: HostRuntime) {
+    each_is_dropped_once(&rt, rt.alloc(), &[Call::Run]);
 }

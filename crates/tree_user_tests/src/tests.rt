@@ -6,6 +6,7 @@ use super::outcomes::{holds, same};
 use std::alloc::{AllocError, Global};
 use std::cell::Cell;
 use std::fmt;
+use std::process::Abort;
 use vc_merge::merge::Steps;
 use vc_trees::radix_tree::{
     AbstractRadixTree, AbstractRadixTreeMut, ArcRadixTree, RadixNode, RadixTree, TKey, TValue,
@@ -71,7 +72,9 @@ pub(crate) const FORTY_ELSE: &str = "abcdefghijklmnopqrst-vwxyzabcdefghijklmn";
 const TWENTY: &str = "abcdefghijklmnopqrst";
 
 /// Keys in the order of their insertion, and the shape of their tree.
-const ROWS: [(&[&str], &str); 14] = [
+type Row = (&'static [&'static str], &'static str);
+
+const ROWS: [Row; 10] = [
     (&[], ""),
     (&[""], "*"),
     (&["abc"], "abc*"),
@@ -85,6 +88,10 @@ const ROWS: [(&[&str], &str); 14] = [
         &["eeeef", "bc", "aa", "b", "a", "ab", "eeeee", "aaa"],
         "(a*(a*(a*) b*) b*(c*) eeee(e* f*))",
     ),
+];
+
+/// Keys of more components than stand in place.
+const LONG_ROWS: [Row; 3] = [
     (&[FORTY], "abcdefghijklmnopqrstuvwxyzabcdefghijklmn*"),
     (
         &[FORTY, FORTY_ELSE, FORTY],
@@ -94,20 +101,37 @@ const ROWS: [(&[&str], &str); 14] = [
         &[FORTY, TWENTY],
         "abcdefghijklmnopqrst*(uvwxyzabcdefghijklmn*)",
     ),
-    (
-        &["xh", "xd", "xb", "xf", "xa", "xc", "xe", "xg"],
-        "x(a* b* c* d* e* f* g* h*)",
-    ),
 ];
+
+/// Keys that part in one place.
+const WIDE_ROW: Row = (
+    &["xh", "xd", "xb", "xf", "xa", "xc", "xe", "xg"],
+    "x(a* b* c* d* e* f* g* h*)",
+);
+
+/// Ends the test where a tree of either flavour has another shape.
+fn rows_are_as_worked_out(rt: &impl Abort, alloc: Global, rows: &[Row]) {
+    for (keys, shape) in rows {
+        let plain = is_as_worked_out::<RadixTree<u8, usize>>(alloc, keys, shape);
+        holds(rt, shape, plain);
+        let shared = is_as_worked_out::<ArcRadixTree<u8, usize>>(alloc, keys, shape);
+        holds(rt, shape, shared);
+    }
+}
 
 #[test]
 fn trees_are_as_worked_out(rt: HostRuntime) {
-    for (keys, shape) in ROWS {
-        let plain = is_as_worked_out::<RadixTree<u8, usize>>(rt.alloc(), keys, shape);
-        holds(&rt, &shape, plain);
-        let shared = is_as_worked_out::<ArcRadixTree<u8, usize>>(rt.alloc(), keys, shape);
-        holds(&rt, &shape, shared);
-    }
+    rows_are_as_worked_out(&rt, rt.alloc(), &ROWS);
+}
+
+#[test]
+fn trees_of_long_keys_are_as_worked_out(rt: HostRuntime) {
+    rows_are_as_worked_out(&rt, rt.alloc(), &LONG_ROWS);
+}
+
+#[test]
+fn a_tree_of_many_children_is_as_worked_out(rt: HostRuntime) {
+    rows_are_as_worked_out(&rt, rt.alloc(), &[WIDE_ROW]);
 }
 
 /// Whether the trees of one key are found at that key alone.
@@ -155,22 +179,47 @@ fn a_tree_of_another_crate_is_read_without_its_allocator(rt: HostRuntime) {
     same(&rt, &"the word", &read_word(rt.alloc()), &wanted);
 }
 
-/// What is asked of a tree of another crate that binds `abc`, and of one that binds other letters:
-/// whether the first one contains the letters, binds them by a counted look-up, and has a key that
-/// is a prefix of them, whether it is a subset and a superset of the other one, and whether they
-/// intersect and are disjoint; how many keys it has, and how often both were asked for their
-/// allocators.
-fn asked_of_words(
-    alloc: Global,
-    letters: &str,
-) -> Result<([bool; 7], usize, (u32, u32)), AllocError> {
+/// Letters that are looked up in a tree of another crate that binds `abc`, or bound by another one.
+const LOOKED_UP: [&str; 4] = ["abc", "ab", "abd", "abcd"];
+
+/// What a tree of another crate that binds `abc` answers: whether it contains the letters, binds
+/// them by a counted look-up, and has a key that is a prefix of them; and how often it was asked
+/// for its allocator.
+fn looked_up(alloc: Global, letters: &str) -> Result<([bool; 3], u32), AllocError> {
     let word = Word::new(b"abc".to_vec(alloc)?, 7);
-    let other = Word::new(letters.as_bytes().to_vec(alloc)?, 1);
     let letters = letters.as_bytes();
     let answers = [
         word.contains_key(letters),
         word.get_counted(letters, &mut Steps::new()).is_some(),
         word.get_longest(letters).is_some(),
+    ];
+    Ok((answers, word.asked()))
+}
+
+#[test]
+fn a_tree_of_another_crate_is_looked_up_in_without_its_allocator(rt: HostRuntime) {
+    for letters in LOOKED_UP {
+        let is_same = letters == "abc";
+        let answers = [is_same, is_same, letters.starts_with("abc")];
+        same(
+            &rt,
+            &letters,
+            &looked_up(rt.alloc(), letters),
+            &Ok((answers, 0)),
+        );
+    }
+}
+
+/// What a tree of another crate that binds `abc` answers beside one that binds the letters: whether
+/// it is a subset and a superset of that, and whether they intersect and are disjoint; how many
+/// keys it has, and how often both were asked for their allocators.
+fn asked_of_words(
+    alloc: Global,
+    letters: &str,
+) -> Result<([bool; 4], usize, (u32, u32)), AllocError> {
+    let word = Word::new(b"abc".to_vec(alloc)?, 7);
+    let other = Word::new(letters.as_bytes().to_vec(alloc)?, 1);
+    let answers = [
         word.is_subset(&other),
         word.is_superset(&other),
         word.intersects(&other),
@@ -181,12 +230,9 @@ fn asked_of_words(
 
 #[test]
 fn trees_of_another_crate_are_tested_without_their_allocators(rt: HostRuntime) {
-    for letters in ["abc", "ab", "abd", "abcd"] {
+    for letters in LOOKED_UP {
         let is_same = letters == "abc";
-        let starts = letters.starts_with("abc");
-        let answers = [
-            is_same, is_same, starts, is_same, is_same, is_same, !is_same,
-        ];
+        let answers = [is_same, is_same, is_same, !is_same];
         let asked = asked_of_words(rt.alloc(), letters);
         same(&rt, &letters, &asked, &Ok((answers, 1, (0, 0))));
     }
