@@ -61,8 +61,7 @@ extern "C" fn __wrap_free(block: *mut u8) {
 
 /// Prints the table of memory.
 pub fn print() {
-    println!("| row | keys | plain tree | shared tree | BTreeMap | HashMap | sorted `Vec` by hand |");
-    println!("|---|---|---|---|---|---|---|");
+    println!("{}", trees::HEAD);
     trees::print_memory(["bytes a key at the peak", "requests a key"], taken);
 }
 

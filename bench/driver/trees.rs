@@ -1,5 +1,5 @@
-//! The rows of trees: the work of each by std's maps of whole keys, and by hand over a sorted `Vec`
-//! of pairs.
+//! The rows of trees: the work of each by std's maps of whole keys, by hand over a sorted `Vec` of
+//! pairs, and by Abseil's B-tree and JudySL where they were there.
 
 use crate::clock::{Side, Times};
 use crate::data::Keys;
@@ -36,7 +36,33 @@ unsafe extern "C" {
         asked: *const u8, asked_len: usize, asked_ends: *const usize, asked_count: usize,
         rounds: u64,
     ) -> u64;
+    #[cfg(absl)]
+    fn bench_absl(
+        row: u64, bytes: *const u8, len: usize, ends: *const usize, count: usize,
+        asked: *const u8, asked_len: usize, asked_ends: *const usize, asked_count: usize,
+        rounds: u64,
+    ) -> u64;
+    #[cfg(judy)]
+    fn bench_judy(
+        row: u64, bytes: *const u8, len: usize, ends: *const usize, count: usize,
+        asked: *const u8, asked_len: usize, asked_ends: *const usize, asked_count: usize,
+        rounds: u64,
+    ) -> u64;
 }
+
+#[cfg(absl)]
+const ABSL: Option<TreeExport> = Some(bench_absl);
+#[cfg(not(absl))]
+const ABSL: Option<TreeExport> = None;
+#[cfg(judy)]
+const JUDY: Option<TreeExport> = Some(bench_judy);
+#[cfg(not(judy))]
+const JUDY: Option<TreeExport> = None;
+
+/// The columns of a table of trees, and the line below them.
+pub const HEAD: &str = "| row | keys | plain tree | shared tree | BTreeMap | HashMap \
+                        | sorted `Vec` by hand | absl::btree_map | JudySL |
+|---|---|---|---|---|---|---|---|---|";
 
 /// What a row of trees does: its name, its number in the library, and whether there is no such row
 /// of plain trees.
@@ -94,10 +120,7 @@ pub fn print_memory(names: [&str; 2], amounts: impl Fn(&Side) -> [usize; 2]) {
 
 /// Prints the table of trees.
 pub fn print(only: &str) {
-    println!(
-        "| row | keys | plain tree | shared tree | BTreeMap | HashMap | sorted `Vec` by hand |"
-    );
-    println!("|---|---|---|---|---|---|---|");
+    println!("{HEAD}");
     for count in [10, 100, 1000, 10_000, MANY] {
         let keys = Keys::paths(count);
         for row in TREE_ROWS.iter().filter(|row| row.name.contains(only)) {
@@ -131,19 +154,21 @@ fn with_sides<R>(row: &TreeRow, keys: &Keys, work: impl FnOnce(usize, &[Side]) -
         7 | 11 => maps.under().count().max(1),
         _ => list.len(),
     };
-    let ours = |export| ours(export, row.number, keys, &asked);
+    let by_export = |export| by_export(export, row.number, keys, &asked);
     let sides = [
-        if row.shared_alone { Side::none() } else { ours(bench_plain_tree) },
-        ours(bench_shared_tree),
+        if row.shared_alone { Side::none() } else { by_export(bench_plain_tree) },
+        by_export(bench_shared_tree),
         Side::repeating(|| maps.by_btree(row.number)),
         Side::repeating(|| maps.by_hash(row.number)),
         Side::repeating(|| maps.by_hand(row.number)),
+        ABSL.map_or(Side::none(), by_export),
+        JUDY.map_or(Side::none(), by_export),
     ];
     work(operations, &sides)
 }
 
-/// The side of one flavour of trees.
-fn ours<'a>(export: TreeExport, row: u64, keys: &'a Keys, asked: &'a Keys) -> Side<'a> {
+/// The side of one flavour of trees, or of a map of another language.
+fn by_export<'a>(export: TreeExport, row: u64, keys: &'a Keys, asked: &'a Keys) -> Side<'a> {
     let (a, a_len, a_ends, a_count) = keys.parts();
     let (b, b_len, b_ends, b_count) = asked.parts();
     // SAFETY: the pointers and lengths are those of the keys.
