@@ -1,9 +1,9 @@
 -- An ordered list that is cut where a range begins and where it ends.
---     cut-found, cut-gap, cut-none, cut-whole        where a search leads to, and where nothing is sought
+--     cut-found, cut-gap, cut-one, cut-none, cut-whole        where a search leads to, and where nothing is sought
 --     cuts-filter        what lies between two cuts
 --     range-sought        ends that are sought, as the ends of a range
 use Rattle.std.proofs.Common.{◌≡◌, ℕ, zero, suc, ◌+◌, ◌-◌, ◌<◌, ◌≤◌, min, Bool, true, false, cond, not, ◌&&◌, List}
-use Rattle.std.proofs.Common.{[], ◌∷◌, length, take, drop, refl, sym, ap, subst, ◌∙◌, arith, inl, inr, ◌⊎◌}
+use Rattle.std.proofs.Common.{[], ◌∷◌, length, take, drop, get_or, refl, sym, ap, subst, ◌∙◌, arith, inl, inr, ◌⊎◌}
 use Rattle.std.proofs.lemmas.Bool.{cases_lt}
 use Rattle.std.specs.BTreeMap.Range.{is_from_start, is_past_end, range_contains}
 use Rattle.std.specs.Cmp.{IsTotalOrder}
@@ -16,8 +16,9 @@ use Rattle.std.specs.declared.cmp.Ordering.TheVariants.{Less, Equal, Greater}
 use Rattle.std.specs.declared.ops.Bound.{Bound}
 use Rattle.std.specs.declared.ops.Bound.TheVariants.{Included, Excluded, Unbounded}
 use Rattle.vc_merge.specs.Cuts.{IsCut, is_in_front, passes}
-use Rattle.vc_merge.specs.Place.{IsFound, IsGap}
+use Rattle.vc_merge.specs.Place.{IsFound, IsGap, IsOrdered, IsRest}
 use Rattle.vc_merge.proofs.ListLemmas.{each-weaker}
+use Rattle.vc_merge.proofs.PlaceLemmas.{place-equal, place-unequal}
 
 -- ---- where a search leads to
 
@@ -90,6 +91,30 @@ module _ {X : Type 0} (side : X → Ordering) where
         pass = each-weaker (λ y. side y ≡ Less) (λ y. is_lt (side y) ≡ true) (passes-less false) (take i xs) f.less;
         fail = fail-equal xs i w (subst (λ k. AllByRecursion (λ y. side y ≡ Greater) (drop k xs)) (sym next) f.greater) f.equal;
       })
+
+  -- where one element is left to search, which passes or fails
+  pub cut-one : (b t : Bool) (xs : List X) (start : ℕ) (one : List X) (y : X) (o : Ordering) → IsOrdered side xs
+      → IsRest side xs start one → length one ≡ 1 → y ≡ get_or one 0 y → o ≡ side y → t ≡ passes b o
+      → IsCut (λ y. passes b (side y)) xs (start + from_bool t)
+  cut-one b t xs start one y Less p q h e f g =
+      cut-gap b xs (start + from_bool t) (place-unequal side xs start one p q h y e Less t f refl (g ∙ any b))
+    where
+      any : (b : Bool) → passes b Less ≡ true
+      any true = refl
+      any false = refl
+  cut-one b t xs start one y Equal p q h e f g =
+      subst (λ c. IsCut (λ y. passes b (side y)) xs (start + from_bool c)) (sym (g ∙ any b))
+      (cut-found b xs start (place-equal side xs start one p q h y e Equal f refl))
+    where
+      any : (b : Bool) → passes b Equal ≡ b
+      any true = refl
+      any false = refl
+  cut-one b t xs start one y Greater p q h e f g =
+      cut-gap b xs (start + from_bool t) (place-unequal side xs start one p q h y e Greater t f refl (g ∙ any b))
+    where
+      any : (b : Bool) → passes b Greater ≡ false
+      any true = refl
+      any false = refl
 
 -- ---- what lies between two cuts
 

@@ -92,6 +92,23 @@ pub fn look_up<X, S: Sought<X, Uncounted>>(list: &[X], sought: &S) -> Result<usi
     if list.is_empty() {
         return Err(0);
     }
+    let (start, one) = nearest(list, sought);
+    let order = sought.compare(&one[0], &mut Uncounted);
+    if order.is_eq() {
+        return Ok(start);
+    }
+    Err(start + usize::from(order.is_lt()))
+}
+
+/// The last element that is not greater, or the first one where there is none, and how many stand
+/// before it.
+#[inline(always)]
+fn nearest<'a, X, S: Sought<X, Uncounted>>(list: &'a [X], sought: &S) -> (usize, &'a [X])
+    requires ordered { IsOrdered (S.side sought.now) list.now }
+    requires some { 0 < length list.now }
+    ensures rest { IsRest (S.side sought.now) list.now result.0 result.1.now }
+    ensures one { length result.1.now ≡ 1 }
+{
     let mut start = 0;
     let mut rest = list;
     'quarters: while rest.len() >= 4 {
@@ -100,12 +117,7 @@ pub fn look_up<X, S: Sought<X, Uncounted>>(list: &[X], sought: &S) -> Result<usi
         rest = part;
     }
     let (passed, one) = nearest_of_few(rest, sought);
-    start += passed;
-    let order = sought.compare(&one[0], &mut Uncounted);
-    if order.is_eq() {
-        return Ok(start);
-    }
-    Err(start + usize::from(order.is_lt()))
+    (start + passed, one)
 }
 
 /// The last of four parts that begins with no greater element, or the first part where there is

@@ -45,8 +45,18 @@ pub(crate) fn stride_exponent(few: usize, many: usize) -> u32
     if few == 0 {
         return 0;
     }
-    let share = many / few;
+    let share = share_of(few, many);
     (usize::BITS - 1) - share.leading_zeros()
+}
+
+/// How many of `many` there are for each of `few`. A division takes as long as some comparisons, so
+/// it is left out for one.
+#[inline(always)]
+fn share_of(few: usize, many: usize) -> usize
+    requires { 0 < few }
+    ensures { result ≡ many / few }
+{
+    if few == 1 { many } else { many / few }
 }
 
 /// Makes events until a list is used up, which it answers by true, or until an event answers false

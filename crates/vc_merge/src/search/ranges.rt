@@ -7,14 +7,16 @@ ghost use Rattle.vc_merge.specs.Ascending.{Ascends};
 ghost use Rattle.vc_merge.specs.Cuts.{IsCut, is_in_front, passes};
 ghost use Rattle.vc_merge.specs.Place.{IsOrdered};
 
-use super::{Element, Key, Sought, look_up};
+use super::{Element, Key, Sought, nearest};
 use crate::merge::Uncounted;
+use std::cmp::Ordering;
 use std::ops::{Bound, RangeBounds};
 
 /// The elements of an ascending list that lie in a range, in order. A range that runs backwards has
 /// none.
 ///
-/// Makes one [`look_up`] for each end that the range has.
+/// Compares as often as [`look_up`](super::look_up) for each end that the range has.
+#[inline]
 pub fn elements_between<T: Ord, R: RangeBounds<T>>(list: &[T], range: R) -> &[T]
     requires { Ascends T.cmp list.now }
     ensures { R.has_bounds range → result.now
@@ -28,7 +30,8 @@ pub fn elements_between<T: Ord, R: RangeBounds<T>>(list: &[T], range: R) -> &[T]
 /// The pairs of a list that ascends by its keys whose keys lie in a range, in order. A range that
 /// runs backwards has none.
 ///
-/// Makes one [`look_up`] for each end that the range has.
+/// Compares as often as [`look_up`](super::look_up) for each end that the range has.
+#[inline]
 pub fn pairs_between<K: Ord, V, R: RangeBounds<K>>(pairs: &[(K, V)], range: R) -> &[(K, V)]
     requires { Ascends K.cmp (keys_of pairs.now) }
     ensures { R.has_bounds range → result.now
@@ -40,6 +43,7 @@ pub fn pairs_between<K: Ord, V, R: RangeBounds<K>>(pairs: &[(K, V)], range: R) -
 }
 
 /// An end of a range of elements, as an end that is sought.
+#[inline(always)]
 fn element_bound<T>(bound: Bound<&T>) -> Bound<Element<'_, T>>
     ensures { bound_map (λ s. s.0.now) result ≡ bound_map (λ x. x.now) bound.entry }
 {
@@ -51,6 +55,7 @@ fn element_bound<T>(bound: Bound<&T>) -> Bound<Element<'_, T>>
 }
 
 /// An end of a range of keys, as an end that is sought.
+#[inline(always)]
 fn key_bound<K>(bound: Bound<&K>) -> Bound<Key<'_, K>>
     ensures { bound_map (λ s. s.0.now) result ≡ bound_map (λ x. x.now) bound.entry }
 {
@@ -62,6 +67,7 @@ fn key_bound<K>(bound: Bound<&K>) -> Bound<Key<'_, K>>
 }
 
 /// The elements of an ordered list from one end on and up to another.
+#[inline(always)]
 fn between<'a, X, S: Sought<X, Uncounted>>(
     list: &'a [X],
     start: &Bound<S>,
@@ -78,6 +84,7 @@ fn between<'a, X, S: Sought<X, Uncounted>>(
 
 /// How many elements of an ordered list stand before a range that starts here, or, where `at_end`
 /// says so, up to the end of one that ends here.
+#[inline(always)]
 fn cut_at<X, S: Sought<X, Uncounted>>(list: &[X], bound: &Bound<S>, at_end: bool) -> usize
     requires { (s : S) → IsOrdered (S.side s) list.now }
     ensures { IsCut (is_in_front S.side at_end bound.now) list.now result }
@@ -91,12 +98,28 @@ fn cut_at<X, S: Sought<X, Uncounted>>(list: &[X], bound: &Bound<S>, at_end: bool
 
 /// How many elements stand before what is sought, together with the equal one where `with_equal`
 /// says so.
+#[inline]
 fn count_passing<X, S: Sought<X, Uncounted>>(list: &[X], sought: &S, with_equal: bool) -> usize
     requires { IsOrdered (S.side sought.now) list.now }
     ensures { IsCut (λ y. passes with_equal (S.side sought.now y)) list.now result }
 {
-    match look_up(list, sought) {
-        Ok(place) => place + usize::from(with_equal),
-        Err(place) => place,
+    if list.is_empty() {
+        return 0;
+    }
+    let (start, one) = nearest(list, sought);
+    let order = sought.compare(&one[0], &mut Uncounted);
+    start + usize::from(stands_before(order, with_equal))
+}
+
+/// Whether an element that stands so to what is sought stands before it, or is equal to it where
+/// `with_equal` says so.
+#[inline(always)]
+fn stands_before(order: Ordering, with_equal: bool) -> bool
+    ensures { result ≡ passes with_equal order }
+{
+    if with_equal {
+        order.is_le()
+    } else {
+        order.is_lt()
     }
 }

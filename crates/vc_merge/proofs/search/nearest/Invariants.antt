@@ -1,6 +1,6 @@
 use Rattle.std.proofs.Common.{◌<◌, length}
 use Rattle.vc_merge.specs.Place.{IsRest}
-use Rattle.vc_merge.proofs.search.look_up.Given as goal
+use Rattle.vc_merge.proofs.search.nearest.Given as goal
 
 abbrev pub invariant-quarters : goal.invariant-quarters
 invariant-quarters g l =
