@@ -1,6 +1,6 @@
-mod Entering
+mod Entries
+mod Passing
 mod Asking
 mod Staying
 mod Values
 mod Giving
-mod OneAnswer

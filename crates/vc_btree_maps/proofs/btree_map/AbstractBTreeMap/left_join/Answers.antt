@@ -3,8 +3,8 @@ use Rattle.vc_joins.specs.Answers.{MayAnswerLeft}
 use Rattle.vc_joins.specs.declared.question.JoinKind.TheVariants as kind
 use Rattle.vc_joins.specs.Question.{left_spelling, shown_key}
 use Rattle.vc_btree_maps.proofs.Asking.{asked-by_kind}
+use Rattle.vc_joins.proofs.Functions.{joins-of_functions}
 use Rattle.vc_joins.proofs.Values.{answers-left}
-use Rattle.vc_btree_maps.proofs.OneAnswer.{function-if}
 use Rattle.vc_btree_maps.proofs.Values.{if-ok}
 use Rattle.vc_btree_maps.proofs.btree_map.AbstractBTreeMap.left_join.Goals as goal
 
@@ -13,8 +13,8 @@ join_left-requires-clause-takes g c = λ a h. (asked-by_kind kind.Left left_spel
 
 pub returns-clause-function : goal.returns-clause-function
 returns-clause-function g c =
-    function-if g.K.Ord.cmp kind.Left left_spelling (λ a r. MayAnswerLeft g.F.Fn c.args.f a (Ok r))
-    (λ a. g.K.Clone.is_clone (shown_key a)) _ _ c.join_left.result c.join_left.ensures
+    if-ok c.join_left.result (λ m. joins-of_functions g.K.Ord.cmp (λ a r. MayAnswerLeft g.F.Fn c.args.f a (Ok r))
+    (λ a. g.K.Clone.is_clone (shown_key a)) kind.Left left_spelling _ _ m.entries) c.join_left.ensures
 
 pub returns-clause-values : goal.returns-clause-values
 returns-clause-values g c =

@@ -3,8 +3,8 @@ use Rattle.vc_joins.specs.Answers.{MayAnswerRight}
 use Rattle.vc_joins.specs.declared.question.JoinKind.TheVariants as kind
 use Rattle.vc_joins.specs.Question.{right_spelling, shown_key}
 use Rattle.vc_btree_maps.proofs.Asking.{asked-by_kind}
+use Rattle.vc_joins.proofs.Functions.{joins-of_functions}
 use Rattle.vc_joins.proofs.Values.{answers-right}
-use Rattle.vc_btree_maps.proofs.OneAnswer.{function-if}
 use Rattle.vc_btree_maps.proofs.Values.{if-ok}
 use Rattle.vc_btree_maps.proofs.btree_map.AbstractBTreeMap.right_join.Goals as goal
 
@@ -14,8 +14,8 @@ join_right-requires-clause-takes g c =
 
 pub returns-clause-function : goal.returns-clause-function
 returns-clause-function g c =
-    function-if g.K.Ord.cmp kind.Right right_spelling (λ a r. MayAnswerRight g.F.Fn c.args.f a (Ok r))
-    (λ a. g.K.Clone.is_clone (shown_key a)) _ _ c.join_right.result c.join_right.ensures
+    if-ok c.join_right.result (λ m. joins-of_functions g.K.Ord.cmp (λ a r. MayAnswerRight g.F.Fn c.args.f a (Ok r))
+    (λ a. g.K.Clone.is_clone (shown_key a)) kind.Right right_spelling _ _ m.entries) c.join_right.ensures
 
 pub returns-clause-values : goal.returns-clause-values
 returns-clause-values g c =

@@ -1,32 +1,40 @@
-use Rattle.std.proofs.Common.{false, sym, ◌∙◌}
-use Rattle.std.specs.Prelude.{Ok}
-use Rattle.vc_btree_maps.proofs.Asking.{right-asks, right-free, right-next, inner-next}
+use Rattle.std.proofs.Common.{rules, refl, sym, ◌∙◌}
+use Rattle.vc_joins.specs.declared.question.JoinKind.TheVariants.{Inner}
+use Rattle.vc_btree_maps.proofs.Asking.{right-asked, right-shown, right-silent, inner-asks, inner-silent}
+use Rattle.vc_btree_maps.proofs.Asking.{next-asks, next-asked, all-joined}
+use Rattle.vc_btree_maps.proofs.Passing.{start, next-before, next-same}
 use Rattle.vc_btree_maps.proofs.btree_map.fresh.join_inner.Goals as goal
+
+pub keys-init : goal.keys-init
+keys-init g c =
+    rw (c.into_iter-key-iterator.ensures.into_iter_gives, c.iter-key-items.ensures.pairs, c.new-joined.ensures.empty)
+    (start c.iter-key-items.ensures.ascends (search rules) (λ k. refl)
+    (λ k e b. record { is = rw (e, right-silent Inner refl _) b }))
 
 pub put_right-requires-clause-takes : goal.put_right-requires-clause-takes
 put_right-requires-clause-takes g c =
-    let i = c.keys.invariant in
-    c.requires.takes _ (right-asks g.K.Ord.cmp g.met.K.Ord.total g.K.Clone.is_clone
-    (λ a r. g.Q.Question.may c.args.question.now a (Ok r)) _ _ i.0 _ _ c.in-Some.key c.get-value.result c.in-Some.other
-    c.iter-key-items.ensures.ascends i.1 c.in-Some.ensures.steps c.get-value.ensures false
-    (sym c.is_some.ensures ∙ c.if-is_some.true))
+    c.requires.takes _ (next-asks g.met.K.Ord.total (rw c.in-Some.ensures.steps at c.keys.invariant)
+    (λ k t e. right-asked g.K.Ord.cmp g.met.K.Ord.total _ _ c.in-Some.key c.get-value.result c.in-Some.other c.get-value.ensures
+    Inner k t e ∙ inner-asks c.in-Some.key c.get-value.result c.in-Some.other (sym c.is_some.ensures ∙ c.if-is_some.true)))
 
 pub put_right-requires-clause-absent : goal.put_right-requires-clause-absent
-put_right-requires-clause-absent g c =
-    let i = c.keys.invariant in
-    right-free g.K.Ord.cmp g.met.K.Ord.total g.K.Clone.is_clone _ _ _ i.0 _ _ c.in-Some.key c.get-value.result c.in-Some.other
-    c.iter-key-items.ensures.ascends i.1 c.in-Some.ensures.steps c.get-value.ensures false _ i.2
+put_right-requires-clause-absent g c = next-before g.met.K.Ord.total (rw c.in-Some.ensures.steps at c.keys.invariant)
 
 pub keys-preserved-in-Continue-1 : goal.keys-preserved-in-Continue-1
 keys-preserved-in-Continue-1 g c =
-    let i = c.keys.invariant in
-    right-next g.K.Ord.cmp g.met.K.Ord.total g.K.Clone.is_clone _ _ _ i.0 _ _ c.in-Some.key c.get-value.result c.in-Some.other
-    c.iter-key-items.ensures.ascends i.1 c.in-Some.ensures.steps c.get-value.ensures false _ _
-    (sym c.is_some.ensures ∙ c.if-is_some.true) c.in_ok-put_right.ensures i.2
+    next-asked g.met.K.Ord.total (rw c.in-Some.ensures.steps at c.keys.invariant)
+    (λ k t e. right-asked g.K.Ord.cmp g.met.K.Ord.total _ _ c.in-Some.key c.get-value.result c.in-Some.other c.get-value.ensures
+    Inner k t e ∙ inner-asks c.in-Some.key c.get-value.result c.in-Some.other (sym c.is_some.ensures ∙ c.if-is_some.true))
+    (right-shown c.in-Some.key c.get-value.result c.in-Some.other) c.in_ok-put_right.ensures
 
+-- at a key of the right map alone nothing is asked
 pub keys-preserved : goal.keys-preserved
 keys-preserved g c =
-    let i = c.keys.invariant in
-    inner-next g.K.Ord.cmp g.met.K.Ord.total g.K.Clone.is_clone _ _ _ i.0 _ _ c.in-Some.key c.get-value.result c.in-Some.other
-    c.iter-key-items.ensures.ascends i.1 c.in-Some.ensures.steps c.get-value.ensures _
-    (sym c.is_some.ensures ∙ c.if-is_some.false) i.2
+    next-same g.met.K.Ord.total (rw c.in-Some.ensures.steps at c.keys.invariant)
+    (λ k t e b. record {
+      is = rw (inner-silent g.K.Ord.cmp g.met.K.Ord.total _ _ c.in-Some.key c.get-value.result c.in-Some.other c.get-value.ensures
+          (sym c.is_some.ensures ∙ c.if-is_some.false) k t) b;
+    })
+
+pub returns : goal.returns
+returns g c = all-joined c.keys.invariant c.in-None.ensures.steps.0

@@ -1,22 +1,26 @@
-use Rattle.std.specs.Prelude.{Ok}
-use Rattle.vc_btree_maps.proofs.Asking.{left-asks, left-free, left-next}
+use Rattle.std.proofs.Common.{rules, refl}
+use Rattle.vc_btree_maps.proofs.Asking.{left-asked, left-shown, left-silent, next-asks, next-asked, all-joined}
+use Rattle.vc_btree_maps.proofs.Passing.{start, next-before}
 use Rattle.vc_btree_maps.proofs.btree_map.fresh.join_left.Goals as goal
+
+pub keys-init : goal.keys-init
+keys-init g c =
+    rw (c.into_iter-key-iterator.ensures.into_iter_gives, c.iter-key-items.ensures.pairs, c.new-joined.ensures.empty)
+    (start c.iter-key-items.ensures.ascends (search rules) (λ k. refl) (λ k e b. record { is = rw (e, left-silent _) b }))
 
 pub put_left-requires-clause-takes : goal.put_left-requires-clause-takes
 put_left-requires-clause-takes g c =
-    let i = c.keys.invariant in
-    c.requires.takes _ (left-asks g.K.Ord.cmp g.met.K.Ord.total g.K.Clone.is_clone
-    (λ a r. g.Q.Question.may c.args.question.now a (Ok r)) _ _ i.0 _ _ c.in-Some.key c.in-Some.value c.get.result
-    c.iter-key-items.ensures.ascends i.1 c.in-Some.ensures.steps c.get.ensures)
+    c.requires.takes _ (next-asks g.met.K.Ord.total (rw c.in-Some.ensures.steps at c.keys.invariant)
+    (left-asked g.K.Ord.cmp g.met.K.Ord.total _ _ c.in-Some.key c.in-Some.value c.get.result c.get.ensures))
 
 pub put_left-requires-clause-absent : goal.put_left-requires-clause-absent
-put_left-requires-clause-absent g c =
-    let i = c.keys.invariant in
-    left-free g.K.Ord.cmp g.met.K.Ord.total g.K.Clone.is_clone _ _ _ i.0 _ _ c.in-Some.key c.in-Some.value
-    c.get.result c.iter-key-items.ensures.ascends i.1 c.in-Some.ensures.steps c.get.ensures _ i.2
+put_left-requires-clause-absent g c = next-before g.met.K.Ord.total (rw c.in-Some.ensures.steps at c.keys.invariant)
 
 pub keys-preserved : goal.keys-preserved
 keys-preserved g c =
-    let i = c.keys.invariant in
-    left-next g.K.Ord.cmp g.met.K.Ord.total g.K.Clone.is_clone _ _ _ i.0 _ _ c.in-Some.key c.in-Some.value c.get.result
-    c.iter-key-items.ensures.ascends i.1 c.in-Some.ensures.steps c.get.ensures _ _ c.in_ok-put_left.ensures i.2
+    next-asked g.met.K.Ord.total (rw c.in-Some.ensures.steps at c.keys.invariant)
+    (left-asked g.K.Ord.cmp g.met.K.Ord.total _ _ c.in-Some.key c.in-Some.value c.get.result c.get.ensures)
+    (left-shown c.in-Some.key c.in-Some.value c.get.result) c.in_ok-put_left.ensures
+
+pub returns : goal.returns
+returns g c = all-joined c.keys.invariant c.in-None.ensures.steps.0

@@ -1,7 +1,6 @@
 use Rattle.std.proofs.Common.{ap, ◌∙◌}
 use Rattle.std.specs.Map.Iter.{deref_pair}
 use Rattle.std.specs.Prelude.{map}
-use Rattle.vc_btree_maps.specs.Keeping.{MayGive}
 use Rattle.vc_btree_maps.proofs.Giving.{shared-ascends, second-takes, third-takes, outer-of_passes}
 use Rattle.vc_btree_maps.proofs.btree_map.in_place.join_outer_with.Goals as goal
 
@@ -10,23 +9,20 @@ keep_shared-requires g c =
     let e = c.in_ok-shared.ensures in
     rw (c.deref.ensures.value, e.shared) (record {
       ascends = shared-ascends g.K.Ord.cmp g.met.K.Ord.total _ _ e.ascends;
-      takes = second-takes g.K.Ord.cmp g.met.K.Ord.total _ g.K.Clone.is_clone (MayGive g.G.Fn c.args.given.now)
-          (g.J.Keep.may c.args.judge.now) _ _ e.given (g.J.Keep.takes c.args.judge.now) c.requires.takes;
+      takes = second-takes g.met.K.Ord.total (g.J.Keep.may c.args.judge.now) e.given (g.J.Keep.takes c.args.judge.now)
+          c.requires.takes;
     })
 
 pub keep_each-requires : goal.keep_each-requires
 keep_each-requires g c =
-    let e = c.in_ok-shared.ensures in
-    record {
-      takes = third-takes g.K.Ord.cmp g.met.K.Ord.total _ g.K.Clone.is_clone (MayGive g.G.Fn c.args.given.now)
-          (g.J.Keep.may c.args.judge.now) _ _ _ _
-          (ap (map deref_pair) c.deref.ensures.value ∙ e.shared) e.given c.keep_shared.ensures
-          (g.J.Keep.takes c.args.judge.now) c.requires.takes;
+    let e = c.in_ok-shared.ensures in record {
+      takes = third-takes g.met.K.Ord.total (g.J.Keep.may c.args.judge.now) e.given
+          (ap (map deref_pair) c.deref.ensures.value ∙ e.shared) c.keep_shared.ensures (g.J.Keep.takes c.args.judge.now)
+          c.requires.takes;
     }
 
 pub returns-clause-joins : goal.returns-clause-joins
 returns-clause-joins g c =
     let e = c.in_ok-shared.ensures in
-    outer-of_passes g.K.Ord.cmp g.met.K.Ord.total _ g.K.Clone.is_clone (MayGive g.G.Fn c.args.given.now)
-    (g.J.Keep.may c.args.judge.now) _ _ _ _
-    (ap (map deref_pair) c.deref.ensures.value ∙ e.shared) e.given c.keep_shared.ensures _ c.keep_each.ensures
+    outer-of_passes g.met.K.Ord.total (g.J.Keep.may c.args.judge.now) e.given
+    (ap (map deref_pair) c.deref.ensures.value ∙ e.shared) c.keep_shared.ensures c.keep_each.ensures

@@ -2,7 +2,7 @@ use Rattle.std.proofs.Common.{rules, refl, ap, ◌∙◌, ◌≡◌}
 use Rattle.std.proofs.lemmas.Fn.{chained_keeps}
 use Rattle.vc_btree_maps.specs.Keeping.{at_pair}
 use Rattle.vc_joins.specs.Entries.{value_at}
-use Rattle.vc_btree_maps.proofs.Staying.{all-judged, join-of_judged, asked-in}
+use Rattle.vc_btree_maps.proofs.Staying.{judged, join-of_judged, asked-in}
 use Rattle.vc_btree_maps.proofs.btree_map.in_place.keep_each.Goals as goal
 
 pub retain-requires : goal.retain-requires
@@ -21,7 +21,7 @@ retain-requires g c =
 pub returns : goal.returns
 returns g c =
     join-of_judged g.K.Ord.cmp g.met.K.Ord.total (g.J.Keep.may c.args.judge.now) _ _ _ c.retain.ensures.ordered
-    (all-judged g.K.Ord.cmp g.met.K.Ord.total _ _
+    (λ x. judged g.K.Ord.cmp g.met.K.Ord.total _ _
     (λ k v r. g.J.Keep.may c.args.judge.now
     (at_pair k v (value_at g.K.Ord.cmp (g.M.AbstractBTreeMap.pairs c.args.that.now) k)) r)
-    (λ k v b w h t. search rules) _ _ c.retain.ensures.was_ordered c.retain.ensures.filtered)
+    (λ k v b w h t. search rules) x _ _ _ refl c.retain.ensures.was_ordered c.retain.ensures.filtered)

@@ -1,0 +1,163 @@
+-- What stands at each key of a list of pairs that ascends by key, and what a change at one key leaves there.
+use Rattle.std.proofs.Common.{◌≡◌, Bool, true, false, cond, List, [], ◌∷◌, ◌++◌, Option, Some, None, is_some, MatchBool}
+use Rattle.std.proofs.Common.{refl, sym, ap, ◌∙◌}
+use Rattle.std.specs.Cmp.{IsTotalOrder, alike_right, tied_back, tied_itself, Equal-is}
+use Rattle.std.specs.List.{AllByRecursion}
+use Rattle.std.specs.List.Sorted.{IsStrictlySortedBy}
+use Rattle.std.specs.Map.{keys_of, set_value, remove_entry}
+use Rattle.std.specs.Option.{option_map}
+use Rattle.std.specs.Ordering.{is_eq, ordering_reverse}
+use Rattle.std.specs.BTreeMap.{is_at, insert_entry}
+use Rattle.std.specs.declared.cmp.Ordering.{Ordering}
+use Rattle.std.specs.declared.cmp.Ordering.TheVariants.{Less, Equal, Greater}
+use Rattle.vc_joins.specs.Entries.{AscendsByKey, entry_at, value_at}
+use Rattle.vc_joins.proofs.Functions.{value-entry}
+use Rattle.vc_btree_maps.specs.Putting.{IsPut}
+
+-- a test decides
+pub by-test : {P : Type 0} (b : Bool) → (b ≡ true → P) → (b ≡ false → P) → P
+by-test true t f = t refl
+by-test false t f = f refl
+
+-- both ways of a test
+pub chosen : {P Q : Type 0} (b : Bool) → (b ≡ true → P) → (b ≡ false → Q) → MatchBool b P Q
+chosen true t f = t refl
+chosen false t f = f refl
+
+-- a comparison decides
+by-order : {P : Type 0} (r : Ordering) → (r ≡ Less → P) → (r ≡ Equal → P) → (r ≡ Greater → P) → P
+by-order Less l e g = l refl
+by-order Equal l e g = e refl
+by-order Greater l e g = g refl
+
+-- an option that has nothing is none
+pub none-by : {A : Type 0} (z : Option A) → is_some z ≡ false → z ≡ None
+none-by None e = refl
+none-by (Some x) e = cc
+
+module _ {K : Type 0} (cmp : K → K → Ordering) (total : IsTotalOrder cmp) where
+  pub equal-at : (k key : K) → is_at (cmp k) key ≡ true → cmp k key ≡ Equal
+  equal-at k key = (Equal-is (cmp k key)).0
+
+  -- equal keys are equal to the same ones
+  at-same : (k key x : K) → is_at (cmp k) key ≡ true → is_at (cmp k) x ≡ is_at (cmp key) x
+  at-same k key x t = ap is_eq (total.congr k key x (equal-at k key t))
+
+  -- a key that is equal to one that is not equal to k is not equal to k
+  at-other : (k key x : K) → is_at (cmp k) key ≡ false → is_at (cmp key) x ≡ true → is_at (cmp k) x ≡ false
+  at-other k key x f t =
+      ap is_eq (alike_right total x key k (tied_back total key x (equal-at key x t))) ∙ f
+
+module _ {K V : Type 0} (cmp : K → K → Ordering) (total : IsTotalOrder cmp) where
+  -- at equal keys stands the same pair
+  pub same-entry : (j k : K) (es : List (K × V)) → cmp j k ≡ Equal → entry_at cmp es j ≡ entry_at cmp es k
+  same-entry j k [] e = refl
+  same-entry j k (p ∷ es) e = λ i. cond (is_eq (total.congr j k p.0 e i)) (Some p) (same-entry j k es e i)
+
+  -- a pair that is found stands at a key that is equal to its own
+  pub own-key : (k : K) (es : List (K × V)) (p : K × V) → entry_at cmp es k ≡ Some p → cmp k p.0 ≡ Equal
+  own-key k [] p e = cc
+  own-key k (q ∷ es) p e =
+      by-test (is_at (cmp k) q.0)
+      (λ t. let h : Some q ≡ Some p = rw t at e in let s : q ≡ p = cc in rw (sym s) (equal-at cmp total k q.0 t))
+      (λ f. own-key k es p (rw f at e))
+
+  -- and it stands at each key that is equal to one where it stands
+  pub at-own : (k : K) (es : List (K × V)) (p : K × V) → entry_at cmp es k ≡ Some p → entry_at cmp es p.0 ≡ Some p
+  at-own k es p e = sym (same-entry k p.0 es (own-key k es p e)) ∙ e
+
+  -- nothing stands at a key that is below all
+  pub none-above : (k x : K) (es : List (K × V)) → cmp k x ≡ Equal → AllByRecursion (λ y. cmp x y ≡ Less) (keys_of es)
+      → entry_at cmp es k ≡ None
+  none-above k x [] e all = refl
+  none-above k x (p ∷ es) e all = rw (ap is_eq (total.congr k x p.0 e ∙ all.0)) (none-above k x es e all.1)
+
+  -- a pair of the list stands at its own key
+  pub standing : (front : List (K × V)) (p : K × V) (rest : List (K × V)) → AscendsByKey cmp (front ++ p ∷ rest)
+      → entry_at cmp (front ++ p ∷ rest) p.0 ≡ Some p
+  unfolding IsStrictlySortedBy
+  standing [] p rest s = rw (ap is_eq (tied_itself total p.0)) refl
+  standing (q ∷ front) p rest s =
+      rw (ap is_eq (total.antisymm p.0 q.0 ∙ ap ordering_reverse (below q.0 front s.0))) (standing front p rest s.1)
+    where
+      below : (x : K) (front : List (K × V)) → AllByRecursion (λ y. cmp x y ≡ Less) (keys_of (front ++ p ∷ rest))
+          → cmp x p.0 ≡ Less
+      below x [] all = all.0
+      below x (q ∷ front) all = below x front all.1
+
+  -- a value at a key is that of the pair there
+  pub found : (k : K) (es : List (K × V)) (v : V) → value_at cmp es k ≡ Some v
+      → (p : K × V) × (entry_at cmp es k ≡ Some p) × (p.1 ≡ v)
+  found k es v e = by-entry (entry_at cmp es k) (sym (value-entry cmp es k) ∙ e)
+    where
+      by-entry : (z : Option (K × V)) → option_map (λ p. p.1) z ≡ Some v → (p : K × V) × (z ≡ Some p) × (p.1 ≡ v)
+      by-entry None e = cc
+      by-entry (Some p) e = (p, refl, cc)
+
+  -- there is a value at the keys of the pairs alone
+  pub value-is_some : (k : K) (es : List (K × V)) → is_some (entry_at cmp es k) ≡ is_some (value_at cmp es k)
+  value-is_some k es = sym (ap is_some (value-entry cmp es k) ∙ mapped (entry_at cmp es k))
+    where
+      mapped : (z : Option (K × V)) → is_some (option_map (λ p. p.1) z) ≡ is_some z
+      mapped None = refl
+      mapped (Some p) = refl
+
+  -- ---- a change at one key: what stands at each key k once a value was written, a pair taken out or a new one put in
+
+  -- a pair at another key is passed
+  past : (k key : K) (q : K × V) (es more : List (K × V)) (x : Option (K × V)) → is_at (cmp key) q.0 ≡ false
+      → entry_at cmp more k ≡ cond (is_at (cmp k) key) x (entry_at cmp es k)
+      → entry_at cmp (q ∷ more) k ≡ cond (is_at (cmp k) key) x (entry_at cmp (q ∷ es) k)
+  past k key q es more x n e =
+      rw e (by-test (is_at (cmp k) key) (λ t. rw (t, at-same cmp total k key q.0 t ∙ n) refl) (λ f. rw f refl))
+
+  pub written : (k key : K) (es : List (K × V)) (p : K × V) (v : V) → entry_at cmp es key ≡ Some p
+      → entry_at cmp (set_value (is_at (cmp key)) es v) k ≡ cond (is_at (cmp k) key) (Some (p.0, v)) (entry_at cmp es k)
+  written k key [] p v e = cc
+  written k key (q ∷ es) p v e =
+      by-test (is_at (cmp key) q.0)
+      (λ b. let h : Some q ≡ Some p = rw b at e in let s : q ≡ p = cc in
+      by-test (is_at (cmp k) key)
+      (λ t. rw (b, t, at-same cmp total k key q.0 t ∙ b) (ap (λ z. Some (z.0, v)) s))
+      (λ f. rw (b, f, at-other cmp total k key q.0 f b) refl))
+      (λ n. rw n (past k key q es (set_value (is_at (cmp key)) es v) (Some (p.0, v)) n (written k key es p v (rw n at e))))
+
+  pub removed : (k key : K) (es : List (K × V)) → AscendsByKey cmp es
+      → entry_at cmp (remove_entry (is_at (cmp key)) es) k ≡ cond (is_at (cmp k) key) None (entry_at cmp es k)
+  unfolding IsStrictlySortedBy
+  removed k key [] s = by-test (is_at (cmp k) key) (λ t. rw t refl) (λ f. rw f refl)
+  removed k key (q ∷ es) s =
+      by-test (is_at (cmp key) q.0)
+      (λ b. by-test (is_at (cmp k) key)
+      (λ t. rw (b, t) (none-above k q.0 es (equal-at cmp total k q.0 (at-same cmp total k key q.0 t ∙ b)) s.0))
+      (λ f. rw (b, f, at-other cmp total k key q.0 f b) refl))
+      (λ n. rw n (past k key q es (remove_entry (is_at (cmp key)) es) None n (removed k key es s.1)))
+
+  pub inserted : (k key : K) (es : List (K × V)) (v : V) → entry_at cmp es key ≡ None
+      → entry_at cmp (insert_entry cmp es key v) k ≡ cond (is_at (cmp k) key) (Some (key, v)) (entry_at cmp es k)
+  inserted k key [] v n = refl
+  inserted k key (q ∷ es) v n =
+      by-order (cmp key q.0)
+      (λ l. rw l refl)
+      (λ e. let h : Some q ≡ None = rw e at n in cc)
+      (λ g. rw g (past k key q es (insert_entry cmp es key v) (Some (key, v)) (ap is_eq g) (inserted k key es v (rw g at n))))
+
+  -- ---- an answer that is put at a key where nothing stands
+
+  pub put-some : (is_clone : K → K → Type 0) (key other : K) (x : V) (old new : List (K × V)) → AscendsByKey cmp new
+      → is_clone key other → cmp key other ≡ Equal
+      → entry_at cmp old key ≡ None → new ≡ insert_entry cmp old other x → IsPut cmp is_clone key (Some x) old new
+  put-some is_clone key other x old new s c e n is = record {
+    ascends = s;
+    at = λ k.
+        let stands = ap (λ l. entry_at cmp l k) is ∙ inserted k other old x (sym (same-entry key other old e) ∙ n) in
+        let same : is_at (cmp k) other ≡ is_at (cmp k) key = ap is_eq (sym (alike_right total key other k e)) in
+        chosen (is_at (cmp k) key) (λ t. rw (rw (same, t) at stands) (c, refl)) (λ f. rw (same, f) at stands);
+  }
+
+  pub put-none : (is_clone : K → K → Type 0) (key : K) (old : List (K × V)) → AscendsByKey cmp old → entry_at cmp old key ≡ None
+      → IsPut cmp is_clone key None old old
+  put-none is_clone key old s n = record {
+    ascends = s;
+    at = λ k. chosen (is_at (cmp k) key) (λ t. same-entry k key old (equal-at cmp total k key t) ∙ n) (λ f. refl);
+  }
