@@ -8,7 +8,7 @@ use Rattle.std.specs.declared.cmp.Ordering.{Ordering}
 use Rattle.vc_tree_model.specs.Canonical.{IsCanonical}
 use Rattle.vc_tree_model.specs.Key.{behind}
 use Rattle.vc_tree_model.specs.Snapshot.{tree_alike_refl}
-use Rattle.vc_tree_model.specs.Tree.{Tree, Forest, bare, grow, is_bare, lacks_both, node}
+use Rattle.vc_tree_model.specs.Tree.{Tree, Forest, bare, is_bare, lacks_both, node}
 use Rattle.vc_tree_model.specs.Under.{under}
 use Rattle.vc_tree_model.specs.Walk.{IsWalk, prepended, walk}
 use Rattle.vc_tree_model.proofs.KeyLemmas.{none-some, same-itself}
@@ -26,8 +26,7 @@ walk-bare {K} {V} t h = by t.prefix t.value t.children h
   where
     by : (p : List K) (v : Option V) (f : Forest K V) → lacks_both v f ≡ true → walk (node p v f) ≡ []
     by p None bare h = refl
-    by p None (grow q w kids rest) h = absurd (true≢false (sym h))
-    by p (Some v) f h = absurd (true≢false (sym h))
+    by p x f h = absurd (true≢false (sym h))
 
 module _ {K V : Type 0} (cmp : K → K → Ordering) (o : IsTotalOrder cmp) where
   -- a value beside what is left of a key

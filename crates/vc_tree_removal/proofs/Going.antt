@@ -38,11 +38,9 @@ none-unless (Some v) n = absurd (n refl)
 
 -- there is something left of a key
 pub left-some : {K : Type 0} (e : Extent) (o : Option (List K)) → IsLeft e o → IsSome o
-left-some Alone None l = absurd l
 left-some Alone (Some rest) l = refl
-left-some Below None l = absurd l
-left-some Below (Some []) l = absurd l
 left-some Below (Some (x ∷ rest)) l = refl
+left-some x y l = absurd l
 
 -- where nothing follows, the key goes alone
 pub left-ended : {K : Type 0} (e : Extent) (rest : List K) → IsLeft e (Some rest) → rest ≡ [] → e ≡ Alone
@@ -81,10 +79,9 @@ module _ {K : Type 0} (cmp : K → K → Ordering) where
 
   -- a key that goes begins as the other does
   pub goes-begins : (e : Extent) (y : K) (q k : List K) → goes cmp e (y ∷ q) k ≡ true → Begins cmp y k
-  goes-begins Alone y q [] h = absurd (true≢false (sym h))
   goes-begins Alone y q (x ∷ k) h = (Equal-is (cmp y x)).0 ((both-true (is_eq (cmp y x)) (same_key cmp q k) h).0)
-  goes-begins Below y q [] h = absurd (true≢false (sym h))
   goes-begins Below y q (x ∷ k) h = (Equal-is (cmp y x)).0 ((some-left (is_eq (cmp y x)) (behind cmp q k) h).0)
+  goes-begins x y q z h = absurd (true≢false (sym h))
 
   module _ (o : IsTotalOrder cmp) where
     -- ---- equal keys

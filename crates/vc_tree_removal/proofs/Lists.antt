@@ -104,13 +104,12 @@ module _ {K V : Type 0} where
     pub at-alike : (f g : Forest K V) (i : ℕ) (t c : Tree K V) → IsAlikeIn keeps f g → tree_at f i ≡ Some t
         → tree_at g i ≡ Some c → IsAlike keeps t c
     at-alike bare bare i t c a e d = none-some t e
-    at-alike bare (grow q w more others) i t c a e d = absurd a
-    at-alike (grow p v kids rest) bare i t c a e d = absurd a
     at-alike (grow p v kids rest) (grow q w more others) zero t c a e d =
         let k : node p v kids ≡ t = cc in
         let l : node q w more ≡ c = cc in
         rw (← k, ← l) (a.0, a.1, a.2)
     at-alike (grow p v kids rest) (grow q w more others) (suc i) t c a e d = at-alike rest others i t c a.3 e d
+    at-alike f g i t c a e d = absurd a
 
     -- what has children, has alike ones
     deep-alike_in : (f g : Forest K V) → IsAlikeIn keeps f g → AreSome f → AreSome g
@@ -132,16 +131,14 @@ module _ {K V : Type 0} where
     -- alike lists are as long
     pub trees-alike : (f g : Forest K V) → IsAlikeIn keeps f g → length (trees f) ≡ length (trees g)
     trees-alike bare bare a = refl
-    trees-alike bare (grow q w more others) a = absurd a
-    trees-alike (grow p v kids rest) bare a = absurd a
     trees-alike (grow p v kids rest) (grow q w more others) a =
         let h = trees-alike rest others a.3 in omega (arith, h)
+    trees-alike f g a = absurd a
 
     -- and stay alike without the trees at one place
     pub without-alike_in : (f g : Forest K V) (i : ℕ) → IsAlikeIn keeps f g → IsAlikeIn keeps (without f i) (without g i)
     without-alike_in bare bare i a = tt
-    without-alike_in bare (grow q w more others) i a = absurd a
-    without-alike_in (grow p v kids rest) bare i a = absurd a
     without-alike_in (grow p v kids rest) (grow q w more others) zero a = a.3
     without-alike_in (grow p v kids rest) (grow q w more others) (suc i) a =
         (a.0, a.1, a.2, without-alike_in rest others i a.3)
+    without-alike_in f g i a = absurd a

@@ -1,6 +1,6 @@
 -- The way to keys that a tree binds: what is left of a key behind the prefix, and the child that it leads to.
 --     left-within, left-rest, rest-ended        the key is the prefix and the rest
---     first-is, met-rest, met-child        keys that go with the rest are bound below a child
+--     on-way, goes-leads, met-child        keys that go with the rest are bound below a child
 --     child-within, child-stands        which is there
 --     wholly-gone, wholly-value, alone-tells, below-tells        all keys of a tree go, or some below its children
 --     root-without, absent-without        all keys of a root go, or none of them
@@ -13,7 +13,6 @@ use Rattle.std.specs.Cmp.{IsTotalOrder, Equal-is}
 use Rattle.std.specs.Ordering.{is_eq}
 use Rattle.std.specs.Prelude.{IsSome, MatchBool, leb, slice_get, ◌==◌}
 use Rattle.std.specs.declared.cmp.Ordering.{Ordering}
-use Rattle.std.specs.declared.cmp.Ordering.TheVariants.{Equal}
 use Rattle.vc_tree_model.specs.Child.{Begins}
 use Rattle.vc_tree_model.specs.Key.{same_key, behind}
 use Rattle.vc_tree_model.specs.Tree.{Tree, Forest, bare, grow, forest, node, no_tree}
@@ -22,7 +21,7 @@ use Rattle.vc_tree_model.specs.Canonical.{AreChildren, IsSolid, IsWhole}
 use Rattle.vc_tree_model.proofs.KeyLemmas.{none-some, behind-joins, behind-of_same, same-flip, same-itself, same-trans}
 use Rattle.vc_tree_model.proofs.LookupLemmas.{lookup-same, lookup_in-same, nothing-bound}
 use Rattle.vc_tree_model.proofs.ValueLemmas.{kept-refl}
-use Rattle.vc_tree_nodes.specs.Places.{BeginsAt, IsGapAt}
+use Rattle.vc_tree_nodes.specs.Places.{BeginsAt, IsGapAt, LeadsTo}
 use Rattle.vc_tree_nodes.proofs.Descending.{behind-length}
 use Rattle.vc_tree_nodes.proofs.Finding.{begins-below, gap-none, lookup_in-at}
 use Rattle.vc_tree_removal.specs.Without.{IsWithoutAll}
@@ -34,7 +33,7 @@ use Rattle.vc_tree_removal.proofs.Going.{some-kept, then_goes}
 use Rattle.vc_tree_removal.proofs.Lists.{empty-false, empty-true, none-seen, some-seen, tree_at-map}
 
 -- the first of a list begins it
-pub first-is : {X : Type 0} (xs : List X) (x : X) → slice_get xs 0 ≡ Some x → xs ≡ x ∷ drop 1 xs
+first-is : {X : Type 0} (xs : List X) (x : X) → slice_get xs 0 ≡ Some x → xs ≡ x ∷ drop 1 xs
 first-is [] x e = none-some x e
 first-is (y ∷ xs) x e = let k : y ≡ x = cc in ap (λ z. z ∷ xs) k
 
@@ -50,9 +49,8 @@ whole-solid {K} {V} t w s = by t.prefix t.value t.children w s
   where
     by : (p : List K) (v : Option V) (f : Forest K V) → IsWhole p v f → AreSome f → IsSolid v f
     by p v bare w s = absurd s
-    by [] None (grow q u more rest) w s = w
     by [] (Some v) (grow q u more rest) w s = tt
-    by (x ∷ p) v (grow q u more rest) w s = w
+    by x v y w s = w
 
 module _ {K : Type 0} (cmp : K → K → Ordering) where
   -- ---- what is left of the key
@@ -107,15 +105,14 @@ module _ {K V : Type 0} (cmp : K → K → Ordering) where
     where
       by : (o : Option (List K)) → behind cmp p key ≡ o
           → (lookup cmp (node p v bare) key ≡ v) × (behind cmp p key ≡ Some [])
-      by None e = absurd (true≢false (sym s ∙ ap (λ l. is_some (node_lookup v (λ k. None) l)) e))
       by (Some []) e = (ap (node_lookup v (λ k. None)) e, e)
-      by (Some (x ∷ k)) e = absurd (true≢false (sym s ∙ ap (λ l. is_some (node_lookup v (λ k. None) l)) e))
+      by x e = absurd (true≢false (sym s ∙ ap (λ l. is_some (node_lookup v (λ k. None) l)) e))
 
   module _ (o : IsTotalOrder cmp) (e : Extent) where
     -- ---- what is bound below
 
     -- behind the prefix a key is bound that goes with the rest
-    pub met-rest : (t : Tree K V) (key rest : List K) (y : K) (q : List K) → behind cmp t.prefix key ≡ Some rest
+    met-rest : (t : Tree K V) (key rest : List K) (y : K) (q : List K) → behind cmp t.prefix key ≡ Some rest
         → rest ≡ y ∷ q → Meets cmp e key (lookup cmp t) → Meets cmp e rest (lookup_in cmp t.children)
     met-rest t key rest y q b is m =
         subst (λ k. Meets cmp e k (lookup_in cmp t.children)) (sym is)
@@ -131,17 +128,20 @@ module _ {K V : Type 0} (cmp : K → K → Ordering) where
         by (Some (x ∷ l)) h s = record { met = x ∷ l; goes_with = h; bound = s }
 
     -- a child is there that the rest leads to
-    pub met-reaches : (f : Forest K V) (rest : List K) (y : K) (q : List K) (i : ℕ) → rest ≡ y ∷ q
-        → Meets cmp e rest (lookup_in cmp f) → IsGapAt cmp f y i → ⊥
-    met-reaches f rest y q i is m gap =
-        by m.met (goes-begins cmp e y q m.met (ap (λ k. goes cmp e k m.met) (sym is) ∙ m.goes_with)) m.bound
+    pub met-reaches : (t : Tree K V) (key rest : List K) (y : K) (f : Forest K V) (i : ℕ) → behind cmp t.prefix key ≡ Some rest
+        → slice_get rest 0 ≡ Some y → Meets cmp e key (lookup cmp t) → f ≡ t.children → IsGapAt cmp f y i → ⊥
+    met-reaches t key rest y f i b s m c gap =
+        let begun = first-is rest y s in
+        let below = met-rest t key rest y (drop 1 rest) b begun m in
+        by below.met (goes-begins cmp e y (drop 1 rest) below.met (ap (λ k. goes cmp e k below.met) (sym begun)
+        ∙ below.goes_with)) below.bound
       where
-        by : (k : List K) → Begins cmp y k → IsSome (lookup_in cmp f k) → ⊥
+        by : (k : List K) → Begins cmp y k → IsSome (lookup_in cmp t.children k) → ⊥
         by [] b s = b
         by (x ∷ k) b s =
             let same : same_key cmp (y ∷ k) (x ∷ k) ≡ true = rw b (same-itself cmp o k) in
-            true≢false (sym s ∙ ap is_some (sym (lookup_in-same cmp o f (y ∷ k) (x ∷ k) same)
-            ∙ gap-none cmp o f y i gap k))
+            true≢false (sym s ∙ ap is_some (sym (lookup_in-same cmp o t.children (y ∷ k) (x ∷ k) same)
+            ∙ gap-none cmp o t.children y i (subst (λ f. IsGapAt cmp f y i) c gap) k))
 
     -- ---- a whole tree
 
@@ -258,37 +258,48 @@ module _ {K V : Type 0} (cmp : K → K → Ordering) where
     below-tells Below is true l m = short-wholly m (leb-true (length key) (length t.prefix) (sym l))
     below-tells Below is false l m = long-deep m (leb-false (length key) (length t.prefix) (sym l))
 
-  module _ (o : IsTotalOrder cmp) {T : Type 0} (tree : T → Tree K V) (f : Forest K V) (xs : List T) (i : ℕ) (child : T)
-      (y : K) (seen : forest (map tree xs) ≡ f) (is : child ≡ get_or xs i child) (begins : BeginsAt cmp f y i) where
-    -- ---- the child that the rest leads to
+-- ---- the child that the rest leads to
 
-    here : BeginsAt cmp (forest (map tree xs)) y i
-    here = subst (λ g. BeginsAt cmp g y i) (sym seen) begins
+-- behind the prefix the rest leads on, and a key is bound that goes with it
+pub on-way : {K V : Type 0} {cmp : K → K → Ordering} → IsTotalOrder cmp → (e : Extent) (t : Tree K V) (key rest : List K) (y : K)
+    (f : Forest K V) (i : ℕ) → behind cmp t.prefix key ≡ Some rest → slice_get rest 0 ≡ Some y → Meets cmp e key (lookup cmp t)
+    → f ≡ t.children → BeginsAt cmp f y i → LeadsTo cmp t.children rest i × Meets cmp e rest (lookup_in cmp t.children)
+on-way {cmp = cmp} o e t key rest y f i b s m c begins =
+    let begun = first-is rest y s in (
+      record { first = y; others = drop 1 rest; key_is = begun; begins = subst (λ f. BeginsAt cmp f y i) c begins },
+      met-rest cmp o e t key rest y (drop 1 rest) b begun m,
+    )
+
+module _ {K V : Type 0} {cmp : K → K → Ordering} {f : Forest K V} {rest : List K} {i : ℕ} (leads : LeadsTo cmp f rest i) where
+  -- what goes with the rest begins as it does
+  pub goes-leads : (e : Extent) (k : List K) → goes cmp e rest k ≡ true → Begins cmp leads.first k
+  goes-leads e k h = goes-begins cmp e leads.first leads.others k (ap (λ l. goes cmp e l k) (sym leads.key_is) ∙ h)
+
+  module _ (o : IsTotalOrder cmp) {T : Type 0} (tree : T → Tree K V) (xs : List T) (child : T)
+      (seen : forest (map tree xs) ≡ f) (is : child ≡ get_or xs i child) where
+    here : BeginsAt cmp (forest (map tree xs)) leads.first i
+    here = subst (λ g. BeginsAt cmp g leads.first i) (sym seen) leads.begins
 
     -- it is there
     pub child-within : i < length xs
-    child-within = begins-below cmp tree xs y i here
+    child-within = begins-below cmp tree xs leads.first i here
 
     pub child-stands : tree_at f i ≡ Some (tree child)
     child-stands =
         ap (λ g. tree_at g i) (sym seen) ∙ tree_at-map tree xs i child child-within ∙ ap (λ x. Some (tree x)) (sym is)
 
     -- it binds what all children bind of the keys that begin so
-    pub child-found : AreChildren cmp f → (k : List K) → Begins cmp y k → lookup_in cmp f k ≡ lookup cmp (tree child) k
+    pub child-found : AreChildren cmp f → (k : List K) → Begins cmp leads.first k → lookup_in cmp f k ≡ lookup cmp (tree child) k
     child-found a [] b = absurd b
     child-found a (x ∷ k) b =
-        let equal : cmp here.here x ≡ Equal = o.congr here.here y x ((Equal-is (cmp here.here y)).0 here.equal) ∙ b in
-        ap (λ g. lookup_in cmp g (x ∷ k)) (sym seen)
-        ∙ lookup_in-at cmp tree o xs i child here.here x k (subst (AreChildren cmp) (sym seen) a) here.at equal
-        ∙ ap (λ c. lookup cmp (tree c) (x ∷ k)) (sym is)
+        let equal = o.congr here.here leads.first x ((Equal-is (cmp here.here leads.first)).0 here.equal) ∙ b in
+        rw (sym seen, is) (lookup_in-at cmp tree o xs i child here.here x k (rw seen a) here.at equal)
 
     -- it binds a key that goes with the rest
-    pub met-child : (e : Extent) (rest q : List K) → AreChildren cmp f → rest ≡ y ∷ q → Meets cmp e rest (lookup_in cmp f)
+    pub met-child : (e : Extent) → AreChildren cmp f → Meets cmp e rest (lookup_in cmp f)
         → Meets cmp e rest (lookup cmp (tree child))
-    met-child e rest q a r m = record {
+    met-child e a m = record {
       met = m.met;
       goes_with = m.goes_with;
-      bound =
-          subst IsSome (child-found a m.met (goes-begins cmp e y q m.met (ap (λ k. goes cmp e k m.met) (sym r)
-          ∙ m.goes_with))) m.bound;
+      bound = subst IsSome (child-found a m.met (goes-leads e m.met m.goes_with)) m.bound;
     }

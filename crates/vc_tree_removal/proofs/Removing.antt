@@ -3,7 +3,7 @@
 --     value-removed, own-removed, lone-removed        the value of a node goes
 --     loses-lacks, pair-lacks, lacks-removed        one of its children goes
 --     lost, lost-canonical, part-solid, became        the parts of a node that loses a child, or becomes one
---     child-removed, leads-met, leads-deep, list-removed, list-alike        keys of a child go
+--     child-removed, leads-below, list-removed, list-alike        keys of a child go
 --     removed-respelled        an equal key
 use Rattle.std.proofs.Common.{◌≡◌, ℕ, zero, suc, ◌+◌, ◌<◌, ◌≤◌, [], ◌∷◌, ◌++◌, List, Option, None, Some, refl, sym, ap}
 use Rattle.std.proofs.Common.{subst, ◌∙◌, arith, get_or, set, map, take, length, append-nil, true, false, true≢false, is_some}
@@ -17,7 +17,7 @@ use Rattle.std.specs.Prelude.{IfOk, OnErr, Result, Ok, Err}
 use Rattle.std.specs.declared.cmp.Ordering.{Ordering}
 use Rattle.vc_tree_model.specs.Key.{same_key}
 use Rattle.vc_tree_model.specs.Value.{IsKept}
-use Rattle.vc_tree_model.specs.Tree.{Tree, Forest, bare, grow, forest, node, trees}
+use Rattle.vc_tree_model.specs.Tree.{Tree, Forest, bare, grow, forest, forest_nodes, node, nodes, trees}
 use Rattle.vc_tree_model.specs.Map.{node_lookup, lookup, lookup_in}
 use Rattle.vc_tree_model.specs.Canonical.{IsSolid, AreChildren, IsCanonical}
 use Rattle.vc_tree_model.specs.Child.{Begins, IsChild, solid_child}
@@ -31,18 +31,18 @@ use Rattle.vc_tree_model.proofs.LookupLemmas.{lookup-same}
 use Rattle.vc_tree_model.proofs.Places.{look}
 use Rattle.vc_tree_model.proofs.ValueLemmas.{kept-refl}
 use Rattle.vc_tree_nodes.specs.Growth.{IsGrown}
-use Rattle.vc_tree_nodes.specs.Places.{BeginsAt, LeadsTo, child_first}
-use Rattle.vc_tree_nodes.proofs.Events.{leads-agree, leads-kept, kept-children, length-kept, node-equal}
+use Rattle.vc_tree_nodes.specs.Places.{LeadsTo}
+use Rattle.vc_tree_nodes.proofs.Events.{leads-agree, leads-kept, leads-nodes, leads-solid, kept-children, length-kept, node-equal}
 use Rattle.vc_tree_nodes.proofs.Growing.{alike-first, children-set, alike-set, solid-canonical, solid-length}
 use Rattle.vc_tree_removal.specs.Without.{IsWithoutAll}
 use Rattle.vc_tree_removal.specs.Taking.{alone, tree_at, without, gone, goes, AreSome, IsDeep, IsDeepAt, IsTaken, IsWholly, Meets}
 use Rattle.vc_tree_removal.specs.Taking.{Becomes, Lacks, Loses, Parts, Removed, RemovedIn, Takes}
 use Rattle.vc_tree_removal.specs.declared.removal.Extent.{Extent}
 use Rattle.vc_tree_removal.specs.declared.removal.Extent.TheVariants.{Alone}
-use Rattle.vc_tree_removal.proofs.Going.{goes-begins, goes-same, none-kept, some-kept}
+use Rattle.vc_tree_removal.proofs.Going.{goes-same, none-kept, some-kept}
 use Rattle.vc_tree_removal.proofs.Lists.{at-alike, trees-alike, without-alike_in, children-without, without-map, tree_at-map}
 use Rattle.vc_tree_removal.proofs.Lists.{deep-alike, parts-first, remove-long}
-use Rattle.vc_tree_removal.proofs.Reaching.{child-found, child-stands, met-child, wholly-gone}
+use Rattle.vc_tree_removal.proofs.Reaching.{child-found, child-stands, goes-leads, met-child, wholly-gone}
 use Rattle.vc_tree_removal.proofs.Taken.{at-below, at-solid, taken-agrees, taken-alike, taken-behind, taken-respelled}
 use Rattle.vc_tree_removal.proofs.Taken.{wholly-taken}
 use Rattle.vc_tree_removal.proofs.Withouts.{at-children, without-behind, without-children, without-set, without-tree}
@@ -72,9 +72,8 @@ module _ {K V : Type 0} where
   -- the node of a value or of at least two children stays as a child
   pub solid-itself : (p : List K) (v : Option V) (f : Forest K V) → IsSolid v f → solid_child p v f ≡ Some (node p v f)
   solid-itself p (Some v) f s = refl
-  solid-itself p None bare s = absurd s
-  solid-itself p None (grow q w more bare) s = absurd s
   solid-itself p None (grow q w more (grow r u most rest)) s = refl
+  solid-itself p v f s = absurd s
 
   -- a node that becomes a child begins as it did
   child-begins : (p : List K) (v : Option V) (f : Forest K V) (u : Tree K V) → solid_child p v f ≡ Some u
@@ -102,30 +101,23 @@ module _ {K V : Type 0} where
       → tree_at f j ≡ Some c
       → (d : Tree K V) × ((tree_at f i ≡ Some d) × (gone None (tree_at (without f j) 0) ≡ d)
       × (solid_child p None (without f i) ≡ Some (node (p ++ c.prefix) c.value c.children)))
-  pair p bare i j c n one e = none-some c e
-  pair p (grow q w more bare) i j c n one e = absurd (omega (arith, n))
-  pair p (grow q w more (grow x u most (grow y s rest others))) i j c n one e = absurd (omega (arith, n))
-  pair p (grow q w more (grow x u most bare)) zero zero c n one e = absurd (omega (arith, one))
-  pair p (grow q w more (grow x u most bare)) zero (suc (suc j)) c n one e = absurd (omega (arith, one))
-  pair p (grow q w more (grow x u most bare)) (suc i) (suc j) c n one e = absurd (omega (arith, one))
-  pair p (grow q w more (grow x u most bare)) (suc (suc i)) zero c n one e = absurd (omega (arith, one))
   pair p (grow q w more (grow x u most bare)) zero (suc zero) c n one e =
       let k : node x u most ≡ c = cc in
       (node q w more, (refl, refl, ap (λ t. Some (node (p ++ t.prefix) t.value t.children)) k))
   pair p (grow q w more (grow x u most bare)) (suc zero) zero c n one e =
       let k : node q w more ≡ c = cc in
       (node x u most, (refl, refl, ap (λ t. Some (node (p ++ t.prefix) t.value t.children)) k))
+  pair p f i j c n one e = absurd (omega (arith, n, one))
 
   -- a node that has a value, or more than two children, can do without one of them
   pub solid-without : (v : Option V) (f : Forest K V) (i : ℕ) → IsSolid v f → (v ≡ None → length (trees f) ≡ 2 → ⊥)
       → IsSolid v (without f i)
   solid-without (Some v) f i s n = tt
-  solid-without None bare i s n = absurd s
-  solid-without None (grow q w more bare) i s n = absurd s
   solid-without None (grow q w more (grow x u most bare)) i s n = absurd (n refl (omega arith))
   solid-without None (grow q w more (grow x u most (grow y z rest others))) zero s n = tt
   solid-without None (grow q w more (grow x u most (grow y z rest others))) (suc zero) s n = tt
   solid-without None (grow q w more (grow x u most (grow y z rest others))) (suc (suc i)) s n = tt
+  solid-without v f i s n = absurd s
 
   -- children that are no lone one are two at least
   pub many-solid : (f : Forest K V) → AreSome f → (length (trees f) ≡ 1 → ⊥) → IsSolid None f
@@ -220,21 +212,18 @@ module _ {K V : Type 0} (cmp : K → K → Ordering) (keeps : V → V → Type 0
       }
 
   -- what a child leaves, of which all keys go
-  module _ (e : Extent) (t u c : Tree K V) (i : ℕ) (rest : List K) (y : K) (q : List K) (d : Tree K V)
-      (a : AreChildren cmp t.children) (at : tree_at t.children i ≡ Some c) (begins : BeginsAt cmp t.children y i)
-      (key_is : rest ≡ y ∷ q) (found : (k : List K) → Begins cmp y k → lookup_in cmp t.children k ≡ lookup cmp c k)
+  module _ (e : Extent) (t u c : Tree K V) {i : ℕ} {rest : List K} (d : Tree K V) (leads : LeadsTo cmp t.children rest i)
+      (a : AreChildren cmp t.children) (at : tree_at t.children i ≡ Some c)
+      (found : (k : List K) → Begins cmp leads.first k → lookup_in cmp t.children k ≡ lookup cmp c k)
       (m : Meets cmp e rest (lookup cmp c)) (w : IsWholly cmp e rest c) (lacks : Lacks keeps t i d u) where
     child-alike : IsAlike keeps c d
     child-alike = at-alike keeps t.children lacks.kept i c d lacks.alike at lacks.at
 
-    test-begins : (k : List K) → goes cmp e rest k ≡ true → Begins cmp y k
-    test-begins k h = goes-begins cmp e y q k (ap (λ l. goes cmp e l k) (sym key_is) ∙ h)
-
     child-taken : IsTaken cmp keeps e (t.prefix ++ rest) (lookup cmp t) d
     child-taken =
-        taken-behind cmp keeps o e t.prefix t.value t.children rest y q key_is d
+        taken-behind cmp keeps o e t.prefix t.value t.children rest leads.first leads.others leads.key_is d
         (taken-agrees cmp keeps o e rest (lookup cmp c) (lookup_in cmp t.children) d
-        (λ k h. found k (test-begins k h))
+        (λ k h. found k (goes-leads leads e k h))
         (wholly-taken cmp keeps o e rest c d w m child-alike (at-solid cmp t.children i c a at)
         (alike-children keeps cmp c.children d.children child-alike.2 (at-below cmp t.children i c a at))))
 
@@ -243,10 +232,11 @@ module _ {K V : Type 0} (cmp : K → K → Ordering) (keeps : V → V → Type 0
         let kids = alike-children keeps cmp t.children lacks.kept lacks.alike a in
         settled e t u rest d t.value lacks.kept (without lacks.kept i) (children-without cmp lacks.kept i kids)
         lacks.alike child-taken
-        (without-children cmp keeps o r (goes cmp e rest) y test-begins t.value lacks.kept (without lacks.kept i)
-        (without-tree cmp keeps o r (goes cmp e rest) y test-begins lacks.kept i d begins.here kids lacks.at
-        (sym (alike-first keeps t.children lacks.kept i lacks.alike) ∙ begins.at)
-        ((Equal-is (cmp begins.here y)).0 begins.equal)
+        (without-children cmp keeps o r (goes cmp e rest) leads.first (goes-leads leads e) t.value lacks.kept
+        (without lacks.kept i)
+        (without-tree cmp keeps o r (goes cmp e rest) leads.first (goes-leads leads e) lacks.kept i d leads.begins.here kids
+        lacks.at (sym (alike-first keeps t.children lacks.kept i lacks.alike) ∙ leads.begins.at)
+        ((Equal-is (cmp leads.begins.here leads.first)).0 leads.begins.equal)
         (λ k h. none-kept keeps (lookup cmp c k) (lookup cmp d k)
         (tree-alike_lookup keeps cmp c d child-alike k) (wholly-gone cmp o e rest c w m k h)))) lacks.is
 
@@ -347,32 +337,27 @@ module _ {K V : Type 0} (cmp : K → K → Ordering) (keeps : V → V → Type 0
     -- ---- a key of a child
 
     -- keys of the children go
-    pub child-removed : (e : Extent) (t u : Tree K V) (p : List K) (v : Option V) (old new : List T) (rest : List K)
-        (d : Tree K V) (y : K) (q : List K)
+    pub child-removed : (e : Extent) (t u : Tree K V) (p : List K) (v : Option V) (old new : List T) {rest : List K}
+        (d : Tree K V) {i : ℕ} → LeadsTo cmp t.children rest i
         → p ≡ t.prefix → v ≡ t.value → forest (map tree old) ≡ t.children → u ≡ node p v (forest (map tree new))
-        → IsSolid t.value t.children → rest ≡ y ∷ q → length new ≡ length old
+        → IsSolid t.value t.children → length new ≡ length old
         → RemovedIn cmp keeps e (forest (map tree old)) rest d (forest (map tree new))
         → Removed cmp keeps e t (t.prefix ++ rest) d u
-    child-removed e t u p v old new rest d y q a b c is solid key n gone =
+    child-removed e t u p v old new {rest} d leads a b c is solid n gone =
         let g = forest (map tree new) in
-        let h : RemovedIn cmp keeps e t.children (y ∷ q) d g =
-        subst (λ k. RemovedIn cmp keeps e t.children k d g) key
-        (subst (λ f. RemovedIn cmp keeps e f rest d g) c gone) in
-        subst (λ u. Removed cmp keeps e t (t.prefix ++ rest) d u)
-        (sym (is ∙ node-equal p t.prefix v t.value g g a b refl))
-        (subst (λ k. Removed cmp keeps e t (t.prefix ++ k) d (node t.prefix t.value g)) (sym key)
-        (record {
-          taken = taken-behind cmp keeps o e t.prefix t.value t.children (y ∷ q) y q refl d h.taken;
+        let h : RemovedIn cmp keeps e t.children rest d g = subst (λ f. RemovedIn cmp keeps e f rest d g) c gone in
+        rw (is, a, b) (record {
+          taken = taken-behind cmp keeps o e t.prefix t.value t.children rest leads.first leads.others leads.key_is d h.taken;
           without =
-              without-behind cmp keeps e (y ∷ q) t.value t.value t.children g
-              (without-children cmp keeps o r (goes cmp e (y ∷ q)) y (goes-begins cmp e y q) t.value t.children g
+              without-behind cmp keeps e rest t.value t.value t.children g
+              (without-children cmp keeps o r (goes cmp e rest) leads.first (goes-leads leads e) t.value t.children g
               h.without) t.prefix;
           grown = record {
             begins = refl;
             solid = solid-length tree t.value old new (sym n) (subst (IsSolid t.value) (sym c) solid);
             children = h.children;
           };
-        }))
+        })
 
     -- a node that begins as far, begins with one component
     grown-one : (n : ℕ) (t u : Tree K V) → 1 ≤ n → IsGrown cmp n t u → IsGrown cmp 1 t u
@@ -385,22 +370,27 @@ module _ {K V : Type 0} (cmp : K → K → Ordering) (keeps : V → V → Type 0
     module _ (old kept : List T) (i : ℕ) (rest : List K) (leads : LeadsTo cmp (forest (map tree old)) rest i)
         (alike : IsAlikeIn keeps (forest (map tree old)) (forest (map tree kept)))
         (canonical : AreChildren cmp (forest (map tree old))) where
-      here-kept : child_first (forest (map tree kept)) i ≡ Some leads.begins.here
-      here-kept = leads-kept cmp keeps r trans o tree old kept i rest leads alike canonical
-
       kids-kept : AreChildren cmp (forest (map tree kept))
       kids-kept = kept-children cmp keeps r trans o tree old kept i rest leads alike canonical
 
-      begins-kept : BeginsAt cmp (forest (map tree kept)) leads.first i
-      begins-kept = record { here = leads.begins.here; at = here-kept; equal = leads.begins.equal }
+      -- the rest leads to it as it did
+      abbrev still-leads : LeadsTo cmp (forest (map tree kept)) rest i
+      still-leads = record {
+        first = leads.first;
+        others = leads.others;
+        key_is = leads.key_is;
+        begins = record {
+          here = leads.begins.here;
+          at = leads-kept cmp keeps r trans o tree old kept i rest leads alike canonical;
+          equal = leads.begins.equal;
+        };
+      }
 
       -- a key that goes with the rest is bound below that tree
-      pub leads-met : (e : Extent) (child : T) → child ≡ get_or kept i child
+      leads-met : (e : Extent) (child : T) → child ≡ get_or kept i child
           → Meets cmp e rest (lookup_in cmp (forest (map tree old))) → Meets cmp e rest (lookup cmp (tree child))
       leads-met e child is m =
-          met-child cmp o tree (forest (map tree kept)) kept i child leads.first refl is begins-kept e rest leads.others
-          kids-kept leads.key_is
-          (record {
+          met-child still-leads o tree kept child refl is e kids-kept (record {
             met = m.met;
             goes_with = m.goes_with;
             bound =
@@ -409,38 +399,45 @@ module _ {K V : Type 0} (cmp : K → K → Ordering) (keeps : V → V → Type 0
           })
 
       -- it is as deep as the old one
-      pub leads-deep : (e : Extent) (child : T) → child ≡ get_or kept i child
+      leads-deep : (e : Extent) (child : T) → child ≡ get_or kept i child
           → IsDeepAt cmp e rest (tree_at (forest (map tree old)) i) → IsDeep cmp e rest (tree child)
       leads-deep e child is s =
-          subst (λ d. IsDeepAt cmp e rest d)
-          (child-stands cmp o tree (forest (map tree kept)) kept i child leads.first refl is begins-kept)
-          (deep-alike keeps cmp e rest (forest (map tree old)) (forest (map tree kept)) i alike s)
+          rw (child-stands still-leads o tree kept child refl is)
+          at (deep-alike keeps cmp e rest (forest (map tree old)) (forest (map tree kept)) i alike s)
+
+      -- so the removal may go on there, among fewer nodes
+      pub leads-below : (e : Extent) (child : T) → child ≡ get_or kept i child
+          → Meets cmp e rest (lookup_in cmp (forest (map tree old))) → IsDeepAt cmp e rest (tree_at (forest (map tree old)) i)
+          → Meets cmp e rest (lookup cmp (tree child)) × IsDeep cmp e rest (tree child)
+          × IsSolid (tree child).value (tree child).children × (nodes (tree child) ≤ forest_nodes (forest (map tree old)))
+      leads-below e child is m d = (
+        leads-met e child is m,
+        leads-deep e child is d,
+        leads-solid cmp keeps r trans o tree old kept i rest leads alike canonical child is,
+        leads-nodes cmp keeps r trans o tree old kept i rest leads alike canonical child is,
+      )
 
       module _ (child item : T) (new : List T) (is : child ≡ get_or kept i child) (set_is : new ≡ set kept i item) where
         -- the list without the keys
         pub list-removed : (e : Extent) (d : Tree K V) → Removed cmp keeps e (tree child) rest d (tree item)
             → RemovedIn cmp keeps e (forest (map tree old)) rest d (forest (map tree new))
         list-removed e d h =
+            let f = lookup_in cmp (forest (map tree old)) in
+            let g = lookup_in cmp (forest (map tree kept)) in
+            let same = alike-lookup keeps cmp (forest (map tree old)) (forest (map tree kept)) alike in
             let long =
             (leads-agree cmp keeps r trans o tree old kept i rest leads alike canonical child is).within_prefix in
-            let begins : (k : List K) → goes cmp e rest k ≡ true → Begins cmp leads.first k =
-            λ k s. goes-begins cmp e leads.first leads.others k (ap (λ l. goes cmp e l k) (sym leads.key_is) ∙ s) in
-            let found =
-            child-found cmp o tree (forest (map tree kept)) kept i child leads.first refl is begins-kept kids-kept in
             record {
               taken =
-                  taken-alike cmp keeps trans e rest (lookup_in cmp (forest (map tree old)))
-                  (lookup_in cmp (forest (map tree kept))) d
-                  (alike-lookup keeps cmp (forest (map tree old)) (forest (map tree kept)) alike)
-                  (taken-agrees cmp keeps o e rest (lookup cmp (tree child)) (lookup_in cmp (forest (map tree kept))) d
-                  (λ k s. found k (begins k s)) h.taken);
+                  taken-alike cmp keeps trans e rest f g d same
+                  (taken-agrees cmp keeps o e rest (lookup cmp (tree child)) g d
+                  (λ k s. child-found still-leads o tree kept child refl is kids-kept k (goes-leads leads e k s)) h.taken);
               without =
-                  rw set_is
-                  (without-alike keeps trans (goes cmp e rest) (lookup_in cmp (forest (map tree old)))
-                  (lookup_in cmp (forest (map tree kept))) (lookup_in cmp (forest (map tree (set kept i item))))
-                  (alike-lookup keeps cmp (forest (map tree old)) (forest (map tree kept)) alike)
-                  (without-set cmp keeps o r (goes cmp e rest) leads.first begins tree kept i item child leads.begins.here
-                  here-kept ((Equal-is (cmp leads.begins.here leads.first)).0 leads.begins.equal) kids-kept
+                  rw set_is (without-alike keeps trans (goes cmp e rest) f g
+                  (lookup_in cmp (forest (map tree (set kept i item)))) same
+                  (without-set cmp keeps o r (goes cmp e rest) leads.first (goes-leads leads e) tree kept i item child
+                  leads.begins.here still-leads.begins.at
+                  ((Equal-is (cmp leads.begins.here leads.first)).0 leads.begins.equal) kids-kept
                   (subst (λ c. IsWithoutAll keeps (goes cmp e rest) (lookup cmp (tree c)) (lookup cmp (tree item))) is
                   h.without)));
               children =
@@ -450,8 +447,7 @@ module _ {K V : Type 0} (cmp : K → K → Ordering) (keeps : V → V → Type 0
             }
 
         -- the list is alike where that tree is
-        pub list-alike : IsAlike keeps (tree child) (tree item)
-            → IsAlikeIn keeps (forest (map tree old)) (forest (map tree new))
+        pub list-alike : IsAlike keeps (tree child) (tree item) → IsAlikeIn keeps (forest (map tree old)) (forest (map tree new))
         list-alike h =
             rw set_is (alike-trans keeps trans (forest (map tree old)) (forest (map tree kept))
             (forest (map tree (set kept i item))) alike

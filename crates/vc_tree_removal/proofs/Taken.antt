@@ -211,6 +211,5 @@ module _ {K V : Type 0} (cmp : K → K → Ordering) (keeps : V → V → Type 0
       where
         same-value : (a b : Option V) → IsKept (λ v w. v ≡ w) a b → a ≡ b
         same-value None None h = refl
-        same-value None (Some w) h = absurd h
-        same-value (Some v) None h = absurd h
         same-value (Some v) (Some w) h = ap Some h
+        same-value x y h = absurd h

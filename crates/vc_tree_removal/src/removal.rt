@@ -179,15 +179,7 @@ fn remove_deeper<K: TKey, V: TValue, T: Build<K, V>>(
         K.cmp T.keeps extent t (t.prefix ++ rest.now) (T.tree taken) (T.tree tree.new)) }
     ensures err { OnErr result (IsAlike T.keeps (T.tree tree.old) (T.tree tree.new)) }
 {
-    let node = mem::replace(tree, T::blank(alloc, Seal::new()));
-    let Parts {
-        prefix,
-        value: own,
-        children,
-    } = node.take_apart(Seal::new());
-    let Some(mut children) = children else {
-        unreachable!()
-    };
+    let (prefix, own, mut children) = opened(alloc, tree);
     let done = remove_in::<K, V, T>(alloc, &mut children, i, rest, extent);
     *tree = T::assemble(prefix, own, Some(children), Seal::new());
     done
@@ -275,15 +267,7 @@ fn lose_child<K: TKey, V: TValue, T: Build<K, V>>(
         (λ taken. Loses T.keeps (T.tree tree.old) i (T.tree taken) (T.tree tree.new)) }
     ensures err { OnErr result (IsAlike T.keeps (T.tree tree.old) (T.tree tree.new)) }
 {
-    let node = mem::replace(tree, T::blank(alloc, Seal::new()));
-    let Parts {
-        prefix,
-        value: own,
-        children,
-    } = node.take_apart(Seal::new());
-    let Some(mut children) = children else {
-        unreachable!()
-    };
+    let (prefix, own, mut children) = opened(alloc, tree);
     let taken = take_out::<K, V, T>(&mut children, i);
     *tree = T::assemble(prefix, own, Some(children), Seal::new());
     taken
@@ -303,15 +287,7 @@ fn become_child<K: TKey, V: TValue, T: Build<K, V>>(
     ensures err { OnErr result (IsAlike T.keeps (T.tree tree.old) (T.tree tree.new)) }
 {
     let joined = T::Prefix::joined(alloc, tree.prefix(), tree.children()[j].prefix())?;
-    let node = mem::replace(tree, T::blank(alloc, Seal::new()));
-    let Parts {
-        prefix,
-        value,
-        children,
-    } = node.take_apart(Seal::new());
-    let Some(mut children) = children else {
-        unreachable!()
-    };
+    let (prefix, value, mut children) = opened(alloc, tree);
     match part_out::<K, V, T>(&mut children, j) {
         Ok((child, other)) => {
             *tree = with_prefix(joined, child);
@@ -322,6 +298,29 @@ fn become_child<K: TKey, V: TValue, T: Build<K, V>>(
             Err(refused)
         }
     }
+}
+
+/// The parts of a tree with children. It leaves the empty tree.
+fn opened<K: TKey, V: TValue, T: Build<K, V>>(
+    alloc: Global,
+    tree: &mut T,
+) -> (T::Prefix, Option<V>, T::Children)
+    requires { AreSome (T.tree tree.old).children }
+    ensures prefix { T.Prefix.items result.0 ≡ (T.tree tree.old).prefix }
+    ensures value { result.1 ≡ (T.tree tree.old).value }
+    ensures children { seen T.tree (T.Children.items result.2) ≡ (T.tree tree.old).children }
+    ensures canonical { IsCanonical K.cmp (T.tree tree.old) }
+{
+    let node = mem::replace(tree, T::blank(alloc, Seal::new()));
+    let Parts {
+        prefix,
+        value,
+        children,
+    } = node.take_apart(Seal::new());
+    let Some(children) = children else {
+        unreachable!()
+    };
+    (prefix, value, children)
 }
 
 /// The tree with this prefix in the place of its own.

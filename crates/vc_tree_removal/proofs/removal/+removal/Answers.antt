@@ -1,56 +1,42 @@
 -- The recursion of a removal: what is left of the key is bound below, and each call goes to a child that it leads to.
-use Rattle.std.proofs.Common.{refl, sym, ap, subst, ◌∙◌, arith, drop, is_ok, length, map, rules}
+use Rattle.std.proofs.Common.{refl, sym, ap, subst, ◌∙◌, arith, is_ok, length, rules}
 use Rattle.std.proofs.Math.ListN.{length-set}
-use Rattle.vc_tree_model.specs.Canonical.{AreChildren, IsCanonical}
-use Rattle.vc_tree_model.specs.Tree.{forest}
+use Rattle.vc_tree_model.specs.Canonical.{AreChildren}
 use Rattle.vc_tree_model.proofs.KeyLemmas.{behind-joins}
-use Rattle.vc_tree_nodes.specs.Children.{listed}
-use Rattle.vc_tree_nodes.specs.Places.{BeginsAt, IsGapAt, LeadsTo}
-use Rattle.vc_tree_nodes.proofs.Events.{on-err, parts-canonical, leads-within, leads-solid, leads-nodes, length-kept}
+use Rattle.vc_tree_nodes.specs.Places.{BeginsAt}
+use Rattle.vc_tree_nodes.proofs.Events.{on-err, parts-canonical, leads-within, length-kept}
 use Rattle.vc_tree_nodes.proofs.Finding.{begins-below}
 use Rattle.vc_tree_nodes.proofs.Growing.{solid-canonical}
-use Rattle.vc_tree_removal.specs.Taking.{IsDeepAt, IsLeft, Removed}
+use Rattle.vc_tree_removal.specs.Taking.{IsDeepAt, IsLeft, Removed, tree_at}
 use Rattle.vc_tree_removal.proofs.Going.{left-ended, left-some}
 use Rattle.vc_tree_removal.proofs.Lists.{seen-long}
-use Rattle.vc_tree_removal.proofs.Reaching.{child-found, child-stands, child-within, first-is, met-child, met-reaches}
-use Rattle.vc_tree_removal.proofs.Reaching.{met-rest, none-first, rest-ended}
-use Rattle.vc_tree_removal.proofs.Removing.{child-removed, if-both, if-ok, leads-met, leads-deep, list-alike, list-removed}
+use Rattle.vc_tree_removal.proofs.Reaching.{child-found, child-stands, met-child, met-reaches, on-way}
+use Rattle.vc_tree_removal.proofs.Reaching.{none-first, rest-ended}
+use Rattle.vc_tree_removal.proofs.Removing.{child-removed, if-both, if-ok, leads-below, list-alike, list-removed}
 use Rattle.vc_tree_removal.proofs.Removing.{lacks-removed, removed-respelled}
 use Rattle.vc_tree_removal.proofs.removal.+removal.Goals as goal
 
 pub remove_deeper-assemble-requires : goal.remove_deeper-assemble-requires
 remove_deeper-assemble-requires g t c =
     let tree = g.T.RadixNode.tree in
-    let prefix = c.take_apart-prefix.ensures.prefix ∙ ap (λ t. (tree t).prefix) c.replace-node.ensures.value in
-    let value = c.take_apart-prefix.ensures.value ∙ ap (λ t. (tree t).value) c.replace-node.ensures.value in
-    let children =
-    ap (λ o. forest (map tree (listed g.T.Children.ChildList.items o))) (sym c.in-Some.is) ∙
-    c.take_apart-prefix.ensures.children ∙ ap (λ t. (tree t).children) c.replace-node.ensures.value in
-    let canonical =
-    subst (λ t. IsCanonical g.K.Ord.cmp (tree t)) c.replace-node.ensures.value c.take_apart-prefix.ensures.canonical in
+    let o = c.opened-prefix.ensures in
     if-both c.remove_in-done.result c.remove_in-done.ensures.ok c.remove_in-done.ensures.err
     (λ taken removed.
     let whole = child-removed g.K.Ord.cmp g.T.Build.keeps g.met.T.Build.keeps_refl g.met.T.Build.keeps_trans
-    g.met.K.Ord.total tree c.args.extent (tree c.args.tree.now) _ _ _ _ _ c.args.rest.now _ c.requires.leads.first
-    c.requires.leads.others prefix value children refl c.requires.solid c.requires.leads.key_is
-    c.remove_in-done.ensures.as_many removed in
+    g.met.K.Ord.total tree c.args.extent (tree c.args.tree.now) _ _ _ _ _ _ c.requires.leads o.prefix o.value o.children refl
+    c.requires.solid c.remove_in-done.ensures.as_many removed in
     solid-canonical g.K.Ord.cmp _ _ _ whole.grown.solid whole.grown.children)
     (λ alike. parts-canonical g.K.Ord.cmp g.T.Build.keeps g.met.T.Build.keeps_refl g.met.T.Build.keeps_trans
-    g.met.K.Ord.total tree (tree c.args.tree.now) _ _ _ _ prefix value children canonical alike)
+    g.met.K.Ord.total tree (tree c.args.tree.now) _ _ _ _ o.prefix o.value o.children o.canonical alike)
 
 pub remove_deeper-returns-clause-ok : goal.remove_deeper-returns-clause-ok
 remove_deeper-returns-clause-ok g t c =
     let tree = g.T.RadixNode.tree in
-    let prefix = c.take_apart-prefix.ensures.prefix ∙ ap (λ t. (tree t).prefix) c.replace-node.ensures.value in
-    let value = c.take_apart-prefix.ensures.value ∙ ap (λ t. (tree t).value) c.replace-node.ensures.value in
-    let children =
-    ap (λ o. forest (map tree (listed g.T.Children.ChildList.items o))) (sym c.in-Some.is) ∙
-    c.take_apart-prefix.ensures.children ∙ ap (λ t. (tree t).children) c.replace-node.ensures.value in
+    let o = c.opened-prefix.ensures in
     if-ok c.remove_in-done.result
     (λ taken removed. child-removed g.K.Ord.cmp g.T.Build.keeps g.met.T.Build.keeps_refl g.met.T.Build.keeps_trans
-    g.met.K.Ord.total tree c.args.extent (tree c.args.tree.now) _ _ _ _ _ c.args.rest.now _ c.requires.leads.first
-    c.requires.leads.others prefix value children c.assemble.ensures c.requires.solid c.requires.leads.key_is
-    c.remove_in-done.ensures.as_many removed)
+    g.met.K.Ord.total tree c.args.extent (tree c.args.tree.now) _ _ _ _ _ _ c.requires.leads o.prefix o.value o.children
+    c.assemble.ensures c.requires.solid c.remove_in-done.ensures.as_many removed)
     c.remove_in-done.ensures.ok
 
 pub remove_from-rest_of-rest-requires : goal.remove_from-rest_of-rest-requires
@@ -78,20 +64,11 @@ remove_from-child_place-requires g t c = subst (AreChildren g.K.Ord.cmp) (sym c.
 
 pub remove_from-unreachable-requires : goal.remove_from-unreachable-requires
 remove_from-unreachable-requires g t c =
-    let tree = g.T.RadixNode.tree in
-    let begun = first-is c.rest_of-rest.result.now c.in-Some.first.now (sym c.in-Some.ensures.value) in
-    met-reaches g.K.Ord.cmp g.met.K.Ord.total c.args.extent (tree c.args.tree.now).children c.rest_of-rest.result.now
-    c.in-Some.first.now _ c.in_default-child_place.field-0 begun
-    (met-rest g.K.Ord.cmp g.met.K.Ord.total c.args.extent (tree c.args.tree.now) c.args.key.now c.rest_of-rest.result.now
-    c.in-Some.first.now _ c.rest_of-rest.ensures begun c.requires.met)
-    (subst (λ f. IsGapAt g.K.Ord.cmp f c.in-Some.first.now c.in_default-child_place.field-0) c.children.ensures
-    c.in_default-child_place.ensures.place)
+    met-reaches g.K.Ord.cmp g.met.K.Ord.total c.args.extent (g.T.RadixNode.tree c.args.tree.now) c.args.key.now _ _ _ _
+    c.rest_of-rest.ensures (sym c.in-Some.ensures.value) c.requires.met c.children.ensures c.in_default-child_place.ensures.place
 
 pub remove_from-bounds-children-i : goal.remove_from-bounds-children-i
-remove_from-bounds-children-i g t c =
-    begins-below g.K.Ord.cmp g.T.RadixNode.tree c.children-2.result.now c.in-Some.first.now c.in-Ok.i
-    (subst (λ f. BeginsAt g.K.Ord.cmp f c.in-Some.first.now c.in-Ok.i) (c.children.ensures ∙ sym c.children-2.ensures)
-    c.in-Ok.ensures.place)
+remove_from-bounds-children-i g t c = search (rules, begins-below)
 
 pub remove_from-offset_bounds-children-i : goal.remove_from-offset_bounds-children-i
 remove_from-offset_bounds-children-i g t c =
@@ -103,67 +80,50 @@ remove_from-offset_bounds-children-i g t c =
 pub remove_from-goes_wholly-requires : goal.remove_from-goes_wholly-requires
 remove_from-goes_wholly-requires g t c =
     let tree = g.T.RadixNode.tree in
-    let begun = first-is c.rest_of-rest.result.now c.in-Some.first.now (sym c.in-Some.ensures.value) in
-    met-child g.K.Ord.cmp g.met.K.Ord.total tree (tree c.args.tree.now).children c.children-2.result.now c.in-Ok.i
-    c.index-children-i.result c.in-Some.first.now c.children-2.ensures c.index-children-i.is
-    (subst (λ f. BeginsAt g.K.Ord.cmp f c.in-Some.first.now c.in-Ok.i) c.children.ensures c.in-Ok.ensures.place)
-    c.args.extent c.rest_of-rest.result.now _ c.canonical.ensures.1 begun
-    (met-rest g.K.Ord.cmp g.met.K.Ord.total c.args.extent (tree c.args.tree.now) c.args.key.now c.rest_of-rest.result.now
-    c.in-Some.first.now _ c.rest_of-rest.ensures begun c.requires.met)
+    let way =
+    on-way g.met.K.Ord.total c.args.extent (tree c.args.tree.now) c.args.key.now _ _ _ _ c.rest_of-rest.ensures
+    (sym c.in-Some.ensures.value) c.requires.met c.children.ensures c.in-Ok.ensures.place in
+    met-child way.0 g.met.K.Ord.total tree _ _ c.children-2.ensures c.index-children-i.is c.args.extent c.canonical.ensures.1
+    way.1
 
 pub remove_from-take_child-requires-clause-within : goal.remove_from-take_child-requires-clause-within
 remove_from-take_child-requires-clause-within g t c =
     let tree = g.T.RadixNode.tree in
     let long = seen-long tree _ _ c.children-2.ensures in
-    let within =
-    child-within g.K.Ord.cmp g.met.K.Ord.total tree (tree c.args.tree.now).children c.children-2.result.now c.in-Ok.i
-    c.index-children-i.result c.in-Some.first.now c.children-2.ensures c.index-children-i.is
-    (subst (λ f. BeginsAt g.K.Ord.cmp f c.in-Some.first.now c.in-Ok.i) c.children.ensures c.in-Ok.ensures.place) in
+    let within = begins-below g.K.Ord.cmp tree c.children-2.result.now c.in-Some.first.now c.in-Ok.i
+    (subst (λ f. BeginsAt g.K.Ord.cmp f c.in-Some.first.now c.in-Ok.i) (c.children.ensures ∙ sym c.children-2.ensures)
+    c.in-Ok.ensures.place) in
     omega (arith, long, within)
 
 pub remove_from-remove_deeper-requires : goal.remove_from-remove_deeper-requires
 remove_from-remove_deeper-requires g t c κs within =
     let tree = g.T.RadixNode.tree in
-    let begun = first-is c.rest_of-rest.result.now c.in-Some.first.now (sym c.in-Some.ensures.value) in
-    let begins = subst (λ f. BeginsAt g.K.Ord.cmp f c.in-Some.first.now c.in-Ok.i) c.children.ensures c.in-Ok.ensures.place in
-    let leads : LeadsTo g.K.Ord.cmp (tree c.args.tree.now).children c.rest_of-rest.result.now c.in-Ok.i =
-    record { first = c.in-Some.first.now; others = drop 1 c.rest_of-rest.result.now; key_is = begun; begins = begins } in
-    let met =
-    met-rest g.K.Ord.cmp g.met.K.Ord.total c.args.extent (tree c.args.tree.now) c.args.key.now c.rest_of-rest.result.now
-    c.in-Some.first.now _ c.rest_of-rest.ensures begun c.requires.met in
-    let deep =
-    subst (λ d. IsDeepAt g.K.Ord.cmp c.args.extent c.rest_of-rest.result.now d)
-    (sym (child-stands g.K.Ord.cmp g.met.K.Ord.total tree (tree c.args.tree.now).children c.children-2.result.now c.in-Ok.i
-    c.index-children-i.result c.in-Some.first.now c.children-2.ensures c.index-children-i.is begins))
-    c.if-goes_wholly.ensures in
+    let way =
+    on-way g.met.K.Ord.total c.args.extent (tree c.args.tree.now) c.args.key.now _ _ _ _ c.rest_of-rest.ensures
+    (sym c.in-Some.ensures.value) c.requires.met c.children.ensures c.in-Ok.ensures.place in
+    let deep : IsDeepAt g.K.Ord.cmp c.args.extent c.rest_of-rest.result.now (tree_at (tree c.args.tree.now).children c.in-Ok.i) =
+    rw (child-stands way.0 g.met.K.Ord.total tree _ _ c.children-2.ensures c.index-children-i.is) c.if-goes_wholly.ensures in
     search rules
 
 pub remove_from-returns-then-goes_wholly-clause-ok : goal.remove_from-returns-then-goes_wholly-clause-ok
 remove_from-returns-then-goes_wholly-clause-ok g t c =
     let cmp = g.K.Ord.cmp in
-    let tree = g.T.RadixNode.tree in
     let o = g.met.K.Ord.total in
-    let e = c.args.extent in
-    let y = c.in-Some.first.now in
-    let rest = c.rest_of-rest.result.now in
-    let kids = (tree c.args.tree.now).children in
-    let begun = first-is rest y (sym c.in-Some.ensures.value) in
-    let begins = subst (λ f. BeginsAt cmp f y c.in-Ok.i) c.children.ensures c.in-Ok.ensures.place in
-    let met =
-    met-rest cmp o e (tree c.args.tree.now) c.args.key.now rest y _ c.rest_of-rest.ensures begun c.requires.met in
+    let tree = g.T.RadixNode.tree in
+    let kids = c.canonical.ensures.1 in
+    let seen = c.children-2.ensures in
+    let is = c.index-children-i.is in
+    let way =
+    on-way g.met.K.Ord.total c.args.extent (tree c.args.tree.now) c.args.key.now _ _ _ _ c.rest_of-rest.ensures
+    (sym c.in-Some.ensures.value) c.requires.met c.children.ensures c.in-Ok.ensures.place in
     if-ok c.take_child.result
-    (λ taken lacks. removed-respelled cmp g.T.Build.keeps g.met.T.Build.keeps_refl g.met.T.Build.keeps_trans o e
+    (λ taken lacks. removed-respelled cmp g.T.Build.keeps g.met.T.Build.keeps_refl g.met.T.Build.keeps_trans o c.args.extent
     (tree c.args.tree.now) (tree c.take_child.new.tree) _ c.args.key.now _
-    (behind-joins cmp o (tree c.args.tree.now).prefix c.args.key.now rest c.rest_of-rest.ensures)
-    (lacks-removed cmp g.T.Build.keeps g.met.T.Build.keeps_refl g.met.T.Build.keeps_trans o e (tree c.args.tree.now)
-    (tree c.take_child.new.tree) (tree c.index-children-i.result) c.in-Ok.i rest y _ _ c.canonical.ensures.1
-    (child-stands cmp o tree kids c.children-2.result.now c.in-Ok.i c.index-children-i.result y c.children-2.ensures
-    c.index-children-i.is begins) begins begun
-    (child-found cmp o tree kids c.children-2.result.now c.in-Ok.i c.index-children-i.result y c.children-2.ensures
-    c.index-children-i.is begins c.canonical.ensures.1)
-    (met-child cmp o tree kids c.children-2.result.now c.in-Ok.i c.index-children-i.result y c.children-2.ensures
-    c.index-children-i.is begins e rest _ c.canonical.ensures.1 begun met)
-    c.if-goes_wholly.ensures lacks))
+    (behind-joins cmp o (tree c.args.tree.now).prefix c.args.key.now _ c.rest_of-rest.ensures)
+    (lacks-removed cmp g.T.Build.keeps g.met.T.Build.keeps_refl g.met.T.Build.keeps_trans o c.args.extent
+    (tree c.args.tree.now) (tree c.take_child.new.tree) (tree c.index-children-i.result) _ way.0 kids
+    (child-stands way.0 o tree _ _ seen is) (child-found way.0 o tree _ _ seen is kids)
+    (met-child way.0 o tree _ _ seen is c.args.extent kids way.1) c.if-goes_wholly.ensures lacks))
     c.take_child.ensures.ok
 
 pub remove_from-returns-else-goes_wholly-clause-ok : goal.remove_from-returns-else-goes_wholly-clause-ok
@@ -178,53 +138,29 @@ remove_from-returns-else-goes_wholly-clause-ok g t c =
     c.remove_deeper.ensures.ok
 
 pub remove_in-returns-in_err-list-clause-as_many : goal.remove_in-returns-in_err-list-clause-as_many
-remove_in-returns-in_err-list-clause-as_many g t c =
-    let kept = g.met.T.Build.kept_alike _ _ (rw c.in_err-list.was at c.make_mut.follows.holds-at-none) in
-    sym (length-kept g.T.Build.keeps g.T.RadixNode.tree _ _ kept)
+remove_in-returns-in_err-list-clause-as_many g t c = search (rules, length-kept)
 
 pub remove_in-index_mut-requires : goal.remove_in-index_mut-requires
 remove_in-index_mut-requires g t c =
     let h =
     leads-within g.K.Ord.cmp g.T.Build.keeps g.met.T.Build.keeps_refl g.met.T.Build.keeps_trans g.met.K.Ord.total
-    g.T.RadixNode.tree
-    (g.T.Children.ChildList.items c.args.children.now) c.in_ok-list.list.now.items c.args.i c.args.rest.now
+    g.T.RadixNode.tree (g.T.Children.ChildList.items c.args.children.now) c.in_ok-list.list.now.items c.args.i c.args.rest.now
     c.requires.leads (g.met.T.Build.kept_alike _ _ c.in_ok-list.ensures.value) c.requires.canonical in
     omega (arith, h, c.in_ok-list.list.now.ok.0)
 
 pub remove_in-remove_from-requires : goal.remove_in-remove_from-requires
 remove_in-remove_from-requires g t c κs within =
-    let met =
-    leads-met g.K.Ord.cmp g.T.Build.keeps g.met.T.Build.keeps_refl g.met.T.Build.keeps_trans g.met.K.Ord.total
-    g.T.RadixNode.tree
-    (g.T.Children.ChildList.items c.args.children.now) c.in_ok-list.list.now.items c.args.i c.args.rest.now
+    let below = leads-below g.K.Ord.cmp g.T.Build.keeps g.met.T.Build.keeps_refl g.met.T.Build.keeps_trans g.met.K.Ord.total
+    g.T.RadixNode.tree (g.T.Children.ChildList.items c.args.children.now) c.in_ok-list.list.now.items c.args.i c.args.rest.now
     c.requires.leads (g.met.T.Build.kept_alike _ _ c.in_ok-list.ensures.value) c.requires.canonical
-    c.args.extent c.index_mut.result.now c.index_mut.ensures.value c.requires.met in
-    let deep =
-    leads-deep g.K.Ord.cmp g.T.Build.keeps g.met.T.Build.keeps_refl g.met.T.Build.keeps_trans g.met.K.Ord.total
-    g.T.RadixNode.tree
-    (g.T.Children.ChildList.items c.args.children.now) c.in_ok-list.list.now.items c.args.i c.args.rest.now
-    c.requires.leads (g.met.T.Build.kept_alike _ _ c.in_ok-list.ensures.value) c.requires.canonical
-    c.args.extent c.index_mut.result.now c.index_mut.ensures.value c.requires.deep in
-    let solid =
-    leads-solid g.K.Ord.cmp g.T.Build.keeps g.met.T.Build.keeps_refl g.met.T.Build.keeps_trans g.met.K.Ord.total
-    g.T.RadixNode.tree
-    (g.T.Children.ChildList.items c.args.children.now) c.in_ok-list.list.now.items c.args.i c.args.rest.now
-    c.requires.leads (g.met.T.Build.kept_alike _ _ c.in_ok-list.ensures.value) c.requires.canonical
-    c.index_mut.result.now c.index_mut.ensures.value in
-    let fewer =
-    leads-nodes g.K.Ord.cmp g.T.Build.keeps g.met.T.Build.keeps_refl g.met.T.Build.keeps_trans g.met.K.Ord.total
-    g.T.RadixNode.tree
-    (g.T.Children.ChildList.items c.args.children.now) c.in_ok-list.list.now.items c.args.i c.args.rest.now
-    c.requires.leads (g.met.T.Build.kept_alike _ _ c.in_ok-list.ensures.value) c.requires.canonical
-    c.index_mut.result.now c.index_mut.ensures.value in
+    c.args.extent c.index_mut.result.now c.index_mut.ensures.value c.requires.met c.requires.deep in
     search rules
 
 pub remove_in-returns-clause-ok : goal.remove_in-returns-clause-ok
 remove_in-returns-clause-ok g t c =
     if-ok c.remove_from.result
     (λ taken. list-removed g.K.Ord.cmp g.T.Build.keeps g.met.T.Build.keeps_refl g.met.T.Build.keeps_trans g.met.K.Ord.total
-    g.T.RadixNode.tree
-    (g.T.Children.ChildList.items c.args.children.now) c.in_ok-list.list.now.items c.args.i c.args.rest.now
+    g.T.RadixNode.tree (g.T.Children.ChildList.items c.args.children.now) c.in_ok-list.list.now.items c.args.i c.args.rest.now
     c.requires.leads (g.met.T.Build.kept_alike _ _ c.in_ok-list.ensures.value) c.requires.canonical
     c.index_mut.result.now c.remove_from.new.tree _ c.index_mut.ensures.value
     (c.make_mut.follows.holds _ (ap is_ok c.in_ok-list.was)) c.args.extent (g.T.RadixNode.tree taken))
@@ -234,8 +170,7 @@ pub remove_in-returns-clause-err : goal.remove_in-returns-clause-err
 remove_in-returns-clause-err g t c =
     on-err c.remove_from.result
     (list-alike g.K.Ord.cmp g.T.Build.keeps g.met.T.Build.keeps_refl g.met.T.Build.keeps_trans g.met.K.Ord.total
-    g.T.RadixNode.tree
-    (g.T.Children.ChildList.items c.args.children.now) c.in_ok-list.list.now.items c.args.i c.args.rest.now
+    g.T.RadixNode.tree (g.T.Children.ChildList.items c.args.children.now) c.in_ok-list.list.now.items c.args.i c.args.rest.now
     c.requires.leads (g.met.T.Build.kept_alike _ _ c.in_ok-list.ensures.value) c.requires.canonical
     c.index_mut.result.now c.remove_from.new.tree _ c.index_mut.ensures.value
     (c.make_mut.follows.holds _ (ap is_ok c.in_ok-list.was)))

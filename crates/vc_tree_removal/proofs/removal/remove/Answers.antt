@@ -1,5 +1,5 @@
 -- A key that is not bound leaves the tree as it is, and any other goes.
-use Rattle.std.proofs.Common.{sym, ◌∙◌, true≢false}
+use Rattle.std.proofs.Common.{rules, sym, ◌∙◌, true≢false}
 use Rattle.vc_tree_model.proofs.AlikeLemmas.{tree-alike_lookup}
 use Rattle.vc_tree_model.proofs.KeyLemmas.{same-itself}
 use Rattle.vc_tree_model.proofs.LookupLemmas.{lookup-same}
@@ -25,7 +25,4 @@ remove_met-requires g c = record {
 }
 
 pub returns-in_err-taken-clause-err : goal.returns-in_err-taken-clause-err
-returns-in_err-taken-clause-err g c =
-    always-err c.from_residual.result
-    (tree-alike_lookup g.T.Build.keeps g.K.Ord.cmp (g.T.RadixNode.tree c.args.tree.now)
-    (g.T.RadixNode.tree c.remove_met.new.tree) c.in_err-taken.ensures.err_nodes)
+returns-in_err-taken-clause-err g c = search (rules, always-err, tree-alike_lookup)

@@ -1,5 +1,5 @@
 -- The key starts with the prefix, since something is left of it.
-use Rattle.std.proofs.Common.{ap, length, arith}
+use Rattle.std.proofs.Common.{rules, ap, length, arith}
 use Rattle.vc_tree_removal.proofs.Reaching.{left-rest, left-within}
 use Rattle.vc_tree_removal.proofs.removal.rest_of.Goals as goal
 
@@ -22,6 +22,4 @@ slice_bounds-result-start g c =
     omega (arith, same, within)
 
 pub returns : goal.returns
-returns g c =
-    left-rest g.K.Ord.cmp (g.T.RadixNode.tree c.args.tree.now).prefix c.args.key.now c.prefix.result.now
-    c.prefix.ensures.value c.requires
+returns g c = search (rules, left-rest)

@@ -1,6 +1,5 @@
 -- A lone child stands in the place of the node; any other node loses its value alone.
-use Rattle.std.proofs.Common.{sym, ap, refl, subst, ◌∙◌, arith, None}
-use Rattle.vc_tree_model.specs.Canonical.{AreChildren, IsSolid}
+use Rattle.std.proofs.Common.{rules, sym, ap, refl, ◌∙◌, arith, None}
 use Rattle.vc_tree_nodes.proofs.Events.{node-equal}
 use Rattle.vc_tree_nodes.proofs.Growing.{solid-canonical}
 use Rattle.vc_tree_removal.proofs.Lists.{seen-long}
@@ -22,14 +21,7 @@ returns-then-children-eq1-clause-ok g c =
     c.become_child.ensures.ok
 
 pub assemble-requires : goal.assemble-requires
-assemble-requires g c =
-    let tree = g.T.RadixNode.tree in
-    let long = seen-long tree _ _ c.children.ensures in
-    let children = c.take_apart-prefix.ensures.children ∙ ap (λ t. (tree t).children) c.replace-node.ensures.value in
-    solid-canonical g.K.Ord.cmp _ None _
-    (subst (IsSolid None) (sym children)
-    (many-solid (tree c.args.tree.now).children c.requires.deep (λ e. c.if-children-eq1.false (long ∙ e))))
-    (subst (AreChildren g.K.Ord.cmp) (sym children) c.canonical.ensures.1)
+assemble-requires g c = search (rules, many-solid, seen-long, solid-canonical)
 
 pub returns-clause-ok : goal.returns-clause-ok
 returns-clause-ok g c =

@@ -1,5 +1,5 @@
 -- A root of which all keys go is the answer; else the node that goes is, behind the front that was found before.
-use Rattle.std.proofs.Common.{◌++◌, ◌∙◌, ap, sym}
+use Rattle.std.proofs.Common.{rules, ◌++◌, ◌∙◌, ap, sym}
 use Rattle.vc_tree_model.specs.Map.{lookup}
 use Rattle.vc_tree_model.specs.Snapshot.{tree_alike_refl}
 use Rattle.vc_tree_model.specs.Tree.{node}
@@ -28,24 +28,17 @@ returns-then-goes_wholly-clause-ok g c =
     c.if-goes_wholly.ensures c.in-Some.ensures.met
 
 pub returns-in_err-joined-clause-err : goal.returns-in_err-joined-clause-err
-returns-in_err-joined-clause-err g c =
-    always-err c.from_residual.result
-    (λ k. kept-refl g.T.Build.keeps g.met.T.Build.keeps_refl (lookup g.K.Ord.cmp (g.T.RadixNode.tree c.args.tree.now) k))
+returns-in_err-joined-clause-err g c = search (rules, always-err, kept-refl)
 
 pub returns-in_err-joined-clause-err_nodes : goal.returns-in_err-joined-clause-err_nodes
-returns-in_err-joined-clause-err_nodes g c =
-    always-err c.from_residual.result
-    (tree_alike_refl g.T.Build.keeps g.met.T.Build.keeps_refl (g.T.RadixNode.tree c.args.tree.now))
+returns-in_err-joined-clause-err_nodes g c = search (rules, always-err, tree_alike_refl)
 
 pub remove_from-requires-clause-solid : goal.remove_from-requires-clause-solid
 remove_from-requires-clause-solid g c =
     whole-solid (g.T.RadixNode.tree c.args.tree.now) c.canonical.ensures.0 c.if-goes_wholly.ensures.some
 
 pub returns-in_err-taken-clause-err : goal.returns-in_err-taken-clause-err
-returns-in_err-taken-clause-err g c =
-    always-err c.from_residual-in_err-taken.result
-    (tree-alike_lookup g.T.Build.keeps g.K.Ord.cmp (g.T.RadixNode.tree c.args.tree.now)
-    (g.T.RadixNode.tree c.remove_from.new.tree) c.in_err-taken.ensures.err)
+returns-in_err-taken-clause-err g c = search (rules, always-err, tree-alike_lookup)
 
 pub returns-in_err-taken-clause-canonical : goal.returns-in_err-taken-clause-canonical
 returns-in_err-taken-clause-canonical g c =
@@ -65,7 +58,4 @@ returns-clause-made g c =
     (c.in_ok-joined.ensures ∙ ap (λ p. c.in-Some.front.now ++ p) c.prefix.ensures.value))
 
 pub returns-clause-canonical : goal.returns-clause-canonical
-returns-clause-canonical g c =
-    let u = g.T.RadixNode.tree c.remove_from.new.tree in
-    let grown = c.in_ok-taken.ensures.ok.grown in
-    solid-canonical g.K.Ord.cmp u.prefix u.value u.children grown.solid grown.children
+returns-clause-canonical g c = search (rules, solid-canonical)
