@@ -38,9 +38,8 @@ module _ {K V : Type 0} (keeps : V → V → Type 0) where
       → IsAlikeIn keeps (forest (map s xs)) (forest (map t ys)) → IsAlike keeps (s x) (t y)
       → IsAlikeIn keeps (forest (map s (xs ++ x ∷ []))) (forest (map t (ys ++ y ∷ [])))
   alike-push s t [] [] x y a h = (h.0, h.1, h.2, tt)
-  alike-push s t [] (y' ∷ ys) x y a h = absurd a
-  alike-push s t (x' ∷ xs) [] x y a h = absurd a
   alike-push s t (x' ∷ xs) (y' ∷ ys) x y a h = (a.0, a.1, a.2, alike-push s t xs ys x y a.3 h)
+  alike-push s t z u x y a h = absurd a
 
   -- the trees up to a place of a list, and one more, are copied
   pub alike-more : {S T : Type 0} (s : S → Tree K V) (t : T → Tree K V) (xs : List S) (ys zs : List T) (i : ℕ) (x : S)
@@ -56,14 +55,13 @@ module _ {K V : Type 0} (keeps : V → V → Type 0) where
 
   -- a value or at least two children
   pub alike-solid : (v w : Option V) (f g : Forest K V) → IsKept keeps v w → IsAlikeIn keeps f g → IsSolid v f → IsSolid w g
-  alike-solid (Some v) (Some w) f g h k s = tt
   alike-solid None (Some w) f g h k s = absurd h
   alike-solid (Some v) None f g h k s = absurd h
   alike-solid None None bare g h k s = absurd s
   alike-solid None None (grow p v kids bare) g h k s = absurd s
   alike-solid None None (grow p v kids (grow q w more rest)) bare h k s = absurd k
   alike-solid None None (grow p v kids (grow q w more rest)) (grow p' v' kids' bare) h k s = absurd k.3
-  alike-solid None None (grow p v kids (grow q w more rest)) (grow p' v' kids' (grow q' w' more' rest')) h k s = tt
+  alike-solid x y f g h k s = tt
 
   -- what may be the whole tree
   alike-whole : (p : List K) (v w : Option V) (f g : Forest K V) → IsKept keeps v w → IsAlikeIn keeps f g
@@ -150,8 +148,7 @@ module _ {K V : Type 0} (is_clone : V → V → Type 0) where
       → IsKept (λ a b. val b ≡ val a) o u → shared_forest (λ r. list (val r)) u ≡ shared_forest (λ r. list (val r)) o
   shared-same val list None None h = refl
   shared-same val list (Some a) (Some b) h = ap (λ x. forest (list x)) h
-  shared-same val list None (Some b) h = absurd h
-  shared-same val list (Some a) None h = absurd h
+  shared-same val list x y h = absurd h
 
   -- a snapshot of a canonical tree is canonical
   pub snapshot-canonical : {R X : Type 0} (val : R → X) (list : X → List (Tree K V)) (cmp : K → K → Ordering)
@@ -165,9 +162,8 @@ module _ {K V : Type 0} (is_clone : V → V → Type 0) where
     where
       kept-whole : (p : List K) (v w : Option V) (kids : Forest K V) → IsKept is_clone v w → IsWhole p v kids
           → IsWhole p w kids
-      kept-whole [] None None kids k h = h
       kept-whole [] (Some v) (Some w) kids k h = tt
-      kept-whole (x ∷ p) None None kids k h = h
       kept-whole (x ∷ p) (Some v) (Some w) kids k h = tt
       kept-whole p None (Some w) kids k h = absurd k
       kept-whole p (Some v) None kids k h = absurd k
+      kept-whole x y z kids k h = h

@@ -33,8 +33,7 @@ module _ {K V : Type 0} (cmp : K → K → Ordering) where
   kept-same : (v w : Option V) → IsKept (λ v w. v ≡ w) v w → w ≡ v
   kept-same None None h = refl
   kept-same (Some v) (Some w) h = ap Some (sym h)
-  kept-same None (Some w) h = absurd h
-  kept-same (Some v) None h = absurd h
+  kept-same x y h = absurd h
 
   -- a tree of pairs with one more key bound is one of one more pair
   pub collected-more : (pairs : List (List K × V)) (b : List K × V) (t u : Tree K V) → IsCollected cmp pairs t

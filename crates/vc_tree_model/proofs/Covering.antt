@@ -36,11 +36,10 @@ module _ {K : Type 0} (cmp : K → K → Ordering) (o : IsTotalOrder cmp) where
   same-fronts : (p r s t : List K) → length p ≡ length r → same_key cmp (p ++ s) (r ++ t) ≡ true
       → same_key cmp p r ≡ true
   same-fronts [] [] s t e h = refl
-  same-fronts [] (y ∷ r) s t e h = absurd (omega (arith, e))
-  same-fronts (x ∷ p) [] s t e h = absurd (omega (arith, e))
   same-fronts (x ∷ p) (y ∷ r) s t e h =
       let both = both-true (is_eq (cmp x y)) (same_key cmp (p ++ s) (r ++ t)) h in
       ap (λ b. cond b (same_key cmp p r) false) both.0 ∙ same-fronts p r s t (omega (arith, e)) both.1
+  same-fronts x y s t e h = absurd (omega (arith, e))
 
   -- two prefixes of one key and of one length are equal
   same-prefixes : (k p r : List K) → Starts cmp k p → Starts cmp k r → length p ≡ length r → same_key cmp p r ≡ true

@@ -34,16 +34,14 @@ module _ {K V : Type 0} where
   -- a node is solid where it has a value or a child, and no lone child without a value
   solid-from : (v : Option V) (f : Forest K V) → (lacks_both v f ≡ true → ⊥) → (IsNone v → length (trees f) ≢ 1)
       → IsSolid v f
-  solid-from (Some v) f b l = tt
   solid-from None bare b l = b refl
   solid-from None (grow p v kids bare) b l = l refl refl
-  solid-from None (grow p v kids (grow q w more rest)) b l = tt
+  solid-from x f b l = tt
 
   -- a node that lacks both has no children
   bare-from : (v : Option V) (f : Forest K V) → lacks_both v f ≡ true → f ≡ bare
-  bare-from (Some v) f h = absurd (true≢false (sym h))
   bare-from None bare h = refl
-  bare-from None (grow p v kids rest) h = absurd (true≢false (sym h))
+  bare-from x f h = absurd (true≢false (sym h))
 
   -- ---- what holds of each tree of a list and of all below
 

@@ -13,9 +13,8 @@ module _ {V : Type 0} where
   -- what is kept as it is, is equal
   kept-is : (a b : Option V) → IsKept (λ x y. x ≡ y) a b → b ≡ a
   kept-is None None h = refl
-  kept-is None (Some w) h = absurd h
-  kept-is (Some v) None h = absurd h
   kept-is (Some v) (Some w) h = ap (λ x. Some x) (sym h)
+  kept-is x y h = absurd h
 
   -- and what is equal is kept
   is-kept : (a b : Option V) → a ≡ b → IsKept (λ x y. x ≡ y) a b

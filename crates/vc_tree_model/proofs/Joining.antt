@@ -79,11 +79,10 @@ module _ {K : Type 0} (cmp : K → K → Ordering) where
     -- a node, made as a child, reads as it did
     pub joined-same : (p : List K) (v : Option V) (f : Forest K V) (k : List K) → AreChildren cmp f
         → look cmp l (solid_child p v f) k ≡ l.of_tree (node p v f) k
-    joined-same p (Some v) f k c = refl
     joined-same p None bare k c = sym (nothing p k)
     joined-same p None (grow [] w more bare) k c = absurd c
     joined-same p None (grow (y ∷ q) w more bare) k c = lowered p y q w more k
-    joined-same p None (grow q w more (grow r u most rest)) k c = refl
+    joined-same p x f k c = refl
 
   -- ---- what a node is as a child
 

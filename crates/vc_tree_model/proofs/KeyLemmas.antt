@@ -46,11 +46,10 @@ module _ {K : Type 0} (cmp : K → K → Ordering) where
 
   -- a key is left behind two prefixes joined where it is left behind one and then the other
   pub behind-append : (p q k : List K) → behind cmp (p ++ q) k ≡ then_behind q (behind cmp p k)
-  behind-append [] q k = refl
-  behind-append (x ∷ p) q [] = refl
   behind-append (x ∷ p) q (y ∷ k) =
       ap (λ o. cond (is_eq (cmp x y)) o None) (behind-append p q k)
       ∙ if-then_behind (is_eq (cmp x y)) q (behind cmp p k)
+  behind-append x q k = refl
 
   -- a test before a comparison of what is left
   if-then_same : (b : Bool) (j : List K) (o : Option (List K))
@@ -60,20 +59,18 @@ module _ {K : Type 0} (cmp : K → K → Ordering) where
 
   -- a key equals two parts joined where the second equals what is left behind the first
   pub same-append : (p j k : List K) → same_key cmp (p ++ j) k ≡ then_same j (behind cmp p k)
-  same-append [] j k = refl
-  same-append (x ∷ p) j [] = refl
   same-append (x ∷ p) j (y ∷ k) =
       ap (λ o. cond (is_eq (cmp x y)) o false) (same-append p j k) ∙ if-then_same (is_eq (cmp x y)) j (behind cmp p k)
+  same-append x j k = refl
 
   -- nothing is left of a key behind an equal one
   pub same-behind : (p k : List K) → same_key cmp p k ≡ true → behind cmp p k ≡ Some []
   same-behind [] [] h = refl
-  same-behind [] (y ∷ k) h = absurd (true≢false (sym h))
-  same-behind (x ∷ p) [] h = absurd (true≢false (sym h))
   same-behind (x ∷ p) (y ∷ k) h =
       let both = both-true (is_eq (cmp x y)) (same_key cmp p k) h in
       let rest = same-behind p k both.1 in
       λ i. cond (both.0 i) (rest i) None
+  same-behind x y h = absurd (true≢false (sym h))
 
   -- of a key that equals p joined with j, what is left behind p equals j
   pub left-behind : (p j k : List K) → same_key cmp (p ++ j) k ≡ true
@@ -108,18 +105,16 @@ module _ {K : Type 0} (cmp : K → K → Ordering) where
   -- equal keys are equal place by place
   same-places : (j k : List K) → same_key cmp j k ≡ true → AllZip (λ x y. cmp x y ≡ Equal) j k
   same-places [] [] h = tt
-  same-places [] (y ∷ k) h = absurd (true≢false (sym h))
-  same-places (x ∷ j) [] h = absurd (true≢false (sym h))
   same-places (x ∷ j) (y ∷ k) h =
       let both = both-true (is_eq (cmp x y)) (same_key cmp j k) h in
       ((Equal-is (cmp x y)).0 both.0, same-places j k both.1)
+  same-places x y h = absurd (true≢false (sym h))
 
   -- and the other way round
   places-same : (j k : List K) → AllZip (λ x y. cmp x y ≡ Equal) j k → same_key cmp j k ≡ true
   places-same [] [] h = refl
-  places-same [] (y ∷ k) h = absurd h
-  places-same (x ∷ j) [] h = absurd h
   places-same (x ∷ j) (y ∷ k) h = rw h.0 (places-same j k h.1)
+  places-same x y h = absurd h
 
   -- ---- the first place at which two keys differ
 
@@ -175,15 +170,14 @@ module _ {K : Type 0} (cmp : K → K → Ordering) where
 
     -- the same is left behind equal prefixes
     pub behind-same : (p q k : List K) → same_key cmp p q ≡ true → behind cmp p k ≡ behind cmp q k
-    behind-same [] [] k h = refl
     behind-same [] (y ∷ q) k h = absurd (true≢false (sym h))
     behind-same (x ∷ p) [] k h = absurd (true≢false (sym h))
-    behind-same (x ∷ p) (y ∷ q) [] h = refl
     behind-same (x ∷ p) (y ∷ q) (z ∷ k) h =
         let both = both-true (is_eq (cmp x y)) (same_key cmp p q) h in
         let first = o.congr x y z ((Equal-is (cmp x y)).0 both.0) in
         let rest = behind-same p q k both.1 in
         λ i. cond (is_eq (first i)) (rest i) None
+    behind-same x y k h = refl
 
     -- behind one test or its equal, what is left is equal
     if-left : (a b : Bool) (u v : Option (List K)) → a ≡ b → IsKept (λ j k. same_key cmp j k ≡ true) u v
@@ -196,13 +190,12 @@ module _ {K : Type 0} (cmp : K → K → Ordering) where
         → IsKept (λ j k. same_key cmp j k ≡ true) (behind cmp p j) (behind cmp p k)
     behind-of_same [] j k h = h
     behind-of_same (x ∷ p) [] [] h = tt
-    behind-of_same (x ∷ p) [] (z ∷ k) h = absurd (true≢false (sym h))
-    behind-of_same (x ∷ p) (y ∷ j) [] h = absurd (true≢false (sym h))
     behind-of_same (x ∷ p) (y ∷ j) (z ∷ k) h =
         let both = both-true (is_eq (cmp y z)) (same_key cmp j k) h in
         let first = ap is_eq (alike_right o y z x ((Equal-is (cmp y z)).0 both.0)) in
         if-left (is_eq (cmp x y)) (is_eq (cmp x z)) (behind cmp p j) (behind cmp p k) first
         (behind-of_same p j k both.1)
+    behind-of_same x y z h = absurd (true≢false (sym h))
 
     -- a key equals itself
     pub same-itself : (k : List K) → same_key cmp k k ≡ true

@@ -96,13 +96,12 @@ module _ {K V : Type 0} (cmp : K → K → Ordering) where
         → ((j k : List K) → same_key cmp j k ≡ true → f j ≡ f k)
         → (a b : Option (List K)) → IsKept (λ j k. same_key cmp j k ≡ true) a b
         → node_lookup v f a ≡ node_lookup v f b
-    node_lookup-of_same v f g None None h = refl
     node_lookup-of_same v f g None (Some k) h = absurd h
     node_lookup-of_same v f g (Some j) None h = absurd h
-    node_lookup-of_same v f g (Some []) (Some []) h = refl
     node_lookup-of_same v f g (Some []) (Some (y ∷ k)) h = absurd (true≢false (sym h))
     node_lookup-of_same v f g (Some (x ∷ j)) (Some []) h = absurd (true≢false (sym h))
     node_lookup-of_same v f g (Some (x ∷ j)) (Some (y ∷ k)) h = g (x ∷ j) (y ∷ k) h
+    node_lookup-of_same v f g x y h = refl
 
     -- a list of trees has one value at equal keys
     pub lookup_in-same : (f : Forest K V) (j k : List K) → same_key cmp j k ≡ true

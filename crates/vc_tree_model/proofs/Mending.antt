@@ -135,28 +135,25 @@ module _ {K V : Type 0} (cmp : K → K → Ordering) where
       → node_lookup w (lookup_in cmp more) (then_behind cmp q left)
       ≡ node_lookup None (lookup_in cmp (grow q w more bare)) left
   node_lookup-joined [] w more left a = absurd a
-  node_lookup-joined (y ∷ q) w more None a = refl
-  node_lookup-joined (y ∷ q) w more (Some []) a = refl
   node_lookup-joined (y ∷ q) w more (Some (z ∷ k)) a = sym (or_else-none _)
+  node_lookup-joined x w more y a = refl
 
   -- a node over children of an equal map has an equal map
   pub node_lookup-same : (v : Option V) (f g : List K → Option V) (left : Option (List K))
       → ((k : List K) → f k ≡ g k) → node_lookup v f left ≡ node_lookup v g left
-  node_lookup-same v f g None h = refl
-  node_lookup-same v f g (Some []) h = refl
   node_lookup-same v f g (Some (x ∷ rest)) h = h (x ∷ rest)
+  node_lookup-same v f g x h = refl
 
   -- a mended node binds what it bound
   pub lookup_in-mend : (p : List K) (v : Option V) (kids rest : Forest K V) (k : List K) → AreChildren cmp kids
       → lookup_in cmp (mend p v kids rest) k
       ≡ or_else (node_lookup v (lookup_in cmp kids) (behind cmp p k)) (lookup_in cmp rest k)
-  lookup_in-mend p (Some v) kids rest k a = refl
   lookup_in-mend p None bare rest k a = ap (λ m. or_else m (lookup_in cmp rest k)) (node_lookup-bare (behind cmp p k))
   lookup_in-mend p None (grow q w more bare) rest k a =
       ap (λ m. or_else m (lookup_in cmp rest k))
       (ap (node_lookup w (lookup_in cmp more)) (behind-append cmp p q k)
       ∙ node_lookup-joined q w more (behind cmp p k) a)
-  lookup_in-mend p None (grow q w more (grow r u most others)) rest k a = refl
+  lookup_in-mend p x kids rest k a = refl
 
   -- so do all of a list
   lookup_in-mended : (f : Forest K V) → AreOrdered cmp f → (k : List K)
@@ -174,12 +171,11 @@ module _ {K V : Type 0} (cmp : K → K → Ordering) where
   -- the mended whole binds what it bound
   pub lookup-mend_root : (p : List K) (v : Option V) (f : Forest K V) (k : List K) → AreChildren cmp f
       → lookup cmp (mend_root p v f) k ≡ lookup cmp (node p v f) k
-  lookup-mend_root p (Some v) f k a = refl
   lookup-mend_root p None bare k a = sym (node_lookup-bare (Some k)) ∙ node_lookup-bare (behind cmp p k)
   lookup-mend_root p None (grow q w more bare) k a =
       ap (node_lookup w (lookup_in cmp more)) (behind-append cmp p q k)
       ∙ node_lookup-joined q w more (behind cmp p k) a
-  lookup-mend_root p None (grow q w more (grow r u most others)) k a = refl
+  lookup-mend_root p x f k a = refl
 
   -- a mended tree binds what it bound
   pub lookup-mended : (t : Tree K V) → AreOrdered cmp t.children → (k : List K)

@@ -44,9 +44,8 @@ module _ {K V : Type 0} (cmp : K → K → Ordering) (matches : V → V → Type
   -- before something
   kept-else : (a b c : Option V) → IsKept matches a b → IsKept matches (or_else a c) (or_else b c)
   kept-else None None c h = kept-refl matches r c
-  kept-else None (Some w) c h = absurd h
-  kept-else (Some v) None c h = absurd h
   kept-else (Some v) (Some w) c h = h
+  kept-else x y c h = absurd h
 
   -- a command that was accepted
   after-equal : (c : Command K V) (m n : List K → Option V) → IsEqualMap matches m n
@@ -66,11 +65,7 @@ module _ {K V : Type 0} (cmp : K → K → Ordering) (matches : V → V → Type
   refused-equal (insert key v) m n h k = h k
   refused-equal (prepend p) m n h k = h k
   refused-equal (filter p) m n h k = h k
-  refused-equal (union t) m n h k = tt
-  refused-equal (intersection t) m n h k = tt
-  refused-equal (difference t) m n h k = tt
-  refused-equal (remove_prefix t) m n h k = tt
-  refused-equal (retain_prefix t) m n h k = tt
+  refused-equal x m n h k = tt
 
 module _ {V : Type 0} (is_clone : V → V → Type 0) where
   -- a copy of a copy
@@ -81,11 +76,10 @@ module _ {V : Type 0} (is_clone : V → V → Type 0) where
   of-source : (a b c : Option V) → IsKept (Copies is_clone) a b → IsKept (Copies is_clone) a c
       → IsKept (HaveOneSource is_clone) b c
   of-source None None None h g = tt
-  of-source None None (Some w) h g = absurd g
   of-source None (Some v) c h g = absurd h
   of-source (Some u) None c h g = absurd h
-  of-source (Some u) (Some v) None h g = absurd g
   of-source (Some u) (Some v) (Some w) h g = (u, h, g)
+  of-source x y z h g = absurd g
 
   -- the source of two values, of which both are copies
   abbrev source : (a b : Option V) → IsKept (HaveOneSource is_clone) a b → Option V
@@ -100,9 +94,8 @@ module _ {V : Type 0} (is_clone : V → V → Type 0) where
 
   source-right : (a b : Option V) (h : IsKept (HaveOneSource is_clone) a b) → IsKept (Copies is_clone) (source a b h) b
   source-right None None h = tt
-  source-right None (Some w) h = absurd h
-  source-right (Some v) None h = absurd h
   source-right (Some v) (Some w) h = h.2
+  source-right x y h = absurd h
 
 module _ {K V : Type 0} (cmp : K → K → Ordering) (is_clone : V → V → Type 0) where
   -- the map after a command, as it was accepted or refused
@@ -125,11 +118,10 @@ module _ {K V : Type 0} (cmp : K → K → Ordering) (is_clone : V → V → Typ
   run-copied s m n [] [] m' n' f g p q k =
       of-source is_clone (s k) (m' k) (n' k) (over is_clone (s k) (m k) (m' k) (f k) (p k))
       (over is_clone (s k) (n k) (n' k) (g k) (q k))
-  run-copied s m n [] (ok ∷ oks) m' n' f g p q k = absurd p
-  run-copied s m n (c ∷ cs) [] m' n' f g p q k = absurd p
   run-copied s m n (c ∷ cs) (ok ∷ oks) m' n' f g p q k =
       run-copied (ended c ok s) p.0 q.0 cs oks m' n' (step-copied s m p.0 c ok f p.1) (step-copied s n q.0 c ok g q.1)
       p.2 q.2 k
+  run-copied s m n x y m' n' f g p q k = absurd p
 
   -- from maps whose values have one source a list of commands, accepted alike, leads to such maps
   pub run-is_function : RunIsFunction K V cmp is_clone

@@ -25,10 +25,9 @@ use Rattle.vc_tree_model.proofs.Walking.{Ascend, ascend-prepended, lists-prepend
 module _ {K : Type 0} (cmp : K → K → Ordering) (o : IsTotalOrder cmp) where
   -- both of two equal rests are there, or neither
   starts-kept : (a b : Option (List K)) → IsKept (λ j k. same_key cmp j k ≡ true) a b → is_some a ≡ is_some b
-  starts-kept None None h = refl
-  starts-kept (Some j) (Some k) h = refl
   starts-kept None (Some k) h = absurd h
   starts-kept (Some j) None h = absurd h
+  starts-kept x y h = refl
 
   -- of two equal keys both start with a prefix, or neither
   starts-same : (p j k : List K) → same_key cmp j k ≡ true

@@ -15,8 +15,7 @@ module _ {V : Type 0} (matches : V → V → Type 0) where
   pub kept-flip : (a b : Option V) → IsKept matches a b → IsKept (λ v w. matches w v) b a
   kept-flip None None h = tt
   kept-flip (Some v) (Some w) h = h
-  kept-flip None (Some w) h = absurd h
-  kept-flip (Some v) None h = absurd h
+  kept-flip x y h = absurd h
 
   -- each value keeps itself where the relation says so
   pub kept-refl : ((v : V) → matches v v) → (o : Option V) → IsKept matches o o
@@ -29,16 +28,14 @@ module _ {V : Type 0} (matches : V → V → Type 0) where
   kept-trans t None None c h k = k
   kept-trans t (Some u) (Some v) (Some w) h k = t u v w h k
   kept-trans t (Some u) (Some v) None h k = absurd k
-  kept-trans t None (Some v) c h k = absurd h
-  kept-trans t (Some u) None c h k = absurd h
+  kept-trans t x y c h k = absurd h
 
   -- the first of two matches the first of two
   pub kept-else : (a b c d : Option V) → IsKept matches a b → IsKept matches c d
       → IsKept matches (or_else a c) (or_else b d)
   kept-else None None c d h k = k
   kept-else (Some v) (Some w) c d h k = h
-  kept-else None (Some w) c d h k = absurd h
-  kept-else (Some v) None c d h k = absurd h
+  kept-else x y c d h k = absurd h
 
   -- where the right one is there, so is the left one
   pub bound-left : (a b : Option V) (w : V) → IsKept matches a b → b ≡ Some w → (v : V) × (a ≡ Some v)
