@@ -21,8 +21,7 @@ use std::default::MadeWith;
 use vc_merge::merge::Count;
 use vc_merge::plan::{Plan, comparisons, most_comparisons};
 
-/// How many elements a block takes of both lists, but for the second one of a last collision. A
-/// block of a union has so many events.
+/// How many events a block has at most.
 const BLOCK: usize = 32;
 
 /// What a block counts that is nearly of one list alone. Each other block takes one off.
@@ -298,8 +297,7 @@ fn room_for_some<T: MadeWith<A> + Drop, const N: usize, A: Allocator + Copy>(
     Ok(BLOCK.min(built.capacity() - built.len()))
 }
 
-/// Puts what is kept of the first events into `kept`: of those that take `BLOCK` elements, or of
-/// all until a list is used up.
+/// Puts what is kept of the first `BLOCK` events into `kept`, or of all until a list is used up.
 #[inline(always)]
 fn choose<'a, const LEFT: bool, const RIGHT: bool, const BOTH: bool, T: Ord, C: Count>(
     a: &'a [T],
@@ -324,7 +322,8 @@ fn choose<'a, const LEFT: bool, const RIGHT: bool, const BOTH: bool, T: Ord, C: 
     let mut count = 0;
     let mut left = 0;
     let mut right = 0;
-    'events: while left < a.len() && right < b.len() && left + right < BLOCK {
+    let mut taken = 0;
+    'events: while left < a.len() && right < b.len() && taken < BLOCK {
         let x = &a[left];
         let y = &b[right];
         let order = compare(x, y, steps);
@@ -332,6 +331,7 @@ fn choose<'a, const LEFT: bool, const RIGHT: bool, const BOTH: bool, T: Ord, C: 
         count += usize::from(is_kept::<LEFT, RIGHT, BOTH>(order));
         left += usize::from(order.is_le());
         right += usize::from(order.is_ge());
+        taken += 1;
     }
     Chosen { count, left, right }
 }

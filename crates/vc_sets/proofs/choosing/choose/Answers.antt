@@ -12,10 +12,9 @@ events-init g c = record {
   within_right = omega arith;
   places = search rules;
   room = omega arith;
+  within = omega arith;
   some = omega arith;
-  few = omega arith;
   counted = omega arith;
-  block = omega arith;
   begun = begun-nothing g.T.Ord.cmp g.met.T.Ord.total (keeps_by g.row.LEFT g.row.RIGHT g.row.BOTH) (λ x y. x ≡ y)
       c.args.a.now c.args.b.now [] c.requires.a_ascends c.requires.b_ascends;
 }
@@ -30,20 +29,19 @@ events-preserved g c =
     let one_left = bit-most (is_le o) in let one_right = bit-most (is_ge o) in let one = bit-most (kept_at f o) in
     let some = event-some o in
     let was = c.events.invariant in let in_left = c.events-test.true in let in_right = c.if-right-b.true in
-    let in_kept = c.if-left-right-lt-BLOCK.true in let ticks = c.compare-order.ensures.ticks in
+    let in_block = c.if-taken-lt-BLOCK.true in let ticks = c.compare-order.ensures.ticks in
     record {
       within_left = omega (arith, left, one_left, in_left);
       within_right = omega (arith, right, one_right, in_right);
       places = length-set c.events.kept c.events.count c.lesser.result ∙ was.places;
-      room = omega (arith, count, one, in_kept, was.some);
-      some = omega (arith, left, right, count, one, some, was.some);
-      few = omega (arith, left, right, one_left, one_right, in_kept);
-      counted = omega (arith, left, right, some, was.counted, ticks);
-      block = omega (arith, was.counted, in_kept, ticks);
+      room = omega (arith, count, one, was.room);
+      within = omega (arith, in_block);
+      some = omega (arith, left, right, some, was.some);
+      counted = omega (arith, was.counted, ticks);
       begun = begun-step g.T.Ord.cmp g.met.T.Ord.total f (λ x y. x ≡ y) c.args.a.now c.args.b.now []
           _ _ c.events.left c.events.right _ _ x y o in_left in_right c.index-a-left.is c.index-b-right.is
           c.compare-order.ensures.value (ap (λ n. c.events.left + n) left) (ap (λ n. c.events.right + n) right)
           (appends-event g.T.Ord.cmp g.met.T.Ord.total f x y _ _ o
           (kept-more c.events.kept c.events.count _ c.lesser.result (lesser_of o x y) (kept_at f o)
-          (omega (arith, was.places, in_kept, was.some)) c.lesser.ensures (ap (λ n. c.events.count + n) count))) was.begun;
+          (omega (arith, was.places, in_block, was.room)) c.lesser.ensures (ap (λ n. c.events.count + n) count))) was.begun;
     }

@@ -8,14 +8,13 @@ invariant-events g l = record {
   within_left : l.left ≤ length l.a;
   within_right : l.right ≤ length l.b;
   places : length l.kept ≡ 32;
-  room : l.count ≤ 32;
-  some : l.count ≤ l.left + l.right;
-  few : l.left + l.right ≤ 64;
-  counted : g.C.Count.counted l.steps ≤ g.C.Count.counted l.fn.steps + (l.left + l.right);
-  block : g.C.Count.counted l.steps ≤ g.C.Count.counted l.fn.steps + 32;
+  room : l.count ≤ l.taken;
+  within : l.taken ≤ 32;
+  some : l.taken ≤ l.left + l.right;
+  counted : g.C.Count.counted l.steps ≤ g.C.Count.counted l.fn.steps + l.taken;
   begun : IsBegun g.T.Ord.cmp (λ x y. x ≡ y) (keeps_by g.row.LEFT g.row.RIGHT g.row.BOTH)
       l.a l.b (drop l.left l.a) (drop l.right l.b) [] (map (λ p. p.now) (take l.count l.kept));
 }
 
 abbrev pub decreases-events : goal.decreases-events
-decreases-events g l = (length l.a - l.left) + (length l.b - l.right)
+decreases-events g l = 32 - l.taken
