@@ -5,17 +5,16 @@ use Rattle.vc_tree_model.specs.Tree.{Tree, Forest}
 use Rattle.vc_tree_model.specs.Child.{solid_child}
 use Rattle.vc_tree_model.specs.Canonical.{IsCanonical}
 use Rattle.vc_tree_facing.specs.Facing.{IsFaced}
-use Rattle.vc_tree_facing.specs.declared.sides.Side.{Side}
 
 -- the trees t and u lie side by side, part at n, and nothing is made yet of what stands below. It was compared at most as often as the
--- common prefix and the lists below pay
+-- common prefix pays
 pub record IsBegun {K V W U A B : Type 0} (cmp : K → K → Ordering) (ta : A → Tree K V) (tb : B → Tree K W) (t : Tree K V) (u : Tree K W)
-    (n : ℕ) (xs : List A) (i : ℕ) (ys : List B) (j : ℕ) (sides : List Side) (made : List (Tree K U)) (before after : ℕ) : Type 0 where
+    (n : ℕ) (xs : List A) (i : ℕ) (ys : List B) (j : ℕ) (made : List (Tree K U)) (before after : ℕ) : Type 0 where
   pub left_canonical : IsCanonical cmp t
   pub right_canonical : IsCanonical cmp u
-  pub faced : IsFaced cmp ta tb t u n xs i ys j sides
+  pub faced : IsFaced cmp ta tb t u n xs i ys j
   pub none_made : made ≡ []
-  pub paid : after ≤ before + min (length t.prefix) (length u.prefix) + length xs + length ys
+  pub paid : after ≤ before + min (length t.prefix) (length u.prefix)
 
 -- a child of this prefix, of a value that is as R says, and of these children
 pub record IsEnded {K V : Type 0} (R : Option V → Type 0) (prefix : List K) (kids : Forest K V) (o : Option (Tree K V)) : Type 0 where

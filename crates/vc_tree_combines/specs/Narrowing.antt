@@ -1,5 +1,5 @@
 -- What a combine into which nothing comes of the right tree alone makes. No public clause cites these words.
-use Rattle.std.specs.Prelude.{◌≡◌, ℕ, List, ◌∷◌, Option, Some, None, is_some, ⊤}
+use Rattle.std.specs.Prelude.{ℕ, Option, Some, None, is_some, ⊤}
 use Rattle.std.specs.declared.cmp.Ordering.{Ordering}
 use Rattle.vc_tree_model.specs.Look.{values}
 use Rattle.vc_tree_model.specs.Tree.{Tree, Forest, shortened}

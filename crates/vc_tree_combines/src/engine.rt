@@ -17,9 +17,9 @@ ghost use Rattle.vc_tree_combines.specs.Ended.{IsBegun, IsEnded};
 
 use std::alloc::{AllocError, Global};
 use vc_merge::merge::Count;
-use vc_tree_facing::facing::{Below, Facing, face};
+use vc_tree_facing::facing::{Below, Facing, count_below, face, side_below};
 use vc_tree_facing::nodes::{finish, value_at};
-use vc_tree_facing::sides::{Side, Sides};
+use vc_tree_facing::sides::Side;
 use vc_tree_nodes::building::{Build, Seal};
 use vc_tree_nodes::reading::{RadixNode, TKey, TValue, canonical};
 
@@ -74,6 +74,7 @@ pub trait Combine<K: TKey, V: TValue, W: TValue, A: RadixNode<K, V>, B: RadixNod
 }
 
 /// Adds a tree, if there is one.
+#[inline(always)]
 pub fn keep<K: TKey, V: TValue, M: Build<K, V>>(
     kids: &mut Vec<M>,
     kid: Option<M>,
@@ -160,14 +161,12 @@ struct Begun<'a, 'b, A, B, M> {
     left: Below<'a, A>,
     /// What stands below them in the right tree.
     right: Below<'b, B>,
-    /// The events of what stands below.
-    sides: Sides,
-    /// The trees that are made of them, with room for all.
+    /// The trees that are made of what stands below.
     kids: Vec<M>,
 }
 
-/// Lays two trees side by side, each without the front of its prefix, and makes room for what comes
-/// of them.
+/// Lays two trees side by side, each without the front of its prefix, and makes room for as many
+/// trees as stand on the longer side.
 fn begin<
     'a,
     'b,
@@ -192,23 +191,17 @@ fn begin<
     requires known { Agree K.cmp (drop i (A.tree a.now).prefix) (drop j (B.tree b.now).prefix) known }
     ensures begun { IfOk result (λ s. IsBegun K.cmp A.tree B.tree (shortened i (A.tree a.now))
         (shortened j (B.tree b.now)) s.front (trees_below s.left) s.left.from (trees_below s.right)
-        s.right.from s.sides.items (map O.Made.tree s.kids.items) (C.counted steps.old)
-        (C.counted steps.new)) }
+        s.right.from (map O.Made.tree s.kids.items) (C.counted steps.old) (C.counted steps.new)) }
     ensures counted { C.counted steps.new ≤ C.counted steps.old
         + weight (shortened i (A.tree a.now)) + weight (shortened j (B.tree b.now)) }
 {
-    let Facing {
-        front,
-        left,
-        right,
-        sides,
-    } = face(alloc, a, i, b, j, known, steps)?;
-    let kids = Vec::with_capacity(alloc, sides.len())?;
+    let Facing { front, left, right } = face(a, i, b, j, known, steps);
+    let room = count_below(&left).max(count_below(&right));
+    let kids = Vec::with_capacity(alloc, room)?;
     Ok(Begun {
         front,
         left,
         right,
-        sides,
         kids,
     })
 }
@@ -248,12 +241,10 @@ pub fn combine_at<
         front,
         mut left,
         mut right,
-        sides,
         mut kids,
     } = begin::<K, V, W, A, B, O, C>(alloc, a, i, b, j, known, steps)?;
     let (from, other_from) = (left.from, right.from);
-    let mut todo = sides.as_slice();
-    while let Some((side, others)) = todo.split_first() {
+    while let Some(side) = side_below(&left, &right, steps) {
         match side {
             Side::Left => {
                 let kid = op.left_alone(alloc, left.next(), from)?;
@@ -269,7 +260,6 @@ pub fn combine_at<
                 keep(&mut kids, kid)?;
             }
         }
-        todo = others;
     }
     let made = end(alloc, a, i, b, j, front, op, kids)?;
     Ok(made)

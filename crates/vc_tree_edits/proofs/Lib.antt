@@ -5,3 +5,4 @@ pub mod Sifting
 pub mod Prepended
 pub mod Meeting
 pub mod Placed
+pub mod Counting

@@ -7,24 +7,25 @@
 --     room-there, room_come, room_kept        each tree that is put there finds its place
 --     falls-below        two trees that meet have fewer nodes than those that they stand below
 --     finished-children, finished        what was built is canonical children, and the node of it is what the change says
-use Rattle.std.proofs.Common.{◌≡◌, Bool, true, false, cond, ℕ, ◌+◌, ◌<◌, ◌≤◌, [], ◌∷◌, ◌++◌, List, Option, None, Some}
+use Rattle.std.proofs.Common.{◌≡◌, ℕ, ◌+◌, ◌-◌, ◌*◌, ◌<◌, ◌≤◌, [], ◌∷◌, ◌++◌, List, Option, None, Some}
 use Rattle.std.proofs.Common.{option_map, refl, sym, ap, subst, ◌∙◌, map, drop, take, length, arith}
-use Rattle.std.proofs.lemmas.List.{take-append-drop}
 use Rattle.std.specs.Cmp.{IsTotalOrder}
 use Rattle.std.specs.List.{cons_option}
 use Rattle.std.specs.declared.cmp.Ordering.{Ordering}
 use Rattle.vc_builder.specs.Builder.{Builder, builder}
+use Rattle.vc_merge.specs.Script.{Event, IsScript}
 use Rattle.vc_tree_model.specs.Canonical.{AreChildren, IsCanonical}
 use Rattle.vc_tree_model.specs.Child.{solid_child, value_at}
 use Rattle.vc_tree_model.specs.Map.{lookup}
+use Rattle.vc_tree_model.specs.Shortened.{weight}
 use Rattle.vc_tree_model.specs.Tree.{Tree, forest, nodes, shortened}
 use Rattle.vc_tree_model.specs.Value.{IsKept}
 use Rattle.vc_tree_model.proofs.AlikeLemmas.{tree-alike_canonical}
-use Rattle.vc_tree_model.proofs.Joining.{value-asked}
 use Rattle.vc_tree_model.specs.Look.{Look}
-use Rattle.vc_tree_facing.specs.Facing.{shortened_in, IsFaced}
+use Rattle.vc_tree_facing.specs.Facing.{shortened_in}
 use Rattle.vc_tree_facing.specs.Made.{IsBothMadeBy}
 use Rattle.vc_tree_facing.specs.Doing.{IsDoing}
+use Rattle.vc_tree_facing.specs.Sides.{by_component, side_of}
 use Rattle.vc_tree_facing.specs.declared.sides.Side.{Side}
 use Rattle.vc_tree_facing.specs.declared.sides.Side.TheVariants.{Left, Right, Both}
 use Rattle.vc_tree_facing.proofs.Doing.{doing-left, doing-right, doing-both}
@@ -45,38 +46,31 @@ pushed tree (y ∷ xs) kid = ap (λ l. tree y ∷ l) (pushed tree xs kid)
 module _ {K V W O T B : Type 0} {cmp : K → K → Ordering} {tree : T → Tree K V} {tb : B → Tree K W} {i j : ℕ} {l : Look cmp W O}
     {R : Option V → O → Option V → Type 0} {asks : Option V → O → Type 0} {xs : List T} {ys : List B} {rs : List B}
     {all others : List Side} where
-  pub after-left : {b b' : Builder T}
-      → (budget : ℕ) × IsDoing cmp tree tb i j l R asks xs ys b.rest rs all (map tree b.built) 0 budget
+  pub after-left : {b b' : Builder T} {budget : ℕ} → IsDoing cmp tree tb i j l R asks xs ys b.rest rs all (map tree b.built) 0 budget
       → IsStayed cmp tree tb l R i b b' → all ≡ Left ∷ others
-      → (budget : ℕ) × IsDoing cmp tree tb i j l R asks xs ys b'.rest rs others (map tree b'.built) 0 budget
-  after-left {b} d w z = (
-    d.0,
-    doing-left d.1
-        (ap (map tree) (w.added.built ∙ ap (λ k. k ++ cons_option w.kid []) w.next.built) ∙ pushed tree b.built w.kid)
-        z (w.next.rest ∙ ap (λ k. w.first ∷ k) (sym w.added.rest)) w.made,
-  )
+      → IsDoing cmp tree tb i j l R asks xs ys b'.rest rs others (map tree b'.built) 0 budget
+  after-left {b} d w z =
+      doing-left d
+      (ap (map tree) (w.added.built ∙ ap (λ k. k ++ cons_option w.kid []) w.next.built) ∙ pushed tree b.built w.kid)
+      z (w.next.rest ∙ ap (λ k. w.first ∷ k) (sym w.added.rest)) w.made
 
-  pub after-right : {b b' : Builder T} {rs' : List B}
-      → (budget : ℕ) × IsDoing cmp tree tb i j l R asks xs ys b.rest rs all (map tree b.built) 0 budget
+  pub after-right : {b b' : Builder T} {rs' : List B} {budget : ℕ}
+      → IsDoing cmp tree tb i j l R asks xs ys b.rest rs all (map tree b.built) 0 budget
       → IsCome cmp tree tb l R j rs rs' b b' → all ≡ Right ∷ others
-      → (budget : ℕ) × IsDoing cmp tree tb i j l R asks xs ys b'.rest rs' others (map tree b'.built) 0 budget
-  after-right {b} {b'} {rs'} d w z = (
-    d.0,
-    subst (λ ls. IsDoing cmp tree tb i j l R asks xs ys ls rs' others (map tree b'.built) 0 d.0) (sym w.added.rest)
-        (doing-right d.1 (ap (map tree) w.added.built ∙ pushed tree b.built w.kid) z w.next w.made),
-  )
+      → IsDoing cmp tree tb i j l R asks xs ys b'.rest rs' others (map tree b'.built) 0 budget
+  after-right {b} {b'} {rs'} {budget} d w z =
+      subst (λ ls. IsDoing cmp tree tb i j l R asks xs ys ls rs' others (map tree b'.built) 0 budget) (sym w.added.rest)
+      (doing-right d (ap (map tree) w.added.built ∙ pushed tree b.built w.kid) z w.next w.made)
 
-  pub after-both : {b b' b'' : Builder T} {rs' : List B} {x : T} {y : B} {kid : Option T}
-      → (budget : ℕ) × IsDoing cmp tree tb i j l R asks xs ys b.rest rs all (map tree b.built) 0 budget
+  pub after-both : {b b' b'' : Builder T} {rs' : List B} {x : T} {y : B} {kid : Option T} {budget : ℕ}
+      → IsDoing cmp tree tb i j l R asks xs ys b.rest rs all (map tree b.built) 0 budget
       → IsNext b x b' → IsAdded b' kid b'' → rs ≡ y ∷ rs' → all ≡ Both ∷ others
       → IsBothMadeBy cmp l R (shortened i (tree x)) (shortened j (tb y)) (option_map tree kid)
-      → (budget : ℕ) × IsDoing cmp tree tb i j l R asks xs ys b''.rest rs' others (map tree b''.built) 0 budget
-  after-both {b} {x = x} {kid = kid} d next added e z w = (
-    d.0,
-    doing-both d.1
-        (ap (map tree) (added.built ∙ ap (λ k. k ++ cons_option kid []) next.built) ∙ pushed tree b.built kid)
-        {spent' = 0} z (next.rest ∙ ap (λ k. x ∷ k) (sym added.rest)) e w (omega arith),
-  )
+      → IsDoing cmp tree tb i j l R asks xs ys b''.rest rs' others (map tree b''.built) 0 budget
+  after-both {b} {x = x} {kid = kid} d next added e z w =
+      doing-both d
+      (ap (map tree) (added.built ∙ ap (λ k. k ++ cons_option kid []) next.built) ∙ pushed tree b.built kid)
+      {spent' = 0} z (next.rest ∙ ap (λ k. x ∷ k) (sym added.rest)) e w (omega arith)
 
 -- there is room for a tree at each event of the right side alone that is left
 fewer : (s : Side) (others : List Side) → arrivals_of others ≤ arrivals_of (s ∷ others)
@@ -125,8 +119,8 @@ room_kept b b' x kid next =
 -- ---- the parts of a tree, beside another one
 
 module _ {K V W O T B : Type 0} {cmp : K → K → Ordering} {tree : T → Tree K V} {tb : B → Tree K W} {keeps : V → V → Type 0}
-    {t : Tree K V} {u : Tree K W} {n : ℕ} {ys : List B} {j : ℕ} {sides : List Side} {front : List K} {value : Option V}
-    {xs : List T} {i : ℕ} (h : IsTaken tree keeps t n front value xs i) (m : IsMet tree cmp tb t u n ys j sides)
+    {t : Tree K V} {u : Tree K W} {n : ℕ} {ys : List B} {j : ℕ} {front : List K} {value : Option V} {xs : List T} {i : ℕ}
+    (h : IsTaken tree keeps t n front value xs i) (m : IsMet tree cmp tb t u n ys j)
     (o : IsTotalOrder cmp) (l : Look cmp W O) (P : Option V → O → Type 0)
     (kept : (v w : Option V) (z : O) → IsKept keeps v w → P v z → P w z)
     (a : (k : List K) → P (lookup cmp t k) (l.of_tree u k)) where
@@ -139,51 +133,58 @@ module _ {K V W O T B : Type 0} {cmp : K → K → Ordering} {tree : T → Tree 
       → IsCanonical cmp t → IsCanonical cmp u → asks None l.none
       → ((v : Option V) (z : O) → P v (l.under (value_at u (drop n u.prefix)) z) → asks v z)
       → ((v : Option V) (z : O) (y : Option V) → R v z y → says v (l.under (value_at u (drop n u.prefix)) z) y)
-      → says value (l.at (value_at u (drop n u.prefix))) made → (extra : ℕ) → row ≡ builder [] xs extra
-      → arrivals_of sides ≤ extra → IsBegun cmp tree tb l keeps says R asks t u front made row i ys j sides
-  begun {says} {R} {asks} ct cu an lead down said extra r fits =
+      → says value (l.at (value_at u (drop n u.prefix))) made → {extra : ℕ} → row ≡ builder [] xs extra
+      → ((es : List (Event T B)) → IsScript (by_component tree tb i j cmp) xs ys es
+      → arrivals_of (map (λ e. side_of e) es) ≤ row.room)
+      → IsBegun cmp tree tb l keeps says R asks t u front made row i ys j
+  begun {says} {R} {asks} {made} {row} ct cu an lead down said {extra} r fits =
       let faced = faced-taken h m in
       let c = tree-alike_canonical keeps cmp t h.taken h.alike ct in
-      rw r (record {
+      let start = combine-started faced o l R asks an P lead (asked-taken h m l P kept a) c cu {made = []} refl 0 (omega arith) in
+      record {
         length_front = n;
         value = value;
         met = m;
-        taken = h;
+        taken = subst (λ zs. IsTaken tree keeps t n front value zs i) (sym (ap (λ b. b.rest) r)) h;
         left_canonical = ct;
         right_canonical = cu;
         said = said;
         said_below = down;
-        left = left-children faced c;
+        left = subst (λ zs. AreChildren cmp (shortened_in tree i zs)) (sym (ap (λ b. b.rest) r)) (left-children faced c);
         right = right-children faced cu;
-        doing = (_, combine-started faced o l R asks an P lead (asked-taken h m l P kept a) c cu refl 0 (omega arith));
-        room = fits;
-      })
+        todo = map (λ e. side_of e) start.0;
+        budget = _;
+        doing =
+            subst (λ b. IsDoing cmp tree tb i j l R asks b.rest ys b.rest ys (map (λ e. side_of e) start.0) (map tree b.built) 0
+            (0 + 3 * (weight h.taken + weight u) - 2)) (sym r) start.2;
+        room = fits start.0 start.1;
+      }
 
 -- ---- a change that has begun
 
 module _ {K V W O T B : Type 0} {cmp : K → K → Ordering} {tree : T → Tree K V} {tb : B → Tree K W} {keeps : V → V → Type 0}
     {l : Look cmp W O} {says R : Option V → O → Option V → Type 0} {asks : Option V → O → Type 0} {t : Tree K V} {u : Tree K W}
-    {front : List K} {made : Option V} {row : Builder T} {i : ℕ} {ys : List B} {j : ℕ} {sides : List Side}
-    (s : IsBegun cmp tree tb l keeps says R asks t u front made row i ys j sides) where
+    {front : List K} {made : Option V} {row : Builder T} {i : ℕ} {ys : List B} {j : ℕ}
+    (s : IsBegun cmp tree tb l keeps says R asks t u front made row i ys j) where
   -- two trees that meet have fewer nodes than those that they stand below
-  pub falls-below : {b b' : Builder T} {rs rs' : List B} {all others : List Side} {x : T} {y : B}
-      → (budget : ℕ) × IsDoing cmp tree tb i j l R asks row.rest ys b.rest rs all (map tree b.built) 0 budget
+  pub falls-below : {b b' : Builder T} {rs rs' : List B} {all others : List Side} {x : T} {y : B} {budget : ℕ}
+      → IsDoing cmp tree tb i j l R asks row.rest ys b.rest rs all (map tree b.built) 0 budget
       → IsNext b x b' → rs ≡ y ∷ rs' → all ≡ Both ∷ others → nodes (tree x) + nodes (tb y) < nodes t + nodes u
   falls-below d next e z =
       let faced = faced-taken s.taken s.met in
       let same = taken-nodes s.taken s.met in
-      let down = falls d.1 z next.rest e faced.left faced.right faced.parts in
+      let down = falls d z next.rest e faced.left faced.right faced.parts in
       omega (arith, same, down)
 
-  module _ (o : IsTotalOrder cmp) (none : R None l.none None) (b : Builder T) {rs : List B} {todo : List Side}
-      (d : (budget : ℕ) × IsDoing cmp tree tb i j l R asks row.rest ys b.rest rs todo (map tree b.built) 0 budget)
+  module _ (o : IsTotalOrder cmp) (none : R None l.none None) (b : Builder T) {rs : List B} {todo : List Side} {budget : ℕ}
+      (d : IsDoing cmp tree tb i j l R asks row.rest ys b.rest rs todo (map tree b.built) 0 budget)
       (stop : todo ≡ []) where
     canonical : IsCanonical cmp s.taken.taken
     canonical = tree-alike_canonical keeps cmp t s.taken.taken s.taken.alike s.left_canonical
 
     -- what was built is canonical children
     pub finished-children : AreChildren cmp (forest (map tree b.built))
-    finished-children = made-children (faced-taken s.taken s.met) d.1 stop o none canonical s.right_canonical
+    finished-children = made-children (faced-taken s.taken s.met) d stop o none canonical s.right_canonical
 
     -- the node of what was built is what the change says of the tree
     pub finished : says None l.none None
@@ -191,7 +192,7 @@ module _ {K V W O T B : Type 0} {cmp : K → K → Ordering} {tree : T → Tree 
         → {out : Option (Tree K V)} → out ≡ solid_child front made (forest (map tree b.built)) → IsBothMadeBy cmp l says t u out
     finished nothing kept g =
         made-taken s.taken s.met l kept
-        (combined (faced-taken s.taken s.met) d.1 stop o none canonical s.right_canonical says nothing s.said_below made
+        (combined (faced-taken s.taken s.met) d stop o none canonical s.right_canonical says nothing s.said_below made
         (subst (λ v. says v (l.at (value_at u (drop s.length_front u.prefix))) made) s.taken.value_is s.said)
         (s.taken.front_is ∙ ap (take s.length_front) s.taken.alike.0) g)
 

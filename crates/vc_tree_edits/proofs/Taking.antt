@@ -33,8 +33,8 @@ module _ {K V T : Type 0} (tree : T → Tree K V) (keeps : V → V → Type 0) (
   length-rest = length-drop {A = K} n (drop i (tree x).prefix) ∙ ap (λ k. k - n) length-of
 
   -- where the prefix goes on, the tree itself stands below
-  pub taken-rest : i + n < length whole → (zs : List T) → zs ≡ []
-      → IsTaken tree keeps (shortened i (tree x)) n front None (x ∷ zs) (i + n)
+  pub taken-rest : i + n < length whole → (zs : List T) → zs ≡ x ∷ []
+      → IsTaken tree keeps (shortened i (tree x)) n front None zs (i + n)
   taken-rest h zs z =
       let l = length-of in
       let r = length-rest in

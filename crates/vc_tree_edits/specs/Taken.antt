@@ -3,6 +3,7 @@ use Rattle.std.specs.Prelude.{◌≡◌, ℕ, ◌+◌, ◌<◌, ◌≤◌, List,
 use Rattle.std.specs.List.{cons_option}
 use Rattle.std.specs.declared.cmp.Ordering.{Ordering}
 use Rattle.vc_builder.specs.Builder.{Builder}
+use Rattle.vc_merge.specs.Script.{Event, lefts, rights}
 use Rattle.vc_tree_model.specs.Canonical.{AreChildren, IsCanonical}
 use Rattle.vc_tree_model.specs.Tree.{Tree, shortened}
 use Rattle.vc_tree_model.specs.Look.{Look}
@@ -11,16 +12,17 @@ use Rattle.vc_tree_model.specs.Child.{value_at}
 use Rattle.vc_tree_facing.specs.Facing.{shortened_in, IsOpened, IsFaced}
 use Rattle.vc_tree_facing.specs.Made.{IsMade, IsMadeBy}
 use Rattle.vc_tree_facing.specs.Doing.{IsDoing}
+use Rattle.vc_tree_facing.specs.Sides.{side_of}
 use Rattle.vc_tree_facing.specs.declared.sides.Side.{Side}
 use Rattle.vc_tree_facing.specs.declared.sides.Side.TheVariants.{Left, Right, Both}
 
 module _ {K V T : Type 0} (tree : T → Tree K V) where
   -- some trees stood below the front of the left one
   pub record IsMet {W B : Type 0} (cmp : K → K → Ordering) (tb : B → Tree K W) (t : Tree K V) (u : Tree K W) (n : ℕ)
-      (ys : List B) (j : ℕ) (sides : List Side) : Type 0 where
+      (ys : List B) (j : ℕ) : Type 0 where
     pub below : List T
     pub from : ℕ
-    pub faced : IsFaced cmp tree tb t u n below from ys j sides
+    pub faced : IsFaced cmp tree tb t u n below from ys j
 
   -- the parts of a tree that is alike to t: the front of its prefix, the value there, and what stands below
   pub record IsTaken (keeps : V → V → Type 0) (t : Tree K V) (n : ℕ) (front : List K) (value : Option V) (list : List T) (from : ℕ) : Type 0 where
@@ -50,15 +52,24 @@ arrivals_of (Left ∷ sides) = arrivals_of sides
 arrivals_of (Right ∷ sides) = 1 + arrivals_of sides
 arrivals_of (Both ∷ sides) = arrivals_of sides
 
+-- of some events these are left, with the trees ls and rs; and those of the right side that were not counted off are the trees rs and
+-- those that came in
+pub record IsCounted {A B : Type 0} (es : List (Event A B)) (ls : List A) (rs : List B) (many : ℕ) : Type 0 where
+  pub done : List (Event A B)
+  pub rest : List (Event A B)
+  pub all : es ≡ done ++ rest
+  pub left : ls ≡ lefts rest
+  pub right : rs ≡ rights rest
+  pub counted : many + arrivals_of (map (λ e. side_of e) rest) ≡ arrivals_of (map (λ e. side_of e) es) + length rs
+
 module _ {K V W O T B : Type 0} (cmp : K → K → Ordering) (tree : T → Tree K V) (tb : B → Tree K W) (l : Look cmp W O) where
   -- t, taken apart beside u: its values at the fronts have become `made`, no event is done yet, and there is room for a tree at each
   -- event of the right side alone
   pub record IsBegun (keeps : V → V → Type 0) (says below : Option V → O → Option V → Type 0) (asks : Option V → O → Type 0)
-      (t : Tree K V) (u : Tree K W) (front : List K) (made : Option V) (row : Builder T) (i : ℕ) (ys : List B) (j : ℕ)
-      (sides : List Side) : Type 0 where
+      (t : Tree K V) (u : Tree K W) (front : List K) (made : Option V) (row : Builder T) (i : ℕ) (ys : List B) (j : ℕ) : Type 0 where
     pub length_front : ℕ
     pub value : Option V
-    pub met : IsMet tree cmp tb t u length_front ys j sides
+    pub met : IsMet tree cmp tb t u length_front ys j
     pub taken : IsTaken tree keeps t length_front front value row.rest i
     pub left_canonical : IsCanonical cmp t
     pub right_canonical : IsCanonical cmp u
@@ -67,8 +78,10 @@ module _ {K V W O T B : Type 0} (cmp : K → K → Ordering) (tree : T → Tree 
         → says v (l.under (value_at u (drop length_front u.prefix)) w) z
     pub left : AreChildren cmp (shortened_in tree i row.rest)
     pub right : AreChildren cmp (shortened_in tb j ys)
-    pub doing : (budget : ℕ) × IsDoing cmp tree tb i j l below asks row.rest ys row.rest ys sides (map tree row.built) 0 budget
-    pub room : arrivals_of sides ≤ row.room
+    pub todo : List Side
+    pub budget : ℕ
+    pub doing : IsDoing cmp tree tb i j l below asks row.rest ys row.rest ys todo (map tree row.built) 0 budget
+    pub room : arrivals_of todo ≤ row.room
 
   -- the first tree that is left was taken out, and what the change leaves of it stands behind the others
   pub record IsStayed (says : Option V → O → Option V → Type 0) (from : ℕ) (old new : Builder T) : Type 0 where

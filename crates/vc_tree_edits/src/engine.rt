@@ -1,6 +1,6 @@
 //! The one recursion of all changes of a tree by another tree, in place.
 
-ghost use Rattle.std.specs.Prelude.{◌≡◌, ◌<◌, ◌≤◌, ◌∷◌, List, [], Option, Some, None, IfOk, OnOk, drop, length, map, option_map};
+ghost use Rattle.std.specs.Prelude.{◌≡◌, ◌<◌, ◌≤◌, ◌∷◌, List, [], Option, Some, None, IfOk, OnOk, drop, length, map, option_map, slice_get};
 ghost use Rattle.std.specs.List.{cons_option};
 ghost use Rattle.std.specs.Option.{option_copied};
 ghost use Rattle.std.specs.declared.cmp.Ordering.{Ordering};
@@ -11,20 +11,22 @@ ghost use Rattle.vc_tree_model.specs.Same.{IsAlikeIn};
 ghost use Rattle.vc_tree_nodes.specs.Children.{listed, seen};
 ghost use Rattle.vc_tree_model.specs.Look.{Look};
 ghost use Rattle.vc_tree_nodes.specs.Parting.{Agree};
-ghost use Rattle.vc_tree_facing.specs.Facing.{trees_below};
+ghost use Rattle.vc_tree_facing.specs.Facing.{trees_below, IsBelow};
+ghost use Rattle.vc_tree_facing.specs.Sides.{by_component, side_of, side_next};
 ghost use Rattle.vc_tree_facing.specs.Made.{IsMade, IsMadeBy, IsBothMadeBy};
 ghost use Rattle.vc_tree_model.specs.Canonical.{AreChildren, IsCanonical};
 ghost use Rattle.vc_tree_model.specs.Child.{solid_child, value_at as node_value};
 ghost use Rattle.vc_builder.specs.Builder.{builder};
+ghost use Rattle.vc_merge.specs.Script.{Event, IsScript};
 ghost use Rattle.vc_tree_edits.specs.Taken.{IsMet, IsTaken, IsBegun, IsNext, IsAdded, IsFirstLong, IsStayed, IsCome, arrivals_of};
 
 use std::alloc::{AllocError, Global};
 use std::mem;
 use vc_builder::inplace::InPlace;
 use vc_merge::states::Uncounted;
-use vc_tree_facing::facing::{Below, Facing, face};
+use vc_tree_facing::facing::{Below, Facing, count_below, face, side_below};
 use vc_tree_facing::nodes::{finish, value_at};
-use vc_tree_facing::sides::{Side, Sides};
+use vc_tree_facing::sides::Side;
 use vc_tree_nodes::building::{Build, Seal};
 use vc_tree_nodes::children::{ChildList, Fragment, Parts};
 use vc_tree_nodes::making::stored;
@@ -86,26 +88,23 @@ struct Meeting<'b, B> {
     front: usize,
     /// What stands below them in the right tree.
     right: Below<'b, B>,
-    /// The events of what stands below.
-    sides: Sides,
 }
 
 /// Lays two trees side by side, each without the front of its prefix.
 fn meet<'b, K: TKey, V: TValue, W: TValue, T: RadixNode<K, V>, B: RadixNode<K, W>>(
-    alloc: Global,
     tree: &T,
     i: usize,
     that: &'b B,
     j: usize,
     known: usize,
-) -> Result<Meeting<'b, B>, AllocError>
+) -> Meeting<'b, B>
     requires left { i ≤ length (T.tree tree.now).prefix }
     requires right { j ≤ length (B.tree that.now).prefix }
     requires known { Agree K.cmp (drop i (T.tree tree.now).prefix) (drop j (B.tree that.now).prefix)
         known }
     ensures met { let t = shortened i (T.tree tree.now) in let u = shortened j (B.tree that.now) in
-        IfOk result (λ m. IsMet T.tree K.cmp B.tree t u m.front (trees_below m.right) m.right.from
-        m.sides.items) }
+        IsMet T.tree K.cmp B.tree t u result.front (trees_below result.right) result.right.from }
+    ensures below { IsBelow K.cmp B.tree result.right }
     ensures left_canonical { IsCanonical K.cmp (T.tree tree.now) }
     ensures right_canonical { IsCanonical K.cmp (B.tree that.now) }
 {
@@ -113,13 +112,8 @@ fn meet<'b, K: TKey, V: TValue, W: TValue, T: RadixNode<K, V>, B: RadixNode<K, W
         front,
         left: _,
         right,
-        sides,
-    } = face(alloc, tree, i, that, j, known, &mut Uncounted)?;
-    Ok(Meeting {
-        front,
-        right,
-        sides,
-    })
+    } = face(tree, i, that, j, known, &mut Uncounted);
+    Meeting { front, right }
 }
 
 /// The parts of a tree without the front of its prefix, and of what stands below a place in what is
@@ -130,33 +124,41 @@ struct Taken<P, V, T> {
     prefix: P,
     /// The value of the key that ends there.
     value: Option<V>,
-    /// What stands below, where the prefix goes on: the tree itself.
-    whole: Option<T>,
-    /// And else: the children.
+    /// What stands below: the tree itself where the prefix goes on, and else the children.
     list: Vec<T>,
     /// How many components of their prefixes stand before the place.
     from: usize,
 }
 
-/// Takes a tree apart behind the first `i` components of its prefix and `front` more.
+/// A list of the one tree, with room for `others` more.
+fn alone<T: Drop>(alloc: Global, tree: T, others: usize) -> Result<Vec<T>, AllocError>
+    ensures { IfOk result (λ list. list.items ≡ tree ∷ []) }
+{
+    let mut list = Vec::with_capacity(alloc, others.saturating_add(1))?;
+    list.push(tree)?;
+    Ok(list)
+}
+
+/// Takes a tree apart behind the first `i` components of its prefix and `front` more. Where the
+/// tree itself stands below, there is room beside it for `others` more.
 fn take_apart<K: TKey, V: TValue, T: Build<K, V>>(
     alloc: Global,
     tree: T,
     i: usize,
     front: usize,
+    others: usize,
 ) -> Result<Taken<T::Prefix, V, T>, AllocError>
     requires within { i ≤ length (T.tree tree).prefix }
     requires front { front ≤ length (drop i (T.tree tree).prefix) }
     ensures { IfOk result (λ o. IsTaken T.tree T.keeps (shortened i (T.tree tree)) front
-        (T.Prefix.items o.prefix) o.value (cons_option o.whole o.list.items) o.from) }
+        (T.Prefix.items o.prefix) o.value o.list.items o.from) }
 {
     let whole = tree.prefix();
     if i + front < whole.len() {
         return Ok(Taken {
             prefix: T::Prefix::from_slice(alloc, &whole[i..i + front])?,
             value: None,
-            whole: Some(tree),
-            list: Vec::new(alloc),
+            list: alone(alloc, tree, others)?,
             from: i + front,
         });
     }
@@ -170,7 +172,6 @@ fn take_apart<K: TKey, V: TValue, T: Build<K, V>>(
     Ok(Taken {
         prefix,
         value,
-        whole: None,
         list,
         from: 0,
     })
@@ -207,30 +208,53 @@ fn take_list<K: TKey, V: TValue, T: Build<K, V>>(
 /// at the front of what is left, and put behind those that are built.
 type Row<T> = InPlace<T, Global>;
 
-/// How many of the events are of the right side alone.
-fn arrivals(sides: &[Side]) -> usize
-    ensures { result ≡ arrivals_of sides.now }
+/// How many trees of the right side come in: those that go on with a component with which no tree
+/// of the left side does.
+fn arrivals<K: TKey, V: TValue, W: TValue, T: RadixNode<K, V>, B: RadixNode<K, W>>(
+    left: Below<'_, T>,
+    right: Below<'_, B>,
+) -> usize
+    requires { IsBelow K.cmp B.tree right }
+    ensures { (es : List (Event T B)) → IsScript
+        (by_component T.tree B.tree left.entry.from right.entry.from K.cmp)
+        (trees_below left.entry) (trees_below right.entry) es
+        → result ≡ arrivals_of (map (λ e. side_of e) es) }
 {
-    let mut many = 0;
-    let mut rest = sides;
-    while let Some((side, others)) = rest.split_first() {
-        if matches!(side, Side::Right) {
-            many += 1;
+    let mut left = left;
+    let mut right = right;
+    let mut many = count_below(&right);
+    while let Some(side) = side_below(&left, &right, &mut Uncounted) {
+        match side {
+            Side::Left => {
+                left.next();
+            }
+            Side::Right => {
+                right.next();
+            }
+            Side::Both => {
+                left.next();
+                right.next();
+                many -= 1;
+            }
         }
-        rest = others;
     }
     many
 }
 
-/// A row in which all these trees are left: the one, if there is one, and then the list. There is
-/// room for `extra` more.
-fn open<T: Drop>(one: Option<T>, list: Vec<T>, extra: usize) -> Result<Row<T>, AllocError>
-    ensures { IfOk result (λ row. row ≡ builder [] (cons_option one list.items) extra) }
+/// A row in which all these trees are left, with room for those of the right side that come in.
+fn open<K: TKey, V: TValue, W: TValue, T: Build<K, V>, B: RadixNode<K, W>>(
+    list: Vec<T>,
+    from: usize,
+    right: &Below<'_, B>,
+) -> Result<Row<T>, AllocError>
+    requires { IsBelow K.cmp B.tree right.now }
+    ensures row { IfOk result (λ row. row ≡ builder [] list.items row.room) }
+    ensures room { IfOk result (λ row. (es : List (Event T B))
+        → IsScript (by_component T.tree B.tree from right.now.from K.cmp) list.items
+        (trees_below right.now) es → arrivals_of (map (λ e. side_of e) es) ≤ row.room) }
 {
     let mut all = list;
-    if let Some(tree) = one {
-        all.insert(0, tree)?;
-    }
+    let extra = arrivals(Below::row(&all, from), right.again());
     InPlace::new(&mut all, extra)
 }
 
@@ -315,8 +339,6 @@ struct Begun<'b, P, V, B, O, T> {
     from: usize,
     /// What stands below in the right tree.
     right: Below<'b, B>,
-    /// The events of both.
-    sides: Sides,
 }
 
 /// Takes a tree apart beside another one, and changes the value at the place where their prefixes
@@ -347,22 +369,17 @@ fn begin<
     ensures { IfOk result (λ s. IsBegun K.cmp T.tree B.tree (O.look K.cmp) T.keeps
         (O.says op.now) (O.says s.below) (O.asks s.below) (shortened i (T.tree tree))
         (shortened j (B.tree that.now)) (T.Prefix.items s.prefix) s.value s.row s.from
-        (trees_below s.right) s.right.from s.sides.items) }
+        (trees_below s.right) s.right.from) }
 {
-    let Meeting {
-        front,
-        right,
-        sides,
-    } = meet(alloc, &tree, i, that, j, known)?;
+    let Meeting { front, right } = meet(&tree, i, that, j, known);
     let Taken {
         prefix,
         value,
-        whole,
         list,
         from,
-    } = take_apart(alloc, tree, i, front)?;
+    } = take_apart(alloc, tree, i, front, count_below(&right))?;
     let (value, below) = change_values(value, that, j, front, op)?;
-    let row = open(whole, list, arrivals(sides.as_slice()))?;
+    let row = open(list, from, &right)?;
     Ok(Begun {
         prefix,
         value,
@@ -370,8 +387,19 @@ fn begin<
         row,
         from,
         right,
-        sides,
     })
+}
+
+/// On which side the next event is of the trees that are left.
+fn next_side<K: TKey, V: TValue, W: TValue, T: RadixNode<K, V>, B: RadixNode<K, W>>(
+    row: &Row<T>,
+    from: usize,
+    right: &Below<'_, B>,
+) -> Option<Side>
+    ensures { result ≡ side_next (by_component T.tree B.tree from right.now.from K.cmp)
+        (slice_get row.now.rest 0) (slice_get (trees_below right.now) 0) }
+{
+    side_below(&Below::row(row.rest(), from), right, &mut Uncounted)
 }
 
 /// Does the event of the first tree that is left, which the left side alone has.
@@ -421,10 +449,8 @@ fn close<K: TKey, V: TValue, T: Build<K, V>>(
     prefix: T::Prefix,
     value: Option<V>,
     row: Row<T>,
-    _left: &[Side],
 ) -> Result<Option<T>, AllocError>
-    requires done { length _left.now ≡ 0 }
-    requires children { AreChildren K.cmp (seen T.tree row.built) }
+    requires { AreChildren K.cmp (seen T.tree row.built) }
     ensures { IfOk result (λ made. option_map T.tree made
         ≡ solid_child (T.Prefix.items prefix) value (seen T.tree row.built)) }
 {
@@ -485,10 +511,8 @@ pub fn change_at<
         mut row,
         from,
         mut right,
-        sides,
     } = begin(alloc, tree, i, that, j, known, op)?;
-    let mut todo = sides.as_slice();
-    while let Some((side, others)) = todo.split_first() {
+    while let Some(side) = next_side(&row, from, &right) {
         match side {
             Side::Left => {
                 stay::<K, V, W, B, T, O>(alloc, &mut row, from, &below)?;
@@ -502,8 +526,7 @@ pub fn change_at<
                 keep(&mut row, kid);
             }
         }
-        todo = others;
     }
-    let made = close::<K, V, T>(alloc, prefix, value, row, todo)?;
+    let made = close::<K, V, T>(alloc, prefix, value, row)?;
     Ok(made)
 }

@@ -1,5 +1,5 @@
 -- Two trees whose prefixes go on with components of their own: what may be asked of the left one, and what is left of it.
-use Rattle.std.proofs.Common.{◌≡◌, ℕ, ◌+◌, ◌<◌, [], ◌∷◌, List, Option, None, refl, sym, subst, length, Bool}
+use Rattle.std.proofs.Common.{ℕ, ◌+◌, ◌<◌, [], ◌∷◌, List, Option, None, refl, sym, subst, length, Bool}
 use Rattle.std.specs.declared.cmp.Ordering.{Ordering}
 use Rattle.vc_tree_model.specs.Look.{Look}
 use Rattle.vc_tree_model.specs.Map.{lookup}

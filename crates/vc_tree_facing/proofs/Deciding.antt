@@ -1,15 +1,17 @@
 -- The first event that is left of a script, by how the first trees of both sides go on.
 --     first-left, first-right, first-both        on which side the first event is
+--     first-event, side-next, side-none        it is on the side of the first trees that are left, or there is none
+--     first-few        a list has its first element
 --     passed-all        trees of the right side that go on with lesser components are passed
 --     left-next, both-next        on which side the next event is, by what was sought
 --     left-done, both-done        it is done
 --     list-begun, list-done        the state before the first event, and once no tree of the left side is left
 use Rattle.std.proofs.Common.{◌≡◌, ℕ, [], ◌∷◌, ◌++◌, List, Option, None, Some, refl, sym, ap, subst, ◌∙◌, map}
-use Rattle.std.proofs.Common.{slice_get, inl, inr, ◌⊎◌, append-nil, arith}
+use Rattle.std.proofs.Common.{slice_get, inl, inr, ◌⊎◌, append-nil, arith, ◌≤◌, drop, length}
 use Rattle.std.specs.Cmp.{IsTotalOrder, alike_right}
 use Rattle.std.specs.List.{AllByRecursion, cons_option}
 use Rattle.std.specs.List.Sorted.{IsStrictlySortedBy}
-use Rattle.std.specs.Option.{option_cmp}
+use Rattle.std.specs.Option.{option_cmp, option_to_list}
 use Rattle.std.specs.Ordering.{ordering_reverse}
 use Rattle.std.specs.declared.cmp.Ordering.{Ordering}
 use Rattle.std.specs.declared.cmp.Ordering.TheVariants.{Less, Equal, Greater}
@@ -22,11 +24,11 @@ use Rattle.vc_tree_model.specs.Map.{lookup_in}
 use Rattle.vc_tree_model.specs.Tree.{Tree, forest, shortened}
 use Rattle.vc_tree_model.proofs.Places.{IsCombinedIn}
 use Rattle.vc_tree_nodes.specs.Places.{first_side}
-use Rattle.vc_tree_facing.specs.Doing.{owed, IsGoingOn}
+use Rattle.vc_tree_facing.specs.Doing.{owed, IsDoing, IsGoingOn}
 use Rattle.vc_tree_facing.specs.Facing.{shortened_in}
 use Rattle.vc_tree_facing.specs.Made.{IsMade, IsBothMadeBy}
 use Rattle.vc_tree_facing.specs.Seeking.{side_at, Stops}
-use Rattle.vc_tree_facing.specs.Sides.{by_component, by_component_total, side_of}
+use Rattle.vc_tree_facing.specs.Sides.{by_component, by_component_total, side_of, lower_side, side_next}
 use Rattle.vc_tree_facing.specs.declared.sides.Side.{Side}
 use Rattle.vc_tree_facing.specs.declared.sides.Side.TheVariants.{Left, Both}
 use Rattle.vc_tree_facing.proofs.Components.{children-ascend}
@@ -113,10 +115,86 @@ module _ {A B : Type 0} (order : A ⊎ B → A ⊎ B → Ordering) (o : IsTotalO
           let e : z ≡ x = cc in
           let f : b ≡ y = cc in (es, λ k. collision (e k) (f k) ∷ es)
 
-ascends-rest : {X : Type 0} (r : X → X → Ordering) (ds es : List X) → Ascends r (ds ++ es) → Ascends r es
+pub ascends-rest : {X : Type 0} (r : X → X → Ordering) (ds es : List X) → Ascends r (ds ++ es) → Ascends r es
 unfolding IsStrictlySortedBy
 ascends-rest r [] es a = a
 ascends-rest r (d ∷ ds) es a = ascends-rest r ds es a.1
+
+-- ---- the side of the first event
+
+-- no event has a tree of the left side, or of either
+nil : {A B : Type 0} (es : List (Event A B)) → [] ≡ lefts es → [] ≡ rights es → es ≡ []
+nil [] l r = refl
+nil (left_alone x ∷ es) l r = absurd (cc)
+nil (right_alone y ∷ es) l r = absurd (cc)
+nil (collision x y ∷ es) l r = absurd (cc)
+
+next : {A B : Type 0} (y : B) (rs : List B) (es : List (Event A B)) → [] ≡ lefts es → y ∷ rs ≡ rights es
+    → (rest : List (Event A B)) × (es ≡ right_alone y ∷ rest)
+next y rs [] l r = absurd (cc)
+next y rs (left_alone x ∷ es) l r = absurd (cc)
+next y rs (right_alone b ∷ es) l r = let e : b ≡ y = cc in (es, ap (λ b. right_alone b ∷ es) e)
+next y rs (collision x b ∷ es) l r = absurd (cc)
+
+-- it is the one of the first elements
+module _ {A B : Type 0} (order : A ⊎ B → A ⊎ B → Ordering) (o : IsTotalOrder order) where
+  pub first-event : (ls : List A) (rs : List B) (es : List (Event A B)) → Ascends (λ d e. order (place d) (place e)) es
+      → AllByRecursion (IsMatched order) es → ls ≡ lefts es → rs ≡ rights es
+      → side_next order (slice_get ls 0) (slice_get rs 0) ≡ slice_get (map (λ e. side_of e) es) 0
+  first-event [] [] es a m l r = ap (λ es. slice_get (map (λ e. side_of e) es) 0) (sym (nil es l r))
+  first-event [] (y ∷ rs) es a m l r =
+      let f = next y rs es l r in ap (λ es. slice_get (map (λ e. side_of e) es) 0) (sym f.1)
+  first-event (x ∷ ls) [] es a m l r =
+      let f = first-left order o x ls es a m (sym l) (λ y qs e. absurd (let h : [] ≡ y ∷ qs = r ∙ e in cc)) in
+      ap (λ es. slice_get (map (λ e. side_of e) es) 0) (sym f.1)
+  first-event (x ∷ ls) (y ∷ rs) es a m l r = by (order (inr y) (inl x)) refl
+    where
+      by : (w : Ordering) → order (inr y) (inl x) ≡ w → Some (lower_side w) ≡ slice_get (map (λ e. side_of e) es) 0
+      by Less e =
+          let f = first-right order o x ls y rs es a m (sym l) (sym r) e in
+          ap (λ es. slice_get (map (λ e. side_of e) es) 0) (sym f.1)
+      by Equal e =
+          let f = first-both order o x ls y rs es a m (sym l) (sym r) e in
+          ap (λ es. slice_get (map (λ e. side_of e) es) 0) (sym f.1)
+      by Greater e =
+          let f = first-left order o x ls es a m (sym l)
+          (λ z qs g. let h : y ∷ rs ≡ z ∷ qs = r ∙ g in let k : y ≡ z = cc in subst (λ y. order (inr y) (inl x) ≡ Greater) k e) in
+          ap (λ es. slice_get (map (λ e. side_of e) es) 0) (sym f.1)
+
+-- a list by its first element
+pub first-some : {X : Type 0} {x : X} (l : List X) → slice_get l 0 ≡ Some x → l ≡ x ∷ drop 1 l
+first-some [] e = absurd (cc)
+first-some {x = x} (y ∷ l) e = let h : y ≡ x = cc in ap (λ z. z ∷ l) h
+
+pub first-none : {X : Type 0} (l : List X) → slice_get l 0 ≡ None → l ≡ []
+first-none [] e = refl
+first-none (y ∷ l) e = absurd (cc)
+
+-- a list has its first element
+pub first-few : {X : Type 0} (l : List X)
+    → (length (option_to_list (slice_get l 0)) ≤ 1) × (length (option_to_list (slice_get l 0)) ≤ length l)
+first-few [] = (omega arith, omega arith)
+first-few (x ∷ l) = (omega arith, omega arith)
+
+module _ {K V W U O A B : Type 0} {cmp : K → K → Ordering} {ta : A → Tree K V} {tb : B → Tree K W} {i j : ℕ} {l : Look cmp W O}
+    {R : Option V → O → Option U → Type 0} {asks : Option V → O → Type 0} {xs : List A} {ys : List B} {ls : List A} {rs : List B}
+    {todo : List Side} {made : List (Tree K U)} {spent budget : ℕ} (o : IsTotalOrder cmp)
+    (d : IsDoing cmp ta tb i j l R asks xs ys ls rs todo made spent budget) {told : Option Side}
+    (t : told ≡ side_next (by_component ta tb i j cmp) (slice_get ls 0) (slice_get rs 0)) where
+  told-first : told ≡ slice_get todo 0
+  told-first =
+      t ∙ first-event (by_component ta tb i j cmp) (by_component_total ta tb i j o) ls rs d.rest
+      (ascends-rest _ (map (λ d. d.0) d.done) d.rest d.script.ascends)
+      (event-rest _ (map (λ d. d.0) d.done) d.rest d.script.matched) d.left d.right
+      ∙ ap (λ l. slice_get l 0) (sym d.sides_are)
+
+  -- the next event is on the side that was told
+  pub side-next : {s : Side} → told ≡ Some s → todo ≡ s ∷ drop 1 todo
+  side-next e = first-some todo (sym told-first ∙ e)
+
+  -- or none is left
+  pub side-none : told ≡ None → todo ≡ []
+  side-none e = first-none todo (sym told-first ∙ e)
 
 -- ---- events that are left
 
@@ -135,20 +213,6 @@ stops-above : {K W B : Type 0} (cmp : K → K → Ordering) (tb : B → Tree K W
 stops-above cmp tb j c [] s y qs e = absurd (cc)
 stops-above cmp tb j c (z ∷ rs) s y qs e =
     let h : z ≡ y = cc in subst (λ z. side_at cmp tb j c z ≡ Greater) h s
-
--- no event has a tree of the left side, or of either
-nil : {A B : Type 0} (es : List (Event A B)) → [] ≡ lefts es → [] ≡ rights es → es ≡ []
-nil [] l r = refl
-nil (left_alone x ∷ es) l r = absurd (cc)
-nil (right_alone y ∷ es) l r = absurd (cc)
-nil (collision x y ∷ es) l r = absurd (cc)
-
-next : {A B : Type 0} (y : B) (rs : List B) (es : List (Event A B)) → [] ≡ lefts es → y ∷ rs ≡ rights es
-    → (rest : List (Event A B)) × (es ≡ right_alone y ∷ rest)
-next y rs [] l r = absurd (cc)
-next y rs (left_alone x ∷ es) l r = absurd (cc)
-next y rs (right_alone b ∷ es) l r = let e : b ≡ y = cc in (es, ap (λ b. right_alone b ∷ es) e)
-next y rs (collision x b ∷ es) l r = absurd (cc)
 
 module _ {K V W U O A B : Type 0} {cmp : K → K → Ordering} {ta : A → Tree K V} {tb : B → Tree K W} {i j : ℕ} {l : Look cmp W O}
     {R : Option V → O → Option U → Type 0} {asks : Option V → O → Type 0} {xs : List A} {ys : List B} where
@@ -257,9 +321,7 @@ module _ {K V W U O A B : Type 0} {cmp : K → K → Ordering} {ta : A → Tree 
         right = cb;
         todo = map (λ e. side_of e) s.0;
         budget = owed cmp ta tb i j s.0;
-        doing =
-            doing-start refl (record { events = s.0; script = s.1; sides_are = refl })
-            (script-asked cmp o ta tb i j l asks an xs ys s.0 ca cb s.1 ask) (omega arith);
+        doing = doing-start refl s.0 s.1 (script-asked cmp o ta tb i j l asks an xs ys s.0 ca cb s.1 ask) (omega arith);
       }
 
   -- the trees that were made, once no tree of the left side is left, are canonical children and what is said of both lists

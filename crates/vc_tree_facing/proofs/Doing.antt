@@ -1,8 +1,8 @@
 -- One event more of a script is done.
 --     doing-start        none is done yet
+--     doing-cheaper        less was spent
 --     doing-left, doing-right, doing-both        one more is
 --     left-next, right-next        what the next trees are
---     first-side        the side of the first event that is left
 use Rattle.std.proofs.Common.{◌≡◌, ℕ, ◌+◌, ◌*◌, ◌≤◌, [], ◌∷◌, ◌++◌, List, Option, None, refl, sym, ap, subst, ◌∙◌, map, arith}
 use Rattle.std.specs.List.{AllByRecursion, filter_map, cons_option}
 use Rattle.std.proofs.lemmas.List.Elements.{filter_map-append}
@@ -13,7 +13,7 @@ use Rattle.vc_tree_model.specs.Tree.{Tree, shortened}
 use Rattle.vc_tree_model.specs.Look.{Look}
 use Rattle.vc_tree_facing.specs.Made.{IsMade, IsMadeBy, IsBothMadeBy, IsMadeAt}
 use Rattle.vc_tree_facing.specs.Doing.{IsAskedAt, owed, IsDoing}
-use Rattle.vc_tree_facing.specs.Sides.{by_component, side_of, IsListed}
+use Rattle.vc_tree_facing.specs.Sides.{by_component, side_of}
 use Rattle.vc_tree_facing.specs.declared.sides.Side.{Side}
 use Rattle.vc_tree_facing.specs.declared.sides.Side.TheVariants.{Left, Right, Both}
 
@@ -44,28 +44,41 @@ module _ {A B : Type 0} where
   both-first sides (right_alone b ∷ es) e = absurd (cc)
   both-first sides (collision a b ∷ es) e = (a, b, es, refl)
 
--- the side of the first event that is left, as a match tells it
-pub first-side : {s r : Side} {all sides : List Side} → all ≡ s ∷ sides → s ≡ r → all ≡ r ∷ sides
-first-side {sides = sides} z e = z ∙ ap (λ s. s ∷ sides) e
-
 module _ {K V W U O A B : Type 0} {cmp : K → K → Ordering} {ta : A → Tree K V} {tb : B → Tree K W} {i j : ℕ} {l : Look cmp W O}
     {R : Option V → O → Option U → Type 0} {asks : Option V → O → Type 0} {xs : List A} {ys : List B} where
   -- none is done yet
-  pub doing-start : {sides : List Side} {made : List (Tree K U)} {spent budget : ℕ} → made ≡ []
-      → (m : IsListed (by_component ta tb i j cmp) xs ys sides)
-      → AllByRecursion (IsAskedAt cmp ta tb i j l asks) m.events → spent + owed cmp ta tb i j m.events ≤ budget
-      → IsDoing cmp ta tb i j l R asks xs ys xs ys sides made spent budget
-  doing-start e m a p = record {
+  pub doing-start : {made : List (Tree K U)} {spent budget : ℕ} → made ≡ [] → (es : List (Event A B))
+      → IsScript (by_component ta tb i j cmp) xs ys es → AllByRecursion (IsAskedAt cmp ta tb i j l asks) es
+      → spent + owed cmp ta tb i j es ≤ budget
+      → IsDoing cmp ta tb i j l R asks xs ys xs ys (map (λ e. side_of e) es) made spent budget
+  doing-start e es s a p = record {
     done = [];
-    rest = m.events;
-    script = m.script;
-    left = sym m.script.left;
-    right = sym m.script.right;
-    sides_are = m.sides_are;
+    rest = es;
+    script = s;
+    left = sym s.left;
+    right = sym s.right;
+    sides_are = refl;
     made_at = tt;
     made_are = e;
     asked = a;
     paid = p;
+  }
+
+  -- what was spent less
+  pub doing-cheaper : {ls : List A} {rs : List B} {sides : List Side} {made : List (Tree K U)} {spent less budget : ℕ}
+      → IsDoing cmp ta tb i j l R asks xs ys ls rs sides made spent budget → less ≤ spent
+      → IsDoing cmp ta tb i j l R asks xs ys ls rs sides made less budget
+  doing-cheaper d h = record {
+    done = d.done;
+    rest = d.rest;
+    script = d.script;
+    left = d.left;
+    right = d.right;
+    sides_are = d.sides_are;
+    made_at = d.made_at;
+    made_are = d.made_are;
+    asked = d.asked;
+    paid = (let p = d.paid in omega (arith, p, h));
   }
 
   -- one more is done

@@ -12,6 +12,7 @@ use Rattle.std.specs.Ordering.{is_eq}
 use Rattle.std.specs.declared.cmp.Ordering.{Ordering}
 use Rattle.std.specs.declared.cmp.Ordering.TheVariants.{Equal}
 use Rattle.vc_merge.specs.Script.{Event, IsScript}
+use Rattle.vc_merge.proofs.Scripts.{some-script}
 use Rattle.vc_tree_model.specs.Tree.{Tree, Forest, forest}
 use Rattle.vc_tree_model.specs.Map.{lookup}
 use Rattle.vc_tree_model.specs.Canonical.{AreChildren, IsCanonical}
@@ -24,8 +25,9 @@ use Rattle.vc_tree_model.proofs.Places.{IsCombinedIn}
 use Rattle.vc_tree_facing.specs.Facing.{shortened_in, Parts, IsOpened, IsFaced}
 use Rattle.vc_tree_facing.specs.Made.{IsBothMadeBy}
 use Rattle.vc_tree_facing.specs.Doing.{IsDoing}
-use Rattle.vc_tree_facing.specs.Sides.{by_component, side_of}
+use Rattle.vc_tree_facing.specs.Sides.{by_component, by_component_total, side_of}
 use Rattle.vc_tree_facing.specs.declared.sides.Side.{Side}
+use Rattle.vc_tree_facing.proofs.Components.{children-ascend}
 use Rattle.vc_tree_facing.proofs.Doing.{doing-start}
 use Rattle.vc_tree_facing.proofs.Making.{script-made, script-asked}
 use Rattle.vc_tree_facing.proofs.Paying.{face-paid}
@@ -52,7 +54,7 @@ front-begins {cmp = cmp} o (suc n) (a ∷ p) (b ∷ q) v f y z e d t w =
     let ay : a ≡ y = cc in joined-begins cmp y a (take n p) v f (rw ay (tied_itself o y))
 
 module _ {K V W A B : Type 0} {cmp : K → K → Ordering} {ta : A → Tree K V} {tb : B → Tree K W} {t : Tree K V} {u : Tree K W}
-    {n : ℕ} {xs : List A} {i : ℕ} {ys : List B} {j : ℕ} {sides : List Side} (f : IsFaced cmp ta tb t u n xs i ys j sides) where
+    {n : ℕ} {xs : List A} {i : ℕ} {ys : List B} {j : ℕ} (f : IsFaced cmp ta tb t u n xs i ys j) where
   pub left-children : IsCanonical cmp t → AreChildren cmp (shortened_in ta i xs)
   left-children c = below-children cmp n c f.left
 
@@ -74,14 +76,22 @@ module _ {K V W A B : Type 0} {cmp : K → K → Ordering} {ta : A → Tree K V}
         → ((k : List K) → P (lookup cmp t k) (l.of_tree u k)) → IsCanonical cmp t → IsCanonical cmp u
         → {made : List (Tree K U)} → made ≡ [] → {spent : ℕ} (start : ℕ)
         → spent ≤ start + min (length t.prefix) (length u.prefix) + length xs + length ys
-        → IsDoing cmp ta tb i j l R asks xs ys xs ys sides made spent (start + 3 * (weight t + weight u) - 2)
+        → (es : List (Event A B)) × IsScript (by_component ta tb i j cmp) xs ys es
+        × IsDoing cmp ta tb i j l R asks xs ys xs ys (map (λ e. side_of e) es) made spent (start + 3 * (weight t + weight u) - 2)
     combine-started R asks an P lead h ct cu e start c =
         let below = children-asked cmp o l P t u (take n t.prefix) (drop n t.prefix) (take n u.prefix)
         (drop n u.prefix) (sym (take-append-drop n t.prefix)) (sym (take-append-drop n u.prefix)) f.same h in
-        let paid = face-paid cmp ta tb t u n xs i ys j sides f in
-        doing-start e f.listed
-        (script-asked cmp o ta tb i j l asks an xs ys f.listed.events (left-children ct) (right-children cu) f.listed.script
-        (rw (f.left.children, f.right.children) (λ x q. lead _ _ (below x q)))) (omega (arith, paid, c))
+        let s = some-script (by_component ta tb i j cmp) (by_component_total ta tb i j o) xs ys (record {
+          left = children-ascend cmp ta i xs (left-children ct);
+          right = children-ascend cmp tb j ys (right-children cu);
+        }) in
+        let paid = face-paid cmp ta tb t u n xs i ys j f s.0 s.1 in (
+          s.0,
+          s.1,
+          doing-start e s.0 s.1
+              (script-asked cmp o ta tb i j l asks an xs ys s.0 (left-children ct) (right-children cu) s.1
+              (rw (f.left.children, f.right.children) (λ x q. lead _ _ (below x q)))) (omega (arith, paid, c)),
+        )
 
   module _ {U O : Type 0} {l : Look cmp W O} {R : Option V → O → Option U → Type 0} {asks : Option V → O → Type 0} {ls : List A}
       {rs : List B} {todo : List Side} {made : List (Tree K U)} {spent budget : ℕ}

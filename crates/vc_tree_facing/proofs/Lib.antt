@@ -1,4 +1,3 @@
-pub mod Listing
 pub mod Components
 pub mod Opening
 pub mod Doing

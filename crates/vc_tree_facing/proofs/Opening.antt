@@ -3,7 +3,6 @@
 --     opened-all        where the prefix ended, the children
 --     opened-rest        where it goes on, the tree itself
 --     parts-at        two prefixes part where both go on
---     one-at        the component at a place, as a list
 use Rattle.std.proofs.Common.{◌≡◌, ℕ, ◌+◌, ◌-◌, ◌<◌, ◌≤◌, [], ◌∷◌, List, Option, Some, None, is_none, get_or, refl}
 use Rattle.std.proofs.Common.{sym, ap, ◌∙◌, arith, true≢false, map, take, drop, length-drop, length, slice_get, zero}
 use Rattle.std.proofs.Common.{suc, false}
@@ -11,7 +10,6 @@ use Rattle.std.proofs.lemmas.List.{take_all, drop-drop}
 use Rattle.std.proofs.lemmas.Option.{slice_get-get_or}
 use Rattle.std.proofs.Math.ListN.{drop_of_length-le}
 use Rattle.std.specs.List.{AllByRecursion}
-use Rattle.std.specs.Option.{option_to_list}
 use Rattle.std.specs.Ordering.{is_eq}
 use Rattle.std.specs.declared.cmp.Ordering.{Ordering}
 use Rattle.vc_tree_model.specs.Tree.{Tree, Forest, forest, made, nodes, forest_nodes}
@@ -99,12 +97,6 @@ parts-at cmp p q n r unequal h =
     let gx = goes-on n p h.old h.old_at in
     let gy = goes-on n q h.new h.new_at in
     rw (gx.1, gy.1, h.ordered) unequal
-
--- the component at a place, as a list
-pub one-at : {K : Type 0} (m n : ℕ) (p : List K) → m ≡ 1 → n < length p → take m (drop n p) ≡ option_to_list (slice_get p n)
-one-at m n [] e h = absurd (omega (arith, h))
-one-at m zero (x ∷ p) e h = rw e refl
-one-at m (suc n) (x ∷ p) e h = one-at m n p e (omega (arith, h))
 
 -- ---- nodes that are made of parts
 

@@ -16,7 +16,6 @@ use Rattle.vc_tree_model.specs.Tree.{Tree, Forest, forest}
 use Rattle.vc_tree_facing.specs.Facing.{shortened_in, ended, GoesOn, IsOpened, Parts, IsFaced}
 use Rattle.vc_tree_facing.specs.Doing.{owed}
 use Rattle.vc_tree_facing.specs.Sides.{by_component}
-use Rattle.vc_tree_facing.specs.declared.sides.Side.{Side}
 
 -- each child weighs at least one
 pub few-children : {T K V : Type 0} (tree : T → Tree K V) (xs : List T) (f : Forest K V) → forest (map tree xs) ≡ f
@@ -119,13 +118,11 @@ module _ {K V W A B : Type 0} (cmp : K → K → Ordering) (ta : A → Tree K V)
           omega (arith, wt, wu, lt, lu, e, fx, fy, bx, by)
 
   -- what laying two trees side by side takes, and what is owed to the trees that meet, is paid by both trees
-  pub face-paid : (sides : List Side) → (f : IsFaced cmp ta tb t u n xs i ys j sides)
-      → min (length t.prefix) (length u.prefix) + length xs + length ys + owed cmp ta tb i j f.listed.events + 2
-      ≤ 3 * (weight t + weight u)
-  face-paid sides f =
+  pub face-paid : IsFaced cmp ta tb t u n xs i ys j → (es : List (Event A B)) → IsScript (by_component ta tb i j cmp) xs ys es
+      → min (length t.prefix) (length u.prefix) + length xs + length ys + owed cmp ta tb i j es + 2 ≤ 3 * (weight t + weight u)
+  face-paid f es s =
       paid-by (drop n t.prefix) (drop n u.prefix) (whole n t.prefix f.left_within)
-      (whole n u.prefix f.right_within) f.left f.right
-      f.parts f.listed.events f.listed.script
+      (whole n u.prefix f.right_within) f.left f.right f.parts es s
     where
       whole : (n : ℕ) (p : List K) → n ≤ length p → length p ≡ n + length (drop n p)
       whole n p h = let l = length-drop {A = K} n p in omega (arith, l, h)

@@ -10,9 +10,7 @@ use Rattle.vc_tree_model.specs.Tree.{Tree, Forest, forest, shortened, nodes}
 use Rattle.vc_tree_model.specs.Canonical.{AreChildren, IsCanonical}
 use Rattle.vc_tree_model.specs.Child.{children_at}
 use Rattle.vc_tree_nodes.specs.Parting.{Agree}
-use Rattle.vc_tree_facing.specs.Sides.{by_component, IsListed}
 use Rattle.vc_tree_facing.specs.declared.facing.Below.{Below}
-use Rattle.vc_tree_facing.specs.declared.sides.Side.{Side}
 
 -- the trees that stand below a place
 abbrev pub trees_below : {T : Type 0} → Below T → List T
@@ -50,16 +48,15 @@ Parts cmp [] q = ⊤
 Parts cmp (x ∷ p) [] = ⊤
 Parts cmp (x ∷ p) (y ∷ q) = IsFalse (is_eq (cmp x y))
 
--- the prefixes of t and u agree for n components and part there; what stands below, and the sides of its events
+-- the prefixes of t and u agree for n components and part there; and what stands below
 pub record IsFaced {K V W A B : Type 0} (cmp : K → K → Ordering) (ta : A → Tree K V) (tb : B → Tree K W) (t : Tree K V)
-    (u : Tree K W) (n : ℕ) (xs : List A) (i : ℕ) (ys : List B) (j : ℕ) (sides : List Side) : Type 0 where
+    (u : Tree K W) (n : ℕ) (xs : List A) (i : ℕ) (ys : List B) (j : ℕ) : Type 0 where
   pub left_within : n ≤ length t.prefix
   pub right_within : n ≤ length u.prefix
   pub same : IsTrue (same_key cmp (take n t.prefix) (take n u.prefix))
   pub parts : Parts cmp (drop n t.prefix) (drop n u.prefix)
   pub left : IsOpened ta t (drop n t.prefix) xs i
   pub right : IsOpened tb u (drop n u.prefix) ys j
-  pub listed : IsListed (by_component ta tb i j cmp) xs ys sides
 
 -- the prefixes of two canonical trees, t without its first i components and u without its first j, agree for n more and part there
 pub record IsSplit {K V W : Type 0} (cmp : K → K → Ordering) (t : Tree K V) (i : ℕ) (u : Tree K W) (j n : ℕ) : Type 0 where

@@ -1,7 +1,9 @@
 //! Two trees side by side: where their prefixes part, and what stands below.
 
 ghost use Rattle.std.specs.Prelude.{◌≡◌, ◌+◌, ◌≤◌, ◌<◌, true, [], ◌∷◌, Some, min, length, drop, slice_get, IfOk};
+ghost use Rattle.std.proofs.Common.{inl, inr};
 ghost use Rattle.std.specs.Option.{option_copied, option_to_list};
+ghost use Rattle.vc_merge.specs.Count.{ticked};
 ghost use Rattle.vc_tree_model.specs.Canonical.{IsCanonical};
 ghost use Rattle.vc_tree_model.specs.Shortened.{weight, forest_weight};
 ghost use Rattle.vc_tree_model.specs.Tree.{shortened};
@@ -9,10 +11,9 @@ ghost use Rattle.vc_tree_nodes.specs.Parting.{Agree};
 ghost use Rattle.vc_tree_nodes.specs.Places.{first_side};
 ghost use Rattle.vc_tree_facing.specs.Facing.{trees_below, Parts, IsBelow, IsOpened, IsFaced, IsSplit};
 ghost use Rattle.vc_tree_facing.specs.Seeking.{IsSought};
-ghost use Rattle.vc_tree_facing.specs.Sides.{by_component, IsListed};
+ghost use Rattle.vc_tree_facing.specs.Sides.{by_component, side_next};
 
-use crate::sides::{ByPrefix, Itself, Sides, list_sides};
-use std::alloc::{AllocError, Global};
+use crate::sides::Side;
 use std::cmp::Ordering;
 use vc_merge::merge::Count;
 use vc_merge::states::Uncounted;
@@ -37,6 +38,39 @@ impl<'a, T> Below<'a, T> {
             whole: None,
             children: &[],
             from: 0,
+        }
+    }
+
+    /// The first of the trees.
+    pub fn first(&self) -> Option<&'a T>
+        ensures { option_copied result ≡ slice_get (trees_below self.now) 0 }
+    {
+        match self.whole {
+            Some(tree) => Some(tree),
+            None => self.children.first(),
+        }
+    }
+
+    /// The same trees, to be gone through beside these.
+    pub fn again(&self) -> Below<'a, T>
+        ensures { result ≡ self.now }
+    {
+        Below {
+            whole: self.whole,
+            children: self.children,
+            from: self.from,
+        }
+    }
+
+    /// Trees of a list, each without its first `from` components.
+    pub fn row(trees: &'a [T], from: usize) -> Self
+        ensures trees { trees_below result ≡ trees.now }
+        ensures from { result.from ≡ from }
+    {
+        Below {
+            whole: None,
+            children: trees,
+            from,
         }
     }
 
@@ -173,8 +207,6 @@ pub struct Facing<'a, 'b, A, B> {
     pub left: Below<'a, A>,
     /// What stands below them in the right tree.
     pub right: Below<'b, B>,
-    /// The events of what stands below.
-    pub sides: Sides,
 }
 
 /// For how many components two prefixes agree, of which the first `known` do.
@@ -210,46 +242,56 @@ pub fn split<K: TKey, V: TValue, W: TValue, T: RadixNode<K, V>, B: RadixNode<K, 
     common_front(p, q, known, &mut Uncounted)
 }
 
-/// The component at a place of a prefix, as a list.
-fn component_at<K: TKey, V: TValue, T: RadixNode<K, V>>(tree: &T, place: usize) -> &[K]
-    requires { place < length (T.tree tree.now).prefix }
-    ensures { result.now ≡ option_to_list (slice_get (T.tree tree.now).prefix place) }
+/// How many trees stand below a place.
+pub fn count_below<K: TKey, V: TValue, T: RadixNode<K, V>>(below: &Below<'_, T>) -> usize
+    requires { IsBelow K.cmp T.tree below.now }
+    ensures { result ≡ length (trees_below below.now) }
 {
-    &tree.prefix()[place..place + 1]
+    match below.whole {
+        Some(_) => 1,
+        None => below.children.len(),
+    }
 }
 
-/// The sides of the events of what stands below two places. A tree that goes on stands there as the
-/// list of the one component with which it does.
-fn list_below<K: TKey, V: TValue, W: TValue, A: RadixNode<K, V>, B: RadixNode<K, W>, C: Count>(
-    alloc: Global,
+/// How a tree of the right side stands to one of the left, by the components at these places of
+/// their prefixes. Ticks the counter once.
+pub fn compare_at<K: TKey, V: TValue, W: TValue, A: RadixNode<K, V>, B: RadixNode<K, W>, C: Count>(
+    y: &B,
+    j: usize,
+    x: &A,
+    i: usize,
+    steps: &mut C,
+) -> Ordering
+    ensures order { result ≡ by_component A.tree B.tree i j K.cmp (inr y.now) (inl x.now) }
+    ensures ticks { C.counted steps.new ≡ ticked (C.counted steps.old) }
+{
+    steps.tick();
+    y.prefix().get(j).cmp(&x.prefix().get(i))
+}
+
+/// On which side the next event of what stands below two places is, by the components with which
+/// the first trees go on. `None` where nothing is left on either side. Compares once where both
+/// have trees.
+pub fn side_below<K: TKey, V: TValue, W: TValue, A: RadixNode<K, V>, B: RadixNode<K, W>, C: Count>(
     left: &Below<'_, A>,
     right: &Below<'_, B>,
     steps: &mut C,
-) -> Result<Sides, AllocError>
-    requires left { IsBelow K.cmp A.tree left.now }
-    requires right { IsBelow K.cmp B.tree right.now }
-    ensures listed { IfOk result (λ sides.
-        IsListed (by_component A.tree B.tree left.now.from right.now.from K.cmp)
-        (trees_below left.now) (trees_below right.now) sides.items) }
+) -> Option<Side>
+    ensures side { result
+        ≡ side_next (by_component A.tree B.tree left.now.from right.now.from K.cmp)
+        (slice_get (trees_below left.now) 0) (slice_get (trees_below right.now) 0) }
     ensures counted { C.counted steps.new ≤ C.counted steps.old
-        + length (trees_below left.now) + length (trees_below right.now) }
+        + length (option_to_list (slice_get (trees_below left.now) 0)) }
 {
-    let kids: ByPrefix<V> = ByPrefix::new();
-    let others: ByPrefix<W> = ByPrefix::new();
-    match (left.whole, right.whole) {
-        (None, None) => list_sides(alloc, left.children, kids, right.children, others, steps),
-        (None, Some(b)) => {
-            let one = component_at(b, right.from);
-            list_sides(alloc, left.children, kids, one, Itself, steps)
-        }
-        (Some(a), None) => {
-            let one = component_at(a, left.from);
-            list_sides(alloc, one, Itself, right.children, others, steps)
-        }
-        (Some(a), Some(b)) => {
-            let (one, other) = (component_at(a, left.from), component_at(b, right.from));
-            list_sides(alloc, one, Itself, other, Itself, steps)
-        }
+    match (left.first(), right.first()) {
+        (None, None) => None,
+        (None, Some(_)) => Some(Side::Right),
+        (Some(_), None) => Some(Side::Left),
+        (Some(x), Some(y)) => Some(match compare_at(y, right.from, x, left.from, steps) {
+            Ordering::Less => Side::Right,
+            Ordering::Equal => Side::Both,
+            Ordering::Greater => Side::Left,
+        }),
     }
 }
 
@@ -264,40 +306,26 @@ pub fn face<
     A: RadixNode<K, V>,
     B: RadixNode<K, W>,
     C: Count,
->(
-    alloc: Global,
-    a: &'a A,
-    i: usize,
-    b: &'b B,
-    j: usize,
-    known: usize,
-    steps: &mut C,
-) -> Result<Facing<'a, 'b, A, B>, AllocError>
+>(a: &'a A, i: usize, b: &'b B, j: usize, known: usize, steps: &mut C) -> Facing<'a, 'b, A, B>
     requires left { i ≤ length (A.tree a.now).prefix }
     requires right { j ≤ length (B.tree b.now).prefix }
     requires known { Agree K.cmp (drop i (A.tree a.now).prefix) (drop j (B.tree b.now).prefix) known }
-    ensures counted { C.counted steps.new ≤ C.counted steps.old
-        + weight (shortened i (A.tree a.now)) + weight (shortened j (B.tree b.now)) }
-    ensures paid { let p = drop i (A.tree a.now).prefix in let q = drop j (B.tree b.now).prefix in
-        IfOk result (λ f. C.counted steps.new
-        ≤ C.counted steps.old + min (length p) (length q) + length (trees_below f.left)
-        + length (trees_below f.right)) }
+    ensures counted { let p = drop i (A.tree a.now).prefix in let q = drop j (B.tree b.now).prefix in
+        C.counted steps.new ≤ C.counted steps.old + min (length p) (length q) }
     ensures faced { let t = shortened i (A.tree a.now) in let u = shortened j (B.tree b.now) in
-        IfOk result (λ f. IsFaced K.cmp A.tree B.tree t u f.front (trees_below f.left) f.left.from
-        (trees_below f.right) f.right.from f.sides.items) }
+        IsFaced K.cmp A.tree B.tree t u result.front (trees_below result.left) result.left.from
+        (trees_below result.right) result.right.from }
+    ensures left_below { IsBelow K.cmp A.tree result.left }
+    ensures right_below { IsBelow K.cmp B.tree result.right }
     ensures left_canonical { IsCanonical K.cmp (A.tree a.now) }
     ensures right_canonical { IsCanonical K.cmp (B.tree b.now) }
 {
     let p = &a.prefix()[i..];
     let q = &b.prefix()[j..];
     let front = common_front(p, q, known, steps);
-    let left = below_place(a, i + front);
-    let right = below_place(b, j + front);
-    let sides = list_below(alloc, &left, &right, steps)?;
-    Ok(Facing {
+    Facing {
         front,
-        left,
-        right,
-        sides,
-    })
+        left: below_place(a, i + front),
+        right: below_place(b, j + front),
+    }
 }

@@ -1,8 +1,7 @@
 -- What is made of two trees, by where their prefixes end, and of the children one after the other.
-use Rattle.std.proofs.Common.{◌≡◌, ◌+◌, ◌<◌, ◌≤◌, ◌∷◌, [], None, refl, ap, subst, ◌∙◌, arith, rules, map, option_map}
+use Rattle.std.proofs.Common.{◌+◌, ◌<◌, ◌≤◌, ◌∷◌, [], None, refl, ap, subst, ◌∙◌, arith, rules, map, option_map}
 use Rattle.std.proofs.Common.{length, length-drop}
 use Rattle.std.specs.Option.{option_copied}
-use Rattle.vc_tree_model.specs.Canonical.{AreChildren}
 use Rattle.vc_tree_model.specs.Look.{values}
 use Rattle.vc_tree_model.specs.Tree.{forest_nodes, nodes, shortened}
 use Rattle.vc_tree_nodes.specs.Children.{seen}
@@ -13,7 +12,7 @@ use Rattle.vc_tree_facing.proofs.Apart.{apart-asked, apart-lessened}
 use Rattle.vc_tree_facing.proofs.Deciding.{list-begun, list-done}
 use Rattle.vc_tree_facing.proofs.Leaving.{if-ok, node-lessened, inside-lessened, value-may, below-may, node-kids, node-smaller}
 use Rattle.vc_tree_facing.proofs.Leaving.{inner-list}
-use Rattle.vc_tree_facing.proofs.Leaving.{ended-value, ended-children, inner-value, inner-children, below-children_at}
+use Rattle.vc_tree_facing.proofs.Leaving.{ended-value, ended-children, inner-children, below-children_at}
 use Rattle.vc_tree_facing.proofs.Leaving.{below-fewer}
 use Rattle.vc_tree_facing.proofs.Next.{nil-by}
 use Rattle.vc_tree_combines.proofs.Narrowed.{value-alone, below-alone, node-alone, both-whole, alone-whole, made-node}

@@ -5,7 +5,7 @@ use Rattle.vc_tree_edits.proofs.engine.take_apart.Goals as goal
 pub returns-then-i-front : goal.returns-then-i-front
 returns-then-i-front g c =
     taken-rest g.T.RadixNode.tree g.T.Build.keeps g.met.T.Build.keeps_refl c.args.tree c.args.i c.args.front _ _ _
-    c.prefix-whole.ensures.value c.in_ok-from_slice.ensures.items (omega arith) c.if-i-front.true _ c.new.ensures.items
+    c.prefix-whole.ensures.value c.in_ok-from_slice.ensures.items (omega arith) c.if-i-front.true _ c.in_ok-alone.ensures
 
 pub returns : goal.returns
 returns g c =

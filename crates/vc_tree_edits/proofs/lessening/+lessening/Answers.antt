@@ -1,11 +1,10 @@
 -- What is left of two trees, by where their prefixes end, and of the children one after the other.
-use Rattle.std.proofs.Common.{◌≡◌, ◌+◌, ◌<◌, ◌≤◌, ◌∷◌, [], None, refl, sym, ap, subst, ◌∙◌, arith, rules, take}
+use Rattle.std.proofs.Common.{◌≡◌, ◌+◌, ◌<◌, ◌≤◌, ◌∷◌, [], refl, sym, ap, subst, ◌∙◌, arith, rules, take}
 use Rattle.std.proofs.Common.{length, length-drop, is_ok, true≢false, List}
 use Rattle.std.proofs.Math.ListN.{length-set}
 use Rattle.std.specs.List.{cons_option}
 use Rattle.std.specs.Option.{option_copied}
 use Rattle.vc_tree_model.specs.Canonical.{AreChildren}
-use Rattle.vc_tree_model.specs.Map.{lookup_in}
 use Rattle.vc_tree_model.specs.Tree.{forest_nodes, nodes}
 use Rattle.vc_tree_model.proofs.AlikeLemmas.{alike-children, alike-lookup, alike-nodes}
 use Rattle.vc_tree_nodes.specs.Children.{listed, seen}
