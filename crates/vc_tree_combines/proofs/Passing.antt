@@ -1,6 +1,7 @@
 -- A merge that passes the trees of one list alone, and stops at two that begin alike or at one that is missed.
 --     passed        what the merge has passed, and where it stopped
 --     end-told, missed-told, meets        what that tells of the keys of both lists
+--     alike-meet        two lists whose first trees begin alike
 use Rattle.std.proofs.Common.{◌≡◌, ℕ, ◌+◌, ◌≤◌, [], ◌∷◌, ◌++◌, List, Option, Some, Bool, true, false, not, Result, Ok}
 use Rattle.std.proofs.Common.{Err, ◌⊎◌, inl, inr, refl, sym, ap, subst, ◌∙◌, map, true≢false, append_assoc}
 use Rattle.std.proofs.Common.{append-nil, slice_get, arith}
@@ -10,10 +11,12 @@ use Rattle.std.specs.List.{AllByRecursion}
 use Rattle.std.specs.List.Sorted.{IsStrictlySortedBy}
 use Rattle.std.specs.declared.alloc.AllocError.{AllocError}
 use Rattle.std.specs.declared.cmp.Ordering.{Ordering}
+use Rattle.std.specs.declared.cmp.Ordering.TheVariants.{Equal}
 use Rattle.vc_merge.specs.Ascending.{Ascends}
 use Rattle.vc_merge.specs.Chain.{Answer, Allows, allows, Run, of_left, of_right, of_both, run_events, events}
 use Rattle.vc_merge.specs.Chain.{IsAtFront, IsAllowed, Step, Steps, Finishes, Stops, IsMerged}
 use Rattle.vc_merge.specs.Script.{Event, left_alone, right_alone, collision, lefts, rights, place, IsMatched, IsScript}
+use Rattle.vc_merge.proofs.Scripts.{some-script}
 use Rattle.vc_tree_model.specs.Canonical.{AreChildren, IsSolid}
 use Rattle.vc_tree_model.specs.Map.{lookup}
 use Rattle.vc_tree_model.specs.Tree.{Tree, Forest, grow, nodes, forest_nodes}
@@ -22,8 +25,9 @@ use Rattle.vc_tree_nodes.specs.Children.{seen}
 use Rattle.vc_tree_nodes.specs.Parting.{Agree}
 use Rattle.vc_tree_facing.specs.Doing.{IsAskedAt}
 use Rattle.vc_tree_combines.specs.Meeting.{IsMet, IsMissed, TellsKeysIn, IsMeeting}
-use Rattle.vc_tree_facing.specs.Sides.{by_component}
-use Rattle.vc_tree_facing.proofs.Components.{components}
+use Rattle.vc_tree_facing.specs.Sides.{by_component, by_component_total}
+use Rattle.vc_tree_facing.proofs.Components.{components, children-ascend}
+use Rattle.vc_tree_facing.proofs.Deciding.{first-both}
 use Rattle.vc_tree_model.specs.Look.{values}
 use Rattle.vc_tree_facing.proofs.Making.{script-asked, script-all}
 use Rattle.vc_tree_combines.proofs.Meeting.{met-alone}
@@ -336,6 +340,25 @@ module _ {K V W A B : Type 0} (cmp : K → K → Ordering) (o : IsTotalOrder cmp
           (sym (rights-append es (collision x y ∷ rest)) ∙ s.right) (components cmp tb 0 ys cb) in
           let m = (event-rest (IsMatched (by_component ta tb 0 0 cmp)) es (collision x y ∷ rest) s.matched).0 in
           agree-first cmp (ta x).prefix (tb y).prefix p.0 q.0 p.1 q.1 (rw (p.1, q.1) at m)
+
+-- two lists whose first trees begin alike
+pub alike-meet : {K V W A B : Type 0} (cmp : K → K → Ordering) (o : IsTotalOrder cmp) (ta : A → Tree K V) (tb : B → Tree K W)
+    (shared : Bool) (xs : List A) (ys : List B) → AreChildren cmp (seen ta xs) → AreChildren cmp (seen tb ys) → {x : A}
+    {ls : List A} {y : B} {rs : List B} → xs ≡ x ∷ ls → ys ≡ y ∷ rs → by_component ta tb 0 0 cmp (inr y) (inl x) ≡ Equal
+    → IsMeeting cmp ta tb shared xs ys x ls y rs
+alike-meet cmp o ta tb shared xs ys ca cb {x} {ls} {y} {rs} el er h =
+    let order = by_component ta tb 0 0 cmp in
+    let s = some-script order (by_component_total ta tb 0 0 o) xs ys
+    (record { left = children-ascend cmp ta 0 xs ca; right = children-ascend cmp tb 0 ys cb }) in
+    let f = first-both order (by_component_total ta tb 0 0 o) x ls y rs s.0 s.1.ascends s.1.matched (s.1.left ∙ el)
+    (s.1.right ∙ er) h in
+    let l : x ∷ lefts f.0 ≡ x ∷ ls = ap lefts (sym f.1) ∙ s.1.left ∙ el in
+    let r : y ∷ rights f.0 ≡ y ∷ rs = ap rights (sym f.1) ∙ s.1.right ∙ er in
+    let a : lefts f.0 ≡ ls = cc in
+    let b : rights f.0 ≡ rs = cc in
+    subst (λ l. IsMeeting cmp ta tb shared xs ys x l y rs) a
+    (subst (λ r. IsMeeting cmp ta tb shared xs ys x (lefts f.0) y r) b
+    (meets cmp o ta tb shared xs ys ca cb [] x y f.0 (subst (IsScript order xs ys) f.1 s.1) tt))
 
 -- ---- what comes next of two lists
 

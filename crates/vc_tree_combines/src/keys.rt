@@ -1,7 +1,7 @@
 //! Tests of the keys of two trees. They take no memory: where children of two nodes are merged, the
 //! merge stops at two that begin alike, these are tested, and what is behind them is merged on.
 
-ghost use Rattle.std.specs.Prelude.{◌≡◌, ◌+◌, ◌≤◌, Ok, List, drop, length, not, true, false, MatchBool};
+ghost use Rattle.std.specs.Prelude.{◌≡◌, ◌+◌, ◌≤◌, Bool, Ok, List, drop, length, not, true, false, MatchBool, IfSome};
 ghost use Rattle.std.specs.Option.{option_copied};
 ghost use Rattle.vc_tree_model.specs.Canonical.{AreChildren};
 ghost use Rattle.vc_tree_model.specs.KeySets.{AreDisjoint, HasKeysOf, LacksKeyOf, ShareKey};
@@ -15,6 +15,7 @@ use std::alloc::AllocError;
 use std::cmp::Ordering;
 use std::marker::PhantomData;
 use vc_merge::merge::{Count, MergeOperation, MergeState, Uncounted, merge};
+use vc_tree_facing::facing::compare_at;
 use vc_tree_nodes::parting::{Parting, find_parting};
 use vc_tree_nodes::places::child_at;
 use vc_tree_nodes::reading::{RadixNode, TKey, TValue, canonical, is_empty};
@@ -110,8 +111,46 @@ enum Next<'a, 'b, A, B> {
     End,
 }
 
-/// The first trees of two lists that begin alike.
+/// The first trees of two lists, where they begin alike.
+fn meeting_at_front<'a, 'b, K: TKey, V: TValue, W: TValue, A: RadixNode<K, V>, B: RadixNode<K, W>>(
+    left: &'a [A],
+    right: &'b [B],
+) -> Option<Next<'a, 'b, A, B>>
+    requires left { AreChildren K.cmp (seen A.tree left.now) }
+    requires right { AreChildren K.cmp (seen B.tree right.now) }
+    ensures { IfSome result (λ next. (shared : Bool)
+        → IsNext K.cmp A.tree B.tree shared left.now right.now next) }
+{
+    let (x, lefts) = left.split_first()?;
+    let (y, rights) = right.split_first()?;
+    match compare_at(y, 0, x, 0, &mut Uncounted) {
+        Ordering::Equal => Some(Next::Meeting(x, lefts, y, rights)),
+        _ => None,
+    }
+}
+
+/// The first trees of two lists that begin alike. No merge is begun where they stand in front, or
+/// where the left list has ended.
 fn next_meeting<'a, 'b, K: TKey, V: TValue, W: TValue, A: RadixNode<K, V>, B: RadixNode<K, W>>(
+    left: &'a [A],
+    right: &'b [B],
+    shared: bool,
+) -> Next<'a, 'b, A, B>
+    requires left { AreChildren K.cmp (seen A.tree left.now) }
+    requires right { AreChildren K.cmp (seen B.tree right.now) }
+    ensures { IsNext K.cmp A.tree B.tree shared left.now right.now result }
+{
+    if left.is_empty() {
+        return Next::End;
+    }
+    match meeting_at_front(left, right) {
+        Some(next) => next,
+        None => merge_to_meeting(left, right, shared),
+    }
+}
+
+/// The same by a merge.
+fn merge_to_meeting<'a, 'b, K: TKey, V: TValue, W: TValue, A: RadixNode<K, V>, B: RadixNode<K, W>>(
     left: &'a [A],
     right: &'b [B],
     shared: bool,
