@@ -4,6 +4,7 @@ use Rattle.std.proofs.Common.{get_or, not, nat_eq, ne_eqb, ◌≤◌, arith, ref
 use Rattle.std.specs.Int.{from_bool}
 use Rattle.std.specs.Ordering.{is_le, is_ge}
 use denote.Ref.{Bor}
+use mathlib.Core.Bool.{true≢false}
 use Rattle.std.specs.List.{AllZip}
 use Rattle.std.specs.List.Sorted.{IsStrictlySortedBy}
 use Rattle.std.specs.Cmp.{IsTotalOrder}
@@ -17,7 +18,7 @@ use Rattle.vc_merge.specs.Building.{Extends}
 use Rattle.vc_merge.specs.Gathering.{Gathers, GivesIf, Appends, IsBuilt}
 use Rattle.vc_merge.proofs.Builds.{appends-nothing, appends-append}
 use Rattle.vc_merge.proofs.Scripts.{put-lefts, put-rights, put-both, below-rights, below-lefts, turned}
-use Rattle.vc_sets.specs.Begun.{IsBegun, kept_of, lesser_of}
+use Rattle.vc_sets.specs.Begun.{IsBegun, kept_at, kept_of, lesser_of}
 use Rattle.vc_sets.specs.SetOf.{IsSetOf}
 use Rattle.vc_sets.specs.Select.{both_sides, both_sides-total, KeptAt, keeps}
 use Rattle.vc_sets.proofs.Selected.{set-of}
@@ -235,13 +236,20 @@ module _ {X : Type 0} (cmp : X → X → Ordering) (total : IsTotalOrder cmp) (f
         set-of cmp total from from equal equal f none xs ys new (h.events ++ k.events) (h.leads k.events k.script)
         (subst (λ l. Gathers (KeptAt f from from) (h.events ++ k.events) l) (sym whole.items) whole.gathered)
 
+-- the left head, where something is kept and no right head is
+pub left-lesser : {X : Type 0} (left both : Bool) (o : Ordering) (x y : X) → kept_at (keeps left false both) o ≡ true
+    → x ≡ lesser_of o x y
+left-lesser left both Less x y h = refl
+left-lesser left both Equal x y h = refl
+left-lesser left both Greater x y h = absurd (true≢false (sym h))
+
 -- a reference more, where it is kept
-pub kept-more : {X : Type 0} (ps : List (Bor X)) (n m : ℕ) (p : Bor X) (z : X) (b : Bool) → n < length ps → p.now ≡ z
-    → m ≡ n + from_bool b
+pub kept-more : {X : Type 0} (ps : List (Bor X)) (n m : ℕ) (p : Bor X) (z : X) (b : Bool) → n < length ps
+    → (b ≡ true → p.now ≡ z) → m ≡ n + from_bool b
     → map (λ r. r.now) (take m (set ps n p)) ≡ map (λ r. r.now) (take n ps) ++ elim b [ true ↦ z ∷ [] | false ↦ [] ]
 kept-more ps n m p z true h e k =
     ap (map (λ r. r.now)) (take-set_at ps n m p k h) ∙ map-append (λ r. r.now) (take n ps) (p ∷ [])
-    ∙ ap (λ w. map (λ r. r.now) (take n ps) ++ w ∷ []) e
+    ∙ ap (λ w. map (λ r. r.now) (take n ps) ++ w ∷ []) (e refl)
 kept-more ps n m p z false h e k =
     ap (λ i. map (λ r. r.now) (take i (set ps n p))) (k ∙ (let same : n + 0 ≡ n = omega arith in same))
     ∙ ap (map (λ r. r.now)) (take-set ps n p) ∙ sym (append-nil (map (λ r. r.now) (take n ps)))

@@ -3,8 +3,9 @@
 //! A processor guesses wrongly which of two heads is the lesser in every second event, or nearly.
 //! So an event chooses the lesser head whatever the operation does with it, and moves the places by
 //! numbers that are 0 or 1. A union appends a clone of it at once; the others store a reference to
-//! it, and append clones of what they keep behind some events.
-ghost use Rattle.std.specs.Prelude.{◌≡◌, ◌+◌, ◌<◌, ◌≤◌, [], drop, take, map, length, not, true, false, IfOk, OnOk, IsTrue};
+//! it, or to the left head where they keep no right one, and append clones of what they keep behind
+//! some events.
+ghost use Rattle.std.specs.Prelude.{◌≡◌, ◌+◌, ◌<◌, ◌≤◌, Bool, [], drop, take, map, length, not, true, false, IfOk, OnOk, IsTrue};
 ghost use Rattle.smallvec.specs.SmallVec.{HasRoomFor};
 ghost use Rattle.vc_merge.specs.Ascending.{Ascends};
 ghost use Rattle.vc_merge.specs.Building.{Extends};
@@ -327,7 +328,7 @@ fn choose<'a, const LEFT: bool, const RIGHT: bool, const BOTH: bool, T: Ord, C: 
         let x = &a[left];
         let y = &b[right];
         let order = compare(x, y, steps);
-        kept[count] = lesser(order, x, y);
+        kept[count] = stored::<RIGHT, _>(order, x, y);
         count += usize::from(is_kept::<LEFT, RIGHT, BOTH>(order));
         left += usize::from(order.is_le());
         right += usize::from(order.is_ge());
@@ -342,6 +343,20 @@ fn lesser<'a, T>(order: Ordering, left: &'a T, right: &'a T) -> &'a T
     ensures { result.now ≡ lesser_of order left.now right.now }
 {
     if order.is_le() { left } else { right }
+}
+
+/// What is stored at an event: the lesser head, or the left one where no right one is kept. So it
+/// is what is kept, if something is.
+#[inline(always)]
+fn stored<'a, const RIGHT: bool, T>(order: Ordering, left: &'a T, right: &'a T) -> &'a T
+    ensures { (on_left on_both : Bool) → kept_at (keeps on_left RIGHT on_both) order ≡ true
+        → result.now ≡ lesser_of order left.now right.now }
+{
+    if RIGHT {
+        lesser(order, left, right)
+    } else {
+        left
+    }
 }
 
 /// Whether something is kept at an event, by the order of the two heads.

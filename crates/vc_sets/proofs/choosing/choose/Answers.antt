@@ -3,7 +3,7 @@ use Rattle.std.specs.Int.{from_bool}
 use Rattle.std.specs.Ordering.{is_le, is_ge}
 use Rattle.std.proofs.lemmas.List.{length-set}
 use Rattle.vc_sets.specs.Begun.{kept_at, lesser_of}
-use Rattle.vc_sets.proofs.Begun.{keeps_by, begun-nothing, begun-step, appends-event, kept-more, bit-most, event-some}
+use Rattle.vc_sets.proofs.Begun.{is_set, keeps_by, begun-nothing, begun-step, appends-event, kept-more, bit-most, event-some}
 use Rattle.vc_sets.proofs.choosing.choose.Goals as goal
 
 pub events-init : goal.events-init
@@ -33,7 +33,7 @@ events-preserved g c =
     record {
       within_left = omega (arith, left, one_left, in_left);
       within_right = omega (arith, right, one_right, in_right);
-      places = length-set c.events.kept c.events.count c.lesser.result ∙ was.places;
+      places = length-set c.events.kept c.events.count c.stored.result ∙ was.places;
       room = omega (arith, count, one, was.room);
       within = omega (arith, in_block);
       some = omega (arith, left, right, some, was.some);
@@ -42,6 +42,7 @@ events-preserved g c =
           _ _ c.events.left c.events.right _ _ x y o in_left in_right c.index-a-left.is c.index-b-right.is
           c.compare-order.ensures.value (ap (λ n. c.events.left + n) left) (ap (λ n. c.events.right + n) right)
           (appends-event g.T.Ord.cmp g.met.T.Ord.total f x y _ _ o
-          (kept-more c.events.kept c.events.count _ c.lesser.result (lesser_of o x y) (kept_at f o)
-          (omega (arith, was.places, in_block, was.room)) c.lesser.ensures (ap (λ n. c.events.count + n) count))) was.begun;
+          (kept-more c.events.kept c.events.count _ c.stored.result (lesser_of o x y) (kept_at f o)
+          (omega (arith, was.places, in_block, was.room)) (c.stored.ensures (is_set g.row.LEFT) (is_set g.row.BOTH))
+          (ap (λ n. c.events.count + n) count))) was.begun;
     }
