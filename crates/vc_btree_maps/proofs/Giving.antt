@@ -199,14 +199,13 @@ module _ {K V W : Type 0} {cmp : K → K → Ordering} (total : IsTotalOrder cmp
             → entry_at cmp others h.key ≡ q → MatchOption o (IsGivenAt cmp is_clone Gives q a) (λ p. a ≡ Some p)
             → MatchOption (cond (is_some o) q None) (b ≡ a) (λ q. IsKeptAt cmp May q.0 q.1 a b)
             → asked kind.Left left_spelling b q ≡ Some x → AtAlone Takes x
-        by o None a None e f g s is = cc
-        by o (Some r) a None e f g s is = cc
         by o (Some r) a (Some p) e f g s is = let same : Both p.0 p.1 r.1 ≡ x = cc in rw (sym same) tt
         by None None a (Some p) e f g s is = let h : Some p ≡ None = s ∙ g in cc
         by (Some o) None a (Some p) e f g s is =
             let same : Left p.0 p.1 ≡ x = cc in
             let own : Some p ≡ Some o = s ∙ g in
             rw (sym same) (takes p.0 p.1 None (record { key = h.key; asks = rw (e ∙ sym own, f) refl }))
+        by o x a y e f g s is = cc
 
   -- what the second pass asks, the outer join asks
   pub second-takes : (Takes : OuterJoinArg K V W → Type 0)
@@ -224,9 +223,8 @@ module _ {K V W : Type 0} {cmp : K → K → Ordering} (total : IsTotalOrder cmp
       by : (o : Option (K × V)) (q : Option (K × W)) → cond (is_some o) q None ≡ Some r
           → MatchOption o (IsGivenAt cmp is_clone Gives q (Some p)) (λ o. Some p ≡ Some o)
           → asked kind.Outer right_spelling o q ≡ Some (Both r.0 p.1 r.1)
-      by None q e g = cc
-      by (Some o) None e g = cc
       by (Some o) (Some q) e g =
           let same : q ≡ r = cc in
           let own : o ≡ p = cc in
           λ i. Some (Both (same i).0 (own i).1 (same i).1)
+      by x q e g = cc

@@ -188,11 +188,10 @@ module _ {K V W : Type 0} (cmp : K → K → Ordering) (May : OuterJoinArg K V W
       → ((p : K × V) (r : K × W) → z ≡ Some p → q ≡ Some r → entry_at cmp old r.0 ≡ Some p)
       → MatchOption q (new ≡ z) (λ q. IsKeptAt cmp May q.0 q.1 z new)
       → IsAnswered (OrStays May) (StayedKey cmp old) (asked kind.Left right_spelling z q) new
-  right-answered None None new own shared is = is
   right-answered None (Some p) new own shared is = rw is (refl, rw (own p refl) refl)
-  right-answered (Some q) None new own shared is = is
   right-answered (Some q) (Some p) new own shared (None, m, is) = rw is m
   right-answered (Some q) (Some p) new own shared (Some v, m, is) = rw is (m, rw (shared p q refl refl) refl)
+  right-answered x y new own shared is = is
 
 module _ {K V W : Type 0} {cmp : K → K → Ordering} (total : IsTotalOrder cmp) {May : OuterJoinArg K V W → Option V → Type 0}
     {others : List (K × W)} {old : List (K × V)} where
@@ -247,10 +246,8 @@ module _ {K V W : Type 0} (cmp : K → K → Ordering) (May : OuterJoinArg K V W
   -- a shared key that a left join asks at is one that an inner join asks at
   asked-too : (p : Option (K × V)) (q : Option (K × W)) (k : K) (v : V) (w : W) → asked kind.Left left_spelling p q
       ≡ Some (Both k v w) → asked kind.Inner left_spelling p q ≡ Some (Both k v w)
-  asked-too None None k v w e = e
-  asked-too None (Some q) k v w e = e
   asked-too (Some p) None k v w e = cc
-  asked-too (Some p) (Some q) k v w e = e
+  asked-too x y k v w e = e
 
   pub inner-asks : (old : List (K × V)) (others : List (K × W)) (a : OuterJoinArg K V W) (k : K) (v : V) (w : W)
       → Both k v w ≡ a → IsAsked cmp kind.Left left_spelling old others a

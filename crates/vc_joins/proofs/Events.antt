@@ -108,9 +108,8 @@ module _ {K : Type 0} {cmp : K → K → Ordering} (total : IsTotalOrder cmp) wh
       -- the question of an event shows a key that is equal to its own
       shown-alike : (e : Event (K × V) (K × W)) → IsMatched (by_key cmp) e → (y : K)
           → cmp (shown_key (question_of spelled e)) y ≡ cmp (event_key e) y
-      shown-alike (left_alone p) m y = refl
-      shown-alike (right_alone q) m y = refl
       shown-alike (collision p q) m y = sym (total.congr p.0 (spelled p.0 q.0) y (alike p.0 q.0 m))
+      shown-alike x m y = refl
 
       answer-key : (a : OuterJoinArg K V W) (b : Bool) (z : Option (K × X)) → asks kind a ≡ b
           → IsAnswered May Keeps (cond b (Some a) None) z → IsAtKey cmp (shown_key a) z

@@ -29,10 +29,9 @@ module _ {K V W X : Type 0} where
       (p : Option (K × V)) (q : Option (K × W))
       → option_and_then (of_values h) (asked kind spelled p q)
       ≡ in_kind kind h (option_map (λ e. e.1) p) (option_map (λ e. e.1) q)
-  asked-values kind spelled h (Some p) (Some q) = refl
   asked-values kind spelled h (Some p) None = if-asked (of_values h) (asks_left kind) (question.Left p.0 p.1)
   asked-values kind spelled h None (Some q) = if-asked (of_values h) (asks_right kind) (question.Right q.0 q.1)
-  asked-values kind spelled h None None = refl
+  asked-values kind spelled h x y = refl
 
 module _ {V W X : Type 0} where
   -- the joins of each kind by their own words

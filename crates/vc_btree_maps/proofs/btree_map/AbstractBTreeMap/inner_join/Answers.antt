@@ -1,7 +1,6 @@
-use Rattle.std.proofs.Common.{Ok}
-use Rattle.vc_joins.specs.Answers.{MayAnswerInner}
+use Rattle.std.proofs.Common.{rules}
 use Rattle.vc_joins.specs.declared.question.JoinKind.TheVariants as kind
-use Rattle.vc_joins.specs.Question.{right_spelling, shown_key}
+use Rattle.vc_joins.specs.Question.{right_spelling}
 use Rattle.vc_btree_maps.proofs.Asking.{asked-by_kind}
 use Rattle.vc_joins.proofs.Functions.{joins-of_functions}
 use Rattle.vc_joins.proofs.Values.{answers-inner}
@@ -13,9 +12,7 @@ join_inner-requires-clause-takes g c =
     λ a h. (asked-by_kind kind.Inner right_spelling g.K.Ord.cmp _ _ a h, c.requires.callable a h)
 
 pub returns-clause-function : goal.returns-clause-function
-returns-clause-function g c =
-    if-ok c.join_inner.result (λ m. joins-of_functions g.K.Ord.cmp (λ a r. MayAnswerInner g.F.Fn c.args.f a (Ok r))
-    (λ a. g.K.Clone.is_clone (shown_key a)) kind.Inner right_spelling _ _ m.entries) c.join_inner.ensures
+returns-clause-function g c = search (rules, if-ok, joins-of_functions)
 
 pub returns-clause-values : goal.returns-clause-values
 returns-clause-values g c =

@@ -1,13 +1,10 @@
-use Rattle.std.proofs.Common.{not, ap, refl, ◌∙◌}
+use Rattle.std.proofs.Common.{rules, not, ap, refl, ◌∙◌}
 use Rattle.vc_btree_maps.proofs.Asking.{alone-asked, alone-bare, shared-joined, left-joined, next-asks, next-asked, all-joined}
 use Rattle.vc_btree_maps.proofs.Passing.{start, next-same}
 use Rattle.vc_btree_maps.proofs.btree_map.fresh.join_outer.Goals as goal
 
 pub keys-init : goal.keys-init
-keys-init g c =
-    rw (c.into_iter-key-iterator.ensures.into_iter_gives, c.iter-key-items.ensures.pairs)
-    (start c.iter-key-items.ensures.ascends c.in_ok-joined.ensures.ascends (λ k. record { is = c.in_ok-joined.ensures.at k })
-    (λ k e b. left-joined b (λ f. e)))
+keys-init g c = search (rules, left-joined, start)
 
 pub put_right-requires-clause-takes : goal.put_right-requires-clause-takes
 put_right-requires-clause-takes g c =

@@ -1,12 +1,10 @@
-use Rattle.std.proofs.Common.{refl, sym, ◌∙◌}
+use Rattle.std.proofs.Common.{rules, refl, sym, ◌∙◌}
 use Rattle.vc_joins.specs.declared.question.JoinKind.TheVariants.{Right}
 use Rattle.vc_btree_maps.proofs.Staying.{none-decided, next-decided, all-decided, asks-shared, asks-alone, right-of_along}
 use Rattle.vc_btree_maps.proofs.btree_map.in_place.keep_right.Goals as goal
 
 pub keys-init : goal.keys-init
-keys-init g c =
-    rw (c.into_iter-key-iterator.ensures.into_iter_gives, c.iter-key-items.ensures.pairs)
-    (none-decided g.met.K.Ord.total c.iter-key-items.ensures.ascends c.keys_ascend.ensures)
+keys-init g c = search (rules, none-decided)
 
 pub keep_at-requires : goal.keep_at-requires
 keep_at-requires g c = record {
