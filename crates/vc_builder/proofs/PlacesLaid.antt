@@ -2,7 +2,7 @@
 use Rattle.std.proofs.Common.{◌≡◌, ℕ, zero, suc, ◌+◌, ◌<◌, ◌≤◌, List, [], ◌∷◌, ◌++◌, map, length, take, drop, set}
 use Rattle.std.proofs.Common.{get_or, replicate, Option, Some, None, refl, sym, ap, ◌∙◌, arith, length-append}
 use Rattle.std.proofs.Common.{append-nil, take_at, drop_at, append_assoc}
-use Rattle.std.proofs.lemmas.List.{drop_all, length-map, length-replicate}
+use Rattle.std.proofs.lemmas.List.{drop_all, get_or_at, length-map, length-replicate, map-append, set_at}
 use Rattle.vc_builder.specs.Places.{values, IsFilled, spliced, laid}
 
 module _ {X : Type 0} where
@@ -18,25 +18,18 @@ module _ {X : Type 0} where
   abbrev behind : ℕ → List X → List (Option X)
   behind hole ys = replicate hole None ++ map Some ys
 
-  set-behind_none : (hole i : ℕ) (ys : List X) (y : X) → i ≡ hole
-      → set (behind hole (y ∷ ys)) i None ≡ behind (suc hole) ys
-  set-behind_none zero zero ys y e = refl
-  set-behind_none zero (suc i) ys y e = absurd (omega arith)
-  set-behind_none (suc hole) zero ys y e = absurd (omega arith)
-  set-behind_none (suc hole) (suc i) ys y e = ap (λ l. None ∷ l) (set-behind_none hole i ys y (omega arith))
+  -- an empty place in front of a hole is one behind it
+  hole-shifted : (hole : ℕ) (zs : List (Option X)) → replicate hole None ++ None ∷ zs ≡ None ∷ replicate hole None ++ zs
+  hole-shifted zero zs = refl
+  hole-shifted (suc hole) zs = ap (λ l. None ∷ l) (hole-shifted hole zs)
 
-  set-behind_some : (hole i : ℕ) (ys : List X) (y : X) → i ≡ hole
-      → set (behind (suc hole) ys) i (Some y) ≡ behind hole (y ∷ ys)
-  set-behind_some zero zero ys y e = refl
-  set-behind_some zero (suc i) ys y e = absurd (omega arith)
-  set-behind_some (suc hole) zero ys y e = absurd (omega arith)
-  set-behind_some (suc hole) (suc i) ys y e = ap (λ l. None ∷ l) (set-behind_some hole i ys y (omega arith))
+  -- what lies in front of the values past the hole
+  abbrev front : List X → ℕ → List (Option X)
+  front xs hole = map Some xs ++ replicate hole None
 
-  get_or-behind_first : (hole i : ℕ) (ys : List X) (y : X) → i ≡ hole → get_or (behind hole (y ∷ ys)) i None ≡ Some y
-  get_or-behind_first zero zero ys y e = refl
-  get_or-behind_first zero (suc i) ys y e = absurd (omega arith)
-  get_or-behind_first (suc hole) zero ys y e = absurd (omega arith)
-  get_or-behind_first (suc hole) (suc i) ys y e = get_or-behind_first hole i ys y (omega arith)
+  length-front : (xs : List X) (hole i : ℕ) → i ≡ length xs + hole → length (front xs hole) ≡ i
+  length-front xs hole i e = let none : Option X = None in
+      omega (arith, length-append (map Some xs) (replicate hole none), length-map xs Some, length-replicate hole none)
 
   get_or-behind_hole : (hole i : ℕ) (ys : List X) → i < hole → get_or (behind hole ys) i None ≡ None
   get_or-behind_hole zero i ys h = absurd (omega arith)
@@ -59,40 +52,41 @@ module _ {X : Type 0} where
   pub laid-push : (xs : List X) (hole : ℕ) (ys : List X) (x : X) (i : ℕ) → i ≡ length xs
       → set (laid xs (suc hole) ys) i (Some x) ≡ laid (xs ++ x ∷ []) hole ys
   unfolding laid
-  laid-push [] hole ys x zero e = refl
-  laid-push [] hole ys x (suc i) e = absurd (omega arith)
-  laid-push (z ∷ xs) hole ys x zero e = absurd (omega arith)
-  laid-push (z ∷ xs) hole ys x (suc i) e = ap (λ l. Some z ∷ l) (laid-push xs hole ys x i (omega arith))
+  laid-push xs hole ys x i e =
+      set_at (map Some xs) None (behind hole ys) (Some x) i (omega (arith, length-map xs Some))
+      ∙ sym (simp (map-append, append_assoc))
 
   -- the value past the hole is moved out
   pub laid-pop : (xs : List X) (hole : ℕ) (ys : List X) (y : X) (i : ℕ) → i ≡ length xs + hole
       → set (laid xs hole (y ∷ ys)) i None ≡ laid xs (suc hole) ys
   unfolding laid
-  laid-pop [] hole ys y i e = set-behind_none hole i ys y (omega arith)
-  laid-pop (x ∷ xs) hole ys y zero e = absurd (omega arith)
-  laid-pop (x ∷ xs) hole ys y (suc i) e = ap (λ l. Some x ∷ l) (laid-pop xs hole ys y i (omega arith))
+  laid-pop xs hole ys y i e =
+      ap (λ l. set l i None) (sym (append_assoc (map Some xs) (replicate hole None) (Some y ∷ map Some ys)))
+      ∙ set_at (front xs hole) (Some y) (map Some ys) None i (length-front xs hole i e)
+      ∙ append_assoc (map Some xs) (replicate hole None) (None ∷ map Some ys)
+      ∙ ap (λ l. map Some xs ++ l) (hole-shifted hole (map Some ys))
 
   -- a value is written into the last place of the hole
   pub laid-unpop : (xs : List X) (hole : ℕ) (ys : List X) (y : X) (i : ℕ) → i ≡ length xs + hole
       → set (laid xs (suc hole) ys) i (Some y) ≡ laid xs hole (y ∷ ys)
   unfolding laid
-  laid-unpop [] hole ys y i e = set-behind_some hole i ys y (omega arith)
-  laid-unpop (x ∷ xs) hole ys y zero e = absurd (omega arith)
-  laid-unpop (x ∷ xs) hole ys y (suc i) e = ap (λ l. Some x ∷ l) (laid-unpop xs hole ys y i (omega arith))
+  laid-unpop xs hole ys y i e =
+      ap (λ l. set l i (Some y)) (ap (λ l. map Some xs ++ l) (sym (hole-shifted hole (map Some ys)))
+      ∙ sym (append_assoc (map Some xs) (replicate hole None) (None ∷ map Some ys)))
+      ∙ set_at (front xs hole) None (map Some ys) (Some y) i (length-front xs hole i e)
+      ∙ append_assoc (map Some xs) (replicate hole None) (Some y ∷ map Some ys)
 
   -- where there is no hole, values past it count as in front of it
   pub laid-pass : (xs ys zs : List X) → laid xs 0 (ys ++ zs) ≡ laid (xs ++ ys) 0 zs
   unfolding laid
-  laid-pass [] [] zs = refl
-  laid-pass [] (y ∷ ys) zs = ap (λ l. Some y ∷ l) (laid-pass [] ys zs)
-  laid-pass (x ∷ xs) ys zs = ap (λ l. Some x ∷ l) (laid-pass xs ys zs)
+  laid-pass xs ys zs = simp (map-append, append_assoc)
 
   pub get_or-laid_first : (xs : List X) (hole : ℕ) (ys : List X) (y : X) (i : ℕ) → i ≡ length xs + hole
       → get_or (laid xs hole (y ∷ ys)) i None ≡ Some y
   unfolding laid
-  get_or-laid_first [] hole ys y i e = get_or-behind_first hole i ys y (omega arith)
-  get_or-laid_first (x ∷ xs) hole ys y zero e = absurd (omega arith)
-  get_or-laid_first (x ∷ xs) hole ys y (suc i) e = get_or-laid_first xs hole ys y i (omega arith)
+  get_or-laid_first xs hole ys y i e =
+      ap (λ l. get_or l i None) (sym (append_assoc (map Some xs) (replicate hole None) (Some y ∷ map Some ys)))
+      ∙ get_or_at (front xs hole) (Some y) (map Some ys) None i (length-front xs hole i e)
 
   pub get_or-laid_hole : (xs : List X) (hole : ℕ) (ys : List X) (i : ℕ) → length xs ≤ i → i < length xs + hole
       → get_or (laid xs hole ys) i None ≡ None
@@ -119,10 +113,9 @@ module _ {X : Type 0} where
   pub drop-laid : (xs : List X) (hole : ℕ) (ys : List X) (i : ℕ) → i ≡ length xs + hole
       → drop i (laid xs hole ys) ≡ map Some ys
   unfolding laid
-  drop-laid xs hole ys i e = let none : Option X = None in
-      ap (drop i) (sym (append_assoc (map Some xs) (replicate hole none) (map Some ys)))
-      ∙ drop_at (map Some xs ++ replicate hole none) (map Some ys) i
-      (omega (arith, length-append (map Some xs) (replicate hole none), length-map xs Some, length-replicate hole none))
+  drop-laid xs hole ys i e =
+      ap (drop i) (sym (append_assoc (map Some xs) (replicate hole None) (map Some ys)))
+      ∙ drop_at (front xs hole) (map Some ys) i (length-front xs hole i e)
 
   wider : (k hole all : ℕ) (ys : List X) → all ≡ k + hole → replicate k None ++ behind hole ys ≡ behind all ys
   wider zero hole all ys e = let same : hole ≡ all = omega arith in ap (λ n. behind n ys) same
@@ -142,18 +135,11 @@ module _ {X : Type 0} where
       → spliced (laid xs hole ys) i count zs ≡ laid xs hole zs
   unfolding laid
   laid-spliced xs hole ys zs i count e f =
-      let none : Option X = None in let gap = replicate hole none in let front = map Some xs ++ gap in
-      let long : i ≡ length front = omega (
-        arith,
-        length-append (map Some xs) gap,
-        length-map xs Some,
-        length-replicate hole none,
-      ) in
-      let cut = sym (append_assoc (map Some xs) gap (map Some ys)) in
+      let cut = sym (append_assoc (map Some xs) (replicate hole None) (map Some ys)) in
       let past : length (laid xs hole ys) ≤ i + count = omega (arith, length-laid xs hole ys) in
-      (λ j. (ap (take i) cut ∙ take_at front (map Some ys) i (sym long)) j ++
+      (λ j. (ap (take i) cut ∙ take_at (front xs hole) (map Some ys) i (length-front xs hole i e)) j ++
       (map Some zs ++ drop_all (i + count) (laid xs hole ys) past j))
-      ∙ ap (λ l. front ++ l) (append-nil (map Some zs)) ∙ append_assoc (map Some xs) gap (map Some zs)
+      ∙ simp (append-nil, append_assoc)
 
   -- a row whose first places were emptied
   abbrev pub emptied : List (Option X) → ℕ → List (Option X)
@@ -161,30 +147,25 @@ module _ {X : Type 0} where
 
   pub get_or-emptied : (row : List (Option X)) (i j : ℕ) → j ≡ i → i < length row
       → get_or (emptied row i) j None ≡ get_or row i None
-  get_or-emptied [] i j e h = absurd (omega arith)
   get_or-emptied (c ∷ row) zero zero e h = refl
-  get_or-emptied (c ∷ row) zero (suc j) e h = absurd (omega arith)
-  get_or-emptied (c ∷ row) (suc i) zero e h = absurd (omega arith)
   get_or-emptied (c ∷ row) (suc i) (suc j) e h = get_or-emptied row i j (omega arith) (omega arith)
+  get_or-emptied x i j e h = absurd (omega arith)
 
   set-emptied : (row : List (Option X)) (i j : ℕ) → j ≡ i → i < length row
       → set (emptied row i) j None ≡ emptied row (suc i)
-  set-emptied [] i j e h = absurd (omega arith)
   set-emptied (c ∷ row) zero zero e h = refl
-  set-emptied (c ∷ row) zero (suc j) e h = absurd (omega arith)
-  set-emptied (c ∷ row) (suc i) zero e h = absurd (omega arith)
   set-emptied (c ∷ row) (suc i) (suc j) e h = ap (λ l. None ∷ l) (set-emptied row i j (omega arith) (omega arith))
+  set-emptied x i j e h = absurd (omega arith)
 
   pub emptied-next : (row : List (Option X)) (i : ℕ) → i < length row → set (emptied row i) i None ≡ emptied row (i + 1)
   emptied-next row i h = let more : suc i ≡ i + 1 = omega arith in set-emptied row i i refl h ∙ ap (emptied row) more
 
   values-take_suc : (row : List (Option X)) (i : ℕ) (x : X) → get_or row i None ≡ Some x
       → values (take (suc i) row) ≡ values (take i row) ++ x ∷ []
-  values-take_suc [] i x e = cc
-  values-take_suc (None ∷ row) zero x e = cc
   values-take_suc (Some y ∷ row) zero x e = let same : y ≡ x = cc in ap (λ z. z ∷ []) same
   values-take_suc (None ∷ row) (suc i) x e = values-take_suc row i x e
   values-take_suc (Some y ∷ row) (suc i) x e = ap (λ l. y ∷ l) (values-take_suc row i x e)
+  values-take_suc y i x e = cc
 
   pub values-take_next : (row : List (Option X)) (i : ℕ) (x : X) → get_or row i None ≡ Some x
       → values (take (i + 1) row) ≡ values (take i row) ++ x ∷ []
