@@ -21,9 +21,8 @@ use Rattle.vc_intervals.proofs.Turned.{turned-not, turned-above}
 
 -- what is not at or below is above
 pub greater : (o : Ordering) → is_le o ≡ false → o ≡ Greater
-greater Less e = absurd (true≢false e)
-greater Equal e = absurd (true≢false e)
 greater Greater e = refl
+greater x e = absurd (true≢false e)
 
 all-put_if : {X : Type 0} (P : X → Type 0) (c : Bool) (x : X) (xs : List X) → P x → AllByRecursion P xs
     → AllByRecursion P (put_if c x xs)

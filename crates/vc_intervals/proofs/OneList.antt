@@ -40,11 +40,10 @@ module _ {X : Type 0} (cmp : X → X → Ordering) (total : IsTotalOrder cmp) wh
 
   pub equal-members : (b : Bool) (xs ys : List X) (x : X) → AllZip (λ v w. cmp v w ≡ Equal) xs ys → turned cmp b xs x ≡ turned cmp b ys x
   equal-members b [] [] x z = refl
-  equal-members b [] (w ∷ ys) x z = absurd z
-  equal-members b (v ∷ xs) [] x z = absurd z
   equal-members b (v ∷ xs) (w ∷ ys) x z =
       ap (λ o. exactly_one (is_le o) (turned cmp b xs x)) (total.congr v w x z.0)
       ∙ ap (exactly_one (is_le (cmp w x))) (equal-members b xs ys x z.1)
+  equal-members b y u x z = absurd z
 
   exactly-one_same : (p q r : Bool) → exactly_one p q ≡ exactly_one p r → q ≡ r
   exactly-one_same true q r e = sym (not-not q) ∙ ap not e ∙ not-not r

@@ -12,13 +12,11 @@ use Rattle.vc_intervals.specs.Turns.{turned}
 
 pub less-from_is_lt : (o : Ordering) → is_lt o ≡ true → o ≡ Less
 less-from_is_lt Less e = refl
-less-from_is_lt Equal e = absurd (true≢false (sym e))
-less-from_is_lt Greater e = absurd (true≢false (sym e))
+less-from_is_lt x e = absurd (true≢false (sym e))
 
 not_less : (o : Ordering) → is_lt o ≡ false → is_le (ordering_reverse o) ≡ true
 not_less Less e = absurd (true≢false e)
-not_less Equal e = refl
-not_less Greater e = refl
+not_less x e = refl
 
 module _ {X : Type 0} (cmp : X → X → Ordering) (total : IsTotalOrder cmp) where
   -- what is at or below a place is at or below what is above that

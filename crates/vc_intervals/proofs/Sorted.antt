@@ -7,7 +7,7 @@ use Rattle.std.specs.List.{AllByRecursion}
 use Rattle.std.specs.List.Sorted.{IsSortedByKey}
 use Rattle.std.specs.Ordering.{is_le, is_lt, ordering_reverse}
 use Rattle.std.specs.declared.cmp.Ordering.{Ordering}
-use Rattle.std.specs.declared.cmp.Ordering.TheVariants.{Less, Equal, Greater}
+use Rattle.std.specs.declared.cmp.Ordering.TheVariants.{Less}
 use Rattle.std.specs.declared.ops.Range.{Range}
 use Rattle.vc_merge.proofs.ListLemmas.{each-weaker}
 use Rattle.vc_intervals.specs.Ranges.{StartsAscend}
@@ -18,18 +18,15 @@ module _ {X : Type 0} (cmp : X → X → Ordering) (total : IsTotalOrder cmp) wh
 
   reversed-lt : (o : Ordering) → is_lt o ≡ true → is_lt (ordering_reverse o) ≡ false
   reversed-lt Less e = refl
-  reversed-lt Equal e = absurd (true≢false (sym e))
-  reversed-lt Greater e = absurd (true≢false (sym e))
+  reversed-lt x e = absurd (true≢false (sym e))
 
   le-reversed : (o : Ordering) → is_lt o ≡ false → is_le (ordering_reverse o) ≡ true
   le-reversed Less e = absurd (true≢false e)
-  le-reversed Equal e = refl
-  le-reversed Greater e = refl
+  le-reversed x e = refl
 
   lt-reversed : (o : Ordering) → is_le (ordering_reverse o) ≡ true → is_lt o ≡ false
   lt-reversed Less e = absurd (true≢false (sym e))
-  lt-reversed Equal e = refl
-  lt-reversed Greater e = refl
+  lt-reversed x e = refl
 
   -- y is not less than x where x is at or below y
   le-from_not : (x y : X) → is_lt (cmp y x) ≡ false → is_le (cmp x y) ≡ true

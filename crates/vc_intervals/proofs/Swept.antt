@@ -176,8 +176,7 @@ module _ {X : Type 0} (cmp : X → X → Ordering) (total : IsTotalOrder cmp) wh
 
   reverse-le : (o : Ordering) → is_lt o ≡ false → is_le (ordering_reverse o) ≡ true
   reverse-le Less e = absurd (true≢false e)
-  reverse-le Equal e = refl
-  reverse-le Greater e = refl
+  reverse-le x e = refl
 
   -- the greater one of two is at or below a place where both are
   max-le : (a b x : X) → is_le (cmp (ord_max cmp a b) x) ≡ (is_le (cmp a x) && is_le (cmp b x))

@@ -107,11 +107,10 @@ module _ {X : Type 0} (cmp : X → X → Ordering) (total : IsTotalOrder cmp) (i
     (alike : ClonesAreEqual cmp is_clone) where
   turned-clones : (b : Bool) (xs zs : List X) (y : X) → AllZip is_clone xs zs → turned cmp b zs y ≡ turned cmp b xs y
   turned-clones b [] [] y z = refl
-  turned-clones b [] (w ∷ zs) y z = absurd z
-  turned-clones b (x ∷ xs) [] y z = absurd z
   turned-clones b (x ∷ xs) (w ∷ zs) y z =
       ap (λ o. exactly_one (is_le o) (turned cmp b zs y)) (sym (alike x w z.0 y))
       ∙ ap (exactly_one (is_le (cmp x y))) (turned-clones b xs zs y z.1)
+  turned-clones b x u y z = absurd z
 
   comes-clone : (c : Bool) (x w : X) (xs zs : List X) (y : X) (l r : Option X) → eq_by_cmp cmp x y ≡ c → is_clone x w
       → (Comes (λ u v. u ≡ v) (element_at cmp xs y) l r → Comes is_clone (element_at cmp zs y) l r)
@@ -131,10 +130,9 @@ module _ {X : Type 0} (cmp : X → X → Ordering) (total : IsTotalOrder cmp) (i
   comes-clones : (xs zs : List X) (y : X) (l r : Option X) → AllZip is_clone xs zs
       → Comes (λ u v. u ≡ v) (element_at cmp xs y) l r → Comes is_clone (element_at cmp zs y) l r
   comes-clones [] [] y l r z h = tt
-  comes-clones [] (w ∷ zs) y l r z h = absurd z
-  comes-clones (x ∷ xs) [] y l r z h = absurd z
   comes-clones (x ∷ xs) (w ∷ zs) y l r z h =
       comes-clone (eq_by_cmp cmp x y) x w xs zs y l r refl z.0 (comes-clones xs zs y l r z.1) h
+  comes-clones x u y l r z h = absurd z
 
   -- clones of the turns of what f makes
   pub cloned-intervals : (f : Bool → Bool → Bool) (a b : Intervals X) (xs zs : List X) (below : Bool) → AllZip is_clone xs zs
@@ -166,9 +164,8 @@ module _ {X : Type 0} (cmp : X → X → Ordering) (total : IsTotalOrder cmp) (i
 
     zip-append : (xs ys zs ws : List X) → AllZip is_clone xs zs → AllZip is_clone ys ws → AllZip is_clone (xs ++ ys) (zs ++ ws)
     zip-append [] ys [] ws p q = q
-    zip-append [] ys (z ∷ zs) ws p q = absurd p
-    zip-append (x ∷ xs) ys [] ws p q = absurd p
     zip-append (x ∷ xs) ys (z ∷ zs) ws p q = (p.0, zip-append xs ys zs ws p.1 q)
+    zip-append x ys y ws p q = absurd p
 
     adds-append : (ks ls : List X) (s u t : M) → Adds ks s u → Adds ls u t → Adds (ks ++ ls) s t
     adds-append ks ls s u t p q = record {

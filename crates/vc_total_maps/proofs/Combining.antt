@@ -48,13 +48,11 @@ module _ {K V W X : Type 0} (eq : X → X → Bool) (May : V → W → X → Typ
       → IsAnswered MayAsk (ClonedKey is_clone) (asked Outer left_spelling p q) z
       → (v : X) × May (unwrap_or (option_map (λ p. p.1) p) d) (unwrap_or (option_map (λ p. p.1) q) e) v
       × Stands eq f v (option_map (λ p. p.1) z)
-  answer-stands (Some p) (Some q) None h = h
   answer-stands (Some p) (Some q) (Some r) h = h.0
-  answer-stands (Some p) None None h = h
   answer-stands (Some p) None (Some r) h = h.0
-  answer-stands None (Some q) None h = h
   answer-stands None (Some q) (Some r) h = h.0
   answer-stands None None z h = rw h (f, says, same)
+  answer-stands x y z h = h
 
   -- a key is listed as a clone of the one that was shown
   answer-spells : (p : Option (K × V)) (q : Option (K × W)) (z : Option (K × X))

@@ -4,13 +4,12 @@ use Rattle.std.specs.Cmp.{Agrees, then_agrees}
 use Rattle.std.specs.Cmp.Lexicographic.{slice_cmp, slice_partial_cmp, lists_agrees}
 use Rattle.std.specs.Ordering.{ordering_then, partial_ordering_then}
 use Rattle.std.specs.declared.cmp.Ordering.{Ordering}
-use Rattle.std.specs.declared.cmp.Ordering.TheVariants.{Less, Equal, Greater}
+use Rattle.std.specs.declared.cmp.Ordering.TheVariants.{Equal}
 
 -- where the first comparison settles it, the second is not asked
 pub then-other : (o p : Ordering) → (o ≡ Equal → ⊥) → o ≡ ordering_then o p
-then-other Less p not = refl
 then-other Equal p not = absurd (not refl)
-then-other Greater p not = refl
+then-other x p not = refl
 
 pub then-equal : (o p r : Ordering) → o ≡ Equal → r ≡ p → r ≡ ordering_then o p
 then-equal o p r e h = rw e h

@@ -40,13 +40,12 @@ module _ {K : Type 0} (cmp : K → K → Ordering) (total : IsTotalOrder cmp) wh
     pub values-alike : (xs : List (K × V)) (ys : List (K × W)) → AllZip (λ p q. R p.0 q.0 × S p.1 q.1) xs ys
         → (k : K) → Alike S (value_at cmp xs k) (value_at cmp ys k)
     values-alike [] [] h k = tt
-    values-alike [] (y ∷ ys) h k = absurd h
-    values-alike (x ∷ xs) [] h k = absurd h
     values-alike (x ∷ xs) (y ∷ ys) h k =
         let same : is_at (cmp k) x.0 ≡ is_at (cmp k) y.0 = sought k x.0 ∙ ap is_eq (clones x.0 y.0 h.0.0 k)
         ∙ sym (sought k y.0) in
         pick-alike S (is_at (cmp k) x.0) (is_at (cmp k) y.0) x.1 y.1 (value_at cmp xs k)
         (value_at cmp ys k) same h.0.1 (values-alike xs ys h.1 k)
+    values-alike x y h k = absurd h
 
 -- whether two values are equal is told of values that are equal to them
 eq-alike : {V : Type 0} {eq : V → V → Bool} → IsEquivalence eq → (v w d e : V) → eq v w ≡ true → eq d e ≡ true → eq w e ≡ eq v d
@@ -56,9 +55,8 @@ differs-alike : {V : Type 0} {eq : V → V → Bool} → IsEquivalence eq → (d
     → (S : V → V → Type 0) → ((v w : V) → S v w → eq v w ≡ true)
     → (o p : Option V) → Alike S o p → IfSome o (λ v. eq v d ≡ false) → IfSome p (λ w. eq w e ≡ false)
 differs-alike laws d e de S says None None a h = tt
-differs-alike laws d e de S says None (Some w) a h = absurd a
-differs-alike laws d e de S says (Some v) None a h = absurd a
 differs-alike laws d e de S says (Some v) (Some w) a h = eq-alike laws v w d e (says v w a) de ∙ h
+differs-alike laws d e de x says y z a h = absurd a
 
 pub copy-canonical : {K V : Type 0} (cmp : K → K → Ordering) → IsTotalOrder cmp → (eq : V → V → Bool) → IsEquivalence eq
     → (R : K → K → Type 0) → ClonesAreEqual cmp R → (S : V → V → Type 0) → ((v w : V) → S v w → eq v w ≡ true)
