@@ -28,5 +28,6 @@ pub fn combined_is_pointwise<K: Ord + Clone, V: Eq, F: Fn(&V, &V) -> Result<V, A
 pub fn mapped_is_pointwise<K: Ord + Clone, V, W: Eq, F: Fn(&V) -> Result<W, AllocError>>(
     closure: &F,
 )
-    ensures { MappedIsPointwise K.cmp W.eq K.is_clone (λ x v. FnReturnsAt F.Fn closure.now x (Ok v)) }
+    ensures { MappedIsPointwise K.cmp W.eq K.is_clone
+        (λ x v. FnReturnsAt F.Fn closure.now x (Ok v)) }
 {}
