@@ -70,7 +70,7 @@ const READS: [Call; 6] = [
     Call::Read(Read::Walk),
 ];
 
-/// Calls that take out what another set tells, or nothing.
+/// Calls that change a set by another one.
 const MEETINGS: [Call; 7] = [
     Call::Change(Change::InsertKnown),
     Call::Change(Change::IntersectionWith),
@@ -314,7 +314,7 @@ fn reads_ask_for_no_memory(rt: HostRuntime) {
 }
 
 #[test]
-fn changes_by_another_set_that_take_out_ask_for_no_memory(rt: HostRuntime) {
+fn changes_by_another_set_ask_for_no_memory(rt: HostRuntime) {
     are_quiet(&rt, rt.alloc(), &MEETINGS);
 }
 
