@@ -4,6 +4,7 @@
 #include <cstddef>
 #include <cstdint>
 #include <cstdlib>
+#include <functional>
 #include <new>
 #include <string>
 #include <string_view>
@@ -19,7 +20,12 @@
 
 #ifdef COUNTED
 // So that what the C++ library asks for is counted, too.
-void *operator new(std::size_t bytes) { return std::malloc(bytes); }
+void *operator new(std::size_t bytes) {
+    void *block = std::malloc(bytes);
+    if (!block)
+        std::abort();
+    return block;
+}
 void operator delete(void *block) noexcept { std::free(block); }
 void operator delete(void *block, std::size_t) noexcept { std::free(block); }
 #endif
@@ -46,7 +52,7 @@ struct BTree {
         return number;
     }
     BTree copy() const { return *this; }
-    // Hands over the pairs from the first key that is not less than `start` on, until one is refused.
+    // Hands over the pairs from the first key that is not less than `start`, until one is refused.
     template <class F> void walk(Key start, F each) const {
         for (auto at = map.lower_bound(start); at != map.end() && each(Key(at->first), at->second);)
             ++at;
@@ -64,6 +70,8 @@ struct Judy {
     ~Judy() { JudySLFreeArray(&map, PJE0); }
 
     static const std::uint8_t *ended(Key key, char (&room)[256]) {
+        if (key.size() > 255)
+            std::abort();
         room[key.copy(room, 255)] = 0;
         return reinterpret_cast<std::uint8_t *>(room);
     }

@@ -10,7 +10,7 @@ use std::hint::black_box;
 type Key = Vec<u8>;
 type Pair = (Key, u64);
 
-/// What the library's two functions take: see there.
+/// What each of these functions takes: see those of the library's loops.
 type TreeExport = unsafe extern "C" fn(
     u64,
     *const u8,
