@@ -46,7 +46,8 @@ pushed tree (y ∷ xs) kid = ap (λ l. tree y ∷ l) (pushed tree xs kid)
 module _ {K V W O T B : Type 0} {cmp : K → K → Ordering} {tree : T → Tree K V} {tb : B → Tree K W} {i j : ℕ} {l : Look cmp W O}
     {R : Option V → O → Option V → Type 0} {asks : Option V → O → Type 0} {xs : List T} {ys : List B} {rs : List B}
     {all others : List Side} where
-  pub after-left : {b b' : Builder T} {budget : ℕ} → IsDoing cmp tree tb i j l R asks xs ys b.rest rs all (map tree b.built) 0 budget
+  pub after-left : {b b' : Builder T} {budget : ℕ}
+      → IsDoing cmp tree tb i j l R asks xs ys b.rest rs all (map tree b.built) 0 budget
       → IsStayed cmp tree tb l R i b b' → all ≡ Left ∷ others
       → IsDoing cmp tree tb i j l R asks xs ys b'.rest rs others (map tree b'.built) 0 budget
   after-left {b} d w z =

@@ -52,8 +52,8 @@ arrivals_of (Left ∷ sides) = arrivals_of sides
 arrivals_of (Right ∷ sides) = 1 + arrivals_of sides
 arrivals_of (Both ∷ sides) = arrivals_of sides
 
--- of some events these are left, with the trees ls and rs; and those of the right side that were not counted off are the trees rs and
--- those that came in
+-- of some events these are left, with the trees ls and rs; and those of the right side that were not counted off are the
+-- trees rs and those that came in
 pub record IsCounted {A B : Type 0} (es : List (Event A B)) (ls : List A) (rs : List B) (many : ℕ) : Type 0 where
   pub done : List (Event A B)
   pub rest : List (Event A B)
@@ -63,8 +63,8 @@ pub record IsCounted {A B : Type 0} (es : List (Event A B)) (ls : List A) (rs : 
   pub counted : many + arrivals_of (map (λ e. side_of e) rest) ≡ arrivals_of (map (λ e. side_of e) es) + length rs
 
 module _ {K V W O T B : Type 0} (cmp : K → K → Ordering) (tree : T → Tree K V) (tb : B → Tree K W) (l : Look cmp W O) where
-  -- t, taken apart beside u: its values at the fronts have become `made`, no event is done yet, and there is room for a tree at each
-  -- event of the right side alone
+  -- t, taken apart beside u: its values at the fronts have become `made`, no event is done yet, and there is room for a
+  -- tree at each event of the right side alone
   pub record IsBegun (keeps : V → V → Type 0) (says below : Option V → O → Option V → Type 0) (asks : Option V → O → Type 0)
       (t : Tree K V) (u : Tree K W) (front : List K) (made : Option V) (row : Builder T) (i : ℕ) (ys : List B) (j : ℕ) : Type 0 where
     pub length_front : ℕ

@@ -21,7 +21,8 @@ use vc_tree_nodes::parting::{Parting, find_parting};
 use vc_tree_nodes::reading::{RadixNode, TKey, TValue};
 
 /// The trees that stand below a place in the prefix of a tree, each without its first `from`
-/// components: the children of the tree, or what is left of the tree itself.
+/// components: the children of the tree, or what is left of the tree itself; or trees of a list that
+/// stand for such ([`row`](Below::row)).
 #[derive(Drop)]
 pub struct Below<'a, T> {
     whole: Option<&'a T>,
@@ -310,7 +311,7 @@ pub fn face<
     requires left { i ≤ length (A.tree a.now).prefix }
     requires right { j ≤ length (B.tree b.now).prefix }
     requires known { Agree K.cmp (drop i (A.tree a.now).prefix) (drop j (B.tree b.now).prefix) known }
-    ensures counted { let p = drop i (A.tree a.now).prefix in let q = drop j (B.tree b.now).prefix in
+    ensures paid { let p = drop i (A.tree a.now).prefix in let q = drop j (B.tree b.now).prefix in
         C.counted steps.new ≤ C.counted steps.old + min (length p) (length q) }
     ensures faced { let t = shortened i (A.tree a.now) in let u = shortened j (B.tree b.now) in
         IsFaced K.cmp A.tree B.tree t u result.front (trees_below result.left) result.left.from

@@ -9,5 +9,5 @@ returns-clause-begun g c = record {
   right_canonical = shortened-canonical g.K.Ord.cmp c.args.j _ c.face-front.ensures.right_canonical;
   faced = c.face-front.ensures.faced;
   none_made = ap (map g.O.Made.RadixNode.tree) c.in_ok-kids.ensures.items;
-  paid = c.face-front.ensures.counted;
+  paid = c.face-front.ensures.paid;
 }

@@ -21,7 +21,8 @@ loop-side-preserved-in-Left g c =
       left_from = c.next.ensures.from ∙ inv.left_from;
       right_from = inv.right_from;
       some = inv.some;
-      counted = λ es s. counted-left _ (by_component_total g.T.RadixNode.tree g.B.RadixNode.tree _ _ g.met.K.Ord.total) s (inv.counted es s) told c.next.ensures.first;
+      counted = λ es s. counted-left _ (by_component_total g.T.RadixNode.tree g.B.RadixNode.tree _ _ g.met.K.Ord.total) s
+          (inv.counted es s) told c.next.ensures.first;
     }
 
 pub loop-side-preserved-in-Right : goal.loop-side-preserved-in-Right
@@ -34,7 +35,8 @@ loop-side-preserved-in-Right g c =
       left_from = inv.left_from;
       right_from = c.next-in-Right.ensures.from ∙ inv.right_from;
       some = omega (arith, n, some);
-      counted = λ es s. counted-right _ (by_component_total g.T.RadixNode.tree g.B.RadixNode.tree _ _ g.met.K.Ord.total) s (inv.counted es s) told c.next-in-Right.ensures.first;
+      counted = λ es s. counted-right _ (by_component_total g.T.RadixNode.tree g.B.RadixNode.tree _ _ g.met.K.Ord.total) s
+          (inv.counted es s) told c.next-in-Right.ensures.first;
     }
 
 pub loop-side-preserved : goal.loop-side-preserved
@@ -47,7 +49,8 @@ loop-side-preserved g c =
       left_from = c.next-in-Both.ensures.from ∙ inv.left_from;
       right_from = c.next-in-Both-2.ensures.from ∙ inv.right_from;
       some = omega (arith, n, some);
-      counted = λ es s. counted-both _ (by_component_total g.T.RadixNode.tree g.B.RadixNode.tree _ _ g.met.K.Ord.total) s (inv.counted es s) told c.next-in-Both.ensures.first c.next-in-Both-2.ensures.first
+      counted = λ es s. counted-both _ (by_component_total g.T.RadixNode.tree g.B.RadixNode.tree _ _ g.met.K.Ord.total) s
+          (inv.counted es s) told c.next-in-Both.ensures.first c.next-in-Both-2.ensures.first
           (omega (arith, n, some));
     }
 
