@@ -21,8 +21,8 @@ use vc_tree_nodes::parting::{Parting, find_parting};
 use vc_tree_nodes::reading::{RadixNode, TKey, TValue};
 
 /// The trees that stand below a place in the prefix of a tree, each without its first `from`
-/// components: the children of the tree, or what is left of the tree itself; or trees of a list that
-/// stand for such ([`row`](Below::row)).
+/// components: the children of the tree, or what is left of the tree itself; or trees of a list
+/// that stand for such ([`row`](Below::row)).
 #[derive(Drop)]
 pub struct Below<'a, T> {
     whole: Option<&'a T>,
