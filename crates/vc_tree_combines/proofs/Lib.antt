@@ -1,4 +1,5 @@
 pub mod Alone
+pub mod Paying
 pub mod Meeting
 pub mod Passing
 pub mod Testing

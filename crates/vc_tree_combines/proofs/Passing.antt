@@ -1,37 +1,38 @@
 -- A merge that passes the trees of one list alone, and stops at two that begin alike or at one that is missed.
 --     passed        what the merge has passed, and where it stopped
---     end-told, missed-told, meets        what that tells of the keys of both lists
+--     children-ascend        canonical children ascend by their first components
+--     told-missed, told-meeting, told-end        what comes next of two lists
 --     alike-meet        two lists whose first trees begin alike
-use Rattle.std.proofs.Common.{◌≡◌, ℕ, ◌+◌, ◌≤◌, [], ◌∷◌, ◌++◌, List, Option, Some, Bool, true, false, not, Result, Ok}
+use Rattle.std.proofs.Common.{◌≡◌, ℕ, ◌≤◌, [], ◌∷◌, ◌++◌, List, Option, None, Some, Bool, true, false, not, Result, Ok}
 use Rattle.std.proofs.Common.{Err, ◌⊎◌, inl, inr, refl, sym, ap, subst, ◌∙◌, map, true≢false, append_assoc}
 use Rattle.std.proofs.Common.{append-nil, slice_get, arith}
 use Rattle.std.proofs.lemmas.List.{append_cancel_left}
-use Rattle.std.specs.Cmp.{IsTotalOrder}
-use Rattle.std.specs.List.{AllByRecursion}
+use Rattle.std.specs.Cmp.{IsTotalOrder, alike_right, tied_back}
+use Rattle.std.specs.List.{AllByRecursion, cons_option}
 use Rattle.std.specs.List.Sorted.{IsStrictlySortedBy}
+use Rattle.std.specs.Option.{option_cmp}
+use Rattle.std.specs.Ordering.{ordering_reverse}
 use Rattle.std.specs.declared.alloc.AllocError.{AllocError}
 use Rattle.std.specs.declared.cmp.Ordering.{Ordering}
-use Rattle.std.specs.declared.cmp.Ordering.TheVariants.{Equal}
+use Rattle.std.specs.declared.cmp.Ordering.TheVariants.{Less, Equal}
 use Rattle.vc_merge.specs.Ascending.{Ascends}
 use Rattle.vc_merge.specs.Chain.{Answer, Allows, allows, Run, of_left, of_right, of_both, run_events, events}
 use Rattle.vc_merge.specs.Chain.{IsAtFront, IsAllowed, Step, Steps, Finishes, Stops, IsMerged}
 use Rattle.vc_merge.specs.Script.{Event, left_alone, right_alone, collision, lefts, rights, place, IsMatched, IsScript}
-use Rattle.vc_merge.proofs.Scripts.{some-script}
-use Rattle.vc_tree_model.specs.Canonical.{AreChildren, IsSolid}
+use Rattle.vc_tree_model.specs.Canonical.{AllAbove, AreChildren, IsSolid}
+use Rattle.vc_tree_model.specs.Look.{values}
 use Rattle.vc_tree_model.specs.Map.{lookup}
-use Rattle.vc_tree_model.specs.Tree.{Tree, Forest, grow, nodes, forest_nodes}
+use Rattle.vc_tree_model.specs.Tree.{Tree, Forest, grow, forest_nodes}
 use Rattle.vc_tree_model.proofs.LookupLemmas.{tree-bound}
 use Rattle.vc_tree_nodes.specs.Children.{seen}
-use Rattle.vc_tree_nodes.specs.Parting.{Agree}
-use Rattle.vc_tree_facing.specs.Doing.{IsAskedAt}
-use Rattle.vc_tree_combines.specs.Meeting.{IsMet, IsMissed, TellsKeysIn, IsMeeting}
-use Rattle.vc_tree_facing.specs.Sides.{by_component, by_component_total}
-use Rattle.vc_tree_facing.proofs.Components.{components, children-ascend}
-use Rattle.vc_tree_facing.proofs.Deciding.{first-both}
-use Rattle.vc_tree_model.specs.Look.{values}
-use Rattle.vc_tree_facing.proofs.Making.{script-asked, script-all}
+use Rattle.vc_tree_facing.specs.Doing.{AreFirst, IsSaidIn, IsSaidOf}
+use Rattle.vc_tree_facing.specs.Sides.{by_component, by_component_total, lower_side, side_next}
+use Rattle.vc_tree_facing.specs.declared.sides.Side.TheVariants.{Left, Right, Both}
+use Rattle.vc_tree_facing.proofs.Components.{children-first}
+use Rattle.vc_tree_facing.proofs.Doing.{left-first, right-first, both-first, said-apart, said-joined}
+use Rattle.vc_tree_facing.proofs.Next.{agree-first}
+use Rattle.vc_tree_combines.specs.Meeting.{IsMet, IsMissed, TellsKeysIn, AreTails, IsMeeting}
 use Rattle.vc_tree_combines.proofs.Meeting.{met-alone}
-use Rattle.vc_tree_facing.proofs.Next.{event-rest, agree-first}
 
 -- an answer that is not to go on
 ok-not : (b : Bool) (answer : Answer) → answer ≡ Ok (not b) → answer ≡ Ok true → b ≡ false
@@ -163,7 +164,8 @@ module _ {M A B : Type 0} (left : M → List A) (right : M → List B) (missed :
       at_end : (es : List (Event A B)) → IsScript order (left s) (right s) es → AllByRecursion (IsPassed shared) es
           → missed t ≡ false → left t ≡ [] → Passed s t
       at_missed : (es : List (Event A B)) (x : A) (rest : List (Event A B))
-          → IsScript order (left s) (right s) (es ++ left_alone x ∷ rest) → shared ≡ true → missed t ≡ true → Passed s t
+          → IsScript order (left s) (right s) (es ++ left_alone x ∷ rest) → AllByRecursion (IsPassed shared) es → shared ≡ true
+          → missed t ≡ true → Passed s t
       at_meeting : (es : List (Event A B)) (x : A) (y : B) (rest : List (Event A B))
           → IsScript order (left s) (right s) (es ++ collision x y ∷ rest) → AllByRecursion (IsPassed shared) es
           → missed t ≡ false → left t ≡ x ∷ lefts rest → right t ≡ y ∷ rights rest → Passed s t
@@ -184,7 +186,7 @@ module _ {M A B : Type 0} (left : M → List A) (right : M → List B) (missed :
         at_missed (events w.runs) x (map (λ x. left_alone x) xs ++ w.rest)
         (subst (IsScript order (left s) (right s))
         (ap (λ r. (events w.runs ++ run_events r) ++ w.rest) e
-        ∙ append_assoc (events w.runs) (map (λ x. left_alone x) (x ∷ xs)) w.rest) w.script) b (a.1 ∙ b)
+        ∙ append_assoc (events w.runs) (map (λ x. left_alone x) (x ∷ xs)) w.rest) w.script) p.all b (a.1 ∙ b)
     stopped-by s t answer w (of_right ys) e f a p = absurd (w.not_true a.0)
     stopped-by s t answer w (of_both x y) e f a p =
         let s' = subst (IsScript order (left s) (right s))
@@ -210,136 +212,143 @@ passed {left = left} {right} {missed} {shared} {order} {s} {t} (Ok u) z (inr w) 
 passed {left = left} {right} {missed} {shared} {order} {s} {t} (Err x) z w =
     stopped left right missed shared order s t (Err x) z w
 
--- ---- the rest of a script
+-- ---- the side of the first event of a script
 
-module _ {A B : Type 0} (order : A ⊎ B → A ⊎ B → Ordering) where
-  ascends-rest : (es : List (Event A B)) (e : Event A B) (rest : List (Event A B))
-      → Ascends (λ d e. order (place d) (place e)) (es ++ e ∷ rest) → Ascends (λ d e. order (place d) (place e)) rest
-  unfolding IsStrictlySortedBy
-  ascends-rest [] e rest a = a.1
-  ascends-rest (d ∷ es) e rest a = ascends-rest es e rest a.1
+module _ {A B : Type 0} (order : A ⊎ B → A ⊎ B → Ordering) (o : IsTotalOrder order) where
+  side-left : (x : A) (es : List (Event A B)) → AllByRecursion (λ e. order (inl x) (place e) ≡ Less) es
+      → AllByRecursion (IsMatched order) es → side_next order (Some x) (slice_get (rights es) 0) ≡ Some Left
+  side-left x [] a m = refl
+  side-left x (left_alone z ∷ es) a m = side-left x es a.1 m.1
+  side-left x (right_alone y ∷ es) a m =
+      ap (λ r. Some (lower_side r)) (o.antisymm (inr y) (inl x) ∙ ap ordering_reverse a.0)
+  side-left x (collision z y ∷ es) a m =
+      let h : order (inl x) (inr y) ≡ Less = sym (alike_right o (inl z) (inr y) (inl x) m.0) ∙ a.0 in
+      ap (λ r. Some (lower_side r)) (o.antisymm (inr y) (inl x) ∙ ap ordering_reverse h)
 
-  -- the events behind one are a script of their own
-  script-rest : (xs : List A) (ys : List B) (es : List (Event A B)) (e : Event A B) (rest : List (Event A B))
-      → IsScript order xs ys (es ++ e ∷ rest) → IsScript order (lefts rest) (rights rest) rest
-  script-rest xs ys es e rest s = record {
-    left = refl;
-    right = refl;
-    ascends = ascends-rest es e rest s.ascends;
-    matched = (event-rest (IsMatched order) es (e ∷ rest) s.matched).1;
-  }
+  side-right : (y : B) (es : List (Event A B)) → AllByRecursion (λ e. order (inr y) (place e) ≡ Less) es
+      → side_next order (slice_get (lefts es) 0) (Some y) ≡ Some Right
+  side-right y [] a = refl
+  side-right y (left_alone x ∷ es) a = ap (λ r. Some (lower_side r)) a.0
+  side-right y (right_alone z ∷ es) a = side-right y es a.1
+  side-right y (collision x z ∷ es) a = ap (λ r. Some (lower_side r)) a.0
 
--- ---- the trees of a list of children
+  side-both : (x : A) (y : B) → order (inl x) (inr y) ≡ Equal → side_next order (Some x) (Some y) ≡ Some Both
+  side-both x y e = ap (λ r. Some (lower_side r)) (tied_back o (inl x) (inr y) e)
 
-module _ {K V T : Type 0} (cmp : K → K → Ordering) (tree : T → Tree K V) where
-  first-child : (p : List K) (v : Option V) (kids rest : Forest K V) → AreChildren cmp (grow p v kids rest)
-      → IsSolid v kids × AreChildren cmp kids × AreChildren cmp rest
-  first-child [] v kids rest a = absurd a
-  first-child (x ∷ p) v kids rest a = (a.0, a.1, a.3)
-
-  -- a tree of the list, and those behind it
-  pub record StandsBefore (x : T) (behind : List T) (n : ℕ) : Type 0 where
-    pub solid : IsSolid (tree x).value (tree x).children
-    pub below : AreChildren cmp (tree x).children
-    pub others : AreChildren cmp (seen tree behind)
-    pub smaller : nodes (tree x) + forest_nodes (seen tree behind) ≤ n
-
-  stands-before : (before : List T) (x : T) (behind : List T) → AreChildren cmp (seen tree (before ++ x ∷ behind))
-      → StandsBefore x behind (forest_nodes (seen tree (before ++ x ∷ behind)))
-  stands-before [] x behind c =
-      let f = first-child (tree x).prefix (tree x).value (tree x).children (seen tree behind) c in
-      record { solid = f.0; below = f.1; others = f.2; smaller = omega arith }
-  stands-before (z ∷ before) x behind c =
-      let f = first-child (tree z).prefix (tree z).value (tree z).children (seen tree (before ++ x ∷ behind)) c in
-      let r = stands-before before x behind f.2 in
-      let s = r.smaller in
-      record { solid = r.solid; below = r.below; others = r.others; smaller = omega (arith, s) }
-
-  pub stands-in : (xs before : List T) (x : T) (behind : List T) → before ++ x ∷ behind ≡ xs → AreChildren cmp (seen tree xs)
-      → StandsBefore x behind (forest_nodes (seen tree xs))
-  stands-in xs before x behind e c =
-      subst (λ l. StandsBefore x behind (forest_nodes (seen tree l))) e
-      (stands-before before x behind (subst (λ l. AreChildren cmp (seen tree l)) (sym e) c))
+-- the events behind the first one are a script of their own
+script-rest : {A B : Type 0} {order : A ⊎ B → A ⊎ B → Ordering} {xs : List A} {ys : List B} (e : Event A B)
+    (es : List (Event A B)) → IsScript order xs ys (e ∷ es) → IsScript order (lefts es) (rights es) es
+unfolding IsStrictlySortedBy
+script-rest e es s = record { left = refl; right = refl; ascends = s.ascends.1; matched = s.matched.1 }
 
 -- ---- what is told of both lists
 
 module _ {K V W A B : Type 0} (cmp : K → K → Ordering) (o : IsTotalOrder cmp) (ta : A → Tree K V) (tb : B → Tree K W)
-    (shared : Bool) (xs : List A) (ys : List B) (ca : AreChildren cmp (seen ta xs)) (cb : AreChildren cmp (seen tb ys)) where
-  -- what is passed is met
-  passed-met : (es : List (Event A B)) → AllByRecursion (IsPassed shared) es
-      → AllByRecursion (IsAskedAt cmp ta tb 0 0 (values cmp) (IsMet shared)) es
-  passed-met [] a = tt
-  passed-met (left_alone x ∷ es) a = ((λ k. rw a.0 (met-alone W (lookup cmp (ta x) k))), passed-met es a.1)
-  passed-met (right_alone y ∷ es) a = ((λ k. tt), passed-met es a.1)
-  passed-met (collision x y ∷ es) a = absurd a.0
+    (shared : Bool) {xs : List A} {ys : List B} where
+  -- the next trees
+  module _ {c : K} (a : Option A) (b : Option B) {ls : List A} {rs : List B}
+      (t : AreTails cmp ta tb shared xs ys (cons_option a ls) (cons_option b rs)) (f : AreFirst cmp ta tb 0 0 c a b ls rs) where
+    -- a key that is missed at them or behind them, is missed in both lists
+    missed : IsSaidOf cmp ta tb 0 0 (values cmp) (λ v w. IsMissed shared v w
+        → TellsKeysIn cmp shared (seen ta xs) (seen tb ys) false) a b
+        × IsSaidIn cmp ta tb 0 0 (values cmp) (λ v w. IsMissed shared v w
+        → TellsKeysIn cmp shared (seen ta xs) (seen tb ys) false) ls rs
+    missed =
+        said-apart o ta tb 0 0 (values cmp) (λ v w. IsMissed shared v w → TellsKeysIn cmp shared (seen ta xs) (seen tb ys) false)
+        (λ m. absurd m) a b f (λ x q m. t.tells false (x, q, m))
 
-  -- both lists are passed
-  pub end-told : (es : List (Event A B)) → IsScript (by_component ta tb 0 0 cmp) xs ys es → AllByRecursion (IsPassed shared) es
-      → TellsKeysIn cmp shared (seen ta xs) (seen tb ys) true
-  end-told es s a = script-all cmp o ta tb 0 0 (values cmp) (IsMet shared) tt xs ys es ca cb s (passed-met es a)
+    -- where they are met, the others tell of all
+    pub behind-met : IsSaidOf cmp ta tb 0 0 (values cmp) (IsMet shared) a b → AreTails cmp ta tb shared xs ys ls rs
+    behind-met h = record {
+      left = f.left_rest;
+      right = f.right_rest;
+      left_nodes = (let h = t.left_nodes in let k = fewer ta a ls in omega (arith, h, k));
+      right_nodes = (let h = t.right_nodes in let k = fewer tb b rs in omega (arith, h, k));
+      tells = λ answer g. by answer g;
+    }
+      where
+        fewer : {X T : Type 0} (tree : T → Tree K X) (a : Option T) (ls : List T)
+            → forest_nodes (seen tree ls) ≤ forest_nodes (seen tree (cons_option a ls))
+        fewer tree None ls = omega arith
+        fewer tree (Some x) ls = omega arith
 
-  -- some key is missed
-  abbrev SomeMissed : Type 0
-  SomeMissed = TellsKeysIn cmp shared (seen ta xs) (seen tb ys) false
-
-  -- a key that is missed at an event, is missed in both lists
-  missed-in : (es : List (Event A B)) → IsScript (by_component ta tb 0 0 cmp) xs ys es
-      → AllByRecursion (IsAskedAt cmp ta tb 0 0 (values cmp) (λ v w. IsMissed shared v w → SomeMissed)) es
-  missed-in es s =
-      script-asked cmp o ta tb 0 0 (values cmp) (λ v w. IsMissed shared v w → SomeMissed) (λ m. absurd m) xs ys es ca cb s
-      (λ x q m. (x, q, m))
-
-  -- a tree of the left list is missed
-  pub missed-told : (es : List (Event A B)) (x : A) (rest : List (Event A B))
-      → IsScript (by_component ta tb 0 0 cmp) xs ys (es ++ left_alone x ∷ rest) → shared ≡ true → SomeMissed
-  missed-told es x rest s e =
-      let c = stands-in cmp ta xs (lefts es) x (lefts rest) (sym (lefts-append es (left_alone x ∷ rest)) ∙ s.left) ca in
-      let b = tree-bound cmp o (ta x).prefix (ta x).value (ta x).children c.solid c.below in
-      (event-rest _ es (left_alone x ∷ rest) (missed-in (es ++ left_alone x ∷ rest) s)).0 ((ta x).prefix ++ b.key)
-      (rw (e, b.is) refl)
+        by : (answer : Bool) → TellsKeysIn cmp shared (seen ta ls) (seen tb rs) answer
+            → TellsKeysIn cmp shared (seen ta xs) (seen tb ys) answer
+        by true g = t.tells true (said-joined o ta tb 0 0 (values cmp) (IsMet shared) tt a b f h g)
+        by false g = missed.1 g.0 g.1 g.2
 
   -- two trees meet
-  pub meets : (es : List (Event A B)) (x : A) (y : B) (rest : List (Event A B))
-      → IsScript (by_component ta tb 0 0 cmp) xs ys (es ++ collision x y ∷ rest) → AllByRecursion (IsPassed shared) es
-      → IsMeeting cmp ta tb shared xs ys x (lefts rest) y (rights rest)
-  meets es x y rest s a =
-      let l = stands-in cmp ta xs (lefts es) x (lefts rest) (sym (lefts-append es (collision x y ∷ rest)) ∙ s.left) ca in
-      let r = stands-in cmp tb ys (rights es) y (rights rest) (sym (rights-append es (collision x y ∷ rest)) ∙ s.right) cb in
-      let own = script-rest (by_component ta tb 0 0 cmp) xs ys es (collision x y) rest s in
-      let each = event-rest _ es (collision x y ∷ rest) (missed-in (es ++ collision x y ∷ rest) s) in
+  pub meets : (x : A) (ls : List A) (y : B) (rs : List B) → AreTails cmp ta tb shared xs ys (x ∷ ls) (y ∷ rs)
+      → side_next (by_component ta tb 0 0 cmp) (Some x) (Some y) ≡ Some Both → IsMeeting cmp ta tb shared xs ys x ls y rs
+  meets x ls y rs t z =
+      let f = both-first o ta tb 0 0 x ls y rs t.left t.right z in
+      let m = t.left_nodes in
+      let n = t.right_nodes in
       record {
-        agree = both-agree;
-        left = l.others;
-        right = r.others;
-        left_nodes = l.smaller;
-        right_nodes = r.smaller;
-        all_met = λ h g.
-            script-all cmp o ta tb 0 0 (values cmp) (IsMet shared) tt xs ys (es ++ collision x y ∷ rest) ca cb s
-            (all-append (IsAskedAt cmp ta tb 0 0 (values cmp) (IsMet shared)) es (collision x y ∷ rest) (passed-met es a) (
-              h,
-              script-asked cmp o ta tb 0 0 (values cmp) (IsMet shared) tt (lefts rest)
-                  (rights rest) rest l.others r.others own g,
-            ));
-        here_missed = λ h. each.0 h.0 h.1;
-        later_missed = λ h.
-            script-all cmp o ta tb 0 0 (values cmp) (λ v w. IsMissed shared v w → SomeMissed) (λ m. absurd m)
-            (lefts rest) (rights rest) rest
-            l.others r.others own each.1 h.0 h.1 h.2;
+        agree = agree-first cmp (ta x).prefix (tb y).prefix f.0 f.1 f.2 f.3 f.4;
+        left_nodes = omega (arith, m);
+        right_nodes = omega (arith, n);
+        here_missed = λ h. (missed (Some x) (Some y) t f.5).0 h.0 h.1;
+        here_met = behind-met (Some x) (Some y) t f.5;
       }
-    where
-      part-of : {T : Type 0} (P : T → Type 0) (before : List T) (x : T) (behind all : List T) → before ++ x ∷ behind ≡ all
-          → AllByRecursion P all → P x
-      part-of P [] x behind all e h = (subst (AllByRecursion P) (sym e) h).0
-      part-of P (z ∷ before) x behind all e h = part-of P before x behind _ refl (subst (AllByRecursion P) (sym e) h).1
 
-      both-agree : Agree cmp (ta x).prefix (tb y).prefix 1
-      both-agree =
-          let p = part-of (λ x. (k : K) × (slice_get (ta x).prefix 0 ≡ Some k)) (lefts es) x (lefts rest) xs
-          (sym (lefts-append es (collision x y ∷ rest)) ∙ s.left) (components cmp ta 0 xs ca) in
-          let q = part-of (λ y. (k : K) × (slice_get (tb y).prefix 0 ≡ Some k)) (rights es) y (rights rest) ys
-          (sym (rights-append es (collision x y ∷ rest)) ∙ s.right) (components cmp tb 0 ys cb) in
-          let m = (event-rest (IsMatched (by_component ta tb 0 0 cmp)) es (collision x y ∷ rest) s.matched).0 in
-          agree-first cmp (ta x).prefix (tb y).prefix p.0 q.0 p.1 q.1 (rw (p.1, q.1) at m)
+  -- a tree of the left list is missed
+  missed-told : (x : A) (ls : List A) (rs : List B) → AreTails cmp ta tb shared xs ys (x ∷ ls) rs
+      → side_next (by_component ta tb 0 0 cmp) (Some x) (slice_get rs 0) ≡ Some Left → shared ≡ true
+      → TellsKeysIn cmp shared (seen ta xs) (seen tb ys) false
+  missed-told x ls rs t z e =
+      let f = left-first o ta tb 0 0 x ls rs t.left t.right z in
+      let c = first-child (ta x).prefix (ta x).value (ta x).children (seen ta ls) t.left in
+      let b = tree-bound cmp o (ta x).prefix (ta x).value (ta x).children c.0 c.1 in
+      (missed (Some x) None t f.2).0 ((ta x).prefix ++ b.key) (rw (e, b.is) refl)
+    where
+      first-child : (p : List K) (v : Option V) (kids rest : Forest K V) → AreChildren cmp (grow p v kids rest)
+          → IsSolid v kids × AreChildren cmp kids
+      first-child [] v kids rest a = absurd a
+      first-child (k ∷ p) v kids rest a = (a.0, a.1)
+
+  -- what is passed is met
+  passed-met : (es rest : List (Event A B)) {ls : List A} {rs : List B} → AllByRecursion (IsPassed shared) es
+      → IsScript (by_component ta tb 0 0 cmp) ls rs (es ++ rest) → AreTails cmp ta tb shared xs ys ls rs
+      → AreTails cmp ta tb shared xs ys (lefts rest) (rights rest)
+      × IsScript (by_component ta tb 0 0 cmp) (lefts rest) (rights rest) rest
+  unfolding IsStrictlySortedBy
+  passed-met [] rest a s t = rw (s.left, s.right) (t, s)
+  passed-met (left_alone x ∷ es) rest a s t =
+      let z = side-left (by_component ta tb 0 0 cmp) (by_component_total ta tb 0 0 o) x (es ++ rest) s.ascends.0 s.matched.1 in
+      let u = rw (← s.left, ← s.right) at t in
+      let f = left-first o ta tb 0 0 x (lefts (es ++ rest)) (rights (es ++ rest)) u.left u.right z in
+      passed-met es rest a.1 (script-rest (left_alone x) (es ++ rest) s)
+      (behind-met (Some x) None u f.2 (λ k. rw a.0 (met-alone W (lookup cmp (ta x) k))))
+  passed-met (right_alone y ∷ es) rest a s t =
+      let z = side-right (by_component ta tb 0 0 cmp) (by_component_total ta tb 0 0 o) y (es ++ rest) s.ascends.0 in
+      let u = rw (← s.left, ← s.right) at t in
+      let f = right-first o ta tb 0 0 (lefts (es ++ rest)) y (rights (es ++ rest)) u.left u.right z in
+      passed-met es rest a.1 (script-rest (right_alone y) (es ++ rest) s) (behind-met None (Some y) u f.2 (λ k. tt))
+  passed-met (collision x y ∷ es) rest a s t = absurd a.0
+
+module _ {K V W A B : Type 0} {cmp : K → K → Ordering} {ta : A → Tree K V} {tb : B → Tree K W} {shared : Bool} {xs : List A}
+    {ys : List B} where
+  -- none is passed yet
+  pub tails-start : AreChildren cmp (seen ta xs) → AreChildren cmp (seen tb ys) → AreTails cmp ta tb shared xs ys xs ys
+  tails-start ca cb =
+      record { left = ca; right = cb; left_nodes = omega arith; right_nodes = omega arith; tells = λ answer h. h }
+
+  -- what is left of what is left
+  pub tails-later : {ls ls' : List A} {rs rs' : List B} → AreTails cmp ta tb shared xs ys ls rs
+      → AreTails cmp ta tb shared ls rs ls' rs' → AreTails cmp ta tb shared xs ys ls' rs'
+  tails-later s t =
+      let sl = s.left_nodes in
+      let sr = s.right_nodes in
+      let tl = t.left_nodes in
+      let tr = t.right_nodes in
+      record {
+        left = t.left;
+        right = t.right;
+        left_nodes = omega (arith, sl, tl);
+        right_nodes = omega (arith, sr, tr);
+        tells = λ answer h. s.tells answer (t.tells answer h);
+      }
 
 -- two lists whose first trees begin alike
 pub alike-meet : {K V W A B : Type 0} (cmp : K → K → Ordering) (o : IsTotalOrder cmp) (ta : A → Tree K V) (tb : B → Tree K W)
@@ -347,20 +356,31 @@ pub alike-meet : {K V W A B : Type 0} (cmp : K → K → Ordering) (o : IsTotalO
     {ls : List A} {y : B} {rs : List B} → xs ≡ x ∷ ls → ys ≡ y ∷ rs → by_component ta tb 0 0 cmp (inr y) (inl x) ≡ Equal
     → IsMeeting cmp ta tb shared xs ys x ls y rs
 alike-meet cmp o ta tb shared xs ys ca cb {x} {ls} {y} {rs} el er h =
-    let order = by_component ta tb 0 0 cmp in
-    let s = some-script order (by_component_total ta tb 0 0 o) xs ys
-    (record { left = children-ascend cmp ta 0 xs ca; right = children-ascend cmp tb 0 ys cb }) in
-    let f = first-both order (by_component_total ta tb 0 0 o) x ls y rs s.0 s.1.ascends s.1.matched (s.1.left ∙ el)
-    (s.1.right ∙ er) h in
-    let l : x ∷ lefts f.0 ≡ x ∷ ls = ap lefts (sym f.1) ∙ s.1.left ∙ el in
-    let r : y ∷ rights f.0 ≡ y ∷ rs = ap rights (sym f.1) ∙ s.1.right ∙ er in
-    let a : lefts f.0 ≡ ls = cc in
-    let b : rights f.0 ≡ rs = cc in
-    subst (λ l. IsMeeting cmp ta tb shared xs ys x l y rs) a
-    (subst (λ r. IsMeeting cmp ta tb shared xs ys x (lefts f.0) y r) b
-    (meets cmp o ta tb shared xs ys ca cb [] x y f.0 (subst (IsScript order xs ys) f.1 s.1) tt))
+    rw (el, er) (meets cmp o ta tb shared x ls y rs
+    (tails-start (rw el at ca) (rw er at cb)) (ap (λ r. Some (lower_side r)) h))
 
 -- ---- what comes next of two lists
+
+-- canonical children ascend by their first components
+module _ {K V T : Type 0} (cmp : K → K → Ordering) (tree : T → Tree K V) where
+  above-first : (y : K) (p : List K) (v : Option V) (kids rest : Forest K V) → AllAbove cmp y (grow p v kids rest)
+      → (option_cmp cmp (Some y) (slice_get p 0) ≡ Less) × AllAbove cmp y rest
+  above-first y [] v kids rest a = absurd a
+  above-first y (z ∷ p) v kids rest a = a
+
+  above-all : (y : K) (xs : List T) → AllAbove cmp y (seen tree xs)
+      → AllByRecursion (λ x. option_cmp cmp (Some y) (slice_get (tree x).prefix 0) ≡ Less) xs
+  above-all y [] a = tt
+  above-all y (x ∷ xs) a =
+      let r = above-first y (tree x).prefix (tree x).value (tree x).children (seen tree xs) a in (r.0, above-all y xs r.1)
+
+  pub children-ascend : (xs : List T) → AreChildren cmp (seen tree xs)
+      → Ascends (λ x z. option_cmp cmp (slice_get (tree x).prefix 0) (slice_get (tree z).prefix 0)) xs
+  unfolding IsStrictlySortedBy
+  children-ascend [] a = tt
+  children-ascend (x ∷ xs) a =
+      let r = children-first cmp (tree x).prefix (tree x).value (tree x).children (seen tree xs) a in
+      (rw r.1 (above-all r.0 xs r.2), children-ascend xs r.3)
 
 module _ {K V W A B M : Type 0} (cmp : K → K → Ordering) (o : IsTotalOrder cmp) (ta : A → Tree K V) (tb : B → Tree K W)
     (left : M → List A) (right : M → List B) (missed : M → Bool) (shared : Bool) (s t : M)
@@ -368,12 +388,16 @@ module _ {K V W A B M : Type 0} (cmp : K → K → Ordering) (o : IsTotalOrder c
     (p : Passed left right missed shared (by_component ta tb 0 0 cmp) s t) where
   -- the merge stopped at a tree that is missed
   pub told-missed : missed t ≡ true → TellsKeysIn cmp shared (seen ta (left s)) (seen tb (right s)) false
+  unfolding IsStrictlySortedBy
   told-missed m = by p
     where
       by : Passed left right missed shared (by_component ta tb 0 0 cmp) s t
           → TellsKeysIn cmp shared (seen ta (left s)) (seen tb (right s)) false
       by (at_end es script a z l) = absurd (true≢false (sym m ∙ z))
-      by (at_missed es x rest script e z) = missed-told cmp o ta tb shared (left s) (right s) ca cb es x rest script e
+      by (at_missed es x rest script a e z) =
+          let f = passed-met cmp o ta tb shared es (left_alone x ∷ rest) a script (tails-start ca cb) in
+          missed-told cmp o ta tb shared x (lefts rest) (rights rest) f.0
+          (side-left (by_component ta tb 0 0 cmp) (by_component_total ta tb 0 0 o) x rest f.1.ascends.0 f.1.matched.1) e
       by (at_meeting es x y rest script a z l r) = absurd (true≢false (sym m ∙ z))
 
   -- at two that meet
@@ -384,15 +408,17 @@ module _ {K V W A B M : Type 0} (cmp : K → K → Ordering) (o : IsTotalOrder c
       by : Passed left right missed shared (by_component ta tb 0 0 cmp) s t
           → IsMeeting cmp ta tb shared (left s) (right s) x ls y rs
       by (at_end es script a z l) = absurd (let n = sym l ∙ el in cc)
-      by (at_missed es x' rest script e z) = absurd (true≢false (sym z ∙ m))
+      by (at_missed es x' rest script a e z) = absurd (true≢false (sym z ∙ m))
       by (at_meeting es x' y' rest script a z l r) =
+          let f = passed-met cmp o ta tb shared es (collision x' y' ∷ rest) a script (tails-start ca cb) in
           let h : x' ∷ lefts rest ≡ x ∷ ls = sym l ∙ el in
           let k : y' ∷ rights rest ≡ y ∷ rs = sym r ∙ er in
           let a1 : x' ≡ x = cc in
           let a2 : lefts rest ≡ ls = cc in
           let b1 : y' ≡ y = cc in
           let b2 : rights rest ≡ rs = cc in
-          rw (← a1, ← a2, ← b1, ← b2) (meets cmp o ta tb shared (left s) (right s) ca cb es x' y' rest script a)
+          rw (← a1, ← a2, ← b1, ← b2) (meets cmp o ta tb shared x' (lefts rest) y' (rights rest) f.0
+          (side-both (by_component ta tb 0 0 cmp) (by_component_total ta tb 0 0 o) x' y' f.1.matched.0))
 
   -- at the end
   pub told-end : missed t ≡ false → (left t ≡ []) ⊎ (right t ≡ [])
@@ -401,7 +427,8 @@ module _ {K V W A B M : Type 0} (cmp : K → K → Ordering) (o : IsTotalOrder c
     where
       by : Passed left right missed shared (by_component ta tb 0 0 cmp) s t → (left t ≡ []) ⊎ (right t ≡ [])
           → TellsKeysIn cmp shared (seen ta (left s)) (seen tb (right s)) true
-      by (at_end es script a z l) h = end-told cmp o ta tb shared (left s) (right s) ca cb es script a
-      by (at_missed es x rest script e z) h = absurd (true≢false (sym z ∙ m))
+      by (at_end es script a z l) h =
+          (passed-met cmp o ta tb shared es [] a (rw (append-nil es) script) (tails-start ca cb)).0.tells true (λ x q. tt)
+      by (at_missed es x rest script a e z) h = absurd (true≢false (sym z ∙ m))
       by (at_meeting es x y rest script a z l r) (inl h) = absurd (let n = sym l ∙ h in cc)
       by (at_meeting es x y rest script a z l r) (inr h) = absurd (let n = sym r ∙ h in cc)

@@ -5,7 +5,6 @@
 --     within-told, within-none, within-bare        the right one goes on behind it
 --     both-told        both end
 --     some-at, before-end        a place that is not the end
---     meeting-told        what is behind two trees that are met, tells of all
 --     found-agrees, agree-flip, found_smaller        the child that is found
 use Rattle.std.proofs.Common.{◌≡◌, ℕ, zero, suc, ◌+◌, ◌<◌, ◌≤◌, [], ◌∷◌, ◌++◌, List, Option, Some, Bool, true, false}
 use Rattle.std.proofs.Common.{not, ◌⊎◌, inl, inr, refl, sym, ap, subst, ◌∙◌, take, drop, length, slice_get}
@@ -26,7 +25,7 @@ use Rattle.vc_tree_nodes.specs.Parting.{Agree, PartsAt, IsParting}
 use Rattle.vc_tree_nodes.specs.Places.{IsNoChild, IsFoundChild}
 use Rattle.vc_tree_nodes.specs.declared.parting.Parting.{Parting}
 use Rattle.vc_tree_nodes.specs.declared.parting.Parting.TheVariants.{Lower, Higher}
-use Rattle.vc_tree_combines.specs.Meeting.{IsMet, TellsKeys, TellsKeysIn, IsMeeting}
+use Rattle.vc_tree_combines.specs.Meeting.{IsMet, TellsKeys, TellsKeysIn}
 use Rattle.vc_tree_combines.proofs.Meeting.{tells-lifted, alone-parted, alone-childless, tells-child, tells-in_child}
 use Rattle.vc_tree_combines.proofs.Meeting.{childless-met, bare-or_missed, tells-nodes}
 use Rattle.vc_tree_facing.proofs.Opening.{goes-on}
@@ -206,11 +205,3 @@ module _ {K : Type 0} (cmp : K → K → Ordering) (o : IsTotalOrder cmp) where
         (subst (λ g. TellsKeys cmp shared (node [] v f) (node [] u.value g) below) eg
         (subst (λ w. TellsKeys cmp shared (node [] v f) (node [] w g) below) ew
         (tells-nodes cmp o shared v w f g below m h)))))
-
--- behind two trees that are met, the others tell of all
-pub meeting-told : {K V W A B : Type 0} {cmp : K → K → Ordering} {ta : A → Tree K V} {tb : B → Tree K W} {shared : Bool}
-    {xs : List A} {ys : List B} {x : A} {ls : List A} {y : B} {rs : List B} → IsMeeting cmp ta tb shared xs ys x ls y rs
-    → TellsKeys cmp shared (ta x) (tb y) true → (answer : Bool) → TellsKeysIn cmp shared (seen ta ls) (seen tb rs) answer
-    → TellsKeysIn cmp shared (seen ta xs) (seen tb ys) answer
-meeting-told m h true g = m.all_met h g
-meeting-told m h false g = m.later_missed g

@@ -34,18 +34,22 @@ module _ {K V W : Type 0} (cmp : K → K → Ordering) (shared : Bool) where
       ((x : K) × (q : List K) × IsMissed shared (lookup_in cmp f (x ∷ q)) (lookup_in cmp g (x ∷ q)))
 
 module _ {K V W A B : Type 0} (cmp : K → K → Ordering) (ta : A → Tree K V) (tb : B → Tree K W) (shared : Bool) where
+  -- ls and rs are left of xs and ys, and tell of all
+  pub record AreTails (xs : List A) (ys : List B) (ls : List A) (rs : List B) : Type 0 where
+    pub left : AreChildren cmp (seen ta ls)
+    pub right : AreChildren cmp (seen tb rs)
+    pub left_nodes : forest_nodes (seen ta ls) ≤ forest_nodes (seen ta xs)
+    pub right_nodes : forest_nodes (seen tb rs) ≤ forest_nodes (seen tb ys)
+    pub tells : (answer : Bool) → TellsKeysIn cmp shared (seen ta ls) (seen tb rs) answer
+        → TellsKeysIn cmp shared (seen ta xs) (seen tb ys) answer
+
   -- the trees x and y of two lists begin alike. Those before them are met, and those behind them are ls and rs
   pub record IsMeeting (xs : List A) (ys : List B) (x : A) (ls : List A) (y : B) (rs : List B) : Type 0 where
     pub agree : Agree cmp (ta x).prefix (tb y).prefix 1
-    pub left : AreChildren cmp (seen ta ls)
-    pub right : AreChildren cmp (seen tb rs)
     pub left_nodes : nodes (ta x) + forest_nodes (seen ta ls) ≤ forest_nodes (seen ta xs)
     pub right_nodes : nodes (tb y) + forest_nodes (seen tb rs) ≤ forest_nodes (seen tb ys)
-    pub all_met : TellsKeys cmp shared (ta x) (tb y) true → TellsKeysIn cmp shared (seen ta ls) (seen tb rs) true
-        → TellsKeysIn cmp shared (seen ta xs) (seen tb ys) true
     pub here_missed : TellsKeys cmp shared (ta x) (tb y) false → TellsKeysIn cmp shared (seen ta xs) (seen tb ys) false
-    pub later_missed : TellsKeysIn cmp shared (seen ta ls) (seen tb rs) false
-        → TellsKeysIn cmp shared (seen ta xs) (seen tb ys) false
+    pub here_met : TellsKeys cmp shared (ta x) (tb y) true → AreTails xs ys ls rs
 
   -- what comes next of two lists
   abbrev pub IsNext : List A → List B → Next A B → Type 0

@@ -1,172 +1,236 @@
--- One event more of a script is done.
---     doing-start        none is done yet
---     doing-cheaper        less was spent
---     doing-left, doing-right, doing-both        one more is
---     left-next, right-next        what the next trees are
-use Rattle.std.proofs.Common.{◌≡◌, ℕ, ◌+◌, ◌*◌, ◌≤◌, [], ◌∷◌, ◌++◌, List, Option, None, refl, sym, ap, subst, ◌∙◌, map, arith}
-use Rattle.std.specs.List.{AllByRecursion, filter_map, cons_option}
-use Rattle.std.proofs.lemmas.List.Elements.{filter_map-append}
+-- Two lists of trees side by side: the next trees, and what is said of these and of the others.
+--     left-first, right-first, both-first        the next trees, by the side on which they stand
+--     rows-none, rows-more        no trees, and trees before others
+--     said-apart, said-joined        what is said of both lists is said of the next trees and of the others
+use Rattle.std.proofs.Common.{◌≡◌, ℕ, [], ◌∷◌, List, Option, None, Some, refl, sym, ap, subst, ◌∙◌, map, slice_get, inl, inr}
+use Rattle.std.proofs.Common.{option_map}
+use Rattle.std.specs.Cmp.{IsTotalOrder, tied_itself, tied_back}
+use Rattle.std.specs.List.{AllByRecursion, cons_option, filter_map}
+use Rattle.std.specs.Option.{option_cmp}
+use Rattle.std.specs.Prelude.{⊤, drop}
 use Rattle.std.specs.declared.cmp.Ordering.{Ordering}
-use Rattle.vc_merge.specs.Script.{Event, left_alone, right_alone, collision, lefts, rights, IsScript}
-use Rattle.vc_tree_model.specs.Shortened.{weight}
-use Rattle.vc_tree_model.specs.Tree.{Tree, shortened}
+use Rattle.std.specs.declared.cmp.Ordering.TheVariants.{Less, Equal, Greater}
+use Rattle.vc_tree_model.specs.Canonical.{AllAbove, AreChildren}
+use Rattle.vc_tree_model.specs.Child.{bound_by}
 use Rattle.vc_tree_model.specs.Look.{Look}
-use Rattle.vc_tree_facing.specs.Made.{IsMade, IsMadeBy, IsBothMadeBy, IsMadeAt}
-use Rattle.vc_tree_facing.specs.Doing.{IsAskedAt, owed, IsDoing}
-use Rattle.vc_tree_facing.specs.Sides.{by_component, side_of}
+use Rattle.vc_tree_model.specs.Tree.{Tree, Forest, forest, grow, shortened}
+use Rattle.vc_tree_model.proofs.KeyLemmas.{less}
+use Rattle.vc_tree_model.proofs.LookupLemmas.{above-less, above-equal}
+use Rattle.vc_tree_model.proofs.Places.{Row, look, IsRow}
+use Rattle.vc_tree_model.proofs.Rows.{rows-combined, rows-asked}
+use Rattle.vc_tree_facing.specs.Doing.{AreFirst, AreMade, IsSaidIn, IsSaidOf, row}
+use Rattle.vc_tree_facing.specs.Facing.{shortened_in}
+use Rattle.vc_tree_facing.specs.Sides.{by_component, lower_side, side_next}
 use Rattle.vc_tree_facing.specs.declared.sides.Side.{Side}
 use Rattle.vc_tree_facing.specs.declared.sides.Side.TheVariants.{Left, Right, Both}
+use Rattle.vc_tree_facing.proofs.Components.{get-drop, begins-by, above-by, less-first, children-first}
 
-all-push : {X : Type 0} (P : X → Type 0) (xs : List X) (x : X) → AllByRecursion P xs → P x → AllByRecursion P (xs ++ x ∷ [])
-all-push P [] x a p = (p, tt)
-all-push P (y ∷ ys) x a p = (a.0, all-push P ys x a.1 p)
+module _ {K V W A B : Type 0} {cmp : K → K → Ordering} (o : IsTotalOrder cmp) (ta : A → Tree K V) (tb : B → Tree K W)
+    (i j : ℕ) where
+  -- ---- the next trees
 
--- events of which the first is on one side
-module _ {A B : Type 0} where
-  pub left-first : (sides : List Side) (es : List (Event A B)) → Left ∷ sides ≡ map (λ e. side_of e) es
-      → (a : A) × (rest : List (Event A B)) × (es ≡ left_alone a ∷ rest)
-  left-first sides [] e = absurd (cc)
-  left-first sides (left_alone a ∷ es) e = (a, es, refl)
-  left-first sides (right_alone b ∷ es) e = absurd (cc)
-  left-first sides (collision a b ∷ es) e = absurd (cc)
+  -- how the components of two trees stand to each other
+  abbrev Stand : Side → K → K → Type 0
+  Stand Left c d = cmp c d ≡ Less
+  Stand Right c d = cmp d c ≡ Less
+  Stand Both c d = cmp c d ≡ Equal
 
-  pub right-first : (sides : List Side) (es : List (Event A B)) → Right ∷ sides ≡ map (λ e. side_of e) es
-      → (b : B) × (rest : List (Event A B)) × (es ≡ right_alone b ∷ rest)
-  right-first sides [] e = absurd (cc)
-  right-first sides (left_alone a ∷ es) e = absurd (cc)
-  right-first sides (right_alone b ∷ es) e = (b, es, refl)
-  right-first sides (collision a b ∷ es) e = absurd (cc)
+  stand-by : (c d : K) (r : Ordering) → cmp d c ≡ r → Stand (lower_side r) c d
+  stand-by c d Less e = e
+  stand-by c d Equal e = tied_back o d c e
+  stand-by c d Greater e = less cmp o d c e
 
-  pub both-first : (sides : List Side) (es : List (Event A B)) → Both ∷ sides ≡ map (λ e. side_of e) es
-      → (a : A) × (b : B) × (rest : List (Event A B)) × (es ≡ collision a b ∷ rest)
-  both-first sides [] e = absurd (cc)
-  both-first sides (left_alone a ∷ es) e = absurd (cc)
-  both-first sides (right_alone b ∷ es) e = absurd (cc)
-  both-first sides (collision a b ∷ es) e = (a, b, es, refl)
+  stand : (x : A) (y : B) (c d : K) {s : Side} → slice_get (drop i (ta x).prefix) 0 ≡ Some c
+      → slice_get (drop j (tb y).prefix) 0 ≡ Some d → Some (lower_side (by_component ta tb i j cmp (inr y) (inl x))) ≡ Some s
+      → Stand s c d
+  stand x y c d {s} e f h =
+      let a : slice_get (ta x).prefix i ≡ Some c = sym (get-drop i (ta x).prefix) ∙ e in
+      let b : slice_get (tb y).prefix j ≡ Some d = sym (get-drop j (tb y).prefix) ∙ f in
+      let k : lower_side (by_component ta tb i j cmp (inr y) (inl x)) ≡ s = cc in
+      subst (λ s. Stand s c d) (rw (a, b) at k) (stand-by c d (cmp d c) refl)
 
-module _ {K V W U O A B : Type 0} {cmp : K → K → Ordering} {ta : A → Tree K V} {tb : B → Tree K W} {i j : ℕ} {l : Look cmp W O}
-    {R : Option V → O → Option U → Type 0} {asks : Option V → O → Type 0} {xs : List A} {ys : List B} where
-  -- none is done yet
-  pub doing-start : {made : List (Tree K U)} {spent budget : ℕ} → made ≡ [] → (es : List (Event A B))
-      → IsScript (by_component ta tb i j cmp) xs ys es → AllByRecursion (IsAskedAt cmp ta tb i j l asks) es
-      → spent + owed cmp ta tb i j es ≤ budget
-      → IsDoing cmp ta tb i j l R asks xs ys xs ys (map (λ e. side_of e) es) made spent budget
-  doing-start e es s a p = record {
-    done = [];
-    rest = es;
-    script = s;
-    left = sym s.left;
-    right = sym s.right;
-    sides_are = refl;
-    made_at = tt;
-    made_are = e;
-    asked = a;
-    paid = p;
-  }
-
-  -- what was spent less
-  pub doing-cheaper : {ls : List A} {rs : List B} {sides : List Side} {made : List (Tree K U)} {spent less budget : ℕ}
-      → IsDoing cmp ta tb i j l R asks xs ys ls rs sides made spent budget → less ≤ spent
-      → IsDoing cmp ta tb i j l R asks xs ys ls rs sides made less budget
-  doing-cheaper d h = record {
-    done = d.done;
-    rest = d.rest;
-    script = d.script;
-    left = d.left;
-    right = d.right;
-    sides_are = d.sides_are;
-    made_at = d.made_at;
-    made_are = d.made_are;
-    asked = d.asked;
-    paid = (let p = d.paid in omega (arith, p, h));
-  }
-
-  -- one more is done
-  more : {ls : List A} {rs : List B} {sides : List Side} {made made' : List (Tree K U)} {spent budget : ℕ}
-      (done : List (Event A B × Option (Tree K U))) (e : Event A B) (es : List (Event A B)) (o : Option (Tree K U))
-      → IsScript (by_component ta tb i j cmp) xs ys (map (λ d. d.0) done ++ e ∷ es)
-      → AllByRecursion (λ d. IsMadeAt cmp l R ta tb i j d.0 d.1) done → made ≡ filter_map (λ d. d.1) done
-      → IsMadeAt cmp l R ta tb i j e o → made' ≡ made ++ cons_option o [] → ls ≡ lefts es → rs ≡ rights es
-      → sides ≡ map (λ e. side_of e) es → AllByRecursion (IsAskedAt cmp ta tb i j l asks) es
-      → spent + owed cmp ta tb i j es ≤ budget → IsDoing cmp ta tb i j l R asks xs ys ls rs sides made' spent budget
-  more done e es o s m k w p f r z a c = record {
-    done = done ++ (e, o) ∷ [];
-    rest = es;
-    script = subst (λ l. IsScript (by_component ta tb i j cmp) xs ys l) (events-push done) s;
-    left = f;
-    right = r;
-    sides_are = z;
-    made_at = all-push (λ d. IsMadeAt cmp l R ta tb i j d.0 d.1) done (e, o) m w;
-    made_are = p ∙ ap (λ l. l ++ cons_option o []) k ∙ sym (filter_map-append (λ d. d.1) done ((e, o) ∷ []));
-    asked = a;
-    paid = c;
-  }
+  -- a tree of the left side alone
+  pub left-first : (x : A) (ls : List A) (rs : List B) → AreChildren cmp (shortened_in ta i (x ∷ ls))
+      → AreChildren cmp (shortened_in tb j rs)
+      → side_next (by_component ta tb i j cmp) (Some x) (slice_get rs 0) ≡ Some Left
+      → (c : K) × (slice_get (drop i (ta x).prefix) 0 ≡ Some c) × AreFirst cmp ta tb i j c (Some x) None ls rs
+  left-first x ls rs ca cb told =
+      let f = children-first cmp (drop i (ta x).prefix) (ta x).value (ta x).children (shortened_in ta i ls) ca in (
+        f.0,
+        f.1,
+        record {
+          left = begins-by cmp (drop i (ta x).prefix) f.0 f.0 f.1 (tied_itself o f.0);
+          right = tt;
+          left_rest = f.3;
+          right_rest = cb;
+          left_above = f.2;
+          right_above = by rs cb told f.0 f.1;
+          least = λ y p q. less-first cmp (drop i (ta x).prefix) _ _ _ f.0 y f.1 p;
+        },
+      )
     where
-      events-push : (ds : List (Event A B × Option (Tree K U)))
-          → map (λ d. d.0) ds ++ e ∷ es ≡ map (λ d. d.0) (ds ++ (e, o) ∷ []) ++ es
-      events-push [] = refl
-      events-push (x ∷ ds) = ap (λ l. x.0 ∷ l) (events-push ds)
+      by : (rs : List B) → AreChildren cmp (shortened_in tb j rs)
+          → side_next (by_component ta tb i j cmp) (Some x) (slice_get rs 0) ≡ Some Left → (c : K)
+          → slice_get (drop i (ta x).prefix) 0 ≡ Some c → AllAbove cmp c (shortened_in tb j rs)
+      by [] cb told c e = tt
+      by (y ∷ rs) cb told c e =
+          let g = children-first cmp (drop j (tb y).prefix) (tb y).value (tb y).children (shortened_in tb j rs) cb in
+          let h = stand x y c g.0 e g.1 told in
+          above-by cmp (drop j (tb y).prefix) _ _ _ g.0 c g.1 h (above-less cmp o c g.0 (shortened_in tb j rs) h g.2)
 
-  module _ {ls : List A} {rs : List B} {all : List Side} {made : List (Tree K U)} {spent budget : ℕ}
-      (d : IsDoing cmp ta tb i j l R asks xs ys ls rs all made spent budget) where
-    -- the next tree of the left list, where an event takes one
-    pub left-next : {a x : A} {ls' : List A} (rest : List (Event A B)) → a ∷ lefts rest ≡ lefts d.rest → ls ≡ x ∷ ls'
-        → (x ≡ a) × (ls' ≡ lefts rest)
-    left-next {a} {x} {ls'} rest h e = let g : x ∷ ls' ≡ a ∷ lefts rest = sym e ∙ d.left ∙ sym h in (cc, cc)
+  -- of the right side alone
+  pub right-first : (ls : List A) (y : B) (rs : List B) → AreChildren cmp (shortened_in ta i ls)
+      → AreChildren cmp (shortened_in tb j (y ∷ rs))
+      → side_next (by_component ta tb i j cmp) (slice_get ls 0) (Some y) ≡ Some Right
+      → (d : K) × (slice_get (drop j (tb y).prefix) 0 ≡ Some d) × AreFirst cmp ta tb i j d None (Some y) ls rs
+  right-first ls y rs ca cb told =
+      let g = children-first cmp (drop j (tb y).prefix) (tb y).value (tb y).children (shortened_in tb j rs) cb in (
+        g.0,
+        g.1,
+        record {
+          left = tt;
+          right = begins-by cmp (drop j (tb y).prefix) g.0 g.0 g.1 (tied_itself o g.0);
+          left_rest = ca;
+          right_rest = g.3;
+          left_above = by ls ca told g.0 g.1;
+          right_above = g.2;
+          least = λ z p q. less-first cmp (drop j (tb y).prefix) _ _ _ g.0 z g.1 q;
+        },
+      )
+    where
+      by : (ls : List A) → AreChildren cmp (shortened_in ta i ls)
+          → side_next (by_component ta tb i j cmp) (slice_get ls 0) (Some y) ≡ Some Right → (d : K)
+          → slice_get (drop j (tb y).prefix) 0 ≡ Some d → AllAbove cmp d (shortened_in ta i ls)
+      by [] ca told d e = tt
+      by (x ∷ ls) ca told d e =
+          let f = children-first cmp (drop i (ta x).prefix) (ta x).value (ta x).children (shortened_in ta i ls) ca in
+          let h = stand x y f.0 d f.1 e told in
+          above-by cmp (drop i (ta x).prefix) _ _ _ f.0 d f.1 h (above-less cmp o d f.0 (shortened_in ta i ls) h f.2)
 
-    pub right-next : {b y : B} {rs' : List B} (rest : List (Event A B)) → b ∷ rights rest ≡ rights d.rest → rs ≡ y ∷ rs'
-        → (y ≡ b) × (rs' ≡ rights rest)
-    right-next {b} {y} {rs'} rest h e = let g : y ∷ rs' ≡ b ∷ rights rest = sym e ∙ d.right ∙ sym h in (cc, cc)
+  -- one of each side
+  pub both-first : (x : A) (ls : List A) (y : B) (rs : List B) → AreChildren cmp (shortened_in ta i (x ∷ ls))
+      → AreChildren cmp (shortened_in tb j (y ∷ rs)) → side_next (by_component ta tb i j cmp) (Some x) (Some y) ≡ Some Both
+      → (c : K) × (d : K) × (slice_get (drop i (ta x).prefix) 0 ≡ Some c) × (slice_get (drop j (tb y).prefix) 0 ≡ Some d)
+      × (cmp c d ≡ Equal) × AreFirst cmp ta tb i j c (Some x) (Some y) ls rs
+  both-first x ls y rs ca cb told =
+      let f = children-first cmp (drop i (ta x).prefix) (ta x).value (ta x).children (shortened_in ta i ls) ca in
+      let g = children-first cmp (drop j (tb y).prefix) (tb y).value (tb y).children (shortened_in tb j rs) cb in
+      let h = stand x y f.0 g.0 f.1 g.1 told in (
+        f.0,
+        g.0,
+        f.1,
+        g.1,
+        h,
+        record {
+          left = begins-by cmp (drop i (ta x).prefix) f.0 f.0 f.1 (tied_itself o f.0);
+          right = begins-by cmp (drop j (tb y).prefix) f.0 g.0 g.1 h;
+          left_rest = f.3;
+          right_rest = g.3;
+          left_above = f.2;
+          right_above = above-equal cmp o g.0 f.0 (shortened_in tb j rs) (tied_back o f.0 g.0 h) g.2;
+          least = λ z p q. less-first cmp (drop i (ta x).prefix) _ _ _ f.0 z f.1 p;
+        },
+      )
 
-    script-next : (e : Event A B) (rest : List (Event A B)) → d.rest ≡ e ∷ rest
-        → IsScript (by_component ta tb i j cmp) xs ys (map (λ d. d.0) d.done ++ e ∷ rest)
-    script-next e rest h = subst (λ l. IsScript (by_component ta tb i j cmp) xs ys (map (λ d. d.0) d.done ++ l)) h d.script
+  -- ---- what is made place by place
 
-    asked-next : (e : Event A B) (rest : List (Event A B)) → d.rest ≡ e ∷ rest
-        → AllByRecursion (IsAskedAt cmp ta tb i j l asks) rest
-    asked-next e rest h = (subst (AllByRecursion (IsAskedAt cmp ta tb i j l asks)) h d.asked).1
+  module _ {O U : Type 0} (l : Look cmp W O) (R : Option V → O → Option U → Type 0) where
+    pub rows-none : AreMade cmp ta tb i j l R [] [] []
+    rows-none = record { rows = []; ascend = tt; each = tt; left = refl; right = refl; out = refl; above = λ y p q. tt }
 
-    sides-next : (sides : List Side) (e : Event A B) (rest : List (Event A B)) (s : Side) → d.rest ≡ e ∷ rest → all ≡ s ∷ sides
-        → sides ≡ map (λ e. side_of e) rest
-    sides-next sides e rest s h z =
-        let g : s ∷ sides ≡ side_of e ∷ map (λ e. side_of e) rest = sym z ∙ d.sides_are ∙ ap (map (λ e. side_of e)) h in cc
+    side-more : {X T : Type 0} (tree : T → Tree K X) (n : ℕ) (a : Option T) (ts : List (Tree K X)) (xs : List T)
+        → forest ts ≡ shortened_in tree n xs
+        → forest (cons_option (option_map (λ x. shortened n (tree x)) a) ts) ≡ shortened_in tree n (cons_option a xs)
+    side-more tree n None ts xs e = e
+    side-more tree n (Some x) ts xs e = ap (grow (drop n (tree x).prefix) (tree x).value (tree x).children) e
 
-    module _ {sides : List Side} {made' : List (Tree K U)} {o : Option (Tree K U)} (pushed : made' ≡ made ++ cons_option o [])
+    -- trees before others
+    pub rows-more : (c : K) (a : Option A) (b : Option B) {ls : List A} {rs : List B} {made : List (Tree K U)}
+        (u : Option (Tree K U))
+        → AreFirst cmp ta tb i j c a b ls rs → IsRow cmp l R (row cmp ta tb i j c a b u) → AreMade cmp ta tb i j l R ls rs made
+        → AreMade cmp ta tb i j l R (cons_option a ls) (cons_option b rs) (cons_option u made)
+    rows-more c a b {ls} {rs} u f r m = record {
+      rows = row cmp ta tb i j c a b u ∷ m.rows;
+      ascend = (m.above c f.left_above f.right_above, m.ascend);
+      each = (r, m.each);
+      left = side-more ta i a (filter_map (λ r. r.left) m.rows) ls m.left;
+      right = side-more tb j b (filter_map (λ r. r.right) m.rows) rs m.right;
+      out = ap (cons_option u) m.out;
+      above = λ y p q. let h = f.least y p q in (
+        h,
+        m.above y (above-less cmp o y c (shortened_in ta i ls) h f.left_above)
+            (above-less cmp o y c (shortened_in tb j rs) h f.right_above),
+      );
+    }
+
+  -- ---- what is said of both lists
+
+  module _ {O : Type 0} (l : Look cmp W O) where
+    -- trees of which nothing is made
+    pub bare-more : {c : K} (a : Option A) (b : Option B) {ls : List A} {rs : List B} → AreFirst cmp ta tb i j c a b ls rs
+        → AreMade cmp ta tb i j l {U = V} (λ v w u. ⊤) ls rs []
+        → AreMade cmp ta tb i j l {U = V} (λ v w u. ⊤) (cons_option a ls) (cons_option b rs) []
+    bare-more {c} a b f m =
+        rows-more l (λ v w u. ⊤) c a b None f
+        (record { left = f.left; right = f.right; out = tt; child = tt; binds = λ x q. tt }) m
+
+    unmade : (ls : List A) (rs : List B) → AreChildren cmp (shortened_in ta i ls) → AreChildren cmp (shortened_in tb j rs)
+        → AreMade cmp ta tb i j l {U = V} (λ v w u. ⊤) ls rs []
+    unmade [] [] ca cb = rows-none l (λ v w u. ⊤)
+    unmade (x ∷ ls) [] ca cb =
+        let f = left-first x ls [] ca cb refl in bare-more (Some x) None f.2 (unmade ls [] f.2.left_rest cb)
+    unmade [] (y ∷ rs) ca cb =
+        let f = right-first [] y rs ca cb refl in bare-more None (Some y) f.2 (unmade [] rs ca f.2.right_rest)
+    unmade (x ∷ ls) (y ∷ rs) ca cb =
+        let a = (children-first cmp (drop i (ta x).prefix) _ _ _ ca).3 in
+        let b = (children-first cmp (drop j (tb y).prefix) _ _ _ cb).3 in
+        by (by_component ta tb i j cmp (inr y) (inl x)) refl (unmade (x ∷ ls) rs ca b) (unmade ls rs a b)
+        (unmade ls (y ∷ rs) a cb)
       where
-        pub doing-left : {x : A} {ls' : List A} → all ≡ Left ∷ sides → ls ≡ x ∷ ls'
-            → IsMade cmp (λ v z. R v l.none z) (shortened i (ta x)) o
-            → IsDoing cmp ta tb i j l R asks xs ys ls' rs sides made' spent budget
-        doing-left z e w =
-            let f = left-first sides d.rest (sym z ∙ d.sides_are) in
-            let g = left-next f.1 (ap lefts (sym f.2)) e in
-            more d.done (left_alone f.0) f.1 o (script-next _ _ f.2) d.made_at d.made_are
-            (subst (λ x. IsMade cmp (λ v z. R v l.none z) (shortened i (ta x)) o) g.0 w) pushed g.1
-            (d.right ∙ ap rights f.2) (sides-next _ _ _ Left f.2 z) (asked-next _ _ f.2)
-            (subst (λ l. spent + owed cmp ta tb i j l ≤ budget) f.2 d.paid)
+        by : (r : Ordering) → by_component ta tb i j cmp (inr y) (inl x) ≡ r
+            → AreMade cmp ta tb i j l {U = V} (λ v w u. ⊤) (x ∷ ls) rs [] → AreMade cmp ta tb i j l {U = V} (λ v w u. ⊤) ls rs []
+            → AreMade cmp ta tb i j l {U = V} (λ v w u. ⊤) ls (y ∷ rs) []
+            → AreMade cmp ta tb i j l {U = V} (λ v w u. ⊤) (x ∷ ls) (y ∷ rs) []
+        by Less e l m r = bare-more None (Some y) (right-first (x ∷ ls) y rs ca cb (ap (λ r. Some (lower_side r)) e)).2 l
+        by Equal e l m r = bare-more (Some x) (Some y) (both-first x ls y rs ca cb (ap (λ r. Some (lower_side r)) e)).5 m
+        by Greater e l m r = bare-more (Some x) None (left-first x ls (y ∷ rs) ca cb (ap (λ r. Some (lower_side r)) e)).2 r
 
-        pub doing-right : {y : B} {rs' : List B} → all ≡ Right ∷ sides → rs ≡ y ∷ rs'
-            → IsMadeBy cmp l (λ w z. R None w z) (shortened j (tb y)) o
-            → IsDoing cmp ta tb i j l R asks xs ys ls rs' sides made' spent budget
-        doing-right z e w =
-            let f = right-first sides d.rest (sym z ∙ d.sides_are) in
-            let g = right-next f.1 (ap rights (sym f.2)) e in
-            more d.done (right_alone f.0) f.1 o (script-next _ _ f.2) d.made_at d.made_are
-            (subst (λ y. IsMadeBy cmp l (λ w z. R None w z) (shortened j (tb y)) o) g.0 w) pushed
-            (d.left ∙ ap lefts f.2) g.1 (sides-next _ _ _ Right f.2 z) (asked-next _ _ f.2)
-            (subst (λ l. spent + owed cmp ta tb i j l ≤ budget) f.2 d.paid)
+    module _ (P : Option V → O → Type 0) (none : P None l.none) where
+      -- what is said at each key, is said at each place
+      at-places : {ls : List A} {rs : List B} (m : AreMade cmp ta tb i j l {U = V} (λ v w u. ⊤) ls rs [])
+          → IsSaidIn cmp ta tb i j l P ls rs
+          → AllByRecursion (λ r. (k : List K) → P (bound_by cmp r.left k) (look cmp l r.right k)) m.rows
+      at-places m p =
+          rows-asked cmp o l (λ v w u. ⊤) P none m.rows m.ascend m.each (λ x q. rw (m.left, m.right) (p x q))
 
-        pub doing-both : {x : A} {ls' : List A} {y : B} {rs' : List B} {spent' : ℕ} → all ≡ Both ∷ sides → ls ≡ x ∷ ls'
-            → rs ≡ y ∷ rs' → IsBothMadeBy cmp l R (shortened i (ta x)) (shortened j (tb y)) o
-            → spent' + 2 ≤ spent + 3 * (weight (shortened i (ta x)) + weight (shortened j (tb y)))
-            → IsDoing cmp ta tb i j l R asks xs ys ls' rs' sides made' spent' budget
-        doing-both {y = y} {spent' = spent'} z e e' w c =
-            let f = both-first sides d.rest (sym z ∙ d.sides_are) in
-            let g = left-next f.2 (ap lefts (sym f.3)) e in
-            let h = right-next f.2 (ap rights (sym f.3)) e' in
-            let same = subst (λ y. IsBothMadeBy cmp l R (shortened i (ta f.0)) (shortened j (tb y)) o) h.0
-            (subst (λ x. IsBothMadeBy cmp l R (shortened i (ta x)) (shortened j (tb y)) o) g.0 w) in
-            let cost = subst (λ y. spent' + 2 ≤ spent + 3 * (weight (shortened i (ta f.0)) + weight (shortened j (tb y)))) h.0
-            (subst (λ x. spent' + 2 ≤ spent + 3 * (weight (shortened i (ta x)) + weight (shortened j (tb y)))) g.0 c) in
-            let paid = subst (λ l. spent + owed cmp ta tb i j l ≤ budget) f.3 d.paid in
-            more d.done (collision f.0 f.1) f.2 o (script-next _ _ f.3) d.made_at d.made_are
-            same pushed g.1 h.1 (sides-next _ _ _ Both f.3 z) (asked-next _ _ f.3) (omega (arith, cost, paid))
+      said-rows : (rows : List (Row K V W V)) → AllByRecursion (IsRow cmp l (λ v w u. ⊤)) rows
+          → AllByRecursion (λ r. (k : List K) → P (bound_by cmp r.left k) (look cmp l r.right k)) rows
+          → AllByRecursion (IsRow cmp l (λ v w u. P v w)) rows
+      said-rows [] h p = tt
+      said-rows (r ∷ rows) h p = (
+        record { left = h.0.left; right = h.0.right; out = h.0.out; child = h.0.child; binds = λ x q. p.0 (x ∷ q) },
+        said-rows rows h.1 p.1,
+      )
+
+      -- and the other way round
+      at-keys : {ls : List A} {rs : List B} (m : AreMade cmp ta tb i j l {U = V} (λ v w u. ⊤) ls rs [])
+          → AllByRecursion (λ r. (k : List K) → P (bound_by cmp r.left k) (look cmp l r.right k)) m.rows
+          → IsSaidIn cmp ta tb i j l P ls rs
+      at-keys m p x q =
+          rw (← m.left, ← m.right) (rows-combined cmp o l (λ v w u. P v w) none m.rows m.ascend (said-rows m.rows m.each p) x q)
+
+      module _ {c : K} (a : Option A) (b : Option B) {ls : List A} {rs : List B} (f : AreFirst cmp ta tb i j c a b ls rs) where
+        -- what is said of both lists, is said of their first trees and of the others
+        pub said-apart : IsSaidIn cmp ta tb i j l P (cons_option a ls) (cons_option b rs)
+            → IsSaidOf cmp ta tb i j l P a b × IsSaidIn cmp ta tb i j l P ls rs
+        unfolding rows-more bare-more
+        said-apart p =
+            let m = unmade ls rs f.left_rest f.right_rest in
+            let e = at-places (bare-more a b f m) p in
+            (e.0, at-keys m e.1)
+
+        -- and the other way round
+        pub said-joined : IsSaidOf cmp ta tb i j l P a b → IsSaidIn cmp ta tb i j l P ls rs
+            → IsSaidIn cmp ta tb i j l P (cons_option a ls) (cons_option b rs)
+        unfolding rows-more bare-more
+        said-joined h p = let m = unmade ls rs f.left_rest f.right_rest in at-keys (bare-more a b f m) (h, at-places m p)

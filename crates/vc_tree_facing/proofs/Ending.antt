@@ -4,33 +4,25 @@
 --     values-asked        what may be asked of the values at the fronts
 --     made-children        the trees that were made are canonical children
 --     combined        the node of these trees is what the combine says of both
-use Rattle.std.proofs.Common.{◌≡◌, ℕ, ◌+◌, ◌-◌, ◌*◌, ◌≤◌, [], ◌∷◌, ◌++◌, List, Option, None, Some, sym, ap, subst}
-use Rattle.std.proofs.Common.{◌∙◌, map, take, drop, zero, suc, min, slice_get, append-nil, true≢false, arith, length}
+use Rattle.std.proofs.Common.{◌≡◌, ℕ, [], ◌∷◌, List, Option, None, Some, sym, ap, ◌∙◌, take, drop, zero, suc, slice_get}
+use Rattle.std.proofs.Common.{true≢false}
 use Rattle.std.proofs.lemmas.List.{take-append-drop}
 use Rattle.std.specs.Cmp.{IsTotalOrder, tied_itself}
 use Rattle.std.specs.Ordering.{is_eq}
 use Rattle.std.specs.declared.cmp.Ordering.{Ordering}
 use Rattle.std.specs.declared.cmp.Ordering.TheVariants.{Equal}
-use Rattle.vc_merge.specs.Script.{Event, IsScript}
-use Rattle.vc_merge.proofs.Scripts.{some-script}
 use Rattle.vc_tree_model.specs.Tree.{Tree, Forest, forest}
 use Rattle.vc_tree_model.specs.Map.{lookup}
 use Rattle.vc_tree_model.specs.Canonical.{AreChildren, IsCanonical}
-use Rattle.vc_tree_model.specs.Child.{BeginsWith, solid_child, value_at, children_at}
-use Rattle.vc_tree_model.specs.Shortened.{weight}
+use Rattle.vc_tree_model.specs.Child.{BeginsWith, solid_child, value_at}
 use Rattle.vc_tree_model.proofs.Joining.{opened-children, joined-child, joined-begins, trees-combined, value-asked}
 use Rattle.vc_tree_model.proofs.Joining.{children-asked}
 use Rattle.vc_tree_model.specs.Look.{Look}
-use Rattle.vc_tree_model.proofs.Places.{IsCombinedIn}
 use Rattle.vc_tree_facing.specs.Facing.{shortened_in, Parts, IsOpened, IsFaced}
 use Rattle.vc_tree_facing.specs.Made.{IsBothMadeBy}
 use Rattle.vc_tree_facing.specs.Doing.{IsDoing}
-use Rattle.vc_tree_facing.specs.Sides.{by_component, by_component_total, side_of}
-use Rattle.vc_tree_facing.specs.declared.sides.Side.{Side}
-use Rattle.vc_tree_facing.proofs.Components.{children-ascend}
-use Rattle.vc_tree_facing.proofs.Doing.{doing-start}
-use Rattle.vc_tree_facing.proofs.Making.{script-made, script-asked}
-use Rattle.vc_tree_facing.proofs.Paying.{face-paid}
+use Rattle.vc_tree_facing.specs.Sides.{by_component, side_next}
+use Rattle.vc_tree_facing.proofs.Next.{doing-start, all-done}
 
 -- what stands below a place is canonical children
 pub below-children : {K T V : Type 0} (cmp : K → K → Ordering) {tree : T → Tree K V} {t : Tree K V} {xs : List T} {i : ℕ} (n : ℕ)
@@ -69,47 +61,24 @@ module _ {K V W A B : Type 0} {cmp : K → K → Ordering} {ta : A → Tree K V}
         value-asked cmp o l P t u (take n t.prefix) (drop n t.prefix) (take n u.prefix) (drop n u.prefix)
         (sym (take-append-drop n t.prefix)) (sym (take-append-drop n u.prefix)) f.same h
 
-    -- the state before the first event: what may be asked of the trees may be asked of what is below
+    -- the state before the first trees: what may be asked of both trees may be asked of what is below
     pub combine-started : {U : Type 0} (R : Option V → O → Option U → Type 0) (asks : Option V → O → Type 0) → asks None l.none
         → (P : Option V → O → Type 0)
         → ((v : Option V) (z : O) → P v (l.under (value_at u (drop n u.prefix)) z) → asks v z)
         → ((k : List K) → P (lookup cmp t k) (l.of_tree u k)) → IsCanonical cmp t → IsCanonical cmp u
-        → {made : List (Tree K U)} → made ≡ [] → {spent : ℕ} (start : ℕ)
-        → spent ≤ start + min (length t.prefix) (length u.prefix) + length xs + length ys
-        → (es : List (Event A B)) × IsScript (by_component ta tb i j cmp) xs ys es
-        × IsDoing cmp ta tb i j l R asks xs ys xs ys (map (λ e. side_of e) es) made spent (start + 3 * (weight t + weight u) - 2)
-    combine-started R asks an P lead h ct cu e start c =
+        → {made : List (Tree K U)} → made ≡ [] → IsDoing cmp ta tb i j l R asks xs ys xs ys made
+    combine-started R asks an P lead h ct cu e =
         let below = children-asked cmp o l P t u (take n t.prefix) (drop n t.prefix) (take n u.prefix)
         (drop n u.prefix) (sym (take-append-drop n t.prefix)) (sym (take-append-drop n u.prefix)) f.same h in
-        let s = some-script (by_component ta tb i j cmp) (by_component_total ta tb i j o) xs ys (record {
-          left = children-ascend cmp ta i xs (left-children ct);
-          right = children-ascend cmp tb j ys (right-children cu);
-        }) in
-        let paid = face-paid cmp ta tb t u n xs i ys j f s.0 s.1 in (
-          s.0,
-          s.1,
-          doing-start e s.0 s.1
-              (script-asked cmp o ta tb i j l asks an xs ys s.0 (left-children ct) (right-children cu) s.1
-              (rw (f.left.children, f.right.children) (λ x q. lead _ _ (below x q)))) (omega (arith, paid, c)),
-        )
+        doing-start o an (left-children ct) (right-children cu)
+        (rw (f.left.children, f.right.children) (λ x q. lead _ _ (below x q))) e
 
   module _ {U O : Type 0} {l : Look cmp W O} {R : Option V → O → Option U → Type 0} {asks : Option V → O → Type 0} {ls : List A}
-      {rs : List B} {todo : List Side} {made : List (Tree K U)} {spent budget : ℕ}
-      (d : IsDoing cmp ta tb i j l R asks xs ys ls rs todo made spent budget) (end : todo ≡ []) (o : IsTotalOrder cmp)
-      (none : R None l.none None) (ct : IsCanonical cmp t) (cu : IsCanonical cmp u) where
-    whole-script : (rest : List (Event A B)) (done : List (Event A B)) → ◌≡◌ {A = List Side} [] (map (λ e. side_of e) rest)
-        → IsScript (by_component ta tb i j cmp) xs ys (done ++ rest) → IsScript (by_component ta tb i j cmp) xs ys done
-    whole-script [] done e s = subst (λ l. IsScript (by_component ta tb i j cmp) xs ys l) (append-nil done) s
-    whole-script (e ∷ es) done z s = absurd (cc)
-
-    made-of : AreChildren cmp (forest made) × IsCombinedIn cmp l R (shortened_in ta i xs) (shortened_in tb j ys) (forest made)
-    made-of =
-        let s = whole-script d.rest (map (λ d. d.0) d.done) (sym end ∙ d.sides_are) d.script in
-        rw d.made_are (script-made cmp o ta tb i j l R none xs ys d.done (left-children ct) (right-children cu) s d.made_at)
-
+      {rs : List B} {made : List (Tree K U)} (d : IsDoing cmp ta tb i j l R asks xs ys ls rs made)
+      (end : side_next (by_component ta tb i j cmp) (slice_get ls 0) (slice_get rs 0) ≡ None) (none : R None l.none None) where
     -- the trees that were made are canonical children
     pub made-children : AreChildren cmp (forest made)
-    made-children = made-of.0
+    made-children = (all-done d end none).0
 
     -- the node of these trees is what the combine says of both, by what it says of what is below
     pub combined : (S : Option V → O → Option U → Type 0) → S None l.none None
@@ -118,13 +87,12 @@ module _ {K V W A B : Type 0} {cmp : K → K → Ordering} {ta : A → Tree K V}
         → S (value_at t (drop n t.prefix)) (l.at (value_at u (drop n u.prefix))) v → front ≡ take n t.prefix
         → out ≡ solid_child front v (forest made) → IsBothMadeBy cmp l S t u out
     combined S nothing lead v root e g =
-        let below = subst (λ h. IsCombinedIn cmp l R (children_at t (drop n t.prefix)) h (forest made)) f.right.children
-        (subst (λ h. IsCombinedIn cmp l R h (shortened_in tb j ys) (forest made)) f.left.children made-of.1) in
-        subst (λ z. IsBothMadeBy cmp l S t u z) (sym (g ∙ ap (λ p. solid_child p v (forest made)) e)) (record {
+        let below = rw (f.left.children, f.right.children) at (all-done d end none).1 in
+        rw (g, e) (record {
           child = joined-child cmp (take n t.prefix) v (forest made) made-children;
-          begins = λ y z a b q. front-begins o n t.prefix u.prefix v (forest made) y z a b q f.parts;
+          begins = λ y z a b q. front-begins d.total n t.prefix u.prefix v (forest made) y z a b q f.parts;
           binds =
-              trees-combined cmp o l S nothing t u (take n t.prefix) (drop n t.prefix) (take n u.prefix) (drop n u.prefix)
+              trees-combined cmp d.total l S nothing t u (take n t.prefix) (drop n t.prefix) (take n u.prefix) (drop n u.prefix)
               v (forest made) (sym (take-append-drop n t.prefix)) (sym (take-append-drop n u.prefix)) f.same made-children root
               (λ x q. lead _ _ _ (below x q));
         })

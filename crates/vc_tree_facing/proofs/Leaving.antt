@@ -25,7 +25,7 @@ use Rattle.vc_tree_facing.specs.Lessening.{alone, left_of, KeepsFront, IsLessene
 use Rattle.vc_tree_facing.specs.Made.{IsBothMadeBy}
 use Rattle.vc_tree_facing.specs.Seeking.{IsSought}
 use Rattle.vc_tree_facing.proofs.Components.{get-drop}
-use Rattle.vc_tree_facing.proofs.Deciding.{list-begun}
+use Rattle.vc_tree_facing.proofs.Advancing.{list-begun}
 use Rattle.vc_tree_facing.proofs.Ending.{front-begins}
 
 pub if-ok : {X E : Type 0} {P Q : X → Type 0} (r : Result X E) → ((x : X) → P x → Q x) → IfOk r P → IfOk r Q
@@ -149,7 +149,8 @@ module _ {K V W : Type 0} {cmp : K → K → Ordering} {t : Tree K V} {i : ℕ} 
           (sym (take-append-drop n (drop i t.prefix))) (sym (take-append-drop n (drop j u.prefix))) s.agree.same a)
 
       -- and of what stands below
-      pub below-may : {f : Forest K V} {w : Option W} {g : Forest K W} → f ≡ children_at (shortened i t) (drop n (drop i t.prefix))
+      pub below-may : {f : Forest K V} {w : Option W} {g : Forest K W}
+          → f ≡ children_at (shortened i t) (drop n (drop i t.prefix))
           → w ≡ value_at (shortened j u) (drop n (drop j u.prefix)) → g ≡ children_at (shortened j u) (drop n (drop j u.prefix))
           → (x : K) (q : List K) → asks (lookup_in cmp f (x ∷ q)) (l.under w (l.of_forest g (x ∷ q)))
       below-may ef ew eg x q =
@@ -161,7 +162,8 @@ module _ {K V W : Type 0} {cmp : K → K → Ordering} {t : Tree K V} {i : ℕ} 
       -- the node of what is left of both
       at-front : (v : Option V) (f : Forest K V) (value : Option V) (kids : Forest K V)
           → v ≡ value_at (shortened i t) (drop n (drop i t.prefix)) → w ≡ value_at (shortened j u) (drop n (drop j u.prefix))
-          → f ≡ children_at (shortened i t) (drop n (drop i t.prefix)) → g ≡ children_at (shortened j u) (drop n (drop j u.prefix))
+          → f ≡ children_at (shortened i t) (drop n (drop i t.prefix))
+          → g ≡ children_at (shortened j u) (drop n (drop j u.prefix))
           → R v (l.at w) value → IsLessenedUnder cmp l R w f g kids → AreChildren cmp kids → R None l.none None
           → (out : Option (Tree K V)) → out ≡ solid_child (take n (drop i t.prefix)) value kids
           → IsBothMadeBy cmp l R (shortened i t) (shortened j u) out
@@ -187,7 +189,8 @@ module _ {K V W : Type 0} {cmp : K → K → Ordering} {t : Tree K V} {i : ℕ} 
           let whole : take n (drop i t.prefix) ≡ drop i t.prefix = take_all n (drop i t.prefix) (omega (arith, k, long)) in
           record {
             made =
-                at-front t.value t.children h.value h.kids (ended-value i n t long) ew (ended-children i n t long) eg h.said h.below
+                at-front t.value t.children h.value h.kids (ended-value i n t long) ew
+                (ended-children i n t long) eg h.said h.below
                 h.children none (left_of stays i new) (h.is ∙ ap (λ p. solid_child p h.value h.kids) (sym whole));
             front = h.front;
           }

@@ -1,13 +1,10 @@
 pub mod Components
 pub mod Opening
 pub mod Doing
-pub mod Making
-pub mod Paying
 pub mod Next
 pub mod Ending
 pub mod Copied
 pub mod Seeking
-pub mod Deciding
-pub mod Leaving
 pub mod Advancing
+pub mod Leaving
 pub mod Apart

@@ -1,45 +1,45 @@
--- What is known of the trees of the next event of a combine.
---     left-there, right-there, both-there        the next trees are there
---     left_within, right_within, left-asked, right-asked, both-asked        they go on at the place, and may be asked of
---     falls        two trees that meet have fewer nodes than those that they stand below
-use Rattle.std.proofs.Common.{◌≡◌, ℕ, ◌+◌, ◌*◌, ◌<◌, ◌≤◌, [], ◌∷◌, ◌++◌, List, Option, None, Some, refl, sym, ap}
-use Rattle.std.proofs.Common.{subst, ◌∙◌, map, arith, length, drop, slice_get, inl, inr}
+-- The next trees of two lists of which some are done.
+--     left_within, right_within        they go on at the place
+--     there        they are there, by the side on which they stand
+--     left-head, right-head        what holds of all holds of them
+--     left-asked, right-asked, both-asked        they may be asked of
+--     both-agree, both-ended, falls        two that meet agree for one component, below a prefix that ended, and have fewer nodes
+--     doing-start, left-done, right-done, both-done, all-done        none is done yet, the next ones are, or all
+--     at-most, nil-by, agree-first        what is below is not above, a list without elements, keys that begin alike
+use Rattle.std.proofs.Common.{◌≡◌, ℕ, zero, suc, ◌+◌, ◌<◌, ◌≤◌, [], ◌∷◌, ◌++◌, List, Option, None, Some, refl, sym, ap}
+use Rattle.std.proofs.Common.{subst, ◌∙◌, arith, length, drop, slice_get, append-nil, append_assoc, option_map, true≢false}
+use Rattle.std.proofs.Common.{◌⊎◌, inl, inr}
+use Rattle.std.proofs.lemmas.List.{drop-drop}
 use Rattle.std.proofs.lemmas.Option.{slice_get_within}
-use Rattle.std.specs.List.{AllByRecursion}
+use Rattle.std.specs.Cmp.{IsTotalOrder}
+use Rattle.std.specs.List.{AllByRecursion, cons_option}
+use Rattle.std.specs.Ordering.{is_eq}
 use Rattle.std.specs.declared.cmp.Ordering.{Ordering}
-use Rattle.std.specs.declared.cmp.Ordering.TheVariants.{Equal}
-use Rattle.vc_merge.specs.Script.{Event, left_alone, right_alone, collision, lefts, rights, IsMatched}
-use Rattle.vc_tree_model.specs.Shortened.{weight}
-use Rattle.vc_tree_model.specs.Tree.{Tree, nodes, shortened}
-use Rattle.vc_tree_model.specs.Map.{lookup}
+use Rattle.std.specs.declared.cmp.Ordering.TheVariants.{Less, Equal, Greater}
 use Rattle.vc_tree_model.specs.Canonical.{AreChildren}
 use Rattle.vc_tree_model.specs.Look.{Look}
+use Rattle.vc_tree_model.specs.Map.{lookup}
+use Rattle.vc_tree_model.specs.Tree.{Tree, forest, nodes, shortened}
+use Rattle.vc_tree_model.proofs.Places.{IsRow, IsCombinedIn}
+use Rattle.vc_tree_model.proofs.Rows.{rows-children, rows-combined}
 use Rattle.vc_tree_nodes.specs.Parting.{Agree}
+use Rattle.vc_tree_facing.specs.Doing.{AreFirst, AreMade, IsSaidIn, IsDoing, row}
 use Rattle.vc_tree_facing.specs.Facing.{shortened_in, ended, GoesOn, IsOpened, Parts}
-use Rattle.vc_tree_facing.specs.Doing.{IsAskedAt, IsDoing, owed}
-use Rattle.vc_tree_facing.specs.Sides.{by_component}
+use Rattle.vc_tree_facing.specs.Made.{IsMade, IsMadeBy, IsBothMadeBy}
+use Rattle.vc_tree_facing.specs.Sides.{by_component, lower_side, side_next}
 use Rattle.vc_tree_facing.specs.declared.sides.Side.{Side}
 use Rattle.vc_tree_facing.specs.declared.sides.Side.TheVariants.{Left, Right, Both}
-use Rattle.vc_tree_facing.proofs.Components.{get-drop, components}
-use Rattle.vc_tree_facing.proofs.Doing.{left-first, right-first, both-first, left-next, right-next}
-use Rattle.vc_tree_facing.proofs.Paying.{apart-or_ended}
+use Rattle.vc_tree_facing.proofs.Components.{get-drop, children-first}
+use Rattle.vc_tree_facing.proofs.Doing.{left-first, right-first, both-first, rows-none, rows-more, said-apart}
 
-module _ {A B : Type 0} where
-  left-rest : (P : A → Type 0) (ds es : List (Event A B)) → AllByRecursion P (lefts (ds ++ es)) → AllByRecursion P (lefts es)
-  left-rest P [] es a = a
-  left-rest P (left_alone x ∷ ds) es a = left-rest P ds es a.1
-  left-rest P (right_alone y ∷ ds) es a = left-rest P ds es a
-  left-rest P (collision x y ∷ ds) es a = left-rest P ds es a.1
+-- what is below is not above
+pub at-most : (i n : ℕ) → i < n → i ≤ n
+at-most i n h = omega (arith, h)
 
-  right-rest : (P : B → Type 0) (ds es : List (Event A B)) → AllByRecursion P (rights (ds ++ es)) → AllByRecursion P (rights es)
-  right-rest P [] es a = a
-  right-rest P (left_alone x ∷ ds) es a = right-rest P ds es a
-  right-rest P (right_alone y ∷ ds) es a = right-rest P ds es a.1
-  right-rest P (collision x y ∷ ds) es a = right-rest P ds es a.1
-
-  pub event-rest : (P : Event A B → Type 0) (ds es : List (Event A B)) → AllByRecursion P (ds ++ es) → AllByRecursion P es
-  event-rest P [] es a = a
-  event-rest P (d ∷ ds) es a = event-rest P ds es a.1
+-- a list without elements
+pub nil-by : {X : Type 0} (l : List X) → length l ≡ 0 → l ≡ []
+nil-by [] e = refl
+nil-by (x ∷ l) e = absurd (omega (arith, e))
 
 -- two keys that begin alike agree for one component
 pub agree-first : {K : Type 0} (cmp : K → K → Ordering) (p q : List K) (x y : K) → slice_get p 0 ≡ Some x → slice_get q 0 ≡ Some y
@@ -52,122 +52,202 @@ agree-first cmp (x' ∷ p) (y' ∷ q) x y e f h =
     let r : cmp x' y' ≡ Equal = rw (a, b) h in
     record { within_prefix = omega arith; within_key = omega arith; same = rw r refl }
 
--- what is below is not above
-pub at-most : (i n : ℕ) → i < n → i ≤ n
-at-most i n h = omega (arith, h)
+all-drop : {X : Type 0} (P : X → Type 0) (n : ℕ) (xs : List X) → AllByRecursion P xs → AllByRecursion P (drop n xs)
+all-drop P zero xs a = a
+all-drop P (suc n) [] a = tt
+all-drop P (suc n) (x ∷ xs) a = all-drop P n xs a.1
 
--- a list without elements
-pub nil-by : {X : Type 0} (l : List X) → length l ≡ 0 → l ≡ []
-nil-by [] e = refl
-nil-by (x ∷ l) e = absurd (omega (arith, e))
+append-option : {X : Type 0} (xs : List X) (o : Option X) (ys : List X) → (xs ++ cons_option o []) ++ ys ≡ xs ++ cons_option o ys
+append-option xs None ys = ap (λ l. l ++ ys) (append-nil xs)
+append-option xs (Some x) ys = append_assoc xs (x ∷ []) ys
+
+-- the next trees are there, by the side on which they stand
+abbrev pub AreThere : {A B : Type 0} → Side → List A → List B → Type 0
+AreThere Left ls rs = 0 < length ls
+AreThere Right ls rs = 0 < length rs
+AreThere Both ls rs = (0 < length ls) × (0 < length rs)
+
+module _ {A B : Type 0} (order : A ⊎ B → A ⊎ B → Ordering) where
+  there-by : (ls : List A) (rs : List B) {s : Side} → side_next order (slice_get ls 0) (slice_get rs 0) ≡ Some s
+      → AreThere s ls rs
+  there-by [] [] z = absurd (cc)
+  there-by [] (y ∷ rs) {s} z = let h : Right ≡ s = cc in rw (← h) (omega arith)
+  there-by (x ∷ ls) [] {s} z = let h : Left ≡ s = cc in rw (← h) (omega arith)
+  there-by (x ∷ ls) (y ∷ rs) {s} z = let h : lower_side (order (inr y) (inl x)) ≡ s = cc in rw (← h) (by (order (inr y) (inl x)))
+    where
+      by : (r : Ordering) → AreThere (lower_side r) (x ∷ ls) (y ∷ rs)
+      by Less = omega arith
+      by Equal = (omega arith, omega arith)
+      by Greater = omega arith
 
 module _ {K V W U O A B : Type 0} {cmp : K → K → Ordering} {ta : A → Tree K V} {tb : B → Tree K W} {i j : ℕ} {l : Look cmp W O}
-    {R : Option V → O → Option U → Type 0} {asks : Option V → O → Type 0} {xs : List A} {ys : List B} {ls : List A} {rs : List B}
-    {all : List Side} {made : List (Tree K U)} {spent budget : ℕ}
-    (d : IsDoing cmp ta tb i j l R asks xs ys ls rs all made spent budget) where
-  -- what holds of all trees of a side, holds of the next one
-  pub left-head : (P : A → Type 0) {x : A} {ls' : List A} → ls ≡ x ∷ ls' → AllByRecursion P xs → P x
-  left-head P e a =
-      (subst (AllByRecursion P) (sym d.left ∙ e)
-      (left-rest P (map (λ d. d.0) d.done) d.rest (subst (AllByRecursion P) (sym d.script.left) a))).0
+    {R : Option V → O → Option U → Type 0} {asks : Option V → O → Type 0} {xs : List A} {ys : List B} where
+  -- none is done yet
+  pub doing-start : {made : List (Tree K U)} → IsTotalOrder cmp → asks None l.none → AreChildren cmp (shortened_in ta i xs)
+      → AreChildren cmp (shortened_in tb j ys) → IsSaidIn cmp ta tb i j l asks xs ys → made ≡ []
+      → IsDoing cmp ta tb i j l R asks xs ys xs ys made
+  doing-start o none ca cb asked e = rw e (record {
+    total = o;
+    none = none;
+    left = ca;
+    right = cb;
+    left_part = (0, refl);
+    right_part = (0, refl);
+    asked = asked;
+    ends = λ others m. m;
+  })
 
-  pub right-head : (P : B → Type 0) {y : B} {rs' : List B} → rs ≡ y ∷ rs' → AllByRecursion P ys → P y
-  right-head P e a =
-      (subst (AllByRecursion P) (sym d.right ∙ e)
-      (right-rest P (map (λ d. d.0) d.done) d.rest (subst (AllByRecursion P) (sym d.script.right) a))).0
+  -- the next trees are done
+  done-by : {c : K} (a : Option A) (b : Option B) {ls : List A} {rs : List B} {made made' : List (Tree K U)}
+      {u : Option (Tree K U)}
+      → IsDoing cmp ta tb i j l R asks xs ys (cons_option a ls) (cons_option b rs) made → AreFirst cmp ta tb i j c a b ls rs
+      → IsRow cmp l R (row cmp ta tb i j c a b u) → made' ≡ made ++ cons_option u []
+      → IsDoing cmp ta tb i j l R asks xs ys ls rs made'
+  done-by {c} a b {ls} {rs} {made} {u = u} d f r e = record {
+    total = d.total;
+    none = d.none;
+    left = f.left_rest;
+    right = f.right_rest;
+    left_part = part-rest a d.left_part;
+    right_part = part-rest b d.right_part;
+    asked = (said-apart d.total ta tb i j l asks d.none a b f d.asked).1;
+    ends = λ others m. subst (AreMade cmp ta tb i j l R xs ys) (sym (ap (λ l. l ++ others) e ∙ append-option made u others))
+        (d.ends (cons_option u others) (rows-more d.total ta tb i j l R c a b u f r m));
+  }
+    where
+      part-rest : {X : Type 0} (a : Option X) {ls xs : List X} → (n : ℕ) × (cons_option a ls ≡ drop n xs) → (n : ℕ)
+          × (ls ≡ drop n xs)
+      part-rest None p = p
+      part-rest (Some x) {xs = xs} p = (p.0 + 1, ap (drop 1) p.1 ∙ drop-drop 1 p.0 xs)
 
-  -- the next event has a left tree, or a right one, or both
-  pub left-there : {sides : List Side} → all ≡ Left ∷ sides → 0 < length ls
-  left-there {sides} z =
-      let f = left-first sides d.rest (sym z ∙ d.sides_are) in
-      let n = ap length (d.left ∙ ap lefts f.2) in omega (arith, n)
+  module _ {ls : List A} {rs : List B} {made : List (Tree K U)} (d : IsDoing cmp ta tb i j l R asks xs ys ls rs made) where
+    -- what holds of all trees of a side, holds of the next one
+    pub left-head : (P : A → Type 0) {x : A} {ls' : List A} → ls ≡ x ∷ ls' → AllByRecursion P xs → P x
+    left-head P e a = (subst (AllByRecursion P) (sym d.left_part.1 ∙ e) (all-drop P d.left_part.0 xs a)).0
 
-  pub right-there : {sides : List Side} → all ≡ Right ∷ sides → 0 < length rs
-  right-there {sides} z =
-      let f = right-first sides d.rest (sym z ∙ d.sides_are) in
-      let n = ap length (d.right ∙ ap rights f.2) in omega (arith, n)
+    pub right-head : (P : B → Type 0) {y : B} {rs' : List B} → rs ≡ y ∷ rs' → AllByRecursion P ys → P y
+    right-head P e a = (subst (AllByRecursion P) (sym d.right_part.1 ∙ e) (all-drop P d.right_part.0 ys a)).0
 
-  pub both-there : {sides : List Side} → all ≡ Both ∷ sides → (0 < length ls) × (0 < length rs)
-  both-there {sides} z =
-      let f = both-first sides d.rest (sym z ∙ d.sides_are) in
-      let m = ap length (d.left ∙ ap lefts f.3) in
-      let n = ap length (d.right ∙ ap rights f.3) in
-      (omega (arith, m), omega (arith, n))
+    -- it goes on at the place
+    pub left_within : {x : A} {ls' : List A} → ls ≡ x ∷ ls' → i < length (ta x).prefix
+    left_within {x} e =
+        let f = children-first cmp (drop i (ta x).prefix) _ _ _ (rw e at d.left) in
+        slice_get_within (ta x).prefix i f.0 (sym (get-drop i (ta x).prefix) ∙ f.1)
 
-  -- a next tree goes on at the place
-  pub left_within : AreChildren cmp (shortened_in ta i xs) → {x : A} {ls' : List A} → ls ≡ x ∷ ls' → i < length (ta x).prefix
-  left_within c {x} e =
-      let h = left-head (λ x. (k : K) × (slice_get (ta x).prefix i ≡ Some k)) e (components cmp ta i xs c) in
-      slice_get_within (ta x).prefix i h.0 h.1
+    pub right_within : {y : B} {rs' : List B} → rs ≡ y ∷ rs' → j < length (tb y).prefix
+    right_within {y} e =
+        let f = children-first cmp (drop j (tb y).prefix) _ _ _ (rw e at d.right) in
+        slice_get_within (tb y).prefix j f.0 (sym (get-drop j (tb y).prefix) ∙ f.1)
 
-  pub right_within : AreChildren cmp (shortened_in tb j ys) → {y : B} {rs' : List B} → rs ≡ y ∷ rs' → j < length (tb y).prefix
-  right_within c {y} e =
-      let h = right-head (λ y. (k : K) × (slice_get (tb y).prefix j ≡ Some k)) e (components cmp tb j ys c) in
-      slice_get_within (tb y).prefix j h.0 h.1
+    -- the trees by which both sides stand
+    abbrev OnSide : Side → Type 0
+    OnSide s = side_next (by_component ta tb i j cmp) (slice_get ls 0) (slice_get rs 0) ≡ Some s
 
-  -- and may be asked of
-  pub left-asked : {sides : List Side} → all ≡ Left ∷ sides → {x : A} {ls' : List A} → ls ≡ x ∷ ls' → (k : List K)
-      → asks (lookup cmp (shortened i (ta x)) k) l.none
-  left-asked {sides} z e =
-      let f = left-first sides d.rest (sym z ∙ d.sides_are) in
-      let g = left-next d f.1 (ap lefts (sym f.2)) e in
-      subst (λ x. (k : List K) → asks (lookup cmp (shortened i (ta x)) k) l.none) (sym g.0)
-      (subst (AllByRecursion (IsAskedAt cmp ta tb i j l asks)) f.2 d.asked).0
+    pub there : {s : Side} → OnSide s → AreThere s ls rs
+    there z = there-by (by_component ta tb i j cmp) ls rs z
 
-  pub right-asked : {sides : List Side} → all ≡ Right ∷ sides → {y : B} {rs' : List B} → rs ≡ y ∷ rs' → (k : List K)
-      → asks None (l.of_tree (shortened j (tb y)) k)
-  right-asked {sides} z e =
-      let f = right-first sides d.rest (sym z ∙ d.sides_are) in
-      let g = right-next d f.1 (ap rights (sym f.2)) e in
-      subst (λ y. (k : List K) → asks None (l.of_tree (shortened j (tb y)) k)) (sym g.0)
-      (subst (AllByRecursion (IsAskedAt cmp ta tb i j l asks)) f.2 d.asked).0
+    module _ {x : A} {ls' : List A} (z : OnSide Left) (e : ls ≡ x ∷ ls') where
+      first_left : (c : K) × (slice_get (drop i (ta x).prefix) 0 ≡ Some c) × AreFirst cmp ta tb i j c (Some x) None ls' rs
+      first_left = left-first d.total ta tb i j x ls' rs (rw e at d.left) d.right (rw e at z)
 
-  module _ {sides : List Side} (z : all ≡ Both ∷ sides) {x : A} {ls' : List A} {y : B} {rs' : List B} (el : ls ≡ x ∷ ls')
-      (er : rs ≡ y ∷ rs') where
-    pub both-asked : (k : List K) → asks (lookup cmp (shortened i (ta x)) k) (l.of_tree (shortened j (tb y)) k)
-    both-asked =
-        let f = both-first sides d.rest (sym z ∙ d.sides_are) in
-        let g = left-next d f.2 (ap lefts (sym f.3)) el in
-        let h = right-next d f.2 (ap rights (sym f.3)) er in
-        subst (λ x. (k : List K) → asks (lookup cmp (shortened i (ta x)) k) (l.of_tree (shortened j (tb y)) k)) (sym g.0)
-        (subst (λ y. (k : List K) → asks (lookup cmp (shortened i (ta f.0)) k) (l.of_tree (shortened j (tb y)) k)) (sym h.0)
-        (subst (AllByRecursion (IsAskedAt cmp ta tb i j l asks)) f.3 d.asked).0)
+      pub left-asked : (k : List K) → asks (lookup cmp (shortened i (ta x)) k) l.none
+      left-asked = (said-apart d.total ta tb i j l asks d.none (Some x) None first_left.2 (rw e at d.asked)).0
 
-    -- what a call for two that meet takes is within the budget
-    pub both-paid : (spent' : ℕ) → spent' + 2 ≤ spent + 3 * (weight (shortened i (ta x)) + weight (shortened j (tb y)))
-        → spent' ≤ budget
-    both-paid spent' c =
-        let f = both-first sides d.rest (sym z ∙ d.sides_are) in
-        let g = left-next d f.2 (ap lefts (sym f.3)) el in
-        let h = right-next d f.2 (ap rights (sym f.3)) er in
-        let cost = rw (g.0, h.0) at c in
-        let paid = subst (λ l. spent + owed cmp ta tb i j l ≤ budget) f.3 d.paid in
-        omega (arith, cost, paid)
+      pub left-done : {u : Option (Tree K U)} {made' : List (Tree K U)} → made' ≡ made ++ cons_option u []
+          → IsMade cmp (λ v z. R v l.none z) (shortened i (ta x)) u → IsDoing cmp ta tb i j l R asks xs ys ls' rs made'
+      left-done pushed w =
+          let f = first_left in
+          done-by (Some x) None (rw e at d) f.2
+          (record { left = f.2.left; right = tt; out = w.begins f.0 f.1; child = w.child; binds = λ k q. w.binds (k ∷ q) }) pushed
 
-    matched : by_component ta tb i j cmp (inl x) (inr y) ≡ Equal
-    matched =
-        let f = both-first sides d.rest (sym z ∙ d.sides_are) in
-        let g = left-next d f.2 (ap lefts (sym f.3)) el in
-        let h = right-next d f.2 (ap rights (sym f.3)) er in
-        let m = event-rest (IsMatched (by_component ta tb i j cmp)) (map (λ d. d.0) d.done) d.rest d.script.matched in
-        rw (g.0, h.0) (subst (AllByRecursion (IsMatched (by_component ta tb i j cmp))) f.3 m).0
+    module _ {y : B} {rs' : List B} (z : OnSide Right) (e : rs ≡ y ∷ rs') where
+      first_right : (c : K) × (slice_get (drop j (tb y).prefix) 0 ≡ Some c) × AreFirst cmp ta tb i j c None (Some y) ls rs'
+      first_right = right-first d.total ta tb i j ls y rs' d.left (rw e at d.right) (rw e at z)
 
-    -- two that meet agree for one component
-    pub both-agree : AreChildren cmp (shortened_in ta i xs) → AreChildren cmp (shortened_in tb j ys)
-        → Agree cmp (drop i (ta x).prefix) (drop j (tb y).prefix) 1
-    both-agree ca cb =
-        let f = left-head (λ x. (k : K) × (slice_get (ta x).prefix i ≡ Some k)) el (components cmp ta i xs ca) in
-        let r = right-head (λ y. (k : K) × (slice_get (tb y).prefix j ≡ Some k)) er (components cmp tb j ys cb) in
-        agree-first cmp (drop i (ta x).prefix) (drop j (tb y).prefix) f.0 r.0 (get-drop i (ta x).prefix ∙ f.1)
-        (get-drop j (tb y).prefix ∙ r.1) (rw (f.1, r.1) at matched)
+      pub right-asked : (k : List K) → asks None (l.of_tree (shortened j (tb y)) k)
+      right-asked = (said-apart d.total ta tb i j l asks d.none None (Some y) first_right.2 (rw e at d.asked)).0
 
-    -- and have fewer nodes than the trees that they stand below
-    pub falls : {t : Tree K V} {u : Tree K W} {p q : List K} → IsOpened ta t p xs i → IsOpened tb u q ys j → Parts cmp p q
-        → nodes (ta x) + nodes (tb y) < nodes t + nodes u
-    falls {t} {u} {p} {q} a b w =
-        let f = left-head (λ x. nodes (ta x) + ended p ≤ nodes t) el a.smaller in
-        let r = right-head (λ y. nodes (tb y) + ended q ≤ nodes u) er b.smaller in
-        let fl = left-head (λ x. GoesOn p (slice_get (ta x).prefix i)) el a.first in
-        let fr = right-head (λ y. GoesOn q (slice_get (tb y).prefix j)) er b.first in
-        let e = apart-or_ended cmp ta tb i j p q x y w fl fr matched in
-        omega (arith, f, r, e)
+      pub right-done : {u : Option (Tree K U)} {made' : List (Tree K U)} → made' ≡ made ++ cons_option u []
+          → IsMadeBy cmp l (λ w z. R None w z) (shortened j (tb y)) u → IsDoing cmp ta tb i j l R asks xs ys ls rs' made'
+      right-done pushed w =
+          let f = first_right in
+          done-by None (Some y) (rw e at d) f.2
+          (record {
+            left = tt;
+            right = f.2.right;
+            out = w.begins f.0 f.1;
+            child = w.child;
+            binds = λ k q. w.binds
+                (k ∷ q);
+          }) pushed
+
+    module _ {x : A} {ls' : List A} {y : B} {rs' : List B} (z : OnSide Both) (el : ls ≡ x ∷ ls') (er : rs ≡ y ∷ rs') where
+      first_both : (c : K) × (d : K) × (slice_get (drop i (ta x).prefix) 0 ≡ Some c)
+          × (slice_get (drop j (tb y).prefix) 0 ≡ Some d)
+          × (cmp c d ≡ Equal) × AreFirst cmp ta tb i j c (Some x) (Some y) ls' rs'
+      first_both = both-first d.total ta tb i j x ls' y rs' (rw el at d.left) (rw er at d.right) (rw (el, er) at z)
+
+      pub both-asked : (k : List K) → asks (lookup cmp (shortened i (ta x)) k) (l.of_tree (shortened j (tb y)) k)
+      both-asked = (said-apart d.total ta tb i j l asks d.none (Some x) (Some y) first_both.5 (rw (el, er) at d.asked)).0
+
+      pub both-done : {u : Option (Tree K U)} {made' : List (Tree K U)} → made' ≡ made ++ cons_option u []
+          → IsBothMadeBy cmp l R (shortened i (ta x)) (shortened j (tb y)) u → IsDoing cmp ta tb i j l R asks xs ys ls' rs' made'
+      both-done pushed w =
+          let f = first_both in
+          done-by (Some x) (Some y) (rw (el, er) at d) f.5 (record {
+            left = f.5.left;
+            right = f.5.right;
+            out = w.begins f.0 f.1 f.2 f.3 f.4;
+            child = w.child;
+            binds = λ k q. w.binds (k ∷ q);
+          }) pushed
+
+      -- two that meet agree for one component
+      pub both-agree : Agree cmp (drop i (ta x).prefix) (drop j (tb y).prefix) 1
+      both-agree =
+          let f = first_both in agree-first cmp (drop i (ta x).prefix) (drop j (tb y).prefix) f.0 f.1 f.2 f.3 f.4
+
+      -- below two prefixes of which one has ended
+      pub both-ended : {t : Tree K V} {u : Tree K W} {p q : List K} → IsOpened ta t p xs i → IsOpened tb u q ys j → Parts cmp p q
+          → 1 ≤ ended p + ended q
+      both-ended {p = p} {q} a b w = by p q w (left-head (λ x. GoesOn p (slice_get (ta x).prefix i)) el a.first)
+          (right-head (λ y. GoesOn q (slice_get (tb y).prefix j)) er b.first)
+        where
+          by : (p q : List K) → Parts cmp p q → GoesOn p (slice_get (ta x).prefix i) → GoesOn q (slice_get (tb y).prefix j)
+              → 1 ≤ ended p + ended q
+          by [] q w g h = omega arith
+          by (a ∷ p) [] w g h = omega arith
+          by (a ∷ p) (b ∷ q) w g h =
+              let f = first_both in
+              let m : Some a ≡ Some f.0 = sym g ∙ sym (get-drop i (ta x).prefix) ∙ f.2 in
+              let n : Some b ≡ Some f.1 = sym h ∙ sym (get-drop j (tb y).prefix) ∙ f.3 in
+              let k : a ≡ f.0 = cc in
+              let l : b ≡ f.1 = cc in
+              absurd (true≢false (rw (k, l, f.4) at w))
+
+      -- and have fewer nodes than the trees that they stand below
+      pub falls : {t : Tree K V} {u : Tree K W} {p q : List K} → IsOpened ta t p xs i → IsOpened tb u q ys j → Parts cmp p q
+          → nodes (ta x) + nodes (tb y) < nodes t + nodes u
+      falls {t} {u} {p} {q} a b w =
+          let f = left-head (λ x. nodes (ta x) + ended p ≤ nodes t) el a.smaller in
+          let r = right-head (λ y. nodes (tb y) + ended q ≤ nodes u) er b.smaller in
+          let e = both-ended a b w in
+          omega (arith, f, r, e)
+
+    -- none is left
+    pub all-done : side_next (by_component ta tb i j cmp) (slice_get ls 0) (slice_get rs 0) ≡ None → R None l.none None
+        → AreChildren cmp (forest made) × IsCombinedIn cmp l R (shortened_in ta i xs) (shortened_in tb j ys) (forest made)
+    all-done z none = by ls rs z d.ends
+      where
+        by : (ls : List A) (rs : List B) → side_next (by_component ta tb i j cmp) (slice_get ls 0) (slice_get rs 0) ≡ None
+            → ((others : List (Tree K U)) → AreMade cmp ta tb i j l R ls rs others
+            → AreMade cmp ta tb i j l R xs ys (made ++ others))
+            → AreChildren cmp (forest made) × IsCombinedIn cmp l R (shortened_in ta i xs) (shortened_in tb j ys) (forest made)
+        by [] [] z e =
+            let h = e [] (rows-none d.total ta tb i j l R) in
+            let m = rw (append-nil made) at h in
+            rw (← m.left, ← m.right, ← m.out)
+            (rows-children cmp d.total l R m.rows m.ascend m.each, rows-combined cmp d.total l R none m.rows m.ascend m.each)
+        by [] (y ∷ rs) z e = absurd (cc)
+        by (x ∷ ls) [] z e = absurd (cc)
+        by (x ∷ ls) (y ∷ rs) z e = absurd (cc)

@@ -16,8 +16,9 @@ use Rattle.vc_tree_model.specs.Tree.{Tree, Forest, forest, made, nodes, forest_n
 use Rattle.vc_tree_model.specs.Child.{value_at, solid_child}
 use Rattle.vc_tree_model.proofs.KeyLemmas.{none-some}
 use Rattle.vc_tree_model.specs.Canonical.{IsWhole}
+use Rattle.vc_tree_model.specs.Shortened.{forest_weight}
 use Rattle.vc_tree_nodes.specs.Parting.{PartsAt}
-use Rattle.vc_tree_facing.specs.Facing.{GoesOn, IsOpened, Parts}
+use Rattle.vc_tree_facing.specs.Facing.{shortened_in, GoesOn, IsOpened, Parts}
 use Rattle.vc_tree_facing.proofs.Components.{get-drop}
 
 -- a key that goes on with a component
@@ -89,6 +90,11 @@ module _ {T K V : Type 0} (tree : T → Tree K V) where
       → 0 < length (drop n (drop i (tree x).prefix)) → IsOpened tree t (drop n (drop i (tree x).prefix)) (x ∷ []) (i + n)
   opened-rest x t i n v c h =
       opened-by x t (drop n (drop i (tree x).prefix)) (i + n) (sym (drop-drop n i (tree x).prefix)) v c h
+
+-- each tree of a list weighs at least one
+pub few-below : {T K V : Type 0} (tree : T → Tree K V) (i : ℕ) (xs : List T) → length xs ≤ forest_weight (shortened_in tree i xs)
+few-below tree i [] = omega arith
+few-below tree i (x ∷ xs) = let r = few-below tree i xs in omega (arith, r)
 
 -- two prefixes part where both go on
 pub parts-at : {K : Type 0} (cmp : K → K → Ordering) (p q : List K) (n : ℕ) (r : Ordering) → is_eq r ≡ false

@@ -1,9 +1,8 @@
 -- What is made of the trees of an event, where two trees stand side by side. No public clause cites these words.
-use Rattle.std.specs.Prelude.{◌≡◌, ℕ, List, Option, Some, None, slice_get}
+use Rattle.std.specs.Prelude.{◌≡◌, List, Option, Some, slice_get}
 use Rattle.std.specs.declared.cmp.Ordering.{Ordering}
 use Rattle.std.specs.declared.cmp.Ordering.TheVariants.{Equal}
-use Rattle.vc_merge.specs.Script.{Event, left_alone, right_alone, collision}
-use Rattle.vc_tree_model.specs.Tree.{Tree, shortened}
+use Rattle.vc_tree_model.specs.Tree.{Tree}
 use Rattle.vc_tree_model.specs.Map.{lookup}
 use Rattle.vc_tree_model.specs.Child.{BeginsWith, IsChild, bound_by}
 use Rattle.vc_tree_model.specs.Look.{Look, values}
@@ -27,13 +26,6 @@ module _ {K : Type 0} (cmp : K → K → Ordering) where
       pub begins : (y z : K) → slice_get t.prefix 0 ≡ Some y → slice_get u.prefix 0 ≡ Some z → cmp y z ≡ Equal
           → BeginsWith cmp y o
       pub binds : (k : List K) → R (lookup cmp t k) (l.of_tree u k) (bound_by cmp o k)
-
-    module _ {A B : Type 0} (ta : A → Tree K V) (tb : B → Tree K W) (i j : ℕ) where
-      -- what is made at one event
-      abbrev pub IsMadeAt : Event A B → Option (Tree K U) → Type 0
-      IsMadeAt (left_alone a) o = IsMade (λ v z. R v l.none z) (shortened i (ta a)) o
-      IsMadeAt (right_alone b) o = IsMadeBy l (λ w z. R None w z) (shortened j (tb b)) o
-      IsMadeAt (collision a b) o = IsBothMadeBy (shortened i (ta a)) (shortened j (tb b)) o
 
   -- of two trees, and R of what all three bind
   abbrev pub IsBothMade : {V W U : Type 0} → (Option V → Option W → Option U → Type 0) → Tree K V → Tree K W → Option (Tree K U) → Type 0

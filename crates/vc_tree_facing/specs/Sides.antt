@@ -7,7 +7,6 @@ use Rattle.std.specs.Cmp.Lexicographic.{options_total}
 use Rattle.std.specs.Option.{option_cmp}
 use Rattle.std.specs.declared.cmp.Ordering.{Ordering}
 use Rattle.std.specs.declared.cmp.Ordering.TheVariants.{Less, Equal, Greater}
-use Rattle.vc_merge.specs.Script.{Event, left_alone, right_alone, collision}
 use Rattle.vc_tree_model.specs.Tree.{Tree}
 use Rattle.vc_tree_facing.specs.declared.sides.Side.{Side}
 use Rattle.vc_tree_facing.specs.declared.sides.Side.TheVariants.{Left, Right, Both}
@@ -24,12 +23,6 @@ module _ {K V W A B : Type 0} (ta : A → Tree K V) (tb : B → Tree K W) (i j :
 
   pub by_component_total : {cmp : K → K → Ordering} → IsTotalOrder cmp → IsTotalOrder (by_component cmp)
   by_component_total o = on_total component (options_total o)
-
--- on which side the elements of an event stand
-abbrev pub side_of : {A B : Type 0} → Event A B → Side
-side_of (left_alone x) = Left
-side_of (right_alone y) = Right
-side_of (collision x y) = Both
 
 -- the side of the lower of two trees, by how the right one stands to the left one
 abbrev pub lower_side : Ordering → Side

@@ -6,7 +6,7 @@ use Rattle.vc_tree_nodes.specs.Parting.{Agree}
 use Rattle.vc_tree_facing.proofs.Opening.{slice-from, found, found_in}
 use Rattle.vc_tree_combines.proofs.Testing.{parted-told, inside-told, inside-none, inside-agrees, behind-told}
 use Rattle.vc_tree_combines.proofs.Testing.{within-told, within-none, within-bare, both-told, some-at, before-end}
-use Rattle.vc_tree_combines.proofs.Testing.{meeting-told}
+use Rattle.vc_tree_combines.proofs.Passing.{tails-start, tails-later}
 use Rattle.vc_tree_combines.proofs.keys.+meeting.Goals as goal
 
 pub keys_meet-keys_meet-requires : goal.keys_meet-keys_meet-requires
@@ -56,13 +56,7 @@ keys_meet-returns-in-Behind g t c =
     c.prefix.ensures.canonical _ c.in-Behind.ensures.is c.keys_meet_behind.ensures
 
 pub keys_meet_below-loop-x-init : goal.keys_meet_below-loop-x-init
-keys_meet_below-loop-x-init g t c = record {
-  left = c.requires.left;
-  right = c.requires.right;
-  left_nodes = omega arith;
-  right_nodes = omega arith;
-  tells = λ answer h. h;
-}
+keys_meet_below-loop-x-init g t c = tails-start c.requires.left c.requires.right
 
 pub keys_meet_below-next_meeting-requires-clause-left : goal.keys_meet_below-next_meeting-requires-clause-left
 keys_meet_below-next_meeting-requires-clause-left g t c = c.loop-x.invariant.left
@@ -94,18 +88,7 @@ keys_meet_below-loop-x-smaller g t c = let left = c.in-Meeting.ensures.left_node
 
 pub keys_meet_below-loop-x-preserved : goal.keys_meet_below-loop-x-preserved
 keys_meet_below-loop-x-preserved g t c =
-    let left = c.in-Meeting.ensures.left_nodes in
-    let right = c.in-Meeting.ensures.right_nodes in
-    let lefts = c.loop-x.invariant.left_nodes in
-    let rights = c.loop-x.invariant.right_nodes in
-    record {
-      left = c.in-Meeting.ensures.left;
-      right = c.in-Meeting.ensures.right;
-      left_nodes = omega (arith, left, lefts);
-      right_nodes = omega (arith, right, rights);
-      tells = λ answer h. c.loop-x.invariant.tells answer
-          (meeting-told c.in-Meeting.ensures c.if-not-keys_meet.ensures answer h);
-    }
+    tails-later c.loop-x.invariant (c.in-Meeting.ensures.here_met c.if-not-keys_meet.ensures)
 
 pub keys_meet_behind-returns-then-values_meet : goal.keys_meet_behind-returns-then-values_meet
 keys_meet_behind-returns-then-values_meet g t c =

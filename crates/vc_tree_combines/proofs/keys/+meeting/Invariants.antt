@@ -1,9 +1,8 @@
 -- What is left of both lists tells of all of them; each call goes down to fewer nodes, or to a later part of the same two.
-use Rattle.std.proofs.Common.{◌+◌, ◌*◌, ◌≤◌, Bool}
-use Rattle.vc_tree_model.specs.Canonical.{AreChildren}
+use Rattle.std.proofs.Common.{◌+◌, ◌*◌}
 use Rattle.vc_tree_model.specs.Tree.{nodes, forest_nodes}
 use Rattle.vc_tree_nodes.specs.Children.{seen}
-use Rattle.vc_tree_combines.specs.Meeting.{TellsKeysIn}
+use Rattle.vc_tree_combines.specs.Meeting.{AreTails}
 use Rattle.vc_tree_combines.proofs.keys.+meeting.Given as goal
 
 abbrev pub decreases-keys_meet : goal.decreases-keys_meet
@@ -17,15 +16,8 @@ decreases-keys_meet_below g l =
     2 * (forest_nodes (seen g.A.RadixNode.tree l.left.now) + forest_nodes (seen g.B.RadixNode.tree l.right.now)) + 2
 
 abbrev pub invariant-keys_meet_below-loop-x : goal.invariant-keys_meet_below-loop-x
-invariant-keys_meet_below-loop-x g l = record {
-  left : AreChildren g.K.Ord.cmp (seen g.A.RadixNode.tree l.lefts);
-  right : AreChildren g.K.Ord.cmp (seen g.B.RadixNode.tree l.rights);
-  left_nodes : forest_nodes (seen g.A.RadixNode.tree l.lefts) ≤ forest_nodes (seen g.A.RadixNode.tree l.left);
-  right_nodes : forest_nodes (seen g.B.RadixNode.tree l.rights) ≤ forest_nodes (seen g.B.RadixNode.tree l.right);
-  tells : (answer : Bool) → TellsKeysIn g.K.Ord.cmp l.shared (seen g.A.RadixNode.tree l.lefts)
-      (seen g.B.RadixNode.tree l.rights) answer
-      → TellsKeysIn g.K.Ord.cmp l.shared (seen g.A.RadixNode.tree l.left) (seen g.B.RadixNode.tree l.right) answer;
-}
+invariant-keys_meet_below-loop-x g l =
+    AreTails g.K.Ord.cmp g.A.RadixNode.tree g.B.RadixNode.tree l.shared l.left l.right l.lefts l.rights
 
 abbrev pub decreases-keys_meet_below-loop-x : goal.decreases-keys_meet_below-loop-x
 decreases-keys_meet_below-loop-x g l = forest_nodes (seen g.A.RadixNode.tree l.lefts)

@@ -1,14 +1,13 @@
 -- What a merge that stops at two trees that begin alike has passed.
 use Rattle.std.proofs.Common.{refl, inl, inr}
-use Rattle.vc_tree_facing.proofs.Components.{children-ascend}
 use Rattle.vc_tree_facing.proofs.Next.{nil-by}
-use Rattle.vc_tree_combines.proofs.Passing.{passed, told-missed, told-meeting, told-end}
+use Rattle.vc_tree_combines.proofs.Passing.{passed, children-ascend, told-missed, told-meeting, told-end}
 use Rattle.vc_tree_combines.proofs.keys.merge_to_meeting.Goals as goal
 
 pub merge-never_refused-requires-clause-ascend : goal.merge-never_refused-requires-clause-ascend
 merge-never_refused-requires-clause-ascend g c = record {
-  left = children-ascend g.K.Ord.cmp g.A.RadixNode.tree 0 _ c.requires.left;
-  right = children-ascend g.K.Ord.cmp g.B.RadixNode.tree 0 _ c.requires.right;
+  left = children-ascend g.K.Ord.cmp g.A.RadixNode.tree _ c.requires.left;
+  right = children-ascend g.K.Ord.cmp g.B.RadixNode.tree _ c.requires.right;
 }
 
 pub returns-then-tails : goal.returns-then-tails

@@ -9,7 +9,7 @@ use Rattle.vc_tree_facing.specs.Facing.{trees_below, shortened_in}
 use Rattle.vc_tree_facing.proofs.Advancing.{next-within, next-fewer, alone-asked, meets-asked, meets-agree, meets-within}
 use Rattle.vc_tree_facing.proofs.Advancing.{meets-all, each-fewer, goes-alone, goes-both, inside-alone, inside-both}
 use Rattle.vc_tree_facing.proofs.Apart.{apart-asked, apart-lessened}
-use Rattle.vc_tree_facing.proofs.Deciding.{list-begun, list-done}
+use Rattle.vc_tree_facing.proofs.Advancing.{list-begun, list-done}
 use Rattle.vc_tree_facing.proofs.Leaving.{if-ok, node-lessened, inside-lessened, value-may, below-may, node-kids, node-smaller}
 use Rattle.vc_tree_facing.proofs.Leaving.{inner-list}
 use Rattle.vc_tree_facing.proofs.Leaving.{ended-value, ended-children, inner-children, below-children_at}
@@ -276,12 +276,12 @@ narrow_kids-loop-child-preserved g t c =
 pub narrow_kids-returns-clause-children : goal.narrow_kids-returns-clause-children
 narrow_kids-returns-clause-children g t c =
     let none = nil-by _ c.in_default.ensures.cases in
-    (list-done (rw none at c.loop-child.invariant.going)).0
+    (list-done _ (rw none at c.loop-child.invariant.going)).0
 
 pub narrow_kids-returns-clause-below : goal.narrow_kids-returns-clause-below
 narrow_kids-returns-clause-below g t c =
     let none = nil-by _ c.in_default.ensures.cases in
-    (list-done (rw none at c.loop-child.invariant.going)).1
+    (list-done _ (rw none at c.loop-child.invariant.going)).1
 
 pub narrow_node-returns : goal.narrow_node-returns
 narrow_node-returns g t c =

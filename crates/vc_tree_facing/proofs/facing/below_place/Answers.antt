@@ -1,9 +1,9 @@
 -- A tree that goes on behind the place, or the children of one that does not.
 use Rattle.std.proofs.Common.{◌∙◌, refl, sym, ap, arith, drop, length, length-drop}
 use Rattle.std.proofs.Math.ListN.{drop_of_length-le}
+use Rattle.vc_tree_model.specs.Shortened.{forest_weight}
 use Rattle.vc_tree_facing.proofs.Ending.{below-children}
-use Rattle.vc_tree_facing.proofs.Opening.{opened-all, opened-by}
-use Rattle.vc_tree_facing.proofs.Paying.{few-children}
+use Rattle.vc_tree_facing.proofs.Opening.{opened-all, opened-by, few-below}
 use Rattle.vc_tree_facing.proofs.facing.below_place.Goals as goal
 
 pub returns-then-place-prefix-clause-opened : goal.returns-then-place-prefix-clause-opened
@@ -35,4 +35,6 @@ returns-else-place-prefix-clause-opened g c =
 
 pub returns-else-place-prefix-clause-few : goal.returns-else-place-prefix-clause-few
 returns-else-place-prefix-clause-few g c =
-    let kids = few-children g.T.RadixNode.tree _ _ c.children.ensures in omega (arith, kids)
+    let few = few-below g.T.RadixNode.tree 0 c.children.result.now in
+    let kids = ap forest_weight c.children.ensures in
+    omega (arith, few, kids)
