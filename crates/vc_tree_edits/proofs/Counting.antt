@@ -2,20 +2,20 @@
 --     none-counted        no event is done yet
 --     counted-left, counted-right, counted-both        one event more is done
 --     counted-all        all are
+--     roomy-start, roomy-left, roomy-right, roomy-both, room-there        there is room for each tree that comes in
 use Rattle.std.proofs.Common.{◌≡◌, ℕ, ◌+◌, [], ◌∷◌, ◌++◌, List, Option, None, Some, refl, sym, ap, subst, ◌∙◌, map}
-use Rattle.std.proofs.Common.{length, slice_get, ◌⊎◌, arith}
+use Rattle.std.proofs.Common.{length, slice_get, ◌⊎◌, arith, ◌≤◌, ◌<◌, ◌-◌}
 use Rattle.std.specs.Cmp.{IsTotalOrder}
 use Rattle.std.specs.List.{AllByRecursion}
 use Rattle.std.specs.declared.cmp.Ordering.{Ordering}
 use Rattle.vc_merge.specs.Ascending.{Ascends}
 use Rattle.vc_merge.specs.Script.{Event, left_alone, right_alone, collision, lefts, rights, place, IsMatched, IsScript}
-use Rattle.vc_tree_facing.specs.Sides.{side_of, side_next}
+use Rattle.vc_tree_facing.specs.Sides.{side_next}
 use Rattle.vc_tree_facing.specs.declared.sides.Side.{Side}
 use Rattle.vc_tree_facing.specs.declared.sides.Side.TheVariants.{Left, Right, Both}
-use Rattle.vc_tree_facing.proofs.Deciding.{ascends-rest, first-event, first-some, first-none}
-use Rattle.vc_tree_facing.proofs.Doing.{left-first, right-first, both-first}
-use Rattle.vc_tree_facing.proofs.Next.{event-rest}
-use Rattle.vc_tree_edits.specs.Taken.{IsCounted, arrivals_of}
+use Rattle.vc_tree_edits.specs.Taken.{side_of, arrivals_of, IsCounted, IsRoomy}
+use Rattle.vc_tree_edits.proofs.Events.{ascends-rest, first-event, first-some, first-none, left-first, right-first, both-first}
+use Rattle.vc_tree_edits.proofs.Events.{event-rest}
 
 append-one : {X : Type 0} (xs : List X) (x : X) (ys : List X) → xs ++ x ∷ ys ≡ (xs ++ x ∷ []) ++ ys
 append-one [] x ys = refl
@@ -101,3 +101,70 @@ module _ {A B : Type 0} (order : A ⊎ B → A ⊎ B → Ordering) where
         none-left [] (y ∷ rs) e = absurd (cc)
         none-left (x ∷ ls) [] e = refl
         none-left (x ∷ ls) (y ∷ rs) e = absurd (cc)
+
+-- ---- room for what comes in
+
+module _ {A B : Type 0} {order : A ⊎ B → A ⊎ B → Ordering} {xs : List A} {ys : List B} where
+  pub roomy-start : {es : List (Event A B)} {room : ℕ} → IsScript order xs ys es → arrivals_of (map (λ e. side_of e) es) ≤ room
+      → IsRoomy order xs ys xs ys room
+  roomy-start {es} s f = record {
+    es = es;
+    script = s;
+    many = length ys;
+    counted = none-counted order s refl;
+    some = omega arith;
+    fits = omega (arith, f);
+  }
+
+  module _ (o : IsTotalOrder order) {ls : List A} {rs : List B} {room : ℕ} (r : IsRoomy order xs ys ls rs room) where
+    pub roomy-left : side_next order (slice_get ls 0) (slice_get rs 0) ≡ Some Left → {x : A} {ls' : List A} → ls ≡ x ∷ ls'
+        → {room' : ℕ} → room ≤ room' → IsRoomy order xs ys ls' rs room'
+    roomy-left z e h =
+        let f = r.fits in
+        record {
+          es = r.es;
+          script = r.script;
+          many = r.many;
+          counted = counted-left order o r.script r.counted z e;
+          some = r.some;
+          fits = omega (arith, f, h);
+        }
+
+    pub roomy-right : side_next order (slice_get ls 0) (slice_get rs 0) ≡ Some Right → {y : B} {rs' : List B} → rs ≡ y ∷ rs'
+        → {room' : ℕ} → room ≤ room' + 1 → IsRoomy order xs ys ls rs' room'
+    roomy-right z e h =
+        let f = r.fits in
+        let n = ap length e in
+        let m = r.some in
+        record {
+          es = r.es;
+          script = r.script;
+          many = r.many;
+          counted = counted-right order o r.script r.counted z e;
+          some = omega (arith, m, n);
+          fits = omega (arith, f, h, n);
+        }
+
+    pub roomy-both : side_next order (slice_get ls 0) (slice_get rs 0) ≡ Some Both → {x : A} {ls' : List A} {y : B} {rs' : List B}
+        → ls ≡ x ∷ ls' → rs ≡ y ∷ rs' → {room' : ℕ} → room ≤ room' → IsRoomy order xs ys ls' rs' room'
+    roomy-both z e e' h =
+        let f = r.fits in
+        let n = ap length e' in
+        let m = r.some in
+        record {
+          es = r.es;
+          script = r.script;
+          many = r.many - 1;
+          counted = counted-both order o r.script r.counted z e e' (omega (arith, m, n));
+          some = omega (arith, m, n);
+          fits = omega (arith, f, h, m, n);
+        }
+
+    -- there is room where a tree comes in
+    pub room-there : side_next order (slice_get ls 0) (slice_get rs 0) ≡ Some Right → 0 < room
+    room-there z =
+        let t = first-some (map (λ e. side_of e) r.counted.rest) (told order o r.script r.counted _ z) in
+        let a = ap arrivals_of t in
+        let n = r.counted.counted in
+        let f = r.fits in
+        omega (arith, a, n, f)

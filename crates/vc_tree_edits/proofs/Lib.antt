@@ -1,8 +1,9 @@
 pub mod Taking
 pub mod Changing
+pub mod Events
+pub mod Counting
 pub mod Stepping
 pub mod Sifting
 pub mod Prepended
 pub mod Meeting
 pub mod Placed
-pub mod Counting

@@ -1,38 +1,37 @@
--- The events of a change in place, on the parts of the tree and the list that is built out of them.
+-- The trees of a change in place, on the parts of the tree and the list that is built out of them.
 --     values-may        what may be asked of the values at the fronts
---     begun        the state before the first event
+--     begun        the state before the first trees
 --     first-long        a next tree goes on at the place
---     after-left, after-right, after-both        one event more is done
---     room-next, room-added        there is room for a tree at each event of the right side alone that is left
---     room-there, room_come, room_kept        each tree that is put there finds its place
+--     after-left, after-right, after-both        the next trees are done
+--     room_come, room_kept        each tree that is put there finds its place
 --     falls-below        two trees that meet have fewer nodes than those that they stand below
 --     finished-children, finished        what was built is canonical children, and the node of it is what the change says
-use Rattle.std.proofs.Common.{◌≡◌, ℕ, ◌+◌, ◌-◌, ◌*◌, ◌<◌, ◌≤◌, [], ◌∷◌, ◌++◌, List, Option, None, Some}
+use Rattle.std.proofs.Common.{◌≡◌, ℕ, ◌+◌, ◌<◌, ◌≤◌, [], ◌∷◌, ◌++◌, List, Option, None, Some, slice_get}
 use Rattle.std.proofs.Common.{option_map, refl, sym, ap, subst, ◌∙◌, map, drop, take, length, arith}
 use Rattle.std.specs.Cmp.{IsTotalOrder}
 use Rattle.std.specs.List.{cons_option}
 use Rattle.std.specs.declared.cmp.Ordering.{Ordering}
 use Rattle.vc_builder.specs.Builder.{Builder, builder}
 use Rattle.vc_merge.specs.Script.{Event, IsScript}
+use Rattle.vc_merge.proofs.Scripts.{some-script}
 use Rattle.vc_tree_model.specs.Canonical.{AreChildren, IsCanonical}
 use Rattle.vc_tree_model.specs.Child.{solid_child, value_at}
 use Rattle.vc_tree_model.specs.Map.{lookup}
-use Rattle.vc_tree_model.specs.Shortened.{weight}
 use Rattle.vc_tree_model.specs.Tree.{Tree, forest, nodes, shortened}
 use Rattle.vc_tree_model.specs.Value.{IsKept}
 use Rattle.vc_tree_model.proofs.AlikeLemmas.{tree-alike_canonical}
 use Rattle.vc_tree_model.specs.Look.{Look}
-use Rattle.vc_tree_facing.specs.Facing.{shortened_in}
 use Rattle.vc_tree_facing.specs.Made.{IsBothMadeBy}
 use Rattle.vc_tree_facing.specs.Doing.{IsDoing}
-use Rattle.vc_tree_facing.specs.Sides.{by_component, side_of}
-use Rattle.vc_tree_facing.specs.declared.sides.Side.{Side}
+use Rattle.vc_tree_facing.specs.Sides.{by_component, by_component_total, side_next}
 use Rattle.vc_tree_facing.specs.declared.sides.Side.TheVariants.{Left, Right, Both}
-use Rattle.vc_tree_facing.proofs.Doing.{doing-left, doing-right, doing-both}
 use Rattle.vc_tree_facing.proofs.Ending.{left-children, right-children, values-asked, combine-started, made-children, combined}
-use Rattle.vc_tree_facing.proofs.Next.{falls}
+use Rattle.vc_tree_facing.proofs.Next.{falls, left-done, right-done, both-done}
 use Rattle.vc_tree_edits.specs.Taken.{IsMet, IsTaken, IsBegun, IsNext, IsAdded, IsFirstLong, IsStayed, IsCome, arrivals_of}
+use Rattle.vc_tree_edits.specs.Taken.{side_of}
 use Rattle.vc_tree_edits.proofs.Changing.{faced-taken, asked-taken, taken-nodes, made-taken}
+use Rattle.vc_tree_edits.proofs.Counting.{roomy-start}
+use Rattle.vc_tree_edits.proofs.Events.{children-ascend}
 
 -- one tree more, seen as a tree
 pushed : {K V T : Type 0} (tree : T → Tree K V) (xs : List T) (kid : Option T)
@@ -41,65 +40,34 @@ pushed tree [] None = refl
 pushed tree [] (Some x) = refl
 pushed tree (y ∷ xs) kid = ap (λ l. tree y ∷ l) (pushed tree xs kid)
 
--- ---- one event more
+-- ---- the next trees are done
 
 module _ {K V W O T B : Type 0} {cmp : K → K → Ordering} {tree : T → Tree K V} {tb : B → Tree K W} {i j : ℕ} {l : Look cmp W O}
-    {R : Option V → O → Option V → Type 0} {asks : Option V → O → Type 0} {xs : List T} {ys : List B} {rs : List B}
-    {all others : List Side} where
-  pub after-left : {b b' : Builder T} {budget : ℕ}
-      → IsDoing cmp tree tb i j l R asks xs ys b.rest rs all (map tree b.built) 0 budget
-      → IsStayed cmp tree tb l R i b b' → all ≡ Left ∷ others
-      → IsDoing cmp tree tb i j l R asks xs ys b'.rest rs others (map tree b'.built) 0 budget
-  after-left {b} d w z =
-      doing-left d
-      (ap (map tree) (w.added.built ∙ ap (λ k. k ++ cons_option w.kid []) w.next.built) ∙ pushed tree b.built w.kid)
-      z (w.next.rest ∙ ap (λ k. w.first ∷ k) (sym w.added.rest)) w.made
+    {R : Option V → O → Option V → Type 0} {asks : Option V → O → Type 0} {xs : List T} {ys : List B} {b : Builder T}
+    {rs : List B}
+    (d : IsDoing cmp tree tb i j l R asks xs ys b.rest rs (map tree b.built)) where
+  pub after-left : {b' : Builder T} → side_next (by_component tree tb i j cmp) (slice_get b.rest 0) (slice_get rs 0) ≡ Some Left
+      → IsStayed cmp tree tb l R i b b'
+      → IsDoing cmp tree tb i j l R asks xs ys b'.rest rs (map tree b'.built)
+  after-left z w =
+      left-done d z (w.next.rest ∙ ap (λ k. w.first ∷ k) (sym w.added.rest))
+      (ap (map tree) (w.added.built ∙ ap (λ k. k ++ cons_option w.kid []) w.next.built) ∙ pushed tree b.built w.kid) w.made
 
-  pub after-right : {b b' : Builder T} {rs' : List B} {budget : ℕ}
-      → IsDoing cmp tree tb i j l R asks xs ys b.rest rs all (map tree b.built) 0 budget
-      → IsCome cmp tree tb l R j rs rs' b b' → all ≡ Right ∷ others
-      → IsDoing cmp tree tb i j l R asks xs ys b'.rest rs' others (map tree b'.built) 0 budget
-  after-right {b} {b'} {rs'} {budget} d w z =
-      subst (λ ls. IsDoing cmp tree tb i j l R asks xs ys ls rs' others (map tree b'.built) 0 budget) (sym w.added.rest)
-      (doing-right d (ap (map tree) w.added.built ∙ pushed tree b.built w.kid) z w.next w.made)
+  pub after-right : {b' : Builder T} {rs' : List B}
+      → side_next (by_component tree tb i j cmp) (slice_get b.rest 0) (slice_get rs 0) ≡ Some Right
+      → IsCome cmp tree tb l R j rs rs' b b'
+      → IsDoing cmp tree tb i j l R asks xs ys b'.rest rs' (map tree b'.built)
+  after-right z w =
+      rw w.added.rest (right-done d z w.next (ap (map tree) w.added.built ∙ pushed tree b.built w.kid) w.made)
 
-  pub after-both : {b b' b'' : Builder T} {rs' : List B} {x : T} {y : B} {kid : Option T} {budget : ℕ}
-      → IsDoing cmp tree tb i j l R asks xs ys b.rest rs all (map tree b.built) 0 budget
-      → IsNext b x b' → IsAdded b' kid b'' → rs ≡ y ∷ rs' → all ≡ Both ∷ others
-      → IsBothMadeBy cmp l R (shortened i (tree x)) (shortened j (tb y)) (option_map tree kid)
-      → IsDoing cmp tree tb i j l R asks xs ys b''.rest rs' others (map tree b''.built) 0 budget
-  after-both {b} {x = x} {kid = kid} d next added e z w =
-      doing-both d
-      (ap (map tree) (added.built ∙ ap (λ k. k ++ cons_option kid []) next.built) ∙ pushed tree b.built kid)
-      {spent' = 0} z (next.rest ∙ ap (λ k. x ∷ k) (sym added.rest)) e w (omega arith)
-
--- there is room for a tree at each event of the right side alone that is left
-fewer : (s : Side) (others : List Side) → arrivals_of others ≤ arrivals_of (s ∷ others)
-fewer Left others = omega arith
-fewer Right others = omega arith
-fewer Both others = omega arith
-
-module _ {T : Type 0} {all others : List Side} where
-  pub room-next : {b b' b'' : Builder T} {s : Side} {x : T} {kid : Option T} → IsNext b x b' → IsAdded b' kid b''
-      → all ≡ s ∷ others
-      → arrivals_of all ≤ b.room → arrivals_of others ≤ b''.room
-  room-next {s = s} next added z room =
-      let e = ap arrivals_of z in
-      let f = next.room in
-      let k = added.room in
-      let h = fewer s others in
-      omega (arith, e, f, k, h, room)
-
-  pub room-added : {b b' : Builder T} {kid : Option T} → IsAdded b kid b' → all ≡ Right ∷ others → arrivals_of all ≤ b.room
-      → arrivals_of others ≤ b'.room
-  room-added added z room =
-      let e = ap arrivals_of z in
-      let k = added.room in
-      omega (arith, e, k, room)
-
--- there is room where such an event is left
-pub room-there : {all others : List Side} {room : ℕ} → all ≡ Right ∷ others → arrivals_of all ≤ room → 0 < room
-room-there z fits = let e = ap arrivals_of z in omega (arith, e, fits)
+  pub after-both : {b' b'' : Builder T} {rs' : List B} {x : T} {y : B} {kid : Option T}
+      → side_next (by_component tree tb i j cmp) (slice_get b.rest 0) (slice_get rs 0) ≡ Some Both
+      → IsNext b x b'
+      → IsAdded b' kid b'' → rs ≡ y ∷ rs' → IsBothMadeBy cmp l R (shortened i (tree x)) (shortened j (tb y)) (option_map tree kid)
+      → IsDoing cmp tree tb i j l R asks xs ys b''.rest rs' (map tree b''.built)
+  after-both {x = x} {kid = kid} z next added e w =
+      both-done d z (next.rest ∙ ap (λ k. x ∷ k) (sym added.rest)) e
+      (ap (map tree) (added.built ∙ ap (λ k. k ++ cons_option kid []) next.built) ∙ pushed tree b.built kid) w
 
 -- at most one tree is put there
 one-at_most : {T : Type 0} (kid : Option T) → length (cons_option kid []) ≤ 1
@@ -141,25 +109,22 @@ module _ {K V W O T B : Type 0} {cmp : K → K → Ordering} {tree : T → Tree 
   begun {says} {R} {asks} {made} {row} ct cu an lead down said {extra} r fits =
       let faced = faced-taken h m in
       let c = tree-alike_canonical keeps cmp t h.taken h.alike ct in
-      let start = combine-started faced o l R asks an P lead (asked-taken h m l P kept a) c cu {made = []} refl 0 (omega arith) in
-      record {
+      let left = left-children faced c in
+      let right = right-children faced cu in
+      let script = some-script (by_component tree tb i j cmp) (by_component_total tree tb i j o) xs ys
+      (record { left = children-ascend cmp tree i xs left; right = children-ascend cmp tb j ys right }) in
+      rw r (record {
         length_front = n;
         value = value;
         met = m;
-        taken = subst (λ zs. IsTaken tree keeps t n front value zs i) (sym (ap (λ b. b.rest) r)) h;
+        taken = h;
         left_canonical = ct;
         right_canonical = cu;
         said = said;
         said_below = down;
-        left = subst (λ zs. AreChildren cmp (shortened_in tree i zs)) (sym (ap (λ b. b.rest) r)) (left-children faced c);
-        right = right-children faced cu;
-        todo = map (λ e. side_of e) start.0;
-        budget = _;
-        doing =
-            subst (λ b. IsDoing cmp tree tb i j l R asks b.rest ys b.rest ys (map (λ e. side_of e) start.0) (map tree b.built) 0
-            (0 + 3 * (weight h.taken + weight u) - 2)) (sym r) start.2;
-        room = fits start.0 start.1;
-      }
+        doing = combine-started faced o l R asks an P lead (asked-taken h m l P kept a) c cu refl;
+        room = roomy-start script.1 (rw r at fits script.0 script.1);
+      })
 
 -- ---- a change that has begun
 
@@ -168,24 +133,22 @@ module _ {K V W O T B : Type 0} {cmp : K → K → Ordering} {tree : T → Tree 
     {front : List K} {made : Option V} {row : Builder T} {i : ℕ} {ys : List B} {j : ℕ}
     (s : IsBegun cmp tree tb l keeps says R asks t u front made row i ys j) where
   -- two trees that meet have fewer nodes than those that they stand below
-  pub falls-below : {b b' : Builder T} {rs rs' : List B} {all others : List Side} {x : T} {y : B} {budget : ℕ}
-      → IsDoing cmp tree tb i j l R asks row.rest ys b.rest rs all (map tree b.built) 0 budget
-      → IsNext b x b' → rs ≡ y ∷ rs' → all ≡ Both ∷ others → nodes (tree x) + nodes (tb y) < nodes t + nodes u
-  falls-below d next e z =
+  pub falls-below : {b b' : Builder T} {rs rs' : List B} {x : T} {y : B}
+      → IsDoing cmp tree tb i j l R asks row.rest ys b.rest rs (map tree b.built)
+      → side_next (by_component tree tb i j cmp) (slice_get b.rest 0) (slice_get rs 0) ≡ Some Both → IsNext b x b' → rs ≡ y ∷ rs'
+      → nodes (tree x) + nodes (tb y) < nodes t + nodes u
+  falls-below d z next e =
       let faced = faced-taken s.taken s.met in
       let same = taken-nodes s.taken s.met in
       let down = falls d z next.rest e faced.left faced.right faced.parts in
       omega (arith, same, down)
 
-  module _ (o : IsTotalOrder cmp) (none : R None l.none None) (b : Builder T) {rs : List B} {todo : List Side} {budget : ℕ}
-      (d : IsDoing cmp tree tb i j l R asks row.rest ys b.rest rs todo (map tree b.built) 0 budget)
-      (stop : todo ≡ []) where
-    canonical : IsCanonical cmp s.taken.taken
-    canonical = tree-alike_canonical keeps cmp t s.taken.taken s.taken.alike s.left_canonical
-
+  module _ (none : R None l.none None) (b : Builder T) {rs : List B}
+      (d : IsDoing cmp tree tb i j l R asks row.rest ys b.rest rs (map tree b.built))
+      (stop : side_next (by_component tree tb i j cmp) (slice_get b.rest 0) (slice_get rs 0) ≡ None) where
     -- what was built is canonical children
     pub finished-children : AreChildren cmp (forest (map tree b.built))
-    finished-children = made-children (faced-taken s.taken s.met) d stop o none canonical s.right_canonical
+    finished-children = made-children (faced-taken s.taken s.met) d stop none
 
     -- the node of what was built is what the change says of the tree
     pub finished : says None l.none None
@@ -193,7 +156,7 @@ module _ {K V W O T B : Type 0} {cmp : K → K → Ordering} {tree : T → Tree 
         → {out : Option (Tree K V)} → out ≡ solid_child front made (forest (map tree b.built)) → IsBothMadeBy cmp l says t u out
     finished nothing kept g =
         made-taken s.taken s.met l kept
-        (combined (faced-taken s.taken s.met) d stop o none canonical s.right_canonical says nothing s.said_below made
+        (combined (faced-taken s.taken s.met) d stop none says nothing s.said_below made
         (subst (λ v. says v (l.at (value_at u (drop s.length_front u.prefix))) made) s.taken.value_is s.said)
         (s.taken.front_is ∙ ap (take s.length_front) s.taken.alike.0) g)
 

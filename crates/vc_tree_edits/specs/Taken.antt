@@ -1,18 +1,18 @@
 -- Trees that a change in place takes apart. No public clause cites these words.
-use Rattle.std.specs.Prelude.{◌≡◌, ℕ, ◌+◌, ◌<◌, ◌≤◌, List, [], ◌∷◌, ◌++◌, map, length, Option, None, option_map, drop, take}
+use Rattle.std.specs.Prelude.{◌≡◌, ℕ, ◌+◌, ◌<◌, ◌≤◌, List, [], ◌∷◌, ◌++◌, map, length, Option, None, option_map, drop, take, ◌⊎◌}
 use Rattle.std.specs.List.{cons_option}
 use Rattle.std.specs.declared.cmp.Ordering.{Ordering}
 use Rattle.vc_builder.specs.Builder.{Builder}
-use Rattle.vc_merge.specs.Script.{Event, lefts, rights}
-use Rattle.vc_tree_model.specs.Canonical.{AreChildren, IsCanonical}
+use Rattle.vc_merge.specs.Script.{Event, left_alone, right_alone, collision, lefts, rights, IsScript}
+use Rattle.vc_tree_model.specs.Canonical.{IsCanonical}
 use Rattle.vc_tree_model.specs.Tree.{Tree, shortened}
 use Rattle.vc_tree_model.specs.Look.{Look}
 use Rattle.vc_tree_model.specs.Same.{IsAlike}
 use Rattle.vc_tree_model.specs.Child.{value_at}
-use Rattle.vc_tree_facing.specs.Facing.{shortened_in, IsOpened, IsFaced}
+use Rattle.vc_tree_facing.specs.Facing.{IsOpened, IsFaced}
 use Rattle.vc_tree_facing.specs.Made.{IsMade, IsMadeBy}
 use Rattle.vc_tree_facing.specs.Doing.{IsDoing}
-use Rattle.vc_tree_facing.specs.Sides.{side_of}
+use Rattle.vc_tree_facing.specs.Sides.{by_component}
 use Rattle.vc_tree_facing.specs.declared.sides.Side.{Side}
 use Rattle.vc_tree_facing.specs.declared.sides.Side.TheVariants.{Left, Right, Both}
 
@@ -45,6 +45,12 @@ module _ {T : Type 0} where
     pub rest : new.rest ≡ old.rest
     pub room : old.room ≤ new.room + 1
 
+-- on which side the elements of an event stand
+abbrev pub side_of : {A B : Type 0} → Event A B → Side
+side_of (left_alone x) = Left
+side_of (right_alone y) = Right
+side_of (collision x y) = Both
+
 -- how many events are of the right side alone
 abbrev pub arrivals_of : List Side → ℕ
 arrivals_of [] = 0
@@ -62,6 +68,16 @@ pub record IsCounted {A B : Type 0} (es : List (Event A B)) (ls : List A) (rs : 
   pub right : rs ≡ rights rest
   pub counted : many + arrivals_of (map (λ e. side_of e) rest) ≡ arrivals_of (map (λ e. side_of e) es) + length rs
 
+-- of the events of two lists some are done, and there is room for a tree at each of the others that is of the right side alone
+pub record IsRoomy {A B : Type 0} (order : A ⊎ B → A ⊎ B → Ordering) (xs : List A) (ys : List B) (ls : List A) (rs : List B)
+    (room : ℕ) : Type 0 where
+  pub es : List (Event A B)
+  pub script : IsScript order xs ys es
+  pub many : ℕ
+  pub counted : IsCounted es ls rs many
+  pub some : length rs ≤ many
+  pub fits : arrivals_of (map (λ e. side_of e) es) + length rs ≤ room + many
+
 module _ {K V W O T B : Type 0} (cmp : K → K → Ordering) (tree : T → Tree K V) (tb : B → Tree K W) (l : Look cmp W O) where
   -- t, taken apart beside u: its values at the fronts have become `made`, no event is done yet, and there is room for a
   -- tree at each event of the right side alone
@@ -76,12 +92,8 @@ module _ {K V W O T B : Type 0} (cmp : K → K → Ordering) (tree : T → Tree 
     pub said : says value (l.at (value_at u (drop length_front u.prefix))) made
     pub said_below : (v : Option V) (w : O) (z : Option V) → below v w z
         → says v (l.under (value_at u (drop length_front u.prefix)) w) z
-    pub left : AreChildren cmp (shortened_in tree i row.rest)
-    pub right : AreChildren cmp (shortened_in tb j ys)
-    pub todo : List Side
-    pub budget : ℕ
-    pub doing : IsDoing cmp tree tb i j l below asks row.rest ys row.rest ys todo (map tree row.built) 0 budget
-    pub room : arrivals_of todo ≤ row.room
+    pub doing : IsDoing cmp tree tb i j l below asks row.rest ys row.rest ys (map tree row.built)
+    pub room : IsRoomy (by_component tree tb i j cmp) row.rest ys row.rest ys row.room
 
   -- the first tree that is left was taken out, and what the change leaves of it stands behind the others
   pub record IsStayed (says : Option V → O → Option V → Type 0) (from : ℕ) (old new : Builder T) : Type 0 where

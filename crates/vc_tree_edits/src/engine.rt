@@ -12,13 +12,13 @@ ghost use Rattle.vc_tree_nodes.specs.Children.{listed, seen};
 ghost use Rattle.vc_tree_model.specs.Look.{Look};
 ghost use Rattle.vc_tree_nodes.specs.Parting.{Agree};
 ghost use Rattle.vc_tree_facing.specs.Facing.{trees_below, IsBelow};
-ghost use Rattle.vc_tree_facing.specs.Sides.{by_component, side_of, side_next};
+ghost use Rattle.vc_tree_facing.specs.Sides.{by_component, side_next};
 ghost use Rattle.vc_tree_facing.specs.Made.{IsMade, IsMadeBy, IsBothMadeBy};
 ghost use Rattle.vc_tree_model.specs.Canonical.{AreChildren, IsCanonical};
 ghost use Rattle.vc_tree_model.specs.Child.{solid_child, value_at as node_value};
 ghost use Rattle.vc_builder.specs.Builder.{builder};
 ghost use Rattle.vc_merge.specs.Script.{Event, IsScript};
-ghost use Rattle.vc_tree_edits.specs.Taken.{IsMet, IsTaken, IsBegun, IsNext, IsAdded, IsFirstLong, IsStayed, IsCome, arrivals_of};
+ghost use Rattle.vc_tree_edits.specs.Taken.{IsMet, IsTaken, IsBegun, IsNext, IsAdded, IsFirstLong, IsStayed, IsCome, side_of, arrivals_of};
 
 use std::alloc::{AllocError, Global};
 use std::mem;

@@ -1,17 +1,18 @@
--- The recursion of a change in place: each event is one lemma's, and each call goes to trees that stand below.
-use Rattle.std.proofs.Common.{rules, refl, ap, ◌∙◌, Some}
-use Rattle.vc_tree_facing.proofs.Deciding.{side-next, side-none}
-use Rattle.vc_tree_facing.proofs.Next.{left-there, right-there, both-there, left_within, right_within, both-asked, both-agree}
-use Rattle.vc_tree_facing.proofs.Next.{at-most}
-use Rattle.vc_tree_edits.proofs.Stepping.{first-long, after-left, after-right, after-both, room-next, room-added}
-use Rattle.vc_tree_edits.proofs.Stepping.{room-there, falls-below, finished-children, finished}
+-- The recursion of a change in place: the next trees are done one after the other, and each call goes to trees that stand below.
+use Rattle.std.proofs.Common.{rules, refl, sym, ap, ◌∙◌, ◌∷◌, Some, arith}
+use Rattle.vc_tree_facing.specs.Sides.{by_component_total}
+use Rattle.vc_tree_facing.proofs.Next.{there, left_within, right_within, both-asked, both-agree, at-most}
+use Rattle.vc_tree_edits.proofs.Counting.{roomy-left, roomy-right, roomy-both, room-there}
+use Rattle.vc_tree_edits.proofs.Stepping.{first-long, after-left, after-right, after-both, falls-below, finished-children}
+use Rattle.vc_tree_edits.proofs.Stepping.{finished}
 use Rattle.vc_tree_edits.proofs.engine.+change_at.Goals as goal
 
 pub loop-side-init : goal.loop-side-init
 loop-side-init g t c =
     let b = c.in_ok-prefix.ensures in
     record {
-      doing = (b.todo, b.budget, b.doing, b.room);
+      doing = b.doing;
+      room = b.room;
       right_from = refl;
       value_is = refl;
       prefix_is = refl;
@@ -20,67 +21,53 @@ loop-side-init g t c =
 pub stay-requires-clause-there : goal.stay-requires-clause-there
 stay-requires-clause-there g t c =
     let inv = c.loop-side.invariant in
-    let d = inv.doing in
-    let told = rw inv.right_from at c.next_side.ensures in
-    let z = side-next g.met.K.Ord.total d.2 told (c.in-Some.is ∙ ap Some c.in-Left.is) in
-    left-there d.2 z
+    let z = rw inv.right_from at (sym c.next_side.ensures ∙ c.in-Some.is ∙ ap Some c.in-Left.is) in
+    there inv.doing z
 
 pub stay-requires-clause-long : goal.stay-requires-clause-long
 stay-requires-clause-long g t c =
     let inv = c.loop-side.invariant in
-    let d = inv.doing in
-    let told = rw inv.right_from at c.next_side.ensures in
-    let z = side-next g.met.K.Ord.total d.2 told (c.in-Some.is ∙ ap Some c.in-Left.is) in
-    first-long g.T.RadixNode.tree _ _ (left-there d.2 z)
-    (λ x rest e. left_within d.2 c.in_ok-prefix.ensures.left e)
+    let z = rw inv.right_from at (sym c.next_side.ensures ∙ c.in-Some.is ∙ ap Some c.in-Left.is) in
+    first-long g.T.RadixNode.tree _ _ (there inv.doing z)
+    (λ x rest e. left_within inv.doing e)
 
 pub come-requires-clause-long : goal.come-requires-clause-long
 come-requires-clause-long g t c =
     let inv = c.loop-side.invariant in
-    let d = inv.doing in
-    let told = rw inv.right_from at c.next_side.ensures in
-    let z = side-next g.met.K.Ord.total d.2 told (c.in-Some.is ∙ ap Some c.in-Right.is) in
-    rw inv.right_from (first-long g.B.RadixNode.tree _ _ (right-there d.2 z)
-    (λ y rest e. right_within d.2 c.in_ok-prefix.ensures.right e))
+    let z = rw inv.right_from at (sym c.next_side.ensures ∙ c.in-Some.is ∙ ap Some c.in-Right.is) in
+    rw inv.right_from (first-long g.B.RadixNode.tree _ _ (there inv.doing z)
+    (λ y rest e. right_within inv.doing e))
 
 pub come-requires-clause-room : goal.come-requires-clause-room
 come-requires-clause-room g t c =
     let inv = c.loop-side.invariant in
-    let d = inv.doing in
-    let told = rw inv.right_from at c.next_side.ensures in
-    let z = side-next g.met.K.Ord.total d.2 told (c.in-Some.is ∙ ap Some c.in-Right.is) in
-    room-there z d.3
+    let z = rw inv.right_from at (sym c.next_side.ensures ∙ c.in-Some.is ∙ ap Some c.in-Right.is) in
+    room-there (by_component_total g.T.RadixNode.tree g.B.RadixNode.tree _ _ g.met.K.Ord.total) inv.room z
 
 pub next-x-requires-clause-left : goal.next-x-requires-clause-left
 next-x-requires-clause-left g t c =
     let inv = c.loop-side.invariant in
-    let d = inv.doing in
-    let told = rw inv.right_from at c.next_side.ensures in
-    let z = side-next g.met.K.Ord.total d.2 told (c.in-Some.is ∙ ap Some c.in-Both.is) in
-    (both-there d.2 z).0
+    let z = rw inv.right_from at (sym c.next_side.ensures ∙ c.in-Some.is ∙ ap Some c.in-Both.is) in
+    (there inv.doing z).0
 
 pub next-x-requires-clause-right : goal.next-x-requires-clause-right
 next-x-requires-clause-right g t c =
     let inv = c.loop-side.invariant in
-    let d = inv.doing in
-    let told = rw inv.right_from at c.next_side.ensures in
-    let z = side-next g.met.K.Ord.total d.2 told (c.in-Some.is ∙ ap Some c.in-Both.is) in
-    (both-there d.2 z).1
+    let z = rw inv.right_from at (sym c.next_side.ensures ∙ c.in-Some.is ∙ ap Some c.in-Both.is) in
+    (there inv.doing z).1
 
 pub change_at-requires : goal.change_at-requires
 change_at-requires g t c κs within =
     let inv = c.loop-side.invariant in
-    let d = inv.doing in
-    let told = rw inv.right_from at c.next_side.ensures in
-    let z = side-next g.met.K.Ord.total d.2 told (c.in-Some.is ∙ ap Some c.in-Both.is) in
+    let z = rw inv.right_from at (sym c.next_side.ensures ∙ c.in-Some.is ∙ ap Some c.in-Both.is) in
     let x = c.next-x.ensures.left.rest in
     let y = c.next-x.ensures.right in
     let from = c.next-x.ensures.from ∙ inv.right_from in
-    let down = falls-below c.in_ok-prefix.ensures d.2 c.next-x.ensures.left y z in
-    let i = at-most _ _ (left_within d.2 c.in_ok-prefix.ensures.left x) in
-    let right = at-most _ _ (right_within d.2 c.in_ok-prefix.ensures.right y) in
-    let alike = both-agree d.2 z x y c.in_ok-prefix.ensures.left c.in_ok-prefix.ensures.right in
-    let asks = both-asked d.2 z x y in
+    let down = falls-below c.in_ok-prefix.ensures inv.doing z c.next-x.ensures.left y in
+    let i = at-most _ _ (left_within inv.doing x) in
+    let right = at-most _ _ (right_within inv.doing y) in
+    let alike = both-agree inv.doing z x y in
+    let asks = both-asked inv.doing z x y in
     let j = rw (← from) at right in
     let agree = rw (← from) at alike in
     let asked = rw (← from) at asks in
@@ -89,12 +76,15 @@ change_at-requires g t c κs within =
 pub loop-side-preserved-in-Continue-branch-2 : goal.loop-side-preserved-in-Continue-branch-2
 loop-side-preserved-in-Continue-branch-2 g t c =
     let inv = c.loop-side.invariant in
-    let d = inv.doing in
-    let told = rw inv.right_from at c.next_side.ensures in
-    let z = side-next g.met.K.Ord.total d.2 told (c.in-Some.is ∙ ap Some c.in-Left.is) in
+    let z = rw inv.right_from at (sym c.next_side.ensures ∙ c.in-Some.is ∙ ap Some c.in-Left.is) in
     let stayed = c.in_ok-stay-in-Left.ensures in
+    let taken = stayed.next.room in
+    let put = stayed.added.room in
     record {
-      doing = (_, _, after-left d.2 stayed z, room-next stayed.next stayed.added z d.3);
+      doing = after-left inv.doing z stayed;
+      room =
+          roomy-left (by_component_total g.T.RadixNode.tree g.B.RadixNode.tree _ _ g.met.K.Ord.total) inv.room z
+          (stayed.next.rest ∙ ap (λ k. stayed.first ∷ k) (sym stayed.added.rest)) (omega (arith, taken, put));
       right_from = inv.right_from;
       value_is = inv.value_is;
       prefix_is = inv.prefix_is;
@@ -103,12 +93,14 @@ loop-side-preserved-in-Continue-branch-2 g t c =
 pub loop-side-preserved-in-Continue-branch-3 : goal.loop-side-preserved-in-Continue-branch-3
 loop-side-preserved-in-Continue-branch-3 g t c =
     let inv = c.loop-side.invariant in
-    let d = inv.doing in
-    let told = rw inv.right_from at c.next_side.ensures in
-    let z = side-next g.met.K.Ord.total d.2 told (c.in-Some.is ∙ ap Some c.in-Right.is) in
+    let z = rw inv.right_from at (sym c.next_side.ensures ∙ c.in-Some.is ∙ ap Some c.in-Right.is) in
     let come = c.in_ok-come-in-Right.ensures in
+    let put = come.come.added.room in
     record {
-      doing = (_, _, after-right d.2 (rw inv.right_from at come.come) z, room-added come.come.added z d.3);
+      doing = after-right inv.doing z (rw inv.right_from at come.come);
+      room = rw come.come.added.rest
+          (roomy-right (by_component_total g.T.RadixNode.tree g.B.RadixNode.tree _ _ g.met.K.Ord.total) inv.room z
+          come.come.next put);
       right_from = come.from ∙ inv.right_from;
       value_is = inv.value_is;
       prefix_is = inv.prefix_is;
@@ -117,18 +109,18 @@ loop-side-preserved-in-Continue-branch-3 g t c =
 pub loop-side-preserved : goal.loop-side-preserved
 loop-side-preserved g t c =
     let inv = c.loop-side.invariant in
-    let d = inv.doing in
-    let told = rw inv.right_from at c.next_side.ensures in
-    let z = side-next g.met.K.Ord.total d.2 told (c.in-Some.is ∙ ap Some c.in-Both.is) in
+    let z = rw inv.right_from at (sym c.next_side.ensures ∙ c.in-Some.is ∙ ap Some c.in-Both.is) in
     let from = c.next-x.ensures.from ∙ inv.right_from in
+    let taken = c.next-x.ensures.left.room in
+    let put = c.keep.ensures.room in
     record {
-      doing = (
-        _,
-        _,
-        after-both d.2 c.next-x.ensures.left c.keep.ensures c.next-x.ensures.right z
-            (rw from at c.in_ok-kid-in-Both.ensures),
-        room-next c.next-x.ensures.left c.keep.ensures z d.3,
-      );
+      doing =
+          after-both inv.doing z c.next-x.ensures.left c.keep.ensures c.next-x.ensures.right
+          (rw from at c.in_ok-kid-in-Both.ensures);
+      room =
+          roomy-both (by_component_total g.T.RadixNode.tree g.B.RadixNode.tree _ _ g.met.K.Ord.total) inv.room z
+          (c.next-x.ensures.left.rest ∙ ap (λ k. c.next-x.result.0 ∷ k) (sym c.keep.ensures.rest)) c.next-x.ensures.right
+          (omega (arith, taken, put));
       right_from = from;
       value_is = inv.value_is;
       prefix_is = inv.prefix_is;
@@ -137,18 +129,14 @@ loop-side-preserved g t c =
 pub close-requires : goal.close-requires
 close-requires g t c =
     let inv = c.loop-side.invariant in
-    let d = inv.doing in
-    let told = rw inv.right_from at c.next_side.ensures in
-    let end = side-none g.met.K.Ord.total d.2 told c.in_default.is in
-    finished-children c.in_ok-prefix.ensures g.met.K.Ord.total (g.met.O.Change.says_none c.in_ok-prefix.field-0.below)
-    c.loop-side.row d.2 end
+    let end = rw inv.right_from at (sym c.next_side.ensures ∙ c.in_default.is) in
+    finished-children c.in_ok-prefix.ensures (g.met.O.Change.says_none c.in_ok-prefix.field-0.below)
+    c.loop-side.row inv.doing end
 
 pub returns : goal.returns
 returns g t c =
     let inv = c.loop-side.invariant in
-    let d = inv.doing in
-    let told = rw inv.right_from at c.next_side.ensures in
-    let end = side-none g.met.K.Ord.total d.2 told c.in_default.is in
-    finished c.in_ok-prefix.ensures g.met.K.Ord.total (g.met.O.Change.says_none c.in_ok-prefix.field-0.below) c.loop-side.row
-    d.2 end (g.met.O.Change.says_none c.args.op.now) (g.met.O.Change.says_kept c.args.op.now)
+    let end = rw inv.right_from at (sym c.next_side.ensures ∙ c.in_default.is) in
+    finished c.in_ok-prefix.ensures (g.met.O.Change.says_none c.in_ok-prefix.field-0.below) c.loop-side.row
+    inv.doing end (g.met.O.Change.says_none c.args.op.now) (g.met.O.Change.says_kept c.args.op.now)
     (rw (inv.value_is, inv.prefix_is) at c.in_ok-made.ensures)

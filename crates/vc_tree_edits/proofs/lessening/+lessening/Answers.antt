@@ -13,7 +13,7 @@ use Rattle.vc_tree_facing.proofs.Advancing.{next-within, next-fewer, meets-asked
 use Rattle.vc_tree_facing.proofs.Advancing.{each-fewer}
 use Rattle.vc_tree_facing.proofs.Advancing.{inside-alone, inside-both}
 use Rattle.vc_tree_facing.proofs.Apart.{apart-lessened}
-use Rattle.vc_tree_facing.proofs.Deciding.{list-begun, list-done}
+use Rattle.vc_tree_facing.proofs.Advancing.{list-begun, list-done}
 use Rattle.vc_tree_facing.proofs.Leaving.{if-ok, node-lessened, inside-lessened, value-may, below-may, node-kids, node-smaller}
 use Rattle.vc_tree_facing.proofs.Leaving.{inner-list}
 use Rattle.vc_tree_facing.proofs.Leaving.{ended-value, ended-children, inner-value, inner-children, below-children_at}
@@ -309,7 +309,7 @@ lessen_in-loop-at-preserved g t c =
 pub lessen_in-returns-then-kept-eq1-clause-children : goal.lessen_in-returns-then-kept-eq1-clause-children
 lessen_in-returns-then-kept-eq1-clause-children g t c =
     let end : length c.loop-at.list.items ≤ c.loop-at.at = search rules in
-    let gone = list-done (rw (none-left c.loop-at.list.items c.loop-at.at end) at c.loop-at.invariant.going) in
+    let gone = list-done _ (rw (none-left c.loop-at.list.items c.loop-at.at end) at c.loop-at.invariant.going) in
     let enough : c.loop-at.kept ≤ length c.loop-at.list.items =
     (let k = c.loop-at.invariant.order in let w = c.loop-at.invariant.within in omega (arith, k, w)) in
     let one : length (take c.loop-at.kept c.loop-at.list.items) ≡ 1 =
@@ -323,7 +323,7 @@ lessen_in-returns-then-kept-eq1-clause-children g t c =
 pub lessen_in-returns-then-kept-eq1-clause-below : goal.lessen_in-returns-then-kept-eq1-clause-below
 lessen_in-returns-then-kept-eq1-clause-below g t c =
     let end : length c.loop-at.list.items ≤ c.loop-at.at = search rules in
-    let gone = list-done (rw (none-left c.loop-at.list.items c.loop-at.at end) at c.loop-at.invariant.going) in
+    let gone = list-done _ (rw (none-left c.loop-at.list.items c.loop-at.at end) at c.loop-at.invariant.going) in
     let enough : c.loop-at.kept ≤ length c.loop-at.list.items =
     (let k = c.loop-at.invariant.order in let w = c.loop-at.invariant.within in omega (arith, k, w)) in
     let one : length (take c.loop-at.kept c.loop-at.list.items) ≡ 1 =
@@ -361,7 +361,7 @@ lessen_in-returns-clause-kids g t c =
 pub lessen_in-returns-clause-children : goal.lessen_in-returns-clause-children
 lessen_in-returns-clause-children g t c =
     let end : length c.loop-at.list.items ≤ c.loop-at.at = search rules in
-    let gone = list-done (rw (none-left c.loop-at.list.items c.loop-at.at end) at c.loop-at.invariant.going) in
+    let gone = list-done _ (rw (none-left c.loop-at.list.items c.loop-at.at end) at c.loop-at.invariant.going) in
     let items : g.T.Children.ChildList.items c.else-is_bare.children ≡ take c.loop-at.kept c.loop-at.list.items =
     elim c.else-is_bare.branch [
       | lessen_in-else-is_bare-via-then-is_bare+else-kept-eq1 w ↦
@@ -376,7 +376,7 @@ lessen_in-returns-clause-children g t c =
 pub lessen_in-returns-clause-below : goal.lessen_in-returns-clause-below
 lessen_in-returns-clause-below g t c =
     let end : length c.loop-at.list.items ≤ c.loop-at.at = search rules in
-    let gone = list-done (rw (none-left c.loop-at.list.items c.loop-at.at end) at c.loop-at.invariant.going) in
+    let gone = list-done _ (rw (none-left c.loop-at.list.items c.loop-at.at end) at c.loop-at.invariant.going) in
     let items : g.T.Children.ChildList.items c.else-is_bare.children ≡ take c.loop-at.kept c.loop-at.list.items =
     elim c.else-is_bare.branch [
       | lessen_in-else-is_bare-via-then-is_bare+else-kept-eq1 w ↦
