@@ -1,7 +1,6 @@
 //! The one recursion of all combines that build a tree.
 
-ghost use Rattle.std.specs.Prelude.{◌≡◌, ◌+◌, ◌*◌, ◌<◌, ◌≤◌, ◌++◌, List, [], Option, None, IfOk, drop, take, length, map, option_map};
-ghost use Rattle.std.specs.List.{cons_option};
+ghost use Rattle.std.specs.Prelude.{◌≡◌, ◌+◌, ◌*◌, ◌<◌, ◌≤◌, List, [], Option, None, IfOk, drop, take, length, map, option_map};
 ghost use Rattle.std.specs.Option.{option_copied};
 ghost use Rattle.vc_tree_model.specs.Combine.{IsCombined};
 ghost use Rattle.vc_tree_model.specs.Tree.{forest, shortened};
@@ -17,8 +16,8 @@ ghost use Rattle.vc_tree_combines.specs.Ended.{IsBegun, IsEnded};
 
 use std::alloc::{AllocError, Global};
 use vc_merge::merge::Count;
-use vc_tree_facing::facing::{Below, Facing, count_below, face, side_below};
-use vc_tree_facing::nodes::{finish, value_at};
+use vc_tree_facing::facing::{Below, Facing, count_below, expected, face, side_below};
+use vc_tree_facing::nodes::{finish, keep, value_at};
 use vc_tree_facing::sides::Side;
 use vc_tree_nodes::building::{Build, Seal};
 use vc_tree_nodes::reading::{RadixNode, TKey, TValue, canonical};
@@ -71,21 +70,6 @@ pub trait Combine<K: TKey, V: TValue, W: TValue, A: RadixNode<K, V>, B: RadixNod
     ghost says_none: { (op : Self) → says op None None None };
 
     ghost asks_none: { (op : Self) → asks op None None };
-}
-
-/// Adds a tree, if there is one.
-#[inline(always)]
-pub fn keep<K: TKey, V: TValue, M: Build<K, V>>(
-    kids: &mut Vec<M>,
-    kid: Option<M>,
-) -> Result<(), AllocError>
-    ensures { IfOk result (λ _. map M.tree kids.new.items
-        ≡ map M.tree kids.old.items ++ cons_option (option_map M.tree kid) []) }
-{
-    if let Some(kid) = kid {
-        kids.push(kid)?;
-    }
-    Ok(())
 }
 
 /// What the combine makes of the values of the nodes that stand behind equal fronts of two
@@ -165,8 +149,8 @@ struct Begun<'a, 'b, A, B, M> {
     kids: Vec<M>,
 }
 
-/// Lays two trees side by side, each without the front of its prefix, and makes room for as many
-/// trees as stand on the longer side.
+/// Lays two trees side by side, each without the front of its prefix, and makes room for what is
+/// made of what stands below.
 fn begin<
     'a,
     'b,
@@ -196,7 +180,7 @@ fn begin<
         + weight (shortened i (A.tree a.now)) + weight (shortened j (B.tree b.now)) }
 {
     let Facing { front, left, right } = face(a, i, b, j, known, steps);
-    let room = count_below(&left).max(count_below(&right));
+    let room = expected(count_below(&left), count_below(&right));
     let kids = Vec::with_capacity(alloc, room)?;
     Ok(Begun {
         front,

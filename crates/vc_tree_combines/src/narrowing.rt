@@ -13,10 +13,9 @@ ghost use Rattle.vc_tree_facing.specs.Facing.{trees_below, shortened_in};
 ghost use Rattle.vc_tree_facing.specs.Lessening.{alone, IsLessenedIn};
 ghost use Rattle.vc_tree_combines.specs.Narrowing.{IsLeftAlone, IsTold, IsNarrowed, IsNarrowedInside, IsNodeNarrowed};
 
-use crate::engine::keep;
 use std::alloc::{AllocError, Global};
 use vc_tree_facing::facing::{Below, below_place, seek_alike, split};
-use vc_tree_facing::nodes::{finish, value_at};
+use vc_tree_facing::nodes::{finish, keep, value_at};
 use vc_tree_nodes::building::{Build, Seal};
 use vc_tree_nodes::reading::{RadixNode, TKey, TValue, canonical};
 

@@ -1,7 +1,5 @@
 pub mod Taking
 pub mod Changing
-pub mod Events
-pub mod Counting
 pub mod Stepping
 pub mod Sifting
 pub mod Prepended

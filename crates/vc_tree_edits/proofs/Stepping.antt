@@ -1,19 +1,14 @@
--- The trees of a change in place, on the parts of the tree and the list that is built out of them.
+-- The trees of a change in place, on the parts of the tree and the list that is made of them.
 --     values-may        what may be asked of the values at the fronts
 --     begun        the state before the first trees
 --     first-long        a next tree goes on at the place
---     after-left, after-right, after-both        the next trees are done
---     room_come, room_kept        each tree that is put there finds its place
+--     after-left, after-right        a next tree is done, which one side alone has
 --     falls-below        two trees that meet have fewer nodes than those that they stand below
---     finished-children, finished        what was built is canonical children, and the node of it is what the change says
-use Rattle.std.proofs.Common.{◌≡◌, ℕ, ◌+◌, ◌<◌, ◌≤◌, [], ◌∷◌, ◌++◌, List, Option, None, Some, slice_get}
-use Rattle.std.proofs.Common.{option_map, refl, sym, ap, subst, ◌∙◌, map, drop, take, length, arith}
+--     finished-children, finished        what was made is canonical children, and the node of it is what the change says
+use Rattle.std.proofs.Common.{◌≡◌, ℕ, ◌+◌, ◌<◌, [], ◌∷◌, List, Option, None, Some, slice_get, refl, ap, subst, ◌∙◌, drop}
+use Rattle.std.proofs.Common.{take, length, arith}
 use Rattle.std.specs.Cmp.{IsTotalOrder}
-use Rattle.std.specs.List.{cons_option}
 use Rattle.std.specs.declared.cmp.Ordering.{Ordering}
-use Rattle.vc_builder.specs.Builder.{Builder, builder}
-use Rattle.vc_merge.specs.Script.{Event, IsScript}
-use Rattle.vc_merge.proofs.Scripts.{some-script}
 use Rattle.vc_tree_model.specs.Canonical.{AreChildren, IsCanonical}
 use Rattle.vc_tree_model.specs.Child.{solid_child, value_at}
 use Rattle.vc_tree_model.specs.Map.{lookup}
@@ -23,67 +18,25 @@ use Rattle.vc_tree_model.proofs.AlikeLemmas.{tree-alike_canonical}
 use Rattle.vc_tree_model.specs.Look.{Look}
 use Rattle.vc_tree_facing.specs.Made.{IsBothMadeBy}
 use Rattle.vc_tree_facing.specs.Doing.{IsDoing}
-use Rattle.vc_tree_facing.specs.Sides.{by_component, by_component_total, side_next}
+use Rattle.vc_tree_facing.specs.Sides.{by_component, side_next}
 use Rattle.vc_tree_facing.specs.declared.sides.Side.TheVariants.{Left, Right, Both}
-use Rattle.vc_tree_facing.proofs.Ending.{left-children, right-children, values-asked, combine-started, made-children, combined}
-use Rattle.vc_tree_facing.proofs.Next.{falls, left-done, right-done, both-done}
-use Rattle.vc_tree_edits.specs.Taken.{IsMet, IsTaken, IsBegun, IsNext, IsAdded, IsFirstLong, IsStayed, IsCome, arrivals_of}
-use Rattle.vc_tree_edits.specs.Taken.{side_of}
+use Rattle.vc_tree_facing.proofs.Ending.{values-asked, combine-started, made-children, combined}
+use Rattle.vc_tree_facing.proofs.Next.{falls, left-done, right-done}
+use Rattle.vc_tree_edits.specs.Taken.{IsMet, IsTaken, IsBegun, IsFirstLong, IsStayed, IsCome}
 use Rattle.vc_tree_edits.proofs.Changing.{faced-taken, asked-taken, taken-nodes, made-taken}
-use Rattle.vc_tree_edits.proofs.Counting.{roomy-start}
-use Rattle.vc_tree_edits.proofs.Events.{children-ascend}
-
--- one tree more, seen as a tree
-pushed : {K V T : Type 0} (tree : T → Tree K V) (xs : List T) (kid : Option T)
-    → map tree (xs ++ cons_option kid []) ≡ map tree xs ++ cons_option (option_map tree kid) []
-pushed tree [] None = refl
-pushed tree [] (Some x) = refl
-pushed tree (y ∷ xs) kid = ap (λ l. tree y ∷ l) (pushed tree xs kid)
 
 -- ---- the next trees are done
 
 module _ {K V W O T B : Type 0} {cmp : K → K → Ordering} {tree : T → Tree K V} {tb : B → Tree K W} {i j : ℕ} {l : Look cmp W O}
-    {R : Option V → O → Option V → Type 0} {asks : Option V → O → Type 0} {xs : List T} {ys : List B} {b : Builder T}
-    {rs : List B}
-    (d : IsDoing cmp tree tb i j l R asks xs ys b.rest rs (map tree b.built)) where
-  pub after-left : {b' : Builder T} → side_next (by_component tree tb i j cmp) (slice_get b.rest 0) (slice_get rs 0) ≡ Some Left
-      → IsStayed cmp tree tb l R i b b'
-      → IsDoing cmp tree tb i j l R asks xs ys b'.rest rs (map tree b'.built)
-  after-left z w =
-      left-done d z (w.next.rest ∙ ap (λ k. w.first ∷ k) (sym w.added.rest))
-      (ap (map tree) (w.added.built ∙ ap (λ k. k ++ cons_option w.kid []) w.next.built) ∙ pushed tree b.built w.kid) w.made
+    {R : Option V → O → Option V → Type 0} {asks : Option V → O → Type 0} {xs ls : List T} {ys rs : List B}
+    {kids kids' : List (Tree K V)} (d : IsDoing cmp tree tb i j l R asks xs ys ls rs kids) where
+  pub after-left : {ls' : List T} → side_next (by_component tree tb i j cmp) (slice_get ls 0) (slice_get rs 0) ≡ Some Left
+      → IsStayed cmp tree l R i ls ls' kids kids' → IsDoing cmp tree tb i j l R asks xs ys ls' rs kids'
+  after-left z w = left-done d z w.next w.added w.made
 
-  pub after-right : {b' : Builder T} {rs' : List B}
-      → side_next (by_component tree tb i j cmp) (slice_get b.rest 0) (slice_get rs 0) ≡ Some Right
-      → IsCome cmp tree tb l R j rs rs' b b'
-      → IsDoing cmp tree tb i j l R asks xs ys b'.rest rs' (map tree b'.built)
-  after-right z w =
-      rw w.added.rest (right-done d z w.next (ap (map tree) w.added.built ∙ pushed tree b.built w.kid) w.made)
-
-  pub after-both : {b' b'' : Builder T} {rs' : List B} {x : T} {y : B} {kid : Option T}
-      → side_next (by_component tree tb i j cmp) (slice_get b.rest 0) (slice_get rs 0) ≡ Some Both
-      → IsNext b x b'
-      → IsAdded b' kid b'' → rs ≡ y ∷ rs' → IsBothMadeBy cmp l R (shortened i (tree x)) (shortened j (tb y)) (option_map tree kid)
-      → IsDoing cmp tree tb i j l R asks xs ys b''.rest rs' (map tree b''.built)
-  after-both {x = x} {kid = kid} z next added e w =
-      both-done d z (next.rest ∙ ap (λ k. x ∷ k) (sym added.rest)) e
-      (ap (map tree) (added.built ∙ ap (λ k. k ++ cons_option kid []) next.built) ∙ pushed tree b.built kid) w
-
--- at most one tree is put there
-one-at_most : {T : Type 0} (kid : Option T) → length (cons_option kid []) ≤ 1
-one-at_most None = omega arith
-one-at_most (Some x) = omega arith
-
--- what comes in finds room
-pub room_come : {T : Type 0} (kid : Option T) (room : ℕ) → 0 < room → length (cons_option kid []) ≤ room
-room_come kid room there = let one = one-at_most kid in omega (arith, there, one)
-
--- what is left of a tree that was taken out finds its place
-pub room_kept : {T : Type 0} (b b' : Builder T) (x : T) (kid : Option T) → IsNext b x b' → length (cons_option kid []) ≤ b'.room
-room_kept b b' x kid next =
-    let f = next.room in
-    let one = one-at_most kid in
-    omega (arith, f, one)
+  pub after-right : {rs' : List B} → side_next (by_component tree tb i j cmp) (slice_get ls 0) (slice_get rs 0) ≡ Some Right
+      → IsCome cmp tb l R j rs rs' kids kids' → IsDoing cmp tree tb i j l R asks xs ys ls rs' kids'
+  after-right z w = right-done d z w.next w.added w.made
 
 -- ---- the parts of a tree, beside another one
 
@@ -98,22 +51,15 @@ module _ {K V W O T B : Type 0} {cmp : K → K → Ordering} {tree : T → Tree 
   values-may = rw h.value_is (values-asked (faced-taken h m) o l P (asked-taken h m l P kept a))
 
   -- the state before the first event
-  pub begun : {says R : Option V → O → Option V → Type 0} {asks : Option V → O → Type 0} {made : Option V} {row : Builder T}
+  pub begun : {says R : Option V → O → Option V → Type 0} {asks : Option V → O → Type 0} {made : Option V}
       → IsCanonical cmp t → IsCanonical cmp u → asks None l.none
       → ((v : Option V) (z : O) → P v (l.under (value_at u (drop n u.prefix)) z) → asks v z)
       → ((v : Option V) (z : O) (y : Option V) → R v z y → says v (l.under (value_at u (drop n u.prefix)) z) y)
-      → says value (l.at (value_at u (drop n u.prefix))) made → {extra : ℕ} → row ≡ builder [] xs extra
-      → ((es : List (Event T B)) → IsScript (by_component tree tb i j cmp) xs ys es
-      → arrivals_of (map (λ e. side_of e) es) ≤ row.room)
-      → IsBegun cmp tree tb l keeps says R asks t u front made row i ys j
-  begun {says} {R} {asks} {made} {row} ct cu an lead down said {extra} r fits =
-      let faced = faced-taken h m in
+      → says value (l.at (value_at u (drop n u.prefix))) made → {kids : List (Tree K V)} → kids ≡ []
+      → IsBegun cmp tree tb l keeps says R asks t u front made xs i ys j kids
+  begun {R = R} {asks = asks} ct cu an lead down said none =
       let c = tree-alike_canonical keeps cmp t h.taken h.alike ct in
-      let left = left-children faced c in
-      let right = right-children faced cu in
-      let script = some-script (by_component tree tb i j cmp) (by_component_total tree tb i j o) xs ys
-      (record { left = children-ascend cmp tree i xs left; right = children-ascend cmp tb j ys right }) in
-      rw r (record {
+      record {
         length_front = n;
         value = value;
         met = m;
@@ -122,38 +68,36 @@ module _ {K V W O T B : Type 0} {cmp : K → K → Ordering} {tree : T → Tree 
         right_canonical = cu;
         said = said;
         said_below = down;
-        doing = combine-started faced o l R asks an P lead (asked-taken h m l P kept a) c cu refl;
-        room = roomy-start script.1 (rw r at fits script.0 script.1);
-      })
+        doing = combine-started (faced-taken h m) o l R asks an P lead (asked-taken h m l P kept a) c cu none;
+      }
 
 -- ---- a change that has begun
 
 module _ {K V W O T B : Type 0} {cmp : K → K → Ordering} {tree : T → Tree K V} {tb : B → Tree K W} {keeps : V → V → Type 0}
     {l : Look cmp W O} {says R : Option V → O → Option V → Type 0} {asks : Option V → O → Type 0} {t : Tree K V} {u : Tree K W}
-    {front : List K} {made : Option V} {row : Builder T} {i : ℕ} {ys : List B} {j : ℕ}
-    (s : IsBegun cmp tree tb l keeps says R asks t u front made row i ys j) where
+    {front : List K} {made : Option V} {xs : List T} {i : ℕ} {ys : List B} {j : ℕ} {first : List (Tree K V)}
+    (s : IsBegun cmp tree tb l keeps says R asks t u front made xs i ys j first) {ls : List T} {rs : List B}
+    {kids : List (Tree K V)} (d : IsDoing cmp tree tb i j l R asks xs ys ls rs kids) where
   -- two trees that meet have fewer nodes than those that they stand below
-  pub falls-below : {b b' : Builder T} {rs rs' : List B} {x : T} {y : B}
-      → IsDoing cmp tree tb i j l R asks row.rest ys b.rest rs (map tree b.built)
-      → side_next (by_component tree tb i j cmp) (slice_get b.rest 0) (slice_get rs 0) ≡ Some Both → IsNext b x b' → rs ≡ y ∷ rs'
+  pub falls-below : side_next (by_component tree tb i j cmp) (slice_get ls 0) (slice_get rs 0) ≡ Some Both
+      → {x : T} {ls' : List T} {y : B} {rs' : List B} → ls ≡ x ∷ ls' → rs ≡ y ∷ rs'
       → nodes (tree x) + nodes (tb y) < nodes t + nodes u
-  falls-below d z next e =
+  falls-below z e e' =
       let faced = faced-taken s.taken s.met in
       let same = taken-nodes s.taken s.met in
-      let down = falls d z next.rest e faced.left faced.right faced.parts in
+      let down = falls d z e e' faced.left faced.right faced.parts in
       omega (arith, same, down)
 
-  module _ (none : R None l.none None) (b : Builder T) {rs : List B}
-      (d : IsDoing cmp tree tb i j l R asks row.rest ys b.rest rs (map tree b.built))
-      (stop : side_next (by_component tree tb i j cmp) (slice_get b.rest 0) (slice_get rs 0) ≡ None) where
-    -- what was built is canonical children
-    pub finished-children : AreChildren cmp (forest (map tree b.built))
+  module _ (none : R None l.none None)
+      (stop : side_next (by_component tree tb i j cmp) (slice_get ls 0) (slice_get rs 0) ≡ None) where
+    -- what was made is canonical children
+    pub finished-children : AreChildren cmp (forest kids)
     finished-children = made-children (faced-taken s.taken s.met) d stop none
 
-    -- the node of what was built is what the change says of the tree
+    -- the node of it is what the change says of the tree
     pub finished : says None l.none None
         → ((v w : Option V) (z : O) (y : Option V) → IsKept keeps v w → says w z y → says v z y)
-        → {out : Option (Tree K V)} → out ≡ solid_child front made (forest (map tree b.built)) → IsBothMadeBy cmp l says t u out
+        → {out : Option (Tree K V)} → out ≡ solid_child front made (forest kids) → IsBothMadeBy cmp l says t u out
     finished nothing kept g =
         made-taken s.taken s.met l kept
         (combined (faced-taken s.taken s.met) d stop none says nothing s.said_below made

@@ -1,7 +1,6 @@
 //! The one recursion of all changes of a tree by another tree, in place.
 
-ghost use Rattle.std.specs.Prelude.{◌≡◌, ◌<◌, ◌≤◌, ◌∷◌, List, [], Option, Some, None, IfOk, OnOk, drop, length, map, option_map, slice_get};
-ghost use Rattle.std.specs.List.{cons_option};
+ghost use Rattle.std.specs.Prelude.{◌≡◌, ◌<◌, ◌≤◌, ◌∷◌, List, [], Option, None, IfOk, OnOk, drop, length, map, option_map, slice_get};
 ghost use Rattle.std.specs.Option.{option_copied};
 ghost use Rattle.std.specs.declared.cmp.Ordering.{Ordering};
 ghost use Rattle.vc_tree_model.specs.Tree.{shortened};
@@ -16,16 +15,14 @@ ghost use Rattle.vc_tree_facing.specs.Sides.{by_component, side_next};
 ghost use Rattle.vc_tree_facing.specs.Made.{IsMade, IsMadeBy, IsBothMadeBy};
 ghost use Rattle.vc_tree_model.specs.Canonical.{AreChildren, IsCanonical};
 ghost use Rattle.vc_tree_model.specs.Child.{solid_child, value_at as node_value};
-ghost use Rattle.vc_builder.specs.Builder.{builder};
-ghost use Rattle.vc_merge.specs.Script.{Event, IsScript};
-ghost use Rattle.vc_tree_edits.specs.Taken.{IsMet, IsTaken, IsBegun, IsNext, IsAdded, IsFirstLong, IsStayed, IsCome, side_of, arrivals_of};
+ghost use Rattle.vc_tree_edits.specs.Taken.{IsMet, IsTaken, IsBegun, IsFirstLong, IsStayed, IsCome};
 
 use std::alloc::{AllocError, Global};
+use std::collections::VecDeque;
 use std::mem;
-use vc_builder::inplace::InPlace;
 use vc_merge::states::Uncounted;
-use vc_tree_facing::facing::{Below, Facing, count_below, face, side_below};
-use vc_tree_facing::nodes::{finish, value_at};
+use vc_tree_facing::facing::{Below, Facing, count_below, expected, face, side_below};
+use vc_tree_facing::nodes::{finish, keep, value_at};
 use vc_tree_facing::sides::Side;
 use vc_tree_nodes::building::{Build, Seal};
 use vc_tree_nodes::children::{ChildList, Fragment, Parts};
@@ -130,23 +127,21 @@ struct Taken<P, V, T> {
     from: usize,
 }
 
-/// A list of the one tree, with room for `others` more.
-fn alone<T: Drop>(alloc: Global, tree: T, others: usize) -> Result<Vec<T>, AllocError>
+/// A list of the one tree.
+fn alone<T: Drop>(alloc: Global, tree: T) -> Result<Vec<T>, AllocError>
     ensures { IfOk result (λ list. list.items ≡ tree ∷ []) }
 {
-    let mut list = Vec::with_capacity(alloc, others.saturating_add(1))?;
+    let mut list = Vec::with_capacity(alloc, 1)?;
     list.push(tree)?;
     Ok(list)
 }
 
-/// Takes a tree apart behind the first `i` components of its prefix and `front` more. Where the
-/// tree itself stands below, there is room beside it for `others` more.
+/// Takes a tree apart behind the first `i` components of its prefix and `front` more.
 fn take_apart<K: TKey, V: TValue, T: Build<K, V>>(
     alloc: Global,
     tree: T,
     i: usize,
     front: usize,
-    others: usize,
 ) -> Result<Taken<T::Prefix, V, T>, AllocError>
     requires within { i ≤ length (T.tree tree).prefix }
     requires front { front ≤ length (drop i (T.tree tree).prefix) }
@@ -158,7 +153,7 @@ fn take_apart<K: TKey, V: TValue, T: Build<K, V>>(
         return Ok(Taken {
             prefix: T::Prefix::from_slice(alloc, &whole[i..i + front])?,
             value: None,
-            list: alone(alloc, tree, others)?,
+            list: alone(alloc, tree)?,
             from: i + front,
         });
     }
@@ -204,97 +199,6 @@ fn take_list<K: TKey, V: TValue, T: Build<K, V>>(
     Ok(mem::replace(list, Vec::new(alloc)))
 }
 
-/// The trees below a place, from which what stays and what comes in is built: trees are taken out
-/// at the front of what is left, and put behind those that are built.
-type Row<T> = InPlace<T, Global>;
-
-/// How many trees of the right side come in: those that go on with a component with which no tree
-/// of the left side does.
-fn arrivals<K: TKey, V: TValue, W: TValue, T: RadixNode<K, V>, B: RadixNode<K, W>>(
-    left: Below<'_, T>,
-    right: Below<'_, B>,
-) -> usize
-    requires { IsBelow K.cmp B.tree right }
-    ensures { (es : List (Event T B)) → IsScript
-        (by_component T.tree B.tree left.entry.from right.entry.from K.cmp)
-        (trees_below left.entry) (trees_below right.entry) es
-        → result ≡ arrivals_of (map (λ e. side_of e) es) }
-{
-    let mut left = left;
-    let mut right = right;
-    let mut many = count_below(&right);
-    while let Some(side) = side_below(&left, &right, &mut Uncounted) {
-        match side {
-            Side::Left => {
-                left.next();
-            }
-            Side::Right => {
-                right.next();
-            }
-            Side::Both => {
-                left.next();
-                right.next();
-                many -= 1;
-            }
-        }
-    }
-    many
-}
-
-/// A row in which all these trees are left, with room for those of the right side that come in.
-fn open<K: TKey, V: TValue, W: TValue, T: Build<K, V>, B: RadixNode<K, W>>(
-    list: Vec<T>,
-    from: usize,
-    right: &Below<'_, B>,
-) -> Result<Row<T>, AllocError>
-    requires { IsBelow K.cmp B.tree right.now }
-    ensures row { IfOk result (λ row. row ≡ builder [] list.items row.room) }
-    ensures room { IfOk result (λ row. (es : List (Event T B))
-        → IsScript (by_component T.tree B.tree from right.now.from K.cmp) list.items
-        (trees_below right.now) es → arrivals_of (map (λ e. side_of e) es) ≤ row.room) }
-{
-    let mut all = list;
-    let extra = arrivals(Below::row(&all, from), right.again());
-    InPlace::new(&mut all, extra)
-}
-
-/// Takes out the first tree that is left.
-fn pop<T>(row: &mut Row<T>) -> T
-    requires { 0 < length row.old.rest }
-    ensures { IsNext row.old result row.new }
-{
-    row.pop_first()
-}
-
-/// Takes out the first trees that are left on both sides.
-fn next<'b, B, T>(row: &mut Row<T>, that: &mut Below<'b, B>) -> (T, &'b B)
-    requires left { 0 < length row.old.rest }
-    requires right { 0 < length (trees_below that.old) }
-    ensures left { IsNext row.old result.0 row.new }
-    ensures right { trees_below that.old ≡ result.1.now ∷ trees_below that.new }
-    ensures from { that.new.from ≡ that.old.from }
-{
-    (pop(row), that.next())
-}
-
-/// Puts a tree behind those that are built.
-fn put<T>(row: &mut Row<T>, tree: T)
-    requires { 0 < row.old.room }
-    ensures { IsAdded row.old (Some tree) row.new }
-{
-    row.push(tree);
-}
-
-/// Puts a tree, if there is one, behind those that are built.
-fn keep<T: Drop>(row: &mut Row<T>, tree: Option<T>)
-    requires { length (cons_option tree []) ≤ row.old.room }
-    ensures { IsAdded row.old tree row.new }
-{
-    if let Some(tree) = tree {
-        put(row, tree);
-    }
-}
-
 /// What the change makes of the value of a node that was taken apart, and of the value of the right
 /// node that stands behind an equal front.
 fn change_values<
@@ -333,16 +237,18 @@ struct Begun<'b, P, V, B, O, T> {
     value: Option<V>,
     /// The change of all that stands below.
     below: O,
-    /// What stands below in the left tree, to be built anew.
-    row: Row<T>,
+    /// What stands below in the left tree.
+    left: VecDeque<T>,
     /// How many components of their prefixes stand before the place.
     from: usize,
     /// What stands below in the right tree.
     right: Below<'b, B>,
+    /// The trees that are made of what stands below.
+    kids: Vec<T>,
 }
 
-/// Takes a tree apart beside another one, and changes the value at the place where their prefixes
-/// part.
+/// Takes a tree apart beside another one, changes the value at the place where their prefixes part,
+/// and makes room for what is made of what stands below.
 fn begin<
     'b,
     K: TKey,
@@ -368,8 +274,8 @@ fn begin<
         ((O.look K.cmp).of_tree (shortened j (B.tree that.now)) k) }
     ensures { IfOk result (λ s. IsBegun K.cmp T.tree B.tree (O.look K.cmp) T.keeps
         (O.says op.now) (O.says s.below) (O.asks s.below) (shortened i (T.tree tree))
-        (shortened j (B.tree that.now)) (T.Prefix.items s.prefix) s.value s.row s.from
-        (trees_below s.right) s.right.from) }
+        (shortened j (B.tree that.now)) (T.Prefix.items s.prefix) s.value s.left.items s.from
+        (trees_below s.right) s.right.from (map T.tree s.kids.items)) }
 {
     let Meeting { front, right } = meet(&tree, i, that, j, known);
     let Taken {
@@ -377,33 +283,42 @@ fn begin<
         value,
         list,
         from,
-    } = take_apart(alloc, tree, i, front, count_below(&right))?;
+    } = take_apart(alloc, tree, i, front)?;
     let (value, below) = change_values(value, that, j, front, op)?;
-    let row = open(list, from, &right)?;
+    let kids = Vec::with_capacity(alloc, expected(list.len(), count_below(&right)))?;
     Ok(Begun {
         prefix,
         value,
         below,
-        row,
+        left: VecDeque::from_vec(list),
         from,
         right,
+        kids,
     })
+}
+
+/// Takes the first tree out of a list.
+fn pop<T>(trees: &mut VecDeque<T>) -> T
+    requires { 0 < length trees.old.items }
+    ensures { trees.old.items ≡ result ∷ trees.new.items }
+{
+    trees.pop_front().unwrap()
 }
 
 /// On which side the next event is of the trees that are left.
 fn next_side<K: TKey, V: TValue, W: TValue, T: RadixNode<K, V>, B: RadixNode<K, W>>(
-    row: &Row<T>,
+    left: &VecDeque<T>,
     from: usize,
     right: &Below<'_, B>,
 ) -> Option<Side>
     ensures { result ≡ side_next (by_component T.tree B.tree from right.now.from K.cmp)
-        (slice_get row.now.rest 0) (slice_get (trees_below right.now) 0) }
+        (slice_get left.now.items 0) (slice_get (trees_below right.now) 0) }
 {
-    side_below(&Below::row(row.rest(), from), right, &mut Uncounted)
+    let (first, _) = left.as_slices();
+    side_below(&Below::row(first, from), right, &mut Uncounted)
 }
 
-/// Does the event of the first tree that is left, which the left side alone has.
-#[tactic(auto, using(crate::proofs::Stepping::room_kept))]
+/// Does the event of the first tree of the left side, which that side alone has.
 fn stay<
     K: TKey,
     V: TValue,
@@ -411,19 +326,23 @@ fn stay<
     B: RadixNode<K, W>,
     T: Build<K, V>,
     O: Change<K, V, W, B, T>,
->(alloc: Global, row: &mut Row<T>, from: usize, op: &O) -> Result<(), AllocError>
-    requires there { 0 < length row.old.rest }
-    requires long { IsFirstLong T.tree from row.old.rest }
-    ensures { OnOk result (IsStayed K.cmp T.tree B.tree (O.look K.cmp) (O.says op.now) from row.old
-        row.new) }
+>(
+    alloc: Global,
+    left: &mut VecDeque<T>,
+    from: usize,
+    op: &O,
+    kids: &mut Vec<T>,
+) -> Result<(), AllocError>
+    requires there { 0 < length left.old.items }
+    requires long { IsFirstLong T.tree from left.old.items }
+    ensures { OnOk result (IsStayed K.cmp T.tree (O.look K.cmp) (O.says op.now) from left.old.items
+        left.new.items (map T.tree kids.old.items) (map T.tree kids.new.items)) }
 {
-    let kid = op.left_alone(alloc, pop(row), from)?;
-    keep(row, kid);
-    Ok(())
+    let kid = op.left_alone(alloc, pop(left), from)?;
+    keep(kids, kid)
 }
 
-/// Does the event of the first tree that is left on the right side, which that side alone has.
-#[tactic(auto, using(crate::proofs::Stepping::room_come))]
+/// Does the event of the first tree of the right side, which that side alone has.
 fn come<
     K: TKey,
     V: TValue,
@@ -431,33 +350,19 @@ fn come<
     B: RadixNode<K, W>,
     T: Build<K, V>,
     O: Change<K, V, W, B, T>,
->(alloc: Global, row: &mut Row<T>, that: &mut Below<'_, B>, op: &O) -> Result<(), AllocError>
-    requires long { IsFirstLong B.tree that.old.from (trees_below that.old) }
-    requires room { 0 < row.old.room }
-    ensures come { OnOk result (IsCome K.cmp T.tree B.tree (O.look K.cmp) (O.says op.now)
-        that.old.from (trees_below that.old) (trees_below that.new) row.old row.new) }
-    ensures from { that.new.from ≡ that.old.from }
+>(alloc: Global, right: &mut Below<'_, B>, op: &O, kids: &mut Vec<T>) -> Result<(), AllocError>
+    requires there { 0 < length (trees_below right.old) }
+    requires long { IsFirstLong B.tree right.old.from (trees_below right.old) }
+    ensures come { OnOk result (IsCome K.cmp B.tree (O.look K.cmp) (O.says op.now) right.old.from
+        (trees_below right.old) (trees_below right.new) (map T.tree kids.old.items)
+        (map T.tree kids.new.items)) }
+    ensures from { right.new.from ≡ right.old.from }
 {
-    let kid = op.right_alone(alloc, that.next(), that.from)?;
-    keep(row, kid);
-    Ok(())
+    let kid = op.right_alone(alloc, right.next(), right.from)?;
+    keep(kids, kid)
 }
 
-/// The node of what was built, as a child, once no event is left.
-fn close<K: TKey, V: TValue, T: Build<K, V>>(
-    alloc: Global,
-    prefix: T::Prefix,
-    value: Option<V>,
-    row: Row<T>,
-) -> Result<Option<T>, AllocError>
-    requires { AreChildren K.cmp (seen T.tree row.built) }
-    ensures { IfOk result (λ made. option_map T.tree made
-        ≡ solid_child (T.Prefix.items prefix) value (seen T.tree row.built)) }
-{
-    finish_in::<K, V, T>(alloc, prefix, value, row.finish())
-}
-
-/// The node of these parts as a child. A prefix that stays is moved.
+/// The node of these parts as a child, once no event is left. A prefix that stays is moved.
 fn finish_in<K: TKey, V: TValue, T: Build<K, V>>(
     alloc: Global,
     prefix: T::Prefix,
@@ -478,7 +383,6 @@ fn finish_in<K: TKey, V: TValue, T: Build<K, V>>(
 /// Changes a tree without the first `i` components of its prefix, by another one without the first
 /// `j` of its own: `None` where no key is left. The first `known` components that are left of
 /// either prefix are known to agree.
-#[tactic(auto, using(crate::proofs::Stepping::room_kept))]
 pub fn change_at<
     K: TKey,
     V: TValue,
@@ -508,25 +412,26 @@ pub fn change_at<
         prefix,
         value,
         below,
-        mut row,
+        mut left,
         from,
         mut right,
+        mut kids,
     } = begin(alloc, tree, i, that, j, known, op)?;
-    while let Some(side) = next_side(&row, from, &right) {
+    while let Some(side) = next_side(&left, from, &right) {
         match side {
             Side::Left => {
-                stay::<K, V, W, B, T, O>(alloc, &mut row, from, &below)?;
+                stay::<K, V, W, B, T, O>(alloc, &mut left, from, &below, &mut kids)?;
             }
             Side::Right => {
-                come::<K, V, W, B, T, O>(alloc, &mut row, &mut right, &below)?;
+                come::<K, V, W, B, T, O>(alloc, &mut right, &below, &mut kids)?;
             }
             Side::Both => {
-                let (x, y) = next(&mut row, &mut right);
+                let (x, y) = (pop(&mut left), right.next());
                 let kid = change_at(alloc, x, from, y, right.from, 1, &below)?;
-                keep(&mut row, kid);
+                keep(&mut kids, kid)?;
             }
         }
     }
-    let made = close::<K, V, T>(alloc, prefix, value, row)?;
+    let made = finish_in::<K, V, T>(alloc, prefix, value, kids)?;
     Ok(made)
 }

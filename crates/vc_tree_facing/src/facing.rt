@@ -52,17 +52,6 @@ impl<'a, T> Below<'a, T> {
         }
     }
 
-    /// The same trees, to be gone through beside these.
-    pub fn again(&self) -> Below<'a, T>
-        ensures { result ≡ self.now }
-    {
-        Below {
-            whole: self.whole,
-            children: self.children,
-            from: self.from,
-        }
-    }
-
     /// Trees of a list, each without its first `from` components.
     pub fn row(trees: &'a [T], from: usize) -> Self
         ensures trees { trees_below result ≡ trees.now }
@@ -252,6 +241,15 @@ pub fn count_below<K: TKey, V: TValue, T: RadixNode<K, V>>(below: &Below<'_, T>)
         Some(_) => 1,
         None => below.children.len(),
     }
+}
+
+/// For how many trees to make room that come of two lists of these lengths: those of the longer
+/// list, and half of the other one, whose trees may meet with them.
+pub fn expected(left: usize, right: usize) -> usize
+    ensures { result ≤ left + right }
+{
+    let (shorter, longer) = (left.min(right), left.max(right));
+    longer.saturating_add(shorter.div_ceil(2))
 }
 
 /// How a tree of the right side stands to one of the left, by the components at these places of

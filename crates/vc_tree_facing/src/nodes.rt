@@ -1,7 +1,8 @@
 //! The nodes where the prefixes of two trees part: the value there, and the node that is made of it
 //! and of what was made below.
 
-ghost use Rattle.std.specs.Prelude.{◌≡◌, ◌≤◌, IfOk, drop, length, option_map};
+ghost use Rattle.std.specs.Prelude.{◌≡◌, ◌≤◌, ◌++◌, [], IfOk, drop, length, map, option_map};
+ghost use Rattle.std.specs.List.{cons_option};
 ghost use Rattle.std.specs.Option.{option_copied};
 ghost use Rattle.vc_tree_model.specs.Tree.{shortened};
 ghost use Rattle.vc_tree_model.specs.Canonical.{AreChildren};
@@ -50,4 +51,19 @@ pub fn finish<K: TKey, V: TValue, M: Build<K, V>>(
         };
     }
     Ok(Some(new_node(alloc, prefix, value, kids)?))
+}
+
+/// Adds a tree, if there is one.
+#[inline(always)]
+pub fn keep<K: TKey, V: TValue, M: Build<K, V>>(
+    kids: &mut Vec<M>,
+    kid: Option<M>,
+) -> Result<(), AllocError>
+    ensures { IfOk result (λ _. map M.tree kids.new.items
+        ≡ map M.tree kids.old.items ++ cons_option (option_map M.tree kid) []) }
+{
+    if let Some(kid) = kid {
+        kids.push(kid)?;
+    }
+    Ok(())
 }
