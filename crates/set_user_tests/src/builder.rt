@@ -3,11 +3,10 @@
 
 use crate::nth::Nth;
 use crate::outcomes::{holds, same};
-use smallvec::SmallVec;
 use std::alloc::{AllocError, Global};
 use std::rc::Rc;
 use std::test::*;
-use vc_builder::inplace::{InPlace, close, open};
+use vc_builder::inplace::InPlace;
 
 /// Builds in front of what is left of a list: the room that is left on the way, and what was built.
 fn build(alloc: Global) -> Result<([usize; 2], Vec<u32>), AllocError> {
@@ -50,34 +49,6 @@ fn is_shown(alloc: Global) -> Result<bool, AllocError> {
 #[test]
 fn shows_what_is_left(rt: HostRuntime) {
     holds(&rt, &"the text", is_shown(rt.alloc()));
-}
-
-/// Builds in a small list, and says whether that was empty meanwhile.
-fn build_small(list: &mut SmallVec<u32, 2>) -> Result<bool, AllocError> {
-    if list.len() != 2 {
-        return Ok(false);
-    }
-    let mut both = open(list, 1)?;
-    let is_empty = list.is_empty();
-    both.take(1);
-    both.push(2);
-    both.take(1);
-    close(list, both);
-    Ok(is_empty)
-}
-
-/// Whether 2 is built between 1 and 3 in a small list, which is empty meanwhile.
-fn builds_small(alloc: Global) -> Result<bool, AllocError> {
-    let mut list: SmallVec<u32, 2> = SmallVec::new(alloc);
-    list.push(1)?;
-    list.push(3)?;
-    let is_empty = build_small(&mut list)?;
-    Ok(is_empty && list.as_slice() == [1, 2, 3].as_slice())
-}
-
-#[test]
-fn goes_from_a_small_list_and_back(rt: HostRuntime) {
-    holds(&rt, &"the lists", builds_small(rt.alloc()));
 }
 
 /// A list of clones of a count.
@@ -185,27 +156,5 @@ fn takes_memory_twice_and_at_the_start(rt: HostRuntime) {
     let memory = Nth::new(rt.alloc(), 0);
     for (number, outcome) in REFUSED {
         same(&rt, &number, &finish(&memory, number), &Ok(outcome));
-    }
-}
-
-/// Makes a builder of a list of two numbers in place, where the request of that number is refused.
-/// Says whether it was made, and whether that request had come.
-fn open_in_place(memory: &Nth<Global>, number: u64) -> Result<(bool, bool), AllocError> {
-    let mut list: SmallVec<u32, 2, &Nth<Global>> = SmallVec::new(memory);
-    list.push(1)?;
-    list.push(2)?;
-    memory.refuse(number);
-    let is_granted = match open(&mut list, 3) {
-        Ok(both) => both.finish().len() == 0,
-        Err(_) => list.len() != 2,
-    };
-    Ok((is_granted, memory.is_done()))
-}
-
-#[test]
-fn takes_no_memory_for_the_way_from_a_list_in_place(rt: HostRuntime) {
-    let memory = Nth::new(rt.alloc(), 0);
-    for (number, outcome) in REFUSED {
-        same(&rt, &number, &open_in_place(&memory, number), &Ok(outcome));
     }
 }

@@ -1,6 +1,4 @@
 pub mod BlockSteps
-pub mod BuilderTakes
 pub mod PlacesLaid
 pub mod PlacesMemory
-pub mod PlacesShared
 pub mod WalkNames

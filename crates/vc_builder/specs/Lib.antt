@@ -3,4 +3,3 @@ pub mod Builder
 pub mod BuilderLends
 pub mod Places
 pub mod PlacesLend
-pub mod PlacesOwned

@@ -4,16 +4,11 @@ ghost use Rattle.std.specs.Borrow.{sem};
 ghost use Rattle.vc_builder.specs.Builder.{builder};
 
 use block::Block;
-use source::Source;
 use std::alloc::{AllocError, Allocator};
 use std::marker::Model;
 
 mod block;
 mod places;
-mod small;
-mod source;
-
-pub use small::{close, open};
 
 /// A list that is built out of another one: its elements are taken over from the front, dropped or
 /// handed out, and new ones are put between.
@@ -74,19 +69,7 @@ impl<T, A: Allocator> InPlace<T, A> {
         ensures err { OnErr result (list.new ≡ list.old) }
     {
         let alloc = *list.allocator();
-        Self::made_of(alloc, list, extra)
-    }
-
-    /// The same of any list, with memory of `alloc`.
-    fn made_of<L: Source<T>>(alloc: A, list: &mut L, extra: usize) -> Result<Self, AllocError>
-    where
-        T: Drop,
-        A: Copy,
-        ensures ok { IfOk result (λ s. s ≡ builder [] (L.items list.old) extra) }
-        ensures emptied { OnOk result (L.items list.new ≡ []) }
-        ensures err { OnErr result (list.new ≡ list.old) }
-    {
-        let count = list.count();
+        let count = list.len();
         if usize::MAX - count < extra {
             return Err(AllocError);
         }
@@ -140,17 +123,6 @@ impl<T, A: Allocator> InPlace<T, A> {
         Some(self.block.take_rest())
     }
 
-    /// Hands out the first element that is left, which makes room for one more. The caller owes
-    /// that there is one.
-    pub fn pop_first(&mut self) -> T
-        requires { 0 < length self.old.rest }
-        ensures value { self.old.rest ≡ result ∷ drop 1 self.old.rest }
-        ensures others { self.new ≡ builder self.old.built (drop 1 self.old.rest)
-            (self.old.room + 1) }
-    {
-        self.block.take_rest()
-    }
-
     /// Moves the first `n` elements that are left to the end of the built ones.
     pub fn take(&mut self, n: usize)
         requires { n ≤ length self.old.rest }
@@ -171,9 +143,7 @@ impl<T, A: Allocator> InPlace<T, A> {
         requires { n ≤ length self.old.rest }
         ensures { self.new ≡ builder self.old.built (drop n self.old.rest) (self.old.room + n) }
     {
-        for dropped in 0..n {
-            drop(self.pop_first());
-        }
+        self.block.drop_rest(n);
     }
 
     /// Puts an element behind the built ones.
@@ -195,7 +165,8 @@ impl<T, A: Allocator> InPlace<T, A> {
             mut block,
             mut finished,
         } = self;
-        block.drop_rest();
+        let left = block.capacity - block.start;
+        block.drop_rest(left);
         block.pour(&mut finished);
         block.destroy_empty();
         finished

@@ -5,7 +5,6 @@ ghost use Rattle.vc_builder.specs.Builder.{builder};
 ghost use Rattle.vc_builder.specs.Block.{block_built, block_rest, block_view, IsBlock, Becomes};
 
 use super::places::{Base, Deed, Places, allocate, deallocate};
-use super::source::Source;
 use std::alloc::{AllocError, Allocator};
 use std_alloc::room::may_hold;
 
@@ -44,7 +43,7 @@ impl<T, A: Allocator> Block<T, A> {
 
     /// Gives an empty block back.
     pub(super) fn destroy_empty(self)
-        requires { IsBlock self × (block_built self ≡ []) × (block_rest self ≡ []) }
+        requires { IsBlock self × (block_view self ≡ builder [] [] self.capacity) }
     {
         let Block {
             base,
@@ -111,12 +110,9 @@ impl<T, A: Allocator> Block<T, A> {
             (block_built self.old ++ take count (block_rest self.old))
             (drop count (block_rest self.old)) (self.old.start - self.old.built)) }
     {
-        let (built, start) = (self.built, self.start);
-        self.built += count;
-        self.start += count;
         for moved in 0..count {
-            let value = self.places.read(self.base, start + moved);
-            self.places.write(self.base, built + moved, value);
+            let value = self.take_rest();
+            self.put_built(value);
         }
     }
 
@@ -129,27 +125,27 @@ impl<T, A: Allocator> Block<T, A> {
     }
 
     /// Moves the elements of `list` to those that are left.
-    pub(super) fn fill<L: Source<T>>(&mut self, list: &mut L)
+    pub(super) fn fill(&mut self, list: &mut Vec<T, A>)
         requires { IsBlock self.old × (block_built self.old ≡ []) × (block_rest self.old ≡ [])
-            × (length (L.items list.old) ≤ self.old.capacity) }
+            × (length list.old.items ≤ self.old.capacity) }
         ensures after { Becomes self.old self.new
-            (builder [] (L.items list.old) (self.old.capacity - length (L.items list.old))) }
-        ensures emptied { L.items list.new ≡ [] }
+            (builder [] list.old.items (self.old.capacity - length list.old.items)) }
+        ensures emptied { list.new.items ≡ [] }
     {
-        for moved in 0..list.count() {
-            self.put_rest(list.take_out());
+        for moved in 0..list.len() {
+            self.put_rest(list.take_last());
         }
     }
 
-    /// Drops those that are left.
-    pub(super) fn drop_rest(&mut self)
+    /// Drops the first `count` of those that are left.
+    pub(super) fn drop_rest(&mut self, count: usize)
     where
         T: Drop,
-        requires { IsBlock self.old }
-        ensures { IsBlock self.new × (self.new.capacity ≡ self.old.capacity)
-            × (block_built self.new ≡ block_built self.old) × (block_rest self.new ≡ []) }
+        requires { IsBlock self.old × (self.old.start + count ≤ self.old.capacity) }
+        ensures { Becomes self.old self.new (builder (block_built self.old)
+            (drop count (block_rest self.old)) (self.old.start - self.old.built + count)) }
     {
-        for dropped in self.start..self.capacity {
+        for dropped in 0..count {
             drop(self.take_rest());
         }
     }
@@ -158,12 +154,13 @@ impl<T, A: Allocator> Block<T, A> {
     pub(super) fn pour(&mut self, list: &mut Vec<T, A>)
         requires { IsBlock self.old × (block_rest self.old ≡ [])
             × (vec_len list.old + self.old.capacity ≤ vec_capacity list.old) }
-        ensures block { IsBlock self.new × (block_built self.new ≡ [])
-            × (block_rest self.new ≡ []) }
+        ensures block { Becomes self.old self.new (builder [] [] self.old.capacity) }
         ensures items { list.new.items ≡ list.old.items ++ block_built self.old }
     {
         let count = self.built;
         self.built = 0;
-        self.places.move_front(self.base, count, list);
+        for i in 0..count {
+            list.push_reserved(self.places.read(self.base, i));
+        }
     }
 }

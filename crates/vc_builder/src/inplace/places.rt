@@ -5,8 +5,8 @@ ghost use Rattle.std.specs.Borrow.{sem};
 ghost use Rattle.std.specs.Vec.Ownership.{FitsInBlock};
 ghost use base.Fml.{ftrue};
 ghost use denote.RawPtr.{Ptr};
-ghost use Rattle.vc_builder.specs.Places.{values, IsFilled, IsRun};
-ghost use Rattle.vc_builder.specs.PlacesOwned.{places_owned, places_lent, deed_owned};
+ghost use Rattle.circular_buffer.specs.Places.{somes, IsFilled, IsRun};
+ghost use Rattle.circular_buffer.specs.Ownership.{cells_own, cells_lent, deed_owns};
 
 use std::alloc::{AllocError, Allocator};
 use std::marker::{Model, PhantomData};
@@ -38,9 +38,9 @@ pub struct Places<T> {
 }
 
 impl<T> Model for Places<T> {
-    ghost also_owns = { λ p. places_owned T.row p.at p.row };
+    ghost also_owns = { λ p. cells_own T.row p.at p.row };
 
-    ghost also_shares = { λ p _ κ. places_lent T.row p.at p.row κ };
+    ghost also_shares = { λ p _ κ. cells_lent T.row p.at p.row κ };
 }
 
 /// The right to give a block of `count` places back to the allocator. It takes no space.
@@ -52,7 +52,7 @@ pub struct Deed<T, A: Allocator> {
 }
 
 impl<T, A: Allocator> Model for Deed<T, A> {
-    ghost also_owns = { λ d. deed_owned T.row (A.dealloc_token d.alloc) d.at d.count };
+    ghost also_owns = { λ d. deed_owns T.row (A.dealloc_token d.alloc) d.at d.count };
 
     ghost also_shares = { λ _ _ _. ftrue };
 }
@@ -124,7 +124,7 @@ impl<T> Places<T> {
     /// The `count` values from the place `from` on.
     pub(crate) fn slice(&self, base: Base<T>, from: usize, count: usize) -> &[T]
         requires { (base.ptr ≡ self.now.at) × IsRun self.now.row from count }
-        ensures { take count (drop from self.now.row) ≡ map Some result.now }
+        ensures { result.now ≡ somes (take count (drop from self.now.row)) }
     {
         unsafe { slice::from_raw_parts(base.ptr.add(from), count) }
     }
@@ -133,27 +133,8 @@ impl<T> Places<T> {
     pub(crate) fn slice_mut(&mut self, base: Base<T>, from: usize, count: usize) -> &mut [T]
         requires { (base.ptr ≡ self.old.at) × IsRun self.old.row from count }
         ensures* writes_back { sem 𝓛 (lends_run T.row self.entry from count result) }
-        ensures value { take count (drop from self.old.row) ≡ map Some result.now }
+        ensures value { result.now ≡ somes (take count (drop from self.old.row)) }
     {
         unsafe { slice::from_raw_parts_mut(base.ptr.add(from), count) }
-    }
-
-    /// Moves the first `count` values to the end of `list`.
-    pub(crate) fn move_front<A: Allocator>(
-        &mut self,
-        base: Base<T>,
-        count: usize,
-        list: &mut Vec<T, A>,
-    )
-        requires within { (base.ptr ≡ self.old.at) × (count ≤ length self.old.row) }
-        requires room { vec_len list.old + count ≤ vec_capacity list.old }
-        requires filled { (p : ℕ) → p < count → IsFilled self.old.row p }
-        ensures places { (self.new.at ≡ self.old.at)
-            × (self.new.row ≡ replicate count None ++ drop count self.old.row) }
-        ensures items { list.new.items ≡ list.old.items ++ values (take count self.old.row) }
-    {
-        for i in 0..count {
-            list.push_reserved(self.read(base, i));
-        }
     }
 }

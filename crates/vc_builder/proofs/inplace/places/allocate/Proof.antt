@@ -33,8 +33,9 @@ use Rattle.core.proofs.slots.Leases.{block_ty, block_size, block_align, args, P}
 use Rattle.std_alloc.proofs.VecSteps.Shapes.{after, head, arm_body}
 use Rattle.std_alloc.proofs.ResultValues.{ok_of, err_of}
 use Rattle.std_alloc.proofs.RcSteps.{first_Good, Good as Whole}
-use Rattle.vc_builder.specs.PlacesOwned.{row_owned}
-use Rattle.vc_builder.proofs.PlacesMemory.{Row, Start, Mark, bytes, mark, mark-made, word-made, three_val, three-made, of-room}
+use Rattle.circular_buffer.specs.Ownership.{slots}
+use Rattle.vc_builder.proofs.PlacesMemory.{Row, Start, Mark, bytes}
+use Rattle.circular_buffer.proofs.Memory.{mark, mark_made, word_made, three_val, three_of, of_room}
 use Rattle.vc_builder.specs.contracts.inplace.places.Deed as deeds
 use Rattle.vc_builder.specs.contracts.inplace.places.allocate.{ended, clauses}
 use Rattle.vc_builder.specs.contracts.inplace.places.allocate.Key.{name as #self}
@@ -131,13 +132,13 @@ allocate_spec 𝓤 𝓛 𝓜 𝓡 wired X W LX LW g d dd met md =
     sets_last ! (agg ! (and_then ! (lit ! tt) (and_then ! (get ! refl) (no_more !)))) refl ok $
     exec ! 𝓣.C 𝓣.Λ Ev (after 3 fn.body) (at_ret Ev Post) $ sets ! (of_opd ! (get ! refl)) refl ok $
     -- [the room; the right to free it; ..], and the three parts are made of them
-    move ! (1 ∷ []) $ use0 𝓛 (‵ ((Mark E).own_val (tt, tt) (mark ∷ []))) (mark-made E 𝓛) $ fjoin ! $ move ! (1 ∷ []) $
-    as_written ! (ty_array (elτ E) count) b o $ use1 𝓛 (‵ (row_owned (R E) b o row.row)) (of-room E 𝓛 b count o) $
+    move ! (1 ∷ []) $ use0 𝓛 (‵ ((Mark E).own_val (tt, tt) (mark ∷ []))) (mark_made E 𝓛) $ fjoin ! $ move ! (1 ∷ []) $
+    as_written ! (ty_array (elτ E) count) b o $ use1 𝓛 (‵ (slots (R E) b o row.row)) (of_room E 𝓛 b count o) $
     flt_i ! (length row.row * s) (2 ^ 63) (subst (λ k. k * s < 2 ^ 63) (sym (length-replicate count None)) small) $
     fjoin ! $
-    use0 𝓛 (‵ ((Mark E).own_val (tt, tt) (mark ∷ []))) (mark-made E 𝓛) $ fjoin ! $ word-made ! p $
+    use0 𝓛 (‵ ((Mark E).own_val (tt, tt) (mark ∷ []))) (mark_made E 𝓛) $ fjoin ! $ word_made ! p $
     use3 𝓛 (‵ (Three.own_val (start, row, title) (made ∷ [])))
-    (three-made 𝓛 (Start E) (Row E) Title start row title (word p) mark mark) $
+    (three_of 𝓛 (Start E) (Row E) Title start row title (word p) mark mark) $
     use1 𝓛 (‵ (Out.own_val (Ok (start, row, title)) (live 0 (vcons made vnil) ∷ [])))
     (ok_of 𝓛 Three errors.the_row (start, row, title) made) $
     returns ! (look_at ! 0 refl) $ free_all ! refl $ keep ! (0 ∷ 1 ∷ 2 ∷ []) $

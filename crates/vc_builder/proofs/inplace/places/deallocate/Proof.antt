@@ -18,8 +18,9 @@ use denote.Triple.Call.{calls_at_last}
 use denote.Triple.Table.{framed}
 use Rattle.core.proofs.alloc.Calls.{Al, token, Gives, at_gives, Gives-goes, Gives-Gives, Goes-blank}
 use Rattle.core.proofs.slots.Leases.{block_ty, block_size, block_align, args, P}
-use Rattle.vc_builder.specs.PlacesOwned.{places_owned, deed_owned}
-use Rattle.vc_builder.proofs.PlacesMemory.{Row, Start, bytes, mark, mark-had, word-had, to-room}
+use Rattle.circular_buffer.specs.Ownership.{cells_own, deed_owns}
+use Rattle.vc_builder.proofs.PlacesMemory.{Row, Start, bytes}
+use Rattle.circular_buffer.proofs.Memory.{mark, mark_had, word_had, to_room}
 use Rattle.vc_builder.specs.contracts.inplace.places.Deed as deeds
 use Rattle.vc_builder.specs.contracts.inplace.places.deallocate.{ended, clauses}
 use Rattle.vc_builder.specs.contracts.inplace.places.deallocate.Key.{name as #self}
@@ -78,10 +79,10 @@ deallocate_spec 𝓤 𝓛 𝓜 𝓡 wired X W LX LW g d dd met md =
     move ! (1 ∷ 2 ∷ 3 ∷ []) $ heard ! (κ₁ ⊑ X.lives)
     (λ _. heard ! (κ₂ ⊑ W.lives) (λ within. heard ! Asked (λ asked. split ! $ split ! $ move ! (2 ∷ []) $
     fsplit3 ! $ fsplit ! $ feq_l ! (λ at_alloc. move ! (1 ∷ []) $
-    word-had ! base.ptr vss.1.0 (λ at_base. move ! (1 ∷ []) $ fsplit3 ! $ fsplit ! $
+    word_had ! base.ptr vss.1.0 (λ at_base. move ! (1 ∷ []) $ fsplit3 ! $ fsplit ! $
     feq_l ! (λ at_count. flt_l ! (λ small_count.
-    fsplit ! $ mark-had ! E vss.1.1.1.0 (λ at_row. move ! (1 ∷ []) $ fsplit ! $ fsplit ! $
-    mark-had ! E vss.1.1.1.1.0 (λ at_title. keep ! (2 ∷ 0 ∷ 3 ∷ 4 ∷ 5 ∷ []) $
+    fsplit ! $ mark_had ! E vss.1.1.1.0 (λ at_row. move ! (1 ∷ []) $ fsplit ! $ fsplit ! $
+    mark_had ! E vss.1.1.1.1.0 (λ at_title. keep ! (2 ∷ 0 ∷ 3 ∷ 4 ∷ 5 ∷ []) $
     suffices ! (Run us) (subst (λ (ws : List Val). ent 𝓤 (Run us) (Run ws))
     (sym (λ i. at_alloc i ++ (at_base i ++ (at_count i ++ (at_row i ++ (at_title i ++ [])))))) (id⊢ 𝓤 (Run us))) $
     -- [the places; the right to free them; the `&` to the allocator; the token; the other tokens]
@@ -91,16 +92,16 @@ deallocate_spec 𝓤 𝓛 𝓜 𝓡 wired X W LX LW g d dd met md =
       (word-Good [] base.ptr, ((tt, record { fits = small_count }), ((tt, (tt, tt)), ((tt, (tt, tt)), tt)))),
     ) $
     let Ev : Env 𝓤 H = env fn.locals l in let alignment : ℕ = capped (align (elτ E)) in
-    rewrite ! 0 (λ (p : Ptr × List (Option X.Denot)). ‵ (places_owned (R E) p.0 p.1))
+    rewrite ! 0 (λ (p : Ptr × List (Option X.Denot)). ‵ (cells_own (R E) p.0 p.1))
     (λ i. (asked.0 i, asked.1 i)) refl $
-    in_a_block ! base.ptr (λ p. places_owned (R E) p (replicate count None)) (id⊢ 𝓤 (never 𝓤)) (λ b o at. fsplit ! $
+    in_a_block ! base.ptr (λ p. cells_own (R E) p (replicate count None)) (id⊢ 𝓤 (never 𝓤)) (λ b o at. fsplit ! $
     flt_l ! (λ few.
     let small : count * s < 2 ^ 63 = subst (λ k. k * s < 2 ^ 63) (length-replicate count None) few in
     let fit : count * s < 2 ^ 64 = omega arith in
     let y : Request.Ghost = at_gives Z 𝓛 𝓜.mem 𝓡.returns κ q (rb, ro) a b o (count * s) alignment (block_ty E count) in
-    rewrite ! 1 (λ (t : W.Denot × Ptr × ℕ). ‵ (deed_owned (R E) (token Z t.0) t.1 t.2))
+    rewrite ! 1 (λ (t : W.Denot × Ptr × ℕ). ‵ (deed_owns (R E) (token Z t.0) t.1 t.2))
     (λ i. (asked.4 i, (asked.2 ∙ at) i, asked.3 i)) refl $
-    use1 𝓛 (‵ (froom (ty_array (elτ E) count) b o)) (to-room E 𝓛 b count o) $ as_raw ! (ty_array (elτ E) count) b o $
+    use1 𝓛 (‵ (froom (ty_array (elτ E) count) b o)) (to_room E 𝓛 b count o) $ as_raw ! (ty_array (elτ E) count) b o $
     first ! $ blocks ! $
     sets ! (is ! (of_opd ! (get_in ! (fld ! refl (stop !)) (sub ! 0 refl (whole !)))) (ap ptr_val at)) refl (tt, tt) $
     sets ! (is ! (bin ! (get ! refl) (size_word !)

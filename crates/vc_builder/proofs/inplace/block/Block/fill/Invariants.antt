@@ -6,6 +6,6 @@ abbrev pub invariant-loop-moved : goal.invariant-loop-moved
 invariant-loop-moved g l = record {
   block : IsBlock l.self;
   same : (l.self.capacity ≡ l.fn.self.capacity) × (block_built l.self ≡ []);
-  count : length (g.L.Source.items l.list) + l.moved ≡ length (g.L.Source.items l.fn.list);
-  items : g.L.Source.items l.list ++ block_rest l.self ≡ g.L.Source.items l.fn.list;
+  count : length l.list.items + l.moved ≡ length l.fn.list.items;
+  items : l.list.items ++ block_rest l.self ≡ l.fn.list.items;
 }

@@ -1,13 +1,20 @@
-use Rattle.std.proofs.Common.{rules, sym}
-use Rattle.vc_builder.proofs.BlockSteps.{first-left, rest-taken}
+use Rattle.std.proofs.Common.{◌+◌, ◌-◌, drop, refl, sym, ap, ◌∙◌, arith, length}
+use Rattle.vc_builder.specs.Block.{block_built, block_rest}
+use Rattle.vc_builder.proofs.BlockSteps.{rest-first, settled}
 use Rattle.vc_builder.proofs.inplace.block.Block.take_rest.Goals as goal
 
 pub read-requires : goal.read-requires
-read-requires g c = let first = first-left c.args.self.now c.requires.0 c.requires.1 in
-    (sym c.requires.0.owns.0, (first.0, first.2))
+read-requires g c = let h = c.requires.0 in let first = rest-first c.args.self.now h c.requires.1 in
+    (sym h.owns.0, (first.0, first.1.1.0))
 
 pub returns-clause-value : goal.returns-clause-value
-returns-clause-value g c = search (rules, first-left)
+returns-clause-value g c = let first = rest-first c.args.self.now c.requires.0 c.requires.1 in (cc)
 
 pub returns-clause-after : goal.returns-clause-after
-returns-clause-after g c = rest-taken c.args.self.now c.requires.0 c.requires.1 c.read.new.self c.read.ensures.1 c.read.ensures.2
+returns-clause-after g c =
+    let b = c.args.self.now in let h = c.requires.0 in let counts = h.counts in let read = c.read.ensures in
+    let first = rest-first b h c.requires.1 in let fewer = ap length first.1.0 in (
+      refl,
+      settled _ (block_built b) (b.start - b.built + 1) (drop 1 (block_rest b)) (read.1 ∙ h.owns.0, h.owns.1) (omega arith)
+          (omega arith) (omega arith) (read.2 ∙ first.1.1.1),
+    )

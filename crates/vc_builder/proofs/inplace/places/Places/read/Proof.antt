@@ -12,10 +12,11 @@ use Rattle.vc_builder.proofs.WalkNames.{in_a_block, plain, types_at, nothing, he
 use Rattle.vc_builder.proofs.WalkNames.{stay_dropped, stay_ref, walk_of, ends_at, Goes-dropped, Goes-ref, Option}
 use Rattle.vc_builder.proofs.WalkNames.{None, proved_at, tail, El, R, elτ, Good, times_below, one_below, as_raw, word}
 use Rattle.vc_builder.proofs.WalkNames.{word-Good}
-use Rattle.vc_builder.specs.Places.{IsFilled}
+use Rattle.circular_buffer.specs.Places.{IsFilled}
 use Rattle.vc_builder.specs.PlacesLend.{with_row}
-use Rattle.vc_builder.specs.PlacesOwned.{place_owned, row_owned, places_owned}
-use Rattle.vc_builder.proofs.PlacesMemory.{Row, Start, bytes, word-had, value-out, filled-within, Around, place-out, place-in}
+use Rattle.circular_buffer.specs.Ownership.{slot, slots, cells_own}
+use Rattle.vc_builder.proofs.PlacesMemory.{Row, Start, bytes}
+use Rattle.circular_buffer.proofs.Memory.{word_had, value_out, filled_within, Besides, slot_out, slot_in}
 use Rattle.vc_builder.specs.contracts.inplace.places.Places.read.{ended, clauses}
 use Rattle.vc_builder.specs.contracts.inplace.places.Places.read.Key.{name as #self}
 use Rattle.vc_builder.proofs.inplace.places.Places.read.Statement.{statement}
@@ -51,8 +52,8 @@ read_spec 𝓤 𝓛 𝓜 𝓡 wired X L =
     (fact 𝓤 (κ₁ ⊑ X.lives)) ∷ raw (fact 𝓤 Asked) ∷ []) ∵
     move ! (1 ∷ 2 ∷ []) $ heard ! (κ₁ ⊑ X.lives) (λ _. heard ! Asked (λ asked. split ! $ split ! $ move ! (2 ∷ []) $
     let x : X.Denot = asked.1.0 in let filled = asked.1.1 in
-    let within : index < length d.row = filled-within d.row index x filled in
-    fsplit ! $ fsplit3 ! $ feq_l ! (λ at_self. move ! (2 ∷ []) $ fsplit ! $ word-had ! base.ptr vss.1.0 (λ at_base.
+    let within : index < length d.row = filled_within d.row index x filled in
+    fsplit ! $ fsplit3 ! $ feq_l ! (λ at_self. move ! (2 ∷ []) $ fsplit ! $ word_had ! base.ptr vss.1.0 (λ at_base.
     fsplit ! $ fsplit ! $ feq_l ! (λ at_index. flt_l ! (λ small_index. keep ! (1 ∷ 2 ∷ 3 ∷ 4 ∷ []) $
     suffices ! (Run us) (subst (λ (ws : List Val). ent 𝓤 (Run us) (Run ws))
     (sym (λ i. at_self i ++ (at_base i ++ (at_index i ++ [])))) (id⊢ 𝓤 (Run us))) $
@@ -61,7 +62,7 @@ read_spec 𝓤 𝓛 𝓜 𝓡 wired X L =
     (λ l. pass_all ! refl ((tt, tt), (word-Good [] base.ptr, ((tt, record { fits = small_index }), tt))) $
     let Ev : Env 𝓤 H = env fn.locals l in
     opens ! tt (Row E) {h = d} rb ro (λ vs. move ! (1 ∷ []) $ fsplit ! $ move ! (1 ∷ []) $
-    in_a_block ! d.at (λ p. places_owned (R E) p d.row) (id⊢ 𝓤 (never 𝓤)) (λ b o at. fsplit ! $ flt_l ! (λ fit.
+    in_a_block ! d.at (λ p. cells_own (R E) p d.row) (id⊢ 𝓤 (never 𝓤)) (λ b o at. fsplit ! $ flt_l ! (λ fit.
     let tiny : s < 2 ^ 64 = omega (arith, one_below (length d.row) s (2 ^ 63) (omega arith) fit) in
     let far : index * s < 2 ^ 64 = omega (arith, times_below index (length d.row) s (2 ^ 63) (omega arith) fit) in
     let place : ℕ = index * s + o in
@@ -72,11 +73,11 @@ read_spec 𝓤 𝓛 𝓜 𝓡 wired X L =
       record { fits = far },
     ) $
     sets ! (bin ! (get_in ! (fld ! refl (stop !)) (sub ! 0 refl (whole !))) (get ! refl) tt) refl (tt, tt) $
-    use1 𝓛 (‵ (place_owned (R E) b place (get_or d.row index None)) ⊛ ‵ (Around E 𝓛 b o d.row index 1))
-    (place-out E 𝓛 b o d.row index within) $ split ! $
-    rewrite ! 0 (λ (cell : Option X.Denot). ‵ (place_owned (R E) b place cell)) filled refl $
+    use1 𝓛 (‵ (slot (R E) b place (get_or d.row index None)) ⊛ ‵ (Besides E 𝓛 b o d.row index))
+    (slot_out E 𝓛 b o d.row index within) $ split ! $
+    rewrite ! 0 (λ (cell : Option X.Denot). ‵ (slot (R E) b place cell)) filled refl $
     use1 𝓛 (some (λ (v : Val). given (Good E v) (‵ (fat full_share (elτ E) b place v) ⊛ ‵ (E.row.own_val x (v ∷ [])))))
-    (value-out E 𝓛 x b place) $
+    (value_out 0 E.row E.laws 𝓛 x b place) $
     pick ! (λ v. learn ! (λ good. split ! $
     sets_last ! (of_opd ! (load ! (through ! refl (stop !)) (look ! 0 refl))) refl good $
     exec ! 𝓣.C 𝓣.Λ Ev (tail fn.body) (at_ret Ev Post) $ sets ! (of_opd ! (get ! refl)) refl good $
@@ -84,10 +85,10 @@ read_spec 𝓤 𝓛 𝓜 𝓡 wired X L =
     move ! (0 ∷ 2 ∷ 3 ∷ 4 ∷ 5 ∷ 6 ∷ 7 ∷ []) $
     -- [the room; the other places; the mark; its cell; the open borrow, in three; what the value owns; the other
     -- tokens]
-    use2 𝓛 (‵ (row_owned (R E) b o new.row)) (place-in E 𝓛 b o d.row index within None) $
+    use2 𝓛 (‵ (slots (R E) b o new.row)) (slot_in E 𝓛 b o d.row index within None) $
     flt_i ! (length new.row * s) (2 ^ 63) (subst (λ k. k * s < 2 ^ 63) (sym (length-set d.row index None)) fit) $
     fjoin ! $
-    rewrite ! 0 (λ (p : Ptr). ‵ (places_owned (R E) p new.row)) (sym at) refl $ move ! (1 ∷ 0 ∷ []) $ fjoin ! $
+    rewrite ! 0 (λ (p : Ptr). ‵ (cells_own (R E) p new.row)) (sym at) refl $ move ! (1 ∷ 0 ∷ []) $ fjoin ! $
     move ! (1 ∷ 0 ∷ []) $ closes ! tt (Row E) new vs rb ro $
     returns ! (look_at ! 0 refl) $ free_all ! refl $ keep ! (0 ∷ 1 ∷ 2 ∷ 3 ∷ 4 ∷ []) $
     suffices ! _ (ends_at 𝓛 Ends hs c z v x (new, (tt, (tt, tt))) (tt, (tt, (tt, tt)))) $ says ! (filled, refl, refl) $

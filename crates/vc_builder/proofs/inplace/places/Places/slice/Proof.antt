@@ -1,4 +1,4 @@
--- `slice` shows a run of values that the places lend. Assumes `Logic`.
+-- `slice` shows a run of somes that the places lend. Assumes `Logic`.
 use Rattle.vc_builder.proofs.WalkNames.{ !, ◌≡◌, refl, sym, ap, subst, ◌∙◌, List, [], ◌∷◌, ◌++◌, ℕ, ◌+◌, ◌*◌, ◌<◌, ◌^◌}
 use Rattle.vc_builder.proofs.WalkNames.{arith, length, drop_l, length-take, length-drop, full_share, SProp, ent}
 use Rattle.vc_builder.proofs.WalkNames.{never, id⊢, Lft, Share, ftrue, fat, flft, w64, a_type, inst_fn, Val, vptr}
@@ -11,9 +11,11 @@ use Rattle.vc_builder.proofs.WalkNames.{tables, ◌⊑◌, RefOf, usize, yes, no
 use Rattle.vc_builder.proofs.WalkNames.{in_a_block, plain, types_at, slice_val, elements_shared, nothing, heard, says}
 use Rattle.vc_builder.proofs.WalkNames.{Stays, stay_dropped, walk_of, ends_at, Goes-dropped, Some, length-map}
 use Rattle.vc_builder.proofs.WalkNames.{proved_at, tail, El, R, times_below, uncapped, word, word-Good}
-use Rattle.vc_builder.specs.Places.{IsRun}
-use Rattle.vc_builder.specs.PlacesOwned.{places_lent}
-use Rattle.vc_builder.proofs.PlacesMemory.{Row, Start, bytes, word-had, run-seen}
+use Rattle.circular_buffer.specs.Places.{somes, IsRun}
+use Rattle.circular_buffer.specs.Ownership.{cells_lent}
+use Rattle.vc_builder.proofs.PlacesLaid.{somes-map}
+use Rattle.vc_builder.proofs.PlacesMemory.{Row, Start, bytes}
+use Rattle.circular_buffer.proofs.Memory.{word_had, run_seen}
 use Rattle.vc_builder.specs.contracts.inplace.places.Places.slice.{ended, clauses}
 use Rattle.vc_builder.specs.contracts.inplace.places.Places.slice.Key.{name as #self}
 use Rattle.vc_builder.proofs.inplace.places.Places.slice.Statement.{statement}
@@ -57,7 +59,7 @@ slice_spec 𝓤 𝓛 𝓜 𝓡 wired X L =
       length-take count (drop_l from d.row),
       length-drop from d.row,
     ) in
-    fsplit ! $ fsplit ! $ feq_l ! (λ at_self. move ! (1 ∷ []) $ fsplit ! $ word-had ! base.ptr vss.1.0 (λ at_base.
+    fsplit ! $ fsplit ! $ feq_l ! (λ at_self. move ! (1 ∷ []) $ fsplit ! $ word_had ! base.ptr vss.1.0 (λ at_base.
     fsplit ! $ fsplit ! $ feq_l ! (λ at_from. flt_l ! (λ small_from. fsplit ! $ fsplit ! $
     feq_l ! (λ at_count. flt_l ! (λ small_count. keep ! (1 ∷ 2 ∷ 3 ∷ []) $
     suffices ! (Run us) (subst (λ (ws : List Val). ent 𝓤 (Run us) (Run ws))
@@ -70,7 +72,7 @@ slice_spec 𝓤 𝓛 𝓜 𝓡 wired X L =
     ) $
     let Ev : Env 𝓤 H = env fn.locals l in
     unhide ! $ fsplit ! $ drop ! $
-    in_a_block ! d.at (λ p. places_lent (R E) p d.row κ) (id⊢ 𝓤 (never 𝓤)) (λ b o at. fsplit ! $ flt_l ! (λ fit.
+    in_a_block ! d.at (λ p. cells_lent (R E) p d.row κ) (id⊢ 𝓤 (never 𝓤)) (λ b o at. fsplit ! $ flt_l ! (λ fit.
     let far : from * s < 2 ^ 64 = omega (arith, times_below from (length d.row) s (2 ^ 63) (omega arith) fit) in
     let place : ℕ × ℕ = (b, from * s + o) in
     take_at ! 2 $ rewrite ! 0 (λ (p : Ptr). ‵ (fat full_share (layout (Start E)) (l 2) 0 (word p))) (asked.0
@@ -79,7 +81,7 @@ slice_spec 𝓤 𝓛 𝓜 𝓡 wired X L =
     (record { fits = subst (λ (k : ℕ). k < 2 ^ 64) (sym (uncapped from s far)) far }))
     (ap (vint w64) (uncapped from s far))) refl (tt, record { fits = far }) $
     sets ! (bin ! (get_in ! (fld ! refl (stop !)) (sub ! 0 refl (whole !))) (get ! refl) tt) refl (tt, tt) $
-    use1 𝓛 (‵ (elements_shared (R E) xs b place.1 κ)) (run-seen E 𝓛 b κ o d.row from count xs (omega arith) filled) $
+    use1 𝓛 (‵ (elements_shared (R E) xs b place.1 κ)) (run_seen E 𝓛 b κ o d.row from count xs (omega arith) filled) $
     hide ! $
     sets_last ! (agg ! (and_then ! (get ! refl) (and_then ! (get ! refl) (no_more !)))) refl
     (tt, (tt, (record { fits = small_count }, tt))) $
@@ -92,6 +94,6 @@ slice_spec 𝓤 𝓛 𝓜 𝓡 wired X L =
     -- [the slice; the token; the other tokens]
     returns ! (look_at ! 0 refl) $ free_all ! refl $ keep ! (0 ∷ 1 ∷ 2 ∷ []) $
     suffices ! _ (ends_at 𝓛 Ends hs c z (slice_val place count) (record { ref_ptr = place; now = xs })
-    (tt, (tt, (tt, (tt, tt)))) (tt, (tt, (tt, (tt, tt))))) $ says ! filled $
+    (tt, (tt, (tt, (tt, tt)))) (tt, (tt, (tt, (tt, tt))))) $ says ! (sym (ap somes filled ∙ somes-map xs)) $
     move ! (1 ∷ 2 ∷ []) $ join ! $ frame ! $ nothing ! $ nothing ! $ fjoin ! $ nothing ! $ fjoin ! $ nothing ! $
     fjoin ! $ nothing ! $ fjoin ! $ done !))))))))))))

@@ -1,4 +1,4 @@
--- `slice_mut` lends a run of values, and the places follow it. Assumes `Logic`.
+-- `slice_mut` lends a run of somes, and the places follow it. Assumes `Logic`.
 use Rattle.vc_builder.proofs.WalkNames.{ !, split3, ◌≡◌, refl, sym, ap, subst, ◌∙◌, List, [], ◌∷◌, ◌++◌, map, ℕ, ◌+◌}
 use Rattle.vc_builder.proofs.WalkNames.{◌*◌, ◌<◌, ◌≤◌, ◌^◌, arith, length, take, drop_l, length-take, length-drop}
 use Rattle.vc_builder.proofs.WalkNames.{length-append, take_front, Ura, full_share, SProp, ent, sep, never, id⊢, Fml}
@@ -16,10 +16,13 @@ use Rattle.vc_builder.proofs.WalkNames.{stay_dropped, walk_of, ends_at, Goes-dro
 use Rattle.vc_builder.proofs.WalkNames.{refill, length-map, proved_at, tail, El, R, el_x, times_below, uncapped, word}
 use Rattle.vc_builder.proofs.WalkNames.{word-Good}
 use denote.FollowSlice.{lends_Elements}
-use Rattle.vc_builder.specs.Places.{values, IsRun, spliced}
+use Rattle.circular_buffer.specs.Places.{somes, IsRun}
+use Rattle.circular_buffer.specs.Lends.{spliced}
 use Rattle.vc_builder.specs.PlacesLend.{with_row}
-use Rattle.vc_builder.specs.PlacesOwned.{row_owned, places_owned}
-use Rattle.vc_builder.proofs.PlacesMemory.{Row, Start, Mark, bytes, word-had, Around, run-out, run-in, to-cells, of-cells}
+use Rattle.circular_buffer.specs.Ownership.{slots, cells_own}
+use Rattle.vc_builder.proofs.PlacesLaid.{somes-map}
+use Rattle.vc_builder.proofs.PlacesMemory.{Row, Start, Mark, bytes}
+use Rattle.circular_buffer.proofs.Memory.{word_had, Around, run_out, run_in, to_cells, of_cells}
 use Rattle.vc_builder.specs.contracts.inplace.places.Places.slice_mut.{ended, clauses}
 use Rattle.vc_builder.specs.contracts.inplace.places.Places.slice_mut.Key.{name as #self}
 use Rattle.vc_builder.proofs.inplace.places.Places.slice_mut.Statement.{statement}
@@ -28,7 +31,7 @@ use Rattle.vc_builder.proofs.inplace.places.Places.slice_mut.Code as code
 module _ (E : El) (d : (Row E).Denot) (from count : ℕ) where
   -- the places once the run was written over
   abbrev written : List (el_x E) → (Row E).Denot
-  written ws = with_row d (spliced d.row from count (refill count (values (take count (drop_l from d.row))) ws))
+  written ws = with_row d (spliced d.row from count (refill count (somes (take count (drop_l from d.row))) ws))
 
   module _ {M : Type 1} {𝓤 : Ura M} (𝓛 : Logic 𝓤) (rb ro b o : ℕ) (vs : List Val) where
     -- all but the run
@@ -43,7 +46,7 @@ module _ (E : El) (d : (Row E).Denot) (from count : ℕ) where
         (sem 𝓛 ((mem (Row E)).own_at (written ws) rb ro))
     unfolding part_of
     back at within fit xs long ws same =
-        let old = values (take count (drop_l from d.row)) in let after = drop_l (from + count) d.row in
+        let old = somes (take count (drop_l from d.row)) in let after = drop_l (from + count) d.row in
         let run = from * bytes E + o in
         let all : refill count old ws ≡ ws = take_front ws (drop_l (length ws) old) count (same ∙ long) in
         let size : length (written ws).row ≡ length d.row = ap (λ l. length (spliced d.row from count l)) all
@@ -56,14 +59,14 @@ module _ (E : El) (d : (Row E).Denot) (from count : ℕ) where
           length-drop (from + count) d.row,
         ) in
         qed 𝓛 (‵ (cells (mem (R E)) ws b run) ∷ ‵ Others ∷ []) ∵
-        use1 𝓛 (‵ (row_owned (R E) b run (map Some ws))) (of-cells E 𝓛 b ws run) $
+        use1 𝓛 (‵ (slots (R E) b run (map Some ws))) (of_cells E 𝓛 b ws run) $
         move ! (1 ∷ []) $ fsplit3 ! $ move ! (3 ∷ 0 ∷ []) $
-        use2 𝓛 (‵ (row_owned (R E) b o (spliced d.row from count ws)))
-        (run-in E 𝓛 b o d.row from count within (map Some ws) (omega (arith, length-map ws Some))) $
-        rewrite ! 0 (λ (l : List (el_x E)). ‵ (row_owned (R E) b o (spliced d.row from count l))) (sym all) refl $
+        use2 𝓛 (‵ (slots (R E) b o (spliced d.row from count ws)))
+        (run_in E 𝓛 b o d.row from count within (map Some ws) (omega (arith, length-map ws Some))) $
+        rewrite ! 0 (λ (l : List (el_x E)). ‵ (slots (R E) b o (spliced d.row from count l))) (sym all) refl $
         flt_i ! (length (written ws).row * bytes E) (2 ^ 63) (subst (λ k. k * bytes E < 2 ^ 63) (sym size) fit) $
         fjoin ! $
-        rewrite ! 0 (λ (p : Ptr). ‵ (places_owned (R E) p (written ws).row)) (sym at) refl $ move ! (1 ∷ 0 ∷ []) $
+        rewrite ! 0 (λ (p : Ptr). ‵ (cells_own (R E) p (written ws).row)) (sym at) refl $ move ! (1 ∷ 0 ∷ []) $
         fjoin ! $ move ! (1 ∷ 0 ∷ []) $ fjoin ! $
         fpack ! (List Val) (λ us. fsep (cell_at full_share (Row E).mir us rb ro) ((Row E).own_val (written ws) us)) vs $
         done !
@@ -107,7 +110,7 @@ slice_mut_spec 𝓤 𝓛 𝓜 𝓡 wired X L =
       length-take count (drop_l from d.row),
       length-drop from d.row,
     ) in
-    fsplit ! $ fsplit3 ! $ feq_l ! (λ at_self. move ! (2 ∷ []) $ fsplit ! $ word-had ! base.ptr vss.1.0 (λ at_base.
+    fsplit ! $ fsplit3 ! $ feq_l ! (λ at_self. move ! (2 ∷ []) $ fsplit ! $ word_had ! base.ptr vss.1.0 (λ at_base.
     fsplit ! $ fsplit ! $ feq_l ! (λ at_from. flt_l ! (λ small_from. fsplit ! $ fsplit ! $
     feq_l ! (λ at_count. flt_l ! (λ small_count. keep ! (1 ∷ 2 ∷ 3 ∷ 4 ∷ []) $
     suffices ! (Run us) (subst (λ (ws : List Val). ent 𝓤 (Run us) (Run ws))
@@ -120,7 +123,7 @@ slice_mut_spec 𝓤 𝓛 𝓜 𝓡 wired X L =
     ) $
     let Ev : Env 𝓤 H = env fn.locals l in
     opens ! tt (Row E) {h = d} rb ro (λ vs. move ! (1 ∷ []) $ fsplit ! $ move ! (1 ∷ []) $
-    in_a_block ! d.at (λ p. places_owned (R E) p d.row) (id⊢ 𝓤 (never 𝓤)) (λ b o at. fsplit ! $ flt_l ! (λ fit.
+    in_a_block ! d.at (λ p. cells_own (R E) p d.row) (id⊢ 𝓤 (never 𝓤)) (λ b o at. fsplit ! $ flt_l ! (λ fit.
     let far : from * s < 2 ^ 64 = omega (arith, times_below from (length d.row) s (2 ^ 63) (omega arith) fit) in
     take_at ! 2 $ rewrite ! 0 (λ (p : Ptr). ‵ (fat full_share (layout (Start E)) (l 2) 0 (word p))) (asked.0
     ∙ at) refl $ give_at ! 2 $ first ! $ blocks ! $
@@ -132,10 +135,10 @@ slice_mut_spec 𝓤 𝓛 𝓜 𝓡 wired X L =
     let way = back E d from count 𝓛 rb ro b o vs at within fit xs long in
     let roomy : length xs < 2 ^ 64 = omega arith in
     let fitting = times_below (length xs) (length d.row) s (2 ^ 63) (omega arith) fit in
-    use1 𝓛 (‵ (row_owned (R E) b run (take count (drop_l from d.row))) ⊛ ‵ (Around E 𝓛 b o d.row from count))
-    (run-out E 𝓛 b o d.row from count within) $ split ! $
-    rewrite ! 0 (λ (cs : List (Option X.Denot)). ‵ (row_owned (R E) b run cs)) filled refl $
-    use1 𝓛 (‵ (cells (mem (R E)) xs b run)) (to-cells E 𝓛 b xs run) $
+    use1 𝓛 (‵ (slots (R E) b run (take count (drop_l from d.row))) ⊛ ‵ (Around E 𝓛 b o d.row from count))
+    (run_out E 𝓛 b o d.row from count within) $ split ! $
+    rewrite ! 0 (λ (cs : List (Option X.Denot)). ‵ (slots (R E) b run cs)) filled refl $
+    use1 𝓛 (‵ (cells (mem (R E)) xs b run)) (to_cells E 𝓛 b xs run) $
     sets_last ! (agg ! (and_then ! (get ! refl) (and_then ! (get ! refl) (no_more !)))) refl
     (tt, (tt, (record { fits = small_count }, tt))) $
     exec ! 𝓣.C 𝓣.Λ Ev (tail fn.body) (at_ret Ev Post) $
@@ -154,4 +157,4 @@ slice_mut_spec 𝓤 𝓛 𝓜 𝓡 wired X L =
     suffices ! _ (ends_at 𝓛 Ends hs c z (slice_val (b, run) count) r (tt, (tt, (tt, (tt, tt))))
     (tt, (tt, (tt, (tt, tt))))) $
     nothing ! $ nothing ! $ fjoin ! $ nothing ! $ fjoin ! $ nothing ! $ fjoin ! $ nothing ! $ fjoin ! $ join ! $
-    move ! (1 ∷ 3 ∷ []) $ join ! $ join ! $ frame ! $ says ! filled $ done !))))))))))))))
+    move ! (1 ∷ 3 ∷ []) $ join ! $ join ! $ frame ! $ says ! (sym (ap somes filled ∙ somes-map xs)) $ done !))))))))))))))

@@ -12,8 +12,9 @@ use Rattle.vc_builder.proofs.WalkNames.{in_a_block, plain, types_at, nothing, he
 use Rattle.vc_builder.proofs.WalkNames.{stay_dropped, stay_ref, walk_of, ends_at, Goes-dropped, Goes-ref, Some, None}
 use Rattle.vc_builder.proofs.WalkNames.{proved_at, tail, El, R, elτ, one, Good, lawful, times_below, one_below}
 use Rattle.vc_builder.proofs.WalkNames.{as_written, word, word-Good}
-use Rattle.vc_builder.specs.PlacesOwned.{place_owned, row_owned, places_owned}
-use Rattle.vc_builder.proofs.PlacesMemory.{Row, Start, bytes, word-had, value-in, Around, place-out, place-in}
+use Rattle.circular_buffer.specs.Ownership.{slot, slots, cells_own}
+use Rattle.vc_builder.proofs.PlacesMemory.{Row, Start, bytes}
+use Rattle.circular_buffer.proofs.Memory.{word_had, value_in, Besides, slot_out, slot_in}
 use Rattle.vc_builder.specs.PlacesLend.{with_row}
 use Rattle.vc_builder.specs.contracts.inplace.places.Places.write.{ended, clauses}
 use Rattle.vc_builder.specs.contracts.inplace.places.Places.write.Key.{name as #self}
@@ -58,7 +59,7 @@ write_spec 𝓤 𝓛 𝓜 𝓡 wired X L =
     qed 𝓛 (((‵ (flft κ q) ⊛ ‵ (flft κ₁ q₁) ⊛ ‵ ftrue) ⊛ ‵ (owns (types_at Ends.signature.params z.0.0) a vss)) ∷ raw
     (fact 𝓤 (κ₁ ⊑ X.lives)) ∷ raw (fact 𝓤 Asked) ∷ []) ∵
     move ! (1 ∷ 2 ∷ []) $ heard ! (κ₁ ⊑ X.lives) (λ _. heard ! Asked (λ asked. split ! $ split ! $ move ! (2 ∷ []) $
-    fsplit ! $ fsplit3 ! $ feq_l ! (λ at_self. move ! (2 ∷ []) $ fsplit ! $ word-had ! base.ptr vss.1.0 (λ at_base.
+    fsplit ! $ fsplit3 ! $ feq_l ! (λ at_self. move ! (2 ∷ []) $ fsplit ! $ word_had ! base.ptr vss.1.0 (λ at_base.
     fsplit ! $ fsplit ! $ feq_l ! (λ at_index. flt_l ! (λ small_index. fsplit ! $
     rewrite ! 0 (λ (ws : List Val). ‵ ((R E).own_val x ws)) told.1 refl $ keep ! (2 ∷ 3 ∷ 4 ∷ 0 ∷ 5 ∷ []) $
     suffices ! (Run us) (subst (λ (ws : List Val). ent 𝓤 (Run us) (Run ws))
@@ -68,7 +69,7 @@ write_spec 𝓤 𝓛 𝓜 𝓡 wired X L =
     (λ l. pass_all ! refl ((tt, tt), (word-Good [] base.ptr, ((tt, record { fits = small_index }), (good, tt)))) $
     let Ev : Env 𝓤 H = env fn.locals l in
     opens ! tt (Row E) {h = d} rb ro (λ vs. move ! (1 ∷ []) $ fsplit ! $ move ! (1 ∷ []) $
-    in_a_block ! d.at (λ p. places_owned (R E) p d.row) (id⊢ 𝓤 (never 𝓤)) (λ b o at. fsplit ! $ flt_l ! (λ fit.
+    in_a_block ! d.at (λ p. cells_own (R E) p d.row) (id⊢ 𝓤 (never 𝓤)) (λ b o at. fsplit ! $ flt_l ! (λ fit.
     let tiny : s < 2 ^ 64 = omega (arith, one_below (length d.row) s (2 ^ 63) (omega (arith, asked.1)) fit) in
     let far : index * s < 2 ^ 64 = omega (
       arith,
@@ -81,21 +82,21 @@ write_spec 𝓤 𝓛 𝓜 𝓡 wired X L =
       record { fits = far },
     ) $
     sets ! (bin ! (get_in ! (fld ! refl (stop !)) (sub ! 0 refl (whole !))) (get ! refl) tt) refl (tt, tt) $
-    use1 𝓛 (‵ (place_owned (R E) b (index * s + o) (get_or d.row index None)) ⊛ ‵ (Around E 𝓛 b o d.row index 1))
-    (place-out E 𝓛 b o d.row index asked.1) $ split ! $
-    rewrite ! 0 (λ (cell : Option X.Denot). ‵ (place_owned (R E) b (index * s + o) cell)) asked.2 refl $
+    use1 𝓛 (‵ (slot (R E) b (index * s + o) (get_or d.row index None)) ⊛ ‵ (Besides E 𝓛 b o d.row index))
+    (slot_out E 𝓛 b o d.row index asked.1) $ split ! $
+    rewrite ! 0 (λ (cell : Option X.Denot). ‵ (slot (R E) b (index * s + o) cell)) asked.2 refl $
     as_written ! (elτ E) b (index * s + o) $
     -- [the room; the other places; the mark; its cell; the open borrow, in three; what the value owns; the other
     -- tokens]
     sets ! (of_opd ! (get ! refl)) refl good $
     assigns_last ! (of_opd ! (get ! refl)) (through ! refl (stop !)) (init ! 0 refl good) $
     exec ! 𝓣.C 𝓣.Λ Ev (tail fn.body) (at_ret Ev Post) $ sets ! (of_opd ! (unit_lit !)) refl (tt, tt) $
-    move ! (0 ∷ 7 ∷ []) $ use2 𝓛 (‵ (place_owned (R E) b (index * s + o) (Some x)))
-    (value-in E 𝓛 x b (index * s + o) v) $
-    use2 𝓛 (‵ (row_owned (R E) b o new.row)) (place-in E 𝓛 b o d.row index asked.1 (Some x)) $
+    move ! (0 ∷ 7 ∷ []) $ use2 𝓛 (‵ (slot (R E) b (index * s + o) (Some x)))
+    (value_in 0 E.row E.laws 𝓛 x b (index * s + o) v) $
+    use2 𝓛 (‵ (slots (R E) b o new.row)) (slot_in E 𝓛 b o d.row index asked.1 (Some x)) $
     flt_i ! (length new.row * s) (2 ^ 63) (subst (λ k. k * s < 2 ^ 63) (sym (length-set d.row index (Some x))) fit) $
     fjoin ! $
-    rewrite ! 0 (λ (p : Ptr). ‵ (places_owned (R E) p new.row)) (sym at) refl $ move ! (1 ∷ 0 ∷ []) $ fjoin ! $
+    rewrite ! 0 (λ (p : Ptr). ‵ (cells_own (R E) p new.row)) (sym at) refl $ move ! (1 ∷ 0 ∷ []) $ fjoin ! $
     move ! (1 ∷ 0 ∷ []) $ closes ! tt (Row E) new vs rb ro $
     returns ! (look_at ! 0 refl) $ free_all ! refl $ keep ! (0 ∷ 1 ∷ 2 ∷ 3 ∷ []) $
     suffices ! _ (ends_at 𝓛 Ends hs c z vunit tt (new, (tt, (tt, (tt, tt)))) (tt, (tt, (tt, (tt, tt))))) $
