@@ -1,5 +1,10 @@
--- The types that the proofs by hand over the places speak of.
-use Rattle.vc_builder.proofs.WalkNames.{ℕ, RattleType, type_size, El, R}
+-- What the proofs by hand over the places share: the types that they speak of, and what is passed in and dropped.
+--   base-tells       a base tells its machine value
+--   base-goes, number-goes       nothing is had of a base or a number at the end
+use Rattle.vc_builder.proofs.WalkNames.{◌≡◌, refl, ap, ◌∙◌, List, [], ◌∷◌, ◌++◌, ℕ, Val, vstruct, of_list, Ura, Logic, yes, no, usize}
+use Rattle.vc_builder.proofs.WalkNames.{RattleType, type_size, El, R, Is, plain, Stay, Goes, stay_dropped, Goes-dropped, word}
+use denote.Laws.{Tells}
+use Rattle.circular_buffer.proofs.Memory.{mark}
 use denote.Struct.Struct.{Struct}
 use denote.Struct.Owning.{shape}
 use Rattle.vc_builder.specs.contracts.inplace.places.Places as places
@@ -18,6 +23,28 @@ module _ (E : El) where
   abbrev pub Mark : RattleType
   Mark = Struct (shape (places.the_type (R E)))
 
+  pub mark-told : (d : Row.Denot) (vs : List Val) → Is Row d vs → vs ≡ mark ∷ []
+  mark-told d vs is = is.0.1.0 ∙ ap (λ (ws : List Val). vstruct (of_list (ws ++ [])) ∷ []) is.0.1.1.0.1.0
+
   -- the bytes of an element
   abbrev pub bytes : ℕ
   bytes = type_size (R E)
+
+  -- the machine value of a base
+  abbrev pub base_vals : Start.Denot → List Val
+  base_vals b = word b.ptr ∷ []
+
+  pub base-tells : Tells Start (Is Start) base_vals
+  base-tells b vs is = is.1.0 ∙ ap (λ (ws : List Val). vstruct (of_list (ws ++ [])) ∷ []) is.1.1.0
+
+  abbrev pub base_stays : (n : ℕ) → Stay {n = n} (plain (λ _. Start)) no
+  base_stays n = stay_dropped (plain (λ _. Start)) no
+
+  pub base-goes : (n : ℕ) {M : Type 1} {𝓤 : Ura M} (𝓛 : Logic 𝓤) → Goes 𝓛 n (plain (λ _. Start)) no (base_stays n)
+  base-goes n 𝓛 = Goes-dropped 𝓛 n (plain (λ _. Start)) no (λ κs x f. refl)
+
+abbrev pub number_stays : (n : ℕ) → Stay {n = n} (plain (λ _. usize)) yes
+number_stays n = stay_dropped (plain (λ _. usize)) yes
+
+pub number-goes : (n : ℕ) {M : Type 1} {𝓤 : Ura M} (𝓛 : Logic 𝓤) → Goes 𝓛 n (plain (λ _. usize)) yes (number_stays n)
+number-goes n 𝓛 = Goes-dropped 𝓛 n (plain (λ _. usize)) yes (λ κs x f. refl)

@@ -1,15 +1,15 @@
 -- `allocate` cuts a new block into empty places, and keeps the right to free it. Assumes `Logic`.
-use Rattle.vc_builder.proofs.WalkNames.{ !, [], ◌≡◌, refl, sym, ap, subst, true, false, List, ◌∷◌, ◌++◌, ℕ, ◌*◌, ◌<◌}
-use Rattle.vc_builder.proofs.WalkNames.{◌^◌, arith, lit<, length, replicate, length-replicate, SProp, ent, id⊢, Lft}
+use Rattle.vc_builder.proofs.WalkNames.{ !, [], ◌≡◌, refl, sym, ap, subst, true, false, List, ◌∷◌, ℕ, ◌*◌, ◌<◌}
+use Rattle.vc_builder.proofs.WalkNames.{◌^◌, arith, lit<, length, replicate, length-replicate, SProp, ent, Lft}
 use Rattle.vc_builder.proofs.WalkNames.{Share, ftrue, flft, Incl-trans, w64, ty_array, inst_fn, Val, vptr, vint}
-use Rattle.vc_builder.proofs.WalkNames.{vstruct, vcons, vnil, Env, WpFn, Item, ⋆, ‵, raw, later, await, at_ret, ◌⊛◌}
+use Rattle.vc_builder.proofs.WalkNames.{vstruct, vcons, vnil, Env, Item, ⋆, ‵, raw, later, await, at_ret, ◌⊛◌}
 use Rattle.vc_builder.proofs.WalkNames.{◌$◌, ◌∵◌, qed, by, move, keep, use0, use1, use2, use3, split, join, fsplit}
-use Rattle.vc_builder.proofs.WalkNames.{fsplit3, fjoin, feq_l, flt_i, flt_l, suffices, frame, done, whole, agg, lit}
+use Rattle.vc_builder.proofs.WalkNames.{fjoin, flt_i, suffices, frame, done, whole, agg, lit}
 use Rattle.vc_builder.proofs.WalkNames.{stop, fld, bin, of_opd, size_word, align_word, and_then, no_more, first, exec}
 use Rattle.vc_builder.proofs.WalkNames.{returns, enter, alloc_all, pass_all, free_all, look_at, get, get_in, get_tag}
-use Rattle.vc_builder.proofs.WalkNames.{sets, sets_last, lands_as, is, env, fact, tables, ◌⊑◌, RefOf, usize, yes, Is}
+use Rattle.vc_builder.proofs.WalkNames.{sets, sets_last, lands_as, is, env, fact, tables, ◌⊑◌, RefOf, yes, Is}
 use Rattle.vc_builder.proofs.WalkNames.{layout, RattleType, owns, Ptr, block_ptr, plain, types_at, nothing, heard}
-use Rattle.vc_builder.proofs.WalkNames.{says, Stays, stay_dropped, walk_of, ends_at, Goes-dropped, None, proved_at}
+use Rattle.vc_builder.proofs.WalkNames.{says, Stays, stay_dropped, walk_of, ends_at, Goes-dropped, None}
 use Rattle.vc_builder.proofs.WalkNames.{El, R, elτ, uncapped, as_written, word, word-Good}
 use mir.Syntax.{Body}
 use prog.Memory.{align, capped}
@@ -34,7 +34,8 @@ use Rattle.std_alloc.proofs.VecSteps.Shapes.{after, head, arm_body}
 use Rattle.std_alloc.proofs.ResultValues.{ok_of, err_of}
 use Rattle.std_alloc.proofs.RcSteps.{first_Good, Good as Whole}
 use Rattle.circular_buffer.specs.Ownership.{slots}
-use Rattle.vc_builder.proofs.PlacesMemory.{Row, Start, Mark, bytes}
+use Rattle.vc_builder.proofs.PlacesMemory.{Row, Start, Mark, bytes, number_stays, number-goes}
+use Rattle.vc_builder.proofs.WalkNames.{named, proved, shr_vals, shr_Tells, uint_vals, uint_Tells}
 use Rattle.circular_buffer.proofs.Memory.{mark, mark_made, word_made, three_val, three_of, of_room}
 use Rattle.vc_builder.specs.contracts.inplace.places.Deed as deeds
 use Rattle.vc_builder.specs.contracts.inplace.places.allocate.{ended, clauses}
@@ -49,30 +50,20 @@ allocate_spec 𝓤 𝓛 𝓜 𝓡 wired X W LX LW g d dd met md =
     let Ends = ended X W g d dd in let c = clauses X W g d dd 𝓛 𝓜.mem 𝓡.returns in
     let fn = inst_fn (args E Z) code.function in
     let lender = RefOf (0 ∷ []) tt (plain (λ _. P E Z)) (λ _. tt) in
-    let hs : Stays Ends.signature.params Ends.kept = (
-      stay_dropped lender yes,
-      (
-        stay_dropped (plain (λ _. usize)) yes,
-        tt,
-      ),
-    ) in
+    let hs : Stays Ends.signature.params Ends.kept = (stay_dropped lender yes, (number_stays 3, tt)) in
     let Title : RattleType = deeds.the_row (R E) (P E Z) g in
     let Three : RattleType = Tuple (Start E ∷ Row E ∷ Title ∷ []) in
     let Out : RattleType = results.the_row Three errors.the_row in
     let Request = Takes Z 𝓛 𝓜.mem 𝓡.returns in
-    proved_at 𝓛 Ends hs c 𝓜 𝓡 (
-      Goes-dropped 𝓛 3 lender yes (λ κs x f. refl),
-      (Goes-dropped 𝓛 3 (plain (λ _. usize)) yes (λ κs x f. refl), tt),
-    )
-    (#self (args E Z)) fn (code.unfolded 𝓤 H 𝓜 𝓡 wired (X, (W, tt)) d dd) (λ z are.
-    let κ : Lft = z.0.0.0 in let κ₁ : Lft = z.0.0.1.0 in let κ₂ : Lft = z.0.0.1.1.0 in let q : Share = z.0.1.0 in
-    let vss = z.0.4 in
-    let others : Item 𝓤 = ‵ (flft κ₁ z.0.1.1.0) ⊛ ‵ (flft κ₂ z.0.1.1.1.0) ⊛ ‵ ftrue in
-    let rb : ℕ = z.0.3.0.ref_ptr.0 in let ro : ℕ = z.0.3.0.ref_ptr.1 in let a : W.Denot = z.0.3.0.now in
-    let count : ℕ = z.0.3.1.0 in
+    proved 𝓛 Ends hs c 𝓜 𝓡 (Goes-dropped 𝓛 3 lender yes (λ κs x f. refl), (number-goes 3 𝓛, tt))
+    (#self (args E Z)) fn (code.unfolded 𝓤 H 𝓜 𝓡 wired (X, (W, tt)) d dd) (λ κs. (shr_vals, (uint_vals w64, tt)))
+    (λ κs. (shr_Tells (named 0) κs.0 (P E Z), (uint_Tells w64, tt))) (λ κs qs bounds x gh are.
+    let κ : Lft = κs.0 in let q : Share = qs.0 in
+    let others : Item 𝓤 = ‵ (flft κs.1.0 qs.1.0) ⊛ ‵ (flft κs.1.1.0 qs.1.1.0) ⊛ ‵ ftrue in
+    let rb : ℕ = x.0.ref_ptr.0 in let ro : ℕ = x.0.ref_ptr.1 in let a : W.Denot = x.0.now in let count : ℕ = x.1.0 in
+    let z : (walk_of 𝓛 Ends hs c).Ghost = ((κs, qs, bounds, x, (shr_vals x.0, (uint_vals w64 count, tt))), gh) in
     let Asked : Type 0 = FitsInBlock (R E) count in let s : ℕ = bytes E in
     let Post : Val → SProp 𝓤 = (walk_of 𝓛 Ends hs c).post z in
-    let Run : List Val → SProp 𝓤 = λ ws. WpFn 𝓤 H 𝓣.C 𝓣.Λ fn ws Post in
     let us : List Val = vptr rb ro ∷ vint w64 count ∷ [] in
     let leave : (r : Out.Denot) (v : Val)
     → IfOk r (λ t. (t.1.at ≡ t.0.ptr) × (t.1.row ≡ replicate count None) × (t.2.at ≡ t.0.ptr) × (t.2.count ≡ count)
@@ -81,18 +72,14 @@ allocate_spec 𝓤 𝓛 𝓜 𝓡 wired X W LX LW g d dd met md =
     qed 𝓛 (‵ (Out.own_val r (v ∷ [])) ∷ ‵ (flft κ q) ∷ others ∷ []) ∵
     suffices ! _ (ends_at 𝓛 Ends hs c z v r (tt, (tt, tt)) (tt, (tt, tt))) $ says ! told $
     move ! (1 ∷ 2 ∷ []) $ join ! $ frame ! $ nothing ! $ nothing ! $ fjoin ! $ nothing ! $ fjoin ! $ done ! in
-    qed 𝓛 (((‵ (flft κ q) ⊛ others) ⊛ ‵ (owns (types_at Ends.signature.params z.0.0) z.0.3 vss)) ∷ raw
-    (fact 𝓤 (κ₁ ⊑ X.lives)) ∷ raw (fact 𝓤 (κ₂ ⊑ W.lives)) ∷ raw (fact 𝓤 Asked) ∷ []) ∵
-    move ! (1 ∷ 2 ∷ 3 ∷ []) $ heard ! (κ₁ ⊑ X.lives)
-    (λ _. heard ! (κ₂ ⊑ W.lives) (λ within. heard ! Asked (λ asked. split ! $ split ! $ move ! (2 ∷ []) $
+    qed 𝓛 (((‵ (flft κ q) ⊛ others) ⊛ ‵ (owns (types_at Ends.signature.params κs) x z.0.4)) ∷ raw (fact 𝓤 _) ∷ raw
+    (fact 𝓤 (κs.1.1.0 ⊑ W.lives)) ∷ raw (fact 𝓤 Asked) ∷ []) ∵
+    keep ! (2 ∷ 3 ∷ 0 ∷ []) $ heard ! (κs.1.1.0 ⊑ W.lives) (λ within. heard ! Asked (λ asked. split ! $ split ! $ move ! (2 ∷ []) $
     let small : count * s < 2 ^ 63 = asked.0 in let fit : count * s < 2 ^ 64 = omega arith in
-    fsplit3 ! $ fsplit ! $ feq_l ! (λ at_alloc. move ! (1 ∷ []) $ fsplit ! $
-    feq_l ! (λ at_count. flt_l ! (λ small_count. keep ! (0 ∷ 2 ∷ 3 ∷ []) $
-    suffices ! (Run us) (subst (λ (ws : List Val). ent 𝓤 (Run us) (Run ws))
-    (sym (λ i. at_alloc i ++ (at_count i ++ []))) (id⊢ 𝓤 (Run us))) $
+    fsplit ! $ fsplit ! $ keep ! (1 ∷ 3 ∷ 4 ∷ []) $
     -- [the `&` to the allocator; the token; the other tokens]
     enter ! 𝓣.C 𝓣.Λ fn us Post $ alloc_all !
-    (λ l. pass_all ! refl ((tt, tt), ((tt, record { fits = small_count }), tt)) $
+    (λ l. pass_all ! refl ((tt, tt), ((tt, record { fits = are.1.0.1 }), tt)) $
     let Ev : Env 𝓤 H = env fn.locals l in let both : Body = head (after 2 fn.body) in
     let alignment : ℕ = capped (align (elτ E)) in
     let Then : After 𝓤 H = any_q (after_seq 𝓤 H (Wp 𝓤 H 𝓣.C 𝓣.Λ Ev (after 3 fn.body) (at_return 𝓤 H Ev Post))
@@ -101,7 +88,7 @@ allocate_spec 𝓤 𝓛 𝓜 𝓡 wired X W LX LW g d dd met md =
     sets ! (is ! (bin ! (get ! refl) (size_word !)
     (record { fits = subst (λ (k : ℕ). k < 2 ^ 64) (sym (uncapped count s fit)) fit }))
     (ap (vint w64) (uncapped count s fit))) refl (tt, record { fits = fit }) $
-    use2 𝓛 (raw (Request.pre y)) (Takes-goes Z 𝓛 𝓜.mem 𝓡.returns κ q (rb, ro) a (Incl-trans z.0.2.0 within)
+    use2 𝓛 (raw (Request.pre y)) (Takes-goes Z 𝓛 𝓜.mem 𝓡.returns κ q (rb, ro) a (Incl-trans bounds.0 within)
     (count * s) alignment (block_ty E count) (block_size E count fit) (block_align E count) fit
     (capped_fits (align (elτ E)))) $
     calls_at ! (framed 𝓤 H 𝓜 𝓣) Request (met.allocate dd) y
@@ -160,4 +147,4 @@ allocate_spec 𝓤 𝓛 𝓜 𝓡 wired X W LX LW g d dd met md =
     (tt, (refl, tt)) $
     use1 𝓛 (‵ (Out.own_val (Err (record {})) (none ∷ []))) (err_of 𝓛 Three errors.the_row (record {}) (vstruct vnil)) $
     returns ! (look_at ! 0 refl) $ free_all ! refl $ keep ! (0 ∷ 1 ∷ 2 ∷ []) $
-    by ! (leave (Err (record {})) none tt)))))))))))
+    by ! (leave (Err (record {})) none tt)))))))

@@ -1,15 +1,15 @@
 -- `deallocate` makes the block of its empty places, and gives it back. Assumes `Logic`.
 use Rattle.vc_builder.proofs.WalkNames.{ !, [], ◌≡◌, refl, sym, ap, subst, ◌∙◌, List, ◌∷◌, ◌++◌, ℕ, ◌*◌, ◌<◌, ◌^◌}
-use Rattle.vc_builder.proofs.WalkNames.{arith, replicate, length-replicate, SProp, ent, never, id⊢, Lft, Share, ftrue}
+use Rattle.vc_builder.proofs.WalkNames.{arith, replicate, length-replicate, SProp, never, id⊢, Lft, Share, ftrue}
 use Rattle.vc_builder.proofs.WalkNames.{froom, flft, Incl-trans, w64, ty_array, ty_unit, inst_fn, Val, vptr, vint}
-use Rattle.vc_builder.proofs.WalkNames.{vunit, has_ty, WT, Env, WpFn, Item, ‵, raw, given, later, await, learn}
+use Rattle.vc_builder.proofs.WalkNames.{vunit, has_ty, WT, Env, Item, ‵, raw, given, later, await, learn}
 use Rattle.vc_builder.proofs.WalkNames.{at_ret, ◌⊛◌, ◌$◌, ◌∵◌, qed, move, keep, use1, split, join, group, rewrite}
-use Rattle.vc_builder.proofs.WalkNames.{fsplit, fsplit3, fjoin, feq_i, feq_l, flt_l, suffices, done, whole, sub, stop}
+use Rattle.vc_builder.proofs.WalkNames.{fsplit, fsplit3, fjoin, feq_i, flt_l, suffices, done, whole, sub, stop}
 use Rattle.vc_builder.proofs.WalkNames.{fld, bin, of_opd, unit_lit, size_word, align_word, and_then, no_more, first}
 use Rattle.vc_builder.proofs.WalkNames.{blocks, exec, returns, enter, alloc_all, pass_all, free_all, look_at, get}
-use Rattle.vc_builder.proofs.WalkNames.{get_in, sets, lands_last, is, env, fact, tables, ◌⊑◌, RefOf, usize, yes, no}
+use Rattle.vc_builder.proofs.WalkNames.{get_in, sets, lands_last, is, env, fact, tables, ◌⊑◌, RefOf, yes, no}
 use Rattle.vc_builder.proofs.WalkNames.{RattleType, owns, Ptr, ptr_val, in_a_block, plain, types_at, nothing, heard}
-use Rattle.vc_builder.proofs.WalkNames.{Stays, stay_dropped, walk_of, ends_at, Goes-dropped, Option, None, proved_at}
+use Rattle.vc_builder.proofs.WalkNames.{Stays, stay_dropped, walk_of, ends_at, Goes-dropped, Option, None}
 use Rattle.vc_builder.proofs.WalkNames.{tail, El, R, elτ, uncapped, as_raw, word, word-Good}
 use lib.Dec.{T}
 use prog.Memory.{align, capped}
@@ -19,8 +19,9 @@ use denote.Triple.Table.{framed}
 use Rattle.core.proofs.alloc.Calls.{Al, token, Gives, at_gives, Gives-goes, Gives-Gives, Goes-blank}
 use Rattle.core.proofs.slots.Leases.{block_ty, block_size, block_align, args, P}
 use Rattle.circular_buffer.specs.Ownership.{cells_own, deed_owns}
-use Rattle.vc_builder.proofs.PlacesMemory.{Row, Start, bytes}
-use Rattle.circular_buffer.proofs.Memory.{mark, mark_had, word_had, to_room}
+use Rattle.vc_builder.proofs.PlacesMemory.{Row, Start, bytes, mark-told, base_vals, base-tells, base_stays, base-goes, number_stays, number-goes}
+use Rattle.vc_builder.proofs.WalkNames.{named, proved, shr_vals, shr_Tells, uint_vals, uint_Tells, vstruct, of_list}
+use Rattle.circular_buffer.proofs.Memory.{mark, to_room}
 use Rattle.vc_builder.specs.contracts.inplace.places.Deed as deeds
 use Rattle.vc_builder.specs.contracts.inplace.places.deallocate.{ended, clauses}
 use Rattle.vc_builder.specs.contracts.inplace.places.deallocate.Key.{name as #self}
@@ -35,61 +36,60 @@ deallocate_spec 𝓤 𝓛 𝓜 𝓡 wired X W LX LW g d dd met md =
     let fn = inst_fn (args E Z) code.function in
     let lender = RefOf (0 ∷ []) tt (plain (λ _. P E Z)) (λ _. tt) in
     let Title : RattleType = deeds.the_row (R E) (P E Z) g in
+    let row_stays = stay_dropped (plain (λ _. Row E)) no in let title_stays = stay_dropped (plain (λ _. Title)) no in
     let hs : Stays Ends.signature.params Ends.kept = (
       stay_dropped lender yes,
-      (
-        stay_dropped (plain (λ _. Start E)) no,
-        (
-          stay_dropped (plain (λ _. usize)) yes,
-          (stay_dropped (plain (λ _. Row E)) no, (stay_dropped (plain (λ _. Title)) no, tt)),
-        ),
-      ),
+      (base_stays E 3, (number_stays 3, (row_stays, (title_stays, tt)))),
     ) in
+    let row-goes = Goes-blank 𝓛 3 (plain (λ _. Row E)) no (λ κs x f. tt) in
+    let title-goes = Goes-blank 𝓛 3 (plain (λ _. Title)) no (λ κs x f. tt) in
     let Request = Gives Z 𝓛 𝓜.mem 𝓡.returns in
-    proved_at 𝓛 Ends hs c 𝓜 𝓡 (
+    proved 𝓛 Ends hs c 𝓜 𝓡 (
       Goes-dropped 𝓛 3 lender yes (λ κs x f. refl),
+      (base-goes E 3 𝓛, (number-goes 3 𝓛, (row-goes, (title-goes, tt)))),
+    )
+    (#self (args E Z)) fn (code.unfolded 𝓤 H 𝓜 𝓡 wired (X, (W, tt)) d dd)
+    (λ κs. (shr_vals, (base_vals E, (uint_vals w64, ((λ _. mark ∷ []), ((λ _. mark ∷ []), tt))))))
+    (λ κs. (
+      shr_Tells (named 0) κs.0 (P E Z),
       (
-        Goes-dropped 𝓛 3 (plain (λ _. Start E)) no (λ κs x f. refl),
+        base-tells E,
         (
-          Goes-dropped 𝓛 3 (plain (λ _. usize)) yes (λ κs x f. refl),
+          uint_Tells w64,
           (
-            Goes-blank 𝓛 3 (plain (λ _. Row E)) no (λ κs x f. tt),
+            mark-told E,
             (
-              Goes-blank 𝓛 3 (plain (λ _. Title)) no (λ κs x f. tt),
+              (λ t vs is.
+                  is.0.1.0 ∙ ap (λ (ws : List Val). vstruct (of_list (ws ++ [])) ∷ []) is.0.1.1.0.1.0),
               tt,
             ),
           ),
         ),
       ),
-    )
-    (#self (args E Z)) fn (code.unfolded 𝓤 H 𝓜 𝓡 wired (X, (W, tt)) d dd) (λ z are.
-    let κ : Lft = z.0.0.0 in let κ₁ : Lft = z.0.0.1.0 in let κ₂ : Lft = z.0.0.1.1.0 in let q : Share = z.0.1.0 in
-    let vss = z.0.4 in
-    let others : Item 𝓤 = ‵ (flft κ₁ z.0.1.1.0) ⊛ ‵ (flft κ₂ z.0.1.1.1.0) ⊛ ‵ ftrue in
-    let rb : ℕ = z.0.3.0.ref_ptr.0 in let ro : ℕ = z.0.3.0.ref_ptr.1 in let a : W.Denot = z.0.3.0.now in
-    let base : (Start E).Denot = z.0.3.1.0 in let count : ℕ = z.0.3.1.1.0 in let row : (Row E).Denot = z.0.3.1.1.1.0 in
-    let title : Title.Denot = z.0.3.1.1.1.1.0 in
+    )) (λ κs qs bounds z gh are.
+    let κ : Lft = κs.0 in let q : Share = qs.0 in
+    let others : Item 𝓤 = ‵ (flft κs.1.0 qs.1.0) ⊛ ‵ (flft κs.1.1.0 qs.1.1.0) ⊛ ‵ ftrue in
+    let rb : ℕ = z.0.ref_ptr.0 in let ro : ℕ = z.0.ref_ptr.1 in let a : W.Denot = z.0.now in
+    let base : (Start E).Denot = z.1.0 in let count : ℕ = z.1.1.0 in let row : (Row E).Denot = z.1.1.1.0 in
+    let title : Title.Denot = z.1.1.1.1.0 in
+    let us : List Val = vptr rb ro ∷ word base.ptr ∷ vint w64 count ∷ mark ∷ mark ∷ [] in
+    let y : (walk_of 𝓛 Ends hs c).Ghost = (
+      (κs, qs, bounds, z, (shr_vals z.0, (base_vals E base, (uint_vals w64 count, (mark ∷ [], (mark ∷ [], tt)))))),
+      gh,
+    ) in
     let Asked : Type 0 = (row.at ≡ base.ptr) × (row.row ≡ replicate count None) × (title.at ≡ base.ptr)
     × (title.count ≡ count) × (title.alloc ≡ a) in let s : ℕ = bytes E in
-    let Post : Val → SProp 𝓤 = (walk_of 𝓛 Ends hs c).post z in
-    let Run : List Val → SProp 𝓤 = λ ws. WpFn 𝓤 H 𝓣.C 𝓣.Λ fn ws Post in
-    let us : List Val = vptr rb ro ∷ word base.ptr ∷ vint w64 count ∷ mark ∷ mark ∷ [] in
-    qed 𝓛 (((‵ (flft κ q) ⊛ others) ⊛ ‵ (owns (types_at Ends.signature.params z.0.0) z.0.3 vss)) ∷ raw
-    (fact 𝓤 (κ₁ ⊑ X.lives)) ∷ raw (fact 𝓤 (κ₂ ⊑ W.lives)) ∷ raw (fact 𝓤 Asked) ∷ []) ∵
-    move ! (1 ∷ 2 ∷ 3 ∷ []) $ heard ! (κ₁ ⊑ X.lives)
-    (λ _. heard ! (κ₂ ⊑ W.lives) (λ within. heard ! Asked (λ asked. split ! $ split ! $ move ! (2 ∷ []) $
-    fsplit3 ! $ fsplit ! $ feq_l ! (λ at_alloc. move ! (1 ∷ []) $
-    word_had ! base.ptr vss.1.0 (λ at_base. move ! (1 ∷ []) $ fsplit3 ! $ fsplit ! $
-    feq_l ! (λ at_count. flt_l ! (λ small_count.
-    fsplit ! $ mark_had ! E vss.1.1.1.0 (λ at_row. move ! (1 ∷ []) $ fsplit ! $ fsplit ! $
-    mark_had ! E vss.1.1.1.1.0 (λ at_title. keep ! (2 ∷ 0 ∷ 3 ∷ 4 ∷ 5 ∷ []) $
-    suffices ! (Run us) (subst (λ (ws : List Val). ent 𝓤 (Run us) (Run ws))
-    (sym (λ i. at_alloc i ++ (at_base i ++ (at_count i ++ (at_row i ++ (at_title i ++ [])))))) (id⊢ 𝓤 (Run us))) $
+    let Post : Val → SProp 𝓤 = (walk_of 𝓛 Ends hs c).post y in
+    qed 𝓛 (((‵ (flft κ q) ⊛ others) ⊛ ‵ (owns (types_at Ends.signature.params κs) z y.0.4)) ∷ raw (fact 𝓤 _) ∷ raw
+    (fact 𝓤 (κs.1.1.0 ⊑ W.lives)) ∷ raw (fact 𝓤 Asked) ∷ []) ∵
+    keep ! (2 ∷ 3 ∷ 0 ∷ []) $ heard ! (κs.1.1.0 ⊑ W.lives) (λ within. heard ! Asked (λ asked. split ! $ split ! $ move ! (2 ∷ []) $
+    fsplit3 ! $ fsplit ! $ move ! (3 ∷ []) $ fsplit3 ! $ move ! (1 ∷ []) $ fsplit ! $ move ! (3 ∷ []) $ fsplit ! $ fsplit ! $
+    keep ! (4 ∷ 1 ∷ 7 ∷ 9 ∷ 10 ∷ []) $
     -- [the places; the right to free them; the `&` to the allocator; the token; the other tokens]
     enter ! 𝓣.C 𝓣.Λ fn us Post $ alloc_all !
     (λ l. pass_all ! refl (
       (tt, tt),
-      (word-Good [] base.ptr, ((tt, record { fits = small_count }), ((tt, (tt, tt)), ((tt, (tt, tt)), tt)))),
+      (word-Good [] base.ptr, ((tt, record { fits = are.1.1.0.1 }), ((tt, (tt, tt)), ((tt, (tt, tt)), tt)))),
     ) $
     let Ev : Env 𝓤 H = env fn.locals l in let alignment : ℕ = capped (align (elτ E)) in
     rewrite ! 0 (λ (p : Ptr × List (Option X.Denot)). ‵ (cells_own (R E) p.0 p.1))
@@ -98,7 +98,7 @@ deallocate_spec 𝓤 𝓛 𝓜 𝓡 wired X W LX LW g d dd met md =
     flt_l ! (λ few.
     let small : count * s < 2 ^ 63 = subst (λ k. k * s < 2 ^ 63) (length-replicate count None) few in
     let fit : count * s < 2 ^ 64 = omega arith in
-    let y : Request.Ghost = at_gives Z 𝓛 𝓜.mem 𝓡.returns κ q (rb, ro) a b o (count * s) alignment (block_ty E count) in
+    let req : Request.Ghost = at_gives Z 𝓛 𝓜.mem 𝓡.returns κ q (rb, ro) a b o (count * s) alignment (block_ty E count) in
     rewrite ! 1 (λ (t : W.Denot × Ptr × ℕ). ‵ (deed_owns (R E) (token Z t.0) t.1 t.2))
     (λ i. (asked.4 i, (asked.2 ∙ at) i, asked.3 i)) refl $
     use1 𝓛 (‵ (froom (ty_array (elτ E) count) b o)) (to_room E 𝓛 b count o) $ as_raw ! (ty_array (elτ E) count) b o $
@@ -107,10 +107,10 @@ deallocate_spec 𝓤 𝓛 𝓜 𝓡 wired X W LX LW g d dd met md =
     sets ! (is ! (bin ! (get ! refl) (size_word !)
     (record { fits = subst (λ (k : ℕ). k < 2 ^ 64) (sym (uncapped count s fit)) fit }))
     (ap (vint w64) (uncapped count s fit))) refl (tt, record { fits = fit }) $
-    group ! 4 $ use1 𝓛 (raw (Request.pre y))
-    (Gives-goes Z 𝓛 𝓜.mem 𝓡.returns κ q (rb, ro) a (Incl-trans z.0.2.0 within) b o (count * s) alignment
+    group ! 4 $ use1 𝓛 (raw (Request.pre req))
+    (Gives-goes Z 𝓛 𝓜.mem 𝓡.returns κ q (rb, ro) a (Incl-trans bounds.0 within) b o (count * s) alignment
     (block_ty E count) (block_size E count fit) (block_align E count) fit (capped_fits (align (elτ E)))) $
-    calls_at_last ! (framed 𝓤 H 𝓜 𝓣) Request (met.deallocate dd) y
+    calls_at_last ! (framed 𝓤 H 𝓜 𝓣) Request (met.deallocate dd) req
     (and_then ! (get ! refl) (and_then ! (get ! refl)
     (and_then ! (get ! refl) (and_then ! (align_word !) (no_more !))))) (λ v.
     use1 𝓛 (later (given (v ≡ vunit) (‵ (flft κ q))))
@@ -120,7 +120,7 @@ deallocate_spec 𝓤 𝓛 𝓜 𝓡 wired X W LX LW g d dd met md =
     exec ! 𝓣.C 𝓣.Λ Ev (tail fn.body) (at_ret Ev Post) $
     sets ! (of_opd ! (unit_lit !)) refl (tt, tt) $ returns ! (look_at ! 0 refl) $ free_all ! refl $
     keep ! (0 ∷ 1 ∷ []) $
-    suffices ! _ (ends_at 𝓛 Ends hs c z vunit tt (tt, (tt, (tt, (tt, (tt, tt))))) (tt, (tt, (tt, (tt, (tt, tt)))))) $
+    suffices ! _ (ends_at 𝓛 Ends hs c y vunit tt (tt, (tt, (tt, (tt, (tt, tt))))) (tt, (tt, (tt, (tt, (tt, tt)))))) $
     join ! $ feq_i ! (List Val) (vunit ∷ []) (vunit ∷ []) refl $ nothing ! $ nothing ! $ fjoin ! $ nothing ! $ fjoin ! $
     nothing ! $ fjoin ! $ nothing ! $ fjoin ! $ nothing ! $ fjoin ! $ join ! $
-    move ! (1 ∷ 0 ∷ []) $ join ! $ nothing ! $ move ! (1 ∷ 0 ∷ []) $ done !)))))))))))))))
+    move ! (1 ∷ 0 ∷ []) $ join ! $ nothing ! $ move ! (1 ∷ 0 ∷ []) $ done !))))))))

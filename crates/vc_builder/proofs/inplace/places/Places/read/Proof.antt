@@ -1,22 +1,23 @@
 -- `read` moves a value out, and its place is empty. Assumes `Logic`.
-use Rattle.vc_builder.proofs.WalkNames.{ !, ◌≡◌, refl, sym, subst, ◌∙◌, List, [], ◌∷◌, ◌++◌, ℕ, ◌+◌, ◌*◌, ◌<◌, ◌^◌}
-use Rattle.vc_builder.proofs.WalkNames.{arith, length, set, get_or, length-set, full_share, SProp, ent, never, id⊢}
-use Rattle.vc_builder.proofs.WalkNames.{Lft, Share, ftrue, fat, froom, flft, w64, a_type, inst_fn, Val, vptr, vint}
-use Rattle.vc_builder.proofs.WalkNames.{Env, WpFn, ‵, raw, some, given, pick, learn, at_ret, ◌⊛◌, ◌$◌, ◌∵◌, qed, move}
+use Rattle.vc_builder.proofs.WalkNames.{ !, ◌≡◌, refl, sym, subst, ◌∙◌, List, [], ◌∷◌, ℕ, ◌+◌, ◌*◌, ◌<◌, ◌^◌}
+use Rattle.vc_builder.proofs.WalkNames.{arith, length, set, get_or, length-set, full_share, SProp, never, id⊢}
+use Rattle.vc_builder.proofs.WalkNames.{ftrue, fat, froom, flft, w64, a_type, inst_fn, Val, vptr, vint}
+use Rattle.vc_builder.proofs.WalkNames.{Env, ‵, raw, some, given, pick, learn, at_ret, ◌⊛◌, ◌$◌, ◌∵◌, qed, move}
 use Rattle.vc_builder.proofs.WalkNames.{keep, use1, use2, split, join, rewrite, fsplit, fsplit3, fjoin, fjoin3, feq_i}
-use Rattle.vc_builder.proofs.WalkNames.{feq_l, flt_i, flt_l, suffices, frame, done, whole, sub, look, load, stop, fld}
+use Rattle.vc_builder.proofs.WalkNames.{flt_i, flt_l, suffices, frame, done, whole, sub, look, load, stop, fld}
 use Rattle.vc_builder.proofs.WalkNames.{bin, of_opd, size_lit, first, blocks, exec, returns, enter, alloc_all}
 use Rattle.vc_builder.proofs.WalkNames.{pass_all, free_all, take_at, give_at, look_at, get, get_in, through, sets}
-use Rattle.vc_builder.proofs.WalkNames.{sets_last, env, fact, tables, ◌⊑◌, usize, yes, no, layout, layouts, owns, Ptr}
+use Rattle.vc_builder.proofs.WalkNames.{sets_last, env, fact, tables, layout, layouts, owns, Ptr}
 use Rattle.vc_builder.proofs.WalkNames.{in_a_block, plain, types_at, nothing, heard, opens, closes, says, Stays}
-use Rattle.vc_builder.proofs.WalkNames.{stay_dropped, stay_ref, walk_of, ends_at, Goes-dropped, Goes-ref, Option}
-use Rattle.vc_builder.proofs.WalkNames.{None, proved_at, tail, El, R, elτ, Good, times_below, one_below, as_raw, word}
+use Rattle.vc_builder.proofs.WalkNames.{stay_ref, walk_of, ends_at, Goes-ref, Option}
+use Rattle.vc_builder.proofs.WalkNames.{None, tail, El, R, elτ, Good, times_below, one_below, as_raw, word}
 use Rattle.vc_builder.proofs.WalkNames.{word-Good}
 use Rattle.circular_buffer.specs.Places.{IsFilled}
 use Rattle.vc_builder.specs.PlacesLend.{with_row}
 use Rattle.circular_buffer.specs.Ownership.{slot, slots, cells_own}
-use Rattle.vc_builder.proofs.PlacesMemory.{Row, Start, bytes}
-use Rattle.circular_buffer.proofs.Memory.{word_had, value_out, filled_within, Besides, slot_out, slot_in}
+use Rattle.vc_builder.proofs.PlacesMemory.{Row, Start, bytes, base_vals, base-tells, base_stays, base-goes, number_stays, number-goes}
+use Rattle.vc_builder.proofs.WalkNames.{named, proved, mut_vals, mut_Tells, uint_vals, uint_Tells}
+use Rattle.circular_buffer.proofs.Memory.{value_out, filled_within, Besides, slot_out, slot_in}
 use Rattle.vc_builder.specs.contracts.inplace.places.Places.read.{ended, clauses}
 use Rattle.vc_builder.specs.contracts.inplace.places.Places.read.Key.{name as #self}
 use Rattle.vc_builder.proofs.inplace.places.Places.read.Statement.{statement}
@@ -27,39 +28,28 @@ read_spec 𝓤 𝓛 𝓜 𝓡 wired X L =
     let H = 𝓛.H in let 𝓣 = tables 𝓤 H 𝓜 𝓡 𝓡.env in let E : El = record { row = X; laws = L } in let Ends = ended X in
     let c = clauses X 𝓛 𝓜.mem 𝓡.returns in
     let inst = layouts (a_type ∷ []) (X, tt) in let fn = inst_fn inst code.function in let self = plain (λ _. Row E) in
-    let hs : Stays Ends.signature.params Ends.kept = (
-      stay_ref (0 ∷ []) tt self,
-      (stay_dropped (plain (λ _. Start E)) no, (stay_dropped (plain (λ _. usize)) yes, tt)),
-    ) in
-    proved_at 𝓛 Ends hs c 𝓜 𝓡 (
-      Goes-ref 𝓛 2 0 tt self,
-      (
-        Goes-dropped 𝓛 2 (plain (λ _. Start E)) no (λ κs x f. refl),
-        (Goes-dropped 𝓛 2 (plain (λ _. usize)) yes (λ κs x f. refl), tt),
-      ),
-    )
-    (#self inst) fn (code.unfolded 𝓤 H 𝓜 𝓡 wired (X, tt)) (λ z are.
-    let κ : Lft = z.0.0.0 in let κ₁ : Lft = z.0.0.1.0 in let q : Share = z.0.1.0 in let q₁ : Share = z.0.1.1.0 in
-    let a = z.0.3 in let vss = z.0.4 in
+    let hs : Stays Ends.signature.params Ends.kept = (stay_ref (0 ∷ []) tt self, (base_stays E 2, (number_stays 2, tt))) in
+    proved 𝓛 Ends hs c 𝓜 𝓡 (Goes-ref 𝓛 2 0 tt self, (base-goes E 2 𝓛, (number-goes 2 𝓛, tt)))
+    (#self inst) fn (code.unfolded 𝓤 H 𝓜 𝓡 wired (X, tt)) (λ κs. (mut_vals, (base_vals E, (uint_vals w64, tt))))
+    (λ κs. (mut_Tells (named 0) κs.0 (Row E), (base-tells E, (uint_Tells w64, tt)))) (λ κs qs bounds a gh are.
     let rb : ℕ = a.0.ref_ptr.0 in let ro : ℕ = a.0.ref_ptr.1 in let d : (Row E).Denot = a.0.now in
     let base : (Start E).Denot = a.1.0 in let index : ℕ = a.1.1.0 in
+    let us : List Val = vptr rb ro ∷ word base.ptr ∷ vint w64 index ∷ [] in
+    let z : (walk_of 𝓛 Ends hs c).Ghost = ((κs, qs, bounds, a, (mut_vals a.0, (base_vals E base, (uint_vals w64 index, tt)))), gh) in
+    let others = ‵ (flft κs.1.0 qs.1.0) ⊛ ‵ ftrue in
     let Asked : Type 0 = (base.ptr ≡ d.at) × IsFilled d.row index in
     let Post : Val → SProp 𝓤 = (walk_of 𝓛 Ends hs c).post z in
-    let Run : List Val → SProp 𝓤 = λ ws. WpFn 𝓤 H 𝓣.C 𝓣.Λ fn ws Post in
-    let us : List Val = vptr rb ro ∷ word base.ptr ∷ vint w64 index ∷ [] in let s : ℕ = bytes E in
+    let s : ℕ = bytes E in
     let new : (Row E).Denot = with_row d (set d.row index None) in
-    qed 𝓛 (((‵ (flft κ q) ⊛ ‵ (flft κ₁ q₁) ⊛ ‵ ftrue) ⊛ ‵ (owns (types_at Ends.signature.params z.0.0) a vss)) ∷ raw
-    (fact 𝓤 (κ₁ ⊑ X.lives)) ∷ raw (fact 𝓤 Asked) ∷ []) ∵
-    move ! (1 ∷ 2 ∷ []) $ heard ! (κ₁ ⊑ X.lives) (λ _. heard ! Asked (λ asked. split ! $ split ! $ move ! (2 ∷ []) $
+    qed 𝓛 (((‵ (flft κs.0 qs.0) ⊛ others) ⊛ ‵ (owns (types_at Ends.signature.params κs) a z.0.4)) ∷ raw (fact 𝓤 _) ∷ raw
+    (fact 𝓤 Asked) ∷ []) ∵
+    keep ! (2 ∷ 0 ∷ []) $ heard ! Asked (λ asked. split ! $ split ! $ move ! (2 ∷ []) $
     let x : X.Denot = asked.1.0 in let filled = asked.1.1 in
     let within : index < length d.row = filled_within d.row index x filled in
-    fsplit ! $ fsplit3 ! $ feq_l ! (λ at_self. move ! (2 ∷ []) $ fsplit ! $ word_had ! base.ptr vss.1.0 (λ at_base.
-    fsplit ! $ fsplit ! $ feq_l ! (λ at_index. flt_l ! (λ small_index. keep ! (1 ∷ 2 ∷ 3 ∷ 4 ∷ []) $
-    suffices ! (Run us) (subst (λ (ws : List Val). ent 𝓤 (Run us) (Run ws))
-    (sym (λ i. at_self i ++ (at_base i ++ (at_index i ++ [])))) (id⊢ 𝓤 (Run us))) $
+    fsplit ! $ fsplit3 ! $ keep ! (1 ∷ 2 ∷ 4 ∷ 5 ∷ []) $
     -- [what self shows; its borrow; the token; the other tokens]
     enter ! 𝓣.C 𝓣.Λ fn us Post $ alloc_all !
-    (λ l. pass_all ! refl ((tt, tt), (word-Good [] base.ptr, ((tt, record { fits = small_index }), tt))) $
+    (λ l. pass_all ! refl ((tt, tt), (word-Good [] base.ptr, ((tt, record { fits = are.1.1.0.1 }), tt))) $
     let Ev : Env 𝓤 H = env fn.locals l in
     opens ! tt (Row E) {h = d} rb ro (λ vs. move ! (1 ∷ []) $ fsplit ! $ move ! (1 ∷ []) $
     in_a_block ! d.at (λ p. cells_own (R E) p d.row) (id⊢ 𝓤 (never 𝓤)) (λ b o at. fsplit ! $ flt_l ! (λ fit.
@@ -92,5 +82,5 @@ read_spec 𝓤 𝓛 𝓜 𝓡 wired X L =
     move ! (1 ∷ 0 ∷ []) $ closes ! tt (Row E) new vs rb ro $
     returns ! (look_at ! 0 refl) $ free_all ! refl $ keep ! (0 ∷ 1 ∷ 2 ∷ 3 ∷ 4 ∷ []) $
     suffices ! _ (ends_at 𝓛 Ends hs c z v x (new, (tt, (tt, tt))) (tt, (tt, (tt, tt)))) $ says ! (filled, refl, refl) $
-    move ! (2 ∷ 4 ∷ []) $ join ! $ frame ! $ feq_i ! (List Val) vss.0 (vptr rb ro ∷ []) at_self $ fjoin3 ! $ nothing ! $
-    nothing ! $ fjoin ! $ nothing ! $ fjoin ! $ move ! (1 ∷ 0 ∷ []) $ fjoin ! $ done !)))))))))))))
+    move ! (2 ∷ 4 ∷ []) $ join ! $ frame ! $ feq_i ! (List Val) (mut_vals a.0) (mut_vals a.0) refl $ fjoin3 ! $ nothing ! $
+    nothing ! $ fjoin ! $ nothing ! $ fjoin ! $ move ! (1 ∷ 0 ∷ []) $ fjoin ! $ done !))))))))

@@ -1,21 +1,22 @@
 -- `slice` shows a run of somes that the places lend. Assumes `Logic`.
-use Rattle.vc_builder.proofs.WalkNames.{ !, ◌≡◌, refl, sym, ap, subst, ◌∙◌, List, [], ◌∷◌, ◌++◌, ℕ, ◌+◌, ◌*◌, ◌<◌, ◌^◌}
-use Rattle.vc_builder.proofs.WalkNames.{arith, length, drop_l, length-take, length-drop, full_share, SProp, ent}
+use Rattle.vc_builder.proofs.WalkNames.{ !, ◌≡◌, refl, sym, ap, subst, ◌∙◌, List, [], ◌∷◌, ℕ, ◌+◌, ◌*◌, ◌<◌, ◌^◌}
+use Rattle.vc_builder.proofs.WalkNames.{arith, length, drop_l, length-take, length-drop, full_share, SProp}
 use Rattle.vc_builder.proofs.WalkNames.{never, id⊢, Lft, Share, ftrue, fat, flft, w64, a_type, inst_fn, Val, vptr}
-use Rattle.vc_builder.proofs.WalkNames.{vint, Env, WpFn, ‵, raw, at_ret, ◌⊛◌, ◌$◌, ◌∵◌, qed, move, keep, drop, use1}
-use Rattle.vc_builder.proofs.WalkNames.{split, join, rewrite, fsplit, fjoin, feq_i, feq_l, flt_i, flt_l, suffices}
+use Rattle.vc_builder.proofs.WalkNames.{vint, Env, ‵, raw, at_ret, ◌⊛◌, ◌$◌, ◌∵◌, qed, move, keep, drop, use1}
+use Rattle.vc_builder.proofs.WalkNames.{split, join, rewrite, fsplit, fjoin, feq_i, flt_i, flt_l, suffices}
 use Rattle.vc_builder.proofs.WalkNames.{frame, done, whole, sub, agg, stop, fld, bin, of_opd, size_word, and_then}
 use Rattle.vc_builder.proofs.WalkNames.{no_more, first, blocks, exec, returns, enter, alloc_all, pass_all, free_all}
 use Rattle.vc_builder.proofs.WalkNames.{take_at, give_at, look_at, get, get_in, sets, sets_last, is, env, fact}
-use Rattle.vc_builder.proofs.WalkNames.{tables, ◌⊑◌, RefOf, usize, yes, no, hide, unhide, layout, layouts, owns, Ptr}
+use Rattle.vc_builder.proofs.WalkNames.{tables, RefOf, yes, hide, unhide, layout, layouts, owns, Ptr}
 use Rattle.vc_builder.proofs.WalkNames.{in_a_block, plain, types_at, slice_val, elements_shared, nothing, heard, says}
 use Rattle.vc_builder.proofs.WalkNames.{Stays, stay_dropped, walk_of, ends_at, Goes-dropped, Some, length-map}
-use Rattle.vc_builder.proofs.WalkNames.{proved_at, tail, El, R, times_below, uncapped, word, word-Good}
+use Rattle.vc_builder.proofs.WalkNames.{tail, El, R, times_below, uncapped, word, word-Good}
 use Rattle.circular_buffer.specs.Places.{somes, IsRun}
 use Rattle.circular_buffer.specs.Ownership.{cells_lent}
 use Rattle.vc_builder.proofs.PlacesLaid.{somes-map}
-use Rattle.vc_builder.proofs.PlacesMemory.{Row, Start, bytes}
-use Rattle.circular_buffer.proofs.Memory.{word_had, run_seen}
+use Rattle.vc_builder.proofs.PlacesMemory.{Row, Start, bytes, base_vals, base-tells, base_stays, base-goes, number_stays, number-goes}
+use Rattle.vc_builder.proofs.WalkNames.{named, proved, shr_vals, shr_Tells, uint_vals, uint_Tells}
+use Rattle.circular_buffer.proofs.Memory.{run_seen}
 use Rattle.vc_builder.specs.contracts.inplace.places.Places.slice.{ended, clauses}
 use Rattle.vc_builder.specs.contracts.inplace.places.Places.slice.Key.{name as #self}
 use Rattle.vc_builder.proofs.inplace.places.Places.slice.Statement.{statement}
@@ -27,30 +28,26 @@ slice_spec 𝓤 𝓛 𝓜 𝓡 wired X L =
     let c = clauses X 𝓛 𝓜.mem 𝓡.returns in
     let inst = layouts (a_type ∷ []) (X, tt) in let fn = inst_fn inst code.function in
     let self = RefOf (0 ∷ []) tt (plain (λ _. Row E)) (λ _. tt) in
-    let hs : Stays Ends.signature.params Ends.kept = (
-      stay_dropped self yes,
-      (
-        stay_dropped (plain (λ _. Start E)) no,
-        (stay_dropped (plain (λ _. usize)) yes, (stay_dropped (plain (λ _. usize)) yes, tt)),
-      ),
-    ) in
-    let number = Goes-dropped 𝓛 2 (plain (λ _. usize)) yes (λ κs x f. refl) in
-    proved_at 𝓛 Ends hs c 𝓜 𝓡 (
-      Goes-dropped 𝓛 2 self yes (λ κs x f. refl),
-      (Goes-dropped 𝓛 2 (plain (λ _. Start E)) no (λ κs x f. refl), (number, (number, tt))),
-    )
-    (#self inst) fn (code.unfolded 𝓤 H 𝓜 𝓡 wired (X, tt)) (λ z are.
-    let κ : Lft = z.0.0.0 in let κ₁ : Lft = z.0.0.1.0 in let q : Share = z.0.1.0 in let q₁ : Share = z.0.1.1.0 in
-    let a = z.0.3 in let vss = z.0.4 in
+    let lent = stay_dropped self yes in
+    let hs : Stays Ends.signature.params Ends.kept = (lent, (base_stays E 2, (number_stays 2, (number_stays 2, tt)))) in
+    proved 𝓛 Ends hs c 𝓜 𝓡 (Goes-dropped 𝓛 2 self yes (λ κs x f. refl), (base-goes E 2 𝓛, (number-goes 2 𝓛, (number-goes 2 𝓛, tt))))
+    (#self inst) fn (code.unfolded 𝓤 H 𝓜 𝓡 wired (X, tt))
+    (λ κs. (shr_vals, (base_vals E, (uint_vals w64, (uint_vals w64, tt)))))
+    (λ κs. (shr_Tells (named 0) κs.0 (Row E), (base-tells E, (uint_Tells w64, (uint_Tells w64, tt))))) (λ κs qs bounds a gh are.
     let rb : ℕ = a.0.ref_ptr.0 in let ro : ℕ = a.0.ref_ptr.1 in let d : (Row E).Denot = a.0.now in
     let base : (Start E).Denot = a.1.0 in let from : ℕ = a.1.1.0 in let count : ℕ = a.1.1.1.0 in
+    let us : List Val = vptr rb ro ∷ word base.ptr ∷ vint w64 from ∷ vint w64 count ∷ [] in
+    let κ : Lft = κs.0 in let q : Share = qs.0 in let others = ‵ (flft κs.1.0 qs.1.0) ⊛ ‵ ftrue in let small_count = are.1.1.1.0.1 in
+    let z : (walk_of 𝓛 Ends hs c).Ghost = (
+      (κs, qs, bounds, a, (shr_vals a.0, (base_vals E base, (uint_vals w64 from, (uint_vals w64 count, tt))))),
+      gh,
+    ) in
     let Asked : Type 0 = (base.ptr ≡ d.at) × IsRun d.row from count in
     let Post : Val → SProp 𝓤 = (walk_of 𝓛 Ends hs c).post z in
-    let Run : List Val → SProp 𝓤 = λ ws. WpFn 𝓤 H 𝓣.C 𝓣.Λ fn ws Post in
-    let us : List Val = vptr rb ro ∷ word base.ptr ∷ vint w64 from ∷ vint w64 count ∷ [] in let s : ℕ = bytes E in
-    qed 𝓛 (((‵ (flft κ q) ⊛ ‵ (flft κ₁ q₁) ⊛ ‵ ftrue) ⊛ ‵ (owns (types_at Ends.signature.params z.0.0) a vss)) ∷ raw
-    (fact 𝓤 (κ₁ ⊑ X.lives)) ∷ raw (fact 𝓤 Asked) ∷ []) ∵
-    move ! (1 ∷ 2 ∷ []) $ heard ! (κ₁ ⊑ X.lives) (λ _. heard ! Asked (λ asked. split ! $ split ! $ move ! (2 ∷ []) $
+    let s : ℕ = bytes E in
+    qed 𝓛 (((‵ (flft κ q) ⊛ others) ⊛ ‵ (owns (types_at Ends.signature.params κs) a z.0.4)) ∷ raw (fact 𝓤 _) ∷ raw
+    (fact 𝓤 Asked) ∷ []) ∵
+    keep ! (2 ∷ 0 ∷ []) $ heard ! Asked (λ asked. split ! $ split ! $ move ! (2 ∷ []) $
     let within = asked.1.0 in let xs : List X.Denot = asked.1.1.0 in let filled = asked.1.1.1 in
     let long : length xs ≡ count = omega (
       arith,
@@ -59,16 +56,12 @@ slice_spec 𝓤 𝓛 𝓜 𝓡 wired X L =
       length-take count (drop_l from d.row),
       length-drop from d.row,
     ) in
-    fsplit ! $ fsplit ! $ feq_l ! (λ at_self. move ! (1 ∷ []) $ fsplit ! $ word_had ! base.ptr vss.1.0 (λ at_base.
-    fsplit ! $ fsplit ! $ feq_l ! (λ at_from. flt_l ! (λ small_from. fsplit ! $ fsplit ! $
-    feq_l ! (λ at_count. flt_l ! (λ small_count. keep ! (1 ∷ 2 ∷ 3 ∷ []) $
-    suffices ! (Run us) (subst (λ (ws : List Val). ent 𝓤 (Run us) (Run ws))
-    (sym (λ i. at_self i ++ (at_base i ++ (at_from i ++ (at_count i ++ []))))) (id⊢ 𝓤 (Run us))) $
+    fsplit ! $ fsplit ! $ keep ! (1 ∷ 3 ∷ 4 ∷ []) $
     -- [the `&`; the token; the other tokens]
     enter ! 𝓣.C 𝓣.Λ fn us Post $ alloc_all !
     (λ l. pass_all ! refl (
       (tt, tt),
-      (word-Good [] base.ptr, ((tt, record { fits = small_from }), ((tt, record { fits = small_count }), tt))),
+      (word-Good [] base.ptr, ((tt, record { fits = are.1.1.0.1 }), ((tt, record { fits = small_count }), tt))),
     ) $
     let Ev : Env 𝓤 H = env fn.locals l in
     unhide ! $ fsplit ! $ drop ! $
@@ -96,4 +89,4 @@ slice_spec 𝓤 𝓛 𝓜 𝓡 wired X L =
     suffices ! _ (ends_at 𝓛 Ends hs c z (slice_val place count) (record { ref_ptr = place; now = xs })
     (tt, (tt, (tt, (tt, tt)))) (tt, (tt, (tt, (tt, tt))))) $ says ! (sym (ap somes filled ∙ somes-map xs)) $
     move ! (1 ∷ 2 ∷ []) $ join ! $ frame ! $ nothing ! $ nothing ! $ fjoin ! $ nothing ! $ fjoin ! $ nothing ! $
-    fjoin ! $ nothing ! $ fjoin ! $ done !))))))))))))
+    fjoin ! $ nothing ! $ fjoin ! $ done !)))))

@@ -3,17 +3,17 @@ use Rattle.vc_builder.proofs.WalkNames.{ !, split3, ◌≡◌, refl, sym, ap, su
 use Rattle.vc_builder.proofs.WalkNames.{◌*◌, ◌<◌, ◌≤◌, ◌^◌, arith, length, take, drop_l, length-take, length-drop}
 use Rattle.vc_builder.proofs.WalkNames.{length-append, take_front, Ura, full_share, SProp, ent, sep, never, id⊢, Fml}
 use Rattle.vc_builder.proofs.WalkNames.{Lft, GName, Share, ftrue, fsep, fat, flft, named, w64, a_type, inst_fn, Val}
-use Rattle.vc_builder.proofs.WalkNames.{vptr, vint, Env, WpFn, Logic, sem, cells, ‵, raw, some, later, await, pick}
+use Rattle.vc_builder.proofs.WalkNames.{vptr, vint, Env, Logic, sem, cells, ‵, raw, some, later, await, pick}
 use Rattle.vc_builder.proofs.WalkNames.{at_ret, ◌⊛◌, ◌$◌, ◌∵◌, qed, move, keep, use1, use2, split, join, group}
-use Rattle.vc_builder.proofs.WalkNames.{rewrite, fsplit, fsplit3, fjoin, fjoin3, fpack, feq_l, flt_i, flt_l, suffices}
+use Rattle.vc_builder.proofs.WalkNames.{rewrite, fsplit, fsplit3, fjoin, fjoin3, fpack, flt_i, flt_l, suffices}
 use Rattle.vc_builder.proofs.WalkNames.{frame, done, whole, sub, agg, stop, fld, bin, of_opd, size_word, and_then}
 use Rattle.vc_builder.proofs.WalkNames.{no_more, first, blocks, exec, returns, enter, alloc_all, pass_all, free_all}
 use Rattle.vc_builder.proofs.WalkNames.{take_at, give_at, look_at, get, get_in, sets, sets_last, is, env, fact}
-use Rattle.vc_builder.proofs.WalkNames.{tables, ◌⊑◌, Array, usize, yes, no, follows, mem, part_of, cell_at, layout}
+use Rattle.vc_builder.proofs.WalkNames.{tables, Array, no, follows, mem, part_of, cell_at, layout}
 use Rattle.vc_builder.proofs.WalkNames.{layouts, owns, Ptr, block_ptr, in_a_block, MutBor, plain, mut_ref_to}
 use Rattle.vc_builder.proofs.WalkNames.{types_at, MutSlice, slice_val, nothing, heard, opens, says, Stays}
-use Rattle.vc_builder.proofs.WalkNames.{stay_dropped, walk_of, ends_at, Goes-dropped, Goes-spent_ref, Option, Some}
-use Rattle.vc_builder.proofs.WalkNames.{refill, length-map, proved_at, tail, El, R, el_x, times_below, uncapped, word}
+use Rattle.vc_builder.proofs.WalkNames.{stay_dropped, walk_of, ends_at, Goes-spent_ref, Option, Some}
+use Rattle.vc_builder.proofs.WalkNames.{refill, length-map, tail, El, R, el_x, times_below, uncapped, word}
 use Rattle.vc_builder.proofs.WalkNames.{word-Good}
 use denote.FollowSlice.{lends_Elements}
 use Rattle.circular_buffer.specs.Places.{somes, IsRun}
@@ -21,8 +21,9 @@ use Rattle.circular_buffer.specs.Lends.{spliced}
 use Rattle.vc_builder.specs.PlacesLend.{with_row}
 use Rattle.circular_buffer.specs.Ownership.{slots, cells_own}
 use Rattle.vc_builder.proofs.PlacesLaid.{somes-map}
-use Rattle.vc_builder.proofs.PlacesMemory.{Row, Start, Mark, bytes}
-use Rattle.circular_buffer.proofs.Memory.{word_had, Around, run_out, run_in, to_cells, of_cells}
+use Rattle.vc_builder.proofs.PlacesMemory.{Row, Start, Mark, bytes, base_vals, base-tells, base_stays, base-goes, number_stays, number-goes}
+use Rattle.vc_builder.proofs.WalkNames.{named, proved, mut_vals, mut_Tells, uint_vals, uint_Tells}
+use Rattle.circular_buffer.proofs.Memory.{Around, run_out, run_in, to_cells, of_cells}
 use Rattle.vc_builder.specs.contracts.inplace.places.Places.slice_mut.{ended, clauses}
 use Rattle.vc_builder.specs.contracts.inplace.places.Places.slice_mut.Key.{name as #self}
 use Rattle.vc_builder.proofs.inplace.places.Places.slice_mut.Statement.{statement}
@@ -76,32 +77,28 @@ slice_mut_spec 𝓤 𝓛 𝓜 𝓡 wired X L =
     let H = 𝓛.H in let 𝓣 = tables 𝓤 H 𝓜 𝓡 𝓡.env in let E : El = record { row = X; laws = L } in let Ends = ended X in
     let c = clauses X 𝓛 𝓜.mem 𝓡.returns in
     let inst = layouts (a_type ∷ []) (X, tt) in let fn = inst_fn inst code.function in let self = plain (λ _. Row E) in
-    let hs : Stays Ends.signature.params Ends.kept = (
-      stay_dropped (mut_ref_to (0 ∷ []) tt self) no,
-      (
-        stay_dropped (plain (λ _. Start E)) no,
-        (stay_dropped (plain (λ _. usize)) yes, (stay_dropped (plain (λ _. usize)) yes, tt)),
-      ),
+    let lent = stay_dropped (mut_ref_to (0 ∷ []) tt self) no in
+    let hs : Stays Ends.signature.params Ends.kept = (lent, (base_stays E 2, (number_stays 2, (number_stays 2, tt)))) in
+    proved 𝓛 Ends hs c 𝓜 𝓡 (Goes-spent_ref 𝓛 2 (0 ∷ []) tt self, (base-goes E 2 𝓛, (number-goes 2 𝓛, (number-goes 2 𝓛, tt))))
+    (#self inst) fn (code.unfolded 𝓤 H 𝓜 𝓡 wired (X, tt))
+    (λ κs. (mut_vals, (base_vals E, (uint_vals w64, (uint_vals w64, tt)))))
+    (λ κs. (mut_Tells (named 0) κs.0 (Row E), (base-tells E, (uint_Tells w64, (uint_Tells w64, tt))))) (λ κs qs bounds a gh are.
+    let rb : ℕ = a.0.ref_ptr.0 in let ro : ℕ = a.0.ref_ptr.1 in let d : (Row E).Denot = a.0.now in
+    let base : (Start E).Denot = a.1.0 in let from : ℕ = a.1.1.0 in let count : ℕ = a.1.1.1.0 in
+    let us : List Val = vptr rb ro ∷ word base.ptr ∷ vint w64 from ∷ vint w64 count ∷ [] in
+    let κ : Lft = κs.0 in let q : Share = qs.0 in let others = ‵ (flft κs.1.0 qs.1.0) ⊛ ‵ ftrue in let small_count = are.1.1.1.0.1 in
+    let z : (walk_of 𝓛 Ends hs c).Ghost = (
+      (κs, qs, bounds, a, (mut_vals a.0, (base_vals E base, (uint_vals w64 from, (uint_vals w64 count, tt))))),
+      gh,
     ) in
-    let number = Goes-dropped 𝓛 2 (plain (λ _. usize)) yes (λ κs x f. refl) in
-    proved_at 𝓛 Ends hs c 𝓜 𝓡 (
-      Goes-spent_ref 𝓛 2 (0 ∷ []) tt self,
-      (Goes-dropped 𝓛 2 (plain (λ _. Start E)) no (λ κs x f. refl), (number, (number, tt))),
-    )
-    (#self inst) fn (code.unfolded 𝓤 H 𝓜 𝓡 wired (X, tt)) (λ z are.
-    let κ : Lft = z.0.0.0 in let κ₁ : Lft = z.0.0.1.0 in let q : Share = z.0.1.0 in let q₁ : Share = z.0.1.1.0 in
-    let a = z.0.3 in let vss = z.0.4 in
-    let rb : ℕ = a.0.ref_ptr.0 in let ro : ℕ = a.0.ref_ptr.1 in let γ : GName = a.0.ghost_name in
-    let d : (Row E).Denot = a.0.now in let base : (Start E).Denot = a.1.0 in let from : ℕ = a.1.1.0 in
-    let count : ℕ = a.1.1.1.0 in
+    let γ : GName = a.0.ghost_name in
     let Asked : Type 0 = (base.ptr ≡ d.at) × IsRun d.row from count in
     let Post : Val → SProp 𝓤 = (walk_of 𝓛 Ends hs c).post z in
-    let Run : List Val → SProp 𝓤 = λ ws. WpFn 𝓤 H 𝓣.C 𝓣.Λ fn ws Post in
-    let us : List Val = vptr rb ro ∷ word base.ptr ∷ vint w64 from ∷ vint w64 count ∷ [] in let s : ℕ = bytes E in
+    let s : ℕ = bytes E in
     let new = written E d from count in let shown = (Row E).coded.code d in
-    qed 𝓛 (((‵ (flft κ q) ⊛ ‵ (flft κ₁ q₁) ⊛ ‵ ftrue) ⊛ ‵ (owns (types_at Ends.signature.params z.0.0) a vss)) ∷ raw
-    (fact 𝓤 (κ₁ ⊑ X.lives)) ∷ raw (fact 𝓤 Asked) ∷ []) ∵
-    move ! (1 ∷ 2 ∷ []) $ heard ! (κ₁ ⊑ X.lives) (λ _. heard ! Asked (λ asked. split ! $ split ! $ move ! (2 ∷ []) $
+    qed 𝓛 (((‵ (flft κ q) ⊛ others) ⊛ ‵ (owns (types_at Ends.signature.params κs) a z.0.4)) ∷ raw (fact 𝓤 _) ∷ raw
+    (fact 𝓤 Asked) ∷ []) ∵
+    keep ! (2 ∷ 0 ∷ []) $ heard ! Asked (λ asked. split ! $ split ! $ move ! (2 ∷ []) $
     let within = asked.1.0 in let xs : List X.Denot = asked.1.1.0 in let filled = asked.1.1.1 in
     let long : length xs ≡ count = omega (
       arith,
@@ -110,16 +107,12 @@ slice_mut_spec 𝓤 𝓛 𝓜 𝓡 wired X L =
       length-take count (drop_l from d.row),
       length-drop from d.row,
     ) in
-    fsplit ! $ fsplit3 ! $ feq_l ! (λ at_self. move ! (2 ∷ []) $ fsplit ! $ word_had ! base.ptr vss.1.0 (λ at_base.
-    fsplit ! $ fsplit ! $ feq_l ! (λ at_from. flt_l ! (λ small_from. fsplit ! $ fsplit ! $
-    feq_l ! (λ at_count. flt_l ! (λ small_count. keep ! (1 ∷ 2 ∷ 3 ∷ 4 ∷ []) $
-    suffices ! (Run us) (subst (λ (ws : List Val). ent 𝓤 (Run us) (Run ws))
-    (sym (λ i. at_self i ++ (at_base i ++ (at_from i ++ (at_count i ++ []))))) (id⊢ 𝓤 (Run us))) $
+    fsplit ! $ fsplit3 ! $ keep ! (1 ∷ 2 ∷ 4 ∷ 5 ∷ []) $
     -- [what self shows; its borrow; the token; the other tokens]
     enter ! 𝓣.C 𝓣.Λ fn us Post $ alloc_all !
     (λ l. pass_all ! refl (
       (tt, tt),
-      (word-Good [] base.ptr, ((tt, record { fits = small_from }), ((tt, record { fits = small_count }), tt))),
+      (word-Good [] base.ptr, ((tt, record { fits = are.1.1.0.1 }), ((tt, record { fits = small_count }), tt))),
     ) $
     let Ev : Env 𝓤 H = env fn.locals l in
     opens ! tt (Row E) {h = d} rb ro (λ vs. move ! (1 ∷ []) $ fsplit ! $ move ! (1 ∷ []) $
@@ -131,7 +124,7 @@ slice_mut_spec 𝓤 𝓛 𝓜 𝓡 wired X L =
     (record { fits = subst (λ (k : ℕ). k < 2 ^ 64) (sym (uncapped from s far)) far }))
     (ap (vint w64) (uncapped from s far))) refl (tt, record { fits = far }) $
     sets ! (bin ! (get_in ! (fld ! refl (stop !)) (sub ! 0 refl (whole !))) (get ! refl) tt) refl (tt, tt) $
-    let run : ℕ = from * s + o in let others = sem 𝓛 (Others E d from count 𝓛 rb ro b o vs) in
+    let run : ℕ = from * s + o in let all_others = sem 𝓛 (Others E d from count 𝓛 rb ro b o vs) in
     let way = back E d from count 𝓛 rb ro b o vs at within fit xs long in
     let roomy : length xs < 2 ^ 64 = omega arith in
     let fitting = times_below (length xs) (length d.row) s (2 ^ 63) (omega arith) fit in
@@ -147,7 +140,7 @@ slice_mut_spec 𝓤 𝓛 𝓜 𝓡 wired X L =
     use1 𝓛 (later (some (λ (δ : GName).
     ‵ ((MutSlice (named 0) κ (R E)).own_val (record { ref_ptr = (b, run); ghost_name = δ; now = xs })
     (slice_val (b, run) (length xs) ∷ [])) ⊛ ‵ (flft κ q) ⊛ ‵ (follows (Row E) (Array (R E) 0) γ δ new))))
-    (lends_Elements 𝓛 (Row E) (R E) new (named 0) κ q rb ro b run γ xs (roomy, fitting) others way shown shown) $
+    (lends_Elements 𝓛 (Row E) (R E) new (named 0) κ q rb ro b run γ xs (roomy, fitting) all_others way shown shown) $
     await ! tt $ pick ! (λ δ.
     let r : MutBor (List X.Denot) = record { ref_ptr = (b, run); ghost_name = δ; now = xs } in
     split3 ! $ rewrite ! 0 (λ (k : ℕ).
@@ -157,4 +150,4 @@ slice_mut_spec 𝓤 𝓛 𝓜 𝓡 wired X L =
     suffices ! _ (ends_at 𝓛 Ends hs c z (slice_val (b, run) count) r (tt, (tt, (tt, (tt, tt))))
     (tt, (tt, (tt, (tt, tt))))) $
     nothing ! $ nothing ! $ fjoin ! $ nothing ! $ fjoin ! $ nothing ! $ fjoin ! $ nothing ! $ fjoin ! $ join ! $
-    move ! (1 ∷ 3 ∷ []) $ join ! $ join ! $ frame ! $ says ! (sym (ap somes filled ∙ somes-map xs)) $ done !))))))))))))))
+    move ! (1 ∷ 3 ∷ []) $ join ! $ join ! $ frame ! $ says ! (sym (ap somes filled ∙ somes-map xs)) $ done !)))))))

@@ -3,18 +3,18 @@ use Rattle.vc_builder.proofs.WalkNames.{◌≡◌, refl, sym, subst, ◌∙◌, 
 use Rattle.vc_builder.proofs.WalkNames.{length, set, get_or, length-set, full_share, SProp, ent, never, id⊢, Lft}
 use Rattle.vc_builder.proofs.WalkNames.{Share, ftrue, fat, flft, a_type, w64, inst_fn, Val, vptr, vint, vunit, Env}
 use Rattle.vc_builder.proofs.WalkNames.{WpFn, ‵, raw, ◌⊛◌, at_ret, ◌$◌, ◌∵◌, !, qed, move, keep, use1, use2, split}
-use Rattle.vc_builder.proofs.WalkNames.{join, rewrite, fsplit, fsplit3, fjoin, fjoin3, feq_i, feq_l, flt_i, flt_l}
+use Rattle.vc_builder.proofs.WalkNames.{join, rewrite, fsplit, fsplit3, fjoin, fjoin3, feq_i, flt_i, flt_l}
 use Rattle.vc_builder.proofs.WalkNames.{suffices, frame, done, whole, sub, init, stop, fld, bin, of_opd, unit_lit}
 use Rattle.vc_builder.proofs.WalkNames.{size_lit, assigns_last, first, blocks, exec, returns, enter, alloc_all}
 use Rattle.vc_builder.proofs.WalkNames.{pass_all, free_all, take_at, give_at, look_at, get, get_in, through, sets}
-use Rattle.vc_builder.proofs.WalkNames.{env, fact, tables, ◌⊑◌, usize, yes, no, layout, layouts, owns, Ptr}
+use Rattle.vc_builder.proofs.WalkNames.{env, fact, tables, ◌⊑◌, no, layout, layouts, owns, Ptr}
 use Rattle.vc_builder.proofs.WalkNames.{in_a_block, plain, types_at, nothing, heard, opens, closes, says, Stays}
 use Rattle.vc_builder.proofs.WalkNames.{stay_dropped, stay_ref, walk_of, ends_at, Goes-dropped, Goes-ref, Some, None}
 use Rattle.vc_builder.proofs.WalkNames.{proved_at, tail, El, R, elτ, one, Good, lawful, times_below, one_below}
 use Rattle.vc_builder.proofs.WalkNames.{as_written, word, word-Good}
 use Rattle.circular_buffer.specs.Ownership.{slot, slots, cells_own}
-use Rattle.vc_builder.proofs.PlacesMemory.{Row, Start, bytes}
-use Rattle.circular_buffer.proofs.Memory.{word_had, value_in, Besides, slot_out, slot_in}
+use Rattle.vc_builder.proofs.PlacesMemory.{Row, Start, bytes, base-tells, base_stays, base-goes, number_stays, number-goes}
+use Rattle.circular_buffer.proofs.Memory.{value_in, Besides, slot_out, slot_in}
 use Rattle.vc_builder.specs.PlacesLend.{with_row}
 use Rattle.vc_builder.specs.contracts.inplace.places.Places.write.{ended, clauses}
 use Rattle.vc_builder.specs.contracts.inplace.places.Places.write.Key.{name as #self}
@@ -27,23 +27,10 @@ write_spec 𝓤 𝓛 𝓜 𝓡 wired X L =
     let H = 𝓛.H in let 𝓣 = tables 𝓤 H 𝓜 𝓡 𝓡.env in let E : El = record { row = X; laws = L } in let Ends = ended X in
     let c = clauses X 𝓛 𝓜.mem 𝓡.returns in
     let inst = layouts (a_type ∷ []) (X, tt) in let fn = inst_fn inst code.function in let self = plain (λ _. Row E) in
-    let hs : Stays Ends.signature.params Ends.kept = (
-      stay_ref (0 ∷ []) tt self,
-      (
-        stay_dropped (plain (λ _. Start E)) no,
-        (stay_dropped (plain (λ _. usize)) yes, (stay_dropped (plain (λ _. R E)) no, tt)),
-      ),
-    ) in
-    proved_at 𝓛 Ends hs c 𝓜 𝓡 (
-      Goes-ref 𝓛 2 0 tt self,
-      (
-        Goes-dropped 𝓛 2 (plain (λ _. Start E)) no (λ κs x f. refl),
-        (
-          Goes-dropped 𝓛 2 (plain (λ _. usize)) yes (λ κs x f. refl),
-          (Goes-dropped 𝓛 2 (plain (λ _. R E)) no (λ κs x f. refl), tt),
-        ),
-      ),
-    )
+    let value = stay_dropped (plain (λ _. R E)) no in
+    let hs : Stays Ends.signature.params Ends.kept = (stay_ref (0 ∷ []) tt self, (base_stays E 2, (number_stays 2, (value, tt)))) in
+    let value-goes = Goes-dropped 𝓛 2 (plain (λ _. R E)) no (λ κs x f. refl) in
+    proved_at 𝓛 Ends hs c 𝓜 𝓡 (Goes-ref 𝓛 2 0 tt self, (base-goes E 2 𝓛, (number-goes 2 𝓛, (value-goes, tt))))
     (#self inst) fn (code.unfolded 𝓤 H 𝓜 𝓡 wired (X, tt)) (λ z are.
     let κ : Lft = z.0.0.0 in let κ₁ : Lft = z.0.0.1.0 in let q : Share = z.0.1.0 in let q₁ : Share = z.0.1.1.0 in
     let a = z.0.3 in let vss = z.0.4 in
@@ -58,15 +45,14 @@ write_spec 𝓤 𝓛 𝓜 𝓡 wired X L =
     let new : (Row E).Denot = with_row d (set d.row index (Some x)) in
     qed 𝓛 (((‵ (flft κ q) ⊛ ‵ (flft κ₁ q₁) ⊛ ‵ ftrue) ⊛ ‵ (owns (types_at Ends.signature.params z.0.0) a vss)) ∷ raw
     (fact 𝓤 (κ₁ ⊑ X.lives)) ∷ raw (fact 𝓤 Asked) ∷ []) ∵
-    move ! (1 ∷ 2 ∷ []) $ heard ! (κ₁ ⊑ X.lives) (λ _. heard ! Asked (λ asked. split ! $ split ! $ move ! (2 ∷ []) $
-    fsplit ! $ fsplit3 ! $ feq_l ! (λ at_self. move ! (2 ∷ []) $ fsplit ! $ word_had ! base.ptr vss.1.0 (λ at_base.
-    fsplit ! $ fsplit ! $ feq_l ! (λ at_index. flt_l ! (λ small_index. fsplit ! $
-    rewrite ! 0 (λ (ws : List Val). ‵ ((R E).own_val x ws)) told.1 refl $ keep ! (2 ∷ 3 ∷ 4 ∷ 0 ∷ 5 ∷ []) $
+    keep ! (2 ∷ 0 ∷ []) $ heard ! Asked (λ asked. split ! $ split ! $ move ! (2 ∷ []) $
+    fsplit ! $ fsplit3 ! $ move ! (3 ∷ []) $ fsplit3 ! $ move ! (2 ∷ []) $ fsplit ! $ keep ! (5 ∷ 6 ∷ 7 ∷ 0 ∷ 8 ∷ []) $
+    rewrite ! 3 (λ (ws : List Val). ‵ ((R E).own_val x ws)) told.1 refl $
     suffices ! (Run us) (subst (λ (ws : List Val). ent 𝓤 (Run us) (Run ws))
-    (sym (λ i. at_self i ++ (at_base i ++ (at_index i ++ (told.1 i ++ []))))) (id⊢ 𝓤 (Run us))) $
+    (sym (λ i. are.0.0 i ++ (base-tells E base vss.1.0 are.1.0 i ++ (are.1.1.0.0 i ++ (told.1 i ++ []))))) (id⊢ 𝓤 (Run us))) $
     -- [what self shows; its borrow; the token; what the value owns; the other tokens]
     enter ! 𝓣.C 𝓣.Λ fn us Post $ alloc_all !
-    (λ l. pass_all ! refl ((tt, tt), (word-Good [] base.ptr, ((tt, record { fits = small_index }), (good, tt)))) $
+    (λ l. pass_all ! refl ((tt, tt), (word-Good [] base.ptr, ((tt, record { fits = are.1.1.0.1 }), (good, tt)))) $
     let Ev : Env 𝓤 H = env fn.locals l in
     opens ! tt (Row E) {h = d} rb ro (λ vs. move ! (1 ∷ []) $ fsplit ! $ move ! (1 ∷ []) $
     in_a_block ! d.at (λ p. cells_own (R E) p d.row) (id⊢ 𝓤 (never 𝓤)) (λ b o at. fsplit ! $ flt_l ! (λ fit.
@@ -101,6 +87,6 @@ write_spec 𝓤 𝓛 𝓜 𝓡 wired X L =
     returns ! (look_at ! 0 refl) $ free_all ! refl $ keep ! (0 ∷ 1 ∷ 2 ∷ 3 ∷ []) $
     suffices ! _ (ends_at 𝓛 Ends hs c z vunit tt (new, (tt, (tt, (tt, tt)))) (tt, (tt, (tt, (tt, tt))))) $
     says ! (refl, refl) $
-    move ! (2 ∷ 3 ∷ []) $ join ! $ frame ! $ feq_i ! (List Val) vss.0 (vptr rb ro ∷ []) at_self $ fjoin3 ! $ nothing ! $
+    move ! (2 ∷ 3 ∷ []) $ join ! $ frame ! $ feq_i ! (List Val) vss.0 (vptr rb ro ∷ []) are.0.0 $ fjoin3 ! $ nothing ! $
     nothing ! $ fjoin ! $ nothing ! $ fjoin ! $ nothing ! $ fjoin ! $ move ! (1 ∷ 0 ∷ []) $ fjoin ! $
-    feq_i ! (List Val) (vunit ∷ []) (vunit ∷ []) refl $ move ! (1 ∷ 0 ∷ []) $ done !)))))))))))
+    feq_i ! (List Val) (vunit ∷ []) (vunit ∷ []) refl $ move ! (1 ∷ 0 ∷ []) $ done !))))))
