@@ -31,7 +31,8 @@ module _ {X : Type 0} where
       omega (arith, length-append (map Some xs) (replicate hole none), length-map xs Some, length-replicate hole none)
 
   -- an empty place behind the hole is one of it
-  pub laid-wider : (xs : List X) (hole : ℕ) (others : List (Option X)) → front xs hole ++ None ∷ others ≡ laid xs (hole + 1) others
+  pub laid-wider : (xs : List X) (hole : ℕ) (others : List (Option X))
+      → front xs hole ++ None ∷ others ≡ laid xs (hole + 1) others
   unfolding laid
   laid-wider xs hole others =
       sym (append_assoc (front xs hole) (None ∷ []) others)
@@ -43,7 +44,8 @@ module _ {X : Type 0} where
       → row ≡ laid xs hole (c ∷ others) → i ≡ length xs + hole
       → (get_or row i None ≡ c) × (set row i None ≡ laid xs (hole + 1) others)
   unfolding laid
-  laid-first row xs hole c others i is at = let there = place-between row (front xs hole) c others i is (length-front xs hole i at) in
+  laid-first row xs hole c others i is at =
+      let there = place-between row (front xs hole) c others i is (length-front xs hole i at) in
       (there.1, there.2 None ∙ laid-wider xs hole others)
 
   -- values in the place of others, where there is no hole, go on in front of it

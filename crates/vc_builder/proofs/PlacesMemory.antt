@@ -1,14 +1,20 @@
 -- What the proofs by hand over the places share: the types that they speak of, and what is passed in and dropped.
 --   base-tells       a base tells its machine value
 --   base-goes, number-goes       nothing is had of a base or a number at the end
-use Rattle.vc_builder.proofs.WalkNames.{◌≡◌, refl, ap, ◌∙◌, List, [], ◌∷◌, ◌++◌, ℕ, Val, vstruct, of_list, Ura, Logic, yes, no, usize}
+use Rattle.vc_builder.proofs.WalkNames.{◌≡◌, refl, ap, ◌∙◌, List, [], ◌∷◌, ◌++◌, ℕ, Val, vstruct, of_list, Ura, Logic}
+use Rattle.vc_builder.proofs.WalkNames.{yes, no, usize}
 use Rattle.vc_builder.proofs.WalkNames.{RattleType, type_size, El, R, Is, plain, Stay, Goes, stay_dropped, Goes-dropped, word}
+use Rattle.vc_builder.proofs.WalkNames.{arith, length, drop_l as drop, length-take, length-drop, length-map, Option, Some}
+use Rattle.circular_buffer.specs.Places.{IsRun}
 use denote.Laws.{Tells}
 use Rattle.circular_buffer.proofs.Memory.{mark}
 use denote.Struct.Struct.{Struct}
 use denote.Struct.Owning.{shape}
 use Rattle.vc_builder.specs.contracts.inplace.places.Places as places
 use Rattle.vc_builder.specs.contracts.inplace.places.Base as base
+use Rattle.vc_builder.specs.contracts.inplace.places.Deed as deeds
+use Rattle.core.proofs.alloc.Calls.{Al}
+use Rattle.core.proofs.slots.Leases.{P}
 
 module _ (E : El) where
   -- `Places` at elements of E
@@ -43,8 +49,21 @@ module _ (E : El) where
   pub base-goes : (n : ℕ) {M : Type 1} {𝓤 : Ura M} (𝓛 : Logic 𝓤) → Goes 𝓛 n (plain (λ _. Start)) no (base_stays n)
   base-goes n 𝓛 = Goes-dropped 𝓛 n (plain (λ _. Start)) no (λ κs x f. refl)
 
+-- `Deed` at elements of E and the allocator Z
+module _ (E : El) (Z : Al) where
+  abbrev pub Title : RattleType
+  Title = deeds.the_row (R E) (P E Z) Z.g
+
+  pub title-told : (d : Title.Denot) (vs : List Val) → Is Title d vs → vs ≡ mark ∷ []
+  title-told d vs is = is.0.1.0 ∙ ap (λ (ws : List Val). vstruct (of_list (ws ++ [])) ∷ []) is.0.1.1.0.1.0
+
 abbrev pub number_stays : (n : ℕ) → Stay {n = n} (plain (λ _. usize)) yes
 number_stays n = stay_dropped (plain (λ _. usize)) yes
 
 pub number-goes : (n : ℕ) {M : Type 1} {𝓤 : Ura M} (𝓛 : Logic 𝓤) → Goes 𝓛 n (plain (λ _. usize)) yes (number_stays n)
 number-goes n 𝓛 = Goes-dropped 𝓛 n (plain (λ _. usize)) yes (λ κs x f. refl)
+
+-- a run of places is as long as its values
+pub length-run : {X : Type 0} (row : List (Option X)) (from count : ℕ) (run : IsRun row from count) → length run.1.0 ≡ count
+length-run row from count run =
+    omega (arith, ap length run.1.1, length-map run.1.0 Some, length-take count (drop from row), length-drop from row)

@@ -34,10 +34,9 @@ use Rattle.std_alloc.proofs.VecSteps.Shapes.{after, head, arm_body}
 use Rattle.std_alloc.proofs.ResultValues.{ok_of, err_of}
 use Rattle.std_alloc.proofs.RcSteps.{first_Good, Good as Whole}
 use Rattle.circular_buffer.specs.Ownership.{slots}
-use Rattle.vc_builder.proofs.PlacesMemory.{Row, Start, Mark, bytes, number_stays, number-goes}
+use Rattle.vc_builder.proofs.PlacesMemory.{Title, Row, Start, Mark, bytes, number_stays, number-goes}
 use Rattle.vc_builder.proofs.WalkNames.{named, proved, shr_vals, shr_Tells, uint_vals, uint_Tells}
 use Rattle.circular_buffer.proofs.Memory.{mark, mark_made, word_made, three_val, three_of, of_room}
-use Rattle.vc_builder.specs.contracts.inplace.places.Deed as deeds
 use Rattle.vc_builder.specs.contracts.inplace.places.allocate.{ended, clauses}
 use Rattle.vc_builder.specs.contracts.inplace.places.allocate.Key.{name as #self}
 use Rattle.vc_builder.proofs.inplace.places.allocate.Statement.{statement}
@@ -51,8 +50,8 @@ allocate_spec 𝓤 𝓛 𝓜 𝓡 wired X W LX LW g d dd met md =
     let fn = inst_fn (args E Z) code.function in
     let lender = RefOf (0 ∷ []) tt (plain (λ _. P E Z)) (λ _. tt) in
     let hs : Stays Ends.signature.params Ends.kept = (stay_dropped lender yes, (number_stays 3, tt)) in
-    let Title : RattleType = deeds.the_row (R E) (P E Z) g in
-    let Three : RattleType = Tuple (Start E ∷ Row E ∷ Title ∷ []) in
+    let Deed : RattleType = Title E Z in
+    let Three : RattleType = Tuple (Start E ∷ Row E ∷ Deed ∷ []) in
     let Out : RattleType = results.the_row Three errors.the_row in
     let Request = Takes Z 𝓛 𝓜.mem 𝓡.returns in
     proved 𝓛 Ends hs c 𝓜 𝓡 (Goes-dropped 𝓛 3 lender yes (λ κs x f. refl), (number-goes 3 𝓛, tt))
@@ -74,7 +73,8 @@ allocate_spec 𝓤 𝓛 𝓜 𝓡 wired X W LX LW g d dd met md =
     move ! (1 ∷ 2 ∷ []) $ join ! $ frame ! $ nothing ! $ nothing ! $ fjoin ! $ nothing ! $ fjoin ! $ done ! in
     qed 𝓛 (((‵ (flft κ q) ⊛ others) ⊛ ‵ (owns (types_at Ends.signature.params κs) x z.0.4)) ∷ raw (fact 𝓤 _) ∷ raw
     (fact 𝓤 (κs.1.1.0 ⊑ W.lives)) ∷ raw (fact 𝓤 Asked) ∷ []) ∵
-    keep ! (2 ∷ 3 ∷ 0 ∷ []) $ heard ! (κs.1.1.0 ⊑ W.lives) (λ within. heard ! Asked (λ asked. split ! $ split ! $ move ! (2 ∷ []) $
+    keep ! (2 ∷ 3 ∷ 0 ∷ []) $ heard ! (κs.1.1.0 ⊑ W.lives) (λ within. heard ! Asked (λ asked.
+    split ! $ split ! $ move ! (2 ∷ []) $
     let small : count * s < 2 ^ 63 = asked.0 in let fit : count * s < 2 ^ 64 = omega arith in
     fsplit ! $ fsplit ! $ keep ! (1 ∷ 3 ∷ 4 ∷ []) $
     -- [the `&` to the allocator; the token; the other tokens]
@@ -99,7 +99,7 @@ allocate_spec 𝓤 𝓛 𝓜 𝓡 wired X W LX LW g d dd met md =
     (λ b o is_block.
     let p : Ptr = block_ptr b o in let start : (Start E).Denot = record { ptr = p } in
     let row : (Row E).Denot = record { mark = record {}; at = p; row = replicate count None } in
-    let title : Title.Denot = record { mark = record {}; at = p; count = count; alloc = a } in
+    let title : Deed.Denot = record { mark = record {}; at = p; count = count; alloc = a } in
     let made : Val = three_val (word p) mark mark in
     let typed : Whole (layout Three) made = (tt, ((tt, tt), ((tt, tt), ((tt, tt), tt)))) in
     let ok = first_Good (layout Three) made typed in
@@ -125,7 +125,7 @@ allocate_spec 𝓤 𝓛 𝓜 𝓡 wired X W LX LW g d dd met md =
     fjoin ! $
     use0 𝓛 (‵ ((Mark E).own_val (tt, tt) (mark ∷ []))) (mark_made E 𝓛) $ fjoin ! $ word_made ! p $
     use3 𝓛 (‵ (Three.own_val (start, row, title) (made ∷ [])))
-    (three_of 𝓛 (Start E) (Row E) Title start row title (word p) mark mark) $
+    (three_of 𝓛 (Start E) (Row E) Deed start row title (word p) mark mark) $
     use1 𝓛 (‵ (Out.own_val (Ok (start, row, title)) (live 0 (vcons made vnil) ∷ [])))
     (ok_of 𝓛 Three errors.the_row (start, row, title) made) $
     returns ! (look_at ! 0 refl) $ free_all ! refl $ keep ! (0 ∷ 1 ∷ 2 ∷ []) $

@@ -1,5 +1,5 @@
 -- `deallocate` makes the block of its empty places, and gives it back. Assumes `Logic`.
-use Rattle.vc_builder.proofs.WalkNames.{ !, [], ◌≡◌, refl, sym, ap, subst, ◌∙◌, List, ◌∷◌, ◌++◌, ℕ, ◌*◌, ◌<◌, ◌^◌}
+use Rattle.vc_builder.proofs.WalkNames.{ !, [], ◌≡◌, refl, sym, ap, subst, ◌∙◌, List, ◌∷◌, ℕ, ◌*◌, ◌<◌, ◌^◌}
 use Rattle.vc_builder.proofs.WalkNames.{arith, replicate, length-replicate, SProp, never, id⊢, Lft, Share, ftrue}
 use Rattle.vc_builder.proofs.WalkNames.{froom, flft, Incl-trans, w64, ty_array, ty_unit, inst_fn, Val, vptr, vint}
 use Rattle.vc_builder.proofs.WalkNames.{vunit, has_ty, WT, Env, Item, ‵, raw, given, later, await, learn}
@@ -19,10 +19,10 @@ use denote.Triple.Table.{framed}
 use Rattle.core.proofs.alloc.Calls.{Al, token, Gives, at_gives, Gives-goes, Gives-Gives, Goes-blank}
 use Rattle.core.proofs.slots.Leases.{block_ty, block_size, block_align, args, P}
 use Rattle.circular_buffer.specs.Ownership.{cells_own, deed_owns}
-use Rattle.vc_builder.proofs.PlacesMemory.{Row, Start, bytes, mark-told, base_vals, base-tells, base_stays, base-goes, number_stays, number-goes}
-use Rattle.vc_builder.proofs.WalkNames.{named, proved, shr_vals, shr_Tells, uint_vals, uint_Tells, vstruct, of_list}
+use Rattle.vc_builder.proofs.PlacesMemory.{Title, title-told, Row, Start, bytes, mark-told, base_vals, base-tells}
+use Rattle.vc_builder.proofs.PlacesMemory.{base_stays, base-goes, number_stays, number-goes}
+use Rattle.vc_builder.proofs.WalkNames.{named, proved, shr_vals, shr_Tells, uint_vals, uint_Tells}
 use Rattle.circular_buffer.proofs.Memory.{mark, to_room}
-use Rattle.vc_builder.specs.contracts.inplace.places.Deed as deeds
 use Rattle.vc_builder.specs.contracts.inplace.places.deallocate.{ended, clauses}
 use Rattle.vc_builder.specs.contracts.inplace.places.deallocate.Key.{name as #self}
 use Rattle.vc_builder.proofs.inplace.places.deallocate.Statement.{statement}
@@ -35,14 +35,14 @@ deallocate_spec 𝓤 𝓛 𝓜 𝓡 wired X W LX LW g d dd met md =
     let Ends = ended X W g d dd in let c = clauses X W g d dd 𝓛 𝓜.mem 𝓡.returns in
     let fn = inst_fn (args E Z) code.function in
     let lender = RefOf (0 ∷ []) tt (plain (λ _. P E Z)) (λ _. tt) in
-    let Title : RattleType = deeds.the_row (R E) (P E Z) g in
-    let row_stays = stay_dropped (plain (λ _. Row E)) no in let title_stays = stay_dropped (plain (λ _. Title)) no in
+    let Deed : RattleType = Title E Z in
+    let row_stays = stay_dropped (plain (λ _. Row E)) no in let title_stays = stay_dropped (plain (λ _. Deed)) no in
     let hs : Stays Ends.signature.params Ends.kept = (
       stay_dropped lender yes,
       (base_stays E 3, (number_stays 3, (row_stays, (title_stays, tt)))),
     ) in
     let row-goes = Goes-blank 𝓛 3 (plain (λ _. Row E)) no (λ κs x f. tt) in
-    let title-goes = Goes-blank 𝓛 3 (plain (λ _. Title)) no (λ κs x f. tt) in
+    let title-goes = Goes-blank 𝓛 3 (plain (λ _. Deed)) no (λ κs x f. tt) in
     let Request = Gives Z 𝓛 𝓜.mem 𝓡.returns in
     proved 𝓛 Ends hs c 𝓜 𝓡 (
       Goes-dropped 𝓛 3 lender yes (λ κs x f. refl),
@@ -50,28 +50,13 @@ deallocate_spec 𝓤 𝓛 𝓜 𝓡 wired X W LX LW g d dd met md =
     )
     (#self (args E Z)) fn (code.unfolded 𝓤 H 𝓜 𝓡 wired (X, (W, tt)) d dd)
     (λ κs. (shr_vals, (base_vals E, (uint_vals w64, ((λ _. mark ∷ []), ((λ _. mark ∷ []), tt))))))
-    (λ κs. (
-      shr_Tells (named 0) κs.0 (P E Z),
-      (
-        base-tells E,
-        (
-          uint_Tells w64,
-          (
-            mark-told E,
-            (
-              (λ t vs is.
-                  is.0.1.0 ∙ ap (λ (ws : List Val). vstruct (of_list (ws ++ [])) ∷ []) is.0.1.1.0.1.0),
-              tt,
-            ),
-          ),
-        ),
-      ),
-    )) (λ κs qs bounds z gh are.
+    (λ κs. (shr_Tells (named 0) κs.0 (P E Z), (base-tells E, (uint_Tells w64, (mark-told E, (title-told E Z, tt))))))
+    (λ κs qs bounds z gh are.
     let κ : Lft = κs.0 in let q : Share = qs.0 in
     let others : Item 𝓤 = ‵ (flft κs.1.0 qs.1.0) ⊛ ‵ (flft κs.1.1.0 qs.1.1.0) ⊛ ‵ ftrue in
     let rb : ℕ = z.0.ref_ptr.0 in let ro : ℕ = z.0.ref_ptr.1 in let a : W.Denot = z.0.now in
     let base : (Start E).Denot = z.1.0 in let count : ℕ = z.1.1.0 in let row : (Row E).Denot = z.1.1.1.0 in
-    let title : Title.Denot = z.1.1.1.1.0 in
+    let title : Deed.Denot = z.1.1.1.1.0 in
     let us : List Val = vptr rb ro ∷ word base.ptr ∷ vint w64 count ∷ mark ∷ mark ∷ [] in
     let y : (walk_of 𝓛 Ends hs c).Ghost = (
       (κs, qs, bounds, z, (shr_vals z.0, (base_vals E base, (uint_vals w64 count, (mark ∷ [], (mark ∷ [], tt)))))),
@@ -82,7 +67,8 @@ deallocate_spec 𝓤 𝓛 𝓜 𝓡 wired X W LX LW g d dd met md =
     let Post : Val → SProp 𝓤 = (walk_of 𝓛 Ends hs c).post y in
     qed 𝓛 (((‵ (flft κ q) ⊛ others) ⊛ ‵ (owns (types_at Ends.signature.params κs) z y.0.4)) ∷ raw (fact 𝓤 _) ∷ raw
     (fact 𝓤 (κs.1.1.0 ⊑ W.lives)) ∷ raw (fact 𝓤 Asked) ∷ []) ∵
-    keep ! (2 ∷ 3 ∷ 0 ∷ []) $ heard ! (κs.1.1.0 ⊑ W.lives) (λ within. heard ! Asked (λ asked. split ! $ split ! $ move ! (2 ∷ []) $
+    keep ! (2 ∷ 3 ∷ 0 ∷ []) $ heard ! (κs.1.1.0 ⊑ W.lives) (λ within. heard ! Asked (λ asked.
+    split ! $ split ! $ move ! (2 ∷ []) $
     fsplit3 ! $ fsplit ! $ move ! (3 ∷ []) $ fsplit3 ! $ move ! (1 ∷ []) $ fsplit ! $ move ! (3 ∷ []) $ fsplit ! $ fsplit ! $
     keep ! (4 ∷ 1 ∷ 7 ∷ 9 ∷ 10 ∷ []) $
     -- [the places; the right to free them; the `&` to the allocator; the token; the other tokens]

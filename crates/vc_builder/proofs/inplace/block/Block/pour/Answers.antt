@@ -46,10 +46,11 @@ pub returns-clause-block : goal.returns-clause-block
 unfolding laid
 returns-clause-block g c =
     let b = c.args.self.now in let counts = c.requires.0.counts in let inv = c.loop-i.invariant in let i = c.loop-i.i in
-    let left = ap length c.requires.1 in let room : i + (b.start - b.built) ≡ b.capacity = omega arith in (
+    let left = ap length c.requires.1 in let none = drop_all i (block_built b) (omega arith) in
+    let room : i + (b.start - b.built) ≡ b.capacity = omega arith in (
       inv.bounds.2,
       settled c.loop-i.self [] b.capacity [] inv.owns (omega arith) (omega arith) (omega arith)
-          (inv.row ∙ ap (λ l. laid [] i (map Some l ++ replicate (b.start - b.built) None)) (drop_all i (block_built b) (omega arith))
+          (inv.row ∙ ap (λ l. laid [] i (map Some l ++ replicate (b.start - b.built) None)) none
           ∙ replicate-append-replicate i (b.start - b.built) None ∙ ap (λ k. replicate k None) room ∙ sym (laid-none b.capacity)),
     )
 

@@ -15,7 +15,8 @@ use Rattle.vc_builder.proofs.WalkNames.{word-Good}
 use Rattle.circular_buffer.specs.Places.{IsFilled}
 use Rattle.vc_builder.specs.PlacesLend.{with_row}
 use Rattle.circular_buffer.specs.Ownership.{slot, slots, cells_own}
-use Rattle.vc_builder.proofs.PlacesMemory.{Row, Start, bytes, base_vals, base-tells, base_stays, base-goes, number_stays, number-goes}
+use Rattle.vc_builder.proofs.PlacesMemory.{Row, Start, bytes, base_vals, base-tells, base_stays, base-goes}
+use Rattle.vc_builder.proofs.PlacesMemory.{number_stays, number-goes}
 use Rattle.vc_builder.proofs.WalkNames.{named, proved, mut_vals, mut_Tells, uint_vals, uint_Tells}
 use Rattle.circular_buffer.proofs.Memory.{value_out, filled_within, Besides, slot_out, slot_in}
 use Rattle.vc_builder.specs.contracts.inplace.places.Places.read.{ended, clauses}
@@ -35,7 +36,10 @@ read_spec 𝓤 𝓛 𝓜 𝓡 wired X L =
     let rb : ℕ = a.0.ref_ptr.0 in let ro : ℕ = a.0.ref_ptr.1 in let d : (Row E).Denot = a.0.now in
     let base : (Start E).Denot = a.1.0 in let index : ℕ = a.1.1.0 in
     let us : List Val = vptr rb ro ∷ word base.ptr ∷ vint w64 index ∷ [] in
-    let z : (walk_of 𝓛 Ends hs c).Ghost = ((κs, qs, bounds, a, (mut_vals a.0, (base_vals E base, (uint_vals w64 index, tt)))), gh) in
+    let z : (walk_of 𝓛 Ends hs c).Ghost = (
+      (κs, qs, bounds, a, (mut_vals a.0, (base_vals E base, (uint_vals w64 index, tt)))),
+      gh,
+    ) in
     let others = ‵ (flft κs.1.0 qs.1.0) ⊛ ‵ ftrue in
     let Asked : Type 0 = (base.ptr ≡ d.at) × IsFilled d.row index in
     let Post : Val → SProp 𝓤 = (walk_of 𝓛 Ends hs c).post z in

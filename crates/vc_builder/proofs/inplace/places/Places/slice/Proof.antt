@@ -1,6 +1,6 @@
 -- `slice` shows a run of somes that the places lend. Assumes `Logic`.
 use Rattle.vc_builder.proofs.WalkNames.{ !, ◌≡◌, refl, sym, ap, subst, ◌∙◌, List, [], ◌∷◌, ℕ, ◌+◌, ◌*◌, ◌<◌, ◌^◌}
-use Rattle.vc_builder.proofs.WalkNames.{arith, length, drop_l, length-take, length-drop, full_share, SProp}
+use Rattle.vc_builder.proofs.WalkNames.{arith, length, full_share, SProp}
 use Rattle.vc_builder.proofs.WalkNames.{never, id⊢, Lft, Share, ftrue, fat, flft, w64, a_type, inst_fn, Val, vptr}
 use Rattle.vc_builder.proofs.WalkNames.{vint, Env, ‵, raw, at_ret, ◌⊛◌, ◌$◌, ◌∵◌, qed, move, keep, drop, use1}
 use Rattle.vc_builder.proofs.WalkNames.{split, join, rewrite, fsplit, fjoin, feq_i, flt_i, flt_l, suffices}
@@ -9,12 +9,13 @@ use Rattle.vc_builder.proofs.WalkNames.{no_more, first, blocks, exec, returns, e
 use Rattle.vc_builder.proofs.WalkNames.{take_at, give_at, look_at, get, get_in, sets, sets_last, is, env, fact}
 use Rattle.vc_builder.proofs.WalkNames.{tables, RefOf, yes, hide, unhide, layout, layouts, owns, Ptr}
 use Rattle.vc_builder.proofs.WalkNames.{in_a_block, plain, types_at, slice_val, elements_shared, nothing, heard, says}
-use Rattle.vc_builder.proofs.WalkNames.{Stays, stay_dropped, walk_of, ends_at, Goes-dropped, Some, length-map}
+use Rattle.vc_builder.proofs.WalkNames.{Stays, stay_dropped, walk_of, ends_at, Goes-dropped}
 use Rattle.vc_builder.proofs.WalkNames.{tail, El, R, times_below, uncapped, word, word-Good}
 use Rattle.circular_buffer.specs.Places.{somes, IsRun}
 use Rattle.circular_buffer.specs.Ownership.{cells_lent}
 use Rattle.vc_builder.proofs.PlacesLaid.{somes-map}
-use Rattle.vc_builder.proofs.PlacesMemory.{Row, Start, bytes, base_vals, base-tells, base_stays, base-goes, number_stays, number-goes}
+use Rattle.vc_builder.proofs.PlacesMemory.{length-run, Row, Start, bytes, base_vals, base-tells, base_stays, base-goes}
+use Rattle.vc_builder.proofs.PlacesMemory.{number_stays, number-goes}
 use Rattle.vc_builder.proofs.WalkNames.{named, proved, shr_vals, shr_Tells, uint_vals, uint_Tells}
 use Rattle.circular_buffer.proofs.Memory.{run_seen}
 use Rattle.vc_builder.specs.contracts.inplace.places.Places.slice.{ended, clauses}
@@ -30,14 +31,16 @@ slice_spec 𝓤 𝓛 𝓜 𝓡 wired X L =
     let self = RefOf (0 ∷ []) tt (plain (λ _. Row E)) (λ _. tt) in
     let lent = stay_dropped self yes in
     let hs : Stays Ends.signature.params Ends.kept = (lent, (base_stays E 2, (number_stays 2, (number_stays 2, tt)))) in
-    proved 𝓛 Ends hs c 𝓜 𝓡 (Goes-dropped 𝓛 2 self yes (λ κs x f. refl), (base-goes E 2 𝓛, (number-goes 2 𝓛, (number-goes 2 𝓛, tt))))
+    let lent-goes = Goes-dropped 𝓛 2 self yes (λ κs x f. refl) in
+    proved 𝓛 Ends hs c 𝓜 𝓡 (lent-goes, (base-goes E 2 𝓛, (number-goes 2 𝓛, (number-goes 2 𝓛, tt))))
     (#self inst) fn (code.unfolded 𝓤 H 𝓜 𝓡 wired (X, tt))
     (λ κs. (shr_vals, (base_vals E, (uint_vals w64, (uint_vals w64, tt)))))
     (λ κs. (shr_Tells (named 0) κs.0 (Row E), (base-tells E, (uint_Tells w64, (uint_Tells w64, tt))))) (λ κs qs bounds a gh are.
     let rb : ℕ = a.0.ref_ptr.0 in let ro : ℕ = a.0.ref_ptr.1 in let d : (Row E).Denot = a.0.now in
     let base : (Start E).Denot = a.1.0 in let from : ℕ = a.1.1.0 in let count : ℕ = a.1.1.1.0 in
     let us : List Val = vptr rb ro ∷ word base.ptr ∷ vint w64 from ∷ vint w64 count ∷ [] in
-    let κ : Lft = κs.0 in let q : Share = qs.0 in let others = ‵ (flft κs.1.0 qs.1.0) ⊛ ‵ ftrue in let small_count = are.1.1.1.0.1 in
+    let κ : Lft = κs.0 in let q : Share = qs.0 in let others = ‵ (flft κs.1.0 qs.1.0) ⊛ ‵ ftrue in
+    let small_count = are.1.1.1.0.1 in
     let z : (walk_of 𝓛 Ends hs c).Ghost = (
       (κs, qs, bounds, a, (shr_vals a.0, (base_vals E base, (uint_vals w64 from, (uint_vals w64 count, tt))))),
       gh,
@@ -49,13 +52,7 @@ slice_spec 𝓤 𝓛 𝓜 𝓡 wired X L =
     (fact 𝓤 Asked) ∷ []) ∵
     keep ! (2 ∷ 0 ∷ []) $ heard ! Asked (λ asked. split ! $ split ! $ move ! (2 ∷ []) $
     let within = asked.1.0 in let xs : List X.Denot = asked.1.1.0 in let filled = asked.1.1.1 in
-    let long : length xs ≡ count = omega (
-      arith,
-      ap length filled,
-      length-map xs Some,
-      length-take count (drop_l from d.row),
-      length-drop from d.row,
-    ) in
+    let long = length-run d.row from count asked.1 in
     fsplit ! $ fsplit ! $ keep ! (1 ∷ 3 ∷ 4 ∷ []) $
     -- [the `&`; the token; the other tokens]
     enter ! 𝓣.C 𝓣.Λ fn us Post $ alloc_all !

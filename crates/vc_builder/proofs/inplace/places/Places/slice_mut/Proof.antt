@@ -1,5 +1,5 @@
 -- `slice_mut` lends a run of somes, and the places follow it. Assumes `Logic`.
-use Rattle.vc_builder.proofs.WalkNames.{ !, split3, ◌≡◌, refl, sym, ap, subst, ◌∙◌, List, [], ◌∷◌, ◌++◌, map, ℕ, ◌+◌}
+use Rattle.vc_builder.proofs.WalkNames.{ !, split3, ◌≡◌, refl, sym, ap, subst, ◌∙◌, List, [], ◌∷◌, map, ℕ, ◌+◌}
 use Rattle.vc_builder.proofs.WalkNames.{◌*◌, ◌<◌, ◌≤◌, ◌^◌, arith, length, take, drop_l, length-take, length-drop}
 use Rattle.vc_builder.proofs.WalkNames.{length-append, take_front, Ura, full_share, SProp, ent, sep, never, id⊢, Fml}
 use Rattle.vc_builder.proofs.WalkNames.{Lft, GName, Share, ftrue, fsep, fat, flft, named, w64, a_type, inst_fn, Val}
@@ -21,7 +21,8 @@ use Rattle.circular_buffer.specs.Lends.{spliced}
 use Rattle.vc_builder.specs.PlacesLend.{with_row}
 use Rattle.circular_buffer.specs.Ownership.{slots, cells_own}
 use Rattle.vc_builder.proofs.PlacesLaid.{somes-map}
-use Rattle.vc_builder.proofs.PlacesMemory.{Row, Start, Mark, bytes, base_vals, base-tells, base_stays, base-goes, number_stays, number-goes}
+use Rattle.vc_builder.proofs.PlacesMemory.{length-run, Row, Start, Mark, bytes, base_vals, base-tells, base_stays}
+use Rattle.vc_builder.proofs.PlacesMemory.{base-goes, number_stays, number-goes}
 use Rattle.vc_builder.proofs.WalkNames.{named, proved, mut_vals, mut_Tells, uint_vals, uint_Tells}
 use Rattle.circular_buffer.proofs.Memory.{Around, run_out, run_in, to_cells, of_cells}
 use Rattle.vc_builder.specs.contracts.inplace.places.Places.slice_mut.{ended, clauses}
@@ -51,14 +52,7 @@ module _ (E : El) (d : (Row E).Denot) (from count : ℕ) where
         let run = from * bytes E + o in
         let all : refill count old ws ≡ ws = take_front ws (drop_l (length ws) old) count (same ∙ long) in
         let size : length (written ws).row ≡ length d.row = ap (λ l. length (spliced d.row from count l)) all
-        ∙ omega (
-          arith,
-          length-append (take from d.row) (map Some ws ++ after),
-          length-append (map Some ws) after,
-          length-map ws Some,
-          length-take from d.row,
-          length-drop (from + count) d.row,
-        ) in
+        ∙ simp (length-append, length-map, length-take, length-drop) (omega arith) in
         qed 𝓛 (‵ (cells (mem (R E)) ws b run) ∷ ‵ Others ∷ []) ∵
         use1 𝓛 (‵ (slots (R E) b run (map Some ws))) (of_cells E 𝓛 b ws run) $
         move ! (1 ∷ []) $ fsplit3 ! $ move ! (3 ∷ 0 ∷ []) $
@@ -86,7 +80,8 @@ slice_mut_spec 𝓤 𝓛 𝓜 𝓡 wired X L =
     let rb : ℕ = a.0.ref_ptr.0 in let ro : ℕ = a.0.ref_ptr.1 in let d : (Row E).Denot = a.0.now in
     let base : (Start E).Denot = a.1.0 in let from : ℕ = a.1.1.0 in let count : ℕ = a.1.1.1.0 in
     let us : List Val = vptr rb ro ∷ word base.ptr ∷ vint w64 from ∷ vint w64 count ∷ [] in
-    let κ : Lft = κs.0 in let q : Share = qs.0 in let others = ‵ (flft κs.1.0 qs.1.0) ⊛ ‵ ftrue in let small_count = are.1.1.1.0.1 in
+    let κ : Lft = κs.0 in let q : Share = qs.0 in let others = ‵ (flft κs.1.0 qs.1.0) ⊛ ‵ ftrue in
+    let small_count = are.1.1.1.0.1 in
     let z : (walk_of 𝓛 Ends hs c).Ghost = (
       (κs, qs, bounds, a, (mut_vals a.0, (base_vals E base, (uint_vals w64 from, (uint_vals w64 count, tt))))),
       gh,
@@ -100,13 +95,7 @@ slice_mut_spec 𝓤 𝓛 𝓜 𝓡 wired X L =
     (fact 𝓤 Asked) ∷ []) ∵
     keep ! (2 ∷ 0 ∷ []) $ heard ! Asked (λ asked. split ! $ split ! $ move ! (2 ∷ []) $
     let within = asked.1.0 in let xs : List X.Denot = asked.1.1.0 in let filled = asked.1.1.1 in
-    let long : length xs ≡ count = omega (
-      arith,
-      ap length filled,
-      length-map xs Some,
-      length-take count (drop_l from d.row),
-      length-drop from d.row,
-    ) in
+    let long = length-run d.row from count asked.1 in
     fsplit ! $ fsplit3 ! $ keep ! (1 ∷ 2 ∷ 4 ∷ 5 ∷ []) $
     -- [what self shows; its borrow; the token; the other tokens]
     enter ! 𝓣.C 𝓣.Λ fn us Post $ alloc_all !

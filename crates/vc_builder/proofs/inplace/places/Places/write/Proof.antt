@@ -27,8 +27,8 @@ write_spec 𝓤 𝓛 𝓜 𝓡 wired X L =
     let H = 𝓛.H in let 𝓣 = tables 𝓤 H 𝓜 𝓡 𝓡.env in let E : El = record { row = X; laws = L } in let Ends = ended X in
     let c = clauses X 𝓛 𝓜.mem 𝓡.returns in
     let inst = layouts (a_type ∷ []) (X, tt) in let fn = inst_fn inst code.function in let self = plain (λ _. Row E) in
-    let value = stay_dropped (plain (λ _. R E)) no in
-    let hs : Stays Ends.signature.params Ends.kept = (stay_ref (0 ∷ []) tt self, (base_stays E 2, (number_stays 2, (value, tt)))) in
+    let lent = stay_ref (0 ∷ []) tt self in let value = stay_dropped (plain (λ _. R E)) no in
+    let hs : Stays Ends.signature.params Ends.kept = (lent, (base_stays E 2, (number_stays 2, (value, tt)))) in
     let value-goes = Goes-dropped 𝓛 2 (plain (λ _. R E)) no (λ κs x f. refl) in
     proved_at 𝓛 Ends hs c 𝓜 𝓡 (Goes-ref 𝓛 2 0 tt self, (base-goes E 2 𝓛, (number-goes 2 𝓛, (value-goes, tt))))
     (#self inst) fn (code.unfolded 𝓤 H 𝓜 𝓡 wired (X, tt)) (λ z are.
