@@ -123,3 +123,6 @@ module _ {X A : Type 0} (b : Block X A) (h : IsBlock b) where
       settled _ xs hole new h.owns h.counts.0 (omega arith) (omega arith)
       ((λ i. spliced (h.lies i) b.start count (refill (is i) (old i) zs))
       ∙ laid-spliced xs hole ys new b.start count (omega arith) is)
+
+-- what a step on a block asks for
+pub ruleset block_steps = (hole-first, hole-last, rest-first, row-length, rest-run, somes-map)

@@ -54,9 +54,9 @@ module _ {X : Type 0} where
   unfolding laid
   laid-append xs ys hole others = sym (simp (map-append, append_assoc))
 
-  pub laid-none : (hole : ℕ) → laid {X = X} [] hole [] ≡ replicate hole None
+  pub laid_none : (hole : ℕ) → laid {X = X} [] hole [] ≡ replicate hole None
   unfolding laid
-  laid-none hole = append-nil (replicate hole None)
+  laid_none hole = append-nil (replicate hole None)
 
   pub take-laid : (xs : List X) (hole : ℕ) (others : List (Option X)) → take (length xs) (laid xs hole others) ≡ map Some xs
   unfolding laid

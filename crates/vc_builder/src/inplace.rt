@@ -89,6 +89,7 @@ impl<T, A: Allocator> InPlace<T, A> {
     }
 
     /// The elements that are left, for writing.
+    #[tactic(auto, using(crate::proofs::BlockSteps::block_steps))]
     pub fn rest_mut(&mut self) -> &mut [T]
         ensures* writes_back { sem 𝓛 (lends_rest T.row A.row A.Allocator self.entry result) }
         ensures value { result.now ≡ self.old.rest }

@@ -42,6 +42,7 @@ impl<T, A: Allocator> Block<T, A> {
     }
 
     /// Gives an empty block back.
+    #[tactic(auto, using(crate::proofs::PlacesLaid::laid_none))]
     pub(super) fn destroy_empty(self)
         requires { IsBlock self × (block_view self ≡ builder [] [] self.capacity) }
     {
@@ -58,6 +59,7 @@ impl<T, A: Allocator> Block<T, A> {
     }
 
     /// Puts a value in front of those that are left.
+    #[tactic(auto, using(crate::proofs::BlockSteps::block_steps))]
     pub(super) fn put_rest(&mut self, value: T)
         requires { IsBlock self.old × (self.old.built < self.old.start) }
         ensures { Becomes self.old self.new (builder (block_built self.old)
@@ -78,6 +80,7 @@ impl<T, A: Allocator> Block<T, A> {
     }
 
     /// Takes the first of those that are left.
+    #[tactic(auto, using(crate::proofs::BlockSteps::block_steps))]
     pub(super) fn take_rest(&mut self) -> T
         requires { IsBlock self.old × (self.old.start < self.old.capacity) }
         ensures value { block_rest self.old ≡ result ∷ drop 1 (block_rest self.old) }
@@ -116,6 +119,7 @@ impl<T, A: Allocator> Block<T, A> {
         }
     }
 
+    #[tactic(auto, using(crate::proofs::BlockSteps::block_steps))]
     pub(super) fn rest(&self) -> &[T]
         requires { IsBlock self.now }
         ensures { result.now ≡ block_rest self.now }
@@ -151,6 +155,7 @@ impl<T, A: Allocator> Block<T, A> {
     }
 
     /// Moves the built elements to the end of `list`.
+    #[tactic(auto, using(std::proofs::lemmas::Grind::common_steps), unfolding(crate::specs::Places::laid))]
     pub(super) fn pour(&mut self, list: &mut Vec<T, A>)
         requires { IsBlock self.old × (block_rest self.old ≡ [])
             × (vec_len list.old + self.old.capacity ≤ vec_capacity list.old) }

@@ -1,9 +1,9 @@
-use Rattle.std.proofs.Common.{◌≡◌, ◌+◌, ◌-◌, ◌++◌, [], ◌∷◌, length, map, replicate, take, Some, None, refl, sym, ap, ◌∙◌}
-use Rattle.std.proofs.Common.{append-nil, append_assoc, arith, take_all}
+use Rattle.std.proofs.Common.{◌≡◌, ◌+◌, ◌-◌, ◌++◌, [], ◌∷◌, length, map, replicate, take, Some, None, sym, ap, ◌∙◌}
+use Rattle.std.proofs.Common.{append_assoc, arith}
 use Rattle.std.proofs.lemmas.List.{drop_all, replicate-append-replicate}
 use Rattle.vc_builder.specs.Block.{block_built}
 use Rattle.vc_builder.specs.Places.{laid}
-use Rattle.vc_builder.proofs.PlacesLaid.{laid-none}
+use Rattle.vc_builder.proofs.PlacesLaid.{laid_none}
 use Rattle.vc_builder.proofs.BlockSteps.{poured-next, settled}
 use Rattle.vc_builder.proofs.inplace.block.Block.pour.Goals as goal
 
@@ -13,18 +13,6 @@ read-requires g c =
     let next = poured-next c.loop-i.self.places.row (block_built b) (replicate (b.start - b.built) None) c.loop-i.i (omega arith)
     inv.row in
     (sym inv.owns.0, (next.0, next.1.0))
-
-pub loop-i-init : goal.loop-i-init
-unfolding laid
-loop-i-init g c =
-    let b = c.args.self.now in let h = c.requires.0 in
-    record {
-      owns = h.owns;
-      bounds = (refl, refl, refl);
-      row = h.lies ∙ ap (λ l. laid (block_built b) (b.start - b.built) (map Some l)) c.requires.1 ∙ append-nil _;
-      items = sym (append-nil c.args.list.now.items);
-      room = (refl, omega arith);
-    }
 
 pub loop-i-preserved : goal.loop-i-preserved
 loop-i-preserved g c =
@@ -51,10 +39,5 @@ returns-clause-block g c =
       inv.bounds.2,
       settled c.loop-i.self [] b.capacity [] inv.owns (omega arith) (omega arith) (omega arith)
           (inv.row ∙ ap (λ l. laid [] i (map Some l ++ replicate (b.start - b.built) None)) none
-          ∙ replicate-append-replicate i (b.start - b.built) None ∙ ap (λ k. replicate k None) room ∙ sym (laid-none b.capacity)),
+          ∙ replicate-append-replicate i (b.start - b.built) None ∙ ap (λ k. replicate k None) room ∙ sym (laid_none b.capacity)),
     )
-
-pub returns-clause-items : goal.returns-clause-items
-returns-clause-items g c =
-    let counts = c.requires.0.counts in let xs = block_built c.args.self.now in
-    c.loop-i.invariant.items ∙ ap (λ l. c.args.list.now.items ++ l) (take_all c.loop-i.i xs (omega arith))

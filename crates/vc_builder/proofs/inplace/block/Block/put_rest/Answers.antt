@@ -1,11 +1,7 @@
-use Rattle.std.proofs.Common.{◌-◌, ◌∷◌, refl, sym, ◌∙◌, arith}
+use Rattle.std.proofs.Common.{◌-◌, ◌∷◌, refl, ◌∙◌, arith}
 use Rattle.vc_builder.specs.Block.{block_built, block_rest}
 use Rattle.vc_builder.proofs.BlockSteps.{hole-last, settled}
 use Rattle.vc_builder.proofs.inplace.block.Block.put_rest.Goals as goal
-
-pub write-requires : goal.write-requires
-write-requires g c = let h = c.requires.0 in let place = hole-last c.args.self.now h c.requires.1 in
-    (sym h.owns.0, place.0, place.1)
 
 pub returns : goal.returns
 returns g c =

@@ -1,14 +1,7 @@
-use Rattle.std.proofs.Common.{◌+◌, ◌-◌, drop, refl, sym, ap, ◌∙◌, arith, length}
+use Rattle.std.proofs.Common.{◌+◌, ◌-◌, drop, refl, ap, ◌∙◌, arith, length}
 use Rattle.vc_builder.specs.Block.{block_built, block_rest}
 use Rattle.vc_builder.proofs.BlockSteps.{rest-first, settled}
 use Rattle.vc_builder.proofs.inplace.block.Block.take_rest.Goals as goal
-
-pub read-requires : goal.read-requires
-read-requires g c = let h = c.requires.0 in let first = rest-first c.args.self.now h c.requires.1 in
-    (sym h.owns.0, (first.0, first.1.1.0))
-
-pub returns-clause-value : goal.returns-clause-value
-returns-clause-value g c = let first = rest-first c.args.self.now c.requires.0 c.requires.1 in (cc)
 
 pub returns-clause-after : goal.returns-clause-after
 returns-clause-after g c =
