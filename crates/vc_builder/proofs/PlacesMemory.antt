@@ -1,12 +1,15 @@
 -- What the proofs by hand over the places share: the types that they speak of, and what is passed in and dropped.
 --   base-tells       a base tells its machine value
 --   base-goes, number-goes       nothing is had of a base or a number at the end
+--   mark-told, title-told       owners of no bytes tell their machine value; run-tells       so does what says a run of places
+--   length-run       a run of places is as long as its values
 use Rattle.vc_builder.proofs.WalkNames.{◌≡◌, refl, ap, ◌∙◌, List, [], ◌∷◌, ◌++◌, ℕ, Val, vstruct, of_list, Ura, Logic}
 use Rattle.vc_builder.proofs.WalkNames.{yes, no, usize}
 use Rattle.vc_builder.proofs.WalkNames.{RattleType, type_size, El, R, Is, plain, Stay, Goes, stay_dropped, Goes-dropped, word}
 use Rattle.vc_builder.proofs.WalkNames.{arith, length, drop_l as drop, length-take, length-drop, length-map, Option, Some}
 use Rattle.circular_buffer.specs.Places.{IsRun}
-use denote.Laws.{Tells}
+use Rattle.vc_builder.proofs.WalkNames.{w64, uint_vals, uint_Tells}
+use denote.Laws.{Tells, Tellss, Ises, Spells}
 use Rattle.circular_buffer.proofs.Memory.{mark}
 use denote.Struct.Struct.{Struct}
 use denote.Struct.Owning.{shape}
@@ -67,3 +70,14 @@ number-goes n 𝓛 = Goes-dropped 𝓛 n (plain (λ _. usize)) yes (λ κs x f. 
 pub length-run : {X : Type 0} (row : List (Option X)) (from count : ℕ) (run : IsRun row from count) → length run.1.0 ≡ count
 length-run row from count run =
     omega (arith, ap length run.1.1, length-map run.1.0 Some, length-take count (drop from row), length-drop from row)
+
+-- a base and two numbers, which say a run of places
+module _ (E : El) where
+  abbrev pub run_types : List RattleType
+  run_types = Start E ∷ usize ∷ usize ∷ []
+
+  abbrev pub run_vals : Spells run_types
+  run_vals = (base_vals E, (uint_vals w64, (uint_vals w64, tt)))
+
+  pub run-tells : Tellss run_types (Ises run_types) run_vals
+  run-tells = (base-tells E, (uint_Tells w64, (uint_Tells w64, tt)))

@@ -1,7 +1,7 @@
 -- `allocate` cuts a new block into empty places, and keeps the right to free it. Assumes `Logic`.
-use Rattle.vc_builder.proofs.WalkNames.{ !, [], ◌≡◌, refl, sym, ap, subst, true, false, List, ◌∷◌, ℕ, ◌*◌, ◌<◌}
+use Rattle.vc_builder.proofs.WalkNames.{ !, [], ◌≡◌, refl, sym, ap, subst, true, false, ◌∷◌, ℕ, ◌*◌, ◌<◌}
 use Rattle.vc_builder.proofs.WalkNames.{◌^◌, arith, lit<, length, replicate, length-replicate, SProp, ent, Lft}
-use Rattle.vc_builder.proofs.WalkNames.{Share, ftrue, flft, Incl-trans, w64, ty_array, inst_fn, Val, vptr, vint}
+use Rattle.vc_builder.proofs.WalkNames.{Share, ftrue, flft, Incl-trans, w64, ty_array, inst_fn, Val, vint}
 use Rattle.vc_builder.proofs.WalkNames.{vstruct, vcons, vnil, Env, Item, ⋆, ‵, raw, later, await, at_ret, ◌⊛◌}
 use Rattle.vc_builder.proofs.WalkNames.{◌$◌, ◌∵◌, qed, by, move, keep, use0, use1, use2, use3, split, join, fsplit}
 use Rattle.vc_builder.proofs.WalkNames.{fjoin, flt_i, suffices, frame, done, whole, agg, lit}
@@ -63,7 +63,6 @@ allocate_spec 𝓤 𝓛 𝓜 𝓡 wired X W LX LW g d dd met md =
     let z : (walk_of 𝓛 Ends hs c).Ghost = ((κs, qs, bounds, x, (shr_vals x.0, (uint_vals w64 count, tt))), gh) in
     let Asked : Type 0 = FitsInBlock (R E) count in let s : ℕ = bytes E in
     let Post : Val → SProp 𝓤 = (walk_of 𝓛 Ends hs c).post z in
-    let us : List Val = vptr rb ro ∷ vint w64 count ∷ [] in
     let leave : (r : Out.Denot) (v : Val)
     → IfOk r (λ t. (t.1.at ≡ t.0.ptr) × (t.1.row ≡ replicate count None) × (t.2.at ≡ t.0.ptr) × (t.2.count ≡ count)
     × (t.2.alloc ≡ a))
@@ -78,7 +77,7 @@ allocate_spec 𝓤 𝓛 𝓜 𝓡 wired X W LX LW g d dd met md =
     let small : count * s < 2 ^ 63 = asked.0 in let fit : count * s < 2 ^ 64 = omega arith in
     fsplit ! $ fsplit ! $ keep ! (1 ∷ 3 ∷ 4 ∷ []) $
     -- [the `&` to the allocator; the token; the other tokens]
-    enter ! 𝓣.C 𝓣.Λ fn us Post $ alloc_all !
+    enter ! 𝓣.C 𝓣.Λ fn _ Post $ alloc_all !
     (λ l. pass_all ! refl ((tt, tt), ((tt, record { fits = are.1.0.1 }), tt)) $
     let Ev : Env 𝓤 H = env fn.locals l in let both : Body = head (after 2 fn.body) in
     let alignment : ℕ = capped (align (elτ E)) in

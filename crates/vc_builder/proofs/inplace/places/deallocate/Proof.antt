@@ -1,7 +1,7 @@
 -- `deallocate` makes the block of its empty places, and gives it back. Assumes `Logic`.
 use Rattle.vc_builder.proofs.WalkNames.{ !, [], ◌≡◌, refl, sym, ap, subst, ◌∙◌, List, ◌∷◌, ℕ, ◌*◌, ◌<◌, ◌^◌}
 use Rattle.vc_builder.proofs.WalkNames.{arith, replicate, length-replicate, SProp, never, id⊢, Lft, Share, ftrue}
-use Rattle.vc_builder.proofs.WalkNames.{froom, flft, Incl-trans, w64, ty_array, ty_unit, inst_fn, Val, vptr, vint}
+use Rattle.vc_builder.proofs.WalkNames.{froom, flft, Incl-trans, w64, ty_array, ty_unit, inst_fn, Val, vint}
 use Rattle.vc_builder.proofs.WalkNames.{vunit, has_ty, WT, Env, Item, ‵, raw, given, later, await, learn}
 use Rattle.vc_builder.proofs.WalkNames.{at_ret, ◌⊛◌, ◌$◌, ◌∵◌, qed, move, keep, use1, split, join, group, rewrite}
 use Rattle.vc_builder.proofs.WalkNames.{fsplit, fsplit3, fjoin, feq_i, flt_l, suffices, done, whole, sub, stop}
@@ -10,7 +10,7 @@ use Rattle.vc_builder.proofs.WalkNames.{blocks, exec, returns, enter, alloc_all,
 use Rattle.vc_builder.proofs.WalkNames.{get_in, sets, lands_last, is, env, fact, tables, ◌⊑◌, RefOf, yes, no}
 use Rattle.vc_builder.proofs.WalkNames.{RattleType, owns, Ptr, ptr_val, in_a_block, plain, types_at, nothing, heard}
 use Rattle.vc_builder.proofs.WalkNames.{Stays, stay_dropped, walk_of, ends_at, Goes-dropped, Option, None}
-use Rattle.vc_builder.proofs.WalkNames.{tail, El, R, elτ, uncapped, as_raw, word, word-Good}
+use Rattle.vc_builder.proofs.WalkNames.{tail, El, R, elτ, uncapped, as_raw, word-Good}
 use lib.Dec.{T}
 use prog.Memory.{align, capped}
 use prog.Capped.{capped_fits}
@@ -57,7 +57,6 @@ deallocate_spec 𝓤 𝓛 𝓜 𝓡 wired X W LX LW g d dd met md =
     let rb : ℕ = z.0.ref_ptr.0 in let ro : ℕ = z.0.ref_ptr.1 in let a : W.Denot = z.0.now in
     let base : (Start E).Denot = z.1.0 in let count : ℕ = z.1.1.0 in let row : (Row E).Denot = z.1.1.1.0 in
     let title : Deed.Denot = z.1.1.1.1.0 in
-    let us : List Val = vptr rb ro ∷ word base.ptr ∷ vint w64 count ∷ mark ∷ mark ∷ [] in
     let y : (walk_of 𝓛 Ends hs c).Ghost = (
       (κs, qs, bounds, z, (shr_vals z.0, (base_vals E base, (uint_vals w64 count, (mark ∷ [], (mark ∷ [], tt)))))),
       gh,
@@ -72,7 +71,7 @@ deallocate_spec 𝓤 𝓛 𝓜 𝓡 wired X W LX LW g d dd met md =
     fsplit3 ! $ fsplit ! $ move ! (3 ∷ []) $ fsplit3 ! $ move ! (1 ∷ []) $ fsplit ! $ move ! (3 ∷ []) $ fsplit ! $ fsplit ! $
     keep ! (4 ∷ 1 ∷ 7 ∷ 9 ∷ 10 ∷ []) $
     -- [the places; the right to free them; the `&` to the allocator; the token; the other tokens]
-    enter ! 𝓣.C 𝓣.Λ fn us Post $ alloc_all !
+    enter ! 𝓣.C 𝓣.Λ fn _ Post $ alloc_all !
     (λ l. pass_all ! refl (
       (tt, tt),
       (word-Good [] base.ptr, ((tt, record { fits = are.1.1.0.1 }), ((tt, (tt, tt)), ((tt, (tt, tt)), tt)))),

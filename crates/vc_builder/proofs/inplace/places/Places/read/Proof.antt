@@ -1,7 +1,7 @@
 -- `read` moves a value out, and its place is empty. Assumes `Logic`.
 use Rattle.vc_builder.proofs.WalkNames.{ !, ◌≡◌, refl, sym, subst, ◌∙◌, List, [], ◌∷◌, ℕ, ◌+◌, ◌*◌, ◌<◌, ◌^◌}
 use Rattle.vc_builder.proofs.WalkNames.{arith, length, set, get_or, length-set, full_share, SProp, never, id⊢}
-use Rattle.vc_builder.proofs.WalkNames.{ftrue, fat, froom, flft, w64, a_type, inst_fn, Val, vptr, vint}
+use Rattle.vc_builder.proofs.WalkNames.{ftrue, fat, froom, flft, w64, a_type, inst_fn, Val}
 use Rattle.vc_builder.proofs.WalkNames.{Env, ‵, raw, some, given, pick, learn, at_ret, ◌⊛◌, ◌$◌, ◌∵◌, qed, move}
 use Rattle.vc_builder.proofs.WalkNames.{keep, use1, use2, split, join, rewrite, fsplit, fsplit3, fjoin, fjoin3, feq_i}
 use Rattle.vc_builder.proofs.WalkNames.{flt_i, flt_l, suffices, frame, done, whole, sub, look, load, stop, fld}
@@ -35,7 +35,6 @@ read_spec 𝓤 𝓛 𝓜 𝓡 wired X L =
     (λ κs. (mut_Tells (named 0) κs.0 (Row E), (base-tells E, (uint_Tells w64, tt)))) (λ κs qs bounds a gh are.
     let rb : ℕ = a.0.ref_ptr.0 in let ro : ℕ = a.0.ref_ptr.1 in let d : (Row E).Denot = a.0.now in
     let base : (Start E).Denot = a.1.0 in let index : ℕ = a.1.1.0 in
-    let us : List Val = vptr rb ro ∷ word base.ptr ∷ vint w64 index ∷ [] in
     let z : (walk_of 𝓛 Ends hs c).Ghost = (
       (κs, qs, bounds, a, (mut_vals a.0, (base_vals E base, (uint_vals w64 index, tt)))),
       gh,
@@ -52,7 +51,7 @@ read_spec 𝓤 𝓛 𝓜 𝓡 wired X L =
     let within : index < length d.row = filled_within d.row index x filled in
     fsplit ! $ fsplit3 ! $ keep ! (1 ∷ 2 ∷ 4 ∷ 5 ∷ []) $
     -- [what self shows; its borrow; the token; the other tokens]
-    enter ! 𝓣.C 𝓣.Λ fn us Post $ alloc_all !
+    enter ! 𝓣.C 𝓣.Λ fn _ Post $ alloc_all !
     (λ l. pass_all ! refl ((tt, tt), (word-Good [] base.ptr, ((tt, record { fits = are.1.1.0.1 }), tt))) $
     let Ev : Env 𝓤 H = env fn.locals l in
     opens ! tt (Row E) {h = d} rb ro (λ vs. move ! (1 ∷ []) $ fsplit ! $ move ! (1 ∷ []) $

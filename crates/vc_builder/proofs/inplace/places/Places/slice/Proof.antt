@@ -1,7 +1,7 @@
 -- `slice` shows a run of somes that the places lend. Assumes `Logic`.
 use Rattle.vc_builder.proofs.WalkNames.{ !, ◌≡◌, refl, sym, ap, subst, ◌∙◌, List, [], ◌∷◌, ℕ, ◌+◌, ◌*◌, ◌<◌, ◌^◌}
 use Rattle.vc_builder.proofs.WalkNames.{arith, length, full_share, SProp}
-use Rattle.vc_builder.proofs.WalkNames.{never, id⊢, Lft, Share, ftrue, fat, flft, w64, a_type, inst_fn, Val, vptr}
+use Rattle.vc_builder.proofs.WalkNames.{never, id⊢, Lft, Share, ftrue, fat, flft, w64, a_type, inst_fn, Val}
 use Rattle.vc_builder.proofs.WalkNames.{vint, Env, ‵, raw, at_ret, ◌⊛◌, ◌$◌, ◌∵◌, qed, move, keep, drop, use1}
 use Rattle.vc_builder.proofs.WalkNames.{split, join, rewrite, fsplit, fjoin, feq_i, flt_i, flt_l, suffices}
 use Rattle.vc_builder.proofs.WalkNames.{frame, done, whole, sub, agg, stop, fld, bin, of_opd, size_word, and_then}
@@ -14,9 +14,10 @@ use Rattle.vc_builder.proofs.WalkNames.{tail, El, R, times_below, uncapped, word
 use Rattle.circular_buffer.specs.Places.{somes, IsRun}
 use Rattle.circular_buffer.specs.Ownership.{cells_lent}
 use Rattle.vc_builder.proofs.PlacesLaid.{somes-map}
-use Rattle.vc_builder.proofs.PlacesMemory.{length-run, Row, Start, bytes, base_vals, base-tells, base_stays, base-goes}
+use denote.Laws.{valss}
+use Rattle.vc_builder.proofs.PlacesMemory.{run_types, run_vals, run-tells, length-run, Row, Start, bytes, base_stays, base-goes}
 use Rattle.vc_builder.proofs.PlacesMemory.{number_stays, number-goes}
-use Rattle.vc_builder.proofs.WalkNames.{named, proved, shr_vals, shr_Tells, uint_vals, uint_Tells}
+use Rattle.vc_builder.proofs.WalkNames.{named, proved, shr_vals, shr_Tells}
 use Rattle.circular_buffer.proofs.Memory.{run_seen}
 use Rattle.vc_builder.specs.contracts.inplace.places.Places.slice.{ended, clauses}
 use Rattle.vc_builder.specs.contracts.inplace.places.Places.slice.Key.{name as #self}
@@ -33,18 +34,12 @@ slice_spec 𝓤 𝓛 𝓜 𝓡 wired X L =
     let hs : Stays Ends.signature.params Ends.kept = (lent, (base_stays E 2, (number_stays 2, (number_stays 2, tt)))) in
     let lent-goes = Goes-dropped 𝓛 2 self yes (λ κs x f. refl) in
     proved 𝓛 Ends hs c 𝓜 𝓡 (lent-goes, (base-goes E 2 𝓛, (number-goes 2 𝓛, (number-goes 2 𝓛, tt))))
-    (#self inst) fn (code.unfolded 𝓤 H 𝓜 𝓡 wired (X, tt))
-    (λ κs. (shr_vals, (base_vals E, (uint_vals w64, (uint_vals w64, tt)))))
-    (λ κs. (shr_Tells (named 0) κs.0 (Row E), (base-tells E, (uint_Tells w64, (uint_Tells w64, tt))))) (λ κs qs bounds a gh are.
-    let rb : ℕ = a.0.ref_ptr.0 in let ro : ℕ = a.0.ref_ptr.1 in let d : (Row E).Denot = a.0.now in
-    let base : (Start E).Denot = a.1.0 in let from : ℕ = a.1.1.0 in let count : ℕ = a.1.1.1.0 in
-    let us : List Val = vptr rb ro ∷ word base.ptr ∷ vint w64 from ∷ vint w64 count ∷ [] in
+    (#self inst) fn (code.unfolded 𝓤 H 𝓜 𝓡 wired (X, tt)) (λ κs. (shr_vals, run_vals E))
+    (λ κs. (shr_Tells (named 0) κs.0 (Row E), run-tells E)) (λ κs qs bounds a gh are.
+    let d : (Row E).Denot = a.0.now in let base : (Start E).Denot = a.1.0 in
+    let from : ℕ = a.1.1.0 in let count : ℕ = a.1.1.1.0 in let small_count = are.1.1.1.0.1 in
     let κ : Lft = κs.0 in let q : Share = qs.0 in let others = ‵ (flft κs.1.0 qs.1.0) ⊛ ‵ ftrue in
-    let small_count = are.1.1.1.0.1 in
-    let z : (walk_of 𝓛 Ends hs c).Ghost = (
-      (κs, qs, bounds, a, (shr_vals a.0, (base_vals E base, (uint_vals w64 from, (uint_vals w64 count, tt))))),
-      gh,
-    ) in
+    let z : (walk_of 𝓛 Ends hs c).Ghost = ((κs, qs, bounds, a, (shr_vals a.0, valss (run_types E) (run_vals E) a.1)), gh) in
     let Asked : Type 0 = (base.ptr ≡ d.at) × IsRun d.row from count in
     let Post : Val → SProp 𝓤 = (walk_of 𝓛 Ends hs c).post z in
     let s : ℕ = bytes E in
@@ -55,7 +50,7 @@ slice_spec 𝓤 𝓛 𝓜 𝓡 wired X L =
     let long = length-run d.row from count asked.1 in
     fsplit ! $ fsplit ! $ keep ! (1 ∷ 3 ∷ 4 ∷ []) $
     -- [the `&`; the token; the other tokens]
-    enter ! 𝓣.C 𝓣.Λ fn us Post $ alloc_all !
+    enter ! 𝓣.C 𝓣.Λ fn _ Post $ alloc_all !
     (λ l. pass_all ! refl (
       (tt, tt),
       (word-Good [] base.ptr, ((tt, record { fits = are.1.1.0.1 }), ((tt, record { fits = small_count }), tt))),

@@ -3,7 +3,7 @@ use Rattle.vc_builder.proofs.WalkNames.{ !, split3, ◌≡◌, refl, sym, ap, su
 use Rattle.vc_builder.proofs.WalkNames.{◌*◌, ◌<◌, ◌≤◌, ◌^◌, arith, length, take, drop_l, length-take, length-drop}
 use Rattle.vc_builder.proofs.WalkNames.{length-append, take_front, Ura, full_share, SProp, ent, sep, never, id⊢, Fml}
 use Rattle.vc_builder.proofs.WalkNames.{Lft, GName, Share, ftrue, fsep, fat, flft, named, w64, a_type, inst_fn, Val}
-use Rattle.vc_builder.proofs.WalkNames.{vptr, vint, Env, Logic, sem, cells, ‵, raw, some, later, await, pick}
+use Rattle.vc_builder.proofs.WalkNames.{vint, Env, Logic, sem, cells, ‵, raw, some, later, await, pick}
 use Rattle.vc_builder.proofs.WalkNames.{at_ret, ◌⊛◌, ◌$◌, ◌∵◌, qed, move, keep, use1, use2, split, join, group}
 use Rattle.vc_builder.proofs.WalkNames.{rewrite, fsplit, fsplit3, fjoin, fjoin3, fpack, flt_i, flt_l, suffices}
 use Rattle.vc_builder.proofs.WalkNames.{frame, done, whole, sub, agg, stop, fld, bin, of_opd, size_word, and_then}
@@ -21,9 +21,10 @@ use Rattle.circular_buffer.specs.Lends.{spliced}
 use Rattle.vc_builder.specs.PlacesLend.{with_row}
 use Rattle.circular_buffer.specs.Ownership.{slots, cells_own}
 use Rattle.vc_builder.proofs.PlacesLaid.{somes-map}
-use Rattle.vc_builder.proofs.PlacesMemory.{length-run, Row, Start, Mark, bytes, base_vals, base-tells, base_stays}
+use denote.Laws.{valss}
+use Rattle.vc_builder.proofs.PlacesMemory.{run_types, run_vals, run-tells, length-run, Row, Start, Mark, bytes, base_stays}
 use Rattle.vc_builder.proofs.PlacesMemory.{base-goes, number_stays, number-goes}
-use Rattle.vc_builder.proofs.WalkNames.{named, proved, mut_vals, mut_Tells, uint_vals, uint_Tells}
+use Rattle.vc_builder.proofs.WalkNames.{named, proved, mut_vals, mut_Tells}
 use Rattle.circular_buffer.proofs.Memory.{Around, run_out, run_in, to_cells, of_cells}
 use Rattle.vc_builder.specs.contracts.inplace.places.Places.slice_mut.{ended, clauses}
 use Rattle.vc_builder.specs.contracts.inplace.places.Places.slice_mut.Key.{name as #self}
@@ -74,19 +75,13 @@ slice_mut_spec 𝓤 𝓛 𝓜 𝓡 wired X L =
     let lent = stay_dropped (mut_ref_to (0 ∷ []) tt self) no in
     let hs : Stays Ends.signature.params Ends.kept = (lent, (base_stays E 2, (number_stays 2, (number_stays 2, tt)))) in
     proved 𝓛 Ends hs c 𝓜 𝓡 (Goes-spent_ref 𝓛 2 (0 ∷ []) tt self, (base-goes E 2 𝓛, (number-goes 2 𝓛, (number-goes 2 𝓛, tt))))
-    (#self inst) fn (code.unfolded 𝓤 H 𝓜 𝓡 wired (X, tt))
-    (λ κs. (mut_vals, (base_vals E, (uint_vals w64, (uint_vals w64, tt)))))
-    (λ κs. (mut_Tells (named 0) κs.0 (Row E), (base-tells E, (uint_Tells w64, (uint_Tells w64, tt))))) (λ κs qs bounds a gh are.
-    let rb : ℕ = a.0.ref_ptr.0 in let ro : ℕ = a.0.ref_ptr.1 in let d : (Row E).Denot = a.0.now in
-    let base : (Start E).Denot = a.1.0 in let from : ℕ = a.1.1.0 in let count : ℕ = a.1.1.1.0 in
-    let us : List Val = vptr rb ro ∷ word base.ptr ∷ vint w64 from ∷ vint w64 count ∷ [] in
+    (#self inst) fn (code.unfolded 𝓤 H 𝓜 𝓡 wired (X, tt)) (λ κs. (mut_vals, run_vals E))
+    (λ κs. (mut_Tells (named 0) κs.0 (Row E), run-tells E)) (λ κs qs bounds a gh are.
+    let rb : ℕ = a.0.ref_ptr.0 in let ro : ℕ = a.0.ref_ptr.1 in let γ : GName = a.0.ghost_name in
+    let d : (Row E).Denot = a.0.now in let base : (Start E).Denot = a.1.0 in
+    let from : ℕ = a.1.1.0 in let count : ℕ = a.1.1.1.0 in let small_count = are.1.1.1.0.1 in
     let κ : Lft = κs.0 in let q : Share = qs.0 in let others = ‵ (flft κs.1.0 qs.1.0) ⊛ ‵ ftrue in
-    let small_count = are.1.1.1.0.1 in
-    let z : (walk_of 𝓛 Ends hs c).Ghost = (
-      (κs, qs, bounds, a, (mut_vals a.0, (base_vals E base, (uint_vals w64 from, (uint_vals w64 count, tt))))),
-      gh,
-    ) in
-    let γ : GName = a.0.ghost_name in
+    let z : (walk_of 𝓛 Ends hs c).Ghost = ((κs, qs, bounds, a, (mut_vals a.0, valss (run_types E) (run_vals E) a.1)), gh) in
     let Asked : Type 0 = (base.ptr ≡ d.at) × IsRun d.row from count in
     let Post : Val → SProp 𝓤 = (walk_of 𝓛 Ends hs c).post z in
     let s : ℕ = bytes E in
@@ -98,7 +93,7 @@ slice_mut_spec 𝓤 𝓛 𝓜 𝓡 wired X L =
     let long = length-run d.row from count asked.1 in
     fsplit ! $ fsplit3 ! $ keep ! (1 ∷ 2 ∷ 4 ∷ 5 ∷ []) $
     -- [what self shows; its borrow; the token; the other tokens]
-    enter ! 𝓣.C 𝓣.Λ fn us Post $ alloc_all !
+    enter ! 𝓣.C 𝓣.Λ fn _ Post $ alloc_all !
     (λ l. pass_all ! refl (
       (tt, tt),
       (word-Good [] base.ptr, ((tt, record { fits = are.1.1.0.1 }), ((tt, record { fits = small_count }), tt))),
