@@ -5,10 +5,10 @@
 use Rattle.std.proofs.Common.{◌≡◌, ℕ, ◌<◌, ◌≤◌, [], ◌∷◌, List, Option, None, Some, refl, sym, ap, subst, is_some}
 use Rattle.std.proofs.Common.{take, drop, length, append-nil, slice_get}
 use Rattle.std.proofs.lemmas.List.{drop-append-le, take-append-le}
-use Rattle.std.specs.Cmp.{IsTotalOrder, tied_itself}
+use Rattle.std.specs.Cmp.{IsTotalOrder}
 use Rattle.std.specs.declared.cmp.Ordering.{Ordering}
 use Rattle.vc_tree_model.specs.Canonical.{AreChildren, IsCanonical}
-use Rattle.vc_tree_model.specs.Child.{BeginsWith, solid_child, bound_by}
+use Rattle.vc_tree_model.specs.Child.{Begins, BeginsWith, solid_child, bound_by}
 use Rattle.vc_tree_model.specs.Key.{behind}
 use Rattle.vc_tree_model.specs.Look.{values}
 use Rattle.vc_tree_model.specs.Map.{lookup, lookup_in, node_lookup}
@@ -16,7 +16,7 @@ use Rattle.vc_tree_model.specs.Same.{IsAlike}
 use Rattle.vc_tree_model.specs.Tree.{Tree, Forest, bare, grow, node, shortened}
 use Rattle.vc_tree_model.specs.Value.{IsKept}
 use Rattle.vc_tree_model.proofs.Joining.{joined-child, joined-begins, trees-combined, value-asked, children-asked}
-use Rattle.vc_tree_model.proofs.KeyLemmas.{none-some, same-itself}
+use Rattle.vc_tree_model.proofs.KeyLemmas.{same-itself}
 use Rattle.vc_tree_facing.specs.Lessening.{left_of, KeepsFront, IsLessenedIn}
 use Rattle.vc_tree_facing.specs.Made.{IsMade, IsBothMadeBy}
 use Rattle.vc_tree_facing.proofs.Copied.{copied-by}
@@ -33,10 +33,10 @@ nothing-at {K} {W} cmp p k = by (behind cmp p k)
 
 -- ---- a tree of which the right side has no key
 
-begins-by : {K V : Type 0} {cmp : K → K → Ordering} (o : IsTotalOrder cmp) (p : List K) (v : Option V) (f : Forest K V) (y : K)
-    → slice_get p 0 ≡ Some y → BeginsWith cmp y (solid_child p v f)
-begins-by o [] v f y g = none-some y g
-begins-by {cmp = cmp} o (x ∷ p) v f y g = let h : x ≡ y = cc in joined-begins cmp y x p v f (rw h (tied_itself o y))
+begins-by : {K V : Type 0} (cmp : K → K → Ordering) (p : List K) (v : Option V) (f : Forest K V) (y : K) → Begins cmp y p
+    → BeginsWith cmp y (solid_child p v f)
+begins-by cmp [] v f y b = absurd b
+begins-by cmp (x ∷ p) v f y b = joined-begins cmp y x p v f b
 
 module _ {K V W : Type 0} {cmp : K → K → Ordering} (o : IsTotalOrder cmp) (t : Tree K V) where
   module _ (asks : Option V → Option W → Type 0) (h : (k : List K) → asks (lookup cmp t k) None) where
@@ -71,7 +71,7 @@ module _ {K V : Type 0} (cmp : K → K → Ordering) (o : IsTotalOrder cmp) wher
     made =
         rw h.is (record {
           child = joined-child cmp (drop n t.prefix) h.value h.kids h.children;
-          begins = λ y e. begins-by o (drop n t.prefix) h.value h.kids y e;
+          begins = λ y e. begins-by cmp (drop n t.prefix) h.value h.kids y e;
           binds = alone-binds o (shortened n t) R none h.value h.kids h.said h.below h.children;
         });
     front = h.front;

@@ -28,9 +28,8 @@ use Rattle.vc_tree_nodes.specs.Children.{seen}
 use Rattle.vc_tree_facing.specs.Doing.{AreFirst, IsSaidIn, IsSaidOf}
 use Rattle.vc_tree_facing.specs.Sides.{by_component, by_component_total, lower_side, side_next}
 use Rattle.vc_tree_facing.specs.declared.sides.Side.TheVariants.{Left, Right, Both}
-use Rattle.vc_tree_facing.proofs.Components.{children-first}
+use Rattle.vc_tree_facing.proofs.Components.{agree-first, children-first}
 use Rattle.vc_tree_facing.proofs.Doing.{left-first, right-first, both-first, said-apart, said-joined}
-use Rattle.vc_tree_facing.proofs.Next.{agree-first}
 use Rattle.vc_tree_combines.specs.Meeting.{IsMet, IsMissed, TellsKeysIn, AreTails, IsMeeting}
 use Rattle.vc_tree_combines.proofs.Meeting.{met-alone}
 
@@ -246,8 +245,8 @@ script-rest e es s = record { left = refl; right = refl; ascends = s.ascends.1; 
 module _ {K V W A B : Type 0} (cmp : K → K → Ordering) (o : IsTotalOrder cmp) (ta : A → Tree K V) (tb : B → Tree K W)
     (shared : Bool) {xs : List A} {ys : List B} where
   -- the next trees
-  module _ {c : K} (a : Option A) (b : Option B) {ls : List A} {rs : List B}
-      (t : AreTails cmp ta tb shared xs ys (cons_option a ls) (cons_option b rs)) (f : AreFirst cmp ta tb 0 0 c a b ls rs) where
+  module _ (a : Option A) (b : Option B) {ls : List A} {rs : List B}
+      (t : AreTails cmp ta tb shared xs ys (cons_option a ls) (cons_option b rs)) (f : AreFirst cmp ta tb 0 0 a b ls rs) where
     -- a key that is missed at them or behind them, is missed in both lists
     missed : IsSaidOf cmp ta tb 0 0 (values cmp) (λ v w. IsMissed shared v w
         → TellsKeysIn cmp shared (seen ta xs) (seen tb ys) false) a b
@@ -285,11 +284,11 @@ module _ {K V W A B : Type 0} (cmp : K → K → Ordering) (o : IsTotalOrder cmp
       let m = t.left_nodes in
       let n = t.right_nodes in
       record {
-        agree = agree-first cmp (ta x).prefix (tb y).prefix f.0 f.1 f.2 f.3 f.4;
+        agree = agree-first cmp o (ta x).prefix (tb y).prefix f.place f.left f.right;
         left_nodes = omega (arith, m);
         right_nodes = omega (arith, n);
-        here_missed = λ h. (missed (Some x) (Some y) t f.5).0 h.0 h.1;
-        here_met = behind-met (Some x) (Some y) t f.5;
+        here_missed = λ h. (missed (Some x) (Some y) t f).0 h.0 h.1;
+        here_met = behind-met (Some x) (Some y) t f;
       }
 
   -- a tree of the left list is missed
@@ -300,7 +299,7 @@ module _ {K V W A B : Type 0} (cmp : K → K → Ordering) (o : IsTotalOrder cmp
       let f = left-first o ta tb 0 0 x ls rs t.left t.right z in
       let c = first-child (ta x).prefix (ta x).value (ta x).children (seen ta ls) t.left in
       let b = tree-bound cmp o (ta x).prefix (ta x).value (ta x).children c.0 c.1 in
-      (missed (Some x) None t f.2).0 ((ta x).prefix ++ b.key) (rw (e, b.is) refl)
+      (missed (Some x) None t f).0 ((ta x).prefix ++ b.key) (rw (e, b.is) refl)
     where
       first-child : (p : List K) (v : Option V) (kids rest : Forest K V) → AreChildren cmp (grow p v kids rest)
           → IsSolid v kids × AreChildren cmp kids
@@ -319,12 +318,12 @@ module _ {K V W A B : Type 0} (cmp : K → K → Ordering) (o : IsTotalOrder cmp
       let u = rw (← s.left, ← s.right) at t in
       let f = left-first o ta tb 0 0 x (lefts (es ++ rest)) (rights (es ++ rest)) u.left u.right z in
       passed-met es rest a.1 (script-rest (left_alone x) (es ++ rest) s)
-      (behind-met (Some x) None u f.2 (λ k. rw a.0 (met-alone W (lookup cmp (ta x) k))))
+      (behind-met (Some x) None u f (λ k. rw a.0 (met-alone W (lookup cmp (ta x) k))))
   passed-met (right_alone y ∷ es) rest a s t =
       let z = side-right (by_component ta tb 0 0 cmp) (by_component_total ta tb 0 0 o) y (es ++ rest) s.ascends.0 in
       let u = rw (← s.left, ← s.right) at t in
       let f = right-first o ta tb 0 0 (lefts (es ++ rest)) y (rights (es ++ rest)) u.left u.right z in
-      passed-met es rest a.1 (script-rest (right_alone y) (es ++ rest) s) (behind-met None (Some y) u f.2 (λ k. tt))
+      passed-met es rest a.1 (script-rest (right_alone y) (es ++ rest) s) (behind-met None (Some y) u f (λ k. tt))
   passed-met (collision x y ∷ es) rest a s t = absurd a.0
 
 module _ {K V W A B : Type 0} {cmp : K → K → Ordering} {ta : A → Tree K V} {tb : B → Tree K W} {shared : Bool} {xs : List A}

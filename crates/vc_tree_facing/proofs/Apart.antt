@@ -9,7 +9,7 @@ use Rattle.vc_tree_facing.specs.Facing.{IsSplit}
 use Rattle.vc_tree_facing.specs.Lessening.{left_of, KeepsFront, IsLessened}
 use Rattle.vc_tree_facing.specs.Made.{IsMade}
 use Rattle.vc_tree_facing.proofs.Advancing.{alone-asked, inside-alone}
-use Rattle.vc_tree_facing.proofs.Leaving.{apart-sought, apart-begun, inner-value, inner-children, inside-lessened}
+use Rattle.vc_tree_facing.proofs.Leaving.{apart-sought, apart-begun, inner-node, inside-lessened}
 
 module _ {K V W T B : Type 0} {cmp : K → K → Ordering} (ta : T → Tree K V) (x : T) (tb : B → Tree K W) (y : B) {i j n : ℕ}
     (s : IsSplit cmp (ta x) i (tb y) j n) (within : i + n < length (ta x).prefix) (beyond : j + n < length (tb y).prefix)
@@ -26,7 +26,6 @@ module _ {K V W T B : Type 0} {cmp : K → K → Ordering} (ta : T → Tree K V)
       → IsMade cmp (λ v z. R v l.none z) (shortened (i + n) (ta x)) (left_of stays (i + n) new)
       → IsLessened cmp l R i (ta x) (shortened j (tb y)) stays new
   apart-lessened front made =
-      inside-lessened s
+      inside-lessened s (inner-node j n (tb y) beyond) (nothing l.none)
       (inside-alone begun (apart-sought ta x tb y s within beyond).1 refl
-      (λ v p z h. subst (λ o. R v o z) (sym (l.under_none p)) h) (nothing (l.at None)) front refl made)
-      (nothing l.none) within (inner-value j n (tb y) beyond) (inner-children j n (tb y) beyond)
+      (λ v p z h. subst (λ o. R v o z) (sym (l.under_none p)) h) (nothing (l.at None)) front refl made) within

@@ -10,7 +10,6 @@ use Rattle.vc_tree_model.specs.Canonical.{IsCanonical, IsWhole, IsSolid}
 use Rattle.vc_tree_model.specs.Child.{Begins}
 use Rattle.vc_tree_model.specs.Same.{IsAlike}
 use Rattle.vc_tree_model.proofs.AlikeLemmas.{alike-solid, alike-children, tree-alike_lookup}
-use Rattle.vc_tree_model.proofs.KeyLemmas.{none-some}
 use Rattle.vc_tree_facing.specs.Made.{IsMade}
 
 module _ {K : Type 0} (cmp : K → K → Ordering) where
@@ -24,10 +23,6 @@ module _ {K : Type 0} (cmp : K → K → Ordering) where
     solid-at i [] v f w h = absurd (omega (arith, h))
     solid-at i (x ∷ p) v f w h = w
 
-    begins-itself : (p : List K) (y : K) → slice_get p 0 ≡ Some y → Begins cmp y p
-    begins-itself [] y e = none-some y e
-    begins-itself (x ∷ p) y e = let h : x ≡ y = cc in rw h (tied_itself o y)
-
     -- a copy is a child that begins as the tree did and binds what it binds
     pub copied : (t u : Tree K V) (i : ℕ) → IsCanonical cmp t → i < length t.prefix → IsAlike keeps (shortened i t) u
         → IsMade cmp (IsKept keeps) (shortened i t) (Some u)
@@ -36,7 +31,7 @@ module _ {K : Type 0} (cmp : K → K → Ordering) where
         alike-solid keeps t.value u.value t.children u.children a.1 a.2 (solid-at i t.prefix t.value t.children c.0 h),
         alike-children keeps cmp t.children u.children a.2 c.1,
       );
-      begins = λ y e. subst (Begins cmp y) a.0 (begins-itself (drop i t.prefix) y e);
+      begins = λ y e. subst (Begins cmp y) a.0 e;
       binds = λ k. tree-alike_lookup keeps cmp (shortened i t) u a k;
     }
 

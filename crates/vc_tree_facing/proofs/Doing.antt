@@ -49,88 +49,70 @@ module _ {K V W A B : Type 0} {cmp : K → K → Ordering} (o : IsTotalOrder cmp
       let k : lower_side (by_component ta tb i j cmp (inr y) (inl x)) ≡ s = cc in
       subst (λ s. Stand s c d) (rw (a, b) at k) (stand-by c d (cmp d c) refl)
 
+  -- canonical children, of which the first is above
+  list-above : {X T : Type 0} (tree : T → Tree K X) (n : ℕ) (c : K) (ts : List T) → AreChildren cmp (shortened_in tree n ts)
+      → ((t : T) (d : K) → slice_get ts 0 ≡ Some t → slice_get (drop n (tree t).prefix) 0 ≡ Some d → cmp c d ≡ Less)
+      → AllAbove cmp c (shortened_in tree n ts)
+  list-above tree n c [] a h = tt
+  list-above tree n c (t ∷ ts) a h =
+      let f = children-first cmp (drop n (tree t).prefix) _ _ (shortened_in tree n ts) a in
+      let k = h t f.0 refl f.1 in
+      above-by cmp (drop n (tree t).prefix) _ _ _ f.0 c f.1 k (above-less cmp o c f.0 (shortened_in tree n ts) k f.2)
+
   -- a tree of the left side alone
   pub left-first : (x : A) (ls : List A) (rs : List B) → AreChildren cmp (shortened_in ta i (x ∷ ls))
       → AreChildren cmp (shortened_in tb j rs)
       → side_next (by_component ta tb i j cmp) (Some x) (slice_get rs 0) ≡ Some Left
-      → (c : K) × (slice_get (drop i (ta x).prefix) 0 ≡ Some c) × AreFirst cmp ta tb i j c (Some x) None ls rs
+      → AreFirst cmp ta tb i j (Some x) None ls rs
   left-first x ls rs ca cb told =
-      let f = children-first cmp (drop i (ta x).prefix) (ta x).value (ta x).children (shortened_in ta i ls) ca in (
-        f.0,
-        f.1,
-        record {
-          left = begins-by cmp (drop i (ta x).prefix) f.0 f.0 f.1 (tied_itself o f.0);
-          right = tt;
-          left_rest = f.3;
-          right_rest = cb;
-          left_above = f.2;
-          right_above = by rs cb told f.0 f.1;
-          least = λ y p q. less-first cmp (drop i (ta x).prefix) _ _ _ f.0 y f.1 p;
-        },
-      )
-    where
-      by : (rs : List B) → AreChildren cmp (shortened_in tb j rs)
-          → side_next (by_component ta tb i j cmp) (Some x) (slice_get rs 0) ≡ Some Left → (c : K)
-          → slice_get (drop i (ta x).prefix) 0 ≡ Some c → AllAbove cmp c (shortened_in tb j rs)
-      by [] cb told c e = tt
-      by (y ∷ rs) cb told c e =
-          let g = children-first cmp (drop j (tb y).prefix) (tb y).value (tb y).children (shortened_in tb j rs) cb in
-          let h = stand x y c g.0 e g.1 told in
-          above-by cmp (drop j (tb y).prefix) _ _ _ g.0 c g.1 h (above-less cmp o c g.0 (shortened_in tb j rs) h g.2)
+      let f = children-first cmp (drop i (ta x).prefix) _ _ _ ca in
+      record {
+        place = f.0;
+        left = begins-by cmp (drop i (ta x).prefix) f.0 f.0 f.1 (tied_itself o f.0);
+        right = tt;
+        left_rest = f.3;
+        right_rest = cb;
+        left_above = f.2;
+        right_above = list-above tb j f.0 rs cb (λ y d e g. stand x y f.0 d f.1 g (rw e at told));
+        least = λ y p q. less-first cmp (drop i (ta x).prefix) _ _ _ f.0 y f.1 p;
+      }
 
   -- of the right side alone
   pub right-first : (ls : List A) (y : B) (rs : List B) → AreChildren cmp (shortened_in ta i ls)
       → AreChildren cmp (shortened_in tb j (y ∷ rs))
       → side_next (by_component ta tb i j cmp) (slice_get ls 0) (Some y) ≡ Some Right
-      → (d : K) × (slice_get (drop j (tb y).prefix) 0 ≡ Some d) × AreFirst cmp ta tb i j d None (Some y) ls rs
+      → AreFirst cmp ta tb i j None (Some y) ls rs
   right-first ls y rs ca cb told =
-      let g = children-first cmp (drop j (tb y).prefix) (tb y).value (tb y).children (shortened_in tb j rs) cb in (
-        g.0,
-        g.1,
-        record {
-          left = tt;
-          right = begins-by cmp (drop j (tb y).prefix) g.0 g.0 g.1 (tied_itself o g.0);
-          left_rest = ca;
-          right_rest = g.3;
-          left_above = by ls ca told g.0 g.1;
-          right_above = g.2;
-          least = λ z p q. less-first cmp (drop j (tb y).prefix) _ _ _ g.0 z g.1 q;
-        },
-      )
-    where
-      by : (ls : List A) → AreChildren cmp (shortened_in ta i ls)
-          → side_next (by_component ta tb i j cmp) (slice_get ls 0) (Some y) ≡ Some Right → (d : K)
-          → slice_get (drop j (tb y).prefix) 0 ≡ Some d → AllAbove cmp d (shortened_in ta i ls)
-      by [] ca told d e = tt
-      by (x ∷ ls) ca told d e =
-          let f = children-first cmp (drop i (ta x).prefix) (ta x).value (ta x).children (shortened_in ta i ls) ca in
-          let h = stand x y f.0 d f.1 e told in
-          above-by cmp (drop i (ta x).prefix) _ _ _ f.0 d f.1 h (above-less cmp o d f.0 (shortened_in ta i ls) h f.2)
+      let g = children-first cmp (drop j (tb y).prefix) _ _ _ cb in
+      record {
+        place = g.0;
+        left = tt;
+        right = begins-by cmp (drop j (tb y).prefix) g.0 g.0 g.1 (tied_itself o g.0);
+        left_rest = ca;
+        right_rest = g.3;
+        left_above = list-above ta i g.0 ls ca (λ x c e f. stand x y c g.0 f g.1 (rw e at told));
+        right_above = g.2;
+        least = λ z p q. less-first cmp (drop j (tb y).prefix) _ _ _ g.0 z g.1 q;
+      }
 
   -- one of each side
   pub both-first : (x : A) (ls : List A) (y : B) (rs : List B) → AreChildren cmp (shortened_in ta i (x ∷ ls))
       → AreChildren cmp (shortened_in tb j (y ∷ rs)) → side_next (by_component ta tb i j cmp) (Some x) (Some y) ≡ Some Both
-      → (c : K) × (d : K) × (slice_get (drop i (ta x).prefix) 0 ≡ Some c) × (slice_get (drop j (tb y).prefix) 0 ≡ Some d)
-      × (cmp c d ≡ Equal) × AreFirst cmp ta tb i j c (Some x) (Some y) ls rs
+      → AreFirst cmp ta tb i j (Some x) (Some y) ls rs
   both-first x ls y rs ca cb told =
-      let f = children-first cmp (drop i (ta x).prefix) (ta x).value (ta x).children (shortened_in ta i ls) ca in
-      let g = children-first cmp (drop j (tb y).prefix) (tb y).value (tb y).children (shortened_in tb j rs) cb in
-      let h = stand x y f.0 g.0 f.1 g.1 told in (
-        f.0,
-        g.0,
-        f.1,
-        g.1,
-        h,
-        record {
-          left = begins-by cmp (drop i (ta x).prefix) f.0 f.0 f.1 (tied_itself o f.0);
-          right = begins-by cmp (drop j (tb y).prefix) f.0 g.0 g.1 h;
-          left_rest = f.3;
-          right_rest = g.3;
-          left_above = f.2;
-          right_above = above-equal cmp o g.0 f.0 (shortened_in tb j rs) (tied_back o f.0 g.0 h) g.2;
-          least = λ z p q. less-first cmp (drop i (ta x).prefix) _ _ _ f.0 z f.1 p;
-        },
-      )
+      let f = children-first cmp (drop i (ta x).prefix) _ _ _ ca in
+      let g = children-first cmp (drop j (tb y).prefix) _ _ _ cb in
+      let h = stand x y f.0 g.0 f.1 g.1 told in
+      record {
+        place = f.0;
+        left = begins-by cmp (drop i (ta x).prefix) f.0 f.0 f.1 (tied_itself o f.0);
+        right = begins-by cmp (drop j (tb y).prefix) f.0 g.0 g.1 h;
+        left_rest = f.3;
+        right_rest = g.3;
+        left_above = f.2;
+        right_above = above-equal cmp o g.0 f.0 (shortened_in tb j rs) (tied_back o f.0 g.0 h) g.2;
+        least = λ z p q. less-first cmp (drop i (ta x).prefix) _ _ _ f.0 z f.1 p;
+      }
 
   -- ---- what is made place by place
 
@@ -145,21 +127,22 @@ module _ {K V W A B : Type 0} {cmp : K → K → Ordering} (o : IsTotalOrder cmp
     side-more tree n (Some x) ts xs e = ap (grow (drop n (tree x).prefix) (tree x).value (tree x).children) e
 
     -- trees before others
-    pub rows-more : (c : K) (a : Option A) (b : Option B) {ls : List A} {rs : List B} {made : List (Tree K U)}
+    pub rows-more : (a : Option A) (b : Option B) {ls : List A} {rs : List B} {made : List (Tree K U)}
         (u : Option (Tree K U))
-        → AreFirst cmp ta tb i j c a b ls rs → IsRow cmp l R (row cmp ta tb i j c a b u) → AreMade cmp ta tb i j l R ls rs made
+        → (f : AreFirst cmp ta tb i j a b ls rs) → IsRow cmp l R (row cmp ta tb i j f.place a b u)
+        → AreMade cmp ta tb i j l R ls rs made
         → AreMade cmp ta tb i j l R (cons_option a ls) (cons_option b rs) (cons_option u made)
-    rows-more c a b {ls} {rs} u f r m = record {
-      rows = row cmp ta tb i j c a b u ∷ m.rows;
-      ascend = (m.above c f.left_above f.right_above, m.ascend);
+    rows-more a b {ls} {rs} u f r m = record {
+      rows = row cmp ta tb i j f.place a b u ∷ m.rows;
+      ascend = (m.above f.place f.left_above f.right_above, m.ascend);
       each = (r, m.each);
       left = side-more ta i a (filter_map (λ r. r.left) m.rows) ls m.left;
       right = side-more tb j b (filter_map (λ r. r.right) m.rows) rs m.right;
       out = ap (cons_option u) m.out;
       above = λ y p q. let h = f.least y p q in (
         h,
-        m.above y (above-less cmp o y c (shortened_in ta i ls) h f.left_above)
-            (above-less cmp o y c (shortened_in tb j rs) h f.right_above),
+        m.above y (above-less cmp o y f.place (shortened_in ta i ls) h f.left_above)
+            (above-less cmp o y f.place (shortened_in tb j rs) h f.right_above),
       );
     }
 
@@ -167,20 +150,20 @@ module _ {K V W A B : Type 0} {cmp : K → K → Ordering} (o : IsTotalOrder cmp
 
   module _ {O : Type 0} (l : Look cmp W O) where
     -- trees of which nothing is made
-    pub bare-more : {c : K} (a : Option A) (b : Option B) {ls : List A} {rs : List B} → AreFirst cmp ta tb i j c a b ls rs
+    pub bare-more : (a : Option A) (b : Option B) {ls : List A} {rs : List B} → AreFirst cmp ta tb i j a b ls rs
         → AreMade cmp ta tb i j l {U = V} (λ v w u. ⊤) ls rs []
         → AreMade cmp ta tb i j l {U = V} (λ v w u. ⊤) (cons_option a ls) (cons_option b rs) []
-    bare-more {c} a b f m =
-        rows-more l (λ v w u. ⊤) c a b None f
+    bare-more a b f m =
+        rows-more l (λ v w u. ⊤) a b None f
         (record { left = f.left; right = f.right; out = tt; child = tt; binds = λ x q. tt }) m
 
     unmade : (ls : List A) (rs : List B) → AreChildren cmp (shortened_in ta i ls) → AreChildren cmp (shortened_in tb j rs)
         → AreMade cmp ta tb i j l {U = V} (λ v w u. ⊤) ls rs []
     unmade [] [] ca cb = rows-none l (λ v w u. ⊤)
     unmade (x ∷ ls) [] ca cb =
-        let f = left-first x ls [] ca cb refl in bare-more (Some x) None f.2 (unmade ls [] f.2.left_rest cb)
+        let f = left-first x ls [] ca cb refl in bare-more (Some x) None f (unmade ls [] f.left_rest cb)
     unmade [] (y ∷ rs) ca cb =
-        let f = right-first [] y rs ca cb refl in bare-more None (Some y) f.2 (unmade [] rs ca f.2.right_rest)
+        let f = right-first [] y rs ca cb refl in bare-more None (Some y) f (unmade [] rs ca f.right_rest)
     unmade (x ∷ ls) (y ∷ rs) ca cb =
         let a = (children-first cmp (drop i (ta x).prefix) _ _ _ ca).3 in
         let b = (children-first cmp (drop j (tb y).prefix) _ _ _ cb).3 in
@@ -191,9 +174,9 @@ module _ {K V W A B : Type 0} {cmp : K → K → Ordering} (o : IsTotalOrder cmp
             → AreMade cmp ta tb i j l {U = V} (λ v w u. ⊤) (x ∷ ls) rs [] → AreMade cmp ta tb i j l {U = V} (λ v w u. ⊤) ls rs []
             → AreMade cmp ta tb i j l {U = V} (λ v w u. ⊤) ls (y ∷ rs) []
             → AreMade cmp ta tb i j l {U = V} (λ v w u. ⊤) (x ∷ ls) (y ∷ rs) []
-        by Less e l m r = bare-more None (Some y) (right-first (x ∷ ls) y rs ca cb (ap (λ r. Some (lower_side r)) e)).2 l
-        by Equal e l m r = bare-more (Some x) (Some y) (both-first x ls y rs ca cb (ap (λ r. Some (lower_side r)) e)).5 m
-        by Greater e l m r = bare-more (Some x) None (left-first x ls (y ∷ rs) ca cb (ap (λ r. Some (lower_side r)) e)).2 r
+        by Less e l m r = bare-more None (Some y) (right-first (x ∷ ls) y rs ca cb (ap (λ r. Some (lower_side r)) e)) l
+        by Equal e l m r = bare-more (Some x) (Some y) (both-first x ls y rs ca cb (ap (λ r. Some (lower_side r)) e)) m
+        by Greater e l m r = bare-more (Some x) None (left-first x ls (y ∷ rs) ca cb (ap (λ r. Some (lower_side r)) e)) r
 
     module _ (P : Option V → O → Type 0) (none : P None l.none) where
       -- what is said at each key, is said at each place
@@ -219,7 +202,7 @@ module _ {K V W A B : Type 0} {cmp : K → K → Ordering} (o : IsTotalOrder cmp
       at-keys m p x q =
           rw (← m.left, ← m.right) (rows-combined cmp o l (λ v w u. P v w) none m.rows m.ascend (said-rows m.rows m.each p) x q)
 
-      module _ {c : K} (a : Option A) (b : Option B) {ls : List A} {rs : List B} (f : AreFirst cmp ta tb i j c a b ls rs) where
+      module _ (a : Option A) (b : Option B) {ls : List A} {rs : List B} (f : AreFirst cmp ta tb i j a b ls rs) where
         -- what is said of both lists, is said of their first trees and of the others
         pub said-apart : IsSaidIn cmp ta tb i j l P (cons_option a ls) (cons_option b rs)
             → IsSaidOf cmp ta tb i j l P a b × IsSaidIn cmp ta tb i j l P ls rs

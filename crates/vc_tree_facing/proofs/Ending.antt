@@ -7,14 +7,12 @@
 use Rattle.std.proofs.Common.{◌≡◌, ℕ, [], ◌∷◌, List, Option, None, Some, sym, ap, ◌∙◌, take, drop, zero, suc, slice_get}
 use Rattle.std.proofs.Common.{true≢false}
 use Rattle.std.proofs.lemmas.List.{take-append-drop}
-use Rattle.std.specs.Cmp.{IsTotalOrder, tied_itself}
-use Rattle.std.specs.Ordering.{is_eq}
+use Rattle.std.specs.Cmp.{IsTotalOrder}
 use Rattle.std.specs.declared.cmp.Ordering.{Ordering}
-use Rattle.std.specs.declared.cmp.Ordering.TheVariants.{Equal}
 use Rattle.vc_tree_model.specs.Tree.{Tree, Forest, forest}
 use Rattle.vc_tree_model.specs.Map.{lookup}
 use Rattle.vc_tree_model.specs.Canonical.{AreChildren, IsCanonical}
-use Rattle.vc_tree_model.specs.Child.{BeginsWith, solid_child, value_at}
+use Rattle.vc_tree_model.specs.Child.{Begins, BeginsWith, solid_child, value_at}
 use Rattle.vc_tree_model.proofs.Joining.{opened-children, joined-child, joined-begins, trees-combined, value-asked}
 use Rattle.vc_tree_model.proofs.Joining.{children-asked}
 use Rattle.vc_tree_model.specs.Look.{Look}
@@ -32,18 +30,12 @@ below-children cmp {t = t} n c h =
 
 -- a node at the front where both prefixes agree begins as they do
 pub front-begins : {K U : Type 0} {cmp : K → K → Ordering} (o : IsTotalOrder cmp) (n : ℕ) (p q : List K) (v : Option U)
-    (f : Forest K U) (y z : K)
-    → slice_get p 0 ≡ Some y → slice_get q 0 ≡ Some z → cmp y z ≡ Equal → Parts cmp (drop n p) (drop n q)
+    (f : Forest K U) (y : K) → Begins cmp y p → Begins cmp y q → Parts cmp (drop n p) (drop n q)
     → BeginsWith cmp y (solid_child (take n p) v f)
-front-begins o n [] q v f y z e d t w = absurd (cc)
-front-begins o n (a ∷ p) [] v f y z e d t w = absurd (cc)
-front-begins {cmp = cmp} o zero (a ∷ p) (b ∷ q) v f y z e d t w =
-    let ay : a ≡ y = cc in
-    let bz : b ≡ z = cc in
-    let k : cmp a b ≡ Equal = rw (ay, bz) t in
-    absurd (true≢false (sym (ap is_eq k) ∙ w))
-front-begins {cmp = cmp} o (suc n) (a ∷ p) (b ∷ q) v f y z e d t w =
-    let ay : a ≡ y = cc in joined-begins cmp y a (take n p) v f (rw ay (tied_itself o y))
+front-begins o n [] q v f y a b w = absurd a
+front-begins o n (x ∷ p) [] v f y a b w = absurd b
+front-begins o zero (x ∷ p) (z ∷ q) v f y a b w = absurd (true≢false (rw (sym (o.congr y x z a) ∙ b) at w))
+front-begins {cmp = cmp} o (suc n) (x ∷ p) (z ∷ q) v f y a b w = joined-begins cmp y x (take n p) v f a
 
 module _ {K V W A B : Type 0} {cmp : K → K → Ordering} {ta : A → Tree K V} {tb : B → Tree K W} {t : Tree K V} {u : Tree K W}
     {n : ℕ} {xs : List A} {i : ℕ} {ys : List B} {j : ℕ} (f : IsFaced cmp ta tb t u n xs i ys j) where
@@ -90,7 +82,7 @@ module _ {K V W A B : Type 0} {cmp : K → K → Ordering} {ta : A → Tree K V}
         let below = rw (f.left.children, f.right.children) at (all-done d end none).1 in
         rw (g, e) (record {
           child = joined-child cmp (take n t.prefix) v (forest made) made-children;
-          begins = λ y z a b q. front-begins d.total n t.prefix u.prefix v (forest made) y z a b q f.parts;
+          begins = λ y a b. front-begins d.total n t.prefix u.prefix v (forest made) y a b f.parts;
           binds =
               trees-combined cmp d.total l S nothing t u (take n t.prefix) (drop n t.prefix) (take n u.prefix) (drop n u.prefix)
               v (forest made) (sym (take-append-drop n t.prefix)) (sym (take-append-drop n u.prefix)) f.same made-children root

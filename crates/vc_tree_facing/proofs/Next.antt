@@ -5,7 +5,7 @@
 --     left-asked, right-asked, both-asked        they may be asked of
 --     both-agree, both-ended, falls        two that meet agree for one component, below a prefix that ended, and have fewer nodes
 --     doing-start, left-done, right-done, both-done, all-done        none is done yet, the next ones are, or all
---     at-most, nil-by, agree-first        what is below is not above, a list without elements, keys that begin alike
+--     at-most, nil-by        what is below is not above, and a list without elements
 use Rattle.std.proofs.Common.{◌≡◌, ℕ, zero, suc, ◌+◌, ◌<◌, ◌≤◌, [], ◌∷◌, ◌++◌, List, Option, None, Some, refl, sym, ap}
 use Rattle.std.proofs.Common.{subst, ◌∙◌, arith, length, drop, slice_get, append-nil, append_assoc, option_map, true≢false}
 use Rattle.std.proofs.Common.{◌⊎◌, inl, inr}
@@ -17,19 +17,20 @@ use Rattle.std.specs.Ordering.{is_eq}
 use Rattle.std.specs.declared.cmp.Ordering.{Ordering}
 use Rattle.std.specs.declared.cmp.Ordering.TheVariants.{Less, Equal, Greater}
 use Rattle.vc_tree_model.specs.Canonical.{AreChildren}
+use Rattle.vc_tree_model.specs.Child.{BeginsWith, IsChild, bound_by}
 use Rattle.vc_tree_model.specs.Look.{Look}
 use Rattle.vc_tree_model.specs.Map.{lookup}
 use Rattle.vc_tree_model.specs.Tree.{Tree, forest, nodes, shortened}
-use Rattle.vc_tree_model.proofs.Places.{IsRow, IsCombinedIn}
+use Rattle.vc_tree_model.proofs.Places.{look, IsCombinedIn}
 use Rattle.vc_tree_model.proofs.Rows.{rows-children, rows-combined}
 use Rattle.vc_tree_nodes.specs.Parting.{Agree}
-use Rattle.vc_tree_facing.specs.Doing.{AreFirst, AreMade, IsSaidIn, IsDoing, row}
+use Rattle.vc_tree_facing.specs.Doing.{AreFirst, AreMade, IsSaidIn, IsDoing}
 use Rattle.vc_tree_facing.specs.Facing.{shortened_in, ended, GoesOn, IsOpened, Parts}
 use Rattle.vc_tree_facing.specs.Made.{IsMade, IsMadeBy, IsBothMadeBy}
 use Rattle.vc_tree_facing.specs.Sides.{by_component, lower_side, side_next}
 use Rattle.vc_tree_facing.specs.declared.sides.Side.{Side}
 use Rattle.vc_tree_facing.specs.declared.sides.Side.TheVariants.{Left, Right, Both}
-use Rattle.vc_tree_facing.proofs.Components.{get-drop, children-first}
+use Rattle.vc_tree_facing.proofs.Components.{get-drop, begin-alike, agree-first, children-first}
 use Rattle.vc_tree_facing.proofs.Doing.{left-first, right-first, both-first, rows-none, rows-more, said-apart}
 
 -- what is below is not above
@@ -40,17 +41,6 @@ at-most i n h = omega (arith, h)
 pub nil-by : {X : Type 0} (l : List X) → length l ≡ 0 → l ≡ []
 nil-by [] e = refl
 nil-by (x ∷ l) e = absurd (omega (arith, e))
-
--- two keys that begin alike agree for one component
-pub agree-first : {K : Type 0} (cmp : K → K → Ordering) (p q : List K) (x y : K) → slice_get p 0 ≡ Some x → slice_get q 0 ≡ Some y
-    → cmp x y ≡ Equal → Agree cmp p q 1
-agree-first cmp [] q x y e f h = absurd (cc)
-agree-first cmp (x' ∷ p) [] x y e f h = absurd (cc)
-agree-first cmp (x' ∷ p) (y' ∷ q) x y e f h =
-    let a : x' ≡ x = cc in
-    let b : y' ≡ y = cc in
-    let r : cmp x' y' ≡ Equal = rw (a, b) h in
-    record { within_prefix = omega arith; within_key = omega arith; same = rw r refl }
 
 all-drop : {X : Type 0} (P : X → Type 0) (n : ℕ) (xs : List X) → AllByRecursion P xs → AllByRecursion P (drop n xs)
 all-drop P zero xs a = a
@@ -98,12 +88,13 @@ module _ {K V W U O A B : Type 0} {cmp : K → K → Ordering} {ta : A → Tree 
   })
 
   -- the next trees are done
-  done-by : {c : K} (a : Option A) (b : Option B) {ls : List A} {rs : List B} {made made' : List (Tree K U)}
-      {u : Option (Tree K U)}
-      → IsDoing cmp ta tb i j l R asks xs ys (cons_option a ls) (cons_option b rs) made → AreFirst cmp ta tb i j c a b ls rs
-      → IsRow cmp l R (row cmp ta tb i j c a b u) → made' ≡ made ++ cons_option u []
-      → IsDoing cmp ta tb i j l R asks xs ys ls rs made'
-  done-by {c} a b {ls} {rs} {made} {u = u} d f r e = record {
+  done-by : (a : Option A) (b : Option B) {ls : List A} {rs : List B} {made made' : List (Tree K U)} (u : Option (Tree K U))
+      → IsDoing cmp ta tb i j l R asks xs ys (cons_option a ls) (cons_option b rs) made → (f : AreFirst cmp ta tb i j a b ls rs)
+      → BeginsWith cmp f.place u → IsChild cmp u
+      → ((k : List K) → R (bound_by cmp (option_map (λ x. shortened i (ta x)) a) k)
+      (look cmp l (option_map (λ y. shortened j (tb y)) b) k) (bound_by cmp u k))
+      → made' ≡ made ++ cons_option u [] → IsDoing cmp ta tb i j l R asks xs ys ls rs made'
+  done-by a b {ls} {rs} {made} u d f begins child binds e = record {
     total = d.total;
     none = d.none;
     left = f.left_rest;
@@ -112,7 +103,8 @@ module _ {K V W U O A B : Type 0} {cmp : K → K → Ordering} {ta : A → Tree 
     right_part = part-rest b d.right_part;
     asked = (said-apart d.total ta tb i j l asks d.none a b f d.asked).1;
     ends = λ others m. subst (AreMade cmp ta tb i j l R xs ys) (sym (ap (λ l. l ++ others) e ∙ append-option made u others))
-        (d.ends (cons_option u others) (rows-more d.total ta tb i j l R c a b u f r m));
+        (d.ends (cons_option u others) (rows-more d.total ta tb i j l R a b u f
+        (record { left = f.left; right = f.right; out = begins; child = child; binds = λ x q. binds (x ∷ q) }) m));
   }
     where
       part-rest : {X : Type 0} (a : Option X) {ls xs : List X} → (n : ℕ) × (cons_option a ls ≡ drop n xs) → (n : ℕ)
@@ -147,65 +139,49 @@ module _ {K V W U O A B : Type 0} {cmp : K → K → Ordering} {ta : A → Tree 
     there z = there-by (by_component ta tb i j cmp) ls rs z
 
     module _ {x : A} {ls' : List A} (z : OnSide Left) (e : ls ≡ x ∷ ls') where
-      first_left : (c : K) × (slice_get (drop i (ta x).prefix) 0 ≡ Some c) × AreFirst cmp ta tb i j c (Some x) None ls' rs
+      first_left : AreFirst cmp ta tb i j (Some x) None ls' rs
       first_left = left-first d.total ta tb i j x ls' rs (rw e at d.left) d.right (rw e at z)
 
       pub left-asked : (k : List K) → asks (lookup cmp (shortened i (ta x)) k) l.none
-      left-asked = (said-apart d.total ta tb i j l asks d.none (Some x) None first_left.2 (rw e at d.asked)).0
+      left-asked = (said-apart d.total ta tb i j l asks d.none (Some x) None first_left (rw e at d.asked)).0
 
       pub left-done : {u : Option (Tree K U)} {made' : List (Tree K U)} → made' ≡ made ++ cons_option u []
           → IsMade cmp (λ v z. R v l.none z) (shortened i (ta x)) u → IsDoing cmp ta tb i j l R asks xs ys ls' rs made'
       left-done pushed w =
           let f = first_left in
-          done-by (Some x) None (rw e at d) f.2
-          (record { left = f.2.left; right = tt; out = w.begins f.0 f.1; child = w.child; binds = λ k q. w.binds (k ∷ q) }) pushed
+          done-by (Some x) None _ (rw e at d) f (w.begins f.place f.left) w.child w.binds pushed
 
     module _ {y : B} {rs' : List B} (z : OnSide Right) (e : rs ≡ y ∷ rs') where
-      first_right : (c : K) × (slice_get (drop j (tb y).prefix) 0 ≡ Some c) × AreFirst cmp ta tb i j c None (Some y) ls rs'
+      first_right : AreFirst cmp ta tb i j None (Some y) ls rs'
       first_right = right-first d.total ta tb i j ls y rs' d.left (rw e at d.right) (rw e at z)
 
       pub right-asked : (k : List K) → asks None (l.of_tree (shortened j (tb y)) k)
-      right-asked = (said-apart d.total ta tb i j l asks d.none None (Some y) first_right.2 (rw e at d.asked)).0
+      right-asked = (said-apart d.total ta tb i j l asks d.none None (Some y) first_right (rw e at d.asked)).0
 
       pub right-done : {u : Option (Tree K U)} {made' : List (Tree K U)} → made' ≡ made ++ cons_option u []
           → IsMadeBy cmp l (λ w z. R None w z) (shortened j (tb y)) u → IsDoing cmp ta tb i j l R asks xs ys ls rs' made'
       right-done pushed w =
           let f = first_right in
-          done-by None (Some y) (rw e at d) f.2
-          (record {
-            left = tt;
-            right = f.2.right;
-            out = w.begins f.0 f.1;
-            child = w.child;
-            binds = λ k q. w.binds
-                (k ∷ q);
-          }) pushed
+          done-by None (Some y) _ (rw e at d) f (w.begins f.place f.right) w.child w.binds pushed
 
     module _ {x : A} {ls' : List A} {y : B} {rs' : List B} (z : OnSide Both) (el : ls ≡ x ∷ ls') (er : rs ≡ y ∷ rs') where
-      first_both : (c : K) × (d : K) × (slice_get (drop i (ta x).prefix) 0 ≡ Some c)
-          × (slice_get (drop j (tb y).prefix) 0 ≡ Some d)
-          × (cmp c d ≡ Equal) × AreFirst cmp ta tb i j c (Some x) (Some y) ls' rs'
+      first_both : AreFirst cmp ta tb i j (Some x) (Some y) ls' rs'
       first_both = both-first d.total ta tb i j x ls' y rs' (rw el at d.left) (rw er at d.right) (rw (el, er) at z)
 
       pub both-asked : (k : List K) → asks (lookup cmp (shortened i (ta x)) k) (l.of_tree (shortened j (tb y)) k)
-      both-asked = (said-apart d.total ta tb i j l asks d.none (Some x) (Some y) first_both.5 (rw (el, er) at d.asked)).0
+      both-asked = (said-apart d.total ta tb i j l asks d.none (Some x) (Some y) first_both (rw (el, er) at d.asked)).0
 
       pub both-done : {u : Option (Tree K U)} {made' : List (Tree K U)} → made' ≡ made ++ cons_option u []
           → IsBothMadeBy cmp l R (shortened i (ta x)) (shortened j (tb y)) u → IsDoing cmp ta tb i j l R asks xs ys ls' rs' made'
       both-done pushed w =
           let f = first_both in
-          done-by (Some x) (Some y) (rw (el, er) at d) f.5 (record {
-            left = f.5.left;
-            right = f.5.right;
-            out = w.begins f.0 f.1 f.2 f.3 f.4;
-            child = w.child;
-            binds = λ k q. w.binds (k ∷ q);
-          }) pushed
+          done-by (Some x) (Some y) _ (rw (el, er) at d) f (w.begins f.place f.left f.right) w.child w.binds pushed
 
       -- two that meet agree for one component
       pub both-agree : Agree cmp (drop i (ta x).prefix) (drop j (tb y).prefix) 1
       both-agree =
-          let f = first_both in agree-first cmp (drop i (ta x).prefix) (drop j (tb y).prefix) f.0 f.1 f.2 f.3 f.4
+          let f = first_both in
+          agree-first cmp d.total (drop i (ta x).prefix) (drop j (tb y).prefix) f.place f.left f.right
 
       -- below two prefixes of which one has ended
       pub both-ended : {t : Tree K V} {u : Tree K W} {p q : List K} → IsOpened ta t p xs i → IsOpened tb u q ys j → Parts cmp p q
@@ -219,11 +195,10 @@ module _ {K V W U O A B : Type 0} {cmp : K → K → Ordering} {ta : A → Tree 
           by (a ∷ p) [] w g h = omega arith
           by (a ∷ p) (b ∷ q) w g h =
               let f = first_both in
-              let m : Some a ≡ Some f.0 = sym g ∙ sym (get-drop i (ta x).prefix) ∙ f.2 in
-              let n : Some b ≡ Some f.1 = sym h ∙ sym (get-drop j (tb y).prefix) ∙ f.3 in
-              let k : a ≡ f.0 = cc in
-              let l : b ≡ f.1 = cc in
-              absurd (true≢false (rw (k, l, f.4) at w))
+              let e =
+              begin-alike cmp d.total (drop i (ta x).prefix) (drop j (tb y).prefix) f.place a b f.left f.right
+              (get-drop i (ta x).prefix ∙ g) (get-drop j (tb y).prefix ∙ h) in
+              absurd (true≢false (rw e at w))
 
       -- and have fewer nodes than the trees that they stand below
       pub falls : {t : Tree K V} {u : Tree K W} {p q : List K} → IsOpened ta t p xs i → IsOpened tb u q ys j → Parts cmp p q

@@ -1,7 +1,7 @@
 -- What stands below a place in the prefix of a tree.
 --     goes-on        a key that goes on with a component
 --     opened-all        where the prefix ended, the children
---     opened-rest        where it goes on, the tree itself
+--     opened-rest, opened-at        where it goes on, the tree itself
 --     parts-at        two prefixes part where both go on
 use Rattle.std.proofs.Common.{◌≡◌, ℕ, ◌+◌, ◌-◌, ◌<◌, ◌≤◌, [], ◌∷◌, List, Option, Some, None, is_none, get_or, refl}
 use Rattle.std.proofs.Common.{sym, ap, ◌∙◌, arith, true≢false, map, take, drop, length-drop, length, slice_get, zero}
@@ -76,7 +76,7 @@ module _ {T K V : Type 0} (tree : T → Tree K V) where
     first = all-go_on xs;
   })
 
-  pub opened-by : (x : T) (t : Tree K V) (rest : List K) (n : ℕ) → drop n (tree x).prefix ≡ rest → (tree x).value ≡ t.value
+  opened-by : (x : T) (t : Tree K V) (rest : List K) (n : ℕ) → drop n (tree x).prefix ≡ rest → (tree x).value ≡ t.value
       → (tree x).children ≡ t.children → 0 < length rest → IsOpened tree t rest (x ∷ []) n
   opened-by x t [] n d v c h = absurd (omega (arith, h))
   opened-by x t (y ∷ rest) n d v c h = record {
@@ -90,6 +90,11 @@ module _ {T K V : Type 0} (tree : T → Tree K V) where
       → 0 < length (drop n (drop i (tree x).prefix)) → IsOpened tree t (drop n (drop i (tree x).prefix)) (x ∷ []) (i + n)
   opened-rest x t i n v c h =
       opened-by x t (drop n (drop i (tree x).prefix)) (i + n) (sym (drop-drop n i (tree x).prefix)) v c h
+
+  pub opened-at : (x : T) (n : ℕ) → n < length (tree x).prefix → IsOpened tree (tree x) (drop n (tree x).prefix) (x ∷ []) n
+  opened-at x n h =
+      let k = length-drop n (tree x).prefix in
+      opened-by x (tree x) (drop n (tree x).prefix) n refl refl refl (omega (arith, k, h))
 
 -- each tree of a list weighs at least one
 pub few-below : {T K V : Type 0} (tree : T → Tree K V) (i : ℕ) (xs : List T) → length xs ≤ forest_weight (shortened_in tree i xs)

@@ -14,18 +14,19 @@ use Rattle.vc_tree_model.proofs.Rows.{side}
 use Rattle.vc_tree_facing.specs.Facing.{shortened_in}
 
 module _ {K V W A B : Type 0} (cmp : K → K → Ordering) (ta : A → Tree K V) (tb : B → Tree K W) (i j : ℕ) where
-  -- before canonical children ls and rs stand a and b, of which one side may have none: they begin as c does, and all others
-  -- are above
-  pub record AreFirst (c : K) (a : Option A) (b : Option B) (ls : List A) (rs : List B) : Type 0 where
-    pub left : BeginsWith cmp c (option_map (λ x. shortened i (ta x)) a)
-    pub right : BeginsWith cmp c (option_map (λ y. shortened j (tb y)) b)
+  -- before canonical children ls and rs stand a and b, of which one side may have none: they begin as `place` does, and all
+  -- others are above
+  pub record AreFirst (a : Option A) (b : Option B) (ls : List A) (rs : List B) : Type 0 where
+    pub place : K
+    pub left : BeginsWith cmp place (option_map (λ x. shortened i (ta x)) a)
+    pub right : BeginsWith cmp place (option_map (λ y. shortened j (tb y)) b)
     pub left_rest : AreChildren cmp (shortened_in ta i ls)
     pub right_rest : AreChildren cmp (shortened_in tb j rs)
-    pub left_above : AllAbove cmp c (shortened_in ta i ls)
-    pub right_above : AllAbove cmp c (shortened_in tb j rs)
+    pub left_above : AllAbove cmp place (shortened_in ta i ls)
+    pub right_above : AllAbove cmp place (shortened_in tb j rs)
     pub least : (y : K) → AllAbove cmp y (shortened_in ta i (cons_option a ls))
         → AllAbove cmp y (shortened_in tb j (cons_option b rs))
-        → cmp y c ≡ Less
+        → cmp y place ≡ Less
 
   -- the place of these, with what is made of them
   abbrev pub row : {U : Type 0} → K → Option A → Option B → Option (Tree K U) → Row K V W U

@@ -2,7 +2,7 @@
 use Rattle.std.specs.Prelude.{◌≡◌, Bool, true, cond, ℕ, List, ◌∷◌, Option, Some, None, take, drop}
 use Rattle.std.specs.declared.cmp.Ordering.{Ordering}
 use Rattle.vc_tree_model.specs.Canonical.{AreChildren}
-use Rattle.vc_tree_model.specs.Child.{solid_child}
+use Rattle.vc_tree_model.specs.Child.{solid_child, value_at, children_at}
 use Rattle.vc_tree_model.specs.Look.{Look}
 use Rattle.vc_tree_model.specs.Map.{lookup_in}
 use Rattle.vc_tree_model.specs.Tree.{Tree, Forest, bare, grow, shortened}
@@ -16,6 +16,11 @@ module _ {K V : Type 0} where
   -- the tree without those components, if it stays
   abbrev pub left_of : Bool → ℕ → Tree K V → Option (Tree K V)
   left_of stays n t = cond stays (Some (shortened n t)) None
+
+  -- n components behind the first i of its prefix, a tree has the value v and the children f
+  pub record IsBehind (i n : ℕ) (t : Tree K V) (v : Option V) (f : Forest K V) : Type 0 where
+    pub value : v ≡ value_at (shortened i t) (drop n (drop i t.prefix))
+    pub children : f ≡ children_at (shortened i t) (drop n (drop i t.prefix))
 
   -- where the tree stays, its first n components do
   abbrev pub KeepsFront : ℕ → Tree K V → Bool → Tree K V → Type 0

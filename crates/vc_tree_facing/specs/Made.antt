@@ -1,17 +1,16 @@
 -- What is made of the trees of an event, where two trees stand side by side. No public clause cites these words.
-use Rattle.std.specs.Prelude.{◌≡◌, List, Option, Some, slice_get}
+use Rattle.std.specs.Prelude.{List, Option}
 use Rattle.std.specs.declared.cmp.Ordering.{Ordering}
-use Rattle.std.specs.declared.cmp.Ordering.TheVariants.{Equal}
 use Rattle.vc_tree_model.specs.Tree.{Tree}
 use Rattle.vc_tree_model.specs.Map.{lookup}
-use Rattle.vc_tree_model.specs.Child.{BeginsWith, IsChild, bound_by}
+use Rattle.vc_tree_model.specs.Child.{Begins, BeginsWith, IsChild, bound_by}
 use Rattle.vc_tree_model.specs.Look.{Look, values}
 
 module _ {K : Type 0} (cmp : K → K → Ordering) where
   -- of a tree that one side alone has: a child that begins as the tree did, and R of what is read of the tree and of what the child binds
   pub record IsMadeBy {V U O : Type 0} (l : Look cmp V O) (R : O → Option U → Type 0) (t : Tree K V) (o : Option (Tree K U)) : Type 0 where
     pub child : IsChild cmp o
-    pub begins : (y : K) → slice_get t.prefix 0 ≡ Some y → BeginsWith cmp y o
+    pub begins : (y : K) → Begins cmp y t.prefix → BeginsWith cmp y o
     pub binds : (k : List K) → R (l.of_tree t k) (bound_by cmp o k)
 
   -- the same, and R of what both bind
@@ -23,8 +22,7 @@ module _ {K : Type 0} (cmp : K → K → Ordering) where
     -- second, and of what the child binds
     pub record IsBothMadeBy (t : Tree K V) (u : Tree K W) (o : Option (Tree K U)) : Type 0 where
       pub child : IsChild cmp o
-      pub begins : (y z : K) → slice_get t.prefix 0 ≡ Some y → slice_get u.prefix 0 ≡ Some z → cmp y z ≡ Equal
-          → BeginsWith cmp y o
+      pub begins : (y : K) → Begins cmp y t.prefix → Begins cmp y u.prefix → BeginsWith cmp y o
       pub binds : (k : List K) → R (lookup cmp t k) (l.of_tree u k) (bound_by cmp o k)
 
   -- of two trees, and R of what all three bind

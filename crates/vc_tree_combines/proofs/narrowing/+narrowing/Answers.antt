@@ -12,7 +12,7 @@ use Rattle.vc_tree_facing.proofs.Apart.{apart-asked, apart-lessened}
 use Rattle.vc_tree_facing.proofs.Advancing.{list-begun, list-done}
 use Rattle.vc_tree_facing.proofs.Leaving.{if-ok, node-lessened, inside-lessened, value-may, below-may, node-kids, node-smaller}
 use Rattle.vc_tree_facing.proofs.Leaving.{inner-list}
-use Rattle.vc_tree_facing.proofs.Leaving.{ended-value, ended-children, inner-children, below-children_at}
+use Rattle.vc_tree_facing.proofs.Leaving.{ended-node, inner-node, opened-node}
 use Rattle.vc_tree_facing.proofs.Leaving.{below-fewer}
 use Rattle.vc_tree_facing.proofs.Next.{nil-by}
 use Rattle.vc_tree_combines.proofs.Narrowed.{value-alone, below-alone, node-alone, both-whole, alone-whole, made-node}
@@ -41,11 +41,8 @@ narrow_at-overflow_add-other_place g t c =
 pub narrow_at-narrow_alone-requires : goal.narrow_at-narrow_alone-requires
 narrow_at-narrow_alone-requires g t c κs inside =
     let tree = g.A.RadixNode.tree in
-    let within : c.args.i + c.split-front.result < length (g.A.RadixNode.tree c.args.a.now).prefix =
-    subst (λ p. c.args.i + c.split-front.result < length p) c.prefix-whole.ensures.value c.if-place-whole.true in
-    let beyond : c.args.j + c.split-front.result < length (g.B.RadixNode.tree c.args.b.now).prefix =
-    subst (λ p. c.args.j + c.split-front.result < length p) c.prefix-other_whole.ensures.value
-    c.if-other_place-other_whole.true in
+    let within = rw c.prefix-whole.ensures.value at c.if-place-whole.true in
+    let beyond = rw c.prefix-other_whole.ensures.value at c.if-other_place-other_whole.true in
     let asked = apart-asked tree c.args.a.now g.B.RadixNode.tree c.args.b.now c.split-front.ensures within beyond
     (values g.K.Ord.cmp) (g.O.Narrow.says c.args.op.now) (g.O.Narrow.asks c.args.op.now)
     (g.met.O.Narrow.says_nothing c.args.op.now) (g.met.O.Narrow.asks_none c.args.op.now) c.requires.asks in
@@ -54,11 +51,8 @@ narrow_at-narrow_alone-requires g t c κs inside =
 pub narrow_at-returns-then-other_place-other_whole : goal.narrow_at-returns-then-other_place-other_whole
 narrow_at-returns-then-other_place-other_whole g t c =
     let tree = g.A.RadixNode.tree in
-    let within : c.args.i + c.split-front.result < length (g.A.RadixNode.tree c.args.a.now).prefix =
-    subst (λ p. c.args.i + c.split-front.result < length p) c.prefix-whole.ensures.value c.if-place-whole.true in
-    let beyond : c.args.j + c.split-front.result < length (g.B.RadixNode.tree c.args.b.now).prefix =
-    subst (λ p. c.args.j + c.split-front.result < length p) c.prefix-other_whole.ensures.value
-    c.if-other_place-other_whole.true in
+    let within = rw c.prefix-whole.ensures.value at c.if-place-whole.true in
+    let beyond = rw c.prefix-other_whole.ensures.value at c.if-other_place-other_whole.true in
     if-ok c.narrow_alone.result
     (λ made h. apart-lessened tree c.args.a.now g.B.RadixNode.tree c.args.b.now c.split-front.ensures within beyond
     (values g.K.Ord.cmp) (g.O.Narrow.says c.args.op.now) (g.O.Narrow.asks c.args.op.now)
@@ -69,58 +63,48 @@ pub narrow_at-narrow_inside-requires : goal.narrow_at-narrow_inside-requires
 narrow_at-narrow_inside-requires g t c κs inside =
     let tree = g.A.RadixNode.tree c.args.a.now in
     let that = g.B.RadixNode.tree c.args.b.now in
-    let within : c.args.i + c.split-front.result < length (g.A.RadixNode.tree c.args.a.now).prefix =
-    subst (λ p. c.args.i + c.split-front.result < length p) c.prefix-whole.ensures.value c.if-place-whole.true in
-    let ended : length (g.B.RadixNode.tree c.args.b.now).prefix ≤ c.args.j + c.split-front.result =
-    subst (λ p. length p ≤ c.args.j + c.split-front.result) c.prefix-other_whole.ensures.value
-    c.if-other_place-other_whole.false in
+    let within = rw c.prefix-whole.ensures.value at c.if-place-whole.true in
+    let ended = rw c.prefix-other_whole.ensures.value at c.if-other_place-other_whole.false in
     let below = below-may c.split-front.ensures (values g.K.Ord.cmp) (g.O.Narrow.asks c.args.op.now) c.requires.asks
-    (inner-children c.args.i c.split-front.result tree within) (ended-value c.args.j c.split-front.result that ended)
-    (ended-children c.args.j c.split-front.result that ended) in
+    (inner-node c.args.i c.split-front.result tree within) (ended-node c.args.j c.split-front.result that ended) in
     search rules
 
 pub narrow_at-returns-then-place-whole : goal.narrow_at-returns-then-place-whole
 narrow_at-returns-then-place-whole g t c =
     let that = g.B.RadixNode.tree c.args.b.now in
-    let within : c.args.i + c.split-front.result < length (g.A.RadixNode.tree c.args.a.now).prefix =
-    subst (λ p. c.args.i + c.split-front.result < length p) c.prefix-whole.ensures.value c.if-place-whole.true in
-    let ended : length (g.B.RadixNode.tree c.args.b.now).prefix ≤ c.args.j + c.split-front.result =
-    subst (λ p. length p ≤ c.args.j + c.split-front.result) c.prefix-other_whole.ensures.value
-    c.if-other_place-other_whole.false in
+    let within = rw c.prefix-whole.ensures.value at c.if-place-whole.true in
+    let ended = rw c.prefix-other_whole.ensures.value at c.if-other_place-other_whole.false in
     if-ok c.narrow_inside.result
-    (λ made h. inside-lessened c.split-front.ensures (record {
+    (λ made h. inside-lessened c.split-front.ensures (ended-node c.args.j c.split-front.result that ended)
+    ((g.met.O.Narrow.says_nothing c.args.op.now) _) (record {
       said = (g.met.O.Narrow.says_nothing c.args.op.now) _;
       below = h.below;
       children = h.children;
       front = h.front;
-    }) ((g.met.O.Narrow.says_nothing c.args.op.now) _) within (ended-value c.args.j c.split-front.result that ended)
-    (ended-children c.args.j c.split-front.result that ended)) c.narrow_inside.ensures
+    }) within) c.narrow_inside.ensures
 
 pub narrow_at-narrow_node-requires : goal.narrow_at-narrow_node-requires
 narrow_at-narrow_node-requires g t c κs inside =
     let s = c.split-front.ensures in
     let tree = g.A.RadixNode.tree c.args.a.now in
     let that = g.B.RadixNode.tree c.args.b.now in
-    let long : length (g.A.RadixNode.tree c.args.a.now).prefix ≤ c.args.i + c.split-front.result =
-    subst (λ p. length p ≤ c.args.i + c.split-front.result) c.prefix-whole.ensures.value c.if-place-whole.false in
+    let long = rw c.prefix-whole.ensures.value at c.if-place-whole.false in
     let opened = c.below_place-right.ensures.opened in
     let children = c.below_place-right.ensures.below.are_children in
     let fewer = below-fewer opened in
-    let value = value-may s (values g.K.Ord.cmp) (g.O.Narrow.asks c.args.op.now) c.requires.asks
-    (ended-value c.args.i c.split-front.result tree long) c.value_at.ensures in
-    let below = below-may s (values g.K.Ord.cmp) (g.O.Narrow.asks c.args.op.now) c.requires.asks
-    (ended-children c.args.i c.split-front.result tree long) c.value_at.ensures
-    (below-children_at c.args.j c.split-front.result that opened) in
+    let node = ended-node c.args.i c.split-front.result tree long in
+    let other = opened-node c.args.j c.split-front.result that c.value_at.ensures opened in
+    let value = value-may s (values g.K.Ord.cmp) (g.O.Narrow.asks c.args.op.now) c.requires.asks node other in
+    let below = below-may s (values g.K.Ord.cmp) (g.O.Narrow.asks c.args.op.now) c.requires.asks node other in
     search rules
 
 pub narrow_at-returns : goal.narrow_at-returns
 narrow_at-returns g t c =
-    let long : length (g.A.RadixNode.tree c.args.a.now).prefix ≤ c.args.i + c.split-front.result =
-    subst (λ p. length p ≤ c.args.i + c.split-front.result) c.prefix-whole.ensures.value c.if-place-whole.false in
+    let long = rw c.prefix-whole.ensures.value at c.if-place-whole.false in
     if-ok c.narrow_node.result
-    (λ made h. node-lessened c.split-front.ensures h ((g.met.O.Narrow.says_nothing c.args.op.now) _) long c.value_at.ensures
-    (below-children_at c.args.j c.split-front.result (g.B.RadixNode.tree c.args.b.now) c.below_place-right.ensures.opened))
-    c.narrow_node.ensures
+    (λ made h. node-lessened c.split-front.ensures
+    (opened-node c.args.j c.split-front.result (g.B.RadixNode.tree c.args.b.now) c.value_at.ensures
+    c.below_place-right.ensures.opened) ((g.met.O.Narrow.says_nothing c.args.op.now) _) h long) c.narrow_node.ensures
 
 -- ---- inside the left prefix
 

@@ -1,31 +1,22 @@
 -- A tree that goes on behind the place, or the children of one that does not.
-use Rattle.std.proofs.Common.{◌∙◌, refl, sym, ap, arith, drop, length, length-drop}
+use Rattle.std.proofs.Common.{◌∙◌, refl, sym, ap, arith, drop}
 use Rattle.std.proofs.Math.ListN.{drop_of_length-le}
 use Rattle.vc_tree_model.specs.Shortened.{forest_weight}
 use Rattle.vc_tree_facing.proofs.Ending.{below-children}
-use Rattle.vc_tree_facing.proofs.Opening.{opened-all, opened-by, few-below}
+use Rattle.vc_tree_facing.proofs.Opening.{opened-all, opened-at, few-below}
 use Rattle.vc_tree_facing.proofs.facing.below_place.Goals as goal
 
 pub returns-then-place-prefix-clause-opened : goal.returns-then-place-prefix-clause-opened
 returns-then-place-prefix-clause-opened g c =
-    let t = g.T.RadixNode.tree c.args.tree.now in
-    let l = length-drop c.args.place t.prefix in
-    let w = ap length c.prefix.ensures.value in
-    opened-by g.T.RadixNode.tree c.args.tree.now t (drop c.args.place t.prefix) c.args.place refl refl refl
-    (omega (arith, l, w, c.if-place-prefix.true))
+    opened-at g.T.RadixNode.tree c.args.tree.now c.args.place (rw c.prefix.ensures.value at c.if-place-prefix.true)
 
 pub returns-then-place-prefix-clause-below : goal.returns-then-place-prefix-clause-below
-returns-then-place-prefix-clause-below g c =
-    let t = g.T.RadixNode.tree c.args.tree.now in
-    let l = length-drop c.args.place t.prefix in
-    let w = ap length c.prefix.ensures.value in
-    record {
-      are_children =
-          below-children g.K.Ord.cmp c.args.place c.prefix.ensures.canonical
-          (opened-by g.T.RadixNode.tree c.args.tree.now t (drop c.args.place t.prefix) c.args.place refl refl refl
-          (omega (arith, l, w, c.if-place-prefix.true)));
-      alone = refl;
-    }
+returns-then-place-prefix-clause-below g c = record {
+  are_children =
+      below-children g.K.Ord.cmp c.args.place c.prefix.ensures.canonical
+      (opened-at g.T.RadixNode.tree c.args.tree.now c.args.place (rw c.prefix.ensures.value at c.if-place-prefix.true));
+  alone = refl;
+}
 
 pub returns-else-place-prefix-clause-opened : goal.returns-else-place-prefix-clause-opened
 returns-else-place-prefix-clause-opened g c =
