@@ -3,9 +3,10 @@
 --     asked-taken        what may be asked at each key of the tree, may be asked at each key of its parts
 --     taken-nodes        the parts have as many nodes
 --     made-taken        what is made of the parts is what the change says of the tree
-use Rattle.std.proofs.Common.{◌≡◌, ℕ, ◌≤◌, List, Option, sym, ap, subst, ◌∙◌, drop, take, length, slice_get, arith}
+use Rattle.std.proofs.Common.{◌≡◌, ℕ, ◌≤◌, List, Option, subst, drop, take, length, arith}
 use Rattle.std.specs.Prelude.{IsTrue}
 use Rattle.std.specs.declared.cmp.Ordering.{Ordering}
+use Rattle.vc_tree_model.specs.Child.{Begins}
 use Rattle.vc_tree_model.specs.Key.{same_key}
 use Rattle.vc_tree_model.specs.Value.{IsKept}
 use Rattle.vc_tree_model.specs.Tree.{Tree, nodes}
@@ -49,6 +50,6 @@ module _ {K V W T B : Type 0} {cmp : K → K → Ordering} {tree : T → Tree K 
         → IsBothMadeBy cmp l R h.taken u o → IsBothMadeBy cmp l R t u o
     made-taken kept m = record {
       child = m.child;
-      begins = λ y z e. m.begins y z (ap (λ p. slice_get p 0) (sym h.alike.0) ∙ e);
+      begins = λ y e. m.begins y (subst (Begins cmp y) h.alike.0 e);
       binds = λ k. kept _ _ _ _ (tree-alike_lookup keeps cmp t h.taken h.alike k) (m.binds k);
     }

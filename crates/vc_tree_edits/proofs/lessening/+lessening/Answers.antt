@@ -16,7 +16,7 @@ use Rattle.vc_tree_facing.proofs.Apart.{apart-lessened}
 use Rattle.vc_tree_facing.proofs.Advancing.{list-begun, list-done}
 use Rattle.vc_tree_facing.proofs.Leaving.{if-ok, node-lessened, inside-lessened, value-may, below-may, node-kids, node-smaller}
 use Rattle.vc_tree_facing.proofs.Leaving.{inner-list}
-use Rattle.vc_tree_facing.proofs.Leaving.{ended-value, ended-children, inner-value, inner-children, below-children_at}
+use Rattle.vc_tree_facing.proofs.Leaving.{ended-node, inner-node, opened-node}
 use Rattle.vc_tree_facing.proofs.Leaving.{below-fewer}
 use Rattle.vc_tree_edits.proofs.Placed.{same-place, same-at, set-at, IsStepped, next-here, stepped-alone, stepped-both}
 use Rattle.vc_tree_edits.proofs.Placed.{after-kept}
@@ -70,11 +70,10 @@ lessen_at-lessen_inside-requires g t c κs inside =
     let ended : length (g.B.RadixNode.tree c.args.that.now).prefix ≤ c.args.j + c.split-front.result =
     subst (λ p. length p ≤ c.args.j + c.split-front.result) c.prefix-other_whole.ensures.value
     c.if-other_place-other_whole.false in
-    let w = ended-value c.args.j c.split-front.result that ended in
-    let value = value-may s (g.O.Lessen.look g.K.Ord.cmp) (g.O.Lessen.asks c.args.op.now) c.requires.asks
-    (inner-value c.args.i c.split-front.result tree within) w in
-    let below = below-may s (g.O.Lessen.look g.K.Ord.cmp) (g.O.Lessen.asks c.args.op.now) c.requires.asks
-    (inner-children c.args.i c.split-front.result tree within) w (ended-children c.args.j c.split-front.result that ended) in
+    let node = inner-node c.args.i c.split-front.result tree within in
+    let other = ended-node c.args.j c.split-front.result that ended in
+    let value = value-may s (g.O.Lessen.look g.K.Ord.cmp) (g.O.Lessen.asks c.args.op.now) c.requires.asks node other in
+    let below = below-may s (g.O.Lessen.look g.K.Ord.cmp) (g.O.Lessen.asks c.args.op.now) c.requires.asks node other in
     search rules
 
 pub lessen_at-returns-then-place-whole : goal.lessen_at-returns-then-place-whole
@@ -86,9 +85,8 @@ lessen_at-returns-then-place-whole g t c =
     subst (λ p. length p ≤ c.args.j + c.split-front.result) c.prefix-other_whole.ensures.value
     c.if-other_place-other_whole.false in
     if-ok c.lessen_inside.result
-    (λ stays h. inside-lessened c.split-front.ensures h (g.met.O.Lessen.says_nothing c.args.op.now _) within
-    (ended-value c.args.j c.split-front.result that ended) (ended-children c.args.j c.split-front.result that ended))
-    c.lessen_inside.ensures
+    (λ stays h. inside-lessened c.split-front.ensures (ended-node c.args.j c.split-front.result that ended)
+    (g.met.O.Lessen.says_nothing c.args.op.now _) h within) c.lessen_inside.ensures
 
 pub lessen_at-lessen_node-requires : goal.lessen_at-lessen_node-requires
 lessen_at-lessen_node-requires g t c κs inside =
@@ -100,11 +98,10 @@ lessen_at-lessen_node-requires g t c κs inside =
     let opened = c.below_place-right.ensures.opened in
     let children = c.below_place-right.ensures.below.are_children in
     let fewer = below-fewer opened in
-    let value = value-may s (g.O.Lessen.look g.K.Ord.cmp) (g.O.Lessen.asks c.args.op.now) c.requires.asks
-    (ended-value c.args.i c.split-front.result tree long) c.value_at.ensures in
-    let below = below-may s (g.O.Lessen.look g.K.Ord.cmp) (g.O.Lessen.asks c.args.op.now) c.requires.asks
-    (ended-children c.args.i c.split-front.result tree long) c.value_at.ensures
-    (below-children_at c.args.j c.split-front.result that opened) in
+    let node = ended-node c.args.i c.split-front.result tree long in
+    let other = opened-node c.args.j c.split-front.result that c.value_at.ensures opened in
+    let value = value-may s (g.O.Lessen.look g.K.Ord.cmp) (g.O.Lessen.asks c.args.op.now) c.requires.asks node other in
+    let below = below-may s (g.O.Lessen.look g.K.Ord.cmp) (g.O.Lessen.asks c.args.op.now) c.requires.asks node other in
     search rules
 
 pub lessen_at-returns : goal.lessen_at-returns
@@ -112,9 +109,9 @@ lessen_at-returns g t c =
     let long : length (g.T.RadixNode.tree c.args.tree.now).prefix ≤ c.args.i + c.split-front.result =
     subst (λ p. length p ≤ c.args.i + c.split-front.result) c.prefix-whole.ensures.value c.if-place-whole.false in
     if-ok c.lessen_node.result
-    (λ stays h. node-lessened c.split-front.ensures h (g.met.O.Lessen.says_nothing c.args.op.now _) long c.value_at.ensures
-    (below-children_at c.args.j c.split-front.result (g.B.RadixNode.tree c.args.that.now) c.below_place-right.ensures.opened))
-    c.lessen_node.ensures
+    (λ stays h. node-lessened c.split-front.ensures
+    (opened-node c.args.j c.split-front.result (g.B.RadixNode.tree c.args.that.now) c.value_at.ensures
+    c.below_place-right.ensures.opened) (g.met.O.Lessen.says_nothing c.args.op.now _) h long) c.lessen_node.ensures
 
 -- ---- inside the left prefix
 
