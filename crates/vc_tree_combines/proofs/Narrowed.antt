@@ -82,7 +82,7 @@ module _ {K V : Type 0} (cmp : K → K → Ordering) (o : IsTotalOrder cmp) wher
       → IsAlike keeps (shortened 0 t) u → (S : Option V → Option V → Type 0)
       → ((v z : Option V) → IsKept keeps v z → S v z) → IsLeftAlone cmp n t S (Some u)
   copied-alone keeps t u n c h a S f = record {
-    made = copied-by cmp o keeps t (shortened n u) n c h (ap (drop n) a.0, a.1, a.2) S f;
+    made = copied-by cmp keeps t (shortened n u) n c h (ap (drop n) a.0, a.1, a.2) S f;
     front = λ s. ap (take n) (sym a.0);
   }
 

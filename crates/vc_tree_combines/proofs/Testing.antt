@@ -5,11 +5,13 @@
 --     within-told, within-none, within-bare        the right one goes on behind it
 --     both-told        both end
 --     some-at, before-end        a place that is not the end
+--     found, found_in        a component that was read
 --     found-agrees, agree-flip, found_smaller        the child that is found
 use Rattle.std.proofs.Common.{◌≡◌, ℕ, zero, suc, ◌+◌, ◌<◌, ◌≤◌, [], ◌∷◌, ◌++◌, List, Option, Some, Bool, true, false}
-use Rattle.std.proofs.Common.{not, ◌⊎◌, inl, inr, refl, sym, ap, subst, ◌∙◌, take, drop, length, slice_get}
+use Rattle.std.proofs.Common.{not, ◌⊎◌, inl, inr, refl, sym, ap, subst, ◌∙◌, take, drop, length, slice_get, get_or}
 use Rattle.std.proofs.Common.{true≢false, arith}
 use Rattle.std.proofs.lemmas.List.{take-append-drop, drop-drop}
+use Rattle.std.proofs.lemmas.Option.{slice_get-get_or}
 use Rattle.std.proofs.Math.ListN.{drop_of_length-le}
 use Rattle.std.specs.Cmp.{IsTotalOrder}
 use Rattle.std.specs.Ordering.{is_eq}
@@ -35,6 +37,13 @@ solid-by : {K V : Type 0} (p : List K) (n : ℕ) (x : K) (v : Option V) (f : For
     → IsSolid v f
 solid-by [] n x v f e w = none-some x e
 solid-by (y ∷ p) n x v f e w = w
+
+-- a component that was read
+pub found : {K : Type 0} (p : List K) (n : ℕ) (x : K) → n < length p → x ≡ get_or p n x → slice_get p n ≡ Some x
+found p n x h e = slice_get-get_or p n x h ∙ ap Some (sym e)
+
+pub found_in : {K : Type 0} (p q : List K) (n : ℕ) (x : K) → p ≡ q → n < length p → x ≡ get_or p n x → slice_get q n ≡ Some x
+found_in p q n x e h w = ap (λ z. slice_get z n) (sym e) ∙ found p n x h w
 
 -- a place that is not the end has a component
 pub some-at : {K : Type 0} (p q : List K) (n : ℕ) → q ≡ p → n ≤ length p → (n ≡ length q → ⊥) → (y : K) × (slice_get p n ≡ Some y)

@@ -23,7 +23,7 @@ pub stayed : {K V : Type 0} (cmp : K → K → Ordering) → IsTotalOrder cmp �
     → (S : Option V → Option V → Type 0) → ((v z : Option V) → IsKept keeps v z → S v z)
     → IsMade cmp S (shortened i t) (Some u)
 stayed cmp o keeps itself t u i c h e S f =
-    rw e (copied-by cmp o keeps t (shortened i t) i c h (tree_alike_refl keeps itself (shortened i t)) S f)
+    rw e (copied-by cmp keeps t (shortened i t) i c h (tree_alike_refl keeps itself (shortened i t)) S f)
 
 module _ {V W : Type 0} (keeps : V → V → Type 0) (may : W → Bool → Type 0) where
   -- a value that is kept stays, and goes else

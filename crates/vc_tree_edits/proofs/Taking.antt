@@ -11,7 +11,8 @@ use Rattle.vc_tree_model.specs.Same.{IsAlikeIn}
 use Rattle.vc_tree_model.specs.Snapshot.{tree_alike_refl, kept_itself}
 use Rattle.vc_tree_model.specs.Tree.{Tree, forest, node, shortened}
 use Rattle.vc_tree_model.specs.Value.{IsKept}
-use Rattle.vc_tree_facing.proofs.Opening.{opened-all, opened-rest, value-inside}
+use Rattle.vc_tree_facing.proofs.Leaving.{inner-node}
+use Rattle.vc_tree_facing.proofs.Opening.{opened-all, opened-rest}
 use Rattle.vc_tree_edits.specs.Taken.{IsTaken}
 
 -- the components up to the end of a prefix
@@ -42,9 +43,7 @@ module _ {K V T : Type 0} (tree : T → Tree K V) (keeps : V → V → Type 0) (
         taken = shortened i (tree x);
         alike = tree_alike_refl keeps itself (shortened i (tree x));
         front_is = front-of;
-        value_is =
-            value-inside (shortened i (tree x)) (drop i (tree x).prefix) (drop i (tree x).prefix) n refl (omega (arith, l, h))
-            (λ s. omega (arith, s, l, h));
+        value_is = (inner-node i n (tree x) (rw whole_is at h)).value;
         opened = opened-rest tree x (shortened i (tree x)) i n refl refl (omega (arith, r, h));
       })
 

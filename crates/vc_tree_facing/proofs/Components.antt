@@ -41,20 +41,15 @@ module _ {K : Type 0} (cmp : K → K → Ordering) where
     same = rw (sym (o.congr c x y a) ∙ b) refl;
   }
 
-  module _ {V : Type 0} (p : List K) (v : Option V) (kids rest : Forest K V) (z : K) where
-    pub above-by : (c : K) → slice_get p 0 ≡ Some z → cmp c z ≡ Less → AllAbove cmp c rest → AllAbove cmp c (grow p v kids rest)
-    above-by c e t a = by p e
-      where
-        by : (p : List K) → slice_get p 0 ≡ Some z → AllAbove cmp c (grow p v kids rest)
-        by [] e = none-some z e
-        by (x ∷ p) e = let h : x ≡ z = cc in (rw h t, a)
+  pub above-by : {V : Type 0} (p : List K) (v : Option V) (kids rest : Forest K V) (z c : K) → slice_get p 0 ≡ Some z
+      → cmp c z ≡ Less → AllAbove cmp c rest → AllAbove cmp c (grow p v kids rest)
+  above-by [] v kids rest z c e t a = none-some z e
+  above-by (x ∷ p) v kids rest z c e t a = let h : x ≡ z = cc in (rw h t, a)
 
-    pub less-first : (c : K) → slice_get p 0 ≡ Some z → AllAbove cmp c (grow p v kids rest) → cmp c z ≡ Less
-    less-first c e a = by p e a
-      where
-        by : (p : List K) → slice_get p 0 ≡ Some z → AllAbove cmp c (grow p v kids rest) → cmp c z ≡ Less
-        by [] e a = absurd a
-        by (x ∷ p) e a = let h : x ≡ z = cc in rw (← h) a.0
+  pub less-first : {V : Type 0} (p : List K) (v : Option V) (kids rest : Forest K V) (z c : K) → slice_get p 0 ≡ Some z
+      → AllAbove cmp c (grow p v kids rest) → cmp c z ≡ Less
+  less-first [] v kids rest z c e a = absurd a
+  less-first (x ∷ p) v kids rest z c e a = let h : x ≡ z = cc in rw (← h) a.0
 
   -- the first one begins with a component that the others are above
   pub children-first : {V : Type 0} (p : List K) (v : Option V) (kids rest : Forest K V) → AreChildren cmp (grow p v kids rest)

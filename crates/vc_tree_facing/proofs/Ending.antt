@@ -1,5 +1,5 @@
 -- The combine of two trees, once all events below the fronts of their prefixes are done.
---     left-children, right-children        what stands below is canonical children
+--     below-children        what stands below is canonical children
 --     combine-started        the state before the first event
 --     values-asked        what may be asked of the values at the fronts
 --     made-children        the trees that were made are canonical children
@@ -39,12 +39,6 @@ front-begins {cmp = cmp} o (suc n) (x ∷ p) (z ∷ q) v f y a b w = joined-begi
 
 module _ {K V W A B : Type 0} {cmp : K → K → Ordering} {ta : A → Tree K V} {tb : B → Tree K W} {t : Tree K V} {u : Tree K W}
     {n : ℕ} {xs : List A} {i : ℕ} {ys : List B} {j : ℕ} (f : IsFaced cmp ta tb t u n xs i ys j) where
-  pub left-children : IsCanonical cmp t → AreChildren cmp (shortened_in ta i xs)
-  left-children c = below-children cmp n c f.left
-
-  pub right-children : IsCanonical cmp u → AreChildren cmp (shortened_in tb j ys)
-  right-children c = below-children cmp n c f.right
-
   module _ {O : Type 0} (o : IsTotalOrder cmp) (l : Look cmp W O) where
     -- what may be asked of the values at the fronts
     pub values-asked : (P : Option V → O → Type 0) → ((k : List K) → P (lookup cmp t k) (l.of_tree u k))
@@ -62,7 +56,7 @@ module _ {K V W A B : Type 0} {cmp : K → K → Ordering} {ta : A → Tree K V}
     combine-started R asks an P lead h ct cu e =
         let below = children-asked cmp o l P t u (take n t.prefix) (drop n t.prefix) (take n u.prefix)
         (drop n u.prefix) (sym (take-append-drop n t.prefix)) (sym (take-append-drop n u.prefix)) f.same h in
-        doing-start o an (left-children ct) (right-children cu)
+        doing-start o an (below-children cmp n ct f.left) (below-children cmp n cu f.right)
         (rw (f.left.children, f.right.children) (λ x q. lead _ _ (below x q))) e
 
   module _ {U O : Type 0} {l : Look cmp W O} {R : Option V → O → Option U → Type 0} {asks : Option V → O → Type 0} {ls : List A}

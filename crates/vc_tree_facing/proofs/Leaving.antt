@@ -1,7 +1,6 @@
 -- What is left of a tree into which nothing comes, by where its prefix and that of the other tree part.
 --     value-may, below-may        what may be asked of the values at that place, and of what stands below
 --     node-lessened, inside-lessened        what is left of the tree, where its prefix has ended, and where it goes on
---     apart-begun, apart-sought        two trees that go on otherwise, as lists of one tree; none is found
 use Rattle.std.proofs.Common.{◌≡◌, ℕ, ◌+◌, ◌<◌, ◌≤◌, Bool, true, false, cond, List, [], ◌∷◌, ◌++◌, Option, None, Some, refl}
 use Rattle.std.proofs.Common.{sym, ap, subst, ◌∙◌, length, length-drop, take, drop, arith, Result, Ok, Err, true≢false, slice_get}
 use Rattle.std.proofs.Math.ListN.{drop_of_length-le}
@@ -178,45 +177,3 @@ module _ {K V W : Type 0} {cmp : K → K → Ordering} {t : Tree K V} {i : ℕ} 
             (left_of stays i new) (inside-is i n t new stays h.front);
         front = shorter-front i n t new stays h.front;
       }
-
--- ---- two trees that go on with components of their own
-
--- one tree stands below another one or above it, where their components are not the same
-sought-by : {K W B : Type 0} {cmp : K → K → Ordering} (o : IsTotalOrder cmp) (tb : B → Tree K W) (m : ℕ) (y : B) (a b : K)
-    → slice_get (tb y).prefix m ≡ Some b → IsFalse (is_eq (cmp a b)) → (r : Ordering) → cmp b a ≡ r
-    → (rest : List B) × IsSought cmp tb m a (y ∷ []) None rest
-sought-by o tb m y a b e p Less h =
-    ([], record { passes = record { passed = y ∷ []; is = refl; lower = (rw e h, tt) }; stops = tt })
-sought-by {cmp = cmp} o tb m y a b e p Equal h =
-    let k : cmp a b ≡ Equal = tied_back o b a h in absurd (true≢false (sym (ap is_eq k) ∙ p))
-sought-by o tb m y a b e p Greater h =
-    (y ∷ [], record { passes = record { passed = []; is = refl; lower = tt }; stops = rw e h })
-
-parts-differ : {K : Type 0} (cmp : K → K → Ordering) (p q : List K) (a b : K) → Parts cmp p q → slice_get p 0 ≡ Some a
-    → slice_get q 0 ≡ Some b → IsFalse (is_eq (cmp a b))
-parts-differ cmp [] q a b w e f = absurd (cc)
-parts-differ cmp (x ∷ p) [] a b w e f = absurd (cc)
-parts-differ cmp (x ∷ p) (y ∷ q) a b w e f = let h : x ≡ a = cc in let k : y ≡ b = cc in rw (← h, ← k) w
-
-module _ {K V W T B : Type 0} {cmp : K → K → Ordering} (ta : T → Tree K V) (x : T) (tb : B → Tree K W) (y : B) {i j n : ℕ}
-    (s : IsSplit cmp (ta x) i (tb y) j n) (within : i + n < length (ta x).prefix) (beyond : j + n < length (tb y).prefix) where
-  -- both as lists, before the first event
-  pub apart-begun : {O : Type 0} {l : Look cmp W O} {R : Option V → O → Option V → Type 0} {asks : Option V → O → Type 0}
-      → ((o : O) → R None o None) → asks None l.none
-      → ((k : List K) → asks (lookup cmp (shortened i (ta x)) k) (l.of_tree (shortened j (tb y)) k))
-      → IsGoingOn cmp ta tb (i + n) (j + n) l R asks (x ∷ []) (y ∷ []) (x ∷ []) (y ∷ []) []
-  apart-begun {l = l} {asks = asks} nothing an a =
-      list-begun s.total nothing an (inner-list cmp ta x (i + n) s.left within) (inner-list cmp tb y (j + n) s.right beyond)
-      (λ z q. subst (asks (lookup_in cmp (alone (i + n) (ta x)) (z ∷ q))) (l.under_none _)
-      (below-may s l asks a (inner-node i n (ta x) within) (inner-node j n (tb y) beyond) z q))
-
-  -- of a list of the second one, none goes on as the first does
-  pub apart-sought : (rest : List B)
-      × ((k : K) → slice_get (ta x).prefix (i + n) ≡ Some k → IsSought cmp tb (j + n) k (y ∷ []) None rest)
-  apart-sought =
-      let f = children-first cmp (drop (i + n) (ta x).prefix) _ _ _ (inner-list cmp ta x (i + n) s.left within) in
-      let g = children-first cmp (drop (j + n) (tb y).prefix) _ _ _ (inner-list cmp tb y (j + n) s.right beyond) in
-      let a : slice_get (ta x).prefix (i + n) ≡ Some f.0 = sym (get-drop (i + n) (ta x).prefix) ∙ f.1 in
-      let w = parts-differ cmp _ _ f.0 g.0 (rw (drop-drop n i (ta x).prefix, drop-drop n j (tb y).prefix) at s.parts) f.1 g.1 in
-      let h = sought-by s.total tb (j + n) y f.0 g.0 (sym (get-drop (j + n) (tb y).prefix) ∙ g.1) w (cmp g.0 f.0) refl in
-      (h.0, λ k e. let z : Some f.0 ≡ Some k = sym a ∙ e in let z' : f.0 ≡ k = cc in rw (← z') h.1)

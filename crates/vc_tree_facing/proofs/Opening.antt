@@ -27,27 +27,6 @@ goes-on n [] x e = none-some x e
 goes-on zero (y ∷ p) x e = (p, let h : y ≡ x = cc in rw h refl)
 goes-on (suc n) (y ∷ p) x e = goes-on n p x e
 
--- a component that was read
-pub found : {K : Type 0} (p : List K) (n : ℕ) (x : K) → n < length p → x ≡ get_or p n x → slice_get p n ≡ Some x
-found p n x h e = slice_get-get_or p n x h ∙ ap Some (sym e)
-
-pub found_in : {K : Type 0} (p q : List K) (n : ℕ) (x : K) → p ≡ q → n < length p → x ≡ get_or p n x → slice_get q n ≡ Some x
-found_in p q n x e h w = ap (λ z. slice_get z n) (sym e) ∙ found p n x h w
-
--- the value of a node inside a prefix, and where it ends
-value-by : {K V : Type 0} (t : Tree K V) (p : List K) (n : ℕ) → n ≤ length p → (n ≡ length p → ⊥) → None ≡ value_at t (drop n p)
-value-by t [] n h w = absurd (w (omega (arith, h)))
-value-by t (x ∷ p) zero h w = refl
-value-by t (x ∷ p) (suc n) h w = value-by t p n (omega (arith, h)) (λ e. w (omega (arith, e)))
-
-pub value-inside : {K V : Type 0} (t : Tree K V) (p q : List K) (n : ℕ) → q ≡ p → n ≤ length p → (n ≡ length q → ⊥)
-    → None ≡ value_at t (drop n p)
-value-inside t p q n e h w = value-by t p n h (λ k. w (k ∙ ap length (sym e)))
-
-pub value-ended : {K V : Type 0} (t : Tree K V) (p q : List K) (n : ℕ) → q ≡ p → n ≡ length q → t.value ≡ value_at t (drop n p)
-value-ended t p q n e h =
-    let none : drop n p ≡ [] = ap (drop n) (sym e) ∙ drop_of_length-le q (omega (arith, h)) in rw none refl
-
 -- what is left of a slice
 pub slice-from : {K : Type 0} (s whole p : List K) (i : ℕ) → s ≡ take (length whole - i) (drop i whole) → whole ≡ p
     → s ≡ drop i p

@@ -3,7 +3,8 @@ use Rattle.std.proofs.Common.{◌≡◌, ◌+◌, rules, arith, refl, ap, length
 use Rattle.vc_tree_model.specs.Tree.{forest_nodes}
 use Rattle.vc_tree_nodes.specs.Children.{seen}
 use Rattle.vc_tree_nodes.specs.Parting.{Agree}
-use Rattle.vc_tree_facing.proofs.Opening.{slice-from, found, found_in}
+use Rattle.vc_tree_facing.proofs.Opening.{slice-from}
+use Rattle.vc_tree_combines.proofs.Testing.{found, found_in}
 use Rattle.vc_tree_combines.proofs.Testing.{parted-told, inside-told, inside-none, inside-agrees, behind-told}
 use Rattle.vc_tree_combines.proofs.Testing.{within-told, within-none, within-bare, both-told, some-at, before-end}
 use Rattle.vc_tree_combines.proofs.Passing.{tails-start, tails-later}

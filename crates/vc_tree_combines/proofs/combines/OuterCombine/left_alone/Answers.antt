@@ -5,6 +5,6 @@ use Rattle.vc_tree_combines.proofs.combines.OuterCombine.left_alone.Goals as goa
 
 pub returns : goal.returns
 returns g c =
-    copied-by g.K.Ord.cmp g.met.K.Ord.total g.V.Clone.is_clone (g.A.RadixNode.tree c.args.tree.now) _ c.args.from
+    copied-by g.K.Ord.cmp g.V.Clone.is_clone (g.A.RadixNode.tree c.args.tree.now) _ c.args.from
     c.in_ok-copy_shortened.ensures.canonical c.requires.within c.in_ok-copy_shortened.ensures.alike _
     (outer-left g.V.Clone.is_clone g.V.Clone.is_clone _)

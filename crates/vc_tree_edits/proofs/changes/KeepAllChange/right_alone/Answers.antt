@@ -4,5 +4,5 @@ use Rattle.vc_tree_edits.proofs.changes.KeepAllChange.right_alone.Goals as goal
 
 pub returns : goal.returns
 returns g c =
-    copied-by g.K.Ord.cmp g.met.K.Ord.total g.V.Clone.is_clone (g.B.RadixNode.tree c.args.tree.now) _ c.args.from
+    copied-by g.K.Ord.cmp g.V.Clone.is_clone (g.B.RadixNode.tree c.args.tree.now) _ c.args.from
     c.in_ok-copy_shortened.ensures.canonical c.requires.within c.in_ok-copy_shortened.ensures.alike _ (λ v z k. k)
