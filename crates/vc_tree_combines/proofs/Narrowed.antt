@@ -3,7 +3,7 @@
 --     node-alone, copied-alone        what is left of it, as what is left of its node, and as a copy
 --     both-whole, alone-whole, made-node        what was made, as what is left of a whole tree, and of a node
 use Rattle.std.proofs.Common.{◌≡◌, ℕ, ◌<◌, ◌≤◌, [], ◌∷◌, List, Option, None, Some, refl, sym, ap, subst, is_some}
-use Rattle.std.proofs.Common.{take, drop, length, append-nil, slice_get}
+use Rattle.std.proofs.Common.{take, drop, length, append-nil}
 use Rattle.std.proofs.lemmas.List.{drop-append-le, take-append-le}
 use Rattle.std.specs.Cmp.{IsTotalOrder}
 use Rattle.std.specs.declared.cmp.Ordering.{Ordering}

@@ -3,7 +3,7 @@
 --     children-ascend        canonical children ascend by their first components
 --     told-missed, told-meeting, told-end        what comes next of two lists
 --     alike-meet        two lists whose first trees begin alike
-use Rattle.std.proofs.Common.{◌≡◌, ℕ, ◌≤◌, [], ◌∷◌, ◌++◌, List, Option, None, Some, Bool, true, false, not, Result, Ok}
+use Rattle.std.proofs.Common.{◌≡◌, ◌≤◌, [], ◌∷◌, ◌++◌, List, Option, None, Some, Bool, true, false, not, Result, Ok}
 use Rattle.std.proofs.Common.{Err, ◌⊎◌, inl, inr, refl, sym, ap, subst, ◌∙◌, map, true≢false, append_assoc}
 use Rattle.std.proofs.Common.{append-nil, slice_get, arith}
 use Rattle.std.proofs.lemmas.List.{append_cancel_left}

@@ -22,7 +22,6 @@ use Rattle.vc_tree_model.specs.Tree.{Tree, Forest, node, lacks_both, shortened}
 use Rattle.vc_tree_model.specs.Canonical.{IsSolid, IsWhole, IsCanonical}
 use Rattle.vc_tree_model.proofs.KeyLemmas.{none-some, same-flip}
 use Rattle.vc_tree_model.proofs.Shortening.{shortened-canonical}
-use Rattle.vc_tree_nodes.specs.Children.{seen}
 use Rattle.vc_tree_nodes.specs.Parting.{Agree, PartsAt, IsParting}
 use Rattle.vc_tree_nodes.specs.Places.{IsNoChild, IsFoundChild}
 use Rattle.vc_tree_nodes.specs.declared.parting.Parting.{Parting}

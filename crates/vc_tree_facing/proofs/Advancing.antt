@@ -25,19 +25,9 @@ use Rattle.vc_tree_facing.specs.Seeking.{side_at, Stops, IsSought}
 use Rattle.vc_tree_facing.specs.Sides.{by_component, lower_side, side_next}
 use Rattle.vc_tree_facing.specs.declared.sides.Side.TheVariants.{Left, Right, Both}
 use Rattle.vc_tree_facing.proofs.Components.{get-drop, children-first}
+use Rattle.vc_tree_facing.proofs.Opening.{each-fewer}
 use Rattle.vc_tree_facing.proofs.Next.{left-head, right-head, left_within, right_within, left-asked, both-asked, both-agree}
 use Rattle.vc_tree_facing.proofs.Next.{doing-start, left-done, right-done, both-done, all-done}
-
--- each tree of a list has no more nodes than the list
-pub each-fewer : {K V T : Type 0} (tree : T → Tree K V) (n : ℕ) (xs : List T)
-    → AllByRecursion (λ x. nodes (tree x) ≤ forest_nodes (shortened_in tree n xs)) xs
-each-fewer tree n [] = tt
-each-fewer tree n (x ∷ xs) = (omega arith, weaker xs (each-fewer tree n xs))
-  where
-    weaker : (ys : List _) → AllByRecursion (λ y. nodes (tree y) ≤ forest_nodes (shortened_in tree n xs)) ys
-        → AllByRecursion (λ y. nodes (tree y) ≤ forest_nodes (shortened_in tree n (x ∷ xs))) ys
-    weaker [] a = tt
-    weaker (y ∷ ys) a = (let h = a.0 in omega (arith, h), weaker ys a.1)
 
 module _ {K V W A B : Type 0} (cmp : K → K → Ordering) (ta : A → Tree K V) (tb : B → Tree K W) (i j : ℕ) (a : A) (c : K)
     (e : slice_get (ta a).prefix i ≡ Some c) where
@@ -143,9 +133,10 @@ module _ {K V W O A B : Type 0} {cmp : K → K → Ordering} {ta : A → Tree K 
         pub meets-within : j ≤ length (tb y).prefix
         meets-within = let h = right_within here.doing refl in omega (arith, h)
 
-        -- of which holds what holds of all
-        pub meets-all : (P : B → Type 0) → AllByRecursion P ys → P y
-        meets-all P all = right-head here.doing P refl all
+        -- which has no more nodes than all
+        pub meets-fewer : nodes (tb y) ≤ forest_nodes (shortened_in tb j ys)
+        meets-fewer =
+            right-head here.doing (λ y. nodes (tb y) ≤ forest_nodes (shortened_in tb j ys)) refl (each-fewer tb j ys)
 
         pub goes-both : {u : Option (Tree K V)} → IsBothMadeBy cmp l R (shortened i (ta a)) (shortened j (tb y)) u
             → {made' : List (Tree K V)} → made' ≡ made ++ cons_option u [] → IsGoingOn cmp ta tb i j l R asks xs ys ls rs' made'

@@ -2,18 +2,17 @@
 --     left-first, right-first, both-first        the next trees, by the side on which they stand
 --     rows-none, rows-more        no trees, and trees before others
 --     said-apart, said-joined        what is said of both lists is said of the next trees and of the others
-use Rattle.std.proofs.Common.{◌≡◌, ℕ, [], ◌∷◌, List, Option, None, Some, refl, sym, ap, subst, ◌∙◌, map, slice_get, inl, inr}
+use Rattle.std.proofs.Common.{◌≡◌, ℕ, [], ◌∷◌, List, Option, None, Some, refl, sym, ap, subst, ◌∙◌, slice_get, inl, inr}
 use Rattle.std.proofs.Common.{option_map}
 use Rattle.std.specs.Cmp.{IsTotalOrder, tied_itself, tied_back}
 use Rattle.std.specs.List.{AllByRecursion, cons_option, filter_map}
-use Rattle.std.specs.Option.{option_cmp}
 use Rattle.std.specs.Prelude.{⊤, drop}
 use Rattle.std.specs.declared.cmp.Ordering.{Ordering}
 use Rattle.std.specs.declared.cmp.Ordering.TheVariants.{Less, Equal, Greater}
 use Rattle.vc_tree_model.specs.Canonical.{AllAbove, AreChildren}
 use Rattle.vc_tree_model.specs.Child.{bound_by}
 use Rattle.vc_tree_model.specs.Look.{Look}
-use Rattle.vc_tree_model.specs.Tree.{Tree, Forest, forest, grow, shortened}
+use Rattle.vc_tree_model.specs.Tree.{Tree, forest, grow, shortened}
 use Rattle.vc_tree_model.proofs.KeyLemmas.{less}
 use Rattle.vc_tree_model.proofs.LookupLemmas.{above-less, above-equal}
 use Rattle.vc_tree_model.proofs.Places.{Row, look, IsRow}

@@ -4,7 +4,7 @@
 --     values-asked        what may be asked of the values at the fronts
 --     made-children        the trees that were made are canonical children
 --     combined        the node of these trees is what the combine says of both
-use Rattle.std.proofs.Common.{◌≡◌, ℕ, [], ◌∷◌, List, Option, None, Some, sym, ap, ◌∙◌, take, drop, zero, suc, slice_get}
+use Rattle.std.proofs.Common.{◌≡◌, ℕ, [], ◌∷◌, List, Option, None, sym, ◌∙◌, take, drop, zero, suc, slice_get}
 use Rattle.std.proofs.Common.{true≢false}
 use Rattle.std.proofs.lemmas.List.{take-append-drop}
 use Rattle.std.specs.Cmp.{IsTotalOrder}

@@ -2,30 +2,22 @@
 --     value-may, below-may        what may be asked of the values at that place, and of what stands below
 --     node-lessened, inside-lessened        what is left of the tree, where its prefix has ended, and where it goes on
 use Rattle.std.proofs.Common.{◌≡◌, ℕ, ◌+◌, ◌<◌, ◌≤◌, Bool, true, false, cond, List, [], ◌∷◌, ◌++◌, Option, None, Some, refl}
-use Rattle.std.proofs.Common.{sym, ap, subst, ◌∙◌, length, length-drop, take, drop, arith, Result, Ok, Err, true≢false, slice_get}
+use Rattle.std.proofs.Common.{sym, ap, subst, ◌∙◌, length, length-drop, take, drop, arith, Result, Ok, Err}
 use Rattle.std.proofs.Math.ListN.{drop_of_length-le}
 use Rattle.std.proofs.lemmas.List.{take-append-drop, drop-take, drop-drop, take_all, take-take}
-use Rattle.std.specs.Cmp.{IsTotalOrder, tied_back}
-use Rattle.std.specs.List.{AllByRecursion}
-use Rattle.std.specs.Ordering.{is_eq}
-use Rattle.std.specs.Prelude.{IfOk, IsFalse}
+use Rattle.std.specs.Prelude.{IfOk}
 use Rattle.std.specs.declared.cmp.Ordering.{Ordering}
-use Rattle.std.specs.declared.cmp.Ordering.TheVariants.{Less, Equal, Greater}
 use Rattle.vc_tree_model.specs.Canonical.{AreChildren, IsCanonical}
 use Rattle.vc_tree_model.specs.Child.{solid_child, value_at, children_at}
 use Rattle.vc_tree_model.specs.Look.{Look}
 use Rattle.vc_tree_model.specs.Map.{lookup, lookup_in}
 use Rattle.vc_tree_model.specs.Tree.{Tree, Forest, bare, grow, node, shortened, nodes, forest_nodes}
-use Rattle.vc_tree_model.proofs.Joining.{opened-children, joined-child, trees-combined, value-asked}
+use Rattle.vc_tree_model.proofs.Joining.{joined-child, trees-combined, value-asked}
 use Rattle.vc_tree_model.proofs.Joining.{children-asked}
-use Rattle.vc_tree_facing.specs.Doing.{IsGoingOn}
-use Rattle.vc_tree_facing.specs.Facing.{shortened_in, ended as places_ended, Parts, IsOpened, IsSplit}
+use Rattle.vc_tree_facing.specs.Facing.{shortened_in, IsOpened, IsSplit}
 use Rattle.vc_tree_facing.specs.Lessening.{alone, left_of, IsBehind, KeepsFront, IsLessenedUnder, IsLessened, IsInside}
 use Rattle.vc_tree_facing.specs.Lessening.{IsNodeLeft}
 use Rattle.vc_tree_facing.specs.Made.{IsBothMadeBy}
-use Rattle.vc_tree_facing.specs.Seeking.{IsSought}
-use Rattle.vc_tree_facing.proofs.Components.{get-drop, children-first}
-use Rattle.vc_tree_facing.proofs.Advancing.{list-begun}
 use Rattle.vc_tree_facing.proofs.Ending.{below-children, front-begins}
 use Rattle.vc_tree_facing.proofs.Opening.{opened-at}
 
@@ -92,14 +84,6 @@ pub node-kids : {K V B : Type 0} {tb : B → Tree K V} {t : Tree K V} {whole : L
     → IsOpened tb t (drop n t.prefix) ys from → whole ≡ t.prefix → length whole ≤ n → shortened_in tb from ys ≡ t.children
 node-kids {t =
     t} {n = n} h e long = h.children ∙ ap (children_at t) (drop_of_length-le t.prefix (subst (λ p. length p ≤ n) e long))
-
--- which have fewer nodes
-pub node-smaller : {K V B : Type 0} {tb : B → Tree K V} {t : Tree K V} {whole : List K} {n : ℕ} {ys : List B} {from : ℕ}
-    → IsOpened tb t (drop n t.prefix) ys from → whole ≡ t.prefix → length whole ≤ n
-    → AllByRecursion (λ y. nodes (tb y) + 1 ≤ nodes t) ys
-node-smaller {tb = tb} {t} {n = n} {ys} h e long =
-    let none = drop_of_length-le t.prefix (subst (λ p. length p ≤ n) e long) in
-    subst (λ r. AllByRecursion (λ y. nodes (tb y) + places_ended r ≤ nodes t) ys) none h.smaller
 
 -- the list of a tree that goes on behind a place
 pub inner-list : {K V T : Type 0} (cmp : K → K → Ordering) (tree : T → Tree K V) (x : T) (n : ℕ) → IsCanonical cmp (tree x)

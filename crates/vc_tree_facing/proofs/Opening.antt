@@ -1,19 +1,19 @@
 -- What stands below a place in the prefix of a tree.
 --     goes-on        a key that goes on with a component
+--     each-fewer, few-below        each tree of a list has no more nodes than the list, and weighs at least one
 --     opened-all        where the prefix ended, the children
 --     opened-rest, opened-at        where it goes on, the tree itself
 --     parts-at        two prefixes part where both go on
-use Rattle.std.proofs.Common.{◌≡◌, ℕ, ◌+◌, ◌-◌, ◌<◌, ◌≤◌, [], ◌∷◌, List, Option, Some, None, is_none, get_or, refl}
+use Rattle.std.proofs.Common.{◌≡◌, ℕ, ◌+◌, ◌-◌, ◌<◌, ◌≤◌, [], ◌∷◌, List, Option, Some, None, is_none, refl}
 use Rattle.std.proofs.Common.{sym, ap, ◌∙◌, arith, true≢false, map, take, drop, length-drop, length, slice_get, zero}
 use Rattle.std.proofs.Common.{suc, false}
 use Rattle.std.proofs.lemmas.List.{take_all, drop-drop}
-use Rattle.std.proofs.lemmas.Option.{slice_get-get_or}
-use Rattle.std.proofs.Math.ListN.{drop_of_length-le}
 use Rattle.std.specs.List.{AllByRecursion}
 use Rattle.std.specs.Ordering.{is_eq}
 use Rattle.std.specs.declared.cmp.Ordering.{Ordering}
+use Rattle.vc_merge.proofs.ListLemmas.{each-weaker}
 use Rattle.vc_tree_model.specs.Tree.{Tree, Forest, forest, made, nodes, forest_nodes}
-use Rattle.vc_tree_model.specs.Child.{value_at, solid_child}
+use Rattle.vc_tree_model.specs.Child.{solid_child}
 use Rattle.vc_tree_model.proofs.KeyLemmas.{none-some}
 use Rattle.vc_tree_model.specs.Canonical.{IsWhole}
 use Rattle.vc_tree_model.specs.Shortened.{forest_weight}
@@ -33,14 +33,13 @@ pub slice-from : {K : Type 0} (s whole p : List K) (i : ℕ) → s ≡ take (len
 slice-from {K = K} s whole p i h e =
     h ∙ take_all (length whole - i) (drop i whole) (omega (arith, length-drop {A = K} i whole)) ∙ ap (drop i) e
 
-module _ {T K V : Type 0} (tree : T → Tree K V) where
-  all-smaller : (xs : List T) (n : ℕ) → forest_nodes (forest (map tree xs)) + 1 ≤ n
-      → AllByRecursion (λ x. nodes (tree x) + 1 ≤ n) xs
-  all-smaller [] n h = tt
-  all-smaller (x ∷ xs) n h =
-      let k : forest_nodes (tree x).children + 1 + forest_nodes (forest (map tree xs)) + 1 ≤ n = h in
-      (omega (arith, k), all-smaller xs n (omega (arith, k)))
+-- each tree of a list has no more nodes than the list
+pub each-fewer : {K V T : Type 0} (tree : T → Tree K V) (n : ℕ) (xs : List T)
+    → AllByRecursion (λ x. nodes (tree x) ≤ forest_nodes (shortened_in tree n xs)) xs
+each-fewer tree n [] = tt
+each-fewer tree n (x ∷ xs) = (omega arith, each-weaker _ _ (λ y h. omega (arith, h)) xs (each-fewer tree n xs))
 
+module _ {T K V : Type 0} (tree : T → Tree K V) where
   all-go_on : (xs : List T) → AllByRecursion (λ x. GoesOn [] (slice_get (tree x).prefix 0)) xs
   all-go_on [] = tt
   all-go_on (x ∷ xs) = (tt, all-go_on xs)
@@ -50,8 +49,7 @@ module _ {T K V : Type 0} (tree : T → Tree K V) where
       → IsOpened tree t rest xs 0
   opened-all t rest xs r c = rw r (record {
     children = c;
-    smaller = all-smaller xs (nodes t)
-        (let k : forest_nodes (forest (map tree xs)) ≡ forest_nodes t.children = ap forest_nodes c in omega (arith, k));
+    smaller = (let k = ap forest_nodes c in each-weaker _ _ (λ x h. omega (arith, k, h)) xs (each-fewer tree 0 xs));
     first = all-go_on xs;
   })
 

@@ -1,16 +1,16 @@
 -- What is made of two trees, by where their prefixes end, and of the children one after the other.
-use Rattle.std.proofs.Common.{◌+◌, ◌<◌, ◌≤◌, ◌∷◌, [], None, refl, ap, subst, ◌∙◌, arith, rules, map, option_map}
+use Rattle.std.proofs.Common.{◌+◌, ◌∷◌, [], None, refl, ap, ◌∙◌, arith, rules, map, option_map}
 use Rattle.std.proofs.Common.{length, length-drop}
 use Rattle.std.specs.Option.{option_copied}
 use Rattle.vc_tree_model.specs.Look.{values}
-use Rattle.vc_tree_model.specs.Tree.{forest_nodes, nodes, shortened}
+use Rattle.vc_tree_model.specs.Tree.{forest_nodes, shortened}
 use Rattle.vc_tree_nodes.specs.Children.{seen}
-use Rattle.vc_tree_facing.specs.Facing.{trees_below, shortened_in}
+use Rattle.vc_tree_facing.specs.Facing.{trees_below}
 use Rattle.vc_tree_facing.proofs.Advancing.{next-within, next-fewer, alone-asked, meets-asked, meets-agree, meets-within}
-use Rattle.vc_tree_facing.proofs.Advancing.{meets-all, each-fewer, goes-alone, goes-both, inside-alone, inside-both}
+use Rattle.vc_tree_facing.proofs.Advancing.{meets-fewer, goes-alone, goes-both, inside-alone, inside-both}
 use Rattle.vc_tree_facing.proofs.Apart.{apart-asked, apart-lessened}
 use Rattle.vc_tree_facing.proofs.Advancing.{list-begun, list-done}
-use Rattle.vc_tree_facing.proofs.Leaving.{if-ok, node-lessened, inside-lessened, value-may, below-may, node-kids, node-smaller}
+use Rattle.vc_tree_facing.proofs.Leaving.{if-ok, node-lessened, inside-lessened, value-may, below-may, node-kids}
 use Rattle.vc_tree_facing.proofs.Leaving.{inner-list}
 use Rattle.vc_tree_facing.proofs.Leaving.{ended-node, inner-node, opened-node}
 use Rattle.vc_tree_facing.proofs.Leaving.{below-fewer}
@@ -129,8 +129,8 @@ narrow_inside-narrow_at-requires g t c κs inside =
     let asks_from = rw (← from) at asks in
     let agree_from = rw (← from) at agree in
     let within_from = rw (← from) at within in
-    let smaller = meets-all d sought e (λ y. nodes (tb y) + 1 ≤ nodes (tb c.args.b.now))
-    (node-smaller opened c.prefix.ensures.value (omega arith)) in
+    let smaller = meets-fewer d sought e in
+    let all = ap forest_nodes kids in
     search rules
 
 pub narrow_inside-narrow_alone-requires : goal.narrow_inside-narrow_alone-requires
@@ -224,9 +224,7 @@ narrow_kids-narrow_at-requires g t c κs inside =
     let asks_from = rw (← from) at asks in
     let agree_from = rw (← from) at agree in
     let within_from = rw (← from) at within in
-    let smaller = meets-all d sought e
-    (λ y. nodes (tb y) ≤ forest_nodes (shortened_in tb c.args.right.from (trees_below c.args.right)))
-    (each-fewer tb c.args.right.from (trees_below c.args.right)) in
+    let smaller = meets-fewer d sought e in
     let fewer = next-fewer d in
     search rules
 

@@ -9,12 +9,11 @@ use Rattle.vc_tree_model.specs.Tree.{forest_nodes, nodes}
 use Rattle.vc_tree_model.proofs.AlikeLemmas.{alike-children, alike-lookup, alike-nodes}
 use Rattle.vc_tree_nodes.specs.Children.{listed, seen}
 use Rattle.vc_tree_facing.specs.Facing.{trees_below, shortened_in}
-use Rattle.vc_tree_facing.proofs.Advancing.{next-within, next-fewer, meets-asked, meets-agree, meets-within, meets-all}
-use Rattle.vc_tree_facing.proofs.Advancing.{each-fewer}
+use Rattle.vc_tree_facing.proofs.Advancing.{next-within, next-fewer, meets-asked, meets-agree, meets-within, meets-fewer}
 use Rattle.vc_tree_facing.proofs.Advancing.{inside-alone, inside-both}
 use Rattle.vc_tree_facing.proofs.Apart.{apart-lessened}
 use Rattle.vc_tree_facing.proofs.Advancing.{list-begun, list-done}
-use Rattle.vc_tree_facing.proofs.Leaving.{if-ok, node-lessened, inside-lessened, value-may, below-may, node-kids, node-smaller}
+use Rattle.vc_tree_facing.proofs.Leaving.{if-ok, node-lessened, inside-lessened, value-may, below-may, node-kids}
 use Rattle.vc_tree_facing.proofs.Leaving.{inner-list}
 use Rattle.vc_tree_facing.proofs.Leaving.{ended-node, inner-node, opened-node}
 use Rattle.vc_tree_facing.proofs.Leaving.{below-fewer}
@@ -138,8 +137,8 @@ lessen_inside-lessen_at-requires g t c κs inside =
     let asks_from = rw (← from) at asks in
     let agree_from = rw (← from) at agree in
     let within_from = rw (← from) at within in
-    let smaller = meets-all d sought e (λ y. nodes (tb y) + 1 ≤ nodes (tb c.args.that.now))
-    (node-smaller opened c.prefix.ensures.value (omega arith)) in
+    let smaller = meets-fewer d sought e in
+    let all = ap forest_nodes kids in
     search rules
 
 pub lessen_inside-returns-in-Some : goal.lessen_inside-returns-in-Some
@@ -219,9 +218,7 @@ lessen_in-lessen_at-requires g t c κs inside =
     let asks_from = rw (← same, ← from) at asks in
     let agree_from = rw (← same, ← from) at agree in
     let within_from = rw (← from) at within in
-    let smaller = meets-all d sought e
-    (λ y. nodes (tb y) ≤ forest_nodes (shortened_in tb c.args.right.from (trees_below c.args.right)))
-    (each-fewer tb c.args.right.from (trees_below c.args.right)) in
+    let smaller = meets-fewer d sought e in
     let few = next-fewer d in
     let fewer = rw (← same) at few in
     let many = alike-nodes g.T.Build.keeps _ _ alike in
