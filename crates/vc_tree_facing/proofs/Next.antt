@@ -1,6 +1,5 @@
 -- The next trees of two lists of which some are done.
 --     left_within, right_within        they go on at the place
---     there        they are there, by the side on which they stand
 --     left-head, right-head        what holds of all holds of them
 --     left-asked, right-asked, both-asked        they may be asked of
 --     both-agree, both-ended, falls        two that meet agree for one component, below a prefix that ended, and have fewer nodes
@@ -8,13 +7,11 @@
 --     at-most, nil-by        what is below is not above, and a list without elements
 use Rattle.std.proofs.Common.{◌≡◌, ℕ, zero, suc, ◌+◌, ◌<◌, ◌≤◌, [], ◌∷◌, ◌++◌, List, Option, None, Some, refl, sym, ap}
 use Rattle.std.proofs.Common.{subst, ◌∙◌, arith, length, drop, slice_get, append-nil, append_assoc, option_map, true≢false}
-use Rattle.std.proofs.Common.{◌⊎◌, inl, inr}
 use Rattle.std.proofs.lemmas.List.{drop-drop}
 use Rattle.std.proofs.lemmas.Option.{slice_get_within}
 use Rattle.std.specs.Cmp.{IsTotalOrder}
 use Rattle.std.specs.List.{AllByRecursion, cons_option}
 use Rattle.std.specs.declared.cmp.Ordering.{Ordering}
-use Rattle.std.specs.declared.cmp.Ordering.TheVariants.{Less, Equal, Greater}
 use Rattle.vc_tree_model.specs.Canonical.{AreChildren}
 use Rattle.vc_tree_model.specs.Child.{BeginsWith, IsChild, bound_by}
 use Rattle.vc_tree_model.specs.Look.{Look}
@@ -26,7 +23,7 @@ use Rattle.vc_tree_nodes.specs.Parting.{Agree}
 use Rattle.vc_tree_facing.specs.Doing.{AreFirst, AreMade, IsSaidIn, IsDoing}
 use Rattle.vc_tree_facing.specs.Facing.{shortened_in, ended, GoesOn, IsOpened, Parts}
 use Rattle.vc_tree_facing.specs.Made.{IsMade, IsMadeBy, IsBothMadeBy}
-use Rattle.vc_tree_facing.specs.Sides.{by_component, lower_side, side_next}
+use Rattle.vc_tree_facing.specs.Sides.{by_component, side_next}
 use Rattle.vc_tree_facing.specs.declared.sides.Side.{Side}
 use Rattle.vc_tree_facing.specs.declared.sides.Side.TheVariants.{Left, Right, Both}
 use Rattle.vc_tree_facing.proofs.Components.{get-drop, begin-alike, agree-first, children-first}
@@ -49,25 +46,6 @@ all-drop P (suc n) (x ∷ xs) a = all-drop P n xs a.1
 append-option : {X : Type 0} (xs : List X) (o : Option X) (ys : List X) → (xs ++ cons_option o []) ++ ys ≡ xs ++ cons_option o ys
 append-option xs None ys = ap (λ l. l ++ ys) (append-nil xs)
 append-option xs (Some x) ys = append_assoc xs (x ∷ []) ys
-
--- the next trees are there, by the side on which they stand
-abbrev pub AreThere : {A B : Type 0} → Side → List A → List B → Type 0
-AreThere Left ls rs = 0 < length ls
-AreThere Right ls rs = 0 < length rs
-AreThere Both ls rs = (0 < length ls) × (0 < length rs)
-
-module _ {A B : Type 0} (order : A ⊎ B → A ⊎ B → Ordering) where
-  there-by : (ls : List A) (rs : List B) {s : Side} → side_next order (slice_get ls 0) (slice_get rs 0) ≡ Some s
-      → AreThere s ls rs
-  there-by [] [] z = absurd (cc)
-  there-by [] (y ∷ rs) {s} z = let h : Right ≡ s = cc in rw (← h) (omega arith)
-  there-by (x ∷ ls) [] {s} z = let h : Left ≡ s = cc in rw (← h) (omega arith)
-  there-by (x ∷ ls) (y ∷ rs) {s} z = let h : lower_side (order (inr y) (inl x)) ≡ s = cc in rw (← h) (by (order (inr y) (inl x)))
-    where
-      by : (r : Ordering) → AreThere (lower_side r) (x ∷ ls) (y ∷ rs)
-      by Less = omega arith
-      by Equal = (omega arith, omega arith)
-      by Greater = omega arith
 
 module _ {K V W U O A B : Type 0} {cmp : K → K → Ordering} {ta : A → Tree K V} {tb : B → Tree K W} {i j : ℕ} {l : Look cmp W O}
     {R : Option V → O → Option U → Type 0} {asks : Option V → O → Type 0} {xs : List A} {ys : List B} where
@@ -133,9 +111,6 @@ module _ {K V W U O A B : Type 0} {cmp : K → K → Ordering} {ta : A → Tree 
     -- the trees by which both sides stand
     abbrev OnSide : Side → Type 0
     OnSide s = side_next (by_component ta tb i j cmp) (slice_get ls 0) (slice_get rs 0) ≡ Some s
-
-    pub there : {s : Side} → OnSide s → AreThere s ls rs
-    there z = there-by (by_component ta tb i j cmp) ls rs z
 
     module _ {x : A} {ls' : List A} (z : OnSide Left) (e : ls ≡ x ∷ ls') where
       first_left : AreFirst cmp ta tb i j (Some x) None ls' rs

@@ -1,6 +1,6 @@
 //! Two trees side by side: where their prefixes part, and what stands below.
 
-ghost use Rattle.std.specs.Prelude.{◌≡◌, ◌+◌, ◌≤◌, ◌<◌, true, [], ◌∷◌, Some, min, length, drop, slice_get, IfOk};
+ghost use Rattle.std.specs.Prelude.{◌≡◌, ◌+◌, ◌≤◌, ◌<◌, true, [], ◌∷◌, Some, min, length, drop, slice_get, IfOk, IfSome};
 ghost use Rattle.std.proofs.Common.{inl, inr};
 ghost use Rattle.std.specs.Option.{option_copied, option_to_list};
 ghost use Rattle.vc_merge.specs.Count.{ticked};
@@ -11,7 +11,7 @@ ghost use Rattle.vc_tree_nodes.specs.Parting.{Agree};
 ghost use Rattle.vc_tree_nodes.specs.Places.{first_side};
 ghost use Rattle.vc_tree_facing.specs.Facing.{trees_below, Parts, IsBelow, IsOpened, IsFaced, IsSplit};
 ghost use Rattle.vc_tree_facing.specs.Seeking.{IsSought};
-ghost use Rattle.vc_tree_facing.specs.Sides.{by_component, side_next};
+ghost use Rattle.vc_tree_facing.specs.Sides.{by_component, side_next, AreThere};
 
 use crate::sides::Side;
 use std::cmp::Ordering;
@@ -279,6 +279,7 @@ pub fn side_below<K: TKey, V: TValue, W: TValue, A: RadixNode<K, V>, B: RadixNod
     ensures side { result
         ≡ side_next (by_component A.tree B.tree left.now.from right.now.from K.cmp)
         (slice_get (trees_below left.now) 0) (slice_get (trees_below right.now) 0) }
+    ensures there { IfSome result (λ s. AreThere s (trees_below left.now) (trees_below right.now)) }
     ensures counted { C.counted steps.new ≤ C.counted steps.old
         + length (option_to_list (slice_get (trees_below left.now) 0)) }
 {

@@ -2,7 +2,7 @@
 use Rattle.std.proofs.Common.{rules, arith, refl, sym, ap, ◌∙◌, Some}
 use Rattle.vc_tree_model.specs.Look.{values}
 use Rattle.vc_tree_facing.proofs.Ending.{values-asked, combine-started, made-children, combined}
-use Rattle.vc_tree_facing.proofs.Next.{there, left_within, right_within, left-asked, right-asked, both-asked, both-agree, at-most}
+use Rattle.vc_tree_facing.proofs.Next.{left_within, right_within, left-asked, right-asked, both-asked, both-agree, at-most}
 use Rattle.vc_tree_facing.proofs.Next.{both-ended, falls, left-done, right-done, both-done}
 use Rattle.vc_tree_combines.proofs.Paying.{paid-begun, paid-left, paid-right, paid-both}
 use Rattle.vc_tree_combines.proofs.engine.+combine_at.Goals as goal
@@ -20,12 +20,6 @@ loop-side-init g t c =
       right_from = refl;
     }
 
-pub next-requires : goal.next-requires
-next-requires g t c =
-    let inv = c.loop-side.invariant in
-    let z = rw (inv.left_from, inv.right_from) at (sym c.side_below.ensures.side ∙ c.in-Some.is ∙ ap Some c.in-Left.is) in
-    there inv.doing z
-
 pub left_alone-requires-clause-within : goal.left_alone-requires-clause-within
 left_alone-requires-clause-within g t c =
     let inv = c.loop-side.invariant in
@@ -37,12 +31,6 @@ left_alone-requires-clause-asks g t c =
     let z = rw (inv.left_from, inv.right_from) at (sym c.side_below.ensures.side ∙ c.in-Some.is ∙ ap Some c.in-Left.is) in
     left-asked inv.doing z c.next.ensures.first
 
-pub next-requires-in-Right : goal.next-requires-in-Right
-next-requires-in-Right g t c =
-    let inv = c.loop-side.invariant in
-    let z = rw (inv.left_from, inv.right_from) at (sym c.side_below.ensures.side ∙ c.in-Some.is ∙ ap Some c.in-Right.is) in
-    there inv.doing z
-
 pub right_alone-requires-clause-within : goal.right_alone-requires-clause-within
 right_alone-requires-clause-within g t c =
     let inv = c.loop-side.invariant in
@@ -53,18 +41,6 @@ right_alone-requires-clause-asks g t c =
     let inv = c.loop-side.invariant in
     let z = rw (inv.left_from, inv.right_from) at (sym c.side_below.ensures.side ∙ c.in-Some.is ∙ ap Some c.in-Right.is) in
     right-asked inv.doing z c.next-in-Right.ensures.first
-
-pub next-x-requires : goal.next-x-requires
-next-x-requires g t c =
-    let inv = c.loop-side.invariant in
-    let z = rw (inv.left_from, inv.right_from) at (sym c.side_below.ensures.side ∙ c.in-Some.is ∙ ap Some c.in-Both.is) in
-    (there inv.doing z).0
-
-pub next-y-requires : goal.next-y-requires
-next-y-requires g t c =
-    let inv = c.loop-side.invariant in
-    let z = rw (inv.left_from, inv.right_from) at (sym c.side_below.ensures.side ∙ c.in-Some.is ∙ ap Some c.in-Both.is) in
-    (there inv.doing z).1
 
 pub combine_at-requires : goal.combine_at-requires
 combine_at-requires g t c κs within =
