@@ -1,6 +1,6 @@
 //! The one recursion of all changes of a tree by another tree, in place.
 
-ghost use Rattle.std.specs.Prelude.{◌≡◌, ◌<◌, ◌≤◌, ◌∷◌, List, [], Option, None, IfOk, OnOk, drop, length, map, option_map, slice_get};
+ghost use Rattle.std.specs.Prelude.{◌≡◌, ◌<◌, ◌≤◌, ◌∷◌, List, [], Option, None, IfOk, IfSome, OnOk, drop, length, map, option_map, slice_get};
 ghost use Rattle.std.specs.Option.{option_copied};
 ghost use Rattle.std.specs.declared.cmp.Ordering.{Ordering};
 ghost use Rattle.vc_tree_model.specs.Tree.{shortened};
@@ -11,7 +11,7 @@ ghost use Rattle.vc_tree_nodes.specs.Children.{listed, seen};
 ghost use Rattle.vc_tree_model.specs.Look.{Look};
 ghost use Rattle.vc_tree_nodes.specs.Parting.{Agree};
 ghost use Rattle.vc_tree_facing.specs.Facing.{trees_below, IsBelow};
-ghost use Rattle.vc_tree_facing.specs.Sides.{by_component, side_next};
+ghost use Rattle.vc_tree_facing.specs.Sides.{by_component, side_next, AreThere};
 ghost use Rattle.vc_tree_facing.specs.Made.{IsMade, IsMadeBy, IsBothMadeBy};
 ghost use Rattle.vc_tree_model.specs.Canonical.{AreChildren, IsCanonical};
 ghost use Rattle.vc_tree_model.specs.Child.{solid_child, value_at as node_value};
@@ -311,8 +311,9 @@ fn next_side<K: TKey, V: TValue, W: TValue, T: RadixNode<K, V>, B: RadixNode<K, 
     from: usize,
     right: &Below<'_, B>,
 ) -> Option<Side>
-    ensures { result ≡ side_next (by_component T.tree B.tree from right.now.from K.cmp)
+    ensures side { result ≡ side_next (by_component T.tree B.tree from right.now.from K.cmp)
         (slice_get left.now.items 0) (slice_get (trees_below right.now) 0) }
+    ensures there { IfSome result (λ s. AreThere s left.now.items (trees_below right.now)) }
 {
     let (first, _) = left.as_slices();
     side_below(&Below::row(first, from), right, &mut Uncounted)

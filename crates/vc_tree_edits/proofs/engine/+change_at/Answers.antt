@@ -1,6 +1,6 @@
 -- The recursion of a change in place: the next trees are done one after the other, and each call goes to trees that stand below.
 use Rattle.std.proofs.Common.{rules, refl, sym, ap, ◌∙◌, Some}
-use Rattle.vc_tree_facing.proofs.Next.{there, left_within, right_within, both-asked, both-agree, both-done, at-most}
+use Rattle.vc_tree_facing.proofs.Next.{left_within, right_within, both-asked, both-agree, both-done, at-most}
 use Rattle.vc_tree_edits.proofs.Stepping.{first-long, after-left, after-right, falls-below, finished-children, finished}
 use Rattle.vc_tree_edits.proofs.engine.+change_at.Goals as goal
 
@@ -14,48 +14,21 @@ loop-side-init g t c =
       prefix_is = refl;
     }
 
-pub stay-requires-clause-there : goal.stay-requires-clause-there
-stay-requires-clause-there g t c =
-    let inv = c.loop-side.invariant in
-    let z = rw inv.right_from at (sym c.next_side.ensures ∙ c.in-Some.is ∙ ap Some c.in-Left.is) in
-    there inv.doing z
-
 pub stay-requires-clause-long : goal.stay-requires-clause-long
 stay-requires-clause-long g t c =
-    let inv = c.loop-side.invariant in
-    let z = rw inv.right_from at (sym c.next_side.ensures ∙ c.in-Some.is ∙ ap Some c.in-Left.is) in
-    first-long g.T.RadixNode.tree _ _ (there inv.doing z)
-    (λ x rest e. left_within inv.doing e)
-
-pub come-requires-clause-there : goal.come-requires-clause-there
-come-requires-clause-there g t c =
-    let inv = c.loop-side.invariant in
-    let z = rw inv.right_from at (sym c.next_side.ensures ∙ c.in-Some.is ∙ ap Some c.in-Right.is) in
-    there inv.doing z
+    first-long g.T.RadixNode.tree _ _ (rw c.in-Left.is at c.in-Some.ensures.there)
+    (λ x rest e. left_within c.loop-side.invariant.doing e)
 
 pub come-requires-clause-long : goal.come-requires-clause-long
 come-requires-clause-long g t c =
     let inv = c.loop-side.invariant in
-    let z = rw inv.right_from at (sym c.next_side.ensures ∙ c.in-Some.is ∙ ap Some c.in-Right.is) in
-    rw inv.right_from (first-long g.B.RadixNode.tree _ _ (there inv.doing z)
+    rw inv.right_from (first-long g.B.RadixNode.tree _ _ (rw c.in-Right.is at c.in-Some.ensures.there)
     (λ y rest e. right_within inv.doing e))
-
-pub pop-x-requires : goal.pop-x-requires
-pop-x-requires g t c =
-    let inv = c.loop-side.invariant in
-    let z = rw inv.right_from at (sym c.next_side.ensures ∙ c.in-Some.is ∙ ap Some c.in-Both.is) in
-    (there inv.doing z).0
-
-pub next-y-requires : goal.next-y-requires
-next-y-requires g t c =
-    let inv = c.loop-side.invariant in
-    let z = rw inv.right_from at (sym c.next_side.ensures ∙ c.in-Some.is ∙ ap Some c.in-Both.is) in
-    (there inv.doing z).1
 
 pub change_at-requires : goal.change_at-requires
 change_at-requires g t c κs within =
     let inv = c.loop-side.invariant in
-    let z = rw inv.right_from at (sym c.next_side.ensures ∙ c.in-Some.is ∙ ap Some c.in-Both.is) in
+    let z = rw inv.right_from at (sym c.next_side.ensures.side ∙ c.in-Some.is ∙ ap Some c.in-Both.is) in
     let x = c.pop-x.ensures in
     let y = c.next-y.ensures.first in
     let from = c.next-y.ensures.from ∙ inv.right_from in
@@ -72,7 +45,7 @@ change_at-requires g t c κs within =
 pub loop-side-preserved-in-Continue-branch-2 : goal.loop-side-preserved-in-Continue-branch-2
 loop-side-preserved-in-Continue-branch-2 g t c =
     let inv = c.loop-side.invariant in
-    let z = rw inv.right_from at (sym c.next_side.ensures ∙ c.in-Some.is ∙ ap Some c.in-Left.is) in
+    let z = rw inv.right_from at (sym c.next_side.ensures.side ∙ c.in-Some.is ∙ ap Some c.in-Left.is) in
     record {
       doing = after-left inv.doing z c.in_ok-stay-in-Left.ensures;
       right_from = inv.right_from;
@@ -83,7 +56,7 @@ loop-side-preserved-in-Continue-branch-2 g t c =
 pub loop-side-preserved-in-Continue-branch-3 : goal.loop-side-preserved-in-Continue-branch-3
 loop-side-preserved-in-Continue-branch-3 g t c =
     let inv = c.loop-side.invariant in
-    let z = rw inv.right_from at (sym c.next_side.ensures ∙ c.in-Some.is ∙ ap Some c.in-Right.is) in
+    let z = rw inv.right_from at (sym c.next_side.ensures.side ∙ c.in-Some.is ∙ ap Some c.in-Right.is) in
     let come = c.in_ok-come-in-Right.ensures in
     record {
       doing = after-right inv.doing z (rw inv.right_from at come.come);
@@ -95,7 +68,7 @@ loop-side-preserved-in-Continue-branch-3 g t c =
 pub loop-side-preserved : goal.loop-side-preserved
 loop-side-preserved g t c =
     let inv = c.loop-side.invariant in
-    let z = rw inv.right_from at (sym c.next_side.ensures ∙ c.in-Some.is ∙ ap Some c.in-Both.is) in
+    let z = rw inv.right_from at (sym c.next_side.ensures.side ∙ c.in-Some.is ∙ ap Some c.in-Both.is) in
     let from = c.next-y.ensures.from ∙ inv.right_from in
     record {
       doing =
@@ -109,13 +82,13 @@ loop-side-preserved g t c =
 pub finish_in-requires : goal.finish_in-requires
 finish_in-requires g t c =
     let inv = c.loop-side.invariant in
-    let end = rw inv.right_from at (sym c.next_side.ensures ∙ c.in_default.is) in
+    let end = rw inv.right_from at (sym c.next_side.ensures.side ∙ c.in_default.is) in
     finished-children c.in_ok-prefix.ensures inv.doing (g.met.O.Change.says_none c.in_ok-prefix.field-0.below) end
 
 pub returns : goal.returns
 returns g t c =
     let inv = c.loop-side.invariant in
-    let end = rw inv.right_from at (sym c.next_side.ensures ∙ c.in_default.is) in
+    let end = rw inv.right_from at (sym c.next_side.ensures.side ∙ c.in_default.is) in
     finished c.in_ok-prefix.ensures inv.doing (g.met.O.Change.says_none c.in_ok-prefix.field-0.below) end
     (g.met.O.Change.says_none c.args.op.now) (g.met.O.Change.says_kept c.args.op.now)
     (rw (inv.value_is, inv.prefix_is) at c.in_ok-made.ensures)
