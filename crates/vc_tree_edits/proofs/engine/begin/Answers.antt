@@ -11,8 +11,8 @@ change_values-requires-clause-asks g c =
 
 pub returns : goal.returns
 returns g c =
-    rw c.from_vec.ensures.items (begun c.in_ok-prefix.ensures c.meet-front.ensures.met g.met.K.Ord.total (g.O.Change.look g.K.Ord.cmp)
-    (g.O.Change.asks c.args.op.now) (g.met.O.Change.asks_kept c.args.op.now) c.requires.asks
+    rw c.from_vec.ensures.items (begun c.in_ok-prefix.ensures c.meet-front.ensures.met g.met.K.Ord.total
+    (g.O.Change.look g.K.Ord.cmp) (g.O.Change.asks c.args.op.now) (g.met.O.Change.asks_kept c.args.op.now) c.requires.asks
     {R = g.O.Change.says c.in_ok-value.below} {asks = g.O.Change.asks c.in_ok-value.below}
     (shortened-canonical g.K.Ord.cmp c.args.i _ c.meet-front.ensures.left_canonical)
     (shortened-canonical g.K.Ord.cmp c.args.j _ c.meet-front.ensures.right_canonical)
