@@ -1,7 +1,5 @@
 pub mod Going
-pub mod Withouts
-pub mod Lists
-pub mod Removing
 pub mod Reaching
-pub mod Taken
+pub mod Parting
+pub mod Putting
 pub mod Beginning

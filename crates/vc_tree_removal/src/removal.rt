@@ -1,21 +1,19 @@
 //! How a key is taken out of a tree, alone or with all keys that begin with it.
 
-ghost use Rattle.std.specs.Prelude.{◌≡◌, ◌++◌, ◌<◌, ◌≤◌, length, None, Ok, Some};
-ghost use Rattle.std.specs.Prelude.{IfOk, IsSome, MatchBool, OnOk, OnErr};
-ghost use Rattle.std.specs.Option.{option_map};
+ghost use Rattle.std.specs.Prelude.{◌≡◌, ◌+◌, ◌++◌, ◌<◌, ◌≤◌, [], length, vec_len, None, Ok, Some};
+ghost use Rattle.std.specs.Prelude.{IfOk, IsSome, MatchBool, OnOk, OnErr, option_map};
+ghost use Rattle.vc_tree_model.specs.Child.{IsChild};
 ghost use Rattle.vc_tree_model.specs.Key.{behind};
-ghost use Rattle.vc_tree_model.specs.Tree.{bare, no_tree, node, trees};
+ghost use Rattle.vc_tree_model.specs.Tree.{bare, no_tree, node};
 ghost use Rattle.vc_tree_model.specs.Value.{IsKept};
 ghost use Rattle.vc_tree_model.specs.Map.{HaveEqualMaps, lookup, lookup_in};
 ghost use Rattle.vc_tree_model.specs.Canonical.{AreChildren, IsCanonical, IsSolid};
 ghost use Rattle.vc_tree_model.specs.Same.{IsAlike, IsAlikeIn};
 ghost use Rattle.vc_tree_nodes.specs.Children.{seen};
 ghost use Rattle.vc_tree_nodes.specs.Places.{LeadsTo};
-ghost use Rattle.vc_tree_removal.specs.Without.{IsWithout, IsWithoutAll};
-ghost use Rattle.vc_tree_removal.specs.Taking.{AreSome, IsDeep, IsDeepAt, IsTaken, IsWholly, Meets};
-ghost use Rattle.vc_tree_removal.specs.Taking.{Becomes, Lacks, Loses, Parts as PartsOf, Takes};
-ghost use Rattle.vc_tree_removal.specs.Taking.{Removed, RemovedIn, goes, tree_at, without};
-ghost use Rattle.vc_tree_removal.specs.Taking.{alone as alone_tree, gone as gone_tree};
+ghost use Rattle.vc_tree_removal.specs.Without.{IsWithout};
+ghost use Rattle.vc_tree_removal.specs.Taking.{AreSome, IsDeep, IsWholly, Meets, Divides, Removed};
+ghost use Rattle.vc_tree_removal.specs.Taking.{Cut, IsBare, IsLone, IsOut, instead};
 ghost use Rattle.vc_tree_removal.specs.declared.removal.Extent.TheVariants.{Alone};
 
 use std::alloc::{AllocError, Global};
@@ -81,10 +79,8 @@ pub(crate) fn remove_met<K: TKey, V: TValue, T: Build<K, V>>(
     extent: Extent,
 ) -> Result<T, AllocError>
     requires { Meets K.cmp extent key.now (lookup K.cmp (T.tree tree.old)) }
-    ensures taken { IfOk result (λ taken. IsTaken K.cmp T.keeps extent key.now
-        (lookup K.cmp (T.tree tree.old)) (T.tree taken)) }
-    ensures ok { OnOk result (IsWithoutAll T.keeps (goes K.cmp extent key.now)
-        (lookup K.cmp (T.tree tree.old)) (lookup K.cmp (T.tree tree.new))) }
+    ensures ok { IfOk result (λ taken. Divides K.cmp T.keeps extent key.now
+        (lookup K.cmp (T.tree tree.old)) (lookup K.cmp (T.tree tree.new)) (T.tree taken)) }
     ensures err_nodes { OnErr result (IsAlike T.keeps (T.tree tree.old) (T.tree tree.new)) }
     ensures canonical { IsCanonical K.cmp (T.tree tree.new) }
 {
@@ -93,7 +89,10 @@ pub(crate) fn remove_met<K: TKey, V: TValue, T: Build<K, V>>(
     if goes_wholly(tree, key, extent) {
         return Ok(take_root(alloc, tree));
     }
-    remove_from(alloc, tree, key, extent)
+    let done = remove_from(alloc, tree, key, extent);
+    canonical(tree);
+    let taken = done?;
+    Ok(taken)
 }
 
 /// Whether all keys of a tree go with a key, of which it binds some. Where not, some of them stand
@@ -133,7 +132,6 @@ pub(crate) fn remove_from<K: TKey, V: TValue, T: Build<K, V>>(
 ) -> Result<T, AllocError>
     requires met { Meets K.cmp extent key.now (lookup K.cmp (T.tree tree.old)) }
     requires deep { IsDeep K.cmp extent key.now (T.tree tree.old) }
-    requires solid { IsSolid (T.tree tree.old).value (T.tree tree.old).children }
     ensures ok { IfOk result (λ taken.
         Removed K.cmp T.keeps extent (T.tree tree.old) key.now (T.tree taken) (T.tree tree.new)) }
     ensures err { OnErr result (IsAlike T.keeps (T.tree tree.old) (T.tree tree.new)) }
@@ -146,10 +144,16 @@ pub(crate) fn remove_from<K: TKey, V: TValue, T: Build<K, V>>(
     let Ok(i) = child_place(tree.children(), first, &mut Uncounted) else {
         unreachable!()
     };
-    if goes_wholly(&tree.children()[i], rest, extent) {
-        take_child(alloc, tree, i)
-    } else {
-        remove_deeper(alloc, tree, i, rest, extent)
+    let (prefix, own, mut children) = opened(alloc, tree);
+    match remove_in::<K, V, T>(alloc, &prefix, &own, &mut children, i, rest, extent) {
+        Ok((taken, whole)) => {
+            *tree = closed(prefix, own, children, whole);
+            Ok(taken)
+        }
+        Err(refused) => {
+            *tree = T::assemble(prefix, own, Some(children), Seal::new());
+            Err(refused)
+        }
     }
 }
 
@@ -158,58 +162,108 @@ fn rest_of<'k, K: TKey, V: TValue, T: RadixNode<K, V>>(tree: &T, key: &'k [K]) -
     requires { IsSome (behind K.cmp (T.tree tree.now).prefix key.now) }
     ensures { behind K.cmp (T.tree tree.now).prefix key.now ≡ Some result.now }
 {
-    &key[tree.prefix().len()..]
+    let (_, rest) = key.split_at(tree.prefix().len());
+    rest
 }
 
-/// Takes the keys out that go with the prefix and then `rest`. They stand below the child at place
-/// `i`.
-#[cycle(removal)]
-fn remove_deeper<K: TKey, V: TValue, T: Build<K, V>>(
-    alloc: Global,
-    tree: &mut T,
-    i: usize,
-    rest: &[K],
-    extent: Extent,
-) -> Result<T, AllocError>
-    requires leads { LeadsTo K.cmp (T.tree tree.old).children rest.now i }
-    requires met { Meets K.cmp extent rest.now (lookup_in K.cmp (T.tree tree.old).children) }
-    requires deep { IsDeepAt K.cmp extent rest.now (tree_at (T.tree tree.old).children i) }
-    requires solid { IsSolid (T.tree tree.old).value (T.tree tree.old).children }
-    ensures ok { let t = T.tree tree.old in IfOk result (λ taken. Removed
-        K.cmp T.keeps extent t (t.prefix ++ rest.now) (T.tree taken) (T.tree tree.new)) }
-    ensures err { OnErr result (IsAlike T.keeps (T.tree tree.old) (T.tree tree.new)) }
-{
-    let (prefix, own, mut children) = opened(alloc, tree);
-    let done = remove_in::<K, V, T>(alloc, &mut children, i, rest, extent);
-    *tree = T::assemble(prefix, own, Some(children), Seal::new());
-    done
-}
-
-/// Takes the keys out of the children that go with `rest`. They stand below the child at place `i`.
+/// Takes the keys out of the children of a node that go with `rest`. They stand below the child at
+/// place `i`. Answers what goes, and the only child that is left of a node without a value, joined
+/// with its prefix.
 #[cycle(removal)]
 fn remove_in<K: TKey, V: TValue, T: Build<K, V>>(
     alloc: Global,
+    front: &T::Prefix,
+    own: &Option<V>,
     children: &mut T::Children,
     i: usize,
     rest: &[K],
     extent: Extent,
-) -> Result<T, AllocError>
+) -> Result<(T, Option<T>), AllocError>
     requires leads { LeadsTo K.cmp (seen T.tree (T.Children.items children.old)) rest.now i }
     requires met { Meets K.cmp extent rest.now
         (lookup_in K.cmp (seen T.tree (T.Children.items children.old))) }
-    requires deep { IsDeepAt K.cmp extent rest.now
-        (tree_at (seen T.tree (T.Children.items children.old)) i) }
     requires canonical { AreChildren K.cmp (seen T.tree (T.Children.items children.old)) }
-    ensures ok { IfOk result (λ taken. RemovedIn K.cmp T.keeps extent
-        (seen T.tree (T.Children.items children.old)) rest.now (T.tree taken)
-        (seen T.tree (T.Children.items children.new))) }
-    ensures as_many { length (T.Children.items children.new)
-        ≡ length (T.Children.items children.old) }
+    requires solid { IsSolid own.now (seen T.tree (T.Children.items children.old)) }
+    ensures ok { IfOk result (λ done. Cut K.cmp T.keeps extent (T.Prefix.items front.now) own.now
+        (seen T.tree (T.Children.items children.old)) rest.now (T.tree done.0)
+        (instead (option_map T.tree done.1)
+        (node (T.Prefix.items front.now) own.now (seen T.tree (T.Children.items children.new))))) }
     ensures err { OnErr result (IsAlikeIn T.keeps (seen T.tree (T.Children.items children.old))
         (seen T.tree (T.Children.items children.new))) }
 {
     let list = children.make_mut()?;
-    remove_from(alloc, &mut list[i], rest, extent)
+    remove_at(alloc, front, own, list, i, rest, extent)
+}
+
+/// The same among children that may be written.
+#[cycle(removal)]
+fn remove_at<K: TKey, V: TValue, T: Build<K, V>>(
+    alloc: Global,
+    front: &T::Prefix,
+    own: &Option<V>,
+    list: &mut Vec<T>,
+    i: usize,
+    rest: &[K],
+    extent: Extent,
+) -> Result<(T, Option<T>), AllocError>
+    requires within { i < vec_len list.old }
+    requires leads { LeadsTo K.cmp (seen T.tree list.old.items) rest.now i }
+    requires met { Meets K.cmp extent rest.now (lookup_in K.cmp (seen T.tree list.old.items)) }
+    requires canonical { AreChildren K.cmp (seen T.tree list.old.items) }
+    requires solid { IsSolid own.now (seen T.tree list.old.items) }
+    ensures ok { IfOk result (λ done. Cut K.cmp T.keeps extent (T.Prefix.items front.now) own.now
+        (seen T.tree list.old.items) rest.now (T.tree done.0) (instead (option_map T.tree done.1)
+        (node (T.Prefix.items front.now) own.now (seen T.tree list.new.items)))) }
+    ensures err { OnErr result
+        (IsAlikeIn T.keeps (seen T.tree list.old.items) (seen T.tree list.new.items)) }
+{
+    if goes_wholly(&list[i], rest, extent) {
+        return part_out(alloc, front, own, list, i);
+    }
+    let taken = remove_from(alloc, &mut list[i], rest, extent)?;
+    Ok((taken, None))
+}
+
+/// Takes the tree at place `i` out of the children of a node. Answers it, and the only one that is
+/// left of a node without a value, joined with its prefix.
+fn part_out<K: TKey, V: TValue, T: Build<K, V>>(
+    alloc: Global,
+    front: &T::Prefix,
+    own: &Option<V>,
+    list: &mut Vec<T>,
+    i: usize,
+) -> Result<(T, Option<T>), AllocError>
+    requires within { i < vec_len list.old }
+    requires canonical { AreChildren K.cmp (seen T.tree list.old.items) }
+    requires solid { IsSolid own.now (seen T.tree list.old.items) }
+    ensures ok { IfOk result (λ done. IsOut T.tree (T.Prefix.items front.now) own.now
+        list.old.items i (T.tree done.0) (instead (option_map T.tree done.1)
+        (node (T.Prefix.items front.now) own.now (seen T.tree list.new.items)))) }
+    ensures err { OnErr result (list.new.items ≡ list.old.items) }
+{
+    if own.is_some() || list.len() != 2 {
+        return Ok((list.remove(i), None));
+    }
+    let whole = lone(alloc, front, list, 1 - i)?;
+    Ok((list.remove(0), Some(whole)))
+}
+
+/// Takes the tree at place `i` out of a list, and puts the front before its prefix.
+fn lone<K: TKey, V: TValue, T: Build<K, V>>(
+    alloc: Global,
+    front: &T::Prefix,
+    list: &mut Vec<T>,
+    i: usize,
+) -> Result<T, AllocError>
+    requires within { i < vec_len list.old }
+    requires canonical { AreChildren K.cmp (seen T.tree list.old.items) }
+    ensures ok { IfOk result (λ whole.
+        IsLone T.tree (T.Prefix.items front.now) list.old.items i (T.tree whole) list.new.items) }
+    ensures err { OnErr result (list.new.items ≡ list.old.items) }
+    ensures many { IfOk result (λ whole. vec_len list.new + 1 ≡ vec_len list.old) }
+{
+    let joined = T::Prefix::joined(alloc, front.as_slice(), list[i].prefix())?;
+    Ok(with_prefix(joined, list.remove(i)))
 }
 
 /// Takes out the key that is the prefix of a node with children. A lone child is joined with it.
@@ -218,86 +272,48 @@ fn take_value<K: TKey, V: TValue, T: Build<K, V>>(
     tree: &mut T,
 ) -> Result<T, AllocError>
     requires deep { AreSome (T.tree tree.old).children }
-    ensures ok { let t = T.tree tree.old in IfOk result
-        (λ taken. Removed K.cmp T.keeps Alone t t.prefix (T.tree taken) (T.tree tree.new)) }
+    requires bound { IsSome (T.tree tree.old).value }
+    ensures ok { let t = T.tree tree.old in IfOk result (λ taken.
+        Cut K.cmp T.keeps Alone t.prefix t.value t.children [] (T.tree taken) (T.tree tree.new)) }
     ensures err { OnErr result (IsAlike T.keeps (T.tree tree.old) (T.tree tree.new)) }
 {
-    canonical(tree);
-    if tree.children().len() == 1 {
-        return become_child(alloc, tree, 0);
-    }
-    let node = mem::replace(tree, T::blank(alloc, Seal::new()));
-    let Parts {
-        prefix,
-        value,
-        children,
-    } = node.take_apart(Seal::new());
-    *tree = T::assemble(prefix, None, children, Seal::new());
-    Ok(alone(alloc, value))
-}
-
-/// Takes the child at place `i` out of a node. What is left of a node without a value and with two
-/// children is the other child, joined with it.
-fn take_child<K: TKey, V: TValue, T: Build<K, V>>(
-    alloc: Global,
-    tree: &mut T,
-    i: usize,
-) -> Result<T, AllocError>
-    requires within { i < length (trees (T.tree tree.old).children) }
-    requires solid { IsSolid (T.tree tree.old).value (T.tree tree.old).children }
-    ensures ok { IfOk result
-        (λ taken. Lacks T.keeps (T.tree tree.old) i (T.tree taken) (T.tree tree.new)) }
-    ensures err { OnErr result (IsAlike T.keeps (T.tree tree.old) (T.tree tree.new)) }
-{
-    if tree.value().is_none() && tree.children().len() == 2 {
-        return become_child(alloc, tree, 1 - i);
-    }
-    lose_child(alloc, tree, i)
-}
-
-/// Takes the child at place `i` out of a node that can do without it.
-fn lose_child<K: TKey, V: TValue, T: Build<K, V>>(
-    alloc: Global,
-    tree: &mut T,
-    i: usize,
-) -> Result<T, AllocError>
-    requires within { i < length (trees (T.tree tree.old).children) }
-    requires solid { IsSolid (T.tree tree.old).value (without (T.tree tree.old).children i) }
-    ensures ok { IfOk result
-        (λ taken. Loses T.keeps (T.tree tree.old) i (T.tree taken) (T.tree tree.new)) }
-    ensures err { OnErr result (IsAlike T.keeps (T.tree tree.old) (T.tree tree.new)) }
-{
+    let many = tree.children().len();
     let (prefix, own, mut children) = opened(alloc, tree);
-    let taken = take_out::<K, V, T>(&mut children, i);
-    *tree = T::assemble(prefix, own, Some(children), Seal::new());
-    taken
-}
-
-/// Makes a node its child at place `j`, joined with its prefix, and answers its other child, or its
-/// own value where it has no other.
-fn become_child<K: TKey, V: TValue, T: Build<K, V>>(
-    alloc: Global,
-    tree: &mut T,
-    j: usize,
-) -> Result<T, AllocError>
-    requires within { j < length (trees (T.tree tree.old).children) }
-    requires few { length (trees (T.tree tree.old).children) ≤ 2 }
-    ensures ok { IfOk result
-        (λ taken. Becomes T.keeps (T.tree tree.old) j (T.tree taken) (T.tree tree.new)) }
-    ensures err { OnErr result (IsAlike T.keeps (T.tree tree.old) (T.tree tree.new)) }
-{
-    let joined = T::Prefix::joined(alloc, tree.prefix(), tree.children()[j].prefix())?;
-    let (prefix, value, mut children) = opened(alloc, tree);
-    match part_out::<K, V, T>(&mut children, j) {
-        Ok((child, other)) => {
-            *tree = with_prefix(joined, child);
-            Ok(gone(alloc, value, other))
+    match bare_of::<K, V, T>(alloc, &prefix, &mut children, many) {
+        Ok(whole) => {
+            *tree = closed(prefix, None, children, whole);
+            Ok(alone(alloc, own))
         }
         Err(refused) => {
-            *tree = T::assemble(prefix, value, Some(children), Seal::new());
+            *tree = T::assemble(prefix, own, Some(children), Seal::new());
             Err(refused)
         }
     }
+}
+
+/// Makes `many` children those of a node without a value. Answers the only one, which is joined
+/// with its prefix.
+fn bare_of<K: TKey, V: TValue, T: Build<K, V>>(
+    alloc: Global,
+    front: &T::Prefix,
+    children: &mut T::Children,
+    many: usize,
+) -> Result<Option<T>, AllocError>
+    requires many { many ≡ length (T.Children.items children.old) }
+    requires some { AreSome (seen T.tree (T.Children.items children.old)) }
+    requires canonical { AreChildren K.cmp (seen T.tree (T.Children.items children.old)) }
+    ensures ok { IfOk result (λ whole. IsBare T.keeps (T.Prefix.items front.now)
+        (seen T.tree (T.Children.items children.old)) (instead (option_map T.tree whole)
+        (node (T.Prefix.items front.now) None (seen T.tree (T.Children.items children.new))))) }
+    ensures err { OnErr result (IsAlikeIn T.keeps (seen T.tree (T.Children.items children.old))
+        (seen T.tree (T.Children.items children.new))) }
+{
+    if many == 1 {
+        let list = children.make_mut()?;
+        let whole = lone(alloc, front, list, 0)?;
+        return Ok(Some(whole));
+    }
+    Ok(None)
 }
 
 /// The parts of a tree with children. It leaves the empty tree.
@@ -323,6 +339,24 @@ fn opened<K: TKey, V: TValue, T: Build<K, V>>(
     (prefix, value, children)
 }
 
+/// The first tree, or that of these parts where there is none.
+fn closed<K: TKey, V: TValue, T: Build<K, V>>(
+    prefix: T::Prefix,
+    value: Option<V>,
+    children: T::Children,
+    whole: Option<T>,
+) -> T
+    requires { IsChild K.cmp (Some (instead (option_map T.tree whole)
+        (node (T.Prefix.items prefix) value (seen T.tree (T.Children.items children))))) }
+    ensures { T.tree result ≡ instead (option_map T.tree whole)
+        (node (T.Prefix.items prefix) value (seen T.tree (T.Children.items children))) }
+{
+    match whole {
+        Some(whole) => whole,
+        None => T::assemble(prefix, value, Some(children), Seal::new()),
+    }
+}
+
 /// The tree with this prefix in the place of its own.
 pub(crate) fn with_prefix<K: TKey, V: TValue, T: Build<K, V>>(prefix: T::Prefix, tree: T) -> T
     requires { IsSolid (T.tree tree).value (T.tree tree).children }
@@ -337,53 +371,12 @@ pub(crate) fn with_prefix<K: TKey, V: TValue, T: Build<K, V>>(prefix: T::Prefix,
     T::assemble(prefix, value, children, Seal::new())
 }
 
-/// The other tree, or a node with this value where there is no other.
-fn gone<K: TKey, V: TValue, T: Build<K, V>>(alloc: Global, own: Option<V>, other: Option<T>) -> T
-    ensures { T.tree result ≡ gone_tree own (option_map T.tree other) }
-{
-    match other {
-        Some(other) => other,
-        None => alone(alloc, own),
-    }
-}
-
 /// A node with this value, and nothing else.
 fn alone<K: TKey, V: TValue, T: Build<K, V>>(alloc: Global, value: Option<V>) -> T
-    ensures { T.tree result ≡ alone_tree value }
+    ensures { T.tree result ≡ node [] value bare }
 {
     match value {
         Some(value) => leaf(alloc, value),
         None => T::blank(alloc, Seal::new()),
     }
-}
-
-/// Takes the tree at place `i` out of the children.
-fn take_out<K: TKey, V: TValue, T: Build<K, V>>(
-    children: &mut T::Children,
-    i: usize,
-) -> Result<T, AllocError>
-    requires { i < length (T.Children.items children.old) }
-    ensures ok { IfOk result (λ item. Takes T.keeps T.tree (T.Children.items children.old) i item
-        (T.Children.items children.new)) }
-    ensures err { OnErr result (IsAlikeIn T.keeps (seen T.tree (T.Children.items children.old))
-        (seen T.tree (T.Children.items children.new))) }
-{
-    let list = children.make_mut()?;
-    Ok(list.remove(i))
-}
-
-/// Takes the tree at place `i` out of the children, and the last of the others.
-fn part_out<K: TKey, V: TValue, T: Build<K, V>>(
-    children: &mut T::Children,
-    i: usize,
-) -> Result<(T, Option<T>), AllocError>
-    requires { i < length (T.Children.items children.old) }
-    ensures ok { IfOk result (λ parts. PartsOf T.keeps T.tree (T.Children.items children.old) i
-        parts.0 parts.1) }
-    ensures err { OnErr result (IsAlikeIn T.keeps (seen T.tree (T.Children.items children.old))
-        (seen T.tree (T.Children.items children.new))) }
-{
-    let list = children.make_mut()?;
-    let item = list.remove(i);
-    Ok((item, list.pop()))
 }

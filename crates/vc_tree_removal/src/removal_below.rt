@@ -87,7 +87,9 @@ pub fn split_below<K: TKey, V: TValue, T: Build<K, V>>(
         return Ok(take_root(alloc, tree));
     }
     let joined = T::Prefix::joined(alloc, front, node.prefix())?;
-    let taken = remove_from(alloc, tree, prefix, Extent::Below)?;
+    let done = remove_from(alloc, tree, prefix, Extent::Below);
+    canonical(tree);
+    let taken = done?;
     Ok(with_prefix(joined, taken))
 }
 

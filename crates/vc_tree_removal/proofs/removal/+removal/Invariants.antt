@@ -4,11 +4,11 @@ use Rattle.vc_tree_model.specs.Tree.{forest, nodes, forest_nodes}
 use Rattle.vc_tree_removal.proofs.removal.+removal.Given as goal
 
 abbrev pub decreases-remove_from : goal.decreases-remove_from
-decreases-remove_from g l = 3 * nodes (g.T.RadixNode.tree l.tree.now) + 2
-
-abbrev pub decreases-remove_deeper : goal.decreases-remove_deeper
-decreases-remove_deeper g l = 3 * nodes (g.T.RadixNode.tree l.tree.now) + 1
+decreases-remove_from g l = 3 * nodes (g.T.RadixNode.tree l.tree.now)
 
 abbrev pub decreases-remove_in : goal.decreases-remove_in
 decreases-remove_in g l =
-    3 * forest_nodes (forest (map g.T.RadixNode.tree (g.T.Children.ChildList.items l.children.now))) + 3
+    3 * forest_nodes (forest (map g.T.RadixNode.tree (g.T.Children.ChildList.items l.children.now))) + 2
+
+abbrev pub decreases-remove_at : goal.decreases-remove_at
+decreases-remove_at g l = 3 * forest_nodes (forest (map g.T.RadixNode.tree l.list.now.items)) + 1

@@ -1,10 +1,17 @@
 -- A key that goes alone leaves nothing of a tree without children; all begins with a key that is no longer than the prefix.
-use Rattle.std.proofs.Common.{rules}
+use Rattle.std.proofs.Common.{ap, length}
+use Rattle.std.specs.Prelude.{leb}
 use Rattle.vc_tree_removal.proofs.Reaching.{alone-tells, below-tells}
 use Rattle.vc_tree_removal.proofs.removal.goes_wholly.Goals as goal
 
 pub returns-in-Alone : goal.returns-in-Alone
-returns-in-Alone g c = search (rules, alone-tells)
+returns-in-Alone g c =
+    let met = rw c.in-Alone.is at c.requires in
+    rw c.in-Alone.is (alone-tells g.met.K.Ord.total (g.T.RadixNode.tree c.args.tree.now) met g.T.RadixNode.tree
+    c.children.result.now _ c.is_empty.ensures c.children.ensures)
 
 pub returns-in-Below : goal.returns-in-Below
-returns-in-Below g c = search (rules, below-tells)
+returns-in-Below g c =
+    let met = rw c.in-Below.is at c.requires in
+    rw c.in-Below.is (below-tells g.met.K.Ord.total (g.T.RadixNode.tree c.args.tree.now) met _
+    (ap (λ p. leb (length c.args.key.now) (length p)) c.prefix.ensures.value))

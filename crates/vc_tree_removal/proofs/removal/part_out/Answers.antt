@@ -1,10 +1,24 @@
--- The list to be written is as long as the one that was there.
-use Rattle.std.proofs.Common.{arith}
-use Rattle.vc_tree_nodes.proofs.Events.{length-kept}
+-- The other one of two children stands in the place of a node without a value; any other node stays.
+use Rattle.std.proofs.Common.{◌≡◌, ◌-◌, sym, ap, ◌∙◌, arith, length, true≢false, is_some}
+use Rattle.vc_tree_removal.proofs.Going.{none-told}
+use Rattle.vc_tree_removal.proofs.Putting.{out-joins, out-stays}
+use Rattle.vc_tree_removal.proofs.removal.part_out.Goals.{then-is_some-via-then-is_some}
+use Rattle.vc_tree_removal.proofs.removal.part_out.Goals.{then-is_some-via-else-is_some+then-len-ne2}
 use Rattle.vc_tree_removal.proofs.removal.part_out.Goals as goal
 
-pub remove-item-requires : goal.remove-item-requires
-remove-item-requires g c =
-    let kept = g.met.T.Build.kept_alike _ _ c.in_ok-list.ensures.value in
-    let long = length-kept g.T.Build.keeps g.T.RadixNode.tree _ _ kept in
-    omega (arith, long, c.in_ok-list.list.now.ok.0, c.requires)
+pub returns-then-is_some-clause-ok : goal.returns-then-is_some-clause-ok
+returns-then-is_some-clause-ok g c =
+    out-stays g.T.RadixNode.tree _ c.args.own.now c.args.list.now.items c.args.i c.remove.result c.remove.new.self.items
+    _ c.requires.within c.args.list.now.ok.0 c.requires.solid
+    (λ none two. elim c.then-is_some.branch [
+      | then-is_some-via-then-is_some w ↦ true≢false (sym w.if-is_some.true ∙ c.is_some.ensures ∙ ap is_some none)
+      | then-is_some-via-else-is_some+then-len-ne2 w ↦ w.if-len-ne2.true (w.len.ensures ∙ c.args.list.now.ok.0 ∙ two)
+    ]) c.remove.ensures.value c.remove.ensures.items
+
+pub returns-clause-ok : goal.returns-clause-ok
+returns-clause-ok g c =
+    let none = none-told c.args.own.now (sym c.is_some.ensures ∙ c.if-is_some.false) in
+    let long = c.args.list.now.ok.0 in
+    let two : length c.args.list.now.items ≡ 2 = omega (arith, long, c.len.ensures, c.if-len-ne2.false) in
+    rw none (out-joins g.T.RadixNode.tree _ c.args.list.now.items c.args.i (1 - c.args.i) _ _ _ two
+    (omega (arith, c.requires.within, long, two)) c.in_ok-whole.ensures.ok c.remove-2.ensures.value)

@@ -1,28 +1,40 @@
 -- A key that is not bound leaves the tree as it is, and any other goes.
-use Rattle.std.proofs.Common.{rules, sym, ◌∙◌, true≢false}
+use Rattle.std.proofs.Common.{rules, sym, ◌∙◌}
+use Rattle.vc_tree_model.specs.Map.{lookup}
 use Rattle.vc_tree_model.proofs.AlikeLemmas.{tree-alike_lookup}
 use Rattle.vc_tree_model.proofs.KeyLemmas.{same-itself}
 use Rattle.vc_tree_model.proofs.LookupLemmas.{lookup-same}
+use Rattle.vc_tree_model.proofs.ValueLemmas.{kept-refl}
 use Rattle.vc_tree_nodes.proofs.Events.{always-err}
-use Rattle.vc_tree_removal.specs.declared.removal.Extent.TheVariants.{Alone}
-use Rattle.vc_tree_removal.proofs.Going.{none-unless}
-use Rattle.vc_tree_removal.proofs.Reaching.{absent-without}
+use Rattle.vc_tree_removal.proofs.Going.{none-told, same-tells}
+use Rattle.vc_tree_removal.proofs.Parting.{divides-value, divides-without}
 use Rattle.vc_tree_removal.proofs.removal.remove.Goals as goal
 
 pub returns-then-not-contains_key-clause-ok : goal.returns-then-not-contains_key-clause-ok
 returns-then-not-contains_key-clause-ok g c =
     let t = g.T.RadixNode.tree c.args.tree.now in
-    let none =
-    none-unless _ (λ s. true≢false (sym s ∙ sym c.contains_key.ensures ∙ c.if-not-contains_key.true)) in
-    absent-without g.K.Ord.cmp g.met.K.Ord.total Alone g.T.Build.keeps g.met.T.Build.keeps_refl t c.args.key.now
-    (λ k s. sym (lookup-same g.K.Ord.cmp g.met.K.Ord.total t c.args.key.now k s) ∙ none)
+    record {
+      at = λ k s.
+          sym (lookup-same g.K.Ord.cmp g.met.K.Ord.total t c.args.key.now k s)
+          ∙ none-told _ (sym c.contains_key.ensures ∙ c.if-not-contains_key.true);
+      others = λ k s. kept-refl g.T.Build.keeps g.met.T.Build.keeps_refl (lookup g.K.Ord.cmp t k);
+    }
 
 pub remove_met-requires : goal.remove_met-requires
 remove_met-requires g c = record {
   met = c.args.key.now;
-  goes_with = same-itself g.K.Ord.cmp g.met.K.Ord.total c.args.key.now;
+  goes_with =
+      sym (same-tells g.K.Ord.cmp c.args.key.now c.args.key.now) ∙ same-itself g.K.Ord.cmp g.met.K.Ord.total c.args.key.now;
   bound = sym c.contains_key.ensures ∙ c.if-not-contains_key.false;
 }
 
 pub returns-in_err-taken-clause-err : goal.returns-in_err-taken-clause-err
 returns-in_err-taken-clause-err g c = search (rules, always-err, tree-alike_lookup)
+
+pub returns-clause-old : goal.returns-clause-old
+returns-clause-old g c =
+    rw c.take_apart-value.ensures.value (divides-value g.met.K.Ord.total (g.T.RadixNode.tree c.args.tree.now)
+    c.in_ok-taken.ensures.ok (sym c.contains_key.ensures ∙ c.if-not-contains_key.false))
+
+pub returns-clause-ok : goal.returns-clause-ok
+returns-clause-ok g c = divides-without c.in_ok-taken.ensures.ok _ (same-tells g.K.Ord.cmp c.args.key.now)

@@ -1,25 +1,10 @@
 -- The key starts with the prefix, since something is left of it.
-use Rattle.std.proofs.Common.{rules, ap, length, arith}
-use Rattle.vc_tree_removal.proofs.Reaching.{left-rest, left-within}
+use Rattle.vc_tree_removal.proofs.Reaching.{rest-taken, rest-within}
 use Rattle.vc_tree_removal.proofs.removal.rest_of.Goals as goal
 
-pub offset_bounds-key-prefix : goal.offset_bounds-key-prefix
-offset_bounds-key-prefix g c =
-    let same = ap length c.prefix.ensures.value in
-    let within = left-within g.K.Ord.cmp (g.T.RadixNode.tree c.args.tree.now).prefix c.args.key.now c.requires in
-    omega (arith, same, within)
-
-pub slice_bounds-result-count : goal.slice_bounds-result-count
-slice_bounds-result-count g c =
-    let same = ap length c.prefix.ensures.value in
-    let within = left-within g.K.Ord.cmp (g.T.RadixNode.tree c.args.tree.now).prefix c.args.key.now c.requires in
-    omega (arith, same, within)
-
-pub slice_bounds-result-start : goal.slice_bounds-result-start
-slice_bounds-result-start g c =
-    let same = ap length c.prefix.ensures.value in
-    let within = left-within g.K.Ord.cmp (g.T.RadixNode.tree c.args.tree.now).prefix c.args.key.now c.requires in
-    omega (arith, same, within)
+pub split_at-requires : goal.split_at-requires
+split_at-requires g c = rw c.prefix.ensures.value (rest-within g.K.Ord.cmp _ c.args.key.now c.requires)
 
 pub returns : goal.returns
-returns g c = search (rules, left-rest)
+returns g c =
+    rw (c.split_at.ensures.back, c.prefix.ensures.value) (rest-taken g.K.Ord.cmp _ c.args.key.now c.requires)

@@ -1,0 +1,25 @@
+-- One child is taken out, and others stay.
+use Rattle.std.proofs.Common.{◌∙◌, arith}
+use Rattle.vc_tree_model.proofs.AlikeLemmas.{alike-children}
+use Rattle.vc_tree_nodes.proofs.Events.{length-kept}
+use Rattle.vc_tree_removal.proofs.Putting.{bare-many, bare-one}
+use Rattle.vc_tree_removal.proofs.removal.bare_of.Goals as goal
+
+pub returns-clause-ok : goal.returns-clause-ok
+returns-clause-ok g c =
+    bare-many g.T.RadixNode.tree g.T.Build.keeps g.met.T.Build.keeps_refl (g.T.Prefix.Fragment.items c.args.front.now)
+    (g.T.Children.ChildList.items c.args.children.now) c.requires.some
+    (λ one. c.if-many-eq1.false (c.requires.many ∙ one))
+
+pub lone-requires-clause-canonical : goal.lone-requires-clause-canonical
+lone-requires-clause-canonical g c =
+    alike-children g.T.Build.keeps g.K.Ord.cmp _ _ (g.met.T.Build.kept_alike _ _ c.in_ok-list.ensures.value)
+    c.requires.canonical
+
+pub returns-then-many-eq1-clause-ok : goal.returns-then-many-eq1-clause-ok
+returns-then-many-eq1-clause-ok g c =
+    let alike = g.met.T.Build.kept_alike _ _ c.in_ok-list.ensures.value in
+    let long = length-kept g.T.Build.keeps g.T.RadixNode.tree _ _ alike in
+    let many = c.requires.many in
+    bare-one g.T.RadixNode.tree g.T.Build.keeps (g.T.Prefix.Fragment.items c.args.front.now) _ c.in_ok-list.list.now.items _ _
+    alike (omega (arith, long, many, c.if-many-eq1.true)) c.in_ok-whole.ensures.ok
