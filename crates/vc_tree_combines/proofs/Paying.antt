@@ -60,27 +60,30 @@ module _ {K V W A B : Type 0} {ta : A → Tree K V} {tb : B → Tree K W} where
     few [] = omega arith
     few (x ∷ l) = omega arith
 
-    pub paid-left : {x : A} {ls' : List A} → ls ≡ x ∷ ls' → IsPaid ta tb p q i j ls' rs told budget
-    paid-left e =
+    -- what is left has a tree less, and weighs less
+    paid-less : {ls' : List A} {rs' : List B} → length ls' + length rs' + 1 ≤ length ls + length rs
+        → forest_weight (shortened_in ta i ls') + forest_weight (shortened_in tb j rs') + 1
+        ≤ forest_weight (shortened_in ta i ls) + forest_weight (shortened_in tb j rs)
+        → IsPaid ta tb p q i j ls' rs' told budget
+    paid-less m w =
         let one = few ls in
-        let m = ap length e in
-        let w = ap (λ l. forest_weight (shortened_in ta i l)) e in
         let a = paid.apart in
         record {
           apart = omega (arith, a, one, m, c);
           met = λ o. let b = paid.met o in omega (arith, b, one, w, c);
         }
 
+    pub paid-left : {x : A} {ls' : List A} → ls ≡ x ∷ ls' → IsPaid ta tb p q i j ls' rs told budget
+    paid-left e =
+        let m = ap length e in
+        let w = ap (λ l. forest_weight (shortened_in ta i l)) e in
+        paid-less (omega (arith, m)) (omega (arith, w))
+
     pub paid-right : {y : B} {rs' : List B} → rs ≡ y ∷ rs' → IsPaid ta tb p q i j ls rs' told budget
     paid-right e =
-        let one = few ls in
         let m = ap length e in
         let w = ap (λ l. forest_weight (shortened_in tb j l)) e in
-        let a = paid.apart in
-        record {
-          apart = omega (arith, a, one, m, c);
-          met = λ o. let b = paid.met o in omega (arith, b, one, w, c);
-        }
+        paid-less (omega (arith, m)) (omega (arith, w))
 
     pub paid-both : {x : A} {ls' : List A} {y : B} {rs' : List B} → ls ≡ x ∷ ls' → rs ≡ y ∷ rs' → 1 ≤ ended p + ended q
         → {after : ℕ}

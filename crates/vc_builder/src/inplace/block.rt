@@ -155,7 +155,7 @@ impl<T, A: Allocator> Block<T, A> {
     }
 
     /// Moves the built elements to the end of `list`.
-    #[tactic(auto, using(std::proofs::lemmas::Grind::common_steps), unfolding(crate::specs::Places::laid))]
+    #[tactic(auto, unfolding(crate::specs::Places::laid))]
     pub(super) fn pour(&mut self, list: &mut Vec<T, A>)
         requires { IsBlock self.old × (block_rest self.old ≡ [])
             × (vec_len list.old + self.old.capacity ≤ vec_capacity list.old) }
