@@ -1,10 +1,18 @@
 -- Elements that move within a list, and what a merge of two parts of a list shows of them.
-use Rattle.std.proofs.Common.{◌≡◌, ℕ, zero, suc, ◌+◌, ◌-◌, ◌≤◌, List, ◌∷◌, ◌++◌, length, take, drop, set, refl, sym}
-use Rattle.std.proofs.Common.{ap, ◌∙◌, arith, rules, drop-drop}
-use Rattle.std.proofs.lemmas.List.{same_lists, places, drop-set-add, take-set-le}
+use Rattle.std.proofs.Common.{◌≡◌, ℕ, zero, suc, ◌+◌, ◌-◌, ◌<◌, ◌≤◌, List, ◌∷◌, ◌++◌, length, take, drop, set, refl, sym}
+use Rattle.std.proofs.Common.{Bool, true, false, ap, ◌∙◌, arith, rules, drop-drop}
+use Rattle.std.specs.Int.{from_bool}
+use Rattle.std.specs.Ordering.{is_le, is_ge}
+use Rattle.std.specs.declared.cmp.Ordering.{Ordering}
+use Rattle.std.specs.declared.cmp.Ordering.TheVariants.{Less, Equal, Greater}
+use native.Mathlib.Numerals.{unary_clauses}
+use Rattle.std.proofs.lemmas.List.{same_lists, places, drop-set-add, drop-set-lt, take-set-le}
+use Rattle.std.specs.List.{SwappedAt}
 use borrow.Rule.Slice.PartMut.{put_mid}
 use Rattle.vc_merge.specs.MovesDown.{MovesDown}
-use Rattle.vc_merge.specs.Shifts.{MovesUp, Turns, Trades}
+use Rattle.vc_merge.specs.PartsViews.{lesser_part}
+use Rattle.vc_merge.specs.Shifts.{MovesUp, Turns, Trades, lesser_place}
+use Rattle.vc_merge.proofs.MovesDownLemmas.{element, MovesDown-none, MovesDown-next}
 
 module _ {X : Type 0} where
   -- ---- parts of a list
@@ -86,6 +94,30 @@ module _ {X : Type 0} where
         rest = same_lists _ _ (search (rules, places)) (λ k d h. grind (arith, places));
       }
 
+  -- a part before the place
+  pub part-before : (xs : List X) (s e i : ℕ) (x : X) → s ≤ i → e ≤ i → take (e - s) (drop s (set xs i x))
+      ≡ take (e - s) (drop s xs)
+  part-before xs s e i x h k =
+      let at : s + (i - s) ≡ i = omega arith in
+      ap (λ j. take (e - s) (drop s (set xs j x))) (sym at) ∙ ap (take (e - s)) (drop-set-add s xs (i - s) x)
+      ∙ take-set-le (e - s) (drop s xs) (i - s) x (omega arith)
+
+  -- an element changed places with one before it
+  pub Trades-one : (xs ys : List X) (at next : ℕ) → at < next → next < length xs → length ys ≡ length xs
+      → SwappedAt xs ys at next → Trades xs at next 1 ys
+  Trades-one xs ys at next apart within long swapped =
+      let d = element xs next within in
+      let moved = MovesDown-next xs xs ys at next 0 apart (omega arith) long (MovesDown-none xs at next)
+      (simp unary_clauses swapped) in
+      record {
+        same_length = long;
+        front = moved.front;
+        between = ap (λ l. take (next - (at + 1)) (drop (at + 1) l)) (swapped.3 d)
+            ∙ part-before (set xs at _) (at + 1) next next _ (omega arith) (omega arith)
+            ∙ ap (take (next - (at + 1))) (drop-set-lt (at + 1) xs at _ (omega arith));
+        rest = moved.rest;
+      }
+
   -- ---- what the state shows: xs is its list, with b elements built, those from s to e left of the left part, and those from
   -- next on of the right one; ys is the list afterwards
 
@@ -128,6 +160,48 @@ module _ {X : Type 0} where
             ∙ ap (λ l. take (e + n - (s + n)) (drop (s + n - (b + n)) l)) turned.moved
             ∙ (λ i. take (same i) (drop (from i) (take (next - b) (drop b xs)))) ∙ part-part xs b next s e hole left gap
 
+  -- ---- one event: by how the first elements compare, one of a part changed places with the first one of the hole
+
+  module _ (xs ys : List X) (b s e next : ℕ) (hole : b + 1 ≤ s) (left : s ≤ e) (gap : e ≤ next) (some : 1 ≤ e - s)
+      (within : next ≤ length xs) where
+    -- whether that one counts as built
+    kept-one : (keep : Bool) (zs : List X) → take (b + 1) ys ≡ take b xs ++ take 1 zs
+        → take (b + from_bool keep) ys ≡ take b xs ++ take (from_bool keep) zs
+    kept-one true zs h = h
+    kept-one false zs h =
+        sym (take-take (b + 0) (b + 1) ys (omega arith)) ∙ ap (take (b + 0)) h
+        ∙ same_lists _ _ (search (rules, places)) (λ k d h. grind (arith, places))
+
+    low : b ≤ s
+    low = omega arith
+
+    down : Trades xs b s 1 ys → MovesDown xs b s 1 ys
+    down t = record { same_length = t.same_length; front = t.front; rest = t.rest }
+
+    pub passed : (o : Ordering) (keep : Bool) → Trades xs b (lesser_place o s next) 1 ys
+        → (take (b + from_bool keep) ys
+        ≡ take b xs ++ take (from_bool keep) (lesser_part o (take (e - s) (drop s xs)) (drop next xs)))
+        × (take (e - (s + from_bool (is_le o))) (drop (s + from_bool (is_le o)) ys)
+        ≡ drop (from_bool (is_le o)) (take (e - s) (drop s xs)))
+        × (drop (next + from_bool (is_ge o)) ys ≡ drop (from_bool (is_ge o)) (drop next xs))
+    passed Less keep t =
+        let moved = down t in (
+          kept-one keep _ (down-built xs ys b s e next low left gap 1 some moved),
+          down-left xs ys b s e next low left gap 1 some moved,
+          simp unary_clauses (down-right xs ys b s e next low left gap 1 some moved),
+        )
+    passed Equal keep t =
+        let moved = down t in (
+          kept-one keep _ (down-built xs ys b s e next low left gap 1 some moved),
+          down-left xs ys b s e next low left gap 1 some moved,
+          sym (drop-drop 1 next ys) ∙ ap (drop 1) (down-right xs ys b s e next low left gap 1 some moved),
+        )
+    passed Greater keep t = (
+      kept-one keep (drop next xs) t.front,
+      simp unary_clauses (trade-left xs ys b s e next low left gap 1 hole t),
+      t.rest ∙ sym (drop-drop 1 next xs),
+    )
+
   -- ---- an element written over the first one of a part
 
   pub first-of : (n : ℕ) (ys zs : List X) (x : X) → ys ≡ x ∷ zs → 1 ≤ n → take n ys ≡ x ∷ drop 1 (take n ys)
@@ -143,11 +217,3 @@ module _ {X : Type 0} where
 
   pub rest-over : (ws ys zs : List X) (x y : X) → ys ≡ x ∷ zs → ws ≡ y ∷ zs → ws ≡ y ∷ drop 1 ys
   rest-over ws ys zs x y e f = rw (e, f) refl
-
-  -- a part before the place
-  pub part-before : (xs : List X) (s e i : ℕ) (x : X) → s ≤ i → e ≤ i → take (e - s) (drop s (set xs i x))
-      ≡ take (e - s) (drop s xs)
-  part-before xs s e i x h k =
-      let at : s + (i - s) ≡ i = omega arith in
-      ap (λ j. take (e - s) (drop s (set xs j x))) (sym at) ∙ ap (take (e - s)) (drop-set-add s xs (i - s) x)
-      ∙ take-set-le (e - s) (drop s xs) (i - s) x (omega arith)

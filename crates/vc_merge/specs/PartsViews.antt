@@ -1,5 +1,7 @@
 -- What a contract sees of a `PartsState`.
-use Rattle.std.specs.Prelude.{◌≡◌, List, take, drop, slice_range}
+use Rattle.std.specs.Prelude.{◌≡◌, ℕ, ◌-◌, List, take, drop, slice_range}
+use Rattle.std.specs.declared.cmp.Ordering.{Ordering}
+use Rattle.std.specs.declared.cmp.Ordering.TheVariants.{Less, Equal, Greater}
 use Rattle.std.specs.Borrow.{MutBor}
 use base.Fml.{GName}
 use Rattle.vc_merge.specs.declared.parts.PartsState.{PartsState}
@@ -25,6 +27,16 @@ module _ {X : Type 0} where
   -- what is left of the right part
   abbrev pub right_items : PartsState X → List X
   right_items s = drop s.next s.list.now
+
+  -- how many places the hole has
+  abbrev pub hole_places : PartsState X → ℕ
+  hole_places s = s.start - s.built
+
+  -- the part whose first element is the lesser, or the left one of two equal ones, by how these compare
+  abbrev pub lesser_part : Ordering → List X → List X → List X
+  lesser_part Less ls rs = ls
+  lesser_part Equal ls rs = ls
+  lesser_part Greater ls rs = rs
 
   -- what was built in a list, by where its parts stand
   abbrev pub built_at : Spans → List X → List X

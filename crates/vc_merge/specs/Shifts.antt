@@ -1,5 +1,13 @@
 -- Elements that move within their list. No public clause cites these words.
 use Rattle.std.specs.Prelude.{◌≡◌, ℕ, ◌+◌, ◌-◌, List, ◌++◌, take, drop, length, slice_range}
+use Rattle.std.specs.declared.cmp.Ordering.{Ordering}
+use Rattle.std.specs.declared.cmp.Ordering.TheVariants.{Less, Equal, Greater}
+
+-- where the lesser of two elements stands, or the left one of two equal ones, by how they compare
+abbrev pub lesser_place : Ordering → ℕ → ℕ → ℕ
+lesser_place Less m n = m
+lesser_place Equal m n = m
+lesser_place Greater m n = n
 
 module _ {X : Type 0} where
   -- the elements from start to end moved up to the place `next`; those before start and from `next` on stayed

@@ -1,20 +1,25 @@
 //! The state of a merge of two parts of one list, in the places of that list.
 ghost use Rattle.std.specs.Prelude.{◌≡◌, ◌+◌, ◌-◌, ◌<◌, ◌≤◌, true, [], ◌∷◌, ◌++◌, IsOk, OnOk, OnErr, length, take, drop, slice_set};
+ghost use Rattle.std.specs.Int.{from_bool};
+ghost use Rattle.std.specs.Ordering.{is_le, is_ge};
 ghost use Rattle.smallvec.specs.SmallVec.{small_vec_len, HasRoomFor};
 ghost use Rattle.vc_merge.specs.Building.{Advances, Skips};
 ghost use Rattle.vc_merge.specs.MovesDown.{MovesDown};
-ghost use Rattle.vc_merge.specs.Shifts.{MovesUp, Turns, Trades};
+ghost use Rattle.vc_merge.specs.Shifts.{MovesUp, Turns, Trades, lesser_place};
 
 use crate::merge::{MergeFromRight, MergeState, MergeStateMut};
 use crate::moving::move_down;
 use smallvec::SmallVec;
 use std::alloc::{AllocError, Allocator};
+use std::cmp::Ordering;
 use std::default::MadeWith;
 use std::mem;
 
-/// The most elements that lie between two parts: enough that what is left of the left part seldom
-/// moves.
-const LONGEST_GAP: usize = 64;
+/// How many elements lie between two parts: so many, or a share of the shorter one that is longer.
+const SHORT_GAP: usize = 64;
+
+/// Which share that is.
+const GAP_SHARE: usize = 4;
 
 /// Where the parts of a list stand that become one in its own places. What was built ends at
 /// `built`; what is left of the left part lies from `start` to `end`, and what is left of the right
@@ -55,7 +60,7 @@ pub struct PartsState<'a, T> {
 }
 
 impl<'a, T> PartsState<'a, T> {
-    ghost use Rattle.vc_merge.specs.PartsViews.{lent_list, list_name, built_items, left_items, right_items, built_at, left_at, right_at, Shows};
+    ghost use Rattle.vc_merge.specs.PartsViews.{lent_list, list_name, built_items, left_items, right_items, built_at, left_at, right_at, hole_places, lesser_part, Shows};
 
     /// The list, whose parts to merge are its first `end` elements and those from `next` on.
     pub fn new(list: &'a mut [T], end: usize, next: usize) -> Self
@@ -137,6 +142,45 @@ impl<'a, T> PartsState<'a, T> {
         replace_at(self.list, self.next, value)
     }
 
+    /// How many places the hole has: each takes an element of the right part without a move of what
+    /// is left of the left one.
+    #[inline(always)]
+    pub fn hole(&self) -> usize
+        ensures { result ≡ hole_places self.now }
+    {
+        self.start - self.built
+    }
+
+    /// Makes a hole of the gap, where there is none.
+    #[inline(always)]
+    pub fn open_hole(&mut self)
+        ensures { Shows (list_name self.old) (built_items self.old) (left_items self.old)
+            (right_items self.old) self.new }
+    {
+        self.widen(1);
+    }
+
+    /// Passes the lesser of the first elements of both parts, or both where they are equal: by
+    /// choices in the place of branches. If `keep` it moves the lesser one, or the left one of two
+    /// equal ones, to the end of what is built. The hole must have a place.
+    #[inline(always)]
+    pub fn pass_lesser(&mut self, order: Ordering, keep: bool)
+        requires some_left { 0 < length (left_items self.old) }
+        requires some_right { 0 < length (right_items self.old) }
+        requires hole { 0 < hole_places self.old }
+        ensures { Shows (list_name self.old)
+            (built_items self.old ++ take (from_bool keep)
+            (lesser_part order (left_items self.old) (right_items self.old)))
+            (drop (from_bool (is_le order)) (left_items self.old))
+            (drop (from_bool (is_ge order)) (right_items self.old)) self.new }
+    {
+        let from = place_of_lesser(order, self.start, self.next);
+        trade_one(self.list, self.built, from);
+        self.built += usize::from(keep);
+        self.start += usize::from(order.is_le());
+        self.next += usize::from(order.is_ge());
+    }
+
     /// Moves the first `n` elements that are left of the left part to the end of what is built.
     fn take_left(&mut self, n: usize)
         requires { n ≤ length (left_items self.old) }
@@ -172,6 +216,7 @@ impl<'a, T> PartsState<'a, T> {
     }
 
     /// Makes the hole `n` places long, where the gap has what it lacks.
+    #[inline(always)]
     fn widen(&mut self, n: usize)
         ensures { Shows (list_name self.old) (built_items self.old) (left_items self.old)
             (right_items self.old) self.new }
@@ -183,6 +228,7 @@ impl<'a, T> PartsState<'a, T> {
     }
 
     /// Moves what is left of the left part up to the right one.
+    #[inline(always)]
     fn lift(&mut self)
         ensures { Shows (list_name self.old) (built_items self.old) (left_items self.old)
             (right_items self.old) self.new }
@@ -278,7 +324,9 @@ impl<'a, T> MergeFromRight for PartsState<'a, T> {
 
 /// Makes room for `n` more elements, and puts a gap of blanks between those of `list` and the room.
 ///
-/// Where they fit, it takes no memory.
+/// The gap is so long that what is left of the left part moves up a few times at most, wherever
+/// the elements of the right one belong. Where the `n` elements fit, it takes no memory, and the
+/// gap is what room there is beside them.
 ///
 /// # Errors
 ///
@@ -292,12 +340,18 @@ pub fn open_gap<T: MadeWith<A> + Drop, const N: usize, A: Allocator + Copy>(
     ensures gap { OnOk result (small_vec_len list.old ≤ small_vec_len list.new) }
     ensures err { OnErr result (list.new ≡ list.old) }
 {
+    let gap = gap_between(list.len(), n);
     if list.capacity() - list.len() < n {
-        list.reserve(n.saturating_add(n.min(LONGEST_GAP)))?;
+        list.reserve(n.saturating_add(gap))?;
     }
     let spare = list.capacity() - list.len() - n;
-    push_blanks(list, spare.min(n).min(LONGEST_GAP));
+    push_blanks(list, spare.min(gap));
     Ok(())
+}
+
+/// How long a gap is worth its places between parts of these lengths.
+fn gap_between(left: usize, right: usize) -> usize {
+    right.min(SHORT_GAP.max(left.min(right) / GAP_SHARE))
 }
 
 /// Pushes `n` blanks, for which there is room.
@@ -350,6 +404,27 @@ fn trade_runs<T>(list: &mut [T], at: usize, next: usize, n: usize)
 {
     let (front, back) = list.split_at_mut(next);
     front[at..at + n].swap_with_slice(&mut back[..n]);
+}
+
+/// The place of the lesser of two elements that compare so, or of the left one of two equal ones.
+///
+/// It is read from a row of both places: an `if` is compiled to a branch, where what stands at the
+/// place is loaded next.
+#[inline(always)]
+fn place_of_lesser(order: Ordering, left: usize, right: usize) -> usize
+    ensures { result ≡ lesser_place order left right }
+{
+    [left, right][usize::from(order.is_gt())]
+}
+
+/// Lets the element at the place `next` change places with the one at `at`.
+#[inline(always)]
+fn trade_one<T>(list: &mut [T], at: usize, next: usize)
+    requires apart { at < next }
+    requires within { next < length list.old }
+    ensures { Trades list.old at next 1 list.new }
+{
+    list.swap(at, next);
 }
 
 /// Puts `value` at a place, and hands out what stood there.

@@ -129,7 +129,7 @@ module _ {X : Type 0} (cmp : X → X → Ordering) (total : IsTotalOrder cmp) (f
     }
 
     -- the event at the fronts of two lists
-    at-fronts : (xs ys ls rs old new : List X) (x y : X) (o : Ordering) → xs ≡ x ∷ ls → ys ≡ y ∷ rs → cmp x y ≡ o
+    pub at-fronts : (xs ys ls rs old new : List X) (x y : X) (o : Ordering) → xs ≡ x ∷ ls → ys ≡ y ∷ rs → cmp x y ≡ o
         → BothAscend (both_sides cmp) xs ys
         → Appends (KeptAt f from from) (event_at o x y ∷ []) old new
         → IsBegun cmp from f xs ys (drop (from_left o) xs) (drop (from_right o) ys) old new

@@ -1,5 +1,6 @@
 pub mod Selected
 pub mod Begun
+mod BegunIn
 mod Spending
 pub mod Combined
 pub mod Searching

@@ -1,5 +1,5 @@
 -- How far a walk along two sets has come that takes their events one by one. No public clause cites these words.
-use Rattle.std.specs.Prelude.{ℕ, ◌+◌, ◌-◌, ◌≤◌, ⊤, Bool, true, false, List, [], ◌∷◌, ◌++◌}
+use Rattle.std.specs.Prelude.{◌≡◌, ℕ, ◌+◌, ◌-◌, ◌≤◌, ⊤, Bool, true, false, List, [], ◌∷◌, ◌++◌}
 use Rattle.std.specs.declared.cmp.Ordering.{Ordering}
 use Rattle.std.specs.declared.cmp.Ordering.TheVariants.{Less, Equal, Greater}
 use Rattle.vc_merge.specs.Count.{bound}
@@ -8,7 +8,9 @@ use Rattle.vc_merge.specs.declared.plan.Plan.TheVariants.{Walk, Search}
 use Rattle.vc_merge.specs.Plan.{planned}
 use Rattle.vc_merge.specs.Script.{Event, IsScript, BothAscend}
 use Rattle.vc_merge.specs.Gathering.{Appends}
-use Rattle.vc_sets.specs.Select.{both_sides, KeptAt}
+use Rattle.vc_merge.specs.PartsViews.{list_name, built_items, left_items, right_items}
+use Rattle.vc_merge.specs.declared.parts.PartsState.{PartsState}
+use Rattle.vc_sets.specs.Select.{both_sides, KeptAt, keeps}
 
 -- whether an operation keeps something at an event, by the order of the two heads
 abbrev pub kept_at : (Bool → Bool → Bool) → Ordering → Bool
@@ -32,6 +34,13 @@ pub record IsBegun {X : Type 0} (cmp : X → X → Ordering) (from : X → X →
   pub appends : Appends (KeptAt f from from) events old new
   pub leads : (es : List (Event X X)) → IsScript (both_sides cmp) ls rs es → IsScript (both_sides cmp) xs ys (events ++ es)
   pub ascend : BothAscend (both_sides cmp) ls rs
+
+-- the first events of two parts of one list were taken in its places: what stands in one of them alone is kept and, if `both`, the left one of
+-- what stands in both
+pub record IsBegunIn {X : Type 0} (cmp : X → X → Ordering) (both : Bool) (s t : PartsState X) : Type 0 where
+  pub name : list_name t ≡ list_name s
+  pub begun : IsBegun cmp (λ x y. x ≡ y) (keeps true true both) (left_items s) (right_items s) (left_items t) (right_items t)
+      (built_items s) (built_items t)
 
 -- lists of which this is left were compared as often as they took elements: with a block of comparisons more, a merge of any part of
 -- that by the plan stays within the bound of the whole. A walk compares with each element once, and so does a block

@@ -23,7 +23,7 @@ use vc_merge::merge::Count;
 use vc_merge::plan::{Plan, comparisons, most_comparisons};
 
 /// How many events a block has at most.
-const BLOCK: usize = 32;
+pub(crate) const BLOCK: usize = 32;
 
 /// What a block counts that is nearly of one list alone. Each other block takes one off.
 const ONE_SIDED: usize = 8;
@@ -33,7 +33,7 @@ const ONE_SIDED: usize = 8;
 const FEW: usize = 6;
 
 /// From so much on the lists are taken to come in long runs.
-const LONG_RUNS: usize = 32;
+pub(crate) const LONG_RUNS: usize = 32;
 
 /// How much of each list some events took, and how many elements are kept of these.
 #[derive(Drop)]
@@ -179,7 +179,7 @@ fn leaves_enough(plan: Plan, all_left: usize, all_right: usize, left: usize, rig
 
 /// What the blocks count that came nearly from one list alone, with a further one.
 #[inline(always)]
-fn and_next(runs: usize, is_one_sided: bool) -> usize
+pub(crate) fn and_next(runs: usize, is_one_sided: bool) -> usize
     requires { runs < 32 }
 {
     if is_one_sided {
@@ -361,7 +361,9 @@ fn stored<'a, const RIGHT: bool, T>(order: Ordering, left: &'a T, right: &'a T) 
 
 /// Whether something is kept at an event, by the order of the two heads.
 #[inline(always)]
-fn is_kept<const LEFT: bool, const RIGHT: bool, const BOTH: bool>(order: Ordering) -> bool
+pub(crate) fn is_kept<const LEFT: bool, const RIGHT: bool, const BOTH: bool>(
+    order: Ordering,
+) -> bool
     ensures { result ≡ kept_at (keeps LEFT RIGHT BOTH) order }
 {
     match order {

@@ -5,6 +5,7 @@ pub mod borrowed;
 mod choosing;
 pub mod cloning;
 mod combine;
+mod joining;
 pub mod laws;
 mod operations;
 pub mod vec_set;
