@@ -1,4 +1,3 @@
-pub mod BlockSteps
 pub mod PlacesLaid
 pub mod PlacesMemory
 pub mod WalkNames

@@ -1,85 +1,127 @@
--- Lists that lie in a row of places, and what a write, a read or a run of either makes of them.
-use Rattle.std.proofs.Common.{◌≡◌, ℕ, ◌+◌, ◌<◌, ◌≤◌, List, [], ◌∷◌, ◌++◌, map, length, take, drop, set}
-use Rattle.std.proofs.Common.{get_or, replicate, Option, Some, None, refl, sym, ap, ◌∙◌, arith, length-append}
-use Rattle.std.proofs.Common.{take_at, drop_at, append_assoc, append-nil}
-use Rattle.std.proofs.lemmas.List.{drop_all, get_or_at, length-map, length-replicate, map-append, replicate_more, set_at}
-use Rattle.circular_buffer.specs.Places.{somes}
-use Rattle.circular_buffer.specs.Lends.{spliced}
-use Rattle.vc_builder.specs.Places.{laid}
+-- How parts lie in a row of places, and what a write, a read or a run of the places makes of them.
+use Rattle.std.proofs.Common.{◌≡◌, ℕ, suc, ◌+◌, ◌-◌, ◌<◌, List, [], ◌∷◌, ◌++◌, map, length, take, drop, set, get_or}
+use Rattle.std.proofs.Common.{replicate, Option, Some, None, refl, sym, ap, ◌∙◌, arith, length-append, append_assoc, append-nil}
+use Rattle.std.proofs.Common.{take_at, drop_at}
+use Rattle.std.proofs.lemmas.List.{get_or_at, length-map, length-replicate, map-append, replicate-append-replicate}
+use Rattle.std.proofs.lemmas.List.{replicate_more, set_at, take-append-drop}
+use Rattle.vc_builder.specs.Builder.{Builder, builder}
+use Rattle.vc_builder.specs.Places.{front, laid, Turns}
 
 module _ {X : Type 0} where
-  pub somes-map : (xs : List X) → somes (map Some xs) ≡ xs
-  somes-map [] = refl
-  somes-map (x ∷ xs) = ap (λ l. x ∷ l) (somes-map xs)
-
-  -- a place between others holds what is seen there, and a write changes it alone
-  pub place-between : (row front : List (Option X)) (c : Option X) (others : List (Option X)) (i : ℕ) → row ≡ front ++ c ∷ others
-      → length front ≡ i
-      → (i < length row) × (get_or row i None ≡ c) × ((d : Option X) → set row i d ≡ front ++ d ∷ others)
-  place-between row front c others i is at = (
-    omega (arith, ap length is, length-append front (c ∷ others)),
-    ap (λ l. get_or l i None) is ∙ get_or_at front c others None i at,
-    λ d. ap (λ l. set l i d) is ∙ set_at front c others d i at,
+  -- the one place, and the row once it is written, which is as long
+  pub turned : {cs ds : List (Option X)} {i : ℕ} {c d : Option X} → Turns cs ds i c d
+      → (i < length cs) × (get_or cs i None ≡ c) × (set cs i d ≡ ds) × (length cs ≡ length ds)
+  turned {cs} {ds} {i} {c} {d} t = (
+    omega (arith, ap length t.was, length-append t.before (c ∷ t.after), t.at),
+    ap (λ l. get_or l i None) t.was ∙ get_or_at t.before c t.after None i t.at,
+    ap (λ l. set l i d) t.was ∙ set_at t.before c t.after d i t.at ∙ sym t.is,
+    rw (t.was, t.is, length-append, length-append),
   )
 
-  -- what lies in front of the others
-  abbrev pub front : List X → ℕ → List (Option X)
-  front xs hole = map Some xs ++ replicate hole None
+  pub length-front : (s : Builder X) → length (front s) ≡ length s.built + s.room
+  length-front s = let none : Option X = None in
+      omega (arith, length-append (map Some s.built) (replicate s.room none), length-map s.built Some, length-replicate s.room none)
 
-  pub length-front : (xs : List X) (hole i : ℕ) → i ≡ length xs + hole → length (front xs hole) ≡ i
-  length-front xs hole i at = let none : Option X = None in
-      omega (arith, length-append (map Some xs) (replicate hole none), length-map xs Some, length-replicate hole none)
-
-  -- an empty place behind the hole is one of it
-  pub laid-wider : (xs : List X) (hole : ℕ) (others : List (Option X))
-      → front xs hole ++ None ∷ others ≡ laid xs (hole + 1) others
+  pub length-laid : (s : Builder X) (tail : ℕ) → length (laid s tail) ≡ length s.built + s.room + length s.rest + tail
   unfolding laid
-  laid-wider xs hole others =
-      sym (append_assoc (front xs hole) (None ∷ []) others)
-      ∙ ap (λ l. l ++ others) (append_assoc (map Some xs) (replicate hole None) (None ∷ [])
-      ∙ ap (λ l. map Some xs ++ l) (replicate_more hole None))
+  length-laid s tail = let none : Option X = None in let others = map Some s.rest ++ replicate tail none in
+      omega (
+        arith,
+        length-append (front s) others,
+        length-front s,
+        length-append (map Some s.rest) (replicate tail none),
+        length-map s.rest Some,
+        length-replicate tail none,
+      )
 
-  -- the place behind the hole, and the row once it is empty
-  pub laid-first : (row : List (Option X)) (xs : List X) (hole : ℕ) (c : Option X) (others : List (Option X)) (i : ℕ)
-      → row ≡ laid xs hole (c ∷ others) → i ≡ length xs + hole
-      → (get_or row i None ≡ c) × (set row i None ≡ laid xs (hole + 1) others)
+  pub laid-empty : (room tail n : ℕ) → room + tail ≡ n → laid {X = X} (builder [] [] room) tail ≡ replicate n None
   unfolding laid
-  laid-first row xs hole c others i is at =
-      let there = place-between row (front xs hole) c others i is (length-front xs hole i at) in
-      (there.1, there.2 None ∙ laid-wider xs hole others)
+  laid-empty room tail n is = replicate-append-replicate room tail None ∙ ap (λ k. replicate k None) is
 
-  -- values in the place of others, where there is no hole, go on in front of it
-  pub laid-append : (xs ys : List X) (hole : ℕ) (others : List (Option X))
-      → map Some xs ++ (map Some ys ++ (replicate hole None ++ others)) ≡ laid (xs ++ ys) hole others
+  -- where there is no hole, the first of those that are left lie as built ones
+  pub laid-passed : (s : Builder X) (tail n : ℕ) → s.room ≡ 0
+      → laid s tail ≡ laid (builder (s.built ++ take n s.rest) (drop n s.rest) 0) tail
   unfolding laid
-  laid-append xs ys hole others = sym (simp (map-append, append_assoc))
+  laid-passed s tail n none = rw none (simp (append-nil, map-append, append_assoc)
+      (ap (λ l. map Some s.built ++ l) (ap (λ l. map Some l ++ replicate tail None) (sym (take-append-drop n s.rest))
+      ∙ simp (map-append, append_assoc))))
 
-  pub laid_none : (hole : ℕ) → laid {X = X} [] hole [] ≡ replicate hole None
+  -- where none are left, the built ones lie as those that are left
+  pub laid-poured : (s : Builder X) (tail : ℕ) → s.rest ≡ [] → laid s tail ≡ laid (builder [] s.built 0) (s.room + tail)
   unfolding laid
-  laid_none hole = append-nil (replicate hole None)
+  laid-poured s tail none = rw none (append_assoc (map Some s.built) (replicate s.room None) (replicate tail None)
+      ∙ ap (λ l. map Some s.built ++ l) (replicate-append-replicate s.room tail None))
 
-  pub take-laid : (xs : List X) (hole : ℕ) (others : List (Option X)) → take (length xs) (laid xs hole others) ≡ map Some xs
-  unfolding laid
-  take-laid xs hole others =
-      ap (take (length xs)) (append_assoc (map Some xs) (replicate hole None) others)
-      ∙ take_at (map Some xs) (replicate hole None ++ others) (length xs) (length-map xs Some)
+  uncons : (l : List X) → 0 < length l → (x : X) × (l ≡ x ∷ drop 1 l)
+  uncons [] h = absurd (omega arith)
+  uncons (x ∷ l) h = (x, refl)
 
-  pub drop-laid : (xs : List X) (hole : ℕ) (others : List (Option X)) (i : ℕ) → i ≡ length xs + hole
-      → drop i (laid xs hole others) ≡ others
-  unfolding laid
-  drop-laid xs hole others i at = drop_at (front xs hole) others i (length-front xs hole i at)
+  -- a hole ends with an empty place
+  hole-ends : (xs : List X) (hole : ℕ) (others : List (Option X))
+      → (map Some xs ++ replicate (hole + 1) None) ++ others ≡ (map Some xs ++ replicate hole None) ++ None ∷ others
+  hole-ends xs hole others = simp append_assoc (ap (λ l. map Some xs ++ (l ++ others)) (sym (replicate_more hole None))
+      ∙ ap (λ l. map Some xs ++ l) (append_assoc (replicate hole None) (None ∷ []) others))
 
-  pub length-laid : (xs : List X) (hole : ℕ) (ys : List X) → length (laid xs hole (map Some ys)) ≡ length xs + hole + length ys
-  unfolding laid
-  length-laid xs hole ys =
-      omega (arith, length-append (front xs hole) (map Some ys), length-front xs hole (length xs + hole) refl, length-map ys Some)
+  module _ (s : Builder X) (tail i : ℕ) where
+    -- the places past the hole
+    abbrev past : List (Option X)
+    past = map Some s.rest ++ replicate tail None
 
-  -- the values behind the hole are written over
-  pub laid-spliced : (xs : List X) (hole : ℕ) (ys zs : List X) (i count : ℕ) → i ≡ length xs + hole → count ≡ length ys
-      → spliced (laid xs hole (map Some ys)) i count zs ≡ laid xs hole (map Some zs)
-  unfolding laid
-  laid-spliced xs hole ys zs i count at all =
-      let past : length (laid xs hole (map Some ys)) ≤ i + count = omega (arith, length-laid xs hole ys) in
-      (λ j. take_at (front xs hole) (map Some ys) i (length-front xs hole i at) j ++
-      (map Some zs ++ drop_all (i + count) (laid xs hole (map Some ys)) past j))
-      ∙ ap (λ l. front xs hole ++ l) (append-nil (map Some zs))
+    -- a value goes to the front of the hole, and is built
+    pub put-built : (x : X) → 0 < s.room → i ≡ length s.built
+        → Turns (laid s tail) (laid (builder (s.built ++ x ∷ []) s.rest (s.room - 1)) tail) i None (Some x)
+    unfolding laid
+    put-built x some at = let less : s.room ≡ suc (s.room - 1) = omega arith in record {
+      before = map Some s.built;
+      after = replicate (s.room - 1) None ++ past;
+      at = length-map s.built Some ∙ sym at;
+      was = ap (λ k. (map Some s.built ++ replicate k None) ++ past) less
+          ∙ append_assoc (map Some s.built) (replicate (suc (s.room - 1)) None) past;
+      is = simp (map-append, append_assoc);
+    }
+
+    -- a value goes to the end of the hole, and is left
+    pub put-rest : (x : X) → i + 1 ≡ length s.built + s.room → 0 < s.room
+        → Turns (laid s tail) (laid (builder s.built (x ∷ s.rest) (s.room - 1)) tail) i None (Some x)
+    unfolding laid
+    put-rest x at some = let less : s.room ≡ s.room - 1 + 1 = omega arith in record {
+      before = front (builder s.built s.rest (s.room - 1));
+      after = past;
+      at = length-front (builder s.built s.rest (s.room - 1)) ∙ omega arith;
+      was = ap (λ k. (map Some s.built ++ replicate k None) ++ past) less ∙ hole-ends s.built (s.room - 1) past;
+      is = refl;
+    }
+
+    -- the first of those that are left goes, and the hole is wider
+    pub taken : 0 < length s.rest → i ≡ length s.built + s.room → (x : X) × (s.rest ≡ x ∷ drop 1 s.rest)
+        × Turns (laid s tail) (laid (builder s.built (drop 1 s.rest) (s.room + 1)) tail) i (Some x) None
+    unfolding laid
+    taken some at = let e = uncons s.rest some in (
+      e.0,
+      e.1,
+      record {
+        before = front s;
+        after = map Some (drop 1 s.rest) ++ replicate tail None;
+        at = length-front s ∙ sym at;
+        was = ap (λ l. front s ++ (map Some l ++ replicate tail None)) e.1;
+        is = hole-ends s.built s.room (map Some (drop 1 s.rest) ++ replicate tail None);
+      },
+    )
+
+    -- those that are left are a run of the places
+    pub rest-run : i ≡ length s.built + s.room → take (length s.rest) (drop i (laid s tail)) ≡ map Some s.rest
+    unfolding laid
+    rest-run at = ap (take (length s.rest)) (drop_at (front s) past i (length-front s ∙ sym at))
+        ∙ take_at (map Some s.rest) (replicate tail None) (length s.rest) (length-map s.rest Some)
+
+    -- and may be written over
+    pub rest-written : (zs : List X) → i ≡ length s.built + s.room
+        → take i (laid s tail) ++ (map Some zs ++ drop (i + length s.rest) (laid s tail)) ≡ laid (builder s.built zs s.room) tail
+    unfolding laid
+    rest-written zs at = let none : Option X = None in let low = length-front s ∙ sym at in
+        let high : length (front s ++ map Some s.rest) ≡ i + length s.rest
+        = omega (arith, length-append (front s) (map Some s.rest), length-map s.rest Some, low) in
+        ap (λ l. l ++ (map Some zs ++ drop (i + length s.rest) (laid s tail))) (take_at (front s) past i low)
+        ∙ ap (λ l. front s ++ (map Some zs ++ l)) (ap (drop (i + length s.rest))
+        (sym (append_assoc (front s) (map Some s.rest) (replicate tail none)))
+        ∙ drop_at (front s ++ map Some s.rest) (replicate tail None) (i + length s.rest) high)

@@ -2,13 +2,14 @@
 --   base-tells       a base tells its machine value
 --   base-goes, number-goes       nothing is had of a base or a number at the end
 --   mark-told, title-told       owners of no bytes tell their machine value; run-tells       so does what says a run of places
---   length-run       a run of places is as long as its values
-use Rattle.vc_builder.proofs.WalkNames.{◌≡◌, refl, ap, ◌∙◌, List, [], ◌∷◌, ◌++◌, ℕ, Val, vstruct, of_list, Ura, Logic}
-use Rattle.vc_builder.proofs.WalkNames.{yes, no, usize}
+--   opened, closed       the owner of the places is taken apart, and made of its parts
+use Rattle.vc_builder.proofs.WalkNames.{◌≡◌, refl, ap, sym, ◌∙◌, List, [], ◌∷◌, ◌++◌, ℕ, Val, vstruct, of_list, Ura, Logic}
+use Rattle.vc_builder.proofs.WalkNames.{yes, no, usize, ◌*◌, ◌<◌, ◌^◌, id⊢, never, sep, ent, sem, ‵, ◌$◌, ◌∵◌, !, qed, move}
 use Rattle.vc_builder.proofs.WalkNames.{RattleType, type_size, El, R, Is, plain, Stay, Goes, stay_dropped, Goes-dropped, word}
-use Rattle.vc_builder.proofs.WalkNames.{arith, length, drop_l as drop, length-take, length-drop, length-map, Option, Some}
-use Rattle.circular_buffer.specs.Places.{IsRun}
-use Rattle.vc_builder.proofs.WalkNames.{w64, uint_vals, uint_Tells}
+use Rattle.vc_builder.proofs.WalkNames.{length, Option, el_x, Item, Goal, Seq, Ptr, block_ptr, in_a_block, fsplit, fjoin}
+use Rattle.vc_builder.proofs.WalkNames.{flt_i, flt_l, rewrite, done, w64, uint_vals, uint_Tells}
+use Rattle.circular_buffer.specs.Ownership.{slots, cells_own}
+use Rattle.vc_builder.specs.Places.{laid}
 use denote.Laws.{Tells, Tellss, Ises, Spells}
 use Rattle.circular_buffer.proofs.Memory.{mark}
 use denote.Struct.Struct.{Struct}
@@ -52,6 +53,24 @@ module _ (E : El) where
   pub base-goes : (n : ℕ) {M : Type 1} {𝓤 : Ura M} (𝓛 : Logic 𝓤) → Goes 𝓛 n (plain (λ _. Start)) no (base_stays n)
   base-goes n 𝓛 = Goes-dropped 𝓛 n (plain (λ _. Start)) no (λ κs x f. refl)
 
+  module _ (d : Row.Denot) where
+    -- the places
+    abbrev pub all : List (Option (el_x E))
+    all = laid d.parts d.tail
+
+    pub opened : {M : Type 1} {𝓤 : Ura M} {𝓛 : Logic 𝓤} {K : Type 0} {Γ : List (Item 𝓤)} {G : Goal 𝓤 𝓛.H} → K → (vs : List Val)
+        → ((b o : ℕ) → d.at ≡ block_ptr b o → length all * bytes < 2 ^ 63
+        → Seq K 𝓛 (‵ (slots (R E) b o all) ∷ ‵ (Mark.own_val (tt, tt) vs) ∷ Γ) G) → Seq K 𝓛 (‵ (Row.own_val d vs) ∷ Γ) G
+    opened {𝓤 = 𝓤} t vs k = fsplit t $ move t (1 ∷ []) $ in_a_block t d.at (λ p. cells_own (R E) p all) (id⊢ 𝓤 (never 𝓤))
+        (λ b o at. fsplit t $ flt_l t (λ fit. k b o at fit))
+
+    pub closed : {M : Type 1} {𝓤 : Ura M} (𝓛 : Logic 𝓤) (vs : List Val) (b o : ℕ) → d.at ≡ block_ptr b o
+        → length all * bytes < 2 ^ 63
+        → ent 𝓤 (sep 𝓤 (sem 𝓛 (slots (R E) b o all)) (sem 𝓛 (Mark.own_val (tt, tt) vs))) (sem 𝓛 (Row.own_val d vs))
+    closed 𝓛 vs b o at fit = qed 𝓛 (‵ (slots (R E) b o all) ∷ ‵ (Mark.own_val (tt, tt) vs) ∷ []) ∵
+        flt_i ! (length all * bytes) (2 ^ 63) fit $ fjoin ! $ rewrite ! 0 (λ (p : Ptr). ‵ (cells_own (R E) p all)) (sym at) refl $
+        move ! (1 ∷ 0 ∷ []) $ fjoin ! $ done !
+
 -- `Deed` at elements of E and the allocator Z
 module _ (E : El) (Z : Al) where
   abbrev pub Title : RattleType
@@ -65,11 +84,6 @@ number_stays n = stay_dropped (plain (λ _. usize)) yes
 
 pub number-goes : (n : ℕ) {M : Type 1} {𝓤 : Ura M} (𝓛 : Logic 𝓤) → Goes 𝓛 n (plain (λ _. usize)) yes (number_stays n)
 number-goes n 𝓛 = Goes-dropped 𝓛 n (plain (λ _. usize)) yes (λ κs x f. refl)
-
--- a run of places is as long as its values
-pub length-run : {X : Type 0} (row : List (Option X)) (from count : ℕ) (run : IsRun row from count) → length run.1.0 ≡ count
-length-run row from count run =
-    omega (arith, ap length run.1.1, length-map run.1.0 Some, length-take count (drop from row), length-drop from row)
 
 -- a base and two numbers, which say a run of places
 module _ (E : El) where

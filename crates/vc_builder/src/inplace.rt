@@ -43,12 +43,12 @@ impl<T, A: Allocator> Model for InPlace<T, A> {
 
     ghost coded = { builder_code T.code };
 
-    ghost use Rattle.vc_builder.specs.Block.{IsBlock, block_view};
+    ghost use Rattle.vc_builder.specs.Block.{IsBlock};
 
-    ghost view = { λ s. block_view s.block };
+    ghost view = { λ s. s.block.places.parts };
 
-    ghost invariant = { λ s. IsBlock s.block × (s.finished.items ≡ [])
-        × (s.block.capacity ≤ vec_capacity s.finished) };
+    ghost invariant = { λ s. IsBlock s.block × (s.block.places.tail ≡ 0)
+        × (s.finished.items ≡ []) × (s.block.capacity ≤ vec_capacity s.finished) };
 }
 
 impl<T, A: Allocator> InPlace<T, A> {
@@ -89,7 +89,6 @@ impl<T, A: Allocator> InPlace<T, A> {
     }
 
     /// The elements that are left, for writing.
-    #[tactic(auto, using(crate::proofs::BlockSteps::block_steps))]
     pub fn rest_mut(&mut self) -> &mut [T]
         ensures* writes_back { sem 𝓛 (lends_rest T.row A.row A.Allocator self.entry result) }
         ensures value { result.now ≡ self.old.rest }

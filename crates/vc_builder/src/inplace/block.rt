@@ -2,7 +2,7 @@
 //! the end.
 ghost use Rattle.std.specs.Prelude.{◌≡◌, ◌+◌, ◌-◌, ◌<◌, ◌≤◌, [], ◌∷◌, ◌++◌, length, take, drop, vec_len, vec_capacity, IfOk};
 ghost use Rattle.vc_builder.specs.Builder.{builder};
-ghost use Rattle.vc_builder.specs.Block.{block_built, block_rest, block_view, IsBlock, Becomes};
+ghost use Rattle.vc_builder.specs.Block.{IsBlock, Becomes};
 
 use super::places::{Base, Deed, Places, allocate, deallocate};
 use std::alloc::{AllocError, Allocator};
@@ -23,8 +23,8 @@ pub struct Block<T, A: Allocator> {
 impl<T, A: Allocator> Block<T, A> {
     /// A block that is all hole.
     pub(super) fn with_capacity(alloc: A, capacity: usize) -> Result<Self, AllocError>
-        ensures { IfOk result (λ b. IsBlock b × (b.capacity ≡ capacity)
-            × (block_view b ≡ builder [] [] capacity)) }
+        ensures { IfOk result (λ b. IsBlock b × (b.places.parts ≡ builder [] [] capacity)
+            × (b.places.tail ≡ 0)) }
     {
         if !may_hold::<T>(capacity) {
             return Err(AllocError);
@@ -42,9 +42,8 @@ impl<T, A: Allocator> Block<T, A> {
     }
 
     /// Gives an empty block back.
-    #[tactic(auto, using(crate::proofs::PlacesLaid::laid_none))]
     pub(super) fn destroy_empty(self)
-        requires { IsBlock self × (block_view self ≡ builder [] [] self.capacity) }
+        requires { IsBlock self × (self.places.parts ≡ builder [] [] self.places.parts.room) }
     {
         let Block {
             base,
@@ -59,11 +58,10 @@ impl<T, A: Allocator> Block<T, A> {
     }
 
     /// Puts a value in front of those that are left.
-    #[tactic(auto, using(crate::proofs::BlockSteps::block_steps))]
     pub(super) fn put_rest(&mut self, value: T)
-        requires { IsBlock self.old × (self.old.built < self.old.start) }
-        ensures { Becomes self.old self.new (builder (block_built self.old)
-            (value ∷ block_rest self.old) (self.old.start - self.old.built - 1)) }
+        requires { IsBlock self.old × (0 < self.old.places.parts.room) }
+        ensures { let parts = self.old.places.parts in Becomes self.old self.new
+            (builder parts.built (value ∷ parts.rest) (parts.room - 1)) }
     {
         self.start -= 1;
         self.places.write(self.base, self.start, value);
@@ -71,22 +69,20 @@ impl<T, A: Allocator> Block<T, A> {
 
     /// Puts a value behind the built ones.
     pub(super) fn put_built(&mut self, value: T)
-        requires { IsBlock self.old × (self.old.built < self.old.start) }
-        ensures { Becomes self.old self.new (builder (block_built self.old ++ value ∷ [])
-            (block_rest self.old) (self.old.start - self.old.built - 1)) }
+        requires { IsBlock self.old × (0 < self.old.places.parts.room) }
+        ensures { let parts = self.old.places.parts in Becomes self.old self.new
+            (builder (parts.built ++ value ∷ []) parts.rest (parts.room - 1)) }
     {
         self.places.write(self.base, self.built, value);
         self.built += 1;
     }
 
     /// Takes the first of those that are left.
-    #[tactic(auto, using(crate::proofs::BlockSteps::block_steps))]
     pub(super) fn take_rest(&mut self) -> T
-        requires { IsBlock self.old × (self.old.start < self.old.capacity) }
-        ensures value { block_rest self.old ≡ result ∷ drop 1 (block_rest self.old) }
-        ensures after { Becomes self.old self.new
-            (builder (block_built self.old) (drop 1 (block_rest self.old))
-            (self.old.start - self.old.built + 1)) }
+        requires { IsBlock self.old × (0 < length self.old.places.parts.rest) }
+        ensures value { self.old.places.parts.rest ≡ result ∷ drop 1 self.old.places.parts.rest }
+        ensures after { let parts = self.old.places.parts in Becomes self.old self.new
+            (builder parts.built (drop 1 parts.rest) (parts.room + 1)) }
     {
         let first = self.start;
         self.start += 1;
@@ -96,22 +92,21 @@ impl<T, A: Allocator> Block<T, A> {
     /// Counts the first `count` of those that are left as built. There is no hole, so none of them
     /// moves.
     pub(super) fn pass(&mut self, count: usize)
-        requires { IsBlock self.old × (self.old.built ≡ self.old.start)
-            × (self.old.start + count ≤ self.old.capacity) }
-        ensures { Becomes self.old self.new (builder
-            (block_built self.old ++ take count (block_rest self.old))
-            (drop count (block_rest self.old)) 0) }
+        requires { IsBlock self.old × (self.old.places.parts.room ≡ 0)
+            × (count ≤ length self.old.places.parts.rest) }
+        ensures { let parts = self.old.places.parts in Becomes self.old self.new
+            (builder (parts.built ++ take count parts.rest) (drop count parts.rest) 0) }
     {
         self.built += count;
         self.start += count;
+        self.places.recount(count);
     }
 
     /// Moves the first `count` of those that are left over the hole, behind the built ones.
     pub(super) fn move_down(&mut self, count: usize)
-        requires { IsBlock self.old × (self.old.start + count ≤ self.old.capacity) }
-        ensures { Becomes self.old self.new (builder
-            (block_built self.old ++ take count (block_rest self.old))
-            (drop count (block_rest self.old)) (self.old.start - self.old.built)) }
+        requires { IsBlock self.old × (count ≤ length self.old.places.parts.rest) }
+        ensures { let parts = self.old.places.parts in Becomes self.old self.new
+            (builder (parts.built ++ take count parts.rest) (drop count parts.rest) parts.room) }
     {
         for moved in 0..count {
             let value = self.take_rest();
@@ -119,10 +114,9 @@ impl<T, A: Allocator> Block<T, A> {
         }
     }
 
-    #[tactic(auto, using(crate::proofs::BlockSteps::block_steps))]
     pub(super) fn rest(&self) -> &[T]
-        requires { IsBlock self.now }
-        ensures { result.now ≡ block_rest self.now }
+        requires { IsBlock self.now × (self.now.places.tail ≡ 0) }
+        ensures { result.now ≡ self.now.places.parts.rest }
     {
         self.places
             .slice(self.base, self.start, self.capacity - self.start)
@@ -130,10 +124,10 @@ impl<T, A: Allocator> Block<T, A> {
 
     /// Moves the elements of `list` to those that are left.
     pub(super) fn fill(&mut self, list: &mut Vec<T, A>)
-        requires { IsBlock self.old × (block_built self.old ≡ []) × (block_rest self.old ≡ [])
-            × (length list.old.items ≤ self.old.capacity) }
-        ensures after { Becomes self.old self.new
-            (builder [] list.old.items (self.old.capacity - length list.old.items)) }
+        requires { IsBlock self.old × (length list.old.items ≤ self.old.places.parts.room)
+            × (self.old.places.parts ≡ builder [] [] self.old.places.parts.room) }
+        ensures after { let room = self.old.places.parts.room in Becomes self.old self.new
+            (builder [] list.old.items (room - length list.old.items)) }
         ensures emptied { list.new.items ≡ [] }
     {
         for moved in 0..list.len() {
@@ -145,9 +139,9 @@ impl<T, A: Allocator> Block<T, A> {
     pub(super) fn drop_rest(&mut self, count: usize)
     where
         T: Drop,
-        requires { IsBlock self.old × (self.old.start + count ≤ self.old.capacity) }
-        ensures { Becomes self.old self.new (builder (block_built self.old)
-            (drop count (block_rest self.old)) (self.old.start - self.old.built + count)) }
+        requires { IsBlock self.old × (count ≤ length self.old.places.parts.rest) }
+        ensures { let parts = self.old.places.parts in Becomes self.old self.new
+            (builder parts.built (drop count parts.rest) (parts.room + count)) }
     {
         for dropped in 0..count {
             drop(self.take_rest());
@@ -155,17 +149,20 @@ impl<T, A: Allocator> Block<T, A> {
     }
 
     /// Moves the built elements to the end of `list`.
-    #[tactic(auto, unfolding(crate::specs::Places::laid))]
     pub(super) fn pour(&mut self, list: &mut Vec<T, A>)
-        requires { IsBlock self.old × (block_rest self.old ≡ [])
+        requires { IsBlock self.old × (self.old.places.parts.rest ≡ [])
             × (vec_len list.old + self.old.capacity ≤ vec_capacity list.old) }
-        ensures block { Becomes self.old self.new (builder [] [] self.old.capacity) }
-        ensures items { list.new.items ≡ list.old.items ++ block_built self.old }
+        ensures block { IsBlock self.new
+            × (self.new.places.parts ≡ builder [] [] self.new.places.parts.room) }
+        ensures items { list.new.items ≡ list.old.items ++ self.old.places.parts.built }
     {
+        // They count as those that are left, and are taken one by one.
         let count = self.built;
         self.built = 0;
-        for i in 0..count {
-            list.push_reserved(self.places.read(self.base, i));
+        self.start = 0;
+        self.places.recount(count);
+        for poured in 0..count {
+            list.push_reserved(self.take_rest());
         }
     }
 }

@@ -1,12 +1,13 @@
 //! A block of raw memory as a row of places, each empty or holding a value. Only this file touches
 //! its pointer.
-ghost use Rattle.std.specs.Prelude.{◌≡◌, ℕ, ◌+◌, ◌<◌, ◌≤◌, List, ◌++◌, Option, Some, None, map, length, take, drop, replicate, get_or, slice_set, vec_len, vec_capacity, IfOk, ⊤};
+ghost use Rattle.std.specs.Prelude.{◌≡◌, ℕ, ◌+◌, ◌<◌, [], ◌∷◌, Some, None, length, drop, IfOk, ⊤};
 ghost use Rattle.std.specs.Borrow.{sem};
 ghost use Rattle.std.specs.Vec.Ownership.{FitsInBlock};
 ghost use base.Fml.{ftrue};
 ghost use denote.RawPtr.{Ptr};
-ghost use Rattle.circular_buffer.specs.Places.{somes, IsFilled, IsRun};
 ghost use Rattle.circular_buffer.specs.Ownership.{cells_own, cells_lent, deed_owns};
+ghost use Rattle.vc_builder.specs.Builder.{Builder, builder, builder_code};
+ghost use Rattle.vc_builder.specs.Places.{laid, Turns};
 
 use std::alloc::{AllocError, Allocator};
 use std::marker::{Model, PhantomData};
@@ -30,17 +31,19 @@ impl<T> Clone for Base<T> {
 
 impl<T> Copy for Base<T> {}
 
-/// The owner of the places and of the values in them. It takes no space.
+/// The owner of the places and of the values in them: the built ones, a hole, those that are left,
+/// and a tail of empty places. It takes no space.
 pub struct Places<T> {
     mark: PhantomData<*const T>,
     ghost at: { Ptr },
-    ghost row: { List (Option T) },
+    ghost parts: { Builder T } by { builder_code T.code },
+    ghost tail: { ℕ },
 }
 
 impl<T> Model for Places<T> {
-    ghost also_owns = { λ p. cells_own T.row p.at p.row };
+    ghost also_owns = { λ p. cells_own T.row p.at (laid p.parts p.tail) };
 
-    ghost also_shares = { λ p _ κ. cells_lent T.row p.at p.row κ };
+    ghost also_shares = { λ p _ κ. cells_lent T.row p.at (laid p.parts p.tail) κ };
 }
 
 /// The right to give a block of `count` places back to the allocator. It takes no space.
@@ -63,8 +66,8 @@ pub(crate) fn allocate<T, A: Allocator>(
     count: usize,
 ) -> Result<(Base<T>, Places<T>, Deed<T, A>), AllocError>
     requires { FitsInBlock T.row count }
-    ensures { IfOk result (λ r. (r.1.at ≡ r.0.ptr) × (r.1.row ≡ replicate count None)
-        × (r.2.at ≡ r.0.ptr) × (r.2.count ≡ count) × (r.2.alloc ≡ alloc.now)) }
+    ensures { IfOk result (λ r. (r.1.at ≡ r.0.ptr) × (r.1.parts ≡ builder [] [] count)
+        × (r.1.tail ≡ 0) × (r.2.at ≡ r.0.ptr) × (r.2.count ≡ count) × (r.2.alloc ≡ alloc.now)) }
 {
     match alloc.allocate(count * size_of::<T>(), align_of::<T>()) {
         Ok(block) => {
@@ -89,8 +92,9 @@ pub(crate) fn deallocate<T, A: Allocator>(
     places: Places<T>,
     deed: Deed<T, A>,
 )
-    requires { (places.at ≡ base.ptr) × (places.row ≡ replicate count None) × (deed.at ≡ base.ptr)
-        × (deed.count ≡ count) × (deed.alloc ≡ alloc.now) }
+    requires { (places.at ≡ base.ptr) × (places.parts ≡ builder [] [] places.parts.room)
+        × (places.parts.room + places.tail ≡ count) × (deed.at ≡ base.ptr) × (deed.count ≡ count)
+        × (deed.alloc ≡ alloc.now) }
 {
     let Places { mark: _ } = places;
     let Deed { mark: _ } = deed;
@@ -100,40 +104,53 @@ pub(crate) fn deallocate<T, A: Allocator>(
 }
 
 impl<T> Places<T> {
-    ghost use Rattle.vc_builder.specs.PlacesLend.{lends_run};
+    ghost use Rattle.vc_builder.specs.PlacesLend.{lends_left};
+
+    /// Counts the places as other parts, which lie in them alike. The number is for the caller to
+    /// say which.
+    pub(crate) fn recount(&mut self, _count: usize)
+        ghost to: { Builder T × ℕ }
+        requires { laid self.old.parts self.old.tail ≡ laid to.0 to.1 }
+        ensures { (self.new.parts ≡ to.0) × (self.new.at ≡ self.old.at) × (self.new.tail ≡ to.1) }
+    {}
 
     /// Puts a value into an empty place.
     pub(crate) fn write(&mut self, base: Base<T>, index: usize, value: T)
-        requires { (base.ptr ≡ self.old.at) × (index < length self.old.row)
-            × (get_or self.old.row index None ≡ None) }
-        ensures { (self.new.at ≡ self.old.at)
-            × (self.new.row ≡ slice_set self.old.row index (Some value)) }
+        ghost to: { Builder T }
+        requires { (base.ptr ≡ self.old.at) × Turns (laid self.old.parts self.old.tail)
+            (laid to self.old.tail) index None (Some value) }
+        ensures { (self.new.parts ≡ to) × (self.new.at ≡ self.old.at)
+            × (self.new.tail ≡ self.old.tail) }
     {
         unsafe { base.ptr.add(index).write(value) }
     }
 
-    /// Moves a value out of its place.
+    /// Moves the first of those that are left out of its place.
     pub(crate) fn read(&mut self, base: Base<T>, index: usize) -> T
-        requires { (base.ptr ≡ self.old.at) × IsFilled self.old.row index }
-        ensures { (get_or self.old.row index None ≡ Some result) × (self.new.at ≡ self.old.at)
-            × (self.new.row ≡ slice_set self.old.row index None) }
+        requires { (base.ptr ≡ self.old.at) × (0 < length self.old.parts.rest)
+            × (index ≡ length self.old.parts.built + self.old.parts.room) }
+        ensures { let parts = self.old.parts in (parts.rest ≡ result ∷ drop 1 parts.rest)
+            × (self.new.parts ≡ builder parts.built (drop 1 parts.rest) (parts.room + 1))
+            × (self.new.at ≡ self.old.at) × (self.new.tail ≡ self.old.tail) }
     {
         unsafe { base.ptr.add(index).read() }
     }
 
-    /// The `count` values from the place `from` on.
+    /// Those that are left, which are `count` from the place `from` on.
     pub(crate) fn slice(&self, base: Base<T>, from: usize, count: usize) -> &[T]
-        requires { (base.ptr ≡ self.now.at) × IsRun self.now.row from count }
-        ensures { result.now ≡ somes (take count (drop from self.now.row)) }
+        requires { (base.ptr ≡ self.now.at) × (count ≡ length self.now.parts.rest)
+            × (from ≡ length self.now.parts.built + self.now.parts.room) }
+        ensures { result.now ≡ self.now.parts.rest }
     {
         unsafe { slice::from_raw_parts(base.ptr.add(from), count) }
     }
 
-    /// The `count` values from the place `from` on, for writing.
+    /// Those that are left, for writing.
     pub(crate) fn slice_mut(&mut self, base: Base<T>, from: usize, count: usize) -> &mut [T]
-        requires { (base.ptr ≡ self.old.at) × IsRun self.old.row from count }
-        ensures* writes_back { sem 𝓛 (lends_run T.row self.entry from count result) }
-        ensures value { result.now ≡ somes (take count (drop from self.old.row)) }
+        requires { (base.ptr ≡ self.old.at) × (count ≡ length self.old.parts.rest)
+            × (from ≡ length self.old.parts.built + self.old.parts.room) }
+        ensures* writes_back { sem 𝓛 (lends_left T.row self.entry result) }
+        ensures value { result.now ≡ self.old.parts.rest }
     {
         unsafe { slice::from_raw_parts_mut(base.ptr.add(from), count) }
     }

@@ -4,7 +4,7 @@ use Rattle.vc_builder.proofs.WalkNames.{◌^◌, arith, lit<, length, replicate,
 use Rattle.vc_builder.proofs.WalkNames.{Share, ftrue, flft, Incl-trans, w64, ty_array, inst_fn, Val, vint}
 use Rattle.vc_builder.proofs.WalkNames.{vstruct, vcons, vnil, Env, Item, ⋆, ‵, raw, later, await, at_ret, ◌⊛◌}
 use Rattle.vc_builder.proofs.WalkNames.{◌$◌, ◌∵◌, qed, by, move, keep, use0, use1, use2, use3, split, join, fsplit}
-use Rattle.vc_builder.proofs.WalkNames.{fjoin, flt_i, suffices, frame, done, whole, agg, lit}
+use Rattle.vc_builder.proofs.WalkNames.{fjoin, suffices, frame, done, whole, agg, lit}
 use Rattle.vc_builder.proofs.WalkNames.{stop, fld, bin, of_opd, size_word, align_word, and_then, no_more, first, exec}
 use Rattle.vc_builder.proofs.WalkNames.{returns, enter, alloc_all, pass_all, free_all, look_at, get, get_in, get_tag}
 use Rattle.vc_builder.proofs.WalkNames.{sets, sets_last, lands_as, is, env, fact, tables, ◌⊑◌, RefOf, yes, Is}
@@ -34,6 +34,10 @@ use Rattle.std_alloc.proofs.VecSteps.Shapes.{after, head, arm_body}
 use Rattle.std_alloc.proofs.ResultValues.{ok_of, err_of}
 use Rattle.std_alloc.proofs.RcSteps.{first_Good, Good as Whole}
 use Rattle.circular_buffer.specs.Ownership.{slots}
+use Rattle.vc_builder.specs.Builder.{builder}
+use Rattle.vc_builder.proofs.PlacesLaid.{laid-empty}
+use Rattle.vc_builder.proofs.WalkNames.{List, Option, rewrite, ◌∙◌}
+use Rattle.vc_builder.proofs.PlacesMemory.{all, closed}
 use Rattle.vc_builder.proofs.PlacesMemory.{Title, Row, Start, Mark, bytes, number_stays, number-goes}
 use Rattle.vc_builder.proofs.WalkNames.{named, proved, shr_vals, shr_Tells, uint_vals, uint_Tells}
 use Rattle.circular_buffer.proofs.Memory.{mark, mark_made, word_made, three_val, three_of, of_room}
@@ -64,8 +68,8 @@ allocate_spec 𝓤 𝓛 𝓜 𝓡 wired X W LX LW g d dd met md =
     let Asked : Type 0 = FitsInBlock (R E) count in let s : ℕ = bytes E in
     let Post : Val → SProp 𝓤 = (walk_of 𝓛 Ends hs c).post z in
     let leave : (r : Out.Denot) (v : Val)
-    → IfOk r (λ t. (t.1.at ≡ t.0.ptr) × (t.1.row ≡ replicate count None) × (t.2.at ≡ t.0.ptr) × (t.2.count ≡ count)
-    × (t.2.alloc ≡ a))
+    → IfOk r (λ t. (t.1.at ≡ t.0.ptr) × (t.1.parts ≡ builder [] [] count) × (t.1.tail ≡ 0) × (t.2.at ≡ t.0.ptr)
+    × (t.2.count ≡ count) × (t.2.alloc ≡ a))
     → ent 𝓤 (⋆ 𝓛 (‵ (Out.own_val r (v ∷ [])) ∷ ‵ (flft κ q) ∷ others ∷ [])) (Post v) = λ r v told.
     qed 𝓛 (‵ (Out.own_val r (v ∷ [])) ∷ ‵ (flft κ q) ∷ others ∷ []) ∵
     suffices ! _ (ends_at 𝓛 Ends hs c z v r (tt, (tt, tt)) (tt, (tt, tt))) $ says ! told $
@@ -97,7 +101,8 @@ allocate_spec 𝓤 𝓛 𝓜 𝓡 wired X W LX LW g d dd met md =
     answers Z ! 𝓜.mem 𝓡.returns a (block_ty E count) v
     (λ b o is_block.
     let p : Ptr = block_ptr b o in let start : (Start E).Denot = record { ptr = p } in
-    let row : (Row E).Denot = record { mark = record {}; at = p; row = replicate count None } in
+    let row : (Row E).Denot = record { mark = record {}; at = p; parts = builder [] [] count; tail = 0 } in
+    let empty : all E row ≡ replicate count None = laid-empty count 0 count (omega arith) in
     let title : Deed.Denot = record { mark = record {}; at = p; count = count; alloc = a } in
     let made : Val = three_val (word p) mark mark in
     let typed : Whole (layout Three) made = (tt, ((tt, tt), ((tt, tt), ((tt, tt), tt)))) in
@@ -119,16 +124,17 @@ allocate_spec 𝓤 𝓛 𝓜 𝓡 wired X W LX LW g d dd met md =
     exec ! 𝓣.C 𝓣.Λ Ev (after 3 fn.body) (at_ret Ev Post) $ sets ! (of_opd ! (get ! refl)) refl ok $
     -- [the room; the right to free it; ..], and the three parts are made of them
     move ! (1 ∷ []) $ use0 𝓛 (‵ ((Mark E).own_val (tt, tt) (mark ∷ []))) (mark_made E 𝓛) $ fjoin ! $ move ! (1 ∷ []) $
-    as_written ! (ty_array (elτ E) count) b o $ use1 𝓛 (‵ (slots (R E) b o row.row)) (of_room E 𝓛 b count o) $
-    flt_i ! (length row.row * s) (2 ^ 63) (subst (λ k. k * s < 2 ^ 63) (sym (length-replicate count None)) small) $
-    fjoin ! $
-    use0 𝓛 (‵ ((Mark E).own_val (tt, tt) (mark ∷ []))) (mark_made E 𝓛) $ fjoin ! $ word_made ! p $
+    as_written ! (ty_array (elτ E) count) b o $ use1 𝓛 (‵ (slots (R E) b o (replicate count None))) (of_room E 𝓛 b count o) $
+    rewrite ! 0 (λ (cs : List (Option X.Denot)). ‵ (slots (R E) b o cs)) (sym empty) refl $
+    use0 𝓛 (‵ ((Mark E).own_val (tt, tt) (mark ∷ []))) (mark_made E 𝓛) $ move ! (1 ∷ 0 ∷ []) $
+    use2 𝓛 (‵ ((Row E).own_val row (mark ∷ []))) (closed E row 𝓛 (mark ∷ []) b o refl
+    (subst (λ k. k * s < 2 ^ 63) (sym (ap length empty ∙ length-replicate count None)) small)) $ word_made ! p $
     use3 𝓛 (‵ (Three.own_val (start, row, title) (made ∷ [])))
     (three_of 𝓛 (Start E) (Row E) Deed start row title (word p) mark mark) $
     use1 𝓛 (‵ (Out.own_val (Ok (start, row, title)) (live 0 (vcons made vnil) ∷ [])))
     (ok_of 𝓛 Three errors.the_row (start, row, title) made) $
     returns ! (look_at ! 0 refl) $ free_all ! refl $ keep ! (0 ∷ 1 ∷ 2 ∷ []) $
-    by ! (leave (Ok (start, row, title)) (live 0 (vcons made vnil)) (refl, refl, refl, refl, refl)))
+    by ! (leave (Ok (start, row, title)) (live 0 (vcons made vnil)) (refl, refl, refl, refl, refl, refl)))
     (λ is_refused.
     let Refusal : RattleType = Struct (Declared.shape errors.the_type) in
     let none : Val = live 1 (vcons (vstruct vnil) vnil) in

@@ -19,6 +19,10 @@ use denote.Triple.Table.{framed}
 use Rattle.core.proofs.alloc.Calls.{Al, token, Gives, at_gives, Gives-goes, Gives-Gives, Goes-blank}
 use Rattle.core.proofs.slots.Leases.{block_ty, block_size, block_align, args, P}
 use Rattle.circular_buffer.specs.Ownership.{cells_own, deed_owns}
+use Rattle.vc_builder.specs.Builder.{builder}
+use Rattle.vc_builder.specs.Places.{laid}
+use Rattle.vc_builder.proofs.WalkNames.{◌+◌}
+use Rattle.vc_builder.proofs.PlacesLaid.{laid-empty}
 use Rattle.vc_builder.proofs.PlacesMemory.{Title, title-told, Row, Start, bytes, mark-told, base_vals, base-tells}
 use Rattle.vc_builder.proofs.PlacesMemory.{base_stays, base-goes, number_stays, number-goes}
 use Rattle.vc_builder.proofs.WalkNames.{named, proved, shr_vals, shr_Tells, uint_vals, uint_Tells}
@@ -61,8 +65,9 @@ deallocate_spec 𝓤 𝓛 𝓜 𝓡 wired X W LX LW g d dd met md =
       (κs, qs, bounds, z, (shr_vals z.0, (base_vals E base, (uint_vals w64 count, (mark ∷ [], (mark ∷ [], tt)))))),
       gh,
     ) in
-    let Asked : Type 0 = (row.at ≡ base.ptr) × (row.row ≡ replicate count None) × (title.at ≡ base.ptr)
-    × (title.count ≡ count) × (title.alloc ≡ a) in let s : ℕ = bytes E in
+    let Asked : Type 0 = (row.at ≡ base.ptr) × (row.parts ≡ builder [] [] row.parts.room)
+    × (row.parts.room + row.tail ≡ count) × (title.at ≡ base.ptr) × (title.count ≡ count) × (title.alloc ≡ a) in
+    let s : ℕ = bytes E in
     let Post : Val → SProp 𝓤 = (walk_of 𝓛 Ends hs c).post y in
     qed 𝓛 (((‵ (flft κ q) ⊛ others) ⊛ ‵ (owns (types_at Ends.signature.params κs) z y.0.4)) ∷ raw (fact 𝓤 _) ∷ raw
     (fact 𝓤 (κs.1.1.0 ⊑ W.lives)) ∷ raw (fact 𝓤 Asked) ∷ []) ∵
@@ -78,14 +83,14 @@ deallocate_spec 𝓤 𝓛 𝓜 𝓡 wired X W LX LW g d dd met md =
     ) $
     let Ev : Env 𝓤 H = env fn.locals l in let alignment : ℕ = capped (align (elτ E)) in
     rewrite ! 0 (λ (p : Ptr × List (Option X.Denot)). ‵ (cells_own (R E) p.0 p.1))
-    (λ i. (asked.0 i, asked.1 i)) refl $
+    (λ i. (asked.0 i, (ap (λ p. laid p row.tail) asked.1 ∙ laid-empty row.parts.room row.tail count asked.2) i)) refl $
     in_a_block ! base.ptr (λ p. cells_own (R E) p (replicate count None)) (id⊢ 𝓤 (never 𝓤)) (λ b o at. fsplit ! $
     flt_l ! (λ few.
     let small : count * s < 2 ^ 63 = subst (λ k. k * s < 2 ^ 63) (length-replicate count None) few in
     let fit : count * s < 2 ^ 64 = omega arith in
     let req : Request.Ghost = at_gives Z 𝓛 𝓜.mem 𝓡.returns κ q (rb, ro) a b o (count * s) alignment (block_ty E count) in
     rewrite ! 1 (λ (t : W.Denot × Ptr × ℕ). ‵ (deed_owns (R E) (token Z t.0) t.1 t.2))
-    (λ i. (asked.4 i, (asked.2 ∙ at) i, asked.3 i)) refl $
+    (λ i. (asked.5 i, (asked.3 ∙ at) i, asked.4 i)) refl $
     use1 𝓛 (‵ (froom (ty_array (elτ E) count) b o)) (to_room E 𝓛 b count o) $ as_raw ! (ty_array (elτ E) count) b o $
     first ! $ blocks ! $
     sets ! (is ! (of_opd ! (get_in ! (fld ! refl (stop !)) (sub ! 0 refl (whole !)))) (ap ptr_val at)) refl (tt, tt) $

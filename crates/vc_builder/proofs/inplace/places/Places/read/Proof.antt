@@ -1,24 +1,27 @@
 -- `read` moves a value out, and its place is empty. Assumes `Logic`.
-use Rattle.vc_builder.proofs.WalkNames.{ !, ◌≡◌, refl, sym, subst, ◌∙◌, List, [], ◌∷◌, ℕ, ◌+◌, ◌*◌, ◌<◌, ◌^◌}
-use Rattle.vc_builder.proofs.WalkNames.{arith, length, set, get_or, length-set, full_share, SProp, never, id⊢}
+use Rattle.vc_builder.proofs.WalkNames.{ !, ◌≡◌, refl, subst, ◌∙◌, List, [], ◌∷◌, ℕ, ◌+◌, ◌*◌, ◌<◌, ◌^◌}
+use Rattle.vc_builder.proofs.WalkNames.{arith, length, set, get_or, full_share, SProp}
 use Rattle.vc_builder.proofs.WalkNames.{ftrue, fat, froom, flft, w64, a_type, inst_fn, Val}
-use Rattle.vc_builder.proofs.WalkNames.{Env, ‵, raw, some, given, pick, learn, at_ret, ◌⊛◌, ◌$◌, ◌∵◌, qed, move}
+use Rattle.vc_builder.proofs.WalkNames.{‵, raw, some, given, pick, learn, at_ret, ◌⊛◌, ◌$◌, ◌∵◌, qed, move}
 use Rattle.vc_builder.proofs.WalkNames.{keep, use1, use2, split, join, rewrite, fsplit, fsplit3, fjoin, fjoin3, feq_i}
-use Rattle.vc_builder.proofs.WalkNames.{flt_i, flt_l, suffices, frame, done, whole, sub, look, load, stop, fld}
+use Rattle.vc_builder.proofs.WalkNames.{suffices, frame, done, whole, sub, look, load, stop, fld}
 use Rattle.vc_builder.proofs.WalkNames.{bin, of_opd, size_lit, first, blocks, exec, returns, enter, alloc_all}
 use Rattle.vc_builder.proofs.WalkNames.{pass_all, free_all, take_at, give_at, look_at, get, get_in, through, sets}
 use Rattle.vc_builder.proofs.WalkNames.{sets_last, env, fact, tables, layout, layouts, owns, Ptr}
-use Rattle.vc_builder.proofs.WalkNames.{in_a_block, plain, types_at, nothing, heard, opens, closes, says, Stays}
+use Rattle.vc_builder.proofs.WalkNames.{plain, types_at, nothing, heard, opens, closes, says, Stays}
 use Rattle.vc_builder.proofs.WalkNames.{stay_ref, walk_of, ends_at, Goes-ref, Option}
 use Rattle.vc_builder.proofs.WalkNames.{None, tail, El, R, elτ, Good, times_below, one_below, as_raw, word}
 use Rattle.vc_builder.proofs.WalkNames.{word-Good}
-use Rattle.circular_buffer.specs.Places.{IsFilled}
-use Rattle.vc_builder.specs.PlacesLend.{with_row}
-use Rattle.circular_buffer.specs.Ownership.{slot, slots, cells_own}
+use Rattle.vc_builder.specs.PlacesLend.{with_parts}
+use Rattle.vc_builder.specs.Builder.{builder}
+use Rattle.vc_builder.proofs.WalkNames.{◌+◌, drop_l}
+use Rattle.vc_builder.proofs.PlacesLaid.{taken, turned}
+use Rattle.vc_builder.proofs.PlacesMemory.{all, opened, closed}
+use Rattle.circular_buffer.specs.Ownership.{slot, slots}
 use Rattle.vc_builder.proofs.PlacesMemory.{Row, Start, bytes, base_vals, base-tells, base_stays, base-goes}
 use Rattle.vc_builder.proofs.PlacesMemory.{number_stays, number-goes}
 use Rattle.vc_builder.proofs.WalkNames.{named, proved, mut_vals, mut_Tells, uint_vals, uint_Tells}
-use Rattle.circular_buffer.proofs.Memory.{value_out, filled_within, Besides, slot_out, slot_in}
+use Rattle.circular_buffer.proofs.Memory.{value_out, Besides, slot_out, slot_in}
 use Rattle.vc_builder.specs.contracts.inplace.places.Places.read.{ended, clauses}
 use Rattle.vc_builder.specs.contracts.inplace.places.Places.read.Key.{name as #self}
 use Rattle.vc_builder.proofs.inplace.places.Places.read.Statement.{statement}
@@ -34,56 +37,47 @@ read_spec 𝓤 𝓛 𝓜 𝓡 wired X L =
     (#self inst) fn (code.unfolded 𝓤 H 𝓜 𝓡 wired (X, tt)) (λ κs. (mut_vals, (base_vals E, (uint_vals w64, tt))))
     (λ κs. (mut_Tells (named 0) κs.0 (Row E), (base-tells E, (uint_Tells w64, tt)))) (λ κs qs bounds a gh are.
     let rb : ℕ = a.0.ref_ptr.0 in let ro : ℕ = a.0.ref_ptr.1 in let d : (Row E).Denot = a.0.now in
-    let base : (Start E).Denot = a.1.0 in let index : ℕ = a.1.1.0 in
+    let base : (Start E).Denot = a.1.0 in let index : ℕ = a.1.1.0 in let s : ℕ = bytes E in
     let z : (walk_of 𝓛 Ends hs c).Ghost = (
       (κs, qs, bounds, a, (mut_vals a.0, (base_vals E base, (uint_vals w64 index, tt)))),
       gh,
     ) in
-    let others = ‵ (flft κs.1.0 qs.1.0) ⊛ ‵ ftrue in
-    let Asked : Type 0 = (base.ptr ≡ d.at) × IsFilled d.row index in
-    let Post : Val → SProp 𝓤 = (walk_of 𝓛 Ends hs c).post z in
-    let s : ℕ = bytes E in
-    let new : (Row E).Denot = with_row d (set d.row index None) in
-    qed 𝓛 (((‵ (flft κs.0 qs.0) ⊛ others) ⊛ ‵ (owns (types_at Ends.signature.params κs) a z.0.4)) ∷ raw (fact 𝓤 _) ∷ raw
-    (fact 𝓤 Asked) ∷ []) ∵
+    let Asked : Type 0 = (base.ptr ≡ d.at) × (0 < length d.parts.rest) × (index ≡ length d.parts.built + d.parts.room) in
+    let row = all E d in let Post : Val → SProp 𝓤 = (walk_of 𝓛 Ends hs c).post z in
+    let new : (Row E).Denot = with_parts d (builder d.parts.built (drop_l 1 d.parts.rest) (d.parts.room + 1)) in
+    qed 𝓛 (((‵ (flft κs.0 qs.0) ⊛ ‵ (flft κs.1.0 qs.1.0) ⊛ ‵ ftrue) ⊛ ‵ (owns (types_at Ends.signature.params κs) a z.0.4))
+    ∷ raw (fact 𝓤 _) ∷ raw (fact 𝓤 Asked) ∷ []) ∵
     keep ! (2 ∷ 0 ∷ []) $ heard ! Asked (λ asked. split ! $ split ! $ move ! (2 ∷ []) $
-    let x : X.Denot = asked.1.0 in let filled = asked.1.1 in
-    let within : index < length d.row = filled_within d.row index x filled in
+    let taking = taken d.parts d.tail index asked.1 asked.2 in let x : X.Denot = taking.0 in let place = turned taking.2 in
     fsplit ! $ fsplit3 ! $ keep ! (1 ∷ 2 ∷ 4 ∷ 5 ∷ []) $
     -- [what self shows; its borrow; the token; the other tokens]
     enter ! 𝓣.C 𝓣.Λ fn _ Post $ alloc_all !
     (λ l. pass_all ! refl ((tt, tt), (word-Good [] base.ptr, ((tt, record { fits = are.1.1.0.1 }), tt))) $
-    let Ev : Env 𝓤 H = env fn.locals l in
-    opens ! tt (Row E) {h = d} rb ro (λ vs. move ! (1 ∷ []) $ fsplit ! $ move ! (1 ∷ []) $
-    in_a_block ! d.at (λ p. cells_own (R E) p d.row) (id⊢ 𝓤 (never 𝓤)) (λ b o at. fsplit ! $ flt_l ! (λ fit.
-    let tiny : s < 2 ^ 64 = omega (arith, one_below (length d.row) s (2 ^ 63) (omega arith) fit) in
-    let far : index * s < 2 ^ 64 = omega (arith, times_below index (length d.row) s (2 ^ 63) (omega arith) fit) in
-    let place : ℕ = index * s + o in
+    opens ! tt (Row E) {h = d} rb ro (λ vs. move ! (1 ∷ []) $ opened E d ! vs (λ b o at fit.
+    let tiny : s < 2 ^ 64 = omega (arith, one_below (length row) s (2 ^ 63) (omega (arith, place.0)) fit) in
+    let far : index * s < 2 ^ 64 = omega (arith, times_below index (length row) s (2 ^ 63) (omega (arith, place.0)) fit) in
     take_at ! 2 $ rewrite ! 0 (λ (p : Ptr). ‵ (fat full_share (layout (Start E)) (l 2) 0 (word p))) (asked.0
     ∙ at) refl $ give_at ! 2 $ first ! $ blocks ! $
-    sets ! (bin ! (get ! refl) (size_lit ! (record { fits = tiny })) (record { fits = far })) refl (
-      tt,
-      record { fits = far },
-    ) $
+    sets ! (bin ! (get ! refl) (size_lit ! (record { fits = tiny })) (record { fits = far })) refl
+    (tt, record { fits = far }) $
     sets ! (bin ! (get_in ! (fld ! refl (stop !)) (sub ! 0 refl (whole !))) (get ! refl) tt) refl (tt, tt) $
-    use1 𝓛 (‵ (slot (R E) b place (get_or d.row index None)) ⊛ ‵ (Besides E 𝓛 b o d.row index))
-    (slot_out E 𝓛 b o d.row index within) $ split ! $
-    rewrite ! 0 (λ (cell : Option X.Denot). ‵ (slot (R E) b place cell)) filled refl $
-    use1 𝓛 (some (λ (v : Val). given (Good E v) (‵ (fat full_share (elτ E) b place v) ⊛ ‵ (E.row.own_val x (v ∷ [])))))
-    (value_out 0 E.row E.laws 𝓛 x b place) $
-    pick ! (λ v. learn ! (λ good. split ! $
+    use1 𝓛 (‵ (slot (R E) b (index * s + o) (get_or row index None)) ⊛ ‵ (Besides E 𝓛 b o row index))
+    (slot_out E 𝓛 b o row index place.0) $ split ! $
+    rewrite ! 0 (λ (cell : Option X.Denot). ‵ (slot (R E) b (index * s + o) cell)) place.1 refl $
+    use1 𝓛 (some (λ (v : Val). given (Good E v)
+    (‵ (fat full_share (elτ E) b (index * s + o) v) ⊛ ‵ (E.row.own_val x (v ∷ [])))))
+    (value_out 0 E.row E.laws 𝓛 x b (index * s + o)) $ pick ! (λ v. learn ! (λ good. split ! $
     sets_last ! (of_opd ! (load ! (through ! refl (stop !)) (look ! 0 refl))) refl good $
-    exec ! 𝓣.C 𝓣.Λ Ev (tail fn.body) (at_ret Ev Post) $ sets ! (of_opd ! (get ! refl)) refl good $
-    use1 𝓛 (‵ (froom (elτ E) b place)) (𝓛.laws.at_room (elτ E) b place v) $ as_raw ! (elτ E) b place $
-    move ! (0 ∷ 2 ∷ 3 ∷ 4 ∷ 5 ∷ 6 ∷ 7 ∷ []) $
+    exec ! 𝓣.C 𝓣.Λ (env fn.locals l) (tail fn.body) (at_ret _ Post) $ sets ! (of_opd ! (get ! refl)) refl good $
+    use1 𝓛 (‵ (froom (elτ E) b (index * s + o))) (𝓛.laws.at_room (elτ E) b (index * s + o) v) $
+    as_raw ! (elτ E) b (index * s + o) $ move ! (0 ∷ 2 ∷ 3 ∷ 4 ∷ 5 ∷ 6 ∷ 7 ∷ []) $
     -- [the room; the other places; the mark; its cell; the open borrow, in three; what the value owns; the other
     -- tokens]
-    use2 𝓛 (‵ (slots (R E) b o new.row)) (slot_in E 𝓛 b o d.row index within None) $
-    flt_i ! (length new.row * s) (2 ^ 63) (subst (λ k. k * s < 2 ^ 63) (sym (length-set d.row index None)) fit) $
-    fjoin ! $
-    rewrite ! 0 (λ (p : Ptr). ‵ (cells_own (R E) p new.row)) (sym at) refl $ move ! (1 ∷ 0 ∷ []) $ fjoin ! $
+    use2 𝓛 (‵ (slots (R E) b o (set row index None))) (slot_in E 𝓛 b o row index place.0 None) $
+    rewrite ! 0 (λ (cs : List (Option X.Denot)). ‵ (slots (R E) b o cs)) place.2 refl $
+    use2 𝓛 (‵ ((Row E).own_val new vs)) (closed E new 𝓛 vs b o at (subst (λ k. k * s < 2 ^ 63) place.3 fit)) $
     move ! (1 ∷ 0 ∷ []) $ closes ! tt (Row E) new vs rb ro $
     returns ! (look_at ! 0 refl) $ free_all ! refl $ keep ! (0 ∷ 1 ∷ 2 ∷ 3 ∷ 4 ∷ []) $
-    suffices ! _ (ends_at 𝓛 Ends hs c z v x (new, (tt, (tt, tt))) (tt, (tt, (tt, tt)))) $ says ! (filled, refl, refl) $
+    suffices ! _ (ends_at 𝓛 Ends hs c z v x (new, (tt, (tt, tt))) (tt, (tt, (tt, tt)))) $ says ! (taking.1, refl, refl, refl) $
     move ! (2 ∷ 4 ∷ []) $ join ! $ frame ! $ feq_i ! (List Val) (mut_vals a.0) (mut_vals a.0) refl $ fjoin3 ! $ nothing ! $
-    nothing ! $ fjoin ! $ nothing ! $ fjoin ! $ move ! (1 ∷ 0 ∷ []) $ fjoin ! $ done !))))))))
+    nothing ! $ fjoin ! $ nothing ! $ fjoin ! $ move ! (1 ∷ 0 ∷ []) $ fjoin ! $ done !)))))))

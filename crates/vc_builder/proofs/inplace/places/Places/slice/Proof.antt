@@ -2,7 +2,7 @@
 use Rattle.vc_builder.proofs.WalkNames.{ !, ◌≡◌, refl, sym, ap, subst, ◌∙◌, List, [], ◌∷◌, ℕ, ◌+◌, ◌*◌, ◌<◌, ◌^◌}
 use Rattle.vc_builder.proofs.WalkNames.{arith, length, full_share, SProp}
 use Rattle.vc_builder.proofs.WalkNames.{never, id⊢, Lft, Share, ftrue, fat, flft, w64, a_type, inst_fn, Val}
-use Rattle.vc_builder.proofs.WalkNames.{vint, Env, ‵, raw, at_ret, ◌⊛◌, ◌$◌, ◌∵◌, qed, move, keep, drop, use1}
+use Rattle.vc_builder.proofs.WalkNames.{vint, ‵, raw, at_ret, ◌⊛◌, ◌$◌, ◌∵◌, qed, move, keep, drop, use1}
 use Rattle.vc_builder.proofs.WalkNames.{split, join, rewrite, fsplit, fjoin, feq_i, flt_i, flt_l, suffices}
 use Rattle.vc_builder.proofs.WalkNames.{frame, done, whole, sub, agg, stop, fld, bin, of_opd, size_word, and_then}
 use Rattle.vc_builder.proofs.WalkNames.{no_more, first, blocks, exec, returns, enter, alloc_all, pass_all, free_all}
@@ -11,11 +11,12 @@ use Rattle.vc_builder.proofs.WalkNames.{tables, RefOf, yes, hide, unhide, layout
 use Rattle.vc_builder.proofs.WalkNames.{in_a_block, plain, types_at, slice_val, elements_shared, nothing, heard, says}
 use Rattle.vc_builder.proofs.WalkNames.{Stays, stay_dropped, walk_of, ends_at, Goes-dropped}
 use Rattle.vc_builder.proofs.WalkNames.{tail, El, R, times_below, uncapped, word, word-Good}
-use Rattle.circular_buffer.specs.Places.{somes, IsRun}
 use Rattle.circular_buffer.specs.Ownership.{cells_lent}
-use Rattle.vc_builder.proofs.PlacesLaid.{somes-map}
+use Rattle.vc_builder.proofs.WalkNames.{◌+◌}
+use Rattle.vc_builder.proofs.PlacesLaid.{length-laid, rest-run}
+use Rattle.vc_builder.proofs.PlacesMemory.{all}
 use denote.Laws.{valss}
-use Rattle.vc_builder.proofs.PlacesMemory.{run_types, run_vals, run-tells, length-run, Row, Start, bytes, base_stays, base-goes}
+use Rattle.vc_builder.proofs.PlacesMemory.{run_types, run_vals, run-tells, Row, Start, bytes, base_stays, base-goes}
 use Rattle.vc_builder.proofs.PlacesMemory.{number_stays, number-goes}
 use Rattle.vc_builder.proofs.WalkNames.{named, proved, shr_vals, shr_Tells}
 use Rattle.circular_buffer.proofs.Memory.{run_seen}
@@ -36,29 +37,23 @@ slice_spec 𝓤 𝓛 𝓜 𝓡 wired X L =
     proved 𝓛 Ends hs c 𝓜 𝓡 (lent-goes, (base-goes E 2 𝓛, (number-goes 2 𝓛, (number-goes 2 𝓛, tt))))
     (#self inst) fn (code.unfolded 𝓤 H 𝓜 𝓡 wired (X, tt)) (λ κs. (shr_vals, run_vals E))
     (λ κs. (shr_Tells (named 0) κs.0 (Row E), run-tells E)) (λ κs qs bounds a gh are.
-    let d : (Row E).Denot = a.0.now in let base : (Start E).Denot = a.1.0 in
+    let d : (Row E).Denot = a.0.now in let row = all E d in let base : (Start E).Denot = a.1.0 in
     let from : ℕ = a.1.1.0 in let count : ℕ = a.1.1.1.0 in let small_count = are.1.1.1.0.1 in
-    let κ : Lft = κs.0 in let q : Share = qs.0 in let others = ‵ (flft κs.1.0 qs.1.0) ⊛ ‵ ftrue in
+    let κ : Lft = κs.0 in let q : Share = qs.0 in let s : ℕ = bytes E in let xs = d.parts.rest in
     let z : (walk_of 𝓛 Ends hs c).Ghost = ((κs, qs, bounds, a, (shr_vals a.0, valss (run_types E) (run_vals E) a.1)), gh) in
-    let Asked : Type 0 = (base.ptr ≡ d.at) × IsRun d.row from count in
     let Post : Val → SProp 𝓤 = (walk_of 𝓛 Ends hs c).post z in
-    let s : ℕ = bytes E in
-    qed 𝓛 (((‵ (flft κ q) ⊛ others) ⊛ ‵ (owns (types_at Ends.signature.params κs) a z.0.4)) ∷ raw (fact 𝓤 _) ∷ raw
-    (fact 𝓤 Asked) ∷ []) ∵
+    let Asked : Type 0 = (base.ptr ≡ d.at) × (count ≡ length xs) × (from ≡ length d.parts.built + d.parts.room) in
+    qed 𝓛 (((‵ (flft κ q) ⊛ ‵ (flft κs.1.0 qs.1.0) ⊛ ‵ ftrue) ⊛ ‵ (owns (types_at Ends.signature.params κs) a z.0.4))
+    ∷ raw (fact 𝓤 _) ∷ raw (fact 𝓤 Asked) ∷ []) ∵
     keep ! (2 ∷ 0 ∷ []) $ heard ! Asked (λ asked. split ! $ split ! $ move ! (2 ∷ []) $
-    let within = asked.1.0 in let xs : List X.Denot = asked.1.1.0 in let filled = asked.1.1.1 in
-    let long = length-run d.row from count asked.1 in
+    let long = length-laid d.parts d.tail in
     fsplit ! $ fsplit ! $ keep ! (1 ∷ 3 ∷ 4 ∷ []) $
     -- [the `&`; the token; the other tokens]
-    enter ! 𝓣.C 𝓣.Λ fn _ Post $ alloc_all !
-    (λ l. pass_all ! refl (
-      (tt, tt),
-      (word-Good [] base.ptr, ((tt, record { fits = are.1.1.0.1 }), ((tt, record { fits = small_count }), tt))),
-    ) $
-    let Ev : Env 𝓤 H = env fn.locals l in
+    enter ! 𝓣.C 𝓣.Λ fn _ Post $ alloc_all ! (λ l. pass_all ! refl
+    ((tt, tt), (word-Good [] base.ptr, ((tt, record { fits = are.1.1.0.1 }), ((tt, record { fits = small_count }), tt)))) $
     unhide ! $ fsplit ! $ drop ! $
-    in_a_block ! d.at (λ p. cells_lent (R E) p d.row κ) (id⊢ 𝓤 (never 𝓤)) (λ b o at. fsplit ! $ flt_l ! (λ fit.
-    let far : from * s < 2 ^ 64 = omega (arith, times_below from (length d.row) s (2 ^ 63) (omega arith) fit) in
+    in_a_block ! d.at (λ p. cells_lent (R E) p row κ) (id⊢ 𝓤 (never 𝓤)) (λ b o at. fsplit ! $ flt_l ! (λ fit.
+    let far : from * s < 2 ^ 64 = omega (arith, times_below from (length row) s (2 ^ 63) (omega arith) fit) in
     let place : ℕ × ℕ = (b, from * s + o) in
     take_at ! 2 $ rewrite ! 0 (λ (p : Ptr). ‵ (fat full_share (layout (Start E)) (l 2) 0 (word p))) (asked.0
     ∙ at) refl $ give_at ! 2 $ first ! $ blocks ! $
@@ -66,19 +61,19 @@ slice_spec 𝓤 𝓛 𝓜 𝓡 wired X L =
     (record { fits = subst (λ (k : ℕ). k < 2 ^ 64) (sym (uncapped from s far)) far }))
     (ap (vint w64) (uncapped from s far))) refl (tt, record { fits = far }) $
     sets ! (bin ! (get_in ! (fld ! refl (stop !)) (sub ! 0 refl (whole !))) (get ! refl) tt) refl (tt, tt) $
-    use1 𝓛 (‵ (elements_shared (R E) xs b place.1 κ)) (run_seen E 𝓛 b κ o d.row from count xs (omega arith) filled) $
-    hide ! $
+    use1 𝓛 (‵ (elements_shared (R E) xs b place.1 κ))
+    (run_seen E 𝓛 b κ o row from (length xs) xs (omega arith) (rest-run d.parts d.tail from asked.2)) $ hide ! $
     sets_last ! (agg ! (and_then ! (get ! refl) (and_then ! (get ! refl) (no_more !)))) refl
     (tt, (tt, (record { fits = small_count }, tt))) $
-    exec ! 𝓣.C 𝓣.Λ Ev (tail fn.body) (at_ret Ev Post) $
+    exec ! 𝓣.C 𝓣.Λ (env fn.locals l) (tail fn.body) (at_ret _ Post) $
     sets ! (of_opd ! (get ! refl)) refl (tt, (tt, (record { fits = small_count }, tt))) $
-    flt_i ! (length xs * s) (2 ^ 63) (times_below (length xs) (length d.row) s (2 ^ 63) (omega arith) fit) $
+    flt_i ! (length xs * s) (2 ^ 63) (times_below (length xs) (length row) s (2 ^ 63) (omega arith) fit) $
     flt_i ! (length xs) (2 ^ 64) (omega arith) $ fjoin ! $
     feq_i ! (List Val) (slice_val place count ∷ []) (slice_val place (length xs) ∷ [])
-    (ap (λ k. slice_val place k ∷ []) (sym long)) $ fjoin ! $ fjoin ! $
+    (ap (λ k. slice_val place k ∷ []) asked.1) $ fjoin ! $ fjoin ! $
     -- [the slice; the token; the other tokens]
     returns ! (look_at ! 0 refl) $ free_all ! refl $ keep ! (0 ∷ 1 ∷ 2 ∷ []) $
     suffices ! _ (ends_at 𝓛 Ends hs c z (slice_val place count) (record { ref_ptr = place; now = xs })
-    (tt, (tt, (tt, (tt, tt)))) (tt, (tt, (tt, (tt, tt))))) $ says ! (sym (ap somes filled ∙ somes-map xs)) $
+    (tt, (tt, (tt, (tt, tt)))) (tt, (tt, (tt, (tt, tt))))) $ says ! refl $
     move ! (1 ∷ 2 ∷ []) $ join ! $ frame ! $ nothing ! $ nothing ! $ fjoin ! $ nothing ! $ fjoin ! $ nothing ! $
     fjoin ! $ nothing ! $ fjoin ! $ done !)))))

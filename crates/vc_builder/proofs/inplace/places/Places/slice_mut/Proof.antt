@@ -1,28 +1,30 @@
 -- `slice_mut` lends a run of somes, and the places follow it. Assumes `Logic`.
 use Rattle.vc_builder.proofs.WalkNames.{ !, split3, ◌≡◌, refl, sym, ap, subst, ◌∙◌, List, [], ◌∷◌, map, ℕ, ◌+◌}
-use Rattle.vc_builder.proofs.WalkNames.{◌*◌, ◌<◌, ◌≤◌, ◌^◌, arith, length, take, drop_l, length-take, length-drop}
-use Rattle.vc_builder.proofs.WalkNames.{length-append, take_front, Ura, full_share, SProp, ent, sep, never, id⊢, Fml}
+use Rattle.vc_builder.proofs.WalkNames.{◌*◌, ◌<◌, ◌^◌, arith, length, take, drop_l}
+use Rattle.vc_builder.proofs.WalkNames.{take_front, Ura, full_share, SProp, ent, sep, Fml}
 use Rattle.vc_builder.proofs.WalkNames.{Lft, GName, Share, ftrue, fsep, fat, flft, named, w64, a_type, inst_fn, Val}
-use Rattle.vc_builder.proofs.WalkNames.{vint, Env, Logic, sem, cells, ‵, raw, some, later, await, pick}
+use Rattle.vc_builder.proofs.WalkNames.{vint, Logic, sem, cells, ‵, raw, some, later, await, pick}
 use Rattle.vc_builder.proofs.WalkNames.{at_ret, ◌⊛◌, ◌$◌, ◌∵◌, qed, move, keep, use1, use2, split, join, group}
-use Rattle.vc_builder.proofs.WalkNames.{rewrite, fsplit, fsplit3, fjoin, fjoin3, fpack, flt_i, flt_l, suffices}
+use Rattle.vc_builder.proofs.WalkNames.{rewrite, fsplit, fsplit3, fjoin, fjoin3, fpack, suffices}
 use Rattle.vc_builder.proofs.WalkNames.{frame, done, whole, sub, agg, stop, fld, bin, of_opd, size_word, and_then}
 use Rattle.vc_builder.proofs.WalkNames.{no_more, first, blocks, exec, returns, enter, alloc_all, pass_all, free_all}
 use Rattle.vc_builder.proofs.WalkNames.{take_at, give_at, look_at, get, get_in, sets, sets_last, is, env, fact}
 use Rattle.vc_builder.proofs.WalkNames.{tables, Array, no, follows, mem, part_of, cell_at, layout}
-use Rattle.vc_builder.proofs.WalkNames.{layouts, owns, Ptr, block_ptr, in_a_block, MutBor, plain, mut_ref_to}
+use Rattle.vc_builder.proofs.WalkNames.{layouts, owns, Ptr, block_ptr, MutBor, plain, mut_ref_to}
 use Rattle.vc_builder.proofs.WalkNames.{types_at, MutSlice, slice_val, nothing, heard, opens, says, Stays}
 use Rattle.vc_builder.proofs.WalkNames.{stay_dropped, walk_of, ends_at, Goes-spent_ref, Option, Some}
-use Rattle.vc_builder.proofs.WalkNames.{refill, length-map, tail, El, R, el_x, times_below, uncapped, word}
+use Rattle.vc_builder.proofs.WalkNames.{length-map, tail, El, R, el_x, times_below, uncapped, word}
 use Rattle.vc_builder.proofs.WalkNames.{word-Good}
 use denote.FollowSlice.{lends_Elements}
-use Rattle.circular_buffer.specs.Places.{somes, IsRun}
-use Rattle.circular_buffer.specs.Lends.{spliced}
-use Rattle.vc_builder.specs.PlacesLend.{with_row}
-use Rattle.circular_buffer.specs.Ownership.{slots, cells_own}
-use Rattle.vc_builder.proofs.PlacesLaid.{somes-map}
+use Rattle.vc_builder.specs.PlacesLend.{with_parts}
+use Rattle.vc_builder.specs.Builder.{builder, with_rest}
+use Rattle.vc_builder.specs.Places.{laid}
+use Rattle.circular_buffer.specs.Ownership.{slots}
+use Rattle.vc_builder.proofs.PlacesLaid.{length-laid, rest-run, rest-written}
+use Rattle.vc_builder.proofs.WalkNames.{◌++◌}
+use Rattle.vc_builder.proofs.PlacesMemory.{all, opened, closed}
 use denote.Laws.{valss}
-use Rattle.vc_builder.proofs.PlacesMemory.{run_types, run_vals, run-tells, length-run, Row, Start, Mark, bytes, base_stays}
+use Rattle.vc_builder.proofs.PlacesMemory.{run_types, run_vals, run-tells, Row, Start, Mark, bytes, base_stays}
 use Rattle.vc_builder.proofs.PlacesMemory.{base-goes, number_stays, number-goes}
 use Rattle.vc_builder.proofs.WalkNames.{named, proved, mut_vals, mut_Tells}
 use Rattle.circular_buffer.proofs.Memory.{Around, run_out, run_in, to_cells, of_cells}
@@ -31,41 +33,41 @@ use Rattle.vc_builder.specs.contracts.inplace.places.Places.slice_mut.Key.{name 
 use Rattle.vc_builder.proofs.inplace.places.Places.slice_mut.Statement.{statement}
 use Rattle.vc_builder.proofs.inplace.places.Places.slice_mut.Code as code
 
-module _ (E : El) (d : (Row E).Denot) (from count : ℕ) where
+module _ (E : El) (d : (Row E).Denot) {M : Type 1} {𝓤 : Ura M} (𝓛 : Logic 𝓤) (rb ro b o from : ℕ) (vs : List Val) where
+  abbrev xs : List (el_x E)
+  xs = d.parts.rest
+
+  abbrev run : ℕ
+  run = from * bytes E + o
+
   -- the places once the run was written over
   abbrev written : List (el_x E) → (Row E).Denot
-  written ws = with_row d (spliced d.row from count (refill count (somes (take count (drop_l from d.row))) ws))
+  written ws = with_parts d (with_rest d.parts ws)
 
-  module _ {M : Type 1} {𝓤 : Ura M} (𝓛 : Logic 𝓤) (rb ro b o : ℕ) (vs : List Val) where
-    -- all but the run
-    abbrev Others : Fml
-    Others = fsep (Around E 𝓛 b o d.row from count)
-        (fsep ((Mark E).own_val (tt, tt) vs) (cell_at full_share (Row E).mir vs rb ro))
+  -- all but the run
+  abbrev Others : Fml
+  Others = fsep (Around E 𝓛 b o (all E d) from (length xs))
+      (fsep ((Mark E).own_val (tt, tt) vs) (cell_at full_share (Row E).mir vs rb ro))
 
-    -- the run goes back into the places, whatever was written into it
-    back : d.at ≡ block_ptr b o → from + count ≤ length d.row → length d.row * bytes E < 2 ^ 63 → (xs : List (el_x E))
-        → length xs ≡ count → (ws : List (el_x E)) → length ws ≡ length xs
-        → ent 𝓤 (sep 𝓤 (sem 𝓛 (cells (mem (R E)) ws b (from * bytes E + o))) (sem 𝓛 Others))
-        (sem 𝓛 ((mem (Row E)).own_at (written ws) rb ro))
-    unfolding part_of
-    back at within fit xs long ws same =
-        let old = somes (take count (drop_l from d.row)) in let after = drop_l (from + count) d.row in
-        let run = from * bytes E + o in
-        let all : refill count old ws ≡ ws = take_front ws (drop_l (length ws) old) count (same ∙ long) in
-        let size : length (written ws).row ≡ length d.row = ap (λ l. length (spliced d.row from count l)) all
-        ∙ simp (length-append, length-map, length-take, length-drop) (omega arith) in
-        qed 𝓛 (‵ (cells (mem (R E)) ws b run) ∷ ‵ Others ∷ []) ∵
-        use1 𝓛 (‵ (slots (R E) b run (map Some ws))) (of_cells E 𝓛 b ws run) $
-        move ! (1 ∷ []) $ fsplit3 ! $ move ! (3 ∷ 0 ∷ []) $
-        use2 𝓛 (‵ (slots (R E) b o (spliced d.row from count ws)))
-        (run_in E 𝓛 b o d.row from count within (map Some ws) (omega (arith, length-map ws Some))) $
-        rewrite ! 0 (λ (l : List (el_x E)). ‵ (slots (R E) b o (spliced d.row from count l))) (sym all) refl $
-        flt_i ! (length (written ws).row * bytes E) (2 ^ 63) (subst (λ k. k * bytes E < 2 ^ 63) (sym size) fit) $
-        fjoin ! $
-        rewrite ! 0 (λ (p : Ptr). ‵ (cells_own (R E) p (written ws).row)) (sym at) refl $ move ! (1 ∷ 0 ∷ []) $
-        fjoin ! $ move ! (1 ∷ 0 ∷ []) $ fjoin ! $
-        fpack ! (List Val) (λ us. fsep (cell_at full_share (Row E).mir us rb ro) ((Row E).own_val (written ws) us)) vs $
-        done !
+  -- the run goes back into the places, whatever was written into it
+  back : d.at ≡ block_ptr b o → length (all E d) * bytes E < 2 ^ 63 → from ≡ length d.parts.built + d.parts.room
+      → (ws : List (el_x E)) → length ws ≡ length xs → ent 𝓤 (sep 𝓤 (sem 𝓛 (cells (mem (R E)) ws b run)) (sem 𝓛 Others))
+      (sem 𝓛 ((mem (Row E)).own_at (written ws) rb ro))
+  unfolding part_of
+  back at fit start ws same =
+      let new = written ws in let full : new.parts.rest ≡ ws = take_front ws (drop_l (length ws) xs) (length xs) same in
+      let long = length-laid d.parts d.tail in
+      let size : length (all E d) ≡ length (all E new) = omega (arith, length-laid new.parts d.tail, ap length full) in
+      qed 𝓛 (‵ (cells (mem (R E)) ws b run) ∷ ‵ Others ∷ []) ∵
+      use1 𝓛 (‵ (slots (R E) b run (map Some ws))) (of_cells E 𝓛 b ws run) $ move ! (1 ∷ []) $ fsplit3 ! $
+      move ! (3 ∷ 0 ∷ []) $
+      use2 𝓛 (‵ (slots (R E) b o (take from (all E d) ++ (map Some ws ++ drop_l (from + length xs) (all E d)))))
+      (run_in E 𝓛 b o (all E d) from (length xs) (omega arith) (map Some ws) (omega (arith, length-map ws Some))) $
+      rewrite ! 0 (λ (cs : List (Option (el_x E))). ‵ (slots (R E) b o cs)) (rest-written d.parts d.tail from ws start
+      ∙ ap (λ l. laid (builder d.parts.built l d.parts.room) d.tail) (sym full)) refl $
+      use2 𝓛 (‵ ((Row E).own_val new vs)) (closed E new 𝓛 vs b o at (subst (λ k. k * bytes E < 2 ^ 63) size fit)) $
+      move ! (1 ∷ 0 ∷ []) $ fjoin ! $
+      fpack ! (List Val) (λ us. fsep (cell_at full_share (Row E).mir us rb ro) ((Row E).own_val new us)) vs $ done !
 
 pub slice_mut_spec : {M : Type 1} → statement M
 slice_mut_spec 𝓤 𝓛 𝓜 𝓡 wired X L =
@@ -78,60 +80,52 @@ slice_mut_spec 𝓤 𝓛 𝓜 𝓡 wired X L =
     (#self inst) fn (code.unfolded 𝓤 H 𝓜 𝓡 wired (X, tt)) (λ κs. (mut_vals, run_vals E))
     (λ κs. (mut_Tells (named 0) κs.0 (Row E), run-tells E)) (λ κs qs bounds a gh are.
     let rb : ℕ = a.0.ref_ptr.0 in let ro : ℕ = a.0.ref_ptr.1 in let γ : GName = a.0.ghost_name in
-    let d : (Row E).Denot = a.0.now in let base : (Start E).Denot = a.1.0 in
+    let d : (Row E).Denot = a.0.now in let row = all E d in let base : (Start E).Denot = a.1.0 in
     let from : ℕ = a.1.1.0 in let count : ℕ = a.1.1.1.0 in let small_count = are.1.1.1.0.1 in
-    let κ : Lft = κs.0 in let q : Share = qs.0 in let others = ‵ (flft κs.1.0 qs.1.0) ⊛ ‵ ftrue in
+    let κ : Lft = κs.0 in let q : Share = qs.0 in let s : ℕ = bytes E in let xs = d.parts.rest in
     let z : (walk_of 𝓛 Ends hs c).Ghost = ((κs, qs, bounds, a, (mut_vals a.0, valss (run_types E) (run_vals E) a.1)), gh) in
-    let Asked : Type 0 = (base.ptr ≡ d.at) × IsRun d.row from count in
-    let Post : Val → SProp 𝓤 = (walk_of 𝓛 Ends hs c).post z in
-    let s : ℕ = bytes E in
-    let new = written E d from count in let shown = (Row E).coded.code d in
-    qed 𝓛 (((‵ (flft κ q) ⊛ others) ⊛ ‵ (owns (types_at Ends.signature.params κs) a z.0.4)) ∷ raw (fact 𝓤 _) ∷ raw
-    (fact 𝓤 Asked) ∷ []) ∵
+    let Asked : Type 0 = (base.ptr ≡ d.at) × (count ≡ length xs) × (from ≡ length d.parts.built + d.parts.room) in
+    let Post : Val → SProp 𝓤 = (walk_of 𝓛 Ends hs c).post z in let shown = (Row E).coded.code d in
+    qed 𝓛 (((‵ (flft κ q) ⊛ ‵ (flft κs.1.0 qs.1.0) ⊛ ‵ ftrue) ⊛ ‵ (owns (types_at Ends.signature.params κs) a z.0.4))
+    ∷ raw (fact 𝓤 _) ∷ raw (fact 𝓤 Asked) ∷ []) ∵
     keep ! (2 ∷ 0 ∷ []) $ heard ! Asked (λ asked. split ! $ split ! $ move ! (2 ∷ []) $
-    let within = asked.1.0 in let xs : List X.Denot = asked.1.1.0 in let filled = asked.1.1.1 in
-    let long = length-run d.row from count asked.1 in
+    let long = length-laid d.parts d.tail in
     fsplit ! $ fsplit3 ! $ keep ! (1 ∷ 2 ∷ 4 ∷ 5 ∷ []) $
     -- [what self shows; its borrow; the token; the other tokens]
-    enter ! 𝓣.C 𝓣.Λ fn _ Post $ alloc_all !
-    (λ l. pass_all ! refl (
-      (tt, tt),
-      (word-Good [] base.ptr, ((tt, record { fits = are.1.1.0.1 }), ((tt, record { fits = small_count }), tt))),
-    ) $
-    let Ev : Env 𝓤 H = env fn.locals l in
-    opens ! tt (Row E) {h = d} rb ro (λ vs. move ! (1 ∷ []) $ fsplit ! $ move ! (1 ∷ []) $
-    in_a_block ! d.at (λ p. cells_own (R E) p d.row) (id⊢ 𝓤 (never 𝓤)) (λ b o at. fsplit ! $ flt_l ! (λ fit.
-    let far : from * s < 2 ^ 64 = omega (arith, times_below from (length d.row) s (2 ^ 63) (omega arith) fit) in
+    enter ! 𝓣.C 𝓣.Λ fn _ Post $ alloc_all ! (λ l. pass_all ! refl
+    ((tt, tt), (word-Good [] base.ptr, ((tt, record { fits = are.1.1.0.1 }), ((tt, record { fits = small_count }), tt)))) $
+    opens ! tt (Row E) {h = d} rb ro (λ vs. move ! (1 ∷ []) $ opened E d ! vs (λ b o at fit.
+    let far : from * s < 2 ^ 64 = omega (arith, times_below from (length row) s (2 ^ 63) (omega arith) fit) in
     take_at ! 2 $ rewrite ! 0 (λ (p : Ptr). ‵ (fat full_share (layout (Start E)) (l 2) 0 (word p))) (asked.0
     ∙ at) refl $ give_at ! 2 $ first ! $ blocks ! $
     sets ! (is ! (bin ! (get ! refl) (size_word !)
     (record { fits = subst (λ (k : ℕ). k < 2 ^ 64) (sym (uncapped from s far)) far }))
     (ap (vint w64) (uncapped from s far))) refl (tt, record { fits = far }) $
     sets ! (bin ! (get_in ! (fld ! refl (stop !)) (sub ! 0 refl (whole !))) (get ! refl) tt) refl (tt, tt) $
-    let run : ℕ = from * s + o in let all_others = sem 𝓛 (Others E d from count 𝓛 rb ro b o vs) in
-    let way = back E d from count 𝓛 rb ro b o vs at within fit xs long in
-    let roomy : length xs < 2 ^ 64 = omega arith in
-    let fitting = times_below (length xs) (length d.row) s (2 ^ 63) (omega arith) fit in
-    use1 𝓛 (‵ (slots (R E) b run (take count (drop_l from d.row))) ⊛ ‵ (Around E 𝓛 b o d.row from count))
-    (run_out E 𝓛 b o d.row from count within) $ split ! $
-    rewrite ! 0 (λ (cs : List (Option X.Denot)). ‵ (slots (R E) b run cs)) filled refl $
+    let run : ℕ = from * s + o in
+    use1 𝓛 (‵ (slots (R E) b run (take (length xs) (drop_l from row))) ⊛ ‵ (Around E 𝓛 b o row from (length xs)))
+    (run_out E 𝓛 b o row from (length xs) (omega arith)) $ split ! $
+    rewrite ! 0 (λ (cs : List (Option X.Denot)). ‵ (slots (R E) b run cs)) (rest-run d.parts d.tail from asked.2) refl $
     use1 𝓛 (‵ (cells (mem (R E)) xs b run)) (to_cells E 𝓛 b xs run) $
     sets_last ! (agg ! (and_then ! (get ! refl) (and_then ! (get ! refl) (no_more !)))) refl
     (tt, (tt, (record { fits = small_count }, tt))) $
-    exec ! 𝓣.C 𝓣.Λ Ev (tail fn.body) (at_ret Ev Post) $
+    exec ! 𝓣.C 𝓣.Λ (env fn.locals l) (tail fn.body) (at_ret _ Post) $
     sets ! (of_opd ! (get ! refl)) refl (tt, (tt, (record { fits = small_count }, tt))) $
     move ! (1 ∷ 2 ∷ 3 ∷ []) $ fjoin3 ! $ move ! (2 ∷ 3 ∷ 4 ∷ 1 ∷ 0 ∷ []) $ group ! 5 $
     use1 𝓛 (later (some (λ (δ : GName).
     ‵ ((MutSlice (named 0) κ (R E)).own_val (record { ref_ptr = (b, run); ghost_name = δ; now = xs })
-    (slice_val (b, run) (length xs) ∷ [])) ⊛ ‵ (flft κ q) ⊛ ‵ (follows (Row E) (Array (R E) 0) γ δ new))))
-    (lends_Elements 𝓛 (Row E) (R E) new (named 0) κ q rb ro b run γ xs (roomy, fitting) all_others way shown shown) $
+    (slice_val (b, run) (length xs) ∷ [])) ⊛ ‵ (flft κ q) ⊛ ‵ (follows (Row E) (Array (R E) 0) γ δ
+    (written E d 𝓛 rb ro b o from vs)))))
+    (lends_Elements 𝓛 (Row E) (R E) (written E d 𝓛 rb ro b o from vs) (named 0) κ q rb ro b run γ xs
+    (omega arith, times_below (length xs) (length row) s (2 ^ 63) (omega arith) fit)
+    (sem 𝓛 (Others E d 𝓛 rb ro b o from vs)) (back E d 𝓛 rb ro b o from vs at fit asked.2) shown shown) $
     await ! tt $ pick ! (λ δ.
     let r : MutBor (List X.Denot) = record { ref_ptr = (b, run); ghost_name = δ; now = xs } in
     split3 ! $ rewrite ! 0 (λ (k : ℕ).
-    ‵ ((MutSlice (named 0) κ (R E)).own_val r (slice_val (b, run) k ∷ []))) long refl $
+    ‵ ((MutSlice (named 0) κ (R E)).own_val r (slice_val (b, run) k ∷ []))) (sym asked.1) refl $
     -- [the slice; the token; what follows it; the other tokens]
     returns ! (look_at ! 0 refl) $ free_all ! refl $ keep ! (0 ∷ 1 ∷ 2 ∷ 3 ∷ []) $
     suffices ! _ (ends_at 𝓛 Ends hs c z (slice_val (b, run) count) r (tt, (tt, (tt, (tt, tt))))
     (tt, (tt, (tt, (tt, tt))))) $
     nothing ! $ nothing ! $ fjoin ! $ nothing ! $ fjoin ! $ nothing ! $ fjoin ! $ nothing ! $ fjoin ! $ join ! $
-    move ! (1 ∷ 3 ∷ []) $ join ! $ join ! $ frame ! $ says ! (sym (ap somes filled ∙ somes-map xs)) $ done !)))))))
+    move ! (1 ∷ 3 ∷ []) $ join ! $ join ! $ frame ! $ says ! refl $ done !))))))

@@ -1,21 +1,24 @@
 -- `write` fills an empty place. Assumes `Logic`.
 use Rattle.vc_builder.proofs.WalkNames.{◌≡◌, refl, sym, subst, ◌∙◌, List, [], ◌∷◌, ◌++◌, ℕ, ◌+◌, ◌*◌, ◌<◌, ◌^◌, arith}
-use Rattle.vc_builder.proofs.WalkNames.{length, set, get_or, length-set, full_share, SProp, ent, never, id⊢, Lft}
-use Rattle.vc_builder.proofs.WalkNames.{Share, ftrue, fat, flft, a_type, w64, inst_fn, Val, vptr, vint, vunit, Env}
+use Rattle.vc_builder.proofs.WalkNames.{length, set, get_or, full_share, SProp, ent, id⊢, Lft}
+use Rattle.vc_builder.proofs.WalkNames.{Share, ftrue, fat, flft, a_type, w64, inst_fn, Val, vptr, vint, vunit}
 use Rattle.vc_builder.proofs.WalkNames.{WpFn, ‵, raw, ◌⊛◌, at_ret, ◌$◌, ◌∵◌, !, qed, move, keep, use1, use2, split}
-use Rattle.vc_builder.proofs.WalkNames.{join, rewrite, fsplit, fsplit3, fjoin, fjoin3, feq_i, flt_i, flt_l}
+use Rattle.vc_builder.proofs.WalkNames.{join, rewrite, fsplit, fsplit3, fjoin, fjoin3, feq_i}
 use Rattle.vc_builder.proofs.WalkNames.{suffices, frame, done, whole, sub, init, stop, fld, bin, of_opd, unit_lit}
 use Rattle.vc_builder.proofs.WalkNames.{size_lit, assigns_last, first, blocks, exec, returns, enter, alloc_all}
 use Rattle.vc_builder.proofs.WalkNames.{pass_all, free_all, take_at, give_at, look_at, get, get_in, through, sets}
 use Rattle.vc_builder.proofs.WalkNames.{env, fact, tables, ◌⊑◌, no, layout, layouts, owns, Ptr}
-use Rattle.vc_builder.proofs.WalkNames.{in_a_block, plain, types_at, nothing, heard, opens, closes, says, Stays}
+use Rattle.vc_builder.proofs.WalkNames.{plain, types_at, nothing, heard, opens, closes, says, Stays}
 use Rattle.vc_builder.proofs.WalkNames.{stay_dropped, stay_ref, walk_of, ends_at, Goes-dropped, Goes-ref, Some, None}
 use Rattle.vc_builder.proofs.WalkNames.{proved_at, tail, El, R, elτ, one, Good, lawful, times_below, one_below}
 use Rattle.vc_builder.proofs.WalkNames.{as_written, word, word-Good}
-use Rattle.circular_buffer.specs.Ownership.{slot, slots, cells_own}
+use Rattle.circular_buffer.specs.Ownership.{slot, slots}
 use Rattle.vc_builder.proofs.PlacesMemory.{Row, Start, bytes, base-tells, base_stays, base-goes, number_stays, number-goes}
 use Rattle.circular_buffer.proofs.Memory.{value_in, Besides, slot_out, slot_in}
-use Rattle.vc_builder.specs.PlacesLend.{with_row}
+use Rattle.vc_builder.specs.PlacesLend.{with_parts}
+use Rattle.vc_builder.specs.Places.{Turns}
+use Rattle.vc_builder.proofs.PlacesLaid.{turned}
+use Rattle.vc_builder.proofs.PlacesMemory.{all, opened, closed}
 use Rattle.vc_builder.specs.contracts.inplace.places.Places.write.{ended, clauses}
 use Rattle.vc_builder.specs.contracts.inplace.places.Places.write.Key.{name as #self}
 use Rattle.vc_builder.proofs.inplace.places.Places.write.Statement.{statement}
@@ -36,16 +39,16 @@ write_spec 𝓤 𝓛 𝓜 𝓡 wired X L =
     let a = z.0.3 in let vss = z.0.4 in
     let rb : ℕ = a.0.ref_ptr.0 in let ro : ℕ = a.0.ref_ptr.1 in let d : (Row E).Denot = a.0.now in
     let base : (Start E).Denot = a.1.0 in let index : ℕ = a.1.1.0 in let x : X.Denot = a.1.1.1.0 in
-    let Asked : Type 0 = (base.ptr ≡ d.at) × (index < length d.row) × (get_or d.row index None ≡ None) in
+    let row = all E d in let new : (Row E).Denot = with_parts d z.1 in
     let told = one E vss.1.1.1.0 ((lawful E 𝓛).typed x vss.1.1.1.0 are.1.1.1.0) in let v : Val = told.0 in
     let good : Good E v = told.2 in
     let Post : Val → SProp 𝓤 = (walk_of 𝓛 Ends hs c).post z in
     let Run : List Val → SProp 𝓤 = λ ws. WpFn 𝓤 H 𝓣.C 𝓣.Λ fn ws Post in
     let us : List Val = vptr rb ro ∷ word base.ptr ∷ vint w64 index ∷ v ∷ [] in let s : ℕ = bytes E in
-    let new : (Row E).Denot = with_row d (set d.row index (Some x)) in
     qed 𝓛 (((‵ (flft κ q) ⊛ ‵ (flft κ₁ q₁) ⊛ ‵ ftrue) ⊛ ‵ (owns (types_at Ends.signature.params z.0.0) a vss)) ∷ raw
-    (fact 𝓤 (κ₁ ⊑ X.lives)) ∷ raw (fact 𝓤 Asked) ∷ []) ∵
-    keep ! (2 ∷ 0 ∷ []) $ heard ! Asked (λ asked. split ! $ split ! $ move ! (2 ∷ []) $
+    (fact 𝓤 (κ₁ ⊑ X.lives)) ∷ raw (fact 𝓤 ((base.ptr ≡ d.at) × Turns row (all E new) index None (Some x))) ∷ []) ∵
+    keep ! (2 ∷ 0 ∷ []) $ heard ! _ (λ asked. split ! $ split ! $ move ! (2 ∷ []) $
+    let place = turned asked.1 in
     fsplit ! $ fsplit3 ! $ move ! (3 ∷ []) $ fsplit3 ! $ move ! (2 ∷ []) $ fsplit ! $ keep ! (5 ∷ 6 ∷ 7 ∷ 0 ∷ 8 ∷ []) $
     rewrite ! 3 (λ (ws : List Val). ‵ ((R E).own_val x ws)) told.1 refl $
     suffices ! (Run us) (subst (λ (ws : List Val). ent 𝓤 (Run us) (Run ws))
@@ -53,40 +56,32 @@ write_spec 𝓤 𝓛 𝓜 𝓡 wired X L =
     -- [what self shows; its borrow; the token; what the value owns; the other tokens]
     enter ! 𝓣.C 𝓣.Λ fn us Post $ alloc_all !
     (λ l. pass_all ! refl ((tt, tt), (word-Good [] base.ptr, ((tt, record { fits = are.1.1.0.1 }), (good, tt)))) $
-    let Ev : Env 𝓤 H = env fn.locals l in
-    opens ! tt (Row E) {h = d} rb ro (λ vs. move ! (1 ∷ []) $ fsplit ! $ move ! (1 ∷ []) $
-    in_a_block ! d.at (λ p. cells_own (R E) p d.row) (id⊢ 𝓤 (never 𝓤)) (λ b o at. fsplit ! $ flt_l ! (λ fit.
-    let tiny : s < 2 ^ 64 = omega (arith, one_below (length d.row) s (2 ^ 63) (omega (arith, asked.1)) fit) in
-    let far : index * s < 2 ^ 64 = omega (
-      arith,
-      times_below index (length d.row) s (2 ^ 63) (omega (arith, asked.1)) fit,
-    ) in
+    opens ! tt (Row E) {h = d} rb ro (λ vs. move ! (1 ∷ []) $ opened E d ! vs (λ b o at fit.
+    let tiny : s < 2 ^ 64 = omega (arith, one_below (length row) s (2 ^ 63) (omega (arith, place.0)) fit) in
+    let far : index * s < 2 ^ 64 = omega (arith, times_below index (length row) s (2 ^ 63) (omega (arith, place.0)) fit) in
     take_at ! 2 $ rewrite ! 0 (λ (p : Ptr). ‵ (fat full_share (layout (Start E)) (l 2) 0 (word p))) (asked.0
     ∙ at) refl $ give_at ! 2 $ first ! $ blocks ! $
-    sets ! (bin ! (get ! refl) (size_lit ! (record { fits = tiny })) (record { fits = far })) refl (
-      tt,
-      record { fits = far },
-    ) $
+    sets ! (bin ! (get ! refl) (size_lit ! (record { fits = tiny })) (record { fits = far })) refl
+    (tt, record { fits = far }) $
     sets ! (bin ! (get_in ! (fld ! refl (stop !)) (sub ! 0 refl (whole !))) (get ! refl) tt) refl (tt, tt) $
-    use1 𝓛 (‵ (slot (R E) b (index * s + o) (get_or d.row index None)) ⊛ ‵ (Besides E 𝓛 b o d.row index))
-    (slot_out E 𝓛 b o d.row index asked.1) $ split ! $
-    rewrite ! 0 (λ (cell : Option X.Denot). ‵ (slot (R E) b (index * s + o) cell)) asked.2 refl $
+    use1 𝓛 (‵ (slot (R E) b (index * s + o) (get_or row index None)) ⊛ ‵ (Besides E 𝓛 b o row index))
+    (slot_out E 𝓛 b o row index place.0) $ split ! $
+    rewrite ! 0 (λ (cell : Option X.Denot). ‵ (slot (R E) b (index * s + o) cell)) place.1 refl $
     as_written ! (elτ E) b (index * s + o) $
     -- [the room; the other places; the mark; its cell; the open borrow, in three; what the value owns; the other
     -- tokens]
     sets ! (of_opd ! (get ! refl)) refl good $
     assigns_last ! (of_opd ! (get ! refl)) (through ! refl (stop !)) (init ! 0 refl good) $
-    exec ! 𝓣.C 𝓣.Λ Ev (tail fn.body) (at_ret Ev Post) $ sets ! (of_opd ! (unit_lit !)) refl (tt, tt) $
+    exec ! 𝓣.C 𝓣.Λ (env fn.locals l) (tail fn.body) (at_ret _ Post) $ sets ! (of_opd ! (unit_lit !)) refl (tt, tt) $
     move ! (0 ∷ 7 ∷ []) $ use2 𝓛 (‵ (slot (R E) b (index * s + o) (Some x)))
     (value_in 0 E.row E.laws 𝓛 x b (index * s + o) v) $
-    use2 𝓛 (‵ (slots (R E) b o new.row)) (slot_in E 𝓛 b o d.row index asked.1 (Some x)) $
-    flt_i ! (length new.row * s) (2 ^ 63) (subst (λ k. k * s < 2 ^ 63) (sym (length-set d.row index (Some x))) fit) $
-    fjoin ! $
-    rewrite ! 0 (λ (p : Ptr). ‵ (cells_own (R E) p new.row)) (sym at) refl $ move ! (1 ∷ 0 ∷ []) $ fjoin ! $
+    use2 𝓛 (‵ (slots (R E) b o (set row index (Some x)))) (slot_in E 𝓛 b o row index place.0 (Some x)) $
+    rewrite ! 0 (λ (cs : List (Option X.Denot)). ‵ (slots (R E) b o cs)) place.2 refl $
+    use2 𝓛 (‵ ((Row E).own_val new vs)) (closed E new 𝓛 vs b o at (subst (λ k. k * s < 2 ^ 63) place.3 fit)) $
     move ! (1 ∷ 0 ∷ []) $ closes ! tt (Row E) new vs rb ro $
     returns ! (look_at ! 0 refl) $ free_all ! refl $ keep ! (0 ∷ 1 ∷ 2 ∷ 3 ∷ []) $
     suffices ! _ (ends_at 𝓛 Ends hs c z vunit tt (new, (tt, (tt, (tt, tt)))) (tt, (tt, (tt, (tt, tt))))) $
-    says ! (refl, refl) $
+    says ! (refl, refl, refl) $
     move ! (2 ∷ 3 ∷ []) $ join ! $ frame ! $ feq_i ! (List Val) vss.0 (vptr rb ro ∷ []) are.0.0 $ fjoin3 ! $ nothing ! $
     nothing ! $ fjoin ! $ nothing ! $ fjoin ! $ nothing ! $ fjoin ! $ move ! (1 ∷ 0 ∷ []) $ fjoin ! $
-    feq_i ! (List Val) (vunit ∷ []) (vunit ∷ []) refl $ move ! (1 ∷ 0 ∷ []) $ done !))))))
+    feq_i ! (List Val) (vunit ∷ []) (vunit ∷ []) refl $ move ! (1 ∷ 0 ∷ []) $ done !)))))
