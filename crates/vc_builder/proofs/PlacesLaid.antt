@@ -1,7 +1,7 @@
 -- How parts lie in a row of places, and what a write, a read or a run of the places makes of them.
 use Rattle.std.proofs.Common.{◌≡◌, ℕ, suc, ◌+◌, ◌-◌, ◌<◌, List, [], ◌∷◌, ◌++◌, map, length, take, drop, set, get_or}
 use Rattle.std.proofs.Common.{replicate, Option, Some, None, refl, sym, ap, ◌∙◌, arith, length-append, append_assoc, append-nil}
-use Rattle.std.proofs.Common.{take_at, drop_at}
+use Rattle.std.proofs.Common.{take_at, drop_at, drop-drop, take-add}
 use Rattle.std.proofs.lemmas.List.{get_or_at, length-map, length-replicate, map-append, replicate-append-replicate}
 use Rattle.std.proofs.lemmas.List.{replicate_more, set_at, take-append-drop}
 use Rattle.vc_builder.specs.Builder.{Builder, builder}
@@ -19,20 +19,11 @@ module _ {X : Type 0} where
   )
 
   pub length-front : (s : Builder X) → length (front s) ≡ length s.built + s.room
-  length-front s = let none : Option X = None in
-      omega (arith, length-append (map Some s.built) (replicate s.room none), length-map s.built Some, length-replicate s.room none)
+  length-front s = simp (length-append, length-map, length-replicate)
 
   pub length-laid : (s : Builder X) (tail : ℕ) → length (laid s tail) ≡ length s.built + s.room + length s.rest + tail
   unfolding laid
-  length-laid s tail = let none : Option X = None in let others = map Some s.rest ++ replicate tail none in
-      omega (
-        arith,
-        length-append (front s) others,
-        length-front s,
-        length-append (map Some s.rest) (replicate tail none),
-        length-map s.rest Some,
-        length-replicate tail none,
-      )
+  length-laid s tail = simp (length-append, length-map, length-replicate) (omega arith)
 
   pub laid-empty : (room tail n : ℕ) → room + tail ≡ n → laid {X = X} (builder [] [] room) tail ≡ replicate n None
   unfolding laid
@@ -42,25 +33,23 @@ module _ {X : Type 0} where
   pub laid-passed : (s : Builder X) (tail n : ℕ) → s.room ≡ 0
       → laid s tail ≡ laid (builder (s.built ++ take n s.rest) (drop n s.rest) 0) tail
   unfolding laid
-  laid-passed s tail n none = rw none (simp (append-nil, map-append, append_assoc)
-      (ap (λ l. map Some s.built ++ l) (ap (λ l. map Some l ++ replicate tail None) (sym (take-append-drop n s.rest))
-      ∙ simp (map-append, append_assoc))))
+  laid-passed s tail n none = ap (λ l. front s ++ (map Some l ++ replicate tail None)) (sym (take-append-drop n s.rest))
+      ∙ rw none (simp (append-nil, map-append, append_assoc))
 
   -- where none are left, the built ones lie as those that are left
   pub laid-poured : (s : Builder X) (tail : ℕ) → s.rest ≡ [] → laid s tail ≡ laid (builder [] s.built 0) (s.room + tail)
   unfolding laid
-  laid-poured s tail none = rw none (append_assoc (map Some s.built) (replicate s.room None) (replicate tail None)
-      ∙ ap (λ l. map Some s.built ++ l) (replicate-append-replicate s.room tail None))
+  laid-poured s tail none = rw none (simp (append_assoc, replicate-append-replicate))
 
-  uncons : (l : List X) → 0 < length l → (x : X) × (l ≡ x ∷ drop 1 l)
+  -- a list that is not empty begins with an element
+  pub uncons : (l : List X) → 0 < length l → (x : X) × (l ≡ x ∷ drop 1 l)
   uncons [] h = absurd (omega arith)
   uncons (x ∷ l) h = (x, refl)
 
   -- a hole ends with an empty place
   hole-ends : (xs : List X) (hole : ℕ) (others : List (Option X))
       → (map Some xs ++ replicate (hole + 1) None) ++ others ≡ (map Some xs ++ replicate hole None) ++ None ∷ others
-  hole-ends xs hole others = simp append_assoc (ap (λ l. map Some xs ++ (l ++ others)) (sym (replicate_more hole None))
-      ∙ ap (λ l. map Some xs ++ l) (append_assoc (replicate hole None) (None ∷ []) others))
+  hole-ends xs hole others = rw (← replicate_more {X = Option X} hole None) (simp append_assoc)
 
   module _ (s : Builder X) (tail i : ℕ) where
     -- the places past the hole
@@ -75,8 +64,7 @@ module _ {X : Type 0} where
       before = map Some s.built;
       after = replicate (s.room - 1) None ++ past;
       at = length-map s.built Some ∙ sym at;
-      was = ap (λ k. (map Some s.built ++ replicate k None) ++ past) less
-          ∙ append_assoc (map Some s.built) (replicate (suc (s.room - 1)) None) past;
+      was = ap (λ k. (map Some s.built ++ replicate k None) ++ past) less ∙ simp append_assoc;
       is = simp (map-append, append_assoc);
     }
 
@@ -93,35 +81,50 @@ module _ {X : Type 0} where
     }
 
     -- the first of those that are left goes, and the hole is wider
-    pub taken : 0 < length s.rest → i ≡ length s.built + s.room → (x : X) × (s.rest ≡ x ∷ drop 1 s.rest)
-        × Turns (laid s tail) (laid (builder s.built (drop 1 s.rest) (s.room + 1)) tail) i (Some x) None
+    pub taken : (x : X) → s.rest ≡ x ∷ drop 1 s.rest → i ≡ length s.built + s.room
+        → Turns (laid s tail) (laid (builder s.built (drop 1 s.rest) (s.room + 1)) tail) i (Some x) None
     unfolding laid
-    taken some at = let e = uncons s.rest some in (
-      e.0,
-      e.1,
-      record {
-        before = front s;
-        after = map Some (drop 1 s.rest) ++ replicate tail None;
-        at = length-front s ∙ sym at;
-        was = ap (λ l. front s ++ (map Some l ++ replicate tail None)) e.1;
-        is = hole-ends s.built s.room (map Some (drop 1 s.rest) ++ replicate tail None);
-      },
-    )
+    taken x e at = record {
+      before = front s;
+      after = map Some (drop 1 s.rest) ++ replicate tail None;
+      at = length-front s ∙ sym at;
+      was = ap (λ l. front s ++ (map Some l ++ replicate tail None)) e;
+      is = hole-ends s.built s.room (map Some (drop 1 s.rest) ++ replicate tail None);
+    }
 
-    -- those that are left are a run of the places
-    pub rest-run : i ≡ length s.built + s.room → take (length s.rest) (drop i (laid s tail)) ≡ map Some s.rest
-    unfolding laid
-    rest-run at = ap (take (length s.rest)) (drop_at (front s) past i (length-front s ∙ sym at))
-        ∙ take_at (map Some s.rest) (replicate tail None) (length s.rest) (length-map s.rest Some)
+    module _ (at : i ≡ length s.built + s.room) where
+      -- those that are left lie past the hole
+      rest-at : drop i (laid s tail) ≡ past
+      unfolding laid
+      rest-at = drop_at (front s) past i (length-front s ∙ sym at)
 
-    -- and may be written over
-    pub rest-written : (zs : List X) → i ≡ length s.built + s.room
-        → take i (laid s tail) ++ (map Some zs ++ drop (i + length s.rest) (laid s tail)) ≡ laid (builder s.built zs s.room) tail
-    unfolding laid
-    rest-written zs at = let none : Option X = None in let low = length-front s ∙ sym at in
-        let high : length (front s ++ map Some s.rest) ≡ i + length s.rest
-        = omega (arith, length-append (front s) (map Some s.rest), length-map s.rest Some, low) in
-        ap (λ l. l ++ (map Some zs ++ drop (i + length s.rest) (laid s tail))) (take_at (front s) past i low)
-        ∙ ap (λ l. front s ++ (map Some zs ++ l)) (ap (drop (i + length s.rest))
-        (sym (append_assoc (front s) (map Some s.rest) (replicate tail none)))
-        ∙ drop_at (front s ++ map Some s.rest) (replicate tail None) (i + length s.rest) high)
+      -- they are a run of the places
+      pub rest-run : take (length s.rest) (drop i (laid s tail)) ≡ map Some s.rest
+      rest-run = rw rest-at (take_at (map Some s.rest) (replicate tail None) (length s.rest) (length-map s.rest Some))
+
+      -- and may be written over
+      pub rest-written : (zs : List X) → take i (laid s tail) ++ (map Some zs ++ drop (i + length s.rest) (laid s tail))
+          ≡ laid (builder s.built zs s.room) tail
+      unfolding laid
+      rest-written zs = rw (
+        ← drop-drop (length s.rest) i (laid s tail),
+        rest-at,
+        take_at (front s) past i (length-front s ∙ sym at),
+        drop_at (map Some s.rest) (replicate {A = Option X} tail None) (length s.rest) (length-map s.rest Some),
+      )
+
+-- what is left once one more was taken
+pub drop_next : {X : Type 0} (i : ℕ) (xs : List X) → drop 1 (drop i xs) ≡ drop (i + 1) xs
+drop_next i xs = drop-drop 1 i xs
+
+-- what was taken, with one more
+pub take_next : {X : Type 0} (built xs : List X) (i : ℕ) (x : X) → drop i xs ≡ x ∷ drop 1 (drop i xs)
+    → (built ++ take i xs) ++ x ∷ [] ≡ built ++ take (i + 1) xs
+take_next built xs i x e = append_assoc built (take i xs) (x ∷ [])
+    ∙ ap (λ l. built ++ l) (sym (take-add i 1 xs ∙ ap (λ l. take i xs ++ take 1 l) e))
+
+-- how parts that change lie
+pub ruleset laid_steps = (put-built, put-rest, laid-passed, laid-poured)
+
+-- what a loop over those that are left takes of them
+pub ruleset loop_steps = (drop_next, take_next)

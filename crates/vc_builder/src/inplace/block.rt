@@ -58,6 +58,7 @@ impl<T, A: Allocator> Block<T, A> {
     }
 
     /// Puts a value in front of those that are left.
+    #[tactic(auto, using(crate::proofs::PlacesLaid::laid_steps))]
     pub(super) fn put_rest(&mut self, value: T)
         requires { IsBlock self.old × (0 < self.old.places.parts.room) }
         ensures { let parts = self.old.places.parts in Becomes self.old self.new
@@ -68,6 +69,7 @@ impl<T, A: Allocator> Block<T, A> {
     }
 
     /// Puts a value behind the built ones.
+    #[tactic(auto, using(crate::proofs::PlacesLaid::laid_steps))]
     pub(super) fn put_built(&mut self, value: T)
         requires { IsBlock self.old × (0 < self.old.places.parts.room) }
         ensures { let parts = self.old.places.parts in Becomes self.old self.new
@@ -91,6 +93,7 @@ impl<T, A: Allocator> Block<T, A> {
 
     /// Counts the first `count` of those that are left as built. There is no hole, so none of them
     /// moves.
+    #[tactic(auto, using(crate::proofs::PlacesLaid::laid_steps))]
     pub(super) fn pass(&mut self, count: usize)
         requires { IsBlock self.old × (self.old.places.parts.room ≡ 0)
             × (count ≤ length self.old.places.parts.rest) }
@@ -103,6 +106,7 @@ impl<T, A: Allocator> Block<T, A> {
     }
 
     /// Moves the first `count` of those that are left over the hole, behind the built ones.
+    #[tactic(auto, using(crate::proofs::PlacesLaid::loop_steps))]
     pub(super) fn move_down(&mut self, count: usize)
         requires { IsBlock self.old × (count ≤ length self.old.places.parts.rest) }
         ensures { let parts = self.old.places.parts in Becomes self.old self.new
@@ -136,6 +140,7 @@ impl<T, A: Allocator> Block<T, A> {
     }
 
     /// Drops the first `count` of those that are left.
+    #[tactic(auto, using(crate::proofs::PlacesLaid::loop_steps))]
     pub(super) fn drop_rest(&mut self, count: usize)
     where
         T: Drop,
@@ -149,6 +154,7 @@ impl<T, A: Allocator> Block<T, A> {
     }
 
     /// Moves the built elements to the end of `list`.
+    #[tactic(auto, using(crate::proofs::PlacesLaid::laid_steps))]
     pub(super) fn pour(&mut self, list: &mut Vec<T, A>)
         requires { IsBlock self.old × (self.old.places.parts.rest ≡ [])
             × (vec_len list.old + self.old.capacity ≤ vec_capacity list.old) }

@@ -15,7 +15,7 @@ use Rattle.vc_builder.proofs.WalkNames.{word-Good}
 use Rattle.vc_builder.specs.PlacesLend.{with_parts}
 use Rattle.vc_builder.specs.Builder.{builder}
 use Rattle.vc_builder.proofs.WalkNames.{◌+◌, drop_l}
-use Rattle.vc_builder.proofs.PlacesLaid.{taken, turned}
+use Rattle.vc_builder.proofs.PlacesLaid.{taken, turned, uncons}
 use Rattle.vc_builder.proofs.PlacesMemory.{all, opened, closed}
 use Rattle.circular_buffer.specs.Ownership.{slot, slots}
 use Rattle.vc_builder.proofs.PlacesMemory.{Row, Start, bytes, base_vals, base-tells, base_stays, base-goes}
@@ -48,7 +48,8 @@ read_spec 𝓤 𝓛 𝓜 𝓡 wired X L =
     qed 𝓛 (((‵ (flft κs.0 qs.0) ⊛ ‵ (flft κs.1.0 qs.1.0) ⊛ ‵ ftrue) ⊛ ‵ (owns (types_at Ends.signature.params κs) a z.0.4))
     ∷ raw (fact 𝓤 _) ∷ raw (fact 𝓤 Asked) ∷ []) ∵
     keep ! (2 ∷ 0 ∷ []) $ heard ! Asked (λ asked. split ! $ split ! $ move ! (2 ∷ []) $
-    let taking = taken d.parts d.tail index asked.1 asked.2 in let x : X.Denot = taking.0 in let place = turned taking.2 in
+    let first' = uncons d.parts.rest asked.1 in let x : X.Denot = first'.0 in
+    let place = turned (taken d.parts d.tail index x first'.1 asked.2) in
     fsplit ! $ fsplit3 ! $ keep ! (1 ∷ 2 ∷ 4 ∷ 5 ∷ []) $
     -- [what self shows; its borrow; the token; the other tokens]
     enter ! 𝓣.C 𝓣.Λ fn _ Post $ alloc_all !
@@ -78,6 +79,6 @@ read_spec 𝓤 𝓛 𝓜 𝓡 wired X L =
     use2 𝓛 (‵ ((Row E).own_val new vs)) (closed E new 𝓛 vs b o at (subst (λ k. k * s < 2 ^ 63) place.3 fit)) $
     move ! (1 ∷ 0 ∷ []) $ closes ! tt (Row E) new vs rb ro $
     returns ! (look_at ! 0 refl) $ free_all ! refl $ keep ! (0 ∷ 1 ∷ 2 ∷ 3 ∷ 4 ∷ []) $
-    suffices ! _ (ends_at 𝓛 Ends hs c z v x (new, (tt, (tt, tt))) (tt, (tt, (tt, tt)))) $ says ! (taking.1, refl, refl, refl) $
+    suffices ! _ (ends_at 𝓛 Ends hs c z v x (new, (tt, (tt, tt))) (tt, (tt, (tt, tt)))) $ says ! (first'.1, refl, refl, refl) $
     move ! (2 ∷ 4 ∷ []) $ join ! $ frame ! $ feq_i ! (List Val) (mut_vals a.0) (mut_vals a.0) refl $ fjoin3 ! $ nothing ! $
     nothing ! $ fjoin ! $ nothing ! $ fjoin ! $ move ! (1 ∷ 0 ∷ []) $ fjoin ! $ done !)))))))

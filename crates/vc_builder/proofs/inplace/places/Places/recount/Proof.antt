@@ -36,4 +36,5 @@ recount_spec 𝓤 𝓛 𝓜 𝓡 wired X L =
     returns ! (look_at ! 0 refl) $ free_all ! refl $ keep ! (0 ∷ 1 ∷ 2 ∷ 3 ∷ []) $
     suffices ! _ (ends_at 𝓛 Ends hs c z vunit tt (new, (tt, tt)) (tt, (tt, tt))) $ says ! (refl, refl, refl) $
     move ! (2 ∷ 3 ∷ []) $ join ! $ frame ! $ feq_i ! (List Val) (mut_vals a.0) (mut_vals a.0) refl $ fjoin3 ! $ nothing ! $
-    nothing ! $ fjoin ! $ move ! (1 ∷ 0 ∷ []) $ fjoin ! $ feq_i ! (List Val) (vunit ∷ []) (vunit ∷ []) refl $ move ! (1 ∷ 0 ∷ []) $ done !))))
+    nothing ! $ fjoin ! $ move ! (1 ∷ 0 ∷ []) $ fjoin ! $ feq_i ! (List Val) (vunit ∷ []) (vunit ∷ []) refl $
+    move ! (1 ∷ 0 ∷ []) $ done !))))

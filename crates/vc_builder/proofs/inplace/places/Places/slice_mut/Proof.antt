@@ -63,7 +63,7 @@ module _ (E : El) (d : (Row E).Denot) {M : Type 1} {𝓤 : Ura M} (𝓛 : Logic 
       move ! (3 ∷ 0 ∷ []) $
       use2 𝓛 (‵ (slots (R E) b o (take from (all E d) ++ (map Some ws ++ drop_l (from + length xs) (all E d)))))
       (run_in E 𝓛 b o (all E d) from (length xs) (omega arith) (map Some ws) (omega (arith, length-map ws Some))) $
-      rewrite ! 0 (λ (cs : List (Option (el_x E))). ‵ (slots (R E) b o cs)) (rest-written d.parts d.tail from ws start
+      rewrite ! 0 (λ (cs : List (Option (el_x E))). ‵ (slots (R E) b o cs)) (rest-written d.parts d.tail from start ws
       ∙ ap (λ l. laid (builder d.parts.built l d.parts.room) d.tail) (sym full)) refl $
       use2 𝓛 (‵ ((Row E).own_val new vs)) (closed E new 𝓛 vs b o at (subst (λ k. k * bytes E < 2 ^ 63) size fit)) $
       move ! (1 ∷ 0 ∷ []) $ fjoin ! $
