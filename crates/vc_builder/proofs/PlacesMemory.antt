@@ -1,16 +1,16 @@
 -- What the proofs by hand over the places share: the types that they speak of, and what is passed in and dropped.
 --   base-tells       a base tells its machine value
 --   base-goes, number-goes       nothing is had of a base or a number at the end
---   mark-told, title-told       owners of no bytes tell their machine value; run-tells       so does what says a run of places
+--   mark-told, title-told       owners of no bytes tell their machine value
 --   opened, closed       the owner of the places is taken apart, and made of its parts
 use Rattle.vc_builder.proofs.WalkNames.{◌≡◌, refl, ap, sym, ◌∙◌, List, [], ◌∷◌, ◌++◌, ℕ, Val, vstruct, of_list, Ura, Logic}
 use Rattle.vc_builder.proofs.WalkNames.{yes, no, usize, ◌*◌, ◌<◌, ◌^◌, id⊢, never, sep, ent, sem, ‵, ◌$◌, ◌∵◌, !, qed, move}
-use Rattle.vc_builder.proofs.WalkNames.{RattleType, type_size, El, R, Is, plain, Stay, Goes, stay_dropped, Goes-dropped, word}
+use Rattle.vc_builder.proofs.WalkNames.{RattleType, type_size, El, R, Is, plain, Goes, stay_dropped, Goes-dropped, word}
 use Rattle.vc_builder.proofs.WalkNames.{length, Option, el_x, Item, Goal, Seq, Ptr, block_ptr, in_a_block, fsplit, fjoin}
-use Rattle.vc_builder.proofs.WalkNames.{flt_i, flt_l, rewrite, done, w64, uint_vals, uint_Tells}
+use Rattle.vc_builder.proofs.WalkNames.{flt_i, flt_l, rewrite, done}
 use Rattle.circular_buffer.specs.Ownership.{slots, cells_own}
 use Rattle.vc_builder.specs.Places.{laid}
-use denote.Laws.{Tells, Tellss, Ises, Spells}
+use denote.Laws.{Tells}
 use Rattle.circular_buffer.proofs.Memory.{mark}
 use denote.Struct.Struct.{Struct}
 use denote.Struct.Owning.{shape}
@@ -47,10 +47,7 @@ module _ (E : El) where
   pub base-tells : Tells Start (Is Start) base_vals
   base-tells b vs is = is.1.0 ∙ ap (λ (ws : List Val). vstruct (of_list (ws ++ [])) ∷ []) is.1.1.0
 
-  abbrev pub base_stays : (n : ℕ) → Stay {n = n} (plain (λ _. Start)) no
-  base_stays n = stay_dropped (plain (λ _. Start)) no
-
-  pub base-goes : (n : ℕ) {M : Type 1} {𝓤 : Ura M} (𝓛 : Logic 𝓤) → Goes 𝓛 n (plain (λ _. Start)) no (base_stays n)
+  pub base-goes : (n : ℕ) {M : Type 1} {𝓤 : Ura M} (𝓛 : Logic 𝓤) → Goes 𝓛 n (plain (λ _. Start)) no (stay_dropped _ no)
   base-goes n 𝓛 = Goes-dropped 𝓛 n (plain (λ _. Start)) no (λ κs x f. refl)
 
   module _ (d : Row.Denot) where
@@ -79,19 +76,5 @@ module _ (E : El) (Z : Al) where
   pub title-told : (d : Title.Denot) (vs : List Val) → Is Title d vs → vs ≡ mark ∷ []
   title-told d vs is = is.0.1.0 ∙ ap (λ (ws : List Val). vstruct (of_list (ws ++ [])) ∷ []) is.0.1.1.0.1.0
 
-abbrev pub number_stays : (n : ℕ) → Stay {n = n} (plain (λ _. usize)) yes
-number_stays n = stay_dropped (plain (λ _. usize)) yes
-
-pub number-goes : (n : ℕ) {M : Type 1} {𝓤 : Ura M} (𝓛 : Logic 𝓤) → Goes 𝓛 n (plain (λ _. usize)) yes (number_stays n)
+pub number-goes : (n : ℕ) {M : Type 1} {𝓤 : Ura M} (𝓛 : Logic 𝓤) → Goes 𝓛 n (plain (λ _. usize)) yes (stay_dropped _ yes)
 number-goes n 𝓛 = Goes-dropped 𝓛 n (plain (λ _. usize)) yes (λ κs x f. refl)
-
--- a base and two numbers, which say a run of places
-module _ (E : El) where
-  abbrev pub run_types : List RattleType
-  run_types = Start E ∷ usize ∷ usize ∷ []
-
-  abbrev pub run_vals : Spells run_types
-  run_vals = (base_vals E, (uint_vals w64, (uint_vals w64, tt)))
-
-  pub run-tells : Tellss run_types (Ises run_types) run_vals
-  run-tells = (base-tells E, (uint_Tells w64, (uint_Tells w64, tt)))

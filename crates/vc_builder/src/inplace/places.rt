@@ -3,7 +3,6 @@
 ghost use Rattle.std.specs.Prelude.{◌≡◌, ℕ, ◌+◌, ◌<◌, [], ◌∷◌, Some, None, length, drop, IfOk, ⊤};
 ghost use Rattle.std.specs.Borrow.{sem};
 ghost use Rattle.std.specs.Vec.Ownership.{FitsInBlock};
-ghost use base.Fml.{ftrue};
 ghost use denote.RawPtr.{Ptr};
 ghost use Rattle.circular_buffer.specs.Ownership.{cells_own, cells_lent, deed_owns};
 ghost use Rattle.vc_builder.specs.Builder.{Builder, builder, builder_code};
@@ -56,8 +55,6 @@ pub struct Deed<T, A: Allocator> {
 
 impl<T, A: Allocator> Model for Deed<T, A> {
     ghost also_owns = { λ d. deed_owns T.row (A.dealloc_token d.alloc) d.at d.count };
-
-    ghost also_shares = { λ _ _ _. ftrue };
 }
 
 /// A block of `count` empty places.

@@ -38,7 +38,7 @@ use Rattle.vc_builder.specs.Builder.{builder}
 use Rattle.vc_builder.proofs.PlacesLaid.{laid-empty}
 use Rattle.vc_builder.proofs.WalkNames.{List, Option, rewrite, ◌∙◌}
 use Rattle.vc_builder.proofs.PlacesMemory.{all, closed}
-use Rattle.vc_builder.proofs.PlacesMemory.{Title, Row, Start, Mark, bytes, number_stays, number-goes}
+use Rattle.vc_builder.proofs.PlacesMemory.{Title, Row, Start, Mark, bytes, number-goes}
 use Rattle.vc_builder.proofs.WalkNames.{named, proved, shr_vals, shr_Tells, uint_vals, uint_Tells}
 use Rattle.circular_buffer.proofs.Memory.{mark, mark_made, word_made, three_val, three_of, of_room}
 use Rattle.vc_builder.specs.contracts.inplace.places.allocate.{ended, clauses}
@@ -51,21 +51,18 @@ allocate_spec 𝓤 𝓛 𝓜 𝓡 wired X W LX LW g d dd met md =
     let H = 𝓛.H in let 𝓣 = tables 𝓤 H 𝓜 𝓡 𝓡.env in let E : El = record { row = X; laws = LX } in
     let Z : Al = record { row = W; laws = LW; g = g; d = d; drops = dd } in
     let Ends = ended X W g d dd in let c = clauses X W g d dd 𝓛 𝓜.mem 𝓡.returns in
-    let fn = inst_fn (args E Z) code.function in
-    let lender = RefOf (0 ∷ []) tt (plain (λ _. P E Z)) (λ _. tt) in
-    let hs : Stays Ends.signature.params Ends.kept = (stay_dropped lender yes, (number_stays 3, tt)) in
-    let Deed : RattleType = Title E Z in
-    let Three : RattleType = Tuple (Start E ∷ Row E ∷ Deed ∷ []) in
+    let fn = inst_fn (args E Z) code.function in let Request = Takes Z 𝓛 𝓜.mem 𝓡.returns in
+    let hs : Stays Ends.signature.params Ends.kept = (stay_dropped _ yes, (stay_dropped _ yes, tt)) in
+    let Deed : RattleType = Title E Z in let Three : RattleType = Tuple (Start E ∷ Row E ∷ Deed ∷ []) in
     let Out : RattleType = results.the_row Three errors.the_row in
-    let Request = Takes Z 𝓛 𝓜.mem 𝓡.returns in
+    let lender = RefOf (0 ∷ []) tt (plain (λ _. P E Z)) (λ _. tt) in
     proved 𝓛 Ends hs c 𝓜 𝓡 (Goes-dropped 𝓛 3 lender yes (λ κs x f. refl), (number-goes 3 𝓛, tt))
     (#self (args E Z)) fn (code.unfolded 𝓤 H 𝓜 𝓡 wired (X, (W, tt)) d dd) (λ κs. (shr_vals, (uint_vals w64, tt)))
     (λ κs. (shr_Tells (named 0) κs.0 (P E Z), (uint_Tells w64, tt))) (λ κs qs bounds x gh are.
-    let κ : Lft = κs.0 in let q : Share = qs.0 in
+    let κ : Lft = κs.0 in let q : Share = qs.0 in let at₀ = x.0.ref_ptr in let a : W.Denot = x.0.now in
     let others : Item 𝓤 = ‵ (flft κs.1.0 qs.1.0) ⊛ ‵ (flft κs.1.1.0 qs.1.1.0) ⊛ ‵ ftrue in
-    let rb : ℕ = x.0.ref_ptr.0 in let ro : ℕ = x.0.ref_ptr.1 in let a : W.Denot = x.0.now in let count : ℕ = x.1.0 in
-    let z : (walk_of 𝓛 Ends hs c).Ghost = ((κs, qs, bounds, x, (shr_vals x.0, (uint_vals w64 count, tt))), gh) in
-    let Asked : Type 0 = FitsInBlock (R E) count in let s : ℕ = bytes E in
+    let count : ℕ = x.1.0 in let s : ℕ = bytes E in let alignment : ℕ = capped (align (elτ E)) in
+    let z : (walk_of 𝓛 Ends hs c).Ghost = ((κs, qs, bounds, x, _), gh) in
     let Post : Val → SProp 𝓤 = (walk_of 𝓛 Ends hs c).post z in
     let leave : (r : Out.Denot) (v : Val)
     → IfOk r (λ t. (t.1.at ≡ t.0.ptr) × (t.1.parts ≡ builder [] [] count) × (t.1.tail ≡ 0) × (t.2.at ≡ t.0.ptr)
@@ -75,29 +72,27 @@ allocate_spec 𝓤 𝓛 𝓜 𝓡 wired X W LX LW g d dd met md =
     suffices ! _ (ends_at 𝓛 Ends hs c z v r (tt, (tt, tt)) (tt, (tt, tt))) $ says ! told $
     move ! (1 ∷ 2 ∷ []) $ join ! $ frame ! $ nothing ! $ nothing ! $ fjoin ! $ nothing ! $ fjoin ! $ done ! in
     qed 𝓛 (((‵ (flft κ q) ⊛ others) ⊛ ‵ (owns (types_at Ends.signature.params κs) x z.0.4)) ∷ raw (fact 𝓤 _) ∷ raw
-    (fact 𝓤 (κs.1.1.0 ⊑ W.lives)) ∷ raw (fact 𝓤 Asked) ∷ []) ∵
-    keep ! (2 ∷ 3 ∷ 0 ∷ []) $ heard ! (κs.1.1.0 ⊑ W.lives) (λ within. heard ! Asked (λ asked.
-    split ! $ split ! $ move ! (2 ∷ []) $
+    (fact 𝓤 (κs.1.1.0 ⊑ W.lives)) ∷ raw (fact 𝓤 (FitsInBlock (R E) count)) ∷ []) ∵
+    keep ! (2 ∷ 3 ∷ 0 ∷ []) $ heard ! (κs.1.1.0 ⊑ W.lives) (λ within. heard ! _ (λ asked.
     let small : count * s < 2 ^ 63 = asked.0 in let fit : count * s < 2 ^ 64 = omega arith in
-    fsplit ! $ fsplit ! $ keep ! (1 ∷ 3 ∷ 4 ∷ []) $
+    split ! $ split ! $ move ! (2 ∷ []) $ fsplit ! $ fsplit ! $ keep ! (1 ∷ 3 ∷ 4 ∷ []) $
     -- [the `&` to the allocator; the token; the other tokens]
     enter ! 𝓣.C 𝓣.Λ fn _ Post $ alloc_all !
     (λ l. pass_all ! refl ((tt, tt), ((tt, record { fits = are.1.0.1 }), tt)) $
     let Ev : Env 𝓤 H = env fn.locals l in let both : Body = head (after 2 fn.body) in
-    let alignment : ℕ = capped (align (elτ E)) in
     let Then : After 𝓤 H = any_q (after_seq 𝓤 H (Wp 𝓤 H 𝓣.C 𝓣.Λ Ev (after 3 fn.body) (at_return 𝓤 H Ev Post))
     (at_return 𝓤 H Ev Post)) in
-    let y : Request.Ghost = at_takes Z 𝓛 𝓜.mem 𝓡.returns κ q (rb, ro) a (count * s) alignment (block_ty E count) in
+    let y : Request.Ghost = at_takes Z 𝓛 𝓜.mem 𝓡.returns κ q at₀ a (count * s) alignment (block_ty E count) in
     sets ! (is ! (bin ! (get ! refl) (size_word !)
     (record { fits = subst (λ (k : ℕ). k < 2 ^ 64) (sym (uncapped count s fit)) fit }))
     (ap (vint w64) (uncapped count s fit))) refl (tt, record { fits = fit }) $
-    use2 𝓛 (raw (Request.pre y)) (Takes-goes Z 𝓛 𝓜.mem 𝓡.returns κ q (rb, ro) a (Incl-trans bounds.0 within)
+    use2 𝓛 (raw (Request.pre y)) (Takes-goes Z 𝓛 𝓜.mem 𝓡.returns κ q at₀ a (Incl-trans bounds.0 within)
     (count * s) alignment (block_ty E count) (block_size E count fit) (block_align E count) fit
     (capped_fits (align (elτ E)))) $
     calls_at ! (framed 𝓤 H 𝓜 𝓣) Request (met.allocate dd) y
     (and_then ! (get ! refl) (and_then ! (get ! refl) (and_then ! (align_word !) (no_more !)))) (λ v.
     use1 𝓛 (later (raw (Answered Z 𝓛 𝓜.mem 𝓡.returns a (block_ty E count) v) ⊛ ‵ (flft κ q)))
-    (Takes-gives Z 𝓛 𝓜.mem 𝓡.returns κ q (rb, ro) a (count * s) alignment (block_ty E count) v) $ await ! tt $ split ! $
+    (Takes-gives Z 𝓛 𝓜.mem 𝓡.returns κ q at₀ a (count * s) alignment (block_ty E count) v) $ await ! tt $ split ! $
     answers Z ! 𝓜.mem 𝓡.returns a (block_ty E count) v
     (λ b o is_block.
     let p : Ptr = block_ptr b o in let start : (Start E).Denot = record { ptr = p } in
@@ -109,17 +104,12 @@ allocate_spec 𝓤 𝓛 𝓜 𝓡 wired X W LX LW g d dd met md =
     let ok = first_Good (layout Three) made typed in
     lands_as ! is_block refl (Answer-typed true b o) $ first ! $
     switches_on ! (get_tag ! (vrt ! refl (fld ! refl (stop !))) (whole !)) $ exec ! 𝓣.C 𝓣.Λ Ev (arm_body 0 both) Then $
-    sets ! (of_opd ! (get_in ! (vrt ! refl (fld ! refl (stop !))) (in_variant ! 0 0 refl refl (whole !)))) refl (
-      tt,
-      tt,
-    ) $ sets ! (of_opd ! (get ! refl)) refl (tt, tt) $
+    sets ! (of_opd ! (get_in ! (vrt ! refl (fld ! refl (stop !))) (in_variant ! 0 0 refl refl (whole !)))) refl
+    (tt, tt) $ sets ! (of_opd ! (get ! refl)) refl (tt, tt) $
     sets ! (agg ! (and_then ! (get ! refl) (no_more !))) refl (word-Good [] p) $
-    sets ! (agg ! (no_more !)) refl (tt, tt) $
-    sets ! (agg ! (and_then ! (get ! refl) (no_more !))) refl (tt, (tt, tt)) $
-    sets ! (agg ! (no_more !)) refl (tt, tt) $
-    sets ! (agg ! (and_then ! (get ! refl) (no_more !))) refl (tt, (tt, tt)) $
-    sets ! (agg ! (and_then ! (get ! refl)
-    (and_then ! (get ! refl) (and_then ! (get ! refl) (no_more !))))) refl typed $
+    sets ! (agg ! (no_more !)) refl (tt, tt) $ sets ! (agg ! (and_then ! (get ! refl) (no_more !))) refl (tt, (tt, tt)) $
+    sets ! (agg ! (no_more !)) refl (tt, tt) $ sets ! (agg ! (and_then ! (get ! refl) (no_more !))) refl (tt, (tt, tt)) $
+    sets ! (agg ! (and_then ! (get ! refl) (and_then ! (get ! refl) (and_then ! (get ! refl) (no_more !))))) refl typed $
     sets_last ! (agg ! (and_then ! (lit ! tt) (and_then ! (get ! refl) (no_more !)))) refl ok $
     exec ! 𝓣.C 𝓣.Λ Ev (after 3 fn.body) (at_ret Ev Post) $ sets ! (of_opd ! (get ! refl)) refl ok $
     -- [the room; the right to free it; ..], and the three parts are made of them
@@ -138,16 +128,13 @@ allocate_spec 𝓤 𝓛 𝓜 𝓡 wired X W LX LW g d dd met md =
     (λ is_refused.
     let Refusal : RattleType = Struct (Declared.shape errors.the_type) in
     let none : Val = live 1 (vcons (vstruct vnil) vnil) in
+    let typed : Whole (layout Out) none = (tt, (record { fits = lit< tt }, (tt, tt))) in
     lands_as ! is_refused refl (Answer-typed false 0 0) $ first ! $
     switches_on ! (get_tag ! (vrt ! refl (fld ! refl (stop !))) (whole !)) $ exec ! 𝓣.C 𝓣.Λ Ev (arm_body 1 both) Then $
-    sets ! (of_opd ! (get_in ! (vrt ! refl (fld ! refl (stop !))) (in_variant ! 1 0 refl refl (whole !)))) refl (
-      tt,
-      tt,
-    ) $
-    sets_last ! (agg ! (and_then ! (lit ! tt) (and_then ! (get ! refl) (no_more !)))) refl
-    (tt, (record { fits = lit< tt }, (tt, tt))) $
-    exec ! 𝓣.C 𝓣.Λ Ev (after 3 fn.body) (at_ret Ev Post) $
-    sets ! (of_opd ! (get ! refl)) refl (tt, (record { fits = lit< tt }, (tt, tt))) $
+    sets ! (of_opd ! (get_in ! (vrt ! refl (fld ! refl (stop !))) (in_variant ! 1 0 refl refl (whole !)))) refl
+    (tt, tt) $
+    sets_last ! (agg ! (and_then ! (lit ! tt) (and_then ! (get ! refl) (no_more !)))) refl typed $
+    exec ! 𝓣.C 𝓣.Λ Ev (after 3 fn.body) (at_ret Ev Post) $ sets ! (of_opd ! (get ! refl)) refl typed $
     owned ! Refusal (Is Refusal) (Struct-Makes 𝓛 (Declared.shape errors.the_type) tt) tt (vstruct vnil ∷ [])
     (tt, (refl, tt)) $
     use1 𝓛 (‵ (Out.own_val (Err (record {})) (none ∷ []))) (err_of 𝓛 Three errors.the_row (record {}) (vstruct vnil)) $

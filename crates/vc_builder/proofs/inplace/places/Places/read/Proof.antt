@@ -18,10 +18,12 @@ use Rattle.vc_builder.proofs.WalkNames.{◌+◌, drop_l}
 use Rattle.vc_builder.proofs.PlacesLaid.{taken, turned, uncons}
 use Rattle.vc_builder.proofs.PlacesMemory.{all, opened, closed}
 use Rattle.circular_buffer.specs.Ownership.{slot, slots}
-use Rattle.vc_builder.proofs.PlacesMemory.{Row, Start, bytes, base_vals, base-tells, base_stays, base-goes}
-use Rattle.vc_builder.proofs.PlacesMemory.{number_stays, number-goes}
+use Rattle.vc_builder.proofs.PlacesMemory.{Row, Start, bytes, base_vals, base-tells, base-goes}
+use Rattle.vc_builder.proofs.PlacesMemory.{number-goes}
 use Rattle.vc_builder.proofs.WalkNames.{named, proved, mut_vals, mut_Tells, uint_vals, uint_Tells}
 use Rattle.circular_buffer.proofs.Memory.{value_out, Besides, slot_out, slot_in}
+use Rattle.vc_builder.proofs.WalkNames.{stay_dropped}
+use Rattle.vc_builder.proofs.WalkNames.{yes, no}
 use Rattle.vc_builder.specs.contracts.inplace.places.Places.read.{ended, clauses}
 use Rattle.vc_builder.specs.contracts.inplace.places.Places.read.Key.{name as #self}
 use Rattle.vc_builder.proofs.inplace.places.Places.read.Statement.{statement}
@@ -32,24 +34,21 @@ read_spec 𝓤 𝓛 𝓜 𝓡 wired X L =
     let H = 𝓛.H in let 𝓣 = tables 𝓤 H 𝓜 𝓡 𝓡.env in let E : El = record { row = X; laws = L } in let Ends = ended X in
     let c = clauses X 𝓛 𝓜.mem 𝓡.returns in
     let inst = layouts (a_type ∷ []) (X, tt) in let fn = inst_fn inst code.function in let self = plain (λ _. Row E) in
-    let hs : Stays Ends.signature.params Ends.kept = (stay_ref (0 ∷ []) tt self, (base_stays E 2, (number_stays 2, tt))) in
+    let hs : Stays Ends.signature.params Ends.kept = (stay_ref (0 ∷ []) tt self, (stay_dropped _ no, (stay_dropped _ yes, tt))) in
     proved 𝓛 Ends hs c 𝓜 𝓡 (Goes-ref 𝓛 2 0 tt self, (base-goes E 2 𝓛, (number-goes 2 𝓛, tt)))
     (#self inst) fn (code.unfolded 𝓤 H 𝓜 𝓡 wired (X, tt)) (λ κs. (mut_vals, (base_vals E, (uint_vals w64, tt))))
     (λ κs. (mut_Tells (named 0) κs.0 (Row E), (base-tells E, (uint_Tells w64, tt)))) (λ κs qs bounds a gh are.
     let rb : ℕ = a.0.ref_ptr.0 in let ro : ℕ = a.0.ref_ptr.1 in let d : (Row E).Denot = a.0.now in
     let base : (Start E).Denot = a.1.0 in let index : ℕ = a.1.1.0 in let s : ℕ = bytes E in
-    let z : (walk_of 𝓛 Ends hs c).Ghost = (
-      (κs, qs, bounds, a, (mut_vals a.0, (base_vals E base, (uint_vals w64 index, tt)))),
-      gh,
-    ) in
+    let z : (walk_of 𝓛 Ends hs c).Ghost = ((κs, qs, bounds, a, _), gh) in
     let Asked : Type 0 = (base.ptr ≡ d.at) × (0 < length d.parts.rest) × (index ≡ length d.parts.built + d.parts.room) in
     let row = all E d in let Post : Val → SProp 𝓤 = (walk_of 𝓛 Ends hs c).post z in
     let new : (Row E).Denot = with_parts d (builder d.parts.built (drop_l 1 d.parts.rest) (d.parts.room + 1)) in
     qed 𝓛 (((‵ (flft κs.0 qs.0) ⊛ ‵ (flft κs.1.0 qs.1.0) ⊛ ‵ ftrue) ⊛ ‵ (owns (types_at Ends.signature.params κs) a z.0.4))
     ∷ raw (fact 𝓤 _) ∷ raw (fact 𝓤 Asked) ∷ []) ∵
     keep ! (2 ∷ 0 ∷ []) $ heard ! Asked (λ asked. split ! $ split ! $ move ! (2 ∷ []) $
-    let first' = uncons d.parts.rest asked.1 in let x : X.Denot = first'.0 in
-    let place = turned (taken d.parts d.tail index x first'.1 asked.2) in
+    let leading = uncons d.parts.rest asked.1 in let x : X.Denot = leading.0 in
+    let place = turned (taken d.parts d.tail index x leading.1 asked.2) in
     fsplit ! $ fsplit3 ! $ keep ! (1 ∷ 2 ∷ 4 ∷ 5 ∷ []) $
     -- [what self shows; its borrow; the token; the other tokens]
     enter ! 𝓣.C 𝓣.Λ fn _ Post $ alloc_all !
@@ -79,6 +78,6 @@ read_spec 𝓤 𝓛 𝓜 𝓡 wired X L =
     use2 𝓛 (‵ ((Row E).own_val new vs)) (closed E new 𝓛 vs b o at (subst (λ k. k * s < 2 ^ 63) place.3 fit)) $
     move ! (1 ∷ 0 ∷ []) $ closes ! tt (Row E) new vs rb ro $
     returns ! (look_at ! 0 refl) $ free_all ! refl $ keep ! (0 ∷ 1 ∷ 2 ∷ 3 ∷ 4 ∷ []) $
-    suffices ! _ (ends_at 𝓛 Ends hs c z v x (new, (tt, (tt, tt))) (tt, (tt, (tt, tt)))) $ says ! (first'.1, refl, refl, refl) $
+    suffices ! _ (ends_at 𝓛 Ends hs c z v x (new, (tt, (tt, tt))) (tt, (tt, (tt, tt)))) $ says ! (leading.1, refl, refl, refl) $
     move ! (2 ∷ 4 ∷ []) $ join ! $ frame ! $ feq_i ! (List Val) (mut_vals a.0) (mut_vals a.0) refl $ fjoin3 ! $ nothing ! $
     nothing ! $ fjoin ! $ nothing ! $ fjoin ! $ move ! (1 ∷ 0 ∷ []) $ fjoin ! $ done !)))))))

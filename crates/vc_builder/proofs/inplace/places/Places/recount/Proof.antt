@@ -6,7 +6,9 @@ use Rattle.vc_builder.proofs.WalkNames.{alloc_all, pass_all, opens, closes, rewr
 use Rattle.vc_builder.proofs.WalkNames.{look_at, free_all, suffices, ends_at, says, join, frame, feq_i, fjoin3, nothing, done}
 use Rattle.vc_builder.proofs.WalkNames.{Val, vunit, Option, R, uint_vals, uint_Tells, w64}
 use Rattle.circular_buffer.specs.Ownership.{cells_own}
-use Rattle.vc_builder.proofs.PlacesMemory.{Row, all, number_stays, number-goes}
+use Rattle.vc_builder.proofs.PlacesMemory.{Row, all, number-goes}
+use Rattle.vc_builder.proofs.WalkNames.{stay_dropped}
+use Rattle.vc_builder.proofs.WalkNames.{yes}
 use Rattle.vc_builder.specs.contracts.inplace.places.Places.recount.{ended, clauses}
 use Rattle.vc_builder.specs.contracts.inplace.places.Places.recount.Key.{name as #self}
 use Rattle.vc_builder.proofs.inplace.places.Places.recount.Statement.{statement}
@@ -17,13 +19,13 @@ recount_spec 𝓤 𝓛 𝓜 𝓡 wired X L =
     let H = 𝓛.H in let 𝓣 = tables 𝓤 H 𝓜 𝓡 𝓡.env in let E : El = record { row = X; laws = L } in let Ends = ended X in
     let c = clauses X 𝓛 𝓜.mem 𝓡.returns in
     let inst = layouts (a_type ∷ []) (X, tt) in let fn = inst_fn inst code.function in let self = plain (λ _. Row E) in
-    let hs : Stays Ends.signature.params Ends.kept = (stay_ref (0 ∷ []) tt self, (number_stays 2, tt)) in
+    let hs : Stays Ends.signature.params Ends.kept = (stay_ref (0 ∷ []) tt self, (stay_dropped _ yes, tt)) in
     proved 𝓛 Ends hs c 𝓜 𝓡 (Goes-ref 𝓛 2 0 tt self, (number-goes 2 𝓛, tt)) (#self inst) fn (code.unfolded 𝓤 H 𝓜 𝓡 wired (X, tt))
     (λ κs. (mut_vals, (uint_vals w64, tt))) (λ κs. (mut_Tells (named 0) κs.0 (Row E), (uint_Tells w64, tt)))
     (λ κs qs bounds a to are.
     let d : (Row E).Denot = a.0.now in let b = a.0.ref_ptr.0 in let o = a.0.ref_ptr.1 in
     let new : (Row E).Denot = record { mark = d.mark; at = d.at; parts = to.0; tail = to.1 } in
-    let z : (walk_of 𝓛 Ends hs c).Ghost = ((κs, qs, bounds, a, (mut_vals a.0, (uint_vals w64 a.1.0, tt))), to) in
+    let z : (walk_of 𝓛 Ends hs c).Ghost = ((κs, qs, bounds, a, _), to) in
     qed 𝓛 (((‵ (flft κs.0 qs.0) ⊛ ‵ (flft κs.1.0 qs.1.0) ⊛ ‵ ftrue) ⊛ ‵ (owns (types_at Ends.signature.params κs) a z.0.4))
     ∷ raw (fact 𝓤 _) ∷ raw (fact 𝓤 (all E d ≡ all E new)) ∷ []) ∵
     keep ! (2 ∷ 0 ∷ []) $ heard ! _ (λ same. split ! $ split ! $ move ! (2 ∷ []) $

@@ -1,4 +1,4 @@
--- `slice` shows a run of somes that the places lend. Assumes `Logic`.
+-- `slice` shows the values that are left. Assumes `Logic`.
 use Rattle.vc_builder.proofs.WalkNames.{ !, ◌≡◌, refl, sym, ap, subst, ◌∙◌, List, [], ◌∷◌, ℕ, ◌+◌, ◌*◌, ◌<◌, ◌^◌}
 use Rattle.vc_builder.proofs.WalkNames.{arith, length, full_share, SProp}
 use Rattle.vc_builder.proofs.WalkNames.{never, id⊢, Lft, Share, ftrue, fat, flft, w64, a_type, inst_fn, Val}
@@ -15,11 +15,13 @@ use Rattle.circular_buffer.specs.Ownership.{cells_lent}
 use Rattle.vc_builder.proofs.WalkNames.{◌+◌}
 use Rattle.vc_builder.proofs.PlacesLaid.{length-laid, rest-run}
 use Rattle.vc_builder.proofs.PlacesMemory.{all}
-use denote.Laws.{valss}
-use Rattle.vc_builder.proofs.PlacesMemory.{run_types, run_vals, run-tells, Row, Start, bytes, base_stays, base-goes}
-use Rattle.vc_builder.proofs.PlacesMemory.{number_stays, number-goes}
+use Rattle.vc_builder.proofs.PlacesMemory.{Row, Start, bytes, base-goes}
+use Rattle.vc_builder.proofs.PlacesMemory.{number-goes}
 use Rattle.vc_builder.proofs.WalkNames.{named, proved, shr_vals, shr_Tells}
 use Rattle.circular_buffer.proofs.Memory.{run_seen}
+use Rattle.vc_builder.proofs.WalkNames.{uint_vals, uint_Tells}
+use Rattle.vc_builder.proofs.PlacesMemory.{base_vals, base-tells}
+use Rattle.vc_builder.proofs.WalkNames.{no}
 use Rattle.vc_builder.specs.contracts.inplace.places.Places.slice.{ended, clauses}
 use Rattle.vc_builder.specs.contracts.inplace.places.Places.slice.Key.{name as #self}
 use Rattle.vc_builder.proofs.inplace.places.Places.slice.Statement.{statement}
@@ -31,16 +33,18 @@ slice_spec 𝓤 𝓛 𝓜 𝓡 wired X L =
     let c = clauses X 𝓛 𝓜.mem 𝓡.returns in
     let inst = layouts (a_type ∷ []) (X, tt) in let fn = inst_fn inst code.function in
     let self = RefOf (0 ∷ []) tt (plain (λ _. Row E)) (λ _. tt) in
-    let lent = stay_dropped self yes in
-    let hs : Stays Ends.signature.params Ends.kept = (lent, (base_stays E 2, (number_stays 2, (number_stays 2, tt)))) in
+    let hs : Stays Ends.signature.params Ends.kept
+    = (stay_dropped _ yes, (stay_dropped _ no, (stay_dropped _ yes, (stay_dropped _ yes, tt)))) in
     let lent-goes = Goes-dropped 𝓛 2 self yes (λ κs x f. refl) in
     proved 𝓛 Ends hs c 𝓜 𝓡 (lent-goes, (base-goes E 2 𝓛, (number-goes 2 𝓛, (number-goes 2 𝓛, tt))))
-    (#self inst) fn (code.unfolded 𝓤 H 𝓜 𝓡 wired (X, tt)) (λ κs. (shr_vals, run_vals E))
-    (λ κs. (shr_Tells (named 0) κs.0 (Row E), run-tells E)) (λ κs qs bounds a gh are.
+    (#self inst) fn (code.unfolded 𝓤 H 𝓜 𝓡 wired (X, tt))
+    (λ κs. (shr_vals, (base_vals E, (uint_vals w64, (uint_vals w64, tt)))))
+    (λ κs. (shr_Tells (named 0) κs.0 (Row E), (base-tells E, (uint_Tells w64, (uint_Tells w64, tt)))))
+    (λ κs qs bounds a gh are.
     let d : (Row E).Denot = a.0.now in let row = all E d in let base : (Start E).Denot = a.1.0 in
     let from : ℕ = a.1.1.0 in let count : ℕ = a.1.1.1.0 in let small_count = are.1.1.1.0.1 in
     let κ : Lft = κs.0 in let q : Share = qs.0 in let s : ℕ = bytes E in let xs = d.parts.rest in
-    let z : (walk_of 𝓛 Ends hs c).Ghost = ((κs, qs, bounds, a, (shr_vals a.0, valss (run_types E) (run_vals E) a.1)), gh) in
+    let z : (walk_of 𝓛 Ends hs c).Ghost = ((κs, qs, bounds, a, _), gh) in
     let Post : Val → SProp 𝓤 = (walk_of 𝓛 Ends hs c).post z in
     let Asked : Type 0 = (base.ptr ≡ d.at) × (count ≡ length xs) × (from ≡ length d.parts.built + d.parts.room) in
     qed 𝓛 (((‵ (flft κ q) ⊛ ‵ (flft κs.1.0 qs.1.0) ⊛ ‵ ftrue) ⊛ ‵ (owns (types_at Ends.signature.params κs) a z.0.4))

@@ -1,4 +1,4 @@
--- `slice_mut` lends a run of somes, and the places follow it. Assumes `Logic`.
+-- `slice_mut` lends the values that are left, and the places follow it. Assumes `Logic`.
 use Rattle.vc_builder.proofs.WalkNames.{ !, split3, ◌≡◌, refl, sym, ap, subst, ◌∙◌, List, [], ◌∷◌, map, ℕ, ◌+◌}
 use Rattle.vc_builder.proofs.WalkNames.{◌*◌, ◌<◌, ◌^◌, arith, length, take, drop_l}
 use Rattle.vc_builder.proofs.WalkNames.{take_front, Ura, full_share, SProp, ent, sep, Fml}
@@ -10,7 +10,7 @@ use Rattle.vc_builder.proofs.WalkNames.{frame, done, whole, sub, agg, stop, fld,
 use Rattle.vc_builder.proofs.WalkNames.{no_more, first, blocks, exec, returns, enter, alloc_all, pass_all, free_all}
 use Rattle.vc_builder.proofs.WalkNames.{take_at, give_at, look_at, get, get_in, sets, sets_last, is, env, fact}
 use Rattle.vc_builder.proofs.WalkNames.{tables, Array, no, follows, mem, part_of, cell_at, layout}
-use Rattle.vc_builder.proofs.WalkNames.{layouts, owns, Ptr, block_ptr, MutBor, plain, mut_ref_to}
+use Rattle.vc_builder.proofs.WalkNames.{layouts, owns, Ptr, block_ptr, MutBor, plain}
 use Rattle.vc_builder.proofs.WalkNames.{types_at, MutSlice, slice_val, nothing, heard, opens, says, Stays}
 use Rattle.vc_builder.proofs.WalkNames.{stay_dropped, walk_of, ends_at, Goes-spent_ref, Option, Some}
 use Rattle.vc_builder.proofs.WalkNames.{length-map, tail, El, R, el_x, times_below, uncapped, word}
@@ -23,11 +23,13 @@ use Rattle.circular_buffer.specs.Ownership.{slots}
 use Rattle.vc_builder.proofs.PlacesLaid.{length-laid, rest-run, rest-written}
 use Rattle.vc_builder.proofs.WalkNames.{◌++◌}
 use Rattle.vc_builder.proofs.PlacesMemory.{all, opened, closed}
-use denote.Laws.{valss}
-use Rattle.vc_builder.proofs.PlacesMemory.{run_types, run_vals, run-tells, Row, Start, Mark, bytes, base_stays}
-use Rattle.vc_builder.proofs.PlacesMemory.{base-goes, number_stays, number-goes}
+use Rattle.vc_builder.proofs.PlacesMemory.{Row, Start, Mark, bytes}
+use Rattle.vc_builder.proofs.PlacesMemory.{base-goes, number-goes}
 use Rattle.vc_builder.proofs.WalkNames.{named, proved, mut_vals, mut_Tells}
 use Rattle.circular_buffer.proofs.Memory.{Around, run_out, run_in, to_cells, of_cells}
+use Rattle.vc_builder.proofs.WalkNames.{uint_vals, uint_Tells}
+use Rattle.vc_builder.proofs.PlacesMemory.{base_vals, base-tells}
+use Rattle.vc_builder.proofs.WalkNames.{yes}
 use Rattle.vc_builder.specs.contracts.inplace.places.Places.slice_mut.{ended, clauses}
 use Rattle.vc_builder.specs.contracts.inplace.places.Places.slice_mut.Key.{name as #self}
 use Rattle.vc_builder.proofs.inplace.places.Places.slice_mut.Statement.{statement}
@@ -74,16 +76,18 @@ slice_mut_spec 𝓤 𝓛 𝓜 𝓡 wired X L =
     let H = 𝓛.H in let 𝓣 = tables 𝓤 H 𝓜 𝓡 𝓡.env in let E : El = record { row = X; laws = L } in let Ends = ended X in
     let c = clauses X 𝓛 𝓜.mem 𝓡.returns in
     let inst = layouts (a_type ∷ []) (X, tt) in let fn = inst_fn inst code.function in let self = plain (λ _. Row E) in
-    let lent = stay_dropped (mut_ref_to (0 ∷ []) tt self) no in
-    let hs : Stays Ends.signature.params Ends.kept = (lent, (base_stays E 2, (number_stays 2, (number_stays 2, tt)))) in
+    let hs : Stays Ends.signature.params Ends.kept
+    = (stay_dropped _ no, (stay_dropped _ no, (stay_dropped _ yes, (stay_dropped _ yes, tt)))) in
     proved 𝓛 Ends hs c 𝓜 𝓡 (Goes-spent_ref 𝓛 2 (0 ∷ []) tt self, (base-goes E 2 𝓛, (number-goes 2 𝓛, (number-goes 2 𝓛, tt))))
-    (#self inst) fn (code.unfolded 𝓤 H 𝓜 𝓡 wired (X, tt)) (λ κs. (mut_vals, run_vals E))
-    (λ κs. (mut_Tells (named 0) κs.0 (Row E), run-tells E)) (λ κs qs bounds a gh are.
+    (#self inst) fn (code.unfolded 𝓤 H 𝓜 𝓡 wired (X, tt))
+    (λ κs. (mut_vals, (base_vals E, (uint_vals w64, (uint_vals w64, tt)))))
+    (λ κs. (mut_Tells (named 0) κs.0 (Row E), (base-tells E, (uint_Tells w64, (uint_Tells w64, tt)))))
+    (λ κs qs bounds a gh are.
     let rb : ℕ = a.0.ref_ptr.0 in let ro : ℕ = a.0.ref_ptr.1 in let γ : GName = a.0.ghost_name in
     let d : (Row E).Denot = a.0.now in let row = all E d in let base : (Start E).Denot = a.1.0 in
     let from : ℕ = a.1.1.0 in let count : ℕ = a.1.1.1.0 in let small_count = are.1.1.1.0.1 in
     let κ : Lft = κs.0 in let q : Share = qs.0 in let s : ℕ = bytes E in let xs = d.parts.rest in
-    let z : (walk_of 𝓛 Ends hs c).Ghost = ((κs, qs, bounds, a, (mut_vals a.0, valss (run_types E) (run_vals E) a.1)), gh) in
+    let z : (walk_of 𝓛 Ends hs c).Ghost = ((κs, qs, bounds, a, _), gh) in
     let Asked : Type 0 = (base.ptr ≡ d.at) × (count ≡ length xs) × (from ≡ length d.parts.built + d.parts.room) in
     let Post : Val → SProp 𝓤 = (walk_of 𝓛 Ends hs c).post z in let shown = (Row E).coded.code d in
     qed 𝓛 (((‵ (flft κ q) ⊛ ‵ (flft κs.1.0 qs.1.0) ⊛ ‵ ftrue) ⊛ ‵ (owns (types_at Ends.signature.params κs) a z.0.4))

@@ -1,6 +1,6 @@
 -- `write` fills an empty place. Assumes `Logic`.
-use Rattle.vc_builder.proofs.WalkNames.{◌≡◌, refl, sym, subst, ◌∙◌, List, [], ◌∷◌, ◌++◌, ℕ, ◌+◌, ◌*◌, ◌<◌, ◌^◌, arith}
-use Rattle.vc_builder.proofs.WalkNames.{length, set, get_or, full_share, SProp, ent, id⊢, Lft}
+use Rattle.vc_builder.proofs.WalkNames.{◌≡◌, refl, subst, ◌∙◌, List, [], ◌∷◌, ◌++◌, ℕ, ◌+◌, ◌*◌, ◌<◌, ◌^◌, arith}
+use Rattle.vc_builder.proofs.WalkNames.{length, set, get_or, full_share, SProp, Lft}
 use Rattle.vc_builder.proofs.WalkNames.{Share, ftrue, fat, flft, a_type, w64, inst_fn, Val, vptr, vint, vunit}
 use Rattle.vc_builder.proofs.WalkNames.{WpFn, ‵, raw, ◌⊛◌, at_ret, ◌$◌, ◌∵◌, !, qed, move, keep, use1, use2, split}
 use Rattle.vc_builder.proofs.WalkNames.{join, rewrite, fsplit, fsplit3, fjoin, fjoin3, feq_i}
@@ -13,12 +13,14 @@ use Rattle.vc_builder.proofs.WalkNames.{stay_dropped, stay_ref, walk_of, ends_at
 use Rattle.vc_builder.proofs.WalkNames.{proved_at, tail, El, R, elτ, one, Good, lawful, times_below, one_below}
 use Rattle.vc_builder.proofs.WalkNames.{as_written, word, word-Good}
 use Rattle.circular_buffer.specs.Ownership.{slot, slots}
-use Rattle.vc_builder.proofs.PlacesMemory.{Row, Start, bytes, base-tells, base_stays, base-goes, number_stays, number-goes}
+use Rattle.vc_builder.proofs.PlacesMemory.{Row, Start, bytes, base-tells, base-goes, number-goes}
 use Rattle.circular_buffer.proofs.Memory.{value_in, Besides, slot_out, slot_in}
 use Rattle.vc_builder.specs.PlacesLend.{with_parts}
 use Rattle.vc_builder.specs.Places.{Turns}
 use Rattle.vc_builder.proofs.PlacesLaid.{turned}
 use Rattle.vc_builder.proofs.PlacesMemory.{all, opened, closed}
+use Rattle.vc_builder.proofs.WalkNames.{regoal, prop}
+use Rattle.vc_builder.proofs.WalkNames.{yes}
 use Rattle.vc_builder.specs.contracts.inplace.places.Places.write.{ended, clauses}
 use Rattle.vc_builder.specs.contracts.inplace.places.Places.write.Key.{name as #self}
 use Rattle.vc_builder.proofs.inplace.places.Places.write.Statement.{statement}
@@ -30,8 +32,8 @@ write_spec 𝓤 𝓛 𝓜 𝓡 wired X L =
     let H = 𝓛.H in let 𝓣 = tables 𝓤 H 𝓜 𝓡 𝓡.env in let E : El = record { row = X; laws = L } in let Ends = ended X in
     let c = clauses X 𝓛 𝓜.mem 𝓡.returns in
     let inst = layouts (a_type ∷ []) (X, tt) in let fn = inst_fn inst code.function in let self = plain (λ _. Row E) in
-    let lent = stay_ref (0 ∷ []) tt self in let value = stay_dropped (plain (λ _. R E)) no in
-    let hs : Stays Ends.signature.params Ends.kept = (lent, (base_stays E 2, (number_stays 2, (value, tt)))) in
+    let hs : Stays Ends.signature.params Ends.kept
+    = (stay_ref (0 ∷ []) tt self, (stay_dropped _ no, (stay_dropped _ yes, (stay_dropped _ no, tt)))) in
     let value-goes = Goes-dropped 𝓛 2 (plain (λ _. R E)) no (λ κs x f. refl) in
     proved_at 𝓛 Ends hs c 𝓜 𝓡 (Goes-ref 𝓛 2 0 tt self, (base-goes E 2 𝓛, (number-goes 2 𝓛, (value-goes, tt))))
     (#self inst) fn (code.unfolded 𝓤 H 𝓜 𝓡 wired (X, tt)) (λ z are.
@@ -43,7 +45,6 @@ write_spec 𝓤 𝓛 𝓜 𝓡 wired X L =
     let told = one E vss.1.1.1.0 ((lawful E 𝓛).typed x vss.1.1.1.0 are.1.1.1.0) in let v : Val = told.0 in
     let good : Good E v = told.2 in
     let Post : Val → SProp 𝓤 = (walk_of 𝓛 Ends hs c).post z in
-    let Run : List Val → SProp 𝓤 = λ ws. WpFn 𝓤 H 𝓣.C 𝓣.Λ fn ws Post in
     let us : List Val = vptr rb ro ∷ word base.ptr ∷ vint w64 index ∷ v ∷ [] in let s : ℕ = bytes E in
     qed 𝓛 (((‵ (flft κ q) ⊛ ‵ (flft κ₁ q₁) ⊛ ‵ ftrue) ⊛ ‵ (owns (types_at Ends.signature.params z.0.0) a vss)) ∷ raw
     (fact 𝓤 (κ₁ ⊑ X.lives)) ∷ raw (fact 𝓤 ((base.ptr ≡ d.at) × Turns row (all E new) index None (Some x))) ∷ []) ∵
@@ -51,8 +52,8 @@ write_spec 𝓤 𝓛 𝓜 𝓡 wired X L =
     let place = turned asked.1 in
     fsplit ! $ fsplit3 ! $ move ! (3 ∷ []) $ fsplit3 ! $ move ! (2 ∷ []) $ fsplit ! $ keep ! (5 ∷ 6 ∷ 7 ∷ 0 ∷ 8 ∷ []) $
     rewrite ! 3 (λ (ws : List Val). ‵ ((R E).own_val x ws)) told.1 refl $
-    suffices ! (Run us) (subst (λ (ws : List Val). ent 𝓤 (Run us) (Run ws))
-    (sym (λ i. are.0.0 i ++ (base-tells E base vss.1.0 are.1.0 i ++ (are.1.1.0.0 i ++ (told.1 i ++ []))))) (id⊢ 𝓤 (Run us))) $
+    regoal ! (λ (ws : List Val). prop (WpFn 𝓤 H 𝓣.C 𝓣.Λ fn ws Post))
+    (λ i. are.0.0 i ++ (base-tells E base vss.1.0 are.1.0 i ++ (are.1.1.0.0 i ++ (told.1 i ++ [])))) refl $
     -- [what self shows; its borrow; the token; what the value owns; the other tokens]
     enter ! 𝓣.C 𝓣.Λ fn us Post $ alloc_all !
     (λ l. pass_all ! refl ((tt, tt), (word-Good [] base.ptr, ((tt, record { fits = are.1.1.0.1 }), (good, tt)))) $
