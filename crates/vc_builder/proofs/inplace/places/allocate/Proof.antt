@@ -1,9 +1,9 @@
 -- `allocate` cuts a new block into empty places, and keeps the right to free it. Assumes `Logic`.
 use Rattle.vc_builder.proofs.WalkNames.{ !, [], ◌≡◌, refl, sym, ap, subst, true, false, ◌∷◌, ℕ, ◌*◌, ◌<◌}
-use Rattle.vc_builder.proofs.WalkNames.{◌^◌, arith, lit<, length, replicate, length-replicate, SProp, ent, Lft}
+use Rattle.vc_builder.proofs.WalkNames.{◌^◌, arith, lit<, length, replicate, length-replicate, SProp, Lft}
 use Rattle.vc_builder.proofs.WalkNames.{Share, ftrue, flft, Incl-trans, w64, ty_array, inst_fn, Val, vint}
-use Rattle.vc_builder.proofs.WalkNames.{vstruct, vcons, vnil, Env, Item, ⋆, ‵, raw, later, await, at_ret, ◌⊛◌}
-use Rattle.vc_builder.proofs.WalkNames.{◌$◌, ◌∵◌, qed, by, move, keep, use0, use1, use2, use3, split, join, fsplit}
+use Rattle.vc_builder.proofs.WalkNames.{vstruct, vcons, vnil, Env, Item, ‵, raw, later, await, at_ret, ◌⊛◌}
+use Rattle.vc_builder.proofs.WalkNames.{◌$◌, ◌∵◌, qed, move, keep, use0, use1, use2, use3, split, join, fsplit}
 use Rattle.vc_builder.proofs.WalkNames.{fjoin, suffices, frame, done, whole, agg, lit}
 use Rattle.vc_builder.proofs.WalkNames.{stop, fld, bin, of_opd, size_word, align_word, and_then, no_more, first, exec}
 use Rattle.vc_builder.proofs.WalkNames.{returns, enter, alloc_all, pass_all, free_all, look_at, get, get_in, get_tag}
@@ -24,7 +24,7 @@ use denote.Struct.Declared as Declared
 use denote.Struct.Tuple.{Tuple}
 use denote.Triple.Call.{calls_at}
 use denote.Triple.Table.{framed}
-use Rattle.std.specs.Prelude.{IfOk, Ok, Err}
+use Rattle.std.specs.Prelude.{Ok, Err}
 use Rattle.std.specs.Vec.Ownership.{FitsInBlock}
 use Rattle.core.specs.contracts.result.Result as results
 use Rattle.core.specs.contracts.alloc.AllocError as errors
@@ -64,13 +64,6 @@ allocate_spec 𝓤 𝓛 𝓜 𝓡 wired X W LX LW g d dd met md =
     let count : ℕ = x.1.0 in let s : ℕ = bytes E in let alignment : ℕ = capped (align (elτ E)) in
     let z : (walk_of 𝓛 Ends hs c).Ghost = ((κs, qs, bounds, x, _), gh) in
     let Post : Val → SProp 𝓤 = (walk_of 𝓛 Ends hs c).post z in
-    let leave : (r : Out.Denot) (v : Val)
-    → IfOk r (λ t. (t.1.at ≡ t.0.ptr) × (t.1.parts ≡ builder [] [] count) × (t.1.tail ≡ 0) × (t.2.at ≡ t.0.ptr)
-    × (t.2.count ≡ count) × (t.2.alloc ≡ a))
-    → ent 𝓤 (⋆ 𝓛 (‵ (Out.own_val r (v ∷ [])) ∷ ‵ (flft κ q) ∷ others ∷ [])) (Post v) = λ r v told.
-    qed 𝓛 (‵ (Out.own_val r (v ∷ [])) ∷ ‵ (flft κ q) ∷ others ∷ []) ∵
-    suffices ! _ (ends_at 𝓛 Ends hs c z v r (tt, (tt, tt)) (tt, (tt, tt))) $ says ! told $
-    move ! (1 ∷ 2 ∷ []) $ join ! $ frame ! $ nothing ! $ nothing ! $ fjoin ! $ nothing ! $ fjoin ! $ done ! in
     qed 𝓛 (((‵ (flft κ q) ⊛ others) ⊛ ‵ (owns (types_at Ends.signature.params κs) x z.0.4)) ∷ raw (fact 𝓤 _) ∷ raw
     (fact 𝓤 (κs.1.1.0 ⊑ W.lives)) ∷ raw (fact 𝓤 (FitsInBlock (R E) count)) ∷ []) ∵
     keep ! (2 ∷ 3 ∷ 0 ∷ []) $ heard ! (κs.1.1.0 ⊑ W.lives) (λ within. heard ! _ (λ asked.
@@ -124,7 +117,9 @@ allocate_spec 𝓤 𝓛 𝓜 𝓡 wired X W LX LW g d dd met md =
     use1 𝓛 (‵ (Out.own_val (Ok (start, row, title)) (live 0 (vcons made vnil) ∷ [])))
     (ok_of 𝓛 Three errors.the_row (start, row, title) made) $
     returns ! (look_at ! 0 refl) $ free_all ! refl $ keep ! (0 ∷ 1 ∷ 2 ∷ []) $
-    by ! (leave (Ok (start, row, title)) (live 0 (vcons made vnil)) (refl, refl, refl, refl, refl, refl)))
+    suffices ! _ (ends_at 𝓛 Ends hs c z (live 0 (vcons made vnil)) (Ok (start, row, title)) (tt, (tt, tt)) (tt, (tt, tt))) $
+    says ! (refl, refl, refl, refl, refl, refl) $ move ! (1 ∷ 2 ∷ []) $ join ! $ frame ! $
+    nothing ! $ nothing ! $ fjoin ! $ nothing ! $ fjoin ! $ done !)
     (λ is_refused.
     let Refusal : RattleType = Struct (Declared.shape errors.the_type) in
     let none : Val = live 1 (vcons (vstruct vnil) vnil) in
@@ -139,4 +134,6 @@ allocate_spec 𝓤 𝓛 𝓜 𝓡 wired X W LX LW g d dd met md =
     (tt, (refl, tt)) $
     use1 𝓛 (‵ (Out.own_val (Err (record {})) (none ∷ []))) (err_of 𝓛 Three errors.the_row (record {}) (vstruct vnil)) $
     returns ! (look_at ! 0 refl) $ free_all ! refl $ keep ! (0 ∷ 1 ∷ 2 ∷ []) $
-    by ! (leave (Err (record {})) none tt)))))))
+    suffices ! _ (ends_at 𝓛 Ends hs c z none (Err (record {})) (tt, (tt, tt)) (tt, (tt, tt))) $ says ! tt $
+    move ! (1 ∷ 2 ∷ []) $ join ! $ frame ! $
+    nothing ! $ nothing ! $ fjoin ! $ nothing ! $ fjoin ! $ done !))))))

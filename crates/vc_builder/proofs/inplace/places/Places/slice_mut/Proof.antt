@@ -39,9 +39,6 @@ module _ (E : El) (d : (Row E).Denot) {M : Type 1} {𝓤 : Ura M} (𝓛 : Logic 
   abbrev xs : List (el_x E)
   xs = d.parts.rest
 
-  abbrev run : ℕ
-  run = from * bytes E + o
-
   -- the places once the run was written over
   abbrev written : List (el_x E) → (Row E).Denot
   written ws = with_parts d (with_rest d.parts ws)
@@ -53,14 +50,14 @@ module _ (E : El) (d : (Row E).Denot) {M : Type 1} {𝓤 : Ura M} (𝓛 : Logic 
 
   -- the run goes back into the places, whatever was written into it
   back : d.at ≡ block_ptr b o → length (all E d) * bytes E < 2 ^ 63 → from ≡ length d.parts.built + d.parts.room
-      → (ws : List (el_x E)) → length ws ≡ length xs → ent 𝓤 (sep 𝓤 (sem 𝓛 (cells (mem (R E)) ws b run)) (sem 𝓛 Others))
-      (sem 𝓛 ((mem (Row E)).own_at (written ws) rb ro))
+      → (ws : List (el_x E)) → length ws ≡ length xs → ent 𝓤 (sep 𝓤 (sem 𝓛 (cells (mem (R E)) ws b (from * bytes E + o)))
+      (sem 𝓛 Others)) (sem 𝓛 ((mem (Row E)).own_at (written ws) rb ro))
   unfolding part_of
   back at fit start ws same =
       let new = written ws in let full : new.parts.rest ≡ ws = take_front ws (drop_l (length ws) xs) (length xs) same in
       let long = length-laid d.parts d.tail in
       let size : length (all E d) ≡ length (all E new) = omega (arith, length-laid new.parts d.tail, ap length full) in
-      qed 𝓛 (‵ (cells (mem (R E)) ws b run) ∷ ‵ Others ∷ []) ∵
+      let run = from * bytes E + o in qed 𝓛 (‵ (cells (mem (R E)) ws b run) ∷ ‵ Others ∷ []) ∵
       use1 𝓛 (‵ (slots (R E) b run (map Some ws))) (of_cells E 𝓛 b ws run) $ move ! (1 ∷ []) $ fsplit3 ! $
       move ! (3 ∷ 0 ∷ []) $
       use2 𝓛 (‵ (slots (R E) b o (take from (all E d) ++ (map Some ws ++ drop_l (from + length xs) (all E d)))))

@@ -43,9 +43,8 @@ write_spec 𝓤 𝓛 𝓜 𝓡 wired X L =
     let base : (Start E).Denot = a.1.0 in let index : ℕ = a.1.1.0 in let x : X.Denot = a.1.1.1.0 in
     let row = all E d in let new : (Row E).Denot = with_parts d z.1 in
     let told = one E vss.1.1.1.0 ((lawful E 𝓛).typed x vss.1.1.1.0 are.1.1.1.0) in let v : Val = told.0 in
-    let good : Good E v = told.2 in
+    let good : Good E v = told.2 in let s : ℕ = bytes E in
     let Post : Val → SProp 𝓤 = (walk_of 𝓛 Ends hs c).post z in
-    let us : List Val = vptr rb ro ∷ word base.ptr ∷ vint w64 index ∷ v ∷ [] in let s : ℕ = bytes E in
     qed 𝓛 (((‵ (flft κ q) ⊛ ‵ (flft κ₁ q₁) ⊛ ‵ ftrue) ⊛ ‵ (owns (types_at Ends.signature.params z.0.0) a vss)) ∷ raw
     (fact 𝓤 (κ₁ ⊑ X.lives)) ∷ raw (fact 𝓤 ((base.ptr ≡ d.at) × Turns row (all E new) index None (Some x))) ∷ []) ∵
     keep ! (2 ∷ 0 ∷ []) $ heard ! _ (λ asked. split ! $ split ! $ move ! (2 ∷ []) $
@@ -55,7 +54,7 @@ write_spec 𝓤 𝓛 𝓜 𝓡 wired X L =
     regoal ! (λ (ws : List Val). prop (WpFn 𝓤 H 𝓣.C 𝓣.Λ fn ws Post))
     (λ i. are.0.0 i ++ (base-tells E base vss.1.0 are.1.0 i ++ (are.1.1.0.0 i ++ (told.1 i ++ [])))) refl $
     -- [what self shows; its borrow; the token; what the value owns; the other tokens]
-    enter ! 𝓣.C 𝓣.Λ fn us Post $ alloc_all !
+    enter ! 𝓣.C 𝓣.Λ fn (vptr rb ro ∷ word base.ptr ∷ vint w64 index ∷ v ∷ []) Post $ alloc_all !
     (λ l. pass_all ! refl ((tt, tt), (word-Good [] base.ptr, ((tt, record { fits = are.1.1.0.1 }), (good, tt)))) $
     opens ! tt (Row E) {h = d} rb ro (λ vs. move ! (1 ∷ []) $ opened E d ! vs (λ b o at fit.
     let tiny : s < 2 ^ 64 = omega (arith, one_below (length row) s (2 ^ 63) (omega (arith, place.0)) fit) in
