@@ -2,12 +2,14 @@
 --   base-tells       a base tells its machine value
 --   base-goes, number-goes       nothing is had of a base or a number at the end
 --   mark-told, title-told       owners of no bytes tell their machine value
+--   begun       a walk begins with what the parameters own, the tokens and what is asked
 --   opened, closed       the owner of the places is taken apart, and made of its parts
 use Rattle.vc_builder.proofs.WalkNames.{◌≡◌, refl, ap, sym, ◌∙◌, List, [], ◌∷◌, ◌++◌, ℕ, Val, vstruct, of_list, Ura, Logic}
 use Rattle.vc_builder.proofs.WalkNames.{yes, no, usize, ◌*◌, ◌<◌, ◌^◌, id⊢, never, sep, ent, sem, ‵, ◌$◌, ◌∵◌, !, qed, move}
 use Rattle.vc_builder.proofs.WalkNames.{RattleType, type_size, El, R, Is, plain, Goes, stay_dropped, Goes-dropped, word}
 use Rattle.vc_builder.proofs.WalkNames.{length, Option, el_x, Item, Goal, Seq, Ptr, block_ptr, in_a_block, fsplit, fjoin}
 use Rattle.vc_builder.proofs.WalkNames.{flt_i, flt_l, rewrite, done}
+use Rattle.vc_builder.proofs.WalkNames.{SProp, Lft, Share, Fml, Sq, ⋆, ftrue, flft, raw, prop, fact, ◌⊛◌, keep, heard, split}
 use Rattle.circular_buffer.specs.Ownership.{slots, cells_own}
 use Rattle.vc_builder.specs.Places.{laid}
 use denote.Laws.{Tells}
@@ -78,3 +80,9 @@ module _ (E : El) (Z : Al) where
 
 pub number-goes : (n : ℕ) {M : Type 1} {𝓤 : Ura M} (𝓛 : Logic 𝓤) → Goes 𝓛 n (plain (λ _. usize)) yes (stay_dropped _ yes)
 number-goes n 𝓛 = Goes-dropped 𝓛 n (plain (λ _. usize)) yes (λ κs x f. refl)
+
+module _ {M : Type 1} {𝓤 : Ura M} (𝓛 : Logic 𝓤) {A B : Type 0} {P : SProp 𝓤} (κ κ₁ : Lft) (q q₁ : Share) (F : Fml) where
+  pub begun : (B → Sq 𝓛 (‵ F ∷ ‵ (flft κ q) ∷ (‵ (flft κ₁ q₁) ⊛ ‵ ftrue) ∷ []) (prop P))
+      → ent 𝓤 (⋆ 𝓛 (((‵ (flft κ q) ⊛ ‵ (flft κ₁ q₁) ⊛ ‵ ftrue) ⊛ ‵ F) ∷ raw (fact 𝓤 A) ∷ raw (fact 𝓤 B) ∷ [])) P
+  begun walk = qed 𝓛 (((‵ (flft κ q) ⊛ ‵ (flft κ₁ q₁) ⊛ ‵ ftrue) ⊛ ‵ F) ∷ raw (fact 𝓤 A) ∷ raw (fact 𝓤 B) ∷ []) ∵
+      keep ! (2 ∷ 0 ∷ []) $ heard ! B (λ asked. split ! $ split ! $ move ! (2 ∷ []) $ walk asked)

@@ -1,14 +1,14 @@
 -- `read` moves a value out, and its place is empty. Assumes `Logic`.
-use Rattle.vc_builder.proofs.WalkNames.{ !, ◌≡◌, refl, subst, ◌∙◌, List, [], ◌∷◌, ℕ, ◌+◌, ◌*◌, ◌<◌, ◌^◌}
+use Rattle.vc_builder.proofs.WalkNames.{ !, refl, subst, ◌∙◌, List, [], ◌∷◌, ℕ, ◌+◌, ◌*◌, ◌<◌, ◌^◌}
 use Rattle.vc_builder.proofs.WalkNames.{arith, length, set, get_or, full_share, SProp}
-use Rattle.vc_builder.proofs.WalkNames.{ftrue, fat, froom, flft, w64, a_type, inst_fn, Val}
-use Rattle.vc_builder.proofs.WalkNames.{‵, raw, some, given, pick, learn, at_ret, ◌⊛◌, ◌$◌, ◌∵◌, qed, move}
+use Rattle.vc_builder.proofs.WalkNames.{fat, froom, w64, a_type, inst_fn, Val}
+use Rattle.vc_builder.proofs.WalkNames.{‵, some, given, pick, learn, at_ret, ◌⊛◌, ◌$◌, move}
 use Rattle.vc_builder.proofs.WalkNames.{keep, use1, use2, split, join, rewrite, fsplit, fsplit3, fjoin, fjoin3, feq_i}
 use Rattle.vc_builder.proofs.WalkNames.{suffices, frame, done, whole, sub, look, load, stop, fld}
 use Rattle.vc_builder.proofs.WalkNames.{bin, of_opd, size_lit, first, blocks, exec, returns, enter, alloc_all}
 use Rattle.vc_builder.proofs.WalkNames.{pass_all, free_all, take_at, give_at, look_at, get, get_in, through, sets}
-use Rattle.vc_builder.proofs.WalkNames.{sets_last, env, fact, tables, layout, layouts, owns, Ptr}
-use Rattle.vc_builder.proofs.WalkNames.{plain, types_at, nothing, heard, opens, closes, says, Stays}
+use Rattle.vc_builder.proofs.WalkNames.{sets_last, env, tables, layout, layouts, owns, Ptr}
+use Rattle.vc_builder.proofs.WalkNames.{plain, types_at, nothing, opens, closes, says, Stays}
 use Rattle.vc_builder.proofs.WalkNames.{stay_ref, walk_of, ends_at, Goes-ref, Option}
 use Rattle.vc_builder.proofs.WalkNames.{None, tail, El, R, elτ, Good, times_below, one_below, as_raw, word}
 use Rattle.vc_builder.proofs.WalkNames.{word-Good}
@@ -24,6 +24,7 @@ use Rattle.vc_builder.proofs.WalkNames.{named, proved, mut_vals, mut_Tells, uint
 use Rattle.circular_buffer.proofs.Memory.{value_out, Besides, slot_out, slot_in}
 use Rattle.vc_builder.proofs.WalkNames.{stay_dropped}
 use Rattle.vc_builder.proofs.WalkNames.{yes, no}
+use Rattle.vc_builder.proofs.PlacesMemory.{begun}
 use Rattle.vc_builder.specs.contracts.inplace.places.Places.read.{ended, clauses}
 use Rattle.vc_builder.specs.contracts.inplace.places.Places.read.Key.{name as #self}
 use Rattle.vc_builder.proofs.inplace.places.Places.read.Statement.{statement}
@@ -41,12 +42,10 @@ read_spec 𝓤 𝓛 𝓜 𝓡 wired X L =
     let rb : ℕ = a.0.ref_ptr.0 in let ro : ℕ = a.0.ref_ptr.1 in let d : (Row E).Denot = a.0.now in
     let base : (Start E).Denot = a.1.0 in let index : ℕ = a.1.1.0 in let s : ℕ = bytes E in
     let z : (walk_of 𝓛 Ends hs c).Ghost = ((κs, qs, bounds, a, _), gh) in
-    let Asked : Type 0 = (base.ptr ≡ d.at) × (0 < length d.parts.rest) × (index ≡ length d.parts.built + d.parts.room) in
     let row = all E d in let Post : Val → SProp 𝓤 = (walk_of 𝓛 Ends hs c).post z in
     let new : (Row E).Denot = with_parts d (builder d.parts.built (drop_l 1 d.parts.rest) (d.parts.room + 1)) in
-    qed 𝓛 (((‵ (flft κs.0 qs.0) ⊛ ‵ (flft κs.1.0 qs.1.0) ⊛ ‵ ftrue) ⊛ ‵ (owns (types_at Ends.signature.params κs) a z.0.4))
-    ∷ raw (fact 𝓤 _) ∷ raw (fact 𝓤 Asked) ∷ []) ∵
-    keep ! (2 ∷ 0 ∷ []) $ heard ! Asked (λ asked. split ! $ split ! $ move ! (2 ∷ []) $
+    -- what is asked: where the block lies, that a value is left, and at which place
+    begun 𝓛 κs.0 κs.1.0 qs.0 qs.1.0 (owns (types_at Ends.signature.params κs) a z.0.4) (λ asked.
     let leading = uncons d.parts.rest asked.1 in let x : X.Denot = leading.0 in
     let place = turned (taken d.parts d.tail index x leading.1 asked.2) in
     fsplit ! $ fsplit3 ! $ keep ! (1 ∷ 2 ∷ 4 ∷ 5 ∷ []) $

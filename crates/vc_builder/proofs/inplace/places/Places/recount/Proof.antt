@@ -1,14 +1,15 @@
 -- `recount` says anew which parts lie in the places. Assumes `Logic`.
-use Rattle.vc_builder.proofs.WalkNames.{◌≡◌, refl, List, [], ◌∷◌, tables, El, layouts, a_type, inst_fn, plain, Stays, stay_ref}
-use Rattle.vc_builder.proofs.WalkNames.{Goes-ref, proved, mut_vals, mut_Tells, named, walk_of, qed, ‵, flft, ◌⊛◌, ftrue, owns}
-use Rattle.vc_builder.proofs.WalkNames.{types_at, raw, fact, ◌∵◌, ◌$◌, !, keep, heard, split, move, fsplit, fsplit3, enter}
+use Rattle.vc_builder.proofs.WalkNames.{refl, List, [], ◌∷◌, tables, El, layouts, a_type, inst_fn, plain, Stays, stay_ref}
+use Rattle.vc_builder.proofs.WalkNames.{Goes-ref, proved, mut_vals, mut_Tells, named, walk_of, ‵, owns}
+use Rattle.vc_builder.proofs.WalkNames.{types_at, ◌$◌, !, keep, move, fsplit, fsplit3, enter}
 use Rattle.vc_builder.proofs.WalkNames.{alloc_all, pass_all, opens, closes, rewrite, fjoin, sets, of_opd, unit_lit, returns}
 use Rattle.vc_builder.proofs.WalkNames.{look_at, free_all, suffices, ends_at, says, join, frame, feq_i, fjoin3, nothing, done}
 use Rattle.vc_builder.proofs.WalkNames.{Val, vunit, Option, R, uint_vals, uint_Tells, w64}
 use Rattle.circular_buffer.specs.Ownership.{cells_own}
-use Rattle.vc_builder.proofs.PlacesMemory.{Row, all, number-goes}
+use Rattle.vc_builder.proofs.PlacesMemory.{Row, number-goes}
 use Rattle.vc_builder.proofs.WalkNames.{stay_dropped}
 use Rattle.vc_builder.proofs.WalkNames.{yes}
+use Rattle.vc_builder.proofs.PlacesMemory.{begun}
 use Rattle.vc_builder.specs.contracts.inplace.places.Places.recount.{ended, clauses}
 use Rattle.vc_builder.specs.contracts.inplace.places.Places.recount.Key.{name as #self}
 use Rattle.vc_builder.proofs.inplace.places.Places.recount.Statement.{statement}
@@ -26,9 +27,8 @@ recount_spec 𝓤 𝓛 𝓜 𝓡 wired X L =
     let d : (Row E).Denot = a.0.now in let b = a.0.ref_ptr.0 in let o = a.0.ref_ptr.1 in
     let new : (Row E).Denot = record { mark = d.mark; at = d.at; parts = to.0; tail = to.1 } in
     let z : (walk_of 𝓛 Ends hs c).Ghost = ((κs, qs, bounds, a, _), to) in
-    qed 𝓛 (((‵ (flft κs.0 qs.0) ⊛ ‵ (flft κs.1.0 qs.1.0) ⊛ ‵ ftrue) ⊛ ‵ (owns (types_at Ends.signature.params κs) a z.0.4))
-    ∷ raw (fact 𝓤 _) ∷ raw (fact 𝓤 (all E d ≡ all E new)) ∷ []) ∵
-    keep ! (2 ∷ 0 ∷ []) $ heard ! _ (λ same. split ! $ split ! $ move ! (2 ∷ []) $
+    -- what is asked: the old parts and the new ones lie alike
+    begun 𝓛 κs.0 κs.1.0 qs.0 qs.1.0 (owns (types_at Ends.signature.params κs) a z.0.4) (λ same.
     fsplit ! $ fsplit3 ! $ keep ! (1 ∷ 2 ∷ 4 ∷ 5 ∷ []) $
     -- [what self shows; its borrow; the token; the other tokens]
     enter ! 𝓣.C 𝓣.Λ fn _ _ $ alloc_all ! (λ l. pass_all ! refl ((tt, tt), ((tt, record { fits = are.1.0.1 }), tt)) $

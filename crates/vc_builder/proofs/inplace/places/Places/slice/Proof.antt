@@ -1,14 +1,14 @@
 -- `slice` shows the values that are left. Assumes `Logic`.
-use Rattle.vc_builder.proofs.WalkNames.{ !, ◌≡◌, refl, sym, ap, subst, ◌∙◌, List, [], ◌∷◌, ℕ, ◌+◌, ◌*◌, ◌<◌, ◌^◌}
+use Rattle.vc_builder.proofs.WalkNames.{ !, refl, sym, ap, subst, ◌∙◌, List, [], ◌∷◌, ℕ, ◌+◌, ◌*◌, ◌<◌, ◌^◌}
 use Rattle.vc_builder.proofs.WalkNames.{arith, length, full_share, SProp}
-use Rattle.vc_builder.proofs.WalkNames.{never, id⊢, Lft, Share, ftrue, fat, flft, w64, a_type, inst_fn, Val}
-use Rattle.vc_builder.proofs.WalkNames.{vint, ‵, raw, at_ret, ◌⊛◌, ◌$◌, ◌∵◌, qed, move, keep, drop, use1}
-use Rattle.vc_builder.proofs.WalkNames.{split, join, rewrite, fsplit, fjoin, feq_i, flt_i, flt_l, suffices}
+use Rattle.vc_builder.proofs.WalkNames.{never, id⊢, Lft, Share, fat, w64, a_type, inst_fn, Val}
+use Rattle.vc_builder.proofs.WalkNames.{vint, ‵, at_ret, ◌$◌, move, keep, drop, use1}
+use Rattle.vc_builder.proofs.WalkNames.{join, rewrite, fsplit, fjoin, feq_i, flt_i, flt_l, suffices}
 use Rattle.vc_builder.proofs.WalkNames.{frame, done, whole, sub, agg, stop, fld, bin, of_opd, size_word, and_then}
 use Rattle.vc_builder.proofs.WalkNames.{no_more, first, blocks, exec, returns, enter, alloc_all, pass_all, free_all}
-use Rattle.vc_builder.proofs.WalkNames.{take_at, give_at, look_at, get, get_in, sets, sets_last, is, env, fact}
+use Rattle.vc_builder.proofs.WalkNames.{take_at, give_at, look_at, get, get_in, sets, sets_last, is, env}
 use Rattle.vc_builder.proofs.WalkNames.{tables, RefOf, yes, hide, unhide, layout, layouts, owns, Ptr}
-use Rattle.vc_builder.proofs.WalkNames.{in_a_block, plain, types_at, slice_val, elements_shared, nothing, heard, says}
+use Rattle.vc_builder.proofs.WalkNames.{in_a_block, plain, types_at, slice_val, elements_shared, nothing, says}
 use Rattle.vc_builder.proofs.WalkNames.{Stays, stay_dropped, walk_of, ends_at, Goes-dropped}
 use Rattle.vc_builder.proofs.WalkNames.{tail, El, R, times_below, uncapped, word, word-Good}
 use Rattle.circular_buffer.specs.Ownership.{cells_lent}
@@ -22,6 +22,7 @@ use Rattle.circular_buffer.proofs.Memory.{run_seen}
 use Rattle.vc_builder.proofs.WalkNames.{uint_vals, uint_Tells}
 use Rattle.vc_builder.proofs.PlacesMemory.{base_vals, base-tells}
 use Rattle.vc_builder.proofs.WalkNames.{no}
+use Rattle.vc_builder.proofs.PlacesMemory.{begun}
 use Rattle.vc_builder.specs.contracts.inplace.places.Places.slice.{ended, clauses}
 use Rattle.vc_builder.specs.contracts.inplace.places.Places.slice.Key.{name as #self}
 use Rattle.vc_builder.proofs.inplace.places.Places.slice.Statement.{statement}
@@ -46,10 +47,8 @@ slice_spec 𝓤 𝓛 𝓜 𝓡 wired X L =
     let κ : Lft = κs.0 in let q : Share = qs.0 in let s : ℕ = bytes E in let xs = d.parts.rest in
     let z : (walk_of 𝓛 Ends hs c).Ghost = ((κs, qs, bounds, a, _), gh) in
     let Post : Val → SProp 𝓤 = (walk_of 𝓛 Ends hs c).post z in
-    let Asked : Type 0 = (base.ptr ≡ d.at) × (count ≡ length xs) × (from ≡ length d.parts.built + d.parts.room) in
-    qed 𝓛 (((‵ (flft κ q) ⊛ ‵ (flft κs.1.0 qs.1.0) ⊛ ‵ ftrue) ⊛ ‵ (owns (types_at Ends.signature.params κs) a z.0.4))
-    ∷ raw (fact 𝓤 _) ∷ raw (fact 𝓤 Asked) ∷ []) ∵
-    keep ! (2 ∷ 0 ∷ []) $ heard ! Asked (λ asked. split ! $ split ! $ move ! (2 ∷ []) $
+    -- what is asked: where the block lies, how many values are left, and from which place on
+    begun 𝓛 κs.0 κs.1.0 qs.0 qs.1.0 (owns (types_at Ends.signature.params κs) a z.0.4) (λ asked.
     let long = length-laid d.parts d.tail in
     fsplit ! $ fsplit ! $ keep ! (1 ∷ 3 ∷ 4 ∷ []) $
     -- [the `&`; the token; the other tokens]

@@ -2,16 +2,16 @@
 use Rattle.vc_builder.proofs.WalkNames.{ !, split3, ◌≡◌, refl, sym, ap, subst, ◌∙◌, List, [], ◌∷◌, map, ℕ, ◌+◌}
 use Rattle.vc_builder.proofs.WalkNames.{◌*◌, ◌<◌, ◌^◌, arith, length, take, drop_l}
 use Rattle.vc_builder.proofs.WalkNames.{take_front, Ura, full_share, SProp, ent, sep, Fml}
-use Rattle.vc_builder.proofs.WalkNames.{Lft, GName, Share, ftrue, fsep, fat, flft, named, w64, a_type, inst_fn, Val}
-use Rattle.vc_builder.proofs.WalkNames.{vint, Logic, sem, cells, ‵, raw, some, later, await, pick}
+use Rattle.vc_builder.proofs.WalkNames.{Lft, GName, Share, fsep, fat, flft, named, w64, a_type, inst_fn, Val}
+use Rattle.vc_builder.proofs.WalkNames.{vint, Logic, sem, cells, ‵, some, later, await, pick}
 use Rattle.vc_builder.proofs.WalkNames.{at_ret, ◌⊛◌, ◌$◌, ◌∵◌, qed, move, keep, use1, use2, split, join, group}
 use Rattle.vc_builder.proofs.WalkNames.{rewrite, fsplit, fsplit3, fjoin, fjoin3, fpack, suffices}
 use Rattle.vc_builder.proofs.WalkNames.{frame, done, whole, sub, agg, stop, fld, bin, of_opd, size_word, and_then}
 use Rattle.vc_builder.proofs.WalkNames.{no_more, first, blocks, exec, returns, enter, alloc_all, pass_all, free_all}
-use Rattle.vc_builder.proofs.WalkNames.{take_at, give_at, look_at, get, get_in, sets, sets_last, is, env, fact}
+use Rattle.vc_builder.proofs.WalkNames.{take_at, give_at, look_at, get, get_in, sets, sets_last, is, env}
 use Rattle.vc_builder.proofs.WalkNames.{tables, Array, no, follows, mem, part_of, cell_at, layout}
 use Rattle.vc_builder.proofs.WalkNames.{layouts, owns, Ptr, block_ptr, MutBor, plain}
-use Rattle.vc_builder.proofs.WalkNames.{types_at, MutSlice, slice_val, nothing, heard, opens, says, Stays}
+use Rattle.vc_builder.proofs.WalkNames.{types_at, MutSlice, slice_val, nothing, opens, says, Stays}
 use Rattle.vc_builder.proofs.WalkNames.{stay_dropped, walk_of, ends_at, Goes-spent_ref, Option, Some}
 use Rattle.vc_builder.proofs.WalkNames.{length-map, tail, El, R, el_x, times_below, uncapped, word}
 use Rattle.vc_builder.proofs.WalkNames.{word-Good}
@@ -30,6 +30,7 @@ use Rattle.circular_buffer.proofs.Memory.{Around, run_out, run_in, to_cells, of_
 use Rattle.vc_builder.proofs.WalkNames.{uint_vals, uint_Tells}
 use Rattle.vc_builder.proofs.PlacesMemory.{base_vals, base-tells}
 use Rattle.vc_builder.proofs.WalkNames.{yes}
+use Rattle.vc_builder.proofs.PlacesMemory.{begun}
 use Rattle.vc_builder.specs.contracts.inplace.places.Places.slice_mut.{ended, clauses}
 use Rattle.vc_builder.specs.contracts.inplace.places.Places.slice_mut.Key.{name as #self}
 use Rattle.vc_builder.proofs.inplace.places.Places.slice_mut.Statement.{statement}
@@ -85,11 +86,9 @@ slice_mut_spec 𝓤 𝓛 𝓜 𝓡 wired X L =
     let from : ℕ = a.1.1.0 in let count : ℕ = a.1.1.1.0 in let small_count = are.1.1.1.0.1 in
     let κ : Lft = κs.0 in let q : Share = qs.0 in let s : ℕ = bytes E in let xs = d.parts.rest in
     let z : (walk_of 𝓛 Ends hs c).Ghost = ((κs, qs, bounds, a, _), gh) in
-    let Asked : Type 0 = (base.ptr ≡ d.at) × (count ≡ length xs) × (from ≡ length d.parts.built + d.parts.room) in
     let Post : Val → SProp 𝓤 = (walk_of 𝓛 Ends hs c).post z in let shown = (Row E).coded.code d in
-    qed 𝓛 (((‵ (flft κ q) ⊛ ‵ (flft κs.1.0 qs.1.0) ⊛ ‵ ftrue) ⊛ ‵ (owns (types_at Ends.signature.params κs) a z.0.4))
-    ∷ raw (fact 𝓤 _) ∷ raw (fact 𝓤 Asked) ∷ []) ∵
-    keep ! (2 ∷ 0 ∷ []) $ heard ! Asked (λ asked. split ! $ split ! $ move ! (2 ∷ []) $
+    -- what is asked: where the block lies, how many values are left, and from which place on
+    begun 𝓛 κs.0 κs.1.0 qs.0 qs.1.0 (owns (types_at Ends.signature.params κs) a z.0.4) (λ asked.
     let long = length-laid d.parts d.tail in
     fsplit ! $ fsplit3 ! $ keep ! (1 ∷ 2 ∷ 4 ∷ 5 ∷ []) $
     -- [what self shows; its borrow; the token; the other tokens]

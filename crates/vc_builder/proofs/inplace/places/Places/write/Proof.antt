@@ -1,14 +1,14 @@
 -- `write` fills an empty place. Assumes `Logic`.
-use Rattle.vc_builder.proofs.WalkNames.{◌≡◌, refl, subst, ◌∙◌, List, [], ◌∷◌, ◌++◌, ℕ, ◌+◌, ◌*◌, ◌<◌, ◌^◌, arith}
-use Rattle.vc_builder.proofs.WalkNames.{length, set, get_or, full_share, SProp, Lft}
-use Rattle.vc_builder.proofs.WalkNames.{Share, ftrue, fat, flft, a_type, w64, inst_fn, Val, vptr, vint, vunit}
-use Rattle.vc_builder.proofs.WalkNames.{WpFn, ‵, raw, ◌⊛◌, at_ret, ◌$◌, ◌∵◌, !, qed, move, keep, use1, use2, split}
+use Rattle.vc_builder.proofs.WalkNames.{refl, subst, ◌∙◌, List, [], ◌∷◌, ◌++◌, ℕ, ◌+◌, ◌*◌, ◌<◌, ◌^◌, arith}
+use Rattle.vc_builder.proofs.WalkNames.{length, set, get_or, full_share, SProp}
+use Rattle.vc_builder.proofs.WalkNames.{fat, a_type, w64, inst_fn, Val, vptr, vint, vunit}
+use Rattle.vc_builder.proofs.WalkNames.{WpFn, ‵, ◌⊛◌, at_ret, ◌$◌, !, move, keep, use1, use2, split}
 use Rattle.vc_builder.proofs.WalkNames.{join, rewrite, fsplit, fsplit3, fjoin, fjoin3, feq_i}
 use Rattle.vc_builder.proofs.WalkNames.{suffices, frame, done, whole, sub, init, stop, fld, bin, of_opd, unit_lit}
 use Rattle.vc_builder.proofs.WalkNames.{size_lit, assigns_last, first, blocks, exec, returns, enter, alloc_all}
 use Rattle.vc_builder.proofs.WalkNames.{pass_all, free_all, take_at, give_at, look_at, get, get_in, through, sets}
-use Rattle.vc_builder.proofs.WalkNames.{env, fact, tables, ◌⊑◌, no, layout, layouts, owns, Ptr}
-use Rattle.vc_builder.proofs.WalkNames.{plain, types_at, nothing, heard, opens, closes, says, Stays}
+use Rattle.vc_builder.proofs.WalkNames.{env, tables, no, layout, layouts, owns, Ptr}
+use Rattle.vc_builder.proofs.WalkNames.{plain, types_at, nothing, opens, closes, says, Stays}
 use Rattle.vc_builder.proofs.WalkNames.{stay_dropped, stay_ref, walk_of, ends_at, Goes-dropped, Goes-ref, Some, None}
 use Rattle.vc_builder.proofs.WalkNames.{proved_at, tail, El, R, elτ, one, Good, lawful, times_below, one_below}
 use Rattle.vc_builder.proofs.WalkNames.{as_written, word, word-Good}
@@ -16,11 +16,11 @@ use Rattle.circular_buffer.specs.Ownership.{slot, slots}
 use Rattle.vc_builder.proofs.PlacesMemory.{Row, Start, bytes, base-tells, base-goes, number-goes}
 use Rattle.circular_buffer.proofs.Memory.{value_in, Besides, slot_out, slot_in}
 use Rattle.vc_builder.specs.PlacesLend.{with_parts}
-use Rattle.vc_builder.specs.Places.{Turns}
 use Rattle.vc_builder.proofs.PlacesLaid.{turned}
 use Rattle.vc_builder.proofs.PlacesMemory.{all, opened, closed}
 use Rattle.vc_builder.proofs.WalkNames.{regoal, prop}
 use Rattle.vc_builder.proofs.WalkNames.{yes}
+use Rattle.vc_builder.proofs.PlacesMemory.{begun}
 use Rattle.vc_builder.specs.contracts.inplace.places.Places.write.{ended, clauses}
 use Rattle.vc_builder.specs.contracts.inplace.places.Places.write.Key.{name as #self}
 use Rattle.vc_builder.proofs.inplace.places.Places.write.Statement.{statement}
@@ -37,7 +37,6 @@ write_spec 𝓤 𝓛 𝓜 𝓡 wired X L =
     let value-goes = Goes-dropped 𝓛 2 (plain (λ _. R E)) no (λ κs x f. refl) in
     proved_at 𝓛 Ends hs c 𝓜 𝓡 (Goes-ref 𝓛 2 0 tt self, (base-goes E 2 𝓛, (number-goes 2 𝓛, (value-goes, tt))))
     (#self inst) fn (code.unfolded 𝓤 H 𝓜 𝓡 wired (X, tt)) (λ z are.
-    let κ : Lft = z.0.0.0 in let κ₁ : Lft = z.0.0.1.0 in let q : Share = z.0.1.0 in let q₁ : Share = z.0.1.1.0 in
     let a = z.0.3 in let vss = z.0.4 in
     let rb : ℕ = a.0.ref_ptr.0 in let ro : ℕ = a.0.ref_ptr.1 in let d : (Row E).Denot = a.0.now in
     let base : (Start E).Denot = a.1.0 in let index : ℕ = a.1.1.0 in let x : X.Denot = a.1.1.1.0 in
@@ -45,9 +44,8 @@ write_spec 𝓤 𝓛 𝓜 𝓡 wired X L =
     let told = one E vss.1.1.1.0 ((lawful E 𝓛).typed x vss.1.1.1.0 are.1.1.1.0) in let v : Val = told.0 in
     let good : Good E v = told.2 in let s : ℕ = bytes E in
     let Post : Val → SProp 𝓤 = (walk_of 𝓛 Ends hs c).post z in
-    qed 𝓛 (((‵ (flft κ q) ⊛ ‵ (flft κ₁ q₁) ⊛ ‵ ftrue) ⊛ ‵ (owns (types_at Ends.signature.params z.0.0) a vss)) ∷ raw
-    (fact 𝓤 (κ₁ ⊑ X.lives)) ∷ raw (fact 𝓤 ((base.ptr ≡ d.at) × Turns row (all E new) index None (Some x))) ∷ []) ∵
-    keep ! (2 ∷ 0 ∷ []) $ heard ! _ (λ asked. split ! $ split ! $ move ! (2 ∷ []) $
+    -- what is asked: where the block lies, and how the row turns
+    begun 𝓛 z.0.0.0 z.0.0.1.0 z.0.1.0 z.0.1.1.0 (owns (types_at Ends.signature.params z.0.0) a vss) (λ asked.
     let place = turned asked.1 in
     fsplit ! $ fsplit3 ! $ move ! (3 ∷ []) $ fsplit3 ! $ move ! (2 ∷ []) $ fsplit ! $ keep ! (5 ∷ 6 ∷ 7 ∷ 0 ∷ 8 ∷ []) $
     rewrite ! 3 (λ (ws : List Val). ‵ ((R E).own_val x ws)) told.1 refl $
