@@ -8,6 +8,10 @@ use Rattle.vc_builder.specs.Builder.{Builder, builder}
 use Rattle.vc_builder.specs.Places.{front, laid, Turns}
 
 module _ {X : Type 0} where
+  turns : (before after : List (Option X)) {cs ds : List (Option X)} {i : ℕ} {c d : Option X} → length before ≡ i
+      → cs ≡ before ++ c ∷ after → ds ≡ before ++ d ∷ after → Turns cs ds i c d
+  turns before after at was is = record { before = before; after = after; at = at; was = was; is = is }
+
   -- the one place, and the row once it is written, which is as long
   pub turned : {cs ds : List (Option X)} {i : ℕ} {c d : Option X} → Turns cs ds i c d
       → (i < length cs) × (get_or cs i None ≡ c) × (set cs i d ≡ ds) × (length cs ≡ length ds)
@@ -60,37 +64,25 @@ module _ {X : Type 0} where
     pub put-built : (x : X) → 0 < s.room → i ≡ length s.built
         → Turns (laid s tail) (laid (builder (s.built ++ x ∷ []) s.rest (s.room - 1)) tail) i None (Some x)
     unfolding laid
-    put-built x some at = let less : s.room ≡ suc (s.room - 1) = omega arith in record {
-      before = map Some s.built;
-      after = replicate (s.room - 1) None ++ past;
-      at = length-map s.built Some ∙ sym at;
-      was = ap (λ k. (map Some s.built ++ replicate k None) ++ past) less ∙ simp append_assoc;
-      is = simp (map-append, append_assoc);
-    }
+    put-built x some at = let less : s.room ≡ suc (s.room - 1) = omega arith in
+        turns (map Some s.built) (replicate (s.room - 1) None ++ past) (length-map s.built Some ∙ sym at)
+        (ap (λ k. (map Some s.built ++ replicate k None) ++ past) less ∙ simp append_assoc) (simp (map-append, append_assoc))
 
     -- a value goes to the end of the hole, and is left
     pub put-rest : (x : X) → i + 1 ≡ length s.built + s.room → 0 < s.room
         → Turns (laid s tail) (laid (builder s.built (x ∷ s.rest) (s.room - 1)) tail) i None (Some x)
     unfolding laid
-    put-rest x at some = let less : s.room ≡ s.room - 1 + 1 = omega arith in record {
-      before = front (builder s.built s.rest (s.room - 1));
-      after = past;
-      at = length-front (builder s.built s.rest (s.room - 1)) ∙ omega arith;
-      was = ap (λ k. (map Some s.built ++ replicate k None) ++ past) less ∙ hole-ends s.built (s.room - 1) past;
-      is = refl;
-    }
+    put-rest x at some = let less : s.room ≡ s.room - 1 + 1 = omega arith in let low = builder s.built s.rest (s.room - 1) in
+        turns (front low) past (length-front low ∙ omega arith)
+        (ap (λ k. (map Some s.built ++ replicate k None) ++ past) less ∙ hole-ends s.built (s.room - 1) past) refl
 
     -- the first of those that are left goes, and the hole is wider
     pub taken : (x : X) → s.rest ≡ x ∷ drop 1 s.rest → i ≡ length s.built + s.room
         → Turns (laid s tail) (laid (builder s.built (drop 1 s.rest) (s.room + 1)) tail) i (Some x) None
     unfolding laid
-    taken x e at = record {
-      before = front s;
-      after = map Some (drop 1 s.rest) ++ replicate tail None;
-      at = length-front s ∙ sym at;
-      was = ap (λ l. front s ++ (map Some l ++ replicate tail None)) e;
-      is = hole-ends s.built s.room (map Some (drop 1 s.rest) ++ replicate tail None);
-    }
+    taken x e at = let others = map Some (drop 1 s.rest) ++ replicate tail None in
+        turns (front s) others (length-front s ∙ sym at) (ap (λ l. front s ++ (map Some l ++ replicate tail None)) e)
+        (hole-ends s.built s.room others)
 
     module _ (at : i ≡ length s.built + s.room) where
       -- those that are left lie past the hole
