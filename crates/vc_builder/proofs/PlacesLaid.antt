@@ -8,6 +8,7 @@ use Rattle.vc_builder.specs.Builder.{Builder, builder}
 use Rattle.vc_builder.specs.Places.{front, laid, Turns}
 
 module _ {X : Type 0} where
+  -- rows turn in the one place that lies between the others
   turns : (before after : List (Option X)) {cs ds : List (Option X)} {i : ℕ} {c d : Option X} → length before ≡ i
       → cs ≡ before ++ c ∷ after → ds ≡ before ++ d ∷ after → Turns cs ds i c d
   turns before after at was is = record { before = before; after = after; at = at; was = was; is = is }
