@@ -7,7 +7,7 @@ use Rattle.std.proofs.Common.{◌≡◌, ◌≤◌, [], ◌∷◌, ◌++◌, Lis
 use Rattle.std.proofs.Common.{Err, ◌⊎◌, inl, inr, refl, sym, ap, subst, ◌∙◌, map, true≢false, append_assoc}
 use Rattle.std.proofs.Common.{append-nil, slice_get, arith}
 use Rattle.std.proofs.lemmas.List.{append_cancel_left}
-use Rattle.std.specs.Cmp.{IsTotalOrder, alike_right, tied_back}
+use Rattle.std.specs.Cmp.{IsTotalOrder, alike_right, tied_back, tied_itself}
 use Rattle.std.specs.List.{AllByRecursion, cons_option}
 use Rattle.std.specs.List.Sorted.{IsStrictlySortedBy}
 use Rattle.std.specs.Option.{option_cmp}
@@ -259,8 +259,8 @@ module _ {K V W A B : Type 0} (cmp : K → K → Ordering) (o : IsTotalOrder cmp
     -- where they are met, the others tell of all
     pub behind-met : IsSaidOf cmp ta tb 0 0 (values cmp) (IsMet shared) a b → AreTails cmp ta tb shared xs ys ls rs
     behind-met h = record {
-      left = f.left_rest;
-      right = f.right_rest;
+      left = f.left.children;
+      right = f.right.children;
       left_nodes = (let h = t.left_nodes in let k = fewer ta a ls in omega (arith, h, k));
       right_nodes = (let h = t.right_nodes in let k = fewer tb b rs in omega (arith, h, k));
       tells = λ answer g. by answer g;
@@ -284,7 +284,7 @@ module _ {K V W A B : Type 0} (cmp : K → K → Ordering) (o : IsTotalOrder cmp
       let m = t.left_nodes in
       let n = t.right_nodes in
       record {
-        agree = agree-first cmp o (ta x).prefix (tb y).prefix f.place f.left f.right;
+        agree = agree-first cmp o (ta x).prefix (tb y).prefix f.place f.left.begins f.right.begins;
         left_nodes = omega (arith, m);
         right_nodes = omega (arith, n);
         here_missed = λ h. (missed (Some x) (Some y) t f).0 h.0 h.1;
@@ -373,13 +373,14 @@ module _ {K V T : Type 0} (cmp : K → K → Ordering) (tree : T → Tree K V) w
   above-all y (x ∷ xs) a =
       let r = above-first y (tree x).prefix (tree x).value (tree x).children (seen tree xs) a in (r.0, above-all y xs r.1)
 
-  pub children-ascend : (xs : List T) → AreChildren cmp (seen tree xs)
+  pub children-ascend : IsTotalOrder cmp → (xs : List T) → AreChildren cmp (seen tree xs)
       → Ascends (λ x z. option_cmp cmp (slice_get (tree x).prefix 0) (slice_get (tree z).prefix 0)) xs
   unfolding IsStrictlySortedBy
-  children-ascend [] a = tt
-  children-ascend (x ∷ xs) a =
-      let r = children-first cmp (tree x).prefix (tree x).value (tree x).children (seen tree xs) a in
-      (rw r.1 (above-all r.0 xs r.2), children-ascend xs r.3)
+  children-ascend o [] a = tt
+  children-ascend o (x ∷ xs) a =
+      let f = children-first cmp o 0 (tree x).prefix a in
+      let r = f.before f.place (tied_itself o f.place) in
+      (rw f.at (above-all f.place xs r.above), children-ascend o xs r.children)
 
 module _ {K V W A B M : Type 0} (cmp : K → K → Ordering) (o : IsTotalOrder cmp) (ta : A → Tree K V) (tb : B → Tree K W)
     (left : M → List A) (right : M → List B) (missed : M → Bool) (shared : Bool) (s t : M)

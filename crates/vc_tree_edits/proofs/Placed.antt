@@ -1,10 +1,10 @@
 -- The trees of a list that is lessened in its places.
---     stepped-alone, stepped-both, after-kept, after-gone        one tree more is done, and stays or goes
+--     stepped, after-kept, after-gone        one tree more is done, and stays or goes
 --     alone-made        a tree that the left side alone has
 --     two-stored        a node without a value keeps two children, if any
 use Rattle.std.proofs.Common.{◌≡◌, ℕ, suc, ◌+◌, ◌<◌, ◌≤◌, [], ◌∷◌, ◌++◌, List, Option, None, Some, refl, sym, ap, subst}
-use Rattle.std.proofs.Common.{◌∙◌, map, take, drop, set, get_or, length, slice_get, arith, append-nil, length-append, drop-cons}
-use Rattle.std.proofs.Common.{Bool, true, false}
+use Rattle.std.proofs.Common.{◌∙◌, map, take, drop, set, get_or, length, arith, append-nil, length-append, drop-cons}
+use Rattle.std.proofs.Common.{Bool, true, false, option_map}
 use Rattle.std.proofs.Math.ListN.{length-set, drop_of_length-le}
 use Rattle.std.proofs.lemmas.List.{take-set-le, drop-set-lt, drop-set, map-append, length-take, take_all}
 use Rattle.std.specs.Cmp.{IsTotalOrder}
@@ -16,11 +16,10 @@ use Rattle.vc_tree_model.specs.Canonical.{IsCanonical}
 use Rattle.vc_tree_model.specs.Look.{Look}
 use Rattle.vc_tree_model.specs.Tree.{Tree, forest, shortened}
 use Rattle.vc_tree_model.specs.Value.{IsKept}
-use Rattle.vc_tree_facing.specs.Doing.{IsGoingOn}
+use Rattle.vc_tree_facing.specs.Doing.{IsDoing, AreNext}
 use Rattle.vc_tree_facing.specs.Lessening.{left_of}
-use Rattle.vc_tree_facing.specs.Made.{IsMade, IsBothMadeBy}
-use Rattle.vc_tree_facing.specs.Seeking.{IsSought}
-use Rattle.vc_tree_facing.proofs.Advancing.{goes-alone, goes-both}
+use Rattle.vc_tree_facing.specs.Made.{IsMade, IsMadeOf}
+use Rattle.vc_tree_facing.proofs.Next.{done}
 use Rattle.vc_tree_edits.specs.Kids.{AreKids}
 use Rattle.vc_tree_edits.proofs.Sifting.{stayed}
 
@@ -87,50 +86,43 @@ pub record IsStepped {K V W O T B : Type 0} (cmp : K → K → Ordering) (tree :
   pub tree_left : T
   pub set_at : IsSetAt xs at tree_left zs
   pub going :
-      IsGoingOn cmp tree tb 0 j l R asks all ys (drop (at + 1) xs) rs
+      IsDoing cmp tree tb 0 j l R asks all ys (drop (at + 1) xs) rs
       (map tree (take kept xs) ++ cons_option (left_of b 0 (tree tree_left)) [])
 
 module _ {K V W O T B : Type 0} {cmp : K → K → Ordering} {tree : T → Tree K V} {tb : B → Tree K W} {j : ℕ} {l : Look cmp W O}
     {R : Option V → O → Option V → Type 0} {asks : Option V → O → Type 0} {all : List T} {ys : List B} {rs : List B} where
   -- the next tree stands at its place
   pub next-here : (xs : List T) (at : ℕ) {x : T} {made : List (Tree K V)}
-      → IsGoingOn cmp tree tb 0 j l R asks all ys (drop at xs) rs made → at < length xs → x ≡ get_or xs at x
-      → IsGoingOn cmp tree tb 0 j l R asks all ys (x ∷ drop (at + 1) xs) rs made
+      → IsDoing cmp tree tb 0 j l R asks all ys (drop at xs) rs made → at < length xs → x ≡ get_or xs at x
+      → IsDoing cmp tree tb 0 j l R asks all ys (x ∷ drop (at + 1) xs) rs made
   next-here xs at {x} {made} d h e =
-      subst (λ ls. IsGoingOn cmp tree tb 0 j l R asks all ys ls rs made) (first-at xs at x h e) d
+      subst (λ ls. IsDoing cmp tree tb 0 j l R asks all ys ls rs made) (first-at xs at x h e) d
 
-  module _ {xs : List T} {at kept : ℕ} {x : T}
-      (d : IsGoingOn cmp tree tb 0 j l R asks all ys (x ∷ drop (at + 1) xs) rs (map tree (take kept xs))) {found : Option B}
-      {rs' : List B}
-      (s : (k : K) → slice_get (tree x).prefix 0 ≡ Some k → IsSought cmp tb j k rs found rs') {zs : List T} {b : Bool} where
-    pub stepped-alone : found ≡ None → IsSetAt xs at x zs
-        → IsMade cmp (λ v z. R v l.none z) (shortened 0 (tree x)) (left_of b 0 (tree x))
-        → IsStepped cmp tree tb j l R asks all ys xs at kept zs b rs'
-    stepped-alone n z m = record { tree_left = x; set_at = z; going = goes-alone d s n m refl }
-
-    pub stepped-both : {y : B} → found ≡ Some y → {new : T} → IsSetAt xs at new zs
-        → IsBothMadeBy cmp l R (shortened 0 (tree x)) (shortened j (tb y)) (left_of b 0 (tree new))
-        → IsStepped cmp tree tb j l R asks all ys xs at kept zs b rs'
-    stepped-both f {new} z m = record { tree_left = new; set_at = z; going = goes-both d s f m refl }
+  pub stepped : {xs : List T} {at kept : ℕ} {x : T} {found : Option B}
+      → AreNext cmp tree tb 0 j l R asks all ys (Some x) found (drop (at + 1) xs) rs (map tree (take kept xs)) → {zs : List T}
+      {b : Bool} {new : T} → IsSetAt xs at new zs
+      → IsMadeOf cmp l R (Some (shortened 0 (tree x))) (option_map (λ y. shortened j (tb y)) found) (left_of b 0 (tree new))
+      → IsStepped cmp tree tb j l R asks all ys xs at kept zs b rs
+  stepped n {new = new} z m = record { tree_left = new; set_at = z; going = done n refl m }
 
   module _ {xs : List T} {at kept : ℕ} {zs : List T} (order : kept ≤ at) where
     -- it stays
     pub after-kept : IsStepped cmp tree tb j l R asks all ys xs at kept zs true rs → (us : List T)
         → take (kept + 1) us ≡ take kept zs ++ take 1 (drop at zs) → drop (at + 1) us ≡ drop (at + 1) zs
-        → IsGoingOn cmp tree tb 0 j l R asks all ys (drop (at + 1) us) rs (map tree (take (kept + 1) us))
+        → IsDoing cmp tree tb 0 j l R asks all ys (drop (at + 1) us) rs (map tree (take (kept + 1) us))
     after-kept s us e f =
         let m = kept-made tree s.set_at kept order us e in
         let r = f ∙ s.set_at.rest in
-        subst (λ ls. IsGoingOn cmp tree tb 0 j l R asks all ys ls rs (map tree (take (kept + 1) us))) (sym r)
-        (subst (λ made. IsGoingOn cmp tree tb 0 j l R asks all ys (drop (at + 1) xs) rs made) (sym m) s.going)
+        subst (λ ls. IsDoing cmp tree tb 0 j l R asks all ys ls rs (map tree (take (kept + 1) us))) (sym r)
+        (subst (λ made. IsDoing cmp tree tb 0 j l R asks all ys (drop (at + 1) xs) rs made) (sym m) s.going)
 
     -- or goes
     pub after-gone : IsStepped cmp tree tb j l R asks all ys xs at kept zs false rs
-        → IsGoingOn cmp tree tb 0 j l R asks all ys (drop (at + 1) zs) rs (map tree (take kept zs))
+        → IsDoing cmp tree tb 0 j l R asks all ys (drop (at + 1) zs) rs (map tree (take kept zs))
     after-gone s =
         let m = gone-made tree s.set_at kept order in
-        subst (λ ls. IsGoingOn cmp tree tb 0 j l R asks all ys ls rs (map tree (take kept zs))) (sym s.set_at.rest)
-        (subst (λ made. IsGoingOn cmp tree tb 0 j l R asks all ys (drop (at + 1) xs) rs made) (sym m) s.going)
+        subst (λ ls. IsDoing cmp tree tb 0 j l R asks all ys ls rs (map tree (take kept zs))) (sym s.set_at.rest)
+        (subst (λ made. IsDoing cmp tree tb 0 j l R asks all ys (drop (at + 1) xs) rs made) (sym m) s.going)
 
 -- ---- the end of the list
 

@@ -12,16 +12,16 @@ use Rattle.std.specs.declared.cmp.Ordering.{Ordering}
 use Rattle.vc_tree_model.specs.Canonical.{AreChildren, IsCanonical}
 use Rattle.vc_tree_model.specs.Child.{solid_child, value_at}
 use Rattle.vc_tree_model.specs.Map.{lookup}
-use Rattle.vc_tree_model.specs.Tree.{Tree, forest, nodes, shortened}
+use Rattle.vc_tree_model.specs.Tree.{Tree, forest, nodes}
 use Rattle.vc_tree_model.specs.Value.{IsKept}
 use Rattle.vc_tree_model.proofs.AlikeLemmas.{tree-alike_canonical}
 use Rattle.vc_tree_model.specs.Look.{Look}
 use Rattle.vc_tree_facing.specs.Made.{IsBothMadeBy}
-use Rattle.vc_tree_facing.specs.Doing.{IsDoing}
+use Rattle.vc_tree_facing.specs.Doing.{IsDoing, AreNext}
 use Rattle.vc_tree_facing.specs.Sides.{by_component, side_next}
-use Rattle.vc_tree_facing.specs.declared.sides.Side.TheVariants.{Left, Right, Both}
+use Rattle.vc_tree_facing.specs.declared.sides.Side.TheVariants.{Left, Right}
 use Rattle.vc_tree_facing.proofs.Ending.{values-asked, combine-started, made-children, combined}
-use Rattle.vc_tree_facing.proofs.Next.{falls, left-done, right-done}
+use Rattle.vc_tree_facing.proofs.Next.{falls, left-next, right-next, done, made-left, made-right}
 use Rattle.vc_tree_edits.specs.Taken.{IsMet, IsTaken, IsBegun, IsFirstLong, IsStayed, IsCome}
 use Rattle.vc_tree_edits.proofs.Changing.{faced-taken, asked-taken, taken-nodes, made-taken}
 
@@ -32,11 +32,11 @@ module _ {K V W O T B : Type 0} {cmp : K → K → Ordering} {tree : T → Tree 
     {kids kids' : List (Tree K V)} (d : IsDoing cmp tree tb i j l R asks xs ys ls rs kids) where
   pub after-left : {ls' : List T} → side_next (by_component tree tb i j cmp) (slice_get ls 0) (slice_get rs 0) ≡ Some Left
       → IsStayed cmp tree l R i ls ls' kids kids' → IsDoing cmp tree tb i j l R asks xs ys ls' rs kids'
-  after-left z w = left-done d z w.next w.added w.made
+  after-left z w = done (left-next d z w.next) w.added (made-left w.made)
 
   pub after-right : {rs' : List B} → side_next (by_component tree tb i j cmp) (slice_get ls 0) (slice_get rs 0) ≡ Some Right
       → IsCome cmp tb l R j rs rs' kids kids' → IsDoing cmp tree tb i j l R asks xs ys ls rs' kids'
-  after-right z w = right-done d z w.next w.added w.made
+  after-right z w = done (right-next d z w.next) w.added (made-right w.made)
 
 -- ---- the parts of a tree, beside another one
 
@@ -77,18 +77,17 @@ module _ {K V W O T B : Type 0} {cmp : K → K → Ordering} {tree : T → Tree 
     {l : Look cmp W O} {says R : Option V → O → Option V → Type 0} {asks : Option V → O → Type 0} {t : Tree K V} {u : Tree K W}
     {front : List K} {made : Option V} {xs : List T} {i : ℕ} {ys : List B} {j : ℕ} {first : List (Tree K V)}
     (s : IsBegun cmp tree tb l keeps says R asks t u front made xs i ys j first) {ls : List T} {rs : List B}
-    {kids : List (Tree K V)} (d : IsDoing cmp tree tb i j l R asks xs ys ls rs kids) where
+    {kids : List (Tree K V)} where
   -- two trees that meet have fewer nodes than those that they stand below
-  pub falls-below : side_next (by_component tree tb i j cmp) (slice_get ls 0) (slice_get rs 0) ≡ Some Both
-      → {x : T} {ls' : List T} {y : B} {rs' : List B} → ls ≡ x ∷ ls' → rs ≡ y ∷ rs'
+  pub falls-below : {x : T} {y : B} → AreNext cmp tree tb i j l R asks xs ys (Some x) (Some y) ls rs kids
       → nodes (tree x) + nodes (tb y) < nodes t + nodes u
-  falls-below z e e' =
+  falls-below n =
       let faced = faced-taken s.taken s.met in
       let same = taken-nodes s.taken s.met in
-      let down = falls d z e e' faced.left faced.right faced.parts in
+      let down = falls n faced.left faced.right faced.parts in
       omega (arith, same, down)
 
-  module _ (none : R None l.none None)
+  module _ (d : IsDoing cmp tree tb i j l R asks xs ys ls rs kids) (none : R None l.none None)
       (stop : side_next (by_component tree tb i j cmp) (slice_get ls 0) (slice_get rs 0) ≡ None) where
     -- what was made is canonical children
     pub finished-children : AreChildren cmp (forest kids)

@@ -37,14 +37,12 @@ module _ {K V T : Type 0} (tree : T → Tree K V) (keeps : V → V → Type 0) (
   pub taken-rest : i + n < length whole → (zs : List T) → zs ≡ x ∷ []
       → IsTaken tree keeps (shortened i (tree x)) n front None zs (i + n)
   taken-rest h zs z =
-      let l = length-of in
-      let r = length-rest in
       rw z (record {
         taken = shortened i (tree x);
         alike = tree_alike_refl keeps itself (shortened i (tree x));
         front_is = front-of;
         value_is = (inner-node i n (tree x) (rw whole_is at h)).value;
-        opened = opened-rest tree x (shortened i (tree x)) i n refl refl (omega (arith, r, h));
+        opened = opened-rest tree x i n refl (rw whole_is at h);
       })
 
   -- where it ended, the children

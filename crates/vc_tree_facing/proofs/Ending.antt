@@ -1,5 +1,6 @@
 -- The combine of two trees, once all events below the fronts of their prefixes are done.
 --     below-children        what stands below is canonical children
+--     value-front, below-front, made-front        what holds of two trees, holds where their prefixes agree, and what is made there
 --     combine-started        the state before the first event
 --     values-asked        what may be asked of the values at the fronts
 --     made-children        the trees that were made are canonical children
@@ -8,11 +9,13 @@ use Rattle.std.proofs.Common.{◌≡◌, ℕ, [], ◌∷◌, List, Option, None,
 use Rattle.std.proofs.Common.{true≢false}
 use Rattle.std.proofs.lemmas.List.{take-append-drop}
 use Rattle.std.specs.Cmp.{IsTotalOrder}
+use Rattle.std.specs.Prelude.{IsTrue}
 use Rattle.std.specs.declared.cmp.Ordering.{Ordering}
 use Rattle.vc_tree_model.specs.Tree.{Tree, Forest, forest}
-use Rattle.vc_tree_model.specs.Map.{lookup}
+use Rattle.vc_tree_model.specs.Map.{lookup, lookup_in}
 use Rattle.vc_tree_model.specs.Canonical.{AreChildren, IsCanonical}
-use Rattle.vc_tree_model.specs.Child.{Begins, BeginsWith, solid_child, value_at}
+use Rattle.vc_tree_model.specs.Child.{Begins, BeginsWith, solid_child, value_at, children_at}
+use Rattle.vc_tree_model.specs.Key.{same_key}
 use Rattle.vc_tree_model.proofs.Joining.{opened-children, joined-child, joined-begins, trees-combined, value-asked}
 use Rattle.vc_tree_model.proofs.Joining.{children-asked}
 use Rattle.vc_tree_model.specs.Look.{Look}
@@ -37,15 +40,46 @@ front-begins o n (x ∷ p) [] v f y a b w = absurd b
 front-begins o zero (x ∷ p) (z ∷ q) v f y a b w = absurd (true≢false (rw (sym (o.congr y x z a) ∙ b) at w))
 front-begins {cmp = cmp} o (suc n) (x ∷ p) (z ∷ q) v f y a b w = joined-begins cmp y x (take n p) v f a
 
+-- where the prefixes of two trees agree for n components
+module _ {K V W O : Type 0} {cmp : K → K → Ordering} (o : IsTotalOrder cmp) (l : Look cmp W O) (t : Tree K V) (u : Tree K W)
+    (n : ℕ) (same : IsTrue (same_key cmp (take n t.prefix) (take n u.prefix))) where
+  -- what holds at each key of both, holds of the values there
+  pub value-front : (P : Option V → O → Type 0) → ((k : List K) → P (lookup cmp t k) (l.of_tree u k))
+      → P (value_at t (drop n t.prefix)) (l.at (value_at u (drop n u.prefix)))
+  value-front P =
+      value-asked cmp o l P t u (take n t.prefix) (drop n t.prefix) (take n u.prefix) (drop n u.prefix)
+      (sym (take-append-drop n t.prefix)) (sym (take-append-drop n u.prefix)) same
+
+  -- and of what stands below
+  pub below-front : (P : Option V → O → Type 0) → ((k : List K) → P (lookup cmp t k) (l.of_tree u k)) → (x : K) (q : List K)
+      → P (lookup_in cmp (children_at t (drop n t.prefix)) (x ∷ q))
+      (l.under (value_at u (drop n u.prefix)) (l.of_forest (children_at u (drop n u.prefix)) (x ∷ q)))
+  below-front P =
+      children-asked cmp o l P t u (take n t.prefix) (drop n t.prefix) (take n u.prefix) (drop n u.prefix)
+      (sym (take-append-drop n t.prefix)) (sym (take-append-drop n u.prefix)) same
+
+  -- the node of a value and children that are made there is made of both
+  pub made-front : {U : Type 0} (S : Option V → O → Option U → Type 0) → S None l.none None
+      → Parts cmp (drop n t.prefix) (drop n u.prefix) → (v : Option U) (f : Forest K U) → AreChildren cmp f
+      → S (value_at t (drop n t.prefix)) (l.at (value_at u (drop n u.prefix))) v
+      → ((x : K) (q : List K) → S (lookup_in cmp (children_at t (drop n t.prefix)) (x ∷ q))
+      (l.under (value_at u (drop n u.prefix)) (l.of_forest (children_at u (drop n u.prefix)) (x ∷ q))) (lookup_in cmp f (x ∷ q)))
+      → IsBothMadeBy cmp l S t u (solid_child (take n t.prefix) v f)
+  made-front S none parts v f c root below = record {
+    child = joined-child cmp (take n t.prefix) v f c;
+    begins = λ y a b. front-begins o n t.prefix u.prefix v f y a b parts;
+    binds =
+        trees-combined cmp o l S none t u (take n t.prefix) (drop n t.prefix) (take n u.prefix) (drop n u.prefix) v f
+        (sym (take-append-drop n t.prefix)) (sym (take-append-drop n u.prefix)) same c root below;
+  }
+
 module _ {K V W A B : Type 0} {cmp : K → K → Ordering} {ta : A → Tree K V} {tb : B → Tree K W} {t : Tree K V} {u : Tree K W}
     {n : ℕ} {xs : List A} {i : ℕ} {ys : List B} {j : ℕ} (f : IsFaced cmp ta tb t u n xs i ys j) where
   module _ {O : Type 0} (o : IsTotalOrder cmp) (l : Look cmp W O) where
     -- what may be asked of the values at the fronts
     pub values-asked : (P : Option V → O → Type 0) → ((k : List K) → P (lookup cmp t k) (l.of_tree u k))
         → P (value_at t (drop n t.prefix)) (l.at (value_at u (drop n u.prefix)))
-    values-asked P h =
-        value-asked cmp o l P t u (take n t.prefix) (drop n t.prefix) (take n u.prefix) (drop n u.prefix)
-        (sym (take-append-drop n t.prefix)) (sym (take-append-drop n u.prefix)) f.same h
+    values-asked = value-front o l t u n f.same
 
     -- the state before the first trees: what may be asked of both trees may be asked of what is below
     pub combine-started : {U : Type 0} (R : Option V → O → Option U → Type 0) (asks : Option V → O → Type 0) → asks None l.none
@@ -53,11 +87,9 @@ module _ {K V W A B : Type 0} {cmp : K → K → Ordering} {ta : A → Tree K V}
         → ((v : Option V) (z : O) → P v (l.under (value_at u (drop n u.prefix)) z) → asks v z)
         → ((k : List K) → P (lookup cmp t k) (l.of_tree u k)) → IsCanonical cmp t → IsCanonical cmp u
         → {made : List (Tree K U)} → made ≡ [] → IsDoing cmp ta tb i j l R asks xs ys xs ys made
-    combine-started R asks an P lead h ct cu e =
-        let below = children-asked cmp o l P t u (take n t.prefix) (drop n t.prefix) (take n u.prefix)
-        (drop n u.prefix) (sym (take-append-drop n t.prefix)) (sym (take-append-drop n u.prefix)) f.same h in
+    combine-started R asks an P lead h ct cu =
         doing-start o an (below-children cmp n ct f.left) (below-children cmp n cu f.right)
-        (rw (f.left.children, f.right.children) (λ x q. lead _ _ (below x q))) e
+        (rw (f.left.children, f.right.children) (λ x q. lead _ _ (below-front o l t u n f.same P h x q)))
 
   module _ {U O : Type 0} {l : Look cmp W O} {R : Option V → O → Option U → Type 0} {asks : Option V → O → Type 0} {ls : List A}
       {rs : List B} {made : List (Tree K U)} (d : IsDoing cmp ta tb i j l R asks xs ys ls rs made)
@@ -74,11 +106,5 @@ module _ {K V W A B : Type 0} {cmp : K → K → Ordering} {ta : A → Tree K V}
         → out ≡ solid_child front v (forest made) → IsBothMadeBy cmp l S t u out
     combined S nothing lead v root e g =
         let below = rw (f.left.children, f.right.children) at (all-done d end none).1 in
-        rw (g, e) (record {
-          child = joined-child cmp (take n t.prefix) v (forest made) made-children;
-          begins = λ y a b. front-begins d.total n t.prefix u.prefix v (forest made) y a b f.parts;
-          binds =
-              trees-combined cmp d.total l S nothing t u (take n t.prefix) (drop n t.prefix) (take n u.prefix) (drop n u.prefix)
-              v (forest made) (sym (take-append-drop n t.prefix)) (sym (take-append-drop n u.prefix)) f.same made-children root
-              (λ x q. lead _ _ _ (below x q));
-        })
+        rw (g, e) (made-front d.total l t u n f.same S nothing f.parts v (forest made) made-children root
+        (λ x q. lead _ _ _ (below x q)))

@@ -12,14 +12,12 @@ use Rattle.vc_tree_model.specs.Child.{solid_child, value_at, children_at}
 use Rattle.vc_tree_model.specs.Look.{Look}
 use Rattle.vc_tree_model.specs.Map.{lookup, lookup_in}
 use Rattle.vc_tree_model.specs.Tree.{Tree, Forest, bare, grow, node, shortened, nodes, forest_nodes}
-use Rattle.vc_tree_model.proofs.Joining.{joined-child, trees-combined, value-asked}
-use Rattle.vc_tree_model.proofs.Joining.{children-asked}
 use Rattle.vc_tree_facing.specs.Facing.{shortened_in, IsOpened, IsSplit}
 use Rattle.vc_tree_facing.specs.Lessening.{alone, left_of, IsBehind, KeepsFront, IsLessenedUnder, IsLessened, IsInside}
 use Rattle.vc_tree_facing.specs.Lessening.{IsNodeLeft}
 use Rattle.vc_tree_facing.specs.Made.{IsBothMadeBy}
-use Rattle.vc_tree_facing.proofs.Ending.{below-children, front-begins}
-use Rattle.vc_tree_facing.proofs.Opening.{opened-at}
+use Rattle.vc_tree_facing.proofs.Ending.{below-children, value-front, below-front, made-front}
+use Rattle.vc_tree_facing.proofs.Opening.{opened-rest}
 
 pub if-ok : {X E : Type 0} {P Q : X → Type 0} (r : Result X E) → ((x : X) → P x → Q x) → IfOk r P → IfOk r Q
 if-ok (Ok x) f a = f x a
@@ -37,9 +35,7 @@ shorter-front i n t new stays f s =
 longer-rest : {K : Type 0} (i n : ℕ) (p q : List K) → take (i + n) q ≡ take (i + n) p
     → take n (drop i p) ++ drop (i + n) q ≡ drop i q
 longer-rest i n p q e =
-    ap (λ f. f ++ drop (i + n) q) (sym (drop-take i n p) ∙ ap (drop i) (sym e) ∙ drop-take i n q)
-    ∙ ap (λ r. take n (drop i q) ++ r) (sym (drop-drop n i q))
-    ∙ take-append-drop n (drop i q)
+    rw (← drop-take i n p, ← e, drop-take i n q, ← drop-drop n i q) (take-append-drop n (drop i q))
 
 -- a tree that stays, behind a shorter front
 inside-is : {K V : Type 0} (i n : ℕ) (t new : Tree K V) (stays : Bool) → KeepsFront (i + n) t stays new
@@ -88,7 +84,7 @@ node-kids {t =
 -- the list of a tree that goes on behind a place
 pub inner-list : {K V T : Type 0} (cmp : K → K → Ordering) (tree : T → Tree K V) (x : T) (n : ℕ) → IsCanonical cmp (tree x)
     → n < length (tree x).prefix → AreChildren cmp (shortened_in tree n (x ∷ []))
-inner-list cmp tree x n c within = below-children cmp n c (opened-at tree x n within)
+inner-list cmp tree x n c within = below-children cmp n c (opened-rest tree x 0 n (omega arith) within)
 
 -- they have no more nodes than the tree
 pub below-fewer : {K V B : Type 0} {tb : B → Tree K V} {t : Tree K V} {r : List K} {ys : List B} {from : ℕ}
@@ -110,35 +106,23 @@ module _ {K V W : Type 0} {cmp : K → K → Ordering} {t : Tree K V} {i : ℕ} 
           -- may be asked of the values there
           pub value-may : asks v (l.at w)
           value-may =
-              rw (bt.value, bu.value) (value-asked cmp s.total l asks (shortened i t) (shortened j u) (take n (drop i t.prefix))
-              (drop n (drop i t.prefix)) (take n (drop j u.prefix)) (drop n (drop j u.prefix))
-              (sym (take-append-drop n (drop i t.prefix))) (sym (take-append-drop n (drop j u.prefix))) s.agree.same a)
+              rw (bt.value, bu.value) (value-front s.total l (shortened i t) (shortened j u) n s.agree.same asks a)
 
           -- and of what stands below
           pub below-may : (x : K) (q : List K) → asks (lookup_in cmp f (x ∷ q)) (l.under w (l.of_forest g (x ∷ q)))
           below-may =
-              rw (bt.children, bu.value, bu.children) (children-asked cmp s.total l asks (shortened i t) (shortened j u)
-              (take n (drop i t.prefix)) (drop n (drop i t.prefix)) (take n (drop j u.prefix)) (drop n (drop j u.prefix))
-              (sym (take-append-drop n (drop i t.prefix))) (sym (take-append-drop n (drop j u.prefix))) s.agree.same a)
+              rw (bt.children, bu.value, bu.children)
+              (below-front s.total l (shortened i t) (shortened j u) n s.agree.same asks a)
 
     module _ {O : Type 0} {l : Look cmp W O} {R : Option V → O → Option V → Type 0} {w : Option W} {g : Forest K W}
         (bu : IsBehind j n u w g) (none : R None l.none None) where
       -- the node of what is left of both
       at-front : {v : Option V} {f : Forest K V} → IsBehind i n t v f → (value : Option V) (kids : Forest K V)
-          → R v (l.at w) value
-          → IsLessenedUnder cmp l R w f g kids → AreChildren cmp kids → (out : Option (Tree K V))
-          → out ≡ solid_child (take n (drop i t.prefix)) value kids → IsBothMadeBy cmp l R (shortened i t) (shortened j u) out
-      at-front bt value kids root below c out e =
-          let p = drop i t.prefix in
-          let q = drop j u.prefix in
-          rw e (record {
-            child = joined-child cmp (take n p) value kids c;
-            begins = λ y a b. front-begins s.total n p q value kids y a b s.parts;
-            binds =
-                trees-combined cmp s.total l R none (shortened i t) (shortened j u) (take n p) (drop n p) (take n q) (drop n q)
-                value kids (sym (take-append-drop n p)) (sym (take-append-drop n q)) s.agree.same c
-                (rw (bt.value, bu.value) at root) (rw (bt.children, bu.children, bu.value) at below);
-          })
+          → R v (l.at w) value → IsLessenedUnder cmp l R w f g kids → AreChildren cmp kids
+          → IsBothMadeBy cmp l R (shortened i t) (shortened j u) (solid_child (take n (drop i t.prefix)) value kids)
+      at-front bt value kids root below c =
+          made-front s.total l (shortened i t) (shortened j u) n s.agree.same R none s.parts value kids c
+          (rw (bt.value, bu.value) at root) (rw (bt.children, bu.children, bu.value) at below)
 
       -- where the left prefix has ended
       pub node-lessened : {stays : Bool} {new : Tree K V} → IsNodeLeft cmp l R i t w g stays new → length t.prefix ≤ i + n
@@ -146,18 +130,15 @@ module _ {K V W : Type 0} {cmp : K → K → Ordering} {t : Tree K V} {i : ℕ} 
       node-lessened {stays} {new} h long =
           let k = length-drop i t.prefix in
           let whole : take n (drop i t.prefix) ≡ drop i t.prefix = take_all n (drop i t.prefix) (omega (arith, k, long)) in
-          record {
-            made = at-front (ended-node i n t long) h.value h.kids h.said h.below h.children (left_of stays i new)
-                (rw whole h.is);
-            front = h.front;
-          }
+          let is : left_of stays i new ≡ solid_child (take n (drop i t.prefix)) h.value h.kids = rw whole h.is in
+          record { made = rw is (at-front (ended-node i n t long) h.value h.kids h.said h.below h.children); front = h.front }
 
       -- where it goes on
       pub inside-lessened : {stays : Bool} {new : Tree K V} → IsInside cmp l R (i + n) t w g stays new → i + n < length t.prefix
           → IsLessened cmp l R i t (shortened j u) stays new
       inside-lessened {stays} {new} h within = record {
         made =
-            at-front (inner-node i n t within) None (cond stays (alone (i + n) new) bare) h.said h.below h.children
-            (left_of stays i new) (inside-is i n t new stays h.front);
+            rw (inside-is i n t new stays h.front) (at-front (inner-node i n t within) None (cond stays (alone (i + n) new) bare)
+            h.said h.below h.children);
         front = shorter-front i n t new stays h.front;
       }

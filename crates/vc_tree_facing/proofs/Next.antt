@@ -1,9 +1,10 @@
 -- The next trees of two lists of which some are done.
+--     doing-start, asked, done, all-done        none is done yet, the next ones may be asked of and are done, and all are
+--     made-left, made-right        what is made of a tree that one side alone has
 --     left_within, right_within        they go on at the place
 --     left-head, right-head        what holds of all holds of them
---     left-asked, right-asked, both-asked        they may be asked of
+--     left-next, right-next, both-next        the next ones, by the side on which they stand
 --     both-agree, both-ended, falls        two that meet agree for one component, below a prefix that ended, and have fewer nodes
---     doing-start, left-done, right-done, both-done, all-done        none is done yet, the next ones are, or all
 --     at-most, nil-by        what is below is not above, and a list without elements
 use Rattle.std.proofs.Common.{◌≡◌, ℕ, zero, suc, ◌+◌, ◌<◌, ◌≤◌, [], ◌∷◌, ◌++◌, List, Option, None, Some, refl, sym, ap}
 use Rattle.std.proofs.Common.{subst, ◌∙◌, arith, length, drop, slice_get, append-nil, append_assoc, option_map, true≢false}
@@ -13,21 +14,20 @@ use Rattle.std.specs.Cmp.{IsTotalOrder}
 use Rattle.std.specs.List.{AllByRecursion, cons_option}
 use Rattle.std.specs.declared.cmp.Ordering.{Ordering}
 use Rattle.vc_tree_model.specs.Canonical.{AreChildren}
-use Rattle.vc_tree_model.specs.Child.{BeginsWith, IsChild, bound_by}
 use Rattle.vc_tree_model.specs.Look.{Look}
 use Rattle.vc_tree_model.specs.Map.{lookup}
-use Rattle.vc_tree_model.specs.Tree.{Tree, forest, nodes, shortened}
-use Rattle.vc_tree_model.proofs.Places.{look, IsCombinedIn}
-use Rattle.vc_tree_model.proofs.Rows.{rows-children, rows-combined}
+use Rattle.vc_tree_model.specs.Tree.{Tree, forest, forest_nodes, nodes, shortened}
+use Rattle.vc_tree_model.proofs.Places.{IsCombinedIn}
 use Rattle.vc_tree_nodes.specs.Parting.{Agree}
-use Rattle.vc_tree_facing.specs.Doing.{AreFirst, AreMade, IsSaidIn, IsDoing}
+use Rattle.vc_tree_facing.specs.Doing.{AreMade, AreNext, IsSaidIn, IsSaidOf, IsDoing}
 use Rattle.vc_tree_facing.specs.Facing.{shortened_in, ended, GoesOn, IsOpened, Parts}
-use Rattle.vc_tree_facing.specs.Made.{IsMade, IsMadeBy, IsBothMadeBy}
+use Rattle.vc_tree_facing.specs.Made.{IsMade, IsMadeBy, IsMadeOf}
 use Rattle.vc_tree_facing.specs.Sides.{by_component, side_next}
 use Rattle.vc_tree_facing.specs.declared.sides.Side.{Side}
 use Rattle.vc_tree_facing.specs.declared.sides.Side.TheVariants.{Left, Right, Both}
-use Rattle.vc_tree_facing.proofs.Components.{get-drop, begin-alike, agree-first, children-first}
-use Rattle.vc_tree_facing.proofs.Doing.{left-first, right-first, both-first, rows-none, rows-more, said-apart}
+use Rattle.vc_tree_facing.proofs.Components.{agree-first, children-first}
+use Rattle.vc_tree_facing.proofs.Opening.{each-fewer, goes-on}
+use Rattle.vc_tree_facing.proofs.Doing.{left-first, right-first, both-first, made-none, made-more, said-apart}
 
 -- what is below is not above
 pub at-most : (i n : ℕ) → i < n → i ≤ n
@@ -47,6 +47,15 @@ append-option : {X : Type 0} (xs : List X) (o : Option X) (ys : List X) → (xs 
 append-option xs None ys = ap (λ l. l ++ ys) (append-nil xs)
 append-option xs (Some x) ys = append_assoc xs (x ∷ []) ys
 
+-- what is made of a tree that one side alone has
+module _ {K V W U O : Type 0} {cmp : K → K → Ordering} {l : Look cmp W O} {R : Option V → O → Option U → Type 0}
+    {u : Option (Tree K U)} where
+  pub made-left : {t : Tree K V} → IsMade cmp (λ v z. R v l.none z) t u → IsMadeOf cmp l R (Some t) None u
+  made-left w = record { child = w.child; begins = λ y e _. w.begins y e; binds = w.binds }
+
+  pub made-right : {t : Tree K W} → IsMadeBy cmp l (λ w z. R None w z) t u → IsMadeOf cmp l R None (Some t) u
+  made-right w = record { child = w.child; begins = λ y _ e. w.begins y e; binds = w.binds }
+
 module _ {K V W U O A B : Type 0} {cmp : K → K → Ordering} {ta : A → Tree K V} {tb : B → Tree K W} {i j : ℕ} {l : Look cmp W O}
     {R : Option V → O → Option U → Type 0} {asks : Option V → O → Type 0} {xs : List A} {ys : List B} where
   -- none is done yet
@@ -64,30 +73,32 @@ module _ {K V W U O A B : Type 0} {cmp : K → K → Ordering} {ta : A → Tree 
     ends = λ others m. m;
   })
 
-  -- the next trees are done
-  done-by : (a : Option A) (b : Option B) {ls : List A} {rs : List B} {made made' : List (Tree K U)} (u : Option (Tree K U))
-      → IsDoing cmp ta tb i j l R asks xs ys (cons_option a ls) (cons_option b rs) made → (f : AreFirst cmp ta tb i j a b ls rs)
-      → BeginsWith cmp f.place u → IsChild cmp u
-      → ((k : List K) → R (bound_by cmp (option_map (λ x. shortened i (ta x)) a) k)
-      (look cmp l (option_map (λ y. shortened j (tb y)) b) k) (bound_by cmp u k))
-      → made' ≡ made ++ cons_option u [] → IsDoing cmp ta tb i j l R asks xs ys ls rs made'
-  done-by a b {ls} {rs} {made} u d f begins child binds e = record {
-    total = d.total;
-    none = d.none;
-    left = f.left_rest;
-    right = f.right_rest;
-    left_part = part-rest a d.left_part;
-    right_part = part-rest b d.right_part;
-    asked = (said-apart d.total ta tb i j l asks d.none a b f d.asked).1;
-    ends = λ others m. subst (AreMade cmp ta tb i j l R xs ys) (sym (ap (λ l. l ++ others) e ∙ append-option made u others))
-        (d.ends (cons_option u others) (rows-more d.total ta tb i j l R a b u f
-        (record { left = f.left; right = f.right; out = begins; child = child; binds = λ x q. binds (x ∷ q) }) m));
-  }
-    where
-      part-rest : {X : Type 0} (a : Option X) {ls xs : List X} → (n : ℕ) × (cons_option a ls ≡ drop n xs) → (n : ℕ)
-          × (ls ≡ drop n xs)
-      part-rest None p = p
-      part-rest (Some x) {xs = xs} p = (p.0 + 1, ap (drop 1) p.1 ∙ drop-drop 1 p.0 xs)
+  module _ {a : Option A} {b : Option B} {ls : List A} {rs : List B} {made : List (Tree K U)}
+      (n : AreNext cmp ta tb i j l R asks xs ys a b ls rs made) where
+    -- the next trees may be asked of
+    pub asked : IsSaidOf cmp ta tb i j l asks a b
+    asked = (said-apart n.doing.total ta tb i j l asks n.doing.none a b n.first n.doing.asked).0
+
+    -- and are done
+    pub done : {u : Option (Tree K U)} {made' : List (Tree K U)} → made' ≡ made ++ cons_option u []
+        → IsMadeOf cmp l R (option_map (λ x. shortened i (ta x)) a) (option_map (λ y. shortened j (tb y)) b) u
+        → IsDoing cmp ta tb i j l R asks xs ys ls rs made'
+    done {u} e w = let d = n.doing in record {
+      total = d.total;
+      none = d.none;
+      left = n.first.left.children;
+      right = n.first.right.children;
+      left_part = part-rest a d.left_part;
+      right_part = part-rest b d.right_part;
+      asked = (said-apart d.total ta tb i j l asks d.none a b n.first d.asked).1;
+      ends = λ others m. subst (AreMade cmp ta tb i j l R xs ys) (sym (ap (λ l. l ++ others) e ∙ append-option made u others))
+          (d.ends (cons_option u others) (made-more d.total ta tb i j l R a b n.first w m));
+    }
+      where
+        part-rest : {X : Type 0} (a : Option X) {ls xs : List X} → (n : ℕ) × (cons_option a ls ≡ drop n xs) → (n : ℕ)
+            × (ls ≡ drop n xs)
+        part-rest None p = p
+        part-rest (Some x) {xs = xs} p = (p.0 + 1, ap (drop 1) p.1 ∙ drop-drop 1 p.0 xs)
 
   module _ {ls : List A} {rs : List B} {made : List (Tree K U)} (d : IsDoing cmp ta tb i j l R asks xs ys ls rs made) where
     -- what holds of all trees of a side, holds of the next one
@@ -100,88 +111,32 @@ module _ {K V W U O A B : Type 0} {cmp : K → K → Ordering} {ta : A → Tree 
     -- it goes on at the place
     pub left_within : {x : A} {ls' : List A} → ls ≡ x ∷ ls' → i < length (ta x).prefix
     left_within {x} e =
-        let f = children-first cmp (drop i (ta x).prefix) _ _ _ (rw e at d.left) in
-        slice_get_within (ta x).prefix i f.0 (sym (get-drop i (ta x).prefix) ∙ f.1)
+        let f = children-first cmp d.total i (ta x).prefix (rw e at d.left) in slice_get_within (ta x).prefix i f.place f.at
 
     pub right_within : {y : B} {rs' : List B} → rs ≡ y ∷ rs' → j < length (tb y).prefix
     right_within {y} e =
-        let f = children-first cmp (drop j (tb y).prefix) _ _ _ (rw e at d.right) in
-        slice_get_within (tb y).prefix j f.0 (sym (get-drop j (tb y).prefix) ∙ f.1)
+        let f = children-first cmp d.total j (tb y).prefix (rw e at d.right) in slice_get_within (tb y).prefix j f.place f.at
 
     -- the trees by which both sides stand
     abbrev OnSide : Side → Type 0
     OnSide s = side_next (by_component ta tb i j cmp) (slice_get ls 0) (slice_get rs 0) ≡ Some s
 
-    module _ {x : A} {ls' : List A} (z : OnSide Left) (e : ls ≡ x ∷ ls') where
-      first_left : AreFirst cmp ta tb i j (Some x) None ls' rs
-      first_left = left-first d.total ta tb i j x ls' rs (rw e at d.left) d.right (rw e at z)
+    pub left-next : OnSide Left → {x : A} {ls' : List A} → ls ≡ x ∷ ls'
+        → AreNext cmp ta tb i j l R asks xs ys (Some x) None ls' rs made
+    left-next z {x} {ls'} e =
+        record { doing = rw e at d; first = left-first d.total ta tb i j x ls' rs (rw e at d.left) d.right (rw e at z) }
 
-      pub left-asked : (k : List K) → asks (lookup cmp (shortened i (ta x)) k) l.none
-      left-asked = (said-apart d.total ta tb i j l asks d.none (Some x) None first_left (rw e at d.asked)).0
+    pub right-next : OnSide Right → {y : B} {rs' : List B} → rs ≡ y ∷ rs'
+        → AreNext cmp ta tb i j l R asks xs ys None (Some y) ls rs' made
+    right-next z {y} {rs'} e =
+        record { doing = rw e at d; first = right-first d.total ta tb i j ls y rs' d.left (rw e at d.right) (rw e at z) }
 
-      pub left-done : {u : Option (Tree K U)} {made' : List (Tree K U)} → made' ≡ made ++ cons_option u []
-          → IsMade cmp (λ v z. R v l.none z) (shortened i (ta x)) u → IsDoing cmp ta tb i j l R asks xs ys ls' rs made'
-      left-done pushed w =
-          let f = first_left in
-          done-by (Some x) None _ (rw e at d) f (w.begins f.place f.left) w.child w.binds pushed
-
-    module _ {y : B} {rs' : List B} (z : OnSide Right) (e : rs ≡ y ∷ rs') where
-      first_right : AreFirst cmp ta tb i j None (Some y) ls rs'
-      first_right = right-first d.total ta tb i j ls y rs' d.left (rw e at d.right) (rw e at z)
-
-      pub right-asked : (k : List K) → asks None (l.of_tree (shortened j (tb y)) k)
-      right-asked = (said-apart d.total ta tb i j l asks d.none None (Some y) first_right (rw e at d.asked)).0
-
-      pub right-done : {u : Option (Tree K U)} {made' : List (Tree K U)} → made' ≡ made ++ cons_option u []
-          → IsMadeBy cmp l (λ w z. R None w z) (shortened j (tb y)) u → IsDoing cmp ta tb i j l R asks xs ys ls rs' made'
-      right-done pushed w =
-          let f = first_right in
-          done-by None (Some y) _ (rw e at d) f (w.begins f.place f.right) w.child w.binds pushed
-
-    module _ {x : A} {ls' : List A} {y : B} {rs' : List B} (z : OnSide Both) (el : ls ≡ x ∷ ls') (er : rs ≡ y ∷ rs') where
-      first_both : AreFirst cmp ta tb i j (Some x) (Some y) ls' rs'
-      first_both = both-first d.total ta tb i j x ls' y rs' (rw el at d.left) (rw er at d.right) (rw (el, er) at z)
-
-      pub both-asked : (k : List K) → asks (lookup cmp (shortened i (ta x)) k) (l.of_tree (shortened j (tb y)) k)
-      both-asked = (said-apart d.total ta tb i j l asks d.none (Some x) (Some y) first_both (rw (el, er) at d.asked)).0
-
-      pub both-done : {u : Option (Tree K U)} {made' : List (Tree K U)} → made' ≡ made ++ cons_option u []
-          → IsBothMadeBy cmp l R (shortened i (ta x)) (shortened j (tb y)) u → IsDoing cmp ta tb i j l R asks xs ys ls' rs' made'
-      both-done pushed w =
-          let f = first_both in
-          done-by (Some x) (Some y) _ (rw (el, er) at d) f (w.begins f.place f.left f.right) w.child w.binds pushed
-
-      -- two that meet agree for one component
-      pub both-agree : Agree cmp (drop i (ta x).prefix) (drop j (tb y).prefix) 1
-      both-agree =
-          let f = first_both in
-          agree-first cmp d.total (drop i (ta x).prefix) (drop j (tb y).prefix) f.place f.left f.right
-
-      -- below two prefixes of which one has ended
-      pub both-ended : {t : Tree K V} {u : Tree K W} {p q : List K} → IsOpened ta t p xs i → IsOpened tb u q ys j → Parts cmp p q
-          → 1 ≤ ended p + ended q
-      both-ended {p = p} {q} a b w = by p q w (left-head (λ x. GoesOn p (slice_get (ta x).prefix i)) el a.first)
-          (right-head (λ y. GoesOn q (slice_get (tb y).prefix j)) er b.first)
-        where
-          by : (p q : List K) → Parts cmp p q → GoesOn p (slice_get (ta x).prefix i) → GoesOn q (slice_get (tb y).prefix j)
-              → 1 ≤ ended p + ended q
-          by [] q w g h = omega arith
-          by (a ∷ p) [] w g h = omega arith
-          by (a ∷ p) (b ∷ q) w g h =
-              let f = first_both in
-              let e =
-              begin-alike cmp d.total (drop i (ta x).prefix) (drop j (tb y).prefix) f.place a b f.left f.right
-              (get-drop i (ta x).prefix ∙ g) (get-drop j (tb y).prefix ∙ h) in
-              absurd (true≢false (rw e at w))
-
-      -- and have fewer nodes than the trees that they stand below
-      pub falls : {t : Tree K V} {u : Tree K W} {p q : List K} → IsOpened ta t p xs i → IsOpened tb u q ys j → Parts cmp p q
-          → nodes (ta x) + nodes (tb y) < nodes t + nodes u
-      falls {t} {u} {p} {q} a b w =
-          let f = left-head (λ x. nodes (ta x) + ended p ≤ nodes t) el a.smaller in
-          let r = right-head (λ y. nodes (tb y) + ended q ≤ nodes u) er b.smaller in
-          let e = both-ended a b w in
-          omega (arith, f, r, e)
+    pub both-next : OnSide Both → {x : A} {ls' : List A} {y : B} {rs' : List B} → ls ≡ x ∷ ls' → rs ≡ y ∷ rs'
+        → AreNext cmp ta tb i j l R asks xs ys (Some x) (Some y) ls' rs' made
+    both-next z {x} {ls'} {y} {rs'} e f = record {
+      doing = rw (e, f) at d;
+      first = both-first d.total ta tb i j x ls' y rs' (rw e at d.left) (rw f at d.right) (rw (e, f) at z);
+    }
 
     -- none is left
     pub all-done : side_next (by_component ta tb i j cmp) (slice_get ls 0) (slice_get rs 0) ≡ None → R None l.none None
@@ -193,10 +148,58 @@ module _ {K V W U O A B : Type 0} {cmp : K → K → Ordering} {ta : A → Tree 
             → AreMade cmp ta tb i j l R xs ys (made ++ others))
             → AreChildren cmp (forest made) × IsCombinedIn cmp l R (shortened_in ta i xs) (shortened_in tb j ys) (forest made)
         by [] [] z e =
-            let h = e [] (rows-none d.total ta tb i j l R) in
-            let m = rw (append-nil made) at h in
-            rw (← m.left, ← m.right, ← m.out)
-            (rows-children cmp d.total l R m.rows m.ascend m.each, rows-combined cmp d.total l R none m.rows m.ascend m.each)
+            let m = rw (append-nil made) at (e [] (made-none d.total ta tb i j l R none)) in (m.children, m.combined)
         by [] (y ∷ rs) z e = absurd (cc)
         by (x ∷ ls) [] z e = absurd (cc)
         by (x ∷ ls) (y ∷ rs) z e = absurd (cc)
+
+  -- what may be asked of a tree beside none, and of two that meet
+  pub alone-asked : {x : A} {ls : List A} {rs : List B} {made : List (Tree K U)}
+      → AreNext cmp ta tb i j l R asks xs ys (Some x) None ls rs made → (k : List K)
+      → asks (lookup cmp (shortened i (ta x)) k) l.none
+  alone-asked n = asked n
+
+  pub both-asked : {x : A} {y : B} {ls : List A} {rs : List B} {made : List (Tree K U)}
+      → AreNext cmp ta tb i j l R asks xs ys (Some x) (Some y) ls rs made → (k : List K)
+      → asks (lookup cmp (shortened i (ta x)) k) (l.of_tree (shortened j (tb y)) k)
+  both-asked n = asked n
+
+  -- the next tree of either side has no more nodes than all of them
+  pub left-fewer : {x : A} {b : Option B} {ls : List A} {rs : List B} {made : List (Tree K U)}
+      → AreNext cmp ta tb i j l R asks xs ys (Some x) b ls rs made → nodes (ta x) ≤ forest_nodes (shortened_in ta i xs)
+  left-fewer n = left-head n.doing (λ x. nodes (ta x) ≤ forest_nodes (shortened_in ta i xs)) refl (each-fewer ta i xs)
+
+  pub right-fewer : {a : Option A} {y : B} {ls : List A} {rs : List B} {made : List (Tree K U)}
+      → AreNext cmp ta tb i j l R asks xs ys a (Some y) ls rs made → nodes (tb y) ≤ forest_nodes (shortened_in tb j ys)
+  right-fewer n = right-head n.doing (λ y. nodes (tb y) ≤ forest_nodes (shortened_in tb j ys)) refl (each-fewer tb j ys)
+
+  module _ {x : A} {ls : List A} {y : B} {rs : List B} {made : List (Tree K U)}
+      (n : AreNext cmp ta tb i j l R asks xs ys (Some x) (Some y) ls rs made) where
+    -- two that meet agree for one component
+    pub both-agree : Agree cmp (drop i (ta x).prefix) (drop j (tb y).prefix) 1
+    both-agree =
+        let f = n.first in
+        agree-first cmp n.doing.total (drop i (ta x).prefix) (drop j (tb y).prefix) f.place f.left.begins f.right.begins
+
+    module _ {t : Tree K V} {u : Tree K W} {p q : List K} (a : IsOpened ta t p xs i) (b : IsOpened tb u q ys j)
+        (w : Parts cmp p q) where
+      -- below two prefixes of which one has ended
+      pub both-ended : 1 ≤ ended p + ended q
+      both-ended = by p q w (left-head n.doing (λ x. GoesOn p (slice_get (ta x).prefix i)) refl a.first)
+          (right-head n.doing (λ y. GoesOn q (slice_get (tb y).prefix j)) refl b.first)
+        where
+          by : (p q : List K) → Parts cmp p q → GoesOn p (slice_get (ta x).prefix i) → GoesOn q (slice_get (tb y).prefix j)
+              → 1 ≤ ended p + ended q
+          by [] q w g h = omega arith
+          by (c ∷ p) [] w g h = omega arith
+          by (c ∷ p) (d ∷ q) w g h =
+              let e = rw ((goes-on i (ta x).prefix c g).1, (goes-on j (tb y).prefix d h).1) at both-agree.same in
+              absurd (true≢false (sym (rw w at e)))
+
+      -- and have fewer nodes than the trees that they stand below
+      pub falls : nodes (ta x) + nodes (tb y) < nodes t + nodes u
+      falls =
+          let f = left-head n.doing (λ x. nodes (ta x) + ended p ≤ nodes t) refl a.smaller in
+          let r = right-head n.doing (λ y. nodes (tb y) + ended q ≤ nodes u) refl b.smaller in
+          let e = both-ended in
+          omega (arith, f, r, e)

@@ -1,16 +1,15 @@
 -- Two lists of trees side by side, of which some are done and the others are left. No public clause cites these words.
-use Rattle.std.specs.Prelude.{◌≡◌, ℕ, List, ◌∷◌, ◌++◌, drop, Option, None, option_map}
+use Rattle.std.specs.Prelude.{◌≡◌, ℕ, List, ◌∷◌, ◌++◌, drop, map, Option, None, option_map}
 use Rattle.std.specs.Cmp.{IsTotalOrder}
-use Rattle.std.specs.List.{AllByRecursion, filter_map, cons_option}
+use Rattle.std.specs.List.{cons_option}
 use Rattle.std.specs.declared.cmp.Ordering.{Ordering}
 use Rattle.std.specs.declared.cmp.Ordering.TheVariants.{Less}
 use Rattle.vc_tree_model.specs.Canonical.{AllAbove, AreChildren}
-use Rattle.vc_tree_model.specs.Child.{BeginsWith, bound_by}
+use Rattle.vc_tree_model.specs.Child.{bound_by}
 use Rattle.vc_tree_model.specs.Look.{Look}
 use Rattle.vc_tree_model.specs.Map.{lookup_in}
-use Rattle.vc_tree_model.specs.Tree.{Tree, shortened}
-use Rattle.vc_tree_model.proofs.Places.{Row, look, AscendBy, IsRow}
-use Rattle.vc_tree_model.proofs.Rows.{side}
+use Rattle.vc_tree_model.specs.Tree.{Tree, forest, shortened}
+use Rattle.vc_tree_model.proofs.Places.{look, IsCombinedIn, IsBefore}
 use Rattle.vc_tree_facing.specs.Facing.{shortened_in}
 
 module _ {K V W A B : Type 0} (cmp : K → K → Ordering) (ta : A → Tree K V) (tb : B → Tree K W) (i j : ℕ) where
@@ -18,20 +17,11 @@ module _ {K V W A B : Type 0} (cmp : K → K → Ordering) (ta : A → Tree K V)
   -- others are above
   pub record AreFirst (a : Option A) (b : Option B) (ls : List A) (rs : List B) : Type 0 where
     pub place : K
-    pub left : BeginsWith cmp place (option_map (λ x. shortened i (ta x)) a)
-    pub right : BeginsWith cmp place (option_map (λ y. shortened j (tb y)) b)
-    pub left_rest : AreChildren cmp (shortened_in ta i ls)
-    pub right_rest : AreChildren cmp (shortened_in tb j rs)
-    pub left_above : AllAbove cmp place (shortened_in ta i ls)
-    pub right_above : AllAbove cmp place (shortened_in tb j rs)
+    pub left : IsBefore cmp place (option_map (λ x. shortened i (ta x)) a) (map (λ x. shortened i (ta x)) ls)
+    pub right : IsBefore cmp place (option_map (λ y. shortened j (tb y)) b) (map (λ y. shortened j (tb y)) rs)
     pub least : (y : K) → AllAbove cmp y (shortened_in ta i (cons_option a ls))
         → AllAbove cmp y (shortened_in tb j (cons_option b rs))
         → cmp y place ≡ Less
-
-  -- the place of these, with what is made of them
-  abbrev pub row : {U : Type 0} → K → Option A → Option B → Option (Tree K U) → Row K V W U
-  row c a b u =
-      record { place = c; left = option_map (λ x. shortened i (ta x)) a; right = option_map (λ y. shortened j (tb y)) b; out = u }
 
   module _ {O : Type 0} (l : Look cmp W O) where
     -- at each key with a component, P of what the left list binds and of what is read of the right one
@@ -46,16 +36,12 @@ module _ {K V W A B : Type 0} (cmp : K → K → Ordering) (ta : A → Tree K V)
         (look cmp l (option_map (λ y. shortened j (tb y)) b) k)
 
     module _ {U : Type 0} (R : Option V → O → Option U → Type 0) where
-      -- of the trees of both lists these were made by R, place by place
+      -- of the trees of both lists these were made by R: canonical children, above all that both lists are above
       pub record AreMade (xs : List A) (ys : List B) (made : List (Tree K U)) : Type 0 where
-        pub rows : List (Row K V W U)
-        pub ascend : AscendBy cmp (λ r. r.place) rows
-        pub each : AllByRecursion (IsRow cmp l R) rows
-        pub left : side (λ r. r.left) rows ≡ shortened_in ta i xs
-        pub right : side (λ r. r.right) rows ≡ shortened_in tb j ys
-        pub out : filter_map (λ r. r.out) rows ≡ made
+        pub children : AreChildren cmp (forest made)
         pub above : (y : K) → AllAbove cmp y (shortened_in ta i xs) → AllAbove cmp y (shortened_in tb j ys)
-            → AllByRecursion (λ r. cmp y r.place ≡ Less) rows
+            → AllAbove cmp y (forest made)
+        pub combined : IsCombinedIn cmp l R (shortened_in ta i xs) (shortened_in tb j ys) (forest made)
 
       -- of the trees xs and ys these were made by R up to the trees ls and rs, which are left, and of which it may be asked
       pub record IsDoing (asks : Option V → O → Type 0) (xs : List A) (ys : List B) (ls : List A) (rs : List B)
@@ -69,8 +55,8 @@ module _ {K V W A B : Type 0} (cmp : K → K → Ordering) (ta : A → Tree K V)
         pub asked : IsSaidIn asks ls rs
         pub ends : (others : List (Tree K U)) → AreMade ls rs others → AreMade xs ys (made ++ others)
 
-      -- the same, where nothing comes of the right list alone
-      pub record IsGoingOn (asks : Option V → O → Type 0) (xs : List A) (ys : List B) (ls : List A) (rs : List B)
-          (made : List (Tree K U)) : Type 0 where
-        pub nothing : (o : O) → R None o None
-        pub doing : IsDoing asks xs ys ls rs made
+      -- the same, and the next trees are a and b, of which one side may have none
+      pub record AreNext (asks : Option V → O → Type 0) (xs : List A) (ys : List B) (a : Option A) (b : Option B) (ls : List A)
+          (rs : List B) (made : List (Tree K U)) : Type 0 where
+        pub doing : IsDoing asks xs ys (cons_option a ls) (cons_option b rs) made
+        pub first : AreFirst a b ls rs

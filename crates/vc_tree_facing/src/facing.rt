@@ -102,6 +102,7 @@ fn side_of<K: TKey, V: TValue, T: RadixNode<K, V>>(
 
 /// Passes the trees that go on at a place with a lesser component than this one, and takes the next
 /// one where it goes on with an equal one. Answers that one, and the trees that are left.
+#[tactic(auto, using(crate::proofs::Seeking::passed_whole))]
 fn seek_in<'a, K: TKey, V: TValue, T: RadixNode<K, V>>(
     trees: &'a [T],
     place: usize,
@@ -200,6 +201,7 @@ pub struct Facing<'a, 'b, A, B> {
 }
 
 /// For how many components two prefixes agree, of which the first `known` do.
+#[tactic(auto, using(crate::proofs::Opening::parts_at))]
 pub fn common_front<K: Ord, C: Count>(p: &[K], q: &[K], known: usize, steps: &mut C) -> usize
     requires { Agree K.cmp p.now q.now known }
     ensures agree { Agree K.cmp p.now q.now result }

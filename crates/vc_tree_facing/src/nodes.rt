@@ -25,7 +25,7 @@ pub fn value_at<K: TKey, V: TValue, T: RadixNode<K, V>>(
     ensures { option_copied result ≡ node_value (shortened from (T.tree tree.now))
         (drop front (drop from (T.tree tree.now).prefix)) }
 {
-    if front == tree.prefix()[from..].len() {
+    if front == tree.prefix().len() - from {
         tree.value()
     } else {
         None

@@ -14,7 +14,7 @@ pub mod Walking
 pub mod OneWalk
 pub mod Examples
 pub mod Places
-pub mod Rows
+pub mod Leading
 pub mod Joining
 pub mod UnderLemmas
 pub mod Covering

@@ -2,8 +2,8 @@
 use Rattle.std.proofs.Common.{rules, arith, refl, sym, ap, ◌∙◌, Some}
 use Rattle.vc_tree_model.specs.Look.{values}
 use Rattle.vc_tree_facing.proofs.Ending.{values-asked, combine-started, made-children, combined}
-use Rattle.vc_tree_facing.proofs.Next.{left_within, right_within, left-asked, right-asked, both-asked, both-agree, at-most}
-use Rattle.vc_tree_facing.proofs.Next.{both-ended, falls, left-done, right-done, both-done}
+use Rattle.vc_tree_facing.proofs.Next.{left_within, right_within, left-next, right-next, both-next, asked, done, at-most}
+use Rattle.vc_tree_facing.proofs.Next.{both-agree, both-ended, falls, made-left, made-right}
 use Rattle.vc_tree_combines.proofs.Paying.{paid-begun, paid-left, paid-right, paid-both}
 use Rattle.vc_tree_combines.proofs.engine.+combine_at.Goals as goal
 
@@ -29,7 +29,7 @@ pub left_alone-requires-clause-asks : goal.left_alone-requires-clause-asks
 left_alone-requires-clause-asks g t c =
     let inv = c.loop-side.invariant in
     let z = rw (inv.left_from, inv.right_from) at (sym c.side_below.ensures.side ∙ c.in-Some.is ∙ ap Some c.in-Left.is) in
-    left-asked inv.doing z c.next.ensures.first
+    asked (left-next inv.doing z c.next.ensures.first)
 
 pub right_alone-requires-clause-within : goal.right_alone-requires-clause-within
 right_alone-requires-clause-within g t c =
@@ -40,20 +40,19 @@ pub right_alone-requires-clause-asks : goal.right_alone-requires-clause-asks
 right_alone-requires-clause-asks g t c =
     let inv = c.loop-side.invariant in
     let z = rw (inv.left_from, inv.right_from) at (sym c.side_below.ensures.side ∙ c.in-Some.is ∙ ap Some c.in-Right.is) in
-    right-asked inv.doing z c.next-in-Right.ensures.first
+    asked (right-next inv.doing z c.next-in-Right.ensures.first)
 
 pub combine_at-requires : goal.combine_at-requires
 combine_at-requires g t c κs within =
     let inv = c.loop-side.invariant in
     let z = rw (inv.left_from, inv.right_from) at (sym c.side_below.ensures.side ∙ c.in-Some.is ∙ ap Some c.in-Both.is) in
     let faced = c.in_ok-front.ensures.begun.faced in
-    let x = c.next-x.ensures.first in
-    let y = c.next-y.ensures.first in
-    let down = falls inv.doing z x y faced.left faced.right faced.parts in
-    let i = at-most _ _ (left_within inv.doing x) in
-    let j = at-most _ _ (right_within inv.doing y) in
-    let agree = both-agree inv.doing z x y in
-    let asked = both-asked inv.doing z x y in
+    let n = both-next inv.doing z c.next-x.ensures.first c.next-y.ensures.first in
+    let down = falls n faced.left faced.right faced.parts in
+    let i = at-most _ _ (left_within n.doing refl) in
+    let j = at-most _ _ (right_within n.doing refl) in
+    let agree = both-agree n in
+    let asks = asked n in
     search rules
 
 pub returns-in_err-kid-in-Both-clause-counted : goal.returns-in_err-kid-in-Both-clause-counted
@@ -63,7 +62,7 @@ returns-in_err-kid-in-Both-clause-counted g t c =
     let faced = c.in_ok-front.ensures.begun.faced in
     let x = c.next-x.ensures.first in
     let y = c.next-y.ensures.first in
-    let one = both-ended inv.doing z x y faced.left faced.right faced.parts in
+    let one = both-ended (both-next inv.doing z x y) faced.left faced.right faced.parts in
     let paid = paid-both inv.paid c.side_below.ensures.counted x y one c.combine_at.ensures.counted in
     let few = paid.apart in
     omega (arith, few)
@@ -75,7 +74,7 @@ returns-in_err-keep-in-Both-clause-counted g t c =
     let faced = c.in_ok-front.ensures.begun.faced in
     let x = c.next-x.ensures.first in
     let y = c.next-y.ensures.first in
-    let one = both-ended inv.doing z x y faced.left faced.right faced.parts in
+    let one = both-ended (both-next inv.doing z x y) faced.left faced.right faced.parts in
     let paid = paid-both inv.paid c.side_below.ensures.counted x y one c.combine_at.ensures.counted in
     let few = paid.apart in
     omega (arith, few)
@@ -85,7 +84,8 @@ loop-side-preserved-in-Continue-branch-3 g t c =
     let inv = c.loop-side.invariant in
     let z = rw (inv.left_from, inv.right_from) at (sym c.side_below.ensures.side ∙ c.in-Some.is ∙ ap Some c.in-Left.is) in
     record {
-      doing = left-done inv.doing z c.next.ensures.first c.in_ok-keep-in-Left.ensures c.in_ok-kid-in-Left.ensures;
+      doing = done (left-next inv.doing z c.next.ensures.first) c.in_ok-keep-in-Left.ensures
+          (made-left c.in_ok-kid-in-Left.ensures);
       paid = paid-left inv.paid c.side_below.ensures.counted c.next.ensures.first;
       left_from = c.next.ensures.from ∙ inv.left_from;
       right_from = inv.right_from;
@@ -97,7 +97,7 @@ loop-side-preserved-in-Continue-branch-5 g t c =
     let z = rw (inv.left_from, inv.right_from) at (sym c.side_below.ensures.side ∙ c.in-Some.is ∙ ap Some c.in-Right.is) in
     let y = c.next-in-Right.ensures in
     record {
-      doing = right-done inv.doing z y.first c.in_ok-keep-in-Right.ensures c.in_ok-kid-in-Right.ensures;
+      doing = done (right-next inv.doing z y.first) c.in_ok-keep-in-Right.ensures (made-right c.in_ok-kid-in-Right.ensures);
       paid = paid-right inv.paid c.side_below.ensures.counted y.first;
       left_from = inv.left_from;
       right_from = y.from ∙ inv.right_from;
@@ -110,9 +110,10 @@ loop-side-preserved g t c =
     let faced = c.in_ok-front.ensures.begun.faced in
     let x = c.next-x.ensures.first in
     let y = c.next-y.ensures.first in
-    let one = both-ended inv.doing z x y faced.left faced.right faced.parts in
+    let n = both-next inv.doing z x y in
+    let one = both-ended n faced.left faced.right faced.parts in
     record {
-      doing = both-done inv.doing z x y c.in_ok-keep-in-Both.ensures c.in_ok-kid-in-Both.ensures.made;
+      doing = done n c.in_ok-keep-in-Both.ensures c.in_ok-kid-in-Both.ensures.made;
       paid = paid-both inv.paid c.side_below.ensures.counted x y one c.in_ok-kid-in-Both.ensures.counted;
       left_from = c.next-x.ensures.from ∙ inv.left_from;
       right_from = c.next-y.ensures.from ∙ inv.right_from;

@@ -6,8 +6,8 @@ use Rattle.vc_tree_combines.proofs.keys.merge_to_meeting.Goals as goal
 
 pub merge-never_refused-requires-clause-ascend : goal.merge-never_refused-requires-clause-ascend
 merge-never_refused-requires-clause-ascend g c = record {
-  left = children-ascend g.K.Ord.cmp g.A.RadixNode.tree _ c.requires.left;
-  right = children-ascend g.K.Ord.cmp g.B.RadixNode.tree _ c.requires.right;
+  left = children-ascend g.K.Ord.cmp g.A.RadixNode.tree g.met.K.Ord.total _ c.requires.left;
+  right = children-ascend g.K.Ord.cmp g.B.RadixNode.tree g.met.K.Ord.total _ c.requires.right;
 }
 
 pub returns-then-tails : goal.returns-then-tails

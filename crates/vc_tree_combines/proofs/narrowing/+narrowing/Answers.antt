@@ -1,20 +1,19 @@
 -- What is made of two trees, by where their prefixes end, and of the children one after the other.
-use Rattle.std.proofs.Common.{◌+◌, ◌∷◌, [], None, refl, ap, ◌∙◌, arith, rules, map, option_map}
+use Rattle.std.proofs.Common.{◌∷◌, [], None, refl, ap, ◌∙◌, arith, rules, map, option_map}
 use Rattle.std.proofs.Common.{length, length-drop}
 use Rattle.std.specs.Option.{option_copied}
 use Rattle.vc_tree_model.specs.Look.{values}
 use Rattle.vc_tree_model.specs.Tree.{forest_nodes, shortened}
 use Rattle.vc_tree_nodes.specs.Children.{seen}
 use Rattle.vc_tree_facing.specs.Facing.{trees_below}
-use Rattle.vc_tree_facing.proofs.Advancing.{next-within, next-fewer, alone-asked, meets-asked, meets-agree, meets-within}
-use Rattle.vc_tree_facing.proofs.Advancing.{meets-fewer, goes-alone, goes-both, inside-alone, inside-both}
-use Rattle.vc_tree_facing.proofs.Apart.{apart-asked, apart-lessened}
-use Rattle.vc_tree_facing.proofs.Advancing.{list-begun, list-done}
+use Rattle.vc_tree_facing.proofs.Advancing.{next-sought, list-done, inside}
+use Rattle.vc_tree_facing.proofs.Apart.{apart-next, apart-lessened}
 use Rattle.vc_tree_facing.proofs.Leaving.{if-ok, node-lessened, inside-lessened, value-may, below-may, node-kids}
 use Rattle.vc_tree_facing.proofs.Leaving.{inner-list}
 use Rattle.vc_tree_facing.proofs.Leaving.{ended-node, inner-node, opened-node}
 use Rattle.vc_tree_facing.proofs.Leaving.{below-fewer}
-use Rattle.vc_tree_facing.proofs.Next.{nil-by}
+use Rattle.vc_tree_facing.proofs.Next.{at-most, nil-by, doing-start, asked, done, both-agree, left_within, right_within, left-fewer, right-fewer}
+use Rattle.vc_tree_facing.proofs.Next.{made-left}
 use Rattle.vc_tree_combines.proofs.Narrowed.{value-alone, below-alone, node-alone, both-whole, alone-whole, made-node}
 use Rattle.vc_tree_combines.proofs.narrowing.+narrowing.Goals.{narrow_kids-in-Some-seek_alike+in_ok-kid-in-Some-seek_alike}
 use Rattle.vc_tree_combines.proofs.narrowing.+narrowing.Goals.{narrow_kids-in-None+in_ok-kid-in-None}
@@ -43,9 +42,10 @@ narrow_at-narrow_alone-requires g t c κs inside =
     let tree = g.A.RadixNode.tree in
     let within = rw c.prefix-whole.ensures.value at c.if-place-whole.true in
     let beyond = rw c.prefix-other_whole.ensures.value at c.if-other_place-other_whole.true in
-    let asked = apart-asked tree c.args.a.now g.B.RadixNode.tree c.args.b.now c.split-front.ensures within beyond
+    let n = apart-next tree c.args.a.now g.B.RadixNode.tree c.args.b.now c.split-front.ensures within beyond
     (values g.K.Ord.cmp) (g.O.Narrow.says c.args.op.now) (g.O.Narrow.asks c.args.op.now)
     (g.met.O.Narrow.says_nothing c.args.op.now) (g.met.O.Narrow.asks_none c.args.op.now) c.requires.asks in
+    let asks = asked n.1 in
     search rules
 
 pub narrow_at-returns-then-other_place-other_whole : goal.narrow_at-returns-then-other_place-other_whole
@@ -113,23 +113,21 @@ narrow_inside-narrow_at-requires g t c κs inside =
     let tb = g.B.RadixNode.tree in
     let opened = c.below_place-right.ensures.opened in
     let kids = node-kids opened c.prefix.ensures.value (omega arith) in
-    let d = list-begun {ta = g.A.RadixNode.tree} {tb = tb} {i = c.args.place} {j = c.below_place-right.result.from}
+    let d = doing-start {ta = g.A.RadixNode.tree} {tb = tb} {i = c.args.place} {j = c.below_place-right.result.from}
     {l = values g.K.Ord.cmp}
     {R = g.O.Narrow.says c.args.op.now} {asks = g.O.Narrow.asks c.args.op.now} {xs = c.args.a.now ∷ []}
-    {ys = trees_below c.below_place-right.result} g.met.K.Ord.total
-    (g.met.O.Narrow.says_nothing c.args.op.now) (g.met.O.Narrow.asks_none c.args.op.now)
+    {ys = trees_below c.below_place-right.result} g.met.K.Ord.total (g.met.O.Narrow.asks_none c.args.op.now)
     (inner-list g.K.Ord.cmp g.A.RadixNode.tree c.args.a.now c.args.place c.seek_alike.ensures.canonical c.requires.within)
-    c.below_place-right.ensures.below.are_children (λ x q. rw kids (c.requires.asks x q)) in
-    let sought = c.seek_alike.ensures.sought in
-    let e = ap option_copied c.in-Some.is in
+    c.below_place-right.ensures.below.are_children (λ x q. rw kids (c.requires.asks x q)) refl in
+    let n = next-sought (g.met.O.Narrow.says_nothing c.args.op.now) d c.seek_alike.ensures.sought (ap option_copied c.in-Some.is) in
     let from = c.seek_alike.ensures.from in
-    let asks = meets-asked d sought e in
-    let agree = meets-agree d sought e in
-    let within = meets-within d sought e in
+    let asks = asked n in
+    let agree = both-agree n in
+    let within = at-most _ _ (right_within n.doing refl) in
     let asks_from = rw (← from) at asks in
     let agree_from = rw (← from) at agree in
     let within_from = rw (← from) at within in
-    let smaller = meets-fewer d sought e in
+    let smaller = right-fewer n in
     let all = ap forest_nodes kids in
     search rules
 
@@ -138,14 +136,14 @@ narrow_inside-narrow_alone-requires g t c κs inside =
     let tb = g.B.RadixNode.tree in
     let opened = c.below_place-right.ensures.opened in
     let kids = node-kids opened c.prefix.ensures.value (omega arith) in
-    let d = list-begun {ta = g.A.RadixNode.tree} {tb = tb} {i = c.args.place} {j = c.below_place-right.result.from}
+    let d = doing-start {ta = g.A.RadixNode.tree} {tb = tb} {i = c.args.place} {j = c.below_place-right.result.from}
     {l = values g.K.Ord.cmp}
     {R = g.O.Narrow.says c.args.op.now} {asks = g.O.Narrow.asks c.args.op.now} {xs = c.args.a.now ∷ []}
-    {ys = trees_below c.below_place-right.result} g.met.K.Ord.total
-    (g.met.O.Narrow.says_nothing c.args.op.now) (g.met.O.Narrow.asks_none c.args.op.now)
+    {ys = trees_below c.below_place-right.result} g.met.K.Ord.total (g.met.O.Narrow.asks_none c.args.op.now)
     (inner-list g.K.Ord.cmp g.A.RadixNode.tree c.args.a.now c.args.place c.seek_alike.ensures.canonical c.requires.within)
-    c.below_place-right.ensures.below.are_children (λ x q. rw kids (c.requires.asks x q)) in
-    let asked = alone-asked d c.seek_alike.ensures.sought (ap option_copied c.in-None.is) in
+    c.below_place-right.ensures.below.are_children (λ x q. rw kids (c.requires.asks x q)) refl in
+    let asks = asked (next-sought (g.met.O.Narrow.says_nothing c.args.op.now) d c.seek_alike.ensures.sought
+    (ap option_copied c.in-None.is)) in
     search rules
 
 pub narrow_inside-returns-in-Some : goal.narrow_inside-returns-in-Some
@@ -153,32 +151,33 @@ narrow_inside-returns-in-Some g t c =
     let tb = g.B.RadixNode.tree in
     let opened = c.below_place-right.ensures.opened in
     let kids = node-kids opened c.prefix.ensures.value (omega arith) in
-    let d = list-begun {ta = g.A.RadixNode.tree} {tb = tb} {i = c.args.place} {j = c.below_place-right.result.from}
+    let d = doing-start {ta = g.A.RadixNode.tree} {tb = tb} {i = c.args.place} {j = c.below_place-right.result.from}
     {l = values g.K.Ord.cmp}
     {R = g.O.Narrow.says c.args.op.now} {asks = g.O.Narrow.asks c.args.op.now} {xs = c.args.a.now ∷ []}
-    {ys = trees_below c.below_place-right.result} g.met.K.Ord.total
-    (g.met.O.Narrow.says_nothing c.args.op.now) (g.met.O.Narrow.asks_none c.args.op.now)
+    {ys = trees_below c.below_place-right.result} g.met.K.Ord.total (g.met.O.Narrow.asks_none c.args.op.now)
     (inner-list g.K.Ord.cmp g.A.RadixNode.tree c.args.a.now c.args.place c.seek_alike.ensures.canonical c.requires.within)
-    c.below_place-right.ensures.below.are_children (λ x q. rw kids (c.requires.asks x q)) in
+    c.below_place-right.ensures.below.are_children (λ x q. rw kids (c.requires.asks x q)) refl in
+    let nothing = g.met.O.Narrow.says_nothing c.args.op.now in
+    let n = next-sought nothing d c.seek_alike.ensures.sought (ap option_copied c.in-Some.is) in
     if-ok c.narrow_at.result
-    (λ made h. inside-both d c.seek_alike.ensures.sought kids (λ v p z h. h) ((g.met.O.Narrow.says_nothing c.args.op.now) None)
-    h.front (ap option_copied c.in-Some.is) (rw c.seek_alike.ensures.from at h.made)) c.narrow_at.ensures
+    (λ made h. inside n nothing kids (λ v p z h. h) (nothing None) h.front (rw c.seek_alike.ensures.from at h.made))
+    c.narrow_at.ensures
 
 pub narrow_inside-returns-in-None : goal.narrow_inside-returns-in-None
 narrow_inside-returns-in-None g t c =
     let tb = g.B.RadixNode.tree in
     let opened = c.below_place-right.ensures.opened in
     let kids = node-kids opened c.prefix.ensures.value (omega arith) in
-    let d = list-begun {ta = g.A.RadixNode.tree} {tb = tb} {i = c.args.place} {j = c.below_place-right.result.from}
+    let d = doing-start {ta = g.A.RadixNode.tree} {tb = tb} {i = c.args.place} {j = c.below_place-right.result.from}
     {l = values g.K.Ord.cmp}
     {R = g.O.Narrow.says c.args.op.now} {asks = g.O.Narrow.asks c.args.op.now} {xs = c.args.a.now ∷ []}
-    {ys = trees_below c.below_place-right.result} g.met.K.Ord.total
-    (g.met.O.Narrow.says_nothing c.args.op.now) (g.met.O.Narrow.asks_none c.args.op.now)
+    {ys = trees_below c.below_place-right.result} g.met.K.Ord.total (g.met.O.Narrow.asks_none c.args.op.now)
     (inner-list g.K.Ord.cmp g.A.RadixNode.tree c.args.a.now c.args.place c.seek_alike.ensures.canonical c.requires.within)
-    c.below_place-right.ensures.below.are_children (λ x q. rw kids (c.requires.asks x q)) in
-    if-ok c.narrow_alone.result
-    (λ made h. inside-alone d c.seek_alike.ensures.sought kids (λ v p z h. h) ((g.met.O.Narrow.says_nothing c.args.op.now) None)
-    h.front (ap option_copied c.in-None.is) h.made) c.narrow_alone.ensures
+    c.below_place-right.ensures.below.are_children (λ x q. rw kids (c.requires.asks x q)) refl in
+    let nothing = g.met.O.Narrow.says_nothing c.args.op.now in
+    let n = next-sought nothing d c.seek_alike.ensures.sought (ap option_copied c.in-None.is) in
+    if-ok c.narrow_alone.result (λ made h. inside n nothing kids (λ v p z h. h) (nothing None) h.front (made-left h.made))
+    c.narrow_alone.ensures
 
 -- ---- where the right side has no key
 
@@ -204,12 +203,12 @@ narrow_kids-loop-child-init g t c = record {
   from = refl;
   going =
       rw (ap (map g.O.Made.RadixNode.tree) c.in_ok-kids.ensures.items)
-      (list-begun g.met.K.Ord.total (g.met.O.Narrow.says_nothing c.args.op.now) (g.met.O.Narrow.asks_none c.args.op.now)
-      c.requires.left c.requires.right c.requires.asks);
+      (doing-start g.met.K.Ord.total (g.met.O.Narrow.asks_none c.args.op.now) c.requires.left c.requires.right c.requires.asks
+      refl);
 }
 
 pub narrow_kids-seek_alike-requires : goal.narrow_kids-seek_alike-requires
-narrow_kids-seek_alike-requires g t c = next-within (rw c.in-Some.ensures.cases.0 at c.loop-child.invariant.going)
+narrow_kids-seek_alike-requires g t c = left_within c.loop-child.invariant.going c.in-Some.ensures.cases.0
 
 pub narrow_kids-narrow_at-requires : goal.narrow_kids-narrow_at-requires
 narrow_kids-narrow_at-requires g t c κs inside =
@@ -217,24 +216,25 @@ narrow_kids-narrow_at-requires g t c κs inside =
     let d = rw c.in-Some.ensures.cases.0 at c.loop-child.invariant.going in
     let sought = rw c.loop-child.invariant.from at c.seek_alike.ensures.sought in
     let from = c.seek_alike.ensures.from ∙ c.loop-child.invariant.from in
-    let e = ap option_copied c.in-Some-seek_alike.is in
-    let asks = meets-asked d sought e in
-    let agree = meets-agree d sought e in
-    let within = meets-within d sought e in
+    let n = next-sought (g.met.O.Narrow.says_nothing c.args.op.now) d sought (ap option_copied c.in-Some-seek_alike.is) in
+    let asks = asked n in
+    let agree = both-agree n in
+    let within = at-most _ _ (right_within n.doing refl) in
     let asks_from = rw (← from) at asks in
     let agree_from = rw (← from) at agree in
     let within_from = rw (← from) at within in
-    let smaller = meets-fewer d sought e in
-    let fewer = next-fewer d in
+    let smaller = right-fewer n in
+    let fewer = left-fewer n in
     search rules
 
 pub narrow_kids-narrow_alone-requires : goal.narrow_kids-narrow_alone-requires
 narrow_kids-narrow_alone-requires g t c κs inside =
     let d = rw c.in-Some.ensures.cases.0 at c.loop-child.invariant.going in
     let sought = rw c.loop-child.invariant.from at c.seek_alike.ensures.sought in
-    let asked = alone-asked d sought (ap option_copied c.in-None.is) in
-    let within = next-within d in
-    let fewer = next-fewer d in
+    let n = next-sought (g.met.O.Narrow.says_nothing c.args.op.now) d sought (ap option_copied c.in-None.is) in
+    let asks = asked n in
+    let within = left_within n.doing refl in
+    let fewer = left-fewer n in
     search rules
 
 pub narrow_kids-loop-child-preserved : goal.narrow_kids-loop-child-preserved
@@ -242,28 +242,29 @@ narrow_kids-loop-child-preserved g t c =
     let d = rw c.in-Some.ensures.cases.0 at c.loop-child.invariant.going in
     let sought = rw c.loop-child.invariant.from at c.seek_alike.ensures.sought in
     let from = c.seek_alike.ensures.from ∙ c.loop-child.invariant.from in
+    let nothing = g.met.O.Narrow.says_nothing c.args.op.now in
     let kid = option_map g.O.Made.RadixNode.tree c.match-seek_alike.kid in
     record {
       from = from;
       going = elim c.match-seek_alike.branch [
         | narrow_kids-in-Some-seek_alike+in_ok-kid-in-Some-seek_alike w ↦
-            goes-both d sought (ap option_copied w.in-Some-seek_alike.is) {u = kid}
-            (both-whole kid (rw (w.kid-is, ← from) w.in_ok-kid-in-Some-seek_alike.ensures)) c.in_ok-keep.ensures
+            done (next-sought nothing d sought (ap option_copied w.in-Some-seek_alike.is)) {u = kid} c.in_ok-keep.ensures
+            (both-whole kid (rw (w.kid-is, ← from) w.in_ok-kid-in-Some-seek_alike.ensures))
         | narrow_kids-in-None+in_ok-kid-in-None w ↦
-            goes-alone d sought (ap option_copied w.in-None.is) {u = kid}
-            (alone-whole kid (rw w.kid-is w.in_ok-kid-in-None.ensures)) c.in_ok-keep.ensures
+            done (next-sought nothing d sought (ap option_copied w.in-None.is)) {u = kid} c.in_ok-keep.ensures
+            (made-left (alone-whole kid (rw w.kid-is w.in_ok-kid-in-None.ensures)))
       ];
     }
 
 pub narrow_kids-returns-clause-children : goal.narrow_kids-returns-clause-children
 narrow_kids-returns-clause-children g t c =
     let none = nil-by _ c.in_default.ensures.cases in
-    (list-done _ (rw none at c.loop-child.invariant.going)).0
+    (list-done (g.met.O.Narrow.says_nothing c.args.op.now) _ (rw none at c.loop-child.invariant.going)).0
 
 pub narrow_kids-returns-clause-below : goal.narrow_kids-returns-clause-below
 narrow_kids-returns-clause-below g t c =
     let none = nil-by _ c.in_default.ensures.cases in
-    (list-done _ (rw none at c.loop-child.invariant.going)).1
+    (list-done (g.met.O.Narrow.says_nothing c.args.op.now) _ (rw none at c.loop-child.invariant.going)).1
 
 pub narrow_node-returns : goal.narrow_node-returns
 narrow_node-returns g t c =

@@ -3,7 +3,7 @@ use Rattle.std.specs.Prelude.{◌≡◌, ◌+◌, ◌*◌, length, map}
 use Rattle.vc_tree_model.specs.Look.{values}
 use Rattle.vc_tree_model.specs.Tree.{nodes, forest_nodes}
 use Rattle.vc_tree_nodes.specs.Children.{seen}
-use Rattle.vc_tree_facing.specs.Doing.{IsGoingOn}
+use Rattle.vc_tree_facing.specs.Doing.{IsDoing}
 use Rattle.vc_tree_facing.specs.Facing.{trees_below, shortened_in}
 use Rattle.vc_tree_combines.proofs.narrowing.+narrowing.Given as goal
 
@@ -30,7 +30,7 @@ abbrev pub invariant-narrow_kids-loop-child : goal.invariant-narrow_kids-loop-ch
 invariant-narrow_kids-loop-child g l = record {
   from : l.right.from ≡ l.initial.right.from;
   going :
-      IsGoingOn g.K.Ord.cmp g.A.RadixNode.tree g.B.RadixNode.tree 0 l.initial.right.from (values g.K.Ord.cmp)
+      IsDoing g.K.Ord.cmp g.A.RadixNode.tree g.B.RadixNode.tree 0 l.initial.right.from (values g.K.Ord.cmp)
       (g.O.Narrow.says l.op) (g.O.Narrow.asks l.op) l.children (trees_below l.initial.right) l.todo
       (trees_below l.right) (map g.O.Made.RadixNode.tree l.kids.items);
 }

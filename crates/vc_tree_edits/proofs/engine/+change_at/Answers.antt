@@ -1,6 +1,6 @@
 -- The recursion of a change in place: the next trees are done one after the other, and each call goes to trees that stand below.
 use Rattle.std.proofs.Common.{rules, refl, sym, ap, ◌∙◌, Some}
-use Rattle.vc_tree_facing.proofs.Next.{left_within, right_within, both-asked, both-agree, both-done, at-most}
+use Rattle.vc_tree_facing.proofs.Next.{left_within, right_within, both-next, both-asked, done, both-agree, at-most}
 use Rattle.vc_tree_edits.proofs.Stepping.{first-long, after-left, after-right, falls-below, finished-children, finished}
 use Rattle.vc_tree_edits.proofs.engine.+change_at.Goals as goal
 
@@ -29,18 +29,37 @@ pub change_at-requires : goal.change_at-requires
 change_at-requires g t c κs within =
     let inv = c.loop-side.invariant in
     let z = rw inv.right_from at (sym c.next_side.ensures.side ∙ c.in-Some.is ∙ ap Some c.in-Both.is) in
-    let x = c.pop-x.ensures in
-    let y = c.next-y.ensures.first in
+    let n = both-next inv.doing z c.pop-x.ensures c.next-y.ensures.first in
     let from = c.next-y.ensures.from ∙ inv.right_from in
-    let down = falls-below c.in_ok-prefix.ensures inv.doing z x y in
-    let i = at-most _ _ (left_within inv.doing x) in
-    let right = at-most _ _ (right_within inv.doing y) in
-    let alike = both-agree inv.doing z x y in
-    let asks = both-asked inv.doing z x y in
+    let down = falls-below c.in_ok-prefix.ensures n in
+    let i = at-most _ _ (left_within n.doing refl) in
+    let right = at-most _ _ (right_within n.doing refl) in
+    let alike = both-agree n in
+    let asks = both-asked n in
     let j = rw (← from) at right in
     let agree = rw (← from) at alike in
-    let asked = rw (← from) at asks in
-    search rules
+    let asked = rw (← from) at asks in (
+      search rules,
+      (
+        within.0,
+        (
+          within.1.0,
+          (
+            within.1.1.0,
+            (
+              within.1.1.1.0,
+              (
+                within.1.1.1.1.0,
+                (
+                  within.1.1.1.1.1.0,
+                  (within.1.1.1.1.1.1.0, (within.1.1.1.1.1.1.1, (i, (j, (agree, asked))))),
+                ),
+              ),
+            ),
+          ),
+        ),
+      ),
+    )
 
 pub loop-side-preserved-in-Continue-branch-2 : goal.loop-side-preserved-in-Continue-branch-2
 loop-side-preserved-in-Continue-branch-2 g t c =
@@ -72,7 +91,7 @@ loop-side-preserved g t c =
     let from = c.next-y.ensures.from ∙ inv.right_from in
     record {
       doing =
-          both-done inv.doing z c.pop-x.ensures c.next-y.ensures.first c.in_ok-keep-in-Both.ensures
+          done (both-next inv.doing z c.pop-x.ensures c.next-y.ensures.first) c.in_ok-keep-in-Both.ensures
           (rw from at c.in_ok-kid-in-Both.ensures);
       right_from = from;
       value_is = inv.value_is;

@@ -5,19 +5,19 @@ use Rattle.std.proofs.Math.ListN.{length-set}
 use Rattle.std.specs.List.{cons_option}
 use Rattle.std.specs.Option.{option_copied}
 use Rattle.vc_tree_model.specs.Canonical.{AreChildren}
-use Rattle.vc_tree_model.specs.Tree.{forest_nodes, nodes}
+use Rattle.vc_tree_model.specs.Tree.{forest_nodes}
 use Rattle.vc_tree_model.proofs.AlikeLemmas.{alike-children, alike-lookup, alike-nodes}
 use Rattle.vc_tree_nodes.specs.Children.{listed, seen}
-use Rattle.vc_tree_facing.specs.Facing.{trees_below, shortened_in}
-use Rattle.vc_tree_facing.proofs.Advancing.{next-within, next-fewer, meets-asked, meets-agree, meets-within, meets-fewer}
-use Rattle.vc_tree_facing.proofs.Advancing.{inside-alone, inside-both}
+use Rattle.vc_tree_facing.specs.Facing.{trees_below}
+use Rattle.vc_tree_facing.proofs.Advancing.{next-sought, list-done, inside}
 use Rattle.vc_tree_facing.proofs.Apart.{apart-lessened}
-use Rattle.vc_tree_facing.proofs.Advancing.{list-begun, list-done}
+use Rattle.vc_tree_facing.proofs.Next.{at-most, doing-start, asked, both-agree, left_within, right_within, left-fewer}
+use Rattle.vc_tree_facing.proofs.Next.{right-fewer, made-left}
 use Rattle.vc_tree_facing.proofs.Leaving.{if-ok, node-lessened, inside-lessened, value-may, below-may, node-kids}
 use Rattle.vc_tree_facing.proofs.Leaving.{inner-list}
 use Rattle.vc_tree_facing.proofs.Leaving.{ended-node, inner-node, opened-node}
 use Rattle.vc_tree_facing.proofs.Leaving.{below-fewer}
-use Rattle.vc_tree_edits.proofs.Placed.{same-place, same-at, set-at, IsStepped, next-here, stepped-alone, stepped-both}
+use Rattle.vc_tree_edits.proofs.Placed.{same-place, same-at, set-at, IsStepped, next-here, stepped}
 use Rattle.vc_tree_edits.proofs.Placed.{after-kept}
 use Rattle.vc_tree_edits.proofs.Placed.{after-gone, alone-made, none-left, only-popped, first-long, same-many, whole-back}
 use Rattle.vc_tree_edits.proofs.lessening.+lessening.Goals.{lessen_in-in-Some+in_ok-stays-in-Some, lessen_in-in-None}
@@ -120,24 +120,22 @@ lessen_inside-lessen_at-requires g t c κs inside =
     let op = c.change_value-below.result.1 in
     let opened = c.below_place-right.ensures.opened in
     let kids = node-kids opened c.prefix.ensures.value (omega arith) in
-    let d = list-begun {ta = g.T.RadixNode.tree} {tb = tb} {i = c.args.place} {j = c.below_place-right.result.from}
+    let d = doing-start {ta = g.T.RadixNode.tree} {tb = tb} {i = c.args.place} {j = c.below_place-right.result.from}
     {l = g.O.Lessen.look g.K.Ord.cmp} {R = g.O.Lessen.says op}
     {asks = g.O.Lessen.asks op} {xs = c.args.tree.now ∷ []}
-    {ys = trees_below c.below_place-right.result} g.met.K.Ord.total (g.met.O.Lessen.says_nothing op)
-    (g.met.O.Lessen.asks_none op)
+    {ys = trees_below c.below_place-right.result} g.met.K.Ord.total (g.met.O.Lessen.asks_none op)
     (inner-list g.K.Ord.cmp g.T.RadixNode.tree c.args.tree.now c.args.place c.seek_alike.ensures.canonical c.requires.within)
     c.below_place-right.ensures.below.are_children
-    (λ x q. c.change_value-below.ensures.asked _ _ (rw (c.value.ensures, kids) (c.requires.asks_below x q))) in
-    let sought = c.seek_alike.ensures.sought in
-    let e = ap option_copied c.in-Some.is in
+    (λ x q. c.change_value-below.ensures.asked _ _ (rw (c.value.ensures, kids) (c.requires.asks_below x q))) refl in
+    let n = next-sought (g.met.O.Lessen.says_nothing op) d c.seek_alike.ensures.sought (ap option_copied c.in-Some.is) in
     let from = c.seek_alike.ensures.from in
-    let asks = meets-asked d sought e in
-    let agree = meets-agree d sought e in
-    let within = meets-within d sought e in
+    let asks = asked n in
+    let agree = both-agree n in
+    let within = at-most _ _ (right_within n.doing refl) in
     let asks_from = rw (← from) at asks in
     let agree_from = rw (← from) at agree in
     let within_from = rw (← from) at within in
-    let smaller = meets-fewer d sought e in
+    let smaller = right-fewer n in
     let all = ap forest_nodes kids in
     search rules
 
@@ -147,18 +145,17 @@ lessen_inside-returns-in-Some g t c =
     let op = c.change_value-below.result.1 in
     let opened = c.below_place-right.ensures.opened in
     let kids = node-kids opened c.prefix.ensures.value (omega arith) in
-    let d = list-begun {ta = g.T.RadixNode.tree} {tb = tb} {i = c.args.place} {j = c.below_place-right.result.from}
+    let d = doing-start {ta = g.T.RadixNode.tree} {tb = tb} {i = c.args.place} {j = c.below_place-right.result.from}
     {l = g.O.Lessen.look g.K.Ord.cmp} {R = g.O.Lessen.says op}
     {asks = g.O.Lessen.asks op} {xs = c.args.tree.now ∷ []}
-    {ys = trees_below c.below_place-right.result} g.met.K.Ord.total (g.met.O.Lessen.says_nothing op)
-    (g.met.O.Lessen.asks_none op)
+    {ys = trees_below c.below_place-right.result} g.met.K.Ord.total (g.met.O.Lessen.asks_none op)
     (inner-list g.K.Ord.cmp g.T.RadixNode.tree c.args.tree.now c.args.place c.seek_alike.ensures.canonical c.requires.within)
     c.below_place-right.ensures.below.are_children
-    (λ x q. c.change_value-below.ensures.asked _ _ (rw (c.value.ensures, kids) (c.requires.asks_below x q))) in
+    (λ x q. c.change_value-below.ensures.asked _ _ (rw (c.value.ensures, kids) (c.requires.asks_below x q))) refl in
+    let n = next-sought (g.met.O.Lessen.says_nothing op) d c.seek_alike.ensures.sought (ap option_copied c.in-Some.is) in
     if-ok c.lessen_at.result
-    (λ stays h. inside-both d c.seek_alike.ensures.sought kids (rw c.value.ensures at c.change_value-below.ensures.below)
-    (g.met.O.Lessen.says_nothing c.args.op.now _) h.front (ap option_copied c.in-Some.is)
-    (rw c.seek_alike.ensures.from at h.made)) c.lessen_at.ensures
+    (λ stays h. inside n (g.met.O.Lessen.says_nothing op) kids (rw c.value.ensures at c.change_value-below.ensures.below)
+    (g.met.O.Lessen.says_nothing c.args.op.now _) h.front (rw c.seek_alike.ensures.from at h.made)) c.lessen_at.ensures
 
 pub lessen_inside-returns : goal.lessen_inside-returns
 lessen_inside-returns g t c =
@@ -166,19 +163,19 @@ lessen_inside-returns g t c =
     let op = c.change_value-below.result.1 in
     let opened = c.below_place-right.ensures.opened in
     let kids = node-kids opened c.prefix.ensures.value (omega arith) in
-    let d = list-begun {ta = g.T.RadixNode.tree} {tb = tb} {i = c.args.place} {j = c.below_place-right.result.from}
+    let d = doing-start {ta = g.T.RadixNode.tree} {tb = tb} {i = c.args.place} {j = c.below_place-right.result.from}
     {l = g.O.Lessen.look g.K.Ord.cmp} {R = g.O.Lessen.says op}
     {asks = g.O.Lessen.asks op} {xs = c.args.tree.now ∷ []}
-    {ys = trees_below c.below_place-right.result} g.met.K.Ord.total (g.met.O.Lessen.says_nothing op)
-    (g.met.O.Lessen.asks_none op)
+    {ys = trees_below c.below_place-right.result} g.met.K.Ord.total (g.met.O.Lessen.asks_none op)
     (inner-list g.K.Ord.cmp g.T.RadixNode.tree c.args.tree.now c.args.place c.seek_alike.ensures.canonical c.requires.within)
     c.below_place-right.ensures.below.are_children
-    (λ x q. c.change_value-below.ensures.asked _ _ (rw (c.value.ensures, kids) (c.requires.asks_below x q))) in
-    inside-alone d c.seek_alike.ensures.sought kids (rw c.value.ensures at c.change_value-below.ensures.below)
-    (g.met.O.Lessen.says_nothing c.args.op.now _) (λ e. refl) (ap option_copied c.in-None.is)
-    (alone-made g.K.Ord.cmp g.met.K.Ord.total g.T.Build.keeps g.met.T.Build.keeps_refl (g.O.Lessen.says op) _
+    (λ x q. c.change_value-below.ensures.asked _ _ (rw (c.value.ensures, kids) (c.requires.asks_below x q))) refl in
+    let n = next-sought (g.met.O.Lessen.says_nothing op) d c.seek_alike.ensures.sought (ap option_copied c.in-None.is) in
+    inside n (g.met.O.Lessen.says_nothing op) kids (rw c.value.ensures at c.change_value-below.ensures.below)
+    (g.met.O.Lessen.says_nothing c.args.op.now _) (λ e. refl)
+    (made-left (alone-made g.K.Ord.cmp g.met.K.Ord.total g.T.Build.keeps g.met.T.Build.keeps_refl (g.O.Lessen.says op) _
     (g.T.RadixNode.tree c.args.tree.now) c.args.place c.seek_alike.ensures.canonical c.requires.within c.stays_alone.result
-    c.stays_alone.ensures)
+    c.stays_alone.ensures))
 
 -- ---- the children
 
@@ -190,17 +187,17 @@ lessen_in-loop-at-init g t c =
       within = omega arith;
       from = refl;
       going =
-          list-begun g.met.K.Ord.total (g.met.O.Lessen.says_nothing c.args.op.now) (g.met.O.Lessen.asks_none c.args.op.now)
+          doing-start g.met.K.Ord.total (g.met.O.Lessen.asks_none c.args.op.now)
           (alike-children g.T.Build.keeps g.K.Ord.cmp _ _ alike c.requires.left) c.requires.right
           (λ x q. g.met.O.Lessen.asks_kept c.args.op.now _ _ _
-          (alike-lookup g.T.Build.keeps g.K.Ord.cmp _ _ alike (x ∷ q)) (c.requires.asks x q));
+          (alike-lookup g.T.Build.keeps g.K.Ord.cmp _ _ alike (x ∷ q)) (c.requires.asks x q)) refl;
     }
 
 pub lessen_in-seek_alike-requires : goal.lessen_in-seek_alike-requires
 lessen_in-seek_alike-requires g t c =
     let at : c.loop-at.at < length c.loop-at.list.items = search rules in
     let d = next-here c.loop-at.list.items c.loop-at.at c.loop-at.invariant.going at c.index.ensures in
-    next-within d
+    left_within d refl
 
 pub lessen_in-lessen_at-requires : goal.lessen_in-lessen_at-requires
 lessen_in-lessen_at-requires g t c κs inside =
@@ -211,15 +208,15 @@ lessen_in-lessen_at-requires g t c κs inside =
     let same = same-place c.loop-at.list.items c.loop-at.at _ _ at c.index_mut.ensures.value c.index.ensures in
     let from = c.seek_alike.ensures.from ∙ c.loop-at.invariant.from in
     let sought = rw c.loop-at.invariant.from at c.seek_alike.ensures.sought in
-    let e = ap option_copied c.in-Some.is in
-    let asks = meets-asked d sought e in
-    let agree = meets-agree d sought e in
-    let within = meets-within d sought e in
+    let n = next-sought (g.met.O.Lessen.says_nothing c.args.op.now) d sought (ap option_copied c.in-Some.is) in
+    let asks = asked n in
+    let agree = both-agree n in
+    let within = at-most _ _ (right_within n.doing refl) in
     let asks_from = rw (← same, ← from) at asks in
     let agree_from = rw (← same, ← from) at agree in
     let within_from = rw (← from) at within in
-    let smaller = meets-fewer d sought e in
-    let few = next-fewer d in
+    let smaller = right-fewer n in
+    let few = left-fewer n in
     let fewer = rw (← same) at few in
     let many = alike-nodes g.T.Build.keeps _ _ alike in
     search rules
@@ -254,6 +251,7 @@ lessen_in-loop-at-preserved g t c =
     let d = next-here c.loop-at.list.items c.loop-at.at c.loop-at.invariant.going at c.index.ensures in
     let from = c.seek_alike.ensures.from ∙ c.loop-at.invariant.from in
     let sought = rw c.loop-at.invariant.from at c.seek_alike.ensures.sought in
+    let nothing = g.met.O.Lessen.says_nothing c.args.op.now in
     let s : IsStepped g.K.Ord.cmp tree g.B.RadixNode.tree c.args.right.from (g.O.Lessen.look g.K.Ord.cmp)
     (g.O.Lessen.says c.args.op.now)
     (g.O.Lessen.asks c.args.op.now) c.in_ok-list.list.now.items (trees_below c.args.right) c.loop-at.list.items c.loop-at.at
@@ -261,14 +259,14 @@ lessen_in-loop-at-preserved g t c =
     elim c.match-seek_alike.branch [
       | lessen_in-in-Some+in_ok-stays-in-Some w ↦
           let same = same-place c.loop-at.list.items c.loop-at.at _ _ at w.index_mut.ensures.value c.index.ensures in
-          stepped-both d sought (ap option_copied w.in-Some.is) (set-at _ _ _ _ at (ap (λ v. v.items) w.list-is))
+          stepped (next-sought nothing d sought (ap option_copied w.in-Some.is)) (set-at _ _ _ _ at (ap (λ v. v.items) w.list-is))
           (rw w.stays-is (rw (same, from) at w.in_ok-stays-in-Some.ensures.made))
       | lessen_in-in-None w ↦
-          stepped-alone d sought (ap option_copied w.in-None.is)
+          stepped (next-sought nothing d sought (ap option_copied w.in-None.is))
           (same-at _ _ _ _ at c.index.ensures (ap (λ v. v.items) w.list-is))
-          (rw w.stays-is (alone-made g.K.Ord.cmp g.met.K.Ord.total g.T.Build.keeps g.met.T.Build.keeps_refl
-          (g.O.Lessen.says c.args.op.now) _ (tree x) 0 c.seek_alike.ensures.canonical (next-within d)
-          w.stays_alone-stays.result w.stays_alone-stays.ensures))
+          (rw w.stays-is (made-left (alone-made g.K.Ord.cmp g.met.K.Ord.total g.T.Build.keeps g.met.T.Build.keeps_refl
+          (g.O.Lessen.says c.args.op.now) _ (tree x) 0 c.seek_alike.ensures.canonical (left_within d refl)
+          w.stays_alone-stays.result w.stays_alone-stays.ensures)))
     ] in
     let order = c.loop-at.invariant.order in
     let long = s.set_at.long in
@@ -303,7 +301,7 @@ lessen_in-loop-at-preserved g t c =
 pub lessen_in-returns-then-kept-eq1-clause-children : goal.lessen_in-returns-then-kept-eq1-clause-children
 lessen_in-returns-then-kept-eq1-clause-children g t c =
     let end : length c.loop-at.list.items ≤ c.loop-at.at = search rules in
-    let gone = list-done _ (rw (none-left c.loop-at.list.items c.loop-at.at end) at c.loop-at.invariant.going) in
+    let gone = list-done (g.met.O.Lessen.says_nothing c.args.op.now) _ (rw (none-left c.loop-at.list.items c.loop-at.at end) at c.loop-at.invariant.going) in
     let enough : c.loop-at.kept ≤ length c.loop-at.list.items =
     (let k = c.loop-at.invariant.order in let w = c.loop-at.invariant.within in omega (arith, k, w)) in
     let one : length (take c.loop-at.kept c.loop-at.list.items) ≡ 1 =
@@ -317,7 +315,7 @@ lessen_in-returns-then-kept-eq1-clause-children g t c =
 pub lessen_in-returns-then-kept-eq1-clause-below : goal.lessen_in-returns-then-kept-eq1-clause-below
 lessen_in-returns-then-kept-eq1-clause-below g t c =
     let end : length c.loop-at.list.items ≤ c.loop-at.at = search rules in
-    let gone = list-done _ (rw (none-left c.loop-at.list.items c.loop-at.at end) at c.loop-at.invariant.going) in
+    let gone = list-done (g.met.O.Lessen.says_nothing c.args.op.now) _ (rw (none-left c.loop-at.list.items c.loop-at.at end) at c.loop-at.invariant.going) in
     let enough : c.loop-at.kept ≤ length c.loop-at.list.items =
     (let k = c.loop-at.invariant.order in let w = c.loop-at.invariant.within in omega (arith, k, w)) in
     let one : length (take c.loop-at.kept c.loop-at.list.items) ≡ 1 =
@@ -355,7 +353,7 @@ lessen_in-returns-clause-kids g t c =
 pub lessen_in-returns-clause-children : goal.lessen_in-returns-clause-children
 lessen_in-returns-clause-children g t c =
     let end : length c.loop-at.list.items ≤ c.loop-at.at = search rules in
-    let gone = list-done _ (rw (none-left c.loop-at.list.items c.loop-at.at end) at c.loop-at.invariant.going) in
+    let gone = list-done (g.met.O.Lessen.says_nothing c.args.op.now) _ (rw (none-left c.loop-at.list.items c.loop-at.at end) at c.loop-at.invariant.going) in
     let items : g.T.Children.ChildList.items c.else-is_bare.children ≡ take c.loop-at.kept c.loop-at.list.items =
     elim c.else-is_bare.branch [
       | lessen_in-else-is_bare-via-then-is_bare+else-kept-eq1 w ↦
@@ -370,7 +368,7 @@ lessen_in-returns-clause-children g t c =
 pub lessen_in-returns-clause-below : goal.lessen_in-returns-clause-below
 lessen_in-returns-clause-below g t c =
     let end : length c.loop-at.list.items ≤ c.loop-at.at = search rules in
-    let gone = list-done _ (rw (none-left c.loop-at.list.items c.loop-at.at end) at c.loop-at.invariant.going) in
+    let gone = list-done (g.met.O.Lessen.says_nothing c.args.op.now) _ (rw (none-left c.loop-at.list.items c.loop-at.at end) at c.loop-at.invariant.going) in
     let items : g.T.Children.ChildList.items c.else-is_bare.children ≡ take c.loop-at.kept c.loop-at.list.items =
     elim c.else-is_bare.branch [
       | lessen_in-else-is_bare-via-then-is_bare+else-kept-eq1 w ↦

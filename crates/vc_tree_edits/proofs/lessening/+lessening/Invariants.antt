@@ -2,7 +2,7 @@
 use Rattle.std.specs.Prelude.{◌≡◌, ◌+◌, ◌*◌, ◌-◌, ◌≤◌, length, map, take, drop}
 use Rattle.vc_tree_model.specs.Tree.{nodes, forest_nodes}
 use Rattle.vc_tree_nodes.specs.Children.{listed, seen}
-use Rattle.vc_tree_facing.specs.Doing.{IsGoingOn}
+use Rattle.vc_tree_facing.specs.Doing.{IsDoing}
 use Rattle.vc_tree_facing.specs.Facing.{trees_below, shortened_in}
 use Rattle.vc_tree_edits.proofs.lessening.+lessening.Given as goal
 
@@ -33,7 +33,7 @@ invariant-lessen_in-loop-at g l = record {
   within : l.at ≤ length l.list.items;
   from : l.right.from ≡ l.initial.right.from;
   going :
-      IsGoingOn g.K.Ord.cmp g.T.RadixNode.tree g.B.RadixNode.tree 0 l.initial.right.from (g.O.Lessen.look g.K.Ord.cmp)
+      IsDoing g.K.Ord.cmp g.T.RadixNode.tree g.B.RadixNode.tree 0 l.initial.right.from (g.O.Lessen.look g.K.Ord.cmp)
       (g.O.Lessen.says l.op) (g.O.Lessen.asks l.op) l.initial.list.items (trees_below l.initial.right)
       (drop l.at l.list.items) (trees_below l.right) (map g.T.RadixNode.tree (take l.kept l.list.items));
 }

@@ -1,9 +1,9 @@
 -- A node with a value, or with at least two children, stays as it is.
-use Rattle.std.proofs.Common.{sym, ap, subst, ◌∙◌, Some, rules}
+use Rattle.std.proofs.Common.{◌≡◌, ◌≤◌, sym, ap, subst, ◌∙◌, Some, is_none, true, length, true≢false, rules}
 use Rattle.std.specs.List.{cons_option}
 use Rattle.vc_tree_model.specs.Canonical.{AreChildren}
 use Rattle.vc_tree_model.specs.Child.{solid_child}
-use Rattle.vc_tree_facing.proofs.Opening.{whole-of_value, whole-of_many}
+use Rattle.vc_tree_facing.proofs.Opening.{whole-of}
 use Rattle.vc_tree_nodes.specs.Children.{listed, seen}
 use Rattle.vc_tree_edits.proofs.Placed.{two-stored}
 use Rattle.vc_tree_edits.proofs.lessening.remake.Goals.{else-is_none-via-then-is_none+else-many-eq0}
@@ -12,15 +12,13 @@ use Rattle.vc_tree_edits.proofs.lessening.remake.Goals as goal
 
 pub assemble-requires : goal.assemble-requires
 assemble-requires g c =
-    let list = listed g.T.Children.ChildList.items c.args.kids.stored in (
-      elim c.else-is_none.branch [
-        | else-is_none-via-then-is_none+else-many-eq0 w ↦
-            (whole-of_many g.T.RadixNode.tree (g.T.Prefix.Fragment.items c.args.prefix) c.args.value list
-            (two-stored _ _ _ _ c.requires.kids c.in_default.is (search rules) w.if-many-eq0.false)).1
-        | else-is_none-via-else-is_none w ↦
-            (whole-of_value g.T.RadixNode.tree
-            (g.T.Prefix.Fragment.items c.args.prefix) c.args.value list (search rules)).1
-      ],
+    let list = listed g.T.Children.ChildList.items c.args.kids.stored in
+    let two : is_none c.args.value ≡ true → 2 ≤ length list = λ e. elim c.else-is_none.branch [
+      | else-is_none-via-then-is_none+else-many-eq0 w ↦
+          two-stored _ _ _ _ c.requires.kids c.in_default.is e w.if-many-eq0.false
+      | else-is_none-via-else-is_none w ↦ absurd (true≢false (sym e ∙ search rules))
+    ] in (
+      (whole-of g.T.RadixNode.tree (g.T.Prefix.Fragment.items c.args.prefix) c.args.value list two).1,
       subst (λ o. AreChildren g.K.Ord.cmp (seen g.T.RadixNode.tree (cons_option o list))) c.in_default.is c.requires.canonical,
     )
 
@@ -28,12 +26,11 @@ pub returns : goal.returns
 returns g c =
     let p = g.T.Prefix.Fragment.items c.args.prefix in
     let list = listed g.T.Children.ChildList.items c.args.kids.stored in
-    ap Some c.assemble.ensures
-    ∙ sym (elim c.else-is_none.branch [
+    let two : is_none c.args.value ≡ true → 2 ≤ length list = λ e. elim c.else-is_none.branch [
       | else-is_none-via-then-is_none+else-many-eq0 w ↦
-          (whole-of_many g.T.RadixNode.tree p c.args.value list
-          (two-stored _ _ _ _ c.requires.kids c.in_default.is (search rules) w.if-many-eq0.false)).0
-      | else-is_none-via-else-is_none w ↦
-          (whole-of_value g.T.RadixNode.tree p c.args.value list (search rules)).0
-    ])
+          two-stored _ _ _ _ c.requires.kids c.in_default.is e w.if-many-eq0.false
+      | else-is_none-via-else-is_none w ↦ absurd (true≢false (sym e ∙ search rules))
+    ] in
+    ap Some c.assemble.ensures
+    ∙ sym (whole-of g.T.RadixNode.tree p c.args.value list two).0
     ∙ ap (λ o. solid_child p c.args.value (seen g.T.RadixNode.tree (cons_option o list))) (sym c.in_default.is)

@@ -3,18 +3,18 @@ use Rattle.std.proofs.Common.{◌∙◌, refl, sym, ap, arith, drop}
 use Rattle.std.proofs.Math.ListN.{drop_of_length-le}
 use Rattle.vc_tree_model.specs.Shortened.{forest_weight}
 use Rattle.vc_tree_facing.proofs.Ending.{below-children}
-use Rattle.vc_tree_facing.proofs.Opening.{opened-all, opened-at, few-below}
+use Rattle.vc_tree_facing.proofs.Opening.{opened-all, opened-rest, few-below}
 use Rattle.vc_tree_facing.proofs.facing.below_place.Goals as goal
 
 pub returns-then-place-prefix-clause-opened : goal.returns-then-place-prefix-clause-opened
 returns-then-place-prefix-clause-opened g c =
-    opened-at g.T.RadixNode.tree c.args.tree.now c.args.place (rw c.prefix.ensures.value at c.if-place-prefix.true)
+    opened-rest g.T.RadixNode.tree c.args.tree.now 0 c.args.place (omega arith) (rw c.prefix.ensures.value at c.if-place-prefix.true)
 
 pub returns-then-place-prefix-clause-below : goal.returns-then-place-prefix-clause-below
 returns-then-place-prefix-clause-below g c = record {
   are_children =
       below-children g.K.Ord.cmp c.args.place c.prefix.ensures.canonical
-      (opened-at g.T.RadixNode.tree c.args.tree.now c.args.place (rw c.prefix.ensures.value at c.if-place-prefix.true));
+      (opened-rest g.T.RadixNode.tree c.args.tree.now 0 c.args.place (omega arith) (rw c.prefix.ensures.value at c.if-place-prefix.true));
   alone = refl;
 }
 
