@@ -2,7 +2,7 @@
 --     next-sought        the next trees are the first one and the one that was found
 --     list-done        all are done
 --     inside        the only one of a list is
-use Rattle.std.proofs.Common.{◌≡◌, ℕ, [], ◌∷◌, ◌++◌, List, Option, None, Some, refl, sym, ap, Bool, true, false}
+use Rattle.std.proofs.Common.{◌≡◌, ℕ, [], ◌∷◌, ◌++◌, List, Option, None, Some, refl, sym, ap, ◌∙◌, Bool, true, false}
 use Rattle.std.proofs.Common.{cond, append-nil, map, option_map, slice_get}
 use Rattle.std.specs.List.{AllByRecursion, cons_option}
 use Rattle.std.specs.Option.{option_cmp}
@@ -28,12 +28,11 @@ module _ {K V W A B : Type 0} (cmp : K → K → Ordering) (ta : A → Tree K V)
   -- how trees of both sides stand to each other
   side-by : (y : B) {r : Ordering} → side_at cmp tb j c y ≡ r
       → side_next (by_component ta tb i j cmp) (Some a) (Some y) ≡ Some (lower_side r)
-  side-by y h = rw e (by (slice_get (tb y).prefix j) h)
+  side-by y h = rw e (ap (λ r. Some (lower_side r)) (by (slice_get (tb y).prefix j) ∙ h))
     where
-      by : (s : Option K) {r : Ordering} → first_side cmp c s ≡ r
-          → Some (lower_side (option_cmp cmp s (Some c))) ≡ Some (lower_side r)
-      by None h = ap (λ r. Some (lower_side r)) h
-      by (Some y) h = ap (λ r. Some (lower_side r)) h
+      by : (s : Option K) → option_cmp cmp s (Some c) ≡ first_side cmp c s
+      by None = refl
+      by (Some y) = refl
 
   -- where nothing sought is left, what stands first on the right side is above
   stops-alone : (rs : List B) → Stops cmp tb j c None rs

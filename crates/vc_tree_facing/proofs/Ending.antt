@@ -1,11 +1,11 @@
 -- The combine of two trees, once all events below the fronts of their prefixes are done.
 --     below-children        what stands below is canonical children
---     value-front, below-front, made-front        what holds of two trees, holds where their prefixes agree, and what is made there
+--     front-asked, made-front        what holds of two trees, holds where their prefixes agree, and what is made there
 --     combine-started        the state before the first event
 --     values-asked        what may be asked of the values at the fronts
 --     made-children        the trees that were made are canonical children
 --     combined        the node of these trees is what the combine says of both
-use Rattle.std.proofs.Common.{◌≡◌, ℕ, [], ◌∷◌, List, Option, None, sym, ◌∙◌, take, drop, zero, suc, slice_get}
+use Rattle.std.proofs.Common.{◌≡◌, ℕ, [], ◌∷◌, ◌++◌, List, Option, None, Some, sym, ◌∙◌, take, drop, zero, suc, slice_get}
 use Rattle.std.proofs.Common.{true≢false}
 use Rattle.std.proofs.lemmas.List.{take-append-drop}
 use Rattle.std.specs.Cmp.{IsTotalOrder}
@@ -16,9 +16,9 @@ use Rattle.vc_tree_model.specs.Map.{lookup, lookup_in}
 use Rattle.vc_tree_model.specs.Canonical.{AreChildren, IsCanonical}
 use Rattle.vc_tree_model.specs.Child.{Begins, BeginsWith, solid_child, value_at, children_at}
 use Rattle.vc_tree_model.specs.Key.{same_key}
-use Rattle.vc_tree_model.proofs.Joining.{opened-children, joined-child, joined-begins, trees-combined, value-asked}
-use Rattle.vc_tree_model.proofs.Joining.{children-asked}
-use Rattle.vc_tree_model.specs.Look.{Look}
+use Rattle.vc_tree_model.proofs.Joining.{within, opened-children, joined-child, joined-begins, trees-combined}
+use Rattle.vc_tree_model.proofs.Joining.{asked-from}
+use Rattle.vc_tree_model.specs.Look.{Look, values}
 use Rattle.vc_tree_facing.specs.Facing.{shortened_in, Parts, IsOpened, IsFaced}
 use Rattle.vc_tree_facing.specs.Made.{IsBothMadeBy}
 use Rattle.vc_tree_facing.specs.Doing.{IsDoing}
@@ -43,20 +43,13 @@ front-begins {cmp = cmp} o (suc n) (x ∷ p) (z ∷ q) v f y a b w = joined-begi
 -- where the prefixes of two trees agree for n components
 module _ {K V W O : Type 0} {cmp : K → K → Ordering} (o : IsTotalOrder cmp) (l : Look cmp W O) (t : Tree K V) (u : Tree K W)
     (n : ℕ) (same : IsTrue (same_key cmp (take n t.prefix) (take n u.prefix))) where
-  -- what holds at each key of both, holds of the values there
-  pub value-front : (P : Option V → O → Type 0) → ((k : List K) → P (lookup cmp t k) (l.of_tree u k))
-      → P (value_at t (drop n t.prefix)) (l.at (value_at u (drop n u.prefix)))
-  value-front P =
-      value-asked cmp o l P t u (take n t.prefix) (drop n t.prefix) (take n u.prefix) (drop n u.prefix)
-      (sym (take-append-drop n t.prefix)) (sym (take-append-drop n u.prefix)) same
-
-  -- and of what stands below
-  pub below-front : (P : Option V → O → Type 0) → ((k : List K) → P (lookup cmp t k) (l.of_tree u k)) → (x : K) (q : List K)
-      → P (lookup_in cmp (children_at t (drop n t.prefix)) (x ∷ q))
-      (l.under (value_at u (drop n u.prefix)) (l.of_forest (children_at u (drop n u.prefix)) (x ∷ q)))
-  below-front P =
-      children-asked cmp o l P t u (take n t.prefix) (drop n t.prefix) (take n u.prefix) (drop n u.prefix)
-      (sym (take-append-drop n t.prefix)) (sym (take-append-drop n u.prefix)) same
+  -- what holds at each key of both, holds at each key of the nodes there
+  pub front-asked : (P : Option V → O → Type 0) → ((k : List K) → P (lookup cmp t k) (l.of_tree u k)) → (k : List K)
+      → P (within cmp (values cmp) (value_at t (drop n t.prefix)) (children_at t (drop n t.prefix)) (Some k))
+      (within cmp l (value_at u (drop n u.prefix)) (children_at u (drop n u.prefix)) (Some k))
+  front-asked P h k =
+      asked-from cmp o l P t u (take n t.prefix) (drop n t.prefix) (take n u.prefix) (drop n u.prefix) k
+      (sym (take-append-drop n t.prefix)) (sym (take-append-drop n u.prefix)) same (h (take n t.prefix ++ k))
 
   -- the node of a value and children that are made there is made of both
   pub made-front : {U : Type 0} (S : Option V → O → Option U → Type 0) → S None l.none None
@@ -79,7 +72,7 @@ module _ {K V W A B : Type 0} {cmp : K → K → Ordering} {ta : A → Tree K V}
     -- what may be asked of the values at the fronts
     pub values-asked : (P : Option V → O → Type 0) → ((k : List K) → P (lookup cmp t k) (l.of_tree u k))
         → P (value_at t (drop n t.prefix)) (l.at (value_at u (drop n u.prefix)))
-    values-asked = value-front o l t u n f.same
+    values-asked P h = front-asked o l t u n f.same P h []
 
     -- the state before the first trees: what may be asked of both trees may be asked of what is below
     pub combine-started : {U : Type 0} (R : Option V → O → Option U → Type 0) (asks : Option V → O → Type 0) → asks None l.none
@@ -89,7 +82,7 @@ module _ {K V W A B : Type 0} {cmp : K → K → Ordering} {ta : A → Tree K V}
         → {made : List (Tree K U)} → made ≡ [] → IsDoing cmp ta tb i j l R asks xs ys xs ys made
     combine-started R asks an P lead h ct cu =
         doing-start o an (below-children cmp n ct f.left) (below-children cmp n cu f.right)
-        (rw (f.left.children, f.right.children) (λ x q. lead _ _ (below-front o l t u n f.same P h x q)))
+        (rw (f.left.children, f.right.children) (λ x q. lead _ _ (front-asked o l t u n f.same P h (x ∷ q))))
 
   module _ {U O : Type 0} {l : Look cmp W O} {R : Option V → O → Option U → Type 0} {asks : Option V → O → Type 0} {ls : List A}
       {rs : List B} {made : List (Tree K U)} (d : IsDoing cmp ta tb i j l R asks xs ys ls rs made)

@@ -16,7 +16,7 @@ use Rattle.vc_tree_facing.specs.Facing.{shortened_in, IsOpened, IsSplit}
 use Rattle.vc_tree_facing.specs.Lessening.{alone, left_of, IsBehind, KeepsFront, IsLessenedUnder, IsLessened, IsInside}
 use Rattle.vc_tree_facing.specs.Lessening.{IsNodeLeft}
 use Rattle.vc_tree_facing.specs.Made.{IsBothMadeBy}
-use Rattle.vc_tree_facing.proofs.Ending.{below-children, value-front, below-front, made-front}
+use Rattle.vc_tree_facing.proofs.Ending.{below-children, front-asked, made-front}
 use Rattle.vc_tree_facing.proofs.Opening.{opened-rest}
 
 pub if-ok : {X E : Type 0} {P Q : X → Type 0} (r : Result X E) → ((x : X) → P x → Q x) → IfOk r P → IfOk r Q
@@ -106,13 +106,13 @@ module _ {K V W : Type 0} {cmp : K → K → Ordering} {t : Tree K V} {i : ℕ} 
           -- may be asked of the values there
           pub value-may : asks v (l.at w)
           value-may =
-              rw (bt.value, bu.value) (value-front s.total l (shortened i t) (shortened j u) n s.agree.same asks a)
+              rw (bt.value, bu.value) (front-asked s.total l (shortened i t) (shortened j u) n s.agree.same asks a [])
 
           -- and of what stands below
           pub below-may : (x : K) (q : List K) → asks (lookup_in cmp f (x ∷ q)) (l.under w (l.of_forest g (x ∷ q)))
-          below-may =
+          below-may x q =
               rw (bt.children, bu.value, bu.children)
-              (below-front s.total l (shortened i t) (shortened j u) n s.agree.same asks a)
+              (front-asked s.total l (shortened i t) (shortened j u) n s.agree.same asks a (x ∷ q))
 
     module _ {O : Type 0} {l : Look cmp W O} {R : Option V → O → Option V → Type 0} {w : Option W} {g : Forest K W}
         (bu : IsBehind j n u w g) (none : R None l.none None) where

@@ -7,7 +7,7 @@
 --     both-agree, both-ended, falls        two that meet agree for one component, below a prefix that ended, and have fewer nodes
 --     at-most, nil-by        what is below is not above, and a list without elements
 use Rattle.std.proofs.Common.{◌≡◌, ℕ, zero, suc, ◌+◌, ◌<◌, ◌≤◌, [], ◌∷◌, ◌++◌, List, Option, None, Some, refl, sym, ap}
-use Rattle.std.proofs.Common.{subst, ◌∙◌, arith, length, drop, slice_get, append-nil, append_assoc, option_map, true≢false}
+use Rattle.std.proofs.Common.{subst, ◌∙◌, arith, length, drop, slice_get, append-nil, append_assoc, ◌⊎◌, option_map, true≢false}
 use Rattle.std.proofs.lemmas.List.{drop-drop}
 use Rattle.std.proofs.lemmas.Option.{slice_get_within}
 use Rattle.std.specs.Cmp.{IsTotalOrder}
@@ -15,7 +15,6 @@ use Rattle.std.specs.List.{AllByRecursion, cons_option}
 use Rattle.std.specs.declared.cmp.Ordering.{Ordering}
 use Rattle.vc_tree_model.specs.Canonical.{AreChildren}
 use Rattle.vc_tree_model.specs.Look.{Look}
-use Rattle.vc_tree_model.specs.Map.{lookup}
 use Rattle.vc_tree_model.specs.Tree.{Tree, forest, forest_nodes, nodes, shortened}
 use Rattle.vc_tree_model.proofs.Places.{IsCombinedIn}
 use Rattle.vc_tree_nodes.specs.Parting.{Agree}
@@ -37,6 +36,14 @@ at-most i n h = omega (arith, h)
 pub nil-by : {X : Type 0} (l : List X) → length l ≡ 0 → l ≡ []
 nil-by [] e = refl
 nil-by (x ∷ l) e = absurd (omega (arith, e))
+
+-- no tree is next where none is left
+none-left : {A B : Type 0} (order : A ⊎ B → A ⊎ B → Ordering) (ls : List A) (rs : List B)
+    → side_next order (slice_get ls 0) (slice_get rs 0) ≡ None → (ls ≡ []) × (rs ≡ [])
+none-left order [] [] z = (refl, refl)
+none-left order [] (y ∷ rs) z = absurd (cc)
+none-left order (x ∷ ls) [] z = absurd (cc)
+none-left order (x ∷ ls) (y ∷ rs) z = absurd (cc)
 
 all-drop : {X : Type 0} (P : X → Type 0) (n : ℕ) (xs : List X) → AllByRecursion P xs → AllByRecursion P (drop n xs)
 all-drop P zero xs a = a
@@ -141,28 +148,10 @@ module _ {K V W U O A B : Type 0} {cmp : K → K → Ordering} {ta : A → Tree 
     -- none is left
     pub all-done : side_next (by_component ta tb i j cmp) (slice_get ls 0) (slice_get rs 0) ≡ None → R None l.none None
         → AreChildren cmp (forest made) × IsCombinedIn cmp l R (shortened_in ta i xs) (shortened_in tb j ys) (forest made)
-    all-done z none = by ls rs z d.ends
-      where
-        by : (ls : List A) (rs : List B) → side_next (by_component ta tb i j cmp) (slice_get ls 0) (slice_get rs 0) ≡ None
-            → ((others : List (Tree K U)) → AreMade cmp ta tb i j l R ls rs others
-            → AreMade cmp ta tb i j l R xs ys (made ++ others))
-            → AreChildren cmp (forest made) × IsCombinedIn cmp l R (shortened_in ta i xs) (shortened_in tb j ys) (forest made)
-        by [] [] z e =
-            let m = rw (append-nil made) at (e [] (made-none d.total ta tb i j l R none)) in (m.children, m.combined)
-        by [] (y ∷ rs) z e = absurd (cc)
-        by (x ∷ ls) [] z e = absurd (cc)
-        by (x ∷ ls) (y ∷ rs) z e = absurd (cc)
-
-  -- what may be asked of a tree beside none, and of two that meet
-  pub alone-asked : {x : A} {ls : List A} {rs : List B} {made : List (Tree K U)}
-      → AreNext cmp ta tb i j l R asks xs ys (Some x) None ls rs made → (k : List K)
-      → asks (lookup cmp (shortened i (ta x)) k) l.none
-  alone-asked n = asked n
-
-  pub both-asked : {x : A} {y : B} {ls : List A} {rs : List B} {made : List (Tree K U)}
-      → AreNext cmp ta tb i j l R asks xs ys (Some x) (Some y) ls rs made → (k : List K)
-      → asks (lookup cmp (shortened i (ta x)) k) (l.of_tree (shortened j (tb y)) k)
-  both-asked n = asked n
+    all-done z none =
+        let e = none-left (by_component ta tb i j cmp) ls rs z in
+        let m = rw (append-nil made) at (d.ends [] (rw (e.0, e.1) (made-none d.total ta tb i j l R none))) in
+        (m.children, m.combined)
 
   -- the next tree of either side has no more nodes than all of them
   pub left-fewer : {x : A} {b : Option B} {ls : List A} {rs : List B} {made : List (Tree K U)}

@@ -152,7 +152,8 @@ module _ {K : Type 0} (cmp : K → K → Ordering) where
         (nodes-combined (value_at s a) (value_at t b) u (children_at s a) (children_at t b) h root below p p' k e)
 
   module _ {V W O : Type 0} (o : IsTotalOrder cmp) (l : Look cmp W O) (P : Option V → O → Type 0) where
-    asked-from : (s : Tree K V) (t : Tree K W) (p a p' b k : List K) → s.prefix ≡ p ++ a → t.prefix ≡ p' ++ b
+    -- what holds at each key of two trees, holds at each key of the nodes at equal fronts of their prefixes
+    pub asked-from : (s : Tree K V) (t : Tree K W) (p a p' b k : List K) → s.prefix ≡ p ++ a → t.prefix ≡ p' ++ b
         → same_key cmp p p' ≡ true → P (lookup cmp s (p ++ k)) (l.of_tree t (p ++ k))
         → P (within (values cmp) (value_at s a) (children_at s a) (Some k))
         (within l (value_at t b) (children_at t b) (Some k))

@@ -12,8 +12,8 @@ use Rattle.vc_tree_facing.proofs.Leaving.{if-ok, node-lessened, inside-lessened,
 use Rattle.vc_tree_facing.proofs.Leaving.{inner-list}
 use Rattle.vc_tree_facing.proofs.Leaving.{ended-node, inner-node, opened-node}
 use Rattle.vc_tree_facing.proofs.Leaving.{below-fewer}
-use Rattle.vc_tree_facing.proofs.Next.{at-most, nil-by, doing-start, asked, done, both-agree, left_within, right_within, left-fewer, right-fewer}
-use Rattle.vc_tree_facing.proofs.Next.{made-left}
+use Rattle.vc_tree_facing.proofs.Next.{at-most, nil-by, doing-start, asked, done, both-agree, left_within, right_within}
+use Rattle.vc_tree_facing.proofs.Next.{left-fewer, right-fewer, made-left}
 use Rattle.vc_tree_combines.proofs.Narrowed.{value-alone, below-alone, node-alone, both-whole, alone-whole, made-node}
 use Rattle.vc_tree_combines.proofs.narrowing.+narrowing.Goals.{narrow_kids-in-Some-seek_alike+in_ok-kid-in-Some-seek_alike}
 use Rattle.vc_tree_combines.proofs.narrowing.+narrowing.Goals.{narrow_kids-in-None+in_ok-kid-in-None}
@@ -119,7 +119,8 @@ narrow_inside-narrow_at-requires g t c κs inside =
     {ys = trees_below c.below_place-right.result} g.met.K.Ord.total (g.met.O.Narrow.asks_none c.args.op.now)
     (inner-list g.K.Ord.cmp g.A.RadixNode.tree c.args.a.now c.args.place c.seek_alike.ensures.canonical c.requires.within)
     c.below_place-right.ensures.below.are_children (λ x q. rw kids (c.requires.asks x q)) refl in
-    let n = next-sought (g.met.O.Narrow.says_nothing c.args.op.now) d c.seek_alike.ensures.sought (ap option_copied c.in-Some.is) in
+    let n = next-sought (g.met.O.Narrow.says_nothing c.args.op.now) d c.seek_alike.ensures.sought
+    (ap option_copied c.in-Some.is) in
     let from = c.seek_alike.ensures.from in
     let asks = asked n in
     let agree = both-agree n in

@@ -1,6 +1,6 @@
 -- The recursion of a change in place: the next trees are done one after the other, and each call goes to trees that stand below.
 use Rattle.std.proofs.Common.{rules, refl, sym, ap, ◌∙◌, Some}
-use Rattle.vc_tree_facing.proofs.Next.{left_within, right_within, both-next, both-asked, done, both-agree, at-most}
+use Rattle.vc_tree_facing.proofs.Next.{left_within, right_within, both-next, asked, done, both-agree, at-most}
 use Rattle.vc_tree_edits.proofs.Stepping.{first-long, after-left, after-right, falls-below, finished-children, finished}
 use Rattle.vc_tree_edits.proofs.engine.+change_at.Goals as goal
 
@@ -35,10 +35,10 @@ change_at-requires g t c κs within =
     let i = at-most _ _ (left_within n.doing refl) in
     let right = at-most _ _ (right_within n.doing refl) in
     let alike = both-agree n in
-    let asks = both-asked n in
+    let may = asked n in
     let j = rw (← from) at right in
     let agree = rw (← from) at alike in
-    let asked = rw (← from) at asks in (
+    let asks = rw (← from) at may in (
       search rules,
       (
         within.0,
@@ -52,7 +52,7 @@ change_at-requires g t c κs within =
                 within.1.1.1.1.0,
                 (
                   within.1.1.1.1.1.0,
-                  (within.1.1.1.1.1.1.0, (within.1.1.1.1.1.1.1, (i, (j, (agree, asked))))),
+                  (within.1.1.1.1.1.1.0, (within.1.1.1.1.1.1.1, (i, (j, (agree, asks))))),
                 ),
               ),
             ),

@@ -301,7 +301,8 @@ lessen_in-loop-at-preserved g t c =
 pub lessen_in-returns-then-kept-eq1-clause-children : goal.lessen_in-returns-then-kept-eq1-clause-children
 lessen_in-returns-then-kept-eq1-clause-children g t c =
     let end : length c.loop-at.list.items ≤ c.loop-at.at = search rules in
-    let gone = list-done (g.met.O.Lessen.says_nothing c.args.op.now) _ (rw (none-left c.loop-at.list.items c.loop-at.at end) at c.loop-at.invariant.going) in
+    let gone = list-done (g.met.O.Lessen.says_nothing c.args.op.now) _
+    (rw (none-left c.loop-at.list.items c.loop-at.at end) at c.loop-at.invariant.going) in
     let enough : c.loop-at.kept ≤ length c.loop-at.list.items =
     (let k = c.loop-at.invariant.order in let w = c.loop-at.invariant.within in omega (arith, k, w)) in
     let one : length (take c.loop-at.kept c.loop-at.list.items) ≡ 1 =
@@ -315,7 +316,8 @@ lessen_in-returns-then-kept-eq1-clause-children g t c =
 pub lessen_in-returns-then-kept-eq1-clause-below : goal.lessen_in-returns-then-kept-eq1-clause-below
 lessen_in-returns-then-kept-eq1-clause-below g t c =
     let end : length c.loop-at.list.items ≤ c.loop-at.at = search rules in
-    let gone = list-done (g.met.O.Lessen.says_nothing c.args.op.now) _ (rw (none-left c.loop-at.list.items c.loop-at.at end) at c.loop-at.invariant.going) in
+    let gone = list-done (g.met.O.Lessen.says_nothing c.args.op.now) _
+    (rw (none-left c.loop-at.list.items c.loop-at.at end) at c.loop-at.invariant.going) in
     let enough : c.loop-at.kept ≤ length c.loop-at.list.items =
     (let k = c.loop-at.invariant.order in let w = c.loop-at.invariant.within in omega (arith, k, w)) in
     let one : length (take c.loop-at.kept c.loop-at.list.items) ≡ 1 =
@@ -353,7 +355,8 @@ lessen_in-returns-clause-kids g t c =
 pub lessen_in-returns-clause-children : goal.lessen_in-returns-clause-children
 lessen_in-returns-clause-children g t c =
     let end : length c.loop-at.list.items ≤ c.loop-at.at = search rules in
-    let gone = list-done (g.met.O.Lessen.says_nothing c.args.op.now) _ (rw (none-left c.loop-at.list.items c.loop-at.at end) at c.loop-at.invariant.going) in
+    let gone = list-done (g.met.O.Lessen.says_nothing c.args.op.now) _
+    (rw (none-left c.loop-at.list.items c.loop-at.at end) at c.loop-at.invariant.going) in
     let items : g.T.Children.ChildList.items c.else-is_bare.children ≡ take c.loop-at.kept c.loop-at.list.items =
     elim c.else-is_bare.branch [
       | lessen_in-else-is_bare-via-then-is_bare+else-kept-eq1 w ↦
@@ -368,7 +371,8 @@ lessen_in-returns-clause-children g t c =
 pub lessen_in-returns-clause-below : goal.lessen_in-returns-clause-below
 lessen_in-returns-clause-below g t c =
     let end : length c.loop-at.list.items ≤ c.loop-at.at = search rules in
-    let gone = list-done (g.met.O.Lessen.says_nothing c.args.op.now) _ (rw (none-left c.loop-at.list.items c.loop-at.at end) at c.loop-at.invariant.going) in
+    let gone = list-done (g.met.O.Lessen.says_nothing c.args.op.now) _
+    (rw (none-left c.loop-at.list.items c.loop-at.at end) at c.loop-at.invariant.going) in
     let items : g.T.Children.ChildList.items c.else-is_bare.children ≡ take c.loop-at.kept c.loop-at.list.items =
     elim c.else-is_bare.branch [
       | lessen_in-else-is_bare-via-then-is_bare+else-kept-eq1 w ↦

@@ -8,13 +8,15 @@ use Rattle.vc_tree_facing.proofs.facing.below_place.Goals as goal
 
 pub returns-then-place-prefix-clause-opened : goal.returns-then-place-prefix-clause-opened
 returns-then-place-prefix-clause-opened g c =
-    opened-rest g.T.RadixNode.tree c.args.tree.now 0 c.args.place (omega arith) (rw c.prefix.ensures.value at c.if-place-prefix.true)
+    opened-rest g.T.RadixNode.tree c.args.tree.now 0 c.args.place (omega arith)
+    (rw c.prefix.ensures.value at c.if-place-prefix.true)
 
 pub returns-then-place-prefix-clause-below : goal.returns-then-place-prefix-clause-below
 returns-then-place-prefix-clause-below g c = record {
   are_children =
       below-children g.K.Ord.cmp c.args.place c.prefix.ensures.canonical
-      (opened-rest g.T.RadixNode.tree c.args.tree.now 0 c.args.place (omega arith) (rw c.prefix.ensures.value at c.if-place-prefix.true));
+      (opened-rest g.T.RadixNode.tree c.args.tree.now 0 c.args.place (omega arith)
+      (rw c.prefix.ensures.value at c.if-place-prefix.true));
   alone = refl;
 }
 
