@@ -98,6 +98,7 @@ module _ {K V W O T B : Type 0} {cmp : K → K → Ordering} {tree : T → Tree 
   next-here xs at {x} {made} d h e =
       subst (λ ls. IsDoing cmp tree tb 0 j l R asks all ys ls rs made) (first-at xs at x h e) d
 
+  -- the next tree is done, at its place
   pub stepped : {xs : List T} {at kept : ℕ} {x : T} {found : Option B}
       → AreNext cmp tree tb 0 j l R asks all ys (Some x) found (drop (at + 1) xs) rs (map tree (take kept xs)) → {zs : List T}
       {b : Bool} {new : T} → IsSetAt xs at new zs

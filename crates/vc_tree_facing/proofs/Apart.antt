@@ -24,6 +24,7 @@ module _ {K V W T B O : Type 0} {cmp : K → K → Ordering} (ta : T → Tree K 
     (l : Look cmp W O) (R : Option V → O → Option V → Type 0) (asks : Option V → O → Type 0) (nothing : (o : O) → R None o None)
     (an : asks None l.none) (a : (k : List K) → asks (lookup cmp (shortened i (ta x)) k) (l.of_tree (shortened j (tb y)) k))
   where
+    -- of the lists of each tree alone, the left one is next, and none stands beside it
     pub apart-next : (rest : List B)
         × AreNext cmp ta tb (i + n) (j + n) l R asks (x ∷ []) (y ∷ []) (Some x) None [] rest []
     apart-next = by (by_component ta tb (i + n) (j + n) cmp (inr y) (inl x)) refl
@@ -43,6 +44,7 @@ module _ {K V W T B O : Type 0} {cmp : K → K → Ordering} (ta : T → Tree K 
             absurd (omega (arith, down))
         by Greater e = (y ∷ [], left-next begun (ap (λ r. Some (lower_side r)) e) refl)
 
+    -- what is left of it alone, is left of it beside the other tree
     pub apart-lessened : {stays : Bool} {new : Tree K V} → KeepsFront (i + n) (ta x) stays new
         → IsMade cmp (λ v z. R v l.none z) (shortened (i + n) (ta x)) (left_of stays (i + n) new)
         → IsLessened cmp l R i (ta x) (shortened j (tb y)) stays new

@@ -78,8 +78,8 @@ module _ {K V : Type 0} (i n : ℕ) (t : Tree K V) where
 -- the children of a node whose prefix has ended
 pub node-kids : {K V B : Type 0} {tb : B → Tree K V} {t : Tree K V} {whole : List K} {n : ℕ} {ys : List B} {from : ℕ}
     → IsOpened tb t (drop n t.prefix) ys from → whole ≡ t.prefix → length whole ≤ n → shortened_in tb from ys ≡ t.children
-node-kids {t =
-    t} {n = n} h e long = h.children ∙ ap (children_at t) (drop_of_length-le t.prefix (subst (λ p. length p ≤ n) e long))
+node-kids {t} {n} h e long =
+    h.children ∙ ap (children_at t) (drop_of_length-le t.prefix (subst (λ p. length p ≤ n) e long))
 
 -- the list of a tree that goes on behind a place
 pub inner-list : {K V T : Type 0} (cmp : K → K → Ordering) (tree : T → Tree K V) (x : T) (n : ℕ) → IsCanonical cmp (tree x)

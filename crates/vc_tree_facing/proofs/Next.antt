@@ -45,6 +45,7 @@ none-left order [] (y ∷ rs) z = absurd (cc)
 none-left order (x ∷ ls) [] z = absurd (cc)
 none-left order (x ∷ ls) (y ∷ rs) z = absurd (cc)
 
+-- what holds of each element, holds of each that is left
 all-drop : {X : Type 0} (P : X → Type 0) (n : ℕ) (xs : List X) → AllByRecursion P xs → AllByRecursion P (drop n xs)
 all-drop P zero xs a = a
 all-drop P (suc n) [] a = tt
@@ -128,6 +129,7 @@ module _ {K V W U O A B : Type 0} {cmp : K → K → Ordering} {ta : A → Tree 
     abbrev OnSide : Side → Type 0
     OnSide s = side_next (by_component ta tb i j cmp) (slice_get ls 0) (slice_get rs 0) ≡ Some s
 
+    -- the next trees, by the side on which they stand
     pub left-next : OnSide Left → {x : A} {ls' : List A} → ls ≡ x ∷ ls'
         → AreNext cmp ta tb i j l R asks xs ys (Some x) None ls' rs made
     left-next z {x} {ls'} e =

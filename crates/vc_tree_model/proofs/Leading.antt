@@ -45,6 +45,7 @@ module _ {K : Type 0} (cmp : K → K → Ordering) (o : IsTotalOrder cmp) where
     none-above y x q e (grow (z ∷ p) v kids rest) a =
         l.skips p v kids rest z x q (above-not y z x a.0 e) ∙ none-above y x q e rest a.1
 
+    -- what a list says, by whether the key begins as its first tree does
     read-tree : (p : List K) (v : Option V) (kids rest : Forest K V) (y x : K) (q : List K) → Begins cmp y p
         → AllAbove cmp y rest → (b : Bool) → is_eq (cmp y x) ≡ b
         → l.of_forest (grow p v kids rest) (x ∷ q) ≡ cond b (l.of_tree (node p v kids) (x ∷ q)) (l.of_forest rest (x ∷ q))
