@@ -2,4 +2,3 @@ pub mod Going
 pub mod Reaching
 pub mod Parting
 pub mod Putting
-pub mod Beginning

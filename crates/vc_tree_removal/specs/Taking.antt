@@ -1,16 +1,15 @@
 -- Which keys a removal takes out, and what it makes of a node and of its children. No public clause cites these words.
 use Rattle.std.specs.Prelude.{◌≡◌, ℕ, zero, suc, [], ◌∷◌, ◌++◌, Bool, IsFalse, IsSome, IsTrue, List, Option, Some, None, ⊤}
-use Rattle.std.specs.Prelude.{true, false, slice_get}
+use Rattle.std.specs.Prelude.{true, false}
 use Rattle.std.specs.List.{remove}
 use Rattle.std.specs.declared.cmp.Ordering.{Ordering}
 use Rattle.vc_tree_model.specs.Child.{Begins, IsChild, solid_child}
 use Rattle.vc_tree_model.specs.Key.{behind}
 use Rattle.vc_tree_model.specs.Value.{IsKept}
-use Rattle.vc_tree_model.specs.Tree.{Tree, Forest, bare, grow, node}
+use Rattle.vc_tree_model.specs.Tree.{Tree, Forest, bare, grow, no_tree, node}
 use Rattle.vc_tree_model.specs.Map.{lookup}
-use Rattle.vc_tree_model.specs.Canonical.{AreChildren}
 use Rattle.vc_tree_model.specs.Same.{IsAlikeIn}
-use Rattle.vc_tree_model.specs.Under.{prefixed, under}
+use Rattle.vc_tree_model.specs.Under.{under}
 use Rattle.vc_tree_nodes.specs.Children.{seen}
 use Rattle.vc_tree_removal.specs.declared.removal.Extent.{Extent}
 use Rattle.vc_tree_removal.specs.declared.removal.Extent.TheVariants.{Alone, Below}
@@ -27,24 +26,21 @@ module _ {K : Type 0} where
   abbrev pub goes : (K → K → Ordering) → Extent → List K → List K → Bool
   goes cmp e key k = tells (behind cmp key k) e
 
-  -- the key is as long as the prefix that this is left of it behind; and longer, where what begins with it is to go
-  abbrev pub IsLeft : Option (List K) → Extent → Type 0
-  IsLeft None e = ⊥
-  IsLeft (Some []) Alone = ⊤
-  IsLeft (Some []) Below = ⊥
-  IsLeft (Some (x ∷ rest)) e = ⊤
-
 -- of a key that goes, y has what x has, and u nothing; of any other, u has it, and y nothing
 abbrev pub IsPartedAt : {V : Type 0} → (V → V → Type 0) → Bool → Option V → Option V → Option V → Type 0
 IsPartedAt keeps true x u y = (u ≡ None) × IsKept keeps x y
 IsPartedAt keeps false x u y = IsKept keeps x u × (y ≡ None)
 
 module _ {K V : Type 0} where
-  -- the tree at a place of a list
-  abbrev pub tree_at : Forest K V → ℕ → Option (Tree K V)
-  tree_at bare i = None
-  tree_at (grow p v kids rest) zero = Some (node p v kids)
+  -- the tree at a place of a list, which is the empty one where there is none
+  abbrev pub tree_at : Forest K V → ℕ → Tree K V
+  tree_at bare i = no_tree
+  tree_at (grow p v kids rest) zero = node p v kids
   tree_at (grow p v kids rest) (suc i) = tree_at rest i
+
+  -- the tree with this front before its prefix
+  abbrev pub fronted : List K → Tree K V → Tree K V
+  fronted front t = node (front ++ t.prefix) t.value t.children
 
   -- the list with this tree, or none, in the place of one
   abbrev pub put : Forest K V → ℕ → Option (Tree K V) → Forest K V
@@ -69,21 +65,21 @@ module _ {K V : Type 0} where
     pub goes_with : IsTrue (goes cmp extent key met)
     pub bound : IsSome (f met)
 
-  -- what f binds of the keys that go with that one is what t binds behind the front, and g binds the rest; t can stand
-  -- among children
+  -- what f binds of the keys that go with that one is what t binds where its prefix is whole, and g binds the rest; t can
+  -- stand among children
   pub record Divides (cmp : K → K → Ordering) (keeps : V → V → Type 0) (extent : Extent) (key : List K)
       (f g : List K → Option V) (t : Tree K V) : Type 0 where
-    pub front : List K
+    pub whole : List K
     pub parted : (k : List K)
-        → IsPartedAt keeps (goes cmp extent key k) (f k) (g k) (prefixed cmp (lookup cmp t) front k)
+        → IsPartedAt keeps (goes cmp extent key k) (f k) (g k) (lookup cmp (node whole t.value t.children) k)
     pub child : IsChild cmp (Some t)
 
-  -- some key is bound that begins with that one; those that do are what t binds behind the front, which can stand among
-  -- children
+  -- some key is bound that begins with that one; those that do are what t binds with the front before its prefix, which
+  -- can stand among children
   pub record IsFoundUnder (cmp : K → K → Ordering) (key : List K) (f : List K → Option V) (front : List K) (t : Tree K V)
       : Type 0 where
     pub met : Meets cmp Below key f
-    pub binds : (k : List K) → under cmp f key k ≡ prefixed cmp (lookup cmp t) front k
+    pub binds : (k : List K) → under cmp f key k ≡ lookup cmp (fronted front t) k
     pub child : IsChild cmp (Some t)
 
   -- all keys of a tree go with that one
@@ -93,36 +89,27 @@ module _ {K V : Type 0} where
   -- the tree has children, and the key goes on behind its prefix, or is its prefix where it goes alone
   pub record IsDeep (cmp : K → K → Ordering) (extent : Extent) (key : List K) (t : Tree K V) : Type 0 where
     pub some : AreSome t.children
-    pub left : IsLeft (behind cmp t.prefix key) extent
+    pub begins : IsSome (behind cmp t.prefix key)
+    pub ends : behind cmp t.prefix key ≡ Some [] → extent ≡ Alone
 
-  -- of a node of these parts, d is what goes with the rest, behind the prefix; and u is what is left, as a child
-  pub record Cut (cmp : K → K → Ordering) (keeps : V → V → Type 0) (extent : Extent) (p : List K) (v : Option V)
-      (f : Forest K V) (rest : List K) (d u : Tree K V) : Type 0 where
-    pub value : Option V
-    pub left : Forest K V
-    pub divided : Divides cmp keeps extent rest (lookup cmp (node [] v f)) (lookup cmp (node [] value left)) d
-    pub children : AreChildren cmp left
-    pub is : solid_child p value left ≡ Some u
-
-  -- u is t without the keys that go with that one, and d is what goes; u can stand where t stood
-  pub record Removed (cmp : K → K → Ordering) (keeps : V → V → Type 0) (extent : Extent) (t : Tree K V) (key : List K)
-      (d u : Tree K V) : Type 0 where
-    pub divided : Divides cmp keeps extent key (lookup cmp t) (lookup cmp u) d
+  -- of a node with this prefix, which binds what f does, d is what goes with the key, and u is what is left, which can stand
+  -- where the node stood
+  pub record Removed (cmp : K → K → Ordering) (keeps : V → V → Type 0) (extent : Extent) (prefix : List K)
+      (f : List K → Option V) (key : List K) (d u : Tree K V) : Type 0 where
+    pub divided : Divides cmp keeps extent key f (lookup cmp u) d
     pub child : IsChild cmp (Some u)
-    pub begins : (y : K) → slice_get t.prefix 0 ≡ Some y → Begins cmp y u.prefix
+    pub begins : (y : K) (rest : List K) → prefix ≡ y ∷ rest → Begins cmp y u.prefix
 
   -- u is the tree at place i of the old list with the front before its prefix, and the new list is the old one without it
   pub record IsLone {T : Type 0} (tree : T → Tree K V) (front : List K) (old : List T) (i : ℕ) (u : Tree K V)
       (new : List T) : Type 0 where
-    pub lone : Tree K V
-    pub at : tree_at (seen tree old) i ≡ Some lone
-    pub is : u ≡ node (front ++ lone.prefix) lone.value lone.children
+    pub is : u ≡ fronted front (tree_at (seen tree old) i)
     pub others : new ≡ remove old i
 
   -- d is the tree at place i of the list, and u is what is left of the node, as a child
   pub record IsOut {T : Type 0} (tree : T → Tree K V) (front : List K) (v : Option V) (list : List T) (i : ℕ) (d u : Tree K V)
       : Type 0 where
-    pub at : tree_at (seen tree list) i ≡ Some d
+    pub at : tree_at (seen tree list) i ≡ d
     pub is : solid_child front v (put (seen tree list) i None) ≡ Some u
 
   -- u is what is left of a node without a value, as a child, whose children are alike to these

@@ -13,7 +13,7 @@ ghost use Rattle.vc_tree_nodes.specs.Children.{seen};
 ghost use Rattle.vc_tree_nodes.specs.Places.{LeadsTo};
 ghost use Rattle.vc_tree_removal.specs.Without.{IsWithout};
 ghost use Rattle.vc_tree_removal.specs.Taking.{AreSome, IsDeep, IsWholly, Meets, Divides, Removed};
-ghost use Rattle.vc_tree_removal.specs.Taking.{Cut, IsBare, IsLone, IsOut, instead};
+ghost use Rattle.vc_tree_removal.specs.Taking.{IsBare, IsLone, IsOut, instead};
 ghost use Rattle.vc_tree_removal.specs.declared.removal.Extent.TheVariants.{Alone};
 
 use std::alloc::{AllocError, Global};
@@ -133,7 +133,8 @@ pub(crate) fn remove_from<K: TKey, V: TValue, T: Build<K, V>>(
     requires met { Meets K.cmp extent key.now (lookup K.cmp (T.tree tree.old)) }
     requires deep { IsDeep K.cmp extent key.now (T.tree tree.old) }
     ensures ok { IfOk result (λ taken.
-        Removed K.cmp T.keeps extent (T.tree tree.old) key.now (T.tree taken) (T.tree tree.new)) }
+        let t = T.tree tree.old in Removed K.cmp T.keeps extent t.prefix (lookup K.cmp t) key.now
+        (T.tree taken) (T.tree tree.new)) }
     ensures err { OnErr result (IsAlike T.keeps (T.tree tree.old) (T.tree tree.new)) }
 {
     canonical(tree);
@@ -184,10 +185,11 @@ fn remove_in<K: TKey, V: TValue, T: Build<K, V>>(
         (lookup_in K.cmp (seen T.tree (T.Children.items children.old))) }
     requires canonical { AreChildren K.cmp (seen T.tree (T.Children.items children.old)) }
     requires solid { IsSolid own.now (seen T.tree (T.Children.items children.old)) }
-    ensures ok { IfOk result (λ done. Cut K.cmp T.keeps extent (T.Prefix.items front.now) own.now
-        (seen T.tree (T.Children.items children.old)) rest.now (T.tree done.0)
-        (instead (option_map T.tree done.1)
-        (node (T.Prefix.items front.now) own.now (seen T.tree (T.Children.items children.new))))) }
+    ensures ok { let front = T.Prefix.items front.now in IfOk result (λ done.
+        Removed K.cmp T.keeps extent front
+        (lookup K.cmp (node front own.now (seen T.tree (T.Children.items children.old))))
+        (front ++ rest.now) (T.tree done.0) (instead (option_map T.tree done.1)
+        (node front own.now (seen T.tree (T.Children.items children.new))))) }
     ensures err { OnErr result (IsAlikeIn T.keeps (seen T.tree (T.Children.items children.old))
         (seen T.tree (T.Children.items children.new))) }
 {
@@ -211,9 +213,11 @@ fn remove_at<K: TKey, V: TValue, T: Build<K, V>>(
     requires met { Meets K.cmp extent rest.now (lookup_in K.cmp (seen T.tree list.old.items)) }
     requires canonical { AreChildren K.cmp (seen T.tree list.old.items) }
     requires solid { IsSolid own.now (seen T.tree list.old.items) }
-    ensures ok { IfOk result (λ done. Cut K.cmp T.keeps extent (T.Prefix.items front.now) own.now
-        (seen T.tree list.old.items) rest.now (T.tree done.0) (instead (option_map T.tree done.1)
-        (node (T.Prefix.items front.now) own.now (seen T.tree list.new.items)))) }
+    ensures ok { let front = T.Prefix.items front.now in IfOk result (λ done.
+        Removed K.cmp T.keeps extent front
+        (lookup K.cmp (node front own.now (seen T.tree list.old.items))) (front ++ rest.now)
+        (T.tree done.0) (instead (option_map T.tree done.1)
+        (node front own.now (seen T.tree list.new.items)))) }
     ensures err { OnErr result
         (IsAlikeIn T.keeps (seen T.tree list.old.items) (seen T.tree list.new.items)) }
 {
@@ -273,8 +277,8 @@ fn take_value<K: TKey, V: TValue, T: Build<K, V>>(
 ) -> Result<T, AllocError>
     requires deep { AreSome (T.tree tree.old).children }
     requires bound { IsSome (T.tree tree.old).value }
-    ensures ok { let t = T.tree tree.old in IfOk result (λ taken.
-        Cut K.cmp T.keeps Alone t.prefix t.value t.children [] (T.tree taken) (T.tree tree.new)) }
+    ensures ok { let t = T.tree tree.old in IfOk result (λ taken. Removed K.cmp T.keeps Alone
+        t.prefix (lookup K.cmp t) (t.prefix ++ []) (T.tree taken) (T.tree tree.new)) }
     ensures err { OnErr result (IsAlike T.keeps (T.tree tree.old) (T.tree tree.new)) }
 {
     let many = tree.children().len();
@@ -322,9 +326,8 @@ fn opened<K: TKey, V: TValue, T: Build<K, V>>(
     tree: &mut T,
 ) -> (T::Prefix, Option<V>, T::Children)
     requires { AreSome (T.tree tree.old).children }
-    ensures prefix { T.Prefix.items result.0 ≡ (T.tree tree.old).prefix }
-    ensures value { result.1 ≡ (T.tree tree.old).value }
-    ensures children { seen T.tree (T.Children.items result.2) ≡ (T.tree tree.old).children }
+    ensures is { T.tree tree.old
+        ≡ node (T.Prefix.items result.0) result.1 (seen T.tree (T.Children.items result.2)) }
     ensures canonical { IsCanonical K.cmp (T.tree tree.old) }
 {
     let node = mem::replace(tree, T::blank(alloc, Seal::new()));

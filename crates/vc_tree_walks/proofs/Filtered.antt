@@ -1,5 +1,6 @@
 -- The tree of the keys that start with a prefix, by the walk of these keys.
---     filtered-none, filtered-bare        no key starts so
+--     nothing-listed, nothing-below, filtered-none, filtered-bare        no key starts so
+--     bound-below        what the node binds that they stand below
 --     filtered        a copy of the node that they stand below, with what stands before it
 --     copy-solid        such a copy is solid
 use Rattle.std.proofs.Common.{◌≡◌, [], ◌∷◌, ◌++◌, List, Option, None, Some, true, false, Result, Ok, Err, IfOk, ◌⊎◌}
@@ -33,7 +34,7 @@ module _ {K V : Type 0} (cmp : K → K → Ordering) (o : IsTotalOrder cmp) wher
       by (Some v) b e d = e ∙ sym ((z.lists k v).0 ((w.lists k v).1 e))
 
   -- without pairs nothing is bound
-  nothing-listed : (f : List K → Option V) → IsWalk cmp f [] → (k : List K) → f k ≡ None
+  pub nothing-listed : (f : List K → Option V) → IsWalk cmp f [] → (k : List K) → f k ≡ None
   nothing-listed f w k = by (f k) refl
     where
       by : (a : Option V) → f k ≡ a → f k ≡ None
@@ -56,14 +57,15 @@ module _ {K V : Type 0} (cmp : K → K → Ordering) (o : IsTotalOrder cmp) wher
 
     module _ (front : List K) (t : Tree K V) (c : IsCanonical cmp t)
         (w : IsWalk cmp (under cmp f p) (map (prepended front) (walk t))) where
-      part : (k : List K) → under cmp f p k ≡ prefixed cmp (lookup cmp t) front k
-      part =
+      -- behind what stands before it the node binds what is bound of the keys that start so
+      pub bound-below : (k : List K) → under cmp f p k ≡ prefixed cmp (lookup cmp t) front k
+      bound-below =
           same-maps (under cmp f p) (prefixed cmp (lookup cmp t) front) (map (prepended front) (walk t)) w
           (walk-prefixed cmp o (lookup cmp t) (walk t) front (walk-is cmp o t (children-ordered cmp t.children c.1)))
 
       -- the node is the empty tree
-      pub filtered-bare : (u : Tree K V) → u ≡ no_tree → is_bare t ≡ true → IsEqualMap keeps (under cmp f p) (lookup cmp u)
-      filtered-bare u e b = none-kept u e (λ k. part k ∙ then-none (behind cmp front k))
+      pub nothing-below : is_bare t ≡ true → (k : List K) → under cmp f p k ≡ None
+      nothing-below b k = bound-below k ∙ then-none (behind cmp front k)
         where
           bare-by : (v : Option V) (g : Forest K V) → lacks_both v g ≡ true → (left : Option (List K))
               → node_lookup v (lookup_in cmp g) left ≡ None
@@ -77,13 +79,16 @@ module _ {K V : Type 0} (cmp : K → K → Ordering) (o : IsTotalOrder cmp) wher
           then-none None = refl
           then-none (Some rest) = bare-by t.value t.children b (behind cmp t.prefix rest)
 
+      pub filtered-bare : (u : Tree K V) → u ≡ no_tree → is_bare t ≡ true → IsEqualMap keeps (under cmp f p) (lookup cmp u)
+      filtered-bare u e b = none-kept u e (nothing-below b)
+
       -- a copy of the node, with what stands before it
       filtered-copy : (copy u : Tree K V) → IsAlike keeps t copy → u ≡ node (front ++ copy.prefix) copy.value copy.children
           → IsEqualMap keeps (under cmp f p) (lookup cmp u)
       filtered-copy copy u a e k =
           kept_by keeps (option_and_then (lookup cmp t) (behind cmp front k))
           (option_and_then (lookup cmp copy) (behind cmp front k))
-          (under cmp f p k) (lookup cmp u k) (sym (part k))
+          (under cmp f p k) (lookup cmp u k) (sym (bound-below k))
           (sym (ap (λ z. lookup cmp z k) e ∙ lookup-prepended cmp front copy k)) (then-kept (behind cmp front k))
         where
           then-kept : (left : Option (List K))

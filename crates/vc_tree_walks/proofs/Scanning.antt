@@ -2,6 +2,7 @@
 --     IsPart        a node below which all keys stand that start with the prefix
 --     part-start, part-next        the root is one, and so is the child that the rest of the prefix leads to
 --     walk-ended, walk-inside        the pairs of such a node, where the prefix ends behind or in that of the node
+--     behind-parts        what is left behind two parts
 --     child-agrees        the child agrees with what is left in one component
 --     walk-default, walk-childless        where the two part, and where no child is, there are none
 use Rattle.std.proofs.Common.{◌≡◌, ◌≢◌, ℕ, zero, suc, [], ◌∷◌, ◌++◌, take, drop, List, length, Option, None, Some}
@@ -104,7 +105,7 @@ module _ {K : Type 0} (cmp : K → K → Ordering) where
         failed (is_eq (cmp b c)) (is_eq (cmp a c)) (behind cmp r k) (behind cmp q k) (λ s t. deeper)
 
     -- what is left behind two parts is what is left behind the one and then the other
-    behind-parts : (q r left k : List K) → behind cmp q r ≡ Some left
+    pub behind-parts : (q r left k : List K) → behind cmp q r ≡ Some left
         → behind cmp r k ≡ then_behind cmp left (behind cmp q k)
     behind-parts q r left k e =
         sym (behind-same cmp o (q ++ left) r k (behind-joins cmp o q r left e)) ∙ behind-append cmp q left k

@@ -1,15 +1,21 @@
 -- One child is taken out, and others stay.
-use Rattle.std.proofs.Common.{◌∙◌, arith}
+use Rattle.std.proofs.Common.{None, map, ◌∙◌, arith}
+use Rattle.vc_tree_model.specs.Snapshot.{alike_refl}
+use Rattle.vc_tree_model.specs.Tree.{forest}
 use Rattle.vc_tree_model.proofs.AlikeLemmas.{alike-children}
 use Rattle.vc_tree_nodes.proofs.Events.{length-kept}
-use Rattle.vc_tree_removal.proofs.Putting.{bare-many, bare-one}
+use Rattle.vc_tree_removal.proofs.Putting.{bare-one, solid-stays, some-solid}
 use Rattle.vc_tree_removal.proofs.removal.bare_of.Goals as goal
 
 pub returns-clause-ok : goal.returns-clause-ok
 returns-clause-ok g c =
-    bare-many g.T.RadixNode.tree g.T.Build.keeps g.met.T.Build.keeps_refl (g.T.Prefix.Fragment.items c.args.front.now)
-    (g.T.Children.ChildList.items c.args.children.now) c.requires.some
-    (λ one. c.if-many-eq1.false (c.requires.many ∙ one))
+    let tree = g.T.RadixNode.tree in
+    let f = forest (map tree (g.T.Children.ChildList.items c.args.children.now)) in
+    record {
+      kept = f;
+      alike = alike_refl g.T.Build.keeps g.met.T.Build.keeps_refl f;
+      is = solid-stays _ None f (some-solid tree _ c.requires.some (λ one. c.if-many-eq1.false (c.requires.many ∙ one)));
+    }
 
 pub lone-requires-clause-canonical : goal.lone-requires-clause-canonical
 lone-requires-clause-canonical g c =

@@ -8,8 +8,8 @@ use Rattle.vc_tree_removal.proofs.removal.part_out.Goals as goal
 
 pub returns-then-is_some-clause-ok : goal.returns-then-is_some-clause-ok
 returns-then-is_some-clause-ok g c =
-    out-stays g.T.RadixNode.tree _ c.args.own.now c.args.list.now.items c.args.i c.remove.result c.remove.new.self.items
-    _ c.requires.within c.args.list.now.ok.0 c.requires.solid
+    out-stays g.T.RadixNode.tree _ c.args.own.now c.args.list.now.items c.args.i c.requires.within
+    c.args.list.now.ok.0 c.requires.solid
     (λ none two. elim c.then-is_some.branch [
       | then-is_some-via-then-is_some w ↦ true≢false (sym w.if-is_some.true ∙ c.is_some.ensures ∙ ap is_some none)
       | then-is_some-via-else-is_some+then-len-ne2 w ↦ w.if-len-ne2.true (w.len.ensures ∙ c.args.list.now.ok.0 ∙ two)

@@ -1,5 +1,5 @@
 -- The key starts with the prefix, since something is left of it.
-use Rattle.vc_tree_removal.proofs.Reaching.{rest-taken, rest-within}
+use Rattle.vc_tree_removal.proofs.Going.{rest-taken, rest-within}
 use Rattle.vc_tree_removal.proofs.removal.rest_of.Goals as goal
 
 pub split_at-requires : goal.split_at-requires

@@ -1,28 +1,31 @@
 -- A lone child stands in the place of the node; any other node loses its value alone.
-use Rattle.std.proofs.Common.{sym, ◌∙◌}
-use Rattle.vc_tree_nodes.proofs.Events.{parts-canonical}
-use Rattle.vc_tree_removal.proofs.Parting.{bare-child, cut-value}
-use Rattle.vc_tree_removal.proofs.Putting.{seen-long}
+use Rattle.std.proofs.Common.{ap, length, sym, ◌∙◌}
+use Rattle.vc_tree_model.specs.Snapshot.{kept_itself}
+use Rattle.vc_tree_model.specs.Tree.{trees}
+use Rattle.vc_tree_model.proofs.AlikeLemmas.{alike-canonical}
+use Rattle.vc_tree_nodes.proofs.Finding.{trees-length}
+use Rattle.vc_tree_removal.proofs.Parting.{removed-value}
 use Rattle.vc_tree_removal.proofs.removal.take_value.Goals as goal
 
 pub bare_of-requires-clause-many : goal.bare_of-requires-clause-many
 bare_of-requires-clause-many g c =
-    seen-long g.T.RadixNode.tree _ _ (c.children-many.ensures ∙ sym c.opened-prefix.ensures.children)
+    let same = c.children-many.ensures ∙ ap (λ t. t.children) c.opened-prefix.ensures.is in
+    sym (trees-length g.T.RadixNode.tree _) ∙ ap (λ f. length (trees f)) same ∙ trees-length g.T.RadixNode.tree _
 
 pub closed-requires : goal.closed-requires
 closed-requires g c =
     let o = c.opened-prefix.ensures in
-    bare-child g.K.Ord.cmp (rw o.children o.canonical.1) c.in-Ok.ensures.ok
+    (removed-value g.met.K.Ord.total g.met.T.Build.keeps_refl (rw o.is at c.requires.bound) (rw o.is at o.canonical).1
+    c.in-Ok.ensures.ok).child
 
 pub assemble-requires : goal.assemble-requires
 assemble-requires g c =
     let o = c.opened-prefix.ensures in
-    parts-canonical g.K.Ord.cmp g.T.Build.keeps g.met.T.Build.keeps_refl g.met.T.Build.keeps_trans
-    g.met.K.Ord.total g.T.RadixNode.tree (g.T.RadixNode.tree c.args.tree.now) _ _ _ _ o.prefix o.value o.children o.canonical
-    c.in-Err.ensures.err
+    alike-canonical g.T.Build.keeps g.K.Ord.cmp _ _ _ _ _ (kept_itself g.T.Build.keeps g.met.T.Build.keeps_refl _)
+    c.in-Err.ensures.err (rw o.is at o.canonical)
 
 pub returns-in-Ok-clause-ok : goal.returns-in-Ok-clause-ok
 returns-in-Ok-clause-ok g c =
     let o = c.opened-prefix.ensures in
-    rw (c.closed.ensures, c.alone.ensures, ← o.prefix, ← o.value, ← o.children)
-    (cut-value g.met.T.Build.keeps_refl (rw o.value c.requires.bound) (rw o.children o.canonical.1) c.in-Ok.ensures.ok)
+    rw (c.closed.ensures, c.alone.ensures, o.is) (removed-value g.met.K.Ord.total g.met.T.Build.keeps_refl
+    (rw o.is at c.requires.bound) (rw o.is at o.canonical).1 c.in-Ok.ensures.ok)
