@@ -7,7 +7,7 @@
 --     alike-asked        children that are alike
 --     met-child, removed-child, removed-out        the child that the rest leads to
 use Rattle.std.proofs.Common.{◌≡◌, ℕ, [], ◌∷◌, ◌++◌, List, Option, None, Some, refl, sym, ap, subst, ◌∙◌}
-use Rattle.std.proofs.Common.{true, false, Bool, get_or, map, true≢false}
+use Rattle.std.proofs.Common.{arith, true, Bool, get_or, map, true≢false}
 use Rattle.std.specs.Cmp.{IsTotalOrder, Equal-is, tied_itself}
 use Rattle.std.specs.Option.{option_and}
 use Rattle.std.specs.Prelude.{IfOk, IsFalse, IsSome, Result, Ok, Err}
@@ -38,7 +38,7 @@ use Rattle.vc_tree_removal.specs.Taking.{fronted, goes, put, tells, tree_at}
 use Rattle.vc_tree_removal.specs.Without.{IsWithoutAll}
 use Rattle.vc_tree_removal.specs.declared.removal.Extent.{Extent}
 use Rattle.vc_tree_removal.specs.declared.removal.Extent.TheVariants.{Alone, Below}
-use Rattle.vc_tree_removal.proofs.Going.{goes-begins, same-tells, some-kept}
+use Rattle.vc_tree_removal.proofs.Going.{goes-begins, same-tells}
 use Rattle.vc_tree_removal.proofs.Reaching.{met-solid}
 use Rattle.vc_tree_removal.proofs.Putting.{at-child, at-got, node-parted, replaced}
 
@@ -53,28 +53,29 @@ module _ {V : Type 0} (keeps : V → V → Type 0) where
   -- what a value before them is kept as may be parted in its place
   pub parted-alike : ((u v w : V) → keeps u v → keeps v w → keeps u w) → (b : Bool) (a x u y : Option V) → IsKept keeps a x
       → IsPartedAt keeps b x u y → IsPartedAt keeps b a u y
-  parted-alike t true a x u y k h = (h.0, kept-trans keeps t a x y k h.1)
-  parted-alike t false a x u y k h = (kept-trans keeps t a x u k h.0, h.1)
+  parted-alike t b a x u y k h = grind (arith, kept-trans keeps t a x y k, kept-trans keeps t a x u k)
 
   -- all goes where no other key is bound
   pub parted-wholly : ((v : V) → keeps v v) → (b : Bool) (x : Option V) → (IsFalse b → x ≡ None) → IsPartedAt keeps b x None x
-  parted-wholly r true x w = (refl, kept-refl keeps r x)
-  parted-wholly r false x w = rw (w refl) (tt, refl)
+  parted-wholly r b x w = grind (arith, kept-refl keeps r x)
 
   -- what goes of what begins so
   pub parted-below : {K : Type 0} (l : Option (List K)) (x u y : Option V) → IsPartedAt keeps (tells l Below) x u y
       → IsKept keeps (option_and l x) y
-  parted-below None x u y h = rw h.1 tt
-  parted-below (Some []) x u y h = h.1
-  parted-below (Some (z ∷ rest)) x u y h = h.1
+  parted-below l x u y h = grind arith
+
+  -- and where a key goes alone
+  parted-alone : {K : Type 0} (l : Option (List K)) (x z u y : Option V) → (l ≡ Some [] → z ≡ x)
+      → IsPartedAt keeps (tells l Alone) x u y → IsKept keeps (node_lookup z (λ k. None) l) y
+  parted-alone l x z u y e p = grind arith
 
 module _ {K V : Type 0} {cmp : K → K → Ordering} {keeps : V → V → Type 0} {e : Extent} {key : List K}
     {f g : List K → Option V} {d : Tree K V} (h : Divides cmp keeps e key f g d) where
   -- what stays
   pub divides-without : (test : List K → Bool) → ((k : List K) → test k ≡ goes cmp e key k) → IsWithoutAll keeps test f g
   divides-without test t = record {
-    at = λ k s. (rw (sym (t k) ∙ s) at (h.parted k)).0;
-    others = λ k s. (rw (sym (t k) ∙ s) at (h.parted k)).0;
+    at = λ k s. grind (arith, t k, h.parted k);
+    others = λ k s. grind (arith, t k, h.parted k);
   }
 
   -- what goes is one tree: any other canonical one that binds it is the same
@@ -85,26 +86,14 @@ module _ {K V : Type 0} {cmp : K → K → Ordering} {keeps : V → V → Type 0
       canonical-same cmp o keeps m (node h.whole d.value d.children) c
       (solid-canonical cmp h.whole d.value d.children h.child.0 h.child.1)
 
--- a node of a value alone can stand among children
-leaf-child : {K V : Type 0} (cmp : K → K → Ordering) (v : Option V) → IsSome v → IsChild cmp (Some (node [] v bare))
-leaf-child cmp (Some v) s = (tt, tt)
-leaf-child cmp None s = absurd (true≢false (sym s))
-
 module _ {K V : Type 0} {cmp : K → K → Ordering} {keeps : V → V → Type 0} {key : List K} (o : IsTotalOrder cmp) where
   -- the value of a key that goes alone is that of the node that goes
   pub divides-value : (t : Tree K V) {g : List K → Option V} {d : Tree K V} → Divides cmp keeps Alone key (lookup cmp t) g d
       → IsSome (lookup cmp t key) → IsKept keeps (lookup cmp t key) d.value
   divides-value t h s =
-      (divides-same h o (node key (lookup cmp t key) bare)
-      (solid-canonical cmp key (lookup cmp t key) bare (leaf-child cmp (lookup cmp t key) s).0 tt)
-      (λ k. by k (behind cmp key k) refl _ _ (h.parted k))).1
-    where
-      by : (k : List K) (l : Option (List K)) → behind cmp key k ≡ l → (u y : Option V)
-          → IsPartedAt keeps (tells l Alone) (lookup cmp t k) u y → IsKept keeps (node_lookup (lookup cmp t key) (λ k. None) l) y
-      by k (Some []) b u y p =
-          let same = lookup-same cmp o t key k (same-tells cmp key k ∙ ap (λ l. tells l Alone) b) in rw same p.1
-      by k None b u y p = rw p.1 tt
-      by k (Some (x ∷ rest)) b u y p = rw p.1 tt
+      (divides-same h o (node key (lookup cmp t key) bare) (solid-canonical cmp key (lookup cmp t key) bare (grind arith) tt)
+      (λ k. parted-alone keeps (behind cmp key k) _ _ _ _
+      (λ b. lookup-same cmp o t key k (same-tells cmp key k ∙ ap (λ l. tells l Alone) b)) (h.parted k))).1
 
   -- what begins with the key goes as one node, behind the front of another one that binds it
   pub divides-joined : {f g : List K → Option V} {front : List K} {n d : Tree K V} → IsFoundUnder cmp key f front n
@@ -177,7 +166,7 @@ module _ {K V : Type 0} {cmp : K → K → Ordering} {keeps : V → V → Type 0
       → IsSome v → AreChildren cmp f → IsBare keeps p f u
       → Removed cmp keeps Alone p (lookup cmp (node p v f)) (p ++ []) (node [] v bare) u
   removed-value o r {v = v} {f = f} s a b =
-      removed-left o v None f b.kept (record { whole = []; parted = parted; child = leaf-child cmp v s })
+      removed-left o v None f b.kept (record { whole = []; parted = parted; child = (grind arith, tt) })
       (alike-children keeps cmp f b.kept b.alike a) b.is
     where
       parted : (k : List K) → IsPartedAt keeps (goes cmp Alone [] k) (lookup cmp (node [] v f) k)
@@ -194,7 +183,7 @@ pub alike-asked : {K V : Type 0} {cmp : K → K → Ordering} (keeps : V → V �
 alike-asked {cmp = cmp} keeps r {f} {g} a {i = i} v l m k s =
     let at = sym (alike-first keeps f g i a) ∙ l.begins.at in
     let begins : BeginsAt cmp g l.first i = record { here = l.begins.here; at = at; equal = l.begins.equal } in
-    let bound = some-kept keeps _ _ (alike-lookup keeps cmp f g a m.met) m.bound in (
+    let bound : IsSome (lookup_in cmp g m.met) = grind (arith, alike-lookup keeps cmp f g a m.met) in (
       record { first = l.first; others = l.others; key_is = l.key_is; begins = begins },
       record { met = m.met; goes_with = m.goes_with; bound = bound },
       alike-children keeps cmp f g a k,
@@ -233,7 +222,8 @@ module _ {K V T : Type 0} {cmp : K → K → Ordering} (o : IsTotalOrder cmp) (t
     pub removed-child : {d : Tree K V} (t : Option (Tree K V))
         → ((z : K) (q : List K) → (tree c).prefix ≡ z ∷ q → BeginsWith cmp z t) → IsChild cmp t
         → Divides cmp keeps e rest (lookup cmp (tree c)) (bound_by cmp t) d
-        → solid_child p v (put (forest (map tree xs)) i t) ≡ Some u → Removed cmp keeps e p (lookup cmp (node p v (forest (map tree xs)))) (p ++ rest) d u
+        → solid_child p v (put (forest (map tree xs)) i t) ≡ Some u
+        → Removed cmp keeps e p (lookup cmp (node p v (forest (map tree xs)))) (p ++ rest) d u
     removed-child {d} t b k h is =
         let new =
         replaced cmp keeps o r (goes cmp e rest) (lookup cmp (node h.whole d.value d.children)) l.begins.here (begins e)

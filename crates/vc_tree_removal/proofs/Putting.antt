@@ -5,7 +5,7 @@
 --     at-child        canonical children can each stand among children
 --     Replaced, replaced, node-parted        what a list becomes, and what it then binds
 use Rattle.std.proofs.Common.{◌≡◌, ℕ, zero, suc, ◌+◌, ◌<◌, ◌≤◌, [], ◌∷◌, List, Option, None, Some, refl, sym, ap}
-use Rattle.std.proofs.Common.{◌∙◌, arith, get_or, map, set, length, Bool, true, false}
+use Rattle.std.proofs.Common.{◌∙◌, arith, get_or, map, set, length, Bool, true}
 use Rattle.std.proofs.lemmas.List.Edits.{length-remove}
 use Rattle.std.specs.Cmp.{IsTotalOrder, alike_right}
 use Rattle.std.specs.List.{remove}
@@ -14,7 +14,7 @@ use Rattle.std.specs.declared.cmp.Ordering.{Ordering}
 use Rattle.std.specs.declared.cmp.Ordering.TheVariants.{Equal}
 use Rattle.vc_tree_model.specs.Canonical.{AllAbove, AreChildren, IsSolid}
 use Rattle.vc_tree_model.specs.Child.{Begins, BeginsWith, IsChild, bound_by, solid_child}
-use Rattle.vc_tree_model.specs.Map.{lookup, lookup_in, or_else, or_else-none}
+use Rattle.vc_tree_model.specs.Map.{lookup, lookup_in, or_else}
 use Rattle.vc_tree_model.specs.Same.{IsAlikeIn}
 use Rattle.vc_tree_model.specs.Tree.{Tree, Forest, bare, grow, forest, node, trees}
 use Rattle.vc_tree_model.proofs.KeyLemmas.{none-some}
@@ -27,9 +27,7 @@ use Rattle.vc_tree_removal.specs.Taking.{AreSome, IsBare, IsLone, IsOut, IsParte
 -- a node that is solid stays as a child
 pub solid-stays : {K V : Type 0} (p : List K) (v : Option V) (f : Forest K V) → IsSolid v f
     → solid_child p v f ≡ Some (node p v f)
-solid-stays p (Some v) f s = refl
-solid-stays p None (grow q w more (grow r u most rest)) s = refl
-solid-stays p v f s = absurd s
+solid-stays p v f s = grind arith
 
 module _ {K V T : Type 0} (tree : T → Tree K V) where
   -- ---- a list of items
@@ -116,20 +114,17 @@ at-child cmp (grow (y ∷ p) v kids rest) (suc i) h a = at-child cmp rest i (ome
 -- the first component of what begins with an equal one
 begun : {K : Type 0} (cmp : K → K → Ordering) (y : K) (p : List K) → Begins cmp y p
     → (z : K) × (q : List K) × (p ≡ z ∷ q) × (cmp y z ≡ Equal)
-begun cmp y [] b = absurd b
-begun cmp y (z ∷ q) b = (z, q, refl, b)
+begun cmp y p b = grind arith
 
 module _ {V : Type 0} (keeps : V → V → Type 0) (r : (v : V) → keeps v v) where
   -- what is parted stays so before and behind what stays, which has nothing of a key that goes
   parted-before : (b : Bool) (a x u y : Option V) → (b ≡ true → a ≡ None) → IsPartedAt keeps b x u y
       → IsPartedAt keeps b (or_else x a) (or_else u a) y
-  parted-before true a x u y n h = rw (n refl, or_else-none x, or_else-none u) h
-  parted-before false a x u y n h = (kept-else keeps x u a a h.0 (kept-refl keeps r a), h.1)
+  parted-before b a x u y n h = grind (arith, kept-else keeps x u a a, kept-refl keeps r a)
 
   parted-behind : (b : Bool) (a x u y : Option V) → (b ≡ true → a ≡ None) → IsPartedAt keeps b x u y
       → IsPartedAt keeps b (or_else a x) (or_else a u) y
-  parted-behind true a x u y n h = rw (n refl) h
-  parted-behind false a x u y n h = (kept-else keeps a a x u (kept-refl keeps r a) h.0, h.1)
+  parted-behind b a x u y n h = grind (arith, kept-else keeps a a x u, kept-refl keeps r a)
 
 module _ {K V : Type 0} (cmp : K → K → Ordering) (keeps : V → V → Type 0) where
   -- g is f with another tree, or none, in the place of one: canonical children that begin above what f does; and of what f

@@ -1,6 +1,5 @@
 -- The other one of two children stands in the place of a node without a value; any other node stays.
-use Rattle.std.proofs.Common.{◌≡◌, ◌-◌, sym, ap, ◌∙◌, arith, length, true≢false, is_some}
-use Rattle.vc_tree_removal.proofs.Going.{none-told}
+use Rattle.std.proofs.Common.{None, ◌≡◌, ◌-◌, sym, ap, ◌∙◌, arith, length, true≢false, is_some}
 use Rattle.vc_tree_removal.proofs.Putting.{out-joins, out-stays}
 use Rattle.vc_tree_removal.proofs.removal.part_out.Goals.{then-is_some-via-then-is_some}
 use Rattle.vc_tree_removal.proofs.removal.part_out.Goals.{then-is_some-via-else-is_some+then-len-ne2}
@@ -17,7 +16,7 @@ returns-then-is_some-clause-ok g c =
 
 pub returns-clause-ok : goal.returns-clause-ok
 returns-clause-ok g c =
-    let none = none-told c.args.own.now (sym c.is_some.ensures ∙ c.if-is_some.false) in
+    let none : c.args.own.now ≡ None = grind arith in
     let long = c.args.list.now.ok.0 in
     let two : length c.args.list.now.items ≡ 2 = omega (arith, long, c.len.ensures, c.if-len-ne2.false) in
     rw none (out-joins g.T.RadixNode.tree _ c.args.list.now.items c.args.i (1 - c.args.i) _ _ _ two

@@ -1,12 +1,12 @@
 -- A key that is not bound leaves the tree as it is, and any other goes.
-use Rattle.std.proofs.Common.{rules, sym, ◌∙◌}
+use Rattle.std.proofs.Common.{arith, rules, sym, ◌∙◌}
 use Rattle.vc_tree_model.specs.Map.{lookup}
 use Rattle.vc_tree_model.proofs.AlikeLemmas.{tree-alike_lookup}
 use Rattle.vc_tree_model.proofs.KeyLemmas.{same-itself}
 use Rattle.vc_tree_model.proofs.LookupLemmas.{lookup-same}
 use Rattle.vc_tree_model.proofs.ValueLemmas.{kept-refl}
 use Rattle.vc_tree_nodes.proofs.Events.{always-err}
-use Rattle.vc_tree_removal.proofs.Going.{none-told, same-tells}
+use Rattle.vc_tree_removal.proofs.Going.{same-tells}
 use Rattle.vc_tree_removal.proofs.Parting.{divides-value, divides-without}
 use Rattle.vc_tree_removal.proofs.removal.remove.Goals as goal
 
@@ -14,9 +14,7 @@ pub returns-then-not-contains_key-clause-ok : goal.returns-then-not-contains_key
 returns-then-not-contains_key-clause-ok g c =
     let t = g.T.RadixNode.tree c.args.tree.now in
     record {
-      at = λ k s.
-          sym (lookup-same g.K.Ord.cmp g.met.K.Ord.total t c.args.key.now k s)
-          ∙ none-told _ (sym c.contains_key.ensures ∙ c.if-not-contains_key.true);
+      at = λ k s. grind (arith, lookup-same g.K.Ord.cmp g.met.K.Ord.total t c.args.key.now k s, c.contains_key.ensures);
       others = λ k s. kept-refl g.T.Build.keeps g.met.T.Build.keeps_refl (lookup g.K.Ord.cmp t k);
     }
 
