@@ -1,16 +1,16 @@
 -- What goes of a map, and what stays.
 --     if-ok        what follows from an outcome
---     parted-alike, parted-wholly, parted-below        at one key
+--     parted-below, parted-alone        at one key
 --     divides-without, divides-value, divides-joined        what stays, and what goes as one canonical tree
 --     divides-wholly, divides-root        all keys of a tree go
 --     removed-left, removed-as, removed-value        a node of which keys go, as a child
 --     alike-asked        children that are alike
 --     met-child, removed-child, removed-out        the child that the rest leads to
 use Rattle.std.proofs.Common.{◌≡◌, ℕ, [], ◌∷◌, ◌++◌, List, Option, None, Some, refl, sym, ap, subst, ◌∙◌}
-use Rattle.std.proofs.Common.{arith, true, Bool, get_or, map, true≢false}
+use Rattle.std.proofs.Common.{arith, true, Bool, get_or, map}
 use Rattle.std.specs.Cmp.{IsTotalOrder, Equal-is, tied_itself}
 use Rattle.std.specs.Option.{option_and}
-use Rattle.std.specs.Prelude.{IfOk, IsFalse, IsSome, Result, Ok, Err}
+use Rattle.std.specs.Prelude.{IfOk, IsSome, Result}
 use Rattle.std.specs.declared.cmp.Ordering.{Ordering}
 use Rattle.std.specs.declared.cmp.Ordering.TheVariants.{Equal}
 use Rattle.vc_tree_model.specs.Canonical.{AreChildren, IsCanonical, IsSolid}
@@ -25,14 +25,14 @@ use Rattle.vc_tree_model.specs.Under.{under}
 use Rattle.vc_tree_model.specs.Value.{IsKept}
 use Rattle.vc_tree_model.proofs.AlikeLemmas.{alike-children, alike-lookup, alike-nodes, alike-solid}
 use Rattle.vc_tree_model.proofs.Joining.{joined-begins, joined-child, joined-same}
-use Rattle.vc_tree_model.proofs.KeyLemmas.{behind-append, behind-same, then_behind}
-use Rattle.vc_tree_model.proofs.LookupLemmas.{lookup-same, nothing-bound}
+use Rattle.vc_tree_model.proofs.KeyLemmas.{behind-append, behind-same}
+use Rattle.vc_tree_model.proofs.LookupLemmas.{lookup-same}
 use Rattle.vc_tree_model.proofs.Places.{look}
 use Rattle.vc_tree_model.proofs.Uniqueness.{canonical-same}
 use Rattle.vc_tree_model.proofs.ValueLemmas.{kept_by, kept-refl, kept-trans}
 use Rattle.vc_tree_nodes.proofs.Finding.{begins-below, lookup_in-at, trees-length}
 use Rattle.vc_tree_nodes.proofs.Growing.{alike-first, solid-canonical}
-use Rattle.vc_tree_nodes.specs.Places.{BeginsAt, LeadsTo}
+use Rattle.vc_tree_nodes.specs.Places.{LeadsTo}
 use Rattle.vc_tree_removal.specs.Taking.{Divides, IsBare, IsFoundUnder, IsOut, IsPartedAt, IsWholly, Meets, Removed}
 use Rattle.vc_tree_removal.specs.Taking.{fronted, goes, put, tells, tree_at}
 use Rattle.vc_tree_removal.specs.Without.{IsWithoutAll}
@@ -44,30 +44,17 @@ use Rattle.vc_tree_removal.proofs.Putting.{at-child, at-got, node-parted, replac
 
 -- what holds of the value of one outcome, where it follows
 pub if-ok : {X E : Type 0} {P Q : X → Type 0} (r : Result X E) → ((x : X) → P x → Q x) → IfOk r P → IfOk r Q
-if-ok (Ok x) f a = f x a
-if-ok (Err e) f a = tt
+if-ok r f a = grind arith
 
-module _ {V : Type 0} (keeps : V → V → Type 0) where
-  -- ---- at one key
-
-  -- what a value before them is kept as may be parted in its place
-  pub parted-alike : ((u v w : V) → keeps u v → keeps v w → keeps u w) → (b : Bool) (a x u y : Option V) → IsKept keeps a x
-      → IsPartedAt keeps b x u y → IsPartedAt keeps b a u y
-  parted-alike t b a x u y k h = grind (arith, kept-trans keeps t a x y k, kept-trans keeps t a x u k)
-
-  -- all goes where no other key is bound
-  pub parted-wholly : ((v : V) → keeps v v) → (b : Bool) (x : Option V) → (IsFalse b → x ≡ None) → IsPartedAt keeps b x None x
-  parted-wholly r b x w = grind (arith, kept-refl keeps r x)
-
-  -- what goes of what begins so
-  pub parted-below : {K : Type 0} (l : Option (List K)) (x u y : Option V) → IsPartedAt keeps (tells l Below) x u y
-      → IsKept keeps (option_and l x) y
+module _ {K V : Type 0} (keeps : V → V → Type 0) where
+  -- what goes of a key that begins so
+  parted-below : (l : Option (List K)) (x u y : Option V) → IsPartedAt keeps (tells l Below) x u y → IsKept keeps (option_and l x) y
   parted-below l x u y h = grind arith
 
-  -- and where a key goes alone
-  parted-alone : {K : Type 0} (l : Option (List K)) (x z u y : Option V) → (l ≡ Some [] → z ≡ x)
-      → IsPartedAt keeps (tells l Alone) x u y → IsKept keeps (node_lookup z (λ k. None) l) y
-  parted-alone l x z u y e p = grind arith
+  -- and of one that goes alone
+  parted-alone : (l : Option (List K)) (x z u y : Option V) → (l ≡ Some [] → z ≡ x) → IsPartedAt keeps (tells l Alone) x u y
+      → IsKept keeps (node_lookup z (λ k. None) l) y
+  parted-alone l x z u y e h = grind arith
 
 module _ {K V : Type 0} {cmp : K → K → Ordering} {keeps : V → V → Type 0} {e : Extent} {key : List K}
     {f g : List K → Option V} {d : Tree K V} (h : Divides cmp keeps e key f g d) where
@@ -101,7 +88,7 @@ module _ {K V : Type 0} {cmp : K → K → Ordering} {keeps : V → V → Type 0
       → IsEqualMap keeps (under cmp f key) (lookup cmp u)
   divides-joined {f} {g} {front} {n} {d} one h u is k =
       let kept : IsEqualMap keeps (under cmp f key) (lookup cmp (node h.whole d.value d.children)) =
-      λ k. parted-below keeps (behind cmp key k) (f k) (g k) _ (h.parted k) in
+      λ k. parted-below keeps (behind cmp key k) _ _ _ (h.parted k) in
       let same =
       divides-same h o (fronted front n) (solid-canonical cmp (front ++ n.prefix) n.value n.children one.child.0 one.child.1)
       (λ k. kept_by keeps _ _ _ _ (one.binds k) refl (kept k)) in
@@ -112,15 +99,14 @@ pub divides-wholly : {K V : Type 0} {cmp : K → K → Ordering} (keeps : V → 
     → {e : Extent} {key : List K} (t : Tree K V) (g : List K → Option V) → ((k : List K) → g k ≡ None) → IsWholly cmp e key t
     → IsChild cmp (Some t) → Divides cmp keeps e key (lookup cmp t) g t
 divides-wholly {cmp = cmp} keeps r t g n w c =
-    record { whole = t.prefix; parted = λ k. rw (n k) (parted-wholly keeps r _ (lookup cmp t k) (w k)); child = c }
+    record { whole = t.prefix; parted = λ k. grind (arith, n k, w k, kept-refl keeps r (lookup cmp t k)); child = c }
 
 -- and where it is a root, it leaves the empty tree
 pub divides-root : {K V : Type 0} {cmp : K → K → Ordering} → IsTotalOrder cmp → (keeps : V → V → Type 0)
     → ((v : V) → keeps v v) → {e : Extent} {key : List K} (t u : Tree K V) → Meets cmp e key (lookup cmp t)
     → IsCanonical cmp t → u ≡ no_tree → IsWholly cmp e key t → Divides cmp keeps e key (lookup cmp t) (lookup cmp u) t
 divides-root {cmp = cmp} o keeps r t u m c is w =
-    divides-wholly keeps r t (lookup cmp u)
-    (λ k. ap (λ u. lookup cmp u k) is ∙ nothing-bound cmp [] None bare (refl, refl, refl) k) w (met-solid o t m c, c.1)
+    divides-wholly keeps r t (lookup cmp u) (λ k. grind (arith, is)) w (met-solid o t m c, c.1)
 
 -- ---- a node of which keys go
 
@@ -134,27 +120,22 @@ module _ {K V : Type 0} {cmp : K → K → Ordering} {keeps : V → V → Type 0
       whole = p ++ h.whole;
       parted = λ k.
           let reads = ap (λ s. look cmp (values cmp) s k) (sym is) ∙ joined-same cmp (values cmp) p w g k a in
-          rw (behind-append cmp p rest k, reads, behind-append cmp p h.whole k) (by (behind cmp p k));
+          grind (arith, behind-append cmp p rest k, reads, behind-append cmp p h.whole k, h.parted);
       child = h.child;
     };
     child = subst (IsChild cmp) is (joined-child cmp p w g a);
     begins = λ y q s.
         subst (BeginsWith cmp y) is (rw s (joined-begins cmp y y q w g (tied_itself o y)));
   }
-    where
-      by : (l : Option (List K)) → IsPartedAt keeps (tells (then_behind cmp rest l) e) (node_lookup v (lookup_in cmp f) l)
-          (node_lookup w (lookup_in cmp g) l) (node_lookup d.value (lookup_in cmp d.children) (then_behind cmp h.whole l))
-      by None = (tt, refl)
-      by (Some k) = h.parted k
 
   -- what goes of a map, goes of one that it keeps, with each key with which the same goes
   pub removed-as : ((u v w : V) → keeps u v → keeps v w → keeps u w) → {e : Extent} {p j key : List K}
       {f g : List K → Option V} {d u : Tree K V} → IsEqualMap keeps f g → ((k : List K) → goes cmp e key k ≡ goes cmp e j k)
       → Removed cmp keeps e p g j d u → Removed cmp keeps e p f key d u
-  removed-as trans m s h = record {
+  removed-as trans {f = f} {g = g} m s h = record {
     divided = record {
       whole = h.divided.whole;
-      parted = λ k. rw (s k) (parted-alike keeps trans _ _ _ _ _ (m k) (h.divided.parted k));
+      parted = λ k. grind (arith, s k, m k, h.divided.parted k, kept-trans keeps trans (f k) (g k));
       child = h.divided.child;
     };
     child = h.child;
@@ -166,13 +147,11 @@ module _ {K V : Type 0} {cmp : K → K → Ordering} {keeps : V → V → Type 0
       → IsSome v → AreChildren cmp f → IsBare keeps p f u
       → Removed cmp keeps Alone p (lookup cmp (node p v f)) (p ++ []) (node [] v bare) u
   removed-value o r {v = v} {f = f} s a b =
-      removed-left o v None f b.kept (record { whole = []; parted = parted; child = (grind arith, tt) })
-      (alike-children keeps cmp f b.kept b.alike a) b.is
-    where
-      parted : (k : List K) → IsPartedAt keeps (goes cmp Alone [] k) (lookup cmp (node [] v f) k)
-          (lookup cmp (node [] None b.kept) k) (lookup cmp (node [] v bare) k)
-      parted [] = (refl, kept-refl keeps r v)
-      parted (x ∷ k) = (alike-lookup keeps cmp f b.kept b.alike (x ∷ k), refl)
+      removed-left o v None f b.kept (record {
+        whole = [];
+        parted = λ k. grind (arith, kept-refl keeps r v, alike-lookup keeps cmp f b.kept b.alike k);
+        child = (grind arith, tt);
+      }) (alike-children keeps cmp f b.kept b.alike a) b.is
 
 -- what is asked of children holds of those that are alike
 pub alike-asked : {K V : Type 0} {cmp : K → K → Ordering} (keeps : V → V → Type 0) → ((v : V) → keeps v v)
@@ -180,16 +159,13 @@ pub alike-asked : {K V : Type 0} {cmp : K → K → Ordering} (keeps : V → V �
     → Meets cmp e rest (lookup_in cmp f) → AreChildren cmp f → IsSolid v f
     → LeadsTo cmp g rest i × Meets cmp e rest (lookup_in cmp g) × AreChildren cmp g × IsSolid v g
     × (forest_nodes f ≡ forest_nodes g)
-alike-asked {cmp = cmp} keeps r {f} {g} a {i = i} v l m k s =
-    let at = sym (alike-first keeps f g i a) ∙ l.begins.at in
-    let begins : BeginsAt cmp g l.first i = record { here = l.begins.here; at = at; equal = l.begins.equal } in
-    let bound : IsSome (lookup_in cmp g m.met) = grind (arith, alike-lookup keeps cmp f g a m.met) in (
-      record { first = l.first; others = l.others; key_is = l.key_is; begins = begins },
-      record { met = m.met; goes_with = m.goes_with; bound = bound },
-      alike-children keeps cmp f g a k,
-      alike-solid keeps v v f g (kept_itself keeps r v) a s,
-      alike-nodes keeps f g a,
-    )
+alike-asked {cmp = cmp} keeps r {f} {g} a {i = i} v l m k s = (
+  grind (arith, alike-first keeps f g i a),
+  grind (arith, alike-lookup keeps cmp f g a m.met),
+  alike-children keeps cmp f g a k,
+  alike-solid keeps v v f g (kept_itself keeps r v) a s,
+  alike-nodes keeps f g a,
+)
 
 -- ---- the child that the rest leads to
 
@@ -208,14 +184,10 @@ module _ {K V T : Type 0} {cmp : K → K → Ordering} (o : IsTotalOrder cmp) (t
 
   -- and is bound there
   pub met-child : {e : Extent} → Meets cmp e rest (lookup_in cmp (forest (map tree xs))) → Meets cmp e rest (lookup cmp (tree c))
-  met-child {e} m = record { met = m.met; goes_with = m.goes_with; bound = by m.met m.goes_with m.bound }
-    where
-      by : (k : List K) → goes cmp e rest k ≡ true → IsSome (lookup_in cmp (forest (map tree xs)) k)
-          → IsSome (lookup cmp (tree c) k)
-      by [] h s = absurd (true≢false (sym (rw l.key_is at h)))
-      by (x ∷ k) h s =
-          subst IsSome (lookup_in-at cmp tree o xs i c l.begins.here x k a l.begins.at (begins e x k h)
-          ∙ ap (λ c. lookup cmp (tree c) (x ∷ k)) (sym at)) s
+  met-child {e} m =
+      let own = λ (x : K) (k : List K) (g : goes cmp e rest (x ∷ k) ≡ true).
+      lookup_in-at cmp tree o xs i c l.begins.here x k a l.begins.at (begins e x k g) in
+      record { met = m.met; goes_with = m.goes_with; bound = grind (arith, m.bound, m.goes_with, own, l.key_is, at) }
 
   module _ {keeps : V → V → Type 0} (r : (v : V) → keeps v v) {e : Extent} {p : List K} (v : Option V) {u : Tree K V} where
     -- where keys of it go, they go of the node

@@ -1,10 +1,10 @@
 -- One tree of a list, and the list with another one, or none, in its place.
 --     at-got, put-remove, put-set        a list of items, without one or with another in its place
---     solid-stays, many-solid, some-solid        a node that stays, as a child
---     out-joins, out-stays, bare-one        what is left of a node, as a child
+--     solid-stays, some-solid, one-stands        a node, as a child
+--     out-joins, out-stays        what is left of one of which a child is taken out
 --     at-child        canonical children can each stand among children
 --     Replaced, replaced, node-parted        what a list becomes, and what it then binds
-use Rattle.std.proofs.Common.{◌≡◌, ℕ, zero, suc, ◌+◌, ◌<◌, ◌≤◌, [], ◌∷◌, List, Option, None, Some, refl, sym, ap}
+use Rattle.std.proofs.Common.{◌≡◌, ℕ, zero, suc, ◌+◌, ◌<◌, [], ◌∷◌, List, Option, None, Some, refl, sym, ap}
 use Rattle.std.proofs.Common.{◌∙◌, arith, get_or, map, set, length, Bool, true}
 use Rattle.std.proofs.lemmas.List.Edits.{length-remove}
 use Rattle.std.specs.Cmp.{IsTotalOrder, alike_right}
@@ -15,19 +15,35 @@ use Rattle.std.specs.declared.cmp.Ordering.TheVariants.{Equal}
 use Rattle.vc_tree_model.specs.Canonical.{AllAbove, AreChildren, IsSolid}
 use Rattle.vc_tree_model.specs.Child.{Begins, BeginsWith, IsChild, bound_by, solid_child}
 use Rattle.vc_tree_model.specs.Map.{lookup, lookup_in, or_else}
-use Rattle.vc_tree_model.specs.Same.{IsAlikeIn}
 use Rattle.vc_tree_model.specs.Tree.{Tree, Forest, bare, grow, forest, node, trees}
 use Rattle.vc_tree_model.proofs.KeyLemmas.{none-some}
 use Rattle.vc_tree_model.proofs.LookupLemmas.{above-equal, lookup-other, lookup_in-above}
 use Rattle.vc_tree_model.proofs.ValueLemmas.{kept-else, kept-refl}
 use Rattle.vc_tree_nodes.specs.Places.{child_first}
+use Rattle.vc_tree_nodes.proofs.Finding.{trees-length}
 use Rattle.vc_tree_nodes.proofs.Firsts.{above-at}
-use Rattle.vc_tree_removal.specs.Taking.{AreSome, IsBare, IsLone, IsOut, IsPartedAt, put, tree_at}
+use Rattle.vc_tree_removal.specs.Taking.{AreSome, IsLone, IsOut, IsPartedAt, fronted, put, tree_at}
 
--- a node that is solid stays as a child
-pub solid-stays : {K V : Type 0} (p : List K) (v : Option V) (f : Forest K V) → IsSolid v f
-    → solid_child p v f ≡ Some (node p v f)
-solid-stays p v f s = grind arith
+module _ {K V : Type 0} where
+  -- ---- nodes that are solid, and lone children
+
+  -- a node that is solid stays as a child
+  pub solid-stays : (p : List K) (v : Option V) (f : Forest K V) → IsSolid v f → solid_child p v f ≡ Some (node p v f)
+  solid-stays p v f s = grind arith
+
+  -- it stays solid with one child less where it has a value, or not just two children
+  fewer-solid : (v : Option V) (f g : Forest K V) → IsSolid v f → (v ≡ None → length (trees f) ≡ 2 → ⊥)
+      → length (trees g) + 1 ≡ length (trees f) → IsSolid v g
+  fewer-solid v f g s few less = grind arith
+
+  -- some children that are not one are two
+  pub some-solid : (f : Forest K V) → AreSome f → (length (trees f) ≡ 1 → ⊥) → IsSolid None f
+  some-solid f s n = grind arith
+
+  -- one alone stands in the place of a node without a value
+  pub one-stands : (front : List K) (f : Forest K V) → length (trees f) ≡ 1
+      → solid_child front None f ≡ Some (fronted front (tree_at f 0))
+  one-stands front f n = grind arith
 
 module _ {K V T : Type 0} (tree : T → Tree K V) where
   -- ---- a list of items
@@ -55,32 +71,10 @@ module _ {K V T : Type 0} (tree : T → Tree K V) where
 
   -- ---- what is left of a node
 
-  -- two children are enough without a value
-  pub many-solid : (v : Option V) (xs : List T) → (v ≡ None → 2 ≤ length xs) → IsSolid v (forest (map tree xs))
-  many-solid (Some v) xs n = tt
-  many-solid None [] n = absurd (omega (arith, n refl))
-  many-solid None (x ∷ []) n = absurd (omega (arith, n refl))
-  many-solid None (x ∷ y ∷ xs) n = tt
-
-  -- and fewer are not
-  solid-many : (xs : List T) → IsSolid None (forest (map tree xs)) → 2 ≤ length xs
-  solid-many [] s = absurd s
-  solid-many (x ∷ []) s = absurd s
-  solid-many (x ∷ y ∷ xs) s = omega arith
-
-  -- some that are not one are two
-  pub some-solid : (xs : List T) → AreSome (forest (map tree xs)) → (length xs ≡ 1 → ⊥) → IsSolid None (forest (map tree xs))
-  some-solid [] s n = absurd s
-  some-solid (x ∷ []) s n = absurd (n refl)
-  some-solid (x ∷ y ∷ xs) s n = tt
-
   -- one of two children stands in the place of the node where the other goes
   pub out-joins : (front : List K) (xs : List T) (i j : ℕ) (item : T) (u : Tree K V) (new : List T) → length xs ≡ 2 → i + j ≡ 1
       → IsLone tree front xs j u new → item ≡ get_or new 0 item → IsOut tree front None xs i (tree item) u
-  out-joins front (a ∷ b ∷ []) zero (suc zero) item u new n one l e =
-      record { at = ap tree (sym (e ∙ ap (λ l. get_or l 0 item) l.others)); is = ap Some (sym l.is) }
-  out-joins front (a ∷ b ∷ []) (suc zero) zero item u new n one l e =
-      record { at = ap tree (sym (e ∙ ap (λ l. get_or l 0 item) l.others)); is = ap Some (sym l.is) }
+  out-joins front (a ∷ b ∷ []) i j item u new n one l e = record { at = grind arith; is = grind arith }
   out-joins front xs i j item u new n one l e = absurd (omega (arith, n, one))
 
   -- a node that has a value, or more than two children, stays
@@ -89,17 +83,9 @@ module _ {K V T : Type 0} (tree : T → Tree K V) where
       → new ≡ remove xs i → IsOut tree front v xs i (tree item) (node front v (forest (map tree new)))
   out-stays front v xs i h l s few e d = record {
     at = at-got xs i h l e;
-    is = rw (d, ← put-remove xs i) (solid-stays front v _ (many-solid v (remove xs i) (λ none.
-        let two = solid-many xs (rw none at s) in
-        omega (arith, length-remove xs i (omega (arith, h, l)), two, few none, h, l))));
+    is = rw (d, ← put-remove xs i) (solid-stays front v _ (fewer-solid v _ _ s (rw trees-length few)
+        (rw (trees-length, trees-length) (length-remove xs i (omega (arith, h, l))))));
   }
-
-  -- a lone child stands in the place of the node
-  pub bare-one : (keeps : V → V → Type 0) (front : List K) (f : Forest K V) (xs new : List T) (u : Tree K V)
-      → IsAlikeIn keeps f (forest (map tree xs)) → length xs ≡ 1 → IsLone tree front xs 0 u new → IsBare keeps front f u
-  bare-one keeps front f [] new u a n l = absurd (omega (arith, n))
-  bare-one keeps front f (x ∷ []) new u a n l = record { kept = forest (map tree (x ∷ [])); alike = a; is = ap Some (sym l.is) }
-  bare-one keeps front f (x ∷ y ∷ xs) new u a n l = absurd (omega (arith, n))
 
 -- ---- canonical children
 
@@ -174,5 +160,4 @@ module _ {K V : Type 0} (cmp : K → K → Ordering) (keeps : V → V → Type 0
   pub node-parted : {told : List K → Bool} {w : List K → Option V} {f g : Forest K V} (v : Option V)
       → Replaced told w f g → IsPartedAt keeps (told []) v v (w []) → (k : List K)
       → IsPartedAt keeps (told k) (lookup cmp (node [] v f) k) (lookup cmp (node [] v g) k) (w k)
-  node-parted v new h [] = h
-  node-parted v new h (x ∷ k) = new.parted x k
+  node-parted v new h k = grind (arith, new.parted)

@@ -4,7 +4,7 @@
 --     found-under        the node below which all keys stand that begin with one
 use Rattle.std.proofs.Common.{◌≡◌, ℕ, ◌<◌, ◌≤◌, [], ◌∷◌, ◌++◌, List, Option, None, Some, refl, sym, ap}
 use Rattle.std.proofs.Common.{subst, ◌∙◌, arith, map, drop, length, true, false, Bool}
-use Rattle.std.proofs.Common.{inl, inr, is_some}
+use Rattle.std.proofs.Common.{is_some}
 use Rattle.std.specs.Cmp.{IsTotalOrder}
 use Rattle.std.specs.Option.{option_and_then}
 use Rattle.std.proofs.lemmas.Bool.{leb-false, leb-true}
@@ -17,7 +17,7 @@ use Rattle.vc_tree_model.specs.Map.{lookup, lookup_in}
 use Rattle.vc_tree_model.specs.Tree.{Tree, Forest, bare, forest, forest_nodes, is_bare, node}
 use Rattle.vc_tree_model.specs.Under.{prefixed, under}
 use Rattle.vc_tree_model.proofs.KeyLemmas.{behind-itself, behind-same, same-itself}
-use Rattle.vc_tree_model.proofs.LookupLemmas.{lookup-same, lookup_in-same, nothing-bound, tree-bound, whole-cases}
+use Rattle.vc_tree_model.proofs.LookupLemmas.{lookup-same, lookup_in-same, tree-bound}
 use Rattle.vc_tree_model.proofs.UnderLemmas.{lookup-prepended}
 use Rattle.vc_tree_nodes.specs.Places.{BeginsAt, IsGapAt, LeadsTo}
 use Rattle.vc_tree_nodes.proofs.Descending.{behind-length}
@@ -44,10 +44,7 @@ module _ {K V : Type 0} {cmp : K → K → Ordering} (o : IsTotalOrder cmp) {e :
 
   -- a tree that binds a key is solid
   pub met-solid : IsCanonical cmp t → IsSolid t.value t.children
-  met-solid c = elim (whole-cases cmp t.prefix t.value t.children c.0) [
-    | inl s ↦ s
-    | inr n ↦ grind (arith, nothing-bound cmp t.prefix t.value t.children n m.met)
-  ]
+  met-solid c = not-bare_solid t c.0 (grind (arith, m.bound))
 
   -- behind the prefix a key is bound that goes with the rest
   pub met-rest : {y : K} {q : List K} → behind cmp t.prefix key ≡ Some (y ∷ q) → Meets cmp e (y ∷ q) (lookup_in cmp t.children)

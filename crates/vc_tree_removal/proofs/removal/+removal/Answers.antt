@@ -1,7 +1,6 @@
 -- The recursion of a removal: what is left of the key is bound below, and each call goes to a child that it leads to.
-use Rattle.std.proofs.Common.{◌≡◌, refl, sym, ap, subst, ◌∙◌, arith, is_ok, length-set, rules, set, Some}
+use Rattle.std.proofs.Common.{◌≡◌, refl, sym, ap, ◌∙◌, arith, is_ok, length-set, rules, set, Some}
 use Rattle.std.proofs.lemmas.List.{get_or_read_under}
-use Rattle.vc_tree_model.specs.Same.{IsAlike}
 use Rattle.vc_tree_model.specs.Snapshot.{alike_refl, kept_itself}
 use Rattle.vc_tree_model.specs.Tree.{node}
 use Rattle.vc_tree_model.proofs.AlikeLemmas.{alike-canonical, alike-trans, tree-alike_lookup}
@@ -110,8 +109,7 @@ pub remove_at-returns-in_err-taken-clause-err : goal.remove_at-returns-in_err-ta
 remove_at-returns-in_err-taken-clause-err g t c =
     always-err c.from_residual.result
     (alike-set g.T.Build.keeps g.met.T.Build.keeps_refl g.T.RadixNode.tree c.args.list.now.items c.args.i c.remove_from.new.tree
-    c.index_mut.result.now (subst (λ x. IsAlike g.T.Build.keeps (g.T.RadixNode.tree x)
-    (g.T.RadixNode.tree c.remove_from.new.tree)) c.index_mut.ensures.value c.in_err-taken.ensures.err))
+    c.index_mut.result.now (rw (← c.index_mut.ensures.value) c.in_err-taken.ensures.err))
 
 pub remove_at-returns-clause-ok : goal.remove_at-returns-clause-ok
 remove_at-returns-clause-ok g t c =

@@ -4,17 +4,18 @@ use Rattle.vc_tree_model.specs.Snapshot.{alike_refl}
 use Rattle.vc_tree_model.specs.Tree.{forest}
 use Rattle.vc_tree_model.proofs.AlikeLemmas.{alike-children}
 use Rattle.vc_tree_nodes.proofs.Events.{length-kept}
-use Rattle.vc_tree_removal.proofs.Putting.{bare-one, solid-stays, some-solid}
+use Rattle.vc_tree_nodes.proofs.Finding.{trees-length}
+use Rattle.vc_tree_removal.proofs.Putting.{one-stands, solid-stays, some-solid}
 use Rattle.vc_tree_removal.proofs.removal.bare_of.Goals as goal
 
 pub returns-clause-ok : goal.returns-clause-ok
 returns-clause-ok g c =
-    let tree = g.T.RadixNode.tree in
-    let f = forest (map tree (g.T.Children.ChildList.items c.args.children.now)) in
+    let f = forest (map g.T.RadixNode.tree (g.T.Children.ChildList.items c.args.children.now)) in
     record {
       kept = f;
       alike = alike_refl g.T.Build.keeps g.met.T.Build.keeps_refl f;
-      is = solid-stays _ None f (some-solid tree _ c.requires.some (λ one. c.if-many-eq1.false (c.requires.many ∙ one)));
+      is = solid-stays _ None f (some-solid f c.requires.some
+          (rw trees-length (λ one. c.if-many-eq1.false (c.requires.many ∙ one))));
     }
 
 pub lone-requires-clause-canonical : goal.lone-requires-clause-canonical
@@ -26,6 +27,6 @@ pub returns-then-many-eq1-clause-ok : goal.returns-then-many-eq1-clause-ok
 returns-then-many-eq1-clause-ok g c =
     let alike = g.met.T.Build.kept_alike _ _ c.in_ok-list.ensures.value in
     let long = length-kept g.T.Build.keeps g.T.RadixNode.tree _ _ alike in
-    let many = c.requires.many in
-    bare-one g.T.RadixNode.tree g.T.Build.keeps (g.T.Prefix.Fragment.items c.args.front.now) _ c.in_ok-list.list.now.items _ _
-    alike (omega (arith, long, many, c.if-many-eq1.true)) c.in_ok-whole.ensures.ok
+    let one = one-stands (g.T.Prefix.Fragment.items c.args.front.now) _
+    (rw trees-length (omega (arith, long, c.requires.many, c.if-many-eq1.true))) in
+    record { kept = _; alike = alike; is = rw c.in_ok-whole.ensures.ok.is one }
