@@ -1,20 +1,26 @@
 -- Which keys go with one: those that equal it, or begin with it.
+--     refused        what a refusal leaves
 --     begins-tells, same-tells        what is left of a key tells it
---     goes-begins, goes-respelled        the first component, and a prefix before the key
+--     goes-begins        the first component
 --     rest-taken, rest-within        the rest as a part of the key
 --     shorter-begins        of two that a key begins with
-use Rattle.std.proofs.Common.{◌≡◌, ◌≤◌, [], ◌∷◌, ◌++◌, List, drop, length, Option, Some, refl, sym, ap, arith}
+use Rattle.std.proofs.Common.{◌≡◌, ◌≤◌, [], ◌∷◌, List, drop, length, Option, Some, refl, arith}
 use Rattle.std.proofs.Common.{true, append-nil, is_some}
 use Rattle.std.specs.Cmp.{IsTotalOrder, alike_right}
 use Rattle.std.specs.Prelude.{IsSome}
 use Rattle.std.specs.declared.cmp.Ordering.{Ordering}
 use Rattle.std.specs.declared.cmp.Ordering.TheVariants.{Equal}
 use Rattle.vc_tree_model.specs.Key.{same_key, behind}
-use Rattle.vc_tree_model.proofs.KeyLemmas.{behind-joins, behind-same, same-append}
+use Rattle.vc_tree_model.proofs.KeyLemmas.{same-append}
+use Rattle.vc_tree_model.proofs.AlikeLemmas.{tree-alike_lookup}
+use Rattle.vc_tree_nodes.proofs.Events.{always-err}
 use Rattle.vc_tree_nodes.proofs.Descending.{behind-length}
 use Rattle.vc_tree_removal.specs.Taking.{goes, tells}
 use Rattle.vc_tree_removal.specs.declared.removal.Extent.{Extent}
 use Rattle.vc_tree_removal.specs.declared.removal.Extent.TheVariants.{Alone, Below}
+
+-- a refusal leaves the nodes, and so what they bind
+pub ruleset refused = (always-err, tree-alike_lookup)
 
 -- something is left where all that begins so goes
 pub begins-tells : {K : Type 0} (l : Option (List K)) → is_some l ≡ tells l Below
@@ -42,12 +48,6 @@ module _ {K : Type 0} (cmp : K → K → Ordering) where
   rest-within p key s = grind (arith, behind-length cmp p key _ (rest-taken p key s))
 
   module _ (o : IsTotalOrder cmp) where
-    -- the same goes with the prefix and what is left behind it
-    pub goes-respelled : (e : Extent) (p key rest k : List K) → behind cmp p key ≡ Some rest
-        → goes cmp e key k ≡ goes cmp e (p ++ rest) k
-    goes-respelled e p key rest k b =
-        ap (λ l. tells l e) (sym (behind-same cmp o (p ++ rest) key k (behind-joins cmp o p key rest b)))
-
     -- of two that a key begins with, the longer begins with the other
     pub shorter-begins : (p q k : List K) → IsSome (behind cmp p k) → IsSome (behind cmp q k) → length p ≤ length q
         → IsSome (behind cmp p q)

@@ -13,17 +13,17 @@ use Rattle.std.specs.Option.{option_and}
 use Rattle.std.specs.Prelude.{IfOk, IsSome, Result}
 use Rattle.std.specs.declared.cmp.Ordering.{Ordering}
 use Rattle.std.specs.declared.cmp.Ordering.TheVariants.{Equal}
-use Rattle.vc_tree_model.specs.Canonical.{AreChildren, IsCanonical, IsSolid}
+use Rattle.vc_tree_model.specs.Canonical.{AreChildren, IsCanonical}
 use Rattle.vc_tree_model.specs.Child.{BeginsWith, IsChild, bound_by, solid_child}
-use Rattle.vc_tree_model.specs.Key.{behind}
+use Rattle.vc_tree_model.specs.Key.{behind, same_key}
 use Rattle.vc_tree_model.specs.Look.{values}
-use Rattle.vc_tree_model.specs.Map.{IsEqualMap, lookup, lookup_in, node_lookup}
+use Rattle.vc_tree_model.specs.Map.{IsEqualMap, lookup, node_lookup}
 use Rattle.vc_tree_model.specs.Same.{IsAlikeIn, IsSame}
 use Rattle.vc_tree_model.specs.Snapshot.{kept_itself}
-use Rattle.vc_tree_model.specs.Tree.{Tree, Forest, bare, forest, forest_nodes, no_tree, node}
+use Rattle.vc_tree_model.specs.Tree.{Tree, Forest, bare, forest, no_tree, node}
 use Rattle.vc_tree_model.specs.Under.{under}
 use Rattle.vc_tree_model.specs.Value.{IsKept}
-use Rattle.vc_tree_model.proofs.AlikeLemmas.{alike-children, alike-lookup, alike-nodes, alike-solid}
+use Rattle.vc_tree_model.proofs.AlikeLemmas.{alike-children, alike-lookup, alike-solid}
 use Rattle.vc_tree_model.proofs.Joining.{joined-begins, joined-child, joined-same}
 use Rattle.vc_tree_model.proofs.KeyLemmas.{behind-append, behind-same}
 use Rattle.vc_tree_model.proofs.LookupLemmas.{lookup-same}
@@ -32,8 +32,7 @@ use Rattle.vc_tree_model.proofs.Uniqueness.{canonical-same}
 use Rattle.vc_tree_model.proofs.ValueLemmas.{kept_by, kept-refl, kept-trans}
 use Rattle.vc_tree_nodes.proofs.Finding.{begins-below, lookup_in-at, trees-length}
 use Rattle.vc_tree_nodes.proofs.Growing.{alike-first, solid-canonical}
-use Rattle.vc_tree_nodes.specs.Places.{LeadsTo}
-use Rattle.vc_tree_removal.specs.Taking.{Divides, IsBare, IsFoundUnder, IsOut, IsPartedAt, IsWholly, Meets, Removed}
+use Rattle.vc_tree_removal.specs.Taking.{Divides, IsBare, IsFoundUnder, IsOut, IsPartedAt, IsWholly, Meets, MeetsAt, Removed}
 use Rattle.vc_tree_removal.specs.Taking.{fronted, goes, put, tells, tree_at}
 use Rattle.vc_tree_removal.specs.Without.{IsWithoutAll}
 use Rattle.vc_tree_removal.specs.declared.removal.Extent.{Extent}
@@ -48,7 +47,8 @@ if-ok r f a = grind arith
 
 module _ {K V : Type 0} (keeps : V → V → Type 0) where
   -- what goes of a key that begins so
-  parted-below : (l : Option (List K)) (x u y : Option V) → IsPartedAt keeps (tells l Below) x u y → IsKept keeps (option_and l x) y
+  parted-below : (l : Option (List K)) (x u y : Option V) → IsPartedAt keeps (tells l Below) x u y
+      → IsKept keeps (option_and l x) y
   parted-below l x u y h = grind arith
 
   -- and of one that goes alone
@@ -128,14 +128,14 @@ module _ {K V : Type 0} {cmp : K → K → Ordering} {keeps : V → V → Type 0
         subst (BeginsWith cmp y) is (rw s (joined-begins cmp y y q w g (tied_itself o y)));
   }
 
-  -- what goes of a map, goes of one that it keeps, with each key with which the same goes
-  pub removed-as : ((u v w : V) → keeps u v → keeps v w → keeps u w) → {e : Extent} {p j key : List K}
-      {f g : List K → Option V} {d u : Tree K V} → IsEqualMap keeps f g → ((k : List K) → goes cmp e key k ≡ goes cmp e j k)
+  -- what goes of a map with a key, goes of one that it keeps, with an equal key
+  pub removed-as : IsTotalOrder cmp → ((u v w : V) → keeps u v → keeps v w → keeps u w) → {e : Extent} {p j key : List K}
+      {f g : List K → Option V} {d u : Tree K V} → IsEqualMap keeps f g → same_key cmp j key ≡ true
       → Removed cmp keeps e p g j d u → Removed cmp keeps e p f key d u
-  removed-as trans {f = f} {g = g} m s h = record {
+  removed-as o trans {j = j} {key = key} {f = f} {g = g} m s h = record {
     divided = record {
       whole = h.divided.whole;
-      parted = λ k. grind (arith, s k, m k, h.divided.parted k, kept-trans keeps trans (f k) (g k));
+      parted = λ k. grind (arith, behind-same cmp o j key k s, m k, h.divided.parted k, kept-trans keeps trans (f k) (g k));
       child = h.divided.child;
     };
     child = h.child;
@@ -155,41 +155,43 @@ module _ {K V : Type 0} {cmp : K → K → Ordering} {keeps : V → V → Type 0
 
 -- what is asked of children holds of those that are alike
 pub alike-asked : {K V : Type 0} {cmp : K → K → Ordering} (keeps : V → V → Type 0) → ((v : V) → keeps v v)
-    → {f g : Forest K V} → IsAlikeIn keeps f g → {e : Extent} {rest : List K} {i : ℕ} (v : Option V) → LeadsTo cmp f rest i
-    → Meets cmp e rest (lookup_in cmp f) → AreChildren cmp f → IsSolid v f
-    → LeadsTo cmp g rest i × Meets cmp e rest (lookup_in cmp g) × AreChildren cmp g × IsSolid v g
-    × (forest_nodes f ≡ forest_nodes g)
-alike-asked {cmp = cmp} keeps r {f} {g} a {i = i} v l m k s = (
-  grind (arith, alike-first keeps f g i a),
-  grind (arith, alike-lookup keeps cmp f g a m.met),
-  alike-children keeps cmp f g a k,
-  alike-solid keeps v v f g (kept_itself keeps r v) a s,
-  alike-nodes keeps f g a,
-)
+    → {f g : Forest K V} → IsAlikeIn keeps f g → {e : Extent} {rest : List K} {v : Option V} {i : ℕ}
+    → MeetsAt cmp e rest v f i → MeetsAt cmp e rest v g i
+alike-asked {cmp = cmp} keeps r {f} {g} a {v = v} {i = i} m = record {
+  leads = grind (arith, m.leads, alike-first keeps f g i a);
+  met = grind (arith, m.met, alike-lookup keeps cmp f g a m.met.met);
+  canonical = alike-children keeps cmp f g a m.canonical;
+  solid = alike-solid keeps v v f g (kept_itself keeps r v) a m.solid;
+}
 
 -- ---- the child that the rest leads to
 
-module _ {K V T : Type 0} {cmp : K → K → Ordering} (o : IsTotalOrder cmp) (tree : T → Tree K V) (xs : List T) {rest : List K}
-    {i : ℕ} {c : T} (l : LeadsTo cmp (forest (map tree xs)) rest i) (a : AreChildren cmp (forest (map tree xs)))
+module _ {K V T : Type 0} {cmp : K → K → Ordering} (o : IsTotalOrder cmp) (tree : T → Tree K V) (xs : List T) {e : Extent}
+    {rest : List K} {v : Option V} {i : ℕ} {c : T} (m : MeetsAt cmp e rest v (forest (map tree xs)) i)
     (at : c ≡ get_or xs i c) where
   -- a key that goes begins as the child does
-  begins : (e : Extent) (x : K) (k : List K) → goes cmp e rest (x ∷ k) ≡ true → cmp l.begins.here x ≡ Equal
-  begins e x k g =
+  begins : (x : K) (k : List K) → goes cmp e rest (x ∷ k) ≡ true → cmp m.leads.begins.here x ≡ Equal
+  begins x k g =
+      let l = m.leads in
       o.congr l.begins.here l.first x ((Equal-is (cmp l.begins.here l.first)).0 l.begins.equal)
       ∙ goes-begins cmp e l.first x l.others k (rw l.key_is at g)
 
   -- which is the tree at the place
   there : tree_at (forest (map tree xs)) i ≡ tree c
-  there = at-got tree xs i (begins-below cmp tree xs l.first i l.begins) refl at
+  there = at-got tree xs i (begins-below cmp tree xs m.leads.first i m.leads.begins) refl at
 
   -- and is bound there
-  pub met-child : {e : Extent} → Meets cmp e rest (lookup_in cmp (forest (map tree xs))) → Meets cmp e rest (lookup cmp (tree c))
-  met-child {e} m =
+  pub met-child : Meets cmp e rest (lookup cmp (tree c))
+  met-child =
       let own = λ (x : K) (k : List K) (g : goes cmp e rest (x ∷ k) ≡ true).
-      lookup_in-at cmp tree o xs i c l.begins.here x k a l.begins.at (begins e x k g) in
-      record { met = m.met; goes_with = m.goes_with; bound = grind (arith, m.bound, m.goes_with, own, l.key_is, at) }
+      lookup_in-at cmp tree o xs i c m.leads.begins.here x k m.canonical m.leads.begins.at (begins x k g) in
+      record {
+        met = m.met.met;
+        goes_with = m.met.goes_with;
+        bound = grind (arith, m.met.bound, m.met.goes_with, own, m.leads.key_is, at);
+      }
 
-  module _ {keeps : V → V → Type 0} (r : (v : V) → keeps v v) {e : Extent} {p : List K} (v : Option V) {u : Tree K V} where
+  module _ {keeps : V → V → Type 0} (r : (v : V) → keeps v v) {p : List K} {u : Tree K V} where
     -- where keys of it go, they go of the node
     pub removed-child : {d : Tree K V} (t : Option (Tree K V))
         → ((z : K) (q : List K) → (tree c).prefix ≡ z ∷ q → BeginsWith cmp z t) → IsChild cmp t
@@ -198,11 +200,11 @@ module _ {K V T : Type 0} {cmp : K → K → Ordering} (o : IsTotalOrder cmp) (t
         → Removed cmp keeps e p (lookup cmp (node p v (forest (map tree xs)))) (p ++ rest) d u
     removed-child {d} t b k h is =
         let new =
-        replaced cmp keeps o r (goes cmp e rest) (lookup cmp (node h.whole d.value d.children)) l.begins.here (begins e)
-        (forest (map tree xs)) i t l.begins.at a k (rw there b) (rw there h.parted) in
+        replaced cmp keeps o r (goes cmp e rest) (lookup cmp (node h.whole d.value d.children)) m.leads.begins.here begins
+        (forest (map tree xs)) i t m.leads.begins.at m.canonical k (rw there b) (rw there h.parted) in
         removed-left o v v (forest (map tree xs)) _ (record {
           whole = h.whole;
-          parted = node-parted cmp keeps v new (rw l.key_is (kept-refl keeps r v, (rw l.key_is at (h.parted [])).1));
+          parted = node-parted cmp keeps v new (rw m.leads.key_is (kept-refl keeps r v, (rw m.leads.key_is at (h.parted [])).1));
           child = h.child;
         }) new.children is
 
@@ -210,7 +212,7 @@ module _ {K V T : Type 0} {cmp : K → K → Ordering} (o : IsTotalOrder cmp) (t
     pub removed-out : {d : Tree K V} → IsWholly cmp e rest (tree c) → IsOut tree p v xs i d u
         → Removed cmp keeps e p (lookup cmp (node p v (forest (map tree xs)))) (p ++ rest) d u
     removed-out w out =
-        let within = begins-below cmp tree xs l.first i l.begins in
-        let child = at-child cmp (forest (map tree xs)) i (rw trees-length within) a in
+        let within = begins-below cmp tree xs m.leads.first i m.leads.begins in
+        let child = at-child cmp (forest (map tree xs)) i (rw trees-length within) m.canonical in
         rw (← out.at, there) (removed-child None (λ z q b. tt) tt
         (divides-wholly keeps r (tree c) (λ k. None) (λ k. refl) w (rw there at child)) out.is)

@@ -10,21 +10,21 @@ use Rattle.std.specs.Option.{option_and_then}
 use Rattle.std.proofs.lemmas.Bool.{leb-false, leb-true}
 use Rattle.std.specs.Prelude.{IsSome, MatchBool, leb, slice_get, ◌==◌}
 use Rattle.std.specs.declared.cmp.Ordering.{Ordering}
-use Rattle.vc_tree_model.specs.Canonical.{AreChildren, IsCanonical, IsSolid}
+use Rattle.vc_tree_model.specs.Canonical.{IsCanonical, IsSolid}
 use Rattle.vc_tree_model.specs.Child.{IsChild}
 use Rattle.vc_tree_model.specs.Key.{behind}
 use Rattle.vc_tree_model.specs.Map.{lookup, lookup_in}
-use Rattle.vc_tree_model.specs.Tree.{Tree, Forest, bare, forest, forest_nodes, is_bare, node}
+use Rattle.vc_tree_model.specs.Tree.{Tree, Forest, bare, forest, is_bare, node}
 use Rattle.vc_tree_model.specs.Under.{prefixed, under}
 use Rattle.vc_tree_model.proofs.KeyLemmas.{behind-itself, behind-same, same-itself}
 use Rattle.vc_tree_model.proofs.LookupLemmas.{lookup-same, lookup_in-same, tree-bound}
 use Rattle.vc_tree_model.proofs.UnderLemmas.{lookup-prepended}
-use Rattle.vc_tree_nodes.specs.Places.{BeginsAt, IsGapAt, LeadsTo}
+use Rattle.vc_tree_nodes.specs.Places.{BeginsAt, IsGapAt}
 use Rattle.vc_tree_nodes.proofs.Descending.{behind-length}
 use Rattle.vc_tree_nodes.proofs.Finding.{gap-none}
 use Rattle.vc_tree_nodes.proofs.Growing.{not-bare_solid}
 use Rattle.vc_tree_walks.proofs.Scanning.{behind-parts, first-cons}
-use Rattle.vc_tree_removal.specs.Taking.{AreSome, IsDeep, IsFoundUnder, IsWholly, Meets, goes}
+use Rattle.vc_tree_removal.specs.Taking.{AreSome, IsDeep, IsFoundUnder, IsWholly, Meets, MeetsAt, goes}
 use Rattle.vc_tree_removal.specs.declared.removal.Extent.{Extent}
 use Rattle.vc_tree_removal.specs.declared.removal.Extent.TheVariants.{Alone, Below}
 use Rattle.vc_tree_removal.proofs.Going.{goes-begins, rest-taken, rest-within, same-tells}
@@ -62,17 +62,15 @@ module _ {K V : Type 0} {cmp : K → K → Ordering} (o : IsTotalOrder cmp) {e :
   -- the rest leads there, and a key is bound that goes with it
   pub met-leads : IsCanonical cmp t → {p : List K} {v : Option V} {f : Forest K V} → t ≡ node p v f → {rest : List K} {y : K}
       {i : ℕ} → behind cmp t.prefix key ≡ Some rest → slice_get rest 0 ≡ Some y → BeginsAt cmp t.children y i
-      → LeadsTo cmp f rest i × Meets cmp e rest (lookup_in cmp f) × AreChildren cmp f × IsSolid v f
-      × (forest_nodes f ≡ forest_nodes t.children)
+      → MeetsAt cmp e rest v f i
   met-leads c is {rest} {y} b first begins =
       let begun = first-cons rest y first in
-      rw (ap (λ t. t.value) (sym is), ap (λ t. t.children) (sym is)) (
-        record { first = y; others = drop 1 rest; key_is = begun; begins = begins },
-        rw begun (met-rest (b ∙ ap Some begun)),
-        c.1,
-        met-solid c,
-        refl,
-      )
+      rw (ap (λ t. t.value) (sym is), ap (λ t. t.children) (sym is)) (record {
+        leads = record { first = y; others = drop 1 rest; key_is = begun; begins = begins };
+        met = rw begun (met-rest (b ∙ ap Some begun));
+        canonical = c.1;
+        solid = met-solid c;
+      })
 
 module _ {K V : Type 0} {cmp : K → K → Ordering} (o : IsTotalOrder cmp) {key : List K} (t : Tree K V)
     (m : Meets cmp Alone key (lookup cmp t)) where

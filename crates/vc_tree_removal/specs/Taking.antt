@@ -7,10 +7,12 @@ use Rattle.vc_tree_model.specs.Child.{Begins, IsChild, solid_child}
 use Rattle.vc_tree_model.specs.Key.{behind}
 use Rattle.vc_tree_model.specs.Value.{IsKept}
 use Rattle.vc_tree_model.specs.Tree.{Tree, Forest, bare, grow, no_tree, node}
-use Rattle.vc_tree_model.specs.Map.{lookup}
+use Rattle.vc_tree_model.specs.Canonical.{AreChildren, IsSolid}
+use Rattle.vc_tree_model.specs.Map.{lookup, lookup_in}
 use Rattle.vc_tree_model.specs.Same.{IsAlikeIn}
 use Rattle.vc_tree_model.specs.Under.{under}
 use Rattle.vc_tree_nodes.specs.Children.{seen}
+use Rattle.vc_tree_nodes.specs.Places.{LeadsTo}
 use Rattle.vc_tree_removal.specs.declared.removal.Extent.{Extent}
 use Rattle.vc_tree_removal.specs.declared.removal.Extent.TheVariants.{Alone, Below}
 
@@ -91,6 +93,14 @@ module _ {K V : Type 0} where
     pub some : AreSome t.children
     pub begins : IsSome (behind cmp t.prefix key)
     pub ends : behind cmp t.prefix key ≡ Some [] → extent ≡ Alone
+
+  -- some key that goes with the rest is bound below canonical children of a node that is solid, in the tree at place i
+  pub record MeetsAt (cmp : K → K → Ordering) (extent : Extent) (rest : List K) (v : Option V) (f : Forest K V) (i : ℕ)
+      : Type 0 where
+    pub leads : LeadsTo cmp f rest i
+    pub met : Meets cmp extent rest (lookup_in cmp f)
+    pub canonical : AreChildren cmp f
+    pub solid : IsSolid v f
 
   -- of a node with this prefix, which binds what f does, d is what goes with the key, and u is what is left, which can stand
   -- where the node stood

@@ -6,14 +6,13 @@ ghost use Rattle.vc_tree_model.specs.Child.{IsChild};
 ghost use Rattle.vc_tree_model.specs.Key.{behind};
 ghost use Rattle.vc_tree_model.specs.Tree.{bare, no_tree, node};
 ghost use Rattle.vc_tree_model.specs.Value.{IsKept};
-ghost use Rattle.vc_tree_model.specs.Map.{HaveEqualMaps, lookup, lookup_in};
+ghost use Rattle.vc_tree_model.specs.Map.{HaveEqualMaps, lookup};
 ghost use Rattle.vc_tree_model.specs.Canonical.{AreChildren, IsCanonical, IsSolid};
 ghost use Rattle.vc_tree_model.specs.Same.{IsAlike, IsAlikeIn};
 ghost use Rattle.vc_tree_nodes.specs.Children.{seen};
-ghost use Rattle.vc_tree_nodes.specs.Places.{LeadsTo};
 ghost use Rattle.vc_tree_removal.specs.Without.{IsWithout};
-ghost use Rattle.vc_tree_removal.specs.Taking.{AreSome, IsDeep, IsWholly, Meets, Divides, Removed};
-ghost use Rattle.vc_tree_removal.specs.Taking.{IsBare, IsLone, IsOut, instead};
+ghost use Rattle.vc_tree_removal.specs.Taking.{AreSome, IsDeep, IsWholly, Meets, MeetsAt};
+ghost use Rattle.vc_tree_removal.specs.Taking.{Divides, IsBare, IsLone, IsOut, Removed, instead};
 ghost use Rattle.vc_tree_removal.specs.declared.removal.Extent.TheVariants.{Alone};
 
 use std::alloc::{AllocError, Global};
@@ -45,6 +44,7 @@ pub(crate) enum Extent {
 ///
 /// Compares each component of the key at most once, but for two halving searches among the children
 /// of each node on the way.
+#[tactic(auto, using(crate::proofs::Going::refused))]
 pub fn remove<K: TKey, V: TValue, T: Build<K, V>>(
     tree: &mut T,
     key: &[K],
@@ -180,11 +180,8 @@ fn remove_in<K: TKey, V: TValue, T: Build<K, V>>(
     rest: &[K],
     extent: Extent,
 ) -> Result<(T, Option<T>), AllocError>
-    requires leads { LeadsTo K.cmp (seen T.tree (T.Children.items children.old)) rest.now i }
-    requires met { Meets K.cmp extent rest.now
-        (lookup_in K.cmp (seen T.tree (T.Children.items children.old))) }
-    requires canonical { AreChildren K.cmp (seen T.tree (T.Children.items children.old)) }
-    requires solid { IsSolid own.now (seen T.tree (T.Children.items children.old)) }
+    requires { MeetsAt K.cmp extent rest.now own.now
+        (seen T.tree (T.Children.items children.old)) i }
     ensures ok { let front = T.Prefix.items front.now in IfOk result (λ done.
         Removed K.cmp T.keeps extent front
         (lookup K.cmp (node front own.now (seen T.tree (T.Children.items children.old))))
@@ -209,10 +206,7 @@ fn remove_at<K: TKey, V: TValue, T: Build<K, V>>(
     extent: Extent,
 ) -> Result<(T, Option<T>), AllocError>
     requires within { i < vec_len list.old }
-    requires leads { LeadsTo K.cmp (seen T.tree list.old.items) rest.now i }
-    requires met { Meets K.cmp extent rest.now (lookup_in K.cmp (seen T.tree list.old.items)) }
-    requires canonical { AreChildren K.cmp (seen T.tree list.old.items) }
-    requires solid { IsSolid own.now (seen T.tree list.old.items) }
+    requires met { MeetsAt K.cmp extent rest.now own.now (seen T.tree list.old.items) i }
     ensures ok { let front = T.Prefix.items front.now in IfOk result (λ done.
         Removed K.cmp T.keeps extent front
         (lookup K.cmp (node front own.now (seen T.tree list.old.items))) (front ++ rest.now)

@@ -25,6 +25,7 @@ use vc_tree_walks::scan::find_under;
 ///
 /// Compares each component of the prefix at most once, but for two halving searches among the
 /// children of each node on the way.
+#[tactic(auto, using(crate::proofs::Going::refused))]
 pub fn remove_below<K: TKey, V: TValue, T: Build<K, V>>(
     tree: &mut T,
     prefix: &[K],
@@ -62,6 +63,7 @@ pub fn remove_below<K: TKey, V: TValue, T: Build<K, V>>(
 ///
 /// Compares each component of the prefix at most once, but for two halving searches among the
 /// children of each node on the way.
+#[tactic(auto, using(crate::proofs::Going::refused))]
 pub fn split_below<K: TKey, V: TValue, T: Build<K, V>>(
     tree: &mut T,
     prefix: &[K],

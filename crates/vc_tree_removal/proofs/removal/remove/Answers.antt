@@ -1,11 +1,9 @@
 -- A key that is not bound leaves the tree as it is, and any other goes.
-use Rattle.std.proofs.Common.{arith, rules, sym, ◌∙◌}
+use Rattle.std.proofs.Common.{arith, sym, ◌∙◌}
 use Rattle.vc_tree_model.specs.Map.{lookup}
-use Rattle.vc_tree_model.proofs.AlikeLemmas.{tree-alike_lookup}
 use Rattle.vc_tree_model.proofs.KeyLemmas.{same-itself}
 use Rattle.vc_tree_model.proofs.LookupLemmas.{lookup-same}
 use Rattle.vc_tree_model.proofs.ValueLemmas.{kept-refl}
-use Rattle.vc_tree_nodes.proofs.Events.{always-err}
 use Rattle.vc_tree_removal.proofs.Going.{same-tells}
 use Rattle.vc_tree_removal.proofs.Parting.{divides-value, divides-without}
 use Rattle.vc_tree_removal.proofs.removal.remove.Goals as goal
@@ -25,9 +23,6 @@ remove_met-requires g c = record {
       sym (same-tells g.K.Ord.cmp c.args.key.now c.args.key.now) ∙ same-itself g.K.Ord.cmp g.met.K.Ord.total c.args.key.now;
   bound = sym c.contains_key.ensures ∙ c.if-not-contains_key.false;
 }
-
-pub returns-in_err-taken-clause-err : goal.returns-in_err-taken-clause-err
-returns-in_err-taken-clause-err g c = search (rules, always-err, tree-alike_lookup)
 
 pub returns-clause-old : goal.returns-clause-old
 returns-clause-old g c =
