@@ -124,8 +124,7 @@ module _ {K V : Type 0} {cmp : K → K → Ordering} {keeps : V → V → Type 0
       child = h.child;
     };
     child = subst (IsChild cmp) is (joined-child cmp p w g a);
-    begins = λ y q s.
-        subst (BeginsWith cmp y) is (rw s (joined-begins cmp y y q w g (tied_itself o y)));
+    begins = λ y q s. subst (BeginsWith cmp y) is (rw s (joined-begins cmp y y q w g (tied_itself o y)));
   }
 
   -- what goes of a map with a key, goes of one that it keeps, with an equal key

@@ -14,7 +14,7 @@ use Rattle.vc_tree_model.specs.Canonical.{IsCanonical, IsSolid}
 use Rattle.vc_tree_model.specs.Child.{IsChild}
 use Rattle.vc_tree_model.specs.Key.{behind}
 use Rattle.vc_tree_model.specs.Map.{lookup, lookup_in}
-use Rattle.vc_tree_model.specs.Tree.{Tree, Forest, bare, forest, is_bare, node}
+use Rattle.vc_tree_model.specs.Tree.{Tree, Forest, forest, is_bare, node}
 use Rattle.vc_tree_model.specs.Under.{prefixed, under}
 use Rattle.vc_tree_model.proofs.KeyLemmas.{behind-itself, behind-same, same-itself}
 use Rattle.vc_tree_model.proofs.LookupLemmas.{lookup-same, lookup_in-same, tree-bound}
@@ -84,13 +84,11 @@ module _ {K V : Type 0} {cmp : K → K → Ordering} (o : IsTotalOrder cmp) {key
   pub met-value : behind cmp t.prefix key ≡ Some [] → IsSome t.value
   met-value b = grind (arith, alone-bound)
 
-  -- of a tree without children it is all
-  alone-wholly : t.children ≡ bare → IsWholly cmp Alone key t
-  alone-wholly c k n = grind (arith, alone-bound, behind-same cmp o t.prefix key k, same-tells cmp t.prefix key)
-
+  -- it is all of a tree without children, and may not be of one with some
   pub alone-tells : {T : Type 0} (tree : T → Tree K V) (xs : List T) (b : Bool) → b ≡ (length xs == 0)
       → forest (map tree xs) ≡ t.children → MatchBool b (IsWholly cmp Alone key t) (IsDeep cmp Alone key t)
-  alone-tells tree [] b l c = rw l (alone-wholly (sym c))
+  alone-tells tree [] b l c =
+      rw l (λ k n. grind (arith, c, alone-bound, behind-same cmp o t.prefix key k, same-tells cmp t.prefix key))
   alone-tells tree (x ∷ xs) b l c =
       let n : b ≡ false = grind arith in
       rw n (record { some = subst AreSome c tt; begins = grind (arith, alone-bound); ends = λ b. refl })

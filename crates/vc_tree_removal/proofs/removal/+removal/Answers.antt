@@ -18,8 +18,7 @@ use Rattle.vc_tree_removal.proofs.removal.+removal.Goals as goal
 pub remove_from-take_value-requires-clause-bound : goal.remove_from-take_value-requires-clause-bound
 remove_from-take_value-requires-clause-bound g t c =
     let ended = c.rest_of-rest.ensures ∙ ap Some (no-first c.rest_of-rest.result.now (sym c.in_default.ensures.value)) in
-    met-value g.met.K.Ord.total (g.T.RadixNode.tree c.args.tree.now)
-    (rw (c.requires.deep.ends ended) at c.requires.met) ended
+    met-value g.met.K.Ord.total (g.T.RadixNode.tree c.args.tree.now) (rw (c.requires.deep.ends ended) at c.requires.met) ended
 
 pub remove_from-returns-in_default-clause-ok : goal.remove_from-returns-in_default-clause-ok
 remove_from-returns-in_default-clause-ok g t c =

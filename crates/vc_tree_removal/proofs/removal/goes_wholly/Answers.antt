@@ -6,12 +6,10 @@ use Rattle.vc_tree_removal.proofs.removal.goes_wholly.Goals as goal
 
 pub returns-in-Alone : goal.returns-in-Alone
 returns-in-Alone g c =
-    let met = rw c.in-Alone.is at c.requires in
-    rw c.in-Alone.is (alone-tells g.met.K.Ord.total (g.T.RadixNode.tree c.args.tree.now) met g.T.RadixNode.tree
-    c.children.result.now _ c.is_empty.ensures c.children.ensures)
+    rw c.in-Alone.is (alone-tells g.met.K.Ord.total (g.T.RadixNode.tree c.args.tree.now) (rw c.in-Alone.is at c.requires)
+    g.T.RadixNode.tree c.children.result.now _ c.is_empty.ensures c.children.ensures)
 
 pub returns-in-Below : goal.returns-in-Below
 returns-in-Below g c =
-    let met = rw c.in-Below.is at c.requires in
-    rw c.in-Below.is (below-tells g.met.K.Ord.total (g.T.RadixNode.tree c.args.tree.now) met _
+    rw c.in-Below.is (below-tells g.met.K.Ord.total (g.T.RadixNode.tree c.args.tree.now) (rw c.in-Below.is at c.requires) _
     (ap (λ p. leb (length c.args.key.now) (length p)) c.prefix.ensures.value))

@@ -1,4 +1,4 @@
--- A refusal leaves the nodes, and so what they bind.
+-- What begins with the prefix goes, by what is left of each key behind it.
 use Rattle.vc_tree_model.specs.Key.{behind}
 use Rattle.vc_tree_removal.proofs.Going.{begins-tells}
 use Rattle.vc_tree_removal.proofs.Parting.{divides-without}
