@@ -156,12 +156,10 @@ module _ {K V : Type 0} {cmp : K → K → Ordering} {keeps : V → V → Type 0
 pub alike-asked : {K V : Type 0} {cmp : K → K → Ordering} (keeps : V → V → Type 0) → ((v : V) → keeps v v)
     → {f g : Forest K V} → IsAlikeIn keeps f g → {e : Extent} {rest : List K} {v : Option V} {i : ℕ}
     → MeetsAt cmp e rest v f i → MeetsAt cmp e rest v g i
-alike-asked {cmp = cmp} keeps r {f} {g} a {v = v} {i = i} m = record {
-  leads = grind (arith, m.leads, alike-first keeps f g i a);
-  met = grind (arith, m.met, alike-lookup keeps cmp f g a m.met.met);
-  canonical = alike-children keeps cmp f g a m.canonical;
-  solid = alike-solid keeps v v f g (kept_itself keeps r v) a m.solid;
-}
+alike-asked {cmp = cmp} keeps r {f} {g} a {v = v} {i = i} m =
+    let solid = alike-solid keeps v v f g (kept_itself keeps r v) a m.solid in
+    let canonical = alike-children keeps cmp f g a m.canonical in
+    grind (arith, m.leads, alike-first keeps f g i a, m.met, alike-lookup keeps cmp f g a m.met.met)
 
 -- ---- the child that the rest leads to
 
@@ -184,11 +182,7 @@ module _ {K V T : Type 0} {cmp : K → K → Ordering} (o : IsTotalOrder cmp) (t
   met-child =
       let own = λ (x : K) (k : List K) (g : goes cmp e rest (x ∷ k) ≡ true).
       lookup_in-at cmp tree o xs i c m.leads.begins.here x k m.canonical m.leads.begins.at (begins x k g) in
-      record {
-        met = m.met.met;
-        goes_with = m.met.goes_with;
-        bound = grind (arith, m.met.bound, m.met.goes_with, own, m.leads.key_is, at);
-      }
+      grind (arith, m.met, own, m.leads.key_is, at)
 
   module _ {keeps : V → V → Type 0} (r : (v : V) → keeps v v) {p : List K} {u : Tree K V} where
     -- where keys of it go, they go of the node

@@ -65,12 +65,9 @@ module _ {K V : Type 0} {cmp : K → K → Ordering} (o : IsTotalOrder cmp) {e :
       → MeetsAt cmp e rest v f i
   met-leads c is {rest} {y} b first begins =
       let begun = first-cons rest y first in
-      rw (ap (λ t. t.value) (sym is), ap (λ t. t.children) (sym is)) (record {
-        leads = record { first = y; others = drop 1 rest; key_is = begun; begins = begins };
-        met = rw begun (met-rest (b ∙ ap Some begun));
-        canonical = c.1;
-        solid = met-solid c;
-      })
+      let below = met-rest (b ∙ ap Some begun) in
+      let solid = met-solid c in
+      grind (arith, c.1, is, begins)
 
 module _ {K V : Type 0} {cmp : K → K → Ordering} (o : IsTotalOrder cmp) {key : List K} (t : Tree K V)
     (m : Meets cmp Alone key (lookup cmp t)) where
@@ -123,7 +120,7 @@ module _ {K V : Type 0} {cmp : K → K → Ordering} (o : IsTotalOrder cmp) {key
 -- of a key that begins with another something goes where something is bound
 under-meets : {K V : Type 0} (cmp : K → K → Ordering) (f : List K → Option V) (key k : List K) → IsSome (under cmp f key k)
     → Meets cmp Below key f
-under-meets cmp f key k s = record { met = k; goes_with = grind arith; bound = grind arith }
+under-meets cmp f key k s = grind arith
 
 -- a node that is not the empty tree, and binds what is bound of the keys that begin with one, is found under that
 pub found-under : {K V : Type 0} (cmp : K → K → Ordering) → IsTotalOrder cmp → (f : List K → Option V) (key front : List K)

@@ -101,7 +101,7 @@ remove_at-remove_from-requires g t c κs inside =
     let met =
     met-child g.met.K.Ord.total _ _ c.requires.met c.index_mut.ensures.value in
     let fewer = child-nodes g.K.Ord.cmp g.T.RadixNode.tree c.args.list.now.items c.args.i c.index_mut.result.now
-    (omega (arith, c.requires.within, c.args.list.now.ok.0)) in
+    (omega arith) in
     search rules
 
 pub remove_at-returns-in_err-taken-clause-err : goal.remove_at-returns-in_err-taken-clause-err

@@ -1,5 +1,5 @@
 -- The tree that is taken out is a child.
-use Rattle.std.proofs.Common.{◌≡◌, refl}
+use Rattle.std.proofs.Common.{arith}
 use Rattle.vc_tree_nodes.proofs.Finding.{trees-length}
 use Rattle.vc_tree_removal.proofs.Putting.{at-child, at-got}
 use Rattle.vc_tree_removal.proofs.removal.lone.Goals as goal
@@ -17,8 +17,4 @@ returns-clause-ok g c =
     let items = c.args.list.now.items in
     let at = at-got tree items c.args.i c.requires.within c.args.list.now.ok.0 c.remove.ensures.value in
     let read = at-got tree items c.args.i c.requires.within c.args.list.now.ok.0 c.index.ensures in
-    let same : tree c.index.result.now ≡ tree c.remove.result = cc in
-    record {
-      is = rw (c.with_prefix.ensures, c.in_ok-joined.ensures, c.as_slice.ensures, c.prefix.ensures.value, same, at) refl;
-      others = c.remove.ensures.items;
-    }
+    grind (arith, at, read, c.with_prefix.ensures, c.in_ok-joined.ensures, c.as_slice.ensures, c.prefix.ensures.value)

@@ -17,12 +17,9 @@ returns-then-not-contains_key-clause-ok g c =
     }
 
 pub remove_met-requires : goal.remove_met-requires
-remove_met-requires g c = record {
-  met = c.args.key.now;
-  goes_with =
-      sym (same-tells g.K.Ord.cmp c.args.key.now c.args.key.now) ∙ same-itself g.K.Ord.cmp g.met.K.Ord.total c.args.key.now;
-  bound = sym c.contains_key.ensures ∙ c.if-not-contains_key.false;
-}
+remove_met-requires g c =
+    let key = c.args.key.now in
+    grind (arith, same-tells g.K.Ord.cmp key key, same-itself g.K.Ord.cmp g.met.K.Ord.total key, c.contains_key.ensures)
 
 pub returns-clause-old : goal.returns-clause-old
 returns-clause-old g c =

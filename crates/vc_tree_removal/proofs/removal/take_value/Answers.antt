@@ -1,5 +1,5 @@
 -- A lone child stands in the place of the node; any other node loses its value alone.
-use Rattle.std.proofs.Common.{ap, length, sym, ◌∙◌}
+use Rattle.std.proofs.Common.{ap, length, ◌∙◌}
 use Rattle.vc_tree_model.specs.Snapshot.{kept_itself}
 use Rattle.vc_tree_model.specs.Tree.{trees}
 use Rattle.vc_tree_model.proofs.AlikeLemmas.{alike-canonical}
@@ -10,7 +10,7 @@ use Rattle.vc_tree_removal.proofs.removal.take_value.Goals as goal
 pub bare_of-requires-clause-many : goal.bare_of-requires-clause-many
 bare_of-requires-clause-many g c =
     let same = c.children-many.ensures ∙ ap (λ t. t.children) c.opened-prefix.ensures.is in
-    sym (trees-length g.T.RadixNode.tree _) ∙ ap (λ f. length (trees f)) same ∙ trees-length g.T.RadixNode.tree _
+    rw (trees-length, trees-length) at (ap (λ f. length (trees f)) same)
 
 pub closed-requires : goal.closed-requires
 closed-requires g c =
