@@ -3,10 +3,14 @@ use Rattle.std.proofs.Common.{rules, ◌++◌, ◌∙◌, ap}
 use Rattle.vc_tree_model.specs.Key.{behind}
 use Rattle.vc_tree_model.specs.Snapshot.{tree_alike_refl}
 use Rattle.vc_tree_model.specs.Tree.{node}
+use Rattle.vc_tree_model.proofs.AlikeLemmas.{tree-alike_lookup}
 use Rattle.vc_tree_nodes.proofs.Events.{always-err}
 use Rattle.vc_tree_removal.proofs.Going.{begins-tells}
 use Rattle.vc_tree_removal.proofs.Parting.{divides-joined, divides-without}
 use Rattle.vc_tree_removal.proofs.removal_below.split_below.Goals as goal
+
+pub returns-in_err-joined-clause-err : goal.returns-in_err-joined-clause-err
+returns-in_err-joined-clause-err g c = search (rules, always-err, tree_alike_refl, tree-alike_lookup)
 
 pub returns-in_err-joined-clause-err_nodes : goal.returns-in_err-joined-clause-err_nodes
 returns-in_err-joined-clause-err_nodes g c = search (rules, always-err, tree_alike_refl)
