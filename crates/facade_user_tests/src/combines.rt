@@ -47,7 +47,8 @@ pub fn first_counted<T: AbstractRadixTreeMut<u8, u32>>(
 pub fn least_of_both<T: AbstractRadixTreeMut<u8, u32>>(a: &T, b: &T) -> Result<T, AllocError>
     ensures { IfOk result (λ made. (k : List ℕ)
         → is_some (lookup nat_cmp (T.tree made) k)
-        ≡ (is_some (lookup nat_cmp (T.tree a.now) k) && is_some (lookup nat_cmp (T.tree b.now) k))) }
+        ≡ (is_some (lookup nat_cmp (T.tree a.now) k)
+        && is_some (lookup nat_cmp (T.tree b.now) k))) }
 {
     a.inner_combine(
         b,
@@ -75,7 +76,8 @@ pub fn three_of<T: AbstractRadixTreeMut<u8, u32>>(a: &T, b: &T) -> Result<(T, T,
     ensures union { IfOk result (λ three. IsCombined nat_cmp
         (IsUnionAt (Copies (λ x y. y ≡ x)) (λ x y. y ≡ x)) (T.tree a.now) (T.tree b.now)
         (T.tree three.0)) }
-    ensures intersection { IfOk result (λ three. IsCombined nat_cmp (IsIntersectionAt (Copies (λ x y. y ≡ x)))
+    ensures intersection { IfOk result (λ three. IsCombined nat_cmp
+        (IsIntersectionAt (Copies (λ x y. y ≡ x)))
         (T.tree a.now) (T.tree b.now) (T.tree three.1)) }
     ensures difference { IfOk result (λ three.
         IsCombined nat_cmp (IsDifferenceAt (Copies (λ x y. y ≡ x))) (T.tree a.now) (T.tree b.now)

@@ -415,7 +415,8 @@ type List = SmallVec<u32, 4>;
 
 /// The tags as lists: two that may stand in place, and a `Vec`.
 pub fn lists(a: Tags, b: Tags, c: Tags) -> Result<(List, Vec<u32>, List), AllocError>
-    ensures { IfOk result (λ three. (three.0.items ≡ a) × (three.1.items ≡ b) × (three.2.items ≡ c)) }
+    ensures { IfOk result (λ three. (three.0.items ≡ a) × (three.1.items ≡ b)
+        × (three.2.items ≡ c)) }
 {
     Ok((a.into_inner(), b.into_vec()?, c.into()))
 }

@@ -156,9 +156,9 @@ fn keys_below_a_prefix_are_split_off(rt: HostRuntime) {
     }
 }
 
-/// Splits keys off the tree of the eight keys beside a copy, where each clone of a value is refused,
-/// and where it is not. Whether the first was refused and left both as they were, and the second
-/// left the copy so.
+/// Splits keys off the tree of the eight keys beside a copy, where each clone of a value is
+/// refused, and where it is not. Whether the first was refused and left both as they were, and the
+/// second left the copy so.
 fn is_split_beside_a_copy<'a, T: AbstractRadixTreeMut<u8, Counted<'a>> + Clone>(
     alloc: Global,
     tally: &'a Tally,

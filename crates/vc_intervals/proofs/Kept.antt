@@ -91,9 +91,6 @@ module _ {X : Type 0} (cmp : X → X → Ordering) (total : IsTotalOrder cmp) (f
       let less : cmp x t ≡ Less = total.antisymm x t ∙ ap ordering_reverse (greater (cmp t x) e) in
       ap is_le (total.antisymm z x ∙ ap ordering_reverse (total.trans x t z less h))
 
-  IsAbove : X → Event X X → Type 0
-  IsAbove x e = is_le (cmp (either (place e)) x) ≡ false
-
   at-above : (p q : Bool) (es : List (Event X X)) (x : X) → AllByRecursion (IsMatched (both_sides cmp)) es
       → AllByRecursion (λ e. is_le (cmp (either (place e)) x) ≡ false) es
       → turned cmp (f p q) (kept f p q es) x ≡ f (turned cmp p (lefts es) x) (turned cmp q (rights es) x)

@@ -45,14 +45,3 @@ module _ {X : Type 0} (cmp : X → X → Ordering) (total : IsTotalOrder cmp) wh
   pair-contains s e x l =
       both-or-one (is_le (cmp s x)) (is_le (cmp e x))
       (λ h. le-through s e x (cmp s e) (cmp e x) refl refl (ap is_le l) h)
-
-  -- nothing is in a range whose end is not above its start
-  none-and : (p q : Bool) → (p ≡ true → q ≡ true) → (p && not q) ≡ false
-  none-and true q h = ap not (h refl)
-  none-and false q h = refl
-
-  pub none-contains : (s e x : X) → is_lt (cmp s e) ≡ false → range_contains cmp (Included s) (Excluded e) x ≡ false
-  none-contains s e x l =
-      none-and (is_le (cmp s x)) (is_le (cmp e x))
-      (λ h. le-through e s x (cmp e s) (cmp s x) refl refl
-      (ap is_le (total.antisymm e s) ∙ not_less (cmp s e) l) h)

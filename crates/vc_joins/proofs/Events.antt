@@ -177,8 +177,7 @@ module _ {K : Type 0} {cmp : K → K → Ordering} (total : IsTotalOrder cmp) wh
       unfolding AsksAt IsStrictlySortedBy
       all-asked [] s m = tt
       all-asked (e ∷ es) s m = (
-        asked-here (event_key e) e es
-            (ap is_eq (tied_itself total (event_key e))) s.0 m,
+        asked-here (event_key e) e es (ap is_eq (tied_itself total (event_key e))) s.0 m,
         asked-later e es m.0 es s.0 (all-asked es s.1 m.1),
       )
 

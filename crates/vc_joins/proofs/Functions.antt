@@ -39,8 +39,7 @@ module _ {K V W X : Type 0} (cmp : K → K → Ordering) where
 
   pub joins-of_functions : (May : OuterJoinArg K V W → Option X → Type 0) (Keeps : OuterJoinArg K V W → K → Type 0)
       → JoinsOfFunctions K V W cmp May Keeps
-  joins-of_functions May Keeps kind spelled xs ys zs j h one k =
-      value-entry cmp zs k
+  joins-of_functions May Keeps kind spelled xs ys zs j h one k = value-entry cmp zs k
       ∙ answer-value May Keeps h (asked_at cmp kind spelled xs ys k) (entry_at cmp zs k)
       (λ b r e m. one b r (record { key = k; asks = e }) m) (j.at k)
 

@@ -261,7 +261,8 @@ fn turn_rights<K: Clone + Drop, V: Drop, W, Q: Turn<K, V, W>, A: Allocator + Cop
 )
 where
     (K, V): MadeWith<A>,
-    requires keys { HaveKeys K.is_clone pairs.now (take (length pairs.now) (right_items parts.old)) }
+    requires keys { HaveKeys K.is_clone pairs.now
+        (take (length pairs.now) (right_items parts.old)) }
     requires takes { AllByRecursion (λ p. Q.takes question.now (arg.Right p.0 p.1)) pairs.now }
     ensures name { list_name parts.new ≡ list_name parts.old }
     ensures left { left_items parts.new ≡ left_items parts.old }

@@ -1,5 +1,5 @@
 -- An ordered list that is cut where a range begins and where it ends.
---     cut-found, cut-gap, cut-one, cut-none, cut-whole        where a search leads to, and where nothing is sought
+--     cut-found, cut-gap, cut-one        where a search leads to
 --     cuts-filter        what lies between two cuts
 --     range-sought        ends that are sought, as the ends of a range
 use Rattle.std.proofs.Common.{◌≡◌, ℕ, zero, suc, ◌+◌, ◌-◌, ◌<◌, ◌≤◌, min, Bool, true, false, cond, not, ◌&&◌, List}
@@ -21,26 +21,6 @@ use Rattle.vc_merge.proofs.ListLemmas.{each-weaker}
 use Rattle.vc_merge.proofs.PlaceLemmas.{place-equal, place-unequal}
 
 -- ---- where a search leads to
-
-module _ {X : Type 0} where
-  none-fail : (xs : List X) → AllByRecursion (λ (y : X). true ≡ false) (drop (length xs) xs)
-  none-fail [] = tt
-  none-fail (x ∷ xs) = none-fail xs
-
-  all-pass : (xs : List X) → AllByRecursion (λ (y : X). true ≡ true) (take (length xs) xs)
-  all-pass [] = tt
-  all-pass (x ∷ xs) = (refl, all-pass xs)
-
-  all-fail : (xs : List X) → AllByRecursion (λ (y : X). false ≡ false) xs
-  all-fail [] = tt
-  all-fail (x ∷ xs) = (refl, all-fail xs)
-
-  -- a test that none passes, and one that all pass
-  pub cut-none : (xs : List X) → IsCut (λ (y : X). false) xs 0
-  cut-none xs = record { within = omega arith; pass = tt; fail = all-fail xs }
-
-  pub cut-whole : (xs : List X) → IsCut (λ (y : X). true) xs (length xs)
-  cut-whole xs = record { within = omega arith; pass = all-pass xs; fail = none-fail xs }
 
 module _ {X : Type 0} (side : X → Ordering) where
   passes-less : (b : Bool) (y : X) → side y ≡ Less → passes b (side y) ≡ true

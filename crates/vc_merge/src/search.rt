@@ -300,7 +300,8 @@ fn halve_to<X, C: Count, S: Sought<X, C>>(
 ) -> Part
     requires ordered { IsOrdered (S.side sought.now) list.now }
     requires searched { IsSearched (S.side sought.now) list.now part.start part.len part.found }
-    ensures searched { IsSearched (S.side sought.now) list.now result.start result.len result.found }
+    ensures searched { IsSearched (S.side sought.now) list.now result.start result.len
+        result.found }
     ensures shorter { part.len < 16 * least → result.len < least }
     ensures counted { C.counted steps.new + digits result.len
         ≤ C.counted steps.old + digits part.len }
@@ -321,7 +322,8 @@ fn halve_four_times<X, C: Count, S: Sought<X, C>>(
 ) -> Part
     requires ordered { IsOrdered (S.side sought.now) list.now }
     requires searched { IsSearched (S.side sought.now) list.now part.start part.len part.found }
-    ensures searched { IsSearched (S.side sought.now) list.now result.start result.len result.found }
+    ensures searched { IsSearched (S.side sought.now) list.now result.start result.len
+        result.found }
     ensures shorter { result.len ≡ part.len / 16 }
     ensures counted { C.counted steps.new + digits result.len
         ≤ C.counted steps.old + digits part.len }
@@ -337,7 +339,8 @@ fn halve_four_times<X, C: Count, S: Sought<X, C>>(
 fn halve<X, C: Count, S: Sought<X, C>>(list: &[X], part: Part, sought: &S, steps: &mut C) -> Part
     requires ordered { IsOrdered (S.side sought.now) list.now }
     requires searched { IsSearched (S.side sought.now) list.now part.start part.len part.found }
-    ensures searched { IsSearched (S.side sought.now) list.now result.start result.len result.found }
+    ensures searched { IsSearched (S.side sought.now) list.now result.start result.len
+        result.found }
     ensures shorter { result.len ≡ part.len / 2 }
     ensures counted { C.counted steps.new + digits result.len
         ≤ C.counted steps.old + digits part.len }

@@ -71,7 +71,8 @@ impl<K: TKey + MadeWith<Global>> PathFilter<K> {
     ///
     /// Fails only where memory is refused; each path then has the rule that it had.
     pub fn deny(&mut self, path: &[K]) -> Result<(), AllocError>
-        ensures ok { OnOk result (IsInserted K.cmp (λ v w. v ≡ w) path.now false self.old self.new) }
+        ensures ok { OnOk result
+            (IsInserted K.cmp (λ v w. v ≡ w) path.now false self.old self.new) }
         ensures denied { OnOk result (is_allowed K.cmp self.new path.now ≡ false) }
         ensures err { OnErr result (HaveEqualMaps K.cmp (λ v w. v ≡ w) self.old self.new) }
         ensures canonical { IsCanonical K.cmp self.new }

@@ -172,7 +172,8 @@ fn begin<
 ) -> Result<Begun<'a, 'b, A, B, O::Made>, AllocError>
     requires left { i ≤ length (A.tree a.now).prefix }
     requires right { j ≤ length (B.tree b.now).prefix }
-    requires known { Agree K.cmp (drop i (A.tree a.now).prefix) (drop j (B.tree b.now).prefix) known }
+    requires known { Agree K.cmp (drop i (A.tree a.now).prefix)
+        (drop j (B.tree b.now).prefix) known }
     ensures begun { IfOk result (λ s. IsBegun K.cmp A.tree B.tree (shortened i (A.tree a.now))
         (shortened j (B.tree b.now)) s.front (trees_below s.left) s.left.from (trees_below s.right)
         s.right.from (map O.Made.tree s.kids.items) (C.counted steps.old) (C.counted steps.new)) }
@@ -212,7 +213,8 @@ pub fn combine_at<
 ) -> Result<Option<O::Made>, AllocError>
     requires left { i ≤ length (A.tree a.now).prefix }
     requires right { j ≤ length (B.tree b.now).prefix }
-    requires known { Agree K.cmp (drop i (A.tree a.now).prefix) (drop j (B.tree b.now).prefix) known }
+    requires known { Agree K.cmp (drop i (A.tree a.now).prefix)
+        (drop j (B.tree b.now).prefix) known }
     requires asks { (k : List K) → O.asks op.now (lookup K.cmp (shortened i (A.tree a.now)) k)
         (lookup K.cmp (shortened j (B.tree b.now)) k) }
     ensures made { IfOk result (λ made. IsBothMade K.cmp (O.says op.now)

@@ -197,7 +197,8 @@ fn keys_meet<K: TKey, V: TValue, W: TValue, A: RadixNode<K, V>, B: RadixNode<K, 
 ) -> bool
     requires left { i ≤ length (A.tree a.now).prefix }
     requires right { j ≤ length (B.tree b.now).prefix }
-    requires known { Agree K.cmp (drop i (A.tree a.now).prefix) (drop j (B.tree b.now).prefix) known }
+    requires known { Agree K.cmp (drop i (A.tree a.now).prefix)
+        (drop j (B.tree b.now).prefix) known }
     ensures { TellsKeys K.cmp shared (shortened i (A.tree a.now)) (shortened j (B.tree b.now))
         result }
 {

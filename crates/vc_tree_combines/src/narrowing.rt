@@ -90,8 +90,8 @@ pub fn narrow_at<
 ) -> Result<Option<O::Made>, AllocError>
     requires left { i ≤ length (A.tree a.now).prefix }
     requires right { j ≤ length (B.tree b.now).prefix }
-    requires known { Agree K.cmp (drop i (A.tree a.now).prefix) (drop j (B.tree b.now).prefix)
-        known }
+    requires known { Agree K.cmp (drop i (A.tree a.now).prefix)
+        (drop j (B.tree b.now).prefix) known }
     requires asks { (k : List K) → O.asks op.now (lookup K.cmp (shortened i (A.tree a.now)) k)
         (lookup K.cmp (shortened j (B.tree b.now)) k) }
     ensures { IfOk result (λ made. IsNarrowed K.cmp i (A.tree a.now) (O.says op.now)

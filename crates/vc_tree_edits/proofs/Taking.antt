@@ -30,9 +30,6 @@ module _ {K V T : Type 0} (tree : T → Tree K V) (keeps : V → V → Type 0) (
   length-of : length (drop i (tree x).prefix) ≡ length whole - i
   length-of = length-drop {A = K} i (tree x).prefix ∙ ap (λ p. length p - i) (sym whole_is)
 
-  length-rest : length (drop n (drop i (tree x).prefix)) ≡ length whole - i - n
-  length-rest = length-drop {A = K} n (drop i (tree x).prefix) ∙ ap (λ k. k - n) length-of
-
   -- where the prefix goes on, the tree itself stands below
   pub taken-rest : i + n < length whole → (zs : List T) → zs ≡ x ∷ []
       → IsTaken tree keeps (shortened i (tree x)) n front None zs (i + n)

@@ -288,7 +288,8 @@ impl<'m, K: TKey, V: TValue, W: TValue, T: Build<K, V>, M: Meet<V, W>> Lessen<K,
         ensures below { (u : Option V) (o : Option W) (z : Option V)
             → IsMetAt T.keeps result.1.left_stays (KeptThen T.keeps (M.may result.1.at.now)) u o z
             → IsMetAt T.keeps self.now.left_stays (KeptThen T.keeps (M.may self.now.at.now)) u o z }
-        ensures asked { (u : Option V) (o : Option W) → CanMeet T.keeps (M.takes self.now.at.now) u o
+        ensures asked { (u : Option V) (o : Option W)
+            → CanMeet T.keeps (M.takes self.now.at.now) u o
             → CanMeet T.keeps (M.takes result.1.at.now) u o }
     {
         let kept = match v {

@@ -212,7 +212,8 @@ fn change_values<
     requires right { j ≤ length (B.tree that.now).prefix }
     requires front { front ≤ length (drop j (B.tree that.now).prefix) }
     requires asks { O.asks op.now value ((O.look K.cmp).at
-        (node_value (shortened j (B.tree that.now)) (drop front (drop j (B.tree that.now).prefix)))) }
+        (node_value (shortened j (B.tree that.now))
+        (drop front (drop j (B.tree that.now).prefix)))) }
     ensures value { let w = node_value (shortened j (B.tree that.now))
         (drop front (drop j (B.tree that.now).prefix)) in
         IfOk result (λ r. O.says op.now value ((O.look K.cmp).at w) r.0) }

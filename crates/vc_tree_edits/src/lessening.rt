@@ -76,7 +76,8 @@ fn change_value<K: TKey, V: TValue, W: TValue, T: Build<K, V>, O: Lessen<K, V, W
     ensures below { (u : Option V) (o : Option W) (z : Option V) → O.says result.1 u o z
         → O.says op.now u ((O.look K.cmp).under (option_copied that.entry) o) z }
     ensures asked { (u : Option V) (o : Option W)
-        → O.asks op.now u ((O.look K.cmp).under (option_copied that.entry) o) → O.asks result.1 u o }
+        → O.asks op.now u ((O.look K.cmp).under (option_copied that.entry) o)
+        → O.asks result.1 u o }
 {
     op.at_values(value, that)
 }
@@ -121,7 +122,8 @@ fn remake<K: TKey, V: TValue, T: Build<K, V>>(
     value: Option<V>,
     kids: Kids<T::Children, T>,
 ) -> Result<Option<T>, AllocError>
-    requires kids { AreKids (is_none value) kids.lone (listed T.Children.items kids.stored) kids.many }
+    requires kids { AreKids (is_none value) kids.lone (listed T.Children.items kids.stored)
+        kids.many }
     requires canonical { AreChildren K.cmp
         (seen T.tree (cons_option kids.lone (listed T.Children.items kids.stored))) }
     ensures { IfOk result (λ made. option_map T.tree made ≡ solid_child (T.Prefix.items prefix)

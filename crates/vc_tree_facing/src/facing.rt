@@ -311,7 +311,8 @@ pub fn face<
 >(a: &'a A, i: usize, b: &'b B, j: usize, known: usize, steps: &mut C) -> Facing<'a, 'b, A, B>
     requires left { i ≤ length (A.tree a.now).prefix }
     requires right { j ≤ length (B.tree b.now).prefix }
-    requires known { Agree K.cmp (drop i (A.tree a.now).prefix) (drop j (B.tree b.now).prefix) known }
+    requires known { Agree K.cmp (drop i (A.tree a.now).prefix)
+        (drop j (B.tree b.now).prefix) known }
     ensures paid { let p = drop i (A.tree a.now).prefix in let q = drop j (B.tree b.now).prefix in
         C.counted steps.new ≤ C.counted steps.old + min (length p) (length q) }
     ensures faced { let t = shortened i (A.tree a.now) in let u = shortened j (B.tree b.now) in

@@ -51,8 +51,8 @@ pub fn remove_below<K: TKey, V: TValue, T: Build<K, V>>(
 /// their own, each key whole; the empty tree where none begins so. The other keys keep their
 /// values.
 ///
-/// The keys stand below one node, which is moved as it is, with a longer prefix: nothing below it is
-/// touched. What stands before the node's own prefix is spelled as in `prefix`.
+/// The keys stand below one node, which is moved as it is, with a longer prefix: nothing below it
+/// is touched. What stands before the node's own prefix is spelled as in `prefix`.
 ///
 /// Where no key begins with it, that is found by a walk down alone: no memory is asked for, and
 /// nothing is copied; nor is it where all keys begin with it. Fails only where memory is refused,

@@ -42,7 +42,8 @@ fn filter<K: TKey, V: TValue, T: AbstractRadixTreeMut<K, V>>(
     prefix: &[K],
 ) -> Result<(), AllocError>
     ensures ok { OnOk result (IsEqualMap (Copies V.is_clone)
-        (under K.cmp (lookup K.cmp (T.tree tree.old)) prefix.now) (lookup K.cmp (T.tree tree.new))) }
+        (under K.cmp (lookup K.cmp (T.tree tree.old)) prefix.now)
+        (lookup K.cmp (T.tree tree.new))) }
     ensures err { OnErr result (T.tree tree.new ≡ T.tree tree.old) }
 {
     *tree = tree.filter_prefix(prefix)?;

@@ -28,7 +28,8 @@ fn read_rule(word: &[u8]) -> Option<(&[u8], bool)>
 
 /// Allows the key, or denies it.
 fn put_rule(filter: &mut KeyFilter, key: &[u8], allowed: bool) -> Result<(), AllocError>
-    ensures { OnOk result (IsInserted nat_cmp (λ v w. v ≡ w) key.now allowed filter.old filter.new) }
+    ensures { OnOk result
+        (IsInserted nat_cmp (λ v w. v ≡ w) key.now allowed filter.old filter.new) }
 {
     if allowed {
         filter.allow(key)

@@ -50,7 +50,8 @@ impl<K: Ord, V: Ord, const N: usize, A: Allocator> Ord for VecMap<K, V, N, A> {
         (then_total (on_total (λ p. p.0) K.total) (on_total (λ p. p.1) V.total)) };
 
     ghost matches_partial_cmp = { lists_agrees
-        (then_agrees (λ p q. K.matches_partial_cmp p.0 q.0) (λ p q. V.matches_partial_cmp p.1 q.1)) };
+        (then_agrees (λ p q. K.matches_partial_cmp p.0 q.0)
+        (λ p q. V.matches_partial_cmp p.1 q.1)) };
 
     ghost matches_eq = { let K' = K.cmp in let V' = V.cmp in
         lists_ties (λ p q. ordering_then (K' p.0 q.0) (V' p.1 q.1))

@@ -218,7 +218,8 @@ impl<
     const M: usize,
     A: Allocator + Copy,
 > BitAndAssign<&'b VecSet<T, M, A>> for VecSet<T, N, A> {
-    ghost bitand_assign_gives = { λ a b c. IsSetOf T.cmp (λ x y. x ≡ y) (λ x y. x ≡ y) ◌&&◌ a b.now c };
+    ghost bitand_assign_gives = { λ a b c. IsSetOf T.cmp (λ x y. x ≡ y) (λ x y. x ≡ y) ◌&&◌
+        a b.now c };
 
     fn bitand_assign(&mut self, that: &'b VecSet<T, M, A>) {
         self.intersection_with(that);
@@ -234,7 +235,8 @@ impl<
     const M: usize,
     A: Allocator + Copy,
 > SubAssign<&'b VecSet<T, M, A>> for VecSet<T, N, A> {
-    ghost sub_assign_gives = { λ a b c. IsSetOf T.cmp (λ x y. x ≡ y) (λ x y. x ≡ y) and_not a b.now c };
+    ghost sub_assign_gives = { λ a b c. IsSetOf T.cmp (λ x y. x ≡ y) (λ x y. x ≡ y) and_not
+        a b.now c };
 
     fn sub_assign(&mut self, that: &'b VecSet<T, M, A>) {
         self.difference_with(that);

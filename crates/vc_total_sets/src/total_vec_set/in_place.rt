@@ -103,7 +103,8 @@ impl<T: Ord + MadeWith<A> + Drop, const N: usize, A: Allocator + Copy> TotalVecS
     /// with its allocator and its room. It can be refused only where this set is negated and the
     /// other one is not; then it leaves this set as it was and drops the other one.
     pub fn sub_assign(&mut self, that: Self) -> Result<(), AllocError>
-        ensures minus { OnOk result (IsTotalOf T.cmp (λ x y. x ≡ y) and_not self.old that self.new) }
+        ensures minus { OnOk result
+            (IsTotalOf T.cmp (λ x y. x ≡ y) and_not self.old that self.new) }
         ensures succeeds { IsFalse (and_not self.old.negated that.negated) → IsOk result }
         ensures err { OnErr result (self.new ≡ self.old) }
     {

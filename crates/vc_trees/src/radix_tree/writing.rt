@@ -133,8 +133,8 @@ pub trait AbstractRadixTreeMut<K: TKey, V: TValue>: CloneTree<K, V> + AbstractRa
         removal_below::remove_below(self, prefix)
     }
 
-    /// Takes out all keys that begin with `prefix`, with their values, and answers them as a tree of
-    /// their own, each key whole; the empty tree where none begins so. The other keys keep their
+    /// Takes out all keys that begin with `prefix`, with their values, and answers them as a tree
+    /// of their own, each key whole; the empty tree where none begins so. The other keys keep their
     /// values. `union_with` of the answer puts the keys back.
     ///
     /// The keys stand below one node, which is moved as it is, with a longer prefix: nothing below
