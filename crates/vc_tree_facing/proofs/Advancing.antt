@@ -11,7 +11,7 @@ use Rattle.std.specs.declared.cmp.Ordering.TheVariants.{Less}
 use Rattle.vc_tree_model.specs.Canonical.{AreChildren}
 use Rattle.vc_tree_model.specs.Look.{Look}
 use Rattle.vc_tree_model.specs.Tree.{Tree, Forest, bare, forest, shortened}
-use Rattle.vc_tree_model.proofs.Places.{IsCombinedIn}
+use Rattle.vc_tree_model.specs.Places.{IsCombinedIn}
 use Rattle.vc_tree_nodes.specs.Places.{first_side}
 use Rattle.vc_tree_facing.specs.Doing.{IsDoing, AreNext}
 use Rattle.vc_tree_facing.specs.Facing.{shortened_in}
@@ -48,8 +48,7 @@ module _ {K V W O A B : Type 0} {cmp : K → K → Ordering} {ta : A → Tree K 
       → IsDoing cmp ta tb i j l R asks xs ys ls (y ∷ rs) made
       → side_next (by_component ta tb i j cmp) (slice_get ls 0) (Some y) ≡ Some Right
       → IsDoing cmp ta tb i j l R asks xs ys ls rs made
-  passed {made = made} d z =
-      done (right-next d z refl) {u = None} (sym (append-nil made))
+  passed {made = made} d z = done (right-next d z refl) {u = None} (sym (append-nil made))
       (record { child = tt; begins = λ y a b. tt; binds = λ k. nothing _ })
 
   -- once no tree of the left side is left, the others are passed, and what was made is canonical children and what is said of

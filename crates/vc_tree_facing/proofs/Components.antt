@@ -10,7 +10,7 @@ use Rattle.vc_tree_model.specs.Tree.{Tree, Forest, forest, grow, node}
 use Rattle.vc_tree_model.specs.Canonical.{AllAbove, AreChildren}
 use Rattle.vc_tree_model.specs.Child.{Begins}
 use Rattle.vc_tree_model.proofs.LookupLemmas.{above-less, above-equal}
-use Rattle.vc_tree_model.proofs.Places.{IsBefore}
+use Rattle.vc_tree_model.specs.Places.{IsBefore}
 use Rattle.vc_tree_nodes.specs.Parting.{Agree}
 
 pub get-drop : {K : Type 0} (i : ℕ) (p : List K) → slice_get (drop i p) 0 ≡ slice_get p i

@@ -12,7 +12,7 @@ use Rattle.vc_tree_model.specs.Look.{Look}
 use Rattle.vc_tree_model.specs.Tree.{Tree, forest, shortened}
 use Rattle.vc_tree_model.proofs.KeyLemmas.{less}
 use Rattle.vc_tree_model.proofs.Leading.{above-one, children-one, first-combined, first-asked}
-use Rattle.vc_tree_model.proofs.Places.{IsBefore}
+use Rattle.vc_tree_model.specs.Places.{IsBefore}
 use Rattle.vc_tree_facing.specs.Doing.{AreFirst, AreMade, IsSaidIn, IsSaidOf}
 use Rattle.vc_tree_facing.specs.Facing.{shortened_in}
 use Rattle.vc_tree_facing.specs.Made.{IsMadeOf}

@@ -16,7 +16,7 @@ use Rattle.std.specs.declared.cmp.Ordering.{Ordering}
 use Rattle.vc_tree_model.specs.Canonical.{AreChildren}
 use Rattle.vc_tree_model.specs.Look.{Look}
 use Rattle.vc_tree_model.specs.Tree.{Tree, forest, forest_nodes, nodes, shortened}
-use Rattle.vc_tree_model.proofs.Places.{IsCombinedIn}
+use Rattle.vc_tree_model.specs.Places.{IsCombinedIn}
 use Rattle.vc_tree_nodes.specs.Parting.{Agree}
 use Rattle.vc_tree_facing.specs.Doing.{AreMade, AreNext, IsSaidIn, IsSaidOf, IsDoing}
 use Rattle.vc_tree_facing.specs.Facing.{shortened_in, ended, GoesOn, IsOpened, Parts}

@@ -9,7 +9,7 @@ use Rattle.vc_tree_model.specs.Child.{bound_by}
 use Rattle.vc_tree_model.specs.Look.{Look}
 use Rattle.vc_tree_model.specs.Map.{lookup_in}
 use Rattle.vc_tree_model.specs.Tree.{Tree, forest, shortened}
-use Rattle.vc_tree_model.proofs.Places.{look, IsCombinedIn, IsBefore}
+use Rattle.vc_tree_model.specs.Places.{look, IsCombinedIn, IsBefore}
 use Rattle.vc_tree_facing.specs.Facing.{shortened_in}
 
 module _ {K V W A B : Type 0} (cmp : K → K → Ordering) (ta : A → Tree K V) (tb : B → Tree K W) (i j : ℕ) where

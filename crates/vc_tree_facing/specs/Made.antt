@@ -4,7 +4,7 @@ use Rattle.std.specs.declared.cmp.Ordering.{Ordering}
 use Rattle.vc_tree_model.specs.Tree.{Tree}
 use Rattle.vc_tree_model.specs.Child.{Begins, BeginsWith, IsChild, bound_by}
 use Rattle.vc_tree_model.specs.Look.{Look, values}
-use Rattle.vc_tree_model.proofs.Places.{look}
+use Rattle.vc_tree_model.specs.Places.{look}
 
 module _ {K : Type 0} (cmp : K → K → Ordering) where
   -- of a tree that one side alone has: a child that begins as the tree did, and R of what is read of the tree and of what the child binds

@@ -1,8 +1,7 @@
 -- Trees made of lists of pairs.
---     collected-more, collected-next        of one more pair
+--     collected-more        of one more pair
 use Rattle.std.proofs.Common.{◌≡◌, [], ◌∷◌, ◌++◌, List, Option, None, Some, Bool, true, false, cond, refl, sym, ap}
-use Rattle.std.proofs.Common.{subst, ◌∙◌, map}
-use Rattle.std.proofs.lemmas.List.{map-append}
+use Rattle.std.proofs.Common.{◌∙◌}
 use Rattle.std.specs.declared.cmp.Ordering.{Ordering}
 use Rattle.vc_tree_model.specs.Key.{same_key}
 use Rattle.vc_tree_model.specs.Value.{IsKept}
@@ -45,12 +44,3 @@ module _ {K V : Type 0} (cmp : K → K → Ordering) where
           → lookup cmp u k ≡ or_else (cond (same_key cmp b.0 k) (Some b.1) None) (last_bound cmp pairs k)
       by true s = rw s (i.at k s)
       by false s = rw s (kept-same (lookup cmp t k) (lookup cmp u k) (i.others k s) ∙ c k)
-
-  -- the same where keys are read off what is handed in
-  pub collected-next : {S : Type 0} (key : S → List K) (pairs : List (S × V)) (b : S × V) (spelled : List K)
-      (t u : Tree K V) → spelled ≡ key b.0 → IsCollected cmp (map (λ b. (key b.0, b.1)) pairs) t
-      → IsInserted cmp (λ v w. v ≡ w) spelled b.1 t u → IsCollected cmp (map (λ b. (key b.0, b.1)) (pairs ++ b ∷ [])) u
-  collected-next key pairs b spelled t u e c i =
-      rw (map-append {B = List K × V} (λ b. (key b.0, b.1)) pairs (b ∷ []))
-      (collected-more (map (λ b. (key b.0, b.1)) pairs) (key b.0, b.1) t u c
-      (subst (λ k. IsInserted cmp (λ v w. v ≡ w) k b.1 t u) e i))

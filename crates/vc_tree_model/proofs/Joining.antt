@@ -18,7 +18,7 @@ use Rattle.vc_tree_model.specs.Canonical.{AreChildren, IsSolid, IsWhole, IsCanon
 use Rattle.vc_tree_model.specs.Child.{BeginsWith, IsChild, bound_by, solid_child, value_at, children_at}
 use Rattle.vc_tree_model.proofs.KeyLemmas.{then_behind, behind-append, behind-same, behind-itself}
 use Rattle.vc_tree_model.specs.Look.{Look, told, values}
-use Rattle.vc_tree_model.proofs.Places.{look}
+use Rattle.vc_tree_model.specs.Places.{look}
 
 module _ {K : Type 0} (cmp : K → K → Ordering) where
   -- ---- how a node is read

@@ -16,7 +16,7 @@ use Rattle.vc_tree_model.specs.Canonical.{AllAbove, AreChildren, IsSolid}
 use Rattle.vc_tree_model.specs.Child.{Begins, BeginsWith, IsChild, bound_by}
 use Rattle.vc_tree_model.proofs.LookupLemmas.{above-equal, above-less}
 use Rattle.vc_tree_model.specs.Look.{Look, told, values}
-use Rattle.vc_tree_model.proofs.Places.{look, IsCombinedIn, IsBefore}
+use Rattle.vc_tree_model.specs.Places.{look, IsCombinedIn, IsBefore}
 
 -- what holds of both cases, holds of the one that a test chooses
 either : {X Y Z : Type 0} (R : X → Y → Z → Type 0) (b : Bool) {x x' : X} {y y' : Y} {z z' : Z} → R x y z → R x' y' z'

@@ -13,7 +13,6 @@ pub mod Shallowness
 pub mod Walking
 pub mod OneWalk
 pub mod Examples
-pub mod Places
 pub mod Leading
 pub mod Joining
 pub mod UnderLemmas

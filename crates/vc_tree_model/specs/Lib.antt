@@ -5,6 +5,7 @@ pub mod Tree
 pub mod TreeCode
 pub mod Map
 pub mod Look
+pub mod Places
 pub mod Binds
 pub mod Pairs
 pub mod Canonical

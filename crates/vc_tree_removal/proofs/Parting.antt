@@ -27,7 +27,7 @@ use Rattle.vc_tree_model.proofs.AlikeLemmas.{alike-children, alike-lookup, alike
 use Rattle.vc_tree_model.proofs.Joining.{joined-begins, joined-child, joined-same}
 use Rattle.vc_tree_model.proofs.KeyLemmas.{behind-append, behind-same}
 use Rattle.vc_tree_model.proofs.LookupLemmas.{lookup-same}
-use Rattle.vc_tree_model.proofs.Places.{look}
+use Rattle.vc_tree_model.specs.Places.{look}
 use Rattle.vc_tree_model.proofs.Uniqueness.{canonical-same}
 use Rattle.vc_tree_model.proofs.ValueLemmas.{kept_by, kept-refl, kept-trans}
 use Rattle.vc_tree_nodes.proofs.Finding.{begins-below, lookup_in-at, trees-length}

@@ -8,6 +8,5 @@ new_node-requires g c =
     ((whole-of g.M.RadixNode.tree c.args.prefix.now c.args.value c.args.kids.items (λ e. grind arith)).1, c.requires)
 
 pub returns : goal.returns
-returns g c =
-    ap Some c.in_ok-new_node.ensures
+returns g c = ap Some c.in_ok-new_node.ensures
     ∙ sym (whole-of g.M.RadixNode.tree c.args.prefix.now c.args.value c.args.kids.items (λ e. search rules)).0
