@@ -7,6 +7,7 @@ ghost use Rattle.std.proofs.Common.{rules, refl};
 
 use std::cell::Cell;
 use std::cmp::Ordering;
+use std::fmt;
 
 /// A number that counts, where it has a counter, how often it is compared.
 #[derive(Clone, Copy)]
@@ -26,12 +27,21 @@ impl Default for Compared<'_> {
     }
 }
 
+impl fmt::Debug for Compared<'_> {
+    fn fmt<W: fmt::Write>(&self, f: &mut fmt::Formatter<W>) -> fmt::Result {
+        self.number.fmt(f)
+    }
+}
+
 impl PartialEq for Compared<'_> {
     ghost eq = { on (λ e. e.number) nat_eq };
 
     ghost laws = { Prim.search (comparing, rules) };
 
     fn eq(&self, other: &Self) -> bool {
+        if let Some(count) = self.count {
+            count.set(count.get().saturating_add(1));
+        }
         self.number == other.number
     }
 }

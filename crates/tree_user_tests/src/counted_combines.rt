@@ -1,11 +1,11 @@
 //! Trees whose components count their own comparisons: a counted combine and a counted look-up
 //! count each, and combines and tests of keys stay within their bound.
 
-use super::compared::Compared;
 use super::lookups::{nested, wide};
 use super::outcomes::holds;
 use super::questions::left as left_value;
 use super::tests::{FORTY, FORTY_ELSE};
+use set_user_tests::compared::Compared;
 use std::alloc::{AllocError, Global};
 use std::cell::Cell;
 use vc_merge::merge::{Count, Steps};

@@ -1,9 +1,9 @@
 //! Filters of paths: the tables of rules, of what the longest one decides, and of what they leave
 //! of a tree; snapshots of rules; and trees whose values refuse to be cloned.
-use super::compared::Compared;
 use super::lookups::{LENGTHS, repeated};
 use super::outcomes::{reads, same};
 use super::walks::{print_pairs, tree_of};
+use set_user_tests::compared::Compared;
 use std::alloc::{AllocError, Global};
 use std::cell::Cell;
 use vc_path_filter::path_filter::PathFilter;

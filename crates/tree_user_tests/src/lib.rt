@@ -19,8 +19,6 @@ mod combines;
 #[cfg(test)]
 mod commands;
 #[cfg(test)]
-mod compared;
-#[cfg(test)]
 mod counted_combines;
 #[cfg(test)]
 mod drops;

@@ -1,9 +1,9 @@
 //! Components that count their own comparisons: a counted look-up counts each of them, and stays
 //! within its bound. And the longest keys that are prefixes of paths.
 use super::Word;
-use super::compared::Compared;
 use super::outcomes::{holds, same};
 use super::walks::tree_of;
+use set_user_tests::compared::Compared;
 use std::alloc::{AllocError, Global};
 use std::cell::Cell;
 use vc_merge::merge::{Count, Steps};

@@ -1,8 +1,8 @@
 //! What no clause says: that calls succeed with ample memory, shapes as worked out, comparisons,
 //! clones and drops of values.
 use super::Word;
-use super::compared::Compared;
 use super::outcomes::{holds, same};
+use set_user_tests::compared::Compared;
 use std::alloc::{AllocError, Global};
 use std::cell::Cell;
 use std::fmt;
