@@ -227,6 +227,7 @@ module _ {K V W : Type 0} {cmp : K → K → Ordering} (total : IsTotalOrder cmp
 -- ---- a left join in place that drops what the other map lacks is an inner one
 
 module _ {K V W : Type 0} (cmp : K → K → Ordering) (May : OuterJoinArg K V W → Option V → Type 0) where
+  -- at one key
   shared-alone : (p : Option (K × V)) (q : Option (K × W)) (z : Option (K × V))
       → IsAnswered (OrDropped May) MovedKey (asked kind.Left left_spelling p q) z
       → IsAnswered May MovedKey (asked kind.Inner left_spelling p q) z

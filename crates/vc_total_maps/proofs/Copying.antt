@@ -76,6 +76,7 @@ not-true : (b : Bool) → not b ≡ true → b ≡ false
 not-true false e = refl
 not-true true e = let wrong : false ≡ true = e in cc
 
+-- one of two holds, whichever is picked
 pick-holds : {V : Type 0} (P : V → Type 0) (b : Bool) (v : V) (o : Option V) → P v → IfSome o P → IfSome (cond b (Some v) o) P
 pick-holds P true v o p h = p
 pick-holds P false v o p h = h
