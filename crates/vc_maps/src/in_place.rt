@@ -199,11 +199,14 @@ pub fn keep_left<K: Drop, V: Drop>(parts: &mut PartsState<'_, (K, V)>, key: K, a
     ensures built { MatchOption answer (built_items parts.new ≡ built_items parts.old)
         (λ x. built_items parts.new ≡ built_items parts.old ++ (key, x) ∷ []) }
 {
-    let kept = answer.is_some();
-    if let Some(value) = answer {
-        parts.replace_left((key, value));
+    match answer {
+        Some(value) => {
+            parts.put_left((key, value));
+        }
+        None => {
+            let _never_refused = parts.advance_a(1, false);
+        }
     }
-    let _never_refused = parts.advance_a(1, kept);
 }
 
 /// Puts an answer under its key in the place of the first pair that is left of the right part,
@@ -216,13 +219,14 @@ fn keep_right<K: Drop, V: Drop>(parts: &mut PartsState<'_, (K, V)>, key: K, answ
     ensures built { MatchOption answer (built_items parts.new ≡ built_items parts.old)
         (λ x. built_items parts.new ≡ built_items parts.old ++ (key, x) ∷ []) }
 {
-    let _never_refused = match answer {
+    match answer {
         Some(value) => {
-            parts.replace_right((key, value));
-            parts.take_b(1)
+            parts.put_right((key, value));
         }
-        None => parts.skip_b(1),
-    };
+        None => {
+            let _never_refused = parts.skip_b(1);
+        }
+    }
 }
 
 /// Asks at the first `n` pairs that are left of the left part, which stand there alone.

@@ -142,6 +142,51 @@ impl<'a, T> PartsState<'a, T> {
         replace_at(self.list, self.next, value)
     }
 
+    /// Puts `value` behind what is built, for the first element that is left of the left part.
+    /// Hands out what stood there, which is of no use if that element was taken out.
+    #[inline(always)]
+    pub fn put_left(&mut self, value: T) -> T
+        requires { 0 < length (left_items self.old) }
+        ensures { Shows (list_name self.old) (built_items self.old ++ value ∷ [])
+            (drop 1 (left_items self.old)) (right_items self.old) self.new }
+    {
+        let old = replace_at(self.list, self.built, value);
+        self.built += 1;
+        self.start += 1;
+        old
+    }
+
+    /// Puts `value` behind what is built, for the first element that is left of the right part.
+    /// Hands out what stood there, which is of no use if that element was taken out.
+    #[inline(always)]
+    pub fn put_right(&mut self, value: T) -> T
+        requires { 0 < length (right_items self.old) }
+        ensures { Shows (list_name self.old) (built_items self.old ++ value ∷ [])
+            (left_items self.old) (drop 1 (right_items self.old)) self.new }
+    {
+        self.open_hole();
+        if self.hole() > 0 {
+            return self.put_in_hole(value);
+        }
+        let old = self.replace_right(value);
+        self.turn(1);
+        old
+    }
+
+    /// The same where the hole has a place.
+    #[inline(always)]
+    fn put_in_hole(&mut self, value: T) -> T
+        requires right { 0 < length (right_items self.old) }
+        requires hole { 0 < hole_places self.old }
+        ensures { Shows (list_name self.old) (built_items self.old ++ value ∷ [])
+            (left_items self.old) (drop 1 (right_items self.old)) self.new }
+    {
+        let old = replace_at(self.list, self.built, value);
+        self.built += 1;
+        self.next += 1;
+        old
+    }
+
     /// How many places the hole has: each takes an element of the right part without a move of what
     /// is left of the left one.
     #[inline(always)]
