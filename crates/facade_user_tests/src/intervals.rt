@@ -138,6 +138,20 @@ pub fn is_all_booked<T: Ord>(asked: &Booked<T>, booked: &Booked<T>) -> bool
     asked.is_subset(booked)
 }
 
+/// The same, asked of the bookings.
+pub fn covers<T: Ord>(booked: &Booked<T>, asked: &Booked<T>) -> bool
+    ensures { IsTrue result ↔ IsIntervalSubset T.cmp asked.now booked.now }
+{
+    booked.is_superset(asked)
+}
+
+/// Gives back what the bookings do not need.
+pub fn pack<T: Ord + MadeWith<Global> + Drop>(booked: &mut Booked<T>)
+    ensures { booked.new ≡ booked.old }
+{
+    let _always = booked.shrink_to_fit();
+}
+
 /// The bookings one after the other: a time is booked exactly where one of them has it.
 pub fn list_bookings<T: Ord>(booked: &Booked<T>) -> IntervalSetIter<'_, T>
     ensures listed { result ≡ listed booked.now }

@@ -189,6 +189,13 @@ pub fn sell_out(stock: &mut Stock)
     stock.clear();
 }
 
+/// Gives back what the stock does not need.
+pub fn pack(stock: &mut Stock)
+    ensures { stock.new ≡ stock.old }
+{
+    let _always = stock.shrink_to_fit();
+}
+
 /// The price of each article: that of today where there is one, else that of the list.
 pub fn of_today(alloc: Global, list: &Stock, today: &Stock) -> Result<Stock, AllocError>
     ensures { IfOk result (λ prices. (k : ℕ) → value_at nat_cmp prices k

@@ -46,6 +46,13 @@ pub fn recount(tally: &mut Tally, article: u32, pieces: u32) -> Result<(), Alloc
     tally.set(article, pieces)
 }
 
+/// Gives back what the tally does not need.
+pub fn pack(tally: &mut Tally)
+    ensures { tally.new ≡ tally.old }
+{
+    let _always = tally.shrink_to_fit();
+}
+
 /// The pieces of each article together, or the greatest number where they are more.
 #[tactic(auto, using(vec_collections::specs::Pointwise::pointwise))]
 pub fn together_up_to_most(here: &Tally, there: &Tally) -> Result<Tally, AllocError>

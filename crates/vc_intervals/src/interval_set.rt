@@ -120,6 +120,16 @@ impl<T: Ord + MadeWith<A> + Drop, const N: usize, A: Allocator + Copy> IntervalS
         Self::constant(alloc, true)
     }
 
+    /// Gives back memory that the turns do not need. A refusal leaves the list where it is, so the
+    /// call succeeds always.
+    pub fn shrink_to_fit(&mut self) -> Result<(), AllocError>
+        ensures same { self.new ≡ self.old }
+        ensures succeeds { IsOk result }
+    {
+        self.turns.shrink_to_fit();
+        Ok(())
+    }
+
     /// The values from `least` on that are less than `end`: none, where `end` is not greater.
     ///
     /// The two values are moved. Compares them once, and takes memory only where `N` is less than

@@ -148,6 +148,15 @@ where
         let _old = self.mappings.insert(key, value)?;
         Ok(())
     }
+
+    /// Gives back memory that the list does not need. A refusal leaves the list where it is, so the
+    /// call succeeds always.
+    pub fn shrink_to_fit(&mut self) -> Result<(), AllocError>
+        ensures same { self.new ≡ self.old }
+        ensures succeeds { IsOk result }
+    {
+        self.mappings.shrink_to_fit()
+    }
 }
 
 impl<K: Ord + Clone + Drop, V: Eq + Clone + Drop, const N: usize, A: Allocator + Copy> TotalVecMap<

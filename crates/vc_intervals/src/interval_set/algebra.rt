@@ -111,6 +111,14 @@ impl<T: Ord, const N: usize, A: Allocator> IntervalSet<T, N, A> {
         )
     }
 
+    /// Whether what is in the other set is in this one, at each value and below all turns. It stops
+    /// at the first turn that decides, and takes no memory.
+    pub fn is_superset<const M: usize>(&self, that: &IntervalSet<T, M, A>) -> bool
+        ensures { IsTrue result ↔ IsIntervalSubset T.cmp that.now self.now }
+    {
+        that.is_subset(self)
+    }
+
     /// Whether nothing is in both sets, at each value and below all turns. It stops at the first
     /// turn that decides, and takes no memory.
     pub fn is_disjoint<const M: usize>(&self, that: &IntervalSet<T, M, A>) -> bool

@@ -1,10 +1,10 @@
-//! Pairs taken out of a map: one by its key, or all.
-ghost use Rattle.std.specs.Prelude.{◌≡◌, [], cond, None};
+//! Pairs taken out of a map, one by its key or all, and its room given back.
+ghost use Rattle.std.specs.Prelude.{◌≡◌, [], cond, None, IsOk};
 ghost use Rattle.std.specs.Ordering.{eq_by_cmp};
 ghost use Rattle.vc_joins.specs.Entries.{entry_at, value_at};
 
 use super::VecMap;
-use std::alloc::Allocator;
+use std::alloc::{AllocError, Allocator};
 use std::default::MadeWith;
 use vc_merge::search::find_key;
 
@@ -39,11 +39,21 @@ where
         }
     }
 
-    /// Drops all pairs. The list keeps its room, so that as many can come again without memory.
-    /// Takes no memory.
+    /// Drops all pairs. The list keeps its room, so that as many can come again without memory;
+    /// `shrink_to_fit` gives it back. Takes no memory.
     pub fn clear(&mut self)
         ensures { self.new ≡ [] }
     {
         self.pairs.clear();
+    }
+
+    /// Gives back memory that the pairs do not need. A refusal leaves the list where it is, so the
+    /// call succeeds always.
+    pub fn shrink_to_fit(&mut self) -> Result<(), AllocError>
+        ensures pairs { self.new ≡ self.old }
+        ensures succeeds { IsOk result }
+    {
+        self.pairs.shrink_to_fit();
+        Ok(())
     }
 }
