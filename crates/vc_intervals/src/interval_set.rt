@@ -31,7 +31,7 @@ use vc_sets::cloning::ClonesEqual;
 ///
 /// ```
 /// let open: IntervalSet<u16, 4> = (&IntervalSet::between(alloc, 9, 17)? - &lunch)?;
-/// assert!(open.contains(&9) && !open.contains(&17));
+/// assert!(rt; open.contains(&9) && !open.contains(&17));
 /// ```
 #[derive(Drop)]
 pub struct IntervalSet<T: Ord, const N: usize, A: Allocator = Global> {

@@ -48,8 +48,8 @@ use vc_sets::borrowed::Borrowed;
 ///
 /// ```
 /// let mut ports: VecMap<u16, bool, 4> = VecMap::single(alloc, (80, true))?;
-/// assert!(ports.insert(22, false)?.is_none());
-/// assert!(ports.as_ref() == [(22, false), (80, true)].as_slice());
+/// assert!(rt; ports.insert(22, false)?.is_none());
+/// assert!(rt; ports.as_ref() == [(22, false), (80, true)].as_slice());
 /// ```
 #[derive(Drop)]
 pub struct VecMap<K: Ord, V, const N: usize, A: Allocator = Global> {
@@ -216,7 +216,7 @@ pub trait AbstractVecMap<K: Ord, V> {
     /// as often as `get`, and takes no memory.
     ///
     /// ```
-    /// assert!(ages.get_by("ada") == Some(&36));
+    /// assert!(rt; ages.get_by(Some("ada")) == Some(&36));
     /// ```
     final fn get_by<'a, Q: Borrowed<K>>(&'a self, sought: Q) -> Option<&'a V>
     where
@@ -266,7 +266,7 @@ pub trait AbstractVecMap<K: Ord, V> {
     /// Compares as often as `get` for each end that the range has, and takes no memory.
     ///
     /// ```
-    /// assert!(ports.range(..1024) == [(22, false), (80, true)].as_slice());
+    /// assert!(rt; ports.range(..1024) == [(22, false), (80, true)].as_slice());
     /// ```
     final fn range<R: RangeBounds<K>>(&self, range: R) -> &[(K, V)]
         ensures { R.has_bounds range → result.now

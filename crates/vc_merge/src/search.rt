@@ -61,8 +61,8 @@ impl<'a, K: Ord, V, C: Count> Sought<(K, V), C> for Key<'a, K> {
 /// would stand.
 ///
 /// ```
-/// assert!(find(&[1, 3, 5], &3) == Ok(1));
-/// assert!(find(&[1, 3, 5], &4) == Err(2));
+/// assert!(rt; find(&[1, 3, 5], &3) == Ok(1));
+/// assert!(rt; find(&[1, 3, 5], &4) == Err(2));
 /// ```
 pub fn find<T: Ord>(list: &[T], value: &T) -> Result<usize, usize>
     requires { Ascends T.cmp list.now }

@@ -3,7 +3,7 @@
 //! Of the rules whose paths are prefixes of a path the longest decides. A path is a prefix of
 //! itself. Where no rule is a prefix, the path is not allowed.
 //!
-//! ```text
+//! ```
 //! let mut filter = PathFilter::new(alloc);
 //! filter.allow(b"a")?;
 //! filter.deny(b"ab")?;
@@ -109,7 +109,7 @@ impl<K: TKey> PathFilter<K> {
     /// Goes down both trees at once, and asks each rule that it meets once. Refused, it leaves the
     /// empty tree.
     ///
-    /// ```text
+    /// ```
     /// filter.restrict(&mut files)?;
     /// ```
     pub fn restrict<V: TValue, T: AbstractRadixTreeMut<K, V>>(

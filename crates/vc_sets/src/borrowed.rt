@@ -19,7 +19,7 @@ use std::cmp::Ordering;
 /// these laws.
 ///
 /// ```
-/// assert!(names.contains_by("ada"));
+/// assert!(rt; names.contains_by("ada"));
 /// ```
 pub trait Borrowed<T: Ord>: Copy {
     ghost side: { Self → T → Ordering };

@@ -40,8 +40,8 @@ use vc_merge::search::{elements_between, find};
 ///
 /// ```
 /// let mut primes: VecSet<u32, 4> = VecSet::single(alloc, 5)?;
-/// assert!(primes.insert(2)?);
-/// assert!(primes.as_ref() == [2, 5].as_slice());
+/// assert!(rt; primes.insert(2)?);
+/// assert!(rt; primes.as_ref() == [2, 5].as_slice());
 /// ```
 #[derive(Drop)]
 pub struct VecSet<T: Ord, const N: usize, A: Allocator = Global> {
@@ -212,7 +212,7 @@ pub trait AbstractVecSet<T: Ord> {
     /// often as `contains`, and takes no memory.
     ///
     /// ```
-    /// assert!(names.contains_by("ada"));
+    /// assert!(rt; names.contains_by("ada"));
     /// ```
     final fn contains_by<Q: Borrowed<T>>(&self, sought: Q) -> bool
         ensures answer { result ≡ member_by (Q.side sought) (elements self.now) }
@@ -230,7 +230,7 @@ pub trait AbstractVecSet<T: Ord> {
     /// Compares as often as `contains`, and takes no memory.
     ///
     /// ```
-    /// assert!(names.get_by("ada").is_some());
+    /// assert!(rt; names.get_by("ada").is_some());
     /// ```
     final fn get_by<Q: Borrowed<T>>(&self, sought: Q) -> Option<&T>
         ensures element { option_copied result ≡ element_by (Q.side sought) (elements self.now) }
@@ -250,8 +250,8 @@ pub trait AbstractVecSet<T: Ord> {
     /// Compares as often as `contains` for each end that the range has, and takes no memory.
     ///
     /// ```
-    /// assert!(primes.range(3..11) == [3, 5, 7].as_slice());
-    /// assert!(primes.range(..=2) == [2].as_slice());
+    /// assert!(rt; primes.range(3..11) == [3, 5, 7].as_slice());
+    /// assert!(rt; primes.range(..=2) == [2].as_slice());
     /// ```
     final fn range<R: RangeBounds<T>>(&self, range: R) -> &[T]
         ensures { R.has_bounds range → result.now ≡ filter

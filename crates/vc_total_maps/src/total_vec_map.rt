@@ -27,7 +27,7 @@ use vc_sets::cloning::ClonesEqual;
 /// ```
 /// let calls: VecMap<u16, u32, 4> = VecMap::single(alloc, (22, 3))?;
 /// let counts = TotalVecMap::new(calls, 0);
-/// assert!(counts[&22] == 3 && counts[&80] == 0);
+/// assert!(rt; counts[&22] == 3 && counts[&80] == 0);
 /// ```
 #[derive(Drop)]
 pub struct TotalVecMap<K: Ord, V: Eq, const N: usize, A: Allocator = Global> {
@@ -124,7 +124,7 @@ where
     ///
     /// ```
     /// counts.set(80, 5)?;
-    /// assert!(counts[&80] == 5);
+    /// assert!(rt; counts[&80] == 5);
     /// ```
     pub fn set(&mut self, key: K, value: V) -> Result<(), AllocError>
         ensures values { OnOk result ((k : K) → at K.cmp self.new k ≡ cond (eq_by_cmp K.cmp k key)

@@ -27,7 +27,7 @@ use vc_sets::vec_set::{AbstractVecSet, VecSet};
 /// ```
 /// let mut open: TotalVecSet<u16, 2> = TotalVecSet::all(alloc);
 /// open.remove(&22)?;
-/// assert!(open.contains(&80) && !open.contains(&22));
+/// assert!(rt; open.contains(&80) && !open.contains(&22));
 /// ```
 #[derive(Drop)]
 pub struct TotalVecSet<T: Ord, const N: usize, A: Allocator = Global> {

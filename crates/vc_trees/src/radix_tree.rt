@@ -6,9 +6,9 @@
 //! the first components of their prefixes; and a node without a value does not have exactly one
 //! child. So trees of equal maps have the same shape.
 //!
-//! ```text
+//! ```
 //! let mut tree = RadixTree::single(alloc, b"abc", 1)?;
-//! tree.insert(b"abd", 2)?;                      // the root's prefix is now `ab`, with the children `c` and `d`
+//! tree.insert(b"abd", 2)?; // the root's prefix is now `ab`, with the children `c` and `d`
 //! assert_eq!(rt; tree.get(b"abd").copied(), Some(2));
 //! assert_eq!(rt; tree.get(b"ab"), None);
 //! ```

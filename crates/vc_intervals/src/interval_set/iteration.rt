@@ -61,7 +61,7 @@ impl<T: Ord, const N: usize, A: Allocator> IntervalSet<T, N, A> {
     /// and its end, which is excluded. Takes no memory.
     ///
     /// ```
-    /// assert!(open.iter().next() == Some((Bound::Included(&9), Bound::Excluded(&12))));
+    /// assert!(rt; open.iter().next() == Some((Bound::Included(&9), Bound::Excluded(&12))));
     /// ```
     pub fn iter(&self) -> IntervalSetIter<'_, T>
         ensures intervals { result ≡ listed self.now }

@@ -78,7 +78,7 @@ impl<T: Ord + MadeWith<A> + Drop, const N: usize, A: Allocator + Copy> IntervalS
     /// ```
     /// let hours = vec![in alloc; 13..17, 9..12, 11..12]?;
     /// let open = IntervalSet::<u16, 4>::from_ranges(alloc, hours)?;
-    /// assert!(open.turns() == [9, 12, 13, 17].as_slice());
+    /// assert!(rt; open.turns() == [9, 12, 13, 17].as_slice());
     /// ```
     pub fn from_ranges(alloc: A, ranges: Vec<Range<T>>) -> Result<Self, AllocError>
         ensures holds { IfOk result

@@ -49,8 +49,8 @@ where
     /// Compares as often as `get`, moves the pairs behind that one, and takes no memory.
     ///
     /// ```
-    /// assert!(ages.remove_by("ada") == Some(36));
-    /// assert!(ages.get_by("ada").is_none());
+    /// assert!(rt; ages.remove_by(Some("ada")) == Some(36));
+    /// assert!(rt; ages.get_by(Some("ada")).is_none());
     /// ```
     pub fn remove_by<Q: Borrowed<K>>(&mut self, sought: Q) -> Option<V>
         ensures old { result ≡ value_by (Q.side sought) self.old }

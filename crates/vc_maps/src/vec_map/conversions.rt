@@ -86,7 +86,7 @@ where
     /// ```
     /// let pairs = vec![in alloc; (80, true), (22, true), (22, false)]?;
     /// let ports: VecMap<u16, bool, 4> = VecMap::from_unsorted(alloc, pairs)?;
-    /// assert!(ports.as_ref() == [(22, false), (80, true)].as_slice());
+    /// assert!(rt; ports.as_ref() == [(22, false), (80, true)].as_slice());
     /// ```
     pub fn from_unsorted(alloc: A, vec: Vec<(K, V)>) -> Result<Self, AllocError>
         ensures values { IfOk result

@@ -25,10 +25,11 @@ use vc_merge::merge::Steps;
 /// it begins in place, and grows where the result has more than `N`.
 ///
 /// ```
-/// let sums: VecMap<u32, u32, 4> = outer_join(alloc, &a, &b, |at: OuterJoinArg<&u32, &u32, &u32>| match at {
-///     OuterJoinArg::Left(_, v) | OuterJoinArg::Right(_, v) => Ok(Some(*v)),
-///     OuterJoinArg::Both(_, v, w) => Ok(v.checked_add(*w)),
-/// })?;
+/// let sums: VecMap<u32, u32, 4> =
+///     outer_join(alloc, &a, &b, |at: OuterJoinArg<&u32, &u32, &u32>| match at {
+///         OuterJoinArg::Left(_, v) | OuterJoinArg::Right(_, v) => Ok(Some(*v)),
+///         OuterJoinArg::Both(_, v, w) => Ok(v.checked_add(*w)),
+///     })?;
 /// ```
 pub fn outer_join<
     K: Ord + Clone + Drop,

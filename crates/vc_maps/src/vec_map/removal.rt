@@ -20,8 +20,8 @@ where
     /// one, and takes no memory.
     ///
     /// ```
-    /// assert!(ports.remove(&80) == Some(true));
-    /// assert!(ports.get(&80).is_none());
+    /// assert!(rt; ports.remove(&80) == Some(true));
+    /// assert!(rt; ports.get(&80).is_none());
     /// ```
     pub fn remove(&mut self, key: &K) -> Option<V>
         ensures old { result ≡ value_at K.cmp self.old key.now }

@@ -47,7 +47,7 @@ pub enum SetTest {
 ///
 /// ```
 /// let tags: VecSet<u32, 4> = union(alloc, &ours, &theirs)?;
-/// assert!(ours.is_subset(&tags) && theirs.is_subset(&tags));
+/// assert!(rt; ours.is_subset(&tags) && theirs.is_subset(&tags));
 /// ```
 pub fn union<
     T: Ord + Clone + MadeWith<A>,
@@ -221,7 +221,7 @@ impl<T: Ord + Clone + MadeWith<A>, const N: usize, A: Allocator + Copy> VecSet<T
     /// ```
     /// let mut steps = Steps::new();
     /// let both = ours.combine_counted(&theirs, SetOp::Intersection, &mut steps)?;
-    /// assert!(steps.count() <= (ours.len() + theirs.len()) as u128);
+    /// assert!(rt; steps.count() <= (ours.len() + theirs.len()) as u128);
     /// ```
     pub fn combine_counted<S: AbstractVecSet<T>>(
         &self,

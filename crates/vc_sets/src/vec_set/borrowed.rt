@@ -43,8 +43,8 @@ impl<T: Ord + MadeWith<A> + Drop, const N: usize, A: Allocator + Copy> VecSet<T,
     /// Compares as often as `contains`, moves the elements behind it, and takes no memory.
     ///
     /// ```
-    /// assert!(names.remove_by("ada"));
-    /// assert!(!names.contains_by("ada"));
+    /// assert!(rt; names.remove_by("ada"));
+    /// assert!(rt; !names.contains_by("ada"));
     /// ```
     pub fn remove_by<Q: Borrowed<T>>(&mut self, sought: Q) -> bool
         ensures answer { result ≡ member_by (Q.side sought) self.old }

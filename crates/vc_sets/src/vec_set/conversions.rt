@@ -96,7 +96,7 @@ impl<T: Ord + MadeWith<A> + Drop, const N: usize, A: Allocator + Copy> VecSet<T,
     ///
     /// ```
     /// let primes: VecSet<u32, 4> = VecSet::from_unsorted(alloc, vec![in alloc; 5, 2, 3, 2]?)?;
-    /// assert!(primes.as_ref() == [2, 3, 5].as_slice());
+    /// assert!(rt; primes.as_ref() == [2, 3, 5].as_slice());
     /// ```
     pub fn from_unsorted(alloc: A, vec: Vec<T>) -> Result<Self, AllocError>
         ensures members { IfOk result

@@ -182,7 +182,7 @@ impl<T: Ord + Clone + MadeWith<A> + Drop, const N: usize, A: Allocator + Copy> V
     ///
     /// ```
     /// tags.union_with(&more)?;
-    /// assert!(more.is_subset(&tags));
+    /// assert!(rt; more.is_subset(&tags));
     /// ```
     pub fn union_with<S: AbstractVecSet<T>>(&mut self, that: &S) -> Result<(), AllocError>
         requires clones { ClonesAreEqual T.cmp T.is_clone }

@@ -26,8 +26,8 @@ impl<T: Ord + MadeWith<A> + Drop, const N: usize, A: Allocator + Copy> VecSet<T,
     /// Compares none, moves no other element, and takes no memory.
     ///
     /// ```
-    /// assert!(primes.pop_last() == Some(5));
-    /// assert!(primes.last() == Some(&2));
+    /// assert!(rt; primes.pop_last() == Some(5));
+    /// assert!(rt; primes.last() == Some(&2));
     /// ```
     pub fn pop_last(&mut self) -> Option<T>
         ensures last { result ≡ slice_get self.old (length self.old - 1) }

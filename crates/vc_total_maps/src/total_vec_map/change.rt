@@ -74,7 +74,7 @@ impl<K: Ord + Clone + Drop, V: Eq, const N: usize, A: Allocator + Copy> TotalVec
     /// listed as a clone. Refused where memory, a clone of a key or an answer of `f` is.
     ///
     /// ```
-    /// let is_called: TotalVecMap<u16, bool, 4> = calls.map_values(|count: &u32| Ok(*count > 0))?;
+    /// let is_called: TotalVecMap<u16, bool, 4> = counts.map_values(|count: &u32| Ok(*count > 0))?;
     /// ```
     pub fn map_values<W: Eq + Drop, const M: usize, F: Fn(&V) -> Result<W, AllocError> + Drop>(
         &self,

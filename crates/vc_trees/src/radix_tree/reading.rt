@@ -86,7 +86,7 @@ pub trait AbstractRadixTree<K: TKey, V: TValue>: RadixNode<K, V> {
     /// Compares each component of the path at most once, but for a halving search among the
     /// children of each node on the way.
     ///
-    /// ```text
+    /// ```
     /// // The handler of the longest route, and what is left of the path behind it.
     /// let (length, handler) = routes.get_longest(path)?;
     /// handler.call(&path[length..])
@@ -107,7 +107,7 @@ pub trait AbstractRadixTree<K: TKey, V: TValue>: RadixNode<K, V> {
     /// it has, and not at all where it has none. Fails only where that is refused. Compares none,
     /// and goes down to the key twice.
     ///
-    /// ```text
+    /// ```
     /// if let Some((name, port)) = ports.first_key_value()? {
     ///     ..
     /// }
@@ -177,7 +177,7 @@ pub trait AbstractRadixTree<K: TKey, V: TValue>: RadixNode<K, V> {
     /// A key is kept for as long as the caller wants. A walk whose keys are let go writes each into
     /// the place of the last.
     ///
-    /// ```text
+    /// ```
     /// for item in tree.iter() {
     ///     let (key, value) = item?;
     ///     total += key.as_ref().len() * value;
@@ -308,9 +308,10 @@ pub trait AbstractRadixTree<K: TKey, V: TValue>: RadixNode<K, V> {
     ///
     /// Fails only where memory is refused, or a call of the closure.
     ///
-    /// ```text
+    /// ```
     /// // The prices of the old list, with the new price where there is one.
-    /// let prices: RadixTree<u8, u32> = old.left_combine(&new, |price, change| Ok(Some(*change.unwrap_or(price))))?;
+    /// let prices: RadixTree<u8, u32> =
+    ///     old.left_combine(&new, |price, change| Ok(Some(*change.unwrap_or(price))))?;
     /// ```
     final fn left_combine<
         W: TValue,

@@ -150,7 +150,7 @@ pub trait AbstractRadixTreeMut<K: TKey, V: TValue>: CloneTree<K, V> + AbstractRa
     /// Compares each component of the prefix at most once, but for two halving searches among the
     /// children of each node on the way.
     ///
-    /// ```text
+    /// ```
     /// let moved = servers.split_below(b"eu/")?;
     /// ```
     final fn split_below(&mut self, prefix: &[K]) -> Result<Self, AllocError>
