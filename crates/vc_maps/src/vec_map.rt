@@ -212,8 +212,8 @@ pub trait AbstractVecMap<K: Ord, V> {
         find_key(self.as_slice(), key).is_ok()
     }
 
-    /// The value at the key that is equal to a borrowed form, as a `&str` among `String`s. Compares
-    /// as often as `get`, and takes no memory.
+    /// The value at the key that is equal to a borrowed form, as an `Option<&str>` among
+    /// `Option<String>`s. Compares as often as `get`, and takes no memory.
     ///
     /// ```
     /// assert!(rt; ages.get_by(Some("ada")) == Some(&36));

@@ -84,7 +84,7 @@ pub fn find_key<K: Ord, V>(pairs: &[(K, V)], key: &K) -> Result<usize, usize>
 /// Nothing is counted.
 ///
 /// It compares fewer than `1.5 * log2(n) + 4` times with the elements of a list of `n`. How often
-/// hangs on `n` alone: 5 times of 8, 7 of 7, 10 of 19 or 64, 16 of 1000.
+/// depends on `n` alone: 5 times of 8, 7 of 7, 10 of 19 or 64, 16 of 1000.
 pub fn look_up<X, S: Sought<X, Uncounted>>(list: &[X], sought: &S) -> Result<usize, usize>
     requires { IsOrdered (S.side sought.now) list.now }
     ensures { IsPlace (S.side sought.now) list.now result }

@@ -56,7 +56,8 @@ impl<K: TKey + MadeWith<Global>> PathFilter<K> {
     /// Allows a path and what lies below it, but for what longer rules say. A rule that the path
     /// had is replaced, and `check` answers true at the path itself.
     ///
-    /// Fails only where memory is refused; each path then has the rule that it had.
+    /// Compares as often as `insert` of a tree. Fails only where memory is refused; each path then
+    /// has the rule that it had.
     pub fn allow(&mut self, path: &[K]) -> Result<(), AllocError>
         ensures ok { OnOk result (IsInserted K.cmp (λ v w. v ≡ w) path.now true self.old self.new) }
         ensures allowed { OnOk result (is_allowed K.cmp self.new path.now ≡ true) }
@@ -69,7 +70,8 @@ impl<K: TKey + MadeWith<Global>> PathFilter<K> {
     /// Denies a path and what lies below it, but for what longer rules say. A rule that the path
     /// had is replaced, and `check` answers false at the path itself.
     ///
-    /// Fails only where memory is refused; each path then has the rule that it had.
+    /// Compares as often as `insert` of a tree. Fails only where memory is refused; each path then
+    /// has the rule that it had.
     pub fn deny(&mut self, path: &[K]) -> Result<(), AllocError>
         ensures ok { OnOk result
             (IsInserted K.cmp (λ v w. v ≡ w) path.now false self.old self.new) }

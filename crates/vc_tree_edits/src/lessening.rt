@@ -109,9 +109,9 @@ fn keep_at<T>(list: &mut [T], kept: usize, at: usize)
 struct Kids<C, T> {
     /// How many are stored.
     many: usize,
-    /// These.
+    /// The children that are stored.
     stored: Option<C>,
-    /// And the only one, where the node has no value.
+    /// The only child, taken out where the node has no value.
     lone: Option<T>,
 }
 

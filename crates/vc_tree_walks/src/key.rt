@@ -44,7 +44,8 @@ impl<K: Drop> IterKey<K> {
         }
     }
 
-    /// The same key once more, which shares the components.
+    /// The same key once more, which shares the components. Fails where one more owner is refused;
+    /// the key stays as it was.
     pub fn clone(&self) -> Result<Self, AllocError>
         ensures { IfOk result (λ key. key ≡ self.now) }
     {

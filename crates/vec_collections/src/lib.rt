@@ -1,4 +1,5 @@
-//! Small sorted sets, radix trees that are always canonical, and filters of paths.
+//! Small sorted sets and maps, sets with complements, sets of intervals, radix trees that are
+//! always canonical, filters of paths, and joins of `BTreeMap`.
 //!
 //! Every name that a user writes comes from this crate: it exports the modules `merge`,
 //! `iterators`, `vec_set`, `vec_map`, `total_vec_set`, `total_vec_map`, `interval_set`,

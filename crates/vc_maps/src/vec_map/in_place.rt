@@ -160,10 +160,12 @@ where
     }
 
     /// The join of this kind in place, as [`outer_join_with`](VecMap::outer_join_with) makes it,
-    /// and counts the comparisons. `f` is asked at the keys that the kind names alone. Makes one
-    /// merge.
+    /// and counts the comparisons: at most as many as both maps have pairs, and at most as many for
+    /// each pair of the shorter one as the length of the longer one has binary digits. `f` is asked
+    /// at the keys that the kind names alone. Makes one merge.
     ///
-    /// A left or inner join takes no memory, so it always succeeds.
+    /// A left or inner join takes no memory, so it always succeeds. An outer or right one that is
+    /// refused leaves the map as it was, and has not asked `f`.
     ///
     /// ```
     /// let mut steps = Steps::new();

@@ -171,7 +171,9 @@ where
 
 impl<K: Ord + Clone + Drop, V, const N: usize, A: Allocator + Copy> VecMap<K, V, N, A> {
     /// The join of this kind with another map, as [`outer_join`] makes it, and counts the
-    /// comparisons. `f` is asked at the keys that the kind names alone.
+    /// comparisons: at most as many as both maps have pairs, and at most as many for each pair of
+    /// the shorter one as the length of the longer one has binary digits. `f` is asked at the keys
+    /// that the kind names alone. Refused, it drops what it built.
     ///
     /// ```
     /// let mut steps = Steps::new();

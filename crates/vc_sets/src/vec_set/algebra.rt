@@ -200,8 +200,9 @@ impl<T: Ord + Clone + MadeWith<A>, const N: usize, A: Allocator + Copy> VecSet<T
 
     /// What is in this set and not in the other, as clones, with the allocator of this set.
     ///
-    /// It grows as it goes, and compares at most as often as both sets have elements. Refused at a
-    /// growth or a clone, it drops what it built.
+    /// It grows at the start for as many elements as this set has more than the other one, and then
+    /// as it goes, and compares at most as often as both sets have elements. Refused at a growth or
+    /// a clone, it drops what it built.
     pub fn difference<S: AbstractVecSet<T>>(&self, that: &S) -> Result<Self, AllocError>
         requires clones { ClonesAreEqual T.cmp T.is_clone }
         ensures difference { IfOk result

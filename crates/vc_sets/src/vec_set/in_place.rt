@@ -109,8 +109,8 @@ impl<T: Ord + MadeWith<A> + Drop, const N: usize, A: Allocator + Copy> VecSet<T,
     /// Adds the elements of the other set, which are moved. Of two equal elements the left one
     /// stays.
     ///
-    /// It grows at most once, and not where both sets fit together. Refused, it leaves this set as
-    /// it was and drops the other one.
+    /// It grows at most once, and not where both sets fit together. It compares at most as often as
+    /// both sets have elements. Refused, it leaves this set as it was and drops the other one.
     pub fn bitor_assign<const M: usize>(&mut self, that: VecSet<T, M, A>) -> Result<(), AllocError>
         ensures union { OnOk result
             (IsSetOf T.cmp (λ x y. x ≡ y) (λ x y. x ≡ y) ◌||◌ self.old that self.new) }
@@ -122,8 +122,8 @@ impl<T: Ord + MadeWith<A> + Drop, const N: usize, A: Allocator + Copy> VecSet<T,
     /// Keeps what is in exactly one of the sets: drops what is in both, and moves in what is in the
     /// other set alone.
     ///
-    /// It grows at most once, and not where both sets fit together. Refused, it leaves this set as
-    /// it was and drops the other one.
+    /// It grows at most once, and not where both sets fit together. It compares at most as often as
+    /// both sets have elements. Refused, it leaves this set as it was and drops the other one.
     pub fn bitxor_assign<const M: usize>(&mut self, that: VecSet<T, M, A>) -> Result<(), AllocError>
         ensures symmetric_difference { OnOk result
             (IsSetOf T.cmp (λ x y. x ≡ y) (λ x y. x ≡ y) exactly_one self.old that self.new) }
@@ -136,7 +136,8 @@ impl<T: Ord + MadeWith<A> + Drop, const N: usize, A: Allocator + Copy> VecSet<T,
     /// elements the left one stays.
     ///
     /// The items become a set first, which grows as `from_iter` does; then this one grows at most
-    /// once. Refused, it leaves the set as it was, and drops the items that came and the iterator.
+    /// once. It compares at most as often as there are elements and items. Refused, it leaves the
+    /// set as it was, and drops the items that came and the iterator.
     pub fn extend<I: Iterator<Item = T> + SortedByItem>(
         &mut self,
         iter: I,
@@ -155,7 +156,7 @@ impl<T: Ord + MadeWith<A> + Drop, const N: usize, A: Allocator + Copy> VecSet<T,
     }
 
     /// Keeps what is in the other set too, and drops the rest. An element that stays is the old
-    /// one. Takes no memory.
+    /// one. Takes no memory, and compares at most as often as both sets have elements.
     pub fn intersection_with<S: AbstractVecSet<T>>(&mut self, that: &S)
         ensures { IsSetOf T.cmp (λ x y. x ≡ y) (λ x y. x ≡ y) ◌&&◌ self.old (S.elements that.now)
             self.new }
@@ -164,7 +165,8 @@ impl<T: Ord + MadeWith<A> + Drop, const N: usize, A: Allocator + Copy> VecSet<T,
         self.elements.truncate(kept);
     }
 
-    /// Keeps what is not in the other set, and drops the rest. Takes no memory.
+    /// Keeps what is not in the other set, and drops the rest. Takes no memory, and compares at
+    /// most as often as both sets have elements.
     pub fn difference_with<S: AbstractVecSet<T>>(&mut self, that: &S)
         ensures { IsSetOf T.cmp (λ x y. x ≡ y) (λ x y. x ≡ y) and_not self.old (S.elements that.now)
             self.new }
@@ -177,8 +179,8 @@ impl<T: Ord + MadeWith<A> + Drop, const N: usize, A: Allocator + Copy> VecSet<T,
 impl<T: Ord + Clone + MadeWith<A> + Drop, const N: usize, A: Allocator + Copy> VecSet<T, N, A> {
     /// Adds what is in the other set, as clones. Of two equal elements the left one stays.
     ///
-    /// It grows at most once, and not where both sets fit together. Refused there or at a clone, it
-    /// leaves the set as it was.
+    /// It grows at most once, and not where both sets fit together. It compares at most as often as
+    /// both sets have elements. Refused there or at a clone, it leaves the set as it was.
     ///
     /// ```
     /// tags.union_with(&more)?;
@@ -196,8 +198,8 @@ impl<T: Ord + Clone + MadeWith<A> + Drop, const N: usize, A: Allocator + Copy> V
     /// Keeps what is in exactly one of the sets: drops what is in both, and adds clones of what is
     /// in the other set alone.
     ///
-    /// It grows at most once, and not where both sets fit together. Refused there or at a clone, it
-    /// leaves the set as it was.
+    /// It grows at most once, and not where both sets fit together. It compares at most as often as
+    /// both sets have elements. Refused there or at a clone, it leaves the set as it was.
     pub fn xor_with<S: AbstractVecSet<T>>(&mut self, that: &S) -> Result<(), AllocError>
         requires clones { ClonesAreEqual T.cmp T.is_clone }
         ensures symmetric_difference { OnOk result

@@ -280,7 +280,8 @@ where
     /// The greater of the two values at every key, and of the defaults, as a clone: that of `that`
     /// where the two are equal.
     ///
-    /// Refused where memory or a clone is.
+    /// Keys are listed as by [`combine_ref`](TotalVecMap::combine_ref), and no closure is asked.
+    /// Refused where memory, or a clone of a key or of a value, is.
     pub fn supremum(&self, that: &Self) -> Result<Self, AllocError>
         requires clones { ClonesAreEqual K.cmp K.is_clone }
         ensures { IfOk result (IsCombined K.cmp V.eq
@@ -292,7 +293,8 @@ where
     /// The lesser of the two values at every key, and of the defaults, as a clone: that of this map
     /// where the two are equal.
     ///
-    /// Refused where memory or a clone is.
+    /// Keys are listed as by [`combine_ref`](TotalVecMap::combine_ref), and no closure is asked.
+    /// Refused where memory, or a clone of a key or of a value, is.
     pub fn infimum(&self, that: &Self) -> Result<Self, AllocError>
         requires clones { ClonesAreEqual K.cmp K.is_clone }
         ensures { IfOk result (IsCombined K.cmp V.eq

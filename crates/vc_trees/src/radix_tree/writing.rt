@@ -190,7 +190,8 @@ pub trait AbstractRadixTreeMut<K: TKey, V: TValue>: CloneTree<K, V> + AbstractRa
     /// A fresh tree of the keys of both, the shared ones with a copy of the left value. Both trees
     /// stay as they were.
     ///
-    /// Fails only where memory is refused, or the clone of a value.
+    /// Fails only where memory is refused, or the clone of a value. At most three comparisons of
+    /// components for each node and each component of a prefix of both trees.
     final fn union<S: AbstractRadixTree<K, V>>(&self, that: &S) -> Result<Self, AllocError>
         ensures made { IfOk result (λ made.
             IsCombined K.cmp (IsUnionAt (Copies V.is_clone) V.is_clone)
@@ -203,7 +204,8 @@ pub trait AbstractRadixTreeMut<K: TKey, V: TValue>: CloneTree<K, V> + AbstractRa
     /// A fresh tree of the keys that both bind, with copies of the left values. Both trees stay as
     /// they were.
     ///
-    /// Fails only where memory is refused, or the clone of a value.
+    /// Fails only where memory is refused, or the clone of a value. At most three comparisons of
+    /// components for each node and each component of a prefix of both trees.
     final fn intersection<W: TValue, S: AbstractRadixTree<K, W>>(
         &self,
         that: &S,
@@ -219,7 +221,8 @@ pub trait AbstractRadixTreeMut<K: TKey, V: TValue>: CloneTree<K, V> + AbstractRa
     /// A fresh tree of the keys that this tree alone binds, with copies of its values. Both trees
     /// stay as they were.
     ///
-    /// Fails only where memory is refused, or the clone of a value.
+    /// Fails only where memory is refused, or the clone of a value. At most three comparisons of
+    /// components for each node and each component of a prefix of both trees.
     final fn difference<W: TValue, S: AbstractRadixTree<K, W>>(
         &self,
         that: &S,
@@ -264,11 +267,10 @@ pub trait AbstractRadixTreeMut<K: TKey, V: TValue>: CloneTree<K, V> + AbstractRa
 
     /// Keeps the keys that both bind. Their values stay in place.
     ///
-    /// Children that stay do so in their own list. Memory is asked for only where a prefix of more
-    /// than 16 components is cut or joined, where more than 32 children are told apart at one
-    /// place, and in the shared flavour once for each node on the way that keeps children, and for
-    /// the copy of those that another tree holds too. Fails only where it is refused; the tree is
-    /// then empty.
+    /// Children that stay do so in their own list. Memory is asked for only where the prefix of a
+    /// child that is left alone is joined to that of its parent and has more than 16 components
+    /// then, and for the copy of children that another tree holds too. Fails only where that, or
+    /// the clone of a value in such a copy, is refused; the tree is then empty.
     final fn intersection_with<W: TValue, S: AbstractRadixTree<K, W>>(
         &mut self,
         that: &S,
@@ -283,11 +285,10 @@ pub trait AbstractRadixTreeMut<K: TKey, V: TValue>: CloneTree<K, V> + AbstractRa
 
     /// Keeps the keys that this tree alone binds. Their values stay in place.
     ///
-    /// Children that stay do so in their own list. Memory is asked for only where a prefix of more
-    /// than 16 components is cut or joined, where more than 32 children are told apart at one
-    /// place, and in the shared flavour once for each node on the way that keeps children, and for
-    /// the copy of those that another tree holds too. Fails only where it is refused; the tree is
-    /// then empty.
+    /// Children that stay do so in their own list. Memory is asked for only where the prefix of a
+    /// child that is left alone is joined to that of its parent and has more than 16 components
+    /// then, and for the copy of children that another tree holds too. Fails only where that, or
+    /// the clone of a value in such a copy, is refused; the tree is then empty.
     final fn difference_with<W: TValue, S: AbstractRadixTree<K, W>>(
         &mut self,
         that: &S,
@@ -326,11 +327,10 @@ pub trait AbstractRadixTreeMut<K: TKey, V: TValue>: CloneTree<K, V> + AbstractRa
     /// Keeps the keys that both bind and at which the closure answers true. It is handed this
     /// tree's value itself, which it may write to, and the other one's.
     ///
-    /// Children that stay do so in their own list. Memory is asked for only where a prefix of more
-    /// than 16 components is cut or joined, where more than 32 children are told apart at one
-    /// place, and in the shared flavour once for each node on the way that keeps children, and for
-    /// the copy of those that another tree holds too. Fails only where it is refused; the tree is
-    /// then empty.
+    /// Children that stay do so in their own list. Memory is asked for only where the prefix of a
+    /// child that is left alone is joined to that of its parent and has more than 16 components
+    /// then, and for the copy of children that another tree holds too. Fails only where that, or
+    /// the clone of a value in such a copy, is refused; the tree is then empty.
     final fn inner_combine_with<W: TValue, S: AbstractRadixTree<K, W>, F: Fn(&mut V, &W) -> bool>(
         &mut self,
         that: &S,
@@ -351,11 +351,10 @@ pub trait AbstractRadixTreeMut<K: TKey, V: TValue>: CloneTree<K, V> + AbstractRa
     /// closure answers true. It is handed this tree's value itself, which it may write to, and the
     /// other one's.
     ///
-    /// Children that stay do so in their own list. Memory is asked for only where a prefix of more
-    /// than 16 components is cut or joined, where more than 32 children are told apart at one
-    /// place, and in the shared flavour once for each node on the way that keeps children, and for
-    /// the copy of those that another tree holds too. Fails only where it is refused; the tree is
-    /// then empty.
+    /// Children that stay do so in their own list. Memory is asked for only where the prefix of a
+    /// child that is left alone is joined to that of its parent and has more than 16 components
+    /// then, and for the copy of children that another tree holds too. Fails only where that, or
+    /// the clone of a value in such a copy, is refused; the tree is then empty.
     final fn left_combine_with<W: TValue, S: AbstractRadixTree<K, W>, F: Fn(&mut V, &W) -> bool>(
         &mut self,
         that: &S,
@@ -376,11 +375,10 @@ pub trait AbstractRadixTreeMut<K: TKey, V: TValue>: CloneTree<K, V> + AbstractRa
     /// longest decides, by what the closure answers of its value. A key is a prefix of itself. The
     /// other values stay in place.
     ///
-    /// Children that stay do so in their own list. Memory is asked for only where a prefix of more
-    /// than 16 components is cut or joined, where more than 32 children are told apart at one
-    /// place, and in the shared flavour once for each node on the way that keeps children, and for
-    /// the copy of those that another tree holds too. Fails only where it is refused; the tree is
-    /// then empty.
+    /// Children that stay do so in their own list. Memory is asked for only where the prefix of a
+    /// child that is left alone is joined to that of its parent and has more than 16 components
+    /// then, and for the copy of children that another tree holds too. Fails only where that, or
+    /// the clone of a value in such a copy, is refused; the tree is then empty.
     final fn remove_prefix_with<W: TValue, S: AbstractRadixTree<K, W>, F: Fn(&W) -> bool>(
         &mut self,
         that: &S,
@@ -400,11 +398,10 @@ pub trait AbstractRadixTreeMut<K: TKey, V: TValue>: CloneTree<K, V> + AbstractRa
     /// the longest decides, by what the closure answers of its value. A key is a prefix of itself.
     /// Values that stay do so in place.
     ///
-    /// Children that stay do so in their own list. Memory is asked for only where a prefix of more
-    /// than 16 components is cut or joined, where more than 32 children are told apart at one
-    /// place, and in the shared flavour once for each node on the way that keeps children, and for
-    /// the copy of those that another tree holds too. Fails only where it is refused; the tree is
-    /// then empty.
+    /// Children that stay do so in their own list. Memory is asked for only where the prefix of a
+    /// child that is left alone is joined to that of its parent and has more than 16 components
+    /// then, and for the copy of children that another tree holds too. Fails only where that, or
+    /// the clone of a value in such a copy, is refused; the tree is then empty.
     final fn retain_prefix_with<W: TValue, S: AbstractRadixTree<K, W>, F: Fn(&W) -> bool>(
         &mut self,
         that: &S,
