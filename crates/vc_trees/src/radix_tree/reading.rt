@@ -285,8 +285,7 @@ pub trait AbstractRadixTree<K: TKey, V: TValue>: RadixNode<K, V> {
     /// A fresh tree of the keys that both bind, with what the closure answers, `None` for a key
     /// that is not to be there. Both trees stay as they were.
     ///
-    /// Fails only where memory is refused, or a call of the closure. At most three comparisons of
-    /// components for each node and each component of a prefix of both trees.
+    /// Fails only where memory is refused, or a call of the closure.
     final fn inner_combine<
         W: TValue,
         M: AbstractRadixTreeMut<K, V>,
@@ -307,8 +306,7 @@ pub trait AbstractRadixTree<K: TKey, V: TValue>: RadixNode<K, V> {
     /// what that tree binds there, if anything, and `None` is for a key that is not to be there.
     /// Both trees stay as they were.
     ///
-    /// Fails only where memory is refused, or a call of the closure. At most three comparisons of
-    /// components for each node and each component of a prefix of both trees.
+    /// Fails only where memory is refused, or a call of the closure.
     ///
     /// ```
     /// // The prices of the old list, with the new price where there is one.

@@ -204,8 +204,7 @@ pub trait AbstractRadixTreeMut<K: TKey, V: TValue>: CloneTree<K, V> + AbstractRa
     /// A fresh tree of the keys that both bind, with copies of the left values. Both trees stay as
     /// they were.
     ///
-    /// Fails only where memory is refused, or the clone of a value. At most three comparisons of
-    /// components for each node and each component of a prefix of both trees.
+    /// Fails only where memory is refused, or the clone of a value.
     final fn intersection<W: TValue, S: AbstractRadixTree<K, W>>(
         &self,
         that: &S,
@@ -221,8 +220,7 @@ pub trait AbstractRadixTreeMut<K: TKey, V: TValue>: CloneTree<K, V> + AbstractRa
     /// A fresh tree of the keys that this tree alone binds, with copies of its values. Both trees
     /// stay as they were.
     ///
-    /// Fails only where memory is refused, or the clone of a value. At most three comparisons of
-    /// components for each node and each component of a prefix of both trees.
+    /// Fails only where memory is refused, or the clone of a value.
     final fn difference<W: TValue, S: AbstractRadixTree<K, W>>(
         &self,
         that: &S,
