@@ -7,18 +7,17 @@
 --     place-met, place-behind, place-searched, place-equal, place-unequal        the place
 --     ordered-ascends, ascends-map        ascending lists are ordered round whatever is sought
 use Rattle.std.proofs.Common.{◌≡◌, ℕ, zero, suc, ◌+◌, ◌-◌, ◌*◌, ◌/◌, ◌<◌, ◌≤◌, Bool, true, false, ◌||◌, List, [], ◌∷◌}
-use Rattle.std.proofs.Common.{◌++◌, map, length, take, drop, get_or, length-drop, ◌⊎◌, inl, inr, ⊎_elim, Result, Ok}
-use Rattle.std.proofs.Common.{Err, refl, sym, ap, subst, ◌∙◌, arith}
+use Rattle.std.proofs.Common.{◌++◌, map, length, take, drop, get_or, length-drop, ◌⊎◌, ⊎_elim, Result, Ok}
+use Rattle.std.proofs.Common.{Err, refl, sym, ap, subst, arith}
 use Rattle.std.proofs.lemmas.List.{get_or_default, get_or-drop, get_or-take, drop-append-le, drop-drop, drop-take}
 use Rattle.std.proofs.lemmas.List.{length-take-le, take-append-drop, take-take}
 use Rattle.std.proofs.Math.Seq.{take-add}
-use Rattle.std.proofs.lemmas.Bool.{cases_lt}
 use mathlib.Core.Bool.{true≢false}
 use Rattle.std.specs.List.{AllByRecursion, HoldsAt}
 use Rattle.std.specs.Int.{from_bool}
 use Rattle.std.specs.Cmp.{IsTotalOrder}
 use Rattle.std.specs.List.Sorted.{IsStrictlySortedBy}
-use Rattle.std.specs.Ordering.{is_gt, is_eq, is_lt, ordering_reverse}
+use Rattle.std.specs.Ordering.{is_gt, is_eq, is_lt}
 use Rattle.std.specs.declared.cmp.Ordering.{Ordering}
 use Rattle.std.specs.declared.cmp.Ordering.TheVariants.{Less, Equal, Greater}
 use Rattle.vc_merge.specs.Ascending.{Ascends}
@@ -36,61 +35,36 @@ each-drop P (x ∷ xs) (suc k) p = each-drop P xs k p.1
 -- what was read at a place holds there
 pub holds-read : {X : Type 0} (P : X → Type 0) (xs : List X) (i : ℕ) (y : X) → i < length xs → y ≡ get_or xs i y
     → P y → HoldsAt P xs i
-holds-read P xs i y h e p = λ d. subst P (e ∙ get_or_default xs i y d h) p
+holds-read P xs i y h e p = grind (arith, get_or_default)
 
 module _ {X : Type 0} (side : X → Ordering) where
-  greater-not : (y : X) → is_gt (side y) ≡ false → side y ≡ Greater → ⊥
-  greater-not y f e = true≢false (sym (ap is_gt e) ∙ f)
-
-  less-not : (y : X) → is_lt (side y) ≡ false → side y ≡ Less → ⊥
-  less-not y f e = true≢false (sym (ap is_lt e) ∙ f)
-
   -- before an element that is not greater all are less
   less-before : (xs : List X) (i : ℕ) → IsOrdered side xs → i < length xs
       → HoldsAt (λ y. is_gt (side y) ≡ false) xs i → AllByRecursion (λ y. side y ≡ Less) (take i xs)
-  less-before [] i p h e = absurd (omega arith)
+  less-before [] i p h e = grind arith
   less-before (x ∷ xs) zero p h e = tt
   less-before (x ∷ xs) (suc i) p h e =
-      let k : i < length xs = omega arith in (
-        ⊎_elim (λ l. l) (λ g. absurd (greater-not (get_or xs i x) (e x) (each-at (λ y. side y ≡ Greater) xs i x k g)))
-            p.0,
-        less-before xs i p.1 k e,
-      )
+      grind (arith, less-before xs i p.1, e x, each-at (λ y. side y ≡ Greater) xs i x)
 
   less-upto : (xs : List X) (i : ℕ) → IsOrdered side xs → i < length xs → HoldsAt (λ y. side y ≡ Less) xs i
       → AllByRecursion (λ y. side y ≡ Less) (take (suc i) xs)
-  less-upto [] i p h e = absurd (omega arith)
+  less-upto [] i p h e = grind arith
   less-upto (x ∷ xs) zero p h e = (e x, tt)
-  less-upto (x ∷ xs) (suc i) p h e =
-      let k : i < length xs = omega arith in (
-        ⊎_elim (λ l. l) (λ g. absurd (less-greater (get_or xs i x) (e x)
-            (each-at (λ y. side y ≡ Greater) xs i x k g))) p.0,
-        less-upto xs i p.1 k e,
-      )
-    where
-      less-greater : (y : X) → side y ≡ Less → side y ≡ Greater → ⊥
-      less-greater y l g = cc
+  less-upto (x ∷ xs) (suc i) p h e = grind (arith, less-upto xs i p.1, e x, each-at (λ y. side y ≡ Greater) xs i x)
 
   -- behind an element that is greater all are, and behind one that is not less
   greater-from : (xs : List X) (i k : ℕ) → IsOrdered side xs → i < length xs → HoldsAt (λ y. side y ≡ Greater) xs i
       → i ≤ k → AllByRecursion (λ y. side y ≡ Greater) (drop k xs)
-  greater-from [] i k p h e l = absurd (omega arith)
-  greater-from (x ∷ xs) zero zero p h e l = (e x, ⊎_elim (λ m. absurd (greater-less x (e x) m)) (λ g. g) p.0)
-    where
-      greater-less : (y : X) → side y ≡ Greater → side y ≡ Less → ⊥
-      greater-less y g m = cc
-  greater-from (x ∷ xs) zero (suc k) p h e l =
-      each-drop (λ y. side y ≡ Greater) xs k (⊎_elim (λ m. absurd (greater-less x (e x) m)) (λ g. g) p.0)
-    where
-      greater-less : (y : X) → side y ≡ Greater → side y ≡ Less → ⊥
-      greater-less y g m = cc
-  greater-from (x ∷ xs) (suc i) zero p h e l = absurd (omega arith)
-  greater-from (x ∷ xs) (suc i) (suc k) p h e l = greater-from xs i k p.1 (omega arith) e (omega arith)
+  greater-from [] i k p h e l = grind arith
+  greater-from (x ∷ xs) zero zero p h e l = grind (arith, e x)
+  greater-from (x ∷ xs) zero (suc k) p h e l = grind (arith, e x, each-drop (λ y. side y ≡ Greater) xs k)
+  greater-from (x ∷ xs) (suc i) zero p h e l = grind arith
+  greater-from (x ∷ xs) (suc i) (suc k) p h e l = grind (arith, greater-from xs i k p.1)
 
   greater-behind : (xs : List X) (i : ℕ) → IsOrdered side xs → i < length xs
       → HoldsAt (λ y. is_lt (side y) ≡ false) xs i → AllByRecursion (λ y. side y ≡ Greater) (drop (suc i) xs)
-  greater-behind [] i p h e = absurd (omega arith)
-  greater-behind (x ∷ xs) zero p h e = ⊎_elim (λ m. absurd (less-not x (e x) m)) (λ g. g) p.0
+  greater-behind [] i p h e = grind arith
+  greater-behind (x ∷ xs) zero p h e = grind (arith, e x)
   greater-behind (x ∷ xs) (suc i) p h e = greater-behind xs i p.1 (omega arith) e
 
   -- ---- the part that is searched
@@ -100,44 +74,23 @@ module _ {X : Type 0} (side : X → Ordering) where
   none-behind (x ∷ xs) = none-behind xs
 
   pub narrowed-whole : (xs : List X) → IsNarrowed side xs 0 (length xs)
-  narrowed-whole xs = record {
-    within = omega arith;
-    less = take-none xs;
-    greater =
-        subst (λ k. AllByRecursion (λ y. side y ≡ Greater) (drop k xs)) (omega arith) (none-behind xs);
-  }
-    where
-      take-none : (xs : List X) → AllByRecursion (λ y. side y ≡ Less) (take 0 xs)
-      take-none [] = tt
-      take-none (x ∷ xs) = tt
+  narrowed-whole xs = grind (arith, none-behind xs)
 
   module _ (xs : List X) (p : IsOrdered side xs) (start n : ℕ) (q : IsNarrowed side xs start n) where
     -- from an element on that is not greater
     pub narrowed-up : (s m : ℕ) → s < length xs → HoldsAt (λ y. is_gt (side y) ≡ false) xs s → start + n ≡ s + m
         → IsNarrowed side xs s m
-    narrowed-up s m h e f = record {
-      within = (let w = q.within in omega arith);
-      less = less-before xs s p h e;
-      greater = subst (λ k. AllByRecursion (λ y. side y ≡ Greater) (drop k xs)) f q.greater;
-    }
+    narrowed-up s m h e f = grind (arith, less-before)
 
     -- behind one that is less
     pub narrowed-past : (i m : ℕ) → i < length xs → HoldsAt (λ y. side y ≡ Less) xs i → start + n ≡ suc i + m
         → IsNarrowed side xs (suc i) m
-    narrowed-past i m h e f = record {
-      within = (let w = q.within in omega arith);
-      less = less-upto xs i p h e;
-      greater = subst (λ k. AllByRecursion (λ y. side y ≡ Greater) (drop k xs)) f q.greater;
-    }
+    narrowed-past i m h e f = grind (arith, less-upto)
 
     -- before one that is greater
     pub narrowed-down : (i m : ℕ) → i < length xs → HoldsAt (λ y. side y ≡ Greater) xs i → i ≤ start + m → m ≤ n
         → IsNarrowed side xs start m
-    narrowed-down i m h e l k = record {
-      within = (let w = q.within in omega arith);
-      less = q.less;
-      greater = greater-from xs i (start + m) p h e l;
-    }
+    narrowed-down i m h e l k = grind (arith, greater-from xs i (start + m) p h e l)
 
   -- ---- the rest that is searched on
 
@@ -161,109 +114,86 @@ module _ {X : Type 0} (side : X → Ordering) where
   ordered-take [] zero p = tt
   ordered-take [] (suc k) p = tt
   ordered-take (x ∷ xs) zero p = tt
-  ordered-take (x ∷ xs) (suc k) p =
-      (⊎_elim (λ l. inl l) (λ g. inr (each-take (λ y. side y ≡ Greater) xs k g)) p.0, ordered-take xs k p.1)
+  ordered-take (x ∷ xs) (suc k) p = grind (arith, ordered-take xs k p.1, each-take)
 
   pub ordered-rest : (xs : List X) (start : ℕ) (rest : List X) → IsOrdered side xs → IsRest side xs start rest
       → IsOrdered side rest
-  ordered-rest xs start rest p q =
-      subst (IsOrdered side) (sym q.part) (ordered-take (drop start xs) (length rest) (ordered-drop xs start p))
+  ordered-rest xs start rest p q = grind (arith, ordered-take, ordered-drop)
 
   -- the rest as it is cut off
   rest-part : (xs : List X) (start n : ℕ) → IsNarrowed side xs start n → IsRest side xs start (take n (drop start xs))
-  rest-part xs start n q =
-      let w = q.within in
-      let behind : length (drop start xs) ≡ length xs - start = length-drop start xs in
-      let l : length (take n (drop start xs)) ≡ n = length-take-le n (drop start xs) (omega arith) in
-      record { part = ap (λ k. take k (drop start xs)) (sym l); narrowed = subst (IsNarrowed side xs start) (sym l) q }
+  rest-part xs start n q = grind (arith, length-drop, length-take-le)
 
   -- the first element of the rest stands where the rest begins
   rest-first : (xs : List X) (start : ℕ) (rest : List X) (y : X) → IsRest side xs start rest → 0 < length rest → y
       ≡ get_or rest 0 y → y ≡ get_or xs start y
-  rest-first xs start rest y q h e =
-      e ∙ ap (λ l. get_or l 0 y) q.part ∙ get_or-take (length rest) (drop start xs) 0 y h ∙ get_or-drop start xs 0 y
-      ∙ ap (λ k. get_or xs k y) (omega arith)
+  rest-first xs start rest y q h e = grind (arith, get_or-take, get_or-drop)
 
   -- what is left of the rest is a rest of the whole list
   pub rest-rest : (xs ys zs : List X) (start passed : ℕ) → IsRest side xs start ys → IsRest side ys passed zs
       → IsRest side xs (start + passed) zs
   rest-rest xs ys zs start passed q r =
-      let w = q.narrowed.within in
-      let v = r.narrowed.within in
       let n = length ys in
       let m = length zs in
-      let behind : drop (passed + m) ys ++ drop n (drop start xs) ≡ drop (start + passed + m) xs =
-      sym (drop-append-le (passed + m) ys (drop n (drop start xs)) (omega arith))
-      ∙ ap (λ l. drop (passed + m) (l ++ drop n (drop start xs))) q.part
-      ∙ ap (drop (passed + m)) (take-append-drop n (drop start xs))
-      ∙ drop-drop (passed + m) start xs
-      ∙ ap (λ k. drop k xs) (omega arith) in
       let before : take start xs ++ take passed ys ≡ take (start + passed) xs =
-      ap (λ l. take start xs ++ take passed l) q.part
-      ∙ ap (λ l. take start xs ++ l) (take-take passed n (drop start xs) (omega arith))
-      ∙ sym (take-add start passed xs) in
+      grind (arith, q.part, take-take passed n (drop start xs), take-add start passed xs) in
+      let behind : drop (passed + m) ys ++ drop n (drop start xs) ≡ drop (start + passed + m) xs =
+      grind (
+        arith,
+        q.part,
+        drop-append-le (passed + m) ys (drop n (drop start xs)),
+        take-append-drop n (drop start xs),
+        drop-drop (passed + m) start xs,
+      ) in
+      let cut : take m (drop passed (take n (drop start xs))) ≡ take m (drop (start + passed) xs) =
+      grind (
+        arith,
+        drop-take passed (n - passed) (drop start xs),
+        take-take m (n - passed) (drop passed (drop start xs)),
+        drop-drop passed start xs,
+      ) in
       record {
-        part = r.part ∙ ap (λ l. take m (drop passed l)) q.part ∙ cut ∙ ap (take m) (drop-drop passed start xs);
+        part = grind (arith, r.part, q.part);
         narrowed = record {
-          within = omega arith;
-          less = subst (AllByRecursion (λ y. side y ≡ Less)) before
-              (each-append (λ y. side y ≡ Less) (take start xs) (take passed ys) q.narrowed.less r.narrowed.less);
-          greater = subst (AllByRecursion (λ y. side y ≡ Greater)) behind
-              (each-append (λ y. side y ≡ Greater) (drop (passed + m) ys) (drop n (drop start xs)) r.narrowed.greater
-              (subst (AllByRecursion (λ y. side y ≡ Greater)) (sym (drop-drop n start xs)) q.narrowed.greater));
+          within = grind arith;
+          less = grind (arith, before, each-append (λ y. side y ≡ Less) (take start xs) (take passed ys));
+          greater = rw (← behind) (each-append (λ y. side y ≡ Greater) (drop (passed + m) ys) (drop n (drop start xs))
+              r.narrowed.greater (rw (drop-drop n start xs) q.narrowed.greater));
         };
       }
-    where
-      cut : take (length zs) (drop passed (take (length ys) (drop start xs))) ≡ take (length zs) (drop passed (drop start xs))
-      cut =
-          let v = r.narrowed.within in
-          let l : length ys ≡ passed + (length ys - passed) = omega arith in
-          ap (λ k. take (length zs) (drop passed (take k (drop start xs)))) l
-          ∙ ap (take (length zs)) (drop-take passed (length ys - passed) (drop start xs))
-          ∙ take-take (length zs) (length ys - passed) (drop passed (drop start xs)) (omega arith)
 
   -- ---- one comparison, and three
 
   -- what stands behind an element that is not less is greater
   greater-later : (xs : List X) (i j : ℕ) → IsOrdered side xs → i < j → j < length xs
       → HoldsAt (λ y. is_lt (side y) ≡ false) xs i → HoldsAt (λ y. side y ≡ Greater) xs j
-  greater-later [] i j p l h e = absurd (omega arith)
-  greater-later (x ∷ xs) i zero p l h e = absurd (omega arith)
-  greater-later (x ∷ xs) zero (suc j) p l h e =
-      let k : j < length xs = omega arith in
-      ⊎_elim (λ m. absurd (less-not x (e x) m)) (λ g d. each-at (λ y. side y ≡ Greater) xs j d k g) p.0
-  greater-later (x ∷ xs) (suc i) (suc j) p l h e = greater-later xs i j p.1 (omega arith) (omega arith) e
-
-  reached-cases : (xs : List X) (i r : ℕ) → IsReached side xs i r
-      → ((r ≡ 0) × HoldsAt (λ y. side y ≡ Greater) xs i) ⊎ ((r ≡ 1) × HoldsAt (λ y. is_gt (side y) ≡ false) xs i)
-  reached-cases xs i zero h = inl (refl, h)
-  reached-cases xs i (suc r) h = inr (ap suc h.0, h.1)
+  greater-later [] i j p l h e = grind arith
+  greater-later (x ∷ xs) i zero p l h e = grind arith
+  greater-later (x ∷ xs) zero (suc j) p l h e = λ d. grind (arith, e x, each-at (λ y. side y ≡ Greater) xs j d)
+  greater-later (x ∷ xs) (suc i) (suc j) p l h e = grind (arith, greater-later xs i j p.1)
 
   -- what is not greater is not behind what is
   not-later : (xs : List X) (i j : ℕ) → IsOrdered side xs → i < j → j < length xs
       → HoldsAt (λ y. side y ≡ Greater) xs i → HoldsAt (λ y. is_gt (side y) ≡ false) xs j → ⊥
-  not-later [] i j p l h e f = absurd (omega arith)
-  not-later (x ∷ xs) i j p l h e f =
-      greater-not (get_or (x ∷ xs) j x) (f x) (greater-later (x ∷ xs) i j p l h (λ d. ap is_lt (e d)) x)
+  not-later [] i j p l h e f = grind arith
+  not-later (x ∷ xs) i j p l h e f = grind (arith, e x, f x, greater-later (x ∷ xs) i j p l h)
 
   module _ (xs : List X) (p : IsOrdered side xs) where
     pub half-rest : (half r m : ℕ) → 2 ≤ length xs → half ≡ length xs / 2 → m ≡ length xs - half
         → IsReached side xs half r → IsRest side xs (r * half) (take m (drop (r * half) xs))
     half-rest half r m h e f reached =
-        rest-part xs (r * half) m
-        (⊎_elim
-        (λ z. subst (λ k. IsNarrowed side xs (k * half) m) (sym z.0)
-        (subst (λ k. IsNarrowed side xs k m) (omega arith)
-        (narrowed-down xs p 0 (length xs) (narrowed-whole xs) half m (omega arith) z.1 (omega arith) (omega arith))))
-        (λ o. subst (λ k. IsNarrowed side xs (k * half) m) (sym o.0)
-        (subst (λ k. IsNarrowed side xs k m) (omega arith)
-        (narrowed-up xs p 0 (length xs) (narrowed-whole xs) half m (omega arith) o.1 (omega arith))))
-        (reached-cases xs half r reached))
+        grind (
+          arith,
+          rest-part xs (r * half) m,
+          narrowed-whole xs,
+          narrowed-down xs p 0 (length xs) (narrowed-whole xs) half m,
+          narrowed-up xs p 0 (length xs) (narrowed-whole xs) half m,
+        )
 
     -- the four places that three comparisons lead to
     module _ (quarter m : ℕ) (h : 4 ≤ length xs) (e : quarter ≡ length xs / 4) (f : m ≡ length xs - quarter * 3) where
       at-first : HoldsAt (λ y. side y ≡ Greater) xs quarter → IsNarrowed side xs 0 m
-      at-first z = narrowed-down xs p 0 (length xs) (narrowed-whole xs) quarter m (omega arith) z (omega arith) (omega arith)
+      at-first z = grind (arith, narrowed-down xs p 0 (length xs) (narrowed-whole xs) quarter m, narrowed-whole xs)
 
       -- from one part on that begins with no greater element, up to the next one, that begins with a greater one
       at-part : (part next : ℕ) → next ≡ part + quarter → part + m ≤ length xs → next < length xs
@@ -276,49 +206,27 @@ module _ {X : Type 0} (side : X → Ordering) where
       at-fourth : HoldsAt (λ y. is_gt (side y) ≡ false) xs (quarter * 3) → IsNarrowed side xs (quarter * 3) m
       at-fourth o = narrowed-up xs p 0 (length xs) (narrowed-whole xs) (quarter * 3) m (omega arith) o (omega arith)
 
-      moved-to : (a b c : ℕ) (to : ℕ) (times : ℕ) → a + b + c ≡ times → to ≡ times * quarter
-          → IsNarrowed side xs to m → IsNarrowed side xs ((a + b + c) * quarter) m
-      moved-to a b c to times s t w =
-          subst (λ k. IsNarrowed side xs (k * quarter) m) (sym s) (subst (λ k. IsNarrowed side xs k m) t w)
-
       narrowed-quarter : (a b c : ℕ) → IsReached side xs quarter a → IsReached side xs (quarter * 2) b
           → IsReached side xs (quarter * 3) c → IsNarrowed side xs ((a + b + c) * quarter) m
       narrowed-quarter a b c ra rb rc =
-          ⊎_elim
-          (λ a0. ⊎_elim
-          (λ b0. ⊎_elim
-          (λ c0. let x : a ≡ 0 = a0.0 in let y : b ≡ 0 = b0.0 in let z : c ≡ 0 = c0.0 in
-          moved-to a b c 0 0 (omega arith) (omega arith) (at-first a0.1))
-          (λ c1. absurd (not-later xs (quarter * 2) (quarter * 3) p (omega arith) (omega arith) b0.1 c1.1))
-          (reached-cases xs (quarter * 3) c rc))
-          (λ b1. absurd (not-later xs quarter (quarter * 2) p (omega arith) (omega arith) a0.1 b1.1))
-          (reached-cases xs (quarter * 2) b rb))
-          (λ a1. ⊎_elim
-          (λ b0. ⊎_elim
-          (λ c0. let x : a ≡ 1 = a1.0 in let y : b ≡ 0 = b0.0 in let z : c ≡ 0 = c0.0 in
-          moved-to a b c quarter 1 (omega arith) (omega arith)
-          (at-part quarter (quarter * 2) (omega arith) (omega arith) (omega arith) a1.1 b0.1))
-          (λ c1. absurd (not-later xs (quarter * 2) (quarter * 3) p (omega arith) (omega arith) b0.1 c1.1))
-          (reached-cases xs (quarter * 3) c rc))
-          (λ b1. ⊎_elim
-          (λ c0. let x : a ≡ 1 = a1.0 in let y : b ≡ 1 = b1.0 in let z : c ≡ 0 = c0.0 in
-          moved-to a b c (quarter * 2) 2 (omega arith) (omega arith)
-          (at-part (quarter * 2) (quarter * 3) (omega arith) (omega arith) (omega arith) b1.1 c0.1))
-          (λ c1. let x : a ≡ 1 = a1.0 in let y : b ≡ 1 = b1.0 in let z : c ≡ 1 = c1.0 in
-          moved-to a b c (quarter * 3) 3 (omega arith) (omega arith) (at-fourth c1.1))
-          (reached-cases xs (quarter * 3) c rc))
-          (reached-cases xs (quarter * 2) b rb))
-          (reached-cases xs quarter a ra)
+          grind (
+            arith,
+            at-first,
+            at-part quarter (quarter * 2),
+            at-part (quarter * 2) (quarter * 3),
+            at-fourth,
+            not-later xs quarter (quarter * 2) p,
+            not-later xs (quarter * 2) (quarter * 3) p,
+          )
 
       pub quarter-rest : (a b c : ℕ) → IsReached side xs quarter a → IsReached side xs (quarter * 2) b
           → IsReached side xs (quarter * 3) c → IsRest side xs ((a + b + c) * quarter) (take m (drop ((a + b + c) * quarter) xs))
-      quarter-rest a b c ra rb rc = rest-part xs ((a + b + c) * quarter) m (narrowed-quarter a b c ra rb rc)
+      quarter-rest a b c ra rb rc = grind (arith, rest-part, narrowed-quarter)
 
   -- ---- one comparison that may find it
 
   pub searched-within : (xs : List X) (start n : ℕ) (found : Bool) → IsSearched side xs start n found → start + n ≤ length xs
-  searched-within xs start n true q = q.within
-  searched-within xs start n false q = q.within
+  searched-within xs start n found q = grind arith
 
   module _ (xs : List X) (p : IsOrdered side xs) (start n middle m : ℕ) (h : middle + m ≡ start + n) (k : m + m ≤ n)
       (l : n ≤ suc (m + m)) (some : 0 < n) where
@@ -329,36 +237,12 @@ module _ {X : Type 0} (side : X → Ordering) where
         let s : suc (middle - 1) ≡ next = let r = down refl in omega arith in
         subst (λ b. IsSearched side xs next m b) (sym f)
         (subst (λ i. IsNarrowed side xs i m) s (narrowed-past xs p start n q (middle - 1) m (omega arith) e (omega arith)))
-    narrowed-half Equal next b q e up down f =
-        let w = q.within in
-        let r = down refl in
-        subst (λ b. IsSearched side xs next m b) (sym f)
-        (record {
-          within = omega arith;
-          some = omega arith;
-          equal =
-              subst (λ i. HoldsAt (λ y. side y ≡ Equal) xs (i - 1)) (sym r) e;
-        })
-    narrowed-half Greater next b q e up down f =
-        let w = q.within in
-        subst (λ b. IsSearched side xs next m b) (sym f)
-        (subst (λ i. IsNarrowed side xs i m) (sym (up refl))
-        (narrowed-down xs p start n q (middle - 1) m (omega arith) e (omega arith) (omega arith)))
+    narrowed-half Equal next b q e up down f = grind arith
+    narrowed-half Greater next b q e up down f = grind (arith, narrowed-down xs p start n q (middle - 1) m)
 
     passed-half : (o : Ordering) (next : ℕ) (y : X) → IsPassed side xs start n → y ≡ get_or xs (middle - 1) y → o
         ≡ side y → (is_gt o ≡ true → next ≡ start) → IsPassed side xs next m
-    passed-half o next y q e f up =
-        let w = q.within in
-        let s = q.some in
-        let g : HoldsAt (λ z. side z ≡ Greater) xs (middle - 1) =
-        greater-later xs (start - 1) (middle - 1) p (omega arith) (omega arith) (λ d. ap is_lt (q.equal d)) in
-        let r : next ≡ start = up (ap is_gt (f ∙ ap side e ∙ g y)) in
-        record {
-          within = omega arith;
-          some = omega arith;
-          equal =
-              subst (λ i. HoldsAt (λ z. side z ≡ Equal) xs (i - 1)) (sym r) q.equal;
-        }
+    passed-half o next y q e f up = grind (arith, greater-later xs (start - 1) (middle - 1) p)
 
     pub searched-half : (found b : Bool) (o : Ordering) (next : ℕ) (y : X) → IsSearched side xs start n found
         → y ≡ get_or xs (middle - 1) y → middle - 1 < length xs → o ≡ side y → (is_gt o ≡ true → next ≡ start)
@@ -371,36 +255,25 @@ module _ {X : Type 0} (side : X → Ordering) where
   -- ---- the place
 
   place-passed : (xs : List X) (start n : ℕ) → IsOrdered side xs → IsPassed side xs start n → IsFound side xs (start - 1)
-  place-passed xs start n p q =
-      let w = q.within in
-      let s = q.some in
-      let i : start - 1 < length xs = omega arith in
-      let j : suc (start - 1) ≡ start - 1 + 1 = omega arith in
-      record {
-        within = i;
-        equal = q.equal;
-        less = less-before xs (start - 1) p i (λ d. ap is_gt (q.equal d));
-        greater = subst (λ k. AllByRecursion (λ y. side y ≡ Greater) (drop k xs)) j
-            (greater-behind xs (start - 1) p i (λ d. ap is_lt (q.equal d)));
-      }
+  place-passed xs start n p q = grind (arith, less-before, greater-behind)
 
   not-below : (i start : ℕ) → (i < start → ⊥) → start ≤ i
-  not-below i start f = ⊎_elim (λ h. absurd (f h)) (λ h. h) (cases_lt i start)
+  not-below i start f = grind arith
 
   -- among those that are less none is not
   both : (xs : List X) (start i : ℕ) → i < start → AllByRecursion (λ y. side y ≡ Less) (take start xs)
       → i < length xs → HoldsAt (λ y. is_lt (side y) ≡ false) xs i → ⊥
   both [] start i h p k e = omega arith
   both (x ∷ xs) zero i h p k e = omega arith
-  both (x ∷ xs) (suc start) zero h p k e = less-not x (e x) p.0
-  both (x ∷ xs) (suc start) (suc i) h p k e = both xs start i (omega arith) p.1 (omega arith) e
+  both (x ∷ xs) (suc start) zero h p k e = grind (arith, e x)
+  both (x ∷ xs) (suc start) (suc i) h p k e = grind (arith, both xs start i)
 
   gap : (xs : List X) (start i : ℕ) → i < start → AllByRecursion (λ y. side y ≡ Less) (take start xs) → start
       ≤ length xs → AllByRecursion (λ y. side y ≡ Greater) (drop i xs) → ⊥
   gap [] start i h p k e = omega arith
   gap (x ∷ xs) zero i h p k e = omega arith
-  gap (x ∷ xs) (suc start) zero h p k e = less-not x (ap is_lt e.0) p.0
-  gap (x ∷ xs) (suc start) (suc i) h p k e = gap xs start i (omega arith) p.1 (omega arith) e
+  gap (x ∷ xs) (suc start) zero h p k e = grind arith
+  gap (x ∷ xs) (suc start) (suc i) h p k e = grind (arith, gap xs start i)
 
   -- an element that was read and is equal
   pub place-met : (xs : List X) (i : ℕ) (y : X) → IsOrdered side xs → i < length xs → y ≡ get_or xs i y → Equal
@@ -418,26 +291,20 @@ module _ {X : Type 0} (side : X → Ordering) where
   pub place-behind : (xs : List X) (start n : ℕ) (r : Result ℕ ℕ) → IsNarrowed side xs start n → IsPlace side xs r
       → start ≤ place_of r
   place-behind xs start n (Ok i) q r = not-below i start (λ h. both xs start i h q.less r.within (λ d. ap is_lt (r.equal d)))
-  place-behind xs start n (Err i) q r =
-      not-below i start (λ h. gap xs start i h q.less (let w = q.within in omega arith) r.greater)
+  place-behind xs start n (Err i) q r = grind (arith, not-below, gap)
 
   pub place-searched : (xs : List X) (start n : ℕ) (found : Bool) → IsOrdered side xs
       → IsSearched side xs start n found → found ≡ true → IsFound side xs (start - 1)
   place-searched xs start n true p q f = place-passed xs start n p q
-  place-searched xs start n false p q f = absurd (true≢false (sym f))
+  place-searched xs start n false p q f = grind arith
 
   place-narrowed : (xs : List X) (start : ℕ) → IsNarrowed side xs start 0 → IsGap side xs start
-  place-narrowed xs start q = record {
-    within = (let w = q.within in omega arith);
-    less = q.less;
-    greater =
-        subst (λ k. AllByRecursion (λ y. side y ≡ Greater) (drop k xs)) (omega arith) q.greater;
-  }
+  place-narrowed xs start q = grind arith
 
   module _ (xs : List X) (start : ℕ) (p : IsOrdered side xs) (q : IsNarrowed side xs start 1) (y : X)
       (e : y ≡ get_or xs start y) where
     in-bounds : start < length xs
-    in-bounds = let w = q.within in omega arith
+    in-bounds = grind arith
 
     place-below : Less ≡ side y → IsGap side xs (start + 1)
     place-below f =
@@ -457,48 +324,32 @@ module _ {X : Type 0} (side : X → Ordering) where
   module _ (xs : List X) (start : ℕ) (one : List X) (p : IsOrdered side xs) (q : IsRest side xs start one)
       (h : length one ≡ 1) (y : X) (e : y ≡ get_or one 0 y) where
     narrowed-one : IsNarrowed side xs start 1
-    narrowed-one = subst (IsNarrowed side xs start) h q.narrowed
+    narrowed-one = grind arith
 
     at-start : y ≡ get_or xs start y
-    at-start = rest-first xs start one y q (omega arith) e
+    at-start = grind (arith, rest-first)
 
     pub place-equal : (o : Ordering) → o ≡ side y → is_eq o ≡ true → IsFound side xs start
-    place-equal Less f g = absurd (true≢false (sym g))
-    place-equal Equal f g = place-at xs start p narrowed-one y at-start f
-    place-equal Greater f g = absurd (true≢false (sym g))
+    place-equal o f g = grind (arith, place-at, narrowed-one, at-start)
 
     -- one place further where the element is less
     pub place-unequal : (o : Ordering) (b : Bool) → o ≡ side y → is_eq o ≡ false → b ≡ is_lt o
         → IsGap side xs (start + from_bool b)
-    place-unequal Less b f g k = subst (λ b. IsGap side xs (start + from_bool b)) (sym k)
-        (place-below xs start p narrowed-one y at-start f)
-    place-unequal Equal b f g k = absurd (true≢false g)
-    place-unequal Greater b f g k =
-        subst (λ b. IsGap side xs (start + from_bool b)) (sym k)
-        (subst (IsGap side xs) (omega arith) (place-above xs start p narrowed-one y at-start f))
+    place-unequal o b f g k = grind (arith, place-below, narrowed-one, at-start, place-above)
 
 -- ---- ascending lists are ordered round whatever is sought
 
 module _ {K : Type 0} (cmp : K → K → Ordering) (total : IsTotalOrder cmp) (k : K) where
-  -- above what is not less than k all is greater than k
-  greater-above : (i j : K) (o : Ordering) → cmp i k ≡ o → is_lt o ≡ false → cmp i j ≡ Less → cmp j k ≡ Greater
-  greater-above i j Less e f l = absurd (true≢false f)
-  greater-above i j Equal e f l = total.antisymm j k ∙ ap ordering_reverse (sym (total.congr i k j e) ∙ l)
-  greater-above i j Greater e f l = total.antisymm j k
-      ∙ ap ordering_reverse (total.trans k i j (total.antisymm k i ∙ ap ordering_reverse e) l)
-
   module _ {X : Type 0} (key : X → K) where
     all-above : (x : X) (o : Ordering) → cmp (key x) k ≡ o → is_lt o ≡ false → (ys : List X)
         → AllByRecursion (λ y. cmp (key x) (key y) ≡ Less) ys → AllByRecursion (λ y. cmp (key y) k ≡ Greater) ys
     all-above x o e f [] p = tt
-    all-above x o e f (y ∷ ys) p = (greater-above (key x) (key y) o e f p.0, all-above x o e f ys p.1)
+    all-above x o e f (y ∷ ys) p = grind (arith, all-above x o e f ys p.1)
 
     beside : (x : X) (ys : List X) (o : Ordering) → cmp (key x) k ≡ o
         → AllByRecursion (λ y. cmp (key x) (key y) ≡ Less) ys
         → (cmp (key x) k ≡ Less) ⊎ AllByRecursion (λ y. cmp (key y) k ≡ Greater) ys
-    beside x ys Less e p = inl e
-    beside x ys Equal e p = inr (all-above x Equal e refl ys p)
-    beside x ys Greater e p = inr (all-above x Greater e refl ys p)
+    beside x ys o e p = grind (arith, all-above)
 
     -- a list that ascends by its keys is ordered round any key
     pub ordered-ascends : (xs : List X) → Ascends (λ x y. cmp (key x) (key y)) xs → IsOrdered (λ x. cmp (key x) k) xs
