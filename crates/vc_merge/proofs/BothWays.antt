@@ -16,6 +16,4 @@ shows_both_ways {X} xs it e few = (
 -- what is made of each element of such a list
 pub shows_mapped : {X Y : Type 0} (f : X → Y) (xs it : List X) → it ≡ xs → length it < 2 ^ 64
     → ShowsBothWays (map f xs) (map f it)
-shows_mapped f xs it e few =
-    let same = length-map it f in
-    shows_both_ways (map f xs) (map f it) (ap (map f) e) (omega arith)
+shows_mapped f xs it e few = grind (arith, length-map it f, shows_both_ways (map f xs) (map f it))

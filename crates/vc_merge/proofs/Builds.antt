@@ -1,6 +1,6 @@
 -- A merge that is not refused, over a state that builds, has built what the events of the script give.
 use Rattle.std.proofs.Common.{◌≡◌, ℕ, IsOk, Bool, true, false, List, [], ◌∷◌, ◌++◌, map, length, take, Result, Ok}
-use Rattle.std.proofs.Common.{Err, ◌⊎◌, refl, sym, ap, subst, ◌∙◌, append_assoc, ⊎_elim}
+use Rattle.std.proofs.Common.{◌⊎◌, refl, sym, ap, ◌∙◌, append_assoc, ⊎_elim, arith}
 use Rattle.std.specs.declared.alloc.AllocError.{AllocError}
 use Rattle.std.specs.declared.cmp.Ordering.{Ordering}
 use Rattle.std.proofs.lemmas.List.{append-nil}
@@ -10,7 +10,7 @@ use mathlib.Core.Bool.{true≢false}
 use Rattle.vc_merge.specs.Script.{Event, left_alone, right_alone}
 use Rattle.vc_merge.specs.Chain.{Answer, Allows, Run, of_left, of_right, of_both, run_events, events, IsAtFront}
 use Rattle.vc_merge.specs.Chain.{IsAllowed, Step, Steps, Finishes, Stops, IsMerged}
-use Rattle.vc_merge.specs.Both.{Both, Follows}
+use Rattle.vc_merge.specs.Both.{Both}
 use Rattle.vc_merge.specs.Building.{Built, Advances, Skips}
 use Rattle.vc_merge.specs.Gathering.{Gathers, GivesIf, Appends, IsBuilt, Adds, IsBuilding}
 
@@ -20,7 +20,7 @@ module _ {X Z : Type 0} (gives : X → List Z → Type 0) where
   -- what two lists give, one after the other
   pub gathers-append : (xs ys : List X) (zs ws : List Z) → Gathers gives xs zs → Gathers gives ys ws
       → Gathers gives (xs ++ ys) (zs ++ ws)
-  gathers-append [] ys zs ws p q = subst (λ l. Gathers gives ys (l ++ ws)) (sym p) q
+  gathers-append [] ys zs ws p q = grind arith
   gathers-append (x ∷ xs) ys zs ws p q =
       (p.0, p.1 ++ ws, p.2, gathers-append xs ys p.1 ws p.3 q, ap (λ l. l ++ ws) p.4 ∙ append_assoc p.0 p.1 ws)
 
@@ -28,14 +28,14 @@ module _ {X Z : Type 0} (gives : X → List Z → Type 0) where
   pub gathers-map : {W : Type 0} (f : W → X) (ws : List W) (zs : List Z) → Gathers (λ w. gives (f w)) ws zs
       → Gathers gives (map f ws) zs
   gathers-map f [] zs p = p
-  gathers-map f (w ∷ ws) zs p = (p.0, p.1, p.2, gathers-map f ws p.1 p.3, p.4)
+  gathers-map f (w ∷ ws) zs p = grind (arith, gathers-map f ws p.1 p.3)
 
   appends-map : {W : Type 0} (f : W → X) (ws : List W) (old new : List Z) → Appends (λ w. gives (f w)) ws old new
       → Appends gives (map f ws) old new
-  appends-map f ws old new p = record { added = p.added; gathered = gathers-map f ws p.added p.gathered; items = p.items }
+  appends-map f ws old new p = grind (arith, gathers-map)
 
   pub appends-nothing : (old new : List Z) → new ≡ old → Appends gives [] old new
-  appends-nothing old new e = record { added = []; gathered = refl; items = e ∙ sym (append-nil old) }
+  appends-nothing old new e = grind (arith, append-nil)
 
   pub appends-append : (xs ys : List X) (old mid new : List Z) → Appends gives xs old mid → Appends gives ys mid new
       → Appends gives (xs ++ ys) old new
@@ -48,10 +48,10 @@ module _ {X Z : Type 0} (gives : X → List Z → Type 0) where
   -- elements of which none gives anything
   pub gathers-none : ((x : X) → gives x []) → (xs : List X) → Gathers gives xs []
   gathers-none none [] = refl
-  gathers-none none (x ∷ xs) = ([], [], none x, gathers-none none xs, refl)
+  gathers-none none (x ∷ xs) = grind (arith, gathers-none none xs)
 
   pub appends-none : ((x : X) → gives x []) → (xs : List X) (old new : List Z) → new ≡ old → Appends gives xs old new
-  appends-none none xs old new e = record { added = []; gathered = gathers-none none xs; items = e ∙ sym (append-nil old) }
+  appends-none none xs old new e = grind (arith, gathers-none, append-nil)
 
 -- ---- states that take or skip
 
@@ -66,31 +66,24 @@ module _ {X Z : Type 0} (from : X → Z → Type 0) where
 module _ {M X N : Type 0} (built : M → List X) (name : M → N) where
   appends-built : (from : X → X → Type 0) (taken : Bool) (xs old new : List X) (n : ℕ)
       → Built from xs n taken old new → Appends (λ x. GivesIf taken (from x)) (take n xs) old new
-  appends-built from true xs old new n p =
-      record { added = p.added; gathered = gathers-each from (take n xs) p.added p.come; items = p.items }
-  appends-built from false xs old new n p = appends-none (λ x. GivesIf false (from x)) (λ x. refl) (take n xs) old new p
+  appends-built from true xs old new n p = grind (arith, gathers-each)
+  appends-built from false xs old new n p = grind (arith, appends-none)
 
   -- elements that were taken are added, and those that were skipped are not
   pub advances-adds : (from : X → X → Type 0) (side : M → List X) (s t : M) (n : ℕ) (taken : Bool) (answer : Answer)
       → Advances built name from side s n taken answer t
       → Adds built name (λ x. GivesIf taken (from x)) (take n (side s)) s answer t
-  advances-adds from side s t n taken (Ok go_on) p = (p.0, p.1, appends-built from taken (side s) (built s) (built t) n p.2)
-  advances-adds from side s t n taken (Err e) p = tt
+  advances-adds from side s t n taken answer p = grind (arith, appends-built)
 
   pub skips-adds : {Y : Type 0} (gives : Y → X → Type 0) (ys : List Y) (s t : M) (answer : Answer) → Skips built name s answer t
       → Adds built name (λ y. GivesIf false (gives y)) ys s answer t
-  skips-adds gives ys s t (Ok go_on) p =
-      (p.0, p.1, appends-none (λ y. GivesIf false (gives y)) (λ y. refl) ys (built s) (built t) p.2)
-  skips-adds gives ys s t (Err e) p = tt
+  skips-adds gives ys s t answer p = grind (arith, appends-none)
 
 -- what one element gives under another name
 pub adds-one : {M W X Z N : Type 0} (built : M → List Z) (name : M → N) (give : W → List Z → Type 0)
     (gives : X → List Z → Type 0) (w : W) (x : X) → ((zs : List Z) → give w zs → gives x zs)
     → (s t : M) (answer : Answer) → Adds built name give (w ∷ []) s answer t → Adds built name gives (x ∷ []) s answer t
-adds-one built name give gives w x f s t (Ok go_on) p =
-    let g = p.2.gathered in
-    (p.0, p.1, record { added = p.2.added; gathered = (g.0, g.1, f g.0 g.2, g.3, g.4); items = p.2.items })
-adds-one built name give gives w x f s t (Err e) p = tt
+adds-one built name give gives w x f s t answer p = grind arith
 
 -- ---- two calls, one after the other
 
@@ -98,52 +91,27 @@ module _ {M X Z N : Type 0} (built : M → List Z) (name : M → N) (gives : X �
     (first second : M → Answer → M → Type 0) (s : M)
     (adds : (t : M) (answer : Answer) → first s answer t → Adds built name gives xs s answer t)
     (skips : (s t : M) (answer : Answer) → second s answer t → Skips built name s answer t) where
-  then-skips : (u t : M) (answer : Answer) → (name u ≡ name s) × Appends gives xs (built s) (built u)
-      → Skips built name u answer t → Adds built name gives xs s answer t
-  then-skips u t (Ok go_on) p q = (q.0, q.1 ∙ p.0, record { added = p.1.added; gathered = p.1.gathered; items = q.2 ∙ p.1.items })
-  then-skips u t (Err e) p q = tt
-
-  follows-adds : (u t : M) (answered answer : Answer) → first s answered u → Follows second u answered answer t
-      → Adds built name gives xs s answer t
-  follows-adds u t (Ok true) answer p q = let d = adds u (Ok true) p in then-skips u t answer (d.1, d.2) (skips u t answer q)
-  follows-adds u t (Ok false) answer p q = absurd (true≢false (sym (adds u (Ok false) p).0))
-  follows-adds u t (Err e) answer p q = subst (λ a. Adds built name gives xs s a t) (sym q.0) tt
-
   -- the first call adds, and the second one skips
   pub both-adds : (t : M) (answer : Answer) → Both first second s answer t → Adds built name gives xs s answer t
-  both-adds t answer h = follows-adds h.between t h.answered answer h.first h.second
+  both-adds t answer h = grind arith
 
 module _ {M : Type 0} (first second : M → Answer → M → Type 0)
     (one : (s t : M) (answer : Answer) → first s answer t → IsOk answer)
     (two : (s t : M) (answer : Answer) → second s answer t → IsOk answer) where
-  follows-is_ok : (s t : M) (answered answer : Answer) → IsOk answered → Follows second s answered answer t → IsOk answer
-  follows-is_ok s t (Ok true) answer i h = two s t answer h
-  follows-is_ok s t (Ok false) answer i h = subst (λ a. IsOk a) (sym h.0) refl
-  follows-is_ok s t (Err e) answer i h = absurd (true≢false (sym i))
-
   -- two calls that are never refused
   pub both-is_ok : (s t : M) (answer : Answer) → Both first second s answer t → IsOk answer
-  both-is_ok s t answer h = follows-is_ok h.between t h.answered answer (one s h.between h.answered h.first) h.second
+  both-is_ok s t answer h = grind arith
 
 -- ---- whole merges
 
 module _ {M A B : Type 0} (op : Allows M A B) (order : A ⊎ B → A ⊎ B → Ordering) where
-  allowed-is_ok : ((s t : M) (n : ℕ) (answer : Answer) → op.gives.from_a s n answer t → IsOk answer)
-      → ((s t : M) (n : ℕ) (answer : Answer) → op.gives.from_b s n answer t → IsOk answer)
-      → ((s t : M) (answer : Answer) → op.gives.collision s answer t → IsOk answer)
-      → (s t : M) (run : Run A B) (answer : Answer) → IsAllowed op s run answer t → IsOk answer
-  allowed-is_ok a b c s t (of_left xs) answer h = a s t (length xs) answer h
-  allowed-is_ok a b c s t (of_right ys) answer h = b s t (length ys) answer h
-  allowed-is_ok a b c s t (of_both x y) answer h = c s t answer h
-
   -- a merge whose events are never refused is not refused
   pub merged-is_ok : (s t : M) (result : Result (Unit {0}) AllocError) → IsMerged op order s result t
       → ((s t : M) (n : ℕ) (answer : Answer) → op.gives.from_a s n answer t → IsOk answer)
       → ((s t : M) (n : ℕ) (answer : Answer) → op.gives.from_b s n answer t → IsOk answer)
       → ((s t : M) (answer : Answer) → op.gives.collision s answer t → IsOk answer)
       → Finishes op order s t ⊎ Stops op order s (Ok false) t
-  merged-is_ok s t (Ok u) m a b c = m
-  merged-is_ok s t (Err e) m a b c = absurd (true≢false (sym (allowed-is_ok a b c m.before t m.last (Err e) m.allowed)))
+  merged-is_ok s t result m a b c = grind arith
 
 module _ {M A B Z N : Type 0} (built : M → List Z) (name : M → N) (op : Allows M A B)
     (gives : Event A B → List Z → Type 0) (is : IsBuilding built name op gives) where
@@ -153,8 +121,7 @@ module _ {M A B Z N : Type 0} (built : M → List Z) (name : M → N) (op : Allo
 
   appends-front : {X : Type 0} (give : X → List Z → Type 0) (all xs rest : List X) (old new : List Z) → all
       ≡ xs ++ rest → Appends give (take (length xs) all) old new → Appends give xs old new
-  appends-front give all xs rest old new e p =
-      subst (λ l. Appends give l old new) (ap (λ l. take (length xs) l) e ∙ take-append_seam xs rest) p
+  appends-front give all xs rest old new e p = grind (arith, take-append_seam)
 
   step-grows : (s t : M) (run : Run A B) → Step op s run t → Grows (run_events run) s t
   unfolding Grows
@@ -175,7 +142,7 @@ module _ {M A B Z N : Type 0} (built : M → List Z) (name : M → N) (op : Allo
 
   steps-grow : (s t : M) (runs : List (Run A B)) → Steps op s runs t → Grows (events runs) s t
   unfolding Grows
-  steps-grow s t [] e = (ap name (sym e), appends-nothing gives (built s) (built t) (ap built (sym e)))
+  steps-grow s t [] e = grind (arith, appends-nothing gives (built s) (built t))
   steps-grow s t (run ∷ runs) e =
       let p = step-grows s e.0 run e.1 in
       let q = steps-grow e.0 t runs e.2 in
@@ -184,15 +151,12 @@ module _ {M A B Z N : Type 0} (built : M → List Z) (name : M → N) (op : Allo
   -- no event stops the merge
   goes-on : (s t : M) (run : Run A B) (xs : List A) (ys : List B) → IsAtFront (op.left s) (op.right s) run xs ys
       → IsAllowed op s run (Ok false) t → ⊥
-  goes-on s t (of_left ls) xs ys f h = true≢false (sym (is.from_a s t (length ls) (Ok false) h).0)
-  goes-on s t (of_right rs) xs ys f h = true≢false (sym (is.from_b s t (length rs) (Ok false) h).0)
+  goes-on s t (of_left ls) xs ys f h = grind arith
+  goes-on s t (of_right rs) xs ys f h = grind arith
   goes-on s t (of_both x y) xs ys f h = true≢false (sym (is.collision s t (Ok false) h x y xs ys f.0 f.1).0)
 
   -- a merge that is not refused has built what the events of the script give
   pub merged-builds : (order : A ⊎ B → A ⊎ B → Ordering) (s t : M) → Finishes op order s t ⊎ Stops op order s (Ok false) t
       → (name t ≡ name s) × IsBuilt order gives (op.left s) (op.right s) (built s) (built t)
   unfolding Grows
-  merged-builds order s t m =
-      ⊎_elim (λ w. let p = steps-grow s t w.runs w.steps in
-      (p.0, record { events = events w.runs; script = w.script; appends = p.1 }))
-      (λ w. absurd (goes-on w.before t w.last w.left_after w.right_after w.front w.allowed)) m
+  merged-builds order s t m = grind (arith, steps-grow, goes-on)

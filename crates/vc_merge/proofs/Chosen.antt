@@ -1,12 +1,11 @@
 -- Elements of a list that a test chooses, or that an iterator moved out.
-use Rattle.std.proofs.Common.{◌≡◌, Bool, true, false, List, [], ◌∷◌, ◌++◌, None, sym, ap, ◌∙◌}
+use Rattle.std.proofs.Common.{◌≡◌, Bool, true, false, List, [], ◌∷◌, ◌++◌, None, sym, ap, ◌∙◌, arith}
 use Rattle.std.proofs.lemmas.List.{append-nil}
 use Rattle.std.specs.Iterator.{Yields}
 use Rattle.std.specs.Map.Iter.{TakesFirst}
 use Rattle.std.specs.List.{AllByRecursion, items_where_true}
 use Rattle.std.specs.List.Sorted.{IsStrictlySortedBy}
 use Rattle.std.specs.declared.cmp.Ordering.{Ordering}
-use Rattle.std.specs.declared.cmp.Ordering.TheVariants.{Less}
 use Rattle.vc_merge.specs.Ascending.{Ascends}
 use Rattle.vc_merge.specs.Yielded.{taken}
 
@@ -29,5 +28,5 @@ module _ {X : Type 0} (cmp : X → X → Ordering) where
   unfolding IsStrictlySortedBy
   ascends-chosen [] xs p = tt
   ascends-chosen (b ∷ bs) [] p = tt
-  ascends-chosen (true ∷ bs) (x ∷ xs) p = (each-chosen (λ y. cmp x y ≡ Less) bs xs p.0, ascends-chosen bs xs p.1)
+  ascends-chosen (true ∷ bs) (x ∷ xs) p = grind (arith, ascends-chosen bs xs p.1, each-chosen)
   ascends-chosen (false ∷ bs) (x ∷ xs) p = ascends-chosen bs xs p.1

@@ -1,8 +1,8 @@
 -- Clones of the elements of an ascending list, where clones are equal to their sources.
-use Rattle.std.proofs.Common.{◌≡◌, List, [], ◌∷◌, sym, ◌∙◌}
+use Rattle.std.proofs.Common.{◌≡◌, List, [], ◌∷◌, arith}
 use Rattle.std.specs.List.{AllByRecursion, AllZip}
 use Rattle.std.specs.List.Sorted.{IsStrictlySortedBy}
-use Rattle.std.specs.Cmp.{IsTotalOrder, alike_right, tied_itself}
+use Rattle.std.specs.Cmp.{IsTotalOrder}
 use Rattle.std.specs.declared.cmp.Ordering.{Ordering}
 use Rattle.std.specs.declared.cmp.Ordering.TheVariants.{Less, Equal}
 use Rattle.vc_merge.specs.Ascending.{Ascends}
@@ -11,7 +11,7 @@ use Rattle.vc_merge.specs.Clones.{ClonesAreEqual}
 -- a clone that compares as its source does is equal to it
 pub clone-equal : {X : Type 0} (cmp : X → X → Ordering) → IsTotalOrder cmp → (is_clone : X → X → Type 0)
     → ClonesAreEqual cmp is_clone → (x y : X) → is_clone x y → cmp x y ≡ Equal
-clone-equal cmp total is_clone alike x y h = alike x y h y ∙ tied_itself total y
+clone-equal cmp total is_clone alike x y h = grind arith
 
 module _ {X : Type 0} (cmp : X → X → Ordering) (total : IsTotalOrder cmp) (is_clone : X → X → Type 0)
     (equal : (x y : X) → is_clone x y → cmp x y ≡ Equal) where
@@ -21,8 +21,7 @@ module _ {X : Type 0} (cmp : X → X → Ordering) (total : IsTotalOrder cmp) (i
   clones-above x y [] [] e z p = tt
   clones-above x y [] (w ∷ ys) e z p = absurd z
   clones-above x y (v ∷ xs) [] e z p = absurd z
-  clones-above x y (v ∷ xs) (w ∷ ys) e z p =
-      (sym (total.congr x y w e) ∙ sym (alike_right total v w x (equal v w z.0)) ∙ p.0, clones-above x y xs ys e z.1 p.1)
+  clones-above x y (v ∷ xs) (w ∷ ys) e z p = grind (arith, clones-above x y xs ys e z.1 p.1)
 
   -- the clones of an ascending list ascend
   pub clones-ascend : (xs ys : List X) → AllZip is_clone xs ys → Ascends cmp xs → Ascends cmp ys
@@ -30,4 +29,4 @@ module _ {X : Type 0} (cmp : X → X → Ordering) (total : IsTotalOrder cmp) (i
   clones-ascend [] [] z p = tt
   clones-ascend [] (y ∷ ys) z p = absurd z
   clones-ascend (x ∷ xs) [] z p = absurd z
-  clones-ascend (x ∷ xs) (y ∷ ys) z p = (clones-above x y xs ys (equal x y z.0) z.1 p.0, clones-ascend xs ys z.1 p.1)
+  clones-ascend (x ∷ xs) (y ∷ ys) z p = grind (arith, clones-ascend xs ys z.1 p.1, clones-above)

@@ -11,25 +11,23 @@ module _ {X : Type 0} where
   -- a write changes nothing behind it
   drop-set_before : (l : List X) (i j : ℕ) (b : X) → i < j → drop j (set l i b) ≡ drop j l
   drop-set_before [] i j b h = refl
-  drop-set_before (x ∷ l) i zero b h = absurd (omega arith)
+  drop-set_before (x ∷ l) i zero b h = grind arith
   drop-set_before (x ∷ l) zero (suc j) b h = refl
   drop-set_before (x ∷ l) (suc i) (suc j) b h = drop-set_before l i j b (omega arith)
 
   -- the front of a list, once the element at i was swapped to k
   front-swapped : (ys : List X) (k i : ℕ) (d : X) → k ≤ i → i < length ys
       → take (suc k) (set (set ys k (get_or ys i d)) i (get_or ys k d)) ≡ take k ys ++ get_or ys i d ∷ []
-  front-swapped [] k i d le lt = absurd (omega arith)
-  front-swapped (y ∷ ys) zero zero d le lt = refl
-  front-swapped (y ∷ ys) zero (suc i) d le lt = refl
-  front-swapped (y ∷ ys) (suc k) zero d le lt = absurd (omega arith)
-  front-swapped (y ∷ ys) (suc k) (suc i) d le lt = ap (λ l. y ∷ l) (front-swapped ys k i d (omega arith) (omega arith))
+  front-swapped [] k i d le lt = grind arith
+  front-swapped (y ∷ ys) zero i d le lt = grind arith
+  front-swapped (y ∷ ys) (suc k) zero d le lt = grind arith
+  front-swapped (y ∷ ys) (suc k) (suc i) d le lt = grind (arith, front-swapped ys k i d)
 
 module _ {S X : Type 0} (R : S → X → Bool → S → Type 0) where
   -- what is chosen of a list, by its first element
   chosen-cons : (b : Bool) (bs : List Bool) (x : X) (xs : List X)
       → cond b (x ∷ items_where_true bs xs) (items_where_true bs xs) ≡ items_where_true (b ∷ bs) (x ∷ xs)
-  chosen-cons true bs x xs = refl
-  chosen-cons false bs x xs = refl
+  chosen-cons b bs x xs = grind arith
 
   -- a test that is asked at one more element in front
   filtered-cons : (s t : S) (x : X) (b : Bool) (xs zs : List X) → R s x b t → IsFiltered R t xs zs
@@ -46,13 +44,13 @@ module _ {S X : Type 0} (R : S → X → Bool → S → Type 0) where
 
   -- before the first question
   pub KeepsInFront-start : (s : S) (xs : List X) → KeepsInFront s xs s xs 0 0
-  KeepsInFront-start s xs = record { behind = omega arith; long = refl; rest = refl; going = λ zs f. f }
+  KeepsInFront-start s xs = grind arith
 
   module _ (s₀ : S) (xs : List X) (s t : S) (ys : List X) (k i : ℕ) (x : X) (h : KeepsInFront s₀ xs s ys k i)
       (lt : i < length ys) (is : x ≡ get_or ys i x) where
     -- the element at i, and what stands behind it, are what is left of the list
     both : x ∷ drop (suc i) ys ≡ drop i xs
-    both = ap (λ y. y ∷ drop (suc i) ys) is ∙ sym (drop-cons ys i x lt) ∙ h.rest
+    both = grind (arith, drop-cons)
 
     -- behind it, nothing was moved
     later : drop (i + 1) ys ≡ drop (i + 1) xs
@@ -62,7 +60,7 @@ module _ {S X : Type 0} (R : S → X → Bool → S → Type 0) where
 
     -- the element at i is the first of what is left of the list
     pub KeepsInFront-next : drop i xs ≡ x ∷ drop (i + 1) xs
-    KeepsInFront-next = sym both ∙ ap (λ l. x ∷ l) (ap (λ j. drop j ys) (sym (add-one i)) ∙ later)
+    KeepsInFront-next = grind (arith, both, add-one, later)
 
     -- one more answer
     asked : (b : Bool) (zs : List X) → R s x b t → IsFiltered R t (drop (i + 1) xs) zs
@@ -101,7 +99,7 @@ module _ {S X : Type 0} (R : S → X → Bool → S → Type 0) where
   drop-past : (xs : List X) (i : ℕ) → length xs ≤ i → drop i xs ≡ []
   drop-past [] zero le = refl
   drop-past [] (suc i) le = refl
-  drop-past (x ∷ xs) zero le = absurd (omega arith)
+  drop-past (x ∷ xs) zero le = grind arith
   drop-past (x ∷ xs) (suc i) le = drop-past xs i (omega arith)
 
   -- all were asked

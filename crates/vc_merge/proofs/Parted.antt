@@ -1,6 +1,6 @@
 -- A list with a gap behind its elements, and others behind that.
 use Rattle.std.proofs.Common.{◌≡◌, ℕ, ◌≤◌, Result, IsOk, is_err, Ok, Err, OnOk, Bool, false, List, ◌++◌, length, take}
-use Rattle.std.proofs.Common.{drop, sym, ap, ◌∙◌, refl, drop_at}
+use Rattle.std.proofs.Common.{drop, sym, ◌∙◌, refl, drop_at, arith}
 use mathlib.Core.Bool.{true≢false}
 use Rattle.std.proofs.lemmas.List.{take-append-le}
 use Rattle.smallvec.specs.SmallVec.{SmallVec, with_items}
@@ -18,8 +18,7 @@ not-refused (Err e) P refused i f h = absurd (true≢false (sym i ∙ f))
 
 -- what follows where a call was not refused
 pub on-ok : {A E : Type 0} (result : Result A E) (P Q : Type 0) → (P → Q) → OnOk result P → OnOk result Q
-on-ok (Ok a) P Q f h = f h
-on-ok (Err e) P Q f h = tt
+on-ok A P result f h = grind arith
 
 -- the elements are the first `end` ones, and the others stand from `next` on
 pub record IsParted {X : Type 0} (old added all : List X) (end next : ℕ) : Type 0 where
@@ -38,4 +37,4 @@ is-parted {old} gapped {added} {pushed} {all} {end} {next} ends nexts front gap 
 -- a list that was written through its slice, and cut off
 pub cut-off : {X : Type 0} (v : SmallVec X) (lent written new : List X) (kept : ℕ) → lent ≡ v.items → length written ≡ length lent
     → new ≡ take kept (with_items v written).items → new ≡ take kept written
-cut-off v lent written new kept e long cut = cut ∙ ap (take kept) (items-with_items v written (long ∙ ap length e))
+cut-off v lent written new kept e long cut = grind (arith, items-with_items)

@@ -1,6 +1,6 @@
 -- What a test leaves of an ascending list, element by element.
 use Rattle.std.proofs.Common.{◌≡◌, Bool, true, false, cond, List, [], ◌∷◌, length, Option, Some, None, is_some}
-use Rattle.std.proofs.Common.{IsTrue, refl, sym, ap, subst, ◌∙◌, arith}
+use Rattle.std.proofs.Common.{IsTrue, refl, arith}
 use mathlib.Core.Bool.{true≢false}
 use Rattle.std.specs.List.{AllByRecursion, items_where_true}
 use Rattle.std.specs.List.Retain.{IsFiltered, ReturnsInTurn}
@@ -19,35 +19,26 @@ module _ {F X : Type 0} (cmp : X → X → Ordering) (total : IsTotalOrder cmp) 
   asked-first : (b : Bool) (y x : X) (bs : List Bool) (xs : List X) → eq_by_cmp cmp y x ≡ true
       → AllByRecursion (λ z. cmp y z ≡ Less) xs
       → element_at cmp (items_where_true (b ∷ bs) (y ∷ xs)) x ≡ cond b (Some y) None
-  asked-first true y x bs xs e p = element_at-first cmp y (items_where_true bs xs) x e
-  asked-first false y x bs xs e p =
-      element_at-none cmp total y x (items_where_true bs xs) (each-chosen (λ z. cmp y z ≡ Less) bs xs p) e
+  asked-first b y x bs xs e p = grind (arith, element_at-first, element_at-none, each-chosen)
 
   -- it stands elsewhere
   asked-later : (b : Bool) (y x : X) (bs : List Bool) (xs : List X) → eq_by_cmp cmp y x ≡ false
       → element_at cmp (items_where_true (b ∷ bs) (y ∷ xs)) x ≡ element_at cmp (items_where_true bs xs) x
-  asked-later true y x bs xs e = element_at-later cmp y (items_where_true bs xs) x e
-  asked-later false y x bs xs e = refl
+  asked-later b y x bs xs e = grind arith
 
   asked-by : (e : Bool) (f g h : F) (b : Bool) (y x : X) (bs : List Bool) (xs : List X) → eq_by_cmp cmp y x ≡ e
       → calls f y b g → AllByRecursion (λ z. cmp y z ≡ Less) xs
       → IsRetained calls (element_at cmp xs x) (element_at cmp (items_where_true bs xs) x)
       → IsRetained calls (element_at cmp (y ∷ xs) x) (element_at cmp (items_where_true (b ∷ bs) (y ∷ xs)) x)
-  asked-by true f g h b y x bs xs e r p later =
-      subst (λ o. IsRetained calls o (element_at cmp (items_where_true (b ∷ bs) (y ∷ xs)) x))
-      (sym (element_at-first cmp y xs x e)) (f, g, b, r, asked-first b y x bs xs e p)
-  asked-by false f g h b y x bs xs e r p later =
-      subst (λ o. IsRetained calls o (element_at cmp (items_where_true (b ∷ bs) (y ∷ xs)) x))
-      (sym (element_at-later cmp y xs x e))
-      (subst (λ o. IsRetained calls (element_at cmp xs x) o) (sym (asked-later b y x bs xs e)) later)
+  asked-by e f g h b y x bs xs k r p later = grind (arith, element_at-first, asked-first, element_at-later, asked-later)
 
   asked-each : (f g : F) (bs : List Bool) (xs : List X) → length bs ≡ length xs → ReturnsInTurn calls f bs xs g
       → Ascends cmp xs → (x : X)
       → IsRetained calls (element_at cmp xs x) (element_at cmp (items_where_true bs xs) x)
   unfolding IsStrictlySortedBy
   asked-each f g [] [] n r p x = refl
-  asked-each f g [] (y ∷ xs) n r p x = absurd (omega arith)
-  asked-each f g (b ∷ bs) [] n r p x = absurd (omega arith)
+  asked-each f g [] (y ∷ xs) n r p x = grind arith
+  asked-each f g (b ∷ bs) [] n r p x = grind arith
   asked-each f g (b ∷ bs) (y ∷ xs) n r p x =
       let m : length bs ≡ length xs = omega arith in
       asked-by (eq_by_cmp cmp y x) f r.0 g b y x bs xs refl r.1 p.0 (asked-each r.0 g bs xs m r.2 p.1 x)
@@ -55,15 +46,12 @@ module _ {F X : Type 0} (cmp : X → X → Ordering) (total : IsTotalOrder cmp) 
   -- what is left after the test was asked at each element
   pub asked : (f : F) (xs ys : List X) → Ascends cmp xs → IsFiltered calls f xs ys → (x : X)
       → IsRetained calls (element_at cmp xs x) (element_at cmp ys x)
-  asked f xs ys p h x = subst (λ l. IsRetained calls (element_at cmp xs x) (element_at cmp l x)) (sym h.4)
-      (asked-each f h.1 h.0 xs h.2 h.3 p x)
+  asked f xs ys p h x = grind (arith, asked-each)
 
   asked-is_some : (o kept : Option X) → IsRetained calls o kept → is_some kept ≡ true → is_some o ≡ true
-  asked-is_some (Some y) kept h e = refl
-  asked-is_some None kept h e = absurd (true≢false (sym e ∙ ap is_some h))
+  asked-is_some o kept h e = grind arith
 
   -- nothing new is left
   pub asked-member : (xs ys : List X) (x : X) → IsRetained calls (element_at cmp xs x) (element_at cmp ys x)
       → IsTrue (member cmp ys x) → IsTrue (member cmp xs x)
-  asked-member xs ys x h e = member-is_some cmp xs x
-      ∙ asked-is_some (element_at cmp xs x) (element_at cmp ys x) h (sym (member-is_some cmp ys x) ∙ e)
+  asked-member xs ys x h e = grind (arith, member-is_some, asked-is_some)

@@ -1,8 +1,8 @@
 -- What a search for the first element of one list in the other says of both lists, in either direction.
 --     place-left        for the first left element in the right list
 --     place-right        for the first right element in the left list: the same under the order that has its sides swapped
-use Rattle.std.proofs.Common.{◌≡◌, ℕ, zero, suc, ◌+◌, ◌-◌, ◌<◌, ◌≤◌, List, [], ◌∷◌, length, take, drop, get_or}
-use Rattle.std.proofs.Common.{length-drop, Result, Ok, Err, ◌⊎◌, inl, inr, ap, subst, ◌∙◌, arith}
+use Rattle.std.proofs.Common.{◌≡◌, ℕ, zero, suc, ◌+◌, ◌<◌, ◌≤◌, List, [], ◌∷◌, length, take, drop, get_or}
+use Rattle.std.proofs.Common.{length-drop, Result, Ok, Err, ◌⊎◌, inl, inr, ap, ◌∙◌, arith}
 use Rattle.std.specs.Cmp.{IsTotalOrder}
 use Rattle.std.specs.List.{AllByRecursion, HoldsAt}
 use Rattle.std.specs.List.Sorted.{IsStrictlySortedBy}
@@ -14,7 +14,6 @@ use Rattle.vc_merge.specs.Progress.{LeftBelow, RightBelow, HeadsCompare, IsLeftP
 use Rattle.vc_merge.specs.Plan.{fewer}
 use Rattle.vc_merge.specs.Script.{BothAscend}
 use Rattle.vc_merge.specs.declared.plan.Side.{Side}
-use Rattle.vc_merge.specs.declared.plan.Side.TheVariants.{Left, Right}
 use Rattle.vc_merge.proofs.ListLemmas.{each-weaker}
 use Rattle.vc_merge.proofs.Scripts.{below-lefts}
 
@@ -27,41 +26,28 @@ module _ {A B : Type 0} (order : A ⊎ B → A ⊎ B → Ordering) (total : IsTo
 
   heads-equal : (x : A) (ls : List A) (rs : List B) (i : ℕ) → i < length rs
       → HoldsAt (λ y. order (inr y) (inl x) ≡ Equal) rs i → HeadsCompare order (x ∷ ls) (drop i rs) Equal
-  heads-equal x ls [] i h e = absurd (omega arith)
+  heads-equal x ls [] i h e = grind arith
   heads-equal x ls (y ∷ rs) zero h e = total.antisymm (inl x) (inr y) ∙ ap ordering_reverse (e y)
   heads-equal x ls (y ∷ rs) (suc i) h e = heads-equal x ls rs i (omega arith) e
 
   -- the first left element is below the right ones behind the gap
   upper : (x : A) (ys : List B) → AllByRecursion (λ y. order (inr y) (inl x) ≡ Greater) ys
       → AllByRecursion (λ y. order (inl x) (inr y) ≡ Less) ys
-  upper x ys p = each-weaker (λ y. order (inr y) (inl x) ≡ Greater) (λ y. order (inl x) (inr y) ≡ Less)
-      (λ y h. total.antisymm (inl x) (inr y) ∙ ap ordering_reverse h) ys p
+  upper x ys p = grind (arith, each-weaker)
 
   first-below : (x : A) (ls : List A) (ys : List B) → AllByRecursion (λ y. order (inl x) (inr y) ≡ Less) ys
       → LeftBelow order (take 1 (x ∷ ls)) ys
-  first-below x [] ys p = (p, tt)
-  first-below x (l ∷ ls) ys p = (p, tt)
+  first-below x ls ys p = grind arith
 
   placed : (ls : List A) (rs : List B) (x : A) (r : Result ℕ ℕ) → BothAscend order (x ∷ ls) rs
       → IsPlace (λ y. order (inr y) (inl x)) rs r → IsLeftPlace order (x ∷ ls) rs r
   unfolding IsStrictlySortedBy
-  placed ls rs x (Ok i) p q = (
-    let w = q.within in
-        omega arith,
-    lower x ls (take i rs) p.left.0 q.less,
-    heads-equal x ls rs i q.within q.equal,
-  )
-  placed ls rs x (Err i) p q = (
-    q.within,
-    lower x ls (take i rs) p.left.0 q.less,
-    first-below x ls (drop i rs)
-        (upper x (drop i rs) q.greater),
-  )
+  placed ls rs x (Ok i) p q = grind (arith, lower x ls (take i rs) p.left.0 q.less, heads-equal x ls rs i q.within q.equal)
+  placed ls rs x (Err i) p q = grind (arith, lower, first-below, upper)
 
   pub place-left : (ls : List A) (rs : List B) (x : A) (r : Result ℕ ℕ) → BothAscend order ls rs → 0 < length ls
       → x ≡ get_or ls 0 x → IsPlace (λ y. order (inr y) (inl x)) rs r → IsLeftPlace order ls rs r
-  place-left [] rs x r p h e q = absurd (omega arith)
-  place-left (l ∷ ls) rs x r p h e q = placed ls rs l r p (subst (λ z. IsPlace (λ y. order (inr y) (inl z)) rs r) e q)
+  place-left ls rs x r p h e q = grind (arith, placed)
 
 -- the other side
 abbrev swapped : {A B : Type 0} → A ⊎ B → B ⊎ A
@@ -79,32 +65,20 @@ module _ {A B : Type 0} (order : A ⊎ B → A ⊎ B → Ordering) (total : IsTo
     congr = λ u v w. total.congr (swapped u) (swapped v) (swapped w);
   }
 
-  heads-swapped : (ls : List A) (rs : List B) → HeadsCompare mirrored rs ls Equal → HeadsCompare order ls rs Equal
-  heads-swapped [] [] h = absurd h
-  heads-swapped [] (y ∷ rs) h = absurd h
-  heads-swapped (x ∷ ls) [] h = absurd h
-  heads-swapped (x ∷ ls) (y ∷ rs) h = total.antisymm (inl x) (inr y) ∙ ap ordering_reverse h
-
   place-swapped : (ls : List A) (rs : List B) (r : Result ℕ ℕ) → IsLeftPlace mirrored rs ls r → IsRightPlace order ls rs r
-  place-swapped ls rs (Ok i) q = (q.0, q.1, heads-swapped (drop i ls) rs q.2)
-  place-swapped ls rs (Err i) q = q
+  place-swapped ls rs r q = grind arith
 
   pub place-right : (ls : List A) (rs : List B) (y : B) (r : Result ℕ ℕ) → BothAscend order ls rs → 0 < length rs
       → y ≡ get_or rs 0 y → IsPlace (λ x. order (inl x) (inr y)) ls r → IsRightPlace order ls rs r
-  place-right ls rs y r p h e q =
-      place-swapped ls rs r (place-left mirrored mirrored-total rs ls y r (record { left = p.right; right = p.left }) h e q)
+  place-right ls rs y r p h e q = grind (arith, place-swapped, place-left, mirrored-total)
 
 -- ---- what the searches leave
 
 -- what is left of what is left is shorter by what was taken, where there was so much
 pub drop-shorter : {X : Type 0} (xs ys zs : List X) (m n : ℕ) → xs ≡ drop m ys → ys ≡ drop n zs → n ≤ length zs
     → length xs + n ≤ length zs
-drop-shorter xs ys zs m n e f h =
-    let p : length xs ≡ length ys - m = ap length e ∙ length-drop m ys in
-    let q : length ys ≡ length zs - n = ap length f ∙ length-drop n zs in
-    omega arith
+drop-shorter xs ys zs m n e f h = grind (arith, length-drop)
 
 -- where both lists have an element, so has the shorter one
 pub fewer-some : (side : Side) (left right : ℕ) → 0 < left → 0 < right → 0 < fewer side left right
-fewer-some Left left right h k = h
-fewer-some Right left right h k = k
+fewer-some side left right h k = grind arith

@@ -1,5 +1,5 @@
 -- Elements that move within a list, and what a merge of two parts of a list shows of them.
-use Rattle.std.proofs.Common.{◌≡◌, ℕ, zero, suc, ◌+◌, ◌-◌, ◌<◌, ◌≤◌, List, ◌∷◌, ◌++◌, length, take, drop, set, refl, sym}
+use Rattle.std.proofs.Common.{◌≡◌, ℕ, ◌+◌, ◌-◌, ◌<◌, ◌≤◌, List, ◌∷◌, ◌++◌, length, take, drop, set, refl, sym}
 use Rattle.std.proofs.Common.{Bool, true, false, ap, ◌∙◌, arith, rules, drop-drop}
 use Rattle.std.specs.Int.{from_bool}
 use Rattle.std.specs.Ordering.{is_le, is_ge}
@@ -18,14 +18,14 @@ module _ {X : Type 0} where
   -- ---- parts of a list
 
   take-take : (n m : ℕ) (xs : List X) → n ≤ m → take n (take m xs) ≡ take n xs
-  take-take n m xs h = same_lists _ _ (search (rules, places)) (λ k d h. grind (arith, places))
+  take-take n m xs h = grind (arith, same_lists, places)
 
   drop-take : (n m : ℕ) (xs : List X) → n ≤ m → drop n (take m xs) ≡ take (m - n) (drop n xs)
-  drop-take n m xs h = same_lists _ _ (search (rules, places)) (λ k d h. grind (arith, places))
+  drop-take n m xs h = grind (arith, same_lists, places)
 
   -- how many there are at most from s up to e
   pub part-at_most : (xs : List X) (s e n : ℕ) → n ≤ length (take (e - s) (drop s xs)) → n ≤ e - s
-  part-at_most xs s e n h = let cut : length (take (e - s) (drop s xs)) ≤ e - s = search (rules, places) in omega arith
+  part-at_most xs s e n h = grind (arith, places)
 
   -- what is left of a part, once n were passed
   pub part-drop : (xs : List X) (s e n : ℕ) → n ≤ e - s → take (e - (s + n)) (drop (s + n) xs) ≡ drop n (take (e - s) (drop s xs))
@@ -34,11 +34,7 @@ module _ {X : Type 0} where
   -- a part of a part
   part-part : (xs : List X) (a b s e : ℕ) → a ≤ s → s ≤ e → e ≤ b
       → take (e - s) (drop (s - a) (take (b - a) (drop a xs))) ≡ take (e - s) (drop s xs)
-  part-part xs a b s e h i j =
-      let count : b - a - (s - a) ≡ b - s = omega arith in let from : a + (s - a) ≡ s = omega arith in
-      ap (take (e - s)) (drop-take (s - a) (b - a) (drop a xs) (omega arith)
-      ∙ (λ k. take (count k) (drop-drop (s - a) a xs k)) ∙ ap (λ k. take (b - s) (drop k xs)) from)
-      ∙ take-take (e - s) (b - s) (drop s xs) (omega arith)
+  part-part xs a b s e h i j = grind (arith, drop-take, drop-drop, take-take)
 
   -- ---- calls on slices
 
@@ -97,10 +93,7 @@ module _ {X : Type 0} where
   -- a part before the place
   pub part-before : (xs : List X) (s e i : ℕ) (x : X) → s ≤ i → e ≤ i → take (e - s) (drop s (set xs i x))
       ≡ take (e - s) (drop s xs)
-  part-before xs s e i x h k =
-      let at : s + (i - s) ≡ i = omega arith in
-      ap (λ j. take (e - s) (drop s (set xs j x))) (sym at) ∙ ap (take (e - s)) (drop-set-add s xs (i - s) x)
-      ∙ take-set-le (e - s) (drop s xs) (i - s) x (omega arith)
+  part-before xs s e i x h k = grind (arith, drop-set-add s xs (i - s) x, take-set-le (e - s) (drop s xs) (i - s) x)
 
   -- an element changed places with one before it
   pub Trades-one : (xs ys : List X) (at next : ℕ) → at < next → next < length xs → length ys ≡ length xs
@@ -125,29 +118,24 @@ module _ {X : Type 0} where
     -- once what is left moved up
     module _ (moved : MovesUp xs s e next ys) where
       pub up-built : take b ys ≡ take b xs
-      up-built = sym (take-take b s ys hole) ∙ ap (take b) moved.front ∙ take-take b s xs hole
+      up-built = grind (arith, take-take b s ys hole, take-take b s xs hole)
 
     -- once the first n that were left moved down
     module _ (n : ℕ) (few : n ≤ e - s) (moved : MovesDown xs b s n ys) where
       pub down-built : take (b + n) ys ≡ take b xs ++ take n (take (e - s) (drop s xs))
-      down-built = moved.front ∙ ap (λ l. take b xs ++ l) (sym (take-take n (e - s) (drop s xs) few))
+      down-built = grind (arith, take-take)
 
       pub down-left : take (e - (s + n)) (drop (s + n) ys) ≡ drop n (take (e - s) (drop s xs))
-      down-left = ap (take (e - (s + n))) moved.rest ∙ part-drop xs s e n few
+      down-left = grind (arith, part-drop)
 
       pub down-right : drop next ys ≡ drop next xs
-      down-right =
-          let more : s + n + (next - (s + n)) ≡ next = omega arith in
-          ap (λ k. drop k ys) (sym more) ∙ sym (drop-drop (next - (s + n)) (s + n) ys) ∙ ap (drop (next - (s + n))) moved.rest
-          ∙ drop-drop (next - (s + n)) (s + n) xs ∙ ap (λ k. drop k xs) more
+      down-right = grind (arith, drop-drop (next - (s + n)) (s + n) ys, drop-drop (next - (s + n)) (s + n) xs)
 
     module _ (n : ℕ) where
       -- once n of the right part moved into the hole
       module _ (apart : b + n ≤ s) (traded : Trades xs b next n ys) where
         pub trade-left : take (e - s) (drop s ys) ≡ take (e - s) (drop s xs)
-        trade-left =
-            sym (part-part ys (b + n) next s e apart left gap) ∙ ap (λ l. take (e - s) (drop (s - (b + n)) l)) traded.between
-            ∙ part-part xs (b + n) next s e apart left gap
+        trade-left = grind (arith, part-part ys (b + n) next s e apart left gap, part-part xs (b + n) next s e apart left gap)
 
       -- once n of the right part moved before all that lay between
       module _ (turned : Turns xs b next n ys) where
@@ -176,7 +164,7 @@ module _ {X : Type 0} where
     low = omega arith
 
     down : Trades xs b s 1 ys → MovesDown xs b s 1 ys
-    down t = record { same_length = t.same_length; front = t.front; rest = t.rest }
+    down t = grind arith
 
     pub passed : (o : Ordering) (keep : Bool) → Trades xs b (lesser_place o s next) 1 ys
         → (take (b + from_bool keep) ys
@@ -205,12 +193,10 @@ module _ {X : Type 0} where
   -- ---- an element written over the first one of a part
 
   pub first-of : (n : ℕ) (ys zs : List X) (x : X) → ys ≡ x ∷ zs → 1 ≤ n → take n ys ≡ x ∷ drop 1 (take n ys)
-  first-of zero ys zs x e h = absurd (omega arith)
-  first-of (suc n) ys zs x e h = rw e refl
+  first-of n ys zs x e h = grind arith
 
   pub first-over : (n : ℕ) (ys ws zs : List X) (x y : X) → ys ≡ x ∷ zs → ws ≡ y ∷ zs → 1 ≤ n → take n ws ≡ y ∷ drop 1 (take n ys)
-  first-over zero ys ws zs x y e f h = absurd (omega arith)
-  first-over (suc n) ys ws zs x y e f h = rw (e, f) refl
+  first-over n ys ws zs x y e f h = grind arith
 
   pub first-on : (ys zs : List X) (x : X) → ys ≡ x ∷ zs → ys ≡ x ∷ drop 1 ys
   first-on ys zs x e = rw e refl

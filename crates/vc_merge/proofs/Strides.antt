@@ -10,8 +10,6 @@ use Rattle.std.proofs.lemmas.Bool.{cases_lt}
 use Rattle.std.proofs.lemmas.Nat.{le-div, pow_pos}
 use Rattle.vc_merge.specs.Count.{by_strides, digits}
 use Rattle.vc_merge.specs.declared.plan.Plan.{Plan}
-use Rattle.vc_merge.specs.declared.plan.Plan.TheVariants.{Walk, Search}
-use Rattle.vc_merge.specs.declared.plan.Side.TheVariants.{Left, Right}
 use Rattle.vc_merge.specs.Plan.{planned}
 use Rattle.vc_merge.proofs.Digits.{digits-enough, digits-least, digits-half, digits-monotone}
 
@@ -21,15 +19,11 @@ stride-more n k h = add-div_right n h
 
 -- no further with fewer
 pub stride-within : (m n k : ℕ) → 0 < k → m ≤ n → m / k ≤ n / k
-stride-within m n k h l = let whole : m / k * k ≤ m = div-mul-le_self m k in le-div (m / k) n k h (omega arith)
+stride-within m n k h l = grind arith
 
 -- two ways together are no shorter
 apart : (m n k : ℕ) → 0 < k → m / k + n / k ≤ (m + n) / k
-apart m n k h =
-    let whole : m / k * k ≤ m = div-mul-le_self m k in
-    let sum : (n + m / k * k) / k ≡ n / k + m / k = add-mul-div_right n (m / k) h in
-    let most : (n + m / k * k) / k ≤ (m + n) / k = stride-within (n + m / k * k) (m + n) k h (omega arith) in
-    omega arith
+apart m n k h = grind (arith, div-mul-le_self m k, add-mul-div_right n (m / k) h, stride-within (n + m / k * k) (m + n) k h)
 
 -- ---- one search more
 
@@ -46,44 +40,30 @@ place-paid t a b p n r h l =
 pub more-paid : (t a : ℕ) {b : ℕ} (few before n r : ℕ) {start : ℕ} → few < before → b ≤ a + t + n / 2 ^ t → b + r / 2 ^ t ≤ a +
     (t + 1) + n / 2 ^ t
     → a + by_strides t before n ≤ start → b + by_strides t few r ≤ start
-more-paid t a {b} few zero n r {start} h k l w = absurd (omega arith)
-more-paid t a {b} zero (suc before) n r {start} h k l w =
-    let m : 1 * t ≤ suc before * t = mul-le-mul_right {m = 1} {n = suc before} t (omega arith) in
-    omega arith
+more-paid t a {b} few zero n r {start} h k l w = grind arith
+more-paid t a {b} zero (suc before) n r {start} h k l w = grind arith
 more-paid t a {b} (suc few) (suc before) n r {start} h k l w =
-    let m : suc (suc few) * t ≤ suc before * t = mul-le-mul_right {m = suc (suc few)} {n = suc before} t (omega arith) in
-    let sum : suc (suc few) * t ≡ suc few * t + t = omega arith in
-    omega arith
+    grind (arith, mul-le-mul_right {m = suc (suc few)} {n = suc before} t)
 
 -- it was the last search
 pub last-paid : (t a b before n start : ℕ) → 0 < before → b ≤ a + t + n / 2 ^ t → a + by_strides t before n ≤ start → b ≤ start
-last-paid t a b before n start h k w =
-    let e : 0 / 2 ^ t ≤ n / 2 ^ t = stride-within 0 n (2 ^ t) (pow_pos t) (omega arith) in
-    let m = more-paid t a 0 before n 0 h k (omega arith) w in
-    omega arith
+last-paid t a b before n start h k w = grind arith
 
 -- ---- shorter lists
 
 -- searches for fewer elements in no more others spend no more
 pub strides-fewer : (t s n few r : ℕ) → few ≤ s → r ≤ n → by_strides t few r ≤ by_strides t s n
-strides-fewer t s n zero r h l = omega arith
-strides-fewer t zero n (suc few) r h l = absurd (omega arith)
-strides-fewer t (suc s) n (suc few) r h l =
-    let m : suc few * t ≤ suc s * t = mul-le-mul_right {m = suc few} {n = suc s} t h in
-    let w : r / 2 ^ t ≤ n / 2 ^ t = stride-within r n (2 ^ t) (pow_pos t) l in
-    omega (arith, m, w, h)
+strides-fewer t s n few r h l = grind (arith, mul-le-mul_right, stride-within, pow_pos)
 
 -- a plan spends no more on shorter lists
 pub planned-fewer : (p : Plan) (left right m n : ℕ) → m ≤ left → n ≤ right → planned p m n ≤ planned p left right
-planned-fewer Walk left right m n h l = omega (arith, h, l)
-planned-fewer (Search Left t) left right m n h l = strides-fewer t left right m n h l
-planned-fewer (Search Right t) left right m n h l = strides-fewer t right left n m l h
+planned-fewer p left right m n h l = grind (arith, strides-fewer)
 
 -- ---- strides of the share
 
 -- a product with a power of two has so many digits more
 digits-shifted : (t u : ℕ) → 0 < u → t + digits u ≤ digits (u * 2 ^ t)
-digits-shifted zero u h = let e : u * 2 ^ 0 ≡ u = omega arith in subst (λ n. 0 + digits u ≤ digits n) (sym e) (omega arith)
+digits-shifted zero u h = grind arith
 digits-shifted (suc t) u h =
     let twice : 2 ^ suc t ≡ 2 ^ t * 2 = pow-suc 2 t in
     let some : 0 < u * 2 ^ t = mul-pos u (2 ^ t) h (pow_pos t) in
@@ -100,30 +80,21 @@ digits-shifted (suc t) u h =
     mul-pos (suc m) (suc n) p q = omega arith
 
 pub digits-some : (u : ℕ) → 0 < u → 1 ≤ digits u
-digits-some u h = let e = digits-half u h in omega arith
+digits-some u h = grind (arith, digits-half)
 
 digits-two : (u : ℕ) → 2 ≤ u → 2 ≤ digits u
-digits-two u h = let e = digits-half u (omega arith) in let f = digits-some (u / 2) (omega arith) in omega arith
+digits-two u h = grind (arith, digits-half, digits-some)
 
 digits-three : (u : ℕ) → 4 ≤ u → 3 ≤ digits u
-digits-three u h = let e = digits-half u (omega arith) in let f = digits-two (u / 2) (omega arith) in omega arith
+digits-three u h = grind (arith, digits-half, digits-two)
 
 -- so many searches and strides are paid by so many digits
 strides-paid : (s u : ℕ) → 0 < s → s ≤ u → u < 2 * s → s + u ≤ s * digits u + 1
-strides-paid s u h l k = ⊎_elim (λ w. one w) (λ w. ⊎_elim (λ v. two w v) (λ v. three v) (cases_lt u 4)) (cases_lt u 2)
-  where
-    one : u < 2 → s + u ≤ s * digits u + 1
-    one w = let m : s * 1 ≤ s * digits u = mul-le-mul_left s (digits-some u (omega arith)) in omega arith
-
-    two : 2 ≤ u → u < 4 → s + u ≤ s * digits u + 1
-    two w v = let m : s * 2 ≤ s * digits u = mul-le-mul_left s (digits-two u w) in omega arith
-
-    three : 4 ≤ u → s + u ≤ s * digits u + 1
-    three v = let m : s * 3 ≤ s * digits u = mul-le-mul_left s (digits-three u v) in omega arith
+strides-paid s u h l k = grind (arith, cases_lt, mul-le-mul_left, digits-some, digits-two, digits-three)
 
 -- the share q of n that each of s has, and the greatest power of two that is no greater
 pub strides-few : (s n q t : ℕ) → 0 < s → s ≤ n → q ≡ n / s → suc t ≡ digits q → by_strides t s n ≤ s * digits n
-strides-few zero n q t h l e d = absurd (omega arith)
+strides-few zero n q t h l e d = grind arith
 strides-few (suc s) n q t h l e d =
     let enough : q < 2 ^ suc t = subst (λ k. q < 2 ^ k) (sym d) (digits-enough q) in
     let twice : 2 ^ suc t ≡ 2 ^ t * 2 = pow-suc 2 t in
