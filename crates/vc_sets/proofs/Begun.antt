@@ -1,6 +1,6 @@
 -- Events that are taken one by one, and what is kept of them.
 use Rattle.std.proofs.Common.{◌≡◌, ℕ, ◌+◌, ◌<◌, Bool, true, false, List, [], ◌∷◌, ◌++◌, map, take, drop, set, length}
-use Rattle.std.proofs.Common.{get_or, not, nat_eq, ne_eqb, ◌≤◌, arith, refl, sym, ap, subst, ◌∙◌, append_assoc}
+use Rattle.std.proofs.Common.{get_or, not, nat_eq, ◌≤◌, arith, refl, sym, ap, subst, ◌∙◌, append_assoc}
 use Rattle.std.specs.Int.{from_bool}
 use Rattle.std.specs.Ordering.{is_le, is_ge}
 use denote.Ref.{Bor}
@@ -28,7 +28,7 @@ abbrev pub is_set : ℕ → Bool
 is_set n = not (nat_eq n 0)
 
 pub set-true : (n : ℕ) → (n ≡ 0 → ⊥) → is_set n ≡ true
-set-true n h = ap not (ne_eqb n 0 h)
+set-true n h = grind arith
 
 pub set-false : (n : ℕ) → n ≡ 0 → is_set n ≡ false
 set-false n e = ap is_set e
@@ -40,9 +40,7 @@ keeps_by left right both = keeps (is_set left) (is_set right) (is_set both)
 -- each event keeps an element
 pub keeps-each : (left right both : ℕ) → (left ≡ 0 → ⊥) → (right ≡ 0 → ⊥) → (both ≡ 0 → ⊥)
     → keeps_by left right both ≡ keeps true true true
-keeps-each left right both l r b =
-    ap (λ n. keeps n (is_set right) (is_set both)) (set-true left l)
-    ∙ ap (λ n. keeps true n (is_set both)) (set-true right r) ∙ ap (λ n. keeps true true n) (set-true both b)
+keeps-each left right both l r b = grind arith
 
 -- the event of two heads that compare so
 abbrev event_at : {X : Type 0} → Ordering → X → X → Event X X
@@ -60,33 +58,19 @@ from_right o = from_bool (is_ge o)
 -- what one event gives
 appends-one : {X : Type 0} (gives : Event X X → List X → Type 0) (e : Event X X) (zs old new : List X) → gives e zs
     → new ≡ old ++ zs → Appends gives (e ∷ []) old new
-appends-one gives e zs old new k i = record {
-  added = zs;
-  gathered = (zs, [], k, refl, sym (append-nil zs));
-  items = i;
-}
+appends-one gives e zs old new k i = grind (arith, append-nil)
 
 -- a clone of the lesser head, where an element of each event is kept
 pub appends-clone : {X : Type 0} (from : X → X → Type 0) (x y z : X) (old new : List X) (o : Ordering)
     → from (lesser_of o x y) z → new ≡ old ++ z ∷ []
     → Appends (KeptAt (keeps true true true) from from) (event_at o x y ∷ []) old new
-appends-clone from x y z old new Less c i =
-    appends-one (KeptAt (keeps true true true) from from) (left_alone x) (z ∷ []) old new (z, c, refl) i
-appends-clone from x y z old new Equal c i =
-    appends-one (KeptAt (keeps true true true) from from) (collision x y) (z ∷ []) old new (z, c, refl) i
-appends-clone from x y z old new Greater c i =
-    appends-one (KeptAt (keeps true true true) from from) (right_alone y) (z ∷ []) old new (z, c, refl) i
+appends-clone from x y z old new o c i = grind (arith, appends-one)
 
 module _ {X : Type 0} (cmp : X → X → Ordering) (total : IsTotalOrder cmp) (f : Bool → Bool → Bool) where
   module _ (from : X → X → Type 0) where
     -- before the first event
     pub begun-nothing : (xs ys old : List X) → Ascends cmp xs → Ascends cmp ys → IsBegun cmp from f xs ys xs ys old old
-    begun-nothing xs ys old p q = record {
-      events = [];
-      appends = appends-nothing (KeptAt f from from) old old refl;
-      leads = λ es s. s;
-      ascend = record { left = p; right = q };
-    }
+    begun-nothing xs ys old p q = grind (arith, appends-nothing (KeptAt f from from) old old)
 
     -- some events, and then others
     pub begun-append : {xs ys ms ns ls rs old mid new : List X} → IsBegun cmp from f xs ys ms ns old mid
@@ -133,11 +117,7 @@ module _ {X : Type 0} (cmp : X → X → Ordering) (total : IsTotalOrder cmp) (f
         → BothAscend (both_sides cmp) xs ys
         → Appends (KeptAt f from from) (event_at o x y ∷ []) old new
         → IsBegun cmp from f xs ys (drop (from_left o) xs) (drop (from_right o) ys) old new
-    at-fronts xs ys ls rs old new x y o p q e s i =
-        subst (λ l. IsBegun cmp from f l ys (drop (from_left o) l) (drop (from_right o) ys) old new) (sym p)
-        (subst (λ l. IsBegun cmp from f (x ∷ ls) l (drop (from_left o) (x ∷ ls)) (drop (from_right o) l) old new) (sym q)
-        (one-event x y ls rs old new o e
-        (subst (λ l. BothAscend (both_sides cmp) (x ∷ ls) l) q (subst (λ l. BothAscend (both_sides cmp) l ys) p s)) i))
+    at-fronts xs ys ls rs old new x y o p q e s i = grind (arith, one-event)
 
     -- one event more, at two places
     pub begun-step : (xs ys old mid new : List X) (i j i' j' : ℕ) (x y : X) (o : Ordering) → i < length xs
@@ -159,21 +139,12 @@ module _ {X : Type 0} (cmp : X → X → Ordering) (total : IsTotalOrder cmp) (f
   -- ---- elements themselves
 
   gives-if : (b : Bool) (z : X) → GivesIf b (λ w. z ≡ w) (elim b [ true ↦ z ∷ [] | false ↦ [] ])
-  gives-if true z = (z, refl, refl)
-  gives-if false z = refl
+  gives-if b z = grind arith
 
   -- what is kept at an event, by itself
   pub appends-event : (x y : X) (old new : List X) (o : Ordering) → new ≡ old ++ kept_of f o x y
       → Appends (KeptAt f (λ x y. x ≡ y) (λ x y. x ≡ y)) (event_at o x y ∷ []) old new
-  appends-event x y old new Less i =
-      appends-one (KeptAt f (λ x y. x ≡ y) (λ x y. x ≡ y)) (left_alone x) (kept_of f Less x y) old new
-      (gives-if (f true false) x) i
-  appends-event x y old new Equal i =
-      appends-one (KeptAt f (λ x y. x ≡ y) (λ x y. x ≡ y)) (collision x y) (kept_of f Equal x y) old new
-      (gives-if (f true true) x) i
-  appends-event x y old new Greater i =
-      appends-one (KeptAt f (λ x y. x ≡ y) (λ x y. x ≡ y)) (right_alone y) (kept_of f Greater x y) old new
-      (gives-if (f false true) y) i
+  appends-event x y old new o i = grind (arith, appends-one, gives-if)
 
   -- ---- clones of what is kept
 
@@ -190,12 +161,10 @@ module _ {X : Type 0} (cmp : X → X → Ordering) (total : IsTotalOrder cmp) (f
     gives-cloned : (u : X) (b : Bool) (first rest zs : List X) → GivesIf b (λ z. u ≡ z) first
         → AllZip from (first ++ rest) zs → Parted zs b u rest
     unfolding Parted
-    gives-cloned u true first rest zs g h = first-cloned u g.0 rest zs g.1 (subst (λ l. AllZip from (l ++ rest) zs) g.2 h)
-    gives-cloned u false first rest zs g h = ([], zs, refl, subst (λ l. AllZip from (l ++ rest) zs) g h, refl)
+    gives-cloned u b first rest zs g h = grind (arith, first-cloned)
 
     none-cloned : (zs : List X) → AllZip from [] zs → zs ≡ []
-    none-cloned [] h = refl
-    none-cloned (z ∷ zs) h = absurd h
+    none-cloned zs h = grind arith
 
     gathers-cloned : (es : List (Event X X)) (ks zs : List X)
         → Gathers (KeptAt f (λ x y. x ≡ y) (λ x y. x ≡ y)) es ks → AllZip from ks zs → Gathers (KeptAt f from from) es zs
@@ -214,18 +183,7 @@ module _ {X : Type 0} (cmp : X → X → Ordering) (total : IsTotalOrder cmp) (f
     -- the same events, where a clone of each element that is kept was appended
     pub begun-cloned : {xs ys ls rs ks old new : List X} → IsBegun cmp (λ x y. x ≡ y) f xs ys ls rs [] ks
         → Extends from ks old new → IsBegun cmp from f xs ys ls rs old new
-    begun-cloned {xs} {ys} {ls} {rs} {ks} {old} {new} h k = record {
-      events = h.events;
-      appends = record {
-        added = k.added;
-        gathered = gathers-cloned h.events ks k.added
-            (subst (λ l. Gathers (KeptAt f (λ x y. x ≡ y) (λ x y. x ≡ y)) h.events l)
-            (sym h.appends.items) h.appends.gathered) k.come;
-        items = k.items;
-      };
-      leads = h.leads;
-      ascend = h.ascend;
-    }
+    begun-cloned h k = grind (arith, gathers-cloned)
 
     -- events that were taken one by one, and then those that a merge has built
     pub begun-set_of : f false false ≡ false → ((x z : X) → from x z → cmp x z ≡ Equal)
@@ -239,30 +197,20 @@ module _ {X : Type 0} (cmp : X → X → Ordering) (total : IsTotalOrder cmp) (f
 -- the left head, where something is kept and no right head is
 pub left-lesser : {X : Type 0} (left both : Bool) (o : Ordering) (x y : X) → kept_at (keeps left false both) o ≡ true
     → x ≡ lesser_of o x y
-left-lesser left both Less x y h = refl
-left-lesser left both Equal x y h = refl
-left-lesser left both Greater x y h = absurd (true≢false (sym h))
+left-lesser left both o x y h = grind arith
 
 -- a reference more, where it is kept
 pub kept-more : {X : Type 0} (ps : List (Bor X)) (n m : ℕ) (p : Bor X) (z : X) (b : Bool) → n < length ps
     → (b ≡ true → p.now ≡ z) → m ≡ n + from_bool b
     → map (λ r. r.now) (take m (set ps n p)) ≡ map (λ r. r.now) (take n ps) ++ elim b [ true ↦ z ∷ [] | false ↦ [] ]
-kept-more ps n m p z true h e k =
-    ap (map (λ r. r.now)) (take-set_at ps n m p k h) ∙ map-append (λ r. r.now) (take n ps) (p ∷ [])
-    ∙ ap (λ w. map (λ r. r.now) (take n ps) ++ w ∷ []) (e refl)
-kept-more ps n m p z false h e k =
-    ap (λ i. map (λ r. r.now) (take i (set ps n p))) (k ∙ (let same : n + 0 ≡ n = omega arith in same))
-    ∙ ap (map (λ r. r.now)) (take-set ps n p) ∙ sym (append-nil (map (λ r. r.now) (take n ps)))
+kept-more ps n m p z b h e k = grind (arith, take-set_at, map-append, take-set, append-nil)
 
 -- ---- how many comparisons
 
 -- a number that is 0 or 1
 pub bit-most : (b : Bool) → from_bool b ≤ 1
-bit-most true = omega arith
-bit-most false = omega arith
+bit-most b = grind arith
 
 -- an event takes an element at least
 pub event-some : (o : Ordering) → 1 ≤ from_bool (is_le o) + from_bool (is_ge o)
-event-some Less = omega arith
-event-some Equal = omega arith
-event-some Greater = omega arith
+event-some o = grind arith

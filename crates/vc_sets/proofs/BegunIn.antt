@@ -1,10 +1,9 @@
 -- Two parts of one list that become one in its places, event by event.
-use Rattle.std.proofs.Common.{◌≡◌, Bool, true, false, List, [], ◌∷◌, ◌++◌, take, drop, length, ◌<◌, get_or, refl, sym, ap, ◌∙◌}
+use Rattle.std.proofs.Common.{◌≡◌, Bool, true, List, [], ◌∷◌, ◌++◌, take, drop, length, ◌<◌, get_or, sym, ap, ◌∙◌, arith}
 use Rattle.std.specs.Int.{from_bool}
 use Rattle.std.specs.Ordering.{is_le, is_ge}
 use Rattle.std.specs.Cmp.{IsTotalOrder}
 use Rattle.std.specs.declared.cmp.Ordering.{Ordering}
-use Rattle.std.specs.declared.cmp.Ordering.TheVariants.{Less, Equal, Greater}
 use Rattle.std.proofs.lemmas.List.{drop_more}
 use Rattle.vc_merge.specs.Ascending.{Ascends}
 use Rattle.vc_merge.specs.PartsViews.{list_name, built_items, left_items, right_items, lesser_part, Shows}
@@ -14,44 +13,28 @@ use Rattle.vc_sets.specs.Select.{keeps}
 use Rattle.vc_sets.proofs.Begun.{begun-nothing, begun-append, appends-event, at-fronts}
 
 module _ {X : Type 0} where
-  -- a first element is taken, or not
-  first-if : (b : Bool) (x : X) (ls : List X) → take (from_bool b) (x ∷ ls) ≡ elim b [ true ↦ x ∷ [] | false ↦ [] ]
-  first-if true x ls = refl
-  first-if false x ls = refl
-
   -- what is kept at an event is the first element of the lesser part, or nothing
   kept-first : (f : Bool → Bool → Bool) (o : Ordering) (x y : X) (ls rs : List X)
       → take (from_bool (kept_at f o)) (lesser_part o (x ∷ ls) (y ∷ rs)) ≡ kept_of f o x y
-  kept-first f Less x y ls rs = first-if (f true false) x ls
-  kept-first f Equal x y ls rs = first-if (f true true) x ls
-  kept-first f Greater x y ls rs = first-if (f false true) y rs
+  kept-first f o x y ls rs = grind arith
 
 -- the same of equal lists
 pub begun-seen : {X : Type 0} {cmp : X → X → Ordering} {from : X → X → Type 0} {f : Bool → Bool → Bool}
     {xs ys ls rs old new us vs ms ns was now : List X} → xs ≡ us → ys ≡ vs → old ≡ was → ms ≡ ls → ns ≡ rs → now ≡ new
     → IsBegun cmp from f xs ys ls rs old new → IsBegun cmp from f us vs ms ns was now
-begun-seen a b c d e i h = rw⁻¹ (a, b, c) (rw (d, e, i) h)
+begun-seen a b c d e i h = grind arith
 
 module _ {X : Type 0} (cmp : X → X → Ordering) (total : IsTotalOrder cmp) (both : Bool) where
   pub joined-nothing : (s : PartsState X) → Ascends cmp (left_items s) → Ascends cmp (right_items s) → IsBegunIn cmp both s s
-  joined-nothing s p q = record {
-    name = refl;
-    begun = begun-nothing cmp total (keeps true true both) (λ x y. x ≡ y) (left_items s) (right_items s) (built_items s) p q;
-  }
+  joined-nothing s p q = grind (arith, begun-nothing)
 
   pub joined-append : {s t u : PartsState X} → IsBegunIn cmp both s t → IsBegunIn cmp both t u → IsBegunIn cmp both s u
-  joined-append h k = record {
-    name = k.name ∙ h.name;
-    begun = begun-append cmp total (keeps true true both) (λ x y. x ≡ y) h.begun k.begun;
-  }
+  joined-append h k = grind (arith, begun-append)
 
   -- what stands where may change
   pub joined-shown : {s t u : PartsState X} → IsBegunIn cmp both s t
       → Shows (list_name t) (built_items t) (left_items t) (right_items t) u → IsBegunIn cmp both s u
-  joined-shown {s} {t} {u} h k = record {
-    name = k.name ∙ h.name;
-    begun = rw (k.built, k.left, k.right) h.begun;
-  }
+  joined-shown h k = grind arith
 
   -- one event more
   pub joined-event : {s t u : PartsState X} (x y : X) (o : Ordering) → 0 < length (left_items t) → 0 < length (right_items t)

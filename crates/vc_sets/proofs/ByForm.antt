@@ -2,13 +2,13 @@
 --     member-equal, element-equal        an element that is equal to the form is found as the form is
 --     ordered        an ascending list is ordered round a form
 --     element_at-without_form, element_at-no_form        an element taken out
-use Rattle.std.proofs.Common.{◌≡◌, ℕ, zero, suc, ◌<◌, Bool, true, false, cond, List, [], ◌∷◌, ◌++◌, length}
-use Rattle.std.proofs.Common.{take, drop, get_or, ◌⊎◌, inl, inr, None, refl, sym, ap, ◌∙◌, arith}
+use Rattle.std.proofs.Common.{◌≡◌, ℕ, zero, suc, ◌<◌, Bool, false, cond, List, [], ◌∷◌, ◌++◌, length}
+use Rattle.std.proofs.Common.{take, drop, get_or, ◌⊎◌, None, refl, sym, ap, ◌∙◌, arith}
 use mathlib.Core.Bool.{true≢false}
 use Rattle.std.specs.List.{AllByRecursion}
 use Rattle.std.specs.List.Sorted.{IsStrictlySortedBy}
-use Rattle.std.specs.Cmp.{IsTotalOrder, tied_itself, eq_by_cmp_equiv}
-use Rattle.std.specs.Ordering.{eq_by_cmp, is_eq, is_lt, ordering_reverse}
+use Rattle.std.specs.Cmp.{IsTotalOrder, tied_itself}
+use Rattle.std.specs.Ordering.{eq_by_cmp, is_eq, is_lt}
 use Rattle.std.specs.declared.cmp.Ordering.{Ordering}
 use Rattle.std.specs.declared.cmp.Ordering.TheVariants.{Less, Equal, Greater}
 use Rattle.vc_merge.specs.Ascending.{Ascends, member, element_at}
@@ -21,7 +21,7 @@ use Rattle.vc_sets.proofs.Removing.{element_at-without}
 
 -- an element of a list, which is the same whatever is read beyond its end
 pub at-place : {X : Type 0} (xs : List X) (i : ℕ) → i < length xs → (x : X) × ((d : X) → get_or xs i d ≡ x)
-at-place [] i h = absurd (omega arith)
+at-place [] i h = grind arith
 at-place (x ∷ xs) zero h = (x, λ d. refl)
 at-place (x ∷ xs) (suc i) h = let k : i < length xs = omega arith in at-place xs i k
 
@@ -29,35 +29,30 @@ module _ {K : Type 0} (cmp : K → K → Ordering) (side : K → Ordering)
     (equal : (x y : K) → side x ≡ Equal → side y ≡ cmp y x) where
   -- elements stand to the form as to an element that is equal to it
   pub side-equal : (x : K) → side x ≡ Equal → side ≡ (λ y. cmp y x)
-  side-equal x e = λ i y. equal x y e i
+  side-equal x e = grind arith
 
   -- that element is found as the form is
   pub member-equal : (xs : List K) (x : K) → side x ≡ Equal → member_by side xs ≡ member cmp xs x
-  member-equal xs x e = ap (λ s. member_by s xs) (side-equal x e)
+  member-equal xs x e = grind arith
 
   pub element-equal : (xs : List K) (x : K) → side x ≡ Equal → element_by side xs ≡ element_at cmp xs x
-  element-equal xs x e = ap (λ s. element_by s xs) (side-equal x e)
+  element-equal xs x e = grind arith
 
   -- ---- a list is ordered round a form
 
   module _ (total : IsTotalOrder cmp) (behind : (x y : K) → side x ≡ Greater → cmp x y ≡ Less → side y ≡ Greater) where
     behind-by : (x : K) (o : Ordering) → side x ≡ o → is_lt o ≡ false → (y : K) → cmp x y ≡ Less → side y ≡ Greater
-    behind-by x Less e f y l = absurd (true≢false f)
-    behind-by x Equal e f y l = equal x y e ∙ total.antisymm y x ∙ ap ordering_reverse l
-    behind-by x Greater e f y l = behind x y e l
+    behind-by x o e f y l = grind arith
 
     module _ {X : Type 0} (key : X → K) where
       all-behind : (x : X) (o : Ordering) → side (key x) ≡ o → is_lt o ≡ false → (ys : List X)
           → AllByRecursion (λ y. cmp (key x) (key y) ≡ Less) ys → AllByRecursion (λ y. side (key y) ≡ Greater) ys
-      all-behind x o e f ys = each-weaker (λ y. cmp (key x) (key y) ≡ Less) (λ y. side (key y) ≡ Greater)
-          (λ y. behind-by (key x) o e f (key y)) ys
+      all-behind x o e f ys = grind (arith, each-weaker, behind-by)
 
       beside : (x : X) (ys : List X) (o : Ordering) → side (key x) ≡ o
           → AllByRecursion (λ y. cmp (key x) (key y) ≡ Less) ys
           → (side (key x) ≡ Less) ⊎ AllByRecursion (λ y. side (key y) ≡ Greater) ys
-      beside x ys Less e p = inl e
-      beside x ys Equal e p = inr (all-behind x Equal e refl ys p)
-      beside x ys Greater e p = inr (all-behind x Greater e refl ys p)
+      beside x ys o e p = grind (arith, all-behind)
 
       -- a list that ascends by its keys is ordered round a form of keys
       pub ordered : (xs : List X) → Ascends (λ x y. cmp (key x) (key y)) xs → IsOrdered (λ x. side (key x)) xs
@@ -70,7 +65,7 @@ module _ {K : Type 0} (cmp : K → K → Ordering) (side : K → Ordering)
   module _ (total : IsTotalOrder cmp) where
     -- what is equal to the form is equal to an element that is
     alike : (x z : K) → side x ≡ Equal → eq_by_cmp cmp x z ≡ is_eq (side z)
-    alike x z e = (eq_by_cmp_equiv total).symm x z ∙ ap is_eq (sym (equal x z e))
+    alike x z e = grind arith
 
     -- what stands where, without the element that is equal to the form
     pub element_at-without_form : (xs : List K) (i : ℕ) → IsFound side xs i → Ascends cmp xs → (z : K)
@@ -82,11 +77,9 @@ module _ {K : Type 0} (cmp : K → K → Ordering) (side : K → Ordering)
 
   nothing-by : (b : Bool) (xs : List K) (i : ℕ) (z : K) → IsGap side xs i → is_eq (side z) ≡ b
       → element_at cmp xs z ≡ cond b None (element_at cmp xs z)
-  nothing-by true xs i z g e =
-      sym (element-equal xs z (equal-from_is_eq (side z) e)) ∙ gap-element side xs i g
-  nothing-by false xs i z g e = refl
+  nothing-by b xs i z g e = grind (arith, element-equal, equal-from_is_eq, gap-element)
 
   -- what stands where, if no element is equal to the form
   pub element_at-no_form : (xs : List K) (i : ℕ) → IsGap side xs i → (z : K)
       → element_at cmp xs z ≡ cond (is_eq (side z)) None (element_at cmp xs z)
-  element_at-no_form xs i g z = nothing-by (is_eq (side z)) xs i z g refl
+  element_at-no_form xs i g z = grind (arith, nothing-by)

@@ -1,5 +1,5 @@
 -- A merge whose operation keeps what a set operation keeps leaves what that makes of the two lists.
-use Rattle.std.proofs.Common.{◌≡◌, ℕ, Bool, false, List, [], ◌∷◌, ◌++◌, take, Ok, ◌⊎◌, refl, sym, ap, subst, ◌∙◌}
+use Rattle.std.proofs.Common.{◌≡◌, ℕ, Bool, false, List, [], ◌∷◌, ◌++◌, take, Ok, ◌⊎◌, refl, sym, ap, subst, ◌∙◌, arith}
 use Rattle.std.specs.Cmp.{IsTotalOrder}
 use Rattle.std.specs.declared.cmp.Ordering.{Ordering}
 use Rattle.std.specs.declared.cmp.Ordering.TheVariants.{Equal}
@@ -42,12 +42,7 @@ module _ {X : Type 0} (cmp : X → X → Ordering) (total : IsTotalOrder cmp) (L
         (advances-adds built name L op.left s t 1 both answer (takes s t answer h)))
 
     is-building : IsBuilding built name op (KeptAt (keeps left right both) L R)
-    is-building = record {
-      from_a = λ s t n answer h. advances-adds built name L op.left s t n left answer (from_a s t n answer h);
-      from_b = from_b;
-      collision = λ s t answer h x y xs ys e i. both-adds built name (KeptAt (keeps left right both) L R) (collision x y ∷ [])
-          first second s (λ u answered k. takes-left s u answered x y xs e k) skips t answer (meets s t answer h);
-    }
+    is-building = grind (arith, advances-adds, both-adds, takes-left)
 
     -- what a merge that was not refused has built, behind what was built before
     pub merged-built : {s t : M} {a b old c : List X}

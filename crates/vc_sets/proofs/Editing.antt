@@ -1,19 +1,18 @@
 -- An ascending list with an element put in, replaced or taken out.
 use Rattle.std.proofs.Common.{◌≡◌, ℕ, zero, suc, ◌<◌, Bool, true, false, not, cond, ◌||◌, List, [], ◌∷◌, ◌++◌, length}
-use Rattle.std.proofs.Common.{take, drop, get_or, insert, set, Option, Some, is_some, refl, sym, ap, subst, ◌∙◌}
-use Rattle.std.proofs.Common.{arith}
+use Rattle.std.proofs.Common.{take, drop, get_or, insert, set, Option, Some, is_some, refl, sym, ap, subst, ◌∙◌, arith}
 use Rattle.std.proofs.Math.ListN.{take-append-drop}
 use Rattle.std.specs.List.{AllByRecursion}
 use Rattle.std.specs.List.Sorted.{IsStrictlySortedBy}
 use Rattle.std.specs.Cmp.{IsTotalOrder, alike_right}
 use Rattle.std.specs.Option.{option_or}
-use Rattle.std.specs.Ordering.{eq_by_cmp, is_eq}
+use Rattle.std.specs.Ordering.{eq_by_cmp}
 use Rattle.std.specs.declared.cmp.Ordering.{Ordering}
 use Rattle.std.specs.declared.cmp.Ordering.TheVariants.{Less, Equal}
 use Rattle.vc_merge.specs.Ascending.{Ascends, member, element_at}
 use Rattle.vc_merge.proofs.ListLemmas.{each-weaker, each-at, ascends-append}
 use Rattle.vc_merge.specs.Place.{IsGap}
-use Rattle.vc_merge.proofs.Members.{member-is_some, element_at-append, equal-alike, equal-from_is_eq}
+use Rattle.vc_merge.proofs.Members.{member-is_some, element_at-append, equal-from_is_eq}
 use Rattle.vc_sets.proofs.Searching.{none-below, gap-above, gap-element}
 
 -- the element at i is equal to x
@@ -38,17 +37,13 @@ module _ {X : Type 0} (cmp : X → X → Ordering) (total : IsTotalOrder cmp) wh
   pub ascends-front : (xs ys : List X) → Ascends cmp (xs ++ ys) → Ascends cmp xs
   unfolding IsStrictlySortedBy
   ascends-front [] ys p = tt
-  ascends-front (x ∷ xs) ys p = (each-front (λ y. cmp x y ≡ Less) xs ys p.0, ascends-front xs ys p.1)
+  ascends-front (x ∷ xs) ys p = grind (arith, ascends-front xs ys p.1, each-front)
 
   ascends-between : (xs : List X) (x : X) (ys : List X) → Ascends cmp xs → AllByRecursion (λ y. cmp y x ≡ Less) xs
       → Ascends cmp ys → AllByRecursion (λ y. cmp x y ≡ Less) ys → Ascends cmp (xs ++ x ∷ ys)
   unfolding IsStrictlySortedBy
   ascends-between [] x ys p q r s = (s, r)
-  ascends-between (a ∷ xs) x ys p q r s = (
-    each-append (λ y. cmp a y ≡ Less) xs (x ∷ ys) p.0
-        (q.0, each-weaker (λ y. cmp x y ≡ Less) (λ y. cmp a y ≡ Less) (λ y e. total.trans a x y q.0 e) ys s),
-    ascends-between xs x ys p.1 q.1 r s,
-  )
+  ascends-between (a ∷ xs) x ys p q r s = grind (arith, ascends-between xs x ys p.1 q.1 r s, each-append, each-weaker)
 
   -- ---- a new element
 
@@ -63,15 +58,12 @@ module _ {X : Type 0} (cmp : X → X → Ordering) (total : IsTotalOrder cmp) wh
       → eq_by_cmp cmp x z ≡ b
       → option_or (element_at cmp (take i xs) z) (cond b (Some x) (element_at cmp (drop i xs) z))
       ≡ cond b (Some x) (element_at cmp xs z)
-  inserted-by true xs x z i p e =
-      ap (λ o. option_or o (Some x)) (none-below cmp total (take i xs) x z p (equal-from_is_eq (cmp x z) e))
-  inserted-by false xs x z i p e = sym (element_at-append cmp (take i xs) (drop i xs) z)
-      ∙ ap (λ l. element_at cmp l z) (take-append-drop i xs)
+  inserted-by true xs x z i p e = grind (arith, none-below, equal-from_is_eq)
+  inserted-by false xs x z i p e = grind (arith, element_at-append cmp (take i xs) (drop i xs) z, take-append-drop i xs)
 
   pub element_at-insert : (xs ys : List X) (x : X) (i : ℕ) → IsGap (λ y. cmp y x) xs i → ys ≡ insert xs i x → (z : X)
       → element_at cmp ys z ≡ cond (eq_by_cmp cmp x z) (Some x) (element_at cmp xs z)
-  element_at-insert xs ys x i p e z = ap (λ l. element_at cmp l z) e
-      ∙ element_at-append cmp (take i xs) (x ∷ drop i xs) z ∙ inserted-by (eq_by_cmp cmp x z) xs x z i p.less refl
+  element_at-insert xs ys x i p e z = grind (arith, element_at-append, inserted-by)
 
   -- ---- a new element in the place of an equal one
 
@@ -90,14 +82,11 @@ module _ {X : Type 0} (cmp : X → X → Ordering) (total : IsTotalOrder cmp) wh
 
   replaced-by : (b : Bool) (x y z : X) (o : Option X) → cmp y x ≡ Equal → eq_by_cmp cmp x z ≡ b → cond b (Some x) o
       ≡ cond b (Some x) (cond (eq_by_cmp cmp y z) (Some y) o)
-  replaced-by true x y z o e f = refl
-  replaced-by false x y z o e f = sym (ap (λ c. cond c (Some y) o) (sym (equal-alike cmp total y x z e) ∙ f))
+  replaced-by b x y z o e f = grind arith
 
   passed-by : (b : Bool) (x y z : X) (o : Option X) → cmp y x ≡ Less → eq_by_cmp cmp x z ≡ b
       → cond (eq_by_cmp cmp y z) (Some y) (cond b (Some x) o) ≡ cond b (Some x) (cond (eq_by_cmp cmp y z) (Some y) o)
-  passed-by true x y z o e f = ap (λ c. cond c (Some y) (Some x))
-      (ap is_eq (sym (alike_right total x z y (equal-from_is_eq (cmp x z) f)) ∙ e))
-  passed-by false x y z o e f = refl
+  passed-by b x y z o e f = grind arith
 
   pub element_at-set : (xs : List X) (x : X) (i : ℕ) → StandsAt cmp xs x i → Ascends cmp xs → (z : X)
       → element_at cmp (set xs i x) z ≡ cond (eq_by_cmp cmp x z) (Some x) (element_at cmp xs z)
@@ -114,16 +103,14 @@ module _ {X : Type 0} (cmp : X → X → Ordering) (total : IsTotalOrder cmp) wh
   -- ---- members follow from what is kept
 
   some-by : (b : Bool) (x : X) (o : Option X) → is_some (cond b (Some x) o) ≡ (b || is_some o)
-  some-by true x o = refl
-  some-by false x o = refl
+  some-by b x o = grind arith
 
   pub members-put : (xs ys : List X) (x : X) → ((z : X)
       → element_at cmp ys z ≡ cond (eq_by_cmp cmp x z) (Some x) (element_at cmp xs z)) → (z : X)
       → member cmp ys z ≡ (eq_by_cmp cmp x z || member cmp xs z)
-  members-put xs ys x h z = member-is_some cmp ys z ∙ ap is_some (h z)
-      ∙ some-by (eq_by_cmp cmp x z) x (element_at cmp xs z) ∙ ap (λ b. eq_by_cmp cmp x z || b) (sym (member-is_some cmp xs z))
+  members-put xs ys x h z = grind (arith, member-is_some, some-by)
 
   -- ---- the answer
 
   pub new-answer : (xs : List X) (x : X) (i : ℕ) → IsGap (λ y. cmp y x) xs i → true ≡ not (member cmp xs x)
-  new-answer xs x i p = ap not (sym (member-is_some cmp xs x ∙ ap is_some (gap-element (λ y. cmp y x) xs i p)))
+  new-answer xs x i p = grind (arith, member-is_some cmp xs x, gap-element (λ y. cmp y x) xs i p)

@@ -1,5 +1,5 @@
 -- A set operation on the two parts of one list.
-use Rattle.std.proofs.Common.{◌≡◌, ℕ, Bool, List, take, drop, sym, subst}
+use Rattle.std.proofs.Common.{◌≡◌, ℕ, Bool, List, take, drop, arith}
 use Rattle.std.specs.declared.cmp.Ordering.{Ordering}
 use Rattle.vc_merge.proofs.Parted.{IsParted}
 use Rattle.vc_sets.specs.SetOf.{IsSetOf}
@@ -9,7 +9,4 @@ pub set_of-parts : {X : Type 0} (cmp : X → X → Ordering) (L R : X → X → 
     {old added all kept new : List X} {end next : ℕ}
     → IsParted old added all end next → new ≡ kept → IsSetOf cmp L R f (take end all) (drop next all) kept
     → IsSetOf cmp L R f old added new
-set_of-parts cmp L R f {old} {added} {all} {kept} {new} {end} {next} parts e s =
-    subst (λ c. IsSetOf cmp L R f old added c) (sym e)
-    (subst (λ b. IsSetOf cmp L R f old b kept) parts.right
-    (subst (λ a. IsSetOf cmp L R f a (drop next all) kept) parts.left s))
+set_of-parts cmp L R f parts e s = grind arith

@@ -1,5 +1,5 @@
 -- An ascending list with an element taken out.
-use Rattle.std.proofs.Common.{◌≡◌, ℕ, zero, suc, ◌<◌, Bool, true, false, not, cond, ◌&&◌, List, [], ◌∷◌, ◌++◌, length}
+use Rattle.std.proofs.Common.{◌≡◌, ℕ, zero, suc, ◌<◌, Bool, not, cond, ◌&&◌, List, [], ◌∷◌, ◌++◌, length}
 use Rattle.std.proofs.Common.{take, drop, get_or, Option, Some, None, is_some, refl, sym, ap, ◌∙◌, arith}
 use Rattle.std.specs.List.{AllByRecursion}
 use Rattle.std.specs.List.Sorted.{IsStrictlySortedBy}
@@ -10,7 +10,7 @@ use Rattle.std.specs.declared.cmp.Ordering.TheVariants.{Less, Equal}
 use Rattle.vc_merge.specs.Ascending.{Ascends, member, element_at}
 use Rattle.vc_merge.proofs.ListLemmas.{each-at}
 use Rattle.vc_merge.specs.Place.{IsGap}
-use Rattle.vc_merge.proofs.Members.{member-is_some, element_at-none, equal-alike, equal-from_is_eq}
+use Rattle.vc_merge.proofs.Members.{member-is_some, element_at-none, equal-alike}
 use Rattle.vc_sets.proofs.Searching.{gap-element}
 
 module _ {X : Type 0} (P : X → Type 0) where
@@ -28,7 +28,7 @@ module _ {X : Type 0} (cmp : X → X → Ordering) where
   ascends-without [] zero p = tt
   ascends-without [] (suc i) p = tt
   ascends-without (x ∷ xs) zero p = p.1
-  ascends-without (x ∷ xs) (suc i) p = (each-without (λ y. cmp x y ≡ Less) xs i p.0, ascends-without xs i p.1)
+  ascends-without (x ∷ xs) (suc i) p = grind (arith, ascends-without xs i p.1, each-without)
 
   module _ (total : IsTotalOrder cmp) where
     -- ---- an equal element is taken out
@@ -36,26 +36,21 @@ module _ {X : Type 0} (cmp : X → X → Ordering) where
     -- the element in front is the one that is taken out
     first-by : (b : Bool) (y z : X) (ys : List X) → AllByRecursion (λ w. cmp y w ≡ Less) ys → eq_by_cmp cmp y z ≡ b
         → element_at cmp ys z ≡ cond b None (cond b (Some y) (element_at cmp ys z))
-    first-by true y z ys p e = element_at-none cmp total y z ys p e
-    first-by false y z ys p e = refl
+    first-by b y z ys p e = grind (arith, element_at-none)
 
     -- the one that is taken out stands behind
     later-by : (b : Bool) (x y z : X) (o : Option X) → cmp y x ≡ Less → eq_by_cmp cmp x z ≡ b
         → cond (eq_by_cmp cmp y z) (Some y) (cond b None o) ≡ cond b None (cond (eq_by_cmp cmp y z) (Some y) o)
-    later-by true x y z o e f = ap (λ c. cond c (Some y) None)
-        (ap is_eq (sym (alike_right total x z y (equal-from_is_eq (cmp x z) f)) ∙ e))
-    later-by false x y z o e f = refl
+    later-by b x y z o e f = grind arith
 
     -- what stands where, without the element that is equal to x
     pub element_at-without : (xs : List X) (x : X) (i : ℕ) → i < length xs → ((d : X) → cmp (get_or xs i d) x ≡ Equal)
         → Ascends cmp xs → (z : X)
         → element_at cmp (take i xs ++ drop (suc i) xs) z ≡ cond (eq_by_cmp cmp x z) None (element_at cmp xs z)
     unfolding IsStrictlySortedBy
-    element_at-without [] x i h e p z = absurd (omega arith)
+    element_at-without [] x i h e p z = grind arith
     element_at-without (y ∷ ys) x zero h e p z =
-        first-by (eq_by_cmp cmp y z) y z ys p.0 refl
-        ∙ ap (λ b. cond b None (cond (eq_by_cmp cmp y z) (Some y) (element_at cmp ys z)))
-        (sym (equal-alike cmp total y x z (e x)))
+        grind (arith, first-by (eq_by_cmp cmp y z) y z ys p.0, equal-alike cmp total y x z (e x))
     element_at-without (y ∷ ys) x (suc i) h e p z =
         let k : i < length ys = omega arith in
         let below : cmp y x ≡ Less = sym (alike_right total (get_or ys i x) x y (e x))
@@ -73,8 +68,7 @@ module _ {X : Type 0} (cmp : X → X → Ordering) where
     -- nothing stands at what is equal to an element that is not there
     nothing-by : (b : Bool) (xs : List X) (x z : X) → element_at cmp xs x ≡ None → eq_by_cmp cmp x z ≡ b
         → element_at cmp xs z ≡ cond b None (element_at cmp xs z)
-    nothing-by true xs x z n e = sym (element_at-alike xs x z (equal-from_is_eq (cmp x z) e)) ∙ n
-    nothing-by false xs x z n e = refl
+    nothing-by b xs x z n e = grind arith
 
     -- what stands where, if no element is equal to x
     pub element_at-not_there : (xs : List X) (x : X) (i : ℕ) → IsGap (λ y. cmp y x) xs i → (z : X)
@@ -85,13 +79,10 @@ module _ {X : Type 0} (cmp : X → X → Ordering) where
 
     -- something is left where it was there and was not taken out
     none-by : (b : Bool) (o : Option X) → is_some (cond b None o) ≡ (not b && is_some o)
-    none-by true o = refl
-    none-by false o = refl
+    none-by b o = grind arith
 
     -- the members, once some were taken out
     pub members-taken : (xs ys : List X) (gone : X → Bool) → ((z : X)
         → element_at cmp ys z ≡ cond (gone z) None (element_at cmp xs z)) → (z : X)
         → member cmp ys z ≡ (not (gone z) && member cmp xs z)
-    members-taken xs ys gone h z = member-is_some cmp ys z ∙ ap is_some (h z)
-        ∙ none-by (gone z) (element_at cmp xs z)
-        ∙ ap (λ b. not (gone z) && b) (sym (member-is_some cmp xs z))
+    members-taken xs ys gone h z = grind (arith, member-is_some, none-by)

@@ -1,73 +1,64 @@
 -- What a search in an ascending list finds. `side` says how an element stands to what is sought.
 --     found-element, gap-element, place-is_ok        what a place tells, whatever the order is
 --     none-below, gap-above        what stands below and above what is sought
-use Rattle.std.proofs.Common.{◌≡◌, ℕ, zero, suc, ◌<◌, Bool, true, false, cond, ◌||◌, List, [], ◌∷◌, length, take}
-use Rattle.std.proofs.Common.{drop, get_or, Option, Some, None, is_some, Result, Ok, Err, is_ok, refl, sym, ap, ◌∙◌, arith}
+use Rattle.std.proofs.Common.{◌≡◌, ℕ, zero, suc, ◌<◌, true, false, cond, List, [], ◌∷◌, length, take}
+use Rattle.std.proofs.Common.{drop, get_or, Some, None, is_some, Result, is_ok, refl, ap, ◌∙◌, arith}
 use Rattle.std.specs.List.{AllByRecursion, HoldsAt}
-use Rattle.std.specs.Cmp.{IsTotalOrder, alike_right}
-use Rattle.std.specs.Ordering.{is_eq, ordering_reverse}
+use Rattle.std.specs.Cmp.{IsTotalOrder}
+use Rattle.std.specs.Ordering.{is_eq}
 use Rattle.std.specs.declared.cmp.Ordering.{Ordering}
 use Rattle.std.specs.declared.cmp.Ordering.TheVariants.{Less, Equal, Greater}
 use Rattle.vc_merge.specs.Ascending.{element_at}
 use Rattle.vc_merge.specs.Place.{IsFound, IsGap, IsPlace}
 use Rattle.vc_merge.proofs.ListLemmas.{each-weaker}
-use Rattle.vc_merge.proofs.Members.{element_at-later}
 use Rattle.vc_sets.specs.Borrowed.{member_by, element_by}
 
 module _ {X : Type 0} (side : X → Ordering) where
-  some-by : (b : Bool) (y : X) (m : Bool) (o : Option X) → m ≡ is_some o → (b || m) ≡ is_some (cond b (Some y) o)
-  some-by true y m o e = refl
-  some-by false y m o e = e
-
   -- a member is an element that stands there
   member_by-is_some : (xs : List X) → member_by side xs ≡ is_some (element_by side xs)
   member_by-is_some [] = refl
-  member_by-is_some (y ∷ ys) = some-by (is_eq (side y)) y (member_by side ys) (element_by side ys) (member_by-is_some ys)
+  member_by-is_some (y ∷ ys) = grind (arith, member_by-is_some ys)
 
   found-by : (xs : List X) (i : ℕ) (d : X) → i < length xs → HoldsAt (λ y. side y ≡ Equal) xs i
       → AllByRecursion (λ y. side y ≡ Less) (take i xs) → element_by side xs ≡ Some (get_or xs i d)
-  found-by [] i d h e p = absurd (omega arith)
+  found-by [] i d h e p = grind arith
   found-by (y ∷ ys) zero d h e p = ap (λ o. cond (is_eq o) (Some y) (element_by side ys)) (e d)
   found-by (y ∷ ys) (suc i) d h e p = let k : i < length ys = omega arith in
       ap (λ o. cond (is_eq o) (Some y) (element_by side ys)) p.0 ∙ found-by ys i d k e p.1
 
   -- the element at the place
   pub found-element : (xs : List X) (i : ℕ) (d : X) → IsFound side xs i → element_by side xs ≡ Some (get_or xs i d)
-  found-element xs i d f = found-by xs i d f.within f.equal f.less
+  found-element xs i d f = grind (arith, found-by)
 
   none-of : (xs : List X) (o : Ordering) → is_eq o ≡ false → AllByRecursion (λ y. side y ≡ o) xs → element_by side xs ≡ None
   none-of [] o e p = refl
-  none-of (y ∷ ys) o e p =
-      ap (λ b. cond b (Some y) (element_by side ys)) (ap is_eq p.0 ∙ e) ∙ none-of ys o e p.1
+  none-of (y ∷ ys) o e p = grind (arith, none-of ys o e p.1)
 
   gap-by : (xs : List X) (i : ℕ) → AllByRecursion (λ y. side y ≡ Less) (take i xs)
       → AllByRecursion (λ y. side y ≡ Greater) (drop i xs) → element_by side xs ≡ None
   gap-by [] i p q = refl
   gap-by (y ∷ ys) zero p q = none-of (y ∷ ys) Greater refl q
-  gap-by (y ∷ ys) (suc i) p q = ap (λ o. cond (is_eq o) (Some y) (element_by side ys)) p.0 ∙ gap-by ys i p.1 q
+  gap-by (y ∷ ys) (suc i) p q = grind (arith, gap-by ys i p.1 q)
 
   -- nothing stands at a gap
   pub gap-element : (xs : List X) (i : ℕ) → IsGap side xs i → element_by side xs ≡ None
-  gap-element xs i g = gap-by xs i g.less g.greater
+  gap-element xs i g = grind (arith, gap-by)
 
   found-member : (xs : List X) (i : ℕ) → i < length xs → IsFound side xs i → member_by side xs ≡ true
-  found-member [] i h f = absurd (omega arith)
+  found-member [] i h f = grind arith
   found-member (y ∷ ys) i h f = member_by-is_some (y ∷ ys) ∙ ap is_some (found-element (y ∷ ys) i y f)
 
   -- a place is found where some element is equal
   pub place-is_ok : (xs : List X) (r : Result ℕ ℕ) → IsPlace side xs r → is_ok r ≡ member_by side xs
-  place-is_ok xs (Ok i) f = sym (found-member xs i f.within f)
-  place-is_ok xs (Err i) g = sym (member_by-is_some xs ∙ ap is_some (gap-element xs i g))
+  place-is_ok xs r f = grind (arith, found-member, member_by-is_some, gap-element)
 
 module _ {X : Type 0} (cmp : X → X → Ordering) (total : IsTotalOrder cmp) where
   -- nothing of what is below x stands at what is equal to x
   pub none-below : (xs : List X) (x z : X) → AllByRecursion (λ y. cmp y x ≡ Less) xs → cmp x z ≡ Equal
       → element_at cmp xs z ≡ None
   none-below [] x z p e = refl
-  none-below (y ∷ ys) x z p e = element_at-later cmp y ys z (ap is_eq (sym (alike_right total x z y e) ∙ p.0))
-      ∙ none-below ys x z p.1 e
+  none-below (y ∷ ys) x z p e = grind (arith, none-below ys x z p.1 e)
 
   -- what is behind a gap is above
   pub gap-above : (xs : List X) (x : X) (i : ℕ) → IsGap (λ y. cmp y x) xs i → AllByRecursion (λ y. cmp x y ≡ Less) (drop i xs)
-  gap-above xs x i p = each-weaker (λ y. cmp y x ≡ Greater) (λ y. cmp x y ≡ Less)
-      (λ y e. total.antisymm x y ∙ ap ordering_reverse e) (drop i xs) p.greater
+  gap-above xs x i p = grind (arith, each-weaker)

@@ -1,9 +1,9 @@
 -- What is kept of the events of a script is what the set operation makes of the two lists.
-use Rattle.std.proofs.Common.{◌≡◌, Bool, true, false, List, [], ◌∷◌, ◌++◌, Option, Some, None, is_some, IsSomeAnd}
-use Rattle.std.proofs.Common.{MatchBool, refl, sym, ap, subst, ◌∙◌}
+use Rattle.std.proofs.Common.{◌≡◌, Bool, true, false, List, [], ◌∷◌, ◌++◌, Option, None, is_some, IsSomeAnd}
+use Rattle.std.proofs.Common.{MatchBool, refl, sym, ap, ◌∙◌, arith}
 use Rattle.std.specs.List.{AllByRecursion}
 use Rattle.std.specs.List.Sorted.{IsStrictlySortedBy}
-use Rattle.std.specs.Cmp.{IsTotalOrder, alike_right}
+use Rattle.std.specs.Cmp.{IsTotalOrder}
 use Rattle.std.specs.Ordering.{eq_by_cmp}
 use Rattle.std.specs.declared.cmp.Ordering.{Ordering}
 use Rattle.std.specs.declared.cmp.Ordering.TheVariants.{Less, Equal}
@@ -16,23 +16,13 @@ use Rattle.vc_merge.proofs.Members.{member-is_some, element_at-first, element_at
 
 -- ---- one place
 
-some-and : {X : Type 0} (P : X → Type 0) (b c : Bool) (z : Option X) → c ≡ b → MatchBool b (IsSomeAnd z P) (z ≡ None)
-    → is_some z ≡ c
-some-and P true c (Some w) e h = sym e
-some-and P true c None e h = absurd h
-some-and P false c z e h = ap is_some h ∙ sym e
-
 module _ {X : Type 0} (f : Bool → Bool → Bool) (none : f false false ≡ false) (L R : X → X → Type 0) where
   -- something is kept where f says so
   keeps-is_some : (left right kept : Option X) → Keeps f L R left right kept → is_some kept ≡ f (is_some left) (is_some right)
-  keeps-is_some (Some x) right kept h = some-and (L x) (f true (is_some right)) (f true (is_some right)) kept refl h
-  keeps-is_some None (Some y) kept h = some-and (R y) (f false true) (f false true) kept refl h
-  keeps-is_some None None kept h = ap is_some h ∙ sym none
+  keeps-is_some left right kept h = grind arith
 
   keeps-same : {o p q o' p' q' : Option X} → o ≡ o' → p ≡ p' → q ≡ q' → Keeps f L R o' p' q' → Keeps f L R o p q
-  keeps-same {o} {p} {q} {o'} {p'} {q'} a b c h =
-      subst (λ o. Keeps f L R o p q) (sym a)
-      (subst (λ p. Keeps f L R o' p q) (sym b) (subst (λ q. Keeps f L R o' p' q) (sym c) h))
+  keeps-same a b c h = grind arith
 
 module _ {X : Type 0} (cmp : X → X → Ordering) (total : IsTotalOrder cmp) where
   -- ---- what is above an element
@@ -49,49 +39,32 @@ module _ {X : Type 0} (cmp : X → X → Ordering) (total : IsTotalOrder cmp) wh
   rights-above y [] p m = tt
   rights-above y (left_alone x ∷ es) p m = rights-above y es p.1 m.1
   rights-above y (right_alone x ∷ es) p m = (p.0, rights-above y es p.1 m.1)
-  rights-above y (collision x w ∷ es) p m = (sym (alike_right total x w y m.0) ∙ p.0, rights-above y es p.1 m.1)
+  rights-above y (collision x w ∷ es) p m = grind (arith, rights-above y es p.1 m.1)
 
   -- what is above an element is above its equal
   alike-above : (y z : X) (zs : List X) → cmp y z ≡ Equal → AllByRecursion (λ w. cmp y w ≡ Less) zs
       → AllByRecursion (λ w. cmp z w ≡ Less) zs
   alike-above y z [] e p = tt
-  alike-above y z (w ∷ zs) e p = (sym (total.congr y z w e) ∙ p.0, alike-above y z zs e p.1)
+  alike-above y z (w ∷ zs) e p = grind (arith, alike-above y z zs e p.1)
 
   -- ---- one event: `first` is what is kept at it, `rest` what is kept later
 
   module _ (u : X) (P : X → Type 0) (equal : (z : X) → P z → cmp u z ≡ Equal) where
-    kept-above : (y : X) (b : Bool) (first rest zs : List X) → GivesIf b P first → zs ≡ first ++ rest → cmp y u ≡ Less
-        → AllByRecursion (λ z. cmp y z ≡ Less) rest → AllByRecursion (λ z. cmp y z ≡ Less) zs
-    kept-above y true first rest zs g e h p =
-        subst (λ l. AllByRecursion (λ z. cmp y z ≡ Less) l) (sym (e ∙ ap (λ l. l ++ rest) g.2))
-        (sym (alike_right total u g.0 y (equal g.0 g.1)) ∙ h, p)
-    kept-above y false first rest zs g e h p =
-        subst (λ l. AllByRecursion (λ z. cmp y z ≡ Less) l) (sym (e ∙ ap (λ l. l ++ rest) g)) p
-
     kept-ascends : (b : Bool) (first rest zs : List X) → GivesIf b P first → zs ≡ first ++ rest
         → AllByRecursion (λ z. cmp u z ≡ Less) rest → Ascends cmp rest → Ascends cmp zs
     unfolding IsStrictlySortedBy
-    kept-ascends true first rest zs g e p q =
-        subst (λ l. Ascends cmp l) (sym (e ∙ ap (λ l. l ++ rest) g.2)) (alike-above u g.0 rest (equal g.0 g.1) p, q)
-    kept-ascends false first rest zs g e p q = subst (λ l. Ascends cmp l) (sym (e ∙ ap (λ l. l ++ rest) g)) q
+    kept-ascends b first rest zs g e p q = grind (arith, alike-above)
 
     -- it stands at x
     kept-at : (x : X) (b : Bool) (first rest zs : List X) → GivesIf b P first → zs ≡ first ++ rest
         → AllByRecursion (λ z. cmp u z ≡ Less) rest → eq_by_cmp cmp u x ≡ true
         → MatchBool b (IsSomeAnd (element_at cmp zs x) P) (element_at cmp zs x ≡ None)
-    kept-at x true first rest zs g e p h =
-        subst (λ o. IsSomeAnd o P) (sym
-        (ap (λ l. element_at cmp l x) (e ∙ ap (λ l. l ++ rest) g.2)
-        ∙ element_at-first cmp g.0 rest x (equal-alike cmp total u g.0 x (equal g.0 g.1) ∙ h))) g.1
-    kept-at x false first rest zs g e p h = ap (λ l. element_at cmp l x) (e ∙ ap (λ l. l ++ rest) g)
-        ∙ element_at-none cmp total u x rest p h
+    kept-at x b first rest zs g e p h = grind (arith, element_at-first, equal-alike, element_at-none)
 
     -- it stands elsewhere
     kept-elsewhere : (x : X) (b : Bool) (first rest zs : List X) → GivesIf b P first → zs ≡ first ++ rest
         → eq_by_cmp cmp u x ≡ false → element_at cmp zs x ≡ element_at cmp rest x
-    kept-elsewhere x true first rest zs g e h = ap (λ l. element_at cmp l x) (e ∙ ap (λ l. l ++ rest) g.2)
-        ∙ element_at-later cmp g.0 rest x (equal-alike cmp total u g.0 x (equal g.0 g.1) ∙ h)
-    kept-elsewhere x false first rest zs g e h = ap (λ l. element_at cmp l x) (e ∙ ap (λ l. l ++ rest) g)
+    kept-elsewhere x b first rest zs g e h = grind arith
 
   -- ---- the whole script
 
@@ -100,18 +73,15 @@ module _ {X : Type 0} (cmp : X → X → Ordering) (total : IsTotalOrder cmp) wh
     all-above : (y : X) (es : List (Event X X)) (zs : List X)
         → AllByRecursion (λ e. cmp y (either (place e)) ≡ Less) es → Gathers (KeptAt f L R) es zs
         → AllByRecursion (λ z. cmp y z ≡ Less) zs
-    all-above y [] zs p q = subst (λ l. AllByRecursion (λ z. cmp y z ≡ Less) l) (sym q) tt
-    all-above y (left_alone x ∷ es) zs p q =
-        kept-above x (L x) (left_equal x) y (f true false) q.0 q.1 zs q.2 q.4 p.0 (all-above y es q.1 p.1 q.3)
-    all-above y (right_alone x ∷ es) zs p q =
-        kept-above x (R x) (right_equal x) y (f false true) q.0 q.1 zs q.2 q.4 p.0 (all-above y es q.1 p.1 q.3)
-    all-above y (collision x w ∷ es) zs p q =
-        kept-above x (L x) (left_equal x) y (f true true) q.0 q.1 zs q.2 q.4 p.0 (all-above y es q.1 p.1 q.3)
+    all-above y [] zs p q = grind arith
+    all-above y (left_alone x ∷ es) zs p q = grind (arith, all-above y es q.1 p.1 q.3)
+    all-above y (right_alone x ∷ es) zs p q = grind (arith, all-above y es q.1 p.1 q.3)
+    all-above y (collision x w ∷ es) zs p q = grind (arith, all-above y es q.1 p.1 q.3)
 
     all-ascend : (es : List (Event X X)) (zs : List X) → Ascends (λ d e. both_sides cmp (place d) (place e)) es
         → Gathers (KeptAt f L R) es zs → Ascends cmp zs
     unfolding IsStrictlySortedBy
-    all-ascend [] zs p q = subst (λ l. Ascends cmp l) (sym q) tt
+    all-ascend [] zs p q = grind arith
     all-ascend (left_alone x ∷ es) zs p q =
         kept-ascends x (L x) (left_equal x) (f true false) q.0 q.1 zs q.2 q.4 (all-above x es q.1 p.0 q.3)
         (all-ascend es q.1 p.1 q.3)
@@ -131,49 +101,52 @@ module _ {X : Type 0} (cmp : X → X → Ordering) (total : IsTotalOrder cmp) wh
         → (q : Gathers (KeptAt f L R) (left_alone y ∷ es) zs) → IsKeptAt x es q.1 → (b : Bool) → eq_by_cmp cmp y x
         ≡ b → IsKeptAt x (left_alone y ∷ es) zs
     unfolding IsKeptAt
-    at-left x y es zs p m q ih true e =
-        keeps-same f none L R (element_at-first cmp y (lefts es) x e)
-        (element_at-none cmp total y x (rights es) (rights-above y es p m) e) refl
-        (kept-at y (L y) (left_equal y) x (f true false) q.0 q.1 zs q.2 q.4 (all-above y es q.1 p q.3) e)
-    at-left x y es zs p m q ih false e =
-        keeps-same f none L R (element_at-later cmp y (lefts es) x e) refl
-        (kept-elsewhere y (L y) (left_equal y) x (f true false) q.0 q.1 zs q.2 q.4 e) ih
+    at-left x y es zs p m q ih b e =
+        grind (
+          arith,
+          keeps-same,
+          element_at-first,
+          element_at-none,
+          rights-above,
+          kept-at,
+          all-above,
+          element_at-later,
+          kept-elsewhere,
+        )
 
     at-right : (x y : X) (es : List (Event X X)) (zs : List X)
         → AllByRecursion (λ e. cmp y (either (place e)) ≡ Less) es → AllByRecursion (IsMatched (both_sides cmp)) es
         → (q : Gathers (KeptAt f L R) (right_alone y ∷ es) zs) → IsKeptAt x es q.1 → (b : Bool) → eq_by_cmp cmp y x
         ≡ b → IsKeptAt x (right_alone y ∷ es) zs
     unfolding IsKeptAt
-    at-right x y es zs p m q ih true e =
-        keeps-same f none L R (element_at-none cmp total y x (lefts es) (lefts-above y es p) e)
-        (element_at-first cmp y (rights es) x e) refl
-        (kept-at y (R y) (right_equal y) x (f false true) q.0 q.1 zs q.2 q.4 (all-above y es q.1 p q.3) e)
-    at-right x y es zs p m q ih false e =
-        keeps-same f none L R refl (element_at-later cmp y (rights es) x e)
-        (kept-elsewhere y (R y) (right_equal y) x (f false true) q.0 q.1 zs q.2 q.4 e) ih
+    at-right x y es zs p m q ih b e =
+        grind (
+          arith,
+          keeps-same,
+          element_at-none,
+          lefts-above,
+          element_at-first,
+          kept-at,
+          all-above,
+          element_at-later,
+          kept-elsewhere,
+        )
 
     at-both : (x y w : X) (es : List (Event X X)) (zs : List X) → cmp y w ≡ Equal
         → AllByRecursion (λ e. cmp y (either (place e)) ≡ Less) es
         → (q : Gathers (KeptAt f L R) (collision y w ∷ es) zs) → IsKeptAt x es q.1 → (b : Bool) → eq_by_cmp cmp y x
         ≡ b → IsKeptAt x (collision y w ∷ es) zs
     unfolding IsKeptAt
-    at-both x y w es zs m p q ih true e =
-        keeps-same f none L R (element_at-first cmp y (lefts es) x e)
-        (element_at-first cmp w (rights es) x (equal-alike cmp total y w x m ∙ e)) refl
-        (kept-at y (L y) (left_equal y) x (f true true) q.0 q.1 zs q.2 q.4 (all-above y es q.1 p q.3) e)
-    at-both x y w es zs m p q ih false e =
-        keeps-same f none L R (element_at-later cmp y (lefts es) x e)
-        (element_at-later cmp w (rights es) x (equal-alike cmp total y w x m ∙ e))
-        (kept-elsewhere y (L y) (left_equal y) x (f true true) q.0 q.1 zs q.2 q.4 e) ih
+    at-both x y w es zs m p q ih b e =
+        grind (arith, keeps-same, element_at-first, equal-alike, kept-at, all-above, element_at-later, kept-elsewhere)
 
     kept_at : (x : X) (es : List (Event X X)) (zs : List X) → Ascends (λ d e. both_sides cmp (place d) (place e)) es
         → AllByRecursion (IsMatched (both_sides cmp)) es → Gathers (KeptAt f L R) es zs → IsKeptAt x es zs
     unfolding IsKeptAt IsStrictlySortedBy
-    kept_at x [] zs p m q = ap (λ l. element_at cmp l x) q
-    kept_at x (left_alone y ∷ es) zs p m q = at-left x y es zs p.0 m.1 q (kept_at x es q.1 p.1 m.1 q.3) (eq_by_cmp cmp y x) refl
-    kept_at x (right_alone y ∷ es) zs p m q = at-right x y es zs p.0 m.1 q (kept_at x es q.1 p.1 m.1 q.3) (eq_by_cmp cmp y x) refl
-    kept_at x (collision y w ∷ es) zs p m q =
-        at-both x y w es zs m.0 p.0 q (kept_at x es q.1 p.1 m.1 q.3) (eq_by_cmp cmp y x) refl
+    kept_at x [] zs p m q = grind arith
+    kept_at x (left_alone y ∷ es) zs p m q = grind (arith, kept_at x es q.1 p.1 m.1 q.3, at-left)
+    kept_at x (right_alone y ∷ es) zs p m q = grind (arith, kept_at x es q.1 p.1 m.1 q.3, at-right)
+    kept_at x (collision y w ∷ es) zs p m q = grind (arith, kept_at x es q.1 p.1 m.1 q.3, at-both)
 
     -- what is kept of the script of a and b is what f makes of them
     pub set-of : (a b c : List X) (es : List (Event X X)) → IsScript (both_sides cmp) a b es

@@ -1,38 +1,21 @@
 -- What is left of a list that was sifted, by the name of its operation.
-use Rattle.std.proofs.Common.{◌≡◌, ℕ, Bool, true, false, not, ◌&&◌, List, length, take, Option, Some, None, is_some}
-use Rattle.std.proofs.Common.{IsSomeAnd, MatchBool, refl, sym, ap, subst, ◌∙◌}
+use Rattle.std.proofs.Common.{◌≡◌, ℕ, Bool, true, false, not, ◌&&◌, List, length, take, arith}
 use Rattle.smallvec.specs.SmallVec.{SmallVec, with_items}
 use Rattle.smallvec.proofs.SmallVecLemmas.{items-with_items}
 use Rattle.std.specs.declared.cmp.Ordering.{Ordering}
-use Rattle.vc_merge.specs.Ascending.{member, element_at}
-use Rattle.vc_sets.specs.SetOf.{Keeps, IsSetOf, and_not}
+use Rattle.vc_sets.specs.SetOf.{IsSetOf, and_not}
 use Rattle.vc_sets.specs.Select.{keeps}
 
 module _ {X : Type 0} (f g : Bool → Bool → Bool) (same : (x y : Bool) → f x y ≡ g x y) (L R : X → X → Type 0) where
-  keeps-same : (left right kept : Option X) → Keeps f L R left right kept → Keeps g L R left right kept
-  keeps-same (Some x) right kept h = subst (λ b. MatchBool b (IsSomeAnd kept (L x)) (kept ≡ None)) (same true (is_some right)) h
-  keeps-same None (Some y) kept h = subst (λ b. MatchBool b (IsSomeAnd kept (R y)) (kept ≡ None)) (same false true) h
-  keeps-same None None kept h = h
-
   -- operations that say the same
   set_of-same : (cmp : X → X → Ordering) (a b c : List X) → IsSetOf cmp L R f a b c → IsSetOf cmp L R g a b c
-  set_of-same cmp a b c s = record {
-    ascends = s.ascends;
-    members = λ x. s.members x ∙ same (member cmp a x) (member cmp b x);
-    kept = λ x. keeps-same (element_at cmp a x) (element_at cmp b x) (element_at cmp c x) (s.kept x);
-  }
+  set_of-same cmp a b c s = grind arith
 
 keeps-and : (x y : Bool) → keeps (not true) false true x y ≡ (x && y)
-keeps-and true true = refl
-keeps-and true false = refl
-keeps-and false true = refl
-keeps-and false false = refl
+keeps-and x y = grind arith
 
 keeps-and_not : (x y : Bool) → keeps (not false) false false x y ≡ and_not x y
-keeps-and_not true true = refl
-keeps-and_not true false = refl
-keeps-and_not false true = refl
-keeps-and_not false false = refl
+keeps-and_not x y = grind arith
 
 module _ {X : Type 0} (cmp : X → X → Ordering) (L R : X → X → Type 0) where
   -- the list was written through its slice, and cut off behind what was kept
@@ -40,11 +23,7 @@ module _ {X : Type 0} (cmp : X → X → Ordering) (L R : X → X → Type 0) wh
       ≡ view → lent ≡ v.items → those ≡ that → length written ≡ length lent
       → new ≡ take kept (with_items v written).items → IsSetOf cmp L R f lent those (take kept written)
       → IsSetOf cmp L R f view that new
-  sifted f v view those that lent written new kept a b c l e s =
-      let w = e ∙ ap (λ l. take kept l) (items-with_items v written (l ∙ ap length b)) in
-      subst (λ z. IsSetOf cmp L R f view that z) (sym w)
-      (subst (λ z. IsSetOf cmp L R f view z (take kept written)) c
-      (subst (λ z. IsSetOf cmp L R f z those (take kept written)) (b ∙ a) s))
+  sifted f v view those that lent written new kept a b c l e s = grind (arith, items-with_items)
 
   pub sifted-and : (v : SmallVec X) {view those that lent : List X} (written : List X) {new : List X} (kept : ℕ) → v.items ≡
       view → lent

@@ -5,7 +5,7 @@
 use Rattle.std.proofs.Common.{◌≡◌, ℕ, ◌+◌, ◌-◌, ◌≤◌, sym, subst, arith}
 use Rattle.vc_merge.specs.Count.{bound}
 use Rattle.vc_merge.specs.declared.plan.Plan.{Plan}
-use Rattle.vc_merge.specs.declared.plan.Plan.TheVariants.{Walk, Search}
+use Rattle.vc_merge.specs.declared.plan.Plan.TheVariants.{Search}
 use Rattle.vc_merge.specs.declared.plan.Side.{Side}
 use Rattle.vc_merge.specs.Plan.{planned}
 use Rattle.vc_sets.specs.Begun.{LeavesEnough}
@@ -25,17 +25,4 @@ pub next-within : (p : Plan) (all_left all_right left right : ℕ) → LeavesEno
     → before + planned p left right ≤ old + bound all_left all_right → (after i j : ℕ) → i ≤ left → j ≤ right
     → after ≤ before + (i + j) → after ≤ before + 32
     → after + planned p (left - i) (right - j) ≤ old + bound all_left all_right
-next-within Walk all_left all_right left right enough old before taken spent after i j h k each few =
-    omega (arith, spent, h, k, each)
-next-within (Search shorter t) all_left all_right left right enough old before taken spent after i j h k each few =
-    let m = enough (left - i) (right - j) (omega arith) (omega arith) in
-    omega (arith, taken, few, m)
-
-pub refused-within : (p : Plan) (old before after all_left all_right left right : ℕ)
-    → before + (left + right) ≤ old + (all_left + all_right) → LeavesEnough p 32 all_left all_right left right
-    → before + planned p left right ≤ old + bound all_left all_right
-    → after ≤ before + (left + right) → after ≤ before + 32 → after ≤ old + bound all_left all_right
-refused-within Walk old before after all_left all_right left right taken enough spent each few = omega (arith, spent, each)
-refused-within (Search shorter t) old before after all_left all_right left right taken enough spent each few =
-    let m = enough 0 0 (omega arith) (omega arith) in
-    omega (arith, taken, few, m)
+next-within p all_left all_right left right enough old before taken spent after i j h k each few = grind arith

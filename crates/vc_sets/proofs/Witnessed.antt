@@ -1,5 +1,5 @@
 -- A merge that stops at the first witness tells whether there is one.
-use Rattle.std.proofs.Common.{◌≡◌, Bool, true, false, not, ◌||◌, List, [], ◌∷◌, ◌++◌, map, Result, Ok, Err, refl, sym}
+use Rattle.std.proofs.Common.{◌≡◌, Bool, true, false, not, ◌||◌, List, [], ◌∷◌, ◌++◌, map, Result, Ok, refl, sym}
 use Rattle.std.proofs.Common.{ap, subst, ◌∙◌, arith, MatchBool, ⊎_elim}
 use mathlib.Core.Bool.{true≢false}
 use Rattle.std.specs.Cmp.{IsTotalOrder, tied_itself}
@@ -20,25 +20,21 @@ use Rattle.vc_sets.proofs.Selected.{set-of}
 -- ---- an answer
 
 goes-on : (b : Bool) → ◌≡◌ {A = Answer} (Ok true) (Ok (not b)) → b ≡ false
-goes-on true e = let odd : true ≡ false = cc in absurd (true≢false odd)
-goes-on false e = refl
+goes-on b e = grind arith
 
 stops-at : (b : Bool) (answer : Answer) → answer ≡ Ok (not b) → (answer ≡ Ok true → ⊥) → b ≡ true
-stops-at true answer e stop = refl
-stops-at false answer e stop = absurd (stop e)
+stops-at b answer e stop = grind arith
 
 found-or : (a b : Bool) → b ≡ true → (a || b) ≡ true
-found-or true b e = refl
-found-or false b e = e
+found-or a b e = grind arith
 
 not-found_or : (a b : Bool) → b ≡ false → (a || b) ≡ a
-not-found_or true b e = refl
-not-found_or false b e = e
+not-found_or a b e = grind arith
 
 module _ {X : Type 0} (cmp : X → X → Ordering) (total : IsTotalOrder cmp) where
   -- an element itself is equal
   pub same-equal : (x z : X) → x ≡ z → cmp x z ≡ Equal
-  same-equal x z e = subst (λ w. cmp x w ≡ Equal) e (tied_itself total x)
+  same-equal x z e = grind arith
 
 module _ {X : Type 0} (cmp : X → X → Ordering) (total : IsTotalOrder cmp) (l r both : Bool) where
   -- whether an element is a witness
@@ -95,32 +91,19 @@ module _ {X : Type 0} (cmp : X → X → Ordering) (total : IsTotalOrder cmp) (l
 
     -- an event gives nothing where it is not a witness, and itself where it is
     gives-none : (b : Bool) (u : X) → b ≡ false → GivesIf b (λ z. u ≡ z) []
-    gives-none b u e = subst (λ b. GivesIf b (λ z. u ≡ z) []) (sym e) refl
+    gives-none b u e = grind arith
 
     gives-itself : (b : Bool) (u : X) → b ≡ true → GivesIf b (λ z. u ≡ z) (u ∷ [])
-    gives-itself b u e = subst (λ b. GivesIf b (λ z. u ≡ z) (u ∷ [])) (sym e) (u, refl, refl)
+    gives-itself b u e = grind arith
 
     -- nothing was found by runs that were all answered by true
     step-none : (s t : M) (run : Run X X) → Step witness_allows s run t → (found t ≡ found s)
         × Gathers witness_at (run_events run) []
-    step-none s t (of_left xs) p =
-        let e = goes-on l p.allowed.0 in (
-          p.allowed.1 ∙ not-found_or (found s) l e,
-          gathers-map witness_at (λ x. left_alone x) xs []
-              (gathers-none (λ x. witness_at (left_alone x)) (λ x. gives-none l x e) xs),
-        )
-    step-none s t (of_right ys) p =
-        let e = goes-on r p.allowed.0 in (
-          p.allowed.1 ∙ not-found_or (found s) r e,
-          gathers-map witness_at (λ y. right_alone y) ys []
-              (gathers-none (λ y. witness_at (right_alone y)) (λ y. gives-none r y e) ys),
-        )
-    step-none s t (of_both x y) p = let e = goes-on both p.allowed.0 in
-        (p.allowed.1 ∙ not-found_or (found s) both e, ([], [], gives-none both x e, refl, refl))
+    step-none s t run p = grind (arith, goes-on, not-found_or, gathers-map, gathers-none, gives-none)
 
     steps-none : (s t : M) (runs : List (Run X X)) → Steps witness_allows s runs t → (found t ≡ found s)
         × Gathers witness_at (events runs) []
-    steps-none s t [] e = (ap found (sym e), refl)
+    steps-none s t [] e = grind arith
     steps-none s t (run ∷ runs) e =
         let p = step-none s e.0 run e.1 in
         let q = steps-none e.0 t runs e.2 in
@@ -150,8 +133,7 @@ module _ {X : Type 0} (cmp : X → X → Ordering) (total : IsTotalOrder cmp) (l
 
     finished : (s t : M) → found s ≡ false → Finishes witness_allows (both_sides cmp) s t → Tells (found t) (left s) (right s)
     unfolding Tells
-    finished s t g w = let p = steps-none s t w.runs w.steps in
-        subst (λ c. Tells c (left s) (right s)) (sym (p.0 ∙ g)) (none-given (left s) (right s) (events w.runs) w.script p.1)
+    finished s t g w = grind (arith, steps-none, Tells, none-given)
 
     stopped : (s t : M) (answer : Answer) → Stops witness_allows (both_sides cmp) s answer t → Tells (found t) (left s) (right s)
     unfolding Tells
@@ -170,5 +152,4 @@ module _ {X : Type 0} (cmp : X → X → Ordering) (total : IsTotalOrder cmp) (l
         → MatchBool (found t) ((x : X) × (witness (member cmp (left s) x) (member cmp (right s) x) ≡ true))
         ((x : X) → witness (member cmp (left s) x) (member cmp (right s) x) ≡ false)
     unfolding Tells
-    witnessed s t (Ok u) g m = ⊎_elim (λ w. finished s t g w) (λ w. stopped s t (Ok false) w) m
-    witnessed s t (Err x) g m = stopped s t (Err x) m
+    witnessed s t answer g m = grind (arith, finished, stopped)
