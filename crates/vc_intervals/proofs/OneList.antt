@@ -1,22 +1,21 @@
 -- Members tell the turns, and lie in the intervals that are listed.
-use Rattle.std.proofs.Common.{◌≡◌, Bool, true, false, not, ◌||◌, ◌&&◌, List, [], ◌∷◌, Some, None, refl, sym, ap, ◌∙◌}
+use Rattle.std.proofs.Common.{◌≡◌, Bool, true, false, not, ◌||◌, ◌&&◌, List, [], ◌∷◌, Some, None, refl, sym, ap, ◌∙◌, arith}
 use mathlib.Core.Bool.{true≢false}
-use Rattle.std.proofs.Math.Bool.{not-not}
 use Rattle.std.specs.BTreeMap.Range.{range_contains, is_from_start}
-use Rattle.std.specs.Cmp.{IsTotalOrder, tied_itself}
+use Rattle.std.specs.Cmp.{IsTotalOrder}
 use Rattle.std.specs.List.{AllByRecursion, AllZip, list_any}
 use Rattle.std.specs.List.Sorted.{IsStrictlySortedBy}
-use Rattle.std.specs.Ordering.{is_le, ordering_reverse}
+use Rattle.std.specs.Ordering.{is_le}
 use Rattle.std.specs.declared.cmp.Ordering.{Ordering}
 use Rattle.std.specs.declared.cmp.Ordering.TheVariants.{Less, Equal, Greater}
 use Rattle.std.specs.declared.ops.Bound.{Bound}
-use Rattle.std.specs.declared.ops.Bound.TheVariants.{Included, Unbounded}
+use Rattle.std.specs.declared.ops.Bound.TheVariants.{Included}
 use Rattle.vc_merge.specs.Ascending.{Ascends}
 use Rattle.vc_merge.proofs.ListLemmas.{each-weaker}
 use Rattle.vc_sets.specs.SetOf.{exactly_one}
 use Rattle.vc_intervals.specs.Turns.{Intervals, turned, holds, IsEqualIntervals}
 use Rattle.vc_intervals.specs.IntervalsOf.{IsIntervalsOf}
-use Rattle.vc_intervals.specs.Listed.{listed_from, begun_start, listed}
+use Rattle.vc_intervals.specs.Listed.{listed_from, listed}
 use Rattle.vc_intervals.specs.Laws.{MembersTellTheTurns}
 use Rattle.vc_intervals.proofs.Kept.{above}
 use Rattle.vc_intervals.proofs.Turned.{turned-above, turned-not}
@@ -24,57 +23,40 @@ use Rattle.vc_intervals.proofs.Turned.{turned-above, turned-not}
 module _ {X : Type 0} (cmp : X → X → Ordering) (total : IsTotalOrder cmp) where
   -- what is above a turn is not at or below it
   not-below : (t : X) (ts : List X) → AllByRecursion (λ z. cmp t z ≡ Less) ts → AllByRecursion (λ z. is_le (cmp z t) ≡ false) ts
-  not-below t ts a = each-weaker (λ z. cmp t z ≡ Less) (λ z. is_le (cmp z t) ≡ false)
-      (λ z h. ap is_le (total.antisymm z t ∙ ap ordering_reverse h)) ts a
+  not-below t ts a = grind (arith, each-weaker)
 
   -- at the first turn the answer is not that below
   at-first : (b : Bool) (t : X) (ts : List X) → AllByRecursion (λ z. cmp t z ≡ Less) ts → turned cmp b (t ∷ ts) t ≡ not b
-  at-first b t ts a =
-      ap (λ o. exactly_one (is_le o) (turned cmp b ts t)) (tied_itself total t) ∙ ap not (turned-above cmp b ts t (not-below t ts a))
+  at-first b t ts a = grind (arith, turned-above, not-below)
 
   differ : (b : Bool) → not b ≡ b → ⊥
-  differ true e = true≢false (sym e)
-  differ false e = true≢false e
+  differ b e = grind arith
 
   -- ---- equal turns
 
   pub equal-members : (b : Bool) (xs ys : List X) (x : X) → AllZip (λ v w. cmp v w ≡ Equal) xs ys → turned cmp b xs x ≡ turned cmp b ys x
   equal-members b [] [] x z = refl
-  equal-members b (v ∷ xs) (w ∷ ys) x z =
-      ap (λ o. exactly_one (is_le o) (turned cmp b xs x)) (total.congr v w x z.0)
-      ∙ ap (exactly_one (is_le (cmp w x))) (equal-members b xs ys x z.1)
+  equal-members b (v ∷ xs) (w ∷ ys) x z = grind (arith, equal-members b xs ys x z.1)
   equal-members b y u x z = absurd z
-
-  exactly-one_same : (p q r : Bool) → exactly_one p q ≡ exactly_one p r → q ≡ r
-  exactly-one_same true q r e = sym (not-not q) ∙ ap not e ∙ not-not r
-  exactly-one_same false q r e = e
-
-  -- without the first turns, which are equal, the answers are the same too
-  behind-first : (b : Bool) (v w : X) (xs ys : List X) → cmp v w ≡ Equal
-      → ((x : X) → turned cmp b (v ∷ xs) x ≡ turned cmp b (w ∷ ys) x) → (x : X) → turned cmp b xs x ≡ turned cmp b ys x
-  behind-first b v w xs ys e same x =
-      exactly-one_same (is_le (cmp v x)) (turned cmp b xs x) (turned cmp b ys x)
-      (same x ∙ ap (λ o. exactly_one (is_le o) (turned cmp b ys x)) (sym (total.congr v w x e)))
 
   -- a turn below the other list, whose answer there is that below
   first-below : (b : Bool) (t : X) (ts us : List X) → AllByRecursion (λ z. cmp t z ≡ Less) ts
       → AllByRecursion (λ z. is_le (cmp z t) ≡ false) us → turned cmp b (t ∷ ts) t ≡ turned cmp b us t → ⊥
-  first-below b t ts us a h e = differ b (sym (at-first b t ts a) ∙ e ∙ turned-above cmp b us t h)
+  first-below b t ts us a h e = grind (arith, differ, at-first, turned-above)
 
   greater-below : (v w : X) → cmp v w ≡ Greater → cmp w v ≡ Less
-  greater-below v w e = total.antisymm w v ∙ ap ordering_reverse e
+  greater-below v w e = grind arith
 
   above-both : (v w : X) (ys : List X) → cmp v w ≡ Less → AllByRecursion (λ z. cmp w z ≡ Less) ys
       → AllByRecursion (λ z. is_le (cmp z v) ≡ false) (w ∷ ys)
-  above-both v w ys e a = not-below v (w ∷ ys)
-      (e, each-weaker (λ z. cmp w z ≡ Less) (λ z. cmp v z ≡ Less) (λ z h. total.trans v w z e h) ys a)
+  above-both v w ys e a = grind (arith, not-below, each-weaker)
 
   by-heads : (b : Bool) (v w : X) (xs ys : List X) (o : Ordering) → cmp v w ≡ o → AllByRecursion (λ z. cmp v z ≡ Less) xs
       → AllByRecursion (λ z. cmp w z ≡ Less) ys → ((x : X) → turned cmp b (v ∷ xs) x ≡ turned cmp b (w ∷ ys) x)
       → (((x : X) → turned cmp b xs x ≡ turned cmp b ys x) → AllZip (λ v w. cmp v w ≡ Equal) xs ys)
       → AllZip (λ v w. cmp v w ≡ Equal) (v ∷ xs) (w ∷ ys)
   by-heads b v w xs ys Less e p q same rest = absurd (first-below b v xs (w ∷ ys) p (above-both v w ys e q) (same v))
-  by-heads b v w xs ys Equal e p q same rest = (e, rest (behind-first b v w xs ys e same))
+  by-heads b v w xs ys Equal e p q same rest = grind arith
   by-heads b v w xs ys Greater e p q same rest =
       absurd (first-below b w ys (v ∷ xs) q (above-both w v xs (greater-below v w e) p) (sym (same w)))
 
@@ -98,8 +80,7 @@ module _ {X : Type 0} (cmp : X → X → Ordering) (total : IsTotalOrder cmp) wh
 
   pub one-made : (from : X → X → Type 0) (f : Bool → Bool → Bool) (a b c d : Intervals X) → IsIntervalsOf cmp from f a b c
       → IsIntervalsOf cmp from f a b d → IsEqualIntervals cmp c d
-  one-made from f a b c d p q =
-      members-tell.turns c d p.ascends q.ascends (p.below ∙ sym q.below) (λ x. p.at x ∙ sym (q.at x))
+  one-made from f a b c d p q = grind (arith, members-tell)
 
   -- ---- the intervals that are listed
 
@@ -109,22 +90,14 @@ module _ {X : Type 0} (cmp : X → X → Ordering) (total : IsTotalOrder cmp) wh
   -- the first interval ends at a turn u of x, or goes on, and the others have what is behind
   ended : (p u r s : Bool) → (p ≡ false → s ≡ false) → (u ≡ false → (r ≡ true) × (s ≡ false)) → (u ≡ true → s ≡ not r)
       → ((p && not u) || s) ≡ (p && exactly_one u r)
-  ended false u r s h k l = h refl
-  ended true true r s h k l = l refl
-  ended true false r s h k l = sym (k refl).0
+  ended p u r s h k l = grind arith
 
   begins : (u r s : Bool) → (u ≡ false → s ≡ false) → (u ≡ true → r ≡ not s) → (u && r) ≡ exactly_one u s
-  begins true r s h k = k refl
-  begins false r s h k = sym (h refl)
-
-  with-true : (p : Bool) → ((p && not false) || false) ≡ (p && true)
-  with-true true = refl
-  with-true false = refl
+  begins u r s h k = grind arith
 
   turns-above : (t : X) (ts : List X) (x : X) → is_le (cmp t x) ≡ false → AllByRecursion (λ z. cmp t z ≡ Less) ts
       → AllByRecursion (λ z. is_le (cmp z x) ≡ false) ts
-  turns-above t ts x e a =
-      each-weaker (λ z. cmp t z ≡ Less) (λ z. is_le (cmp z x) ≡ false) (λ z h. above cmp total ◌&&◌ t z x e h) ts a
+  turns-above t ts x e a = grind (arith, each-weaker, above)
 
   -- where no interval has begun, and where one has that starts before all turns
   both-listed : (ts : List X) (x : X) → Ascends cmp ts
@@ -132,7 +105,7 @@ module _ {X : Type 0} (cmp : X → X → Ordering) (total : IsTotalOrder cmp) wh
       × ((start : Bound X) → (is_from_start cmp start x ≡ false → AllByRecursion (λ z. is_le (cmp z x) ≡ false) ts)
       → in_any x (listed_from (Some start) ts) ≡ (is_from_start cmp start x && turned cmp true ts x))
   unfolding IsStrictlySortedBy
-  both-listed [] x a = (refl, λ start h. with-true (is_from_start cmp start x))
+  both-listed [] x a = grind arith
   both-listed (t ∷ ts) x a =
       let rest = both-listed ts x a.1 in (
         rest.1 (Included t) (λ e. turns-above t ts x e a.0)
@@ -148,8 +121,4 @@ module _ {X : Type 0} (cmp : X → X → Ordering) (total : IsTotalOrder cmp) wh
 
   pub listed-holds : (a : Intervals X) → Ascends cmp a.turns → (x : X)
       → holds cmp a x ≡ list_any (λ ends. range_contains cmp ends.0 ends.1 x) (listed a)
-  listed-holds a p x = by-start a.below
-    where
-      by-start : (b : Bool) → turned cmp b a.turns x ≡ in_any x (listed_from (begun_start b) a.turns)
-      by-start true = sym ((both-listed a.turns x p).1 Unbounded (λ e. absurd (true≢false e)))
-      by-start false = sym (both-listed a.turns x p).0
+  listed-holds a p x = grind (arith, both-listed a.turns x p)

@@ -1,13 +1,11 @@
 -- A walk that seeks a place at which f is so tells whether there is one.
-use Rattle.std.proofs.Common.{◌≡◌, Bool, true, false, not, List, [], ◌∷◌, ◌++◌, map, length, Result, Ok, Err}
-use Rattle.std.proofs.Common.{refl, sym, ap, subst, ◌∙◌, append_assoc, MatchBool, ⊎_elim, arith}
+use Rattle.std.proofs.Common.{◌≡◌, Bool, true, false, not, List, [], ◌∷◌, ◌++◌, map, length, Result, Ok}
+use Rattle.std.proofs.Common.{sym, ap, subst, ◌∙◌, append_assoc, MatchBool, ⊎_elim, arith}
 use mathlib.Core.Bool.{true≢false}
 use Rattle.std.proofs.lemmas.List.{append-nil}
 use Rattle.std.specs.List.Sorted.{IsStrictlySortedBy}
-use Rattle.std.specs.Cmp.{IsTotalOrder, tied_itself}
-use Rattle.std.specs.Ordering.{is_le, ordering_reverse}
+use Rattle.std.specs.Cmp.{IsTotalOrder}
 use Rattle.std.specs.declared.cmp.Ordering.{Ordering}
-use Rattle.std.specs.declared.cmp.Ordering.TheVariants.{Less}
 use Rattle.std.specs.declared.alloc.AllocError.{AllocError}
 use Rattle.vc_merge.specs.Ascending.{Ascends}
 use Rattle.vc_merge.specs.Script.{Event, left_alone, right_alone, IsScript}
@@ -25,33 +23,18 @@ use Rattle.vc_intervals.proofs.Walked.{all_if, kept-of_left, kept-of_right}
 -- ---- answers
 
 goes-on : (g : Bool) → ◌≡◌ {A = Answer} (Ok true) (Ok (not g)) → g ≡ false
-goes-on true e = let odd : true ≡ false = cc in absurd (true≢false odd)
-goes-on false e = refl
-
-stops-at : (g : Bool) (answer : Answer) → answer ≡ Ok (not g) → (answer ≡ Ok true → ⊥) → g ≡ true
-stops-at true answer e stop = refl
-stops-at false answer e stop = absurd (stop e)
+goes-on g e = grind arith
 
 -- where an answer is false on both sides of a turn it is so behind any number of turns
 either-way : (g : Bool → Bool) (o p : Bool) → g p ≡ false → g (not p) ≡ false → g (exactly_one o p) ≡ false
-either-way g true p e h = h
-either-way g false p e h = e
+either-way g o p e h = grind arith
 
 module _ {X : Type 0} (f : Bool → Bool → Bool) where
   none-kept : (c d : Bool) (xs ks : List X) → c ≡ false → d ≡ false → all_if (exactly_one c d) xs ++ ks ≡ ks
-  none-kept true d xs ks e h = absurd (true≢false e)
-  none-kept false true xs ks e h = absurd (true≢false h)
-  none-kept false false xs ks e h = refl
+  none-kept c d xs ks e h = grind arith
 
   put-none : (c d : Bool) (x : X) (ks : List X) → c ≡ false → d ≡ false → put_if (exactly_one c d) x ks ≡ ks
-  put-none true d x ks e h = absurd (true≢false e)
-  put-none false true x ks e h = absurd (true≢false h)
-  put-none false false x ks e h = refl
-
-  put-one : (c d : Bool) (x : X) (ks : List X) → c ≡ false → d ≡ true → put_if (exactly_one c d) x ks ≡ x ∷ ks
-  put-one true d x ks e h = absurd (true≢false e)
-  put-one false true x ks e h = refl
-  put-one false false x ks e h = absurd (true≢false (sym h))
+  put-none c d x ks e h = grind arith
 
 module _ {X : Type 0} (cmp : X → X → Ordering) (total : IsTotalOrder cmp) (f : Bool → Bool → Bool) {M : Type 0}
     (left right : M → List X) (in_a in_b found : M → Bool) where
@@ -70,11 +53,7 @@ module _ {X : Type 0} (cmp : X → X → Ordering) (total : IsTotalOrder cmp) (f
 
   quiet-steps : (s t : M) (runs : List (Run X X)) → f (in_a s) (in_b s) ≡ false → found s ≡ false
       → Steps search_walk s runs t → Quiet (events runs) s t
-  quiet-steps s t [] e h w = record {
-    none = λ rest. ap (λ u. kept f (in_a u) (in_b u) rest) w;
-    still = ap (λ u. f (in_a u) (in_b u)) (sym w) ∙ e;
-    unfound = ap found (sym w) ∙ h;
-  }
+  quiet-steps s t [] e h w = grind arith
   quiet-steps s t (of_left xs ∷ runs) e h w =
       let u = w.0 in
       let k = w.1.allowed in
@@ -143,32 +122,11 @@ module _ {X : Type 0} (cmp : X → X → Ordering) (total : IsTotalOrder cmp) (f
   last-begins : (s t : M) (run : Run X X) (answer : Answer) (ls rs : List X) (rest : List (Event X X))
       → f (in_a s) (in_b s) ≡ false → IsAtFront (left s) (right s) run ls rs → IsAllowed search_walk s run answer t
       → (answer ≡ Ok true → ⊥) → Begins (kept f (in_a s) (in_b s) (run_events run ++ rest)) t
-  last-begins s t (of_left []) answer ls rs rest e p k stop = let none = p.0 in absurd (omega arith)
-  last-begins s t (of_left (x ∷ xs)) answer ls rs rest e p k stop =
-      let was = stops-at (found t) answer k.0 stop in
-      record {
-        first = x;
-        others = _;
-        is = put-one f (f (in_a s) (in_b s)) (f (not (in_a s)) (in_b s)) x _ e (sym k.1 ∙ was);
-        was_found = was;
-      }
-  last-begins s t (of_right []) answer ls rs rest e p k stop = let none = p.0 in absurd (omega arith)
-  last-begins s t (of_right (y ∷ ys)) answer ls rs rest e p k stop =
-      let was = stops-at (found t) answer k.0 stop in
-      record {
-        first = y;
-        others = _;
-        is = put-one f (f (in_a s) (in_b s)) (f (in_a s) (not (in_b s))) y _ e (sym k.1 ∙ was);
-        was_found = was;
-      }
-  last-begins s t (of_both x y) answer ls rs rest e p k stop =
-      let was = stops-at (found t) answer k.0 stop in
-      record {
-        first = x;
-        others = _;
-        is = put-one f (f (in_a s) (in_b s)) (f (not (in_a s)) (not (in_b s))) x _ e (sym k.1 ∙ was);
-        was_found = was;
-      }
+  last-begins s t (of_left []) answer ls rs rest e p k stop = grind arith
+  last-begins s t (of_left (x ∷ xs)) answer ls rs rest e p k stop = grind arith
+  last-begins s t (of_right []) answer ls rs rest e p k stop = grind arith
+  last-begins s t (of_right (y ∷ ys)) answer ls rs rest e p k stop = grind arith
+  last-begins s t (of_both x y) answer ls rs rest e p k stop = grind arith
 
   -- ---- whole walks
 
@@ -185,11 +143,7 @@ module _ {X : Type 0} (cmp : X → X → Ordering) (total : IsTotalOrder cmp) (f
   -- at the first of ascending turns an answer that is false below is true
   first-said : (x : X) (ks : List X) → Ascends cmp (x ∷ ks) → turned cmp false (x ∷ ks) x ≡ true
   unfolding IsStrictlySortedBy
-  first-said x ks a =
-      ap (λ o. exactly_one (is_le o) (turned cmp false ks x)) (tied_itself total x)
-      ∙ ap not (turned-above cmp false ks x
-      (each-weaker (λ z. cmp x z ≡ Less) (λ z. is_le (cmp z x) ≡ false)
-      (λ z h. ap is_le (total.antisymm z x ∙ ap ordering_reverse h)) ks a.0))
+  first-said x ks a = grind (arith, turned-above, each-weaker)
 
   some-said : (s : M) (es : List (Event X X)) (x : X) (ks : List X) → f (in_a s) (in_b s) ≡ false
       → IsScript (both_sides cmp) (left s) (right s) es → kept f (in_a s) (in_b s) es ≡ x ∷ ks → said s x ≡ true
@@ -230,5 +184,4 @@ module _ {X : Type 0} (cmp : X → X → Ordering) (total : IsTotalOrder cmp) (f
       ((x : X) × (f (turned cmp (in_a s) (left s) x) (turned cmp (in_b s) (right s) x) ≡ true))
       ((x : X) → f (turned cmp (in_a s) (left s) x) (turned cmp (in_b s) (right s) x) ≡ false)
   unfolding Tells
-  walk-tells s t (Ok u) e h m = ⊎_elim (λ w. finished s t e h w) (λ w. stopped s t (Ok false) e h w) m
-  walk-tells s t (Err x) e h m = stopped s t (Err x) e h m
+  walk-tells s t answer e h m = grind (arith, finished, stopped)

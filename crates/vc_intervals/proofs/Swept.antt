@@ -1,17 +1,16 @@
 -- Ranges that are added in the order of their starts.
 --     swept-pushed, swept-met        the turns with one range more, which is apart from the last one or meets it
 --     pushed-holds, met-holds        what they have
-use Rattle.std.proofs.Common.{◌≡◌, ℕ, suc, ◌+◌, ◌-◌, Bool, true, false, not, cond, ◌&&◌, ◌||◌, List, [], ◌∷◌, ◌++◌}
+use Rattle.std.proofs.Common.{◌≡◌, ℕ, suc, ◌+◌, ◌-◌, Bool, true, false, not, ◌&&◌, ◌||◌, List, [], ◌∷◌, ◌++◌}
 use Rattle.std.proofs.Common.{length, take, Some, refl, sym, ap, subst, ◌∙◌, length-append, arith}
 use mathlib.Core.Bool.{true≢false}
-use Rattle.std.proofs.Math.Bool.{not-not}
 use Rattle.std.proofs.Math.Seq.{take-append_seam}
-use Rattle.std.specs.Cmp.{IsTotalOrder, alike_right, tied_itself}
+use Rattle.std.specs.Cmp.{IsTotalOrder, tied_itself}
 use Rattle.std.specs.List.{AllByRecursion, slice_get}
 use Rattle.std.specs.List.Sorted.{IsStrictlySortedBy}
 use Rattle.std.specs.Ordering.{is_le, is_lt, ord_max, ordering_reverse}
 use Rattle.std.specs.declared.cmp.Ordering.{Ordering}
-use Rattle.std.specs.declared.cmp.Ordering.TheVariants.{Less, Equal, Greater}
+use Rattle.std.specs.declared.cmp.Ordering.TheVariants.{Less}
 use Rattle.std.specs.declared.ops.Range.{Range}
 use Rattle.vc_merge.specs.Ascending.{Ascends}
 use Rattle.vc_merge.proofs.ListLemmas.{each-weaker}
@@ -19,8 +18,7 @@ use Rattle.vc_sets.specs.SetOf.{exactly_one}
 use Rattle.vc_intervals.specs.Turns.{turned}
 use Rattle.vc_intervals.specs.Events.{odd}
 use Rattle.vc_intervals.specs.Ranges.{IsSwept}
-use Rattle.vc_intervals.proofs.Turned.{odd-next}
-use Rattle.vc_intervals.proofs.Ranged.{le-through, less-from_is_lt, pair-contains}
+use Rattle.vc_intervals.proofs.Ranged.{less-from_is_lt, pair-contains}
 
 module _ {X : Type 0} where
   each-append : (P : X → Type 0) (xs ys : List X) → AllByRecursion P xs → AllByRecursion P ys → AllByRecursion P (xs ++ ys)
@@ -37,9 +35,7 @@ module _ {X : Type 0} where
 
   -- all but the last of a list with one more
   but_last : (xs : List X) (y : X) → take (length (xs ++ y ∷ []) - 1) (xs ++ y ∷ []) ≡ xs
-  but_last xs y =
-      let n : length (xs ++ y ∷ []) - 1 ≡ length xs = let k = length-append xs (y ∷ []) in omega (arith, k) in
-      ap (λ m. take m (xs ++ y ∷ [])) n ∙ take-append_seam xs (y ∷ [])
+  but_last xs y = grind (arith, length-append xs (y ∷ []), take-append_seam xs (y ∷ []))
 
   -- a list has a last element, or is empty
   data Ends (xs : List X) : Type 0 where
@@ -66,34 +62,27 @@ module _ {X : Type 0} where
 module _ {X : Type 0} (cmp : X → X → Ordering) (total : IsTotalOrder cmp) where
   turned-append : (b : Bool) (xs ys : List X) (x : X) → turned cmp b (xs ++ ys) x ≡ turned cmp (turned cmp b ys x) xs x
   turned-append b [] ys x = refl
-  turned-append b (t ∷ xs) ys x = ap (exactly_one (is_le (cmp t x))) (turned-append b xs ys x)
+  turned-append b (t ∷ xs) ys x = grind (arith, turned-append b xs ys x)
 
   -- as many turns at or below a place turn the answer there
   turned-all : (b : Bool) (ts : List X) (x : X) → AllByRecursion (λ t. is_le (cmp t x) ≡ true) ts
       → turned cmp b ts x ≡ exactly_one (odd (length ts)) b
   turned-all b [] x p = refl
-  turned-all b (t ∷ ts) x p =
-      ap (λ c. exactly_one c (turned cmp b ts x)) p.0 ∙ ap not (turned-all b ts x p.1)
-      ∙ sym (not-first (odd (length ts)) b) ∙ ap (λ c. exactly_one c b) (odd-next (length ts))
-    where
-      not-first : (p q : Bool) → exactly_one (not p) q ≡ not (exactly_one p q)
-      not-first true q = sym (not-not q)
-      not-first false q = refl
+  turned-all b (t ∷ ts) x p = grind (arith, turned-all b ts x p.1)
 
   le-later : (t s x : X) → is_le (cmp t s) ≡ true → is_le (cmp s x) ≡ true → is_le (cmp t x) ≡ true
-  le-later t s x e h = le-through cmp total t s x (cmp t s) (cmp s x) refl refl e h
+  le-later t s x e h = grind arith
 
   each-later : (ts : List X) (s x : X) → is_le (cmp s x) ≡ true → AllByRecursion (λ t. is_le (cmp t s) ≡ true) ts
       → AllByRecursion (λ t. is_le (cmp t x) ≡ true) ts
-  each-later ts s x e p = each-weaker (λ t. is_le (cmp t s) ≡ true) (λ t. is_le (cmp t x) ≡ true) (λ t h. le-later t s x h e) ts p
+  each-later ts s x e p = grind (arith, each-weaker, le-later)
 
   -- ---- a range apart from the last interval
 
   ascends-pushed : (ts : List X) (s : X) → Ascends cmp ts → AllByRecursion (λ t. cmp t s ≡ Less) ts → Ascends cmp (ts ++ s ∷ [])
   unfolding IsStrictlySortedBy
   ascends-pushed [] s p q = (tt, tt)
-  ascends-pushed (t ∷ ts) s p q =
-      (each-append (λ z. cmp t z ≡ Less) ts (s ∷ []) p.0 (q.0, tt), ascends-pushed ts s p.1 q.1)
+  ascends-pushed (t ∷ ts) s p q = grind (arith, ascends-pushed ts s p.1 q.1, each-append)
 
   -- each of ascending elements before the last is less than it
   before-last : (ts : List X) (l : X) → Ascends cmp (ts ++ l ∷ []) → AllByRecursion (λ t. cmp t l ≡ Less) ts
@@ -104,7 +93,7 @@ module _ {X : Type 0} (cmp : X → X → Ordering) (total : IsTotalOrder cmp) wh
   ascends-front : (ts us : List X) → Ascends cmp (ts ++ us) → Ascends cmp ts
   unfolding IsStrictlySortedBy
   ascends-front [] us p = tt
-  ascends-front (t ∷ ts) us p = (each-front (λ z. cmp t z ≡ Less) ts us p.0, ascends-front ts us p.1)
+  ascends-front (t ∷ ts) us p = grind (arith, ascends-front ts us p.1, each-front)
 
   -- all turns are less than a start, where the last one is
   pub below-start : (ts : List X) (s : X) → Ascends cmp ts
@@ -122,8 +111,7 @@ module _ {X : Type 0} (cmp : X → X → Ordering) (total : IsTotalOrder cmp) wh
           (before-last front last (subst (Ascends cmp) e p))) (less, tt))
 
   odd-two : (n : ℕ) → odd (n + 2) ≡ odd n
-  odd-two n = let e : n + 2 ≡ suc (suc n) = omega arith in
-      ap odd e ∙ sym (odd-next (suc n)) ∙ ap not (sym (odd-next n)) ∙ not-not (odd n)
+  odd-two n = grind arith
 
   two-more : (ts : List X) (s e : X) → (ts ++ s ∷ []) ++ e ∷ [] ≡ ts ++ s ∷ e ∷ []
   two-more [] s e = refl
@@ -158,132 +146,76 @@ module _ {X : Type 0} (cmp : X → X → Ordering) (total : IsTotalOrder cmp) wh
   added false ts x h = refl
 
   from-start : (p q : Bool) → (p && q) ≡ true → p ≡ true
-  from-start true q e = refl
-  from-start false q e = absurd (true≢false (sym e))
+  from-start p q e = grind arith
 
   pub pushed-holds : (ts us : List X) (s e x : X) → IsSwept cmp s ts → cmp s e ≡ Less → AllByRecursion (λ t. cmp t s ≡ Less) ts
       → us ≡ (ts ++ s ∷ []) ++ e ∷ []
       → turned cmp false us x ≡ ((is_le (cmp s x) && not (is_le (cmp e x))) || turned cmp false ts x)
   pushed-holds ts us s e x p l q is =
-      let inside = is_le (cmp s x) && not (is_le (cmp e x)) in
-      ap (λ l. turned cmp false l x) (is ∙ two-more ts s e) ∙ turned-append false ts (s ∷ e ∷ []) x
-      ∙ ap (λ b. turned cmp b ts x) (pair-contains cmp total s e x l)
-      ∙ added inside ts x (λ h. turned-all false ts x (each-later ts s x (from-start (is_le (cmp s x)) (not (is_le (cmp e x))) h)
-      (each-weaker (λ t. cmp t s ≡ Less) (λ t. is_le (cmp t s) ≡ true) (λ t k. ap is_le k) ts q))
-      ∙ ap (λ o. exactly_one o false) p.even)
+      grind (arith, two-more, turned-append, pair-contains, added, turned-all, each-later, from-start, each-weaker)
 
   -- ---- a range that meets the last interval
 
   reverse-le : (o : Ordering) → is_lt o ≡ false → is_le (ordering_reverse o) ≡ true
-  reverse-le Less e = absurd (true≢false e)
-  reverse-le x e = refl
+  reverse-le x e = grind arith
 
   -- the greater one of two is at or below a place where both are
   max-le : (a b x : X) → is_le (cmp (ord_max cmp a b) x) ≡ (is_le (cmp a x) && is_le (cmp b x))
-  max-le a b x = by (is_lt (cmp b a)) refl
-    where
-      and-first : (p q : Bool) → (p ≡ true → q ≡ true) → p ≡ (p && q)
-      and-first true q h = sym (h refl)
-      and-first false q h = refl
-
-      and-second : (p q : Bool) → (q ≡ true → p ≡ true) → q ≡ (p && q)
-      and-second true q h = refl
-      and-second false true h = absurd (true≢false (sym (h refl)))
-      and-second false false h = refl
-
-      by : (c : Bool) → is_lt (cmp b a) ≡ c → is_le (cmp (ord_max cmp a b) x) ≡ (is_le (cmp a x) && is_le (cmp b x))
-      by true e =
-          ap (λ c. is_le (cmp (cond c a b) x)) e
-          ∙ and-first (is_le (cmp a x)) (is_le (cmp b x)) (λ h. le-later b a x (ap is_le (less-from_is_lt (cmp b a) e)) h)
-      by false e =
-          ap (λ c. is_le (cmp (cond c a b) x)) e
-          ∙ and-second (is_le (cmp a x)) (is_le (cmp b x))
-          (λ h. le-later a b x (ap is_le (total.antisymm a b) ∙ reverse-le (cmp b a) e) h)
+  max-le a b x = grind arith
 
   -- what is less than the first is less than the greater one of two
   less-max : (t a b : X) → cmp t a ≡ Less → cmp t (ord_max cmp a b) ≡ Less
-  less-max t a b l = by (is_lt (cmp b a)) refl
-    where
-      through : (o : Ordering) → cmp b a ≡ o → is_lt o ≡ false → cmp t b ≡ Less
-      through Less e h = absurd (true≢false h)
-      through Equal e h = sym (alike_right total a b t (total.antisymm a b ∙ ap ordering_reverse e)) ∙ l
-      through Greater e h = total.trans t a b l (total.antisymm a b ∙ ap ordering_reverse e)
-
-      by : (c : Bool) → is_lt (cmp b a) ≡ c → cmp t (ord_max cmp a b) ≡ Less
-      by true e = ap (λ c. cmp t (cond c a b)) e ∙ l
-      by false e = ap (λ c. cmp t (cond c a b)) e ∙ through (cmp b a) refl e
+  less-max t a b l = grind arith
 
   pub swept-met : (ts us : List X) (l s e : X) → IsSwept cmp s (ts ++ l ∷ []) → us ≡ ts ++ ord_max cmp l e ∷ [] → IsSwept cmp s us
-  swept-met ts us l s e p is = subst (IsSwept cmp s) (sym is) (record {
-    ascends = ascends-pushed ts (ord_max cmp l e) (ascends-front ts (l ∷ []) p.ascends)
-        (each-weaker (λ t. cmp t l ≡ Less) (λ t. cmp t (ord_max cmp l e) ≡ Less) (λ t h. less-max t l e h) ts
-        (before-last ts l p.ascends));
-    even = let n : length (ts ++ ord_max cmp l e ∷ []) ≡ length (ts ++ l ∷ []) =
-        let j = length-append ts (ord_max cmp l e ∷ []) in let k = length-append ts (l ∷ []) in omega (arith, j, k) in
-        ap odd n ∙ p.even;
-    before = subst (AllByRecursion (λ t. is_le (cmp t s) ≡ true)) (sym (but_last ts (ord_max cmp l e)))
-        (subst (AllByRecursion (λ t. is_le (cmp t s) ≡ true)) (but_last ts l) p.before);
-  })
+  swept-met ts us l s e p is =
+      grind (arith, ascends-pushed, ascends-front, each-weaker, less-max, before-last, length-append, but_last)
 
   -- an odd number of turns at or below a place turn the answer there, and none above it
   met : (p q u : Bool) (ts : List X) (x : X) → (q ≡ true → p ≡ true) → (u ≡ true → p ≡ true)
       → (p ≡ true → (b : Bool) → turned cmp b ts x ≡ not b)
       → turned cmp (u && q) ts x ≡ ((p && not q) || turned cmp u ts x)
-  met true q true ts x h k t = t refl q ∙ first q
-    where
-      first : (q : Bool) → not q ≡ (not q || turned cmp true ts x)
-      first true = sym (t refl true)
-      first false = refl
-  met true true false ts x h k t = refl
-  met true false false ts x h k t = t refl false
-  met false true u ts x h k t = absurd (true≢false (sym (h refl)))
-  met false false true ts x h k t = absurd (true≢false (sym (k refl)))
-  met false false false ts x h k t = refl
+  met p q u ts x h k t = grind arith
 
   one-le : (p : Bool) → exactly_one p false ≡ p
-  one-le true = refl
-  one-le false = refl
+  one-le p = grind arith
 
   not-odd : (n : ℕ) → odd (suc n) ≡ false → odd n ≡ true
-  not-odd n e = sym (not-not (odd n)) ∙ ap not (odd-next n ∙ e)
+  not-odd n e = grind arith
 
   pub met-holds : (ts us : List X) (l s e x : X) → IsSwept cmp s (ts ++ l ∷ []) → is_lt (cmp l s) ≡ false → cmp s e ≡ Less
       → us ≡ ts ++ ord_max cmp l e ∷ []
       → turned cmp false us x ≡ ((is_le (cmp s x) && not (is_le (cmp e x))) || turned cmp false (ts ++ l ∷ []) x)
   met-holds ts us l s e x p h k is =
-      let n : length (ts ++ l ∷ []) ≡ suc (length ts) = let j = length-append ts (l ∷ []) in omega (arith, j) in
-      let count : odd (length ts) ≡ true = not-odd (length ts) (ap odd (sym n) ∙ p.even) in
-      let before = subst (AllByRecursion (λ t. is_le (cmp t s) ≡ true)) (but_last ts l) p.before in
-      ap (λ v. turned cmp false v x) is ∙ turned-append false ts (ord_max cmp l e ∷ []) x
-      ∙ ap (λ b. turned cmp b ts x) (one-le (is_le (cmp (ord_max cmp l e) x)) ∙ max-le l e x)
-      ∙ met (is_le (cmp s x)) (is_le (cmp e x)) (is_le (cmp l x)) ts x
-      (λ q. le-later s e x (ap is_le k) q) (λ u. le-later s l x (ap is_le (total.antisymm s l) ∙ reverse-le (cmp l s) h) u)
-      (λ q b. turned-all b ts x (each-later ts s x q before) ∙ ap (λ o. exactly_one o b) count)
-      ∙ ap (λ b. (is_le (cmp s x) && not (is_le (cmp e x))) || b)
-      (ap (λ b. turned cmp b ts x) (sym (one-le (is_le (cmp l x)))) ∙ sym (turned-append false ts (l ∷ []) x))
+      grind (
+        arith,
+        length-append,
+        not-odd,
+        but_last,
+        turned-append,
+        one-le,
+        max-le,
+        met,
+        le-later,
+        reverse-le,
+        turned-all,
+        each-later,
+      )
 
   -- ---- ranges that start later
 
   swept-later : (s q : X) (ts : List X) → IsSwept cmp s ts → is_le (cmp s q) ≡ true → IsSwept cmp q ts
-  swept-later s q ts p e = record {
-    ascends = p.ascends;
-    even = p.even;
-    before = each-later (take (length ts - 1) ts) s q e p.before;
-  }
+  swept-later s q ts p e = grind (arith, each-later)
 
   pub all-swept : (s : X) (ts : List X) (rs : List (Range X)) → IsSwept cmp s ts
       → AllByRecursion (λ q. is_le (cmp s q.start) ≡ true) rs → AllByRecursion (λ q. IsSwept cmp q.start ts) rs
-  all-swept s ts rs p a =
-      each-weaker (λ q. is_le (cmp s q.start) ≡ true) (λ q. IsSwept cmp q.start ts) (λ q e. swept-later s q.start ts p e) rs a
+  all-swept s ts rs p a = grind (arith, each-weaker, swept-later)
 
   pub none-swept : (ts : List X) (rs : List (Range X)) → ts ≡ [] → AllByRecursion (λ q. IsSwept cmp q.start ts) rs
   unfolding IsStrictlySortedBy
   none-swept ts [] e = tt
-  none-swept ts (r ∷ rs) e =
-      (subst (IsSwept cmp r.start) (sym e) (record { ascends = tt; even = refl; before = tt }), none-swept ts rs e)
+  none-swept ts (r ∷ rs) e = grind (arith, none-swept ts rs e)
 
 -- a range goes from those that are left over to those that were added
 pub moved-over : (p q r t u : Bool) → u ≡ (p || t) → ((p || q) || t) ≡ r → (q || u) ≡ r
-moved-over true true r t u e h = h
-moved-over true false r t u e h = e ∙ h
-moved-over false q r t u e h = ap (λ b. q || b) e ∙ h
+moved-over p q r t u e h = grind arith

@@ -1,11 +1,10 @@
 -- Membership by turns: of turns at or below a place, and of turns above it.
---     differs, odd-next        two answers, and odd numbers
+--     differs        two answers
 --     turned-not, turned-above, turned-counted        of the answer turned, of turns above, and by their number
 --     turned-found, turned-gap        by what a search answers
 use Rattle.std.proofs.Common.{◌≡◌, ℕ, zero, suc, ◌+◌, ◌<◌, ◌≤◌, Bool, true, false, not, List, [], ◌∷◌, length, take, drop}
-use Rattle.std.proofs.Common.{refl, sym, ap, subst, ◌∙◌, rules, arith}
+use Rattle.std.proofs.Common.{refl, ap, subst, arith}
 use Rattle.std.specs.Bool.{beq}
-use Rattle.std.proofs.Math.Bool.{not-not}
 use Rattle.std.specs.List.{AllByRecursion, HoldsAt}
 use Rattle.std.specs.Ordering.{is_le}
 use Rattle.std.specs.declared.cmp.Ordering.{Ordering}
@@ -17,44 +16,26 @@ use Rattle.vc_intervals.specs.Turns.{turned}
 use Rattle.vc_intervals.specs.Events.{odd}
 
 pub differs : (p q : Bool) → not (beq p q) ≡ exactly_one q p
-differs true true = refl
-differs true false = refl
-differs false true = refl
-differs false false = refl
-
--- an odd number is one more than an even one
-pub odd-next : (n : ℕ) → not (odd n) ≡ odd (suc n)
-odd-next n = search rules
-
-pub exactly_one-not : (p q : Bool) → exactly_one p (not q) ≡ not (exactly_one p q)
-exactly_one-not true q = refl
-exactly_one-not false q = refl
+differs p q = grind arith
 
 module _ {X : Type 0} (cmp : X → X → Ordering) where
   -- the answer below turned is the answer turned
   pub turned-not : (b : Bool) (ts : List X) (x : X) → turned cmp (not b) ts x ≡ not (turned cmp b ts x)
   turned-not b [] x = refl
-  turned-not b (t ∷ ts) x =
-      ap (λ c. exactly_one (is_le (cmp t x)) c) (turned-not b ts x) ∙ exactly_one-not (is_le (cmp t x)) (turned cmp b ts x)
+  turned-not b (t ∷ ts) x = grind (arith, turned-not b ts x)
 
   -- turns above a place turn nothing there
   pub turned-above : (b : Bool) (ts : List X) (x : X) → AllByRecursion (λ t. is_le (cmp t x) ≡ false) ts → turned cmp b ts x ≡ b
   turned-above b [] x p = refl
-  turned-above b (t ∷ ts) x p = ap (λ c. exactly_one c (turned cmp b ts x)) p.0 ∙ turned-above b ts x p.1
+  turned-above b (t ∷ ts) x p = grind (arith, turned-above b ts x p.1)
 
   -- the first k turns are at or below a place, and the others above it
   pub turned-counted : (b : Bool) (ts : List X) (k : ℕ) (x : X) → k ≤ length ts
       → AllByRecursion (λ t. is_le (cmp t x) ≡ true) (take k ts) → AllByRecursion (λ t. is_le (cmp t x) ≡ false) (drop k ts)
       → turned cmp b ts x ≡ exactly_one (odd k) b
   turned-counted b ts zero x h p q = turned-above b ts x q
-  turned-counted b [] (suc k) x h p q = absurd (omega arith)
-  turned-counted b (t ∷ ts) (suc k) x h p q =
-      ap (λ c. exactly_one c (turned cmp b ts x)) p.0 ∙ ap not (turned-counted b ts k x (omega arith) p.1 q)
-      ∙ sym (not-exactly_one (odd k) b) ∙ ap (λ c. exactly_one c b) (odd-next k)
-    where
-      not-exactly_one : (p q : Bool) → exactly_one (not p) q ≡ not (exactly_one p q)
-      not-exactly_one true q = sym (not-not q)
-      not-exactly_one false q = refl
+  turned-counted b [] (suc k) x h p q = grind arith
+  turned-counted b (t ∷ ts) (suc k) x h p q = grind (arith, turned-counted b ts k x)
 
   -- ---- by what a search answers
 
@@ -67,9 +48,9 @@ module _ {X : Type 0} (cmp : X → X → Ordering) where
   -- the turns up to one that stands at a place
   upto : (ts : List X) (i : ℕ) (x : X) → i < length ts → HoldsAt (λ y. cmp y x ≡ Equal) ts i
       → AllByRecursion (λ t. cmp t x ≡ Less) (take i ts) → AllByRecursion (λ t. is_le (cmp t x) ≡ true) (take (suc i) ts)
-  upto [] i x h e p = absurd (omega arith)
+  upto [] i x h e p = grind arith
   upto (t ∷ ts) zero x h e p = (ap is_le (e t), tt)
-  upto (t ∷ ts) (suc i) x h e p = (ap is_le p.0, upto ts i x (omega arith) e p.1)
+  upto (t ∷ ts) (suc i) x h e p = grind (arith, upto ts i x)
 
   pub turned-found : (b : Bool) (ts : List X) (i : ℕ) (x : X) → IsFound (λ y. cmp y x) ts i
       → turned cmp b ts x ≡ exactly_one (odd (i + 1)) b
@@ -83,7 +64,4 @@ module _ {X : Type 0} (cmp : X → X → Ordering) where
 
   pub turned-gap : (b : Bool) (ts : List X) (i : ℕ) (x : X) → IsGap (λ y. cmp y x) ts i
       → turned cmp b ts x ≡ exactly_one (odd i) b
-  turned-gap b ts i x p =
-      turned-counted b ts i x p.within
-      (each-weaker (λ t. cmp t x ≡ Less) (λ t. is_le (cmp t x) ≡ true) (λ t e. le-from_less t x e) (take i ts) p.less)
-      (each-weaker (λ t. cmp t x ≡ Greater) (λ t. is_le (cmp t x) ≡ false) (λ t e. le-from_greater t x e) (drop i ts) p.greater)
+  turned-gap b ts i x p = grind (arith, turned-counted, each-weaker, le-from_less, le-from_greater)

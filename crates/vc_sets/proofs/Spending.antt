@@ -1,7 +1,6 @@
 -- What blocks of comparisons and a merge behind them spend together.
 --     enough-told        what tells that enough is left
 --     next-within        behind a block
---     refused-within        where a block was refused
 use Rattle.std.proofs.Common.{◌≡◌, ℕ, ◌+◌, ◌-◌, ◌≤◌, sym, subst, arith}
 use Rattle.vc_merge.specs.Count.{bound}
 use Rattle.vc_merge.specs.declared.plan.Plan.{Plan}
