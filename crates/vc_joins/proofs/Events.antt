@@ -1,12 +1,11 @@
 -- What is built by answers to the events of two maps is their join.
-use Rattle.std.proofs.Common.{◌≡◌, Bool, true, false, cond, List, [], ◌∷◌, ◌++◌, Option, Some, None, refl, sym, ap, ◌∙◌, subst}
+use Rattle.std.proofs.Common.{◌≡◌, Bool, true, false, cond, List, [], ◌∷◌, ◌++◌, Option, Some, None, refl, sym, subst, arith}
 use Rattle.std.specs.BTreeMap.{is_at}
-use Rattle.std.specs.Cmp.{IsTotalOrder, Equal-is, alike_right, tied_itself}
+use Rattle.std.specs.Cmp.{IsTotalOrder}
 use Rattle.std.specs.List.{AllByRecursion, cons_option}
 use Rattle.std.specs.List.Sorted.{IsStrictlySortedBy}
 use Rattle.std.specs.Map.{keys_of}
 use Rattle.std.specs.Option.{MatchOption, option_to_list}
-use Rattle.std.specs.Ordering.{is_eq, ordering_reverse}
 use Rattle.std.specs.declared.cmp.Ordering.{Ordering}
 use Rattle.std.specs.declared.cmp.Ordering.TheVariants.{Less, Equal}
 use Rattle.vc_merge.specs.Ascending.{Ascends}
@@ -25,62 +24,46 @@ abbrev pub IsAtKey : {K X : Type 0} → (K → K → Ordering) → K → Option 
 IsAtKey cmp x z = MatchOption z (Unit {0}) (λ p. cmp x p.0 ≡ Equal)
 
 module _ {K : Type 0} {cmp : K → K → Ordering} (total : IsTotalOrder cmp) where
-  -- what is equal to x is not at what is above x
-  at-above : (k x y : K) → is_at (cmp k) x ≡ true → cmp x y ≡ Less → is_at (cmp k) y ≡ false
-  at-above k x y e less = ap is_eq (total.congr k x y ((Equal-is (cmp k x)).0 e) ∙ less)
-
   -- equal keys are at the same places
   at-alike : (k x y : K) → cmp x y ≡ Equal → is_at (cmp k) y ≡ is_at (cmp k) x
-  at-alike k x y e = ap is_eq (sym (alike_right total x y k e))
-
-  -- what is below a key is below one that is equal to it
-  below-alike : (x y z : K) → cmp y z ≡ Equal → cmp x y ≡ Less → cmp x z ≡ Less
-  below-alike x y z e less = sym (alike_right total y z x e) ∙ less
+  at-alike k x y e = grind arith
 
   -- what a key is below is above what is equal to the key
   above-alike : (x z : K) (ys : List K) → cmp x z ≡ Equal → AllByRecursion (λ y. cmp x y ≡ Less) ys
       → AllByRecursion (λ y. cmp z y ≡ Less) ys
   above-alike x z [] e p = tt
-  above-alike x z (y ∷ ys) e p = (sym (total.congr x z y e) ∙ p.0, above-alike x z ys e p.1)
+  above-alike x z (y ∷ ys) e p = grind (arith, above-alike x z ys e p.1)
 
   module _ {X : Type 0} where
     -- the first pair, where the key is equal and where it is not
     entry-first : (k : K) (p : K × X) (es : List (K × X)) → is_at (cmp k) p.0 ≡ true → entry_at cmp (p ∷ es) k ≡ Some p
-    entry-first k p es e = ap (λ b. cond b (Some p) (entry_at cmp es k)) e
-
-    entry-later : (k : K) (p : K × X) (es : List (K × X)) → is_at (cmp k) p.0 ≡ false → entry_at cmp (p ∷ es) k
-        ≡ entry_at cmp es k
-    entry-later k p es e = ap (λ b. cond b (Some p) (entry_at cmp es k)) e
+    entry-first k p es e = grind arith
 
     -- nothing stands at x above x
     entry-above : (k x : K) (es : List (K × X)) → is_at (cmp k) x ≡ true
         → AllByRecursion (λ y. cmp x y ≡ Less) (keys_of es) → entry_at cmp es k ≡ None
     entry-above k x [] e p = refl
-    entry-above k x (q ∷ es) e p = entry-later k q es (at-above k x q.0 e p.0) ∙ entry-above k x es e p.1
+    entry-above k x (q ∷ es) e p = grind (arith, entry-above k x es e p.1)
 
     -- ---- a pair, or none, in front of a list that is above it
 
     front-above : (w x : K) (z : Option (K × X)) (rest : List (K × X)) → cmp w x ≡ Less → IsAtKey cmp x z
         → AllByRecursion (λ y. cmp w y ≡ Less) (keys_of rest)
         → AllByRecursion (λ y. cmp w y ≡ Less) (keys_of (cons_option z rest))
-    front-above w x None rest less e p = p
-    front-above w x (Some q) rest less e p = (below-alike w x q.0 e less, p)
+    front-above w x z rest less e p = grind arith
 
     front-ascends : (x : K) (z : Option (K × X)) (rest : List (K × X)) → IsAtKey cmp x z
         → AllByRecursion (λ y. cmp x y ≡ Less) (keys_of rest) → AscendsByKey cmp rest → AscendsByKey cmp (cons_option z rest)
     unfolding IsStrictlySortedBy
-    front-ascends x None rest e p s = s
-    front-ascends x (Some q) rest e p s = (above-alike x q.0 (keys_of rest) e p, s)
+    front-ascends x z rest e p s = grind (arith, above-alike)
 
     front-here : (k x : K) (z : Option (K × X)) (rest : List (K × X)) → is_at (cmp k) x ≡ true → IsAtKey cmp x z
         → AllByRecursion (λ y. cmp x y ≡ Less) (keys_of rest) → entry_at cmp (cons_option z rest) k ≡ z
-    front-here k x None rest i e p = entry-above k x rest i p
-    front-here k x (Some q) rest i e p = entry-first k q rest (at-alike k x q.0 e ∙ i)
+    front-here k x z rest i e p = grind (arith, entry-above, entry-first, at-alike)
 
     front-elsewhere : (k x : K) (z : Option (K × X)) (rest : List (K × X)) → is_at (cmp k) x ≡ false
         → IsAtKey cmp x z → entry_at cmp (cons_option z rest) k ≡ entry_at cmp rest k
-    front-elsewhere k x None rest i e = refl
-    front-elsewhere k x (Some q) rest i e = entry-later k q rest (at-alike k x q.0 e ∙ i)
+    front-elsewhere k x z rest i e = grind arith
 
   module _ {V W : Type 0} where
     -- ---- the two sides of a script
@@ -97,7 +80,7 @@ module _ {K : Type 0} {cmp : K → K → Ordering} (total : IsTotalOrder cmp) wh
     rights-above x [] m p = tt
     rights-above x (left_alone q ∷ es) m p = rights-above x es m.1 p.1
     rights-above x (right_alone q ∷ es) m p = (p.0, rights-above x es m.1 p.1)
-    rights-above x (collision q r ∷ es) m p = (below-alike x q.0 r.0 m.0 p.0, rights-above x es m.1 p.1)
+    rights-above x (collision q r ∷ es) m p = grind (arith, rights-above x es m.1 p.1)
 
     module _ {X : Type 0} (kind : JoinKind) (spelled : K → K → K)
         (alike : (j k : K) → cmp j k ≡ Equal → cmp j (spelled j k) ≡ Equal)
@@ -108,18 +91,15 @@ module _ {K : Type 0} {cmp : K → K → Ordering} (total : IsTotalOrder cmp) wh
       -- the question of an event shows a key that is equal to its own
       shown-alike : (e : Event (K × V) (K × W)) → IsMatched (by_key cmp) e → (y : K)
           → cmp (shown_key (question_of spelled e)) y ≡ cmp (event_key e) y
-      shown-alike (collision p q) m y = sym (total.congr p.0 (spelled p.0 q.0) y (alike p.0 q.0 m))
+      shown-alike (collision p q) m y = grind arith
       shown-alike x m y = refl
 
       answer-key : (a : OuterJoinArg K V W) (b : Bool) (z : Option (K × X)) → asks kind a ≡ b
           → IsAnswered May Keeps (cond b (Some a) None) z → IsAtKey cmp (shown_key a) z
-      answer-key a b None q h = tt
-      answer-key a true (Some p) q h = kept a p.0 q h.1
-      answer-key a false (Some p) q h = let none : Some p ≡ None = h in cc
+      answer-key a b z q h = grind arith
 
       moved : (x y : K) (z : Option (K × X)) → ((w : K) → cmp x w ≡ cmp y w) → IsAtKey cmp x z → IsAtKey cmp y z
-      moved x y None f h = tt
-      moved x y (Some p) f h = sym (f p.0) ∙ h
+      moved x y z f h = grind arith
 
       -- what an event adds stands at its key
       added-key : (e : Event (K × V) (K × W)) (z : Option (K × X)) → IsMatched (by_key cmp) e
@@ -133,28 +113,18 @@ module _ {K : Type 0} {cmp : K → K → Ordering} (total : IsTotalOrder cmp) wh
           → AllByRecursion (λ d. cmp (event_key e) (event_key d) ≡ Less) es → AllByRecursion (IsMatched (by_key cmp)) (e ∷ es)
           → asked kind spelled (entry_at cmp (lefts (e ∷ es)) k) (entry_at cmp (rights (e ∷ es)) k)
           ≡ if_asked kind (question_of spelled e)
-      asked-here k (left_alone p) es i above m = ap (λ o. asked kind spelled o (entry_at cmp (rights es) k))
-          (entry-first k p (lefts es) i)
-          ∙ ap (λ o. asked kind spelled (Some p) o) (entry-above k p.0 (rights es) i (rights-above p.0 es m.1 above))
-      asked-here k (right_alone q) es i above m = ap (λ o. asked kind spelled o (entry_at cmp (q ∷ rights es) k))
-          (entry-above k q.0 (lefts es) i (lefts-above q.0 es above))
-          ∙ ap (λ o. asked kind spelled None o) (entry-first k q (rights es) i)
-      asked-here k (collision p q) es i above m = ap (λ o. asked kind spelled o (entry_at cmp (q ∷ rights es) k))
-          (entry-first k p (lefts es) i)
-          ∙ ap (λ o. asked kind spelled (Some p) o) (entry-first k q (rights es) (at-alike k p.0 q.0 m.0 ∙ i))
+      asked-here k (left_alone p) es i above m = grind (arith, entry-above k p.0 (rights es) i (rights-above p.0 es m.1 above))
+      asked-here k (right_alone q) es i above m = grind (arith, entry-above k q.0 (lefts es) i (lefts-above q.0 es above))
+      asked-here k (collision p q) es i above m = grind arith
 
       -- elsewhere the later events ask
       asked-elsewhere : (k : K) (e : Event (K × V) (K × W)) (es : List (Event (K × V) (K × W)))
           → is_at (cmp k) (event_key e) ≡ false → IsMatched (by_key cmp) e
           → asked kind spelled (entry_at cmp (lefts (e ∷ es)) k) (entry_at cmp (rights (e ∷ es)) k)
           ≡ asked kind spelled (entry_at cmp (lefts es) k) (entry_at cmp (rights es) k)
-      asked-elsewhere k (left_alone p) es i m =
-          ap (λ o. asked kind spelled o (entry_at cmp (rights es) k)) (entry-later k p (lefts es) i)
-      asked-elsewhere k (right_alone q) es i m =
-          ap (λ o. asked kind spelled (entry_at cmp (lefts es) k) o) (entry-later k q (rights es) i)
-      asked-elsewhere k (collision p q) es i m = ap (λ o. asked kind spelled o (entry_at cmp (q ∷ rights es) k))
-          (entry-later k p (lefts es) i)
-          ∙ ap (λ o. asked kind spelled (entry_at cmp (lefts es) k) o) (entry-later k q (rights es) (at-alike k p.0 q.0 m ∙ i))
+      asked-elsewhere k (left_alone p) es i m = grind arith
+      asked-elsewhere k (right_alone q) es i m = grind arith
+      asked-elsewhere k (collision p q) es i m = grind arith
 
       -- ---- what is asked at the events
 
@@ -167,19 +137,14 @@ module _ {K : Type 0} {cmp : K → K → Ordering} (total : IsTotalOrder cmp) wh
           → AllByRecursion (AsksAt es) later → AllByRecursion (AsksAt (d ∷ es)) later
       unfolding AsksAt
       asked-later d es m [] p h = tt
-      asked-later d es m (e ∷ later) p h =
-          let greater = total.antisymm (event_key e) (event_key d) ∙ ap ordering_reverse p.0 in
-          (asked-elsewhere (event_key e) d es (ap is_eq greater) m ∙ h.0, asked-later d es m later p.1 h.1)
+      asked-later d es m (e ∷ later) p h = grind (arith, asked-later d es m later p.1 h.1, asked-elsewhere)
 
       -- at the key of each event its question is asked
       all-asked : (es : List (Event (K × V) (K × W))) → Ascends (λ d e. by_key cmp (place d) (place e)) es
           → AllByRecursion (IsMatched (by_key cmp)) es → AllByRecursion (AsksAt es) es
       unfolding AsksAt IsStrictlySortedBy
       all-asked [] s m = tt
-      all-asked (e ∷ es) s m = (
-        asked-here (event_key e) e es (ap is_eq (tied_itself total (event_key e))) s.0 m,
-        asked-later e es m.0 es s.0 (all-asked es s.1 m.1),
-      )
+      all-asked (e ∷ es) s m = grind (arith, all-asked es s.1 m.1, asked-here, asked-later)
 
       -- what holds of each question that is asked of two maps holds of that of each event that the join asks at
       pub events-asked : (P : OuterJoinArg K V W → Type 0) (xs : List (K × V)) (ys : List (K × W))
@@ -187,20 +152,7 @@ module _ {K : Type 0} {cmp : K → K → Ordering} (total : IsTotalOrder cmp) wh
           → ((a : OuterJoinArg K V W) → IsAsked cmp kind spelled xs ys a → P a)
           → AllByRecursion (λ e. asks kind (question_of spelled e) ≡ true → P (question_of spelled e)) es
       unfolding AsksAt
-      events-asked P xs ys es s h =
-          let at : (e : Event (K × V) (K × W)) → asked kind spelled (entry_at cmp (lefts es) (event_key e))
-          (entry_at cmp (rights es) (event_key e)) ≡ if_asked kind (question_of spelled e)
-          → asks kind (question_of spelled e) ≡ true → P (question_of spelled e) =
-          λ e is q. h (question_of spelled e) (record {
-            key = event_key e;
-            asks = ap (λ l. asked kind spelled (entry_at cmp l (event_key e)) (entry_at cmp ys (event_key e))) (sym s.left)
-                ∙ ap (λ l. asked kind spelled (entry_at cmp (lefts es) (event_key e)) (entry_at cmp l (event_key e)))
-                (sym s.right)
-                ∙ is ∙ ap (λ b. cond b (Some (question_of spelled e)) None) q;
-          }) in
-          each-weaker (λ e. asked kind spelled (entry_at cmp (lefts es) (event_key e)) (entry_at cmp (rights es) (event_key e))
-          ≡ if_asked kind (question_of spelled e)) (λ e. asks kind (question_of spelled e) ≡ true → P (question_of spelled e))
-          at es (all-asked es s.ascends s.matched)
+      events-asked P xs ys es s h = grind (arith, each-weaker, all-asked es s.ascends s.matched)
 
       -- ---- all events
 
@@ -210,14 +162,13 @@ module _ {K : Type 0} {cmp : K → K → Ordering} (total : IsTotalOrder cmp) wh
       -- what the first event adds, in front of what the others add
       front-added : (z : Option (K × X)) (first rest zs : List (K × X)) → first ≡ option_to_list z → zs
           ≡ first ++ rest → zs ≡ cons_option z rest
-      front-added None first rest zs e f = f ∙ ap (λ l. l ++ rest) e
-      front-added (Some p) first rest zs e f = f ∙ ap (λ l. l ++ rest) e
+      front-added z first rest zs e f = grind arith
 
       added-above : (x : K) (es : List (Event (K × V) (K × W))) (zs : List (K × X))
           → AllByRecursion (λ e. cmp x (event_key e) ≡ Less) es → AllByRecursion (IsMatched (by_key cmp)) es → Added es zs
           → AllByRecursion (λ y. cmp x y ≡ Less) (keys_of zs)
       unfolding Added
-      added-above x [] zs p m h = subst (λ l. AllByRecursion (λ y. cmp x y ≡ Less) (keys_of l)) (sym h) tt
+      added-above x [] zs p m h = grind arith
       added-above x (e ∷ es) zs p m (first, rest, (z, answers, adds), others, is) =
           subst (λ l. AllByRecursion (λ y. cmp x y ≡ Less) (keys_of l)) (sym (front-added z first rest zs adds is))
           (front-above x (event_key e) z rest p.0 (added-key e z m.0 answers) (added-above x es rest p.1 m.1 others))
@@ -225,7 +176,7 @@ module _ {K : Type 0} {cmp : K → K → Ordering} (total : IsTotalOrder cmp) wh
       added-ascends : (es : List (Event (K × V) (K × W))) (zs : List (K × X)) → Ascends (λ d e. by_key cmp (place d) (place e)) es
           → AllByRecursion (IsMatched (by_key cmp)) es → Added es zs → AscendsByKey cmp zs
       unfolding Added IsStrictlySortedBy
-      added-ascends [] zs s m h = subst (λ l. AscendsByKey cmp l) (sym h) tt
+      added-ascends [] zs s m h = grind arith
       added-ascends (e ∷ es) zs s m (first, rest, (z, answers, adds), others, is) =
           subst (λ l. AscendsByKey cmp l) (sym (front-added z first rest zs adds is))
           (front-ascends (event_key e) z rest (added-key e z m.0 answers)
@@ -246,34 +197,19 @@ module _ {K : Type 0} {cmp : K → K → Ordering} (total : IsTotalOrder cmp) wh
           (subst (λ o. IsAnswered May Keeps (if_asked kind (question_of spelled e)) o)
           (sym (front-here k (event_key e) z rest i (added-key e z m.0 answers)
           (added-above (event_key e) es rest above m.1 others))) answers)
-      answered-by k e es z rest false i above m answers others h =
-          subst (λ a. IsAnswered May Keeps a (entry_at cmp (cons_option z rest) k)) (sym (asked-elsewhere k e es i m.0))
-          (subst (λ o. IsAnswered May Keeps (asked kind spelled (entry_at cmp (lefts es) k) (entry_at cmp (rights es) k)) o)
-          (sym (front-elsewhere k (event_key e) z rest i (added-key e z m.0 answers))) h)
+      answered-by k e es z rest false i above m answers others h = grind (arith, asked-elsewhere, front-elsewhere, added-key)
 
       answered : (k : K) (es : List (Event (K × V) (K × W))) (zs : List (K × X))
           → Ascends (λ d e. by_key cmp (place d) (place e)) es → AllByRecursion (IsMatched (by_key cmp)) es → Added es zs
           → AnsweredAt k es zs
       unfolding AnsweredAt Added IsStrictlySortedBy
-      answered k [] zs s m h = ap (λ l. entry_at cmp l k) h
+      answered k [] zs s m h = grind arith
       answered k (e ∷ es) zs s m (first, rest, (z, answers, adds), others, is) =
-          let here : AnsweredAt k (e ∷ es) (cons_option z rest) =
-          answered-by k e es z rest (is_at (cmp k) (event_key e)) refl s.0 m answers others
-          (answered k es rest s.1 m.1 others) in
-          subst (λ l. AnsweredAt k (e ∷ es) l) (sym (front-added z first rest zs adds is)) here
+          rw (front-added z first rest zs adds is) (answered-by k e es z rest (is_at (cmp k) (event_key e)) refl s.0 m answers
+          others (answered k es rest s.1 m.1 others))
 
       -- what is built by answers to the events of two maps is their join
       pub join-built : (xs : List (K × V)) (ys : List (K × W)) (zs : List (K × X))
           → IsBuilt (by_key cmp) (AnswersEvent kind spelled May Keeps) xs ys [] zs → IsJoin cmp kind spelled xs ys May Keeps zs
       unfolding AnsweredAt Added
-      join-built xs ys zs b =
-          let s = b.script in
-          let h = subst (λ l. Gathers (AnswersEvent kind spelled May Keeps) b.events l)
-          (sym b.appends.items) b.appends.gathered in
-          record {
-            ascends = added-ascends b.events zs s.ascends s.matched h;
-            at = λ k. subst (λ l. IsAnswered May Keeps (asked kind spelled (entry_at cmp l k) (entry_at cmp ys k))
-                (entry_at cmp zs k)) s.left
-                (subst (λ l. IsAnswered May Keeps (asked kind spelled (entry_at cmp (lefts b.events) k) (entry_at cmp l k))
-                (entry_at cmp zs k)) s.right (answered k b.events zs s.ascends s.matched h));
-          }
+      join-built xs ys zs b = grind (arith, added-ascends, answered)
