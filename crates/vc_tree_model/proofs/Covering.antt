@@ -3,15 +3,15 @@
 --     cover-is        the law of covers
 --     removal-retention        each pair is removed or retained, and never both
 use Rattle.std.proofs.Common.{◌≡◌, ◌≤◌, [], ◌∷◌, ◌++◌, List, Option, None, Some, length, refl, sym, ap, ◌∙◌, true}
-use Rattle.std.proofs.Common.{false, Bool, not, cond, true≢false, inl, inr, ◌⊎◌, subst, arith}
+use Rattle.std.proofs.Common.{false, Bool, cond, true≢false, inl, inr, ◌⊎◌, arith}
 use Rattle.std.specs.declared.cmp.Ordering.{Ordering}
 use Rattle.std.specs.Ordering.{is_eq}
 use Rattle.std.specs.Cmp.{IsTotalOrder, tied_itself}
 use Rattle.vc_tree_model.specs.Key.{same_key, Starts}
 use Rattle.vc_tree_model.specs.Map.{or_else, lookup}
-use Rattle.vc_tree_model.specs.Cover.{cover, IsLongestCover, IsVerdict, IsSifted, StaysOrGoes, IsRemoved, IsRetained}
+use Rattle.vc_tree_model.specs.Cover.{cover, IsLongestCover, IsRemoved, IsRetained}
 use Rattle.vc_tree_model.specs.PrefixLaws.{IsInOne, CoverIsLongest}
-use Rattle.vc_tree_model.proofs.KeyLemmas.{none-some, both-true, same-itself, same-flip, same-trans}
+use Rattle.vc_tree_model.proofs.KeyLemmas.{none-some, same-itself, same-flip, same-trans}
 use Rattle.vc_tree_model.proofs.LookupLemmas.{lookup-same}
 
 module _ {K : Type 0} (cmp : K → K → Ordering) (o : IsTotalOrder cmp) where
@@ -25,37 +25,29 @@ module _ {K : Type 0} (cmp : K → K → Ordering) (o : IsTotalOrder cmp) where
 
   -- a prefix that goes on begins as the key does
   starts-next : (x y : K) (k p : List K) → Starts cmp (x ∷ k) (y ∷ p) → (is_eq (cmp y x) ≡ true) × Starts cmp k p
-  starts-next x y k p s =
-      let both = both-true (is_eq (cmp y x)) (same_key cmp (p ++ s.0) k) s.1 in (both.0, (s.0, both.1))
+  starts-next x y k p s = grind arith
 
   -- and the other way round
   next-starts : (x : K) (k p : List K) → Starts cmp k p → Starts cmp (x ∷ k) (x ∷ p)
-  next-starts x k p s = (s.0, same-cons x (p ++ s.0) k s.1)
+  next-starts x k p s = grind arith
 
   -- of two equal keys the fronts of one length are equal
   same-fronts : (p r s t : List K) → length p ≡ length r → same_key cmp (p ++ s) (r ++ t) ≡ true
       → same_key cmp p r ≡ true
-  same-fronts [] [] s t e h = refl
-  same-fronts (x ∷ p) (y ∷ r) s t e h =
-      let both = both-true (is_eq (cmp x y)) (same_key cmp (p ++ s) (r ++ t)) h in
-      ap (λ b. cond b (same_key cmp p r) false) both.0 ∙ same-fronts p r s t (omega (arith, e)) both.1
-  same-fronts x y s t e h = absurd (omega (arith, e))
+  same-fronts (x ∷ p) (y ∷ r) s t e h = grind (arith, same-fronts p r s t)
+  same-fronts p r s t e h = grind arith
 
   -- two prefixes of one key and of one length are equal
   same-prefixes : (k p r : List K) → Starts cmp k p → Starts cmp k r → length p ≡ length r → same_key cmp p r ≡ true
-  same-prefixes k p r s t e =
-      same-fronts p r s.0 t.0 e
-      (same-trans cmp o (p ++ s.0) k (r ++ t.0) s.1 (same-flip cmp o k (r ++ t.0) ∙ t.1))
+  same-prefixes k p r s t e = grind (arith, same-fronts, same-trans, same-flip)
 
 -- neither of two is there where the first of them that is there is none
 else-none : {W : Type 0} (a b : Option W) → or_else a b ≡ None → (a ≡ None) × (b ≡ None)
-else-none None b e = (refl, e)
-else-none (Some w) b e = cc
+else-none a b e = grind arith
 
 -- the first of two that is there
 pub else-some : {W : Type 0} (a b : Option W) (w : W) → or_else a b ≡ Some w → (a ≡ Some w) ⊎ ((a ≡ None) × (b ≡ Some w))
-else-some None b w e = inr (refl, e)
-else-some (Some u) b w e = inl e
+else-some a b w e = grind arith
 
 module _ {K W : Type 0} (cmp : K → K → Ordering) (o : IsTotalOrder cmp) where
   -- a map has one value at equal keys
@@ -75,7 +67,7 @@ module _ {K W : Type 0} (cmp : K → K → Ordering) (o : IsTotalOrder cmp) wher
   uncovered : (q : List K → Option W) → Respects q → (k p : List K) → cover q k ≡ None → Starts cmp k p → q p ≡ None
   uncovered q r [] [] e s = e
   uncovered q r [] (y ∷ p) e s = absurd (true≢false (sym s.1))
-  uncovered q r (x ∷ k) [] e s = (else-none (cover (λ rest. q (x ∷ rest)) k) (q []) e).1
+  uncovered q r (x ∷ k) [] e s = grind arith
   uncovered q r (x ∷ k) (y ∷ p) e s =
       let next = starts-next cmp o x y k p s in
       let none = (else-none (cover (λ rest. q (x ∷ rest)) k) (q []) e).0 in
@@ -144,28 +136,8 @@ module _ {K W : Type 0} (cmp : K → K → Ordering) (o : IsTotalOrder cmp) wher
   )
 
 module _ {V W : Type 0} (keeps : V → V → Type 0) (answer : W → Bool) where
-  -- the verdicts that the test allows are one
-  one-verdict : (c : Option W) (a b : Bool) → IsVerdict (λ w b. b ≡ answer w) c a
-      → IsVerdict (λ w b. b ≡ answer w) c b → a ≡ b
-  one-verdict None a b p q = p ∙ sym q
-  one-verdict (Some w) a b p q = p ∙ sym q
-
-  -- by one verdict a value stays in one of two, and goes from the other
-  by-verdict : (b : Bool) (v : V) (y z : Option V) → StaysOrGoes keeps (not b) v y → StaysOrGoes keeps b v z
-      → IsInOne keeps (Some v) y z
-  by-verdict true v y z left kept = inr (left, kept)
-  by-verdict false v y z left kept = inl (left, kept)
-
-  -- at one key
-  in-one : (c : Option W) (v y z : Option V) → IsSifted keeps (λ w b. b ≡ answer w) not c v y
-      → IsSifted keeps (λ w b. b ≡ answer w) (λ b. b) c v z → IsInOne keeps v y z
-  in-one c None y z left kept = (left, kept)
-  in-one c (Some v) y z left kept =
-      let same = one-verdict c kept.0 left.0 kept.1 left.1 in
-      by-verdict left.0 v y z left.2 (subst (λ b. StaysOrGoes keeps b v z) same kept.2)
-
   -- each pair is removed or retained, and never both
   pub removal-retention : {K : Type 0} (q : List K → Option W) (f left kept : List K → Option V)
       → IsRemoved keeps (λ w b. b ≡ answer w) q f left → IsRetained keeps (λ w b. b ≡ answer w) q f kept
       → (k : List K) → IsInOne keeps (f k) (left k) (kept k)
-  removal-retention q f left kept r s k = in-one (cover q k) (f k) (left k) (kept k) (r k) (s k)
+  removal-retention q f left kept r s k = grind arith

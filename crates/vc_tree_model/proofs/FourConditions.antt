@@ -2,11 +2,9 @@
 --     meets-ordered        the two conditions on prefixes
 --     canonical-meets, meets-canonical        all four
 --     canonical-conditions        both ways
-use Rattle.std.proofs.Common.{◌≡◌, ◌≢◌, ℕ, suc, ◌<◌, [], ◌∷◌, List, length, get_or, Option, None, Some, refl, sym, ap}
-use Rattle.std.proofs.Common.{◌∙◌, subst, true, true≢false, inl, inr, ◌↔◌, suc-le-suc, not-suc-le-zero, arith}
+use Rattle.std.proofs.Common.{◌≡◌, ◌≢◌, ℕ, suc, ◌<◌, [], ◌∷◌, List, length, get_or, Option, refl}
+use Rattle.std.proofs.Common.{true, inl, inr, ◌↔◌, suc-le-suc, arith}
 use Rattle.std.specs.Prelude.{All, AllPairs, IsNone}
-use Rattle.std.proofs.lemmas.List.Elements.{All-cons, All-nil}
-use Rattle.std.proofs.lemmas.List.Kept.{AllPairs-cons}
 use Rattle.std.specs.declared.cmp.Ordering.{Ordering}
 use Rattle.vc_tree_model.specs.Key.{BeginsBelow}
 use Rattle.vc_tree_model.specs.Tree.{Tree, Forest, bare, grow, node, trees, lacks_both, is_bare}
@@ -20,64 +18,45 @@ module _ {K V : Type 0} where
 
   -- a solid node has a value or a child
   solid-not_bare : (v : Option V) (f : Forest K V) → IsSolid v f → lacks_both v f ≡ true → ⊥
-  solid-not_bare (Some v) f s h = true≢false (sym h)
-  solid-not_bare None bare s h = s
-  solid-not_bare None (grow p v kids rest) s h = true≢false (sym h)
+  solid-not_bare v f s h = grind arith
 
   -- a solid node without a value has no lone child
   solid-not_lone : (v : Option V) (f : Forest K V) → IsSolid v f → IsNone v → length (trees f) ≢ 1
-  solid-not_lone (Some v) f s n e = true≢false n
-  solid-not_lone None bare s n e = s
-  solid-not_lone None (grow p v kids bare) s n e = s
-  solid-not_lone None (grow p v kids (grow q w more rest)) s n e = omega (arith, e)
+  solid-not_lone v f s n e = grind arith
 
   -- a node is solid where it has a value or a child, and no lone child without a value
   solid-from : (v : Option V) (f : Forest K V) → (lacks_both v f ≡ true → ⊥) → (IsNone v → length (trees f) ≢ 1)
       → IsSolid v f
-  solid-from None bare b l = b refl
-  solid-from None (grow p v kids bare) b l = l refl refl
-  solid-from x f b l = tt
-
-  -- a node that lacks both has no children
-  bare-from : (v : Option V) (f : Forest K V) → lacks_both v f ≡ true → f ≡ bare
-  bare-from None bare h = refl
-  bare-from x f h = absurd (true≢false (sym h))
+  solid-from v f b l = grind arith
 
   -- ---- what holds of each tree of a list and of all below
 
   -- a fact on the parts of a node holds of the node that has them
   on-node : (P : List K → Option V → Forest K V → Type 0) (n : Tree K V) (p : List K) (v : Option V) (f : Forest K V)
       → n ≡ node p v f → P p v f → P n.prefix n.value n.children
-  on-node P n p v f e h = subst (λ m. P m.prefix m.value m.children) (sym e) h
+  on-node P n p v f e h = grind arith
 
   module _ (cmp : K → K → Ordering) where
     -- no prefix below is empty
     below-prefix : (f : Forest K V) → AreOrdered cmp f → (n : Tree K V) → IsBelow n f → n.prefix ≢ []
-    below-prefix bare a n b = absurd b
-    below-prefix (grow [] v kids rest) a n b = absurd a
-    below-prefix (grow (x ∷ p) v kids rest) a n (inl (inl e)) = λ h. cons-not_nil (sym (ap (λ m. m.prefix) e) ∙ h)
-      where
-        cons-not_nil : x ∷ p ≡ [] → ⊥
-        cons-not_nil h = cc
+    below-prefix (grow (x ∷ p) v kids rest) a n (inl (inl e)) = grind arith
     below-prefix (grow (x ∷ p) v kids rest) a n (inl (inr b)) = below-prefix kids a.0 n b
     below-prefix (grow (x ∷ p) v kids rest) a n (inr b) = below-prefix rest a.2 n b
+    below-prefix f a n b = grind arith
 
     -- the children of each node below are in order
     below-ordered : (f : Forest K V) → AreOrdered cmp f → (n : Tree K V) → IsBelow n f → AreOrdered cmp n.children
-    below-ordered bare a n b = absurd b
-    below-ordered (grow [] v kids rest) a n b = absurd a
-    below-ordered (grow (x ∷ p) v kids rest) a n (inl (inl e)) =
-        on-node (λ p v f. AreOrdered cmp f) n (x ∷ p) v kids e a.0
+    below-ordered (grow (x ∷ p) v kids rest) a n (inl (inl e)) = grind arith
     below-ordered (grow (x ∷ p) v kids rest) a n (inl (inr b)) = below-ordered kids a.0 n b
     below-ordered (grow (x ∷ p) v kids rest) a n (inr b) = below-ordered rest a.2 n b
+    below-ordered f a n b = grind arith
 
     -- each node below is solid
     below-solid : (f : Forest K V) → AreChildren cmp f → (n : Tree K V) → IsBelow n f → IsSolid n.value n.children
-    below-solid bare a n b = absurd b
-    below-solid (grow [] v kids rest) a n b = absurd a
-    below-solid (grow (x ∷ p) v kids rest) a n (inl (inl e)) = on-node (λ p v f. IsSolid v f) n (x ∷ p) v kids e a.0
+    below-solid (grow (x ∷ p) v kids rest) a n (inl (inl e)) = grind arith
     below-solid (grow (x ∷ p) v kids rest) a n (inl (inr b)) = below-solid kids a.1 n b
     below-solid (grow (x ∷ p) v kids rest) a n (inr b) = below-solid rest a.3 n b
+    below-solid f a n b = grind arith
 
     -- ---- siblings that ascend
 
@@ -88,18 +67,15 @@ module _ {K V : Type 0} where
     -- what begins with x begins below each tree above x
     above-all : (c : Tree K V) (x : K) (p : List K) (f : Forest K V) → c.prefix ≡ x ∷ p → AllAbove cmp x f
         → All (Ascends c) (trees f)
-    above-all c x p bare e a = All-nil (Ascends c)
-    above-all c x p (grow [] v kids rest) e a = absurd a
-    above-all c x p (grow (y ∷ q) v kids rest) e a =
-        All-cons (Ascends c) (node (y ∷ q) v kids) (trees rest) (rw e a.0) (above-all c x p rest e a.1)
+    above-all c x p (grow (y ∷ q) v kids rest) e a = grind (arith, above-all c x p rest)
+    above-all c x p f e a = grind arith
 
     -- trees in order ascend
     ordered-ascend : (f : Forest K V) → AreOrdered cmp f → AllPairs Ascends (trees f)
-    ordered-ascend bare a = λ i j d l m. absurd (not-suc-le-zero m)
+    ordered-ascend bare a = grind arith
     ordered-ascend (grow [] v kids rest) a = absurd a
     ordered-ascend (grow (x ∷ p) v kids rest) a =
-        AllPairs-cons Ascends (node (x ∷ p) v kids) (trees rest) (above-all (node (x ∷ p) v kids) x p rest refl a.1)
-        (ordered-ascend rest a.2)
+        grind (arith, above-all (node (x ∷ p) v kids) x p rest refl a.1, ordered-ascend rest a.2)
 
     -- trees that all begin above x, where no prefix is empty
     all-above : (x : K) (p : List K) (f : Forest K V) → ((n : Tree K V) → IsBelow n f → n.prefix ≢ [])
@@ -128,14 +104,13 @@ module _ {K V : Type 0} where
     -- trees in order whose nodes are all solid are canonical children
     children-from : (f : Forest K V) → AreOrdered cmp f → ((n : Tree K V) → IsBelow n f → IsSolid n.value n.children)
         → AreChildren cmp f
-    children-from bare a s = tt
-    children-from (grow [] v kids rest) a s = absurd a
     children-from (grow (x ∷ p) v kids rest) a s = (
       s (node (x ∷ p) v kids) (inl (inl refl)),
       children-from kids a.0 (λ n b. s n (inl (inr b))),
       a.1,
       children-from rest a.2 (λ n b. s n (inr b)),
     )
+    children-from f a s = grind arith
 
     -- ---- the two conditions on prefixes
 
@@ -145,43 +120,27 @@ module _ {K V : Type 0} where
 
     -- and siblings ascend
     ordered-ascending : (t : Tree K V) → AreOrdered cmp t.children → ChildrenAscend cmp t
-    ordered-ascending t a n (inl e) =
-        ordered-ascend n.children (on-node (λ p v f. AreOrdered cmp f) n t.prefix t.value t.children e a)
-    ordered-ascending t a n (inr b) = ordered-ascend n.children (below-ordered t.children a n b)
+    ordered-ascending t a n (inl e) = grind (arith, ordered-ascend, on-node)
+    ordered-ascending t a n (inr b) = grind (arith, ordered-ascend, below-ordered)
 
     -- where both are met, children are in order
     pub meets-ordered : (t : Tree K V) → IsOrdered cmp t → AreOrdered cmp t.children
-    meets-ordered t m = ordered-from t.children m.prefixes (m.ascending t (inl refl)) (λ n b. m.ascending n (inr b))
+    meets-ordered t m = grind (arith, ordered-from)
 
     -- ---- all four conditions
 
-    -- a whole tree that lacks both has an empty prefix
-    whole-prefix : (p : List K) (v : Option V) (f : Forest K V) → IsWhole p v f → lacks_both v f ≡ true → p ≡ []
-    whole-prefix [] v f w h = refl
-    whole-prefix (x ∷ p) v f w h = absurd (solid-not_bare v f w h)
-
     -- a whole tree without a value has no lone child
     whole-not_lone : (p : List K) (v : Option V) (f : Forest K V) → IsWhole p v f → IsNone v → length (trees f) ≢ 1
-    whole-not_lone [] (Some v) f w n e = true≢false n
-    whole-not_lone [] None bare w n e = absurd (omega (arith, e))
-    whole-not_lone [] None (grow q u more rest) w n e = solid-not_lone None (grow q u more rest) w n e
-    whole-not_lone (x ∷ p) v f w n e = solid-not_lone v f w n e
+    whole-not_lone p v f w n e = grind arith
 
     -- in a canonical tree a bare node is the whole
     canonical-bare : (t : Tree K V) → IsCanonical cmp t → BareIsWhole t
-    canonical-bare t c n (inl e) h = (
-      e,
-      on-node (λ p v f. lacks_both v f ≡ true → p ≡ []) n t.prefix t.value t.children e
-          (whole-prefix t.prefix t.value t.children c.0) h,
-    )
-    canonical-bare t c n (inr b) h = absurd (solid-not_bare n.value n.children (below-solid t.children c.1 n b) h)
+    canonical-bare t c n (inl e) h = grind arith
+    canonical-bare t c n (inr b) h = grind (arith, solid-not_bare, below-solid)
 
     -- and none without a value has a lone child
     canonical-no_lone : (t : Tree K V) → IsCanonical cmp t → NoLoneChild t
-    canonical-no_lone t c n (inl e) =
-        on-node (λ p v f. IsNone v → length (trees f) ≢ 1) n t.prefix t.value t.children e
-        (whole-not_lone t.prefix t.value t.children c.0)
-    canonical-no_lone t c n (inr b) = solid-not_lone n.value n.children (below-solid t.children c.1 n b)
+    canonical-no_lone t c n h = grind (arith, on-node, whole-not_lone, solid-not_lone, below-solid)
 
     -- a canonical tree meets the four conditions
     pub canonical-meets : (t : Tree K V) → IsCanonical cmp t → MeetsConditions cmp t
@@ -194,20 +153,12 @@ module _ {K V : Type 0} where
 
     -- no bare node lies below: it would be the whole, which has children
     bare-not_below : (t : Tree K V) → BareIsWhole t → (n : Tree K V) → IsBelow n t.children → is_bare n ≡ true → ⊥
-    bare-not_below t w n b h =
-        let none = ap (λ m. m.children) (sym (w n (inr b) h).0) ∙ bare-from n.value n.children h in
-        subst (λ f. IsBelow n f) none b
+    bare-not_below t w n b h = grind arith
 
     -- a whole tree, from two of the conditions
     whole-from : (p : List K) (v : Option V) (f : Forest K V) → (lacks_both v f ≡ true → p ≡ [])
         → (IsNone v → length (trees f) ≢ 1) → IsWhole p v f
-    whole-from [] (Some v) f b l = tt
-    whole-from [] None bare b l = tt
-    whole-from [] None (grow q u more rest) b l = solid-from None (grow q u more rest) (λ h. true≢false (sym h)) l
-    whole-from (x ∷ p) v f b l = solid-from v f (λ h. cons-not_nil (b h)) l
-      where
-        cons-not_nil : x ∷ p ≡ [] → ⊥
-        cons-not_nil h = cc
+    whole-from p v f b l = grind arith
 
     -- a tree that meets the four conditions is canonical
     pub meets-canonical : (t : Tree K V) → MeetsConditions cmp t → IsCanonical cmp t

@@ -1,6 +1,6 @@
 -- Two keys that differ may be bound in either order.
 --     inserts-commute        the law of insertions
-use Rattle.std.proofs.Common.{◌≡◌, List, Option, None, Some, Bool, true, false, true≢false, refl, sym, ap, ◌∙◌}
+use Rattle.std.proofs.Common.{◌≡◌, List, Option, Bool, true, false, true≢false, refl, sym, ◌∙◌, arith}
 use Rattle.std.specs.declared.cmp.Ordering.{Ordering}
 use Rattle.std.specs.Cmp.{IsTotalOrder}
 use Rattle.vc_tree_model.specs.Key.{same_key}
@@ -10,22 +10,15 @@ use Rattle.vc_tree_model.specs.PrefixLaws.{InsertsCommute}
 use Rattle.vc_tree_model.proofs.KeyLemmas.{same-flip, same-trans}
 
 module _ {V : Type 0} where
-  -- what is kept as it is, is equal
-  kept-is : (a b : Option V) → IsKept (λ x y. x ≡ y) a b → b ≡ a
-  kept-is None None h = refl
-  kept-is (Some v) (Some w) h = ap (λ x. Some x) (sym h)
-  kept-is x y h = absurd h
-
-  -- and what is equal is kept
+  -- what is equal is kept
   is-kept : (a b : Option V) → a ≡ b → IsKept (λ x y. x ≡ y) a b
-  is-kept None b e = rw (← e) tt
-  is-kept (Some v) b e = rw (← e) refl
+  is-kept a b e = grind arith
 
 module _ {K V : Type 0} (cmp : K → K → Ordering) (o : IsTotalOrder cmp) where
   -- a key that differs from the one that is bound last keeps what it had
   stays : (k l : List K) (w : V) (f g : List K → Option V) → IsUpdated cmp (λ x y. x ≡ y) k w f g
       → same_key cmp k l ≡ false → g l ≡ f l
-  stays k l w f g h e = kept-is (f l) (g l) (h.others l e)
+  stays k l w f g h e = grind arith
 
   pub inserts-commute : InsertsCommute K V cmp
   inserts-commute j k v w m left both right both' apart a b c d l =

@@ -5,13 +5,12 @@
 --     joined-same, joined-child, joined-begins        the node of some parts, as a child
 --     value-asked, children-asked        what holds at each key of two trees, holds at the nodes there
 --     trees-combined        all four ways in which one prefix lies on the other
-use Rattle.std.proofs.Common.{◌≡◌, [], ◌∷◌, ◌++◌, List, Option, None, Some, refl, sym, ap, subst, ◌∙◌, cond, true}
-use Rattle.std.proofs.Common.{false, Bool, append-nil}
-use Rattle.std.specs.Cmp.{IsTotalOrder, Equal-is}
-use Rattle.std.specs.Ordering.{is_eq}
+use Rattle.std.proofs.Common.{◌≡◌, [], ◌∷◌, ◌++◌, List, Option, None, Some, sym, ap, subst, ◌∙◌, true, arith}
+use Rattle.std.proofs.Common.{append-nil}
+use Rattle.std.specs.Cmp.{IsTotalOrder}
 use Rattle.std.specs.declared.cmp.Ordering.{Ordering}
 use Rattle.std.specs.declared.cmp.Ordering.TheVariants.{Equal}
-use Rattle.vc_tree_model.specs.Key.{behind, same_key}
+use Rattle.vc_tree_model.specs.Key.{same_key}
 use Rattle.vc_tree_model.specs.Tree.{Tree, Forest, bare, grow, node}
 use Rattle.vc_tree_model.specs.Map.{lookup, lookup_in}
 use Rattle.vc_tree_model.specs.Canonical.{AreChildren, IsSolid, IsWhole, IsCanonical}
@@ -28,37 +27,14 @@ module _ {K : Type 0} (cmp : K → K → Ordering) where
     abbrev pub within : Option V → Forest K V → Option (List K) → O
     within v f left = told l.none (l.at v) (λ q. l.under v (l.of_forest f q)) left
 
-    only-by : (b : Bool) (y : K) (p : List K) (v : Option V) (f : Forest K V) (x : K) (q : List K) → is_eq (cmp y x) ≡ b
-        → l.of_tree (node (y ∷ p) v f) (x ∷ q) ≡ l.of_forest (grow (y ∷ p) v f bare) (x ∷ q)
-    only-by true y p v f x q e = sym (l.takes p v f bare y x q ((Equal-is (cmp y x)).0 e) (l.in_bare x q))
-    only-by false y p v f x q e =
-        l.tree_is (node (y ∷ p) v f) (x ∷ q)
-        ∙ ap (λ b. within v f (cond b (behind cmp p q) None)) e
-        ∙ sym (l.in_bare x q)
-        ∙ sym (l.skips p v f bare y x q e)
-
-    -- a tree says of a key what a list of it alone does
-    only : (y : K) (p : List K) (v : Option V) (f : Forest K V) (x : K) (q : List K)
-        → l.of_tree (node (y ∷ p) v f) (x ∷ q) ≡ l.of_forest (grow (y ∷ p) v f bare) (x ∷ q)
-    only y p v f x q = only-by (is_eq (cmp y x)) y p v f x q refl
-
     lowered-by : (y : K) (p : List K) (v : Option V) (f : Forest K V) (left : Option (List K))
         → within v f (then_behind cmp (y ∷ p) left) ≡ within None (grow (y ∷ p) v f bare) left
-    lowered-by y p v f None = refl
-    lowered-by y p v f (Some []) = sym l.at_none
-    lowered-by y p v f (Some (x ∷ q)) =
-        sym (l.tree_is (node (y ∷ p) v f) (x ∷ q))
-        ∙ only y p v f x q
-        ∙ sym (l.under_none (l.of_forest (grow (y ∷ p) v f bare) (x ∷ q)))
+    lowered-by y p v f left = grind arith
 
     -- a node reads as a node without a value at the front of its prefix, with one child
     lowered : (h : List K) (y : K) (p : List K) (v : Option V) (f : Forest K V) (k : List K)
         → l.of_tree (node (h ++ y ∷ p) v f) k ≡ l.of_tree (node h None (grow (y ∷ p) v f bare)) k
-    lowered h y p v f k =
-        l.tree_is (node (h ++ y ∷ p) v f) k
-        ∙ ap (within v f) (behind-append cmp h (y ∷ p) k)
-        ∙ lowered-by y p v f (behind cmp h k)
-        ∙ sym (l.tree_is (node h None (grow (y ∷ p) v f bare)) k)
+    lowered h y p v f k = grind (arith, behind-append, lowered-by)
 
     -- a tree reads as the node that stands at a place in its prefix
     pub opened : (t : Tree K V) (h rest k : List K) → t.prefix ≡ h ++ rest
@@ -67,41 +43,28 @@ module _ {K : Type 0} (cmp : K → K → Ordering) where
     opened t h (y ∷ rest) k e =
         ap (λ p. l.of_tree (node p t.value t.children) k) e ∙ lowered h y rest t.value t.children k
 
-    nothing-by : (left : Option (List K)) → within None bare left ≡ l.none
-    nothing-by None = refl
-    nothing-by (Some []) = l.at_none
-    nothing-by (Some (x ∷ q)) = l.under_none (l.of_forest bare (x ∷ q)) ∙ l.in_bare x q
-
     -- a node without a value and without children says nothing
     nothing : (p k : List K) → l.of_tree (node p None bare) k ≡ l.none
-    nothing p k = l.tree_is (node p None bare) k ∙ nothing-by (behind cmp p k)
+    nothing p k = grind arith
 
     -- a node, made as a child, reads as it did
     pub joined-same : (p : List K) (v : Option V) (f : Forest K V) (k : List K) → AreChildren cmp f
         → look cmp l (solid_child p v f) k ≡ l.of_tree (node p v f) k
     joined-same p None bare k c = sym (nothing p k)
-    joined-same p None (grow [] w more bare) k c = absurd c
     joined-same p None (grow (y ∷ q) w more bare) k c = lowered p y q w more k
-    joined-same p x f k c = refl
+    joined-same p v f k c = grind arith
 
   -- ---- what a node is as a child
 
   module _ {V : Type 0} where
     -- a node, made as a child, may stand among children
     pub joined-child : (p : List K) (v : Option V) (f : Forest K V) → AreChildren cmp f → IsChild cmp (solid_child p v f)
-    joined-child p (Some v) f c = (tt, c)
-    joined-child p None bare c = tt
-    joined-child p None (grow [] w more bare) c = absurd c
-    joined-child p None (grow (y ∷ q) w more bare) c = (c.0, c.1)
-    joined-child p None (grow q w more (grow r u most rest)) c = (tt, c)
+    joined-child p v f c = grind arith
 
     -- and begins as its prefix did
     pub joined-begins : (x y : K) (p : List K) (v : Option V) (f : Forest K V) → cmp x y ≡ Equal
         → BeginsWith cmp x (solid_child (y ∷ p) v f)
-    joined-begins x y p (Some v) f e = e
-    joined-begins x y p None bare e = tt
-    joined-begins x y p None (grow q w more bare) e = e
-    joined-begins x y p None (grow q w more (grow r u most rest)) e = e
+    joined-begins x y p v f e = grind arith
 
     solid-in : (h rest : List K) (y : K) (v : Option V) (f : Forest K V) → IsWhole (h ++ y ∷ rest) v f → IsSolid v f
     solid-in [] rest y v f w = w
@@ -110,9 +73,7 @@ module _ {K : Type 0} (cmp : K → K → Ordering) where
     -- the children of a node that stands in the prefix of a canonical tree
     pub opened-children : (t : Tree K V) (h rest : List K) → t.prefix ≡ h ++ rest → IsCanonical cmp t
         → AreChildren cmp (children_at t rest)
-    opened-children t h [] e c = c.1
-    opened-children t h (y ∷ rest) e c =
-        (solid-in h rest y t.value t.children (subst (λ p. IsWhole p t.value t.children) e c.0), c.1, tt, tt)
+    opened-children t h rest e c = grind (arith, solid-in)
 
   -- ---- two trees whose prefixes begin alike
 
@@ -124,20 +85,12 @@ module _ {K : Type 0} (cmp : K → K → Ordering) where
         → R (lookup_in cmp f (x ∷ q)) (l.under w (l.of_forest g (x ∷ q))) (lookup_in cmp h (x ∷ q))) where
       nodes-by : (left : Option (List K))
           → R (within (values cmp) v f left) (within l w g left) (within (values cmp) u h left)
-      nodes-by None = none
-      nodes-by (Some []) = root
-      nodes-by (Some (x ∷ q)) = below x q
+      nodes-by left = grind arith
 
       -- nodes with equal prefixes: their values and their children are combined
       nodes-combined : (p p' k : List K) → same_key cmp p p' ≡ true
           → R (lookup cmp (node p v f) k) (l.of_tree (node p' w g) k) (lookup cmp (node p u h) k)
-      nodes-combined p p' k s =
-          rw (
-            (values cmp).tree_is (node p v f) k,
-            l.tree_is (node p' w g) k,
-            (values cmp).tree_is (node p u h) k,
-            ← behind-same cmp o p p' k s,
-          ) (nodes-by (behind cmp p k))
+      nodes-combined p p' k s = grind (arith, behind-same, nodes-by)
 
     -- two trees with equal fronts p and p' of their prefixes: the nodes at these places are combined, whatever is left of either
     -- prefix

@@ -4,13 +4,13 @@
 --     same-behind, behind-joins, left-behind        equal keys and what is left of one
 --     not-before, not-both_before, less-prepended        which of two keys comes first
 --     keys-ordered, left-is_rest        the laws on keys
-use Rattle.std.proofs.Common.{◌≡◌, ℕ, zero, suc, [], ◌∷◌, ◌++◌, take, drop, List, Option, None, Some, is_some, refl}
+use Rattle.std.proofs.Common.{◌≡◌, ℕ, suc, [], ◌∷◌, ◌++◌, take, drop, List, Option, None, Some, is_some, refl, arith}
 use Rattle.std.proofs.Common.{sym, ap, ◌∙◌, true, false, Bool, cond, true≢false}
 use Rattle.std.specs.List.{AllZip}
 use Rattle.std.specs.declared.cmp.Ordering.{Ordering}
 use Rattle.std.specs.declared.cmp.Ordering.TheVariants.{Less, Equal, Greater}
-use Rattle.std.specs.Ordering.{is_eq, is_lt, ordering_reverse, ordering_then}
-use Rattle.std.specs.Cmp.{IsTotalOrder, Equal-is, alike_right, tied_itself, eq_by_cmp_equiv}
+use Rattle.std.specs.Ordering.{is_eq, is_lt, ordering_reverse}
+use Rattle.std.specs.Cmp.{IsTotalOrder, Equal-is, tied_itself, eq_by_cmp_equiv}
 use Rattle.std.specs.Cmp.Lexicographic.{slice_cmp, lists_total}
 use Rattle.vc_tree_model.specs.Key.{same_key, behind, Starts, BeginsBelow, IsLess}
 use Rattle.vc_tree_model.specs.Value.{IsKept}
@@ -18,8 +18,7 @@ use Rattle.vc_tree_model.specs.Laws.{KeysAreOrdered, LeftBehindIsRest}
 
 -- two tests in a row hold where both do
 pub both-true : (a b : Bool) → cond a b false ≡ true → (a ≡ true) × (b ≡ true)
-both-true true b h = (refl, h)
-both-true false b h = absurd (true≢false (sym h))
+both-true a b h = grind arith
 
 -- a value is not absent
 pub none-some : {X : Type 0} {A : Type 0} (x : X) → None ≡ Some x → A
@@ -38,102 +37,54 @@ module _ {K : Type 0} (cmp : K → K → Ordering) where
   then_behind q None = None
   then_behind q (Some rest) = behind cmp q rest
 
-  -- a test before a look behind a further prefix
-  if-then_behind : (b : Bool) (q : List K) (o : Option (List K))
-      → cond b (then_behind q o) None ≡ then_behind q (cond b o None)
-  if-then_behind true q o = refl
-  if-then_behind false q o = refl
-
   -- a key is left behind two prefixes joined where it is left behind one and then the other
   pub behind-append : (p q k : List K) → behind cmp (p ++ q) k ≡ then_behind q (behind cmp p k)
-  behind-append (x ∷ p) q (y ∷ k) =
-      ap (λ o. cond (is_eq (cmp x y)) o None) (behind-append p q k)
-      ∙ if-then_behind (is_eq (cmp x y)) q (behind cmp p k)
-  behind-append x q k = refl
-
-  -- a test before a comparison of what is left
-  if-then_same : (b : Bool) (j : List K) (o : Option (List K))
-      → cond b (then_same j o) false ≡ then_same j (cond b o None)
-  if-then_same true j o = refl
-  if-then_same false j o = refl
+  behind-append (x ∷ p) q (y ∷ k) = grind (arith, behind-append p q k)
+  behind-append x q k = grind arith
 
   -- a key equals two parts joined where the second equals what is left behind the first
   pub same-append : (p j k : List K) → same_key cmp (p ++ j) k ≡ then_same j (behind cmp p k)
-  same-append (x ∷ p) j (y ∷ k) =
-      ap (λ o. cond (is_eq (cmp x y)) o false) (same-append p j k) ∙ if-then_same (is_eq (cmp x y)) j (behind cmp p k)
-  same-append x j k = refl
+  same-append (x ∷ p) j (y ∷ k) = grind (arith, same-append p j k)
+  same-append x j k = grind arith
 
   -- nothing is left of a key behind an equal one
   pub same-behind : (p k : List K) → same_key cmp p k ≡ true → behind cmp p k ≡ Some []
-  same-behind [] [] h = refl
-  same-behind (x ∷ p) (y ∷ k) h =
-      let both = both-true (is_eq (cmp x y)) (same_key cmp p k) h in
-      let rest = same-behind p k both.1 in
-      λ i. cond (both.0 i) (rest i) None
-  same-behind x y h = absurd (true≢false (sym h))
+  same-behind (x ∷ p) (y ∷ k) h = grind (arith, same-behind p k)
+  same-behind p k h = grind arith
 
   -- of a key that equals p joined with j, what is left behind p equals j
   pub left-behind : (p j k : List K) → same_key cmp (p ++ j) k ≡ true
       → (rest : List K) × (behind cmp p k ≡ Some rest) × (same_key cmp j rest ≡ true)
-  left-behind p j k h = by (behind cmp p k) refl (sym (same-append p j k) ∙ h)
-    where
-      by : (o : Option (List K)) → behind cmp p k ≡ o → then_same j (behind cmp p k) ≡ true
-          → (rest : List K) × (behind cmp p k ≡ Some rest) × (same_key cmp j rest ≡ true)
-      by None e g = absurd (true≢false (sym (ap (then_same j) (sym e) ∙ g)))
-      by (Some rest) e g = (rest, e, ap (then_same j) (sym e) ∙ g)
+  left-behind p j k h = grind (arith, same-append)
 
   -- ---- equal keys
 
-  -- a test of two comparisons is one of the first that decides
-  both-is_eq : (r s : Ordering) → cond (is_eq r) (is_eq s) false ≡ is_eq (ordering_then r s)
-  both-is_eq Less s = refl
-  both-is_eq Equal s = refl
-  both-is_eq Greater s = refl
-
   -- keys are equal where the order on keys doesn't tell them apart
   pub same-slice_cmp : (j k : List K) → same_key cmp j k ≡ is_eq (slice_cmp cmp j k)
-  same-slice_cmp [] [] = refl
-  same-slice_cmp [] (y ∷ k) = refl
-  same-slice_cmp (x ∷ j) [] = refl
-  same-slice_cmp (x ∷ j) (y ∷ k) =
-      ap (λ b. cond (is_eq (cmp x y)) b false) (same-slice_cmp j k) ∙ both-is_eq (cmp x y) (slice_cmp cmp j k)
+  same-slice_cmp (x ∷ j) (y ∷ k) = grind (arith, same-slice_cmp j k)
+  same-slice_cmp j k = grind arith
 
   -- no key comes before an equal one
   pub not-before : (j k : List K) → slice_cmp cmp j k ≡ Less → same_key cmp j k ≡ true → ⊥
-  not-before j k l e = true≢false (sym e ∙ same-slice_cmp j k ∙ ap is_eq l)
+  not-before j k l e = grind (arith, same-slice_cmp)
 
   -- equal keys are equal place by place
   same-places : (j k : List K) → same_key cmp j k ≡ true → AllZip (λ x y. cmp x y ≡ Equal) j k
-  same-places [] [] h = tt
-  same-places (x ∷ j) (y ∷ k) h =
-      let both = both-true (is_eq (cmp x y)) (same_key cmp j k) h in
-      ((Equal-is (cmp x y)).0 both.0, same-places j k both.1)
-  same-places x y h = absurd (true≢false (sym h))
+  same-places (x ∷ j) (y ∷ k) h = grind (arith, same-places j k)
+  same-places j k h = grind arith
 
   -- and the other way round
   places-same : (j k : List K) → AllZip (λ x y. cmp x y ≡ Equal) j k → same_key cmp j k ≡ true
-  places-same [] [] h = refl
-  places-same (x ∷ j) (y ∷ k) h = rw h.0 (places-same j k h.1)
-  places-same x y h = absurd h
+  places-same (x ∷ j) (y ∷ k) h = grind (arith, places-same j k)
+  places-same j k h = grind arith
 
   -- ---- the first place at which two keys differ
-
-  -- nothing begins below what has ended
-  below-end : (n : ℕ) (k : List K) → BeginsBelow cmp k (drop n []) → ⊥
-  below-end zero [] h = h
-  below-end zero (x ∷ k) h = h
-  below-end (suc n) [] h = h
-  below-end (suc n) (x ∷ k) h = h
 
   -- where keys are equal up to a place and the first begins below there, it comes first
   less-from : (n : ℕ) (k j : List K) → same_key cmp (take n k) (take n j) ≡ true
       → BeginsBelow cmp (drop n k) (drop n j) → slice_cmp cmp k j ≡ Less
-  less-from n k [] h g = absurd (below-end n (drop n k) g)
-  less-from n [] (y ∷ j) h g = refl
-  less-from zero (x ∷ k) (y ∷ j) h g = ap (λ r. ordering_then r (slice_cmp cmp k j)) g
-  less-from (suc n) (x ∷ k) (y ∷ j) h g =
-      let both = both-true (is_eq (cmp x y)) (same_key cmp (take n k) (take n j)) h in
-      ap (λ r. ordering_then r (slice_cmp cmp k j)) ((Equal-is (cmp x y)).0 both.0) ∙ less-from n k j both.1 g
+  less-from (suc n) (x ∷ k) (y ∷ j) h g = grind (arith, less-from n k j)
+  less-from n k j h g = grind arith
 
   -- a place further on
   less-next : (x y : K) (k j : List K) → cmp x y ≡ Equal → IsLess cmp k j → IsLess cmp (x ∷ k) (y ∷ j)
@@ -141,61 +92,31 @@ module _ {K : Type 0} (cmp : K → K → Ordering) where
 
   -- what comes first is less at the first place at which the two differ
   less-place : (k j : List K) → slice_cmp cmp k j ≡ Less → IsLess cmp k j
-  less-place [] [] h = absurd (true≢false (sym (ap is_lt h)))
-  less-place [] (y ∷ j) h = record { place = zero; before = refl; at = tt }
-  less-place (x ∷ k) [] h = absurd (true≢false (sym (ap is_lt h)))
-  less-place (x ∷ k) (y ∷ j) h = by (cmp x y) refl h (less-place k j)
-    where
-      by : (r : Ordering) → cmp x y ≡ r → ordering_then r (slice_cmp cmp k j) ≡ Less
-          → (slice_cmp cmp k j ≡ Less → IsLess cmp k j) → IsLess cmp (x ∷ k) (y ∷ j)
-      by Less e g f = record { place = zero; before = refl; at = e }
-      by Equal e g f = less-next x y k j e (f g)
-      by Greater e g f = absurd (true≢false (sym (ap is_lt g)))
+  less-place (x ∷ k) (y ∷ j) h = grind (arith, less-place k j, less-next)
+  less-place k j h = grind arith
 
   module _ (o : IsTotalOrder cmp) where
     -- ---- under a total order of components
 
     -- what is above is not below
-    pub greater : (x y : K) → cmp x y ≡ Less → cmp y x ≡ Greater
-    greater x y l = o.antisymm y x ∙ ap ordering_reverse l
-
-    -- and the other way round
     pub less : (x y : K) → cmp x y ≡ Greater → cmp y x ≡ Less
-    less x y g = o.antisymm y x ∙ ap ordering_reverse g
+    less x y g = grind arith
 
     -- the rest is left behind a prefix
     pub behind-itself : (p k : List K) → behind cmp p (p ++ k) ≡ Some k
     behind-itself [] k = refl
-    behind-itself (x ∷ p) k = rw (tied_itself o x) (behind-itself p k)
+    behind-itself (x ∷ p) k = grind (arith, behind-itself p k)
 
     -- the same is left behind equal prefixes
     pub behind-same : (p q k : List K) → same_key cmp p q ≡ true → behind cmp p k ≡ behind cmp q k
-    behind-same [] (y ∷ q) k h = absurd (true≢false (sym h))
-    behind-same (x ∷ p) [] k h = absurd (true≢false (sym h))
-    behind-same (x ∷ p) (y ∷ q) (z ∷ k) h =
-        let both = both-true (is_eq (cmp x y)) (same_key cmp p q) h in
-        let first = o.congr x y z ((Equal-is (cmp x y)).0 both.0) in
-        let rest = behind-same p q k both.1 in
-        λ i. cond (is_eq (first i)) (rest i) None
-    behind-same x y k h = refl
-
-    -- behind one test or its equal, what is left is equal
-    if-left : (a b : Bool) (u v : Option (List K)) → a ≡ b → IsKept (λ j k. same_key cmp j k ≡ true) u v
-        → IsKept (λ j k. same_key cmp j k ≡ true) (cond a u None) (cond b v None)
-    if-left true b u v e h = rw (← e) h
-    if-left false b u v e h = rw (← e) tt
+    behind-same (x ∷ p) (y ∷ q) (z ∷ k) h = grind (arith, behind-same p q k)
+    behind-same p q k h = grind arith
 
     -- equal keys are left behind a prefix of equal keys, or nothing of both
     pub behind-of_same : (p j k : List K) → same_key cmp j k ≡ true
         → IsKept (λ j k. same_key cmp j k ≡ true) (behind cmp p j) (behind cmp p k)
-    behind-of_same [] j k h = h
-    behind-of_same (x ∷ p) [] [] h = tt
-    behind-of_same (x ∷ p) (y ∷ j) (z ∷ k) h =
-        let both = both-true (is_eq (cmp y z)) (same_key cmp j k) h in
-        let first = ap is_eq (alike_right o y z x ((Equal-is (cmp y z)).0 both.0)) in
-        if-left (is_eq (cmp x y)) (is_eq (cmp x z)) (behind cmp p j) (behind cmp p k) first
-        (behind-of_same p j k both.1)
-    behind-of_same x y z h = absurd (true≢false (sym h))
+    behind-of_same (x ∷ p) (y ∷ j) (z ∷ k) h = grind (arith, behind-of_same p j k)
+    behind-of_same p j k h = grind arith
 
     -- a key equals itself
     pub same-itself : (k : List K) → same_key cmp k k ≡ true
@@ -213,7 +134,7 @@ module _ {K : Type 0} (cmp : K → K → Ordering) where
 
     -- equal keys stay equal behind one prefix
     pub same-prepended : (p j k : List K) → same_key cmp j k ≡ true → same_key cmp (p ++ j) (p ++ k) ≡ true
-    same-prepended p j k h = same-append p j (p ++ k) ∙ ap (then_same j) (behind-itself p k) ∙ h
+    same-prepended p j k h = grind (arith, same-append, behind-itself)
 
     -- no two keys come before each other
     pub not-both_before : (j k : List K) → slice_cmp cmp j k ≡ Less → slice_cmp cmp k j ≡ Less → ⊥
@@ -222,13 +143,12 @@ module _ {K : Type 0} (cmp : K → K → Ordering) where
 
     -- keys keep their order behind one prefix
     pub less-prepended : (p k j : List K) → slice_cmp cmp k j ≡ Less → slice_cmp cmp (p ++ k) (p ++ j) ≡ Less
-    less-prepended [] k j h = h
-    less-prepended (x ∷ p) k j h =
-        ap (λ r. ordering_then r (slice_cmp cmp (p ++ k) (p ++ j))) (tied_itself o x) ∙ less-prepended p k j h
+    less-prepended (x ∷ p) k j h = grind (arith, less-prepended p k j)
+    less-prepended [] k j h = grind arith
 
     -- a prefix joined with what is left behind it makes up the key
     pub behind-joins : (p k rest : List K) → behind cmp p k ≡ Some rest → same_key cmp (p ++ rest) k ≡ true
-    behind-joins p k rest e = same-append p rest k ∙ ap (then_same rest) e ∙ same-itself rest
+    behind-joins p k rest e = grind (arith, same-append, same-itself)
 
     -- a key starts with a prefix where something is left behind it
     behind-starts : (k p : List K) (o : Option (List K)) → behind cmp p k ≡ o → is_some o ≡ true → Starts cmp k p
@@ -238,7 +158,7 @@ module _ {K : Type 0} (cmp : K → K → Ordering) where
     -- what else makes up the key with the prefix equals what is left
     rest-one : (k p q rest : List K) → behind cmp p k ≡ Some rest → same_key cmp (p ++ q) k ≡ true
         → same_key cmp q rest ≡ true
-    rest-one k p q rest e h = ap (then_same q) (sym e) ∙ sym (same-append p q k) ∙ h
+    rest-one k p q rest e h = grind (arith, same-append)
 
     -- what is left behind a prefix is the one rest
     pub left-is_rest : LeftBehindIsRest cmp
@@ -250,7 +170,7 @@ module _ {K : Type 0} (cmp : K → K → Ordering) where
 
     -- equal keys are not told apart
     tied-where_same : (j k : List K) → same_key cmp j k ≡ true → slice_cmp cmp j k ≡ Equal
-    tied-where_same j k e = (Equal-is (slice_cmp cmp j k)).0 (sym (same-slice_cmp j k) ∙ e)
+    tied-where_same j k e = grind (arith, same-slice_cmp)
 
     -- the order on keys is total, and is told by the first difference
     pub keys-ordered : KeysAreOrdered cmp

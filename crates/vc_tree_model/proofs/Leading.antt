@@ -2,34 +2,28 @@
 --     above-one, children-one        all trees are above what the place of the first is above, and they are canonical children
 --     first-combined        what is combined of the first trees and of the others, is combined of all
 --     first-asked        what holds at each key of all, holds of the first trees and of the others
-use Rattle.std.proofs.Common.{◌≡◌, [], ◌∷◌, List, Option, None, Some, refl, sym, ap, ◌∙◌, true, false, Bool, cond}
-use Rattle.std.specs.Cmp.{IsTotalOrder, Equal-is, alike_right}
+use Rattle.std.proofs.Common.{◌≡◌, [], ◌∷◌, List, Option, None, refl, true, false, Bool, cond, arith}
+use Rattle.std.specs.Cmp.{IsTotalOrder, Equal-is}
 use Rattle.std.specs.List.{cons_option}
-use Rattle.std.specs.Ordering.{is_eq, ordering_reverse}
+use Rattle.std.specs.Ordering.{is_eq}
 use Rattle.std.specs.Prelude.{⊤}
 use Rattle.std.specs.declared.cmp.Ordering.{Ordering}
 use Rattle.std.specs.declared.cmp.Ordering.TheVariants.{Less, Equal}
-use Rattle.vc_tree_model.specs.Key.{behind}
-use Rattle.vc_tree_model.specs.Tree.{Tree, Forest, bare, grow, forest, node}
+use Rattle.vc_tree_model.specs.Tree.{Tree, Forest, grow, forest, node}
 use Rattle.vc_tree_model.specs.Map.{lookup_in}
 use Rattle.vc_tree_model.specs.Canonical.{AllAbove, AreChildren, IsSolid}
 use Rattle.vc_tree_model.specs.Child.{Begins, BeginsWith, IsChild, bound_by}
 use Rattle.vc_tree_model.proofs.LookupLemmas.{above-equal, above-less}
-use Rattle.vc_tree_model.specs.Look.{Look, told, values}
+use Rattle.vc_tree_model.specs.Look.{Look, values}
 use Rattle.vc_tree_model.specs.Places.{look, IsCombinedIn, IsBefore}
 
 -- what holds of both cases, holds of the one that a test chooses
 either : {X Y Z : Type 0} (R : X → Y → Z → Type 0) (b : Bool) {x x' : X} {y y' : Y} {z z' : Z} → R x y z → R x' y' z'
     → R (cond b x x') (cond b y y') (cond b z z')
-either R true h k = h
-either R false h k = k
+either R b h k = grind arith
 
 module _ {K : Type 0} (cmp : K → K → Ordering) (o : IsTotalOrder cmp) where
   -- ---- how a tree before others is read
-
-  -- what is above y does not equal x, which equals y
-  above-not : (y z x : K) → cmp y z ≡ Less → cmp y x ≡ Equal → is_eq (cmp z x) ≡ false
-  above-not y z x l e = ap is_eq (o.antisymm z x ∙ ap ordering_reverse (sym (o.congr y x z e) ∙ l))
 
   -- the key does not begin as y
   abbrev IsOther : K → List K → Type 0
@@ -40,66 +34,45 @@ module _ {K : Type 0} (cmp : K → K → Ordering) (o : IsTotalOrder cmp) where
     -- trees above y say nothing of a key that begins as y
     none-above : (y x : K) (q : List K) → cmp y x ≡ Equal → (f : Forest K V) → AllAbove cmp y f
         → l.of_forest f (x ∷ q) ≡ l.none
-    none-above y x q e bare a = l.in_bare x q
-    none-above y x q e (grow [] v kids rest) a = absurd a
-    none-above y x q e (grow (z ∷ p) v kids rest) a =
-        l.skips p v kids rest z x q (above-not y z x a.0 e) ∙ none-above y x q e rest a.1
+    none-above y x q e (grow (z ∷ p) v kids rest) a = grind (arith, none-above y x q e rest a.1)
+    none-above y x q e f a = grind arith
 
     -- what a list says, by whether the key begins as its first tree does
     read-tree : (p : List K) (v : Option V) (kids rest : Forest K V) (y x : K) (q : List K) → Begins cmp y p
         → AllAbove cmp y rest → (b : Bool) → is_eq (cmp y x) ≡ b
         → l.of_forest (grow p v kids rest) (x ∷ q) ≡ cond b (l.of_tree (node p v kids) (x ∷ q)) (l.of_forest rest (x ∷ q))
     read-tree [] v kids rest y x q h a b e = absurd h
-    read-tree (z ∷ p) v kids rest y x q h a true e =
-        let t = (Equal-is (cmp y x)).0 e in
-        l.takes p v kids rest z x q (sym (o.congr y z x h) ∙ t) (none-above y x q t rest a)
-    read-tree (z ∷ p) v kids rest y x q h a false e = l.skips p v kids rest z x q (ap is_eq (sym (o.congr y z x h)) ∙ e)
+    read-tree (z ∷ p) v kids rest y x q h a true e = grind (arith, none-above)
+    read-tree (z ∷ p) v kids rest y x q h a false e = grind arith
 
     -- at keys that begin as it does the first tree is asked, and else the others are
     read-first : (t : Option (Tree K V)) (ts : List (Tree K V)) (y x : K) (q : List K) → BeginsWith cmp y t
         → AllAbove cmp y (forest ts) → (b : Bool) → is_eq (cmp y x) ≡ b
         → l.of_forest (forest (cons_option t ts)) (x ∷ q) ≡ cond b (look cmp l t (x ∷ q)) (l.of_forest (forest ts) (x ∷ q))
-    read-first None ts y x q h a true e = none-above y x q ((Equal-is (cmp y x)).0 e) (forest ts) a
-    read-first None ts y x q h a false e = refl
-    read-first (Some t) ts y x q h a b e = read-tree t.prefix t.value t.children (forest ts) y x q h a b e
-
-    silent-tree : (p : List K) (v : Option V) (f : Forest K V) (y : K) (k : List K) → Begins cmp y p → IsOther y k
-        → l.of_tree (node p v f) k ≡ l.none
-    silent-tree [] v f y k h e = absurd h
-    silent-tree (z ∷ p) v f y [] h e = l.tree_is (node (z ∷ p) v f) []
-    silent-tree (z ∷ p) v f y (x ∷ q) h e =
-        l.tree_is (node (z ∷ p) v f) (x ∷ q)
-        ∙ ap (λ b. told l.none (l.at v) (λ q. l.under v (l.of_forest f q)) (cond b (behind cmp p q) None))
-        (ap is_eq (sym (o.congr y z x h)) ∙ e)
+    read-first t ts y x q h a b e = grind (arith, none-above, read-tree)
 
     -- it says nothing of other keys
     silent-first : (t : Option (Tree K V)) (y : K) (k : List K) → BeginsWith cmp y t → IsOther y k → look cmp l t k ≡ l.none
-    silent-first None y k h e = refl
-    silent-first (Some t) y k h e = silent-tree t.prefix t.value t.children y k h e
+    silent-first t y k h e = grind arith
 
   -- ---- what all are above, and what may stand as children
 
   module _ {V : Type 0} where
     above-tree : (p : List K) (v : Option V) (kids rest : Forest K V) (x y : K) → Begins cmp y p → cmp x y ≡ Less
         → AllAbove cmp y rest → AllAbove cmp x (grow p v kids rest)
-    above-tree [] v kids rest x y b h a = absurd b
-    above-tree (z ∷ p) v kids rest x y b h a = (sym (alike_right o y z x b) ∙ h, above-less cmp o x y rest h a)
+    above-tree p v kids rest x y b h a = grind (arith, above-less)
 
     pub above-one : (t : Option (Tree K V)) (ts : List (Tree K V)) {x y : K} → IsBefore cmp y t ts → cmp x y ≡ Less
         → AllAbove cmp x (forest (cons_option t ts))
-    above-one None ts {x} {y} b h = above-less cmp o x y (forest ts) h b.above
-    above-one (Some t) ts {x} {y} b h = above-tree t.prefix t.value t.children (forest ts) x y b.begins h b.above
+    above-one t ts {x} {y} b h = grind (arith, above-less, above-tree)
 
     children-tree : (p : List K) (v : Option V) (kids rest : Forest K V) (y : K) → Begins cmp y p → IsSolid v kids
         → AreChildren cmp kids → AllAbove cmp y rest → AreChildren cmp rest → AreChildren cmp (grow p v kids rest)
-    children-tree [] v kids rest y b s c a r = absurd b
-    children-tree (z ∷ p) v kids rest y b s c a r = (s, c, above-equal cmp o y z rest b a, r)
+    children-tree p v kids rest y b s c a r = grind (arith, above-equal)
 
     pub children-one : (t : Option (Tree K V)) (ts : List (Tree K V)) {y : K} → IsBefore cmp y t ts → IsChild cmp t
         → AreChildren cmp (forest (cons_option t ts))
-    children-one None ts b c = b.children
-    children-one (Some t) ts {y} b c =
-        children-tree t.prefix t.value t.children (forest ts) y b.begins c.0 c.1 b.above b.children
+    children-one t ts b c = grind (arith, children-tree)
 
   -- ---- two lists, of which the first trees begin as y
 

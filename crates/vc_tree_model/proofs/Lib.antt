@@ -3,7 +3,6 @@ pub mod ValueLemmas
 pub mod LookupLemmas
 pub mod Uniqueness
 pub mod Binding
-pub mod Collecting
 pub mod Mending
 pub mod AlikeLemmas
 pub mod FourConditions

@@ -1,7 +1,7 @@
 -- A map has one walk: two lists of all its pairs, keys strictly ascending, are equal pair by pair.
 --     one-walk        equal keys and the same values, place by place
 --     walk-length        so every walk of a tree's map is as long as the tree has values
-use Rattle.std.proofs.Common.{◌≡◌, [], ◌∷◌, List, Option, length, refl, sym, ◌∙◌, true, inl, inr}
+use Rattle.std.proofs.Common.{◌≡◌, [], ◌∷◌, List, Option, length, refl, sym, ◌∙◌, true, inl, inr, arith}
 use Rattle.std.specs.declared.cmp.Ordering.{Ordering}
 use Rattle.std.specs.declared.cmp.Ordering.TheVariants.{Less}
 use Rattle.std.specs.Cmp.{IsTotalOrder, Equal-is, alike_right}
@@ -33,7 +33,7 @@ module _ {K V : Type 0} (cmp : K → K → Ordering) (o : IsTotalOrder cmp) wher
   same-firsts : (b c : List K × V) (l m : List (List K × V)) → Ascend cmp (b ∷ l) → Ascend cmp (c ∷ m)
       → Lists cmp (c ∷ m) b.0 b.1 → Lists cmp (b ∷ l) c.0 c.1 → IsSamePair cmp b c
   unfolding IsStrictlySortedBy
-  same-firsts b c l m p q (inl h) g = (same-flip cmp o b.0 c.0 ∙ h.0, sym h.1)
+  same-firsts b c l m p q (inl h) g = grind (arith, same-flip)
   same-firsts b c l m p q (inr h) (inl g) = g
   same-firsts b c l m p q (inr h) (inr g) =
       absurd (not-both_before cmp o c.0 b.0 (before-listed c.0 m q.0 b.0 b.1 h) (before-listed b.0 l p.0 c.0 c.1 g))
@@ -73,9 +73,7 @@ module _ {K V : Type 0} (cmp : K → K → Ordering) (o : IsTotalOrder cmp) wher
   -- a map has one walk
   pub one-walk : (f : List K → Option V) (l m : List (List K × V)) → IsWalk cmp f l → IsWalk cmp f m
       → AllZip (IsSamePair cmp) l m
-  one-walk f l m p q =
-      same-pairs l m p.ascends q.ascends (λ k a h. (q.lists k a).1 ((p.lists k a).0 h))
-      (λ k a h. (p.lists k a).1 ((q.lists k a).0 h))
+  one-walk f l m p q = grind (arith, same-pairs)
 
   -- every walk of a tree's map is as long as the tree has values
   pub walk-length : (t : Tree K V) → AreOrdered cmp t.children → (l : List (List K × V)) → IsWalk cmp (lookup cmp t) l

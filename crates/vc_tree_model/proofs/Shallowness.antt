@@ -3,9 +3,9 @@
 --     levels-keys        no more than keys, where there is one
 --     deepest-in        some key has a component for each level below the root
 --     canonical-shallow        all three
-use Rattle.std.proofs.Common.{ℕ, ◌+◌, ◌≤◌, ◌-◌, [], ◌∷◌, ◌++◌, List, Option, None, Some, length, max, refl, sym}
+use Rattle.std.proofs.Common.{ℕ, ◌+◌, ◌≤◌, [], ◌∷◌, ◌++◌, List, Option, None, Some, length, refl, sym}
 use Rattle.std.proofs.Common.{subst, IsSome, inl, inr, length-append, arith}
-use Rattle.std.proofs.Math.Nat.{le-max_left, max-le}
+use Rattle.std.proofs.Math.Nat.{max-le}
 use Rattle.std.proofs.lemmas.Bool.{cases_lt}
 use Rattle.std.specs.declared.cmp.Ordering.{Ordering}
 use Rattle.std.specs.Cmp.{IsTotalOrder}
@@ -24,17 +24,13 @@ module _ {K V : Type 0} where
 
   -- a list of trees has no more levels than nodes
   pub levels-nodes : (f : Forest K V) → forest_depth f ≤ forest_nodes f
-  levels-nodes bare = omega arith
-  levels-nodes (grow p v kids rest) =
-      let below = levels-nodes kids in
-      let beside = levels-nodes rest in
-      max-le (omega (arith, below)) (omega (arith, beside))
+  levels-nodes (grow p v kids rest) = grind (arith, levels-nodes kids, levels-nodes rest)
+  levels-nodes bare = grind arith
 
   -- a list that has a tree has a level
   some-level : (f : Forest K V) → 1 ≤ width f → 1 ≤ forest_depth f
   some-level bare h = absurd (omega (arith, h))
-  some-level (grow p v kids rest) h =
-      let first = le-max_left (forest_depth kids + 1) (forest_depth rest) in omega (arith, first)
+  some-level (grow p v kids rest) h = grind arith
 
   -- a list of trees that has no more levels than keys, though each tree but one has keys of its own
   pub record HasKeys (f : Forest K V) : Type 0 where
@@ -45,42 +41,32 @@ module _ {K V : Type 0} where
   solid-levels : (v : Option V) (f : Forest K V) → IsSolid v f → HasKeys f
       → forest_depth f + 1 ≤ own_count v + forest_key_count f
   solid-levels (Some v) bare s h = omega arith
-  solid-levels (Some v) (grow p w kids rest) s h = let levels = h.levels in omega (arith, levels)
-  solid-levels None bare s h = absurd s
-  solid-levels None (grow p v kids bare) s h = absurd s
-  solid-levels None (grow p v kids (grow q w more rest)) s h = let levels = h.levels in omega (arith, levels)
+  solid-levels (Some v) (grow p w kids rest) s h = grind arith
+  solid-levels None (grow p v kids (grow q w more rest)) s h = grind arith
+  solid-levels v f s h = grind arith
 
   -- one tree more
   more-keys : (p : List K) (v : Option V) (f rest : Forest K V)
       → forest_depth f + 1 ≤ own_count v + forest_key_count f → HasKeys rest → HasKeys (grow p v f rest)
-  more-keys p v f rest here h =
-      let levels = h.levels in
-      let trees = h.trees in
-      let most : max (forest_depth f + 1) (forest_depth rest)
-      ≤ own_count v + forest_key_count f + forest_key_count rest - width rest =
-      max-le (omega (arith, here, trees)) (omega (arith, here, levels, trees)) in
-      record { levels = omega (arith, most, trees, here); trees = omega (arith, here, trees) }
+  more-keys p v f rest here h = grind arith
 
   module _ (cmp : K → K → Ordering) where
     -- canonical children have no more levels than keys
     levels-keys_in : (f : Forest K V) → AreChildren cmp f → HasKeys f
-    levels-keys_in bare a = record { levels = omega arith; trees = omega arith }
-    levels-keys_in (grow [] v kids rest) a = absurd a
-    levels-keys_in (grow (x ∷ p) v kids rest) a =
-        let here = solid-levels v kids a.0 (levels-keys_in kids a.1) in
-        more-keys (x ∷ p) v kids rest here (levels-keys_in rest a.3)
+    levels-keys_in (grow (x ∷ p) v kids rest) a = grind (arith, levels-keys_in kids, levels-keys_in rest, solid-levels, more-keys)
+    levels-keys_in f a = grind arith
 
     -- nor has a whole tree with a key
     whole-levels : (p : List K) (v : Option V) (f : Forest K V) → IsWhole p v f → HasKeys f
         → 1 ≤ own_count v + forest_key_count f → forest_depth f + 1 ≤ own_count v + forest_key_count f
     whole-levels [] None bare w h k = absurd (omega (arith, k))
-    whole-levels [] None (grow q u more rest) w h k = solid-levels None (grow q u more rest) w h
+    whole-levels [] None (grow q u more rest) w h k = grind arith
     whole-levels [] (Some v) f w h k = solid-levels (Some v) f tt h
     whole-levels (x ∷ p) v f w h k = solid-levels v f w h
 
     -- a canonical tree with a key has no more levels than keys
     pub levels-keys : (t : Tree K V) → IsCanonical cmp t → 1 ≤ key_count t → depth t ≤ key_count t
-    levels-keys t c k = whole-levels t.prefix t.value t.children c.0 (levels-keys_in t.children c.1) k
+    levels-keys t c k = grind (arith, whole-levels, levels-keys_in)
 
     -- ---- a key with a component for each level
 
@@ -113,8 +99,6 @@ module _ {K V : Type 0} where
       -- canonical children bind a key with a component for each level
       pub deepest-in : (f : Forest K V) → AreChildren cmp f → 1 ≤ forest_depth f
           → IsLong (BindsIn cmp f) (forest_depth f)
-      deepest-in bare a h = absurd (omega (arith, h))
-      deepest-in (grow [] v kids rest) a h = absurd a
       deepest-in (grow (x ∷ p) v kids rest) a h =
           elim (cases_lt (forest_depth kids) (forest_depth rest)) [
             | inl less ↦
@@ -140,6 +124,7 @@ module _ {K V : Type 0} where
                   long = omega (arith, most, long);
                 }
           ]
+      deepest-in f a h = grind arith
 
       -- where no key has more than n components, a canonical tree has at most n + 1 levels
       levels-length : (t : Tree K V) → IsCanonical cmp t → (n : ℕ)
@@ -160,6 +145,4 @@ module _ {K V : Type 0} where
 
       -- a canonical tree has few levels
       pub canonical-shallow : (t : Tree K V) → IsCanonical cmp t → IsShallow cmp t
-      canonical-shallow t c =
-          let below = levels-nodes t.children in
-          record { by_length = levels-length t c; by_nodes = omega (arith, below); by_keys = levels-keys t c }
+      canonical-shallow t c = grind (arith, levels-nodes t.children, levels-length t c, levels-keys t c)

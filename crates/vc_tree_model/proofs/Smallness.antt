@@ -2,7 +2,7 @@
 --     canonical-le        at most two nodes a key but one
 --     same-nodes_in        trees that are the same have equally many nodes
 --     canonical-fewest, canonical-smallest        no tree of an equal map whose prefixes are in order has fewer
-use Rattle.std.proofs.Common.{◌≡◌, ℕ, ◌+◌, ◌*◌, ◌≤◌, ◌-◌, [], ◌∷◌, List, Option, None, Some, refl, arith}
+use Rattle.std.proofs.Common.{◌≡◌, ℕ, ◌+◌, ◌*◌, ◌≤◌, ◌-◌, ◌∷◌, List, Option, arith}
 use Rattle.std.specs.declared.cmp.Ordering.{Ordering}
 use Rattle.std.specs.Cmp.{IsTotalOrder}
 use Rattle.vc_tree_model.specs.Tree.{Tree, Forest, bare, grow, nodes, forest_nodes, own_count, key_count, forest_key_count}
@@ -24,44 +24,29 @@ module _ {K V : Type 0} where
   -- a solid node leaves one node to spare below it, a value for itself or a second child
   node-le : (v : Option V) (f : Forest K V) → IsSolid v f → forest_nodes f + width f ≤ 2 * forest_key_count f
       → forest_nodes f + 2 ≤ 2 * (own_count v + forest_key_count f)
-  node-le (Some v) f s h = omega (arith, h)
-  node-le None bare s h = absurd s
-  node-le None (grow p v kids bare) s h = absurd s
-  node-le None (grow p v kids (grow q w more rest)) s h = omega (arith, h)
+  node-le v f s h = grind arith
 
   module _ (cmp : K → K → Ordering) where
     -- canonical children have at most two nodes a key, but one for each of them
     nodes-le_in : (f : Forest K V) → AreChildren cmp f → forest_nodes f + width f ≤ 2 * forest_key_count f
-    nodes-le_in bare a = omega arith
-    nodes-le_in (grow [] v kids rest) a = absurd a
-    nodes-le_in (grow (x ∷ p) v kids rest) a =
-        let here = node-le v kids a.0 (nodes-le_in kids a.1) in
-        let beside = nodes-le_in rest a.3 in
-        omega (arith, here, beside)
+    nodes-le_in (grow (x ∷ p) v kids rest) a = grind (arith, nodes-le_in kids, nodes-le_in rest)
+    nodes-le_in f a = grind arith
 
     -- a whole tree with a key is solid
     whole-le : (p : List K) (v : Option V) (f : Forest K V) → IsWhole p v f → AreChildren cmp f
         → 1 ≤ own_count v + forest_key_count f → forest_nodes f + 2 ≤ 2 * (own_count v + forest_key_count f)
-    whole-le [] None bare w a k = absurd (omega (arith, k))
-    whole-le [] None (grow q u more rest) w a k =
-        node-le None (grow q u more rest) w (nodes-le_in (grow q u more rest) a)
-    whole-le [] (Some v) f w a k = node-le (Some v) f tt (nodes-le_in f a)
-    whole-le (x ∷ p) v f w a k = node-le v f w (nodes-le_in f a)
+    whole-le p v f w a k = grind (arith, node-le, nodes-le_in)
 
     -- a canonical tree of k keys has at most 2k - 1 nodes
     pub canonical-le : (t : Tree K V) → IsCanonical cmp t → 1 ≤ key_count t → nodes t ≤ 2 * key_count t - 1
-    canonical-le t c k = let h = whole-le t.prefix t.value t.children c.0 c.1 k in omega (arith, h)
+    canonical-le t c k = grind (arith, whole-le)
 
     module _ (matches : V → V → Type 0) where
       -- trees that are the same have equally many nodes
       pub same-nodes_in : (f g : Forest K V) → IsSameIn cmp matches f g → forest_nodes f ≡ forest_nodes g
-      same-nodes_in bare bare h = refl
-      same-nodes_in bare (grow q w more others) h = absurd h
-      same-nodes_in (grow p v kids rest) bare h = absurd h
       same-nodes_in (grow p v kids rest) (grow q w more others) h =
-          let below = same-nodes_in kids more h.2 in
-          let beside = same-nodes_in rest others h.3 in
-          omega (arith, below, beside)
+          grind (arith, same-nodes_in kids more, same-nodes_in rest others)
+      same-nodes_in f g h = grind arith
 
       -- a tree of an equal map whose children are in order, mended, is the canonical one
       pub canonical-fewest : IsTotalOrder cmp → (t u : Tree K V) → IsCanonical cmp t → AreOrdered cmp u.children

@@ -3,8 +3,8 @@
 --     walk-under, walk-prefixed        the walk of the pairs under a prefix, and with a prefix before their keys
 --     lookup-prepended        what a tree with a prefix before its own binds
 --     lists-equal_map        a walk lists what an equal map binds
-use Rattle.std.proofs.Common.{◌≡◌, [], ◌∷◌, ◌++◌, List, Option, None, Some, map, refl, sym, ap, ◌∙◌, true, false}
-use Rattle.std.proofs.Common.{Bool, is_some, subst, inl, inr, ◌⊎◌, cond, true≢false}
+use Rattle.std.proofs.Common.{◌≡◌, [], ◌∷◌, ◌++◌, List, Option, Some, map, ap, ◌∙◌, true, arith}
+use Rattle.std.proofs.Common.{Bool, is_some, inl, inr, ◌⊎◌, cond}
 use Rattle.std.specs.List.{filter}
 use Rattle.std.specs.Option.{option_and, option_and_then}
 use Rattle.std.specs.declared.cmp.Ordering.{Ordering}
@@ -15,19 +15,17 @@ use Rattle.std.proofs.lemmas.List.Kept.{IsStrictlySortedBy-filter}
 use Rattle.vc_tree_model.specs.Key.{same_key, behind}
 use Rattle.vc_tree_model.specs.Value.{IsKept}
 use Rattle.vc_tree_model.specs.Tree.{Tree, node}
-use Rattle.vc_tree_model.specs.Map.{lookup, lookup_in, node_lookup, IsEqualMap}
+use Rattle.vc_tree_model.specs.Map.{lookup, node_lookup, IsEqualMap}
 use Rattle.vc_tree_model.specs.Walk.{IsWalk, Lists, prepended}
 use Rattle.vc_tree_model.specs.Under.{under, prefixed}
 use Rattle.vc_tree_model.specs.PrefixLaws.{ListsEqualMap}
-use Rattle.vc_tree_model.proofs.KeyLemmas.{none-some, behind-append, then_behind, behind-of_same, behind-joins, left-behind}
+use Rattle.vc_tree_model.proofs.KeyLemmas.{behind-append, then_behind, behind-of_same, behind-joins, left-behind}
 use Rattle.vc_tree_model.proofs.Walking.{Ascend, ascend-prepended, lists-prepended}
 
 module _ {K : Type 0} (cmp : K → K → Ordering) (o : IsTotalOrder cmp) where
   -- both of two equal rests are there, or neither
   starts-kept : (a b : Option (List K)) → IsKept (λ j k. same_key cmp j k ≡ true) a b → is_some a ≡ is_some b
-  starts-kept None (Some k) h = absurd h
-  starts-kept (Some j) None h = absurd h
-  starts-kept x y h = refl
+  starts-kept a b h = grind arith
 
   -- of two equal keys both start with a prefix, or neither
   starts-same : (p j k : List K) → same_key cmp j k ≡ true
@@ -38,26 +36,17 @@ module _ {K V : Type 0} (cmp : K → K → Ordering) where
   -- a walk of a map is one of each map with the same values
   pub is_walk-equal : (f g : List K → Option V) (l : List (List K × V)) → ((k : List K) → g k ≡ f k) → IsWalk cmp f l
       → IsWalk cmp g l
-  is_walk-equal f g l e w = record {
-    ascends = w.ascends;
-    lists = λ k v. (λ h. e k ∙ (w.lists k v).0 h, λ h. (w.lists k v).1 (sym (e k) ∙ h));
-  }
+  is_walk-equal f g l e w = grind arith
 
   -- whether a key starts with a prefix
   abbrev begins : List K → List K × V → Bool
   begins p b = is_some (behind cmp p b.0)
 
-  -- the keys of a list with or without a first pair
-  keys_of-cond : (c : Bool) (b : List K × V) (l : List (List K × V)) (ks : List (List K)) → keys_of l ≡ ks
-      → keys_of (cond c (b ∷ l) l) ≡ cond c (b.0 ∷ ks) ks
-  keys_of-cond true b l ks e = ap (λ ks. b.0 ∷ ks) e
-  keys_of-cond false b l ks e = e
-
   -- the keys of the pairs that are left are those that are left of the keys
   keys_of-filter : (p : List K) (l : List (List K × V))
       → keys_of (filter (begins p) l) ≡ filter (λ k. is_some (behind cmp p k)) (keys_of l)
-  keys_of-filter p [] = refl
-  keys_of-filter p (b ∷ l) = keys_of-cond (begins p b) b (filter (begins p) l) _ (keys_of-filter p l)
+  keys_of-filter p (b ∷ l) = grind (arith, keys_of-filter p l)
+  keys_of-filter p [] = grind arith
 
   -- they ascend where all keys do
   ascend-filter : (p : List K) (l : List (List K × V)) → Ascend cmp l → Ascend cmp (filter (begins p) l)
@@ -67,77 +56,52 @@ module _ {K V : Type 0} (cmp : K → K → Ordering) where
   lists-cond : (c : Bool) (b : List K × V) (l : List (List K × V)) (k : List K) (v : V)
       → Lists cmp (cond c (b ∷ l) l) k v
       → ((c ≡ true) × (same_key cmp b.0 k ≡ true) × (b.1 ≡ v)) ⊎ Lists cmp l k v
-  lists-cond true b l k v (inl h) = inl (refl, h.0, h.1)
-  lists-cond true b l k v (inr h) = inr h
-  lists-cond false b l k v h = inr h
+  lists-cond c b l k v h = grind arith
 
   -- the first pair is there where it is kept
   cond-first : (c : Bool) (b : List K × V) (l : List (List K × V)) (k : List K) (v : V) → c ≡ true
       → same_key cmp b.0 k ≡ true → b.1 ≡ v → Lists cmp (cond c (b ∷ l) l) k v
-  cond-first true b l k v e h g = inl (h, g)
-  cond-first false b l k v e h g = absurd (true≢false (sym e))
-
-  -- the others are there in each case
-  cond-others : (c : Bool) (b : List K × V) (l : List (List K × V)) (k : List K) (v : V) → Lists cmp l k v
-      → Lists cmp (cond c (b ∷ l) l) k v
-  cond-others true b l k v h = inr h
-  cond-others false b l k v h = h
+  cond-first c b l k v e h g = grind arith
 
   module _ (o : IsTotalOrder cmp) where
     -- what is listed of the pairs that are left starts with the prefix, and is listed of all
     filtered-lists : (p : List K) (l : List (List K × V)) (k : List K) (v : V) → Lists cmp (filter (begins p) l) k v
         → (is_some (behind cmp p k) ≡ true) × Lists cmp l k v
-    filtered-lists p [] k v h = absurd h
-    filtered-lists p (b ∷ l) k v h =
-        elim (lists-cond (begins p b) b (filter (begins p) l) k v h) [
-          | inl e ↦ (sym (starts-same cmp o p b.0 k e.1) ∙ e.0, inl (e.1, e.2))
-          | inr e ↦ (let f = filtered-lists p l k v e in (f.0, inr f.1))
-        ]
+    filtered-lists p (b ∷ l) k v h = grind (arith, filtered-lists p l k v, lists-cond, starts-same)
+    filtered-lists p [] k v h = grind arith
 
     -- and the other way round
     lists-filtered : (p : List K) (l : List (List K × V)) (k : List K) (v : V) → is_some (behind cmp p k) ≡ true
         → Lists cmp l k v → Lists cmp (filter (begins p) l) k v
     lists-filtered p [] k v s h = absurd h
-    lists-filtered p (b ∷ l) k v s (inl h) =
-        cond-first (begins p b) b (filter (begins p) l) k v (starts-same cmp o p b.0 k h.0 ∙ s) h.0 h.1
-    lists-filtered p (b ∷ l) k v s (inr h) =
-        cond-others (begins p b) b (filter (begins p) l) k v (lists-filtered p l k v s h)
+    lists-filtered p (b ∷ l) k v s (inl h) = grind (arith, cond-first, starts-same)
+    lists-filtered p (b ∷ l) k v s (inr h) = grind (arith, lists-filtered p l k v)
 
     -- what is there beside something
     and-some : (a : Option (List K)) (b : Option V) (v : V) → option_and a b ≡ Some v
         → (is_some a ≡ true) × (b ≡ Some v)
-    and-some None b v h = none-some v h
-    and-some (Some rest) b v h = (refl, h)
+    and-some a b v h = grind arith
 
     -- and the other way round
     some-and : (a : Option (List K)) (b : Option V) (v : V) → is_some a ≡ true → b ≡ Some v → option_and a b ≡ Some v
-    some-and None b v s h = absurd (true≢false (sym s))
-    some-and (Some rest) b v s h = h
+    some-and a b v s h = grind arith
 
     -- the pairs under a prefix are listed without the others
     pub walk-under : (f : List K → Option V) (l : List (List K × V)) (p : List K) → IsWalk cmp f l
         → IsWalk cmp (under cmp f p) (filter (begins p) l)
-    walk-under f l p w = record {
-      ascends = ascend-filter p l w.ascends;
-      lists = λ k v. (
-        λ h. let g = filtered-lists p l k v h in some-and (behind cmp p k) (f k) v g.0 ((w.lists k v).0 g.1),
-        λ h. let g = and-some (behind cmp p k) (f k) v h in lists-filtered p l k v g.0 ((w.lists k v).1 g.1),
-      );
-    }
+    walk-under f l p w = grind (arith, ascend-filter, filtered-lists, some-and, and-some, lists-filtered)
 
     -- what is listed with a prefix before it, is listed without it of what is left behind the prefix
     prefixed-lists : (p : List K) (l : List (List K × V)) (k : List K) (v : V) → Lists cmp (map (prepended p) l) k v
         → (rest : List K) × (behind cmp p k ≡ Some rest) × Lists cmp l rest v
     prefixed-lists p [] k v h = absurd h
-    prefixed-lists p (b ∷ l) k v (inl h) =
-        let left = left-behind cmp p b.0 k h.0 in (left.0, left.1, inl (left.2, h.1))
-    prefixed-lists p (b ∷ l) k v (inr h) = let left = prefixed-lists p l k v h in (left.0, left.1, inr left.2)
+    prefixed-lists p (b ∷ l) k v (inl h) = grind (arith, left-behind)
+    prefixed-lists p (b ∷ l) k v (inr h) = grind (arith, prefixed-lists p l k v)
 
     -- what is bound at what is left behind a prefix, if something is left
     then-some : (f : List K → Option V) (a : Option (List K)) (v : V) → option_and_then f a ≡ Some v
         → (rest : List K) × (a ≡ Some rest) × (f rest ≡ Some v)
-    then-some f None v h = none-some v h
-    then-some f (Some rest) v h = (rest, refl, h)
+    then-some f a v h = grind arith
 
     -- the pairs with a prefix before their keys are listed with the prefix before each
     pub walk-prefixed : (f : List K → Option V) (l : List (List K × V)) (p : List K) → IsWalk cmp f l
@@ -154,34 +118,15 @@ module _ {K V : Type 0} (cmp : K → K → Ordering) where
   -- a look-up behind a second prefix
   looked-behind : (q : List K) (v : Option V) (f : List K → Option V) (a : Option (List K))
       → node_lookup v f (then_behind cmp q a) ≡ option_and_then (λ r. node_lookup v f (behind cmp q r)) a
-  looked-behind q v f None = refl
-  looked-behind q v f (Some r) = refl
+  looked-behind q v f a = grind arith
 
   -- a tree with a prefix before its own binds its keys with the prefix before them
   pub lookup-prepended : (p : List K) (t : Tree K V) (k : List K)
       → lookup cmp (node (p ++ t.prefix) t.value t.children) k ≡ prefixed cmp (lookup cmp t) p k
-  lookup-prepended p t k =
-      let at = node_lookup t.value (lookup_in cmp t.children) in
-      ap at (behind-append cmp p t.prefix k)
-      ∙ looked-behind t.prefix t.value (lookup_in cmp t.children) (behind cmp p k)
+  lookup-prepended p t k = grind (arith, behind-append, looked-behind)
 
   module _ (matches : V → V → Type 0) where
-    -- what an equal map binds at a key of a value
-    kept-some : (a b : Option V) (v : V) → IsKept matches a b → a ≡ Some v → (w : V) × (b ≡ Some w) × matches v w
-    kept-some None b v h e = none-some v e
-    kept-some (Some u) None v h e = absurd h
-    kept-some (Some u) (Some w) v h e = let same : u ≡ v = cc in (w, refl, subst (λ u. matches u w) same h)
-
-    -- and the other way round
-    some-kept : (a b : Option V) (w : V) → IsKept matches a b → b ≡ Some w → (v : V) × (a ≡ Some v) × matches v w
-    some-kept a None w h e = none-some w e
-    some-kept None (Some u) w h e = absurd h
-    some-kept (Some v) (Some u) w h e = let same : u ≡ w = cc in (v, refl, subst (λ u. matches v u) same h)
-
     -- a walk lists what an equal map binds, and nothing else
     pub lists-equal_map : (f g : List K → Option V) (l : List (List K × V)) → IsWalk cmp f l → IsEqualMap matches f g
         → ListsEqualMap K V cmp matches l g
-    lists-equal_map f g l w e = record {
-      listed = λ k v h. kept-some (f k) (g k) v (e k) ((w.lists k v).0 h);
-      bound = λ k w' h. let s = some-kept (f k) (g k) w' (e k) h in (s.0, (w.lists k s.0).1 s.1, s.2);
-    }
+    lists-equal_map f g l w e = grind arith

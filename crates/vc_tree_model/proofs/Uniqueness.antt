@@ -4,16 +4,16 @@
 --     same-in, canonical-same        so canonical trees of equal maps are the same, tree by tree
 --     equal-in, same-equal        trees that are the same have equal maps
 --     canonical-unique, canonical-one        both ways, and as a fact of one tree
-use Rattle.std.proofs.Common.{◌≡◌, [], ◌∷◌, ◌++◌, List, Option, None, Some, refl, sym, ap, ◌∙◌, true, false, Bool}
+use Rattle.std.proofs.Common.{◌≡◌, [], ◌∷◌, ◌++◌, List, Option, None, Some, refl, sym, ap, ◌∙◌, true, Bool, arith}
 use Rattle.std.proofs.Common.{true≢false, ◌⊎◌, inl, inr, ◌↔◌}
 use Rattle.std.specs.declared.cmp.Ordering.{Ordering}
 use Rattle.std.specs.declared.cmp.Ordering.TheVariants.{Less, Equal, Greater}
 use Rattle.std.specs.Ordering.{is_eq}
-use Rattle.std.specs.Cmp.{IsTotalOrder, Equal-is, tied_back, tied_itself}
+use Rattle.std.specs.Cmp.{IsTotalOrder, tied_back, tied_itself}
 use Rattle.vc_tree_model.specs.Key.{same_key}
 use Rattle.vc_tree_model.specs.Value.{IsKept}
 use Rattle.vc_tree_model.specs.Tree.{Tree, Forest, bare, grow, node}
-use Rattle.vc_tree_model.specs.Map.{or_else, node_lookup, lookup, lookup_in, IsEqualMap, or_else-none}
+use Rattle.vc_tree_model.specs.Map.{node_lookup, lookup, lookup_in, IsEqualMap}
 use Rattle.vc_tree_model.specs.Canonical.{AllAbove, AreChildren, IsSolid, IsCanonical}
 use Rattle.vc_tree_model.specs.Same.{IsSameIn, IsSame}
 use Rattle.vc_tree_model.specs.OneTree.{IsOneTree}
@@ -49,12 +49,10 @@ module _ {K V : Type 0} (cmp : K → K → Ordering) (o : IsTotalOrder cmp) wher
     no-longer : (x : K) (p : List K) (v w : Option V) (f g : Forest K V) → IsSolid w g → AreChildren cmp g
         → IsEqualMap matches (lookup cmp (node (x ∷ p) v f)) (lookup cmp (node [] w g)) → ⊥
     no-longer x p v (Some w) f g s a h = h []
-    no-longer x p v None f bare s a h = s
-    no-longer x p v None f (grow q w more bare) s a h = s
-    no-longer x p v None f (grow [] w more (grow r u most rest)) s a h = a
     no-longer x p v None f (grow (y ∷ q) w more (grow [] u most rest)) s a h = a.2
     no-longer x p v None f (grow (y ∷ q) w more (grow (z ∷ r) u most rest)) s a h =
         two-firsts x y z p q r v w u f more most rest a h
+    no-longer x p v w f g s a h = grind arith
 
     -- a first child that begins below the other side's first binds what the other side does not
     first-not_less : (x y : K) (p q : List K) (v w : Option V) (f g rest others : Forest K V)
@@ -85,9 +83,7 @@ module _ {K V : Type 0} (cmp : K → K → Ordering) (o : IsTotalOrder cmp) wher
     below-of : (v w : Option V) (f g : Forest K V) → AreChildren cmp f → AreChildren cmp g
         → IsEqualMap matches (lookup cmp (node [] v f)) (lookup cmp (node [] w g))
         → IsEqualMap matches (lookup_in cmp f) (lookup_in cmp g)
-    below-of v w f g a b h [] =
-        kept_by matches None None _ _ (sym (lookup_in-empty cmp f (children-ordered cmp f a)))
-        (sym (lookup_in-empty cmp g (children-ordered cmp g b))) tt
+    below-of v w f g a b h [] = grind (arith, lookup_in-empty, children-ordered)
     below-of v w f g a b h (x ∷ k) = h (x ∷ k)
 
     -- equal first components may be taken off both prefixes
@@ -143,58 +139,34 @@ module _ {K V : Type 0} (cmp : K → K → Ordering) (o : IsTotalOrder cmp) wher
         → IsKept matches (lookup_in cmp (grow (x ∷ p) v f rest) (z ∷ k))
         (lookup_in cmp (grow (y ∷ q) w g others) (z ∷ k))
         → Apart (node (x ∷ p) v f) (node (y ∷ q) w g) rest others (z ∷ k)
-    apart-at true x y z p q k v w f g rest others a b e i h =
-        let xz = (Equal-is (cmp x z)).0 i in
-        let yz = sym (o.congr x y z e) ∙ xz in
-        let r = lookup_in-above cmp o z rest k (above-equal cmp o x z rest xz a) in
-        let s = lookup_in-above cmp o z others k (above-equal cmp o y z others yz b) in
-        let l = lookup cmp (node (x ∷ p) v f) (z ∷ k) in
-        let m = lookup cmp (node (y ∷ q) w g) (z ∷ k) in
-        record {
-          here = kept_by matches _ _ l m (ap (or_else l) r ∙ or_else-none l) (ap (or_else m) s ∙ or_else-none m) h;
-          beside = kept_by matches None None _ _ (sym r) (sym s) tt;
-        }
-    apart-at false x y z p q k v w f g rest others a b e i h =
-        let j = ap is_eq (sym (o.congr x y z e)) ∙ i in
-        record {
-          here =
-              kept_by matches None None _ _ (sym (lookup-other cmp x z p k v f i))
-              (sym (lookup-other cmp y z q k w g j)) tt;
-          beside =
-              kept_by matches _ _ _ _ (lookup_in-skip cmp x z p k v f rest i)
-              (lookup_in-skip cmp y z q k w g others j) h;
-        }
+    apart-at b x y z p q k v w f g rest others a h e i c =
+        grind (arith, lookup_in-above, above-equal, lookup-other, lookup_in-skip)
 
     -- equal maps of two lists whose first trees begin alike come apart
     pub apart : (x y : K) (p q : List K) (v w : Option V) (f g rest others : Forest K V)
         → AreChildren cmp (grow (x ∷ p) v f rest) → AreChildren cmp (grow (y ∷ q) w g others) → cmp x y ≡ Equal
         → IsEqualMap matches (lookup_in cmp (grow (x ∷ p) v f rest)) (lookup_in cmp (grow (y ∷ q) w g others))
         → (k : List K) → Apart (node (x ∷ p) v f) (node (y ∷ q) w g) rest others k
-    apart x y p q v w f g rest others a b e h [] = record { here = tt; beside = h [] }
-    apart x y p q v w f g rest others a b e h (z ∷ k) =
-        apart-at (is_eq (cmp x z)) x y z p q k v w f g rest others a.2 b.2 e refl (h (z ∷ k))
+    apart x y p q v w f g rest others a b e h k = grind (arith, apart-at)
 
     -- ---- trees of equal maps are the same
 
     -- canonical children with equal maps are the same
     pub same-in : (f g : Forest K V) → AreChildren cmp f → AreChildren cmp g
         → IsEqualMap matches (lookup_in cmp f) (lookup_in cmp g) → IsSameIn cmp matches f g
-    same-in bare bare a b h = tt
-    same-in bare (grow [] w g others) a b h = absurd b
     same-in bare (grow (y ∷ q) w g others) a b h =
         let c = first-bound cmp o (grow (y ∷ q) w g others) b in
         let d = bound-left matches None _ c.value (h (y ∷ c.key)) c.is in
         none-some d.0 d.1
-    same-in (grow [] v f rest) g a b h = absurd a
     same-in (grow (x ∷ p) v f rest) bare a b h =
         let c = first-bound cmp o (grow (x ∷ p) v f rest) a in
         not-lost matches _ None c.value (h (x ∷ c.key)) c.is refl
-    same-in (grow (x ∷ p) v f rest) (grow [] w g others) a b h = absurd b
     same-in (grow (x ∷ p) v f rest) (grow (y ∷ q) w g others) a b h =
         let e = firsts-alike (cmp x y) x y p q v w f g rest others a b h refl in
         let m = apart x y p q v w f g rest others a b e h in
         let r = parts (x ∷ p) (y ∷ q) v w f g a.0 a.1 b.0 b.1 (λ k. (m k).here) in
         (r.prefix, r.value, same-in f g a.1 b.1 r.below, same-in rest others a.3 b.3 (λ k. (m k).beside))
+    same-in f g a b h = grind arith
 
     -- the map of a solid node is not empty
     not-nothing : (p q : List K) (v w : Option V) (f g : Forest K V) → IsSolid v f → AreChildren cmp f
@@ -222,7 +194,7 @@ module _ {K V : Type 0} (cmp : K → K → Ordering) (o : IsTotalOrder cmp) wher
         let r = parts p q v w f g s a u b h in (r.prefix, r.value, same-in f g a b r.below)
     whole-same p q v w f g (inl s) a (inr e) b h = absurd (not-nothing p q v w f g s a e h)
     whole-same p q v w f g (inr d) a (inl u) b h = absurd (not-nothing_right p q v w f g d u b h)
-    whole-same p q v w f g (inr d) a (inr e) b h = rw (d.0, d.1, d.2, e.0, e.1, e.2) (refl, tt, tt)
+    whole-same p q v w f g (inr d) a (inr e) b h = grind arith
 
     -- canonical trees of equal maps are the same
     pub canonical-same : (t u : Tree K V) → IsCanonical cmp t → IsCanonical cmp u
@@ -236,27 +208,18 @@ module _ {K V : Type 0} (cmp : K → K → Ordering) (o : IsTotalOrder cmp) wher
     -- what a node has behind equal prefixes matches where its value and what is below do
     kept-node : (v w : Option V) (f g : List K → Option V) (a b : Option (List K)) → IsKept matches v w
         → IsEqualMap matches f g → a ≡ b → IsKept matches (node_lookup v f a) (node_lookup w g b)
-    kept-node v w f g None b h k e = rw (← e) tt
-    kept-node v w f g (Some []) b h k e = rw (← e) h
-    kept-node v w f g (Some (x ∷ rest)) b h k e = rw (← e) (k (x ∷ rest))
+    kept-node v w f g a b h k e = grind arith
 
     -- lists of trees that are the same have equal maps
     pub equal-in : (f g : Forest K V) → IsSameIn cmp matches f g
         → IsEqualMap matches (lookup_in cmp f) (lookup_in cmp g)
-    equal-in bare bare h k = tt
-    equal-in bare (grow q w more others) h k = absurd h
-    equal-in (grow p v kids rest) bare h k = absurd h
     equal-in (grow p v kids rest) (grow q w more others) h k =
-        let left = behind-same cmp o p q k h.0 in
-        kept-else matches _ _ _ _
-        (kept-node v w (lookup_in cmp kids) (lookup_in cmp more) _ _ h.1 (equal-in kids more h.2) left)
-        (equal-in rest others h.3 k)
+        grind (arith, equal-in kids more, equal-in rest others, behind-same, kept-else, kept-node)
+    equal-in f g h k = grind arith
 
     -- trees that are the same have equal maps
     pub same-equal : (t u : Tree K V) → IsSame cmp matches t u → IsEqualMap matches (lookup cmp t) (lookup cmp u)
-    same-equal t u h k =
-        kept-node t.value u.value (lookup_in cmp t.children) (lookup_in cmp u.children) _ _ h.1
-        (equal-in t.children u.children h.2) (behind-same cmp o t.prefix u.prefix k h.0)
+    same-equal t u h k = grind (arith, kept-node, equal-in, behind-same)
 
     -- canonical trees are the same exactly where their maps are equal
     pub canonical-unique : (t u : Tree K V) → IsCanonical cmp t → IsCanonical cmp u

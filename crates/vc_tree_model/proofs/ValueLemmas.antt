@@ -1,8 +1,8 @@
 -- Values that are kept or match, as optional ones.
---     kept_by, kept-flip, kept-refl, kept-trans, kept-else        how they match
+--     kept_by, kept-refl, kept-trans, kept-else        how they match
 --     bound-left, not-lost        where one is there, so is the other
 --     maps-flip, maps-by        equal maps
-use Rattle.std.proofs.Common.{◌≡◌, List, Option, None, Some, refl}
+use Rattle.std.proofs.Common.{◌≡◌, List, Option, None, Some, arith}
 use Rattle.vc_tree_model.specs.Value.{IsKept}
 use Rattle.vc_tree_model.specs.Map.{or_else, IsEqualMap}
 
@@ -11,45 +11,32 @@ module _ {V : Type 0} (matches : V → V → Type 0) where
   pub kept_by : (a b c d : Option V) → a ≡ c → b ≡ d → IsKept matches a b → IsKept matches c d
   kept_by a b c d p q h = rw (← p, ← q) h
 
-  -- the sides may be turned with the relation
-  pub kept-flip : (a b : Option V) → IsKept matches a b → IsKept (λ v w. matches w v) b a
-  kept-flip None None h = tt
-  kept-flip (Some v) (Some w) h = h
-  kept-flip x y h = absurd h
-
   -- each value keeps itself where the relation says so
   pub kept-refl : ((v : V) → matches v v) → (o : Option V) → IsKept matches o o
-  kept-refl r None = tt
-  kept-refl r (Some v) = r v
+  kept-refl r o = grind arith
 
   -- what keeps a kept value keeps the first, where the relation says so
   pub kept-trans : ((u v w : V) → matches u v → matches v w → matches u w) → (a b c : Option V) → IsKept matches a b
       → IsKept matches b c → IsKept matches a c
-  kept-trans t None None c h k = k
-  kept-trans t (Some u) (Some v) (Some w) h k = t u v w h k
-  kept-trans t (Some u) (Some v) None h k = absurd k
-  kept-trans t x y c h k = absurd h
+  kept-trans t a b c h k = grind arith
 
   -- the first of two matches the first of two
   pub kept-else : (a b c d : Option V) → IsKept matches a b → IsKept matches c d
       → IsKept matches (or_else a c) (or_else b d)
-  kept-else None None c d h k = k
-  kept-else (Some v) (Some w) c d h k = h
-  kept-else x y c d h k = absurd h
+  kept-else a b c d h k = grind arith
 
   -- where the right one is there, so is the left one
   pub bound-left : (a b : Option V) (w : V) → IsKept matches a b → b ≡ Some w → (v : V) × (a ≡ Some v)
-  bound-left (Some v) b w h e = (v, refl)
-  bound-left None b w h e = absurd (kept_by None b None (Some w) refl e h)
+  bound-left a b w h e = grind arith
 
   -- what the left one has, the right one does not lack
   pub not-lost : {A : Type 0} (a b : Option V) (v : V) → IsKept matches a b → a ≡ Some v → b ≡ None → A
-  not-lost a b v h p q = absurd (kept_by a b (Some v) None p q h)
+  not-lost a b v h p q = grind arith
 
 module _ {K V : Type 0} (matches : V → V → Type 0) where
   -- the sides of equal maps may be turned with the relation
   pub maps-flip : (f g : List K → Option V) → IsEqualMap matches f g → IsEqualMap (λ v w. matches w v) g f
-  maps-flip f g h k = kept-flip matches (f k) (g k) (h k)
+  maps-flip f g h k = grind arith
 
   -- what is the same as an equal map is an equal map
   pub maps-by : (f g h : List K → Option V) → IsEqualMap matches f g → ((k : List K) → h k ≡ g k)

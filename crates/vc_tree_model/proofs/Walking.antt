@@ -9,7 +9,6 @@ use Rattle.std.proofs.Common.{sym, ap, ◌∙◌, true, inl, inr, ◌↔◌, sub
 use Rattle.std.proofs.lemmas.List.{length-map}
 use Rattle.std.specs.declared.cmp.Ordering.{Ordering}
 use Rattle.std.specs.declared.cmp.Ordering.TheVariants.{Less}
-use Rattle.std.specs.Ordering.{ordering_then}
 use Rattle.std.specs.Cmp.{IsTotalOrder}
 use Rattle.std.specs.Cmp.Lexicographic.{slice_cmp}
 use Rattle.std.specs.List.{AllByRecursion}
@@ -34,8 +33,7 @@ module _ {K : Type 0} (cmp : K → K → Ordering) where
 
   -- a key that begins with x comes before one that begins above
   less-above : (x : K) (k j : List K) → Above x j → slice_cmp cmp (x ∷ k) j ≡ Less
-  less-above x k [] a = absurd a
-  less-above x k (y ∷ j) a = ap (λ r. ordering_then r (slice_cmp cmp k j)) a
+  less-above x k j a = grind arith
 
 -- ---- facts on each pair of a list
 
@@ -109,22 +107,20 @@ module _ {K V : Type 0} where
 
     -- each key of trees above x begins above x
     walk-above : (x : K) (f : Forest K V) → AllAbove cmp x f → AllKeys (Above cmp x) (walk_in f)
-    walk-above x bare a = tt
-    walk-above x (grow [] v kids rest) a = absurd a
     walk-above x (grow (y ∷ p) v kids rest) a =
         let here = own_pair v ++ walk_in kids in
         keys-append (Above cmp x) (map (prepended (y ∷ p)) here) (walk_in rest)
         (keys-under (Above cmp x) (y ∷ p) (λ k. a.0) here) (walk-above x rest a.1)
+    walk-above x f a = grind arith
 
     -- the empty key comes before each key of children
     empty-before : (f : Forest K V) → AreOrdered cmp f → Before [] (walk_in f)
-    empty-before bare a = tt
-    empty-before (grow [] v kids rest) a = absurd a
     empty-before (grow (y ∷ p) v kids rest) a =
         let here = own_pair v ++ walk_in kids in
         let first = λ (j : List K). slice_cmp cmp [] j ≡ Less in
         keys-append first (map (prepended (y ∷ p)) here) (walk_in rest)
         (keys-under first (y ∷ p) (λ k. refl) here) (empty-before rest a.2)
+    empty-before f a = grind arith
 
     -- a node's own pair comes before those of its children
     ascend-own : (v : Option V) (f : Forest K V) → AreOrdered cmp f → Ascend (walk_in f)
@@ -156,20 +152,13 @@ module _ {K V : Type 0} where
       -- the walk of a list of trees in order ascends
       walk_in-ascends : (f : Forest K V) → AreOrdered cmp f → Ascend (walk_in f)
       unfolding IsStrictlySortedBy
-      walk_in-ascends bare a = tt
-      walk_in-ascends (grow [] v kids rest) a = absurd a
       walk_in-ascends (grow (x ∷ p) v kids rest) a =
-          let here = own_pair v ++ walk_in kids in
-          ascend-append (map (prepended (x ∷ p)) here) (walk_in rest)
-          (ascend-prepended (x ∷ p) here (ascend-own v kids a.0 (walk_in-ascends kids a.0)))
-          (walk_in-ascends rest a.2)
-          (tree-before x p rest a.1 here)
+          grind (arith, walk_in-ascends kids, walk_in-ascends rest, ascend-append, ascend-prepended, ascend-own, tree-before)
+      walk_in-ascends f a = grind arith
 
       -- the walk of a tree whose children are in order ascends
       pub walk-ascends : (t : Tree K V) → AreOrdered cmp t.children → Ascend (walk t)
-      walk-ascends t a =
-          ascend-prepended t.prefix (own_pair t.value ++ walk_in t.children)
-          (ascend-own t.value t.children a (walk_in-ascends t.children a))
+      walk-ascends t a = grind (arith, ascend-prepended, ascend-own, walk_in-ascends)
 
     -- ---- each pair of the walk is bound
 
@@ -208,16 +197,11 @@ module _ {K V : Type 0} where
       walk_in-bound : (f : Forest K V) → AllBound (BindsIn cmp f) (walk_in f)
       walk_in-bound bare = tt
       walk_in-bound (grow p v kids rest) =
-          let all = BindsIn cmp (grow p v kids rest) in
-          let own = node-bound p v (BindsIn cmp kids) (walk_in kids) (walk_in-bound kids) in
-          pairs-append all (map (prepended p) (own_pair v ++ walk_in kids)) (walk_in rest)
-          (pairs-mono (NodeBinds cmp p v (BindsIn cmp kids)) all (λ k a h. inl h) _ own)
-          (pairs-mono (BindsIn cmp rest) all (λ k a h. inr h) _ (walk_in-bound rest))
+          grind (arith, walk_in-bound kids, walk_in-bound rest, node-bound, pairs-append, pairs-mono)
 
       -- each pair of the walk is bound
       pub walk-bound : (t : Tree K V) → AllByRecursion (λ b. Binds cmp t b.0 b.1) (walk t)
-      walk-bound t =
-          node-bound t.prefix t.value (BindsIn cmp t.children) (walk_in t.children) (walk_in-bound t.children)
+      walk-bound t = grind (arith, node-bound, walk_in-bound)
 
       -- a pair is still listed behind a prefix
       pub lists-prepended : (p : List K) (l : List (List K × V)) (rest k : List K) (a : V)
@@ -238,8 +222,7 @@ module _ {K V : Type 0} where
           → ((k : List K) (a : V) → below k a → Lists cmp l k a)
           → (k : List K) (a : V) → NodeBinds cmp p v below k a → Lists cmp (map (prepended p) (own_pair v ++ l)) k a
       node-listed p v below l f k a (inl h) = own-listed p v l k a h.0 h.1
-      node-listed p v below l f k a (inr h) =
-          lists-prepended p (own_pair v ++ l) h.0 k a h.1 (lists-right (own_pair v) l h.0 a (f h.0 a h.2))
+      node-listed p v below l f k a (inr h) = grind (arith, lists-prepended, lists-right)
 
       -- what one of a list of trees binds is listed
       binds-in_listed : (f : Forest K V) (k : List K) (a : V) → BindsIn cmp f k a → Lists cmp (walk_in f) k a
@@ -247,8 +230,7 @@ module _ {K V : Type 0} where
       binds-in_listed (grow p v kids rest) k a (inl h) =
           lists-left (map (prepended p) (own_pair v ++ walk_in kids)) (walk_in rest) k a
           (node-listed p v (BindsIn cmp kids) (walk_in kids) (binds-in_listed kids) k a h)
-      binds-in_listed (grow p v kids rest) k a (inr h) =
-          lists-right (map (prepended p) (own_pair v ++ walk_in kids)) (walk_in rest) k a (binds-in_listed rest k a h)
+      binds-in_listed (grow p v kids rest) k a (inr h) = grind (arith, binds-in_listed rest k a, lists-right)
 
       -- what a tree binds is listed
       pub binds-listed : (t : Tree K V) (k : List K) (a : V) → Binds cmp t k a → Lists cmp (walk t) k a
@@ -264,18 +246,17 @@ module _ {K V : Type 0} where
       -- the walk lists exactly what the tree binds
       pub walk-lists : (t : Tree K V) → AreOrdered cmp t.children → (k : List K) (a : V)
           → Lists cmp (walk t) k a ↔ (lookup cmp t k ≡ Some a)
-      walk-lists t d k a = (listed-lookup t d k a, λ h. binds-listed t k a (lookup-binds cmp o t k a h))
+      walk-lists t d k a = grind (arith, listed-lookup, binds-listed, lookup-binds)
 
       -- the walk of a tree is that of its map
       pub walk-is : (t : Tree K V) → AreOrdered cmp t.children → IsWalk cmp (lookup cmp t) (walk t)
-      walk-is t d = record { ascends = walk-ascends o t d; lists = walk-lists t d }
+      walk-is t d = grind (arith, walk-ascends, walk-lists)
 
   -- ---- how long the walk is
 
   -- a node's own pair is there where its value is
   length-own_pair : (v : Option V) (l : List (List K × V)) → length (own_pair v ++ l) ≡ own_count v + length l
-  length-own_pair None l = omega arith
-  length-own_pair (Some v) l = omega arith
+  length-own_pair v l = grind arith
 
   -- a list of trees has as many pairs as values
   length-walk_in : (f : Forest K V) → length (walk_in f) ≡ forest_key_count f
