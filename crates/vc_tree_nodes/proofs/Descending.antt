@@ -3,16 +3,15 @@
 --     down-behind        one more prefix was compared with the key, which goes on behind it
 --     behind-length, some-first, searched-within        how much of the key is left, and what a search of children costs
 --     down-searched, down-missed        the children were searched: for the next node, or in vain
-use Rattle.std.proofs.Common.{◌≡◌, ℕ, suc, ◌+◌, ◌-◌, ◌*◌, ◌≤◌, Bool, true, false, cond, [], ◌∷◌, List, Some, None}
+use Rattle.std.proofs.Common.{◌≡◌, ℕ, ◌+◌, ◌-◌, ◌*◌, ◌≤◌, [], ◌∷◌, List, Some}
 use Rattle.std.proofs.Common.{length, map, sym, ap, ◌∙◌, arith}
-use Rattle.std.proofs.Math.Nat.{mul-le-mul_right, add-mul, mul-add, mul-one}
-use Rattle.std.specs.Ordering.{is_eq}
+use Rattle.std.proofs.Math.Nat.{mul-le-mul_right, add-mul}
 use Rattle.std.specs.Prelude.{slice_get}
 use Rattle.std.specs.declared.cmp.Ordering.{Ordering}
 use Rattle.vc_merge.specs.Count.{digits}
 use Rattle.vc_merge.proofs.Digits.{digits-monotone}
 use Rattle.vc_tree_model.specs.Key.{behind}
-use Rattle.vc_tree_model.specs.Tree.{Tree, forest, trees, width}
+use Rattle.vc_tree_model.specs.Tree.{Tree, forest, width}
 use Rattle.vc_tree_model.proofs.KeyLemmas.{none-some}
 use Rattle.vc_tree_nodes.proofs.Finding.{trees-length}
 
@@ -24,16 +23,8 @@ IsWithin most d count left known = count + left * (1 + d) ≤ most + known * d
 -- a key is as long as a prefix and what is left behind it
 pub behind-length : {K : Type 0} (cmp : K → K → Ordering) (p k rest : List K) → behind cmp p k ≡ Some rest
     → length k ≡ length p + length rest
-behind-length cmp [] k rest e = let same : k ≡ rest = cc in let long = ap length same in omega (arith, long)
-behind-length cmp (x ∷ p) [] rest e = none-some rest e
-behind-length cmp (x ∷ p) (y ∷ k) rest e =
-    by (is_eq (cmp x y)) e (behind-length cmp p k rest)
-  where
-    by : (b : Bool) → cond b (behind cmp p k) None ≡ Some rest
-        → (behind cmp p k ≡ Some rest → length k ≡ length p + length rest)
-        → suc (length k) ≡ suc (length p) + length rest
-    by true e h = let long = h e in omega (arith, long)
-    by false e h = none-some rest e
+behind-length cmp (x ∷ p) (y ∷ k) rest e = grind (arith, behind-length cmp p k rest)
+behind-length cmp p k rest e = grind arith
 
 -- a list that begins with something is not empty
 pub some-first : {X : Type 0} (xs : List X) (x : X) → Some x ≡ slice_get xs 0 → 1 ≤ length xs
@@ -43,13 +34,11 @@ some-first (y ∷ xs) x e = omega arith
 -- a search of the children of a node costs no more than one of as many as the tree has at a node
 pub searched-within : {K V T : Type 0} (tree : T → Tree K V) (xs : List T) (node t : Tree K V)
     → forest (map tree xs) ≡ node.children → width node ≤ width t → digits (length xs) ≤ digits (width t)
-searched-within tree xs node t e w =
-    let long : length (trees node.children) ≡ length xs = ap (λ f. length (trees f)) (sym e) ∙ trees-length tree xs in
-    digits-monotone (length xs) (width t) (omega (arith, long))
+searched-within tree xs node t e w = grind (arith, trees-length, digits-monotone)
 
 -- one comparison a component, and one search
 each-twice : (n d : ℕ) → n * (1 + d) ≡ n + n * d
-each-twice n d = mul-add n 1 d ∙ ap (λ k. k + n * d) (mul-one n)
+each-twice n d = grind arith
 
 -- the prefix of p components was compared with the key behind the known ones, and the key goes on behind it
 pub down-behind : (most d old new left known p rest : ℕ) → IsWithin most d old left known → known ≤ p → left ≡ p + rest
@@ -63,14 +52,8 @@ down-behind most d old new left known p rest h k e n =
 
 -- the children were searched for the first component of what is left
 pub down-searched : (most d old new rest : ℕ) → old + rest * (1 + d) ≤ most → new ≤ old + d → IsWithin most d new rest 1
-down-searched most d old new rest h n = let one : 1 * d ≡ d = one-time d in omega (arith, one)
-  where
-    one-time : (m : ℕ) → 1 * m ≡ m
-    one-time m = omega arith
+down-searched most d old new rest h n = grind arith
 
 -- and none begins with it
 pub down-missed : (most d old new rest : ℕ) → old + rest * (1 + d) ≤ most → 1 ≤ rest → new ≤ old + d → new ≤ most
-down-missed most d old new rest h s n =
-    let whole = each-twice rest d in
-    let some : 1 * d ≤ rest * d = mul-le-mul_right d s in
-    omega (arith, whole, some)
+down-missed most d old new rest h s n = grind arith

@@ -4,17 +4,16 @@
 --     parts-canonical        a node whose children stayed alike
 --     leads_.., list-updated, list-grown, list-alike        the child that the key leads to, and the list once it is changed
 --     empty-kept, length-kept, one-put, two-put, top-from, low-from        lists that were lent or copied
-use Rattle.std.proofs.Common.{◌≡◌, ℕ, zero, suc, ◌<◌, ◌≤◌, [], ◌∷◌, ◌++◌, List, Option, None, Some, refl, sym, ap}
+use Rattle.std.proofs.Common.{◌≡◌, ℕ, suc, ◌<◌, ◌≤◌, [], ◌∷◌, ◌++◌, List, Option, None, Some, refl, sym, ap}
 use Rattle.std.proofs.Common.{subst, ◌∙◌, arith, get_or, set, map, take, drop, length, append-nil, length-drop, ◌-◌}
-use Rattle.std.proofs.Common.{true, cond, true≢false}
+use Rattle.std.proofs.Common.{true, cond}
 use Rattle.std.proofs.lemmas.List.{take-append-drop, take_all}
-use Rattle.std.specs.Cmp.{IsTotalOrder, Equal-is}
+use Rattle.std.specs.Cmp.{IsTotalOrder}
 use Rattle.std.specs.List.{insert}
-use Rattle.std.specs.Prelude.{Result, Ok, Err, OnOk, OnErr, slice_get}
+use Rattle.std.specs.Prelude.{Result, OnOk, OnErr, slice_get}
 use Rattle.std.specs.declared.cmp.Ordering.{Ordering}
-use Rattle.vc_tree_model.specs.Key.{behind}
 use Rattle.vc_tree_model.specs.Tree.{Tree, Forest, bare, grow, forest, node, made, is_bare, nodes, forest_nodes}
-use Rattle.vc_tree_model.specs.Map.{node_lookup, lookup, lookup_in, IsUpdated}
+use Rattle.vc_tree_model.specs.Map.{lookup, lookup_in, IsUpdated}
 use Rattle.vc_tree_model.specs.Canonical.{IsSolid, IsWhole, AreChildren, IsCanonical}
 use Rattle.vc_tree_model.specs.Same.{IsAlike, IsAlikeIn}
 use Rattle.vc_tree_nodes.specs.Growth.{IsGrown, Adds, Inserted}
@@ -23,9 +22,9 @@ use Rattle.vc_tree_nodes.specs.Places.{FitsAt, IsGapAt, LeadsTo, child_first}
 use Rattle.vc_tree_model.specs.Snapshot.{kept_itself}
 use Rattle.vc_tree_model.proofs.AlikeLemmas.{alike-children, alike-solid, alike-trans, alike-lookup, alike-canonical, alike-nodes}
 use Rattle.vc_tree_nodes.proofs.Finding.{begins-below, child-nodes}
-use Rattle.vc_tree_nodes.proofs.Firsts.{child_first-map, rest-children}
+use Rattle.vc_tree_nodes.proofs.Firsts.{child_first-map}
 use Rattle.vc_tree_nodes.proofs.Parted.{agree-one}
-use Rattle.vc_tree_nodes.proofs.Growing.{solid-canonical, pair-solid, solid-insert, solid-length, gap-alike}
+use Rattle.vc_tree_nodes.proofs.Growing.{pair-solid, solid-insert, solid-length, gap-alike}
 use Rattle.vc_tree_nodes.proofs.Growing.{children-insert, children-set, alike-set, alike-first}
 use Rattle.vc_tree_nodes.proofs.Updating.{lookup-leaf, updated-behind, updated-value, updated-children, updated-split}
 use Rattle.vc_tree_nodes.proofs.Updating.{updated-insert, updated-set, updated-alike}
@@ -37,33 +36,27 @@ node-equal p q v w f g a b c = rw (a, b, c) refl
 
 -- what holds of one outcome, holds where it follows
 pub on-ok : {X E A B : Type 0} (r : Result X E) → (A → B) → OnOk r A → OnOk r B
-on-ok (Ok x) f a = f a
-on-ok (Err e) f a = tt
+on-ok r f a = grind arith
 
 pub on-err : {X E A B : Type 0} (r : Result X E) → (A → B) → OnErr r A → OnErr r B
-on-err (Ok x) f a = tt
-on-err (Err e) f a = f a
+on-err r f a = grind arith
 
 -- what holds anyway
 pub always-err : {X E A : Type 0} (r : Result X E) → A → OnErr r A
-always-err (Ok x) a = tt
-always-err (Err e) a = a
+always-err r a = grind arith
 
 -- what follows from each outcome
 pub on-both : {X E A B C : Type 0} (r : Result X E) → OnOk r A → OnErr r B → (A → C) → (B → C) → C
-on-both (Ok x) a b f g = f a
-on-both (Err e) a b f g = g b
+on-both r a b f g = grind arith
 
 -- a prefix that is not empty shows that a whole tree is solid
 pub whole-solid : {K V : Type 0} (p : List K) (v : Option V) (f : Forest K V) → 0 < length p → IsWhole p v f → IsSolid v f
-whole-solid [] v f h w = absurd (omega arith)
-whole-solid (x ∷ p) v f h w = w
+whole-solid p v f h w = grind arith
 
 -- such a tree is canonical
 pub inserted-canonical : {K V : Type 0} (cmp : K → K → Ordering) (keeps : V → V → Type 0) (t : Tree K V)
     (key : List K) (value : V) (p : List K) (u : Tree K V) → Inserted cmp keeps t key value p u → IsCanonical cmp u
-inserted-canonical cmp keeps t key value p u i =
-    solid-canonical cmp u.prefix u.value u.children i.branch.solid i.branch.children
+inserted-canonical cmp keeps t key value p u i = grind arith
 
 module _ {K V : Type 0} (cmp : K → K → Ordering) (keeps : V → V → Type 0) (r : (v : V) → keeps v v)
     (trans : (u v w : V) → keeps u v → keeps v w → keeps u w) (o : IsTotalOrder cmp) where
@@ -96,11 +89,6 @@ module _ {K V : Type 0} (cmp : K → K → Ordering) (keeps : V → V → Type 0
         t.prefix t.prefix (t.prefix ++ y ∷ q) (sym (append-nil t.prefix)) refl;
     branch = record { prefix = refl; solid = s; children = a };
   }
-
-  -- the first of canonical children has a value or at least two children
-  first-solid : (p : List K) (v : Option V) (f rest : Forest K V) → AreChildren cmp (grow p v f rest) → IsSolid v f
-  first-solid [] v f rest a = absurd a
-  first-solid (x ∷ p) v f rest a = a.0
 
   module _ {T : Type 0} (tree : T → Tree K V) where
     -- one more child, at its place
@@ -145,15 +133,7 @@ module _ {K V : Type 0} (cmp : K → K → Ordering) (keeps : V → V → Type 0
         → IsUpdated cmp keeps rest value (lookup_in cmp (forest (map tree old))) (lookup_in cmp (forest (map tree new)))
         → Inserted cmp keeps t (t.prefix ++ rest) value t.prefix u
     child-grown t u p v old new rest value y q a b c e solid key n kids w =
-        subst (λ u. Inserted cmp keeps t (t.prefix ++ rest) value t.prefix u)
-        (sym (e ∙ node-equal p t.prefix v t.value (forest (map tree new)) (forest (map tree new)) a b refl))
-        (subst (λ k. Inserted cmp keeps t (t.prefix ++ k) value t.prefix
-        (node t.prefix t.value (forest (map tree new)))) (sym key)
-        (children-changed t y q value (forest (map tree new))
-        (solid-length tree t.value old new (sym n) (subst (IsSolid t.value) (sym c) solid)) kids
-        (subst (λ h. IsUpdated cmp keeps (y ∷ q) value (lookup_in cmp h) (lookup_in cmp (forest (map tree new)))) c
-        (subst (λ k. IsUpdated cmp keeps k value (lookup_in cmp (forest (map tree old)))
-        (lookup_in cmp (forest (map tree new)))) key w))))
+        grind (arith, node-equal, children-changed, solid-length)
 
     -- a node whose children stayed alike is canonical
     pub parts-canonical : (t : Tree K V) (p : List K) (v : Option V) (old new : List T)
@@ -245,18 +225,15 @@ module _ {K V : Type 0} (cmp : K → K → Ordering) (keeps : V → V → Type 0
     -- a canonical child has a value or at least two children
     child-solid : (ts : List T) (i : ℕ) (d : T) → AreChildren cmp (forest (map tree ts)) → i < length ts
         → IsSolid (tree (get_or ts i d)).value (tree (get_or ts i d)).children
-    child-solid [] i d a h = absurd (omega arith)
-    child-solid (t ∷ ts) zero d a h = first-solid (tree t).prefix (tree t).value (tree t).children (forest (map tree ts)) a
-    child-solid (t ∷ ts) (suc i) d a h =
-        child-solid ts i d (rest-children cmp (tree t).prefix (tree t).value (tree t).children (forest (map tree ts))
-        a) (omega arith)
+    child-solid (t ∷ ts) (suc i) d a h = grind (arith, child-solid ts i d)
+    child-solid ts i d a h = grind arith
 
     module _ (old kept : List T) (i : ℕ) (rest : List K) (leads : LeadsTo cmp (forest (map tree old)) rest i)
         (alike : IsAlikeIn keeps (forest (map tree old)) (forest (map tree kept)))
         (canonical : AreChildren cmp (forest (map tree old))) where
       -- the tree that the key leads to begins as the old one
       pub leads-kept : child_first (forest (map tree kept)) i ≡ Some leads.begins.here
-      leads-kept = sym (alike-first keeps (forest (map tree old)) (forest (map tree kept)) i alike) ∙ leads.begins.at
+      leads-kept = grind (arith, alike-first)
 
       -- it is there
       pub leads-within : i < length kept
@@ -273,35 +250,22 @@ module _ {K V : Type 0} (cmp : K → K → Ordering) (keeps : V → V → Type 0
 
       -- the children that were copied are canonical
       pub kept-children : AreChildren cmp (forest (map tree kept))
-      kept-children = alike-children keeps cmp (forest (map tree old)) (forest (map tree kept)) alike canonical
+      kept-children = grind (arith, alike-children)
 
       -- the tree has a value or at least two children
       pub leads-solid : (child : T) → child ≡ get_or kept i child → IsSolid (tree child).value (tree child).children
-      leads-solid child is =
-          subst (λ c. IsSolid (tree c).value (tree c).children) (sym is) (child-solid kept i child kept-children leads-within)
+      leads-solid child is = grind (arith, child-solid, kept-children, leads-within)
 
       -- and no more nodes than the list
       pub leads-nodes : (child : T) → child ≡ get_or kept i child → nodes (tree child) ≤ forest_nodes (forest (map tree old))
-      leads-nodes child is =
-          let n = child-nodes cmp tree kept i child leads-within in
-          let m = alike-nodes keeps (forest (map tree old)) (forest (map tree kept)) alike in
-          rw (is, m) n
+      leads-nodes child is = grind (arith, child-nodes, leads-within, alike-nodes)
 
       module _ (child item : T) (new : List T) (value : V) (is : child ≡ get_or kept i child)
           (set_is : new ≡ set kept i item) where
         -- the map of the list, where the tree that the key leads to was updated
         pub list-updated : IsUpdated cmp keeps rest value (lookup cmp (tree child)) (lookup cmp (tree item))
             → IsUpdated cmp keeps rest value (lookup_in cmp (forest (map tree old))) (lookup_in cmp (forest (map tree new)))
-        list-updated u =
-            rw (leads.key_is, set_is)
-            (updated-alike cmp keeps trans (leads.first ∷ leads.others) value (lookup_in cmp (forest (map tree old)))
-            (lookup_in cmp (forest (map tree kept))) (lookup_in cmp (forest (map tree (set kept i item))))
-            (alike-lookup keeps cmp (forest (map tree old)) (forest (map tree kept)) alike)
-            (updated-set cmp keeps o r tree kept i item child leads.begins.here leads.first leads.others value
-            leads-kept ((Equal-is (cmp leads.begins.here leads.first)).0 leads.begins.equal) kept-children
-            (subst (λ c. IsUpdated cmp keeps (leads.first ∷ leads.others) value (lookup cmp (tree c))
-            (lookup cmp (tree item))) is
-            (subst (λ k. IsUpdated cmp keeps k value (lookup cmp (tree child)) (lookup cmp (tree item))) leads.key_is u))))
+        list-updated u = grind (arith, updated-alike, alike-lookup, updated-set, leads-kept, kept-children)
 
         -- the trees are canonical children where that one has grown
         pub list-grown : IsGrown cmp 1 (tree child) (tree item) → AreChildren cmp (forest (map tree new))
@@ -312,24 +276,13 @@ module _ {K V : Type 0} (cmp : K → K → Ordering) (keeps : V → V → Type 0
         -- the trees are alike where that one is
         pub list-alike : IsAlike keeps (tree child) (tree item)
             → IsAlikeIn keeps (forest (map tree old)) (forest (map tree new))
-        list-alike h =
-            rw set_is (alike-trans keeps trans (forest (map tree old)) (forest (map tree kept))
-            (forest (map tree (set kept i item))) alike
-            (alike-set keeps r tree kept i item child (subst (λ c. IsAlike keeps (tree c) (tree item)) is h)))
+        list-alike h = grind (arith, alike-trans, alike-set)
 
 module _ {K V : Type 0} (cmp : K → K → Ordering) (keeps : V → V → Type 0) where
-  -- there is nothing behind a node with neither value nor children
-  nothing : (left : Option (List K)) → node_lookup {K = K} {V = V} None (λ k. None) left ≡ None
-  nothing None = refl
-  nothing (Some []) = refl
-  nothing (Some (x ∷ rest)) = refl
-
   -- such a node binds no key
   bare-none : (p : List K) (v : Option V) (f : Forest K V) (k : List K) → is_bare (node p v f) ≡ true
       → lookup cmp (node p v f) k ≡ None
-  bare-none p (Some v) f k e = absurd (true≢false (sym e))
-  bare-none p None (grow q w more rest) k e = absurd (true≢false (sym e))
-  bare-none p None bare k e = nothing (behind cmp p k)
+  bare-none p v f k e = grind arith
 
   -- a leaf in the place of the empty tree
   pub leaf-made : (t u : Tree K V) (key : List K) (value : V) → is_bare t ≡ true → u ≡ made key (Some value) []
@@ -345,16 +298,14 @@ module _ {K V : Type 0} (cmp : K → K → Ordering) (keeps : V → V → Type 0
 pub empty-kept : {K V T : Type 0} (keeps : V → V → Type 0) (tree : T → Tree K V) (xs ys : List T) → xs ≡ []
     → IsAlikeIn keeps (forest (map tree xs)) (forest (map tree ys)) → ys ≡ []
 empty-kept keeps tree [] [] e h = refl
-empty-kept keeps tree [] (y ∷ ys) e h = absurd h
-empty-kept keeps tree (x ∷ xs) ys e h = absurd (omega (arith, ap length e))
+empty-kept keeps tree xs ys e h = grind arith
 
 -- what keeps a list is as long
 pub length-kept : {K V T : Type 0} (keeps : V → V → Type 0) (tree : T → Tree K V) (xs ys : List T)
     → IsAlikeIn keeps (forest (map tree xs)) (forest (map tree ys)) → length xs ≡ length ys
 length-kept keeps tree [] [] h = refl
-length-kept keeps tree [] (y ∷ ys) h = absurd h
-length-kept keeps tree (x ∷ xs) [] h = absurd h
-length-kept keeps tree (x ∷ xs) (y ∷ ys) h = let r = length-kept keeps tree xs ys h.3 in omega (arith, r)
+length-kept keeps tree (x ∷ xs) (y ∷ ys) h = grind (arith, length-kept keeps tree xs ys)
+length-kept keeps tree xs ys h = grind arith
 
 -- one item put into an empty list
 pub one-put : {T : Type 0} (zs a b c : List T) (low : T) → zs ≡ a → a ≡ insert b 0 low → b ≡ c → c ≡ [] → zs ≡ low ∷ []

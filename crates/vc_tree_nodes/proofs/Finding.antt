@@ -5,26 +5,25 @@
 --     trees-length        how many children a node has
 use Rattle.std.proofs.Common.{◌≡◌, ℕ, zero, suc, ◌<◌, ◌≤◌, [], ◌∷◌, List, Option, None, Some, refl, sym, ap, ◌∙◌}
 use Rattle.std.proofs.Common.{arith, get_or, map, length, take, true}
-use Rattle.std.specs.Cmp.{IsTotalOrder, Equal-is, alike_right}
+use Rattle.std.specs.Cmp.{IsTotalOrder, Equal-is}
 use Rattle.std.specs.Ordering.{is_eq}
 use Rattle.std.specs.Prelude.{slice_get}
 use Rattle.std.specs.declared.cmp.Ordering.{Ordering}
-use Rattle.std.specs.declared.cmp.Ordering.TheVariants.{Less, Equal}
+use Rattle.std.specs.declared.cmp.Ordering.TheVariants.{Equal}
 use Rattle.vc_tree_model.specs.Key.{same_key}
-use Rattle.vc_tree_model.specs.Tree.{Tree, Forest, bare, grow, forest, node, trees, nodes, forest_nodes, width, forest_width}
-use Rattle.vc_tree_model.specs.Map.{or_else, lookup, lookup_in, or_else-none}
+use Rattle.vc_tree_model.specs.Tree.{Tree, Forest, grow, forest, node, trees, nodes, forest_nodes, width, forest_width}
+use Rattle.vc_tree_model.specs.Map.{or_else, lookup, lookup_in}
 use Rattle.vc_tree_model.specs.Canonical.{AreChildren}
 use Rattle.vc_tree_nodes.specs.Places.{child_first, BeginsAt, IsGapAt, IsFoundChild}
 use Rattle.vc_tree_model.proofs.KeyLemmas.{none-some}
-use Rattle.vc_tree_model.proofs.LookupLemmas.{lookup-other, lookup_in-above, lookup_in-skip, above-equal}
+use Rattle.vc_tree_model.proofs.LookupLemmas.{lookup-other, lookup_in-above, above-equal}
 use Rattle.vc_tree_nodes.proofs.Firsts.{above-at, rest-children, child_first-map}
 
 -- a tree of a list has no more nodes than the list
 pub list-nodes : {K V : Type 0} (ts : List (Tree K V)) (i : ℕ) (d : Tree K V) → i < length ts
     → nodes (get_or ts i d) ≤ forest_nodes (forest ts)
-list-nodes [] i d h = absurd (omega arith)
-list-nodes (t ∷ ts) zero d h = omega arith
-list-nodes (t ∷ ts) (suc i) d h = let r = list-nodes ts i d (omega arith) in omega (arith, r)
+list-nodes (t ∷ ts) (suc i) d h = grind (arith, list-nodes ts i d)
+list-nodes ts i d h = grind arith
 
 -- as many trees are seen as there are
 pub trees-length : {K V T : Type 0} (tree : T → Tree K V) (xs : List T) → length (trees (forest (map tree xs))) ≡ length xs
@@ -36,30 +35,21 @@ module _ {K V : Type 0} (cmp : K → K → Ordering) where
   pub gap-none : IsTotalOrder cmp → (f : Forest K V) (x : K) (i : ℕ) → IsGapAt cmp f x i → (rest : List K)
       → lookup_in cmp f (x ∷ rest) ≡ None
   gap-none o f x zero g rest = lookup_in-above cmp o x f rest g
-  gap-none o bare x (suc i) g rest = absurd g
-  gap-none o (grow [] v kids others) x (suc i) g rest = absurd g
-  gap-none o (grow (y ∷ p) v kids others) x (suc i) g rest =
-      lookup_in-skip cmp y x p rest v kids others (ap is_eq g.0) ∙ gap-none o others x i g.1 rest
+  gap-none o (grow (y ∷ p) v kids others) x (suc i) g rest = grind (arith, gap-none o others x i g.1 rest)
+  gap-none o f x i g rest = grind arith
 
   -- the first of these trees begins with x: the others do not
   first-found : IsTotalOrder cmp → (p : List K) (v : Option V) (kids others : Forest K V) (y x : K) (rest : List K)
       → AreChildren cmp (grow p v kids others) → slice_get p 0 ≡ Some y → cmp y x ≡ Equal
       → lookup_in cmp (grow p v kids others) (x ∷ rest) ≡ lookup cmp (node p v kids) (x ∷ rest)
-  first-found o [] v kids others y x rest a e h = absurd a
-  first-found o (z ∷ p) v kids others y x rest a e h =
-      let k : z ≡ y = cc in
-      let q : cmp z x ≡ Equal = ap (λ m. cmp m x) k ∙ h in
-      ap (or_else _) (lookup_in-above cmp o x others rest (above-equal cmp o z x others q a.2)) ∙ or_else-none _
+  first-found o p v kids others y x rest a e h = grind (arith, lookup_in-above, above-equal)
 
   -- a later one begins with x: the first does not
   first-skipped : IsTotalOrder cmp
       → (p : List K) (v : Option V) (kids others : Forest K V) (i : ℕ) (y x : K) (rest : List K)
       → AreChildren cmp (grow p v kids others) → child_first others i ≡ Some y → cmp y x ≡ Equal
       → lookup cmp (node p v kids) (x ∷ rest) ≡ None
-  first-skipped o [] v kids others i y x rest a e h = absurd a
-  first-skipped o (z ∷ p) v kids others i y x rest a e h =
-      let l : cmp z x ≡ Less = sym (alike_right o y x z h) ∙ above-at cmp z others i y a.2 e in
-      lookup-other cmp z x p rest v kids (ap is_eq l)
+  first-skipped o p v kids others i y x rest a e h = grind (arith, above-at, lookup-other)
 
   module _ {T : Type 0} (tree : T → Tree K V) where
     -- where a child begins with x there is one
@@ -74,24 +64,21 @@ module _ {K V : Type 0} (cmp : K → K → Ordering) where
     -- a child has no more nodes than the list
     pub child-nodes : (xs : List T) (i : ℕ) (d : T) → i < length xs
         → nodes (tree (get_or xs i d)) ≤ forest_nodes (forest (map tree xs))
-    child-nodes [] i d h = absurd (omega arith)
-    child-nodes (t ∷ ts) zero d h = omega arith
-    child-nodes (t ∷ ts) (suc i) d h = let r = child-nodes ts i d (omega arith) in omega (arith, r)
+    child-nodes (t ∷ ts) (suc i) d h = grind (arith, child-nodes ts i d)
+    child-nodes xs i d h = grind arith
 
     -- nor has a node below it more children
     child-width : (xs : List T) (i : ℕ) (d : T) → i < length xs
         → width (tree (get_or xs i d)) ≤ forest_width (forest (map tree xs))
-    child-width [] i d h = absurd (omega arith)
-    child-width (t ∷ ts) zero d h = omega arith
-    child-width (t ∷ ts) (suc i) d h = let r = child-width ts i d (omega arith) in omega (arith, r)
+    child-width (t ∷ ts) (suc i) d h = grind (arith, child-width ts i d)
+    child-width xs i d h = grind arith
 
     -- the child that begins with x binds what the list binds of the keys that begin so
     pub lookup_in-at : IsTotalOrder cmp → (xs : List T) (i : ℕ) (d : T) (y x : K) (rest : List K)
         → AreChildren cmp (forest (map tree xs)) → child_first (forest (map tree xs)) i ≡ Some y → cmp y x ≡ Equal
         → lookup_in cmp (forest (map tree xs)) (x ∷ rest) ≡ lookup cmp (tree (get_or xs i d)) (x ∷ rest)
     lookup_in-at o [] i d y x rest a e h = none-some y e
-    lookup_in-at o (t ∷ ts) zero d y x rest a e h =
-        first-found o (tree t).prefix (tree t).value (tree t).children (forest (map tree ts)) y x rest a e h
+    lookup_in-at o (t ∷ ts) zero d y x rest a e h = grind (arith, first-found)
     lookup_in-at o (t ∷ ts) (suc i) d y x rest a e h =
         ap (λ m. or_else m (lookup_in cmp (forest (map tree ts)) (x ∷ rest)))
         (first-skipped o (tree t).prefix (tree t).value (tree t).children (forest (map tree ts)) i y x rest a e h)
@@ -101,8 +88,7 @@ module _ {K V : Type 0} (cmp : K → K → Ordering) where
     -- it begins with a component equal to x
     begins-at : (p : List K) (y x : K) → slice_get p 0 ≡ Some y → is_eq (cmp y x) ≡ true
         → same_key cmp (take 1 p) (x ∷ []) ≡ true
-    begins-at [] y x e h = none-some y e
-    begins-at (z ∷ p) y x e h = let k : z ≡ y = cc in rw (k, h) refl
+    begins-at p y x e h = grind arith
 
     -- it is found
     pub found-at : IsTotalOrder cmp → (xs : List T) (i : ℕ) (x : K) (child : T)

@@ -2,43 +2,39 @@
 --     above-at, rest-children, child_first-map        the first components of children
 --     children-ordered        they stand in order to each component
 --     place-found        a place in that order is one among them
-use Rattle.std.proofs.Common.{◌≡◌, ℕ, ◌<◌, ◌≤◌, [], ◌∷◌, List, Option, ◌⊎◌, None, Some, Result, Ok, Err, refl, sym}
-use Rattle.std.proofs.Common.{ap, ◌∙◌, arith, zero, suc, get_or, map, length, take, drop, inl, inr}
+use Rattle.std.proofs.Common.{◌≡◌, ℕ, ◌<◌, ◌≤◌, [], ◌∷◌, List, Option, ◌⊎◌, Some, Result, refl}
+use Rattle.std.proofs.Common.{arith, zero, suc, get_or, map, length, take, drop}
 use Rattle.std.specs.Cmp.{IsTotalOrder}
 use Rattle.std.specs.List.{AllByRecursion, HoldsAt}
-use Rattle.std.specs.Ordering.{is_eq, ordering_reverse}
+use Rattle.std.specs.Ordering.{is_eq}
 use Rattle.std.specs.Prelude.{slice_get, MatchResult, IsTrue}
 use Rattle.std.specs.declared.cmp.Ordering.{Ordering}
 use Rattle.std.specs.declared.cmp.Ordering.TheVariants.{Less, Equal, Greater}
 use Rattle.vc_merge.specs.Place.{IsOrdered, IsPlace}
-use Rattle.vc_tree_model.specs.Tree.{Tree, Forest, bare, grow, forest}
+use Rattle.vc_tree_model.specs.Tree.{Tree, Forest, grow, forest}
 use Rattle.vc_tree_model.specs.Canonical.{AllAbove, AreChildren}
 use Rattle.vc_tree_nodes.specs.Places.{child_first, first_side, BeginsAt, IsGapAt}
-use Rattle.vc_tree_model.proofs.KeyLemmas.{none-some, less}
+use Rattle.vc_tree_model.proofs.KeyLemmas.{less}
 
 module _ {K V : Type 0} (cmp : K → K → Ordering) where
   -- ---- the first components of children
 
   -- what begins above x is found above x
   pub above-at : (x : K) (f : Forest K V) (i : ℕ) (z : K) → AllAbove cmp x f → child_first f i ≡ Some z → cmp x z ≡ Less
-  above-at x bare i z a e = none-some z e
-  above-at x (grow [] v kids rest) i z a e = absurd a
-  above-at x (grow (y ∷ p) v kids rest) zero z a e = let k : z ≡ y = cc in ap (cmp x) k ∙ a.0
-  above-at x (grow (y ∷ p) v kids rest) (suc i) z a e = above-at x rest i z a.1 e
+  above-at x (grow (y ∷ p) v kids rest) (suc i) z a e = grind (arith, above-at x rest i z)
+  above-at x f i z a e = grind arith
 
   -- the trees beside a child are children
   pub rest-children : (p : List K) (v : Option V) (f rest : Forest K V) → AreChildren cmp (grow p v f rest)
       → AreChildren cmp rest
-  rest-children [] v f rest a = absurd a
-  rest-children (x ∷ p) v f rest a = a.3
+  rest-children p v f rest a = grind arith
 
   module _ {T : Type 0} (tree : T → Tree K V) where
     -- the first component at a place is that of the tree there
     pub child_first-map : (xs : List T) (i : ℕ) (d : T) → i < length xs
         → child_first (forest (map tree xs)) i ≡ slice_get (tree (get_or xs i d)).prefix 0
-    child_first-map [] i d h = absurd (omega arith)
-    child_first-map (t ∷ ts) zero d h = refl
-    child_first-map (t ∷ ts) (suc i) d h = child_first-map ts i d (omega arith)
+    child_first-map (t ∷ ts) (suc i) d h = grind (arith, child_first-map ts i d)
+    child_first-map xs i d h = grind arith
 
     -- ---- a component that is sought among them
 
@@ -50,27 +46,17 @@ module _ {K V : Type 0} (cmp : K → K → Ordering) where
       -- what is above a component that x is not above is greater than x
       each-greater : (y : K) (ts : List T) → ((z : K) → cmp y z ≡ Less → cmp z x ≡ Greater)
           → AllAbove cmp y (forest (map tree ts)) → AllByRecursion (λ t. side t ≡ Greater) ts
-      each-greater y [] f a = tt
-      each-greater y (t ∷ ts) f a = here (tree t).prefix (tree t).value (tree t).children a (each-greater y ts f)
-        where
-          here : (p : List K) (v : Option V) (kids : Forest K V) → AllAbove cmp y (grow p v kids (forest (map tree ts)))
-              → (AllAbove cmp y (forest (map tree ts)) → AllByRecursion (λ t. side t ≡ Greater) ts)
-              → (first_side cmp x (slice_get p 0) ≡ Greater) × AllByRecursion (λ t. side t ≡ Greater) ts
-          here [] v kids a rest = absurd a
-          here (z ∷ p) v kids a rest = (f z a.0, rest a.1)
+      each-greater y (t ∷ ts) f a = grind (arith, each-greater y ts)
+      each-greater y [] f a = grind arith
 
       -- what x is below stands greater to x
       above-greater : IsTotalOrder cmp → (z : K) → cmp x z ≡ Less → cmp z x ≡ Greater
-      above-greater o z e = o.antisymm z x ∙ ap ordering_reverse e
+      above-greater o z e = grind arith
 
       -- a tree is less, or those behind it are greater
       less-or_last : IsTotalOrder cmp → (y : K) (ts : List T) → AllAbove cmp y (forest (map tree ts)) → (r : Ordering)
           → cmp y x ≡ r → (cmp y x ≡ Less) ⊎ AllByRecursion (λ t. side t ≡ Greater) ts
-      less-or_last o y ts a Less e = inl e
-      less-or_last o y ts a Equal e =
-          inr (each-greater y ts (λ z h. above-greater o z (sym (o.congr y x z e) ∙ h)) a)
-      less-or_last o y ts a Greater e =
-          inr (each-greater y ts (λ z h. above-greater o z (o.trans x y z (less cmp o y x e) h)) a)
+      less-or_last o y ts a r e = grind (arith, each-greater, above-greater)
 
       -- children stand in order to a component
       pub children-ordered : IsTotalOrder cmp → (xs : List T) → AreChildren cmp (forest (map tree xs)) → IsOrdered side xs
@@ -86,20 +72,14 @@ module _ {K V : Type 0} (cmp : K → K → Ordering) where
 
       -- a first component that stands equal
       first-equal : (o : Option K) → first_side cmp x o ≡ Equal → (y : K) × ((o ≡ Some y) × IsTrue (is_eq (cmp y x)))
-      first-equal None e = absurd (not-equal e)
-        where
-          not-equal : ◌≡◌ {A = Ordering} Less Equal → ⊥
-          not-equal e = cc
-      first-equal (Some y) e = (y, (refl, ap is_eq e))
+      first-equal o e = grind arith
 
       -- the tree that stands equal begins with the component
       begins-found : (xs : List T) (i : ℕ) → i < length xs → HoldsAt (λ t. side t ≡ Equal) xs i
           → BeginsAt cmp (forest (map tree xs)) x i
       begins-found [] i h e = absurd (omega arith)
-      begins-found (t ∷ ts) zero h e =
-          let f = first-equal (slice_get (tree t).prefix 0) (e t) in record { here = f.0; at = f.1.0; equal = f.1.1 }
-      begins-found (t ∷ ts) (suc i) h e =
-          let b = begins-found ts i (omega arith) (λ d. e d) in record { here = b.here; at = b.at; equal = b.equal }
+      begins-found (t ∷ ts) zero h e = grind (arith, first-equal (slice_get (tree t).prefix 0) (e t))
+      begins-found (t ∷ ts) (suc i) h e = grind (arith, begins-found ts i)
 
       -- what is greater than the component is above it
       greater-above : IsTotalOrder cmp → (ts : List T) → AreChildren cmp (forest (map tree ts))
@@ -136,5 +116,4 @@ module _ {K V : Type 0} (cmp : K → K → Ordering) where
       pub place-found : IsTotalOrder cmp → (xs : List T) → AreChildren cmp (forest (map tree xs)) → (r : Result ℕ ℕ)
           → IsPlace side xs r
           → MatchResult r (BeginsAt cmp (forest (map tree xs)) x) (IsGapAt cmp (forest (map tree xs)) x)
-      place-found o xs a (Ok i) f = begins-found xs i f.within f.equal
-      place-found o xs a (Err i) g = gap-found o xs i a g.within g.less g.greater
+      place-found o xs a r f = grind (arith, begins-found, gap-found)

@@ -1,14 +1,13 @@
 -- Trees of the groups of a run, one behind the other, and the node above them.
-use Rattle.std.proofs.Common.{◌≡◌, ℕ, suc, ◌+◌, ◌-◌, ◌<◌, ◌≤◌, [], ◌∷◌, ◌++◌, List, ◌⊎◌, inl, inr, Option, None}
+use Rattle.std.proofs.Common.{◌≡◌, ℕ, suc, ◌+◌, ◌-◌, ◌<◌, ◌≤◌, [], ◌∷◌, ◌++◌, List, ◌⊎◌, Option, None}
 use Rattle.std.proofs.Common.{Some, refl, sym, ap, subst, ◌∙◌, arith, take, drop, length, map, true}
-use Rattle.std.proofs.Common.{cond, length-drop, length-append, get_or, Result, Ok, Err}
+use Rattle.std.proofs.Common.{cond, length-drop, length-append, get_or, Result}
 use Rattle.std.specs.Prelude.{IfOk, OnOk}
 use Rattle.std.proofs.lemmas.List.{take-append-drop, take-take}
 use Rattle.std.proofs.Math.ListN.{drop_of_length-le}
-use Rattle.std.specs.Cmp.{IsTotalOrder, alike_right}
-use Rattle.std.specs.Ordering.{is_eq}
+use Rattle.std.specs.Cmp.{IsTotalOrder}
 use Rattle.std.specs.declared.cmp.Ordering.{Ordering}
-use Rattle.std.specs.declared.cmp.Ordering.TheVariants.{Less, Equal, Greater}
+use Rattle.std.specs.declared.cmp.Ordering.TheVariants.{Less}
 use Rattle.vc_tree_model.specs.Canonical.{IsSolid, AllAbove, AreChildren}
 use Rattle.vc_tree_model.specs.Key.{same_key, behind, BeginsBelow}
 use Rattle.vc_tree_model.specs.Map.{or_else, node_lookup, lookup, lookup_in, or_else-none}
@@ -17,7 +16,7 @@ use Rattle.vc_tree_model.specs.Tree.{Tree, Forest, bare, grow, forest, node}
 use Rattle.vc_tree_nodes.specs.Ascending.{IsRunBehind, GoOnBehind, IsGroupOf, HeadAbove}
 use Rattle.vc_tree_nodes.specs.Ascending.{AllBelow, IsAdded, IsBuilt, FirstEnds, HasCommon, pairs_behind}
 use Rattle.vc_tree_model.proofs.KeyLemmas.{then_same, same-append, behind-same, same-itself}
-use Rattle.vc_tree_model.proofs.LookupLemmas.{lookup-other, lookup_in-empty, children-ordered}
+use Rattle.vc_tree_model.proofs.LookupLemmas.{lookup_in-empty, children-ordered}
 use Rattle.vc_tree_nodes.proofs.Runs.{first-of_three, bound-parted}
 use Rattle.vc_tree_nodes.proofs.Runs.{pairs-parted, group-within, group-further, on-run, same-middle}
 use Rattle.vc_tree_nodes.proofs.Runs.{drop-further, group-below, group-begins, group-on, AllAgree, all-agree}
@@ -31,9 +30,8 @@ module _ {K V T : Type 0} (tree : T → Tree K V) where
 
   -- two children make a node solid
   pub two-solid : (ts : List T) → 2 ≤ length ts → IsSolid None (forest (map tree ts))
-  two-solid [] w = absurd (omega arith)
-  two-solid (t ∷ []) w = absurd (omega arith)
   two-solid (t ∷ u ∷ ts) w = tt
+  two-solid ts w = grind arith
 
 module _ {K V : Type 0} (cmp : K → K → Ordering) where
   -- ---- one more tree behind the others
@@ -41,21 +39,11 @@ module _ {K V : Type 0} (cmp : K → K → Ordering) where
   -- two trees that begin with different components bind no key both
   apart : IsTotalOrder cmp → (p q : List K) (v w : Option V) (f g : Forest K V) (k : List K) → BeginsBelow cmp p q
       → (p ≡ [] → ⊥) → (lookup cmp (node p v f) k ≡ None) ⊎ (lookup cmp (node q w g) k ≡ None)
-  apart o [] q v w f g k h n = absurd (n refl)
-  apart o (x ∷ p) [] v w f g k h n = absurd h
-  apart o (x ∷ p) (y ∷ q) v w f g [] h n = inl refl
-  apart o (x ∷ p) (y ∷ q) v w f g (z ∷ k) h n = by (cmp y z) refl
-    where
-      by : (r : Ordering) → cmp y z ≡ r
-          → (lookup cmp (node (x ∷ p) v f) (z ∷ k) ≡ None) ⊎ (lookup cmp (node (y ∷ q) w g) (z ∷ k) ≡ None)
-      by Less e = inr (lookup-other cmp y z q k w g (ap is_eq e))
-      by Equal e = inl (lookup-other cmp x z p k v f (ap is_eq (sym (alike_right o y z x e) ∙ h)))
-      by Greater e = inr (lookup-other cmp y z q k w g (ap is_eq e))
+  apart o p q v w f g k h n = grind arith
 
   -- of two values that are not both there, either may be asked first
   asked-first : (a b c : Option V) → (a ≡ None) ⊎ (b ≡ None) → or_else a (or_else b c) ≡ or_else b (or_else a c)
-  asked-first a b c (inl e) = rw e refl
-  asked-first a b c (inr e) = rw e refl
+  asked-first a b c h = grind arith
 
   module _ {T : Type 0} (tree : T → Tree K V) where
     -- what the children stand for
@@ -65,22 +53,14 @@ module _ {K V : Type 0} (cmp : K → K → Ordering) where
     -- one more tree above a component
     above-more : (x : K) (ts : List T) (t : T) (y : K) (q : List K) → (tree t).prefix ≡ y ∷ q → cmp x y ≡ Less
         → AllAbove cmp x (kids ts) → AllAbove cmp x (kids (ts ++ t ∷ []))
-    above-more x [] t y q e h a =
-        subst (λ p. AllAbove cmp x (grow p (tree t).value (tree t).children bare)) (sym e) (h, tt)
-    above-more x (u ∷ ts) t y q e h a = here (tree u).prefix (above-more x ts t y q e h) a
-      where
-        here : (p : List K) → (AllAbove cmp x (kids ts) → AllAbove cmp x (kids (ts ++ t ∷ [])))
-            → AllAbove cmp x (grow p (tree u).value (tree u).children (kids ts))
-            → AllAbove cmp x (grow p (tree u).value (tree u).children (kids (ts ++ t ∷ [])))
-        here [] f a = absurd a
-        here (z ∷ p) f a = (a.0, f a.1)
+    above-more x (u ∷ ts) t y q e h a = grind (arith, above-more x ts t y q)
+    above-more x [] t y q e h a = grind arith
 
     -- one more child
     pub children-more : (ts : List T) (t : T) (y : K) (q : List K) → (tree t).prefix ≡ y ∷ q
         → IsSolid (tree t).value (tree t).children → AreChildren cmp (tree t).children → AreChildren cmp (kids ts)
         → AllBelow cmp (y ∷ q) (kids ts) → AreChildren cmp (kids (ts ++ t ∷ []))
-    children-more [] t y q e s c a b =
-        subst (λ p. AreChildren cmp (grow p (tree t).value (tree t).children bare)) (sym e) (s, c, tt, tt)
+    children-more [] t y q e s c a b = grind arith
     children-more (u ∷ ts) t y q e s c a b =
         here (tree u).prefix (λ d. children-more ts t y q e s c d b.1) a b.0
       where
@@ -151,8 +131,7 @@ module _ {K V : Type 0} (cmp : K → K → Ordering) where
       head-more : (d : ℕ) (ts : List T) (t : T) (rest : List R) → HeadAbove cmp key d (kids ts) rest
           → HeadAbove cmp key d (grow (tree t).prefix (tree t).value (tree t).children bare) rest
           → HeadAbove cmp key d (kids (ts ++ t ∷ [])) rest
-      head-more d ts t [] a b = tt
-      head-more d ts t (r ∷ rest) a b = below-more (drop d (key r)) ts t b.0 a
+      head-more d ts t rest a b = grind (arith, below-more)
 
       -- the tree of one more group
       pub groups-more : IsTotalOrder cmp → (d : ℕ) (run : List R) (values : List V) (old : List T) (rest : List R)
@@ -189,22 +168,6 @@ module _ {K V : Type 0} (cmp : K → K → Ordering) where
             more = λ h. omega (arith, one, s.as_many);
           }
 
-      -- before the first group
-      pub groups-none : (d : ℕ) (run : List R) (values : List V) (old : List T) → GoOnBehind cmp key common d run
-          → length run ≤ length values → AreChildren cmp (kids old) → HeadAbove cmp key d (kids old) run
-          → GroupsSoFar d run values old run values old
-      groups-none d run values old b e c a = record {
-        within = omega arith;
-        behind = b;
-        enough = e;
-        left_is = refl;
-        children = c;
-        above = a;
-        bound = λ k. refl;
-        as_many = omega arith;
-        more = λ h. absurd (omega (arith, h));
-      }
-
   -- ---- the node above the groups
 
   -- what pairs bind at what is left of a key, if anything is
@@ -213,17 +176,12 @@ module _ {K V : Type 0} (cmp : K → K → Ordering) where
   at_left f (Some k) = f k
 
   module _ {R : Type 0} (key : R → List K) (common : R → ℕ) (o : IsTotalOrder cmp) where
-    -- nothing is bound where there are no pairs
-    left-none : (l : Option (List K)) → at_left (λ k. None) l ≡ None
-    left-none None = refl
-    left-none (Some k) = refl
-
     -- the pairs behind d components bind what those behind m do, at what is left behind the components between
     behind-front : (d m : ℕ) (a : List K) (run : List R) (vs : List V) (k : List K) → d ≤ m → AllAgree cmp key common m a run
         → last_bound cmp (pairs_behind key d run vs) k
         ≡ at_left (last_bound cmp (pairs_behind key m run vs)) (behind cmp (take (m - d) (drop d a)) k)
-    behind-front d m a [] vs k h g = sym (left-none (behind cmp (take (m - d) (drop d a)) k))
-    behind-front d m a (r ∷ run) [] k h g = sym (left-none (behind cmp (take (m - d) (drop d a)) k))
+    behind-front d m a [] vs k h g = grind arith
+    behind-front d m a (r ∷ run) [] k h g = grind arith
     behind-front d m a (r ∷ run) (v ∷ vs) k h g =
         let parts : drop d (key r) ≡ take (m - d) (drop d (key r)) ++ drop m (key r) =
         sym (ap (λ l. take (m - d) (drop d (key r)) ++ l) (sym (drop-further d m (key r) h))
@@ -301,8 +259,6 @@ module _ {K V : Type 0} (cmp : K → K → Ordering) where
     pub built-one : (d : ℕ) (run : List R) (values left : List V) (x : R) (k : List K) (v : V) (t : Tree K V)
         → length run ≡ 1 → values ≡ v ∷ left → k ≡ key (get_or run 0 x)
         → t ≡ node (take (length k - d) (drop d k)) (Some v) bare → IsBuilt cmp key common d run values t
-    built-one d [] values left x k v t e f g h = absurd (omega (arith, e))
-    built-one d (q ∷ r ∷ run) values left x k v t e f g h = absurd (omega (arith, e))
     built-one d (r ∷ []) values left x k v t e f g h =
         let is : t ≡ node (drop d (key r)) (Some v) bare =
         h ∙ ap (λ l. node l (Some v) bare) (left-all k d ∙ ap (drop d) g) in
@@ -312,6 +268,7 @@ module _ {K V : Type 0} (cmp : K → K → Ordering) where
           children = tt;
           begins = λ w c. refl;
         }
+    built-one d run values left x k v t e f g h = grind arith
 
     module _ {T : Type 0} (tree : T → Tree K V) where
       -- the tree of keys of which the first one ends where they part
@@ -359,8 +316,7 @@ module _ {K V : Type 0} (cmp : K → K → Ordering) where
     module _ {T : Type 0} (tree : T → Tree K V) where
       -- the keys begin above no trees
       pub above-none : (m : ℕ) (run : List R) (ts : List T) → ts ≡ [] → HeadAbove cmp key m (forest (map tree ts)) run
-      above-none m [] ts e = tt
-      above-none m (r ∷ run) ts e = rw e tt
+      above-none m run ts e = grind arith
 
       -- the tree of a group alone
       pub children-one : (d n : ℕ) (run group : List R) (values : List V) (ts : List T) (t : T)
@@ -403,8 +359,7 @@ module _ {K V : Type 0} (cmp : K → K → Ordering) where
     -- behind the first key's, those of the others are taken
     pub left-ended : (run rest : List R) (values left after : List V) (v : V) → 0 < length run → values ≡ v ∷ left
         → rest ≡ drop 1 run → after ≡ drop (length rest) left → after ≡ drop (length run) values
-    left-ended [] rest values left after v w e f h = absurd (omega arith)
-    left-ended (r ∷ run) rest values left after v w e f h = rw (e, h, f) refl
+    left-ended run rest values left after v w e f h = grind arith
 
     -- behind those of a group, those of the others are taken
     pub left-open : (n : ℕ) (run : List R) (values left after : List V) → n ≤ length run → left ≡ drop n values
@@ -415,10 +370,8 @@ module _ {K V : Type 0} (cmp : K → K → Ordering) where
 
 -- what follows of the value of an Ok
 pub if-ok : {A E : Type 0} (r : Result A E) {P Q : A → Type 0} → ((a : A) → P a → Q a) → IfOk r P → IfOk r Q
-if-ok (Ok a) f h = f a h
-if-ok (Err e) f h = tt
+if-ok r f h = grind arith
 
 -- what holds in any case
 pub on-any : {A E : Type 0} (r : Result A E) {P : Type 0} → P → OnOk r P
-on-any (Ok a) h = h
-on-any (Err e) h = tt
+on-any r h = grind arith

@@ -1,10 +1,10 @@
 -- What an insertion keeps of the shape of a tree.
 --     alike-first        the first components of lists that are alike
---     solid-whole, whole_solid, not-bare_solid        a value or at least two children
+--     solid-whole, not-bare_solid        a value or at least two children
 --     solid-insert, children-insert, gap-within, gap-alike        one more tree of a list
 --     solid-length, children-set, alike-set        one tree of a list is changed
-use Rattle.std.proofs.Common.{◌≡◌, ℕ, zero, suc, ◌≤◌, [], ◌∷◌, List, Option, None, Some, refl, sym, ap, subst, ◌∙◌}
-use Rattle.std.proofs.Common.{arith, false, get_or, set, map, take, length, true≢false}
+use Rattle.std.proofs.Common.{◌≡◌, ℕ, zero, suc, ◌≤◌, [], ◌∷◌, List, Option, None, Some, refl}
+use Rattle.std.proofs.Common.{arith, false, get_or, set, map, take, length}
 use Rattle.std.specs.List.{insert}
 use Rattle.std.specs.Prelude.{slice_get}
 use Rattle.std.specs.declared.cmp.Ordering.{Ordering}
@@ -15,37 +15,24 @@ use Rattle.vc_tree_model.specs.Same.{IsAlike, IsAlikeIn}
 use Rattle.vc_tree_nodes.specs.Places.{IsGapAt, child_first}
 use Rattle.vc_tree_nodes.specs.Growth.{IsGrown}
 use Rattle.vc_tree_model.specs.Snapshot.{alike_refl, kept_itself}
-use Rattle.vc_tree_model.proofs.KeyLemmas.{none-some}
 use Rattle.vc_tree_model.proofs.AlikeLemmas.{alike-above}
 
 module _ {K V : Type 0} (keeps : V → V → Type 0) where
   -- alike lists have one first component at each place
   pub alike-first : (f g : Forest K V) (i : ℕ) → IsAlikeIn keeps f g → child_first f i ≡ child_first g i
-  alike-first bare bare i h = refl
-  alike-first bare (grow q w more others) i h = absurd h
-  alike-first (grow p v kids rest) bare i h = absurd h
-  alike-first (grow p v kids rest) (grow q w more others) zero h = ap (λ l. slice_get l 0) h.0
-  alike-first (grow p v kids rest) (grow q w more others) (suc i) h = alike-first rest others i h.3
+  alike-first (grow p v kids rest) (grow q w more others) (suc i) h = grind (arith, alike-first rest others i)
+  alike-first f g i h = grind arith
 
 module _ {K V : Type 0} where
   -- ---- a value or at least two children
 
   -- what is solid may be the whole tree
   pub solid-whole : (p : List K) (v : Option V) (f : Forest K V) → IsSolid v f → IsWhole p v f
-  solid-whole [] None bare s = absurd s
-  solid-whole [] None (grow q w more rest) s = s
-  solid-whole [] (Some v) f s = s
-  solid-whole (x ∷ p) v f s = s
+  solid-whole p v f s = grind arith
 
   -- the whole tree is solid where it is not the empty one
   pub not-bare_solid : (t : Tree K V) → IsWhole t.prefix t.value t.children → is_bare t ≡ false → IsSolid t.value t.children
-  not-bare_solid t w n = by t.prefix t.value t.children w n
-    where
-      by : (p : List K) (v : Option V) (f : Forest K V) → IsWhole p v f → is_bare (node p v f) ≡ false → IsSolid v f
-      by p (Some v) f w n = tt
-      by p None bare w n = absurd (true≢false n)
-      by [] None (grow q w more rest) h n = h
-      by (x ∷ p) None (grow q w more rest) h n = h
+  not-bare_solid t w n = grind arith
 
   module _ {T : Type 0} (tree : T → Tree K V) where
     -- one more tree beside another makes two
@@ -59,19 +46,14 @@ module _ {K V : Type 0} where
     -- one more tree of a list leaves it solid
     pub solid-insert : (v : Option V) (ts : List T) (i : ℕ) (item : T) → IsSolid v (forest (map tree ts))
         → IsSolid v (forest (map tree (insert ts i item)))
-    solid-insert (Some v) ts i item s = tt
-    solid-insert None [] i item s = absurd s
-    solid-insert None (t ∷ ts) i item s = pair-solid t ts i item
+    solid-insert v ts i item s = grind (arith, pair-solid)
 
     -- as many trees are as solid
     pub solid-length : (v : Option V) (xs ys : List T) → length xs ≡ length ys → IsSolid v (forest (map tree xs))
         → IsSolid v (forest (map tree ys))
     solid-length (Some v) xs ys e s = tt
-    solid-length None [] ys e s = absurd s
-    solid-length None (x ∷ []) ys e s = absurd s
-    solid-length None (x ∷ x' ∷ xs) [] e s = absurd (omega arith)
-    solid-length None (x ∷ x' ∷ xs) (y ∷ []) e s = absurd (omega arith)
     solid-length None (x ∷ x' ∷ xs) (y ∷ y' ∷ ys) e s = tt
+    solid-length v xs ys e s = grind arith
 
   module _ (cmp : K → K → Ordering) where
     -- a tree that is solid over canonical children is canonical
@@ -85,85 +67,50 @@ module _ {K V : Type 0} where
     pub gap-alike : (keeps : V → V → Type 0) (f g : Forest K V) (x : K) (i : ℕ) → IsAlikeIn keeps f g
         → IsGapAt cmp f x i → IsGapAt cmp g x i
     gap-alike keeps f g x zero a gap = alike-above keeps cmp x f g a gap
-    gap-alike keeps bare g x (suc i) a gap = absurd gap
-    gap-alike keeps (grow [] v kids rest) g x (suc i) a gap = absurd gap
-    gap-alike keeps (grow (y ∷ p) v kids rest) bare x (suc i) a gap = absurd a
     gap-alike keeps (grow (y ∷ p) v kids rest) (grow q w more others) x (suc i) a gap =
-        rw (← a.0) (gap.0, gap-alike keeps rest others x i a.3 gap.1)
-
-    -- a tree that begins above x stays so under a longer prefix
-    above-head : (x : K) (p q : List K) (v w : Option V) (f g rest : Forest K V) → slice_get q 0 ≡ slice_get p 0
-        → AllAbove cmp x (grow p v f rest) → AllAbove cmp x (grow q w g rest)
-    above-head x [] q v w f g rest e a = absurd a
-    above-head x (z ∷ p) [] v w f g rest e a = none-some z e
-    above-head x (z ∷ p) (z' ∷ q) v w f g rest e a = let k : z' ≡ z = cc in (ap (cmp x) k ∙ a.0, a.1)
+        grind (arith, gap-alike keeps rest others x i)
+    gap-alike keeps f g x i a gap = grind arith
 
     -- a place behind the first tree is one among the others
     gap-later : (p : List K) (v : Option V) (kids rest : Forest K V) (x : K) (i : ℕ)
         → IsGapAt cmp (grow p v kids rest) x (suc i) → IsGapAt cmp rest x i
-    gap-later [] v kids rest x i gap = absurd gap
-    gap-later (y ∷ p) v kids rest x i gap = gap.1
-
-    -- trees above x stay so where the later ones do
-    above-later : (x : K) (p : List K) (v : Option V) (kids rest more : Forest K V)
-        → (AllAbove cmp x rest → AllAbove cmp x more) → AllAbove cmp x (grow p v kids rest)
-        → AllAbove cmp x (grow p v kids more)
-    above-later x [] v kids rest more h a = absurd a
-    above-later x (y ∷ p) v kids rest more h a = (a.0, h a.1)
+    gap-later p v kids rest x i gap = grind arith
 
     -- canonical children stay so where the later ones do
     children-later : (p : List K) (v : Option V) (kids rest more : Forest K V)
         → ((y : K) → slice_get p 0 ≡ Some y → AllAbove cmp y rest → AllAbove cmp y more)
         → (AreChildren cmp rest → AreChildren cmp more) → AreChildren cmp (grow p v kids rest)
         → AreChildren cmp (grow p v kids more)
-    children-later [] v kids rest more h k a = absurd a
-    children-later (y ∷ p) v kids rest more h k a = (a.0, a.1, h y refl a.2, k a.3)
+    children-later p v kids rest more h k a = grind arith
 
     -- what a tree begins with is below a place behind it
     gap-first : (p : List K) (v : Option V) (kids rest : Forest K V) (x : K) (i : ℕ) (y : K)
         → IsGapAt cmp (grow p v kids rest) x (suc i) → slice_get p 0 ≡ Some y → cmp y x ≡ Less
-    gap-first [] v kids rest x i y gap e = absurd gap
-    gap-first (z ∷ p) v kids rest x i y gap e = let k : y ≡ z = cc in ap (λ m. cmp m x) k ∙ gap.0
+    gap-first p v kids rest x i y gap e = grind arith
 
     module _ {T : Type 0} (tree : T → Tree K V) where
       -- a place among trees is within the list
       pub gap-within : (ts : List T) (x : K) (i : ℕ) → IsGapAt cmp (forest (map tree ts)) x i → i ≤ length ts
       gap-within ts x zero gap = omega arith
       gap-within [] x (suc i) gap = absurd gap
-      gap-within (t ∷ ts) x (suc i) gap =
-          let r =
-          gap-within ts x i (gap-later (tree t).prefix (tree t).value (tree t).children (forest (map tree ts)) x i
-          gap) in omega (arith, r)
+      gap-within (t ∷ ts) x (suc i) gap = grind (arith, gap-within ts x i)
 
       -- the trees and one more above x are above x
       above-insert : (x : K) (ts : List T) (i : ℕ) (item : T)
           → AllAbove cmp x (grow (tree item).prefix (tree item).value (tree item).children bare)
           → AllAbove cmp x (forest (map tree ts)) → AllAbove cmp x (forest (map tree (insert ts i item)))
-      above-insert x ts zero item a b = first (tree item).prefix (tree item).value (tree item).children a
-        where
-          first : (p : List K) (v : Option V) (kids : Forest K V) → AllAbove cmp x (grow p v kids bare)
-              → AllAbove cmp x (grow p v kids (forest (map tree ts)))
-          first [] v kids a = absurd a
-          first (y ∷ p) v kids a = (a.0, b)
+      above-insert x ts zero item a b = grind arith
       above-insert x [] (suc i) item a b = a
-      above-insert x (t ∷ ts) (suc i) item a b =
-          above-later x (tree t).prefix (tree t).value (tree t).children (forest (map tree ts))
-          (forest (map tree (insert ts i item))) (above-insert x ts i item a) b
+      above-insert x (t ∷ ts) (suc i) item a b = grind (arith, above-insert x ts i item)
 
       -- canonical children and a leaf at its place are canonical children
       pub children-insert : (ts : List T) (i : ℕ) (item : T) (y : K) (q : List K) (value : V)
           → tree item ≡ node (y ∷ q) (Some value) bare → IsGapAt cmp (forest (map tree ts)) y i
           → AreChildren cmp (forest (map tree ts)) → AreChildren cmp (forest (map tree (insert ts i item)))
-      children-insert ts zero item y q value e gap a =
-          subst (λ t. AreChildren cmp (grow t.prefix t.value t.children (forest (map tree ts)))) (sym e) (tt, tt, gap, a)
+      children-insert ts zero item y q value e gap a = grind arith
       children-insert [] (suc i) item y q value e gap a = absurd gap
       children-insert (t ∷ ts) (suc i) item y q value e gap a =
-          children-later (tree t).prefix (tree t).value (tree t).children (forest (map tree ts))
-          (forest (map tree (insert ts i item)))
-          (λ z f. above-insert z ts i item (subst (λ t. AllAbove cmp z (grow t.prefix t.value t.children bare))
-          (sym e) (gap-first (tree t).prefix (tree t).value (tree t).children (forest (map tree ts)) y i z gap f, tt)))
-          (children-insert ts i item y q value e (gap-later (tree t).prefix (tree t).value (tree t).children
-          (forest (map tree ts)) y i gap)) a
+          grind (arith, children-insert ts i item y q value, children-later, above-insert, gap-first, gap-later)
 
       -- ---- one tree of a list is changed
 
@@ -171,35 +118,18 @@ module _ {K V : Type 0} where
       above-set : (x : K) (ts : List T) (i : ℕ) (item d : T)
           → slice_get (tree item).prefix 0 ≡ slice_get (tree (get_or ts i d)).prefix 0
           → AllAbove cmp x (forest (map tree ts)) → AllAbove cmp x (forest (map tree (set ts i item)))
-      above-set x [] i item d e a = a
-      above-set x (t ∷ ts) zero item d e a =
-          above-head x (tree t).prefix (tree item).prefix (tree t).value (tree item).value (tree t).children
-          (tree item).children (forest (map tree ts)) e a
-      above-set x (t ∷ ts) (suc i) item d e a =
-          above-later x (tree t).prefix (tree t).value (tree t).children (forest (map tree ts))
-          (forest (map tree (set ts i item))) (above-set x ts i item d e) a
+      above-set x (t ∷ ts) (suc i) item d e a = grind (arith, above-set x ts i item d)
+      above-set x ts i item d e a = grind arith
 
       -- one component taken from two lists is the first of both
       take-first : (p q : List K) → take 1 q ≡ take 1 p → slice_get q 0 ≡ slice_get p 0
-      take-first [] [] e = refl
-      take-first [] (y ∷ q) e = absurd (omega (arith, ap length e))
-      take-first (x ∷ p) [] e = absurd (omega (arith, ap length e))
-      take-first (x ∷ p) (y ∷ q) e = let k : y ≡ x = cc in ap Some k
+      take-first p q e = grind arith
 
       -- canonical children stay so where one of them grows
       pub children-set : (ts : List T) (i : ℕ) (item d : T) → IsGrown cmp 1 (tree (get_or ts i d)) (tree item)
           → AreChildren cmp (forest (map tree ts)) → AreChildren cmp (forest (map tree (set ts i item)))
       children-set [] i item d g a = a
-      children-set (t ∷ ts) zero item d g a =
-          head (tree t).prefix (tree item).prefix (tree t).value (tree t).children
-          (take-first (tree t).prefix (tree item).prefix g.begins) a
-        where
-          head : (p q : List K) (v : Option V) (kids : Forest K V) → slice_get q 0 ≡ slice_get p 0
-              → AreChildren cmp (grow p v kids (forest (map tree ts)))
-              → AreChildren cmp (grow q (tree item).value (tree item).children (forest (map tree ts)))
-          head [] q v kids e a = absurd a
-          head (y ∷ p) [] v kids e a = none-some y e
-          head (y ∷ p) (z ∷ q) v kids e a = let k : z ≡ y = cc in rw k (g.solid, g.children, a.2, a.3)
+      children-set (t ∷ ts) zero item d g a = grind arith
       children-set (t ∷ ts) (suc i) item d g a =
           children-later (tree t).prefix (tree t).value (tree t).children (forest (map tree ts))
           (forest (map tree (set ts i item)))

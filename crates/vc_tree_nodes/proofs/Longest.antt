@@ -6,7 +6,7 @@
 --     found-value, found-longest        what was found is the cover, and the longest key by its length
 --     covers-empty, covers-none, covers-child        what children cover of what is left of a path
 use Rattle.std.proofs.Common.{◌≡◌, ℕ, ◌+◌, ◌-◌, ◌≤◌, [], ◌∷◌, List, Option, None, Some, true, length, take, refl, sym}
-use Rattle.std.proofs.Common.{ap, subst, ◌∙◌, arith}
+use Rattle.std.proofs.Common.{ap, ◌∙◌, arith}
 use Rattle.std.specs.Borrow.{Bor}
 use Rattle.std.specs.Option.{option_map}
 use Rattle.std.specs.Cmp.{IsTotalOrder}
@@ -27,13 +27,12 @@ use Rattle.vc_tree_nodes.proofs.Descending.{behind-length}
 
 -- of three the first that is there
 else-assoc : {W : Type 0} (a b c : Option W) → or_else (or_else a b) c ≡ or_else a (or_else b c)
-else-assoc None b c = refl
-else-assoc (Some u) b c = refl
+else-assoc a b c = grind arith
 
 -- no more is left of the path behind a prefix of the rest
 pub left-within : {K : Type 0} (cmp : K → K → Ordering) (path rest p left : List K) → length rest ≤ length path
     → behind cmp p rest ≡ Some left → length left ≤ length path
-left-within cmp path rest p left h e = let long = behind-length cmp p rest left e in omega (arith, long, h)
+left-within cmp path rest p left h e = grind (arith, behind-length cmp p rest left e)
 
 -- what was found so far: how many components the key has, and its value
 abbrev pub shown : {W : Type 0} → Option (ℕ × Bor W) → Option (ℕ × W)
@@ -112,7 +111,7 @@ module _ {K W : Type 0} (cmp : K → K → Ordering) where
   module _ (f : Forest K W) (a : AreChildren cmp f) (n : ℕ) where
     -- children bind no empty key
     none-empty : sized n (lookup_in cmp f) [] ≡ None
-    none-empty = ap (beside (n + 0)) (lookup_in-empty cmp f (children-ordered cmp f a))
+    none-empty = grind (arith, lookup_in-empty, children-ordered)
 
     -- they cover nothing of the empty path
     pub covers-empty : (path : List K) → slice_get path 0 ≡ None → cover (sized n (lookup_in cmp f)) path ≡ None
@@ -123,11 +122,7 @@ module _ {K W : Type 0} (cmp : K → K → Ordering) where
     pub covers-none : (x : K) (path : List K) → slice_get path 0 ≡ Some x → IsNoChild cmp f x
         → cover (sized n (lookup_in cmp f)) path ≡ None
     covers-none x [] e none = none-some x e
-    covers-none x (y ∷ others) e none =
-        let first : y ≡ x = cc in
-        cover-below (sized n (lookup_in cmp f)) (λ r. None) y others none-empty refl
-        (λ r. ap (beside (n + length (y ∷ r))) (ap (λ z. lookup_in cmp f (z ∷ r)) first ∙ none r))
-        ∙ cover-none (λ r. None) (λ r. refl) (y ∷ others)
+    covers-none x (y ∷ others) e none = grind (arith, cover-below, none-empty, cover-none)
 
     -- one does
     pub covers-child : (x : K) (path : List K) (child : Tree K W) → slice_get path 0 ≡ Some x → IsFoundChild cmp f x child
@@ -149,19 +144,11 @@ module _ {K W : Type 0} (cmp : K → K → Ordering) (o : IsTotalOrder cmp) (t :
   -- what was found covers the path
   pub found-value : (r : Option (ℕ × Bor W)) → shown r ≡ cover (sized 0 (lookup cmp t)) path
       → option_map (λ b. b.1.now) r ≡ cover (lookup cmp t) path
-  found-value r e = without r ∙ ap (option_map (λ b. b.1)) e ∙ cover-value 0 (lookup cmp t) path
-    where
-      without : (r : Option (ℕ × Bor W)) → option_map (λ b. b.1.now) r ≡ option_map (λ b. b.1) (shown r)
-      without None = refl
-      without (Some b) = refl
+  found-value r e = grind (arith, cover-value 0 (lookup cmp t) path)
 
   -- it is the longest key, by its length
   pub found-longest : (r : Option (ℕ × Bor W)) → shown r ≡ cover (sized 0 (lookup cmp t)) path
       → IfSome r (λ b. (b.0 ≤ length path) × IsLongestCover cmp (lookup cmp t) path (take b.0 path) b.1.now)
   found-longest None e = tt
   found-longest (Some b) e =
-      let l = longest-at cmp o 0 (lookup cmp t) (lookup-same cmp o t) path b.0 b.1.now (sym e) in
-      let same : l.count ≡ b.0 = omega (arith, l.behind) in (
-        omega (arith, l.within, same),
-        subst (λ n. IsLongestCover cmp (lookup cmp t) path (take n path) b.1.now) same l.longest,
-      )
+      grind (arith, longest-at cmp o 0 (lookup cmp t) (lookup-same cmp o t) path b.0 b.1.now (sym e), lookup-same cmp o t)

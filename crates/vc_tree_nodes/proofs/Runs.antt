@@ -1,113 +1,69 @@
 -- Runs of keys that ascend, in parts.
---     below-trans, below-within, equal-below, first-below, alike-below        which key begins below another
+--     below-within, equal-below, alike-below        which key begins below another
 --     pairs-parted, bound-parted        the pairs of two parts
 --     group-run, group-within, group-rest, group-below        a group, and the keys behind it
 --     group-found, least-new, least-stays        how a group and the least number in common are found
 --     last-front, keep-grows, keep-binds, yielded-more        pairs that are kept
-use Rattle.std.proofs.Common.{◌≡◌, ◌≢◌, ℕ, zero, suc, ◌+◌, ◌-◌, ◌<◌, ◌≤◌, [], ◌∷◌, ◌++◌, List, inl, inr, Option, None}
+use Rattle.std.proofs.Common.{◌≡◌, ℕ, zero, suc, ◌+◌, ◌-◌, ◌<◌, ◌≤◌, [], ◌∷◌, ◌++◌, List, inl, inr, Option, None}
 use Rattle.std.proofs.Common.{Some, Bool, refl, sym, ap, subst, ◌∙◌, arith, take, drop, length, map, true, false}
-use Rattle.std.proofs.Common.{true≢false, cond, get_or, add-one, length-drop, length-append}
+use Rattle.std.proofs.Common.{true≢false, cond, get_or, length-drop, length-append}
 use Rattle.std.proofs.lemmas.List.{take_all, map-append}
 use Rattle.std.proofs.Math.Seq.{drop-nil}
-use Rattle.std.specs.Cmp.{IsTotalOrder, Equal-is}
+use Rattle.std.specs.Cmp.{IsTotalOrder}
 use Rattle.std.specs.Ordering.{is_eq}
 use Rattle.std.specs.declared.cmp.Ordering.{Ordering}
 use Rattle.std.specs.declared.cmp.Ordering.TheVariants.{Less}
 use Rattle.vc_tree_model.specs.Key.{same_key, BeginsBelow}
 use Rattle.vc_tree_model.specs.Tree.{Tree, Forest, bare, grow, node}
-use Rattle.vc_tree_model.specs.Map.{or_else, lookup, or_else-none, IsUpdated}
+use Rattle.vc_tree_model.specs.Map.{or_else, lookup, IsUpdated}
 use Rattle.vc_tree_model.specs.Pairs.{last_bound, IsCollected}
 use Rattle.vc_tree_nodes.specs.Ascending.{Follows, HasCommon, HaveCommon, IsGroup, RunsOn, IsRunBehind, pairs_behind}
 use Rattle.vc_tree_nodes.specs.Ascending.{AllBelow, GoOnBehind, IsGroupOf, HeadAbove, BeginsAs, FirstEnds}
 use Rattle.vc_tree_nodes.specs.Ascending.{IsAscending, FollowsLast, BindsMore, MayGrow, gathered}
-use Rattle.vc_tree_model.specs.Value.{IsKept}
 use Rattle.vc_tree_nodes.specs.Parting.{Agree, PartsAt}
 use Rattle.std.specs.Prelude.{slice_get, nat_eq, IfSome}
-use Rattle.vc_tree_model.proofs.KeyLemmas.{none-some, both-true, same-flip, same-trans}
+use Rattle.vc_tree_model.proofs.KeyLemmas.{both-true, same-flip, same-trans}
 
 module _ {K : Type 0} (cmp : K → K → Ordering) where
   -- ---- which key begins below another
 
-  -- below what is below
-  pub below-trans : IsTotalOrder cmp → (j k l : List K) → BeginsBelow cmp j k → BeginsBelow cmp k l → BeginsBelow cmp j l
-  below-trans o [] [] l h g = absurd h
-  below-trans o [] (y ∷ k) [] h g = absurd g
-  below-trans o [] (y ∷ k) (z ∷ l) h g = tt
-  below-trans o (x ∷ j) [] l h g = absurd h
-  below-trans o (x ∷ j) (y ∷ k) [] h g = absurd g
-  below-trans o (x ∷ j) (y ∷ k) (z ∷ l) h g = o.trans x y z h g
-
-  -- nothing begins below what has ended
-  below-none : (k : List K) → BeginsBelow cmp k [] → ⊥
-  below-none [] h = h
-  below-none (x ∷ k) h = h
-
   -- what a key begins below has not ended
   pub below-within : (n : ℕ) (k j : List K) → BeginsBelow cmp k (drop n j) → n < length j
-  below-within zero k [] h = absurd (below-none k h)
-  below-within zero k (y ∷ j) h = omega arith
-  below-within (suc n) k [] h = absurd (below-none k h)
-  below-within (suc n) k (y ∷ j) h = let r = below-within n k j h in omega (arith, r)
+  below-within (suc n) k (y ∷ j) h = grind (arith, below-within n k j)
+  below-within n k j h = grind arith
 
   -- a key that agrees beyond a place begins there below what the other does
   pub equal-below : IsTotalOrder cmp → (m n : ℕ) (a b l : List K) → same_key cmp (take n a) (take n b) ≡ true → m < n
       → n ≤ length a → BeginsBelow cmp (drop m b) l → BeginsBelow cmp (drop m a) l
-  equal-below o m zero a b l s h w g = absurd (omega arith)
-  equal-below o m (suc n) [] b l s h w g = absurd (omega arith)
-  equal-below o m (suc n) (x ∷ a) [] l s h w g = absurd (true≢false (sym s))
-  equal-below o zero (suc n) (x ∷ a) (y ∷ b) [] s h w g = absurd g
-  equal-below o zero (suc n) (x ∷ a) (y ∷ b) (z ∷ l) s h w g =
-      let both = both-true (is_eq (cmp x y)) (same_key cmp (take n a) (take n b)) s in
-      o.congr x y z ((Equal-is (cmp x y)).0 both.0) ∙ g
+  equal-below o zero (suc n) (x ∷ a) (y ∷ b) (z ∷ l) s h w g = grind arith
   equal-below o (suc m) (suc n) (x ∷ a) (y ∷ b) l s h w g =
       let both = both-true (is_eq (cmp x y)) (same_key cmp (take n a) (take n b)) s in
       equal-below o m n a b l both.1 (omega arith) (omega arith) g
-
-  -- below what begins alike
-  pub first-below : (j k l : List K) → take 1 k ≡ take 1 l → BeginsBelow cmp j k → BeginsBelow cmp j l
-  first-below j [] l e h = absurd (below-none j h)
-  first-below j (y ∷ k) [] e h = absurd (omega (arith, ap length e))
-  first-below [] (y ∷ k) (z ∷ l) e h = tt
-  first-below (x ∷ j) (y ∷ k) (z ∷ l) e h = let f : y ≡ z = cc in ap (cmp x) (sym f) ∙ h
+  equal-below o m n a b l s h w g = grind arith
 
   -- what begins alike is below the same
   pub alike-below : (j k l : List K) → take 1 j ≡ take 1 k → BeginsBelow cmp k l → BeginsBelow cmp j l
-  alike-below [] [] l e h = h
-  alike-below [] (y ∷ k) l e h = absurd (omega (arith, ap length e))
-  alike-below (x ∷ j) [] l e h = absurd (omega (arith, ap length e))
-  alike-below (x ∷ j) (y ∷ k) [] e h = h
-  alike-below (x ∷ j) (y ∷ k) (z ∷ l) e h = let f : x ≡ y = cc in ap (λ m. cmp m z) f ∙ h
+  alike-below j k l e h = grind arith
 
   -- ---- two keys behind a place
 
   -- keys that agree up to n agree between d and n
   pub same-middle : (d n : ℕ) (a b : List K) → same_key cmp (take n a) (take n b) ≡ true → d ≤ n
       → same_key cmp (take (n - d) (drop d a)) (take (n - d) (drop d b)) ≡ true
-  same-middle zero n a b s h = let e : n - 0 ≡ n = omega arith in rw e s
-  same-middle (suc d) zero a b s h = absurd (omega arith)
+  same-middle zero n a b s h = grind arith
   same-middle (suc d) (suc n) [] [] s h = let e : suc n - suc d ≡ n - d = omega arith in rw e (none (n - d))
     where
       none : (i : ℕ) → same_key cmp (take i []) (take i []) ≡ true
       none zero = refl
       none (suc i) = refl
-  same-middle (suc d) (suc n) [] (y ∷ b) s h = absurd (true≢false (sym s))
-  same-middle (suc d) (suc n) (x ∷ a) [] s h = absurd (true≢false (sym s))
-  same-middle (suc d) (suc n) (x ∷ a) (y ∷ b) s h =
-      let e : suc n - suc d ≡ n - d = omega arith in
-      rw e (same-middle d n a b (both-true (is_eq (cmp x y)) (same_key cmp (take n a) (take n b)) s).1 (omega arith))
+  same-middle (suc d) (suc n) (x ∷ a) (y ∷ b) s h = grind (arith, same-middle d n a b)
+  same-middle d n a b s h = grind arith
 
   -- keys that agree up to n agree up to a place before it
   pub same-shorter : (m n : ℕ) (a b : List K) → same_key cmp (take n a) (take n b) ≡ true → m ≤ n
       → same_key cmp (take m a) (take m b) ≡ true
-  same-shorter zero n a b s h = refl
-  same-shorter (suc m) zero a b s h = absurd (omega arith)
-  same-shorter (suc m) (suc n) [] [] s h = refl
-  same-shorter (suc m) (suc n) [] (y ∷ b) s h = absurd (true≢false (sym s))
-  same-shorter (suc m) (suc n) (x ∷ a) [] s h = absurd (true≢false (sym s))
-  same-shorter (suc m) (suc n) (x ∷ a) (y ∷ b) s h =
-      let both = both-true (is_eq (cmp x y)) (same_key cmp (take n a) (take n b)) s in
-      let rest = same-shorter m n a b both.1 (omega arith) in
-      λ i. cond (both.0 i) (rest i) false
+  same-shorter (suc m) (suc n) (x ∷ a) (y ∷ b) s h = grind (arith, same-shorter m n a b)
+  same-shorter m n a b s h = grind arith
 
 -- what is left of a list, copied from the slice of it
 pub left-all : {X : Type 0} (xs : List X) (n : ℕ) → take (length xs - n) (drop n xs) ≡ drop n xs
@@ -115,37 +71,30 @@ left-all {X} xs n = take_all (length xs - n) (drop n xs) (omega (arith, length-d
 
 -- a place behind another
 pub drop-further : {X : Type 0} (d n : ℕ) (xs : List X) → d ≤ n → drop (n - d) (drop d xs) ≡ drop n xs
-drop-further zero n xs h = let e : n - 0 ≡ n = omega arith in rw e refl
+drop-further zero n xs h = grind arith
 drop-further (suc d) zero xs h = absurd (omega arith)
 drop-further (suc d) (suc n) [] h = let e : suc n - suc d ≡ n - d = omega arith in rw e (drop-nil (n - d))
-drop-further (suc d) (suc n) (x ∷ xs) h =
-    let e : suc n - suc d ≡ n - d = omega arith in rw e (drop-further d n xs (omega arith))
+drop-further (suc d) (suc n) (x ∷ xs) h = grind (arith, drop-further d n xs)
 
 module _ {K V : Type 0} (cmp : K → K → Ordering) where
   -- ---- the pairs of two parts
 
   -- the first of three values
   pub first-of_three : (a b c : Option V) → or_else (or_else a b) c ≡ or_else a (or_else b c)
-  first-of_three None b c = refl
-  first-of_three (Some v) b c = refl
+  first-of_three a b c = grind arith
 
   -- what two lists of pairs bind
   pub bound-parted : (ps qs : List (List K × V)) (k : List K)
       → last_bound cmp (ps ++ qs) k ≡ or_else (last_bound cmp qs k) (last_bound cmp ps k)
-  bound-parted [] qs k = sym (or_else-none (last_bound cmp qs k))
-  bound-parted (p ∷ ps) qs k =
-      ap (λ o. or_else o (cond (same_key cmp p.0 k) (Some p.1) None)) (bound-parted ps qs k)
-      ∙ first-of_three (last_bound cmp qs k) (last_bound cmp ps k) (cond (same_key cmp p.0 k) (Some p.1) None)
+  bound-parted (p ∷ ps) qs k = grind (arith, bound-parted ps qs k)
+  bound-parted [] qs k = grind arith
 
 module _ {K R V : Type 0} (key : R → List K) where
   -- the pairs of the first of a run, and those of the others
   pub pairs-parted : (d n : ℕ) (run : List R) (vs : List V) → n ≤ length run → length run ≤ length vs
       → pairs_behind key d run vs ≡ pairs_behind key d (take n run) vs ++ pairs_behind key d (drop n run) (drop n vs)
-  pairs-parted d zero run vs h g = refl
-  pairs-parted d (suc n) [] vs h g = absurd (omega arith)
-  pairs-parted d (suc n) (r ∷ run) [] h g = absurd (omega arith)
-  pairs-parted d (suc n) (r ∷ run) (v ∷ vs) h g =
-      ap (λ l. (drop d (key r), v) ∷ l) (pairs-parted d n run vs (omega arith) (omega arith))
+  pairs-parted d (suc n) (r ∷ run) (v ∷ vs) h g = grind (arith, pairs-parted d n run vs)
+  pairs-parted d n run vs h g = grind arith
 
 module _ {K R : Type 0} (cmp : K → K → Ordering) (key : R → List K) (common : R → ℕ) where
   -- ---- a group
@@ -153,43 +102,37 @@ module _ {K R : Type 0} (cmp : K → K → Ordering) (key : R → List K) (commo
   -- the keys before a place run on
   runs-take : (before : List K) (n : ℕ) (run : List R) → RunsOn cmp key common before run
       → RunsOn cmp key common before (take n run)
-  runs-take before zero run h = tt
-  runs-take before (suc n) [] h = tt
-  runs-take before (suc n) (r ∷ run) h = (h.0, runs-take (key r) n run h.1)
+  runs-take before (suc n) (r ∷ run) h = grind (arith, runs-take (key r) n run)
+  runs-take before n run h = grind arith
 
   -- those of a group have one more component in common
   group-common : (d n : ℕ) (run : List R) → IsGroup common d n run → HaveCommon common (suc d) (take n run)
-  group-common d zero run h = tt
-  group-common d (suc n) [] h = tt
-  group-common d (suc n) (r ∷ run) h = (omega (arith, h.0), group-common d n run h.1)
+  group-common d (suc n) (r ∷ run) h = grind (arith, group-common d n run)
+  group-common d n run h = grind arith
 
   -- a group is a run behind one more component
   pub group-run : (d n : ℕ) (run : List R) → GoOnBehind cmp key common d run → IsGroupOf common d n run
       → IsRunBehind cmp key common (suc d) (take n run)
-  group-run d zero run h g = absurd g
-  group-run d (suc n) [] h g = absurd g
-  group-run d (suc n) (r ∷ run) h g = (omega (arith, h.0), runs-take (key r) n run h.1, group-common d n run g)
+  group-run d n run h g = grind (arith, runs-take, group-common)
 
   -- what has one more component in common
   fewer-common : (d : ℕ) (run : List R) → HaveCommon common (suc d) run → HaveCommon common d run
   fewer-common d [] h = tt
-  fewer-common d (r ∷ run) h = (omega (arith, h.0), fewer-common d run h.1)
+  fewer-common d (r ∷ run) h = grind (arith, fewer-common d run)
 
   -- a run behind one more component
   pub run-fewer : (d : ℕ) (run : List R) → IsRunBehind cmp key common (suc d) run → IsRunBehind cmp key common d run
-  run-fewer d [] h = absurd h
-  run-fewer d (r ∷ run) h = (omega (arith, h.0), h.1, fewer-common d run h.2)
+  run-fewer d run h = grind (arith, fewer-common)
 
   -- a group lies within the run
   pub group-within : (d n : ℕ) (run : List R) → IsGroupOf common d n run → (0 < n) × (n ≤ length run)
-  group-within d zero run g = absurd g
-  group-within d (suc n) [] g = absurd g
   group-within d (suc n) (r ∷ run) g = (omega arith, let w = within n run g in omega (arith, w))
     where
       within : (n : ℕ) (run : List R) → IsGroup common d n run → n ≤ length run
       within zero run g = omega arith
       within (suc n) [] g = absurd g
       within (suc n) (r ∷ run) g = let w = within n run g.1 in omega (arith, w)
+  group-within d n run g = grind arith
 
   -- where a key has no more in common with the one before, the group ends before it
   pub group-ends : (d n : ℕ) (r : R) (run : List R) → IsGroupOf common d n (r ∷ run) → HasCommon common d run
@@ -207,26 +150,18 @@ module _ {K R : Type 0} (cmp : K → K → Ordering) (key : R → List K) (commo
   -- the keys from a place on go on behind what they have in common
   runs-rest : (d : ℕ) (before : List K) (n : ℕ) (run : List R) → RunsOn cmp key common before run
       → HaveCommon common d run → GoOnBehind cmp key common d (drop n run)
-  runs-rest d before zero [] h g = tt
-  runs-rest d before zero (r ∷ run) h g =
-      let w = below-within cmp (common r) (drop (common r) before) (key r) h.0.below in
-      (omega (arith, w, g.0), h.1, g.1)
-  runs-rest d before (suc n) [] h g = tt
-  runs-rest d before (suc n) (r ∷ run) h g = runs-rest d (key r) n run h.1 g.1
+  runs-rest d before (suc n) (r ∷ run) h g = grind (arith, runs-rest d (key r) n run)
+  runs-rest d before n run h g = grind (arith, below-within)
 
   -- the keys behind the first ones go on
   pub group-rest : (d n : ℕ) (run : List R) → 0 < n → IsRunBehind cmp key common d run
       → GoOnBehind cmp key common d (drop n run)
-  group-rest d zero run w h = absurd (omega arith)
-  group-rest d (suc n) [] w h = absurd h
-  group-rest d (suc n) (r ∷ run) w h = runs-rest d (key r) n run h.1 h.2
+  group-rest d n run w h = grind (arith, runs-rest)
 
   -- and so do the keys behind a group
   pub group-on : (d n : ℕ) (run : List R) → 0 < n → GoOnBehind cmp key common d run
       → GoOnBehind cmp key common d (drop n run)
-  group-on d zero run w h = absurd (omega arith)
-  group-on d (suc n) [] w h = tt
-  group-on d (suc n) (r ∷ run) w h = runs-rest d (key r) n run h.1 h.2
+  group-on d n run w h = grind (arith, runs-rest)
 
   -- what has come up is at least what all have in common
   pub common-reaches : (d m : ℕ) (run : List R) → HaveCommon common d run → HasCommon common m run → d ≤ m
@@ -252,39 +187,30 @@ module _ {K R : Type 0} (cmp : K → K → Ordering) (key : R → List K) (commo
   -- the first key ends there
   pub first-ends : (m : ℕ) (run : List R) (x : R) (k : List K) → 0 < length run → k ≡ key (get_or run 0 x)
       → m ≡ length k → FirstEnds cmp key common m run
-  first-ends m [] x k w i e = absurd (omega arith)
-  first-ends m (r ∷ run) x k w i e = sym (e ∙ ap length i)
+  first-ends m run x k w i e = grind arith
 
   -- or it goes on
   pub first-longer : (m : ℕ) (run : List R) (x : R) (k : List K) → 0 < length run → k ≡ key (get_or run 0 x)
       → (m ≡ length k → ⊥) → IsRunBehind cmp key common m run → GoOnBehind cmp key common m run
-  first-longer m [] x k w i n h = absurd h
-  first-longer m (r ∷ run) x k w i n h =
-      let same = ap length i in
-      let other : m ≢ length (key r) = λ e. n (e ∙ sym same) in (omega (arith, other, h.0), h.1, h.2)
+  first-longer m run x k w i n h = grind arith
 
   -- how long the first key is
   pub length-ends : (m : ℕ) (run : List R) (x : R) (k : List K) → FirstEnds cmp key common m run → k ≡ key (get_or run 0 x)
       → length k ≡ m
-  length-ends m [] x k h i = absurd h
-  length-ends m (r ∷ run) x k h i = ap length i ∙ h
+  length-ends m run x k h i = grind arith
 
   -- and where it goes on
   pub length-longer : (m : ℕ) (run : List R) (x : R) (k : List K) → 0 < length run → GoOnBehind cmp key common m run
       → k ≡ key (get_or run 0 x) → m < length k
-  length-longer m [] x k w h i = absurd (omega arith)
-  length-longer m (r ∷ run) x k w h i = let same = ap length i in omega (arith, same, h.0)
+  length-longer m run x k w h i = grind arith
 
   -- where some key has no more in common, the group is not all of the run
   pub group-parts : (d n : ℕ) (run : List R) → IsGroupOf common d n run → HasCommon common d (drop 1 run) → n < length run
-  group-parts d zero [] g h = absurd g
-  group-parts d (suc n) [] g h = absurd g
-  group-parts d n (r ∷ run) g h = group-ends d n r run g h
+  group-parts d n run g h = grind (arith, group-ends)
 
   -- keys that go on are a run
   pub on-run : (d : ℕ) (run : List R) → 0 < length run → GoOnBehind cmp key common d run → IsRunBehind cmp key common d run
-  on-run d [] w h = absurd (omega arith)
-  on-run d (r ∷ run) w h = (omega (arith, h.0), h.1, h.2)
+  on-run d run w h = grind arith
 
   -- the first of the keys, if there is one, begins above a key
   abbrev HeadBelow : ℕ → List K → List R → Type 0
@@ -294,19 +220,13 @@ module _ {K R : Type 0} (cmp : K → K → Ordering) (key : R → List K) (commo
   -- a key that agrees beyond a place begins there below the same
   head-equal : IsTotalOrder cmp → (d n : ℕ) (a b : List K) (run : List R) → Agree cmp a b n → d < n
       → HeadBelow d b run → HeadBelow d a run
-  head-equal o d n a b [] s h g = tt
-  head-equal o d n a b (r ∷ run) s h g = equal-below cmp o d n a b (drop d (key r)) s.same h s.within_prefix g
+  head-equal o d n a b run s h g = grind (arith, equal-below)
 
   -- the key behind a group begins above all of it
   group-head : IsTotalOrder cmp → (d : ℕ) (before : List K) (n : ℕ) (run : List R) → IsGroup common d n run
       → RunsOn cmp key common before run → HaveCommon common d run → HeadBelow d before (drop n run)
-  group-head o d before zero [] g h w = tt
-  group-head o d before zero (r ∷ run) g h w =
-      let e : common r ≡ d = omega (arith, g, w.0) in
-      subst (λ n. BeginsBelow cmp (drop n before) (drop n (key r))) e h.0.below
-  group-head o d before (suc n) [] g h w = absurd g
-  group-head o d before (suc n) (r ∷ run) g h w =
-      head-equal o d (common r) before (key r) (drop n run) h.0.agree g.0 (group-head o d (key r) n run g.1 h.1 w.1)
+  group-head o d before (suc n) (r ∷ run) g h w = grind (arith, group-head o d (key r) n run g.1 h.1 w.1, head-equal)
+  group-head o d before n run g h w = grind arith
 
   -- ---- keys that agree
 
@@ -329,44 +249,29 @@ module _ {K R : Type 0} (cmp : K → K → Ordering) (key : R → List K) (commo
     -- trees that are below a key are below what it is below
     pub below-further : IsTotalOrder cmp → (j k : List K) (f : Forest K V) → BeginsBelow cmp j k → AllBelow cmp j f
         → AllBelow cmp k f
-    below-further o j k bare h a = tt
-    below-further o j k (grow p v kids rest) h a = (below-trans cmp o p j k a.0 h, below-further o j k rest h a.1)
+    below-further o j k (grow p v kids rest) h a = grind (arith, below-further o j k rest h a.1)
+    below-further o j k bare h a = grind arith
 
     -- and below what begins alike
     pub below-alike : (j k : List K) (f : Forest K V) → take 1 j ≡ take 1 k → AllBelow cmp j f → AllBelow cmp k f
-    below-alike j k bare e a = tt
-    below-alike j k (grow p v kids rest) e a = (first-below cmp p j k e a.0, below-alike j k rest e a.1)
+    below-alike j k (grow p v kids rest) e a = grind (arith, below-alike j k rest)
+    below-alike j k bare e a = grind arith
 
     -- trees below the first key of a group are below the first key behind it, and so is what begins as the group
     pub group-further : IsTotalOrder cmp → (d n : ℕ) (run : List R) (f : Forest K V) → GoOnBehind cmp key common d run
         → IsGroupOf common d n run → HeadAbove cmp key d f run → HeadAbove cmp key d f (drop n run)
-    group-further o d zero run f h g a = absurd g
-    group-further o d (suc n) [] f h g a = absurd g
-    group-further o d (suc n) (r ∷ run) f h g a = on (drop n run) (group-head o d (key r) n run g h.1 h.2)
-      where
-        on : (l : List R) → HeadBelow d (key r) l → HeadAbove cmp key d f l
-        on [] b = tt
-        on (q ∷ l) b = below-further o (drop d (key r)) (drop d (key q)) f b a
+    group-further o d n run f h g a = grind (arith, group-head, below-further)
 
     -- a tree that begins as the group is below the first key behind it
     pub group-below : IsTotalOrder cmp → (d n : ℕ) (run : List R) (p : List K) (v : Option V) (kids : Forest K V)
         → GoOnBehind cmp key common d run → IsGroupOf common d n run
         → BeginsAs cmp key common d (take n run) p → HeadAbove cmp key d (grow p v kids bare) (drop n run)
-    group-below o d zero run p v kids h g b = absurd g
-    group-below o d (suc n) [] p v kids h g b = absurd g
-    group-below o d (suc n) (r ∷ run) p v kids h g b = on (drop n run) (group-head o d (key r) n run g h.1 h.2)
-      where
-        on : (l : List R) → HeadBelow d (key r) l → HeadAbove cmp key d (grow p v kids bare) l
-        on [] e = tt
-        on (q ∷ l) e =
-            (alike-below cmp p (drop d (key r)) (drop d (key q)) (b h.0 (group-common d n run g)) e, tt)
+    group-below o d n run p v kids h g b = grind (arith, group-head, alike-below, group-common)
 
     -- and it begins with a component, above the trees before
     pub group-begins : (d n : ℕ) (run : List R) (p : List K) (f : Forest K V) → GoOnBehind cmp key common d run
         → IsGroupOf common d n run → BeginsAs cmp key common d (take n run) p → HeadAbove cmp key d f run
         → AllBelow cmp p f × (0 < length p)
-    group-begins d zero run p f h g b a = absurd g
-    group-begins d (suc n) [] p f h g b a = absurd g
     group-begins d (suc n) (r ∷ run) p f h g b a =
         let e = b h.0 (group-common d n run g) in
         (below-alike (drop d (key r)) p f (sym e) a, some p (drop d (key r)) e (left d (key r) h.0))
@@ -378,6 +283,7 @@ module _ {K R : Type 0} (cmp : K → K → Ordering) (key : R → List K) (commo
         some [] [] e w = absurd (omega arith)
         some [] (y ∷ q) e w = absurd (omega (arith, ap length e))
         some (x ∷ p) q e w = omega arith
+    group-begins d n run p f h g b a = grind arith
 
 module _ {R : Type 0} (common : R → ℕ) where
   -- ---- how a group is found
@@ -388,33 +294,21 @@ module _ {R : Type 0} (common : R → ℕ) where
   GroupSoFar d (suc n) [] = ⊥
   GroupSoFar d (suc n) (r ∷ run) = HaveCommon common (suc d) (take n run)
 
-  -- the first key is
-  pub group-first : (d : ℕ) (run : List R) → 0 < length run → GroupSoFar d 1 run
-  group-first d [] w = absurd (omega arith)
-  group-first d (r ∷ run) w = tt
-
   -- those of n keys, and of one more
   have-more : (least n : ℕ) (x : R) (run : List R) → HaveCommon common least (take n run) → n < length run
       → least ≤ common (get_or run n x) → HaveCommon common least (take (suc n) run)
-  have-more least zero x [] g w h = absurd (omega arith)
-  have-more least zero x (r ∷ run) g w h = (h, tt)
-  have-more least (suc n) x [] g w h = absurd (omega arith)
-  have-more least (suc n) x (r ∷ run) g w h = (g.0, have-more least n x run g.1 (omega arith) h)
+  have-more least (suc n) x (r ∷ run) g w h = grind (arith, have-more least n x run)
+  have-more least n x run g w h = grind arith
 
   -- one more key is
   pub group-more : (d n : ℕ) (x : R) (run : List R) → GroupSoFar d n run → n < length run
       → d < common (get_or run n x) → GroupSoFar d (n + 1) run
-  group-more d zero x run g w h = absurd g
-  group-more d (suc n) x [] g w h = absurd g
-  group-more d (suc n) x (r ∷ run) g w h =
-      let s : suc n + 1 ≡ suc (suc n) = omega arith in
-      rw s (have-more (suc d) n x run g (omega arith) (omega (arith, h)))
+  group-more d (suc n) x (r ∷ run) g w h = grind (arith, have-more (suc d) n x run g (omega arith) (omega (arith, h)))
+  group-more d n x run g w h = grind arith
 
   -- the next one is not, if there is one
   pub group-found : (d n : ℕ) (run : List R) → n ≤ length run → GroupSoFar d n run
       → (n < length run → (x : R) × (common (get_or run n x) ≤ d)) → IsGroupOf common d n run
-  group-found d zero run w g h = absurd g
-  group-found d (suc n) [] w g h = absurd g
   group-found d (suc n) (r ∷ run) w g h = found n run (omega arith) g (λ v. h (omega (arith, v)))
     where
       found : (n : ℕ) (run : List R) → n ≤ length run → HaveCommon common (suc d) (take n run)
@@ -424,6 +318,7 @@ module _ {R : Type 0} (common : R → ℕ) where
       found (suc n) [] w g h = absurd (omega arith)
       found (suc n) (q ∷ run) w g h =
           (omega (arith, g.0), found n run (omega arith) g.1 (λ v. h (omega (arith, v))))
+  group-found d n run w g h = grind arith
 
   -- ---- the least number in common
 
@@ -436,35 +331,22 @@ module _ {R : Type 0} (common : R → ℕ) where
   has-at : (n : ℕ) (x : R) (run : List R) → n < length run → HasCommon common (common (get_or run n x)) run
   has-at n x [] w = absurd (omega arith)
   has-at zero x (r ∷ run) w = inl refl
-  has-at (suc n) x (r ∷ run) w = inr (has-at n x run (omega arith))
+  has-at (suc n) x (r ∷ run) w = grind (arith, has-at n x run)
 
   -- what is less than the least is so too
   have-less : (m n : ℕ) (run : List R) → m ≤ n → HaveCommon common n run → HaveCommon common m run
   have-less m n [] h g = tt
-  have-less m n (r ∷ run) h g = (omega (arith, g.0), have-less m n run h g.1)
-
-  -- none has more in common than the first
-  pub least-first : (x : R) (run : List R) → 0 < length run → LeastSoFar (common (get_or run 0 x)) run 0
-  least-first x run w = record { have = tt; has = has-at 0 x run w }
+  have-less m n (r ∷ run) h g = grind (arith, have-less m n run)
 
   -- a lesser number is the least
   pub least-new : (least n : ℕ) (y : R) (run : List R) → LeastSoFar least run n → n < length run → y ≡ get_or run n y
       → common y < least → LeastSoFar (common y) run (n + 1)
-  least-new least n y run l w e h =
-      let same = ap common e in
-      record {
-        have =
-            rw add-one (have-more (common y) n y run
-            (have-less (common y) least (take n run) (omega (arith, h)) l.have) w (omega (arith, same)));
-        has = subst (λ m. HasCommon common m run) (sym same) (has-at n y run w);
-      }
+  least-new least n y run l w e h = grind (arith, have-more, have-less, has-at)
 
   -- any other number leaves it
   pub least-stays : (least n : ℕ) (y : R) (run : List R) → LeastSoFar least run n → n < length run → y ≡ get_or run n y
       → least ≤ common y → LeastSoFar least run (n + 1)
-  least-stays least n y run l w e h =
-      let same = ap common e in
-      record { have = rw add-one (have-more least n y run l.have w (omega (arith, same, h))); has = l.has }
+  least-stays least n y run l w e h = grind (arith, have-more least n y run l.have w (omega (arith, (ap common e), h)))
 
 -- ---- how a key follows another
 
@@ -472,29 +354,22 @@ module _ {K : Type 0} (cmp : K → K → Ordering) where
   -- a key begins where it parts from one before it as the greater one
   parted-below : (n : ℕ) (p k : List K) (x y : K) → slice_get p n ≡ Some x → slice_get k n ≡ Some y → cmp x y ≡ Less
       → BeginsBelow cmp (drop n p) (drop n k)
-  parted-below n [] k x y d e h = none-some x d
-  parted-below n (a ∷ p) [] x y d e h = none-some y e
-  parted-below zero (a ∷ p) (b ∷ k) x y d e h = let f : a ≡ x = cc in let g : b ≡ y = cc in rw (f, g) h
-  parted-below (suc n) (a ∷ p) (b ∷ k) x y d e h = parted-below n p k x y d e h
+  parted-below (suc n) (a ∷ p) (b ∷ k) x y d e h = grind (arith, parted-below n p k x y)
+  parted-below n p k x y d e h = grind arith
 
   -- what has ended begins below what goes on
   ended-below : (n : ℕ) (p k : List K) → length p ≡ n → n < length k → BeginsBelow cmp (drop n p) (drop n k)
-  ended-below zero [] [] e w = absurd (omega arith)
-  ended-below zero [] (y ∷ k) e w = tt
-  ended-below zero (x ∷ p) k e w = absurd (omega (arith, e))
-  ended-below (suc n) [] k e w = absurd (omega (arith, e))
-  ended-below (suc n) (x ∷ p) [] e w = absurd (omega arith)
-  ended-below (suc n) (x ∷ p) (y ∷ k) e w = ended-below n p k (omega (arith, e)) (omega arith)
+  ended-below (suc n) (x ∷ p) (y ∷ k) e w = grind (arith, ended-below n p k)
+  ended-below n p k e w = grind arith
 
   -- a key that parts as the greater one follows
   pub follows-parted : (before key : List K) (n : ℕ) → PartsAt cmp Less before key n → Follows cmp before key n
-  follows-parted before key n s =
-      record { agree = s.agree; below = parted-below n before key s.old s.new s.old_at s.new_at s.ordered }
+  follows-parted before key n s = grind (arith, parted-below)
 
   -- a key that goes on follows
   pub follows-longer : (before key : List K) → Agree cmp before key (length before) → length before < length key
       → Follows cmp before key (length before)
-  follows-longer before key a w = record { agree = a; below = ended-below (length before) before key refl w }
+  follows-longer before key a w = grind (arith, ended-below)
 
 -- ---- pairs that are kept
 
@@ -514,21 +389,10 @@ module _ {K R : Type 0} (cmp : K → K → Ordering) (key : R → List K) (commo
   pub last-follows : (run : List R) (r : R) (k : List K) (n : ℕ) → slice_get run (length run - 1) ≡ Some r
       → Follows cmp (key r) k n → FollowsLast cmp key common run k n
   last-follows [] r k n e f = tt
-  last-follows (q ∷ []) r k n e f = let d : q ≡ r = cc in subst (λ z. Follows cmp (key z) k n) (sym d) f
+  last-follows (q ∷ []) r k n e f = grind arith
   last-follows (q ∷ p ∷ run) r k n e f =
       let step : length (q ∷ p ∷ run) - 1 ≡ suc (length (p ∷ run) - 1) = omega arith in
       last-follows (p ∷ run) r k n (ap (λ i. slice_get (q ∷ p ∷ run) i) (sym step) ∙ e) f
-
-  -- where there is no last key, anything follows
-  pub none-last : (run : List R) (k : List K) (n : ℕ) → slice_get run (length run - 1) ≡ None
-      → FollowsLast cmp key common run k n
-  none-last [] k n e = tt
-  none-last (q ∷ run) k n e = absurd (within (q ∷ run) (length (q ∷ run) - 1) (omega arith) e)
-    where
-      within : (l : List R) (i : ℕ) → i < length l → slice_get l i ≡ None → ⊥
-      within [] i w e = omega arith
-      within (x ∷ l) zero w e = none-some x (sym e)
-      within (x ∷ l) (suc i) w e = within l i (omega arith) e
 
   -- a run that ascends is one behind no components
   pub ascending-run : (run : List R) → 0 < length run → IsAscending cmp key common run → IsRunBehind cmp key common 0 run
@@ -544,37 +408,20 @@ module _ {K R V : Type 0} (key : R → List K) where
   pub pairs-more : (run : List R) (vs : List V) (r : R) (v : V) → length run ≡ length vs
       → pairs_behind key 0 (run ++ r ∷ []) (vs ++ v ∷ []) ≡ pairs_behind key 0 run vs ++ (key r, v) ∷ []
   pairs-more [] [] r v e = refl
-  pairs-more [] (w ∷ vs) r v e = absurd (omega (arith, e))
-  pairs-more (q ∷ run) [] r v e = absurd (omega (arith, e))
-  pairs-more (q ∷ run) (w ∷ vs) r v e = ap (λ l. (key q, w) ∷ l) (pairs-more run vs r v (omega (arith, e)))
+  pairs-more (q ∷ run) (w ∷ vs) r v e = grind (arith, pairs-more run vs r v)
+  pairs-more run vs r v e = grind arith
 
 module _ {K V : Type 0} (cmp : K → K → Ordering) where
   -- and binds its key
   pub pair-binds : (ps qs : List (List K × V)) (k : List K) (v : V) → qs ≡ ps ++ (k, v) ∷ []
       → BindsMore cmp k v (last_bound cmp ps) (last_bound cmp qs)
-  pair-binds ps qs k v e j = ap (λ l. last_bound cmp l j) e ∙ bound-parted cmp ps ((k, v) ∷ []) j
-
-  -- a key that is bound in a tree is one more
-  pub inserted-binds : (k : List K) (v : V) (f g : List K → Option V) → IsUpdated cmp (λ v w. v ≡ w) k v f g
-      → BindsMore cmp k v f g
-  inserted-binds k v f g u j = by (same_key cmp k j) refl
-    where
-      kept : (a b : Option V) → IsKept (λ v w. v ≡ w) a b → b ≡ a
-      kept None None h = refl
-      kept (Some v) (Some w) h = ap Some (sym h)
-      kept None (Some w) h = absurd h
-      kept (Some v) None h = absurd h
-
-      by : (s : Bool) → same_key cmp k j ≡ s → g j ≡ or_else (cond (same_key cmp k j) (Some v) None) (f j)
-      by true s = rw s (u.at j s)
-      by false s = rw s (kept (f j) (g j) (u.others j s))
+  pair-binds ps qs k v e j = grind (arith, bound-parted)
 
 -- ---- what the pairs that came bind
 
 -- a test of a number with 0 that fails
 pub not-zero : (n : ℕ) → nat_eq n 0 ≡ false → 0 < n
-not-zero zero e = absurd (true≢false e)
-not-zero (suc n) e = omega arith
+not-zero n e = grind arith
 
 module _ {K R : Type 0} (cmp : K → K → Ordering) (key : R → List K) (common : R → ℕ) where
   -- what is found to follow the last key
@@ -589,8 +436,7 @@ module _ {K R : Type 0} (cmp : K → K → Ordering) (key : R → List K) (commo
   -- no pairs may grow
   pub none-grows : {V : Type 0} (b : Bool) (run : List R) (vs : List V) → run ≡ [] → vs ≡ []
       → MayGrow cmp key common b run vs
-  none-grows true run vs f g = rw (f, g) (tt, refl)
-  none-grows false run vs f g = tt
+  none-grows b run vs f g = grind arith
 
   -- one more pair is kept
   pub keep-grows : {V : Type 0} (b : Bool) (run more : List R) (vs left : List V) (r : R) (v : V) → b ≡ true
@@ -616,26 +462,19 @@ module _ {K R V : Type 0} (cmp : K → K → Ordering) (key : R → List K) wher
   -- the tree of the run binds what was kept
   pub run-binds : (b : Bool) (run : List R) (vs : List V) (t u : Tree K V) → b ≡ true
       → IsCollected cmp (pairs_behind key 0 run vs) u → (k : List K) → lookup cmp u k ≡ gathered cmp key b run vs t k
-  run-binds true run vs t u e h k = h k
-  run-binds false run vs t u e h k = absurd (true≢false (sym e))
+  run-binds b run vs t u e h k = grind arith
 
   -- no pairs bind nothing
   pub none-came : (b : Bool) (run : List R) (vs : List V) (t : Tree K V) (k : List K) → run ≡ [] → t ≡ node [] None bare
       → gathered cmp key b run vs t k ≡ None
-  none-came true run vs t k e f = rw e refl
-  none-came false run vs t [] e f = rw f refl
-  none-came false run vs t (x ∷ k) e f = rw f refl
+  none-came b run vs t k e f = grind arith
 
   -- a key that is bound in the tree is one more
   pub added-binds : (f : List K → Option V) (b : Bool) (run : List R) (vs : List V) (t u : Tree K V) (front k : List K) (v : V)
       → b ≡ false → ((j : List K) → lookup cmp t j ≡ f j) → front ≡ k
       → IsUpdated cmp (λ v w. v ≡ w) front v (lookup cmp t) (lookup cmp u)
       → BindsMore cmp k v f (gathered cmp key b run vs u)
-  added-binds f true run vs t u front k v e h i g j = absurd (true≢false e)
-  added-binds f false run vs t u front k v e h i g j =
-      inserted-binds cmp k v (lookup cmp t) (lookup cmp u)
-      (subst (λ z. IsUpdated cmp (λ v w. v ≡ w) z v (lookup cmp t) (lookup cmp u)) i g) j
-      ∙ ap (or_else (cond (same_key cmp k j) (Some v) None)) (h j)
+  added-binds f b run vs t u front k v e h i g j = grind arith
 
 -- one more pair that came
 pub yielded-more : {K S V : Type 0} (cmp : K → K → Ordering) (spell : S → List K) (pairs : List (S × V)) (b : S × V)
