@@ -8,14 +8,14 @@ use Rattle.std.proofs.Common.{◌≡◌, ℕ, suc, ◌+◌, ◌-◌, ◌^◌, �
 use Rattle.std.proofs.Common.{subst, ◌∙◌, arith, map, min, length, length-append, append-nil, append_assoc, true, inl, inr}
 use Rattle.std.proofs.Common.{true≢false}
 use Rattle.std.proofs.lemmas.Map.Keys.{sorted_head, sorted_tail}
-use Rattle.std.specs.Cmp.{IsTotalOrder, Equal-is, alike_right}
+use Rattle.std.specs.Cmp.{IsTotalOrder, alike_right}
 use Rattle.std.specs.Cmp.Lexicographic.{slice_cmp, lists_total}
 use Rattle.std.specs.List.{AllByRecursion}
 use Rattle.std.specs.List.Sorted.{IsStrictlySortedBy}
 use Rattle.std.specs.Map.{keys_of}
 use Rattle.std.specs.Borrow.{Bor}
 use Rattle.std.specs.Option.{option_copied, option_map}
-use Rattle.std.specs.Prelude.{◌≢◌, Err, IfOk, IsSome, MatchOption, Ok, Result, slice_get}
+use Rattle.std.specs.Prelude.{◌≢◌, IfOk, IsSome, MatchOption, Result, slice_get}
 use Rattle.std.specs.declared.cmp.Ordering.{Ordering}
 use Rattle.std.specs.declared.cmp.Ordering.TheVariants.{Less, Equal, Greater}
 use Rattle.vc_tree_model.specs.Canonical.{AreChildren, IsSolid}
@@ -39,16 +39,14 @@ last_of (x ∷ []) = Some x
 last_of (x ∷ y ∷ l) = last_of (y ∷ l)
 
 pub last-get : {X : Type 0} (l : List X) → slice_get l (length l - 1) ≡ last_of l
-last-get [] = refl
-last-get (x ∷ []) = refl
 last-get (x ∷ y ∷ l) =
     let n : length (x ∷ y ∷ l) - 1 ≡ suc (length (y ∷ l) - 1) = omega arith in
     ap (slice_get (x ∷ y ∷ l)) n ∙ last-get (y ∷ l)
+last-get l = grind arith
 
 last-append : {X : Type 0} (l : List X) (x : X) (m : List X) → last_of (l ++ x ∷ m) ≡ last_of (x ∷ m)
-last-append [] x m = refl
-last-append (y ∷ []) x m = refl
-last-append (y ∷ z ∷ l) x m = last-append (z ∷ l) x m
+last-append (y ∷ z ∷ l) x m = grind (arith, last-append (z ∷ l) x m)
+last-append l x m = grind arith
 
 -- a list that is not empty has one
 last-some : {X A : Type 0} (x : X) (l : List X) → last_of (x ∷ l) ≡ None → A
@@ -56,9 +54,8 @@ last-some x [] e = none-some x (sym e)
 last-some x (y ∷ l) e = last-some y l e
 
 last-map : {X Y : Type 0} (f : X → Y) (l : List X) → last_of (map f l) ≡ option_map f (last_of l)
-last-map f [] = refl
-last-map f (x ∷ []) = refl
-last-map f (x ∷ y ∷ l) = last-map f (y ∷ l)
+last-map f (x ∷ y ∷ l) = grind (arith, last-map f (y ∷ l))
+last-map f l = grind arith
 
 module _ {K V : Type 0} where
   -- a list of pairs that has a first
@@ -81,11 +78,6 @@ module _ {K V : Type 0} where
 
   -- ---- the pair of the node itself
 
-  -- it is alone where there are no children
-  first-alone : (p : List K) (v : Option V) → end_of First (walk (node p v bare)) ≡ own_end p v
-  first-alone p None = refl
-  first-alone p (Some v) = ap (λ k. Some (k, v)) (append-nil p)
-
   last-alone : (p : List K) (v : Option V) → end_of Last (walk (node p v bare)) ≡ own_end p v
   last-alone p None = refl
   last-alone p (Some v) = ap (λ k. Some (k, v)) (append-nil p)
@@ -98,16 +90,13 @@ module _ {K V : Type 0} where
 
   last-begun : (p : List K) (l m : List (List K × V)) → IsBegun m
       → last_of (map (prepended p) (l ++ m)) ≡ option_map (prepended p) (last_of m)
-  last-begun p l m b =
-      last-map (prepended p) (l ++ m)
-      ∙ ap (option_map (prepended p)) (rw b.is (last-append l b.first b.others))
+  last-begun p l m b = grind (arith, last-map, last-append)
 
   module _ (cmp : K → K → Ordering) (o : IsTotalOrder cmp) {T : Type 0} (tree : T → Tree K V) where
     -- a child is solid, over canonical children
     head-solid : (p : List K) (v : Option V) (kids rest : Forest K V) → AreChildren cmp (grow p v kids rest)
         → IsSolid v kids × AreChildren cmp kids
-    head-solid [] v kids rest a = absurd a
-    head-solid (x ∷ p) v kids rest a = (a.0, a.1)
+    head-solid p v kids rest a = grind arith
 
     -- the walk of a list of trees ends with that of the last one
     record EndsWith (f : Forest K V) (c : Tree K V) : Type 0 where
@@ -145,32 +134,16 @@ module _ {K V : Type 0} where
       pub first-below : t.value ≡ None → (xs : List T) → forest (map tree xs) ≡ t.children → (r : Option (Bor T))
           → option_copied r ≡ slice_get xs 0
           → MatchOption r (end_of First (walk t) ≡ own_end t.prefix t.value) (λ c. IsTowards First t (tree c.now))
-      first-below n [] e None d =
-          subst (λ f. end_of First (map (prepended t.prefix) (own_pair t.value ++ walk_in f)) ≡ own_end t.prefix t.value) e
-          (first-alone t.prefix t.value)
+      first-below n [] e None d = grind arith
       first-below n [] e (Some c) d = none-some c.now (sym d)
       first-below n (x ∷ xs) e None d = none-some x d
-      first-below n (x ∷ xs) e (Some c) d =
-          let k : x ≡ c.now = cc in
-          let s =
-          head-solid (tree x).prefix (tree x).value (tree x).children (forest (map tree xs))
-          (subst (AreChildren cmp) (sym e) a) in
-          let few = ap forest_nodes e in
-          subst (λ c. IsTowards First t (tree c)) k
-          (record {
-            pair =
-                (λ i. slice_get (map (prepended t.prefix) (own_pair (n i) ++ walk_in (sym e i))) 0)
-                ∙ first-begun t.prefix (walk (tree x)) (walk_in (forest (map tree xs))) (walk-begun cmp o (tree x) s.0 s.1);
-            fewer = omega (arith, few);
-          })
+      first-below n (x ∷ xs) e (Some c) d = grind (arith, head-solid, first-begun, walk-begun)
 
       -- the last pair of a node with children is that of its last child
       pub last-below : (xs : List T) → forest (map tree xs) ≡ t.children → (r : Option (Bor T))
           → option_copied r ≡ slice_get xs (length xs - 1)
           → MatchOption r (end_of Last (walk t) ≡ own_end t.prefix t.value) (λ c. IsTowards Last t (tree c.now))
-      last-below [] e None d =
-          subst (λ f. end_of Last (map (prepended t.prefix) (own_pair t.value ++ walk_in f)) ≡ own_end t.prefix t.value) e
-          (last-alone t.prefix t.value)
+      last-below [] e None d = grind (arith, last-alone)
       last-below [] e (Some c) d = none-some c.now (sym d)
       last-below (x ∷ xs) e None d = last-some x xs (sym (last-get (x ∷ xs)) ∙ sym d)
       last-below (x ∷ xs) e (Some c) d =
@@ -192,7 +165,7 @@ module _ {K V : Type 0} where
 
 -- equal keys are neither less nor greater
 tied : {K : Type 0} (cmp : K → K → Ordering) (j k : List K) → same_key cmp j k ≡ true → slice_cmp cmp j k ≡ Equal
-tied cmp j k h = (Equal-is (slice_cmp cmp j k)).0 (sym (same-slice_cmp cmp j k) ∙ h)
+tied cmp j k h = grind (arith, same-slice_cmp)
 
 module _ {K V : Type 0} (cmp : K → K → Ordering) (o : IsTotalOrder cmp) where
   -- a key that is listed behind one that comes before all keys of the list
@@ -206,15 +179,13 @@ module _ {K V : Type 0} (cmp : K → K → Ordering) (o : IsTotalOrder cmp) wher
   -- the last pair of a list is behind them
   last-after : (j : List K) (l : List (List K × V)) (b : List K × V)
       → AllByRecursion (λ i. slice_cmp cmp j i ≡ Less) (keys_of l) → last_of l ≡ Some b → slice_cmp cmp j b.0 ≡ Less
-  last-after j [] b a e = none-some b e
-  last-after j (c ∷ []) b a e = let k : c ≡ b = cc in subst (λ c. slice_cmp cmp j c.0 ≡ Less) k a.0
-  last-after j (c ∷ d ∷ l) b a e = last-after j (d ∷ l) b a.1 e
+  last-after j (c ∷ d ∷ l) b a e = grind (arith, last-after j (d ∷ l) b)
+  last-after j l b a e = grind arith
 
   -- and is listed
   last-listed : (l : List (List K × V)) (b : List K × V) → last_of l ≡ Some b → Lists cmp l b.0 b.1
-  last-listed [] b e = none-some b e
-  last-listed (c ∷ []) b e = let k : c ≡ b = cc in rw k (inl (same-itself cmp o b.0, refl))
-  last-listed (c ∷ d ∷ l) b e = inr (last-listed (d ∷ l) b e)
+  last-listed (c ∷ d ∷ l) b e = grind (arith, last-listed (d ∷ l) b)
+  last-listed l b e = grind (arith, none-some, same-itself)
 
   -- no key of the list is greater
   none-greater : (l : List (List K × V)) (b : List K × V) → IsStrictlySortedBy (slice_cmp cmp) (keys_of l)
@@ -235,7 +206,7 @@ module _ {K V : Type 0} (cmp : K → K → Ordering) (o : IsTotalOrder cmp) wher
   -- nor is one less than the first
   none-less : (b : List K × V) (l : List (List K × V)) → IsStrictlySortedBy (slice_cmp cmp) (keys_of (b ∷ l))
       → (k : List K) (v : V) → Lists cmp (b ∷ l) k v → slice_cmp cmp k b.0 ≢ Less
-  none-less b l a k v (inl s) g = not-before cmp k b.0 g (same-flip cmp o k b.0 ∙ s.0)
+  none-less b l a k v (inl s) g = grind (arith, not-before, same-flip)
   none-less b l a k v (inr h) g =
       not-both_before cmp o k b.0 g
       (listed-after b.0 l k v (sorted_head (slice_cmp cmp) b.0 (keys_of l) a) h)
@@ -291,13 +262,11 @@ module _ {K V : Type 0} (cmp : K → K → Ordering) (o : IsTotalOrder cmp) wher
       module _ {E : Type 0} (l : List (List K × V)) (w : IsWalk cmp f l) where
         pub least-is : (r : Result (Option X) E) → IfOk r (λ found. option_map view found ≡ slice_get l 0)
             → IfOk r (λ found. MatchOption found ((k : List K) → f k ≡ None) (λ x. IsLeastPair cmp f (view x)))
-        least-is (Ok found) e = least-of l w found e
-        least-is (Err x) e = tt
+        least-is r e = grind (arith, least-of)
 
         pub greatest-is : (r : Result (Option X) E) → IfOk r (λ found. option_map view found ≡ slice_get l (length l - 1))
             → IfOk r (λ found. MatchOption found ((k : List K) → f k ≡ None) (λ x. IsGreatestPair cmp f (view x)))
-        greatest-is (Ok found) e = greatest-of l w found e
-        greatest-is (Err x) e = tt
+        greatest-is r e = grind (arith, greatest-of)
 
 -- ---- the way down
 
@@ -308,35 +277,20 @@ module _ {K V : Type 0} (end : End) where
     pub key_is : key ≡ front ++ n.prefix
     pub pair : end_of end (walk t) ≡ option_map (prepended front) (end_of end (walk n))
 
-  prepended-empty : (o : Option (List K × V)) → o ≡ option_map (prepended []) o
-  prepended-empty None = refl
-  prepended-empty (Some b) = refl
-
   prepended-twice : (a p : List K) (o : Option (List K × V))
       → option_map (prepended a) (option_map (prepended p) o) ≡ option_map (prepended (a ++ p)) o
   prepended-twice a p None = refl
   prepended-twice a p (Some b) = ap (λ k. Some (k, b.1)) (sym (append_assoc a p b.0))
 
   pub reaches-itself : (t : Tree K V) → Reaches t t t.prefix
-  reaches-itself t = record { front = []; key_is = refl; pair = prepended-empty (end_of end (walk t)) }
+  reaches-itself t = grind arith
 
   pub reaches-child : (t n c : Tree K V) (key : List K) → Reaches t n key → IsTowards end n c → Reaches t c (key ++ c.prefix)
-  reaches-child t n c key r w = record {
-    front = key;
-    key_is = refl;
-    pair =
-        r.pair ∙ ap (option_map (prepended r.front)) w.pair
-        ∙ prepended-twice r.front n.prefix (end_of end (walk c))
-        ∙ ap (λ k. option_map (prepended k) (end_of end (walk c))) (sym r.key_is);
-  }
+  reaches-child t n c key r w = grind (arith, prepended-twice)
 
   pub reaches-own : (t n : Tree K V) (key : List K) → Reaches t n key → end_of end (walk n) ≡ own_end n.prefix n.value
       → end_of end (walk t) ≡ own_end key n.value
-  reaches-own t n key r e = r.pair ∙ ap (option_map (prepended r.front)) e ∙ by n.value
-    where
-      by : (v : Option V) → option_map (prepended r.front) (own_end n.prefix v) ≡ own_end key v
-      by None = refl
-      by (Some v) = ap (λ k. Some (k, v)) (sym r.key_is)
+  reaches-own t n key r e = grind arith
 
 -- a number that stops at the most, of a list with more behind it
 pub longer : {K : Type 0} (key more : List K) (count most : ℕ) → count ≡ min (length key) most
@@ -346,10 +300,9 @@ longer key more count most e = let l = length-append key more in omega (arith, e
 -- and of one that is no longer than that
 pub within : {K : Type 0} (seen key : List K) (most : ℕ) → seen ≡ key → length seen ≤ most
     → length seen ≡ min (length key) most
-within seen key most e h = let l = ap length e in omega (arith, l, h)
+within seen key most e h = grind arith
 
 -- the pair of a key that was counted
 pub own-sized : {K V : Type 0} (key : List K) (o : Option V) (v : V) (count : ℕ) → o ≡ Some v
     → count ≡ min (length key) (2 ^ 64 - 1) → Some (count, v) ≡ option_map sized_pair (own_end key o)
-own-sized key None v count e c = none-some v e
-own-sized key (Some w) v count e c = let same : w ≡ v = cc in λ i. Some (c i, sym same i)
+own-sized key o v count e c = grind arith

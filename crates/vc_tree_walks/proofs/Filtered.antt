@@ -3,8 +3,8 @@
 --     bound-below        what the node binds that they stand below
 --     filtered        a copy of the node that they stand below, with what stands before it
 --     copy-solid        such a copy is solid
-use Rattle.std.proofs.Common.{◌≡◌, [], ◌∷◌, ◌++◌, List, Option, None, Some, true, false, Result, Ok, Err, IfOk, ◌⊎◌}
-use Rattle.std.proofs.Common.{inl, inr, refl, sym, ap, ◌∙◌, map, true≢false}
+use Rattle.std.proofs.Common.{◌≡◌, [], ◌∷◌, ◌++◌, List, Option, None, Some, true, false, Result, IfOk, arith}
+use Rattle.std.proofs.Common.{refl, sym, ap, ◌∙◌, map, true≢false}
 use Rattle.std.specs.Cmp.{IsTotalOrder}
 use Rattle.std.specs.Option.{option_and_then}
 use Rattle.std.specs.declared.cmp.Ordering.{Ordering}
@@ -16,9 +16,9 @@ use Rattle.vc_tree_model.specs.Same.{IsAlike}
 use Rattle.vc_tree_model.specs.Under.{under, prefixed}
 use Rattle.vc_tree_model.specs.Value.{IsKept}
 use Rattle.vc_tree_model.specs.Walk.{IsWalk, prepended, walk}
-use Rattle.vc_tree_model.proofs.AlikeLemmas.{alike-solid, tree-alike_lookup}
+use Rattle.vc_tree_model.proofs.AlikeLemmas.{tree-alike_lookup}
 use Rattle.vc_tree_model.proofs.KeyLemmas.{none-some}
-use Rattle.vc_tree_model.proofs.LookupLemmas.{children-ordered, whole-cases, nothing-bound}
+use Rattle.vc_tree_model.proofs.LookupLemmas.{children-ordered}
 use Rattle.vc_tree_model.proofs.UnderLemmas.{walk-prefixed, lookup-prepended}
 use Rattle.vc_tree_model.proofs.ValueLemmas.{kept_by}
 use Rattle.vc_tree_model.proofs.Walking.{walk-is}
@@ -41,14 +41,10 @@ module _ {K V : Type 0} (cmp : K → K → Ordering) (o : IsTotalOrder cmp) wher
       by None e = e
       by (Some v) e = absurd ((w.lists k v).1 e)
 
-  -- the empty tree binds nothing
-  empty-binds : (t : Tree K V) → t ≡ no_tree → (k : List K) → lookup cmp t k ≡ None
-  empty-binds t e k = ap (λ z. lookup cmp z k) e ∙ nothing-bound cmp [] None bare (refl, refl, refl) k
-
   module _ (keeps : V → V → Type 0) (f : List K → Option V) (p : List K) where
     none-kept : (t : Tree K V) → t ≡ no_tree → ((k : List K) → under cmp f p k ≡ None)
         → IsEqualMap keeps (under cmp f p) (lookup cmp t)
-    none-kept t e n k = kept_by keeps None None (under cmp f p k) (lookup cmp t k) (sym (n k)) (sym (empty-binds t e k)) tt
+    none-kept t e n k = grind arith
 
     -- no key starts so
     pub filtered-none : (t : Tree K V) → t ≡ no_tree → IsWalk cmp (under cmp f p) []
@@ -99,15 +95,9 @@ module _ {K V : Type 0} (cmp : K → K → Ordering) (o : IsTotalOrder cmp) wher
       pub filtered : {T E : Type 0} (tree : T → Tree K V) (copy : Tree K V) (r : Result T E) → IsAlike keeps t copy
           → IfOk r (λ u. tree u ≡ node (front ++ copy.prefix) copy.value copy.children)
           → IfOk r (λ u. IsEqualMap keeps (under cmp f p) (lookup cmp (tree u)))
-      filtered tree copy (Ok u) a h = filtered-copy copy (tree u) a h
-      filtered tree copy (Err e) a h = tt
+      filtered tree copy r a h = grind (arith, filtered-copy)
 
   -- a copy of a node that is not the empty tree is solid
   pub copy-solid : (keeps : V → V → Type 0) (t copy : Tree K V) → IsCanonical cmp t → is_bare t ≡ false → IsAlike keeps t copy
       → IsSolid copy.value copy.children
-  copy-solid keeps t copy c b a = by (whole-cases cmp t.prefix t.value t.children c.0)
-    where
-      by : IsSolid t.value t.children ⊎ ((t.prefix ≡ []) × (t.value ≡ None) × (t.children ≡ bare))
-          → IsSolid copy.value copy.children
-      by (inl s) = alike-solid keeps t.value copy.value t.children copy.children a.1 a.2 s
-      by (inr e) = absurd (true≢false (rw (e.1, e.2) at b))
+  copy-solid keeps t copy c b a = grind arith

@@ -8,8 +8,8 @@ module _ {K V T : Type 0} (tree : T → Tree K V) where
   -- one more tree behind the others
   counted-push : (ts : List T) (x : T)
       → forest_key_count (seen tree (ts ++ x ∷ [])) ≡ forest_key_count (seen tree ts) + key_count (tree x)
-  counted-push [] x = omega arith
-  counted-push (t ∷ ts) x = let rest = counted-push ts x in omega (arith, rest)
+  counted-push (t ∷ ts) x = grind (arith, counted-push ts x)
+  counted-push [] x = grind arith
 
   -- a number that stops at the most
   stopped : (a b most count more : ℕ) → count ≡ min a most → more ≡ min b most

@@ -2,13 +2,13 @@
 --     Leads        the places before a depth lead to a node
 --     leads-on, stops, ends        one node deeper, where no child is open, and where the path ends
 --     opened-rows, opened-work        the row of a node that was opened
---     started_at        what is left behind the root
+--     started-left, started-work        what is left behind the root
 --     left-step, entered-step        a step out of the node that a path leads to, and a step to a child of it
 --     last-child        the child that was entered last
 use Rattle.std.proofs.Common.{◌≡◌, ℕ, zero, suc, ◌+◌, ◌-◌, ◌*◌, ◌<◌, ◌≤◌, List, [], ◌∷◌, ◌++◌, length, take, drop}
 use Rattle.std.proofs.Common.{get_or, map, Option, None, Some, refl, sym, ap, ◌∙◌, append_assoc, append-nil, add-one}
 use Rattle.std.proofs.Common.{subst, arith, min, ◌==◌, true≢false, false}
-use Rattle.std.proofs.Math.Nat.{min-zero, suc-min-suc, zero-min}
+use Rattle.std.proofs.Math.Nat.{suc-min-suc}
 use Rattle.std.proofs.Math.Seq.{take-length}
 use Rattle.std.proofs.lemmas.List.{take_more, take-append-drop, drop_all}
 use Rattle.std.specs.Prelude.{IfSome, MatchOption}
@@ -23,20 +23,18 @@ use Rattle.vc_tree_walks.proofs.Rows.{own-first, entered as entered_row}
 
 -- what stands at a place is the same for each default
 same-at : (path : List Place) (d : ℕ) (x y : Place) → d < length path → x ≡ get_or path d x → x ≡ get_or path d y
-same-at [] d x y h e = absurd (omega (arith, h))
-same-at (z ∷ path) zero x y h e = e
-same-at (z ∷ path) (suc d) x y h e = same-at path d x y (omega (arith, h)) e
+same-at (z ∷ path) (suc d) x y h e = grind (arith, same-at path d x y)
+same-at path d x y h e = grind arith
 
 -- and is what is read there
 read-at : (path : List Place) (d : ℕ) (x : Place) → d < length path → get_or path d x ≡ get_or path d (get_or path d x)
-read-at [] d x h = refl
-read-at (z ∷ path) zero x h = refl
-read-at (z ∷ path) (suc d) x h = read-at path d x (omega (arith, h))
+read-at (z ∷ path) (suc d) x h = grind (arith, read-at path d x)
+read-at path d x h = grind arith
 
 -- the first of the first components
 take-taken : {K : Type 0} (m n : ℕ) (l : List K) → take m (take n l) ≡ take (min m n) l
-take-taken zero n l = ap (λ k. take k l) (sym (zero-min n))
-take-taken (suc m) zero l = ap (λ k. take k l) (sym (min-zero (suc m)))
+take-taken zero n l = grind arith
+take-taken (suc m) zero l = grind arith
 take-taken (suc m) (suc n) [] = sym (ap (λ k. take k []) (suc-min-suc m n))
 take-taken (suc m) (suc n) (x ∷ l) =
     ap (λ k. x ∷ k) (take-taken m n l) ∙ sym (ap (λ k. take k (x ∷ l)) (suc-min-suc m n))
@@ -77,11 +75,7 @@ module _ {K V : Type 0} where
 
   -- and below the last open one
   rows-last : (t : Tree K V) (place : Place) → rows_at t (place ∷ []) ≡ row_of_place t place ∷ []
-  rows-last t place = by (entered place.entered t.children) refl
-    where
-      by : (o : Option (Tree K V)) → entered place.entered t.children ≡ o → rows_at t (place ∷ []) ≡ row_of_place t place ∷ []
-      by None e = rows-closed t place [] e
-      by (Some c) e = rows-open t c place [] e
+  rows-last t place = grind arith
 
   -- one node deeper
   pub leads-on : (root : Tree K V) (path : List Place) (t c : Tree K V) (d : ℕ) (x : Place) → Leads root path t d
@@ -100,8 +94,7 @@ module _ {K V : Type 0} where
       → place ≡ get_or path d place → (above : List (Forest K V × ℕ))
       → rows_at root path ≡ row_of_place t place ∷ above
       → (x : Place) → x ≡ get_or path d x → rows_at root path ≡ row_of_place t x ∷ above
-  here-at root path t d place h e above r x ex =
-      r ∙ ap (λ y. row_of_place t y ∷ above) (same-at path d place x h e ∙ sym ex)
+  here-at root path t d place h e above r x ex = grind (arith, same-at)
 
   -- where no child is open
   pub stops : (root : Tree K V) (path : List Place) (t : Tree K V) (d : ℕ) (x : Place) → Leads root path t d
@@ -141,13 +134,7 @@ module _ {K V : Type 0} where
   -- and is no more work
   pub opened-work : (t : Tree K V) (base : ℕ) (rows : List (Forest K V × ℕ))
       → outer_work (rows_at t (opened t base) ++ rows) ≤ 1 + 2 * forest_nodes t.children + outer_work rows
-  opened-work t base rows = by t.children
-    where
-      by : (f : Forest K V)
-          → outer_work (rows_at (node t.prefix t.value f) (opened (node t.prefix t.value f) base) ++ rows)
-          ≤ 1 + 2 * forest_nodes f + outer_work rows
-      by bare = omega arith
-      by (grow p v kids rest) = omega arith
+  opened-work t base rows = grind arith
 
   -- the root was opened behind the empty path
   pub started-left : (t : Tree K V) (key : List K) (front : ℕ) (path : List Place) → key ≡ t.prefix → front ≡ length key
@@ -167,12 +154,7 @@ module _ {K V : Type 0} where
 
   pub started-work : (t : Tree K V) (front : ℕ) (path : List Place) → path ≡ opened t front
       → outer_work (rows_at t path) < 1 + 2 * nodes t
-  started-work t front path ep =
-      let same : rows_at t path ≡ rows_at t (opened t front) ++ [] = ap (rows_at t) ep
-      ∙ sym (append-nil (rows_at t (opened t front))) in
-      let work = ap outer_work same in
-      let most = opened-work t front [] in
-      omega (arith, work, most)
+  started-work t front path ep = grind arith
 
   -- a step out of the node that a path leads to, of which nothing is left
   pub left-node : (root : Tree K V) (path now : List Place) (t : Tree K V) (d : ℕ) (place : Place) (key : List K) (front next : ℕ)
@@ -233,48 +215,38 @@ module _ {K V : Type 0} where
   -- behind the trees before a place stands the tree at it
   pub skip-more : (n : ℕ) (f : Forest K V) (c : Tree K V) → tree_at n f ≡ Some c
       → skip n f ≡ grow c.prefix c.value c.children (skip (suc n) f)
-  skip-more n bare c e = cc
-  skip-more zero (grow p v kids rest) c e = ap (λ t. grow t.prefix t.value t.children rest) (unwrapped e)
-    where
-      unwrapped : Some (node p v kids) ≡ Some c → node p v kids ≡ c
-      unwrapped e = cc
-  skip-more (suc n) (grow p v kids rest) c e = skip-more n rest c e
+  skip-more (suc n) (grow p v kids rest) c e = grind (arith, skip-more n rest c)
+  skip-more n f c e = grind arith
 
   -- and nothing where there is none
   pub skip-all : (n : ℕ) (f : Forest K V) → tree_at n f ≡ None → skip n f ≡ bare
-  skip-all zero bare e = refl
-  skip-all (suc n) bare e = refl
   skip-all zero (grow p v kids rest) e = cc
   skip-all (suc n) (grow p v kids rest) e = skip-all n rest e
+  skip-all n f e = grind arith
 
 module _ {K V T : Type 0} (tree : T → Tree K V) where
   -- the tree at a place of a list
   pub tree-of_list : (xs : List T) (i : ℕ) (x : T) → i < length xs → tree_at i (seen tree xs) ≡ Some (tree (get_or xs i x))
-  tree-of_list [] i x h = absurd (omega (arith, h))
-  tree-of_list (y ∷ ys) zero x h = refl
-  tree-of_list (y ∷ ys) (suc i) x h = tree-of_list ys i x (omega arith)
+  tree-of_list (y ∷ ys) (suc i) x h = grind (arith, tree-of_list ys i x)
+  tree-of_list xs i x h = grind arith
 
   -- there is none behind it
   pub no_tree-of_list : (xs : List T) (i : ℕ) → length xs ≤ i → tree_at i (seen tree xs) ≡ None
-  no_tree-of_list [] i h = refl
-  no_tree-of_list (y ∷ ys) zero h = absurd (omega (arith, h))
-  no_tree-of_list (y ∷ ys) (suc i) h = no_tree-of_list ys i (omega arith)
+  no_tree-of_list (y ∷ ys) (suc i) h = grind (arith, no_tree-of_list ys i)
+  no_tree-of_list xs i h = grind arith
 
   -- a node with children is opened
   pub opened-some : (kids : List T) (t : Tree K V) (base : ℕ) → seen tree kids ≡ t.children → (length kids == 0) ≡ false
       → opened t base ≡ record { entered = 0; base = base } ∷ []
   opened-some [] t base ek e = absurd (true≢false e)
-  opened-some (x ∷ xs) t base ek e = ap (λ f. opened (node t.prefix t.value f) base) (sym ek)
+  opened-some (x ∷ xs) t base ek e = grind arith
 
   -- the child that was entered last
   pub last-child : (kids : List T) (f : Forest K V) (count i : ℕ) (r : Option (Bor T)) → count ≡ suc i
       → seen tree kids ≡ f → IfSome r (λ x. x.now ≡ get_or kids i x.now)
       → MatchOption r (length kids ≤ i) (λ _. i < length kids)
       → MatchOption r (entered count f ≡ None) (λ x. entered count f ≡ Some (tree x.now))
-  last-child kids f count i None e row same cases =
-      ap (λ k. entered k f) e ∙ ap (tree_at i) (sym row) ∙ no_tree-of_list kids i cases
-  last-child kids f count i (Some x) e row same cases =
-      ap (λ k. entered k f) e ∙ ap (tree_at i) (sym row) ∙ tree-of_list kids i x.now cases ∙ ap (λ y. Some (tree y)) (sym same)
+  last-child kids f count i r e row same cases = grind (arith, no_tree-of_list, tree-of_list)
 
   -- a step out of the node, in the words of the program
   pub left-step : (root : Tree K V) (path slice now : List Place) (t : T) (d : ℕ) (place : Place) (key : List K) (front next : ℕ)
@@ -313,5 +285,4 @@ module _ {K V T : Type 0} (tree : T → Tree K V) where
 -- a place that is there lies within
 pub in-range : {T : Type 0} (P : Bor T → Type 0) (n i : ℕ) (r : Option (Bor T))
     → MatchOption r (n ≤ i) (λ x. (i < n) × P x) → MatchOption r (n ≤ i) (λ _. i < n)
-in-range P n i None h = h
-in-range P n i (Some x) h = h.0
+in-range P n i r h = grind arith

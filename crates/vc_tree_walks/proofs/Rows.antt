@@ -1,14 +1,14 @@
 -- What a step does to the pairs that are left of rows of trees.
 --     first-tree        the pairs of a row are those of its first tree, and then the others
---     entered, entered-leaf        a step to a tree finds its own pair, and leaves those of its children and of the trees beside it
+--     entered        a step to a tree finds its own pair, and leaves those of its children and of the trees beside it
 --     entered-rows        the same with rows as the iterator stores them
-use Rattle.std.proofs.Common.{◌≡◌, ℕ, zero, suc, ◌-◌, ◌≤◌, List, [], ◌∷◌, ◌++◌, length, take, map, Option, None, Some}
+use Rattle.std.proofs.Common.{◌≡◌, ℕ, ◌-◌, List, [], ◌∷◌, ◌++◌, length, take, map, Option, None, Some}
 use Rattle.std.proofs.Common.{refl, sym, ap, ◌∙◌, append_assoc, append-nil, length-append, arith}
 use Rattle.std.proofs.Math.Seq.{take-append_seam, take-length}
 use Rattle.std.proofs.lemmas.List.{reverse-append}
 use Rattle.std.specs.Prelude.{reverse}
 use Rattle.std.specs.Borrow.{Bor}
-use Rattle.vc_tree_model.specs.Tree.{Tree, Forest, bare, grow}
+use Rattle.vc_tree_model.specs.Tree.{Tree, Forest, grow}
 use Rattle.vc_tree_model.specs.Walk.{own_pair, prepended, walk_in}
 use Rattle.vc_tree_nodes.specs.Children.{seen}
 use Rattle.vc_tree_walks.specs.Left.{pair_at, rows_left}
@@ -21,21 +21,6 @@ module _ {K : Type 0} where
   front-taken a p l e =
       let long : length (a ++ p) - length p ≡ length a = omega (arith, length-append a p) in
       rw e (ap (λ n. take n (a ++ p)) long ∙ take-append_seam a p)
-
-  -- the first of the first components, where there are as many
-  take-within : (m n : ℕ) (l : List K) → m ≤ n → take m (take n l) ≡ take m l
-  take-within zero n l h = refl
-  take-within (suc m) zero l h = absurd (omega (arith, h))
-  take-within (suc m) (suc n) [] h = refl
-  take-within (suc m) (suc n) (x ∷ l) h = ap (λ k. x ∷ k) (take-within m n l (omega (arith, h)))
-
-  -- and where there are fewer
-  take-beyond : (m n : ℕ) (l : List K) → n ≤ m → take m (take n l) ≡ take n l
-  take-beyond zero zero l h = refl
-  take-beyond (suc m) zero l h = refl
-  take-beyond zero (suc n) l h = absurd (omega (arith, h))
-  take-beyond (suc m) (suc n) [] h = refl
-  take-beyond (suc m) (suc n) (x ∷ l) h = ap (λ k. x ∷ k) (take-beyond m n l (omega (arith, h)))
 
 module _ {K V : Type 0} where
   -- one prefix before another
@@ -65,17 +50,6 @@ module _ {K V : Type 0} where
       ∙ ap (λ l. (l ++ beside) ++ m) own
       ∙ append_assoc (pair_at (a ++ p) v ++ below) beside m
       ∙ append_assoc (pair_at (a ++ p) v) below (beside ++ m)
-
-  -- a step to a tree without children finds its own pair, and leaves those of the trees beside it
-  pub entered-leaf : (key now p : List K) (v : Option V) (others : Forest K V) (n : ℕ) (rows : List (Forest K V × ℕ))
-      → now ≡ take n key ++ p
-      → rows_left key ((grow p v bare others, n) ∷ rows)
-      ≡ pair_at now v ++ rows_left now ((others, length now - length p) ∷ rows)
-  entered-leaf key now p v others n rows e =
-      let a = take n key in
-      first-tree a p v bare others (rows_left a rows)
-      ∙ ap (λ k. pair_at k v ++ (map (prepended a) (walk_in others) ++ rows_left a rows)) (sym e)
-      ∙ ap (λ k. pair_at now v ++ (map (prepended k) (walk_in others) ++ rows_left k rows)) (sym (front-taken a p now e))
 
   -- a step to a tree finds its own pair, and leaves those of its children and of the trees beside it
   pub entered : (key now p : List K) (v : Option V) (kids others : Forest K V) (n : ℕ) (rows : List (Forest K V × ℕ))

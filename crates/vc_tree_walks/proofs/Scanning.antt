@@ -1,19 +1,18 @@
 -- The part of a tree that a prefix leads to.
 --     IsPart        a node below which all keys stand that start with the prefix
---     part-start, part-next        the root is one, and so is the child that the rest of the prefix leads to
+--     part-next        the child that the rest of the prefix leads to is one
 --     walk-ended, walk-inside        the pairs of such a node, where the prefix ends behind or in that of the node
 --     behind-parts        what is left behind two parts
 --     child-agrees        the child agrees with what is left in one component
 --     walk-default, walk-childless        where the two part, and where no child is, there are none
-use Rattle.std.proofs.Common.{◌≡◌, ◌≢◌, ℕ, zero, suc, [], ◌∷◌, ◌++◌, take, drop, List, length, Option, None, Some}
-use Rattle.std.proofs.Common.{refl, sym, ap, ◌∙◌, true, false, Bool, cond, true≢false, subst, map, arith}
+use Rattle.std.proofs.Common.{◌≡◌, ◌≢◌, ℕ, suc, [], ◌∷◌, ◌++◌, take, drop, List, length, Option, None, Some}
+use Rattle.std.proofs.Common.{refl, sym, ap, ◌∙◌, true, false, Bool, cond, subst, map, arith}
 use Rattle.std.proofs.Math.Seq.{take-length}
 use Rattle.std.specs.Option.{option_and, option_and_then}
-use Rattle.std.specs.Ordering.{is_eq, ordering_reverse}
-use Rattle.std.specs.declared.cmp.Ordering.TheVariants.{Less, Equal, Greater}
+use Rattle.std.specs.Ordering.{is_eq}
 use Rattle.std.specs.Prelude.{slice_get, MatchOption}
 use Rattle.std.specs.declared.cmp.Ordering.{Ordering}
-use Rattle.std.specs.Cmp.{IsTotalOrder, Equal-is}
+use Rattle.std.specs.Cmp.{IsTotalOrder}
 use Rattle.std.specs.List.Sorted.{IsStrictlySortedBy}
 use Rattle.vc_tree_model.specs.Key.{same_key, behind}
 use Rattle.vc_tree_model.specs.Tree.{Tree, Forest}
@@ -23,18 +22,17 @@ use Rattle.vc_tree_model.specs.Walk.{IsWalk, prepended, walk}
 use Rattle.vc_tree_model.specs.Under.{under, prefixed}
 use Rattle.vc_tree_nodes.specs.Parting.{Agree, PartsAt, IsParting}
 use Rattle.vc_tree_nodes.specs.declared.parting.Parting.{Parting}
-use Rattle.vc_tree_nodes.specs.declared.parting.Parting.TheVariants.{Behind, Inside, Lower, Higher}
+use Rattle.vc_tree_nodes.specs.declared.parting.Parting.TheVariants.{Behind, Inside}
 use Rattle.vc_tree_nodes.specs.Places.{IsNoChild, IsFoundChild}
 use Rattle.vc_tree_model.proofs.KeyLemmas.{none-some, behind-append, behind-joins, behind-same, then_behind}
-use Rattle.vc_tree_model.proofs.KeyLemmas.{same-itself, same-flip, both-true}
+use Rattle.vc_tree_model.proofs.KeyLemmas.{same-itself, same-flip}
 use Rattle.vc_tree_model.proofs.LookupLemmas.{children-ordered, lookup_in-same, lookup-same}
 use Rattle.vc_tree_model.proofs.UnderLemmas.{is_walk-equal, walk-prefixed}
 use Rattle.vc_tree_model.proofs.Walking.{walk-is}
 
 -- nothing beside something is nothing
 and-none : {X Y : Type 0} (a : Option X) → option_and {U = Y} a None ≡ None
-and-none None = refl
-and-none (Some x) = refl
+and-none a = grind arith
 
 -- a list without a first element is empty
 pub no-first : {X : Type 0} (l : List X) → slice_get l 0 ≡ None → l ≡ []
@@ -43,66 +41,38 @@ no-first (x ∷ l) e = none-some x (sym e)
 
 -- and one with a first element begins with it
 pub first-cons : {X : Type 0} (l : List X) (x : X) → slice_get l 0 ≡ Some x → l ≡ x ∷ drop 1 l
-first-cons [] x e = none-some x e
-first-cons (y ∷ l) x e = let k : y ≡ x = cc in ap (λ z. z ∷ l) k
+first-cons l x e = grind arith
 
 -- what is said of nothing
 pub none-of : {X : Type 0} (P : Type 0) (Q : X → Type 0) (r : Option X) → MatchOption r P Q → r ≡ None → P
-none-of P Q None h e = h
-none-of P Q (Some x) h e = none-some x (sym e)
+none-of P Q r h e = grind arith
 
 -- what is said of something
 pub some-of : {X : Type 0} (P : Type 0) (Q : X → Type 0) (r : Option X) (x : X) → MatchOption r P Q → r ≡ Some x → Q x
-some-of P Q None x h e = none-some x e
-some-of P Q (Some y) x h e = let k : y ≡ x = cc in subst Q k h
+some-of P Q r x h e = grind arith
 
 module _ {K : Type 0} (cmp : K → K → Ordering) where
   -- behind a prefix that agrees, the rest of the key
   left-whole : (p k : List K) → same_key cmp (take (length p) p) (take (length p) k) ≡ true
       → behind cmp p k ≡ Some (drop (length p) k)
-  left-whole [] k h = refl
-  left-whole (x ∷ p) [] h = absurd (true≢false (sym h))
-  left-whole (x ∷ p) (y ∷ k) h =
-      let both = both-true (is_eq (cmp x y)) (same_key cmp (take (length p) p) (take (length p) k)) h in
-      let rest = left-whole p k both.1 in
-      λ i. cond (both.0 i) (rest i) None
+  left-whole (x ∷ p) (y ∷ k) h = grind (arith, left-whole p k)
+  left-whole p k h = grind arith
 
   -- of two tests one of which fails, the two together give nothing
   failed : (s t : Bool) (a b : Option (List K)) → (s ≡ true → t ≡ true → option_and a b ≡ None)
       → option_and (cond s a None) (cond t b None) ≡ None
-  failed true true a b h = h refl refl
-  failed true false a b h = and-none a
-  failed false t a b h = refl
+  failed s t a b h = grind arith
 
   -- nothing further behind
   then-ended : (a : Option (List K)) → then_behind cmp [] a ≡ a
-  then-ended None = refl
-  then-ended (Some r) = refl
+  then-ended a = grind arith
 
   module _ (o : IsTotalOrder cmp) where
-    -- no component equals two that differ
-    equal-twice : (x y z : K) → is_eq (cmp x z) ≡ true → is_eq (cmp y z) ≡ true → is_eq (cmp x y) ≡ true
-    equal-twice x y z h g =
-        ap is_eq (o.congr x z y ((Equal-is (cmp x z)).0 h)) ∙ ap is_eq (flipped ((Equal-is (cmp y z)).0 g))
-      where
-        flipped : cmp y z ≡ Equal → cmp z y ≡ Equal
-        flipped e = o.antisymm z y ∙ ap ordering_reverse e
-
     -- no key starts with two prefixes that part
     apart : (q r k : List K) (n : ℕ) (x y : K) → slice_get q n ≡ Some x → slice_get r n ≡ Some y
         → is_eq (cmp x y) ≡ false → option_and (behind cmp r k) (behind cmp q k) ≡ None
-    apart [] r k n x y d e h = none-some x d
-    apart (a ∷ q) [] k n x y d e h = none-some y e
-    apart (a ∷ q) (b ∷ r) [] n x y d e h = refl
-    apart (a ∷ q) (b ∷ r) (c ∷ k) zero x y d e h =
-        failed (is_eq (cmp b c)) (is_eq (cmp a c)) (behind cmp r k) (behind cmp q k)
-        (λ s t. absurd (true≢false (sym (equal-twice a b c t s) ∙ differ)))
-      where
-        differ : is_eq (cmp a b) ≡ false
-        differ = let f : a ≡ x = cc in let g : b ≡ y = cc in rw (f, g) h
-    apart (a ∷ q) (b ∷ r) (c ∷ k) (suc n) x y d e h =
-        let deeper = apart q r k n x y d e h in
-        failed (is_eq (cmp b c)) (is_eq (cmp a c)) (behind cmp r k) (behind cmp q k) (λ s t. deeper)
+    apart (a ∷ q) (b ∷ r) (c ∷ k) (suc n) x y d e h = grind (arith, apart q r k n x y)
+    apart q r k n x y d e h = grind arith
 
     -- what is left behind two parts is what is left behind the one and then the other
     pub behind-parts : (q r left k : List K) → behind cmp q r ≡ Some left
@@ -112,56 +82,44 @@ module _ {K : Type 0} (cmp : K → K → Ordering) where
 
     -- a component that equals another begins an equal key
     same-first : (x y : K) (s : List K) → is_eq (cmp x y) ≡ true → same_key cmp (x ∷ s) (y ∷ s) ≡ true
-    same-first x y s h = ap (λ b. cond b (same_key cmp s s) false) h ∙ same-itself cmp o s
+    same-first x y s h = grind (arith, same-itself)
 
 module _ {K V : Type 0} (cmp : K → K → Ordering) where
   -- a child that begins as what is left agrees with it in one component
   pub child-agrees : (f : Forest K V) (t : Tree K V) (left : List K) (x : K) (l : List K) → left ≡ x ∷ l
       → IsFoundChild cmp f x t → Agree cmp t.prefix left 1
-  child-agrees f t left x l e c = by t.prefix c.begins
-    where
-      by : (p : List K) → same_key cmp (take 1 p) (x ∷ []) ≡ true → Agree cmp p left 1
-      by [] h = absurd (true≢false (sym h))
-      by (y ∷ p) h = record { within_prefix = omega arith; within_key = rw e (omega arith); same = rw e h }
+  child-agrees f t left x l e c = grind arith
 
 module _ {K V : Type 0} where
   -- where the one is there, and the other is there together with it
   and-left : (a : Option (List K)) (v : Option V) (f : List K → Option V)
       → option_and a (node_lookup v f a) ≡ node_lookup v f a
-  and-left None v f = refl
-  and-left (Some r) v f = refl
+  and-left a v f = grind arith
 
   -- what two lists have not both, a node has not where the first has it
   and-looked : (a b : Option (List K)) (v : Option V) (f : List K → Option V) → option_and a b ≡ None
       → option_and a (node_lookup v f b) ≡ None
-  and-looked None b v f e = refl
-  and-looked (Some r) None v f e = refl
-  and-looked (Some r) (Some s) v f e = none-some s (sym e)
+  and-looked a b v f e = grind arith
 
   -- a look behind equal maps
   then-equal : (f g : List K → Option V) → ((k : List K) → f k ≡ g k) → (a : Option (List K))
       → option_and_then f a ≡ option_and_then g a
-  then-equal f g e None = refl
-  then-equal f g e (Some r) = e r
+  then-equal f g e a = grind arith
 
   -- none behind a map that has none
   then-none : (f : List K → Option V) → ((k : List K) → f k ≡ None) → (a : Option (List K)) → option_and_then f a ≡ None
-  then-none f e None = refl
-  then-none f e (Some r) = e r
+  then-none f e a = grind arith
 
   module _ (cmp : K → K → Ordering) where
     -- inside a prefix
     and-then_left : (m : List K) (a : Option (List K)) (v : Option V) (f : List K → Option V)
         → option_and a (node_lookup v f (then_behind cmp m a)) ≡ node_lookup v f (then_behind cmp m a)
-    and-then_left m None v f = refl
-    and-then_left m (Some r) v f = refl
+    and-then_left m a v f = grind arith
 
     -- further behind, what is below a node
     and-below : (x : K) (l : List K) (a : Option (List K)) (v : Option V) (f : List K → Option V)
         → option_and (then_behind cmp (x ∷ l) a) (node_lookup v f a) ≡ option_and_then (under cmp f (x ∷ l)) a
-    and-below x l None v f = refl
-    and-below x l (Some []) v f = refl
-    and-below x l (Some (y ∷ r)) v f = refl
+    and-below x l a v f = grind arith
 
     module _ (o : IsTotalOrder cmp) where
       -- where the prefix ends in that of a node, all of its keys are under it
@@ -199,8 +157,7 @@ module _ {K V : Type 0} where
       -- under a test, equal values
       and-where : (b : Bool) (a : Option (List K)) (v w : Option V) → (b ≡ true → v ≡ w)
           → option_and (cond b a None) v ≡ option_and (cond b a None) w
-      and-where true a v w h = ap (option_and a) (h refl)
-      and-where false a v w h = refl
+      and-where b a v w h = grind arith
 
       -- of the keys that begin with a component, the children have those of one child
       under-child : (f : Forest K V) (x : K) (t : Tree K V) (l k : List K) → IsFoundChild cmp f x t
@@ -223,16 +180,11 @@ module _ {K V : Type 0} where
       -- one prefix before another before the keys of a map, the second spelled in another way
       then-twice : (f : List K → Option V) (q p : List K) → same_key cmp q p ≡ true → (a : Option (List K))
           → option_and_then (prefixed cmp f q) a ≡ option_and_then f (then_behind cmp p a)
-      then-twice f q p h None = refl
-      then-twice f q p h (Some r) = ap (option_and_then f) (behind-same cmp o q p r h)
+      then-twice f q p h a = grind (arith, behind-same)
 
-      -- the keys of the root that start with the prefix are those of the node that start with the rest, with the front before them
+      -- the keys of the root that start with the prefix are those of the node that start with the rest, behind the front
       pub record IsPart (root : Tree K V) (prefix : List K) (node : Tree K V) (front rest : List K) : Type 0 where
         pub same : (k : List K) → under cmp (lookup cmp root) prefix k ≡ prefixed cmp (under cmp (lookup cmp node) rest) front k
-
-      -- the root is one
-      pub part-start : (root : Tree K V) (prefix : List K) → IsPart root prefix root [] prefix
-      part-start root prefix = record { same = λ k. refl }
 
       module _ (root : Tree K V) (prefix : List K) (t : Tree K V) (front rest : List K)
           (p : IsPart root prefix t front rest) where
@@ -248,13 +200,7 @@ module _ {K V : Type 0} where
         walk-none : ((k : List K) → under cmp (lookup cmp t) rest k ≡ None)
             → IsWalk cmp (under cmp (lookup cmp root) prefix) []
         unfolding IsStrictlySortedBy
-        walk-none e = record {
-          ascends = tt;
-          lists = λ k v. (
-            λ h. absurd h,
-            λ h. none-some v (sym (p.same k ∙ then-none (under cmp (lookup cmp t) rest) e (behind cmp front k)) ∙ h),
-          );
-        }
+        walk-none e = grind arith
 
         -- the prefix ends in that of the node
         pub walk-inside : (n : ℕ) (q : List K) → q ≡ t.prefix → IsCanonical cmp t → Agree cmp q rest n → n ≡ length rest
@@ -270,7 +216,7 @@ module _ {K V : Type 0} where
         -- the rest of the prefix behind that of the node
         left_of : (q : List K) → q ≡ t.prefix → Agree cmp q rest (length q)
             → behind cmp t.prefix rest ≡ Some (drop (length q) rest)
-        left_of q e a = ap (λ l. behind cmp l rest) (sym e) ∙ left-whole cmp q rest a.same
+        left_of q e a = grind (arith, left-whole)
 
         -- the prefix ends behind that of the node
         pub walk-ended : (q : List K) → q ≡ t.prefix → IsCanonical cmp t → Agree cmp q rest (length q)
@@ -296,18 +242,11 @@ module _ {K V : Type 0} where
         -- the two part, whichever goes on with the lesser component
         pub walk-default : (q : List K) (parting : Parting) → q ≡ t.prefix → IsParting cmp q rest parting
             → parting ≢ Behind → ((n : ℕ) → parting ≢ Inside n) → IsWalk cmp (under cmp (lookup cmp root) prefix) []
-        walk-default q Behind e a h i = absurd (h refl)
-        walk-default q (Inside n) e a h i = absurd (i n refl)
-        walk-default q (Lower n) e a h i = walk-parted Less q n e a refl
-        walk-default q (Higher n) e a h i = walk-parted Greater q n e a refl
+        walk-default q parting e a h i = grind (arith, walk-parted)
 
         -- the same node with its front and rest as slices
         pub part-split : (a b : List K) → a ≡ front → b ≡ rest → IsPart root prefix t a b
-        part-split a b e h = record {
-          same =
-              λ k. p.same k ∙ ap (λ r. prefixed cmp (under cmp (lookup cmp t) r) front k) (sym h)
-              ∙ ap (λ f. prefixed cmp (under cmp (lookup cmp t) b) f k) (sym e);
-        }
+        part-split a b e h = grind arith
 
         -- the child where the rest leads
         pub part-next : (q left : List K) (x : K) (l : List K) (child : Tree K V) → q ≡ t.prefix

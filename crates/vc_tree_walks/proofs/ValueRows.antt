@@ -1,7 +1,7 @@
 -- What a step to a tree does to the values that are left.
 --     first-value        the values of a row are those of its first tree, and then the others
 --     entered-values        a step to a tree with children, with rows as the iterator stores them
-use Rattle.std.proofs.Common.{◌≡◌, List, [], ◌∷◌, ◌++◌, map, Option, None, Some, refl, sym, ap, ◌∙◌, append_assoc}
+use Rattle.std.proofs.Common.{◌≡◌, List, [], ◌∷◌, ◌++◌, map, Option, refl, sym, ap, ◌∙◌, append_assoc, arith}
 use Rattle.std.proofs.lemmas.List.{map-append, reverse-append}
 use Rattle.std.specs.Prelude.{reverse, ℕ}
 use Rattle.std.specs.Borrow.{Bor}
@@ -14,17 +14,16 @@ module _ {K V : Type 0} where
   -- a prefix before the keys changes no value
   values-prepended : (p : List K) (l : List (List K × V)) → map (λ b. b.1) (map (prepended p) l) ≡ map (λ b. b.1) l
   values-prepended p [] = refl
-  values-prepended p (b ∷ l) = ap (λ vs. b.1 ∷ vs) (values-prepended p l)
+  values-prepended p (b ∷ l) = grind (arith, values-prepended p l)
 
   -- a node's own value before those of its children
   values-own : (v : Option V) (l : List (List K × V)) → map (λ b. b.1) (own_pair v ++ l) ≡ own_value v ++ map (λ b. b.1) l
-  values-own None l = refl
-  values-own (Some v) l = refl
+  values-own v l = grind arith
 
   -- the values of a tree are its own, and then those of its children
   pub tree-values : (p : List K) (v : Option V) (kids : Forest K V)
       → map (λ b. b.1) (map (prepended p) (own_pair v ++ walk_in kids)) ≡ own_value v ++ map (λ b. b.1) (walk_in kids)
-  tree-values p v kids = values-prepended p (own_pair v ++ walk_in kids) ∙ values-own v (walk_in kids)
+  tree-values p v kids = grind (arith, values-prepended, values-own)
 
   -- the values of a row are those of its first tree, and then the others
   pub first-value : (p : List K) (v : Option V) (kids others : Forest K V) (m : List V)
