@@ -1,6 +1,6 @@
 -- What an insertion changes of a map: the value of one key.
 --     updated-behind        a change behind a prefix
---     updated-value, updated-children, updated-split        a change of a node's value or of its children, or of a node split in two
+--     updated-value, updated-children, updated-split        a change of a node's value, of its children, or of a split node
 --     updated-insert, updated-set        one more tree of a list, or one that is changed
 --     updated-alike, updated-respelled        a change of what is alike, and of an equal key
 use Rattle.std.proofs.Common.{◌≡◌, ℕ, zero, suc, ◌<◌, [], ◌∷◌, ◌++◌, List, Option, None, Some, refl, sym, ap, subst}
