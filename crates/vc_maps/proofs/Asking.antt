@@ -1,6 +1,6 @@
 -- What is asked of two maps: each question is one that the kind of the join asks, and may be asked where its parts may.
-use Rattle.std.proofs.Common.{◌≡◌, Bool, true, false, cond, List, Option, Some, None, Result, Ok, Err, IsOk, OnOk}
-use Rattle.std.proofs.Common.{OnErr, refl, sym, subst}
+use Rattle.std.proofs.Common.{◌≡◌, Bool, true, cond, List, Option, Some, None, Result, Ok, Err, IsOk, OnOk}
+use Rattle.std.proofs.Common.{OnErr, arith, refl, sym}
 use mathlib.Core.Bool.{true≢false}
 use Rattle.std.specs.declared.cmp.Ordering.{Ordering}
 use Rattle.vc_joins.specs.declared.question.OuterJoinArg.{OuterJoinArg}
@@ -12,8 +12,7 @@ use Rattle.vc_joins.specs.Question.{asks, asks_left, asks_right, asked, left_spe
 use Rattle.vc_joins.proofs.Functions.{joins-of_functions}
 
 some-if : {A : Type 0} (P : A → Bool) (x y : A) (b : Bool) → P x ≡ b → cond b (Some x) None ≡ Some y → P y ≡ true
-some-if P x y true e h = let same : x ≡ y = cc in subst (λ z. P z ≡ true) same e
-some-if P x y false e h = let none : None ≡ Some y = h in cc
+some-if P x y b e h = grind arith
 
 module _ {K V W : Type 0} (cmp : K → K → Ordering) (kind : JoinKind) where
   asked-asks : (p : Option (K × V)) (q : Option (K × W)) (a : OuterJoinArg K V W) → asked kind left_spelling p q
@@ -27,7 +26,7 @@ module _ {K V W : Type 0} (cmp : K → K → Ordering) (kind : JoinKind) where
   pub asked-of : (xs xs' : List (K × V)) (ys ys' : List (K × W)) (a : OuterJoinArg K V W) → xs' ≡ xs → ys' ≡ ys
       → IsAsked cmp kind left_spelling xs' ys' a → IsAsked cmp kind left_spelling xs ys a
   asked-of xs xs' ys ys' a e f h =
-      subst (λ l. IsAsked cmp kind left_spelling l ys a) e (subst (λ l. IsAsked cmp kind left_spelling xs' l a) f h)
+      rw (e, f) at h
 
   -- a question that is asked is one that the kind asks
   pub asked-kind : {xs : List (K × V)} {ys : List (K × W)} (a : OuterJoinArg K V W)
@@ -37,26 +36,24 @@ module _ {K V W : Type 0} (cmp : K → K → Ordering) (kind : JoinKind) where
   -- the same question, in parts that make it
   pub asked-as : {xs : List (K × V)} {ys : List (K × W)} (a b : OuterJoinArg K V W) → b ≡ a
       → IsAsked cmp kind left_spelling xs ys a → IsAsked cmp kind left_spelling xs ys b
-  asked-as {xs} {ys} a b e h = subst (λ c. IsAsked cmp kind left_spelling xs ys c) (sym e) h
+  asked-as {xs} {ys} a b e h = rw e h
 
   module _ {X : Type 0} (May : OuterJoinArg K V W → Option X → Type 0) (Keeps : OuterJoinArg K V W → K → Type 0) where
     -- a join of the lists behind two slices
     pub join-of : (xs xs' : List (K × V)) (ys ys' : List (K × W)) (zs : List (K × X)) → xs' ≡ xs → ys' ≡ ys
         → IsJoin cmp kind left_spelling xs' ys' May Keeps zs → IsJoin cmp kind left_spelling xs ys May Keeps zs
     join-of xs xs' ys ys' zs e f h =
-        subst (λ l. IsJoin cmp kind left_spelling l ys May Keeps zs) e
-        (subst (λ l. IsJoin cmp kind left_spelling xs' l May Keeps zs) f h)
+        rw (e, f) at h
 
-    pub join_by-of : (xs xs' : List (K × V)) (ys ys' : List (K × W)) (zs : List (K × X)) → xs' ≡ xs → ys' ≡ ys
-        → IsJoin cmp kind left_spelling xs' ys' May Keeps zs → (h : OuterJoinArg K V W → Option X)
-        → IsJoinBy cmp kind left_spelling xs ys May h zs
-    join_by-of xs xs' ys ys' zs e f h =
-        joins-of_functions cmp May Keeps kind left_spelling xs ys zs (join-of xs xs' ys ys' zs e f h)
+  -- a join is that by each function that answers as may be answered
+  pub functions-join : {X : Type 0} {May : OuterJoinArg K V W → Option X → Type 0} {Keeps : OuterJoinArg K V W → K → Type 0}
+      {xs : List (K × V)} {ys : List (K × W)} {zs : List (K × X)} → IsJoin cmp kind left_spelling xs ys May Keeps zs
+      → (h : OuterJoinArg K V W → Option X) → IsJoinBy cmp kind left_spelling xs ys May h zs
+  functions-join {X} {May} {Keeps} {xs} {ys} {zs} = joins-of_functions cmp May Keeps kind left_spelling xs ys zs
 
 -- what follows where a call is not refused
 pub on-ok : {X E : Type 0} (result : Result X E) {P Q : Type 0} → (P → Q) → OnOk result P → OnOk result Q
-on-ok (Ok x) f p = f p
-on-ok (Err e) f p = tt
+on-ok result f p = grind arith
 
 -- what holds where a call is not refused, if it never is
 pub at-ok : {X E : Type 0} (result : Result X E) {P : Type 0} → IsOk result → OnOk result P → P
@@ -70,4 +67,4 @@ pub join-ascends : {E K V W : Type 0} (cmp : K → K → Ordering) (kind : JoinK
     → OnOk result (IsJoin cmp kind left_spelling xs ys May Keeps zs) → OnErr result (zs ≡ xs) → AscendsByKey cmp xs
     → AscendsByKey cmp zs
 join-ascends cmp kind May Keeps (Ok x) xs ys zs j e h = j.ascends
-join-ascends cmp kind May Keeps (Err r) xs ys zs j e h = subst (λ l. AscendsByKey cmp l) (sym e) h
+join-ascends cmp kind May Keeps (Err r) xs ys zs j e h = rw e h

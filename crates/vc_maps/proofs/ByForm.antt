@@ -18,7 +18,7 @@ use Rattle.vc_merge.proofs.Members.{equal-from_is_eq}
 use Rattle.vc_joins.specs.Entries.{AscendsByKey, entry_at, value_at}
 use Rattle.vc_sets.proofs.ByForm.{at-place, ordered, side-equal}
 use Rattle.vc_maps.specs.Borrowed.{value_by}
-use Rattle.vc_maps.proofs.Editing.{found-taken, gap-taken}
+use Rattle.vc_maps.proofs.Editing.{found-changed, gap-taken}
 
 -- ---- what a place tells, whatever the order is
 
@@ -26,45 +26,37 @@ module _ {K V : Type 0} (side : K → Ordering) where
   found-by : (es : List (K × V)) (i : ℕ) (d : K × V) → i < length es → HoldsAt (λ p. side p.0 ≡ Equal) es i
       → AllByRecursion (λ p. side p.0 ≡ Less) (take i es) → value_by side es ≡ Some (get_or es i d).1
   found-by [] i d h e p = absurd (omega arith)
-  found-by (x ∷ es) zero d h e p = ap (λ o. cond (is_eq o) (Some x.1) (value_by side es)) (e d)
-  found-by (x ∷ es) (suc i) d h e p = let k : i < length es = omega arith in
-      ap (λ o. cond (is_eq o) (Some x.1) (value_by side es)) p.0 ∙ found-by es i d k e p.1
+  found-by (x ∷ es) zero d h e p = rw (e d)
+  found-by (x ∷ es) (suc i) d h e p = rw p.0 (found-by es i d (omega arith) e p.1)
 
   -- the value at the place
-  pub found-value_by : (es : List (K × V)) (i : ℕ) (d : K × V) → IsFound (λ p. side p.0) es i
+  pub found-value_by : {es : List (K × V)} {i : ℕ} → IsFound (λ p. side p.0) es i → (d : K × V)
       → value_by side es ≡ Some (get_or es i d).1
-  found-value_by es i d f = found-by es i d f.within f.equal f.less
+  found-value_by {es} {i} f d = found-by es i d f.within f.equal f.less
 
-  none-of : (es : List (K × V)) (o : Ordering) → is_eq o ≡ false → AllByRecursion (λ p. side p.0 ≡ o) es
-      → value_by side es ≡ None
-  none-of [] o e p = refl
-  none-of (x ∷ es) o e p =
-      ap (λ b. cond b (Some x.1) (value_by side es)) (ap is_eq p.0 ∙ e) ∙ none-of es o e p.1
+  none-greater : (es : List (K × V)) → AllByRecursion (λ p. side p.0 ≡ Greater) es → value_by side es ≡ None
+  none-greater [] p = refl
+  none-greater (x ∷ es) p = rw p.0 (none-greater es p.1)
 
   gap-by : (es : List (K × V)) (i : ℕ) → AllByRecursion (λ p. side p.0 ≡ Less) (take i es)
       → AllByRecursion (λ p. side p.0 ≡ Greater) (drop i es) → value_by side es ≡ None
   gap-by [] i p q = refl
-  gap-by (x ∷ es) zero p q = none-of (x ∷ es) Greater refl q
-  gap-by (x ∷ es) (suc i) p q = ap (λ o. cond (is_eq o) (Some x.1) (value_by side es)) p.0 ∙ gap-by es i p.1 q
+  gap-by (x ∷ es) zero p q = none-greater (x ∷ es) q
+  gap-by (x ∷ es) (suc i) p q = rw p.0 (gap-by es i p.1 q)
 
   -- no value stands at a gap
-  pub gap-value_by : (es : List (K × V)) (i : ℕ) → IsGap (λ p. side p.0) es i → value_by side es ≡ None
-  gap-value_by es i g = gap-by es i g.less g.greater
-
-  some-found : (es : List (K × V)) (i : ℕ) → i < length es → IsFound (λ p. side p.0) es i
-      → is_some (value_by side es) ≡ true
-  some-found [] i h f = absurd (omega arith)
-  some-found (x ∷ es) i h f = ap is_some (found-value_by (x ∷ es) i x f)
+  pub gap-value_by : {es : List (K × V)} {i : ℕ} → IsGap (λ p. side p.0) es i → value_by side es ≡ None
+  gap-value_by {es} {i} g = gap-by es i g.less g.greater
 
   -- a place is found where there is a value
   pub place-has_value_by : (es : List (K × V)) (r : Result ℕ ℕ) → IsPlace (λ p. side p.0) es r
       → is_ok r ≡ is_some (value_by side es)
-  place-has_value_by es (Ok i) f = sym (some-found es i f.within f)
-  place-has_value_by es (Err i) g = sym (ap is_some (gap-value_by es i g))
+  place-has_value_by es (Ok i) f = let at = at-place es i f.within in sym (ap is_some (found-value_by f at.0))
+  place-has_value_by es (Err i) g = sym (ap is_some (gap-value_by g))
 
 -- ---- by the laws of a form
 
-module _ {K V : Type 0} (cmp : K → K → Ordering) (side : K → Ordering)
+module _ {K V : Type 0} {cmp : K → K → Ordering} {side : K → Ordering}
     (equal : (x y : K) → side x ≡ Equal → side y ≡ cmp y x) (total : IsTotalOrder cmp) where
   -- a key that is equal to the form is at the same value
   pub value-equal : (es : List (K × V)) (k : K) → side k ≡ Equal → value_by side es ≡ value_at cmp es k
@@ -85,33 +77,30 @@ module _ {K V : Type 0} (cmp : K → K → Ordering) (side : K → Ordering)
     pub values : (k : K) → value_at cmp new k ≡ cond (is_eq (side k)) None (value_at cmp es k)
 
   -- without the pair whose key is equal to the form
-  pub found-taken_by : (es slice new : List (K × V)) (i : ℕ) → slice ≡ es → IsFound (λ (p : K × V). side p.0) slice i
+  pub found-taken_by : {es slice new : List (K × V)} {i : ℕ} → slice ≡ es → IsFound (λ (p : K × V). side p.0) slice i
       → AscendsByKey cmp es → new ≡ take i es ++ drop (suc i) es → IsTakenBy es new
-  found-taken_by es slice new i e f p n =
+  found-taken_by {es} {slice} {new} {i} e f p n =
       let r = at-place slice i f.within in
-      let key : K = r.0.0 in
-      let at : side key ≡ Equal = ap (λ (x : K × V). side x.0) (sym (r.1 r.0)) ∙ f.equal r.0 in
-      let taken = found-taken cmp total es slice new key i e
-      (subst (λ (s : K → Ordering). IsFound (λ (p : K × V). s p.0) slice i) (side-equal cmp side equal key at) f) p n in
+      let at : side r.0.0 ≡ Equal = rw (r.1 r.0) at (f.equal r.0) in
+      let taken = found-changed total e
+      (subst (λ (s : K → Ordering). IsFound (λ (p : K × V). s p.0) slice i) (side-equal cmp side equal r.0.0 at) f) p None tt n in
       record {
         ascends = taken.ascends;
-        entries = λ k. taken.entries k ∙ ap (λ o. cond (is_eq o) None (entry_at cmp es k)) (sym (equal key k at));
-        values = λ k. taken.values k ∙ ap (λ o. cond (is_eq o) None (value_at cmp es k)) (sym (equal key k at));
+        entries = λ k. rw (equal r.0.0 k at) (taken.entries k);
+        values = λ k. rw (equal r.0.0 k at) (taken.values k);
       }
 
-  module _ (es slice : List (K × V)) (i : ℕ) (e : slice ≡ es) (g : IsGap (λ (p : K × V). side p.0) slice i)
+  module _ {es slice : List (K × V)} {i : ℕ} (e : slice ≡ es) (g : IsGap (λ (p : K × V). side p.0) slice i)
       (p : AscendsByKey cmp es) where
     -- at a key that is equal to the form nothing stands there, and at another one nothing changes
     kept-by : (b : Bool) (k : K) → is_eq (side k) ≡ b → (entry_at cmp es k ≡ cond b None (entry_at cmp es k))
         × (value_at cmp es k ≡ cond b None (value_at cmp es k))
     kept-by true k h =
         let at : side k ≡ Equal = equal-from_is_eq (side k) h in
-        let taken = gap-taken cmp total es slice k i e
+        let taken = gap-taken total e
         (subst (λ (s : K → Ordering). IsGap (λ (p : K × V). s p.0) slice i) (side-equal cmp side equal k at) g) p in
-        let same : eq_by_cmp cmp k k ≡ true = ap is_eq (sym (equal k k at)) ∙ h in (
-          taken.entries k ∙ ap (λ b. cond b None (entry_at cmp es k)) same,
-          taken.values k ∙ ap (λ b. cond b None (value_at cmp es k)) same,
-        )
+        let same : eq_by_cmp cmp k k ≡ true = ap is_eq (sym (equal k k at)) ∙ h in
+        (rw same at (taken.entries k), rw same at (taken.values k))
     kept-by false k h = (refl, refl)
 
     -- where no key is equal to the form

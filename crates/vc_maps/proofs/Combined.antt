@@ -1,6 +1,6 @@
 -- Maps that take in another one whole: what each event adds, and what stands at each key in the end.
-use Rattle.std.proofs.Common.{◌≡◌, IsOk, List, [], ◌∷◌, ◌++◌, Option, Some, None, Result, Ok, Err, OnOk, refl, sym}
-use Rattle.std.proofs.Common.{ap, subst, ◌∙◌}
+use Rattle.std.proofs.Common.{◌≡◌, IsOk, List, [], ◌∷◌, ◌++◌, Option, Some, Result, Ok, Err, OnOk, refl, sym}
+use Rattle.std.proofs.Common.{arith, ◌∙◌}
 use mathlib.Core.Bool.{true≢false}
 use Rattle.std.specs.Cmp.{IsTotalOrder, tied_itself}
 use Rattle.std.specs.Option.{option_map, option_or, option_and_then}
@@ -14,7 +14,7 @@ use Rattle.vc_joins.specs.declared.question.OuterJoinArg.TheVariants.{Left, Righ
 use Rattle.vc_joins.specs.declared.question.JoinKind.TheVariants.{Outer}
 use Rattle.vc_joins.specs.Entries.{entry_at, value_at}
 use Rattle.vc_joins.specs.Events.{AnswerAdds}
-use Rattle.vc_joins.specs.Join.{IsAnswered, IsAsked, IsJoin, MovedKey, asked_at}
+use Rattle.vc_joins.specs.Join.{IsAnswered, IsJoin, MovedKey, asked_at}
 use Rattle.vc_joins.specs.Question.{asked, left_spelling, shown_key}
 use Rattle.vc_joins.proofs.Functions.{joins-of_functions, value-entry}
 use Rattle.vc_maps.proofs.Asking.{on-ok}
@@ -30,32 +30,31 @@ module _ {K V : Type 0} where
   -- the closure may be called at a question that is asked
   pub can-combine : (can : V → V → Type 0) (a : OuterJoinArg K V V) → ((k : K) (v w : V) → a ≡ Both k v w → can v w)
       → CanCombine can a
-  can-combine can (Left k v) h = tt
-  can-combine can (Right k w) h = tt
-  can-combine can (Both k v w) h = h k v w refl
+  can-combine can a h = grind arith
 
   -- a key that was moved is equal to the one that was shown
   pub moved-equal : (cmp : K → K → Ordering) → IsTotalOrder cmp → (a : OuterJoinArg K V V) (k : K) → MovedKey a k
       → cmp (shown_key a) k ≡ Equal
-  moved-equal cmp total a k h = subst (λ l. cmp (shown_key a) l ≡ Equal) (sym h) (tied_itself total (shown_key a))
+  moved-equal cmp total a k h = rw h (tied_itself total (shown_key a))
 
 module _ {K V : Type 0} (gives : V → V → V → Type 0) where
-  lefts-gathered : (ps : List (K × V)) → Gathers (λ p. AnswerAdds (Combines gives) MovedKey (Some (Left p.0 p.1))) ps ps
-  lefts-gathered [] = refl
-  lefts-gathered (p ∷ ps) = (p ∷ [], ps, (Some p, (refl, refl), refl), lefts-gathered ps, refl)
-
-  rights-gathered : (ps : List (K × V)) → Gathers (λ p. AnswerAdds (Combines gives) MovedKey (Some (Right p.0 p.1))) ps ps
-  rights-gathered [] = refl
-  rights-gathered (p ∷ ps) = (p ∷ [], ps, (Some p, (refl, refl), refl), rights-gathered ps, refl)
+  -- pairs at each of which the answer to a question is the pair itself
+  gathered : (question : K × V → OuterJoinArg K V V)
+      → ((p : K × V) → AnswerAdds (Combines gives) MovedKey (Some (question p)) (p ∷ []))
+      → (ps : List (K × V)) → Gathers (λ p. AnswerAdds (Combines gives) MovedKey (Some (question p))) ps ps
+  gathered question itself [] = refl
+  gathered question itself (p ∷ ps) = (p ∷ [], ps, itself p, gathered question itself ps, refl)
 
   -- pairs of one map alone are added as they are
   pub lefts-added : (ps old new : List (K × V)) → new ≡ old ++ ps
       → Appends (λ p. AnswerAdds (Combines gives) MovedKey (Some (Left p.0 p.1))) ps old new
-  lefts-added ps old new e = record { added = ps; gathered = lefts-gathered ps; items = e }
+  lefts-added ps old new e =
+      record { added = ps; gathered = gathered (λ p. Left p.0 p.1) (λ p. (Some p, (refl, refl), refl)) ps; items = e }
 
   pub rights-added : (ps old new : List (K × V)) → new ≡ old ++ ps
       → Appends (λ p. AnswerAdds (Combines gives) MovedKey (Some (Right p.0 p.1))) ps old new
-  rights-added ps old new e = record { added = ps; gathered = rights-gathered ps; items = e }
+  rights-added ps old new e =
+      record { added = ps; gathered = gathered (λ p. Right p.0 p.1) (λ p. (Some p, (refl, refl), refl)) ps; items = e }
 
 -- ---- values
 
@@ -68,17 +67,11 @@ module _ {K V : Type 0} (g : V → V → V) where
 
   one-answer : (gives : V → V → V → Type 0) (a : OuterJoinArg K V V) (r : Option V)
       → ((k : K) (v w x : V) → a ≡ Both k v w → gives v w x → x ≡ g v w) → Combines gives a r → r ≡ answer_of a
-  one-answer gives (Left k v) r one m = m
-  one-answer gives (Right k w) r one m = m
-  one-answer gives (Both k v w) None one m = absurd m
-  one-answer gives (Both k v w) (Some x) one m = ap Some (one k v w x refl m)
+  one-answer gives a r one m = grind arith
 
   values-combined : (p q : Option (K × V)) → option_and_then answer_of (asked Outer left_spelling p q)
       ≡ combined g (option_map (λ p. p.1) p) (option_map (λ p. p.1) q)
-  values-combined (Some p) (Some q) = refl
-  values-combined (Some p) None = refl
-  values-combined None (Some q) = refl
-  values-combined None None = refl
+  values-combined p q = grind arith
 
 module _ {K V : Type 0} (cmp : K → K → Ordering) (xs ys zs : List (K × V)) where
   -- where the closure gives one answer to the two values of each key, that stands there
@@ -87,22 +80,17 @@ module _ {K V : Type 0} (cmp : K → K → Ordering) (xs ys zs : List (K × V)) 
   combined-by gives j g one k =
       joins-of_functions cmp (Combines gives) MovedKey Outer left_spelling xs ys zs j (answer_of g)
       (λ a r i m. one-answer g gives a r
-      (λ l v w x e. one l v w x (subst (λ b. IsAsked cmp Outer left_spelling xs ys b) e i)) m) k
+      (λ l v w x e. one l v w x (rw e at i)) m) k
       ∙ rw (value-entry cmp xs k, value-entry cmp ys k) (values-combined g (entry_at cmp xs k) (entry_at cmp ys k))
 
   combines-weaker : (gives may : V → V → V → Type 0) → ((v w x : V) → gives v w x → may v w x)
       → (a : OuterJoinArg K V V) (r : Option V) → Combines gives a r → Combines may a r
-  combines-weaker gives may f (Left k v) r m = m
-  combines-weaker gives may f (Right k w) r m = m
-  combines-weaker gives may f (Both k v w) None m = absurd m
-  combines-weaker gives may f (Both k v w) (Some x) m = f v w x m
+  combines-weaker gives may f a r m = grind arith
 
   answered-weaker : (gives may : V → V → V → Type 0) → ((v w x : V) → gives v w x → may v w x)
       → (a : Option (OuterJoinArg K V V)) (found : Option (K × V)) → IsAnswered (Combines gives) MovedKey a found
       → IsAnswered (Combines may) MovedKey a found
-  answered-weaker gives may f None found h = h
-  answered-weaker gives may f (Some a) None h = combines-weaker gives may f a None h
-  answered-weaker gives may f (Some a) (Some p) h = (combines-weaker gives may f a (Some p.1) h.0, h.1)
+  answered-weaker gives may f a found h = grind (arith, combines-weaker gives may f)
 
   join-weaker : (gives may : V → V → V → Type 0) → ((v w x : V) → gives v w x → may v w x)
       → IsJoin cmp Outer left_spelling xs ys (Combines gives) MovedKey zs
@@ -119,10 +107,7 @@ module _ {K V : Type 0} (cmp : K → K → Ordering) (xs ys zs : List (K × V)) 
   joins-weaker result gives may j f = on-ok result (join-weaker gives may f) j
 
   right-or-left : (v w : Option V) → combined (λ v w. w) v w ≡ option_or w v
-  right-or-left (Some v) (Some w) = refl
-  right-or-left (Some v) None = refl
-  right-or-left None (Some w) = refl
-  right-or-left None None = refl
+  right-or-left v w = grind arith
 
   -- where the value of the right takes the place of the left one
   pub right-values : IsJoin cmp Outer left_spelling xs ys (Combines (λ v w x. x ≡ w)) MovedKey zs → (k : K)

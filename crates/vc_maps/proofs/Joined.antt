@@ -1,7 +1,8 @@
 -- A merge that asks at its events builds the join of its two maps.
-use Rattle.std.proofs.Common.{◌≡◌, ℕ, zero, suc, ◌+◌, ◌<◌, length, get_or, add-one, arith, Bool, true, false, List}
+use Rattle.std.proofs.Common.{◌≡◌, ℕ, ◌+◌, ◌<◌, length, get_or, arith, Bool, true, false, List}
 use Rattle.std.proofs.Common.{[], ◌∷◌, ◌++◌, take, cond, append-nil, Option, Some, None, Result, Ok, Err, IsOk, ◌⊎◌}
-use Rattle.std.proofs.Common.{refl, sym, ap, subst, ◌∙◌}
+use Rattle.std.proofs.Common.{refl, sym, ◌∙◌}
+use Rattle.std.proofs.lemmas.List.{take_more}
 use Rattle.std.specs.Bool.{MatchBool}
 use Rattle.std.specs.Option.{MatchOption}
 use Rattle.std.specs.Cmp.{IsTotalOrder, tied_itself}
@@ -10,7 +11,7 @@ use Rattle.std.specs.declared.cmp.Ordering.{Ordering}
 use Rattle.std.specs.declared.cmp.Ordering.TheVariants.{Equal}
 use Rattle.vc_merge.specs.Building.{Skips}
 use Rattle.vc_merge.specs.Chain.{Answer, Allows, Finishes, Stops, IsMerged}
-use Rattle.vc_merge.specs.Gathering.{Appends, Adds, IsBuilding, IsBuilt}
+use Rattle.vc_merge.specs.Gathering.{Appends, Adds, IsBuilding}
 use Rattle.vc_merge.specs.Script.{collision}
 use Rattle.vc_merge.proofs.Builds.{appends-nothing, appends-append, appends-none, merged-builds, merged-is_ok}
 use Rattle.vc_joins.specs.declared.question.OuterJoinArg.{OuterJoinArg}
@@ -22,25 +23,12 @@ use Rattle.vc_joins.specs.Question.{asks, asks_left, asks_right, left_spelling, 
 use Rattle.vc_joins.proofs.Events.{join-built}
 use Rattle.vc_maps.specs.Asking.{AtHeads}
 
--- the first i elements, and the next one
-take-one : {X : Type 0} (xs : List X) (i : ℕ) (x : X) → i < length xs → x ≡ get_or xs i x → take (i + 1) xs ≡ take i xs ++ x ∷ []
-take-one [] i x h e = absurd (omega arith)
-take-one (y ∷ xs) zero x h e = ap (λ z. z ∷ []) (sym e)
-take-one (y ∷ xs) (suc i) x h e = let k : i < length xs = omega arith in
-    rw add-one (ap (λ l. y ∷ l) (rw add-one at (take-one xs i x k e)))
-
 module _ {X Z : Type 0} (gives : X → List Z → Type 0) where
   -- what one more element gives
   pub appends-one : (xs : List X) (x : X) (old mid new : List Z) (added : List Z) → Appends gives xs old mid
       → gives x added → new ≡ mid ++ added → Appends gives (xs ++ x ∷ []) old new
-  appends-one xs x old mid new added p g e =
-      appends-append gives xs (x ∷ []) old mid new p
-      (record {
-        added = added ++ [];
-        gathered = (added, [], g, refl, refl);
-        items =
-            e ∙ ap (λ l. mid ++ l) (sym (append-nil added));
-      })
+  appends-one xs x old mid new added p g e = appends-append gives xs (x ∷ []) old mid new p
+      (record { added = added ++ []; gathered = (added, [], g, refl, refl); items = rw append-nil e })
 
 module _ {K V W X : Type 0} (May : OuterJoinArg K V W → Option X → Type 0) (Keeps : OuterJoinArg K V W → K → Type 0) where
   -- an answer that is put under a key adds the pair
@@ -58,7 +46,7 @@ module _ {K V W X : Type 0} (May : OuterJoinArg K V W → Option X → Type 0) (
       → Appends (λ p. AnswerAdds May Keeps (Some (question p))) (take (i + 1) all) old new
   asked-one question all i x r old mid new h is p m e =
       let g = answer-adds (question x) r mid new m e in
-      subst (λ l. Appends (λ p. AnswerAdds May Keeps (Some (question p))) l old new) (sym (take-one all i x h is))
+      rw (take_more all i x h, ← is)
       (appends-one (λ p. AnswerAdds May Keeps (Some (question p))) (take i all) x old mid new g.0 p g.1 g.2)
 
   -- what one question adds
@@ -84,21 +72,17 @@ pub at-heads : {X Y : Type 0} (P : X → Y → Type 0) (xs : List X) (ys : List 
     → 0 < length ys → x ≡ get_or xs 0 x → y ≡ get_or ys 0 y → P x y → AtHeads P xs ys
 at-heads P [] ys x y h k e f p = absurd (omega arith)
 at-heads P (z ∷ xs) [] x y h k e f p = absurd (omega arith)
-at-heads P (z ∷ xs) (w ∷ ys) x y h k e f p = subst (λ v. P v w) e (subst (λ v. P x v) f p)
+at-heads P (z ∷ xs) (w ∷ ys) x y h k e f p = rw (← e, ← f) p
 
 -- what follows of the first elements of two lists
 pub heads-weaker : {X Y : Type 0} (P Q : X → Y → Type 0) (xs : List X) (ys : List Y)
     → ((x : X) (y : Y) → P x y → Q x y) → AtHeads P xs ys → AtHeads Q xs ys
-heads-weaker P Q [] ys f p = p
-heads-weaker P Q (x ∷ xs) [] f p = p
-heads-weaker P Q (x ∷ xs) (y ∷ ys) f p = f x y p
+heads-weaker P Q xs ys f p = grind arith
 
 -- both lists have a first element where something holds of these
 pub heads-some : {X Y : Type 0} (P : X → Y → Type 0) (xs : List X) (ys : List Y) → AtHeads P xs ys → (0 < length xs)
     × (0 < length ys)
-heads-some P [] ys p = absurd p
-heads-some P (x ∷ xs) [] p = absurd p
-heads-some P (x ∷ xs) (y ∷ ys) p = (omega arith, omega arith)
+heads-some P xs ys p = grind arith
 
 module _ {K V W X M N : Type 0} (May : OuterJoinArg K V W → Option X → Type 0) (Keeps : OuterJoinArg K V W → K → Type 0)
     (kind : JoinKind) (built : M → List (K × X)) (name : M → N) (op : Allows M (K × V) (K × W)) where
@@ -119,21 +103,12 @@ module _ {K V W X M N : Type 0} (May : OuterJoinArg K V W → Option X → Type 
   skips-none gives none ys s t (Ok b) p = (p.0, p.1, appends-none gives none ys (built s) (built t) p.2)
   skips-none gives none ys s t (Err e) p = tt
 
-  lefts-add : (b : Bool) (s t : M) (n : ℕ) (answer : Answer)
-      → MatchBool b (Adds built name (λ p. AnswerAdds May Keeps (Some (Left p.0 p.1)))
-      (take n (op.left s)) s answer t) (Skips built name s answer t)
-      → Adds built name (λ p. AnswerAdds May Keeps (cond b (Some (Left p.0 p.1)) None)) (take n (op.left s)) s answer t
-  lefts-add true s t n answer h = h
-  lefts-add false s t n answer h =
-      skips-none (λ p. AnswerAdds May Keeps None) (λ p. (None, refl, refl)) (take n (op.left s)) s t answer h
-
-  rights-add : (b : Bool) (s t : M) (n : ℕ) (answer : Answer)
-      → MatchBool b (Adds built name (λ q. AnswerAdds May Keeps (Some (Right q.0 q.1)))
-      (take n (op.right s)) s answer t) (Skips built name s answer t)
-      → Adds built name (λ q. AnswerAdds May Keeps (cond b (Some (Right q.0 q.1)) None)) (take n (op.right s)) s answer t
-  rights-add true s t n answer h = h
-  rights-add false s t n answer h =
-      skips-none (λ q. AnswerAdds May Keeps None) (λ q. (None, refl, refl)) (take n (op.right s)) s t answer h
+  -- what is asked at each of some elements, or at none
+  asked-add : {P : Type 0} (question : P → OuterJoinArg K V W) (b : Bool) (ps : List P) (s t : M) (answer : Answer)
+      → MatchBool b (Adds built name (λ p. AnswerAdds May Keeps (Some (question p))) ps s answer t) (Skips built name s answer t)
+      → Adds built name (λ p. AnswerAdds May Keeps (cond b (Some (question p)) None)) ps s answer t
+  asked-add question true ps s t answer h = h
+  asked-add question false ps s t answer h = skips-none (λ p. AnswerAdds May Keeps None) (λ p. (None, refl, refl)) ps s t answer h
 
   -- the one question of two pairs, by its event
   heads-add : (x : K × V) (y : K × W) (s t : M) (answer : Answer)
@@ -144,14 +119,9 @@ module _ {K V W X M N : Type 0} (May : OuterJoinArg K V W → Option X → Type 
 
   asking-builds : IsAsking → IsBuilding built name op (AnswersEvent kind left_spelling May Keeps)
   asking-builds is = record {
-    from_a = λ s t n answer h. lefts-add (asks_left kind) s t n answer (is.from_a s t n answer h);
-    from_b = λ s t n answer h. rights-add (asks_right kind) s t n answer (is.from_b s t n answer h);
-    collision = λ s t answer h x y xs ys e f.
-        let at = subst (λ l. AtHeads (λ p q. Adds built name (λ a. AnswerAdds May Keeps (Some a))
-        (Both p.0 p.1 q.1 ∷ []) s answer t) l (op.right s)) e (is.collision s t answer h) in
-        heads-add x y s t answer (subst
-        (λ l. AtHeads (λ p q. Adds built name (λ a. AnswerAdds May Keeps (Some a))
-        (Both p.0 p.1 q.1 ∷ []) s answer t) (x ∷ xs) l) f at);
+    from_a = λ s t n answer h. asked-add (λ p. Left p.0 p.1) (asks_left kind) _ s t answer (is.from_a s t n answer h);
+    from_b = λ s t n answer h. asked-add (λ q. Right q.0 q.1) (asks_right kind) _ s t answer (is.from_b s t n answer h);
+    collision = λ s t answer h x y xs ys e f. heads-add x y s t answer (rw (e, f) at (is.collision s t answer h));
   }
 
   -- such a merge that is not refused leaves the join, where keys are kept in equal spellings
@@ -162,13 +132,8 @@ module _ {K V W X M N : Type 0} (May : OuterJoinArg K V W → Option X → Type 
       → Finishes op (by_key cmp) s t ⊎ Stops op (by_key cmp) s (Ok false) t → IsJoin cmp kind left_spelling xs ys May Keeps zs
   merged-join {cmp} total kept is s t xs ys zs l r e k m =
       let b = merged-builds built name op (AnswersEvent kind left_spelling May Keeps) (asking-builds is) (by_key cmp) s t m in
-      let built_of : IsBuilt (by_key cmp) (AnswersEvent kind left_spelling May Keeps) xs ys [] zs =
-      subst (λ z. IsBuilt (by_key cmp) (AnswersEvent kind left_spelling May Keeps) z ys [] zs) l
-      (subst (λ z. IsBuilt (by_key cmp) (AnswersEvent kind left_spelling May Keeps) (op.left s) z [] zs) r
-      (subst (λ z. IsBuilt (by_key cmp) (AnswersEvent kind left_spelling May Keeps) (op.left s) (op.right s) z zs) e
-      (subst (λ z. IsBuilt (by_key cmp) (AnswersEvent kind left_spelling May Keeps) (op.left s) (op.right s)
-      (built s) z) (sym (k b.0)) b.1))) in
-      join-built total kind left_spelling (λ i j h. tied_itself total i) May Keeps kept xs ys zs built_of
+      join-built total kind left_spelling (λ i j h. tied_itself total i) May Keeps kept xs ys zs
+      (rw (k b.0) (rw (l, r, e) at b.1))
 
   -- what a state that asks and is never refused answers at each event
   pub record IsAskingAlways : Type 0 where

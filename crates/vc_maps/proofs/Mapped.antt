@@ -1,6 +1,6 @@
 -- Maps whose values are turned into others: one more pair, and what stands at each key.
-use Rattle.std.proofs.Common.{◌≡◌, ℕ, zero, suc, ◌+◌, ◌<◌, Bool, true, false, cond, List, [], ◌∷◌, ◌++◌, length, take}
-use Rattle.std.proofs.Common.{drop, get_or, Option, Some, refl, sym, ap, subst, ◌∙◌, arith, add-one, drop-cons}
+use Rattle.std.proofs.Common.{◌≡◌, ℕ, ◌+◌, ◌<◌, Bool, true, false, cond, List, [], ◌∷◌, ◌++◌, length, take}
+use Rattle.std.proofs.Common.{drop, get_or, Option, Some, refl, sym, ap, subst, add-one, drop-cons}
 use Rattle.std.specs.BTreeMap.{is_at}
 use Rattle.std.specs.Map.{keys_of, values_of}
 use Rattle.std.specs.declared.cmp.Ordering.{Ordering}
@@ -19,31 +19,24 @@ values-push (q ∷ ps) p = ap (λ l. q.1 ∷ l) (values-push ps p)
 -- the element at a place from which on two lists are one
 same-at : {X : Type 0} (now old : List X) (i : ℕ) (x : X) → drop i now ≡ drop i old → i < length now → i < length old
     → x ≡ get_or now i x → x ≡ get_or old i x
-same-at [] old i x e h k f = absurd (omega arith)
-same-at (y ∷ now) [] i x e h k f = absurd (omega arith)
-same-at (y ∷ now) (z ∷ old) zero x e h k f = let same : y ≡ z = cc in f ∙ same
-same-at (y ∷ now) (z ∷ old) (suc i) x e h k f = let a : i < length now = omega arith in let b : i < length old =
-    omega arith in same-at now old i x e a b f
+same-at now old i x e h k f = cc (drop-cons now i x h, drop-cons old i x k)
 
 -- the first places of a list, and the next one of a list that is the same from there on
 pub take-next : {X : Type 0} (now old : List X) (i : ℕ) (x : X) → drop i now ≡ drop i old → i < length now
     → length now ≡ length old → x ≡ get_or now i x → take (i + 1) old ≡ take i old ++ x ∷ []
 take-next now old i x e h l f =
-    let k : i < length old = subst (λ n. i < n) l h in
-    take_more old i x k ∙ ap (λ y. take i old ++ y ∷ []) (sym (same-at now old i x e h k f))
+    let k : i < length old = rw l at h in rw (take_more old i x k, ← (same-at now old i x e h k f))
 
 -- the same of what is left
 pub drop-next : {X : Type 0} (now old : List X) (i : ℕ) (x : X) → drop i now ≡ drop i old → i < length now
     → length now ≡ length old → x ≡ get_or now i x → drop i old ≡ x ∷ drop (i + 1) old
 drop-next now old i x e h l f =
-    let k : i < length old = subst (λ n. i < n) l h in
-    drop-cons old i x k ∙ ap (λ y. y ∷ drop (suc i) old) (sym (same-at now old i x e h k f))
-    ∙ ap (λ j. x ∷ drop j old) (sym (add-one i))
+    let k : i < length old = rw l at h in rw (add-one, drop-cons old i x k, ← (same-at now old i x e h k f))
 
 module _ {F V X : Type 0} (calls : F → V → X → F → Type 0) where
   answers-push : (f : F) (vs : List V) (xs : List X) (mid : F) (v : V) (x : X) (last : F) → AnswersInTurn calls f vs xs mid
       → calls mid v x last → AnswersInTurn calls f (vs ++ v ∷ []) (xs ++ x ∷ []) last
-  answers-push f [] [] mid v x last p c = (last, subst (λ s. calls s v x last) (sym p) c, refl)
+  answers-push f [] [] mid v x last p c = (last, rw p c, refl)
   answers-push f [] (y ∷ xs) mid v x last p c = absurd p
   answers-push f (w ∷ vs) [] mid v x last p c = absurd p
   answers-push f (w ∷ vs) (y ∷ xs) mid v x last p c = (p.0, p.1, answers-push p.0 vs xs mid v x last p.2 c)
@@ -54,7 +47,7 @@ module _ {K V X : Type 0} where
       ≡ take i ps ++ p ∷ [] → new ≡ mid ++ (p.0, x) ∷ [] → keys_of mid ≡ keys_of (take i ps)
       → keys_of new ≡ keys_of (take (i + 1) ps)
   keys-mapped ps i p mid new x more e k =
-      ap keys_of e ∙ keys-push mid (p.0, x) ∙ ap (λ l. l ++ p.0 ∷ []) k ∙ sym (keys-push (take i ps) p) ∙ ap keys_of (sym more)
+      cc (keys-push mid (p.0, x), keys-push (take i ps) p)
 
   module _ {F : Type 0} (calls : F → V → X → F → Type 0) where
     -- one more answer
@@ -63,10 +56,8 @@ module _ {K V X : Type 0} where
         → AnswersInTurn calls f (values_of (take i ps)) (values_of old) mid → calls mid p.1 x last
         → AnswersInTurn calls f (values_of (take (i + 1) ps)) (values_of new) last
     values-mapped ps i p old new f mid last x more e a c =
-        subst (λ l. AnswersInTurn calls f l (values_of new) last) (sym (ap values_of more ∙ values-push (take i ps) p))
-        (subst (λ l. AnswersInTurn calls f (values_of (take i ps) ++ p.1 ∷ []) l last)
-        (sym (ap values_of e ∙ values-push old (p.0, x)))
-        (answers-push calls f (values_of (take i ps)) (values_of old) mid p.1 x last a c))
+        rw (more, e, values-push (take i ps) p, values-push old (p.0, x))
+        (answers-push calls f (values_of (take i ps)) (values_of old) mid p.1 x last a c)
 
     -- what stands where the key is that of the first pair, or another one
     head-mapped : (b : Bool) (p : K × V) (q : K × X) (f g : F) → q.0 ≡ p.0 → calls f p.1 q.1 g
@@ -94,8 +85,8 @@ module _ {K V X : Type 0} where
         → keys_of qs ≡ keys_of slice → AnswersInTurn calls f (values_of slice) (values_of qs) last
         → (k : K) → MapsEntry calls (entry_at cmp ps k) (entry_at cmp qs k)
     slice-mapped cmp ps slice qs f last e h a =
-        subst (λ l. (k : K) → MapsEntry calls (entry_at cmp l k) (entry_at cmp qs k)) e (entries-mapped cmp slice qs f last h a)
+        rw e at (entries-mapped cmp slice qs f last h a)
 
     pub slice-answers : {ps slice : List (K × V)} (qs : List (K × X)) (f last : F) → slice ≡ ps
         → AnswersInTurn calls f (values_of slice) (values_of qs) last → AnswersInTurn calls f (values_of ps) (values_of qs) last
-    slice-answers {ps} {slice} qs f last e a = subst (λ l. AnswersInTurn calls f (values_of l) (values_of qs) last) e a
+    slice-answers qs f last e a = rw e at a

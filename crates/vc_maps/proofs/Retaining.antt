@@ -1,5 +1,5 @@
 -- What a test leaves of a map, key by key, and clones of its pairs.
-use Rattle.std.proofs.Common.{◌≡◌, Bool, true, false, cond, List, [], ◌∷◌, Some, refl, sym, ap, subst, ◌∙◌}
+use Rattle.std.proofs.Common.{arith, ◌≡◌, Bool, true, false, List, [], ◌∷◌, refl, ap, ◌∙◌}
 use Rattle.std.specs.BTreeMap.{is_at}
 use Rattle.std.specs.Cmp.{IsTotalOrder}
 use Rattle.std.specs.List.{AllZip, items_where_true}
@@ -7,7 +7,6 @@ use Rattle.std.specs.List.Retain.{IsFiltered}
 use Rattle.std.specs.Map.{keys_of}
 use Rattle.std.specs.Ordering.{eq_by_cmp, is_eq, ordering_reverse}
 use Rattle.std.specs.declared.cmp.Ordering.{Ordering}
-use Rattle.std.specs.declared.cmp.Ordering.TheVariants.{Less, Equal, Greater}
 use Rattle.std.proofs.lemmas.Cmp.{on_total}
 use Rattle.vc_merge.specs.Ascending.{element_at}
 use Rattle.vc_merge.specs.Yielded.{by_first, keys-ascend}
@@ -18,9 +17,7 @@ use Rattle.vc_merge.proofs.Chosen.{ascends-chosen}
 use Rattle.vc_merge.proofs.Retained.{asked}
 
 reversed-is_eq : (o : Ordering) → is_eq (ordering_reverse o) ≡ is_eq o
-reversed-is_eq Less = refl
-reversed-is_eq Equal = refl
-reversed-is_eq Greater = refl
+reversed-is_eq o = grind arith
 
 -- nothing is chosen of an empty list
 none-left : {X : Type 0} (bs : List Bool) (ys : List X) → ys ≡ items_where_true bs [] → ys ≡ []
@@ -35,17 +32,15 @@ module _ {K V : Type 0} (cmp : K → K → Ordering) (total : IsTotalOrder cmp) 
   entry-element (e ∷ es) k v =
       let same : is_at (cmp k) e.0 ≡ eq_by_cmp (by_first cmp) e (k, v) = ap is_eq (total.antisymm k e.0)
       ∙ reversed-is_eq (cmp e.0 k) in
-      ap (λ b. cond b (Some e) (entry_at cmp es k)) same
-      ∙ ap (λ o. cond (eq_by_cmp (by_first cmp) e (k, v)) (Some e) o) (entry-element es k v)
+      rw (same, entry-element es k v)
 
   module _ {F : Type 0} (calls : F → K × V → Bool → F → Type 0) where
     pub entries-asked : (f : F) (xs ys : List (K × V)) → AscendsByKey cmp xs → IsFiltered calls f xs ys → (k : K)
         → IsRetained calls (entry_at cmp xs k) (entry_at cmp ys k)
-    entries-asked f [] ys p h k = ap (λ l. entry_at cmp l k) (none-left h.0 ys h.4)
+    entries-asked f [] ys p h k = rw (none-left h.0 ys h.4)
     entries-asked f (x ∷ xs) ys p h k =
-        subst (λ o. IsRetained calls o (entry_at cmp ys k)) (sym (entry-element (x ∷ xs) k x.1))
-        (subst (λ o. IsRetained calls (element_at (by_first cmp) (x ∷ xs) (k, x.1)) o) (sym (entry-element ys k x.1))
-        (asked (by_first cmp) (on_total (λ p. p.0) total) calls f (x ∷ xs) ys (pairs-ascend cmp (x ∷ xs) p) h (k, x.1)))
+        rw (entry-element (x ∷ xs) k x.1, entry-element ys k x.1)
+        (asked (by_first cmp) (on_total (λ p. p.0) total) calls f (x ∷ xs) ys (pairs-ascend cmp (x ∷ xs) p) h (k, x.1))
 
   pub chosen-ascends : (bs : List Bool) (xs : List (K × V)) → AscendsByKey cmp xs → AscendsByKey cmp (items_where_true bs xs)
   chosen-ascends bs xs p = keys-ascend cmp (items_where_true bs xs) (ascends-chosen (by_first cmp) bs xs (pairs-ascend cmp xs p))

@@ -1,37 +1,26 @@
 -- A list of pairs in any order, sorted by its keys: what stands at a key is what stood there first.
-use Rattle.std.proofs.Common.{◌≡◌, Bool, true, false, cond, List, [], ◌∷◌, Option, Some, option_map, refl, sym, ap, ◌∙◌}
+use Rattle.std.proofs.Common.{arith, ◌≡◌, Bool, cond, List, [], ◌∷◌, Some, refl, sym, ap, ◌∙◌}
 use Rattle.std.specs.Cmp.{IsTotalOrder}
 use Rattle.std.specs.List.{dedup, find}
 use Rattle.std.specs.List.Sorted.{IsStableBy}
 use Rattle.std.specs.Ordering.{is_eq, is_lt, ordering_reverse}
 use Rattle.std.specs.declared.cmp.Ordering.{Ordering}
-use Rattle.std.specs.declared.cmp.Ordering.TheVariants.{Less, Equal, Greater}
 use Rattle.vc_joins.specs.Entries.{entry_at, value_at}
+use Rattle.vc_joins.proofs.Functions.{value-entry}
 use Rattle.vc_merge.proofs.Unordered.{found-unordered}
 
 eq-turned : (o : Ordering) → is_eq (ordering_reverse o) ≡ is_eq o
-eq-turned Less = refl
-eq-turned Equal = refl
-eq-turned Greater = refl
+eq-turned o = grind arith
 
 module _ {K V : Type 0} (cmp : K → K → Ordering) where
   entry-found : (es : List (K × V)) (k : K) → entry_at cmp es k ≡ find (λ e. is_eq (cmp k e.0)) es
   entry-found [] k = refl
   entry-found (e ∷ es) k = ap (cond (is_eq (cmp k e.0)) (Some e)) (entry-found es k)
 
-  value-by : (b : Bool) (e : K × V) (o : Option V) (q : Option (K × V)) → o ≡ option_map (λ e. e.1) q
-      → cond b (Some e.1) o ≡ option_map (λ e. e.1) (cond b (Some e) q)
-  value-by true e o q h = refl
-  value-by false e o q h = h
-
-  value-of_entry : (es : List (K × V)) (k : K) → value_at cmp es k ≡ option_map (λ e. e.1) (entry_at cmp es k)
-  value-of_entry [] k = refl
-  value-of_entry (e ∷ es) k = value-by (is_eq (cmp k e.0)) e (value_at cmp es k) (entry_at cmp es k) (value-of_entry es k)
-
   -- lists with the same entry have the same value
   pub values-of_entries : (es fs : List (K × V)) (k : K) → entry_at cmp es k ≡ entry_at cmp fs k → value_at cmp es k
       ≡ value_at cmp fs k
-  values-of_entries es fs k h = value-of_entry es k ∙ ap (option_map (λ e. e.1)) h ∙ sym (value-of_entry fs k)
+  values-of_entries es fs k h = cc (value-entry cmp es k, value-entry cmp fs k)
 
   pub entry-unordered : (total : IsTotalOrder cmp) (same : K × V → K × V → Bool)
       → ((x y : K × V) → same x y ≡ is_eq (cmp x.0 y.0)) → (xs ys : List (K × V))

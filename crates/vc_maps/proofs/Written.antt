@@ -18,7 +18,7 @@ module _ {F K V : Type 0} (writes : F → K → V → V → F → Type 0) where
   -- one more pair
   pub writes-push : (f : F) (ps qs : List (K × V)) (mid : F) (p q : K × V) (last : F) → WritesInTurn writes f ps qs mid
       → writes mid p.0 p.1 q.1 last → q.0 ≡ p.0 → WritesInTurn writes f (ps ++ p ∷ []) (qs ++ q ∷ []) last
-  writes-push f [] [] mid p q last h w e = (last, subst (λ s. writes s p.0 p.1 q.1 last) (sym h) w, e, refl)
+  writes-push f [] [] mid p q last h w e = (last, rw h w, e, refl)
   writes-push f [] (r ∷ qs) mid p q last h w e = absurd h
   writes-push f (r ∷ ps) [] mid p q last h w e = absurd h
   writes-push f (r ∷ ps) (s ∷ qs) mid p q last h w e = (h.0, h.1, h.2, writes-push h.0 ps qs mid p q last h.3 w e)

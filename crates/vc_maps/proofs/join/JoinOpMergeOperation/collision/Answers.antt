@@ -2,9 +2,9 @@ use Rattle.vc_maps.proofs.Asked.{heads-asked, heads-passed}
 use Rattle.vc_maps.proofs.join.JoinOpMergeOperation.collision.Goals as goal
 
 pub ask_both-requires-clause-takes : goal.ask_both-requires-clause-takes
-ask_both-requires-clause-takes g c = let r = c.requires.ready in
-    heads-asked g.K.Ord.cmp g.met.K.Ord.total _ _ _ _ r.1 c.requires.equal r.2
+ask_both-requires-clause-takes g c =
+    let r = c.requires.ready in heads-asked g.met.K.Ord.total _ _ r.1 c.requires.equal r.2
 
 pub returns-clause-takes : goal.returns-clause-takes
 returns-clause-takes g c = let r = c.requires.ready in
-    heads-passed g.K.Ord.cmp g.met.K.Ord.total _ _ _ _ r.1 c.requires.equal r.2 _ _ _ _ c.ask_both.ensures.passes
+    heads-passed g.met.K.Ord.total _ _ r.1 c.requires.equal r.2 _ _ _ _ c.ask_both.ensures.passes

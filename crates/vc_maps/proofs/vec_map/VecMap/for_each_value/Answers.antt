@@ -2,7 +2,7 @@
 use Rattle.std.proofs.Common.{length, sym, ap, subst, ◌∙◌}
 use Rattle.std.specs.Map.{keys_of}
 use Rattle.vc_merge.specs.Ascending.{Ascends}
-use Rattle.vc_maps.specs.Writing.{WritesAt, WritesInTurn}
+use Rattle.vc_maps.specs.Writing.{WritesAt}
 use Rattle.vc_maps.proofs.Written.{entries-written, refilled, written-keys}
 use Rattle.vc_maps.proofs.vec_map.VecMap.for_each_value.Goals as goal
 
@@ -24,8 +24,7 @@ returns-clause-values g c =
     let same = c.as_mut_slice.ensures.value in let w = c.write_each.ensures in
     let whole = refilled c.self.inside.pairs.items c.write_each.new.pairs (c.write_each.auto.pairs ∙ ap length same) in (
       w.0,
-      rw whole (subst (λ l. WritesInTurn (WritesAt g.F.FnMut) c.args.f l c.write_each.new.pairs w.0)
-          (same ∙ c.self.view_is) w.1),
+      rw whole (rw (same, c.self.view_is) at w.1),
     )
 
 pub returns-clause-entries : goal.returns-clause-entries

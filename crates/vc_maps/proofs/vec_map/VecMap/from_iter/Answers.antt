@@ -1,12 +1,9 @@
-use Rattle.std.proofs.Common.{sym, subst}
-use Rattle.vc_joins.specs.Entries.{AscendsByKey}
 use Rattle.vc_maps.proofs.vec_map.VecMap.from_iter.Goals as goal
 
 pub invariant_of-result : goal.invariant_of-result
 invariant_of-result g c =
     let ran = c.in_ok-pairs.ensures.ran in
-    subst (λ l. AscendsByKey g.K.Ord.cmp l) (sym ran.2)
-    (g.met.I.SortedByKey.keys_ascend c.args.iter ran.1.0 ran.0 c.requires.sorted ran.1.1)
+    rw ran.2 (g.met.I.SortedByKey.keys_ascend c.args.iter ran.1.0 ran.0 c.requires.sorted ran.1.1)
 
 pub returns-clause-items : goal.returns-clause-items
 returns-clause-items g c =

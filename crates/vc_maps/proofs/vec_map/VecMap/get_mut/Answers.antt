@@ -5,42 +5,22 @@ use Rattle.vc_maps.proofs.vec_map.VecMap.get_mut.Goals as goal
 
 pub invariant_of-self-lent : goal.invariant_of-self-lent
 invariant_of-self-lent g c w =
-    let found = rw (c.as_slice.ensures) at c.in-Ok.ensures in
-    written-ascends g.K.Ord.cmp g.met.K.Ord.total c.self.inside.pairs.items c.args.key.now w _
-    (written g.K.Ord.cmp g.met.K.Ord.total _ _ c.in-Ok.place c.in-Some.field-0.now found c.in-Some.ensures.value w)
-    c.self.invariant
+    let found = rw c.as_slice.ensures at c.in-Ok.ensures in
+    written-ascends g.met.K.Ord.total (written g.met.K.Ord.total found c.in-Some.ensures.value w) c.self.invariant
 
 pub returns-in-Some : goal.returns-in-Some
 returns-in-Some g c =
-    let found = rw (c.as_slice.ensures) at c.in-Ok.ensures in (
-      (
-        refl,
-        (λ w. rw (← c.self.view_is)
-            (written g.K.Ord.cmp g.met.K.Ord.total c.self.inside.pairs.items c.args.key.now c.in-Ok.place
-            c.in-Some.field-0.now found c.in-Some.ensures.value w)),
-        refl,
-      ),
+    let found = rw c.as_slice.ensures at c.in-Ok.ensures in (
+      (refl, (λ w. rw (← c.self.view_is) (written g.met.K.Ord.total found c.in-Some.ensures.value w)), refl),
       record {
         writes_back = tt;
-        value = rw (← c.self.view_is)
-            (found-at g.K.Ord.cmp g.met.K.Ord.total c.self.inside.pairs.items c.args.key.now c.in-Ok.place c.in-Some.field-0.now
-            found c.in-Some.ensures.value);
+        value = rw (← c.self.view_is) (found-at g.met.K.Ord.total found c.in-Some.ensures.value);
       },
     )
 
 pub returns-in-Err : goal.returns-in-Err
 returns-in-Err g c =
-    let gap = rw (c.as_slice.ensures) at c.in-Err.ensures in (
-      (
-        refl,
-        (λ w. rw (← c.self.view_is)
-            (unwritten g.K.Ord.cmp g.met.K.Ord.total c.self.inside.pairs.items c.args.key.now c.in-Err.field-0 gap w)),
-        c.self.view_is,
-      ),
-      record {
-        writes_back = tt;
-        value =
-            rw (← c.self.view_is) (sym (gap-value g.K.Ord.cmp g.met.K.Ord.total c.self.inside.pairs.items
-            c.args.key.now c.in-Err.field-0 gap));
-      },
+    let gap = rw c.as_slice.ensures at c.in-Err.ensures in (
+      (refl, (λ w. rw (← c.self.view_is) (unwritten g.met.K.Ord.total gap w)), c.self.view_is),
+      record { writes_back = tt; value = rw (← c.self.view_is) (sym (gap-value g.met.K.Ord.total gap)) },
     )

@@ -1,16 +1,12 @@
-use Rattle.std.proofs.Common.{◌∙◌, length, take, sym, ap, subst}
+use Rattle.std.proofs.Common.{◌∙◌, length, ap}
 use Rattle.std.specs.Fn.{CalledAt}
-use Rattle.std.specs.Iterator.{CallableOnAllAt, YieldsFirst}
-use Rattle.std.specs.List.Retain.{IsFiltered}
-use Rattle.vc_joins.specs.Entries.{AscendsByKey}
 use Rattle.vc_merge.proofs.Keeping.{front-refilled}
 use Rattle.vc_maps.proofs.Retaining.{chosen-ascends, entries-asked}
 use Rattle.vc_maps.proofs.vec_map.VecMap.retain.Goals as goal
 
 pub keep_in_front-kept-requires : goal.keep_in_front-kept-requires
 keep_in_front-kept-requires g c =
-    subst (λ l. CallableOnAllAt (YieldsFirst (λ rest. rest)) g.F.FnMut l c.args.f)
-    (sym (c.as_mut_slice.ensures.value ∙ c.self.view_is)) c.requires
+    rw (c.as_mut_slice.ensures.value, c.self.view_is) c.requires
 
 pub invariant_of-self : goal.invariant_of-self
 invariant_of-self g c =
@@ -19,17 +15,16 @@ invariant_of-self g c =
     c.keep_in_front-kept.result c.keep_in_front-kept.ensures.within
     (c.keep_in_front-kept.auto.list ∙ ap length c.as_mut_slice.ensures.value) ∙ f.4 in
     rw e (chosen-ascends g.K.Ord.cmp g.met.K.Ord.total f.0 c.as_mut_slice.result.now
-    (subst (λ l. AscendsByKey g.K.Ord.cmp l) (sym c.as_mut_slice.ensures.value) c.self.invariant))
+    (rw c.as_mut_slice.ensures.value c.self.invariant))
 
 pub returns-clause-filtered : goal.returns-clause-filtered
 returns-clause-filtered g c =
     let e = c.truncate.ensures.items ∙ front-refilled c.self.inside.pairs.items c.keep_in_front-kept.new.list
     c.keep_in_front-kept.result c.keep_in_front-kept.ensures.within
     (c.keep_in_front-kept.auto.list ∙ ap length c.as_mut_slice.ensures.value) in
-    rw e (subst (λ l. IsFiltered (CalledAt g.F.FnMut) c.args.f l (take c.keep_in_front-kept.result c.keep_in_front-kept.new.list))
-    (c.as_mut_slice.ensures.value ∙ c.self.view_is) c.keep_in_front-kept.ensures.kept)
+    rw e (rw (c.as_mut_slice.ensures.value, c.self.view_is) at c.keep_in_front-kept.ensures.kept)
 
 pub returns-clause-entries : goal.returns-clause-entries
 returns-clause-entries g c =
     entries-asked g.K.Ord.cmp g.met.K.Ord.total (CalledAt g.F.FnMut) c.args.f _ _
-    (subst (λ l. AscendsByKey g.K.Ord.cmp l) c.self.view_is c.self.invariant) (returns-clause-filtered g c)
+    (rw c.self.view_is at c.self.invariant) (returns-clause-filtered g c)

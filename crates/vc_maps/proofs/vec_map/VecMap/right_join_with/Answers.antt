@@ -1,23 +1,18 @@
 use Rattle.vc_joins.specs.declared.question.JoinKind.TheVariants.{Right}
-use Rattle.vc_joins.specs.InPlace.{MayTurnRight}
-use Rattle.vc_joins.specs.Join.{OldKey}
 use Rattle.vc_joins.specs.Question.{left_spelling}
 use Rattle.vc_joins.proofs.Values.{turns-right}
-use Rattle.vc_maps.proofs.Asking.{join-of, join_by-of, join-ascends, on-ok}
+use Rattle.vc_maps.proofs.Asking.{functions-join, join-ascends, on-ok}
 use Rattle.vc_maps.proofs.vec_map.VecMap.right_join_with.Goals as goal
 
 pub returns-clause-joins : goal.returns-clause-joins
-returns-clause-joins g c = on-ok c.join.result (join-of g.K.Ord.cmp Right (λ a r. MayTurnRight g.F.Fn c.args.f a r)
-    (OldKey g.K.Clone.is_clone) _ _ _ _ _ c.self.view_is c.as_slice.ensures.pairs) c.join.ensures.joins
+returns-clause-joins g c = rw (c.self.view_is, c.as_slice.ensures.pairs) at c.join.ensures.joins
 
 pub returns-clause-function : goal.returns-clause-function
-returns-clause-function g c = on-ok c.join.result (join_by-of g.K.Ord.cmp Right (λ a r. MayTurnRight g.F.Fn c.args.f a r)
-    (OldKey g.K.Clone.is_clone) _ _ _ _ _ c.self.view_is c.as_slice.ensures.pairs) c.join.ensures.joins
+returns-clause-function g c = on-ok c.join.result (functions-join g.K.Ord.cmp Right) (returns-clause-joins g c)
 
 pub invariant_of-self : goal.invariant_of-self
 invariant_of-self g c =
-    join-ascends g.K.Ord.cmp Right (λ a r. MayTurnRight g.F.Fn c.args.f a r)
-    (OldKey g.K.Clone.is_clone) c.join.result _ _ _ c.join.ensures.joins c.join.ensures.err c.self.invariant
+    join-ascends g.K.Ord.cmp Right _ _ c.join.result _ _ _ c.join.ensures.joins c.join.ensures.err c.self.invariant
 
 pub returns-clause-values : goal.returns-clause-values
 returns-clause-values g c = on-ok c.join.result (turns-right g.K.Ord.cmp left_spelling _ _ _ c.args.f g.F.Fn)

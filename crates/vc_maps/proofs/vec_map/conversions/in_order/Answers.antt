@@ -1,10 +1,10 @@
-use Rattle.std.proofs.Common.{ap, rules, subst, sym, ◌∙◌}
+use Rattle.std.proofs.Common.{ap, rules, ◌∙◌}
 use Rattle.std.proofs.lemmas.Cmp.{on_total}
 use Rattle.std.proofs.lemmas.Fn.{always_returns_same, dedup_same}
 use Rattle.std.proofs.lemmas.List.Kept.{IsStrictlySortedBy-dedup}
 use Rattle.std.proofs.lemmas.List.Sorted.{ranks_by}
 use Rattle.std.specs.Ordering.{is_lt}
-use Rattle.vc_joins.specs.Entries.{AscendsByKey, entry_at}
+use Rattle.vc_joins.specs.Entries.{entry_at}
 use Rattle.vc_merge.specs.Yielded.{by_first, keys-ascend}
 use Rattle.vc_maps.proofs.Unsorted.{entry-unordered, values-of_entries}
 use Rattle.vc_maps.proofs.vec_map.conversions.in_order.Goals as goal
@@ -14,7 +14,7 @@ returns-clause-ascends g c =
     let cmp = g.K.Ord.cmp in
     let lost = dedup_same _ (λ x y. g.K.PartialEq.eq x.0 y.0) _
     (λ x y b f' x' y' k. search rules) _ _ c.dedup_by.ensures.filtered in
-    subst (λ l. AscendsByKey cmp l) (sym lost)
+    rw lost
     (keys-ascend cmp _
     (IsStrictlySortedBy-dedup {R = by_first cmp} (on_total (λ q. q.0) g.met.K.Ord.total) (λ x y. g.met.K.Ord.matches_eq x.0 y.0) _
     (c.in_ok-sort_by.ensures.sorted (λ x y. is_lt (cmp x.0 y.0)) (ranks_by g.met.K.Ord.total (λ e. e.0))

@@ -1,21 +1,14 @@
-use Rattle.std.proofs.Common.{Ok}
 use Rattle.vc_joins.specs.declared.question.JoinKind.TheVariants.{Left}
-use Rattle.vc_joins.specs.Answers.{MayAnswerLeft}
-use Rattle.vc_joins.specs.Join.{ClonedKey}
 use Rattle.vc_joins.specs.Question.{left_spelling}
 use Rattle.vc_joins.proofs.Values.{answers-left}
-use Rattle.vc_maps.proofs.Asking.{join-of, join_by-of}
+use Rattle.vc_maps.proofs.Asking.{functions-join}
 use Rattle.vc_maps.proofs.vec_map.joins.left_join.Goals as goal
 
 pub returns-clause-joins : goal.returns-clause-joins
-returns-clause-joins g c =
-    join-of g.K.Ord.cmp Left (λ a r. MayAnswerLeft g.F.Fn c.args.f a (Ok r))
-    (ClonedKey g.K.Clone.is_clone) _ _ _ _ _ c.as_slice.ensures.pairs c.as_slice-2.ensures.pairs c.in_ok-pairs.ensures.joins
+returns-clause-joins g c = rw (c.as_slice.ensures.pairs, c.as_slice-2.ensures.pairs) at c.in_ok-pairs.ensures.joins
 
 pub returns-clause-function : goal.returns-clause-function
-returns-clause-function g c =
-    join_by-of g.K.Ord.cmp Left (λ a r. MayAnswerLeft g.F.Fn c.args.f a (Ok r))
-    (ClonedKey g.K.Clone.is_clone) _ _ _ _ _ c.as_slice.ensures.pairs c.as_slice-2.ensures.pairs c.in_ok-pairs.ensures.joins
+returns-clause-function g c = functions-join g.K.Ord.cmp Left (returns-clause-joins g c)
 
 pub returns-clause-values : goal.returns-clause-values
 returns-clause-values g c = answers-left g.K.Ord.cmp left_spelling _ _ _ c.args.f g.F.Fn (returns-clause-function g c)

@@ -1,4 +1,4 @@
-use Rattle.std.proofs.Common.{◌≡◌, ◌+◌, ◌<◌, length, drop, get_or, refl, sym, ap, subst, ◌∙◌, drop-drop, arith}
+use Rattle.std.proofs.Common.{◌≡◌, ◌+◌, ◌<◌, length, drop, get_or, sym, ap, ◌∙◌, drop-drop, arith}
 use Rattle.std.proofs.lemmas.List.{drop-set-lt, take_all}
 use denote.Param.Members.{Called}
 use Rattle.std.specs.Fn.{Takes}
@@ -11,9 +11,8 @@ use Rattle.vc_maps.proofs.vec_map.mapping.push_mapped.Goals as goal
 pub f-answer-requires : goal.f-answer-requires
 f-answer-requires g c =
     let i = c.pairs.at in let p = c.replace-key.result in let before = c.pairs.invariant in
-    let value = c.replace-key.ensures.value in
-    let is : p ≡ get_or c.pairs.pairs i p = value ∙ ap (λ d. get_or c.pairs.pairs i d) (sym (value ∙ sym c.index-pairs-at.is)) in
-    let within : i < length c.pairs.pairs = subst (λ n. i < n) (sym c.pairs.auto.pairs) c.pairs-test.true in
+    let is : p ≡ get_or c.pairs.pairs i p = cc (c.replace-key.ensures.value, c.index-pairs-at.is) in
+    let within : i < length c.pairs.pairs = rw c.pairs.auto.pairs c.pairs-test.true in
     let left = drop-next c.pairs.pairs c.args.pairs.now i p before.rest within c.pairs.auto.pairs is in
     callable-first (λ s v t. (x : _) × Called g.F.FnMut s (v, tt) x t)
     (λ s v. Takes g.F.FnMut s (v, tt)) c.pairs.f p.1 _ _ (ap values_of left) before.callable
@@ -21,9 +20,8 @@ f-answer-requires g c =
 pub pairs-preserved : goal.pairs-preserved
 pairs-preserved g c =
     let old = c.args.pairs.now in let i = c.pairs.at in let p = c.replace-key.result in let before = c.pairs.invariant in
-    let value = c.replace-key.ensures.value in
-    let is : p ≡ get_or c.pairs.pairs i p = value ∙ ap (λ d. get_or c.pairs.pairs i d) (sym (value ∙ sym c.index-pairs-at.is)) in
-    let within : i < length c.pairs.pairs = subst (λ n. i < n) (sym c.pairs.auto.pairs) c.pairs-test.true in
+    let is : p ≡ get_or c.pairs.pairs i p = cc (c.replace-key.ensures.value, c.index-pairs-at.is) in
+    let within : i < length c.pairs.pairs = rw c.pairs.auto.pairs c.pairs-test.true in
     let more = take-next c.pairs.pairs old i p before.rest within c.pairs.auto.pairs is in
     let left = drop-next c.pairs.pairs old i p before.rest within c.pairs.auto.pairs is in
     let pushed = c.push_reserved.ensures.items in

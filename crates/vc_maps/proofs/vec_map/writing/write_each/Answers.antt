@@ -1,5 +1,5 @@
 -- The pair at the place is as it was, the closure may be called at it, and it is written then.
-use Rattle.std.proofs.Common.{◌+◌, ◌<◌, length, drop, get_or, refl, sym, ap, subst, ◌∙◌, drop-drop, arith}
+use Rattle.std.proofs.Common.{◌+◌, ◌<◌, length, drop, get_or, refl, sym, ap, ◌∙◌, drop-drop, arith}
 use Rattle.std.proofs.lemmas.List.{drop-set-lt}
 use Rattle.vc_merge.proofs.Callable.{callable-first, callable-others}
 use Rattle.vc_maps.specs.Writing.{CanWriteAt, WritesAt}
@@ -10,7 +10,7 @@ use Rattle.vc_maps.proofs.vec_map.writing.write_each.Goals as goal
 pub f-requires : goal.f-requires
 f-requires g c =
     let i = c.pairs.at in let p = c.index-pairs-at.result in let before = c.pairs.invariant in
-    let within : i < length c.pairs.pairs = subst (λ n. i < n) (sym c.pairs.auto.pairs) c.pairs-test.true in
+    let within : i < length c.pairs.pairs = rw c.pairs.auto.pairs c.pairs-test.true in
     let left = drop-next c.pairs.pairs c.args.pairs.now i p before.rest within c.pairs.auto.pairs c.index-pairs-at.is in
     callable-first (λ f p h. (w : g.row.V.Denot) × WritesAt g.F.FnMut f p.0 p.1 w h) (CanWriteAt g.F.FnMut) c.pairs.f p _ _
     left before.callable _ _ (ap (λ q. q.0) (sym c.index-pairs-at.is)) (ap (λ q. q.1) (sym c.index-pairs-at.is))
@@ -19,7 +19,7 @@ pub pairs-preserved : goal.pairs-preserved
 pairs-preserved g c =
     let old = c.args.pairs.now in let now = c.pairs.pairs in
     let i = c.pairs.at in let p = c.index-pairs-at.result in let before = c.pairs.invariant in
-    let within : i < length now = subst (λ n. i < n) (sym c.pairs.auto.pairs) c.pairs-test.true in
+    let within : i < length now = rw c.pairs.auto.pairs c.pairs-test.true in
     let is = c.index-pairs-at.is in
     let left = drop-next now old i p before.rest within c.pairs.auto.pairs is in
     let q : g.row.K.Denot × g.row.V.Denot = ((get_or now i p).0, c.f.new.arg3) in

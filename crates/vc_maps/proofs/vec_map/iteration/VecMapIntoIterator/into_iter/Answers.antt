@@ -1,8 +1,7 @@
-use Rattle.std.proofs.Common.{◌≡◌, List, sym, ◌∙◌, subst}
+use Rattle.std.proofs.Common.{◌≡◌, List, sym, ◌∙◌}
 use Rattle.std.specs.Iterator.{YieldsFirst}
 use Rattle.std.specs.declared.cmp.Ordering.{Ordering}
 use Rattle.vc_joins.specs.Entries.{AscendsByKey}
-use Rattle.vc_merge.specs.Ascending.{Ascends}
 use Rattle.vc_merge.specs.Yielded.{AscendsAlong, by_first, list-along}
 use Rattle.vc_merge.proofs.ListLemmas.{pairs-ascend}
 use Rattle.vc_maps.proofs.vec_map.iteration.VecMapIntoIterator.into_iter.Goals as goal
@@ -13,7 +12,7 @@ goes_on : {K V : Type 0} (cmp : K → K → Ordering) (it pairs : List (K × V))
 goes_on {K} {V} cmp it pairs e p =
     list-along (YieldsFirst {A = K × V} (λ rest. rest)) (λ x. x) (λ rest. rest) (λ s x t h. h) (by_first cmp)
     (λ s t h. h.0 ∙ sym h.1) it
-    (subst (λ l. Ascends (by_first cmp) l) (sym e) (pairs-ascend cmp pairs p))
+    (rw e (pairs-ascend cmp pairs p))
 
 pub vec_map_iter-requires : goal.vec_map_iter-requires
 vec_map_iter-requires g c = goes_on g.K.Ord.cmp c.into_iter.result _ c.into_iter.ensures.into_iter_gives.0 c.self.invariant
