@@ -1,12 +1,12 @@
 -- Joins that are built key by key.
-use Rattle.std.proofs.Common.{◌≡◌, true, false, List, [], ◌∷◌, Option, Some, None, is_some, refl, sym, ap, subst, ◌∙◌}
+use Rattle.std.proofs.Common.{arith, ◌≡◌, true, false, List, [], ◌∷◌, Option, Some, None, is_some, refl, sym, ap, subst, ◌∙◌}
 use Rattle.std.specs.Cmp.{IsTotalOrder, tied_itself}
 use Rattle.std.specs.Ordering.{is_eq}
 use Rattle.std.specs.Option.{option_map, option_copied}
 use Rattle.std.specs.BTreeMap.{is_at}
 use Rattle.std.specs.declared.cmp.Ordering.{Ordering}
 use Rattle.vc_joins.specs.declared.question.OuterJoinArg.{OuterJoinArg}
-use Rattle.vc_joins.specs.declared.question.OuterJoinArg.TheVariants.{Left, Right, Both}
+use Rattle.vc_joins.specs.declared.question.OuterJoinArg.TheVariants.{Right}
 use Rattle.vc_joins.specs.declared.question.JoinKind.{JoinKind}
 use Rattle.vc_joins.specs.declared.question.JoinKind.TheVariants as kind
 use Rattle.vc_joins.specs.Answers.{seen_left, seen_right}
@@ -28,9 +28,7 @@ module _ {K V W X : Type 0} (May : OuterJoinArg K V W → Option X → Type 0) (
   -- an answer that is put at the key that was shown is what is to stand there
   answer-stands : (a : OuterJoinArg K V W) (key : K) (answer : Option X) (z : Option (K × X)) → shown_key a ≡ key → May a answer
       → IsPutAt is_clone key answer z → IsAnswered May (ClonedKey is_clone) (Some a) z
-  answer-stands a key None z e m p = rw p m
-  answer-stands a key (Some x) (Some q) e m p = (rw p.1 m, rw e p.0)
-  answer-stands a key (Some x) None e m p = absurd p
+  answer-stands a key answer z e m p = grind arith
 
 -- what stands at the key k is what a join makes of the two maps there
 pub record IsJoined {K V W X : Type 0} (May : OuterJoinArg K V W → Option X → Type 0) (is_clone : K → K → Type 0)
@@ -78,51 +76,39 @@ left-joined {K = K} {V = V} {W = W} {cmp = cmp} {xs = xs} {ys = ys} {k = k} b h 
   where
     by : (p : Option (K × V)) (q : Option (K × W)) → (is_some p ≡ false → q ≡ None)
         → asked kind.Left left_spelling p q ≡ asked kind.Outer left_spelling p q
-    by (Some p) (Some q) h = refl
-    by (Some p) None h = refl
-    by None (Some q) h = let e = h refl in cc
-    by None None h = refl
+    by p q h = grind arith
 
-module _ {K V W : Type 0} (cmp : K → K → Ordering) (total : IsTotalOrder cmp) (xs : List (K × V)) (ys : List (K × W)) where
+module _ {K V W : Type 0} {cmp : K → K → Ordering} (total : IsTotalOrder cmp) (xs : List (K × V)) (ys : List (K × W)) where
   -- what a left join asks at a key of the left map
   pub left-asked : (key : Bor K) (value : Bor V) (other : Option (Bor W)) → option_copied other ≡ value_at cmp ys key.now
       → (k : K) → is_at (cmp k) key.now ≡ true → entry_at cmp xs k ≡ Some (key.now, value.now)
       → asked_at cmp kind.Left left_spelling xs ys k ≡ Some (seen_left key value other)
-  left-asked key value other is k t e = rw (e, same-entry cmp total k key.now ys (equal-at cmp total k key.now t))
+  left-asked key value other is k t e = rw (e, same-entry total k key.now ys (equal-at total k key.now t))
       (by other (entry_at cmp ys key.now) (is ∙ value-entry cmp ys key.now))
     where
       by : (other : Option (Bor W)) (q : Option (K × W)) → option_copied other ≡ option_map (λ p. p.1) q
           → asked kind.Left left_spelling (Some (key.now, value.now)) q ≡ Some (seen_left key value other)
-      by (Some w) (Some q) e = cc
-      by (Some w) None e = cc
-      by None (Some q) e = cc
-      by None None e = refl
+      by other q e = grind arith
 
   module _ (key : Bor K) (value : Option (Bor V)) (other : Bor W) (is : option_copied value ≡ value_at cmp xs key.now) where
     -- what a join that shows keys as the right map has them asks at one of those
     pub right-asked : (join : JoinKind) (k : K) → is_at (cmp k) key.now ≡ true → entry_at cmp ys k ≡ Some (key.now, other.now)
         → asked_at cmp join right_spelling xs ys k ≡ if_asked join (seen_right key value other)
-    right-asked join k t e = rw (e, same-entry cmp total k key.now xs (equal-at cmp total k key.now t))
+    right-asked join k t e = rw (e, same-entry total k key.now xs (equal-at total k key.now t))
         (by value (entry_at cmp xs key.now) (is ∙ value-entry cmp xs key.now))
       where
         by : (value : Option (Bor V)) (p : Option (K × V)) → option_copied value ≡ option_map (λ p. p.1) p
             → asked join right_spelling p (Some (key.now, other.now)) ≡ if_asked join (seen_right key value other)
-        by (Some v) (Some p) e = cc
-        by (Some v) None e = cc
-        by None (Some p) e = cc
-        by None None e = refl
+        by value p e = grind arith
 
     -- whether the left map has the key
     pub left-has : (k : K) → is_at (cmp k) key.now ≡ true → is_some (entry_at cmp xs k) ≡ is_some value
-    left-has k t = rw (same-entry cmp total k key.now xs (equal-at cmp total k key.now t))
+    left-has k t = rw (same-entry total k key.now xs (equal-at total k key.now t))
         (by value (entry_at cmp xs key.now) (is ∙ value-entry cmp xs key.now))
       where
         by : (value : Option (Bor V)) (p : Option (K × V)) → option_copied value ≡ option_map (λ p. p.1) p
             → is_some p ≡ is_some value
-        by (Some v) (Some p) e = refl
-        by (Some v) None e = cc
-        by None (Some p) e = cc
-        by None None e = refl
+        by value p e = grind arith
 
     -- an inner join asks nothing where the left map lacks the key
     pub inner-silent : is_some value ≡ false → (k : K) → is_at (cmp k) key.now ≡ true
@@ -130,8 +116,7 @@ module _ {K V W : Type 0} (cmp : K → K → Ordering) (total : IsTotalOrder cmp
     inner-silent none k t = rw (none-by (entry_at cmp xs k) (left-has k t ∙ none)) (by (entry_at cmp ys k))
       where
         by : (q : Option (K × W)) → asked {V = V} kind.Inner right_spelling None q ≡ None
-        by (Some q) = refl
-        by None = refl
+        by q = grind arith
 
     -- there an outer join asks of the right map alone
     pub alone-asked : is_some value ≡ false → (k : K) → is_at (cmp k) key.now ≡ true
@@ -159,33 +144,27 @@ module _ {K V W : Type 0} (cmp : K → K → Ordering) (total : IsTotalOrder cmp
 
 module _ {K V W : Type 0} where
   pub left-shown : (key : Bor K) (value : Bor V) (other : Option (Bor W)) → shown_key (seen_left key value other) ≡ key.now
-  left-shown key value (Some w) = refl
-  left-shown key value None = refl
+  left-shown key value other = grind arith
 
   pub right-shown : (key : Bor K) (value : Option (Bor V)) (other : Bor W) → shown_key (seen_right key value other) ≡ key.now
-  right-shown key (Some v) other = refl
-  right-shown key None other = refl
+  right-shown key value other = grind arith
 
   -- no question is asked at a key of the right map alone
   pub left-silent : (q : Option (K × W)) → asked {V = V} kind.Left left_spelling None q ≡ None
-  left-silent (Some q) = refl
-  left-silent None = refl
+  left-silent q = grind arith
 
   -- nor at a key of the left map alone
   pub right-silent : (join : JoinKind) → asks_left join ≡ false → (p : Option (K × V))
       → asked {W = W} join right_spelling p None ≡ None
-  right-silent join e (Some p) = rw e refl
-  right-silent join e None = refl
+  right-silent join e p = grind arith
 
   pub right-asks : (key : Bor K) (value : Option (Bor V)) (other : Bor W)
       → if_asked kind.Right (seen_right key value other) ≡ Some (seen_right key value other)
-  right-asks key (Some v) other = refl
-  right-asks key None other = refl
+  right-asks key value other = grind arith
 
   pub inner-asks : (key : Bor K) (value : Option (Bor V)) (other : Bor W) → is_some value ≡ true
       → if_asked kind.Inner (seen_right key value other) ≡ Some (seen_right key value other)
-  inner-asks key (Some v) other t = refl
-  inner-asks key None other t = cc
+  inner-asks key value other t = grind arith
 
 -- ---- what is asked is asked by the kind
 
@@ -195,10 +174,7 @@ module _ {K V W : Type 0} (join : JoinKind) (spelled : K → K → K) where
 
   asked-asks : (p : Option (K × V)) (q : Option (K × W)) (a : OuterJoinArg K V W) → asked join spelled p q ≡ Some a
       → asks {V = V} {W = W} join a ≡ true
-  asked-asks (Some p) (Some q) a h = asked-if (Both (spelled p.0 q.0) p.1 q.1) a h
-  asked-asks (Some p) None a h = asked-if (Left p.0 p.1) a h
-  asked-asks None (Some q) a h = asked-if (Right q.0 q.1) a h
-  asked-asks None None a h = cc
+  asked-asks p q a h = grind (arith, asked-if)
 
   -- a question that a join asks is one of its kind
   pub asked-by_kind : (cmp : K → K → Ordering) (xs : List (K × V)) (ys : List (K × W)) (a : OuterJoinArg K V W)

@@ -1,5 +1,5 @@
 -- What stands at each key of a list of pairs that ascends by key, and what a change at one key leaves there.
-use Rattle.std.proofs.Common.{◌≡◌, Bool, true, false, cond, List, [], ◌∷◌, ◌++◌, Option, Some, None, is_some, MatchBool}
+use Rattle.std.proofs.Common.{arith, ◌≡◌, Bool, true, false, cond, List, [], ◌∷◌, ◌++◌, Option, Some, None, is_some, MatchBool}
 use Rattle.std.proofs.Common.{refl, sym, ap, ◌∙◌}
 use Rattle.std.specs.Cmp.{IsTotalOrder, alike_right, tied_back, tied_itself, Equal-is}
 use Rattle.std.specs.List.{AllByRecursion}
@@ -9,7 +9,7 @@ use Rattle.std.specs.Option.{option_map}
 use Rattle.std.specs.Ordering.{is_eq, ordering_reverse}
 use Rattle.std.specs.BTreeMap.{is_at, insert_entry}
 use Rattle.std.specs.declared.cmp.Ordering.{Ordering}
-use Rattle.std.specs.declared.cmp.Ordering.TheVariants.{Less, Equal, Greater}
+use Rattle.std.specs.declared.cmp.Ordering.TheVariants.{Less, Equal}
 use Rattle.vc_joins.specs.Entries.{AscendsByKey, entry_at, value_at}
 use Rattle.vc_joins.proofs.Functions.{value-entry}
 use Rattle.vc_btree_maps.specs.Putting.{IsPut}
@@ -24,18 +24,11 @@ pub chosen : {P Q : Type 0} (b : Bool) → (b ≡ true → P) → (b ≡ false �
 chosen true t f = t refl
 chosen false t f = f refl
 
--- a comparison decides
-by-order : {P : Type 0} (r : Ordering) → (r ≡ Less → P) → (r ≡ Equal → P) → (r ≡ Greater → P) → P
-by-order Less l e g = l refl
-by-order Equal l e g = e refl
-by-order Greater l e g = g refl
-
 -- an option that has nothing is none
 pub none-by : {A : Type 0} (z : Option A) → is_some z ≡ false → z ≡ None
-none-by None e = refl
-none-by (Some x) e = cc
+none-by z e = grind arith
 
-module _ {K : Type 0} (cmp : K → K → Ordering) (total : IsTotalOrder cmp) where
+module _ {K : Type 0} {cmp : K → K → Ordering} (total : IsTotalOrder cmp) where
   pub equal-at : (k key : K) → is_at (cmp k) key ≡ true → cmp k key ≡ Equal
   equal-at k key = (Equal-is (cmp k key)).0
 
@@ -48,7 +41,7 @@ module _ {K : Type 0} (cmp : K → K → Ordering) (total : IsTotalOrder cmp) wh
   at-other k key x f t =
       ap is_eq (alike_right total x key k (tied_back total key x (equal-at key x t))) ∙ f
 
-module _ {K V : Type 0} (cmp : K → K → Ordering) (total : IsTotalOrder cmp) where
+module _ {K V : Type 0} {cmp : K → K → Ordering} (total : IsTotalOrder cmp) where
   -- at equal keys stands the same pair
   pub same-entry : (j k : K) (es : List (K × V)) → cmp j k ≡ Equal → entry_at cmp es j ≡ entry_at cmp es k
   same-entry j k [] e = refl
@@ -57,10 +50,7 @@ module _ {K V : Type 0} (cmp : K → K → Ordering) (total : IsTotalOrder cmp) 
   -- a pair that is found stands at a key that is equal to its own
   pub own-key : (k : K) (es : List (K × V)) (p : K × V) → entry_at cmp es k ≡ Some p → cmp k p.0 ≡ Equal
   own-key k [] p e = cc
-  own-key k (q ∷ es) p e =
-      by-test (is_at (cmp k) q.0)
-      (λ t. let h : Some q ≡ Some p = rw t at e in let s : q ≡ p = cc in rw (sym s) (equal-at cmp total k q.0 t))
-      (λ f. own-key k es p (rw f at e))
+  own-key k (q ∷ es) p e = grind (arith, equal-at total k q.0, own-key k es p)
 
   -- and it stands at each key that is equal to one where it stands
   pub at-own : (k : K) (es : List (K × V)) (p : K × V) → entry_at cmp es k ≡ Some p → entry_at cmp es p.0 ≡ Some p
@@ -99,48 +89,34 @@ module _ {K V : Type 0} (cmp : K → K → Ordering) (total : IsTotalOrder cmp) 
   value-is_some k es = sym (ap is_some (value-entry cmp es k) ∙ mapped (entry_at cmp es k))
     where
       mapped : (z : Option (K × V)) → is_some (option_map (λ p. p.1) z) ≡ is_some z
-      mapped None = refl
-      mapped (Some p) = refl
+      mapped z = grind arith
 
   -- ---- a change at one key: what stands at each key k once a value was written, a pair taken out or a new one put in
-
-  -- a pair at another key is passed
-  past : (k key : K) (q : K × V) (es more : List (K × V)) (x : Option (K × V)) → is_at (cmp key) q.0 ≡ false
-      → entry_at cmp more k ≡ cond (is_at (cmp k) key) x (entry_at cmp es k)
-      → entry_at cmp (q ∷ more) k ≡ cond (is_at (cmp k) key) x (entry_at cmp (q ∷ es) k)
-  past k key q es more x n e =
-      rw e (by-test (is_at (cmp k) key) (λ t. rw (t, at-same cmp total k key q.0 t ∙ n) refl) (λ f. rw f refl))
 
   pub written : (k key : K) (es : List (K × V)) (p : K × V) (v : V) → entry_at cmp es key ≡ Some p
       → entry_at cmp (set_value (is_at (cmp key)) es v) k ≡ cond (is_at (cmp k) key) (Some (p.0, v)) (entry_at cmp es k)
   written k key [] p v e = cc
   written k key (q ∷ es) p v e =
-      by-test (is_at (cmp key) q.0)
-      (λ b. let h : Some q ≡ Some p = rw b at e in let s : q ≡ p = cc in
-      by-test (is_at (cmp k) key)
-      (λ t. rw (b, t, at-same cmp total k key q.0 t ∙ b) (ap (λ z. Some (z.0, v)) s))
-      (λ f. rw (b, f, at-other cmp total k key q.0 f b) refl))
-      (λ n. rw n (past k key q es (set_value (is_at (cmp key)) es v) (Some (p.0, v)) n (written k key es p v (rw n at e))))
+      grind (arith, at-same total k key q.0, at-other total k key q.0, written k key es p v)
 
   pub removed : (k key : K) (es : List (K × V)) → AscendsByKey cmp es
       → entry_at cmp (remove_entry (is_at (cmp key)) es) k ≡ cond (is_at (cmp k) key) None (entry_at cmp es k)
   unfolding IsStrictlySortedBy
-  removed k key [] s = by-test (is_at (cmp k) key) (λ t. rw t refl) (λ f. rw f refl)
+  removed k key [] s = grind arith
   removed k key (q ∷ es) s =
-      by-test (is_at (cmp key) q.0)
-      (λ b. by-test (is_at (cmp k) key)
-      (λ t. rw (b, t) (none-above k q.0 es (equal-at cmp total k q.0 (at-same cmp total k key q.0 t ∙ b)) s.0))
-      (λ f. rw (b, f, at-other cmp total k key q.0 f b) refl))
-      (λ n. rw n (past k key q es (remove_entry (is_at (cmp key)) es) None n (removed k key es s.1)))
+      grind (
+        arith,
+        equal-at total k q.0,
+        at-same total k key q.0,
+        at-other total k key q.0,
+        none-above k q.0 es,
+        removed k key es,
+      )
 
   pub inserted : (k key : K) (es : List (K × V)) (v : V) → entry_at cmp es key ≡ None
       → entry_at cmp (insert_entry cmp es key v) k ≡ cond (is_at (cmp k) key) (Some (key, v)) (entry_at cmp es k)
   inserted k key [] v n = refl
-  inserted k key (q ∷ es) v n =
-      by-order (cmp key q.0)
-      (λ l. rw l refl)
-      (λ e. let h : Some q ≡ None = rw e at n in cc)
-      (λ g. rw g (past k key q es (insert_entry cmp es key v) (Some (key, v)) (ap is_eq g) (inserted k key es v (rw g at n))))
+  inserted k key (q ∷ es) v n = grind (arith, at-same total k key q.0, inserted k key es v)
 
   -- ---- an answer that is put at a key where nothing stands
 
@@ -159,5 +135,5 @@ module _ {K V : Type 0} (cmp : K → K → Ordering) (total : IsTotalOrder cmp) 
       → IsPut cmp is_clone key None old old
   put-none is_clone key old s n = record {
     ascends = s;
-    at = λ k. chosen (is_at (cmp k) key) (λ t. same-entry k key old (equal-at cmp total k key t) ∙ n) (λ f. refl);
+    at = λ k. chosen (is_at (cmp k) key) (λ t. same-entry k key old (equal-at total k key t) ∙ n) (λ f. refl);
   }

@@ -1,12 +1,11 @@
 -- The outer join in place: what is given at the keys of the other map alone, and what then stays of the values that were there.
-use Rattle.std.proofs.Common.{◌≡◌, Bool, true, false, cond, List, [], ◌∷◌, Option, Some, None, is_some}
-use Rattle.std.proofs.Common.{IsSomeAnd, Result, Ok, Err, OnErr, refl, sym, ap, ◌∙◌}
+use Rattle.std.proofs.Common.{arith, ◌≡◌, Bool, true, false, cond, List, [], ◌∷◌, Option, Some, None, is_some}
+use Rattle.std.proofs.Common.{IsSomeAnd, Result, OnErr, refl, sym, ap, ◌∙◌}
 use Rattle.std.proofs.lemmas.List.Kept.{IsStrictlySortedBy-filter}
 use Rattle.std.specs.Cmp.{IsTotalOrder}
 use Rattle.std.specs.List.{filter}
 use Rattle.std.specs.Map.{keys_of}
 use Rattle.std.specs.Option.{MatchOption}
-use Rattle.std.specs.BTreeMap.{is_at}
 use Rattle.std.specs.declared.cmp.Ordering.{Ordering}
 use Rattle.std.specs.declared.cmp.Ordering.TheVariants.{Equal}
 use Rattle.vc_joins.specs.declared.question.OuterJoinArg.{OuterJoinArg}
@@ -18,13 +17,13 @@ use Rattle.vc_joins.specs.Question.{asked, left_spelling, right_spelling}
 use Rattle.vc_btree_maps.specs.Keeping.{at_pair, AtAlone, OrSharedStays, OrGives, StayedOrCloned, IsGrown}
 use Rattle.vc_btree_maps.specs.Putting.{IsPut, IsPutAt}
 use Rattle.vc_btree_maps.specs.Stages.{IsKeptAt, IsKeptAlong, IsGivenAt, IsGiven, shared_with}
-use Rattle.vc_btree_maps.proofs.Entries.{by-test, none-by, equal-at, same-entry, own-key, at-own, value-is_some}
+use Rattle.vc_btree_maps.proofs.Entries.{none-by, equal-at, same-entry, own-key, at-own, value-is_some}
 use Rattle.vc_btree_maps.proofs.Passing.{IsPassed, start, next, next-same, next-before, passed-all, either}
 use Rattle.vc_btree_maps.proofs.Staying.{WasThere, next-new}
 
 -- ---- the pairs at the keys of a map
 
-module _ {K W : Type 0} (cmp : K → K → Ordering) (total : IsTotalOrder cmp) (test : K → Bool)
+module _ {K W : Type 0} {cmp : K → K → Ordering} (total : IsTotalOrder cmp) (test : K → Bool)
     (alike : (j k : K) → cmp j k ≡ Equal → test j ≡ test k) where
   -- they ascend as they did
   filter-ascends : (es : List (K × W)) → AscendsByKey cmp es → AscendsByKey cmp (filter (λ q. test q.0) es)
@@ -32,27 +31,24 @@ module _ {K W : Type 0} (cmp : K → K → Ordering) (total : IsTotalOrder cmp) 
     where
       keys : (es : List (K × W)) → keys_of (filter (λ q. test q.0) es) ≡ filter test (keys_of es)
       keys [] = refl
-      keys (e ∷ es) = by-test (test e.0) (λ t. rw t (ap (λ ks. e.0 ∷ ks) (keys es))) (λ f. rw f (keys es))
+      keys (e ∷ es) = grind (arith, keys es)
 
   -- and stand at their keys
   filter-entry : (es : List (K × W)) (k : K) → entry_at cmp (filter (λ q. test q.0) es) k
       ≡ cond (test k) (entry_at cmp es k) None
-  filter-entry [] k = by-test (test k) (λ t. rw t refl) (λ f. rw f refl)
+  filter-entry [] k = grind arith
   filter-entry (e ∷ es) k =
-      by-test (is_at (cmp k) e.0)
-      (λ at. let same = alike k e.0 (equal-at cmp total k e.0 at) in
-      by-test (test e.0) (λ t. rw (t, at, same ∙ t) refl) (λ f. rw (f, at, same ∙ f) (rw (same ∙ f) at (filter-entry es k))))
-      (λ n. by-test (test e.0) (λ t. rw (t, n) (filter-entry es k)) (λ f. rw (f, n) (filter-entry es k)))
+      grind (arith, alike k e.0, equal-at total k e.0, filter-entry es k)
 
-module _ {K V W : Type 0} (cmp : K → K → Ordering) (total : IsTotalOrder cmp) (old : List (K × V)) (others : List (K × W)) where
+module _ {K V W : Type 0} {cmp : K → K → Ordering} (total : IsTotalOrder cmp) (old : List (K × V)) (others : List (K × W)) where
   pub shared-ascends : AscendsByKey cmp others → AscendsByKey cmp (shared_with cmp old others)
-  shared-ascends s = filter-ascends cmp total (λ k. is_some (entry_at cmp old k))
-      (λ j k e. ap is_some (same-entry cmp total j k old e)) others s
+  shared-ascends s = filter-ascends total (λ k. is_some (entry_at cmp old k))
+      (λ j k e. ap is_some (same-entry total j k old e)) others s
 
   pub shared-entry : (k : K) → entry_at cmp (shared_with cmp old others) k
       ≡ cond (is_some (entry_at cmp old k)) (entry_at cmp others k) None
-  shared-entry k = filter-entry cmp total (λ k. is_some (entry_at cmp old k))
-      (λ j k e. ap is_some (same-entry cmp total j k old e)) others k
+  shared-entry k = filter-entry total (λ k. is_some (entry_at cmp old k))
+      (λ j k e. ap is_some (same-entry total j k old e)) others k
 
 -- ---- what is given
 
@@ -63,8 +59,7 @@ pub record IsGivenThere {K V W : Type 0} (cmp : K → K → Ordering) (is_clone 
 
 -- what was there is there
 was : {A P : Type 0} (o z : Option A) → (is_some o ≡ false → P) → z ≡ o → MatchOption o P (λ p. z ≡ Some p)
-was None z h e = h refl
-was (Some p) z h e = e
+was o z h e = grind arith
 
 module _ {K V W : Type 0} {cmp : K → K → Ordering} (total : IsTotalOrder cmp) {is_clone : K → K → Type 0}
     {Gives : K → W → Option V → Type 0} {others : List (K × W)} {old : List (K × V)} where
@@ -78,9 +73,7 @@ module _ {K V W : Type 0} {cmp : K → K → Ordering} (total : IsTotalOrder cmp
       (i : IsPassed cmp (WasThere cmp old) (IsGivenThere cmp is_clone Gives others old) others (q ∷ rest) now) where
     given-here : (answer : Option V) (z : Option (K × V)) → Gives q.0 q.1 answer → IsPutAt is_clone q.0 answer z
         → IsGivenAt cmp is_clone Gives (Some q) z
-    given-here None z g p = rw p g
-    given-here (Some x) (Some p) g put = (put.0, rw put.1 g)
-    given-here (Some x) None g put = absurd put
+    given-here answer z g put = grind arith
 
     -- a pair comes in
     pub next-given : (answer : Option V) {new : List (K × V)} → is_some (value_at cmp now q.0) ≡ false → Gives q.0 q.1 answer
@@ -89,13 +82,13 @@ module _ {K V W : Type 0} {cmp : K → K → Ordering} (total : IsTotalOrder cmp
     next-given answer {new} e g put =
         next total i put.ascends (λ k f. rw f at (put.at k))
         (λ k t is b. record {
-          is = rw (same-entry cmp total k q.0 old (equal-at cmp total k q.0 t) ∙ next-new total i e, is)
+          is = rw (same-entry total k q.0 old (equal-at total k q.0 t) ∙ next-new total i e, is)
               (given-here answer (entry_at cmp new k) g (rw t at (put.at k)));
         })
 
     -- a key that is there was there before
     pub next-had : (b : Bool) → is_some (value_at cmp now q.0) ≡ b → is_some (entry_at cmp old q.0) ≡ b
-    next-had b e = ap is_some (sym (next-before total i).same) ∙ value-is_some cmp total q.0 now ∙ e
+    next-had b e = ap is_some (sym (next-before total i).same) ∙ value-is_some total q.0 now ∙ e
 
     -- a key of both maps is passed
     pub next-shared : is_some (value_at cmp now q.0) ≡ true
@@ -103,7 +96,7 @@ module _ {K V W : Type 0} {cmp : K → K → Ordering} (total : IsTotalOrder cmp
     next-shared e =
         next-same total i (λ k t is b. record {
           is = was (entry_at cmp old k) (entry_at cmp now k)
-              (λ n. let h : false ≡ true = sym n ∙ ap is_some (same-entry cmp total k q.0 old (equal-at cmp total k q.0 t))
+              (λ n. let h : false ≡ true = sym n ∙ ap is_some (same-entry total k q.0 old (equal-at total k q.0 t))
               ∙ next-had true e in cc) b.same;
         })
 
@@ -124,19 +117,15 @@ module _ {K V W : Type 0} {cmp : K → K → Ordering} (total : IsTotalOrder cmp
   }
     where
       stays : (P : Type 0) (o z : Option (K × V)) → is_some o ≡ true → MatchOption o P (λ p. z ≡ Some p) → z ≡ o
-      stays P None z t g = cc
-      stays P (Some p) z t g = g
+      stays P o z t g = grind arith
 
       came : (q : Option (K × W)) (z : Option (K × V)) → IsGivenAt cmp is_clone Gives q z
           → MatchOption z (Unit {0}) (λ p. IsSomeAnd q (λ q. is_clone q.0 p.0 × Gives q.0 q.1 (Some p.1)))
-      came None z g = rw g tt
-      came (Some q) None g = tt
-      came (Some q) (Some p) g = g
+      came q z g = grind arith
 
 -- what holds anyway holds after an error
 pub after-error : {A E : Type 0} {P : Type 0} (r : Result A E) → P → OnErr r P
-after-error (Ok x) p = tt
-after-error (Err e) p = p
+after-error r p = grind arith
 
 -- ---- what stays, once all is given
 
@@ -146,9 +135,7 @@ module _ {K V W : Type 0} {cmp : K → K → Ordering} (total : IsTotalOrder cmp
   -- the last pass leaves a pair at a key of both maps as it is
   passes : (r : K × W) (b c : Option (K × V))
       → IsAnswered (OrSharedStays May) MovedKey (asked kind.Left left_spelling b (Some r)) c → c ≡ b
-  passes r None c h = h
-  passes r (Some p) None h = cc
-  passes r (Some p) (Some s) h = let e : s.1 ≡ p.1 = (let f = h.0 in cc) in λ i. Some (h.1 i, e i)
+  passes r b c h = grind arith
 
   stands : (o : Option (K × V)) (q : Option (K × W)) (a b c : Option (K × V))
       → ((p : K × V) → o ≡ Some p → entry_at cmp old p.0 ≡ Some p) → ((r : K × W) → q ≡ Some r → entry_at cmp old r.0 ≡ o)
@@ -156,24 +143,14 @@ module _ {K V W : Type 0} {cmp : K → K → Ordering} (total : IsTotalOrder cmp
       → MatchOption (cond (is_some o) q None) (b ≡ a) (λ q. IsKeptAt cmp May q.0 q.1 a b)
       → IsAnswered (OrSharedStays May) MovedKey (asked kind.Left left_spelling b q) c
       → IsAnswered (OrGives May Gives) (StayedOrCloned cmp old is_clone) (asked kind.Outer right_spelling o q) c
-  stands None None a b c own at g s h = rw (s ∙ g) at h
-  stands None (Some r) None b c own at g s h = rw (passes r b c h ∙ s) g
-  stands None (Some r) (Some p) b c own at g s h = rw (passes r b c h ∙ s) (g.1, rw (at r refl) g.0)
-  stands (Some p) None a b None own at g s h = rw (s ∙ g) at h
-  stands (Some p) None a b (Some t) own at g s h = let left = rw (s ∙ g) at h in (left.0, rw (own p refl) left.1)
-  stands (Some p) (Some r) a b c own at g s h = rw (passes r b c h) (by (rw g at s))
-    where
-      by : IsKeptAt cmp May r.0 r.1 (Some p) b
-          → IsAnswered (OrGives May Gives) (StayedOrCloned cmp old is_clone) (Some (Both r.0 p.1 r.1)) b
-      by (None, m, is) = rw is m
-      by (Some v, m, is) = rw is (m, rw (at r refl) refl)
+  stands o q a b c own at g s h = grind (arith, passes)
 
   module _ {pairs : List (K × W)} {shared : List (K × V)} (is_shared : pairs ≡ shared_with cmp old others)
       (second : IsKeptAlong cmp May pairs given shared) where
     second-at : (k : K) → MatchOption (cond (is_some (entry_at cmp old k)) (entry_at cmp others k) None)
         (entry_at cmp shared k ≡ entry_at cmp given k)
         (λ q. IsKeptAt cmp May q.0 q.1 (entry_at cmp given k) (entry_at cmp shared k))
-    second-at k = rw (ap (λ l. entry_at cmp l k) is_shared ∙ shared-entry cmp total old others k) at (second.at k)
+    second-at k = rw (ap (λ l. entry_at cmp l k) is_shared ∙ shared-entry total old others k) at (second.at k)
 
     -- the three passes make the outer join
     pub outer-of_passes : {new : List (K × V)} → IsJoin cmp kind.Left left_spelling shared others (OrSharedStays May) MovedKey new
@@ -181,8 +158,8 @@ module _ {K V W : Type 0} {cmp : K → K → Ordering} (total : IsTotalOrder cmp
     outer-of_passes {new} third = record {
       ascends = third.ascends;
       at = λ k. stands (entry_at cmp old k) (entry_at cmp others k) (entry_at cmp given k) (entry_at cmp shared k)
-          (entry_at cmp new k) (λ p e. at-own cmp total k old p e)
-          (λ r e. sym (same-entry cmp total k r.0 old (own-key cmp total k others r e)))
+          (entry_at cmp new k) (λ p e. at-own total k old p e)
+          (λ r e. sym (same-entry total k r.0 old (own-key total k others r e)))
           (first.at k) (second-at k) (third.at k);
     }
 
@@ -216,15 +193,11 @@ module _ {K V W : Type 0} {cmp : K → K → Ordering} (total : IsTotalOrder cmp
   second-takes Takes takes k r p e f =
       takes r.0 p.1 (Some r.1) (record {
         key = k;
-        asks = by (entry_at cmp old k) (entry_at cmp others k) (sym (shared-entry cmp total old others k) ∙ e)
+        asks = by (entry_at cmp old k) (entry_at cmp others k) (sym (shared-entry total old others k) ∙ e)
             (rw f at (first.at k));
       })
     where
       by : (o : Option (K × V)) (q : Option (K × W)) → cond (is_some o) q None ≡ Some r
           → MatchOption o (IsGivenAt cmp is_clone Gives q (Some p)) (λ o. Some p ≡ Some o)
           → asked kind.Outer right_spelling o q ≡ Some (Both r.0 p.1 r.1)
-      by (Some o) (Some q) e g =
-          let same : q ≡ r = cc in
-          let own : o ≡ p = cc in
-          λ i. Some (Both (same i).0 (own i).1 (same i).1)
-      by x q e g = cc
+      by o q e g = grind arith

@@ -1,5 +1,5 @@
 -- A map that is changed at one key after another, along a list of pairs that ascends by key.
-use Rattle.std.proofs.Common.{◌≡◌, true, false, List, [], ◌∷◌, Option, Some, None, refl, ap, sym, ◌∙◌}
+use Rattle.std.proofs.Common.{arith, ◌≡◌, true, false, List, [], ◌∷◌, Option, Some, None, refl, ap, sym, ◌∙◌}
 use Rattle.std.specs.Cmp.{IsTotalOrder, tied_itself}
 use Rattle.std.specs.List.Sorted.{IsStrictlySortedBy}
 use Rattle.std.specs.Option.{MatchOption}
@@ -33,8 +33,7 @@ module _ {K U X : Type 0} {cmp : K → K → Ordering} {Before After : K → Opt
     where
       either : (k : K) (z : Option (K × U)) → (z ≡ None → Before k (entry_at cmp now k) → After k (entry_at cmp now k))
           → MatchOption z (After k (entry_at cmp now k)) (λ p. Before k (entry_at cmp now k))
-      either k None h = h refl (before k)
-      either k (Some p) h = before k
+      either k z h = grind arith
 
   -- all are passed
   pub passed-all : {all left : List (K × U)} {now : List (K × X)} → IsPassed cmp Before After all left now → left ≡ []
@@ -47,8 +46,7 @@ module _ {K U X : Type 0} {cmp : K → K → Ordering} {Before After : K → Opt
   either {P} {all} {left} {now} i k after before = by (entry_at cmp left k) (i.at k)
     where
       by : (z : Option (K × U)) → MatchOption z (After k (entry_at cmp now k)) (λ p. Before k (entry_at cmp now k)) → P
-      by None h = after h
-      by (Some p) h = before h
+      by z h = grind arith
 
   module _ (total : IsTotalOrder cmp) {all rest : List (K × U)} {p : K × U} {now : List (K × X)}
       (i : IsPassed cmp Before After all (p ∷ rest) now) where
@@ -82,7 +80,7 @@ module _ {K U X : Type 0} {cmp : K → K → Ordering} {Before After : K → Opt
     }
       where
         gone : (k : K) → is_at (cmp k) p.0 ≡ true → entry_at cmp rest k ≡ None
-        gone k t = none-above cmp total k p.0 rest (equal-at cmp total k p.0 t) i.rest_ascends.0
+        gone k t = none-above total k p.0 rest (equal-at total k p.0 t) i.rest_ascends.0
 
     -- or by none
     pub next-same : ((k : K) → is_at (cmp k) p.0 ≡ true → entry_at cmp all k ≡ Some p → Before k (entry_at cmp now k)

@@ -1,5 +1,5 @@
 -- Joins in place: what stands at each key when a value is decided, and after all of them.
-use Rattle.std.proofs.Common.{◌≡◌, Bool, true, false, List, [], ◌∷◌, ◌++◌, Option, Some, None, is_some}
+use Rattle.std.proofs.Common.{arith, ◌≡◌, Bool, true, false, List, [], ◌∷◌, ◌++◌, Option, Some, None, is_some}
 use Rattle.std.proofs.Common.{refl, sym, ap, subst, ◌∙◌, cond, ℕ, ◌<◌, ◌+◌, length, get_or, drop, map, add-one, drop-cons}
 use Rattle.std.specs.Cmp.{IsTotalOrder}
 use Rattle.std.specs.List.Sorted.{IsStrictlySortedBy}
@@ -11,7 +11,7 @@ use Rattle.std.specs.BTreeMap.{is_at}
 use Rattle.std.specs.declared.cmp.Ordering.{Ordering}
 use Rattle.std.specs.declared.cmp.Ordering.TheVariants.{Equal}
 use Rattle.vc_joins.specs.declared.question.OuterJoinArg.{OuterJoinArg}
-use Rattle.vc_joins.specs.declared.question.OuterJoinArg.TheVariants.{Left, Right, Both}
+use Rattle.vc_joins.specs.declared.question.OuterJoinArg.TheVariants.{Right, Both}
 use Rattle.vc_joins.specs.declared.question.JoinKind.{JoinKind}
 use Rattle.vc_joins.specs.declared.question.JoinKind.TheVariants as kind
 use Rattle.vc_joins.specs.Entries.{AscendsByKey, entry_at, value_at}
@@ -21,14 +21,15 @@ use Rattle.vc_joins.proofs.Functions.{value-entry}
 use Rattle.vc_btree_maps.specs.Keeping.{at_pair, if_kept, OrStays, OrDropped, StayedKey}
 use denote.Ref.{Bor}
 use Rattle.vc_btree_maps.specs.Stages.{IsKeptAt, IsKept, IsKeptAlong}
-use Rattle.vc_btree_maps.proofs.Entries.{by-test, chosen, none-by, equal-at, same-entry, own-key, at-own, none-above, found, value-is_some}
+use Rattle.vc_btree_maps.proofs.Entries.{chosen, none-by, equal-at, same-entry, own-key, at-own, none-above, found}
+use Rattle.vc_btree_maps.proofs.Entries.{value-is_some}
 use Rattle.vc_btree_maps.proofs.Entries.{standing, written, removed}
 use Rattle.vc_btree_maps.proofs.Asking.{left-silent}
 use Rattle.vc_btree_maps.proofs.Passing.{IsPassed, start, next, next-there, next-before, passed-all}
 
 -- ---- one value is decided
 
-module _ {K V W : Type 0} (cmp : K → K → Ordering) (total : IsTotalOrder cmp)
+module _ {K V W : Type 0} {cmp : K → K → Ordering} (total : IsTotalOrder cmp)
     (May : OuterJoinArg K V W → Option V → Type 0) (key : K) (w : W) where
   -- what stands at the key is what may stay of the pair there, and nothing else changes
   decided : {old new : List (K × V)} (p : K × V) (r : Option V) → AscendsByKey cmp new → entry_at cmp old key ≡ Some p
@@ -38,7 +39,7 @@ module _ {K V W : Type 0} (cmp : K → K → Ordering) (total : IsTotalOrder cmp
   decided {old} {new} p r s here m is = record {
     ascends = s;
     at = λ k. chosen (is_at (cmp k) key)
-        (λ t. rw (same-entry cmp total k key old (equal-at cmp total k key t), here) (r, m, rw t at (is k)))
+        (λ t. rw (same-entry total k key old (equal-at total k key t), here) (r, m, rw t at (is k)))
         (λ f. rw f at (is k));
   }
 
@@ -47,22 +48,21 @@ module _ {K V W : Type 0} (cmp : K → K → Ordering) (total : IsTotalOrder cmp
       → May (Both key v w) (Some left) → new ≡ set_value (is_at (cmp key)) old left
       → IsKept cmp May key w old new
   kept-written {old} {new} {v} {left} s e m is =
-      let (p, here, same) = found cmp total key old v e in
-      decided p (Some left) s here (rw same m) (λ k. ap (λ l. entry_at cmp l k) is ∙ written cmp total k key old p left here)
+      let (p, here, same) = found total key old v e in
+      decided p (Some left) s here (rw same m) (λ k. ap (λ l. entry_at cmp l k) is ∙ written total k key old p left here)
 
   -- or it is taken out
   pub kept-removed : {old mid new : List (K × V)} {v : V} (left : V) → AscendsByKey cmp mid → AscendsByKey cmp new
       → value_at cmp old key ≡ Some v → May (Both key v w) None
       → mid ≡ set_value (is_at (cmp key)) old left → new ≡ remove_entry (is_at (cmp key)) mid → IsKept cmp May key w old new
   kept-removed {old} {mid} {new} {v} left t s e m was is =
-      let (p, here, same) = found cmp total key old v e in
+      let (p, here, same) = found total key old v e in
       decided p None s here (rw same m)
-      (λ k. ap (λ l. entry_at cmp l k) is ∙ removed cmp total k key mid t
-      ∙ rw was (rw (written cmp total k key old p left here) (twice (p.0, left) (entry_at cmp old k) (is_at (cmp k) key))))
+      (λ k. ap (λ l. entry_at cmp l k) is ∙ removed total k key mid t
+      ∙ rw was (rw (written total k key old p left here) (twice (p.0, left) (entry_at cmp old k) (is_at (cmp k) key))))
     where
       twice : (x : K × V) (y : Option (K × V)) (b : Bool) → cond b None (cond b (Some x) y) ≡ cond b None y
-      twice x y true = refl
-      twice x y false = refl
+      twice x y b = grind arith
 
   -- there is no value
   pub kept-nothing : (old new : List (K × V)) → AscendsByKey cmp new → value_at cmp old key ≡ None → new ≡ old
@@ -70,15 +70,15 @@ module _ {K V W : Type 0} (cmp : K → K → Ordering) (total : IsTotalOrder cmp
   kept-nothing old new s e is = record {
     ascends = s;
     at = λ k. chosen (is_at (cmp k) key)
-        (λ t. let none = same-entry cmp total k key old (equal-at cmp total k key t)
-        ∙ none-by (entry_at cmp old key) (value-is_some cmp total key old ∙ ap is_some e) in
+        (λ t. let none = same-entry total k key old (equal-at total k key t)
+        ∙ none-by (entry_at cmp old key) (value-is_some total key old ∙ ap is_some e) in
         rw none (ap (λ l. entry_at cmp l k) is ∙ none))
         (λ f. ap (λ l. entry_at cmp l k) is);
   }
 
 -- ---- what `retain` leaves
 
-module _ {K V : Type 0} (cmp : K → K → Ordering) (total : IsTotalOrder cmp) {F : Type 0}
+module _ {K V : Type 0} {cmp : K → K → Ordering} (total : IsTotalOrder cmp) {F : Type 0}
     (T : F → K → V → Bool → V → F → Type 0) (f : F) (May : K → V → Option V → Type 0)
     (means : (k : K) (v : V) (b : Bool) (w : V) (g : F) → T f k v b w g → May k v (if_kept b w) × (g ≡ f)) where
   -- what stands at a key of which the map had a pair, and nothing else
@@ -95,15 +95,13 @@ module _ {K V : Type 0} (cmp : K → K → Ordering) (total : IsTotalOrder cmp) 
   judged k [] kept h q s r = ap (λ l. entry_at cmp l k) r
   judged k (e ∷ es) kept h q s (true, w, g, rest, t, more, is) =
       let u = means-of h q e.0 e.1 true w g t in
-      rw is (by-test (is_at (cmp k) e.0) (λ at. rw at (Some w, u.0, refl)) (λ n. rw n (judged k es rest g u.1 s.1 more)))
+      grind (arith, judged k es rest g u.1 s.1 more, u.0)
   judged k (e ∷ es) kept h q s (false, w, g, rest, t, more, is) =
       let u = means-of h q e.0 e.1 false w g t in
       let later = judged k es rest g u.1 s.1 more in
-      rw is (by-test (is_at (cmp k) e.0)
-      (λ at. rw at (None, u.0, rw (none-above cmp total k e.0 es (equal-at cmp total k e.0 at) s.0) at later))
-      (λ n. rw n later))
+      grind (arith, later, u.0, equal-at total k e.0, none-above total k e.0 es)
 
-module _ {K V W : Type 0} (cmp : K → K → Ordering) (total : IsTotalOrder cmp)
+module _ {K V W : Type 0} {cmp : K → K → Ordering} (total : IsTotalOrder cmp)
     (May : OuterJoinArg K V W → Option V → Type 0) (others : List (K × W)) where
   -- what the pair at a key is decided to
   abbrev DecidedAt : Option (K × V) → Option (K × V) → Type 0
@@ -115,33 +113,29 @@ module _ {K V W : Type 0} (cmp : K → K → Ordering) (total : IsTotalOrder cmp
       → IsAnswered May MovedKey (asked kind.Left left_spelling old (entry_at cmp others k)) new
   answered k None new own j = rw (left-silent (entry_at cmp others k)) j
   answered k (Some e) new own (r, m, is) =
-      by (entry_at cmp others k) r (rw (value-entry cmp others e.0, sym (same-entry cmp total k e.0 others (own e refl))) at m) is
+      by (entry_at cmp others k) r (rw (value-entry cmp others e.0, sym (same-entry total k e.0 others (own e refl))) at m) is
     where
       by : (q : Option (K × W)) (r : Option V) → May (at_pair e.0 e.1 (option_map (λ q. q.1) q)) r
           → new ≡ option_map (λ v. (e.0, v)) r → IsAnswered May MovedKey (asked kind.Left left_spelling (Some e) q) new
-      by None None m is = rw is m
-      by None (Some v) m is = rw is (m, refl)
-      by (Some q) None m is = rw is m
-      by (Some q) (Some v) m is = rw is (m, refl)
+      by q r m is = grind arith
 
   -- what each value is decided to makes the left join in place
   pub join-of_judged : (old new : List (K × V)) → AscendsByKey cmp new
       → ((k : K) → DecidedAt (entry_at cmp old k) (entry_at cmp new k))
       → IsJoin cmp kind.Left left_spelling old others May MovedKey new
   join-of_judged old new s j = record
-      { ascends = s; at = λ k. answered k (entry_at cmp old k) (entry_at cmp new k) (λ e is. own-key cmp total k old e is) (j k) }
+      { ascends = s; at = λ k. answered k (entry_at cmp old k) (entry_at cmp new k) (λ e is. own-key total k old e is) (j k) }
 
   -- each pair of the map is asked at
   pub asked-in : (old before after : List (K × V)) (k : K) (v : V) → AscendsByKey cmp old → old ≡ before ++ (k, v) ∷ after
       → IsAsked cmp kind.Left left_spelling old others (at_pair k v (value_at cmp others k))
   asked-in old before after k v s is = record {
     key = k;
-    asks = rw (is, standing cmp total before (k, v) after (rw is at s), value-entry cmp others k) (by (entry_at cmp others k));
+    asks = rw (is, standing total before (k, v) after (rw is at s), value-entry cmp others k) (by (entry_at cmp others k));
   }
     where
       by : (q : Option (K × W)) → asked kind.Left left_spelling (Some (k, v)) q ≡ Some (at_pair k v (option_map (λ q. q.1) q))
-      by None = refl
-      by (Some q) = refl
+      by q = grind arith
 
 -- ---- values that are decided at the keys of a list of pairs
 
@@ -159,13 +153,13 @@ module _ {K V W : Type 0} {cmp : K → K → Ordering} (total : IsTotalOrder cmp
     (i : IsPassed cmp (WasThere cmp old) After others (q ∷ rest) now) where
   -- a key that is not there was not there before
   pub next-new : is_some (value_at cmp now q.0) ≡ false → entry_at cmp old q.0 ≡ None
-  next-new e = sym (next-before total i).same ∙ none-by (entry_at cmp now q.0) (value-is_some cmp total q.0 now ∙ e)
+  next-new e = sym (next-before total i).same ∙ none-by (entry_at cmp now q.0) (value-is_some total q.0 now ∙ e)
 
   -- what may be asked at each pair of both maps may be asked at the next one
   pub takes-shared : (Takes : OuterJoinArg K V W → Type 0) → ((k : K) (q : K × W) (p : K × V) → entry_at cmp others k ≡ Some q
       → entry_at cmp old k ≡ Some p → Takes (Both q.0 p.1 q.1)) → (v : V) → value_at cmp now q.0 ≡ Some v → Takes (Both q.0 v q.1)
   takes-shared Takes takes v e =
-      let (p, here, same) = found cmp total q.0 now v e in
+      let (p, here, same) = found total q.0 now v e in
       rw (sym same) (takes q.0 q p (next-there total i) (sym (next-before total i).same ∙ here))
 
   -- the question there
@@ -188,10 +182,7 @@ module _ {K V W : Type 0} (cmp : K → K → Ordering) (May : OuterJoinArg K V W
       → ((p : K × V) (r : K × W) → z ≡ Some p → q ≡ Some r → entry_at cmp old r.0 ≡ Some p)
       → MatchOption q (new ≡ z) (λ q. IsKeptAt cmp May q.0 q.1 z new)
       → IsAnswered (OrStays May) (StayedKey cmp old) (asked kind.Left right_spelling z q) new
-  right-answered None (Some p) new own shared is = rw is (refl, rw (own p refl) refl)
-  right-answered (Some q) (Some p) new own shared (None, m, is) = rw is m
-  right-answered (Some q) (Some p) new own shared (Some v, m, is) = rw is (m, rw (shared p q refl refl) refl)
-  right-answered x y new own shared is = is
+  right-answered q z new own shared is = grind arith
 
 module _ {K V W : Type 0} {cmp : K → K → Ordering} (total : IsTotalOrder cmp) {May : OuterJoinArg K V W → Option V → Type 0}
     {others : List (K × W)} {old : List (K × V)} where
@@ -220,8 +211,8 @@ module _ {K V W : Type 0} {cmp : K → K → Ordering} (total : IsTotalOrder cmp
   right-of_along {new} j = record {
     ascends = j.ascends;
     at = λ k. right-answered cmp May old (entry_at cmp others k) (entry_at cmp old k) (entry_at cmp new k)
-        (λ p e. at-own cmp total k old p e)
-        (λ p q e f. sym (same-entry cmp total k q.0 old (own-key cmp total k others q f)) ∙ e) (j.at k);
+        (λ p e. at-own total k old p e)
+        (λ p q e f. sym (same-entry total k q.0 old (own-key total k others q f)) ∙ e) (j.at k);
   }
 
 -- ---- a left join in place that drops what the other map lacks is an inner one
@@ -231,12 +222,7 @@ module _ {K V W : Type 0} (cmp : K → K → Ordering) (May : OuterJoinArg K V W
   shared-alone : (p : Option (K × V)) (q : Option (K × W)) (z : Option (K × V))
       → IsAnswered (OrDropped May) MovedKey (asked kind.Left left_spelling p q) z
       → IsAnswered May MovedKey (asked kind.Inner left_spelling p q) z
-  shared-alone None None z h = h
-  shared-alone None (Some q) z h = h
-  shared-alone (Some p) None None h = refl
-  shared-alone (Some p) None (Some z) h = let e = h.0 in cc
-  shared-alone (Some p) (Some q) None h = h
-  shared-alone (Some p) (Some q) (Some z) h = h
+  shared-alone p q z h = grind arith
 
   pub inner-of_left : (old new : List (K × V)) (others : List (K × W))
       → IsJoin cmp kind.Left left_spelling old others (OrDropped May) MovedKey new
@@ -247,8 +233,7 @@ module _ {K V W : Type 0} (cmp : K → K → Ordering) (May : OuterJoinArg K V W
   -- a shared key that a left join asks at is one that an inner join asks at
   asked-too : (p : Option (K × V)) (q : Option (K × W)) (k : K) (v : V) (w : W) → asked kind.Left left_spelling p q
       ≡ Some (Both k v w) → asked kind.Inner left_spelling p q ≡ Some (Both k v w)
-  asked-too (Some p) None k v w e = cc
-  asked-too x y k v w e = e
+  asked-too p q k v w e = grind arith
 
   pub inner-asks : (old : List (K × V)) (others : List (K × W)) (a : OuterJoinArg K V W) (k : K) (v : V) (w : W)
       → Both k v w ≡ a → IsAsked cmp kind.Left left_spelling old others a
@@ -261,13 +246,7 @@ module _ {K V W : Type 0} (cmp : K → K → Ordering) (May : OuterJoinArg K V W
   -- what stays at the keys of this map alone does so whatever a closure for shared keys would leave there
   drops-no_more : (Keeps : OuterJoinArg K V W → K → Type 0) (a : Option (OuterJoinArg K V W)) (z : Option (K × V))
       → IsAnswered (OrStays (OrDropped May)) Keeps a z → IsAnswered (OrStays May) Keeps a z
-  drops-no_more Keeps None z h = h
-  drops-no_more Keeps (Some (Left k v)) None h = h
-  drops-no_more Keeps (Some (Left k v)) (Some z) h = h
-  drops-no_more Keeps (Some (Right k w)) None h = h
-  drops-no_more Keeps (Some (Right k w)) (Some z) h = h
-  drops-no_more Keeps (Some (Both k v w)) None h = h
-  drops-no_more Keeps (Some (Both k v w)) (Some z) h = h
+  drops-no_more Keeps a z h = grind arith
 
   pub right-of_shared : (old new : List (K × V)) (others : List (K × W))
       → IsJoin cmp kind.Left right_spelling old others (OrStays (OrDropped May)) (StayedKey cmp old) new

@@ -1,11 +1,10 @@
 -- Joins of `BTreeMap` in words of values, for closures that look at values alone.
-use Rattle.std.proofs.Common.{◌≡◌, Bool, List, Option, Some, None, Result, Ok, Err, IfOk, OnOk, refl, ap, ◌∙◌}
+use Rattle.std.proofs.Common.{arith, ◌≡◌, Bool, List, Option, Some, Result, IfOk, OnOk, refl, ap, ◌∙◌}
 use Rattle.std.specs.Option.{option_copied}
 use Rattle.std.specs.declared.cmp.Ordering.{Ordering}
 use denote.Ref.{Bor, MutBor}
 use denote.Param.Members.{Shared}
 use Rattle.vc_joins.specs.declared.question.OuterJoinArg.{OuterJoinArg}
-use Rattle.vc_joins.specs.declared.question.OuterJoinArg.TheVariants as question
 use Rattle.vc_joins.specs.declared.question.JoinKind.TheVariants.{Outer, Left, Inner}
 use Rattle.vc_joins.specs.Entries.{value_at}
 use Rattle.vc_joins.specs.Join.{IsJoinBy}
@@ -16,20 +15,17 @@ use Rattle.vc_btree_maps.specs.KeepingValues.{or_stays, or_given, LeavesBy, Leav
 
 -- what holds of a map that is answered
 pub if-ok : {X E : Type 0} (result : Result X E) {P Q : X → Type 0} → ((x : X) → P x → Q x) → IfOk result P → IfOk result Q
-if-ok (Ok x) f p = f x p
-if-ok (Err e) f p = tt
+if-ok result f p = grind arith
 
 -- what holds where a call is not refused
 pub on-ok : {X E : Type 0} (result : Result X E) {P Q : Type 0} → (P → Q) → OnOk result P → OnOk result Q
-on-ok (Ok x) f p = f p
-on-ok (Err e) f p = tt
+on-ok result f p = grind arith
 
 module _ {K V W : Type 0} (cmp : K → K → Ordering) (spelled : K → K → K)
     (xs : List (K × V)) (ys : List (K × W)) (zs : List (K × V)) {F : Type 0} (f : F) where
   -- what is made of the values that a pair is shown with
   pair-values : (h : V → Option W → Option V) (k : K) (v : V) (w : Option W) → h v w ≡ of_values (first_of h) (at_pair k v w)
-  pair-values h k v None = refl
-  pair-values h k v (Some w) = refl
+  pair-values h k v w = grind arith
 
   module _ (g : Shared F (Bor K × (MutBor V × (Option (Bor W) × Unit {0}))) (Bool × (MutBor V × Unit {0}))) where
     left-by : (h : V → Option W → Option V) → LeavesBy g f h → (a : OuterJoinArg K V W) (r : Option V)
@@ -54,15 +50,10 @@ module _ {K V W : Type 0} (cmp : K → K → Ordering) (spelled : K → K → K)
         ∙ outer-kind (value_at cmp xs k) (value_at cmp ys k)
       where
         outer-kind : (v : Option V) (w : Option W) → in_kind Outer (or_given h e) v w ≡ or_given h e v w
-        outer-kind (Some v) (Some w) = refl
-        outer-kind (Some v) None = refl
-        outer-kind None (Some w) = refl
-        outer-kind None None = refl
+        outer-kind v w = grind arith
 
         by : (a : OuterJoinArg K V W) (r : Option V) → OrGives (MayLeave g f) (MayGive o i) a r → r ≡ of_values (or_given h e) a
-        by (question.Left k v) r m = left-by h one (question.Left k v) r m
-        by (question.Right k w) r m = given m.key m.other r m.says ∙ ap e m.shows.1
-        by (question.Both k v w) r m = left-by h one (question.Both k v w) r m
+        by a r m = grind (arith, left-by h one, given)
 
   module _ (g : Shared F (Bor K × (MutBor V × (Bor W × Unit {0}))) (Bool × (MutBor V × Unit {0}))) where
     shared-by : (h : V → W → Option V) (l : Option V → Option W → Option V)
@@ -84,6 +75,4 @@ module _ {K V W : Type 0} (cmp : K → K → Ordering) (spelled : K → K → K)
         ∙ left-kind (or_stays h) (value_at cmp xs k) (value_at cmp ys k)
       where
         by : (a : OuterJoinArg K V W) (r : Option V) → OrStays (MayLeaveShared g f) a r → r ≡ of_values (first_of (or_stays h)) a
-        by (question.Left k v) r m = m
-        by (question.Right k w) r m = shared-by h (first_of (or_stays h)) (λ v w. refl) one (question.Right k w) r m
-        by (question.Both k v w) r m = shared-by h (first_of (or_stays h)) (λ v w. refl) one (question.Both k v w) r m
+        by a r m = grind (arith, shared-by h (first_of (or_stays h)) (λ v w. refl) one)

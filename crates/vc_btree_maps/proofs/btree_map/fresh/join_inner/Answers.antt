@@ -14,7 +14,7 @@ keys-init g c =
 pub put_right-requires-clause-takes : goal.put_right-requires-clause-takes
 put_right-requires-clause-takes g c =
     c.requires.takes _ (next-asks g.met.K.Ord.total (rw c.in-Some.ensures.steps at c.keys.invariant)
-    (λ k t e. right-asked g.K.Ord.cmp g.met.K.Ord.total _ _ c.in-Some.key c.get-value.result c.in-Some.other c.get-value.ensures
+    (λ k t e. right-asked g.met.K.Ord.total _ _ c.in-Some.key c.get-value.result c.in-Some.other c.get-value.ensures
     Inner k t e ∙ inner-asks c.in-Some.key c.get-value.result c.in-Some.other (sym c.is_some.ensures ∙ c.if-is_some.true)))
 
 pub put_right-requires-clause-absent : goal.put_right-requires-clause-absent
@@ -23,7 +23,7 @@ put_right-requires-clause-absent g c = next-before g.met.K.Ord.total (rw c.in-So
 pub keys-preserved-in-Continue-1 : goal.keys-preserved-in-Continue-1
 keys-preserved-in-Continue-1 g c =
     next-asked g.met.K.Ord.total (rw c.in-Some.ensures.steps at c.keys.invariant)
-    (λ k t e. right-asked g.K.Ord.cmp g.met.K.Ord.total _ _ c.in-Some.key c.get-value.result c.in-Some.other c.get-value.ensures
+    (λ k t e. right-asked g.met.K.Ord.total _ _ c.in-Some.key c.get-value.result c.in-Some.other c.get-value.ensures
     Inner k t e ∙ inner-asks c.in-Some.key c.get-value.result c.in-Some.other (sym c.is_some.ensures ∙ c.if-is_some.true))
     (right-shown c.in-Some.key c.get-value.result c.in-Some.other) c.in_ok-put_right.ensures
 
@@ -32,7 +32,7 @@ pub keys-preserved : goal.keys-preserved
 keys-preserved g c =
     next-same g.met.K.Ord.total (rw c.in-Some.ensures.steps at c.keys.invariant)
     (λ k t e b. record {
-      is = rw (inner-silent g.K.Ord.cmp g.met.K.Ord.total _ _ c.in-Some.key c.get-value.result c.in-Some.other c.get-value.ensures
+      is = rw (inner-silent g.met.K.Ord.total _ _ c.in-Some.key c.get-value.result c.in-Some.other c.get-value.ensures
           (sym c.is_some.ensures ∙ c.if-is_some.false) k t) b;
     })
 

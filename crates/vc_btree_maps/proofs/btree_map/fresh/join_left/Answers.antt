@@ -11,7 +11,7 @@ keys-init g c =
 pub put_left-requires-clause-takes : goal.put_left-requires-clause-takes
 put_left-requires-clause-takes g c =
     c.requires.takes _ (next-asks g.met.K.Ord.total (rw c.in-Some.ensures.steps at c.keys.invariant)
-    (left-asked g.K.Ord.cmp g.met.K.Ord.total _ _ c.in-Some.key c.in-Some.value c.get.result c.get.ensures))
+    (left-asked g.met.K.Ord.total _ _ c.in-Some.key c.in-Some.value c.get.result c.get.ensures))
 
 pub put_left-requires-clause-absent : goal.put_left-requires-clause-absent
 put_left-requires-clause-absent g c = next-before g.met.K.Ord.total (rw c.in-Some.ensures.steps at c.keys.invariant)
@@ -19,7 +19,7 @@ put_left-requires-clause-absent g c = next-before g.met.K.Ord.total (rw c.in-Som
 pub keys-preserved : goal.keys-preserved
 keys-preserved g c =
     next-asked g.met.K.Ord.total (rw c.in-Some.ensures.steps at c.keys.invariant)
-    (left-asked g.K.Ord.cmp g.met.K.Ord.total _ _ c.in-Some.key c.in-Some.value c.get.result c.get.ensures)
+    (left-asked g.met.K.Ord.total _ _ c.in-Some.key c.in-Some.value c.get.result c.get.ensures)
     (left-shown c.in-Some.key c.in-Some.value c.get.result) c.in_ok-put_left.ensures
 
 pub returns : goal.returns

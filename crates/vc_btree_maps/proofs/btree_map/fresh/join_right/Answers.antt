@@ -13,7 +13,7 @@ keys-init g c =
 pub put_right-requires-clause-takes : goal.put_right-requires-clause-takes
 put_right-requires-clause-takes g c =
     c.requires.takes _ (next-asks g.met.K.Ord.total (rw c.in-Some.ensures.steps at c.keys.invariant)
-    (λ k t e. right-asked g.K.Ord.cmp g.met.K.Ord.total _ _ c.in-Some.key c.get.result c.in-Some.other c.get.ensures Right k t e
+    (λ k t e. right-asked g.met.K.Ord.total _ _ c.in-Some.key c.get.result c.in-Some.other c.get.ensures Right k t e
     ∙ right-asks c.in-Some.key c.get.result c.in-Some.other))
 
 pub put_right-requires-clause-absent : goal.put_right-requires-clause-absent
@@ -22,7 +22,7 @@ put_right-requires-clause-absent g c = next-before g.met.K.Ord.total (rw c.in-So
 pub keys-preserved : goal.keys-preserved
 keys-preserved g c =
     next-asked g.met.K.Ord.total (rw c.in-Some.ensures.steps at c.keys.invariant)
-    (λ k t e. right-asked g.K.Ord.cmp g.met.K.Ord.total _ _ c.in-Some.key c.get.result c.in-Some.other c.get.ensures Right k t e
+    (λ k t e. right-asked g.met.K.Ord.total _ _ c.in-Some.key c.get.result c.in-Some.other c.get.ensures Right k t e
     ∙ right-asks c.in-Some.key c.get.result c.in-Some.other)
     (right-shown c.in-Some.key c.get.result c.in-Some.other) c.in_ok-put_right.ensures
 

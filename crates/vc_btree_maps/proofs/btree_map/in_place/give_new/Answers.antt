@@ -29,7 +29,7 @@ given-requires g c =
 
 pub put_answer-requires-clause-absent : goal.put_answer-requires-clause-absent
 put_answer-requires-clause-absent g c =
-    none-by _ (value-is_some g.K.Ord.cmp g.met.K.Ord.total _ _ ∙ sym c.contains_key.ensures ∙ c.if-contains_key.false)
+    none-by _ (value-is_some g.met.K.Ord.total _ _ ∙ sym c.contains_key.ensures ∙ c.if-contains_key.false)
 
 pub keys-preserved : goal.keys-preserved
 keys-preserved g c =

@@ -8,7 +8,7 @@ pub keep_shared-requires : goal.keep_shared-requires
 keep_shared-requires g c =
     let e = c.in_ok-shared.ensures in
     rw (c.deref.ensures.value, e.shared) (record {
-      ascends = shared-ascends g.K.Ord.cmp g.met.K.Ord.total _ _ e.ascends;
+      ascends = shared-ascends g.met.K.Ord.total _ _ e.ascends;
       takes = second-takes g.met.K.Ord.total (g.J.Keep.may c.args.judge.now) e.given (g.J.Keep.takes c.args.judge.now)
           c.requires.takes;
     })

@@ -14,14 +14,14 @@ retain-requires g c =
           (λ xs f x u is step. let stays : u ≡ f = let call = step.2 in search rules in
           (ap (λ s. s.0.now) stays ∙ is.0, ap (λ s. s.1.now) stays ∙ is.1)) before _ h (refl, refl) folds in
           rw (same.0, same.1, is_key, is_value)
-          (c.requires.takes _ (asked-in g.K.Ord.cmp g.met.K.Ord.total (g.J.Keep.may c.args.judge.now)
+          (c.requires.takes _ (asked-in g.met.K.Ord.total (g.J.Keep.may c.args.judge.now)
           (pairs c.args.that.now) _ before after k v c.keys_ascend.ensures e));
     }
 
 pub returns : goal.returns
 returns g c =
-    join-of_judged g.K.Ord.cmp g.met.K.Ord.total (g.J.Keep.may c.args.judge.now) _ _ _ c.retain.ensures.ordered
-    (λ x. judged g.K.Ord.cmp g.met.K.Ord.total _ _
+    join-of_judged g.met.K.Ord.total (g.J.Keep.may c.args.judge.now) _ _ _ c.retain.ensures.ordered
+    (λ x. judged g.met.K.Ord.total _ _
     (λ k v r. g.J.Keep.may c.args.judge.now
     (at_pair k v (value_at g.K.Ord.cmp (g.M.AbstractBTreeMap.pairs c.args.that.now) k)) r)
     (λ k v b w h t. search rules) x _ _ _ refl c.retain.ensures.was_ordered c.retain.ensures.filtered)
