@@ -1,7 +1,6 @@
 -- What is asked of two maps: each question is one that the kind of the join asks, and may be asked where its parts may.
 use Rattle.std.proofs.Common.{◌≡◌, Bool, true, cond, List, Option, Some, None, Result, Ok, Err, IsOk, OnOk}
-use Rattle.std.proofs.Common.{OnErr, arith, refl, sym}
-use mathlib.Core.Bool.{true≢false}
+use Rattle.std.proofs.Common.{OnErr, arith, refl}
 use Rattle.std.specs.declared.cmp.Ordering.{Ordering}
 use Rattle.vc_joins.specs.declared.question.OuterJoinArg.{OuterJoinArg}
 use Rattle.vc_joins.specs.declared.question.OuterJoinArg.TheVariants.{Left, Right, Both}
@@ -57,8 +56,7 @@ on-ok result f p = grind arith
 
 -- what holds where a call is not refused, if it never is
 pub at-ok : {X E : Type 0} (result : Result X E) {P : Type 0} → IsOk result → OnOk result P → P
-at-ok (Ok x) is p = p
-at-ok (Err e) is p = absurd (true≢false (sym is))
+at-ok result is p = grind arith
 
 -- a list of pairs that became a join, or was left as it was, ascends
 pub join-ascends : {E K V W : Type 0} (cmp : K → K → Ordering) (kind : JoinKind) (May : OuterJoinArg K V W → Option V → Type 0)

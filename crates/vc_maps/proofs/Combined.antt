@@ -1,7 +1,6 @@
 -- Maps that take in another one whole: what each event adds, and what stands at each key in the end.
-use Rattle.std.proofs.Common.{◌≡◌, IsOk, List, [], ◌∷◌, ◌++◌, Option, Some, Result, Ok, Err, OnOk, refl, sym}
+use Rattle.std.proofs.Common.{◌≡◌, IsOk, List, [], ◌∷◌, ◌++◌, Option, Some, Result, OnOk, refl}
 use Rattle.std.proofs.Common.{arith, ◌∙◌}
-use mathlib.Core.Bool.{true≢false}
 use Rattle.std.specs.Cmp.{IsTotalOrder, tied_itself}
 use Rattle.std.specs.Option.{option_map, option_or, option_and_then}
 use Rattle.std.specs.declared.cmp.Ordering.{Ordering}
@@ -23,8 +22,7 @@ use Rattle.vc_maps.specs.Combining.{CanCombine, Combines, combined, IsCombinedBy
 -- what was passed by a call that is never refused
 pub skipped : {M X N : Type 0} (built : M → List X) (name : M → N) (s t : M) (answer : Answer) → IsOk answer
     → Skips built name s answer t → (name t ≡ name s) × (built t ≡ built s)
-skipped built name s t (Ok go_on) i h = (h.1, h.2)
-skipped built name s t (Err e) i h = absurd (true≢false (sym i))
+skipped built name s t answer i h = grind arith
 
 module _ {K V : Type 0} where
   -- the closure may be called at a question that is asked

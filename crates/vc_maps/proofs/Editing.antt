@@ -27,8 +27,7 @@ split-at (x ∷ xs) (suc i) h = let r = split-at xs i (omega arith) in (r.0, ap 
 
 -- what is chosen in place of q, where o was chosen in place of q
 chosen-over : {A : Type 0} (b : Bool) (n o x p q : A) → n ≡ cond b x q → o ≡ cond b p q → n ≡ cond b x o
-chosen-over true n o x p q e f = e
-chosen-over false n o x p q e f = e ∙ sym f
+chosen-over b n o x p q e f = grind arith
 
 module _ {K : Type 0} {cmp : K → K → Ordering} (total : IsTotalOrder cmp) where
   -- what is equal to a key is not at what is below it, nor at what is above it
@@ -37,12 +36,16 @@ module _ {K : Type 0} {cmp : K → K → Ordering} (total : IsTotalOrder cmp) wh
   not-beside k key j o h e at = ap is_eq (total.congr k key j e ∙ total.antisymm key j ∙ ap ordering_reverse at) ∙ h
 
 module _ {K V : Type 0} {cmp : K → K → Ordering} (total : IsTotalOrder cmp) where
+  -- what stands at the key
+  abbrev StandsAt : K → Option (K × V) → Type 0
+  StandsAt key o = MatchOption o (Unit {0}) (λ p. cmp p.0 key ≡ Equal)
+
   -- es is `front`, what stands at the key, and `back`
   pub record IsSplit (es : List (K × V)) (key : K) (front : List (K × V)) (mid : Option (K × V))
       (back : List (K × V)) : Type 0 where
     pub is : es ≡ front ++ cons_option mid back
     pub before : AllByRecursion (λ p. cmp p.0 key ≡ Less) front
-    pub at : MatchOption mid (Unit {0}) (λ p. cmp p.0 key ≡ Equal)
+    pub at : StandsAt key mid
     pub behind : AllByRecursion (λ p. cmp p.0 key ≡ Greater) back
 
   gap-split : {es : List (K × V)} {key : K} {i : ℕ} → IsGap (λ p. cmp p.0 key) es i
@@ -74,30 +77,29 @@ module _ {K V : Type 0} {cmp : K → K → Ordering} (total : IsTotalOrder cmp) 
   at-mid k key p e = ap is_eq (alike_right total p.0 key k e)
 
   mid-here : (k key : K) (mid : Option (K × V)) (back : List (K × V)) → cmp k key ≡ Equal
-      → MatchOption mid (Unit {0}) (λ p. cmp p.0 key ≡ Equal) → AllByRecursion (λ p. cmp p.0 key ≡ Greater) back
+      → StandsAt key mid → AllByRecursion (λ p. cmp p.0 key ≡ Greater) back
       → entry_at cmp (cons_option mid back) k ≡ mid
   mid-here k key None back e at p = none-beside k key Greater refl e back p
   mid-here k key (Some q) back e at p = rw (at-mid k key q at ∙ ap is_eq e)
 
   mid-elsewhere : (k key : K) (mid : Option (K × V)) (back : List (K × V)) → is_at (cmp k) key ≡ false
-      → MatchOption mid (Unit {0}) (λ p. cmp p.0 key ≡ Equal) → entry_at cmp (cons_option mid back) k ≡ entry_at cmp back k
+      → StandsAt key mid → entry_at cmp (cons_option mid back) k ≡ entry_at cmp back k
   mid-elsewhere k key None back e at = refl
   mid-elsewhere k key (Some q) back e at = rw (at-mid k key q at ∙ e)
 
-  split-by : {es : List (K × V)} {key : K} {front : List (K × V)} {mid : Option (K × V)} {back : List (K × V)}
-      → IsSplit es key front mid back → (k : K) (b : Bool) → eq_by_cmp cmp k key ≡ b
-      → entry_at cmp es k ≡ cond b mid (option_or (entry_at cmp front k) (entry_at cmp back k))
-  split-by {es} {key} {front} {mid} {back} s k true e =
-      let tied : cmp k key ≡ Equal = (Equal-is (cmp k key)).0 e in
-      rw (s.is, entry-append front (cons_option mid back) k, none-beside k key Less refl tied front s.before)
-      (mid-here k key mid back tied s.at s.behind)
-  split-by {es} {key} {front} {mid} {back} s k false e =
-      rw (s.is, entry-append front (cons_option mid back) k, mid-elsewhere k key mid back e s.at)
+  module _ {es : List (K × V)} {key : K} {front : List (K × V)} {mid : Option (K × V)} {back : List (K × V)}
+      (s : IsSplit es key front mid back) where
+    split-by : (k : K) (b : Bool) → eq_by_cmp cmp k key ≡ b
+        → entry_at cmp es k ≡ cond b mid (option_or (entry_at cmp front k) (entry_at cmp back k))
+    split-by k true e =
+        let tied : cmp k key ≡ Equal = (Equal-is (cmp k key)).0 e in
+        rw (s.is, entry-append front (cons_option mid back) k, none-beside k key Less refl tied front s.before)
+        (mid-here k key mid back tied s.at s.behind)
+    split-by k false e = rw (s.is, entry-append front (cons_option mid back) k, mid-elsewhere k key mid back e s.at)
 
-  -- what stands at the key itself
-  split-value : {es : List (K × V)} {key : K} {front : List (K × V)} {mid : Option (K × V)} {back : List (K × V)}
-      → IsSplit es key front mid back → value_at cmp es key ≡ option_map (λ p. p.1) mid
-  split-value {es} {key} s = rw (value-entry cmp es key, split-by s key true (ap is_eq (tied_itself total key)))
+    -- what stands at the key itself
+    split-value : value_at cmp es key ≡ option_map (λ p. p.1) mid
+    split-value = rw (value-entry cmp es key, split-by key true (ap is_eq (tied_itself total key)))
 
   -- ---- what a search tells
 
@@ -117,7 +119,7 @@ module _ {K V : Type 0} {cmp : K → K → Ordering} (total : IsTotalOrder cmp) 
   -- ---- the order of the keys
 
   -- what is less than the key is less than what stands there
-  below-now : (x key : K) (now : Option (K × V)) → cmp x key ≡ Less → MatchOption now (Unit {0}) (λ p. cmp p.0 key ≡ Equal)
+  below-now : (x key : K) (now : Option (K × V)) → cmp x key ≡ Less → StandsAt key now
       → MatchOption now (Unit {0}) (λ p. cmp x p.0 ≡ Less)
   below-now x key None less at = tt
   below-now x key (Some q) less at = alike_right total q.0 key x at ∙ less
@@ -139,7 +141,7 @@ module _ {K V : Type 0} {cmp : K → K → Ordering} (total : IsTotalOrder cmp) 
   back-ascends (Some q) back p = p.1
 
   changed-ascends : (key : K) (front : List (K × V)) (mid now : Option (K × V)) (back : List (K × V))
-      → AllByRecursion (λ p. cmp p.0 key ≡ Less) front → MatchOption now (Unit {0}) (λ p. cmp p.0 key ≡ Equal)
+      → AllByRecursion (λ p. cmp p.0 key ≡ Less) front → StandsAt key now
       → AllByRecursion (λ p. cmp p.0 key ≡ Greater) back → Ascends (by_first cmp) (front ++ cons_option mid back)
       → Ascends (by_first cmp) (front ++ cons_option now back)
   unfolding IsStrictlySortedBy
@@ -164,23 +166,15 @@ module _ {K V : Type 0} {cmp : K → K → Ordering} (total : IsTotalOrder cmp) 
 
   value-by : (b : Bool) (now o : Option (K × V))
       → option_map (λ p. p.1) (cond b now o) ≡ cond b (option_map (λ p. p.1) now) (option_map (λ p. p.1) o)
-  value-by true now o = refl
-  value-by false now o = refl
-
-  changed-entries : {es new : List (K × V)} {key : K} {front : List (K × V)} {mid now : Option (K × V)} {back : List (K × V)}
-      → IsSplit es key front mid back → IsSplit new key front now back
-      → (k : K) → entry_at cmp new k ≡ cond (eq_by_cmp cmp k key) now (entry_at cmp es k)
-  changed-entries {es} {new} {key} {front} {mid} {now} {back} s t k =
-      chosen-over (eq_by_cmp cmp k key) (entry_at cmp new k) (entry_at cmp es k) now mid
-      (option_or (entry_at cmp front k) (entry_at cmp back k)) (split-by t k _ refl) (split-by s k _ refl)
+  value-by b now o = grind arith
 
   split-changed : {es new : List (K × V)} {key : K} {front : List (K × V)} {mid : Option (K × V)} {back : List (K × V)}
-      → IsSplit es key front mid back → AscendsByKey cmp es
-      → (now : Option (K × V)) → MatchOption now (Unit {0}) (λ p. cmp p.0 key ≡ Equal) → new ≡ front ++ cons_option now back
-      → IsChanged es key now new
+      → IsSplit es key front mid back → AscendsByKey cmp es → (now : Option (K × V)) → StandsAt key now
+      → new ≡ front ++ cons_option now back → IsChanged es key now new
   split-changed {es} {new} {key} {front} {mid} {back} s p now at e =
       let t : IsSplit new key front now back = record { is = e; before = s.before; at = at; behind = s.behind } in
-      let entries = changed-entries s t in
+      let entries : (k : K) → entry_at cmp new k ≡ cond (eq_by_cmp cmp k key) now (entry_at cmp es k) =
+      λ k. chosen-over (eq_by_cmp cmp k key) _ _ now mid _ (split-by t k _ refl) (split-by s k _ refl) in
       record {
         ascends = rw e (keys-ascend cmp (front ++ cons_option now back)
             (changed-ascends key front mid now back s.before at s.behind (rw s.is at (pairs-ascend cmp es p))));
@@ -191,13 +185,13 @@ module _ {K V : Type 0} {cmp : K → K → Ordering} (total : IsTotalOrder cmp) 
 
   -- in the place of the pair with an equal key
   pub found-changed : {es slice new : List (K × V)} {key : K} {i : ℕ} → slice ≡ es → IsFound (λ p. cmp p.0 key) slice i
-      → AscendsByKey cmp es → (now : Option (K × V)) → MatchOption now (Unit {0}) (λ p. cmp p.0 key ≡ Equal)
+      → AscendsByKey cmp es → (now : Option (K × V)) → StandsAt key now
       → new ≡ take i es ++ cons_option now (drop (suc i) es) → IsChanged es key now new
   found-changed e f p = split-changed (found-split (rw e at f)).1 p
 
   -- between the pairs with lesser keys and those with greater ones
   pub gap-changed : {es slice new : List (K × V)} {key : K} {i : ℕ} → slice ≡ es → IsGap (λ p. cmp p.0 key) slice i
-      → AscendsByKey cmp es → (now : Option (K × V)) → MatchOption now (Unit {0}) (λ p. cmp p.0 key ≡ Equal)
+      → AscendsByKey cmp es → (now : Option (K × V)) → StandsAt key now
       → new ≡ take i es ++ cons_option now (drop i es) → IsChanged es key now new
   gap-changed e g p = split-changed (gap-split (rw e at g)) p
 

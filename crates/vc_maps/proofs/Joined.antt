@@ -58,21 +58,10 @@ module _ {K V W X : Type 0} (May : OuterJoinArg K V W → Option X → Type 0) (
       appends-one (λ a. AnswerAdds May Keeps (Some a)) [] a old old new g.0
       (appends-nothing (λ a. AnswerAdds May Keeps (Some a)) old old refl) g.1 g.2
 
--- what holds in either case, and what holds beside it
-always : (P Q R : Type 0) (b : Bool) → MatchBool b (P × Q) (P × R) → P
-always P Q R true h = h.0
-always P Q R false h = h.0
-
-beside : (P Q R : Type 0) (b : Bool) → MatchBool b (P × Q) (P × R) → MatchBool b Q R
-beside P Q R true h = h.1
-beside P Q R false h = h.1
-
 -- what holds of the first elements of two lists
 pub at-heads : {X Y : Type 0} (P : X → Y → Type 0) (xs : List X) (ys : List Y) (x : X) (y : Y) → 0 < length xs
     → 0 < length ys → x ≡ get_or xs 0 x → y ≡ get_or ys 0 y → P x y → AtHeads P xs ys
-at-heads P [] ys x y h k e f p = absurd (omega arith)
-at-heads P (z ∷ xs) [] x y h k e f p = absurd (omega arith)
-at-heads P (z ∷ xs) (w ∷ ys) x y h k e f p = rw (← e, ← f) p
+at-heads P xs ys x y h k e f p = grind arith
 
 -- what follows of the first elements of two lists
 pub heads-weaker : {X Y : Type 0} (P Q : X → Y → Type 0) (xs : List X) (ys : List Y)
@@ -150,8 +139,8 @@ module _ {K V W X M N : Type 0} (May : OuterJoinArg K V W → Option X → Type 
 
   always-asking : IsAskingAlways → IsAsking
   always-asking is = record {
-    from_a = λ s t n answer h. beside _ _ _ (asks_left kind) (is.from_a s t n answer h);
-    from_b = λ s t n answer h. beside _ _ _ (asks_right kind) (is.from_b s t n answer h);
+    from_a = λ s t n answer h. grind (arith, is.from_a s t n answer h);
+    from_b = λ s t n answer h. grind (arith, is.from_b s t n answer h);
     collision = λ s t answer h. (is.collision s t answer h).1;
   }
 
@@ -162,8 +151,8 @@ module _ {K V W X M N : Type 0} (May : OuterJoinArg K V W → Option X → Type 
       → (name t ≡ name s) × IsJoin cmp kind left_spelling (op.left s) (op.right s) May Keeps (built t)
   always-join {cmp} total kept s t result m is e =
       let done = merged-is_ok op (by_key cmp) s t result m
-      (λ s t n answer h. always _ _ _ (asks_left kind) (is.from_a s t n answer h))
-      (λ s t n answer h. always _ _ _ (asks_right kind) (is.from_b s t n answer h))
+      (λ s t n answer h. grind (arith, is.from_a s t n answer h))
+      (λ s t n answer h. grind (arith, is.from_b s t n answer h))
       (λ s t answer h. (is.collision s t answer h).0) in
       let named = merged-builds built name op (AnswersEvent kind left_spelling May Keeps)
       (asking-builds (always-asking is)) (by_key cmp) s t done in

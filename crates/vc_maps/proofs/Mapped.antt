@@ -37,9 +37,8 @@ module _ {F V X : Type 0} (calls : F → V → X → F → Type 0) where
   answers-push : (f : F) (vs : List V) (xs : List X) (mid : F) (v : V) (x : X) (last : F) → AnswersInTurn calls f vs xs mid
       → calls mid v x last → AnswersInTurn calls f (vs ++ v ∷ []) (xs ++ x ∷ []) last
   answers-push f [] [] mid v x last p c = (last, rw p c, refl)
-  answers-push f [] (y ∷ xs) mid v x last p c = absurd p
-  answers-push f (w ∷ vs) [] mid v x last p c = absurd p
   answers-push f (w ∷ vs) (y ∷ xs) mid v x last p c = (p.0, p.1, answers-push p.0 vs xs mid v x last p.2 c)
+  answers-push f vs xs mid v x last p c = absurd p
 
 module _ {K V X : Type 0} where
   -- one more key
@@ -71,14 +70,13 @@ module _ {K V X : Type 0} where
         ≡ keys_of ps → AnswersInTurn calls f (values_of ps) (values_of qs) last
         → (k : K) → MapsEntry calls (entry_at cmp ps k) (entry_at cmp qs k)
     entries-mapped cmp [] [] f last e a k = refl
-    entries-mapped cmp [] (q ∷ qs) f last e a k = absurd a
-    entries-mapped cmp (p ∷ ps) [] f last e a k = absurd a
     entries-mapped cmp (p ∷ ps) (q ∷ qs) f last e a k =
         let same : q.0 ≡ p.0 = cc in let rest : keys_of qs ≡ keys_of ps = cc in
         subst (λ j. MapsEntry calls (cond (is_at (cmp k) p.0) (Some p) (entry_at cmp ps k))
         (cond (is_at (cmp k) j) (Some q) (entry_at cmp qs k))) (sym same)
         (head-mapped (is_at (cmp k) p.0) p q f a.0 same a.1 (entry_at cmp ps k) (entry_at cmp qs k)
         (entries-mapped cmp ps qs a.0 last rest a.2 k))
+    entries-mapped cmp ps qs f last e a k = absurd a
 
     -- the same, of a slice of the pairs
     pub slice-mapped : (cmp : K → K → Ordering) (ps slice : List (K × V)) (qs : List (K × X)) (f last : F) → slice ≡ ps

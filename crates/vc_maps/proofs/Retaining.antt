@@ -49,6 +49,5 @@ module _ {K V : Type 0} (cmp : K → K → Ordering) (total : IsTotalOrder cmp) 
 pub keys-cloned : {K V : Type 0} (R : K → K → Type 0) (S : V → V → Type 0) (xs ys : List (K × V))
     → AllZip (λ p q. R p.0 q.0 × S p.1 q.1) xs ys → AllZip R (keys_of xs) (keys_of ys)
 keys-cloned R S [] [] h = tt
-keys-cloned R S [] (y ∷ ys) h = absurd h
-keys-cloned R S (x ∷ xs) [] h = absurd h
 keys-cloned R S (x ∷ xs) (y ∷ ys) h = (h.0.0, keys-cloned R S xs ys h.1)
+keys-cloned R S xs ys h = absurd h

@@ -19,9 +19,8 @@ module _ {F K V : Type 0} (writes : F → K → V → V → F → Type 0) where
   pub writes-push : (f : F) (ps qs : List (K × V)) (mid : F) (p q : K × V) (last : F) → WritesInTurn writes f ps qs mid
       → writes mid p.0 p.1 q.1 last → q.0 ≡ p.0 → WritesInTurn writes f (ps ++ p ∷ []) (qs ++ q ∷ []) last
   writes-push f [] [] mid p q last h w e = (last, rw h w, e, refl)
-  writes-push f [] (r ∷ qs) mid p q last h w e = absurd h
-  writes-push f (r ∷ ps) [] mid p q last h w e = absurd h
   writes-push f (r ∷ ps) (s ∷ qs) mid p q last h w e = (h.0, h.1, h.2, writes-push h.0 ps qs mid p q last h.3 w e)
+  writes-push f ps qs mid p q last h w e = absurd h
 
   -- the pair at the next place is written
   pub written-next : (f : F) (old now : List (K × V)) (i : ℕ) (p q : K × V) (mid last : F) → drop i now ≡ drop i old
@@ -35,9 +34,8 @@ module _ {F K V : Type 0} (writes : F → K → V → V → F → Type 0) where
   -- the keys stay
   pub written-keys : (f : F) (ps qs : List (K × V)) (last : F) → WritesInTurn writes f ps qs last → keys_of qs ≡ keys_of ps
   written-keys f [] [] last h = refl
-  written-keys f [] (q ∷ qs) last h = absurd h
-  written-keys f (p ∷ ps) [] last h = absurd h
   written-keys f (p ∷ ps) (q ∷ qs) last h = λ i. h.2 i ∷ written-keys h.0 ps qs last h.3 i
+  written-keys f ps qs last h = absurd h
 
   -- what stands where the key is that of the first pair, or another one
   head-written : (b : Bool) (p q : K × V) (f g : F) → q.0 ≡ p.0 → writes f p.0 p.1 q.1 g
@@ -50,13 +48,12 @@ module _ {F K V : Type 0} (writes : F → K → V → V → F → Type 0) where
   pub entries-written : (cmp : K → K → Ordering) (f : F) (ps qs : List (K × V)) (last : F)
       → WritesInTurn writes f ps qs last → (k : K) → WritesEntry writes (entry_at cmp ps k) (entry_at cmp qs k)
   entries-written cmp f [] [] last h k = refl
-  entries-written cmp f [] (q ∷ qs) last h k = absurd h
-  entries-written cmp f (p ∷ ps) [] last h k = absurd h
   entries-written cmp f (p ∷ ps) (q ∷ qs) last h k =
       subst (λ j. WritesEntry writes (cond (is_at (cmp k) p.0) (Some p) (entry_at cmp ps k))
       (cond (is_at (cmp k) j) (Some q) (entry_at cmp qs k))) (sym h.2)
       (head-written (is_at (cmp k) p.0) p q f h.0 h.2 h.1 (entry_at cmp ps k) (entry_at cmp qs k)
       (entries-written cmp h.0 ps qs last h.3 k))
+  entries-written cmp f ps qs last h k = absurd h
 
 -- what was written through a slice of a whole list is that list
 pub refilled : {X : Type 0} (xs ys : List X) → length ys ≡ length xs → refill (length xs) xs ys ≡ ys
