@@ -2,7 +2,7 @@
 use Rattle.std.proofs.Common.{arith, ◌≡◌, true, false, List, [], ◌∷◌, Option, Some, None, is_some, refl, sym, ap, subst, ◌∙◌}
 use Rattle.std.specs.Cmp.{IsTotalOrder, tied_itself}
 use Rattle.std.specs.Ordering.{is_eq}
-use Rattle.std.specs.Option.{option_map, option_copied}
+use Rattle.std.specs.Option.{option_copied}
 use Rattle.std.specs.BTreeMap.{is_at}
 use Rattle.std.specs.declared.cmp.Ordering.{Ordering}
 use Rattle.vc_joins.specs.declared.question.OuterJoinArg.{OuterJoinArg}
@@ -83,40 +83,25 @@ module _ {K V W : Type 0} {cmp : K → K → Ordering} (total : IsTotalOrder cmp
   pub left-asked : (key : Bor K) (value : Bor V) (other : Option (Bor W)) → option_copied other ≡ value_at cmp ys key.now
       → (k : K) → is_at (cmp k) key.now ≡ true → entry_at cmp xs k ≡ Some (key.now, value.now)
       → asked_at cmp kind.Left left_spelling xs ys k ≡ Some (seen_left key value other)
-  left-asked key value other is k t e = rw (e, same-entry total k key.now ys (equal-at total k key.now t))
-      (by other (entry_at cmp ys key.now) (is ∙ value-entry cmp ys key.now))
-    where
-      by : (other : Option (Bor W)) (q : Option (K × W)) → option_copied other ≡ option_map (λ p. p.1) q
-          → asked kind.Left left_spelling (Some (key.now, value.now)) q ≡ Some (seen_left key value other)
-      by other q e = grind arith
+  left-asked key value other is k t e =
+      grind (arith, same-entry total k key.now ys (equal-at total k key.now t), value-entry cmp ys key.now)
 
   module _ (key : Bor K) (value : Option (Bor V)) (other : Bor W) (is : option_copied value ≡ value_at cmp xs key.now) where
     -- what a join that shows keys as the right map has them asks at one of those
     pub right-asked : (join : JoinKind) (k : K) → is_at (cmp k) key.now ≡ true → entry_at cmp ys k ≡ Some (key.now, other.now)
         → asked_at cmp join right_spelling xs ys k ≡ if_asked join (seen_right key value other)
-    right-asked join k t e = rw (e, same-entry total k key.now xs (equal-at total k key.now t))
-        (by value (entry_at cmp xs key.now) (is ∙ value-entry cmp xs key.now))
-      where
-        by : (value : Option (Bor V)) (p : Option (K × V)) → option_copied value ≡ option_map (λ p. p.1) p
-            → asked join right_spelling p (Some (key.now, other.now)) ≡ if_asked join (seen_right key value other)
-        by value p e = grind arith
+    right-asked join k t e =
+        grind (arith, same-entry total k key.now xs (equal-at total k key.now t), value-entry cmp xs key.now)
 
     -- whether the left map has the key
     pub left-has : (k : K) → is_at (cmp k) key.now ≡ true → is_some (entry_at cmp xs k) ≡ is_some value
-    left-has k t = rw (same-entry total k key.now xs (equal-at total k key.now t))
-        (by value (entry_at cmp xs key.now) (is ∙ value-entry cmp xs key.now))
-      where
-        by : (value : Option (Bor V)) (p : Option (K × V)) → option_copied value ≡ option_map (λ p. p.1) p
-            → is_some p ≡ is_some value
-        by value p e = grind arith
+    left-has k t =
+        grind (arith, same-entry total k key.now xs (equal-at total k key.now t), value-entry cmp xs key.now)
 
     -- an inner join asks nothing where the left map lacks the key
     pub inner-silent : is_some value ≡ false → (k : K) → is_at (cmp k) key.now ≡ true
         → asked_at cmp kind.Inner right_spelling xs ys k ≡ None
-    inner-silent none k t = rw (none-by (entry_at cmp xs k) (left-has k t ∙ none)) (by (entry_at cmp ys k))
-      where
-        by : (q : Option (K × W)) → asked {V = V} kind.Inner right_spelling None q ≡ None
-        by q = grind arith
+    inner-silent none k t = grind (arith, left-has k t)
 
     -- there an outer join asks of the right map alone
     pub alone-asked : is_some value ≡ false → (k : K) → is_at (cmp k) key.now ≡ true

@@ -86,10 +86,7 @@ module _ {K V : Type 0} {cmp : K → K → Ordering} (total : IsTotalOrder cmp) 
 
   -- there is a value at the keys of the pairs alone
   pub value-is_some : (k : K) (es : List (K × V)) → is_some (entry_at cmp es k) ≡ is_some (value_at cmp es k)
-  value-is_some k es = sym (ap is_some (value-entry cmp es k) ∙ mapped (entry_at cmp es k))
-    where
-      mapped : (z : Option (K × V)) → is_some (option_map (λ p. p.1) z) ≡ is_some z
-      mapped z = grind arith
+  value-is_some k es = grind (arith, value-entry cmp es k)
 
   -- ---- a change at one key: what stands at each key k once a value was written, a pair taken out or a new one put in
 

@@ -1,6 +1,6 @@
 -- The outer join in place: what is given at the keys of the other map alone, and what then stays of the values that were there.
 use Rattle.std.proofs.Common.{arith, ◌≡◌, Bool, true, false, cond, List, [], ◌∷◌, Option, Some, None, is_some}
-use Rattle.std.proofs.Common.{IsSomeAnd, Result, OnErr, refl, sym, ap, ◌∙◌}
+use Rattle.std.proofs.Common.{Result, OnErr, refl, sym, ap, ◌∙◌}
 use Rattle.std.proofs.lemmas.List.Kept.{IsStrictlySortedBy-filter}
 use Rattle.std.specs.Cmp.{IsTotalOrder}
 use Rattle.std.specs.List.{filter}
@@ -15,7 +15,7 @@ use Rattle.vc_joins.specs.Entries.{AscendsByKey, entry_at, value_at}
 use Rattle.vc_joins.specs.Join.{IsAnswered, IsAsked, IsJoin, MovedKey}
 use Rattle.vc_joins.specs.Question.{asked, left_spelling, right_spelling}
 use Rattle.vc_btree_maps.specs.Keeping.{at_pair, AtAlone, OrSharedStays, OrGives, StayedOrCloned, IsGrown}
-use Rattle.vc_btree_maps.specs.Putting.{IsPut, IsPutAt}
+use Rattle.vc_btree_maps.specs.Putting.{IsPut}
 use Rattle.vc_btree_maps.specs.Stages.{IsKeptAt, IsKeptAlong, IsGivenAt, IsGiven, shared_with}
 use Rattle.vc_btree_maps.proofs.Entries.{none-by, equal-at, same-entry, own-key, at-own, value-is_some}
 use Rattle.vc_btree_maps.proofs.Passing.{IsPassed, start, next, next-same, next-before, passed-all, either}
@@ -71,10 +71,6 @@ module _ {K V W : Type 0} {cmp : K → K → Ordering} (total : IsTotalOrder cmp
 
   module _ {rest : List (K × W)} {q : K × W} {now : List (K × V)}
       (i : IsPassed cmp (WasThere cmp old) (IsGivenThere cmp is_clone Gives others old) others (q ∷ rest) now) where
-    given-here : (answer : Option V) (z : Option (K × V)) → Gives q.0 q.1 answer → IsPutAt is_clone q.0 answer z
-        → IsGivenAt cmp is_clone Gives (Some q) z
-    given-here answer z g put = grind arith
-
     -- a pair comes in
     pub next-given : (answer : Option V) {new : List (K × V)} → is_some (value_at cmp now q.0) ≡ false → Gives q.0 q.1 answer
         → IsPut cmp is_clone q.0 answer now new
@@ -83,7 +79,7 @@ module _ {K V W : Type 0} {cmp : K → K → Ordering} (total : IsTotalOrder cmp
         next total i put.ascends (λ k f. rw f at (put.at k))
         (λ k t is b. record {
           is = rw (same-entry total k q.0 old (equal-at total k q.0 t) ∙ next-new total i e, is)
-              (given-here answer (entry_at cmp new k) g (rw t at (put.at k)));
+              (grind (arith, g, rw t at (put.at k)));
         })
 
     -- a key that is there was there before
@@ -111,17 +107,10 @@ module _ {K V W : Type 0} {cmp : K → K → Ordering} (total : IsTotalOrder cmp
       → IsPassed cmp (WasThere cmp old) (IsGivenThere cmp is_clone Gives others old) others left now
       → IsGrown cmp is_clone Gives others old now
   grown {left} {now} i = record {
-    old_stay = λ k t. either i k (λ a. stays _ (entry_at cmp old k) (entry_at cmp now k) t a.is) (λ b. b.same);
+    old_stay = λ k t. either i k (λ a. grind (arith, a.is)) (λ b. b.same);
     new_given = λ k f. let none = none-by (entry_at cmp old k) f in
-        either i k (λ a. came (entry_at cmp others k) (entry_at cmp now k) (rw none at a.is)) (λ b. rw (b.same ∙ none) tt);
+        either i k (λ a. grind (arith, a.is, none)) (λ b. rw (b.same ∙ none) tt);
   }
-    where
-      stays : (P : Type 0) (o z : Option (K × V)) → is_some o ≡ true → MatchOption o P (λ p. z ≡ Some p) → z ≡ o
-      stays P o z t g = grind arith
-
-      came : (q : Option (K × W)) (z : Option (K × V)) → IsGivenAt cmp is_clone Gives q z
-          → MatchOption z (Unit {0}) (λ p. IsSomeAnd q (λ q. is_clone q.0 p.0 × Gives q.0 q.1 (Some p.1)))
-      came q z g = grind arith
 
 -- what holds anyway holds after an error
 pub after-error : {A E : Type 0} {P : Type 0} (r : Result A E) → P → OnErr r P
@@ -137,14 +126,6 @@ module _ {K V W : Type 0} {cmp : K → K → Ordering} (total : IsTotalOrder cmp
       → IsAnswered (OrSharedStays May) MovedKey (asked kind.Left left_spelling b (Some r)) c → c ≡ b
   passes r b c h = grind arith
 
-  stands : (o : Option (K × V)) (q : Option (K × W)) (a b c : Option (K × V))
-      → ((p : K × V) → o ≡ Some p → entry_at cmp old p.0 ≡ Some p) → ((r : K × W) → q ≡ Some r → entry_at cmp old r.0 ≡ o)
-      → MatchOption o (IsGivenAt cmp is_clone Gives q a) (λ p. a ≡ Some p)
-      → MatchOption (cond (is_some o) q None) (b ≡ a) (λ q. IsKeptAt cmp May q.0 q.1 a b)
-      → IsAnswered (OrSharedStays May) MovedKey (asked kind.Left left_spelling b q) c
-      → IsAnswered (OrGives May Gives) (StayedOrCloned cmp old is_clone) (asked kind.Outer right_spelling o q) c
-  stands o q a b c own at g s h = grind (arith, passes)
-
   module _ {pairs : List (K × W)} {shared : List (K × V)} (is_shared : pairs ≡ shared_with cmp old others)
       (second : IsKeptAlong cmp May pairs given shared) where
     second-at : (k : K) → MatchOption (cond (is_some (entry_at cmp old k)) (entry_at cmp others k) None)
@@ -157,10 +138,16 @@ module _ {K V W : Type 0} {cmp : K → K → Ordering} (total : IsTotalOrder cmp
         → IsJoin cmp kind.Outer right_spelling old others (OrGives May Gives) (StayedOrCloned cmp old is_clone) new
     outer-of_passes {new} third = record {
       ascends = third.ascends;
-      at = λ k. stands (entry_at cmp old k) (entry_at cmp others k) (entry_at cmp given k) (entry_at cmp shared k)
-          (entry_at cmp new k) (λ p e. at-own total k old p e)
-          (λ r e. sym (same-entry total k r.0 old (own-key total k others r e)))
-          (first.at k) (second-at k) (third.at k);
+      at = λ k. grind (
+        arith,
+        passes,
+        at-own total k old,
+        own-key total k others,
+        same-entry {V = V} total k,
+        first.at k,
+        second-at k,
+        third.at k,
+      );
     }
 
     -- what the last pass asks, the outer join asks
@@ -193,11 +180,5 @@ module _ {K V W : Type 0} {cmp : K → K → Ordering} (total : IsTotalOrder cmp
   second-takes Takes takes k r p e f =
       takes r.0 p.1 (Some r.1) (record {
         key = k;
-        asks = by (entry_at cmp old k) (entry_at cmp others k) (sym (shared-entry total old others k) ∙ e)
-            (rw f at (first.at k));
+        asks = grind (arith, shared-entry total old others k, first.at k);
       })
-    where
-      by : (o : Option (K × V)) (q : Option (K × W)) → cond (is_some o) q None ≡ Some r
-          → MatchOption o (IsGivenAt cmp is_clone Gives q (Some p)) (λ o. Some p ≡ Some o)
-          → asked kind.Outer right_spelling o q ≡ Some (Both r.0 p.1 r.1)
-      by o q e g = grind arith

@@ -28,12 +28,8 @@ module _ {K U X : Type 0} {cmp : K → K → Ordering} {Before After : K → Opt
     rest_ascends = s;
     within = λ k p e. e;
     ascends = t;
-    at = λ k. either k (entry_at cmp all k) (after k);
+    at = λ k. grind (arith, before k, after k);
   }
-    where
-      either : (k : K) (z : Option (K × U)) → (z ≡ None → Before k (entry_at cmp now k) → After k (entry_at cmp now k))
-          → MatchOption z (After k (entry_at cmp now k)) (λ p. Before k (entry_at cmp now k))
-      either k z h = grind arith
 
   -- all are passed
   pub passed-all : {all left : List (K × U)} {now : List (K × X)} → IsPassed cmp Before After all left now → left ≡ []
@@ -43,10 +39,7 @@ module _ {K U X : Type 0} {cmp : K → K → Ordering} {Before After : K → Opt
   -- a key is passed or is not
   pub either : {P : Type 0} {all left : List (K × U)} {now : List (K × X)} → IsPassed cmp Before After all left now → (k : K)
       → (After k (entry_at cmp now k) → P) → (Before k (entry_at cmp now k) → P) → P
-  either {P} {all} {left} {now} i k after before = by (entry_at cmp left k) (i.at k)
-    where
-      by : (z : Option (K × U)) → MatchOption z (After k (entry_at cmp now k)) (λ p. Before k (entry_at cmp now k)) → P
-      by z h = grind arith
+  either i k after before = grind (arith, i.at k)
 
   module _ (total : IsTotalOrder cmp) {all rest : List (K × U)} {p : K × U} {now : List (K × X)}
       (i : IsPassed cmp Before After all (p ∷ rest) now) where

@@ -15,7 +15,7 @@ use Rattle.vc_joins.specs.declared.question.OuterJoinArg.TheVariants.{Right, Bot
 use Rattle.vc_joins.specs.declared.question.JoinKind.{JoinKind}
 use Rattle.vc_joins.specs.declared.question.JoinKind.TheVariants as kind
 use Rattle.vc_joins.specs.Entries.{AscendsByKey, entry_at, value_at}
-use Rattle.vc_joins.specs.Join.{IsAnswered, IsAsked, IsJoin, MovedKey, asked_at}
+use Rattle.vc_joins.specs.Join.{IsAnswered, IsAsked, IsJoin, MovedKey}
 use Rattle.vc_joins.specs.Question.{asked, asks_right, left_spelling, right_spelling}
 use Rattle.vc_joins.proofs.Functions.{value-entry}
 use Rattle.vc_btree_maps.specs.Keeping.{at_pair, if_kept, OrStays, OrDropped, StayedKey}
@@ -59,10 +59,7 @@ module _ {K V W : Type 0} {cmp : K → K → Ordering} (total : IsTotalOrder cmp
       let (p, here, same) = found total key old v e in
       decided p None s here (rw same m)
       (λ k. ap (λ l. entry_at cmp l k) is ∙ removed total k key mid t
-      ∙ rw was (rw (written total k key old p left here) (twice (p.0, left) (entry_at cmp old k) (is_at (cmp k) key))))
-    where
-      twice : (x : K × V) (y : Option (K × V)) (b : Bool) → cond b None (cond b (Some x) y) ≡ cond b None y
-      twice x y b = grind arith
+      ∙ rw was (rw (written total k key old p left here) (grind arith)))
 
   -- there is no value
   pub kept-nothing : (old new : List (K × V)) → AscendsByKey cmp new → value_at cmp old key ≡ None → new ≡ old
@@ -111,13 +108,8 @@ module _ {K V W : Type 0} {cmp : K → K → Ordering} (total : IsTotalOrder cmp
   -- is the answer to what a left join asks there
   answered : (k : K) (old new : Option (K × V)) → ((e : K × V) → old ≡ Some e → cmp k e.0 ≡ Equal) → DecidedAt old new
       → IsAnswered May MovedKey (asked kind.Left left_spelling old (entry_at cmp others k)) new
-  answered k None new own j = rw (left-silent (entry_at cmp others k)) j
-  answered k (Some e) new own (r, m, is) =
-      by (entry_at cmp others k) r (rw (value-entry cmp others e.0, sym (same-entry total k e.0 others (own e refl))) at m) is
-    where
-      by : (q : Option (K × W)) (r : Option V) → May (at_pair e.0 e.1 (option_map (λ q. q.1) q)) r
-          → new ≡ option_map (λ v. (e.0, v)) r → IsAnswered May MovedKey (asked kind.Left left_spelling (Some e) q) new
-      by q r m is = grind arith
+  answered k old new own j =
+      grind (arith, left-silent {V = V} (entry_at cmp others k), value-entry cmp others, same-entry {V = W} total k)
 
   -- what each value is decided to makes the left join in place
   pub join-of_judged : (old new : List (K × V)) → AscendsByKey cmp new
@@ -131,11 +123,8 @@ module _ {K V W : Type 0} {cmp : K → K → Ordering} (total : IsTotalOrder cmp
       → IsAsked cmp kind.Left left_spelling old others (at_pair k v (value_at cmp others k))
   asked-in old before after k v s is = record {
     key = k;
-    asks = rw (is, standing total before (k, v) after (rw is at s), value-entry cmp others k) (by (entry_at cmp others k));
+    asks = rw (is, standing total before (k, v) after (rw is at s), value-entry cmp others k) (grind arith);
   }
-    where
-      by : (q : Option (K × W)) → asked kind.Left left_spelling (Some (k, v)) q ≡ Some (at_pair k v (option_map (λ q. q.1) q))
-      by q = grind arith
 
 -- ---- values that are decided at the keys of a list of pairs
 
@@ -177,13 +166,6 @@ pub dropped : {K W : Type 0} (xs : List (Bor K × Bor W)) (i : ℕ) (x : Bor K �
     → map deref_pair (drop i xs) ≡ deref_pair x ∷ map deref_pair (drop (i + 1) xs)
 dropped xs i x h e = rw (add-one, drop-cons xs i x, sym e) refl
 
-module _ {K V W : Type 0} (cmp : K → K → Ordering) (May : OuterJoinArg K V W → Option V → Type 0) (old : List (K × V)) where
-  right-answered : (q : Option (K × W)) (z new : Option (K × V)) → ((p : K × V) → z ≡ Some p → entry_at cmp old p.0 ≡ Some p)
-      → ((p : K × V) (r : K × W) → z ≡ Some p → q ≡ Some r → entry_at cmp old r.0 ≡ Some p)
-      → MatchOption q (new ≡ z) (λ q. IsKeptAt cmp May q.0 q.1 z new)
-      → IsAnswered (OrStays May) (StayedKey cmp old) (asked kind.Left right_spelling z q) new
-  right-answered q z new own shared is = grind arith
-
 module _ {K V W : Type 0} {cmp : K → K → Ordering} (total : IsTotalOrder cmp) {May : OuterJoinArg K V W → Option V → Type 0}
     {others : List (K × W)} {old : List (K × V)} where
   -- nothing is decided yet
@@ -210,49 +192,31 @@ module _ {K V W : Type 0} {cmp : K → K → Ordering} (total : IsTotalOrder cmp
       → IsJoin cmp kind.Left right_spelling old others (OrStays May) (StayedKey cmp old) new
   right-of_along {new} j = record {
     ascends = j.ascends;
-    at = λ k. right-answered cmp May old (entry_at cmp others k) (entry_at cmp old k) (entry_at cmp new k)
-        (λ p e. at-own total k old p e)
-        (λ p q e f. sym (same-entry total k q.0 old (own-key total k others q f)) ∙ e) (j.at k);
+    at = λ k. grind (arith, at-own total k old, own-key total k others, same-entry {V = V} total k, j.at k);
   }
 
 -- ---- a left join in place that drops what the other map lacks is an inner one
 
 module _ {K V W : Type 0} (cmp : K → K → Ordering) (May : OuterJoinArg K V W → Option V → Type 0) where
-  -- at one key
-  shared-alone : (p : Option (K × V)) (q : Option (K × W)) (z : Option (K × V))
-      → IsAnswered (OrDropped May) MovedKey (asked kind.Left left_spelling p q) z
-      → IsAnswered May MovedKey (asked kind.Inner left_spelling p q) z
-  shared-alone p q z h = grind arith
-
   pub inner-of_left : (old new : List (K × V)) (others : List (K × W))
       → IsJoin cmp kind.Left left_spelling old others (OrDropped May) MovedKey new
       → IsJoin cmp kind.Inner left_spelling old others May MovedKey new
-  inner-of_left old new others j = record
-      { ascends = j.ascends; at = λ k. shared-alone (entry_at cmp old k) (entry_at cmp others k) (entry_at cmp new k) (j.at k) }
+  inner-of_left old new others j = record { ascends = j.ascends; at = λ k. grind (arith, j.at k) }
 
   -- a shared key that a left join asks at is one that an inner join asks at
-  asked-too : (p : Option (K × V)) (q : Option (K × W)) (k : K) (v : V) (w : W) → asked kind.Left left_spelling p q
-      ≡ Some (Both k v w) → asked kind.Inner left_spelling p q ≡ Some (Both k v w)
-  asked-too p q k v w e = grind arith
-
   pub inner-asks : (old : List (K × V)) (others : List (K × W)) (a : OuterJoinArg K V W) (k : K) (v : V) (w : W)
       → Both k v w ≡ a → IsAsked cmp kind.Left left_spelling old others a
       → IsAsked cmp kind.Inner left_spelling old others (Both k v w)
   inner-asks old others a k v w e h = record {
     key = h.key;
-    asks = asked-too (entry_at cmp old h.key) (entry_at cmp others h.key) k v w (h.asks ∙ ap Some (sym e));
+    asks = grind (arith, h.asks);
   }
 
   -- what stays at the keys of this map alone does so whatever a closure for shared keys would leave there
-  drops-no_more : (Keeps : OuterJoinArg K V W → K → Type 0) (a : Option (OuterJoinArg K V W)) (z : Option (K × V))
-      → IsAnswered (OrStays (OrDropped May)) Keeps a z → IsAnswered (OrStays May) Keeps a z
-  drops-no_more Keeps a z h = grind arith
-
   pub right-of_shared : (old new : List (K × V)) (others : List (K × W))
       → IsJoin cmp kind.Left right_spelling old others (OrStays (OrDropped May)) (StayedKey cmp old) new
       → IsJoin cmp kind.Left right_spelling old others (OrStays May) (StayedKey cmp old) new
   right-of_shared old new others j = record {
     ascends = j.ascends;
-    at = λ k. drops-no_more (StayedKey cmp old) (asked_at cmp kind.Left right_spelling old others k) (entry_at cmp new k)
-        (j.at k);
+    at = λ k. grind (arith, j.at k);
   }

@@ -10,7 +10,7 @@ pub returns-clause-joins : goal.returns-clause-joins
 returns-clause-joins g c = right-of_shared g.K.Ord.cmp (MayLeaveShared g.F.Fn c.args.f) _ _ _ c.keep_right.ensures
 
 pub returns-clause-function : goal.returns-clause-function
-returns-clause-function g c = search (rules, joins-of_functions, right-of_shared)
+returns-clause-function g c = search (rules, joins-of_functions)
 
 pub returns-clause-values : goal.returns-clause-values
 returns-clause-values g c = leaves-right g.K.Ord.cmp right_spelling _ _ _ c.args.f g.F.Fn (returns-clause-function g c)
