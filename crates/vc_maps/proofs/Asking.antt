@@ -1,25 +1,18 @@
 -- What is asked of two maps: each question is one that the kind of the join asks, and may be asked where its parts may.
-use Rattle.std.proofs.Common.{◌≡◌, Bool, true, cond, List, Option, Some, None, Result, Ok, Err, IsOk, OnOk}
-use Rattle.std.proofs.Common.{OnErr, arith, refl}
+use Rattle.std.proofs.Common.{◌≡◌, true, List, Option, Some, Result, Ok, Err, IsOk, OnOk}
+use Rattle.std.proofs.Common.{OnErr, arith}
 use Rattle.std.specs.declared.cmp.Ordering.{Ordering}
 use Rattle.vc_joins.specs.declared.question.OuterJoinArg.{OuterJoinArg}
-use Rattle.vc_joins.specs.declared.question.OuterJoinArg.TheVariants.{Left, Right, Both}
 use Rattle.vc_joins.specs.declared.question.JoinKind.{JoinKind}
 use Rattle.vc_joins.specs.Entries.{AscendsByKey, entry_at}
 use Rattle.vc_joins.specs.Join.{IsAsked, IsJoin, IsJoinBy}
-use Rattle.vc_joins.specs.Question.{asks, asks_left, asks_right, asked, left_spelling}
+use Rattle.vc_joins.specs.Question.{asks, asked, left_spelling}
 use Rattle.vc_joins.proofs.Functions.{joins-of_functions}
-
-some-if : {A : Type 0} (P : A → Bool) (x y : A) (b : Bool) → P x ≡ b → cond b (Some x) None ≡ Some y → P y ≡ true
-some-if P x y b e h = grind arith
 
 module _ {K V W : Type 0} (cmp : K → K → Ordering) (kind : JoinKind) where
   asked-asks : (p : Option (K × V)) (q : Option (K × W)) (a : OuterJoinArg K V W) → asked kind left_spelling p q
       ≡ Some a → asks kind a ≡ true
-  asked-asks (Some p) (Some q) a e = some-if (asks kind) (Both p.0 p.1 q.1) a true refl e
-  asked-asks (Some p) None a e = some-if (asks kind) (Left p.0 p.1) a (asks_left kind) refl e
-  asked-asks None (Some q) a e = some-if (asks kind) (Right q.0 q.1) a (asks_right kind) refl e
-  asked-asks None None a e = let none : None ≡ Some a = e in cc
+  asked-asks p q a e = grind arith
 
   -- what is asked of two maps, read through slices of these
   pub asked-of : (xs xs' : List (K × V)) (ys ys' : List (K × W)) (a : OuterJoinArg K V W) → xs' ≡ xs → ys' ≡ ys

@@ -77,14 +77,3 @@ module _ {K V X : Type 0} where
         (head-mapped (is_at (cmp k) p.0) p q f a.0 same a.1 (entry_at cmp ps k) (entry_at cmp qs k)
         (entries-mapped cmp ps qs a.0 last rest a.2 k))
     entries-mapped cmp ps qs f last e a k = absurd a
-
-    -- the same, of a slice of the pairs
-    pub slice-mapped : (cmp : K → K → Ordering) (ps slice : List (K × V)) (qs : List (K × X)) (f last : F) → slice ≡ ps
-        → keys_of qs ≡ keys_of slice → AnswersInTurn calls f (values_of slice) (values_of qs) last
-        → (k : K) → MapsEntry calls (entry_at cmp ps k) (entry_at cmp qs k)
-    slice-mapped cmp ps slice qs f last e h a =
-        rw e at (entries-mapped cmp slice qs f last h a)
-
-    pub slice-answers : {ps slice : List (K × V)} (qs : List (K × X)) (f last : F) → slice ≡ ps
-        → AnswersInTurn calls f (values_of slice) (values_of qs) last → AnswersInTurn calls f (values_of ps) (values_of qs) last
-    slice-answers qs f last e a = rw e at a

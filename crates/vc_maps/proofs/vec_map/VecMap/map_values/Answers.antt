@@ -1,6 +1,6 @@
-use Rattle.std.proofs.Common.{sym, ◌∙◌}
+use Rattle.std.proofs.Common.{sym}
 use mathlib.Core.Bool.{true≢false}
-use Rattle.vc_maps.proofs.Mapped.{slice-mapped}
+use Rattle.vc_maps.proofs.Mapped.{entries-mapped}
 use Rattle.vc_maps.proofs.vec_map.VecMap.map_values.Goals as goal
 
 pub returns-in_err-mapped-clause-room : goal.returns-in_err-mapped-clause-room
@@ -13,5 +13,5 @@ returns-clause-values g c =
 
 pub returns-clause-entries : goal.returns-clause-entries
 returns-clause-entries g c =
-    let same = c.as_mut_slice.ensures.value ∙ c.into_inner-pairs.ensures.pairs in
-    slice-mapped _ g.K.Ord.cmp _ _ _ _ _ same c.push_mapped.ensures.keys c.push_mapped.ensures.values.1
+    rw (c.as_mut_slice.ensures.value, c.into_inner-pairs.ensures.pairs) at
+    (entries-mapped _ g.K.Ord.cmp _ _ _ _ c.push_mapped.ensures.keys c.push_mapped.ensures.values.1)

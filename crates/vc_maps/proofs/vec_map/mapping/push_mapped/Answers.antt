@@ -5,7 +5,7 @@ use Rattle.std.specs.Fn.{Takes}
 use Rattle.std.specs.Map.{values_of}
 use Rattle.vc_merge.proofs.Callable.{callable-first, callable-others}
 use Rattle.vc_merge.proofs.Extending.{room-push}
-use Rattle.vc_maps.proofs.Mapped.{take-next, drop-next, keys-mapped, values-mapped, slice-answers}
+use Rattle.vc_maps.proofs.Mapped.{take-next, drop-next, keys-mapped, values-mapped}
 use Rattle.vc_maps.proofs.vec_map.mapping.push_mapped.Goals as goal
 
 pub f-answer-requires : goal.f-answer-requires
@@ -37,8 +37,5 @@ pairs-preserved g c =
     }
 
 pub returns-clause-values : goal.returns-clause-values
-returns-clause-values g c = (
-  c.pairs.f,
-  slice-answers _ _ _ _
-      (take_all c.pairs.at c.args.pairs.now c.pairs-test.false) c.pairs.invariant.values,
-)
+returns-clause-values g c =
+    (c.pairs.f, rw (take_all c.pairs.at c.args.pairs.now c.pairs-test.false) at c.pairs.invariant.values)
