@@ -15,7 +15,7 @@ use Rattle.vc_joins.specs.Join.{ClonedKey, IsAnswered, IsAsked, IsJoin, asked_at
 use Rattle.vc_joins.specs.Question.{asks, asked, asks_left, if_asked, shown_key, left_spelling, right_spelling}
 use Rattle.vc_joins.proofs.Functions.{value-entry}
 use Rattle.std.proofs.lemmas.Option.{cond_some}
-use Rattle.vc_btree_maps.specs.Putting.{IsPutAt, IsAskedAndPut}
+use Rattle.vc_btree_maps.specs.Putting.{IsAskedAndPut}
 use Rattle.vc_btree_maps.proofs.Entries.{none-by, equal-at, same-entry}
 use Rattle.vc_btree_maps.proofs.Passing.{IsPassed, next, next-there, next-before, passed-all}
 use denote.Ref.{Bor}
@@ -23,12 +23,6 @@ use denote.Ref.{Bor}
 -- nothing stands at the key
 abbrev pub Bare : {K X : Type 0} → K → Option (K × X) → Type 0
 Bare k z = z ≡ None
-
-module _ {K V W X : Type 0} (May : OuterJoinArg K V W → Option X → Type 0) (is_clone : K → K → Type 0) where
-  -- an answer that is put at the key that was shown is what is to stand there
-  answer-stands : (a : OuterJoinArg K V W) (key : K) (answer : Option X) (z : Option (K × X)) → shown_key a ≡ key → May a answer
-      → IsPutAt is_clone key answer z → IsAnswered May (ClonedKey is_clone) (Some a) z
-  answer-stands a key answer z e m p = grind arith
 
 -- what stands at the key k is what a join makes of the two maps there
 pub record IsJoined {K V W X : Type 0} (May : OuterJoinArg K V W → Option X → Type 0) (is_clone : K → K → Type 0)
@@ -54,8 +48,7 @@ module _ {K V W X : Type 0} {cmp : K → K → Ordering} {May : OuterJoinArg K V
         next total i done.put.ascends
         (λ k f. rw (shows, f) at (done.put.at k))
         (λ k t is before. record {
-          is = rw (asks_it k t is) (answer-stands May is_clone a p.0 done.answer (entry_at cmp new k) shows done.may
-              (rw (shows, t) at (done.put.at k)));
+          is = rw (asks_it k t is) (grind (arith, shows, done.may, rw (shows, t) at (done.put.at k)));
         })
 
   -- what stands at each key makes the join
@@ -70,13 +63,7 @@ pub left-joined : {K V W X : Type 0} {May : OuterJoinArg K V W → Option X → 
     → IsJoined May is_clone cmp kind.Left left_spelling xs ys k z
     → (is_some (entry_at cmp xs k) ≡ false → entry_at cmp ys k ≡ None)
     → IsJoined May is_clone cmp kind.Outer left_spelling xs ys k z
-left-joined {K = K} {V = V} {W = W} {cmp = cmp} {xs = xs} {ys = ys} {k = k} b h = record {
-  is = rw (sym (by (entry_at cmp xs k) (entry_at cmp ys k) h)) b.is;
-}
-  where
-    by : (p : Option (K × V)) (q : Option (K × W)) → (is_some p ≡ false → q ≡ None)
-        → asked kind.Left left_spelling p q ≡ asked kind.Outer left_spelling p q
-    by p q h = grind arith
+left-joined b h = record { is = grind (arith, b.is, h) }
 
 module _ {K V W : Type 0} {cmp : K → K → Ordering} (total : IsTotalOrder cmp) (xs : List (K × V)) (ys : List (K × W)) where
   -- what a left join asks at a key of the left map

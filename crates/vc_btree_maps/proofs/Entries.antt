@@ -14,11 +14,6 @@ use Rattle.vc_joins.specs.Entries.{AscendsByKey, entry_at, value_at}
 use Rattle.vc_joins.proofs.Functions.{value-entry}
 use Rattle.vc_btree_maps.specs.Putting.{IsPut}
 
--- a test decides
-pub by-test : {P : Type 0} (b : Bool) → (b ≡ true → P) → (b ≡ false → P) → P
-by-test true t f = t refl
-by-test false t f = f refl
-
 -- both ways of a test
 pub chosen : {P Q : Type 0} (b : Bool) → (b ≡ true → P) → (b ≡ false → Q) → MatchBool b P Q
 chosen true t f = t refl
@@ -122,15 +117,12 @@ module _ {K V : Type 0} {cmp : K → K → Ordering} (total : IsTotalOrder cmp) 
       → entry_at cmp old key ≡ None → new ≡ insert_entry cmp old other x → IsPut cmp is_clone key (Some x) old new
   put-some is_clone key other x old new s c e n is = record {
     ascends = s;
-    at = λ k.
-        let stands = ap (λ l. entry_at cmp l k) is ∙ inserted k other old x (sym (same-entry key other old e) ∙ n) in
-        let same : is_at (cmp k) other ≡ is_at (cmp k) key = ap is_eq (sym (alike_right total key other k e)) in
-        chosen (is_at (cmp k) key) (λ t. rw (rw (same, t) at stands) (c, refl)) (λ f. rw (same, f) at stands);
+    at = λ k. grind (arith, inserted k other old x, same-entry key other old e, alike_right total key other k e);
   }
 
   pub put-none : (is_clone : K → K → Type 0) (key : K) (old : List (K × V)) → AscendsByKey cmp old → entry_at cmp old key ≡ None
       → IsPut cmp is_clone key None old old
   put-none is_clone key old s n = record {
     ascends = s;
-    at = λ k. chosen (is_at (cmp k) key) (λ t. same-entry k key old (equal-at total k key t) ∙ n) (λ f. refl);
+    at = λ k. grind (arith, equal-at total k key, same-entry k key old);
   }

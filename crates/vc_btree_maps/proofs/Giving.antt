@@ -57,17 +57,13 @@ pub record IsGivenThere {K V W : Type 0} (cmp : K → K → Ordering) (is_clone 
     (others : List (K × W)) (old : List (K × V)) (k : K) (z : Option (K × V)) : Type 0 where
   pub is : MatchOption (entry_at cmp old k) (IsGivenAt cmp is_clone Gives (entry_at cmp others k) z) (λ p. z ≡ Some p)
 
--- what was there is there
-was : {A P : Type 0} (o z : Option A) → (is_some o ≡ false → P) → z ≡ o → MatchOption o P (λ p. z ≡ Some p)
-was o z h e = grind arith
-
 module _ {K V W : Type 0} {cmp : K → K → Ordering} (total : IsTotalOrder cmp) {is_clone : K → K → Type 0}
     {Gives : K → W → Option V → Type 0} {others : List (K × W)} {old : List (K × V)} where
   -- nothing is given yet
   pub none-given : AscendsByKey cmp others → AscendsByKey cmp old
       → IsPassed cmp (WasThere cmp old) (IsGivenThere cmp is_clone Gives others old) others others old
   none-given s t = start s t (λ k. record { same = refl })
-      (λ k e b. record { is = rw e (was (entry_at cmp old k) (entry_at cmp old k) (none-by (entry_at cmp old k)) refl) })
+      (λ k e b. record { is = rw e (grind arith) })
 
   module _ {rest : List (K × W)} {q : K × W} {now : List (K × V)}
       (i : IsPassed cmp (WasThere cmp old) (IsGivenThere cmp is_clone Gives others old) others (q ∷ rest) now) where
@@ -91,9 +87,7 @@ module _ {K V W : Type 0} {cmp : K → K → Ordering} (total : IsTotalOrder cmp
         → IsPassed cmp (WasThere cmp old) (IsGivenThere cmp is_clone Gives others old) others rest now
     next-shared e =
         next-same total i (λ k t is b. record {
-          is = was (entry_at cmp old k) (entry_at cmp now k)
-              (λ n. let h : false ≡ true = sym n ∙ ap is_some (same-entry total k q.0 old (equal-at total k q.0 t))
-              ∙ next-had true e in cc) b.same;
+          is = grind (arith, b.same, same-entry total k q.0 old (equal-at total k q.0 t), next-had true e);
         })
 
   -- all is given
@@ -156,20 +150,10 @@ module _ {K V W : Type 0} {cmp : K → K → Ordering} (total : IsTotalOrder cmp
         → Takes (at_pair k v w))
         → (x : OuterJoinArg K V W) → IsAsked cmp kind.Left left_spelling shared others x → AtAlone Takes x
     third-takes Takes takes x h =
-        by (entry_at cmp old h.key) (entry_at cmp others h.key) (entry_at cmp given h.key) (entry_at cmp shared h.key) refl refl
-        (first.at h.key) (second-at h.key) h.asks
-      where
-        by : (o : Option (K × V)) (q : Option (K × W)) (a b : Option (K × V)) → entry_at cmp old h.key ≡ o
-            → entry_at cmp others h.key ≡ q → MatchOption o (IsGivenAt cmp is_clone Gives q a) (λ p. a ≡ Some p)
-            → MatchOption (cond (is_some o) q None) (b ≡ a) (λ q. IsKeptAt cmp May q.0 q.1 a b)
-            → asked kind.Left left_spelling b q ≡ Some x → AtAlone Takes x
-        by o (Some r) a (Some p) e f g s is = let same : Both p.0 p.1 r.1 ≡ x = cc in rw (sym same) tt
-        by None None a (Some p) e f g s is = let h : Some p ≡ None = s ∙ g in cc
-        by (Some o) None a (Some p) e f g s is =
-            let same : Left p.0 p.1 ≡ x = cc in
-            let own : Some p ≡ Some o = s ∙ g in
-            rw (sym same) (takes p.0 p.1 None (record { key = h.key; asks = rw (e ∙ sym own, f) refl }))
-        by o x a y e f g s is = cc
+        let left : (p : K × V) → asked kind.Outer right_spelling (entry_at cmp old h.key) (entry_at cmp others h.key)
+        ≡ Some (Left p.0 p.1) → Takes (Left p.0 p.1) =
+        λ p e. takes p.0 p.1 None (record { key = h.key; asks = e }) in
+        grind (arith, left, first.at h.key, second-at h.key, h.asks)
 
   -- what the second pass asks, the outer join asks
   pub second-takes : (Takes : OuterJoinArg K V W → Type 0)

@@ -1,5 +1,5 @@
 -- A map that is changed at one key after another, along a list of pairs that ascends by key.
-use Rattle.std.proofs.Common.{arith, ◌≡◌, true, false, List, [], ◌∷◌, Option, Some, None, refl, ap, sym, ◌∙◌}
+use Rattle.std.proofs.Common.{arith, ◌≡◌, true, false, List, [], ◌∷◌, Option, Some, None, refl, ap}
 use Rattle.std.specs.Cmp.{IsTotalOrder, tied_itself}
 use Rattle.std.specs.List.Sorted.{IsStrictlySortedBy}
 use Rattle.std.specs.Option.{MatchOption}
@@ -7,7 +7,7 @@ use Rattle.std.specs.Ordering.{is_eq}
 use Rattle.std.specs.BTreeMap.{is_at}
 use Rattle.std.specs.declared.cmp.Ordering.{Ordering}
 use Rattle.vc_joins.specs.Entries.{AscendsByKey, entry_at}
-use Rattle.vc_btree_maps.proofs.Entries.{by-test, equal-at, none-above}
+use Rattle.vc_btree_maps.proofs.Entries.{equal-at, none-above}
 
 -- the pairs of `all` are passed but for those that are left: at the keys of those the map still has what was there `Before`,
 -- and at all others what is there `After`
@@ -63,13 +63,9 @@ module _ {K U X : Type 0} {cmp : K → K → Ordering} {Before After : K → Opt
     unfolding IsStrictlySortedBy
     next {new} s elsewhere here = record {
       rest_ascends = i.rest_ascends.1;
-      within = λ k q e. by-test (is_at (cmp k) p.0)
-          (λ t. let h : Some q ≡ None = sym e ∙ gone k t in cc)
-          (λ f. i.within k q (rw f e));
+      within = λ k q e. grind (arith, gone k, i.within k q);
       ascends = s;
-      at = λ k. by-test (is_at (cmp k) p.0)
-          (λ t. rw (gone k t) (here k t (i.within k p (rw t refl)) (rw t at (i.at k))))
-          (λ f. rw (elsewhere k f) (rw f at (i.at k)));
+      at = λ k. grind (arith, gone k, here k, i.within k p, i.at k, elsewhere k);
     }
       where
         gone : (k : K) → is_at (cmp k) p.0 ≡ true → entry_at cmp rest k ≡ None

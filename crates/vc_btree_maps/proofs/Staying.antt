@@ -1,6 +1,6 @@
 -- Joins in place: what stands at each key when a value is decided, and after all of them.
 use Rattle.std.proofs.Common.{arith, ◌≡◌, Bool, true, false, List, [], ◌∷◌, ◌++◌, Option, Some, None, is_some}
-use Rattle.std.proofs.Common.{refl, sym, ap, subst, ◌∙◌, cond, ℕ, ◌<◌, ◌+◌, length, get_or, drop, map, add-one, drop-cons}
+use Rattle.std.proofs.Common.{refl, sym, ap, ◌∙◌, cond, ℕ, ◌<◌, ◌+◌, length, get_or, drop, map, add-one, drop-cons}
 use Rattle.std.specs.Cmp.{IsTotalOrder}
 use Rattle.std.specs.List.Sorted.{IsStrictlySortedBy}
 use Rattle.std.specs.Map.{set_value, remove_entry}
@@ -66,11 +66,7 @@ module _ {K V W : Type 0} {cmp : K → K → Ordering} (total : IsTotalOrder cmp
       → IsKept cmp May key w old new
   kept-nothing old new s e is = record {
     ascends = s;
-    at = λ k. chosen (is_at (cmp k) key)
-        (λ t. let none = same-entry total k key old (equal-at total k key t)
-        ∙ none-by (entry_at cmp old key) (value-is_some total key old ∙ ap is_some e) in
-        rw none (ap (λ l. entry_at cmp l k) is ∙ none))
-        (λ f. ap (λ l. entry_at cmp l k) is);
+    at = λ k. grind (arith, equal-at total k key, same-entry total k key old, value-is_some total key old);
   }
 
 -- ---- what `retain` leaves
@@ -82,19 +78,12 @@ module _ {K V : Type 0} {cmp : K → K → Ordering} (total : IsTotalOrder cmp) 
   abbrev pub IsJudged : Option (K × V) → Option (K × V) → Type 0
   IsJudged old new = MatchOption old (new ≡ None) (λ e. (r : Option V) × May e.0 e.1 r × (new ≡ option_map (λ v. (e.0, v)) r))
 
-  -- of h, which is f
-  means-of : (h : F) → h ≡ f → (k : K) (v : V) (b : Bool) (w : V) (g : F) → T h k v b w g → May k v (if_kept b w) × (g ≡ f)
-  means-of h q k v b w g t = means k v b w g (subst (λ (s : F). T s k v b w g) q t)
-
   pub judged : (k : K) (es kept : List (K × V)) (h : F) → h ≡ f → AscendsByKey cmp es → RetainsPairs T h es kept
       → IsJudged (entry_at cmp es k) (entry_at cmp kept k)
   unfolding IsStrictlySortedBy
   judged k [] kept h q s r = ap (λ l. entry_at cmp l k) r
-  judged k (e ∷ es) kept h q s (true, w, g, rest, t, more, is) =
-      let u = means-of h q e.0 e.1 true w g t in
-      grind (arith, judged k es rest g u.1 s.1 more, u.0)
-  judged k (e ∷ es) kept h q s (false, w, g, rest, t, more, is) =
-      let u = means-of h q e.0 e.1 false w g t in
+  judged k (e ∷ es) kept h q s (b, w, g, rest, t, more, is) =
+      let u = means e.0 e.1 b w g (rw q at t) in
       let later = judged k es rest g u.1 s.1 more in
       grind (arith, later, u.0, equal-at total k e.0, none-above total k e.0 es)
 
