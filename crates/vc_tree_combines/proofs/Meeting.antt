@@ -5,7 +5,7 @@
 --     bare-or_missed, childless-met        or in none
 --     tells-nodes        both prefixes end
 --     disjoint-told, subset-told        the public words
-use Rattle.std.proofs.Common.{◌≡◌, [], ◌∷◌, ◌++◌, List, Option, None, Some, is_some, Bool, true, false, not, ◌⊎◌, inl}
+use Rattle.std.proofs.Common.{arith, ◌≡◌, [], ◌∷◌, ◌++◌, List, Option, None, Some, is_some, Bool, true, false, not, ◌⊎◌, inl}
 use Rattle.std.proofs.Common.{inr, refl, sym, ap, subst, ◌∙◌, true≢false}
 use Rattle.std.specs.Cmp.{IsTotalOrder, Equal-is, tied_itself, tied_back}
 use Rattle.std.specs.Option.{option_and_then}
@@ -28,12 +28,10 @@ use Rattle.vc_tree_combines.specs.Meeting.{IsMet, IsMissed, TellsKeys, TellsKeys
 
 -- a key of the left alone is met where none is to be shared
 pub met-alone : {V : Type 0} (W : Type 0) (v : Option V) → IsMet {V = V} {W = W} false v None
-met-alone W None = tt
-met-alone W (Some v) = refl
+met-alone W v = grind arith
 
 not-missed_alone : {V : Type 0} (W : Type 0) (v : Option V) → IsMissed {V = V} {W = W} false v None → ⊥
-not-missed_alone W None m = m
-not-missed_alone W (Some v) m = true≢false (sym m)
+not-missed_alone W v m = grind arith
 
 module _ {V W : Type 0} where
   -- nothing is said of a key where nothing is missed, whatever is asked
@@ -267,20 +265,16 @@ module _ {K : Type 0} (cmp : K → K → Ordering) (o : IsTotalOrder cmp) where
 
 module _ {K V W : Type 0} (cmp : K → K → Ordering) (t : Tree K V) (u : Tree K W) where
   disjoint-by : (v : Option V) (w : Option W) → IsMet false v w → is_some v ≡ true → is_some w ≡ true → ⊥
-  disjoint-by None w m a b = true≢false (sym a)
-  disjoint-by (Some v) w m a b = true≢false (sym b ∙ m)
+  disjoint-by v w m a b = grind arith
 
   shared-by : (v : Option V) (w : Option W) → IsMissed false v w → (is_some v ≡ true) × (is_some w ≡ true)
-  shared-by None w m = absurd m
-  shared-by (Some v) w m = (refl, m)
+  shared-by v w m = grind arith
 
   has-by : (v : Option V) (w : Option W) → IsMet true v w → is_some v ≡ true → is_some w ≡ true
-  has-by None w m a = absurd (true≢false (sym a))
-  has-by (Some v) w m a = m
+  has-by v w m a = grind arith
 
   lacks-by : (v : Option V) (w : Option W) → IsMissed true v w → (is_some v ≡ true) × (is_some w ≡ false)
-  lacks-by None w m = absurd m
-  lacks-by (Some v) w m = (refl, m)
+  lacks-by v w m = grind arith
 
   pub disjoint-told : (answer : Bool) → TellsKeys cmp false t u answer
       → MatchBool answer (AreDisjoint cmp t u) (ShareKey cmp t u)

@@ -35,15 +35,13 @@ use Rattle.vc_tree_combines.proofs.Meeting.{met-alone}
 
 -- an answer that is not to go on
 ok-not : (b : Bool) (answer : Answer) → answer ≡ Ok (not b) → answer ≡ Ok true → b ≡ false
-ok-not false answer e f = refl
-ok-not true answer e f = absurd (let g : ◌≡◌ {A = Answer} (Ok false) (Ok true) = sym e ∙ f in cc)
+ok-not b answer e f = grind arith
 
 ok-false : (answer : Answer) → answer ≡ Ok false → answer ≡ Ok true → ⊥
-ok-false answer e f = let g : ◌≡◌ {A = Answer} (Ok false) (Ok true) = sym e ∙ f in cc
+ok-false answer e f = grind arith
 
 stops-at : (b : Bool) (answer : Answer) → answer ≡ Ok (not b) → (answer ≡ Ok true → ⊥) → b ≡ true
-stops-at true answer e stop = refl
-stops-at false answer e stop = absurd (stop e)
+stops-at b answer e stop = grind arith
 
 module _ {A B : Type 0} (shared : Bool) where
   -- an event of one side alone, of the left only where no key is to be shared
@@ -70,25 +68,21 @@ all-append P (x ∷ xs) ys a b = (a.0, all-append P xs ys a.1 b)
 module _ {A B : Type 0} where
   lefts-append : (es fs : List (Event A B)) → lefts (es ++ fs) ≡ lefts es ++ lefts fs
   lefts-append [] fs = refl
-  lefts-append (left_alone x ∷ es) fs = ap (λ l. x ∷ l) (lefts-append es fs)
-  lefts-append (right_alone y ∷ es) fs = lefts-append es fs
-  lefts-append (collision x y ∷ es) fs = ap (λ l. x ∷ l) (lefts-append es fs)
+  lefts-append (e ∷ es) fs = grind (arith, lefts-append es fs)
 
   rights-append : (es fs : List (Event A B)) → rights (es ++ fs) ≡ rights es ++ rights fs
   rights-append [] fs = refl
-  rights-append (left_alone x ∷ es) fs = rights-append es fs
-  rights-append (right_alone y ∷ es) fs = ap (λ l. y ∷ l) (rights-append es fs)
-  rights-append (collision x y ∷ es) fs = ap (λ l. y ∷ l) (rights-append es fs)
+  rights-append (e ∷ es) fs = grind (arith, rights-append es fs)
 
   -- what a run takes off the fronts of both lists
   run-lefts : (ls : List A) (rs : List B) (run : Run A B) (ls' : List A) (rs' : List B) → IsAtFront ls rs run ls' rs'
       → ls ≡ lefts (run_events run) ++ ls'
-  run-lefts ls rs (of_left xs) ls' rs' f = f.1 ∙ ap (λ l. l ++ ls') (sym (only xs))
+  run-lefts ls rs (of_left xs) ls' rs' f = rw (only xs) f.1
     where
       only : (xs : List A) → lefts {B = B} (map (λ x. left_alone x) xs) ≡ xs
       only [] = refl
       only (x ∷ xs) = ap (λ l. x ∷ l) (only xs)
-  run-lefts ls rs (of_right ys) ls' rs' f = f.1 ∙ ap (λ l. l ++ ls') (sym (none ys))
+  run-lefts ls rs (of_right ys) ls' rs' f = rw (none ys) f.1
     where
       none : (ys : List B) → lefts {A = A} (map (λ y. right_alone y) ys) ≡ []
       none [] = refl
@@ -97,12 +91,12 @@ module _ {A B : Type 0} where
 
   run-rights : (ls : List A) (rs : List B) (run : Run A B) (ls' : List A) (rs' : List B) → IsAtFront ls rs run ls' rs'
       → rs ≡ rights (run_events run) ++ rs'
-  run-rights ls rs (of_left xs) ls' rs' f = f.2 ∙ ap (λ l. l ++ rs') (sym (none xs))
+  run-rights ls rs (of_left xs) ls' rs' f = rw (none xs) f.2
     where
       none : (xs : List A) → rights {B = B} (map (λ x. left_alone x) xs) ≡ []
       none [] = refl
       none (x ∷ xs) = none xs
-  run-rights ls rs (of_right ys) ls' rs' f = f.2 ∙ ap (λ l. l ++ rs') (sym (only ys))
+  run-rights ls rs (of_right ys) ls' rs' f = rw (only ys) f.2
     where
       only : (ys : List B) → rights {A = A} (map (λ y. right_alone y) ys) ≡ ys
       only [] = refl
@@ -142,16 +136,10 @@ module _ {M A B : Type 0} (left : M → List A) (right : M → List B) (missed :
       record {
         all = all-append (IsPassed shared) (run_events run) (events runs) p.0 r.all;
         unmissed = r.unmissed;
-        left_is =
-            run-lefts (left s) (right s) run (left h.0) (right h.0) h.1.front
-            ∙ ap (λ l. lefts (run_events run) ++ l) r.left_is
-            ∙ sym (append_assoc (lefts (run_events run)) (lefts (events runs)) (left t))
-            ∙ ap (λ l. l ++ left t) (sym (lefts-append (run_events run) (events runs)));
-        right_is =
-            run-rights (left s) (right s) run (left h.0) (right h.0) h.1.front
-            ∙ ap (λ l. rights (run_events run) ++ l) r.right_is
-            ∙ sym (append_assoc (rights (run_events run)) (rights (events runs)) (right t))
-            ∙ ap (λ l. l ++ right t) (sym (rights-append (run_events run) (events runs)));
+        left_is = rw (lefts-append (run_events run) (events runs), append_assoc, ← r.left_is)
+            (run-lefts (left s) (right s) run (left h.0) (right h.0) h.1.front);
+        right_is = rw (rights-append (run_events run) (events runs), append_assoc, ← r.right_is)
+            (run-rights (left s) (right s) run (left h.0) (right h.0) h.1.front);
       }
 
   module _ (order : A ⊎ B → A ⊎ B → Ordering) where
@@ -179,18 +167,13 @@ module _ {M A B : Type 0} (left : M → List A) (right : M → List B) (missed :
     stopped-by : (s t : M) (answer : Answer) (w : Stops passes order s answer t) (last : Run A B) → w.last ≡ last
         → IsAtFront (left w.before) (right w.before) last w.left_after w.right_after → IsAllowed passes w.before last answer t
         → ArePassed s w.before (events w.runs) → Passed s t
-    stopped-by s t answer w (of_left []) e f a p = absurd (let n = f.0 in omega (arith, n))
+    stopped-by s t answer w (of_left []) e f a p = absurd (omega (arith, f.0))
     stopped-by s t answer w (of_left (x ∷ xs)) e f a p =
         let b = stops-at shared answer a.0 w.not_true in
-        at_missed (events w.runs) x (map (λ x. left_alone x) xs ++ w.rest)
-        (subst (IsScript order (left s) (right s))
-        (ap (λ r. (events w.runs ++ run_events r) ++ w.rest) e
-        ∙ append_assoc (events w.runs) (map (λ x. left_alone x) (x ∷ xs)) w.rest) w.script) p.all b (a.1 ∙ b)
+        at_missed (events w.runs) x (map (λ x. left_alone x) xs ++ w.rest) (rw (e, append_assoc) at w.script) p.all b (a.1 ∙ b)
     stopped-by s t answer w (of_right ys) e f a p = absurd (w.not_true a.0)
     stopped-by s t answer w (of_both x y) e f a p =
-        let s' = subst (IsScript order (left s) (right s))
-        (ap (λ r. (events w.runs ++ run_events r) ++ w.rest) e
-        ∙ append_assoc (events w.runs) (collision x y ∷ []) w.rest) w.script in
+        let s' = rw (e, append_assoc) at w.script in
         at_meeting (events w.runs) x y w.rest s' p.all (ap missed a.1 ∙ p.unmissed)
         (ap left a.1 ∙ append_cancel_left (lefts (events w.runs)) _ _
         (sym p.left_is ∙ sym s'.left ∙ lefts-append (events w.runs) (collision x y ∷ w.rest)))
@@ -218,21 +201,19 @@ module _ {A B : Type 0} (order : A ⊎ B → A ⊎ B → Ordering) (o : IsTotalO
       → AllByRecursion (IsMatched order) es → side_next order (Some x) (slice_get (rights es) 0) ≡ Some Left
   side-left x [] a m = refl
   side-left x (left_alone z ∷ es) a m = side-left x es a.1 m.1
-  side-left x (right_alone y ∷ es) a m =
-      ap (λ r. Some (lower_side r)) (o.antisymm (inr y) (inl x) ∙ ap ordering_reverse a.0)
+  side-left x (right_alone y ∷ es) a m = rw (o.antisymm (inr y) (inl x), a.0)
   side-left x (collision z y ∷ es) a m =
-      let h : order (inl x) (inr y) ≡ Less = sym (alike_right o (inl z) (inr y) (inl x) m.0) ∙ a.0 in
-      ap (λ r. Some (lower_side r)) (o.antisymm (inr y) (inl x) ∙ ap ordering_reverse h)
+      rw (o.antisymm (inr y) (inl x), ← (alike_right o (inl z) (inr y) (inl x) m.0), a.0)
 
   side-right : (y : B) (es : List (Event A B)) → AllByRecursion (λ e. order (inr y) (place e) ≡ Less) es
       → side_next order (slice_get (lefts es) 0) (Some y) ≡ Some Right
   side-right y [] a = refl
-  side-right y (left_alone x ∷ es) a = ap (λ r. Some (lower_side r)) a.0
+  side-right y (left_alone x ∷ es) a = rw a.0
   side-right y (right_alone z ∷ es) a = side-right y es a.1
-  side-right y (collision x z ∷ es) a = ap (λ r. Some (lower_side r)) a.0
+  side-right y (collision x z ∷ es) a = rw a.0
 
   side-both : (x : A) (y : B) → order (inl x) (inr y) ≡ Equal → side_next order (Some x) (Some y) ≡ Some Both
-  side-both x y e = ap (λ r. Some (lower_side r)) (tied_back o (inl x) (inr y) e)
+  side-both x y e = rw (tied_back o (inl x) (inr y) e)
 
 -- the events behind the first one are a script of their own
 script-rest : {A B : Type 0} {order : A ⊎ B → A ⊎ B → Ordering} {xs : List A} {ys : List B} (e : Event A B)
@@ -261,8 +242,8 @@ module _ {K V W A B : Type 0} (cmp : K → K → Ordering) (o : IsTotalOrder cmp
     behind-met h = record {
       left = f.left.children;
       right = f.right.children;
-      left_nodes = (let h = t.left_nodes in let k = fewer ta a ls in omega (arith, h, k));
-      right_nodes = (let h = t.right_nodes in let k = fewer tb b rs in omega (arith, h, k));
+      left_nodes = omega (arith, t.left_nodes, fewer ta a ls);
+      right_nodes = omega (arith, t.right_nodes, fewer tb b rs);
       tells = λ answer g. by answer g;
     }
       where
@@ -281,12 +262,10 @@ module _ {K V W A B : Type 0} (cmp : K → K → Ordering) (o : IsTotalOrder cmp
       → side_next (by_component ta tb 0 0 cmp) (Some x) (Some y) ≡ Some Both → IsMeeting cmp ta tb shared xs ys x ls y rs
   meets x ls y rs t z =
       let f = both-first o ta tb 0 0 x ls y rs t.left t.right z in
-      let m = t.left_nodes in
-      let n = t.right_nodes in
       record {
         agree = agree-first cmp o (ta x).prefix (tb y).prefix f.place f.left.begins f.right.begins;
-        left_nodes = omega (arith, m);
-        right_nodes = omega (arith, n);
+        left_nodes = omega (arith, t.left_nodes);
+        right_nodes = omega (arith, t.right_nodes);
         here_missed = λ h. (missed (Some x) (Some y) t f).0 h.0 h.1;
         here_met = behind-met (Some x) (Some y) t f;
       }
@@ -336,18 +315,13 @@ module _ {K V W A B : Type 0} {cmp : K → K → Ordering} {ta : A → Tree K V}
   -- what is left of what is left
   pub tails-later : {ls ls' : List A} {rs rs' : List B} → AreTails cmp ta tb shared xs ys ls rs
       → AreTails cmp ta tb shared ls rs ls' rs' → AreTails cmp ta tb shared xs ys ls' rs'
-  tails-later s t =
-      let sl = s.left_nodes in
-      let sr = s.right_nodes in
-      let tl = t.left_nodes in
-      let tr = t.right_nodes in
-      record {
-        left = t.left;
-        right = t.right;
-        left_nodes = omega (arith, sl, tl);
-        right_nodes = omega (arith, sr, tr);
-        tells = λ answer h. s.tells answer (t.tells answer h);
-      }
+  tails-later s t = record {
+    left = t.left;
+    right = t.right;
+    left_nodes = omega (arith, s.left_nodes, t.left_nodes);
+    right_nodes = omega (arith, s.right_nodes, t.right_nodes);
+    tells = λ answer h. s.tells answer (t.tells answer h);
+  }
 
 -- two lists whose first trees begin alike
 pub alike-meet : {K V W A B : Type 0} (cmp : K → K → Ordering) (o : IsTotalOrder cmp) (ta : A → Tree K V) (tb : B → Tree K W)

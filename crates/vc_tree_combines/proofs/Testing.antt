@@ -55,12 +55,7 @@ some-at {K = K} p q n e h w = by p n h (λ k. w (k ∙ ap length (sym e)))
 
 -- such a place is before the end
 pub before-end : {K : Type 0} (p q : List K) (n : ℕ) → q ≡ p → n ≤ length p → (n ≡ length q → ⊥) → n < length q
-before-end p q n e h w = by (length q) n (subst (λ l. n ≤ length l) (sym e) h) w
-  where
-    by : (m n : ℕ) → n ≤ m → (n ≡ m → ⊥) → n < m
-    by zero n h w = absurd (w (omega (arith, h)))
-    by (suc m) zero h w = omega arith
-    by (suc m) (suc n) h w = let k = by m n (omega (arith, h)) (λ e. w (omega (arith, e))) in omega (arith, k)
+before-end p q n e h w = let l : length q ≡ length p = ap length e in omega arith
 
 module _ {K : Type 0} (cmp : K → K → Ordering) (o : IsTotalOrder cmp) where
   -- two keys agree either way round
@@ -99,8 +94,8 @@ module _ {K : Type 0} (cmp : K → K → Ordering) (o : IsTotalOrder cmp) where
       parted-by : (order : Ordering) (n : ℕ) → is_eq order ≡ false → PartsAt cmp order p q n
           → TellsKeys cmp shared (shortened i t) (shortened j u) (not shared)
       parted-by order n d h =
-          let ex : slice_get (drop i t.prefix) n ≡ Some h.old = ap (λ z. slice_get z n) (sym ep) ∙ h.old_at in
-          let ey : slice_get (drop j u.prefix) n ≡ Some h.new = ap (λ z. slice_get z n) (sym eq) ∙ h.new_at in
+          let ex : slice_get (drop i t.prefix) n ≡ Some h.old = rw (← ep) h.old_at in
+          let ey : slice_get (drop j u.prefix) n ≡ Some h.new = rw (← eq) h.new_at in
           let gx = goes-on n (drop i t.prefix) h.old ex in
           let gy = goes-on n (drop j u.prefix) h.new ey in
           lifted n (h.old ∷ gx.0) (h.new ∷ gy.0) (not shared) gx.1 gy.1 (rw (← ep, ← eq) h.agree.same)
@@ -111,15 +106,15 @@ module _ {K : Type 0} (cmp : K → K → Ordering) (o : IsTotalOrder cmp) where
       pub parted-told : (parting : Parting) → IsParting cmp p q parting
           → ((n : ℕ) × (parting ≡ Lower n)) ⊎ ((n : ℕ) × (parting ≡ Higher n))
           → TellsKeys cmp shared (shortened i t) (shortened j u) (not shared)
-      parted-told parting h (inl e) = parted-by Less e.0 refl (subst (IsParting cmp p q) e.1 h)
-      parted-told parting h (inr e) = parted-by Greater e.0 refl (subst (IsParting cmp p q) e.1 h)
+      parted-told parting h (inl e) = parted-by Less e.0 refl (rw e.1 at h)
+      parted-told parting h (inr e) = parted-by Greater e.0 refl (rw e.1 at h)
 
       module _ (n : ℕ) (x : K) (h : Agree cmp p q n × (n ≡ length q) × (n < length p)) (ex : slice_get p n ≡ Some x) where
         at : slice_get (drop i t.prefix) n ≡ Some x
-        at = ap (λ z. slice_get z n) (sym ep) ∙ ex
+        at = rw (← ep) ex
 
         ended : drop n (drop j u.prefix) ≡ []
-        ended = ap (drop n) (sym eq) ∙ drop_of_length-le q (omega (arith, h.1))
+        ended = rw (← eq) (drop_of_length-le q (omega (arith, h.1)))
 
         -- the right prefix ends, and the left tree goes on in a child
         pub inside-told : (g : Forest K W) (kid : Tree K W) (answer : Bool) → g ≡ u.children → IsFoundChild cmp g x kid
@@ -129,7 +124,7 @@ module _ {K : Type 0} (cmp : K → K → Ordering) (o : IsTotalOrder cmp) where
             let gx = goes-on n (drop i t.prefix) x at in
             lifted n (x ∷ gx.0) [] answer gx.1 ended (rw (← ep, ← eq) h.0.same)
             (tells-child cmp o shared x gx.0 t.value u.value t.children u.children kid answer (rw (← e) k)
-            (subst (λ l. TellsKeys cmp shared (node l t.value t.children) kid answer) (sym (drop-drop n i t.prefix) ∙ gx.1) m))
+            (rw (← (drop-drop n i t.prefix), gx.1) at m))
 
         -- or in none
         pub inside-none : (g : Forest K W) → g ≡ u.children → IsNoChild cmp g x
@@ -169,9 +164,7 @@ module _ {K : Type 0} (cmp : K → K → Ordering) (o : IsTotalOrder cmp) where
         → TellsKeys cmp shared (node [] t.value t.children) (node b u.value u.children) answer
         → TellsKeys cmp shared (shortened (length t.prefix) t) (shortened n u) answer
     at-ends shared b answer e h =
-        subst (λ l. TellsKeys cmp shared (node l t.value t.children) (shortened n u) answer)
-        (sym (ends t.prefix (length t.prefix) (omega arith)))
-        (subst (λ l. TellsKeys cmp shared (node [] t.value t.children) (node l u.value u.children) answer) (sym e) h)
+        rw (ends t.prefix (length t.prefix) (omega arith), e) h
 
     module _ (y : K) (ey : slice_get u.prefix n ≡ Some y) where
       -- the right tree goes on in a child
@@ -182,7 +175,7 @@ module _ {K : Type 0} (cmp : K → K → Ordering) (o : IsTotalOrder cmp) where
           let g = goes-on n u.prefix y ey in
           at-ends shared (y ∷ g.0) answer g.1
           (rw s (tells-in_child cmp o y g.0 t.value u.value t.children u.children kid answer (rw (← e) k)
-          (subst (λ l. TellsKeys cmp false kid (node l u.value u.children) answer) g.1 (rw s at m))))
+          (rw (s, g.1) at m)))
 
       -- or in none
       pub within-none : (shared : Bool) (f : Forest K V) → shared ≡ false → f ≡ t.children → IsNoChild cmp f y
