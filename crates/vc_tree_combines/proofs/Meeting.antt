@@ -1,6 +1,6 @@
 -- Tests of the keys of two trees, by what stands below the fronts of their prefixes that agree.
 --     tells-lifted        what is told of the trees without these fronts, is told of both
---     alone-apart, alone-childless, alone_nowhere        a tree whose keys the other side has not
+--     alone-apart, alone-childless        a tree whose keys the other side has not
 --     tells-child, tells-in_child        one prefix ends, and the other tree goes on in a child
 --     bare-or_missed, childless-met        or in none
 --     tells-nodes        both prefixes end

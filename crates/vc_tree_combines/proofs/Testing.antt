@@ -6,7 +6,7 @@
 --     both-told        both end
 --     some-at, before-end        a place that is not the end
 --     found, found_in        a component that was read
---     found-agrees, agree-flip, found_smaller        the child that is found
+--     found-agrees, agree-flip        the child that is found
 use Rattle.std.proofs.Common.{◌≡◌, ℕ, zero, suc, ◌+◌, ◌<◌, ◌≤◌, [], ◌∷◌, ◌++◌, List, Option, Some, Bool, true, false}
 use Rattle.std.proofs.Common.{not, ◌⊎◌, inl, inr, refl, sym, ap, subst, ◌∙◌, take, drop, length, slice_get, get_or}
 use Rattle.std.proofs.Common.{true≢false, arith}

@@ -1,5 +1,4 @@
 -- What combines in place make at one key.
---     met_both        a value that is there itself is one that was kept
 --     union_from, inner_from, left_from, intersection_from, difference_from        what is said at each key, as each combine
 -- says it
 use Rattle.std.proofs.Common.{◌≡◌, Bool, true, false, Option, None, Some, refl, sym, subst}
