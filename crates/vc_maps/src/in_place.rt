@@ -23,7 +23,7 @@ use std::alloc::{AllocError, Allocator};
 use std::default::MadeWith;
 use vc_joins::in_place::Turn;
 use vc_joins::question::{JoinKind, OuterJoinArg};
-use vc_merge::merge::{Count, MergeFromRight, MergeState, MergeStateMut, merge};
+use vc_merge::merge::{Count, MergeState, MergeStateMut, merge};
 use vc_merge::parts::{PartsState, Spans, open_gap};
 
 /// A map that is built anew in its own places, and one that is only looked at.
