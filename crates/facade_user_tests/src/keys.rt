@@ -97,6 +97,14 @@ pub fn are_same(a: &Ports, b: &Ports) -> bool
     *a == *b
 }
 
+/// Whether two snapshots have the same ports.
+pub fn are_same_shared(a: &SharedPorts, b: &SharedPorts) -> bool
+    ensures { IsTrue result
+        ↔ IsEqualMap (λ v w. IsTrue (v == w)) (lookup nat_cmp a.now) (lookup nat_cmp b.now) }
+{
+    *a == *b
+}
+
 /// A copy of the ports.
 pub fn copy_of(ports: &Ports) -> Result<Ports, AllocError>
     ensures { IfOk result (IsAlike (λ x y. y ≡ x) ports.now) }

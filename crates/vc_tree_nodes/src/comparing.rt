@@ -62,6 +62,23 @@ fn is_same_list<K: TKey, V: TValue + PartialEq, T: RadixNode<K, V>>(left: &[T], 
     }
 }
 
+/// Whether the trees bind equal keys, to equal values. Trees are canonical, so their maps are equal
+/// exactly where their nodes are the same.
+pub(crate) fn is_equal<K: TKey, V: TValue + PartialEq, T: RadixNode<K, V>>(
+    left: &T,
+    right: &T,
+) -> bool
+    ensures value { result ≡ same_tree K.cmp V.eq (T.tree left.now) (T.tree right.now) }
+    ensures same { IsTrue result ↔ IsSame K.cmp (λ v w. IsTrue (V.eq v w)) (T.tree left.now)
+        (T.tree right.now) }
+    ensures maps { IsTrue result ↔ IsEqualMap (λ v w. IsTrue (V.eq v w))
+        (lookup K.cmp (T.tree left.now)) (lookup K.cmp (T.tree right.now)) }
+{
+    canonical(left);
+    canonical(right);
+    is_same(left, right)
+}
+
 /// Trees are equal exactly where their maps are: they bind equal keys, to equal values.
 impl<K: TKey, V: TValue + PartialEq> PartialEq for RadixTree<K, V> {
     ghost eq = { same_tree K.cmp V.eq };
@@ -74,9 +91,7 @@ impl<K: TKey, V: TValue + PartialEq> PartialEq for RadixTree<K, V> {
         ensures maps { IsTrue result ↔ IsEqualMap (λ v w. IsTrue (V.eq v w)) (lookup K.cmp self.now)
             (lookup K.cmp other.now) }
     {
-        canonical(self);
-        canonical(other);
-        is_same(self, other)
+        is_equal(self, other)
     }
 }
 

@@ -1,11 +1,17 @@
 //! The shared flavour: several trees may hold the children of one node, and a write copies those
 //! that are shared.
 
-ghost use Rattle.std.specs.Prelude.{◌≡◌, IfOk};
+ghost use Rattle.std.specs.Prelude.{◌≡◌, ◌↔◌, IfOk, IsTrue};
+ghost use Rattle.vc_tree_model.specs.Equal.{same_tree};
+ghost use Rattle.vc_tree_model.specs.Map.{lookup, IsEqualMap};
+ghost use Rattle.vc_tree_model.specs.Same.{IsSame};
 ghost use Rattle.vc_tree_model.specs.Value.{IsKept};
 ghost use Rattle.vc_tree_nodes.specs.Children.{listed};
+ghost use Rattle.vc_tree_nodes.specs.SameTests.{same_tree-partial, same_tree-equivalence};
 
 use crate::children::{Parts, SharedChildren};
+use crate::comparing::is_equal;
+use crate::copying::clone_value;
 use crate::reading::{RadixNode, TKey, TValue, canonical};
 use smallvec::SmallVec;
 use std::alloc::{AllocError, Global};
@@ -122,16 +128,6 @@ fn some_unless_empty<T: Drop>(list: Rc<Vec<T>>) -> Option<Rc<Vec<T>>>
     if list.is_empty() { None } else { Some(list) }
 }
 
-/// A clone of the value, if there is one.
-fn clone_value<V: Clone>(value: &Option<V>) -> Result<Option<V>, AllocError>
-    ensures { IfOk result (IsKept V.is_clone value.now) }
-{
-    match value {
-        Some(v) => Ok(Some(v.clone()?)),
-        None => Ok(None),
-    }
-}
-
 /// One more owner of the children, if there are some.
 fn share<T: Drop>(children: &Option<Rc<T>>) -> Result<Option<Rc<T>>, AllocError>
     ensures { IfOk result (IsKept (λ a b. b.value ≡ a.value) children.now) }
@@ -156,7 +152,7 @@ impl<K: TKey + MadeWith<Global>, V: TValue> ArcRadixTree<K, V> {
         ensures canonical { IfOk result (IsCanonical K.cmp) }
     {
         let prefix = SmallVec::from_slice(*self.prefix.allocator(), self.prefix.as_slice())?;
-        let value = clone_value(&self.value)?;
+        let value = clone_value(self.value.as_ref())?;
         let children = share(&self.children)?;
         let copy = ArcRadixTree {
             prefix,
@@ -199,4 +195,24 @@ impl<K: TKey, V: TValue> RadixNode<K, V> for ArcRadixTree<K, V> {
     fn allocator(&self) -> Global {
         *self.prefix.allocator()
     }
+}
+
+/// Trees are equal exactly where their maps are, whether or not they share children.
+impl<K: TKey, V: TValue + PartialEq> PartialEq for ArcRadixTree<K, V> {
+    ghost eq = { same_tree K.cmp V.eq };
+
+    ghost laws = { same_tree-partial K.cmp V.eq K.total V.laws };
+
+    fn eq(&self, other: &Self) -> bool
+        ensures value { result ≡ same_tree K.cmp V.eq self.now other.now }
+        ensures same { IsTrue result ↔ IsSame K.cmp (λ v w. IsTrue (V.eq v w)) self.now other.now }
+        ensures maps { IsTrue result ↔ IsEqualMap (λ v w. IsTrue (V.eq v w)) (lookup K.cmp self.now)
+            (lookup K.cmp other.now) }
+    {
+        is_equal(self, other)
+    }
+}
+
+impl<K: TKey, V: TValue + Eq> Eq for ArcRadixTree<K, V> {
+    ghost laws = { same_tree-equivalence K.cmp V.eq K.total V.Eq.laws };
 }

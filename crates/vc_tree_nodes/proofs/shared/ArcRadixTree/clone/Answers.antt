@@ -7,4 +7,5 @@ pub invariant_of-copy : goal.invariant_of-copy
 invariant_of-copy g c =
     snapshot-canonical g.V.Clone.is_clone (λ r. r.value) (λ x. x.items) g.K.Ord.cmp c.self.inside.prefix.items
     c.in_ok-prefix.prefix.items c.self.inside.value c.in_ok-value.value c.self.inside.children c.in_ok-children.children
-    (c.in_ok-prefix.ensures.ok ∙ c.as_slice.ensures) c.in_ok-value.ensures c.in_ok-children.ensures c.self.invariant
+    (c.in_ok-prefix.ensures.ok ∙ c.as_slice.ensures) (rw c.as_ref.ensures.value at c.in_ok-value.ensures)
+    c.in_ok-children.ensures c.self.invariant

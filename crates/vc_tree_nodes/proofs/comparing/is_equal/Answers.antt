@@ -2,17 +2,17 @@
 use Rattle.std.specs.Prelude.{IsTrue}
 use Rattle.vc_tree_nodes.specs.SameTests.{same_tree-is}
 use Rattle.vc_tree_model.proofs.Uniqueness.{canonical-unique}
-use Rattle.vc_tree_nodes.proofs.comparing.RadixTreePartialEq.eq.Goals as goal
+use Rattle.vc_tree_nodes.proofs.comparing.is_equal.Goals as goal
 
 pub returns-clause-same : goal.returns-clause-same
 returns-clause-same g c =
     rw c.is_same.ensures
-    (same_tree-is g.K.Ord.cmp g.V.PartialEq.eq c.args.self.now c.args.other.now)
+    (same_tree-is g.K.Ord.cmp g.V.PartialEq.eq (g.T.RadixNode.tree c.args.left.now) (g.T.RadixNode.tree c.args.right.now))
 
 pub returns-clause-maps : goal.returns-clause-maps
 returns-clause-maps g c =
-    let t = c.args.self.now in
-    let u = c.args.other.now in
+    let t = (g.T.RadixNode.tree c.args.left.now) in
+    let u = (g.T.RadixNode.tree c.args.right.now) in
     let test = same_tree-is g.K.Ord.cmp g.V.PartialEq.eq t u in
     let one =
     canonical-unique g.K.Ord.cmp g.met.K.Ord.total (λ v w. IsTrue (g.V.PartialEq.eq v w)) t u
