@@ -50,6 +50,16 @@ pub fn forget_port(ports: &mut Ports, server: &[u8]) -> Result<Option<u32>, Allo
     ports.remove(server)
 }
 
+/// Takes the port of a server away where the ports are shared, and answers it.
+#[tactic(auto, using(vec_collections::specs::Exact::exactly))]
+pub fn forget_shared_port(ports: &mut SharedPorts, server: &[u8]) -> Result<Option<u32>, AllocError>
+    ensures had { IfOk result (λ had. had ≡ lookup nat_cmp ports.old server.now) }
+    ensures gone { OnOk result (IsWithout nat_cmp (λ x y. x ≡ y) server.now
+        (lookup nat_cmp ports.old) (lookup nat_cmp ports.new)) }
+{
+    ports.remove(server)
+}
+
 /// Takes the ports of all servers away whose names begin with the zone.
 pub fn forget_zone(ports: &mut Ports, zone: &[u8]) -> Result<(), AllocError>
     ensures gone { OnOk result (IsWithoutBelow nat_cmp (λ x y. x ≡ y) zone.now

@@ -1,5 +1,5 @@
 -- Where clones are equal to their sources, a shared tree keeps its values as a plain one does.
-use Rattle.std.specs.Prelude.{◌≡◌, List, Option, Some, None, refl}
+use Rattle.std.specs.Prelude.{◌≡◌, Bool, List, Option, Some, None, refl}
 use Rattle.std.specs.declared.cmp.Ordering.{Ordering}
 use Rattle.std.proofs.Common.{sym, ap, ◌∙◌, inl, inr}
 use Rattle.vc_tree_model.specs.Value.{IsKept, Copies, itself, cloned}
@@ -7,6 +7,7 @@ use Rattle.vc_tree_model.specs.Matches.{AreCopies, HaveOneSource}
 use Rattle.vc_tree_model.specs.Tree.{Tree, node}
 use Rattle.vc_tree_model.specs.Map.{lookup, IsEqualMap, IsInserted, HaveEqualMaps}
 use Rattle.vc_tree_model.specs.Snapshot.{IsSnapshot, same_copies}
+use Rattle.vc_tree_removal.specs.Without.{IsWithoutAll}
 
 module _ {V : Type 0} (is_clone : V → V → Type 0) (exact : (v w : V) → is_clone v w → w ≡ v) where
   -- a copy is the value itself
@@ -30,6 +31,13 @@ module _ {V : Type 0} (is_clone : V → V → Type 0) (exact : (v w : V) → is_
   kept-exact (Some v) None h = h
   kept-exact (Some v) (Some w) h = copies-exact h
 
+  -- so what is handed up is what was there
+  pub handed-exact : (v w : Option V) → IsKept (Copies is_clone) v w → w ≡ v
+  handed-exact None None h = refl
+  handed-exact None (Some w) h = absurd h
+  handed-exact (Some v) None h = absurd h
+  handed-exact (Some v) (Some w) h = ap (λ x. Some x) (sym (copies-exact h))
+
   module _ {K : Type 0} (cmp : K → K → Ordering) where
     -- a key is bound, and the others keep their very values
     pub inserted-exact : (key : List K) (value : V) (t u : Tree K V)
@@ -42,6 +50,14 @@ module _ {V : Type 0} (is_clone : V → V → Type 0) (exact : (v w : V) → is_
     -- two trees have the very same map
     pub equal_maps-exact : (t u : Tree K V) → HaveEqualMaps cmp (Copies is_clone) t u → HaveEqualMaps cmp (λ x y. x ≡ y) t u
     equal_maps-exact t u h = λ k. kept-exact (lookup cmp t k) (lookup cmp u k) (h k)
+
+  -- a map without some keys has the very values of the others
+  pub without-exact : {K : Type 0} (test : List K → Bool) (f g : List K → Option V)
+      → IsWithoutAll (Copies is_clone) test f g → IsWithoutAll (λ x y. x ≡ y) test f g
+  without-exact test f g h = record {
+    at = h.at;
+    others = λ k e. kept-exact (f k) (g k) (h.others k e);
+  }
 
   -- maps whose values have one source are one map
   pub maps-exact : {K : Type 0} (f g : List K → Option V) → IsEqualMap (HaveOneSource is_clone) f g
@@ -81,5 +97,15 @@ module _ {V : Type 0} (is_clone : V → V → Type 0) where
   maps-one_source f g h k = kept-one_source (f k) (g k) (h k)
 
 -- what calls cite where clones are exact
-pub ruleset exactly =
-    (copies-exact, are_copies-exact, one_source-exact, kept-exact, inserted-exact, equal_maps-exact, maps-exact, snapshot-exact)
+pub ruleset exactly = (
+  copies-exact,
+  are_copies-exact,
+  one_source-exact,
+  kept-exact,
+  handed-exact,
+  inserted-exact,
+  equal_maps-exact,
+  without-exact,
+  maps-exact,
+  snapshot-exact,
+)

@@ -1,6 +1,16 @@
 -- Where clones are equal to their sources, a shared tree keeps its values as a plain one does.
-pub use Rattle.vc_trees.specs.Exact.{copies-exact, are_copies-exact, one_source-exact, kept-exact, inserted-exact, equal_maps-exact, maps-exact, maps-one_source, snapshot-exact}
+pub use Rattle.vc_trees.specs.Exact.{copies-exact, are_copies-exact, one_source-exact, kept-exact, handed-exact, inserted-exact, equal_maps-exact, without-exact, maps-exact, maps-one_source, snapshot-exact}
 
 -- what calls cite where clones are exact
-pub ruleset exactly =
-    (copies-exact, are_copies-exact, one_source-exact, kept-exact, inserted-exact, equal_maps-exact, maps-exact, snapshot-exact)
+pub ruleset exactly = (
+  copies-exact,
+  are_copies-exact,
+  one_source-exact,
+  kept-exact,
+  handed-exact,
+  inserted-exact,
+  equal_maps-exact,
+  without-exact,
+  maps-exact,
+  snapshot-exact,
+)
