@@ -5,6 +5,7 @@ ghost use Rattle.std.specs.Ordering.{nat_cmp};
 ghost use Rattle.vec_collections.specs.Allowed.{is_allowed, IsRestricted};
 ghost use Rattle.vec_collections.specs.Map.{lookup, IsInserted};
 ghost use Rattle.vec_collections.specs.Tree.{no_tree};
+ghost use Rattle.vec_collections.specs.Without.{IsWithout};
 
 use std::alloc::{AllocError, Global};
 use vec_collections::path_filter::PathFilter;
@@ -34,6 +35,15 @@ pub fn rule_of(site: &Readable, folder: &[u8]) -> Option<bool>
     ensures { result ≡ lookup nat_cmp site.now folder.now }
 {
     site.rules().get(folder).copied()
+}
+
+/// Takes the rule that a folder has of its own back, and answers it.
+pub fn take_back(site: &mut Readable, folder: &[u8]) -> Result<Option<bool>, AllocError>
+    ensures rule { IfOk result (λ rule. rule ≡ lookup nat_cmp site.old folder.now) }
+    ensures gone { OnOk result (IsWithout nat_cmp (λ v w. v ≡ w) folder.now
+        (lookup nat_cmp site.old) (lookup nat_cmp site.new)) }
+{
+    site.remove(folder)
 }
 
 /// Drops the files that may not be read.

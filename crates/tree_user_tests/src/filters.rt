@@ -9,14 +9,21 @@ use std::cell::Cell;
 use vc_path_filter::path_filter::PathFilter;
 use vc_trees::radix_tree::{AbstractRadixTree, AbstractRadixTreeMut, ArcRadixTree, RadixTree};
 
-/// The filter of rules in their order, of which one that begins with `!` denies the rest of it.
-fn filter_of(alloc: Global, rules: &[&str]) -> Result<PathFilter<u8>, AllocError> {
+/// Does what a word says: one that begins with `!` denies the rest of it, and one that begins with
+/// `-` takes the rule of the rest out.
+fn obey(filter: &mut PathFilter<u8>, word: &str) -> Result<(), AllocError> {
+    match word.as_bytes().split_first() {
+        Some((b'!', path)) => filter.deny(path),
+        Some((b'-', path)) => filter.remove(path).map(|_| ()),
+        _ => filter.allow(word.as_bytes()),
+    }
+}
+
+/// The filter that these words leave, one after another.
+fn filter_of(alloc: Global, words: &[&str]) -> Result<PathFilter<u8>, AllocError> {
     let mut filter = PathFilter::new(alloc);
-    for rule in rules {
-        match rule.strip_prefix("!") {
-            Some(path) => filter.deny(path.as_bytes())?,
-            None => filter.allow(rule.as_bytes())?,
-        }
+    for word in words {
+        obey(&mut filter, word)?;
     }
     Ok(filter)
 }
@@ -28,7 +35,7 @@ type Row = (
     &'static [&'static str],
 );
 
-const ROWS: [Row; 6] = [
+const ROWS: [Row; 9] = [
     (&[], &[], &["a", ""]),
     (
         &["a", "!ab", "abcd"],
@@ -43,6 +50,13 @@ const ROWS: [Row; 6] = [
         &["a", "aa", "aab"],
         &["aac", "aacd"],
     ),
+    (
+        &["a", "!ab", "abcd", "-ab"],
+        &["a", "ab", "abc", "abcd"],
+        &["b", ""],
+    ),
+    (&["a", "!ab", "-a", "-abc"], &[], &["a", "ab", "abc"]),
+    (&["!a", "-a", "a"], &["a", "ab"], &[""]),
 ];
 
 /// How many of the paths the filter of the rules allows.
@@ -187,6 +201,36 @@ fn a_snapshot_of_rules_stays(rt: HostRuntime) {
         &answers,
         &Ok((true, false, true, Some(false))),
     );
+}
+
+/// Whether filters have equal rules that came to them in other ways, and whether one has those of
+/// another that denies one path more.
+fn compare_rules(alloc: Global) -> Result<(bool, bool), AllocError> {
+    let first = filter_of(alloc, &["a", "!ab"])?;
+    let second = filter_of(alloc, &["b", "!ab", "!a", "-b", "a"])?;
+    let third = filter_of(alloc, &["a", "!ab", "!ac"])?;
+    Ok((
+        first.rules() == second.rules(),
+        first.rules() == third.rules(),
+    ))
+}
+
+#[test]
+fn rules_are_compared(rt: HostRuntime) {
+    let answers = compare_rules(rt.alloc());
+    same(&rt, &"the rules", &answers, &Ok((true, false)));
+}
+
+/// How the filter that allows `a` is shown.
+fn shown(alloc: Global) -> Result<String, AllocError> {
+    let filter = filter_of(alloc, &["a"])?;
+    format!(in alloc; "{:?}", filter)
+}
+
+#[test]
+fn filters_are_shown(rt: HostRuntime) {
+    let wanted = "PathFilter(ArcRadixTree { prefix: [97], value: Some(true), children: [] })";
+    reads(&rt, &"the filter", shown(rt.alloc()), wanted);
 }
 
 /// Rules, the keys of a tree, each bound to its place in the list, and the pairs that the rules

@@ -10,14 +10,17 @@
 //! assert!(rt; filter.check(b"ac") && !filter.check(b"abc"));
 //! ```
 
-ghost use Rattle.std.specs.Prelude.{◌≡◌, true, false, OnOk, OnErr};
+ghost use Rattle.std.specs.Prelude.{◌≡◌, Ok, None, true, false, IfOk, OnOk, OnErr};
 ghost use Rattle.vc_path_filter.specs.Allowed.{is_allowed, IsRestricted};
 ghost use Rattle.vc_tree_model.specs.Canonical.{IsCanonical};
 ghost use Rattle.vc_tree_model.specs.Map.{lookup, HaveEqualMaps, IsInserted};
 ghost use Rattle.vc_tree_model.specs.Tree.{no_tree};
+ghost use Rattle.vc_tree_removal.specs.Without.{IsWithout};
 
 use std::alloc::{AllocError, Global};
 use std::default::MadeWith;
+use std::fmt;
+use std::fmt::Debug;
 use std::marker::Model;
 use vc_tree_nodes::reading::canonical;
 use vc_trees::radix_tree::{AbstractRadixTree, AbstractRadixTreeMut, ArcRadixTree, TKey, TValue};
@@ -80,6 +83,24 @@ impl<K: TKey + MadeWith<Global>> PathFilter<K> {
         ensures canonical { IsCanonical K.cmp self.new }
     {
         self.set(path, false)
+    }
+
+    /// Takes the rule of a path out, and answers what it said, or none where the path had no rule of
+    /// its own. The path and what lies below it are then decided by what longer and shorter rules
+    /// say.
+    ///
+    /// A path without a rule costs the look-up alone, and takes no memory. Fails only where memory
+    /// is refused; each path then has the rule that it had.
+    pub fn remove(&mut self, path: &[K]) -> Result<Option<bool>, AllocError>
+        ensures old { IfOk result (λ rule. rule ≡ lookup K.cmp self.old path.now) }
+        ensures ok { OnOk result (IsWithout K.cmp (λ v w. v ≡ w) path.now (lookup K.cmp self.old)
+            (lookup K.cmp self.new)) }
+        ensures absent { lookup K.cmp self.old path.now ≡ None
+            → (result ≡ Ok None) × (self.new ≡ self.old) }
+        ensures err { OnErr result (HaveEqualMaps K.cmp (λ v w. v ≡ w) self.old self.new) }
+        ensures canonical { IsCanonical K.cmp self.new }
+    {
+        self.rules.remove(path)
     }
 
     /// Sets the rule of a path.
@@ -151,5 +172,12 @@ impl<K: TKey + MadeWith<Global>> Clone for PathFilter<K> {
         Ok(PathFilter {
             rules: self.rules.clone()?,
         })
+    }
+}
+
+/// Shows the tree of the rules.
+impl<K: TKey> Debug for PathFilter<K> {
+    fn fmt<W: fmt::Write>(&self, f: &mut fmt::Formatter<W>) -> fmt::Result {
+        f.debug_tuple("PathFilter").field(&self.rules).finish()
     }
 }
