@@ -11,6 +11,7 @@ mod lists;
 mod maps;
 #[cfg(counted)]
 mod memory;
+mod rows;
 mod sets;
 mod trees;
 

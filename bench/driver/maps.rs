@@ -2,6 +2,7 @@
 
 use crate::clock::{Side, Times};
 use crate::data::{Data, Numbers};
+use crate::rows::{Case, Operation, Row, time_cases};
 use std::cmp::Ordering;
 use std::collections::{BTreeMap, HashMap};
 use std::hint::black_box;
@@ -18,67 +19,37 @@ unsafe extern "C" {
     ) -> u64;
 }
 
-/// What a row of maps does: its name, its number in the library, and whether one operation is a
-/// look-up or an insert of one key.
-struct MapRow {
-    name: &'static str,
-    number: u64,
-    one_by_one: bool,
-}
-
-const MAP_ROWS: [MapRow; 8] = [
-    MapRow { name: "outer join", number: 0, one_by_one: false },
-    MapRow { name: "inner join", number: 1, one_by_one: false },
-    MapRow { name: "clone, outer join in place", number: 2, one_by_one: false },
-    MapRow { name: "clone, inner join in place", number: 3, one_by_one: false },
-    MapRow { name: "clone of a map", number: 4, one_by_one: false },
-    MapRow { name: "get of a map", number: 5, one_by_one: true },
-    MapRow { name: "insert into a map, greatest first", number: 6, one_by_one: true },
-    MapRow { name: "clone, remove key by key", number: 7, one_by_one: true },
+const MAP_ROWS: [Row; 8] = [
+    Row::of("outer join", 0, Operation::Whole),
+    Row::of("inner join", 1, Operation::Whole),
+    Row::of("clone, outer join in place", 2, Operation::Whole),
+    Row::of("clone, inner join in place", 3, Operation::Whole),
+    Row::of("clone of a map", 4, Operation::Whole),
+    Row::of("get of a map", 5, Operation::Single),
+    Row::of("insert into a map, greatest first", 6, Operation::Moving),
+    Row::of("clone, remove key by key", 7, Operation::Moving),
 ];
 
 /// The row over total maps.
-const TOTAL: MapRow =
-    MapRow { name: "greatest, key by key, of total maps", number: 0, one_by_one: false };
+const TOTAL: Row = Row::of("greatest, key by key, of total maps", 0, Operation::Whole);
 
 const ALL: usize = MAP_ROWS.len();
 const JOINS: usize = 2;
 
-/// The data and sizes, and how many of the rows above are timed on them.
-const CASES: [(Data, (usize, usize), usize); 18] = [
-    (Data::Random, (4, 4), ALL),
-    (Data::Random, (8, 8), ALL),
-    (Data::Random, (64, 64), ALL),
-    (Data::Random, (1000, 1000), ALL),
-    (Data::Random, (100_000, 100_000), ALL),
-    (Data::Random, (1000, 100), JOINS),
-    (Data::Random, (1, 1000), ALL),
-    (Data::Random, (1000, 1), ALL),
-    (Data::Random, (10, 100_000), ALL),
-    (Data::Random, (1, 100_000), JOINS),
-    (Data::Random, (100, 100_000), JOINS),
-    (Data::Random, (1000, 100_000), JOINS),
-    (Data::Random, (10_000, 100_000), JOINS),
-    (Data::Regular, (8, 8), JOINS),
-    (Data::Regular, (64, 64), JOINS),
-    (Data::Regular, (1000, 1000), JOINS),
-    (Data::Regular, (100_000, 100_000), JOINS),
-    (Data::Clustered, (1000, 100), JOINS),
+const CASES: [Case; 6] = [
+    (Data::Random, ALL, &[(4, 4), (8, 8), (64, 64), (1000, 1000), (100_000, 100_000)]),
+    (Data::Random, JOINS, &[(1000, 100)]),
+    (Data::Random, ALL, &[(1, 1000), (1000, 1), (10, 100_000)]),
+    (Data::Random, JOINS, &[(1, 100_000), (100, 100_000), (1000, 100_000), (10_000, 100_000)]),
+    (Data::Regular, JOINS, &[(8, 8), (64, 64), (1000, 1000), (100_000, 100_000)]),
+    (Data::Clustered, JOINS, &[(1000, 100)]),
 ];
 
 /// Prints the table of maps.
 pub fn print(only: &str) {
     println!("| row | data | sizes | this library | BTreeMap | HashMap | sorted `Vec` by hand |");
     println!("|---|---|---|---|---|---|---|");
-    for (data, sizes, count) in CASES {
-        let wanted =
-            |row: &&MapRow| row.name.contains(only) && (row.number < 6 || sizes.1 <= 10_000);
-        let rows: Vec<&MapRow> = MAP_ROWS[..count].iter().filter(wanted).collect();
-        let total = Some(&TOTAL).filter(wanted).filter(|_| count == ALL);
-        if !rows.is_empty() || total.is_some() {
-            time_maps(&rows, total, &Numbers::new(data, sizes));
-        }
-    }
+    time_cases(only, &MAP_ROWS, &TOTAL, &CASES, time_maps);
 }
 
 type Pairs = [(u64, u64)];
@@ -101,7 +72,7 @@ impl Maps {
 }
 
 /// Rows over pairs of maps, and the one of total maps.
-fn time_maps(rows: &[&MapRow], total: Option<&MapRow>, data: &Numbers) {
+fn time_maps(rows: &[&Row], total: Option<&Row>, data: &Numbers) {
     let maps: Vec<Maps> = data.cut().map(|(a, b)| Maps::new(a, b)).collect();
     let (left, right, m, n) = (&data.left, &data.right, data.m, data.n);
     let (a, b, a_len, b_len) = (left.as_ptr(), right.as_ptr(), left.len(), right.len());
@@ -133,9 +104,8 @@ fn summed(maps: &[Maps], work: impl Fn(&Maps) -> u64) -> u64 {
     maps.iter().map(work).sum()
 }
 
-fn print_row(row: &MapRow, data: &Numbers, sides: &[Side]) {
-    let operations = data.pairs() * if row.one_by_one { data.n } else { 1 };
-    let cells = Times::of(operations, sides).cells().join(" | ");
+fn print_row(row: &Row, data: &Numbers, sides: &[Side]) {
+    let cells = Times::of(row.operations(data), sides).cells().join(" | ");
     println!("| {} | {} | {} | {cells} |", row.name, data.data.name(), data.sizes());
 }
 

@@ -3,6 +3,7 @@
 use crate::clock::{Side, Times};
 use crate::data::{Data, Keys, Numbers};
 use crate::lists::{Galloping, Plain, copied, fresh, length, work};
+use crate::rows::{Case, Operation, Row, time_cases};
 use std::collections::BTreeSet;
 use std::hint::black_box;
 
@@ -28,28 +29,20 @@ unsafe extern "C" {
     ) -> u64;
 }
 
-/// What a row of sets does: its name, its number in the library, and whether one operation is a
-/// look-up or an insert of one element.
-struct SetRow {
-    name: &'static str,
-    number: u64,
-    one_by_one: bool,
-}
-
-const SET_ROWS: [SetRow; 13] = [
-    SetRow { name: "union", number: 0, one_by_one: false },
-    SetRow { name: "intersection", number: 1, one_by_one: false },
-    SetRow { name: "difference", number: 2, one_by_one: false },
-    SetRow { name: "symmetric difference", number: 3, one_by_one: false },
-    SetRow { name: "clone, union in place", number: 4, one_by_one: false },
-    SetRow { name: "clone, intersection in place", number: 5, one_by_one: false },
-    SetRow { name: "clone", number: 6, one_by_one: false },
-    SetRow { name: "subset", number: 7, one_by_one: false },
-    SetRow { name: "disjoint", number: 8, one_by_one: false },
-    SetRow { name: "contains", number: 9, one_by_one: true },
-    SetRow { name: "insert, greatest first", number: 10, one_by_one: true },
-    SetRow { name: "first of a range", number: 11, one_by_one: true },
-    SetRow { name: "from_unsorted", number: FROM_UNSORTED, one_by_one: true },
+const SET_ROWS: [Row; 13] = [
+    Row::of("union", 0, Operation::Whole),
+    Row::of("intersection", 1, Operation::Whole),
+    Row::of("difference", 2, Operation::Whole),
+    Row::of("symmetric difference", 3, Operation::Whole),
+    Row::of("clone, union in place", 4, Operation::Whole),
+    Row::of("clone, intersection in place", 5, Operation::Whole),
+    Row::of("clone", 6, Operation::Whole),
+    Row::of("subset", 7, Operation::Whole),
+    Row::of("disjoint", 8, Operation::Whole),
+    Row::of("contains", 9, Operation::Single),
+    Row::of("insert, greatest first", 10, Operation::Moving),
+    Row::of("first of a range", 11, Operation::Single),
+    Row::of("from_unsorted", FROM_UNSORTED, Operation::Single),
 ];
 
 /// The row whose lists are in any order.
@@ -57,45 +50,32 @@ const FROM_UNSORTED: u64 = 12;
 
 /// The union of a set with the complement of another one: all but what the other one alone has. The
 /// others make the elements that it lacks, a difference.
-const TOTAL: SetRow = SetRow { name: "union with a complement", number: 2, one_by_one: false };
+const TOTAL: Row = Row::of("union with a complement", 2, Operation::Whole);
 
 const ALL: usize = SET_ROWS.len();
 const IN_PLACE_TOO: usize = 6;
 const FRESH: usize = 4;
 const UNION_AND_INTERSECTION: usize = 2;
 
-/// The data and sizes, and how many of the rows above are timed on them.
-const CASES: [(Data, (usize, usize), usize); 30] = [
-    (Data::Random, (4, 4), ALL),
-    (Data::Random, (8, 8), ALL),
-    (Data::Random, (64, 64), ALL),
-    (Data::Random, (1000, 1000), ALL),
-    (Data::Random, (100_000, 100_000), ALL),
-    (Data::Random, (1_000_000, 1_000_000), FRESH),
-    (Data::Random, (1000, 500), FRESH),
-    (Data::Random, (1000, 100), FRESH),
-    (Data::Random, (1, 1000), ALL),
-    (Data::Random, (1000, 1), ALL),
-    (Data::Random, (10, 100_000), ALL),
-    (Data::Random, (100_000, 1000), FRESH),
-    (Data::Random, (1, 100_000), UNION_AND_INTERSECTION),
-    (Data::Random, (100, 100_000), UNION_AND_INTERSECTION),
-    (Data::Random, (1000, 100_000), UNION_AND_INTERSECTION),
-    (Data::Random, (10_000, 100_000), UNION_AND_INTERSECTION),
-    (Data::Regular, (8, 8), IN_PLACE_TOO),
-    (Data::Regular, (64, 64), IN_PLACE_TOO),
-    (Data::Regular, (1000, 1000), IN_PLACE_TOO),
-    (Data::Regular, (100_000, 100_000), IN_PLACE_TOO),
-    (Data::Regular, (1_000_000, 1_000_000), FRESH),
-    (Data::Runs, (1000, 1000), FRESH),
-    (Data::Runs, (100_000, 100_000), FRESH),
-    (Data::Runs, (1_000_000, 1_000_000), FRESH),
-    (Data::Disjoint, (8, 8), FRESH),
-    (Data::Disjoint, (64, 64), FRESH),
-    (Data::Disjoint, (1000, 1000), FRESH),
-    (Data::Disjoint, (100_000, 100_000), FRESH),
-    (Data::Disjoint, (1_000_000, 1_000_000), FRESH),
-    (Data::Clustered, (1000, 100), FRESH),
+const CASES: [Case; 10] = [
+    (Data::Random, ALL, &[(4, 4), (8, 8), (64, 64), (1000, 1000), (100_000, 100_000)]),
+    (Data::Random, FRESH, &[(1_000_000, 1_000_000), (1000, 500), (1000, 100)]),
+    (Data::Random, ALL, &[(1, 1000), (1000, 1), (10, 100_000)]),
+    (Data::Random, FRESH, &[(100_000, 1000)]),
+    (
+        Data::Random,
+        UNION_AND_INTERSECTION,
+        &[(1, 100_000), (100, 100_000), (1000, 100_000), (10_000, 100_000)],
+    ),
+    (Data::Regular, IN_PLACE_TOO, &[(8, 8), (64, 64), (1000, 1000), (100_000, 100_000)]),
+    (Data::Regular, FRESH, &[(1_000_000, 1_000_000)]),
+    (Data::Runs, FRESH, &[(1000, 1000), (100_000, 100_000), (1_000_000, 1_000_000)]),
+    (
+        Data::Disjoint,
+        FRESH,
+        &[(8, 8), (64, 64), (1000, 1000), (100_000, 100_000), (1_000_000, 1_000_000)],
+    ),
+    (Data::Clustered, FRESH, &[(1000, 100)]),
 ];
 
 /// Prints the table of sets.
@@ -105,17 +85,14 @@ pub fn print(only: &str) {
          | galloping | memcpy | flat_set | BTreeSet |"
     );
     println!("|---|---|---|---|---|---|---|---|---|---|---|");
-    for (data, sizes, count) in CASES {
-        let wanted =
-            |row: &&SetRow| row.name.contains(only) && (row.number != 10 || sizes.1 <= 10_000);
-        let rows: Vec<&SetRow> = SET_ROWS[..count].iter().filter(wanted).collect();
-        let total = Some(&TOTAL).filter(wanted).filter(|_| count == ALL);
-        if !rows.is_empty() || total.is_some() {
-            time_numbers(&rows, total, &Numbers::new(data, sizes));
-        }
-        if !rows.is_empty() && data == Data::Random && sizes.0 * sizes.1 <= 1_000_000 {
-            time_words(&rows, &Numbers::new(data, sizes));
-        }
+    time_cases(only, &SET_ROWS, &TOTAL, &CASES, time_sets);
+}
+
+/// Rows over pairs of sets of numbers, and those of words where the sets are not large.
+fn time_sets(rows: &[&Row], total: Option<&Row>, data: &Numbers) {
+    time_numbers(rows, total, data);
+    if !rows.is_empty() && data.data == Data::Random && data.m * data.n <= 1_000_000 {
+        time_words(rows, data);
     }
 }
 
@@ -165,7 +142,7 @@ impl<T: Ord + Clone> Pairs<T> {
 }
 
 /// Rows over pairs of sets of numbers, and the one of total sets.
-fn time_numbers(rows: &[&SetRow], total: Option<&SetRow>, data: &Numbers) {
+fn time_numbers(rows: &[&Row], total: Option<&Row>, data: &Numbers) {
     let pairs = Pairs::new(data.cut().map(|(a, b)| (a.to_vec(), b.to_vec())).collect());
     let mixed = data.with_right_lists_mixed();
     let in_any_order = Pairs::new(mixed.cut().map(|(a, b)| (a.to_vec(), b.to_vec())).collect());
@@ -220,7 +197,7 @@ fn flat(_row: u64, _data: &Numbers) -> Side<'_> {
 }
 
 /// Rows over pairs of sets of words.
-fn time_words(rows: &[&SetRow], data: &Numbers) {
+fn time_words(rows: &[&Row], data: &Numbers) {
     let (left, right) = (Keys::words(&data.left), Keys::words(&data.right));
     let cut = |keys: &Keys, n: usize| keys.texts().chunks(n).map(<[String]>::to_vec).collect();
     let (lefts, rights): (Vec<_>, Vec<_>) = (cut(&left, data.m), cut(&right, data.n));
@@ -274,9 +251,8 @@ fn collected<T: Ord + Clone>(list: &[T]) -> u64 {
     black_box(list.iter().cloned().collect::<BTreeSet<T>>()).len() as u64
 }
 
-fn print_row(row: &SetRow, elements: &str, data: &Numbers, sides: &[Side; 6]) {
-    let operations = data.pairs() * if row.one_by_one { data.n } else { 1 };
-    let times = Times::of(operations, sides);
+fn print_row(row: &Row, elements: &str, data: &Numbers, sides: &[Side; 6]) {
+    let times = Times::of(row.operations(data), sides);
     let mut cells = times.cells();
     cells.insert(1, times.ratio(0, 1));
     let head = format!("| {} | {elements} | {} | {}", row.name, data.data.name(), data.sizes());

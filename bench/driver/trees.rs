@@ -228,84 +228,6 @@ impl StdMaps {
         self.list.iter().filter_map(&mut remove).sum()
     }
 
-    /// The work of a row on a `BTreeMap`.
-    fn by_btree(&self, row: u64) -> u64 {
-        match row {
-            0 | 13 => built(numbered::<BTreeMap<Key, u64>>(&self.list).get(&self.list[0])),
-            12 => {
-                let mut map = BTreeMap::new();
-                for (key, number) in self.list.iter().zip(0..) {
-                    map.insert(key.clone(), number);
-                }
-                built(map.get(&self.list[0]))
-            }
-            1 => self.finds(|key| self.sorted.get(key)),
-            2 => {
-                let mut copy = self.sorted.clone();
-                copy.insert(self.list[0].clone(), 7);
-                black_box(copy);
-                1
-            }
-            3 => self.sorted.iter().map(|(key, value)| value + key.len() as u64).sum(),
-            10 => self.sorted.iter().map(|(key, value)| value + bytes_of(key)).sum(),
-            11 => self.under().map(|(key, value)| value + bytes_of(key)).sum(),
-            4 => self.sorted.values().sum(),
-            5 => cloned(self.sorted.iter()),
-            6 => {
-                let mut both = self.sorted.clone();
-                for (key, value) in &self.other_sorted {
-                    both.entry(key.clone()).or_insert(*value);
-                }
-                built(both.get(&self.asked[0]))
-            }
-            8 => self.longest(|key| self.sorted.get(key)),
-            9 => {
-                let mut map: BTreeMap<Key, u64> = numbered(&self.list);
-                self.removed(|key| map.remove(key))
-            }
-            _ => self.under().map(|(key, value)| value + key.len() as u64).sum(),
-        }
-    }
-
-    /// The work of a row on a `HashMap`, which has no order: what a row walks comes in any.
-    fn by_hash(&self, row: u64) -> u64 {
-        match row {
-            0 | 13 => built(numbered::<HashMap<Key, u64>>(&self.list).get(&self.list[0])),
-            12 => {
-                let mut map = HashMap::new();
-                for (key, number) in self.list.iter().zip(0..) {
-                    map.insert(key.clone(), number);
-                }
-                built(map.get(&self.list[0]))
-            }
-            1 => self.finds(|key| self.hashed.get(key)),
-            2 => {
-                let mut copy = self.hashed.clone();
-                copy.insert(self.list[0].clone(), 7);
-                black_box(copy);
-                1
-            }
-            3 => self.hashed.iter().map(|(key, value)| value + key.len() as u64).sum(),
-            10 => self.hashed.iter().map(|(key, value)| value + bytes_of(key)).sum(),
-            4 => self.hashed.values().sum(),
-            5 => cloned(self.hashed.iter()),
-            6 => {
-                let mut both = self.hashed.clone();
-                for (key, value) in &self.other_hashed {
-                    both.entry(key.clone()).or_insert(*value);
-                }
-                built(both.get(&self.asked[0]))
-            }
-            8 => self.longest(|key| self.hashed.get(key)),
-            9 => {
-                let mut map: HashMap<Key, u64> = numbered(&self.list);
-                self.removed(|key| map.remove(key))
-            }
-            11 => self.under_unordered().map(|(key, value)| value + bytes_of(key)).sum(),
-            _ => self.under_unordered().map(|(key, value)| value + key.len() as u64).sum(),
-        }
-    }
-
     /// The pairs whose keys begin with the first key that is asked for, by a look at each.
     fn under_unordered(&self) -> impl Iterator<Item = (&Key, &u64)> {
         self.hashed.iter().filter(|(key, _)| key.starts_with(&self.asked[0]))
@@ -353,6 +275,55 @@ impl StdMaps {
         }
     }
 }
+
+/// The work of a row on one kind of std's maps: by the fields that are such maps, and the pairs
+/// whose keys begin with the first key that is asked for. A map without an order is walked in any.
+macro_rules! by_map {
+    ($work:ident, $map:ident, $own:ident, $other:ident, $under:ident) => {
+        impl StdMaps {
+            fn $work(&self, row: u64) -> u64 {
+                match row {
+                    0 | 13 => built(numbered::<$map<Key, u64>>(&self.list).get(&self.list[0])),
+                    12 => {
+                        let mut map = $map::new();
+                        for (key, number) in self.list.iter().zip(0..) {
+                            map.insert(key.clone(), number);
+                        }
+                        built(map.get(&self.list[0]))
+                    }
+                    1 => self.finds(|key| self.$own.get(key)),
+                    2 => {
+                        let mut copy = self.$own.clone();
+                        copy.insert(self.list[0].clone(), 7);
+                        black_box(copy);
+                        1
+                    }
+                    3 => self.$own.iter().map(|(key, value)| value + key.len() as u64).sum(),
+                    10 => self.$own.iter().map(|(key, value)| value + bytes_of(key)).sum(),
+                    11 => self.$under().map(|(key, value)| value + bytes_of(key)).sum(),
+                    4 => self.$own.values().sum(),
+                    5 => cloned(self.$own.iter()),
+                    6 => {
+                        let mut both = self.$own.clone();
+                        for (key, value) in &self.$other {
+                            both.entry(key.clone()).or_insert(*value);
+                        }
+                        built(both.get(&self.asked[0]))
+                    }
+                    8 => self.longest(|key| self.$own.get(key)),
+                    9 => {
+                        let mut map: $map<Key, u64> = numbered(&self.list);
+                        self.removed(|key| map.remove(key))
+                    }
+                    _ => self.$under().map(|(key, value)| value + key.len() as u64).sum(),
+                }
+            }
+        }
+    };
+}
+
+by_map!(by_btree, BTreeMap, sorted, other_sorted, under);
+by_map!(by_hash, HashMap, hashed, other_hashed, under_unordered);
 
 /// The sum of the bytes of a key, all of which a walk reads that does something with keys.
 fn bytes_of(key: &Key) -> u64 {
