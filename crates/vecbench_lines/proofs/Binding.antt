@@ -1,16 +1,15 @@
 -- Trees into which keys are inserted one by one.
 use Rattle.std.proofs.Common.{◌≡◌, ◌∙◌, ap, refl, sym, subst, ℕ, ◌||◌, Bool, true, false, List, [], ◌∷◌, ◌++◌, Option}
 use Rattle.std.proofs.Common.{Some, None, IsTrue, IsFalse}
-use Rattle.std.proofs.lemmas.List.{append_assoc}
 use Rattle.std.specs.List.{list_any}
-use Rattle.std.specs.Option.{is_some, option_map, option_and_then}
+use Rattle.std.specs.Option.{is_some}
 use Rattle.std.specs.Ordering.{nat_cmp}
 use Rattle.vec_collections.specs.Canonical.{IsCanonical}
 use Rattle.vec_collections.specs.Key.{same_key}
 use Rattle.vec_collections.specs.Map.{lookup, IsInserted}
 use Rattle.vec_collections.specs.Tree.{Tree, no_tree}
 use Rattle.vec_collections.specs.Value.{IsKept}
-use Rattle.vecbench_lines.specs.Keys.{key_in, keys_in_all, HasKeys}
+use Rattle.vecbench_lines.specs.Keys.{HasKeys}
 
 -- the order of three tests does not matter
 or-swap : (a b c : Bool) → (a || (b || c)) ≡ (b || (a || c))
@@ -47,17 +46,6 @@ HasKeys-inserted {V} {keeps} keys key value t u inserted canonical has =
           ap (λ b. same_key nat_cmp key k || b) (has.binds k) ∙ sym (any-snoc (λ j. same_key nat_cmp j k) keys key);
     }
 
--- what is read stands behind what was read
-pub key-behind : {X : Type 0} (done : List X) (key : X) (o : Option (List X))
-    → option_map (λ ks. (done ++ key ∷ []) ++ ks) o ≡ option_map (λ ks. done ++ ks) (option_map (λ ks. key ∷ ks) o)
-key-behind done key None = refl
-key-behind done key (Some ks) = ap Some (append_assoc done (key ∷ []) ks)
-
--- nothing stands before the first
-pub keys-none : {X : Type 0} (o : Option (List X)) → option_map (λ ks. [] ++ ks) o ≡ o
-keys-none None = refl
-keys-none (Some ks) = refl
-
 -- the empty tree has no keys
 no-keys : (V : Type 0) (k : List ℕ) → is_some (lookup nat_cmp (no_tree {V = V}) k) ≡ false
 no-keys V [] = refl
@@ -65,11 +53,3 @@ no-keys V (x ∷ k) = refl
 
 pub HasKeys-empty : {V : Type 0} (t : Tree ℕ V) → t ≡ no_tree → HasKeys [] t
 HasKeys-empty {V} t is = subst (λ u. HasKeys [] u) (sym is) (record { canonical = (tt, tt); binds = no-keys V })
-
--- the keys of the parts that are left, where one more was read
-pub keys-read : (done : List (List ℕ)) (part key : List ℕ) (parts : List (List ℕ)) → key_in part ≡ Some key
-    → option_map (λ ks. (done ++ key ∷ []) ++ ks) (keys_in_all parts) ≡ option_map (λ ks. done ++ ks) (keys_in_all (part ∷ parts))
-keys-read done part key parts is =
-    key-behind done key (keys_in_all parts)
-    ∙ ap (λ k. option_map (λ ks. done ++ ks)
-    (option_and_then (λ j. option_map (λ ks. j ∷ ks) (keys_in_all parts)) k)) (sym is)

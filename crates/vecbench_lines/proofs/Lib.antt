@@ -7,6 +7,7 @@ mod Answering
 mod Replying
 mod Chunks
 mod Joining
+mod Members
 mod Binding
 mod Shaping
 mod Ruling

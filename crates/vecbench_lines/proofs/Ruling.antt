@@ -1,16 +1,11 @@
 -- Filters to which rules are added one by one.
---     collected-empty, collected-inserted        the rules of a filter, of none and with one more
---     rules-read        the rules of the parts that are left, where one more was read
 use Rattle.std.proofs.Common.{◌≡◌, ◌∙◌, ap, refl, sym, ℕ, Bool, true, false, cond, List, [], ◌∷◌, ◌++◌, Option, Some, None}
-use Rattle.std.specs.Option.{option_map, option_and_then}
 use Rattle.std.specs.Ordering.{nat_cmp}
 use Rattle.vec_collections.specs.Key.{same_key}
 use Rattle.vec_collections.specs.Map.{lookup, or_else, IsInserted}
 use Rattle.vec_collections.specs.Tree.{Tree, no_tree}
 use Rattle.vec_collections.specs.TreePairs.{last_bound, IsCollected}
 use Rattle.vec_collections.specs.Value.{IsKept}
-use Rattle.vecbench_lines.specs.Rules.{rule_in, rules_in_all}
-use Rattle.vecbench_lines.proofs.Binding.{key-behind}
 
 -- the empty tree binds nothing
 pub collected-empty : (t : Tree ℕ Bool) → t ≡ no_tree → IsCollected nat_cmp [] t
@@ -50,13 +45,3 @@ collected-inserted rules key allowed t u put has = λ k. by k (same_key nat_cmp 
     by k false e =
         kept-same (lookup nat_cmp t k) (lookup nat_cmp u k) (put.others k e) ∙ has k
         ∙ sym (behind-others rules key allowed k false e)
-
--- the rules of the parts that are left, where one more was read
-pub rules-read : (done : List (List ℕ × Bool)) (part : List ℕ) (rule : List ℕ × Bool) (parts : List (List ℕ))
-    → rule_in part ≡ Some rule
-    → option_map (λ rs. (done ++ rule ∷ []) ++ rs) (rules_in_all parts)
-    ≡ option_map (λ rs. done ++ rs) (rules_in_all (part ∷ parts))
-rules-read done part rule parts is =
-    key-behind done rule (rules_in_all parts)
-    ∙ ap (λ r. option_map (λ rs. done ++ rs)
-    (option_and_then (λ j. option_map (λ rs. j ∷ rs) (rules_in_all parts)) r)) (sym is)

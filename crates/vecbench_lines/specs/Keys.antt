@@ -1,30 +1,24 @@
 -- What a word says as a key or as a list of keys, and which keys a tree has.
-use Rattle.std.specs.Prelude.{◌≡◌, ℕ, ◌&&◌, if◌then◌else◌, List, [], ◌∷◌, codes, Option, None, Some}
+use Rattle.std.specs.Prelude.{◌≡◌, ℕ, ◌&&◌, if◌then◌else◌, List, [], codes, Option, None, Some}
 use Rattle.std.specs.Char.{is_ascii_lowercase}
 use Rattle.std.specs.List.{list_all, list_any}
-use Rattle.std.specs.Option.{option_map, option_and_then, is_some}
+use Rattle.std.specs.Option.{is_some}
 use Rattle.std.specs.Ordering.{nat_cmp}
 use Rattle.std.specs.Str.{bytes_eq}
 use Rattle.vec_collections.specs.Canonical.{IsCanonical}
 use Rattle.vec_collections.specs.Key.{same_key}
 use Rattle.vec_collections.specs.Map.{lookup}
 use Rattle.vec_collections.specs.Tree.{Tree}
-use Rattle.vecbench_lines.specs.declared.parts.Separator.TheVariants.{Comma}
-use Rattle.vecbench_lines.specs.Parts.{parts_of, is_some_text}
+use Rattle.vecbench_lines.specs.Parts.{is_some_text, members_in}
 
 -- the key of a word: a dot is the empty key, and else there are letters from a to z alone
 abbrev pub key_in : List ℕ → Option (List ℕ)
 key_in word =
     if bytes_eq word (codes ".") then Some [] else if is_some_text word && list_all is_ascii_lowercase word then Some word else None
 
--- the keys of some words, where each of them has one
-abbrev pub keys_in_all : List (List ℕ) → Option (List (List ℕ))
-keys_in_all [] = Some []
-keys_in_all (word ∷ words) = option_and_then (λ key. option_map (λ keys. key ∷ keys) (keys_in_all words)) (key_in word)
-
 -- the keys of a list: none in `-`, and else those between the commas
 abbrev pub keys_in : List ℕ → Option (List (List ℕ))
-keys_in word = if bytes_eq word (codes "-") then Some [] else keys_in_all (parts_of Comma word)
+keys_in word = members_in key_in word
 
 -- the tree is canonical, and binds exactly the keys of the list
 pub record HasKeys {V : Type 0} (keys : List (List ℕ)) (tree : Tree ℕ V) : Type 0 where

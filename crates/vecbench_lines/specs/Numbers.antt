@@ -1,25 +1,18 @@
 -- What a word says as a number or as a list of numbers, and how a list is printed.
 use Rattle.std.specs.Prelude.{ℕ, ◌^◌, ◌&&◌, Bool, true, false, if◌then◌else◌, nat_lt, List, [], ◌∷◌, map, codes, decimal, Option, None, Some}
 use Rattle.std.specs.List.{join_with_byte}
-use Rattle.std.specs.Option.{option_map, option_and_then}
-use Rattle.std.specs.Str.{all_ascii_digits, bytes_eq}
+use Rattle.std.specs.Str.{all_ascii_digits}
 use Rattle.std.specs.Str.Parse.{digits_value}
-use Rattle.vecbench_lines.specs.declared.parts.Separator.TheVariants.{Comma}
-use Rattle.vecbench_lines.specs.Parts.{parts_of, is_some_text}
+use Rattle.vecbench_lines.specs.Parts.{is_some_text, members_in}
 
 -- the number of a word: one digit or more and nothing else, and it fits in 64 bits
 abbrev pub number_in : List ℕ → Option ℕ
 number_in word =
     if is_some_text word && all_ascii_digits word && nat_lt (digits_value 10 word) (2 ^ 64) then Some (digits_value 10 word) else None
 
--- the numbers of some words, where each of them has one
-abbrev pub numbers_in_all : List (List ℕ) → Option (List ℕ)
-numbers_in_all [] = Some []
-numbers_in_all (word ∷ words) = option_and_then (λ n. option_map (λ ns. n ∷ ns) (numbers_in_all words)) (number_in word)
-
 -- the numbers of a list: none in `-`, and else those between the commas
 abbrev pub numbers_in : List ℕ → Option (List ℕ)
-numbers_in word = if bytes_eq word (codes "-") then Some [] else numbers_in_all (parts_of Comma word)
+numbers_in word = members_in number_in word
 
 -- how a list of numbers is printed
 abbrev pub list_text : List ℕ → List ℕ

@@ -1,7 +1,9 @@
 -- How a text is taken apart into parts, and a line into words.
-use Rattle.std.specs.Prelude.{ℕ, ◌==◌, ◌||◌, Bool, true, false, not, List, [], ◌∷◌, length, filter, Option, None, Some}
+use Rattle.std.specs.Prelude.{ℕ, ◌==◌, ◌||◌, Bool, true, false, not, if◌then◌else◌, List, [], ◌∷◌, length, filter, codes, Option, None, Some}
 use Rattle.std.specs.Borrow.{Bor}
 use Rattle.std.specs.List.{slice_split}
+use Rattle.std.specs.Option.{option_map, option_and_then}
+use Rattle.std.specs.Str.{bytes_eq}
 use Rattle.vecbench_lines.specs.declared.parts.Separator.{Separator}
 use Rattle.vecbench_lines.specs.declared.parts.Separator.TheVariants.{Newline, Gap, Comma}
 
@@ -33,3 +35,12 @@ abbrev pub are_pairs : List (List ℕ) → Bool
 are_pairs [] = true
 are_pairs (word ∷ []) = false
 are_pairs (word ∷ other ∷ words) = are_pairs words
+
+-- what some words say, where each of them says something by `says`
+abbrev pub all_in : {X : Type 0} → (List ℕ → Option X) → List (List ℕ) → Option (List X)
+all_in says [] = Some []
+all_in says (word ∷ words) = option_and_then (λ x. option_map (λ xs. x ∷ xs) (all_in says words)) (says word)
+
+-- the members of a list: none in `-`, and else what the words between the commas say by `says`
+abbrev pub members_in : {X : Type 0} → (List ℕ → Option X) → List ℕ → Option (List X)
+members_in says word = if bytes_eq word (codes "-") then Some [] else all_in says (parts_of Comma word)

@@ -1,27 +1,20 @@
 -- What a word says as a list of rules on keys.
-use Rattle.std.specs.Prelude.{◌≡◌, ℕ, Bool, not, if◌then◌else◌, List, [], ◌∷◌, codes, Option, Some}
-use Rattle.std.specs.Option.{option_map, option_and_then}
-use Rattle.std.specs.Str.{bytes_eq}
+use Rattle.std.specs.Prelude.{◌≡◌, ℕ, Bool, not, List, Option, Some}
+use Rattle.std.specs.Option.{option_map}
 use Rattle.std.specs.Ordering.{nat_cmp}
 use Rattle.vec_collections.specs.Tree.{Tree}
 use Rattle.vec_collections.specs.TreePairs.{IsCollected}
-use Rattle.vecbench_lines.specs.declared.parts.Separator.TheVariants.{Comma}
 use Rattle.vecbench_lines.specs.Keys.{key_in}
-use Rattle.vecbench_lines.specs.Parts.{parts_of}
+use Rattle.vecbench_lines.specs.Parts.{members_in}
 use Rattle.vecbench_lines.specs.Totals.{is_marked, list_in}
 
 -- the rule of a word: a key, and whether it is allowed, which it is not behind `!`
 abbrev pub rule_in : List ℕ → Option (List ℕ × Bool)
 rule_in word = option_map (λ key. (key, not (is_marked word))) (key_in (list_in word))
 
--- the rules of some words, where each of them has one
-abbrev pub rules_in_all : List (List ℕ) → Option (List (List ℕ × Bool))
-rules_in_all [] = Some []
-rules_in_all (word ∷ words) = option_and_then (λ rule. option_map (λ rules. rule ∷ rules) (rules_in_all words)) (rule_in word)
-
 -- the rules of a list: none in `-`, and else those between the commas
 abbrev pub rules_in : List ℕ → Option (List (List ℕ × Bool))
-rules_in word = if bytes_eq word (codes "-") then Some [] else rules_in_all (parts_of Comma word)
+rules_in word = members_in rule_in word
 
 -- the word is a list of rules, of which the filter has the last one for each key
 abbrev pub SaysRules : List ℕ → Tree ℕ Bool → Type 0

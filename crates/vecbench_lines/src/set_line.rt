@@ -79,13 +79,10 @@ impl SetLine {
             (λ fault. IsFault (fault_in_set (words_left words.entry)) fault) }
     {
         let (operation, left, right) = words.three().ok_or(Fault::WrongCount)?;
-        let operation = SetOperation::named(operation).ok_or(Fault::UnknownCommand)?;
-        let left = read_set(alloc, left)?;
-        let right = read_set(alloc, right)?;
         Ok(SetLine {
-            operation,
-            left,
-            right,
+            operation: SetOperation::named(operation).ok_or(Fault::UnknownCommand)?,
+            left: read_set(alloc, left)?,
+            right: read_set(alloc, right)?,
         })
     }
 

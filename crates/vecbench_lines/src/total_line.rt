@@ -55,13 +55,10 @@ impl TotalLine {
             (λ fault. IsFault (fault_in_total (words_left words.entry)) fault) }
     {
         let (operation, left, right) = words.three().ok_or(Fault::WrongCount)?;
-        let operation = Self::operation_named(operation).ok_or(Fault::UnknownCommand)?;
-        let left = read_total(alloc, left)?;
-        let right = read_total(alloc, right)?;
         Ok(TotalLine {
-            operation,
-            left,
-            right,
+            operation: Self::operation_named(operation).ok_or(Fault::UnknownCommand)?,
+            left: read_total(alloc, left)?,
+            right: read_total(alloc, right)?,
         })
     }
 

@@ -1,10 +1,10 @@
-use Rattle.std.proofs.Common.{rules, ◌≡◌, ◌∙◌, ap, refl, sym, ◌∷◌, ◌++◌, [], Some}
-use Rattle.std.specs.Option.{option_map}
+use Rattle.std.proofs.Common.{rules, ◌≡◌, refl, ◌∷◌, ◌++◌, [], Some}
 use Rattle.vecbench_lines.specs.declared.parts.Separator.TheVariants.{Comma}
-use Rattle.vecbench_lines.specs.Keys.{key_in, keys_in, keys_in_all}
+use Rattle.vecbench_lines.specs.Keys.{key_in, keys_in}
 use Rattle.vecbench_lines.specs.Parts.{parts_of}
 use Rattle.vecbench_lines.specs.PartsLeft.{parts_left}
-use Rattle.vecbench_lines.proofs.Binding.{HasKeys-empty, HasKeys-inserted, keys-none, keys-read}
+use Rattle.vecbench_lines.proofs.Binding.{HasKeys-empty, HasKeys-inserted}
+use Rattle.vecbench_lines.proofs.Members.{AreRead-none, AreRead-next}
 use Rattle.vecbench_lines.proofs.keys.read_tree.Goals as goal
 
 pub returns-then-eq-clause-keys : goal.returns-then-eq-clause-keys
@@ -14,14 +14,8 @@ returns-then-eq-clause-keys c =
 
 pub loop-part-init : goal.loop-part-init
 loop-part-init c =
-    let parts : parts_left c.into_iter-part-iterator.result ≡ parts_of Comma c.args.word.now = search rules in (
-      tt,
-      tt,
-      [],
-      keys-none (keys_in_all (parts_left c.into_iter-part-iterator.result))
-          ∙ ap keys_in_all parts,
-      HasKeys-empty c.empty-tree.result c.empty-tree.ensures.is,
-    )
+    let parts : parts_left c.into_iter-part-iterator.result ≡ parts_of Comma c.args.word.now = search rules in
+    (tt, tt, [], AreRead-none key_in _ _ parts, HasKeys-empty c.empty-tree.result c.empty-tree.ensures.is)
 
 pub same-tree : goal.same-tree
 same-tree c = refl
@@ -37,8 +31,7 @@ loop-part-preserved c =
       tt,
       tt,
       before.2 ++ c.in-Some-read_key.key.now ∷ [],
-      keys-read before.2 c.in-Some.part.now c.in-Some-read_key.key.now (parts_left c.next.new.self) key ∙
-          ap (λ ps. option_map (λ ks. before.2 ++ ks) (keys_in_all ps)) (sym parts) ∙ before.3,
+      AreRead-next key_in before.2 _ _ _ _ (parts_of Comma c.args.word.now) parts key before.3,
       HasKeys-inserted before.2 c.in-Some-read_key.key.now _ _ _ c.in_ok-insert.ensures.ok
           c.in_ok-insert.ensures.canonical before.4,
     )

@@ -1,11 +1,10 @@
-use Rattle.std.proofs.Common.{rules, ℕ, Bool, List, ◌≡◌, ◌∙◌, ap, sym, ◌∷◌, ◌++◌, [], Some}
-use Rattle.std.specs.Option.{option_map}
+use Rattle.std.proofs.Common.{rules, ℕ, Bool, List, ◌≡◌, ◌∷◌, ◌++◌, [], Some}
 use Rattle.vecbench_lines.specs.declared.parts.Separator.TheVariants.{Comma}
 use Rattle.vecbench_lines.specs.Parts.{parts_of}
 use Rattle.vecbench_lines.specs.PartsLeft.{parts_left}
-use Rattle.vecbench_lines.specs.Rules.{rule_in, rules_in, rules_in_all}
-use Rattle.vecbench_lines.proofs.Binding.{keys-none}
-use Rattle.vecbench_lines.proofs.Ruling.{collected-empty, collected-inserted, rules-read}
+use Rattle.vecbench_lines.specs.Rules.{rule_in, rules_in}
+use Rattle.vecbench_lines.proofs.Members.{AreRead-none, AreRead-next}
+use Rattle.vecbench_lines.proofs.Ruling.{collected-empty, collected-inserted}
 use Rattle.vecbench_lines.proofs.rules.read_filter.Goals as goal
 
 pub returns-then-eq-clause-rules : goal.returns-then-eq-clause-rules
@@ -15,14 +14,8 @@ returns-then-eq-clause-rules c =
 
 pub loop-part-init : goal.loop-part-init
 loop-part-init c =
-    let parts : parts_left c.into_iter-part-iterator.result ≡ parts_of Comma c.args.word.now = search rules in (
-      tt,
-      tt,
-      [],
-      keys-none (rules_in_all (parts_left c.into_iter-part-iterator.result))
-          ∙ ap rules_in_all parts,
-      collected-empty c.new-filter.result c.new-filter.ensures.is,
-    )
+    let parts : parts_left c.into_iter-part-iterator.result ≡ parts_of Comma c.args.word.now = search rules in
+    (tt, tt, [], AreRead-none rule_in _ _ parts, collected-empty c.new-filter.result c.new-filter.ensures.is)
 
 pub loop-part-preserved : goal.loop-part-preserved
 loop-part-preserved c =
@@ -33,8 +26,7 @@ loop-part-preserved c =
       tt,
       tt,
       before.2 ++ rule ∷ [],
-      rules-read before.2 c.in-Some.part.now rule (parts_left c.next.new.self) read ∙
-          ap (λ ps. option_map (λ rs. before.2 ++ rs) (rules_in_all ps)) (sym parts) ∙ before.3,
+      AreRead-next rule_in before.2 _ _ _ _ (parts_of Comma c.args.word.now) parts read before.3,
       collected-inserted before.2 c.in-Some-read_rule.key.now c.in-Some-read_rule.allowed c.loop-part.filter
           c.put_rule.new.filter c.in_ok-put_rule.ensures before.4,
     )
