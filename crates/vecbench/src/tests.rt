@@ -9,97 +9,84 @@ mod filters;
 mod total;
 mod trees;
 
-/// What a line that is the first of its input is answered where it has that fault.
-const UNKNOWN_COMMAND: &str = "line 1: fault 1: unknown command\n";
+/// Unions of sets.
+const UNIONS: &str = "\
+set union 1,3 2,3 => 1,2,3
+set union - - => -
+set union - 7 => 7
+set union 1,2,3,4,5 3,9 => 1,2,3,4,5,9
+set union 18446744073709551615 0 => 0,18446744073709551615
+set union 007 000018446744073709551615 => 7,18446744073709551615
+";
 
-const NOT_ASCENDING: &str = "line 1: fault 2: not ascending\n";
+/// The other operations on sets, and their tests.
+const OPERATIONS: &str = "\
+set intersection 1,3,5 3,4,5 => 3,5
+set intersection 1 2 => -
+set xor 1,2 2,3 => 1,3
+set xor - - => -
+set difference 1,2,3 2 => 1,3
+set subset 1,3 1,2,3 => true
+set subset 1,2,3 1,3 => false
+set superset 1,3 1,2,3 => false
+set superset 1,2,3 1,3 => true
+set disjoint - - => true
+set disjoint 1,2 2,3 => false
+";
 
-const NOT_A_NUMBER_OR_KEY: &str = "line 1: fault 3: not a number or key\n";
+/// Lines that begin with `shape`.
+const SHAPES: &str = "\
+shape - => .
+shape . => .*
+shape ab,ac => a(b* c*)
+shape aabbcc,aabb => aabb*(cc*)
+shape .,a => .*(a*)
+shape b,a,b => .(a* b*)
+shape abc,abd,ab => ab*(c* d*)
+shape a,A => line 1: fault 3: not a number or key
+shape a, => line 1: fault 3: not a number or key
+shape a,- => line 1: fault 3: not a number or key
+shape a,.b => line 1: fault 3: not a number or key
+shape => line 1: fault 4: wrong count of words
+shape a b => line 1: fault 4: wrong count of words
+";
 
-const WRONG_COUNT_OF_WORDS: &str = "line 1: fault 4: wrong count of words\n";
+/// Each fault.
+const FAULTS: &str = "\
+fly => line 1: fault 1: unknown command
+Set union 1 2 => line 1: fault 1: unknown command
+set fly 1 2 => line 1: fault 1: unknown command
+set union 3,1 2 => line 1: fault 2: not ascending
+set union 1 2,2 => line 1: fault 2: not ascending
+set union 18446744073709551616 0 => line 1: fault 3: not a number or key
+set union 99999999999999999999999 0 => line 1: fault 3: not a number or key
+set union 1, 2 => line 1: fault 3: not a number or key
+set union 1,,2 2 => line 1: fault 3: not a number or key
+set union 1,- 2 => line 1: fault 3: not a number or key
+set union +1 2 => line 1: fault 3: not a number or key
+set union 1 2a => line 1: fault 3: not a number or key
+set union 1 => line 1: fault 4: wrong count of words
+set union 1 2 3 => line 1: fault 4: wrong count of words
+set => line 1: fault 4: wrong count of words
+";
 
-/// Inputs, what they are answered, and with which status.
-const INPUTS: [(&str, &str, u8); 63] = [
-    // Unions.
-    ("set union 1,3 2,3\n", "1,2,3\n", 0),
-    ("set union - -\n", "-\n", 0),
-    ("set union - 7\n", "7\n", 0),
-    ("set union 1,2,3,4,5 3,9\n", "1,2,3,4,5,9\n", 0),
-    (
-        "set union 18446744073709551615 0\n",
-        "0,18446744073709551615\n",
-        0,
-    ),
-    (
-        "set union 007 000018446744073709551615\n",
-        "7,18446744073709551615\n",
-        0,
-    ),
-    // The other operations and the tests of sets.
-    ("set intersection 1,3,5 3,4,5\n", "3,5\n", 0),
-    ("set intersection 1 2\n", "-\n", 0),
-    ("set xor 1,2 2,3\n", "1,3\n", 0),
-    ("set xor - -\n", "-\n", 0),
-    ("set difference 1,2,3 2\n", "1,3\n", 0),
-    ("set subset 1,3 1,2,3\n", "true\n", 0),
-    ("set subset 1,2,3 1,3\n", "false\n", 0),
-    ("set superset 1,3 1,2,3\n", "false\n", 0),
-    ("set superset 1,2,3 1,3\n", "true\n", 0),
-    ("set disjoint - -\n", "true\n", 0),
-    ("set disjoint 1,2 2,3\n", "false\n", 0),
-    // Shapes.
-    ("shape -\n", ".\n", 0),
-    ("shape .\n", ".*\n", 0),
-    ("shape ab,ac\n", "a(b* c*)\n", 0),
-    ("shape aabbcc,aabb\n", "aabb*(cc*)\n", 0),
-    ("shape .,a\n", ".*(a*)\n", 0),
-    ("shape b,a,b\n", ".(a* b*)\n", 0),
-    ("shape abc,abd,ab\n", "ab*(c* d*)\n", 0),
-    ("shape a,A\n", NOT_A_NUMBER_OR_KEY, 1),
-    ("shape a,\n", NOT_A_NUMBER_OR_KEY, 1),
-    ("shape a,-\n", NOT_A_NUMBER_OR_KEY, 1),
-    ("shape a,.b\n", NOT_A_NUMBER_OR_KEY, 1),
-    ("shape\n", WRONG_COUNT_OF_WORDS, 1),
-    ("shape a b\n", WRONG_COUNT_OF_WORDS, 1),
-    // Each fault.
-    ("fly\n", UNKNOWN_COMMAND, 1),
-    ("Set union 1 2\n", UNKNOWN_COMMAND, 1),
-    ("set fly 1 2\n", UNKNOWN_COMMAND, 1),
-    ("set union 3,1 2\n", NOT_ASCENDING, 1),
-    ("set union 1 2,2\n", NOT_ASCENDING, 1),
-    ("set union 18446744073709551616 0\n", NOT_A_NUMBER_OR_KEY, 1),
-    (
-        "set union 99999999999999999999999 0\n",
-        NOT_A_NUMBER_OR_KEY,
-        1,
-    ),
-    ("set union 1, 2\n", NOT_A_NUMBER_OR_KEY, 1),
-    ("set union 1,,2 2\n", NOT_A_NUMBER_OR_KEY, 1),
-    ("set union 1,- 2\n", NOT_A_NUMBER_OR_KEY, 1),
-    ("set union +1 2\n", NOT_A_NUMBER_OR_KEY, 1),
-    ("set union 1 2a\n", NOT_A_NUMBER_OR_KEY, 1),
-    ("set union 1\n", WRONG_COUNT_OF_WORDS, 1),
-    ("set union 1 2 3\n", WRONG_COUNT_OF_WORDS, 1),
-    ("set\n", WRONG_COUNT_OF_WORDS, 1),
-    // The fault that comes first.
-    // The first word before the count of words.
-    ("fly union\n", UNKNOWN_COMMAND, 1),
-    // The count before the operation and the lists.
-    ("set fly 3,1\n", WRONG_COUNT_OF_WORDS, 1),
-    ("set union 3,1 x 1\n", WRONG_COUNT_OF_WORDS, 1),
-    // The operation before the lists.
-    ("set fly 3,1 x\n", UNKNOWN_COMMAND, 1),
-    // The left list before the right one.
-    ("set union 3,1 x\n", NOT_ASCENDING, 1),
-    ("set union x 3,1\n", NOT_A_NUMBER_OR_KEY, 1),
-    // In one list the numbers before their order.
-    ("set union 3,1,x 2\n", NOT_A_NUMBER_OR_KEY, 1),
-    (
-        "set union 2 3,1,18446744073709551616\n",
-        NOT_A_NUMBER_OR_KEY,
-        1,
-    ),
-    // Lines and words.
+/// The fault that comes first: an unknown first word before the count of words, the count before
+/// the operation and the lists, the operation before the lists, the left list before the right one,
+/// and in one list the numbers before their order.
+const FIRST_FAULTS: &str = "\
+fly union => line 1: fault 1: unknown command
+set fly 3,1 => line 1: fault 4: wrong count of words
+set union 3,1 x 1 => line 1: fault 4: wrong count of words
+set fly 3,1 x => line 1: fault 1: unknown command
+set union 3,1 x => line 1: fault 2: not ascending
+set union x 3,1 => line 1: fault 3: not a number or key
+set union 3,1,x 2 => line 1: fault 3: not a number or key
+set union 2 3,1,18446744073709551616 => line 1: fault 3: not a number or key
+";
+
+/// Inputs of no line, of several, or with other ends and gaps than most have. Each has what it is
+/// answered, and with which status.
+const INPUTS: [(&str, &str, u8); 10] = [
     ("", "", 0),
     ("\n", "", 0),
     ("\nfly\n", "line 2: fault 1: unknown command\n", 1),
@@ -112,8 +99,16 @@ const INPUTS: [(&str, &str, u8); 63] = [
     ),
     ("\tset\t union  1 \t 2 \n", "1,2\n", 0),
     // Only the CR that an LF follows ends a line.
-    ("set union 1 2\r", NOT_A_NUMBER_OR_KEY, 1),
-    ("set union 1 2\r\r\n", NOT_A_NUMBER_OR_KEY, 1),
+    (
+        "set union 1 2\r",
+        "line 1: fault 3: not a number or key\n",
+        1,
+    ),
+    (
+        "set union 1 2\r\r\n",
+        "line 1: fault 3: not a number or key\n",
+        1,
+    ),
     (
         "set union 3,1 2\nset union 1 2\nfly",
         "line 1: fault 2: not ascending\n1,2\nline 3: fault 1: unknown command\n",
@@ -121,20 +116,35 @@ const INPUTS: [(&str, &str, u8); 63] = [
     ),
 ];
 
-/// Checks what some inputs are answered, and with which status.
-fn check_all(rt: &(impl Abort + AllocGlobal), table: &[(&str, &str, u8)]) {
-    for (text, answers, status) in table {
-        let mut input = text.as_bytes();
-        let mut output = Vec::new(rt.alloc());
-        let ended = serve(rt.alloc(), &mut input, &mut output);
-        assert_eq!(rt; output.as_slice(), answers.as_bytes(), "at {text:?}");
-        assert_eq!(rt; ended, *status, "at {text:?}");
+/// Checks what an input is answered, and with which status.
+fn check(rt: &(impl Abort + AllocGlobal), input: &str, answers: &str, status: u8) {
+    let mut output = Vec::new(rt.alloc());
+    let ended = serve(rt.alloc(), &mut input.as_bytes(), &mut output);
+    assert_eq!(rt; output.as_slice(), answers.as_bytes(), "at {input:?}");
+    assert_eq!(rt; ended, status, "at {input:?}");
+}
+
+/// Checks rows `LINE => ANSWER`. Each line is an input of its own, and a fault has status 1.
+fn check_lines(rt: &(impl Abort + AllocGlobal), rows: &str) -> Result<(), Fail> {
+    for row in rows.lines() {
+        let (line, answer) = row.split_once(" => ").ok_or(row)?;
+        let input = format!(in rt.alloc(); "{line}\n")?;
+        let answers = format!(in rt.alloc(); "{answer}\n")?;
+        let status = u8::from(answer.starts_with("line 1: fault "));
+        check(rt, input.as_str(), answers.as_str(), status);
     }
+    Ok(())
 }
 
 #[test]
-fn answers_whole_inputs(rt: HostRuntime) {
-    check_all(&rt, &INPUTS);
+fn answers_whole_inputs(rt: HostRuntime) -> Result<(), Fail> {
+    for (input, answers, status) in INPUTS {
+        check(&rt, input, answers, status);
+    }
+    for rows in [UNIONS, OPERATIONS, SHAPES, FAULTS, FIRST_FAULTS] {
+        check_lines(&rt, rows)?;
+    }
+    Ok(())
 }
 
 #[test]
@@ -147,7 +157,7 @@ fn answers_lines_longer_than_its_buffers(rt: HostRuntime) -> Result<(), Fail> {
     let line = format!(in rt.alloc(); "set union {list} -\n")?;
     let text = format!(in rt.alloc(); "{line}{line}")?;
     let wanted = format!(in rt.alloc(); "{list}\n{list}\n")?;
-    check_all(&rt, &[(text.as_str(), wanted.as_str(), 0)]);
+    check(&rt, text.as_str(), wanted.as_str(), 0);
     Ok(())
 }
 
