@@ -2,6 +2,7 @@
 //! the next one.
 
 use crate::nth::Nth;
+use crate::operation::{OPERATIONS, Operation};
 use crate::outcomes::holds;
 use std::alloc::{AllocError, Global};
 use std::collections::BTreeSet;
@@ -21,44 +22,6 @@ const END: u32 = 32;
 
 /// Greater than the number of requests of each call.
 const LIMIT: u64 = 16;
-
-/// An operation of two sets.
-#[derive(Clone, Copy, Debug)]
-enum Operation {
-    Union,
-    Intersection,
-    SymmetricDifference,
-    Difference,
-}
-
-const OPERATIONS: [Operation; 4] = [
-    Operation::Union,
-    Operation::Intersection,
-    Operation::SymmetricDifference,
-    Operation::Difference,
-];
-
-impl Operation {
-    /// Whether it picks a number that is in the left or the right set, or in both.
-    fn picks(self, is_left: bool, is_right: bool) -> bool {
-        match self {
-            Operation::Union => is_left || is_right,
-            Operation::Intersection => is_left && is_right,
-            Operation::SymmetricDifference => is_left != is_right,
-            Operation::Difference => is_left && !is_right,
-        }
-    }
-
-    /// What `combine_counted` calls it.
-    fn op(self) -> SetOp {
-        match self {
-            Operation::Union => SetOp::Union,
-            Operation::Intersection => SetOp::Intersection,
-            Operation::SymmetricDifference => SetOp::SymmetricDifference,
-            Operation::Difference => SetOp::Difference,
-        }
-    }
-}
 
 /// What a number is inserted in front of, between, behind or in the place of.
 #[derive(Clone, Copy, Debug)]
@@ -312,7 +275,7 @@ impl<'a> Case<'a> {
             Way::Method => make_by_method(operation, left, right),
             Way::Function => make_by_function(self.memory, operation, left, right),
             Way::Operator => make_by_operator(operation, left, right),
-            Way::Counted => left.combine_counted(right, operation.op(), &mut Steps::new()),
+            Way::Counted => left.combine_counted(right, op_of(operation), &mut Steps::new()),
         }
     }
 
@@ -513,6 +476,16 @@ impl<'a> Case<'a> {
         let one = self.shrinks(self.set::<1>(which)?)?;
         let two = self.shrinks(self.set::<2>(which)?)?;
         Ok(any_refused([none, one, two]))
+    }
+}
+
+/// What `combine_counted` calls the operation.
+fn op_of(operation: Operation) -> SetOp {
+    match operation {
+        Operation::Union => SetOp::Union,
+        Operation::Intersection => SetOp::Intersection,
+        Operation::SymmetricDifference => SetOp::SymmetricDifference,
+        Operation::Difference => SetOp::Difference,
     }
 }
 

@@ -1,6 +1,7 @@
 //! Each call of total sets that takes memory, with each of its requests refused in turn.
 
 use set_user_tests::nth::Nth;
+use set_user_tests::operation::{OPERATIONS, Operation};
 use std::alloc::{AllocError, Global};
 use std::process::Abort;
 use std::test::Fail;
@@ -22,33 +23,6 @@ const END: u32 = 8;
 
 /// Greater than the number of requests of each call.
 const LIMIT: u64 = 8;
-
-#[derive(Clone, Copy, Debug)]
-enum Operation {
-    And,
-    Or,
-    Xor,
-    Minus,
-}
-
-const OPERATIONS: [Operation; 4] = [
-    Operation::And,
-    Operation::Or,
-    Operation::Xor,
-    Operation::Minus,
-];
-
-impl Operation {
-    /// Whether a number is in the result that is in the left or the right set, or in both.
-    fn says(self, is_left: bool, is_right: bool) -> bool {
-        match self {
-            Operation::And => is_left && is_right,
-            Operation::Or => is_left || is_right,
-            Operation::Xor => is_left != is_right,
-            Operation::Minus => is_left && !is_right,
-        }
-    }
-}
 
 /// A call that takes memory.
 #[derive(Clone, Copy, Debug)]
@@ -74,7 +48,7 @@ impl Flags {
         let is_left = LISTS[0].contains(&number) != self.left;
         let is_right = LISTS[1].contains(&number) != self.right;
         match call {
-            Call::Make(operation) | Call::Assign(operation) => operation.says(is_left, is_right),
+            Call::Make(operation) | Call::Assign(operation) => operation.picks(is_left, is_right),
             Call::Insert => is_left || number == NEW,
             Call::Remove => is_left && number != NEW,
             Call::Clone => is_left,
@@ -91,12 +65,13 @@ impl Flags {
     /// and some that change one.
     fn may_be_refused(self, call: Call) -> bool {
         match call {
-            Call::Assign(Operation::And) => self.left && self.right,
-            Call::Assign(Operation::Or) => !self.left && !self.right,
-            Call::Assign(Operation::Minus) => self.left && !self.right,
+            Call::Assign(Operation::Intersection) => self.left && self.right,
+            Call::Assign(Operation::Union) => !self.left && !self.right,
+            Call::Assign(Operation::Difference) => self.left && !self.right,
             Call::Insert => !self.left,
             Call::Remove => self.left,
-            Call::Assign(Operation::Xor) | Call::Make(_) | Call::Clone | Call::Complement => true,
+            Call::Assign(Operation::SymmetricDifference) => true,
+            Call::Make(_) | Call::Clone | Call::Complement => true,
         }
     }
 }
@@ -123,10 +98,10 @@ fn succeeds<'a>(
     right: Numbers<'a>,
 ) -> Result<bool, AllocError> {
     match call {
-        Call::Assign(Operation::And) => left.bitand_assign(right)?,
-        Call::Assign(Operation::Or) => left.bitor_assign(right)?,
-        Call::Assign(Operation::Xor) => left.bitxor_assign(right)?,
-        Call::Assign(Operation::Minus) => left.sub_assign(right)?,
+        Call::Assign(Operation::Intersection) => left.bitand_assign(right)?,
+        Call::Assign(Operation::Union) => left.bitor_assign(right)?,
+        Call::Assign(Operation::SymmetricDifference) => left.bitxor_assign(right)?,
+        Call::Assign(Operation::Difference) => left.sub_assign(right)?,
         Call::Insert => left.insert(NEW)?,
         Call::Remove => left.remove(&NEW)?,
         Call::Make(operation) => {
@@ -151,10 +126,10 @@ fn make<'a>(
     right: &Numbers<'a>,
 ) -> Result<Numbers<'a>, AllocError> {
     match operation {
-        Operation::And => left & right,
-        Operation::Or => left | right,
-        Operation::Xor => left ^ right,
-        Operation::Minus => left - right,
+        Operation::Intersection => left & right,
+        Operation::Union => left | right,
+        Operation::SymmetricDifference => left ^ right,
+        Operation::Difference => left - right,
     }
 }
 
