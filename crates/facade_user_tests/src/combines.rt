@@ -113,6 +113,14 @@ pub fn leave_out<T: AbstractRadixTreeMut<u8, u32>>(
     ports.difference_with(that)
 }
 
+/// Writes the other port over this one, and keeps the server.
+fn take_over(port: &mut u32, that: &u32) -> bool
+    ensures { result ≡ true }
+{
+    *port = *that;
+    true
+}
+
 /// Takes the ports of another tree over, with all of its servers.
 pub fn renew_all<T: AbstractRadixTreeMut<u8, u32>>(
     ports: &mut T,
@@ -122,15 +130,7 @@ pub fn renew_all<T: AbstractRadixTreeMut<u8, u32>>(
         ≡ (is_some (lookup nat_cmp (T.tree ports.old) k)
         || is_some (lookup nat_cmp (T.tree that.now) k))) }
 {
-    ports.outer_combine_with(
-        that,
-        |v: &mut u32, w: &u32| -> bool
-            ensures { result ≡ true }
-        {
-            *v = *w;
-            true
-        },
-    )
+    ports.outer_combine_with(that, take_over)
 }
 
 /// Takes the ports of another tree over, and drops the servers that it lacks.
@@ -142,15 +142,7 @@ pub fn renew_known<T: AbstractRadixTreeMut<u8, u32>>(
         ≡ (is_some (lookup nat_cmp (T.tree ports.old) k)
         && is_some (lookup nat_cmp (T.tree that.now) k))) }
 {
-    ports.inner_combine_with(
-        that,
-        |v: &mut u32, w: &u32| -> bool
-            ensures { result ≡ true }
-        {
-            *v = *w;
-            true
-        },
-    )
+    ports.inner_combine_with(that, take_over)
 }
 
 /// Takes the ports of another tree over, for the servers that are there.
@@ -158,15 +150,14 @@ pub fn renew<T: AbstractRadixTreeMut<u8, u32>>(ports: &mut T, that: &T) -> Resul
     ensures { OnOk result ((k : List ℕ) → is_some (lookup nat_cmp (T.tree ports.new) k)
         ≡ is_some (lookup nat_cmp (T.tree ports.old) k)) }
 {
-    ports.left_combine_with(
-        that,
-        |v: &mut u32, w: &u32| -> bool
-            ensures { result ≡ true }
-        {
-            *v = *w;
-            true
-        },
-    )
+    ports.left_combine_with(that, take_over)
+}
+
+/// Whether a folder is marked.
+fn is_marked(mark: &bool) -> bool
+    ensures { result ≡ mark.now }
+{
+    *mark
 }
 
 /// Drops what lies below the folders that are closed.
@@ -178,12 +169,7 @@ pub fn close_all<T: AbstractRadixTreeMut<u8, u32>>(
         (lookup nat_cmp closed.now) (lookup nat_cmp (T.tree ports.old))
         (lookup nat_cmp (T.tree ports.new))) }
 {
-    ports.remove_prefix_with(
-        closed,
-        |is_closed: &bool| -> bool
-            ensures { result ≡ is_closed.now }
-        { *is_closed },
-    )
+    ports.remove_prefix_with(closed, is_marked)
 }
 
 /// Keeps what lies below the folders that are open.
@@ -195,12 +181,7 @@ pub fn keep_open<T: AbstractRadixTreeMut<u8, u32>>(
         (lookup nat_cmp opened.now) (lookup nat_cmp (T.tree ports.old))
         (lookup nat_cmp (T.tree ports.new))) }
 {
-    ports.retain_prefix_with(
-        opened,
-        |is_open: &bool| -> bool
-            ensures { result ≡ is_open.now }
-        { *is_open },
-    )
+    ports.retain_prefix_with(opened, is_marked)
 }
 
 /// The ports of the servers whose names start so.
