@@ -3,7 +3,7 @@
 --     value-set, child-added, child-grown, top-made, pair-made, leaf-made        the events
 --     parts-canonical        a node whose children stayed alike
 --     leads_.., list-updated, list-grown, list-alike        the child that the key leads to, and the list once it is changed
---     empty-kept, length-kept, one-put, two-put, top-from, low-from        lists that were lent or copied
+--     low-from, length-kept        lists that were lent or copied
 use Rattle.std.proofs.Common.{◌≡◌, ℕ, suc, ◌<◌, ◌≤◌, [], ◌∷◌, ◌++◌, List, Option, None, Some, refl, sym, ap}
 use Rattle.std.proofs.Common.{subst, ◌∙◌, arith, get_or, set, map, take, drop, length, append-nil, length-drop, ◌-◌}
 use Rattle.std.proofs.Common.{true, cond}
@@ -54,18 +54,30 @@ pub whole-solid : {K V : Type 0} (p : List K) (v : Option V) (f : Forest K V) �
 whole-solid p v f h w = grind arith
 
 -- such a tree is canonical
-pub inserted-canonical : {K V : Type 0} (cmp : K → K → Ordering) (keeps : V → V → Type 0) (t : Tree K V)
-    (key : List K) (value : V) (p : List K) (u : Tree K V) → Inserted cmp keeps t key value p u → IsCanonical cmp u
-inserted-canonical cmp keeps t key value p u i = grind arith
+pub inserted-canonical : {K V : Type 0} {cmp : K → K → Ordering} {keeps : V → V → Type 0} {t : Tree K V} {key : List K}
+    {value : V} {p : List K} {u : Tree K V} → Inserted cmp keeps t key value p u → IsCanonical cmp u
+inserted-canonical i = grind arith
 
-module _ {K V : Type 0} (cmp : K → K → Ordering) (keeps : V → V → Type 0) (r : (v : V) → keeps v v)
+-- what keeps an empty list is empty
+empty-kept : {K V T : Type 0} (keeps : V → V → Type 0) (tree : T → Tree K V) (xs ys : List T) → xs ≡ []
+    → IsAlikeIn keeps (forest (map tree xs)) (forest (map tree ys)) → ys ≡ []
+empty-kept keeps tree [] [] e h = refl
+empty-kept keeps tree xs ys e h = grind arith
+
+-- the rest of a prefix, copied from the slice that was lent
+pub low-from : {K : Type 0} (a whole p : List K) (n : ℕ) → a ≡ take (length whole - n) (drop n whole) → whole ≡ p
+    → a ≡ drop n p
+low-from {K = K} a whole p n h e =
+    h ∙ take_all (length whole - n) (drop n whole) (omega (arith, length-drop {A = K} n whole)) ∙ ap (drop n) e
+
+module _ {K V : Type 0} {cmp : K → K → Ordering} {keeps : V → V → Type 0} (r : (v : V) → keeps v v)
     (trans : (u v w : V) → keeps u v → keeps v w → keeps u w) (o : IsTotalOrder cmp) where
   -- ---- a node's own value
 
   -- the value of the prefix is new
-  pub value-set : (t u : Tree K V) (p : List K) (f : Forest K V) (value : V) → p ≡ t.prefix → f ≡ t.children
+  pub value-set : (t : Tree K V) {u : Tree K V} {p : List K} {f : Forest K V} (value : V) → p ≡ t.prefix → f ≡ t.children
       → u ≡ node p (Some value) f → IsCanonical cmp t → Inserted cmp keeps t t.prefix value t.prefix u
-  value-set t u p f value a b e canonical =
+  value-set t {u} {p} {f} value a b e canonical =
       subst (λ u. Inserted cmp keeps t t.prefix value t.prefix u)
       (sym (e ∙ node-equal p t.prefix (Some value) (Some value) f t.children a refl b))
       (record {
@@ -92,13 +104,12 @@ module _ {K V : Type 0} (cmp : K → K → Ordering) (keeps : V → V → Type 0
 
   module _ {T : Type 0} (tree : T → Tree K V) where
     -- one more child, at its place
-    pub child-added : (t u : Tree K V) (p : List K) (v : Option V) (old new : List T) (i : ℕ) (item : T)
-        (rest : List K) (value : V)
-        → p ≡ t.prefix → v ≡ t.value → forest (map tree old) ≡ t.children → u ≡ node p v (forest (map tree new))
-        → IsCanonical cmp t → IsSolid t.value t.children → FitsAt cmp t.children rest i
+    pub child-added : (t : Tree K V) {u : Tree K V} {p : List K} {v : Option V} {old new : List T} {i : ℕ} {item : T}
+        {rest : List K} {value : V} → p ≡ t.prefix → v ≡ t.value → forest (map tree old) ≡ t.children
+        → u ≡ node p v (forest (map tree new)) → IsCanonical cmp t → IsSolid t.value t.children → FitsAt cmp t.children rest i
         → tree item ≡ made rest (Some value) [] → Adds keeps tree old i item new
         → Inserted cmp keeps t (t.prefix ++ rest) value t.prefix u
-    child-added t u p v old new i item rest value a b c e canonical solid fits leaf added =
+    child-added t {u} {p} {v} {old} {new} {i} {item} {rest} {value} a b c e canonical solid fits leaf added =
         let f = forest (map tree old) in
         let g = forest (map tree added.kept) in
         let gap : IsGapAt cmp g fits.first i =
@@ -126,20 +137,19 @@ module _ {K V : Type 0} (cmp : K → K → Ordering) (keeps : V → V → Type 0
         (updated-insert cmp keeps o r tree added.kept i item fits.first fits.others value one gap)))))
 
     -- children that changed
-    pub child-grown : (t u : Tree K V) (p : List K) (v : Option V) (old new : List T) (rest : List K) (value : V)
-        (y : K) (q : List K)
-        → p ≡ t.prefix → v ≡ t.value → forest (map tree old) ≡ t.children → u ≡ node p v (forest (map tree new))
-        → IsSolid t.value t.children → rest ≡ y ∷ q → length new ≡ length old → AreChildren cmp (forest (map tree new))
+    pub child-grown : (t : Tree K V) {u : Tree K V} {p : List K} {v : Option V} (old new : List T) {rest : List K} {value : V}
+        {y : K} {q : List K} → p ≡ t.prefix → v ≡ t.value → forest (map tree old) ≡ t.children
+        → u ≡ node p v (forest (map tree new)) → IsSolid t.value t.children → rest ≡ y ∷ q → length new ≡ length old
+        → AreChildren cmp (forest (map tree new))
         → IsUpdated cmp keeps rest value (lookup_in cmp (forest (map tree old))) (lookup_in cmp (forest (map tree new)))
         → Inserted cmp keeps t (t.prefix ++ rest) value t.prefix u
-    child-grown t u p v old new rest value y q a b c e solid key n kids w =
-        grind (arith, node-equal, children-changed, solid-length)
+    child-grown t old new a b c e solid key n kids w = grind (arith, node-equal, children-changed, solid-length)
 
     -- a node whose children stayed alike is canonical
-    pub parts-canonical : (t : Tree K V) (p : List K) (v : Option V) (old new : List T)
-        → p ≡ t.prefix → v ≡ t.value → forest (map tree old) ≡ t.children → IsCanonical cmp t
+    pub parts-canonical : (t : Tree K V) {p : List K} {v : Option V} (old new : List T) → p ≡ t.prefix → v ≡ t.value
+        → forest (map tree old) ≡ t.children → IsCanonical cmp t
         → IsAlikeIn keeps (forest (map tree old)) (forest (map tree new)) → IsCanonical cmp (node p v (forest (map tree new)))
-    parts-canonical t p v old new a b c canonical alike =
+    parts-canonical t {p} {v} old new a b c canonical alike =
         alike-canonical keeps cmp p v v (forest (map tree old)) (forest (map tree new)) (kept_itself keeps r v) alike
         (rw (a, b, c) canonical)
 
@@ -170,53 +180,56 @@ module _ {K V : Type 0} (cmp : K → K → Ordering) (keeps : V → V → Type 0
         (node [] None (grow l.prefix l.value l.children bare))) (lookup cmp (node [] w g))) e u))
         (take n t.prefix) t.prefix (take n t.prefix ++ rest) (sym (take-append-drop n t.prefix)) refl
 
-    -- a new node of the value above the half below
-    pub top-made : (t u : Tree K V) (n : ℕ) (p : List K) (low : T) (new : List T) (value : V)
-        → n < length t.prefix → IsCanonical cmp t → p ≡ take n t.prefix
-        → tree low ≡ node (drop n t.prefix) t.value t.children → new ≡ low ∷ []
-        → u ≡ node p (Some value) (forest (map tree new))
+    -- a new node of the value above the half below, which was put into an empty list
+    pub top-made : {t u : Tree K V} {n : ℕ} {p q whole : List K} {low : T} {none kept room list new : List T} {value : V}
+        → n < length t.prefix → IsCanonical cmp t → whole ≡ t.prefix → p ≡ take n whole
+        → q ≡ take (length whole - n) (drop n whole) → tree low ≡ node q t.value t.children → none ≡ []
+        → IsAlikeIn keeps (forest (map tree none)) (forest (map tree kept)) → room ≡ kept → list ≡ insert room 0 low
+        → new ≡ list → u ≡ node p (Some value) (forest (map tree new))
         → Inserted cmp keeps t (take n t.prefix) value (take n t.prefix) u
-    top-made t u n p low new value h canonical a e l d =
+    top-made {t} {n = n} {p} {q} {whole} {low} {none} {kept} {value = value} h canonical w a b e z alike k x y d =
         let f = forest (map tree (low ∷ [])) in
-        subst (λ u. Inserted cmp keeps t (take n t.prefix) value (take n t.prefix) u)
-        (sym (d ∙ node-equal p (take n t.prefix) (Some value) (Some value) (forest (map tree new)) f a refl
-        (ap (λ l. forest (map tree l)) l)))
-        (record {
+        let half : tree low ≡ node (drop n t.prefix) t.value t.children =
+        e ∙ ap (λ q. node q t.value t.children) (low-from q whole t.prefix n b w) in
+        rw (d, y, x, k, empty-kept keeps tree none kept z alike, a, w) (record {
           updated =
               subst (λ k. IsUpdated cmp keeps k value (lookup cmp t)
               (lookup cmp (node (take n t.prefix) (Some value) f))) (append-nil (take n t.prefix))
-              (split-updated t n low [] value (Some value) f h e (updated-value cmp keeps r value None f));
-          branch = record { prefix = refl; solid = tt; children = low-children t n low h canonical e };
+              (split-updated t n low [] value (Some value) f h half (updated-value cmp keeps r value None f));
+          branch = record { prefix = refl; solid = tt; children = low-children t n low h canonical half };
         })
 
-    -- a new node above the half below and a leaf beside it
-    pub pair-made : (t u : Tree K V) (n : ℕ) (rest : List K) (i : ℕ) (p : List K) (low leaf : T) (new : List T) (value : V)
-        → SplitsAt cmp t n rest i → IsCanonical cmp t → p ≡ take n t.prefix
-        → tree low ≡ node (drop n t.prefix) t.value t.children → tree leaf ≡ made rest (Some value) []
-        → new ≡ insert (low ∷ []) i leaf → u ≡ node p None (forest (map tree new))
+    -- a new node above the half below and a leaf beside it, which were put into an empty list
+    pub pair-made : {t u : Tree K V} {n i : ℕ} {rest p q whole : List K} {low leaf : T} {none kept room one list new : List T}
+        {value : V} → SplitsAt cmp t n rest i → IsCanonical cmp t → whole ≡ t.prefix → p ≡ take n whole
+        → q ≡ take (length whole - n) (drop n whole) → tree low ≡ node q t.value t.children
+        → tree leaf ≡ made rest (Some value) [] → none ≡ []
+        → IsAlikeIn keeps (forest (map tree none)) (forest (map tree kept)) → room ≡ kept → one ≡ insert room 0 low
+        → list ≡ insert one i leaf → new ≡ list → u ≡ node p None (forest (map tree new))
         → Inserted cmp keeps t (take n t.prefix ++ rest) value (take n t.prefix) u
-    pair-made t u n rest i p low leaf new value s canonical a e b l d =
+    pair-made {t} {n = n} {i} {p = p} {q} {whole} {low} {leaf} {none} {kept} {value = value}
+        s canonical w a b e l z alike k x m y d =
+        let half : tree low ≡ node (drop n t.prefix) t.value t.children =
+        e ∙ ap (λ q. node q t.value t.children) (low-from q whole t.prefix n b w) in
         let f = forest (map tree (low ∷ [])) in
         let g = forest (map tree (insert (low ∷ []) i leaf)) in
-        let y = s.fits.first in
-        let q = s.fits.others in
-        let gap : IsGapAt cmp f y i =
-        subst (λ l. IsGapAt cmp (grow l.prefix l.value l.children bare) y i) (sym e) s.fits.gap in
-        let one : tree leaf ≡ node (y ∷ q) (Some value) bare = b ∙ ap (λ k. node k (Some value) bare) s.fits.key_is in
-        subst (λ u. Inserted cmp keeps t (take n t.prefix ++ rest) value (take n t.prefix) u)
-        (sym (d ∙ node-equal p (take n t.prefix) None None (forest (map tree new)) g a refl
-        (ap (λ l. forest (map tree l)) l)))
-        (record {
-          updated = split-updated t n low rest value None g s.within e
+        let first = s.fits.first in
+        let others = s.fits.others in
+        let gap : IsGapAt cmp f first i =
+        subst (λ l. IsGapAt cmp (grow l.prefix l.value l.children bare) first i) (sym half) s.fits.gap in
+        let alone : tree leaf ≡ node (first ∷ others) (Some value) bare = l ∙ ap (λ k. node k (Some value) bare) s.fits.key_is in
+        rw (d, y, m, x, k, empty-kept keeps tree none kept z alike, a, w) (record {
+          updated = split-updated t n low _ value None g s.within half
               (subst (λ k. IsUpdated cmp keeps k value (lookup cmp (node [] None f)) (lookup cmp (node [] None g)))
               (sym s.fits.key_is)
-              (updated-children cmp keeps r y q value None None f g tt
-              (updated-insert cmp keeps o r tree (low ∷ []) i leaf y q value one gap)));
+              (updated-children cmp keeps r first others value None None f g tt
+              (updated-insert cmp keeps o r tree (low ∷ []) i leaf first others value alone gap)));
           branch = record {
             prefix = refl;
             solid = pair-solid tree low [] i leaf;
             children =
-                children-insert cmp tree (low ∷ []) i leaf y q value one gap (low-children t n low s.within canonical e);
+                children-insert cmp tree (low ∷ []) i leaf first others value alone gap
+                (low-children t n low s.within canonical half);
           };
         })
 
@@ -228,7 +241,7 @@ module _ {K V : Type 0} (cmp : K → K → Ordering) (keeps : V → V → Type 0
     child-solid (t ∷ ts) (suc i) d a h = grind (arith, child-solid ts i d)
     child-solid ts i d a h = grind arith
 
-    module _ (old kept : List T) (i : ℕ) (rest : List K) (leads : LeadsTo cmp (forest (map tree old)) rest i)
+    module _ (old kept : List T) {i : ℕ} {rest : List K} (leads : LeadsTo cmp (forest (map tree old)) rest i)
         (alike : IsAlikeIn keeps (forest (map tree old)) (forest (map tree kept)))
         (canonical : AreChildren cmp (forest (map tree old))) where
       -- the tree that the key leads to begins as the old one
@@ -242,8 +255,8 @@ module _ {K V : Type 0} (cmp : K → K → Ordering) (keeps : V → V → Type 0
           { here = leads.begins.here; at = leads-kept; equal = leads.begins.equal })
 
       -- it agrees with the key in one component
-      pub leads-agree : (child : T) → child ≡ get_or kept i child → Agree cmp (tree child).prefix rest 1
-      leads-agree child is =
+      pub leads-agree : {child : T} → child ≡ get_or kept i child → Agree cmp (tree child).prefix rest 1
+      leads-agree {child} is =
           agree-one cmp (tree child).prefix rest leads.begins.here leads.first leads.others
           (ap (λ c. slice_get (tree c).prefix 0) is ∙ sym (child_first-map cmp tree kept i child leads-within) ∙
           leads-kept) leads.begins.equal leads.key_is
@@ -253,17 +266,17 @@ module _ {K V : Type 0} (cmp : K → K → Ordering) (keeps : V → V → Type 0
       kept-children = grind (arith, alike-children)
 
       -- the tree has a value or at least two children
-      pub leads-solid : (child : T) → child ≡ get_or kept i child → IsSolid (tree child).value (tree child).children
-      leads-solid child is = grind (arith, child-solid, kept-children, leads-within)
+      pub leads-solid : {child : T} → child ≡ get_or kept i child → IsSolid (tree child).value (tree child).children
+      leads-solid is = grind (arith, child-solid, kept-children, leads-within)
 
       -- and no more nodes than the list
-      pub leads-nodes : (child : T) → child ≡ get_or kept i child → nodes (tree child) ≤ forest_nodes (forest (map tree old))
-      leads-nodes child is = grind (arith, child-nodes, leads-within, alike-nodes)
+      pub leads-nodes : {child : T} → child ≡ get_or kept i child → nodes (tree child) ≤ forest_nodes (forest (map tree old))
+      leads-nodes is = grind (arith, child-nodes, leads-within, alike-nodes)
 
-      module _ (child item : T) (new : List T) (value : V) (is : child ≡ get_or kept i child)
+      module _ {child : T} (item : T) {new : List T} (is : child ≡ get_or kept i child)
           (set_is : new ≡ set kept i item) where
         -- the map of the list, where the tree that the key leads to was updated
-        pub list-updated : IsUpdated cmp keeps rest value (lookup cmp (tree child)) (lookup cmp (tree item))
+        pub list-updated : {value : V} → IsUpdated cmp keeps rest value (lookup cmp (tree child)) (lookup cmp (tree item))
             → IsUpdated cmp keeps rest value (lookup_in cmp (forest (map tree old))) (lookup_in cmp (forest (map tree new)))
         list-updated u = grind (arith, updated-alike, alike-lookup, updated-set, leads-kept, kept-children)
 
@@ -294,33 +307,9 @@ module _ {K V : Type 0} (cmp : K → K → Ordering) (keeps : V → V → Type 0
 
 -- ---- lists of items that a list was made of
 
--- what keeps an empty list is empty
-pub empty-kept : {K V T : Type 0} (keeps : V → V → Type 0) (tree : T → Tree K V) (xs ys : List T) → xs ≡ []
-    → IsAlikeIn keeps (forest (map tree xs)) (forest (map tree ys)) → ys ≡ []
-empty-kept keeps tree [] [] e h = refl
-empty-kept keeps tree xs ys e h = grind arith
-
 -- what keeps a list is as long
 pub length-kept : {K V T : Type 0} (keeps : V → V → Type 0) (tree : T → Tree K V) (xs ys : List T)
     → IsAlikeIn keeps (forest (map tree xs)) (forest (map tree ys)) → length xs ≡ length ys
 length-kept keeps tree [] [] h = refl
 length-kept keeps tree (x ∷ xs) (y ∷ ys) h = grind (arith, length-kept keeps tree xs ys)
 length-kept keeps tree xs ys h = grind arith
-
--- one item put into an empty list
-pub one-put : {T : Type 0} (zs a b c : List T) (low : T) → zs ≡ a → a ≡ insert b 0 low → b ≡ c → c ≡ [] → zs ≡ low ∷ []
-one-put zs a b c low p q r s = rw (p, q, r, s) refl
-
--- and a second one
-pub two-put : {T : Type 0} (zs a b c d : List T) (i : ℕ) (low leaf : T) → zs ≡ a → a ≡ insert b i leaf
-    → b ≡ insert c 0 low → c ≡ d → d ≡ [] → zs ≡ insert (low ∷ []) i leaf
-two-put zs a b c d i low leaf p q r s t = rw (p, q, r, s, t) refl
-
--- a part of the prefix, copied from the slice that was lent
-pub top-from : {K : Type 0} (a whole p : List K) (n : ℕ) → a ≡ take n whole → whole ≡ p → a ≡ take n p
-top-from a whole p n h e = h ∙ ap (take n) e
-
-pub low-from : {K : Type 0} (a whole p : List K) (n : ℕ) → a ≡ take (length whole - n) (drop n whole) → whole ≡ p
-    → a ≡ drop n p
-low-from {K = K} a whole p n h e =
-    h ∙ take_all (length whole - n) (drop n whole) (omega (arith, length-drop {A = K} n whole)) ∙ ap (drop n) e

@@ -4,7 +4,8 @@ ghost use Rattle.std.specs.Prelude.{◌≡◌, ◌<◌, ◌≤◌, ◌∷◌, le
 ghost use Rattle.std.specs.Vec.Iter.{into_iter_items};
 ghost use Rattle.vc_tree_model.specs.Canonical.{AreChildren};
 ghost use Rattle.vc_tree_nodes.specs.Ascending.{Follows, HasCommon, HaveCommon, IsGroupOf};
-ghost use Rattle.vc_tree_nodes.specs.Ascending.{IsRunBehind, GoOnBehind, HeadAbove, FirstEnds, IsAdded, IsBuilt};
+ghost use Rattle.vc_tree_nodes.specs.Ascending.{IsRunBehind, GoOnBehind, HeadAbove, FirstEnds};
+ghost use Rattle.vc_tree_nodes.specs.Ascending.{IsAdded, IsBuilt};
 ghost use Rattle.vc_tree_nodes.specs.Ascending.{pairs_behind};
 ghost use Rattle.vc_tree_nodes.specs.Children.{seen};
 

@@ -60,7 +60,8 @@ pub trait ChildList<T>: Sized + Drop {
 
     /// The children, to be written. Shared ones are copied first, and that copy can be refused.
     fn make_mut(&mut self) -> Result<&mut Vec<T>, AllocError>
-        ensures* writes_back { sem 𝓛 (LendsChildren Self.row T.row ⟦<Global as Allocator>⟧ items kept self.entry result) }
+        ensures* writes_back { sem 𝓛 (LendsChildren Self.row T.row ⟦<Global as Allocator>⟧ items
+            kept self.entry result) }
         ensures value { IfOk result (λ list. kept (items self.old) list.now.items) };
 }
 

@@ -4,7 +4,8 @@
 ghost use Rattle.std.specs.Prelude.{◌≡◌, false, List, true, length, [], IfOk, IfSome, OnOk};
 ghost use Rattle.vc_tree_model.specs.Map.{lookup};
 ghost use Rattle.vc_tree_model.specs.Pairs.{IsCollected, last_bound};
-ghost use Rattle.vc_tree_nodes.specs.Ascending.{BindsMore, FollowsLast, IsAscending, MayGrow, gathered};
+ghost use Rattle.vc_tree_nodes.specs.Ascending.{BindsMore, FollowsLast, IsAscending, MayGrow};
+ghost use Rattle.vc_tree_nodes.specs.Ascending.{gathered};
 ghost use Rattle.vc_tree_nodes.specs.Ascending.{pairs_behind};
 
 use crate::ascending::{Step, build_run, common_front};

@@ -1,6 +1,7 @@
 //! How a key is bound to a value in a tree.
 
-ghost use Rattle.std.specs.Prelude.{◌≡◌, ◌+◌, ◌<◌, ◌≤◌, ◌++◌, [], length, take, vec_len, vec_capacity, Some, IfOk, IsOk, OnOk, OnErr};
+ghost use Rattle.std.specs.Prelude.{◌≡◌, ◌+◌, ◌<◌, ◌≤◌, ◌++◌, [], length, take, vec_len};
+ghost use Rattle.std.specs.Prelude.{vec_capacity, Some, IfOk, IsOk, OnOk, OnErr};
 ghost use Rattle.std.specs.List.{insert as list_insert};
 ghost use Rattle.vc_tree_model.specs.Tree.{made, node};
 ghost use Rattle.vc_tree_model.specs.Map.{HaveEqualMaps, IsInserted, IsUpdated, lookup, lookup_in};

@@ -4,7 +4,8 @@ ghost use Rattle.std.specs.Prelude.{◌≡◌, ◌+◌, ◌≤◌, length, slice
 ghost use Rattle.vc_merge.specs.Count.{digits};
 ghost use Rattle.vc_tree_model.specs.Canonical.{AreChildren};
 ghost use Rattle.vc_tree_nodes.specs.Children.{seen};
-ghost use Rattle.vc_tree_nodes.specs.Places.{BeginsAt, IsGapAt, IsFoundChild, IsNoChild, first_side};
+ghost use Rattle.vc_tree_nodes.specs.Places.{BeginsAt, IsGapAt, IsFoundChild, IsNoChild};
+ghost use Rattle.vc_tree_nodes.specs.Places.{first_side};
 
 use crate::reading::{RadixNode, TKey, TValue};
 use std::cmp::Ordering;

@@ -2,7 +2,8 @@
 use Rattle.std.proofs.Common.{arith}
 use Rattle.vc_tree_nodes.proofs.Runs.{least-new, least-stays}
 use Rattle.vc_tree_nodes.proofs.ascending.least_common.Goals as goal
-use Rattle.vc_tree_nodes.proofs.ascending.least_common.Goals.{then-step-least, else-step-least+then-step-least-2, else-step-least+else-step-least-2}
+use Rattle.vc_tree_nodes.proofs.ascending.least_common.Goals.{then-step-least, else-step-least+then-step-least-2}
+use Rattle.vc_tree_nodes.proofs.ascending.least_common.Goals.{else-step-least+else-step-least-2}
 
 pub loop-step-preserved : goal.loop-step-preserved
 loop-step-preserved g c =

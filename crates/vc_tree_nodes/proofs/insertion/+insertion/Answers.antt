@@ -29,13 +29,11 @@ insert_below-assemble-requires g t c =
     let canonical =
     subst (λ t. IsCanonical g.K.Ord.cmp (tree t)) c.replace-node.ensures.value c.take_apart-prefix.ensures.canonical in
     on-both c.insert_into-done.result c.insert_into-done.ensures.ok c.insert_into-done.ensures.err
-    (λ updated. inserted-canonical g.K.Ord.cmp g.T.Build.keeps (tree c.args.tree.now) _ c.args.value _ _
-    (child-grown g.K.Ord.cmp g.T.Build.keeps g.met.T.Build.keeps_refl g.met.T.Build.keeps_trans g.met.K.Ord.total tree
-    (tree c.args.tree.now) _ _ _ _ _ c.args.rest.now c.args.value c.requires.leads.first c.requires.leads.others
-    prefix value children refl c.requires.solid c.requires.leads.key_is c.insert_into-done.ensures.as_many
-    c.insert_into-done.ensures.canonical updated))
-    (λ alike. parts-canonical g.K.Ord.cmp g.T.Build.keeps g.met.T.Build.keeps_refl g.met.T.Build.keeps_trans
-    g.met.K.Ord.total tree (tree c.args.tree.now) _ _ _ _ prefix value children canonical alike)
+    (λ updated. inserted-canonical (child-grown g.met.T.Build.keeps_refl g.met.T.Build.keeps_trans g.met.K.Ord.total tree
+    (tree c.args.tree.now) _ _ prefix value children refl c.requires.solid c.requires.leads.key_is
+    c.insert_into-done.ensures.as_many c.insert_into-done.ensures.canonical updated))
+    (λ alike. parts-canonical g.met.T.Build.keeps_refl g.met.T.Build.keeps_trans g.met.K.Ord.total tree
+    (tree c.args.tree.now) _ _ prefix value children canonical alike)
 
 pub insert_below-returns-clause-ok : goal.insert_below-returns-clause-ok
 insert_below-returns-clause-ok g t c =
@@ -46,12 +44,9 @@ insert_below-returns-clause-ok g t c =
     ap (λ o. forest (map tree (listed g.T.Children.ChildList.items o))) (sym c.in-Some.is) ∙
     c.take_apart-prefix.ensures.children ∙ ap (λ t. (tree t).children) c.replace-node.ensures.value in
     on-ok c.insert_into-done.result
-    (λ updated. child-grown g.K.Ord.cmp g.T.Build.keeps g.met.T.Build.keeps_refl g.met.T.Build.keeps_trans
-    g.met.K.Ord.total tree (tree c.args.tree.now) _ _ _ _ _ c.args.rest.now c.args.value c.requires.leads.first
-    c.requires.leads.others
+    (λ updated. child-grown g.met.T.Build.keeps_refl g.met.T.Build.keeps_trans g.met.K.Ord.total tree (tree c.args.tree.now) _ _
     prefix value children c.assemble.ensures c.requires.solid c.requires.leads.key_is
-    c.insert_into-done.ensures.as_many c.insert_into-done.ensures.canonical updated)
-    c.insert_into-done.ensures.ok
+    c.insert_into-done.ensures.as_many c.insert_into-done.ensures.canonical updated) c.insert_into-done.ensures.ok
 
 pub insert_from-split_beside-requires : goal.insert_from-split_beside-requires
 insert_from-split_beside-requires g t c =
@@ -61,8 +56,7 @@ insert_from-split_beside-requires g t c =
 pub insert_from-split_beside-requires-in-Higher : goal.insert_from-split_beside-requires-in-Higher
 insert_from-split_beside-requires-in-Higher g t c =
     splits-higher g.K.Ord.cmp g.met.K.Ord.total (g.T.RadixNode.tree c.args.tree.now)
-    c.prefix-prefix.result.now c.args.key.now c.in-Higher.n c.prefix-prefix.ensures.value c.in-Higher.ensures.is
-    c.requires.solid
+    c.prefix-prefix.result.now c.args.key.now c.in-Higher.n c.prefix-prefix.ensures.value c.in-Higher.ensures.is c.requires.solid
 
 pub insert_from-returns-in-Behind-clause-ok : goal.insert_from-returns-in-Behind-clause-ok
 insert_from-returns-in-Behind-clause-ok g t c =
@@ -70,8 +64,7 @@ insert_from-returns-in-Behind-clause-ok g t c =
     on-ok c.insert_behind.result
     (λ inserted. updated-respelled g.K.Ord.cmp g.T.Build.keeps g.met.K.Ord.total _ c.args.key.now c.args.value _ _
     (same-behind_whole g.K.Ord.cmp g.met.K.Ord.total c.prefix-prefix.result.now tree.prefix c.args.key.now
-    c.prefix-prefix.ensures.value c.in-Behind.ensures.is) inserted.updated)
-    c.insert_behind.ensures.ok
+    c.prefix-prefix.ensures.value c.in-Behind.ensures.is) inserted.updated) c.insert_behind.ensures.ok
 
 pub insert_from-returns-in-Inside-clause-ok : goal.insert_from-returns-in-Inside-clause-ok
 insert_from-returns-in-Inside-clause-ok g t c =
@@ -79,8 +72,7 @@ insert_from-returns-in-Inside-clause-ok g t c =
     on-ok c.split_above.result
     (λ inserted. updated-respelled g.K.Ord.cmp g.T.Build.keeps g.met.K.Ord.total _ c.args.key.now c.args.value _ _
     (same-ended g.K.Ord.cmp c.prefix-prefix.result.now tree.prefix c.args.key.now c.in-Inside.n
-    c.prefix-prefix.ensures.value c.in-Inside.ensures.is.0 c.in-Inside.ensures.is.1) inserted.updated)
-    c.split_above.ensures.ok
+    c.prefix-prefix.ensures.value c.in-Inside.ensures.is.0 c.in-Inside.ensures.is.1) inserted.updated) c.split_above.ensures.ok
 
 pub insert_from-returns-in-Inside-clause-err : goal.insert_from-returns-in-Inside-clause-err
 insert_from-returns-in-Inside-clause-err g t c =
@@ -94,8 +86,7 @@ insert_from-returns-in-Lower-clause-ok g t c =
     on-ok c.split_beside.result
     (λ inserted. updated-respelled g.K.Ord.cmp g.T.Build.keeps g.met.K.Ord.total _ c.args.key.now c.args.value _ _
     (same-joined g.K.Ord.cmp g.met.K.Ord.total c.prefix-prefix.result.now tree.prefix c.args.key.now c.in-Lower.n
-    c.prefix-prefix.ensures.value c.in-Lower.ensures.is.agree) inserted.updated)
-    c.split_beside.ensures.ok
+    c.prefix-prefix.ensures.value c.in-Lower.ensures.is.agree) inserted.updated) c.split_beside.ensures.ok
 
 pub insert_from-returns-in-Lower-clause-grown : goal.insert_from-returns-in-Lower-clause-grown
 insert_from-returns-in-Lower-clause-grown g t c =
@@ -103,8 +94,7 @@ insert_from-returns-in-Lower-clause-grown g t c =
     on-ok c.split_beside.result
     (λ inserted. grown-from g.K.Ord.cmp c.args.known c.in-Lower.n tree _
     (known-within g.K.Ord.cmp _ c.prefix-prefix.result.now tree.prefix c.args.key.now c.args.known c.in-Lower.n
-    c.prefix-prefix.ensures.value refl c.requires.known c.in-Lower.ensures.is) inserted.branch)
-    c.split_beside.ensures.ok
+    c.prefix-prefix.ensures.value refl c.requires.known c.in-Lower.ensures.is) inserted.branch) c.split_beside.ensures.ok
 
 pub insert_from-returns-in-Lower-clause-err : goal.insert_from-returns-in-Lower-clause-err
 insert_from-returns-in-Lower-clause-err g t c =
@@ -118,8 +108,7 @@ insert_from-returns-in-Higher-clause-ok g t c =
     on-ok c.split_beside-in-Higher.result
     (λ inserted. updated-respelled g.K.Ord.cmp g.T.Build.keeps g.met.K.Ord.total _ c.args.key.now c.args.value _ _
     (same-joined g.K.Ord.cmp g.met.K.Ord.total c.prefix-prefix.result.now tree.prefix c.args.key.now c.in-Higher.n
-    c.prefix-prefix.ensures.value c.in-Higher.ensures.is.agree) inserted.updated)
-    c.split_beside-in-Higher.ensures.ok
+    c.prefix-prefix.ensures.value c.in-Higher.ensures.is.agree) inserted.updated) c.split_beside-in-Higher.ensures.ok
 
 pub insert_from-returns-in-Higher-clause-grown : goal.insert_from-returns-in-Higher-clause-grown
 insert_from-returns-in-Higher-clause-grown g t c =
@@ -149,78 +138,52 @@ insert_into-returns-in_err-list-clause-as_many g t c =
 pub insert_into-index_mut-requires : goal.insert_into-index_mut-requires
 insert_into-index_mut-requires g t c =
     let h =
-    leads-within g.K.Ord.cmp g.T.Build.keeps g.met.T.Build.keeps_refl g.met.T.Build.keeps_trans g.met.K.Ord.total
-    g.T.RadixNode.tree
-    (g.T.Children.ChildList.items c.args.children.now) c.in_ok-list.list.now.items c.args.i c.args.rest.now
-    c.requires.leads (g.met.T.Build.kept_alike _ _ c.in_ok-list.ensures.value) c.requires.canonical in
+    leads-within g.met.T.Build.keeps_refl g.met.T.Build.keeps_trans g.met.K.Ord.total
+    g.T.RadixNode.tree _ _ c.requires.leads (g.met.T.Build.kept_alike _ _ c.in_ok-list.ensures.value) c.requires.canonical in
     omega (arith, h, c.in_ok-list.list.now.ok.0)
 
 pub insert_into-insert_from-requires : goal.insert_into-insert_from-requires
 insert_into-insert_from-requires g t c =
     let agree =
-    leads-agree g.K.Ord.cmp g.T.Build.keeps g.met.T.Build.keeps_refl g.met.T.Build.keeps_trans g.met.K.Ord.total
-    g.T.RadixNode.tree
-    (g.T.Children.ChildList.items c.args.children.now) c.in_ok-list.list.now.items c.args.i c.args.rest.now
-    c.requires.leads (g.met.T.Build.kept_alike _ _ c.in_ok-list.ensures.value) c.requires.canonical
-    c.index_mut.result.now c.index_mut.ensures.value in
+    leads-agree g.met.T.Build.keeps_refl g.met.T.Build.keeps_trans g.met.K.Ord.total
+    g.T.RadixNode.tree _ _ c.requires.leads (g.met.T.Build.kept_alike _ _ c.in_ok-list.ensures.value) c.requires.canonical
+    c.index_mut.ensures.value in
     let solid =
-    leads-solid g.K.Ord.cmp g.T.Build.keeps g.met.T.Build.keeps_refl g.met.T.Build.keeps_trans g.met.K.Ord.total
-    g.T.RadixNode.tree
-    (g.T.Children.ChildList.items c.args.children.now) c.in_ok-list.list.now.items c.args.i c.args.rest.now
-    c.requires.leads (g.met.T.Build.kept_alike _ _ c.in_ok-list.ensures.value) c.requires.canonical
-    c.index_mut.result.now c.index_mut.ensures.value in
+    leads-solid g.met.T.Build.keeps_refl g.met.T.Build.keeps_trans g.met.K.Ord.total
+    g.T.RadixNode.tree _ _ c.requires.leads (g.met.T.Build.kept_alike _ _ c.in_ok-list.ensures.value) c.requires.canonical
+    c.index_mut.ensures.value in
     let fewer =
-    leads-nodes g.K.Ord.cmp g.T.Build.keeps g.met.T.Build.keeps_refl g.met.T.Build.keeps_trans g.met.K.Ord.total
-    g.T.RadixNode.tree
-    (g.T.Children.ChildList.items c.args.children.now) c.in_ok-list.list.now.items c.args.i c.args.rest.now
-    c.requires.leads (g.met.T.Build.kept_alike _ _ c.in_ok-list.ensures.value) c.requires.canonical
-    c.index_mut.result.now c.index_mut.ensures.value in
+    leads-nodes g.met.T.Build.keeps_refl g.met.T.Build.keeps_trans g.met.K.Ord.total
+    g.T.RadixNode.tree _ _ c.requires.leads (g.met.T.Build.kept_alike _ _ c.in_ok-list.ensures.value) c.requires.canonical
+    c.index_mut.ensures.value in
     search rules
 
 pub insert_into-returns-clause-ok : goal.insert_into-returns-clause-ok
 insert_into-returns-clause-ok g t c =
-    on-ok c.insert_from.result
-    (list-updated g.K.Ord.cmp g.T.Build.keeps g.met.T.Build.keeps_refl g.met.T.Build.keeps_trans g.met.K.Ord.total
-    g.T.RadixNode.tree
-    (g.T.Children.ChildList.items c.args.children.now) c.in_ok-list.list.now.items c.args.i c.args.rest.now
-    c.requires.leads (g.met.T.Build.kept_alike _ _ c.in_ok-list.ensures.value) c.requires.canonical
-    c.index_mut.result.now c.insert_from.new.tree _ c.args.value c.index_mut.ensures.value
-    (c.make_mut.follows.holds _ (ap is_ok c.in_ok-list.was)))
-    c.insert_from.ensures.ok
+    on-ok c.insert_from.result (list-updated g.met.T.Build.keeps_refl g.met.T.Build.keeps_trans g.met.K.Ord.total
+    g.T.RadixNode.tree _ _ c.requires.leads (g.met.T.Build.kept_alike _ _ c.in_ok-list.ensures.value) c.requires.canonical
+    _ c.index_mut.ensures.value (c.make_mut.follows.holds _ (ap is_ok c.in_ok-list.was))) c.insert_from.ensures.ok
 
 pub insert_into-returns-clause-err : goal.insert_into-returns-clause-err
 insert_into-returns-clause-err g t c =
-    on-err c.insert_from.result
-    (list-alike g.K.Ord.cmp g.T.Build.keeps g.met.T.Build.keeps_refl g.met.T.Build.keeps_trans g.met.K.Ord.total
-    g.T.RadixNode.tree
-    (g.T.Children.ChildList.items c.args.children.now) c.in_ok-list.list.now.items c.args.i c.args.rest.now
-    c.requires.leads (g.met.T.Build.kept_alike _ _ c.in_ok-list.ensures.value) c.requires.canonical
-    c.index_mut.result.now c.insert_from.new.tree _ c.args.value c.index_mut.ensures.value
-    (c.make_mut.follows.holds _ (ap is_ok c.in_ok-list.was)))
-    c.insert_from.ensures.err
+    on-err c.insert_from.result (list-alike g.met.T.Build.keeps_refl g.met.T.Build.keeps_trans g.met.K.Ord.total
+    g.T.RadixNode.tree _ _ c.requires.leads (g.met.T.Build.kept_alike _ _ c.in_ok-list.ensures.value) c.requires.canonical
+    _ c.index_mut.ensures.value (c.make_mut.follows.holds _ (ap is_ok c.in_ok-list.was))) c.insert_from.ensures.err
 
 pub insert_into-returns-clause-canonical : goal.insert_into-returns-clause-canonical
 insert_into-returns-clause-canonical g t c =
     on-both c.insert_from.result c.insert_from.ensures.grown c.insert_from.ensures.err
-    (list-grown g.K.Ord.cmp g.T.Build.keeps g.met.T.Build.keeps_refl g.met.T.Build.keeps_trans g.met.K.Ord.total
-    g.T.RadixNode.tree
-    (g.T.Children.ChildList.items c.args.children.now) c.in_ok-list.list.now.items c.args.i c.args.rest.now
-    c.requires.leads (g.met.T.Build.kept_alike _ _ c.in_ok-list.ensures.value) c.requires.canonical
-    c.index_mut.result.now c.insert_from.new.tree _ c.args.value c.index_mut.ensures.value
-    (c.make_mut.follows.holds _ (ap is_ok c.in_ok-list.was)))
+    (list-grown g.met.T.Build.keeps_refl g.met.T.Build.keeps_trans g.met.K.Ord.total
+    g.T.RadixNode.tree _ _ c.requires.leads (g.met.T.Build.kept_alike _ _ c.in_ok-list.ensures.value) c.requires.canonical
+    _ c.index_mut.ensures.value (c.make_mut.follows.holds _ (ap is_ok c.in_ok-list.was)))
     (λ alike. alike-children g.T.Build.keeps g.K.Ord.cmp _ _
-    (list-alike g.K.Ord.cmp g.T.Build.keeps g.met.T.Build.keeps_refl g.met.T.Build.keeps_trans g.met.K.Ord.total
-    g.T.RadixNode.tree
-    (g.T.Children.ChildList.items c.args.children.now) c.in_ok-list.list.now.items c.args.i c.args.rest.now
-    c.requires.leads (g.met.T.Build.kept_alike _ _ c.in_ok-list.ensures.value) c.requires.canonical
-    c.index_mut.result.now c.insert_from.new.tree _ c.args.value c.index_mut.ensures.value
-    (c.make_mut.follows.holds _ (ap is_ok c.in_ok-list.was)) alike)
-    c.requires.canonical)
+    (list-alike g.met.T.Build.keeps_refl g.met.T.Build.keeps_trans g.met.K.Ord.total
+    g.T.RadixNode.tree _ _ c.requires.leads (g.met.T.Build.kept_alike _ _ c.in_ok-list.ensures.value) c.requires.canonical
+    _ c.index_mut.ensures.value (c.make_mut.follows.holds _ (ap is_ok c.in_ok-list.was)) alike) c.requires.canonical)
 
 pub insert_into-returns-clause-as_many : goal.insert_into-returns-clause-as_many
 insert_into-returns-clause-as_many g t c =
     let kept =
-    length-kept g.T.Build.keeps g.T.RadixNode.tree _ _
-    (g.met.T.Build.kept_alike _ _ c.in_ok-list.ensures.value) in
+    length-kept g.T.Build.keeps g.T.RadixNode.tree _ _ (g.met.T.Build.kept_alike _ _ c.in_ok-list.ensures.value) in
     ap length (c.make_mut.follows.holds _ (ap is_ok c.in_ok-list.was)) ∙ length-set c.in_ok-list.list.now.items
     c.args.i c.insert_from.new.tree ∙ sym kept

@@ -17,8 +17,7 @@ add_to-done-requires g c =
     let tree = g.T.RadixNode.tree in
     gap-within g.K.Ord.cmp tree _ c.requires.fits.first c.args.i
     (subst (λ f. IsGapAt g.K.Ord.cmp f c.requires.fits.first c.args.i)
-    (sym (c.take_apart-prefix.ensures.children ∙ ap (λ t. (tree t).children) c.replace-node.ensures.value))
-    c.requires.fits.gap)
+    (sym (c.take_apart-prefix.ensures.children ∙ ap (λ t. (tree t).children) c.replace-node.ensures.value)) c.requires.fits.gap)
 
 pub assemble-requires : goal.assemble-requires
 assemble-requires g c =
@@ -29,12 +28,10 @@ assemble-requires g c =
     let canonical =
     subst (λ t. IsCanonical g.K.Ord.cmp (tree t)) c.replace-node.ensures.value c.take_apart-prefix.ensures.canonical in
     on-both c.add_to-done.result c.add_to-done.ensures.ok c.add_to-done.ensures.err
-    (λ added. inserted-canonical g.K.Ord.cmp g.T.Build.keeps (tree c.args.tree.now) _ c.args.value _ _
-    (child-added g.K.Ord.cmp g.T.Build.keeps g.met.T.Build.keeps_refl g.met.T.Build.keeps_trans g.met.K.Ord.total tree
-    (tree c.args.tree.now) _ _ _ _ _ c.args.i c.in_ok-leaf.leaf c.args.rest.now c.args.value
-    prefix value children refl canonical c.requires.solid c.requires.fits c.in_ok-leaf.ensures.is added))
-    (λ alike. parts-canonical g.K.Ord.cmp g.T.Build.keeps g.met.T.Build.keeps_refl g.met.T.Build.keeps_trans
-    g.met.K.Ord.total tree (tree c.args.tree.now) _ _ _ _ prefix value children canonical alike)
+    (λ added. inserted-canonical (child-added g.met.T.Build.keeps_refl g.met.T.Build.keeps_trans g.met.K.Ord.total tree
+    (tree c.args.tree.now) prefix value children refl canonical c.requires.solid c.requires.fits c.in_ok-leaf.ensures.is added))
+    (λ alike. parts-canonical g.met.T.Build.keeps_refl g.met.T.Build.keeps_trans g.met.K.Ord.total tree
+    (tree c.args.tree.now) _ _ prefix value children canonical alike)
 
 pub returns-clause-ok : goal.returns-clause-ok
 returns-clause-ok g c =
@@ -45,7 +42,6 @@ returns-clause-ok g c =
     let canonical =
     subst (λ t. IsCanonical g.K.Ord.cmp (tree t)) c.replace-node.ensures.value c.take_apart-prefix.ensures.canonical in
     on-ok c.add_to-done.result
-    (λ added. child-added g.K.Ord.cmp g.T.Build.keeps g.met.T.Build.keeps_refl g.met.T.Build.keeps_trans
-    g.met.K.Ord.total tree (tree c.args.tree.now) _ _ _ _ _ c.args.i c.in_ok-leaf.leaf c.args.rest.now c.args.value
+    (λ added. child-added g.met.T.Build.keeps_refl g.met.T.Build.keeps_trans g.met.K.Ord.total tree (tree c.args.tree.now)
     prefix value children c.assemble.ensures canonical c.requires.solid c.requires.fits c.in_ok-leaf.ensures.is added)
     c.add_to-done.ensures.ok

@@ -1,7 +1,6 @@
 -- A new node with the value, above the rest of the old one.
 use Rattle.std.proofs.Common.{refl, ap, ◌∙◌, arith, is_ok, length, ◌<◌}
-use Rattle.vc_tree_nodes.proofs.Events.{whole-solid, top-made, inserted-canonical, node-equal, top-from, low-from}
-use Rattle.vc_tree_nodes.proofs.Events.{one-put, empty-kept}
+use Rattle.vc_tree_nodes.proofs.Events.{whole-solid, top-made, inserted-canonical}
 use Rattle.vc_tree_nodes.proofs.Growing.{solid-whole}
 use Rattle.vc_tree_nodes.proofs.insertion.split_above.Goals as goal
 
@@ -16,35 +15,16 @@ cut-low-requires g c =
 
 pub assemble-requires : goal.assemble-requires
 assemble-requires g c =
-    let tree = g.T.RadixNode.tree in
-    let t = tree c.args.tree.now in
-    inserted-canonical g.K.Ord.cmp g.T.Build.keeps t _ c.args.value _ _
-    (top-made g.K.Ord.cmp g.T.Build.keeps g.met.T.Build.keeps_refl g.met.T.Build.keeps_trans g.met.K.Ord.total tree t
-    _ c.args.n _ c.cut-low.result _ c.args.value
-    c.requires c.prefix-whole.ensures.canonical
-    (top-from _ c.prefix-whole.result.now t.prefix c.args.n c.in_ok-top.ensures.items c.prefix-whole.ensures.value)
-    (c.cut-low.ensures ∙ node-equal _ _ t.value t.value t.children t.children
-    (low-from _ c.prefix-whole.result.now t.prefix c.args.n c.in_ok-low_prefix.ensures.items c.prefix-whole.ensures.value)
-    refl refl)
-    (one-put _ c.put.new.list.items c.reserve_exact.new.self.items c.in_ok-list.list.now.items c.cut-low.result
-    (c.make_mut.follows.holds _ (ap is_ok c.in_ok-list.was)) c.put.ensures.items c.reserve_exact.ensures.items
-    (empty-kept g.T.Build.keeps tree _ _ (c.in_ok-children.ensures.ok ∙ c.new.ensures.items)
-    (g.met.T.Build.kept_alike _ _ c.in_ok-list.ensures.value)))
-    refl)
+    inserted-canonical (top-made g.met.T.Build.keeps_refl g.met.T.Build.keeps_trans g.met.K.Ord.total g.T.RadixNode.tree
+    c.requires c.prefix-whole.ensures.canonical c.prefix-whole.ensures.value c.in_ok-top.ensures.items
+    c.in_ok-low_prefix.ensures.items c.cut-low.ensures (c.in_ok-children.ensures.ok ∙ c.new.ensures.items)
+    (g.met.T.Build.kept_alike _ _ c.in_ok-list.ensures.value) c.reserve_exact.ensures.items c.put.ensures.items
+    (c.make_mut.follows.holds _ (ap is_ok c.in_ok-list.was)) refl)
 
 pub returns-clause-ok : goal.returns-clause-ok
 returns-clause-ok g c =
-    let tree = g.T.RadixNode.tree in
-    let t = tree c.args.tree.now in
-    top-made g.K.Ord.cmp g.T.Build.keeps g.met.T.Build.keeps_refl g.met.T.Build.keeps_trans g.met.K.Ord.total tree t
-    _ c.args.n _ c.cut-low.result _ c.args.value
-    c.requires c.prefix-whole.ensures.canonical
-    (top-from _ c.prefix-whole.result.now t.prefix c.args.n c.in_ok-top.ensures.items c.prefix-whole.ensures.value)
-    (c.cut-low.ensures ∙ node-equal _ _ t.value t.value t.children t.children
-    (low-from _ c.prefix-whole.result.now t.prefix c.args.n c.in_ok-low_prefix.ensures.items c.prefix-whole.ensures.value)
-    refl refl)
-    (one-put _ c.put.new.list.items c.reserve_exact.new.self.items c.in_ok-list.list.now.items c.cut-low.result
-    (c.make_mut.follows.holds _ (ap is_ok c.in_ok-list.was)) c.put.ensures.items c.reserve_exact.ensures.items
-    (empty-kept g.T.Build.keeps tree _ _ (c.in_ok-children.ensures.ok ∙ c.new.ensures.items)
-    (g.met.T.Build.kept_alike _ _ c.in_ok-list.ensures.value)))
-    c.assemble.ensures
+    top-made g.met.T.Build.keeps_refl g.met.T.Build.keeps_trans g.met.K.Ord.total g.T.RadixNode.tree
+    c.requires c.prefix-whole.ensures.canonical c.prefix-whole.ensures.value c.in_ok-top.ensures.items
+    c.in_ok-low_prefix.ensures.items c.cut-low.ensures (c.in_ok-children.ensures.ok ∙ c.new.ensures.items)
+    (g.met.T.Build.kept_alike _ _ c.in_ok-list.ensures.value) c.reserve_exact.ensures.items c.put.ensures.items
+    (c.make_mut.follows.holds _ (ap is_ok c.in_ok-list.was)) c.assemble.ensures
