@@ -1,19 +1,18 @@
 -- The trees of a list, one after the other, beside the trees that are sought in another one.
 --     next-sought        the next trees are the first one and the one that was found
 --     list-done        all are done
---     inside        the only one of a list is
-use Rattle.std.proofs.Common.{◌≡◌, ℕ, [], ◌∷◌, ◌++◌, List, Option, None, Some, refl, sym, ap, ◌∙◌, Bool, true, false}
-use Rattle.std.proofs.Common.{cond, append-nil, map, option_map, slice_get}
+--     inside-next, inside        the only one of a list is next, and is done
+use Rattle.std.proofs.Common.{◌≡◌, ℕ, ◌<◌, [], ◌∷◌, ◌++◌, List, Option, None, Some, refl, sym, Bool, cond, append-nil, length}
+use Rattle.std.proofs.Common.{map, option_map, slice_get, arith}
+use Rattle.std.specs.Cmp.{IsTotalOrder}
 use Rattle.std.specs.List.{AllByRecursion, cons_option}
-use Rattle.std.specs.Option.{option_cmp}
 use Rattle.std.specs.declared.cmp.Ordering.{Ordering}
 use Rattle.std.specs.declared.cmp.Ordering.TheVariants.{Less}
-use Rattle.vc_tree_model.specs.Canonical.{AreChildren}
+use Rattle.vc_tree_model.specs.Canonical.{AreChildren, IsCanonical}
 use Rattle.vc_tree_model.specs.Look.{Look}
 use Rattle.vc_tree_model.specs.Tree.{Tree, Forest, bare, forest, shortened}
 use Rattle.vc_tree_model.specs.Places.{IsCombinedIn}
-use Rattle.vc_tree_nodes.specs.Places.{first_side}
-use Rattle.vc_tree_facing.specs.Doing.{IsDoing, AreNext}
+use Rattle.vc_tree_facing.specs.Doing.{IsDoing, AreNext, IsSaidIn}
 use Rattle.vc_tree_facing.specs.Facing.{shortened_in}
 use Rattle.vc_tree_facing.specs.Lessening.{alone, left_of, KeepsFront, IsInside}
 use Rattle.vc_tree_facing.specs.Made.{IsMadeOf}
@@ -21,24 +20,20 @@ use Rattle.vc_tree_facing.specs.Seeking.{side_at, Stops, IsSought}
 use Rattle.vc_tree_facing.specs.Sides.{by_component, lower_side, side_next}
 use Rattle.vc_tree_facing.specs.declared.sides.Side.TheVariants.{Left, Right}
 use Rattle.vc_tree_facing.proofs.Components.{Leads, children-first}
-use Rattle.vc_tree_facing.proofs.Next.{done, all-done, left-next, right-next, both-next}
+use Rattle.vc_tree_facing.proofs.Leaving.{inner-list}
+use Rattle.vc_tree_facing.proofs.Next.{doing-start, done, all-done, left-next, right-next, both-next}
 
 module _ {K V W A B : Type 0} (cmp : K → K → Ordering) (ta : A → Tree K V) (tb : B → Tree K W) (i j : ℕ) (a : A) (c : K)
     (e : slice_get (ta a).prefix i ≡ Some c) where
   -- how trees of both sides stand to each other
   side-by : (y : B) {r : Ordering} → side_at cmp tb j c y ≡ r
       → side_next (by_component ta tb i j cmp) (Some a) (Some y) ≡ Some (lower_side r)
-  side-by y h = rw e (ap (λ r. Some (lower_side r)) (by (slice_get (tb y).prefix j) ∙ h))
-    where
-      by : (s : Option K) → option_cmp cmp s (Some c) ≡ first_side cmp c s
-      by None = refl
-      by (Some y) = refl
+  side-by y h = grind arith
 
   -- where nothing sought is left, what stands first on the right side is above
   stops-alone : (rs : List B) → Stops cmp tb j c None rs
       → side_next (by_component ta tb i j cmp) (Some a) (slice_get rs 0) ≡ Some Left
-  stops-alone [] s = refl
-  stops-alone (y ∷ rs) s = side-by y s
+  stops-alone l s = grind arith
 
 module _ {K V W O A B : Type 0} {cmp : K → K → Ordering} {ta : A → Tree K V} {tb : B → Tree K W} {i j : ℕ} {l : Look cmp W O}
     {R : Option V → O → Option V → Type 0} (nothing : (o : O) → R None o None) {asks : Option V → O → Type 0} {xs : List A}
@@ -87,8 +82,17 @@ module _ {K V W O A B : Type 0} {cmp : K → K → Ordering} {ta : A → Tree K 
 
 -- the list of a tree that stays, or goes
 forest-left : {K V : Type 0} (b : Bool) (n : ℕ) (t : Tree K V) → forest (cons_option (left_of b n t) []) ≡ cond b (alone n t) bare
-forest-left true n t = refl
-forest-left false n t = refl
+forest-left s n t = grind arith
+
+-- the only tree of a list goes on behind a place, and is next, beside the one that was found
+pub inside-next : {K V W O A B : Type 0} {cmp : K → K → Ordering} (ta : A → Tree K V) (tb : B → Tree K W) (a : A) (i : ℕ) {j : ℕ}
+    (l : Look cmp W O) (R : Option V → O → Option V → Type 0) (asks : Option V → O → Type 0) → IsTotalOrder cmp
+    → ((o : O) → R None o None) → asks None l.none → {ys : List B} → IsCanonical cmp (ta a) → i < length (ta a).prefix
+    → AreChildren cmp (shortened_in tb j ys) → IsSaidIn cmp ta tb i j l asks (a ∷ []) ys → {found found' : Option B} {rs : List B}
+    → ((k : K) → slice_get (ta a).prefix i ≡ Some k → IsSought cmp tb j k ys found rs) → found ≡ found'
+    → AreNext cmp ta tb i j l R asks (a ∷ []) ys (Some a) found' [] rs []
+inside-next {cmp = cmp} ta tb a i l R asks o nothing none c within b said s e =
+    next-sought nothing (doing-start o none (inner-list cmp ta a i c within) b said refl) s e
 
 -- the only tree of a list is done
 pub inside : {K V W O A B : Type 0} {cmp : K → K → Ordering} {ta : A → Tree K V} {tb : B → Tree K W} {i j : ℕ} {l : Look cmp W O}

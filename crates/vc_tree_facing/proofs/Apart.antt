@@ -2,8 +2,7 @@
 --     apart-next        by the lists of each tree alone: the left one is next, and no tree of the right side is beside it
 --     apart-lessened        what is left of it
 use Rattle.std.proofs.Common.{◌≡◌, ℕ, ◌+◌, ◌<◌, [], ◌∷◌, List, Option, None, Some, refl, sym, ap, subst, length}
-use Rattle.std.proofs.Common.{arith, inl, inr}
-use Rattle.std.proofs.Common.{Bool}
+use Rattle.std.proofs.Common.{inl, inr, Bool, arith}
 use Rattle.std.specs.declared.cmp.Ordering.{Ordering}
 use Rattle.std.specs.declared.cmp.Ordering.TheVariants.{Less, Equal, Greater}
 use Rattle.vc_tree_model.specs.Look.{Look}

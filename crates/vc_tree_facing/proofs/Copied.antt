@@ -1,7 +1,7 @@
 -- A copy of a tree that one side alone has.
 --     copied-by        a copy is a child that begins as the tree did, and what is said of each value and its copy is said of
 -- the two
-use Rattle.std.proofs.Common.{ℕ, ◌<◌, [], ◌∷◌, List, Option, Some, subst, length, arith}
+use Rattle.std.proofs.Common.{ℕ, ◌<◌, List, Option, Some, subst, length, arith}
 use Rattle.std.specs.declared.cmp.Ordering.{Ordering}
 use Rattle.vc_tree_model.specs.Tree.{Tree, Forest, shortened}
 use Rattle.vc_tree_model.specs.Value.{IsKept}
@@ -12,8 +12,7 @@ use Rattle.vc_tree_model.proofs.AlikeLemmas.{alike-solid, alike-children, tree-a
 use Rattle.vc_tree_facing.specs.Made.{IsMade}
 
 solid-at : {K V : Type 0} (i : ℕ) (p : List K) (v : Option V) (f : Forest K V) → IsWhole p v f → i < length p → IsSolid v f
-solid-at i [] v f w h = absurd (omega (arith, h))
-solid-at i (x ∷ p) v f w h = w
+solid-at i p v f w h = grind arith
 
 pub copied-by : {K V : Type 0} (cmp : K → K → Ordering) (keeps : V → V → Type 0) (t u : Tree K V) (i : ℕ) → IsCanonical cmp t
     → i < length t.prefix → IsAlike keeps (shortened i t) u → (S : Option V → Option V → Type 0)

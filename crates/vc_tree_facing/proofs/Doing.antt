@@ -2,15 +2,14 @@
 --     left-first, right-first, both-first        the next trees, by the side on which they stand
 --     made-none, made-more        of no trees, and of trees before others
 --     said-apart, said-joined        what is said of both lists is said of the next trees and of the others
-use Rattle.std.proofs.Common.{◌≡◌, ℕ, [], ◌∷◌, List, Option, None, Some, refl, subst, slice_get, inl, inr, map, option_map}
-use Rattle.std.specs.Cmp.{IsTotalOrder, tied_itself, tied_back}
+use Rattle.std.proofs.Common.{◌≡◌, ℕ, [], ◌∷◌, List, Option, None, Some, refl, slice_get, inl, inr, map, option_map, arith}
+use Rattle.std.specs.Cmp.{IsTotalOrder, tied_itself}
 use Rattle.std.specs.List.{cons_option}
 use Rattle.std.specs.declared.cmp.Ordering.{Ordering}
-use Rattle.std.specs.declared.cmp.Ordering.TheVariants.{Less, Equal, Greater}
+use Rattle.std.specs.declared.cmp.Ordering.TheVariants.{Less, Equal}
 use Rattle.vc_tree_model.specs.Canonical.{AreChildren}
 use Rattle.vc_tree_model.specs.Look.{Look}
 use Rattle.vc_tree_model.specs.Tree.{Tree, forest, shortened}
-use Rattle.vc_tree_model.proofs.KeyLemmas.{less}
 use Rattle.vc_tree_model.proofs.Leading.{above-one, children-one, first-combined, first-asked}
 use Rattle.vc_tree_model.specs.Places.{IsBefore}
 use Rattle.vc_tree_facing.specs.Doing.{AreFirst, AreMade, IsSaidIn, IsSaidOf}
@@ -33,14 +32,7 @@ module _ {K V W A B : Type 0} {cmp : K → K → Ordering} (o : IsTotalOrder cmp
 
   pub stand : (x : A) (y : B) {c d : K} {s : Side} → slice_get (ta x).prefix i ≡ Some c → slice_get (tb y).prefix j ≡ Some d
       → Some (lower_side (by_component ta tb i j cmp (inr y) (inl x))) ≡ Some s → Stand s c d
-  stand x y {c} {d} {s} e f h =
-      let k : lower_side (by_component ta tb i j cmp (inr y) (inl x)) ≡ s = cc in
-      subst (λ s. Stand s c d) (rw (e, f) at k) (by (cmp d c) refl)
-    where
-      by : (r : Ordering) → cmp d c ≡ r → Stand (lower_side r) c d
-      by Less e = e
-      by Equal e = tied_back o d c e
-      by Greater e = less cmp o d c e
+  stand x y e f h = grind arith
 
   -- canonical children, of which the first is above
   none-before : {T X : Type 0} (tree : T → Tree K X) (n : ℕ) (c : K) (ts : List T) → AreChildren cmp (shortened_in tree n ts)
@@ -98,13 +90,12 @@ module _ {K V W A B : Type 0} {cmp : K → K → Ordering} (o : IsTotalOrder cmp
   -- a tree before others, as a list
   joined-is : {T X : Type 0} (tree : T → Tree K X) (n : ℕ) (a : Option T) (ts : List T) → shortened_in tree n (cons_option a ts)
       ≡ forest (cons_option (option_map (λ x. shortened n (tree x)) a) (map (λ x. shortened n (tree x)) ts))
-  joined-is tree n None ts = refl
-  joined-is tree n (Some t) ts = refl
+  joined-is tree n a ts = grind arith
 
   module _ {O : Type 0} (l : Look cmp W O) where
     module _ {U : Type 0} (R : Option V → O → Option U → Type 0) where
       pub made-none : R None l.none None → AreMade cmp ta tb i j l R [] [] []
-      made-none none = record { children = tt; above = λ y p q. tt; combined = λ x q. rw (l.in_bare x q) none }
+      made-none none = grind arith
 
       -- trees before others
       pub made-more : (a : Option A) (b : Option B) {ls : List A} {rs : List B} {u : Option (Tree K U)} {made : List (Tree K U)}

@@ -5,8 +5,7 @@
 --     values-asked        what may be asked of the values at the fronts
 --     made-children        the trees that were made are canonical children
 --     combined        the node of these trees is what the combine says of both
-use Rattle.std.proofs.Common.{◌≡◌, ℕ, [], ◌∷◌, ◌++◌, List, Option, None, Some, sym, ◌∙◌, take, drop, zero, suc, slice_get}
-use Rattle.std.proofs.Common.{true≢false}
+use Rattle.std.proofs.Common.{◌≡◌, ℕ, [], ◌∷◌, ◌++◌, List, Option, None, Some, sym, take, drop, slice_get, arith}
 use Rattle.std.proofs.lemmas.List.{take-append-drop}
 use Rattle.std.specs.Cmp.{IsTotalOrder}
 use Rattle.std.specs.Prelude.{IsTrue}
@@ -16,7 +15,7 @@ use Rattle.vc_tree_model.specs.Map.{lookup, lookup_in}
 use Rattle.vc_tree_model.specs.Canonical.{AreChildren, IsCanonical}
 use Rattle.vc_tree_model.specs.Child.{Begins, BeginsWith, solid_child, value_at, children_at}
 use Rattle.vc_tree_model.specs.Key.{same_key}
-use Rattle.vc_tree_model.proofs.Joining.{within, opened-children, joined-child, joined-begins, trees-combined}
+use Rattle.vc_tree_model.proofs.Joining.{within, opened-children, joined-child, trees-combined}
 use Rattle.vc_tree_model.proofs.Joining.{asked-from}
 use Rattle.vc_tree_model.specs.Look.{Look, values}
 use Rattle.vc_tree_facing.specs.Facing.{shortened_in, Parts, IsOpened, IsFaced}
@@ -35,10 +34,7 @@ below-children cmp {t = t} n c h =
 pub front-begins : {K U : Type 0} {cmp : K → K → Ordering} (o : IsTotalOrder cmp) (n : ℕ) (p q : List K) (v : Option U)
     (f : Forest K U) (y : K) → Begins cmp y p → Begins cmp y q → Parts cmp (drop n p) (drop n q)
     → BeginsWith cmp y (solid_child (take n p) v f)
-front-begins o n [] q v f y a b w = absurd a
-front-begins o n (x ∷ p) [] v f y a b w = absurd b
-front-begins o zero (x ∷ p) (z ∷ q) v f y a b w = absurd (true≢false (rw (sym (o.congr y x z a) ∙ b) at w))
-front-begins {cmp = cmp} o (suc n) (x ∷ p) (z ∷ q) v f y a b w = joined-begins cmp y x (take n p) v f a
+front-begins o n p q v f y a b w = grind arith
 
 -- where the prefixes of two trees agree for n components
 module _ {K V W O : Type 0} {cmp : K → K → Ordering} (o : IsTotalOrder cmp) (l : Look cmp W O) (t : Tree K V) (u : Tree K W)

@@ -1,8 +1,8 @@
 -- What is left of a tree into which nothing comes, by where its prefix and that of the other tree part.
 --     value-may, below-may        what may be asked of the values at that place, and of what stands below
 --     node-lessened, inside-lessened        what is left of the tree, where its prefix has ended, and where it goes on
-use Rattle.std.proofs.Common.{◌≡◌, ℕ, ◌+◌, ◌<◌, ◌≤◌, Bool, true, false, cond, List, [], ◌∷◌, ◌++◌, Option, None, Some, refl}
-use Rattle.std.proofs.Common.{sym, ap, subst, ◌∙◌, length, length-drop, take, drop, arith, Result, Ok, Err}
+use Rattle.std.proofs.Common.{◌≡◌, ℕ, ◌+◌, ◌<◌, ◌≤◌, Bool, cond, List, [], ◌∷◌, ◌++◌, Option, None}
+use Rattle.std.proofs.Common.{sym, ap, ◌∙◌, length, length-drop, take, drop, arith, Result}
 use Rattle.std.proofs.Math.ListN.{drop_of_length-le}
 use Rattle.std.proofs.lemmas.List.{take-append-drop, drop-take, drop-drop, take_all, take-take}
 use Rattle.std.specs.Prelude.{IfOk}
@@ -11,7 +11,7 @@ use Rattle.vc_tree_model.specs.Canonical.{AreChildren, IsCanonical}
 use Rattle.vc_tree_model.specs.Child.{solid_child, value_at, children_at}
 use Rattle.vc_tree_model.specs.Look.{Look}
 use Rattle.vc_tree_model.specs.Map.{lookup, lookup_in}
-use Rattle.vc_tree_model.specs.Tree.{Tree, Forest, bare, grow, node, shortened, nodes, forest_nodes}
+use Rattle.vc_tree_model.specs.Tree.{Tree, Forest, bare, grow, shortened, nodes, forest_nodes}
 use Rattle.vc_tree_facing.specs.Facing.{shortened_in, IsOpened, IsSplit}
 use Rattle.vc_tree_facing.specs.Lessening.{alone, left_of, IsBehind, KeepsFront, IsLessenedUnder, IsLessened, IsInside}
 use Rattle.vc_tree_facing.specs.Lessening.{IsNodeLeft}
@@ -20,8 +20,7 @@ use Rattle.vc_tree_facing.proofs.Ending.{below-children, front-asked, made-front
 use Rattle.vc_tree_facing.proofs.Opening.{opened-rest}
 
 pub if-ok : {X E : Type 0} {P Q : X → Type 0} (r : Result X E) → ((x : X) → P x → Q x) → IfOk r P → IfOk r Q
-if-ok (Ok x) f a = f x a
-if-ok (Err e) f a = tt
+if-ok r f a = grind arith
 
 -- ---- fronts that stay
 
@@ -40,24 +39,18 @@ longer-rest i n p q e =
 -- a tree that stays, behind a shorter front
 inside-is : {K V : Type 0} (i n : ℕ) (t new : Tree K V) (stays : Bool) → KeepsFront (i + n) t stays new
     → left_of stays i new ≡ solid_child (take n (drop i t.prefix)) None (cond stays (alone (i + n) new) bare)
-inside-is i n t new true f =
-    ap (λ p. Some (node p new.value new.children)) (sym (longer-rest i n t.prefix new.prefix (f refl)))
-inside-is i n t new false f = refl
+inside-is i n t new stays f = grind (arith, longer-rest)
 
 -- ---- what stands behind a place of a prefix
 
 inner-by : {K V : Type 0} (t : Tree K V) (r : List K) → 0 < length r
     → (None ≡ value_at t r) × (grow r t.value t.children bare ≡ children_at t r)
-inner-by t [] h = absurd (omega (arith, h))
-inner-by t (x ∷ r) h = (refl, refl)
+inner-by t r h = grind arith
 
 module _ {K V : Type 0} (i n : ℕ) (t : Tree K V) where
   -- where the prefix has ended, the node itself
   pub ended-node : length t.prefix ≤ i + n → IsBehind i n t t.value t.children
-  ended-node long =
-      let k = length-drop i t.prefix in
-      let none : drop n (drop i t.prefix) ≡ [] = drop_of_length-le (drop i t.prefix) (omega (arith, k, long)) in
-      record { value = rw none refl; children = rw none refl }
+  ended-node long = grind (arith, length-drop, drop_of_length-le)
 
   -- and else what is left of the tree
   pub inner-node : i + n < length t.prefix → IsBehind i n t None (alone (i + n) t)
@@ -69,17 +62,12 @@ module _ {K V : Type 0} (i n : ℕ) (t : Tree K V) where
   -- the trees below the place
   pub opened-node : {v : Option V} → v ≡ value_at (shortened i t) (drop n (drop i t.prefix)) → {B : Type 0} {tb : B → Tree K V}
       {ys : List B} {from : ℕ} → IsOpened tb t (drop (i + n) t.prefix) ys from → IsBehind i n t v (shortened_in tb from ys)
-  opened-node e h = record { value = e; children = rw (drop-drop n i t.prefix) (h.children ∙ same (drop (i + n) t.prefix)) }
-    where
-      same : (r : List K) → children_at t r ≡ children_at (shortened i t) r
-      same [] = refl
-      same (x ∷ r) = refl
+  opened-node e h = grind (arith, drop-drop, children_at)
 
 -- the children of a node whose prefix has ended
 pub node-kids : {K V B : Type 0} {tb : B → Tree K V} {t : Tree K V} {whole : List K} {n : ℕ} {ys : List B} {from : ℕ}
     → IsOpened tb t (drop n t.prefix) ys from → whole ≡ t.prefix → length whole ≤ n → shortened_in tb from ys ≡ t.children
-node-kids {t} {n} h e long =
-    h.children ∙ ap (children_at t) (drop_of_length-le t.prefix (subst (λ p. length p ≤ n) e long))
+node-kids h e long = grind (arith, children_at, drop_of_length-le)
 
 -- the list of a tree that goes on behind a place
 pub inner-list : {K V T : Type 0} (cmp : K → K → Ordering) (tree : T → Tree K V) (x : T) (n : ℕ) → IsCanonical cmp (tree x)
@@ -89,11 +77,7 @@ inner-list cmp tree x n c within = below-children cmp n c (opened-rest tree x 0 
 -- they have no more nodes than the tree
 pub below-fewer : {K V B : Type 0} {tb : B → Tree K V} {t : Tree K V} {r : List K} {ys : List B} {from : ℕ}
     → IsOpened tb t r ys from → forest_nodes (shortened_in tb from ys) ≤ nodes t
-below-fewer {t = t} {r = r} h = rw h.children (by r)
-  where
-    by : (r : List _) → forest_nodes (children_at t r) ≤ nodes t
-    by [] = omega arith
-    by (x ∷ r) = omega arith
+below-fewer h = grind arith
 
 -- ---- what is left of both trees at the place where they part
 

@@ -5,8 +5,9 @@
 --     left-head, right-head        what holds of all holds of them
 --     left-next, right-next, both-next        the next ones, by the side on which they stand
 --     both-agree, both-ended, falls        two that meet agree for one component, below a prefix that ended, and have fewer nodes
+--     MayMeet, meets        what a call needs that goes on with them
 --     at-most, nil-by        what is below is not above, and a list without elements
-use Rattle.std.proofs.Common.{◌≡◌, ℕ, zero, suc, ◌+◌, ◌<◌, ◌≤◌, [], ◌∷◌, ◌++◌, List, Option, None, Some, refl, sym, ap}
+use Rattle.std.proofs.Common.{◌≡◌, ℕ, suc, ◌+◌, ◌<◌, ◌≤◌, [], ◌∷◌, ◌++◌, List, Option, None, Some, refl, sym, ap}
 use Rattle.std.proofs.Common.{subst, ◌∙◌, arith, length, drop, slice_get, append-nil, append_assoc, ◌⊎◌, option_map, true≢false}
 use Rattle.std.proofs.lemmas.List.{drop-drop}
 use Rattle.std.proofs.lemmas.Option.{slice_get_within}
@@ -15,6 +16,7 @@ use Rattle.std.specs.List.{AllByRecursion, cons_option}
 use Rattle.std.specs.declared.cmp.Ordering.{Ordering}
 use Rattle.vc_tree_model.specs.Canonical.{AreChildren}
 use Rattle.vc_tree_model.specs.Look.{Look}
+use Rattle.vc_tree_model.specs.Map.{lookup}
 use Rattle.vc_tree_model.specs.Tree.{Tree, forest, forest_nodes, nodes, shortened}
 use Rattle.vc_tree_model.specs.Places.{IsCombinedIn}
 use Rattle.vc_tree_nodes.specs.Parting.{Agree}
@@ -24,18 +26,18 @@ use Rattle.vc_tree_facing.specs.Made.{IsMade, IsMadeBy, IsMadeOf}
 use Rattle.vc_tree_facing.specs.Sides.{by_component, side_next}
 use Rattle.vc_tree_facing.specs.declared.sides.Side.{Side}
 use Rattle.vc_tree_facing.specs.declared.sides.Side.TheVariants.{Left, Right, Both}
-use Rattle.vc_tree_facing.proofs.Components.{agree-first, children-first}
+use Rattle.vc_tree_facing.proofs.Components.{children-first}
 use Rattle.vc_tree_facing.proofs.Opening.{each-fewer, goes-on}
 use Rattle.vc_tree_facing.proofs.Doing.{left-first, right-first, both-first, made-none, made-more, said-apart}
 
 -- what is below is not above
 pub at-most : (i n : ℕ) → i < n → i ≤ n
-at-most i n h = omega (arith, h)
+at-most i n h = grind arith
 
 -- a list without elements
 pub nil-by : {X : Type 0} (l : List X) → length l ≡ 0 → l ≡ []
 nil-by [] e = refl
-nil-by (x ∷ l) e = absurd (omega (arith, e))
+nil-by (x ∷ l) e = grind arith
 
 -- no tree is next where none is left
 none-left : {A B : Type 0} (order : A ⊎ B → A ⊎ B → Ordering) (ls : List A) (rs : List B)
@@ -47,22 +49,28 @@ none-left order (x ∷ ls) (y ∷ rs) z = absurd (cc)
 
 -- what holds of each element, holds of each that is left
 all-drop : {X : Type 0} (P : X → Type 0) (n : ℕ) (xs : List X) → AllByRecursion P xs → AllByRecursion P (drop n xs)
-all-drop P zero xs a = a
-all-drop P (suc n) [] a = tt
-all-drop P (suc n) (x ∷ xs) a = all-drop P n xs a.1
+all-drop P (suc n) (x ∷ xs) a = grind (arith, all-drop P n xs a.1)
+all-drop P n xs a = grind arith
 
 append-option : {X : Type 0} (xs : List X) (o : Option X) (ys : List X) → (xs ++ cons_option o []) ++ ys ≡ xs ++ cons_option o ys
-append-option xs None ys = ap (λ l. l ++ ys) (append-nil xs)
-append-option xs (Some x) ys = append_assoc xs (x ∷ []) ys
+append-option xs o ys = grind (arith, append-nil, append_assoc)
+
+-- what a call needs that goes on with two trees at these places
+pub record MayMeet {K V W O : Type 0} (cmp : K → K → Ordering) (l : Look cmp W O) (asks : Option V → O → Type 0) (t : Tree K V)
+    (i : ℕ) (u : Tree K W) (j : ℕ) : Type 0 where
+  pub left_within : i ≤ length t.prefix
+  pub right_within : j ≤ length u.prefix
+  pub agree : Agree cmp (drop i t.prefix) (drop j u.prefix) 1
+  pub may : (k : List K) → asks (lookup cmp (shortened i t) k) (l.of_tree (shortened j u) k)
 
 -- what is made of a tree that one side alone has
 module _ {K V W U O : Type 0} {cmp : K → K → Ordering} {l : Look cmp W O} {R : Option V → O → Option U → Type 0}
     {u : Option (Tree K U)} where
   pub made-left : {t : Tree K V} → IsMade cmp (λ v z. R v l.none z) t u → IsMadeOf cmp l R (Some t) None u
-  made-left w = record { child = w.child; begins = λ y e _. w.begins y e; binds = w.binds }
+  made-left w = grind arith
 
   pub made-right : {t : Tree K W} → IsMadeBy cmp l (λ w z. R None w z) t u → IsMadeOf cmp l R None (Some t) u
-  made-right w = record { child = w.child; begins = λ y _ e. w.begins y e; binds = w.binds }
+  made-right w = grind arith
 
 module _ {K V W U O A B : Type 0} {cmp : K → K → Ordering} {ta : A → Tree K V} {tb : B → Tree K W} {i j : ℕ} {l : Look cmp W O}
     {R : Option V → O → Option U → Type 0} {asks : Option V → O → Type 0} {xs : List A} {ys : List B} where
@@ -70,16 +78,7 @@ module _ {K V W U O A B : Type 0} {cmp : K → K → Ordering} {ta : A → Tree 
   pub doing-start : {made : List (Tree K U)} → IsTotalOrder cmp → asks None l.none → AreChildren cmp (shortened_in ta i xs)
       → AreChildren cmp (shortened_in tb j ys) → IsSaidIn cmp ta tb i j l asks xs ys → made ≡ []
       → IsDoing cmp ta tb i j l R asks xs ys xs ys made
-  doing-start o none ca cb asked e = rw e (record {
-    total = o;
-    none = none;
-    left = ca;
-    right = cb;
-    left_part = (0, refl);
-    right_part = (0, refl);
-    asked = asked;
-    ends = λ others m. m;
-  })
+  doing-start o none ca cb asked e = grind arith
 
   module _ {a : Option A} {b : Option B} {ls : List A} {rs : List B} {made : List (Tree K U)}
       (n : AreNext cmp ta tb i j l R asks xs ys a b ls rs made) where
@@ -111,10 +110,10 @@ module _ {K V W U O A B : Type 0} {cmp : K → K → Ordering} {ta : A → Tree 
   module _ {ls : List A} {rs : List B} {made : List (Tree K U)} (d : IsDoing cmp ta tb i j l R asks xs ys ls rs made) where
     -- what holds of all trees of a side, holds of the next one
     pub left-head : (P : A → Type 0) {x : A} {ls' : List A} → ls ≡ x ∷ ls' → AllByRecursion P xs → P x
-    left-head P e a = (subst (AllByRecursion P) (sym d.left_part.1 ∙ e) (all-drop P d.left_part.0 xs a)).0
+    left-head P e a = grind (arith, all-drop)
 
     pub right-head : (P : B → Type 0) {y : B} {rs' : List B} → rs ≡ y ∷ rs' → AllByRecursion P ys → P y
-    right-head P e a = (subst (AllByRecursion P) (sym d.right_part.1 ∙ e) (all-drop P d.right_part.0 ys a)).0
+    right-head P e a = grind (arith, all-drop)
 
     -- it goes on at the place
     pub left_within : {x : A} {ls' : List A} → ls ≡ x ∷ ls' → i < length (ta x).prefix
@@ -132,20 +131,15 @@ module _ {K V W U O A B : Type 0} {cmp : K → K → Ordering} {ta : A → Tree 
     -- the next trees, by the side on which they stand
     pub left-next : OnSide Left → {x : A} {ls' : List A} → ls ≡ x ∷ ls'
         → AreNext cmp ta tb i j l R asks xs ys (Some x) None ls' rs made
-    left-next z {x} {ls'} e =
-        record { doing = rw e at d; first = left-first d.total ta tb i j x ls' rs (rw e at d.left) d.right (rw e at z) }
+    left-next z e = grind (arith, left-first)
 
     pub right-next : OnSide Right → {y : B} {rs' : List B} → rs ≡ y ∷ rs'
         → AreNext cmp ta tb i j l R asks xs ys None (Some y) ls rs' made
-    right-next z {y} {rs'} e =
-        record { doing = rw e at d; first = right-first d.total ta tb i j ls y rs' d.left (rw e at d.right) (rw e at z) }
+    right-next z e = grind (arith, right-first)
 
     pub both-next : OnSide Both → {x : A} {ls' : List A} {y : B} {rs' : List B} → ls ≡ x ∷ ls' → rs ≡ y ∷ rs'
         → AreNext cmp ta tb i j l R asks xs ys (Some x) (Some y) ls' rs' made
-    both-next z {x} {ls'} {y} {rs'} e f = record {
-      doing = rw (e, f) at d;
-      first = both-first d.total ta tb i j x ls' y rs' (rw e at d.left) (rw f at d.right) (rw (e, f) at z);
-    }
+    both-next z e f = grind (arith, both-first)
 
     -- none is left
     pub all-done : side_next (by_component ta tb i j cmp) (slice_get ls 0) (slice_get rs 0) ≡ None → R None l.none None
@@ -168,9 +162,16 @@ module _ {K V W U O A B : Type 0} {cmp : K → K → Ordering} {ta : A → Tree 
       (n : AreNext cmp ta tb i j l R asks xs ys (Some x) (Some y) ls rs made) where
     -- two that meet agree for one component
     pub both-agree : Agree cmp (drop i (ta x).prefix) (drop j (tb y).prefix) 1
-    both-agree =
-        let f = n.first in
-        agree-first cmp n.doing.total (drop i (ta x).prefix) (drop j (tb y).prefix) f.place f.left.begins f.right.begins
+    both-agree = grind arith
+
+    -- a call may go on with both, where the place on the right side has this name
+    pub meets : {place : ℕ} → place ≡ j → MayMeet cmp l asks (ta x) i (tb y) place
+    meets e = rw e (record {
+      left_within = at-most _ _ (left_within n.doing refl);
+      right_within = at-most _ _ (right_within n.doing refl);
+      agree = both-agree;
+      may = asked n;
+    })
 
     module _ {t : Tree K V} {u : Tree K W} {p q : List K} (a : IsOpened ta t p xs i) (b : IsOpened tb u q ys j)
         (w : Parts cmp p q) where

@@ -31,14 +31,13 @@ goes-on (suc n) (y ∷ p) x e = goes-on n p x e
 -- what is left of a slice
 pub slice-from : {K : Type 0} (s whole p : List K) (i : ℕ) → s ≡ take (length whole - i) (drop i whole) → whole ≡ p
     → s ≡ drop i p
-slice-from {K = K} s whole p i h e =
-    h ∙ take_all (length whole - i) (drop i whole) (omega (arith, length-drop {A = K} i whole)) ∙ ap (drop i) e
+slice-from s whole p i h e = grind (arith, take_all, length-drop)
 
 -- each tree of a list has no more nodes than the list
 pub each-fewer : {K V T : Type 0} (tree : T → Tree K V) (n : ℕ) (xs : List T)
     → AllByRecursion (λ x. nodes (tree x) ≤ forest_nodes (shortened_in tree n xs)) xs
-each-fewer tree n [] = tt
-each-fewer tree n (x ∷ xs) = (omega arith, each-weaker _ _ (λ y h. omega (arith, h)) xs (each-fewer tree n xs))
+each-fewer tree n (x ∷ xs) = grind (arith, each-weaker, each-fewer tree n xs)
+each-fewer tree n xs = grind (arith, each-weaker)
 
 module _ {T K V : Type 0} (tree : T → Tree K V) where
   -- where the prefix ended, the children
@@ -70,14 +69,13 @@ module _ {T K V : Type 0} (tree : T → Tree K V) where
 
 -- each tree of a list weighs at least one
 pub few-below : {T K V : Type 0} (tree : T → Tree K V) (i : ℕ) (xs : List T) → length xs ≤ forest_weight (shortened_in tree i xs)
-few-below tree i [] = omega arith
-few-below tree i (x ∷ xs) = let r = few-below tree i xs in omega (arith, r)
+few-below tree i (x ∷ xs) = grind (arith, few-below tree i xs)
+few-below tree i xs = grind arith
 
 -- two prefixes part where both go on
 pub parts_at : {K : Type 0} (cmp : K → K → Ordering) (p q : List K) (n : ℕ) (r : Ordering) → is_eq r ≡ false
     → PartsAt cmp r p q n → Parts cmp (drop n p) (drop n q)
-parts_at cmp p q n r unequal h =
-    rw ((goes-on n p h.old h.old_at).1, (goes-on n q h.new h.new_at).1, h.ordered) unequal
+parts_at cmp p q n r unequal h = grind (arith, goes-on)
 
 -- a node with a value, or with at least two children, stays as it is
 pub whole-of : {K V T : Type 0} (tree : T → Tree K V) (p : List K) (v : Option V) (xs : List T)
@@ -85,7 +83,7 @@ pub whole-of : {K V T : Type 0} (tree : T → Tree K V) (p : List K) (v : Option
     → (solid_child p v (forest (map tree xs)) ≡ Some (made p v (map tree xs))) × IsWhole p v (forest (map tree xs))
 whole-of tree [] (Some v) xs h = (refl, tt)
 whole-of tree (k ∷ p) (Some v) xs h = (refl, tt)
-whole-of tree p None [] h = absurd (let two = h refl in omega (arith, two))
-whole-of tree p None (x ∷ []) h = absurd (let two = h refl in omega (arith, two))
+whole-of tree p None [] h = grind arith
+whole-of tree p None (x ∷ []) h = grind arith
 whole-of tree [] None (x ∷ y ∷ xs) h = (refl, tt)
 whole-of tree (k ∷ p) None (x ∷ y ∷ xs) h = (refl, tt)

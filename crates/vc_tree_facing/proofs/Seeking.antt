@@ -1,7 +1,7 @@
 -- A tree that is sought among others by the component with which it goes on.
 --     passed_whole        one tree more is passed before
 --     stopped        the search ends
-use Rattle.std.proofs.Common.{◌≡◌, ℕ, [], ◌∷◌, List, Option, refl, ap}
+use Rattle.std.proofs.Common.{◌≡◌, ℕ, ◌∷◌, List, Option, ap, arith}
 use Rattle.std.specs.List.{cons_option}
 use Rattle.std.specs.declared.cmp.Ordering.{Ordering}
 use Rattle.std.specs.declared.cmp.Ordering.TheVariants.{Less}
@@ -19,4 +19,4 @@ module _ {K V T : Type 0} {cmp : K → K → Ordering} {tree : T → Tree K V} {
   -- the search ends
   pub stopped : {found : Option T} {new : List T} → Stops cmp tree n x found new
       → IsSought cmp tree n x (cons_option found new) found new
-  stopped s = record { passes = record { passed = []; is = refl; lower = tt }; stops = s }
+  stopped s = grind arith

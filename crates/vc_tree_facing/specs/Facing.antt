@@ -1,5 +1,6 @@
 -- Two trees side by side: what stands below the fronts of their prefixes that agree. No public clause cites these words.
-use Rattle.std.specs.Prelude.{◌≡◌, ℕ, ◌+◌, ◌≤◌, List, [], ◌∷◌, ◌++◌, map, length, take, drop, Option, Some, MatchOption, slice_get, IsTrue, IsFalse, ⊤}
+use Rattle.std.specs.Prelude.{◌≡◌, ℕ, ◌+◌, ◌≤◌, List, [], ◌∷◌, ◌++◌, map, length, take, drop, Option, Some, MatchOption}
+use Rattle.std.specs.Prelude.{slice_get, IsTrue, IsFalse, ⊤}
 use Rattle.std.specs.Cmp.{IsTotalOrder}
 use Rattle.std.specs.List.{AllByRecursion}
 use Rattle.std.specs.Option.{option_copied, option_to_list}
@@ -35,8 +36,8 @@ abbrev pub GoesOn : {K : Type 0} → List K → Option K → Type 0
 GoesOn [] o = ⊤
 GoesOn (x ∷ rest) o = o ≡ Some x
 
--- below the place where `rest` is left of the prefix of t stand xs, without their first components: the children of t where nothing
--- is left, and else the tree itself
+-- below the place where `rest` is left of the prefix of t stand xs, without their first components: the children of t where
+-- nothing is left, and else the tree itself
 pub record IsOpened {T K V : Type 0} (tree : T → Tree K V) (t : Tree K V) (rest : List K) (xs : List T) (from : ℕ) : Type 0 where
   pub children : shortened_in tree from xs ≡ children_at t rest
   pub smaller : AllByRecursion (λ x. nodes (tree x) + ended rest ≤ nodes t) xs
@@ -58,7 +59,8 @@ pub record IsFaced {K V W A B : Type 0} (cmp : K → K → Ordering) (ta : A →
   pub left : IsOpened ta t (drop n t.prefix) xs i
   pub right : IsOpened tb u (drop n u.prefix) ys j
 
--- the prefixes of two canonical trees, t without its first i components and u without its first j, agree for n more and part there
+-- the prefixes of two canonical trees, t without its first i components and u without its first j, agree for n more and part
+-- there
 pub record IsSplit {K V W : Type 0} (cmp : K → K → Ordering) (t : Tree K V) (i : ℕ) (u : Tree K W) (j n : ℕ) : Type 0 where
   pub total : IsTotalOrder cmp
   pub left : IsCanonical cmp t

@@ -7,8 +7,10 @@ use Rattle.vc_tree_model.specs.Look.{Look, values}
 use Rattle.vc_tree_model.specs.Places.{look}
 
 module _ {K : Type 0} (cmp : K → K → Ordering) where
-  -- of a tree that one side alone has: a child that begins as the tree did, and R of what is read of the tree and of what the child binds
-  pub record IsMadeBy {V U O : Type 0} (l : Look cmp V O) (R : O → Option U → Type 0) (t : Tree K V) (o : Option (Tree K U)) : Type 0 where
+  -- of a tree that one side alone has: a child that begins as the tree did, and R of what is read of the tree and of what the
+  -- child binds
+  pub record IsMadeBy {V U O : Type 0} (l : Look cmp V O) (R : O → Option U → Type 0) (t : Tree K V) (o : Option (Tree K U))
+      : Type 0 where
     pub child : IsChild cmp o
     pub begins : (y : K) → Begins cmp y t.prefix → BeginsWith cmp y o
     pub binds : (k : List K) → R (l.of_tree t k) (bound_by cmp o k)
@@ -30,5 +32,6 @@ module _ {K : Type 0} (cmp : K → K → Ordering) where
     IsBothMadeBy t u o = IsMadeOf (Some t) (Some u) o
 
   -- of two trees, and R of what all three bind
-  abbrev pub IsBothMade : {V W U : Type 0} → (Option V → Option W → Option U → Type 0) → Tree K V → Tree K W → Option (Tree K U) → Type 0
+  abbrev pub IsBothMade : {V W U : Type 0} → (Option V → Option W → Option U → Type 0) → Tree K V → Tree K W
+      → Option (Tree K U) → Type 0
   IsBothMade R t u o = IsBothMadeBy (values cmp) R t u o

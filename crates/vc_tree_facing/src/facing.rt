@@ -1,6 +1,7 @@
 //! Two trees side by side: where their prefixes part, and what stands below.
 
-ghost use Rattle.std.specs.Prelude.{◌≡◌, ◌+◌, ◌≤◌, ◌<◌, true, [], ◌∷◌, Some, min, length, drop, slice_get, IfOk, IfSome};
+ghost use Rattle.std.specs.Prelude.{◌≡◌, ◌+◌, ◌≤◌, ◌<◌, true, [], ◌∷◌, Some, min, length, drop};
+ghost use Rattle.std.specs.Prelude.{slice_get, IfOk, IfSome};
 ghost use Rattle.std.proofs.Common.{inl, inr};
 ghost use Rattle.std.specs.Option.{option_copied, option_to_list};
 ghost use Rattle.vc_merge.specs.Count.{ticked};
@@ -9,7 +10,8 @@ ghost use Rattle.vc_tree_model.specs.Shortened.{weight, forest_weight};
 ghost use Rattle.vc_tree_model.specs.Tree.{shortened};
 ghost use Rattle.vc_tree_nodes.specs.Parting.{Agree};
 ghost use Rattle.vc_tree_nodes.specs.Places.{first_side};
-ghost use Rattle.vc_tree_facing.specs.Facing.{trees_below, Parts, IsBelow, IsOpened, IsFaced, IsSplit};
+ghost use Rattle.vc_tree_facing.specs.Facing.{trees_below, Parts, IsBelow, IsOpened, IsFaced};
+ghost use Rattle.vc_tree_facing.specs.Facing.{IsSplit};
 ghost use Rattle.vc_tree_facing.specs.Seeking.{IsSought};
 ghost use Rattle.vc_tree_facing.specs.Sides.{by_component, side_next, AreThere};
 
