@@ -3,17 +3,14 @@
 --     asked-taken        what may be asked at each key of the tree, may be asked at each key of its parts
 --     taken-nodes        the parts have as many nodes
 --     made-taken        what is made of the parts is what the change says of the tree
-use Rattle.std.proofs.Common.{◌≡◌, ℕ, ◌≤◌, List, Option, subst, drop, take, length, arith}
-use Rattle.std.specs.Prelude.{IsTrue}
+use Rattle.std.proofs.Common.{◌≡◌, ℕ, List, Option, arith}
 use Rattle.std.specs.declared.cmp.Ordering.{Ordering}
-use Rattle.vc_tree_model.specs.Child.{Begins}
-use Rattle.vc_tree_model.specs.Key.{same_key}
 use Rattle.vc_tree_model.specs.Value.{IsKept}
 use Rattle.vc_tree_model.specs.Tree.{Tree, nodes}
 use Rattle.vc_tree_model.specs.Map.{lookup}
 use Rattle.vc_tree_model.proofs.AlikeLemmas.{alike-nodes, tree-alike_lookup}
 use Rattle.vc_tree_model.specs.Look.{Look}
-use Rattle.vc_tree_facing.specs.Facing.{Parts, IsFaced}
+use Rattle.vc_tree_facing.specs.Facing.{IsFaced}
 use Rattle.vc_tree_facing.specs.Made.{IsBothMadeBy}
 use Rattle.vc_tree_edits.specs.Taken.{IsMet, IsTaken}
 
@@ -22,34 +19,21 @@ module _ {K V W T B : Type 0} {cmp : K → K → Ordering} {tree : T → Tree K 
     (h : IsTaken tree keeps t n front value list from) (m : IsMet tree cmp tb t u n ys j) where
   -- the parts stand beside the right tree as the tree did
   pub faced-taken : IsFaced cmp tree tb h.taken u n list from ys j
-  faced-taken =
-      let e : t.prefix ≡ h.taken.prefix = h.alike.0 in
-      record {
-        left_within = subst (λ p. n ≤ length p) e m.faced.left_within;
-        right_within = m.faced.right_within;
-        same = subst (λ p. IsTrue (same_key cmp (take n p) (take n u.prefix))) e m.faced.same;
-        parts = subst (λ p. Parts cmp (drop n p) (drop n u.prefix)) e m.faced.parts;
-        left = h.opened;
-        right = m.faced.right;
-      }
+  faced-taken = grind arith
 
   -- the parts have as many nodes
   pub taken-nodes : nodes h.taken ≡ nodes t
-  taken-nodes = let e = alike-nodes keeps t.children h.taken.children h.alike.2 in omega (arith, e)
+  taken-nodes = grind (arith, alike-nodes)
 
   module _ {O : Type 0} (l : Look cmp W O) where
     -- what may be asked at each key of the tree, may be asked at each key of its parts
     pub asked-taken : (asks : Option V → O → Type 0)
         → ((v w : Option V) (z : O) → IsKept keeps v w → asks v z → asks w z)
         → ((k : List K) → asks (lookup cmp t k) (l.of_tree u k)) → (k : List K) → asks (lookup cmp h.taken k) (l.of_tree u k)
-    asked-taken asks kept a k = kept _ _ _ (tree-alike_lookup keeps cmp t h.taken h.alike k) (a k)
+    asked-taken asks kept a k = grind (arith, tree-alike_lookup)
 
     -- what is made of the parts is what the change says of the tree
     pub made-taken : {R : Option V → O → Option V → Type 0}
         → ((v w : Option V) (z : O) (y : Option V) → IsKept keeps v w → R w z y → R v z y) → {o : Option (Tree K V)}
         → IsBothMadeBy cmp l R h.taken u o → IsBothMadeBy cmp l R t u o
-    made-taken kept m = record {
-      child = m.child;
-      begins = λ y e. m.begins y (subst (Begins cmp y) h.alike.0 e);
-      binds = λ k. kept _ _ _ _ (tree-alike_lookup keeps cmp t h.taken h.alike k) (m.binds k);
-    }
+    made-taken kept m = grind (arith, tree-alike_lookup)

@@ -21,7 +21,6 @@ use Rattle.vc_tree_facing.specs.Lessening.{left_of}
 use Rattle.vc_tree_facing.specs.Made.{IsMade, IsMadeOf}
 use Rattle.vc_tree_facing.proofs.Next.{done}
 use Rattle.vc_tree_edits.specs.Kids.{AreKids}
-use Rattle.vc_tree_edits.proofs.Sifting.{stayed}
 
 -- the list with x at a place
 pub record IsSetAt {A : Type 0} (xs : List A) (at : ℕ) (x : A) (ys : List A) : Type 0 where
@@ -31,35 +30,24 @@ pub record IsSetAt {A : Type 0} (xs : List A) (at : ℕ) (x : A) (ys : List A) :
   pub long : length ys ≡ length xs
 
 first-at : {A : Type 0} (xs : List A) (at : ℕ) (x : A) → at < length xs → x ≡ get_or xs at x → drop at xs ≡ x ∷ drop (at + 1) xs
-first-at xs at x h e =
-    let s : suc at ≡ at + 1 = omega arith in
-    drop-cons xs at x h ∙ ap (λ y. y ∷ drop (suc at) xs) (sym e) ∙ ap (λ n. x ∷ drop n xs) s
+first-at xs at x h e = grind (arith, drop-cons)
 
 pub same-at : {A : Type 0} (xs ys : List A) (at : ℕ) (x : A) → at < length xs → x ≡ get_or xs at x → ys ≡ xs
     → IsSetAt xs at x ys
-same-at xs ys at x h e z =
-    rw z (record { front = λ n k. refl; here = first-at xs at x h e; rest = refl; long = refl })
+same-at xs ys at x h e z = grind (arith, first-at)
 
 pub set-at : {A : Type 0} (xs ys : List A) (at : ℕ) (x : A) → at < length xs → ys ≡ set xs at x → IsSetAt xs at x ys
-set-at xs ys at x h z =
-    rw z (record {
-      front = λ n k. take-set-le n xs at x k;
-      here = drop-set xs at x h;
-      rest = drop-set-lt (at + 1) xs at x (omega arith);
-      long = length-set xs at x;
-    })
+set-at xs ys at x h z = grind (arith, take-set-le, drop-set, drop-set-lt, length-set)
 
 module _ {K V T : Type 0} (tree : T → Tree K V) {xs ys : List T} {at : ℕ} {x : T} (h : IsSetAt xs at x ys) (kept : ℕ)
     (order : kept ≤ at) where
   -- it stays behind those that stay
   kept-made : (zs : List T) → take (kept + 1) zs ≡ take kept ys ++ take 1 (drop at ys)
       → map tree (take (kept + 1) zs) ≡ map tree (take kept xs) ++ cons_option (left_of true 0 (tree x)) []
-  kept-made zs e =
-      ap (map tree) (e ∙ ap (λ l. l ++ take 1 (drop at ys)) (h.front kept order) ∙ ap (λ l. take kept xs ++ take 1 l) h.here)
-      ∙ map-append tree (take kept xs) (x ∷ [])
+  kept-made zs e = grind (arith, map-append)
 
   gone-made : map tree (take kept ys) ≡ map tree (take kept xs) ++ cons_option (left_of false 0 (tree x)) []
-  gone-made = ap (map tree) (h.front kept order) ∙ sym (append-nil (map tree (take kept xs)))
+  gone-made = grind (arith, append-nil)
 
 -- a tree that the left side alone has stays or goes
 pub alone-made : {K V O : Type 0} (cmp : K → K → Ordering) → IsTotalOrder cmp → (keeps : V → V → Type 0) → ((v : V) → keeps v v)
@@ -67,14 +55,11 @@ pub alone-made : {K V O : Type 0} (cmp : K → K → Ordering) → IsTotalOrder 
     → (b : Bool)
     → MatchBool b ((v z : Option V) → IsKept keeps v z → R v none z) ((v : Option V) → R v none None)
     → IsMade cmp (λ v z. R v none z) (shortened i t) (left_of b i t)
-alone-made cmp o keeps itself R none t i c h true k =
-    stayed cmp o keeps itself t (shortened i t) i c h refl (λ v z. R v none z) k
-alone-made cmp o keeps itself R none t i c h false k = record { child = tt; begins = λ y e. tt; binds = λ q. k _ }
+alone-made cmp o keeps itself R none t i c h b k = grind arith
 
 -- two readings of one place
 pub same-place : {A : Type 0} (xs : List A) (at : ℕ) (x y : A) → at < length xs → x ≡ get_or xs at x → y ≡ get_or xs at y → x ≡ y
-same-place xs at x y h e f =
-    let z : x ∷ drop (at + 1) xs ≡ y ∷ drop (at + 1) xs = sym (first-at xs at x h e) ∙ first-at xs at y h f in cc
+same-place xs at x y h e f = grind (arith, first-at)
 
 -- ---- a list in its places, of which some trees are done
 
@@ -95,8 +80,7 @@ module _ {K V W O T B : Type 0} {cmp : K → K → Ordering} {tree : T → Tree 
   pub next-here : (xs : List T) (at : ℕ) {x : T} {made : List (Tree K V)}
       → IsDoing cmp tree tb 0 j l R asks all ys (drop at xs) rs made → at < length xs → x ≡ get_or xs at x
       → IsDoing cmp tree tb 0 j l R asks all ys (x ∷ drop (at + 1) xs) rs made
-  next-here xs at {x} {made} d h e =
-      subst (λ ls. IsDoing cmp tree tb 0 j l R asks all ys ls rs made) (first-at xs at x h e) d
+  next-here xs at d h e = grind (arith, first-at)
 
   -- the next tree is done, at its place
   pub stepped : {xs : List T} {at kept : ℕ} {x : T} {found : Option B}
@@ -111,11 +95,7 @@ module _ {K V W O T B : Type 0} {cmp : K → K → Ordering} {tree : T → Tree 
     pub after-kept : IsStepped cmp tree tb j l R asks all ys xs at kept zs true rs → (us : List T)
         → take (kept + 1) us ≡ take kept zs ++ take 1 (drop at zs) → drop (at + 1) us ≡ drop (at + 1) zs
         → IsDoing cmp tree tb 0 j l R asks all ys (drop (at + 1) us) rs (map tree (take (kept + 1) us))
-    after-kept s us e f =
-        let m = kept-made tree s.set_at kept order us e in
-        let r = f ∙ s.set_at.rest in
-        subst (λ ls. IsDoing cmp tree tb 0 j l R asks all ys ls rs (map tree (take (kept + 1) us))) (sym r)
-        (subst (λ made. IsDoing cmp tree tb 0 j l R asks all ys (drop (at + 1) xs) rs made) (sym m) s.going)
+    after-kept s us e f = grind (arith, kept-made)
 
     -- or goes
     pub after-gone : IsStepped cmp tree tb j l R asks all ys xs at kept zs false rs
@@ -130,22 +110,17 @@ module _ {K V W O T B : Type 0} {cmp : K → K → Ordering} {tree : T → Tree 
 -- where a node without a value keeps some children where they are stored, it keeps two
 pub two-stored : {T : Type 0} (b : Bool) (o : Option T) (stored : List T) (many : ℕ) → AreKids b o stored many → o ≡ None
     → b ≡ true → (many ≡ 0 → ⊥) → 2 ≤ length stored
-two-stored b o stored many k n e z =
-    let c = k.counted n in
-    let one = k.enough n e in
-    omega (arith, c, one, z)
+two-stored b o stored many k n e z = grind arith
 
 -- the only tree of a list, taken out
 pub only-popped : {A : Type 0} (xs ys : List A) (r : Option A) → xs ≡ ys ++ option_to_list r → length xs ≡ 1
     → cons_option r ys ≡ xs
 only-popped xs ys None e n = sym (e ∙ append-nil ys)
 only-popped xs [] (Some x) e n = sym e
-only-popped xs (y ∷ ys) (Some x) e n =
-    let h = ap length e in
-    let k = length-append ys (x ∷ []) in absurd (omega (arith, h, k, n))
+only-popped xs (y ∷ ys) (Some x) e n = grind (arith, append-nil, length-append)
 
 pub first-long : {A : Type 0} (xs : List A) (n : ℕ) → n ≤ length xs → length (take n xs) ≡ n
-first-long xs n h = let k = length-take n xs in omega (arith, k, h)
+first-long xs n h = grind (arith, length-take)
 
 -- no more are left
 pub none-left : {A : Type 0} (xs : List A) (at : ℕ) → length xs ≤ at → drop at xs ≡ []
@@ -162,7 +137,4 @@ same-many t u (x ∷ xs) (y ∷ ys) e = ap suc (same-many t u xs ys (cc))
 -- a slice that was lent whole
 pub whole-back : {A : Type 0} (n : ℕ) (xs ys : List A) → n ≡ length xs → length ys ≡ length xs
     → take n (ys ++ drop (length ys) xs) ≡ ys
-whole-back n xs ys e f =
-    ap (λ r. take n (ys ++ r)) (drop_of_length-le xs (omega (arith, f)))
-    ∙ ap (take n) (append-nil ys)
-    ∙ take_all n ys (omega (arith, e, f))
+whole-back n xs ys e f = grind (arith, drop_of_length-le, append-nil, take_all)

@@ -5,7 +5,7 @@
 --     after-left, after-right        a next tree is done, which one side alone has
 --     falls-below        two trees that meet have fewer nodes than those that they stand below
 --     finished-children, finished        what was made is canonical children, and the node of it is what the change says
-use Rattle.std.proofs.Common.{◌≡◌, ℕ, ◌+◌, ◌<◌, [], ◌∷◌, List, Option, None, Some, slice_get, refl, ap, subst, ◌∙◌, drop}
+use Rattle.std.proofs.Common.{◌≡◌, ℕ, ◌+◌, ◌<◌, [], ◌∷◌, List, Option, None, Some, slice_get, ap, subst, ◌∙◌, drop}
 use Rattle.std.proofs.Common.{take, length, arith}
 use Rattle.std.specs.Cmp.{IsTotalOrder}
 use Rattle.std.specs.declared.cmp.Ordering.{Ordering}
@@ -106,5 +106,4 @@ module _ {K V W O T B : Type 0} {cmp : K → K → Ordering} {tree : T → Tree 
 -- the first tree of a list that is left goes on
 pub first-long : {K V T : Type 0} (tree : T → Tree K V) (n : ℕ) (xs : List T) → 0 < length xs
     → ((x : T) (rest : List T) → xs ≡ x ∷ rest → n < length (tree x).prefix) → IsFirstLong tree n xs
-first-long tree n [] h f = absurd (omega (arith, h))
-first-long tree n (x ∷ xs) h f = f x xs refl
+first-long tree n xs h f = grind arith

@@ -2,8 +2,8 @@
 --     taken-rest        where the prefix goes on, the tree itself stands below
 --     taken-all        where it ended, the children
 --     cut-all        the components up to the end of a prefix
-use Rattle.std.proofs.Common.{◌≡◌, ℕ, ◌+◌, ◌-◌, ◌<◌, ◌≤◌, [], ◌∷◌, List, Option, None, refl, sym, ap, subst, ◌∙◌}
-use Rattle.std.proofs.Common.{arith, map, take, drop, length, length-drop}
+use Rattle.std.proofs.Common.{◌≡◌, ℕ, ◌+◌, ◌-◌, ◌<◌, ◌≤◌, [], ◌∷◌, List, Option, None, refl, sym, ap, subst, map, take, drop}
+use Rattle.std.proofs.Common.{length, length-drop, arith}
 use Rattle.std.proofs.Math.ListN.{drop_of_length-le}
 use Rattle.std.proofs.lemmas.List.{take_all}
 use Rattle.vc_tree_model.specs.Child.{value_at}
@@ -18,17 +18,15 @@ use Rattle.vc_tree_edits.specs.Taken.{IsTaken}
 -- the components up to the end of a prefix
 pub cut-all : {K : Type 0} (i n : ℕ) (whole own front : List K) → own ≡ whole → front ≡ drop i own → length whole ≤ i + n
     → front ≡ take n (drop i whole)
-cut-all i n whole own front a f h =
-    let l = length-drop i whole in
-    f ∙ ap (drop i) a ∙ sym (take_all n (drop i whole) (omega (arith, l, h)))
+cut-all i n whole own front a f h = grind (arith, length-drop, take_all)
 
 module _ {K V T : Type 0} (tree : T → Tree K V) (keeps : V → V → Type 0) (itself : (v : V) → keeps v v) (x : T) (i n m : ℕ)
     (whole front : List K) (whole_is : whole ≡ (tree x).prefix) (cut : front ≡ take m (drop i whole)) (long : m ≡ n) where
   front-of : front ≡ take n (drop i (tree x).prefix)
-  front-of = cut ∙ ap (λ k. take k (drop i whole)) long ∙ ap (λ p. take n (drop i p)) whole_is
+  front-of = grind arith
 
   length-of : length (drop i (tree x).prefix) ≡ length whole - i
-  length-of = length-drop {A = K} i (tree x).prefix ∙ ap (λ p. length p - i) (sym whole_is)
+  length-of = grind (arith, length-drop)
 
   -- where the prefix goes on, the tree itself stands below
   pub taken-rest : i + n < length whole → (zs : List T) → zs ≡ x ∷ []

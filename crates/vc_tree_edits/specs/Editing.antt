@@ -60,10 +60,11 @@ IsJudged may known None covered = covered ≡ known
 IsJudged may known (Some w) covered = may w covered
 
 -- no value comes, and a value stays or goes by such a verdict
-abbrev pub IsSiftedBy : {V W : Type 0} → (V → V → Type 0) → (W → Bool → Type 0) → Bool → (Bool → Bool) → Option V → Option W → Option V
-    → Type 0
+abbrev pub IsSiftedBy : {V W : Type 0} → (V → V → Type 0) → (W → Bool → Type 0) → Bool → (Bool → Bool) → Option V → Option W
+    → Option V → Type 0
 IsSiftedBy keeps may known stays None c z = z ≡ None
-IsSiftedBy keeps may known stays (Some v) c z = (covered : Bool) × IsJudged may known c covered × StaysOrGoes keeps (stays covered) v z
+IsSiftedBy keeps may known stays (Some v) c z =
+    (covered : Bool) × IsJudged may known c covered × StaysOrGoes keeps (stays covered) v z
 
 -- whether a value stays: where those are retained that are covered, and where the others are
 abbrev pub stays_by : Bool → Bool → Bool

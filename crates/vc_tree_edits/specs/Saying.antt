@@ -12,8 +12,8 @@ module _ {V : Type 0} (keeps : V → V → Type 0) (over : (u v w : V) → keeps
   stays_kept false u v z k h = h
 
   module _ {W : Type 0} where
-    pub sifted_kept : (may : W → Bool → Type 0) (known : Bool) (stays : Bool → Bool) (u v : Option V) (w : Option W) (z : Option V)
-        → IsKept keeps u v → IsSiftedBy keeps may known stays v w z → IsSiftedBy keeps may known stays u w z
+    pub sifted_kept : (may : W → Bool → Type 0) (known : Bool) (stays : Bool → Bool) (u v : Option V) (w : Option W)
+        (z : Option V) → IsKept keeps u v → IsSiftedBy keeps may known stays v w z → IsSiftedBy keeps may known stays u w z
     sifted_kept may known stays None None w z k h = h
     sifted_kept may known stays None (Some v) w z k h = absurd k
     sifted_kept may known stays (Some u) None w z k h = absurd k

@@ -20,7 +20,8 @@ module _ {K V T : Type 0} (tree : T → Tree K V) where
     pub faced : IsFaced cmp tree tb t u n below from ys j
 
   -- the parts of a tree that is alike to t: the front of its prefix, the value there, and what stands below
-  pub record IsTaken (keeps : V → V → Type 0) (t : Tree K V) (n : ℕ) (front : List K) (value : Option V) (list : List T) (from : ℕ) : Type 0 where
+  pub record IsTaken (keeps : V → V → Type 0) (t : Tree K V) (n : ℕ) (front : List K) (value : Option V) (list : List T)
+      (from : ℕ) : Type 0 where
     pub taken : Tree K V
     pub alike : IsAlike keeps t taken
     pub front_is : front ≡ take n t.prefix
@@ -45,8 +46,8 @@ module _ {K V W O T B : Type 0} (cmp : K → K → Ordering) (tree : T → Tree 
 
 module _ {K V : Type 0} (cmp : K → K → Ordering) where
   -- the first tree of the left list was taken out, and what the change leaves of it stands behind the others
-  pub record IsStayed {W O T : Type 0} (tree : T → Tree K V) (l : Look cmp W O) (says : Option V → O → Option V → Type 0) (from : ℕ)
-      (xs xs' : List T) (kids kids' : List (Tree K V)) : Type 0 where
+  pub record IsStayed {W O T : Type 0} (tree : T → Tree K V) (l : Look cmp W O) (says : Option V → O → Option V → Type 0)
+      (from : ℕ) (xs xs' : List T) (kids kids' : List (Tree K V)) : Type 0 where
     pub first : T
     pub kid : Option (Tree K V)
     pub next : xs ≡ first ∷ xs'

@@ -8,7 +8,8 @@ ghost use Rattle.vc_tree_model.specs.Map.{or_else};
 ghost use Rattle.vc_tree_model.specs.Tree.{shortened};
 ghost use Rattle.vc_tree_model.specs.Look.{values};
 ghost use Rattle.vc_tree_edits.specs.Covers.{covers};
-ghost use Rattle.vc_tree_edits.specs.Editing.{MayLeave, CanLeave, KeptThen, CanMeet, IsMetAt, CanJudge, MayJudge, IsJudged, IsSiftedBy, stays_by};
+ghost use Rattle.vc_tree_edits.specs.Editing.{MayLeave, CanLeave, KeptThen, CanMeet, IsMetAt};
+ghost use Rattle.vc_tree_edits.specs.Editing.{CanJudge, MayJudge, IsJudged, IsSiftedBy, stays_by};
 ghost use Rattle.vc_tree_edits.specs.Saying.{sifted_kept, outer_kept, met_kept, meet_kept};
 
 use crate::engine::Change;
@@ -94,7 +95,7 @@ impl<'f, K: TKey, V: TValue, W: TValue, T: Build<K, V>, F: Fn(&W) -> bool> Lesse
 
     ghost asks_kept = { λ op u v w k a. a };
 
-    #[tactic(auto, using(crate::proofs::Sifting::value_stays, crate::proofs::Sifting::value_goes, crate::proofs::Sifting::sifted_below, crate::proofs::Sifting::asked_below))]
+    #[tactic(auto, using(crate::proofs::Sifting::sifting))]
     fn at_values(&self, v: Option<V>, w: Option<&W>) -> (Option<V>, Sift<'f, F>)
         requires { CanJudge F.Fn self.now.judge.now (option_copied w) }
         ensures value { IsSiftedBy T.keeps (MayJudge F.Fn self.now.judge.now) self.now.covered

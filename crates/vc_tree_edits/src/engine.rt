@@ -1,6 +1,7 @@
 //! The one recursion of all changes of a tree by another tree, in place.
 
-ghost use Rattle.std.specs.Prelude.{◌≡◌, ◌<◌, ◌≤◌, ◌∷◌, List, [], Option, None, IfOk, IfSome, OnOk, drop, length, map, option_map, slice_get};
+ghost use Rattle.std.specs.Prelude.{◌≡◌, ◌<◌, ◌≤◌, ◌∷◌, List, [], Option, None, IfOk, IfSome, OnOk};
+ghost use Rattle.std.specs.Prelude.{drop, length, map, option_map, slice_get};
 ghost use Rattle.std.specs.Option.{option_copied};
 ghost use Rattle.std.specs.declared.cmp.Ordering.{Ordering};
 ghost use Rattle.vc_tree_model.specs.Tree.{shortened};

@@ -1,6 +1,8 @@
 //! The recursion of the changes of a tree into which nothing comes, in place.
 
-ghost use Rattle.std.specs.Prelude.{◌≡◌, ◌+◌, ◌<◌, ◌≤◌, ◌++◌, ◌∷◌, true, false, List, [], Option, Some, None, IfOk, MatchBool, drop, take, length, slice_get, get_or, option_map};
+ghost use Rattle.std.specs.Prelude.{◌≡◌, ◌+◌, ◌<◌, ◌≤◌, ◌++◌, ◌∷◌, true, false, List, [], Option};
+ghost use Rattle.std.specs.Prelude.{Some, None, IfOk, MatchBool, drop, take, length, slice_get};
+ghost use Rattle.std.specs.Prelude.{get_or, option_map};
 ghost use Rattle.std.specs.List.{cons_option};
 ghost use Rattle.std.specs.Option.{is_none, option_copied};
 ghost use Rattle.std.specs.declared.cmp.Ordering.{Ordering};
@@ -13,7 +15,8 @@ ghost use Rattle.vc_tree_model.specs.Child.{solid_child};
 ghost use Rattle.vc_tree_nodes.specs.Children.{listed, seen};
 ghost use Rattle.vc_tree_nodes.specs.Parting.{Agree};
 ghost use Rattle.vc_tree_facing.specs.Facing.{trees_below, shortened_in};
-ghost use Rattle.vc_tree_facing.specs.Lessening.{IsLessened, IsInside, IsNodeLeft, IsLessenedIn, alone};
+ghost use Rattle.vc_tree_facing.specs.Lessening.{IsLessened, IsInside, IsNodeLeft, IsLessenedIn};
+ghost use Rattle.vc_tree_facing.specs.Lessening.{alone};
 ghost use Rattle.vc_tree_edits.specs.Kids.{AreKids};
 
 use std::alloc::{AllocError, Global};

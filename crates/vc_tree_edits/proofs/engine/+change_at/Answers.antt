@@ -1,6 +1,6 @@
 -- The recursion of a change in place: the next trees are done one after the other, and each call goes to trees that stand below.
 use Rattle.std.proofs.Common.{rules, refl, sym, ap, ◌∙◌, Some}
-use Rattle.vc_tree_facing.proofs.Next.{left_within, right_within, both-next, asked, done, both-agree, at-most}
+use Rattle.vc_tree_facing.proofs.Next.{left_within, right_within, both-next, done, meets}
 use Rattle.vc_tree_edits.proofs.Stepping.{first-long, after-left, after-right, falls-below, finished-children, finished}
 use Rattle.vc_tree_edits.proofs.engine.+change_at.Goals as goal
 
@@ -26,40 +26,14 @@ come-requires-clause-long g t c =
     (λ y rest e. right_within inv.doing e))
 
 pub change_at-requires : goal.change_at-requires
-change_at-requires g t c κs within =
+change_at-requires g t c κs (w₀, (w₁, (w₂, (w₃, (w₄, (w₅, (w₆, w₇))))))) =
     let inv = c.loop-side.invariant in
     let z = rw inv.right_from at (sym c.next_side.ensures.side ∙ c.in-Some.is ∙ ap Some c.in-Both.is) in
     let n = both-next inv.doing z c.pop-x.ensures c.next-y.ensures.first in
     let from = c.next-y.ensures.from ∙ inv.right_from in
     let down = falls-below c.in_ok-prefix.ensures n in
-    let i = at-most _ _ (left_within n.doing refl) in
-    let right = at-most _ _ (right_within n.doing refl) in
-    let alike = both-agree n in
-    let may = asked n in
-    let j = rw (← from) at right in
-    let agree = rw (← from) at alike in
-    let asks = rw (← from) at may in (
-      search rules,
-      (
-        within.0,
-        (
-          within.1.0,
-          (
-            within.1.1.0,
-            (
-              within.1.1.1.0,
-              (
-                within.1.1.1.1.0,
-                (
-                  within.1.1.1.1.1.0,
-                  (within.1.1.1.1.1.1.0, (within.1.1.1.1.1.1.1, (i, (j, (agree, asks))))),
-                ),
-              ),
-            ),
-          ),
-        ),
-      ),
-    )
+    let may = meets n from in
+    (search rules, (w₀, (w₁, (w₂, (w₃, (w₄, (w₅, (w₆, (w₇, (may.left_within, (may.right_within, (may.agree, may.may))))))))))))
 
 pub loop-side-preserved-in-Continue-branch-2 : goal.loop-side-preserved-in-Continue-branch-2
 loop-side-preserved-in-Continue-branch-2 g t c =

@@ -1,5 +1,5 @@
 -- What is left of two trees, by where their prefixes end, and of the children one after the other.
-use Rattle.std.proofs.Common.{◌≡◌, ◌+◌, ◌<◌, ◌≤◌, ◌∷◌, [], refl, sym, ap, subst, ◌∙◌, arith, rules, take}
+use Rattle.std.proofs.Common.{◌≡◌, ◌+◌, ◌<◌, ◌≤◌, ◌∷◌, refl, sym, ap, subst, ◌∙◌, arith, rules, take}
 use Rattle.std.proofs.Common.{length, length-drop, is_ok, true≢false, List}
 use Rattle.std.proofs.Math.ListN.{length-set}
 use Rattle.std.specs.List.{cons_option}
@@ -9,12 +9,10 @@ use Rattle.vc_tree_model.specs.Tree.{forest_nodes}
 use Rattle.vc_tree_model.proofs.AlikeLemmas.{alike-children, alike-lookup, alike-nodes}
 use Rattle.vc_tree_nodes.specs.Children.{listed, seen}
 use Rattle.vc_tree_facing.specs.Facing.{trees_below}
-use Rattle.vc_tree_facing.proofs.Advancing.{next-sought, list-done, inside}
+use Rattle.vc_tree_facing.proofs.Advancing.{next-sought, list-done, inside-next, inside}
 use Rattle.vc_tree_facing.proofs.Apart.{apart-lessened}
-use Rattle.vc_tree_facing.proofs.Next.{at-most, doing-start, asked, both-agree, left_within, right_within, left-fewer}
-use Rattle.vc_tree_facing.proofs.Next.{right-fewer, made-left}
+use Rattle.vc_tree_facing.proofs.Next.{doing-start, left_within, meets, left-fewer, right-fewer, made-left}
 use Rattle.vc_tree_facing.proofs.Leaving.{if-ok, node-lessened, inside-lessened, value-may, below-may, node-kids}
-use Rattle.vc_tree_facing.proofs.Leaving.{inner-list}
 use Rattle.vc_tree_facing.proofs.Leaving.{ended-node, inner-node, opened-node}
 use Rattle.vc_tree_facing.proofs.Leaving.{below-fewer}
 use Rattle.vc_tree_edits.proofs.Placed.{same-place, same-at, set-at, IsStepped, next-here, stepped}
@@ -30,45 +28,33 @@ pub lessen_at-overflow_add-place : goal.lessen_at-overflow_add-place
 lessen_at-overflow_add-place g t c =
     let v = ap length c.prefix-whole.ensures.value in
     let k = length-drop c.args.i (g.T.RadixNode.tree c.args.tree.now).prefix in
-    let h = c.split-front.ensures.agree.within_prefix in
-    let small = c.prefix-whole.type_inv.0 in
-    let left = c.requires.left in
-    omega (arith, v, k, h, small, left)
+    omega (arith, v, k, c.split-front.ensures.agree.within_prefix, c.prefix-whole.type_inv.0, c.requires.left)
 
 pub lessen_at-overflow_add-other_place : goal.lessen_at-overflow_add-other_place
 lessen_at-overflow_add-other_place g t c =
     let v = ap length c.prefix-other_whole.ensures.value in
     let k = length-drop c.args.j (g.B.RadixNode.tree c.args.that.now).prefix in
-    let h = c.split-front.ensures.agree.within_key in
-    let small = c.prefix-other_whole.type_inv.0 in
-    let right = c.requires.right in
-    omega (arith, v, k, h, small, right)
+    omega (arith, v, k, c.split-front.ensures.agree.within_key, c.prefix-other_whole.type_inv.0, c.requires.right)
 
 pub lessen_at-returns-then-other_place-other_whole : goal.lessen_at-returns-then-other_place-other_whole
 lessen_at-returns-then-other_place-other_whole g t c =
     let tree = g.T.RadixNode.tree in
     let op = c.args.op.now in
-    let within : c.args.i + c.split-front.result < length (g.T.RadixNode.tree c.args.tree.now).prefix =
-    subst (λ p. c.args.i + c.split-front.result < length p) c.prefix-whole.ensures.value c.if-place-whole.true in
-    let beyond : c.args.j + c.split-front.result < length (g.B.RadixNode.tree c.args.that.now).prefix =
-    subst (λ p. c.args.j + c.split-front.result < length p) c.prefix-other_whole.ensures.value
-    c.if-other_place-other_whole.true in
+    let within = rw c.prefix-whole.ensures.value at c.if-place-whole.true in
+    let beyond = rw c.prefix-other_whole.ensures.value at c.if-other_place-other_whole.true in
     apart-lessened tree c.args.tree.now g.B.RadixNode.tree c.args.that.now c.split-front.ensures within beyond
-    (g.O.Lessen.look g.K.Ord.cmp)
-    (g.O.Lessen.says op) (g.O.Lessen.asks op) (g.met.O.Lessen.says_nothing op) (g.met.O.Lessen.asks_none op) c.requires.asks
-    (λ s. refl) (alone-made g.K.Ord.cmp g.met.K.Ord.total g.T.Build.keeps g.met.T.Build.keeps_refl (g.O.Lessen.says op) _
-    (tree c.args.tree.now) _ c.split-front.ensures.left within c.stays_alone.result c.stays_alone.ensures)
+    (g.O.Lessen.look g.K.Ord.cmp) (g.O.Lessen.says op) (g.O.Lessen.asks op) (g.met.O.Lessen.says_nothing op)
+    (g.met.O.Lessen.asks_none op) c.requires.asks (λ s. refl) (alone-made g.K.Ord.cmp g.met.K.Ord.total g.T.Build.keeps
+    g.met.T.Build.keeps_refl (g.O.Lessen.says op) _ (tree c.args.tree.now) _ c.split-front.ensures.left within
+    c.stays_alone.result c.stays_alone.ensures)
 
 pub lessen_at-lessen_inside-requires : goal.lessen_at-lessen_inside-requires
 lessen_at-lessen_inside-requires g t c κs inside =
     let s = c.split-front.ensures in
     let tree = g.T.RadixNode.tree c.args.tree.now in
     let that = g.B.RadixNode.tree c.args.that.now in
-    let within : c.args.i + c.split-front.result < length (g.T.RadixNode.tree c.args.tree.now).prefix =
-    subst (λ p. c.args.i + c.split-front.result < length p) c.prefix-whole.ensures.value c.if-place-whole.true in
-    let ended : length (g.B.RadixNode.tree c.args.that.now).prefix ≤ c.args.j + c.split-front.result =
-    subst (λ p. length p ≤ c.args.j + c.split-front.result) c.prefix-other_whole.ensures.value
-    c.if-other_place-other_whole.false in
+    let within = rw c.prefix-whole.ensures.value at c.if-place-whole.true in
+    let ended = rw c.prefix-other_whole.ensures.value at c.if-other_place-other_whole.false in
     let node = inner-node c.args.i c.split-front.result tree within in
     let other = ended-node c.args.j c.split-front.result that ended in
     let value = value-may s (g.O.Lessen.look g.K.Ord.cmp) (g.O.Lessen.asks c.args.op.now) c.requires.asks node other in
@@ -78,11 +64,8 @@ lessen_at-lessen_inside-requires g t c κs inside =
 pub lessen_at-returns-then-place-whole : goal.lessen_at-returns-then-place-whole
 lessen_at-returns-then-place-whole g t c =
     let that = g.B.RadixNode.tree c.args.that.now in
-    let within : c.args.i + c.split-front.result < length (g.T.RadixNode.tree c.args.tree.now).prefix =
-    subst (λ p. c.args.i + c.split-front.result < length p) c.prefix-whole.ensures.value c.if-place-whole.true in
-    let ended : length (g.B.RadixNode.tree c.args.that.now).prefix ≤ c.args.j + c.split-front.result =
-    subst (λ p. length p ≤ c.args.j + c.split-front.result) c.prefix-other_whole.ensures.value
-    c.if-other_place-other_whole.false in
+    let within = rw c.prefix-whole.ensures.value at c.if-place-whole.true in
+    let ended = rw c.prefix-other_whole.ensures.value at c.if-other_place-other_whole.false in
     if-ok c.lessen_inside.result
     (λ stays h. inside-lessened c.split-front.ensures (ended-node c.args.j c.split-front.result that ended)
     (g.met.O.Lessen.says_nothing c.args.op.now _) h within) c.lessen_inside.ensures
@@ -92,8 +75,7 @@ lessen_at-lessen_node-requires g t c κs inside =
     let s = c.split-front.ensures in
     let tree = g.T.RadixNode.tree c.args.tree.now in
     let that = g.B.RadixNode.tree c.args.that.now in
-    let long : length (g.T.RadixNode.tree c.args.tree.now).prefix ≤ c.args.i + c.split-front.result =
-    subst (λ p. length p ≤ c.args.i + c.split-front.result) c.prefix-whole.ensures.value c.if-place-whole.false in
+    let long = rw c.prefix-whole.ensures.value at c.if-place-whole.false in
     let opened = c.below_place-right.ensures.opened in
     let children = c.below_place-right.ensures.below.are_children in
     let fewer = below-fewer opened in
@@ -105,8 +87,7 @@ lessen_at-lessen_node-requires g t c κs inside =
 
 pub lessen_at-returns : goal.lessen_at-returns
 lessen_at-returns g t c =
-    let long : length (g.T.RadixNode.tree c.args.tree.now).prefix ≤ c.args.i + c.split-front.result =
-    subst (λ p. length p ≤ c.args.i + c.split-front.result) c.prefix-whole.ensures.value c.if-place-whole.false in
+    let long = rw c.prefix-whole.ensures.value at c.if-place-whole.false in
     if-ok c.lessen_node.result
     (λ stays h. node-lessened c.split-front.ensures
     (opened-node c.args.j c.split-front.result (g.B.RadixNode.tree c.args.that.now) c.value_at.ensures
@@ -116,61 +97,40 @@ lessen_at-returns g t c =
 
 pub lessen_inside-lessen_at-requires : goal.lessen_inside-lessen_at-requires
 lessen_inside-lessen_at-requires g t c κs inside =
-    let tb = g.B.RadixNode.tree in
     let op = c.change_value-below.result.1 in
-    let opened = c.below_place-right.ensures.opened in
-    let kids = node-kids opened c.prefix.ensures.value (omega arith) in
-    let d = doing-start {ta = g.T.RadixNode.tree} {tb = tb} {i = c.args.place} {j = c.below_place-right.result.from}
-    {l = g.O.Lessen.look g.K.Ord.cmp} {R = g.O.Lessen.says op}
-    {asks = g.O.Lessen.asks op} {xs = c.args.tree.now ∷ []}
-    {ys = trees_below c.below_place-right.result} g.met.K.Ord.total (g.met.O.Lessen.asks_none op)
-    (inner-list g.K.Ord.cmp g.T.RadixNode.tree c.args.tree.now c.args.place c.seek_alike.ensures.canonical c.requires.within)
-    c.below_place-right.ensures.below.are_children
-    (λ x q. c.change_value-below.ensures.asked _ _ (rw (c.value.ensures, kids) (c.requires.asks_below x q))) refl in
-    let n = next-sought (g.met.O.Lessen.says_nothing op) d c.seek_alike.ensures.sought (ap option_copied c.in-Some.is) in
-    let from = c.seek_alike.ensures.from in
-    let asks = asked n in
-    let agree = both-agree n in
-    let within = at-most _ _ (right_within n.doing refl) in
-    let asks_from = rw (← from) at asks in
-    let agree_from = rw (← from) at agree in
-    let within_from = rw (← from) at within in
+    let kids = node-kids c.below_place-right.ensures.opened c.prefix.ensures.value (omega arith) in
+    let n = inside-next g.T.RadixNode.tree g.B.RadixNode.tree c.args.tree.now c.args.place (g.O.Lessen.look g.K.Ord.cmp)
+    (g.O.Lessen.says op) (g.O.Lessen.asks op) g.met.K.Ord.total (g.met.O.Lessen.says_nothing op) (g.met.O.Lessen.asks_none op)
+    c.seek_alike.ensures.canonical c.requires.within c.below_place-right.ensures.below.are_children
+    (λ x q. c.change_value-below.ensures.asked _ _ (rw (c.value.ensures, kids) (c.requires.asks_below x q)))
+    c.seek_alike.ensures.sought (ap option_copied c.in-Some.is) in
+    let may = meets n c.seek_alike.ensures.from in
     let smaller = right-fewer n in
     let all = ap forest_nodes kids in
     search rules
 
 pub lessen_inside-returns-in-Some : goal.lessen_inside-returns-in-Some
 lessen_inside-returns-in-Some g t c =
-    let tb = g.B.RadixNode.tree in
     let op = c.change_value-below.result.1 in
-    let opened = c.below_place-right.ensures.opened in
-    let kids = node-kids opened c.prefix.ensures.value (omega arith) in
-    let d = doing-start {ta = g.T.RadixNode.tree} {tb = tb} {i = c.args.place} {j = c.below_place-right.result.from}
-    {l = g.O.Lessen.look g.K.Ord.cmp} {R = g.O.Lessen.says op}
-    {asks = g.O.Lessen.asks op} {xs = c.args.tree.now ∷ []}
-    {ys = trees_below c.below_place-right.result} g.met.K.Ord.total (g.met.O.Lessen.asks_none op)
-    (inner-list g.K.Ord.cmp g.T.RadixNode.tree c.args.tree.now c.args.place c.seek_alike.ensures.canonical c.requires.within)
-    c.below_place-right.ensures.below.are_children
-    (λ x q. c.change_value-below.ensures.asked _ _ (rw (c.value.ensures, kids) (c.requires.asks_below x q))) refl in
-    let n = next-sought (g.met.O.Lessen.says_nothing op) d c.seek_alike.ensures.sought (ap option_copied c.in-Some.is) in
+    let kids = node-kids c.below_place-right.ensures.opened c.prefix.ensures.value (omega arith) in
+    let n = inside-next g.T.RadixNode.tree g.B.RadixNode.tree c.args.tree.now c.args.place (g.O.Lessen.look g.K.Ord.cmp)
+    (g.O.Lessen.says op) (g.O.Lessen.asks op) g.met.K.Ord.total (g.met.O.Lessen.says_nothing op) (g.met.O.Lessen.asks_none op)
+    c.seek_alike.ensures.canonical c.requires.within c.below_place-right.ensures.below.are_children
+    (λ x q. c.change_value-below.ensures.asked _ _ (rw (c.value.ensures, kids) (c.requires.asks_below x q)))
+    c.seek_alike.ensures.sought (ap option_copied c.in-Some.is) in
     if-ok c.lessen_at.result
     (λ stays h. inside n (g.met.O.Lessen.says_nothing op) kids (rw c.value.ensures at c.change_value-below.ensures.below)
     (g.met.O.Lessen.says_nothing c.args.op.now _) h.front (rw c.seek_alike.ensures.from at h.made)) c.lessen_at.ensures
 
 pub lessen_inside-returns : goal.lessen_inside-returns
 lessen_inside-returns g t c =
-    let tb = g.B.RadixNode.tree in
     let op = c.change_value-below.result.1 in
-    let opened = c.below_place-right.ensures.opened in
-    let kids = node-kids opened c.prefix.ensures.value (omega arith) in
-    let d = doing-start {ta = g.T.RadixNode.tree} {tb = tb} {i = c.args.place} {j = c.below_place-right.result.from}
-    {l = g.O.Lessen.look g.K.Ord.cmp} {R = g.O.Lessen.says op}
-    {asks = g.O.Lessen.asks op} {xs = c.args.tree.now ∷ []}
-    {ys = trees_below c.below_place-right.result} g.met.K.Ord.total (g.met.O.Lessen.asks_none op)
-    (inner-list g.K.Ord.cmp g.T.RadixNode.tree c.args.tree.now c.args.place c.seek_alike.ensures.canonical c.requires.within)
-    c.below_place-right.ensures.below.are_children
-    (λ x q. c.change_value-below.ensures.asked _ _ (rw (c.value.ensures, kids) (c.requires.asks_below x q))) refl in
-    let n = next-sought (g.met.O.Lessen.says_nothing op) d c.seek_alike.ensures.sought (ap option_copied c.in-None.is) in
+    let kids = node-kids c.below_place-right.ensures.opened c.prefix.ensures.value (omega arith) in
+    let n = inside-next g.T.RadixNode.tree g.B.RadixNode.tree c.args.tree.now c.args.place (g.O.Lessen.look g.K.Ord.cmp)
+    (g.O.Lessen.says op) (g.O.Lessen.asks op) g.met.K.Ord.total (g.met.O.Lessen.says_nothing op) (g.met.O.Lessen.asks_none op)
+    c.seek_alike.ensures.canonical c.requires.within c.below_place-right.ensures.below.are_children
+    (λ x q. c.change_value-below.ensures.asked _ _ (rw (c.value.ensures, kids) (c.requires.asks_below x q)))
+    c.seek_alike.ensures.sought (ap option_copied c.in-None.is) in
     inside n (g.met.O.Lessen.says_nothing op) kids (rw c.value.ensures at c.change_value-below.ensures.below)
     (g.met.O.Lessen.says_nothing c.args.op.now _) (λ e. refl)
     (made-left (alone-made g.K.Ord.cmp g.met.K.Ord.total g.T.Build.keeps g.met.T.Build.keeps_refl (g.O.Lessen.says op) _
@@ -201,7 +161,6 @@ lessen_in-seek_alike-requires g t c =
 
 pub lessen_in-lessen_at-requires : goal.lessen_in-lessen_at-requires
 lessen_in-lessen_at-requires g t c κs inside =
-    let tb = g.B.RadixNode.tree in
     let alike = g.met.T.Build.kept_alike _ _ c.in_ok-list.ensures.value in
     let at : c.loop-at.at < length c.loop-at.list.items = search rules in
     let d = next-here c.loop-at.list.items c.loop-at.at c.loop-at.invariant.going at c.index.ensures in
@@ -209,15 +168,9 @@ lessen_in-lessen_at-requires g t c κs inside =
     let from = c.seek_alike.ensures.from ∙ c.loop-at.invariant.from in
     let sought = rw c.loop-at.invariant.from at c.seek_alike.ensures.sought in
     let n = next-sought (g.met.O.Lessen.says_nothing c.args.op.now) d sought (ap option_copied c.in-Some.is) in
-    let asks = asked n in
-    let agree = both-agree n in
-    let within = at-most _ _ (right_within n.doing refl) in
-    let asks_from = rw (← same, ← from) at asks in
-    let agree_from = rw (← same, ← from) at agree in
-    let within_from = rw (← from) at within in
+    let may = rw (← same) at (meets n from) in
     let smaller = right-fewer n in
-    let few = left-fewer n in
-    let fewer = rw (← same) at few in
+    let fewer = rw (← same) at (left-fewer n) in
     let many = alike-nodes g.T.Build.keeps _ _ alike in
     search rules
 
@@ -253,10 +206,9 @@ lessen_in-loop-at-preserved g t c =
     let sought = rw c.loop-at.invariant.from at c.seek_alike.ensures.sought in
     let nothing = g.met.O.Lessen.says_nothing c.args.op.now in
     let s : IsStepped g.K.Ord.cmp tree g.B.RadixNode.tree c.args.right.from (g.O.Lessen.look g.K.Ord.cmp)
-    (g.O.Lessen.says c.args.op.now)
-    (g.O.Lessen.asks c.args.op.now) c.in_ok-list.list.now.items (trees_below c.args.right) c.loop-at.list.items c.loop-at.at
-    c.loop-at.kept c.match-seek_alike.list.items c.match-seek_alike.stays (trees_below c.seek_alike.new.below) =
-    elim c.match-seek_alike.branch [
+    (g.O.Lessen.says c.args.op.now) (g.O.Lessen.asks c.args.op.now) c.in_ok-list.list.now.items (trees_below c.args.right)
+    c.loop-at.list.items c.loop-at.at c.loop-at.kept c.match-seek_alike.list.items c.match-seek_alike.stays
+    (trees_below c.seek_alike.new.below) = elim c.match-seek_alike.branch [
       | lessen_in-in-Some+in_ok-stays-in-Some w ↦
           let same = same-place c.loop-at.list.items c.loop-at.at _ _ at w.index_mut.ensures.value c.index.ensures in
           stepped (next-sought nothing d sought (ap option_copied w.in-Some.is)) (set-at _ _ _ _ at (ap (λ v. v.items) w.list-is))
@@ -298,62 +250,29 @@ lessen_in-loop-at-preserved g t c =
           })
     ]
 
-pub lessen_in-returns-then-kept-eq1-clause-children : goal.lessen_in-returns-then-kept-eq1-clause-children
-lessen_in-returns-then-kept-eq1-clause-children g t c =
+pub lessen_in-returns-then-kept-eq1 : goal.lessen_in-returns-then-kept-eq1
+lessen_in-returns-then-kept-eq1 g t c =
     let end : length c.loop-at.list.items ≤ c.loop-at.at = search rules in
     let gone = list-done (g.met.O.Lessen.says_nothing c.args.op.now) _
     (rw (none-left c.loop-at.list.items c.loop-at.at end) at c.loop-at.invariant.going) in
-    let enough : c.loop-at.kept ≤ length c.loop-at.list.items =
-    (let k = c.loop-at.invariant.order in let w = c.loop-at.invariant.within in omega (arith, k, w)) in
-    let one : length (take c.loop-at.kept c.loop-at.list.items) ≡ 1 =
-    first-long c.loop-at.list.items c.loop-at.kept enough ∙ c.if-kept-eq1.true in
+    let long = first-long c.loop-at.list.items c.loop-at.kept
+    (omega (arith, c.loop-at.invariant.order, c.loop-at.invariant.within)) in
     let items : cons_option c.pop.result (g.T.Children.ChildList.items (c.make_mut.follows.lender c.pop.new.self))
     ≡ take c.loop-at.kept c.loop-at.list.items =
     ap (cons_option c.pop.result) (c.make_mut.follows.holds _ (ap is_ok c.in_ok-list.was))
-    ∙ only-popped _ _ c.pop.result (sym c.truncate.ensures.items ∙ c.pop.ensures.items) one in
-    rw items gone.0
-
-pub lessen_in-returns-then-kept-eq1-clause-below : goal.lessen_in-returns-then-kept-eq1-clause-below
-lessen_in-returns-then-kept-eq1-clause-below g t c =
-    let end : length c.loop-at.list.items ≤ c.loop-at.at = search rules in
-    let gone = list-done (g.met.O.Lessen.says_nothing c.args.op.now) _
-    (rw (none-left c.loop-at.list.items c.loop-at.at end) at c.loop-at.invariant.going) in
-    let enough : c.loop-at.kept ≤ length c.loop-at.list.items =
-    (let k = c.loop-at.invariant.order in let w = c.loop-at.invariant.within in omega (arith, k, w)) in
-    let one : length (take c.loop-at.kept c.loop-at.list.items) ≡ 1 =
-    first-long c.loop-at.list.items c.loop-at.kept enough ∙ c.if-kept-eq1.true in
-    let items : cons_option c.pop.result (g.T.Children.ChildList.items (c.make_mut.follows.lender c.pop.new.self))
-    ≡ take c.loop-at.kept c.loop-at.list.items =
-    ap (cons_option c.pop.result) (c.make_mut.follows.holds _ (ap is_ok c.in_ok-list.was))
-    ∙ only-popped _ _ c.pop.result (sym c.truncate.ensures.items ∙ c.pop.ensures.items) one in
+    ∙ only-popped _ _ c.pop.result (sym c.truncate.ensures.items ∙ c.pop.ensures.items)
+    (long ∙ c.if-kept-eq1.true) in
     let alike = g.met.T.Build.kept_alike _ _ c.in_ok-list.ensures.value in
-    rw items (λ x q. g.met.O.Lessen.says_kept c.args.op.now _ _ _ _
-    (alike-lookup g.T.Build.keeps g.K.Ord.cmp _ _ alike (x ∷ q)) (gone.1 x q))
-
-pub lessen_in-returns-clause-kids : goal.lessen_in-returns-clause-kids
-lessen_in-returns-clause-kids g t c =
-    let items : g.T.Children.ChildList.items c.else-is_bare.children ≡ take c.loop-at.kept c.loop-at.list.items =
-    elim c.else-is_bare.branch [
-      | lessen_in-else-is_bare-via-then-is_bare+else-kept-eq1 w ↦
-          ap g.T.Children.ChildList.items w.children-is ∙ c.make_mut.follows.holds _ (ap is_ok c.in_ok-list.was)
-          ∙ c.truncate.ensures.items
-      | lessen_in-else-is_bare-via-else-is_bare w ↦
-          ap g.T.Children.ChildList.items w.children-is ∙ c.make_mut.follows.holds _ (ap is_ok c.in_ok-list.was)
-          ∙ c.truncate.ensures.items
-    ] in
-    let enough : c.loop-at.kept ≤ length c.loop-at.list.items =
-    (let k = c.loop-at.invariant.order in let w = c.loop-at.invariant.within in omega (arith, k, w)) in
     record {
-      apart = tt;
-      counted = λ _. sym (ap length items ∙ first-long c.loop-at.list.items c.loop-at.kept enough);
-      enough = λ _ bare one. elim c.else-is_bare.branch [
-        | lessen_in-else-is_bare-via-then-is_bare+else-kept-eq1 w ↦ w.if-kept-eq1.false one
-        | lessen_in-else-is_bare-via-else-is_bare w ↦ true≢false (sym bare ∙ w.if-is_bare.false)
-      ];
+      kids = search rules;
+      children = rw items gone.0;
+      below =
+          rw items (λ x q. g.met.O.Lessen.says_kept c.args.op.now _ _ _ _
+          (alike-lookup g.T.Build.keeps g.K.Ord.cmp _ _ alike (x ∷ q)) (gone.1 x q));
     }
 
-pub lessen_in-returns-clause-children : goal.lessen_in-returns-clause-children
-lessen_in-returns-clause-children g t c =
+pub lessen_in-returns : goal.lessen_in-returns
+lessen_in-returns g t c =
     let end : length c.loop-at.list.items ≤ c.loop-at.at = search rules in
     let gone = list-done (g.met.O.Lessen.says_nothing c.args.op.now) _
     (rw (none-left c.loop-at.list.items c.loop-at.at end) at c.loop-at.invariant.going) in
@@ -366,25 +285,23 @@ lessen_in-returns-clause-children g t c =
           ap g.T.Children.ChildList.items w.children-is ∙ c.make_mut.follows.holds _ (ap is_ok c.in_ok-list.was)
           ∙ c.truncate.ensures.items
     ] in
-    rw items gone.0
-
-pub lessen_in-returns-clause-below : goal.lessen_in-returns-clause-below
-lessen_in-returns-clause-below g t c =
-    let end : length c.loop-at.list.items ≤ c.loop-at.at = search rules in
-    let gone = list-done (g.met.O.Lessen.says_nothing c.args.op.now) _
-    (rw (none-left c.loop-at.list.items c.loop-at.at end) at c.loop-at.invariant.going) in
-    let items : g.T.Children.ChildList.items c.else-is_bare.children ≡ take c.loop-at.kept c.loop-at.list.items =
-    elim c.else-is_bare.branch [
-      | lessen_in-else-is_bare-via-then-is_bare+else-kept-eq1 w ↦
-          ap g.T.Children.ChildList.items w.children-is ∙ c.make_mut.follows.holds _ (ap is_ok c.in_ok-list.was)
-          ∙ c.truncate.ensures.items
-      | lessen_in-else-is_bare-via-else-is_bare w ↦
-          ap g.T.Children.ChildList.items w.children-is ∙ c.make_mut.follows.holds _ (ap is_ok c.in_ok-list.was)
-          ∙ c.truncate.ensures.items
-    ] in
+    let long = first-long c.loop-at.list.items c.loop-at.kept
+    (omega (arith, c.loop-at.invariant.order, c.loop-at.invariant.within)) in
     let alike = g.met.T.Build.kept_alike _ _ c.in_ok-list.ensures.value in
-    rw items (λ x q. g.met.O.Lessen.says_kept c.args.op.now _ _ _ _
-    (alike-lookup g.T.Build.keeps g.K.Ord.cmp _ _ alike (x ∷ q)) (gone.1 x q))
+    record {
+      kids = record {
+        apart = tt;
+        counted = λ _. sym (ap length items ∙ long);
+        enough = λ _ bare one. elim c.else-is_bare.branch [
+          | lessen_in-else-is_bare-via-then-is_bare+else-kept-eq1 w ↦ w.if-kept-eq1.false one
+          | lessen_in-else-is_bare-via-else-is_bare w ↦ true≢false (sym bare ∙ w.if-is_bare.false)
+        ];
+      };
+      children = rw items gone.0;
+      below =
+          rw items (λ x q. g.met.O.Lessen.says_kept c.args.op.now _ _ _ _
+          (alike-lookup g.T.Build.keeps g.K.Ord.cmp _ _ alike (x ∷ q)) (gone.1 x q));
+    }
 
 -- ---- the calls for the parts of a node
 
