@@ -1,11 +1,13 @@
 //! The combines of two trees that build a new one: what each makes of values, and of trees that one
 //! side alone has.
 
-ghost use Rattle.std.specs.Prelude.{◌≡◌, ◌+◌, ◌*◌, ◌<◌, ◌≤◌, List, Option, Some, None, Ok, IfOk, length, option_map, refl};
+ghost use Rattle.std.specs.Prelude.{◌≡◌, ◌+◌, ◌*◌, ◌<◌, ◌≤◌, List, Option, Some, None, Ok, IfOk};
+ghost use Rattle.std.specs.Prelude.{length, option_map, refl};
 ghost use Rattle.std.specs.Option.{option_copied};
 ghost use Rattle.vc_tree_model.specs.Asking.{MayAnswer, CanAsk};
 ghost use Rattle.vc_tree_model.specs.Canonical.{IsCanonical};
-ghost use Rattle.vc_tree_model.specs.Combine.{IsCombined, IsInnerAt, IsOuterAt, IsUnionAt, IsIntersectionAt, IsDifferenceAt};
+ghost use Rattle.vc_tree_model.specs.Combine.{IsCombined, IsInnerAt, IsOuterAt, IsUnionAt};
+ghost use Rattle.vc_tree_model.specs.Combine.{IsIntersectionAt, IsDifferenceAt};
 ghost use Rattle.vc_tree_model.specs.Map.{lookup};
 ghost use Rattle.vc_tree_model.specs.Same.{IsAlike};
 ghost use Rattle.vc_tree_model.specs.Shortened.{weight, IsShortened};

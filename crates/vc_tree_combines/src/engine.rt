@@ -1,6 +1,7 @@
 //! The one recursion of all combines that build a tree.
 
-ghost use Rattle.std.specs.Prelude.{◌≡◌, ◌+◌, ◌*◌, ◌<◌, ◌≤◌, List, [], Option, None, IfOk, drop, take, length, map, option_map};
+ghost use Rattle.std.specs.Prelude.{◌≡◌, ◌+◌, ◌*◌, ◌<◌, ◌≤◌, List, [], Option, None, IfOk, drop};
+ghost use Rattle.std.specs.Prelude.{take, length, map, option_map};
 ghost use Rattle.std.specs.Option.{option_copied};
 ghost use Rattle.vc_tree_model.specs.Combine.{IsCombined};
 ghost use Rattle.vc_tree_model.specs.Tree.{forest, shortened};

@@ -1,7 +1,8 @@
 //! Tests of the keys of two trees. They take no memory: where children of two nodes are merged, the
 //! merge stops at two that begin alike, these are tested, and what is behind them is merged on.
 
-ghost use Rattle.std.specs.Prelude.{◌≡◌, ◌+◌, ◌≤◌, Bool, Ok, List, drop, length, not, true, false, MatchBool, IfSome};
+ghost use Rattle.std.specs.Prelude.{◌≡◌, ◌+◌, ◌≤◌, Bool, Ok, List, drop, length, not, true, false};
+ghost use Rattle.std.specs.Prelude.{MatchBool, IfSome};
 ghost use Rattle.std.specs.Option.{option_copied};
 ghost use Rattle.vc_tree_model.specs.Canonical.{AreChildren};
 ghost use Rattle.vc_tree_model.specs.KeySets.{AreDisjoint, HasKeysOf, LacksKeyOf, ShareKey};

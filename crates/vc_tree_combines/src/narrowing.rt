@@ -1,6 +1,7 @@
 //! The recursion of the combines into which nothing comes of the right tree alone.
 
-ghost use Rattle.std.specs.Prelude.{◌≡◌, ◌+◌, ◌≤◌, ◌<◌, ◌∷◌, List, Option, None, IfOk, drop, length, option_map};
+ghost use Rattle.std.specs.Prelude.{◌≡◌, ◌+◌, ◌≤◌, ◌<◌, ◌∷◌, List, Option, None, IfOk, drop};
+ghost use Rattle.std.specs.Prelude.{length, option_map};
 ghost use Rattle.std.specs.Option.{option_copied};
 ghost use Rattle.vc_tree_model.specs.Canonical.{AreChildren, IsCanonical};
 ghost use Rattle.vc_tree_model.specs.Combine.{IsCombined};
@@ -11,7 +12,8 @@ ghost use Rattle.vc_tree_nodes.specs.Children.{seen};
 ghost use Rattle.vc_tree_nodes.specs.Parting.{Agree};
 ghost use Rattle.vc_tree_facing.specs.Facing.{trees_below, shortened_in};
 ghost use Rattle.vc_tree_facing.specs.Lessening.{alone, IsLessenedIn};
-ghost use Rattle.vc_tree_combines.specs.Narrowing.{IsLeftAlone, IsTold, IsNarrowed, IsNarrowedInside, IsNodeNarrowed};
+ghost use Rattle.vc_tree_combines.specs.Narrowing.{IsLeftAlone, IsTold, IsNarrowed};
+ghost use Rattle.vc_tree_combines.specs.Narrowing.{IsNarrowedInside, IsNodeNarrowed};
 
 use std::alloc::{AllocError, Global};
 use vc_tree_facing::facing::{Below, below_place, seek_alike, split};

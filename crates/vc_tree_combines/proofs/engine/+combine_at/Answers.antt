@@ -2,8 +2,8 @@
 use Rattle.std.proofs.Common.{rules, arith, refl, sym, ap, ◌∙◌, Some}
 use Rattle.vc_tree_model.specs.Look.{values}
 use Rattle.vc_tree_facing.proofs.Ending.{values-asked, combine-started, made-children, combined}
-use Rattle.vc_tree_facing.proofs.Next.{left_within, right_within, left-next, right-next, both-next, asked, done, at-most}
-use Rattle.vc_tree_facing.proofs.Next.{both-agree, both-ended, falls, made-left, made-right}
+use Rattle.vc_tree_facing.proofs.Next.{left_within, right_within, left-next, right-next, both-next, asked, done, meets}
+use Rattle.vc_tree_facing.proofs.Next.{both-ended, falls, made-left, made-right}
 use Rattle.vc_tree_combines.proofs.Paying.{paid-begun, paid-left, paid-right, paid-both}
 use Rattle.vc_tree_combines.proofs.engine.+combine_at.Goals as goal
 
@@ -49,10 +49,7 @@ combine_at-requires g t c κs within =
     let faced = c.in_ok-front.ensures.begun.faced in
     let n = both-next inv.doing z c.next-x.ensures.first c.next-y.ensures.first in
     let down = falls n faced.left faced.right faced.parts in
-    let i = at-most _ _ (left_within n.doing refl) in
-    let j = at-most _ _ (right_within n.doing refl) in
-    let agree = both-agree n in
-    let asks = asked n in
+    let may = meets n refl in
     search rules
 
 pub returns-in_err-kid-in-Both-clause-counted : goal.returns-in_err-kid-in-Both-clause-counted

@@ -1,19 +1,16 @@
 -- What is made of two trees, by where their prefixes end, and of the children one after the other.
-use Rattle.std.proofs.Common.{◌∷◌, [], None, refl, ap, ◌∙◌, arith, rules, map, option_map}
+use Rattle.std.proofs.Common.{None, refl, ap, ◌∙◌, arith, rules, map, option_map}
 use Rattle.std.proofs.Common.{length, length-drop}
 use Rattle.std.specs.Option.{option_copied}
 use Rattle.vc_tree_model.specs.Look.{values}
 use Rattle.vc_tree_model.specs.Tree.{forest_nodes, shortened}
 use Rattle.vc_tree_nodes.specs.Children.{seen}
-use Rattle.vc_tree_facing.specs.Facing.{trees_below}
-use Rattle.vc_tree_facing.proofs.Advancing.{next-sought, list-done, inside}
+use Rattle.vc_tree_facing.proofs.Advancing.{next-sought, list-done, inside-next, inside}
 use Rattle.vc_tree_facing.proofs.Apart.{apart-next, apart-lessened}
 use Rattle.vc_tree_facing.proofs.Leaving.{if-ok, node-lessened, inside-lessened, value-may, below-may, node-kids}
-use Rattle.vc_tree_facing.proofs.Leaving.{inner-list}
 use Rattle.vc_tree_facing.proofs.Leaving.{ended-node, inner-node, opened-node}
 use Rattle.vc_tree_facing.proofs.Leaving.{below-fewer}
-use Rattle.vc_tree_facing.proofs.Next.{at-most, nil-by, doing-start, asked, done, both-agree, left_within, right_within}
-use Rattle.vc_tree_facing.proofs.Next.{left-fewer, right-fewer, made-left}
+use Rattle.vc_tree_facing.proofs.Next.{nil-by, doing-start, asked, done, left_within, meets, left-fewer, right-fewer, made-left}
 use Rattle.vc_tree_combines.proofs.Narrowed.{value-alone, below-alone, node-alone, both-whole, alone-whole, made-node}
 use Rattle.vc_tree_combines.proofs.narrowing.+narrowing.Goals.{narrow_kids-in-Some-seek_alike+in_ok-kid-in-Some-seek_alike}
 use Rattle.vc_tree_combines.proofs.narrowing.+narrowing.Goals.{narrow_kids-in-None+in_ok-kid-in-None}
@@ -23,19 +20,13 @@ pub narrow_at-overflow_add-place : goal.narrow_at-overflow_add-place
 narrow_at-overflow_add-place g t c =
     let v = ap length c.prefix-whole.ensures.value in
     let k = length-drop c.args.i (g.A.RadixNode.tree c.args.a.now).prefix in
-    let h = c.split-front.ensures.agree.within_prefix in
-    let small = c.prefix-whole.type_inv.0 in
-    let left = c.requires.left in
-    omega (arith, v, k, h, small, left)
+    omega (arith, v, k, c.split-front.ensures.agree.within_prefix, c.prefix-whole.type_inv.0, c.requires.left)
 
 pub narrow_at-overflow_add-other_place : goal.narrow_at-overflow_add-other_place
 narrow_at-overflow_add-other_place g t c =
     let v = ap length c.prefix-other_whole.ensures.value in
     let k = length-drop c.args.j (g.B.RadixNode.tree c.args.b.now).prefix in
-    let h = c.split-front.ensures.agree.within_key in
-    let small = c.prefix-other_whole.type_inv.0 in
-    let right = c.requires.right in
-    omega (arith, v, k, h, small, right)
+    omega (arith, v, k, c.split-front.ensures.agree.within_key, c.prefix-other_whole.type_inv.0, c.requires.right)
 
 pub narrow_at-narrow_alone-requires : goal.narrow_at-narrow_alone-requires
 narrow_at-narrow_alone-requires g t c κs inside =
@@ -110,73 +101,52 @@ narrow_at-returns g t c =
 
 pub narrow_inside-narrow_at-requires : goal.narrow_inside-narrow_at-requires
 narrow_inside-narrow_at-requires g t c κs inside =
-    let tb = g.B.RadixNode.tree in
-    let opened = c.below_place-right.ensures.opened in
-    let kids = node-kids opened c.prefix.ensures.value (omega arith) in
-    let d = doing-start {ta = g.A.RadixNode.tree} {tb = tb} {i = c.args.place} {j = c.below_place-right.result.from}
-    {l = values g.K.Ord.cmp}
-    {R = g.O.Narrow.says c.args.op.now} {asks = g.O.Narrow.asks c.args.op.now} {xs = c.args.a.now ∷ []}
-    {ys = trees_below c.below_place-right.result} g.met.K.Ord.total (g.met.O.Narrow.asks_none c.args.op.now)
-    (inner-list g.K.Ord.cmp g.A.RadixNode.tree c.args.a.now c.args.place c.seek_alike.ensures.canonical c.requires.within)
-    c.below_place-right.ensures.below.are_children (λ x q. rw kids (c.requires.asks x q)) refl in
-    let n = next-sought (g.met.O.Narrow.says_nothing c.args.op.now) d c.seek_alike.ensures.sought
+    let kids = node-kids c.below_place-right.ensures.opened c.prefix.ensures.value (omega arith) in
+    let nothing = g.met.O.Narrow.says_nothing c.args.op.now in
+    let n = inside-next g.A.RadixNode.tree g.B.RadixNode.tree c.args.a.now c.args.place (values g.K.Ord.cmp)
+    (g.O.Narrow.says c.args.op.now) (g.O.Narrow.asks c.args.op.now) g.met.K.Ord.total nothing
+    (g.met.O.Narrow.asks_none c.args.op.now) c.seek_alike.ensures.canonical c.requires.within
+    c.below_place-right.ensures.below.are_children (λ x q. rw kids (c.requires.asks x q)) c.seek_alike.ensures.sought
     (ap option_copied c.in-Some.is) in
-    let from = c.seek_alike.ensures.from in
-    let asks = asked n in
-    let agree = both-agree n in
-    let within = at-most _ _ (right_within n.doing refl) in
-    let asks_from = rw (← from) at asks in
-    let agree_from = rw (← from) at agree in
-    let within_from = rw (← from) at within in
+    let may = meets n c.seek_alike.ensures.from in
     let smaller = right-fewer n in
     let all = ap forest_nodes kids in
     search rules
 
 pub narrow_inside-narrow_alone-requires : goal.narrow_inside-narrow_alone-requires
 narrow_inside-narrow_alone-requires g t c κs inside =
-    let tb = g.B.RadixNode.tree in
-    let opened = c.below_place-right.ensures.opened in
-    let kids = node-kids opened c.prefix.ensures.value (omega arith) in
-    let d = doing-start {ta = g.A.RadixNode.tree} {tb = tb} {i = c.args.place} {j = c.below_place-right.result.from}
-    {l = values g.K.Ord.cmp}
-    {R = g.O.Narrow.says c.args.op.now} {asks = g.O.Narrow.asks c.args.op.now} {xs = c.args.a.now ∷ []}
-    {ys = trees_below c.below_place-right.result} g.met.K.Ord.total (g.met.O.Narrow.asks_none c.args.op.now)
-    (inner-list g.K.Ord.cmp g.A.RadixNode.tree c.args.a.now c.args.place c.seek_alike.ensures.canonical c.requires.within)
-    c.below_place-right.ensures.below.are_children (λ x q. rw kids (c.requires.asks x q)) refl in
-    let asks = asked (next-sought (g.met.O.Narrow.says_nothing c.args.op.now) d c.seek_alike.ensures.sought
-    (ap option_copied c.in-None.is)) in
+    let kids = node-kids c.below_place-right.ensures.opened c.prefix.ensures.value (omega arith) in
+    let nothing = g.met.O.Narrow.says_nothing c.args.op.now in
+    let n = inside-next g.A.RadixNode.tree g.B.RadixNode.tree c.args.a.now c.args.place (values g.K.Ord.cmp)
+    (g.O.Narrow.says c.args.op.now) (g.O.Narrow.asks c.args.op.now) g.met.K.Ord.total nothing
+    (g.met.O.Narrow.asks_none c.args.op.now) c.seek_alike.ensures.canonical c.requires.within
+    c.below_place-right.ensures.below.are_children (λ x q. rw kids (c.requires.asks x q)) c.seek_alike.ensures.sought
+    (ap option_copied c.in-None.is) in
+    let asks = asked n in
     search rules
 
 pub narrow_inside-returns-in-Some : goal.narrow_inside-returns-in-Some
 narrow_inside-returns-in-Some g t c =
-    let tb = g.B.RadixNode.tree in
-    let opened = c.below_place-right.ensures.opened in
-    let kids = node-kids opened c.prefix.ensures.value (omega arith) in
-    let d = doing-start {ta = g.A.RadixNode.tree} {tb = tb} {i = c.args.place} {j = c.below_place-right.result.from}
-    {l = values g.K.Ord.cmp}
-    {R = g.O.Narrow.says c.args.op.now} {asks = g.O.Narrow.asks c.args.op.now} {xs = c.args.a.now ∷ []}
-    {ys = trees_below c.below_place-right.result} g.met.K.Ord.total (g.met.O.Narrow.asks_none c.args.op.now)
-    (inner-list g.K.Ord.cmp g.A.RadixNode.tree c.args.a.now c.args.place c.seek_alike.ensures.canonical c.requires.within)
-    c.below_place-right.ensures.below.are_children (λ x q. rw kids (c.requires.asks x q)) refl in
+    let kids = node-kids c.below_place-right.ensures.opened c.prefix.ensures.value (omega arith) in
     let nothing = g.met.O.Narrow.says_nothing c.args.op.now in
-    let n = next-sought nothing d c.seek_alike.ensures.sought (ap option_copied c.in-Some.is) in
+    let n = inside-next g.A.RadixNode.tree g.B.RadixNode.tree c.args.a.now c.args.place (values g.K.Ord.cmp)
+    (g.O.Narrow.says c.args.op.now) (g.O.Narrow.asks c.args.op.now) g.met.K.Ord.total nothing
+    (g.met.O.Narrow.asks_none c.args.op.now) c.seek_alike.ensures.canonical c.requires.within
+    c.below_place-right.ensures.below.are_children (λ x q. rw kids (c.requires.asks x q)) c.seek_alike.ensures.sought
+    (ap option_copied c.in-Some.is) in
     if-ok c.narrow_at.result
     (λ made h. inside n nothing kids (λ v p z h. h) (nothing None) h.front (rw c.seek_alike.ensures.from at h.made))
     c.narrow_at.ensures
 
 pub narrow_inside-returns-in-None : goal.narrow_inside-returns-in-None
 narrow_inside-returns-in-None g t c =
-    let tb = g.B.RadixNode.tree in
-    let opened = c.below_place-right.ensures.opened in
-    let kids = node-kids opened c.prefix.ensures.value (omega arith) in
-    let d = doing-start {ta = g.A.RadixNode.tree} {tb = tb} {i = c.args.place} {j = c.below_place-right.result.from}
-    {l = values g.K.Ord.cmp}
-    {R = g.O.Narrow.says c.args.op.now} {asks = g.O.Narrow.asks c.args.op.now} {xs = c.args.a.now ∷ []}
-    {ys = trees_below c.below_place-right.result} g.met.K.Ord.total (g.met.O.Narrow.asks_none c.args.op.now)
-    (inner-list g.K.Ord.cmp g.A.RadixNode.tree c.args.a.now c.args.place c.seek_alike.ensures.canonical c.requires.within)
-    c.below_place-right.ensures.below.are_children (λ x q. rw kids (c.requires.asks x q)) refl in
+    let kids = node-kids c.below_place-right.ensures.opened c.prefix.ensures.value (omega arith) in
     let nothing = g.met.O.Narrow.says_nothing c.args.op.now in
-    let n = next-sought nothing d c.seek_alike.ensures.sought (ap option_copied c.in-None.is) in
+    let n = inside-next g.A.RadixNode.tree g.B.RadixNode.tree c.args.a.now c.args.place (values g.K.Ord.cmp)
+    (g.O.Narrow.says c.args.op.now) (g.O.Narrow.asks c.args.op.now) g.met.K.Ord.total nothing
+    (g.met.O.Narrow.asks_none c.args.op.now) c.seek_alike.ensures.canonical c.requires.within
+    c.below_place-right.ensures.below.are_children (λ x q. rw kids (c.requires.asks x q)) c.seek_alike.ensures.sought
+    (ap option_copied c.in-None.is) in
     if-ok c.narrow_alone.result (λ made h. inside n nothing kids (λ v p z h. h) (nothing None) h.front (made-left h.made))
     c.narrow_alone.ensures
 
@@ -218,12 +188,7 @@ narrow_kids-narrow_at-requires g t c κs inside =
     let sought = rw c.loop-child.invariant.from at c.seek_alike.ensures.sought in
     let from = c.seek_alike.ensures.from ∙ c.loop-child.invariant.from in
     let n = next-sought (g.met.O.Narrow.says_nothing c.args.op.now) d sought (ap option_copied c.in-Some-seek_alike.is) in
-    let asks = asked n in
-    let agree = both-agree n in
-    let within = at-most _ _ (right_within n.doing refl) in
-    let asks_from = rw (← from) at asks in
-    let agree_from = rw (← from) at agree in
-    let within_from = rw (← from) at within in
+    let may = meets n from in
     let smaller = right-fewer n in
     let fewer = left-fewer n in
     search rules
@@ -257,15 +222,11 @@ narrow_kids-loop-child-preserved g t c =
       ];
     }
 
-pub narrow_kids-returns-clause-children : goal.narrow_kids-returns-clause-children
-narrow_kids-returns-clause-children g t c =
+pub narrow_kids-returns : goal.narrow_kids-returns
+narrow_kids-returns g t c =
     let none = nil-by _ c.in_default.ensures.cases in
-    (list-done (g.met.O.Narrow.says_nothing c.args.op.now) _ (rw none at c.loop-child.invariant.going)).0
-
-pub narrow_kids-returns-clause-below : goal.narrow_kids-returns-clause-below
-narrow_kids-returns-clause-below g t c =
-    let none = nil-by _ c.in_default.ensures.cases in
-    (list-done (g.met.O.Narrow.says_nothing c.args.op.now) _ (rw none at c.loop-child.invariant.going)).1
+    let d = list-done (g.met.O.Narrow.says_nothing c.args.op.now) _ (rw none at c.loop-child.invariant.going) in
+    record { children = d.0; below = d.1 }
 
 pub narrow_node-returns : goal.narrow_node-returns
 narrow_node-returns g t c =
