@@ -1,5 +1,6 @@
 -- What is left of a walk.
-use Rattle.std.specs.Prelude.{◌≡◌, ℕ, ◌+◌, ◌*◌, List, [], ◌∷◌, ◌++◌, take, map, Option, Some, None, Result, MatchOption, MatchResult}
+use Rattle.std.specs.Prelude.{◌≡◌, ℕ, ◌+◌, ◌*◌, List, [], ◌∷◌, ◌++◌, take, map, Option, Some, None, Result, MatchOption}
+use Rattle.std.specs.Prelude.{MatchResult}
 use Rattle.vc_tree_model.specs.Tree.{Forest, forest_nodes}
 use Rattle.vc_tree_model.specs.Walk.{prepended, walk_in}
 

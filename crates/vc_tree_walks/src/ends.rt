@@ -1,6 +1,7 @@
 //! The first and the last pair of a tree.
 
-ghost use Rattle.std.specs.Prelude.{◌≡◌, ◌-◌, IfOk, IfSome, List, MatchOption, Ok, None, true, length, slice_get};
+ghost use Rattle.std.specs.Prelude.{◌≡◌, ◌-◌, IfOk, IfSome, List, MatchOption, Ok, None, true};
+ghost use Rattle.std.specs.Prelude.{length, slice_get};
 ghost use Rattle.std.specs.Option.{option_map};
 ghost use Rattle.vc_tree_model.specs.Map.{lookup};
 ghost use Rattle.vc_tree_model.specs.Tree.{is_bare};

@@ -3,7 +3,8 @@
 ghost use Rattle.std.specs.Prelude.{◌≡◌, ◌<◌, ◌++◌, [], IfOk, OnOk, OnErr};
 ghost use Rattle.std.specs.Option.{option_copied};
 ghost use Rattle.vc_tree_walks.specs.Left.{pair_at, rows_left, rows_work};
-ghost use Rattle.vc_tree_walks.specs.IterLeft.{pairs_from, pairs_left, work_left, rows_of, rows_before, IsItem, IsTurn};
+ghost use Rattle.vc_tree_walks.specs.IterLeft.{pairs_from, pairs_left, work_left, rows_of};
+ghost use Rattle.vc_tree_walks.specs.IterLeft.{rows_before, IsItem, IsTurn};
 
 use crate::key::IterKey;
 use crate::turn::Turn;

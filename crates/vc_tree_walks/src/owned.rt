@@ -1,11 +1,13 @@
 //! The pairs of a tree that the iterator holds.
 
-ghost use Rattle.std.specs.Prelude.{◌≡◌, ◌+◌, ◌*◌, ◌<◌, ◌++◌, [], length, None, Some, MatchOption, IfOk, OnOk, OnErr};
+ghost use Rattle.std.specs.Prelude.{◌≡◌, ◌+◌, ◌*◌, ◌<◌, ◌++◌, [], length, None, Some, MatchOption};
+ghost use Rattle.std.specs.Prelude.{IfOk, OnOk, OnErr};
 ghost use Rattle.std.specs.Option.{option_copied};
 ghost use Rattle.vc_tree_model.specs.Tree.{nodes};
 ghost use Rattle.vc_tree_model.specs.Walk.{walk};
 ghost use Rattle.vc_tree_walks.specs.Left.{pair_at};
-ghost use Rattle.vc_tree_walks.specs.OwnedLeft.{entered, held_left, held_work, opened, own_pairs, way_left, way_work, IsItem, IsReached, IsTurn};
+ghost use Rattle.vc_tree_walks.specs.OwnedLeft.{entered, held_left, held_work, opened, own_pairs};
+ghost use Rattle.vc_tree_walks.specs.OwnedLeft.{way_left, way_work, IsItem, IsReached, IsTurn};
 
 use crate::key::IterKey;
 use crate::turn::Turn;

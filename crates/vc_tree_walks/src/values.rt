@@ -4,7 +4,8 @@ ghost use Rattle.std.specs.Prelude.{◌≡◌, ◌<◌, ◌++◌, [], map, IfOk,
 ghost use Rattle.std.specs.Option.{option_copied};
 ghost use Rattle.vc_tree_model.specs.Walk.{walk};
 ghost use Rattle.vc_tree_walks.specs.Left.{rows_work};
-ghost use Rattle.vc_tree_walks.specs.ValuesLeft.{own_value, values_left, values_work, rows_values, rows_of, rows_before, IsValue, IsTurn};
+ghost use Rattle.vc_tree_walks.specs.ValuesLeft.{own_value, values_left, values_work, rows_values};
+ghost use Rattle.vc_tree_walks.specs.ValuesLeft.{rows_of, rows_before, IsValue, IsTurn};
 
 use crate::turn::Turn;
 use std::alloc::{AllocError, Global};
