@@ -4,9 +4,9 @@
 --     goes-begins        the first component
 --     rest-taken, rest-within        the rest as a part of the key
 --     shorter-begins        of two that a key begins with
-use Rattle.std.proofs.Common.{◌≡◌, ◌≤◌, [], ◌∷◌, List, drop, length, Option, Some, refl, arith}
+use Rattle.std.proofs.Common.{◌≡◌, ◌≤◌, [], ◌∷◌, List, drop, length, Option, Some, arith}
 use Rattle.std.proofs.Common.{true, append-nil, is_some}
-use Rattle.std.specs.Cmp.{IsTotalOrder, alike_right}
+use Rattle.std.specs.Cmp.{IsTotalOrder}
 use Rattle.std.specs.Prelude.{IsSome}
 use Rattle.std.specs.declared.cmp.Ordering.{Ordering}
 use Rattle.std.specs.declared.cmp.Ordering.TheVariants.{Equal}
@@ -39,9 +39,8 @@ module _ {K : Type 0} (cmp : K → K → Ordering) where
 
   -- the key without as many components
   pub rest-taken : (p key : List K) → IsSome (behind cmp p key) → behind cmp p key ≡ Some (drop (length p) key)
-  rest-taken [] key s = refl
-  rest-taken (x ∷ p) [] s = grind arith
   rest-taken (x ∷ p) (y ∷ key) s = grind (arith, rest-taken p key)
+  rest-taken p key s = grind arith
 
   -- which is no shorter
   pub rest-within : (p key : List K) → IsSome (behind cmp p key) → length p ≤ length key
@@ -51,7 +50,5 @@ module _ {K : Type 0} (cmp : K → K → Ordering) where
     -- of two that a key begins with, the longer begins with the other
     pub shorter-begins : (p q k : List K) → IsSome (behind cmp p k) → IsSome (behind cmp q k) → length p ≤ length q
         → IsSome (behind cmp p q)
-    shorter-begins [] q k a b h = refl
-    shorter-begins (x ∷ p) [] k a b h = grind arith
-    shorter-begins (x ∷ p) (y ∷ q) [] a b h = grind arith
-    shorter-begins (x ∷ p) (y ∷ q) (z ∷ k) a b h = grind (arith, shorter-begins p q k, alike_right o y z x)
+    shorter-begins (x ∷ p) (y ∷ q) (z ∷ k) a b h = grind (arith, shorter-begins p q)
+    shorter-begins p q k a b h = grind arith

@@ -60,10 +60,7 @@ module _ {K V : Type 0} {cmp : K → K → Ordering} {keeps : V → V → Type 0
     {f g : List K → Option V} {d : Tree K V} (h : Divides cmp keeps e key f g d) where
   -- what stays
   pub divides-without : (test : List K → Bool) → ((k : List K) → test k ≡ goes cmp e key k) → IsWithoutAll keeps test f g
-  divides-without test t = record {
-    at = λ k s. grind (arith, t k, h.parted k);
-    others = λ k s. grind (arith, t k, h.parted k);
-  }
+  divides-without test t = grind arith
 
   -- what goes is one tree: any other canonical one that binds it is the same
   divides-same : IsTotalOrder cmp → (m : Tree K V) → IsCanonical cmp m
@@ -179,10 +176,7 @@ module _ {K V T : Type 0} {cmp : K → K → Ordering} (o : IsTotalOrder cmp) (t
 
   -- and is bound there
   pub met-child : Meets cmp e rest (lookup cmp (tree c))
-  met-child =
-      let own = λ (x : K) (k : List K) (g : goes cmp e rest (x ∷ k) ≡ true).
-      lookup_in-at cmp tree o xs i c m.leads.begins.here x k m.canonical m.leads.begins.at (begins x k g) in
-      grind (arith, m.met, own, m.leads.key_is, at)
+  met-child = grind (arith, lookup_in-at, begins)
 
   module _ {keeps : V → V → Type 0} (r : (v : V) → keeps v v) {p : List K} {u : Tree K V} where
     -- where keys of it go, they go of the node

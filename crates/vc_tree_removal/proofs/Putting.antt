@@ -4,12 +4,11 @@
 --     out-joins, out-stays        what is left of one of which a child is taken out
 --     at-child        canonical children can each stand among children
 --     Replaced, replaced, node-parted        what a list becomes, and what it then binds
-use Rattle.std.proofs.Common.{◌≡◌, ℕ, zero, suc, ◌+◌, ◌<◌, [], ◌∷◌, List, Option, None, Some, refl, sym, ap}
-use Rattle.std.proofs.Common.{◌∙◌, arith, get_or, map, set, length, Bool, true}
+use Rattle.std.proofs.Common.{◌≡◌, ℕ, zero, suc, ◌+◌, ◌<◌, [], ◌∷◌, List, Option, None, Some, refl}
+use Rattle.std.proofs.Common.{arith, get_or, map, set, length, Bool, true}
 use Rattle.std.proofs.lemmas.List.Edits.{length-remove}
 use Rattle.std.specs.Cmp.{IsTotalOrder, alike_right}
 use Rattle.std.specs.List.{remove}
-use Rattle.std.specs.Ordering.{is_eq}
 use Rattle.std.specs.declared.cmp.Ordering.{Ordering}
 use Rattle.std.specs.declared.cmp.Ordering.TheVariants.{Equal}
 use Rattle.vc_tree_model.specs.Canonical.{AllAbove, AreChildren, IsSolid}
@@ -18,7 +17,6 @@ use Rattle.vc_tree_model.specs.Map.{lookup, lookup_in, or_else}
 use Rattle.vc_tree_model.specs.Tree.{Tree, Forest, bare, grow, forest, node, trees}
 use Rattle.vc_tree_model.proofs.KeyLemmas.{none-some}
 use Rattle.vc_tree_model.proofs.LookupLemmas.{above-equal, lookup-other, lookup_in-above}
-use Rattle.vc_tree_model.proofs.ValueLemmas.{kept-else, kept-refl}
 use Rattle.vc_tree_nodes.specs.Places.{child_first}
 use Rattle.vc_tree_nodes.proofs.Finding.{trees-length}
 use Rattle.vc_tree_nodes.proofs.Firsts.{above-at}
@@ -51,51 +49,43 @@ module _ {K V T : Type 0} (tree : T → Tree K V) where
   -- the tree at a place is that of the item there
   pub at-got : (xs : List T) (i : ℕ) {item : T} {n : ℕ} → i < n → n ≡ length xs → item ≡ get_or xs i item
       → tree_at (forest (map tree xs)) i ≡ tree item
-  at-got [] i h l e = absurd (omega (arith, h, l))
-  at-got (x ∷ xs) zero h l e = ap tree (sym e)
-  at-got (x ∷ xs) (suc i) h l e = at-got xs i (omega (arith, h, l)) refl e
+  at-got (x ∷ xs) (suc i) h l e = grind (arith, at-got xs i (omega (arith, h, l)) refl e)
+  at-got xs i h l e = grind arith
 
   -- the list without it
   pub put-remove : (xs : List T) (i : ℕ) → forest (map tree (remove xs i)) ≡ put (forest (map tree xs)) i None
   put-remove [] zero = refl
   put-remove [] (suc i) = refl
   put-remove (x ∷ xs) zero = refl
-  put-remove (x ∷ xs) (suc i) = ap (grow (tree x).prefix (tree x).value (tree x).children) (put-remove xs i)
+  put-remove (x ∷ xs) (suc i) = grind (arith, put-remove xs i)
 
   -- and with another one in its place
   pub put-set : (xs : List T) (i : ℕ) (item : T)
       → forest (map tree (set xs i item)) ≡ put (forest (map tree xs)) i (Some (tree item))
-  put-set [] i item = refl
-  put-set (x ∷ xs) zero item = refl
-  put-set (x ∷ xs) (suc i) item = ap (grow (tree x).prefix (tree x).value (tree x).children) (put-set xs i item)
+  put-set (x ∷ xs) (suc i) item = grind (arith, put-set xs i item)
+  put-set xs i item = grind arith
 
   -- ---- what is left of a node
 
   -- one of two children stands in the place of the node where the other goes
   pub out-joins : (front : List K) (xs : List T) (i j : ℕ) (item : T) (u : Tree K V) (new : List T) → length xs ≡ 2 → i + j ≡ 1
       → IsLone tree front xs j u new → item ≡ get_or new 0 item → IsOut tree front None xs i (tree item) u
-  out-joins front (a ∷ b ∷ []) i j item u new n one l e = record { at = grind arith; is = grind arith }
-  out-joins front xs i j item u new n one l e = absurd (omega (arith, n, one))
+  out-joins front (a ∷ b ∷ []) i j item u new n one l e = grind arith
+  out-joins front xs i j item u new n one l e = grind arith
 
   -- a node that has a value, or more than two children, stays
   pub out-stays : (front : List K) (v : Option V) (xs : List T) (i : ℕ) {item : T} {new : List T} {n : ℕ} → i < n
       → n ≡ length xs → IsSolid v (forest (map tree xs)) → (v ≡ None → length xs ≡ 2 → ⊥) → item ≡ get_or xs i item
       → new ≡ remove xs i → IsOut tree front v xs i (tree item) (node front v (forest (map tree new)))
-  out-stays front v xs i h l s few e d = record {
-    at = at-got xs i h l e;
-    is = rw (d, ← put-remove xs i) (solid-stays front v _ (fewer-solid v _ _ s (rw trees-length few)
-        (rw (trees-length, trees-length) (length-remove xs i (omega (arith, h, l))))));
-  }
+  out-stays front v xs i h l s few e d = grind (arith, at-got, put-remove, solid-stays, fewer-solid, trees-length, length-remove)
 
 -- ---- canonical children
 
 -- each can stand alone among children
 pub at-child : {K V : Type 0} (cmp : K → K → Ordering) (f : Forest K V) (i : ℕ) → i < length (trees f) → AreChildren cmp f
     → IsChild cmp (Some (tree_at f i))
-at-child cmp bare i h a = absurd (omega (arith, h))
-at-child cmp (grow [] v kids rest) i h a = absurd a
-at-child cmp (grow (y ∷ p) v kids rest) zero h a = (a.0, a.1)
-at-child cmp (grow (y ∷ p) v kids rest) (suc i) h a = at-child cmp rest i (omega (arith, h)) a.3
+at-child cmp (grow (y ∷ p) v kids rest) (suc i) h a = grind (arith, at-child cmp rest i (omega (arith, h)) a.3)
+at-child cmp f i h a = grind arith
 
 -- the first component of what begins with an equal one
 begun : {K : Type 0} (cmp : K → K → Ordering) (y : K) (p : List K) → Begins cmp y p
@@ -106,11 +96,11 @@ module _ {V : Type 0} (keeps : V → V → Type 0) (r : (v : V) → keeps v v) w
   -- what is parted stays so before and behind what stays, which has nothing of a key that goes
   parted-before : (b : Bool) (a x u y : Option V) → (b ≡ true → a ≡ None) → IsPartedAt keeps b x u y
       → IsPartedAt keeps b (or_else x a) (or_else u a) y
-  parted-before b a x u y n h = grind (arith, kept-else keeps x u a a, kept-refl keeps r a)
+  parted-before b a x u y n h = grind arith
 
   parted-behind : (b : Bool) (a x u y : Option V) → (b ≡ true → a ≡ None) → IsPartedAt keeps b x u y
       → IsPartedAt keeps b (or_else a x) (or_else a u) y
-  parted-behind b a x u y n h = grind (arith, kept-else keeps a a x u, kept-refl keeps r a)
+  parted-behind b a x u y n h = grind arith
 
 module _ {K V : Type 0} (cmp : K → K → Ordering) (keeps : V → V → Type 0) where
   -- g is f with another tree, or none, in the place of one: canonical children that begin above what f does; and of what f
@@ -124,7 +114,7 @@ module _ {K V : Type 0} (cmp : K → K → Ordering) (keeps : V → V → Type 0
   -- what stands behind a tree binds no key that begins as the tree
   gone-behind : IsTotalOrder cmp → (z x y : K) (rest : Forest K V) (k : List K) → z ≡ y → AllAbove cmp z rest → cmp y x ≡ Equal
       → lookup_in cmp rest (x ∷ k) ≡ None
-  gone-behind o z x y rest k e a s = lookup_in-above cmp o x rest k (above-equal cmp o y x rest s (rw e at a))
+  gone-behind o z x y rest k e a s = grind (arith, lookup_in-above, above-equal)
 
   module _ (o : IsTotalOrder cmp) (r : (v : V) → keeps v v) (told : List K → Bool) (w : List K → Option V) (y : K)
       (s : (x : K) (k : List K) → told (x ∷ k) ≡ true → cmp y x ≡ Equal) where
@@ -135,29 +125,14 @@ module _ {K V : Type 0} (cmp : K → K → Ordering) (keeps : V → V → Type 0
         → Replaced told w f (put f i t)
     replaced bare i t e a c b h = none-some y e
     replaced (grow [] v kids rest) i t e a c b h = absurd a
-    replaced (grow (z ∷ p) v kids rest) zero None e a c b h = record {
-      above = λ x n. n.1;
-      children = a.3;
-      parted = λ x k. parted-before keeps r _ _ _ _ _ (λ g. gone-behind o z x y rest k (cc) a.2 (s x k g)) (h (x ∷ k));
-    }
+    replaced (grow (z ∷ p) v kids rest) zero None e a c b h = grind (arith, parted-before, gone-behind)
     replaced (grow (z ∷ p) v kids rest) zero (Some u) e a c b h =
-        let first = begun cmp z u.prefix (b z p refl) in
-        record {
-          above = λ x n. rw first.2 (sym (alike_right o z first.0 x first.3) ∙ n.0, n.1);
-          children = rw first.2 (c.0, c.1, above-equal cmp o z first.0 rest first.3 a.2, a.3);
-          parted = λ x k. parted-before keeps r _ _ _ _ _ (λ g. gone-behind o z x y rest k (cc) a.2 (s x k g)) (h (x ∷ k));
-        }
+        grind (arith, parted-before, gone-behind, begun, alike_right, above-equal)
     replaced (grow (z ∷ p) v kids rest) (suc i) t e a c b h =
-        let more = replaced rest i t e a.3 c b h in
-        record {
-          above = λ x n. (n.0, more.above x n.1);
-          children = (a.0, a.1, more.above z a.2, more.children);
-          parted = λ x k. parted-behind keeps r _ _ _ _ _ (λ g. lookup-other cmp z x p k v kids
-              (ap is_eq (sym (alike_right o y x z (s x k g)) ∙ above-at cmp z rest i y a.2 e))) (more.parted x k);
-        }
+        grind (arith, parted-behind, lookup-other, alike_right, above-at, replaced rest i t e a.3 c b h)
 
   -- a node with the same value is parted so, where the empty key does not go
   pub node-parted : {told : List K → Bool} {w : List K → Option V} {f g : Forest K V} (v : Option V)
       → Replaced told w f g → IsPartedAt keeps (told []) v v (w []) → (k : List K)
       → IsPartedAt keeps (told k) (lookup cmp (node [] v f) k) (lookup cmp (node [] v g) k) (w k)
-  node-parted v new h k = grind (arith, new.parted)
+  node-parted v new h k = grind arith

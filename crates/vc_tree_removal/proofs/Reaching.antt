@@ -2,8 +2,8 @@
 --     met-solid, met-reaches, met-leads, met-value        where keys that go are bound
 --     alone-tells, below-tells        all keys of a tree go, or some below its children
 --     found-under        the node below which all keys stand that begin with one
-use Rattle.std.proofs.Common.{◌≡◌, ℕ, ◌<◌, ◌≤◌, [], ◌∷◌, ◌++◌, List, Option, None, Some, refl, sym, ap}
-use Rattle.std.proofs.Common.{subst, ◌∙◌, arith, map, drop, length, true, false, Bool}
+use Rattle.std.proofs.Common.{◌≡◌, ℕ, ◌<◌, ◌≤◌, [], ◌∷◌, ◌++◌, List, Option, None, Some, sym, ap}
+use Rattle.std.proofs.Common.{◌∙◌, arith, map, drop, length, true, false, Bool}
 use Rattle.std.proofs.Common.{is_some}
 use Rattle.std.specs.Cmp.{IsTotalOrder}
 use Rattle.std.specs.Option.{option_and_then}
@@ -24,7 +24,7 @@ use Rattle.vc_tree_nodes.proofs.Descending.{behind-length}
 use Rattle.vc_tree_nodes.proofs.Finding.{gap-none}
 use Rattle.vc_tree_nodes.proofs.Growing.{not-bare_solid}
 use Rattle.vc_tree_walks.proofs.Scanning.{behind-parts, first-cons}
-use Rattle.vc_tree_removal.specs.Taking.{AreSome, IsDeep, IsFoundUnder, IsWholly, Meets, MeetsAt, goes}
+use Rattle.vc_tree_removal.specs.Taking.{IsDeep, IsFoundUnder, IsWholly, Meets, MeetsAt, goes}
 use Rattle.vc_tree_removal.specs.declared.removal.Extent.{Extent}
 use Rattle.vc_tree_removal.specs.declared.removal.Extent.TheVariants.{Alone, Below}
 use Rattle.vc_tree_removal.proofs.Going.{goes-begins, rest-taken, rest-within, same-tells}
@@ -44,7 +44,7 @@ module _ {K V : Type 0} {cmp : K → K → Ordering} (o : IsTotalOrder cmp) {e :
 
   -- a tree that binds a key is solid
   pub met-solid : IsCanonical cmp t → IsSolid t.value t.children
-  met-solid c = not-bare_solid t c.0 (grind (arith, m.bound))
+  met-solid c = grind (arith, not-bare_solid)
 
   -- behind the prefix a key is bound that goes with the rest
   pub met-rest : {y : K} {q : List K} → behind cmp t.prefix key ≡ Some (y ∷ q) → Meets cmp e (y ∷ q) (lookup_in cmp t.children)
@@ -63,11 +63,7 @@ module _ {K V : Type 0} {cmp : K → K → Ordering} (o : IsTotalOrder cmp) {e :
   pub met-leads : IsCanonical cmp t → {p : List K} {v : Option V} {f : Forest K V} → t ≡ node p v f → {rest : List K} {y : K}
       {i : ℕ} → behind cmp t.prefix key ≡ Some rest → slice_get rest 0 ≡ Some y → BeginsAt cmp t.children y i
       → MeetsAt cmp e rest v f i
-  met-leads c is {rest} {y} b first begins =
-      let begun = first-cons rest y first in
-      let below = met-rest (b ∙ ap Some begun) in
-      let solid = met-solid c in
-      grind (arith, c.1, is, begins)
+  met-leads c is b first begins = grind (arith, first-cons, met-rest, met-solid)
 
 module _ {K V : Type 0} {cmp : K → K → Ordering} (o : IsTotalOrder cmp) {key : List K} (t : Tree K V)
     (m : Meets cmp Alone key (lookup cmp t)) where
@@ -75,7 +71,7 @@ module _ {K V : Type 0} {cmp : K → K → Ordering} (o : IsTotalOrder cmp) {key
 
   -- it is bound
   alone-bound : IsSome (lookup cmp t key)
-  alone-bound = grind (arith, lookup-same cmp o t key m.met, same-tells cmp key m.met)
+  alone-bound = grind (arith, lookup-same, same-tells)
 
   -- where it ends at the prefix, its value is there
   pub met-value : behind cmp t.prefix key ≡ Some [] → IsSome t.value
@@ -84,11 +80,8 @@ module _ {K V : Type 0} {cmp : K → K → Ordering} (o : IsTotalOrder cmp) {key
   -- it is all of a tree without children, and may not be of one with some
   pub alone-tells : {T : Type 0} (tree : T → Tree K V) (xs : List T) (b : Bool) → b ≡ (length xs == 0)
       → forest (map tree xs) ≡ t.children → MatchBool b (IsWholly cmp Alone key t) (IsDeep cmp Alone key t)
-  alone-tells tree [] b l c =
-      rw l (λ k n. grind (arith, c, alone-bound, behind-same cmp o t.prefix key k, same-tells cmp t.prefix key))
-  alone-tells tree (x ∷ xs) b l c =
-      let n : b ≡ false = grind arith in
-      rw n (record { some = subst AreSome c tt; begins = grind (arith, alone-bound); ends = λ b. refl })
+  alone-tells tree [] b l c = grind (arith, alone-bound, behind-same, same-tells)
+  alone-tells tree (x ∷ xs) b l c = grind (arith, alone-bound, behind-same, same-tells)
 
 module _ {K V : Type 0} {cmp : K → K → Ordering} (o : IsTotalOrder cmp) {key : List K} (t : Tree K V)
     (m : Meets cmp Below key (lookup cmp t)) where
@@ -96,7 +89,7 @@ module _ {K V : Type 0} {cmp : K → K → Ordering} (o : IsTotalOrder cmp) {key
 
   -- the key that is bound begins with both
   begins-met : IsSome (behind cmp key m.met) × IsSome (behind cmp t.prefix m.met)
-  begins-met = (grind arith, grind arith)
+  begins-met = grind arith
 
   -- a tree whose prefix is no shorter goes with them
   below-wholly : length key ≤ length t.prefix → IsWholly cmp Below key t
@@ -114,8 +107,7 @@ module _ {K V : Type 0} {cmp : K → K → Ordering} (o : IsTotalOrder cmp) {key
 
   pub below-tells : (b : Bool) → b ≡ leb (length key) (length t.prefix)
       → MatchBool b (IsWholly cmp Below key t) (IsDeep cmp Below key t)
-  below-tells true l = below-wholly (leb-true (length key) (length t.prefix) (sym l))
-  below-tells false l = below-deep (leb-false (length key) (length t.prefix) (sym l))
+  below-tells b l = grind (arith, below-wholly, leb-true, below-deep, leb-false)
 
 -- of a key that begins with another something goes where something is bound
 under-meets : {K V : Type 0} (cmp : K → K → Ordering) (f : List K → Option V) (key k : List K) → IsSome (under cmp f key k)
