@@ -1,8 +1,10 @@
 -- What a command on a tree means to the machine.
 use Rattle.vc_tree_model.specs.Tree.{Tree}
-use Rattle.vc_tree_model.specs.Machine.{Command, insert, prepend, filter, union, intersection, difference, remove_prefix, retain_prefix}
+use Rattle.vc_tree_model.specs.Machine.{Command, insert, prepend, filter, union, intersection, difference, remove_prefix}
+use Rattle.vc_tree_model.specs.Machine.{retain_prefix}
 use Rattle.vc_trees.specs.declared.commands.TreeCommand.{TreeCommand}
-use Rattle.vc_trees.specs.declared.commands.TreeCommand.TheVariants.{Insert, Prepend, Filter, Union, Intersection, Difference, RemovePrefix, RetainPrefix}
+use Rattle.vc_trees.specs.declared.commands.TreeCommand.TheVariants.{Insert, Prepend, Filter, Union, Intersection, Difference}
+use Rattle.vc_trees.specs.declared.commands.TreeCommand.TheVariants.{RemovePrefix, RetainPrefix}
 
 -- the machine's command, which has lists of components for keys and prefixes, and what the other tree is seen as
 abbrev pub command_of : {K V T : Type 0} → (T → Tree K V) → TreeCommand K V T → Command K V

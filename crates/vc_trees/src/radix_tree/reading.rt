@@ -1,6 +1,8 @@
 //! The calls that read a radix tree.
 
-ghost use Rattle.std.specs.Prelude.{◌≡◌, ◌+◌, ◌-◌, ◌*◌, ◌^◌, ◌<◌, ◌≤◌, List, None, Ok, IfOk, IfSome, IsTrue, length, map, min, slice_get, take, MatchBool, MatchOption};
+ghost use Rattle.std.specs.Prelude.{◌≡◌, ◌+◌, ◌-◌, ◌*◌, ◌^◌, ◌<◌, ◌≤◌, List, None, Ok, IfOk};
+ghost use Rattle.std.specs.Prelude.{IfSome, IsTrue, length, map, min, slice_get, take, MatchBool};
+ghost use Rattle.std.specs.Prelude.{MatchOption};
 ghost use Rattle.std.specs.Option.{is_some, option_copied, option_map};
 ghost use Rattle.vc_merge.specs.Count.{digits};
 ghost use Rattle.vc_tree_model.specs.Tree.{is_bare, key_count, shortened, width};
