@@ -2,8 +2,8 @@
 -- that combines ask.
 --     inner-answer, outer-answer, left-answer        what a call answers
 --     made-none        the combine of whole trees, of which no key is left
-use Rattle.std.proofs.Common.{◌≡◌, ℕ, [], ◌∷◌, ◌++◌, List, Option, None, Some, Result, Ok, Err, IfOk, refl, sym, ap}
-use Rattle.std.proofs.Common.{subst, ◌∙◌, take, drop}
+use Rattle.std.proofs.Common.{◌≡◌, ℕ, ◌++◌, List, Option, None, Some, Result, Ok, Err, IfOk, refl, sym, arith}
+use Rattle.std.proofs.Common.{take, drop}
 use Rattle.std.specs.Cmp.{IsTotalOrder}
 use Rattle.std.specs.Option.{option_copied}
 use Rattle.std.specs.declared.cmp.Ordering.{Ordering}
@@ -31,9 +31,7 @@ kept_copies is_clone (Some v) (Some z) h = cloned h itself
 -- clones are in a union, an intersection and a difference
 pub union-left : {V : Type 0} (is_clone : V → V → Type 0) (v z : Option V) → IsKept is_clone v z
     → IsUnionAt (Copies is_clone) is_clone v None z
-union-left is_clone None None h = tt
-union-left is_clone None (Some z) h = absurd h
-union-left is_clone (Some v) z h = kept_copies is_clone (Some v) z h
+union-left is_clone v z h = grind (arith, kept_copies)
 
 pub difference-left : {V : Type 0} (is_clone : V → V → Type 0) (v z : Option V) → IsKept is_clone v z
     → IsKept (Copies is_clone) v z
@@ -41,8 +39,7 @@ difference-left is_clone v z h = kept_copies is_clone v z h
 
 pub ok-copies : {V E : Type 0} (is_clone : V → V → Type 0) (v : Option V) (r : Result (Option V) E) → IfOk r (IsKept is_clone v)
     → IfOk r (IsKept (Copies is_clone) v)
-ok-copies is_clone v (Ok z) h = kept_copies is_clone v z h
-ok-copies is_clone v (Err e) h = tt
+ok-copies is_clone v r h = grind (arith, kept_copies)
 
 pub union-value : {V E : Type 0} (is_clone : V → V → Type 0) (p : Bor V) (v w : Option (Bor V)) (r : Result (Option V) E)
     → v ≡ Some p → IfOk r (IsKept is_clone (Some p.now))
@@ -51,20 +48,17 @@ union-value is_clone p v w r e h = rw e (ok-copies is_clone (Some p.now) r h)
 
 pub difference-value : {V W E : Type 0} (is_clone : V → V → Type 0) (v : Option V) (w : Option (Bor W)) (r : Result (Option V) E)
     → w ≡ None → IfOk r (IsKept is_clone v) → IfOk r (IsDifferenceAt (Copies is_clone) v (option_copied w))
-difference-value is_clone v w r e h = rw e (ok-copies is_clone v r h)
+difference-value is_clone v w r e h = grind (arith, ok-copies)
 
 pub intersection-value : {V W E : Type 0} (is_clone : V → V → Type 0) (v : Option V) (w : Option (Bor W)) (q : Bor W)
     (r : Result (Option V) E) → w ≡ Some q → IfOk r (IsKept is_clone v)
     → IfOk r (IsIntersectionAt (Copies is_clone) v (option_copied w))
-intersection-value is_clone v w q r e h = rw e (ok-copies is_clone v r h)
+intersection-value is_clone v w q r e h = grind (arith, ok-copies)
 
 -- what a tree binds behind the front of its prefix
 lookup-front : {K V : Type 0} (cmp : K → K → Ordering) → IsTotalOrder cmp → (t : Tree K V) (p rest k : List K)
     → t.prefix ≡ p ++ rest → lookup cmp t (p ++ k) ≡ lookup cmp (node rest t.value t.children) k
-lookup-front cmp o t p rest k e =
-    ap (λ q. lookup cmp (node q t.value t.children) (p ++ k)) e
-    ∙ ap (node_lookup t.value (lookup_in cmp t.children))
-    (behind-append cmp p rest (p ++ k) ∙ ap (then_behind cmp rest) (behind-itself cmp o p k))
+lookup-front cmp o t p rest k e = grind (arith, node_lookup, lookup_in, behind-append, then_behind, behind-itself)
 
 -- a copy of a shortened tree binds what is left of the keys
 pub shortened-binds : {K V : Type 0} (cmp : K → K → Ordering) → IsTotalOrder cmp → (keeps : V → V → Type 0) (n : ℕ)
@@ -76,15 +70,12 @@ shortened-binds cmp o keeps n t u a k =
 pub ok-shortened : {K V T E : Type 0} (cmp : K → K → Ordering) → IsTotalOrder cmp → (keeps : V → V → Type 0) (n : ℕ)
     (t : Tree K V) (tree : T → Tree K V) (r : Result T E) → IfOk r (λ u. IsAlike keeps (shortened n t) (tree u))
     → IfOk r (λ u. IsShortened cmp keeps n t (tree u))
-ok-shortened cmp o keeps n t tree (Ok u) h = shortened-binds cmp o keeps n t (tree u) h
-ok-shortened cmp o keeps n t tree (Err e) h = tt
+ok-shortened cmp o keeps n t tree r h = grind (arith, shortened-binds)
 
 -- a kept value of one side alone is in an outer combine
 pub outer-left : {V : Type 0} (l r : V → V → Type 0) (answers : V → V → Option V → Type 0) (v z : Option V) → IsKept l v z
     → IsOuterAt l r answers v None z
-outer-left l r answers None None h = tt
-outer-left l r answers None (Some z) h = absurd h
-outer-left l r answers (Some v) z h = h
+outer-left l r answers v z h = grind arith
 
 -- what a call answers
 may-answer : {V W F E X : Type 0} (g : Shared F (Bor V × (Bor W × Unit {0})) (Result X E)) (f : F) (p : Bor V) (q : Bor W)
@@ -95,12 +86,12 @@ may-answer g f p q (Err e) h = tt
 pub inner-answer : {V W F E U : Type 0} (g : Shared F (Bor V × (Bor W × Unit {0})) (Result (Option U) E)) (f : F)
     (r : Result (Option U) E) {p : Bor V} {q : Bor W} {v : Option (Bor V)} {w : Option (Bor W)} → v ≡ Some p → w ≡ Some q
     → g.post f (p, (q, tt)) r → IfOk r (IsInnerAt (λ v w z. MayAnswer g f v w (Ok z)) (option_copied v) (option_copied w))
-inner-answer g f r {p} {q} a b h = rw (a, b) (may-answer g f p q r h)
+inner-answer g f r a b h = grind (arith, may-answer)
 
 pub outer-answer : {V F E : Type 0} (kl kr : V → V → Type 0) (g : Shared F (Bor V × (Bor V × Unit {0})) (Result (Option V) E))
     (f : F) (r : Result (Option V) E) {p q : Bor V} {v w : Option (Bor V)} → v ≡ Some p → w ≡ Some q → g.post f (p, (q, tt)) r
     → IfOk r (IsOuterAt kl kr (λ v w z. MayAnswer g f v w (Ok z)) (option_copied v) (option_copied w))
-outer-answer kl kr g f r {p} {q} a b h = rw (a, b) (may-answer g f p q r h)
+outer-answer kl kr g f r a b h = grind (arith, may-answer)
 
 -- and one of what the right tree binds, if anything
 may-answer_at : {V W F E X : Type 0} (g : Shared F (Bor V × (Option (Bor W) × Unit {0})) (Result X E)) (f : F) (p : Bor V)
@@ -111,19 +102,13 @@ may-answer_at g f p q (Err e) h = tt
 pub left-answer : {V W F E U : Type 0} (g : Shared F (Bor V × (Option (Bor W) × Unit {0})) (Result (Option U) E)) (f : F)
     (r : Result (Option U) E) (w : Option (Bor W)) {p : Bor V} {v : Option (Bor V)} → v ≡ Some p → g.post f (p, (w, tt)) r
     → IfOk r (IsLeftAt (λ v w z. MayAnswerAt g f v w (Ok z)) (option_copied v) (option_copied w))
-left-answer g f r w {p} a h = rw a (may-answer_at g f p w r h)
+left-answer g f r w a h = grind (arith, may-answer_at)
 
 -- ---- whole trees
 
 module _ {K V W U : Type 0} (cmp : K → K → Ordering) (R : Option V → Option W → Option U → Type 0) (t : Tree K V)
     (u : Tree K W) where
-  nothing-in : (k : List K) → lookup cmp (no_tree {K = K} {V = U}) k ≡ None
-  nothing-in [] = refl
-  nothing-in (x ∷ k) = refl
-
   -- no key is left
   pub made-none : (o : Option (Tree K U)) (m : Tree K U) → o ≡ None → m ≡ no_tree
       → IsBothMade cmp R (shortened 0 t) (shortened 0 u) o → (k : List K) → R (lookup cmp t k) (lookup cmp u k) (lookup cmp m k)
-  made-none o m e b w k =
-      subst (R (lookup cmp t k) (lookup cmp u k)) (sym (ap (λ z. lookup cmp z k) b ∙ nothing-in k))
-      ((subst (IsBothMade cmp R (shortened 0 t) (shortened 0 u)) e w).binds k)
+  made-none o m e b w k = grind arith

@@ -5,9 +5,9 @@
 --     bare-or_missed, childless-met        or in none
 --     tells-nodes        both prefixes end
 --     disjoint-told, subset-told        the public words
-use Rattle.std.proofs.Common.{arith, ◌≡◌, [], ◌∷◌, ◌++◌, List, Option, None, Some, is_some, Bool, true, false, not, ◌⊎◌, inl}
-use Rattle.std.proofs.Common.{inr, refl, sym, ap, subst, ◌∙◌, true≢false}
-use Rattle.std.specs.Cmp.{IsTotalOrder, Equal-is, tied_itself, tied_back}
+use Rattle.std.proofs.Common.{◌≡◌, [], ◌∷◌, ◌++◌, List, Option, None, Some, Bool, true, false, not, ◌⊎◌, inl, arith}
+use Rattle.std.proofs.Common.{inr, refl, sym, ap, subst, ◌∙◌}
+use Rattle.std.specs.Cmp.{IsTotalOrder, Equal-is, tied_itself}
 use Rattle.std.specs.Option.{option_and_then}
 use Rattle.std.specs.Ordering.{is_eq}
 use Rattle.std.specs.Prelude.{MatchBool}
@@ -30,9 +30,6 @@ use Rattle.vc_tree_combines.specs.Meeting.{IsMet, IsMissed, TellsKeys, TellsKeys
 pub met-alone : {V : Type 0} (W : Type 0) (v : Option V) → IsMet {V = V} {W = W} false v None
 met-alone W v = grind arith
 
-not-missed_alone : {V : Type 0} (W : Type 0) (v : Option V) → IsMissed {V = V} {W = W} false v None → ⊥
-not-missed_alone W v m = grind arith
-
 module _ {V W : Type 0} where
   -- nothing is said of a key where nothing is missed, whatever is asked
   record IsSilent (shared : Bool) (v : Option V) (w : Option W) : Type 0 where
@@ -40,10 +37,10 @@ module _ {V W : Type 0} where
     not_missed : IsMissed shared v w → ⊥
 
   silent-left : (shared : Bool) (v : Option V) (w : Option W) → v ≡ None → IsSilent shared v w
-  silent-left shared v w e = rw e (record { met = tt; not_missed = λ m. m })
+  silent-left shared v w e = grind arith
 
   silent-right : (shared : Bool) (v : Option V) (w : Option W) → shared ≡ false → w ≡ None → IsSilent shared v w
-  silent-right shared v w s e = rw (s, e) (record { met = met-alone W v; not_missed = not-missed_alone W v })
+  silent-right shared v w s e = grind arith
 
 module _ {K V W : Type 0} (shared : Bool) where
   -- what an answer tells of two maps
@@ -57,16 +54,7 @@ module _ {K V W : Type 0} (shared : Bool) where
 
   tells-where : (f : List K → Option V) (g : List K → Option W) (f' : List K → Option V) (g' : List K → Option W)
       → ((k : List K) → SaysSame f g f' g' k) → (answer : Bool) → Tells f g answer → Tells f' g' answer
-  tells-where f g f' g' e true h = λ k. by k (e k)
-    where
-      by : (k : List K) → SaysSame f g f' g' k → IsMet shared (f' k) (g' k)
-      by k (inl s) = rw (s.0, s.1) (h k)
-      by k (inr s) = s.0.met
-  tells-where f g f' g' e false h = by (e h.0)
-    where
-      by : SaysSame f g f' g' h.0 → (k : List K) × IsMissed shared (f' k) (g' k)
-      by (inl s) = (h.0, rw (s.0, s.1) h.1)
-      by (inr s) = absurd (s.1.not_missed h.1)
+  tells-where f g f' g' e answer h = grind arith
 
   module _ (cmp : K → K → Ordering) (o : IsTotalOrder cmp) where
     -- with equal prefixes before the keys
@@ -100,13 +88,7 @@ module _ {K : Type 0} (cmp : K → K → Ordering) (o : IsTotalOrder cmp) where
 
   -- no component equals two that differ
   differs : (x y z : K) → is_eq (cmp x y) ≡ false → cmp x z ≡ Equal → is_eq (cmp y z) ≡ false
-  differs x y z d e = by (is_eq (cmp y z)) refl
-    where
-      by : (b : Bool) → is_eq (cmp y z) ≡ b → b ≡ false
-      by false g = refl
-      by true g =
-          let back = tied_back o y z ((Equal-is (cmp y z)).0 g) in
-          absurd (true≢false (sym (ap is_eq (o.congr x z y e ∙ back)) ∙ d))
+  differs x y z d e = grind arith
 
   -- what children have of the keys that begin with a component, one of them has
   in-child : {U : Type 0} (f : Forest K U) (x y : K) (t : Tree K U) (k : List K) → IsFoundChild cmp f x t → cmp x y ≡ Equal
@@ -155,42 +137,14 @@ module _ {K : Type 0} (cmp : K → K → Ordering) (o : IsTotalOrder cmp) where
         (t : Tree K W) (answer : Bool) → IsFoundChild cmp g x t → TellsKeys cmp shared (node (x ∷ p) v f) t answer
         → TellsKeys cmp shared (node (x ∷ p) v f) (node [] w g) answer
     tells-child shared x p v w f g t answer c h =
-        tells-where shared (lookup cmp (node (x ∷ p) v f)) (lookup cmp t) (lookup cmp (node (x ∷ p) v f))
-        (lookup cmp (node [] w g)) each answer h
-      where
-        each : (k : List K) → SaysSame shared (lookup cmp (node (x ∷ p) v f)) (lookup cmp t)
-            (lookup cmp (node (x ∷ p) v f)) (lookup cmp (node [] w g)) k
-        each [] = inr (silent-left shared None w refl, silent-left shared None (lookup cmp t []) refl)
-        each (y ∷ k) = by (is_eq (cmp x y)) refl
-          where
-            by : (b : Bool) → is_eq (cmp x y) ≡ b
-                → SaysSame shared (lookup cmp (node (x ∷ p) v f)) (lookup cmp t) (lookup cmp (node (x ∷ p) v f))
-                (lookup cmp (node [] w g)) (y ∷ k)
-            by true e = inl (refl, in-child g x y t k c ((Equal-is (cmp x y)).0 e))
-            by false e =
-                let n = lookup-other cmp x y p k v f e in
-                inr (silent-left shared _ (lookup_in cmp g (y ∷ k)) n, silent-left shared _ (lookup cmp t (y ∷ k)) n)
+        grind (arith, tells-where, silent-left, is_eq, in-child, Equal-is, lookup-other, lookup_in)
 
     -- the left prefix ends, and the right tree goes on in a child
     pub tells-in_child : (y : K) (q : List K) (v : Option V) (w : Option W) (f : Forest K V) (g : Forest K W) (t : Tree K V)
         (answer : Bool) → IsFoundChild cmp f y t → TellsKeys cmp false t (node (y ∷ q) w g) answer
         → TellsKeys cmp false (node [] v f) (node (y ∷ q) w g) answer
     tells-in_child y q v w f g t answer c h =
-        tells-where false (lookup cmp t) (lookup cmp (node (y ∷ q) w g)) (lookup cmp (node [] v f))
-        (lookup cmp (node (y ∷ q) w g)) each answer h
-      where
-        each : (k : List K) → SaysSame false (lookup cmp t) (lookup cmp (node (y ∷ q) w g))
-            (lookup cmp (node [] v f)) (lookup cmp (node (y ∷ q) w g)) k
-        each [] = inr (silent-right false v None refl refl, silent-right false (lookup cmp t []) None refl refl)
-        each (z ∷ k) = by (is_eq (cmp y z)) refl
-          where
-            by : (b : Bool) → is_eq (cmp y z) ≡ b
-                → SaysSame false (lookup cmp t) (lookup cmp (node (y ∷ q) w g)) (lookup cmp (node [] v f))
-                (lookup cmp (node (y ∷ q) w g)) (z ∷ k)
-            by true e = inl (in-child f y z t k c ((Equal-is (cmp y z)).0 e), refl)
-            by false e =
-                let n = lookup-other cmp y z q k w g e in
-                inr (silent-right false (lookup_in cmp f (z ∷ k)) _ refl n, silent-right false (lookup cmp t (z ∷ k)) _ refl n)
+        grind (arith, tells-where, silent-right, is_eq, in-child, Equal-is, lookup-other, lookup_in)
 
     -- or in none
     pub childless-met : (y : K) (q : List K) (v : Option V) (w : Option W) (f : Forest K V) (g : Forest K W)
@@ -236,8 +190,7 @@ module _ {K : Type 0} (cmp : K → K → Ordering) (o : IsTotalOrder cmp) where
     solid-missed y q w g None (grow p v kids bare) s c = absurd s
     solid-missed y q w g None (grow [] v kids (grow r u more rest)) s c = absurd c
     solid-missed y q w g None (grow (x ∷ p) v kids (grow [] u more rest)) s c = absurd c.3
-    solid-missed y q w g None (grow (x ∷ p) v kids (grow (z ∷ r) u more rest)) s c =
-        (refl, two-missed y q w g x z p r v u kids more rest c)
+    solid-missed y q w g None (grow (x ∷ p) v kids (grow (z ∷ r) u more rest)) s c = grind (arith, two-missed)
 
     -- of keys that are to be shared, a tree that is not behind the whole prefix of the right one has some that it has not
     pub bare-or_missed : (y : K) (q p : List K) (w : Option W) (g : Forest K W) (v : Option V) (f : Forest K V) (answer : Bool)
@@ -264,23 +217,9 @@ module _ {K : Type 0} (cmp : K → K → Ordering) (o : IsTotalOrder cmp) where
 -- ---- the public words
 
 module _ {K V W : Type 0} (cmp : K → K → Ordering) (t : Tree K V) (u : Tree K W) where
-  disjoint-by : (v : Option V) (w : Option W) → IsMet false v w → is_some v ≡ true → is_some w ≡ true → ⊥
-  disjoint-by v w m a b = grind arith
-
-  shared-by : (v : Option V) (w : Option W) → IsMissed false v w → (is_some v ≡ true) × (is_some w ≡ true)
-  shared-by v w m = grind arith
-
-  has-by : (v : Option V) (w : Option W) → IsMet true v w → is_some v ≡ true → is_some w ≡ true
-  has-by v w m a = grind arith
-
-  lacks-by : (v : Option V) (w : Option W) → IsMissed true v w → (is_some v ≡ true) × (is_some w ≡ false)
-  lacks-by v w m = grind arith
-
   pub disjoint-told : (answer : Bool) → TellsKeys cmp false t u answer
       → MatchBool answer (AreDisjoint cmp t u) (ShareKey cmp t u)
-  disjoint-told true h = λ k a b. disjoint-by (lookup cmp t k) (lookup cmp u k) (h k) a b
-  disjoint-told false h = let s = shared-by (lookup cmp t h.0) (lookup cmp u h.0) h.1 in (h.0, s.0, s.1)
+  disjoint-told answer h = grind arith
 
   pub subset-told : (answer : Bool) → TellsKeys cmp true t u answer → MatchBool answer (HasKeysOf cmp u t) (LacksKeyOf cmp u t)
-  subset-told true h = λ k a. has-by (lookup cmp t k) (lookup cmp u k) (h k) a
-  subset-told false h = let s = lacks-by (lookup cmp t h.0) (lookup cmp u h.0) h.1 in (h.0, s.0, s.1)
+  subset-told answer h = grind arith

@@ -2,20 +2,19 @@
 --     value-alone, below-alone        what may be asked of the parts of a tree of which the right side has no key
 --     node-alone, copied-alone        what is left of it, as what is left of its node, and as a copy
 --     both-whole, alone-whole, made-node        what was made, as what is left of a whole tree, and of a node
-use Rattle.std.proofs.Common.{◌≡◌, ℕ, ◌<◌, ◌≤◌, [], ◌∷◌, List, Option, None, Some, refl, sym, ap, subst, is_some}
+use Rattle.std.proofs.Common.{◌≡◌, ℕ, ◌<◌, ◌≤◌, [], ◌∷◌, List, Option, None, Some, sym, ap, subst, is_some, arith}
 use Rattle.std.proofs.Common.{take, drop, length, append-nil}
 use Rattle.std.proofs.lemmas.List.{drop-append-le, take-append-le}
 use Rattle.std.specs.Cmp.{IsTotalOrder}
 use Rattle.std.specs.declared.cmp.Ordering.{Ordering}
 use Rattle.vc_tree_model.specs.Canonical.{AreChildren, IsCanonical}
 use Rattle.vc_tree_model.specs.Child.{Begins, BeginsWith, solid_child, bound_by}
-use Rattle.vc_tree_model.specs.Key.{behind}
 use Rattle.vc_tree_model.specs.Look.{values}
-use Rattle.vc_tree_model.specs.Map.{lookup, lookup_in, node_lookup}
+use Rattle.vc_tree_model.specs.Map.{lookup, lookup_in}
 use Rattle.vc_tree_model.specs.Same.{IsAlike}
-use Rattle.vc_tree_model.specs.Tree.{Tree, Forest, bare, grow, node, shortened}
+use Rattle.vc_tree_model.specs.Tree.{Tree, Forest, bare, node, shortened}
 use Rattle.vc_tree_model.specs.Value.{IsKept}
-use Rattle.vc_tree_model.proofs.Joining.{joined-child, joined-begins, trees-combined, value-asked, children-asked}
+use Rattle.vc_tree_model.proofs.Joining.{joined-child, trees-combined, value-asked, children-asked}
 use Rattle.vc_tree_model.proofs.KeyLemmas.{same-itself}
 use Rattle.vc_tree_facing.specs.Lessening.{left_of, KeepsFront, IsLessenedIn}
 use Rattle.vc_tree_facing.specs.Made.{IsMade, IsBothMadeBy}
@@ -24,24 +23,18 @@ use Rattle.vc_tree_combines.specs.Narrowing.{made_or, IsLeftAlone, IsNarrowed, I
 
 -- a node without value and children binds nothing
 nothing-at : {K W : Type 0} (cmp : K → K → Ordering) (p k : List K) → lookup cmp (node {V = W} p None bare) k ≡ None
-nothing-at {K} {W} cmp p k = by (behind cmp p k)
-  where
-    by : (left : Option (List K)) → node_lookup {V = W} None (lookup_in cmp bare) left ≡ None
-    by None = refl
-    by (Some []) = refl
-    by (Some (x ∷ q)) = refl
+nothing-at cmp p k = grind arith
 
 -- ---- a tree of which the right side has no key
 
 begins-by : {K V : Type 0} (cmp : K → K → Ordering) (p : List K) (v : Option V) (f : Forest K V) (y : K) → Begins cmp y p
     → BeginsWith cmp y (solid_child p v f)
-begins-by cmp [] v f y b = absurd b
-begins-by cmp (x ∷ p) v f y b = joined-begins cmp y x p v f b
+begins-by cmp p v f y b = grind arith
 
 module _ {K V W : Type 0} {cmp : K → K → Ordering} (o : IsTotalOrder cmp) (t : Tree K V) where
   module _ (asks : Option V → Option W → Type 0) (h : (k : List K) → asks (lookup cmp t k) None) where
     beside : (k : List K) → asks (lookup cmp t k) (lookup cmp (node {V = W} t.prefix None bare) k)
-    beside k = subst (asks (lookup cmp t k)) (sym (nothing-at cmp t.prefix k)) (h k)
+    beside k = grind arith
 
     -- may be asked of its value
     pub value-alone : asks t.value None
@@ -92,35 +85,20 @@ module _ {K V : Type 0} (cmp : K → K → Ordering) (o : IsTotalOrder cmp) wher
 module _ {K V : Type 0} {cmp : K → K → Ordering} {t : Tree K V} where
   pub both-whole : {W : Type 0} {R : Option V → Option W → Option V → Type 0} {u : Tree K W} (o : Option (Tree K V))
       → IsNarrowed cmp 0 t R u o → IsBothMadeBy cmp (values cmp) R (shortened 0 t) u o
-  both-whole None h = h.made
-  both-whole (Some new) h = h.made
+  both-whole o h = grind arith
 
   pub alone-whole : {R : Option V → Option V → Type 0} (o : Option (Tree K V)) → IsLeftAlone cmp 0 t R o
       → IsMade cmp R (shortened 0 t) o
-  alone-whole None h = h.made
-  alone-whole (Some new) h = h.made
+  alone-whole o h = grind arith
 
 pub whole-bound : {K V W : Type 0} (cmp : K → K → Ordering) (R : Option V → Option W → Option V → Type 0) (t : Tree K V)
     (u : Tree K W) (o : Option (Tree K V)) (m : Tree K V) → o ≡ Some m → IsNarrowed cmp 0 t R (shortened 0 u) o → (k : List K)
     → R (lookup cmp t k) (lookup cmp u k) (lookup cmp m k)
-whole-bound cmp R t u o m e h =
-    (both-whole (Some m) (subst (λ o. IsNarrowed cmp 0 t R (shortened 0 u) o) e h)).binds
+whole-bound cmp R t u o m e h = grind arith
 
 -- of a node with this prefix
 pub made-node : {K V : Type 0} (n : ℕ) (t : Tree K V) (p : List K) (v : Option V) (f : Forest K V) → p ≡ t.prefix
     → n ≤ length t.prefix
     → (o : Option (Tree K V)) → o ≡ solid_child p v f
     → (left_of (is_some o) n (made_or t o) ≡ solid_child (drop n t.prefix) v f) × KeepsFront n t (is_some o) (made_or t o)
-made-node n t p v f e h o z = rw (z, e) (by v f)
-  where
-    by : (v : Option _) (f : Forest _ _)
-        → (left_of (is_some (solid_child t.prefix v f)) n (made_or t (solid_child t.prefix v f))
-        ≡ solid_child (drop n t.prefix) v f)
-        × KeepsFront n t (is_some (solid_child t.prefix v f)) (made_or t (solid_child t.prefix v f))
-    by (Some v) f = (refl, λ s. refl)
-    by None bare = (refl, λ s. refl)
-    by None (grow q w more bare) = (
-      ap (λ r. Some (node r w more)) (drop-append-le n t.prefix q h),
-      λ s. take-append-le n t.prefix q h,
-    )
-    by None (grow q w more (grow r u most rest)) = (refl, λ s. refl)
+made-node n t p v f e h o z = grind (arith, left_of, solid_child, made_or, drop-append-le, take-append-le)

@@ -7,7 +7,7 @@ use Rattle.std.proofs.Common.{◌≡◌, ◌≤◌, [], ◌∷◌, ◌++◌, Lis
 use Rattle.std.proofs.Common.{Err, ◌⊎◌, inl, inr, refl, sym, ap, ◌∙◌, map, true≢false, append_assoc}
 use Rattle.std.proofs.Common.{append-nil, slice_get, arith}
 use Rattle.std.proofs.lemmas.List.{append_cancel_left}
-use Rattle.std.specs.Cmp.{IsTotalOrder, alike_right, tied_back, tied_itself}
+use Rattle.std.specs.Cmp.{IsTotalOrder, tied_itself}
 use Rattle.std.specs.List.{AllByRecursion, cons_option}
 use Rattle.std.specs.List.Sorted.{IsStrictlySortedBy}
 use Rattle.std.specs.Option.{option_cmp}
@@ -114,8 +114,7 @@ module _ {M A B : Type 0} (left : M → List A) (right : M → List B) (missed :
   -- a run that was passed
   step-passed : (s t : M) (run : Run A B) → missed s ≡ false → Step passes s run t
       → AllByRecursion (IsPassed shared) (run_events run) × (missed t ≡ false)
-  step-passed s t (of_left xs) z p =
-      let e = ok-not shared (Ok true) p.allowed.0 refl in (lefts-passed B shared e xs, p.allowed.1 ∙ e)
+  step-passed s t (of_left xs) z p = grind (arith, ok-not, lefts-passed, rights-passed, ok-false)
   step-passed s t (of_right ys) z p = (rights-passed A shared ys, p.allowed.1 ∙ z)
   step-passed s t (of_both x y) z p = absurd (ok-false (Ok true) p.allowed.0 refl)
 
@@ -198,21 +197,16 @@ passed {left = left} {right} {missed} {shared} {order} {s} {t} (Err x) z w =
 module _ {A B : Type 0} (order : A ⊎ B → A ⊎ B → Ordering) (o : IsTotalOrder order) where
   side-left : (x : A) (es : List (Event A B)) → AllByRecursion (λ e. order (inl x) (place e) ≡ Less) es
       → AllByRecursion (IsMatched order) es → side_next order (Some x) (slice_get (rights es) 0) ≡ Some Left
-  side-left x [] a m = refl
-  side-left x (left_alone z ∷ es) a m = side-left x es a.1 m.1
-  side-left x (right_alone y ∷ es) a m = rw (o.antisymm (inr y) (inl x), a.0)
-  side-left x (collision z y ∷ es) a m =
-      rw (o.antisymm (inr y) (inl x), ← (alike_right o (inl z) (inr y) (inl x) m.0), a.0)
+  side-left x (left_alone z ∷ es) a m = grind (arith, side-left x es a.1 m.1)
+  side-left x es a m = grind arith
 
   side-right : (y : B) (es : List (Event A B)) → AllByRecursion (λ e. order (inr y) (place e) ≡ Less) es
       → side_next order (slice_get (lefts es) 0) (Some y) ≡ Some Right
-  side-right y [] a = refl
-  side-right y (left_alone x ∷ es) a = rw a.0
-  side-right y (right_alone z ∷ es) a = side-right y es a.1
-  side-right y (collision x z ∷ es) a = rw a.0
+  side-right y (right_alone z ∷ es) a = grind (arith, side-right y es a.1)
+  side-right y es a = grind arith
 
   side-both : (x : A) (y : B) → order (inl x) (inr y) ≡ Equal → side_next order (Some x) (Some y) ≡ Some Both
-  side-both x y e = rw (tied_back o (inl x) (inr y) e)
+  side-both x y e = grind arith
 
 -- the events behind the first one are a script of their own
 script-rest : {A B : Type 0} {order : A ⊎ B → A ⊎ B → Ordering} {xs : List A} {ys : List B} (e : Event A B)
@@ -308,19 +302,12 @@ module _ {K V W A B : Type 0} {cmp : K → K → Ordering} {ta : A → Tree K V}
     {ys : List B} where
   -- none is passed yet
   pub tails-start : AreChildren cmp (seen ta xs) → AreChildren cmp (seen tb ys) → AreTails cmp ta tb shared xs ys xs ys
-  tails-start ca cb =
-      record { left = ca; right = cb; left_nodes = omega arith; right_nodes = omega arith; tells = λ answer h. h }
+  tails-start ca cb = grind arith
 
   -- what is left of what is left
   pub tails-later : {ls ls' : List A} {rs rs' : List B} → AreTails cmp ta tb shared xs ys ls rs
       → AreTails cmp ta tb shared ls rs ls' rs' → AreTails cmp ta tb shared xs ys ls' rs'
-  tails-later s t = record {
-    left = t.left;
-    right = t.right;
-    left_nodes = omega (arith, s.left_nodes, t.left_nodes);
-    right_nodes = omega (arith, s.right_nodes, t.right_nodes);
-    tells = λ answer h. s.tells answer (t.tells answer h);
-  }
+  tails-later s t = grind arith
 
 -- two lists whose first trees begin alike
 pub alike-meet : {K V W A B : Type 0} (cmp : K → K → Ordering) (o : IsTotalOrder cmp) (ta : A → Tree K V) (tb : B → Tree K W)
@@ -337,8 +324,7 @@ alike-meet cmp o ta tb shared xs ys ca cb {x} {ls} {y} {rs} el er h =
 module _ {K V T : Type 0} (cmp : K → K → Ordering) (tree : T → Tree K V) where
   above-first : (y : K) (p : List K) (v : Option V) (kids rest : Forest K V) → AllAbove cmp y (grow p v kids rest)
       → (option_cmp cmp (Some y) (slice_get p 0) ≡ Less) × AllAbove cmp y rest
-  above-first y [] v kids rest a = absurd a
-  above-first y (z ∷ p) v kids rest a = a
+  above-first y p v kids rest a = grind arith
 
   above-all : (y : K) (xs : List T) → AllAbove cmp y (seen tree xs)
       → AllByRecursion (λ x. option_cmp cmp (Some y) (slice_get (tree x).prefix 0) ≡ Less) xs

@@ -1,7 +1,7 @@
 -- What the comparisons of a combine are paid by: three for each node and component.
 --     paid-begun        laying two trees side by side is paid by both
 --     paid-left, paid-right, paid-both        so are the next trees
-use Rattle.std.proofs.Common.{◌≡◌, ℕ, ◌+◌, ◌*◌, ◌≤◌, min, [], ◌∷◌, List, ap, arith, drop, length, length-drop, slice_get}
+use Rattle.std.proofs.Common.{◌≡◌, ℕ, ◌+◌, ◌*◌, ◌≤◌, min, ◌∷◌, List, arith, drop, length, length-drop, slice_get}
 use Rattle.std.specs.Option.{option_to_list}
 use Rattle.std.specs.declared.cmp.Ordering.{Ordering}
 use Rattle.vc_tree_model.specs.Shortened.{weight, forest_weight}
@@ -18,17 +18,10 @@ record IsWeighed (n whole rest below one : ℕ) : Type 0 where
 weighed : {T K V : Type 0} (tree : T → Tree K V) (t : Tree K V) (n : ℕ) (rest : List K) (xs : List T) (from : ℕ)
     → length t.prefix ≡ n + length rest → IsOpened tree t rest xs from
     → IsWeighed n (weight t) (length rest) (forest_weight (shortened_in tree from xs)) (ended rest)
-weighed tree t n [] xs from l h =
-    let w = ap forest_weight h.children in
-    record { is = omega (arith, w, l); goes_on = omega arith }
-weighed tree t n (x ∷ rest) xs from l h =
-    let w = ap forest_weight h.children in
-    record { is = omega (arith, w, l); goes_on = omega (arith, w) }
+weighed tree t n rest xs from l h = grind arith
 
 ended-short : {K : Type 0} (p q : List K) → 1 ≤ ended p + ended q → min (length p) (length q) ≡ 0
-ended-short [] q e = omega arith
-ended-short (x ∷ p) [] e = omega arith
-ended-short (x ∷ p) (y ∷ q) e = absurd (omega (arith, e))
+ended-short p q e = grind arith
 
 module _ {K V W A B : Type 0} {ta : A → Tree K V} {tb : B → Tree K W} where
   pub paid-begun : {cmp : K → K → Ordering} {t : Tree K V} {u : Tree K W} {n : ℕ} {xs : List A} {i : ℕ} {ys : List B} {j : ℕ}
@@ -57,43 +50,16 @@ module _ {K V W A B : Type 0} {ta : A → Tree K V} {tb : B → Tree K W} where
       (paid : IsPaid ta tb p q i j ls rs spent budget)
       (c : told ≤ spent + length (option_to_list (slice_get ls 0))) where
     few : (l : List A) → length (option_to_list (slice_get l 0)) ≤ 1
-    few [] = omega arith
-    few (x ∷ l) = omega arith
-
-    -- what is left has a tree less, and weighs less
-    paid-less : {ls' : List A} {rs' : List B} → length ls' + length rs' + 1 ≤ length ls + length rs
-        → forest_weight (shortened_in ta i ls') + forest_weight (shortened_in tb j rs') + 1
-        ≤ forest_weight (shortened_in ta i ls) + forest_weight (shortened_in tb j rs)
-        → IsPaid ta tb p q i j ls' rs' told budget
-    paid-less m w =
-        let one = few ls in
-        let a = paid.apart in
-        record {
-          apart = omega (arith, a, one, m, c);
-          met = λ o. let b = paid.met o in omega (arith, b, one, w, c);
-        }
+    few l = grind arith
 
     pub paid-left : {x : A} {ls' : List A} → ls ≡ x ∷ ls' → IsPaid ta tb p q i j ls' rs told budget
-    paid-left e =
-        let m = ap length e in
-        let w = ap (λ l. forest_weight (shortened_in ta i l)) e in
-        paid-less (omega (arith, m)) (omega (arith, w))
+    paid-left e = grind arith
 
     pub paid-right : {y : B} {rs' : List B} → rs ≡ y ∷ rs' → IsPaid ta tb p q i j ls rs' told budget
-    paid-right e =
-        let m = ap length e in
-        let w = ap (λ l. forest_weight (shortened_in tb j l)) e in
-        paid-less (omega (arith, m)) (omega (arith, w))
+    paid-right e = grind arith
 
     pub paid-both : {x : A} {ls' : List A} {y : B} {rs' : List B} → ls ≡ x ∷ ls' → rs ≡ y ∷ rs' → 1 ≤ ended p + ended q
         → {after : ℕ}
         → after + 2 ≤ told + 3 * (weight (shortened i (ta x)) + weight (shortened j (tb y)))
         → IsPaid ta tb p q i j ls' rs' after budget
-    paid-both {ls' = ls'} {rs' = rs'} e e' o k =
-        let one = few ls in
-        let w = ap (λ l. forest_weight (shortened_in ta i l)) e in
-        let w' = ap (λ l. forest_weight (shortened_in tb j l)) e' in
-        let b = paid.met o in
-        let f = few-below ta i ls' in
-        let g = few-below tb j rs' in
-        record { apart = omega (arith, b, one, w, w', c, k, f, g); met = λ o. omega (arith, b, one, w, w', c, k) }
+    paid-both e e' o k = grind (arith, few, forest_weight, shortened_in, few-below)

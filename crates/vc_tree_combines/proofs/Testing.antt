@@ -8,19 +8,18 @@
 --     found, found_in        a component that was read
 --     found-agrees, agree-flip        the child that is found
 use Rattle.std.proofs.Common.{◌≡◌, ℕ, zero, suc, ◌+◌, ◌<◌, ◌≤◌, [], ◌∷◌, ◌++◌, List, Option, Some, Bool, true, false}
-use Rattle.std.proofs.Common.{not, ◌⊎◌, inl, inr, refl, sym, ap, subst, ◌∙◌, take, drop, length, slice_get, get_or}
-use Rattle.std.proofs.Common.{true≢false, arith}
+use Rattle.std.proofs.Common.{not, ◌⊎◌, refl, sym, ap, ◌∙◌, take, drop, length, slice_get, get_or}
+use Rattle.std.proofs.Common.{arith}
 use Rattle.std.proofs.lemmas.List.{take-append-drop, drop-drop}
 use Rattle.std.proofs.lemmas.Option.{slice_get-get_or}
 use Rattle.std.proofs.Math.ListN.{drop_of_length-le}
 use Rattle.std.specs.Cmp.{IsTotalOrder}
 use Rattle.std.specs.Ordering.{is_eq}
 use Rattle.std.specs.declared.cmp.Ordering.{Ordering}
-use Rattle.std.specs.declared.cmp.Ordering.TheVariants.{Less, Greater}
 use Rattle.vc_tree_model.specs.Key.{same_key}
 use Rattle.vc_tree_model.specs.Tree.{Tree, Forest, node, lacks_both, shortened}
 use Rattle.vc_tree_model.specs.Canonical.{IsSolid, IsWhole, IsCanonical}
-use Rattle.vc_tree_model.proofs.KeyLemmas.{none-some, same-flip}
+use Rattle.vc_tree_model.proofs.KeyLemmas.{same-flip}
 use Rattle.vc_tree_model.proofs.Shortening.{shortened-canonical}
 use Rattle.vc_tree_nodes.specs.Parting.{Agree, PartsAt, IsParting}
 use Rattle.vc_tree_nodes.specs.Places.{IsNoChild, IsFoundChild}
@@ -34,15 +33,14 @@ use Rattle.vc_tree_facing.proofs.Opening.{goes-on}
 -- what goes on with a component is solid
 solid-by : {K V : Type 0} (p : List K) (n : ℕ) (x : K) (v : Option V) (f : Forest K V) → slice_get p n ≡ Some x → IsWhole p v f
     → IsSolid v f
-solid-by [] n x v f e w = none-some x e
-solid-by (y ∷ p) n x v f e w = w
+solid-by p n x v f e w = grind arith
 
 -- a component that was read
 pub found : {K : Type 0} (p : List K) (n : ℕ) (x : K) → n < length p → x ≡ get_or p n x → slice_get p n ≡ Some x
-found p n x h e = slice_get-get_or p n x h ∙ ap Some (sym e)
+found p n x h e = grind (arith, slice_get-get_or)
 
 pub found_in : {K : Type 0} (p q : List K) (n : ℕ) (x : K) → p ≡ q → n < length p → x ≡ get_or p n x → slice_get q n ≡ Some x
-found_in p q n x e h w = ap (λ z. slice_get z n) (sym e) ∙ found p n x h w
+found_in p q n x e h w = grind (arith, found)
 
 -- a place that is not the end has a component
 pub some-at : {K : Type 0} (p q : List K) (n : ℕ) → q ≡ p → n ≤ length p → (n ≡ length q → ⊥) → (y : K) × (slice_get p n ≡ Some y)
@@ -55,26 +53,18 @@ some-at {K = K} p q n e h w = by p n h (λ k. w (k ∙ ap length (sym e)))
 
 -- such a place is before the end
 pub before-end : {K : Type 0} (p q : List K) (n : ℕ) → q ≡ p → n ≤ length p → (n ≡ length q → ⊥) → n < length q
-before-end p q n e h w = let l : length q ≡ length p = ap length e in omega arith
+before-end p q n e h w = grind arith
 
 module _ {K : Type 0} (cmp : K → K → Ordering) (o : IsTotalOrder cmp) where
   -- two keys agree either way round
   pub agree-flip : (p q : List K) (n : ℕ) → Agree cmp p q n → Agree cmp q p n
-  agree-flip p q n a = record {
-    within_prefix = a.within_key;
-    within_key = a.within_prefix;
-    same = same-flip cmp o (take n q) (take n p) ∙ a.same;
-  }
+  agree-flip p q n a = grind (arith, same-flip)
 
   -- a child that is found agrees with what is left in one component
   pub found-agrees : {V : Type 0} (f : Forest K V) (t : Tree K V) (x : K) (p : List K) → slice_get p 0 ≡ Some x
       → IsFoundChild cmp f x t → Agree cmp t.prefix p 1
-  found-agrees f t x [] e c = none-some x e
-  found-agrees f t x (z ∷ p) e c = let h : z ≡ x = cc in by t.prefix (rw h c.begins)
-    where
-      by : (q : List K) → same_key cmp (take 1 q) (z ∷ []) ≡ true → Agree cmp q (z ∷ p) 1
-      by [] g = absurd (true≢false (sym g))
-      by (y ∷ q) g = record { within_prefix = omega arith; within_key = omega arith; same = g }
+  found-agrees f t x [] e c = grind arith
+  found-agrees f t x (z ∷ p) e c = grind arith
 
   module _ {V W : Type 0} (shared : Bool) (t : Tree K V) (u : Tree K W) (i j : ℕ) where
     -- the trees without equal fronts of their prefixes
@@ -106,15 +96,14 @@ module _ {K : Type 0} (cmp : K → K → Ordering) (o : IsTotalOrder cmp) where
       pub parted-told : (parting : Parting) → IsParting cmp p q parting
           → ((n : ℕ) × (parting ≡ Lower n)) ⊎ ((n : ℕ) × (parting ≡ Higher n))
           → TellsKeys cmp shared (shortened i t) (shortened j u) (not shared)
-      parted-told parting h (inl e) = parted-by Less e.0 refl (rw e.1 at h)
-      parted-told parting h (inr e) = parted-by Greater e.0 refl (rw e.1 at h)
+      parted-told parting h s = grind (arith, parted-by)
 
       module _ (n : ℕ) (x : K) (h : Agree cmp p q n × (n ≡ length q) × (n < length p)) (ex : slice_get p n ≡ Some x) where
         at : slice_get (drop i t.prefix) n ≡ Some x
         at = rw (← ep) ex
 
         ended : drop n (drop j u.prefix) ≡ []
-        ended = rw (← eq) (drop_of_length-le q (omega (arith, h.1)))
+        ended = grind (arith, drop_of_length-le)
 
         -- the right prefix ends, and the left tree goes on in a child
         pub inside-told : (g : Forest K W) (kid : Tree K W) (answer : Bool) → g ≡ u.children → IsFoundChild cmp g x kid
@@ -163,19 +152,14 @@ module _ {K : Type 0} (cmp : K → K → Ordering) (o : IsTotalOrder cmp) where
     at-ends : (shared : Bool) (b : List K) (answer : Bool) → drop n u.prefix ≡ b
         → TellsKeys cmp shared (node [] t.value t.children) (node b u.value u.children) answer
         → TellsKeys cmp shared (shortened (length t.prefix) t) (shortened n u) answer
-    at-ends shared b answer e h =
-        rw (ends t.prefix (length t.prefix) (omega arith), e) h
+    at-ends shared b answer e h = grind (arith, ends)
 
     module _ (y : K) (ey : slice_get u.prefix n ≡ Some y) where
       -- the right tree goes on in a child
       pub within-told : (shared : Bool) (f : Forest K V) (kid : Tree K V) (answer : Bool) → shared ≡ false → f ≡ t.children
           → IsFoundChild cmp f y kid → TellsKeys cmp shared kid (shortened n u) answer
           → TellsKeys cmp shared (shortened (length t.prefix) t) (shortened n u) answer
-      within-told shared f kid answer s e k m =
-          let g = goes-on n u.prefix y ey in
-          at-ends shared (y ∷ g.0) answer g.1
-          (rw s (tells-in_child cmp o y g.0 t.value u.value t.children u.children kid answer (rw (← e) k)
-          (rw (s, g.1) at m)))
+      within-told shared f kid answer s e k m = grind (arith, goes-on, at-ends, tells-in_child)
 
       -- or in none
       pub within-none : (shared : Bool) (f : Forest K V) → shared ≡ false → f ≡ t.children → IsNoChild cmp f y
@@ -189,20 +173,11 @@ module _ {K : Type 0} (cmp : K → K → Ordering) (o : IsTotalOrder cmp) where
       pub within-bare : (shared : Bool) (answer : Bool) → IsCanonical cmp t → shared ≡ true → answer
           ≡ lacks_both t.value t.children
           → TellsKeys cmp shared (shortened (length t.prefix) t) (shortened n u) answer
-      within-bare shared answer c s e =
-          let g = goes-on n u.prefix y ey in
-          at-ends shared (y ∷ g.0) answer g.1
-          (rw s (bare-or_missed cmp o y g.0 t.prefix u.value u.children t.value t.children answer c.0 c.1 e))
+      within-bare shared answer c s e = grind (arith, goes-on, at-ends, bare-or_missed)
 
     -- both end
     pub both-told : (shared : Bool) (f : Forest K V) (g : Forest K W) (v : Option V) (w : Option W) (below : Bool)
         → length u.prefix ≤ n → f ≡ t.children → g ≡ u.children → v ≡ t.value → w ≡ u.value → IsMet shared v w
         → TellsKeysIn cmp shared f g below
         → TellsKeys cmp shared (shortened (length t.prefix) t) (shortened n u) below
-    both-told shared f g v w below l ef eg ev ew m h =
-        at-ends shared [] below (ends u.prefix n l)
-        (subst (λ f. TellsKeys cmp shared (node [] t.value f) (node [] u.value u.children) below) ef
-        (subst (λ v. TellsKeys cmp shared (node [] v f) (node [] u.value u.children) below) ev
-        (subst (λ g. TellsKeys cmp shared (node [] v f) (node [] u.value g) below) eg
-        (subst (λ w. TellsKeys cmp shared (node [] v f) (node [] w g) below) ew
-        (tells-nodes cmp o shared v w f g below m h)))))
+    both-told shared f g v w below l ef eg ev ew m h = grind (arith, at-ends, ends, tells-nodes)
