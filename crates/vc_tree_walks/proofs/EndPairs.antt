@@ -50,7 +50,7 @@ last-append l x m = grind arith
 
 -- a list that is not empty has one
 last-some : {X A : Type 0} (x : X) (l : List X) → last_of (x ∷ l) ≡ None → A
-last-some x [] e = none-some x (sym e)
+last-some x [] e = grind arith
 last-some x (y ∷ l) e = last-some y l e
 
 last-map : {X Y : Type 0} (f : X → Y) (l : List X) → last_of (map f l) ≡ option_map f (last_of l)
@@ -79,8 +79,7 @@ module _ {K V : Type 0} where
   -- ---- the pair of the node itself
 
   last-alone : (p : List K) (v : Option V) → end_of Last (walk (node p v bare)) ≡ own_end p v
-  last-alone p None = refl
-  last-alone p (Some v) = ap (λ k. Some (k, v)) (append-nil p)
+  last-alone p v = grind (arith, append-nil)
 
   -- ---- the pair below a child
 
@@ -172,8 +171,7 @@ module _ {K V : Type 0} (cmp : K → K → Ordering) (o : IsTotalOrder cmp) wher
   listed-after : (j : List K) (l : List (List K × V)) (k : List K) (v : V)
       → AllByRecursion (λ i. slice_cmp cmp j i ≡ Less) (keys_of l) → Lists cmp l k v → slice_cmp cmp j k ≡ Less
   listed-after j [] k v a h = absurd h
-  listed-after j (b ∷ l) k v a (inl s) =
-      sym (alike_right (lists_total o) b.0 k j (tied cmp b.0 k s.0)) ∙ a.0
+  listed-after j (b ∷ l) k v a (inl s) = grind (arith, alike_right, lists_total, tied)
   listed-after j (b ∷ l) k v a (inr h) = listed-after j l k v a.1 h
 
   -- the last pair of a list is behind them
@@ -206,10 +204,7 @@ module _ {K V : Type 0} (cmp : K → K → Ordering) (o : IsTotalOrder cmp) wher
   -- nor is one less than the first
   none-less : (b : List K × V) (l : List (List K × V)) → IsStrictlySortedBy (slice_cmp cmp) (keys_of (b ∷ l))
       → (k : List K) (v : V) → Lists cmp (b ∷ l) k v → slice_cmp cmp k b.0 ≢ Less
-  none-less b l a k v (inl s) g = grind (arith, not-before, same-flip)
-  none-less b l a k v (inr h) g =
-      not-both_before cmp o k b.0 g
-      (listed-after b.0 l k v (sorted_head (slice_cmp cmp) b.0 (keys_of l) a) h)
+  none-less b l a k v s g = grind (arith, not-before, same-flip, not-both_before, listed-after, sorted_head, slice_cmp, keys_of)
 
   -- ---- by the walk of a map
 
@@ -279,8 +274,7 @@ module _ {K V : Type 0} (end : End) where
 
   prepended-twice : (a p : List K) (o : Option (List K × V))
       → option_map (prepended a) (option_map (prepended p) o) ≡ option_map (prepended (a ++ p)) o
-  prepended-twice a p None = refl
-  prepended-twice a p (Some b) = ap (λ k. Some (k, b.1)) (sym (append_assoc a p b.0))
+  prepended-twice a p o = grind (arith, append_assoc)
 
   pub reaches-itself : (t : Tree K V) → Reaches t t t.prefix
   reaches-itself t = grind arith
@@ -295,7 +289,7 @@ module _ {K V : Type 0} (end : End) where
 -- a number that stops at the most, of a list with more behind it
 pub longer : {K : Type 0} (key more : List K) (count most : ℕ) → count ≡ min (length key) most
     → min (count + length more) most ≡ min (length (key ++ more)) most
-longer key more count most e = let l = length-append key more in omega (arith, e, l)
+longer key more count most e = grind (arith, length-append)
 
 -- and of one that is no longer than that
 pub within : {K : Type 0} (seen key : List K) (most : ℕ) → seen ≡ key → length seen ≤ most

@@ -3,18 +3,16 @@
 --     bound-below        what the node binds that they stand below
 --     filtered        a copy of the node that they stand below, with what stands before it
 --     copy-solid        such a copy is solid
-use Rattle.std.proofs.Common.{◌≡◌, [], ◌∷◌, ◌++◌, List, Option, None, Some, true, false, Result, IfOk, arith}
-use Rattle.std.proofs.Common.{refl, sym, ap, ◌∙◌, map, true≢false}
+use Rattle.std.proofs.Common.{◌≡◌, [], ◌++◌, List, Option, None, Some, true, false, Result, IfOk, arith}
+use Rattle.std.proofs.Common.{refl, sym, ◌∙◌, map, true≢false}
 use Rattle.std.specs.Cmp.{IsTotalOrder}
 use Rattle.std.specs.Option.{option_and_then}
 use Rattle.std.specs.declared.cmp.Ordering.{Ordering}
-use Rattle.vc_tree_model.specs.Key.{behind}
-use Rattle.vc_tree_model.specs.Tree.{Tree, Forest, bare, grow, node, no_tree, is_bare, lacks_both}
+use Rattle.vc_tree_model.specs.Tree.{Tree, node, no_tree, is_bare, lacks_both}
 use Rattle.vc_tree_model.specs.Map.{lookup, lookup_in, node_lookup, IsEqualMap}
 use Rattle.vc_tree_model.specs.Canonical.{IsCanonical, IsSolid}
 use Rattle.vc_tree_model.specs.Same.{IsAlike}
 use Rattle.vc_tree_model.specs.Under.{under, prefixed}
-use Rattle.vc_tree_model.specs.Value.{IsKept}
 use Rattle.vc_tree_model.specs.Walk.{IsWalk, prepended, walk}
 use Rattle.vc_tree_model.proofs.AlikeLemmas.{tree-alike_lookup}
 use Rattle.vc_tree_model.proofs.KeyLemmas.{none-some}
@@ -61,19 +59,7 @@ module _ {K V : Type 0} (cmp : K → K → Ordering) (o : IsTotalOrder cmp) wher
 
       -- the node is the empty tree
       pub nothing-below : is_bare t ≡ true → (k : List K) → under cmp f p k ≡ None
-      nothing-below b k = bound-below k ∙ then-none (behind cmp front k)
-        where
-          bare-by : (v : Option V) (g : Forest K V) → lacks_both v g ≡ true → (left : Option (List K))
-              → node_lookup v (lookup_in cmp g) left ≡ None
-          bare-by (Some v) g h left = absurd (true≢false (sym h))
-          bare-by None (grow q w more rest) h left = absurd (true≢false (sym h))
-          bare-by None bare h None = refl
-          bare-by None bare h (Some []) = refl
-          bare-by None bare h (Some (x ∷ q)) = refl
-
-          then-none : (left : Option (List K)) → option_and_then (lookup cmp t) left ≡ None
-          then-none None = refl
-          then-none (Some rest) = bare-by t.value t.children b (behind cmp t.prefix rest)
+      nothing-below b k = grind (arith, bound-below, lacks_both, node_lookup, lookup_in, true≢false, option_and_then)
 
       pub filtered-bare : (u : Tree K V) → u ≡ no_tree → is_bare t ≡ true → IsEqualMap keeps (under cmp f p) (lookup cmp u)
       filtered-bare u e b = none-kept u e (nothing-below b)
@@ -81,16 +67,7 @@ module _ {K V : Type 0} (cmp : K → K → Ordering) (o : IsTotalOrder cmp) wher
       -- a copy of the node, with what stands before it
       filtered-copy : (copy u : Tree K V) → IsAlike keeps t copy → u ≡ node (front ++ copy.prefix) copy.value copy.children
           → IsEqualMap keeps (under cmp f p) (lookup cmp u)
-      filtered-copy copy u a e k =
-          kept_by keeps (option_and_then (lookup cmp t) (behind cmp front k))
-          (option_and_then (lookup cmp copy) (behind cmp front k))
-          (under cmp f p k) (lookup cmp u k) (sym (bound-below k))
-          (sym (ap (λ z. lookup cmp z k) e ∙ lookup-prepended cmp front copy k)) (then-kept (behind cmp front k))
-        where
-          then-kept : (left : Option (List K))
-              → IsKept keeps (option_and_then (lookup cmp t) left) (option_and_then (lookup cmp copy) left)
-          then-kept None = tt
-          then-kept (Some rest) = tree-alike_lookup keeps cmp t copy a rest
+      filtered-copy copy u a e k = grind (arith, kept_by, option_and_then, bound-below, lookup-prepended, tree-alike_lookup)
 
       pub filtered : {T E : Type 0} (tree : T → Tree K V) (copy : Tree K V) (r : Result T E) → IsAlike keeps t copy
           → IfOk r (λ u. tree u ≡ node (front ++ copy.prefix) copy.value copy.children)

@@ -14,7 +14,7 @@ module _ {K V T : Type 0} (tree : T → Tree K V) where
   -- a number that stops at the most
   stopped : (a b most count more : ℕ) → count ≡ min a most → more ≡ min b most
       → min (count + more) most ≡ min (a + b) most
-  stopped a b most count more e h = omega (arith, e, h)
+  stopped a b most count more e h = grind arith
 
   -- one more tree of a list is counted
   pub counted-more : (xs : List T) (i : ℕ) (x : T) (most count more : ℕ) → i < length xs → x ≡ get_or xs i x

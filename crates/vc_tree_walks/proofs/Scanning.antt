@@ -24,7 +24,7 @@ use Rattle.vc_tree_nodes.specs.Parting.{Agree, PartsAt, IsParting}
 use Rattle.vc_tree_nodes.specs.declared.parting.Parting.{Parting}
 use Rattle.vc_tree_nodes.specs.declared.parting.Parting.TheVariants.{Behind, Inside}
 use Rattle.vc_tree_nodes.specs.Places.{IsNoChild, IsFoundChild}
-use Rattle.vc_tree_model.proofs.KeyLemmas.{none-some, behind-append, behind-joins, behind-same, then_behind}
+use Rattle.vc_tree_model.proofs.KeyLemmas.{behind-append, behind-joins, behind-same, then_behind}
 use Rattle.vc_tree_model.proofs.KeyLemmas.{same-itself, same-flip}
 use Rattle.vc_tree_model.proofs.LookupLemmas.{children-ordered, lookup_in-same, lookup-same}
 use Rattle.vc_tree_model.proofs.UnderLemmas.{is_walk-equal, walk-prefixed}
@@ -37,7 +37,7 @@ and-none a = grind arith
 -- a list without a first element is empty
 pub no-first : {X : Type 0} (l : List X) → slice_get l 0 ≡ None → l ≡ []
 no-first [] e = refl
-no-first (x ∷ l) e = none-some x (sym e)
+no-first (x ∷ l) e = grind arith
 
 -- and one with a first element begins with it
 pub first-cons : {X : Type 0} (l : List X) (x : X) → slice_get l 0 ≡ Some x → l ≡ x ∷ drop 1 l
@@ -57,11 +57,6 @@ module _ {K : Type 0} (cmp : K → K → Ordering) where
       → behind cmp p k ≡ Some (drop (length p) k)
   left-whole (x ∷ p) (y ∷ k) h = grind (arith, left-whole p k)
   left-whole p k h = grind arith
-
-  -- of two tests one of which fails, the two together give nothing
-  failed : (s t : Bool) (a b : Option (List K)) → (s ≡ true → t ≡ true → option_and a b ≡ None)
-      → option_and (cond s a None) (cond t b None) ≡ None
-  failed s t a b h = grind arith
 
   -- nothing further behind
   then-ended : (a : Option (List K)) → then_behind cmp [] a ≡ a
@@ -143,9 +138,7 @@ module _ {K V : Type 0} where
       -- where the two part, none is
       under-parted : (order : Ordering) (t : Tree K V) (r k : List K) (n : ℕ) → PartsAt cmp order t.prefix r n
           → is_eq order ≡ false → under cmp (lookup cmp t) r k ≡ None
-      under-parted order t r k n p h =
-          and-looked (behind cmp r k) (behind cmp t.prefix k) t.value (lookup_in cmp t.children)
-          (apart cmp o t.prefix r k n p.old p.new p.old_at p.new_at (ap is_eq p.ordered ∙ h))
+      under-parted order t r k n p h = grind (arith, and-looked, lookup_in, apart, is_eq)
 
       -- where the prefix goes on behind that of a node, those below are
       under-below : (t : Tree K V) (r : List K) (x : K) (l k : List K) → behind cmp t.prefix r ≡ Some (x ∷ l)
@@ -221,7 +214,7 @@ module _ {K V : Type 0} where
         -- the prefix ends behind that of the node
         pub walk-ended : (q : List K) → q ≡ t.prefix → IsCanonical cmp t → Agree cmp q rest (length q)
             → drop (length q) rest ≡ [] → IsWalk cmp (under cmp (lookup cmp root) prefix) (map (prepended front) (walk t))
-        walk-ended q e c a h = walk-node c (λ k. under-ended t rest k (left_of q e a ∙ ap Some h))
+        walk-ended q e c a h = grind (arith, walk-node, under-ended, left_of)
 
         -- the two part
         walk-parted : (order : Ordering) (q : List K) (n : ℕ) → q ≡ t.prefix → PartsAt cmp order q rest n

@@ -1,9 +1,9 @@
 -- What a step to a tree does to the values that are left.
 --     first-value        the values of a row are those of its first tree, and then the others
 --     entered-values        a step to a tree with children, with rows as the iterator stores them
-use Rattle.std.proofs.Common.{◌≡◌, List, [], ◌∷◌, ◌++◌, map, Option, refl, sym, ap, ◌∙◌, append_assoc, arith}
+use Rattle.std.proofs.Common.{◌≡◌, List, [], ◌∷◌, ◌++◌, map, Option, refl, append_assoc, arith}
 use Rattle.std.proofs.lemmas.List.{map-append, reverse-append}
-use Rattle.std.specs.Prelude.{reverse, ℕ}
+use Rattle.std.specs.Prelude.{reverse}
 use Rattle.std.specs.Borrow.{Bor}
 use Rattle.vc_tree_model.specs.Tree.{Tree, Forest, grow}
 use Rattle.vc_tree_model.specs.Walk.{own_pair, prepended, walk_in}
@@ -29,13 +29,7 @@ module _ {K V : Type 0} where
   pub first-value : (p : List K) (v : Option V) (kids others : Forest K V) (m : List V)
       → map (λ b. b.1) (walk_in (grow p v kids others)) ++ m
       ≡ own_value v ++ (map (λ b. b.1) (walk_in kids) ++ (map (λ b. b.1) (walk_in others) ++ m))
-  first-value p v kids others m =
-      let value = λ (b : List K × V). b.1 in
-      let here = map (prepended p) (own_pair v ++ walk_in kids) in
-      ap (λ l. l ++ m) (map-append value here (walk_in others))
-      ∙ ap (λ l. (l ++ map value (walk_in others)) ++ m) (tree-values p v kids)
-      ∙ append_assoc (own_value v ++ map value (walk_in kids)) (map value (walk_in others)) m
-      ∙ append_assoc (own_value v) (map value (walk_in kids)) (map value (walk_in others) ++ m)
+  first-value p v kids others m = grind (arith, own_pair, walk_in, map-append, tree-values, append_assoc, own_value)
 
 -- a step to a tree with children, with rows as the iterator stores them
 pub entered-values : {K V T : Type 0} (tree : T → Tree K V) (t : T) (row kids beside below : Bor (List T))
@@ -44,13 +38,5 @@ pub entered-values : {K V T : Type 0} (tree : T → Tree K V) (t : T) (row kids 
     → rows_values ((grow (tree t).prefix (tree t).value (tree t).children (seen tree row.now), 0) ∷ map
     (λ r. (seen tree r.now, 0)) (reverse rows))
     ≡ own_value (tree t).value ++ rows_values (rows_of tree below.now above)
-entered-values {K = K} {V = V} {T = T} tree t row kids beside below rows above ek eb ew ea =
-    let v = (tree t).value in
-    let others = seen tree row.now in
-    let row_of : Bor (List T) → Forest K V × ℕ = λ r. (seen tree r.now, 0) in
-    let outer = map row_of (reverse rows) in
-    let back : reverse above ≡ row ∷ reverse rows =
-    ap reverse ea ∙ reverse-append rows (beside ∷ []) ∙ ap (λ r. r ∷ reverse rows) eb in
-    first-value (tree t).prefix v (tree t).children others (rows_values outer)
-    ∙ (λ i. own_value v ++ rows_values ((sym ek i, 0) ∷ (others, 0) ∷ outer))
-    ∙ (λ i. own_value v ++ rows_values (row_of (sym ew i) ∷ map row_of (sym back i)))
+entered-values tree t row kids beside below rows above ek eb ew ea =
+    grind (arith, reverse-append, first-value, rows_values, own_value)
