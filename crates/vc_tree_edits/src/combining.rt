@@ -4,11 +4,11 @@ ghost use Rattle.std.specs.Prelude.{◌≡◌, List, OnOk, OnErr};
 ghost use Rattle.vc_tree_model.specs.Canonical.{IsCanonical};
 ghost use Rattle.vc_tree_model.specs.Combine.{IsCombined, IsInnerAt, IsLeftAt, IsOuterAt};
 ghost use Rattle.vc_tree_model.specs.Combine.{IsUnionAt, IsIntersectionAt, IsDifferenceAt};
-ghost use Rattle.vc_tree_model.specs.Cover.{IsRemoved, IsRetained};
+ghost use Rattle.vc_tree_model.specs.Cover.{cover, IsSifted};
 ghost use Rattle.vc_tree_model.specs.Map.{lookup};
 ghost use Rattle.vc_tree_model.specs.Tree.{no_tree};
 ghost use Rattle.vc_tree_edits.specs.Editing.{MayLeave, CanLeave, KeptThen, CanMeet, OrStays};
-ghost use Rattle.vc_tree_edits.specs.Editing.{CanJudge, MayJudge};
+ghost use Rattle.vc_tree_edits.specs.Editing.{CanJudge, MayJudge, stays_by};
 
 use crate::changes::{Asked, AskedAlike, Goes, KeepAll, KeepLeft, Sift, Stays};
 use crate::engine::{Change, change_at};
@@ -69,52 +69,28 @@ fn lessen<K: TKey, V: TValue, W: TValue, B: RadixNode<K, W>, T: Build<K, V>, O: 
     Ok(())
 }
 
-/// Removes each key that the other tree covers: of its keys that are prefixes of a key the longest
-/// decides, by what the closure answers at its value. The closure is asked once at each key of the
-/// other tree that is met.
-pub fn remove_prefix_with<
+/// Keeps exactly the keys that the other tree covers where it retains, and else those that it does
+/// not cover: of its keys that are prefixes of a key the longest decides, by what the closure
+/// answers at its value. The closure is asked once at each key of the other tree that is met.
+pub fn sift_prefixes<
     K: TKey,
     V: TValue,
     W: TValue,
     B: RadixNode<K, W>,
     T: Build<K, V>,
     F: Fn(&W) -> bool,
->(tree: &mut T, that: &B, f: &F) -> Result<(), AllocError>
+>(tree: &mut T, that: &B, retains: bool, f: &F) -> Result<(), AllocError>
     requires asks { (k : List K) → CanJudge F.Fn f.now (lookup K.cmp (B.tree that.now) k) }
-    ensures ok { OnOk result (IsRemoved T.keeps (MayJudge F.Fn f.now)
-        (lookup K.cmp (B.tree that.now)) (lookup K.cmp (T.tree tree.old))
-        (lookup K.cmp (T.tree tree.new))) }
+    ensures ok { OnOk result ((k : List K) → IsSifted T.keeps (MayJudge F.Fn f.now)
+        (stays_by retains) (cover (lookup K.cmp (B.tree that.now)) k)
+        (lookup K.cmp (T.tree tree.old) k) (lookup K.cmp (T.tree tree.new) k)) }
     ensures err { OnErr result (T.tree tree.new ≡ no_tree) }
     ensures canonical { IsCanonical K.cmp (T.tree tree.new) }
 {
     let op = Sift {
         judge: f,
         covered: false,
-        retains: false,
-    };
-    lessen(tree, that, &op)
-}
-
-/// Keeps exactly the keys that the other tree covers.
-pub fn retain_prefix_with<
-    K: TKey,
-    V: TValue,
-    W: TValue,
-    B: RadixNode<K, W>,
-    T: Build<K, V>,
-    F: Fn(&W) -> bool,
->(tree: &mut T, that: &B, f: &F) -> Result<(), AllocError>
-    requires asks { (k : List K) → CanJudge F.Fn f.now (lookup K.cmp (B.tree that.now) k) }
-    ensures ok { OnOk result (IsRetained T.keeps (MayJudge F.Fn f.now)
-        (lookup K.cmp (B.tree that.now)) (lookup K.cmp (T.tree tree.old))
-        (lookup K.cmp (T.tree tree.new))) }
-    ensures err { OnErr result (T.tree tree.new ≡ no_tree) }
-    ensures canonical { IsCanonical K.cmp (T.tree tree.new) }
-{
-    let op = Sift {
-        judge: f,
-        covered: false,
-        retains: true,
+        retains,
     };
     lessen(tree, that, &op)
 }

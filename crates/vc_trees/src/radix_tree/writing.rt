@@ -392,7 +392,7 @@ pub trait AbstractRadixTreeMut<K: TKey, V: TValue>: CloneTree<K, V> + AbstractRa
         ensures err { OnErr result (Self.tree self.new ≡ no_tree) }
         ensures canonical { IsCanonical K.cmp (Self.tree self.new) }
     {
-        combining::remove_prefix_with(self, that, &f)
+        combining::sift_prefixes(self, that, false, &f)
     }
 
     /// Keeps exactly the keys that the other tree covers: of its keys that are prefixes of a key
@@ -415,7 +415,7 @@ pub trait AbstractRadixTreeMut<K: TKey, V: TValue>: CloneTree<K, V> + AbstractRa
         ensures err { OnErr result (Self.tree self.new ≡ no_tree) }
         ensures canonical { IsCanonical K.cmp (Self.tree self.new) }
     {
-        combining::retain_prefix_with(self, that, &f)
+        combining::sift_prefixes(self, that, true, &f)
     }
 }
 
