@@ -250,142 +250,114 @@ fn join(
     left.clone()
 }
 
-/// A join of two maps, whose keys are marked `a` and `b`, what it makes, and at which keys it asks.
+/// The kind of a join, what is answered, what it makes, and at which keys it asks.
+type Row = (JoinKind, Answer, &'static [(u32, char, u32)], u64);
+
+/// Two maps, whose keys are marked `a` and `b`, and their joins.
 #[derive(Clone, Copy)]
-struct Row {
-    kind: JoinKind,
-    answer: Answer,
+struct Case {
     left: &'static [(u32, u32)],
     right: &'static [(u32, u32)],
-    made: &'static [(u32, char, u32)],
-    keys: u64,
+    joins: &'static [Row],
 }
 
-const ROWS: [Row; 13] = [
-    Row {
-        kind: JoinKind::Outer,
-        answer: Answer::Sum,
+const CASES: [Case; 6] = [
+    Case {
         left: &[(1, 10), (2, 20)],
         right: &[(2, 5), (3, 7)],
-        made: &[(1, 'a', 10), (2, 'a', 25), (3, 'b', 7)],
-        keys: 102031,
+        joins: &[
+            (
+                JoinKind::Outer,
+                Answer::Sum,
+                &[(1, 'a', 10), (2, 'a', 25), (3, 'b', 7)],
+                102031,
+            ),
+            (JoinKind::Left, Answer::SumOfBoth, &[(2, 'a', 25)], 1020),
+            (
+                JoinKind::Right,
+                Answer::Right,
+                &[(2, 'a', 5), (3, 'b', 7)],
+                2031,
+            ),
+            (
+                JoinKind::Right,
+                Answer::Sum,
+                &[(2, 'a', 25), (3, 'b', 7)],
+                2031,
+            ),
+            (JoinKind::Inner, Answer::Left, &[(2, 'a', 20)], 20),
+        ],
     },
-    Row {
-        kind: JoinKind::Left,
-        answer: Answer::SumOfBoth,
-        left: &[(1, 10), (2, 20)],
-        right: &[(2, 5), (3, 7)],
-        made: &[(2, 'a', 25)],
-        keys: 1020,
-    },
-    Row {
-        kind: JoinKind::Right,
-        answer: Answer::Right,
-        left: &[(1, 10), (2, 20)],
-        right: &[(2, 5), (3, 7)],
-        made: &[(2, 'a', 5), (3, 'b', 7)],
-        keys: 2031,
-    },
-    Row {
-        kind: JoinKind::Right,
-        answer: Answer::Sum,
-        left: &[(1, 10), (2, 20)],
-        right: &[(2, 5), (3, 7)],
-        made: &[(2, 'a', 25), (3, 'b', 7)],
-        keys: 2031,
-    },
-    Row {
-        kind: JoinKind::Inner,
-        answer: Answer::Left,
-        left: &[(1, 10), (2, 20)],
-        right: &[(2, 5), (3, 7)],
-        made: &[(2, 'a', 20)],
-        keys: 20,
-    },
-    Row {
-        kind: JoinKind::Outer,
-        answer: Answer::Right,
+    Case {
         left: &[(1, 1), (2, 3)],
         right: &[(1, 2), (3, 4)],
-        made: &[(1, 'a', 2), (2, 'a', 3), (3, 'b', 4)],
-        keys: 102031,
+        joins: &[
+            (
+                JoinKind::Outer,
+                Answer::Right,
+                &[(1, 'a', 2), (2, 'a', 3), (3, 'b', 4)],
+                102031,
+            ),
+            (JoinKind::Inner, Answer::Left, &[(1, 'a', 1)], 10),
+        ],
     },
-    Row {
-        kind: JoinKind::Inner,
-        answer: Answer::Left,
-        left: &[(1, 1), (2, 3)],
-        right: &[(1, 2), (3, 4)],
-        made: &[(1, 'a', 1)],
-        keys: 10,
-    },
-    Row {
-        kind: JoinKind::Outer,
-        answer: Answer::Sum,
+    Case {
         left: &[(1, 1)],
         right: &[(1, 2)],
-        made: &[(1, 'a', 3)],
-        keys: 10,
+        joins: &[(JoinKind::Outer, Answer::Sum, &[(1, 'a', 3)], 10)],
     },
-    Row {
-        kind: JoinKind::Inner,
-        answer: Answer::Left,
+    Case {
         left: &[(1, 1)],
         right: &[(2, 2)],
-        made: &[],
-        keys: 0,
+        joins: &[(JoinKind::Inner, Answer::Left, &[], 0)],
     },
-    Row {
-        kind: JoinKind::Outer,
-        answer: Answer::Sum,
+    Case {
         left: &[],
         right: &[],
-        made: &[],
-        keys: 0,
+        joins: &[(JoinKind::Outer, Answer::Sum, &[], 0)],
     },
-    Row {
-        kind: JoinKind::Outer,
-        answer: Answer::Sum,
+    Case {
         left: &[(2, 6)],
         right: &[(1, 7), (3, 8), (4, 9)],
-        made: &[(1, 'b', 7), (2, 'a', 6), (3, 'b', 8), (4, 'b', 9)],
-        keys: 11203141,
-    },
-    Row {
-        kind: JoinKind::Right,
-        answer: Answer::Right,
-        left: &[(2, 6)],
-        right: &[(1, 7), (3, 8), (4, 9)],
-        made: &[(1, 'b', 7), (3, 'b', 8), (4, 'b', 9)],
-        keys: 113141,
-    },
-    Row {
-        kind: JoinKind::Left,
-        answer: Answer::SumOfBoth,
-        left: &[(2, 6)],
-        right: &[(1, 7), (3, 8), (4, 9)],
-        made: &[],
-        keys: 20,
+        joins: &[
+            (
+                JoinKind::Outer,
+                Answer::Sum,
+                &[(1, 'b', 7), (2, 'a', 6), (3, 'b', 8), (4, 'b', 9)],
+                11203141,
+            ),
+            (
+                JoinKind::Right,
+                Answer::Right,
+                &[(1, 'b', 7), (3, 'b', 8), (4, 'b', 9)],
+                113141,
+            ),
+            (JoinKind::Left, Answer::SumOfBoth, &[], 20),
+        ],
     },
 ];
 
 /// Whether the call makes the map of the row, and asks once at each key that it asks at, in
 /// ascending order.
-fn agrees(alloc: Global, way: Way, row: Row) -> Result<bool, AllocError> {
+fn agrees(alloc: Global, way: Way, case: Case, row: Row) -> Result<bool, AllocError> {
+    let (kind, answer, pairs, keys) = row;
     let asked = Asked {
-        answer: row.answer,
+        answer,
         keys: Cell::new(0),
     };
-    let mut left: Map = map_of(alloc, 'a', row.left)?;
-    let right: Map = map_of(alloc, 'b', row.right)?;
-    let made = join(alloc, way, row.kind, &mut left, &right, &asked)?;
-    Ok(has(made.as_ref(), row.made) && asked.keys.get() == row.keys)
+    let mut left: Map = map_of(alloc, 'a', case.left)?;
+    let right: Map = map_of(alloc, 'b', case.right)?;
+    let made = join(alloc, way, kind, &mut left, &right, &asked)?;
+    Ok(has(made.as_ref(), pairs) && asked.keys.get() == keys)
 }
 
 #[test]
 fn joins_ask_once_a_key_and_make_what_was_worked_out(rt: HostRuntime) {
-    for row in ROWS {
-        for way in WAYS {
-            holds(&rt, &(way, row.made), agrees(rt.alloc(), way, row));
+    for case in CASES {
+        for row in case.joins {
+            for way in WAYS {
+                holds(&rt, &(way, row.2), agrees(rt.alloc(), way, case, *row));
+            }
         }
     }
 }
