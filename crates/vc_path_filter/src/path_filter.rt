@@ -85,12 +85,13 @@ impl<K: TKey + MadeWith<Global>> PathFilter<K> {
         self.set(path, false)
     }
 
-    /// Takes the rule of a path out, and answers what it said, or none where the path had no rule of
-    /// its own. The path and what lies below it are then decided by what longer and shorter rules
-    /// say.
+    /// Takes the rule of a path out, and answers what it said, or none where the path had no rule
+    /// of its own. The path and what lies below it are then decided by what longer and shorter
+    /// rules say.
     ///
-    /// A path without a rule costs the look-up alone, and takes no memory. Fails only where memory
-    /// is refused; each path then has the rule that it had.
+    /// Compares as often as `remove` of a tree. A path without a rule costs the look-up alone, and
+    /// takes no memory. Fails only where memory is refused; each path then has the rule that it
+    /// had.
     pub fn remove(&mut self, path: &[K]) -> Result<Option<bool>, AllocError>
         ensures old { IfOk result (λ rule. rule ≡ lookup K.cmp self.old path.now) }
         ensures ok { OnOk result (IsWithout K.cmp (λ v w. v ≡ w) path.now (lookup K.cmp self.old)
