@@ -3,24 +3,23 @@
 --     known-within        what is known to agree lies before the place
 --     splits-lower, splits-higher, grown-from        how the node is split there, and how it has grown
 --     agree-one        a child that begins as a key agrees with it in one component
---     behind-whole, behind-parted        what is left of the key behind the prefix
-use Rattle.std.proofs.Common.{◌≡◌, ◌≢◌, ℕ, suc, ◌-◌, ◌<◌, ◌≤◌, [], ◌∷◌, ◌++◌, List, None}
-use Rattle.std.proofs.Common.{Some, refl, sym, ap, subst, ◌∙◌, arith, take, drop, length, length-drop, true}
-use Rattle.std.proofs.Common.{false}
+--     behind-shorter, behind-unlike, behind-whole        what is left of the key behind the prefix
+use Rattle.std.proofs.Common.{◌≡◌, ℕ, suc, ◌-◌, ◌<◌, ◌≤◌, [], ◌∷◌, ◌++◌, List, None}
+use Rattle.std.proofs.Common.{Some, sym, ap, subst, ◌∙◌, arith, take, drop, length, length-drop, true}
+use Rattle.std.proofs.Common.{false, get_or}
 use Rattle.std.proofs.lemmas.List.{take-take, take_all, take-append-drop}
 use Rattle.std.specs.Cmp.{IsTotalOrder}
 use Rattle.std.specs.Ordering.{is_eq}
 use Rattle.std.specs.Prelude.{slice_get}
 use Rattle.std.specs.declared.cmp.Ordering.{Ordering}
 use Rattle.std.specs.declared.cmp.Ordering.TheVariants.{Less, Greater}
-use Rattle.vc_tree_nodes.specs.declared.parting.Parting.{Parting}
-use Rattle.vc_tree_nodes.specs.declared.parting.Parting.TheVariants.{Behind, Inside, Lower, Higher}
 use Rattle.vc_tree_model.specs.Key.{same_key, behind}
 use Rattle.vc_tree_model.specs.Tree.{Tree}
 use Rattle.vc_tree_model.specs.Canonical.{IsSolid}
 use Rattle.vc_tree_nodes.specs.Growth.{IsBranch, IsGrown}
-use Rattle.vc_tree_nodes.specs.Parting.{Agree, PartsAt, IsParting, SplitsAt}
+use Rattle.vc_tree_nodes.specs.Parting.{Agree, PartsAt, SplitsAt}
 use Rattle.vc_tree_model.proofs.KeyLemmas.{none-some, both-true, same-itself}
+use Rattle.vc_tree_nodes.proofs.PartingLemmas.{get-at}
 
 -- what is left of a list, copied from the slice of it
 drop-all : {X : Type 0} (xs : List X) (n : ℕ) → take (length xs - n) (drop n xs) ≡ drop n xs
@@ -103,20 +102,20 @@ module _ {K : Type 0} (cmp : K → K → Ordering) where
   none-parted (a ∷ p) (b ∷ k) (suc n) x y d e h = grind (arith, none-parted p k n x y)
   none-parted p k n x y d e h = grind arith
 
-  -- the rest of the key, copied from the slice of it
-  pub behind-whole : (p key : List K) → Agree cmp p key (length p)
-      → Some (take (length key - length p) (drop (length p) key)) ≡ behind cmp p key
-  behind-whole p key a = grind (arith, drop-all, left-whole)
+  -- nothing is left of a shorter key
+  pub behind-shorter : (p key : List K) → length key < length p → None ≡ behind cmp p key
+  behind-shorter p key h = sym (none-longer p key h)
 
-  -- nothing is left where the key parts from the prefix
-  pub behind-parted : (p key : List K) (parting : Parting) → IsParting cmp p key parting → parting ≢ Behind
-      → None ≡ behind cmp p key
-  behind-parted p key Behind a h = absurd (h refl)
-  behind-parted p key (Inside n) a h = grind (arith, none-longer)
-  behind-parted p key (Lower n) s h =
-      sym (none-parted p key n s.old s.new s.old_at s.new_at (ap is_eq s.ordered))
-  behind-parted p key (Higher n) s h =
-      sym (none-parted p key n s.old s.new s.old_at s.new_at (ap is_eq s.ordered))
+  -- nothing is left where components at one place are not equal
+  pub behind-unlike : (p key : List K) (n : ℕ) (x y : K) → n < length p → length p ≤ length key → x ≡ get_or p n x
+      → y ≡ get_or key n y → is_eq (cmp x y) ≡ false → None ≡ behind cmp p key
+  behind-unlike p key n x y h l d e c =
+      sym (none-parted p key n x y (get-at p n x h d) (get-at key n y (omega (arith, h, l)) e) c)
+
+  -- the rest of the key, copied from the slice of it, where the whole prefix agrees
+  pub behind-whole : (p key : List K) (n : ℕ) → length p ≤ n → Agree cmp p key n
+      → Some (take (length key - length p) (drop (length p) key)) ≡ behind cmp p key
+  behind-whole p key n h a = grind (arith, drop-all, left-whole)
 
   module _ {V : Type 0} where
     -- the prefix goes on with a lesser component: the leaf comes after the half below

@@ -2,8 +2,10 @@
 --     get-at        the element that an index reads
 --     agree-more, parts-here        one more component agrees, or doesn't
 --     ticked-one        a tick counts at most one
+--     equal-unless, unequal        components are equal or unlike
 use Rattle.std.proofs.Common.{◌≡◌, ℕ, suc, ◌+◌, ◌<◌, ◌≤◌, ◌∷◌, take, List, length, get_or, Some}
-use Rattle.std.proofs.Common.{arith, true}
+use Rattle.std.proofs.Common.{arith, true, false}
+use Rattle.std.specs.Ordering.{is_eq, is_ne}
 use Rattle.std.specs.Prelude.{slice_get}
 use Rattle.std.specs.declared.cmp.Ordering.{Ordering}
 use Rattle.std.specs.declared.cmp.Ordering.TheVariants.{Equal}
@@ -19,6 +21,14 @@ get-at xs i x h e = grind arith
 -- a tick counts at most one
 pub ticked-one : (new old : ℕ) → new ≡ ticked old → new ≤ old + 1
 ticked-one new old e = grind arith
+
+-- what is not unlike is equal
+pub equal-unless : (order : Ordering) → is_ne order ≡ false → order ≡ Equal
+equal-unless order e = grind arith
+
+-- what is unlike is not equal
+pub unequal : (order : Ordering) → is_ne order ≡ true → is_eq order ≡ false
+unequal order e = grind arith
 
 module _ {K : Type 0} (cmp : K → K → Ordering) where
   -- keys that agree up to a place, and there too

@@ -10,13 +10,15 @@ ghost use Rattle.vc_tree_model.specs.Sized.{beside, sized};
 ghost use Rattle.vc_tree_model.specs.Tree.{width};
 ghost use Rattle.vc_tree_nodes.specs.Parting.{Agree};
 
-use crate::parting::{Parting, find_parting};
 use crate::places::child_at;
 use crate::reading::{RadixNode, TKey, TValue};
 use vc_merge::merge::{Count, Uncounted};
 
 /// What is left of the key behind the prefix, if the key starts with it. The first `known`
 /// components of both are known to agree.
+///
+/// A key that is shorter than the prefix is not compared: so a turn of the loop asks for one end,
+/// and for `equal or not` alone.
 fn rest_behind<'k, K: Ord, C: Count>(
     prefix: &[K],
     key: &'k [K],
@@ -28,10 +30,18 @@ fn rest_behind<'k, K: Ord, C: Count>(
     ensures counted { C.counted steps.new
         ≤ C.counted steps.old + (min (length prefix.now) (length key.now) - known) }
 {
-    match find_parting(prefix, key, known, steps) {
-        Parting::Behind => Some(&key[prefix.len()..]),
-        _ => None,
+    if key.len() < prefix.len() {
+        return None;
     }
+    let mut n = known;
+    while n < prefix.len() {
+        steps.tick();
+        if prefix[n].cmp(&key[n]).is_ne() {
+            return None;
+        }
+        n += 1;
+    }
+    Some(&key[prefix.len()..])
 }
 
 /// The value that the tree binds the key to.

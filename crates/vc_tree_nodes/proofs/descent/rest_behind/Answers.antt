@@ -1,11 +1,29 @@
--- The rest of the key is left where the whole prefix agrees, and else nothing.
-use Rattle.vc_tree_nodes.proofs.Parted.{behind-whole, behind-parted}
+-- One more component agrees, or nothing is left; and where none is left of the prefix, what is left of the key.
+use Rattle.std.proofs.Common.{ap, sym, ◌∙◌, arith}
+use Rattle.std.specs.Ordering.{is_eq}
+use Rattle.vc_tree_nodes.proofs.Parted.{behind-shorter, behind-unlike, behind-whole}
+use Rattle.vc_tree_nodes.proofs.PartingLemmas.{agree-more, equal-unless, ticked-one, unequal}
 use Rattle.vc_tree_nodes.proofs.descent.rest_behind.Goals as goal
 
-pub returns-in-Behind-clause-rest : goal.returns-in-Behind-clause-rest
-returns-in-Behind-clause-rest g c = behind-whole g.K.Ord.cmp c.args.prefix.now c.args.key.now c.in-Behind.ensures.is
+pub returns-then-key-prefix-clause-rest : goal.returns-then-key-prefix-clause-rest
+returns-then-key-prefix-clause-rest g c = behind-shorter g.K.Ord.cmp c.args.prefix.now c.args.key.now c.if-key-prefix.true
 
-pub returns-in_default-clause-rest : goal.returns-in_default-clause-rest
-returns-in_default-clause-rest g c =
-    behind-parted g.K.Ord.cmp c.args.prefix.now c.args.key.now c.find_parting.result c.find_parting.ensures.is
-    c.in_default.not-Behind
+pub returns-then-is_ne-clause-rest : goal.returns-then-is_ne-clause-rest
+returns-then-is_ne-clause-rest g c =
+    behind-unlike g.K.Ord.cmp c.args.prefix.now c.args.key.now c.loop-n.n c.index-prefix-n.result c.index-key-n.result
+    c.loop-n-test.true c.if-key-prefix.false c.index-prefix-n.is c.index-key-n.is
+    (ap is_eq (sym c.cmp.ensures) ∙ unequal _ (sym c.is_ne.ensures ∙ c.if-is_ne.true))
+
+pub loop-n-preserved : goal.loop-n-preserved
+loop-n-preserved g c =
+    let one = ticked-one _ _ c.tick.ensures in (
+      agree-more g.K.Ord.cmp c.args.prefix.now c.args.key.now c.loop-n.n c.index-prefix-n.result c.index-key-n.result
+          c.loop-n.invariant.0 c.loop-n-test.true (omega (arith, c.loop-n-test.true, c.if-key-prefix.false))
+          c.index-prefix-n.is c.index-key-n.is (sym c.cmp.ensures ∙ equal-unless _ (sym c.is_ne.ensures ∙ c.if-is_ne.false)),
+      omega (arith, c.loop-n.invariant.1),
+      omega (arith, one, c.loop-n.invariant.2),
+    )
+
+pub returns-clause-rest : goal.returns-clause-rest
+returns-clause-rest g c =
+    behind-whole g.K.Ord.cmp c.args.prefix.now c.args.key.now c.loop-n.n c.loop-n-test.false c.loop-n.invariant.0
