@@ -1,6 +1,8 @@
 //! Walks from outside: the walks of one tree beside each other, their steps, and the keys that they
 //! give.
-ghost use Rattle.std.specs.Prelude.{◌≡◌, ℕ, List, None, IfOk, IsSome, MatchOption, length, map};
+ghost use Rattle.std.specs.Prelude.{◌≡◌, ◌+◌, ◌-◌, ◌^◌, ℕ, List, None, IfOk, IsSome, MatchOption};
+ghost use Rattle.std.specs.Prelude.{length, map, max, min};
+ghost use Rattle.std.specs.List.{fold};
 ghost use Rattle.std.specs.Ordering.{nat_cmp};
 ghost use Rattle.vec_collections.specs.Ends.{IsGreatestPair, IsLeastPair};
 ghost use Rattle.vec_collections.specs.IterLeft.{pairs_left};
@@ -9,7 +11,7 @@ ghost use Rattle.vec_collections.specs.Map.{lookup};
 ghost use Rattle.vec_collections.specs.OwnedLeft.{held_left, WalksClones};
 ghost use Rattle.vec_collections.specs.Under.{under};
 ghost use Rattle.vec_collections.specs.ValuesLeft.{values_left};
-ghost use Rattle.vec_collections.specs.Walk.{IsWalk};
+ghost use Rattle.vec_collections.specs.Walk.{IsWalk, walk};
 
 use std::alloc::AllocError;
 use vec_collections::radix_tree::{
@@ -100,4 +102,24 @@ pub fn last_name<T: AbstractRadixTree<u8, u32>>(ports: &T) -> Result<Option<Vec<
         (λ name. IsSome (port_of name.items))) }
 {
     Ok(ports.last_key_value()?.map(|(name, _)| name))
+}
+
+/// How many letters the names of all servers have, up to the greatest number.
+pub fn letters_of_names<T: AbstractRadixTree<u8, u32>>(ports: &T) -> Result<usize, AllocError>
+    ensures { IfOk result (λ letters. letters
+        ≡ fold (λ sum b. min (sum + length b.0) (2 ^ 64 - 1)) 0 (walk (T.tree ports.now))) }
+{
+    ports.fold(0usize, |sum, name, _| Ok(sum.saturating_add(name.len())))
+}
+
+/// The greatest port below a folder, and 0 where there is none.
+pub fn greatest_port_below<T: AbstractRadixTree<u8, u32>>(
+    ports: &T,
+    folder: &[u8],
+) -> Result<u32, AllocError>
+    ensures { IfOk result (λ port. (l : _)
+        × IsWalk nat_cmp (under nat_cmp (lookup nat_cmp (T.tree ports.now)) folder.now) l
+        × (port ≡ fold (λ most b. max most b.1) 0 l)) }
+{
+    ports.fold_prefix(folder, 0u32, |most, _, port| Ok(most.max(*port)))
 }

@@ -5,6 +5,7 @@ use super::outcomes::{holds, reads, same};
 use super::questions::always;
 use super::tests::{Counted, Tally};
 use std::alloc::{AllocError, Global};
+use std::cell::Cell;
 use std::test::Fail;
 use vc_trees::radix_tree::{
     AbstractRadixTree, AbstractRadixTreeMut, ArcRadixTree, Iter, IterKey, ObjAndIter, RadixTree,
@@ -63,6 +64,29 @@ fn print_held<T: AbstractRadixTree<u8, u32> + Drop>(
         let (key, value) = item?;
         put_pair(&mut text, key.as_ref(), value)?;
     }
+    Ok(text)
+}
+
+/// The pairs that a fold is shown.
+fn print_folded<T: AbstractRadixTree<u8, u32>>(
+    alloc: Global,
+    tree: &T,
+) -> Result<String, AllocError> {
+    tree.fold(String::new(alloc), print_next)
+}
+
+/// The pairs that a fold over a folder is shown.
+fn print_folded_under<T: AbstractRadixTree<u8, u32>>(
+    alloc: Global,
+    tree: &T,
+    folder: &str,
+) -> Result<String, AllocError> {
+    tree.fold_prefix(folder.as_bytes(), String::new(alloc), print_next)
+}
+
+/// The text with one more pair.
+fn print_next(mut text: String, key: &[u8], value: &u32) -> Result<String, AllocError> {
+    put_pair(&mut text, key, *value)?;
     Ok(text)
 }
 
@@ -134,6 +158,19 @@ fn gives_values<T: AbstractRadixTree<u8, u32>>(
     Ok(text.as_str() == values)
 }
 
+/// Whether folds over a tree, and over what lies below a prefix, are printed so.
+fn folds<T: AbstractRadixTree<u8, u32>>(
+    alloc: Global,
+    tree: &T,
+    all: &str,
+    prefix: &str,
+    under: &str,
+) -> Result<bool, AllocError> {
+    let whole = print_folded(alloc, tree)?;
+    let part = print_folded_under(alloc, tree, prefix)?;
+    Ok(whole.as_str() == all && part.as_str() == under)
+}
+
 /// Whether the walk that holds a tree is printed so.
 fn gives_held<T: AbstractRadixTreeMut<u8, u32>>(
     alloc: Global,
@@ -152,7 +189,8 @@ fn walks_row<T: AbstractRadixTreeMut<u8, u32>>(
     let tree = tree_of::<T>(alloc, keys)?;
     let are_right = gives(alloc, tree.iter(), all)?
         && gives(alloc, tree.scan_prefix(prefix.as_bytes()), under)?
-        && gives_values(alloc, &tree, values)?;
+        && gives_values(alloc, &tree, values)?
+        && folds(alloc, &tree, all, prefix, under)?;
     Ok(are_right && gives_held(alloc, tree, all)?)
 }
 
@@ -170,6 +208,54 @@ fn walks_ascend(rt: HostRuntime) {
             walks_row::<ArcRadixTree<u8, u32>>(rt.alloc(), row),
         );
     }
+}
+
+/// Why a fold ends early.
+#[derive(Clone, Copy, Debug, PartialEq, Eq)]
+enum Ended {
+    Refused,
+    After(u32),
+}
+
+impl From<AllocError> for Ended {
+    fn from(_: AllocError) -> Ended {
+        Ended::Refused
+    }
+}
+
+/// Adds up the values of a tree in the order of their keys, up to one that is 3, and counts how
+/// often the closure was asked.
+fn sum_before_three<T: AbstractRadixTreeMut<u8, u32>>(
+    alloc: Global,
+    asked: &Cell<u32>,
+) -> Result<u32, Ended> {
+    let tree = tree_of::<T>(alloc, &["b", "a", "ab", "abc"])?;
+    tree.fold(0u32, |sum, _, value| {
+        asked.set(asked.get().saturating_add(1));
+        match *value {
+            3 => Err(Ended::After(sum)),
+            _ => Ok(sum.saturating_add(*value)),
+        }
+    })
+}
+
+#[test]
+fn an_error_ends_a_fold(rt: HostRuntime) {
+    let asked = Cell::new(0);
+    let plain = sum_before_three::<RadixTree<u8, u32>>(rt.alloc(), &asked);
+    same(
+        &rt,
+        &"plain",
+        &(plain, asked.get()),
+        &(Err(Ended::After(2)), 2),
+    );
+    let shared = sum_before_three::<ArcRadixTree<u8, u32>>(rt.alloc(), &asked);
+    same(
+        &rt,
+        &"shared",
+        &(shared, asked.get()),
+        &(Err(Ended::After(2)), 4),
+    );
 }
 
 #[test]

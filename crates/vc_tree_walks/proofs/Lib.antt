@@ -6,3 +6,4 @@ pub mod WholeWalks
 pub mod Filtered
 pub mod KeyCounts
 pub mod EndPairs
+pub mod Folds

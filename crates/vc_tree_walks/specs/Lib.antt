@@ -4,3 +4,4 @@ pub mod ValuesLeft
 pub mod OwnedLeft
 pub mod Ends
 pub mod Towards
+pub mod Folding

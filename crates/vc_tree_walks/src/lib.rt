@@ -6,6 +6,7 @@
 pub mod counting;
 pub mod ends;
 pub mod filtering;
+pub mod folding;
 pub mod iter;
 pub mod key;
 pub mod owned;

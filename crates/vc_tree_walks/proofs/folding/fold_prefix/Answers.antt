@@ -1,0 +1,20 @@
+-- The walk of what `find_under` finds.
+use Rattle.std.proofs.Common.{◌≡◌, ◌++◌, ◌∙◌, ap, sym, subst, map}
+use Rattle.vc_tree_model.specs.Map.{lookup}
+use Rattle.vc_tree_model.specs.Under.{under}
+use Rattle.vc_tree_model.specs.Walk.{IsWalk, prepended, walk}
+use Rattle.vc_tree_walks.specs.IterLeft.{pairs_from}
+use Rattle.vc_tree_walks.proofs.Folds.{walked}
+use Rattle.vc_tree_walks.proofs.folding.fold_prefix.Goals as goal
+
+pub returns : goal.returns
+returns g c =
+    let binds = under g.K.Ord.cmp (lookup g.K.Ord.cmp (g.T.RadixNode.tree c.args.tree.now)) c.args.prefix.now in
+    let w = walk (g.T.RadixNode.tree c.in-Some.node.now) in
+    let front : c.extend_from_slice.new.self.items ≡ c.in-Some.front.now =
+    c.in_ok-extend_from_slice.ensures.items ∙ ap (λ k. k ++ c.in-Some.front.now) c.new-key.ensures.items in
+    let found = ap (pairs_from g.T.RadixNode.tree) c.in-Some.is ∙ ap (λ k. map (prepended k) w) (sym front) in
+    record {
+      folded = walked g.F.Fn c.args.turn.now (IsWalk g.K.Ord.cmp binds) _ c.args.init c.fold_node.result
+          (subst (IsWalk g.K.Ord.cmp binds) found c.find_under.ensures) c.fold_node.ensures.folded;
+    }
