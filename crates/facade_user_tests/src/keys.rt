@@ -10,7 +10,8 @@ ghost use Rattle.vec_collections.specs.KeySets.{AreDisjoint, HasKeysOf, LacksKey
 ghost use Rattle.vec_collections.specs.Map.{lookup, IsEqualMap};
 ghost use Rattle.vec_collections.specs.Same.{IsAlike};
 ghost use Rattle.vec_collections.specs.Tree.{key_count, width};
-ghost use Rattle.vec_collections.specs.TreePairs.{IsCollected};
+ghost use Rattle.vec_collections.specs.TreePairs.{IsCollected, last_bound};
+ghost use Rattle.vec_collections.specs.Value.{Copies};
 
 use crate::trees::{Ports, SharedPorts};
 use std::alloc::{AllocError, Global};
@@ -131,6 +132,30 @@ pub fn of_names<'a>(alloc: Global, entries: Vec<(&'a [u8], u32)>) -> Result<Port
     ensures { IfOk result (IsCollected nat_cmp (map (λ b. (b.0.now, b.1)) entries.entry.items)) }
 {
     RadixTree::from_iter(alloc, entries.into_iter())
+}
+
+/// The ports of a list, of which snapshots can be kept. A port that is cloned is the same number.
+pub fn of_entries_shared(
+    alloc: Global,
+    entries: Vec<(Vec<u8>, u32)>,
+) -> Result<SharedPorts, AllocError>
+    ensures { IfOk result (λ ports. IsEqualMap (λ v w. v ≡ w)
+        (last_bound nat_cmp (map (λ b. (b.0.items, b.1)) entries.items))
+        (lookup nat_cmp ports)) }
+{
+    ArcRadixTree::from_vecs(alloc, entries.into_iter())
+}
+
+/// The same of a list that lends the names. What a port is cloned to is not asked.
+pub fn of_names_shared<'a>(
+    alloc: Global,
+    entries: Vec<(&'a [u8], u32)>,
+) -> Result<SharedPorts, AllocError>
+    ensures { IfOk result (λ ports. IsEqualMap (Copies (λ x y. y ≡ x))
+        (last_bound nat_cmp (map (λ b. (b.0.now, b.1)) entries.entry.items))
+        (lookup nat_cmp ports)) }
+{
+    ArcRadixTree::from_iter(alloc, entries.into_iter())
 }
 
 /// The trees below the root.

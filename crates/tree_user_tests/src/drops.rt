@@ -21,13 +21,14 @@ enum Call {
     SplitBelow,
     Slices,
     Shared,
+    InShared,
     Walk,
     HalfWalk,
     Run,
     Restrict,
 }
 
-const CALLS: [Call; 9] = [
+const CALLS: [Call; 10] = [
     Call::Leaf,
     Call::Single,
     Call::Insert,
@@ -36,6 +37,7 @@ const CALLS: [Call; 9] = [
     Call::SplitBelow,
     Call::Slices,
     Call::Shared,
+    Call::InShared,
     Call::Restrict,
 ];
 
@@ -54,14 +56,25 @@ fn collect_slices<'a>(alloc: Global, tally: &'a Tally) -> Result<(), AllocError>
     Ok(())
 }
 
-/// The tree of the pairs by lists, which is then shared.
-fn collect_shared<'a>(alloc: Global, tally: &'a Tally) -> Result<(), AllocError> {
+/// The pairs, with their keys as lists.
+fn lists<'a>(alloc: Global, tally: &'a Tally) -> Result<Vec<(Vec<u8>, Counted<'a>)>, AllocError> {
     let mut lists = Vec::new(alloc);
     for (key, number) in PAIRS {
         lists.push((key.as_bytes().to_vec(alloc)?, Counted::new(number, tally)))?;
     }
-    let tree = RadixTree::from_vecs(alloc, lists.into_iter())?;
+    Ok(lists)
+}
+
+/// The tree of the pairs by lists, which is then shared.
+fn collect_shared<'a>(alloc: Global, tally: &'a Tally) -> Result<(), AllocError> {
+    let tree = RadixTree::from_vecs(alloc, lists(alloc, tally)?.into_iter())?;
     let _shared = ArcRadixTree::from_radix_tree(tree)?;
+    Ok(())
+}
+
+/// The shared tree of the pairs by lists.
+fn collect_in_shared<'a>(alloc: Global, tally: &'a Tally) -> Result<(), AllocError> {
+    let _tree = ArcRadixTree::from_vecs(alloc, lists(alloc, tally)?.into_iter())?;
     Ok(())
 }
 
@@ -117,6 +130,7 @@ fn make_on<'a, T: AbstractRadixTreeMut<u8, Counted<'a>>>(
         Call::RemoveBelow => tree.remove_below(b"ab"),
         Call::Slices => collect_slices(alloc, tally),
         Call::Shared => collect_shared(alloc, tally),
+        Call::InShared => collect_in_shared(alloc, tally),
         Call::Run => obey(alloc, tree, tally),
         Call::Restrict => restrict(alloc, tree),
         Call::Leaf => {

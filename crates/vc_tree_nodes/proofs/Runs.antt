@@ -4,6 +4,7 @@
 --     group-run, group-within, group-rest, group-below        a group, and the keys behind it
 --     group-found, least-new, least-stays        how a group and the least number in common are found
 --     last-front, keep-grows, keep-binds, yielded-more        pairs that are kept
+--     gathered-whole, kept-exactly        what all pairs bind
 use Rattle.std.proofs.Common.{◌≡◌, ℕ, zero, suc, ◌+◌, ◌-◌, ◌<◌, ◌≤◌, [], ◌∷◌, ◌++◌, List, inl, inr, Option, None}
 use Rattle.std.proofs.Common.{Some, Bool, refl, sym, ap, subst, ◌∙◌, arith, take, drop, length, map, true, false}
 use Rattle.std.proofs.Common.{true≢false, cond, get_or, length-drop, length-append}
@@ -15,11 +16,13 @@ use Rattle.std.specs.declared.cmp.Ordering.{Ordering}
 use Rattle.std.specs.declared.cmp.Ordering.TheVariants.{Less}
 use Rattle.vc_tree_model.specs.Key.{same_key, BeginsBelow}
 use Rattle.vc_tree_model.specs.Tree.{Tree, Forest, bare, grow, node}
-use Rattle.vc_tree_model.specs.Map.{or_else, lookup, IsUpdated}
+use Rattle.vc_tree_model.specs.Map.{or_else, lookup, IsUpdated, IsEqualMap}
+use Rattle.vc_tree_model.specs.Value.{IsKept}
+use Rattle.vc_tree_model.proofs.ValueLemmas.{kept_by, kept-refl, kept-trans, kept-else}
 use Rattle.vc_tree_model.specs.Pairs.{last_bound, IsCollected}
 use Rattle.vc_tree_nodes.specs.Ascending.{Follows, HasCommon, HaveCommon, IsGroup, RunsOn, IsRunBehind, pairs_behind}
 use Rattle.vc_tree_nodes.specs.Ascending.{AllBelow, GoOnBehind, IsGroupOf, HeadAbove, BeginsAs, FirstEnds}
-use Rattle.vc_tree_nodes.specs.Ascending.{IsAscending, FollowsLast, BindsMore, MayGrow, gathered}
+use Rattle.vc_tree_nodes.specs.Ascending.{IsAscending, FollowsLast, BindsMore, KeepsMore, MayGrow, bound_more, gathered}
 use Rattle.vc_tree_nodes.specs.Parting.{Agree, PartsAt}
 use Rattle.std.specs.Prelude.{slice_get, nat_eq, IfSome}
 use Rattle.vc_tree_model.proofs.KeyLemmas.{both-true, same-flip, same-trans}
@@ -469,20 +472,57 @@ module _ {K R V : Type 0} (cmp : K → K → Ordering) (key : R → List K) wher
       → gathered cmp key b run vs t k ≡ None
   none-came b run vs t k e f = grind arith
 
+  -- nor do they keep anything
+  pub none-kept : (keeps : V → V → Type 0) (b : Bool) (run : List R) (vs : List V) (t : Tree K V) (k : List K) → run ≡ []
+      → t ≡ node [] None bare → IsKept keeps None (gathered cmp key b run vs t k)
+  none-kept keeps b run vs t k e f = rw (none-came b run vs t k e f) tt
+
   -- a key that is bound in the tree is one more
-  pub added-binds : (f : List K → Option V) (b : Bool) (run : List R) (vs : List V) (t u : Tree K V) (front k : List K) (v : V)
+  pub added-binds : (keeps : V → V → Type 0) → ((v : V) → keeps v v) → (f : List K → Option V) (b : Bool) (run : List R)
+      (vs : List V) (t u : Tree K V) (front k : List K) (v : V)
       → b ≡ false → ((j : List K) → lookup cmp t j ≡ f j) → front ≡ k
-      → IsUpdated cmp (λ v w. v ≡ w) front v (lookup cmp t) (lookup cmp u)
-      → BindsMore cmp k v f (gathered cmp key b run vs u)
-  added-binds f b run vs t u front k v e h i g j = grind arith
+      → IsUpdated cmp keeps front v (lookup cmp t) (lookup cmp u)
+      → KeepsMore cmp keeps k v f (gathered cmp key b run vs u)
+  added-binds keeps r f b run vs t u front k v e h i g j = grind arith
+
+  -- what the tree binds, where no pairs are kept
+  pub tree-binds : (b : Bool) (run : List R) (vs : List V) (t : Tree K V) → b ≡ false → (k : List K)
+      → lookup cmp t k ≡ gathered cmp key b run vs t k
+  tree-binds b run vs t e k = grind arith
+
+  -- a pair that is kept is one more
+  pub kept-binds : (keeps : V → V → Type 0) → ((v : V) → keeps v v) → (b c : Bool) (run more : List R) (vs left : List V)
+      (t u : Tree K V) (k : List K) (v : V) → b ≡ true → c ≡ true
+      → BindsMore cmp k v (last_bound cmp (pairs_behind key 0 run vs)) (last_bound cmp (pairs_behind key 0 more left))
+      → KeepsMore cmp keeps k v (gathered cmp key b run vs t) (gathered cmp key c more left u)
+  kept-binds keeps r b c run more vs left t u k v e f h j =
+      rw (e, f) (rw (h j) (kept-refl keeps r (bound_more cmp k v (last_bound cmp (pairs_behind key 0 run vs)) j)))
 
 -- one more pair that came
-pub yielded-more : {K S V : Type 0} (cmp : K → K → Ordering) (spell : S → List K) (pairs : List (S × V)) (b : S × V)
-    (f g : List K → Option V)
-    → ((k : List K) → f k ≡ last_bound cmp (map (λ b. (spell b.0, b.1)) pairs) k)
-    → BindsMore cmp (spell b.0) b.1 f g
-    → (k : List K) → g k ≡ last_bound cmp (map (λ b. (spell b.0, b.1)) (pairs ++ b ∷ [])) k
-yielded-more {K} {S} {V} cmp spell pairs b f g h m k =
-    m k ∙ ap (or_else (cond (same_key cmp (spell b.0) k) (Some b.1) None)) (h k)
-    ∙ sym (ap (λ l. last_bound cmp l k) (map-append {B = List K × V} (λ b. (spell b.0, b.1)) pairs (b ∷ []))
-    ∙ bound-parted cmp (map (λ b. (spell b.0, b.1)) pairs) ((spell b.0, b.1) ∷ []) k)
+pub yielded-more : {K S V : Type 0} (cmp : K → K → Ordering) (keeps : V → V → Type 0) → ((v : V) → keeps v v)
+    → ((u v w : V) → keeps u v → keeps v w → keeps u w)
+    → (spell : S → List K) (pairs : List (S × V)) (b : S × V) (f g : List K → Option V)
+    → IsEqualMap keeps (last_bound cmp (map (λ b. (spell b.0, b.1)) pairs)) f
+    → KeepsMore cmp keeps (spell b.0) b.1 f g
+    → IsEqualMap keeps (last_bound cmp (map (λ b. (spell b.0, b.1)) (pairs ++ b ∷ []))) g
+yielded-more {K} {S} {V} cmp keeps r t spell pairs b f g h m k =
+    let came = last_bound cmp (map (λ b. (spell b.0, b.1)) pairs) in
+    let one = cond (same_key cmp (spell b.0) k) (Some b.1) None in
+    let now : last_bound cmp (map (λ b. (spell b.0, b.1)) (pairs ++ b ∷ [])) k ≡ or_else one (came k) =
+    ap (λ l. last_bound cmp l k) (map-append {B = List K × V} (λ b. (spell b.0, b.1)) pairs (b ∷ []))
+    ∙ bound-parted cmp (map (λ b. (spell b.0, b.1)) pairs) ((spell b.0, b.1) ∷ []) k in
+    kept_by keeps (or_else one (came k)) (g k) _ (g k) (sym now) refl
+    (kept-trans keeps t (or_else one (came k)) (or_else one (f k)) (g k)
+    (kept-else keeps one one (came k) (f k) (kept-refl keeps r one) (h k)) (m k))
+
+-- what is the same as what was gathered keeps what came
+pub gathered-whole : {K V : Type 0} (keeps : V → V → Type 0) (came f g : List K → Option V)
+    → IsEqualMap keeps came f → ((k : List K) → g k ≡ f k) → IsEqualMap keeps came g
+gathered-whole keeps came f g h e k = kept_by keeps (came k) (f k) (came k) (g k) refl (sym (e k)) (h k)
+
+-- values that are kept as they are
+pub kept-exactly : {K V : Type 0} (f g : List K → Option V) → IsEqualMap (λ v w. v ≡ w) f g → (k : List K) → g k ≡ f k
+kept-exactly {K} {V} f g h k = by (f k) (g k) (h k)
+  where
+    by : (v w : Option V) → IsKept (λ v w. v ≡ w) v w → w ≡ v
+    by v w h = grind arith

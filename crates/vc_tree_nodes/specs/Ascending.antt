@@ -5,7 +5,7 @@ use Rattle.std.specs.List.{zip}
 use Rattle.std.specs.declared.cmp.Ordering.{Ordering}
 use Rattle.vc_tree_model.specs.Key.{BeginsBelow, same_key}
 use Rattle.vc_tree_model.specs.Tree.{Tree, Forest, bare, grow}
-use Rattle.vc_tree_model.specs.Map.{or_else, lookup, lookup_in}
+use Rattle.vc_tree_model.specs.Map.{or_else, lookup, lookup_in, IsEqualMap}
 use Rattle.vc_tree_model.specs.Pairs.{last_bound, IsCollected}
 use Rattle.vc_tree_model.specs.Canonical.{IsSolid, AreChildren}
 use Rattle.vc_tree_nodes.specs.Parting.{Agree}
@@ -117,6 +117,14 @@ module _ {K R V : Type 0} (cmp : K → K → Ordering) (key : R → List K) wher
   gathered false run values t = lookup cmp t
 
 module _ {K V : Type 0} (cmp : K → K → Ordering) where
+  -- the key is bound to the value, and else to what f binds it to
+  abbrev pub bound_more : List K → V → (List K → Option V) → List K → Option V
+  bound_more key value f k = or_else (if same_key cmp key k then Some value else None) (f k)
+
   -- g binds the key to the value, and else what f binds
   abbrev pub BindsMore : List K → V → (List K → Option V) → (List K → Option V) → Type 0
-  BindsMore key value f g = (k : List K) → g k ≡ or_else (if same_key cmp key k then Some value else None) (f k)
+  BindsMore key value f g = (k : List K) → g k ≡ bound_more key value f k
+
+  -- the same of values that may be kept otherwise
+  abbrev pub KeepsMore : (V → V → Type 0) → List K → V → (List K → Option V) → (List K → Option V) → Type 0
+  KeepsMore keeps key value f g = IsEqualMap keeps (bound_more key value f) g

@@ -5,16 +5,15 @@ ghost use Rattle.std.specs.Prelude.{◌≡◌, false, List, true, length, [], If
 ghost use Rattle.vc_tree_model.specs.Map.{lookup};
 ghost use Rattle.vc_tree_model.specs.Pairs.{IsCollected, last_bound};
 ghost use Rattle.vc_tree_nodes.specs.Ascending.{BindsMore, FollowsLast, IsAscending, MayGrow};
-ghost use Rattle.vc_tree_nodes.specs.Ascending.{gathered};
+ghost use Rattle.vc_tree_nodes.specs.Ascending.{KeepsMore, gathered};
 ghost use Rattle.vc_tree_nodes.specs.Ascending.{pairs_behind};
 
 use crate::ascending::{Step, build_run, common_front};
+use crate::building::{Build, Seal};
 use crate::insertion::insert;
-use crate::plain::RadixTree;
 use crate::reading::{TKey, TValue};
 use crate::spelling::Spelled;
 use std::alloc::{AllocError, Global};
-use std::default::MadeWith;
 use std::marker::PhantomData;
 use std::mem;
 
@@ -31,23 +30,23 @@ pub struct Gathering<K, V, S> {
 }
 
 /// The tree of pairs whose keys ascend.
-fn build<K: TKey + MadeWith<Global>, V: TValue, S: Spelled<K>>(
+fn build<K: TKey, V: TValue, S: Spelled<K>, T: Build<K, V>>(
     alloc: Global,
     run: Vec<Step<S>>,
     values: Vec<V>,
-) -> Result<RadixTree<K, V>, AllocError>
+) -> Result<T, AllocError>
     requires ascends { IsAscending K.cmp (λ s. S.components s.key) (λ s. s.common) run.items }
     requires values { length run.items ≡ length values.items }
-    ensures { IfOk result (IsCollected K.cmp
-        (pairs_behind (λ s. S.components s.key) 0 run.items values.items)) }
+    ensures { IfOk result (λ t. IsCollected K.cmp
+        (pairs_behind (λ s. S.components s.key) 0 run.items values.items) (T.tree t)) }
 {
     if run.is_empty() {
-        return Ok(RadixTree::bare(alloc));
+        return Ok(T::blank(alloc, Seal::new()));
     }
     build_run(alloc, run.as_slice(), 0, &mut values.into_iter())
 }
 
-impl<K: TKey + MadeWith<Global>, V: TValue, S: Spelled<K>> Gathering<K, V, S> {
+impl<K: TKey, V: TValue, S: Spelled<K>> Gathering<K, V, S> {
     /// No pairs. Those that come are kept as long as their keys ascend, or are all inserted.
     pub fn new(alloc: Global, ascends: bool) -> Self
         ensures ascends { result.ascends ≡ ascends }
@@ -63,10 +62,10 @@ impl<K: TKey + MadeWith<Global>, V: TValue, S: Spelled<K>> Gathering<K, V, S> {
     }
 
     /// One more pair, beside a tree of the pairs that are no longer kept.
-    pub fn add(
+    pub fn add<T: Build<K, V>>(
         &mut self,
         alloc: Global,
-        tree: &mut RadixTree<K, V>,
+        tree: &mut T,
         key: S,
         value: V,
     ) -> Result<(), AllocError>
@@ -74,11 +73,11 @@ impl<K: TKey + MadeWith<Global>, V: TValue, S: Spelled<K>> Gathering<K, V, S> {
             self.old.run.items self.old.values.items }
         ensures grows { OnOk result (MayGrow K.cmp (λ s. S.components s.key) (λ s. s.common)
             self.new.ascends self.new.run.items self.new.values.items) }
-        ensures binds { OnOk result (BindsMore K.cmp (S.components key) value
+        ensures binds { OnOk result (KeepsMore K.cmp T.keeps (S.components key) value
             (gathered K.cmp (λ s. S.components s.key) self.old.ascends
-            self.old.run.items self.old.values.items tree.old)
+            self.old.run.items self.old.values.items (T.tree tree.old))
             (gathered K.cmp (λ s. S.components s.key) self.new.ascends
-            self.new.run.items self.new.values.items tree.new)) }
+            self.new.run.items self.new.values.items (T.tree tree.new))) }
     {
         if self.ascends {
             match self.follows(key.as_key()) {
@@ -126,13 +125,13 @@ impl<K: TKey + MadeWith<Global>, V: TValue, S: Spelled<K>> Gathering<K, V, S> {
     }
 
     /// Makes the tree of the run.
-    fn end_run(&mut self, alloc: Global, tree: &mut RadixTree<K, V>) -> Result<(), AllocError>
+    fn end_run<T: Build<K, V>>(&mut self, alloc: Global, tree: &mut T) -> Result<(), AllocError>
         requires ascends { self.old.ascends ≡ true }
         requires grows { MayGrow K.cmp (λ s. S.components s.key) (λ s. s.common) self.old.ascends
             self.old.run.items self.old.values.items }
         ensures ended { OnOk result (self.new.ascends ≡ false) }
         ensures pairs { OnOk result (IsCollected K.cmp (pairs_behind (λ s. S.components s.key) 0
-            self.old.run.items self.old.values.items) tree.new) }
+            self.old.run.items self.old.values.items) (T.tree tree.new)) }
     {
         let run = mem::replace(&mut self.run, Vec::new(alloc));
         let values = mem::replace(&mut self.values, Vec::new(alloc));
@@ -142,12 +141,12 @@ impl<K: TKey + MadeWith<Global>, V: TValue, S: Spelled<K>> Gathering<K, V, S> {
     }
 
     /// Makes the tree of all pairs.
-    pub fn finish(&mut self, alloc: Global, tree: &mut RadixTree<K, V>) -> Result<(), AllocError>
+    pub fn finish<T: Build<K, V>>(&mut self, alloc: Global, tree: &mut T) -> Result<(), AllocError>
         requires { MayGrow K.cmp (λ s. S.components s.key) (λ s. s.common) self.old.ascends
             self.old.run.items self.old.values.items }
-        ensures { OnOk result ((k : List K) → lookup K.cmp tree.new k
+        ensures { OnOk result ((k : List K) → lookup K.cmp (T.tree tree.new) k
             ≡ gathered K.cmp (λ s. S.components s.key) self.old.ascends
-            self.old.run.items self.old.values.items tree.old k) }
+            self.old.run.items self.old.values.items (T.tree tree.old) k) }
     {
         if self.ascends {
             self.end_run(alloc, tree)

@@ -17,7 +17,8 @@ pub returns : goal.returns
 returns g c =
     if-ok c.build_run.result
     (λ t built. subst (λ l. IsCollected g.K.Ord.cmp (pairs_behind (λ s. g.S.Spelled.components s.key) 0 l
-    c.args.values.items) t) c.as_slice.ensures.value
-    (subst (λ l. IsCollected g.K.Ord.cmp (pairs_behind (λ s. g.S.Spelled.components s.key) 0 c.as_slice.result.now l) t)
+    c.args.values.items) (g.T.RadixNode.tree t)) c.as_slice.ensures.value
+    (subst (λ l. IsCollected g.K.Ord.cmp (pairs_behind (λ s. g.S.Spelled.components s.key) 0 c.as_slice.result.now l)
+    (g.T.RadixNode.tree t))
     c.into_iter.ensures.rest built.pairs))
     c.build_run.ensures.built
