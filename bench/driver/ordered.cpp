@@ -190,7 +190,8 @@ Number work(Number row, const Map &map, const Map &other, const std::vector<Key>
     auto length = [](Key key, Number number) { return number + key.size(); };
     auto bytes = [](Key key, Number number) { return number + bytes_of(key); };
     Number sum = 0;
-    switch (row) {
+    // From 100 on, rows of trees that were made of ascending keys, which come so.
+    switch (row % 100) {
     case 1:
         for (Key key : asked)
             if (const Number *found = map.get(key))
@@ -215,8 +216,10 @@ Number work(Number row, const Map &map, const Map &other, const std::vector<Key>
     case 9:
         return removed<Map>(keys);
     case 10:
+    case 14:
         return sum_under(map, "", bytes);
     case 11:
+    case 15:
         return sum_under(map, asked[0], bytes);
     default:
         return built(numbered<Map>(keys), keys[0]);

@@ -65,12 +65,16 @@ pub const HEAD: &str = "| row | keys | plain tree | shared tree | BTreeMap | Has
 |---|---|---|---|---|---|---|---|---|";
 
 /// What a row of trees does: its name, its number in the library, and whether there is no such row
-/// of plain trees.
+/// of plain trees. From [`IN_ORDER`] on it is the work of another row, on trees that were made of
+/// ascending keys.
 struct TreeRow {
     name: &'static str,
     number: u64,
     shared_alone: bool,
 }
+
+/// What the number of a row is more where its tree was made of ascending keys.
+const IN_ORDER: u64 = 100;
 
 impl TreeRow {
     const fn of(name: &'static str, number: u64) -> TreeRow {
@@ -80,9 +84,23 @@ impl TreeRow {
     const fn of_shared(name: &'static str, number: u64) -> TreeRow {
         TreeRow { name, number, shared_alone: true }
     }
+
+    const fn of_ordered(name: &'static str, number: u64) -> TreeRow {
+        TreeRow::of(name, IN_ORDER + number)
+    }
+
+    /// The number of its work, on whatever tree.
+    fn work(&self) -> u64 {
+        self.number % IN_ORDER
+    }
+
+    /// Whether its trees are made of ascending keys.
+    fn is_ordered(&self) -> bool {
+        self.number == 13 || self.number >= IN_ORDER
+    }
 }
 
-const TREE_ROWS: [TreeRow; 14] = [
+const TREE_ROWS: [TreeRow; 20] = [
     TreeRow::of("build", 0),
     TreeRow::of("build, key by key", 12),
     TreeRow::of("build, in ascending order", 13),
@@ -90,11 +108,17 @@ const TREE_ROWS: [TreeRow; 14] = [
     TreeRow::of_shared("snapshot and insert", 2),
     TreeRow::of("iter", 3),
     TreeRow::of("iter, bytes read", 10),
+    TreeRow::of("fold, bytes read", 14),
     TreeRow::of("values", 4),
+    TreeRow::of_ordered("get, tree made in order", 1),
+    TreeRow::of_ordered("iter, bytes read, tree made in order", 10),
+    TreeRow::of_ordered("fold, bytes read, tree made in order", 14),
+    TreeRow::of_ordered("values, tree made in order", 4),
     TreeRow::of_shared("into_iter of a snapshot", 5),
     TreeRow::of("union of two trees", 6),
     TreeRow::of("keys in one folder", 7),
     TreeRow::of("keys in one folder, bytes read", 11),
+    TreeRow::of("keys in one folder, folded, bytes read", 15),
     TreeRow::of("longest beginning", 8),
     TreeRow::of("build, remove each key", 9),
 ];
@@ -126,7 +150,7 @@ pub fn print(only: &str) {
         for row in TREE_ROWS.iter().filter(|row| row.name.contains(only)) {
             match row.number {
                 2 | 9 if count == MANY => {}
-                13 => time_trees(row, &keys.ascending()),
+                _ if row.is_ordered() => time_trees(row, &keys.ascending()),
                 _ => time_trees(row, &keys),
             }
         }
@@ -142,25 +166,26 @@ fn time_trees(row: &TreeRow, keys: &Keys) {
 /// What is made of the operations of a row's round and its sides, in the order of the columns.
 fn with_sides<R>(row: &TreeRow, keys: &Keys, work: impl FnOnce(usize, &[Side]) -> R) -> R {
     let list: Vec<Key> = keys.list().collect();
-    let asked = match row.number {
+    let asked = match row.work() {
+        1 => Keys::paths(list.len()),
         6 => Keys::paths(list.len() + 1),
-        7 | 11 => Keys::folder("src/"),
+        7 | 11 | 15 => Keys::folder("src/"),
         8 => keys.two_below(),
         _ => keys.clone(),
     };
     let maps = StdMaps::new(&list, asked.list().collect());
     let operations = match row.number {
         2 => 1,
-        7 | 11 => maps.under().count().max(1),
+        7 | 11 | 15 => maps.under().count().max(1),
         _ => list.len(),
     };
     let by_export = |export| by_export(export, row.number, keys, &asked);
     let sides = [
         if row.shared_alone { Side::none() } else { by_export(bench_plain_tree) },
         by_export(bench_shared_tree),
-        Side::repeating(|| maps.by_btree(row.number)),
-        Side::repeating(|| maps.by_hash(row.number)),
-        Side::repeating(|| maps.by_hand(row.number)),
+        Side::repeating(|| maps.by_btree(row.work())),
+        Side::repeating(|| maps.by_hash(row.work())),
+        Side::repeating(|| maps.by_hand(row.work())),
         ABSL.map_or(Side::none(), by_export),
         JUDY.map_or(Side::none(), by_export),
     ];
@@ -259,8 +284,8 @@ impl StdMaps {
                 1
             }
             3 => self.pairs.iter().map(|(key, value)| value + key.len() as u64).sum(),
-            10 => self.pairs.iter().map(|(key, value)| value + bytes_of(key)).sum(),
-            11 => self.under_in_list().map(|(key, value)| value + bytes_of(key)).sum(),
+            10 | 14 => self.pairs.iter().map(|(key, value)| value + bytes_of(key)).sum(),
+            11 | 15 => self.under_in_list().map(|(key, value)| value + bytes_of(key)).sum(),
             4 => self.pairs.iter().map(|(_, value)| value).sum(),
             5 => cloned(self.pairs.iter().map(|(key, value)| (key, value))),
             6 => built(found(&united(&self.pairs, &self.other_pairs), &self.asked[0])),
@@ -299,8 +324,8 @@ macro_rules! by_map {
                         1
                     }
                     3 => self.$own.iter().map(|(key, value)| value + key.len() as u64).sum(),
-                    10 => self.$own.iter().map(|(key, value)| value + bytes_of(key)).sum(),
-                    11 => self.$under().map(|(key, value)| value + bytes_of(key)).sum(),
+                    10 | 14 => self.$own.iter().map(|(key, value)| value + bytes_of(key)).sum(),
+                    11 | 15 => self.$under().map(|(key, value)| value + bytes_of(key)).sum(),
                     4 => self.$own.values().sum(),
                     5 => cloned(self.$own.iter()),
                     6 => {

@@ -225,10 +225,8 @@ pub trait AbstractRadixTree<K: TKey, V: TValue>: RadixNode<K, V> {
     /// where that memory is refused, or where the closure does.
     ///
     /// ```
-    /// let total = tree.fold(0, |total: usize, key: &[u8], count: &usize| {
-    ///     let more = total + key.len() * count;
-    ///     Ok(more)
-    /// })?;
+    /// let letters: Result<usize, AllocError> =
+    ///     names.fold(0, |letters, name, _| Ok(letters.saturating_add(name.len())));
     /// ```
     final fn fold<B: Drop, E: From<AllocError>, F: Fn(B, &[K], &V) -> Result<B, E> + Drop>(
         &self,
