@@ -16,12 +16,14 @@ ghost use Rattle.vc_merge.specs.Building.{Skips};
 ghost use Rattle.vc_merge.specs.Clones.{ClonesAreEqual};
 
 use crate::join::{JoinOp, JoinState};
+use crate::outer::begin;
 use smallvec::SmallVec;
 use std::alloc::{AllocError, Allocator};
 use std::default::MadeWith;
 use vc_joins::answers::{AskInner, AskLeft, AskOuter, AskRight, Question};
 use vc_joins::question::{JoinKind, OuterJoinArg};
-use vc_merge::merge::{Count, MergeState, MergeStateMut, Uncounted, merge};
+use vc_merge::merge::{Count, MergeState, MergeStateMut, Uncounted, merge_as};
+use vc_merge::plan::plan_of;
 
 /// A list of pairs that grows at its end.
 pub trait PairList {
@@ -229,7 +231,7 @@ fn ask_pairs<
 
 /// Asks at a pair that stands on the left alone. One lifetime serves for the right, which has none
 /// of its own.
-fn ask_left<'a, K, V, W: 'a, X, Q: Question<K, V, W, X>>(
+pub(crate) fn ask_left<'a, K, V, W: 'a, X, Q: Question<K, V, W, X>>(
     question: &Q,
     pair: &'a (K, V),
 ) -> Result<Option<X>, AllocError>
@@ -242,7 +244,7 @@ fn ask_left<'a, K, V, W: 'a, X, Q: Question<K, V, W, X>>(
 
 /// Asks at a pair that stands on the right alone. One lifetime serves for the left, which has none
 /// of its own.
-fn ask_right<'a, K, V: 'a, W, X, Q: Question<K, V, W, X>>(
+pub(crate) fn ask_right<'a, K, V: 'a, W, X, Q: Question<K, V, W, X>>(
     question: &Q,
     pair: &'a (K, W),
 ) -> Result<Option<X>, AllocError>
@@ -254,7 +256,7 @@ fn ask_right<'a, K, V: 'a, W, X, Q: Question<K, V, W, X>>(
 }
 
 /// Puts an answer under a clone of the key, where there is one.
-fn append_answer<K: Clone + Drop, X: Drop, S: PairList<Key = K, Value = X>>(
+pub(crate) fn append_answer<K: Clone + Drop, X: Drop, S: PairList<Key = K, Value = X>>(
     built: &mut S,
     key: &K,
     answer: Option<X>,
@@ -322,8 +324,10 @@ where
 {
     let room = room_of::<N>(kind, this.len(), that.len());
     let mut built = SmallVec::with_capacity(alloc, room)?;
+    let plan = plan_of(this.len(), that.len());
+    let (this, that) = begin(kind, plan, this, that, question, &mut built, steps)?;
     let mut state = FreshState::new(this, that, &mut built);
-    merge(&mut state, &JoinOp { kind, question }, steps)?;
+    merge_as(&mut state, &JoinOp { kind, question }, plan, steps)?;
     Ok(built)
 }
 
