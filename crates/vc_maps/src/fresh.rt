@@ -1,6 +1,6 @@
 //! Joins that build a fresh list: the pairs of both maps are shown, and each answer stands under a
 //! clone of the key that was shown.
-ghost use Rattle.std.specs.Prelude.{◌≡◌, ◌+◌, ◌≤◌, [], ◌∷◌, ◌++◌, List, Ok, Some, take, length, IfOk, OnOk};
+ghost use Rattle.std.specs.Prelude.{◌≡◌, ℕ, ◌+◌, ◌-◌, ◌<◌, ◌≤◌, [], ◌∷◌, ◌++◌, List, Ok, Some, take, length, IfOk, OnOk};
 ghost use Rattle.std.specs.List.{AllByRecursion};
 ghost use Rattle.std.specs.Option.{MatchOption};
 ghost use Rattle.vc_joins.specs.declared.question.OuterJoinArg.TheVariants as arg;
@@ -35,9 +35,22 @@ pub trait PairList {
 
     ghost pairs: { Self → List (Self.Key × Self.Value) };
 
+    /// For how many more pairs there is room.
+    ghost room: { Self → ℕ };
+
     /// Puts a pair behind the others.
     fn append(&mut self, key: Self::Key, value: Self::Value) -> Result<(), AllocError>
         ensures { OnOk result (pairs self.new ≡ pairs self.old ++ (key, value) ∷ []) };
+
+    /// For how many more pairs there is room.
+    fn room(&self) -> usize
+        ensures { result ≡ room self.now };
+
+    /// Puts a pair behind the others, where there is room.
+    fn append_reserved(&mut self, key: Self::Key, value: Self::Value)
+        requires { 0 < room self.old }
+        ensures pairs { pairs self.new ≡ pairs self.old ++ (key, value) ∷ [] }
+        ensures room { room self.old ≤ room self.new + 1 };
 }
 
 impl<K: Drop, X: Drop, const N: usize, A: Allocator + Copy> PairList for SmallVec<(K, X), N, A>
@@ -50,8 +63,18 @@ where
 
     ghost pairs = { λ list. list.items };
 
+    ghost room = { λ list. list.capacity - length list.items };
+
     fn append(&mut self, key: K, value: X) -> Result<(), AllocError> {
         Ok(self.push((key, value))?)
+    }
+
+    fn room(&self) -> usize {
+        self.capacity() - self.len()
+    }
+
+    fn append_reserved(&mut self, key: K, value: X) {
+        self.push_reserved((key, value))
     }
 }
 
@@ -256,7 +279,7 @@ pub(crate) fn ask_right<'a, K, V: 'a, W, X, Q: Question<K, V, W, X>>(
 }
 
 /// Puts an answer under a clone of the key, where there is one.
-pub(crate) fn append_answer<K: Clone + Drop, X: Drop, S: PairList<Key = K, Value = X>>(
+fn append_answer<K: Clone + Drop, X: Drop, S: PairList<Key = K, Value = X>>(
     built: &mut S,
     key: &K,
     answer: Option<X>,
@@ -267,6 +290,24 @@ pub(crate) fn append_answer<K: Clone + Drop, X: Drop, S: PairList<Key = K, Value
 {
     if let Some(value) = answer {
         built.append(key.clone()?, value)?;
+    }
+    Ok(())
+}
+
+/// The same, where the list has room for it.
+pub(crate) fn put_answer<K: Clone + Drop, X: Drop, S: PairList<Key = K, Value = X>>(
+    built: &mut S,
+    key: &K,
+    answer: Option<X>,
+) -> Result<(), AllocError>
+    requires { 0 < S.room built.old }
+    ensures pairs { OnOk result (MatchOption answer (S.pairs built.new ≡ S.pairs built.old)
+        (λ x. (k : K) × K.is_clone key.now k
+        × (S.pairs built.new ≡ S.pairs built.old ++ (k, x) ∷ []))) }
+    ensures room { OnOk result (S.room built.old ≤ S.room built.new + 1) }
+{
+    if let Some(value) = answer {
+        built.append_reserved(key.clone()?, value);
     }
     Ok(())
 }

@@ -11,7 +11,7 @@ ghost use Rattle.vc_maps.specs.Begun.{IsBegun};
 ghost use Rattle.vc_merge.specs.Count.{bound};
 ghost use Rattle.vc_merge.specs.Plan.{planned};
 
-use crate::fresh::{PairList, append_answer, ask_left, ask_right};
+use crate::fresh::{PairList, ask_left, ask_right, put_answer};
 use crate::join::compare_keys;
 use std::alloc::AllocError;
 use std::cmp::Ordering;
@@ -54,8 +54,15 @@ pub(crate) fn begin<
     ensures refused { C.counted steps.new
         ≤ C.counted steps.old + bound (length this.now) (length that.now) }
 {
+    let room = built.room();
     match (kind, plan) {
-        (JoinKind::Outer, Plan::Walk) => ask_along(this, that, question, built, steps),
+        (JoinKind::Outer, Plan::Walk) => {
+            if this.len() <= room && that.len() <= room - this.len() {
+                ask_along(this, that, question, built, steps)
+            } else {
+                Ok((this, that))
+            }
+        }
         _ => Ok((this, that)),
     }
 }
@@ -81,6 +88,7 @@ fn ask_along<
     requires this_ascends { AscendsByKey K.cmp this.now }
     requires that_ascends { AscendsByKey K.cmp that.now }
     requires takes { TakesEach K.cmp JoinKind.Outer (Q.takes question.now) this.now that.now }
+    requires room { length this.now + length that.now ≤ S.room built.old }
     ensures begun { IfOk result (λ rest. IsBegun K.cmp JoinKind.Outer
         (λ a r. Q.may question.now a (Ok r)) (ClonedKey K.is_clone) this.now that.now
         rest.0.now rest.1.now (S.pairs built.old) (S.pairs built.new)) }
@@ -98,17 +106,17 @@ fn ask_along<
         match compare_keys(&x.0, &y.0, steps) {
             Ordering::Less => {
                 let answer = ask_left(question, x)?;
-                append_answer(built, &x.0, answer)?;
+                put_answer(built, &x.0, answer)?;
                 left += 1;
             }
             Ordering::Greater => {
                 let answer = ask_right(question, y)?;
-                append_answer(built, &y.0, answer)?;
+                put_answer(built, &y.0, answer)?;
                 right += 1;
             }
             Ordering::Equal => {
                 let answer = question.ask(OuterJoinArg::Both(&x.0, &x.1, &y.1))?;
-                append_answer(built, &x.0, answer)?;
+                put_answer(built, &x.0, answer)?;
                 left += 1;
                 right += 1;
             }

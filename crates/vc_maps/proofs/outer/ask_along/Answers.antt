@@ -9,6 +9,7 @@ events-init g c = record {
   within_left = omega arith;
   within_right = omega arith;
   counted = omega arith;
+  room = let h = c.requires.room in omega (arith, h);
   begun = begun-nothing g.met.K.Ord.total _ _ _
       (both-ascend g.K.Ord.cmp _ _ c.requires.this_ascends c.requires.that_ascends);
 }
@@ -32,8 +33,9 @@ events-preserved-in-Less g c =
       within_right = omega (arith, was.within_right, in_right);
       counted = omega (arith, was.counted, ticks);
       begun = begun-step g.met.K.Ord.total (g.S.PairList.pairs c.args.built.now) (g.S.PairList.pairs c.events.built)
-          (g.S.PairList.pairs c.append_answer.new.built) Less c.index-this-left.result c.index-that-right.result
-          c.in_ok-answer-in-Less.answer was.begun one c.in_ok-answer-in-Less.ensures c.in_ok-append_answer-in-Less.ensures;
+          (g.S.PairList.pairs c.put_answer.new.built) Less c.index-this-left.result c.index-that-right.result
+          c.in_ok-answer-in-Less.answer was.begun one c.in_ok-answer-in-Less.ensures c.in_ok-put_answer-in-Less.ensures.pairs;
+      room = let more = c.in_ok-put_answer-in-Less.ensures.room in omega (arith, was.room, more, in_left, in_right);
     }
 
 pub ask_right-requires : goal.ask_right-requires
@@ -55,8 +57,9 @@ events-preserved-in-Greater g c =
       within_right = omega (arith, was.within_right, in_right);
       counted = omega (arith, was.counted, ticks);
       begun = begun-step g.met.K.Ord.total (g.S.PairList.pairs c.args.built.now) (g.S.PairList.pairs c.events.built)
-          (g.S.PairList.pairs c.append_answer-in-Greater.new.built) Greater c.index-this-left.result c.index-that-right.result
-          c.in_ok-answer-in-Greater.answer was.begun one c.in_ok-answer-in-Greater.ensures c.in_ok-append_answer-in-Greater.ensures;
+          (g.S.PairList.pairs c.put_answer-in-Greater.new.built) Greater c.index-this-left.result c.index-that-right.result
+          c.in_ok-answer-in-Greater.answer was.begun one c.in_ok-answer-in-Greater.ensures c.in_ok-put_answer-in-Greater.ensures.pairs;
+      room = let more = c.in_ok-put_answer-in-Greater.ensures.room in omega (arith, was.room, more, in_left, in_right);
     }
 
 pub ask-requires : goal.ask-requires
@@ -78,6 +81,7 @@ events-preserved g c =
       within_right = omega (arith, was.within_right, in_right);
       counted = omega (arith, was.counted, ticks);
       begun = begun-step g.met.K.Ord.total (g.S.PairList.pairs c.args.built.now) (g.S.PairList.pairs c.events.built)
-          (g.S.PairList.pairs c.append_answer-in-Equal.new.built) Equal c.index-this-left.result c.index-that-right.result
-          c.in_ok-answer-in-Equal.answer was.begun one c.in_ok-answer-in-Equal.ensures c.in_ok-append_answer-in-Equal.ensures;
+          (g.S.PairList.pairs c.put_answer-in-Equal.new.built) Equal c.index-this-left.result c.index-that-right.result
+          c.in_ok-answer-in-Equal.answer was.begun one c.in_ok-answer-in-Equal.ensures c.in_ok-put_answer-in-Equal.ensures.pairs;
+      room = let more = c.in_ok-put_answer-in-Equal.ensures.room in omega (arith, was.room, more, in_left, in_right);
     }
