@@ -77,12 +77,12 @@ module _ {K V W : Type 0} {cmp : K → K → Ordering} (total : IsTotalOrder cmp
   module _ {kind : JoinKind} {Takes : OuterJoinArg K V W → Type 0} where
     module _ {xs ls : List (K × V)} {ys rs : List (K × W)} {front : List (Event (K × V) (K × W))}
         (p : IsPassed xs ys front ls rs) (can : CanAsk cmp kind Takes xs ys) where
-      asked-some : (es : List (Event (K × V) (K × W))) × AllByRecursion (MayAsk cmp kind Takes) (front ++ es)
+      pub asked-some : (es : List (Event (K × V) (K × W))) × AllByRecursion (MayAsk cmp kind Takes) (front ++ es)
       asked-some =
           let some = some-script (by_key cmp) (by_key-total cmp total) ls rs p.ascend in
           (some.0, can.each (front ++ some.0) (p.scripts some.0 some.1))
 
-      can-rest : CanAsk cmp kind Takes ls rs
+      pub can-rest : CanAsk cmp kind Takes ls rs
       can-rest = record {
         each = λ es s. each-back (MayAsk cmp kind Takes) front es (can.each (front ++ es) (p.scripts es s));
       }

@@ -106,7 +106,7 @@ module _ {K V W X M N : Type 0} (May : OuterJoinArg K V W → Option X → Type 
   heads-add x y s t (Ok b) h = (h.0, h.1, record { added = h.2.added; gathered = h.2.gathered; items = h.2.items })
   heads-add x y s t (Err e) h = tt
 
-  asking-builds : IsAsking → IsBuilding built name op (AnswersEvent kind left_spelling May Keeps)
+  pub asking-builds : IsAsking → IsBuilding built name op (AnswersEvent kind left_spelling May Keeps)
   asking-builds is = record {
     from_a = λ s t n answer h. asked-add (λ p. Left p.0 p.1) (asks_left kind) _ s t answer (is.from_a s t n answer h);
     from_b = λ s t n answer h. asked-add (λ q. Right q.0 q.1) (asks_right kind) _ s t answer (is.from_b s t n answer h);

@@ -1,5 +1,6 @@
 pub mod Asked
 pub mod Asking
+mod Begun
 pub mod ByForm
 pub mod Combined
 pub mod Editing

@@ -1,4 +1,5 @@
 pub mod Asking
+pub mod Begun
 pub mod Borrowed
 pub mod CombineViews
 pub mod Combining

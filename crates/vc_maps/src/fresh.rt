@@ -1,6 +1,6 @@
 //! Joins that build a fresh list: the pairs of both maps are shown, and each answer stands under a
 //! clone of the key that was shown.
-ghost use Rattle.std.specs.Prelude.{◌≡◌, ◌+◌, ◌≤◌, [], ◌∷◌, ◌++◌, List, Ok, Some, take, length, IfOk, OnOk};
+ghost use Rattle.std.specs.Prelude.{◌≡◌, ℕ, ◌+◌, ◌-◌, ◌<◌, ◌≤◌, [], ◌∷◌, ◌++◌, List, Ok, Some, take, length, IfOk, OnOk};
 ghost use Rattle.std.specs.List.{AllByRecursion};
 ghost use Rattle.std.specs.Option.{MatchOption};
 ghost use Rattle.vc_joins.specs.declared.question.OuterJoinArg.TheVariants as arg;
@@ -16,12 +16,14 @@ ghost use Rattle.vc_merge.specs.Building.{Skips};
 ghost use Rattle.vc_merge.specs.Clones.{ClonesAreEqual};
 
 use crate::join::{JoinOp, JoinState};
+use crate::outer::begin;
 use smallvec::SmallVec;
 use std::alloc::{AllocError, Allocator};
 use std::default::MadeWith;
 use vc_joins::answers::{AskInner, AskLeft, AskOuter, AskRight, Question};
 use vc_joins::question::{JoinKind, OuterJoinArg};
-use vc_merge::merge::{Count, MergeState, MergeStateMut, Uncounted, merge};
+use vc_merge::merge::{Count, MergeState, MergeStateMut, Uncounted, merge_as};
+use vc_merge::plan::plan_of;
 
 /// A list of pairs that grows at its end.
 pub trait PairList {
@@ -33,9 +35,22 @@ pub trait PairList {
 
     ghost pairs: { Self → List (Self.Key × Self.Value) };
 
+    /// For how many more pairs there is room.
+    ghost room: { Self → ℕ };
+
     /// Puts a pair behind the others.
     fn append(&mut self, key: Self::Key, value: Self::Value) -> Result<(), AllocError>
         ensures { OnOk result (pairs self.new ≡ pairs self.old ++ (key, value) ∷ []) };
+
+    /// For how many more pairs there is room.
+    fn room(&self) -> usize
+        ensures { result ≡ room self.now };
+
+    /// Puts a pair behind the others, where there is room.
+    fn append_reserved(&mut self, key: Self::Key, value: Self::Value)
+        requires { 0 < room self.old }
+        ensures pairs { pairs self.new ≡ pairs self.old ++ (key, value) ∷ [] }
+        ensures room { room self.old ≤ room self.new + 1 };
 }
 
 impl<K: Drop, X: Drop, const N: usize, A: Allocator + Copy> PairList for SmallVec<(K, X), N, A>
@@ -48,8 +63,18 @@ where
 
     ghost pairs = { λ list. list.items };
 
+    ghost room = { λ list. list.capacity - length list.items };
+
     fn append(&mut self, key: K, value: X) -> Result<(), AllocError> {
         Ok(self.push((key, value))?)
+    }
+
+    fn room(&self) -> usize {
+        self.capacity() - self.len()
+    }
+
+    fn append_reserved(&mut self, key: K, value: X) {
+        self.push_reserved((key, value))
     }
 }
 
@@ -229,7 +254,7 @@ fn ask_pairs<
 
 /// Asks at a pair that stands on the left alone. One lifetime serves for the right, which has none
 /// of its own.
-fn ask_left<'a, K, V, W: 'a, X, Q: Question<K, V, W, X>>(
+pub(crate) fn ask_left<'a, K, V, W: 'a, X, Q: Question<K, V, W, X>>(
     question: &Q,
     pair: &'a (K, V),
 ) -> Result<Option<X>, AllocError>
@@ -242,7 +267,7 @@ fn ask_left<'a, K, V, W: 'a, X, Q: Question<K, V, W, X>>(
 
 /// Asks at a pair that stands on the right alone. One lifetime serves for the left, which has none
 /// of its own.
-fn ask_right<'a, K, V: 'a, W, X, Q: Question<K, V, W, X>>(
+pub(crate) fn ask_right<'a, K, V: 'a, W, X, Q: Question<K, V, W, X>>(
     question: &Q,
     pair: &'a (K, W),
 ) -> Result<Option<X>, AllocError>
@@ -265,6 +290,24 @@ fn append_answer<K: Clone + Drop, X: Drop, S: PairList<Key = K, Value = X>>(
 {
     if let Some(value) = answer {
         built.append(key.clone()?, value)?;
+    }
+    Ok(())
+}
+
+/// The same, where the list has room for it.
+pub(crate) fn put_answer<K: Clone + Drop, X: Drop, S: PairList<Key = K, Value = X>>(
+    built: &mut S,
+    key: &K,
+    answer: Option<X>,
+) -> Result<(), AllocError>
+    requires { 0 < S.room built.old }
+    ensures pairs { OnOk result (MatchOption answer (S.pairs built.new ≡ S.pairs built.old)
+        (λ x. (k : K) × K.is_clone key.now k
+        × (S.pairs built.new ≡ S.pairs built.old ++ (k, x) ∷ []))) }
+    ensures room { OnOk result (S.room built.old ≤ S.room built.new + 1) }
+{
+    if let Some(value) = answer {
+        built.append_reserved(key.clone()?, value);
     }
     Ok(())
 }
@@ -322,8 +365,10 @@ where
 {
     let room = room_of::<N>(kind, this.len(), that.len());
     let mut built = SmallVec::with_capacity(alloc, room)?;
+    let plan = plan_of(this.len(), that.len());
+    let (this, that) = begin(kind, plan, this, that, question, &mut built, steps)?;
     let mut state = FreshState::new(this, that, &mut built);
-    merge(&mut state, &JoinOp { kind, question }, steps)?;
+    merge_as(&mut state, &JoinOp { kind, question }, plan, steps)?;
     Ok(built)
 }
 

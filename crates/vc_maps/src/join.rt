@@ -100,8 +100,7 @@ impl<
     ghost total = { λ _. by_key-total K.cmp K.total };
 
     fn cmp(&self, a: &(K, V), b: &(K, W), steps: &mut C) -> Ordering {
-        steps.tick();
-        a.0.cmp(&b.0)
+        compare_keys(&a.0, &b.0, steps)
     }
 
     fn from_a(&self, state: &mut M, n: usize) -> Result<bool, AllocError> {
@@ -123,4 +122,14 @@ impl<
     fn collision(&self, state: &mut M) -> Result<bool, AllocError> {
         state.ask_both(self.question)
     }
+}
+
+/// Compares two keys, and counts that.
+#[inline(always)]
+pub(crate) fn compare_keys<K: Ord, C: Count>(a: &K, b: &K, steps: &mut C) -> Ordering
+    ensures value { result ≡ K.cmp a.now b.now }
+    ensures ticks { C.counted steps.new ≡ ticked (C.counted steps.old) }
+{
+    steps.tick();
+    a.cmp(b)
 }

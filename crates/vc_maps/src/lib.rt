@@ -5,4 +5,5 @@ mod combine;
 mod fresh;
 mod in_place;
 mod join;
+mod outer;
 pub mod vec_map;
