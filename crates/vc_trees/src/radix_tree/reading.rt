@@ -220,9 +220,9 @@ pub trait AbstractRadixTree<K: TKey, V: TValue>: RadixNode<K, V> {
     /// answered.
     ///
     /// Keys are lent. They stand in one list, in which the walk spells each behind what it shares
-    /// with the last; a closure copies what it wants to keep. So this takes less time than `iter`,
-    /// whose keys may be kept. It takes memory for the longest key, and stack for each level. Fails
-    /// where that memory is refused, or where the closure does.
+    /// with the last; a closure copies what it wants to keep. So this mostly takes less time than
+    /// `iter`, whose keys may be kept. It takes memory for the longest key, and stack for each
+    /// level. Fails where that memory is refused, or where the closure does.
     ///
     /// ```
     /// let letters: Result<usize, AllocError> =
