@@ -1,10 +1,10 @@
 -- How a tree is stored as numbers, and why its children are smaller: what a `Model` whose value is a tree asks for.
-use Rattle.std.specs.Prelude.{◌≡◌, ℕ, ◌+◌, ◌≤◌, List, [], ◌∷◌, ◌++◌, Option, Some, None, max, refl}
+use Rattle.std.specs.Prelude.{◌≡◌, ℕ, ◌+◌, ◌≤◌, List, [], ◌∷◌, ◌++◌, Option, Some, None, refl}
 use Rattle.std.specs.Coded.{Coded, code_by, coded×, coded_list, coded_option}
 use Rattle.std.proofs.Common.{ap, sym, ◌∙◌, append_assoc, arith}
 use Rattle.std.proofs.lemmas.List.{append-nil}
 use denote.Param.Weighed.{most}
-use Rattle.vc_tree_model.specs.Tree.{Tree, Forest, bare, grow, forest, node, shared_forest, nodes, forest_nodes}
+use Rattle.vc_tree_model.specs.Tree.{Tree, Forest, bare, grow, forest, node, nodes, forest_nodes}
 
 module _ {K V : Type 0} where
   -- a forest in postorder: each node behind what lies below it and beside it
@@ -59,11 +59,3 @@ module _ {K V : Type 0} where
   pub most_le-nodes : (ts : List (Tree K V)) → most (λ t. nodes t + 1) ts ≤ forest_nodes (forest ts) + 1
   most_le-nodes [] = omega arith
   most_le-nodes (t ∷ ts) = omega (arith, most_le-nodes ts)
-
-  -- nor has one behind an optional pointer
-  pub shared_falls : {R : Type 0} (items : R → List (Tree K V)) (weight : Option R → ℕ) → weight None ≡ 0
-      → ((r : R) → weight (Some r) ≡ max (max (most (λ t. nodes t + 1) (items r)) 0) 0)
-      → (o : Option R) → weight o ≤ forest_nodes (shared_forest items o) + 1
-  shared_falls items weight none some None = omega arith
-  shared_falls items weight none some (Some r) =
-      let w = some r in let m = most_le-nodes (items r) in omega (arith, m, w)

@@ -4,3 +4,5 @@ pub mod Parting
 pub mod Growth
 pub mod SameTests
 pub mod Ascending
+pub mod Prefix
+pub mod Body

@@ -11,10 +11,10 @@ ghost use Rattle.vc_tree_model.specs.Snapshot.{same_copies, alike_same, kept_ali
 
 use crate::children::{ChildList, Fragment, OwnedChildren, Parts, SharedChildren};
 use crate::plain::RadixTree;
+use crate::prefix::Prefix;
 use crate::reading::{RadixNode, TKey, TValue};
 use crate::sealed::Sealed;
 use crate::shared::ArcRadixTree;
-use smallvec::SmallVec;
 use std::alloc::Global;
 use std::default::MadeWith;
 
@@ -76,7 +76,7 @@ pub trait Build<K: TKey, V: TValue>: RadixNode<K, V> + Sealed + Drop {
 }
 
 impl<K: TKey + MadeWith<Global>, V: TValue> Build<K, V> for RadixTree<K, V> {
-    type Prefix = SmallVec<K, 16>;
+    type Prefix = Prefix<K>;
 
     type Children = OwnedChildren<RadixTree<K, V>>;
 
@@ -94,19 +94,19 @@ impl<K: TKey + MadeWith<Global>, V: TValue> Build<K, V> for RadixTree<K, V> {
         RadixTree::bare(alloc)
     }
 
-    fn take_apart(self, seal: Seal) -> Parts<SmallVec<K, 16>, V, OwnedChildren<RadixTree<K, V>>> {
+    fn take_apart(self, seal: Seal) -> Parts<Prefix<K>, V, OwnedChildren<RadixTree<K, V>>> {
         self.into_parts()
     }
 
     fn assemble(
-        prefix: SmallVec<K, 16>,
+        prefix: Prefix<K>,
         value: Option<V>,
         children: Option<OwnedChildren<RadixTree<K, V>>>,
         seal: Seal,
     ) -> Self
         requires { IsCanonical K.cmp
-            (made prefix.items value (map (λ t. t) (listed (λ own. own.list.items) children))) }
-        ensures { result ≡ made prefix.items value
+            (made prefix value (map (λ t. t) (listed (λ own. own.list.items) children))) }
+        ensures { result ≡ made prefix value
             (map (λ t. t) (listed (λ own. own.list.items) children)) }
     {
         RadixTree::from_parts(prefix, value, children)
@@ -114,7 +114,7 @@ impl<K: TKey + MadeWith<Global>, V: TValue> Build<K, V> for RadixTree<K, V> {
 }
 
 impl<K: TKey + MadeWith<Global>, V: TValue> Build<K, V> for ArcRadixTree<K, V> {
-    type Prefix = SmallVec<K, 16>;
+    type Prefix = Prefix<K>;
 
     type Children = SharedChildren<ArcRadixTree<K, V>>;
 
@@ -132,22 +132,19 @@ impl<K: TKey + MadeWith<Global>, V: TValue> Build<K, V> for ArcRadixTree<K, V> {
         ArcRadixTree::bare(alloc)
     }
 
-    fn take_apart(
-        self,
-        seal: Seal,
-    ) -> Parts<SmallVec<K, 16>, V, SharedChildren<ArcRadixTree<K, V>>> {
+    fn take_apart(self, seal: Seal) -> Parts<Prefix<K>, V, SharedChildren<ArcRadixTree<K, V>>> {
         self.into_parts()
     }
 
     fn assemble(
-        prefix: SmallVec<K, 16>,
+        prefix: Prefix<K>,
         value: Option<V>,
         children: Option<SharedChildren<ArcRadixTree<K, V>>>,
         seal: Seal,
     ) -> Self
-        requires { IsCanonical K.cmp (made prefix.items value
+        requires { IsCanonical K.cmp (made prefix value
             (map (λ t. t) (listed (λ held. held.shared.value.items) children))) }
-        ensures { result ≡ made prefix.items value
+        ensures { result ≡ made prefix value
             (map (λ t. t) (listed (λ held. held.shared.value.items) children)) }
     {
         ArcRadixTree::from_parts(prefix, value, children)

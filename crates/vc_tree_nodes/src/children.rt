@@ -5,9 +5,7 @@ ghost use Rattle.std.specs.Borrow.{sem};
 ghost use Rattle.std.specs.List.{AllZip};
 ghost use Rattle.vc_tree_nodes.specs.Children.{LendsChildren};
 
-use smallvec::SmallVec;
 use std::alloc::{AllocError, AllocFailed, Allocator, Global};
-use std::default::MadeWith;
 use std::rc::Rc;
 
 /// A node's prefix, as it is stored.
@@ -23,28 +21,9 @@ pub trait Fragment<K>: Sized + Drop {
         ensures items { IfOk result (λ made. items made ≡ slice.now) }
         ensures short { length slice.now ≤ 16 → IsOk result };
 
-    /// A copy of both slices, one behind the other, by one request for memory at most.
+    /// A copy of both slices, one behind the other, by two requests for memory at most.
     fn joined(alloc: Global, front: &[K], back: &[K]) -> Result<Self, AllocError>
         ensures { IfOk result (λ made. items made ≡ front.now ++ back.now) };
-}
-
-impl<K: Copy + MadeWith<Global>> Fragment<K> for SmallVec<K, 16> {
-    ghost items = { λ made. made.items };
-
-    fn as_slice(&self) -> &[K] {
-        SmallVec::as_slice(self)
-    }
-
-    fn from_slice(alloc: Global, slice: &[K]) -> Result<SmallVec<K, 16>, AllocError> {
-        SmallVec::from_slice(alloc, slice)
-    }
-
-    fn joined(alloc: Global, front: &[K], back: &[K]) -> Result<SmallVec<K, 16>, AllocError> {
-        let mut whole = SmallVec::with_capacity(alloc, front.len().saturating_add(back.len()))?;
-        whole.extend_from_slice(front)?;
-        whole.extend_from_slice(back)?;
-        Ok(whole)
-    }
 }
 
 /// The children of a node that has some, as they are stored.

@@ -232,7 +232,7 @@ fn add_to<K: TKey, V: TValue, T: Build<K, V>>(
     match children {
         Some(children) => add_to_some::<K, V, T>(children, i, item),
         None => {
-            let mut list = Vec::new(alloc);
+            let mut list = Vec::with_capacity(alloc, 1)?;
             list.push(item)?;
             *children = Some(T::Children::of(list)?);
             Ok(())
@@ -253,7 +253,22 @@ fn add_to_some<K: TKey, V: TValue, T: Build<K, V>>(
         (seen T.tree (T.Children.items children.new))) }
 {
     let list = children.make_mut()?;
-    list.insert(i, item)?;
+    make_room(list)?;
+    put(list, i, item);
+    Ok(())
+}
+
+/// Makes room for one more item. A full list grows by a quarter, where `push` would double it: most
+/// lists of children stay as short as they are.
+fn make_room<T: Drop>(list: &mut Vec<T>) -> Result<(), AllocError>
+    ensures items { list.new.items ≡ list.old.items }
+    ensures len { vec_len list.new ≡ vec_len list.old }
+    ensures room { OnOk result (vec_len list.new < vec_capacity list.new) }
+{
+    let len = list.len();
+    if len == list.capacity() {
+        list.reserve_exact(1 + len / 4)?;
+    }
     Ok(())
 }
 

@@ -4,6 +4,7 @@
 #![tactic(auto)]
 
 mod ascending;
+mod body;
 pub mod building;
 pub mod children;
 pub mod collecting;
@@ -16,6 +17,7 @@ pub mod making;
 pub mod parting;
 pub mod places;
 pub mod plain;
+pub mod prefix;
 pub mod reading;
 mod sealed;
 pub mod shared;

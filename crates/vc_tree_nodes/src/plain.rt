@@ -1,8 +1,8 @@
 //! The plain flavour: a node owns its children.
 
 use crate::children::{OwnedChildren, Parts};
+use crate::prefix::Prefix;
 use crate::reading::{RadixNode, TKey, TValue};
-use smallvec::SmallVec;
 use std::alloc::Global;
 use std::default::MadeWith;
 use std::marker::Model;
@@ -14,7 +14,7 @@ use std::marker::Model;
 /// key has components, and no more than keys; a long key alone is one level.
 #[derive(Drop)]
 pub struct RadixTree<K: TKey, V: TValue> {
-    prefix: SmallVec<K, 16>,
+    prefix: Prefix<K>,
     value: Option<V>,
     children: Vec<RadixTree<K, V>>,
 }
@@ -29,9 +29,9 @@ impl<K: TKey, V: TValue> Model for RadixTree<K, V> {
 
     ghost coded = { tree_code K.code V.code };
 
-    ghost view = { λ a. made a.prefix.items a.value a.children.items };
+    ghost view = { λ a. made a.prefix a.value a.children.items };
 
-    ghost invariant = { λ a. IsCanonical K.cmp (made a.prefix.items a.value a.children.items) };
+    ghost invariant = { λ a. IsCanonical K.cmp (made a.prefix a.value a.children.items) };
 
     ghost size = { nodes };
 
@@ -50,15 +50,15 @@ impl<K: TKey + MadeWith<Global>, V: TValue> RadixTree<K, V> {
         ensures canonical { IsCanonical K.cmp result }
     {
         RadixTree {
-            prefix: SmallVec::new(alloc),
+            prefix: Prefix::new(alloc),
             value: None,
             children: Vec::new(alloc),
         }
     }
 
     /// The parts of the root.
-    pub(crate) fn into_parts(self) -> Parts<SmallVec<K, 16>, V, OwnedChildren<RadixTree<K, V>>>
-        ensures prefix { result.prefix.items ≡ self.prefix }
+    pub(crate) fn into_parts(self) -> Parts<Prefix<K>, V, OwnedChildren<RadixTree<K, V>>>
+        ensures prefix { result.prefix ≡ self.prefix }
         ensures value { result.value ≡ self.value }
         ensures children { seen (λ t. t) (listed (λ own. own.list.items) result.children)
             ≡ self.children }
@@ -78,18 +78,18 @@ impl<K: TKey + MadeWith<Global>, V: TValue> RadixTree<K, V> {
 
     /// The tree of these parts.
     pub(crate) fn from_parts(
-        prefix: SmallVec<K, 16>,
+        prefix: Prefix<K>,
         value: Option<V>,
         children: Option<OwnedChildren<RadixTree<K, V>>>,
     ) -> Self
         requires { IsCanonical K.cmp
-            (made prefix.items value (map (λ t. t) (listed (λ own. own.list.items) children))) }
-        ensures { result ≡ made prefix.items value
+            (made prefix value (map (λ t. t) (listed (λ own. own.list.items) children))) }
+        ensures { result ≡ made prefix value
             (map (λ t. t) (listed (λ own. own.list.items) children)) }
     {
         let children = match children {
             Some(own) => own.list,
-            None => Vec::new(*prefix.allocator()),
+            None => Vec::new(prefix.allocator()),
         };
         RadixTree {
             prefix,
@@ -115,6 +115,6 @@ impl<K: TKey, V: TValue> RadixNode<K, V> for RadixTree<K, V> {
     }
 
     fn allocator(&self) -> Global {
-        *self.prefix.allocator()
+        self.prefix.allocator()
     }
 }

@@ -2,6 +2,7 @@
 //! that are shared.
 
 ghost use Rattle.std.specs.Prelude.{◌≡◌, ◌↔◌, IfOk, IsTrue};
+ghost use Rattle.std.specs.Option.{option_copied};
 ghost use Rattle.vc_tree_model.specs.Equal.{same_tree};
 ghost use Rattle.vc_tree_model.specs.Map.{lookup, IsEqualMap};
 ghost use Rattle.vc_tree_model.specs.Same.{IsSame};
@@ -9,11 +10,12 @@ ghost use Rattle.vc_tree_model.specs.Value.{IsKept};
 ghost use Rattle.vc_tree_nodes.specs.Children.{listed};
 ghost use Rattle.vc_tree_nodes.specs.SameTests.{same_tree-partial, same_tree-equivalence};
 
-use crate::children::{Parts, SharedChildren};
+use crate::body::Body;
+use crate::children::{Fragment, Parts, SharedChildren};
 use crate::comparing::is_equal;
 use crate::copying::clone_value;
+use crate::prefix::Prefix;
 use crate::reading::{RadixNode, TKey, TValue, canonical};
-use smallvec::SmallVec;
 use std::alloc::{AllocError, Global};
 use std::default::MadeWith;
 use std::marker::Model;
@@ -26,31 +28,32 @@ use std::rc::Rc;
 /// key has components, and no more than keys; a long key alone is one level.
 #[derive(Drop)]
 pub struct ArcRadixTree<K: TKey, V: TValue> {
-    prefix: SmallVec<K, 16>,
-    value: Option<V>,
-    children: Option<Rc<Vec<ArcRadixTree<K, V>>>>,
+    prefix: Prefix<K>,
+    body: Body<V, Rc<Vec<ArcRadixTree<K, V>>>>,
 }
 
 impl<K: TKey, V: TValue> Model for ArcRadixTree<K, V> {
     ghost use Rattle.std.specs.Prelude.{refl};
     ghost use Rattle.vc_tree_model.specs.Tree.{Tree, node, shared_forest, nodes};
-    ghost use Rattle.vc_tree_model.specs.TreeCode.{tree_code, shared_falls};
+    ghost use Rattle.vc_tree_model.specs.TreeCode.{tree_code};
     ghost use Rattle.vc_tree_model.specs.Canonical.{IsCanonical};
+    ghost use Rattle.vc_tree_nodes.specs.Body.{body_value, body_children, body_falls};
 
     ghost Value = { Tree K V };
 
     ghost coded = { tree_code K.code V.code };
 
-    ghost view = { λ a. node a.prefix.items a.value
-        (shared_forest (λ rc. rc.value.items) a.children) };
+    ghost view = { λ a. node a.prefix (body_value a.body)
+        (shared_forest (λ rc. rc.value.items) (body_children a.body)) };
 
-    ghost invariant = { λ a. IsCanonical K.cmp
-        (node a.prefix.items a.value (shared_forest (λ rc. rc.value.items) a.children)) };
+    ghost invariant = { λ a. IsCanonical K.cmp (node a.prefix (body_value a.body)
+        (shared_forest (λ rc. rc.value.items) (body_children a.body))) };
 
     ghost size = { nodes };
 
-    ghost size_decreases = { λ a h. shared_falls (λ rc. rc.value.items)
-        (λ o. child_size (record a { children = o })) refl (λ r. refl) a.children };
+    ghost size_decreases = { λ a h. body_falls (λ rc. rc.value.items)
+        (λ o. child_size (record a { body = o }))
+        refl (λ v. refl) (λ r. refl) (λ v r. refl) a.body };
 }
 
 impl<K: TKey + MadeWith<Global>, V: TValue> ArcRadixTree<K, V> {
@@ -65,48 +68,41 @@ impl<K: TKey + MadeWith<Global>, V: TValue> ArcRadixTree<K, V> {
         ensures canonical { IsCanonical K.cmp result }
     {
         ArcRadixTree {
-            prefix: SmallVec::new(alloc),
-            value: None,
-            children: None,
+            prefix: Prefix::new(alloc),
+            body: Body::Neither,
         }
     }
 
     /// The parts of the root.
-    pub(crate) fn into_parts(self) -> Parts<SmallVec<K, 16>, V, SharedChildren<ArcRadixTree<K, V>>>
-        ensures prefix { result.prefix.items ≡ self.prefix }
+    pub(crate) fn into_parts(self) -> Parts<Prefix<K>, V, SharedChildren<ArcRadixTree<K, V>>>
+        ensures prefix { result.prefix ≡ self.prefix }
         ensures value { result.value ≡ self.value }
         ensures children { seen (λ t. t) (listed (λ held. held.shared.value.items) result.children)
             ≡ self.children }
         ensures canonical { IsCanonical K.cmp self }
     {
-        let ArcRadixTree {
+        let ArcRadixTree { prefix, body } = self;
+        let (value, children) = body.into_parts();
+        let children = match children {
+            Some(shared) => Some(SharedChildren { shared }),
+            None => None,
+        };
+        Parts {
             prefix,
             value,
             children,
-        } = self;
-        match children {
-            Some(shared) => Parts {
-                prefix,
-                value,
-                children: Some(SharedChildren { shared }),
-            },
-            None => Parts {
-                prefix,
-                value,
-                children: None,
-            },
         }
     }
 
     /// The tree of these parts.
     pub(crate) fn from_parts(
-        prefix: SmallVec<K, 16>,
+        prefix: Prefix<K>,
         value: Option<V>,
         children: Option<SharedChildren<ArcRadixTree<K, V>>>,
     ) -> Self
-        requires { IsCanonical K.cmp (made prefix.items value
+        requires { IsCanonical K.cmp (made prefix value
             (map (λ t. t) (listed (λ held. held.shared.value.items) children))) }
-        ensures { result ≡ made prefix.items value
+        ensures { result ≡ made prefix value
             (map (λ t. t) (listed (λ held. held.shared.value.items) children)) }
     {
         let children = match children {
@@ -115,8 +111,7 @@ impl<K: TKey + MadeWith<Global>, V: TValue> ArcRadixTree<K, V> {
         };
         ArcRadixTree {
             prefix,
-            value,
-            children,
+            body: Body::of(value, children),
         }
     }
 }
@@ -129,8 +124,8 @@ fn some_unless_empty<T: Drop>(list: Rc<Vec<T>>) -> Option<Rc<Vec<T>>>
 }
 
 /// One more owner of the children, if there are some.
-fn share<T: Drop>(children: &Option<Rc<T>>) -> Result<Option<Rc<T>>, AllocError>
-    ensures { IfOk result (IsKept (λ a b. b.value ≡ a.value) children.now) }
+fn share<T: Drop>(children: Option<&Rc<T>>) -> Result<Option<Rc<T>>, AllocError>
+    ensures { IfOk result (IsKept (λ a b. b.value ≡ a.value) (option_copied children.entry)) }
 {
     match children {
         Some(shared) => Ok(Some(shared.clone()?)),
@@ -151,13 +146,12 @@ impl<K: TKey + MadeWith<Global>, V: TValue> ArcRadixTree<K, V> {
         ensures snapshot { IfOk result (IsSnapshot V.is_clone self.now) }
         ensures canonical { IfOk result (IsCanonical K.cmp) }
     {
-        let prefix = SmallVec::from_slice(*self.prefix.allocator(), self.prefix.as_slice())?;
-        let value = clone_value(self.value.as_ref())?;
-        let children = share(&self.children)?;
+        let prefix = Prefix::from_slice(self.prefix.allocator(), self.prefix.as_slice())?;
+        let value = clone_value(self.body.value())?;
+        let children = share(self.body.children())?;
         let copy = ArcRadixTree {
             prefix,
-            value,
-            children,
+            body: Body::of(value, children),
         };
         canonical(&copy);
         Ok(copy)
@@ -182,18 +176,18 @@ impl<K: TKey, V: TValue> RadixNode<K, V> for ArcRadixTree<K, V> {
     }
 
     fn value(&self) -> Option<&V> {
-        self.value.as_ref()
+        self.body.value()
     }
 
     fn children(&self) -> &[Self] {
-        match &self.children {
+        match self.body.children() {
             None => &[],
             Some(shared) => shared.as_ref().as_slice(),
         }
     }
 
     fn allocator(&self) -> Global {
-        *self.prefix.allocator()
+        self.prefix.allocator()
     }
 }
 

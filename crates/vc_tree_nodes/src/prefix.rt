@@ -1,0 +1,130 @@
+//! A node's prefix, as both flavours store it.
+
+ghost use Rattle.std.specs.Prelude.{◌≡◌, ◌++◌, ◌≤◌, [], IfOk, IsOk, length, take};
+
+use crate::children::Fragment;
+use std::alloc::{AllocError, Global};
+use std::default::MadeWith;
+use std::marker::Model;
+
+/// The components of a node's prefix: up to 16 in place, and more than that behind a pointer, so
+/// that a prefix of bytes takes three words. It is seen as the list of its components.
+#[derive(Drop)]
+pub struct Prefix<K> {
+    alloc: Global,
+    cells: Cells<K>,
+}
+
+/// Where the components of a prefix lie.
+#[derive(Drop)]
+pub(crate) enum Cells<K> {
+    /// The first `len` of these places.
+    Short { len: u8, places: [K; 16] },
+    /// A list of its own.
+    Long(Box<Vec<K>>),
+}
+
+impl<K> Model for Prefix<K> {
+    ghost use Rattle.std.specs.Prelude.{List};
+    ghost use Rattle.std.specs.Coded.{coded_list};
+    ghost use Rattle.vc_tree_nodes.specs.Prefix.{stored, IsSound};
+
+    ghost Value = { List K };
+
+    ghost coded = { coded_list K.code };
+
+    ghost view = { λ p. stored p.cells };
+
+    ghost invariant = { λ p. IsSound p.cells };
+}
+
+impl<K> Prefix<K> {
+    /// The components.
+    #[inline]
+    pub fn as_slice(&self) -> &[K]
+        ensures { result.now ≡ self.now }
+    {
+        match &self.cells {
+            Cells::Short { len, places } => &places[..usize::from(*len)],
+            Cells::Long(list) => list.as_slice(),
+        }
+    }
+
+    /// The allocator of the tree.
+    #[inline]
+    pub fn allocator(&self) -> Global {
+        self.alloc
+    }
+}
+
+impl<K: Copy + MadeWith<Global>> Prefix<K> {
+    /// No component.
+    pub fn new(alloc: Global) -> Self
+        ensures { result ≡ [] }
+    {
+        Prefix::short(alloc, 0, Prefix::blanks(alloc))
+    }
+
+    /// Places that hold nothing yet.
+    #[inline]
+    fn blanks(alloc: Global) -> [K; 16] {
+        [K::made_with(alloc); 16]
+    }
+
+    /// The first `len` of the places.
+    #[inline]
+    fn short(alloc: Global, len: usize, places: [K; 16]) -> Self
+        requires { len ≤ 16 }
+        ensures { result ≡ take len places }
+    {
+        let len = len as u8;
+        Prefix {
+            alloc,
+            cells: Cells::Short { len, places },
+        }
+    }
+
+    /// The components of a list.
+    fn long(alloc: Global, list: Vec<K>) -> Result<Self, AllocError>
+        ensures { IfOk result (λ made. made ≡ list.items) }
+    {
+        let list = Box::new(alloc, list)?;
+        Ok(Prefix {
+            alloc,
+            cells: Cells::Long(list),
+        })
+    }
+}
+
+impl<K: Copy + MadeWith<Global>> Fragment<K> for Prefix<K> {
+    ghost items = { λ made. made };
+
+    fn as_slice(&self) -> &[K] {
+        Prefix::as_slice(self)
+    }
+
+    fn from_slice(alloc: Global, slice: &[K]) -> Result<Prefix<K>, AllocError> {
+        let len = slice.len();
+        if len > 16 {
+            return Prefix::long(alloc, Vec::from_slice(alloc, slice)?);
+        }
+        let mut places = Prefix::blanks(alloc);
+        places[..len].copy_from_slice(slice);
+        Ok(Prefix::short(alloc, len, places))
+    }
+
+    fn joined(alloc: Global, front: &[K], back: &[K]) -> Result<Prefix<K>, AllocError> {
+        let whole = front.len().saturating_add(back.len());
+        if whole > 16 {
+            let mut list = Vec::with_capacity(alloc, whole)?;
+            list.extend_from_slice(front)?;
+            list.extend_from_slice(back)?;
+            return Prefix::long(alloc, list);
+        }
+        let mut places = Prefix::blanks(alloc);
+        let all = &mut places[..whole];
+        all[..front.len()].copy_from_slice(front);
+        all[front.len()..].copy_from_slice(back);
+        Ok(Prefix::short(alloc, whole, places))
+    }
+}
