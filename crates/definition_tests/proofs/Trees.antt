@@ -1,8 +1,11 @@
 -- Worked rows of the definitions on trees, beside those that stand with them.
-use Rattle.std.specs.Prelude.{◌≡◌, ℕ, suc, ◌==◌, true, false, [], ◌∷◌, Some, None, codes, refl}
+use Rattle.std.specs.Prelude.{◌≡◌, ℕ, suc, ◌+◌, ◌==◌, true, false, List, [], ◌∷◌, ◌++◌}
+use Rattle.std.specs.Prelude.{Some, None, Result, Ok, Err, ⊤, codes, refl}
 use Rattle.std.proofs.Common.{inl, inr, sym, arith, nat_cmp}
 use Rattle.std.proofs.lemmas.Cmp.{nat_cmp_total}
 use Rattle.std.specs.declared.cmp.Ordering.TheVariants.{Less, Equal, Greater}
+use denote.Ref.{Bor}
+use denote.Param.Members.{Shared}
 use Rattle.vc_tree_model.specs.Key.{same_key, BeginsBelow}
 use Rattle.vc_tree_model.specs.Value.{IsKept, Copies, itself, cloned}
 use Rattle.vc_tree_model.specs.Matches.{AreCopies, HaveOneSource}
@@ -26,10 +29,12 @@ use Rattle.vc_tree_model.proofs.Smallness.{canonical-smallest}
 use Rattle.vc_tree_model.proofs.Shallowness.{canonical-shallow}
 use Rattle.vc_tree_model.proofs.Walking.{walk-is}
 use Rattle.vc_tree_nodes.specs.Children.{seen}
+use Rattle.definition_tests.proofs.Closures.{closure, ref}
 use Rattle.definition_tests.proofs.Digits.{same, not_true}
 use Rattle.definition_tests.proofs.Letters.{Letter, a, b, by_letter, each_key, leaf, a_and_ab}
 use Rattle.vc_tree_removal.specs.Without.{IsWithout, IsWithoutBelow}
 use Rattle.vc_tree_walks.specs.Ends.{IsGreatestPair, IsLeastPair}
+use Rattle.vc_tree_walks.specs.Folding.{IsStopped, TurnFails}
 
 -- ---- keys and values
 
@@ -243,6 +248,37 @@ is_greatest_pair = record {
 -- ab does not come first
 is_no_least_pair : IsLeastPair {V = ℕ} by_letter (lookup by_letter (a_and_ab 1 2)) (a ∷ b ∷ [], 2) → ⊥
 is_no_least_pair h = h.least (a ∷ []) refl refl
+
+-- ---- walks that hand a value on
+
+-- adds up values to one that is 2, which ends it with the sum before
+abbrev adds_to_two : Shared (Unit {0}) (ℕ × (Bor (List Letter) × (Bor ℕ × Unit {0}))) (Result ℕ ℕ)
+adds_to_two = closure (λ asked. ⊤)
+    (λ asked r. r ≡ (elim (asked.1.1.0.now == 2) [ true ↦ Err asked.0 | false ↦ Ok (asked.0 + asked.1.1.0.now) ]))
+
+-- shown ab with 2 where it holds 1, it answers 1 as an error
+turn_fails : TurnFails adds_to_two tt 1 (a ∷ b ∷ [], 2) 1
+turn_fails = record { key = ref (a ∷ b ∷ []); value = ref 2; shows = refl; says = refl }
+
+-- so 1 ends the walk over a with 1 and ab with 2, which began with 0
+is_stopped : IsStopped adds_to_two tt 0 ((a ∷ [], 1) ∷ (a ∷ b ∷ [], 2) ∷ []) 1
+is_stopped = record {
+  before = (a ∷ [], 1) ∷ [];
+  pair = (a ∷ b ∷ [], 2);
+  after = [];
+  held = 1;
+  parts = refl;
+  folded = (1, record { key = ref (a ∷ []); value = ref 1; shows = refl; says = refl }, refl);
+  fails = turn_fails;
+}
+
+-- and nothing ends a walk over no pairs
+is_not_stopped : IsStopped adds_to_two tt 0 [] 0 → ⊥
+is_not_stopped s = no_pair s.pair s.after s.before s.parts
+  where
+    no_pair : (x : List Letter × ℕ) (after before : List (List Letter × ℕ)) → [] ≡ before ++ x ∷ after → ⊥
+    no_pair x after [] e = cc
+    no_pair x after (y ∷ before) e = cc
 
 -- ---- keys of two trees
 

@@ -1,7 +1,7 @@
 //! Walks from outside: the walks of one tree beside each other, their steps, and the keys that they
 //! give.
-ghost use Rattle.std.specs.Prelude.{◌≡◌, ◌+◌, ◌-◌, ◌^◌, ℕ, List, None, IfOk, IsSome, MatchOption};
-ghost use Rattle.std.specs.Prelude.{length, map, max, min};
+ghost use Rattle.std.specs.Prelude.{◌≡◌, ◌≤◌, ◌⊎◌, ◌+◌, ◌-◌, ◌^◌, ℕ, List, None, IfErr, IfOk};
+ghost use Rattle.std.specs.Prelude.{Contains, IsSome, MatchOption, length, map, max, min};
 ghost use Rattle.std.specs.List.{fold};
 ghost use Rattle.std.specs.Ordering.{nat_cmp};
 ghost use Rattle.vec_collections.specs.Ends.{IsGreatestPair, IsLeastPair};
@@ -12,6 +12,7 @@ ghost use Rattle.vec_collections.specs.OwnedLeft.{held_left, WalksClones};
 ghost use Rattle.vec_collections.specs.Under.{under};
 ghost use Rattle.vec_collections.specs.ValuesLeft.{values_left};
 ghost use Rattle.vec_collections.specs.Walk.{IsWalk, walk};
+ghost use Rattle.facade_user_tests.specs.declared.walks.Uncounted.TheVariants.{NoMemory, Port};
 
 use std::alloc::AllocError;
 use vec_collections::radix_tree::{
@@ -122,4 +123,38 @@ pub fn greatest_port_below<T: AbstractRadixTree<u8, u32>>(
         × (port ≡ fold (λ most b. max most b.1) 0 l)) }
 {
     ports.fold_prefix(folder, 0u32, |most, _, port| Ok(most.max(*port)))
+}
+
+/// Why ports are not counted.
+#[derive(Clone, Copy, Debug, PartialEq, Eq)]
+pub enum Uncounted {
+    /// Memory was refused.
+    NoMemory,
+    /// This port is not below the limit.
+    Port(u32),
+}
+
+impl From<AllocError> for Uncounted {
+    ghost from_gives = { λ _ error. error ≡ NoMemory };
+
+    fn from(_: AllocError) -> Uncounted {
+        Uncounted::NoMemory
+    }
+}
+
+/// How many ports there are, where all are below a limit. One that is not ends the count.
+pub fn count_ports_below<T: AbstractRadixTree<u8, u32>>(
+    ports: &T,
+    limit: u32,
+) -> Result<usize, Uncounted>
+    ensures above { IfErr result (λ e. (e ≡ NoMemory) ⊎ ((b : List ℕ × ℕ)
+        × Contains (walk (T.tree ports.now)) b × (limit ≤ b.1) × (e ≡ Port b.1))) }
+{
+    ports.fold(0usize, |count, _, port| {
+        if *port < limit {
+            Ok(count.saturating_add(1))
+        } else {
+            Err(Uncounted::Port(*port))
+        }
+    })
 }

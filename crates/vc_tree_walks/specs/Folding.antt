@@ -27,6 +27,23 @@ module _ {F B K V E : Type 0} (g : Shared F (B × (Bor (List K) × (Bor V × Uni
   CanFold init l = (before after : List (List K × V)) (held : B) (key : Bor (List K)) (value : Bor V)
       → l ≡ before ++ (key.now, value.now) ∷ after → FoldsTo Turns init before held → g.pre f (held, (key, (value, tt)))
 
+  -- the closure may answer this error where it is handed that value and shown the pair
+  pub record TurnFails (held : B) (pair : List K × V) (error : E) : Type 0 where
+    pub key : Bor (List K)
+    pub value : Bor V
+    pub shows : (key.now, value.now) ≡ pair
+    pub says : g.post f (held, (key, (value, tt))) (Err error)
+
+  -- the closure answers this error at some pair of the list, handed what it made of the pairs before
+  pub record IsStopped (init : B) (l : List (List K × V)) (error : E) : Type 0 where
+    pub before : List (List K × V)
+    pub pair : List K × V
+    pub after : List (List K × V)
+    pub held : B
+    pub parts : l ≡ before ++ pair ∷ after
+    pub folded : FoldsTo Turns init before held
+    pub fails : TurnFails held pair error
+
   -- where each answer is what a function makes of the value and the pair, the last is its fold over the list
   pub folds-as : (h : B → List K × V → B) → ((held : B) (pair : List K × V) (next : B) → Turns held pair next → next ≡ h held pair)
       → (l : List (List K × V)) (init : B) (r : Result B E) → IfOk r (FoldsTo Turns init l) → IfOk r (λ last. last ≡ fold h init l)
@@ -45,3 +62,13 @@ module _ {F B K V E : Type 0} (g : Shared F (B × (Bor (List K) × (Bor V × Uni
       → IfOk r (λ last. (l : List (List K × V)) × W l × (last ≡ fold h init l))
   folds-some-as h each W init (Err e) s = tt
   folds-some-as h each W init (Ok last) s = (s.0, s.1, folds-as h each s.0 init (Ok last) s.2)
+
+  -- where each answer is what a function makes of the value and the pair, the error ends its fold over the pairs before
+  pub stops-as : (h : B → List K × V → B)
+      → ((held : B) (pair : List K × V) (next : B) → Turns held pair next → next ≡ h held pair)
+      → (l : List (List K × V)) (init : B) (error : E) → IsStopped init l error
+      → (before : List (List K × V)) × (pair : List K × V) × (after : List (List K × V)) × (l ≡ before ++ pair ∷ after)
+      × TurnFails (fold h init before) pair error
+  stops-as h each l init error s =
+      let same = folds-as h each s.before init (Ok s.held) s.folded in
+      (s.before, s.pair, s.after, s.parts, subst (λ held. TurnFails held s.pair error) same s.fails)

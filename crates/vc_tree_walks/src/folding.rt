@@ -1,12 +1,12 @@
 //! Walks that hand a value from pair to pair, and lend each key.
 
-ghost use Rattle.std.specs.Prelude.{◌≡◌, map, true, IfOk, Ok, OnOk};
+ghost use Rattle.std.specs.Prelude.{◌≡◌, ◌⊎◌, alloc_error, map, true, IfErr, IfOk, Ok, OnOk};
 ghost use Rattle.std.specs.List.{FoldsTo};
 ghost use Rattle.vc_tree_model.specs.Map.{lookup};
 ghost use Rattle.vc_tree_model.specs.Tree.{is_bare};
 ghost use Rattle.vc_tree_model.specs.Under.{under};
 ghost use Rattle.vc_tree_model.specs.Walk.{prepended, walk, IsWalk};
-ghost use Rattle.vc_tree_walks.specs.Folding.{CanFold, Turns, pairs_in};
+ghost use Rattle.vc_tree_walks.specs.Folding.{CanFold, IsStopped, Turns, pairs_in};
 ghost use Rattle.vc_tree_walks.specs.Left.{pair_at};
 
 use crate::scan::find_under;
@@ -24,6 +24,8 @@ pub fn fold<
 >(tree: &T, init: B, turn: &F) -> Result<B, E>
     requires callable { CanFold F.Fn turn.now init (walk (T.tree tree.now)) }
     ensures folded { IfOk result (FoldsTo (Turns F.Fn turn.now) init (walk (T.tree tree.now))) }
+    ensures err { IfErr result (λ e. E.from_gives alloc_error e
+        ⊎ IsStopped F.Fn turn.now init (walk (T.tree tree.now)) e) }
     ensures none { is_bare (T.tree tree.now) ≡ true → result ≡ Ok init }
 {
     if is_empty(tree) {
@@ -48,6 +50,9 @@ pub fn fold_prefix<
     ensures folded { IfOk result (λ last. (l : _)
         × IsWalk K.cmp (under K.cmp (lookup K.cmp (T.tree tree.now)) prefix.now) l
         × FoldsTo (Turns F.Fn turn.now) init l last) }
+    ensures err { IfErr result (λ e. E.from_gives alloc_error e
+        ⊎ ((l : _) × IsWalk K.cmp (under K.cmp (lookup K.cmp (T.tree tree.now)) prefix.now) l
+        × IsStopped F.Fn turn.now init l e)) }
 {
     let Some((front, node)) = find_under(tree, prefix) else {
         return Ok(init);
@@ -71,6 +76,8 @@ fn fold_node<
         (map (prepended key.old.items) (walk (T.tree node.now))) }
     ensures folded { IfOk result (FoldsTo (Turns F.Fn turn.now) held
         (map (prepended key.old.items) (walk (T.tree node.now)))) }
+    ensures err { IfErr result (λ e. E.from_gives alloc_error e
+        ⊎ IsStopped F.Fn turn.now held (map (prepended key.old.items) (walk (T.tree node.now))) e) }
     ensures key { OnOk result (key.new.items ≡ key.old.items) }
 {
     let front = key.len();
@@ -93,6 +100,8 @@ fn fold_own<
     requires callable { CanFold F.Fn turn.now held (pair_at key.now (T.tree node.now).value) }
     ensures folded { IfOk result (FoldsTo (Turns F.Fn turn.now) held
         (pair_at key.now (T.tree node.now).value)) }
+    ensures err { IfErr result
+        (IsStopped F.Fn turn.now held (pair_at key.now (T.tree node.now).value)) }
 {
     match node.value() {
         Some(value) => turn(held, key, value),
@@ -113,6 +122,8 @@ fn fold_list<
     requires callable { CanFold F.Fn turn.now held (pairs_in T.tree key.old.items list.now) }
     ensures folded { IfOk result (FoldsTo (Turns F.Fn turn.now) held
         (pairs_in T.tree key.old.items list.now)) }
+    ensures err { IfErr result (λ e. E.from_gives alloc_error e
+        ⊎ IsStopped F.Fn turn.now held (pairs_in T.tree key.old.items list.now) e) }
     ensures key { OnOk result (key.new.items ≡ key.old.items) }
 {
     let mut last = held;

@@ -1,8 +1,8 @@
 //! The calls that read a radix tree.
 
-ghost use Rattle.std.specs.Prelude.{◌≡◌, ◌+◌, ◌-◌, ◌*◌, ◌^◌, ◌<◌, ◌≤◌, List, None, Ok, IfOk};
+ghost use Rattle.std.specs.Prelude.{◌≡◌, ◌+◌, ◌-◌, ◌*◌, ◌^◌, ◌<◌, ◌≤◌, ◌⊎◌, List, None, Ok, IfOk};
 ghost use Rattle.std.specs.Prelude.{IfSome, IsTrue, length, map, min, slice_get, take, true};
-ghost use Rattle.std.specs.Prelude.{MatchBool, MatchOption};
+ghost use Rattle.std.specs.Prelude.{alloc_error, IfErr, MatchBool, MatchOption};
 ghost use Rattle.std.specs.List.{FoldsTo};
 ghost use Rattle.std.specs.Option.{is_some, option_copied, option_map};
 ghost use Rattle.vc_merge.specs.Count.{digits};
@@ -18,7 +18,7 @@ ghost use Rattle.vc_tree_model.specs.Shortened.{weight, IsShortened};
 ghost use Rattle.vc_tree_model.specs.Under.{under};
 ghost use Rattle.vc_tree_model.specs.Walk.{IsWalk, walk};
 ghost use Rattle.vc_tree_walks.specs.Ends.{IsGreatestPair, IsLeastPair};
-ghost use Rattle.vc_tree_walks.specs.Folding.{CanFold, Turns};
+ghost use Rattle.vc_tree_walks.specs.Folding.{CanFold, IsStopped, Turns};
 ghost use Rattle.vc_tree_walks.specs.IterLeft.{pairs_left};
 ghost use Rattle.vc_tree_walks.specs.OwnedLeft.{held_left};
 ghost use Rattle.vc_tree_walks.specs.ValuesLeft.{values_left};
@@ -235,6 +235,8 @@ pub trait AbstractRadixTree<K: TKey, V: TValue>: RadixNode<K, V> {
     ) -> Result<B, E>
         requires callable { CanFold F.Fn turn init (walk (Self.tree self.now)) }
         ensures folded { IfOk result (FoldsTo (Turns F.Fn turn) init (walk (Self.tree self.now))) }
+        ensures err { IfErr result (λ e. E.from_gives alloc_error e
+            ⊎ IsStopped F.Fn turn init (walk (Self.tree self.now)) e) }
         ensures none { is_bare (Self.tree self.now) ≡ true → result ≡ Ok init }
     {
         folding::fold(self, init, &turn)
@@ -254,6 +256,9 @@ pub trait AbstractRadixTree<K: TKey, V: TValue>: RadixNode<K, V> {
         ensures folded { IfOk result (λ last. (l : _)
             × IsWalk K.cmp (under K.cmp (lookup K.cmp (Self.tree self.now)) prefix.now) l
             × FoldsTo (Turns F.Fn turn) init l last) }
+        ensures err { IfErr result (λ e. E.from_gives alloc_error e
+            ⊎ ((l : _) × IsWalk K.cmp (under K.cmp (lookup K.cmp (Self.tree self.now)) prefix.now) l
+            × IsStopped F.Fn turn init l e)) }
     {
         folding::fold_prefix(self, prefix, init, &turn)
     }

@@ -3,7 +3,7 @@ use Rattle.std.proofs.Common.{◌≡◌, ◌+◌, ◌*◌, drop}
 use Rattle.std.specs.List.{FoldsTo}
 use Rattle.vc_tree_model.specs.Tree.{forest_nodes, nodes}
 use Rattle.vc_tree_nodes.specs.Children.{seen}
-use Rattle.vc_tree_walks.specs.Folding.{CanFold, Turns, pairs_in}
+use Rattle.vc_tree_walks.specs.Folding.{CanFold, IsStopped, Turns, pairs_in}
 use Rattle.vc_tree_walks.proofs.folding.+folding.Given as goal
 
 abbrev pub decreases-fold_node : goal.decreases-fold_node
@@ -20,4 +20,6 @@ invariant-fold_list-loop-tree g l =
       callable : CanFold g.F.Fn l.turn l.last (pairs_in tree l.fn.key.items (drop l.tree-index l.list));
       folded : (last : _) → FoldsTo (Turns g.F.Fn l.turn) l.last (pairs_in tree l.fn.key.items (drop l.tree-index l.list)) last
           → FoldsTo (Turns g.F.Fn l.turn) l.fn.held (pairs_in tree l.fn.key.items l.list) last;
+      stopped : (e : _) → IsStopped g.F.Fn l.turn l.last (pairs_in tree l.fn.key.items (drop l.tree-index l.list)) e
+          → IsStopped g.F.Fn l.turn l.fn.held (pairs_in tree l.fn.key.items l.list) e;
     }

@@ -1,10 +1,10 @@
 -- The one pair of the node is the one that the closure is shown.
-use Rattle.std.proofs.Common.{rules, ◌≡◌, [], ◌∷◌, ◌∙◌, ap, sym, refl, subst, IfOk}
+use Rattle.std.proofs.Common.{rules, ◌≡◌, [], ◌∷◌, ◌∙◌, ap, sym, refl, subst, IfErr, IfOk}
 use Rattle.std.specs.List.{FoldsTo}
 use Rattle.std.specs.Option.{option_copied}
-use Rattle.vc_tree_walks.specs.Folding.{Turns}
+use Rattle.vc_tree_walks.specs.Folding.{IsStopped, Turns}
 use Rattle.vc_tree_walks.specs.Left.{pair_at}
-use Rattle.vc_tree_walks.proofs.Folds.{turned-once}
+use Rattle.vc_tree_walks.proofs.Folds.{stopped-once, turned-once}
 use Rattle.vc_tree_walks.proofs.folding.fold_own.Goals as goal
 
 pub turn-requires : goal.turn-requires
@@ -21,4 +21,6 @@ returns-in-Some g c =
     record {
       folded = subst (λ l. IfOk c.turn.result (FoldsTo (Turns g.F.Fn c.args.turn.now) c.args.held l)) (sym one)
           (turned-once g.F.Fn c.args.turn.now c.args.held c.args.key c.in-Some.value c.turn.result c.turn.ensures);
+      err = subst (λ l. IfErr c.turn.result (IsStopped g.F.Fn c.args.turn.now c.args.held l)) (sym one)
+          (stopped-once g.F.Fn c.args.turn.now c.args.held c.args.key c.in-Some.value c.turn.result c.turn.ensures);
     }

@@ -1,10 +1,10 @@
 -- The walk of what `find_under` finds.
-use Rattle.std.proofs.Common.{◌≡◌, ◌++◌, ◌∙◌, ap, sym, subst, map}
+use Rattle.std.proofs.Common.{◌≡◌, ◌++◌, ◌∙◌, alloc_error, ap, sym, subst, map}
 use Rattle.vc_tree_model.specs.Map.{lookup}
 use Rattle.vc_tree_model.specs.Under.{under}
 use Rattle.vc_tree_model.specs.Walk.{IsWalk, prepended, walk}
 use Rattle.vc_tree_walks.specs.IterLeft.{pairs_from}
-use Rattle.vc_tree_walks.proofs.Folds.{walked}
+use Rattle.vc_tree_walks.proofs.Folds.{stopped-walk, walked}
 use Rattle.vc_tree_walks.proofs.folding.fold_prefix.Goals as goal
 
 pub returns : goal.returns
@@ -14,7 +14,10 @@ returns g c =
     let front : c.extend_from_slice.new.self.items ≡ c.in-Some.front.now =
     c.in_ok-extend_from_slice.ensures.items ∙ ap (λ k. k ++ c.in-Some.front.now) c.new-key.ensures.items in
     let found = ap (pairs_from g.T.RadixNode.tree) c.in-Some.is ∙ ap (λ k. map (prepended k) w) (sym front) in
+    let walks = subst (IsWalk g.K.Ord.cmp binds) found c.find_under.ensures in
     record {
-      folded = walked g.F.Fn c.args.turn.now (IsWalk g.K.Ord.cmp binds) _ c.args.init c.fold_node.result
-          (subst (IsWalk g.K.Ord.cmp binds) found c.find_under.ensures) c.fold_node.ensures.folded;
+      folded = walked g.F.Fn c.args.turn.now (IsWalk g.K.Ord.cmp binds) _ c.args.init c.fold_node.result walks
+          c.fold_node.ensures.folded;
+      err = stopped-walk g.F.Fn c.args.turn.now (g.E.From.from_gives alloc_error) (IsWalk g.K.Ord.cmp binds) _ c.args.init
+          c.fold_node.result walks c.fold_node.ensures.err;
     }
