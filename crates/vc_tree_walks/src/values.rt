@@ -1,13 +1,10 @@
 //! The values of a tree, in the order of their keys.
 
-ghost use Rattle.std.specs.Prelude.{◌≡◌, ◌<◌, ◌++◌, [], map, IfOk, OnOk, OnErr};
-ghost use Rattle.std.specs.Option.{option_copied};
+ghost use Rattle.std.specs.Prelude.{◌≡◌, ◌<◌, ◌≤◌, ◌++◌, [], map, IfSome, MatchOption, OnOk};
 ghost use Rattle.vc_tree_model.specs.Walk.{walk};
-ghost use Rattle.vc_tree_walks.specs.Left.{rows_work};
-ghost use Rattle.vc_tree_walks.specs.ValuesLeft.{own_value, values_left, values_work, rows_values};
-ghost use Rattle.vc_tree_walks.specs.ValuesLeft.{rows_of, rows_before, IsValue, IsTurn};
+ghost use Rattle.vc_tree_walks.specs.ValuesLeft.{own_value, values_before, values_left};
+ghost use Rattle.vc_tree_walks.specs.ValuesLeft.{values_work, work_before};
 
-use crate::turn::Turn;
 use std::alloc::{AllocError, Global};
 use std::marker::PhantomData;
 use std::mem;
@@ -18,7 +15,7 @@ use vc_tree_nodes::reading::{RadixNode, TKey, TValue};
 /// A step takes no memory where the walk has been as deep before. After an `Err` the walk is at its
 /// end.
 pub struct Values<'a, K, V, T> {
-    /// The tree, until the first step.
+    /// The tree, until the first step, with which no row is left.
     start: Option<&'a T>,
     /// The innermost row: trees beside each other that are still to be walked.
     row: &'a [T],
@@ -53,46 +50,43 @@ impl<'a, K: TKey, V: TValue, T: RadixNode<K, V>> Values<'a, K, V, T> {
 }
 
 impl<'a, K: TKey, V: TValue + 'a, T: RadixNode<K, V>> Values<'a, K, V, T> {
-    /// One step: to the root, to the next tree of the innermost row, or out of that row.
-    fn turn(&mut self) -> Result<Turn<&'a V>, AllocError>
-        ensures ok { IfOk result (λ turn. IsTurn T.tree self.old turn self.new) }
-        ensures err { OnErr result (0 < values_work T.tree self.old) }
+    /// The next tree: the first of the innermost row that has one, or else the one to start with.
+    /// What lies below it is left out.
+    fn next_tree(&mut self) -> Option<&'a T>
+        ensures left { MatchOption result ((values_left T.tree self.old ≡ [])
+            × (values_left T.tree self.new ≡ []))
+            (λ tree. values_left T.tree self.old ≡ values_before T.tree tree.now self.new) }
+        ensures work { IfSome result
+            (λ tree. work_before T.tree tree.now self.new ≤ values_work T.tree self.old) }
     {
-        if let Some(tree) = self.start {
-            self.start = None;
-            self.row = &[];
-            self.above.clear();
-            self.enter(tree)?;
-            return Ok(found(tree.value()));
+        loop {
+            if let Some((tree, others)) = self.row.split_first() {
+                self.row = others;
+                return Some(tree);
+            }
+            match self.above.pop() {
+                Some(row) => self.row = row,
+                None => return self.start.take(),
+            }
         }
-        if let Some((tree, others)) = self.row.split_first() {
-            self.row = others;
-            self.enter(tree)?;
-            return Ok(found(tree.value()));
-        }
-        let Some(row) = self.above.pop() else {
-            return Ok(Turn::Done);
-        };
-        self.row = row;
-        Ok(Turn::Moved)
     }
 
-    /// Goes to a tree that stands before the innermost row: to its children, if it has some, and
-    /// else past it.
+    /// Goes to the children of a tree that stands before the innermost row, if it has some. Where
+    /// no tree is left beside it, that row is not kept.
     fn enter(&mut self, tree: &'a T) -> Result<(), AllocError>
-        ensures left { OnOk result (rows_values (rows_before T.tree tree.now self.old)
-            ≡ own_value (T.tree tree.now).value
-            ++ rows_values (rows_of T.tree self.new.row.now self.new.above.items)) }
+        ensures left { OnOk result (values_before T.tree tree.now self.old
+            ≡ own_value (T.tree tree.now).value ++ values_left T.tree self.new) }
         ensures work { OnOk result
-            (rows_work (rows_of T.tree self.new.row.now self.new.above.items)
-            < rows_work (rows_before T.tree tree.now self.old)) }
-        ensures start { self.new.start ≡ self.old.start }
+            (values_work T.tree self.new < work_before T.tree tree.now self.old) }
     {
         let children = tree.children();
         if children.is_empty() {
             return Ok(());
         }
         let beside = mem::replace(&mut self.row, children);
+        if beside.is_empty() {
+            return Ok(());
+        }
         self.above.push(beside)?;
         Ok(())
     }
@@ -105,16 +99,6 @@ impl<'a, K: TKey, V: TValue + 'a, T: RadixNode<K, V>> Values<'a, K, V, T> {
         self.start = None;
         self.row = &[];
         self.above.clear();
-    }
-}
-
-/// The item of a node that has this value, if it has one.
-fn found<'a, V>(value: Option<&'a V>) -> Turn<&'a V>
-    ensures { IsValue (option_copied value.entry) result }
-{
-    match value {
-        Some(value) => Turn::Item(value),
-        None => Turn::Moved,
     }
 }
 
@@ -131,17 +115,16 @@ impl<'a, K: TKey, V: TValue + 'a, T: RadixNode<K, V>> Iterator for Values<'a, K,
     ghost remaining = { λ s. at_most (values_work T.tree s) };
 
     fn next(&mut self) -> Option<Result<&'a V, AllocError>> {
-        loop {
-            match self.turn() {
-                Ok(Turn::Item(value)) => return Some(Ok(value)),
-                Ok(Turn::Moved) => {}
-                Ok(Turn::Done) => return None,
-                Err(fault) => {
-                    self.stop();
-                    return Some(Err(fault));
-                }
+        while let Some(tree) = self.next_tree() {
+            if let Err(fault) = self.enter(tree) {
+                self.stop();
+                return Some(Err(fault));
+            }
+            if let Some(value) = tree.value() {
+                return Some(Ok(value));
             }
         }
+        None
     }
 
     fn size_hint(&self) -> (usize, Option<usize>) {
