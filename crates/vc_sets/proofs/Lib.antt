@@ -2,6 +2,7 @@ pub mod Selected
 pub mod Begun
 mod BegunIn
 mod Spending
+mod Spanned
 pub mod Combined
 pub mod Searching
 pub mod Clones

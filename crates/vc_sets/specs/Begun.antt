@@ -1,5 +1,5 @@
 -- How far a walk along two sets has come that takes their events one by one. No public clause cites these words.
-use Rattle.std.specs.Prelude.{◌≡◌, ℕ, ◌+◌, ◌-◌, ◌≤◌, ⊤, Bool, true, false, List, [], ◌∷◌, ◌++◌}
+use Rattle.std.specs.Prelude.{◌≡◌, ℕ, ◌+◌, ◌-◌, ◌≤◌, ⊤, Bool, true, false, List, [], ◌∷◌, ◌++◌, take, drop, length}
 use Rattle.std.specs.declared.cmp.Ordering.{Ordering}
 use Rattle.std.specs.declared.cmp.Ordering.TheVariants.{Less, Equal, Greater}
 use Rattle.vc_merge.specs.Count.{bound}
@@ -7,6 +7,7 @@ use Rattle.vc_merge.specs.declared.plan.Plan.{Plan}
 use Rattle.vc_merge.specs.declared.plan.Plan.TheVariants.{Walk, Search}
 use Rattle.vc_merge.specs.Plan.{planned}
 use Rattle.vc_merge.specs.Script.{Event, IsScript, BothAscend}
+use Rattle.vc_merge.specs.Building.{Extends}
 use Rattle.vc_merge.specs.Gathering.{Appends}
 use Rattle.vc_merge.specs.PartsViews.{list_name, built_items, left_items, right_items}
 use Rattle.vc_merge.specs.declared.parts.PartsState.{PartsState}
@@ -49,3 +50,17 @@ LeavesEnough Walk block all_left all_right left right = ⊤
 LeavesEnough (Search shorter exponent) block all_left all_right left right =
     (m n : ℕ) → m ≤ left → n ≤ right
     → (all_left + all_right - (left + right)) + block + planned (Search shorter exponent) m n ≤ bound all_left all_right
+
+-- the first `passed` elements of xs were taken and the first n of ys. Of what f keeps of these, what comes by `from` was appended to old,
+-- but for the left elements from `copied` to `passed`, all of which are kept
+pub record IsSpanned {X : Type 0} (cmp : X → X → Ordering) (from : X → X → Type 0) (f : Bool → Bool → Bool) (xs ys : List X) (copied passed n : ℕ) (old new : List X) : Type 0 where
+  pub kept : List X
+  pub order : copied ≤ passed
+  pub within : passed ≤ length xs
+  pub begun : IsBegun cmp (λ x y. x ≡ y) f xs ys (drop passed xs) (drop n ys) [] (kept ++ take (passed - copied) (drop copied xs))
+  pub extended : Extends from kept old new
+
+-- how many of n right elements are kept at most
+abbrev pub kept_at_most : Bool → ℕ → ℕ
+kept_at_most true n = n
+kept_at_most false n = 0

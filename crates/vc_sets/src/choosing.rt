@@ -15,12 +15,13 @@ ghost use Rattle.vc_sets.specs.Begun.{IsBegun, LeavesEnough, kept_at, lesser_of}
 ghost use Rattle.vc_sets.specs.Select.{keeps};
 
 use crate::operations::compare;
+use crate::spans::pass_spans;
 use smallvec::SmallVec;
 use std::alloc::{AllocError, Allocator};
 use std::cmp::Ordering;
 use std::default::MadeWith;
 use vc_merge::merge::Count;
-use vc_merge::plan::{Plan, comparisons, most_comparisons};
+use vc_merge::plan::{Plan, Side, comparisons, most_comparisons};
 
 /// How many events a block has at most.
 pub(crate) const BLOCK: usize = 32;
@@ -139,7 +140,97 @@ pub fn begin_left<
     if BOTH {
         begin::<false, false, true, T, C, N, A>(a, b, plan, built, steps)
     } else {
-        begin::<true, false, false, T, C, N, A>(a, b, plan, built, steps)
+        begin_alone::<false, T, C, N, A>(a, b, plan, built, steps)
+    }
+}
+
+/// The same for an operation that keeps what stands on either side alone and, if `BOTH`, the left
+/// one of what stands on both sides.
+#[inline(always)]
+pub fn begin_either<
+    'a,
+    const BOTH: bool,
+    T: Ord + Clone + MadeWith<A>,
+    C: Count,
+    const N: usize,
+    A: Allocator + Copy,
+>(
+    a: &'a [T],
+    b: &'a [T],
+    plan: Plan,
+    built: &mut SmallVec<T, N, A>,
+    steps: &mut C,
+) -> Result<(&'a [T], &'a [T]), AllocError>
+    requires a_ascends { Ascends T.cmp a.now }
+    requires b_ascends { Ascends T.cmp b.now }
+    requires plan { IsPlan plan }
+    requires planned { planned plan (length a.now) (length b.now)
+        ≤ bound (length a.now) (length b.now) }
+    ensures begun { IfOk result (λ rest.
+        IsBegun T.cmp T.is_clone (keeps true true BOTH) a.now b.now rest.0.now rest.1.now
+        built.old.items built.new.items) }
+    ensures counted { IfOk result (λ rest. C.counted steps.new
+        + planned plan (length rest.0.now) (length rest.1.now)
+        ≤ C.counted steps.old + bound (length a.now) (length b.now)) }
+    ensures refused { C.counted steps.new
+        ≤ C.counted steps.old + bound (length a.now) (length b.now) }
+{
+    if BOTH {
+        begin::<true, true, true, T, C, N, A>(a, b, plan, built, steps)
+    } else {
+        begin_alone::<true, T, C, N, A>(a, b, plan, built, steps)
+    }
+}
+
+/// The same for an operation that keeps what stands on the left alone and, if `RIGHT`, what stands
+/// on the right alone. Where the plan is to search for right elements, and what is built has left
+/// its place, a list is used up.
+#[inline(always)]
+fn begin_alone<
+    'a,
+    const RIGHT: bool,
+    T: Ord + Clone + MadeWith<A>,
+    C: Count,
+    const N: usize,
+    A: Allocator + Copy,
+>(
+    a: &'a [T],
+    b: &'a [T],
+    plan: Plan,
+    built: &mut SmallVec<T, N, A>,
+    steps: &mut C,
+) -> Result<(&'a [T], &'a [T]), AllocError>
+    requires a_ascends { Ascends T.cmp a.now }
+    requires b_ascends { Ascends T.cmp b.now }
+    requires plan { IsPlan plan }
+    requires planned { planned plan (length a.now) (length b.now)
+        ≤ bound (length a.now) (length b.now) }
+    ensures begun { IfOk result (λ rest.
+        IsBegun T.cmp T.is_clone (keeps true RIGHT false) a.now b.now rest.0.now rest.1.now
+        built.old.items built.new.items) }
+    ensures counted { IfOk result (λ rest. C.counted steps.new
+        + planned plan (length rest.0.now) (length rest.1.now)
+        ≤ C.counted steps.old + bound (length a.now) (length b.now)) }
+    ensures refused { C.counted steps.new
+        ≤ C.counted steps.old + bound (length a.now) (length b.now) }
+{
+    let (left, right) = begin::<true, RIGHT, false, T, C, N, A>(a, b, plan, built, steps)?;
+    if !built.spilled() {
+        return Ok((left, right));
+    }
+    match plan {
+        Plan::Search {
+            shorter: Side::Right,
+            exponent,
+        } => {
+            let rest = pass_spans::<RIGHT, T, C, N, A>(left, right, exponent, built, steps)?;
+            Ok(rest)
+        }
+        Plan::Search {
+            shorter: Side::Left,
+            exponent: _,
+        } => Ok((left, right)),
+        Plan::Walk => Ok((left, right)),
     }
 }
 

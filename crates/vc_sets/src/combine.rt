@@ -7,7 +7,7 @@ ghost use Rattle.vc_sets.specs.SetOf.{IsSetOf};
 ghost use Rattle.vc_sets.specs.Algebra.{made_by};
 ghost use Rattle.vc_sets.specs.Select.{keeps};
 
-use crate::choosing::{begin, begin_left};
+use crate::choosing::{begin_either, begin_left};
 use crate::operations::{EitherOp, LeftOp};
 use crate::vec_set::SetOp;
 use smallvec::SmallVec;
@@ -44,7 +44,7 @@ fn combine_either<
     };
     let mut built = SmallVec::with_capacity(alloc, room)?;
     let plan = plan_of(a.len(), b.len());
-    let (a, b) = begin::<true, true, BOTH, _, _, _, _>(a, b, plan, &mut built, steps)?;
+    let (a, b) = begin_either::<BOTH, _, _, _, _>(a, b, plan, &mut built, steps)?;
     let mut state = SmallVecMergeState::new(a, b, &mut built);
     merge_as(&mut state, &EitherOp::<BOTH>, plan, steps)?;
     Ok(built)

@@ -8,5 +8,6 @@ mod combine;
 mod joining;
 pub mod laws;
 mod operations;
+mod spans;
 pub mod vec_set;
 mod witness;

@@ -13,7 +13,7 @@ returns-then-this-ne0-clause-begun g c =
 
 pub returns-else-this-ne0-clause-begun : goal.returns-else-this-ne0-clause-begun
 returns-else-this-ne0-clause-begun g c =
-    subst (λ (both : Bool). IfOk c.begin-else-this-ne0.result
+    subst (λ (both : Bool). IfOk c.begin_alone.result
     (λ rest. IsBegun g.T.Ord.cmp g.T.Clone.is_clone (keeps (not both) false both) c.args.a.now c.args.b.now
-    rest.0.now rest.1.now c.args.built.now.items c.begin-else-this-ne0.new.built.items))
-    (sym (set-false g.row.BOTH c.if-this-ne0.false)) c.begin-else-this-ne0.ensures.begun
+    rest.0.now rest.1.now c.args.built.now.items c.begin_alone.new.built.items))
+    (sym (set-false g.row.BOTH c.if-this-ne0.false)) c.begin_alone.ensures.begun
