@@ -1,6 +1,6 @@
 -- A merge that is not refused, over a state that builds, has built what the events of the script give.
 use Rattle.std.proofs.Common.{◌≡◌, ℕ, IsOk, Bool, true, false, List, [], ◌∷◌, ◌++◌, map, length, take, Result, Ok}
-use Rattle.std.proofs.Common.{◌⊎◌, refl, sym, ap, ◌∙◌, append_assoc, ⊎_elim, arith}
+use Rattle.std.proofs.Common.{◌⊎◌, refl, sym, ap, ◌∙◌, append_assoc, arith}
 use Rattle.std.specs.declared.alloc.AllocError.{AllocError}
 use Rattle.std.specs.declared.cmp.Ordering.{Ordering}
 use Rattle.std.proofs.lemmas.List.{append-nil}

@@ -8,7 +8,6 @@ use Rattle.std.proofs.Math.Pow.{pow_mono}
 use Rattle.std.proofs.lemmas.Bool.{cases_lt}
 use Rattle.std.proofs.lemmas.Nat.{leading_length, pow_pos}
 use Rattle.std.specs.Int.Count.{count_leading_zeros}
-use mathlib.Core.Bool.{true≢false}
 use Rattle.vc_merge.specs.Count.{digits, digits_from}
 
 enough : (n tries d : ℕ) → n < 2 ^ (d + tries) → n < 2 ^ digits_from n tries d

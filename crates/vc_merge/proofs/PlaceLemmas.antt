@@ -3,21 +3,20 @@
 --     narrowed-whole, narrowed-up, narrowed-past, narrowed-down        the part that is searched, at first and after a comparison
 --     ordered-rest, rest-part, rest-rest        the rest that is searched on
 --     half-rest, quarter-rest        after one comparison, and after three
---     searched-half        after one comparison that may find it
+--     searched-half, searched-quarter        after one comparison that may find it, and after three
 --     place-met, place-behind, place-searched, place-equal, place-unequal        the place
 --     ordered-ascends, ascends-map        ascending lists are ordered round whatever is sought
 use Rattle.std.proofs.Common.{◌≡◌, ℕ, zero, suc, ◌+◌, ◌-◌, ◌*◌, ◌/◌, ◌<◌, ◌≤◌, Bool, true, false, ◌||◌, List, [], ◌∷◌}
-use Rattle.std.proofs.Common.{◌++◌, map, length, take, drop, get_or, length-drop, ◌⊎◌, ⊎_elim, Result, Ok}
-use Rattle.std.proofs.Common.{Err, refl, sym, ap, subst, arith}
+use Rattle.std.proofs.Common.{◌++◌, map, length, take, drop, get_or, length-drop, ◌⊎◌, Result, Ok}
+use Rattle.std.proofs.Common.{Err, refl, sym, ap, subst, ◌∙◌, arith}
 use Rattle.std.proofs.lemmas.List.{get_or_default, get_or-drop, get_or-take, drop-append-le, drop-drop, drop-take}
 use Rattle.std.proofs.lemmas.List.{length-take-le, take-append-drop, take-take}
 use Rattle.std.proofs.Math.Seq.{take-add}
-use mathlib.Core.Bool.{true≢false}
 use Rattle.std.specs.List.{AllByRecursion, HoldsAt}
 use Rattle.std.specs.Int.{from_bool}
 use Rattle.std.specs.Cmp.{IsTotalOrder}
 use Rattle.std.specs.List.Sorted.{IsStrictlySortedBy}
-use Rattle.std.specs.Ordering.{is_gt, is_eq, is_lt}
+use Rattle.std.specs.Ordering.{is_gt, is_eq, is_le, is_lt}
 use Rattle.std.specs.declared.cmp.Ordering.{Ordering}
 use Rattle.std.specs.declared.cmp.Ordering.TheVariants.{Less, Equal, Greater}
 use Rattle.vc_merge.specs.Ascending.{Ascends}
@@ -251,6 +250,83 @@ module _ {X : Type 0} (side : X → Ordering) where
     searched-half true b o next y q e i f up down g = passed-half o next y q e f up
     searched-half false b o next y q e i f up down g =
         narrowed-half o next b q (holds-read (λ z. side z ≡ o) xs (middle - 1) y i e (sym f)) up down g
+
+  -- ---- three comparisons that may find it
+
+  -- before an element that is not greater each is less
+  less-earlier : (xs : List X) (i j : ℕ) (o : Ordering) (x : X) → IsOrdered side xs → i < j → j < length xs
+      → HoldsAt (λ y. is_gt (side y) ≡ false) xs j → x ≡ get_or xs i x → o ≡ side x → o ≡ Less
+  less-earlier [] i j o x p l h e f g = grind arith
+  less-earlier (w ∷ xs) i zero o x p l h e f g = grind arith
+  less-earlier (w ∷ xs) zero (suc j) o x p l h e f g = grind (arith, e x, each-at (λ y. side y ≡ Greater) xs j x)
+  less-earlier (w ∷ xs) (suc i) (suc j) o x p l h e f g = less-earlier xs i j o x p.1 (omega arith) (omega arith) e f g
+
+  -- behind one that is greater each is
+  greater-next : (xs : List X) (i j : ℕ) (o : Ordering) (x : X) → IsOrdered side xs → i < j → j < length xs
+      → HoldsAt (λ y. side y ≡ Greater) xs i → x ≡ get_or xs j x → o ≡ side x → o ≡ Greater
+  greater-next xs i j o x p l h e f g =
+      g ∙ ap side f ∙ greater-later xs i j p l h (λ d. ap is_lt (e d)) x
+
+  module _ (xs : List X) (p : IsOrdered side xs) where
+    abbrev passed : Ordering → ℕ
+    passed o = from_bool (is_le o)
+
+    -- one comparison in the middle of an odd number
+    searched-odd : (start m : ℕ) (found : Bool) (o : Ordering) (y : X) → IsSearched side xs start (m * 2 + 1) found
+        → y ≡ get_or xs (start + m) y → o ≡ side y → IsSearched side xs (start + passed o * (m + 1)) m (found || is_eq o)
+    searched-odd start m found o y q e f =
+        let within = searched-within xs start (m * 2 + 1) found q in
+        searched-half xs p start (m * 2 + 1) (start + (m + 1)) m (omega arith) (omega arith) (omega arith) (omega arith)
+        found (is_eq o) o (start + passed o * (m + 1)) y q (subst (λ i. y ≡ get_or xs i y) (omega arith) e) (omega arith) f
+        (up o) (down o) refl
+      where
+        up : (o : Ordering) → is_gt o ≡ true → start + passed o * (m + 1) ≡ start
+        up o e = grind arith
+
+        down : (o : Ordering) → is_gt o ≡ false → start + passed o * (m + 1) ≡ start + (m + 1)
+        down o e = grind arith
+
+    module _ (start len : ℕ) (found : Bool) (q : IsSearched side xs start (len * 4 + 3) found) (a b c : Ordering) (x y z : X)
+        (ex : x ≡ get_or xs (start + len) x) (ey : y ≡ get_or xs (start + (len + 1) + len) y)
+        (ez : z ≡ get_or xs (start + (len + 1) * 2 + len) z) (ea : a ≡ side x) (eb : b ≡ side y) (ec : c ≡ side z) where
+      within : start + (len * 4 + 3) ≤ length xs
+      within = searched-within xs start (len * 4 + 3) found q
+
+      -- the one in the middle, and then the one before it or behind it
+      halved : (o : Ordering) → o ≡ side y
+          → IsSearched side xs (start + passed o * (len * 2 + 1 + 1)) (len * 2 + 1) (found || is_eq o)
+      halved o e = searched-odd start (len * 2 + 1) found o y (subst (λ n. IsSearched side xs start n found) (omega arith) q)
+          (subst (λ i. y ≡ get_or xs i y) (omega arith) ey) e
+
+      by-middle : (o : Ordering) → o ≡ side y → IsSearched side xs (start + (passed a + passed o + passed c) * (len + 1)) len
+          (((found || is_eq a) || is_eq o) || is_eq c)
+      by-middle Greater e =
+          let last : c ≡ Greater = greater-next xs (start + (len + 1) + len) (start + (len + 1) * 2 + len) c z p (omega arith)
+          (omega (arith, within)) (holds-read (λ v. side v ≡ Greater) xs (start + (len + 1) + len) y
+          (omega (arith, within)) ey (sym e)) ez ec in
+          let half : IsSearched side xs start (len * 2 + 1) (found || false) =
+          subst (λ i. IsSearched side xs i (len * 2 + 1) (found || false)) (omega arith) (halved Greater e) in
+          let one = searched-odd start len (found || false) a x half ex ea in
+          grind (arith, last, one)
+      by-middle Less e =
+          let first : a ≡ Less = less-earlier xs (start + len) (start + (len + 1) + len) a x p (omega arith)
+          (omega (arith, within)) (λ d. ap is_gt (holds-read (λ v. side v ≡ Less) xs (start + (len + 1) + len) y
+          (omega (arith, within)) ey (sym e) d)) ex ea in
+          let one = searched-odd (start + (len + 1) * 2) len (found || false) c z
+          (subst (λ i. IsSearched side xs i (len * 2 + 1) (found || false)) (omega arith) (halved Less e)) ez ec in
+          grind (arith, first, one)
+      by-middle Equal e =
+          let first : a ≡ Less = less-earlier xs (start + len) (start + (len + 1) + len) a x p (omega arith)
+          (omega (arith, within)) (λ d. ap is_gt (holds-read (λ v. side v ≡ Equal) xs (start + (len + 1) + len) y
+          (omega (arith, within)) ey (sym e) d)) ex ea in
+          let one = searched-odd (start + (len + 1) * 2) len (found || true) c z
+          (subst (λ i. IsSearched side xs i (len * 2 + 1) (found || true)) (omega arith) (halved Equal e)) ez ec in
+          grind (arith, first, one)
+
+      -- three comparisons are one in the middle, and then one before or behind it
+      pub searched-quarter : IsSearched side xs (start + (passed a + passed b + passed c) * (len + 1)) len
+          (((found || is_eq a) || is_eq b) || is_eq c)
+      searched-quarter = by-middle b eb
 
   -- ---- the place
 

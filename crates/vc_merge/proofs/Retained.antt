@@ -1,7 +1,6 @@
 -- What a test leaves of an ascending list, element by element.
 use Rattle.std.proofs.Common.{◌≡◌, Bool, true, false, cond, List, [], ◌∷◌, length, Option, Some, None, is_some}
 use Rattle.std.proofs.Common.{IsTrue, refl, arith}
-use mathlib.Core.Bool.{true≢false}
 use Rattle.std.specs.List.{AllByRecursion, items_where_true}
 use Rattle.std.specs.List.Retain.{IsFiltered, ReturnsInTurn}
 use Rattle.std.specs.List.Sorted.{IsStrictlySortedBy}
