@@ -4,7 +4,6 @@ use Rattle.std.proofs.Common.{get_or, not, nat_eq, ◌≤◌, arith, refl, sym, 
 use Rattle.std.specs.Int.{from_bool}
 use Rattle.std.specs.Ordering.{is_le, is_ge}
 use denote.Ref.{Bor}
-use mathlib.Core.Bool.{true≢false}
 use Rattle.std.specs.List.{AllZip}
 use Rattle.std.specs.List.Sorted.{IsStrictlySortedBy}
 use Rattle.std.specs.Cmp.{IsTotalOrder}

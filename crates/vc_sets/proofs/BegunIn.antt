@@ -1,5 +1,5 @@
 -- Two parts of one list that become one in its places, event by event.
-use Rattle.std.proofs.Common.{◌≡◌, Bool, true, List, [], ◌∷◌, ◌++◌, take, drop, length, ◌<◌, get_or, sym, ap, ◌∙◌, arith}
+use Rattle.std.proofs.Common.{◌≡◌, Bool, true, List, ◌∷◌, ◌++◌, take, drop, length, ◌<◌, get_or, sym, ap, ◌∙◌, arith}
 use Rattle.std.specs.Int.{from_bool}
 use Rattle.std.specs.Ordering.{is_le, is_ge}
 use Rattle.std.specs.Cmp.{IsTotalOrder}

@@ -1,7 +1,6 @@
 -- An operation makes one list of two sets, and its members are those that its name says.
-use Rattle.std.proofs.Common.{◌≡◌, ◌↔◌, Bool, ◌||◌, ◌&&◌, List, [], ◌∷◌, ◌⊎◌, inl, ⊎_elim, Option}
+use Rattle.std.proofs.Common.{◌≡◌, ◌↔◌, Bool, ◌||◌, ◌&&◌, List, [], ◌∷◌, ◌⊎◌, inl, Option}
 use Rattle.std.proofs.Common.{IsTrue, refl, sym, ap, ◌∙◌, arith}
-use mathlib.Core.Bool.{true≢false}
 use Rattle.std.specs.Cmp.{IsTotalOrder, tied_itself}
 use Rattle.std.specs.List.{AllZip}
 use Rattle.std.specs.Ordering.{is_eq}

@@ -1,7 +1,6 @@
 -- A merge that stops at the first witness tells whether there is one.
 use Rattle.std.proofs.Common.{◌≡◌, Bool, true, false, not, ◌||◌, List, [], ◌∷◌, ◌++◌, map, Result, Ok, refl, sym}
-use Rattle.std.proofs.Common.{ap, subst, ◌∙◌, arith, MatchBool, ⊎_elim}
-use mathlib.Core.Bool.{true≢false}
+use Rattle.std.proofs.Common.{ap, subst, ◌∙◌, arith, MatchBool}
 use Rattle.std.specs.Cmp.{IsTotalOrder, tied_itself}
 use Rattle.std.specs.Ordering.{is_eq}
 use Rattle.std.specs.declared.cmp.Ordering.{Ordering}

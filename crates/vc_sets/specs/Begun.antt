@@ -1,10 +1,11 @@
 -- How far a walk along two sets has come that takes their events one by one. No public clause cites these words.
-use Rattle.std.specs.Prelude.{◌≡◌, ℕ, ◌+◌, ◌-◌, ◌≤◌, ⊤, Bool, true, false, List, [], ◌∷◌, ◌++◌, take, drop, length}
+use Rattle.std.specs.Prelude.{◌≡◌, ℕ, ◌+◌, ◌-◌, ◌*◌, ◌/◌, ◌<◌, ◌≤◌, ⊤, Bool, true, false, List, [], ◌∷◌, ◌++◌, take, drop, length}
 use Rattle.std.specs.declared.cmp.Ordering.{Ordering}
 use Rattle.std.specs.declared.cmp.Ordering.TheVariants.{Less, Equal, Greater}
 use Rattle.vc_merge.specs.Count.{bound}
 use Rattle.vc_merge.specs.declared.plan.Plan.{Plan}
 use Rattle.vc_merge.specs.declared.plan.Plan.TheVariants.{Walk, Search}
+use Rattle.vc_merge.specs.declared.plan.Side.TheVariants.{Left, Right}
 use Rattle.vc_merge.specs.Plan.{planned}
 use Rattle.vc_merge.specs.Script.{Event, IsScript, BothAscend}
 use Rattle.vc_merge.specs.Building.{Extends}
@@ -51,14 +52,27 @@ LeavesEnough (Search shorter exponent) block all_left all_right left right =
     (m n : ℕ) → m ≤ left → n ≤ right
     → (all_left + all_right - (left + right)) + block + planned (Search shorter exponent) m n ≤ bound all_left all_right
 
--- the first `passed` elements of xs were taken and the first n of ys. Of what f keeps of these, what comes by `from` was appended to old,
--- but for the left elements from `copied` to `passed`, all of which are kept
-pub record IsSpanned {X : Type 0} (cmp : X → X → Ordering) (from : X → X → Type 0) (f : Bool → Bool → Bool) (xs ys : List X) (copied passed n : ℕ) (old new : List X) : Type 0 where
-  pub kept : List X
-  pub order : copied ≤ passed
-  pub within : passed ≤ length xs
-  pub begun : IsBegun cmp (λ x y. x ≡ y) f xs ys (drop passed xs) (drop n ys) [] (kept ++ take (passed - copied) (drop copied xs))
-  pub extended : Extends from kept old new
+module _ {X : Type 0} (cmp : X → X → Ordering) (from : X → X → Type 0) (f : Bool → Bool → Bool) (xs ys : List X) where
+  -- the first `passed` elements of xs were taken and the first n of ys. Of what f keeps of these, what comes by `from` was
+  -- appended to old, but for the left elements from `copied` to `passed`, all of which are kept
+  pub record IsSpanned (copied passed n : ℕ) (old new : List X) : Type 0 where
+    pub kept : List X
+    pub order : copied ≤ passed
+    pub within : passed ≤ length xs
+    pub begun : IsBegun cmp (λ x y. x ≡ y) f xs ys (drop passed xs) (drop n ys) [] (kept ++ take (passed - copied) (drop copied xs))
+    pub extended : Extends from kept old new
+
+-- the most comparisons of searches for `right` elements in `left` others, each of which begins behind the one before it
+abbrev pub by_spans : (left right : ℕ) → ℕ
+by_spans left right = right * 8 + left / 16
+
+-- lists of which this is left were compared as often as they took elements: with searches for all right elements, a merge
+-- stays within the bound of the whole
+abbrev pub LeavesSpans : Plan → (all_left all_right left right : ℕ) → Type 0
+LeavesSpans Walk all_left all_right left right = ⊥
+LeavesSpans (Search Left exponent) all_left all_right left right = ⊥
+LeavesSpans (Search Right exponent) all_left all_right left right =
+    (exponent < 8) × ((all_left + all_right - (left + right)) + by_spans left right ≤ bound all_left all_right)
 
 -- how many of n right elements are kept at most
 abbrev pub kept_at_most : Bool → ℕ → ℕ

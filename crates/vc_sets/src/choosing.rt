@@ -5,13 +5,14 @@
 //! numbers that are 0 or 1. A union appends a clone of it at once; the others store a reference to
 //! it, or to the left head where they keep no right one, and append clones of what they keep behind
 //! some events.
-ghost use Rattle.std.specs.Prelude.{◌≡◌, ◌+◌, ◌<◌, ◌≤◌, Bool, [], drop, take, map, length, not, true, false, IfOk, OnOk, IsTrue};
+ghost use Rattle.std.specs.Prelude.{◌≡◌, ◌+◌, ◌-◌, ◌<◌, ◌≤◌, Bool, [], drop, take, map, length};
+ghost use Rattle.std.specs.Prelude.{not, ◌||◌, true, false, IfOk, OnOk, IsTrue};
 ghost use Rattle.smallvec.specs.SmallVec.{HasRoomFor};
 ghost use Rattle.vc_merge.specs.Ascending.{Ascends};
 ghost use Rattle.vc_merge.specs.Building.{Extends};
 ghost use Rattle.vc_merge.specs.Count.{bound};
 ghost use Rattle.vc_merge.specs.Plan.{IsPlan, planned};
-ghost use Rattle.vc_sets.specs.Begun.{IsBegun, LeavesEnough, kept_at, lesser_of};
+ghost use Rattle.vc_sets.specs.Begun.{IsBegun, LeavesEnough, LeavesSpans, kept_at, lesser_of};
 ghost use Rattle.vc_sets.specs.Select.{keeps};
 
 use crate::operations::compare;
@@ -49,11 +50,73 @@ struct Chosen {
 /// the left one if `BOTH`. Answers what is left of the lists.
 ///
 /// It goes on until a list is used up, or the lists come in long runs, which are handed over faster
-/// as a whole; and only as long as a merge of what is left by the plan stays within the bound of
-/// the whole.
+/// as a whole: until one-sided blocks count for `patience`; and only as long as a merge of what is
+/// left by the plan stays within the bound of the whole.
+#[inline(always)]
 pub fn begin<
     'a,
     const LEFT: bool,
+    const RIGHT: bool,
+    const BOTH: bool,
+    T: Ord + Clone + MadeWith<A>,
+    C: Count,
+    const N: usize,
+    A: Allocator + Copy,
+>(
+    a: &'a [T],
+    b: &'a [T],
+    plan: Plan,
+    patience: usize,
+    built: &mut SmallVec<T, N, A>,
+    steps: &mut C,
+) -> Result<(&'a [T], &'a [T]), AllocError>
+    requires a_ascends { Ascends T.cmp a.now }
+    requires b_ascends { Ascends T.cmp b.now }
+    requires plan { IsPlan plan }
+    requires planned { planned plan (length a.now) (length b.now)
+        ≤ bound (length a.now) (length b.now) }
+    requires patience { patience ≤ 32 }
+    ensures begun { IfOk result (λ rest.
+        IsBegun T.cmp T.is_clone (keeps LEFT RIGHT BOTH) a.now b.now rest.0.now rest.1.now
+        built.old.items built.new.items) }
+    ensures counted { IfOk result (λ rest. C.counted steps.new
+        + planned plan (length rest.0.now) (length rest.1.now)
+        ≤ C.counted steps.old + bound (length a.now) (length b.now)) }
+    ensures taken { IfOk result (λ rest. C.counted steps.new
+        + (length rest.0.now + length rest.1.now)
+        ≤ C.counted steps.old + (length a.now + length b.now)) }
+    ensures refused { C.counted steps.new
+        ≤ C.counted steps.old + bound (length a.now) (length b.now) }
+{
+    let (all_left, all_right) = (a.len(), b.len());
+    let is_union = LEFT && RIGHT && BOTH;
+    if !is_worth_a_block(all_left, all_right, is_union) {
+        return Ok((a, b));
+    }
+    let few = if is_union { 1 } else { FEW };
+    let mut a = a;
+    let mut b = b;
+    let mut kept = [&a[0]; BLOCK];
+    let mut runs = 0;
+    'blocks: while !a.is_empty()
+        && !b.is_empty()
+        && runs < patience
+        && leaves_enough(plan, all_left, all_right, a.len(), b.len())
+    {
+        let (left, right) = take_block::<LEFT, RIGHT, BOTH, T, C, N, A>(
+            a, b, &mut kept, built, steps,
+        )?;
+        a = behind(a, left);
+        b = behind(b, right);
+        runs = and_next(runs, left.min(right) < few);
+    }
+    Ok((a, b))
+}
+
+/// The same for an operation that keeps what stands on the left alone where `RIGHT`, or not `BOTH`.
+#[inline(always)]
+pub fn begin_fresh<
+    'a,
     const RIGHT: bool,
     const BOTH: bool,
     T: Ord + Clone + MadeWith<A>,
@@ -72,64 +135,8 @@ pub fn begin<
     requires plan { IsPlan plan }
     requires planned { planned plan (length a.now) (length b.now)
         ≤ bound (length a.now) (length b.now) }
-    ensures begun { IfOk result (λ rest.
-        IsBegun T.cmp T.is_clone (keeps LEFT RIGHT BOTH) a.now b.now rest.0.now rest.1.now
-        built.old.items built.new.items) }
-    ensures counted { IfOk result (λ rest. C.counted steps.new
-        + planned plan (length rest.0.now) (length rest.1.now)
-        ≤ C.counted steps.old + bound (length a.now) (length b.now)) }
-    ensures refused { C.counted steps.new
-        ≤ C.counted steps.old + bound (length a.now) (length b.now) }
-{
-    let (all_left, all_right) = (a.len(), b.len());
-    let is_union = LEFT && RIGHT && BOTH;
-    if !is_worth_a_block(all_left, all_right, is_union) {
-        return Ok((a, b));
-    }
-    let few = if is_union { 1 } else { FEW };
-    let mut a = a;
-    let mut b = b;
-    let mut kept = [&a[0]; BLOCK];
-    let mut runs = 0;
-    'blocks: while !a.is_empty()
-        && !b.is_empty()
-        && runs < LONG_RUNS
-        && leaves_enough(plan, all_left, all_right, a.len(), b.len())
-    {
-        let (left, right) = take_block::<LEFT, RIGHT, BOTH, T, C, N, A>(
-            a, b, &mut kept, built, steps,
-        )?;
-        a = behind(a, left);
-        b = behind(b, right);
-        runs = and_next(runs, left.min(right) < few);
-    }
-    Ok((a, b))
-}
-
-/// The same for an operation that keeps what stands on the left alone or, if `BOTH`, the left one
-/// of what stands on both sides.
-#[inline(always)]
-pub fn begin_left<
-    'a,
-    const BOTH: bool,
-    T: Ord + Clone + MadeWith<A>,
-    C: Count,
-    const N: usize,
-    A: Allocator + Copy,
->(
-    a: &'a [T],
-    b: &'a [T],
-    plan: Plan,
-    built: &mut SmallVec<T, N, A>,
-    steps: &mut C,
-) -> Result<(&'a [T], &'a [T]), AllocError>
-    requires a_ascends { Ascends T.cmp a.now }
-    requires b_ascends { Ascends T.cmp b.now }
-    requires plan { IsPlan plan }
-    requires planned { planned plan (length a.now) (length b.now)
-        ≤ bound (length a.now) (length b.now) }
-    ensures begun { IfOk result (λ rest.
-        IsBegun T.cmp T.is_clone (keeps (not BOTH) false BOTH) a.now b.now rest.0.now rest.1.now
+    ensures begun { IfOk result (λ rest. IsBegun T.cmp T.is_clone
+        (keeps (RIGHT || not BOTH) RIGHT BOTH) a.now b.now rest.0.now rest.1.now
         built.old.items built.new.items) }
     ensures counted { IfOk result (λ rest. C.counted steps.new
         + planned plan (length rest.0.now) (length rest.1.now)
@@ -138,53 +145,15 @@ pub fn begin_left<
         ≤ C.counted steps.old + bound (length a.now) (length b.now) }
 {
     if BOTH {
-        begin::<false, false, true, T, C, N, A>(a, b, plan, built, steps)
+        begin::<RIGHT, RIGHT, true, T, C, N, A>(a, b, plan, LONG_RUNS, built, steps)
     } else {
-        begin_alone::<false, T, C, N, A>(a, b, plan, built, steps)
-    }
-}
-
-/// The same for an operation that keeps what stands on either side alone and, if `BOTH`, the left
-/// one of what stands on both sides.
-#[inline(always)]
-pub fn begin_either<
-    'a,
-    const BOTH: bool,
-    T: Ord + Clone + MadeWith<A>,
-    C: Count,
-    const N: usize,
-    A: Allocator + Copy,
->(
-    a: &'a [T],
-    b: &'a [T],
-    plan: Plan,
-    built: &mut SmallVec<T, N, A>,
-    steps: &mut C,
-) -> Result<(&'a [T], &'a [T]), AllocError>
-    requires a_ascends { Ascends T.cmp a.now }
-    requires b_ascends { Ascends T.cmp b.now }
-    requires plan { IsPlan plan }
-    requires planned { planned plan (length a.now) (length b.now)
-        ≤ bound (length a.now) (length b.now) }
-    ensures begun { IfOk result (λ rest.
-        IsBegun T.cmp T.is_clone (keeps true true BOTH) a.now b.now rest.0.now rest.1.now
-        built.old.items built.new.items) }
-    ensures counted { IfOk result (λ rest. C.counted steps.new
-        + planned plan (length rest.0.now) (length rest.1.now)
-        ≤ C.counted steps.old + bound (length a.now) (length b.now)) }
-    ensures refused { C.counted steps.new
-        ≤ C.counted steps.old + bound (length a.now) (length b.now) }
-{
-    if BOTH {
-        begin::<true, true, true, T, C, N, A>(a, b, plan, built, steps)
-    } else {
-        begin_alone::<true, T, C, N, A>(a, b, plan, built, steps)
+        begin_alone::<RIGHT, T, C, N, A>(a, b, plan, built, steps)
     }
 }
 
 /// The same for an operation that keeps what stands on the left alone and, if `RIGHT`, what stands
 /// on the right alone. Where the plan is to search for right elements, and what is built has left
-/// its place, a list is used up.
+/// its place, a first block that is one-sided is enough to go on by spans, which use a list up.
 #[inline(always)]
 fn begin_alone<
     'a,
@@ -214,24 +183,15 @@ fn begin_alone<
     ensures refused { C.counted steps.new
         ≤ C.counted steps.old + bound (length a.now) (length b.now) }
 {
-    let (left, right) = begin::<true, RIGHT, false, T, C, N, A>(a, b, plan, built, steps)?;
-    if !built.spilled() {
-        return Ok((left, right));
+    let (all_left, all_right) = (a.len(), b.len());
+    let spans = built.spilled() && leaves_spans(plan, all_left, all_right, all_left, all_right);
+    let patience = if spans { ONE_SIDED } else { LONG_RUNS };
+    let (a, b) = begin::<true, RIGHT, false, T, C, N, A>(a, b, plan, patience, built, steps)?;
+    if spans && leaves_spans(plan, all_left, all_right, a.len(), b.len()) {
+        let rest = pass_spans::<RIGHT, T, C, N, A>(a, b, built, steps)?;
+        return Ok(rest);
     }
-    match plan {
-        Plan::Search {
-            shorter: Side::Right,
-            exponent,
-        } => {
-            let rest = pass_spans::<RIGHT, T, C, N, A>(left, right, exponent, built, steps)?;
-            Ok(rest)
-        }
-        Plan::Search {
-            shorter: Side::Left,
-            exponent: _,
-        } => Ok((left, right)),
-        Plan::Walk => Ok((left, right)),
-    }
+    Ok((a, b))
 }
 
 /// Whether lists of these lengths are long enough to be worth a block, and so alike that the order
@@ -260,11 +220,43 @@ fn leaves_enough(plan: Plan, all_left: usize, all_right: usize, left: usize, rig
             shorter: _,
             exponent: _,
         } => {
-            let all = all_left as u128 + all_right as u128;
-            let spent = all.saturating_sub(left as u128 + right as u128);
+            let spent = taken(all_left, all_right, left, right);
             spent + BLOCK as u128 + comparisons(plan, left, right)
                 <= most_comparisons(all_left, all_right)
         }
+    }
+}
+
+/// How many elements were taken of lists of these lengths of which so much is left.
+#[inline(always)]
+fn taken(all_left: usize, all_right: usize, left: usize, right: usize) -> u128
+    ensures { result ≡ all_left + all_right - (left + right) }
+{
+    (all_left as u128 + all_right as u128).saturating_sub(left as u128 + right as u128)
+}
+
+/// Whether right elements are to be searched for, and spans may pass what is left of two lists: a
+/// search compares eight times, and once more for each 16 elements that it passes. Blocks before
+/// them compare as often as they take elements. A plan by strides of `2 ^ 8` or more would count
+/// more than spans for right elements that are left alone.
+#[inline(always)]
+fn leaves_spans(plan: Plan, all_left: usize, all_right: usize, left: usize, right: usize) -> bool
+    ensures { IsTrue result → LeavesSpans plan all_left all_right left right }
+{
+    match plan {
+        Plan::Search {
+            shorter: Side::Right,
+            exponent,
+        } => {
+            let spent = taken(all_left, all_right, left, right);
+            let searches = right as u128 * 8 + (left / 16) as u128;
+            exponent < 8 && spent + searches <= most_comparisons(all_left, all_right)
+        }
+        Plan::Search {
+            shorter: Side::Left,
+            exponent: _,
+        } => false,
+        Plan::Walk => false,
     }
 }
 

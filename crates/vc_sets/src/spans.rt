@@ -1,12 +1,11 @@
 //! All events of a long left list and a short right one, for what keeps what stands on the left
 //! alone: each right element is searched for behind the one before it, and the left elements
 //! between two that stand on both sides are handed over as one span.
-ghost use Rattle.std.specs.Prelude.{◌≡◌, ◌+◌, ◌<◌, ◌≤◌, true, false, length, IfOk, OnOk};
-ghost use Rattle.smallvec.specs.SmallVec.{small_vec_len, HasRoomFor};
+ghost use Rattle.std.specs.Prelude.{◌≡◌, ◌+◌, ◌≤◌, true, false, length, min, IfOk, OnOk};
+ghost use Rattle.std.specs.Prelude.{vec_len, vec_capacity};
 ghost use Rattle.vc_merge.specs.Ascending.{Ascends};
 ghost use Rattle.vc_merge.specs.Building.{Extends};
-ghost use Rattle.vc_merge.specs.Count.{by_strides};
-ghost use Rattle.vc_sets.specs.Begun.{IsBegun, kept_at_most};
+ghost use Rattle.vc_sets.specs.Begun.{IsBegun, by_spans, kept_at_most};
 ghost use Rattle.vc_sets.specs.Select.{keeps};
 
 use crate::operations::compare;
@@ -16,7 +15,7 @@ use std::cmp::Ordering;
 use std::default::MadeWith;
 use std::mem;
 use vc_merge::merge::Count;
-use vc_merge::search::{Sought, search_near};
+use vc_merge::search::{Sought, search_ahead};
 
 /// A right element that is sought in the left list.
 #[derive(Clone, Copy)]
@@ -34,8 +33,9 @@ impl<'a, T: Ord, C: Count> Sought<T, C> for Right<'a, T> {
 /// them, until a list is used up. Appends what stands on the left alone and, if `RIGHT`, what
 /// stands on the right alone. Answers what is left of both.
 ///
-/// It makes room for all that may come, and takes the list into a variable, whose length and places
-/// need not be read again for each element.
+/// It makes room for all that may come, and builds a `Vec`, which need not be asked at each element
+/// whether it stands in place.
+#[inline(never)]
 pub fn pass_spans<
     'a,
     const RIGHT: bool,
@@ -46,27 +46,38 @@ pub fn pass_spans<
 >(
     a: &'a [T],
     b: &'a [T],
-    exponent: u32,
     built: &mut SmallVec<T, N, A>,
     steps: &mut C,
 ) -> Result<(&'a [T], &'a [T]), AllocError>
     requires a_ascends { Ascends T.cmp a.now }
     requires b_ascends { Ascends T.cmp b.now }
-    requires exponent { exponent < 64 }
     ensures begun { IfOk result (λ rest. IsBegun T.cmp T.is_clone (keeps true RIGHT false)
         a.now b.now rest.0.now rest.1.now built.old.items built.new.items) }
+    ensures ended { IfOk result (λ rest. min (length rest.0.now) (length rest.1.now) ≡ 0) }
     ensures counted { IfOk result (λ rest. C.counted steps.new
-        + by_strides exponent (length rest.1.now) (length rest.0.now)
-        ≤ C.counted steps.old + by_strides exponent (length b.now) (length a.now)) }
+        + by_spans (length rest.0.now) (length rest.1.now)
+        ≤ C.counted steps.old + by_spans (length a.now) (length b.now)) }
     ensures refused { C.counted steps.new
-        ≤ C.counted steps.old + by_strides exponent (length b.now) (length a.now) }
+        ≤ C.counted steps.old + by_spans (length a.now) (length b.now) }
 {
-    built.reserve(most_kept::<RIGHT>(a.len(), b.len())?)?;
-    let alloc = *built.allocator();
-    let mut whole = mem::replace(built, SmallVec::new(alloc));
-    let rest = append_spans::<RIGHT, T, C, N, A>(a, b, exponent, &mut whole, steps);
-    *built = whole;
+    let mut list = take_list(built, most_kept::<RIGHT>(a.len(), b.len())?)?;
+    let rest = append_spans::<RIGHT, T, C, A>(a, b, &mut list, steps);
+    *built = SmallVec::from_vec(list);
     rest
+}
+
+/// Takes the list out, with room for so many elements more.
+fn take_list<T: MadeWith<A> + Drop, const N: usize, A: Allocator + Copy>(
+    built: &mut SmallVec<T, N, A>,
+    more: usize,
+) -> Result<Vec<T, A>, AllocError>
+    ensures items { IfOk result (λ list. list.items ≡ built.old.items) }
+    ensures room { IfOk result (λ list. vec_len list + more ≤ vec_capacity list) }
+{
+    let alloc = *built.allocator();
+    let mut list = mem::replace(built, SmallVec::new(alloc)).into_vec()?;
+    list.reserve_exact(more)?;
+    Ok(list)
 }
 
 /// How many elements are kept at most of so many left ones and right ones.
@@ -83,31 +94,24 @@ fn most_kept<const RIGHT: bool>(left: usize, right: usize) -> Result<usize, Allo
 
 /// The same into a list that has room for all.
 #[inline(always)]
-fn append_spans<
-    'a,
-    const RIGHT: bool,
-    T: Ord + Clone + MadeWith<A>,
-    C: Count,
-    const N: usize,
-    A: Allocator + Copy,
->(
+fn append_spans<'a, const RIGHT: bool, T: Ord + Clone, C: Count, A: Allocator>(
     a: &'a [T],
     b: &'a [T],
-    exponent: u32,
-    built: &mut SmallVec<T, N, A>,
+    list: &mut Vec<T, A>,
     steps: &mut C,
 ) -> Result<(&'a [T], &'a [T]), AllocError>
     requires a_ascends { Ascends T.cmp a.now }
     requires b_ascends { Ascends T.cmp b.now }
-    requires exponent { exponent < 64 }
-    requires room { HasRoomFor built.old (length a.now + kept_at_most RIGHT (length b.now)) }
+    requires room { vec_len list.old + (length a.now + kept_at_most RIGHT (length b.now))
+        ≤ vec_capacity list.old }
     ensures begun { IfOk result (λ rest. IsBegun T.cmp T.is_clone (keeps true RIGHT false)
-        a.now b.now rest.0.now rest.1.now built.old.items built.new.items) }
+        a.now b.now rest.0.now rest.1.now list.old.items list.new.items) }
+    ensures ended { IfOk result (λ rest. min (length rest.0.now) (length rest.1.now) ≡ 0) }
     ensures counted { IfOk result (λ rest. C.counted steps.new
-        + by_strides exponent (length rest.1.now) (length rest.0.now)
-        ≤ C.counted steps.old + by_strides exponent (length b.now) (length a.now)) }
+        + by_spans (length rest.0.now) (length rest.1.now)
+        ≤ C.counted steps.old + by_spans (length a.now) (length b.now)) }
     ensures refused { C.counted steps.new
-        ≤ C.counted steps.old + by_strides exponent (length b.now) (length a.now) }
+        ≤ C.counted steps.old + by_spans (length a.now) (length b.now) }
 {
     let mut copied = 0;
     let mut passed = 0;
@@ -115,37 +119,33 @@ fn append_spans<
     'rights: while at < b.len() && passed < a.len() {
         let right = &b[at];
         at += 1;
-        match search_near(&a[passed..], &Right(right), exponent, steps) {
+        match search_ahead(&a[passed..], &Right(right), steps) {
             Ok(place) => {
-                append_span(built, &a[copied..passed + place])?;
+                append_span(list, &a[copied..passed + place])?;
                 passed += place + 1;
                 copied = passed;
             }
             Err(gap) => {
                 passed += gap;
                 if RIGHT {
-                    append_span(built, &a[copied..passed])?;
-                    built.push_reserved(right.clone()?);
+                    append_span(list, &a[copied..passed])?;
+                    list.push_reserved(right.clone()?);
                     copied = passed;
                 }
             }
         }
     }
-    append_span(built, &a[copied..passed])?;
+    append_span(list, &a[copied..passed])?;
     Ok((&a[passed..], &b[at..]))
 }
 
 /// Appends a clone of each of `items` to a list that has room for them.
 #[inline(always)]
-fn append_span<T: Clone + MadeWith<A>, const N: usize, A: Allocator + Copy>(
-    list: &mut SmallVec<T, N, A>,
-    items: &[T],
-) -> Result<(), AllocError>
-    requires { HasRoomFor list.old (length items.now) }
+fn append_span<T: Clone, A: Allocator>(list: &mut Vec<T, A>, items: &[T]) -> Result<(), AllocError>
+    requires { vec_len list.old + length items.now ≤ vec_capacity list.old }
     ensures extended { OnOk result (Extends T.is_clone items.now list.old.items list.new.items) }
-    ensures longer { OnOk result
-        (small_vec_len list.new ≡ small_vec_len list.old + length items.now) }
-    ensures room { OnOk result (list.new.capacity ≡ list.old.capacity) }
+    ensures longer { OnOk result (vec_len list.new ≡ vec_len list.old + length items.now) }
+    ensures room { OnOk result (vec_capacity list.new ≡ vec_capacity list.old) }
 {
     for item in items {
         list.push_reserved(item.clone()?);

@@ -1,7 +1,7 @@
 use Rattle.std.proofs.Common.{◌≡◌, ◌-◌, drop, length, ap, ◌∙◌, arith}
 use Rattle.std.proofs.lemmas.List.{length-drop}
 use Rattle.vc_sets.proofs.Begun.{keeps_by, begun-nothing, begun-append}
-use Rattle.vc_sets.proofs.Spending.{next-within}
+use Rattle.vc_sets.proofs.Spending.{next-within, last-within}
 use Rattle.vc_sets.proofs.choosing.begin.Goals as goal
 
 pub returns-then-not-is_worth_a_block-clause-begun : goal.returns-then-not-is_worth_a_block-clause-begun
@@ -34,3 +34,9 @@ blocks-2-preserved g c =
       spent = rw (left, right) (next-within c.args.plan _ _ _ _ (c.leaves_enough.ensures c.if-leaves_enough.true) _ _
           was.taken was.spent _ _ _ in_left in_right more c.in_ok-left.ensures.few);
     }
+
+pub returns-in_err-left-clause-refused : goal.returns-in_err-left-clause-refused
+returns-in_err-left-clause-refused g c =
+    let was = c.blocks-2.invariant in
+    last-within c.args.plan _ _ _ _ (c.leaves_enough.ensures c.if-leaves_enough.true) _ _ was.taken was.spent _
+    c.take_block.ensures.refused c.take_block.ensures.few
