@@ -13,7 +13,6 @@ use Rattle.std.proofs.Math.Seq.{drop-nil}
 use Rattle.std.specs.Cmp.{IsTotalOrder}
 use Rattle.std.specs.Ordering.{is_eq}
 use Rattle.std.specs.declared.cmp.Ordering.{Ordering}
-use Rattle.std.specs.declared.cmp.Ordering.TheVariants.{Less}
 use Rattle.vc_tree_model.specs.Key.{same_key, BeginsBelow}
 use Rattle.vc_tree_model.specs.Tree.{Tree, Forest, bare, grow, node}
 use Rattle.vc_tree_model.specs.Map.{or_else, lookup, IsUpdated, IsEqualMap}
@@ -23,7 +22,7 @@ use Rattle.vc_tree_model.specs.Pairs.{last_bound, IsCollected}
 use Rattle.vc_tree_nodes.specs.Ascending.{Follows, HasCommon, HaveCommon, IsGroup, RunsOn, IsRunBehind, pairs_behind}
 use Rattle.vc_tree_nodes.specs.Ascending.{AllBelow, GoOnBehind, IsGroupOf, HeadAbove, BeginsAs, FirstEnds}
 use Rattle.vc_tree_nodes.specs.Ascending.{IsAscending, FollowsLast, BindsMore, KeepsMore, MayGrow, bound_more, gathered}
-use Rattle.vc_tree_nodes.specs.Parting.{Agree, PartsAt}
+use Rattle.vc_tree_nodes.specs.Parting.{Agree}
 use Rattle.std.specs.Prelude.{slice_get, nat_eq, IfSome}
 use Rattle.vc_tree_model.proofs.KeyLemmas.{both-true, same-flip, same-trans}
 
@@ -354,25 +353,15 @@ module _ {R : Type 0} (common : R → ℕ) where
 -- ---- how a key follows another
 
 module _ {K : Type 0} (cmp : K → K → Ordering) where
-  -- a key begins where it parts from one before it as the greater one
-  parted-below : (n : ℕ) (p k : List K) (x y : K) → slice_get p n ≡ Some x → slice_get k n ≡ Some y → cmp x y ≡ Less
-      → BeginsBelow cmp (drop n p) (drop n k)
-  parted-below (suc n) (a ∷ p) (b ∷ k) x y d e h = grind (arith, parted-below n p k x y)
-  parted-below n p k x y d e h = grind arith
-
   -- what has ended begins below what goes on
   ended-below : (n : ℕ) (p k : List K) → length p ≡ n → n < length k → BeginsBelow cmp (drop n p) (drop n k)
   ended-below (suc n) (x ∷ p) (y ∷ k) e w = grind (arith, ended-below n p k)
   ended-below n p k e w = grind arith
 
-  -- a key that parts as the greater one follows
-  pub follows-parted : (before key : List K) (n : ℕ) → PartsAt cmp Less before key n → Follows cmp before key n
-  follows-parted before key n s = grind (arith, parted-below)
-
   -- a key that goes on follows
-  pub follows-longer : (before key : List K) → Agree cmp before key (length before) → length before < length key
-      → Follows cmp before key (length before)
-  follows-longer before key a w = grind (arith, ended-below)
+  pub follows-longer : (before key : List K) (n : ℕ) → Agree cmp before key n → length before ≤ n → n < length key
+      → Follows cmp before key n
+  follows-longer before key n a e w = grind (arith, ended-below)
 
 -- ---- pairs that are kept
 

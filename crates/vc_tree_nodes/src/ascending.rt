@@ -12,12 +12,10 @@ ghost use Rattle.vc_tree_nodes.specs.Children.{seen};
 use crate::building::Build;
 use crate::insertion::single;
 use crate::making::new_node;
-use crate::parting::{Parting, find_parting};
 use crate::reading::{TKey, TValue};
 use crate::spelling::Spelled;
 use std::alloc::{AllocError, Global};
 use std::vec::IntoIter;
-use vc_merge::merge::Uncounted;
 
 /// A key of a run.
 #[derive(Drop)]
@@ -31,11 +29,16 @@ pub struct Step<S> {
 pub fn common_front<K: Ord>(before: &[K], key: &[K]) -> Option<usize>
     ensures { IfSome result (Follows K.cmp before.now key.now) }
 {
-    match find_parting(before, key, 0, &mut Uncounted) {
-        Parting::Lower(n) => Some(n),
-        Parting::Behind if before.len() < key.len() => Some(before.len()),
-        _ => None,
+    let both = before.len().min(key.len());
+    let mut n = 0;
+    while n < both {
+        let order = before[n].cmp(&key[n]);
+        if order.is_ne() {
+            return if order.is_lt() { Some(n) } else { None };
+        }
+        n += 1;
     }
+    if n < key.len() { Some(n) } else { None }
 }
 
 /// The least number of components that a key has in common with the one before it, and of how many
