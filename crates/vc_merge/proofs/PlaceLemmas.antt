@@ -298,8 +298,22 @@ module _ {X : Type 0} (side : X → Ordering) where
       halved o e = searched-odd start (len * 2 + 1) found o y (subst (λ n. IsSearched side xs start n found) (omega arith) q)
           (subst (λ i. y ≡ get_or xs i y) (omega arith) ey) e
 
-      by-middle : (o : Ordering) → o ≡ side y → IsSearched side xs (start + (passed a + passed o + passed c) * (len + 1)) len
+      abbrev Quarter : Ordering → Type 0
+      Quarter o = IsSearched side xs (start + (passed a + passed o + passed c) * (len + 1)) len
           (((found || is_eq a) || is_eq o) || is_eq c)
+
+      -- where the middle one is not greater, the first one is less
+      behind-middle : (o : Ordering) → o ≡ side y → is_gt o ≡ false → passed o ≡ 1 → Quarter o
+      behind-middle o e not-gt one =
+          let first : a ≡ Less = less-earlier xs (start + len) (start + (len + 1) + len) a x p (omega arith)
+          (omega (arith, within)) (λ d. ap is_gt (holds-read (λ v. side v ≡ o) xs (start + (len + 1) + len) y
+          (omega (arith, within)) ey (sym e) d) ∙ not-gt) ex ea in
+          let there : start + passed o * (len * 2 + 1 + 1) ≡ start + (len + 1) * 2 = rw (one) (omega arith) in
+          let last = searched-odd (start + (len + 1) * 2) len (found || is_eq o) c z
+          (subst (λ i. IsSearched side xs i (len * 2 + 1) (found || is_eq o)) there (halved o e)) ez ec in
+          grind (arith, first, last, one)
+
+      by-middle : (o : Ordering) → o ≡ side y → Quarter o
       by-middle Greater e =
           let last : c ≡ Greater = greater-next xs (start + (len + 1) + len) (start + (len + 1) * 2 + len) c z p (omega arith)
           (omega (arith, within)) (holds-read (λ v. side v ≡ Greater) xs (start + (len + 1) + len) y
@@ -308,20 +322,8 @@ module _ {X : Type 0} (side : X → Ordering) where
           subst (λ i. IsSearched side xs i (len * 2 + 1) (found || false)) (omega arith) (halved Greater e) in
           let one = searched-odd start len (found || false) a x half ex ea in
           grind (arith, last, one)
-      by-middle Less e =
-          let first : a ≡ Less = less-earlier xs (start + len) (start + (len + 1) + len) a x p (omega arith)
-          (omega (arith, within)) (λ d. ap is_gt (holds-read (λ v. side v ≡ Less) xs (start + (len + 1) + len) y
-          (omega (arith, within)) ey (sym e) d)) ex ea in
-          let one = searched-odd (start + (len + 1) * 2) len (found || false) c z
-          (subst (λ i. IsSearched side xs i (len * 2 + 1) (found || false)) (omega arith) (halved Less e)) ez ec in
-          grind (arith, first, one)
-      by-middle Equal e =
-          let first : a ≡ Less = less-earlier xs (start + len) (start + (len + 1) + len) a x p (omega arith)
-          (omega (arith, within)) (λ d. ap is_gt (holds-read (λ v. side v ≡ Equal) xs (start + (len + 1) + len) y
-          (omega (arith, within)) ey (sym e) d)) ex ea in
-          let one = searched-odd (start + (len + 1) * 2) len (found || true) c z
-          (subst (λ i. IsSearched side xs i (len * 2 + 1) (found || true)) (omega arith) (halved Equal e)) ez ec in
-          grind (arith, first, one)
+      by-middle Less e = behind-middle Less e refl refl
+      by-middle Equal e = behind-middle Equal e refl refl
 
       -- three comparisons are one in the middle, and then one before or behind it
       pub searched-quarter : IsSearched side xs (start + (passed a + passed b + passed c) * (len + 1)) len
