@@ -236,6 +236,7 @@ pub fn search_near<X, C: Count, S: Sought<X, C>>(
 /// The same as [`search`], for what is a few elements behind the front: it looks at the first
 /// element, and then at every 16th one until one is not less. Of those before that it compares with
 /// three at a time, which do not wait for each other.
+#[inline(always)]
 pub fn search_ahead<X, C: Count, S: Sought<X, C>>(
     list: &[X],
     sought: &S,
