@@ -1,6 +1,6 @@
 -- Events that are taken one by one, and what is kept of them.
 use Rattle.std.proofs.Common.{◌≡◌, ℕ, ◌+◌, ◌<◌, Bool, true, false, List, [], ◌∷◌, ◌++◌, map, take, drop, set, length}
-use Rattle.std.proofs.Common.{get_or, not, nat_eq, ◌≤◌, arith, refl, sym, ap, subst, ◌∙◌, append_assoc}
+use Rattle.std.proofs.Common.{get_or, not, ◌||◌, nat_eq, ◌≤◌, arith, refl, sym, ap, subst, ◌∙◌, append_assoc}
 use Rattle.std.specs.Int.{from_bool}
 use Rattle.std.specs.Ordering.{is_le, is_ge}
 use denote.Ref.{Bor}
@@ -19,7 +19,7 @@ use Rattle.vc_merge.proofs.Builds.{appends-nothing, appends-append}
 use Rattle.vc_merge.proofs.Scripts.{put-lefts, put-rights, put-both, below-rights, below-lefts, turned}
 use Rattle.vc_sets.specs.Begun.{IsBegun, kept_at, kept_of, lesser_of}
 use Rattle.vc_sets.specs.SetOf.{IsSetOf}
-use Rattle.vc_sets.specs.Select.{both_sides, both_sides-total, KeptAt, keeps}
+use Rattle.vc_sets.specs.Select.{both_sides, both_sides-total, KeptAt, keeps, keeps_fresh}
 use Rattle.vc_sets.proofs.Selected.{set-of}
 
 -- what a `const` of a function says by its number
@@ -32,14 +32,21 @@ set-true n h = grind arith
 pub set-false : (n : ℕ) → n ≡ 0 → is_set n ≡ false
 set-false n e = ap is_set e
 
--- the formula of an operation by its three `const`s
-abbrev pub keeps_by : ℕ → ℕ → ℕ → Bool → Bool → Bool
-keeps_by left right both = keeps (is_set left) (is_set right) (is_set both)
+-- the formula of an operation by its two `const`s
+abbrev pub keeps_by : ℕ → ℕ → Bool → Bool → Bool
+keeps_by right both = keeps_fresh (is_set right) (is_set both)
+
+-- what stands on the left alone is kept, too
+pub keeps-left : (right both : Bool) → true ≡ (right || not both) → keeps true right both ≡ keeps_fresh right both
+keeps-left right both h = ap (λ left. keeps left right both) h
+
+-- or else common elements alone
+pub keeps-common : (right both : Bool) → false ≡ (right || not both) → keeps false false true ≡ keeps_fresh right both
+keeps-common right both h = grind arith
 
 -- each event keeps an element
-pub keeps-each : (left right both : ℕ) → (left ≡ 0 → ⊥) → (right ≡ 0 → ⊥) → (both ≡ 0 → ⊥)
-    → keeps_by left right both ≡ keeps true true true
-keeps-each left right both l r b = grind arith
+pub keeps-each : (right both : ℕ) → (right ≡ 0 → ⊥) → (both ≡ 0 → ⊥) → keeps_by right both ≡ keeps true true true
+keeps-each right both r b = grind arith
 
 -- the event of two heads that compare so
 abbrev event_at : {X : Type 0} → Ordering → X → X → Event X X

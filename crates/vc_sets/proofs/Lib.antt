@@ -3,6 +3,7 @@ pub mod Begun
 mod BegunIn
 mod Spending
 mod Spanned
+mod Found
 pub mod Combined
 pub mod Searching
 pub mod Clones

@@ -1,16 +1,15 @@
 -- What blocks of comparisons and a merge behind them spend together.
 --     enough-told        what tells that enough is left
 --     next-within, last-within        behind a block, and in the last one
---     spans-within, spans-refused        behind spans
-use Rattle.std.proofs.Common.{◌≡◌, ℕ, zero, suc, ◌+◌, ◌-◌, ◌*◌, ◌<◌, ◌≤◌, min, sym, subst, arith}
-use Rattle.std.proofs.Math.Nat.{mul-le-mul_left}
-use Rattle.vc_merge.specs.Count.{bound, by_strides}
+--     planned-left        what is left by the plan
+--     right-searches-within, left-searches-within, left-searches-refused        behind searches
+use Rattle.std.proofs.Common.{◌≡◌, ℕ, zero, suc, ◌+◌, ◌-◌, ◌≤◌, min, refl, sym, subst, arith}
+use Rattle.vc_merge.specs.Count.{bound}
 use Rattle.vc_merge.specs.declared.plan.Plan.{Plan}
-use Rattle.vc_merge.specs.declared.plan.Plan.TheVariants.{Walk, Search}
+use Rattle.vc_merge.specs.declared.plan.Plan.TheVariants.{Search}
 use Rattle.vc_merge.specs.declared.plan.Side.{Side}
-use Rattle.vc_merge.specs.declared.plan.Side.TheVariants.{Left, Right}
 use Rattle.vc_merge.specs.Plan.{planned}
-use Rattle.vc_sets.specs.Begun.{LeavesEnough, LeavesSpans, by_spans}
+use Rattle.vc_sets.specs.Begun.{LeavesEnough, LeavesSearches, by_searches, planned_left}
 
 -- it is told by a test of what was spent and of what the plan spends at most
 pub enough-told : {p : Plan} {shorter : Side} {t spent most cost : ℕ} (all_left all_right left right : ℕ) → p ≡ Search shorter t
@@ -36,24 +35,50 @@ pub last-within : (p : Plan) (all_left all_right left right : ℕ) → LeavesEno
     → after ≤ before + (left + right) → after ≤ before + 32 → after ≤ old + bound all_left all_right
 last-within p all_left all_right left right enough old before taken spent after each few = grind arith
 
--- where a list is used up, a plan by strides spends no more than spans
-strides-ended : (t s n : ℕ) → t < 8 → min n s ≡ 0 → by_strides t s n ≤ by_spans n s
-strides-ended t zero n h e = omega arith
-strides-ended t (suc s) zero h e =
-    let most : suc s * t ≤ suc s * 7 = mul-le-mul_left (suc s) (omega arith) in grind (arith, most)
-strides-ended t (suc s) (suc n) h e = grind arith
+-- what is left by a plan is no more than all of it
+pub planned-left : (p : Plan) (old after bound l r : ℕ) → after + planned p l r ≤ old + bound
+    → after + planned_left p l r ≤ old + bound
+planned-left p old after bound zero r h = omega (arith, h)
+planned-left p old after bound (suc l) zero h = omega (arith, h)
+planned-left p old after bound (suc l) (suc r) h = h
 
--- spans left l and r, of which one is none
-pub spans-within : (p : Plan) (all_left all_right left right : ℕ) → LeavesSpans p all_left all_right left right
+-- nothing is left where a list is used up
+ended-none : (p : Plan) (l r : ℕ) → min l r ≡ 0 → planned_left p l r ≡ 0
+ended-none p zero r e = refl
+ended-none p (suc l) zero e = refl
+ended-none p (suc l) (suc r) e = grind arith
+
+-- searches left l of the longer list and s of the shorter one
+searches-within : (all_long all_short long short : ℕ) → LeavesSearches all_long all_short long short
+    → (old before : ℕ) → before + (long + short) ≤ old + (all_long + all_short) → (after l s : ℕ)
+    → after + by_searches l s ≤ before + by_searches long short → after ≤ old + bound all_long all_short
+searches-within all_long all_short long short enough old before taken after l s spent = omega (arith, enough)
+
+-- with which nothing is left to compare, where a list is used up
+pub right-searches-within : (p : Plan) (all_left all_right left right : ℕ) → LeavesSearches all_left all_right left right
     → (old before : ℕ) → before + (left + right) ≤ old + (all_left + all_right) → (after l r : ℕ) → min l r ≡ 0
-    → after + by_spans l r ≤ before + by_spans left right → after + planned p l r ≤ old + bound all_left all_right
-spans-within Walk all_left all_right left right enough old before taken after l r ended spent = absurd enough
-spans-within (Search Left t) all_left all_right left right enough old before taken after l r ended spent = absurd enough
-spans-within (Search Right t) all_left all_right left right enough old before taken after l r ended spent =
-    let less = strides-ended t r l enough.0 ended in let within = enough.1 in omega (arith, less, within)
+    → after + by_searches l r ≤ before + by_searches left right → after + planned_left p l r ≤ old + bound all_left all_right
+right-searches-within p all_left all_right left right enough old before taken after l r ended spent =
+    let none = ended-none p l r ended in
+    let within = searches-within all_left all_right left right enough old before taken after l r spent in
+    omega (arith, none, within)
 
--- spans were not ended
-pub spans-refused : (p : Plan) (all_left all_right left right : ℕ) → LeavesSpans p all_left all_right left right
+-- the bound is that of the lists in either order
+bound-swapped : (m n : ℕ) → bound m n ≡ bound n m
+bound-swapped m n = grind arith
+
+-- the same where the left list is the shorter one
+pub left-searches-within : (p : Plan) (all_left all_right left right : ℕ) → LeavesSearches all_right all_left right left
+    → (old before : ℕ) → before + (left + right) ≤ old + (all_left + all_right) → (after l r : ℕ) → min l r ≡ 0
+    → after + by_searches r l ≤ before + by_searches right left → after + planned_left p l r ≤ old + bound all_left all_right
+left-searches-within p all_left all_right left right enough old before taken after l r ended spent =
+    let none = ended-none p l r ended in let same = bound-swapped all_left all_right in
+    let within = searches-within all_right all_left right left enough old before (omega (arith, taken)) after r l spent in
+    omega (arith, none, same, within)
+
+-- and where they were not ended
+pub left-searches-refused : (all_left all_right left right : ℕ) → LeavesSearches all_right all_left right left
     → (old before : ℕ) → before + (left + right) ≤ old + (all_left + all_right) → (after : ℕ)
-    → after ≤ before + by_spans left right → after ≤ old + bound all_left all_right
-spans-refused p all_left all_right left right enough old before taken after spent = grind arith
+    → after ≤ before + by_searches right left → after ≤ old + bound all_left all_right
+left-searches-refused all_left all_right left right enough old before taken after spent =
+    let same = bound-swapped all_left all_right in omega (arith, same, enough)

@@ -1,11 +1,11 @@
 -- How far a walk along two sets has come that takes their events one by one. No public clause cites these words.
-use Rattle.std.specs.Prelude.{◌≡◌, ℕ, ◌+◌, ◌-◌, ◌*◌, ◌/◌, ◌<◌, ◌≤◌, ⊤, Bool, true, false, List, [], ◌∷◌, ◌++◌, take, drop, length}
+use Rattle.std.specs.Prelude.{◌≡◌, ℕ, zero, suc, ◌+◌, ◌-◌, ◌*◌, ◌/◌, ◌≤◌, ⊤, Bool, true, false, List, [], ◌∷◌, ◌++◌, take, drop, length}
+use Rattle.std.specs.Prelude.{Result, Ok, Err}
 use Rattle.std.specs.declared.cmp.Ordering.{Ordering}
 use Rattle.std.specs.declared.cmp.Ordering.TheVariants.{Less, Equal, Greater}
 use Rattle.vc_merge.specs.Count.{bound}
 use Rattle.vc_merge.specs.declared.plan.Plan.{Plan}
 use Rattle.vc_merge.specs.declared.plan.Plan.TheVariants.{Walk, Search}
-use Rattle.vc_merge.specs.declared.plan.Side.TheVariants.{Left, Right}
 use Rattle.vc_merge.specs.Plan.{planned}
 use Rattle.vc_merge.specs.Script.{Event, IsScript, BothAscend}
 use Rattle.vc_merge.specs.Building.{Extends}
@@ -62,19 +62,28 @@ module _ {X : Type 0} (cmp : X → X → Ordering) (from : X → X → Type 0) (
     pub begun : IsBegun cmp (λ x y. x ≡ y) f xs ys (drop passed xs) (drop n ys) [] (kept ++ take (passed - copied) (drop copied xs))
     pub extended : Extends from kept old new
 
--- the most comparisons of searches for `right` elements in `left` others, each of which begins behind the one before it
-abbrev pub by_spans : (left right : ℕ) → ℕ
-by_spans left right = right * 8 + left / 16
+-- the most comparisons of a merge by the plan of what is left: none where a list is used up
+abbrev pub planned_left : Plan → (left right : ℕ) → ℕ
+planned_left plan zero right = 0
+planned_left plan (suc left) zero = 0
+planned_left plan (suc left) (suc right) = planned plan (suc left) (suc right)
 
--- lists of which this is left were compared as often as they took elements: with searches for all right elements, a merge
--- stays within the bound of the whole
-abbrev pub LeavesSpans : Plan → (all_left all_right left right : ℕ) → Type 0
-LeavesSpans Walk all_left all_right left right = ⊥
-LeavesSpans (Search Left exponent) all_left all_right left right = ⊥
-LeavesSpans (Search Right exponent) all_left all_right left right =
-    (exponent < 8) × ((all_left + all_right - (left + right)) + by_spans left right ≤ bound all_left all_right)
+-- the most comparisons of searches for `short` elements in `long` others, each of which begins behind the one before it
+abbrev pub by_searches : (long short : ℕ) → ℕ
+by_searches long short = short * 8 + long / 16
+
+-- lists of which this is left were compared as often as they took elements: with searches for all elements of the shorter
+-- one, a merge stays within the bound of the whole
+abbrev pub LeavesSearches : (all_long all_short long short : ℕ) → Type 0
+LeavesSearches all_long all_short long short =
+    (all_long + all_short - (long + short)) + by_searches long short ≤ bound all_long all_short
 
 -- how many of n right elements are kept at most
 abbrev pub kept_at_most : Bool → ℕ → ℕ
 kept_at_most true n = n
 kept_at_most false n = 0
+
+-- the answer of a search: the place of an element that is found, or the gap where it would stand
+abbrev pub placed : Bool → ℕ → Result ℕ ℕ
+placed true i = Ok i
+placed false i = Err i

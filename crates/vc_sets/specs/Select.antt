@@ -1,5 +1,5 @@
 -- What a set operation keeps at each event of a script. No public clause cites these words.
-use Rattle.std.specs.Prelude.{Bool, true, false, List, ◌⊎◌}
+use Rattle.std.specs.Prelude.{Bool, true, false, not, ◌||◌, List, ◌⊎◌}
 use Rattle.std.proofs.Common.{inl, inr}
 use Rattle.std.specs.Cmp.{IsTotalOrder}
 use Rattle.std.specs.declared.cmp.Ordering.{Ordering}
@@ -25,6 +25,10 @@ keeps left right both true true = both
 keeps left right both true false = left
 keeps left right both false true = right
 keeps left right both false false = false
+
+-- what a fresh operation keeps: what stands on the left alone, too, unless it keeps common elements alone
+abbrev pub keeps_fresh : Bool → Bool → Bool → Bool → Bool
+keeps_fresh right both = keeps (right || not both) right both
 
 -- what is kept at an event: what comes from its left element, where it has one, and else from its right one
 abbrev pub KeptAt : {X : Type 0} → (Bool → Bool → Bool) → (X → X → Type 0) → (X → X → Type 0) → Event X X → List X → Type 0

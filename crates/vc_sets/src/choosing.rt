@@ -1,20 +1,24 @@
-//! The first events of two lists that are walked along, by choices in the place of branches.
+//! The first events of two lists, by choices in the place of branches, and whether the elements of
+//! a much shorter list are searched for.
 //!
 //! A processor guesses wrongly which of two heads is the lesser in every second event, or nearly.
 //! So an event chooses the lesser head whatever the operation does with it, and moves the places by
 //! numbers that are 0 or 1. A union appends a clone of it at once; the others store a reference to
 //! it, or to the left head where they keep no right one, and append clones of what they keep behind
 //! some events.
-ghost use Rattle.std.specs.Prelude.{◌≡◌, ◌+◌, ◌-◌, ◌<◌, ◌≤◌, Bool, [], drop, take, map, length};
+ghost use Rattle.std.specs.Prelude.{◌≡◌, ◌+◌, ◌-◌, ◌<◌, ◌≤◌, Bool, [], drop, take, map};
+ghost use Rattle.std.specs.Prelude.{length, min};
 ghost use Rattle.std.specs.Prelude.{not, ◌||◌, true, false, IfOk, OnOk, IsTrue};
 ghost use Rattle.smallvec.specs.SmallVec.{HasRoomFor};
 ghost use Rattle.vc_merge.specs.Ascending.{Ascends};
 ghost use Rattle.vc_merge.specs.Building.{Extends};
 ghost use Rattle.vc_merge.specs.Count.{bound};
 ghost use Rattle.vc_merge.specs.Plan.{IsPlan, planned};
-ghost use Rattle.vc_sets.specs.Begun.{IsBegun, LeavesEnough, LeavesSpans, kept_at, lesser_of};
-ghost use Rattle.vc_sets.specs.Select.{keeps};
+ghost use Rattle.vc_sets.specs.Begun.{IsBegun, LeavesEnough, LeavesSearches};
+ghost use Rattle.vc_sets.specs.Begun.{by_searches, kept_at, lesser_of, planned_left};
+ghost use Rattle.vc_sets.specs.Select.{keeps, keeps_fresh};
 
+use crate::finding::{find_common, sift_lefts};
 use crate::operations::compare;
 use crate::spans::pass_spans;
 use smallvec::SmallVec;
@@ -31,31 +35,33 @@ pub(crate) const BLOCK: usize = 32;
 const ONE_SIDED: usize = 8;
 
 /// How many elements of each list a block has to take in order not to count so. For a union, which
-/// drops none but second ones, it is one.
+/// drops none but second ones, it is one, if no searches follow.
 const FEW: usize = 6;
 
 /// From so much on the lists are taken to come in long runs.
 pub(crate) const LONG_RUNS: usize = 32;
 
+/// A list has to be more than so many times as long as the other one, so that the elements of the
+/// other one are searched for in it.
+const TIMES_LONGER: usize = 8;
+
 /// How much of each list some events took, and how many elements are kept of these.
 #[derive(Drop)]
-struct Chosen {
-    count: usize,
-    left: usize,
-    right: usize,
+pub(crate) struct Chosen {
+    pub count: usize,
+    pub left: usize,
+    pub right: usize,
 }
 
-/// Takes the first events of two lists that are walked along, and appends what is kept of them:
-/// of what stands on the left alone if `LEFT`, on the right alone if `RIGHT`, and on both sides
-/// the left one if `BOTH`. Answers what is left of the lists.
+/// Takes the first events of two lists, and appends what is kept of them: of what stands on the
+/// right alone if `RIGHT`, on both sides the left one if `BOTH`, and on the left alone if `RIGHT`,
+/// or not `BOTH`.
 ///
-/// It goes on until a list is used up, or the lists come in long runs, which are handed over faster
-/// as a whole: until one-sided blocks count for `patience`; and only as long as a merge of what is
-/// left by the plan stays within the bound of the whole.
+/// Where the lists are alike in length it takes blocks of events; where one is some ten times as
+/// long, it may search for the elements of the other one. Answers what is left of both.
 #[inline(always)]
 pub fn begin<
     'a,
-    const LEFT: bool,
     const RIGHT: bool,
     const BOTH: bool,
     T: Ord + Clone + MadeWith<A>,
@@ -66,7 +72,6 @@ pub fn begin<
     a: &'a [T],
     b: &'a [T],
     plan: Plan,
-    patience: usize,
     built: &mut SmallVec<T, N, A>,
     steps: &mut C,
 ) -> Result<(&'a [T], &'a [T]), AllocError>
@@ -75,9 +80,140 @@ pub fn begin<
     requires plan { IsPlan plan }
     requires planned { planned plan (length a.now) (length b.now)
         ≤ bound (length a.now) (length b.now) }
-    requires patience { patience ≤ 32 }
     ensures begun { IfOk result (λ rest.
-        IsBegun T.cmp T.is_clone (keeps LEFT RIGHT BOTH) a.now b.now rest.0.now rest.1.now
+        IsBegun T.cmp T.is_clone (keeps_fresh RIGHT BOTH) a.now b.now rest.0.now rest.1.now
+        built.old.items built.new.items) }
+    ensures counted { IfOk result (λ rest. C.counted steps.new
+        + planned_left plan (length rest.0.now) (length rest.1.now)
+        ≤ C.counted steps.old + bound (length a.now) (length b.now)) }
+    ensures refused { C.counted steps.new
+        ≤ C.counted steps.old + bound (length a.now) (length b.now) }
+{
+    match side_to_search_for::<RIGHT, BOTH>(built.spilled(), a.len(), b.len()) {
+        Some(side) => begin_apart::<RIGHT, BOTH, T, C, N, A>(a, b, plan, side, built, steps),
+        None => take_blocks::<RIGHT, BOTH, T, C, N, A>(a, b, plan, false, built, steps),
+    }
+}
+
+/// The same where the elements of one side are to be searched for: a first block that is one-sided
+/// is the last, if the lists are worth one, and from there on they are, until a list is used up.
+///
+/// It is a function of its own, so that short lists go through a short one.
+#[inline(never)]
+fn begin_apart<
+    'a,
+    const RIGHT: bool,
+    const BOTH: bool,
+    T: Ord + Clone + MadeWith<A>,
+    C: Count,
+    const N: usize,
+    A: Allocator + Copy,
+>(
+    a: &'a [T],
+    b: &'a [T],
+    plan: Plan,
+    side: Side,
+    built: &mut SmallVec<T, N, A>,
+    steps: &mut C,
+) -> Result<(&'a [T], &'a [T]), AllocError>
+    requires a_ascends { Ascends T.cmp a.now }
+    requires b_ascends { Ascends T.cmp b.now }
+    requires plan { IsPlan plan }
+    requires planned { planned plan (length a.now) (length b.now)
+        ≤ bound (length a.now) (length b.now) }
+    ensures begun { IfOk result (λ rest.
+        IsBegun T.cmp T.is_clone (keeps_fresh RIGHT BOTH) a.now b.now rest.0.now rest.1.now
+        built.old.items built.new.items) }
+    ensures counted { IfOk result (λ rest. C.counted steps.new
+        + planned_left plan (length rest.0.now) (length rest.1.now)
+        ≤ C.counted steps.old + bound (length a.now) (length b.now)) }
+    ensures refused { C.counted steps.new
+        ≤ C.counted steps.old + bound (length a.now) (length b.now) }
+{
+    let (all_left, all_right) = (a.len(), b.len());
+    let (a, b) = take_blocks::<RIGHT, BOTH, T, C, N, A>(a, b, plan, true, built, steps)?;
+    match side {
+        Side::Right if leaves_searches(all_left, all_right, a.len(), b.len()) => {
+            let rest = search_for_rights::<RIGHT, BOTH, T, C, N, A>(a, b, built, steps)?;
+            Ok(rest)
+        }
+        Side::Left if !RIGHT && leaves_searches(all_right, all_left, b.len(), a.len()) => {
+            let rest = sift_lefts::<BOTH, T, C, N, A>(a, b, built, steps)?;
+            Ok(rest)
+        }
+        _ => Ok((a, b)),
+    }
+}
+
+/// The plan of a merge of what is left: where a list is used up, one that compares nothing.
+#[inline(always)]
+pub fn plan_of_rest(plan: Plan, left: usize, right: usize) -> Plan
+    requires { IsPlan plan }
+    ensures plan { IsPlan result }
+    ensures planned { planned result left right ≤ planned_left plan left right }
+{
+    let shorter = if left == 0 {
+        Side::Left
+    } else if right == 0 {
+        Side::Right
+    } else {
+        return plan;
+    };
+    Plan::Search {
+        shorter,
+        exponent: 0,
+    }
+}
+
+/// Of which of two lists of these lengths the elements are searched for in the other one, where a
+/// block is one-sided or the lists are not worth one. Spans hand over a left list, where what is
+/// built has left its place; else nothing may be kept that stands in the longer list alone.
+#[inline(always)]
+fn side_to_search_for<const RIGHT: bool, const BOTH: bool>(
+    has_spilled: bool,
+    left: usize,
+    right: usize,
+) -> Option<Side> {
+    let shorter = left.min(right);
+    if shorter == 0 || shorter >= left.max(right) / TIMES_LONGER {
+        return None;
+    }
+    if right < left {
+        let may = has_spilled || !keeps_left::<RIGHT, BOTH>();
+        (may && leaves_searches(left, right, left, right)).then_some(Side::Right)
+    } else {
+        (!RIGHT && leaves_searches(right, left, right, left)).then_some(Side::Left)
+    }
+}
+
+/// Takes blocks of events until a list is used up, or the lists come in long runs, which are handed
+/// over faster as a whole; and only as long as a merge of what is left by the plan stays within the
+/// bound of the whole. If `searches` follow, a first block that is one-sided is enough. Answers
+/// what is left of both.
+#[inline(always)]
+fn take_blocks<
+    'a,
+    const RIGHT: bool,
+    const BOTH: bool,
+    T: Ord + Clone + MadeWith<A>,
+    C: Count,
+    const N: usize,
+    A: Allocator + Copy,
+>(
+    a: &'a [T],
+    b: &'a [T],
+    plan: Plan,
+    searches: bool,
+    built: &mut SmallVec<T, N, A>,
+    steps: &mut C,
+) -> Result<(&'a [T], &'a [T]), AllocError>
+    requires a_ascends { Ascends T.cmp a.now }
+    requires b_ascends { Ascends T.cmp b.now }
+    requires plan { IsPlan plan }
+    requires planned { planned plan (length a.now) (length b.now)
+        ≤ bound (length a.now) (length b.now) }
+    ensures begun { IfOk result (λ rest.
+        IsBegun T.cmp T.is_clone (keeps_fresh RIGHT BOTH) a.now b.now rest.0.now rest.1.now
         built.old.items built.new.items) }
     ensures counted { IfOk result (λ rest. C.counted steps.new
         + planned plan (length rest.0.now) (length rest.1.now)
@@ -89,23 +225,21 @@ pub fn begin<
         ≤ C.counted steps.old + bound (length a.now) (length b.now) }
 {
     let (all_left, all_right) = (a.len(), b.len());
-    let is_union = LEFT && RIGHT && BOTH;
+    let is_union = RIGHT && BOTH;
     if !is_worth_a_block(all_left, all_right, is_union) {
         return Ok((a, b));
     }
-    let few = if is_union { 1 } else { FEW };
+    let few = if is_union && !searches { 1 } else { FEW };
     let mut a = a;
     let mut b = b;
     let mut kept = [&a[0]; BLOCK];
     let mut runs = 0;
     'blocks: while !a.is_empty()
         && !b.is_empty()
-        && runs < patience
+        && runs < patience(searches)
         && leaves_enough(plan, all_left, all_right, a.len(), b.len())
     {
-        let (left, right) = take_block::<LEFT, RIGHT, BOTH, T, C, N, A>(
-            a, b, &mut kept, built, steps,
-        )?;
+        let (left, right) = take_block::<RIGHT, BOTH, T, C, N, A>(a, b, &mut kept, built, steps)?;
         a = behind(a, left);
         b = behind(b, right);
         runs = and_next(runs, left.min(right) < few);
@@ -113,9 +247,10 @@ pub fn begin<
     Ok((a, b))
 }
 
-/// The same for an operation that keeps what stands on the left alone where `RIGHT`, or not `BOTH`.
+/// Takes the elements of the right list, and those of the left one that stand before or at one of
+/// them, until a list is used up. Appends what is kept of them, and answers what is left of both.
 #[inline(always)]
-pub fn begin_fresh<
+fn search_for_rights<
     'a,
     const RIGHT: bool,
     const BOTH: bool,
@@ -126,72 +261,42 @@ pub fn begin_fresh<
 >(
     a: &'a [T],
     b: &'a [T],
-    plan: Plan,
     built: &mut SmallVec<T, N, A>,
     steps: &mut C,
 ) -> Result<(&'a [T], &'a [T]), AllocError>
     requires a_ascends { Ascends T.cmp a.now }
     requires b_ascends { Ascends T.cmp b.now }
-    requires plan { IsPlan plan }
-    requires planned { planned plan (length a.now) (length b.now)
-        ≤ bound (length a.now) (length b.now) }
-    ensures begun { IfOk result (λ rest. IsBegun T.cmp T.is_clone
-        (keeps (RIGHT || not BOTH) RIGHT BOTH) a.now b.now rest.0.now rest.1.now
+    ensures begun { IfOk result (λ rest.
+        IsBegun T.cmp T.is_clone (keeps_fresh RIGHT BOTH) a.now b.now rest.0.now rest.1.now
         built.old.items built.new.items) }
+    ensures ended { IfOk result (λ rest. min (length rest.0.now) (length rest.1.now) ≡ 0) }
     ensures counted { IfOk result (λ rest. C.counted steps.new
-        + planned plan (length rest.0.now) (length rest.1.now)
-        ≤ C.counted steps.old + bound (length a.now) (length b.now)) }
+        + by_searches (length rest.0.now) (length rest.1.now)
+        ≤ C.counted steps.old + by_searches (length a.now) (length b.now)) }
     ensures refused { C.counted steps.new
-        ≤ C.counted steps.old + bound (length a.now) (length b.now) }
+        ≤ C.counted steps.old + by_searches (length a.now) (length b.now) }
 {
-    if BOTH {
-        begin::<RIGHT, RIGHT, true, T, C, N, A>(a, b, plan, LONG_RUNS, built, steps)
+    if keeps_left::<RIGHT, BOTH>() {
+        pass_spans::<RIGHT, BOTH, T, C, N, A>(a, b, built, steps)
     } else {
-        begin_alone::<RIGHT, T, C, N, A>(a, b, plan, built, steps)
+        find_common(a, b, built, steps)
     }
 }
 
-/// The same for an operation that keeps what stands on the left alone and, if `RIGHT`, what stands
-/// on the right alone. Where the plan is to search for right elements, and what is built has left
-/// its place, a first block that is one-sided is enough to go on by spans, which use a list up.
+/// Whether what stands on the left alone is kept.
 #[inline(always)]
-fn begin_alone<
-    'a,
-    const RIGHT: bool,
-    T: Ord + Clone + MadeWith<A>,
-    C: Count,
-    const N: usize,
-    A: Allocator + Copy,
->(
-    a: &'a [T],
-    b: &'a [T],
-    plan: Plan,
-    built: &mut SmallVec<T, N, A>,
-    steps: &mut C,
-) -> Result<(&'a [T], &'a [T]), AllocError>
-    requires a_ascends { Ascends T.cmp a.now }
-    requires b_ascends { Ascends T.cmp b.now }
-    requires plan { IsPlan plan }
-    requires planned { planned plan (length a.now) (length b.now)
-        ≤ bound (length a.now) (length b.now) }
-    ensures begun { IfOk result (λ rest.
-        IsBegun T.cmp T.is_clone (keeps true RIGHT false) a.now b.now rest.0.now rest.1.now
-        built.old.items built.new.items) }
-    ensures counted { IfOk result (λ rest. C.counted steps.new
-        + planned plan (length rest.0.now) (length rest.1.now)
-        ≤ C.counted steps.old + bound (length a.now) (length b.now)) }
-    ensures refused { C.counted steps.new
-        ≤ C.counted steps.old + bound (length a.now) (length b.now) }
+fn keeps_left<const RIGHT: bool, const BOTH: bool>() -> bool
+    ensures { result ≡ (RIGHT || not BOTH) }
 {
-    let (all_left, all_right) = (a.len(), b.len());
-    let spans = built.spilled() && leaves_spans(plan, all_left, all_right, all_left, all_right);
-    let patience = if spans { ONE_SIDED } else { LONG_RUNS };
-    let (a, b) = begin::<true, RIGHT, false, T, C, N, A>(a, b, plan, patience, built, steps)?;
-    if spans && leaves_spans(plan, all_left, all_right, a.len(), b.len()) {
-        let rest = pass_spans::<RIGHT, T, C, N, A>(a, b, built, steps)?;
-        return Ok(rest);
-    }
-    Ok((a, b))
+    RIGHT || !BOTH
+}
+
+/// For how much one-sided blocks have to count to be the last.
+#[inline(always)]
+fn patience(searches: bool) -> usize
+    ensures { result ≤ 32 }
+{
+    if searches { ONE_SIDED } else { LONG_RUNS }
 }
 
 /// Whether lists of these lengths are long enough to be worth a block, and so alike that the order
@@ -235,29 +340,16 @@ fn taken(all_left: usize, all_right: usize, left: usize, right: usize) -> u128
     (all_left as u128 + all_right as u128).saturating_sub(left as u128 + right as u128)
 }
 
-/// Whether right elements are to be searched for, and spans may pass what is left of two lists: a
+/// Whether the elements of a shorter list may be searched for in what is left of a longer one: a
 /// search compares eight times, and once more for each 16 elements that it passes. Blocks before
-/// them compare as often as they take elements. A plan by strides of `2 ^ 8` or more would count
-/// more than spans for right elements that are left alone.
+/// them compare as often as they take elements.
 #[inline(always)]
-fn leaves_spans(plan: Plan, all_left: usize, all_right: usize, left: usize, right: usize) -> bool
-    ensures { IsTrue result → LeavesSpans plan all_left all_right left right }
+fn leaves_searches(all_long: usize, all_short: usize, long: usize, short: usize) -> bool
+    ensures { IsTrue result → LeavesSearches all_long all_short long short }
 {
-    match plan {
-        Plan::Search {
-            shorter: Side::Right,
-            exponent,
-        } => {
-            let spent = taken(all_left, all_right, left, right);
-            let searches = right as u128 * 8 + (left / 16) as u128;
-            exponent < 8 && spent + searches <= most_comparisons(all_left, all_right)
-        }
-        Plan::Search {
-            shorter: Side::Left,
-            exponent: _,
-        } => false,
-        Plan::Walk => false,
-    }
+    let spent = taken(all_long, all_short, long, short);
+    let searches = short as u128 * 8 + (long / 16) as u128;
+    spent + searches <= most_comparisons(all_long, all_short)
 }
 
 /// What the blocks count that came nearly from one list alone, with a further one.
@@ -274,7 +366,7 @@ pub(crate) fn and_next(runs: usize, is_one_sided: bool) -> usize
 
 /// What is behind the first `n` elements.
 #[inline(always)]
-fn behind<'a, T>(items: &'a [T], n: usize) -> &'a [T]
+pub(crate) fn behind<'a, T>(items: &'a [T], n: usize) -> &'a [T]
     requires { n ≤ length items.now }
     ensures { result.now ≡ drop n items.now }
 {
@@ -286,7 +378,6 @@ fn behind<'a, T>(items: &'a [T], n: usize) -> &'a [T]
 #[inline(always)]
 fn take_block<
     'a,
-    const LEFT: bool,
     const RIGHT: bool,
     const BOTH: bool,
     T: Ord + Clone + MadeWith<A>,
@@ -308,17 +399,17 @@ fn take_block<
     ensures right { IfOk result (λ taken. taken.1 ≤ length b.now) }
     ensures some { IfOk result (λ taken. 0 < taken.0 + taken.1) }
     ensures begun { IfOk result (λ taken.
-        IsBegun T.cmp T.is_clone (keeps LEFT RIGHT BOTH) a.now b.now
+        IsBegun T.cmp T.is_clone (keeps_fresh RIGHT BOTH) a.now b.now
         (drop taken.0 a.now) (drop taken.1 b.now) built.old.items built.new.items) }
     ensures counted { IfOk result (λ taken.
         C.counted steps.new ≤ C.counted steps.old + (taken.0 + taken.1)) }
     ensures refused { C.counted steps.new ≤ C.counted steps.old + (length a.now + length b.now) }
     ensures few { C.counted steps.new ≤ C.counted steps.old + 32 }
 {
-    if LEFT && RIGHT && BOTH {
+    if RIGHT && BOTH {
         return take_each(a, b, built, steps);
     }
-    let chosen = choose::<LEFT, RIGHT, BOTH, T, C>(a, b, kept, steps);
+    let chosen = choose::<RIGHT, BOTH, T, C>(a, b, kept, steps);
     append_chosen(built, &kept[..chosen.count])?;
     Ok((chosen.left, chosen.right))
 }
@@ -383,7 +474,7 @@ fn room_for_some<T: MadeWith<A> + Drop, const N: usize, A: Allocator + Copy>(
 
 /// Puts what is kept of the first `BLOCK` events into `kept`, or of all until a list is used up.
 #[inline(always)]
-fn choose<'a, const LEFT: bool, const RIGHT: bool, const BOTH: bool, T: Ord, C: Count>(
+fn choose<'a, const RIGHT: bool, const BOTH: bool, T: Ord, C: Count>(
     a: &'a [T],
     b: &'a [T],
     kept: &mut [&'a T; BLOCK],
@@ -397,7 +488,7 @@ fn choose<'a, const LEFT: bool, const RIGHT: bool, const BOTH: bool, T: Ord, C: 
     ensures right { result.right ≤ length b.now }
     ensures count { result.count ≤ 32 }
     ensures some { 0 < result.left + result.right }
-    ensures begun { IsBegun T.cmp (λ x y. x ≡ y) (keeps LEFT RIGHT BOTH) a.now b.now
+    ensures begun { IsBegun T.cmp (λ x y. x ≡ y) (keeps_fresh RIGHT BOTH) a.now b.now
         (drop result.left a.now) (drop result.right b.now) []
         (map (λ p. p.now) (take result.count kept.new)) }
     ensures counted { C.counted steps.new ≤ C.counted steps.old + (result.left + result.right) }
@@ -412,7 +503,7 @@ fn choose<'a, const LEFT: bool, const RIGHT: bool, const BOTH: bool, T: Ord, C: 
         let y = &b[right];
         let order = compare(x, y, steps);
         kept[count] = stored::<RIGHT, _>(order, x, y);
-        count += usize::from(is_kept::<LEFT, RIGHT, BOTH>(order));
+        count += usize::from(is_kept::<RIGHT, BOTH>(order));
         left += usize::from(order.is_le());
         right += usize::from(order.is_ge());
         taken += 1;
@@ -444,13 +535,11 @@ fn stored<'a, const RIGHT: bool, T>(order: Ordering, left: &'a T, right: &'a T) 
 
 /// Whether something is kept at an event, by the order of the two heads.
 #[inline(always)]
-pub(crate) fn is_kept<const LEFT: bool, const RIGHT: bool, const BOTH: bool>(
-    order: Ordering,
-) -> bool
-    ensures { result ≡ kept_at (keeps LEFT RIGHT BOTH) order }
+pub(crate) fn is_kept<const RIGHT: bool, const BOTH: bool>(order: Ordering) -> bool
+    ensures { result ≡ kept_at (keeps_fresh RIGHT BOTH) order }
 {
     match order {
-        Ordering::Less => LEFT,
+        Ordering::Less => keeps_left::<RIGHT, BOTH>(),
         Ordering::Equal => BOTH,
         Ordering::Greater => RIGHT,
     }
@@ -459,7 +548,7 @@ pub(crate) fn is_kept<const LEFT: bool, const RIGHT: bool, const BOTH: bool>(
 /// Appends a clone of each of `items`, with one look at the room. Where a clone is refused, those
 /// before it were appended.
 #[inline(always)]
-fn append_chosen<'a, T: Clone + MadeWith<A>, const N: usize, A: Allocator + Copy>(
+pub(crate) fn append_chosen<'a, T: Clone + MadeWith<A>, const N: usize, A: Allocator + Copy>(
     built: &mut SmallVec<T, N, A>,
     items: &[&'a T],
 ) -> Result<(), AllocError>

@@ -7,7 +7,7 @@ ghost use Rattle.vc_sets.specs.SetOf.{IsSetOf};
 ghost use Rattle.vc_sets.specs.Algebra.{made_by};
 ghost use Rattle.vc_sets.specs.Select.{keeps};
 
-use crate::choosing::begin_fresh;
+use crate::choosing::{begin, plan_of_rest};
 use crate::operations::{EitherOp, LeftOp};
 use crate::vec_set::SetOp;
 use smallvec::SmallVec;
@@ -44,7 +44,8 @@ fn combine_either<
     };
     let mut built = SmallVec::with_capacity(alloc, room)?;
     let plan = plan_of(a.len(), b.len());
-    let (a, b) = begin_fresh::<true, BOTH, _, _, _, _>(a, b, plan, &mut built, steps)?;
+    let (a, b) = begin::<true, BOTH, _, _, _, _>(a, b, plan, &mut built, steps)?;
+    let plan = plan_of_rest(plan, a.len(), b.len());
     let mut state = SmallVecMergeState::new(a, b, &mut built);
     merge_as(&mut state, &EitherOp::<BOTH>, plan, steps)?;
     Ok(built)
@@ -76,7 +77,8 @@ fn combine_left<
     let mut built = SmallVec::new(alloc);
     built.reserve(least)?;
     let plan = plan_of(a.len(), b.len());
-    let (a, b) = begin_fresh::<false, BOTH, _, _, _, _>(a, b, plan, &mut built, steps)?;
+    let (a, b) = begin::<false, BOTH, _, _, _, _>(a, b, plan, &mut built, steps)?;
+    let plan = plan_of_rest(plan, a.len(), b.len());
     let mut state = SmallVecMergeState::new(a, b, &mut built);
     merge_as(&mut state, &LeftOp::<BOTH>, plan, steps)?;
     Ok(built)

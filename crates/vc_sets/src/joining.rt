@@ -76,6 +76,6 @@ fn pass_block<'a, const BOTH: bool, T: Ord>(state: &mut PartsState<'a, T>)
             return;
         }
         let order = left[0].cmp(&right[0]);
-        state.pass_lesser(order, is_kept::<true, true, BOTH>(order));
+        state.pass_lesser(order, is_kept::<true, BOTH>(order));
     }
 }

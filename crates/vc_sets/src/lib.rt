@@ -5,6 +5,7 @@ pub mod borrowed;
 mod choosing;
 pub mod cloning;
 mod combine;
+mod finding;
 mod joining;
 pub mod laws;
 mod operations;

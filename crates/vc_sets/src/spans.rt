@@ -1,37 +1,25 @@
 //! All events of a long left list and a short right one, for what keeps what stands on the left
 //! alone: each right element is searched for behind the one before it, and the left elements
-//! between two that stand on both sides are handed over as one span.
-ghost use Rattle.std.specs.Prelude.{◌≡◌, ◌+◌, ◌≤◌, true, false, length, min, IfOk, OnOk};
+//! between two that end it are handed over as one span.
+ghost use Rattle.std.specs.Prelude.{◌≡◌, ◌+◌, ◌≤◌, true, length, min, IfOk, OnOk};
 ghost use Rattle.std.specs.Prelude.{vec_len, vec_capacity};
 ghost use Rattle.vc_merge.specs.Ascending.{Ascends};
 ghost use Rattle.vc_merge.specs.Building.{Extends};
-ghost use Rattle.vc_sets.specs.Begun.{IsBegun, by_spans, kept_at_most};
+ghost use Rattle.vc_sets.specs.Begun.{IsBegun, by_searches, kept_at_most};
 ghost use Rattle.vc_sets.specs.Select.{keeps};
 
-use crate::operations::compare;
+use crate::finding::Element;
 use smallvec::SmallVec;
 use std::alloc::{AllocError, Allocator};
-use std::cmp::Ordering;
 use std::default::MadeWith;
 use std::mem;
 use vc_merge::merge::Count;
-use vc_merge::search::{Sought, search_ahead};
-
-/// A right element that is sought in the left list.
-#[derive(Clone, Copy)]
-struct Right<'a, T>(&'a T);
-
-impl<'a, T: Ord, C: Count> Sought<T, C> for Right<'a, T> {
-    ghost side = { λ s x. T.cmp x s.0.now };
-
-    fn compare(&self, element: &T, steps: &mut C) -> Ordering {
-        compare(element, self.0, steps)
-    }
-}
+use vc_merge::search::search_ahead;
 
 /// Takes the elements of the right list, and those of the left one that stand before or at one of
-/// them, until a list is used up. Appends what stands on the left alone and, if `RIGHT`, what
-/// stands on the right alone. Answers what is left of both.
+/// them, until a list is used up. Appends what stands on the left alone, if `RIGHT` what stands on
+/// the right alone, and if `BOTH` the left one of what stands on both sides. Answers what is left
+/// of both.
 ///
 /// It makes room for all that may come, and builds a `Vec`, which need not be asked at each element
 /// whether it stands in place.
@@ -39,6 +27,7 @@ impl<'a, T: Ord, C: Count> Sought<T, C> for Right<'a, T> {
 pub fn pass_spans<
     'a,
     const RIGHT: bool,
+    const BOTH: bool,
     T: Ord + Clone + MadeWith<A>,
     C: Count,
     const N: usize,
@@ -51,17 +40,17 @@ pub fn pass_spans<
 ) -> Result<(&'a [T], &'a [T]), AllocError>
     requires a_ascends { Ascends T.cmp a.now }
     requires b_ascends { Ascends T.cmp b.now }
-    ensures begun { IfOk result (λ rest. IsBegun T.cmp T.is_clone (keeps true RIGHT false)
+    ensures begun { IfOk result (λ rest. IsBegun T.cmp T.is_clone (keeps true RIGHT BOTH)
         a.now b.now rest.0.now rest.1.now built.old.items built.new.items) }
     ensures ended { IfOk result (λ rest. min (length rest.0.now) (length rest.1.now) ≡ 0) }
     ensures counted { IfOk result (λ rest. C.counted steps.new
-        + by_spans (length rest.0.now) (length rest.1.now)
-        ≤ C.counted steps.old + by_spans (length a.now) (length b.now)) }
+        + by_searches (length rest.0.now) (length rest.1.now)
+        ≤ C.counted steps.old + by_searches (length a.now) (length b.now)) }
     ensures refused { C.counted steps.new
-        ≤ C.counted steps.old + by_spans (length a.now) (length b.now) }
+        ≤ C.counted steps.old + by_searches (length a.now) (length b.now) }
 {
     let mut list = take_list(built, most_kept::<RIGHT>(a.len(), b.len())?)?;
-    let rest = append_spans::<RIGHT, T, C, A>(a, b, &mut list, steps);
+    let rest = append_spans::<RIGHT, BOTH, T, C, A>(a, b, &mut list, steps);
     *built = SmallVec::from_vec(list);
     rest
 }
@@ -94,7 +83,7 @@ fn most_kept<const RIGHT: bool>(left: usize, right: usize) -> Result<usize, Allo
 
 /// The same into a list that has room for all.
 #[inline(always)]
-fn append_spans<'a, const RIGHT: bool, T: Ord + Clone, C: Count, A: Allocator>(
+fn append_spans<'a, const RIGHT: bool, const BOTH: bool, T: Ord + Clone, C: Count, A: Allocator>(
     a: &'a [T],
     b: &'a [T],
     list: &mut Vec<T, A>,
@@ -104,14 +93,14 @@ fn append_spans<'a, const RIGHT: bool, T: Ord + Clone, C: Count, A: Allocator>(
     requires b_ascends { Ascends T.cmp b.now }
     requires room { vec_len list.old + (length a.now + kept_at_most RIGHT (length b.now))
         ≤ vec_capacity list.old }
-    ensures begun { IfOk result (λ rest. IsBegun T.cmp T.is_clone (keeps true RIGHT false)
+    ensures begun { IfOk result (λ rest. IsBegun T.cmp T.is_clone (keeps true RIGHT BOTH)
         a.now b.now rest.0.now rest.1.now list.old.items list.new.items) }
     ensures ended { IfOk result (λ rest. min (length rest.0.now) (length rest.1.now) ≡ 0) }
     ensures counted { IfOk result (λ rest. C.counted steps.new
-        + by_spans (length rest.0.now) (length rest.1.now)
-        ≤ C.counted steps.old + by_spans (length a.now) (length b.now)) }
+        + by_searches (length rest.0.now) (length rest.1.now)
+        ≤ C.counted steps.old + by_searches (length a.now) (length b.now)) }
     ensures refused { C.counted steps.new
-        ≤ C.counted steps.old + by_spans (length a.now) (length b.now) }
+        ≤ C.counted steps.old + by_searches (length a.now) (length b.now) }
 {
     let mut copied = 0;
     let mut passed = 0;
@@ -119,11 +108,14 @@ fn append_spans<'a, const RIGHT: bool, T: Ord + Clone, C: Count, A: Allocator>(
     'rights: while at < b.len() && passed < a.len() {
         let right = &b[at];
         at += 1;
-        match search_ahead(&a[passed..], &Right(right), steps) {
+        match search_ahead(&a[passed..], &Element(right), steps) {
             Ok(place) => {
-                append_span(list, &a[copied..passed + place])?;
-                passed += place + 1;
-                copied = passed;
+                let common = passed + place;
+                if !BOTH {
+                    append_span(list, &a[copied..common])?;
+                    copied = common + 1;
+                }
+                passed = common + 1;
             }
             Err(gap) => {
                 passed += gap;

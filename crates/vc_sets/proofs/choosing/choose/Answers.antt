@@ -1,4 +1,4 @@
-use Rattle.std.proofs.Common.{rules, ◌≡◌, ◌+◌, [], ap, ◌∙◌, arith}
+use Rattle.std.proofs.Common.{rules, ◌≡◌, ◌+◌, ◌||◌, not, [], ap, ◌∙◌, arith}
 use Rattle.std.specs.Int.{from_bool}
 use Rattle.std.specs.Ordering.{is_le, is_ge}
 use Rattle.std.proofs.lemmas.List.{length-set}
@@ -15,13 +15,13 @@ events-init g c = record {
   within = omega arith;
   some = omega arith;
   counted = omega arith;
-  begun = begun-nothing g.T.Ord.cmp g.met.T.Ord.total (keeps_by g.row.LEFT g.row.RIGHT g.row.BOTH) (λ x y. x ≡ y)
+  begun = begun-nothing g.T.Ord.cmp g.met.T.Ord.total (keeps_by g.row.RIGHT g.row.BOTH) (λ x y. x ≡ y)
       c.args.a.now c.args.b.now [] c.requires.a_ascends c.requires.b_ascends;
 }
 
 pub events-preserved : goal.events-preserved
 events-preserved g c =
-    let f = keeps_by g.row.LEFT g.row.RIGHT g.row.BOTH in
+    let f = keeps_by g.row.RIGHT g.row.BOTH in
     let o = c.compare-order.result in let x = c.index-a-left.result in let y = c.index-b-right.result in
     let left : c.from-left.result ≡ from_bool (is_le o) = c.from-left.ensures ∙ ap from_bool c.is_le.ensures in
     let right : c.from-right.result ≡ from_bool (is_ge o) = c.from-right.ensures ∙ ap from_bool c.is_ge.ensures in
@@ -43,6 +43,6 @@ events-preserved g c =
           c.compare-order.ensures.value (ap (λ n. c.events.left + n) left) (ap (λ n. c.events.right + n) right)
           (appends-event g.T.Ord.cmp g.met.T.Ord.total f x y _ _ o
           (kept-more c.events.kept c.events.count _ c.stored.result (lesser_of o x y) (kept_at f o)
-          (omega (arith, was.places, in_block, was.room)) (c.stored.ensures (is_set g.row.LEFT) (is_set g.row.BOTH))
+          (omega (arith, was.places, in_block, was.room)) (c.stored.ensures (is_set g.row.RIGHT || not (is_set g.row.BOTH)) (is_set g.row.BOTH))
           (ap (λ n. c.events.count + n) count))) was.begun;
     }

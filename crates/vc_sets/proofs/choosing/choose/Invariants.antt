@@ -12,7 +12,7 @@ invariant-events g l = record {
   within : l.taken ≤ 32;
   some : l.taken ≤ l.left + l.right;
   counted : g.C.Count.counted l.steps ≤ g.C.Count.counted l.fn.steps + l.taken;
-  begun : IsBegun g.T.Ord.cmp (λ x y. x ≡ y) (keeps_by g.row.LEFT g.row.RIGHT g.row.BOTH)
+  begun : IsBegun g.T.Ord.cmp (λ x y. x ≡ y) (keeps_by g.row.RIGHT g.row.BOTH)
       l.a l.b (drop l.left l.a) (drop l.right l.b) [] (map (λ p. p.now) (take l.count l.kept));
 }
 

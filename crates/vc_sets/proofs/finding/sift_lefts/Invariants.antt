@@ -1,0 +1,16 @@
+use Rattle.std.proofs.Common.{◌+◌, ◌≤◌, false, not, length}
+use Rattle.vc_sets.specs.Begun.{IsBegun, by_searches}
+use Rattle.vc_sets.specs.Select.{keeps}
+use Rattle.vc_sets.proofs.Begun.{is_set}
+use Rattle.vc_sets.proofs.finding.sift_lefts.Given as goal
+
+abbrev pub invariant-blocks-2 : goal.invariant-blocks-2
+invariant-blocks-2 g l = record {
+  counted : g.C.Count.counted l.steps + by_searches (length l.b) (length l.a)
+      ≤ g.C.Count.counted l.fn.steps + by_searches (length l.fn.b) (length l.fn.a);
+  begun : IsBegun g.T.Ord.cmp g.T.Clone.is_clone (keeps (not (is_set g.row.BOTH)) false (is_set g.row.BOTH))
+      l.fn.a l.fn.b l.a l.b l.fn.built.items l.built.items;
+}
+
+abbrev pub decreases-blocks-2 : goal.decreases-blocks-2
+decreases-blocks-2 g l = length l.a
