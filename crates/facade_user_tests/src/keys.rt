@@ -164,8 +164,3 @@ pub fn below_root<T: AbstractRadixTree<u8, u32>>(ports: &T) -> &[T]
 {
     ports.children()
 }
-
-/// How both flavours are shown. No clause can say what a text shows.
-pub fn show(plain: &Ports, shared: &SharedPorts) -> Result<String, AllocError> {
-    format!(in plain.allocator(); "{plain:?} {shared:?}")
-}

@@ -287,25 +287,6 @@ pub fn fill_up(stock: &mut Stock, list: &Stock) -> Result<(), AllocError>
     )
 }
 
-/// The pieces of two stocks together.
-pub fn pool(alloc: Global, here: &Stock, there: &Stock) -> Result<Stock, AllocError>
-    ensures { IfOk result (λ all. (k : ℕ) → value_at nat_cmp all k
-        ≡ in_either together (value_at nat_cmp here.now k) (value_at nat_cmp there.now k)) }
-{
-    outer_join(
-        alloc,
-        here,
-        there,
-        |at: OuterJoinArg<&u32, &u32, &u32>| -> Result<Option<u32>, AllocError> {
-            Ok(match at {
-                OuterJoinArg::Left(_, held) => Some(*held),
-                OuterJoinArg::Right(_, more) => Some(*more),
-                OuterJoinArg::Both(_, held, more) => Some(held.saturating_add(*more)),
-            })
-        },
-    )
-}
-
 /// What is left of a stock once these pieces are sold.
 pub fn after_sale(alloc: Global, stock: &Stock, sold: &Stock) -> Result<Stock, AllocError>
     ensures { IfOk result (λ rest. (k : ℕ) → value_at nat_cmp rest k

@@ -438,11 +438,6 @@ pub fn size_of<S: AbstractVecSet<u32>>(set: &S) -> (usize, usize, bool)
     (set.iter().count(), set.as_slice().len(), set.is_empty())
 }
 
-/// How tags are shown. No clause can say what a text shows.
-pub fn show(alloc: Global, tags: &Tags) -> Result<String, AllocError> {
-    format!(in alloc; "{tags:?}")
-}
-
 /// The least tag.
 pub fn least(tags: &Tags) -> Option<u32>
     ensures none { IsNone result ↔ (tags.now ≡ []) }

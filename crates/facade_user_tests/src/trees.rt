@@ -1,6 +1,6 @@
 //! Radix trees from outside: each call at both flavours, generic code, and a tree of this crate's
 //! own with children.
-ghost use Rattle.std.specs.Prelude.{◌≡◌, ◌<◌, ℕ, List, [], ◌∷◌, Some, None, true, length, map, IfOk, OnOk, OnErr};
+ghost use Rattle.std.specs.Prelude.{◌≡◌, ◌<◌, ℕ, List, [], ◌∷◌, Some, None, length, map, IfOk, OnOk, OnErr};
 ghost use Rattle.std.specs.Ordering.{nat_cmp};
 ghost use Rattle.std.specs.Option.{option_copied};
 ghost use Rattle.vec_collections.specs.Commanded.{command_of};
@@ -8,7 +8,7 @@ ghost use Rattle.vec_collections.specs.Machine.{Run};
 ghost use Rattle.vec_collections.specs.Map.{lookup, or_else, HaveEqualMaps, IsInserted};
 ghost use Rattle.vec_collections.specs.Tree.{made, no_tree, is_bare};
 ghost use Rattle.vec_collections.specs.Under.{under};
-ghost use Rattle.vec_collections.specs.Value.{Copies, IsKept};
+ghost use Rattle.vec_collections.specs.Value.{Copies};
 ghost use Rattle.vec_collections.specs.Without.{IsWithout, IsWithoutBelow};
 
 use std::alloc::{AllocError, Global};
@@ -40,16 +40,6 @@ pub fn set_shared_port(
     Ok(had)
 }
 
-/// Takes the port of a server away, and answers it.
-#[tactic(auto, using(vec_collections::specs::Exact::exactly))]
-pub fn forget_port(ports: &mut Ports, server: &[u8]) -> Result<Option<u32>, AllocError>
-    ensures had { IfOk result (IsKept (λ x y. x ≡ y) (lookup nat_cmp ports.old server.now)) }
-    ensures gone { OnOk result (IsWithout nat_cmp (λ x y. x ≡ y) server.now
-        (lookup nat_cmp ports.old) (lookup nat_cmp ports.new)) }
-{
-    ports.remove(server)
-}
-
 /// Takes the port of a server away where the ports are shared, and answers it.
 #[tactic(auto, using(vec_collections::specs::Exact::exactly))]
 pub fn forget_shared_port(ports: &mut SharedPorts, server: &[u8]) -> Result<Option<u32>, AllocError>
@@ -58,15 +48,6 @@ pub fn forget_shared_port(ports: &mut SharedPorts, server: &[u8]) -> Result<Opti
         (lookup nat_cmp ports.old) (lookup nat_cmp ports.new)) }
 {
     ports.remove(server)
-}
-
-/// Takes the ports of all servers away whose names begin with the zone.
-pub fn forget_zone(ports: &mut Ports, zone: &[u8]) -> Result<(), AllocError>
-    ensures gone { OnOk result (IsWithoutBelow nat_cmp (λ x y. x ≡ y) zone.now
-        (lookup nat_cmp ports.old) (lookup nat_cmp ports.new)) }
-    ensures err { OnErr result (HaveEqualMaps nat_cmp (λ x y. x ≡ y) ports.old ports.new) }
-{
-    ports.remove_below(zone)
 }
 
 /// Hands the servers over whose names begin with the zone, with their ports.
@@ -94,16 +75,6 @@ pub fn change_ports(
     let mut made = vec![in *changes.allocator(); false; changes.len()]?;
     run(ports, changes, made.as_mut_slice());
     Ok(made)
-}
-
-/// Which paths may be read.
-pub type Rules = RadixTree<u8, bool>;
-
-/// Allows a path to be read.
-pub fn allow(rules: &mut Rules, path: &[u8]) -> Result<(), AllocError>
-    ensures { OnOk result (lookup nat_cmp rules.new path.now ≡ Some true) }
-{
-    rules.insert(path, true)
 }
 
 /// A snapshot of the ports.

@@ -1,21 +1,18 @@
-//! Each call on one map, and each operator and conversion, on a worked example, and what no clause
-//! says of them: printed text and hashes.
+//! Calls on one map on a worked example, and what no clause says of them: what is asked, printed
+//! text and hashes.
 
 use super::outcomes::holds;
-use smallvec::SmallVec;
 use std::alloc::{AllocError, Global};
 use std::cell::Cell;
 use std::collections::BTreeMap;
 use std::hash::{FoldHasher, Hash, Hasher};
 use std::test::Fail;
-use vc_maps::vec_map::conversions::map_of_list;
 use vc_maps::vec_map::{AbstractVecMap, VecMap};
 use vc_merge::iterators::ascends_by_key;
-use vc_sets::vec_set::VecSet;
 
 type Map = VecMap<u32, u32, 2>;
 
-/// The pairs of the map that conversions make.
+/// The pairs of a map that is made in two ways.
 const PAIRS: [(u32, u32); 3] = [(1, 2), (2, 4), (3, 6)];
 
 /// The map of pairs, which come in any order.
@@ -99,99 +96,6 @@ fn of_tree(alloc: Global) -> Result<Map, AllocError> {
         tree.insert(key, value)?;
     }
     Map::from_btree_map(alloc, tree)
-}
-
-/// The map of the items of a map.
-fn of_items(alloc: Global, map: &Map) -> Result<Map, AllocError> {
-    Map::from_iter(alloc, map.clone()?.into_iter())
-}
-
-/// The map of the list of a map.
-fn of_inner(map: &Map) -> Result<Map, AllocError> {
-    Ok(map_of_list(map.clone()?.into_inner()))
-}
-
-/// Whether what was made is the map.
-fn is_same(made: Map, map: &Map) -> bool {
-    made == *map
-}
-
-/// The map of a list of the pairs from behind, in which the first key has another value before.
-fn of_any_list(alloc: Global) -> Result<Map, AllocError> {
-    let mut pairs = Vec::new(alloc);
-    pairs.push((PAIRS[0].0, 9))?;
-    for pair in PAIRS.iter().rev() {
-        pairs.push(*pair)?;
-    }
-    Map::from_unsorted(alloc, pairs)
-}
-
-/// Whether each conversion makes the map.
-fn conversions_agree(alloc: Global, map: &Map) -> Result<bool, AllocError> {
-    Ok(
-        is_same(of_list(alloc)?, map)
-            && is_same(of_any_list(alloc)?, map)
-            && is_same(of_tree(alloc)?, map)
-            && is_same(of_items(alloc, map)?, map)
-            && is_same(of_inner(map)?, map),
-    )
-}
-
-#[test]
-fn maps_come_from_lists_trees_and_iterators(rt: HostRuntime) -> Result<(), Fail> {
-    let map = map_of(rt.alloc(), PAIRS.as_slice())?;
-    holds(&rt, &"the maps", conversions_agree(rt.alloc(), &map));
-    Ok(())
-}
-
-/// Whether the set of the pairs of a map that is copied has the pairs.
-fn set_agrees(map: &Map) -> Result<bool, AllocError> {
-    let set: VecSet<(u32, u32), 2> = VecSet::from(map.clone()?);
-    Ok(set.as_ref() == PAIRS.as_slice())
-}
-
-/// Whether the list of the pairs of a map that is copied has the pairs.
-fn list_agrees(map: &Map) -> Result<bool, AllocError> {
-    let list: SmallVec<(u32, u32), 2> = map.clone()?.into();
-    Ok(list.as_slice() == PAIRS.as_slice())
-}
-
-/// Whether each iteration by reference shows the pairs.
-fn shows_pairs(map: &Map) -> bool {
-    map.into_iter().eq(PAIRS.iter())
-        && map.iter().eq(PAIRS.iter())
-        && AbstractVecMap::iter(map).eq(PAIRS.iter())
-        && map.iter().rev().eq(PAIRS.iter().rev())
-        && map.iter().len() == PAIRS.len()
-}
-
-/// Whether the iterators over keys and over values show them, from both ends.
-fn shows_parts(map: &Map) -> bool {
-    let keys = PAIRS.iter().map(|pair| pair.0);
-    let values = PAIRS.iter().rev().map(|pair| pair.1);
-    map.keys().len() == PAIRS.len()
-        && map.values().len() == PAIRS.len()
-        && map.keys().copied().eq(keys)
-        && map.values().rev().copied().eq(values)
-}
-
-/// Whether the parts of a map in ranges of keys are those of its list.
-fn lends_parts(map: &Map) -> bool {
-    map.range(..).len() == PAIRS.len()
-        && map.range(2..) == &PAIRS[1..]
-        && map.range(..3) == &PAIRS[..2]
-        && map.range(2..=2) == &PAIRS[1..2]
-        && map.range(3..1).is_empty()
-}
-
-#[test]
-fn maps_turn_into_lists_and_sets(rt: HostRuntime) -> Result<(), Fail> {
-    let map = map_of(rt.alloc(), PAIRS.as_slice())?;
-    holds(&rt, &"the set", set_agrees(&map));
-    holds(&rt, &"the list", list_agrees(&map));
-    let are_shown = shows_pairs(&map) && shows_parts(&map) && lends_parts(&map);
-    holds(&rt, &"the parts", Ok(are_shown));
-    Ok(())
 }
 
 /// The hash of a map.

@@ -3,8 +3,6 @@
 #![tactic(auto)]
 
 #[cfg(test)]
-mod borrowed;
-#[cfg(test)]
 mod counted;
 #[cfg(test)]
 mod drops;
@@ -16,8 +14,6 @@ mod joins;
 mod lookups;
 #[cfg(test)]
 mod outcomes;
-#[cfg(test)]
-mod room;
 #[cfg(test)]
 mod sides;
 #[cfg(test)]

@@ -1,4 +1,4 @@
-//! Sets that are asked by a borrowed form: texts, lists, and elements of a user's own.
+//! Sets that are asked by a borrowed form of a user's own.
 ghost use Rattle.std.specs.Prelude.{refl};
 ghost use Rattle.std.specs.String.{string_bytes};
 ghost use Rattle.set_user_tests.specs.Releases.{release_cmp, release_total};
@@ -10,64 +10,6 @@ use std::cmp::Ordering;
 use std::default::MadeWith;
 use vc_sets::borrowed::Borrowed;
 use vc_sets::vec_set::{AbstractVecSet, VecSet};
-
-type Words = VecSet<String, 2>;
-
-/// The set of these words, which come in any order.
-fn words(alloc: Global, list: &[&str]) -> Result<Words, AllocError> {
-    let mut set = Words::empty(alloc);
-    for word in list {
-        set.insert(String::from_str(alloc, *word)?)?;
-    }
-    Ok(set)
-}
-
-/// The words of a set, a word that is sought, and whether the set has it.
-const ROWS: [(&[&str], &str, bool); 8] = [
-    (&[], "b", false),
-    (&["b", "d", "f"], "a", false),
-    (&["b", "d", "f"], "b", true),
-    (&["b", "d", "f"], "da", false),
-    (&["b", "d", "f"], "d", true),
-    (&["b", "d", "f"], "f", true),
-    (&["b", "d", "f"], "g", false),
-    (&["", "b"], "", true),
-];
-
-/// Whether the word is found if it is held, taken out once, and leaves the others.
-fn is_right(alloc: Global, list: &[&str], sought: &str, is_held: bool) -> Result<bool, AllocError> {
-    let mut set = words(alloc, list)?;
-    let shown = set.get_by(sought).map(|word| word.as_str() == sought);
-    let is_found = set.contains_by(sought) == is_held && shown.unwrap_or(false) == is_held;
-    let is_removed = set.remove_by(sought) == is_held && !set.remove_by(sought);
-    let left = set.as_ref().iter().map(|word| word.as_str());
-    Ok(is_found && is_removed && left.eq(list.iter().copied().filter(|word| *word != sought)))
-}
-
-#[test]
-fn words_are_found_by_their_letters(rt: HostRuntime) {
-    for (list, sought, is_held) in ROWS {
-        let answer = is_right(rt.alloc(), list, sought, is_held);
-        holds(&rt, &(sought, list), answer);
-    }
-}
-
-/// Which of two lists of numbers is found by its numbers, and which of two numbers by a reference.
-fn are_found(alloc: Global) -> Result<bool, AllocError> {
-    let lists: VecSet<Vec<u32>, 2> = VecSet::single(alloc, Vec::from_array(alloc, [1, 2])?)?;
-    let numbers: VecSet<u32, 2> = VecSet::single(alloc, 7)?;
-    Ok(
-        lists.contains_by([1, 2].as_slice())
-            && !lists.contains_by([1].as_slice())
-            && numbers.get_by(&7) == Some(&7)
-            && numbers.get_by(&8).is_none(),
-    )
-}
-
-#[test]
-fn lists_and_numbers_are_found(rt: HostRuntime) {
-    holds(&rt, &"the lists", are_found(rt.alloc()));
-}
 
 /// A release of a program. Releases are ordered by name, and then by number.
 #[derive(Debug, PartialEq, Eq, PartialOrd, Ord, Drop)]

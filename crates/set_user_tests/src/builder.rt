@@ -37,20 +37,6 @@ fn builds_in_front_of_what_is_left(rt: HostRuntime) {
     holds(&rt, &"the list", is_built(rt.alloc()));
 }
 
-/// Whether a builder takes the list, and shows what it has and hands it out.
-fn is_shown(alloc: Global) -> Result<bool, AllocError> {
-    let mut list = vec![in alloc; 4, 5, 6]?;
-    let mut both = InPlace::new(&mut list, 0)?;
-    let front = both.pop_front();
-    let is_rest = both.rest() == [5, 6].as_slice();
-    Ok(list.is_empty() && front == Some(4) && is_rest)
-}
-
-#[test]
-fn shows_what_is_left(rt: HostRuntime) {
-    holds(&rt, &"the text", is_shown(rt.alloc()));
-}
-
 /// A list of clones of a count.
 fn clones(alloc: Global, counted: &Rc<u32>, number: u32) -> Result<Vec<Rc<u32>>, AllocError> {
     let mut list = Vec::new(alloc);

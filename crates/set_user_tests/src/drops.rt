@@ -5,10 +5,8 @@ use crate::held::{Held, Shared, hold, holders_of};
 use crate::nth::Nth;
 use crate::outcomes::{holds, same};
 use std::alloc::{AllocError, Global};
-use std::collections::BTreeSet;
 use std::rc::Rc;
 use std::test::Fail;
-use vc_merge::iterators::ascends;
 use vc_sets::vec_set::VecSet;
 
 /// Memory of which requests can be refused.
@@ -211,142 +209,6 @@ fn changes_drop_each_element_once_and_clone_none_that_they_keep(
     for row in CHANGES {
         holds(&rt, &row, is_always_dropped_once(&six, &memory, row, false));
         holds(&rt, &row, is_always_dropped_once(&six, &memory, row, true));
-    }
-    Ok(())
-}
-
-/// A call that takes elements, and can be refused.
-#[derive(Clone, Copy, Debug)]
-enum Taking {
-    Insert,
-    Single,
-    FromVec,
-    FromIter,
-    FromBtreeSet,
-    IntoVec,
-}
-
-const TAKING: [Taking; 6] = [
-    Taking::Insert,
-    Taking::Single,
-    Taking::FromVec,
-    Taking::FromIter,
-    Taking::FromBtreeSet,
-    Taking::IntoVec,
-];
-
-impl Taking {
-    /// Makes the call with the requests of that number and the next one refused.
-    fn make(
-        self,
-        alloc: Global,
-        memory: &Memory,
-        six: &Six,
-        number: u64,
-    ) -> Result<(), AllocError> {
-        match self {
-            Taking::Insert => insert(memory, six, number),
-            Taking::Single => single(memory, six, number),
-            Taking::FromVec => from_vec(alloc, memory, six, number),
-            Taking::FromIter => from_iter(memory, six, number),
-            Taking::FromBtreeSet => from_btree_set(alloc, memory, six, number),
-            Taking::IntoVec => into_vec(memory, six, number),
-        }
-    }
-}
-
-/// Inserts into a full set.
-fn insert(memory: &Memory, six: &Six, number: u64) -> Result<(), AllocError> {
-    let mut set: Set<'_> = set_of(memory, &six.left[..2], true)?;
-    let [_, _, last] = &six.left;
-    memory.refuse_two(number);
-    set.insert(hold(last, true)?)?;
-    Ok(())
-}
-
-/// Makes a set of one element.
-fn single(memory: &Memory, six: &Six, number: u64) -> Result<(), AllocError> {
-    let [a, _, _] = &six.left;
-    memory.refuse_two(number);
-    let _set: VecSet<Held, 0, &Memory> = VecSet::single(memory, hold(a, true)?)?;
-    Ok(())
-}
-
-/// The elements of the left shares as a list.
-fn list_of(alloc: Global, six: &Six) -> Result<Vec<Held>, AllocError> {
-    let mut list = Vec::new(alloc);
-    for share in &six.left {
-        list.push(hold(share, true)?)?;
-    }
-    Ok(list)
-}
-
-/// Makes a set of a list.
-fn from_vec(alloc: Global, memory: &Memory, six: &Six, number: u64) -> Result<(), AllocError> {
-    let list = list_of(alloc, six)?;
-    if ascends(list.as_slice()) {
-        memory.refuse_two(number);
-        let _set = Set::from_vec(memory, list)?;
-    }
-    Ok(())
-}
-
-/// Makes a set of an iterator.
-fn from_iter(memory: &Memory, six: &Six, number: u64) -> Result<(), AllocError> {
-    let set: Set<'_> = set_of(memory, six.left.as_slice(), true)?;
-    let elements = set.into_iter();
-    memory.refuse_two(number);
-    let _set = Set::from_iter(memory, elements)?;
-    Ok(())
-}
-
-/// The elements of the left shares as a tree.
-fn tree_of(alloc: Global, six: &Six) -> Result<BTreeSet<Held>, AllocError> {
-    let mut tree = BTreeSet::new(alloc);
-    for share in &six.left {
-        tree.insert(hold(share, true)?)?;
-    }
-    Ok(tree)
-}
-
-/// Makes a set of a tree.
-fn from_btree_set(
-    alloc: Global,
-    memory: &Memory,
-    six: &Six,
-    number: u64,
-) -> Result<(), AllocError> {
-    let tree = tree_of(alloc, six)?;
-    memory.refuse_two(number);
-    let _set = Set::from_btree_set(memory, tree)?;
-    Ok(())
-}
-
-/// Makes a list of a set in place.
-fn into_vec(memory: &Memory, six: &Six, number: u64) -> Result<(), AllocError> {
-    let set: VecSet<Held, 4, &Memory> = set_of(memory, six.left.as_slice(), true)?;
-    memory.refuse_two(number);
-    let _list = set.into_vec()?;
-    Ok(())
-}
-
-/// Makes the call so, and says whether it was refused where it asks alone, and each element is
-/// dropped once.
-fn takes(alloc: Global, memory: &Memory, six: &Six, call: Taking, number: u64) -> bool {
-    let is_made = call.make(alloc, memory, six, number).is_ok();
-    memory.refuse_two(0);
-    is_made == (number != 1) && six.holders() == ALONE
-}
-
-#[test]
-fn refused_calls_drop_what_they_took_once(rt: HostRuntime) -> Result<(), Fail> {
-    let six = Six::new(rt.alloc())?;
-    let memory = Nth::new(Nth::new(rt.alloc(), 0), 0);
-    for call in TAKING {
-        for number in 0..LIMIT {
-            let are_dropped = takes(rt.alloc(), &memory, &six, call, number);
-            holds(&rt, &(call, number), Ok(are_dropped));
-        }
     }
     Ok(())
 }

@@ -3,17 +3,12 @@
 
 use crate::marked::Marked;
 use crate::outcomes::{holds, same};
-use smallvec::SmallVec;
 use std::alloc::{AllocError, Global};
 use std::cell::Cell;
-use std::cmp::{Ordering, Reverse};
-use std::collections::BTreeSet;
+use std::cmp::Ordering;
 use std::fmt::Debug;
 use std::hash::{FoldHasher, Hash, Hasher};
-use std::ops::Bound;
 use std::test::Fail;
-use vc_merge::iterators::ascends;
-use vc_sets::vec_set::conversions::set_of_list;
 use vc_sets::vec_set::{AbstractVecSet, VecSet};
 
 type Numbers = VecSet<u32, 2>;
@@ -112,6 +107,22 @@ fn operations_agree(left: &Numbers, right: &Numbers, row: &Row) -> Result<bool, 
     )
 }
 
+/// Whether the operations in place leave of copies of the left set what the row says.
+fn changes_agree(left: &Numbers, right: &Numbers, row: &Row) -> Result<bool, AllocError> {
+    let (mut united, mut shared) = (left.clone()?, left.clone()?);
+    let (mut one, mut rest) = (left.clone()?, left.clone()?);
+    united.union_with(right)?;
+    shared &= right;
+    one.xor_with(right)?;
+    rest -= right;
+    Ok(
+        has(united, row.union)
+            && has(shared, row.intersection)
+            && has(one, row.symmetric_difference)
+            && has(rest, row.difference),
+    )
+}
+
 /// Whether the tests of the two sets answer what the row says.
 fn tests_agree(left: &Numbers, right: &Numbers, row: &Row) -> bool {
     left.is_disjoint(right) == row.intersection.is_empty()
@@ -123,7 +134,11 @@ fn tests_agree(left: &Numbers, right: &Numbers, row: &Row) -> bool {
 fn agrees(alloc: Global, row: &Row) -> Result<bool, AllocError> {
     let left = numbers(alloc, row.left)?;
     let right = numbers(alloc, row.right)?;
-    Ok(tests_agree(&left, &right, row) && operations_agree(&left, &right, row)?)
+    Ok(
+        tests_agree(&left, &right, row)
+            && operations_agree(&left, &right, row)?
+            && changes_agree(&left, &right, row)?,
+    )
 }
 
 #[test]
@@ -175,78 +190,6 @@ fn insert_takes_the_new_and_union_the_left(rt: HostRuntime) {
     same(&rt, &"the marks", &marks_of_one(rt.alloc()), &wanted);
 }
 
-/// The set of a list, or of no element where that does not ascend.
-fn of_list(alloc: Global) -> Result<Numbers, AllocError> {
-    let list = vec![in alloc; 1, 2, 3]?;
-    if ascends(list.as_slice()) {
-        Numbers::from_vec(alloc, list)
-    } else {
-        Ok(Numbers::empty(alloc))
-    }
-}
-
-/// The set of a tree.
-fn of_tree(alloc: Global, set: &Numbers) -> Result<Numbers, AllocError> {
-    let mut tree = BTreeSet::new(alloc);
-    for x in set {
-        tree.insert(*x)?;
-    }
-    Numbers::from_btree_set(alloc, tree)
-}
-
-/// The set of the items of a set that is copied.
-fn of_items(alloc: Global, set: &Numbers) -> Result<Numbers, AllocError> {
-    Numbers::from_iter(alloc, set.clone()?.into_iter())
-}
-
-/// Whether what was made is the set.
-fn is_same(made: Numbers, set: &Numbers) -> bool {
-    made == *set
-}
-
-/// Whether each conversion makes the set of 1, 2 and 3.
-fn conversions_agree(alloc: Global, set: &Numbers) -> Result<bool, AllocError> {
-    Ok(
-        is_same(of_list(alloc)?, set)
-            && is_same(Numbers::from_iter(alloc, 1..4)?, set)
-            && is_same(of_tree(alloc, set)?, set)
-            && is_same(of_items(alloc, set)?, set),
-    )
-}
-
-#[test]
-fn sets_come_from_lists(rt: HostRuntime) -> Result<(), Fail> {
-    let set = numbers(rt.alloc(), &[3, 1, 2])?;
-    holds(&rt, &set, conversions_agree(rt.alloc(), &set));
-    Ok(())
-}
-
-/// The set of the small list that a set turns into.
-fn of_small_list(set: &Numbers) -> Result<Numbers, AllocError> {
-    let list: SmallVec<u32, 2> = set.clone()?.into();
-    Ok(set_of_list(list))
-}
-
-/// Whether a copy of a set turns into the list of its elements.
-fn lists_elements(set: &Numbers) -> Result<bool, AllocError> {
-    let list = set.clone()?.into_vec()?;
-    Ok(list.as_slice() == set.as_ref())
-}
-
-#[test]
-fn sets_turn_into_lists(rt: HostRuntime) -> Result<(), Fail> {
-    let set = numbers(rt.alloc(), &[3, 1, 2])?;
-    holds(
-        &rt,
-        &"the small list",
-        Ok(is_same(of_small_list(&set)?, &set)),
-    );
-    holds(&rt, &"the elements", lists_elements(&set));
-    let is_list = set.into_inner().as_slice() == [1, 2, 3].as_slice();
-    holds(&rt, &"the list", Ok(is_list));
-    Ok(())
-}
-
 /// The hash of a set.
 fn hash_of<const N: usize>(set: &VecSet<u32, N>) -> u64 {
     let mut hasher = FoldHasher::default();
@@ -292,33 +235,6 @@ fn sets_are_shown_ordered_and_hashed_as_lists(rt: HostRuntime) -> Result<(), Fai
     Ok(())
 }
 
-type Backwards<const N: usize> = VecSet<Reverse<u32>, N>;
-
-/// Whether a set is the union of another one with 2, and has that as a subset.
-fn becomes_union_with_two(
-    alloc: Global,
-    set: &mut Backwards<2>,
-    union: &[Reverse<u32>],
-) -> Result<bool, AllocError> {
-    let two = Backwards::<1>::single(alloc, Reverse(2))?;
-    set.union_with(&two)?;
-    Ok(two.is_subset(set) && set.as_ref() == union)
-}
-
-#[test]
-fn an_order_may_run_backwards(rt: HostRuntime) -> Result<(), Fail> {
-    let mut set = Backwards::single(rt.alloc(), Reverse(1))?;
-    let union = [Reverse(2), Reverse(1)];
-    let is_union = becomes_union_with_two(rt.alloc(), &mut set, union.as_slice());
-    holds(&rt, &"the union", is_union);
-    holds(
-        &rt,
-        &"the text",
-        is_shown(rt.alloc(), &set, "{Reverse(2), Reverse(1)}"),
-    );
-    Ok(())
-}
-
 /// Keeps the odd numbers, and answers the numbers that were asked about, as digits.
 fn keep_odd(set: &mut Numbers) -> u32 {
     let asked = Cell::new(0u32);
@@ -335,51 +251,5 @@ fn retain_asks_once_at_each_element(rt: HostRuntime) -> Result<(), Fail> {
     let order = keep_odd(&mut set);
     let is_odd = set.as_ref() == [1, 3, 5].as_slice();
     same(&rt, &"the order", &(order, is_odd), &(12345, true));
-    Ok(())
-}
-
-/// Whether the parts of a set in ranges are those of its list.
-fn lends_parts(set: &Numbers) -> bool {
-    set.range(..).len() == 4
-        && set.range(3..7) == [3, 5].as_slice()
-        && set.range(..=5) == [1, 3, 5].as_slice()
-        && set.range(4..) == [5, 7].as_slice()
-        && set.range((Bound::Excluded(1), Bound::Included(3))) == [3].as_slice()
-        && set.range(7..3).is_empty()
-}
-
-#[test]
-fn ranges_are_parts_of_a_set(rt: HostRuntime) -> Result<(), Fail> {
-    let set = numbers(rt.alloc(), &[1, 3, 5, 7])?;
-    holds(&rt, &"the parts", Ok(lends_parts(&set)));
-    let is_reversed = set.iter().rev().copied().eq([7, 5, 3, 1].iter().copied());
-    holds(&rt, &"backwards", Ok(is_reversed));
-    Ok(())
-}
-
-/// The marks in the set of a list of numbers that are marked in turn from `a` on.
-fn marks_of_list(alloc: Global, list: &[u32]) -> Result<Vec<char>, AllocError> {
-    let mut elements = Vec::new(alloc);
-    for (number, mark) in list.iter().zip('a'..'z') {
-        elements.push(Marked {
-            number: *number,
-            mark,
-        })?;
-    }
-    let set: VecSet<Marked, 2> = VecSet::from_unsorted(alloc, elements)?;
-    set.iter().map(|element| element.mark).collect(alloc)
-}
-
-#[test]
-fn the_last_of_equal_elements_is_kept(rt: HostRuntime) -> Result<(), Fail> {
-    let marks = marks_of_list(rt.alloc(), &[2, 1, 2, 3, 1])?;
-    same(
-        &rt,
-        &"five numbers",
-        &marks.as_slice(),
-        &['e', 'c', 'd'].as_slice(),
-    );
-    let marks = marks_of_list(rt.alloc(), &[])?;
-    same(&rt, &"no number", &marks.len(), &0);
     Ok(())
 }

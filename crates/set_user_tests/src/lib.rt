@@ -1,7 +1,7 @@
 //! A crate that uses sets from outside, and the builder that they are changed in: worked examples,
-//! contracts, drops, counted comparisons, elements that refuse to be cloned, refused memory, and
-//! calls that take none. The allocator, three of its elements, the operations and the lengths by
-//! which comparisons are counted are there for tests of other crates.
+//! drops, counted comparisons, elements that refuse to be cloned, and calls that take no memory.
+//! The allocator, three of its elements and the lengths by which comparisons are counted are there
+//! for tests of other crates.
 #![tactic(auto)]
 
 #[cfg(test)]
@@ -23,10 +23,7 @@ pub mod lengths;
 mod lookups;
 pub mod marked;
 pub mod nth;
-pub mod operation;
 #[cfg(test)]
 mod outcomes;
 #[cfg(test)]
 mod quiet;
-#[cfg(test)]
-mod refused;

@@ -104,6 +104,7 @@ const LISTS: [(&[u32], &[u32]); 5] = [
 impl Read {
     /// Makes the calls on a set that has an element, and on another one.
     fn make<'s, 'a>(self, left: &'s Numbers<'a>, right: &'s Numbers<'a>) {
+        // quiet: VecSet::hash
         match self {
             Read::Look => look(left),
             Read::Test => test(left, right),
@@ -118,6 +119,8 @@ impl Read {
 impl Change {
     /// Makes the calls on a set that has an element, and on another one.
     fn make<'s, 'a>(self, left: &'s mut Numbers<'a>, right: &'s Numbers<'a>) {
+        // quiet: VecSet::bitand_assign, difference_with, intersection_with, remove, remove_by,
+        //   retain, sub_assign
         match self {
             Change::Remove => {
                 left.remove(&1);
@@ -163,6 +166,9 @@ impl Call {
 
 /// Looks at a set.
 fn look<'s, 'a>(set: &'s Numbers<'a>) {
+    // quiet: AbstractVecSet::as_slice, contains, contains_by, first, get_by, is_empty, last, range
+    // quiet: Borrowed::compare
+    // quiet: VecSet::as_ref, is_empty, len
     let _few = (set.len(), set.is_empty(), set.as_ref().len());
     let _in_trait = (AbstractVecSet::is_empty(set), set.contains(&2));
     let _length = AbstractVecSet::as_slice(set).len();
@@ -174,17 +180,20 @@ fn look<'s, 'a>(set: &'s Numbers<'a>) {
 
 /// Tests two sets.
 fn test<'s, 'a>(left: &'s Numbers<'a>, right: &'s Numbers<'a>) {
+    // quiet: AbstractVecSet::is_disjoint, is_subset, is_superset
     let _answers = (left.is_disjoint(right), left.is_subset(right));
     let _last = left.is_superset(right);
 }
 
 /// Compares two sets.
 fn compare<'s, 'a>(left: &'s Numbers<'a>, right: &'s Numbers<'a>) {
+    // quiet: VecSet::cmp, eq, partial_cmp
     let _answers = (left == right, left.cmp(right), left.partial_cmp(right));
 }
 
 /// Tests two sets with a counter.
 fn test_counted<'s, 'a>(left: &'s Numbers<'a>, right: &'s Numbers<'a>) {
+    // quiet: VecSet::test_counted
     let mut steps = Steps::new();
     for test in [SetTest::Disjoint, SetTest::Subset, SetTest::Superset] {
         let _holds = left.test_counted(right, test, &mut steps);
@@ -193,12 +202,14 @@ fn test_counted<'s, 'a>(left: &'s Numbers<'a>, right: &'s Numbers<'a>) {
 
 /// Takes the lists of two sets, by both calls.
 fn into_lists<'a>(left: Numbers<'a>, right: Numbers<'a>) {
+    // quiet: VecSet::into_inner
     drop(left.into_inner());
     let _list: SmallVec<u32, 2, &'a Nth<Global>> = right.into();
 }
 
 /// Takes the list of a set that does not stand in place.
 fn into_vec<'a>(set: Numbers<'a>) {
+    // quiet: VecSet::into_vec: where the set does not stand in place
     if set.len() > 2 {
         drop(set.into_vec());
     }
@@ -206,6 +217,9 @@ fn into_vec<'a>(set: Numbers<'a>) {
 
 /// Goes over a set by each iterator, and looks its elements up in the other one.
 fn walk<'s, 'a>(left: &'s Numbers<'a>, right: &'s Numbers<'a>) {
+    // quiet: AbstractVecSet::iter
+    // quiet: VecSet::iter
+    // quiet: VecSetIter::len, next_back
     for element in left {
         let _is_in = right.contains(element);
     }
@@ -221,6 +235,7 @@ fn walk<'s, 'a>(left: &'s Numbers<'a>, right: &'s Numbers<'a>) {
 
 /// Puts numbers into an empty set, until it has so many elements as it had before.
 fn fill<'s, 'a>(set: &'s mut Numbers<'a>, length: usize) {
+    // quiet: VecSet::insert: where there is room
     for number in 0..9 {
         if set.len() < length {
             let _always = set.insert(number);
@@ -230,6 +245,7 @@ fn fill<'s, 'a>(set: &'s mut Numbers<'a>, length: usize) {
 
 /// Takes out elements at both ends, until none is left, and puts as many in.
 fn pop<'s, 'a>(set: &'s mut Numbers<'a>) {
+    // quiet: VecSet::pop_first, pop_last
     let length = set.len();
     for _ in 0..length {
         set.pop_first();
@@ -240,6 +256,7 @@ fn pop<'s, 'a>(set: &'s mut Numbers<'a>) {
 
 /// Clears a set, and puts in as many elements as it had.
 fn refill<'s, 'a>(set: &'s mut Numbers<'a>) {
+    // quiet: VecSet::clear
     let length = set.len();
     set.clear();
     fill(set, length);
@@ -247,6 +264,7 @@ fn refill<'s, 'a>(set: &'s mut Numbers<'a>) {
 
 /// Inserts what is in the set already.
 fn insert_known<'s, 'a>(left: &'s mut Numbers<'a>, right: &'s Numbers<'a>) {
+    // quiet: VecSet::insert: of a known element
     for element in right {
         if left.contains(element) {
             let _always = left.insert(*element);
@@ -256,6 +274,9 @@ fn insert_known<'s, 'a>(left: &'s mut Numbers<'a>, right: &'s Numbers<'a>) {
 
 /// Makes sets that fit in place, of one element or of as many as stand there.
 fn make_in_place(memory: &Nth<Global>, list: Vec<u32>, tree: BTreeSet<u32>) {
+    // quiet: VecSet::empty, into_iter, made_with
+    // quiet: VecSet::single, clone, from_vec, from_iter, from_btree_set: where there is room
+    // quiet: ascends
     let _none = Numbers::made_with(memory);
     let mut set = Numbers::empty(memory);
     let _first = set.insert(2);
@@ -358,6 +379,8 @@ enum Join {
 
 impl Join {
     fn make<'a>(self, left: &mut Four<'a>, right: Four<'a>) -> Result<(), AllocError> {
+        // quiet: VecSet::union_with, xor_with, bitor_assign, bitxor_assign, extend: where there is
+        //   room
         match self {
             Join::UnionWith => left.union_with(&right),
             Join::XorWith => left.xor_with(&right),

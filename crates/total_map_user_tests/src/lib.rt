@@ -5,8 +5,6 @@
 #[cfg(test)]
 mod cases;
 #[cfg(test)]
-mod nested;
-#[cfg(test)]
 mod questions;
 #[cfg(test)]
 mod written;

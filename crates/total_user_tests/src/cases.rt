@@ -339,6 +339,7 @@ fn with_three(set: &Numbers) -> Result<Numbers, AllocError> {
 
 /// A clone of the set, without 2.
 fn without_two(set: &Numbers) -> Result<Numbers, AllocError> {
+    // refused: TotalVecSet::shrink_to_fit: always succeeds, as that of `VecSet`, which it calls
     let mut without_two = set.clone()?;
     without_two.remove(&2)?;
     without_two.shrink_to_fit()?;
@@ -367,6 +368,40 @@ fn one_agrees(alloc: Global, row: &Single) -> Result<bool, AllocError> {
 fn one_set_is_read_and_changed(rt: HostRuntime) -> Result<(), Fail> {
     for row in &SINGLES {
         assert!(rt; one_agrees(rt.alloc(), row)?, "{}", row.text);
+    }
+    Ok(())
+}
+
+/// Sets of the two values.
+type Truths = TotalVecSet2<bool>;
+
+/// The lists of all plain sets of them.
+const TRUTHS: [&[bool]; 4] = [&[], &[false], &[true], &[false, true]];
+
+/// The set of a list.
+fn truths(alloc: Global, list: &[bool]) -> Result<Truths, AllocError> {
+    let mut set = Truths::empty(alloc);
+    for truth in list {
+        set.insert(*truth)?;
+    }
+    Ok(set)
+}
+
+/// Whether "and" and "or" of the two sets turn into each other on their complements.
+fn truths_turn(left: &Truths, right: &Truths) -> Result<bool, AllocError> {
+    let (not_left, not_right) = ((!left)?, (!right)?);
+    let not_both = !(left & right)?;
+    let not_either = !(left | right)?;
+    Ok(not_both == (&not_left | &not_right)? && not_either == (&not_left & &not_right)?)
+}
+
+#[test]
+fn complements_of_two_values_turn(rt: HostRuntime) -> Result<(), Fail> {
+    for left in TRUTHS {
+        for right in TRUTHS {
+            let (a, b) = (truths(rt.alloc(), left)?, truths(rt.alloc(), right)?);
+            assert!(rt; truths_turn(&a, &b)?, "{:?}", (left, right));
+        }
     }
     Ok(())
 }

@@ -28,14 +28,15 @@ enum Call {
     RetainWith,
 }
 
-/// Fresh combines, and the sum of what each closure is handed: once at each key of both trees, and
-/// by a left combine at each key of the left.
-const FRESH: [(Call, u32); 4] = [
+/// Fresh combines, and the sum of what each closure is handed: once at each key of both trees.
+const FRESH: [(Call, u32); 3] = [
     (Call::Outer, 11_110),
     (Call::Counted, 11_110),
     (Call::Inner, 11_110),
-    (Call::Left, 11_111),
 ];
+
+/// A fresh combine that asks once at each key of the left.
+const FRESH_LEFT: [(Call, u32); 1] = [(Call::Left, 11_111)];
 
 /// Combines in place, likewise.
 const IN_PLACE: [(Call, u32); 3] = [
@@ -127,6 +128,11 @@ fn are_handed(rt: &impl Abort, alloc: Global, calls: &[(Call, u32)]) {
 #[test]
 fn fresh_combines_ask_once_at_a_key(rt: HostRuntime) {
     are_handed(&rt, rt.alloc(), &FRESH);
+}
+
+#[test]
+fn left_combines_ask_once_at_a_key(rt: HostRuntime) {
+    are_handed(&rt, rt.alloc(), &FRESH_LEFT);
 }
 
 #[test]

@@ -1,13 +1,10 @@
-//! Fresh combines with ample memory, in both flavours and with a tree of another crate.
+//! Fresh combines with ample memory, in both flavours: pairs and shapes worked out by hand.
 
-use super::Word;
-use super::outcomes::{holds, reads, same};
+use super::outcomes::holds;
 use super::questions::{none, sum, sum_of_both};
 use super::walks::print_pairs;
-use super::whole_trees::shape_of;
+use super::whole_trees::has_shape;
 use std::alloc::{AllocError, Global};
-use std::process::Abort;
-use std::test::Fail;
 use vc_trees::radix_tree::{AbstractRadixTree, AbstractRadixTreeMut, ArcRadixTree, RadixTree};
 
 /// The tree of these keys and values.
@@ -22,199 +19,127 @@ pub(crate) fn tree_of<T: AbstractRadixTreeMut<u8, u32>>(
     Ok(tree)
 }
 
-/// Asserts what the tree binds to these keys.
-fn assert_binds<T: AbstractRadixTree<u8, u32>>(
-    rt: &impl Abort,
+/// The keys and values of a tree.
+type Pairs = &'static [(&'static str, u32)];
+
+/// A fresh combine. Closures add the values, or answer none at all.
+#[derive(Clone, Copy, Debug)]
+enum Call {
+    Union,
+    Intersection,
+    Difference,
+    Outer,
+    OuterOfNone,
+    Inner,
+    InnerOfNone,
+    Left,
+}
+
+/// The pairs of a tree, a combine, the pairs of the other tree, and the pairs and the shape of what
+/// is made.
+const WORKED: [(Pairs, Call, Pairs, &str, &str); 9] = [
+    (AB, Call::Union, BC, "1a 2ab 7b", "(a*(b*) b*)"),
+    (AB, Call::Intersection, BC, "2ab", "ab*"),
+    (AB, Call::Difference, BC, "1a", "a*"),
+    (AB, Call::Outer, BC, "1a 7ab 7b", "(a*(b*) b*)"),
+    (AB, Call::OuterOfNone, &[("a", 3)], "2ab", "ab*"),
+    (AB, Call::Inner, BC, "7ab", "ab*"),
+    (AB, Call::InnerOfNone, BC, "", ""),
+    (
+        &[("x", 1), ("xy", 2)],
+        Call::Left,
+        &[("xy", 5)],
+        "7xy",
+        "xy*",
+    ),
+    (
+        &[("a", 1)],
+        Call::Union,
+        &[("a", 2), ("b", 3)],
+        "1a 3b",
+        "(a* b*)",
+    ),
+];
+
+/// Two keys, and two of which one is the same.
+const AB: Pairs = &[("a", 1), ("ab", 2)];
+
+const BC: Pairs = &[("ab", 5), ("b", 7)];
+
+/// Makes a combine.
+fn combine<T: AbstractRadixTreeMut<u8, u32>>(
     tree: &T,
-    pairs: &[(&str, Option<u32>)],
-) {
-    for (key, value) in pairs {
-        same(rt, key, &tree.get(key.as_bytes()).copied(), value);
+    call: Call,
+    that: &T,
+) -> Result<T, AllocError> {
+    match call {
+        Call::Union => tree.union(that),
+        Call::Intersection => tree.intersection(that),
+        Call::Difference => tree.difference(that),
+        Call::Outer => tree.outer_combine(that, sum),
+        Call::OuterOfNone => tree.outer_combine(that, none),
+        Call::Inner => tree.inner_combine(that, sum),
+        Call::InnerOfNone => tree.inner_combine(that, none),
+        Call::Left => tree.left_combine(that, sum_of_both),
     }
 }
 
-/// Asserts what a tree binds to these keys that was made.
-fn assert_makes<T: AbstractRadixTreeMut<u8, u32>>(
-    rt: &impl Abort,
-    made: Result<T, AllocError>,
-    pairs: &[(&str, Option<u32>)],
-) {
-    match made {
-        Ok(tree) => assert_binds(rt, &tree, pairs),
-        Err(refusal) => holds(rt, &"a combine", Err(refusal)),
-    }
-}
-
-/// The outer combine of two trees, at every key of either.
-fn combines_all<T: AbstractRadixTreeMut<u8, u32>>(rt: &impl Abort, left: &T, right: &T) {
-    let outer: Result<T, AllocError> = left.outer_combine(right, sum);
-    let pairs = [("a", Some(1)), ("ab", Some(7)), ("b", Some(7)), ("", None)];
-    assert_makes(rt, outer, &pairs);
-}
-
-/// The inner combine, and what it makes with the front of its keys off.
-fn combines_shared<T: AbstractRadixTreeMut<u8, u32>>(
-    rt: &impl Abort,
-    left: &T,
-    right: &T,
-) -> Result<(), AllocError> {
-    let inner: T = left.inner_combine(right, sum)?;
-    assert_binds(rt, &inner, &[("a", None), ("ab", Some(7)), ("b", None)]);
-    // (the check goes by this: a key can be shortened by a part of the prefix alone)
-    assert_eq!(rt; inner.prefix().len(), 2);
-    let pairs = [("b", Some(7)), ("ab", None)];
-    let short: Result<T, AllocError> = inner.materialize_shortened(1);
-    assert_makes(rt, short, &pairs);
-    Ok(())
-}
-
-/// An inner combine that keeps no key.
-fn combines_to_none<T: AbstractRadixTreeMut<u8, u32>>(
-    rt: &impl Abort,
-    left: &T,
-    right: &T,
-) -> Result<(), AllocError> {
-    let gone: T = left.inner_combine(right, none)?;
-    holds(rt, &"no key", Ok(gone.is_empty()));
-    Ok(())
-}
-
-/// Union, intersection and difference.
-fn combines_keys<T: AbstractRadixTreeMut<u8, u32>>(rt: &impl Abort, left: &T, right: &T) {
-    let pairs = [("a", Some(1)), ("ab", Some(2)), ("b", Some(7))];
-    assert_makes(rt, left.union(right), &pairs);
-    let pairs = [("a", None), ("ab", Some(2)), ("b", None)];
-    assert_makes(rt, left.intersection(right), &pairs);
-    let pairs = [("a", Some(1)), ("ab", None), ("b", None)];
-    assert_makes(rt, left.difference(right), &pairs);
-}
-
-/// Each combine of two trees.
-fn combines_trees<T: AbstractRadixTreeMut<u8, u32>>(
-    rt: &impl Abort,
-    left: &T,
-    right: &T,
-) -> Result<(), AllocError> {
-    combines_all(rt, left, right);
-    combines_keys(rt, left, right);
-    combines_shared(rt, left, right)?;
-    combines_to_none(rt, left, right)
-}
-
-/// Each combine of two trees of a flavour.
-fn combines<T: AbstractRadixTreeMut<u8, u32>>(
+/// Whether a tree has these pairs and this shape.
+fn is_tree_of<T: AbstractRadixTree<u8, u32>>(
     alloc: Global,
-    rt: &impl Abort,
-) -> Result<(), AllocError> {
-    let left: T = tree_of(alloc, &[("a", 1), ("ab", 2)])?;
-    let right: T = tree_of(alloc, &[("ab", 5), ("b", 7)])?;
-    combines_trees(rt, &left, &right)
-}
-
-/// Asserts which pairs a tree has that was made, and its shape.
-fn assert_is<T: AbstractRadixTreeMut<u8, u32>>(
-    alloc: Global,
-    rt: &impl Abort,
-    made: Result<T, AllocError>,
+    tree: &T,
     pairs: &str,
     shape: &str,
-) {
-    match made {
-        Ok(tree) => {
-            reads(rt, &shape, print_pairs(alloc, tree.iter()), pairs);
-            reads(rt, &shape, shape_of(alloc, &tree), shape);
-        }
-        Err(refusal) => holds(rt, &shape, Err(refusal)),
-    }
+) -> Result<bool, AllocError> {
+    let text = print_pairs(alloc, tree.iter())?;
+    Ok(text.as_str() == pairs && has_shape(alloc, tree, shape)?)
 }
 
-/// An outer combine that keeps no key of both, worked out by hand.
-fn closures_keep_keys<T: AbstractRadixTreeMut<u8, u32>>(
+/// Whether a combine makes a tree of these pairs and this shape.
+fn makes<T: AbstractRadixTreeMut<u8, u32>>(
     alloc: Global,
-    rt: &impl Abort,
-) -> Result<(), AllocError> {
-    let two: T = tree_of(alloc, &[("a", 1), ("ab", 2)])?;
-    let right: T = tree_of(alloc, &[("a", 3)])?;
-    let outer: Result<T, AllocError> = two.outer_combine(&right, none);
-    assert_is(alloc, rt, outer, "2ab", "ab*");
-    Ok(())
-}
-
-/// A left combine that keeps those alone, worked out by hand.
-fn closures_sum<T: AbstractRadixTreeMut<u8, u32>>(
-    alloc: Global,
-    rt: &impl Abort,
-) -> Result<(), AllocError> {
-    let nested: T = tree_of(alloc, &[("x", 1), ("xy", 2)])?;
-    let right: T = tree_of(alloc, &[("xy", 5)])?;
-    let summed: Result<T, AllocError> = nested.left_combine(&right, sum_of_both);
-    assert_is(alloc, rt, summed, "7xy", "xy*");
-    Ok(())
-}
-
-/// A union that is worked out by hand.
-fn unites<T: AbstractRadixTreeMut<u8, u32>>(
-    alloc: Global,
-    rt: &impl Abort,
-) -> Result<(), AllocError> {
-    let one: T = tree_of(alloc, &[("a", 1)])?;
-    let right: T = tree_of(alloc, &[("a", 2), ("b", 3)])?;
-    assert_is(alloc, rt, one.union(&right), "1a 3b", "(a* b*)");
-    Ok(())
-}
-
-/// A tree with the front of its keys off.
-fn shortens<T: AbstractRadixTreeMut<u8, u32>>(
-    alloc: Global,
-    rt: &impl Abort,
-) -> Result<(), AllocError> {
-    let three: T = tree_of(alloc, &[("aabbcc", 1), ("aabb", 2), ("aabbee", 3)])?;
-    // (so here)
-    assert_eq!(rt; three.prefix().len(), 4);
-    for key in ["xaabbcc", "aabbx", "aabbeex"] {
-        holds(rt, &key, Ok(!three.contains_key(key.as_bytes())));
-    }
-    let short: Result<T, AllocError> = three.materialize_shortened(2);
-    assert_is(alloc, rt, short, "2bb 1bbcc 3bbee", "bb*(cc* ee*)");
-    Ok(())
-}
-
-/// Each of these.
-fn worked_combines<T: AbstractRadixTreeMut<u8, u32>>(
-    alloc: Global,
-    rt: &impl Abort,
-) -> Result<(), AllocError> {
-    closures_keep_keys::<T>(alloc, rt)?;
-    closures_sum::<T>(alloc, rt)?;
-    unites::<T>(alloc, rt)?;
-    shortens::<T>(alloc, rt)
+    left: &[(&str, u32)],
+    call: Call,
+    right: &[(&str, u32)],
+    (pairs, shape): (&str, &str),
+) -> Result<bool, AllocError> {
+    let left: T = tree_of(alloc, left)?;
+    let right: T = tree_of(alloc, right)?;
+    is_tree_of(alloc, &combine(&left, call, &right)?, pairs, shape)
 }
 
 #[test]
 fn both_flavours_are_combined(rt: HostRuntime) {
-    same(
-        &rt,
-        &"plain",
-        &combines::<RadixTree<u8, u32>>(rt.alloc(), &rt),
-        &Ok(()),
-    );
-    same(
-        &rt,
-        &"shared",
-        &combines::<ArcRadixTree<u8, u32>>(rt.alloc(), &rt),
-        &Ok(()),
-    );
-    let plain = worked_combines::<RadixTree<u8, u32>>(rt.alloc(), &rt);
-    same(&rt, &"plain, worked out", &plain, &Ok(()));
-    let shared = worked_combines::<ArcRadixTree<u8, u32>>(rt.alloc(), &rt);
-    same(&rt, &"shared, worked out", &shared, &Ok(()));
+    for (left, call, right, pairs, shape) in WORKED {
+        let made = (pairs, shape);
+        let plain = makes::<RadixTree<u8, u32>>(rt.alloc(), left, call, right, made);
+        holds(&rt, &call, plain);
+        let shared = makes::<ArcRadixTree<u8, u32>>(rt.alloc(), left, call, right, made);
+        holds(&rt, &call, shared);
+    }
+}
+
+/// Whether a tree of three keys has none of three others, and with two letters off its keys these
+/// pairs and this shape.
+fn is_shortened<T: AbstractRadixTreeMut<u8, u32>>(alloc: Global) -> Result<bool, AllocError> {
+    let three: T = tree_of(alloc, &[("aabbcc", 1), ("aabb", 2), ("aabbee", 3)])?;
+    for key in ["xaabbcc", "aabbx", "aabbeex"] {
+        if three.contains_key(key.as_bytes()) {
+            return Ok(false);
+        }
+    }
+    // (the check goes by this: a key can be shortened by a part of the prefix alone)
+    if three.prefix().len() != 4 {
+        return Ok(false);
+    }
+    let short: T = three.materialize_shortened(2)?;
+    is_tree_of(alloc, &short, "2bb 1bbcc 3bbee", "bb*(cc* ee*)")
 }
 
 #[test]
-fn a_tree_of_another_crate_is_combined(rt: HostRuntime) -> Result<(), Fail> {
-    let word = Word::new(b"abc".to_vec(rt.alloc())?, 7);
-    let tree: RadixTree<u8, u32> = tree_of(rt.alloc(), &[("abc", 1), ("abd", 2)])?;
-    let rest = tree.difference(&word)?;
-    assert_binds(&rt, &rest, &[("abc", None), ("abd", Some(2))]);
-    Ok(())
+fn both_flavours_are_shortened(rt: HostRuntime) {
+    let plain = is_shortened::<RadixTree<u8, u32>>(rt.alloc());
+    holds(&rt, &"plain", plain);
+    let shared = is_shortened::<ArcRadixTree<u8, u32>>(rt.alloc());
+    holds(&rt, &"shared", shared);
 }

@@ -3,7 +3,8 @@
 ghost use Rattle.std.specs.Prelude.{◌≡◌, length, IfOk};
 
 use super::outcomes::{holds, same};
-use super::tests::{Counted, DEPTH, Tally, number_at, print_shape};
+use super::tests::{Counted, Tally, number_at};
+use super::whole_trees::has_shape;
 use std::alloc::{AllocError, Global};
 use vc_trees::commands::{TreeCommand, run};
 use vc_trees::radix_tree::{AbstractRadixTreeMut, ArcRadixTree, RadixTree};
@@ -124,9 +125,7 @@ fn runs_as_worked_out<T: AbstractRadixTreeMut<u8, ()>>(
     commands.push(command_of(alloc, second)?)?;
     let mut accepted = [false; 2];
     run(&mut tree, commands, &mut accepted);
-    let mut text = String::new(alloc);
-    print_shape(&tree, &mut text, DEPTH)?;
-    Ok(accepted == [true; 2] && text.as_str() == shape)
+    Ok(accepted == [true; 2] && has_shape(alloc, &tree, shape)?)
 }
 
 /// Whether a removal of what a tree binds alone is accepted, on a tree that was made at once.

@@ -1,7 +1,9 @@
 //! Filters of paths: the tables of rules, of what the longest one decides, and of what they leave
 //! of a tree; snapshots of rules; and trees whose values refuse to be cloned.
+use super::in_place::{Row, row_of, tree_of as counted_tree_of};
 use super::lookups::{LENGTHS, repeated};
 use super::outcomes::{reads, same};
+use super::tests::{Counted, Tally};
 use super::walks::{print_pairs, tree_of};
 use set_user_tests::compared::Compared;
 use std::alloc::{AllocError, Global};
@@ -29,13 +31,13 @@ fn filter_of(alloc: Global, words: &[&str]) -> Result<PathFilter<u8>, AllocError
 }
 
 /// Rules, and paths that they allow and that they do not.
-type Row = (
+type Rules = (
     &'static [&'static str],
     &'static [&'static str],
     &'static [&'static str],
 );
 
-const ROWS: [Row; 9] = [
+const ROWS: [Rules; 9] = [
     (&[], &[], &["a", ""]),
     (
         &["a", "!ab", "abcd"],
@@ -203,24 +205,6 @@ fn a_snapshot_of_rules_stays(rt: HostRuntime) {
     );
 }
 
-/// Whether filters have equal rules that came to them in other ways, and whether one has those of
-/// another that denies one path more.
-fn compare_rules(alloc: Global) -> Result<(bool, bool), AllocError> {
-    let first = filter_of(alloc, &["a", "!ab"])?;
-    let second = filter_of(alloc, &["b", "!ab", "!a", "-b", "a"])?;
-    let third = filter_of(alloc, &["a", "!ab", "!ac"])?;
-    Ok((
-        first.rules() == second.rules(),
-        first.rules() == third.rules(),
-    ))
-}
-
-#[test]
-fn rules_are_compared(rt: HostRuntime) {
-    let answers = compare_rules(rt.alloc());
-    same(&rt, &"the rules", &answers, &Ok((true, false)));
-}
-
 /// How the filter that allows `a` is shown.
 fn shown(alloc: Global) -> Result<String, AllocError> {
     let filter = filter_of(alloc, &["a"])?;
@@ -268,92 +252,57 @@ fn trees_of_both_flavours_are_restricted(rt: HostRuntime) {
     }
 }
 
-/// A number that refuses to be cloned.
-#[derive(Debug, Drop)]
-struct Unique(u32);
-
-impl Clone for Unique {
-    fn clone(&self) -> Result<Self, AllocError> {
-        Err(AllocError)
-    }
-}
-
-/// The keys of the tree of such numbers, each bound to its place in the list.
-const KEYS: [&str; 4] = ["a", "ab", "abc", "b"];
-
-/// The tree of the keys.
-fn unique_tree<T: AbstractRadixTreeMut<u8, Unique>>(alloc: Global) -> Result<T, AllocError> {
-    let mut tree = T::empty(alloc);
-    let mut number = 0u32;
-    for key in KEYS {
-        number = number.saturating_add(1);
-        tree.insert(key.as_bytes(), Unique(number))?;
-    }
-    Ok(tree)
-}
-
-/// The number at a key, or 0 where the tree has none.
-fn unique_at<T: AbstractRadixTree<u8, Unique>>(tree: &T, key: &str) -> u32 {
-    match tree.get(key.as_bytes()) {
-        Some(value) => value.0,
-        None => 0,
-    }
-}
-
-/// The numbers at the keys.
-fn unique_row<T: AbstractRadixTree<u8, Unique>>(tree: &T) -> [u32; 4] {
-    let mut row = [0; 4];
-    for (number, key) in row.iter_mut().zip(KEYS) {
-        *number = unique_at(tree, key);
-    }
-    row
-}
-
-/// Restricts a tree: whether that was refused, and the numbers that are left.
-fn restrict<T: AbstractRadixTreeMut<u8, Unique>>(
+/// Restricts a tree of which no value may be cloned: whether that was refused, and the numbers that
+/// are left.
+fn restrict<'a, T: AbstractRadixTreeMut<u8, Counted<'a>>>(
     alloc: Global,
     tree: &mut T,
-) -> Result<(bool, [u32; 4]), AllocError> {
+    tally: &Tally,
+) -> Result<(bool, Row), AllocError> {
     let filter = filter_of(alloc, &["a", "!ab", "abc"])?;
+    tally.clones_left.set(0);
     let is_refused = filter.restrict(tree).is_err();
-    Ok((is_refused, unique_row(tree)))
+    Ok((is_refused, row_of(tree)))
 }
+
+/// The keys and numbers of the trees that are restricted.
+const PAIRS: [(&str, u32); 4] = [("a", 1), ("ab", 2), ("abc", 3), ("b", 4)];
 
 /// Restricts a tree that has no clone: whether that was refused, and the numbers that are left.
-fn restrict_alone<T: AbstractRadixTreeMut<u8, Unique>>(
+fn restrict_alone<'a, T: AbstractRadixTreeMut<u8, Counted<'a>>>(
     alloc: Global,
-) -> Result<(bool, [u32; 4]), AllocError> {
-    let mut tree = unique_tree::<T>(alloc)?;
-    restrict(alloc, &mut tree)
+    tally: &'a Tally,
+) -> Result<(bool, Row), AllocError> {
+    let mut tree: T = counted_tree_of(alloc, &PAIRS, tally)?;
+    restrict(alloc, &mut tree, tally)
 }
 
-/// Restricts a tree that shares its nodes with a clone: whether that was refused, the numbers that
-/// are left, and those of the clone.
-fn restrict_shared<T: AbstractRadixTreeMut<u8, Unique> + Clone>(
+/// Restricts a tree that shares its nodes with a clone: whether that was refused and left nothing,
+/// and the numbers of the clone.
+fn restrict_shared<'a, T: AbstractRadixTreeMut<u8, Counted<'a>> + Clone>(
     alloc: Global,
-) -> Result<(bool, [u32; 4], [u32; 4]), AllocError> {
-    let mut tree = unique_tree::<T>(alloc)?;
+    tally: &'a Tally,
+) -> Result<(bool, Row), AllocError> {
+    let mut tree: T = counted_tree_of(alloc, &PAIRS, tally)?;
     let kept = tree.clone()?;
-    let (is_refused, left) = restrict(alloc, &mut tree)?;
-    Ok((is_refused, left, unique_row(&kept)))
+    let (is_refused, left) = restrict(alloc, &mut tree, tally)?;
+    Ok((is_refused && left == [0; 6], row_of(&kept)))
 }
 
 #[test]
 fn values_that_stay_are_not_cloned(rt: HostRuntime) {
-    let wanted = Ok((false, [1, 0, 3, 0]));
-    let plain = restrict_alone::<RadixTree<u8, Unique>>(rt.alloc());
+    let tally = Tally::new();
+    let wanted = Ok((false, [0, 1, 0, 3, 0, 0]));
+    let plain = restrict_alone::<RadixTree<u8, Counted>>(rt.alloc(), &tally);
     same(&rt, &"plain", &plain, &wanted);
-    let shared = restrict_alone::<ArcRadixTree<u8, Unique>>(rt.alloc());
+    let shared = restrict_alone::<ArcRadixTree<u8, Counted>>(rt.alloc(), &tally);
     same(&rt, &"shared", &shared, &wanted);
 }
 
 #[test]
 fn a_refused_restrict_leaves_the_empty_tree(rt: HostRuntime) {
-    let outcome = restrict_shared::<ArcRadixTree<u8, Unique>>(rt.alloc());
-    same(
-        &rt,
-        &"the trees",
-        &outcome,
-        &Ok((true, [0; 4], [1, 2, 3, 4])),
-    );
+    let tally = Tally::new();
+    let outcome = restrict_shared::<ArcRadixTree<u8, Counted>>(rt.alloc(), &tally);
+    same(&rt, &"the trees", &outcome, &Ok((true, [0, 1, 2, 3, 4, 0])));
+    same(&rt, &"the drops", &tally.drops(), &tally.made_and_cloned());
 }

@@ -1,13 +1,14 @@
 //! Changes of trees in place, in both flavours: each call at every key of either tree, what it
 //! clones and drops, and what is left where a clone is refused; and changes worked out by hand.
 use super::outcomes::{holds, same};
-use super::tests::{Counted, DEPTH, Tally, number_at, print_shape};
+use super::tests::{Counted, Tally, number_at};
 use super::walks::put_pair;
+use super::whole_trees::has_shape;
 use std::alloc::{AllocError, Global};
 use vc_trees::radix_tree::{AbstractRadixTree, AbstractRadixTreeMut, ArcRadixTree, RadixTree};
 
 /// The numbers that a tree binds to the keys of the rows, and 0 where it binds none.
-type Row = [u32; KEYS.len()];
+pub(crate) type Row = [u32; KEYS.len()];
 
 /// The keys at which changed trees are looked up.
 const KEYS: [&str; 6] = ["", "a", "ab", "abc", "b", "ba"];
@@ -32,7 +33,7 @@ pub(crate) fn tree_of<'a, T: AbstractRadixTreeMut<u8, Counted<'a>>>(
 }
 
 /// The numbers of a tree at the keys of the rows.
-fn row_of<'a, T: AbstractRadixTree<u8, Counted<'a>>>(tree: &T) -> Row {
+pub(crate) fn row_of<'a, T: AbstractRadixTree<u8, Counted<'a>>>(tree: &T) -> Row {
     let mut row = [0; KEYS.len()];
     for (number, key) in row.iter_mut().zip(KEYS) {
         *number = number_at(tree, key.as_bytes());
@@ -291,9 +292,8 @@ fn is_left<'a, T: AbstractRadixTree<u8, Counted<'a>>>(
     pairs: &str,
     shape: &str,
 ) -> Result<bool, AllocError> {
-    let mut text = String::new(alloc);
-    print_shape(tree, &mut text, DEPTH)?;
-    Ok(text.as_str() == shape && print_numbers(alloc, tree)?.as_str() == pairs)
+    let text = print_numbers(alloc, tree)?;
+    Ok(text.as_str() == pairs && has_shape(alloc, tree, shape)?)
 }
 
 /// Whether the changed tree of the row is what it says.

@@ -21,8 +21,6 @@ mod commands;
 #[cfg(test)]
 mod counted_combines;
 #[cfg(test)]
-mod drops;
-#[cfg(test)]
 mod ends;
 #[cfg(test)]
 mod filters;

@@ -1,8 +1,6 @@
 //! Components that count their own comparisons: a counted look-up counts each of them, and stays
-//! within its bound. And the longest keys that are prefixes of paths.
-use super::Word;
-use super::outcomes::{holds, same};
-use super::walks::tree_of;
+//! within its bound.
+use super::outcomes::holds;
 use set_user_tests::compared::Compared;
 use std::alloc::{AllocError, Global};
 use std::cell::Cell;
@@ -125,66 +123,4 @@ fn lookups_stay_within_their_bound(rt: HostRuntime) {
     holds(&rt, &"plain", plain);
     let shared = stays_within::<ArcRadixTree<Compared, u32>>(rt.alloc(), &count);
     holds(&rt, &"shared", shared);
-}
-
-/// Whether a tree of another crate that binds `abc` binds the key, counted and not, and whether the
-/// counted look-up compared at most three times.
-fn looked_up(alloc: Global, key: &str) -> Result<(bool, bool, bool), AllocError> {
-    let word = Word::new(b"abc".to_vec(alloc)?, 7);
-    let mut steps = Steps::new();
-    let is_found = word.get_counted(key.as_bytes(), &mut steps).is_some();
-    Ok((
-        is_found,
-        word.contains_key(key.as_bytes()),
-        steps.count() <= 3,
-    ))
-}
-
-#[test]
-fn a_tree_of_another_crate_is_looked_up(rt: HostRuntime) {
-    for (key, is_bound) in [("abc", true), ("ab", false), ("abcd", false), ("", false)] {
-        let found = looked_up(rt.alloc(), key);
-        same(&rt, &key, &found, &Ok((is_bound, is_bound, true)));
-    }
-}
-
-/// The keys of a tree, each bound to its place in the list, a path, and the longest key that is a
-/// prefix of it: how many letters it has, and its place.
-type Longest = (&'static [&'static str], &'static str, Option<(usize, u32)>);
-
-const LONGEST: [Longest; 9] = [
-    (&[], "a", None),
-    (&["a", "ab", "abcd"], "abc", Some((2, 2))),
-    (&["a", "ab", "abcd"], "abcd", Some((4, 3))),
-    (&["a", "ab", "abcd"], "abcde", Some((4, 3))),
-    (&["a", "ab", "abcd"], "b", None),
-    (&["a", "ab", "abcd"], "", None),
-    (&["", "abc", "abd"], "ab", Some((0, 1))),
-    (&["", "abc", "abd"], "abdabc", Some((3, 3))),
-    (&["abc", "abd"], "abe", None),
-];
-
-/// How many keys the tree of the keys has, and the longest of them on the path.
-fn longest_of<T: AbstractRadixTreeMut<u8, u32>>(
-    alloc: Global,
-    keys: &[&str],
-    path: &str,
-) -> Result<(usize, Option<(usize, u32)>), AllocError> {
-    let tree = tree_of::<T>(alloc, keys)?;
-    let longest = match tree.get_longest(path.as_bytes()) {
-        Some((length, number)) => Some((length, *number)),
-        None => None,
-    };
-    Ok((tree.len(), longest))
-}
-
-#[test]
-fn the_longest_key_on_a_path_is_found(rt: HostRuntime) {
-    for (keys, path, longest) in LONGEST {
-        let wanted = Ok((keys.len(), longest));
-        let plain = longest_of::<RadixTree<u8, u32>>(rt.alloc(), keys, path);
-        same(&rt, &path, &plain, &wanted);
-        let shared = longest_of::<ArcRadixTree<u8, u32>>(rt.alloc(), keys, path);
-        same(&rt, &path, &shared, &wanted);
-    }
 }

@@ -1,7 +1,9 @@
 //! What no clause says: that calls succeed with ample memory, shapes as worked out, comparisons,
 //! clones and drops of values.
 use super::Word;
+use super::in_place::tree_of;
 use super::outcomes::{holds, same};
+use super::whole_trees::has_shape;
 use set_user_tests::compared::Compared;
 use std::alloc::{AllocError, Global};
 use std::cell::Cell;
@@ -9,7 +11,7 @@ use std::fmt;
 use std::process::Abort;
 use vc_merge::merge::Steps;
 use vc_trees::radix_tree::{
-    AbstractRadixTree, AbstractRadixTreeMut, ArcRadixTree, RadixNode, RadixTree, TKey, TValue,
+    AbstractRadixTree, AbstractRadixTreeMut, ArcRadixTree, RadixTree, TValue,
 };
 
 /// How deep the shapes of these tests are read.
@@ -52,8 +54,6 @@ fn is_as_worked_out<T: AbstractRadixTreeMut<u8, usize>>(
     for (i, key) in keys.iter().enumerate() {
         tree.insert(key.as_bytes(), i)?;
     }
-    let mut text = String::new(alloc);
-    print_shape(&tree, &mut text, DEPTH)?;
     let mut is_found = true;
     for (others, _) in ROWS {
         for key in others {
@@ -61,7 +61,7 @@ fn is_as_worked_out<T: AbstractRadixTreeMut<u8, usize>>(
             is_found = is_found && tree.get(key.as_bytes()).copied() == place;
         }
     }
-    Ok(is_found && text.as_str() == shape && tree.is_empty() == keys.is_empty())
+    Ok(is_found && tree.is_empty() == keys.is_empty() && has_shape(alloc, &tree, shape)?)
 }
 
 /// Forty letters, the same with another one in the middle, and the first twenty.
@@ -132,33 +132,6 @@ fn trees_of_long_keys_are_as_worked_out(rt: HostRuntime) {
 #[test]
 fn a_tree_of_many_children_is_as_worked_out(rt: HostRuntime) {
     rows_are_as_worked_out(&rt, rt.alloc(), &[WIDE_ROW]);
-}
-
-/// Whether the trees of one key are found at that key alone.
-fn are_made_at_once<T: AbstractRadixTreeMut<u8, u32>>(alloc: Global) -> Result<bool, AllocError> {
-    let leaf = T::leaf(alloc, 3);
-    let single = T::single(alloc, b"abc", 1)?;
-    Ok(
-        leaf.get(b"").copied() == Some(3)
-            && leaf.get(b"a").is_none()
-            && single.get(b"abc").copied() == Some(1)
-            && single.get(b"ab").is_none()
-            && single.get(b"abcd").is_none(),
-    )
-}
-
-#[test]
-fn both_flavours_are_made_at_once(rt: HostRuntime) {
-    holds(
-        &rt,
-        &"plain",
-        are_made_at_once::<RadixTree<u8, u32>>(rt.alloc()),
-    );
-    holds(
-        &rt,
-        &"shared",
-        are_made_at_once::<ArcRadixTree<u8, u32>>(rt.alloc()),
-    );
 }
 
 /// What a tree of another crate that binds `abc` to 7 binds to `abc`, `ab` and `abcd`, whether it
@@ -236,69 +209,6 @@ fn trees_of_another_crate_are_tested_without_their_allocators(rt: HostRuntime) {
         let asked = asked_of_words(rt.alloc(), letters);
         same(&rt, &letters, &asked, &Ok((answers, 1, (0, 0))));
     }
-}
-
-/// A letter whose case does not count.
-#[derive(Clone, Copy)]
-#[derive_where(Debug, PartialEq, Eq, PartialOrd, Ord)]
-pub(crate) struct Letter {
-    place: u8,
-    #[derive_where(skip)]
-    is_capital: bool,
-}
-
-impl Default for Letter {
-    fn default() -> Letter {
-        Letter {
-            place: 0,
-            is_capital: false,
-        }
-    }
-}
-
-pub(crate) const fn small(place: u8) -> Letter {
-    Letter {
-        place,
-        is_capital: false,
-    }
-}
-
-pub(crate) const fn capital(place: u8) -> Letter {
-    Letter {
-        place,
-        is_capital: true,
-    }
-}
-
-/// Components that are equal but spelled differently lead to one value.
-fn finds_each_spelling<T: AbstractRadixTreeMut<Letter, u32>>(
-    alloc: Global,
-) -> Result<bool, AllocError> {
-    let mut tree = T::single(alloc, &[small(1), small(2)], 1)?;
-    tree.insert(&[capital(1), capital(2), small(3)], 2)?;
-    tree.insert(&[capital(1), small(4)], 3)?;
-    tree.insert(&[capital(1), capital(2)], 4)?;
-    Ok(
-        tree.get(&[small(1), capital(2)]).copied() == Some(4)
-            && tree.get(&[small(1), small(2), capital(3)]).copied() == Some(2)
-            && tree.get(&[small(1), capital(4)]).copied() == Some(3)
-            && tree.prefix().len() == 1
-            && tree.children().len() == 2,
-    )
-}
-
-#[test]
-fn components_are_compared_by_their_order(rt: HostRuntime) {
-    holds(
-        &rt,
-        &"plain",
-        finds_each_spelling::<RadixTree<Letter, u32>>(rt.alloc()),
-    );
-    holds(
-        &rt,
-        &"shared",
-        finds_each_spelling::<ArcRadixTree<Letter, u32>>(rt.alloc()),
-    );
 }
 
 /// How many letters the longest key of the next tree has.
@@ -426,7 +336,7 @@ pub(crate) fn number_at<'a, T: AbstractRadixTree<u8, Counted<'a>>>(tree: &T, key
     }
 }
 
-/// Eight keys and the numbers that `insert_eight` leaves there.
+/// Eight keys with numbers.
 pub(crate) const KEYS: [(&str, u32); 8] = [
     ("a", 1),
     ("aa", 9),
@@ -442,25 +352,13 @@ pub(crate) const KEYS: [(&str, u32); 8] = [
 /// `a`, `b` and `bc`.
 const COPIED: u32 = 3;
 
-/// Inserts the eight keys, one of them twice.
-fn insert_eight<'a, T: AbstractRadixTreeMut<u8, Counted<'a>>>(
-    tree: &mut T,
-    tally: &'a Tally,
-) -> Result<(), AllocError> {
-    tree.insert(b"aa", Counted::new(2, tally))?;
-    for (key, number) in KEYS {
-        tree.insert(key.as_bytes(), Counted::new(number, tally))?;
-    }
-    Ok(())
-}
-
-/// Makes the tree of the eight keys, and says how many values were dropped by then.
+/// Inserts the eight keys, one of them twice, and says how many values were dropped by then.
 fn drops_of_eight<'a, T: AbstractRadixTreeMut<u8, Counted<'a>>>(
     alloc: Global,
     tally: &'a Tally,
 ) -> Result<u32, AllocError> {
-    let mut tree = T::empty(alloc);
-    insert_eight(&mut tree, tally)?;
+    let mut tree: T = tree_of(alloc, &KEYS, tally)?;
+    tree.insert(b"aa", Counted::new(2, tally))?;
     Ok(tally.drops.get())
 }
 
@@ -480,8 +378,7 @@ fn insert_beside_copy<'a, T: AbstractRadixTreeMut<u8, Counted<'a>> + Clone>(
     alloc: Global,
     tally: &'a Tally,
 ) -> Result<(u32, u32, u32), AllocError> {
-    let mut tree = T::empty(alloc);
-    insert_eight(&mut tree, tally)?;
+    let mut tree: T = tree_of(alloc, &KEYS, tally)?;
     let copy = tree.clone()?;
     let cloned = tally.clones();
     tree.insert(b"bcd", Counted::new(10, tally))?;
@@ -515,8 +412,7 @@ fn is_refused_beside_a_copy_alone<'a, T: AbstractRadixTreeMut<u8, Counted<'a>> +
     tally: &'a Tally,
     of_new: &'a Tally,
 ) -> Result<bool, AllocError> {
-    let mut tree = T::empty(alloc);
-    insert_eight(&mut tree, tally)?;
+    let mut tree: T = tree_of(alloc, &KEYS, tally)?;
     let copy = tree.clone()?;
     tally.clones_left.set(granted);
     let is_refused = tree.insert(b"bcd", Counted::new(10, of_new)).is_err();
@@ -549,8 +445,7 @@ fn is_removed_without_a_copy<'a, T: AbstractRadixTreeMut<u8, Counted<'a>> + Clon
     alloc: Global,
     tally: &'a Tally,
 ) -> Result<bool, AllocError> {
-    let mut tree = T::empty(alloc);
-    insert_eight(&mut tree, tally)?;
+    let mut tree: T = tree_of(alloc, &KEYS, tally)?;
     let is_kept = is_kept_beside_a_copy(&mut tree, tally)?;
     let is_removed = match tree.remove(b"eeeef")? {
         Some(value) => value.number == 8,

@@ -1,40 +1,14 @@
 //! Two trees side by side, in both flavours and with a tree of another crate: tests of their keys,
-//! shapes of what combines make, the combine that asks at each key of the left, and the keys under
-//! a prefix.
+//! shapes of what combines make, and the keys under a prefix.
 
 use super::Word;
 use super::outcomes::holds;
-use super::questions::{left as left_value, sum_of_both};
-use super::tests::{FORTY, FORTY_ELSE, Letter, capital, small};
-use super::whole_trees::shape_of;
+use super::questions::{left as left_value, none, sum, sum_of_both};
+use super::tests::{FORTY, FORTY_ELSE};
+use super::walks::tree_of;
+use super::whole_trees::has_shape;
 use std::alloc::{AllocError, Global};
-use std::cell::Cell;
-use std::test::Fail;
 use vc_trees::radix_tree::{AbstractRadixTree, AbstractRadixTreeMut, ArcRadixTree, RadixTree};
-
-/// The tree of these keys, each with its place as value.
-fn tree_of<T: AbstractRadixTreeMut<u8, u32>>(
-    alloc: Global,
-    keys: &[&str],
-) -> Result<T, AllocError> {
-    let mut tree = T::empty(alloc);
-    let mut place = 0_u32;
-    for key in keys {
-        tree.insert(key.as_bytes(), place)?;
-        place = place.saturating_add(1);
-    }
-    Ok(tree)
-}
-
-/// Whether a tree has this shape.
-fn has_shape<T: AbstractRadixTree<u8, u32>>(
-    alloc: Global,
-    tree: &T,
-    shape: &str,
-) -> Result<bool, AllocError> {
-    let text = shape_of(alloc, tree)?;
-    Ok(text.as_str() == shape)
-}
 
 /// Whether a tree was made, and has this shape.
 fn is_made<T: AbstractRadixTreeMut<u8, u32>>(
@@ -233,185 +207,47 @@ fn keys_under_a_prefix_are_filtered(rt: HostRuntime) {
     holds(&rt, &"shared", shared);
 }
 
-/// Whether a left combine of `{a=>0, ab=>1, abc=>2}` with `{ab=>7}` asks once at each key of the
-/// left.
-fn asks_once<T: AbstractRadixTreeMut<u8, u32>, S: AbstractRadixTree<u8, u32>>(
-    alloc: Global,
-    tree: &T,
-    that: &S,
-) -> Result<bool, AllocError> {
-    let asked = Cell::new(0_u32);
-    let all: T = tree.left_combine(that, |v, w| {
-        asked.set(asked.get().saturating_add(1));
-        Ok(Some(v.saturating_add(w.copied().unwrap_or(10))))
-    })?;
-    let is_right = asked.get() == 3
-        && all.get(b"a") == Some(&10)
-        && all.get(b"ab") == Some(&8)
-        && all.get(b"abc") == Some(&12);
-    Ok(is_right && has_shape(alloc, &all, "a*(b*(c*))")?)
+/// Whether a tree of another crate is tested on both sides.
+fn tests_a_word<T: AbstractRadixTreeMut<u8, u32>>(word: &Word, tree: &T, other: &T) -> bool {
+    tests_answer(word, tree, [false, true, false])
+        && tests_answer(word, other, [true, false, false])
 }
 
-/// Whether it drops the keys at which it answers none.
-fn drops_keys<T: AbstractRadixTreeMut<u8, u32>, S: AbstractRadixTree<u8, u32>>(
-    alloc: Global,
-    tree: &T,
-    that: &S,
-) -> Result<bool, AllocError> {
-    let shared: T = tree.left_combine(that, |_, w| Ok(w.copied()))?;
-    let alone: T = tree.left_combine(that, |v, w| Ok(if w.is_some() { None } else { Some(*v) }))?;
-    Ok(has_shape(alloc, &shared, "ab*")? && has_shape(alloc, &alone, "a*(bc*)")?)
-}
-
-/// Whether it does both.
-fn asks_at_each_key<T: AbstractRadixTreeMut<u8, u32>, S: AbstractRadixTree<u8, u32>>(
-    alloc: Global,
-    that: &S,
-) -> Result<bool, AllocError> {
-    let tree: T = tree_of(alloc, &["a", "ab", "abc"])?;
-    Ok(asks_once(alloc, &tree, that)? && drops_keys(alloc, &tree, that)?)
-}
-
-#[test]
-fn a_left_combine_asks_at_each_key(rt: HostRuntime) -> Result<(), Fail> {
-    let word = Word::new(b"ab".to_vec(rt.alloc())?, 7);
-    let plain = asks_at_each_key::<RadixTree<u8, u32>, Word>(rt.alloc(), &word);
-    holds(&rt, &"plain", plain);
-    let shared = asks_at_each_key::<ArcRadixTree<u8, u32>, Word>(rt.alloc(), &word);
-    holds(&rt, &"shared", shared);
-    Ok(())
-}
-
-/// Whether a tree of another crate keeps the sums at the keys of a flavour.
-fn is_summed<T: AbstractRadixTreeMut<u8, u32>>(
+/// Whether a tree of another crate is combined into a flavour, from either side.
+fn combines_a_word<T: AbstractRadixTreeMut<u8, u32>>(
     alloc: Global,
     word: &Word,
     tree: &T,
 ) -> Result<bool, AllocError> {
-    let kept: T = word.left_combine(tree, sum_of_both)?;
-    Ok(kept.get(b"abc") == Some(&8) && has_shape(alloc, &kept, "abc*")?)
-}
-
-/// Whether a tree of another crate is tested on both sides, and combined into a flavour.
-fn is_told_of_a_word<T: AbstractRadixTreeMut<u8, u32>>(
-    alloc: Global,
-    word: &Word,
-) -> Result<bool, AllocError> {
-    let tree: T = tree_of(alloc, &["ab", "abc", "abd"])?;
-    let other: T = tree_of(alloc, &["ab", "abd"])?;
     Ok(
-        tests_answer(word, &tree, [false, true, false])
-            && tests_answer(word, &other, [true, false, false])
-            && is_summed(alloc, word, &tree)?
-            && is_made(alloc, other.union(word), "ab*(c* d*)")?,
+        is_made::<T>(alloc, word.left_combine(tree, sum_of_both), "abc*")?
+            && is_made::<T>(alloc, tree.left_combine(word, sum_of_both), "abc*")?
+            && is_made::<T>(alloc, tree.outer_combine(word, none), "ab*(d*)")?
+            && is_made::<T>(alloc, tree.inner_combine(word, sum), "abc*")?
+            && is_made(alloc, tree.union(word), "ab*(c* d*)")?
+            && is_made(alloc, tree.intersection(word), "abc*")?
+            && is_made(alloc, tree.difference(word), "ab*(d*)")?,
     )
 }
 
-#[test]
-fn a_tree_of_another_crate_is_told_of(rt: HostRuntime) -> Result<(), Fail> {
-    let word = Word::new(b"abc".to_vec(rt.alloc())?, 7);
-    let plain = is_told_of_a_word::<RadixTree<u8, u32>>(rt.alloc(), &word);
-    holds(&rt, &"plain", plain);
-    let shared = is_told_of_a_word::<ArcRadixTree<u8, u32>>(rt.alloc(), &word);
-    holds(&rt, &"shared", shared);
-    Ok(())
-}
-
-/// A key, in the other spelling or not.
-fn key(is_capital: bool) -> [Letter; 2] {
-    if is_capital {
-        [capital(0), capital(1)]
-    } else {
-        [small(0), small(1)]
-    }
-}
-
-/// Whether keys that are equal and spelled otherwise are one key to tests and set operations of two
-/// trees.
-fn keys_are_one<T: AbstractRadixTreeMut<Letter, u32>>(
-    left: &T,
-    right: &T,
-) -> Result<bool, AllocError> {
-    let are_told = left.is_subset(right) && left.is_superset(right) && left.intersects(right);
-    let union = left.union(right)?;
-    let are_united = union.get(&key(true)) == Some(&1) && union.children().is_empty();
-    let difference = left.difference(right)?;
-    Ok(are_told && are_united && difference.is_empty())
-}
-
-/// Whether they are to a prefix, and to a combine that sums.
-fn keys_are_found<T: AbstractRadixTreeMut<Letter, u32>>(
-    left: &T,
-    right: &T,
-) -> Result<bool, AllocError> {
-    let under = left.filter_prefix(&[capital(0)])?;
-    let summed: T = left.left_combine(right, sum_of_both)?;
-    Ok(under.get(&key(false)) == Some(&1) && summed.get(&key(false)) == Some(&3))
-}
-
-/// Whether they are to each call on two trees.
-fn spellings_are_one_key<T: AbstractRadixTreeMut<Letter, u32>>(
-    alloc: Global,
-) -> Result<bool, AllocError> {
-    let left = T::single(alloc, &key(false), 1)?;
-    let right = T::single(alloc, &key(true), 2)?;
-    Ok(keys_are_one(&left, &right)? && keys_are_found(&left, &right)?)
+/// Whether both are so of a tree of one key, beside trees of a flavour.
+fn is_told_of_a_word<T: AbstractRadixTreeMut<u8, u32>>(alloc: Global) -> Result<bool, AllocError> {
+    let word = Word::new(b"abc".to_vec(alloc)?, 7);
+    let tree: T = tree_of(alloc, &["ab", "abc", "abd"])?;
+    let other: T = tree_of(alloc, &["ab", "abd"])?;
+    Ok(tests_a_word(&word, &tree, &other) && combines_a_word(alloc, &word, &tree)?)
 }
 
 #[test]
-fn equal_components_are_combined(rt: HostRuntime) {
-    let plain = spellings_are_one_key::<RadixTree<Letter, u32>>(rt.alloc());
-    holds(&rt, &"plain", plain);
-    let shared = spellings_are_one_key::<ArcRadixTree<Letter, u32>>(rt.alloc());
-    holds(&rt, &"shared", shared);
-}
-
-/// Pairs in two orders, and whether their trees are equal.
-const COLLECTED: [(&[(&str, u32)], &[(&str, u32)], bool); 6] = [
-    (&[], &[], true),
-    (&[("b", 1), ("a", 2), ("b", 3)], &[("a", 2), ("b", 3)], true),
-    (&[("a", 1)], &[("a", 2)], false),
-    (
-        &[("ab", 1), ("ac", 2)],
-        &[("ac", 2), ("ab", 1), ("ab", 1)],
-        true,
-    ),
-    (&[("ab", 1)], &[("ab", 1), ("abc", 2)], false),
-    (&[("", 1)], &[], false),
-];
-
-/// Whether the trees of both lists, one made of slices and one of keys that are moved in, are
-/// equal.
-fn are_equal(
-    alloc: Global,
-    left: &[(&str, u32)],
-    right: &[(&str, u32)],
-) -> Result<bool, AllocError> {
-    let mut slices = Vec::new(alloc);
-    for (key, value) in left {
-        slices.push((key.as_bytes(), *value))?;
-    }
-    let mut vecs = Vec::new(alloc);
-    for (key, value) in right {
-        vecs.push((key.as_bytes().to_vec(alloc)?, *value))?;
-    }
-    let left = RadixTree::from_iter(alloc, slices.into_iter())?;
-    let right = RadixTree::from_vecs(alloc, vecs.into_iter())?;
-    Ok(left == right)
-}
-
-/// Whether all rows are equal or not, as they say.
-fn all_are_collected(alloc: Global) -> Result<bool, AllocError> {
-    let mut all = true;
-    for (left, right, equal) in COLLECTED {
-        all = all
-            && are_equal(alloc, left, right)? == equal
-            && are_equal(alloc, right, left)? == equal;
-    }
-    Ok(all)
-}
-
-#[test]
-fn collected_trees_are_compared(rt: HostRuntime) {
-    holds(&rt, &"the rows", all_are_collected(rt.alloc()));
+fn a_tree_of_another_crate_is_told_of(rt: HostRuntime) {
+    holds(
+        &rt,
+        &"plain",
+        is_told_of_a_word::<RadixTree<u8, u32>>(rt.alloc()),
+    );
+    holds(
+        &rt,
+        &"shared",
+        is_told_of_a_word::<ArcRadixTree<u8, u32>>(rt.alloc()),
+    );
 }

@@ -1,12 +1,11 @@
 //! Walks: the rows of keys, kept keys, clones and drops of values, and deep trees.
 
 use super::Word;
+use super::in_place::tree_of as counted_tree_of;
 use super::outcomes::{holds, reads, same};
 use super::questions::always;
 use super::tests::{Counted, Tally};
 use std::alloc::{AllocError, Global};
-use std::cell::Cell;
-use std::test::Fail;
 use vc_trees::radix_tree::{
     AbstractRadixTree, AbstractRadixTreeMut, ArcRadixTree, Iter, IterKey, ObjAndIter, RadixTree,
     Values,
@@ -64,29 +63,6 @@ fn print_held<T: AbstractRadixTree<u8, u32> + Drop>(
         let (key, value) = item?;
         put_pair(&mut text, key.as_ref(), value)?;
     }
-    Ok(text)
-}
-
-/// The pairs that a fold is shown.
-fn print_folded<T: AbstractRadixTree<u8, u32>>(
-    alloc: Global,
-    tree: &T,
-) -> Result<String, AllocError> {
-    tree.fold(String::new(alloc), print_next)
-}
-
-/// The pairs that a fold over a folder is shown.
-fn print_folded_under<T: AbstractRadixTree<u8, u32>>(
-    alloc: Global,
-    tree: &T,
-    folder: &str,
-) -> Result<String, AllocError> {
-    tree.fold_prefix(folder.as_bytes(), String::new(alloc), print_next)
-}
-
-/// The text with one more pair.
-fn print_next(mut text: String, key: &[u8], value: &u32) -> Result<String, AllocError> {
-    put_pair(&mut text, key, *value)?;
     Ok(text)
 }
 
@@ -158,19 +134,6 @@ fn gives_values<T: AbstractRadixTree<u8, u32>>(
     Ok(text.as_str() == values)
 }
 
-/// Whether folds over a tree, and over what lies below a prefix, are printed so.
-fn folds<T: AbstractRadixTree<u8, u32>>(
-    alloc: Global,
-    tree: &T,
-    all: &str,
-    prefix: &str,
-    under: &str,
-) -> Result<bool, AllocError> {
-    let whole = print_folded(alloc, tree)?;
-    let part = print_folded_under(alloc, tree, prefix)?;
-    Ok(whole.as_str() == all && part.as_str() == under)
-}
-
 /// Whether the walk that holds a tree is printed so.
 fn gives_held<T: AbstractRadixTreeMut<u8, u32>>(
     alloc: Global,
@@ -189,8 +152,7 @@ fn walks_row<T: AbstractRadixTreeMut<u8, u32>>(
     let tree = tree_of::<T>(alloc, keys)?;
     let are_right = gives(alloc, tree.iter(), all)?
         && gives(alloc, tree.scan_prefix(prefix.as_bytes()), under)?
-        && gives_values(alloc, &tree, values)?
-        && folds(alloc, &tree, all, prefix, under)?;
+        && gives_values(alloc, &tree, values)?;
     Ok(are_right && gives_held(alloc, tree, all)?)
 }
 
@@ -210,64 +172,15 @@ fn walks_ascend(rt: HostRuntime) {
     }
 }
 
-/// Why a fold ends early.
-#[derive(Clone, Copy, Debug, PartialEq, Eq)]
-enum Ended {
-    Refused,
-    After(u32),
-}
-
-impl From<AllocError> for Ended {
-    fn from(_: AllocError) -> Ended {
-        Ended::Refused
-    }
-}
-
-/// Adds up the values of a tree in the order of their keys, up to one that is 3, and counts how
-/// often the closure was asked.
-fn sum_before_three<T: AbstractRadixTreeMut<u8, u32>>(
-    alloc: Global,
-    asked: &Cell<u32>,
-) -> Result<u32, Ended> {
-    let tree = tree_of::<T>(alloc, &["b", "a", "ab", "abc"])?;
-    tree.fold(0u32, |sum, _, value| {
-        asked.set(asked.get().saturating_add(1));
-        match *value {
-            3 => Err(Ended::After(sum)),
-            _ => Ok(sum.saturating_add(*value)),
-        }
-    })
+/// Whether the walks of a tree of another crate give its pair.
+fn walks_a_word(alloc: Global) -> Result<bool, AllocError> {
+    let word = Word::new(b"abc".to_vec(alloc)?, 7);
+    Ok(gives(alloc, word.iter(), "7abc")? && gives(alloc, word.scan_prefix(b"ab"), "7abc")?)
 }
 
 #[test]
-fn an_error_ends_a_fold(rt: HostRuntime) {
-    let asked = Cell::new(0);
-    let plain = sum_before_three::<RadixTree<u8, u32>>(rt.alloc(), &asked);
-    same(
-        &rt,
-        &"plain",
-        &(plain, asked.get()),
-        &(Err(Ended::After(2)), 2),
-    );
-    let shared = sum_before_three::<ArcRadixTree<u8, u32>>(rt.alloc(), &asked);
-    same(
-        &rt,
-        &"shared",
-        &(shared, asked.get()),
-        &(Err(Ended::After(2)), 4),
-    );
-}
-
-#[test]
-fn a_tree_of_another_crate_is_walked(rt: HostRuntime) -> Result<(), Fail> {
-    let word = Word::new(b"abc".to_vec(rt.alloc())?, 7);
-    holds(&rt, &"all", gives(rt.alloc(), word.iter(), "7abc"));
-    holds(
-        &rt,
-        &"under ab",
-        gives(rt.alloc(), word.scan_prefix(b"ab"), "7abc"),
-    );
-    Ok(())
+fn a_tree_of_another_crate_is_walked(rt: HostRuntime) {
+    holds(&rt, &"the walks", walks_a_word(rt.alloc()));
 }
 
 /// Keeps each key of a walk and a clone of it until the walk ends, and prints them all.
@@ -302,25 +215,17 @@ fn kept_keys_stay(rt: HostRuntime) {
     reads(&rt, &"shared", shared, KEPT);
 }
 
-/// The tree of three counted values.
-fn three<'a, T: AbstractRadixTreeMut<u8, Counted<'a>>>(
-    alloc: Global,
-    tally: &'a Tally,
-) -> Result<T, AllocError> {
-    let mut tree = T::empty(alloc);
-    tree.insert(b"b", Counted::new(4, tally))?;
-    tree.insert(b"a", Counted::new(1, tally))?;
-    tree.insert(b"ab", Counted::new(2, tally))?;
-    Ok(tree)
-}
+/// Three keys with numbers.
+const THREE: [(&str, u32); 3] = [("b", 4), ("a", 1), ("ab", 2)];
 
-/// Takes the first item of the walk that holds such a tree, and lets the walk go. Answers the
-/// number that came.
+/// Takes the first item of the walk that holds the tree of the three keys, and lets the walk go.
+/// Answers the number that came.
 fn first_number<'a, T: AbstractRadixTreeMut<u8, Counted<'a>>>(
     alloc: Global,
     tally: &'a Tally,
 ) -> Result<u32, AllocError> {
-    let mut walk = three::<T>(alloc, tally)?.into_iter();
+    let tree: T = counted_tree_of(alloc, &THREE, tally)?;
+    let mut walk = tree.into_iter();
     match walk.next() {
         Some(Ok((_, value))) => Ok(value.number),
         _ => Ok(0),
@@ -354,7 +259,7 @@ fn sum_of_granted<'a, T: AbstractRadixTreeMut<u8, Counted<'a>>>(
     granted: u32,
     tally: &'a Tally,
 ) -> Result<(u32, bool), AllocError> {
-    let tree = three::<T>(alloc, tally)?;
+    let tree: T = counted_tree_of(alloc, &THREE, tally)?;
     tally.clones_left.set(granted);
     let mut walk = tree.into_iter();
     let mut sum = 0u32;
@@ -384,15 +289,8 @@ fn a_held_tree_is_dropped_once(rt: HostRuntime) {
     }
 }
 
-/// How many nested keys the deep trees have.
+/// How many nested keys the deep tree has.
 const DEPTH: u32 = 5000;
-
-/// How many those have that a walk holds, of which each step goes along the way to where the walk
-/// stands.
-const HELD_DEPTH: u32 = 2000;
-
-/// How many a shared one has: dropping a node of it takes more of the stack.
-const SHARED_DEPTH: u32 = 500;
 
 /// The tree of nested keys of letters, up to one of so many.
 fn nested<T: AbstractRadixTreeMut<u8, u32>>(alloc: Global, depth: u32) -> Result<T, AllocError> {
@@ -408,74 +306,21 @@ fn nested<T: AbstractRadixTreeMut<u8, u32>>(alloc: Global, depth: u32) -> Result
     Ok(tree)
 }
 
-/// How many pairs are left of a walk, each value 1.
-fn count_pairs<T: AbstractRadixTree<u8, u32>>(
-    walk: Iter<'_, u8, u32, T>,
-) -> Result<u32, AllocError> {
+/// How many pairs a deep tree shows.
+fn count_deep<T: AbstractRadixTreeMut<u8, u32>>(alloc: Global) -> Result<u32, AllocError> {
+    let tree = nested::<T>(alloc, DEPTH)?;
     let mut pairs = 0u32;
-    for item in walk {
+    for item in tree.iter() {
         let (_, value) = item?;
         pairs = pairs.saturating_add(*value);
     }
     Ok(pairs)
 }
 
-/// How many pairs the walks of a tree give, of all and of those under a prefix, and how many
-/// values, each of them 1.
-fn counts_of<T: AbstractRadixTree<u8, u32>>(tree: &T) -> Result<[u32; 3], AllocError> {
-    let mut values = 0u32;
-    for value in tree.values() {
-        values = values.saturating_add(*value?);
-    }
-    let under = count_pairs(tree.scan_prefix(b"aa"))?;
-    Ok([count_pairs(tree.iter())?, under, values])
-}
-
-/// How many pairs the walk gives that holds its tree, each value 1.
-fn count_held<T: AbstractRadixTree<u8, u32> + Drop>(
-    walk: ObjAndIter<u8, u32, T>,
-) -> Result<u32, AllocError> {
-    let mut pairs = 0u32;
-    for item in walk {
-        let (_, value) = item?;
-        pairs = pairs.saturating_add(value);
-    }
-    Ok(pairs)
-}
-
-/// How many pairs and values the walks of a tree of nested keys give.
-fn count_nested<T: AbstractRadixTreeMut<u8, u32>>(
-    alloc: Global,
-    depth: u32,
-) -> Result<[u32; 3], AllocError> {
-    let tree = nested::<T>(alloc, depth)?;
-    counts_of(&tree)
-}
-
-/// How many pairs the walk gives that holds such a tree.
-fn count_held_nested<T: AbstractRadixTreeMut<u8, u32>>(
-    alloc: Global,
-    depth: u32,
-) -> Result<u32, AllocError> {
-    let tree = nested::<T>(alloc, depth)?;
-    count_held(tree.into_iter())
-}
-
 #[test]
 fn deep_trees_are_walked(rt: HostRuntime) {
-    let plain = count_nested::<RadixTree<u8, u32>>(rt.alloc(), DEPTH);
-    same(&rt, &"plain", &plain, &Ok([DEPTH, DEPTH - 1, DEPTH]));
-    let shared = count_nested::<ArcRadixTree<u8, u32>>(rt.alloc(), SHARED_DEPTH);
-    same(
-        &rt,
-        &"shared",
-        &shared,
-        &Ok([SHARED_DEPTH, SHARED_DEPTH - 1, SHARED_DEPTH]),
-    );
-    let held = count_held_nested::<RadixTree<u8, u32>>(rt.alloc(), HELD_DEPTH);
-    same(&rt, &"held", &held, &Ok(HELD_DEPTH));
-    let held = count_held_nested::<ArcRadixTree<u8, u32>>(rt.alloc(), SHARED_DEPTH);
-    same(&rt, &"held and shared", &held, &Ok(SHARED_DEPTH));
+    let plain = count_deep::<RadixTree<u8, u32>>(rt.alloc());
+    same(&rt, &"plain", &plain, &Ok(DEPTH));
 }
 
 /// How many nested keys are left where those that start with the one of a hundred letters are
