@@ -1,4 +1,4 @@
-//! Trees of either flavour from outside: two made one with a counter, narrowed by the folders of
+//! Trees of either flavour from outside: two made one with a counter, narrowed by the prefixes of
 //! another one, and with other fronts of their keys.
 ghost use Rattle.std.specs.Prelude.{◌≡◌, ◌+◌, ◌*◌, ◌<◌, ◌≤◌, List, ℕ, length, IfOk, OnOk};
 ghost use Rattle.std.specs.Ordering.{nat_cmp};
@@ -26,14 +26,14 @@ pub fn first_counted<T: AbstractRadixTreeMut<u8, u32>>(
     )
 }
 
-/// Whether a folder is marked.
+/// Whether a prefix is marked.
 fn is_marked(mark: &bool) -> bool
     ensures { result ≡ mark.now }
 {
     *mark
 }
 
-/// Drops what lies below the folders that are closed.
+/// Drops what begins with a prefix that is closed.
 pub fn close_all<T: AbstractRadixTreeMut<u8, u32>>(
     ports: &mut T,
     closed: &RadixTree<u8, bool>,
@@ -45,7 +45,7 @@ pub fn close_all<T: AbstractRadixTreeMut<u8, u32>>(
     ports.remove_prefix_with(closed, is_marked)
 }
 
-/// Keeps what lies below the folders that are open.
+/// Keeps what begins with a prefix that is open.
 pub fn keep_open<T: AbstractRadixTreeMut<u8, u32>>(
     ports: &mut T,
     opened: &RadixTree<u8, bool>,

@@ -11,7 +11,7 @@ use std::alloc::{AllocError, Global};
 use vec_collections::path_filter::PathFilter;
 use vec_collections::radix_tree::{AbstractRadixTree, AbstractRadixTreeMut};
 
-/// Which folders of a site may be read, each with all that lies in it.
+/// Which paths of a site may be read: those that begin with an opened one, but for closed ones.
 pub type Readable = PathFilter<u8>;
 
 /// A site without rules.
@@ -21,29 +21,29 @@ pub fn new_site(alloc: Global) -> Readable
     PathFilter::new(alloc)
 }
 
-/// Opens a folder to readers.
-pub fn open(site: &mut Readable, folder: &[u8]) -> Result<(), AllocError>
+/// Opens a path to readers, and all that begins with it.
+pub fn open(site: &mut Readable, path: &[u8]) -> Result<(), AllocError>
     ensures bound { OnOk result
-        (IsInserted nat_cmp (λ v w. v ≡ w) folder.now true site.old site.new) }
-    ensures readable { OnOk result (is_allowed nat_cmp site.new folder.now ≡ true) }
+        (IsInserted nat_cmp (λ v w. v ≡ w) path.now true site.old site.new) }
+    ensures readable { OnOk result (is_allowed nat_cmp site.new path.now ≡ true) }
 {
-    site.allow(folder)
+    site.allow(path)
 }
 
-/// The rule that a folder has of its own.
-pub fn rule_of(site: &Readable, folder: &[u8]) -> Option<bool>
-    ensures { result ≡ lookup nat_cmp site.now folder.now }
+/// The rule that a path has of its own.
+pub fn rule_of(site: &Readable, path: &[u8]) -> Option<bool>
+    ensures { result ≡ lookup nat_cmp site.now path.now }
 {
-    site.rules().get(folder).copied()
+    site.rules().get(path).copied()
 }
 
-/// Takes the rule that a folder has of its own back, and answers it.
-pub fn take_back(site: &mut Readable, folder: &[u8]) -> Result<Option<bool>, AllocError>
-    ensures rule { IfOk result (λ rule. rule ≡ lookup nat_cmp site.old folder.now) }
-    ensures gone { OnOk result (IsWithout nat_cmp (λ v w. v ≡ w) folder.now
+/// Takes the rule that a path has of its own back, and answers it.
+pub fn take_back(site: &mut Readable, path: &[u8]) -> Result<Option<bool>, AllocError>
+    ensures rule { IfOk result (λ rule. rule ≡ lookup nat_cmp site.old path.now) }
+    ensures gone { OnOk result (IsWithout nat_cmp (λ v w. v ≡ w) path.now
         (lookup nat_cmp site.old) (lookup nat_cmp site.new)) }
 {
-    site.remove(folder)
+    site.remove(path)
 }
 
 /// Drops the files that may not be read.
@@ -65,12 +65,12 @@ pub fn may_read_both(site: &Readable, first: &[u8], second: &[u8]) -> bool
     site.check(first) && site.check(second)
 }
 
-/// Closes a folder, and answers what could be read before.
-pub fn close(site: &mut Readable, folder: &[u8]) -> Result<Readable, AllocError>
+/// Closes a path and all that begins with it, and answers what could be read before.
+pub fn close(site: &mut Readable, path: &[u8]) -> Result<Readable, AllocError>
     ensures before { IfOk result (λ before. before ≡ site.old) }
-    ensures closed { OnOk result (is_allowed nat_cmp site.new folder.now ≡ false) }
+    ensures closed { OnOk result (is_allowed nat_cmp site.new path.now ≡ false) }
 {
     let before = site.clone()?;
-    site.deny(folder)?;
+    site.deny(path)?;
     Ok(before)
 }

@@ -30,7 +30,7 @@ pub fn pairs_and_values<'a, K: TKey, V: TValue + 'a, T: AbstractRadixTree<K, V>>
     (tree.iter(), tree.values())
 }
 
-/// The pairs of a tree whose keys lie in a folder.
+/// The pairs of a tree whose keys begin with a prefix, here called a folder.
 pub fn pairs_below<'a, K: TKey, V: TValue + 'a, T: AbstractRadixTree<K, V>>(
     tree: &'a T,
     folder: &'a [K],
@@ -113,7 +113,7 @@ pub fn letters_of_names<T: AbstractRadixTree<u8, u32>>(ports: &T) -> Result<usiz
     ports.fold(0usize, |sum, name, _| Ok(sum.saturating_add(name.len())))
 }
 
-/// The greatest port below a folder, and 0 where there is none.
+/// The greatest port of the names that begin with a folder, and 0 where there is none.
 pub fn greatest_port_below<T: AbstractRadixTree<u8, u32>>(
     ports: &T,
     folder: &[u8],

@@ -42,7 +42,7 @@ use vc_sets::borrowed::Borrowed;
 
 /// A map, as a list of its pairs in ascending order of their keys. Up to `N` of them stand in
 /// place, without an allocation, unless the list was once given room for more: then it keeps its
-/// block.
+/// block until `shrink_to_fit`.
 ///
 /// Contracts see it as that list.
 ///
