@@ -11,6 +11,7 @@ from itertools import takewhile
 from pathlib import Path
 
 import edits
+import shown
 
 ROOT = Path(__file__).resolve().parent.parent
 MARK, END = re.compile(r"<!-- made by tools/pages: (.*) -->"), "<!-- end -->"
@@ -191,6 +192,12 @@ def tool(file):
     return module
 
 
+def tables_in(file):
+    """The tables of a file of times, by their headings."""
+    parts = (part.partition("\n") for part in source(file).split("\n## ")[1:])
+    return {name: rows.strip("\n").splitlines() for name, _, rows in parts}
+
+
 def stale_pictures():
     """Each picture of docs/plots that is drawn otherwise, by its file: its text, or none where it is not drawn."""
     drawn = {f"docs/plots/{name}.svg": text for name, text in tool("plot").pictures(source("tools/bench/table.md").splitlines())}
@@ -201,8 +208,26 @@ def stale_pictures():
 # ---- pages
 
 
+def pages():
+    """The pages of the repository."""
+    return [ROOT / "README.md", ROOT / "CONTRIBUTING.md", *sorted((ROOT / "docs").rglob("*.md"))]
+
+
 def parts_of(page, lines):
     """The parts of a page by their names: what makes the lines of each."""
+    marks = [mark[1] for mark in map(MARK.fullmatch, lines) if mark]
+    return {**tables_of(page, lines), **{name: partial(made_of, made) for name, made in shown.parts_on(page, marks).items()}}
+
+
+def made_of(made):
+    """The lines of a part that shows something of the sources, where it can be shown."""
+    if isinstance(made, shown.NotShown):
+        raise made
+    return iter(made)
+
+
+def tables_of(page, lines):
+    """The tables of a page that say what the sources have."""
     if page == "docs/WRONG_BODIES.md":
         return {f"wrong bodies of {crate}": partial(wrong_bodies, crate) for crate in edits_to_read()[0]}
     if page == "docs/SWEEP.md":
@@ -210,7 +235,7 @@ def parts_of(page, lines):
     if page == "docs/DEFINITIONS.md":
         return {"index of words": partial(index_of_words, lines)}
     if page == "docs/PERFORMANCE.md":
-        tables = tool("tables.py").tables(ROOT / "tools/bench/table.md")
+        tables = {**tool("tables.py").tables(ROOT / "tools/bench/table.md"), **tables_in("tools/bench/rust.md")}
         return {name: partial(iter, made) for name, made in tables.items()}
     return {}
 
@@ -231,7 +256,11 @@ def rewritten(page, lines):
             wrong.append((number, f"no such part is made, or it has no end, or stands twice: {name[1]}"))
         elif name:
             old = [line for _, line in takewhile(lambda it: it[1] != END, rest)]
-            new = list(left.pop(name[1])())
+            try:
+                new = list(left.pop(name[1])())
+            except shown.NotShown as why:
+                new = old
+                wrong.append((number, str(why)))
             stale += [(number, name[1])] * (old != new)
             made += [*new, END]
     return made, stale, wrong + [(len(lines), f"no mark says where this part stands: {name}") for name in left]
