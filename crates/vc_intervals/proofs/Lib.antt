@@ -1,5 +1,6 @@
 mod Turned
 mod Kept
+mod Passed
 mod Walked
 mod Sought
 mod Ranged

@@ -21,7 +21,7 @@ use Rattle.vc_sets.specs.SetOf.{exactly_one}
 use Rattle.vc_sets.specs.Select.{both_sides}
 use Rattle.vc_intervals.specs.Turns.{Intervals, intervals, turned}
 use Rattle.vc_intervals.specs.IntervalsOf.{Comes, IsIntervalsOf}
-use Rattle.vc_intervals.specs.Events.{odd, kept, Passes}
+use Rattle.vc_intervals.specs.Events.{odd, kept, passes}
 use Rattle.vc_intervals.proofs.Kept.{kept-intervals}
 
 -- ---- what is kept of a run
@@ -71,11 +71,7 @@ module _ {X : Type 0} (cmp : X → X → Ordering) (total : IsTotalOrder cmp) (i
   module _ (f : Bool → Bool → Bool) {M N : Type 0} (left right : M → List X) (in_a in_b : M → Bool) (built : M → List X)
       (name : M → N) where
     abbrev pub walk : Allows M X X
-    walk = allows left right (record {
-      from_a = λ s n answer t. Passes is_clone f in_a in_b built name true false (left s) n s answer t;
-      from_b = λ s n answer t. Passes is_clone f in_a in_b built name false true (right s) n s answer t;
-      collision = λ s answer t. Passes is_clone f in_a in_b built name true true (left s) 1 s answer t;
-    })
+    walk = allows left right (passes is_clone f in_a in_b built name left right)
 
     -- what was built between two states are clones of ks
     record Adds (ks : List X) (s t : M) : Type 0 where

@@ -1,7 +1,7 @@
 -- What the events of two lists of turns keep, where an operation is given by f. No public clause cites these words.
 use Rattle.std.specs.Prelude.{◌≡◌, ℕ, ◌%◌, nat_eq, Bool, true, false, not, ◌&&◌, List, [], ◌∷◌, Ok, IfOk}
 use Rattle.vc_merge.specs.Building.{Built}
-use Rattle.vc_merge.specs.Chain.{Answer}
+use Rattle.vc_merge.specs.Chain.{Answer, Gives}
 use Rattle.vc_merge.specs.Script.{Event, left_alone, right_alone, collision}
 use Rattle.vc_sets.specs.SetOf.{exactly_one}
 
@@ -34,6 +34,14 @@ module _ {X M N : Type 0} (from : X → X → Type 0) (f : Bool → Bool → Boo
       IfOk answer (λ go_on. (go_on ≡ true) × (name t ≡ name s)
       × (in_a t ≡ exactly_one (left && odd n) (in_a s)) × (in_b t ≡ exactly_one (right && odd n) (in_b s))
       × Built from xs n (exactly_one (f (in_a s) (in_b s)) (f (exactly_one left (in_a s)) (exactly_one right (in_b s)))) (built s) (built t))
+
+  -- what each event of the walk does, where these turns are left
+  abbrev pub passes : (left right : M → List X) → Gives M
+  passes left right = record {
+    from_a = λ s n answer t. Passes true false (left s) n s answer t;
+    from_b = λ s n answer t. Passes false true (right s) n s answer t;
+    collision = λ s answer t. Passes true true (left s) 1 s answer t;
+  }
 
 -- what a walk does at an event that seeks a place at which f is so, and stops at the first one
 module _ {M : Type 0} (f : Bool → Bool → Bool) (in_a in_b found : M → Bool) where

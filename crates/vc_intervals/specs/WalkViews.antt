@@ -1,16 +1,16 @@
 -- What a contract sees of a walk over the turns of two sets. No public clause cites these words.
-use Rattle.std.specs.Prelude.{ℕ, Bool, List}
+use Rattle.std.specs.Prelude.{ℕ, ◌≤◌, Bool, List, drop, length}
 use base.Fml.{GName}
 use Rattle.vc_intervals.specs.declared.combine.Walk.{Walk}
 
 module _ {X A : Type 0} {n : ℕ} where
   -- the turns that are left of the left set
   abbrev pub left_turns : Walk X n A → List X
-  left_turns s = s.a.now
+  left_turns s = drop s.left s.a.now
 
   -- the turns that are left of the right set
   abbrev pub right_turns : Walk X n A → List X
-  right_turns s = s.b.now
+  right_turns s = drop s.right s.b.now
 
   -- whether the place that it has come to is in the left set
   abbrev pub is_in_a : Walk X n A → Bool
@@ -27,3 +27,7 @@ module _ {X A : Type 0} {n : ℕ} where
   -- which list they stand in
   abbrev pub list_name : Walk X n A → GName
   list_name s = s.built.ghost_name
+
+  -- its places are within the turns
+  abbrev pub HasPlaces : Walk X n A → Type 0
+  HasPlaces s = (s.left ≤ length s.a.now) × (s.right ≤ length s.b.now)

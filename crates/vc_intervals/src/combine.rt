@@ -1,28 +1,37 @@
 //! The walk over the turns of two sets that keeps the turns of a third one.
-ghost use Rattle.std.specs.Prelude.{◌≡◌, ◌+◌, ◌≤◌, true, false, length, take, drop, IfOk, OnOk, IsTrue};
+ghost use Rattle.std.specs.Prelude.{◌≡◌, ◌+◌, ◌<◌, ◌≤◌, true, false, length, take, drop, IfOk, OnOk, IsTrue};
 ghost use Rattle.smallvec.specs.Iter.{SmallVecFitsInMemory};
+ghost use Rattle.smallvec.specs.SmallVec.{HasRoomFor};
 ghost use Rattle.vc_merge.specs.Ascending.{Ascends};
 ghost use Rattle.vc_merge.specs.Building.{Extends};
+ghost use Rattle.vc_merge.specs.Chain.{gives_at};
 ghost use Rattle.vc_merge.specs.Clones.{ClonesAreEqual};
 ghost use Rattle.vc_merge.specs.Count.{bound, ticked};
+ghost use Rattle.vc_merge.specs.Takes.{TakesLesser};
 ghost use Rattle.vc_sets.specs.Select.{both_sides, both_sides-total, keeps};
 ghost use Rattle.vc_intervals.specs.Turns.{intervals};
 ghost use Rattle.vc_intervals.specs.IntervalsOf.{IsIntervalsOf};
-ghost use Rattle.vc_intervals.specs.Events.{Passes, odd};
+ghost use Rattle.vc_intervals.specs.Events.{odd, passes};
+ghost use Rattle.vc_intervals.specs.WalkViews.{HasPlaces, built_turns, is_in_a, is_in_b, left_turns, list_name, right_turns};
 
 use smallvec::SmallVec;
 use std::alloc::{AllocError, Allocator};
 use std::cmp::Ordering;
 use std::default::MadeWith;
+use vc_merge::choosing::{behind, lesser, part, passed};
 use vc_merge::merge::{Count, MergeOperation, MergeState, merge};
 use vc_merge::states::append_clones;
 
-/// What is left of the turns of two sets, whether the place that the walk has come to is in each of
-/// them, and the turns that were kept.
+/// The turns of two sets with the places of the next ones, whether the place that the walk has come
+/// to is in each of the sets, and the turns that were kept.
+///
+/// The slices stay whole: a place moves by a number, without a branch.
 #[derive(Drop)]
 struct Walk<'a, T, const N: usize, A: Allocator> {
     a: &'a [T],
     b: &'a [T],
+    left: usize,
+    right: usize,
     in_a: bool,
     in_b: bool,
     built: &'a mut SmallVec<T, N, A>,
@@ -39,12 +48,34 @@ impl<'a, T, const N: usize, A: Allocator> MergeState for Walk<'a, T, N, A> {
 
     ghost right = { right_turns };
 
+    #[inline(always)]
     fn a_slice(&self) -> &[T] {
-        self.a
+        match self.a.get(self.left..) {
+            Some(rest) => rest,
+            None => &[],
+        }
     }
 
+    #[inline(always)]
     fn b_slice(&self) -> &[T] {
-        self.b
+        match self.b.get(self.right..) {
+            Some(rest) => rest,
+            None => &[],
+        }
+    }
+}
+
+impl<'a, T, const N: usize, A: Allocator> Walk<'a, T, N, A> {
+    ghost use Rattle.vc_intervals.specs.WalkViews.{HasPlaces, left_turns, right_turns};
+
+    /// How many turns are left.
+    #[inline(always)]
+    fn most(&self) -> usize
+        requires { HasPlaces self.now }
+        ensures left { length (left_turns self.now) ≤ result }
+        ensures right { length (right_turns self.now) ≤ result }
+    {
+        (self.a.len() - self.left).saturating_add(self.b.len() - self.right)
     }
 }
 
@@ -73,8 +104,24 @@ pub fn is_odd(n: usize) -> bool
     n % 2 == 1
 }
 
-/// Appends clones of some turns. Where there is no room for them, it grows once, for as many as may
-/// still come.
+/// Makes room for `n` more turns: where there is none, it grows once, for as many as may still come.
+#[inline(always)]
+fn make_room<T: MadeWith<A> + Drop, const N: usize, A: Allocator + Copy>(
+    built: &mut SmallVec<T, N, A>,
+    n: usize,
+    most: usize,
+) -> Result<(), AllocError>
+    requires { n ≤ most }
+    ensures items { built.new.items ≡ built.old.items }
+    ensures room { OnOk result (HasRoomFor built.new n) }
+{
+    if built.capacity() - built.len() < n {
+        built.reserve_exact(most)?;
+    }
+    Ok(())
+}
+
+/// Appends clones of some turns.
 #[inline]
 fn append<T: Clone + MadeWith<A>, const N: usize, A: Allocator + Copy>(
     built: &mut SmallVec<T, N, A>,
@@ -84,10 +131,45 @@ fn append<T: Clone + MadeWith<A>, const N: usize, A: Allocator + Copy>(
     requires { length turns.now ≤ most }
     ensures { OnOk result (Extends T.is_clone turns.now built.old.items built.new.items) }
 {
-    if built.capacity() - built.len() < turns.len() {
-        built.reserve_exact(most)?;
-    }
+    make_room(built, turns.len(), most)?;
     append_clones(built, turns)
+}
+
+/// Passes the first turns of both sets, which compare so: the lesser one, or both. It keeps a clone
+/// of the lesser one, or of the left one of two equal ones, if the answer turns there. Only that is
+/// a branch.
+#[inline(always)]
+fn pass_heads<
+    'a,
+    const LEFT: bool,
+    const RIGHT: bool,
+    const BOTH: bool,
+    T: Clone + MadeWith<A>,
+    const N: usize,
+    A: Allocator + Copy,
+>(walk: &mut Walk<'a, T, N, A>, heads: Ordering) -> Result<bool, AllocError>
+    requires ready { SmallVecFitsInMemory T.row N.row A.row A.Allocator × HasPlaces walk.old }
+    requires some_left { 0 < length (left_turns walk.old) }
+    requires some_right { 0 < length (right_turns walk.old) }
+    ensures gives { gives_at (passes T.is_clone (keeps LEFT RIGHT BOTH) is_in_a is_in_b built_turns
+        list_name left_turns right_turns) heads walk.old result walk.new }
+    ensures takes { TakesLesser left_turns right_turns
+        (λ s. SmallVecFitsInMemory T.row N.row A.row A.Allocator × HasPlaces s)
+        heads walk.old result walk.new }
+{
+    let in_a = walk.in_a ^ heads.is_le();
+    let in_b = walk.in_b ^ heads.is_ge();
+    if says::<LEFT, RIGHT, BOTH>(walk.in_a, walk.in_b) != says::<LEFT, RIGHT, BOTH>(in_a, in_b) {
+        let turn = lesser(heads, &walk.a[walk.left], &walk.b[walk.right]).clone()?;
+        let most = walk.most();
+        make_room(walk.built, 1, most)?;
+        walk.built.push_reserved(turn);
+    }
+    walk.in_a = in_a;
+    walk.in_b = in_b;
+    walk.left = passed(walk.a, walk.left, heads.is_le());
+    walk.right = passed(walk.b, walk.right, heads.is_ge());
+    Ok(true)
 }
 
 impl<
@@ -100,61 +182,58 @@ impl<
     const N: usize,
     A: Allocator + Copy,
 > MergeOperation<Walk<'a, T, N, A>, C> for TurnsOf<LEFT, RIGHT, BOTH> {
-    ghost use Rattle.vc_intervals.specs.WalkViews.{built_turns, is_in_a, is_in_b, left_turns, list_name, right_turns};
-
     ghost order = { λ _. both_sides T.cmp };
 
-    ghost ready = { λ _ _. SmallVecFitsInMemory T.row N.row A.row A.Allocator };
+    ghost ready = { λ _ s. SmallVecFitsInMemory T.row N.row A.row A.Allocator × HasPlaces s };
 
-    ghost gives = { λ _. record {
-      from_a = λ s n answer t. Passes T.is_clone (keeps LEFT RIGHT BOTH) is_in_a is_in_b built_turns
-          list_name true false (left_turns s) n s answer t;
-      from_b = λ s n answer t. Passes T.is_clone (keeps LEFT RIGHT BOTH) is_in_a is_in_b built_turns
-          list_name false true (right_turns s) n s answer t;
-      collision = λ s answer t. Passes T.is_clone (keeps LEFT RIGHT BOTH) is_in_a is_in_b
-          built_turns list_name true true (left_turns s) 1 s answer t;
-    } };
+    ghost gives = { λ _. passes T.is_clone (keeps LEFT RIGHT BOTH) is_in_a is_in_b built_turns
+        list_name left_turns right_turns };
 
     ghost total = { λ _. both_sides-total T.cmp T.total };
 
+    #[inline(always)]
     fn cmp(&self, a: &T, b: &T, steps: &mut C) -> Ordering {
         steps.tick();
         a.cmp(b)
     }
 
+    #[inline(always)]
     fn from_a(&self, state: &mut Walk<'a, T, N, A>, n: usize) -> Result<bool, AllocError> {
         let here = says::<LEFT, RIGHT, BOTH>(state.in_a, state.in_b);
         if here != says::<LEFT, RIGHT, BOTH>(!state.in_a, state.in_b) {
-            let most = state.a.len().saturating_add(state.b.len());
-            append(state.built, &state.a[..n], most)?;
+            let most = state.most();
+            append(state.built, part(state.a, state.left, n), most)?;
         }
-        state.a = &state.a[n..];
+        state.left = behind(state.a, state.left, n);
         state.in_a ^= is_odd(n);
         Ok(true)
     }
 
+    #[inline(always)]
     fn from_b(&self, state: &mut Walk<'a, T, N, A>, n: usize) -> Result<bool, AllocError> {
         let here = says::<LEFT, RIGHT, BOTH>(state.in_a, state.in_b);
         if here != says::<LEFT, RIGHT, BOTH>(state.in_a, !state.in_b) {
-            let most = state.a.len().saturating_add(state.b.len());
-            append(state.built, &state.b[..n], most)?;
+            let most = state.most();
+            append(state.built, part(state.b, state.right, n), most)?;
         }
-        state.b = &state.b[n..];
+        state.right = behind(state.b, state.right, n);
         state.in_b ^= is_odd(n);
         Ok(true)
     }
 
+    #[inline(always)]
     fn collision(&self, state: &mut Walk<'a, T, N, A>) -> Result<bool, AllocError> {
-        let here = says::<LEFT, RIGHT, BOTH>(state.in_a, state.in_b);
-        if here != says::<LEFT, RIGHT, BOTH>(!state.in_a, !state.in_b) {
-            let most = state.a.len().saturating_add(state.b.len());
-            append(state.built, &state.a[..1], most)?;
-        }
-        state.a = &state.a[1..];
-        state.b = &state.b[1..];
-        state.in_a = !state.in_a;
-        state.in_b = !state.in_b;
-        Ok(true)
+        pass_heads::<LEFT, RIGHT, BOTH, _, _, _>(state, Ordering::Equal)
+    }
+
+    #[inline(always)]
+    fn chooses(&self) -> bool {
+        true
+    }
+
+    #[inline(always)]
+    fn event(&self, state: &mut Walk<'a, T, N, A>, heads: Ordering) -> Result<bool, AllocError> {
+        pass_heads::<LEFT, RIGHT, BOTH, _, _, _>(state, heads)
     }
 }
 
@@ -191,6 +270,8 @@ pub fn combine<
     let mut walk = Walk {
         a,
         b,
+        left: 0,
+        right: 0,
         in_a,
         in_b,
         built: &mut built,

@@ -24,3 +24,5 @@ pub mod Parted
 pub mod Retained
 pub mod Strides
 pub mod Unordered
+pub mod LesserPassed
+pub mod LesserTaken

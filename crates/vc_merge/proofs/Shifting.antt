@@ -1,17 +1,12 @@
 -- Elements that move within a list, and what a merge of two parts of a list shows of them.
 use Rattle.std.proofs.Common.{◌≡◌, ℕ, ◌+◌, ◌-◌, ◌<◌, ◌≤◌, List, ◌∷◌, ◌++◌, length, take, drop, set, refl, sym}
-use Rattle.std.proofs.Common.{Bool, true, false, ap, ◌∙◌, arith, rules, drop-drop}
-use Rattle.std.specs.Int.{from_bool}
-use Rattle.std.specs.Ordering.{is_le, is_ge}
-use Rattle.std.specs.declared.cmp.Ordering.{Ordering}
-use Rattle.std.specs.declared.cmp.Ordering.TheVariants.{Less, Equal, Greater}
+use Rattle.std.proofs.Common.{ap, ◌∙◌, arith, rules, drop-drop}
 use native.Mathlib.Numerals.{unary_clauses}
 use Rattle.std.proofs.lemmas.List.{same_lists, places, drop-set-add, drop-set-lt, take-set-le}
 use Rattle.std.specs.List.{SwappedAt}
 use borrow.Rule.Slice.PartMut.{put_mid}
 use Rattle.vc_merge.specs.MovesDown.{MovesDown}
-use Rattle.vc_merge.specs.PartsViews.{lesser_part}
-use Rattle.vc_merge.specs.Shifts.{MovesUp, Turns, Trades, lesser_place}
+use Rattle.vc_merge.specs.Shifts.{MovesUp, Turns, Trades}
 use Rattle.vc_merge.proofs.MovesDownLemmas.{element, MovesDown-none, MovesDown-next}
 
 module _ {X : Type 0} where
@@ -152,43 +147,27 @@ module _ {X : Type 0} where
 
   module _ (xs ys : List X) (b s e next : ℕ) (hole : b + 1 ≤ s) (left : s ≤ e) (gap : e ≤ next) (some : 1 ≤ e - s)
       (within : next ≤ length xs) where
-    -- whether that one counts as built
-    kept-one : (keep : Bool) (zs : List X) → take (b + 1) ys ≡ take b xs ++ take 1 zs
-        → take (b + from_bool keep) ys ≡ take b xs ++ take (from_bool keep) zs
-    kept-one true zs h = h
-    kept-one false zs h =
-        sym (take-take (b + 0) (b + 1) ys (omega arith)) ∙ ap (take (b + 0)) h
-        ∙ same_lists _ _ (search (rules, places)) (λ k d h. grind (arith, places))
-
     low : b ≤ s
     low = omega arith
 
-    down : Trades xs b s 1 ys → MovesDown xs b s 1 ys
-    down t = grind arith
+    -- one of the left part
+    module _ (t : Trades xs b s 1 ys) where
+      down : MovesDown xs b s 1 ys
+      down = grind arith
 
-    pub passed : (o : Ordering) (keep : Bool) → Trades xs b (lesser_place o s next) 1 ys
-        → (take (b + from_bool keep) ys
-        ≡ take b xs ++ take (from_bool keep) (lesser_part o (take (e - s) (drop s xs)) (drop next xs)))
-        × (take (e - (s + from_bool (is_le o))) (drop (s + from_bool (is_le o)) ys)
-        ≡ drop (from_bool (is_le o)) (take (e - s) (drop s xs)))
-        × (drop (next + from_bool (is_ge o)) ys ≡ drop (from_bool (is_ge o)) (drop next xs))
-    passed Less keep t =
-        let moved = down t in (
-          kept-one keep _ (down-built xs ys b s e next low left gap 1 some moved),
-          down-left xs ys b s e next low left gap 1 some moved,
-          simp unary_clauses (down-right xs ys b s e next low left gap 1 some moved),
-        )
-    passed Equal keep t =
-        let moved = down t in (
-          kept-one keep _ (down-built xs ys b s e next low left gap 1 some moved),
-          down-left xs ys b s e next low left gap 1 some moved,
-          sym (drop-drop 1 next ys) ∙ ap (drop 1) (down-right xs ys b s e next low left gap 1 some moved),
-        )
-    passed Greater keep t = (
-      kept-one keep (drop next xs) t.front,
-      simp unary_clauses (trade-left xs ys b s e next low left gap 1 hole t),
-      t.rest ∙ sym (drop-drop 1 next xs),
-    )
+      pub passed-built : take (b + 1) ys ≡ take b xs ++ take 1 (take (e - s) (drop s xs))
+      passed-built = down-built xs ys b s e next low left gap 1 some down
+
+      pub passed-front : take b ys ≡ take b xs
+      passed-front =
+          sym (take-take b (b + 1) ys (omega arith)) ∙ ap (take b) t.front
+          ∙ same_lists _ _ (search (rules, places)) (λ k d h. grind (arith, places))
+
+      pub passed-left : take (e - (s + 1)) (drop (s + 1) ys) ≡ drop 1 (take (e - s) (drop s xs))
+      passed-left = down-left xs ys b s e next low left gap 1 some down
+
+      pub passed-right : drop next ys ≡ drop next xs
+      passed-right = down-right xs ys b s e next low left gap 1 some down
 
   -- ---- an element written over the first one of a part
 

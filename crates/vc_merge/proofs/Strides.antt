@@ -1,7 +1,6 @@
 -- What is spent by a search that goes in strides, and by searches one after the other.
 --     stride-more, stride-within        how many strides lead to a place
 --     place-paid, more-paid, last-paid        the searches for some elements, one behind the other
---     strides-fewer, planned-fewer        shorter lists
 --     strides-few        by strides of the share that each element has of the others, they spend no more than by halves
 use Rattle.std.proofs.Common.{◌≡◌, ℕ, zero, suc, ◌+◌, ◌*◌, ◌/◌, ◌^◌, ◌<◌, ◌≤◌, min, ⊎_elim, sym, subst, ◌∙◌, ap, arith}
 use Rattle.std.proofs.Math.Nat.{add-div_right, add-mul-div_right, div-mul-le_self, mul-le-mul_left, mul-le-mul_right}
@@ -9,8 +8,6 @@ use Rattle.std.proofs.Math.Nat.{mul-add, mul_assoc, mul_comm, div-lt_iff_lt-mul,
 use Rattle.std.proofs.lemmas.Bool.{cases_lt}
 use Rattle.std.proofs.lemmas.Nat.{le-div, pow_pos}
 use Rattle.vc_merge.specs.Count.{by_strides, digits}
-use Rattle.vc_merge.specs.declared.plan.Plan.{Plan}
-use Rattle.vc_merge.specs.Plan.{planned}
 use Rattle.vc_merge.proofs.Digits.{digits-enough, digits-least, digits-half, digits-monotone}
 
 -- one stride further
@@ -48,16 +45,6 @@ more-paid t a {b} (suc few) (suc before) n r {start} h k l w =
 -- it was the last search
 pub last-paid : (t a b before n start : ℕ) → 0 < before → b ≤ a + t + n / 2 ^ t → a + by_strides t before n ≤ start → b ≤ start
 last-paid t a b before n start h k w = grind arith
-
--- ---- shorter lists
-
--- searches for fewer elements in no more others spend no more
-pub strides-fewer : (t s n few r : ℕ) → few ≤ s → r ≤ n → by_strides t few r ≤ by_strides t s n
-strides-fewer t s n few r h l = grind (arith, mul-le-mul_right, stride-within, pow_pos)
-
--- a plan spends no more on shorter lists
-pub planned-fewer : (p : Plan) (left right m n : ℕ) → m ≤ left → n ≤ right → planned p m n ≤ planned p left right
-planned-fewer p left right m n h l = grind (arith, strides-fewer)
 
 -- ---- strides of the share
 

@@ -12,7 +12,6 @@ pub mod Progress
 pub mod Script
 pub mod MovesDown
 pub mod SiftViews
-pub mod SmallVecViews
 pub mod Gathering
 pub mod Laws
 pub mod PartsViews
@@ -22,3 +21,4 @@ pub mod Yielded
 pub mod Takes
 pub mod Clones
 pub mod Retaining
+pub mod ChoosingViews

@@ -1,5 +1,5 @@
 -- What a contract sees of a `PartsState`.
-use Rattle.std.specs.Prelude.{◌≡◌, ℕ, ◌-◌, List, take, drop, slice_range}
+use Rattle.std.specs.Prelude.{◌≡◌, ℕ, ◌-◌, Bool, true, false, List, ◌++◌, take, drop, slice_range}
 use Rattle.std.specs.declared.cmp.Ordering.{Ordering}
 use Rattle.std.specs.declared.cmp.Ordering.TheVariants.{Less, Equal, Greater}
 use Rattle.std.specs.Borrow.{MutBor}
@@ -32,12 +32,6 @@ module _ {X : Type 0} where
   abbrev pub hole_places : PartsState X → ℕ
   hole_places s = s.start - s.built
 
-  -- the part whose first element is the lesser, or the left one of two equal ones, by how these compare
-  abbrev pub lesser_part : Ordering → List X → List X → List X
-  lesser_part Less ls rs = ls
-  lesser_part Equal ls rs = ls
-  lesser_part Greater ls rs = rs
-
   -- what was built in a list, by where its parts stand
   abbrev pub built_at : Spans → List X → List X
   built_at p l = take p.built l
@@ -56,3 +50,12 @@ module _ {X : Type 0} where
     pub built : built_items s ≡ xs
     pub left : left_items s ≡ ys
     pub right : right_items s ≡ zs
+
+  -- of the first elements of both parts, which compare so, the lesser one was moved to the end of what is built, or of two equal ones the
+  -- left one, if `both`, and both were passed
+  abbrev pub PassesLesser : Ordering → Bool → PartsState X → PartsState X → Type 0
+  PassesLesser Less both s t = Shows (list_name s) (built_items s ++ take 1 (left_items s)) (drop 1 (left_items s)) (right_items s) t
+  PassesLesser Greater both s t = Shows (list_name s) (built_items s ++ take 1 (right_items s)) (left_items s) (drop 1 (right_items s)) t
+  PassesLesser Equal true s t =
+      Shows (list_name s) (built_items s ++ take 1 (left_items s)) (drop 1 (left_items s)) (drop 1 (right_items s)) t
+  PassesLesser Equal false s t = Shows (list_name s) (built_items s) (drop 1 (left_items s)) (drop 1 (right_items s)) t

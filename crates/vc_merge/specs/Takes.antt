@@ -1,5 +1,7 @@
 -- What the call of an event takes off the fronts of the two lists, where it answers true.
 use Rattle.std.specs.Prelude.{◌≡◌, ℕ, true, List, drop, IfOk}
+use Rattle.std.specs.declared.cmp.Ordering.{Ordering}
+use Rattle.std.specs.declared.cmp.Ordering.TheVariants.{Less, Equal, Greater}
 use Rattle.vc_merge.specs.Chain.{Answer}
 
 module _ {M A B : Type 0} (left : M → List A) (right : M → List B) (ready : M → Type 0) where
@@ -14,3 +16,9 @@ module _ {M A B : Type 0} (left : M → List A) (right : M → List B) (ready : 
   -- the first element of each list
   abbrev pub TakesBoth : M → Answer → M → Type 0
   TakesBoth s answer t = IfOk answer (λ go_on. go_on ≡ true → (left t ≡ drop 1 (left s)) × (right t ≡ drop 1 (right s)) × ready t)
+
+  -- of the first elements of both lists, which compare so: the lesser one, or both
+  abbrev pub TakesLesser : Ordering → M → Answer → M → Type 0
+  TakesLesser Less s answer t = TakesLeft 1 s answer t
+  TakesLesser Greater s answer t = TakesRight 1 s answer t
+  TakesLesser Equal s answer t = TakesBoth s answer t

@@ -1,6 +1,7 @@
 //! The merge of two ascending lists, event by event, and what stands around it.
 #![tactic(auto)]
 
+pub mod choosing;
 pub mod iterators;
 pub mod laws;
 mod linear;

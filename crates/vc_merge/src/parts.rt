@@ -1,7 +1,5 @@
 //! The state of a merge of two parts of one list, in the places of that list.
 ghost use Rattle.std.specs.Prelude.{◌≡◌, ◌+◌, ◌-◌, ◌<◌, ◌≤◌, true, [], ◌∷◌, ◌++◌, IsOk, OnOk, OnErr, length, take, drop, slice_set};
-ghost use Rattle.std.specs.Int.{from_bool};
-ghost use Rattle.std.specs.Ordering.{is_le, is_ge};
 ghost use Rattle.smallvec.specs.SmallVec.{small_vec_len, HasRoomFor};
 ghost use Rattle.vc_merge.specs.Building.{Advances, Skips};
 ghost use Rattle.vc_merge.specs.MovesDown.{MovesDown};
@@ -60,9 +58,10 @@ pub struct PartsState<'a, T> {
 }
 
 impl<'a, T> PartsState<'a, T> {
-    ghost use Rattle.vc_merge.specs.PartsViews.{lent_list, list_name, built_items, left_items, right_items, built_at, left_at, right_at, hole_places, lesser_part, Shows};
+    ghost use Rattle.vc_merge.specs.PartsViews.{lent_list, list_name, built_items, left_items, right_items, built_at, left_at, right_at, hole_places, PassesLesser, Shows};
 
     /// The list, whose parts to merge are its first `end` elements and those from `next` on.
+    #[inline(always)]
     pub fn new(list: &'a mut [T], end: usize, next: usize) -> Self
         requires order { end ≤ next }
         requires within { next ≤ length list.old }
@@ -81,6 +80,7 @@ impl<'a, T> PartsState<'a, T> {
     }
 
     /// The list, whose parts stand at `spans`.
+    #[inline(always)]
     pub fn at(list: &'a mut [T], spans: Spans) -> Self
         requires { spans.next ≤ length list.old }
         ensures same_reference { lent_list result ≡ list.entry }
@@ -98,6 +98,7 @@ impl<'a, T> PartsState<'a, T> {
     }
 
     /// Where the parts stand in the list.
+    #[inline(always)]
     pub fn spans(&self) -> Spans
         ensures within { result.next ≤ length (lent_list self.now).now }
         ensures built { built_at result (lent_list self.now).now ≡ built_items self.now }
@@ -113,6 +114,7 @@ impl<'a, T> PartsState<'a, T> {
     }
 
     /// How many elements were built. They are the first ones of the list.
+    #[inline(always)]
     pub fn kept(&self) -> usize
         ensures value { result ≡ length (built_items self.now) }
         ensures first { take result (lent_list self.now).now ≡ built_items self.now }
@@ -190,7 +192,7 @@ impl<'a, T> PartsState<'a, T> {
     /// How many places the hole has: each takes an element of the right part without a move of what
     /// is left of the left one.
     #[inline(always)]
-    pub fn hole(&self) -> usize
+    fn hole(&self) -> usize
         ensures { result ≡ hole_places self.now }
     {
         self.start - self.built
@@ -198,35 +200,54 @@ impl<'a, T> PartsState<'a, T> {
 
     /// Makes a hole of the gap, where there is none.
     #[inline(always)]
-    pub fn open_hole(&mut self)
+    fn open_hole(&mut self)
         ensures { Shows (list_name self.old) (built_items self.old) (left_items self.old)
             (right_items self.old) self.new }
     {
         self.widen(1);
     }
 
-    /// Passes the lesser of the first elements of both parts, or both where they are equal: by
-    /// choices in the place of branches. If `keep` it moves the lesser one, or the left one of two
-    /// equal ones, to the end of what is built. The hole must have a place.
+    /// Moves the lesser of the first elements of both parts to the end of what is built, by choices
+    /// in the place of branches. Of two equal ones it passes both, and keeps the left one if
+    /// `both`. The hole must have a place.
     #[inline(always)]
-    pub fn pass_lesser(&mut self, order: Ordering, keep: bool)
+    fn pass_lesser(&mut self, order: Ordering, both: bool)
         requires some_left { 0 < length (left_items self.old) }
         requires some_right { 0 < length (right_items self.old) }
         requires hole { 0 < hole_places self.old }
-        ensures { Shows (list_name self.old)
-            (built_items self.old ++ take (from_bool keep)
-            (lesser_part order (left_items self.old) (right_items self.old)))
-            (drop (from_bool (is_le order)) (left_items self.old))
-            (drop (from_bool (is_ge order)) (right_items self.old)) self.new }
+        ensures { PassesLesser order both self.old self.new }
     {
         let from = place_of_lesser(order, self.start, self.next);
         trade_one(self.list, self.built, from);
-        self.built += usize::from(keep);
+        self.built += usize::from(order.is_ne() || both);
         self.start += usize::from(order.is_le());
         self.next += usize::from(order.is_ge());
     }
 
+    /// The same where the hole may have no place: an element of the right part makes one of the gap,
+    /// or turns places with all that is left of the left one.
+    #[inline(always)]
+    fn move_lesser(&mut self, order: Ordering, both: bool)
+        requires some_left { 0 < length (left_items self.old) }
+        requires some_right { 0 < length (right_items self.old) }
+        ensures { PassesLesser order both self.old self.new }
+    {
+        match order {
+            Ordering::Less => self.take_left(1),
+            Ordering::Greater => self.take_right(1),
+            Ordering::Equal => {
+                if both {
+                    self.take_left(1);
+                } else {
+                    self.skip_left(1);
+                }
+                self.skip_right(1);
+            }
+        }
+    }
+
     /// Moves the first `n` elements that are left of the left part to the end of what is built.
+    #[inline(always)]
     fn take_left(&mut self, n: usize)
         requires { n ≤ length (left_items self.old) }
         ensures { Shows (list_name self.old) (built_items self.old ++ take n (left_items self.old))
@@ -238,6 +259,7 @@ impl<'a, T> PartsState<'a, T> {
     }
 
     /// Leaves the first `n` elements that are left of the left part to the hole.
+    #[inline(always)]
     fn skip_left(&mut self, n: usize)
         requires { n ≤ length (left_items self.old) }
         ensures { Shows (list_name self.old) (built_items self.old) (drop n (left_items self.old))
@@ -246,7 +268,18 @@ impl<'a, T> PartsState<'a, T> {
         self.start += n;
     }
 
+    /// Leaves the first `n` elements that are left of the right part to the gap.
+    #[inline(always)]
+    fn skip_right(&mut self, n: usize)
+        requires { n ≤ length (right_items self.old) }
+        ensures { Shows (list_name self.old) (built_items self.old) (left_items self.old)
+            (drop n (right_items self.old)) self.new }
+    {
+        self.next += n;
+    }
+
     /// Moves the first `n` elements that are left of the right part to the end of what is built.
+    #[inline(always)]
     fn take_right(&mut self, n: usize)
         requires { n ≤ length (right_items self.old) }
         ensures { Shows (list_name self.old) (built_items self.old ++ take n (right_items self.old))
@@ -285,6 +318,7 @@ impl<'a, T> PartsState<'a, T> {
     }
 
     /// Takes `n` elements of the right part into the hole, which is long enough.
+    #[inline(always)]
     fn trade(&mut self, n: usize)
         requires right { n ≤ length (right_items self.old) }
         requires hole { self.old.built + n ≤ self.old.start }
@@ -297,6 +331,7 @@ impl<'a, T> PartsState<'a, T> {
     }
 
     /// Takes `n` elements of the right part before all that lies between.
+    #[inline(always)]
     fn turn(&mut self, n: usize)
         requires { n ≤ length (right_items self.old) }
         ensures { Shows (list_name self.old) (built_items self.old ++ take n (right_items self.old))
@@ -321,10 +356,12 @@ impl<'a, T> MergeState for PartsState<'a, T> {
 
     ghost right = { right_items };
 
+    #[inline(always)]
     fn a_slice(&self) -> &[T] {
         &self.list[self.start..self.end]
     }
 
+    #[inline(always)]
     fn b_slice(&self) -> &[T] {
         &self.list[self.next..]
     }
@@ -340,6 +377,7 @@ impl<'a, T> MergeStateMut for PartsState<'a, T> {
 
     ghost skips_b = { λ s n answer t. IsOk answer × Skips built_items list_name s answer t };
 
+    #[inline(always)]
     fn advance_a(&mut self, n: usize, take: bool) -> Result<bool, AllocError> {
         if take {
             self.take_left(n);
@@ -349,8 +387,9 @@ impl<'a, T> MergeStateMut for PartsState<'a, T> {
         Ok(true)
     }
 
+    #[inline(always)]
     fn skip_b(&mut self, n: usize) -> Result<bool, AllocError> {
-        self.next += n;
+        self.skip_right(n);
         Ok(true)
     }
 }
@@ -361,8 +400,19 @@ impl<'a, T> MergeFromRight for PartsState<'a, T> {
     ghost takes_b = { λ s n answer t. IsOk answer
         × Advances built_items list_name (λ x y. x ≡ y) right_items s n true answer t };
 
+    #[inline(always)]
     fn take_b(&mut self, n: usize) -> Result<bool, AllocError> {
         self.take_right(n);
+        Ok(true)
+    }
+
+    #[inline(always)]
+    fn take_lesser(&mut self, heads: Ordering, both: bool) -> Result<bool, AllocError> {
+        if self.hole() > 0 {
+            self.pass_lesser(heads, both);
+        } else {
+            self.move_lesser(heads, both);
+        }
         Ok(true)
     }
 }

@@ -1,13 +1,12 @@
 //! Searches in an ordered list, for one element by its order, for a pair by its key, or for
 //! whatever a [`Sought`] tells.
 //!
-//! There are four forms. [`search`] halves what is left until it meets an equal element, and makes
+//! There are three forms. [`search`] halves what is left until it meets an equal element, and makes
 //! no more comparisons than the length has binary digits: trees find children by it.
 //! [`search_near`] goes in strides from the front on, and halves what stands before the last of
 //! them, without a branch on an answer: merges search by it. [`look_up`] compares with three
 //! elements at a time that do not wait for each other, which makes half as many comparisons more
-//! and is faster, for numbers and for strings. [`search_ahead`] goes in short strides and then does
-//! so, too, for what stands some elements behind the front.
+//! and is faster, for numbers and for strings.
 ghost use Rattle.std.specs.Prelude.{◌≡◌, ◌+◌, ◌-◌, ◌*◌, ◌/◌, ◌^◌, ◌<◌, ◌≤◌, length, min};
 ghost use Rattle.std.specs.Map.{keys_of};
 ghost use Rattle.std.specs.declared.cmp.Ordering.{Ordering};
@@ -231,98 +230,6 @@ pub fn search_near<X, C: Count, S: Sought<X, C>>(
         }
     }
     search_part(list, start, list.len() - start, sought, steps)
-}
-
-/// The same as [`search`], for what is a few elements behind the front: it looks at the first
-/// element, and then at every 16th one until one is not less. Of those before that it compares with
-/// three at a time, which do not wait for each other.
-#[inline(always)]
-pub fn search_ahead<X, C: Count, S: Sought<X, C>>(
-    list: &[X],
-    sought: &S,
-    steps: &mut C,
-) -> Result<usize, usize>
-    requires { IsOrdered (S.side sought.now) list.now }
-    ensures place { IsPlace (S.side sought.now) list.now result }
-    ensures counted { C.counted steps.new ≤ C.counted steps.old + 8 + place_of result / 16 }
-{
-    if list.is_empty() {
-        return Err(0);
-    }
-    match sought.compare(&list[0], steps) {
-        Ordering::Less => (),
-        Ordering::Equal => return Ok(0),
-        Ordering::Greater => return Err(0),
-    }
-    let mut start = 0;
-    'strides: while list.len() - start >= 16 {
-        match sought.compare(&list[start + 15], steps) {
-            Ordering::Less => start += 16,
-            Ordering::Equal => return Ok(start + 15),
-            Ordering::Greater => return search_stride(list, start, sought, steps),
-        }
-    }
-    search_part(list, start, list.len() - start, sought, steps)
-}
-
-/// The same where the elements before `start` are known to be less, and those behind the 15 from
-/// there on to be greater.
-#[inline(always)]
-fn search_stride<X, C: Count, S: Sought<X, C>>(
-    list: &[X],
-    start: usize,
-    sought: &S,
-    steps: &mut C,
-) -> Result<usize, usize>
-    requires ordered { IsOrdered (S.side sought.now) list.now }
-    requires narrowed { IsNarrowed (S.side sought.now) list.now start 15 }
-    ensures place { IsPlace (S.side sought.now) list.now result }
-    ensures counted { C.counted steps.new ≤ C.counted steps.old + 6 }
-{
-    let whole = Part {
-        start,
-        len: 15,
-        found: false,
-    };
-    let few = quarter(list, whole, 3, sought, steps);
-    let none = quarter(list, few, 0, sought, steps);
-    if none.found {
-        Ok(none.start - 1)
-    } else {
-        Err(none.start)
-    }
-}
-
-/// Compares with the elements at the ends of the first three quarters, and goes on with the `len`
-/// elements of one quarter.
-#[inline(always)]
-fn quarter<X, C: Count, S: Sought<X, C>>(
-    list: &[X],
-    part: Part,
-    len: usize,
-    sought: &S,
-    steps: &mut C,
-) -> Part
-    requires ordered { IsOrdered (S.side sought.now) list.now }
-    requires searched { IsSearched (S.side sought.now) list.now part.start part.len part.found }
-    requires quarters { part.len ≡ len * 4 + 3 }
-    ensures searched { IsSearched (S.side sought.now) list.now result.start result.len
-        result.found }
-    ensures len { result.len ≡ len }
-    ensures counted { C.counted steps.new ≤ C.counted steps.old + 3 }
-{
-    let step = len + 1;
-    let first = sought.compare(&list[part.start + len], steps);
-    let second = sought.compare(&list[part.start + step + len], steps);
-    let third = sought.compare(&list[part.start + step * 2 + len], steps);
-    let passed = usize::from(first.is_le())
-        + usize::from(second.is_le())
-        + usize::from(third.is_le());
-    Part {
-        start: part.start + passed * step,
-        len,
-        found: part.found | first.is_eq() | second.is_eq() | third.is_eq(),
-    }
 }
 
 /// `2 ^ exponent`.

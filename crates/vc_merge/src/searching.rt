@@ -61,6 +61,7 @@ fn share_of(few: usize, many: usize) -> usize
 
 /// Makes events until a list is used up, which it answers by true, or until an event answers false
 /// or is refused. Searches for each element of the shorter list, by strides of `2 ^ exponent`.
+#[inline(always)]
 pub(crate) fn search_each<M: MergeState, C: Count, O: MergeOperation<M, C>>(
     state: &mut M,
     op: &O,
@@ -71,8 +72,12 @@ pub(crate) fn search_each<M: MergeState, C: Count, O: MergeOperation<M, C>>(
     requires ready { O.ready op.now state.old }
     requires ascend { BothAscend (O.order op.now) (M.left state.old) (M.right state.old) }
     requires exponent { exponent < 64 }
-    ensures walk { IsWalk (allows M.left M.right (O.gives op.now)) (O.order op.now) state.old result
-        state.new }
+    ensures walk { let left = length (M.left state.old) in let right = length (M.right state.old) in
+        IsWalk (allows M.left M.right (O.gives op.now)) (O.order op.now)
+        (λ ls rs. C.counted steps.new + by_strides exponent
+        (fewer shorter (length ls) (length rs)) (more shorter (length ls) (length rs))
+        ≤ C.counted steps.old + by_strides exponent (fewer shorter left right)
+        (more shorter left right)) state.old result state.new }
     ensures ready { IfOk result (λ go_on. go_on ≡ true → O.ready op.now state.new) }
     ensures counted { let left = length (M.left state.old) in
         let right = length (M.right state.old) in
@@ -89,6 +94,7 @@ pub(crate) fn search_each<M: MergeState, C: Count, O: MergeOperation<M, C>>(
 
 /// Searches for the first element of the shorter list, and hands over what is below it and then
 /// that element.
+#[inline(always)]
 fn place_first<M: MergeState, C: Count, O: MergeOperation<M, C>>(
     state: &mut M,
     op: &O,
@@ -101,8 +107,12 @@ fn place_first<M: MergeState, C: Count, O: MergeOperation<M, C>>(
     requires exponent { exponent < 64 }
     requires some_left { 0 < length (M.left state.old) }
     requires some_right { 0 < length (M.right state.old) }
-    ensures goes_on { GoesOn (allows M.left M.right (O.gives op.now)) (O.order op.now) state.old
-        result state.new }
+    ensures goes_on { let left = length (M.left state.old) in let right = length (M.right state.old)
+        in GoesOn (allows M.left M.right (O.gives op.now)) (O.order op.now)
+        (λ ls rs. (fewer shorter (length ls) (length rs) < fewer shorter left right)
+        × (C.counted steps.new + more shorter (length ls) (length rs) / 2 ^ exponent
+        ≤ C.counted steps.old + (exponent + 1) + more shorter left right / 2 ^ exponent))
+        state.old result state.new }
     ensures ready { IfOk result (λ go_on. go_on ≡ true → O.ready op.now state.new) }
     ensures fewer { IfOk result (λ go_on. go_on ≡ true
         → fewer shorter (length (M.left state.new)) (length (M.right state.new))
@@ -124,6 +134,7 @@ fn place_first<M: MergeState, C: Count, O: MergeOperation<M, C>>(
 
 /// Hands over the right elements below the first left one, and then that one, alone or with its
 /// equal.
+#[inline(always)]
 fn place_left<M: MergeState, C: Count, O: MergeOperation<M, C>>(
     state: &mut M,
     op: &O,
@@ -134,8 +145,10 @@ fn place_left<M: MergeState, C: Count, O: MergeOperation<M, C>>(
     requires ascend { BothAscend (O.order op.now) (M.left state.old) (M.right state.old) }
     requires exponent { exponent < 64 }
     requires some { 0 < length (M.left state.old) }
-    ensures goes_on { GoesOn (allows M.left M.right (O.gives op.now)) (O.order op.now) state.old
-        result state.new }
+    ensures goes_on { let left = length (M.left state.old) in let right = length (M.right state.old)
+        in GoesOn (allows M.left M.right (O.gives op.now)) (O.order op.now)
+        (λ ls rs. (length ls < left) × (C.counted steps.new + length rs / 2 ^ exponent
+        ≤ C.counted steps.old + (exponent + 1) + right / 2 ^ exponent)) state.old result state.new }
     ensures ready { IfOk result (λ go_on. go_on ≡ true → O.ready op.now state.new) }
     ensures fewer { IfOk result (λ go_on. go_on ≡ true
         → length (M.left state.new) < length (M.left state.old)) }
@@ -163,6 +176,7 @@ fn place_left<M: MergeState, C: Count, O: MergeOperation<M, C>>(
 
 /// Hands over the left elements below the first right one, and then that one, alone or with its
 /// equal.
+#[inline(always)]
 fn place_right<M: MergeState, C: Count, O: MergeOperation<M, C>>(
     state: &mut M,
     op: &O,
@@ -173,8 +187,10 @@ fn place_right<M: MergeState, C: Count, O: MergeOperation<M, C>>(
     requires ascend { BothAscend (O.order op.now) (M.left state.old) (M.right state.old) }
     requires exponent { exponent < 64 }
     requires some { 0 < length (M.right state.old) }
-    ensures goes_on { GoesOn (allows M.left M.right (O.gives op.now)) (O.order op.now) state.old
-        result state.new }
+    ensures goes_on { let left = length (M.left state.old) in let right = length (M.right state.old)
+        in GoesOn (allows M.left M.right (O.gives op.now)) (O.order op.now)
+        (λ ls rs. (length rs < right) × (C.counted steps.new + length ls / 2 ^ exponent
+        ≤ C.counted steps.old + (exponent + 1) + left / 2 ^ exponent)) state.old result state.new }
     ensures ready { IfOk result (λ go_on. go_on ≡ true → O.ready op.now state.new) }
     ensures fewer { IfOk result (λ go_on. go_on ≡ true
         → length (M.right state.new) < length (M.right state.old)) }
@@ -201,6 +217,7 @@ fn place_right<M: MergeState, C: Count, O: MergeOperation<M, C>>(
 }
 
 /// Hands over `n` left elements that are below the right list, where there are any.
+#[inline(always)]
 fn pass_lefts<M: MergeState, C: Count, O: MergeOperation<M, C>>(
     state: &mut M,
     op: &O,
@@ -210,8 +227,8 @@ fn pass_lefts<M: MergeState, C: Count, O: MergeOperation<M, C>>(
     requires ascend { BothAscend (O.order op.now) (M.left state.old) (M.right state.old) }
     requires within { n ≤ length (M.left state.old) }
     requires below { LeftBelow (O.order op.now) (take n (M.left state.old)) (M.right state.old) }
-    ensures goes_on { GoesOn (allows M.left M.right (O.gives op.now)) (O.order op.now) state.old
-        result state.new }
+    ensures goes_on { GoesOn (allows M.left M.right (O.gives op.now)) (O.order op.now) (λ _ _. ⊥)
+        state.old result state.new }
     ensures takes { TakesLeft M.left M.right (O.ready op.now) n state.old result state.new }
 {
     if n == 0 {
@@ -221,6 +238,7 @@ fn pass_lefts<M: MergeState, C: Count, O: MergeOperation<M, C>>(
 }
 
 /// Hands over `n` right elements that are below the left list, where there are any.
+#[inline(always)]
 fn pass_rights<M: MergeState, C: Count, O: MergeOperation<M, C>>(
     state: &mut M,
     op: &O,
@@ -230,8 +248,8 @@ fn pass_rights<M: MergeState, C: Count, O: MergeOperation<M, C>>(
     requires ascend { BothAscend (O.order op.now) (M.left state.old) (M.right state.old) }
     requires within { n ≤ length (M.right state.old) }
     requires below { RightBelow (O.order op.now) (take n (M.right state.old)) (M.left state.old) }
-    ensures goes_on { GoesOn (allows M.left M.right (O.gives op.now)) (O.order op.now) state.old
-        result state.new }
+    ensures goes_on { GoesOn (allows M.left M.right (O.gives op.now)) (O.order op.now) (λ _ _. ⊥)
+        state.old result state.new }
     ensures takes { TakesRight M.left M.right (O.ready op.now) n state.old result state.new }
 {
     if n == 0 {
@@ -241,6 +259,7 @@ fn pass_rights<M: MergeState, C: Count, O: MergeOperation<M, C>>(
 }
 
 /// Where the first left element stands in the right list.
+#[inline(always)]
 fn find_left<M: MergeState, C: Count, O: MergeOperation<M, C>>(
     state: &M,
     op: &O,
@@ -262,6 +281,7 @@ fn find_left<M: MergeState, C: Count, O: MergeOperation<M, C>>(
 }
 
 /// Where the first right element stands in the left list.
+#[inline(always)]
 fn find_right<M: MergeState, C: Count, O: MergeOperation<M, C>>(
     state: &M,
     op: &O,

@@ -1,9 +1,4 @@
 pub mod Selected
-pub mod Begun
-mod BegunIn
-mod Spending
-mod Spanned
-mod Found
 pub mod Combined
 pub mod Searching
 pub mod Clones
@@ -15,3 +10,4 @@ mod OneSet
 pub mod Removing
 pub mod ByForm
 pub mod Shorter
+mod ByHeads

@@ -4,6 +4,5 @@ pub mod Algebra
 pub mod Select
 pub mod Laws
 pub mod Iterating
-pub mod Begun
 pub mod Borrowed
 pub mod EqualClones

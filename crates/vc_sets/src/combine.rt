@@ -1,5 +1,5 @@
 //! Set operations on two ascending lists that build a fresh one.
-ghost use Rattle.std.specs.Prelude.{◌+◌, ◌≤◌, true, false, not, length, IfOk};
+ghost use Rattle.std.specs.Prelude.{◌≡◌, ◌+◌, ◌≤◌, true, false, not, [], length, IfOk};
 ghost use Rattle.vc_merge.specs.Ascending.{Ascends};
 ghost use Rattle.vc_merge.specs.Count.{bound};
 ghost use Rattle.vc_merge.specs.Clones.{ClonesAreEqual};
@@ -7,20 +7,15 @@ ghost use Rattle.vc_sets.specs.SetOf.{IsSetOf};
 ghost use Rattle.vc_sets.specs.Algebra.{made_by};
 ghost use Rattle.vc_sets.specs.Select.{keeps};
 
-use crate::choosing::{begin, plan_of_rest};
 use crate::operations::{EitherOp, LeftOp};
 use crate::vec_set::SetOp;
 use smallvec::SmallVec;
 use std::alloc::{AllocError, Allocator};
 use std::default::MadeWith;
-use vc_merge::merge::{Count, merge_as};
-use vc_merge::plan::plan_of;
-use vc_merge::states::SmallVecMergeState;
+use vc_merge::choosing::ChoosingState;
+use vc_merge::merge::{Count, merge};
 
 /// What stands in either list alone and, if `BOTH`, the left one of what stands in both.
-///
-/// Where each list fits in place, the result may: then it begins there, and grows if it has to.
-/// Else it makes room for all at the start.
 fn combine_either<
     const BOTH: bool,
     T: Ord + Clone + MadeWith<A>,
@@ -36,18 +31,9 @@ fn combine_either<
     ensures counted { C.counted steps.new
         ≤ C.counted steps.old + bound (length a.now) (length b.now) }
 {
-    let may_fit = a.len().max(b.len()) <= N;
-    let room = if may_fit {
-        0
-    } else {
-        a.len().saturating_add(b.len())
-    };
-    let mut built = SmallVec::with_capacity(alloc, room)?;
-    let plan = plan_of(a.len(), b.len());
-    let (a, b) = begin::<true, BOTH, _, _, _, _>(a, b, plan, &mut built, steps)?;
-    let plan = plan_of_rest(plan, a.len(), b.len());
-    let mut state = SmallVecMergeState::new(a, b, &mut built);
-    merge_as(&mut state, &EitherOp::<BOTH>, plan, steps)?;
+    let mut built = with_room_for_both(alloc, a.len(), b.len())?;
+    let mut state = ChoosingState::new(a, b, &mut built);
+    merge(&mut state, &EitherOp::<BOTH>, steps)?;
     Ok(built)
 }
 
@@ -76,12 +62,28 @@ fn combine_left<
     };
     let mut built = SmallVec::new(alloc);
     built.reserve(least)?;
-    let plan = plan_of(a.len(), b.len());
-    let (a, b) = begin::<false, BOTH, _, _, _, _>(a, b, plan, &mut built, steps)?;
-    let plan = plan_of_rest(plan, a.len(), b.len());
-    let mut state = SmallVecMergeState::new(a, b, &mut built);
-    merge_as(&mut state, &LeftOp::<BOTH>, plan, steps)?;
+    let mut state = ChoosingState::new(a, b, &mut built);
+    merge(&mut state, &LeftOp::<BOTH>, steps)?;
     Ok(built)
+}
+
+/// An empty list. Where either list has more than `N` elements, it has room for all of both. Else
+/// what is made of them may fit in place: then it begins there, and grows if it has to.
+#[inline(always)]
+fn with_room_for_both<T: MadeWith<A> + Drop, const N: usize, A: Allocator + Copy>(
+    alloc: A,
+    left: usize,
+    right: usize,
+) -> Result<SmallVec<T, N, A>, AllocError>
+    ensures { IfOk result (λ list. list.items ≡ []) }
+{
+    let may_fit = left.max(right) <= N;
+    let room = if may_fit {
+        0
+    } else {
+        left.saturating_add(right)
+    };
+    SmallVec::with_capacity(alloc, room)
 }
 
 /// The operation `op` of two ascending lists.

@@ -31,20 +31,34 @@ impl<const BOTH: bool, T: Ord, M: MergeFromRight<A = T, B = T>, C: Count> MergeO
 
     ghost total = { λ _. both_sides-total T.cmp T.total };
 
+    #[inline(always)]
     fn cmp(&self, a: &T, b: &T, steps: &mut C) -> Ordering {
         compare(a, b, steps)
     }
 
+    #[inline(always)]
     fn from_a(&self, state: &mut M, n: usize) -> Result<bool, AllocError> {
         state.advance_a(n, true)
     }
 
+    #[inline(always)]
     fn from_b(&self, state: &mut M, n: usize) -> Result<bool, AllocError> {
         state.take_b(n)
     }
 
+    #[inline(always)]
     fn collision(&self, state: &mut M) -> Result<bool, AllocError> {
         keep_left::<BOTH, _>(state)
+    }
+
+    #[inline(always)]
+    fn event(&self, state: &mut M, heads: Ordering) -> Result<bool, AllocError> {
+        state.take_lesser(heads, BOTH)
+    }
+
+    #[inline(always)]
+    fn chooses(&self) -> bool {
+        true
     }
 }
 
@@ -63,24 +77,39 @@ impl<const BOTH: bool, T: Ord, M: MergeStateMut<A = T, B = T>, C: Count> MergeOp
 
     ghost total = { λ _. both_sides-total T.cmp T.total };
 
+    #[inline(always)]
     fn cmp(&self, a: &T, b: &T, steps: &mut C) -> Ordering {
         compare(a, b, steps)
     }
 
+    #[inline(always)]
     fn from_a(&self, state: &mut M, n: usize) -> Result<bool, AllocError> {
         state.advance_a(n, !BOTH)
     }
 
+    #[inline(always)]
     fn from_b(&self, state: &mut M, n: usize) -> Result<bool, AllocError> {
         state.skip_b(n)
     }
 
+    #[inline(always)]
     fn collision(&self, state: &mut M) -> Result<bool, AllocError> {
         keep_left::<BOTH, _>(state)
+    }
+
+    #[inline(always)]
+    fn event(&self, state: &mut M, heads: Ordering) -> Result<bool, AllocError> {
+        state.take_left(heads, !BOTH, BOTH)
+    }
+
+    #[inline(always)]
+    fn chooses(&self) -> bool {
+        M::chooses_left()
     }
 }
 
 /// Passes an element that stands on both sides, and takes the left one if `BOTH`.
+#[inline(always)]
 fn keep_left<const BOTH: bool, M: MergeStateMut>(state: &mut M) -> Result<bool, AllocError>
     requires ready { M.ready state.old }
     requires some_left { 0 < length (M.left state.old) }

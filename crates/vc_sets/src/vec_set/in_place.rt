@@ -8,7 +8,6 @@ ghost use Rattle.vc_merge.specs.Clones.{ClonesAreEqual};
 ghost use Rattle.vc_sets.specs.SetOf.{IsSetOf, and_not, exactly_one};
 ghost use Rattle.vc_sets.specs.Select.{keeps};
 
-use crate::joining::begin_parts;
 use crate::operations::{EitherOp, LeftOp};
 use crate::vec_set::{AbstractVecSet, VecSet};
 use smallvec::SmallVec;
@@ -46,8 +45,7 @@ fn join<const BOTH: bool, T: Ord>(list: &mut [T], end: usize, next: usize) -> us
     ensures { IsSetOf T.cmp (λ x y. x ≡ y) (λ x y. x ≡ y) (keeps true true BOTH) (take end list.old)
         (drop next list.old) (take result list.new) }
 {
-    let spans = begin_parts::<BOTH, T>(list, end, next);
-    let mut state = PartsState::at(list, spans);
+    let mut state = PartsState::new(list, end, next);
     let _never_refused = merge(&mut state, &EitherOp::<BOTH>, &mut Uncounted);
     state.kept()
 }

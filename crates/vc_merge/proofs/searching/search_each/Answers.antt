@@ -1,6 +1,6 @@
 use Rattle.std.proofs.Common.{◌<◌, length, arith, rules}
 use Rattle.std.proofs.lemmas.Result.{err_from_is_err_and}
-use Rattle.vc_merge.proofs.Chains.{so_far-none, so_far-append, then_next-append, goes_on-true, walk-failed}
+use Rattle.vc_merge.proofs.Chains.{so_far-none, so_far-append, then_next-append, then_next-weaker, goes_on-true, walk-failed}
 use Rattle.vc_merge.proofs.SearchedRuns.{fewer-some}
 use Rattle.vc_merge.proofs.Strides.{more-paid, last-paid}
 use Rattle.vc_merge.proofs.searching.search_each.Goals as goal
@@ -11,7 +11,9 @@ events-init g c = record { ready = c.requires.ready; so_far = so_far-none _ _ _ 
 pub returns-in_err-place_first-clause-walk : goal.returns-in_err-place_first-clause-walk
 returns-in_err-place_first-clause-walk g c =
     let p = err_from_is_err_and c.from_residual.result c.from_residual.ensures.1 in
-    walk-failed _ _ c.events.invariant.so_far c.in_err-place_first.ensures.goes_on p.1
+    walk-failed _ _ c.events.invariant.so_far
+    (then_next-weaker _ _ (λ ls rs h. more-paid c.args.exponent _ _ _ _ _ h.0 c.in_err-place_first.ensures.counted h.1
+    c.events.invariant.counted) c.in_err-place_first.ensures.goes_on) p.1
 
 pub returns-in_err-place_first-clause-counted : goal.returns-in_err-place_first-clause-counted
 returns-in_err-place_first-clause-counted g c =
@@ -22,7 +24,9 @@ returns-in_err-place_first-clause-counted g c =
 
 pub returns-then-not-branch-clause-walk : goal.returns-then-not-branch-clause-walk
 returns-then-not-branch-clause-walk g c =
-    then_next-append _ _ c.events.invariant.so_far (rw c.if-not-branch.true at c.in_ok-place_first.ensures.goes_on)
+    then_next-append _ _ c.events.invariant.so_far
+    (then_next-weaker _ _ (λ ls rs h. more-paid c.args.exponent _ _ _ _ _ h.0 c.in_ok-place_first.ensures.counted h.1
+    c.events.invariant.counted) (rw c.if-not-branch.true at c.in_ok-place_first.ensures.goes_on))
 
 pub returns-then-not-branch-clause-counted : goal.returns-then-not-branch-clause-counted
 returns-then-not-branch-clause-counted g c =
@@ -36,7 +40,7 @@ events-preserved g c =
     let on = c.if-not-branch.false in
     record {
       ready = c.in_ok-place_first.ensures.ready on;
-      so_far = so_far-append _ _ _ _ _ c.events.invariant.so_far (goes_on-true _ _ _ _ _ c.in_ok-place_first.ensures.goes_on on);
+      so_far = so_far-append _ _ _ _ _ c.events.invariant.so_far (goes_on-true _ _ _ _ _ _ c.in_ok-place_first.ensures.goes_on on);
       counted = more-paid c.args.exponent _ _ _ _ _ (c.in_ok-place_first.ensures.fewer on) c.in_ok-place_first.ensures.counted
           (c.in_ok-place_first.ensures.paid on) c.events.invariant.counted;
     }
