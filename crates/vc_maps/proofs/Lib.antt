@@ -1,9 +1,9 @@
 pub mod Asked
 pub mod Asking
-mod Begun
 pub mod ByForm
 pub mod Combined
 pub mod Editing
+pub mod Heads
 pub mod Joined
 pub mod Kept
 pub mod Lending

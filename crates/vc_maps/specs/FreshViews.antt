@@ -1,5 +1,5 @@
 -- What a contract sees of a `FreshState`.
-use Rattle.std.specs.Prelude.{List}
+use Rattle.std.specs.Prelude.{List, drop}
 use Rattle.std.specs.Borrow.{MutBor}
 use Rattle.smallvec.specs.SmallVec.{SmallVec}
 use base.Fml.{GName}
@@ -12,11 +12,11 @@ module _ {K V W S : Type 0} where
 
   -- the pairs that are left of the left map
   abbrev pub left_pairs : FreshState K V W S → List (K × V)
-  left_pairs s = s.a.now
+  left_pairs s = drop s.left s.a.now
 
   -- the pairs that are left of the right map
   abbrev pub right_pairs : FreshState K V W S → List (K × W)
-  right_pairs s = s.b.now
+  right_pairs s = drop s.right s.b.now
 
   -- which list is appended to
   abbrev pub list_name : FreshState K V W S → GName

@@ -1,5 +1,4 @@
 pub mod Asking
-pub mod Begun
 pub mod Borrowed
 pub mod CombineViews
 pub mod Combining

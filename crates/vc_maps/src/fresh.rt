@@ -1,8 +1,10 @@
 //! Joins that build a fresh list: the pairs of both maps are shown, and each answer stands under a
 //! clone of the key that was shown.
-ghost use Rattle.std.specs.Prelude.{◌≡◌, ℕ, ◌+◌, ◌-◌, ◌<◌, ◌≤◌, [], ◌∷◌, ◌++◌, List, Ok, Some, take, length, IfOk, OnOk};
+ghost use Rattle.std.specs.Prelude.{◌≡◌, ◌+◌, ◌<◌, ◌≤◌, [], ◌∷◌, ◌++◌, List, Ok, Some, take, drop, length, IfOk, OnOk};
+ghost use Rattle.std.specs.Int.{from_bool};
 ghost use Rattle.std.specs.List.{AllByRecursion};
 ghost use Rattle.std.specs.Option.{MatchOption};
+ghost use Rattle.std.specs.Ordering.{is_le, is_ge};
 ghost use Rattle.vc_joins.specs.declared.question.OuterJoinArg.TheVariants as arg;
 ghost use Rattle.vc_joins.specs.Answers.{seen, seen_left, seen_right, seen_inner, MayAnswer, MayAnswerLeft, MayAnswerRight, MayAnswerInner};
 ghost use Rattle.vc_joins.specs.Entries.{AscendsByKey};
@@ -16,14 +18,14 @@ ghost use Rattle.vc_merge.specs.Building.{Skips};
 ghost use Rattle.vc_merge.specs.Clones.{ClonesAreEqual};
 
 use crate::join::{JoinOp, JoinState};
-use crate::outer::begin;
 use smallvec::SmallVec;
 use std::alloc::{AllocError, Allocator};
+use std::cmp::Ordering;
 use std::default::MadeWith;
 use vc_joins::answers::{AskInner, AskLeft, AskOuter, AskRight, Question};
 use vc_joins::question::{JoinKind, OuterJoinArg};
-use vc_merge::merge::{Count, MergeState, MergeStateMut, Uncounted, merge_as};
-use vc_merge::plan::plan_of;
+use vc_merge::choosing::part;
+use vc_merge::merge::{Count, MergeState, MergeStateMut, Uncounted, merge};
 
 /// A list of pairs that grows at its end.
 pub trait PairList {
@@ -35,22 +37,9 @@ pub trait PairList {
 
     ghost pairs: { Self → List (Self.Key × Self.Value) };
 
-    /// For how many more pairs there is room.
-    ghost room: { Self → ℕ };
-
     /// Puts a pair behind the others.
     fn append(&mut self, key: Self::Key, value: Self::Value) -> Result<(), AllocError>
         ensures { OnOk result (pairs self.new ≡ pairs self.old ++ (key, value) ∷ []) };
-
-    /// For how many more pairs there is room.
-    fn room(&self) -> usize
-        ensures { result ≡ room self.now };
-
-    /// Puts a pair behind the others, where there is room.
-    fn append_reserved(&mut self, key: Self::Key, value: Self::Value)
-        requires { 0 < room self.old }
-        ensures pairs { pairs self.new ≡ pairs self.old ++ (key, value) ∷ [] }
-        ensures room { room self.old ≤ room self.new + 1 };
 }
 
 impl<K: Drop, X: Drop, const N: usize, A: Allocator + Copy> PairList for SmallVec<(K, X), N, A>
@@ -63,26 +52,22 @@ where
 
     ghost pairs = { λ list. list.items };
 
-    ghost room = { λ list. list.capacity - length list.items };
-
+    #[inline(always)]
     fn append(&mut self, key: K, value: X) -> Result<(), AllocError> {
         Ok(self.push((key, value))?)
     }
-
-    fn room(&self) -> usize {
-        self.capacity() - self.len()
-    }
-
-    fn append_reserved(&mut self, key: K, value: X) {
-        self.push_reserved((key, value))
-    }
 }
 
-/// What is left of two maps that are joined, and the list of the answers.
+/// Two maps that are joined, with a place in each, and the list of the answers.
+///
+/// The maps stay whole, and the places alone move: an event then passes a pair by a choice, where a
+/// slice that shrinks would be a branch.
 #[derive(Drop)]
 pub struct FreshState<'a, 'b, 's, K, V, W, S> {
     a: &'a [(K, V)],
     b: &'b [(K, W)],
+    left: usize,
+    right: usize,
     built: &'s mut S,
 }
 
@@ -90,12 +75,38 @@ impl<'a, 'b, 's, K, V, W, S> FreshState<'a, 'b, 's, K, V, W, S> {
     ghost use Rattle.vc_maps.specs.FreshViews.{lent_list, left_pairs, right_pairs};
 
     /// The maps to join, and the list to append to.
+    #[inline(always)]
     pub fn new(a: &'a [(K, V)], b: &'b [(K, W)], built: &'s mut S) -> Self
         ensures a { left_pairs result ≡ a.now }
         ensures b { right_pairs result ≡ b.now }
+        ensures places { (result.left ≤ length result.a.now)
+            × (result.right ≤ length result.b.now) }
         ensures same_reference { lent_list result ≡ built.entry }
     {
-        FreshState { a, b, built }
+        FreshState {
+            a,
+            b,
+            left: 0,
+            right: 0,
+            built,
+        }
+    }
+
+    /// Moves the places behind the lesser one of two first pairs whose keys compare so, or behind
+    /// both.
+    #[inline(always)]
+    fn pass(&mut self, heads: Ordering)
+        requires some_left { 0 < length (left_pairs self.old) }
+        requires some_right { 0 < length (right_pairs self.old) }
+        ensures left { left_pairs self.new ≡ drop (from_bool (is_le heads)) (left_pairs self.old) }
+        ensures right { right_pairs self.new
+            ≡ drop (from_bool (is_ge heads)) (right_pairs self.old) }
+        ensures places { (self.new.left ≤ length self.new.a.now)
+            × (self.new.right ≤ length self.new.b.now) }
+        ensures same_reference { lent_list self.new ≡ lent_list self.old }
+    {
+        self.left += usize::from(heads.is_le());
+        self.right += usize::from(heads.is_ge());
     }
 }
 
@@ -110,12 +121,20 @@ impl<'a, 'b, 's, K, V, W, S> MergeState for FreshState<'a, 'b, 's, K, V, W, S> {
 
     ghost right = { right_pairs };
 
+    #[inline(always)]
     fn a_slice(&self) -> &[(K, V)] {
-        self.a
+        match self.a.get(self.left..) {
+            Some(rest) => rest,
+            None => &[],
+        }
     }
 
+    #[inline(always)]
     fn b_slice(&self) -> &[(K, W)] {
-        self.b
+        match self.b.get(self.right..) {
+            Some(rest) => rest,
+            None => &[],
+        }
     }
 }
 
@@ -123,20 +142,22 @@ impl<'a, 'b, 's, K, V, W, S> MergeState for FreshState<'a, 'b, 's, K, V, W, S> {
 impl<'a, 'b, 's, K, V, W, S: PairList> MergeStateMut for FreshState<'a, 'b, 's, K, V, W, S> {
     ghost use Rattle.vc_maps.specs.FreshViews.{lent_list, list_name};
 
-    ghost ready = { λ _. Unit {0} };
+    ghost ready = { λ s. (s.left ≤ length s.a.now) × (s.right ≤ length s.b.now) };
 
     ghost advances_a = { λ s n take answer t.
         Skips (λ s. S.pairs (lent_list s).now) list_name s answer t };
 
     ghost skips_b = { λ s n answer t. Skips (λ s. S.pairs (lent_list s).now) list_name s answer t };
 
+    #[inline(always)]
     fn advance_a(&mut self, n: usize, _take: bool) -> Result<bool, AllocError> {
-        self.a = &self.a[n..];
+        self.left += n;
         Ok(true)
     }
 
+    #[inline(always)]
     fn skip_b(&mut self, n: usize) -> Result<bool, AllocError> {
-        self.b = &self.b[n..];
+        self.right += n;
         Ok(true)
     }
 }
@@ -169,28 +190,39 @@ impl<
         (λ a. AnswerAdds (λ a r. Q.may q a (Ok r)) (ClonedKey K.is_clone) (Some a))
         (arg.Both p.0 p.1 r.1 ∷ []) s answer t) (left_pairs s) (right_pairs s) };
 
+    #[inline(always)]
     fn ask_a(&mut self, question: &Q, n: usize) -> Result<bool, AllocError> {
-        ask_lefts(self.built, question, &self.a[..n])?;
-        self.a = &self.a[n..];
+        ask_lefts(self.built, question, part(self.a, self.left, n))?;
+        self.left += n;
         Ok(true)
     }
 
+    #[inline(always)]
     fn ask_b(&mut self, question: &Q, n: usize) -> Result<bool, AllocError> {
-        ask_rights(self.built, question, &self.b[..n])?;
-        self.b = &self.b[n..];
+        ask_rights(self.built, question, part(self.b, self.right, n))?;
+        self.right += n;
         Ok(true)
     }
 
+    #[inline(always)]
     fn ask_both(&mut self, question: &Q) -> Result<bool, AllocError> {
-        let (a, b) = (self.a, self.b);
-        ask_pairs(self.built, question, &a[0], &b[0])?;
-        self.a = &a[1..];
-        self.b = &b[1..];
+        let left = &self.a[self.left];
+        let right = &self.b[self.right];
+        ask_pair(self.built, question, left, right)?;
+        self.pass(Ordering::Equal);
+        Ok(true)
+    }
+
+    #[inline(always)]
+    fn pass_lesser(&mut self, heads: Ordering) -> Result<bool, AllocError> {
+        self.pass(heads);
         Ok(true)
     }
 }
 
-/// Asks at each of `pairs`, which stand on the left alone.
+/// Asks at each of `pairs`, which stand on the left alone. A walk asks at one pair at a time, for
+/// which this is no loop where it is part of it.
+#[inline(always)]
 fn ask_lefts<
     K: Clone + Drop,
     V,
@@ -212,6 +244,7 @@ fn ask_lefts<
 }
 
 /// Asks at each of `pairs`, which stand on the right alone.
+#[inline(always)]
 fn ask_rights<
     K: Clone + Drop,
     V,
@@ -233,7 +266,8 @@ fn ask_rights<
 }
 
 /// Asks at a pair of each map, which have equal keys.
-fn ask_pairs<
+#[inline(always)]
+fn ask_pair<
     K: Clone + Drop,
     V,
     W,
@@ -254,7 +288,8 @@ fn ask_pairs<
 
 /// Asks at a pair that stands on the left alone. One lifetime serves for the right, which has none
 /// of its own.
-pub(crate) fn ask_left<'a, K, V, W: 'a, X, Q: Question<K, V, W, X>>(
+#[inline(always)]
+fn ask_left<'a, K, V, W: 'a, X, Q: Question<K, V, W, X>>(
     question: &Q,
     pair: &'a (K, V),
 ) -> Result<Option<X>, AllocError>
@@ -267,7 +302,8 @@ pub(crate) fn ask_left<'a, K, V, W: 'a, X, Q: Question<K, V, W, X>>(
 
 /// Asks at a pair that stands on the right alone. One lifetime serves for the left, which has none
 /// of its own.
-pub(crate) fn ask_right<'a, K, V: 'a, W, X, Q: Question<K, V, W, X>>(
+#[inline(always)]
+fn ask_right<'a, K, V: 'a, W, X, Q: Question<K, V, W, X>>(
     question: &Q,
     pair: &'a (K, W),
 ) -> Result<Option<X>, AllocError>
@@ -279,6 +315,7 @@ pub(crate) fn ask_right<'a, K, V: 'a, W, X, Q: Question<K, V, W, X>>(
 }
 
 /// Puts an answer under a clone of the key, where there is one.
+#[inline(always)]
 fn append_answer<K: Clone + Drop, X: Drop, S: PairList<Key = K, Value = X>>(
     built: &mut S,
     key: &K,
@@ -290,24 +327,6 @@ fn append_answer<K: Clone + Drop, X: Drop, S: PairList<Key = K, Value = X>>(
 {
     if let Some(value) = answer {
         built.append(key.clone()?, value)?;
-    }
-    Ok(())
-}
-
-/// The same, where the list has room for it.
-pub(crate) fn put_answer<K: Clone + Drop, X: Drop, S: PairList<Key = K, Value = X>>(
-    built: &mut S,
-    key: &K,
-    answer: Option<X>,
-) -> Result<(), AllocError>
-    requires { 0 < S.room built.old }
-    ensures pairs { OnOk result (MatchOption answer (S.pairs built.new ≡ S.pairs built.old)
-        (λ x. (k : K) × K.is_clone key.now k
-        × (S.pairs built.new ≡ S.pairs built.old ++ (k, x) ∷ []))) }
-    ensures room { OnOk result (S.room built.old ≤ S.room built.new + 1) }
-{
-    if let Some(value) = answer {
-        built.append_reserved(key.clone()?, value);
     }
     Ok(())
 }
@@ -365,10 +384,8 @@ where
 {
     let room = room_of::<N>(kind, this.len(), that.len());
     let mut built = SmallVec::with_capacity(alloc, room)?;
-    let plan = plan_of(this.len(), that.len());
-    let (this, that) = begin(kind, plan, this, that, question, &mut built, steps)?;
     let mut state = FreshState::new(this, that, &mut built);
-    merge_as(&mut state, &JoinOp { kind, question }, plan, steps)?;
+    merge(&mut state, &JoinOp { kind, question }, steps)?;
     Ok(built)
 }
 

@@ -8,11 +8,12 @@ ghost use Rattle.vc_joins.specs.declared.question.OuterJoinArg.{OuterJoinArg};
 ghost use Rattle.vc_joins.specs.declared.question.OuterJoinArg.TheVariants as arg;
 ghost use Rattle.vc_joins.specs.Events.{by_key, by_key-total};
 ghost use Rattle.vc_joins.specs.Question.{asks_left, asks_right};
-ghost use Rattle.vc_maps.specs.Asking.{CanAsk, AtHeads};
+ghost use Rattle.vc_maps.specs.Asking.{CanAsk, AtHeads, AsksOne, PassesOne, asks_at, question_at};
 ghost use Rattle.vc_merge.specs.Chain.{Answer};
 ghost use Rattle.vc_merge.specs.Count.{ticked};
 ghost use Rattle.vc_merge.specs.Fronts.{HeadsCompare};
 ghost use Rattle.vc_merge.specs.Script.{BothAscend};
+ghost use Rattle.vc_merge.specs.Takes.{TakesLesser};
 
 use std::alloc::AllocError;
 use std::cmp::Ordering;
@@ -64,6 +65,40 @@ pub trait JoinState<K, V, W, Q>: MergeStateMut<A = (K, V), B = (K, W)> {
         ensures passes { IfOk result (λ go_on. go_on ≡ true
             → (Self.left self.new ≡ drop 1 (Self.left self.old))
             × (Self.right self.new ≡ drop 1 (Self.right self.old)) × Self.ready self.new) };
+
+    /// Asks at the first pairs, whose keys compare so, and passes the lesser one, or both.
+    #[inline(always)]
+    fn ask_heads(&mut self, question: &Q, heads: Ordering) -> Result<bool, AllocError>
+        requires ready { Self.ready self.old }
+        requires takes { AtHeads (λ p q. takes question.now (question_at heads p q))
+            (Self.left self.old) (Self.right self.old) }
+        ensures gives { AsksOne (asks_a question.now) (asks_b question.now)
+            (asks_both question.now) heads self.old result self.new }
+        ensures passes { TakesLesser Self.left Self.right Self.ready heads self.old result self.new }
+    {
+        match heads {
+            Ordering::Less => self.ask_a(question, 1),
+            Ordering::Greater => self.ask_b(question, 1),
+            Ordering::Equal => self.ask_both(question),
+        }
+    }
+
+    /// Passes the lesser one of the first pairs, at which nothing is asked.
+    #[inline(always)]
+    fn pass_lesser(&mut self, heads: Ordering) -> Result<bool, AllocError>
+        requires ready { Self.ready self.old }
+        requires some_left { 0 < length (Self.left self.old) }
+        requires some_right { 0 < length (Self.right self.old) }
+        requires differ { heads ≡ Equal → ⊥ }
+        ensures gives { PassesOne Self.advances_a Self.skips_b heads self.old result self.new }
+        ensures passes { TakesLesser Self.left Self.right Self.ready heads self.old result self.new }
+    {
+        if heads.is_le() {
+            self.advance_a(1, false)
+        } else {
+            self.skip_b(1)
+        }
+    }
 }
 
 /// Asks a question at the keys that a kind of join names, in ascending order, and drops all others.
@@ -99,10 +134,12 @@ impl<
 
     ghost total = { λ _. by_key-total K.cmp K.total };
 
+    #[inline(always)]
     fn cmp(&self, a: &(K, V), b: &(K, W), steps: &mut C) -> Ordering {
         compare_keys(&a.0, &b.0, steps)
     }
 
+    #[inline(always)]
     fn from_a(&self, state: &mut M, n: usize) -> Result<bool, AllocError> {
         if self.kind.asks_left() {
             state.ask_a(self.question, n)
@@ -111,6 +148,7 @@ impl<
         }
     }
 
+    #[inline(always)]
     fn from_b(&self, state: &mut M, n: usize) -> Result<bool, AllocError> {
         if self.kind.asks_right() {
             state.ask_b(self.question, n)
@@ -119,14 +157,47 @@ impl<
         }
     }
 
+    #[inline(always)]
     fn collision(&self, state: &mut M) -> Result<bool, AllocError> {
         state.ask_both(self.question)
+    }
+
+    #[inline(always)]
+    fn event(&self, state: &mut M, heads: Ordering) -> Result<bool, AllocError> {
+        if asks_at(self.kind, heads) {
+            state.ask_heads(self.question, heads)
+        } else {
+            state.pass_lesser(heads)
+        }
+    }
+
+    /// An inner join passes a pair that stands alone by a choice. Joins that ask there branch on the
+    /// order all the same, and go by runs.
+    #[inline(always)]
+    fn chooses(&self) -> bool {
+        match self.kind {
+            JoinKind::Inner => true,
+            JoinKind::Outer | JoinKind::Left | JoinKind::Right => false,
+        }
+    }
+}
+
+/// Whether a join asks at two first pairs whose keys compare so.
+#[inline(always)]
+fn asks_at(kind: JoinKind, heads: Ordering) -> bool
+    ensures { result ≡ asks_at kind heads }
+{
+    match kind {
+        JoinKind::Outer => true,
+        JoinKind::Left => heads.is_le(),
+        JoinKind::Right => heads.is_ge(),
+        JoinKind::Inner => heads.is_eq(),
     }
 }
 
 /// Compares two keys, and counts that.
 #[inline(always)]
-pub(crate) fn compare_keys<K: Ord, C: Count>(a: &K, b: &K, steps: &mut C) -> Ordering
+fn compare_keys<K: Ord, C: Count>(a: &K, b: &K, steps: &mut C) -> Ordering
     ensures value { result ≡ K.cmp a.now b.now }
     ensures ticks { C.counted steps.new ≡ ticked (C.counted steps.old) }
 {

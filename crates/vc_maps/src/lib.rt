@@ -5,5 +5,4 @@ mod combine;
 mod fresh;
 mod in_place;
 mod join;
-mod outer;
 pub mod vec_map;

@@ -1,9 +1,18 @@
-use Rattle.std.proofs.Common.{refl}
-use Rattle.vc_maps.proofs.Joined.{at-heads, heads-some}
+use Rattle.std.proofs.Common.{ap, refl}
+use Rattle.std.proofs.lemmas.List.{drop_more}
+use Rattle.vc_merge.proofs.LesserTaken.{within-left}
+use Rattle.vc_maps.proofs.Joined.{heads-some}
+use Rattle.vc_maps.specs.FreshViews.{left_pairs, right_pairs}
 use Rattle.vc_maps.proofs.fresh.FreshStateJoinState.ask_both.Goals as goal
 
 pub returns-clause-gives : goal.returns-clause-gives
 returns-clause-gives g c =
-    let some = heads-some _ _ _ c.requires.takes in
-    at-heads _ c.args.self.now.a.now c.args.self.now.b.now _ _ some.0 some.1 c.index-a-0.is c.index-b-0.is
-    (refl, refl, c.in_ok-ask_pairs.ensures)
+    let s = c.args.self.now in
+    let some = heads-some _ (left_pairs s) (right_pairs s) c.requires.takes in
+    let built = ap (λ r. r.now) c.pass.ensures.same_reference in
+    rw (
+      drop_more s.a.now s.left c.index-self-self.result (within-left s.a.now s.left some.0),
+      drop_more s.b.now s.right c.index-self-self-2.result (within-left s.b.now s.right some.1),
+      built,
+    )
+    (refl, ap (λ r. r.ghost_name) c.pass.ensures.same_reference, c.in_ok-ask_pair.ensures)

@@ -1,7 +1,7 @@
 use Rattle.std.proofs.Common.{Ok}
 use Rattle.vc_joins.specs.Question.{shown_key}
 use Rattle.vc_maps.proofs.Joined.{asked-once}
-use Rattle.vc_maps.proofs.fresh.ask_pairs.Goals as goal
+use Rattle.vc_maps.proofs.fresh.ask_pair.Goals as goal
 
 pub returns : goal.returns
 returns g c =
