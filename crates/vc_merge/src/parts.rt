@@ -420,12 +420,14 @@ impl<'a, T> MergeFromRight for PartsState<'a, T> {
 /// Makes room for `n` more elements, and puts a gap of blanks between those of `list` and the room.
 ///
 /// The gap is so long that what is left of the left part moves up a few times at most, wherever
-/// the elements of the right one belong. Where the `n` elements fit, it takes no memory, and the
-/// gap is what room there is beside them.
+/// the elements of the right one belong. Where the `n` elements fit, it can't be refused: of a list
+/// on the heap whose parts are both long, and that has no room for the gap, it asks for more, and
+/// where that is refused the gap is what room there is.
 ///
 /// # Errors
 ///
-/// Where memory is refused; the list is then as it was. It asks at most once.
+/// Where the `n` elements don't fit and memory is refused; the list is then as it was. It asks at
+/// most once.
 pub fn open_gap<T: MadeWith<A> + Drop, const N: usize, A: Allocator + Copy>(
     list: &mut SmallVec<T, N, A>,
     n: usize,
@@ -433,11 +435,15 @@ pub fn open_gap<T: MadeWith<A> + Drop, const N: usize, A: Allocator + Copy>(
     ensures room { OnOk result (HasRoomFor list.new n) }
     ensures front { OnOk result (take (small_vec_len list.old) list.new.items ≡ list.old.items) }
     ensures gap { OnOk result (small_vec_len list.old ≤ small_vec_len list.new) }
+    ensures fits { HasRoomFor list.old n → IsOk result }
     ensures err { OnErr result (list.new ≡ list.old) }
 {
     let gap = gap_between(list.len(), n);
-    if list.capacity() - list.len() < n {
+    let room = list.capacity() - list.len();
+    if room < n {
         list.reserve(n.saturating_add(gap))?;
+    } else if room - n < gap && list.spilled() && list.len().min(n) > SHORT_GAP {
+        let _refused = list.reserve(n.saturating_add(gap)).is_err();
     }
     let spare = list.capacity() - list.len() - n;
     push_blanks(list, spare.min(gap));

@@ -26,8 +26,9 @@ where
     /// All pairs are moved. `f` is asked at the keys of both maps alone, once at each, in ascending
     /// order.
     ///
-    /// It grows at most once, before the first question, and not where both maps fit together.
-    /// Refused, it leaves this map as it was and drops `that`, and has not asked `f`.
+    /// It grows at most once, before the first question, and can't be refused where both maps fit
+    /// together: then it grows only if both are long and few places are left. Refused, it leaves
+    /// this map as it was and drops `that`, and has not asked `f`.
     ///
     /// ```
     /// totals.combine_with(today, |held, more| held.max(more))?;
@@ -57,8 +58,8 @@ where
     /// Takes in the pairs of `that`. At a key of both maps stands the value of `that`, under the
     /// key of this map.
     ///
-    /// All pairs are moved. It grows at most once, and not where both maps fit together. Refused,
-    /// it leaves this map as it was and drops `that`.
+    /// All pairs are moved. It grows at most once, as [`combine_with`](VecMap::combine_with) does.
+    /// Refused, it leaves this map as it was and drops `that`.
     pub fn merge_with<const M: usize>(&mut self, that: VecMap<K, V, M, A>) -> Result<(), AllocError>
         ensures joins { OnOk result (IsJoin K.cmp JoinKind.Outer left_spelling self.old that
             (Combines (λ v w x. x ≡ w)) MovedKey self.new) }

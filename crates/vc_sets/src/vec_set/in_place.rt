@@ -107,8 +107,9 @@ impl<T: Ord + MadeWith<A> + Drop, const N: usize, A: Allocator + Copy> VecSet<T,
     /// Adds the elements of the other set, which are moved. Of two equal elements the left one
     /// stays.
     ///
-    /// It grows at most once, and not where both sets fit together. It compares at most as often as
-    /// both sets have elements. Refused, it leaves this set as it was and drops the other one.
+    /// It grows at most once, and can't be refused where both sets fit together: then it grows only
+    /// if both are long and few places are left. It compares at most as often as both sets have
+    /// elements. Refused, it leaves this set as it was and drops the other one.
     pub fn bitor_assign<const M: usize>(&mut self, that: VecSet<T, M, A>) -> Result<(), AllocError>
         ensures union { OnOk result
             (IsSetOf T.cmp (λ x y. x ≡ y) (λ x y. x ≡ y) ◌||◌ self.old that self.new) }
@@ -120,8 +121,9 @@ impl<T: Ord + MadeWith<A> + Drop, const N: usize, A: Allocator + Copy> VecSet<T,
     /// Keeps what is in exactly one of the sets: drops what is in both, and moves in what is in the
     /// other set alone.
     ///
-    /// It grows at most once, and not where both sets fit together. It compares at most as often as
-    /// both sets have elements. Refused, it leaves this set as it was and drops the other one.
+    /// It grows at most once, and can't be refused where both sets fit together: then it grows only
+    /// if both are long and few places are left. It compares at most as often as both sets have
+    /// elements. Refused, it leaves this set as it was and drops the other one.
     pub fn bitxor_assign<const M: usize>(&mut self, that: VecSet<T, M, A>) -> Result<(), AllocError>
         ensures symmetric_difference { OnOk result
             (IsSetOf T.cmp (λ x y. x ≡ y) (λ x y. x ≡ y) exactly_one self.old that self.new) }
@@ -177,8 +179,9 @@ impl<T: Ord + MadeWith<A> + Drop, const N: usize, A: Allocator + Copy> VecSet<T,
 impl<T: Ord + Clone + MadeWith<A> + Drop, const N: usize, A: Allocator + Copy> VecSet<T, N, A> {
     /// Adds what is in the other set, as clones. Of two equal elements the left one stays.
     ///
-    /// It grows at most once, and not where both sets fit together. It compares at most as often as
-    /// both sets have elements. Refused there or at a clone, it leaves the set as it was.
+    /// It grows at most once, and can't be refused that where both sets fit together: then it grows
+    /// only if both are long and few places are left. It compares at most as often as both sets have
+    /// elements. Refused there or at a clone, it leaves the set as it was.
     ///
     /// ```
     /// tags.union_with(&more)?;
@@ -196,8 +199,9 @@ impl<T: Ord + Clone + MadeWith<A> + Drop, const N: usize, A: Allocator + Copy> V
     /// Keeps what is in exactly one of the sets: drops what is in both, and adds clones of what is
     /// in the other set alone.
     ///
-    /// It grows at most once, and not where both sets fit together. It compares at most as often as
-    /// both sets have elements. Refused there or at a clone, it leaves the set as it was.
+    /// It grows at most once, and can't be refused that where both sets fit together: then it grows
+    /// only if both are long and few places are left. It compares at most as often as both sets have
+    /// elements. Refused there or at a clone, it leaves the set as it was.
     pub fn xor_with<S: AbstractVecSet<T>>(&mut self, that: &S) -> Result<(), AllocError>
         requires clones { ClonesAreEqual T.cmp T.is_clone }
         ensures symmetric_difference { OnOk result
