@@ -14,7 +14,7 @@ mod lawful;
 pub mod macros;
 mod named;
 
-/// The engine of all operations on sorted lists: a merge of two ascending lists, event by event.
+/// The engine of operations on sets, maps and intervals: a merge of two ascending lists.
 pub mod merge {
     pub use vc_merge::merge::{
         Count, MergeFromRight, MergeOperation, MergeState, MergeStateMut, Steps, merge,
