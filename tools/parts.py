@@ -102,7 +102,7 @@ class Call:
 
 
 def calls_in(file):
-    """The calls that the lines of a file name, as `// refused: TYPE::CALL, CALL: WHAT STANDS BEHIND IT` and `// quiet: CALL: WHEN`."""
+    """The calls that the lines of a file name, as `// refused: TYPE::CALL, CALL: WHAT IS LEFT AFTER A REFUSAL` and `// quiet: CALL: WHEN`."""
     text = source(file)
     for line in LINE.finditer(text):
         indent, kind, told = line.groups()
