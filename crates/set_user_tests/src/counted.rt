@@ -1,5 +1,5 @@
-//! Comparisons by lengths: elements that count their own see no more than the bound, and a counted
-//! call counts each of them.
+//! Comparisons by lengths: elements that count their own see no more than the bound, a counted call
+//! counts each of them, and a call without a counter compares as often.
 
 use crate::compared::Compared;
 use crate::lengths::{LENGTHS, PLACES, Place};
@@ -110,39 +110,40 @@ fn taken(count: &Cell<u128>) -> u128 {
     count.replace(0)
 }
 
-/// Whether these are equal, and were made with no more comparisons than the bound.
-fn is_made_within<'s, 'a>(
+/// Whether these are equal, and were made with so many comparisons.
+fn is_made_by<'s, 'a>(
     made: Compareds<'a>,
     counted: &'s Compareds<'a>,
-    bound: u128,
+    comparisons: u128,
     count: &'a Cell<u128>,
 ) -> bool {
     let seen = taken(count);
     let is_same = made == *counted;
     // The test's own.
     count.set(0);
-    seen <= bound && is_same
+    seen == comparisons && is_same
 }
 
-/// Whether the operation without a counter makes the same, fresh and in place, and compares no more
-/// often than the bound.
+/// Whether the operation without a counter makes the same, fresh and in place, and compares as
+/// often as the one that counts.
 fn uncounted_agrees<'s, 'a>(
     a: &'s Compareds<'a>,
     b: &'s Compareds<'a>,
     op: SetOp,
     counted: &'s Compareds<'a>,
-    bound: u128,
+    comparisons: u128,
     count: &'a Cell<u128>,
 ) -> Result<bool, AllocError> {
     Ok(
-        is_made_within(fresh(a, b, op)?, counted, bound, count)
-            && is_made_within(in_place(a, b, op)?, counted, bound, count)
-            && is_made_within(by_value(a, b, op)?, counted, bound, count),
+        is_made_by(fresh(a, b, op)?, counted, comparisons, count)
+            && is_made_by(a.combine(b, op)?, counted, comparisons, count)
+            && is_made_by(in_place(a, b, op)?, counted, comparisons, count)
+            && is_made_by(by_value(a, b, op)?, counted, comparisons, count),
     )
 }
 
-/// Whether the operation compares as often as it counts, at most so often, and no more often where
-/// it counts none, fresh and in place. Where both sets have elements it compares.
+/// Whether the operation compares as often as it counts, at most so often, and as often where it
+/// counts none, fresh and in place. Where both sets have elements it compares.
 fn operation_agrees<'s, 'a>(
     a: &'s Compareds<'a>,
     b: &'s Compareds<'a>,
@@ -155,11 +156,11 @@ fn operation_agrees<'s, 'a>(
     let counted = a.combine_counted(b, op, &mut steps)?;
     let seen = taken(count);
     let is_counted = steps.count() == seen && seen <= bound && (seen == 0) == (bound == 0);
-    Ok(is_counted && uncounted_agrees(a, b, op, &counted, bound, count)?)
+    Ok(is_counted && uncounted_agrees(a, b, op, &counted, seen, count)?)
 }
 
-/// Whether the test compares as often as it counts, at most so often, and no more often where it
-/// counts none.
+/// Whether the test compares as often as it counts, at most so often, and as often where it counts
+/// none.
 fn test_agrees<'s, 'a>(
     a: &'s Compareds<'a>,
     b: &'s Compareds<'a>,
@@ -172,7 +173,7 @@ fn test_agrees<'s, 'a>(
     let answer = a.test_counted(b, test, &mut steps);
     let seen = taken(count);
     let same = holds(a, b, test) == answer;
-    steps.count() == seen && seen <= bound && taken(count) <= bound && same
+    steps.count() == seen && seen <= bound && taken(count) == seen && same
 }
 
 /// The calls that are counted.

@@ -1,7 +1,11 @@
 //! The lengths of lists by which comparisons are counted, and the numbers of such lists.
 
 /// The lengths of a short list and a long one, and the most comparisons of an operation on them.
-pub const LENGTHS: [(u32, u32, u128); 11] = [
+///
+/// With the places below they lead a merge each way that it can go: searches in the longer list, by
+/// strides of one element and more; single events, in one block and in several; runs, from the
+/// first element on and after blocks of one list alone.
+pub const LENGTHS: [(u32, u32, u128); 17] = [
     (0, 5, 0),
     (1, 1, 1),
     (1, 3, 2),
@@ -13,6 +17,12 @@ pub const LENGTHS: [(u32, u32, u128); 11] = [
     (5, 16, 21),
     (7, 12, 19),
     (8, 8, 16),
+    (20, 2500, 240),
+    (40, 45, 85),
+    (100, 400, 500),
+    (100, 1300, 1100),
+    (150, 1300, 1450),
+    (200, 300, 500),
 ];
 
 /// The lengths of lists, and the most comparisons of a look-up there: less than `1.5 * log2(n) +
@@ -50,10 +60,18 @@ pub enum Place {
     Among,
     /// All are greater.
     Behind,
+    /// All are in its second half, by turns one of them and between two of them.
+    Late,
 }
 
 /// Each place once.
-pub const PLACES: [Place; 4] = [Place::Before, Place::Between, Place::Among, Place::Behind];
+pub const PLACES: [Place; 5] = [
+    Place::Before,
+    Place::Between,
+    Place::Among,
+    Place::Behind,
+    Place::Late,
+];
 
 impl Place {
     /// The number at that index of a list of `few` numbers, beside one of `many`.
@@ -65,6 +83,15 @@ impl Place {
             Place::Between => even.saturating_add(1),
             Place::Among => even,
             Place::Behind => index.saturating_add(END),
+            Place::Late => late(index, few, many),
         }
     }
+}
+
+/// The number at that index of a list that lies late in one of `many`.
+fn late(index: u32, few: u32, many: u32) -> u32 {
+    let step = (many / 2 / few.max(1)).max(1).saturating_mul(2);
+    let even = index.saturating_mul(step).saturating_add(FIRST);
+    even.saturating_add((many / 2).saturating_mul(2))
+        .saturating_add(index % 2)
 }

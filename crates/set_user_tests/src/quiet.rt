@@ -13,7 +13,7 @@ use std::test::Fail;
 use vc_merge::iterators::ascends;
 use vc_merge::merge::Steps;
 use vc_sets::borrowed::Borrowed;
-use vc_sets::vec_set::{AbstractVecSet, SetTest, VecSet};
+use vc_sets::vec_set::{AbstractVecSet, SetOp, SetTest, VecSet};
 
 /// A set of numbers, of which two stand in place.
 type Numbers<'a> = VecSet<u32, 2, &'a Nth<Global>>;
@@ -51,6 +51,8 @@ enum Take {
     IntoVec,
     AndAssign,
     MinusAssign,
+    Intersect,
+    Subtract,
 }
 
 /// Calls that take no memory.
@@ -71,7 +73,7 @@ const READS: [Call; 6] = [
 ];
 
 /// Calls that change a set by another one.
-const MEETINGS: [Call; 7] = [
+const MEETINGS: [Call; 9] = [
     Call::Change(Change::InsertKnown),
     Call::Change(Change::IntersectionWith),
     Call::Change(Change::DifferenceWith),
@@ -79,6 +81,8 @@ const MEETINGS: [Call; 7] = [
     Call::Change(Change::MinusAssignReference),
     Call::Take(Take::AndAssign),
     Call::Take(Take::MinusAssign),
+    Call::Take(Take::Intersect),
+    Call::Take(Take::Subtract),
 ];
 
 const REMOVALS: [Call; 2] = [Call::Change(Change::Remove), Call::Change(Change::Retain)];
@@ -149,6 +153,8 @@ impl Take {
             Take::IntoVec => into_vec(left),
             Take::AndAssign => left &= right,
             Take::MinusAssign => left -= right,
+            Take::Intersect => combine_with(left, right, SetOp::Intersection),
+            Take::Subtract => combine_with(left, right, SetOp::Difference),
         }
     }
 }
@@ -189,6 +195,12 @@ fn test<'s, 'a>(left: &'s Numbers<'a>, right: &'s Numbers<'a>) {
 fn compare<'s, 'a>(left: &'s Numbers<'a>, right: &'s Numbers<'a>) {
     // quiet: VecSet::cmp, eq, partial_cmp
     let _answers = (left == right, left.cmp(right), left.partial_cmp(right));
+}
+
+/// Puts what an operation makes of two sets in the place of the left one.
+fn combine_with<'a>(mut left: Numbers<'a>, right: Numbers<'a>, op: SetOp) {
+    // quiet: VecSet::combine_with: where it can't be refused
+    let _always = left.combine_with(right, op);
 }
 
 /// Tests two sets with a counter.

@@ -11,3 +11,4 @@ pub mod Removing
 pub mod ByForm
 pub mod Shorter
 mod ByHeads
+pub mod Collected

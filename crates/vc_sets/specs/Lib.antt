@@ -5,4 +5,5 @@ pub mod Select
 pub mod Laws
 pub mod Iterating
 pub mod Borrowed
+pub mod Collecting
 pub mod EqualClones

@@ -1,5 +1,5 @@
 //! `VecSet`, a small set as an ascending list.
-ghost use Rattle.std.specs.Prelude.{◌≡◌, ◌<◌, ◌-◌, ◌||◌, ◌↔◌, [], ◌==◌, List, not, cond, Some, filter, length, slice_get, IfOk, IsOk, OnErr, IsTrue};
+ghost use Rattle.std.specs.Prelude.{◌≡◌, ◌<◌, ◌≤◌, ◌-◌, ◌||◌, ◌↔◌, [], ◌==◌, List, not, cond, Some, filter, length, slice_get, IfOk, IsOk, OnErr, IsTrue};
 ghost use Rattle.std.specs.BTreeMap.Range.{range_contains};
 ghost use Rattle.std.specs.Option.{option_copied};
 ghost use Rattle.std.specs.Ordering.{eq_by_cmp};
@@ -11,6 +11,7 @@ ghost use Rattle.vc_sets.specs.Tests.{IsDisjoint, IsSubset};
 
 mod algebra;
 mod borrowed;
+mod collecting;
 mod comparisons;
 pub mod conversions;
 mod in_place;
@@ -103,7 +104,8 @@ impl<T: Ord + MadeWith<A> + Drop, const N: usize, A: Allocator + Copy> VecSet<T,
     #[inline(always)]
     pub fn from_vec(alloc: A, vec: Vec<T>) -> Result<Self, AllocError>
         requires { Ascends T.cmp vec.items }
-        ensures { IfOk result (λ s. s ≡ vec.items) }
+        ensures elements { IfOk result (λ s. s ≡ vec.items) }
+        ensures room { length vec.items ≤ N → IsOk result }
     {
         if vec.len() > N {
             let elements = SmallVec::from_vec(moved(alloc, vec)?);

@@ -211,6 +211,26 @@ impl<T: Ord + Clone + MadeWith<A>, const N: usize, A: Allocator + Copy> VecSet<T
         difference(*self.elements.allocator(), self, that)
     }
 
+    /// The operation `op` of the two sets, as clones, with the allocator of this set. Of two equal
+    /// elements the left one is kept.
+    ///
+    /// It grows and compares as the method of that operation does. Refused at a growth or a clone,
+    /// it drops what it built.
+    ///
+    /// ```
+    /// let both = ours.combine(&theirs, SetOp::Intersection)?;
+    /// assert!(rt; both.is_subset(&ours) && both.is_subset(&theirs));
+    /// ```
+    pub fn combine<S: AbstractVecSet<T>>(&self, that: &S, op: SetOp) -> Result<Self, AllocError>
+        requires clones { ClonesAreEqual T.cmp T.is_clone }
+        ensures combined { IfOk result
+            (IsSetOf T.cmp T.is_clone T.is_clone (made_by op) self.now (S.elements that.now)) }
+    {
+        let alloc = *self.elements.allocator();
+        let elements = combine(alloc, self.as_ref(), that.as_slice(), op, &mut Uncounted)?;
+        Ok(VecSet { elements })
+    }
+
     /// The operation `op` of the two sets, as clones, with its comparisons added to `steps`: at
     /// most as many as both sets have elements, and at most as many for each element of the shorter
     /// one as the length of the longer one has binary digits. Of two equal elements the left one is

@@ -1,10 +1,11 @@
 //! Sets from elements and lists, and lists from sets.
-ghost use Rattle.std.specs.Prelude.{◌≡◌, ◌≤◌, [], ◌∷◌, IsOk, IfOk, reverse};
+ghost use Rattle.std.specs.Prelude.{◌≡◌, ◌≤◌, [], ◌∷◌, length, reverse, IsOk, IfOk, OnErr, OnOk};
 ghost use Rattle.std.specs.Iterator.{Drains, IsFinite};
 ghost use Rattle.std.specs.Iterator.Runs.{WholeRun};
 ghost use Rattle.std.specs.List.{AllZip};
 ghost use Rattle.vc_merge.specs.Ascending.{Ascends, element_at, member};
 ghost use Rattle.vc_merge.specs.Clones.{ClonesAreEqual};
+ghost use Rattle.vc_sets.specs.Collecting.{GivesMoreThan};
 
 use super::VecSet;
 use crate::cloning::ClonesEqual;
@@ -36,6 +37,27 @@ fn in_order<T: Ord + Drop>(vec: Vec<T>) -> Result<Vec<T>, AllocError>
     // A stable sort leaves what was the last of equal elements in front of the others.
     list.sort()?;
     list.dedup();
+    Ok(list)
+}
+
+/// The list of the items of an iterator that ends. The items are moved.
+///
+/// Takes memory where there are more than `N`; refused, it drops the items that came and the
+/// iterator.
+pub fn list_of_items<
+    T: MadeWith<A> + Drop,
+    I: Iterator<Item = T>,
+    const N: usize,
+    A: Allocator + Copy,
+>(alloc: A, iter: I) -> Result<SmallVec<T, N, A>, AllocError>
+    requires can { I.can_next iter }
+    requires ends { IsFinite (I.remaining iter) }
+    ensures items { IfOk result (λ list. Drains I.next_gives iter list.items) }
+    ensures runs { IfOk result (λ list. WholeRun I.next_gives iter (λ p. list.items ≡ p.items)) }
+    ensures room { OnErr result (GivesMoreThan I.next_gives N iter) }
+{
+    let mut list = SmallVec::new(alloc);
+    list.extend(iter)?;
     Ok(list)
 }
 
@@ -73,8 +95,11 @@ impl<T: Ord + MadeWith<A> + Drop, const N: usize, A: Allocator + Copy> VecSet<T,
         requires sorted { I.is_sorted iter }
         ensures items { IfOk result (λ s. Drains I.next_gives iter s) }
         ensures runs { IfOk result (λ s. WholeRun I.next_gives iter (λ p. s ≡ p.items)) }
+
+        // It is refused only where more than `N` items come.
+        ensures room { OnErr result (GivesMoreThan I.next_gives N iter) }
     {
-        let elements = iter.collect(alloc)?;
+        let elements = list_of_items(alloc, iter)?;
         Ok(VecSet { elements })
     }
 
@@ -82,7 +107,8 @@ impl<T: Ord + MadeWith<A> + Drop, const N: usize, A: Allocator + Copy> VecSet<T,
     ///
     /// Takes memory where there are more than `N`; refused, it drops the elements.
     pub fn from_btree_set(alloc: A, set: BTreeSet<T>) -> Result<Self, AllocError>
-        ensures { IfOk result (λ s. s ≡ set.keys) }
+        ensures elements { IfOk result (λ s. s ≡ set.keys) }
+        ensures room { length set.keys ≤ N → IsOk result }
     {
         Self::from_iter(alloc, set.into_iter())
     }

@@ -1,15 +1,16 @@
 //! The set operations in place. Elements of the left set are moved and never cloned; of two equal
 //! elements the left one itself is kept.
-ghost use Rattle.std.specs.Prelude.{◌≡◌, ◌+◌, ◌≤◌, ◌||◌, ◌&&◌, false, true, not, take, drop, length, List, OnErr, OnOk};
+ghost use Rattle.std.specs.Prelude.{◌≡◌, ◌+◌, ◌≤◌, ◌||◌, ◌&&◌, false, true, not, take, drop, length, List, IsFalse, IsOk, OnErr, OnOk};
 ghost use Rattle.std.specs.Iterator.{Drains, IsFinite};
 ghost use Rattle.std.specs.Iterator.Runs.{WholeRun};
 ghost use Rattle.vc_merge.specs.Ascending.{Ascends};
 ghost use Rattle.vc_merge.specs.Clones.{ClonesAreEqual};
 ghost use Rattle.vc_sets.specs.SetOf.{IsSetOf, and_not, exactly_one};
+ghost use Rattle.vc_sets.specs.Algebra.{made_by};
 ghost use Rattle.vc_sets.specs.Select.{keeps};
 
 use crate::operations::{EitherOp, LeftOp};
-use crate::vec_set::{AbstractVecSet, VecSet};
+use crate::vec_set::{AbstractVecSet, SetOp, VecSet};
 use smallvec::SmallVec;
 use std::alloc::{AllocError, Allocator};
 use std::default::MadeWith;
@@ -64,6 +65,7 @@ fn absorb<
     requires right_ascends { Ascends T.cmp that.items }
     ensures ok { OnOk result (IsSetOf T.cmp (λ x y. x ≡ y) (λ x y. x ≡ y) (keeps true true BOTH)
         list.old.items that.items list.new.items) }
+    ensures room { length list.old.items + length that.items ≤ N → IsOk result }
     ensures err { OnErr result (list.new.items ≡ list.old.items) }
 {
     let end = list.len();
@@ -113,6 +115,7 @@ impl<T: Ord + MadeWith<A> + Drop, const N: usize, A: Allocator + Copy> VecSet<T,
     pub fn bitor_assign<const M: usize>(&mut self, that: VecSet<T, M, A>) -> Result<(), AllocError>
         ensures union { OnOk result
             (IsSetOf T.cmp (λ x y. x ≡ y) (λ x y. x ≡ y) ◌||◌ self.old that self.new) }
+        ensures room { length self.old + length that ≤ N → IsOk result }
         ensures err { OnErr result (self.new ≡ self.old) }
     {
         absorb::<true, _, _, _, _>(&mut self.elements, that.into_inner())
@@ -127,9 +130,39 @@ impl<T: Ord + MadeWith<A> + Drop, const N: usize, A: Allocator + Copy> VecSet<T,
     pub fn bitxor_assign<const M: usize>(&mut self, that: VecSet<T, M, A>) -> Result<(), AllocError>
         ensures symmetric_difference { OnOk result
             (IsSetOf T.cmp (λ x y. x ≡ y) (λ x y. x ≡ y) exactly_one self.old that self.new) }
+        ensures room { length self.old + length that ≤ N → IsOk result }
         ensures err { OnErr result (self.new ≡ self.old) }
     {
         absorb::<false, _, _, _, _>(&mut self.elements, that.into_inner())
+    }
+
+    /// Puts what `op` makes of the two sets in the place of this one. What stays is moved; of two
+    /// equal elements the left one stays.
+    ///
+    /// A union or a symmetric difference grows as [`bitor_assign`](VecSet::bitor_assign) does. The
+    /// other two take no memory. It compares at most as often as both sets have elements. Refused,
+    /// it leaves this set as it was and drops the other one.
+    ///
+    /// ```
+    /// tags.combine_with(retired, SetOp::Difference)?;
+    /// ```
+    pub fn combine_with<const M: usize>(
+        &mut self,
+        that: VecSet<T, M, A>,
+        op: SetOp,
+    ) -> Result<(), AllocError>
+        ensures combined { OnOk result
+            (IsSetOf T.cmp (λ x y. x ≡ y) (λ x y. x ≡ y) (made_by op) self.old that self.new) }
+        ensures succeeds { IsFalse (made_by op false true) → IsOk result }
+        ensures err { OnErr result (self.new ≡ self.old) }
+    {
+        match op {
+            SetOp::Union => self.bitor_assign(that)?,
+            SetOp::Intersection => *self &= that,
+            SetOp::SymmetricDifference => self.bitxor_assign(that)?,
+            SetOp::Difference => *self -= that,
+        }
+        Ok(())
     }
 
     /// Adds the items of an iterator that ascends strictly and ends, which are moved. Of two equal

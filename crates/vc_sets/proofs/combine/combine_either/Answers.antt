@@ -1,4 +1,4 @@
-use Rattle.std.proofs.Common.{true, refl, ap, arith}
+use Rattle.std.proofs.Common.{true, ap, arith}
 use Rattle.vc_merge.specs.ChoosingViews.{built_items, list_name, right_items}
 use Rattle.vc_merge.proofs.Builds.{advances-adds}
 use Rattle.vc_merge.proofs.Clones.{clone-equal}

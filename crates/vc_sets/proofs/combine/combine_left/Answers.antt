@@ -1,4 +1,4 @@
-use Rattle.std.proofs.Common.{false, refl, ap, take, ◌∙◌, arith}
+use Rattle.std.proofs.Common.{false, ap, take, ◌∙◌, arith}
 use Rattle.vc_merge.specs.ChoosingViews.{built_items, list_name, right_items}
 use Rattle.vc_merge.proofs.Builds.{skips-adds}
 use Rattle.vc_merge.proofs.Clones.{clone-equal}

@@ -12,10 +12,10 @@ returns-clause-members g c =
     if-made (λ s. (x : g.row.T.Denot) → member cmp s x ≡ member cmp vec x) _
     (λ x. member-is_some cmp _ x ∙ ap is_some (c.in_ok-in_order.ensures.kept x) ∙ sym (member-is_some cmp (reverse vec) x)
     ∙ sym (list_any-IsPermutation (λ y. eq_by_cmp cmp y x) vec (reverse vec) (IsPermutation-reverse vec)))
-    c.from_vec.result c.from_vec.ensures
+    c.from_vec.result c.from_vec.ensures.elements
 
 pub returns-clause-kept : goal.returns-clause-kept
 returns-clause-kept g c =
     let cmp = g.T.Ord.cmp in
     if-made (λ s. (x : g.row.T.Denot) → element_at cmp s x ≡ element_at cmp (reverse c.args.vec.items) x) _
-    c.in_ok-in_order.ensures.kept c.from_vec.result c.from_vec.ensures
+    c.in_ok-in_order.ensures.kept c.from_vec.result c.from_vec.ensures.elements
