@@ -1,5 +1,5 @@
-//! Comparisons of joins by lengths: keys that count their own see no more than the bound, and a
-//! counted join counts each of them.
+//! Comparisons of joins by lengths: keys that count their own see no more than the bound, a counted
+//! join counts each of them, and one without a counter compares as often.
 
 use super::outcomes::holds;
 use set_user_tests::compared::Compared;
@@ -130,8 +130,8 @@ enum Form {
     InPlace,
 }
 
-/// Whether the join compares as often as it counts and at most so often, and what it made. Where
-/// both maps have keys it compares.
+/// How often the join compares, where it counts that and it is at most so often, and what it made.
+/// Where both maps have keys it compares.
 fn counted_agrees<'s, 'a>(
     form: Form,
     kind: JoinKind,
@@ -139,7 +139,7 @@ fn counted_agrees<'s, 'a>(
     b: &'s Map<'a>,
     bound: u128,
     count: &'a Cell<u128>,
-) -> Result<(bool, Map<'a>), AllocError> {
+) -> Result<(Option<u128>, Map<'a>), AllocError> {
     let mut steps = Steps::new();
     count.set(0);
     let made = match form {
@@ -148,11 +148,11 @@ fn counted_agrees<'s, 'a>(
     };
     let seen = count.get();
     let agrees = steps.count() == seen && seen <= bound && (seen == 0) == (bound == 0);
-    Ok((agrees, made))
+    Ok((agrees.then_some(seen), made))
 }
 
-/// Whether the join compares as often as it counts, and at most so often with a counter and
-/// without, and makes the same.
+/// Whether the join compares as often as it counts, at most so often, and as often without a
+/// counter, and makes the same.
 fn agrees<'s, 'a>(
     alloc: Global,
     form: Form,
@@ -162,13 +162,13 @@ fn agrees<'s, 'a>(
     bound: u128,
     count: &'a Cell<u128>,
 ) -> Result<bool, AllocError> {
-    let (is_counted, counted) = counted_agrees(form, kind, a, b, bound, count)?;
+    let (comparisons, counted) = counted_agrees(form, kind, a, b, bound, count)?;
     count.set(0);
     let made = match form {
         Form::Fresh => fresh(alloc, kind, a, b)?,
         Form::InPlace => in_place(kind, a, b)?,
     };
-    Ok(is_counted && count.get() <= bound && made == counted)
+    Ok(comparisons == Some(count.get()) && made == counted)
 }
 
 /// Whether that holds of each join of two maps.

@@ -120,11 +120,11 @@ fn are_compared(alloc: Global) -> Result<bool, AllocError> {
     Ok(compares(&single, &map, &same))
 }
 
-/// Whether a map is printed as its pairs.
+/// Whether a map is printed as the set of its pairs.
 fn is_printed(alloc: Global) -> Result<bool, AllocError> {
     let map = of_list(alloc)?;
     let text = format!(in alloc; "{map:?}")?;
-    Ok(text.as_str() == "{1: 2, 2: 4, 3: 6}")
+    Ok(text.as_str() == "{(1, 2), (2, 4), (3, 6)}")
 }
 
 #[test]

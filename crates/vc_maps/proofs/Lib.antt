@@ -12,3 +12,6 @@ pub mod PairSets
 pub mod Retaining
 pub mod Unsorted
 pub mod Written
+pub mod Collected
+pub mod Upserted
+pub mod WrittenBy

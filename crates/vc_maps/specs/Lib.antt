@@ -1,5 +1,6 @@
 pub mod Asking
 pub mod Borrowed
+pub mod Collecting
 pub mod CombineViews
 pub mod Combining
 pub mod FreshViews
@@ -8,4 +9,5 @@ pub mod Keeping
 pub mod KeptViews
 pub mod Lending
 pub mod Mapping
+pub mod Updating
 pub mod Writing

@@ -1,5 +1,5 @@
 //! Maps that take in another one whole: the pairs of both are moved, and nothing is cloned.
-ghost use Rattle.std.specs.Prelude.{◌≡◌, ◌≤◌, [], ◌∷◌, ◌++◌, Some, IfOk, IsOk, OnOk, OnErr, length, take, drop};
+ghost use Rattle.std.specs.Prelude.{◌≡◌, ◌+◌, ◌≤◌, [], ◌∷◌, ◌++◌, Some, IfOk, IsOk, OnOk, OnErr, length, take, drop};
 ghost use Rattle.vc_joins.specs.declared.question.OuterJoinArg.TheVariants as arg;
 ghost use Rattle.vc_joins.specs.Entries.{AscendsByKey};
 ghost use Rattle.vc_joins.specs.Events.{AnswerAdds};
@@ -245,6 +245,7 @@ pub fn append_behind<T: MadeWith<A> + Drop, const N: usize, const M: usize, A: A
         (λ next. (length list.old.items ≤ next) × (next ≤ length list.new.items)) }
     ensures front { OnOk result (take (length list.old.items) list.new.items ≡ list.old.items) }
     ensures behind { IfOk result (λ next. drop next list.new.items ≡ that.items) }
+    ensures room { length list.old.items + length that.items ≤ N → IsOk result }
     ensures err { OnErr result (list.new.items ≡ list.old.items) }
 {
     open_gap(list, that.len())?;

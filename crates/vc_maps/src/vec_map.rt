@@ -13,6 +13,7 @@ ghost use Rattle.vc_merge.specs.Showing.{ShowsBothWays, ShowsItems};
 
 mod borrowed;
 mod changes;
+mod collecting;
 mod combining;
 mod comparisons;
 pub mod conversions;
@@ -22,6 +23,7 @@ mod joins;
 mod mapping;
 mod ordered;
 mod removal;
+mod updating;
 mod writing;
 
 pub use crate::fresh::join_asking;
@@ -277,7 +279,8 @@ pub trait AbstractVecMap<K: Ord, V> {
 
     /// The pairs in ascending order of their keys, by reference. Takes no memory.
     fn iter(&self) -> VecMapIter<slice::Iter<'_, (K, V)>>
-        ensures { ShowsItems (pairs self.now) result }
+        ensures items { ShowsItems (pairs self.now) result }
+        ensures ascends { AscendsByKey K.cmp (pairs self.now) }
     {
         vec_map_iter_of(self.as_slice())
     }

@@ -1,6 +1,8 @@
 //! Look-ups and removals by a borrowed form of keys.
 ghost use Rattle.std.specs.Prelude.{◌≡◌, cond, None};
+ghost use Rattle.std.specs.Borrow.{sem};
 ghost use Rattle.std.specs.Map.{keys_of};
+ghost use Rattle.std.specs.Option.{option_copied_mut};
 ghost use Rattle.std.specs.Ordering.{is_eq};
 ghost use Rattle.std.specs.declared.cmp.Ordering.TheVariants.{Equal};
 ghost use Rattle.vc_joins.specs.Entries.{entry_at, value_at};
@@ -36,6 +38,36 @@ pub fn find_key_by<K: Ord, V, Q: Borrowed<K>>(pairs: &[(K, V)], sought: Q) -> Re
     ensures { IsPlace (λ p. Q.side sought p.0) pairs.now result }
 {
     look_up(pairs, &KeyForm(sought))
+}
+
+impl<K: Ord, V, const N: usize, A: Allocator> VecMap<K, V, N, A> {
+    ghost use Rattle.vc_maps.specs.Updating.{lends_value_by};
+
+    /// The value at the key that is equal to a borrowed form, to write through. What is written
+    /// stands in its place; the keys and all other values stay. Compares as often as `get`, and
+    /// takes no memory.
+    ///
+    /// ```
+    /// if let Some(age) = ages.get_mut_by(Some("ada")) {
+    ///     *age = 37;
+    /// }
+    /// ```
+    pub fn get_mut_by<Q: Borrowed<K>>(&mut self, sought: Q) -> Option<&mut V>
+        ensures* writes_back { sem 𝓛 (lends_value_by K.row V.row N.row A.row K.Ord A.Allocator self.entry (Q.side sought) result) }
+        ensures value { option_copied_mut result ≡ value_by (Q.side sought) self.old }
+
+        // It answers as `get_mut` does by any key that is equal to the form.
+        ensures equal { (k : K) → Q.side sought k ≡ Equal
+            → option_copied_mut result ≡ value_at K.cmp self.old k }
+    {
+        match find_key_by(self.pairs.as_slice(), sought) {
+            Ok(place) => match self.pairs.get_mut(place) {
+                Some((_, value)) => Some(value),
+                None => None,
+            },
+            Err(_) => None,
+        }
+    }
 }
 
 impl<K: Ord + Drop, V: Drop, const N: usize, A: Allocator + Copy> VecMap<K, V, N, A>

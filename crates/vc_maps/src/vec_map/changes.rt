@@ -1,11 +1,11 @@
 //! Pairs that go, and copies of a map.
-ghost use Rattle.std.specs.Prelude.{◌≡◌, [], IfOk};
+ghost use Rattle.std.specs.Prelude.{◌≡◌, [], filter, Bool, IfOk};
 ghost use Rattle.std.specs.Fn.{CalledAt};
 ghost use Rattle.std.specs.Iterator.{CallableOnAllAt, YieldsFirst};
 ghost use Rattle.std.specs.List.{AllZip};
 ghost use Rattle.std.specs.List.Retain.{IsFiltered};
 ghost use Rattle.vc_joins.specs.Entries.{entry_at};
-ghost use Rattle.vc_merge.specs.Retaining.{IsRetained};
+ghost use Rattle.vc_merge.specs.Retaining.{AnswersAs, IsRetained};
 ghost use Rattle.vc_merge.specs.Clones.{ClonesAreEqual};
 ghost use Rattle.vc_sets.specs.EqualClones.{lists_equal, pairs_equal};
 
@@ -29,6 +29,11 @@ where
         ensures filtered { IsFiltered (CalledAt F.FnMut) f self.old self.new }
         ensures entries { (k : K) → IsRetained (CalledAt F.FnMut) (entry_at K.cmp self.old k)
             (entry_at K.cmp self.new k) }
+
+        // By a plain test, which answers as a function does, all that passes stays, and nothing
+        // else.
+        ensures plain { (test : K × V → Bool) → AnswersAs (CalledAt F.FnMut) f test
+            → self.new ≡ filter test self.old }
     {
         let kept = keep_in_front(self.pairs.as_mut_slice(), f);
         self.pairs.truncate(kept);

@@ -1,5 +1,5 @@
 //! Maps that take in another one whole. The pairs of both are moved, and nothing is cloned.
-ghost use Rattle.std.specs.Prelude.{◌≡◌, List, OnErr, OnOk};
+ghost use Rattle.std.specs.Prelude.{◌≡◌, ◌+◌, ◌≤◌, List, length, IsOk, OnErr, OnOk};
 ghost use Rattle.std.specs.Iterator.{Drains, IsFinite};
 ghost use Rattle.std.specs.Iterator.Runs.{WholeRun};
 ghost use Rattle.std.specs.Option.{option_or};
@@ -45,6 +45,7 @@ where
             (Combines (λ v w x. F.post f v w x)) MovedKey self.new) }
         ensures function { OnOk result
             ((g : _) → IsCombinedBy K.cmp self.old that (λ v w x. F.post f v w x) g self.new) }
+        ensures room { length self.old + length that ≤ N → IsOk result }
         ensures err { OnErr result (self.new ≡ self.old) }
     {
         let alloc = *self.pairs.allocator();
@@ -66,6 +67,7 @@ where
         ensures values { OnOk result ((k : K)
             → value_at K.cmp self.new k
             ≡ option_or (value_at K.cmp that k) (value_at K.cmp self.old k)) }
+        ensures room { length self.old + length that ≤ N → IsOk result }
         ensures err { OnErr result (self.new ≡ self.old) }
     {
         let take_other = |_held: V, other: V| -> V

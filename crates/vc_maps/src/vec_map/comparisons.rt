@@ -76,14 +76,14 @@ impl<K: Ord + Hash, V: Hash, const N: usize, A: Allocator> Hash for VecMap<K, V,
     }
 }
 
-/// As a map, in ascending order of the keys: `{1: 'a', 2: 'b'}`.
+/// As a set of pairs, in ascending order of the keys: `{(1, 'a'), (2, 'b')}`.
 impl<K: Ord + fmt::Debug, V: fmt::Debug, const N: usize, A: Allocator> fmt::Debug
     for VecMap<K, V, N, A> {
     fn fmt<W: fmt::Write>(&self, f: &mut fmt::Formatter<W>) -> fmt::Result {
-        let mut map = f.debug_map();
-        for (key, value) in self.as_ref() {
-            map.entry(key, value);
+        let mut set = f.debug_set();
+        for pair in self.as_ref() {
+            set.entry(pair);
         }
-        map.finish()
+        set.finish()
     }
 }

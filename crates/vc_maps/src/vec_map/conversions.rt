@@ -1,8 +1,9 @@
 //! Maps from pairs and lists, and lists from maps.
-ghost use Rattle.std.specs.Prelude.{◌≡◌, ◌≤◌, [], ◌∷◌, IsOk, IfOk, reverse};
+ghost use Rattle.std.specs.Prelude.{◌≡◌, ◌≤◌, [], ◌∷◌, length, reverse, IsOk, IfOk, OnErr};
 ghost use Rattle.std.specs.Iterator.{Drains, IsFinite};
 ghost use Rattle.std.specs.Iterator.Runs.{WholeRun};
 ghost use Rattle.vc_joins.specs.Entries.{AscendsByKey, entry_at, value_at};
+ghost use Rattle.vc_sets.specs.Collecting.{GivesMoreThan};
 
 use super::VecMap;
 use smallvec::SmallVec;
@@ -11,7 +12,7 @@ use std::collections::BTreeMap;
 use std::default::MadeWith;
 use vc_merge::iterators::SortedByKey;
 use vc_sets::vec_set::VecSet;
-use vc_sets::vec_set::conversions::set_of_list;
+use vc_sets::vec_set::conversions::{list_of_items, set_of_list};
 
 /// The map of a list whose keys ascend strictly. Takes no memory.
 pub fn map_of_list<K: Ord, V, const N: usize, A: Allocator>(
@@ -54,6 +55,16 @@ impl<K: Ord + Drop, V: Drop, const N: usize, A: Allocator + Copy> VecMap<K, V, N
 where
     (K, V): MadeWith<A>,
 {
+    /// The pairs in ascending order of their keys, as a `Vec`.
+    ///
+    /// Takes memory where they stand in place; refused, it drops them.
+    pub fn into_vec(self) -> Result<Vec<(K, V), A>, AllocError>
+        ensures pairs { IfOk result (λ v. v.items ≡ self) }
+        ensures ascends { AscendsByKey K.cmp self }
+    {
+        Ok(self.pairs.into_vec()?)
+    }
+
     /// The map of one pair. Takes memory only where `N` is 0; refused, it drops the pair.
     pub fn single(alloc: A, item: (K, V)) -> Result<Self, AllocError>
         ensures pair { IfOk result (λ m. m ≡ item ∷ []) }
@@ -70,9 +81,10 @@ where
     /// Takes memory where there are more than `N`; refused, it drops the pairs.
     pub fn from_vec(alloc: A, vec: Vec<(K, V)>) -> Result<Self, AllocError>
         requires { AscendsByKey K.cmp vec.items }
-        ensures { IfOk result (λ m. m ≡ vec.items) }
+        ensures pairs { IfOk result (λ m. m ≡ vec.items) }
+        ensures room { length vec.items ≤ N → IsOk result }
     {
-        let pairs = vec.into_iter().collect(alloc)?;
+        let pairs = list_of_items(alloc, vec.into_iter())?;
         Ok(VecMap { pairs })
     }
 
@@ -111,8 +123,11 @@ where
         requires sorted { I.is_sorted_by_key iter }
         ensures items { IfOk result (λ m. Drains I.next_gives iter m) }
         ensures runs { IfOk result (λ m. WholeRun I.next_gives iter (λ p. m ≡ p.items)) }
+
+        // It is refused only where more than `N` items come.
+        ensures room { OnErr result (GivesMoreThan I.next_gives N iter) }
     {
-        let pairs = iter.collect(alloc)?;
+        let pairs = list_of_items(alloc, iter)?;
         Ok(VecMap { pairs })
     }
 
@@ -120,7 +135,8 @@ where
     ///
     /// Takes memory where there are more than `N`; refused, it drops the pairs.
     pub fn from_btree_map(alloc: A, map: BTreeMap<K, V>) -> Result<Self, AllocError>
-        ensures { IfOk result (λ m. m ≡ map.entries) }
+        ensures pairs { IfOk result (λ m. m ≡ map.entries) }
+        ensures room { length map.entries ≤ N → IsOk result }
     {
         Self::from_iter(alloc, map.into_iter())
     }

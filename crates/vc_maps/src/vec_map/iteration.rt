@@ -1,6 +1,6 @@
 //! Iteration over the pairs of a map, by reference and by value.
 ghost use Rattle.vc_joins.specs.Entries.{AscendsByKey};
-ghost use Rattle.vc_maps.specs.Iterating.{HandsPairs};
+ghost use Rattle.vc_maps.specs.Iterating.{HandsPairs, ShowsPairs};
 ghost use Rattle.vc_merge.specs.Showing.{ShowsItems};
 
 use super::VecMap;
@@ -12,7 +12,8 @@ use vc_merge::iterators::{VecMapIter, vec_map_iter, vec_map_iter_of};
 impl<K: Ord, V, const N: usize, A: Allocator> VecMap<K, V, N, A> {
     /// The pairs in ascending order of their keys, by reference. Takes no memory.
     pub fn iter(&self) -> VecMapIter<slice::Iter<'_, (K, V)>>
-        ensures { ShowsItems self.now result }
+        ensures items { ShowsItems self.now result }
+        ensures ascends { AscendsByKey K.cmp self.now }
     {
         vec_map_iter_of(self.as_ref())
     }
@@ -24,7 +25,7 @@ impl<'a, K: Ord, V, const N: usize, A: Allocator> IntoIterator for &'a VecMap<K,
 
     type IntoIter = VecMapIter<slice::Iter<'a, (K, V)>>;
 
-    ghost into_iter_gives = { λ m it. ShowsItems m.now it };
+    ghost into_iter_gives = { λ m it. ShowsPairs K.cmp m.now it };
 
     fn into_iter(self) -> VecMapIter<slice::Iter<'a, (K, V)>> {
         self.iter()

@@ -7,10 +7,10 @@ pub returns-clause-values : goal.returns-clause-values
 returns-clause-values g c =
     let cmp = g.K.Ord.cmp in
     if-made (λ m. (k : g.row.K.Denot) → value_at cmp m k ≡ value_at cmp (reverse c.args.vec.items) k) _
-    c.in_ok-in_order.ensures.values c.from_vec.result c.from_vec.ensures
+    c.in_ok-in_order.ensures.values c.from_vec.result c.from_vec.ensures.pairs
 
 pub returns-clause-entries : goal.returns-clause-entries
 returns-clause-entries g c =
     let cmp = g.K.Ord.cmp in
     if-made (λ m. (k : g.row.K.Denot) → entry_at cmp m k ≡ entry_at cmp (reverse c.args.vec.items) k) _
-    c.in_ok-in_order.ensures.entries c.from_vec.result c.from_vec.ensures
+    c.in_ok-in_order.ensures.entries c.from_vec.result c.from_vec.ensures.pairs

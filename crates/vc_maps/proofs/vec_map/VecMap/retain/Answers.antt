@@ -1,4 +1,5 @@
 use Rattle.std.proofs.Common.{◌∙◌, length, ap}
+use Rattle.std.proofs.lemmas.Fn.{filter_same}
 use Rattle.std.specs.Fn.{CalledAt}
 use Rattle.vc_merge.proofs.Keeping.{front-refilled}
 use Rattle.vc_maps.proofs.Retaining.{chosen-ascends, entries-asked}
@@ -28,3 +29,6 @@ pub returns-clause-entries : goal.returns-clause-entries
 returns-clause-entries g c =
     entries-asked g.K.Ord.cmp g.met.K.Ord.total (CalledAt g.F.FnMut) c.args.f _ _
     (rw c.self.view_is at c.self.invariant) (returns-clause-filtered g c)
+
+pub returns-clause-plain : goal.returns-clause-plain
+returns-clause-plain g c = λ test h. filter_same (CalledAt g.F.FnMut) test c.args.f h _ _ (returns-clause-filtered g c)

@@ -1,0 +1,39 @@
+-- The list is what its slice was sorted to, without what repeats.
+use Rattle.std.proofs.Common.{length, reverse, ap, rules, ◌∙◌}
+use Rattle.std.proofs.lemmas.Cmp.{on_total}
+use Rattle.std.proofs.lemmas.Fn.{always_returns_same, dedup_same}
+use Rattle.std.proofs.lemmas.List.Kept.{IsStrictlySortedBy-dedup}
+use Rattle.std.proofs.lemmas.List.Sorted.{ranks_by}
+use Rattle.std.specs.List.{dedup}
+use Rattle.std.specs.Ordering.{is_lt}
+use Rattle.smallvec.proofs.SmallVecLemmas.{items-with_items}
+use Rattle.vc_joins.specs.Entries.{entry_at}
+use Rattle.vc_merge.specs.Yielded.{by_first, keys-ascend}
+use Rattle.vc_maps.proofs.Unsorted.{entry-unordered}
+use Rattle.vc_maps.proofs.vec_map.collecting.put_in_order.Goals as goal
+
+pub returns-clause-ascends : goal.returns-clause-ascends
+returns-clause-ascends g c =
+    let cmp = g.K.Ord.cmp in
+    let whole = items-with_items (record { items = c.args.list.now.items; capacity = 0 }) c.sort_by.new.self
+    (c.sort_by.ensures.len ∙ c.reverse.ensures.len ∙ ap length c.as_mut_slice-pairs.ensures.value) in
+    let lost = dedup_same _ (λ x y. g.K.PartialEq.eq x.0 y.0) _
+    (λ x y b f' x' y' k. search rules) _ _ c.dedup_by.ensures.filtered in
+    rw (lost ∙ ap (dedup (λ x y. g.K.PartialEq.eq x.0 y.0)) whole)
+    (keys-ascend cmp _
+    (IsStrictlySortedBy-dedup {R = by_first cmp} (on_total (λ q. q.0) g.met.K.Ord.total) (λ x y. g.met.K.Ord.matches_eq x.0 y.0) _
+    (c.in_ok-sort_by.ensures.sorted (λ x y. is_lt (cmp x.0 y.0)) (ranks_by g.met.K.Ord.total (λ e. e.0))
+    (always_returns_same _ _ _ (λ a r f' k. search rules)))))
+
+pub returns-clause-entries : goal.returns-clause-entries
+returns-clause-entries g c = λ k.
+    let cmp = g.K.Ord.cmp in
+    let whole = items-with_items (record { items = c.args.list.now.items; capacity = 0 }) c.sort_by.new.self
+    (c.sort_by.ensures.len ∙ c.reverse.ensures.len ∙ ap length c.as_mut_slice-pairs.ensures.value) in
+    let lost = dedup_same _ (λ x y. g.K.PartialEq.eq x.0 y.0) _
+    (λ x y b f' x' y' k. search rules) _ _ c.dedup_by.ensures.filtered in
+    ap (λ l. entry_at cmp l k) (lost ∙ ap (dedup (λ x y. g.K.PartialEq.eq x.0 y.0)) whole)
+    ∙ entry-unordered cmp g.met.K.Ord.total (λ x y. g.K.PartialEq.eq x.0 y.0) (λ x y. g.met.K.Ord.matches_eq x.0 y.0) _ _
+    (c.in_ok-sort_by.ensures.stable (λ x y. is_lt (cmp x.0 y.0)) (ranks_by g.met.K.Ord.total (λ e. e.0))
+    (always_returns_same _ _ _ (λ a r f' k. search rules))) k
+    ∙ ap (λ l. entry_at cmp l k) (c.reverse.ensures.after ∙ ap reverse c.as_mut_slice-pairs.ensures.value)
