@@ -265,7 +265,7 @@ fn is_printed(alloc: Global, map: &Numbers, text: &str) -> Result<bool, AllocErr
 }
 
 /// What a map of 4 to 7, and of all else to 1, is printed as.
-const PRINTED: &str = "TotalVecMap { values: {4: Number(7)}, default: Number(1) }";
+const PRINTED: &str = "TotalVecMap { values: {(4, Number(7))}, default: Number(1) }";
 
 #[test]
 fn maps_are_read_and_compared(rt: HostRuntime) -> Result<(), Fail> {

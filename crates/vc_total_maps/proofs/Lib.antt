@@ -3,3 +3,4 @@ pub mod Comparing
 pub mod Copying
 pub mod Mapping
 pub mod Pointwise
+pub mod Put

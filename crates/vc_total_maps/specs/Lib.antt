@@ -4,3 +4,4 @@ pub mod Laws
 pub mod MappedTotals
 pub mod Pointwise
 pub mod TotalMap
+pub mod Putting

@@ -1,9 +1,11 @@
 //! `TotalVecMap`, a map with a value at every key.
-ghost use Rattle.std.specs.Prelude.{◌≡◌, ◌<◌, [], cond, length, not, IfOk, IsOk, IsSome, IsTrue, OnErr, OnOk};
+ghost use Rattle.std.specs.Prelude.{◌≡◌, ◌<◌, [], cond, length, not, Ok, IfOk, IsOk, IsSome, IsTrue, OnErr, OnOk};
 ghost use Rattle.std.specs.Ordering.{eq_by_cmp};
+ghost use Rattle.std.specs.Fn.{FnOnceReturnsAt};
 ghost use Rattle.std.specs.List.{filter};
 ghost use Rattle.vc_merge.specs.Clones.{ClonesAreEqual};
 ghost use Rattle.vc_joins.specs.Entries.{entry_at, value_at};
+ghost use Rattle.vc_total_maps.specs.Putting.{IsPut};
 ghost use Rattle.vc_total_maps.specs.TotalMap.{total_map, at, put_value, put_entry, NoneIsDefault, IsClonedMap};
 
 mod arithmetic;
@@ -57,6 +59,16 @@ impl<K: Ord, V: Eq, const N: usize, A: Allocator> TotalVecMap<K, V, N, A> {
         ensures differ { NoneIsDefault K.cmp V.eq self.now }
     {
         &self.mappings
+    }
+
+    /// The pairs whose values differ from the default, and the default. Both are moved, and no
+    /// memory is taken.
+    pub fn into_parts(self) -> (VecMap<K, V, N, A>, V)
+        ensures pairs { result.0 ≡ self.mappings }
+        ensures default { result.1 ≡ self.default }
+        ensures differ { NoneIsDefault K.cmp V.eq self }
+    {
+        (self.mappings, self.default)
     }
 
     /// The value at each key that is not mapped. Takes no memory.
@@ -147,6 +159,37 @@ where
         }
         let _old = self.mappings.insert(key, value)?;
         Ok(())
+    }
+
+    /// Puts what `f` makes of the value at one key at that key. What stands at all other keys
+    /// stays, and so does the default.
+    ///
+    /// `f` is called once, with the value of the key or, where it is not mapped, the default. Its
+    /// answer goes in as [`set`](TotalVecMap::set) puts it, and takes memory so. Refused there or
+    /// by `f`, it leaves the map as it was and drops the key and the answer.
+    ///
+    /// ```
+    /// counts.update(80, |count| Ok(*count + 1))?;
+    /// ```
+    pub fn update<F: FnOnce(&V) -> Result<V, AllocError> + Drop>(
+        &mut self,
+        key: K,
+        f: F,
+    ) -> Result<(), AllocError>
+        requires callable { (v : _) → v.now ≡ at K.cmp self.old key → F.pre f v }
+        ensures put { OnOk result ((value : V)
+            × FnOnceReturnsAt F.FnOnce f (at K.cmp self.old key) (Ok value)
+            × IsPut K.cmp V.eq self.old key value self.new) }
+
+        // By a closure that answers as a function does.
+        ensures plain { OnOk result ((g : V → V)
+            → ((v w : V) → FnOnceReturnsAt F.FnOnce f v (Ok w) → w ≡ g v)
+            → IsPut K.cmp V.eq self.old key (g (at K.cmp self.old key)) self.new) }
+        ensures default { self.new.default ≡ self.old.default }
+        ensures err { OnErr result (self.new ≡ self.old) }
+    {
+        let value = f(&self[&key])?;
+        self.set(key, value)
     }
 
     /// Gives back memory that the list does not need. A refusal leaves the list where it is, so the

@@ -1,10 +1,11 @@
 -- How the operations of total sets are done on their lists. No public clause cites these words.
 use Rattle.std.specs.Prelude.{◌≡◌, Bool, true, false, ◌||◌, ◌&&◌}
+use Rattle.vc_sets.specs.Algebra.{made_by}
 use Rattle.vc_sets.specs.SetOf.{and_not, exactly_one}
 use Rattle.vc_total_sets.specs.declared.total_vec_set.cases.TotalOp.{TotalOp}
 use Rattle.vc_total_sets.specs.declared.total_vec_set.cases.TotalOp.TheVariants.{And, Or, Xor, Minus}
 use Rattle.vc_total_sets.specs.declared.total_vec_set.cases.ListOp.{ListOp}
-use Rattle.vc_total_sets.specs.declared.total_vec_set.cases.ListOp.TheVariants.{Union, Intersection, SymmetricDifference, Difference, ReversedDifference}
+use Rattle.vc_total_sets.specs.declared.total_vec_set.cases.ListOp.TheVariants.{Of, ReversedDifference}
 use Rattle.vc_total_sets.specs.declared.total_vec_set.cases.Case.{Case}
 use Rattle.vc_total_sets.specs.TotalOf.{listed_by}
 
@@ -17,10 +18,7 @@ said_by Minus = and_not
 
 -- whether an operation of lists keeps what is in the left one, and in the right one
 abbrev pub kept_by : ListOp → Bool → Bool → Bool
-kept_by Union = ◌||◌
-kept_by Intersection = ◌&&◌
-kept_by SymmetricDifference = exactly_one
-kept_by Difference = and_not
+kept_by (Of op) = made_by op
 kept_by ReversedDifference = λ a b. and_not b a
 
 -- whether an operation keeps what stands in either list alone: only then the left list may grow

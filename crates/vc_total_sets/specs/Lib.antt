@@ -1,4 +1,5 @@
 pub mod TotalSet
+pub mod Within
 pub mod TotalOf
 pub mod TotalTests
 pub mod Cases

@@ -3,8 +3,9 @@ ghost use Rattle.std.specs.Prelude.{◌≡◌, ◌<◌, ◌||◌, ◌&&◌, ◌�
 ghost use Rattle.std.specs.Ordering.{eq_by_cmp};
 ghost use Rattle.vc_merge.specs.Ascending.{member, element_at};
 ghost use Rattle.vc_merge.specs.Clones.{ClonesAreEqual};
-ghost use Rattle.vc_sets.specs.SetOf.{and_not};
+ghost use Rattle.vc_sets.specs.SetOf.{IsSetOf, and_not};
 ghost use Rattle.vc_total_sets.specs.TotalSet.{total, complement, has, IsClonedTotal};
+ghost use Rattle.vc_total_sets.specs.Within.{within_by};
 
 mod algebra;
 mod cases;
@@ -16,7 +17,7 @@ use std::default::MadeWith;
 use std::marker::Model;
 use std::ops::Not;
 use vc_sets::cloning::ClonesEqual;
-use vc_sets::vec_set::{AbstractVecSet, VecSet};
+use vc_sets::vec_set::{AbstractVecSet, VecSet, difference, intersection};
 
 /// A set that is a list of elements or, where it is negated, all values that are not in the list.
 ///
@@ -61,6 +62,15 @@ impl<T: Ord, const N: usize, A: Allocator> TotalVecSet<T, N, A> {
         ensures { result ≡ self.now.negated }
     {
         self.negated
+    }
+
+    /// The list of what is in the set or, where it is negated, of what is not, and whether it is
+    /// negated. The list is moved, and no memory is taken.
+    pub fn into_parts(self) -> (VecSet<T, N, A>, bool)
+        ensures elements { result.0 ≡ self.elements }
+        ensures negated { result.1 ≡ self.negated }
+    {
+        (self.elements, self.negated)
     }
 
     /// Whether this is the empty list, not negated. Takes no memory.
@@ -138,6 +148,30 @@ impl<T: Ord + MadeWith<A> + Drop, const N: usize, A: Allocator + Copy> TotalVecS
         Ok(())
     }
 
+    /// What is in the set of the elements of a list: `list` without the others, which are dropped.
+    /// An element that stays is the old one.
+    ///
+    /// Takes no memory, and compares at most as often as both lists have elements.
+    ///
+    /// ```
+    /// let open = !TotalVecSet::from(closed);
+    /// let open_today: VecSet<u16, 8> = open.within_moved(today);
+    /// ```
+    pub fn within_moved<const M: usize>(&self, list: VecSet<T, M, A>) -> VecSet<T, M, A>
+        ensures members { (x : T)
+            → member T.cmp result x ≡ (member T.cmp list x && has T.cmp self.now x) }
+        ensures within { IsSetOf T.cmp (λ x y. x ≡ y) (λ x y. x ≡ y) (within_by self.now.negated)
+            list self.now.elements result }
+    {
+        let mut found = list;
+        if self.negated {
+            found.difference_with(&self.elements);
+        } else {
+            found.intersection_with(&self.elements);
+        }
+        found
+    }
+
     /// Gives back memory that the list does not need. A refusal leaves the list where it is, so the
     /// call succeeds always.
     pub fn shrink_to_fit(&mut self) -> Result<(), AllocError>
@@ -181,6 +215,32 @@ impl<T: Ord + Clone + MadeWith<A> + Drop, const N: usize, A: Allocator + Copy> T
 }
 
 impl<T: Ord + Clone + MadeWith<A>, const N: usize, A: Allocator + Copy> TotalVecSet<T, N, A> {
+    /// What is in the set of the elements of a list, as clones of the elements of the list.
+    ///
+    /// Compares at most as often as both lists have elements. Takes memory where more than `M` are
+    /// found, and as the clones do; refused, it drops what it built.
+    ///
+    /// ```
+    /// let open_today: VecSet<u16, 4> = open.within(alloc, &today)?;
+    /// ```
+    pub fn within<S: AbstractVecSet<T>, const M: usize>(
+        &self,
+        alloc: A,
+        list: &S,
+    ) -> Result<VecSet<T, M, A>, AllocError>
+        requires clones { ClonesAreEqual T.cmp T.is_clone }
+        ensures members { IfOk result (λ found. (x : T) → member T.cmp found x
+            ≡ (member T.cmp (S.elements list.now) x && has T.cmp self.now x)) }
+        ensures within { IfOk result (IsSetOf T.cmp T.is_clone T.is_clone
+            (within_by self.now.negated) (S.elements list.now) self.now.elements) }
+    {
+        if self.negated {
+            difference(alloc, list, &self.elements)
+        } else {
+            intersection(alloc, list, &self.elements)
+        }
+    }
+
     /// A copy, element by element, with the allocator of this set.
     ///
     /// Takes memory where there are more than `N` elements, and as their clones do; refused, it

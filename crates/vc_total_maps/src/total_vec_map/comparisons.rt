@@ -90,7 +90,7 @@ impl<K: Ord + Hash, V: Eq + Hash, const N: usize, A: Allocator> Hash for TotalVe
     }
 }
 
-/// As its two parts: `TotalVecMap { values: {1: 2}, default: 0 }`.
+/// As its two parts: `TotalVecMap { values: {(1, 2)}, default: 0 }`.
 impl<K: Ord + fmt::Debug, V: Eq + fmt::Debug, const N: usize, A: Allocator> fmt::Debug
     for TotalVecMap<K, V, N, A> {
     fn fmt<W: fmt::Write>(&self, f: &mut fmt::Formatter<W>) -> fmt::Result {

@@ -24,10 +24,7 @@ fn combine_lists<T: Ord + Clone + MadeWith<A>, const N: usize, A: Allocator + Co
     ensures { IfOk result (IsSetOf T.cmp T.is_clone T.is_clone (kept_by op) a.now b.now) }
 {
     match op {
-        ListOp::Union => a.union(b),
-        ListOp::Intersection => a.intersection(b),
-        ListOp::SymmetricDifference => a.symmetric_difference(b),
-        ListOp::Difference => a.difference(b),
+        ListOp::Of(op) => a.combine(b, op),
         ListOp::ReversedDifference => b.difference(a),
     }
 }

@@ -1,6 +1,8 @@
 //! The table of cases: what an operation of two total sets comes to on their lists.
-use ListOp::{Difference, Intersection, ReversedDifference, SymmetricDifference, Union};
+use ListOp::{Of, ReversedDifference};
+use SetOp::{Difference, Intersection, SymmetricDifference, Union};
 use TotalOp::{And, Minus, Or, Xor};
+use vc_sets::vec_set::SetOp;
 
 /// An operation of two total sets.
 #[derive(Clone, Copy)]
@@ -18,14 +20,8 @@ pub enum TotalOp {
 /// An operation of their two lists.
 #[derive(Clone, Copy)]
 pub enum ListOp {
-    /// What stands in either list.
-    Union,
-    /// What stands in both.
-    Intersection,
-    /// What stands in exactly one.
-    SymmetricDifference,
-    /// What stands in the left one and not in the right one.
-    Difference,
+    /// An operation of sets, with the left list on the left.
+    Of(SetOp),
     /// What stands in the right one and not in the left one.
     ReversedDifference,
 }
@@ -48,18 +44,18 @@ impl TotalOp {
         ensures { IsCase (said_by self) left_negated right_negated result }
     {
         let (op, negated) = match (self, left_negated, right_negated) {
-            (And, false, false) => (Intersection, false),
-            (And, false, true) => (Difference, false),
+            (And, false, false) => (Of(Intersection), false),
+            (And, false, true) => (Of(Difference), false),
             (And, true, false) => (ReversedDifference, false),
-            (And, true, true) => (Union, true),
-            (Or, false, false) => (Union, false),
+            (And, true, true) => (Of(Union), true),
+            (Or, false, false) => (Of(Union), false),
             (Or, false, true) => (ReversedDifference, true),
-            (Or, true, false) => (Difference, true),
-            (Or, true, true) => (Intersection, true),
-            (Xor, _, _) => (SymmetricDifference, left_negated != right_negated),
-            (Minus, false, false) => (Difference, false),
-            (Minus, false, true) => (Intersection, false),
-            (Minus, true, false) => (Union, true),
+            (Or, true, false) => (Of(Difference), true),
+            (Or, true, true) => (Of(Intersection), true),
+            (Xor, _, _) => (Of(SymmetricDifference), left_negated != right_negated),
+            (Minus, false, false) => (Of(Difference), false),
+            (Minus, false, true) => (Of(Intersection), false),
+            (Minus, true, false) => (Of(Union), true),
             (Minus, true, true) => (ReversedDifference, false),
         };
         Case { op, negated }

@@ -25,17 +25,14 @@ fn assign_list<T: Ord + MadeWith<A> + Drop, const N: usize, A: Allocator + Copy>
     ensures err { OnErr result (list.new ≡ list.old) }
 {
     match op {
-        ListOp::Union => list.bitor_assign(that)?,
-        ListOp::SymmetricDifference => list.bitxor_assign(that)?,
-        ListOp::Intersection => *list &= that,
-        ListOp::Difference => *list -= that,
+        ListOp::Of(op) => list.combine_with(that, op),
         ListOp::ReversedDifference => {
             let mut rest = that;
             rest -= &*list;
             *list = rest;
+            Ok(())
         }
     }
-    Ok(())
 }
 
 /// Puts what `op` makes of two sets in the place of the left one.
