@@ -8,3 +8,4 @@ mod Tested
 mod OneList
 mod Swept
 mod Sorted
+mod Cloned

@@ -8,6 +8,7 @@ ghost use Rattle.vc_merge.specs.Clones.{ClonesAreEqual};
 ghost use Rattle.vc_intervals.specs.Turns.{intervals, holds, complement, IsClonedIntervals};
 
 mod algebra;
+mod changes;
 mod comparisons;
 mod iteration;
 mod ranges;
@@ -230,5 +231,22 @@ impl<T: Ord, const N: usize, A: Allocator> Not for IntervalSet<T, N, A> {
             turns: self.turns,
             below: !self.below,
         }
+    }
+}
+
+/// `!&a` is all that is not in `a`: clones of the turns, and the other answer below them.
+///
+/// It takes memory as [`clone`](IntervalSet::clone) does; refused, it drops what was copied.
+impl<'a, T: Ord + Clone + MadeWith<A>, const N: usize, A: Allocator + Copy> Not
+    for &'a IntervalSet<T, N, A> {
+    type Output = Result<IntervalSet<T, N, A>, AllocError>;
+
+    ghost can_not = { λ _. ClonesAreEqual T.cmp T.is_clone };
+
+    ghost not_gives = { λ s r. IfOk r (λ t. IsClonedIntervals T.is_clone (complement s.now) t
+        × ((x : T) → holds T.cmp t x ≡ not (holds T.cmp s.now x))) };
+
+    fn not(self) -> Result<IntervalSet<T, N, A>, AllocError> {
+        Ok(!self.clone()?)
     }
 }

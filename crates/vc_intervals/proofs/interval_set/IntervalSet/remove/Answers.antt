@@ -1,0 +1,10 @@
+use Rattle.std.proofs.Common.{ap, ◌∙◌}
+use Rattle.vc_merge.proofs.Parted.{on-ok}
+use Rattle.vc_sets.specs.SetOf.{and_not}
+use Rattle.vc_intervals.specs.Turns.{holds}
+use Rattle.vc_intervals.proofs.interval_set.IntervalSet.remove.Goals as goal
+
+pub returns-clause-holds : goal.returns-clause-holds
+returns-clause-holds g c =
+    on-ok c.difference_with.result _ _ (λ made x. made.at x ∙ ap (λ b. and_not (holds g.T.Ord.cmp c.args.self.now x) b)
+    (c.in_ok-gone.ensures.holds x)) c.difference_with.ensures.ok

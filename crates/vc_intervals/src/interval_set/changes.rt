@@ -1,0 +1,113 @@
+//! Changes of an interval set in its place: each makes the new set whole before the old one goes.
+ghost use Rattle.std.specs.Prelude.{◌≡◌, ◌||◌, ◌&&◌, not, OnErr, OnOk};
+ghost use Rattle.vc_merge.specs.Clones.{ClonesAreEqual};
+ghost use Rattle.vc_sets.specs.SetOf.{and_not, exactly_one};
+ghost use Rattle.vc_intervals.specs.IntervalsOf.{IsIntervalsOf};
+ghost use Rattle.vc_intervals.specs.Ranges.{in_range};
+ghost use Rattle.vc_intervals.specs.Turns.{holds};
+
+use super::IntervalSet;
+use std::alloc::{AllocError, Allocator};
+use std::default::MadeWith;
+use std::ops::Range;
+
+impl<T: Ord + Clone + MadeWith<A>, const N: usize, A: Allocator + Copy> IntervalSet<T, N, A> {
+    /// Adds what lies in the range: nothing, where it is empty. Its ends are moved.
+    ///
+    /// As a [`union`](IntervalSet::union) with the range, it compares at most twice more than the
+    /// set has turns, and asks for memory for a new list where that has more than `N` turns, and
+    /// for the range where `N` is less than 2. Refused, the set stays as it was.
+    ///
+    /// ```
+    /// let mut open = IntervalSet::<u16, 4>::between(alloc, 9, 12)?;
+    /// open.insert(13..17)?;
+    /// open.remove(10..11)?;
+    /// assert!(rt; open.turns() == [9, 10, 11, 12, 13, 17].as_slice());
+    /// ```
+    pub fn insert(&mut self, range: Range<T>) -> Result<(), AllocError>
+        requires clones { ClonesAreEqual T.cmp T.is_clone }
+        ensures holds { OnOk result ((x : T)
+            → holds T.cmp self.new x ≡ (holds T.cmp self.old x || in_range T.cmp range x)) }
+        ensures below { self.new.below ≡ self.old.below }
+        ensures err { OnErr result (self.new ≡ self.old) }
+    {
+        let Range { start, end } = range;
+        let added = Self::between(*self.turns.allocator(), start, end)?;
+        self.union_with(&added)
+    }
+
+    /// Takes out what lies in the range. Its ends are moved. Compares, and asks for memory, as
+    /// [`insert`](IntervalSet::insert) does; refused, the set stays as it was.
+    pub fn remove(&mut self, range: Range<T>) -> Result<(), AllocError>
+        requires clones { ClonesAreEqual T.cmp T.is_clone }
+        ensures holds { OnOk result ((x : T)
+            → holds T.cmp self.new x ≡ (holds T.cmp self.old x && not (in_range T.cmp range x))) }
+        ensures below { self.new.below ≡ self.old.below }
+        ensures err { OnErr result (self.new ≡ self.old) }
+    {
+        let Range { start, end } = range;
+        let gone = Self::between(*self.turns.allocator(), start, end)?;
+        self.difference_with(&gone)
+    }
+
+    /// Adds what is in the other set, as by [`union`](IntervalSet::union), whose result takes the
+    /// place of this set. Refused, it stays as it was.
+    pub fn union_with<const M: usize>(
+        &mut self,
+        that: &IntervalSet<T, M, A>,
+    ) -> Result<(), AllocError>
+        requires clones { ClonesAreEqual T.cmp T.is_clone }
+        ensures ok { OnOk result
+            (IsIntervalsOf T.cmp T.is_clone ◌||◌ self.old that.now self.new) }
+        ensures err { OnErr result (self.new ≡ self.old) }
+    {
+        *self = self.union(that)?;
+        Ok(())
+    }
+
+    /// Keeps what is in the other set too, as by [`intersection`](IntervalSet::intersection), whose
+    /// result takes the place of this set. Refused, it stays as it was.
+    pub fn intersection_with<const M: usize>(
+        &mut self,
+        that: &IntervalSet<T, M, A>,
+    ) -> Result<(), AllocError>
+        requires clones { ClonesAreEqual T.cmp T.is_clone }
+        ensures ok { OnOk result
+            (IsIntervalsOf T.cmp T.is_clone ◌&&◌ self.old that.now self.new) }
+        ensures err { OnErr result (self.new ≡ self.old) }
+    {
+        *self = self.intersection(that)?;
+        Ok(())
+    }
+
+    /// Keeps what is in exactly one of the sets, as by
+    /// [`symmetric_difference`](IntervalSet::symmetric_difference), whose result takes the place of
+    /// this set. Refused, it stays as it was.
+    pub fn symmetric_difference_with<const M: usize>(
+        &mut self,
+        that: &IntervalSet<T, M, A>,
+    ) -> Result<(), AllocError>
+        requires clones { ClonesAreEqual T.cmp T.is_clone }
+        ensures ok { OnOk result
+            (IsIntervalsOf T.cmp T.is_clone exactly_one self.old that.now self.new) }
+        ensures err { OnErr result (self.new ≡ self.old) }
+    {
+        *self = self.symmetric_difference(that)?;
+        Ok(())
+    }
+
+    /// Takes out what is in the other set, as by [`difference`](IntervalSet::difference), whose
+    /// result takes the place of this set. Refused, it stays as it was.
+    pub fn difference_with<const M: usize>(
+        &mut self,
+        that: &IntervalSet<T, M, A>,
+    ) -> Result<(), AllocError>
+        requires clones { ClonesAreEqual T.cmp T.is_clone }
+        ensures ok { OnOk result
+            (IsIntervalsOf T.cmp T.is_clone and_not self.old that.now self.new) }
+        ensures err { OnErr result (self.new ≡ self.old) }
+    {
+        *self = self.difference(that)?;
+        Ok(())
+    }
+}
