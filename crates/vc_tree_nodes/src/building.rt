@@ -16,7 +16,6 @@ use crate::reading::{RadixNode, TKey, TValue};
 use crate::sealed::Sealed;
 use crate::shared::ArcRadixTree;
 use std::alloc::Global;
-use std::default::MadeWith;
 
 /// What only the crates of this workspace hand over, so that nobody who holds a tree by a bound
 /// takes its nodes apart.
@@ -75,7 +74,7 @@ pub trait Build<K: TKey, V: TValue>: RadixNode<K, V> + Sealed + Drop {
         → IsAlikeIn keeps (seen Self.tree xs) (seen Self.tree ys) };
 }
 
-impl<K: TKey + MadeWith<Global>, V: TValue> Build<K, V> for RadixTree<K, V> {
+impl<K: TKey, V: TValue> Build<K, V> for RadixTree<K, V> {
     type Prefix = Prefix<K>;
 
     type Children = OwnedChildren<RadixTree<K, V>>;
@@ -113,7 +112,7 @@ impl<K: TKey + MadeWith<Global>, V: TValue> Build<K, V> for RadixTree<K, V> {
     }
 }
 
-impl<K: TKey + MadeWith<Global>, V: TValue> Build<K, V> for ArcRadixTree<K, V> {
+impl<K: TKey, V: TValue> Build<K, V> for ArcRadixTree<K, V> {
     type Prefix = Prefix<K>;
 
     type Children = SharedChildren<ArcRadixTree<K, V>>;

@@ -17,7 +17,6 @@ use crate::reading::{TKey, TValue, canonical};
 use crate::shared::ArcRadixTree;
 use crate::spelling::Spelled;
 use std::alloc::{AllocError, Global};
-use std::default::MadeWith;
 
 /// So many pairs are inserted one by one. It takes no more time, and asks for memory less often.
 const FEW: usize = 8;
@@ -54,7 +53,7 @@ fn collect<K: TKey, V: TValue, S: Spelled<K>, I: Iterator<Item = (S, V)>, T: Bui
     Ok(tree)
 }
 
-impl<K: TKey + MadeWith<Global>, V: TValue> RadixTree<K, V> {
+impl<K: TKey, V: TValue> RadixTree<K, V> {
     /// The tree of the pairs, which may come in any order. Of pairs with equal keys the last one
     /// counts. As far as keys ascend the tree is built in one go, which takes less time.
     ///
@@ -97,7 +96,7 @@ impl<K: TKey + MadeWith<Global>, V: TValue> RadixTree<K, V> {
     }
 }
 
-impl<K: TKey + MadeWith<Global>, V: TValue> ArcRadixTree<K, V> {
+impl<K: TKey, V: TValue> ArcRadixTree<K, V> {
     /// The tree of the pairs, which may come in any order. Of pairs with equal keys the last one
     /// counts. As far as keys ascend the tree is built in one go, which takes less time. As of any
     /// insert into a shared tree, the values are those that came, or clones of them.

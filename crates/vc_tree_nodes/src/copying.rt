@@ -4,6 +4,7 @@
 ghost use Rattle.std.specs.Prelude.{◌≡◌, ◌≤◌, IfOk, length};
 ghost use Rattle.std.specs.Option.{option_copied};
 ghost use Rattle.vc_tree_model.specs.Canonical.{IsCanonical};
+ghost use Rattle.vc_tree_model.specs.Map.{IsEqualMap, lookup};
 ghost use Rattle.vc_tree_model.specs.Tree.{shortened};
 ghost use Rattle.vc_tree_model.specs.Value.{Copies, IsKept};
 ghost use Rattle.vc_tree_model.specs.Same.{IsAlike, IsAlikeIn};
@@ -17,7 +18,6 @@ use crate::plain::RadixTree;
 use crate::reading::{RadixNode, TKey, TValue, canonical};
 use crate::shared::ArcRadixTree;
 use std::alloc::{AllocError, Global};
-use std::default::MadeWith;
 
 /// A clone of the value, if there is one.
 pub fn clone_value<V: Clone>(value: Option<&V>) -> Result<Option<V>, AllocError>
@@ -68,19 +68,21 @@ fn copy_list<K: TKey, V: TValue, S: RadixNode<K, V>, T: Build<K, V>>(
     Ok(copies)
 }
 
-impl<K: TKey + MadeWith<Global>, V: TValue> RadixTree<K, V> {
+impl<K: TKey, V: TValue> RadixTree<K, V> {
     /// A tree of its own with the same nodes and a clone of each value.
     ///
     /// Fails where memory is refused, or the clone of a value.
     pub fn clone(&self) -> Result<Self, AllocError>
         ensures alike { IfOk result (IsAlike V.is_clone self.now) }
+        ensures map { IfOk result
+            (λ copy. IsEqualMap V.is_clone (lookup K.cmp self.now) (lookup K.cmp copy)) }
         ensures canonical { IfOk result (IsCanonical K.cmp) }
     {
         copy_shortened(self.allocator(), self, 0)
     }
 }
 
-impl<K: TKey + MadeWith<Global>, V: TValue> Clone for RadixTree<K, V> {
+impl<K: TKey, V: TValue> Clone for RadixTree<K, V> {
     ghost is_clone = { IsAlike V.is_clone };
 
     fn clone(&self) -> Result<Self, AllocError> {
@@ -95,11 +97,11 @@ pub trait CloneTree<K: TKey, V: TValue>: Build<K, V> + Clone {
         → IsAlike (Copies V.is_clone) (Self.tree t) (Self.tree c) };
 }
 
-impl<K: TKey + MadeWith<Global>, V: TValue> CloneTree<K, V> for RadixTree<K, V> {
+impl<K: TKey, V: TValue> CloneTree<K, V> for RadixTree<K, V> {
     ghost clones_alike = { λ t c h. clones_copied V.is_clone t c h };
 }
 
-impl<K: TKey + MadeWith<Global>, V: TValue> CloneTree<K, V> for ArcRadixTree<K, V> {
+impl<K: TKey, V: TValue> CloneTree<K, V> for ArcRadixTree<K, V> {
     ghost clones_alike = { λ t c h. snapshot_copied V.is_clone t c h };
 }
 

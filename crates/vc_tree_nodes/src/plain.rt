@@ -4,7 +4,6 @@ use crate::children::{OwnedChildren, Parts};
 use crate::prefix::Prefix;
 use crate::reading::{RadixNode, TKey, TValue};
 use std::alloc::Global;
-use std::default::MadeWith;
 use std::marker::Model;
 
 /// A radix tree that owns all its nodes. It is seen as a tree of prefixes, values and children,
@@ -38,7 +37,7 @@ impl<K: TKey, V: TValue> Model for RadixTree<K, V> {
     ghost size_decreases = { λ a h. omega (arith, most_le-nodes a.children.items) };
 }
 
-impl<K: TKey + MadeWith<Global>, V: TValue> RadixTree<K, V> {
+impl<K: TKey, V: TValue> RadixTree<K, V> {
     ghost use Rattle.std.specs.Prelude.{◌≡◌, map};
     ghost use Rattle.vc_tree_model.specs.Tree.{made, no_tree};
     ghost use Rattle.vc_tree_model.specs.Canonical.{IsCanonical};

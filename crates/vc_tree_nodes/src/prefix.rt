@@ -4,7 +4,6 @@ ghost use Rattle.std.specs.Prelude.{◌≡◌, ◌++◌, ◌≤◌, [], IfOk, Is
 
 use crate::children::Fragment;
 use std::alloc::{AllocError, Global};
-use std::default::MadeWith;
 use std::marker::Model;
 
 /// The components of a node's prefix: up to 16 in place, and more than that behind a pointer, so
@@ -18,10 +17,10 @@ pub struct Prefix<K> {
 /// Where the components of a prefix lie.
 #[derive(Drop)]
 pub(crate) enum Cells<K> {
-    /// The first `len` of these places.
+    /// The first `len` of these places. The others repeat one of the components.
     Short { len: u8, places: [K; 16] },
-    /// A list of its own.
-    Long(Box<Vec<K>>),
+    /// A list of its own, or no component, of which no place could be filled.
+    Apart(Option<Box<Vec<K>>>),
 }
 
 impl<K> Model for Prefix<K> {
@@ -46,7 +45,8 @@ impl<K> Prefix<K> {
     {
         match &self.cells {
             Cells::Short { len, places } => &places[..usize::from(*len)],
-            Cells::Long(list) => list.as_slice(),
+            Cells::Apart(Some(list)) => list.as_slice(),
+            Cells::Apart(None) => &[],
         }
     }
 
@@ -57,18 +57,15 @@ impl<K> Prefix<K> {
     }
 }
 
-impl<K: Copy + MadeWith<Global>> Prefix<K> {
+impl<K: Copy> Prefix<K> {
     /// No component.
     pub fn new(alloc: Global) -> Self
         ensures { result ≡ [] }
     {
-        Prefix::short(alloc, 0, Prefix::blanks(alloc))
-    }
-
-    /// Places that hold nothing yet.
-    #[inline]
-    fn blanks(alloc: Global) -> [K; 16] {
-        [K::made_with(alloc); 16]
+        Prefix {
+            alloc,
+            cells: Cells::Apart(None),
+        }
     }
 
     /// The first `len` of the places.
@@ -91,12 +88,12 @@ impl<K: Copy + MadeWith<Global>> Prefix<K> {
         let list = Box::new(alloc, list)?;
         Ok(Prefix {
             alloc,
-            cells: Cells::Long(list),
+            cells: Cells::Apart(Some(list)),
         })
     }
 }
 
-impl<K: Copy + MadeWith<Global>> Fragment<K> for Prefix<K> {
+impl<K: Copy> Fragment<K> for Prefix<K> {
     ghost items = { λ made. made };
 
     fn as_slice(&self) -> &[K] {
@@ -104,16 +101,22 @@ impl<K: Copy + MadeWith<Global>> Fragment<K> for Prefix<K> {
     }
 
     fn from_slice(alloc: Global, slice: &[K]) -> Result<Prefix<K>, AllocError> {
+        let Some(first) = slice.first() else {
+            return Ok(Prefix::new(alloc));
+        };
         let len = slice.len();
         if len > 16 {
             return Prefix::long(alloc, Vec::from_slice(alloc, slice)?);
         }
-        let mut places = Prefix::blanks(alloc);
+        let mut places = [*first; 16];
         places[..len].copy_from_slice(slice);
         Ok(Prefix::short(alloc, len, places))
     }
 
     fn joined(alloc: Global, front: &[K], back: &[K]) -> Result<Prefix<K>, AllocError> {
+        let Some(some) = front.first().or(back.first()) else {
+            return Ok(Prefix::new(alloc));
+        };
         let whole = front.len().saturating_add(back.len());
         if whole > 16 {
             let mut list = Vec::with_capacity(alloc, whole)?;
@@ -121,7 +124,7 @@ impl<K: Copy + MadeWith<Global>> Fragment<K> for Prefix<K> {
             list.extend_from_slice(back)?;
             return Prefix::long(alloc, list);
         }
-        let mut places = Prefix::blanks(alloc);
+        let mut places = [*some; 16];
         let all = &mut places[..whole];
         all[..front.len()].copy_from_slice(front);
         all[front.len()..].copy_from_slice(back);

@@ -6,7 +6,7 @@ ghost use Rattle.std.specs.Option.{option_copied};
 ghost use Rattle.vc_tree_model.specs.Equal.{same_tree};
 ghost use Rattle.vc_tree_model.specs.Map.{lookup, IsEqualMap};
 ghost use Rattle.vc_tree_model.specs.Same.{IsSame};
-ghost use Rattle.vc_tree_model.specs.Value.{IsKept};
+ghost use Rattle.vc_tree_model.specs.Value.{Copies, IsKept};
 ghost use Rattle.vc_tree_nodes.specs.Children.{listed};
 ghost use Rattle.vc_tree_nodes.specs.SameTests.{same_tree-partial, same_tree-equivalence};
 
@@ -17,7 +17,6 @@ use crate::copying::clone_value;
 use crate::prefix::Prefix;
 use crate::reading::{RadixNode, TKey, TValue, canonical};
 use std::alloc::{AllocError, Global};
-use std::default::MadeWith;
 use std::marker::Model;
 use std::rc::Rc;
 
@@ -56,7 +55,7 @@ impl<K: TKey, V: TValue> Model for ArcRadixTree<K, V> {
         refl (λ v. refl) (λ r. refl) (λ v r. refl) a.body };
 }
 
-impl<K: TKey + MadeWith<Global>, V: TValue> ArcRadixTree<K, V> {
+impl<K: TKey, V: TValue> ArcRadixTree<K, V> {
     ghost use Rattle.std.specs.Prelude.{map};
     ghost use Rattle.vc_tree_model.specs.Tree.{made, no_tree};
     ghost use Rattle.vc_tree_model.specs.Canonical.{IsCanonical};
@@ -133,7 +132,7 @@ fn share<T: Drop>(children: Option<&Rc<T>>) -> Result<Option<Rc<T>>, AllocError>
     }
 }
 
-impl<K: TKey + MadeWith<Global>, V: TValue> ArcRadixTree<K, V> {
+impl<K: TKey, V: TValue> ArcRadixTree<K, V> {
     ghost use Rattle.vc_tree_model.specs.Canonical.{IsCanonical};
     ghost use Rattle.vc_tree_model.specs.Snapshot.{IsSnapshot};
 
@@ -143,6 +142,16 @@ impl<K: TKey + MadeWith<Global>, V: TValue> ArcRadixTree<K, V> {
     ///
     /// Clones no value but the root's. Fails where memory is refused, or the value's own clone.
     pub fn clone(&self) -> Result<Self, AllocError>
+        ensures snapshot { IfOk result (IsSnapshot V.is_clone self.now) }
+        ensures map { IfOk result (λ copy.
+            IsEqualMap (Copies V.is_clone) (lookup K.cmp self.now) (lookup K.cmp copy)) }
+        ensures canonical { IfOk result (IsCanonical K.cmp) }
+    {
+        self.snapshot()
+    }
+
+    /// One more tree of the same children.
+    fn snapshot(&self) -> Result<Self, AllocError>
         ensures snapshot { IfOk result (IsSnapshot V.is_clone self.now) }
         ensures canonical { IfOk result (IsCanonical K.cmp) }
     {
@@ -158,7 +167,7 @@ impl<K: TKey + MadeWith<Global>, V: TValue> ArcRadixTree<K, V> {
     }
 }
 
-impl<K: TKey + MadeWith<Global>, V: TValue> Clone for ArcRadixTree<K, V> {
+impl<K: TKey, V: TValue> Clone for ArcRadixTree<K, V> {
     ghost use Rattle.vc_tree_model.specs.Snapshot.{IsSnapshot};
 
     ghost is_clone = { IsSnapshot V.is_clone };

@@ -11,13 +11,10 @@ use crate::plain::RadixTree;
 use crate::reading::{TKey, TValue};
 use crate::shared::ArcRadixTree;
 use std::alloc::{AllocError, Global};
-use std::default::MadeWith;
 
 /// The same tree in the shared flavour. Prefixes and values are moved.
 #[cycle(sharing)]
-fn share_tree<K: TKey + MadeWith<Global>, V: TValue>(
-    tree: RadixTree<K, V>,
-) -> Result<ArcRadixTree<K, V>, AllocError>
+fn share_tree<K: TKey, V: TValue>(tree: RadixTree<K, V>) -> Result<ArcRadixTree<K, V>, AllocError>
     ensures same { IfOk result (λ shared. shared ≡ tree) }
     ensures canonical { IfOk result (IsCanonical K.cmp) }
 {
@@ -35,7 +32,7 @@ fn share_tree<K: TKey + MadeWith<Global>, V: TValue>(
 
 /// The same trees in the shared flavour.
 #[cycle(sharing)]
-fn share_list<K: TKey + MadeWith<Global>, V: TValue>(
+fn share_list<K: TKey, V: TValue>(
     list: Vec<RadixTree<K, V>>,
 ) -> Result<Option<SharedChildren<ArcRadixTree<K, V>>>, AllocError>
     ensures { IfOk result
@@ -51,7 +48,7 @@ fn share_list<K: TKey + MadeWith<Global>, V: TValue>(
     Ok(Some(SharedChildren::of(shared)?))
 }
 
-impl<K: TKey + MadeWith<Global>, V: TValue> ArcRadixTree<K, V> {
+impl<K: TKey, V: TValue> ArcRadixTree<K, V> {
     /// The same tree in the shared flavour. Prefixes and values are moved, and nothing is cloned.
     ///
     /// Fails where memory is refused for the children. The tree is then dropped.

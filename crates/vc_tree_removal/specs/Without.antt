@@ -1,5 +1,5 @@
 -- What is left of a map without some of its keys.
-use Rattle.std.specs.Prelude.{◌≡◌, Bool, List, Option, None, IsTrue, IsFalse}
+use Rattle.std.specs.Prelude.{◌≡◌, Bool, List, Option, None, IsSome, IsTrue, IsFalse}
 use Rattle.std.specs.Option.{is_some}
 use Rattle.std.specs.declared.cmp.Ordering.{Ordering}
 use Rattle.vc_tree_model.specs.Key.{same_key, behind}
@@ -18,3 +18,7 @@ module _ {K V : Type 0} (cmp : K → K → Ordering) (keeps : V → V → Type 0
   -- g binds no key that begins with the prefix, and keeps what f binds at every other key
   abbrev pub IsWithoutBelow : List K → (List K → Option V) → (List K → Option V) → Type 0
   IsWithoutBelow prefix f g = IsWithoutAll keeps (λ k. is_some (behind cmp prefix k)) f g
+
+-- each key that f binds begins with the prefix
+abbrev pub AllBegin : {K V : Type 0} → (K → K → Ordering) → List K → (List K → Option V) → Type 0
+AllBegin {K} cmp prefix f = (k : List K) → IsSome (f k) → IsSome (behind cmp prefix k)

@@ -1,6 +1,8 @@
-//! How a key is taken out of a radix tree in place, or all keys that begin with a prefix. For the
-//! crates above; the trait that users name stands in `vc_trees`.
+//! How a key is taken out of a radix tree in place, or all keys that begin with a prefix, and how the
+//! value of one key is changed. For the crates above; the trait that users name stands in
+//! `vc_trees`.
 #![tactic(auto)]
 
+pub mod changing;
 pub mod removal;
 pub mod removal_below;

@@ -1,7 +1,7 @@
 //! How a key is taken out of a tree, alone or with all keys that begin with it.
 
 ghost use Rattle.std.specs.Prelude.{◌≡◌, ◌+◌, ◌++◌, ◌<◌, ◌≤◌, [], length, vec_len, None, Ok, Some};
-ghost use Rattle.std.specs.Prelude.{IfOk, IsSome, MatchBool, OnOk, OnErr, option_map};
+ghost use Rattle.std.specs.Prelude.{IfOk, IsOk, IsSome, MatchBool, OnOk, OnErr, option_map};
 ghost use Rattle.vc_tree_model.specs.Child.{IsChild};
 ghost use Rattle.vc_tree_model.specs.Key.{behind};
 ghost use Rattle.vc_tree_model.specs.Tree.{bare, no_tree, node};
@@ -10,10 +10,10 @@ ghost use Rattle.vc_tree_model.specs.Map.{HaveEqualMaps, lookup};
 ghost use Rattle.vc_tree_model.specs.Canonical.{AreChildren, IsCanonical, IsSolid};
 ghost use Rattle.vc_tree_model.specs.Same.{IsAlike, IsAlikeIn};
 ghost use Rattle.vc_tree_nodes.specs.Children.{seen};
-ghost use Rattle.vc_tree_removal.specs.Without.{IsWithout};
+ghost use Rattle.vc_tree_removal.specs.Without.{AllBegin, IsWithout};
 ghost use Rattle.vc_tree_removal.specs.Taking.{AreSome, IsDeep, IsWholly, Meets, MeetsAt};
 ghost use Rattle.vc_tree_removal.specs.Taking.{Divides, IsBare, IsLone, IsOut, Removed, instead};
-ghost use Rattle.vc_tree_removal.specs.declared.removal.Extent.TheVariants.{Alone};
+ghost use Rattle.vc_tree_removal.specs.declared.removal.Extent.TheVariants.{Alone, Below};
 
 use std::alloc::{AllocError, Global};
 use std::mem;
@@ -81,6 +81,8 @@ pub(crate) fn remove_met<K: TKey, V: TValue, T: Build<K, V>>(
     requires { Meets K.cmp extent key.now (lookup K.cmp (T.tree tree.old)) }
     ensures ok { IfOk result (λ taken. Divides K.cmp T.keeps extent key.now
         (lookup K.cmp (T.tree tree.old)) (lookup K.cmp (T.tree tree.new)) (T.tree taken)) }
+    ensures all { extent ≡ Below → AllBegin K.cmp key.now (lookup K.cmp (T.tree tree.old))
+        → IsOk result }
     ensures err_nodes { OnErr result (IsAlike T.keeps (T.tree tree.old) (T.tree tree.new)) }
     ensures canonical { IsCanonical K.cmp (T.tree tree.new) }
 {
@@ -159,7 +161,7 @@ pub(crate) fn remove_from<K: TKey, V: TValue, T: Build<K, V>>(
 }
 
 /// What is left of a key behind the prefix of a tree.
-fn rest_of<'k, K: TKey, V: TValue, T: RadixNode<K, V>>(tree: &T, key: &'k [K]) -> &'k [K]
+pub(crate) fn rest_of<'k, K: TKey, V: TValue, T: RadixNode<K, V>>(tree: &T, key: &'k [K]) -> &'k [K]
     requires { IsSome (behind K.cmp (T.tree tree.now).prefix key.now) }
     ensures { behind K.cmp (T.tree tree.now).prefix key.now ≡ Some result.now }
 {
@@ -315,7 +317,7 @@ fn bare_of<K: TKey, V: TValue, T: Build<K, V>>(
 }
 
 /// The parts of a tree with children. It leaves the empty tree.
-fn opened<K: TKey, V: TValue, T: Build<K, V>>(
+pub(crate) fn opened<K: TKey, V: TValue, T: Build<K, V>>(
     alloc: Global,
     tree: &mut T,
 ) -> (T::Prefix, Option<V>, T::Children)

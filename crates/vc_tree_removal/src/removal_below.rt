@@ -6,7 +6,7 @@ ghost use Rattle.vc_tree_model.specs.Canonical.{IsCanonical};
 ghost use Rattle.vc_tree_model.specs.Same.{IsAlike};
 ghost use Rattle.vc_tree_model.specs.Tree.{no_tree};
 ghost use Rattle.vc_tree_model.specs.Under.{under};
-ghost use Rattle.vc_tree_removal.specs.Without.{IsWithoutBelow};
+ghost use Rattle.vc_tree_removal.specs.Without.{AllBegin, IsWithoutBelow};
 ghost use Rattle.vc_tree_removal.specs.Taking.{IsFoundUnder};
 
 use crate::removal::{Extent, goes_wholly, remove_from, remove_met, take_root, with_prefix};
@@ -19,9 +19,10 @@ use vc_tree_walks::scan::find_under;
 /// Takes out all keys that begin with `prefix`, with their values. The other keys keep theirs.
 ///
 /// Where no key begins with it, that is found by a walk down alone: no memory is asked for, and
-/// nothing is copied. Fails only where memory is refused, for the joined prefix of a node that is
-/// left with one child or for the copy of shared children, or where the clone of a value of those
-/// is refused. The tree then has the nodes that it had, and binds what it bound.
+/// nothing is copied; nor is it where all keys begin with it. Fails only where memory is refused,
+/// for the joined prefix of a node that is left with one child or for the copy of shared children,
+/// or where the clone of a value of those is refused. The tree then has the nodes that it had, and
+/// binds what it bound.
 ///
 /// Compares each component of the prefix at most once, but for two halving searches among the
 /// children of each node on the way.
@@ -35,6 +36,7 @@ pub fn remove_below<K: TKey, V: TValue, T: Build<K, V>>(
     ensures absent { let f = lookup K.cmp (T.tree tree.old) in
         ((k : List K) → under K.cmp f prefix.now k ≡ None)
         → (result ≡ Ok tt) × (T.tree tree.new ≡ T.tree tree.old) }
+    ensures all { AllBegin K.cmp prefix.now (lookup K.cmp (T.tree tree.old)) → IsOk result }
     ensures err { OnErr result (HaveEqualMaps K.cmp T.keeps (T.tree tree.old) (T.tree tree.new)) }
     ensures err_nodes { OnErr result (IsAlike T.keeps (T.tree tree.old) (T.tree tree.new)) }
     ensures canonical { IsCanonical K.cmp (T.tree tree.new) }
@@ -76,6 +78,7 @@ pub fn split_below<K: TKey, V: TValue, T: Build<K, V>>(
     ensures absent { let f = lookup K.cmp (T.tree tree.old) in
         ((k : List K) → under K.cmp f prefix.now k ≡ None)
         → IsOk result × (T.tree tree.new ≡ T.tree tree.old) }
+    ensures all { AllBegin K.cmp prefix.now (lookup K.cmp (T.tree tree.old)) → IsOk result }
     ensures err { OnErr result (HaveEqualMaps K.cmp T.keeps (T.tree tree.old) (T.tree tree.new)) }
     ensures err_nodes { OnErr result (IsAlike T.keeps (T.tree tree.old) (T.tree tree.new)) }
     ensures canonical { IsCanonical K.cmp (T.tree tree.new) }

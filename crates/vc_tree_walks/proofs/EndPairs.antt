@@ -4,6 +4,7 @@
 --     least-is, greatest-is        by the walk of a map the first pair has the least key, and the last one the greatest
 --     reaches-itself, reaches-child, reaches-own        the way down to the pair
 --     longer, within, own-sized        how many components are counted on it
+--     first-empty        where the empty key is bound, it is the first
 use Rattle.std.proofs.Common.{◌≡◌, ℕ, suc, ◌+◌, ◌-◌, ◌^◌, ◌≤◌, [], ◌∷◌, ◌++◌, List, Option, None, Some, refl, sym, ap}
 use Rattle.std.proofs.Common.{subst, ◌∙◌, arith, map, min, length, length-append, append-nil, append_assoc, true, inl, inr}
 use Rattle.std.proofs.Common.{true≢false}
@@ -20,6 +21,7 @@ use Rattle.std.specs.declared.cmp.Ordering.{Ordering}
 use Rattle.std.specs.declared.cmp.Ordering.TheVariants.{Less, Equal, Greater}
 use Rattle.vc_tree_model.specs.Canonical.{AreChildren, IsSolid}
 use Rattle.vc_tree_model.specs.Key.{same_key}
+use Rattle.vc_tree_model.specs.Map.{lookup}
 use Rattle.vc_tree_model.specs.Tree.{Tree, Forest, bare, grow, forest, forest_nodes, node, nodes}
 use Rattle.vc_tree_model.specs.Walk.{IsWalk, Lists, own_pair, prepended, walk, walk_in}
 use Rattle.vc_tree_model.proofs.KeyLemmas.{none-some, not-before, not-both_before, same-flip, same-itself, same-slice_cmp}
@@ -300,3 +302,10 @@ within seen key most e h = grind arith
 pub own-sized : {K V : Type 0} (key : List K) (o : Option V) (v : V) (count : ℕ) → o ≡ Some v
     → count ≡ min (length key) (2 ^ 64 - 1) → Some (count, v) ≡ option_map sized_pair (own_end key o)
 own-sized key o v count e c = grind arith
+
+-- where the empty key is bound, the first pair has it
+pub first-empty : {K V : Type 0} (cmp : K → K → Ordering) (p : List K) (v : Option V) (f : Forest K V)
+    → IsSome (lookup cmp (node p v f) []) → (w : V) × (slice_get (walk (node p v f)) 0 ≡ Some ([], w))
+first-empty cmp [] (Some w) f s = (w, refl)
+first-empty cmp [] None f s = grind arith
+first-empty cmp (y ∷ p) v f s = grind arith

@@ -1,25 +1,37 @@
 -- The tree of the keys that start with a prefix, by the walk of these keys.
 --     nothing-listed, nothing-below, filtered-none, filtered-bare        no key starts so
 --     bound-below        what the node binds that they stand below
+--     bare-walk, something-below        a node that is the empty tree has no pair, and any other has some
 --     filtered        a copy of the node that they stand below, with what stands before it
 --     copy-solid        such a copy is solid
 use Rattle.std.proofs.Common.{◌≡◌, [], ◌++◌, List, Option, None, Some, true, false, Result, IfOk, arith}
-use Rattle.std.proofs.Common.{refl, sym, ◌∙◌, map, true≢false}
+use Rattle.std.proofs.Common.{ap, refl, sym, ◌∙◌, map, true≢false}
 use Rattle.std.specs.Cmp.{IsTotalOrder}
 use Rattle.std.specs.Option.{option_and_then}
 use Rattle.std.specs.declared.cmp.Ordering.{Ordering}
-use Rattle.vc_tree_model.specs.Tree.{Tree, node, no_tree, is_bare, lacks_both}
+use Rattle.vc_tree_model.specs.Tree.{Tree, Forest, bare, grow, node, no_tree, is_bare, lacks_both}
 use Rattle.vc_tree_model.specs.Map.{lookup, lookup_in, node_lookup, IsEqualMap}
 use Rattle.vc_tree_model.specs.Canonical.{IsCanonical, IsSolid}
 use Rattle.vc_tree_model.specs.Same.{IsAlike}
 use Rattle.vc_tree_model.specs.Under.{under, prefixed}
-use Rattle.vc_tree_model.specs.Walk.{IsWalk, prepended, walk}
+use Rattle.vc_tree_model.specs.Walk.{IsWalk, own_pair, prepended, walk, walk_in}
 use Rattle.vc_tree_model.proofs.AlikeLemmas.{tree-alike_lookup}
-use Rattle.vc_tree_model.proofs.KeyLemmas.{none-some}
-use Rattle.vc_tree_model.proofs.LookupLemmas.{children-ordered}
+use Rattle.vc_tree_model.proofs.KeyLemmas.{behind-itself, none-some}
+use Rattle.vc_tree_model.proofs.LookupLemmas.{children-ordered, tree-bound}
 use Rattle.vc_tree_model.proofs.UnderLemmas.{walk-prefixed, lookup-prepended}
 use Rattle.vc_tree_model.proofs.ValueLemmas.{kept_by}
 use Rattle.vc_tree_model.proofs.Walking.{walk-is}
+use Rattle.vc_tree_nodes.proofs.Growing.{not-bare_solid}
+
+-- the empty tree has no pair
+pub bare-walk : {K V : Type 0} (front : List K) (t : Tree K V) → is_bare t ≡ true → map (prepended front) (walk t) ≡ []
+bare-walk {K} {V} front t b = by t.value t.children b
+  where
+    by : (v : Option V) (f : Forest K V) → lacks_both v f ≡ true
+        → map (prepended front) (map (prepended t.prefix) (own_pair v ++ walk_in f)) ≡ []
+    by None bare h = refl
+    by None (grow p v kids rest) h = grind arith
+    by (Some v) f h = grind arith
 
 module _ {K V : Type 0} (cmp : K → K → Ordering) (o : IsTotalOrder cmp) where
   -- two maps of one walk have the same values
@@ -60,6 +72,14 @@ module _ {K V : Type 0} (cmp : K → K → Ordering) (o : IsTotalOrder cmp) wher
       -- the node is the empty tree
       pub nothing-below : is_bare t ≡ true → (k : List K) → under cmp f p k ≡ None
       nothing-below b k = grind (arith, bound-below, lacks_both, node_lookup, lookup_in, true≢false, option_and_then)
+
+      -- any other node binds a key
+      pub something-below : {X : Type 0} → is_bare t ≡ false → ((k : List K) → under cmp f p k ≡ None) → X
+      something-below b n =
+          let bound = tree-bound cmp o t.prefix t.value t.children (not-bare_solid t c.0 b) c.1 in
+          let k = front ++ (t.prefix ++ bound.key) in
+          none-some _ (sym (n k) ∙ bound-below k
+          ∙ ap (option_and_then (lookup cmp t)) (behind-itself cmp o front (t.prefix ++ bound.key)) ∙ bound.is)
 
       pub filtered-bare : (u : Tree K V) → u ≡ no_tree → is_bare t ≡ true → IsEqualMap keeps (under cmp f p) (lookup cmp u)
       filtered-bare u e b = none-kept u e (nothing-below b)

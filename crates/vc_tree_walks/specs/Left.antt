@@ -4,12 +4,12 @@ use Rattle.std.specs.Prelude.{MatchResult}
 use Rattle.vc_tree_model.specs.Tree.{Forest, forest_nodes}
 use Rattle.vc_tree_model.specs.Walk.{prepended, walk_in}
 
--- a step of an iterator: its first item, and the others are left; or an error, and nothing is left; or `None`, where nothing is
--- left
-abbrev pub Walks : {S X A E : Type 0} → (X → A) → (S → List A) → S → Option (Result X E) → S → Type 0
-Walks view rest s r t =
+-- a step of an iterator that takes at most so many more: its first item, and the others are left; or an error, and nothing is
+-- left, nor another step that finds something; or `None`, where nothing is left
+abbrev pub Walks : {S X A E : Type 0} → (X → A) → (S → List A) → (S → ℕ) → S → Option (Result X E) → S → Type 0
+Walks view rest work s r t =
     MatchOption r ((rest s ≡ []) × (rest t ≡ []))
-    (λ x. MatchResult x (λ item. rest s ≡ view item ∷ rest t) (λ _. rest t ≡ []))
+    (λ x. MatchResult x (λ item. rest s ≡ view item ∷ rest t) (λ _. (rest t ≡ []) × (work t ≡ 0)))
 
 module _ {K V : Type 0} where
   -- the pair of a key and its value, if there is one

@@ -11,12 +11,14 @@ use Rattle.vc_tree_walks.specs.declared.owned.Way.{Way}
 use Rattle.vc_tree_walks.specs.declared.turn.Turn.{Turn}
 use Rattle.vc_tree_walks.specs.declared.turn.Turn.TheVariants.{Item, Moved, Done}
 
--- a step of an iterator that hands out clones: that of its first item, and the others are left; or an error, and nothing is
--- left; or `None`, where nothing is left
-abbrev pub WalksClones : {S K V E : Type 0} → (V → V → Type 0) → (S → List (K × V)) → S → Option (Result (K × V) E) → S → Type 0
-WalksClones {V = V} is_clone rest s r t =
+-- a step of an iterator that hands out clones, and takes at most so many more: that of its first item, and the others are
+-- left; or an error, and nothing is left, nor another step that finds something; or `None`, where nothing is left
+abbrev pub WalksClones : {S K V E : Type 0} → (V → V → Type 0) → (S → List (K × V)) → (S → ℕ) → S → Option (Result (K × V) E)
+    → S → Type 0
+WalksClones {V = V} is_clone rest work s r t =
     MatchOption r ((rest s ≡ []) × (rest t ≡ []))
-    (λ x. MatchResult x (λ item. (v : V) × is_clone v item.1 × (rest s ≡ (item.0, v) ∷ rest t)) (λ _. rest t ≡ []))
+    (λ x. MatchResult x (λ item. (v : V) × is_clone v item.1 × (rest s ≡ (item.0, v) ∷ rest t))
+    (λ _. (rest t ≡ []) × (work t ≡ 0)))
 
 -- a node of this key and this value: the key and a clone of the value, or none
 abbrev pub IsItem : {K V : Type 0} → (V → V → Type 0) → List K → Option V → Turn (List K × V) → Type 0

@@ -1,7 +1,7 @@
 //! The first and the last pair of a tree.
 
-ghost use Rattle.std.specs.Prelude.{◌≡◌, ◌-◌, IfOk, IfSome, List, MatchOption, Ok, None, true};
-ghost use Rattle.std.specs.Prelude.{length, slice_get};
+ghost use Rattle.std.specs.Prelude.{◌≡◌, ◌-◌, IfOk, IfSome, IsOk, IsSome, List, MatchOption, Ok};
+ghost use Rattle.std.specs.Prelude.{None, [], Some, length, slice_get, true};
 ghost use Rattle.std.specs.Option.{option_map};
 ghost use Rattle.vc_tree_model.specs.Map.{lookup};
 ghost use Rattle.vc_tree_model.specs.Tree.{is_bare};
@@ -22,6 +22,7 @@ pub fn first_key_value<'a, K: TKey, V: TValue, T: RadixNode<K, V>>(
         IfOk result (λ found. MatchOption found ((k : List K) → f k ≡ None)
         (λ b. IsLeastPair K.cmp f (b.0.items, b.1.now))) }
     ensures none { is_bare (T.tree tree.now) ≡ true → result ≡ Ok None }
+    ensures empty_key { IsSome (lookup K.cmp (T.tree tree.now) []) → IsOk result }
 {
     canonical(tree);
     key_value_at(tree, End::First)
@@ -52,7 +53,7 @@ enum End {
     Last,
 }
 
-/// The pair at an end. Asks for the memory of its key once.
+/// The pair at an end. Asks for the memory of its key once, and for none where the key is empty.
 fn key_value_at<'a, K: TKey, V: TValue, T: RadixNode<K, V>>(
     tree: &'a T,
     end: End,
@@ -60,10 +61,14 @@ fn key_value_at<'a, K: TKey, V: TValue, T: RadixNode<K, V>>(
     ensures pair { IfOk result (λ found. option_map (λ b. (b.0.items, b.1.now)) found
         ≡ end_of end (walk (T.tree tree.now))) }
     ensures none { end_of end (walk (T.tree tree.now)) ≡ None → result ≡ Ok None }
+    ensures empty_key { (v : V) → end_of end (walk (T.tree tree.now)) ≡ Some ([], v) → IsOk result }
 {
     let Some((length, value)) = value_at(tree, end) else {
         return Ok(None);
     };
+    if length == 0 {
+        return Ok(Some((Vec::new(tree.allocator()), value)));
+    }
     let key = key_at(tree, end, length)?;
     Ok(Some((key, value)))
 }

@@ -1,6 +1,6 @@
 //! The tree of the keys that start with a prefix.
 
-ghost use Rattle.std.specs.Prelude.{IfOk};
+ghost use Rattle.std.specs.Prelude.{◌≡◌, IfOk, IsOk, List, None};
 ghost use Rattle.vc_tree_model.specs.Canonical.{IsCanonical};
 ghost use Rattle.vc_tree_model.specs.Map.{lookup, IsEqualMap};
 ghost use Rattle.vc_tree_model.specs.Under.{under};
@@ -20,6 +20,8 @@ pub fn filter_prefix<K: TKey, V: TValue, T: CloneTree<K, V>>(
 ) -> Result<T, AllocError>
     ensures made { IfOk result (λ made. IsEqualMap (Copies V.is_clone)
         (under K.cmp (lookup K.cmp (T.tree tree.now)) prefix.now) (lookup K.cmp (T.tree made))) }
+    ensures absent { let f = lookup K.cmp (T.tree tree.now) in
+        ((k : List K) → under K.cmp f prefix.now k ≡ None) → IsOk result }
     ensures canonical { IfOk result (λ made. IsCanonical K.cmp (T.tree made)) }
 {
     let made = copy_under(tree, prefix)?;
@@ -33,8 +35,10 @@ fn copy_under<K: TKey, V: TValue, T: CloneTree<K, V>>(
     tree: &T,
     prefix: &[K],
 ) -> Result<T, AllocError>
-    ensures { IfOk result (λ made. IsEqualMap (Copies V.is_clone)
+    ensures made { IfOk result (λ made. IsEqualMap (Copies V.is_clone)
         (under K.cmp (lookup K.cmp (T.tree tree.now)) prefix.now) (lookup K.cmp (T.tree made))) }
+    ensures absent { let f = lookup K.cmp (T.tree tree.now) in
+        ((k : List K) → under K.cmp f prefix.now k ≡ None) → IsOk result }
 {
     let alloc = tree.allocator();
     let Some((front, node)) = find_under(tree, prefix) else {

@@ -1,6 +1,7 @@
 //! Walks that hand a value from pair to pair, and lend each key.
 
-ghost use Rattle.std.specs.Prelude.{◌≡◌, ◌⊎◌, alloc_error, map, true, IfErr, IfOk, Ok, OnOk};
+ghost use Rattle.std.specs.Prelude.{◌≡◌, ◌⊎◌, alloc_error, map, true, IfErr, IfOk, List, None, Ok};
+ghost use Rattle.std.specs.Prelude.{OnOk};
 ghost use Rattle.std.specs.List.{FoldsTo};
 ghost use Rattle.vc_tree_model.specs.Map.{lookup};
 ghost use Rattle.vc_tree_model.specs.Tree.{is_bare};
@@ -11,7 +12,7 @@ ghost use Rattle.vc_tree_walks.specs.Left.{pair_at};
 
 use crate::scan::find_under;
 use std::alloc::AllocError;
-use vc_tree_nodes::reading::{RadixNode, TKey, TValue, is_empty};
+use vc_tree_nodes::reading::{RadixNode, TKey, TValue, canonical, is_empty};
 
 /// What the closure makes of a value and all pairs of the tree, by ascending keys.
 pub fn fold<
@@ -53,10 +54,16 @@ pub fn fold_prefix<
     ensures err { IfErr result (λ e. E.from_gives alloc_error e
         ⊎ ((l : _) × IsWalk K.cmp (under K.cmp (lookup K.cmp (T.tree tree.now)) prefix.now) l
         × IsStopped F.Fn turn.now init l e)) }
+    ensures none { let f = lookup K.cmp (T.tree tree.now) in
+        ((k : List K) → under K.cmp f prefix.now k ≡ None) → result ≡ Ok init }
 {
     let Some((front, node)) = find_under(tree, prefix) else {
         return Ok(init);
     };
+    canonical(node);
+    if is_empty(node) {
+        return Ok(init);
+    }
     let mut key = Vec::new(tree.allocator());
     key.extend_from_slice(front)?;
     fold_node(node, &mut key, init, turn)

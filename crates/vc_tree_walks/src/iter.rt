@@ -24,7 +24,7 @@ struct Row<'a, T> {
 /// The pairs of a tree, by ascending keys, each as its key and a reference to its value.
 ///
 /// A step takes no memory where the last key was let go and the walk has been as deep before, with
-/// a key as long. After an `Err` the walk is at its end.
+/// a key as long. After an `Err` the walk is at its end, and answers `None`.
 pub struct Iter<'a, K, V, T> {
     alloc: Global,
     /// What stands before the keys of the tree, and the tree, until the first step.
@@ -164,7 +164,8 @@ impl<'a, K: TKey, V: TValue + 'a, T: RadixNode<K, V>> Iterator for Iter<'a, K, V
     ghost use Rattle.vc_tree_walks.specs.Left.{Walks};
     ghost use Rattle.vc_tree_walks.specs.IterLeft.{pairs_left, work_left};
 
-    ghost next_gives = { Walks (λ item. (item.0, item.1.now)) (pairs_left T.tree) };
+    ghost next_gives = { Walks (λ item. (item.0, item.1.now)) (pairs_left T.tree)
+        (work_left T.tree) };
 
     ghost remaining = { λ s. at_most (work_left T.tree s) };
 

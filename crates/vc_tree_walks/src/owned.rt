@@ -39,7 +39,7 @@ struct Way<K> {
 /// finds the node where it stands from the root, by one place a node, and spells no more of the key
 /// than the next node adds. It takes no memory where the last key was let go and the walk has been
 /// as deep before, with a key as long, but for what the clone of a value takes. After an `Err` the
-/// walk is at its end.
+/// walk is at its end, and answers `None`.
 #[derive(Drop)]
 pub struct ObjAndIter<K, V, T> {
     tree: T,
@@ -220,7 +220,7 @@ impl<K: TKey, V: TValue, T: RadixNode<K, V> + Drop> Iterator for ObjAndIter<K, V
     ghost use Rattle.std.specs.Iterator.{at_most};
     ghost use Rattle.vc_tree_walks.specs.OwnedLeft.{held_left, held_work, WalksClones};
 
-    ghost next_gives = { WalksClones V.is_clone (held_left T.tree) };
+    ghost next_gives = { WalksClones V.is_clone (held_left T.tree) (held_work T.tree) };
 
     ghost remaining = { λ s. at_most (held_work T.tree s) };
 

@@ -13,7 +13,7 @@ use vc_tree_nodes::reading::{RadixNode, TKey, TValue};
 /// References to the values of a tree, in the order of their keys.
 ///
 /// A step takes no memory where the walk has been as deep before. After an `Err` the walk is at its
-/// end.
+/// end, and answers `None`.
 pub struct Values<'a, K, V, T> {
     /// The tree, until the first step, with which no row is left.
     start: Option<&'a T>,
@@ -110,7 +110,7 @@ impl<'a, K: TKey, V: TValue + 'a, T: RadixNode<K, V>> Iterator for Values<'a, K,
     ghost use Rattle.vc_tree_walks.specs.Left.{Walks};
     ghost use Rattle.vc_tree_walks.specs.ValuesLeft.{values_left, values_work};
 
-    ghost next_gives = { Walks (λ item. item.now) (values_left T.tree) };
+    ghost next_gives = { Walks (λ item. item.now) (values_left T.tree) (values_work T.tree) };
 
     ghost remaining = { λ s. at_most (values_work T.tree s) };
 

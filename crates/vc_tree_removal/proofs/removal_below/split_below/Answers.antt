@@ -7,6 +7,7 @@ use Rattle.vc_tree_model.proofs.AlikeLemmas.{tree-alike_lookup}
 use Rattle.vc_tree_nodes.proofs.Events.{always-err}
 use Rattle.vc_tree_removal.proofs.Going.{begins-tells}
 use Rattle.vc_tree_removal.proofs.Parting.{divides-joined, divides-without}
+use Rattle.vc_tree_removal.proofs.Staying.{deep-stays}
 use Rattle.vc_tree_removal.proofs.removal_below.split_below.Goals as goal
 
 pub returns-in_err-joined-clause-err : goal.returns-in_err-joined-clause-err
@@ -26,3 +27,13 @@ returns-clause-made g c =
 pub returns-clause-ok : goal.returns-clause-ok
 returns-clause-ok g c =
     divides-without c.in_ok-taken.ensures.ok.divided _ (λ k. begins-tells (behind g.K.Ord.cmp c.args.prefix.now k))
+
+pub returns-in_err-joined-clause-all : goal.returns-in_err-joined-clause-all
+returns-in_err-joined-clause-all g c =
+    deep-stays g.met.K.Ord.total (g.T.RadixNode.tree c.args.tree.now) c.args.prefix.now c.canonical.ensures
+    c.if-goes_wholly.ensures
+
+pub returns-in_err-taken-clause-all : goal.returns-in_err-taken-clause-all
+returns-in_err-taken-clause-all g c =
+    deep-stays g.met.K.Ord.total (g.T.RadixNode.tree c.args.tree.now) c.args.prefix.now c.canonical.ensures
+    c.if-goes_wholly.ensures
