@@ -1,6 +1,10 @@
 pub mod Alone
-pub mod Paying
 pub mod Meeting
 pub mod Passing
 pub mod Testing
-pub mod Narrowed
+pub mod Around
+pub mod Runs
+pub mod Inside
+pub mod Shapes
+pub mod Stopped
+pub mod Asked

@@ -65,16 +65,16 @@ all-append P [] ys a b = b
 all-append P (x ∷ xs) ys a b = (a.0, all-append P xs ys a.1 b)
 
 module _ {A B : Type 0} where
-  lefts-append : (es fs : List (Event A B)) → lefts (es ++ fs) ≡ lefts es ++ lefts fs
+  pub lefts-append : (es fs : List (Event A B)) → lefts (es ++ fs) ≡ lefts es ++ lefts fs
   lefts-append [] fs = refl
   lefts-append (e ∷ es) fs = grind (arith, lefts-append es fs)
 
-  rights-append : (es fs : List (Event A B)) → rights (es ++ fs) ≡ rights es ++ rights fs
+  pub rights-append : (es fs : List (Event A B)) → rights (es ++ fs) ≡ rights es ++ rights fs
   rights-append [] fs = refl
   rights-append (e ∷ es) fs = grind (arith, rights-append es fs)
 
   -- what a run takes off the fronts of both lists
-  run-lefts : (ls : List A) (rs : List B) (run : Run A B) (ls' : List A) (rs' : List B) → IsAtFront ls rs run ls' rs'
+  pub run-lefts : (ls : List A) (rs : List B) (run : Run A B) (ls' : List A) (rs' : List B) → IsAtFront ls rs run ls' rs'
       → ls ≡ lefts (run_events run) ++ ls'
   run-lefts ls rs (of_left xs) ls' rs' f = rw (only xs) f.1
     where
@@ -88,7 +88,7 @@ module _ {A B : Type 0} where
       none (y ∷ ys) = none ys
   run-lefts ls rs (of_both x y) ls' rs' f = f.0
 
-  run-rights : (ls : List A) (rs : List B) (run : Run A B) (ls' : List A) (rs' : List B) → IsAtFront ls rs run ls' rs'
+  pub run-rights : (ls : List A) (rs : List B) (run : Run A B) (ls' : List A) (rs' : List B) → IsAtFront ls rs run ls' rs'
       → rs ≡ rights (run_events run) ++ rs'
   run-rights ls rs (of_left xs) ls' rs' f = rw (none xs) f.2
     where

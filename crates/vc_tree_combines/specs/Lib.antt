@@ -1,4 +1,4 @@
 pub mod Meeting
 pub mod Ended
-pub mod Narrowing
-pub mod Saying
+pub mod Making
+pub mod Stopping

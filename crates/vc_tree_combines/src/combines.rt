@@ -1,7 +1,7 @@
 //! The combines of two trees that build a new one: what each makes of values, and of trees that one
 //! side alone has.
 
-ghost use Rattle.std.specs.Prelude.{◌≡◌, ◌+◌, ◌*◌, ◌<◌, ◌≤◌, List, Option, Some, None, Ok, IfOk};
+ghost use Rattle.std.specs.Prelude.{◌≡◌, ◌+◌, ◌*◌, ◌<◌, ◌≤◌, List, Option, Some, None, Ok, IfOk, false};
 ghost use Rattle.std.specs.Prelude.{length, option_map, refl};
 ghost use Rattle.std.specs.Option.{option_copied};
 ghost use Rattle.vc_tree_model.specs.Asking.{MayAnswer, CanAsk};
@@ -14,11 +14,9 @@ ghost use Rattle.vc_tree_model.specs.Shortened.{weight, IsShortened};
 ghost use Rattle.vc_tree_model.specs.Tree.{shortened};
 ghost use Rattle.vc_tree_model.specs.Value.{Copies};
 ghost use Rattle.vc_tree_facing.specs.Made.{IsMade};
-ghost use Rattle.vc_tree_combines.specs.Narrowing.{IsTold};
-ghost use Rattle.vc_tree_combines.specs.Saying.{intersection_nothing, difference_nothing};
 
-use crate::engine::{Combine, combine_whole};
-use crate::narrowing::{Alone, Narrow, narrow_whole};
+use crate::engine::combine_whole;
+use crate::operation::Combine;
 use std::alloc::{AllocError, Global};
 use std::marker::PhantomData;
 use vc_merge::merge::Count;
@@ -40,21 +38,28 @@ impl<
     V: TValue,
     W: TValue,
     A: RadixNode<K, V>,
+    B: RadixNode<K, W>,
     M: Build<K, V>,
     F: Fn(&V, &W) -> Result<Option<V>, AllocError>,
-> Narrow<K, V, W, A> for Inner<'f, F, M> {
+> Combine<K, V, W, A, B> for Inner<'f, F, M> {
     type Made = M;
 
     ghost says = { λ op. IsInnerAt (λ v w z. MayAnswer F.Fn op.answer.now v w (Ok z)) };
 
     ghost asks = { λ op. CanAsk F.Fn op.answer.now };
 
-    ghost says_nothing = { λ op w. refl };
+    ghost says_none = { λ op. refl };
 
     ghost asks_none = { λ op. tt };
 
-    fn expected(&self, left: usize) -> usize {
-        0
+    #[inline(always)]
+    fn keeps_left(&self) -> bool {
+        false
+    }
+
+    #[inline(always)]
+    fn keeps_right(&self) -> bool {
+        false
     }
 
     fn at_values(&self, v: Option<&V>, w: Option<&W>) -> Result<Option<V>, AllocError> {
@@ -67,8 +72,12 @@ impl<
         }
     }
 
-    fn left_alone(&self, alloc: Global, tree: &A, from: usize) -> Result<Alone<M>, AllocError> {
-        Ok(Alone::Goes)
+    fn left_alone(&self, alloc: Global, tree: &A, from: usize) -> Result<Option<M>, AllocError> {
+        Ok(None)
+    }
+
+    fn right_alone(&self, alloc: Global, tree: &B, from: usize) -> Result<Option<M>, AllocError> {
+        Ok(None)
     }
 }
 
@@ -98,6 +107,16 @@ impl<
     ghost says_none = { λ op. tt };
 
     ghost asks_none = { λ op. tt };
+
+    #[inline(always)]
+    fn keeps_left(&self) -> bool {
+        true
+    }
+
+    #[inline(always)]
+    fn keeps_right(&self) -> bool {
+        true
+    }
 
     fn at_values(&self, v: Option<&V>, w: Option<&V>) -> Result<Option<V>, AllocError> {
         match v {
@@ -141,6 +160,16 @@ impl<K: TKey, V: TValue, A: RadixNode<K, V>, B: RadixNode<K, V>, M: Build<K, V>>
 
     ghost asks_none = { λ _. tt };
 
+    #[inline(always)]
+    fn keeps_left(&self) -> bool {
+        true
+    }
+
+    #[inline(always)]
+    fn keeps_right(&self) -> bool {
+        true
+    }
+
     fn at_values(&self, v: Option<&V>, w: Option<&V>) -> Result<Option<V>, AllocError> {
         match v {
             Some(v) => clone_value(Some(v)),
@@ -163,20 +192,31 @@ struct KeepShared<M> {
     made: PhantomData<M>,
 }
 
-impl<K: TKey, V: TValue, W: TValue, A: RadixNode<K, V>, M: Build<K, V>> Narrow<K, V, W, A>
-    for KeepShared<M> {
+impl<K: TKey, V: TValue, W: TValue, A: RadixNode<K, V>, B: RadixNode<K, W>, M: Build<K, V>> Combine<
+    K,
+    V,
+    W,
+    A,
+    B,
+> for KeepShared<M> {
     type Made = M;
 
     ghost says = { λ _. IsIntersectionAt (Copies V.is_clone) };
 
     ghost asks = { λ _ _ _. Unit {0} };
 
-    ghost says_nothing = { λ op w. intersection_nothing (Copies V.is_clone) w };
+    ghost says_none = { λ _. refl };
 
     ghost asks_none = { λ _. tt };
 
-    fn expected(&self, left: usize) -> usize {
-        0
+    #[inline(always)]
+    fn keeps_left(&self) -> bool {
+        false
+    }
+
+    #[inline(always)]
+    fn keeps_right(&self) -> bool {
+        false
     }
 
     fn at_values(&self, v: Option<&V>, w: Option<&W>) -> Result<Option<V>, AllocError> {
@@ -186,8 +226,12 @@ impl<K: TKey, V: TValue, W: TValue, A: RadixNode<K, V>, M: Build<K, V>> Narrow<K
         }
     }
 
-    fn left_alone(&self, alloc: Global, tree: &A, from: usize) -> Result<Alone<M>, AllocError> {
-        Ok(Alone::Goes)
+    fn left_alone(&self, alloc: Global, tree: &A, from: usize) -> Result<Option<M>, AllocError> {
+        Ok(None)
+    }
+
+    fn right_alone(&self, alloc: Global, tree: &B, from: usize) -> Result<Option<M>, AllocError> {
+        Ok(None)
     }
 }
 
@@ -197,20 +241,31 @@ struct KeepLeft<M> {
     made: PhantomData<M>,
 }
 
-impl<K: TKey, V: TValue, W: TValue, A: RadixNode<K, V>, M: Build<K, V>> Narrow<K, V, W, A>
-    for KeepLeft<M> {
+impl<K: TKey, V: TValue, W: TValue, A: RadixNode<K, V>, B: RadixNode<K, W>, M: Build<K, V>> Combine<
+    K,
+    V,
+    W,
+    A,
+    B,
+> for KeepLeft<M> {
     type Made = M;
 
     ghost says = { λ _. IsDifferenceAt (Copies V.is_clone) };
 
     ghost asks = { λ _ _ _. Unit {0} };
 
-    ghost says_nothing = { λ op w. difference_nothing (Copies V.is_clone) w };
+    ghost says_none = { λ _. tt };
 
     ghost asks_none = { λ _. tt };
 
-    fn expected(&self, left: usize) -> usize {
-        left
+    #[inline(always)]
+    fn keeps_left(&self) -> bool {
+        true
+    }
+
+    #[inline(always)]
+    fn keeps_right(&self) -> bool {
+        false
     }
 
     fn at_values(&self, v: Option<&V>, w: Option<&W>) -> Result<Option<V>, AllocError> {
@@ -220,8 +275,12 @@ impl<K: TKey, V: TValue, W: TValue, A: RadixNode<K, V>, M: Build<K, V>> Narrow<K
         }
     }
 
-    fn left_alone(&self, alloc: Global, tree: &A, from: usize) -> Result<Alone<M>, AllocError> {
-        Ok(Alone::Stays(copy_shortened(alloc, tree, 0)?))
+    fn left_alone(&self, alloc: Global, tree: &A, from: usize) -> Result<Option<M>, AllocError> {
+        Ok(Some(copy_shortened(alloc, tree, from)?))
+    }
+
+    fn right_alone(&self, alloc: Global, tree: &B, from: usize) -> Result<Option<M>, AllocError> {
+        Ok(None)
     }
 }
 
@@ -246,7 +305,7 @@ pub fn inner_combine<
         answer: f,
         made: PhantomData,
     };
-    narrow_whole(this, that, &op)
+    combine_whole(this, that, &op, &mut Uncounted)
 }
 
 /// The keys of both trees, the shared ones with what the closure answers.
@@ -298,7 +357,7 @@ pub fn intersection<K: TKey, V: TValue, W: TValue, A: Build<K, V>, B: RadixNode<
     ensures canonical { IfOk result (λ made. IsCanonical K.cmp (A.tree made)) }
 {
     let op: KeepShared<A> = KeepShared { made: PhantomData };
-    narrow_whole(this, that, &op)
+    combine_whole(this, that, &op, &mut Uncounted)
 }
 
 /// The keys that the left tree alone binds.
@@ -311,7 +370,7 @@ pub fn difference<K: TKey, V: TValue, W: TValue, A: Build<K, V>, B: RadixNode<K,
     ensures canonical { IfOk result (λ made. IsCanonical K.cmp (A.tree made)) }
 {
     let op: KeepLeft<A> = KeepLeft { made: PhantomData };
-    narrow_whole(this, that, &op)
+    combine_whole(this, that, &op, &mut Uncounted)
 }
 
 /// The tree with the first `n` components off every key.

@@ -1,77 +1,37 @@
 //! The one recursion of all combines that build a tree.
 
-ghost use Rattle.std.specs.Prelude.{◌≡◌, ◌+◌, ◌*◌, ◌<◌, ◌≤◌, List, [], Option, None, IfOk, drop};
-ghost use Rattle.std.specs.Prelude.{take, length, map, option_map};
-ghost use Rattle.std.specs.Option.{option_copied};
-ghost use Rattle.vc_tree_model.specs.Combine.{IsCombined};
-ghost use Rattle.vc_tree_model.specs.Tree.{forest, shortened};
-ghost use Rattle.vc_tree_model.specs.Map.{lookup};
+ghost use Rattle.std.specs.Prelude.{◌≡◌, ◌+◌, ◌-◌, ◌*◌, ◌<◌, ◌≤◌, List, [], ◌∷◌, Option, Some, IfOk};
+ghost use Rattle.std.specs.Prelude.{IfSome, OnOk, drop, take, length, map, option_map};
+ghost use Rattle.std.proofs.Common.{inl, inr};
+ghost use Rattle.std.specs.Option.{option_copied, option_to_list};
 ghost use Rattle.vc_tree_model.specs.Canonical.{AreChildren, IsCanonical};
 ghost use Rattle.vc_tree_model.specs.Child.{value_at as node_value};
-ghost use Rattle.vc_tree_model.specs.Shortened.{weight};
+ghost use Rattle.vc_tree_model.specs.Combine.{IsCombined};
+ghost use Rattle.vc_tree_model.specs.Look.{values};
+ghost use Rattle.vc_tree_model.specs.Map.{lookup};
+ghost use Rattle.vc_tree_model.specs.Shortened.{weight, forest_weight};
+ghost use Rattle.vc_tree_model.specs.Tree.{forest_nodes, shortened};
 ghost use Rattle.vc_tree_nodes.specs.Children.{seen};
 ghost use Rattle.vc_tree_nodes.specs.Parting.{Agree};
-ghost use Rattle.vc_tree_facing.specs.Made.{IsMade, IsBothMade};
-ghost use Rattle.vc_tree_facing.specs.Facing.{trees_below};
-ghost use Rattle.vc_tree_combines.specs.Ended.{IsBegun, IsEnded};
+ghost use Rattle.vc_tree_facing.specs.Doing.{AreNext, IsDoing, IsSaidIn, IsSaidOf};
+ghost use Rattle.vc_tree_facing.specs.Facing.{shortened_in};
+ghost use Rattle.vc_tree_facing.specs.Made.{IsBothMade};
+ghost use Rattle.vc_tree_facing.specs.Sides.{by_component, side_next};
+ghost use Rattle.vc_tree_facing.specs.declared.sides.Side.TheVariants.{Left, Right};
+ghost use Rattle.vc_tree_combines.specs.Ended.{IsEnded};
+ghost use Rattle.vc_tree_combines.specs.Making.{IsAdded, AreMadeOf, IsMadeBelow};
 
+use crate::adding::{add_left, add_lefts, add_right, add_rights, look_around};
+use crate::kids::{Kids, MakeAlone, merge_to_pair, take_pair};
+use crate::operation::{Combine, room_for};
 use std::alloc::{AllocError, Global};
+use std::marker::PhantomData;
 use vc_merge::merge::Count;
-use vc_tree_facing::facing::{Below, Facing, count_below, expected, face, side_below};
+use vc_merge::plan::plan_of;
 use vc_tree_facing::nodes::{finish, keep, value_at};
-use vc_tree_facing::sides::Side;
 use vc_tree_nodes::building::{Build, Seal};
+use vc_tree_nodes::parting::{Parting, find_parting};
 use vc_tree_nodes::reading::{RadixNode, TKey, TValue, canonical};
-
-/// What a combine makes of values, and of trees that one side alone has.
-pub trait Combine<K: TKey, V: TValue, W: TValue, A: RadixNode<K, V>, B: RadixNode<K, W>> {
-    /// The flavour that is made.
-    type Made: Build<K, V>;
-
-    /// What the combine says of the values that the left tree, the right tree and the result bind
-    /// to a key.
-    ghost says: { Self → Option V → Option W → Option V → Type 0 };
-
-    /// What it needs in order to be asked of the values that both trees bind to a key.
-    ghost asks: { Self → Option V → Option W → Type 0 };
-
-    /// The value of a key to which the trees bind these.
-    fn at_values(&self, v: Option<&V>, w: Option<&W>) -> Result<Option<V>, AllocError>
-        requires { asks self.now (option_copied v) (option_copied w) }
-        ensures { IfOk result (says self.now (option_copied v.entry) (option_copied w.entry)) };
-
-    /// What is left of a tree that the left side alone has, without the first `from` components of
-    /// its prefix.
-    fn left_alone(
-        &self,
-        alloc: Global,
-        tree: &A,
-        from: usize,
-    ) -> Result<Option<Self::Made>, AllocError>
-        requires within { from < length (A.tree tree.now).prefix }
-        requires asks { (k : List K)
-            → asks self.now (lookup K.cmp (shortened from (A.tree tree.now)) k) None }
-        ensures { IfOk result (λ made. IsMade K.cmp (λ v z. says self.now v None z)
-            (shortened from (A.tree tree.now)) (option_map Self.Made.tree made)) };
-
-    /// What is left of a tree that the right side alone has, without the first `from` components of
-    /// its prefix.
-    fn right_alone(
-        &self,
-        alloc: Global,
-        tree: &B,
-        from: usize,
-    ) -> Result<Option<Self::Made>, AllocError>
-        requires within { from < length (B.tree tree.now).prefix }
-        requires asks { (k : List K)
-            → asks self.now None (lookup K.cmp (shortened from (B.tree tree.now)) k) }
-        ensures { IfOk result (λ made. IsMade K.cmp (λ w z. says self.now None w z)
-            (shortened from (B.tree tree.now)) (option_map Self.Made.tree made)) };
-
-    ghost says_none: { (op : Self) → says op None None None };
-
-    ghost asks_none: { (op : Self) → asks op None None };
-}
 
 /// What the combine makes of the values of the nodes that stand behind equal fronts of two
 /// prefixes.
@@ -137,23 +97,73 @@ fn end<
     Ok(made)
 }
 
-/// The state of a combine, before the first event is done.
-#[derive(Drop)]
-struct Begun<'a, 'b, A, B, M> {
-    /// For how many components the prefixes agree.
-    front: usize,
-    /// What stands below them in the left tree.
-    left: Below<'a, A>,
-    /// What stands below them in the right tree.
-    right: Below<'b, B>,
-    /// The trees that are made of what stands below.
-    kids: Vec<M>,
+/// What is left of two trees, each without the front of its prefix, where the left one goes on with
+/// a lesser component.
+fn make_lower<
+    K: TKey,
+    V: TValue,
+    W: TValue,
+    A: RadixNode<K, V>,
+    B: RadixNode<K, W>,
+    O: Combine<K, V, W, A, B>,
+>(alloc: Global, a: &A, i: usize, b: &B, j: usize, op: &O) -> Result<Vec<O::Made>, AllocError>
+    requires left { AreChildren K.cmp (shortened_in A.tree i (a.now ∷ [])) }
+    requires right { AreChildren K.cmp (shortened_in B.tree j (b.now ∷ [])) }
+    requires first { side_next (by_component A.tree B.tree i j K.cmp) (Some a.now) (Some b.now)
+        ≡ Some Left }
+    requires asks { IsSaidIn K.cmp A.tree B.tree i j (values K.cmp) (O.asks op.now) (a.now ∷ [])
+        (b.now ∷ []) }
+    ensures { IfOk result (λ made. AreMadeOf K.cmp (O.says op.now)
+        (shortened_in A.tree i (a.now ∷ [])) (shortened_in B.tree j (b.now ∷ []))
+        (seen O.Made.tree made.items)) }
+{
+    let mut made = Vec::with_capacity(alloc, room_for::<K, V, W, A, B, O>(op, 1, 1))?;
+    add_left::<K, V, W, A, B, O>(alloc, a, i, op, &mut made)?;
+    add_right::<K, V, W, A, B, O>(alloc, b, j, op, &mut made)?;
+    Ok(made)
 }
 
-/// Lays two trees side by side, each without the front of its prefix, and makes room for what is
-/// made of what stands below.
-fn begin<
-    'a,
+/// What is left of two trees, each without the front of its prefix, where the left one goes on with
+/// a greater component.
+fn make_higher<
+    K: TKey,
+    V: TValue,
+    W: TValue,
+    A: RadixNode<K, V>,
+    B: RadixNode<K, W>,
+    O: Combine<K, V, W, A, B>,
+>(alloc: Global, a: &A, i: usize, b: &B, j: usize, op: &O) -> Result<Vec<O::Made>, AllocError>
+    requires left { AreChildren K.cmp (shortened_in A.tree i (a.now ∷ [])) }
+    requires right { AreChildren K.cmp (shortened_in B.tree j (b.now ∷ [])) }
+    requires first { side_next (by_component A.tree B.tree i j K.cmp) (Some a.now) (Some b.now)
+        ≡ Some Right }
+    requires asks { IsSaidIn K.cmp A.tree B.tree i j (values K.cmp) (O.asks op.now) (a.now ∷ [])
+        (b.now ∷ []) }
+    ensures { IfOk result (λ made. AreMadeOf K.cmp (O.says op.now)
+        (shortened_in A.tree i (a.now ∷ [])) (shortened_in B.tree j (b.now ∷ []))
+        (seen O.Made.tree made.items)) }
+{
+    let mut made = Vec::with_capacity(alloc, room_for::<K, V, W, A, B, O>(op, 1, 1))?;
+    add_right::<K, V, W, A, B, O>(alloc, b, j, op, &mut made)?;
+    add_left::<K, V, W, A, B, O>(alloc, a, i, op, &mut made)?;
+    Ok(made)
+}
+
+/// A tree that goes on behind a place of its prefix, beside the children of the other node, of
+/// which the first are done.
+#[derive(Drop)]
+struct Beside<'a, T, M> {
+    /// The trees that were made.
+    made: Vec<M>,
+    /// The child that begins as the tree goes on.
+    found: Option<&'a T>,
+    /// How many children are left.
+    left: usize,
+}
+
+/// Begins what the combine makes of a left tree that goes on behind a place of its prefix, beside
+/// the children of a right node: adds the trees before the one that begins alike.
+fn begin_inside<
     'b,
     K: TKey,
     V: TValue,
@@ -164,36 +174,157 @@ fn begin<
     C: Count,
 >(
     alloc: Global,
-    a: &'a A,
+    a: &A,
     i: usize,
-    b: &'b B,
-    j: usize,
-    known: usize,
+    others: &'b [B],
+    op: &O,
     steps: &mut C,
-) -> Result<Begun<'a, 'b, A, B, O::Made>, AllocError>
-    requires left { i ≤ length (A.tree a.now).prefix }
-    requires right { j ≤ length (B.tree b.now).prefix }
-    requires known { Agree K.cmp (drop i (A.tree a.now).prefix)
-        (drop j (B.tree b.now).prefix) known }
-    ensures begun { IfOk result (λ s. IsBegun K.cmp A.tree B.tree (shortened i (A.tree a.now))
-        (shortened j (B.tree b.now)) s.front (trees_below s.left) s.left.from (trees_below s.right)
-        s.right.from (map O.Made.tree s.kids.items) (C.counted steps.old) (C.counted steps.new)) }
-    ensures counted { C.counted steps.new ≤ C.counted steps.old
-        + weight (shortened i (A.tree a.now)) + weight (shortened j (B.tree b.now)) }
+) -> Result<Beside<'b, B, O::Made>, AllocError>
+    requires within { i < length (A.tree a.now).prefix }
+    requires right { AreChildren K.cmp (seen B.tree others.now) }
+    requires asks { IsSaidIn K.cmp A.tree B.tree i 0 (values K.cmp) (O.asks op.now) (a.now ∷ [])
+        others.now }
+    ensures next { IfOk result (λ s. AreNext K.cmp A.tree B.tree i 0 (values K.cmp) (O.says op.now)
+        (O.asks op.now) (a.now ∷ []) others.now (Some a.now) (option_copied s.found) []
+        (drop (length others.now - s.left) others.now)
+        (map O.Made.tree s.made.items)) }
+    ensures paid { IfOk result (λ s. let found = option_to_list (option_copied s.found) in
+        C.counted steps.new + 3 * forest_weight (shortened_in B.tree 0 found)
+        ≤ C.counted steps.old + 3 * forest_weight (seen B.tree others.now) + length found) }
+    ensures left { IfOk result (λ s. s.left ≤ length others.now) }
+    ensures counted { C.counted steps.new
+        ≤ C.counted steps.old + 3 * forest_weight (seen B.tree others.now) }
+    ensures fewer { IfOk result
+        (λ s. forest_nodes (seen B.tree (option_to_list (option_copied s.found)))
+        ≤ forest_nodes (seen B.tree others.now)) }
 {
-    let Facing { front, left, right } = face(a, i, b, j, known, steps);
-    let room = expected(count_below(&left), count_below(&right));
-    let kids = Vec::with_capacity(alloc, room)?;
-    Ok(Begun {
-        front,
-        left,
-        right,
-        kids,
+    let room = room_for::<K, V, W, A, B, O>(op, 1, others.len());
+    let mut made = Vec::with_capacity(alloc, room)?;
+    let around = look_around(others, &a.prefix()[i], steps);
+    add_rights::<K, V, W, A, B, O>(alloc, around.before, op, &mut made)?;
+    Ok(Beside {
+        made,
+        found: around.found,
+        left: around.after.len(),
     })
+}
+
+/// Ends it: adds the trees after that one.
+fn end_inside<
+    K: TKey,
+    V: TValue,
+    W: TValue,
+    A: RadixNode<K, V>,
+    B: RadixNode<K, W>,
+    O: Combine<K, V, W, A, B>,
+>(
+    alloc: Global,
+    a: &A,
+    i: usize,
+    others: &[B],
+    left: usize,
+    op: &O,
+    mut made: Vec<O::Made>,
+) -> Result<Vec<O::Made>, AllocError>
+    requires left { left ≤ length others.now }
+    requires doing { IsDoing K.cmp A.tree B.tree i 0 (values K.cmp) (O.says op.now) (O.asks op.now)
+        (a.now ∷ []) others.now [] (drop (length others.now - left) others.now) (map O.Made.tree made.items) }
+    ensures { IfOk result (λ all. AreMadeOf K.cmp (O.says op.now)
+        (shortened_in A.tree i (a.now ∷ [])) (seen B.tree others.now) (seen O.Made.tree all.items)) }
+{
+    let after = others.split_at(others.len() - left).1;
+    add_rights::<K, V, W, A, B, O>(alloc, after, op, &mut made)?;
+    Ok(made)
+}
+
+/// Begins what the combine makes of the children of a left node, beside a right tree that goes on
+/// behind a place of its prefix: adds the trees before the one that begins alike.
+fn begin_within<
+    'a,
+    K: TKey,
+    V: TValue,
+    W: TValue,
+    A: RadixNode<K, V>,
+    B: RadixNode<K, W>,
+    O: Combine<K, V, W, A, B>,
+    C: Count,
+>(
+    alloc: Global,
+    trees: &'a [A],
+    b: &B,
+    j: usize,
+    op: &O,
+    steps: &mut C,
+) -> Result<Beside<'a, A, O::Made>, AllocError>
+    requires left { AreChildren K.cmp (seen A.tree trees.now) }
+    requires within { j < length (B.tree b.now).prefix }
+    requires asks { IsSaidIn K.cmp A.tree B.tree 0 j (values K.cmp) (O.asks op.now) trees.now
+        (b.now ∷ []) }
+    ensures next { IfOk result (λ s. AreNext K.cmp A.tree B.tree 0 j (values K.cmp) (O.says op.now)
+        (O.asks op.now) trees.now (b.now ∷ []) (option_copied s.found) (Some b.now)
+        (drop (length trees.now - s.left) trees.now) []
+        (map O.Made.tree s.made.items)) }
+    ensures paid { IfOk result (λ s. let found = option_to_list (option_copied s.found) in
+        C.counted steps.new + 3 * forest_weight (shortened_in A.tree 0 found)
+        ≤ C.counted steps.old + 3 * forest_weight (seen A.tree trees.now) + length found) }
+    ensures left { IfOk result (λ s. s.left ≤ length trees.now) }
+    ensures counted { C.counted steps.new
+        ≤ C.counted steps.old + 3 * forest_weight (seen A.tree trees.now) }
+    ensures fewer { IfOk result
+        (λ s. forest_nodes (seen A.tree (option_to_list (option_copied s.found)))
+        ≤ forest_nodes (seen A.tree trees.now)) }
+{
+    let room = room_for::<K, V, W, A, B, O>(op, trees.len(), 1);
+    let mut made = Vec::with_capacity(alloc, room)?;
+    let around = look_around(trees, &b.prefix()[j], steps);
+    add_lefts::<K, V, W, A, B, O>(alloc, around.before, op, &mut made)?;
+    Ok(Beside {
+        made,
+        found: around.found,
+        left: around.after.len(),
+    })
+}
+
+/// Ends it: adds the trees after that one.
+fn end_within<
+    K: TKey,
+    V: TValue,
+    W: TValue,
+    A: RadixNode<K, V>,
+    B: RadixNode<K, W>,
+    O: Combine<K, V, W, A, B>,
+>(
+    alloc: Global,
+    trees: &[A],
+    b: &B,
+    j: usize,
+    left: usize,
+    op: &O,
+    mut made: Vec<O::Made>,
+) -> Result<Vec<O::Made>, AllocError>
+    requires left { left ≤ length trees.now }
+    requires doing { IsDoing K.cmp A.tree B.tree 0 j (values K.cmp) (O.says op.now) (O.asks op.now)
+        trees.now (b.now ∷ []) (drop (length trees.now - left) trees.now) [] (map O.Made.tree made.items) }
+    ensures { IfOk result (λ all. AreMadeOf K.cmp (O.says op.now)
+        (seen A.tree trees.now) (shortened_in B.tree j (b.now ∷ [])) (seen O.Made.tree all.items)) }
+{
+    let after = trees.split_at(trees.len() - left).1;
+    add_lefts::<K, V, W, A, B, O>(alloc, after, op, &mut made)?;
+    Ok(made)
+}
+
+/// What is made below the fronts of two prefixes.
+#[derive(Drop)]
+struct Opened<M> {
+    /// For how many components the prefixes agree.
+    front: usize,
+    /// The trees that are made of what stands below.
+    kids: Vec<M>,
 }
 
 /// The combine of two trees, each without the front of its prefix: `None` where no key is left. The
 /// first `known` components that are left of either prefix are known to agree.
+#[cycle(combining)]
 pub fn combine_at<
     K: TKey,
     V: TValue,
@@ -224,32 +355,246 @@ pub fn combine_at<
         ≤ C.counted steps.old + 3
         * (weight (shortened i (A.tree a.now)) + weight (shortened j (B.tree b.now))) }
 {
-    let Begun {
-        front,
-        mut left,
-        mut right,
-        mut kids,
-    } = begin::<K, V, W, A, B, O, C>(alloc, a, i, b, j, known, steps)?;
-    let (from, other_from) = (left.from, right.from);
-    while let Some(side) = side_below(&left, &right, steps) {
-        match side {
-            Side::Left => {
-                let kid = op.left_alone(alloc, left.next(), from)?;
-                keep(&mut kids, kid)?;
+    let Opened { front, kids } = combine_below(alloc, a, i, b, j, known, op, steps)?;
+    end(alloc, a, i, b, j, front, op, kids)
+}
+
+/// What the combine makes of the trees that stand below the place where their prefixes part.
+#[cycle(combining)]
+fn combine_below<
+    K: TKey,
+    V: TValue,
+    W: TValue,
+    A: RadixNode<K, V>,
+    B: RadixNode<K, W>,
+    O: Combine<K, V, W, A, B>,
+    C: Count,
+>(
+    alloc: Global,
+    a: &A,
+    i: usize,
+    b: &B,
+    j: usize,
+    known: usize,
+    op: &O,
+    steps: &mut C,
+) -> Result<Opened<O::Made>, AllocError>
+    requires left { i ≤ length (A.tree a.now).prefix }
+    requires right { j ≤ length (B.tree b.now).prefix }
+    requires known { Agree K.cmp (drop i (A.tree a.now).prefix)
+        (drop j (B.tree b.now).prefix) known }
+    requires asks { (k : List K) → O.asks op.now (lookup K.cmp (shortened i (A.tree a.now)) k)
+        (lookup K.cmp (shortened j (B.tree b.now)) k) }
+    ensures made { IfOk result (λ made. IsMadeBelow K.cmp (O.says op.now)
+        (shortened i (A.tree a.now)) (shortened j (B.tree b.now)) made.front
+        (seen O.Made.tree made.kids.items)) }
+    ensures counted { C.counted steps.new + 2
+        ≤ C.counted steps.old + 3
+        * (weight (shortened i (A.tree a.now)) + weight (shortened j (B.tree b.now))) }
+{
+    let p = &a.prefix()[i..];
+    let q = &b.prefix()[j..];
+    match find_parting(p, q, known, steps) {
+        Parting::Lower(front) => {
+            let kids = make_lower(alloc, a, i + front, b, j + front, op)?;
+            Ok(Opened { front, kids })
+        }
+        Parting::Higher(front) => {
+            let kids = make_higher(alloc, a, i + front, b, j + front, op)?;
+            Ok(Opened { front, kids })
+        }
+        Parting::Inside(front) => {
+            let others = b.children();
+            let kids = combine_inside(alloc, a, i + front, others, op, steps)?;
+            Ok(Opened { front, kids })
+        }
+        Parting::Behind => {
+            let front = p.len();
+            let lefts = a.children();
+            if front < q.len() {
+                let kids = combine_within(alloc, lefts, b, j + front, op, steps)?;
+                return Ok(Opened { front, kids });
             }
-            Side::Right => {
-                let kid = op.right_alone(alloc, right.next(), other_from)?;
-                keep(&mut kids, kid)?;
-            }
-            Side::Both => {
-                let (x, y) = (left.next(), right.next());
-                let kid = combine_at(alloc, x, from, y, other_from, 1, op, steps)?;
-                keep(&mut kids, kid)?;
-            }
+            let rights = b.children();
+            let kids = combine_kids(alloc, lefts, rights, op, steps)?;
+            Ok(Opened { front, kids })
         }
     }
-    let made = end(alloc, a, i, b, j, front, op, kids)?;
-    Ok(made)
+}
+
+/// What the combine makes of a left tree that goes on behind a place of its prefix, beside the
+/// children of a right node.
+#[cycle(combining)]
+fn combine_inside<
+    K: TKey,
+    V: TValue,
+    W: TValue,
+    A: RadixNode<K, V>,
+    B: RadixNode<K, W>,
+    O: Combine<K, V, W, A, B>,
+    C: Count,
+>(
+    alloc: Global,
+    a: &A,
+    i: usize,
+    others: &[B],
+    op: &O,
+    steps: &mut C,
+) -> Result<Vec<O::Made>, AllocError>
+    requires within { i < length (A.tree a.now).prefix }
+    requires right { AreChildren K.cmp (seen B.tree others.now) }
+    requires asks { IsSaidIn K.cmp A.tree B.tree i 0 (values K.cmp) (O.asks op.now) (a.now ∷ [])
+        others.now }
+    ensures made { IfOk result (λ made. AreMadeOf K.cmp (O.says op.now)
+        (shortened_in A.tree i (a.now ∷ [])) (seen B.tree others.now)
+        (seen O.Made.tree made.items)) }
+    ensures counted { C.counted steps.new ≤ C.counted steps.old + 3
+        * (weight (shortened i (A.tree a.now)) + forest_weight (seen B.tree others.now)) }
+{
+    let Beside {
+        mut made,
+        found,
+        left,
+    } = begin_inside::<K, V, W, A, B, O, C>(alloc, a, i, others, op, steps)?;
+    combine_one(alloc, Some(a), i, found, 0, op, &mut made, steps)?;
+    end_inside(alloc, a, i, others, left, op, made)
+}
+
+/// What the combine makes of the children of a left node, beside a right tree that goes on behind a
+/// place of its prefix.
+#[cycle(combining)]
+fn combine_within<
+    K: TKey,
+    V: TValue,
+    W: TValue,
+    A: RadixNode<K, V>,
+    B: RadixNode<K, W>,
+    O: Combine<K, V, W, A, B>,
+    C: Count,
+>(
+    alloc: Global,
+    trees: &[A],
+    b: &B,
+    j: usize,
+    op: &O,
+    steps: &mut C,
+) -> Result<Vec<O::Made>, AllocError>
+    requires left { AreChildren K.cmp (seen A.tree trees.now) }
+    requires within { j < length (B.tree b.now).prefix }
+    requires asks { IsSaidIn K.cmp A.tree B.tree 0 j (values K.cmp) (O.asks op.now) trees.now
+        (b.now ∷ []) }
+    ensures made { IfOk result (λ made. AreMadeOf K.cmp (O.says op.now)
+        (seen A.tree trees.now) (shortened_in B.tree j (b.now ∷ []))
+        (seen O.Made.tree made.items)) }
+    ensures counted { C.counted steps.new ≤ C.counted steps.old + 3
+        * (forest_weight (seen A.tree trees.now) + weight (shortened j (B.tree b.now))) }
+{
+    let Beside {
+        mut made,
+        found,
+        left,
+    } = begin_within::<K, V, W, A, B, O, C>(alloc, trees, b, j, op, steps)?;
+    combine_one(alloc, found, 0, Some(b), j, op, &mut made, steps)?;
+    end_within(alloc, trees, b, j, left, op, made)
+}
+
+/// Adds what the combine makes of the next trees, of which one side may have none.
+#[cycle(combining)]
+fn combine_one<
+    K: TKey,
+    V: TValue,
+    W: TValue,
+    A: RadixNode<K, V>,
+    B: RadixNode<K, W>,
+    O: Combine<K, V, W, A, B>,
+    C: Count,
+>(
+    alloc: Global,
+    a: Option<&A>,
+    i: usize,
+    b: Option<&B>,
+    j: usize,
+    op: &O,
+    made: &mut Vec<O::Made>,
+    steps: &mut C,
+) -> Result<(), AllocError>
+    requires left { IfSome a (λ x. i < length (A.tree x.now).prefix) }
+    requires right { IfSome b (λ y. j < length (B.tree y.now).prefix) }
+    requires known { IfSome a (λ x. IfSome b (λ y. Agree K.cmp (drop i (A.tree x.now).prefix)
+        (drop j (B.tree y.now).prefix) 1)) }
+    requires asks { IsSaidOf K.cmp A.tree B.tree i j (values K.cmp) (O.asks op.now)
+        (option_copied a) (option_copied b) }
+    ensures added { OnOk result (IsAdded K.cmp (O.says op.now)
+        (option_map (λ x. shortened i (A.tree x)) (option_copied a.entry))
+        (option_map (λ y. shortened j (B.tree y)) (option_copied b.entry))
+        (map O.Made.tree made.old.items) (map O.Made.tree made.new.items)) }
+    ensures counted { let lefts = option_to_list (option_copied a.entry) in
+        let rights = option_to_list (option_copied b.entry) in
+        C.counted steps.new + length lefts + length rights ≤ C.counted steps.old + 3
+        * (forest_weight (shortened_in A.tree i lefts)
+        + forest_weight (shortened_in B.tree j rights)) }
+{
+    match (a, b) {
+        (Some(x), Some(y)) => {
+            let one = combine_at(alloc, x, i, y, j, 1, op, steps)?;
+            keep(made, one)
+        }
+        (Some(x), None) => add_left::<K, V, W, A, B, O>(alloc, x, i, op, made),
+        (None, Some(y)) => add_right::<K, V, W, A, B, O>(alloc, y, j, op, made),
+        (None, None) => Ok(()),
+    }
+}
+
+/// What the combine makes of the children of two nodes. All merges go by the plan of the two whole
+/// lists.
+#[cycle(combining)]
+fn combine_kids<
+    K: TKey,
+    V: TValue,
+    W: TValue,
+    A: RadixNode<K, V>,
+    B: RadixNode<K, W>,
+    O: Combine<K, V, W, A, B>,
+    C: Count,
+>(
+    alloc: Global,
+    lefts: &[A],
+    rights: &[B],
+    op: &O,
+    steps: &mut C,
+) -> Result<Vec<O::Made>, AllocError>
+    requires left { AreChildren K.cmp (seen A.tree lefts.now) }
+    requires right { AreChildren K.cmp (seen B.tree rights.now) }
+    requires asks { IsSaidIn K.cmp A.tree B.tree 0 0 (values K.cmp) (O.asks op.now) lefts.now
+        rights.now }
+    ensures made { IfOk result (λ made. AreMadeOf K.cmp (O.says op.now) (seen A.tree lefts.now)
+        (seen B.tree rights.now) (seen O.Made.tree made.items)) }
+    ensures counted { C.counted steps.new ≤ C.counted steps.old + 3
+        * (forest_weight (seen A.tree lefts.now) + forest_weight (seen B.tree rights.now)) }
+{
+    let room = room_for::<K, V, W, A, B, O>(op, lefts.len(), rights.len());
+    let mut state = Kids {
+        left: lefts,
+        right: rights,
+        made: Vec::with_capacity(alloc, room)?,
+    };
+    let alone: MakeAlone<'_, '_, '_, K, V, W, A, B, O> = MakeAlone {
+        alloc,
+        op,
+        lefts,
+        rights,
+        key: PhantomData,
+        left_value: PhantomData,
+        right_value: PhantomData,
+    };
+    let plan = plan_of(lefts.len(), rights.len());
+    merge_to_pair(&mut state, &alone, plan, steps)?;
+    'pairs: while let Some((x, y)) = take_pair(&mut state) {
+        let kid = combine_at(alloc, x, 0, y, 0, 1, op, steps)?;
+        keep(&mut state.made, kid)?;
+        merge_to_pair(&mut state, &alone, plan, steps)?;
+    }
+    Ok(state.made)
 }
 
 /// What a combine makes of two whole trees.

@@ -1,16 +1,20 @@
 //! The combine that asks a closure at each key of the left tree.
 
-ghost use Rattle.std.specs.Prelude.{◌<◌, List, Option, None, Ok, IfOk, length, refl};
+ghost use Rattle.std.specs.Prelude.{◌<◌, ◌≡◌, List, Option, None, Ok, IfOk, false, length, option_map, refl};
 ghost use Rattle.std.specs.Option.{option_copied};
 ghost use Rattle.vc_tree_model.specs.Asking.{MayAnswerAt, CanAskAt};
 ghost use Rattle.vc_tree_model.specs.Combine.{IsCombined, IsLeftAt};
 ghost use Rattle.vc_tree_model.specs.Map.{lookup};
 ghost use Rattle.vc_tree_model.specs.Canonical.{IsCanonical};
-ghost use Rattle.vc_tree_combines.specs.Narrowing.{IsTold};
+ghost use Rattle.vc_tree_model.specs.Tree.{shortened};
+ghost use Rattle.vc_tree_facing.specs.Made.{IsMade};
 
-use crate::narrowing::{Alone, Narrow, narrow_whole};
+use crate::engine::combine_whole;
+use crate::operation::Combine;
 use std::alloc::{AllocError, Global};
 use std::marker::PhantomData;
+use vc_merge::states::Uncounted;
+use vc_tree_facing::nodes::{finish, keep};
 use vc_tree_nodes::building::Build;
 use vc_tree_nodes::reading::{RadixNode, TKey, TValue};
 
@@ -28,21 +32,28 @@ impl<
     V: TValue,
     W: TValue,
     A: RadixNode<K, V>,
+    B: RadixNode<K, W>,
     M: Build<K, V>,
     F: Fn(&V, Option<&W>) -> Result<Option<V>, AllocError>,
-> Narrow<K, V, W, A> for Left<'f, F, M> {
+> Combine<K, V, W, A, B> for Left<'f, F, M> {
     type Made = M;
 
     ghost says = { λ op. IsLeftAt (λ v w z. MayAnswerAt F.Fn op.answer.now v w (Ok z)) };
 
     ghost asks = { λ op. CanAskAt F.Fn op.answer.now };
 
-    ghost says_nothing = { λ op w. refl };
+    ghost says_none = { λ op. refl };
 
     ghost asks_none = { λ op. tt };
 
-    fn expected(&self, left: usize) -> usize {
-        left
+    #[inline(always)]
+    fn keeps_left(&self) -> bool {
+        true
+    }
+
+    #[inline(always)]
+    fn keeps_right(&self) -> bool {
+        false
     }
 
     fn at_values(&self, v: Option<&V>, w: Option<&W>) -> Result<Option<V>, AllocError> {
@@ -52,8 +63,63 @@ impl<
         }
     }
 
-    fn left_alone(&self, alloc: Global, tree: &A, from: usize) -> Result<Alone<M>, AllocError> {
-        Ok(Alone::Asked)
+    fn left_alone(&self, alloc: Global, tree: &A, from: usize) -> Result<Option<M>, AllocError> {
+        ask_alone(alloc, tree, from, self.answer)
+    }
+
+    fn right_alone(&self, alloc: Global, tree: &B, from: usize) -> Result<Option<M>, AllocError> {
+        Ok(None)
+    }
+}
+
+/// What a closure leaves of a tree of which the right tree has no key, without the first `from`
+/// components of its prefix. It is asked at each value.
+#[cycle(asking)]
+fn ask_alone<
+    K: TKey,
+    V: TValue,
+    W: TValue,
+    A: RadixNode<K, V>,
+    M: Build<K, V>,
+    F: Fn(&V, Option<&W>) -> Result<Option<V>, AllocError>,
+>(alloc: Global, tree: &A, from: usize, answer: &F) -> Result<Option<M>, AllocError>
+    requires within { from < length (A.tree tree.now).prefix }
+    requires asks { (k : List K)
+        → CanAskAt F.Fn answer.now (lookup K.cmp (shortened from (A.tree tree.now)) k) None }
+    ensures { IfOk result (λ made. IsMade K.cmp
+        (λ v z. IsLeftAt (λ v w z. MayAnswerAt F.Fn answer.now v w (Ok z)) v None z)
+        (shortened from (A.tree tree.now)) (option_map M.tree made)) }
+{
+    let prefix = tree.prefix();
+    let value = ask_value(tree.value(), answer)?;
+    let trees = tree.children();
+    let mut kids = Vec::with_capacity(alloc, trees.len())?;
+    let mut rest = trees;
+    while let Some((child, others)) = rest.split_first() {
+        let kid = ask_alone(alloc, child, 0, answer)?;
+        keep(&mut kids, kid)?;
+        rest = others;
+    }
+    finish(alloc, &prefix[from..], value, kids)
+}
+
+/// What a closure answers of a value to whose key the right tree binds nothing.
+fn ask_value<'b, V, W, F: Fn(&V, Option<&W>) -> Result<Option<V>, AllocError>>(
+    value: Option<&V>,
+    answer: &F,
+) -> Result<Option<V>, AllocError>
+where
+    W: 'b,
+    requires { CanAskAt F.Fn answer.now (option_copied value) None }
+    ensures { IfOk result (IsLeftAt (λ v w z. MayAnswerAt F.Fn answer.now v w (Ok z))
+        (option_copied value.entry) None) }
+{
+    match value {
+        Some(value) => {
+            let none: Option<&'b W> = None;
+            answer(value, none)
+        }
+        None => Ok(None),
     }
 }
 
@@ -79,5 +145,5 @@ pub fn left_combine<
         answer: f,
         made: PhantomData,
     };
-    narrow_whole(this, that, &op)
+    combine_whole(this, that, &op, &mut Uncounted)
 }

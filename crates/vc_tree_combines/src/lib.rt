@@ -3,8 +3,10 @@
 //! `vc_trees`.
 #![tactic(auto)]
 
+mod adding;
 pub mod combines;
-pub mod engine;
+mod engine;
 pub mod keys;
+mod kids;
 pub mod left;
-pub mod narrowing;
+mod operation;

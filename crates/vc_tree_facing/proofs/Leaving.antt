@@ -64,11 +64,6 @@ module _ {K V : Type 0} (i n : ℕ) (t : Tree K V) where
       {ys : List B} {from : ℕ} → IsOpened tb t (drop (i + n) t.prefix) ys from → IsBehind i n t v (shortened_in tb from ys)
   opened-node e h = grind (arith, drop-drop, children_at)
 
--- the children of a node whose prefix has ended
-pub node-kids : {K V B : Type 0} {tb : B → Tree K V} {t : Tree K V} {whole : List K} {n : ℕ} {ys : List B} {from : ℕ}
-    → IsOpened tb t (drop n t.prefix) ys from → whole ≡ t.prefix → length whole ≤ n → shortened_in tb from ys ≡ t.children
-node-kids h e long = grind (arith, children_at, drop_of_length-le)
-
 -- the list of a tree that goes on behind a place
 pub inner-list : {K V T : Type 0} (cmp : K → K → Ordering) (tree : T → Tree K V) (x : T) (n : ℕ) → IsCanonical cmp (tree x)
     → n < length (tree x).prefix → AreChildren cmp (shortened_in tree n (x ∷ []))

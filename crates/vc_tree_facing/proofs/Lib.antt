@@ -4,7 +4,6 @@ pub mod Doing
 pub mod Next
 pub mod Ending
 pub mod Copied
-pub mod Seeking
 pub mod Advancing
 pub mod Leaving
 pub mod Apart

@@ -1,30 +1,19 @@
 -- Two trees side by side: what stands below the fronts of their prefixes that agree. No public clause cites these words.
-use Rattle.std.specs.Prelude.{◌≡◌, ℕ, ◌+◌, ◌≤◌, List, [], ◌∷◌, ◌++◌, map, length, take, drop, Option, Some, MatchOption}
+use Rattle.std.specs.Prelude.{◌≡◌, ℕ, ◌+◌, ◌≤◌, List, [], ◌∷◌, map, length, take, drop, Option, Some}
 use Rattle.std.specs.Prelude.{slice_get, IsTrue, IsFalse, ⊤}
 use Rattle.std.specs.Cmp.{IsTotalOrder}
 use Rattle.std.specs.List.{AllByRecursion}
-use Rattle.std.specs.Option.{option_copied, option_to_list}
 use Rattle.std.specs.Ordering.{is_eq}
 use Rattle.std.specs.declared.cmp.Ordering.{Ordering}
 use Rattle.vc_tree_model.specs.Key.{same_key}
 use Rattle.vc_tree_model.specs.Tree.{Tree, Forest, forest, shortened, nodes}
-use Rattle.vc_tree_model.specs.Canonical.{AreChildren, IsCanonical}
+use Rattle.vc_tree_model.specs.Canonical.{IsCanonical}
 use Rattle.vc_tree_model.specs.Child.{children_at}
 use Rattle.vc_tree_nodes.specs.Parting.{Agree}
-use Rattle.vc_tree_facing.specs.declared.facing.Below.{Below}
-
--- the trees that stand below a place
-abbrev pub trees_below : {T : Type 0} → Below T → List T
-trees_below b = option_to_list (option_copied b.whole) ++ b.children.now
 
 -- trees without the first n components of their prefixes, as a list of children
 abbrev pub shortened_in : {T K V : Type 0} → (T → Tree K V) → ℕ → List T → Forest K V
 shortened_in tree n xs = forest (map (λ x. shortened n (tree x)) xs)
-
--- they are canonical children, whole ones or a tree alone
-pub record IsBelow {T K V : Type 0} (cmp : K → K → Ordering) (tree : T → Tree K V) (b : Below T) : Type 0 where
-  pub are_children : AreChildren cmp (shortened_in tree b.from (trees_below b))
-  pub alone : MatchOption b.whole (b.from ≡ 0) (λ x. b.children.now ≡ [])
 
 -- one where nothing is left
 abbrev pub ended : {K : Type 0} → List K → ℕ

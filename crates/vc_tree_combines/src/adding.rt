@@ -1,0 +1,164 @@
+//! What a combine makes of trees that one side alone has.
+
+ghost use Rattle.std.specs.Prelude.{◌≡◌, ◌+◌, ◌≤◌, ◌<◌, ◌∷◌, List, None, Some, OnOk, length, map};
+ghost use Rattle.std.specs.Prelude.{slice_get};
+ghost use Rattle.std.specs.Option.{option_copied};
+ghost use Rattle.vc_merge.specs.Count.{digits};
+ghost use Rattle.vc_tree_model.specs.Canonical.{AreChildren};
+ghost use Rattle.vc_tree_model.specs.Map.{lookup};
+ghost use Rattle.vc_tree_model.specs.Tree.{shortened};
+ghost use Rattle.vc_tree_nodes.specs.Children.{seen};
+ghost use Rattle.vc_tree_combines.specs.Making.{MayAddLefts, MayAddRights};
+ghost use Rattle.vc_tree_combines.specs.Making.{IsAdded, AreLeftAdded, AreRightAdded, IsAround};
+
+use crate::operation::Combine;
+use std::alloc::{AllocError, Global};
+use vc_merge::merge::Count;
+use vc_tree_facing::nodes::keep;
+use vc_tree_nodes::places::child_place;
+use vc_tree_nodes::reading::{RadixNode, TKey, TValue};
+
+/// Adds what is left of a tree that the left side alone has, without the first `from` components of
+/// its prefix.
+#[inline(always)]
+pub fn add_left<
+    K: TKey,
+    V: TValue,
+    W: TValue,
+    A: RadixNode<K, V>,
+    B: RadixNode<K, W>,
+    O: Combine<K, V, W, A, B>,
+>(alloc: Global, tree: &A, from: usize, op: &O, made: &mut Vec<O::Made>) -> Result<(), AllocError>
+    requires within { from < length (A.tree tree.now).prefix }
+    requires asks { (k : List K)
+        → O.asks op.now (lookup K.cmp (shortened from (A.tree tree.now)) k) None }
+    ensures { OnOk result (IsAdded K.cmp (O.says op.now) (Some (shortened from (A.tree tree.now)))
+        None (map O.Made.tree made.old.items) (map O.Made.tree made.new.items)) }
+{
+    let one = op.left_alone(alloc, tree, from)?;
+    keep(made, one)
+}
+
+/// Adds what is left of a tree that the right side alone has, without the first `from` components
+/// of its prefix.
+#[inline(always)]
+pub fn add_right<
+    K: TKey,
+    V: TValue,
+    W: TValue,
+    A: RadixNode<K, V>,
+    B: RadixNode<K, W>,
+    O: Combine<K, V, W, A, B>,
+>(alloc: Global, tree: &B, from: usize, op: &O, made: &mut Vec<O::Made>) -> Result<(), AllocError>
+    requires within { from < length (B.tree tree.now).prefix }
+    requires asks { (k : List K)
+        → O.asks op.now None (lookup K.cmp (shortened from (B.tree tree.now)) k) }
+    ensures { OnOk result (IsAdded K.cmp (O.says op.now) None
+        (Some (shortened from (B.tree tree.now))) (map O.Made.tree made.old.items)
+        (map O.Made.tree made.new.items)) }
+{
+    let one = op.right_alone(alloc, tree, from)?;
+    keep(made, one)
+}
+
+/// Adds what is left of trees that the left side alone has. Looks at none where nothing is left of
+/// any.
+#[inline(always)]
+pub fn add_lefts<
+    K: TKey,
+    V: TValue,
+    W: TValue,
+    A: RadixNode<K, V>,
+    B: RadixNode<K, W>,
+    O: Combine<K, V, W, A, B>,
+>(alloc: Global, trees: &[A], op: &O, made: &mut Vec<O::Made>) -> Result<(), AllocError>
+    requires { MayAddLefts K.cmp (O.asks op.now) A.tree trees.now }
+    ensures { OnOk result (AreLeftAdded K.cmp (O.says op.now) A.tree trees.now
+        (map O.Made.tree made.old.items) (map O.Made.tree made.new.items)) }
+{
+    if !op.keeps_left() {
+        return Ok(());
+    }
+    let mut rest = trees;
+    while let Some((tree, others)) = rest.split_first() {
+        add_left(alloc, tree, 0, op, made)?;
+        rest = others;
+    }
+    Ok(())
+}
+
+/// Adds what is left of trees that the right side alone has. Looks at none where nothing is left of
+/// any.
+#[inline(always)]
+pub fn add_rights<
+    K: TKey,
+    V: TValue,
+    W: TValue,
+    A: RadixNode<K, V>,
+    B: RadixNode<K, W>,
+    O: Combine<K, V, W, A, B>,
+>(alloc: Global, trees: &[B], op: &O, made: &mut Vec<O::Made>) -> Result<(), AllocError>
+    requires { MayAddRights K.cmp (O.asks op.now) B.tree trees.now }
+    ensures { OnOk result (AreRightAdded K.cmp (O.says op.now) B.tree trees.now
+        (map O.Made.tree made.old.items) (map O.Made.tree made.new.items)) }
+{
+    if !op.keeps_right() {
+        return Ok(());
+    }
+    let mut rest = trees;
+    while let Some((tree, others)) = rest.split_first() {
+        add_right(alloc, tree, 0, op, made)?;
+        rest = others;
+    }
+    Ok(())
+}
+
+/// A list of trees, by the component with which one of them may begin.
+#[derive(Drop)]
+pub struct Around<'a, T> {
+    /// The trees that begin with lesser components.
+    pub before: &'a [T],
+    /// The one that begins with it.
+    pub found: Option<&'a T>,
+    /// The trees that begin with greater components.
+    pub after: &'a [T],
+}
+
+/// The trees around the one that begins with a component. Compares no more first components than
+/// the number of trees has binary digits.
+pub fn look_around<'a, K: TKey, V: TValue, T: RadixNode<K, V>, C: Count>(
+    trees: &'a [T],
+    first: &K,
+    steps: &mut C,
+) -> Around<'a, T>
+    requires { AreChildren K.cmp (seen T.tree trees.now) }
+    ensures around { IsAround K.cmp T.tree first.now trees.now result.before.now
+        (option_copied result.found) result.after.now }
+    ensures counted { C.counted steps.new ≤ C.counted steps.old + digits (length trees.now) }
+{
+    match child_place(trees, first, steps) {
+        Ok(at) => {
+            let (before, rest) = trees.split_at(at);
+            match rest.split_first() {
+                Some((tree, after)) => Around {
+                    before,
+                    found: Some(tree),
+                    after,
+                },
+                None => Around {
+                    before,
+                    found: None,
+                    after: rest,
+                },
+            }
+        }
+        Err(at) => {
+            let (before, after) = trees.split_at(at);
+            Around {
+                before,
+                found: None,
+                after,
+            }
+        }
+    }
+}

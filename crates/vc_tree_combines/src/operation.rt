@@ -1,0 +1,88 @@
+//! What a combine that builds a tree makes of values, and of trees that one side alone has.
+
+ghost use Rattle.std.specs.Prelude.{◌≡◌, ◌<◌, List, Option, None, IfOk, false, length, option_map};
+ghost use Rattle.std.specs.Option.{option_copied};
+ghost use Rattle.vc_tree_model.specs.Map.{lookup};
+ghost use Rattle.vc_tree_model.specs.Tree.{shortened};
+ghost use Rattle.vc_tree_facing.specs.Made.{IsMade};
+
+use std::alloc::{AllocError, Global};
+use vc_tree_facing::facing::expected;
+use vc_tree_nodes::building::Build;
+use vc_tree_nodes::reading::{RadixNode, TKey, TValue};
+
+/// What a combine makes of values, and of trees that one side alone has.
+pub trait Combine<K: TKey, V: TValue, W: TValue, A: RadixNode<K, V>, B: RadixNode<K, W>> {
+    /// The flavour that is made.
+    type Made: Build<K, V>;
+
+    /// What the combine says of the values that the left tree, the right tree and the result bind
+    /// to a key.
+    ghost says: { Self → Option V → Option W → Option V → Type 0 };
+
+    /// What it needs in order to be asked of the values that both trees bind to a key.
+    ghost asks: { Self → Option V → Option W → Type 0 };
+
+    /// Whether anything may be left of a tree that the left side alone has.
+    fn keeps_left(&self) -> bool
+        ensures { result ≡ false → (v : Option V) → says self.now v None None };
+
+    /// Whether anything may be left of a tree that the right side alone has.
+    fn keeps_right(&self) -> bool
+        ensures { result ≡ false → (w : Option W) → says self.now None w None };
+
+    /// The value of a key to which the trees bind these.
+    fn at_values(&self, v: Option<&V>, w: Option<&W>) -> Result<Option<V>, AllocError>
+        requires { asks self.now (option_copied v) (option_copied w) }
+        ensures { IfOk result (says self.now (option_copied v.entry) (option_copied w.entry)) };
+
+    /// What is left of a tree that the left side alone has, without the first `from` components of
+    /// its prefix.
+    fn left_alone(
+        &self,
+        alloc: Global,
+        tree: &A,
+        from: usize,
+    ) -> Result<Option<Self::Made>, AllocError>
+        requires within { from < length (A.tree tree.now).prefix }
+        requires asks { (k : List K)
+            → asks self.now (lookup K.cmp (shortened from (A.tree tree.now)) k) None }
+        ensures { IfOk result (λ made. IsMade K.cmp (λ v z. says self.now v None z)
+            (shortened from (A.tree tree.now)) (option_map Self.Made.tree made)) };
+
+    /// What is left of a tree that the right side alone has, without the first `from` components of
+    /// its prefix.
+    fn right_alone(
+        &self,
+        alloc: Global,
+        tree: &B,
+        from: usize,
+    ) -> Result<Option<Self::Made>, AllocError>
+        requires within { from < length (B.tree tree.now).prefix }
+        requires asks { (k : List K)
+            → asks self.now None (lookup K.cmp (shortened from (B.tree tree.now)) k) }
+        ensures { IfOk result (λ made. IsMade K.cmp (λ w z. says self.now None w z)
+            (shortened from (B.tree tree.now)) (option_map Self.Made.tree made)) };
+
+    ghost says_none: { (op : Self) → says op None None None };
+
+    ghost asks_none: { (op : Self) → asks op None None };
+}
+
+/// For how many trees to make room that come of two lists of these lengths.
+#[inline(always)]
+pub fn room_for<
+    K: TKey,
+    V: TValue,
+    W: TValue,
+    A: RadixNode<K, V>,
+    B: RadixNode<K, W>,
+    O: Combine<K, V, W, A, B>,
+>(op: &O, left: usize, right: usize) -> usize {
+    match (op.keeps_left(), op.keeps_right()) {
+        (true, true) => expected(left, right),
+        (true, false) => left,
+        (false, true) => right,
+        (false, false) => 0,
+    }
+}
