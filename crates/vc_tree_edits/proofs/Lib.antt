@@ -5,3 +5,5 @@ pub mod Sifting
 pub mod Prepended
 pub mod Meeting
 pub mod Placed
+pub mod Passing
+pub mod Sifted

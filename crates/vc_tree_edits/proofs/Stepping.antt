@@ -6,13 +6,15 @@
 --     falls-below        two trees that meet have fewer nodes than those that they stand below
 --     finished-children, finished        what was made is canonical children, and the node of it is what the change says
 use Rattle.std.proofs.Common.{◌≡◌, ℕ, ◌+◌, ◌<◌, [], ◌∷◌, List, Option, None, Some, slice_get, ap, subst, ◌∙◌, drop}
-use Rattle.std.proofs.Common.{take, length, arith}
+use Rattle.std.proofs.Common.{take, length, arith, ◌≤◌, refl, sym, Bool, true, false, cond}
 use Rattle.std.specs.Cmp.{IsTotalOrder}
 use Rattle.std.specs.declared.cmp.Ordering.{Ordering}
 use Rattle.vc_tree_model.specs.Canonical.{AreChildren, IsCanonical}
-use Rattle.vc_tree_model.specs.Child.{solid_child, value_at}
+use Rattle.vc_tree_model.specs.Child.{solid_child, value_at, children_at}
 use Rattle.vc_tree_model.specs.Map.{lookup}
-use Rattle.vc_tree_model.specs.Tree.{Tree, forest, nodes}
+use Rattle.vc_tree_model.specs.Tree.{Tree, forest, nodes, forest_nodes}
+use Rattle.vc_tree_facing.specs.Facing.{shortened_in}
+use Rattle.vc_tree_facing.proofs.Leaving.{below-fewer}
 use Rattle.vc_tree_model.specs.Value.{IsKept}
 use Rattle.vc_tree_model.proofs.AlikeLemmas.{tree-alike_canonical}
 use Rattle.vc_tree_model.specs.Look.{Look}
@@ -42,7 +44,7 @@ module _ {K V W O T B : Type 0} {cmp : K → K → Ordering} {tree : T → Tree 
 
 module _ {K V W O T B : Type 0} {cmp : K → K → Ordering} {tree : T → Tree K V} {tb : B → Tree K W} {keeps : V → V → Type 0}
     {t : Tree K V} {u : Tree K W} {n : ℕ} {ys : List B} {j : ℕ} {front : List K} {value : Option V} {xs : List T} {i : ℕ}
-    (h : IsTaken tree keeps t n front value xs i) (m : IsMet tree cmp tb t u n ys j)
+    (h : IsTaken tree keeps t n front value xs i) (m : IsMet cmp tb t u n ys j)
     (o : IsTotalOrder cmp) (l : Look cmp W O) (P : Option V → O → Type 0)
     (kept : (v w : Option V) (z : O) → IsKept keeps v w → P v z → P w z)
     (a : (k : List K) → P (lookup cmp t k) (l.of_tree u k)) where
@@ -55,28 +57,46 @@ module _ {K V W O T B : Type 0} {cmp : K → K → Ordering} {tree : T → Tree 
       → IsCanonical cmp t → IsCanonical cmp u → asks None l.none
       → ((v : Option V) (z : O) → P v (l.under (value_at u (drop n u.prefix)) z) → asks v z)
       → ((v : Option V) (z : O) (y : Option V) → R v z y → says v (l.under (value_at u (drop n u.prefix)) z) y)
-      → says value (l.at (value_at u (drop n u.prefix))) made → {kids : List (Tree K V)} → kids ≡ []
-      → IsBegun cmp tree tb l keeps says R asks t u front made xs i ys j kids
-  begun {R = R} {asks = asks} ct cu an lead down said none =
+      → says value (l.at (value_at u (drop n u.prefix))) made → {ended : Bool}
+      → (ended ≡ true → (i ≡ 0) × (drop n t.prefix ≡ []))
+      → IsBegun cmp tree tb l keeps says R asks t u front made xs i ended ys j []
+  begun {R = R} {asks = asks} ct cu an lead down said start =
       let c = tree-alike_canonical keeps cmp t h.taken h.alike ct in
       record {
         length_front = n;
         value = value;
         met = m;
         taken = h;
+        from_start = start;
         left_canonical = ct;
         right_canonical = cu;
         said = said;
         said_below = down;
-        doing = combine-started (faced-taken h m) o l R asks an P lead (asked-taken h m l P kept a) c cu none;
+        doing = combine-started (faced-taken h m) o l R asks an P lead (asked-taken h m l P kept a) c cu refl;
       }
+
+-- what stands below, before anything is changed
+module _ {K V W O T B : Type 0} {cmp : K → K → Ordering} {tree : T → Tree K V} {tb : B → Tree K W} {keeps : V → V → Type 0}
+    {l : Look cmp W O} {says R : Option V → O → Option V → Type 0} {asks : Option V → O → Type 0} {t : Tree K V} {u : Tree K W}
+    {front : List K} {made : Option V} {xs : List T} {i : ℕ} {ended : Bool} {ys : List B} {j : ℕ}
+    (s : IsBegun cmp tree tb l keeps says R asks t u front made xs i ended ys j []) where
+  -- children have fewer nodes than the node that they stand below
+  pub list-fewer : ended ≡ true → forest_nodes (shortened_in tree i xs) + 1 ≤ nodes t
+  list-fewer e =
+      let rest = ap (drop s.length_front) (sym s.taken.alike.0) ∙ (s.from_start e).1 in
+      let kids = ap forest_nodes s.taken.opened.children ∙ ap (λ r. forest_nodes (children_at s.taken.taken r)) rest in
+      let same = taken-nodes s.taken s.met in
+      omega (arith, kids, same)
+
+  pub right-below : forest_nodes (shortened_in tb j ys) ≤ nodes u
+  right-below = below-fewer s.met.right
 
 -- ---- a change that has begun
 
 module _ {K V W O T B : Type 0} {cmp : K → K → Ordering} {tree : T → Tree K V} {tb : B → Tree K W} {keeps : V → V → Type 0}
     {l : Look cmp W O} {says R : Option V → O → Option V → Type 0} {asks : Option V → O → Type 0} {t : Tree K V} {u : Tree K W}
-    {front : List K} {made : Option V} {xs : List T} {i : ℕ} {ys : List B} {j : ℕ} {first : List (Tree K V)}
-    (s : IsBegun cmp tree tb l keeps says R asks t u front made xs i ys j first) {ls : List T} {rs : List B}
+    {front : List K} {made : Option V} {xs : List T} {i : ℕ} {ended : Bool} {ys : List B} {j : ℕ}
+    (s : IsBegun cmp tree tb l keeps says R asks t u front made xs i ended ys j []) {ls : List T} {rs : List B}
     {kids : List (Tree K V)} where
   -- two trees that meet have fewer nodes than those that they stand below
   pub falls-below : {x : T} {y : B} → AreNext cmp tree tb i j l R asks xs ys (Some x) (Some y) ls rs kids
@@ -107,3 +127,8 @@ module _ {K V W O T B : Type 0} {cmp : K → K → Ordering} {tree : T → Tree 
 pub first-long : {K V T : Type 0} (tree : T → Tree K V) (n : ℕ) (xs : List T) → 0 < length xs
     → ((x : T) (rest : List T) → xs ≡ x ∷ rest → n < length (tree x).prefix) → IsFirstLong tree n xs
 first-long tree n xs h f = grind arith
+
+-- a measure that is asked for in one case alone
+pub cond-below : (b : Bool) (n m : ℕ) → (b ≡ true → n < m) → 0 < m → cond b n 0 < m
+cond-below true n m f h = f refl
+cond-below false n m f h = h

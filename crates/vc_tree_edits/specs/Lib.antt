@@ -3,3 +3,4 @@ pub mod Editing
 pub mod Saying
 pub mod Taken
 pub mod Kids
+pub mod Pairs

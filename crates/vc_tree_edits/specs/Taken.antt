@@ -1,5 +1,5 @@
 -- Trees that a change in place takes apart. No public clause cites these words.
-use Rattle.std.specs.Prelude.{◌≡◌, ℕ, ◌<◌, List, [], ◌∷◌, ◌++◌, length, Option, None, drop, take}
+use Rattle.std.specs.Prelude.{◌≡◌, Bool, true, ℕ, ◌<◌, List, [], ◌∷◌, ◌++◌, length, Option, None, drop, take}
 use Rattle.std.specs.List.{cons_option}
 use Rattle.std.specs.declared.cmp.Ordering.{Ordering}
 use Rattle.vc_tree_model.specs.Canonical.{IsCanonical}
@@ -7,18 +7,19 @@ use Rattle.vc_tree_model.specs.Tree.{Tree, shortened}
 use Rattle.vc_tree_model.specs.Look.{Look}
 use Rattle.vc_tree_model.specs.Same.{IsAlike}
 use Rattle.vc_tree_model.specs.Child.{value_at}
-use Rattle.vc_tree_facing.specs.Facing.{IsOpened, IsFaced}
+use Rattle.vc_tree_nodes.specs.Parting.{Agree}
+use Rattle.vc_tree_facing.specs.Facing.{IsOpened, Parts}
 use Rattle.vc_tree_facing.specs.Made.{IsMade, IsMadeBy}
 use Rattle.vc_tree_facing.specs.Doing.{IsDoing}
 
-module _ {K V T : Type 0} (tree : T → Tree K V) where
-  -- some trees stood below the front of the left one
-  pub record IsMet {W B : Type 0} (cmp : K → K → Ordering) (tb : B → Tree K W) (t : Tree K V) (u : Tree K W) (n : ℕ)
-      (ys : List B) (j : ℕ) : Type 0 where
-    pub below : List T
-    pub from : ℕ
-    pub faced : IsFaced cmp tree tb t u n below from ys j
+-- the prefixes of t and u agree for n components and part there; and what stands below in u
+pub record IsMet {K V W B : Type 0} (cmp : K → K → Ordering) (tb : B → Tree K W) (t : Tree K V) (u : Tree K W) (n : ℕ)
+    (ys : List B) (j : ℕ) : Type 0 where
+  pub agree : Agree cmp t.prefix u.prefix n
+  pub parts : Parts cmp (drop n t.prefix) (drop n u.prefix)
+  pub right : IsOpened tb u (drop n u.prefix) ys j
 
+module _ {K V T : Type 0} (tree : T → Tree K V) where
   -- the parts of a tree that is alike to t: the front of its prefix, the value there, and what stands below
   pub record IsTaken (keeps : V → V → Type 0) (t : Tree K V) (n : ℕ) (front : List K) (value : Option V) (list : List T)
       (from : ℕ) : Type 0 where
@@ -31,12 +32,13 @@ module _ {K V T : Type 0} (tree : T → Tree K V) where
 module _ {K V W O T B : Type 0} (cmp : K → K → Ordering) (tree : T → Tree K V) (tb : B → Tree K W) (l : Look cmp W O) where
   -- t, taken apart beside u: its values at the fronts have become `made`, and no event is done yet
   pub record IsBegun (keeps : V → V → Type 0) (says below : Option V → O → Option V → Type 0) (asks : Option V → O → Type 0)
-      (t : Tree K V) (u : Tree K W) (front : List K) (made : Option V) (xs : List T) (i : ℕ) (ys : List B) (j : ℕ)
+      (t : Tree K V) (u : Tree K W) (front : List K) (made : Option V) (xs : List T) (i : ℕ) (ended : Bool) (ys : List B) (j : ℕ)
       (kids : List (Tree K V)) : Type 0 where
     pub length_front : ℕ
     pub value : Option V
-    pub met : IsMet tree cmp tb t u length_front ys j
+    pub met : IsMet cmp tb t u length_front ys j
     pub taken : IsTaken tree keeps t length_front front value xs i
+    pub from_start : ended ≡ true → (i ≡ 0) × (drop length_front t.prefix ≡ [])
     pub left_canonical : IsCanonical cmp t
     pub right_canonical : IsCanonical cmp u
     pub said : says value (l.at (value_at u (drop length_front u.prefix))) made

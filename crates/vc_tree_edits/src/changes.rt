@@ -10,7 +10,7 @@ ghost use Rattle.vc_tree_model.specs.Look.{values};
 ghost use Rattle.vc_tree_edits.specs.Covers.{covers};
 ghost use Rattle.vc_tree_edits.specs.Editing.{MayLeave, CanLeave, KeptThen, CanMeet, IsMetAt};
 ghost use Rattle.vc_tree_edits.specs.Editing.{CanJudge, MayJudge, IsJudged, IsSiftedBy, stays_by};
-ghost use Rattle.vc_tree_edits.specs.Saying.{sifted_kept, outer_kept, met_kept, meet_kept};
+ghost use Rattle.vc_tree_edits.specs.Saying.{sifted_kept, outer_kept, outer_left, met_kept, meet_kept};
 
 use crate::engine::Change;
 use crate::lessening::Lessen;
@@ -215,6 +215,8 @@ impl<'m, K: TKey, V: TValue, B: RadixNode<K, V>, T: Build<K, V>, M: Meet<V, V>> 
     ghost asks = { λ op. CanMeet T.keeps (M.takes op.at.now) };
 
     ghost says_none = { λ op. tt };
+
+    ghost says_left = { λ op. outer_left T.keeps V.is_clone (M.may op.at.now) };
 
     ghost asks_none = { λ op. tt };
 

@@ -1,7 +1,8 @@
 //! The one recursion of all changes of a tree by another tree, in place.
 
-ghost use Rattle.std.specs.Prelude.{◌≡◌, ◌<◌, ◌≤◌, ◌∷◌, List, [], Option, None, IfOk, IfSome, OnOk};
-ghost use Rattle.std.specs.Prelude.{drop, length, map, option_map, slice_get};
+ghost use Rattle.std.specs.Prelude.{◌≡◌, ◌+◌, ◌<◌, ◌≤◌, ◌∷◌, List, [], Option, None, IfOk};
+ghost use Rattle.std.specs.Prelude.{IfSome, OnOk, Some, true, cond, drop, take, length, map, get_or};
+ghost use Rattle.std.specs.Prelude.{option_map, slice_get};
 ghost use Rattle.std.specs.Option.{option_copied};
 ghost use Rattle.std.specs.declared.cmp.Ordering.{Ordering};
 ghost use Rattle.vc_tree_model.specs.Tree.{shortened};
@@ -11,18 +12,25 @@ ghost use Rattle.vc_tree_model.specs.Same.{IsAlikeIn};
 ghost use Rattle.vc_tree_nodes.specs.Children.{listed, seen};
 ghost use Rattle.vc_tree_model.specs.Look.{Look};
 ghost use Rattle.vc_tree_nodes.specs.Parting.{Agree};
-ghost use Rattle.vc_tree_facing.specs.Facing.{trees_below, IsBelow};
+ghost use Rattle.vc_tree_facing.specs.Facing.{shortened_in};
+ghost use Rattle.vc_tree_facing.specs.Doing.{IsDoing, IsSaidIn};
+ghost use Rattle.vc_tree_edits.specs.Kids.{IsSetAt};
+ghost use Rattle.vc_tree_edits.specs.Pairs.{trees_of};
 ghost use Rattle.vc_tree_facing.specs.Sides.{by_component, side_next, AreThere};
 ghost use Rattle.vc_tree_facing.specs.Made.{IsMade, IsMadeBy, IsBothMadeBy};
 ghost use Rattle.vc_tree_model.specs.Canonical.{AreChildren, IsCanonical};
 ghost use Rattle.vc_tree_model.specs.Child.{solid_child, value_at as node_value};
 ghost use Rattle.vc_tree_edits.specs.Taken.{IsMet, IsTaken, IsBegun, IsFirstLong, IsStayed, IsCome};
 
+use crate::lessening::pass;
+use crate::pairs::{Stop, Trees, next_pair, skips, trees_at};
 use std::alloc::{AllocError, Global};
+use std::cmp::Ordering;
 use std::collections::VecDeque;
 use std::mem;
+use vc_merge::plan::plan_of;
 use vc_merge::states::Uncounted;
-use vc_tree_facing::facing::{Below, Facing, count_below, expected, face, side_below};
+use vc_tree_facing::facing::{compare_at, expected, split};
 use vc_tree_facing::nodes::{finish, keep, value_at};
 use vc_tree_facing::sides::Side;
 use vc_tree_nodes::building::{Build, Seal};
@@ -70,6 +78,9 @@ pub trait Change<K: TKey, V: TValue, W: TValue, B: RadixNode<K, W>, T: Build<K, 
 
     ghost says_none: { (op : Self) → says op None (look K.cmp).none None };
 
+    ghost says_left: { (op : Self) (v z : Option V) → IsKept T.keeps v z
+        → says op v (look K.cmp).none z };
+
     ghost asks_none: { (op : Self) → asks op None (look K.cmp).none };
 
     ghost says_kept: { (op : Self) (u v : Option V) (w : Option W) (z : Option V)
@@ -79,13 +90,15 @@ pub trait Change<K: TKey, V: TValue, W: TValue, B: RadixNode<K, W>, T: Build<K, 
         → asks op u w → asks op v w };
 }
 
-/// Two trees side by side, of which the left one was let go.
+/// What stands in the right tree below the place where two prefixes part.
 #[derive(Drop)]
 struct Meeting<'b, B> {
     /// For how many components the prefixes agree.
     front: usize,
     /// What stands below them in the right tree.
-    right: Below<'b, B>,
+    right: Trees<'b, B>,
+    /// How many components of it are left out.
+    right_from: usize,
 }
 
 /// Lays two trees side by side, each without the front of its prefix.
@@ -101,17 +114,19 @@ fn meet<'b, K: TKey, V: TValue, W: TValue, T: RadixNode<K, V>, B: RadixNode<K, W
     requires known { Agree K.cmp (drop i (T.tree tree.now).prefix) (drop j (B.tree that.now).prefix)
         known }
     ensures met { let t = shortened i (T.tree tree.now) in let u = shortened j (B.tree that.now) in
-        IsMet T.tree K.cmp B.tree t u result.front (trees_below result.right) result.right.from }
-    ensures below { IsBelow K.cmp B.tree result.right }
+        IsMet K.cmp B.tree t u result.front (trees_of result.right) result.right_from }
     ensures left_canonical { IsCanonical K.cmp (T.tree tree.now) }
     ensures right_canonical { IsCanonical K.cmp (B.tree that.now) }
 {
-    let Facing {
+    let front = split(tree, i, that, j, known);
+    // The length of a slice fits in a `usize`, and so does the sum.
+    that.prefix();
+    let (right, right_from) = trees_at(that, j + front);
+    Meeting {
         front,
-        left: _,
         right,
-    } = face(tree, i, that, j, known, &mut Uncounted);
-    Meeting { front, right }
+        right_from,
+    }
 }
 
 /// The parts of a tree without the front of its prefix, and of what stands below a place in what is
@@ -126,6 +141,8 @@ struct Taken<P, V, T> {
     list: Vec<T>,
     /// How many components of their prefixes stand before the place.
     from: usize,
+    /// Whether the prefix ends at the place.
+    ended: bool,
 }
 
 /// A list of the one tree.
@@ -146,8 +163,10 @@ fn take_apart<K: TKey, V: TValue, T: Build<K, V>>(
 ) -> Result<Taken<T::Prefix, V, T>, AllocError>
     requires within { i ≤ length (T.tree tree).prefix }
     requires front { front ≤ length (drop i (T.tree tree).prefix) }
-    ensures { IfOk result (λ o. IsTaken T.tree T.keeps (shortened i (T.tree tree)) front
+    ensures taken { IfOk result (λ o. IsTaken T.tree T.keeps (shortened i (T.tree tree)) front
         (T.Prefix.items o.prefix) o.value o.list.items o.from) }
+    ensures ended { IfOk result (λ o. o.ended ≡ true
+        → (o.from ≡ 0) × (drop front (drop i (T.tree tree).prefix) ≡ [])) }
 {
     let whole = tree.prefix();
     if i + front < whole.len() {
@@ -156,6 +175,7 @@ fn take_apart<K: TKey, V: TValue, T: Build<K, V>>(
             value: None,
             list: alone(alloc, tree)?,
             from: i + front,
+            ended: false,
         });
     }
     let Parts {
@@ -170,6 +190,7 @@ fn take_apart<K: TKey, V: TValue, T: Build<K, V>>(
         value,
         list,
         from: 0,
+        ended: true,
     })
 }
 
@@ -230,7 +251,7 @@ fn change_values<
     op.at_values(value, value_at(that, j, front))
 }
 
-/// The state of a change, before the first event is done.
+/// The state of a change, before anything below is changed.
 #[derive(Drop)]
 struct Begun<'b, P, V, B, O, T> {
     /// The components up to the place where the prefixes part.
@@ -240,17 +261,19 @@ struct Begun<'b, P, V, B, O, T> {
     /// The change of all that stands below.
     below: O,
     /// What stands below in the left tree.
-    left: VecDeque<T>,
+    list: Vec<T>,
     /// How many components of their prefixes stand before the place.
     from: usize,
+    /// Whether the left prefix ends at the place.
+    ended: bool,
     /// What stands below in the right tree.
-    right: Below<'b, B>,
-    /// The trees that are made of what stands below.
-    kids: Vec<T>,
+    right: Trees<'b, B>,
+    /// How many components of their prefixes stand before the place.
+    right_from: usize,
 }
 
-/// Takes a tree apart beside another one, changes the value at the place where their prefixes part,
-/// and makes room for what is made of what stands below.
+/// Takes a tree apart beside another one, and changes the value at the place where their prefixes
+/// part.
 fn begin<
     'b,
     K: TKey,
@@ -276,27 +299,94 @@ fn begin<
         ((O.look K.cmp).of_tree (shortened j (B.tree that.now)) k) }
     ensures { IfOk result (λ s. IsBegun K.cmp T.tree B.tree (O.look K.cmp) T.keeps
         (O.says op.now) (O.says s.below) (O.asks s.below) (shortened i (T.tree tree))
-        (shortened j (B.tree that.now)) (T.Prefix.items s.prefix) s.value s.left.items s.from
-        (trees_below s.right) s.right.from (map T.tree s.kids.items)) }
+        (shortened j (B.tree that.now)) (T.Prefix.items s.prefix) s.value s.list.items s.from
+        s.ended (trees_of s.right) s.right_from []) }
 {
-    let Meeting { front, right } = meet(&tree, i, that, j, known);
+    let Meeting {
+        front,
+        right,
+        right_from,
+    } = meet(&tree, i, that, j, known);
     let Taken {
         prefix,
         value,
         list,
         from,
+        ended,
     } = take_apart(alloc, tree, i, front)?;
     let (value, below) = change_values(value, that, j, front, op)?;
-    let kids = Vec::with_capacity(alloc, expected(list.len(), count_below(&right)))?;
     Ok(Begun {
         prefix,
         value,
         below,
-        left: VecDeque::from_vec(list),
+        list,
         from,
+        ended,
         right,
-        kids,
+        right_from,
     })
+}
+
+/// How far a list of trees was changed where it is.
+#[derive(Drop)]
+struct Place<'b, B> {
+    /// The first so many trees are done, and stay.
+    kept: usize,
+    /// The trees from this place on are left.
+    at: usize,
+    /// The right trees that are left.
+    right: Trees<'b, B>,
+}
+
+/// Parts a list, of which the first `kept` trees stay and those from `at` on are left. For what
+/// comes there is room as in a fresh combine.
+fn part<T: Drop>(
+    alloc: Global,
+    list: Vec<T>,
+    kept: usize,
+    at: usize,
+    coming: usize,
+) -> Result<(Vec<T>, VecDeque<T>), AllocError>
+    requires order { kept ≤ at }
+    requires within { at ≤ length list.items }
+    ensures kids { IfOk result (λ r. r.0.items ≡ take kept list.items) }
+    ensures left { IfOk result (λ r. r.1.items ≡ drop at list.items) }
+{
+    if at == 0 {
+        let kids = Vec::with_capacity(alloc, expected(list.len(), coming))?;
+        return Ok((kids, VecDeque::from_vec(list)));
+    }
+    let mut kids = list;
+    let left = kids.split_off(at)?;
+    kids.truncate(kept);
+    if coming > 0 {
+        kids.reserve(expected(left.len(), coming))?;
+    }
+    Ok((kids, VecDeque::from_vec(left)))
+}
+
+/// Puts what was made of the tree at a place back there, and answers whether it stays.
+fn put_back<T: Drop>(list: &mut Vec<T>, at: usize, made: Option<T>) -> bool
+    requires { at < length list.old.items }
+    ensures { (x : T) × IsSetAt list.old.items at x list.new.items
+        × (made ≡ cond result (Some x) None) }
+{
+    match made {
+        Some(tree) => {
+            list[at] = tree;
+            true
+        }
+        None => false,
+    }
+}
+
+/// Takes the tree at a place out of a list, and leaves the empty one there.
+fn take_at<K: TKey, V: TValue, T: Build<K, V>>(alloc: Global, list: &mut Vec<T>, at: usize) -> T
+    requires { at < length list.old.items }
+    ensures tree { result ≡ get_or list.old.items at result }
+    ensures left { (x : T) × IsSetAt list.old.items at x list.new.items }
+{
+    mem::replace(&mut list[at], T::blank(alloc, Seal::new()))
 }
 
 /// Takes the first tree out of a list.
@@ -307,18 +397,27 @@ fn pop<T>(trees: &mut VecDeque<T>) -> T
     trees.pop_front().unwrap()
 }
 
-/// On which side the next event is of the trees that are left.
+/// On which side the next event is of the trees that are left. `None` where none is left.
 fn next_side<K: TKey, V: TValue, W: TValue, T: RadixNode<K, V>, B: RadixNode<K, W>>(
     left: &VecDeque<T>,
     from: usize,
-    right: &Below<'_, B>,
+    right: &Trees<'_, B>,
+    right_from: usize,
 ) -> Option<Side>
-    ensures side { result ≡ side_next (by_component T.tree B.tree from right.now.from K.cmp)
-        (slice_get left.now.items 0) (slice_get (trees_below right.now) 0) }
-    ensures there { IfSome result (λ s. AreThere s left.now.items (trees_below right.now)) }
+    ensures side { result ≡ side_next (by_component T.tree B.tree from right_from K.cmp)
+        (slice_get left.now.items 0) (slice_get (trees_of right.now) 0) }
+    ensures there { IfSome result (λ s. AreThere s left.now.items (trees_of right.now)) }
 {
-    let (first, _) = left.as_slices();
-    side_below(&Below::row(first, from), right, &mut Uncounted)
+    match (left.front(), right.first()) {
+        (None, None) => None,
+        (None, Some(_)) => Some(Side::Right),
+        (Some(_), None) => Some(Side::Left),
+        (Some(x), Some(y)) => Some(match compare_at(y, right_from, x, from, &mut Uncounted) {
+            Ordering::Less => Side::Right,
+            Ordering::Equal => Side::Both,
+            Ordering::Greater => Side::Left,
+        }),
+    }
 }
 
 /// Does the event of the first tree of the left side, which that side alone has.
@@ -353,15 +452,20 @@ fn come<
     B: RadixNode<K, W>,
     T: Build<K, V>,
     O: Change<K, V, W, B, T>,
->(alloc: Global, right: &mut Below<'_, B>, op: &O, kids: &mut Vec<T>) -> Result<(), AllocError>
-    requires there { 0 < length (trees_below right.old) }
-    requires long { IsFirstLong B.tree right.old.from (trees_below right.old) }
-    ensures come { OnOk result (IsCome K.cmp B.tree (O.look K.cmp) (O.says op.now) right.old.from
-        (trees_below right.old) (trees_below right.new) (map T.tree kids.old.items)
+>(
+    alloc: Global,
+    right: &mut Trees<'_, B>,
+    right_from: usize,
+    op: &O,
+    kids: &mut Vec<T>,
+) -> Result<(), AllocError>
+    requires there { 0 < length (trees_of right.old) }
+    requires long { IsFirstLong B.tree right_from (trees_of right.old) }
+    ensures { OnOk result (IsCome K.cmp B.tree (O.look K.cmp) (O.says op.now) right_from
+        (trees_of right.old) (trees_of right.new) (map T.tree kids.old.items)
         (map T.tree kids.new.items)) }
-    ensures from { right.new.from ≡ right.old.from }
 {
-    let kid = op.right_alone(alloc, right.next(), right.from)?;
+    let kid = op.right_alone(alloc, right.next(), right_from)?;
     keep(kids, kid)
 }
 
@@ -386,6 +490,7 @@ fn finish_in<K: TKey, V: TValue, T: Build<K, V>>(
 /// Changes a tree without the first `i` components of its prefix, by another one without the first
 /// `j` of its own: `None` where no key is left. The first `known` components that are left of
 /// either prefix are known to agree.
+#[cycle(changing)]
 pub fn change_at<
     K: TKey,
     V: TValue,
@@ -415,26 +520,96 @@ pub fn change_at<
         prefix,
         value,
         below,
-        mut left,
+        mut list,
         from,
-        mut right,
-        mut kids,
+        ended,
+        right,
+        right_from,
     } = begin(alloc, tree, i, that, j, known, op)?;
-    while let Some(side) = next_side(&left, from, &right) {
+    let Place {
+        kept,
+        at,
+        mut right,
+    } = walk_list(alloc, &mut list, from, ended, right, right_from, &below)?;
+    let (mut kids, mut left) = part(alloc, list, kept, at, right.len())?;
+    while let Some(side) = next_side(&left, from, &right, right_from) {
         match side {
             Side::Left => {
                 stay::<K, V, W, B, T, O>(alloc, &mut left, from, &below, &mut kids)?;
             }
             Side::Right => {
-                come::<K, V, W, B, T, O>(alloc, &mut right, &below, &mut kids)?;
+                come::<K, V, W, B, T, O>(alloc, &mut right, right_from, &below, &mut kids)?;
             }
             Side::Both => {
                 let (x, y) = (pop(&mut left), right.next());
-                let kid = change_at(alloc, x, from, y, right.from, 1, &below)?;
+                let kid = change_at(alloc, x, from, y, right_from, 1, &below)?;
                 keep(&mut kids, kid)?;
             }
         }
     }
     let made = finish_in::<K, V, T>(alloc, prefix, value, kids)?;
     Ok(made)
+}
+
+/// Changes the trees of a list where they are, pair by pair, until a tree of the right side comes
+/// in. A tree that goes on is left as it is.
+#[cycle(changing)]
+fn walk_list<
+    'b,
+    K: TKey,
+    V: TValue,
+    W: TValue,
+    B: RadixNode<K, W>,
+    T: Build<K, V>,
+    O: Change<K, V, W, B, T>,
+>(
+    alloc: Global,
+    list: &mut Vec<T>,
+    from: usize,
+    ended: bool,
+    right: Trees<'b, B>,
+    right_from: usize,
+    op: &O,
+) -> Result<Place<'b, B>, AllocError>
+    requires ended { ended ≡ true → from ≡ 0 }
+    requires left { AreChildren K.cmp (shortened_in T.tree from list.old.items) }
+    requires right { AreChildren K.cmp (shortened_in B.tree right_from (trees_of right)) }
+    requires asks { IsSaidIn K.cmp T.tree B.tree from right_from (O.look K.cmp) (O.asks op.now)
+        list.old.items (trees_of right) }
+    ensures order { IfOk result (λ p. p.kept ≤ p.at) }
+    ensures within { IfOk result (λ p. p.at ≤ length list.new.items) }
+    ensures doing { IfOk result (λ p. IsDoing K.cmp T.tree B.tree from right_from (O.look K.cmp)
+        (O.says op.now) (O.asks op.now) list.old.items (trees_of right.entry)
+        (drop p.at list.new.items) (trees_of p.right) (map T.tree (take p.kept list.new.items))) }
+{
+    let mut right = right;
+    let mut kept = 0;
+    let mut at = 0;
+    if !ended {
+        return Ok(Place { kept, at, right });
+    }
+    let plan = plan_of(list.len(), right.len());
+    'pairs: loop {
+        let stop = next_pair(list, at, right.again(), right_from, plan);
+        let comes = skips(&right, &stop);
+        if comes {
+            return Ok(Place { kept, at, right });
+        }
+        let Stop {
+            passed,
+            other,
+            others,
+        } = stop;
+        kept = pass(list, kept, at, passed, true);
+        at += passed;
+        right = others;
+        let Some(other) = other else {
+            return Ok(Place { kept, at, right });
+        };
+        let tree = take_at::<K, V, T>(alloc, list, at);
+        let made = change_at(alloc, tree, 0, other, right_from, 1, op)?;
+        let stays = put_back(list, at, made);
+        kept = pass(list, kept, at, 1, stays);
+        at += 1;
+    }
 }

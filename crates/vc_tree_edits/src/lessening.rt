@@ -1,8 +1,8 @@
 //! The recursion of the changes of a tree into which nothing comes, in place.
 
 ghost use Rattle.std.specs.Prelude.{◌≡◌, ◌+◌, ◌<◌, ◌≤◌, ◌++◌, ◌∷◌, true, false, List, [], Option};
-ghost use Rattle.std.specs.Prelude.{Some, None, IfOk, MatchBool, drop, take, length, slice_get};
-ghost use Rattle.std.specs.Prelude.{get_or, option_map};
+ghost use Rattle.std.specs.Prelude.{Some, None, IfOk, MatchBool, cond, drop, take, length};
+ghost use Rattle.std.specs.Prelude.{option_map};
 ghost use Rattle.std.specs.List.{cons_option};
 ghost use Rattle.std.specs.Option.{is_none, option_copied};
 ghost use Rattle.std.specs.declared.cmp.Ordering.{Ordering};
@@ -14,14 +14,18 @@ ghost use Rattle.vc_tree_model.specs.Canonical.{AreChildren, IsCanonical};
 ghost use Rattle.vc_tree_model.specs.Child.{solid_child};
 ghost use Rattle.vc_tree_nodes.specs.Children.{listed, seen};
 ghost use Rattle.vc_tree_nodes.specs.Parting.{Agree};
-ghost use Rattle.vc_tree_facing.specs.Facing.{trees_below, shortened_in};
+ghost use Rattle.vc_tree_facing.specs.Facing.{shortened_in};
 ghost use Rattle.vc_tree_facing.specs.Lessening.{IsLessened, IsInside, IsNodeLeft, IsLessenedIn};
 ghost use Rattle.vc_tree_facing.specs.Lessening.{alone};
+ghost use Rattle.vc_merge.specs.MovesDown.{MovesDown};
 ghost use Rattle.vc_tree_edits.specs.Kids.{AreKids};
+ghost use Rattle.vc_tree_edits.specs.Pairs.{trees_of};
 
+use crate::pairs::{Stop, Trees, child_alike, next_pair, trees_at};
 use std::alloc::{AllocError, Global};
 use std::mem;
-use vc_tree_facing::facing::{Below, below_place, seek_alike, split};
+use vc_merge::plan::plan_of;
+use vc_tree_facing::facing::split;
 use vc_tree_facing::nodes::value_at;
 use vc_tree_nodes::building::{Build, Seal};
 use vc_tree_nodes::children::{ChildList, Fragment, Parts};
@@ -94,17 +98,36 @@ fn stays_alone<K: TKey, V: TValue, W: TValue, T: Build<K, V>, O: Lessen<K, V, W,
     op.left_stays()
 }
 
-/// Moves a tree that stays down to those that stay before it. What stood between comes behind it.
-fn keep_at<T>(list: &mut [T], kept: usize, at: usize)
-    requires order { kept ≤ at }
-    requires within { at < length list.old }
-    ensures built { take (kept + 1) list.new ≡ take kept list.old ++ take 1 (drop at list.old) }
-    ensures rest { drop (at + 1) list.new ≡ drop (at + 1) list.old }
-    ensures long { length list.new ≡ length list.old }
+/// Moves the `n` elements from the place `at` on down behind the first `kept`. Those that lay
+/// between end up behind them.
+fn move_down<T>(list: &mut [T], kept: usize, at: usize, n: usize)
+    requires order { kept < at }
+    requires within { at + n ≤ length list.old }
+    ensures { MovesDown list.old kept at n list.new }
 {
-    if kept < at {
-        list.swap(kept, at);
+    for moved in 0..n {
+        list.swap(kept + moved, at + moved);
     }
+}
+
+/// Passes the `n` trees from the place `at` on. Where they stay, they come behind the `kept` that
+/// stay before them: nothing is moved while nothing went. Answers how many stay by then.
+pub fn pass<T>(list: &mut Vec<T>, kept: usize, at: usize, n: usize, stay: bool) -> usize
+    requires order { kept ≤ at }
+    requires within { at + n ≤ length list.old.items }
+    ensures built { take result list.new.items
+        ≡ take kept list.old.items ++ cond stay (take n (drop at list.old.items)) [] }
+    ensures rest { drop (at + n) list.new.items ≡ drop (at + n) list.old.items }
+    ensures long { length list.new.items ≡ length list.old.items }
+    ensures order { result ≤ at + n }
+{
+    if !stay {
+        return kept;
+    }
+    if kept < at {
+        move_down(list, kept, at, n);
+    }
+    kept + n
 }
 
 /// What is left of the children of a node.
@@ -182,8 +205,8 @@ pub fn lessen_at<
         }
         return lessen_inside(alloc, tree, place, that, op);
     }
-    let right = below_place(that, other_place);
-    lessen_node(alloc, tree, i, value_at(that, j, front), right, op)
+    let (right, from) = trees_at(that, other_place);
+    lessen_node(alloc, tree, i, value_at(that, j, front), right, from, op)
 }
 
 /// The same where the right prefix has ended at a place in the left one.
@@ -205,10 +228,10 @@ fn lessen_inside<
         (T.tree tree.old) (B.tree that.now).value (B.tree that.now).children stays
         (T.tree tree.new)) }
 {
-    let mut right = below_place(that, that.prefix().len());
+    canonical(that);
     let (_, below) = change_value::<K, V, W, T, O>(None, that.value(), op);
-    match seek_alike(&mut right, tree, place) {
-        Some(other) => lessen_at(alloc, tree, place, other, right.from, 1, &below),
+    match child_alike(that.children(), tree, place) {
+        Some(other) => lessen_at(alloc, tree, place, other, 0, 1, &below),
         None => Ok(stays_alone::<K, V, W, T, O>(&below)),
     }
 }
@@ -228,20 +251,21 @@ fn lessen_node<
     tree: &mut T,
     i: usize,
     that: Option<&W>,
-    right: Below<'_, B>,
+    right: Trees<'_, B>,
+    from: usize,
     op: &O,
 ) -> Result<bool, AllocError>
     requires within { i ≤ length (T.tree tree.old).prefix }
-    requires right { AreChildren K.cmp (shortened_in B.tree right.from (trees_below right)) }
+    requires right { AreChildren K.cmp (shortened_in B.tree from (trees_of right)) }
     requires asks_value { O.asks op.now (T.tree tree.old).value
         ((O.look K.cmp).at (option_copied that)) }
     requires asks_below { (x : K) (q : List K) → O.asks op.now
         (lookup_in K.cmp (T.tree tree.old).children (x ∷ q)) ((O.look K.cmp).under
         (option_copied that) ((O.look K.cmp).of_forest
-        (shortened_in B.tree right.from (trees_below right)) (x ∷ q))) }
+        (shortened_in B.tree from (trees_of right)) (x ∷ q))) }
     ensures { IfOk result (λ stays. IsNodeLeft K.cmp (O.look K.cmp) (O.says op.now) i
         (T.tree tree.old) (option_copied that.entry)
-        (shortened_in B.tree right.entry.from (trees_below right.entry)) stays (T.tree tree.new)) }
+        (shortened_in B.tree from (trees_of right.entry)) stays (T.tree tree.new)) }
 {
     let had = tree.children().len();
     let node = mem::replace(tree, T::blank(alloc, Seal::new()));
@@ -257,6 +281,7 @@ fn lessen_node<
         had,
         value.is_none(),
         right,
+        from,
         &below,
     )?;
     let Some(made) = remake::<K, V, T>(alloc, prefix, value, kids)? else {
@@ -281,22 +306,23 @@ fn lessen_kids<
     children: Option<T::Children>,
     had: usize,
     is_bare: bool,
-    right: Below<'_, B>,
+    right: Trees<'_, B>,
+    from: usize,
     op: &O,
 ) -> Result<Kids<T::Children, T>, AllocError>
     requires had { had ≡ length (listed T.Children.items children) }
     requires left { AreChildren K.cmp (seen T.tree (listed T.Children.items children)) }
-    requires right { AreChildren K.cmp (shortened_in B.tree right.from (trees_below right)) }
+    requires right { AreChildren K.cmp (shortened_in B.tree from (trees_of right)) }
     requires asks { (x : K) (q : List K) → O.asks op.now
         (lookup_in K.cmp (seen T.tree (listed T.Children.items children)) (x ∷ q))
-        ((O.look K.cmp).of_forest (shortened_in B.tree right.from (trees_below right)) (x ∷ q)) }
+        ((O.look K.cmp).of_forest (shortened_in B.tree from (trees_of right)) (x ∷ q)) }
     ensures kids { IfOk result
         (λ kids. AreKids is_bare kids.lone (listed T.Children.items kids.stored) kids.many) }
     ensures children { IfOk result (λ kids. AreChildren K.cmp
         (seen T.tree (cons_option kids.lone (listed T.Children.items kids.stored)))) }
     ensures below { IfOk result (λ kids. IsLessenedIn K.cmp (O.look K.cmp) (O.says op.now)
         (seen T.tree (listed T.Children.items children))
-        (shortened_in B.tree right.entry.from (trees_below right.entry))
+        (shortened_in B.tree from (trees_of right.entry))
         (seen T.tree (cons_option kids.lone (listed T.Children.items kids.stored)))) }
 {
     let Some(mut children) = children else {
@@ -306,7 +332,7 @@ fn lessen_kids<
             lone: None,
         });
     };
-    if right.is_empty() && !(is_bare && had == 1) {
+    if right.len() == 0 && !(is_bare && had == 1) {
         let stays = stays_alone::<K, V, W, T, O>(op);
         return Ok(Kids {
             many: if stays { had } else { 0 },
@@ -314,7 +340,14 @@ fn lessen_kids<
             lone: None,
         });
     }
-    let (many, lone) = lessen_in::<K, V, W, B, T, O>(alloc, &mut children, is_bare, right, op)?;
+    let (many, lone) = lessen_in::<K, V, W, B, T, O>(
+        alloc,
+        &mut children,
+        is_bare,
+        right,
+        from,
+        op,
+    )?;
     Ok(Kids {
         many,
         stored: Some(children),
@@ -336,41 +369,82 @@ fn lessen_in<
     alloc: Global,
     children: &mut T::Children,
     is_bare: bool,
-    right: Below<'_, B>,
+    right: Trees<'_, B>,
+    from: usize,
     op: &O,
 ) -> Result<(usize, Option<T>), AllocError>
     requires left { AreChildren K.cmp (seen T.tree (T.Children.items children.old)) }
-    requires right { AreChildren K.cmp (shortened_in B.tree right.from (trees_below right)) }
+    requires right { AreChildren K.cmp (shortened_in B.tree from (trees_of right)) }
     requires asks { (x : K) (q : List K) → O.asks op.now
         (lookup_in K.cmp (seen T.tree (T.Children.items children.old)) (x ∷ q))
-        ((O.look K.cmp).of_forest (shortened_in B.tree right.from (trees_below right)) (x ∷ q)) }
+        ((O.look K.cmp).of_forest (shortened_in B.tree from (trees_of right)) (x ∷ q)) }
     ensures kids { IfOk result
         (λ left. AreKids is_bare left.1 (T.Children.items children.new) left.0) }
     ensures children { IfOk result (λ left.
         AreChildren K.cmp (seen T.tree (cons_option left.1 (T.Children.items children.new)))) }
     ensures below { IfOk result (λ left. IsLessenedIn K.cmp (O.look K.cmp) (O.says op.now)
         (seen T.tree (T.Children.items children.old))
-        (shortened_in B.tree right.entry.from (trees_below right.entry))
+        (shortened_in B.tree from (trees_of right.entry))
         (seen T.tree (cons_option left.1 (T.Children.items children.new)))) }
 {
-    let mut right = right;
     let list = children.make_mut()?;
-    let mut kept = 0;
-    let mut at = 0;
-    while at < list.len() {
-        let stays = match seek_alike(&mut right, &list[at], 0) {
-            Some(other) => lessen_at(alloc, &mut list[at], 0, other, right.from, 1, op)?,
-            None => stays_alone::<K, V, W, T, O>(op),
-        };
-        if stays {
-            keep_at(list, kept, at);
-            kept += 1;
-        }
-        at += 1;
-    }
+    let kept = lessen_list(alloc, list, right, from, op)?;
     list.truncate(kept);
     if is_bare && kept == 1 {
         return Ok((0, list.pop()));
     }
     Ok((kept, None))
+}
+
+/// Changes the trees of a list where they are, and answers how many of them stay. These are moved
+/// to the front.
+#[cycle(lessening)]
+fn lessen_list<
+    K: TKey,
+    V: TValue,
+    W: TValue,
+    B: RadixNode<K, W>,
+    T: Build<K, V>,
+    O: Lessen<K, V, W, T>,
+>(
+    alloc: Global,
+    list: &mut Vec<T>,
+    right: Trees<'_, B>,
+    from: usize,
+    op: &O,
+) -> Result<usize, AllocError>
+    requires left { AreChildren K.cmp (seen T.tree list.old.items) }
+    requires right { AreChildren K.cmp (shortened_in B.tree from (trees_of right)) }
+    requires asks { (x : K) (q : List K) → O.asks op.now
+        (lookup_in K.cmp (seen T.tree list.old.items) (x ∷ q))
+        ((O.look K.cmp).of_forest (shortened_in B.tree from (trees_of right)) (x ∷ q)) }
+    ensures within { IfOk result (λ kept. kept ≤ length list.new.items) }
+    ensures children { IfOk result
+        (λ kept. AreChildren K.cmp (seen T.tree (take kept list.new.items))) }
+    ensures below { IfOk result (λ kept. IsLessenedIn K.cmp (O.look K.cmp) (O.says op.now)
+        (seen T.tree list.old.items)
+        (shortened_in B.tree from (trees_of right.entry))
+        (seen T.tree (take kept list.new.items))) }
+{
+    let stay = stays_alone::<K, V, W, T, O>(op);
+    let plan = plan_of(list.len(), right.len());
+    let mut rights = right;
+    let mut kept = 0;
+    let mut at = 0;
+    'pairs: loop {
+        let Stop {
+            passed,
+            other,
+            others,
+        } = next_pair(list, at, rights, from, plan);
+        kept = pass(list, kept, at, passed, stay);
+        at += passed;
+        let Some(other) = other else {
+            return Ok(kept);
+        };
+        let stays = lessen_at(alloc, &mut list[at], 0, other, from, 1, op)?;
+        kept = pass(list, kept, at, 1, stays);
+        at += 1;
+        rights = others;
+    }
 }

@@ -7,4 +7,5 @@ mod changes;
 pub mod combining;
 pub mod engine;
 pub mod lessening;
+pub mod pairs;
 pub mod prepending;

@@ -1,0 +1,206 @@
+-- The trees of a list that is changed in its places, done run by run and pair by pair.
+--     at-end        trees that one list alone has are done, and no others are left
+--     pair-within, pair-next        or the next two begin alike
+--     pair-done        they are done
+use Rattle.std.proofs.Common.{◌≡◌, ℕ, ◌+◌, ◌<◌, ◌≤◌, [], ◌∷◌, ◌++◌, List, Option, None, Some, Bool, true, false, cond, refl, sym}
+use Rattle.std.proofs.Common.{ap, subst, ◌∙◌, ◌⊎◌, inl, inr, map, take, drop, length, slice_get, append_assoc, append-nil}
+use Rattle.std.proofs.Common.{arith, get_or, length-drop}
+use Rattle.std.proofs.lemmas.List.{append_cancel_right, take-append-drop, drop-drop, map-append}
+use Rattle.std.specs.Cmp.{IsTotalOrder}
+use Rattle.std.specs.List.{AllByRecursion, cons_option}
+use Rattle.std.specs.Prelude.{MatchBool}
+use Rattle.std.specs.declared.cmp.Ordering.{Ordering}
+use Rattle.std.specs.declared.cmp.Ordering.TheVariants.{Less, Equal}
+use Rattle.vc_merge.specs.Chain.{Run, of_left, of_right, of_both, events}
+use Rattle.vc_merge.specs.Fronts.{LeftBelow, RightBelow, HeadsCompare}
+use Rattle.vc_merge.specs.Script.{left_alone, lefts, rights}
+use Rattle.vc_tree_model.specs.Canonical.{AreChildren, IsWhole}
+use Rattle.vc_tree_model.specs.Look.{Look}
+use Rattle.vc_tree_model.specs.Places.{IsCombinedIn}
+use Rattle.vc_tree_model.specs.Tree.{Tree, Forest, forest, grow, shortened}
+use Rattle.vc_tree_model.specs.Value.{IsKept}
+use Rattle.vc_tree_facing.specs.Doing.{IsDoing, AreNext}
+use Rattle.vc_tree_facing.specs.Facing.{shortened_in}
+use Rattle.vc_tree_facing.specs.Lessening.{left_of}
+use Rattle.vc_tree_facing.specs.Made.{IsMadeOf}
+use Rattle.vc_tree_facing.specs.Sides.{by_component, by_component_total, side_next}
+use Rattle.vc_tree_facing.specs.declared.sides.Side.TheVariants.{Left, Right, Both}
+use Rattle.vc_merge.proofs.Runs.{heads-left}
+use Rattle.vc_tree_facing.proofs.Advancing.{passed, list-done}
+use Rattle.vc_tree_facing.proofs.Next.{done, left_within, left-next, both-next, made-left}
+use Rattle.vc_tree_edits.specs.Pairs.{ArePassed, IsNextPair}
+use Rattle.vc_tree_edits.proofs.Passing.{passed-lefts, lefts-run, lefts-skip, rights-run, rights-skip}
+use Rattle.vc_tree_edits.specs.Kids.{IsSetAt}
+use Rattle.vc_tree_edits.proofs.Placed.{alone-made, first-at}
+
+-- the first of canonical children is canonical
+head-canonical : {K V : Type 0} (cmp : K → K → Ordering) (p : List K) (v : Option V) (kids rest : Forest K V)
+    → AreChildren cmp (grow p v kids rest) → IsWhole p v kids × AreChildren cmp kids
+head-canonical cmp [] v kids rest a = absurd a
+head-canonical cmp (x ∷ p) v kids rest a = (a.0, a.1)
+
+module _ {A B : Type 0} (order : A ⊎ B → A ⊎ B → Ordering) (total : IsTotalOrder order) where
+  -- a tree that is below the other list is the next one
+  first-below : (x : A) (rs : List B) → AllByRecursion (λ y. order (inl x) (inr y) ≡ Less) rs
+      → side_next order (Some x) (slice_get rs 0) ≡ Some Left
+  first-below x [] h = refl
+  first-below x (y ∷ rs) h = rw (total.antisymm (inr y) (inl x), h.0) refl
+
+  first-above : (y : B) (ls : List A) → AllByRecursion (λ x. order (inr y) (inl x) ≡ Less) ls
+      → side_next order (slice_get ls 0) (Some y) ≡ Some Right
+  first-above y [] h = refl
+  first-above y (x ∷ ls) h = rw h.0 refl
+
+  both-first : (x : A) (y : B) → order (inl x) (inr y) ≡ Equal → side_next order (Some x) (Some y) ≡ Some Both
+  both-first x y e = rw (total.antisymm (inr y) (inl x), e) refl
+
+-- what stays of some, before what stays of others
+stay-append : {X : Type 0} (b : Bool) (made xs ys : List X) → (made ++ cond b xs []) ++ cond b ys [] ≡ made ++ cond b (xs ++ ys) []
+stay-append true made xs ys = append_assoc made xs ys
+stay-append false made xs ys = append-nil (made ++ [])
+
+-- two lists that are nothing together
+none-both : {X : Type 0} (xs ys : List X) → xs ++ ys ≡ [] → (xs ≡ []) × (ys ≡ [])
+none-both [] ys e = (refl, e)
+none-both (x ∷ xs) ys e = absurd (cc)
+
+one-stays : {K V : Type 0} (b : Bool) (t : Tree K V) → cons_option (left_of b 0 t) [] ≡ cond b (t ∷ []) []
+one-stays true t = refl
+one-stays false t = refl
+
+kept-map : {A K V : Type 0} (ta : A → Tree K V) (b : Bool) (xs zs : List A)
+    → map ta (xs ++ cond b zs []) ≡ map ta xs ++ cond b (map ta zs) []
+kept-map ta true xs zs = map-append ta xs zs
+kept-map ta false xs zs = map-append ta xs []
+
+module _ {K V W O A B : Type 0} {cmp : K → K → Ordering} {ta : A → Tree K V} {tb : B → Tree K W} {j : ℕ} {l : Look cmp W O}
+    {R : Option V → O → Option V → Type 0} {asks : Option V → O → Type 0} {xs : List A} {ys : List B} where
+  rights-done : (nothing : (o : O) → R None o None) (zs : List B) {ls : List A} {rs : List B} {made : List (Tree K V)}
+      → IsDoing cmp ta tb 0 j l R asks xs ys ls (zs ++ rs) made → RightBelow (by_component ta tb 0 j cmp) zs ls → IsDoing cmp ta tb 0 j l R asks xs ys ls rs made
+  rights-done nothing [] d h = d
+  rights-done nothing (z ∷ zs) {ls} d h =
+      rights-done nothing zs
+      (passed nothing d
+      (first-above (by_component ta tb 0 j cmp) (by_component_total ta tb 0 j d.total) z ls h.0)) h.1
+
+  module _ (keeps : V → V → Type 0) (itself : (v : V) → keeps v v) (b : Bool)
+      (alone : MatchBool b ((v z : Option V) → IsKept keeps v z → R v l.none z) ((v : Option V) → R v l.none None)) where
+    left-done : {z : A} {ls : List A} {rs : List B} {made : List (Tree K V)} → IsDoing cmp ta tb 0 j l R asks xs ys (z ∷ ls) rs made
+        → AllByRecursion (λ y. by_component ta tb 0 j cmp (inl z) (inr y) ≡ Less) rs
+        → IsDoing cmp ta tb 0 j l R asks xs ys ls rs (made ++ cond b (ta z ∷ []) [])
+    left-done {z} {ls} {rs} {made} d h =
+        let side = first-below (by_component ta tb 0 j cmp) (by_component_total ta tb 0 j d.total) z rs h in
+        let c = head-canonical cmp (ta z).prefix (ta z).value (ta z).children (shortened_in ta 0 ls) d.left in
+        done (left-next d side refl) (ap (λ m. made ++ m) (sym (one-stays b (ta z))))
+        (made-left (alone-made cmp d.total keeps itself R l.none (ta z) 0 c (left_within d refl) b alone))
+
+    lefts-done : (zs : List A) {ls : List A} {rs : List B} {made : List (Tree K V)} → IsDoing cmp ta tb 0 j l R asks xs ys (zs ++ ls) rs made
+        → LeftBelow (by_component ta tb 0 j cmp) zs rs → IsDoing cmp ta tb 0 j l R asks xs ys ls rs (made ++ cond b (map ta zs) [])
+    lefts-done [] {ls} {rs} {made} d h = subst (IsDoing cmp ta tb 0 j l R asks xs ys ls rs) (none b) d
+      where
+        none : (b : Bool) → made ≡ made ++ cond b [] []
+        none true = sym (append-nil made)
+        none false = sym (append-nil made)
+    lefts-done (z ∷ zs) {ls} {rs} {made} d h =
+        subst (IsDoing cmp ta tb 0 j l R asks xs ys ls rs) (stay-append b made (ta z ∷ []) (map ta zs)) (lefts-done zs (left-done d h.0) h.1)
+
+    all-done : (runs : List (Run A B)) → (rights (events runs) ≡ []) ⊎ ((o : O) → R None o None) → {ls ls' : List A}
+        {rs rs' : List B} {made : List (Tree K V)} → IsDoing cmp ta tb 0 j l R asks xs ys ls rs made
+        → ArePassed (by_component ta tb 0 j cmp) runs ls rs ls' rs'
+        → IsDoing cmp ta tb 0 j l R asks xs ys ls' rs' (made ++ cond b (map ta (lefts (events runs))) [])
+    all-done [] n {ls} {ls'} {rs} {rs'} {made} d p = rw (← p.0, ← p.1) (lefts-done [] d tt)
+    all-done (of_left zs ∷ runs) n {ls} {ls'} {rs} {rs'} {made} d p =
+        subst (IsDoing cmp ta tb 0 j l R asks xs ys ls' rs')
+        (stay-append b made (map ta zs) (map ta (lefts (events runs)))
+        ∙ ap (λ m. made ++ cond b m []) (sym (map-append ta zs (lefts (events runs)))
+        ∙ ap (map ta) (sym (lefts-run zs (events runs)))))
+        (all-done runs (skipped n) (lefts-done zs (subst (λ k. IsDoing cmp ta tb 0 j l R asks xs ys k rs made) p.1 d) p.2) p.3)
+      where
+        skipped : (rights (map (λ x. left_alone x) zs ++ events runs) ≡ []) ⊎ ((o : O) → R None o None)
+            → (rights (events runs) ≡ []) ⊎ ((o : O) → R None o None)
+        skipped (inl e) = inl (sym (rights-skip zs (events runs)) ∙ e)
+        skipped (inr f) = inr f
+    all-done (of_right zs ∷ runs) n {ls} {ls'} {rs} {rs'} {made} d p =
+        let more = subst (λ k. IsDoing cmp ta tb 0 j l R asks xs ys ls k made) p.1 d in
+        subst (IsDoing cmp ta tb 0 j l R asks xs ys ls' rs')
+        (ap (λ m. made ++ cond b (map ta m) []) (sym (lefts-skip zs (events runs)))) (elim n [
+          | inl e ↦
+              let n = none-both zs (rights (events runs)) (sym (rights-run zs (events runs)) ∙ e) in
+              all-done runs (inl n.1) (subst (λ k. IsDoing cmp ta tb 0 j l R asks xs ys ls (k ++ p.0) made) n.0 more) p.3
+          | inr f ↦ all-done runs (inr f) (rights-done f zs more p.2) p.3
+        ])
+    all-done (of_both x y ∷ runs) n d p = absurd p
+
+    -- the trees before the next pair are done
+    pub runs-done : (ls : List A) (at kept : ℕ) {rs : List B}
+        → IsDoing cmp ta tb 0 j l R asks xs ys (drop at ls) rs (map ta (take kept ls)) → {n : ℕ} {found : Option B} {rest : List B}
+        → (p : IsNextPair (by_component ta tb 0 j cmp) (drop at ls) rs n found rest)
+        → (rights (events p.runs) ≡ []) ⊎ ((o : O) → R None o None) → (ls' : List A) (kept' : ℕ)
+        → take kept' ls' ≡ take kept ls ++ cond b (take n (drop at ls)) [] → drop (at + n) ls' ≡ drop (at + n) ls
+        → IsDoing cmp ta tb 0 j l R asks xs ys (drop (at + n) ls') (cons_option found rest) (map ta (take kept' ls'))
+    runs-done ls at kept d {n} {found} {rest} p nothing ls' kept' built same =
+        let front : lefts (events p.runs) ≡ take n (drop at ls) =
+        append_cancel_right _ _ (drop n (drop at ls))
+        (sym (passed-lefts (by_component ta tb 0 j cmp) p.runs _ _ _ _ p.passed) ∙ sym (take-append-drop n (drop at ls))) in
+        let made : map ta (take kept ls) ++ cond b (map ta (lefts (events p.runs))) [] ≡ map ta (take kept' ls') =
+        ap (λ m. map ta (take kept ls) ++ cond b (map ta m) []) front
+        ∙ sym (ap (map ta) built ∙ kept-map ta b (take kept ls) (take n (drop at ls))) in
+        let rest_is : drop n (drop at ls) ≡ drop (at + n) ls' = drop-drop n at ls ∙ sym same in
+        subst (λ k. IsDoing cmp ta tb 0 j l R asks xs ys k (cons_option found rest) (map ta (take kept' ls'))) rest_is
+        (subst (IsDoing cmp ta tb 0 j l R asks xs ys (drop n (drop at ls)) (cons_option found rest)) made (all-done p.runs nothing d p.passed))
+
+  -- the next two trees begin alike
+  meeting : {x : A} {ls : List A} {y : B} {rs : List B} {made : List (Tree K V)} → IsDoing cmp ta tb 0 j l R asks xs ys (x ∷ ls) (y ∷ rs) made
+      → HeadsCompare (by_component ta tb 0 j cmp) (x ∷ ls) (y ∷ []) Equal
+      → AreNext cmp ta tb 0 j l R asks xs ys (Some x) (Some y) ls rs made
+  meeting {x} {y = y} d h =
+      both-next d (both-first (by_component ta tb 0 j cmp) (by_component_total ta tb 0 j d.total) x y h) refl refl
+
+  -- they are done
+  pub pair-done : {ls : List A} {at kept : ℕ} {x : A} {y : B} {rs : List B}
+      → AreNext cmp ta tb 0 j l R asks xs ys (Some x) (Some y) (drop (at + 1) ls) rs (map ta (take kept ls)) → {new : A} (b : Bool)
+      → IsMadeOf cmp l R (Some (shortened 0 (ta x))) (Some (shortened j (tb y))) (left_of b 0 (ta new)) → kept ≤ at
+      → (ls' : List A) → IsSetAt ls at new ls' → (ls'' : List A) (kept' : ℕ)
+      → take kept' ls'' ≡ take kept ls' ++ cond b (take 1 (drop at ls')) [] → drop (at + 1) ls'' ≡ drop (at + 1) ls'
+      → IsDoing cmp ta tb 0 j l R asks xs ys (drop (at + 1) ls'') rs (map ta (take kept' ls''))
+  pair-done {ls} {at} {kept} {rs = rs} n {new} b m order ls' s ls'' kept' built same =
+      let made : map ta (take kept' ls'') ≡ map ta (take kept ls) ++ cons_option (left_of b 0 (ta new)) [] =
+      ap (map ta) (built ∙ ap (λ k. k ++ cond b (take 1 (drop at ls')) []) (s.front kept order)
+      ∙ ap (λ k. take kept ls ++ cond b (take 1 k) []) s.here) ∙ map-append ta (take kept ls) (cond b (new ∷ []) [])
+      ∙ ap (λ k. map ta (take kept ls) ++ k) (by b) in
+      subst (λ k. IsDoing cmp ta tb 0 j l R asks xs ys k rs (map ta (take kept' ls''))) (sym (same ∙ s.rest)) (done n made m)
+    where
+      by : (b : Bool) → map ta (cond b (new ∷ []) []) ≡ cons_option (left_of b 0 (ta new)) []
+      by true = refl
+      by false = refl
+
+  module _ (keeps : V → V → Type 0) (itself : (v : V) → keeps v v) (b : Bool)
+      (alone : MatchBool b ((v z : Option V) → IsKept keeps v z → R v l.none z) ((v : Option V) → R v l.none None))
+      (ls : List A) (at kept : ℕ) {rs : List B} (d : IsDoing cmp ta tb 0 j l R asks xs ys (drop at ls) rs (map ta (take kept ls))) {n : ℕ} {found : Option B}
+      {rest : List B} (p : IsNextPair (by_component ta tb 0 j cmp) (drop at ls) rs n found rest) (ls' : List A) (kept' : ℕ)
+      (built : take kept' ls' ≡ take kept ls ++ cond b (take n (drop at ls)) []) (same : drop (at + n) ls' ≡ drop (at + n) ls) where
+    rest-same : drop n (drop at ls) ≡ drop (at + n) ls'
+    rest-same = drop-drop n at ls ∙ sym same
+
+    -- all are done
+    pub at-end : ((o : O) → R None o None) → found ≡ None → AreChildren cmp (forest (map ta (take kept' ls')))
+        × IsCombinedIn cmp l R (shortened_in ta 0 xs) (shortened_in tb j ys) (forest (map ta (take kept' ls')))
+    at-end f e =
+        let done = runs-done keeps itself b alone ls at kept d p (inr f) ls' kept' built same in
+        let stands = rw e at p.stands in
+        list-done f (cons_option found rest)
+        (subst (λ k. IsDoing cmp ta tb 0 j l R asks xs ys k (cons_option found rest) (map ta (take kept' ls'))) (sym rest-same ∙ stands.0) done)
+
+    -- the next two trees begin alike
+    pub pair-within : {y : B} → found ≡ Some y → at + n < length ls'
+    pair-within {y} e =
+        let h = rw (e, rest-same) at p.stands in
+        let long = heads-left (by_component ta tb 0 j cmp) (drop (at + n) ls') (y ∷ []) Equal h in
+        omega (arith, long, length-drop (at + n) ls')
+
+    pub pair-next : (rights (events p.runs) ≡ []) ⊎ ((o : O) → R None o None) → {y : B} → found ≡ Some y → (x : A) → x ≡ get_or ls' (at + n) x
+        → AreNext cmp ta tb 0 j l R asks xs ys (Some x) (Some y) (drop (at + n + 1) ls') rest (map ta (take kept' ls'))
+    pair-next nothing {y} e x is =
+        let first = first-at ls' (at + n) x (pair-within e) is in
+        let done = runs-done keeps itself b alone ls at kept d p nothing ls' kept' built same in
+        meeting (rw (e, first) at done) (rw (e, rest-same, first) at p.stands)

@@ -1,0 +1,357 @@
+//! Two lists of trees side by side: a merge passes those that one list alone has, and stops at two
+//! that begin alike.
+
+ghost use Rattle.std.specs.Prelude.{◌≡◌, ◌+◌, ◌-◌, ◌<◌, ◌≤◌, ◌∷◌, [], true, false, Ok, Some};
+ghost use Rattle.std.specs.Prelude.{List, drop, take, length, slice_get, OnSome};
+ghost use Rattle.std.specs.List.{cons_option};
+ghost use Rattle.std.specs.Option.{option_copied};
+ghost use Rattle.std.specs.declared.cmp.Ordering.TheVariants.{Equal};
+ghost use Rattle.vc_merge.specs.Fronts.{LeftBelow, RightBelow, HeadsCompare};
+ghost use Rattle.vc_merge.specs.Plan.{IsPlan, planned};
+ghost use Rattle.vc_tree_model.specs.Canonical.{AreChildren, IsCanonical};
+ghost use Rattle.vc_tree_nodes.specs.Children.{seen};
+ghost use Rattle.vc_tree_facing.specs.Facing.{shortened_in, IsOpened};
+ghost use Rattle.vc_tree_facing.specs.Seeking.{side_at, IsSought};
+ghost use Rattle.vc_tree_facing.specs.Sides.{by_component, by_component_total};
+ghost use Rattle.vc_merge.specs.Place.{IsPlace};
+ghost use Rattle.vc_tree_edits.specs.Pairs.{trees_of, IsNextPair};
+
+use std::alloc::AllocError;
+use std::cmp::Ordering;
+use std::marker::PhantomData;
+use vc_merge::merge::{Count, MergeOperation, MergeState, merge_as};
+use vc_merge::plan::Plan;
+use vc_merge::search::{Sought, search};
+use vc_merge::states::Uncounted;
+use vc_tree_nodes::reading::{RadixNode, TKey, TValue, canonical};
+
+/// Trees of the right side, each without some of its first components.
+#[derive(Drop)]
+pub enum Trees<'b, B> {
+    /// One, which goes on after them.
+    One(&'b B),
+    /// The children of a node.
+    Many(&'b [B]),
+}
+
+impl<'b, B> Trees<'b, B> {
+    /// The same trees.
+    pub fn again(&self) -> Trees<'b, B>
+        ensures { trees_of result ≡ trees_of self.now }
+    {
+        match self {
+            Trees::One(tree) => Trees::One(tree),
+            Trees::Many(trees) => Trees::Many(trees),
+        }
+    }
+
+    /// The first of them.
+    pub fn first(&self) -> Option<&'b B>
+        ensures { option_copied result ≡ slice_get (trees_of self.now) 0 }
+    {
+        match self {
+            Trees::One(tree) => Some(tree),
+            Trees::Many(trees) => trees.first(),
+        }
+    }
+
+    /// Takes the first of them.
+    pub fn next(&mut self) -> &'b B
+        requires { 0 < length (trees_of self.old) }
+        ensures { trees_of self.old ≡ result.now ∷ trees_of self.new }
+    {
+        match self {
+            Trees::One(tree) => {
+                let first = *tree;
+                *self = Trees::Many(&[]);
+                first
+            }
+            Trees::Many(trees) => {
+                let first = &trees[0];
+                *trees = &trees[1..];
+                first
+            }
+        }
+    }
+
+    /// How many there are.
+    pub fn len(&self) -> usize
+        ensures { result ≡ length (trees_of self.now) }
+    {
+        match self {
+            Trees::One(_) => 1,
+            Trees::Many(trees) => trees.len(),
+        }
+    }
+}
+
+/// What is below a place of the prefix of a tree, and how many components are before it.
+pub fn trees_at<'b, K: TKey, W: TValue, B: RadixNode<K, W>>(
+    tree: &'b B,
+    place: usize,
+) -> (Trees<'b, B>, usize)
+    requires { place ≤ length (B.tree tree.now).prefix }
+    ensures opened { let t = B.tree tree.now in
+        IsOpened B.tree t (drop place t.prefix) (trees_of result.0) result.1 }
+    ensures children { AreChildren K.cmp (shortened_in B.tree result.1 (trees_of result.0)) }
+{
+    if place < tree.prefix().len() {
+        (Trees::One(tree), place)
+    } else {
+        (Trees::Many(tree.children()), 0)
+    }
+}
+
+/// What is left of two lists of trees, which are only looked at.
+#[derive(Drop)]
+struct Lists<'a, 'b, A, B> {
+    left: &'a [A],
+    right: &'b [B],
+}
+
+impl<'a, 'b, A, B> MergeState for Lists<'a, 'b, A, B> {
+    type A = A;
+
+    type B = B;
+
+    ghost left = { λ s. s.left.now };
+
+    ghost right = { λ s. s.right.now };
+
+    fn a_slice(&self) -> &[A] {
+        self.left
+    }
+
+    fn b_slice(&self) -> &[B] {
+        self.right
+    }
+}
+
+/// Passes the trees that one list alone has, and stops at two that begin alike.
+#[derive(Drop)]
+struct PassAlone<K, V, W> {
+    /// How many components of the right trees are left out.
+    from: usize,
+    key: PhantomData<K>,
+    left_value: PhantomData<V>,
+    right_value: PhantomData<W>,
+}
+
+impl<
+    'a,
+    'b,
+    K: TKey,
+    V: TValue,
+    W: TValue,
+    A: RadixNode<K, V>,
+    B: RadixNode<K, W>,
+    C: Count,
+> MergeOperation<Lists<'a, 'b, A, B>, C> for PassAlone<K, V, W> {
+    ghost order = { λ op. by_component A.tree B.tree 0 op.from K.cmp };
+
+    ghost ready = { λ _ _. Unit {0} };
+
+    ghost gives = { λ op. record {
+      from_a = λ s n answer t. (answer ≡ Ok true)
+          × LeftBelow (by_component A.tree B.tree 0 op.from K.cmp) (take n s.left.now) s.right.now;
+      from_b = λ s n answer t. (answer ≡ Ok true)
+          × RightBelow (by_component A.tree B.tree 0 op.from K.cmp) (take n s.right.now) s.left.now;
+      collision = λ s answer t. (answer ≡ Ok false) × (t ≡ s)
+          × HeadsCompare (by_component A.tree B.tree 0 op.from K.cmp) s.left.now s.right.now Equal;
+    } };
+
+    ghost total = { λ op. by_component_total A.tree B.tree 0 op.from K.total };
+
+    fn cmp(&self, a: &A, b: &B, steps: &mut C) -> Ordering {
+        steps.tick();
+        a.prefix().first().cmp(&b.prefix().get(self.from))
+    }
+
+    fn from_a(&self, state: &mut Lists<'a, 'b, A, B>, n: usize) -> Result<bool, AllocError> {
+        state.left = &state.left[n..];
+        Ok(true)
+    }
+
+    fn from_b(&self, state: &mut Lists<'a, 'b, A, B>, n: usize) -> Result<bool, AllocError> {
+        state.right = &state.right[n..];
+        Ok(true)
+    }
+
+    fn collision(&self, state: &mut Lists<'a, 'b, A, B>) -> Result<bool, AllocError> {
+        Ok(false)
+    }
+}
+
+/// Where a walk along two lists of trees stops: at the next two that begin alike, or at the end.
+#[derive(Drop)]
+pub struct Stop<'b, B> {
+    /// How many left trees were passed, which the right list does not have.
+    pub passed: usize,
+    /// The right tree that begins as the next left one does. The end of both lists has none.
+    pub other: Option<&'b B>,
+    /// The right trees after that one.
+    pub others: Trees<'b, B>,
+}
+
+/// Whether right trees were passed on the way to a stop.
+pub fn skips<B>(rights: &Trees<'_, B>, stop: &Stop<'_, B>) -> bool
+    ensures { result ≡ false → length (trees_of rights.now)
+        ≤ length (cons_option (option_copied stop.now.other) (trees_of stop.now.others)) }
+{
+    let others = stop.others.len();
+    let left = match stop.other {
+        Some(_) => others.saturating_add(1),
+        None => others,
+    };
+    left < rights.len()
+}
+
+/// The next two trees that begin alike, found by a merge. Where each merge goes by the plan of the
+/// two whole lists, and on from the pair before, all of them compare no more than one merge does.
+fn merge_to_pair<
+    'b,
+    K: TKey,
+    V: TValue,
+    W: TValue,
+    A: RadixNode<K, V>,
+    B: RadixNode<K, W>,
+    C: Count,
+>(lefts: &[A], rights: &'b [B], from: usize, plan: Plan, steps: &mut C) -> Stop<'b, B>
+    requires left { AreChildren K.cmp (seen A.tree lefts.now) }
+    requires right { AreChildren K.cmp (shortened_in B.tree from rights.now) }
+    requires plan { IsPlan plan }
+    ensures next { IsNextPair (by_component A.tree B.tree 0 from K.cmp) lefts.now rights.now
+        result.passed (option_copied result.other) (trees_of result.others) }
+    ensures before { OnSome result.other (C.counted steps.new
+        + planned plan (length lefts.now - result.passed - 1) (length (trees_of result.others))
+        ≤ C.counted steps.old + planned plan (length lefts.now) (length rights.now)) }
+    ensures counted { C.counted steps.new ≤ C.counted steps.old
+        + planned plan (length lefts.now) (length rights.now) }
+{
+    let op: PassAlone<K, V, W> = PassAlone {
+        from,
+        key: PhantomData,
+        left_value: PhantomData,
+        right_value: PhantomData,
+    };
+    let mut lists = Lists {
+        left: lefts,
+        right: rights,
+    };
+    let _never_refused = merge_as(&mut lists, &op, plan, steps);
+    let passed = lefts.len() - lists.left.len();
+    match lists.right.split_first() {
+        Some((other, others)) => Stop {
+            passed,
+            other: Some(other),
+            others: Trees::Many(others),
+        },
+        None => Stop {
+            passed,
+            other: None,
+            others: Trees::Many(&[]),
+        },
+    }
+}
+
+/// A component that is sought among those with which children begin.
+#[derive(Drop)]
+struct Beginning<'a, K, V> {
+    component: &'a K,
+    values: PhantomData<V>,
+}
+
+impl<'a, K: TKey, V: TValue, T: RadixNode<K, V>, C: Count> Sought<T, C> for Beginning<'a, K, V> {
+    ghost side = { λ sought tree. side_at K.cmp T.tree 0 sought.component.now tree };
+
+    fn compare(&self, tree: &T, steps: &mut C) -> Ordering {
+        steps.tick();
+        match tree.prefix().first() {
+            Some(start) => start.cmp(self.component),
+            None => Ordering::Less,
+        }
+    }
+}
+
+/// The place of the child that begins with a component, or of the gap for one. Compares no more
+/// often than the number of children has binary digits.
+fn place_among<K: TKey, V: TValue, T: RadixNode<K, V>>(
+    children: &[T],
+    component: &K,
+) -> Result<usize, usize>
+    requires { AreChildren K.cmp (seen T.tree children.now) }
+    ensures { IsPlace (side_at K.cmp T.tree 0 component.now) children.now result }
+{
+    let sought: Beginning<'_, K, V> = Beginning {
+        component,
+        values: PhantomData,
+    };
+    search(children, &sought, &mut Uncounted)
+}
+
+/// The child that begins as a tree goes on at a place of its prefix.
+pub fn child_alike<'b, K: TKey, V: TValue, W: TValue, T: RadixNode<K, V>, B: RadixNode<K, W>>(
+    children: &'b [B],
+    tree: &T,
+    place: usize,
+) -> Option<&'b B>
+    requires children { AreChildren K.cmp (seen B.tree children.now) }
+    requires place { place < length (T.tree tree.now).prefix }
+    ensures sought { (rest : List B) × ((x : K) → slice_get (T.tree tree.now).prefix place ≡ Some x
+        → IsSought K.cmp B.tree 0 x children.now (option_copied result) rest) }
+    ensures canonical { IsCanonical K.cmp (T.tree tree.now) }
+{
+    let component = &tree.prefix()[place];
+    match place_among(children, component) {
+        Ok(at) => Some(&children[at]),
+        Err(_) => None,
+    }
+}
+
+/// The left tree that begins as the one of the right side goes on.
+fn search_pair<'b, K: TKey, V: TValue, W: TValue, A: RadixNode<K, V>, B: RadixNode<K, W>>(
+    lefts: &[A],
+    tree: &'b B,
+    from: usize,
+) -> Stop<'b, B>
+    requires left { AreChildren K.cmp (seen A.tree lefts.now) }
+    requires within { from < length (B.tree tree.now).prefix }
+    ensures { IsNextPair (by_component A.tree B.tree 0 from K.cmp) lefts.now
+        (tree.now ∷ []) result.passed (option_copied result.other) (trees_of result.others) }
+{
+    match place_among(lefts, &tree.prefix()[from]) {
+        Ok(at) => Stop {
+            passed: at,
+            other: Some(tree),
+            others: Trees::Many(&[]),
+        },
+        Err(_) => Stop {
+            passed: lefts.len(),
+            other: None,
+            others: Trees::Many(&[]),
+        },
+    }
+}
+
+/// The next two trees that begin alike, of the left ones from the place `at` on. A tree alone is
+/// searched for, the children of a node are merged by a plan, which is that of the two whole lists.
+pub fn next_pair<'b, K: TKey, V: TValue, W: TValue, A: RadixNode<K, V>, B: RadixNode<K, W>>(
+    lefts: &[A],
+    at: usize,
+    rights: Trees<'b, B>,
+    from: usize,
+    plan: Plan,
+) -> Stop<'b, B>
+    requires within { at ≤ length lefts.now }
+    requires left { AreChildren K.cmp (seen A.tree (drop at lefts.now)) }
+    requires right { AreChildren K.cmp (shortened_in B.tree from (trees_of rights)) }
+    requires plan { IsPlan plan }
+    ensures { IsNextPair (by_component A.tree B.tree 0 from K.cmp) (drop at lefts.now)
+        (trees_of rights.entry) result.passed (option_copied result.other) (trees_of result.others) }
+{
+    let rest = &lefts[at..];
+    match rights {
+        Trees::One(tree) => search_pair(rest, tree, from),
+        Trees::Many(trees) => merge_to_pair(rest, trees, from, plan, &mut Uncounted),
+    }
+}
