@@ -18,12 +18,12 @@ ghost use Rattle.vc_tree_model.specs.Tree.{no_tree};
 ghost use Rattle.vc_tree_removal.specs.Without.{IsWithout};
 
 use std::alloc::{AllocError, Global};
-use std::default::MadeWith;
 use std::fmt;
 use std::fmt::Debug;
 use std::marker::Model;
-use vc_tree_nodes::reading::canonical;
-use vc_trees::radix_tree::{AbstractRadixTree, AbstractRadixTreeMut, ArcRadixTree, TKey, TValue};
+use vc_trees::radix_tree::{
+    AbstractRadixTree, AbstractRadixTreeMut, ArcRadixTree, RadixNode, TKey, TValue,
+};
 
 /// Rules on paths. It is seen as the tree of its rules, which has true at the paths that were
 /// allowed, and false at those that were denied.
@@ -45,7 +45,7 @@ impl<K: TKey> Model for PathFilter<K> {
     ghost view = { λ a. a.rules };
 }
 
-impl<K: TKey + MadeWith<Global>> PathFilter<K> {
+impl<K: TKey> PathFilter<K> {
     /// The filter without rules, which allows no path. Takes no memory.
     pub fn new(alloc: Global) -> Self
         ensures is { result ≡ no_tree }
@@ -159,12 +159,12 @@ impl<K: TKey> PathFilter<K> {
         ensures is { result.now ≡ self.now }
         ensures canonical { IsCanonical K.cmp result.now }
     {
-        canonical(&self.rules);
+        self.rules.prefix();
         &self.rules
     }
 }
 
-impl<K: TKey + MadeWith<Global>> Clone for PathFilter<K> {
+impl<K: TKey> Clone for PathFilter<K> {
     ghost is_clone = { λ x y. y ≡ x };
 
     /// A snapshot, which shares the rules: later rules of one filter change no answer of the other.

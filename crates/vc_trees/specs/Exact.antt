@@ -4,10 +4,26 @@ use Rattle.std.specs.declared.cmp.Ordering.{Ordering}
 use Rattle.std.proofs.Common.{sym, ap, ◌∙◌, inl, inr}
 use Rattle.vc_tree_model.specs.Value.{IsKept, Copies, itself, cloned}
 use Rattle.vc_tree_model.specs.Matches.{AreCopies, HaveOneSource}
-use Rattle.vc_tree_model.specs.Tree.{Tree, node}
+use Rattle.vc_tree_model.specs.Same.{IsAlike, IsAlikeIn}
+use Rattle.vc_tree_model.specs.Tree.{Tree, Forest, bare, grow, node}
 use Rattle.vc_tree_model.specs.Map.{lookup, IsEqualMap, IsInserted, HaveEqualMaps}
 use Rattle.vc_tree_model.specs.Snapshot.{IsSnapshot, same_copies}
 use Rattle.vc_tree_removal.specs.Without.{IsWithoutAll}
+
+module _ {K V : Type 0} (keeps : V → V → Type 0) (same : (v w : Option V) → IsKept keeps v w → w ≡ v) where
+  -- where what is kept is the same, trees that are alike are one
+  same_forest : (f g : Forest K V) → IsAlikeIn keeps f g → g ≡ f
+  same_forest bare bare h = refl
+  same_forest bare (grow q w more others) h = absurd h
+  same_forest (grow p v kids rest) bare h = absurd h
+  same_forest (grow p v kids rest) (grow q w more others) h =
+      ap (λ p. grow p w more others) (sym h.0) ∙ ap (λ v. grow p v more others) (same v w h.1)
+      ∙ ap (λ f. grow p v f others) (same_forest kids more h.2) ∙ ap (λ f. grow p v kids f) (same_forest rest others h.3)
+
+  pub same_nodes : (t c : Tree K V) → IsAlike keeps t c → c ≡ t
+  same_nodes t c h =
+      ap (λ p. node p c.value c.children) (sym h.0) ∙ ap (λ v. node t.prefix v c.children) (same t.value c.value h.1)
+      ∙ ap (λ f. node t.prefix t.value f) (same_forest t.children c.children h.2)
 
 module _ {V : Type 0} (is_clone : V → V → Type 0) (exact : (v w : V) → is_clone v w → w ≡ v) where
   -- a copy is the value itself
@@ -77,6 +93,14 @@ module _ {V : Type 0} (is_clone : V → V → Type 0) (exact : (v w : V) → is_
   same_value (Some v) None h = absurd h
   same_value (Some v) (Some w) h = ap (λ x. Some x) (exact v w h)
 
+  -- a clone of each node is the tree itself
+  pub alike-exact : {K : Type 0} (t c : Tree K V) → IsAlike is_clone t c → c ≡ t
+  alike-exact t c h = same_nodes is_clone same_value t c h
+
+  -- so is a copy of each
+  pub copied-exact : {K : Type 0} (t c : Tree K V) → IsAlike (Copies is_clone) t c → c ≡ t
+  copied-exact t c h = same_nodes (Copies is_clone) handed-exact t c h
+
   -- a snapshot is the tree itself
   pub snapshot-exact : {K : Type 0} (t c : Tree K V) → IsSnapshot is_clone t c → c ≡ t
   snapshot-exact t c h =
@@ -107,5 +131,7 @@ pub ruleset exactly = (
   equal_maps-exact,
   without-exact,
   maps-exact,
+  alike-exact,
+  copied-exact,
   snapshot-exact,
 )

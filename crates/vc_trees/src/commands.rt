@@ -10,9 +10,8 @@ ghost use Rattle.vc_tree_model.specs.OneTree.{IsOneTree, IsSmallest};
 ghost use Rattle.vc_tree_model.specs.Under.{under};
 ghost use Rattle.vc_tree_model.specs.Value.{Copies};
 
-use crate::radix_tree::{AbstractRadixTreeMut, TKey, TValue};
+use crate::radix_tree::{AbstractRadixTreeMut, RadixNode, TKey, TValue};
 use std::alloc::AllocError;
-use vc_tree_nodes::reading::canonical;
 
 /// A change of a tree, by a key and a value, by a prefix, or by another tree.
 #[derive(Drop)]
@@ -99,5 +98,5 @@ pub fn run<K: TKey, V: TValue, T: AbstractRadixTreeMut<K, V>>(
     for (at, command) in commands.into_iter().enumerate() {
         accepted[at] = obey(tree, command).is_ok();
     }
-    canonical(tree);
+    tree.prefix();
 }

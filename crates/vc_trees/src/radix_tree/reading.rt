@@ -1,7 +1,8 @@
 //! The calls that read a radix tree.
 
 ghost use Rattle.std.specs.Prelude.{◌≡◌, ◌+◌, ◌-◌, ◌*◌, ◌^◌, ◌<◌, ◌≤◌, ◌⊎◌, List, None, Ok, IfOk};
-ghost use Rattle.std.specs.Prelude.{IfSome, IsTrue, length, map, min, slice_get, take, true};
+ghost use Rattle.std.specs.Prelude.{IfSome, IsOk, IsSome, IsTrue, [], length, map, min, slice_get};
+ghost use Rattle.std.specs.Prelude.{take, true};
 ghost use Rattle.std.specs.Prelude.{alloc_error, IfErr, MatchBool, MatchOption};
 ghost use Rattle.std.specs.List.{FoldsTo};
 ghost use Rattle.std.specs.Option.{is_some, option_copied, option_map};
@@ -108,8 +109,8 @@ pub trait AbstractRadixTree<K: TKey, V: TValue>: RadixNode<K, V> {
     /// The least key of the tree and its value, or none where the tree is empty.
     ///
     /// The key is spelled in a list of its own: memory is asked for once, for as many components as
-    /// it has, and not at all where it has none. Fails only where that is refused. Compares none,
-    /// and goes down to the key twice.
+    /// it has, and not at all where the empty key is bound. Fails only where that is refused.
+    /// Compares none, and goes down to the key twice.
     ///
     /// ```
     /// if let Some((name, port)) = ports.first_key_value()? {
@@ -123,6 +124,7 @@ pub trait AbstractRadixTree<K: TKey, V: TValue>: RadixNode<K, V> {
             IfOk result (λ found. MatchOption found ((k : List K) → f k ≡ None)
             (λ b. IsLeastPair K.cmp f (b.0.items, b.1.now))) }
         ensures none { IsTrue (is_bare (Self.tree self.now)) → result ≡ Ok None }
+        ensures empty_key { IsSome (lookup K.cmp (Self.tree self.now) []) → IsOk result }
     {
         ends::first_key_value(self)
     }
@@ -243,7 +245,8 @@ pub trait AbstractRadixTree<K: TKey, V: TValue>: RadixNode<K, V> {
     }
 
     /// The same with the pairs of the tree whose keys start with the prefix, each with its whole
-    /// key. Goes down to the node below which these keys stand, as `get` does.
+    /// key. Goes down to the node below which these keys stand, as `get` does. Where no key starts
+    /// so, `init` is answered, and no memory is asked for.
     final fn fold_prefix<B: Drop, E: From<AllocError>, F: Fn(B, &[K], &V) -> Result<B, E> + Drop>(
         &self,
         prefix: &[K],
@@ -259,6 +262,8 @@ pub trait AbstractRadixTree<K: TKey, V: TValue>: RadixNode<K, V> {
         ensures err { IfErr result (λ e. E.from_gives alloc_error e
             ⊎ ((l : _) × IsWalk K.cmp (under K.cmp (lookup K.cmp (Self.tree self.now)) prefix.now) l
             × IsStopped F.Fn turn init l e)) }
+        ensures none { let f = lookup K.cmp (Self.tree self.now) in
+            ((k : List K) → under K.cmp f prefix.now k ≡ None) → result ≡ Ok init }
     {
         folding::fold_prefix(self, prefix, init, &turn)
     }
@@ -340,8 +345,8 @@ pub trait AbstractRadixTree<K: TKey, V: TValue>: RadixNode<K, V> {
     ///
     /// Fails only where memory is refused, or a call of the closure.
     final fn inner_combine<
-        W: TValue,
         M: AbstractRadixTreeMut<K, V>,
+        W: TValue,
         S: AbstractRadixTree<K, W>,
         F: Fn(&V, &W) -> Result<Option<V>, AllocError>,
     >(&self, that: &S, f: F) -> Result<M, AllocError>
@@ -367,8 +372,8 @@ pub trait AbstractRadixTree<K: TKey, V: TValue>: RadixNode<K, V> {
     ///     old.left_combine(&new, |price, change| Ok(Some(*change.unwrap_or(price))))?;
     /// ```
     final fn left_combine<
-        W: TValue,
         M: AbstractRadixTreeMut<K, V>,
+        W: TValue,
         S: AbstractRadixTree<K, W>,
         F: Fn(&V, Option<&W>) -> Result<Option<V>, AllocError>,
     >(&self, that: &S, f: F) -> Result<M, AllocError>

@@ -1,7 +1,7 @@
 //! The trait by which the two flavours are made and changed.
 
 ghost use Rattle.std.specs.Prelude.{◌≡◌, ◌≤◌, List, [], None, Ok, Some, length, IfOk, IsOk, OnOk};
-ghost use Rattle.std.specs.Prelude.{OnErr};
+ghost use Rattle.std.specs.Prelude.{MatchOption, OnErr};
 ghost use Rattle.vc_tree_model.specs.Tree.{made, no_tree};
 ghost use Rattle.vc_tree_model.specs.Combine.{IsCombined, IsInnerAt, IsLeftAt, IsOuterAt};
 ghost use Rattle.vc_tree_model.specs.Combine.{IsUnionAt, IsIntersectionAt, IsDifferenceAt};
@@ -11,13 +11,13 @@ ghost use Rattle.vc_tree_model.specs.Map.{HaveEqualMaps, IsEqualMap, IsInserted,
 ghost use Rattle.vc_tree_model.specs.Canonical.{IsCanonical};
 ghost use Rattle.vc_tree_model.specs.Same.{IsAlike};
 ghost use Rattle.vc_tree_model.specs.Under.{prefixed, under};
-ghost use Rattle.vc_tree_removal.specs.Without.{IsWithout, IsWithoutBelow};
+ghost use Rattle.vc_tree_removal.specs.Changing.{CanChange, CanWrite, MayWrite, IsChanged};
+ghost use Rattle.vc_tree_removal.specs.Without.{AllBegin, IsWithout, IsWithoutBelow};
 ghost use Rattle.vc_tree_edits.specs.Editing.{MayLeave, CanLeave, KeptThen, CanMeet, OrStays};
 ghost use Rattle.vc_tree_edits.specs.Editing.{CanJudge, MayJudge};
 
 use crate::radix_tree::reading::AbstractRadixTree;
 use std::alloc::{AllocError, Global};
-use std::default::MadeWith;
 use vc_tree_combines::combines;
 use vc_tree_edits::{combining, prepending};
 use vc_tree_nodes::building::Seal;
@@ -26,7 +26,7 @@ use vc_tree_nodes::insertion;
 use vc_tree_nodes::plain::RadixTree;
 use vc_tree_nodes::reading::{TKey, TValue};
 use vc_tree_nodes::shared::ArcRadixTree;
-use vc_tree_removal::{removal, removal_below};
+use vc_tree_removal::{changing, removal, removal_below};
 use vc_tree_walks::filtering;
 
 /// A radix tree to be made and changed: the two flavours, and no other type.
@@ -85,6 +85,101 @@ pub trait AbstractRadixTreeMut<K: TKey, V: TValue>: CloneTree<K, V> + AbstractRa
         insertion::insert(self, key, value)
     }
 
+    /// Binds the key to the value, and answers the value that it had, or none where it was not
+    /// bound. The other keys keep their values.
+    ///
+    /// Looks the key up, and then writes as `insert` does. Fails only where that does; the tree then
+    /// has the nodes that it had, and binds what it bound. The value that was handed in is dropped.
+    ///
+    /// ```
+    /// let old = ports.replace(b"mail", 993)?;
+    /// ```
+    final fn replace(&mut self, key: &[K], value: V) -> Result<Option<V>, AllocError>
+        ensures old { IfOk result
+            (IsKept Self.keeps (lookup K.cmp (Self.tree self.old) key.now)) }
+        ensures ok { OnOk result
+            (IsInserted K.cmp Self.keeps key.now value (Self.tree self.old) (Self.tree self.new)) }
+        ensures err { OnErr result
+            (HaveEqualMaps K.cmp Self.keeps (Self.tree self.old) (Self.tree self.new)) }
+        ensures err_nodes { OnErr result
+            (IsAlike Self.keeps (Self.tree self.old) (Self.tree self.new)) }
+        ensures canonical { IsCanonical K.cmp (Self.tree self.new) }
+    {
+        changing::replace(self, key, value)
+    }
+
+    /// Changes the value of the key by the closure, which is lent the value where it stands, and
+    /// answers what the closure answers; none where the key is not bound. The other keys keep their
+    /// values.
+    ///
+    /// A key that is not bound costs the look-up alone: no memory is asked for, and nothing is
+    /// copied. In a [`RadixTree`] no memory is asked for at all. In an [`ArcRadixTree`] children on
+    /// the way that another tree holds too are copied first. Fails only where that memory is
+    /// refused, or the clone of a value of those; the closure is then not called, and the tree has
+    /// the nodes that it had, and binds what it bound.
+    ///
+    /// Compares each component of the key at most once, but for two halving searches among the
+    /// children of each node on the way.
+    ///
+    /// ```
+    /// // The article is added to the set that stands in the index.
+    /// let added = index.update(word, |articles| articles.insert(article))?;
+    /// ```
+    final fn update<R: Drop, F: Fn(&mut V) -> R>(
+        &mut self,
+        key: &[K],
+        f: F,
+    ) -> Result<Option<R>, AllocError>
+        requires { CanChange Self.keeps (CanWrite F.Fn f)
+            (lookup K.cmp (Self.tree self.old) key.now) }
+        ensures ok { IfOk result (λ answer. MatchOption answer
+            (lookup K.cmp (Self.tree self.old) key.now ≡ None)
+            (λ r. IsChanged Self.keeps (MayWrite F.Fn f) K.cmp key.now r (Self.tree self.old)
+            (Self.tree self.new))) }
+        ensures absent { lookup K.cmp (Self.tree self.old) key.now ≡ None
+            → (result ≡ Ok None) × (Self.tree self.new ≡ Self.tree self.old) }
+        ensures err { OnErr result
+            (HaveEqualMaps K.cmp Self.keeps (Self.tree self.old) (Self.tree self.new)) }
+        ensures err_nodes { OnErr result
+            (IsAlike Self.keeps (Self.tree self.old) (Self.tree self.new)) }
+        ensures canonical { IsCanonical K.cmp (Self.tree self.new) }
+    {
+        changing::update(self, key, &f)
+    }
+
+    /// Changes the value of the key by the closure, as `update` does, and answers what the closure
+    /// answers. Where the key is not bound, it binds it to `default`, as `insert` does, and answers
+    /// none.
+    ///
+    /// Fails only where `update` or `insert` does; the tree then has the nodes that it had, and
+    /// binds what it bound. `default` is dropped where it is not bound.
+    ///
+    /// ```
+    /// counts.upsert(word, 1, |count| *count += 1)?;
+    /// ```
+    final fn upsert<R: Drop, F: Fn(&mut V) -> R>(
+        &mut self,
+        key: &[K],
+        default: V,
+        f: F,
+    ) -> Result<Option<R>, AllocError>
+        requires { CanChange Self.keeps (CanWrite F.Fn f)
+            (lookup K.cmp (Self.tree self.old) key.now) }
+        ensures ok { IfOk result (λ answer. MatchOption answer
+            ((lookup K.cmp (Self.tree self.old) key.now ≡ None)
+            × IsInserted K.cmp Self.keeps key.now default (Self.tree self.old)
+            (Self.tree self.new))
+            (λ r. IsChanged Self.keeps (MayWrite F.Fn f) K.cmp key.now r (Self.tree self.old)
+            (Self.tree self.new))) }
+        ensures err { OnErr result
+            (HaveEqualMaps K.cmp Self.keeps (Self.tree self.old) (Self.tree self.new)) }
+        ensures err_nodes { OnErr result
+            (IsAlike Self.keeps (Self.tree self.old) (Self.tree self.new)) }
+        ensures canonical { IsCanonical K.cmp (Self.tree self.new) }
+    {
+        changing::upsert(self, key, default, &f)
+    }
+
     /// Takes the key out, and answers the value that it had, or none where it was not bound. The
     /// other keys keep their values.
     ///
@@ -114,10 +209,10 @@ pub trait AbstractRadixTreeMut<K: TKey, V: TValue>: CloneTree<K, V> + AbstractRa
     /// Takes out all keys that begin with `prefix`, with their values. The other keys keep theirs.
     ///
     /// Where no key begins with it, that costs a walk down to where one would stand: no memory is
-    /// asked for, and nothing is copied. Fails only where memory is refused, for the joined prefix
-    /// of a node that is left with one child or for the copy of shared children, or where the clone
-    /// of a value of those is refused; the tree then has the nodes that it had, and binds what it
-    /// bound.
+    /// asked for, and nothing is copied; nor is it where all keys begin with it. Fails only where
+    /// memory is refused, for the joined prefix of a node that is left with one child or for the
+    /// copy of shared children, or where the clone of a value of those is refused; the tree then has
+    /// the nodes that it had, and binds what it bound.
     ///
     /// Compares each component of the prefix at most once, but for two halving searches among the
     /// children of each node on the way. What goes is dropped, node by node.
@@ -127,6 +222,7 @@ pub trait AbstractRadixTreeMut<K: TKey, V: TValue>: CloneTree<K, V> + AbstractRa
         ensures absent { let f = lookup K.cmp (Self.tree self.old) in
             ((k : List K) → under K.cmp f prefix.now k ≡ None)
             → (result ≡ Ok tt) × (Self.tree self.new ≡ Self.tree self.old) }
+        ensures all { AllBegin K.cmp prefix.now (lookup K.cmp (Self.tree self.old)) → IsOk result }
         ensures err { OnErr result
             (HaveEqualMaps K.cmp Self.keeps (Self.tree self.old) (Self.tree self.new)) }
         ensures err_nodes { OnErr result
@@ -166,6 +262,7 @@ pub trait AbstractRadixTreeMut<K: TKey, V: TValue>: CloneTree<K, V> + AbstractRa
         ensures absent { let f = lookup K.cmp (Self.tree self.old) in
             ((k : List K) → under K.cmp f prefix.now k ≡ None)
             → IsOk result × (Self.tree self.new ≡ Self.tree self.old) }
+        ensures all { AllBegin K.cmp prefix.now (lookup K.cmp (Self.tree self.old)) → IsOk result }
         ensures err { OnErr result
             (HaveEqualMaps K.cmp Self.keeps (Self.tree self.old) (Self.tree self.new)) }
         ensures err_nodes { OnErr result
@@ -179,12 +276,14 @@ pub trait AbstractRadixTreeMut<K: TKey, V: TValue>: CloneTree<K, V> + AbstractRa
     /// empty tree where no key does. This tree stays as it was.
     ///
     /// Goes down to the node below which these keys stand, as `get` does, and copies it: in an
-    /// [`ArcRadixTree`] what is below the node is shared. Fails only where memory is refused, or
-    /// the clone of a value.
+    /// [`ArcRadixTree`] what is below the node is shared. Where no key starts so, no memory is asked
+    /// for. Fails only where memory is refused, or the clone of a value.
     final fn filter_prefix(&self, prefix: &[K]) -> Result<Self, AllocError>
         ensures made { IfOk result (λ made. IsEqualMap (Copies V.is_clone)
             (under K.cmp (lookup K.cmp (Self.tree self.now)) prefix.now)
             (lookup K.cmp (Self.tree made))) }
+        ensures absent { let f = lookup K.cmp (Self.tree self.now) in
+            ((k : List K) → under K.cmp f prefix.now k ≡ None) → IsOk result }
         ensures canonical { IfOk result (λ made. IsCanonical K.cmp (Self.tree made)) }
     {
         filtering::filter_prefix(self, prefix)
@@ -419,6 +518,6 @@ pub trait AbstractRadixTreeMut<K: TKey, V: TValue>: CloneTree<K, V> + AbstractRa
     }
 }
 
-impl<K: TKey + MadeWith<Global>, V: TValue> AbstractRadixTreeMut<K, V> for RadixTree<K, V> {}
+impl<K: TKey, V: TValue> AbstractRadixTreeMut<K, V> for RadixTree<K, V> {}
 
-impl<K: TKey + MadeWith<Global>, V: TValue> AbstractRadixTreeMut<K, V> for ArcRadixTree<K, V> {}
+impl<K: TKey, V: TValue> AbstractRadixTreeMut<K, V> for ArcRadixTree<K, V> {}

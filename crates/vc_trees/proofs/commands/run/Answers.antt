@@ -50,9 +50,9 @@ returns-clause-steps g c =
 pub returns-clause-one : goal.returns-clause-one
 returns-clause-one g c =
     canonical-one g.K.Ord.cmp g.met.K.Ord.total (AreCopies g.V.Clone.is_clone) (g.T.RadixNode.tree c.loop-at.tree)
-    c.canonical.ensures
+    c.prefix.ensures.canonical
 
 pub returns-clause-smallest : goal.returns-clause-smallest
 returns-clause-smallest g c =
     canonical-smallest g.K.Ord.cmp (AreCopies g.V.Clone.is_clone) g.met.K.Ord.total (g.T.RadixNode.tree c.loop-at.tree)
-    c.canonical.ensures
+    c.prefix.ensures.canonical
