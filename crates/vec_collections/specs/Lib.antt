@@ -1,6 +1,7 @@
 -- What the public clauses of the exported items cite, and the words of the laws, so that a user has every name from this crate.
 pub mod Exact
 pub mod Pointwise
+pub mod Words
 pub use Rattle.vc_btree_maps.specs.Keeping
 pub use Rattle.vc_btree_maps.specs.KeepingValues
 pub use Rattle.vc_btree_maps.specs.Pairs
@@ -19,10 +20,12 @@ pub use Rattle.vc_joins.specs.Values as JoinValues
 pub use Rattle.vc_joins.specs.declared.question.JoinKind
 pub use Rattle.vc_joins.specs.declared.question.OuterJoinArg
 pub use Rattle.vc_maps.specs.Borrowed as MapBorrowed
+pub use Rattle.vc_maps.specs.Collecting as MapCollecting
 pub use Rattle.vc_maps.specs.Combining as MapCombining
 pub use Rattle.vc_maps.specs.Iterating as MapIterating
 pub use Rattle.vc_maps.specs.Lending
 pub use Rattle.vc_maps.specs.Mapping as MapMapping
+pub use Rattle.vc_maps.specs.Updating as MapUpdating
 pub use Rattle.vc_maps.specs.Writing as MapWriting
 pub use Rattle.vc_merge.specs.Ascending
 pub use Rattle.vc_merge.specs.Chain
@@ -38,6 +41,7 @@ pub use Rattle.vc_merge.specs.Yielded
 pub use Rattle.vc_path_filter.specs.Allowed
 pub use Rattle.vc_sets.specs.Algebra
 pub use Rattle.vc_sets.specs.Borrowed
+pub use Rattle.vc_sets.specs.Collecting
 pub use Rattle.vc_sets.specs.EqualClones
 pub use Rattle.vc_sets.specs.Iterating
 pub use Rattle.vc_sets.specs.Laws as SetLaws
@@ -48,11 +52,13 @@ pub use Rattle.vc_sets.specs.declared.vec_set.algebra.SetTest
 pub use Rattle.vc_total_maps.specs.CombinedTotals
 pub use Rattle.vc_total_maps.specs.Laws as TotalMapLaws
 pub use Rattle.vc_total_maps.specs.MappedTotals
+pub use Rattle.vc_total_maps.specs.Putting
 pub use Rattle.vc_total_maps.specs.TotalMap
 pub use Rattle.vc_total_sets.specs.Laws as TotalLaws
 pub use Rattle.vc_total_sets.specs.TotalOf
 pub use Rattle.vc_total_sets.specs.TotalSet
 pub use Rattle.vc_total_sets.specs.TotalTests
+pub use Rattle.vc_total_sets.specs.Within
 pub use Rattle.vc_tree_edits.specs.Editing
 pub use Rattle.vc_tree_model.specs.Asking
 pub use Rattle.vc_tree_model.specs.Binds
@@ -80,6 +86,7 @@ pub use Rattle.vc_tree_model.specs.Under
 pub use Rattle.vc_tree_model.specs.Value
 pub use Rattle.vc_tree_model.specs.Walk
 pub use Rattle.vc_tree_nodes.specs.Children
+pub use Rattle.vc_tree_removal.specs.Changing
 pub use Rattle.vc_tree_removal.specs.Without
 pub use Rattle.vc_tree_walks.specs.Ends
 pub use Rattle.vc_tree_walks.specs.Folding

@@ -3,11 +3,7 @@
 ghost use Rattle.std.specs.Prelude.{◌≡◌, ◌||◌, ◌&&◌, ◌↔◌, not, IfOk, OnOk, IsTrue, ℕ};
 ghost use Rattle.std.specs.Option.{option_copied};
 ghost use Rattle.std.specs.Ordering.{nat_cmp};
-ghost use Rattle.vec_collections.specs.Ascending.{member};
-ghost use Rattle.vec_collections.specs.Entries.{value_at};
-ghost use Rattle.vec_collections.specs.Map.{lookup, IsInserted};
-ghost use Rattle.vec_collections.specs.SetOf.{exactly_one};
-ghost use Rattle.vec_collections.specs.TotalMap.{at};
+ghost use Rattle.vec_collections.specs.Words.{at, exactly_one, lookup, member, value_at, IsInserted};
 
 use crate::radix_tree::{AbstractRadixTree, AbstractRadixTreeMut, RadixTree};
 use crate::total_vec_map::TotalVecMap;

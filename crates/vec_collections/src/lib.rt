@@ -111,6 +111,16 @@ pub mod laws {
     };
 }
 
+/// The traits that calls of collections, iterators and trees come from. `use
+/// vec_collections::traits::*` takes them all.
+pub mod traits {
+    pub use super::btree_map::{AbstractBTreeMap, AbstractBTreeMapIter, InPlaceRelationalOps};
+    pub use super::iterators::{SortedByItem, SortedByKey};
+    pub use super::radix_tree::{AbstractRadixTree, AbstractRadixTreeMut, RadixNode, TKey, TValue};
+    pub use super::vec_map::AbstractVecMap;
+    pub use super::vec_set::{AbstractVecSet, Borrowed, ClonesEqual};
+}
+
 pub use iterators::VecSetIter;
 pub use vec_map::{
     AbstractVecMap, JoinKind, OuterJoinArg, VecMap, VecMap1, inner_join, left_join, outer_join,

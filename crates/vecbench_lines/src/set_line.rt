@@ -90,12 +90,7 @@ impl SetLine {
     fn combine(&self, op: SetOp) -> Result<NumberSet, AllocError>
         ensures { IfOk result (IsPicked (made_by op) self.now.left self.now.right) }
     {
-        match op {
-            SetOp::Union => self.left.union(&self.right),
-            SetOp::Intersection => self.left.intersection(&self.right),
-            SetOp::SymmetricDifference => self.left.symmetric_difference(&self.right),
-            SetOp::Difference => self.left.difference(&self.right),
-        }
+        self.left.combine(&self.right, op)
     }
 
     /// Whether `test` holds of the two sets.
