@@ -3,6 +3,7 @@ use Rattle.std.specs.Prelude.{◌≡◌, ℕ, suc, ◌+◌, ◌==◌, ◌||◌, 
 use denote.Ref.{Bor, MutBor}
 use denote.Param.Members.{Shared}
 use Rattle.vc_tree_edits.specs.Editing.{MayLeave, CanLeave, KeptThen, CanMeet, OrStays, MayJudge, CanJudge}
+use Rattle.vc_tree_removal.specs.Changing.{MayWrite, CanWrite, CanChange, ComesOf}
 use Rattle.definition_tests.proofs.Digits.{same, not_true}
 use Rattle.definition_tests.proofs.Closures.{ref, ref_mut, closure}
 
@@ -62,3 +63,29 @@ may_judge = record { shown = ref 2; shows = refl; answers = refl }
 -- it may be asked of any number
 can_judge : (n : ℕ) → CanJudge judges tt (Some n)
 can_judge n q e = tt
+
+-- a closure that adds one to the value and answers what it was, and may be called below 255
+abbrev counts : Shared (Unit {0}) (MutBor ℕ × Unit {0}) (ℕ × (MutBor ℕ × Unit {0}))
+counts = closure (λ v. IsTrue (nat_le (suc v.0.now) 255)) (λ v z. (z.0 ≡ v.0.now) × (z.1.0.now ≡ suc v.0.now))
+
+-- at 2 it leaves 3, and answers 2
+may_write : MayWrite counts tt 2 3 2
+may_write = record { given = ref_mut 2; shows = refl; left = ref_mut 3; answers = (refl, refl); leaves = refl }
+
+can_write : CanWrite counts tt 2
+can_write p e = rw e refl
+
+cannot_write : CanWrite counts tt 255 → ⊥
+cannot_write h = not_true (h (ref_mut 255) refl)
+
+-- at a key that is not bound nothing is owed
+can_change : CanChange {V = ℕ} same (λ v. ⊥) None
+can_change = tt
+
+-- at one that is bound the call is
+cannot_change : CanChange {V = ℕ} same (λ v. ⊥) (Some 2) → ⊥
+cannot_change h = h 2 refl
+
+-- where the next number is kept of a value, of 2 comes 4 with the answer 3
+comes_of : ComesOf {V = ℕ} (λ v kept. kept ≡ suc v) {R = ℕ} (λ v z r. (z ≡ suc v) × (r ≡ v)) (Some 2) 4 3
+comes_of = (3, refl, (refl, refl))

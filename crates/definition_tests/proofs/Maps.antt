@@ -1,9 +1,12 @@
 -- Worked rows of the definitions on maps.
 use Rattle.std.specs.Prelude.{◌≡◌, ℕ, ◌+◌, nat_le, List, [], ◌∷◌, Some, None, refl, IsTrue}
+use Rattle.std.specs.List.Sorted.{IsStrictlySortedBy}
 use Rattle.vc_joins.specs.declared.question.OuterJoinArg.TheVariants.{Left, Both}
+use Rattle.vc_maps.specs.Collecting.{IsCollected, IsExtended}
 use Rattle.vc_maps.specs.Combining.{CanCombine, Combines, combined, IsCombinedBy}
 use Rattle.vc_maps.specs.Lending.{IsWritten}
 use Rattle.vc_maps.specs.Mapping.{AnswersInTurn, MapsEntry}
+use Rattle.vc_maps.specs.Updating.{UpsertsEntry, UpsertsValue, IsWrittenBy}
 use Rattle.vc_maps.specs.Writing.{WritesEntry, WritesInTurn}
 use Rattle.definition_tests.proofs.Digits.{Digit, one, two, three, four, order, each, not_true}
 
@@ -19,6 +22,41 @@ is_written = record { pairs = refl; keys = refl; values = λ stands. each _ refl
 -- written at 3, where nothing stands, the map is as it was
 nowhere_written : IsWritten order tens three 30 tens
 nowhere_written = record { pairs = refl; keys = refl; values = λ stands. not_true stands }
+
+-- 30 written at the form 2
+is_written_by : IsWrittenBy order (λ k. order k two) tens 30 ((one, 10) ∷ (two, 30) ∷ [])
+is_written_by = record { keys = refl; values = λ stands. each _ refl refl refl refl refl }
+
+-- one more is written to 20, and 5 is put where nothing stood
+abbrev OneMore : ℕ → ℕ → Type 0
+OneMore v w = w ≡ v + 1
+
+upserts_value : UpsertsValue OneMore 5 (Some 20) (Some 21)
+upserts_value = refl
+
+puts_value : UpsertsValue OneMore 5 None (Some 5)
+puts_value = refl
+
+upserts_entry : UpsertsEntry {K = ℕ} OneMore (2, 5) (Some (2, 20)) (Some (2, 21))
+upserts_entry = (refl, refl)
+
+puts_entry : UpsertsEntry {K = ℕ} OneMore (2, 5) None (Some (2, 5))
+puts_entry = refl
+
+-- ---- pairs that come in any order
+
+-- 2 to 20, 1 to 10, 2 to 30
+is_collected : IsCollected {V = ℕ} order ((two, 20) ∷ (one, 10) ∷ (two, 30) ∷ []) ((one, 10) ∷ (two, 30) ∷ [])
+unfolding IsStrictlySortedBy
+is_collected = record {
+  ascends = ((refl, tt), (tt, tt));
+  values = each _ refl refl refl refl refl;
+  entries = each _ refl refl refl refl refl;
+}
+
+-- 1 to 10, 2 to 20 takes in 2 to 30, 3 to 5
+is_extended : IsExtended order tens ((two, 30) ∷ (three, 5) ∷ []) ((one, 10) ∷ (two, 30) ∷ (three, 5) ∷ [])
+is_extended = record { values = each _ refl refl refl refl refl; entries = each _ refl refl refl refl refl }
 
 -- ---- maps that take in another one whole
 

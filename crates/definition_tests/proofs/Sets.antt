@@ -1,6 +1,6 @@
 -- Worked rows of the definitions on sets.
 use Rattle.std.specs.Prelude.{◌≡◌, ℕ, suc, nat_le, Bool, true, false, not, ◌||◌, ◌&&◌, List, [], ◌∷◌, Some, None, refl}
-use Rattle.std.proofs.Common.{sym, ap}
+use Rattle.std.proofs.Common.{sym, ap, arith}
 use Rattle.std.specs.List.Sorted.{IsStrictlySortedBy}
 use Rattle.std.specs.Ordering.{nat_cmp}
 use Rattle.std.specs.declared.cmp.Ordering.{Ordering}
@@ -8,13 +8,15 @@ use Rattle.std.specs.declared.cmp.Ordering.TheVariants.{Less, Greater}
 use Rattle.vc_merge.specs.Ascending.{Ascends, member, element_at}
 use Rattle.vc_merge.specs.Clones.{ClonesAreEqual}
 use Rattle.vc_sets.specs.Borrowed.{member_by, element_by, option_side}
+use Rattle.std.specs.Map.Iter.{TakesFirst}
+use Rattle.vc_sets.specs.Collecting.{GivesMoreThan, IsCollected, IsExtended}
 use Rattle.vc_sets.specs.SetOf.{Keeps, IsSetOf, and_not, exactly_one}
 use Rattle.vc_sets.specs.Tests.{IsDisjoint, IsSubset}
 use Rattle.vc_sets.specs.Algebra.{made_by, IsTestedBy}
 use Rattle.vc_merge.specs.Retaining.{IsRetained, AnswersAs}
 use Rattle.vc_sets.specs.declared.vec_set.algebra.SetOp.TheVariants.{Difference, SymmetricDifference}
 use Rattle.vc_sets.specs.declared.vec_set.algebra.SetTest.TheVariants.{Superset}
-use Rattle.definition_tests.proofs.Digits.{one, three, five, order, each, same, not_true, not_equal}
+use Rattle.definition_tests.proofs.Digits.{Digit, one, two, three, five, order, each, same, not_true, not_equal}
 
 -- no element is taken
 abbrev never : {X : Type 0} → X → X → Type 0
@@ -154,3 +156,22 @@ five_is_greater = refl
 
 nothing_stands_first : option_side (λ q y. nat_cmp y q) None (Some 5) ≡ Greater
 nothing_stands_first = refl
+
+-- ---- items that come in any order
+
+-- 2 1 2
+is_collected : IsCollected order (two ∷ one ∷ two ∷ []) (one ∷ two ∷ [])
+unfolding IsStrictlySortedBy
+is_collected = record {
+  ascends = ((refl, tt), (tt, tt));
+  members = each _ refl refl refl refl refl;
+  kept = each _ refl refl refl refl refl;
+}
+
+-- 1 3 takes in 3 2
+is_extended : IsExtended order (one ∷ three ∷ []) (three ∷ two ∷ []) (one ∷ two ∷ three ∷ [])
+is_extended = record { members = each _ refl refl refl refl refl; kept = each _ refl refl refl refl refl }
+
+-- of 1 3 more than one item may come
+gives_more : GivesMoreThan (TakesFirst (λ (x : Digit). x)) 1 (one ∷ three ∷ [])
+gives_more = (one ∷ [], three, [], (three ∷ [], (three ∷ [], refl, refl), refl), omega arith)

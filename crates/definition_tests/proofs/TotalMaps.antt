@@ -3,6 +3,7 @@ use Rattle.std.specs.Prelude.{◌≡◌, ℕ, suc, ◌+◌, ◌==◌, nat_le, Bo
 use Rattle.std.specs.Prelude.{Some, None, IsTrue, refl}
 use Rattle.std.proofs.Common.{inl, inr, sym}
 use Rattle.vc_total_maps.specs.TotalMap.{TotalMap, total_map, at, NoneIsDefault, IsClonedMap}
+use Rattle.vc_total_maps.specs.Putting.{IsPut}
 use Rattle.vc_total_maps.specs.CombinedTotals.{IsListed, HoldsEverywhere, Stands, ClonesFirst, IsCombined, CombinesValues}
 use Rattle.vc_total_maps.specs.CombinedTotals.{CanOnClones, GivesOnClones}
 use Rattle.vc_total_maps.specs.MappedTotals.{HoldsOfEach, IsMapped, CanOnClone, GivesOnClone}
@@ -22,6 +23,10 @@ none_is_default = each _ tt tt tt tt refl
 
 one_is_default : NoneIsDefault order ◌==◌ (total_map ((five, 1) ∷ []) 1) → ⊥
 one_is_default h = not_true (sym (h five))
+
+-- 0 put at 5 is the default, and nothing is listed
+is_put : IsPut order ◌==◌ marks five 0 (total_map [] 0)
+is_put = record { values = each _ refl refl refl refl refl; entries = each _ refl refl refl refl refl }
 
 -- where a clone of a value has the next number, 5 to 2 and else 1 is a clone
 is_cloned : IsClonedMap same (λ v w. w ≡ suc v) marks (total_map ((five, 2) ∷ []) 1)

@@ -5,6 +5,7 @@ use Rattle.std.specs.List.Sorted.{IsStrictlySortedBy}
 use Rattle.std.specs.declared.cmp.Ordering.{Ordering}
 use Rattle.std.specs.declared.cmp.Ordering.TheVariants.{Equal}
 use Rattle.vc_sets.specs.SetOf.{and_not}
+use Rattle.vc_total_sets.specs.Within.{within_by}
 use Rattle.vc_total_sets.specs.TotalSet.{total, complement, has, IsEqualTotal, IsClonedTotal}
 use Rattle.vc_total_sets.specs.TotalOf.{listed_by, IsTotalOf, IsTotalOfEither, IsPointwise}
 use Rattle.vc_total_sets.specs.TotalTests.{IsTotalSubset, IsTotalDisjoint}
@@ -17,6 +18,10 @@ complement_of_all_but_one = refl
 -- all but 1 has 2, and not 1
 all_but_one_has_two : (has order (total (one ∷ []) true) two ≡ true) × (has order (total (one ∷ []) true) one ≡ false)
 all_but_one_has_two = (refl, refl)
+
+-- of 1 and 2, all but 1 has 2 alone
+within_all_but_one : (within_by true true true ≡ false) × (within_by true true false ≡ true)
+within_all_but_one = (refl, refl)
 
 -- over the two truth values the list of both is not equal to all, which is the negated empty list
 lists_differ : IsEqualTotal (λ p q. Equal) (total (false ∷ true ∷ []) false) (total [] true) → ⊥

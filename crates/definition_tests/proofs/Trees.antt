@@ -32,7 +32,7 @@ use Rattle.vc_tree_nodes.specs.Children.{seen}
 use Rattle.definition_tests.proofs.Closures.{closure, ref}
 use Rattle.definition_tests.proofs.Digits.{same, not_true}
 use Rattle.definition_tests.proofs.Letters.{Letter, a, b, by_letter, each_key, leaf, a_and_ab}
-use Rattle.vc_tree_removal.specs.Without.{IsWithout, IsWithoutBelow}
+use Rattle.vc_tree_removal.specs.Without.{AllBegin, IsWithout, IsWithoutBelow}
 use Rattle.vc_tree_walks.specs.Ends.{IsGreatestPair, IsLeastPair}
 use Rattle.vc_tree_walks.specs.Folding.{IsStopped, TurnFails}
 
@@ -155,6 +155,11 @@ is_without_below = record {
   others = each_key _ (λ e. tt) (λ e. not_true (sym e)) (λ k e. not_true (sym e)) (λ e. not_true (sym e))
       (λ y k e. not_true (sym e)) (λ e. tt) (λ y k e. tt);
 }
+
+-- all keys of a*(b*) begin with a
+all_begin : AllBegin {V = ℕ} by_letter (a ∷ []) (lookup by_letter (a_and_ab 1 2))
+all_begin =
+    each_key _ (λ e. not_true e) (λ e. refl) (λ k e. refl) (λ e. refl) (λ y k e. refl) (λ e. not_true e) (λ y k e. not_true e)
 
 -- what the last pair of a key says counts
 last_of_b : last_bound {V = ℕ} by_letter ((b ∷ [], 1) ∷ (a ∷ [], 2) ∷ (b ∷ [], 3) ∷ []) (b ∷ []) ≡ Some 3

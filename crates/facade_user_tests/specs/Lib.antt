@@ -3,3 +3,4 @@ pub mod Changes
 pub mod Stock
 pub mod Overlays
 pub mod Names
+pub mod Directories

@@ -1,6 +1,6 @@
 //! Trees from outside: look-ups by the longest key and with a counter, tests of keys, and whole
 //! trees made of others.
-ghost use Rattle.std.specs.Prelude.{◌≡◌, ◌↔◌, ◌==◌, ◌+◌, ◌-◌, ◌*◌, ◌^◌, ◌≤◌, MatchBool, IfOk, IsTrue, length, map, min};
+ghost use Rattle.std.specs.Prelude.{◌≡◌, ◌↔◌, ◌==◌, ◌+◌, ◌-◌, ◌*◌, ◌^◌, ◌≤◌, MatchBool, IfOk, IsTrue, Some, length, map, min};
 ghost use Rattle.std.specs.Option.{is_some, option_map};
 ghost use Rattle.std.specs.Ordering.{nat_cmp};
 ghost use Rattle.vec_collections.specs.Children.{seen};
@@ -16,7 +16,9 @@ ghost use Rattle.vec_collections.specs.Value.{Copies};
 use crate::trees::{Ports, SharedPorts};
 use std::alloc::{AllocError, Global};
 use vec_collections::merge::Steps;
-use vec_collections::radix_tree::{AbstractRadixTree, ArcRadixTree, RadixNode, RadixTree};
+use vec_collections::radix_tree::{
+    AbstractRadixTree, AbstractRadixTreeMut, ArcRadixTree, RadixNode, RadixTree,
+};
 
 /// How many servers have a port.
 pub fn count_servers<T: AbstractRadixTree<u8, u32>>(ports: &T) -> usize
@@ -108,7 +110,9 @@ pub fn are_same_shared(a: &SharedPorts, b: &SharedPorts) -> bool
 
 /// A copy of the ports.
 pub fn copy_of(ports: &Ports) -> Result<Ports, AllocError>
-    ensures { IfOk result (IsAlike (λ x y. y ≡ x) ports.now) }
+    ensures nodes { IfOk result (IsAlike (λ x y. y ≡ x) ports.now) }
+    ensures ports { IfOk result (λ copy. IsEqualMap (λ x y. y ≡ x) (lookup nat_cmp ports.now)
+        (lookup nat_cmp copy)) }
 {
     ports.clone()
 }
@@ -163,4 +167,24 @@ pub fn below_root<T: AbstractRadixTree<u8, u32>>(ports: &T) -> &[T]
     ensures { seen T.tree result.now ≡ (T.tree ports.now).children }
 {
     ports.children()
+}
+
+/// A turn of a way. It has no default.
+#[derive(Debug, Clone, Copy, PartialEq, Eq, PartialOrd, Ord)]
+pub enum Turn {
+    Left,
+    Ahead,
+    Right,
+}
+
+/// How long it is to a place, by the turns that lead there.
+pub type Ways = RadixTree<Turn, u32>;
+
+/// How long a way is that was noted down alone.
+pub fn noted_way(alloc: Global, way: &[Turn], minutes: u32) -> Result<Option<u32>, AllocError>
+    ensures { IfOk result (λ noted. noted ≡ Some minutes) }
+{
+    let mut ways = Ways::empty(alloc);
+    ways.insert(way, minutes)?;
+    Ok(ways.get(way).copied())
 }

@@ -4,6 +4,7 @@
 
 pub mod changes;
 pub mod combines;
+pub mod directories;
 pub mod filters;
 pub mod generic;
 pub mod intervals;
@@ -14,6 +15,7 @@ pub mod maps;
 pub mod nested;
 pub mod one_tree;
 pub mod overlays;
+pub mod segments;
 pub mod sets;
 pub mod settings;
 pub mod totals;

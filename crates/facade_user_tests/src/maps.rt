@@ -64,6 +64,33 @@ pub fn correct(stock: &mut Stock, article: u32, pieces: u32) -> bool
     true
 }
 
+/// Corrects how many pieces there are of an article that is looked up by a reference to its number.
+pub fn correct_by(stock: &mut Stock, article: &u32, pieces: u32)
+    ensures articles { keys_of stock.new ≡ keys_of stock.old }
+{
+    if let Some(held) = stock.get_mut_by(article) {
+        *held = pieces;
+    }
+}
+
+/// Counts a piece more of an article, or one where there was none. Refused, no article changes.
+pub fn add_piece(stock: &mut Stock, article: u32) -> Result<(), AllocError>
+    ensures others { OnOk result ((k : ℕ) → eq_by_cmp nat_cmp k article ≡ false
+        → entry_at nat_cmp stock.new k ≡ entry_at nat_cmp stock.old k) }
+    ensures err { OnErr result (stock.new ≡ stock.old) }
+{
+    stock.upsert(
+        article,
+        1,
+        |pieces: &mut u32| *pieces = pieces.saturating_add(1),
+    )
+}
+
+/// The stock of deliveries that come in any order, of which the last of an article counts.
+pub fn of_deliveries(alloc: Global, list: Vec<(u32, u32)>) -> Result<Stock, AllocError> {
+    list.into_iter().collect(alloc)
+}
+
 /// Takes an article out of stock, and answers how many pieces of it there were. No other article
 /// changes.
 pub fn discontinue(stock: &mut Stock, article: u32) -> Option<u32>

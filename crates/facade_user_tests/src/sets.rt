@@ -112,6 +112,18 @@ pub fn four_by_functions<S: AbstractVecSet<u32>, U: AbstractVecSet<u32>>(
     })
 }
 
+/// By the call that is given the operation.
+pub fn four_by_name(a: &Tags, b: &Tags) -> Result<Four, AllocError>
+    ensures { IfOk result (AreMade a.now b.now) }
+{
+    Ok(Four {
+        either: a.combine(b, SetOp::Union)?,
+        both: a.combine(b, SetOp::Intersection)?,
+        one: a.combine(b, SetOp::SymmetricDifference)?,
+        rest: a.combine(b, SetOp::Difference)?,
+    })
+}
+
 /// By the call that counts its comparisons.
 pub fn four_by_counted(a: &Tags, b: &Tags, steps: &mut Steps) -> Result<Four, AllocError>
     ensures { IfOk result (AreMade a.now b.now) }
@@ -154,6 +166,14 @@ pub fn absorb_one(tags: &mut Tags, more: VecSet2<u32>) -> Result<(), AllocError>
     ensures err { OnErr result (tags.new ≡ tags.old) }
 {
     tags.bitxor_assign(more)
+}
+
+/// Takes out the tags of an article that is gone afterwards.
+pub fn retire(tags: &mut Tags, old: VecSet2<u32>) -> Result<(), AllocError>
+    ensures succeeds { IsOk result }
+    ensures rest { (tag : ℕ) → has tags.new tag ≡ (has tags.old tag && not (has old tag)) }
+{
+    tags.combine_with(old, SetOp::Difference)
 }
 
 /// Adds the tags of an article that is gone afterwards, as an iterator gives them.

@@ -1,11 +1,11 @@
 //! Radix trees from outside: each call at both flavours, generic code, and a tree of this crate's
 //! own with children.
-ghost use Rattle.std.specs.Prelude.{◌≡◌, ◌<◌, ℕ, List, [], ◌∷◌, Some, None, length, map, IfOk, OnOk, OnErr};
+ghost use Rattle.std.specs.Prelude.{◌≡◌, ◌<◌, ℕ, List, [], ◌∷◌, Ok, Some, None, false, length, map, IfOk, OnOk, OnErr};
 ghost use Rattle.std.specs.Ordering.{nat_cmp};
 ghost use Rattle.std.specs.Option.{option_copied};
 ghost use Rattle.vec_collections.specs.Commanded.{command_of};
 ghost use Rattle.vec_collections.specs.Machine.{Run};
-ghost use Rattle.vec_collections.specs.Map.{lookup, or_else, HaveEqualMaps, IsInserted};
+ghost use Rattle.vec_collections.specs.Map.{lookup, or_else, HaveEqualMaps, IsInserted, IsEqualMap};
 ghost use Rattle.vec_collections.specs.Tree.{made, no_tree, is_bare};
 ghost use Rattle.vec_collections.specs.Under.{under};
 ghost use Rattle.vec_collections.specs.Value.{Copies};
@@ -35,9 +35,21 @@ pub fn set_shared_port(
     ensures set { OnOk result
         (IsInserted nat_cmp (λ x y. x ≡ y) server.now port ports.old ports.new) }
 {
-    let had = ports.get(server).copied();
-    ports.insert(server, port)?;
-    Ok(had)
+    ports.replace(server, port)
+}
+
+/// Moves a server to the next port, and answers whether it has one.
+pub fn move_to_next_port<T: AbstractRadixTreeMut<u8, u32>>(
+    ports: &mut T,
+    server: &[u8],
+) -> Result<bool, AllocError>
+    ensures none { lookup nat_cmp (T.tree ports.old) server.now ≡ None
+        → (result ≡ Ok false) × (T.tree ports.new ≡ T.tree ports.old) }
+    ensures err { OnErr result (HaveEqualMaps nat_cmp T.keeps (T.tree ports.old)
+        (T.tree ports.new)) }
+{
+    let moved = ports.update(server, |port: &mut u32| *port = port.saturating_add(1))?;
+    Ok(moved.is_some())
 }
 
 /// Takes the port of a server away where the ports are shared, and answers it.
@@ -53,8 +65,8 @@ pub fn forget_shared_port(ports: &mut SharedPorts, server: &[u8]) -> Result<Opti
 /// Hands the servers over whose names begin with the zone, with their ports.
 #[tactic(auto, using(vec_collections::specs::Exact::exactly))]
 pub fn split_zone(ports: &mut Ports, zone: &[u8]) -> Result<Ports, AllocError>
-    ensures handed { IfOk result (λ handed. (k : List ℕ)
-        → lookup nat_cmp handed k ≡ under nat_cmp (lookup nat_cmp ports.old) zone.now k) }
+    ensures handed { IfOk result (λ handed. IsEqualMap (λ x y. x ≡ y)
+        (under nat_cmp (lookup nat_cmp ports.old) zone.now) (lookup nat_cmp handed)) }
     ensures gone { OnOk result (IsWithoutBelow nat_cmp (λ x y. x ≡ y) zone.now
         (lookup nat_cmp ports.old) (lookup nat_cmp ports.new)) }
     ensures err { OnErr result (HaveEqualMaps nat_cmp (λ x y. x ≡ y) ports.old ports.new) }

@@ -1,16 +1,16 @@
 //! Walks from outside: the walks of one tree beside each other, their steps, and the keys that they
 //! give.
 ghost use Rattle.std.specs.Prelude.{◌≡◌, ◌≤◌, ◌⊎◌, ◌+◌, ◌-◌, ◌^◌, ℕ, List, None, IfErr, IfOk};
-ghost use Rattle.std.specs.Prelude.{Contains, IsSome, MatchOption, length, map, max, min};
+ghost use Rattle.std.specs.Prelude.{Contains, IsSome, IsTrue, MatchOption, length, map, max, min};
 ghost use Rattle.std.specs.List.{fold};
 ghost use Rattle.std.specs.Ordering.{nat_cmp};
 ghost use Rattle.vec_collections.specs.Ends.{IsGreatestPair, IsLeastPair};
-ghost use Rattle.vec_collections.specs.IterLeft.{pairs_left};
+ghost use Rattle.vec_collections.specs.IterLeft.{pairs_left, work_left};
 ghost use Rattle.vec_collections.specs.Left.{Walks};
 ghost use Rattle.vec_collections.specs.Map.{lookup};
-ghost use Rattle.vec_collections.specs.OwnedLeft.{held_left, WalksClones};
+ghost use Rattle.vec_collections.specs.OwnedLeft.{held_left, held_work, WalksClones};
 ghost use Rattle.vec_collections.specs.Under.{under};
-ghost use Rattle.vec_collections.specs.ValuesLeft.{values_left};
+ghost use Rattle.vec_collections.specs.ValuesLeft.{values_left, values_work};
 ghost use Rattle.vec_collections.specs.Walk.{IsWalk, walk};
 ghost use Rattle.facade_user_tests.specs.declared.walks.Uncounted.TheVariants.{NoMemory, Port};
 
@@ -52,7 +52,8 @@ pub fn pairs_held<T: AbstractRadixTree<u8, u32> + Drop>(tree: T) -> ObjAndIter<u
 pub fn next_pair<'a, T: AbstractRadixTree<u8, u32>>(
     walk: &mut Iter<'a, u8, u32, T>,
 ) -> Option<Result<(IterKey<u8>, &'a u32), AllocError>>
-    ensures { Walks (λ item. (item.0, item.1.now)) (pairs_left T.tree) walk.old result walk.new }
+    ensures { Walks (λ item. (item.0, item.1.now)) (pairs_left T.tree) (work_left T.tree)
+        walk.old result walk.new }
 {
     walk.next()
 }
@@ -61,7 +62,8 @@ pub fn next_pair<'a, T: AbstractRadixTree<u8, u32>>(
 pub fn next_value<'a, T: AbstractRadixTree<u8, u32>>(
     walk: &mut Values<'a, u8, u32, T>,
 ) -> Option<Result<&'a u32, AllocError>>
-    ensures { Walks (λ item. item.now) (values_left T.tree) walk.old result walk.new }
+    ensures { Walks (λ item. item.now) (values_left T.tree) (values_work T.tree) walk.old result
+        walk.new }
 {
     walk.next()
 }
@@ -70,7 +72,28 @@ pub fn next_value<'a, T: AbstractRadixTree<u8, u32>>(
 pub fn next_held<T: AbstractRadixTree<u8, u32> + Drop>(
     walk: &mut ObjAndIter<u8, u32, T>,
 ) -> Option<Result<(IterKey<u8>, u32), AllocError>>
-    ensures { WalksClones (λ x y. y ≡ x) (held_left T.tree) walk.old result walk.new }
+    ensures { WalksClones (λ x y. y ≡ x) (held_left T.tree) (held_work T.tree) walk.old result
+        walk.new }
+{
+    walk.next()
+}
+
+/// Whether a walk ended at a refusal. No pair comes after it, nor another refusal.
+pub fn is_refused<'a, T: AbstractRadixTree<u8, u32>>(walk: &mut Iter<'a, u8, u32, T>) -> bool
+    ensures { IsTrue result → work_left T.tree walk.new ≡ 0 }
+{
+    match walk.next() {
+        Some(Err(_)) => true,
+        _ => false,
+    }
+}
+
+/// What comes after that.
+pub fn next_after_refusal<'a, T: AbstractRadixTree<u8, u32>>(
+    walk: &mut Iter<'a, u8, u32, T>,
+) -> Option<Result<(IterKey<u8>, &'a u32), AllocError>>
+    requires { work_left T.tree walk.old ≡ 0 }
+    ensures { result ≡ None }
 {
     walk.next()
 }
