@@ -181,6 +181,36 @@ def index_of_words(lines):
     return table(["word", "module", "explained under"], cells)
 
 
+# ---- crates/vec_collections/specs/Words.antt
+
+
+WORDS = "crates/vec_collections/specs/Words.antt"
+EXPORT = re.compile(r"^pub use Rattle\.(\w+)\.specs\.(\w+)(?: as (\w+))?$", re.MULTILINE)
+# Where two modules have a word of one name, the name of one of them among all words.
+OTHER_NAMES = {
+    ("Machine", "Run"): "TreeRun", ("Machine", "Step"): "TreeStep", ("Cover", "IsRetained"): "IsTreeRetained", ("Combine", "IsCombined"): "IsTreeCombined",
+    ("IterLeft", "pairs_left"): "tree_pairs_left", ("Editing", "MayLeave"): "MayLeaveInTree", ("Editing", "OrStays"): "OrStaysInTree",
+    ("MapCollecting", "IsCollected"): "IsMapCollected", ("MapCollecting", "IsExtended"): "IsMapExtended", ("TreePairs", "IsCollected"): "IsTreeCollected",
+    ("Children", "seen"): "seen_children", ("Asking", "MayAnswer"): "MayAnswerOfTree", ("Turns", "complement"): "complement_of_intervals",
+}  # fmt: skip
+
+
+def words_of_contracts():
+    """The file that hands on the words of all contracts: those of the tables of docs/DEFINITIONS.md that the facade exports."""
+    found = {}
+    for _, words, cell, _ in word_rows(source("docs/DEFINITIONS.md").splitlines()):
+        for word, module in modules_of(words, cell):
+            if word not in OF_A_TRAIT:
+                found.setdefault(module, set()).add(word)
+    lines = ["-- All words that contracts cite, from the files that define them, so that a caller has them in one import. Made by tools/pages."]
+    for crate, file, other in EXPORT.findall(source("crates/vec_collections/specs/Lib.antt")):
+        module = other or file
+        names = [f"{it} as {OTHER_NAMES[module, it]}" if (module, it) in OTHER_NAMES else it for it in sorted(found.get(module, ()))]
+        if names:
+            lines.append(f"pub use Rattle.{crate}.specs.{file}.{{{', '.join(names)}}}")
+    return "\n".join(lines) + "\n"
+
+
 # ---- docs/PERFORMANCE.md
 
 
@@ -198,11 +228,13 @@ def tables_in(file):
     return {name: rows.strip("\n").splitlines() for name, _, rows in parts}
 
 
-def stale_pictures():
-    """Each picture of docs/plots that is drawn otherwise, by its file: its text, or none where it is not drawn."""
-    drawn = {f"docs/plots/{name}.svg": text for name, text in tool("plot").pictures(source("tools/bench/table.md").splitlines())}
-    there = {f"docs/plots/{path.name}": path.read_text() for path in (ROOT / "docs/plots").iterdir()}
-    return {file: drawn.get(file) for file in sorted(drawn.keys() | there.keys()) if drawn.get(file) != there.get(file)}
+def stale_files():
+    """Each file that is made as a whole, and otherwise than it is there: its text as it is made now, or none where no such file is made."""
+    pictures = tool("plot").pictures(source("tools/bench/table.md").splitlines())
+    made = {WORDS: words_of_contracts(), **{f"docs/plots/{name}.svg": text for name, text in pictures}}
+    files = [path for path in (ROOT / WORDS, *(ROOT / "docs/plots").iterdir()) if path.is_file()]
+    there = {path.relative_to(ROOT).as_posix(): path.read_text() for path in files}
+    return {file: made.get(file) for file in sorted(made.keys() | there.keys()) if made.get(file) != there.get(file)}
 
 
 # ---- pages
