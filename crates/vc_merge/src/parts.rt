@@ -436,6 +436,7 @@ pub fn open_gap<T: MadeWith<A> + Drop, const N: usize, A: Allocator + Copy>(
     ensures front { OnOk result (take (small_vec_len list.old) list.new.items ≡ list.old.items) }
     ensures gap { OnOk result (small_vec_len list.old ≤ small_vec_len list.new) }
     ensures fits { HasRoomFor list.old n → IsOk result }
+    ensures few { small_vec_len list.old + n ≤ N → IsOk result }
     ensures err { OnErr result (list.new ≡ list.old) }
 {
     let gap = gap_between(list.len(), n);
