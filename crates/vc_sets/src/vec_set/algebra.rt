@@ -255,10 +255,15 @@ impl<T: Ord + Clone + MadeWith<A>, const N: usize, A: Allocator + Copy> VecSet<T
             (IsSetOf T.cmp T.is_clone T.is_clone (made_by op) self.now (S.elements that.now)) }
         ensures counted { steps.new
             ≤ steps.old + bound (length self.now) (length (S.elements that.now)) }
+        ensures grows { steps.old ≤ steps.new }
     {
         let alloc = *self.elements.allocator();
-        let elements = combine(alloc, self.as_ref(), that.as_slice(), op, steps)?;
-        Ok(VecSet { elements })
+        let mut own = Steps::new();
+        let elements = combine(alloc, self.as_ref(), that.as_slice(), op, &mut own);
+        steps.add(&own);
+        Ok(VecSet {
+            elements: elements?,
+        })
     }
 }
 
@@ -274,13 +279,17 @@ impl<T: Ord, const N: usize, A: Allocator> VecSet<T, N, A> {
         ensures answer { IsTrue result ↔ IsTestedBy test T.cmp self.now (S.elements that.now) }
         ensures counted { steps.new
             ≤ steps.old + bound (length self.now) (length (S.elements that.now)) }
+        ensures grows { steps.old ≤ steps.new }
     {
         let (a, b) = (self.as_ref(), that.as_slice());
-        match test {
-            SetTest::Disjoint => !has_witness::<false, false, true, _, _>(a, b, steps),
-            SetTest::Subset => is_within(a, b, steps),
-            SetTest::Superset => is_within(b, a, steps),
-        }
+        let mut own = Steps::new();
+        let answer = match test {
+            SetTest::Disjoint => !has_witness::<false, false, true, _, _>(a, b, &mut own),
+            SetTest::Subset => is_within(a, b, &mut own),
+            SetTest::Superset => is_within(b, a, &mut own),
+        };
+        steps.add(&own);
+        answer
     }
 }
 
