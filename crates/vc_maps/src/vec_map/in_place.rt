@@ -188,9 +188,13 @@ where
             → JoinsValues K.cmp (in_kind kind h) self.old (M.pairs that.now) self.new) }
         ensures counted { steps.new
             ≤ steps.old + bound (length self.old) (length (M.pairs that.now)) }
+        ensures grows { steps.old ≤ steps.new }
         ensures no_memory { asks_right kind ≡ false → IsOk result }
         ensures err { OnErr result (self.new ≡ self.old) }
     {
-        join(&mut self.pairs, that.as_slice(), kind, &AskOuter(&f), steps)
+        let mut own = Steps::new();
+        let joined = join(&mut self.pairs, that.as_slice(), kind, &AskOuter(&f), &mut own);
+        steps.add(&own);
+        joined
     }
 }

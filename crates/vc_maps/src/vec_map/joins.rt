@@ -206,8 +206,12 @@ impl<K: Ord + Clone + Drop, V, const N: usize, A: Allocator + Copy> VecMap<K, V,
             → JoinsValues K.cmp (in_kind kind h) self.now (M.pairs that.now) c) }
         ensures counted { steps.new
             ≤ steps.old + bound (length self.now) (length (M.pairs that.now)) }
+        ensures grows { steps.old ≤ steps.new }
     {
-        join_of_kind(self.allocator(), self, that, kind, f, steps)
+        let mut own = Steps::new();
+        let joined = join_of_kind(self.allocator(), self, that, kind, f, &mut own);
+        steps.add(&own);
+        joined
     }
 }
 
