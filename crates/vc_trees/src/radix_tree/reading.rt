@@ -81,8 +81,12 @@ pub trait AbstractRadixTree<K: TKey, V: TValue>: RadixNode<K, V> {
         ensures value { option_copied result ≡ lookup K.cmp (Self.tree self.now) key.now }
         ensures counted { steps.new
             ≤ steps.old + length key.now * (1 + digits (width (Self.tree self.now))) }
+        ensures grows { steps.old ≤ steps.new }
     {
-        descent::get(self, key, steps)
+        let mut own = Steps::new();
+        let value = descent::get(self, key, &mut own);
+        steps.add(&own);
+        value
     }
 
     /// The longest key of the tree that is a prefix of the path: how many components of the path it
@@ -336,8 +340,12 @@ pub trait AbstractRadixTree<K: TKey, V: TValue>: RadixNode<K, V> {
         ensures canonical { IfOk result (λ made. IsCanonical K.cmp (M.tree made)) }
         ensures counted { steps.new
             ≤ steps.old + 3 * (weight (Self.tree self.now) + weight (S.tree that.now)) }
+        ensures grows { steps.old ≤ steps.new }
     {
-        combines::outer_combine(self, that, &f, steps)
+        let mut own = Steps::new();
+        let combined = combines::outer_combine(self, that, &f, &mut own);
+        steps.add(&own);
+        combined
     }
 
     /// A fresh tree of the keys that both bind, with what the closure answers, `None` for a key
