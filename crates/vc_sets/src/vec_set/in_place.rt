@@ -212,7 +212,7 @@ impl<T: Ord + MadeWith<A> + Drop, const N: usize, A: Allocator + Copy> VecSet<T,
 impl<T: Ord + Clone + MadeWith<A> + Drop, const N: usize, A: Allocator + Copy> VecSet<T, N, A> {
     /// Adds what is in the other set, as clones. Of two equal elements the left one stays.
     ///
-    /// It grows at most once, and can't be refused that where both sets fit together: then it grows
+    /// It grows at most once, and can't be refused where both sets fit together: then it grows
     /// only if both are long and few places are left. It compares at most as often as both sets have
     /// elements. Refused there or at a clone, it leaves the set as it was.
     ///
@@ -232,7 +232,7 @@ impl<T: Ord + Clone + MadeWith<A> + Drop, const N: usize, A: Allocator + Copy> V
     /// Keeps what is in exactly one of the sets: drops what is in both, and adds clones of what is
     /// in the other set alone.
     ///
-    /// It grows at most once, and can't be refused that where both sets fit together: then it grows
+    /// It grows at most once, and can't be refused where both sets fit together: then it grows
     /// only if both are long and few places are left. It compares at most as often as both sets have
     /// elements. Refused there or at a clone, it leaves the set as it was.
     pub fn xor_with<S: AbstractVecSet<T>>(&mut self, that: &S) -> Result<(), AllocError>
