@@ -12,6 +12,7 @@ pub use Rattle.vc_intervals.specs.Ranges
 pub use Rattle.vc_intervals.specs.Turns
 pub use Rattle.vc_joins.specs.Answers
 pub use Rattle.vc_joins.specs.Entries
+pub use Rattle.vc_joins.specs.Events as JoinEvents
 pub use Rattle.vc_joins.specs.InPlace as JoinInPlace
 pub use Rattle.vc_joins.specs.Join
 pub use Rattle.vc_joins.specs.Laws as JoinLaws
@@ -32,6 +33,7 @@ pub use Rattle.vc_merge.specs.Chain
 pub use Rattle.vc_merge.specs.Clones
 pub use Rattle.vc_merge.specs.Count
 pub use Rattle.vc_merge.specs.Fronts
+pub use Rattle.vc_merge.specs.Gathering
 pub use Rattle.vc_merge.specs.Laws as MergeLaws
 pub use Rattle.vc_merge.specs.Retaining
 pub use Rattle.vc_merge.specs.Script

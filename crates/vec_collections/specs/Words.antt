@@ -25,6 +25,7 @@ pub use Rattle.vc_merge.specs.Chain.{Allows, Answer, Finishes, Gives, IsAllowed,
 pub use Rattle.vc_merge.specs.Clones.{ClonesAreEqual}
 pub use Rattle.vc_merge.specs.Count.{bound, by_strides, digits, ticked}
 pub use Rattle.vc_merge.specs.Fronts.{HeadsCompare, LeftBelow, RightBelow}
+pub use Rattle.vc_merge.specs.Gathering.{Appends, Gathers, IsBuilding, IsBuilt}
 pub use Rattle.vc_merge.specs.Retaining.{AnswersAs, IsRetained}
 pub use Rattle.vc_merge.specs.Script.{BothAscend, Event, IsMatched, IsScript, lefts, place, rights}
 pub use Rattle.vc_merge.specs.Showing.{ShowsBackwards, ShowsBothWays, ShowsItems}

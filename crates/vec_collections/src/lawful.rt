@@ -2,8 +2,8 @@
 ghost use Rattle.vec_collections.specs.Chain.{allows};
 ghost use Rattle.vec_collections.specs.IntervalLaws.{MembersTellTheTurns, ListedIntervalsHold, IntervalsOfAreOne};
 ghost use Rattle.vec_collections.specs.Join.{ClonedKey};
-ghost use Rattle.vec_collections.specs.JoinLaws.{KindsInWords, JoinsOfFunctions};
-ghost use Rattle.vec_collections.specs.MergeLaws.{AscendingHaveOneScript, MembersAreElements, MembersTellTheList, TicksStay, RunsAreBeginnings};
+ghost use Rattle.vec_collections.specs.JoinLaws.{KindsInWords, JoinsOfEvents, JoinsOfFunctions};
+ghost use Rattle.vec_collections.specs.MergeLaws.{AscendingHaveOneScript, MembersAreElements, MembersTellTheList, TicksStay, DigitsAreLeast, RunsAreBeginnings};
 ghost use Rattle.vec_collections.specs.SetLaws.{InEachWay, SetOfIsOne, OperationsInWords, TestsAreOfOperations};
 ghost use Rattle.vec_collections.specs.TreeLaws.{KeysAreOrdered, LeftBehindIsRest, BindsIsLookup, CanonicalIsConditions, CanonicalIsUnique, CanonicalIsSmallest, CanonicalIsShallow, WalkIsOne};
 ghost use Rattle.vec_collections.specs.PrefixLaws.{WalkUnder, WalkPrefixed, WalkIsFiltered, CoverIsLongest, RemovalAndRetentionPart};
@@ -18,8 +18,8 @@ ghost use Rattle.std.specs.Prelude.{◌≡◌, Ok, IsTrue};
 use crate::laws::{
     ByClone, ByEither, ByEq, ByItself, Question, binds_is_lookup, canonical_is_conditions,
     canonical_is_shallow, canonical_is_smallest, canonical_is_unique, combined_is_pointwise,
-    complements_turn_operations, cover_is_longest, inserts_commute, intervals_of_are_one,
-    joins_of_functions, keys_are_ordered, kinds_are_as_named, left_behind_is_rest,
+    complements_turn_operations, cover_is_longest, digits_are_least, inserts_commute,
+    intervals_of_are_one, joins_of_events, joins_of_functions, keys_are_ordered, kinds_are_as_named, left_behind_is_rest,
     listed_intervals_hold, mapped_is_pointwise, members_are_elements, members_tell_the_list,
     members_tell_the_turns, operations_are_as_named, removal_and_retention_part, run_is_function,
     runs_are_beginnings, script_is_one, set_of_is_one, standing_is_at, tests_are_of_operations,
@@ -35,12 +35,14 @@ pub fn of_merges<T: Ord, M: MergeState, C: Count, O: MergeOperation<M, C>>()
     ensures members { MembersAreElements T.cmp }
     ensures list { MembersTellTheList T.cmp }
     ensures ticks { TicksStay }
+    ensures digits { DigitsAreLeast }
     ensures runs { (op : O) → RunsAreBeginnings (allows M.left M.right (O.gives op)) (O.order op) }
 {
     script_is_one::<T, T>();
     members_are_elements::<T>();
     members_tell_the_list::<T>();
     ticks_stay();
+    digits_are_least();
     runs_are_beginnings::<M, C, O>();
 }
 
@@ -60,9 +62,12 @@ pub fn of_joins<K: Ord + Clone, V, W, X, Q: Question<K, V, W, X>>()
     ensures kinds { KindsInWords K V W K.cmp }
     ensures functions { (q : Q)
         → JoinsOfFunctions K V W K.cmp (λ a r. Q.may q a (Ok r)) (ClonedKey K.is_clone) }
+    ensures events { (q : Q)
+        → JoinsOfEvents K V W K.cmp (λ a r. Q.may q a (Ok r)) (ClonedKey K.is_clone) }
 {
     kinds_are_as_named::<K, V, W>();
     joins_of_functions::<K, V, W, X, Q>();
+    joins_of_events::<K, V, W, X, Q>();
 }
 
 /// The laws of total sets.

@@ -93,9 +93,10 @@ pub mod laws {
         intervals_of_are_one, listed_intervals_hold, members_tell_the_turns,
     };
     pub use vc_joins::answers::{AskInner, AskLeft, AskOuter, AskRight, Question};
-    pub use vc_joins::laws::{joins_of_functions, kinds_are_as_named};
+    pub use vc_joins::laws::{joins_of_events, joins_of_functions, kinds_are_as_named};
     pub use vc_merge::laws::{
-        members_are_elements, members_tell_the_list, runs_are_beginnings, script_is_one, ticks_stay,
+        digits_are_least, members_are_elements, members_tell_the_list, runs_are_beginnings,
+        script_is_one, ticks_stay,
     };
     pub use vc_sets::laws::{operations_are_as_named, set_of_is_one, tests_are_of_operations};
     pub use vc_total_maps::laws::{combined_is_pointwise, mapped_is_pointwise, standing_is_at};

@@ -2,7 +2,7 @@
 //! one that is exported under another's leaves a clause here unproved, or is none that could be
 //! named so.
 ghost use Rattle.std.specs.Iterator.{Drains, IsFinite};
-ghost use Rattle.std.specs.Map.{keys_of};
+ghost use Rattle.std.specs.Map.{keys_of, values_of};
 ghost use Rattle.std.specs.Option.{option_copied};
 ghost use Rattle.std.specs.Ordering.{nat_cmp};
 ghost use Rattle.std.specs.Prelude.{◌≡◌, ◌↔◌, ◌&&◌, Ok, IfOk, IsTrue, length, map};
@@ -21,19 +21,21 @@ ghost use Rattle.vec_collections.specs.Map.{lookup};
 ghost use Rattle.vec_collections.specs.Question.{left_spelling};
 ghost use Rattle.vec_collections.specs.Script.{BothAscend};
 ghost use Rattle.vec_collections.specs.Value.{Copies};
-ghost use Rattle.vc_merge.specs.Showing.{ShowsItems};
+ghost use Rattle.vec_collections.specs.Yielded.{AscendsAlong};
+ghost use Rattle.vec_collections.specs.Showing.{ShowsBothWays, ShowsItems};
 
 use crate::btree_map::{AbstractBTreeMap, InPlaceRelationalOps};
 use crate::interval_set::{IntervalSet, IntervalSetIter};
 use crate::iterators::{
-    SortedByItem, SortedByKey, VecMapIter, VecSetIter, ascends, ascends_by_key,
+    FromBehind, SortedByItem, SortedByKey, VecMapIter, VecMapKeys, VecMapValues, VecSetIter,
+    ascends, ascends_by_key,
 };
 use crate::laws::{AskInner, AskLeft, AskOuter, AskRight, Question};
 use crate::merge::{Count, MergeOperation, MergeState, merge};
 use crate::radix_tree::{RadixTree, TreeCommand, run};
 use crate::{
-    AbstractVecSet, Borrowed, ClonesEqual, JoinKind, OuterJoinArg, VecMap1, VecSet2, inner_join,
-    left_join, outer_join, right_join,
+    AbstractVecMap, AbstractVecSet, Borrowed, ClonesEqual, JoinKind, OuterJoinArg, VecMap1, VecSet2,
+    inner_join, left_join, outer_join, right_join,
 };
 use std::alloc::{AllocError, Global};
 use std::default::MadeWith;
@@ -195,6 +197,31 @@ pub fn pairs_of(map: &Numbers) -> VecMapIter<slice::Iter<'_, (u32, u32)>>
     ensures { ShowsItems map.now result }
 {
     map.iter()
+}
+
+/// The keys of a map in ascending order.
+pub fn keys_of_map(map: &Numbers) -> VecMapKeys<'_, u32, u32>
+    ensures { ShowsBothWays (keys_of map.now) result }
+{
+    map.keys()
+}
+
+/// The values of a map in ascending order of their keys.
+pub fn values_of_map(map: &Numbers) -> VecMapValues<'_, u32, u32>
+    ensures { ShowsBothWays (values_of map.now) result }
+{
+    map.values()
+}
+
+/// The greatest element of a set that an iterator has not given yet: what is left still ascends.
+pub fn next_from_behind<I: FromBehind>(rest: &mut VecSetIter<I>) -> Option<I::Item>
+where
+    I::Item: Ord,
+    requires { I.can_next_back rest.old }
+    ensures given { I.next_back_gives rest.old result rest.new }
+    ensures ascends { AscendsAlong I.next_gives I.Item.cmp rest.new }
+{
+    rest.next_back()
 }
 
 /// Asks a closure as an outer join does.
