@@ -9,7 +9,7 @@ ghost use Rattle.std.specs.declared.cmp.Ordering.TheVariants.{Equal};
 ghost use Rattle.vc_joins.specs.Entries.{AscendsByKey, entry_at, value_at};
 ghost use Rattle.vc_maps.specs.Borrowed.{value_by};
 ghost use Rattle.vc_merge.specs.Ascending.{Ascends};
-ghost use Rattle.vc_merge.specs.Showing.{ShowsBothWays, ShowsItems};
+ghost use Rattle.vc_merge.specs.Showing.{ShowsBothWays, ShowsByKey, ShowsItems};
 
 mod borrowed;
 mod changes;
@@ -281,6 +281,7 @@ pub trait AbstractVecMap<K: Ord, V> {
     fn iter(&self) -> VecMapIter<slice::Iter<'_, (K, V)>>
         ensures items { ShowsItems (pairs self.now) result }
         ensures ascends { AscendsByKey K.cmp (pairs self.now) }
+        ensures steps { ShowsByKey K.cmp result }
     {
         vec_map_iter_of(self.as_slice())
     }

@@ -1,7 +1,7 @@
 //! Iteration over the pairs of a map, by reference and by value.
 ghost use Rattle.vc_joins.specs.Entries.{AscendsByKey};
 ghost use Rattle.vc_maps.specs.Iterating.{HandsPairs, ShowsPairs};
-ghost use Rattle.vc_merge.specs.Showing.{ShowsItems};
+ghost use Rattle.vc_merge.specs.Showing.{ShowsByKey, ShowsItems};
 
 use super::VecMap;
 use std::alloc::Allocator;
@@ -14,6 +14,7 @@ impl<K: Ord, V, const N: usize, A: Allocator> VecMap<K, V, N, A> {
     pub fn iter(&self) -> VecMapIter<slice::Iter<'_, (K, V)>>
         ensures items { ShowsItems self.now result }
         ensures ascends { AscendsByKey K.cmp self.now }
+        ensures steps { ShowsByKey K.cmp result }
     {
         vec_map_iter_of(self.as_ref())
     }

@@ -4,4 +4,4 @@ pub vec_map_iter_of-requires : goal.vec_map_iter_of-requires
 vec_map_iter_of-requires g c = rw c.as_slice.ensures.pairs c.as_slice.ensures.ascends
 
 pub returns-clause-items : goal.returns-clause-items
-returns-clause-items g c = rw c.as_slice.ensures.pairs at c.vec_map_iter_of.ensures
+returns-clause-items g c = rw c.as_slice.ensures.pairs at c.vec_map_iter_of.ensures.items

@@ -1,9 +1,11 @@
 use Rattle.std.proofs.Common.{◌≡◌, List, sym, ◌∙◌}
 use Rattle.std.specs.Iterator.{YieldsFirst}
+use Rattle.std.specs.Iterator.Runs.{ItemsAre}
 use Rattle.std.specs.declared.cmp.Ordering.{Ordering}
 use Rattle.vc_joins.specs.Entries.{AscendsByKey}
 use Rattle.vc_merge.specs.Yielded.{AscendsAlong, by_first, list-along}
 use Rattle.vc_merge.proofs.ListLemmas.{pairs-ascend}
+use Rattle.vc_merge.proofs.Running.{inside-every}
 use Rattle.vc_maps.proofs.vec_map.iteration.VecMapIntoIterator.into_iter.Goals as goal
 
 -- whatever comes of a list of pairs whose keys ascend
@@ -25,5 +27,7 @@ returns g c =
         rw c.vec_map_iter.ensures (goes_on g.K.Ord.cmp c.into_iter.result _ c.into_iter.ensures.into_iter_gives.0
             c.self.invariant),
         c.into_iter.ensures.into_iter_gives.1,
+        inside-every (YieldsFirst (λ rest. rest)) (by_first g.K.Ord.cmp) (λ p. ItemsAre p p.from)
+            c.into_iter.ensures.into_iter_gives.1,
       );
     }
