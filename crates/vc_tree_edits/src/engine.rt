@@ -1,4 +1,4 @@
-//! The one recursion of all changes of a tree by another tree, in place.
+//! The recursion of the changes of a tree, in place, into which trees of another one come.
 
 ghost use Rattle.std.specs.Prelude.{◌≡◌, ◌+◌, ◌<◌, ◌≤◌, ◌∷◌, List, [], Option, None, IfOk};
 ghost use Rattle.std.specs.Prelude.{IfSome, OnOk, Some, true, cond, drop, take, length, map, get_or};
