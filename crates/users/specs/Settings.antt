@@ -38,7 +38,7 @@ latest history path = setting history (count history - 1) path
 abbrev pub HaveSameVersions : History → History → Type 0
 HaveSameVersions h g = g.versions.items ≡ h.versions.items
 
--- the path is the folder, or lies below it
+-- the path begins with the one of the folder, by bytes: `net` has `network` below it, too
 abbrev pub is_below : Path → Path → Bool
 is_below folder path = is_some (behind nat_cmp folder path)
 

@@ -52,8 +52,8 @@ impl History {
         self.publish(next)
     }
 
-    /// Makes a version in which nothing is set at the folder or below it. Those before it stay as
-    /// they are; refused, none is made.
+    /// Makes a version in which nothing is set at a path that begins with `folder`, by bytes. Those
+    /// before it stay as they are; refused, none is made.
     pub fn unset(&mut self, alloc: Global, folder: &[u8]) -> Result<(), AllocError>
         ensures one { OnOk result (count self.new ≡ count self.old + 1) }
         ensures unset { OnOk result ((path : Path)
