@@ -35,7 +35,7 @@ pub fn unset(settings: &mut Settings, path: &[u8]) -> Result<(), AllocError>
     Ok(())
 }
 
-/// Unsets what lies in a folder, in the word of the call.
+/// Unsets what begins with the path of a folder, in the word of the call.
 #[tactic(auto, using(vec_collections::specs::Exact::exactly))]
 fn clear(settings: &mut Settings, folder: &[u8]) -> Result<(), AllocError>
     ensures { OnOk result (IsWithoutBelow nat_cmp (λ x y. x ≡ y) folder.now
@@ -44,7 +44,7 @@ fn clear(settings: &mut Settings, folder: &[u8]) -> Result<(), AllocError>
     settings.remove_below(folder)
 }
 
-/// Unsets all settings in a folder. All others stay.
+/// Unsets all settings whose paths begin with that of a folder. All others stay.
 pub fn unset_folder(settings: &mut Settings, folder: &[u8]) -> Result<(), AllocError>
     ensures unset { OnOk result ((path : List ℕ)
         → IsTrue (is_some (behind nat_cmp folder.now path))
