@@ -1,7 +1,7 @@
-//! A crate that uses sets from outside, and the builder that they are changed in: worked examples,
-//! drops, counted comparisons, elements that refuse to be cloned, and calls that take no memory.
-//! The allocator, three of its elements and the lengths by which comparisons are counted are there
-//! for tests of other crates.
+//! A crate that uses sets from outside, and the builder of `vc_builder`: worked examples, drops,
+//! counted comparisons, elements that refuse to be cloned, and calls that take no memory. The
+//! allocator, three of its elements and the lengths by which comparisons are counted are there for
+//! tests of other crates.
 #![tactic(auto)]
 
 #[cfg(test)]
