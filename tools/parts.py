@@ -124,7 +124,7 @@ def calls_beside(kind):
 def refused_calls():
     """The table of the calls whose requests are refused in turn."""
     cells = ([f"`{call.name}`", f"`{call.file}`", call.says] for call in calls_beside("refused"))
-    return table(["call", "where its requests are refused", "what stands after a refusal"], cells)
+    return table(["call", "where its requests are refused", "what is left after a refusal"], cells)
 
 
 def quiet_calls():
