@@ -28,7 +28,7 @@ pub use Rattle.vc_merge.specs.Fronts.{HeadsCompare, LeftBelow, RightBelow}
 pub use Rattle.vc_merge.specs.Gathering.{Appends, Gathers, IsBuilding, IsBuilt}
 pub use Rattle.vc_merge.specs.Retaining.{AnswersAs, IsRetained}
 pub use Rattle.vc_merge.specs.Script.{BothAscend, Event, IsMatched, IsScript, lefts, place, rights}
-pub use Rattle.vc_merge.specs.Showing.{ShowsBackwards, ShowsBothWays, ShowsItems}
+pub use Rattle.vc_merge.specs.Showing.{ShowsBackwards, ShowsBothWays, ShowsByKey, ShowsItems}
 pub use Rattle.vc_merge.specs.Takes.{TakesBoth, TakesLeft, TakesRight}
 pub use Rattle.vc_merge.specs.Yielded.{AscendsAlong, Calls, gives_ascending}
 pub use Rattle.vc_path_filter.specs.Allowed.{IsRestricted, is_allowed}

@@ -24,8 +24,8 @@ pub mod merge {
 /// Iterators that ascend, and the test whether a list does.
 pub mod iterators {
     pub use vc_merge::iterators::{
-        FromBehind, SortedByItem, SortedByKey, VecMapIter, VecMapKeys, VecMapValues, VecSetIter,
-        ascends, ascends_by_key,
+        FromBehind, Keyed, SortedByItem, SortedByKey, VecMapIter, VecMapKeys, VecMapValues,
+        VecSetIter, ascends, ascends_by_key,
     };
 }
 

@@ -27,15 +27,15 @@ ghost use Rattle.vec_collections.specs.Showing.{ShowsBothWays, ShowsItems};
 use crate::btree_map::{AbstractBTreeMap, InPlaceRelationalOps};
 use crate::interval_set::{IntervalSet, IntervalSetIter};
 use crate::iterators::{
-    FromBehind, SortedByItem, SortedByKey, VecMapIter, VecMapKeys, VecMapValues, VecSetIter,
+    FromBehind, Keyed, SortedByItem, SortedByKey, VecMapIter, VecMapKeys, VecMapValues, VecSetIter,
     ascends, ascends_by_key,
 };
 use crate::laws::{AskInner, AskLeft, AskOuter, AskRight, Question};
 use crate::merge::{Count, MergeOperation, MergeState, merge};
 use crate::radix_tree::{RadixTree, TreeCommand, run};
 use crate::{
-    AbstractVecMap, AbstractVecSet, Borrowed, ClonesEqual, JoinKind, OuterJoinArg, VecMap1, VecSet2,
-    inner_join, left_join, outer_join, right_join,
+    AbstractVecMap, AbstractVecSet, Borrowed, ClonesEqual, JoinKind, OuterJoinArg, VecMap1,
+    VecSet2, inner_join, left_join, outer_join, right_join,
 };
 use std::alloc::{AllocError, Global};
 use std::default::MadeWith;
@@ -222,6 +222,17 @@ where
     ensures ascends { AscendsAlong I.next_gives I.Item.cmp rest.new }
 {
     rest.next_back()
+}
+
+/// The next pair of an iterator over a map: the keys of what is left still ascend.
+pub fn next_by_key<I: Iterator>(rest: &mut VecMapIter<I>) -> Option<I::Item>
+where
+    I::Item: Keyed,
+    requires { I.can_next rest.old }
+    ensures given { I.next_gives rest.old result rest.new }
+    ensures ascends { AscendsAlong I.next_gives I.Item.by_key rest.new }
+{
+    rest.next()
 }
 
 /// Asks a closure as an outer join does.
