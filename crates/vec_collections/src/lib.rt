@@ -14,7 +14,8 @@ mod lawful;
 pub mod macros;
 mod named;
 
-/// The engine of operations on sets, maps and intervals: a merge of two ascending lists.
+/// The engine of operations on sets, maps, intervals and the children of trees: a merge of two
+/// ascending lists.
 pub mod merge {
     pub use vc_merge::merge::{
         Count, MergeFromRight, MergeOperation, MergeState, MergeStateMut, Steps, merge,
@@ -122,7 +123,7 @@ pub mod traits {
     pub use super::vec_set::{AbstractVecSet, Borrowed, ClonesEqual};
 }
 
-pub use iterators::VecSetIter;
+pub use iterators::{VecMapIter, VecMapKeys, VecMapValues, VecSetIter};
 pub use vec_map::{
     AbstractVecMap, JoinKind, OuterJoinArg, VecMap, VecMap1, inner_join, left_join, outer_join,
     right_join,
