@@ -6,6 +6,8 @@ mod Sought
 mod Ranged
 mod Tested
 mod OneList
+mod Around
+mod Behind
 mod Swept
 mod Sorted
 mod Cloned

@@ -1,6 +1,5 @@
 -- Members tell the turns, and lie in the intervals that are listed.
 use Rattle.std.proofs.Common.{◌≡◌, Bool, true, false, not, ◌||◌, ◌&&◌, List, [], ◌∷◌, Some, None, refl, sym, ap, ◌∙◌, arith}
-use mathlib.Core.Bool.{true≢false}
 use Rattle.std.specs.BTreeMap.Range.{range_contains, is_from_start}
 use Rattle.std.specs.Cmp.{IsTotalOrder}
 use Rattle.std.specs.List.{AllByRecursion, AllZip, list_any}
@@ -26,7 +25,7 @@ module _ {X : Type 0} (cmp : X → X → Ordering) (total : IsTotalOrder cmp) wh
   not-below t ts a = grind (arith, each-weaker)
 
   -- at the first turn the answer is not that below
-  at-first : (b : Bool) (t : X) (ts : List X) → AllByRecursion (λ z. cmp t z ≡ Less) ts → turned cmp b (t ∷ ts) t ≡ not b
+  pub at-first : (b : Bool) (t : X) (ts : List X) → AllByRecursion (λ z. cmp t z ≡ Less) ts → turned cmp b (t ∷ ts) t ≡ not b
   at-first b t ts a = grind (arith, turned-above, not-below)
 
   differ : (b : Bool) → not b ≡ b → ⊥
@@ -95,7 +94,7 @@ module _ {X : Type 0} (cmp : X → X → Ordering) (total : IsTotalOrder cmp) wh
   begins : (u r s : Bool) → (u ≡ false → s ≡ false) → (u ≡ true → r ≡ not s) → (u && r) ≡ exactly_one u s
   begins u r s h k = grind arith
 
-  turns-above : (t : X) (ts : List X) (x : X) → is_le (cmp t x) ≡ false → AllByRecursion (λ z. cmp t z ≡ Less) ts
+  pub turns-above : (t : X) (ts : List X) (x : X) → is_le (cmp t x) ≡ false → AllByRecursion (λ z. cmp t z ≡ Less) ts
       → AllByRecursion (λ z. is_le (cmp z x) ≡ false) ts
   turns-above t ts x e a = grind (arith, each-weaker, above)
 

@@ -1,6 +1,5 @@
 -- What is in a range, by the turns at its ends.
 use Rattle.std.proofs.Common.{◌≡◌, true, false, [], ◌∷◌, arith}
-use mathlib.Core.Bool.{true≢false}
 use Rattle.std.specs.BTreeMap.Range.{range_contains}
 use Rattle.std.specs.Cmp.{IsTotalOrder}
 use Rattle.std.specs.Ordering.{is_lt}

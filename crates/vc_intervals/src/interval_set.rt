@@ -1,24 +1,33 @@
 //! `IntervalSet`, a set of half-open intervals over an ordered type.
-ghost use Rattle.std.specs.Prelude.{◌≡◌, ◌≤◌, ◌↔◌, [], ◌∷◌, true, false, not, cond, IfOk, IsOk, IsTrue};
+ghost use Rattle.std.specs.Prelude.{◌≡◌, ◌≤◌, ◌↔◌, ◌⊎◌, ⊤, [], ◌∷◌, true, false, not, cond, IfOk, IfSome, IsNone, IsOk, IsTrue};
 ghost use Rattle.std.specs.BTreeMap.Range.{range_contains};
-ghost use Rattle.std.specs.Ordering.{is_lt};
+ghost use Rattle.std.specs.List.{AllByRecursion, Contains};
+ghost use Rattle.std.specs.Ordering.{is_le, is_lt};
+ghost use Rattle.std.specs.Range.Bound.{IsExcludedAnd, IsIncludedAnd};
+ghost use Rattle.std.specs.declared.ops.Bound.{Bound};
 ghost use Rattle.std.specs.declared.ops.Bound.TheVariants.{Included, Excluded, Unbounded};
 ghost use Rattle.vc_merge.specs.Ascending.{Ascends};
 ghost use Rattle.vc_merge.specs.Clones.{ClonesAreEqual};
+ghost use Rattle.vc_merge.specs.Cuts.{IsCut};
+ghost use Rattle.vc_sets.specs.SetOf.{exactly_one};
+ghost use Rattle.vc_intervals.specs.Events.{odd};
+ghost use Rattle.vc_intervals.specs.Listed.{listed};
 ghost use Rattle.vc_intervals.specs.Turns.{intervals, holds, complement, IsClonedIntervals};
 
 mod algebra;
 mod changes;
 mod comparisons;
 mod iteration;
+mod lookups;
 mod ranges;
 
+use crate::combine::is_odd;
 pub use iteration::IntervalSetIter;
 use smallvec::SmallVec;
 use std::alloc::{AllocError, Allocator, Global};
 use std::default::MadeWith;
 use std::marker::Model;
-use std::ops::Not;
+use std::ops::{Bound, Not};
 use vc_merge::search::find;
 use vc_merge::states::clones_of;
 use vc_sets::cloning::ClonesEqual;
@@ -69,6 +78,17 @@ impl<T: Ord, const N: usize, A: Allocator> IntervalSet<T, N, A> {
         self.below
     }
 
+    /// Whether the set has what lies above all turns: then its last interval has no end. Takes no
+    /// memory.
+    pub fn is_unbounded_above(&self) -> bool
+        ensures holds { (x : T) → AllByRecursion (λ t. is_le (T.cmp t x) ≡ true) self.now.turns
+            → result ≡ holds T.cmp self.now x }
+        ensures listed { IsTrue result
+            ↔ ((start : Bound T) × Contains (listed self.now) (start, Unbounded)) }
+    {
+        self.has_behind(self.turns().len())
+    }
+
     /// Whether the set has no turn, and nothing below. Takes no memory.
     pub fn is_empty(&self) -> bool
         ensures { IsTrue result ↔ (self.now ≡ intervals [] false) }
@@ -83,16 +103,29 @@ impl<T: Ord, const N: usize, A: Allocator> IntervalSet<T, N, A> {
         self.turns.is_empty() && self.below
     }
 
+    /// How many turns are at or below a value.
+    fn reached(&self, value: &T) -> usize
+        ensures { IsCut (λ t. is_le (T.cmp t value.now)) self.now.turns result }
+    {
+        match find(self.turns(), value) {
+            Ok(place) => place + 1,
+            Err(place) => place,
+        }
+    }
+
+    /// Whether the set has what lies behind so many of its turns, and before the next one.
+    fn has_behind(&self, count: usize) -> bool
+        ensures { result ≡ exactly_one (odd count) self.now.below }
+    {
+        self.below ^ is_odd(count)
+    }
+
     /// Whether a value is in the set. Searches the turns once, with fewer than `1.5 * log2(n) + 4`
     /// comparisons among `n` of them, and takes no memory.
     pub fn contains(&self, value: &T) -> bool
         ensures { result ≡ holds T.cmp self.now value.now }
     {
-        let reached = match find(self.turns(), value) {
-            Ok(place) => place + 1,
-            Err(place) => place,
-        };
-        self.below ^ (reached % 2 == 1)
+        self.has_behind(self.reached(value))
     }
 }
 
@@ -179,6 +212,40 @@ impl<T: Ord + MadeWith<A> + Drop, const N: usize, A: Allocator + Copy> IntervalS
         ensures room { 1 ≤ N → IsOk result }
     {
         Ok(!Self::at_least(alloc, end)?)
+    }
+
+    /// The values between two bounds, as [`iter`](IntervalSet::iter) lists them: from the start on,
+    /// and less than the end. None where the start is excluded or the end included, since no order
+    /// tells which value comes next.
+    ///
+    /// Their values are moved, or dropped. Compares two of them once, and takes memory only where
+    /// there are more of them than `N`.
+    ///
+    /// ```
+    /// let open = IntervalSet::<u16, 4>::from_bounds(alloc, Bound::Included(9), Bound::Unbounded)?;
+    /// assert!(rt; open == Some(IntervalSet::at_least(alloc, 9)?));
+    /// ```
+    pub fn from_bounds(alloc: A, start: Bound<T>, end: Bound<T>) -> Result<Option<Self>, AllocError>
+        ensures none { IfOk result (λ made. IsNone made
+            ↔ (IsExcludedAnd start (λ _. ⊤) ⊎ IsIncludedAnd end (λ _. ⊤))) }
+        ensures listed { IfOk result (λ made. IfSome made
+            (λ s. (listed s ≡ []) ⊎ (listed s ≡ (start, end) ∷ []))) }
+        ensures holds { IfOk result (λ made. IfSome made
+            (λ s. (x : T) → holds T.cmp s x ≡ range_contains T.cmp start end x)) }
+        ensures below { IfOk result (λ made. IfSome made
+            (λ s. IsTrue s.below ↔ (start ≡ Unbounded))) }
+        ensures room { 2 ≤ N → IsOk result }
+    {
+        match (start, end) {
+            (Bound::Excluded(_), _) => Ok(None),
+            (_, Bound::Included(_)) => Ok(None),
+            (Bound::Included(least), Bound::Excluded(end)) => {
+                Ok(Some(Self::between(alloc, least, end)?))
+            }
+            (Bound::Included(least), Bound::Unbounded) => Ok(Some(Self::at_least(alloc, least)?)),
+            (Bound::Unbounded, Bound::Excluded(end)) => Ok(Some(Self::below(alloc, end)?)),
+            (Bound::Unbounded, Bound::Unbounded) => Ok(Some(Self::all(alloc))),
+        }
     }
 }
 

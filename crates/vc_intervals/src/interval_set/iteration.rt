@@ -3,17 +3,19 @@ ghost use Rattle.std.specs.Prelude.{◌≡◌, length};
 ghost use Rattle.std.specs.BTreeMap.Range.{range_contains};
 ghost use Rattle.std.specs.Iterator.{at_most};
 ghost use Rattle.std.specs.List.{list_any};
-ghost use Rattle.std.specs.Map.Iter.{ShowsInOrder, TakesFirst};
+ghost use Rattle.std.specs.Map.Iter.{ShowsInOrder, ShowsInReverse, TakesFirst, TakesLast};
 ghost use Rattle.vc_intervals.specs.Turns.{holds};
 ghost use Rattle.vc_intervals.specs.Listed.{listed, shown_ends};
 
 use super::IntervalSet;
+use crate::combine::is_odd;
 use std::alloc::Allocator;
 use std::marker::Model;
+use std::mem;
 use std::ops::Bound;
 
-/// The intervals of a set in ascending order, each by its two ends. Contracts see the list of those
-/// that are left.
+/// The intervals of a set in ascending order, each by its two ends, from the front and from behind.
+/// Contracts see the list of those that are left.
 ///
 /// A step takes no memory.
 #[derive(Drop)]
@@ -40,8 +42,7 @@ impl<'a, T> Iterator for IntervalSetIter<'a, T> {
     ghost remaining = { λ s. at_most (length s) };
 
     fn next(&mut self) -> Option<(Bound<&'a T>, Bound<&'a T>)> {
-        let start = if self.has_begun {
-            self.has_begun = false;
+        let start = if mem::replace(&mut self.has_begun, false) {
             Bound::Unbounded
         } else {
             let (first, rest) = self.turns.split_first()?;
@@ -53,6 +54,39 @@ impl<'a, T> Iterator for IntervalSetIter<'a, T> {
         };
         self.turns = rest;
         Some((start, Bound::Excluded(end)))
+    }
+
+    fn size_hint(&self) -> (usize, Option<usize>) {
+        let len = self.len();
+        (len, Some(len))
+    }
+}
+
+impl<'a, T> DoubleEndedIterator for IntervalSetIter<'a, T> {
+    ghost next_back_gives = { TakesLast shown_ends };
+
+    fn next_back(&mut self) -> Option<(Bound<&'a T>, Bound<&'a T>)> {
+        let end = if self.has_begun ^ is_odd(self.turns.len()) {
+            Bound::Unbounded
+        } else {
+            let (last, rest) = self.turns.split_last()?;
+            self.turns = rest;
+            Bound::Excluded(last)
+        };
+        let Some((start, rest)) = self.turns.split_last() else {
+            self.has_begun = false;
+            return Some((Bound::Unbounded, end));
+        };
+        self.turns = rest;
+        Some((Bound::Included(start), end))
+    }
+}
+
+/// How many intervals are left. Takes no memory.
+impl<'a, T> ExactSizeIterator for IntervalSetIter<'a, T> {
+    fn len(&self) -> usize {
+        let turns = self.turns.len();
+        turns / 2 + usize::from(self.has_begun | is_odd(turns))
     }
 }
 
@@ -68,6 +102,7 @@ impl<T: Ord, const N: usize, A: Allocator> IntervalSet<T, N, A> {
         ensures holds { (x : T) → holds T.cmp self.now x
             ≡ list_any (λ ends. range_contains T.cmp ends.0 ends.1 x) result }
         ensures runs { ShowsInOrder (shown_ends {X = T}) }
+        ensures reverse { ShowsInReverse (shown_ends {X = T}) }
     {
         IntervalSetIter {
             turns: self.turns.as_slice(),

@@ -1,6 +1,6 @@
-use Rattle.core.proofs.iter.runs.Sources.{from_front}
+use Rattle.core.proofs.iter.runs.Sources.{from_front, from_back}
 use Rattle.std.proofs.Common.{length, sym, ap, subst, ◌∙◌}
-use Rattle.std.specs.Map.Iter.{TakesFirst}
+use Rattle.std.specs.Map.Iter.{TakesFirst, TakesLast}
 use Rattle.vc_merge.specs.Ascending.{Ascends}
 use Rattle.vc_intervals.specs.Turns.{intervals, holds}
 use Rattle.vc_intervals.specs.Listed.{shown_ends}
@@ -17,3 +17,7 @@ returns-clause-holds g c x =
 pub returns-clause-runs : goal.returns-clause-runs
 returns-clause-runs g c =
     from_front (TakesFirst (shown_ends {X = g.row.T.Denot})) shown_ends (λ s. s) (λ s t h. ap length h.0) (λ s x t h. h)
+
+pub returns-clause-reverse : goal.returns-clause-reverse
+returns-clause-reverse g c =
+    from_back (TakesLast (shown_ends {X = g.row.T.Denot})) shown_ends (λ s. s) (λ s t h. ap length h.0) (λ s x t h. h)

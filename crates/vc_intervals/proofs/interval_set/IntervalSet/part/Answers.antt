@@ -1,0 +1,23 @@
+use Rattle.std.proofs.Common.{take, drop, sym, ap, subst, ◌∙◌}
+use Rattle.std.proofs.lemmas.List.{take-append-drop}
+use Rattle.vc_merge.specs.Ascending.{Ascends}
+use Rattle.vc_merge.proofs.ListLemmas.{ascends-append}
+use Rattle.vc_sets.specs.SetOf.{exactly_one}
+use Rattle.vc_intervals.specs.Events.{odd}
+use Rattle.vc_intervals.proofs.Turned.{turned-cut}
+use Rattle.vc_intervals.proofs.interval_set.IntervalSet.part.Goals as goal
+
+pub returns-clause-ascends : goal.returns-clause-ascends
+returns-clause-ascends g c =
+    let cmp = g.T.Ord.cmp in
+    let k = c.reached.result in
+    let turns = c.args.self.now.turns in
+    subst (λ l. Ascends cmp l) (sym (c.split_at.ensures.back ∙ ap (λ l. drop k l) c.turns.ensures.turns))
+    (ascends-append cmp (take k turns) (drop k turns)
+    (subst (λ l. Ascends cmp l) (sym (take-append-drop k turns)) c.turns.ensures.ascends))
+
+pub returns-clause-holds : goal.returns-clause-holds
+returns-clause-holds g c =
+    let set = c.args.self.now in
+    ap (λ n. exactly_one (odd n) set.below) c.split_at.ensures.front_len
+    ∙ sym (turned-cut g.T.Ord.cmp set.below set.turns c.reached.result c.args.value.now c.reached.ensures)
