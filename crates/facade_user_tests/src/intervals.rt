@@ -1,19 +1,22 @@
 //! Interval sets from outside: the bookings of a room, over any ordered time, and the calls beside
 //! them, with clauses of a user.
-ghost use Rattle.std.specs.Prelude.{◌≡◌, ◌||◌, ◌&&◌, ◌↔◌, not, true, false, IfOk, IsOk, IsTrue, List};
+ghost use Rattle.std.specs.Prelude.{◌≡◌, ◌||◌, ◌&&◌, ◌↔◌, not, true, false, IfOk, IfSome, IsOk, IsTrue, List};
 ghost use Rattle.std.specs.BTreeMap.Range.{range_contains};
 ghost use Rattle.std.specs.declared.ops.Bound.TheVariants.{Included, Excluded, Unbounded};
-ghost use Rattle.std.specs.List.{list_any};
+ghost use Rattle.std.specs.List.{find, list_any};
+ghost use Rattle.std.specs.Option.{is_some, option_map};
+ghost use Rattle.std.specs.Ordering.{is_le};
+ghost use Rattle.std.specs.declared.cmp.Ordering.TheVariants.{Less};
 ghost use Rattle.vec_collections.specs.Clones.{ClonesAreEqual};
 ghost use Rattle.vec_collections.specs.IntervalsOf.{IsIntervalSubset, IsIntervalDisjoint};
-ghost use Rattle.vec_collections.specs.Listed.{listed};
-ghost use Rattle.vec_collections.specs.Ranges.{in_some};
+ghost use Rattle.vec_collections.specs.Listed.{listed, shown_ends};
+ghost use Rattle.vec_collections.specs.Ranges.{in_range, in_some};
 ghost use Rattle.vec_collections.specs.SetOf.{exactly_one};
 ghost use Rattle.vec_collections.specs.Turns.{Intervals, holds};
 
 use std::alloc::{AllocError, Global};
 use std::default::MadeWith;
-use std::ops::Range;
+use std::ops::{Bound, Range};
 use vec_collections::interval_set::{IntervalSet, IntervalSetIter};
 use vec_collections::vec_set::ClonesEqual;
 
@@ -78,6 +81,65 @@ pub fn is_booked<T: Ord>(booked: &Booked<T>, time: &T) -> bool
     ensures { result ≡ holds T.cmp booked.now time.now }
 {
     booked.contains(time)
+}
+
+/// The booking that has the time: since when the room is booked, and until when.
+pub fn booking_at<'a, T: Ord>(
+    booked: &'a Booked<T>,
+    time: &T,
+) -> Option<(Bound<&'a T>, Bound<&'a T>)>
+    ensures booked { is_some result ≡ holds T.cmp booked.now time.now }
+    ensures listed { option_map shown_ends result
+        ≡ find (λ ends. range_contains T.cmp ends.0 ends.1 time.now) (listed booked.now) }
+{
+    booked.interval_at(time)
+}
+
+/// Whether the room is booked at the time, and until when that stays so: for good, where no time is
+/// named.
+pub fn booked_until<'a, T: Ord>(booked: &'a Booked<T>, time: &T) -> (bool, Option<&'a T>)
+    ensures now { result.0 ≡ holds T.cmp booked.now time.now }
+    ensures until { (later : T) → is_le (T.cmp time.now later) ≡ true
+        → IfSome result.1 (λ end. T.cmp later end.now ≡ Less)
+        → holds T.cmp booked.now later ≡ result.0 }
+    ensures then { IfSome result.1 (λ end. holds T.cmp booked.now end.now ≡ not result.0) }
+{
+    (booked.contains(time), booked.next_turn(time))
+}
+
+/// Whether some time of the span is taken.
+pub fn is_taken<T: Ord>(booked: &Booked<T>, span: &Range<T>) -> bool
+    ensures { IsTrue result ↔ ((time : T)
+        × IsTrue (in_range T.cmp span.now time) × IsTrue (holds T.cmp booked.now time)) }
+{
+    booked.overlaps(span)
+}
+
+/// The times of the span that are free.
+pub fn gaps<T: ClonesEqual + MadeWith<Global> + Drop>(
+    alloc: Global,
+    booked: &Booked<T>,
+    from: T,
+    until: T,
+) -> Result<Booked<T>, AllocError>
+    ensures { IfOk result (λ free. (time : T) → holds T.cmp free time
+        ≡ (range_contains T.cmp (Included from) (Excluded until) time
+        && not (holds T.cmp booked.now time))) }
+{
+    let span = Booked::between(alloc, from, until)?;
+    &span - booked
+}
+
+/// The times between two ends, as `list_bookings` lists them.
+pub fn of_ends<T: Ord + MadeWith<Global> + Drop>(
+    alloc: Global,
+    start: Bound<T>,
+    end: Bound<T>,
+) -> Result<Option<Booked<T>>, AllocError>
+    ensures { IfOk result (λ made. IfSome made (λ booked. (time : T)
+        → holds T.cmp booked time ≡ range_contains T.cmp start end time)) }
+{
+    Booked::from_bounds(alloc, start, end)
 }
 
 /// When either room is booked.
