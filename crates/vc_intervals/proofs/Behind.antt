@@ -5,7 +5,6 @@
 --     last-open, last-closed        the last one
 use Rattle.std.proofs.Common.{◌≡◌, ℕ, zero, suc, ◌+◌, ◌/◌, ◌<◌, Bool, true, false, not, ◌||◌, List, [], ◌∷◌, ◌++◌, length}
 use Rattle.std.proofs.Common.{◌↔◌, Option, Some, None, IsTrue, refl, sym, ap, ◌∙◌, append_assoc, length-append, arith}
-use mathlib.Core.Bool.{true≢false}
 use Rattle.std.specs.List.{Contains, slice_index_or}
 use Rattle.std.specs.Bool.{beq}
 use Rattle.std.specs.Int.{from_bool}

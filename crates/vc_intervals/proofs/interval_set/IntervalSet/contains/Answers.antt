@@ -1,4 +1,4 @@
-use Rattle.std.proofs.Common.{sym, ap, ◌∙◌}
+use Rattle.std.proofs.Common.{sym, ◌∙◌}
 use Rattle.vc_intervals.proofs.Turned.{turned-cut}
 use Rattle.vc_intervals.proofs.interval_set.IntervalSet.contains.Goals as goal
 

@@ -1,4 +1,4 @@
-use Rattle.std.proofs.Common.{◌↔◌, Bool, [], length, IsTrue, sym, ap, subst, ◌∙◌}
+use Rattle.std.proofs.Common.{◌↔◌, [], length, IsTrue, sym, ap, subst, ◌∙◌}
 use Rattle.std.proofs.lemmas.List.{append-nil}
 use Rattle.std.specs.List.{Contains}
 use Rattle.std.specs.declared.ops.Bound.{Bound}

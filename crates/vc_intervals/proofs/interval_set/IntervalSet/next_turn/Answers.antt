@@ -1,6 +1,5 @@
-use Rattle.std.proofs.Common.{◌≡◌, not, Option, Some, None, IfSome, slice_get, sym, ap, subst, ◌∙◌}
+use Rattle.std.proofs.Common.{◌≡◌, not, sym, ap, subst, ◌∙◌}
 use Rattle.std.specs.List.{find}
-use Rattle.std.specs.Option.{option_copied}
 use Rattle.std.specs.Ordering.{is_lt}
 use Rattle.std.specs.declared.cmp.Ordering.TheVariants.{Less}
 use Rattle.vc_intervals.specs.Turns.{turned}
