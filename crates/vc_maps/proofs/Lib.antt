@@ -1,5 +1,6 @@
 pub mod Asked
 pub mod Asking
+pub mod Bound
 pub mod ByForm
 pub mod Combined
 pub mod Editing

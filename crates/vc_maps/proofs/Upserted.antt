@@ -23,10 +23,10 @@ module _ {K V : Type 0} {cmp : K → K → Ordering} (total : IsTotalOrder cmp) 
     value-now : value_at cmp new key ≡ option_map (λ p. p.1) now
     value-now = h.values key ∙ ap (λ b. cond b (option_map (λ p. p.1) now) (value_at cmp es key)) (same-key total key)
 
-    entry-now : entry_at cmp new key ≡ now
+    pub entry-now : entry_at cmp new key ≡ now
     entry-now = h.entries key ∙ ap (λ b. cond b now (entry_at cmp es key)) (same-key total key)
 
-    entry-others : (k : K) → eq_by_cmp cmp k key ≡ false → entry_at cmp new k ≡ entry_at cmp es k
+    pub entry-others : (k : K) → eq_by_cmp cmp k key ≡ false → entry_at cmp new k ≡ entry_at cmp es k
     entry-others k e = h.entries k ∙ ap (λ b. cond b now (entry_at cmp es k)) e
 
   -- ---- what a place tells of the pair at a key

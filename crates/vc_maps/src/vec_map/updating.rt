@@ -1,12 +1,16 @@
 //! One key of a map: its value shown, written to, or put in.
-ghost use Rattle.std.specs.Prelude.{◌≡◌, ◌<◌, cond, false, length, Some, IsOk, IsSome, OnErr, OnOk};
+ghost use Rattle.smallvec.specs.SmallVec.{HasRoomFor};
+ghost use Rattle.std.specs.Prelude.{◌≡◌, ◌<◌, cond, false, length, None, Some, IfOk, IsOk, IsSome, IsSomeAnd, OnErr, OnOk};
+ghost use Rattle.std.specs.Borrow.{sem};
 ghost use Rattle.std.specs.Map.Calls.{MayWrite};
-ghost use Rattle.std.specs.Option.{option_map, unwrap_or};
+ghost use Rattle.std.specs.Option.{option_map, unwrap_or, UnwrapsOrElse};
 ghost use Rattle.std.specs.Ordering.{eq_by_cmp};
-ghost use Rattle.vc_joins.specs.Entries.{entry_at, value_at};
+ghost use Rattle.vc_joins.specs.Entries.{AscendsByKey, entry_at, value_at};
 ghost use Rattle.vc_maps.specs.Updating.{UpsertsEntry, UpsertsValue};
+ghost use Rattle.vc_merge.specs.Place.{IsFound};
 
 use super::{AbstractVecMap, VecMap};
+use smallvec::SmallVec;
 use std::alloc::{AllocError, Allocator};
 use std::default::MadeWith;
 use std::ops::Index;
@@ -27,10 +31,57 @@ impl<'a, K: Ord, V, const N: usize, A: Allocator> Index<&'a K> for VecMap<K, V, 
     }
 }
 
+/// Makes room for one more. It is not refused where fewer than `N` are held.
+fn make_room<T: MadeWith<A> + Drop, const N: usize, A: Allocator + Copy>(
+    list: &mut SmallVec<T, N, A>,
+) -> Result<(), AllocError>
+    ensures items { list.new.items ≡ list.old.items }
+    ensures room { OnOk result (HasRoomFor list.new 1) }
+    ensures few { length list.old.items < N → IsOk result }
+{
+    if list.len() == list.capacity() {
+        list.reserve(1)?;
+    }
+    Ok(())
+}
+
+/// The place of the pair at a key. Where there is none, one is put in with what `make` gives, once
+/// there is room for it.
+fn place_of<K: Ord + Drop, V: Drop, const N: usize, A: Allocator + Copy, F: FnOnce() -> V + Drop>(
+    pairs: &mut SmallVec<(K, V), N, A>,
+    key: K,
+    make: F,
+) -> Result<usize, AllocError>
+where
+    (K, V): MadeWith<A>,
+    requires ascends { AscendsByKey K.cmp pairs.old.items }
+    requires callable { value_at K.cmp pairs.old.items key ≡ None → F.pre make }
+    ensures found { IfOk result (λ place. IsFound (λ p. K.cmp p.0 key) pairs.new.items place) }
+    ensures ascends { AscendsByKey K.cmp pairs.new.items }
+    ensures entry { OnOk result (IsSomeAnd (entry_at K.cmp pairs.new.items key)
+        (UnwrapsOrElse (entry_at K.cmp pairs.old.items key) (λ p. (p.0 ≡ key) × F.post make p.1))) }
+    ensures others { OnOk result ((k : K) → eq_by_cmp K.cmp k key ≡ false
+        → entry_at K.cmp pairs.new.items k ≡ entry_at K.cmp pairs.old.items k) }
+    ensures known { IsSome (value_at K.cmp pairs.old.items key) → IsOk result }
+    ensures room { length pairs.old.items < N → IsOk result }
+    ensures err { OnErr result (pairs.new.items ≡ pairs.old.items) }
+{
+    match find_key(pairs.as_slice(), &key) {
+        Ok(place) => Ok(place),
+        Err(place) => {
+            make_room(pairs)?;
+            insert_at(pairs, place, (key, make()))?;
+            Ok(place)
+        }
+    }
+}
+
 impl<K: Ord + Drop, V: Drop, const N: usize, A: Allocator + Copy> VecMap<K, V, N, A>
 where
     (K, V): MadeWith<A>,
 {
+    ghost use Rattle.vc_maps.specs.Updating.{lends_bound};
+
     /// Lets `f` write to the value at a key that is bound, and binds one that is not to `default`,
     /// at which `f` is not called. A known key stays, and `key` and `default` are dropped then.
     ///
@@ -75,5 +126,38 @@ where
             Err(place) => insert_at(&mut self.pairs, place, (key, default))?,
         }
         Ok(())
+    }
+
+    /// The value at a key, to write through. A key that is not bound is bound to what `make` gives
+    /// first; at a known key `make` is not called, that key stays, and `key` is dropped.
+    ///
+    /// What is written through the loan is what the key is bound to; all other pairs stay. Looks
+    /// the key up once, compares as often as [`upsert`](VecMap::upsert), and takes memory only for
+    /// a new key, where `N` or more pairs are held; refused, it leaves the map as it was, has not
+    /// called `make`, and drops it and the key.
+    ///
+    /// ```
+    /// let count = counts.get_or_insert_with(word, || 0)?;
+    /// *count += 1;
+    /// ```
+    pub fn get_or_insert_with<F: FnOnce() -> V + Drop>(
+        &mut self,
+        key: K,
+        make: F,
+    ) -> Result<&mut V, AllocError>
+        requires callable { value_at K.cmp self.old key ≡ None → F.pre make }
+        ensures* writes_back { sem 𝓛 (lends_bound K.row V.row N.row A.row K.Ord A.Allocator self.entry key result) }
+        ensures value { IfOk result (λ lent.
+            UnwrapsOrElse (value_at K.cmp self.old key) (F.post make) lent.now) }
+
+        // It succeeds on a known key, and where fewer than `N` pairs are held.
+        ensures known { IsSome (value_at K.cmp self.old key) → IsOk result }
+        ensures room { length self.old < N → IsOk result }
+    {
+        let place = place_of(&mut self.pairs, key, make)?;
+        match self.pairs.get_mut(place) {
+            Some((_, value)) => Ok(value),
+            None => unreachable!(),
+        }
     }
 }
