@@ -1,4 +1,4 @@
-//! An outer join in place that is refused at the clone of one of its new keys.
+//! An outer join in place that is refused at the clone of one of its new keys, and at no other key.
 ghost use Rattle.std.specs.Prelude.{◌≡◌};
 
 use crate::outcomes::same;
@@ -71,11 +71,14 @@ fn refused_at(alloc: Global, refusing: u32, stays: &[u32]) -> Result<(bool, bool
     Ok((answer.is_err() && is_tens(&map, stays), asked.get()))
 }
 
-/// The key that refuses, the map's own numbers that stand then, and what that answers.
-const REFUSED: [(u32, &[u32], (bool, bool)); 4] = [
+/// The key that refuses, the numbers that stand then where the join is refused, and what that
+/// answers. Keys of both maps and of the left one alone are not cloned.
+const REFUSED: [(u32, &[u32], (bool, bool)); 6] = [
     (5, &[10, 20], (true, false)),
     (15, &[5, 10, 20], (true, false)),
     (25, &[5, 10, 15, 20], (true, false)),
+    (10, &[], (false, true)),
+    (20, &[], (false, true)),
     (0, &[], (false, true)),
 ];
 

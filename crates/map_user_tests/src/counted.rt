@@ -1,5 +1,6 @@
-//! Comparisons of joins by lengths: keys that count their own see no more than the bound, a counted
-//! join counts each of them, and one without a counter compares as often.
+//! Comparisons by lengths. Of joins: keys that count their own see no more than the bound, a counted
+//! join counts each of them, and one without a counter compares as often. Of calls that take another
+//! map in: keys see no more than a join may compare.
 
 use super::outcomes::holds;
 use set_user_tests::compared::Compared;
@@ -172,7 +173,7 @@ fn agrees<'s, 'a>(
 }
 
 /// Whether that holds of each join of two maps.
-fn all_agree<'s, 'a>(
+fn joins_agree<'s, 'a>(
     alloc: Global,
     form: Form,
     a: &'s Map<'a>,
@@ -187,40 +188,105 @@ fn all_agree<'s, 'a>(
     Ok(agree)
 }
 
+/// A call that takes another map in, and has no counter.
+#[derive(Clone, Copy)]
+enum Taking {
+    Combine,
+    Merge,
+    Extend,
+}
+
+const TAKINGS: [Taking; 3] = [Taking::Combine, Taking::Merge, Taking::Extend];
+
+/// A clone of the left map that took in one of the right map.
+fn taken_in<'s, 'a>(
+    taking: Taking,
+    a: &'s Map<'a>,
+    b: &'s Map<'a>,
+) -> Result<Map<'a>, AllocError> {
+    let mut left = a.clone()?;
+    let right = b.clone()?;
+    match taking {
+        Taking::Combine => left.combine_with(right, |_: u32, _: u32| 1)?,
+        Taking::Merge => left.merge_with(right)?,
+        Taking::Extend => left.extend(right.into_iter())?,
+    }
+    Ok(left)
+}
+
+/// Whether each such call compares at most so often, and where both maps have keys it does.
+fn takings_agree<'s, 'a>(
+    a: &'s Map<'a>,
+    b: &'s Map<'a>,
+    bound: u128,
+    count: &'a Cell<u128>,
+) -> Result<bool, AllocError> {
+    let mut agree = true;
+    for taking in TAKINGS {
+        count.set(0);
+        let _made = taken_in(taking, a, b)?;
+        let seen = count.get();
+        agree &= seen <= bound && (seen == 0) == (bound == 0);
+    }
+    Ok(agree)
+}
+
+/// The calls whose comparisons are counted.
+#[derive(Clone, Copy)]
+enum Calls {
+    Joins(Form),
+    Takings,
+}
+
+/// Whether comparisons of two maps are as they have to be.
+fn all_agree<'s, 'a>(
+    alloc: Global,
+    calls: Calls,
+    a: &'s Map<'a>,
+    b: &'s Map<'a>,
+    bound: u128,
+    count: &'a Cell<u128>,
+) -> Result<bool, AllocError> {
+    match calls {
+        Calls::Joins(form) => joins_agree(alloc, form, a, b, bound, count),
+        Calls::Takings => takings_agree(a, b, bound, count),
+    }
+}
+
 /// Whether it holds of them in both orders.
 fn both_agree<'s, 'a>(
     alloc: Global,
-    form: Form,
+    calls: Calls,
     short: &'s Map<'a>,
     long: &'s Map<'a>,
     bound: u128,
     count: &'a Cell<u128>,
 ) -> Result<bool, AllocError> {
     Ok(
-        all_agree(alloc, form, short, long, bound, count)?
-            && all_agree(alloc, form, long, short, bound, count)?,
+        all_agree(alloc, calls, short, long, bound, count)?
+            && all_agree(alloc, calls, long, short, bound, count)?,
     )
 }
 
 /// Whether it holds of a short map and a long one.
 fn lengths_agree<'a>(
     alloc: Global,
-    form: Form,
+    calls: Calls,
     place: Place,
     (few, many, bound): (u32, u32, u128),
     count: &'a Cell<u128>,
 ) -> Result<bool, AllocError> {
     let short = map_of(alloc, place, few, many, count)?;
     let long = map_of(alloc, Place::Among, many, many, count)?;
-    both_agree(alloc, form, &short, &long, bound, count)
+    both_agree(alloc, calls, &short, &long, bound, count)
 }
 
 /// Ends the test where it does not hold of some lengths.
-fn all_lengths_agree(rt: &impl Abort, alloc: Global, form: Form) {
+fn all_lengths_agree(rt: &impl Abort, alloc: Global, calls: Calls) {
     for row in LENGTHS {
         for place in PLACES {
             let count = Cell::new(0);
-            let agree = lengths_agree(alloc, form, place, row, &count);
+            let agree = lengths_agree(alloc, calls, place, row, &count);
             holds(rt, &(place, row), agree);
         }
     }
@@ -228,10 +294,15 @@ fn all_lengths_agree(rt: &impl Abort, alloc: Global, form: Form) {
 
 #[test]
 fn each_comparison_of_fresh_joins_is_counted_and_none_is_beyond_the_bound(rt: HostRuntime) {
-    all_lengths_agree(&rt, rt.alloc(), Form::Fresh);
+    all_lengths_agree(&rt, rt.alloc(), Calls::Joins(Form::Fresh));
 }
 
 #[test]
 fn each_comparison_of_joins_in_place_is_counted_and_none_is_beyond_the_bound(rt: HostRuntime) {
-    all_lengths_agree(&rt, rt.alloc(), Form::InPlace);
+    all_lengths_agree(&rt, rt.alloc(), Calls::Joins(Form::InPlace));
+}
+
+#[test]
+fn calls_that_take_a_map_in_compare_no_more_than_the_bound(rt: HostRuntime) {
+    all_lengths_agree(&rt, rt.alloc(), Calls::Takings);
 }

@@ -120,11 +120,14 @@ fn are_compared(alloc: Global) -> Result<bool, AllocError> {
     Ok(compares(&single, &map, &same))
 }
 
-/// Whether a map is printed as the set of its pairs.
+/// Whether a map is printed as the set of its pairs, on one line and on several.
 fn is_printed(alloc: Global) -> Result<bool, AllocError> {
     let map = of_list(alloc)?;
     let text = format!(in alloc; "{map:?}")?;
-    Ok(text.as_str() == "{(1, 2), (2, 4), (3, 6)}")
+    let one = Map::single(alloc, (1, 2))?;
+    let lines = format!(in alloc; "{one:#?}")?;
+    let are_lines = lines.as_str() == "{\n    (\n        1,\n        2,\n    ),\n}";
+    Ok(text.as_str() == "{(1, 2), (2, 4), (3, 6)}" && are_lines)
 }
 
 #[test]
