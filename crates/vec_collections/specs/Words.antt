@@ -45,8 +45,8 @@ pub use Rattle.vc_total_sets.specs.TotalOf.{IsPointwise, IsTotalOf, IsTotalOfEit
 pub use Rattle.vc_total_sets.specs.TotalSet.{IsClonedTotal, IsEqualTotal, TotalSet, complement, has, total}
 pub use Rattle.vc_total_sets.specs.TotalTests.{IsTotalDisjoint, IsTotalSubset}
 pub use Rattle.vc_total_sets.specs.Within.{within_by}
-pub use Rattle.vc_tree_edits.specs.Editing.{CanJudge, CanLeave, CanMeet, KeptThen, MayJudge, MayLeave as MayLeaveInTree, OrStays as OrStaysInTree}
-pub use Rattle.vc_tree_model.specs.Asking.{CanAsk, CanAskAt, MayAnswer as MayAnswerOfTree, MayAnswerAt}
+pub use Rattle.vc_tree_edits.specs.Editing.{CanLeave, CanMeet, KeptThen, MayLeave as MayLeaveInTree, OrStays as OrStaysInTree}
+pub use Rattle.vc_tree_model.specs.Asking.{CanAsk, CanAskAt, CanJudge, MayAnswer as MayAnswerOfTree, MayAnswerAt, MayJudge}
 pub use Rattle.vc_tree_model.specs.Binds.{Binds}
 pub use Rattle.vc_tree_model.specs.Combine.{IsCombined as IsTreeCombined, IsDifferenceAt, IsInnerAt, IsIntersectionAt, IsLeftAt, IsOuterAt, IsUnionAt}
 pub use Rattle.vc_tree_model.specs.Cover.{IsLongestCover, IsRemoved, IsRetained as IsTreeRetained, IsVerdict, cover}
