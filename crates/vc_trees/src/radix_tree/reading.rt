@@ -41,8 +41,11 @@ use vc_tree_walks::{counting, ends, folding, walks};
 pub trait AbstractRadixTree<K: TKey, V: TValue>: RadixNode<K, V> {
     /// Whether the tree binds no key. Takes no memory.
     final fn is_empty(&self) -> bool
-        ensures { result ≡ is_bare (Self.tree self.now) }
+        ensures bare { result ≡ is_bare (Self.tree self.now) }
+        ensures keys { let f = lookup K.cmp (Self.tree self.now) in
+            MatchBool result ((k : List K) → f k ≡ None) ((k : List K) × IsSome (f k)) }
     {
+        reading::canonical(self);
         reading::is_empty(self)
     }
 
