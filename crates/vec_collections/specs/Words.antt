@@ -54,7 +54,7 @@ pub use Rattle.vc_tree_model.specs.Depth.{IsShallow, depth, forest_depth}
 pub use Rattle.vc_tree_model.specs.Equal.{same_tree}
 pub use Rattle.vc_tree_model.specs.Key.{BeginsBelow, IsLess, Starts, behind, same_key}
 pub use Rattle.vc_tree_model.specs.KeySets.{AreDisjoint, HasKeysOf, LacksKeyOf, ShareKey}
-pub use Rattle.vc_tree_model.specs.Machine.{Command, Run as TreeRun, Step as TreeStep, after, refused}
+pub use Rattle.vc_tree_model.specs.Machine.{Command, KeptRun, KeptStep, Run as TreeRun, RunBy, Step as TreeStep, after, refused}
 pub use Rattle.vc_tree_model.specs.Map.{HaveEqualMaps, IsEqualMap, IsInserted, IsUpdated, lookup}
 pub use Rattle.vc_tree_model.specs.Matches.{AreCopies, HaveOneSource}
 pub use Rattle.vc_tree_model.specs.OneTree.{IsOneTree, IsSmallest}
