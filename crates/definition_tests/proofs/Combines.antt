@@ -1,5 +1,5 @@
 -- Worked rows of the definitions on combines, covers and the machine of commands.
-use Rattle.std.specs.Prelude.{◌≡◌, ℕ, ◌+◌, ◌≤◌, nat_le, Bool, true, false, List, [], ◌∷◌, length, Option, Some, None}
+use Rattle.std.specs.Prelude.{◌≡◌, ℕ, suc, ◌+◌, ◌≤◌, nat_le, Bool, true, false, List, [], ◌∷◌, length, Option, Some, None}
 use Rattle.std.specs.Prelude.{IsTrue, refl}
 use Rattle.std.proofs.Common.{arith}
 use denote.Ref.{Bor}
@@ -10,7 +10,7 @@ use Rattle.vc_tree_model.specs.Snapshot.{kept_itself}
 use Rattle.vc_tree_model.specs.Combine.{IsCombined, IsOuterAt, IsInnerAt, IsLeftAt, IsUnionAt, IsIntersectionAt, IsDifferenceAt}
 use Rattle.vc_tree_model.specs.Asking.{MayAnswer, MayAnswerAt, CanAsk, CanAskAt}
 use Rattle.vc_tree_model.specs.Cover.{IsLongestCover, IsRemoved, IsRetained}
-use Rattle.vc_tree_model.specs.Machine.{insert, union, no_map, refused, Step, Run}
+use Rattle.vc_tree_model.specs.Machine.{insert, union, no_map, refused, KeptRun, KeptStep, Step, Run}
 use Rattle.definition_tests.proofs.Digits.{same, not_true}
 use Rattle.definition_tests.proofs.Closures.{ref, closure}
 use Rattle.definition_tests.proofs.Letters.{Letter, a, b, by_letter, each_key, leaf, a_and_ab, not_some}
@@ -177,3 +177,26 @@ run = (
   where
     inserted : Step {V = ℕ} by_letter same no_map (insert (a ∷ []) 1) true (lookup by_letter (leaf (a ∷ []) 1))
     inserted = each_key _ tt refl (λ k. tt) tt (λ y k. tt) tt (λ y k. tt)
+
+-- where a clone of a number is the next one, a union with b=>7 keeps 1 at a, and adds 8
+abbrev Next : ℕ → ℕ → Type 0
+Next v w = w ≡ suc v
+
+abbrev of_a : List Letter → Option ℕ
+of_a = lookup by_letter (leaf (a ∷ []) 1)
+
+abbrev a_and_b : ℕ → ℕ → List Letter → Option ℕ
+a_and_b v w = lookup by_letter (made [] None (leaf (a ∷ []) v ∷ leaf (b ∷ []) w ∷ []))
+
+kept_step : KeptStep by_letter same Next of_a (union (leaf (b ∷ []) 7)) true (a_and_b 1 8)
+kept_step = each_key _ tt refl (λ k. tt) tt (λ y k. tt) refl (λ y k. tt)
+
+-- and leaves no clone of what stays
+no_fresh_step : KeptStep by_letter same Next of_a (union (leaf (b ∷ []) 7)) true (a_and_b 2 8) → ⊥
+no_fresh_step h = two_one (h (a ∷ []))
+  where
+    two_one : same {X = ℕ} 1 2 → ⊥
+    two_one e = cc
+
+kept_run : KeptRun by_letter same Next of_a (union (leaf (b ∷ []) 7) ∷ []) (true ∷ []) (a_and_b 1 8)
+kept_run = (a_and_b 1 8, kept_step, λ k. kept_itself same (λ v. refl) _)

@@ -2,7 +2,8 @@
 use Rattle.std.specs.Prelude.{◌≡◌, ℕ, suc, ◌+◌, ◌==◌, ◌||◌, nat_le, Bool, true, Option, Some, None, IsTrue, refl}
 use denote.Ref.{Bor, MutBor}
 use denote.Param.Members.{Shared}
-use Rattle.vc_tree_edits.specs.Editing.{MayLeave, CanLeave, KeptThen, CanMeet, OrStays, MayJudge, CanJudge}
+use Rattle.vc_tree_edits.specs.Editing.{MayLeave, CanLeave, KeptThen, CanMeet, OrStays}
+use Rattle.vc_tree_model.specs.Asking.{MayJudge, CanJudge}
 use Rattle.vc_tree_removal.specs.Changing.{MayWrite, CanWrite, CanChange, ComesOf}
 use Rattle.definition_tests.proofs.Digits.{same, not_true}
 use Rattle.definition_tests.proofs.Closures.{ref, ref_mut, closure}

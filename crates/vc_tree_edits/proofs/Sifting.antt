@@ -7,6 +7,7 @@ use Rattle.std.specs.Cmp.{IsTotalOrder}
 use Rattle.std.specs.declared.cmp.Ordering.{Ordering}
 use denote.Ref.{Bor}
 use denote.Param.Members.{Shared}
+use Rattle.vc_tree_model.specs.Asking.{CanJudge}
 use Rattle.vc_tree_model.specs.Canonical.{IsCanonical}
 use Rattle.vc_tree_model.specs.Cover.{cover}
 use Rattle.vc_tree_model.specs.Map.{or_else}
@@ -15,7 +16,7 @@ use Rattle.vc_tree_model.specs.Tree.{Tree, shortened}
 use Rattle.vc_tree_model.specs.Value.{IsKept}
 use Rattle.vc_tree_facing.specs.Made.{IsMade}
 use Rattle.vc_tree_facing.proofs.Copied.{copied-by}
-use Rattle.vc_tree_edits.specs.Editing.{CanJudge, IsJudged, IsSiftedBy}
+use Rattle.vc_tree_edits.specs.Editing.{IsJudged, IsSiftedBy}
 
 -- a tree that stays is what is said of a tree whose values are kept
 pub stayed : {K V : Type 0} (cmp : K → K → Ordering) → IsTotalOrder cmp → (keeps : V → V → Type 0) → ((v : V) → keeps v v)

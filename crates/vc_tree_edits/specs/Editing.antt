@@ -42,18 +42,6 @@ module _ {V W : Type 0} (keeps : V → V → Type 0) where
   IsMetAt stays may (Some v) None z = StaysOrGoes keeps stays v z
   IsMetAt stays may None w z = z ≡ None
 
-module _ {W F : Type 0} (g : Shared F (Bor W × Unit {0}) Bool) (f : F) where
-  -- it may be called at the value, if there is one
-  abbrev pub CanJudge : Option W → Type 0
-  CanJudge None = ⊤
-  CanJudge (Some w) = (q : Bor W) → q.now ≡ w → g.pre f (q, tt)
-
-  -- a call at the value may answer so
-  pub record MayJudge (w : W) (covered : Bool) : Type 0 where
-    pub shown : Bor W
-    pub shows : shown.now ≡ w
-    pub answers : g.post f (shown, tt) covered
-
 -- the verdict on a key of this cover: what may be said of it, or else what is known
 abbrev pub IsJudged : {W : Type 0} → (W → Bool → Type 0) → Bool → Option W → Bool → Type 0
 IsJudged may known None covered = covered ≡ known

@@ -2,6 +2,7 @@
 
 ghost use Rattle.std.specs.Prelude.{◌≡◌, ◌<◌, Option, Some, None, IfOk, length, refl};
 ghost use Rattle.std.specs.Option.{option_copied};
+ghost use Rattle.vc_tree_model.specs.Asking.{CanJudge, MayJudge};
 ghost use Rattle.vc_tree_model.specs.Canonical.{IsCanonical};
 ghost use Rattle.vc_tree_model.specs.Combine.{IsOuterAt};
 ghost use Rattle.vc_tree_model.specs.Map.{or_else};
@@ -9,7 +10,7 @@ ghost use Rattle.vc_tree_model.specs.Tree.{shortened};
 ghost use Rattle.vc_tree_model.specs.Look.{values};
 ghost use Rattle.vc_tree_edits.specs.Covers.{covers};
 ghost use Rattle.vc_tree_edits.specs.Editing.{MayLeave, CanLeave, KeptThen, CanMeet, IsMetAt};
-ghost use Rattle.vc_tree_edits.specs.Editing.{CanJudge, MayJudge, IsJudged, IsSiftedBy, stays_by};
+ghost use Rattle.vc_tree_edits.specs.Editing.{IsJudged, IsSiftedBy, stays_by};
 ghost use Rattle.vc_tree_edits.specs.Saying.{sifted_kept, outer_kept, outer_left, met_kept, meet_kept};
 
 use crate::engine::Change;

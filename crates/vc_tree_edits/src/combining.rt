@@ -1,14 +1,14 @@
 //! The changes of a tree by another one, in place.
 
 ghost use Rattle.std.specs.Prelude.{◌≡◌, List, OnOk, OnErr};
+ghost use Rattle.vc_tree_model.specs.Asking.{CanJudge, MayJudge};
 ghost use Rattle.vc_tree_model.specs.Canonical.{IsCanonical};
 ghost use Rattle.vc_tree_model.specs.Combine.{IsCombined, IsInnerAt, IsLeftAt, IsOuterAt};
 ghost use Rattle.vc_tree_model.specs.Combine.{IsUnionAt, IsIntersectionAt, IsDifferenceAt};
 ghost use Rattle.vc_tree_model.specs.Cover.{cover, IsSifted};
 ghost use Rattle.vc_tree_model.specs.Map.{lookup};
 ghost use Rattle.vc_tree_model.specs.Tree.{no_tree};
-ghost use Rattle.vc_tree_edits.specs.Editing.{MayLeave, CanLeave, KeptThen, CanMeet, OrStays};
-ghost use Rattle.vc_tree_edits.specs.Editing.{CanJudge, MayJudge, stays_by};
+ghost use Rattle.vc_tree_edits.specs.Editing.{CanLeave, CanMeet, KeptThen, MayLeave, OrStays, stays_by};
 
 use crate::changes::{Asked, AskedAlike, Goes, KeepAll, KeepLeft, Sift, Stays};
 use crate::engine::{Change, change_at};

@@ -9,8 +9,8 @@ use Rattle.std.specs.Ordering.{is_eq}
 use Rattle.std.specs.Cmp.{IsTotalOrder, tied_itself}
 use Rattle.vc_tree_model.specs.Key.{same_key, Starts}
 use Rattle.vc_tree_model.specs.Map.{or_else, lookup}
-use Rattle.vc_tree_model.specs.Cover.{cover, IsLongestCover, IsRemoved, IsRetained}
-use Rattle.vc_tree_model.specs.PrefixLaws.{IsInOne, CoverIsLongest}
+use Rattle.vc_tree_model.specs.Cover.{cover, IsLongestCover}
+use Rattle.vc_tree_model.specs.PrefixLaws.{CoverIsLongest, RemovalAndRetentionPart}
 use Rattle.vc_tree_model.proofs.KeyLemmas.{none-some, same-itself, same-flip, same-trans}
 use Rattle.vc_tree_model.proofs.LookupLemmas.{lookup-same}
 
@@ -135,9 +135,7 @@ module _ {K W : Type 0} (cmp : K → K → Ordering) (o : IsTotalOrder cmp) wher
     λ l. longest-covers (lookup cmp t) (lookup-same cmp o t) k l.0 w l.1,
   )
 
-module _ {V W : Type 0} (keeps : V → V → Type 0) (answer : W → Bool) where
+module _ {V W : Type 0} (keeps : V → V → Type 0) (may : W → Bool → Type 0) where
   -- each pair is removed or retained, and never both
-  pub removal-retention : {K : Type 0} (q : List K → Option W) (f left kept : List K → Option V)
-      → IsRemoved keeps (λ w b. b ≡ answer w) q f left → IsRetained keeps (λ w b. b ≡ answer w) q f kept
-      → (k : List K) → IsInOne keeps (f k) (left k) (kept k)
-  removal-retention q f left kept r s k = grind arith
+  pub removal-retention : {K : Type 0} → RemovalAndRetentionPart K V W keeps may
+  removal-retention answer one q f left kept r s k = grind (arith, one)

@@ -1,5 +1,5 @@
--- Calls of the closures that combines ask, as relations between values and answers.
-use Rattle.std.specs.Prelude.{◌≡◌, Option, Some, None, ⊤}
+-- Calls of the closures that combines and tests of covers ask, as relations between values and answers.
+use Rattle.std.specs.Prelude.{◌≡◌, Bool, Option, Some, None, ⊤}
 use Rattle.std.specs.Option.{option_copied}
 use denote.Ref.{Bor}
 use denote.Param.Members.{Shared}
@@ -31,3 +31,15 @@ module _ {V W F R : Type 0} where
     abbrev pub CanAskAt : Option V → Option W → Type 0
     CanAskAt (Some v) w = (p : Bor V) (q : Option (Bor W)) → p.now ≡ v → option_copied q ≡ w → g.pre f (p, (q, tt))
     CanAskAt None w = ⊤
+
+module _ {W F : Type 0} (g : Shared F (Bor W × Unit {0}) Bool) (f : F) where
+  -- it may be called at the value, if there is one
+  abbrev pub CanJudge : Option W → Type 0
+  CanJudge None = ⊤
+  CanJudge (Some w) = (q : Bor W) → q.now ≡ w → g.pre f (q, tt)
+
+  -- a call at the value may answer so
+  pub record MayJudge (w : W) (covered : Bool) : Type 0 where
+    pub shown : Bor W
+    pub shows : shown.now ≡ w
+    pub answers : g.post f (shown, tt) covered

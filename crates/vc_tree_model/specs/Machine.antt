@@ -4,7 +4,9 @@ use Rattle.std.specs.Option.{option_and}
 use Rattle.std.specs.declared.cmp.Ordering.{Ordering}
 use Rattle.vc_tree_model.specs.Key.{same_key}
 use Rattle.vc_tree_model.specs.Tree.{Tree}
-use Rattle.vc_tree_model.specs.Map.{or_else, lookup, IsEqualMap}
+use Rattle.vc_tree_model.specs.Map.{or_else, lookup, IsEqualMap, IsUpdated}
+use Rattle.vc_tree_model.specs.Combine.{IsUnionAt}
+use Rattle.vc_tree_model.specs.Value.{Copies}
 use Rattle.vc_tree_model.specs.Under.{under, prefixed}
 use Rattle.vc_tree_model.specs.Cover.{cover}
 
@@ -27,6 +29,15 @@ unless_some (Some w) o = None
 -- the map that binds no key
 abbrev pub no_map : {K V : Type 0} → List K → Option V
 no_map k = None
+
+module _ {K V : Type 0} (matches : V → V → Type 0)
+    (step : (List K → Option V) → Command K V → Bool → (List K → Option V) → Type 0) where
+  -- each command takes the map before it to the next by such a step, and the last one matches what is left
+  abbrev pub RunBy : (List K → Option V) → List (Command K V) → List Bool → (List K → Option V) → Type 0
+  RunBy m [] [] n = IsEqualMap matches m n
+  RunBy m (c ∷ cs) (ok ∷ oks) n = (next : List K → Option V) × step m c ok next × RunBy next cs oks n
+  RunBy m [] (ok ∷ oks) n = ⊥
+  RunBy m (c ∷ cs) [] n = ⊥
 
 module _ {K V : Type 0} (cmp : K → K → Ordering) where
   -- the map after a command that was accepted
@@ -57,9 +68,19 @@ module _ {K V : Type 0} (cmp : K → K → Ordering) where
     Step m c true n = IsEqualMap matches (after c m) n
     Step m c false n = IsEqualMap matches (refused c m) n
 
-    -- each command takes the map before it to the next
+    -- a run of such steps
     abbrev pub Run : (List K → Option V) → List (Command K V) → List Bool → (List K → Option V) → Type 0
-    Run m [] [] n = IsEqualMap matches m n
-    Run m (c ∷ cs) (ok ∷ oks) n = (next : List K → Option V) × Step m c ok next × Run next cs oks n
-    Run m [] (ok ∷ oks) n = ⊥
-    Run m (c ∷ cs) [] n = ⊥
+    Run = RunBy matches Step
+
+  module _ (keeps is_clone : V → V → Type 0) where
+    -- one command takes the map m to n, and keeps each value that stays: a filter leaves copies, and what a union adds are clones
+    abbrev pub KeptStep : (List K → Option V) → Command K V → Bool → (List K → Option V) → Type 0
+    KeptStep m (insert key v) true n = IsUpdated cmp keeps key v m n
+    KeptStep m (filter p) true n = IsEqualMap (Copies is_clone) (after (filter p) m) n
+    KeptStep m (union t) true n = (k : List K) → IsUnionAt keeps is_clone (m k) (lookup cmp t k) (n k)
+    KeptStep m c true n = IsEqualMap keeps (after c m) n
+    KeptStep m c false n = IsEqualMap keeps (refused c m) n
+
+    -- a run of such steps
+    abbrev pub KeptRun : (List K → Option V) → List (Command K V) → List Bool → (List K → Option V) → Type 0
+    KeptRun = RunBy keeps KeptStep

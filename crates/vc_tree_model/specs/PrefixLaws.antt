@@ -64,9 +64,9 @@ module _ {V : Type 0} (keeps : V → V → Type 0) where
   IsInOne None y z = (y ≡ None) × (z ≡ None)
   IsInOne (Some v) y z = (IsKept keeps (Some v) y × (z ≡ None)) ⊎ ((y ≡ None) × IsKept keeps (Some v) z)
 
--- where the test gives one answer for each value, each pair is removed or retained, and never both
-abbrev pub RemovalAndRetentionPart : (K V W : Type 0) → (V → V → Type 0) → Type 0
-RemovalAndRetentionPart K V W keeps =
-    (answer : W → Bool) (q : List K → Option W) (f left kept : List K → Option V)
-    → IsRemoved keeps (λ w b. b ≡ answer w) q f left → IsRetained keeps (λ w b. b ≡ answer w) q f kept → (k : List K)
-    → IsInOne keeps (f k) (left k) (kept k)
+-- where the test may give one answer for each value, each pair is removed or retained, and never both
+abbrev pub RemovalAndRetentionPart : (K V W : Type 0) → (V → V → Type 0) → (W → Bool → Type 0) → Type 0
+RemovalAndRetentionPart K V W keeps may =
+    (answer : W → Bool) → ((w : W) (b : Bool) → may w b → b ≡ answer w)
+    → (q : List K → Option W) (f left kept : List K → Option V)
+    → IsRemoved keeps may q f left → IsRetained keeps may q f kept → (k : List K) → IsInOne keeps (f k) (left k) (kept k)

@@ -1,9 +1,11 @@
 //! The laws of the definitions that contracts on trees cite.
 //!
 //! Each function does nothing: its contract is the law, for keys of any `Ord` and for any values.
-//! Code that calls one has the law in its proof.
+//! Code that calls one has the law in its proof. A law of closures is handed the closure, by
+//! reference, since its type has no name.
 
 ghost use Rattle.std.specs.Prelude.{◌≡◌, IsTrue};
+ghost use Rattle.vc_tree_model.specs.Asking.{MayJudge};
 ghost use Rattle.vc_tree_model.specs.Matches.{AreCopies};
 ghost use Rattle.vc_tree_model.specs.Value.{Copies};
 ghost use Rattle.vc_tree_model.specs.Laws.{KeysAreOrdered, LeftBehindIsRest, BindsIsLookup, LookupIsMap, CanonicalIsConditions, CanonicalIsUnique, CanonicalIsSmallest, CanonicalIsShallow, WalkListsMap, WalkIsOne, KeyCountIsLength};
@@ -119,8 +121,8 @@ pub fn cover_is_longest<K: Ord, W>()
 
 /// With one tree of prefixes, and a test that gives one answer for each of its values, each pair of
 /// a map is removed or retained, and never both.
-pub fn removal_and_retention_part<K, V, W, M: Matching<V>>()
-    ensures { RemovalAndRetentionPart K V W M.matches }
+pub fn removal_and_retention_part<K, V, W, M: Matching<V>, F: Fn(&W) -> bool>(test: &F)
+    ensures { RemovalAndRetentionPart K V W M.matches (MayJudge F.Fn test.now) }
 {}
 
 /// Two keys that differ may be bound in either order: the maps that are left bind the very same.

@@ -1,9 +1,9 @@
 //! Commands on a tree, and runs of them.
 
-ghost use Rattle.std.specs.Prelude.{◌≡◌, length, map, true, OnOk, OnErr};
+ghost use Rattle.std.specs.Prelude.{◌≡◌, is_ok, length, map, true, OnOk, OnErr};
 ghost use Rattle.vc_trees.specs.Commanded.{command_of};
 ghost use Rattle.vc_tree_model.specs.Canonical.{IsCanonical};
-ghost use Rattle.vc_tree_model.specs.Machine.{Run, after, refused};
+ghost use Rattle.vc_tree_model.specs.Machine.{KeptRun, KeptStep, Run};
 ghost use Rattle.vc_tree_model.specs.Map.{lookup, IsEqualMap};
 ghost use Rattle.vc_tree_model.specs.Matches.{AreCopies};
 ghost use Rattle.vc_tree_model.specs.OneTree.{IsOneTree, IsSmallest};
@@ -50,17 +50,12 @@ fn filter<K: TKey, V: TValue, T: AbstractRadixTreeMut<K, V>>(
 }
 
 /// Does one command on the tree. What the command brought is dropped.
-#[tactic(auto, using(crate::proofs::Obeying::joined_at))]
 fn obey<K: TKey, V: TValue, T: AbstractRadixTreeMut<K, V>>(
     tree: &mut T,
     command: TreeCommand<K, V, T>,
 ) -> Result<(), AllocError>
-    ensures ok { OnOk result (IsEqualMap (Copies V.is_clone)
-        (after K.cmp (command_of T.tree command) (lookup K.cmp (T.tree tree.old)))
-        (lookup K.cmp (T.tree tree.new))) }
-    ensures err { OnErr result (IsEqualMap (Copies V.is_clone)
-        (refused K.cmp (command_of T.tree command) (lookup K.cmp (T.tree tree.old)))
-        (lookup K.cmp (T.tree tree.new))) }
+    ensures kept { KeptStep K.cmp T.keeps V.is_clone (lookup K.cmp (T.tree tree.old))
+        (command_of T.tree command) (is_ok result) (lookup K.cmp (T.tree tree.new)) }
 {
     let admit = |_: &V| -> bool
         ensures { result ≡ true }
@@ -80,9 +75,10 @@ fn obey<K: TKey, V: TValue, T: AbstractRadixTreeMut<K, V>>(
 /// Does the commands on the tree, one after another, and says of each whether it was accepted. One
 /// that is refused does not stop the run.
 ///
-/// A command is refused only where memory is, or the clone of a value: by an insert, a prefix or a
-/// filter the tree then binds what it bound, and by another tree it is empty. What a command
-/// brought is dropped once it was done.
+/// A value that stays is kept, as by the call of that name; a filter alone leaves copies. A command
+/// is refused only where memory is, or the clone of a value: by an insert, a prefix or a filter the
+/// tree then binds what it bound, and by another tree it is empty. What a command brought is dropped
+/// once it was done.
 pub fn run<K: TKey, V: TValue, T: AbstractRadixTreeMut<K, V>>(
     tree: &mut T,
     commands: Vec<TreeCommand<K, V, T>>,
@@ -90,6 +86,8 @@ pub fn run<K: TKey, V: TValue, T: AbstractRadixTreeMut<K, V>>(
 )
     requires { length accepted.old ≡ length commands.items }
     ensures steps { Run K.cmp (Copies V.is_clone) (lookup K.cmp (T.tree tree.old))
+        (map (command_of T.tree) commands.items) accepted.new (lookup K.cmp (T.tree tree.new)) }
+    ensures kept { KeptRun K.cmp T.keeps V.is_clone (lookup K.cmp (T.tree tree.old))
         (map (command_of T.tree) commands.items) accepted.new (lookup K.cmp (T.tree tree.new)) }
     ensures canonical { IsCanonical K.cmp (T.tree tree.new) }
     ensures one { IsOneTree K.cmp (AreCopies V.is_clone) (T.tree tree.new) }

@@ -46,8 +46,8 @@ pub use Rattle.vc_total_sets.specs.TotalOf.{IsPointwise, IsTotalOf, IsTotalOfEit
 pub use Rattle.vc_total_sets.specs.TotalSet.{IsClonedTotal, IsEqualTotal, TotalSet, complement, has, total}
 pub use Rattle.vc_total_sets.specs.TotalTests.{IsTotalDisjoint, IsTotalSubset}
 pub use Rattle.vc_total_sets.specs.Within.{within_by}
-pub use Rattle.vc_tree_edits.specs.Editing.{CanJudge, CanLeave, CanMeet, KeptThen, MayJudge, MayLeave as MayLeaveInTree, OrStays as OrStaysInTree}
-pub use Rattle.vc_tree_model.specs.Asking.{CanAsk, CanAskAt, MayAnswer as MayAnswerOfTree, MayAnswerAt}
+pub use Rattle.vc_tree_edits.specs.Editing.{CanLeave, CanMeet, KeptThen, MayLeave as MayLeaveInTree, OrStays as OrStaysInTree}
+pub use Rattle.vc_tree_model.specs.Asking.{CanAsk, CanAskAt, CanJudge, MayAnswer as MayAnswerOfTree, MayAnswerAt, MayJudge}
 pub use Rattle.vc_tree_model.specs.Binds.{Binds}
 pub use Rattle.vc_tree_model.specs.Combine.{IsCombined as IsTreeCombined, IsDifferenceAt, IsInnerAt, IsIntersectionAt, IsLeftAt, IsOuterAt, IsUnionAt}
 pub use Rattle.vc_tree_model.specs.Cover.{IsLongestCover, IsRemoved, IsRetained as IsTreeRetained, IsVerdict, cover}
@@ -55,7 +55,7 @@ pub use Rattle.vc_tree_model.specs.Depth.{IsShallow, depth, forest_depth}
 pub use Rattle.vc_tree_model.specs.Equal.{same_tree}
 pub use Rattle.vc_tree_model.specs.Key.{BeginsBelow, IsLess, Starts, behind, same_key}
 pub use Rattle.vc_tree_model.specs.KeySets.{AreDisjoint, HasKeysOf, LacksKeyOf, ShareKey}
-pub use Rattle.vc_tree_model.specs.Machine.{Command, Run as TreeRun, Step as TreeStep, after, refused}
+pub use Rattle.vc_tree_model.specs.Machine.{Command, KeptRun, KeptStep, Run as TreeRun, RunBy, Step as TreeStep, after, refused}
 pub use Rattle.vc_tree_model.specs.Map.{HaveEqualMaps, IsEqualMap, IsInserted, IsUpdated, lookup}
 pub use Rattle.vc_tree_model.specs.Matches.{AreCopies, HaveOneSource}
 pub use Rattle.vc_tree_model.specs.OneTree.{IsOneTree, IsSmallest}

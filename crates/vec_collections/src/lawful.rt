@@ -1,4 +1,5 @@
 //! Each law under its own name: one that is exported under another's leaves a clause here unproved.
+ghost use Rattle.vec_collections.specs.Asking.{MayJudge};
 ghost use Rattle.vec_collections.specs.Chain.{allows};
 ghost use Rattle.vec_collections.specs.IntervalLaws.{MembersTellTheTurns, ListedIntervalsHold, IntervalsOfAreOne};
 ghost use Rattle.vec_collections.specs.Join.{ClonedKey};
@@ -142,19 +143,19 @@ pub fn of_trees<K: Ord, V: PartialEq + Clone>()
 }
 
 /// The laws of prefixes, of covers, of insertions and of the machine.
-pub fn of_prefixes<K: Ord, V: Clone, W>()
+pub fn of_prefixes<K: Ord, V: Clone, W, F: Fn(&W) -> bool>(test: &F)
     ensures under { WalkUnder K V K.cmp }
     ensures prefixed { WalkPrefixed K V K.cmp }
     ensures filtered { WalkIsFiltered K V K.cmp (Copies V.is_clone) }
     ensures longest { CoverIsLongest K W K.cmp }
-    ensures parts { RemovalAndRetentionPart K V W (Copies V.is_clone) }
+    ensures parts { RemovalAndRetentionPart K V W (Copies V.is_clone) (MayJudge F.Fn test.now) }
     ensures inserts { InsertsCommute K V K.cmp }
     ensures runs { RunIsFunction K V K.cmp V.is_clone }
 {
     walks_by_prefix::<K, V>();
     walk_is_filtered::<K, V, ByClone>();
     cover_is_longest::<K, W>();
-    removal_and_retention_part::<K, V, W, ByClone>();
+    removal_and_retention_part::<K, V, W, ByClone, F>(test);
     inserts_commute::<K, V>();
     run_is_function::<K, V>();
 }

@@ -41,8 +41,11 @@ use vc_tree_walks::{counting, ends, folding, walks};
 pub trait AbstractRadixTree<K: TKey, V: TValue>: RadixNode<K, V> {
     /// Whether the tree binds no key. Takes no memory.
     final fn is_empty(&self) -> bool
-        ensures { result ≡ is_bare (Self.tree self.now) }
+        ensures bare { result ≡ is_bare (Self.tree self.now) }
+        ensures keys { let f = lookup K.cmp (Self.tree self.now) in
+            MatchBool result ((k : List K) → f k ≡ None) ((k : List K) × IsSome (f k)) }
     {
+        reading::canonical(self);
         reading::is_empty(self)
     }
 
@@ -202,7 +205,8 @@ pub trait AbstractRadixTree<K: TKey, V: TValue>: RadixNode<K, V> {
     }
 
     /// The pairs of the tree whose keys start with the prefix, by ascending keys, each with its
-    /// whole key. Takes no memory; a step may, for its key.
+    /// whole key. The part of each key before the node's own prefix is spelled as in `prefix`. Takes
+    /// no memory; a step may, for its key.
     ///
     /// Goes down to the node below which these keys stand, as `get` does.
     final fn scan_prefix<'a>(&'a self, prefix: &'a [K]) -> Iter<'a, K, V, Self>
@@ -249,8 +253,9 @@ pub trait AbstractRadixTree<K: TKey, V: TValue>: RadixNode<K, V> {
     }
 
     /// The same with the pairs of the tree whose keys start with the prefix, each with its whole
-    /// key. Goes down to the node below which these keys stand, as `get` does. Where no key starts
-    /// so, `init` is answered, and no memory is asked for.
+    /// key. Goes down to the node below which these keys stand, as `get` does. The part of each key
+    /// before the node's own prefix is spelled as in `prefix`. Where no key starts so, `init` is
+    /// answered, and no memory is asked for.
     final fn fold_prefix<B: Drop, E: From<AllocError>, F: Fn(B, &[K], &V) -> Result<B, E> + Drop>(
         &self,
         prefix: &[K],

@@ -3,6 +3,7 @@
 ghost use Rattle.std.specs.Prelude.{◌≡◌, ◌≤◌, List, [], None, Ok, Some, length, IfOk, IsOk, OnOk};
 ghost use Rattle.std.specs.Prelude.{MatchOption, OnErr};
 ghost use Rattle.vc_tree_model.specs.Tree.{made, no_tree};
+ghost use Rattle.vc_tree_model.specs.Asking.{CanJudge, MayJudge};
 ghost use Rattle.vc_tree_model.specs.Combine.{IsCombined, IsInnerAt, IsLeftAt, IsOuterAt};
 ghost use Rattle.vc_tree_model.specs.Combine.{IsUnionAt, IsIntersectionAt, IsDifferenceAt};
 ghost use Rattle.vc_tree_model.specs.Cover.{IsRemoved, IsRetained};
@@ -14,7 +15,6 @@ ghost use Rattle.vc_tree_model.specs.Under.{prefixed, under};
 ghost use Rattle.vc_tree_removal.specs.Changing.{CanChange, CanWrite, MayWrite, IsChanged};
 ghost use Rattle.vc_tree_removal.specs.Without.{AllBegin, IsWithout, IsWithoutBelow};
 ghost use Rattle.vc_tree_edits.specs.Editing.{MayLeave, CanLeave, KeptThen, CanMeet, OrStays};
-ghost use Rattle.vc_tree_edits.specs.Editing.{CanJudge, MayJudge};
 
 use crate::radix_tree::reading::AbstractRadixTree;
 use std::alloc::{AllocError, Global};

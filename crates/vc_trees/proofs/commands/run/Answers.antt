@@ -8,8 +8,9 @@ use Rattle.vc_tree_model.proofs.Uniqueness.{canonical-one}
 use Rattle.vc_tree_model.proofs.Smallness.{canonical-smallest}
 use Rattle.vc_tree_model.specs.Snapshot.{kept_itself}
 use Rattle.vc_tree_model.specs.Matches.{AreCopies}
-use Rattle.vc_tree_model.specs.Value.{Copies, itself}
-use Rattle.vc_trees.proofs.Chaining.{stepped, leads-turn, leads-through}
+use Rattle.vc_tree_model.specs.Machine.{KeptStep}
+use Rattle.vc_trees.proofs.Chaining.{leads-turn, leads-through}
+use Rattle.vc_trees.proofs.Obeying.{run-copied}
 use Rattle.vc_trees.specs.Commanded.{command_of}
 use Rattle.vc_trees.proofs.commands.run.Goals as goal
 
@@ -28,24 +29,25 @@ loop-at-preserved g c =
     let start = lookup g.K.Ord.cmp (g.T.RadixNode.tree c.args.tree.now) in
     let before = lookup g.K.Ord.cmp (g.T.RadixNode.tree c.loop-at.tree) in
     let after = lookup g.K.Ord.cmp (g.T.RadixNode.tree c.obey.new.tree) in
-    let step =
-    stepped g.K.Ord.cmp (Copies g.V.Clone.is_clone) before after (command_of g.T.RadixNode.tree c.in-Some.command) c.obey.result
-    c.obey.ensures.ok c.obey.ensures.err in
-    leads-turn g.K.Ord.cmp (Copies g.V.Clone.is_clone) (command_of g.T.RadixNode.tree) start before after c.loop-at.yielded
-    c.in-Some.at c.in-Some.command c.loop-at.accepted c.is_ok.result place inside c.loop-at.invariant
-    (rw c.is_ok.ensures.value step)
+    leads-turn g.T.Build.keeps (KeptStep g.K.Ord.cmp g.T.Build.keeps g.V.Clone.is_clone) (command_of g.T.RadixNode.tree)
+    start before after c.loop-at.yielded c.in-Some.at c.in-Some.command c.loop-at.accepted c.is_ok.result place inside
+    c.loop-at.invariant (rw c.is_ok.ensures.value c.obey.ensures.kept)
 
-pub returns-clause-steps : goal.returns-clause-steps
-returns-clause-steps g c =
+pub returns-clause-kept : goal.returns-clause-kept
+returns-clause-kept g c =
     let end =
     YieldsList-end (YieldsList-from_enumerate (YieldsList-from_vec c.args.commands.items (cc) (cc)) (cc)) c.loop-at.yielded
     c.loop-at.at-iterator c.loop-at.yielded_by c.next.result c.next.new.self c.in-None.is c.next.ensures.steps in
     let flags : length c.loop-at.accepted ≡ length c.args.commands.items = search rules in
     let all = end.1 ∙ length-enumerate_from 0 c.args.commands.items in
-    leads-through g.K.Ord.cmp (Copies g.V.Clone.is_clone)
+    leads-through g.T.Build.keeps (KeptStep g.K.Ord.cmp g.T.Build.keeps g.V.Clone.is_clone)
     (command_of g.T.RadixNode.tree) _ _ c.args.commands.items c.loop-at.yielded
     c.loop-at.accepted end.0 (omega (arith, flags, all)) c.loop-at.invariant
-    (λ k. kept_itself (Copies g.V.Clone.is_clone) (λ v. itself) _)
+    (λ k. kept_itself g.T.Build.keeps g.met.T.Build.keeps_refl _)
+
+pub returns-clause-steps : goal.returns-clause-steps
+returns-clause-steps g c =
+    run-copied g.K.Ord.cmp g.T.Build.keeps g.V.Clone.is_clone g.met.T.Build.keeps_copies _ _ _ _ (returns-clause-kept g c)
 
 pub returns-clause-one : goal.returns-clause-one
 returns-clause-one g c =
