@@ -33,6 +33,7 @@ use Rattle.definition_tests.proofs.Closures.{closure, ref}
 use Rattle.definition_tests.proofs.Digits.{same, not_true}
 use Rattle.definition_tests.proofs.Letters.{Letter, a, b, by_letter, each_key, leaf, a_and_ab}
 use Rattle.vc_tree_removal.specs.Without.{AllBegin, IsWithout, IsWithoutBelow}
+use Rattle.vc_tree_walks.specs.Bounds.{above, below, not_below}
 use Rattle.vc_tree_walks.specs.Ends.{IsGreatestPair, IsLeastPair}
 use Rattle.vc_tree_walks.specs.Folding.{IsStopped, TurnFails}
 
@@ -242,6 +243,19 @@ is_least_pair = record {
   least = each_key _ (λ s. not_true s) (λ s e. cc) (λ k s. not_true s) (λ s e. cc) (λ y k s. not_true s) (λ s. not_true s)
       (λ y k s. not_true s);
 }
+
+-- above a there is ab alone, below ab there is a alone, and from a on there are both
+above_a : (above by_letter (lookup by_letter (a_and_ab 1 2)) (a ∷ []) (a ∷ b ∷ []) ≡ Some 2)
+    × (above by_letter (lookup by_letter (a_and_ab 1 2)) (a ∷ []) (a ∷ []) ≡ None)
+above_a = (refl, refl)
+
+below_ab : (below by_letter (lookup by_letter (a_and_ab 1 2)) (a ∷ b ∷ []) (a ∷ []) ≡ Some 1)
+    × (below by_letter (lookup by_letter (a_and_ab 1 2)) (a ∷ b ∷ []) (a ∷ b ∷ []) ≡ None)
+below_ab = (refl, refl)
+
+not_below_a : (not_below by_letter (lookup by_letter (a_and_ab 1 2)) (a ∷ []) (a ∷ []) ≡ Some 1)
+    × (not_below by_letter (lookup by_letter (a_and_ab 1 2)) (a ∷ []) (a ∷ b ∷ []) ≡ Some 2)
+not_below_a = (refl, refl)
 
 is_greatest_pair : IsGreatestPair {V = ℕ} by_letter (lookup by_letter (a_and_ab 1 2)) (a ∷ b ∷ [], 2)
 is_greatest_pair = record {

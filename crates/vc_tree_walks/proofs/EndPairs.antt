@@ -2,7 +2,7 @@
 --     walk-begun        the walk of a solid tree has a first pair
 --     first-below, last-below        where the node has no such child, the pair is its own, and else below that child
 --     least-is, greatest-is        by the walk of a map the first pair has the least key, and the last one the greatest
---     reaches-itself, reaches-child, reaches-own        the way down to the pair
+--     reaches-itself, reaches-child, reaches-own, reaches-key        the way down to the pair
 --     longer, within, own-sized        how many components are counted on it
 --     first-empty        where the empty key is bound, it is the first
 use Rattle.std.proofs.Common.{◌≡◌, ℕ, suc, ◌+◌, ◌-◌, ◌^◌, ◌≤◌, [], ◌∷◌, ◌++◌, List, Option, None, Some, refl, sym, ap}
@@ -16,7 +16,7 @@ use Rattle.std.specs.List.Sorted.{IsStrictlySortedBy}
 use Rattle.std.specs.Map.{keys_of}
 use Rattle.std.specs.Borrow.{Bor}
 use Rattle.std.specs.Option.{option_copied, option_map}
-use Rattle.std.specs.Prelude.{◌≢◌, IfOk, IsSome, MatchOption, Result, slice_get}
+use Rattle.std.specs.Prelude.{◌≢◌, IfOk, IfSome, IsSome, MatchOption, Result, slice_get}
 use Rattle.std.specs.declared.cmp.Ordering.{Ordering}
 use Rattle.std.specs.declared.cmp.Ordering.TheVariants.{Less, Equal, Greater}
 use Rattle.vc_tree_model.specs.Canonical.{AreChildren, IsSolid}
@@ -51,11 +51,11 @@ last-append (y ∷ z ∷ l) x m = grind (arith, last-append (z ∷ l) x m)
 last-append l x m = grind arith
 
 -- a list that is not empty has one
-last-some : {X A : Type 0} (x : X) (l : List X) → last_of (x ∷ l) ≡ None → A
+pub last-some : {X A : Type 0} (x : X) (l : List X) → last_of (x ∷ l) ≡ None → A
 last-some x [] e = grind arith
 last-some x (y ∷ l) e = last-some y l e
 
-last-map : {X Y : Type 0} (f : X → Y) (l : List X) → last_of (map f l) ≡ option_map f (last_of l)
+pub last-map : {X Y : Type 0} (f : X → Y) (l : List X) → last_of (map f l) ≡ option_map f (last_of l)
 last-map f (x ∷ y ∷ l) = grind (arith, last-map f (y ∷ l))
 last-map f l = grind arith
 
@@ -95,18 +95,18 @@ module _ {K V : Type 0} where
 
   module _ (cmp : K → K → Ordering) (o : IsTotalOrder cmp) {T : Type 0} (tree : T → Tree K V) where
     -- a child is solid, over canonical children
-    head-solid : (p : List K) (v : Option V) (kids rest : Forest K V) → AreChildren cmp (grow p v kids rest)
+    pub head-solid : (p : List K) (v : Option V) (kids rest : Forest K V) → AreChildren cmp (grow p v kids rest)
         → IsSolid v kids × AreChildren cmp kids
     head-solid p v kids rest a = grind arith
 
     -- the walk of a list of trees ends with that of the last one
-    record EndsWith (f : Forest K V) (c : Tree K V) : Type 0 where
+    pub record EndsWith (f : Forest K V) (c : Tree K V) : Type 0 where
       pub front : List (List K × V)
       pub is : walk_in f ≡ front ++ walk c
       pub fewer : nodes c ≤ forest_nodes f
       pub begun : IsBegun (walk c)
 
-    ends-with : (xs : List T) (c : T) → last_of xs ≡ Some c → AreChildren cmp (forest (map tree xs))
+    pub ends-with : (xs : List T) (c : T) → last_of xs ≡ Some c → AreChildren cmp (forest (map tree xs))
         → EndsWith (forest (map tree xs)) (tree c)
     ends-with [] c e a = none-some c e
     ends-with (x ∷ []) c e a =
@@ -165,7 +165,7 @@ module _ {K V : Type 0} where
 -- ---- the least and the greatest key
 
 -- equal keys are neither less nor greater
-tied : {K : Type 0} (cmp : K → K → Ordering) (j k : List K) → same_key cmp j k ≡ true → slice_cmp cmp j k ≡ Equal
+pub tied : {K : Type 0} (cmp : K → K → Ordering) (j k : List K) → same_key cmp j k ≡ true → slice_cmp cmp j k ≡ Equal
 tied cmp j k h = grind (arith, same-slice_cmp)
 
 module _ {K V : Type 0} (cmp : K → K → Ordering) (o : IsTotalOrder cmp) where
@@ -228,7 +228,7 @@ module _ {K V : Type 0} (cmp : K → K → Ordering) (o : IsTotalOrder cmp) wher
 
     module _ {X : Type 0} (view : X → List K × V) where
       -- the first pair has the least key
-      least-of : (l : List (List K × V)) → IsWalk cmp f l → (r : Option X) → option_map view r ≡ slice_get l 0
+      pub least-of : (l : List (List K × V)) → IsWalk cmp f l → (r : Option X) → option_map view r ≡ slice_get l 0
           → MatchOption r ((k : List K) → f k ≡ None) (λ x. IsLeastPair cmp f (view x))
       least-of [] w None e = none-bound w
       least-of [] w (Some x) e = none-some (view x) (sym e)
@@ -242,7 +242,7 @@ module _ {K V : Type 0} (cmp : K → K → Ordering) (o : IsTotalOrder cmp) wher
           })
 
       -- the last one has the greatest
-      greatest-of : (l : List (List K × V)) → IsWalk cmp f l → (r : Option X)
+      pub greatest-of : (l : List (List K × V)) → IsWalk cmp f l → (r : Option X)
           → option_map view r ≡ slice_get l (length l - 1)
           → MatchOption r ((k : List K) → f k ≡ None) (λ x. IsGreatestPair cmp f (view x))
       greatest-of [] w None e = none-bound w
@@ -274,7 +274,7 @@ module _ {K V : Type 0} (end : End) where
     pub key_is : key ≡ front ++ n.prefix
     pub pair : end_of end (walk t) ≡ option_map (prepended front) (end_of end (walk n))
 
-  prepended-twice : (a p : List K) (o : Option (List K × V))
+  pub prepended-twice : (a p : List K) (o : Option (List K × V))
       → option_map (prepended a) (option_map (prepended p) o) ≡ option_map (prepended (a ++ p)) o
   prepended-twice a p o = grind (arith, append_assoc)
 
@@ -287,6 +287,11 @@ module _ {K V : Type 0} (end : End) where
   pub reaches-own : (t n : Tree K V) (key : List K) → Reaches t n key → end_of end (walk n) ≡ own_end n.prefix n.value
       → end_of end (walk t) ≡ own_end key n.value
   reaches-own t n key r e = grind arith
+
+  -- so the key of the pair is that one, where it is put behind others
+  pub reaches-key : (t n : Tree K V) (key : List K) → Reaches t n key → end_of end (walk n) ≡ own_end n.prefix n.value
+      → (old whole : List K) → whole ≡ old ++ key → IfSome (end_of end (walk t)) (λ b. whole ≡ old ++ b.0)
+  reaches-key t n key r e old whole w = grind (arith, reaches-own)
 
 -- a number that stops at the most, of a list with more behind it
 pub longer : {K : Type 0} (key more : List K) (count most : ℕ) → count ≡ min (length key) most
@@ -309,3 +314,9 @@ pub first-empty : {K V : Type 0} (cmp : K → K → Ordering) (p : List K) (v : 
 first-empty cmp [] (Some w) f s = (w, refl)
 first-empty cmp [] None f s = grind arith
 first-empty cmp (y ∷ p) v f s = grind arith
+
+-- no component before a key
+pub unprepended : {K V X E : Type 0} (view : X → List K × V) (p : Option (List K × V)) (r : Result (Option X) E)
+    → IfOk r (λ found. option_map view found ≡ option_map (prepended []) p) → IfOk r (λ found. option_map view found ≡ p)
+unprepended view None r h = h
+unprepended view (Some b) r h = h

@@ -1,11 +1,13 @@
 -- The tree of the keys that start with a prefix, by the walk of these keys.
 --     nothing-listed, nothing-below, filtered-none, filtered-bare        no key starts so
 --     bound-below        what the node binds that they stand below
---     bare-walk, something-below        a node that is the empty tree has no pair, and any other has some
+--     bare-walk, some-below, something-below        a node that is the empty tree has no pair, and any other has some
+--     told-below        so the one test tells whether some key starts so
 --     filtered        a copy of the node that they stand below, with what stands before it
 --     copy-solid        such a copy is solid
 use Rattle.std.proofs.Common.{◌≡◌, [], ◌++◌, List, Option, None, Some, true, false, Result, IfOk, arith}
-use Rattle.std.proofs.Common.{ap, refl, sym, ◌∙◌, map, true≢false}
+use Rattle.std.proofs.Common.{ap, refl, sym, ◌∙◌, map, true≢false, Bool, not, is_some}
+use Rattle.std.specs.Prelude.{IsSome, MatchBool}
 use Rattle.std.specs.Cmp.{IsTotalOrder}
 use Rattle.std.specs.Option.{option_and_then}
 use Rattle.std.specs.declared.cmp.Ordering.{Ordering}
@@ -74,12 +76,22 @@ module _ {K V : Type 0} (cmp : K → K → Ordering) (o : IsTotalOrder cmp) wher
       nothing-below b k = grind (arith, bound-below, lacks_both, node_lookup, lookup_in, true≢false, option_and_then)
 
       -- any other node binds a key
-      pub something-below : {X : Type 0} → is_bare t ≡ false → ((k : List K) → under cmp f p k ≡ None) → X
-      something-below b n =
+      pub some-below : is_bare t ≡ false → (k : List K) × IsSome (under cmp f p k)
+      some-below b =
           let bound = tree-bound cmp o t.prefix t.value t.children (not-bare_solid t c.0 b) c.1 in
           let k = front ++ (t.prefix ++ bound.key) in
-          none-some _ (sym (n k) ∙ bound-below k
-          ∙ ap (option_and_then (lookup cmp t)) (behind-itself cmp o front (t.prefix ++ bound.key)) ∙ bound.is)
+          let is : under cmp f p k ≡ Some bound.value = bound-below k
+          ∙ ap (option_and_then (lookup cmp t)) (behind-itself cmp o front (t.prefix ++ bound.key)) ∙ bound.is in
+          (k, ap is_some is)
+
+      pub something-below : {X : Type 0} → is_bare t ≡ false → ((k : List K) → under cmp f p k ≡ None) → X
+      something-below b n = let some = some-below b in absurd (true≢false (sym some.1 ∙ ap is_some (n some.0)))
+
+      -- so whether it is the empty tree tells whether some key starts so
+      pub told-below : (b : Bool) → b ≡ is_bare t
+          → MatchBool (not b) ((k : List K) × IsSome (under cmp f p k)) ((k : List K) → under cmp f p k ≡ None)
+      told-below true e = nothing-below (sym e)
+      told-below false e = some-below (sym e)
 
       pub filtered-bare : (u : Tree K V) → u ≡ no_tree → is_bare t ≡ true → IsEqualMap keeps (under cmp f p) (lookup cmp u)
       filtered-bare u e b = none-kept u e (nothing-below b)

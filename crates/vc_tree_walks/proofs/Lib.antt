@@ -7,3 +7,9 @@ pub mod Filtered
 pub mod KeyCounts
 pub mod EndPairs
 pub mod Folds
+pub mod Standings
+pub mod Bounded
+pub mod Going
+pub mod Besides
+pub mod Sought
+pub mod WalkingFrom

@@ -1,5 +1,5 @@
 -- Walks that hand a value from pair to pair.
-use Rattle.std.specs.Prelude.{◌≡◌, List, [], ◌∷◌, ◌++◌, map, Ok, Err, IfOk, ⊤}
+use Rattle.std.specs.Prelude.{◌≡◌, List, [], ◌∷◌, ◌++◌, map, Ok, Err, IfOk}
 use Rattle.std.proofs.Common.{subst, sym}
 use Rattle.std.specs.List.{fold, FoldsTo}
 use Rattle.std.specs.declared.result.Result.{Result}

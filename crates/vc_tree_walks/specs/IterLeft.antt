@@ -44,6 +44,11 @@ module _ {K V T : Type 0} (tree : T → Tree K V) where
         | Some from ↦ pairs_from (Some from)
       ]
 
+  -- the pairs of a whole tree, or those that are left with a row in the place of the innermost one
+  abbrev pub pairs_with : Iter K V T → T → Option (Bor (List T)) → List (List K × V)
+  pairs_with s t None = map (prepended []) (walk (tree t))
+  pairs_with s t (Some row) = rows_left s.key ((seen tree row.now, s.row.base) ∷ map row_of (reverse s.above.items))
+
   -- how many steps the iterator takes at most
   abbrev pub work_left : Iter K V T → ℕ
   work_left s =

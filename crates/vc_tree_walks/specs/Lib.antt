@@ -5,3 +5,6 @@ pub mod OwnedLeft
 pub mod Ends
 pub mod Towards
 pub mod Folding
+pub mod Bounds
+pub mod Standing
+pub mod Beside

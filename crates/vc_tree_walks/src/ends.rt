@@ -1,11 +1,11 @@
 //! The first and the last pair of a tree.
 
-ghost use Rattle.std.specs.Prelude.{◌≡◌, ◌-◌, IfOk, IfSome, IsOk, IsSome, List, MatchOption, Ok};
-ghost use Rattle.std.specs.Prelude.{None, [], Some, length, slice_get, true};
+ghost use Rattle.std.specs.Prelude.{◌≡◌, ◌-◌, ◌++◌, IfOk, IfSome, IsOk, IsSome, List, MatchOption};
+ghost use Rattle.std.specs.Prelude.{None, [], Ok, OnOk, Some, length, slice_get, true};
 ghost use Rattle.std.specs.Option.{option_map};
 ghost use Rattle.vc_tree_model.specs.Map.{lookup};
 ghost use Rattle.vc_tree_model.specs.Tree.{is_bare};
-ghost use Rattle.vc_tree_model.specs.Walk.{walk};
+ghost use Rattle.vc_tree_model.specs.Walk.{prepended, walk};
 ghost use Rattle.vc_tree_walks.specs.Ends.{IsLeastPair, IsGreatestPair};
 ghost use Rattle.vc_tree_walks.specs.Towards.{IsTowards, end_of, own_end, sized_pair};
 
@@ -25,7 +25,7 @@ pub fn first_key_value<'a, K: TKey, V: TValue, T: RadixNode<K, V>>(
     ensures empty_key { IsSome (lookup K.cmp (T.tree tree.now) []) → IsOk result }
 {
     canonical(tree);
-    key_value_at(tree, End::First)
+    key_value_behind(&[], tree, End::First)
 }
 
 /// The pair with the greatest key of the tree.
@@ -41,35 +41,41 @@ pub fn last_key_value<'a, K: TKey, V: TValue, T: RadixNode<K, V>>(
     ensures none { is_bare (T.tree tree.now) ≡ true → result ≡ Ok None }
 {
     canonical(tree);
-    key_value_at(tree, End::Last)
+    key_value_behind(&[], tree, End::Last)
 }
 
 /// An end of the keys of a tree.
 #[derive(Clone, Copy)]
-enum End {
+pub(crate) enum End {
     /// Where the least key stands.
     First,
     /// Where the greatest key stands.
     Last,
 }
 
-/// The pair at an end. Asks for the memory of its key once, and for none where the key is empty.
-fn key_value_at<'a, K: TKey, V: TValue, T: RadixNode<K, V>>(
+/// The pair at an end, with what stands before its key. Asks for the memory of its key once, and
+/// for none where the key is empty.
+pub(crate) fn key_value_behind<'a, K: TKey, V: TValue, T: RadixNode<K, V>>(
+    front: &[K],
     tree: &'a T,
     end: End,
 ) -> Result<Option<(Vec<K>, &'a V)>, AllocError>
     ensures pair { IfOk result (λ found. option_map (λ b. (b.0.items, b.1.now)) found
-        ≡ end_of end (walk (T.tree tree.now))) }
+        ≡ option_map (prepended front.now) (end_of end (walk (T.tree tree.now)))) }
     ensures none { end_of end (walk (T.tree tree.now)) ≡ None → result ≡ Ok None }
-    ensures empty_key { (v : V) → end_of end (walk (T.tree tree.now)) ≡ Some ([], v) → IsOk result }
+    ensures empty_key { (v : V) → front.now ≡ []
+        → end_of end (walk (T.tree tree.now)) ≡ Some ([], v) → IsOk result }
 {
     let Some((length, value)) = value_at(tree, end) else {
         return Ok(None);
     };
-    if length == 0 {
+    let whole = front.len().saturating_add(length);
+    if whole == 0 {
         return Ok(Some((Vec::new(tree.allocator()), value)));
     }
-    let key = key_at(tree, end, length)?;
+    let mut key = Vec::with_capacity(tree.allocator(), whole)?;
+    key.extend_from_slice(front)?;
+    push_key(tree, end, &mut key)?;
     Ok(Some((key, value)))
 }
 
@@ -110,21 +116,20 @@ fn value_at<'a, K: TKey, V: TValue, T: RadixNode<K, V>>(
     }
 }
 
-/// The key of the pair at an end, in a list with room for so many components.
-fn key_at<K: TKey, V: TValue, T: RadixNode<K, V>>(
+/// Puts the key of the pair at an end behind other components.
+fn push_key<K: TKey, V: TValue, T: RadixNode<K, V>>(
     tree: &T,
     end: End,
-    room: usize,
-) -> Result<Vec<K>, AllocError>
-    ensures { IfOk result (λ key. IfSome (end_of end (walk (T.tree tree.now)))
-        (λ b. key.items ≡ b.0)) }
+    key: &mut Vec<K>,
+) -> Result<(), AllocError>
+    ensures { OnOk result (IfSome (end_of end (walk (T.tree tree.now)))
+        (λ b. key.new.items ≡ key.old.items ++ b.0)) }
 {
-    let mut key = Vec::with_capacity(tree.allocator(), room)?;
     let mut node = tree;
     key.extend_from_slice(node.prefix())?;
     while let Some(child) = child_towards(node, end) {
         node = child;
         key.extend_from_slice(node.prefix())?;
     }
-    Ok(key)
+    Ok(())
 }

@@ -6,6 +6,8 @@ ghost use Rattle.vc_tree_walks.specs.Left.{pair_at, rows_left, rows_work};
 ghost use Rattle.vc_tree_walks.specs.IterLeft.{pairs_from, pairs_left, work_left, rows_of};
 ghost use Rattle.vc_tree_walks.specs.IterLeft.{rows_before, IsItem, IsTurn};
 
+mod seek;
+
 use crate::key::IterKey;
 use crate::turn::Turn;
 use std::alloc::{AllocError, Global};
@@ -67,7 +69,11 @@ fn item<'a, K: Drop, V>(
 impl<'a, K: TKey, V: TValue, T: RadixNode<K, V>> Iter<'a, K, V, T> {
     /// The pairs of a tree, with what stands before its keys, or no pair. Takes no memory.
     pub(crate) fn new(alloc: Global, start: Option<(&'a [K], &'a T)>) -> Self
-        ensures { pairs_left T.tree result ≡ pairs_from T.tree start.entry }
+        ensures pairs { pairs_left T.tree result ≡ pairs_from T.tree start.entry }
+        ensures start { result.start ≡ start.entry }
+        ensures key { result.key ≡ [] }
+        ensures base { result.row.base ≡ 0 }
+        ensures rows { rows_left result.key (rows_of T.tree result.row result.above.items) ≡ [] }
     {
         Iter {
             alloc,

@@ -3,6 +3,7 @@
 //! of the keys under a prefix. For the crates above; the calls that users make stand in `vc_trees`.
 #![tactic(auto)]
 
+pub mod beside;
 pub mod counting;
 pub mod ends;
 pub mod filtering;
@@ -11,6 +12,7 @@ pub mod iter;
 pub mod key;
 pub mod owned;
 pub mod scan;
+mod seeking;
 mod turn;
 pub mod values;
 pub mod walks;

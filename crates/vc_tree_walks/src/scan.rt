@@ -1,5 +1,6 @@
 //! The part of a tree that a prefix leads to.
 
+ghost use Rattle.std.specs.Prelude.{◌≡◌, IsSome, List, MatchBool, None};
 ghost use Rattle.vc_tree_model.specs.Map.{lookup};
 ghost use Rattle.vc_tree_model.specs.Under.{under};
 ghost use Rattle.vc_tree_model.specs.Walk.{IsWalk};
@@ -8,7 +9,7 @@ ghost use Rattle.vc_tree_walks.specs.IterLeft.{pairs_from};
 use vc_merge::merge::Uncounted;
 use vc_tree_nodes::parting::{Parting, find_parting};
 use vc_tree_nodes::places::child_at;
-use vc_tree_nodes::reading::{RadixNode, TKey, TValue};
+use vc_tree_nodes::reading::{RadixNode, TKey, TValue, canonical, is_empty};
 
 /// The node below which all keys of the tree stand that start with the prefix, and the part of the
 /// prefix that stands before the node's own. None where no key starts so.
@@ -38,4 +39,16 @@ pub fn find_under<'a, K: TKey, V: TValue, T: RadixNode<K, V>>(
         used += here.len();
         known = 1;
     }
+}
+
+/// Whether some key of the tree starts with the prefix.
+pub fn contains_prefix<K: TKey, V: TValue, T: RadixNode<K, V>>(tree: &T, prefix: &[K]) -> bool
+    ensures { let f = under K.cmp (lookup K.cmp (T.tree tree.now)) prefix.now in
+        MatchBool result ((k : List K) × IsSome (f k)) ((k : List K) → f k ≡ None) }
+{
+    let Some((_, node)) = find_under(tree, prefix) else {
+        return false;
+    };
+    canonical(node);
+    !is_empty(node)
 }

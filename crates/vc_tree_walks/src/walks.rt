@@ -1,9 +1,10 @@
 //! The walks of a tree: of all pairs, of those under a prefix, and of the values.
 
-ghost use Rattle.std.specs.Prelude.{◌≡◌, map};
+ghost use Rattle.std.specs.Prelude.{◌≡◌, IfOk, map};
 ghost use Rattle.vc_tree_model.specs.Map.{lookup};
 ghost use Rattle.vc_tree_model.specs.Under.{under};
 ghost use Rattle.vc_tree_model.specs.Walk.{IsWalk, walk};
+ghost use Rattle.vc_tree_walks.specs.Bounds.{not_below};
 ghost use Rattle.vc_tree_walks.specs.IterLeft.{pairs_left};
 ghost use Rattle.vc_tree_walks.specs.OwnedLeft.{held_left};
 ghost use Rattle.vc_tree_walks.specs.ValuesLeft.{values_left};
@@ -12,6 +13,7 @@ use crate::iter::Iter;
 use crate::owned::ObjAndIter;
 use crate::scan::find_under;
 use crate::values::Values;
+use std::alloc::AllocError;
 use vc_tree_nodes::reading::{RadixNode, TKey, TValue, canonical};
 
 /// All pairs of the tree.
@@ -32,6 +34,17 @@ pub fn scan_prefix<'a, K: TKey, V: TValue, T: RadixNode<K, V>>(
         (pairs_left T.tree result) }
 {
     Iter::new(tree.allocator(), find_under(tree, prefix))
+}
+
+/// The pairs of the tree whose keys do not come before the key.
+pub fn iter_from<'a, K: TKey, V: TValue, T: RadixNode<K, V>>(
+    tree: &'a T,
+    key: &[K],
+) -> Result<Iter<'a, K, V, T>, AllocError>
+    ensures { IfOk result (λ walk. IsWalk K.cmp
+        (not_below K.cmp (lookup K.cmp (T.tree tree.now)) key.now) (pairs_left T.tree walk)) }
+{
+    Iter::seek(tree, key)
 }
 
 /// The values of the tree.

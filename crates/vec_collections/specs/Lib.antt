@@ -90,6 +90,7 @@ pub use Rattle.vc_tree_model.specs.Walk
 pub use Rattle.vc_tree_nodes.specs.Children
 pub use Rattle.vc_tree_removal.specs.Changing
 pub use Rattle.vc_tree_removal.specs.Without
+pub use Rattle.vc_tree_walks.specs.Bounds
 pub use Rattle.vc_tree_walks.specs.Ends
 pub use Rattle.vc_tree_walks.specs.Folding
 pub use Rattle.vc_tree_walks.specs.IterLeft

@@ -71,6 +71,7 @@ pub use Rattle.vc_tree_model.specs.Walk.{IsWalk, walk}
 pub use Rattle.vc_tree_nodes.specs.Children.{seen as seen_children}
 pub use Rattle.vc_tree_removal.specs.Changing.{CanChange, CanWrite, ComesOf, IsChanged, MayWrite}
 pub use Rattle.vc_tree_removal.specs.Without.{AllBegin, IsWithout, IsWithoutAll, IsWithoutBelow}
+pub use Rattle.vc_tree_walks.specs.Bounds.{above, below, not_below}
 pub use Rattle.vc_tree_walks.specs.Ends.{IsGreatestPair, IsLeastPair}
 pub use Rattle.vc_tree_walks.specs.Folding.{CanFold, IsStopped, TurnFails, Turns}
 pub use Rattle.vc_tree_walks.specs.IterLeft.{pairs_left as tree_pairs_left, work_left}

@@ -18,6 +18,7 @@ ghost use Rattle.vc_tree_model.specs.Same.{IsAlike};
 ghost use Rattle.vc_tree_model.specs.Shortened.{weight, IsShortened};
 ghost use Rattle.vc_tree_model.specs.Under.{under};
 ghost use Rattle.vc_tree_model.specs.Walk.{IsWalk, walk};
+ghost use Rattle.vc_tree_walks.specs.Bounds.{above, below, not_below};
 ghost use Rattle.vc_tree_walks.specs.Ends.{IsGreatestPair, IsLeastPair};
 ghost use Rattle.vc_tree_walks.specs.Folding.{CanFold, IsStopped, Turns};
 ghost use Rattle.vc_tree_walks.specs.IterLeft.{pairs_left};
@@ -33,7 +34,7 @@ use vc_tree_nodes::{descent, reading};
 use vc_tree_walks::iter::Iter;
 use vc_tree_walks::owned::ObjAndIter;
 use vc_tree_walks::values::Values;
-use vc_tree_walks::{counting, ends, folding, walks};
+use vc_tree_walks::{beside, counting, ends, folding, scan, walks};
 
 /// A radix tree to be read: both flavours, and each type that is a [`RadixNode`].
 ///
@@ -64,6 +65,37 @@ pub trait AbstractRadixTree<K: TKey, V: TValue>: RadixNode<K, V> {
         ensures { result ≡ is_some (lookup K.cmp (Self.tree self.now) key.now) }
     {
         descent::contains_key(self, key)
+    }
+
+    /// Whether some key of the tree starts with the prefix. A key starts with itself, and each key
+    /// with the empty prefix. Takes no memory.
+    ///
+    /// Compares each component of the prefix at most once, but for a halving search among the
+    /// children of each node on the way.
+    ///
+    /// ```
+    /// if tree.contains_prefix(b"/users/") {
+    ///     ..
+    /// }
+    /// ```
+    final fn contains_prefix(&self, prefix: &[K]) -> bool
+        ensures { let f = under K.cmp (lookup K.cmp (Self.tree self.now)) prefix.now in
+            MatchBool result ((k : List K) × IsSome (f k)) ((k : List K) → f k ≡ None) }
+    {
+        scan::contains_prefix(self, prefix)
+    }
+
+    /// How many keys of the tree start with the prefix, and `usize::MAX` where more do. Takes no
+    /// memory.
+    ///
+    /// Goes down to the node below which these keys stand, as `get` does, and through all nodes
+    /// below it.
+    final fn len_below(&self, prefix: &[K]) -> usize
+        ensures { (pairs : _)
+            × IsWalk K.cmp (under K.cmp (lookup K.cmp (Self.tree self.now)) prefix.now) pairs
+            × (result ≡ min (length pairs) (2 ^ 64 - 1)) }
+    {
+        counting::len_below(self, prefix)
     }
 
     /// The value that the tree binds the key to. Takes no memory.
@@ -153,6 +185,45 @@ pub trait AbstractRadixTree<K: TKey, V: TValue>: RadixNode<K, V> {
         ends::last_key_value(self)
     }
 
+    /// The least key of the tree that is greater than `key`, and its value; none where no key is.
+    /// `key` itself may be bound or not.
+    ///
+    /// Keys are ordered as slices are: by the first component in which they differ, and a key
+    /// before each longer one that starts with it. The answer's key is spelled in a list of its
+    /// own, as in `key` up to where the two part: memory is asked for once, for as many components
+    /// as it has. Fails only where that is refused, and never where there is none.
+    ///
+    /// Compares each component of `key` at most once, but for a halving search among the children
+    /// of each node on the way. Goes down to `key`, and from there to the answer twice.
+    ///
+    /// ```
+    /// // The page behind the last key that was shown.
+    /// let next = tree.next_after(shown)?;
+    /// ```
+    final fn next_after(&self, key: &[K]) -> Result<Option<(Vec<K>, &V)>, AllocError>
+        ensures next { let f = above K.cmp (lookup K.cmp (Self.tree self.now)) key.now in
+            IfOk result (λ found. MatchOption found ((k : List K) → f k ≡ None)
+            (λ b. IsLeastPair K.cmp f (b.0.items, b.1.now))) }
+        ensures none { let f = above K.cmp (lookup K.cmp (Self.tree self.now)) key.now in
+            ((k : List K) → f k ≡ None) → result ≡ Ok None }
+    {
+        beside::next_after(self, key)
+    }
+
+    /// The greatest key of the tree that is less than `key`, and its value; none where no key is.
+    /// `key` itself may be bound or not.
+    ///
+    /// Orders, spells and costs as [`next_after`](AbstractRadixTree::next_after).
+    final fn last_before(&self, key: &[K]) -> Result<Option<(Vec<K>, &V)>, AllocError>
+        ensures last { let f = below K.cmp (lookup K.cmp (Self.tree self.now)) key.now in
+            IfOk result (λ found. MatchOption found ((k : List K) → f k ≡ None)
+            (λ b. IsGreatestPair K.cmp f (b.0.items, b.1.now))) }
+        ensures none { let f = below K.cmp (lookup K.cmp (Self.tree self.now)) key.now in
+            ((k : List K) → f k ≡ None) → result ≡ Ok None }
+    {
+        beside::last_before(self, key)
+    }
+
     /// Whether some key is bound by both trees. Takes no memory.
     final fn intersects<W: TValue, S: AbstractRadixTree<K, W>>(&self, that: &S) -> bool
         ensures { MatchBool result (ShareKey K.cmp (Self.tree self.now) (S.tree that.now))
@@ -214,6 +285,26 @@ pub trait AbstractRadixTree<K: TKey, V: TValue>: RadixNode<K, V> {
             (pairs_left Self.tree result) }
     {
         walks::scan_prefix(self, prefix)
+    }
+
+    /// The pairs of the tree whose keys are not less than `key`, by ascending keys.
+    ///
+    /// Goes down to where `key` stands, as `get` does, and takes memory on the way: for the key of
+    /// the node that it comes to, and for a place a level. Fails only where that is refused. A step
+    /// takes memory as one of `iter` does.
+    ///
+    /// ```
+    /// for item in tree.iter_from(b"m")? {
+    ///     let (key, value) = item?;
+    ///     ..
+    /// }
+    /// ```
+    final fn iter_from<'a>(&'a self, key: &[K]) -> Result<Iter<'a, K, V, Self>, AllocError>
+        ensures { IfOk result (λ walk. IsWalk K.cmp
+            (not_below K.cmp (lookup K.cmp (Self.tree self.now)) key.now)
+            (pairs_left Self.tree walk)) }
+    {
+        walks::iter_from(self, key)
     }
 
     /// The values of the tree, in the order of their keys, which is that of `iter`. Takes no

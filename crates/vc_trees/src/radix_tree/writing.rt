@@ -206,6 +206,18 @@ pub trait AbstractRadixTreeMut<K: TKey, V: TValue>: CloneTree<K, V> + AbstractRa
         removal::remove(self, key)
     }
 
+    /// Takes out all keys, with their values, and leaves the empty tree. Takes no memory.
+    ///
+    /// What goes is dropped, node by node; in an [`ArcRadixTree`] what another tree holds too stays
+    /// there.
+    final fn clear(&mut self)
+        ensures is { Self.tree self.new ≡ no_tree }
+        ensures canonical { IsCanonical K.cmp (Self.tree self.new) }
+    {
+        let alloc = self.allocator();
+        *self = Self::empty(alloc);
+    }
+
     /// Takes out all keys that begin with `prefix`, with their values. The other keys keep theirs.
     ///
     /// Where no key begins with it, that costs a walk down to where one would stand: no memory is

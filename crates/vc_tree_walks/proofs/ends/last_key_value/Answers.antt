@@ -1,9 +1,11 @@
 -- By the walk of the tree the last pair has the greatest key.
 use Rattle.vc_tree_model.specs.Map.{lookup}
 use Rattle.vc_tree_model.specs.Walk.{walk}
+use Rattle.vc_tree_walks.specs.Towards.{end_of}
+use Rattle.vc_tree_walks.specs.declared.ends.End.TheVariants.{Last}
 use Rattle.vc_tree_model.proofs.LookupLemmas.{children-ordered}
 use Rattle.vc_tree_model.proofs.Walking.{walk-is}
-use Rattle.vc_tree_walks.proofs.EndPairs.{greatest-is}
+use Rattle.vc_tree_walks.proofs.EndPairs.{greatest-is, unprepended}
 use Rattle.vc_tree_walks.proofs.ends.last_key_value.Goals as goal
 
 pub returns-clause-greatest : goal.returns-clause-greatest
@@ -11,5 +13,10 @@ returns-clause-greatest g c =
     let cmp = g.K.Ord.cmp in
     let t = g.T.RadixNode.tree c.args.tree.now in
     greatest-is cmp g.met.K.Ord.total (lookup cmp t) (λ b. (b.0.items, b.1.now)) (walk t)
-    (walk-is cmp g.met.K.Ord.total t (children-ordered cmp t.children c.canonical.ensures.1)) c.key_value_at.result
-    c.key_value_at.ensures.pair
+    (walk-is cmp g.met.K.Ord.total t (children-ordered cmp t.children c.canonical.ensures.1)) c.key_value_behind.result
+    (unprepended (λ b. (b.0.items, b.1.now)) (end_of Last (walk t)) c.key_value_behind.result c.key_value_behind.ensures.pair)
+
+pub returns-clause-pair : goal.returns-clause-pair
+returns-clause-pair g c =
+    unprepended (λ b. (b.0.items, b.1.now)) (end_of Last (walk (g.T.RadixNode.tree c.args.tree.now))) c.key_value_behind.result
+    c.key_value_behind.ensures.pair
