@@ -199,11 +199,7 @@ enum Taking {
 const TAKINGS: [Taking; 3] = [Taking::Combine, Taking::Merge, Taking::Extend];
 
 /// A clone of the left map that took in one of the right map.
-fn taken_in<'s, 'a>(
-    taking: Taking,
-    a: &'s Map<'a>,
-    b: &'s Map<'a>,
-) -> Result<Map<'a>, AllocError> {
+fn taken_in<'s, 'a>(taking: Taking, a: &'s Map<'a>, b: &'s Map<'a>) -> Result<Map<'a>, AllocError> {
     let mut left = a.clone()?;
     let right = b.clone()?;
     match taking {

@@ -193,7 +193,13 @@ where
         ensures err { OnErr result (self.new ≡ self.old) }
     {
         let mut own = Steps::new();
-        let joined = join(&mut self.pairs, that.as_slice(), kind, &AskOuter(&f), &mut own);
+        let joined = join(
+            &mut self.pairs,
+            that.as_slice(),
+            kind,
+            &AskOuter(&f),
+            &mut own,
+        );
         steps.add(&own);
         joined
     }
