@@ -21,7 +21,6 @@ ghost use Rattle.vec_collections.specs.Map.{lookup};
 ghost use Rattle.vec_collections.specs.Question.{left_spelling};
 ghost use Rattle.vec_collections.specs.Script.{BothAscend};
 ghost use Rattle.vec_collections.specs.Value.{Copies};
-ghost use Rattle.vec_collections.specs.Yielded.{AscendsAlong};
 ghost use Rattle.vec_collections.specs.Showing.{ShowsBothWays, ShowsItems};
 
 use crate::btree_map::{AbstractBTreeMap, InPlaceRelationalOps};
@@ -213,24 +212,22 @@ pub fn values_of_map(map: &Numbers) -> VecMapValues<'_, u32, u32>
     map.values()
 }
 
-/// The greatest element of a set that an iterator has not given yet: what is left still ascends.
+/// The greatest element of a set that an iterator has not given yet.
 pub fn next_from_behind<I: FromBehind>(rest: &mut VecSetIter<I>) -> Option<I::Item>
 where
     I::Item: Ord,
     requires { I.can_next_back rest.old }
-    ensures given { I.next_back_gives rest.old result rest.new }
-    ensures ascends { AscendsAlong I.next_gives I.Item.cmp rest.new }
+    ensures { I.next_back_gives rest.old result rest.new }
 {
     rest.next_back()
 }
 
-/// The next pair of an iterator over a map: the keys of what is left still ascend.
+/// The next pair of an iterator over a map.
 pub fn next_by_key<I: Iterator>(rest: &mut VecMapIter<I>) -> Option<I::Item>
 where
     I::Item: Keyed,
     requires { I.can_next rest.old }
-    ensures given { I.next_gives rest.old result rest.new }
-    ensures ascends { AscendsAlong I.next_gives I.Item.by_key rest.new }
+    ensures { I.next_gives rest.old result rest.new }
 {
     rest.next()
 }
