@@ -10,7 +10,7 @@ use vc_trees::radix_tree::{AbstractRadixTree, AbstractRadixTreeMut, ArcRadixTree
 
 /// The keys and values of two trees. Each value is a decimal digit of its own, so a digit of the
 /// sum of all values that a closure was handed says how often it was handed that value.
-const LEFT: [(&str, u32); 3] = [("a", 1), ("ab", 10), ("abc", 100)];
+const LEFT: [(&str, u32); 4] = [("a", 1), ("ab", 10), ("abc", 100), ("c", 1_000_000)];
 
 const RIGHT: [(&str, u32); 3] = [("ab", 1000), ("abc", 10_000), ("b", 100_000)];
 
@@ -36,7 +36,7 @@ const FRESH: [(Call, u32); 3] = [
 ];
 
 /// A fresh combine that asks once at each key of the left.
-const FRESH_LEFT: [(Call, u32); 1] = [(Call::Left, 11_111)];
+const FRESH_LEFT: [(Call, u32); 1] = [(Call::Left, 1_011_111)];
 
 /// Combines in place, likewise.
 const IN_PLACE: [(Call, u32); 3] = [
