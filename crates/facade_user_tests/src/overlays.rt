@@ -6,17 +6,12 @@ ghost use Rattle.std.specs.Option.{unwrap_or};
 ghost use Rattle.std.specs.Ordering.{nat_cmp};
 ghost use Rattle.vec_collections.specs.JoinValues.{in_both, in_left};
 ghost use Rattle.vec_collections.specs.Map.{lookup, or_else};
-ghost use Rattle.vec_collections.specs.PrefixLaws.{IsInOne};
 ghost use Rattle.vec_collections.specs.Under.{under};
 ghost use Rattle.facade_user_tests.specs.Overlays.{first_alone, first_of_both, merged_by, renewed_by};
 
 use crate::trees::{Ports, SharedPorts, snapshot_of};
 use std::alloc::AllocError;
-use vec_collections::laws::{ByItself, removal_and_retention_part};
-use vec_collections::radix_tree::{AbstractRadixTree, AbstractRadixTreeMut, RadixTree};
-
-/// Zones of names, and whether each is closed.
-pub type Zones = RadixTree<u8, bool>;
+use vec_collections::radix_tree::{AbstractRadixTree, AbstractRadixTreeMut};
 
 /// The port of the override where there is one, else that of the base.
 #[tactic(auto, using(vec_collections::specs::Exact::exactly))]
@@ -172,32 +167,4 @@ pub fn renew(ports: &mut SharedPorts, that: &SharedPorts) -> Result<(), AllocErr
         *v = *w;
         true
     })
-}
-
-/// Parts two copies of one tree by zones, some of which are closed: the first keeps the servers that
-/// are in no closed zone, the second one the others. Of the zones that a name begins with the longest
-/// decides.
-pub fn part(outside: &mut Ports, inside: &mut Ports, zones: &Zones) -> Result<(), AllocError>
-    requires { inside.old ≡ outside.old }
-    ensures { OnOk result ((k : List ℕ) → IsInOne (λ v w. v ≡ w) (lookup nat_cmp outside.old k)
-        (lookup nat_cmp outside.new k) (lookup nat_cmp inside.new k)) }
-{
-    let is_closed = |closed: &bool| -> bool
-        ensures { result ≡ closed.now }
-    { *closed };
-    removal_and_retention_part::<u8, u32, bool, ByItself, _>(&is_closed);
-    outside.remove_prefix_with(zones, is_closed)?;
-    inside.retain_prefix_with(zones, is_closed)
-}
-
-/// The ports of the servers that are in no closed zone, and those of the others: each server is in
-/// exactly one of the two.
-pub fn parted(ports: &Ports, zones: &Zones) -> Result<(Ports, Ports), AllocError>
-    ensures { IfOk result (λ parts. (k : List ℕ) → IsInOne (λ v w. v ≡ w)
-        (lookup nat_cmp ports.now k) (lookup nat_cmp parts.0 k) (lookup nat_cmp parts.1 k)) }
-{
-    let mut outside = ports.clone()?;
-    let mut inside = ports.clone()?;
-    part(&mut outside, &mut inside, zones)?;
-    Ok((outside, inside))
 }
