@@ -245,16 +245,16 @@ is_least_pair = record {
 }
 
 -- above a there is ab alone, below ab there is a alone, and from a on there are both
-above_a : (above by_letter (lookup by_letter (a_and_ab 1 2)) (a ∷ []) (a ∷ b ∷ []) ≡ Some 2)
-    × (above by_letter (lookup by_letter (a_and_ab 1 2)) (a ∷ []) (a ∷ []) ≡ None)
+above_a : (above {V = ℕ} by_letter (lookup by_letter (a_and_ab 1 2)) (a ∷ []) (a ∷ b ∷ []) ≡ Some 2)
+    × (above {V = ℕ} by_letter (lookup by_letter (a_and_ab 1 2)) (a ∷ []) (a ∷ []) ≡ None)
 above_a = (refl, refl)
 
-below_ab : (below by_letter (lookup by_letter (a_and_ab 1 2)) (a ∷ b ∷ []) (a ∷ []) ≡ Some 1)
-    × (below by_letter (lookup by_letter (a_and_ab 1 2)) (a ∷ b ∷ []) (a ∷ b ∷ []) ≡ None)
+below_ab : (below {V = ℕ} by_letter (lookup by_letter (a_and_ab 1 2)) (a ∷ b ∷ []) (a ∷ []) ≡ Some 1)
+    × (below {V = ℕ} by_letter (lookup by_letter (a_and_ab 1 2)) (a ∷ b ∷ []) (a ∷ b ∷ []) ≡ None)
 below_ab = (refl, refl)
 
-not_below_a : (not_below by_letter (lookup by_letter (a_and_ab 1 2)) (a ∷ []) (a ∷ []) ≡ Some 1)
-    × (not_below by_letter (lookup by_letter (a_and_ab 1 2)) (a ∷ []) (a ∷ b ∷ []) ≡ Some 2)
+not_below_a : (not_below {V = ℕ} by_letter (lookup by_letter (a_and_ab 1 2)) (a ∷ []) (a ∷ []) ≡ Some 1)
+    × (not_below {V = ℕ} by_letter (lookup by_letter (a_and_ab 1 2)) (a ∷ []) (a ∷ b ∷ []) ≡ Some 2)
 not_below_a = (refl, refl)
 
 is_greatest_pair : IsGreatestPair {V = ℕ} by_letter (lookup by_letter (a_and_ab 1 2)) (a ∷ b ∷ [], 2)
