@@ -1,6 +1,6 @@
-//! Comparisons by lengths. Of joins: keys that count their own see no more than the bound, a counted
-//! join counts each of them, and one without a counter compares as often. Of calls that take another
-//! map in: keys see no more than a join may compare.
+//! Comparisons by lengths. Of joins: keys that count their own see no more than the bound, a
+//! counted join counts each of them, and one without a counter compares as often. Of calls that
+//! take another map in: keys see no more than a join may compare.
 
 use super::outcomes::holds;
 use set_user_tests::compared::Compared;
