@@ -1,4 +1,4 @@
--- A list with a gap behind its elements, and others behind that.
+-- A list with a gap after its elements, and others after the gap.
 use Rattle.std.proofs.Common.{◌≡◌, ℕ, ◌≤◌, Result, IsOk, is_err, Ok, Err, OnOk, Bool, false, List, ◌++◌, length, take}
 use Rattle.std.proofs.Common.{drop, sym, ◌∙◌, refl, drop_at, arith}
 use mathlib.Core.Bool.{true≢false}

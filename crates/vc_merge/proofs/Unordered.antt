@@ -1,4 +1,4 @@
--- A list in any order that is sorted stably and loses what repeats: what stands at a key is what stood there first.
+-- A list in any order that is sorted stably and loses what repeats: the first element with a key is the one that is kept.
 --     find-stable        a stable sort does not change what is found first
 --     find-dedup        nor does to drop what repeats
 --     found-unordered        both, of a list with keys

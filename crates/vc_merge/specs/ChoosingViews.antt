@@ -10,7 +10,7 @@ module _ {X A : Type 0} {n : ℕ} where
   abbrev pub lent_list : ChoosingState X n A → MutBor (SmallVec X)
   lent_list s = s.built
 
-  -- what the list holds by now
+  -- what the list holds now
   abbrev pub built_items : ChoosingState X n A → List X
   built_items s = s.built.now.items
 

@@ -6,12 +6,12 @@ use Rattle.std.specs.declared.cmp.Ordering.{Ordering}
 use Rattle.std.specs.declared.ops.Bound.{Bound}
 use Rattle.std.specs.declared.ops.Bound.TheVariants.{Included, Excluded, Unbounded}
 
--- an element that stands so to what is sought is before it, or is equal to it where that counts
+-- an element that compares so with what is sought is before it, or is equal to it where that counts
 abbrev pub passes : Bool → Ordering → Bool
 passes with_equal o = cond with_equal (is_le o) (is_lt o)
 
 module _ {X S : Type 0} (side : S → X → Ordering) where
-  -- y stands before a range that starts here, or, at the end of one, not behind it
+  -- y is before a range that starts here, or, at the end of a range, not after it
   abbrev pub is_in_front : Bool → Bound S → X → Bool
   is_in_front at_end (Included s) y = passes at_end (side s y)
   is_in_front at_end (Excluded s) y = passes (not at_end) (side s y)

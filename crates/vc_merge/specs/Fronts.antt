@@ -1,4 +1,4 @@
--- How the fronts of two lists stand to each other: what an event of a merge is told of its elements.
+-- How the fronts of two lists compare: what an event of a merge is told of its elements.
 use Rattle.std.specs.Prelude.{◌≡◌, List, [], ◌∷◌, ◌⊎◌}
 use Rattle.std.proofs.Common.{inl, inr}
 use Rattle.std.specs.List.{AllByRecursion}
@@ -18,7 +18,7 @@ module _ {A B : Type 0} (order : A ⊎ B → A ⊎ B → Ordering) where
   abbrev pub RightBelow : List B → List A → Type 0
   RightBelow rs ls = EachBelow (λ y x. order (inr y) (inl x) ≡ Less) rs ls
 
-  -- both lists have a first element, and these compare so
+  -- both lists have a first element, and these compare as given
   abbrev pub HeadsCompare : List A → List B → Ordering → Type 0
   HeadsCompare [] rs o = ⊥
   HeadsCompare (x ∷ ls) [] o = ⊥

@@ -4,12 +4,12 @@ use Rattle.std.specs.declared.cmp.Ordering.{Ordering}
 use Rattle.vc_merge.specs.Script.{Event, left_alone, right_alone, collision, IsScript}
 use Rattle.vc_merge.specs.Chain.{Answer, Allows}
 
--- each of xs in turn gives some elements, and these make zs
+-- each of xs in turn gives some elements, and together these are zs
 abbrev pub Gathers : {X Z : Type 0} → (X → List Z → Type 0) → List X → List Z → Type 0
 Gathers gives [] zs = zs ≡ []
 Gathers {X} {Z} gives (x ∷ xs) zs = (first : List Z) × (rest : List Z) × gives x first × Gathers gives xs rest × (zs ≡ first ++ rest)
 
--- one element is given if `taken`, such as `gives` says, and none otherwise
+-- one element is given if `taken`, one that `gives` allows, and none otherwise
 abbrev pub GivesIf : {Z : Type 0} → Bool → (Z → Type 0) → List Z → Type 0
 GivesIf {Z} true gives zs = (z : Z) × gives z × (zs ≡ z ∷ [])
 GivesIf false gives zs = zs ≡ []
@@ -28,11 +28,11 @@ pub record IsBuilt {A B Z : Type 0} (order : A ⊎ B → A ⊎ B → Ordering) (
 
 -- a state builds the list `built`; its `name` is that of the reference through which it does, so the owner's list is known at the end
 module _ {M Z N : Type 0} (built : M → List Z) (name : M → N) where
-  -- a call that is not refused goes on, and appends what xs give
+  -- a call that is not refused continues, and appends what xs give
   abbrev pub Adds : {X : Type 0} → (X → List Z → Type 0) → List X → M → Answer → M → Type 0
   Adds gives xs s answer t = IfOk answer (λ go_on. (go_on ≡ true) × (name t ≡ name s) × Appends gives xs (built s) (built t))
 
-  -- an operation each of whose events goes on, unless it is refused, and appends what it gives
+  -- an operation where each event, unless it is refused, continues and appends what it gives
   pub record IsBuilding {A B : Type 0} (op : Allows M A B) (gives : Event A B → List Z → Type 0) : Type 0 where
     pub from_a : (s t : M) (n : ℕ) (answer : Answer) → op.gives.from_a s n answer t
         → Adds (λ x. gives (left_alone x)) (take n (op.left s)) s answer t

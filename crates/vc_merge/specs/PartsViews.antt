@@ -32,7 +32,7 @@ module _ {X : Type 0} where
   abbrev pub hole_places : PartsState X → ℕ
   hole_places s = s.start - s.built
 
-  -- what was built in a list, by where its parts stand
+  -- what was built in a list, by where its parts are
   abbrev pub built_at : Spans → List X → List X
   built_at p l = take p.built l
 
@@ -51,8 +51,8 @@ module _ {X : Type 0} where
     pub left : left_items s ≡ ys
     pub right : right_items s ≡ zs
 
-  -- of the first elements of both parts, which compare so, the lesser one was moved to the end of what is built, or of two equal ones the
-  -- left one, if `both`, and both were passed
+  -- of the first elements of both parts, which compare as given, the lesser one was moved to the
+  -- end of what is built, or of two equal ones the left one, if `both`, and both were passed
   abbrev pub PassesLesser : Ordering → Bool → PartsState X → PartsState X → Type 0
   PassesLesser Less both s t = Shows (list_name s) (built_items s ++ take 1 (left_items s)) (drop 1 (left_items s)) (right_items s) t
   PassesLesser Greater both s t = Shows (list_name s) (built_items s ++ take 1 (right_items s)) (left_items s) (drop 1 (right_items s)) t

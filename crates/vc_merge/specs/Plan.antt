@@ -1,4 +1,4 @@
--- How a merge finds its events, and how many comparisons it makes so at most.
+-- How a merge finds its events, and the most comparisons that this takes.
 use Rattle.std.specs.Prelude.{ℕ, ◌+◌, ◌<◌, ⊤}
 use Rattle.vc_merge.specs.declared.plan.Plan.{Plan}
 use Rattle.vc_merge.specs.declared.plan.Plan.TheVariants.{Walk, Search}

@@ -7,11 +7,11 @@ use Rattle.std.specs.declared.cmp.Ordering.{Ordering}
 use Rattle.std.specs.declared.slice.Iter.{Iter}
 use Rattle.vc_merge.specs.Yielded.{by_first, gives_ascending}
 
--- from behind it shows what is left, by reference and in reverse
+-- from the back it shows what is left, by reference and in reverse
 abbrev pub ShowsBackwards : Type 0 → Type 0
 ShowsBackwards X = EveryRun (iter_steps_back {A = X}) (λ p. ItemsMapToReversed p (λ x. x.now) (iter_rest p.from))
 
--- it shows the elements of xs, by reference and in order, and from behind in reverse
+-- it shows the elements of xs, by reference and in order, and from the back in reverse
 abbrev pub ShowsItems : {X : Type 0} → List X → Iter X → Type 0
 ShowsItems {X} xs it =
     (iter_rest it ≡ xs) × (length (iter_rest it) < 2 ^ 64)
@@ -23,6 +23,6 @@ ShowsByKey {K} {V} cmp it =
     EveryRun (gives_ascending (iter_steps {A = K × V}) (λ p q. by_first cmp p.now q.now))
     (λ p. ItemsMapTo p (λ x. x.now) (iter_rest p.from))
 
--- the same of an iterator that is seen as the list of what it has left
+-- the same of an iterator that contracts see as the list of what it has left
 abbrev pub ShowsBothWays : {X : Type 0} → List X → List X → Type 0
 ShowsBothWays {X} xs it = (it ≡ xs) × (length it < 2 ^ 64) × ShowsInOrder (deref {X = X}) × ShowsInReverse (deref {X = X})

@@ -17,7 +17,7 @@ module _ {M A B : Type 0} (left : M → List A) (right : M → List B) (ready : 
   abbrev pub TakesBoth : M → Answer → M → Type 0
   TakesBoth s answer t = IfOk answer (λ go_on. go_on ≡ true → (left t ≡ drop 1 (left s)) × (right t ≡ drop 1 (right s)) × ready t)
 
-  -- of the first elements of both lists, which compare so: the lesser one, or both
+  -- of the first elements of both lists, which compare as given: the lesser one, or both
   abbrev pub TakesLesser : Ordering → M → Answer → M → Type 0
   TakesLesser Less s answer t = TakesLeft 1 s answer t
   TakesLesser Greater s answer t = TakesRight 1 s answer t

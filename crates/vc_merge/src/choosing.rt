@@ -1,4 +1,5 @@
-//! A state that takes the lesser one of two first elements by a choice in the place of a branch.
+//! A state that takes the lesser one of two first elements by a conditional move instead of a
+//! branch.
 ghost use Rattle.std.specs.Prelude.{◌≡◌, ◌+◌, ◌<◌, ◌≤◌, true, take, drop, length, IfOk, OnOk};
 ghost use Rattle.std.specs.declared.cmp.Ordering.TheVariants.{Less, Equal, Greater};
 ghost use Rattle.std.specs.Int.{from_bool};
@@ -14,11 +15,11 @@ use std::alloc::{AllocError, Allocator};
 use std::cmp::Ordering;
 use std::default::MadeWith;
 
-/// For how many elements room is made at once.
+/// How many elements room is made for at once.
 const BLOCK: usize = 32;
 
-/// Two slices with a place in each, and a list to which clones of their elements are appended. The
-/// list has room for `room` more.
+/// Two slices with a position in each, and a list to which clones of their elements are appended.
+/// The list has room for at least `room` more.
 #[derive(Drop)]
 pub struct ChoosingState<'a, T, const N: usize, A: Allocator> {
     a: &'a [T],
@@ -168,8 +169,8 @@ impl<'a, T: Clone + MadeWith<A>, const N: usize, A: Allocator + Copy> MergeFromR
     }
 }
 
-/// Whether an element is taken of the first elements of both lists, which compare so: of what
-/// stands on the left alone if `left`, on the right alone if `right`, on both sides if `both`.
+/// Whether an element is taken when the first elements of both lists compare as `heads`: `left`
+/// decides for a left element alone, `right` for a right one alone, and `both` for two equal ones.
 #[inline(always)]
 fn is_taken(heads: Ordering, left: bool, right: bool, both: bool) -> bool
     ensures { result ≡ taken_at heads left right both }
@@ -181,7 +182,7 @@ fn is_taken(heads: Ordering, left: bool, right: bool, both: bool) -> bool
     }
 }
 
-/// The place behind one more element, if it is passed.
+/// The place after one more element, if that element is passed.
 #[inline(always)]
 pub fn passed<T>(items: &[T], place: usize, is_passed: bool) -> usize
     requires { place < length items.now }
@@ -191,7 +192,7 @@ pub fn passed<T>(items: &[T], place: usize, is_passed: bool) -> usize
     if is_passed { place + 1 } else { place }
 }
 
-/// The lesser of two elements that compare so, or the left one of two equal ones.
+/// The lesser of two elements that compare as `order`, or the left one of two equal ones.
 #[inline(always)]
 pub fn lesser<'a, T>(order: Ordering, left: &'a T, right: &'a T) -> &'a T
     ensures lesser { order ≡ Less → result.now ≡ left.now }
@@ -201,8 +202,8 @@ pub fn lesser<'a, T>(order: Ordering, left: &'a T, right: &'a T) -> &'a T
     if order.is_le() { left } else { right }
 }
 
-/// For how many more elements a list has room, which has room for `room`: a list that may have none
-/// is asked, and grows if it is full.
+/// How many more elements the list has room for. It had room for `room`: where that may be none,
+/// the list is asked, and grows if it is full.
 #[inline(always)]
 fn room_for_some<T: MadeWith<A> + Drop, const N: usize, A: Allocator + Copy>(
     built: &mut SmallVec<T, N, A>,
@@ -222,7 +223,7 @@ fn room_for_some<T: MadeWith<A> + Drop, const N: usize, A: Allocator + Copy>(
     Ok(BLOCK.min(built.capacity() - built.len()))
 }
 
-/// The `n` elements from a place on.
+/// The `n` elements from `place` on.
 #[inline(always)]
 pub fn part<'a, T>(items: &'a [T], place: usize, n: usize) -> &'a [T]
     requires place { place ≤ length items.now }
@@ -233,7 +234,7 @@ pub fn part<'a, T>(items: &'a [T], place: usize, n: usize) -> &'a [T]
     &rest[..n]
 }
 
-/// The place behind `n` more elements.
+/// The place after `n` more elements.
 #[inline(always)]
 pub fn behind<T>(items: &[T], place: usize, n: usize) -> usize
     requires place { place ≤ length items.now }
@@ -245,7 +246,7 @@ pub fn behind<T>(items: &[T], place: usize, n: usize) -> usize
     items.len() - (rest.len() - n)
 }
 
-/// Appends a clone of each of `items`, with one look at the room.
+/// Appends a clone of each of `items`, with one check of the room.
 #[inline(never)]
 fn push_run<T: Clone + MadeWith<A>, const N: usize, A: Allocator + Copy>(
     built: &mut SmallVec<T, N, A>,

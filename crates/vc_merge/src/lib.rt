@@ -1,4 +1,4 @@
-//! The merge of two ascending lists, event by event, and what stands around it.
+//! The merge of two ascending lists, event by event, and what is built around it.
 #![tactic(auto)]
 
 pub mod choosing;

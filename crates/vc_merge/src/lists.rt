@@ -1,4 +1,4 @@
-//! Lists that sets and maps change in their own places.
+//! Lists that sets and maps change in place.
 ghost use Rattle.std.specs.Prelude.{◌≡◌, ◌≤◌, ◌++◌, length, take};
 ghost use Rattle.smallvec.specs.SmallVec.{HasRoomFor};
 ghost use Rattle.std.specs.Fn.{CalledAt};
@@ -12,8 +12,8 @@ use std::mem;
 
 /// Moves the elements of `that` to the end of `list`, which has room for them.
 ///
-/// What lies on the heap comes out of a `Vec` and goes into a variable, so that no element asks
-/// again where either list lies.
+/// A list on the heap is taken into a `Vec` in a local variable, so that no step asks again whether
+/// a list is inline or on the heap.
 pub fn append_moved<T: MadeWith<A> + Drop, const N: usize, const M: usize, A: Allocator + Copy>(
     list: &mut SmallVec<T, N, A>,
     mut that: SmallVec<T, M, A>,
@@ -33,10 +33,10 @@ pub fn append_moved<T: MadeWith<A> + Drop, const N: usize, const M: usize, A: Al
     *list = whole;
 }
 
-/// Moves the elements at which `f` answers true to the front, in their order, and answers how many
-/// these are.
+/// Moves the elements for which `f` answers true to the front, in their order, and answers how many
+/// they are.
 ///
-/// `f` has to be callable at each element, one after the other.
+/// `f` must be callable with each element, one after the other.
 pub fn keep_in_front<T, F: FnMut(&T) -> bool>(list: &mut [T], mut f: F) -> usize
     requires { CallableOnAllAt (YieldsFirst (λ rest. rest)) F.FnMut list.old f }
     ensures within { result ≤ length list.new }

@@ -12,14 +12,15 @@ use smallvec::SmallVec;
 use std::alloc::{AllocError, Allocator};
 use std::default::MadeWith;
 
-/// From so many elements on a run is long.
+/// The least length of a long run.
 const LONG_RUN: usize = 64;
 
-/// Moves the `n` elements from the place `at` on down to the place `kept`. Those that lay between
-/// end up behind them.
+/// Moves the `n` elements from the place `at` on down to the place `kept`. Those that were between
+/// end up after them.
 ///
-/// A long run that is no shorter than the gap is moved as a whole, which costs a move for each
-/// element of both. Else each element is swapped down, which costs nothing for what lies between.
+/// A long run that is no shorter than the gap is moved as a whole, which costs one move for each
+/// element of the run and of the gap. Otherwise each element is swapped down, which costs nothing
+/// for the elements between.
 pub(crate) fn move_down<T>(list: &mut [T], kept: usize, at: usize, n: usize)
     requires order { kept ≤ at }
     requires within { at + n ≤ length list.old }
@@ -37,7 +38,7 @@ pub(crate) fn move_down<T>(list: &mut [T], kept: usize, at: usize, n: usize)
     }
 }
 
-/// Moves the last element to a place, and those that stood there and behind it up by one.
+/// Moves the last element to a place, and the elements from that place on up by one.
 fn turn_in<T>(list: &mut [T], place: usize)
     requires { place < length list.old }
     ensures { (xs : List T) (x : T) → list.old ≡ xs ++ x ∷ [] → list.new ≡ insert xs place x }
@@ -47,8 +48,8 @@ fn turn_in<T>(list: &mut [T], place: usize)
     }
 }
 
-/// Moves the last element to the front, and the others up by one. It stands out of line, where the
-/// loop that moves them is compiled to `memmove`.
+/// Moves the last element to the front, and the others up by one. It is kept out of line, where the
+/// loop that moves them compiles to `memmove`.
 #[inline(never)]
 fn turn<T>(list: &mut [T])
     requires { 0 < length list.old }
@@ -58,7 +59,7 @@ fn turn<T>(list: &mut [T])
     unsafe { with_slots(list, &mut nothing, (), last_to_first) }
 }
 
-/// The same in a row of places, each of which has a value before and after.
+/// Does the same in a row of places, each of which has a value before and after.
 #[inline(always)]
 fn last_to_first<T>(mut row: Slots<T>, state: (), _given: ()) -> (Slots<T>, (), ())
     requires { IsFull row × (0 < slots_len row) }
@@ -73,11 +74,11 @@ fn last_to_first<T>(mut row: Slots<T>, state: (), _given: ()) -> (Slots<T>, (), 
     (row, state, ())
 }
 
-/// Puts an element in at a place of a list, in front of those that stood there and behind it.
+/// Inserts an element at a place of a list, before the elements from that place on.
 ///
-/// It goes behind all others first, and is then turned into its place, which moves the elements
-/// behind it as `memmove` does. It is not refused where fewer than `N` are held. Refused, the list
-/// is as it was, and the element is dropped.
+/// It is pushed at the end and then rotated into its place, which moves the elements after it as
+/// `memmove` does. It is not refused where the list holds fewer than `N`. Where it is refused, the
+/// list is unchanged, and the element is dropped.
 pub fn insert_at<T: MadeWith<A> + Drop, const N: usize, A: Allocator + Copy>(
     list: &mut SmallVec<T, N, A>,
     place: usize,
@@ -100,8 +101,8 @@ pub fn insert_at<T: MadeWith<A> + Drop, const N: usize, A: Allocator + Copy>(
 /// A left list that is sifted in place, and a right one that is only looked at: what is taken of
 /// the left list moves to its front.
 ///
-/// It takes no memory, and no event is refused. What was skipped is still in the list, behind what
-/// was taken: the maker cuts it off.
+/// It takes no memory, and no event is refused. What was skipped is still in the list, after what
+/// was taken: the caller cuts it off.
 #[derive(Drop)]
 pub struct SiftState<'a, 'b, T, U> {
     list: &'a mut [T],
@@ -115,7 +116,7 @@ pub struct SiftState<'a, 'b, T, U> {
 impl<'a, 'b, T, U> SiftState<'a, 'b, T, U> {
     ghost use Rattle.vc_merge.specs.SiftViews.{lent_list, built_items, left_items, right_items};
 
-    /// The list to sift, of which nothing was taken yet, and the list to look at.
+    /// The list to sift, with nothing taken yet, and the list to look at.
     pub fn new(list: &'a mut [T], b: &'b [U]) -> Self
         ensures same_reference { lent_list result ≡ list.entry }
         ensures kept { built_items result ≡ [] }

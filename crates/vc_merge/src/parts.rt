@@ -1,4 +1,4 @@
-//! The state of a merge of two parts of one list, in the places of that list.
+//! The state of a merge of two parts of one list, in place.
 ghost use Rattle.std.specs.Prelude.{◌≡◌, ◌+◌, ◌-◌, ◌<◌, ◌≤◌, true, [], ◌∷◌, ◌++◌, IsOk, OnOk, OnErr, length, take, drop, slice_set};
 ghost use Rattle.smallvec.specs.SmallVec.{small_vec_len, HasRoomFor};
 ghost use Rattle.vc_merge.specs.Building.{Advances, Skips};
@@ -13,15 +13,15 @@ use std::cmp::Ordering;
 use std::default::MadeWith;
 use std::mem;
 
-/// How many elements lie between two parts: so many, or a share of the shorter one that is longer.
+/// The least length of a gap between two parts. A gap may be longer: a share of the shorter part.
 const SHORT_GAP: usize = 64;
 
-/// Which share that is.
+/// That share, as a divisor.
 const GAP_SHARE: usize = 4;
 
-/// Where the parts of a list stand that become one in its own places. What was built ends at
-/// `built`; what is left of the left part lies from `start` to `end`, and what is left of the right
-/// part from `next` on.
+/// Where the parts of a list are that are merged in place. What was built ends at `built`; what is
+/// left of the left part lies from `start` to `end`, and what is left of the right part from `next`
+/// on.
 #[derive(Clone, Copy, Drop)]
 pub struct Spans {
     pub built: usize,
@@ -33,17 +33,17 @@ pub struct Spans {
     ghost gap: { end ≤ next },
 }
 
-/// A list whose first and last part become one in its own places: what is taken of either is moved
-/// to the front.
+/// A list whose first and last part are merged in place: what is taken of either is moved to the
+/// front.
 ///
-/// What was built stands in front. Behind it lie a hole, what is left of the left part, a gap, and
-/// what is left of the right part. In the hole and the gap lies what is of no use: what was
-/// skipped, and what lay between the parts. No event is refused, and none takes memory. The owner
-/// cuts off what lies behind the built elements.
+/// What was built is at the front. After it come a hole, what is left of the left part, a gap, and
+/// what is left of the right part. The hole and the gap hold what is no longer needed: what was
+/// skipped, and what was between the parts. No event is refused, and none takes memory. The owner
+/// cuts off what is after the built elements.
 ///
-/// A run of the right part changes places with the hole where that is long enough, for which what
-/// is left of the left part may move up over the gap first. Otherwise it turns places with all that
-/// lies before it. So a few elements between the parts save many moves.
+/// A run of the right part trades places with the hole where that is long enough. What is left of
+/// the left part may move up over the gap first, to make it so. Otherwise the run is rotated before
+/// all that is between. So a short gap between the parts saves many moves.
 #[derive(Drop)]
 pub struct PartsState<'a, T> {
     list: &'a mut [T],
@@ -79,7 +79,7 @@ impl<'a, T> PartsState<'a, T> {
         }
     }
 
-    /// The list, whose parts stand at `spans`.
+    /// The list, whose parts are at `spans`.
     #[inline(always)]
     pub fn at(list: &'a mut [T], spans: Spans) -> Self
         requires { spans.next ≤ length list.old }
@@ -97,7 +97,7 @@ impl<'a, T> PartsState<'a, T> {
         }
     }
 
-    /// Where the parts stand in the list.
+    /// Where the parts are in the list.
     #[inline(always)]
     pub fn spans(&self) -> Spans
         ensures within { result.next ≤ length (lent_list self.now).now }
@@ -122,8 +122,7 @@ impl<'a, T> PartsState<'a, T> {
         self.built
     }
 
-    /// Puts `value` in the place of the first element that is left of the left part, and hands that
-    /// out.
+    /// Replaces the first element that is left of the left part by `value`, and returns it.
     pub fn replace_left(&mut self, value: T) -> T
         requires { 0 < length (left_items self.old) }
         ensures first { left_items self.old ≡ result ∷ drop 1 (left_items self.old) }
@@ -133,8 +132,7 @@ impl<'a, T> PartsState<'a, T> {
         replace_at(self.list, self.start, value)
     }
 
-    /// Puts `value` in the place of the first element that is left of the right part, and hands
-    /// that out.
+    /// Replaces the first element that is left of the right part by `value`, and returns it.
     pub fn replace_right(&mut self, value: T) -> T
         requires { 0 < length (right_items self.old) }
         ensures first { right_items self.old ≡ result ∷ drop 1 (right_items self.old) }
@@ -144,8 +142,8 @@ impl<'a, T> PartsState<'a, T> {
         replace_at(self.list, self.next, value)
     }
 
-    /// Puts `value` behind what is built, for the first element that is left of the left part.
-    /// Hands out what stood there, which is of no use if that element was taken out.
+    /// Puts `value` after what is built, instead of the first element that is left of the left
+    /// part. Returns what was at that place, which is of no use if that element was taken out.
     #[inline(always)]
     pub fn put_left(&mut self, value: T) -> T
         requires { 0 < length (left_items self.old) }
@@ -158,8 +156,8 @@ impl<'a, T> PartsState<'a, T> {
         old
     }
 
-    /// Puts `value` behind what is built, for the first element that is left of the right part.
-    /// Hands out what stood there, which is of no use if that element was taken out.
+    /// Puts `value` after what is built, instead of the first element that is left of the right
+    /// part. Returns what was at that place, which is of no use if that element was taken out.
     #[inline(always)]
     pub fn put_right(&mut self, value: T) -> T
         requires { 0 < length (right_items self.old) }
@@ -175,7 +173,7 @@ impl<'a, T> PartsState<'a, T> {
         old
     }
 
-    /// The same where the hole has a place.
+    /// Does the same where the hole is not empty.
     #[inline(always)]
     fn put_in_hole(&mut self, value: T) -> T
         requires right { 0 < length (right_items self.old) }
@@ -189,7 +187,7 @@ impl<'a, T> PartsState<'a, T> {
         old
     }
 
-    /// How many places the hole has: each takes an element of the right part without a move of what
+    /// How many places the hole has: each can take an element of the right part without moving what
     /// is left of the left one.
     #[inline(always)]
     fn hole(&self) -> usize
@@ -198,7 +196,7 @@ impl<'a, T> PartsState<'a, T> {
         self.start - self.built
     }
 
-    /// Makes a hole of the gap, where there is none.
+    /// Makes the gap the hole, where there is no hole.
     #[inline(always)]
     fn open_hole(&mut self)
         ensures { Shows (list_name self.old) (built_items self.old) (left_items self.old)
@@ -207,9 +205,9 @@ impl<'a, T> PartsState<'a, T> {
         self.widen(1);
     }
 
-    /// Moves the lesser of the first elements of both parts to the end of what is built, by choices
-    /// in the place of branches. Of two equal ones it passes both, and keeps the left one if
-    /// `both`. The hole must have a place.
+    /// Moves the lesser of the first elements of both parts to the end of what is built, without a
+    /// branch. Of two equal ones it passes both, and keeps the left one if `both`. The hole must
+    /// not be empty.
     #[inline(always)]
     fn pass_lesser(&mut self, order: Ordering, both: bool)
         requires some_left { 0 < length (left_items self.old) }
@@ -224,8 +222,8 @@ impl<'a, T> PartsState<'a, T> {
         self.next += usize::from(order.is_ge());
     }
 
-    /// The same where the hole may have no place: an element of the right part makes one of the gap,
-    /// or turns places with all that is left of the left one.
+    /// Does the same where the hole may be empty. Then an element of the right part makes the gap
+    /// the hole, or is rotated before all that is left of the left part.
     #[inline(always)]
     fn move_lesser(&mut self, order: Ordering, both: bool)
         requires some_left { 0 < length (left_items self.old) }
@@ -258,7 +256,7 @@ impl<'a, T> PartsState<'a, T> {
         self.start += n;
     }
 
-    /// Leaves the first `n` elements that are left of the left part to the hole.
+    /// Adds the first `n` elements that are left of the left part to the hole.
     #[inline(always)]
     fn skip_left(&mut self, n: usize)
         requires { n ≤ length (left_items self.old) }
@@ -268,7 +266,7 @@ impl<'a, T> PartsState<'a, T> {
         self.start += n;
     }
 
-    /// Leaves the first `n` elements that are left of the right part to the gap.
+    /// Adds the first `n` elements that are left of the right part to the gap.
     #[inline(always)]
     fn skip_right(&mut self, n: usize)
         requires { n ≤ length (right_items self.old) }
@@ -293,7 +291,7 @@ impl<'a, T> PartsState<'a, T> {
         }
     }
 
-    /// Makes the hole `n` places long, where the gap has what it lacks.
+    /// Makes the hole `n` places long, where the gap has the places that it lacks.
     #[inline(always)]
     fn widen(&mut self, n: usize)
         ensures { Shows (list_name self.old) (built_items self.old) (left_items self.old)
@@ -317,7 +315,7 @@ impl<'a, T> PartsState<'a, T> {
         self.end = self.next;
     }
 
-    /// Takes `n` elements of the right part into the hole, which is long enough.
+    /// Trades `n` elements of the right part into the hole, which is long enough.
     #[inline(always)]
     fn trade(&mut self, n: usize)
         requires right { n ≤ length (right_items self.old) }
@@ -330,7 +328,7 @@ impl<'a, T> PartsState<'a, T> {
         self.next += n;
     }
 
-    /// Takes `n` elements of the right part before all that lies between.
+    /// Rotates `n` elements of the right part before all that is between.
     #[inline(always)]
     fn turn(&mut self, n: usize)
         requires { n ≤ length (right_items self.old) }
@@ -417,16 +415,17 @@ impl<'a, T> MergeFromRight for PartsState<'a, T> {
     }
 }
 
-/// Makes room for `n` more elements, and puts a gap of blanks between those of `list` and the room.
+/// Makes room for `n` more elements, and puts a gap of blanks between the elements of `list` and
+/// that room.
 ///
-/// The gap is so long that what is left of the left part moves up a few times at most, wherever
-/// the elements of the right one belong. Where the `n` elements fit, it can't be refused: of a list
-/// on the heap whose parts are both long, and that has no room for the gap, it asks for more, and
-/// where that is refused the gap is what room there is.
+/// The gap is long enough that what is left of the left part moves up a few times at most, wherever
+/// the elements of the right one belong. Where the `n` elements fit, it can't be refused. A list on
+/// the heap whose parts are both long may have no room for the gap. It then asks for more; where
+/// that is refused, the gap takes what room there is.
 ///
 /// # Errors
 ///
-/// Where the `n` elements don't fit and memory is refused; the list is then as it was. It asks at
+/// Where the `n` elements don't fit and memory is refused; the list is then unchanged. It asks at
 /// most once.
 pub fn open_gap<T: MadeWith<A> + Drop, const N: usize, A: Allocator + Copy>(
     list: &mut SmallVec<T, N, A>,
@@ -451,7 +450,7 @@ pub fn open_gap<T: MadeWith<A> + Drop, const N: usize, A: Allocator + Copy>(
     Ok(())
 }
 
-/// How long a gap is worth its places between parts of these lengths.
+/// How long the gap between parts of these lengths should be.
 fn gap_between(left: usize, right: usize) -> usize {
     right.min(SHORT_GAP.max(left.min(right) / GAP_SHARE))
 }
@@ -472,7 +471,7 @@ fn push_blanks<T: MadeWith<A> + Drop, const N: usize, A: Allocator + Copy>(
     }
 }
 
-/// Moves the elements from `start` to `end` up to the place `next`. Those that lay between end up
+/// Moves the elements from `start` to `end` up to the place `next`. Those that were between end up
 /// before them, in any order.
 fn move_up<T>(list: &mut [T], start: usize, end: usize, next: usize)
     requires order { start ≤ end }
@@ -488,8 +487,8 @@ fn move_up<T>(list: &mut [T], start: usize, end: usize, next: usize)
     front[start..end].swap_with_slice(&mut back[..len]);
 }
 
-/// Moves the `n` elements from the place `next` on down to the place `at`. Those that lay between
-/// move up behind them.
+/// Moves the `n` elements from the place `next` on down to the place `at`. Those that were between
+/// move up after them.
 fn turn_runs<T>(list: &mut [T], at: usize, next: usize, n: usize)
     requires order { at ≤ next }
     requires within { next + n ≤ length list.old }
@@ -498,7 +497,7 @@ fn turn_runs<T>(list: &mut [T], at: usize, next: usize, n: usize)
     list[at..next + n].rotate_left(next - at);
 }
 
-/// Lets the `n` elements from the place `next` on change places with those from `at` on.
+/// Swaps the `n` elements from the place `next` on with those from `at` on.
 fn trade_runs<T>(list: &mut [T], at: usize, next: usize, n: usize)
     requires apart { at + n ≤ next }
     requires within { next + n ≤ length list.old }
@@ -508,9 +507,10 @@ fn trade_runs<T>(list: &mut [T], at: usize, next: usize, n: usize)
     front[at..at + n].swap_with_slice(&mut back[..n]);
 }
 
-/// The place of the lesser of two elements that compare so, or of the left one of two equal ones.
+/// The place of the lesser of two elements that compare as `order`, or of the left one of two equal
+/// ones.
 ///
-/// It is read from a row of both places: an `if` is compiled to a branch, where what stands at the
+/// It is read from an array of both places: an `if` compiles to a branch where the element at the
 /// place is loaded next.
 #[inline(always)]
 fn place_of_lesser(order: Ordering, left: usize, right: usize) -> usize
@@ -519,7 +519,7 @@ fn place_of_lesser(order: Ordering, left: usize, right: usize) -> usize
     [left, right][usize::from(order.is_gt())]
 }
 
-/// Lets the element at the place `next` change places with the one at `at`.
+/// Swaps the element at the place `next` with the one at `at`.
 #[inline(always)]
 fn trade_one<T>(list: &mut [T], at: usize, next: usize)
     requires apart { at < next }
@@ -529,7 +529,7 @@ fn trade_one<T>(list: &mut [T], at: usize, next: usize)
     list.swap(at, next);
 }
 
-/// Puts `value` at a place, and hands out what stood there.
+/// Replaces the element at a place by `value`, and returns it.
 fn replace_at<T>(list: &mut [T], at: usize, value: T) -> T
     requires { at < length list.old }
     ensures old { drop at list.old ≡ result ∷ drop (at + 1) list.old }

@@ -1,12 +1,12 @@
-//! Searches in an ordered list, for one element by its order, for a pair by its key, or for
-//! whatever a [`Sought`] tells.
+//! Searches in an ordered list, for one element by its order, for a pair by its key, or for what a
+//! [`Sought`] describes.
 //!
 //! There are three forms. [`search`] halves what is left until it meets an equal element, and makes
 //! no more comparisons than the length has binary digits: trees find children by it.
-//! [`search_near`] goes in strides from the front on, and halves what stands before the last of
-//! them, without a branch on an answer: merges search by it. [`look_up`] compares with three
-//! elements at a time that do not wait for each other, which makes half as many comparisons more
-//! and is faster, for numbers and for strings.
+//! [`search_near`] goes in strides from the front on, and halves what is before the last of them,
+//! without a branch on an answer: merges search by it. [`look_up`] compares with three elements at
+//! a time, independent of each other. It makes half as many comparisons more, and is faster for
+//! numbers and for strings.
 ghost use Rattle.std.specs.Prelude.{◌≡◌, ◌+◌, ◌-◌, ◌*◌, ◌/◌, ◌^◌, ◌<◌, ◌≤◌, length, min};
 ghost use Rattle.std.specs.Map.{keys_of};
 ghost use Rattle.std.specs.declared.cmp.Ordering.{Ordering};
@@ -20,12 +20,12 @@ use crate::merge::{Count, Uncounted};
 pub use ranges::{elements_between, pairs_between};
 use std::cmp::Ordering;
 
-/// What is sought in a list: it tells how an element stands to it.
+/// What is sought in a list: it says how an element compares with it.
 pub trait Sought<X, C: Count> {
     ghost side: { Self → X → Ordering };
 
-    /// How the element stands to what is sought: `Less` before it, `Greater` behind it. Ticks the
-    /// counter once.
+    /// How the element compares with what is sought: `Less` before it, `Greater` after it. Ticks
+    /// the counter once.
     fn compare(&self, element: &X, steps: &mut C) -> Ordering
         ensures value { result ≡ side self.now element.now }
         ensures ticks { C.counted steps.new ≡ ticked (C.counted steps.old) };
@@ -58,7 +58,7 @@ impl<'a, K: Ord, V, C: Count> Sought<(K, V), C> for Key<'a, K> {
 }
 
 /// The place of the element that is equal to `value` in an ascending list, or the gap where it
-/// would stand.
+/// would be.
 ///
 /// ```
 /// assert!(rt; find(&[1, 3, 5], &3) == Ok(1));
@@ -72,7 +72,7 @@ pub fn find<T: Ord>(list: &[T], value: &T) -> Result<usize, usize>
 }
 
 /// The place of the pair with an equal key in a list that ascends by its keys, or the gap where it
-/// would stand.
+/// would be.
 pub fn find_key<K: Ord, V>(pairs: &[(K, V)], key: &K) -> Result<usize, usize>
     requires { Ascends K.cmp (keys_of pairs.now) }
     ensures { IsPlace (λ p. K.cmp p.0 key.now) pairs.now result }
@@ -80,10 +80,10 @@ pub fn find_key<K: Ord, V>(pairs: &[(K, V)], key: &K) -> Result<usize, usize>
     look_up(pairs, &Key(key))
 }
 
-/// The place of the element that is equal to what is sought, or the gap where one would stand.
-/// Nothing is counted.
+/// The place of the element that is equal to what is sought, or the gap where one would be. Nothing
+/// is counted.
 ///
-/// It compares fewer than `1.5 * log2(n) + 4` times with the elements of a list of `n`. How often
+/// Compares fewer than `1.5 * log2(n) + 4` times with the elements of a list of `n`. How often
 /// depends on `n` alone: 5 times of 8, 7 of 7, 10 of 19 or 64, 16 of 1000.
 pub fn look_up<X, S: Sought<X, Uncounted>>(list: &[X], sought: &S) -> Result<usize, usize>
     requires { IsOrdered (S.side sought.now) list.now }
@@ -100,7 +100,7 @@ pub fn look_up<X, S: Sought<X, Uncounted>>(list: &[X], sought: &S) -> Result<usi
     Err(start + usize::from(order.is_lt()))
 }
 
-/// The last element that is not greater, or the first one where there is none, and how many stand
+/// The last element that is not greater, or the first one where there is none, and how many are
 /// before it.
 #[inline(always)]
 fn nearest<'a, X, S: Sought<X, Uncounted>>(list: &'a [X], sought: &S) -> (usize, &'a [X])
@@ -121,7 +121,7 @@ fn nearest<'a, X, S: Sought<X, Uncounted>>(list: &'a [X], sought: &S) -> (usize,
 }
 
 /// The last of four parts that begins with no greater element, or the first part where there is
-/// none, and how many elements stand before it.
+/// none, and how many elements are before it.
 #[inline(always)]
 fn nearest_quarter<'a, X, S: Sought<X, Uncounted>>(list: &'a [X], sought: &S) -> (usize, &'a [X])
     requires ordered { IsOrdered (S.side sought.now) list.now }
@@ -138,9 +138,9 @@ fn nearest_quarter<'a, X, S: Sought<X, Uncounted>>(list: &'a [X], sought: &S) ->
 }
 
 /// The last of up to three elements that is not greater, or the first one where there is none, and
-/// how many stand before it.
+/// how many are before it.
 ///
-/// Two halvings are written out, since a loop is compiled with a branch on each answer.
+/// Two halvings are written out, since a loop compiles to a branch on each answer.
 #[inline(always)]
 fn nearest_of_few<'a, X, S: Sought<X, Uncounted>>(list: &'a [X], sought: &S) -> (usize, &'a [X])
     requires ordered { IsOrdered (S.side sought.now) list.now }
@@ -154,8 +154,8 @@ fn nearest_of_few<'a, X, S: Sought<X, Uncounted>>(list: &'a [X], sought: &S) -> 
     (before + between, one)
 }
 
-/// The part of two that is searched on, the second one unless it begins with a greater element, and
-/// how many elements stand before it.
+/// The half in which the search continues, and how many elements are before it. It is the second
+/// half, unless that begins with a greater element.
 #[inline(always)]
 fn nearest_half<'a, X, S: Sought<X, Uncounted>>(list: &'a [X], sought: &S) -> (usize, &'a [X])
     requires ordered { IsOrdered (S.side sought.now) list.now }
@@ -170,7 +170,7 @@ fn nearest_half<'a, X, S: Sought<X, Uncounted>>(list: &'a [X], sought: &S) -> (u
     (start, &list[start..start + (list.len() - half)])
 }
 
-/// One where the element is not greater, and else none.
+/// 1 where the element at `place` is not greater, and 0 otherwise.
 #[inline(always)]
 fn reaches<X, S: Sought<X, Uncounted>>(list: &[X], place: usize, sought: &S) -> usize
     requires { place < length list.now }
@@ -179,8 +179,8 @@ fn reaches<X, S: Sought<X, Uncounted>>(list: &[X], place: usize, sought: &S) -> 
     usize::from(!sought.compare(&list[place], &mut Uncounted).is_gt())
 }
 
-/// The place of the element that is equal to what is sought, or the gap where one would stand, by
-/// no more comparisons than the length has binary digits.
+/// The place of the element that is equal to what is sought, or the gap where one would be.
+/// Compares no more often than the length has binary digits.
 pub fn search<X, C: Count, S: Sought<X, C>>(
     list: &[X],
     sought: &S,
@@ -205,8 +205,8 @@ pub fn search<X, C: Count, S: Sought<X, C>>(
 }
 
 /// The same as [`search`], for what is near the front: it looks at every `2 ^ exponent`-th element
-/// until one is not less, and halves what stands before that. Each of those elements but the last
-/// one that it looks at stands before the place.
+/// until one is not less, and halves what is before that one. Each of the elements that it looks
+/// at, except the last one, is before the place.
 pub fn search_near<X, C: Count, S: Sought<X, C>>(
     list: &[X],
     sought: &S,
@@ -241,8 +241,8 @@ fn power(exponent: u32) -> usize
     1 << exponent
 }
 
-/// The same where the elements before `start` are known to be less, and those behind the `len` from
-/// there on to be greater.
+/// Searches the `len` elements from `start` on: those before are known to be less, and those after
+/// to be greater.
 #[inline(always)]
 fn search_part<X, C: Count, S: Sought<X, C>>(
     list: &[X],
@@ -264,7 +264,7 @@ fn search_part<X, C: Count, S: Sought<X, C>>(
     'long: while part.len >= LONG {
         part = halve(list, part, sought, steps);
     }
-    // Written out, since a loop is compiled with a branch on each answer.
+    // Written out, since a loop compiles to a branch on each answer.
     part = halve_to(1 << 12, list, part, sought, steps);
     part = halve_to(1 << 8, list, part, sought, steps);
     part = halve_to(1 << 4, list, part, sought, steps);
@@ -276,7 +276,7 @@ fn search_part<X, C: Count, S: Sought<X, C>>(
     }
 }
 
-/// From so many elements on a list is halved in a loop first. Sixteen halvings leave nothing of a
+/// The least length at which a list is halved in a loop first. Sixteen halvings leave nothing of a
 /// shorter one.
 const LONG: usize = 1 << 16;
 
@@ -288,8 +288,8 @@ struct Part {
     found: bool,
 }
 
-/// Four times [`halve`] where there are `least` elements or more: then fewer are left of less than
-/// 16 times as many.
+/// [`halve`] four times where there are `least` elements or more. Of fewer than 16 times `least`
+/// elements, fewer than `least` are left.
 #[inline(always)]
 fn halve_to<X, C: Count, S: Sought<X, C>>(
     least: usize,
@@ -312,7 +312,7 @@ fn halve_to<X, C: Count, S: Sought<X, C>>(
     halve_four_times(list, part, sought, steps)
 }
 
-/// Four times [`halve`].
+/// [`halve`] four times.
 #[inline(always)]
 fn halve_four_times<X, C: Count, S: Sought<X, C>>(
     list: &[X],
@@ -334,7 +334,7 @@ fn halve_four_times<X, C: Count, S: Sought<X, C>>(
     halve(list, eighth, sought, steps)
 }
 
-/// Compares with the element at the end of the first half, and goes on in that half or behind it.
+/// Compares with the element at the end of the first half, and continues in that half or after it.
 #[inline(always)]
 fn halve<X, C: Count, S: Sought<X, C>>(list: &[X], part: Part, sought: &S, steps: &mut C) -> Part
     requires ordered { IsOrdered (S.side sought.now) list.now }

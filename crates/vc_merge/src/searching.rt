@@ -25,8 +25,8 @@ pub fn is_walk_shorter(left: usize, right: usize) -> bool
     left as u128 + right as u128 <= comparisons_by_halves(left, right)
 }
 
-/// How often searches for each element of the shorter list compare at most that halve the longer
-/// one.
+/// The most comparisons of searches by halves in the longer list, one for each element of the
+/// shorter one.
 pub(crate) fn comparisons_by_halves(left: usize, right: usize) -> u128
     ensures { result ≡ min left right * digits (max left right) }
 {
@@ -35,8 +35,8 @@ pub(crate) fn comparisons_by_halves(left: usize, right: usize) -> u128
     searches * comparisons
 }
 
-/// How far apart the elements are that searches for `few` elements in `many` others begin with, as
-/// an exponent of two: at most as far as there are others for each, and more than half as far.
+/// The stride with which searches for `few` elements in `many` others begin, as an exponent of two.
+/// It is at most the number of others for each of the few, and more than half of that.
 pub(crate) fn stride_exponent(few: usize, many: usize) -> u32
     requires { few ≤ many }
     ensures exponent { result < 64 }
@@ -49,8 +49,8 @@ pub(crate) fn stride_exponent(few: usize, many: usize) -> u32
     (usize::BITS - 1) - share.leading_zeros()
 }
 
-/// How many of `many` there are for each of `few`. A division takes as long as some comparisons, so
-/// it is left out for one.
+/// How many of `many` there are for each of `few`. A division takes as long as a few comparisons,
+/// so where `few` is 1 none is made.
 #[inline(always)]
 fn share_of(few: usize, many: usize) -> usize
     requires { 0 < few }
@@ -59,8 +59,9 @@ fn share_of(few: usize, many: usize) -> usize
     if few == 1 { many } else { many / few }
 }
 
-/// Makes events until a list is used up, which it answers by true, or until an event answers false
-/// or is refused. Searches for each element of the shorter list, by strides of `2 ^ exponent`.
+/// Makes events until a list is used up, an event answers false, or an event is refused. Answers
+/// true where a list is used up. Searches for each element of the shorter list, by strides of `2 ^
+/// exponent`.
 #[inline(always)]
 pub(crate) fn search_each<M: MergeState, C: Count, O: MergeOperation<M, C>>(
     state: &mut M,
@@ -92,7 +93,7 @@ pub(crate) fn search_each<M: MergeState, C: Count, O: MergeOperation<M, C>>(
     Ok(true)
 }
 
-/// Searches for the first element of the shorter list, and hands over what is below it and then
+/// Searches for the first element of the shorter list, and hands over what is below it, and then
 /// that element.
 #[inline(always)]
 fn place_first<M: MergeState, C: Count, O: MergeOperation<M, C>>(
@@ -258,7 +259,7 @@ fn pass_rights<M: MergeState, C: Count, O: MergeOperation<M, C>>(
     pass_right(state, op, n)
 }
 
-/// Where the first left element stands in the right list.
+/// The place of the first left element in the right list, or the gap where it would be.
 #[inline(always)]
 fn find_left<M: MergeState, C: Count, O: MergeOperation<M, C>>(
     state: &M,
@@ -280,7 +281,7 @@ fn find_left<M: MergeState, C: Count, O: MergeOperation<M, C>>(
     search_near(state.b_slice(), &sought, exponent, steps)
 }
 
-/// Where the first right element stands in the left list.
+/// The place of the first right element in the left list, or the gap where it would be.
 #[inline(always)]
 fn find_right<M: MergeState, C: Count, O: MergeOperation<M, C>>(
     state: &M,

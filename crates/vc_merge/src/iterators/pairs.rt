@@ -11,7 +11,7 @@ use crate::iterators::SortedByItem;
 use std::marker::Model;
 use std::slice;
 
-/// The keys of a map in ascending order, by reference. Contracts see the list of those that are
+/// The keys of a map in ascending order, by reference. Contracts see the list of the keys that are
 /// left.
 ///
 /// A step takes no memory.
@@ -81,7 +81,7 @@ impl<'a, K: Ord, V> SortedByItem for VecMapKeys<'a, K, V> {
 }
 
 /// The values of a map in ascending order of their keys, by reference. Contracts see the list of
-/// those that are left.
+/// the values that are left.
 ///
 /// A step takes no memory.
 #[derive(Drop)]

@@ -66,7 +66,7 @@ fn key_bound<K>(bound: Bound<&K>) -> Bound<Key<'_, K>>
     }
 }
 
-/// The elements of an ordered list from one end on and up to another.
+/// The elements of an ordered list between two ends.
 #[inline(always)]
 fn between<'a, X, S: Sought<X, Uncounted>>(
     list: &'a [X],
@@ -82,8 +82,8 @@ fn between<'a, X, S: Sought<X, Uncounted>>(
     &list[from..to]
 }
 
-/// How many elements of an ordered list stand before a range that starts here, or, where `at_end`
-/// says so, up to the end of one that ends here.
+/// How many elements of an ordered list are before a range that starts at `bound`. Where `at_end`,
+/// how many are up to the end of a range that ends there.
 #[inline(always)]
 fn cut_at<X, S: Sought<X, Uncounted>>(list: &[X], bound: &Bound<S>, at_end: bool) -> usize
     requires { (s : S) → IsOrdered (S.side s) list.now }
@@ -96,8 +96,7 @@ fn cut_at<X, S: Sought<X, Uncounted>>(list: &[X], bound: &Bound<S>, at_end: bool
     }
 }
 
-/// How many elements stand before what is sought, together with the equal one where `with_equal`
-/// says so.
+/// How many elements are before what is sought, including the equal one if `with_equal`.
 #[inline]
 fn count_passing<X, S: Sought<X, Uncounted>>(list: &[X], sought: &S, with_equal: bool) -> usize
     requires { IsOrdered (S.side sought.now) list.now }
@@ -111,8 +110,8 @@ fn count_passing<X, S: Sought<X, Uncounted>>(list: &[X], sought: &S, with_equal:
     start + usize::from(stands_before(order, with_equal))
 }
 
-/// Whether an element that stands so to what is sought stands before it, or is equal to it where
-/// `with_equal` says so.
+/// Whether an element that compares as `order` with what is sought is before it, or is equal to it
+/// if `with_equal`.
 #[inline(always)]
 fn stands_before(order: Ordering, with_equal: bool) -> bool
     ensures { result ≡ passes with_equal order }
