@@ -6,7 +6,7 @@ use base.Fml.{GName}
 use Rattle.vc_merge.specs.declared.choosing.ChoosingState.{ChoosingState}
 
 module _ {X A : Type 0} {n : ℕ} where
-  -- the list that is appended to, as it was lent
+  -- the list that is appended to, as it was borrowed
   abbrev pub lent_list : ChoosingState X n A → MutBor (SmallVec X)
   lent_list s = s.built
 

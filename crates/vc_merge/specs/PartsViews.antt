@@ -8,7 +8,7 @@ use Rattle.vc_merge.specs.declared.parts.PartsState.{PartsState}
 use Rattle.vc_merge.specs.declared.parts.Spans.{Spans}
 
 module _ {X : Type 0} where
-  -- the list that is merged, as it was lent
+  -- the list that is merged, as it was borrowed
   abbrev pub lent_list : PartsState X → MutBor (List X)
   lent_list s = s.list
 
