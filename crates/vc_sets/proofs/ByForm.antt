@@ -1,4 +1,4 @@
--- What a look-up by a borrowed form finds. `side` says how an element stands to the form.
+-- What a look-up by a borrowed form finds. `side` says how an element compares with the form.
 --     member-equal, element-equal        an element that is equal to the form is found as the form is
 --     ordered        an ascending list is ordered round a form
 --     element_at-without_form, element_at-no_form        an element taken out

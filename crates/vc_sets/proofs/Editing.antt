@@ -1,4 +1,4 @@
--- An ascending list with an element put in, replaced or taken out.
+-- An ascending list with an element inserted, replaced or removed.
 use Rattle.std.proofs.Common.{◌≡◌, ℕ, zero, suc, ◌<◌, Bool, true, false, not, cond, ◌||◌, List, [], ◌∷◌, ◌++◌, length}
 use Rattle.std.proofs.Common.{take, drop, get_or, insert, set, Option, Some, is_some, refl, sym, ap, subst, ◌∙◌, arith}
 use Rattle.std.proofs.Math.ListN.{take-append-drop}

@@ -1,4 +1,4 @@
--- An operation makes one list of two sets, and its members are those that its name says.
+-- An operation on two sets has one result, and its members are those that its name says.
 use Rattle.std.proofs.Common.{◌≡◌, ◌↔◌, Bool, ◌||◌, ◌&&◌, List, [], ◌∷◌, ◌⊎◌, inl, Option}
 use Rattle.std.proofs.Common.{IsTrue, refl, sym, ap, ◌∙◌, arith}
 use Rattle.std.specs.Cmp.{IsTotalOrder, tied_itself}
@@ -67,7 +67,7 @@ module _ {X : Type 0} (cmp : X → X → Ordering) (total : IsTotalOrder cmp) wh
         → IsTrue (member cmp c x) ↔ (IsTrue (member cmp a x) × (IsTrue (member cmp b x) → ⊥))
     in-left_alone a b c s = grind arith
 
-    -- a test that is not false is true
+    -- a Boolean that cannot be false is true
     member-or_not : (b : Bool) → ((IsTrue b → ⊥) → ⊥) → IsTrue b
     member-or_not b h = grind arith
 

@@ -1,6 +1,6 @@
--- What a search in an ascending list finds. `side` says how an element stands to what is sought.
+-- What a search in an ascending list finds. `side` says how an element compares with what is sought.
 --     found-element, gap-element, place-is_ok        what a place tells, whatever the order is
---     none-below, gap-above        what stands below and above what is sought
+--     none-below, gap-above        what is below and above what is sought
 use Rattle.std.proofs.Common.{◌≡◌, ℕ, zero, suc, ◌<◌, true, false, cond, List, [], ◌∷◌, length, take}
 use Rattle.std.proofs.Common.{drop, get_or, Some, None, is_some, Result, is_ok, refl, ap, ◌∙◌, arith}
 use Rattle.std.specs.List.{AllByRecursion, HoldsAt}

@@ -8,7 +8,7 @@ use Rattle.vc_sets.specs.declared.vec_set.algebra.SetTest.TheVariants.{Disjoint,
 use Rattle.vc_sets.specs.SetOf.{and_not, exactly_one}
 use Rattle.vc_sets.specs.Tests.{IsDisjoint, IsSubset}
 
--- whether an operation keeps what is in the left one, and in the right one
+-- whether an operation keeps what is in the left set, and in the right one
 abbrev pub made_by : SetOp → Bool → Bool → Bool
 made_by Union = ◌||◌
 made_by Intersection = ◌&&◌

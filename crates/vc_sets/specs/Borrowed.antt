@@ -1,4 +1,5 @@
--- Look-ups by a borrowed form, of which `side` says how an element stands to it: `Less` before it, `Equal` at it, `Greater` behind it.
+-- Look-ups by a borrowed form, where `side` says how an element compares with it: `Less` before it,
+-- `Equal` at it, `Greater` after it.
 use Rattle.std.specs.Prelude.{◌≡◌, Bool, List, Option, Some, None, refl}
 use Rattle.std.proofs.Common.{sym, ap, ◌∙◌}
 use mathlib.Core.Bool.{true≢false}
@@ -26,15 +27,15 @@ module _ {X F : Type 0} {order : F → F → Ordering} (total : IsTotalOrder ord
   pub equal_by_form : (q : F) (x y : X) → order (lent x) q ≡ Equal → order (lent y) q ≡ cmp y x
   equal_by_form q x y e = sym (alike_right total (lent x) q (lent y) e) ∙ sym (same y x)
 
-  -- behind an element that stands behind the form all stands behind it
+  -- each element after one that is after the form is after the form too
   pub behind_by_form : (q : F) (x y : X) → order (lent x) q ≡ Greater → cmp x y ≡ Less → order (lent y) q ≡ Greater
   behind_by_form q x y e l = total.antisymm (lent y) q ∙ ap ordering_reverse
       (total.trans q (lent x) (lent y) (total.antisymm q (lent x) ∙ ap ordering_reverse e) (sym (same x y) ∙ l))
 
--- ---- forms of elements that may be missing, which then stand first
+-- ---- forms of elements that may be missing, which then come first
 
 module _ {X Q : Type 0} (side : Q → X → Ordering) where
-  -- how an element that may be missing stands to a form that may be
+  -- how an element that may be missing compares with a form that may be
   abbrev pub option_side : Option Q → Option X → Ordering
   option_side None None = Equal
   option_side None (Some y) = Greater

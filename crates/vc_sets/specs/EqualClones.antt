@@ -44,7 +44,7 @@ options_equal S both none some f (Some x) None h z = absurd (some x h)
 options_equal S both none some f (Some x) (Some y) h None = refl
 options_equal S both none some f (Some x) (Some y) h (Some z) = f x y (both x y h) z
 
--- lists, place by place
+-- lists, element by element
 pub lists_equal : {X : Type 0} {cmp : X → X → Ordering} {R : X → X → Type 0} → ClonesAreEqual cmp R
     → ClonesAreEqual (slice_cmp cmp) (AllZip R)
 lists_equal f [] [] h z = refl

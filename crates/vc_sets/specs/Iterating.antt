@@ -9,7 +9,7 @@ use Rattle.vc_merge.specs.Showing.{ShowsBackwards}
 use Rattle.vc_merge.specs.Yielded.{gives_ascending}
 
 module _ {X : Type 0} (cmp : X → X → Ordering) where
-  -- it shows the elements of xs, by reference and in order, and from behind in reverse
+  -- it shows the elements of xs, by reference and in order, and from the back in reverse
   abbrev pub Shows : List X → Iter X → Type 0
   Shows xs it =
       (iter_rest it ≡ xs) × (length (iter_rest it) < 2 ^ 64)

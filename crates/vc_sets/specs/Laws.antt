@@ -8,14 +8,14 @@ use Rattle.vc_sets.specs.SetOf.{IsSetOf, and_not, exactly_one}
 use Rattle.vc_sets.specs.Tests.{IsDisjoint, IsSubset}
 
 module _ {X : Type 0} (cmp : X → X → Ordering) where
-  -- an operation that takes elements as they are makes one list of two sets
+  -- an operation that takes the elements themselves has one result
   abbrev pub SetOfIsOne : Type 0
   SetOfIsOne =
       (f : Bool → Bool → Bool) (a b c d : List X) → IsSetOf cmp (λ x z. x ≡ z) (λ y z. y ≡ z) f a b c
       → IsSetOf cmp (λ x z. x ≡ z) (λ y z. y ≡ z) f a b d → c ≡ d
 
   module _ (from_left from_right : X → X → Type 0) where
-    -- what an operation makes of two sets is one list up to equality, place by place
+    -- the result of an operation is unique up to equality, element by element
     abbrev pub SetOfIsOneUpToEqual : Type 0
     SetOfIsOneUpToEqual =
         (f : Bool → Bool → Bool) (a b c d : List X) → IsSetOf cmp from_left from_right f a b c
@@ -34,7 +34,8 @@ module _ {X : Type 0} (cmp : X → X → Ordering) where
           ↔ ((IsTrue (member cmp a x) × (IsTrue (member cmp b x) → ⊥))
           ⊎ ((IsTrue (member cmp a x) → ⊥) × IsTrue (member cmp b x)))
 
-    -- what a union keeps of equal elements: the left one where there is one, and else the right one
+    -- what a union keeps of equal elements: the left one where there is one, and otherwise the
+    -- right one
     pub record UnionKeepsTheLeft : Type 0 where
       pub left : (a b c : List X) → IsSetOf cmp from_left from_right ◌||◌ a b c → (x y : X)
           → element_at cmp a x ≡ Some y → IsSomeAnd (element_at cmp c x) (from_left y)

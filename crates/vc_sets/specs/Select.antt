@@ -19,18 +19,20 @@ both_sides cmp u v = cmp (either u) (either v)
 pub both_sides-total : {X : Type 0} (cmp : X → X → Ordering) → IsTotalOrder cmp → IsTotalOrder (both_sides cmp)
 both_sides-total cmp total = on_total (λ u. either u) total
 
--- whether an element is kept of what stands on the left alone, on the right alone, and on both sides
+-- whether an element is kept that is on the left alone, on the right alone, and on both sides
 abbrev pub keeps : Bool → Bool → Bool → Bool → Bool → Bool
 keeps left right both true true = both
 keeps left right both true false = left
 keeps left right both false true = right
 keeps left right both false false = false
 
--- what a fresh operation keeps: what stands on the left alone, too, unless it keeps common elements alone
+-- what an operation that builds a new set keeps: what is on the left alone too, unless it keeps
+-- only common elements
 abbrev pub keeps_fresh : Bool → Bool → Bool → Bool → Bool
 keeps_fresh right both = keeps (right || not both) right both
 
--- what is kept at an event: what comes from its left element, where it has one, and else from its right one
+-- what is kept at an event: what comes from its left element, where it has one, and otherwise from
+-- its right one
 abbrev pub KeptAt : {X : Type 0} → (Bool → Bool → Bool) → (X → X → Type 0) → (X → X → Type 0) → Event X X → List X → Type 0
 KeptAt f from_left from_right (left_alone x) zs = GivesIf (f true false) (from_left x) zs
 KeptAt f from_left from_right (right_alone y) zs = GivesIf (f false true) (from_right y) zs

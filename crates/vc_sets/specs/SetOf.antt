@@ -1,15 +1,18 @@
--- What a set operation makes of two sets. It is given by f, which says of "in the left one" and "in the right one" whether an element is in the result.
+-- What a set operation makes of two sets. It is given by f, which says whether an element is in the
+-- result, from whether it is in the left set and in the right one.
 use Rattle.std.specs.Prelude.{◌≡◌, Bool, true, false, not, ◌&&◌, List, Option, Some, None, IsSomeAnd, MatchBool, is_some}
 use Rattle.std.specs.declared.cmp.Ordering.{Ordering}
 use Rattle.vc_merge.specs.Ascending.{Ascends, member, element_at}
 
--- what is kept in one place, where the left set has `left` and the right set has `right`: of two equal elements it comes from the left one
+-- what is kept of an element, where the left set has `left` and the right set has `right`: of two
+-- equal elements it comes from the left one
 abbrev pub Keeps : {X : Type 0} → (Bool → Bool → Bool) → (X → X → Type 0) → (X → X → Type 0) → Option X → Option X → Option X → Type 0
 Keeps f from_left from_right (Some x) right kept = MatchBool (f true (is_some right)) (IsSomeAnd kept (from_left x)) (kept ≡ None)
 Keeps f from_left from_right None (Some y) kept = MatchBool (f false true) (IsSomeAnd kept (from_right y)) (kept ≡ None)
 Keeps f from_left from_right None None kept = kept ≡ None
 
--- c is what f makes of a and b; an element of it comes from one of a by `from_left`, and else from one of b by `from_right`
+-- c is what f makes of a and b; an element of it comes from one of a by `from_left`, and otherwise
+-- from one of b by `from_right`
 pub record IsSetOf {X : Type 0} (cmp : X → X → Ordering) (from_left from_right : X → X → Type 0) (f : Bool → Bool → Bool) (a b c : List X) : Type 0 where
   pub ascends : Ascends cmp c
   pub members : (x : X) → member cmp c x ≡ f (member cmp a x) (member cmp b x)

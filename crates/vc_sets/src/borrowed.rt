@@ -1,4 +1,4 @@
-//! Borrowed forms, by which elements are looked up without an element at hand.
+//! Borrowed forms, which look elements up without an owned element.
 ghost use Rattle.std.specs.Prelude.{◌≡◌, refl};
 ghost use Rattle.std.specs.Cmp.Lexicographic.{lists_total, nat_list_cmp_total, slice_cmp};
 ghost use Rattle.std.specs.Ordering.{nat_cmp};
@@ -10,13 +10,13 @@ ghost use Rattle.vc_sets.specs.Borrowed.{equal_by_form, behind_by_form, equal_by
 use std::alloc::Allocator;
 use std::cmp::Ordering;
 
-/// A borrowed form of elements: it stands among them where an element that is equal to it does.
-/// `&str` is one of `String`, `&[T]` of `Vec<T>`, `&T` of any `T`, and `Option<Q>` of `Option<T>`
-/// where `Q` is one of `T`.
+/// A borrowed form of elements, ordered among them as an element equal to it is. `&str` is one of
+/// `String`, `&[T]` of `Vec<T>`, `&T` of any `T`, and `Option<Q>` of `Option<T>` where `Q` is one
+/// of `T`.
 ///
-/// An implementation says how an element stands to the form, and proves two laws. Where elements
-/// are ordered by what they lend, `equal_by_form` and `behind_by_form` of `specs::Borrowed` are
-/// these laws.
+/// An implementation says how an element compares with the form, and proves two laws. Where
+/// elements are ordered by what they lend, `equal_by_form` and `behind_by_form` of
+/// `specs::Borrowed` are these laws.
 ///
 /// ```
 /// assert!(rt; names.contains_by("ada"));
@@ -24,14 +24,14 @@ use std::cmp::Ordering;
 pub trait Borrowed<T: Ord>: Copy {
     ghost side: { Self → T → Ordering };
 
-    /// How the element stands to the form: `Less` before it, `Equal` at it, `Greater` behind it.
+    /// How the element compares with the form: `Less` before it, `Equal` at it, `Greater` after it.
     fn compare(&self, element: &T) -> Ordering
         ensures { result ≡ side self.now element.now };
 
     // An element that is equal to the form orders all elements as the form does.
     ghost orders_as_equal: { (q : Self) (x y : T) → side q x ≡ Equal → side q y ≡ T.cmp y x };
 
-    // Behind an element that stands behind the form all stands behind it.
+    // Each element after one that is after the form is after the form too.
     ghost stays_behind: { (q : Self) (x y : T)
         → side q x ≡ Greater → T.cmp x y ≡ Less → side q y ≡ Greater };
 }
@@ -97,14 +97,14 @@ impl<T: Ord, Q: Borrowed<T>> Borrowed<Option<T>> for Option<Q> {
     }
 }
 
-/// Two slices, both lent as long, as their comparison asks.
+/// The order of two slices, with one lifetime for both, as their comparison requires.
 fn slices<'x, T: Ord>(a: &'x [T], b: &'x [T]) -> Ordering
     ensures { result ≡ slice_cmp T.cmp a.now b.now }
 {
     Ord::cmp(&a, &b)
 }
 
-/// Two texts, both lent as long, as their comparison asks.
+/// The order of two strings, with one lifetime for both, as their comparison requires.
 fn texts<'x>(a: &'x str, b: &'x str) -> Ordering
     ensures { result ≡ slice_cmp nat_cmp a.now b.now }
 {

@@ -1,4 +1,4 @@
-//! Elements whose clones are equal to them.
+//! Types whose clones are equal to their sources.
 ghost use Rattle.std.specs.Ordering.{bool_cmp, int_cmp, nat_cmp};
 ghost use Rattle.std.specs.Prelude.{string_bytes};
 ghost use Rattle.std.specs.Cmp.Lexicographic.{slice_cmp};

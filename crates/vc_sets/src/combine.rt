@@ -1,4 +1,4 @@
-//! Set operations on two ascending lists that build a fresh one.
+//! Set operations on two ascending lists that build a new one.
 ghost use Rattle.std.specs.Prelude.{◌≡◌, ◌+◌, ◌≤◌, true, false, not, [], length, IfOk};
 ghost use Rattle.vc_merge.specs.Ascending.{Ascends};
 ghost use Rattle.vc_merge.specs.Count.{bound};
@@ -15,7 +15,7 @@ use std::default::MadeWith;
 use vc_merge::choosing::ChoosingState;
 use vc_merge::merge::{Count, merge};
 
-/// What stands in either list alone and, if `BOTH`, the left one of what stands in both.
+/// The elements of either list alone and, if `BOTH`, the left one of each two equal ones.
 fn combine_either<
     const BOTH: bool,
     T: Ord + Clone + MadeWith<A>,
@@ -37,9 +37,9 @@ fn combine_either<
     Ok(built)
 }
 
-/// What stands in the left list alone or, if `BOTH`, the left one of what stands in both. What
-/// stands alone is at least as much as the left list has more than the right one: room for that is
-/// reserved at the start.
+/// The elements of the left list alone or, if `BOTH`, the left one of each two equal ones. At least
+/// as many are alone as the left list has more than the right one: room for these is reserved at
+/// the start.
 fn combine_left<
     const BOTH: bool,
     T: Ord + Clone + MadeWith<A>,
@@ -67,8 +67,8 @@ fn combine_left<
     Ok(built)
 }
 
-/// An empty list. Where either list has more than `N` elements, it has room for all of both. Else
-/// what is made of them may fit in place: then it begins there, and grows if it has to.
+/// An empty list. Where either list has more than `N` elements, it has room for all of both.
+/// Otherwise the result may fit inline: the list begins there, and grows if it has to.
 #[inline(always)]
 fn with_room_for_both<T: MadeWith<A> + Drop, const N: usize, A: Allocator + Copy>(
     alloc: A,

@@ -4,14 +4,14 @@
 //! proof.
 ghost use Rattle.vc_sets.specs.Laws.{InEachWay, SetOfIsOne, SetOfIsOneUpToEqual, OperationsInWords, UnionKeepsTheLeft, TestsAreOfOperations};
 
-/// An operation makes one list of two sets, where it takes their elements as they are. Where it
-/// takes clones, what it makes is one list up to equality.
+/// The result of an operation on two sets is unique where it takes their elements themselves. Where
+/// it takes clones, the result is unique up to equality.
 pub fn set_of_is_one<T: Ord + Clone>()
     ensures same { SetOfIsOne T.cmp }
     ensures equal { InEachWay T.is_clone (SetOfIsOneUpToEqual T.cmp) }
 {}
 
-/// Union, intersection, difference and symmetric difference have the members that these words say.
+/// Union, intersection, difference and symmetric difference have the members that their names say.
 /// Of equal elements a union keeps the left one.
 pub fn operations_are_as_named<T: Ord + Clone>()
     ensures members { InEachWay T.is_clone (OperationsInWords T.cmp) }
@@ -19,7 +19,7 @@ pub fn operations_are_as_named<T: Ord + Clone>()
 {}
 
 /// Two sets are disjoint exactly where their intersection is empty, and one is a subset of the
-/// other exactly where their difference is, and exactly where their union equals the other.
+/// other exactly where their difference is empty, and exactly where their union equals the other.
 pub fn tests_are_of_operations<T: Ord + Clone>()
     ensures { InEachWay T.is_clone (TestsAreOfOperations T.cmp) }
 {}

@@ -8,11 +8,11 @@ use std::alloc::AllocError;
 use std::cmp::Ordering;
 use vc_merge::merge::{Count, MergeFromRight, MergeOperation, MergeStateMut};
 
-/// Keeps what stands on either side alone, and what stands on both if `BOTH`: the union, or the
-/// symmetric difference.
+/// Keeps what is on either side alone, and what is on both if `BOTH`: the union, or the symmetric
+/// difference.
 pub struct EitherOp<const BOTH: bool>;
 
-/// Keeps what stands on the left alone, or, if `BOTH`, what stands on both: the difference, or the
+/// Keeps what is on the left alone or, if `BOTH`, what is on both: the difference, or the
 /// intersection.
 pub struct LeftOp<const BOTH: bool>;
 
@@ -108,7 +108,7 @@ impl<const BOTH: bool, T: Ord, M: MergeStateMut<A = T, B = T>, C: Count> MergeOp
     }
 }
 
-/// Passes an element that stands on both sides, and takes the left one if `BOTH`.
+/// Passes an element that is on both sides, and takes the left one if `BOTH`.
 #[inline(always)]
 fn keep_left<const BOTH: bool, M: MergeStateMut>(state: &mut M) -> Result<bool, AllocError>
     requires ready { M.ready state.old }
@@ -127,7 +127,7 @@ fn keep_left<const BOTH: bool, M: MergeStateMut>(state: &mut M) -> Result<bool, 
     }
 }
 
-/// Compares two elements, and counts that.
+/// Compares two elements, and counts the comparison.
 pub fn compare<T: Ord, C: Count>(a: &T, b: &T, steps: &mut C) -> Ordering
     ensures value { result ≡ T.cmp a.now b.now }
     ensures ticks { C.counted steps.new ≡ ticked (C.counted steps.old) }

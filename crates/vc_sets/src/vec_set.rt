@@ -33,9 +33,8 @@ use vc_merge::iterators::VecSetIter;
 use vc_merge::moving::insert_at;
 use vc_merge::search::{elements_between, find};
 
-/// A set, as a list of its elements in ascending order. Up to `N` of them stand in place, without
-/// an allocation, unless the list was once given room for more: then it keeps its block until
-/// `shrink_to_fit`.
+/// A set, as a list of its elements in ascending order. Up to `N` of them are held inline, without
+/// an allocation. A list that once spilled to the heap keeps its block until `shrink_to_fit`.
 ///
 /// Contracts see it as that list.
 ///
@@ -49,7 +48,7 @@ pub struct VecSet<T: Ord, const N: usize, A: Allocator = Global> {
     elements: SmallVec<T, N, A>,
 }
 
-/// A set with room for two elements in place.
+/// A set with room for two elements inline.
 pub type VecSet2<T> = VecSet<T, 2>;
 
 impl<T: Ord, const N: usize, A: Allocator> Model for VecSet<T, N, A> {
@@ -97,10 +96,10 @@ impl<T: Ord + MadeWith<A> + Drop, const N: usize, A: Allocator + Copy> VecSet<T,
         }
     }
 
-    /// The set of a list that ascends strictly, as [`ascends`](vc_merge::iterators::ascends) tells.
-    /// The elements are moved.
+    /// The set of a list that ascends strictly, as [`ascends`](vc_merge::iterators::ascends)
+    /// checks. The elements are moved.
     ///
-    /// Takes memory where there are more than `N`; refused, it drops the elements.
+    /// Takes memory where there are more than `N`; where it is refused, the elements are dropped.
     #[inline(always)]
     pub fn from_vec(alloc: A, vec: Vec<T>) -> Result<Self, AllocError>
         requires { Ascends T.cmp vec.items }
@@ -118,12 +117,11 @@ impl<T: Ord + MadeWith<A> + Drop, const N: usize, A: Allocator + Copy> VecSet<T,
         Ok(VecSet { elements })
     }
 
-    /// Puts an element in, in the place of an equal one if there is one, and answers whether there
-    /// was none.
+    /// Inserts an element, or replaces an equal one, and answers whether there was none.
     ///
-    /// Compares as often as `contains`, and moves the elements behind a new one. It takes memory
-    /// only for a new element, where `N` or more are held; refused, it leaves the set as it was and
-    /// drops the element.
+    /// Compares as often as `contains`, and moves the elements after a new one. It takes memory
+    /// only for a new element, where `N` or more are held. Where that is refused, the set is
+    /// unchanged, and the element is dropped.
     pub fn insert(&mut self, that: T) -> Result<bool, AllocError>
         ensures answer { IfOk result (λ is_new. is_new ≡ not (member T.cmp self.old that)) }
         ensures members { IfOk result (λ _. (x : T)
@@ -132,7 +130,7 @@ impl<T: Ord + MadeWith<A> + Drop, const N: usize, A: Allocator + Copy> VecSet<T,
             → element_at T.cmp self.new x
             ≡ cond (eq_by_cmp T.cmp that x) (Some that) (element_at T.cmp self.old x)) }
 
-        // It succeeds on a known element, and where fewer than `N` are held.
+        // It succeeds where an equal element is held, and where fewer than `N` are held.
         ensures known { IsTrue (member T.cmp self.old that) → IsOk result }
         ensures room { length self.old < N → IsOk result }
         ensures err { OnErr result (self.new ≡ self.old) }
@@ -150,7 +148,7 @@ impl<T: Ord + MadeWith<A> + Drop, const N: usize, A: Allocator + Copy> VecSet<T,
     }
 }
 
-/// The elements of a `Vec`, in one on another allocator that holds just these.
+/// Moves the elements of a `Vec` into one of another allocator, with room for exactly these.
 #[inline(never)]
 fn moved<T: Drop, A: Allocator>(alloc: A, vec: Vec<T>) -> Result<Vec<T, A>, AllocError>
     ensures { IfOk result (λ list. list.items ≡ vec.items) }
@@ -164,7 +162,7 @@ fn moved<T: Drop, A: Allocator>(alloc: A, vec: Vec<T>) -> Result<Vec<T, A>, Allo
 
 /// A set whose elements can be read as one ascending list.
 ///
-/// An implementation writes `as_slice` alone, and the elements that it shows.
+/// An implementation writes only `as_slice`, and the elements that contracts see.
 pub trait AbstractVecSet<T: Ord> {
     ghost elements: { Self → List T };
 
@@ -180,14 +178,16 @@ pub trait AbstractVecSet<T: Ord> {
         self.as_slice().is_empty()
     }
 
-    /// The least element, or none where there is no element. Compares none, and takes no memory.
+    /// The least element, or none where there is no element. Makes no comparison, and takes no
+    /// memory.
     fn first(&self) -> Option<&T>
         ensures { option_copied result ≡ slice_get (elements self.now) 0 }
     {
         self.as_slice().first()
     }
 
-    /// The greatest element, or none where there is no element. Compares none, and takes no memory.
+    /// The greatest element, or none where there is no element. Makes no comparison, and takes no
+    /// memory.
     fn last(&self) -> Option<&T>
         ensures { option_copied result
             ≡ slice_get (elements self.now) (length (elements self.now) - 1) }
@@ -210,8 +210,8 @@ pub trait AbstractVecSet<T: Ord> {
         find(self.as_slice(), value).is_ok()
     }
 
-    /// Whether an element is equal to a borrowed form, as a `&str` among `String`s. Compares as
-    /// often as `contains`, and takes no memory.
+    /// Whether an element is equal to a borrowed form, such as a `&str` among `String`s. Compares
+    /// as often as `contains`, and takes no memory.
     ///
     /// ```
     /// assert!(rt; names.contains_by("ada"));
@@ -226,8 +226,8 @@ pub trait AbstractVecSet<T: Ord> {
         find_by(self.as_slice(), sought).is_ok()
     }
 
-    /// The element that is equal to a borrowed form, as the set holds it. By a reference to an
-    /// element it shows which of two equal ones that is.
+    /// The element that is equal to a borrowed form, as the set holds it. With a reference to an
+    /// element, it shows which of two equal ones is held.
     ///
     /// Compares as often as `contains`, and takes no memory.
     ///
@@ -270,7 +270,7 @@ pub trait AbstractVecSet<T: Ord> {
     }
 
     /// Whether each element of this set is in the other. It stops at the first that is not, and
-    /// compares none where this set has more elements. Takes no memory.
+    /// makes no comparison where this set has more elements. Takes no memory.
     final fn is_subset<S: AbstractVecSet<T>>(&self, that: &S) -> bool
         ensures { IsTrue result ↔ IsSubset T.cmp (elements self.now) (S.elements that.now) }
     {
@@ -278,7 +278,7 @@ pub trait AbstractVecSet<T: Ord> {
     }
 
     /// Whether each element of the other set is in this one. It stops at the first that is not, and
-    /// compares none where the other set has more elements. Takes no memory.
+    /// makes no comparison where the other set has more elements. Takes no memory.
     final fn is_superset<S: AbstractVecSet<T>>(&self, that: &S) -> bool
         ensures { IsTrue result ↔ IsSubset T.cmp (S.elements that.now) (elements self.now) }
     {

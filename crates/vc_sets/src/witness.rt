@@ -1,4 +1,4 @@
-//! A search for a witness: an element that stands on the left alone, on the right alone, or on both
+//! A search for a witness: an element that is on the left alone, on the right alone, or on both
 //! sides. It stops at the first one.
 ghost use Rattle.std.specs.Prelude.{◌≡◌, ◌+◌, ◌≤◌, ◌||◌, ◌↔◌, Ok, true, false, not, length, IsTrue, MatchBool};
 ghost use Rattle.vc_merge.specs.Ascending.{Ascends, member};
@@ -37,8 +37,8 @@ impl<'a, T> MergeState for Witnesses<'a, T> {
     }
 }
 
-/// Stops at an element of the left alone if `LEFT`, of the right alone if `RIGHT`, and at one that
-/// stands on both sides if `BOTH`.
+/// Stops at an element of the left alone if `LEFT`, of the right alone if `RIGHT`, and at one on
+/// both sides if `BOTH`.
 struct WitnessOp<const LEFT: bool, const RIGHT: bool, const BOTH: bool>;
 
 impl<'a, const LEFT: bool, const RIGHT: bool, const BOTH: bool, T: Ord, C: Count> MergeOperation<
@@ -101,8 +101,8 @@ pub fn has_witness<const LEFT: bool, const RIGHT: bool, const BOTH: bool, T: Ord
     state.found
 }
 
-/// Whether each element of the left list is in the right one. A longer list is in no shorter one,
-/// which takes no comparison.
+/// Whether each element of the left list is in the right one. A longer list is in no shorter one;
+/// that takes no comparison.
 pub fn is_within<T: Ord, C: Count>(a: &[T], b: &[T], steps: &mut C) -> bool
     requires a_ascends { Ascends T.cmp a.now }
     requires b_ascends { Ascends T.cmp b.now }

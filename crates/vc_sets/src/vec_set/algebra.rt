@@ -1,4 +1,4 @@
-//! The four operations of sets that build a fresh set, and the three tests of two sets.
+//! The four operations of sets that build a new set, and the three tests of two sets.
 ghost use Rattle.std.specs.Prelude.{◌≡◌, ◌+◌, ◌≤◌, ◌||◌, ◌&&◌, ◌↔◌, length, IfOk, IsTrue};
 ghost use Rattle.vc_merge.specs.Ascending.{member};
 ghost use Rattle.vc_merge.specs.Count.{bound};
@@ -41,9 +41,10 @@ pub enum SetTest {
 
 /// What is in either of two sets, as clones. Of two equal elements the left one is kept.
 ///
-/// Where either set has more than `N` elements, it grows once, at the start, for as many as both
-/// sets have. Else it grows only where the result has more than `N`. It compares at most as often
-/// as both sets have elements. Refused at a growth or a clone, it drops what it built.
+/// Where either set has more than `N` elements, it allocates once, at the start, for as many as
+/// both sets have. Otherwise it allocates only where the result has more than `N`. It makes at most
+/// as many comparisons as both sets have elements. Where an allocation or a clone is refused, what
+/// was built is dropped.
 ///
 /// ```
 /// let tags: VecSet<u32, 4> = union(alloc, &ours, &theirs)?;
@@ -67,8 +68,8 @@ pub fn union<
 
 /// What is in both of two sets, as clones of the left elements.
 ///
-/// It grows as it goes, and compares at most as often as both sets have elements. Refused at a
-/// growth or a clone, it drops what it built.
+/// It grows as needed, and makes at most as many comparisons as both sets have elements. Where an
+/// allocation or a clone is refused, what was built is dropped.
 pub fn intersection<
     T: Ord + Clone + MadeWith<A>,
     S: AbstractVecSet<T>,
@@ -87,9 +88,10 @@ pub fn intersection<
 
 /// What is in exactly one of two sets, as clones.
 ///
-/// Where either set has more than `N` elements, it grows once, at the start, for as many as both
-/// sets have. Else it grows only where the result has more than `N`. It compares at most as often
-/// as both sets have elements. Refused at a growth or a clone, it drops what it built.
+/// Where either set has more than `N` elements, it allocates once, at the start, for as many as
+/// both sets have. Otherwise it allocates only where the result has more than `N`. It makes at most
+/// as many comparisons as both sets have elements. Where an allocation or a clone is refused, what
+/// was built is dropped.
 pub fn symmetric_difference<
     T: Ord + Clone + MadeWith<A>,
     S: AbstractVecSet<T>,
@@ -109,9 +111,9 @@ pub fn symmetric_difference<
 
 /// What is in the left one of two sets and not in the right one, as clones.
 ///
-/// It grows at the start for as many elements as the left set has more than the right one, and then
-/// as it goes, and compares at most as often as both sets have elements. Refused at a growth or a
-/// clone, it drops what it built.
+/// It makes room at the start for as many elements as the left set has more than the right one, and
+/// then grows as needed. It makes at most as many comparisons as both sets have elements. Where an
+/// allocation or a clone is refused, what was built is dropped.
 pub fn difference<
     T: Ord + Clone + MadeWith<A>,
     S: AbstractVecSet<T>,
@@ -162,9 +164,10 @@ impl<T: Ord + Clone + MadeWith<A>, const N: usize, A: Allocator + Copy> VecSet<T
     /// What is in either set, as clones, with the allocator of this set. Of two equal elements the
     /// left one is kept.
     ///
-    /// Where either set has more than `N` elements, it grows once, at the start, for as many as
-    /// both sets have. Else it grows only where the result has more than `N`. It compares at most
-    /// as often as both sets have elements. Refused at a growth or a clone, it drops what it built.
+    /// Where either set has more than `N` elements, it allocates once, at the start, for as many as
+    /// both sets have. Otherwise it allocates only where the result has more than `N`. It makes at
+    /// most as many comparisons as both sets have elements. Where an allocation or a clone is
+    /// refused, what was built is dropped.
     pub fn union<S: AbstractVecSet<T>>(&self, that: &S) -> Result<Self, AllocError>
         requires clones { ClonesAreEqual T.cmp T.is_clone }
         ensures union { IfOk result
@@ -175,8 +178,8 @@ impl<T: Ord + Clone + MadeWith<A>, const N: usize, A: Allocator + Copy> VecSet<T
 
     /// What is in both sets, as clones of the left elements, with the allocator of this set.
     ///
-    /// It grows as it goes, and compares at most as often as both sets have elements. Refused at a
-    /// growth or a clone, it drops what it built.
+    /// It grows as needed, and makes at most as many comparisons as both sets have elements. Where
+    /// an allocation or a clone is refused, what was built is dropped.
     pub fn intersection<S: AbstractVecSet<T>>(&self, that: &S) -> Result<Self, AllocError>
         requires clones { ClonesAreEqual T.cmp T.is_clone }
         ensures intersection { IfOk result
@@ -187,9 +190,10 @@ impl<T: Ord + Clone + MadeWith<A>, const N: usize, A: Allocator + Copy> VecSet<T
 
     /// What is in exactly one of the sets, as clones, with the allocator of this set.
     ///
-    /// Where either set has more than `N` elements, it grows once, at the start, for as many as
-    /// both sets have. Else it grows only where the result has more than `N`. It compares at most
-    /// as often as both sets have elements. Refused at a growth or a clone, it drops what it built.
+    /// Where either set has more than `N` elements, it allocates once, at the start, for as many as
+    /// both sets have. Otherwise it allocates only where the result has more than `N`. It makes at
+    /// most as many comparisons as both sets have elements. Where an allocation or a clone is
+    /// refused, what was built is dropped.
     pub fn symmetric_difference<S: AbstractVecSet<T>>(&self, that: &S) -> Result<Self, AllocError>
         requires clones { ClonesAreEqual T.cmp T.is_clone }
         ensures symmetric_difference { IfOk result
@@ -200,9 +204,9 @@ impl<T: Ord + Clone + MadeWith<A>, const N: usize, A: Allocator + Copy> VecSet<T
 
     /// What is in this set and not in the other, as clones, with the allocator of this set.
     ///
-    /// It grows at the start for as many elements as this set has more than the other one, and then
-    /// as it goes, and compares at most as often as both sets have elements. Refused at a growth or
-    /// a clone, it drops what it built.
+    /// It makes room at the start for as many elements as this set has more than the other one, and
+    /// then grows as needed. It makes at most as many comparisons as both sets have elements. Where
+    /// an allocation or a clone is refused, what was built is dropped.
     pub fn difference<S: AbstractVecSet<T>>(&self, that: &S) -> Result<Self, AllocError>
         requires clones { ClonesAreEqual T.cmp T.is_clone }
         ensures difference { IfOk result
@@ -214,8 +218,8 @@ impl<T: Ord + Clone + MadeWith<A>, const N: usize, A: Allocator + Copy> VecSet<T
     /// The operation `op` of the two sets, as clones, with the allocator of this set. Of two equal
     /// elements the left one is kept.
     ///
-    /// It grows and compares as the method of that operation does. Refused at a growth or a clone,
-    /// it drops what it built.
+    /// It grows and compares as the method of that operation does. Where an allocation or a clone
+    /// is refused, what was built is dropped.
     ///
     /// ```
     /// let both = ours.combine(&theirs, SetOp::Intersection)?;
@@ -231,13 +235,13 @@ impl<T: Ord + Clone + MadeWith<A>, const N: usize, A: Allocator + Copy> VecSet<T
         Ok(VecSet { elements })
     }
 
-    /// The operation `op` of the two sets, as clones, with its comparisons added to `steps`: at
-    /// most as many as both sets have elements, and at most as many for each element of the shorter
-    /// one as the length of the longer one has binary digits. Of two equal elements the left one is
-    /// kept.
+    /// The operation `op` of the two sets, as clones, with its comparisons added to `steps`. Of two
+    /// equal elements the left one is kept. It makes at most as many comparisons as both sets have
+    /// elements. For each element of the shorter set it makes at most as many as the length of the
+    /// longer one has binary digits.
     ///
-    /// Refused at a growth or a clone, it drops what it built; the comparisons until then are
-    /// counted.
+    /// Where an allocation or a clone is refused, what was built is dropped; the comparisons until
+    /// then are counted.
     ///
     /// ```
     /// let mut steps = Steps::new();

@@ -28,7 +28,7 @@ impl<T: Ord, Q: Borrowed<T>, C: Count> Sought<T, C> for Form<Q> {
 }
 
 /// The place of the element that is equal to a form in an ascending list, or the gap where it would
-/// stand.
+/// be.
 pub fn find_by<T: Ord, Q: Borrowed<T>>(list: &[T], sought: Q) -> Result<usize, usize>
     requires { Ascends T.cmp list.now }
     ensures { IsPlace (Q.side sought) list.now result }
@@ -37,10 +37,10 @@ pub fn find_by<T: Ord, Q: Borrowed<T>>(list: &[T], sought: Q) -> Result<usize, u
 }
 
 impl<T: Ord + MadeWith<A> + Drop, const N: usize, A: Allocator + Copy> VecSet<T, N, A> {
-    /// Takes out and drops the element that is equal to a borrowed form, and answers whether there
+    /// Removes and drops the element that is equal to a borrowed form, and answers whether there
     /// was one.
     ///
-    /// Compares as often as `contains`, moves the elements behind it, and takes no memory.
+    /// Compares as often as `contains`, moves the elements after it, and takes no memory.
     ///
     /// ```
     /// assert!(rt; names.remove_by("ada"));

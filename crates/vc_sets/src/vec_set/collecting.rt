@@ -8,9 +8,10 @@ use smallvec::SmallVec;
 use std::alloc::{AllocError, Allocator};
 use std::default::MadeWith;
 
-/// Puts the elements of a list in ascending order, and keeps the last of equal ones alone.
+/// Puts the elements of a list in ascending order, and keeps only the last of equal ones.
 ///
-/// Takes memory where there are more than 20; refused, it leaves the elements in any order.
+/// Takes memory where there are more than 20; where that is refused, the elements are left in any
+/// order.
 fn put_in_order<T: Ord + MadeWith<A> + Drop, const N: usize, A: Allocator + Copy>(
     alloc: A,
     list: &mut SmallVec<T, N, A>,
@@ -21,7 +22,7 @@ fn put_in_order<T: Ord + MadeWith<A> + Drop, const N: usize, A: Allocator + Copy
 {
     let items = list.as_mut_slice();
     items.reverse();
-    // A stable sort leaves what was the last of equal elements in front of the others.
+    // A stable sort of the reversed list puts the last of equal elements before the others.
     items.sort(alloc)?;
     list.dedup();
     Ok(())
@@ -30,9 +31,9 @@ fn put_in_order<T: Ord + MadeWith<A> + Drop, const N: usize, A: Allocator + Copy
 /// The set of the items of an iterator that ends, in any order. Of equal items the last one is
 /// kept, as if each were inserted in turn.
 ///
-/// The items come first, and are sorted then, with `O(n * log(n))` comparisons. Takes memory where
-/// more than `N` items come, and for the sort where more than 20 do; refused, it drops the items
-/// that came and the iterator.
+/// All items are taken first, and then sorted with `O(n * log(n))` comparisons. Takes memory where
+/// there are more than `N` items, and for the sort where there are more than 20. Where memory is
+/// refused, the items that came and the iterator are dropped.
 ///
 /// ```
 /// let digits: VecSet<u32, 4> = text.chars().filter_map(|c| c.to_digit(10)).collect(alloc)?;
@@ -51,12 +52,12 @@ impl<T: Ord + MadeWith<A> + Drop, const N: usize, A: Allocator + Copy> FromItera
     }
 }
 
-/// Puts the items of an iterator that ends in, in turn and in any order, each in the place of an
-/// equal element if there is one.
+/// Inserts the items of an iterator that ends, in turn and in any order. Each replaces an equal
+/// element if there is one.
 ///
-/// Each item compares and moves as [`insert`](VecSet::insert) does. Where many items come, collect
-/// them into a set first, and take that one in. Refused at an item, it drops that item and the
-/// iterator; the items before it are in the set.
+/// Each item compares and moves as [`insert`](VecSet::insert) does. Where there are many items,
+/// collect them into a set first, and take the union with it. Where an item is refused, that item
+/// and the iterator are dropped; the items before it are in the set.
 impl<T: Ord + MadeWith<A> + Drop, const N: usize, A: Allocator + Copy> Extend<T>
     for VecSet<T, N, A> {
     ghost extend_gives = { IsExtended T.cmp };

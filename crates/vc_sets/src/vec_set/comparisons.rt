@@ -24,8 +24,8 @@ impl<T: Ord, const N: usize, A: Allocator> Eq for VecSet<T, N, A> {
     ghost laws = { lists_equiv T.Eq.laws };
 }
 
-/// Sets are ordered as the ascending lists of their elements are: by the first place at which they
-/// differ, and there a list that has ended comes first.
+/// Sets are ordered as the ascending lists of their elements: by the first place at which they
+/// differ. A list that has ended there comes first.
 impl<T: Ord, const N: usize, A: Allocator> PartialOrd for VecSet<T, N, A> {
     ghost partial_cmp = { slice_partial_cmp T.partial_cmp };
 

@@ -26,7 +26,7 @@ pub fn set_of_list<T: Ord, const N: usize, A: Allocator>(
     VecSet { elements }
 }
 
-/// The elements of a list in ascending order, and of equal ones the last alone.
+/// The elements of a list in ascending order, and of equal ones only the last.
 fn in_order<T: Ord + Drop>(vec: Vec<T>) -> Result<Vec<T>, AllocError>
     ensures ascends { IfOk result (λ list. Ascends T.cmp list.items) }
     ensures kept { IfOk result
@@ -34,7 +34,7 @@ fn in_order<T: Ord + Drop>(vec: Vec<T>) -> Result<Vec<T>, AllocError>
 {
     let mut list = vec;
     list.reverse();
-    // A stable sort leaves what was the last of equal elements in front of the others.
+    // A stable sort of the reversed list puts the last of equal elements before the others.
     list.sort()?;
     list.dedup();
     Ok(list)
@@ -42,8 +42,8 @@ fn in_order<T: Ord + Drop>(vec: Vec<T>) -> Result<Vec<T>, AllocError>
 
 /// The list of the items of an iterator that ends. The items are moved.
 ///
-/// Takes memory where there are more than `N`; refused, it drops the items that came and the
-/// iterator.
+/// Takes memory where there are more than `N`; where it is refused, the items that came and the
+/// iterator are dropped.
 pub fn list_of_items<
     T: MadeWith<A> + Drop,
     I: Iterator<Item = T>,
@@ -72,7 +72,8 @@ impl<T: Ord, const N: usize, A: Allocator> VecSet<T, N, A> {
 }
 
 impl<T: Ord + MadeWith<A> + Drop, const N: usize, A: Allocator + Copy> VecSet<T, N, A> {
-    /// The set of one element. Takes memory only where `N` is 0; refused, it drops the element.
+    /// The set of one element. Takes memory only where `N` is 0; where it is refused, the element
+    /// is dropped.
     pub fn single(alloc: A, value: T) -> Result<Self, AllocError>
         ensures element { IfOk result (λ s. s ≡ value ∷ []) }
         ensures room { 1 ≤ N → IsOk result }
@@ -84,8 +85,8 @@ impl<T: Ord + MadeWith<A> + Drop, const N: usize, A: Allocator + Copy> VecSet<T,
 
     /// The set of the items of an iterator that ascends strictly and ends. The items are moved.
     ///
-    /// Takes memory where there are more than `N`; refused, it drops the items that came and the
-    /// iterator.
+    /// Takes memory where there are more than `N`; where it is refused, the items that came and the
+    /// iterator are dropped.
     pub fn from_iter<I: Iterator<Item = T> + SortedByItem>(
         alloc: A,
         iter: I,
@@ -105,7 +106,7 @@ impl<T: Ord + MadeWith<A> + Drop, const N: usize, A: Allocator + Copy> VecSet<T,
 
     /// The set with the elements of a `BTreeSet`, which are moved.
     ///
-    /// Takes memory where there are more than `N`; refused, it drops the elements.
+    /// Takes memory where there are more than `N`; on refusal it drops the elements.
     pub fn from_btree_set(alloc: A, set: BTreeSet<T>) -> Result<Self, AllocError>
         ensures elements { IfOk result (λ s. s ≡ set.keys) }
         ensures room { length set.keys ≤ N → IsOk result }
@@ -113,12 +114,12 @@ impl<T: Ord + MadeWith<A> + Drop, const N: usize, A: Allocator + Copy> VecSet<T,
         Self::from_iter(alloc, set.into_iter())
     }
 
-    /// The set of the elements of a list that may stand in any order. Of equal elements the last
+    /// The set of the elements of a list that may be in any order. Of equal elements the last
     /// one of the list is kept, as if each were inserted in turn. The elements are moved.
     ///
     /// Sorts in the place of the list, and compares `O(n * log(n))` times. Takes memory for the
     /// sort where there are more than 20, from the allocator of the list, and where more than `N`
-    /// are left; refused, it drops the elements.
+    /// are left; on refusal it drops the elements.
     ///
     /// ```
     /// let primes: VecSet<u32, 4> = VecSet::from_unsorted(alloc, vec![in alloc; 5, 2, 3, 2]?)?;
@@ -135,7 +136,7 @@ impl<T: Ord + MadeWith<A> + Drop, const N: usize, A: Allocator + Copy> VecSet<T,
 
     /// The elements in ascending order, as a `Vec`.
     ///
-    /// Takes memory where they stand in place; refused, it drops them.
+    /// Takes memory where they are inline; on refusal it drops them.
     pub fn into_vec(self) -> Result<Vec<T, A>, AllocError>
         ensures elements { IfOk result (λ v. v.items ≡ self) }
         ensures ascends { Ascends T.cmp self }
@@ -147,8 +148,9 @@ impl<T: Ord + MadeWith<A> + Drop, const N: usize, A: Allocator + Copy> VecSet<T,
 impl<T: Ord + Clone + MadeWith<A>, const N: usize, A: Allocator + Copy> VecSet<T, N, A> {
     /// A copy, element by element, with the allocator of this set.
     ///
-    /// Takes memory where there are more than `N`, for as many as a set has room for that grew to
-    /// hold them, and as the clones of the elements do; refused, it drops what was copied.
+    /// Where there are more than `N` elements, it takes as much memory as a set that grew to hold
+    /// them. The clones of the elements may take memory too. Where memory is refused, what was
+    /// copied is dropped.
     #[inline(always)]
     pub fn clone(&self) -> Result<Self, AllocError>
         requires { ClonesAreEqual T.cmp T.is_clone }

@@ -1,4 +1,4 @@
-//! The set operations in place. Elements of the left set are moved and never cloned; of two equal
+//! Set operations in place. Elements of the left set are moved and never cloned; of two equal
 //! elements the left one itself is kept.
 ghost use Rattle.std.specs.Prelude.{◌≡◌, ◌+◌, ◌≤◌, ◌||◌, ◌&&◌, false, true, not, take, drop, length, List, IsFalse, IsOk, OnErr, OnOk};
 ghost use Rattle.std.specs.Iterator.{Drains, IsFinite};
@@ -22,8 +22,8 @@ use vc_merge::moving::SiftState;
 use vc_merge::parts::{PartsState, open_gap};
 use vc_merge::states::append_clones;
 
-/// Moves what stands in the left list alone or, if `BOTH`, what stands in both, to the front of the
-/// left list. Answers how many they are.
+/// Moves to the front of the left list what is in it alone or, if `BOTH`, what is in both. Answers
+/// how many they are.
 fn sift<const BOTH: bool, T: Ord>(list: &mut [T], that: &[T]) -> usize
     requires left_ascends { Ascends T.cmp list.old }
     requires right_ascends { Ascends T.cmp that.now }
@@ -35,9 +35,9 @@ fn sift<const BOTH: bool, T: Ord>(list: &mut [T], that: &[T]) -> usize
     state.kept()
 }
 
-/// Moves what stands in one of two parts alone or, if `BOTH`, the left one of what stands in both,
-/// to the front of their list. The parts are its first `end` elements and those from `next` on.
-/// Answers how many these are.
+/// Moves to the front of a list what is in one of its two parts alone and, if `BOTH`, the left one
+/// of what is in both. The parts are its first `end` elements and those from `next` on. Answers how
+/// many they are.
 fn join<const BOTH: bool, T: Ord>(list: &mut [T], end: usize, next: usize) -> usize
     requires order { end ≤ next }
     requires within { next ≤ length list.old }
@@ -51,9 +51,8 @@ fn join<const BOTH: bool, T: Ord>(list: &mut [T], end: usize, next: usize) -> us
     state.kept()
 }
 
-/// Puts what stands in either list alone and, if `BOTH`, the left one of what stands in both, in
-/// the place of the left list. All of it is moved. The one growth comes before the first element is
-/// moved.
+/// Replaces the left list by what is in either list alone and, if `BOTH`, the left one of what is
+/// in both. All elements are moved. The only allocation comes before the first move.
 fn absorb<
     const BOTH: bool,
     T: Ord + MadeWith<A> + Drop,
@@ -77,8 +76,8 @@ fn absorb<
     Ok(())
 }
 
-/// The same with clones of the elements of the right list. The one growth and all clones come
-/// before the first element is moved.
+/// Does the same with clones of the elements of the right list. The only allocation and all clones
+/// come before the first move.
 fn unite<
     const BOTH: bool,
     T: Ord + Clone + MadeWith<A> + Drop,
@@ -109,9 +108,10 @@ impl<T: Ord + MadeWith<A> + Drop, const N: usize, A: Allocator + Copy> VecSet<T,
     /// Adds the elements of the other set, which are moved. Of two equal elements the left one
     /// stays.
     ///
-    /// It grows at most once, and can't be refused where both sets fit together: then it grows only
-    /// if both are long and few places are left. It compares at most as often as both sets have
-    /// elements. Refused, it leaves this set as it was and drops the other one.
+    /// It allocates at most once, and can't be refused where both sets fit together: then it
+    /// allocates only if both are long and little room is left. It makes at most as many
+    /// comparisons as both sets have elements. Where memory is refused, this set is unchanged, and
+    /// the other one is dropped.
     pub fn bitor_assign<const M: usize>(&mut self, that: VecSet<T, M, A>) -> Result<(), AllocError>
         ensures union { OnOk result
             (IsSetOf T.cmp (λ x y. x ≡ y) (λ x y. x ≡ y) ◌||◌ self.old that self.new) }
@@ -124,9 +124,10 @@ impl<T: Ord + MadeWith<A> + Drop, const N: usize, A: Allocator + Copy> VecSet<T,
     /// Keeps what is in exactly one of the sets: drops what is in both, and moves in what is in the
     /// other set alone.
     ///
-    /// It grows at most once, and can't be refused where both sets fit together: then it grows only
-    /// if both are long and few places are left. It compares at most as often as both sets have
-    /// elements. Refused, it leaves this set as it was and drops the other one.
+    /// It allocates at most once, and can't be refused where both sets fit together: then it
+    /// allocates only if both are long and little room is left. It makes at most as many
+    /// comparisons as both sets have elements. Where memory is refused, this set is unchanged, and
+    /// the other one is dropped.
     pub fn bitxor_assign<const M: usize>(&mut self, that: VecSet<T, M, A>) -> Result<(), AllocError>
         ensures symmetric_difference { OnOk result
             (IsSetOf T.cmp (λ x y. x ≡ y) (λ x y. x ≡ y) exactly_one self.old that self.new) }
@@ -136,12 +137,12 @@ impl<T: Ord + MadeWith<A> + Drop, const N: usize, A: Allocator + Copy> VecSet<T,
         absorb::<false, _, _, _, _>(&mut self.elements, that.into_inner())
     }
 
-    /// Puts what `op` makes of the two sets in the place of this one. What stays is moved; of two
-    /// equal elements the left one stays.
+    /// Replaces this set by the result of `op` on the two sets. What stays is moved; of two equal
+    /// elements the left one stays.
     ///
     /// A union or a symmetric difference grows as [`bitor_assign`](VecSet::bitor_assign) does. The
-    /// other two take no memory. It compares at most as often as both sets have elements. Refused,
-    /// it leaves this set as it was and drops the other one.
+    /// other two take no memory. It makes at most as many comparisons as both sets have elements.
+    /// Where memory is refused, this set is unchanged, and the other one is dropped.
     ///
     /// ```
     /// tags.combine_with(retired, SetOp::Difference)?;
@@ -168,9 +169,10 @@ impl<T: Ord + MadeWith<A> + Drop, const N: usize, A: Allocator + Copy> VecSet<T,
     /// Adds the items of an iterator that ascends strictly and ends, which are moved. Of two equal
     /// elements the left one stays.
     ///
-    /// The items become a set first, which grows as `from_iter` does; then this one grows at most
-    /// once. It compares at most as often as there are elements and items. Refused, it leaves the
-    /// set as it was, and drops the items that came and the iterator.
+    /// The items become a set first, which grows as `from_iter` does; then this one allocates at
+    /// most once. It makes at most as many comparisons as there are elements and items. Where
+    /// memory is refused, the set is unchanged, and the items that came and the iterator are
+    /// dropped.
     pub fn extend<I: Iterator<Item = T> + SortedByItem>(
         &mut self,
         iter: I,
@@ -189,7 +191,7 @@ impl<T: Ord + MadeWith<A> + Drop, const N: usize, A: Allocator + Copy> VecSet<T,
     }
 
     /// Keeps what is in the other set too, and drops the rest. An element that stays is the old
-    /// one. Takes no memory, and compares at most as often as both sets have elements.
+    /// one. Takes no memory, and makes at most as many comparisons as both sets have elements.
     pub fn intersection_with<S: AbstractVecSet<T>>(&mut self, that: &S)
         ensures { IsSetOf T.cmp (λ x y. x ≡ y) (λ x y. x ≡ y) ◌&&◌ self.old (S.elements that.now)
             self.new }
@@ -198,8 +200,8 @@ impl<T: Ord + MadeWith<A> + Drop, const N: usize, A: Allocator + Copy> VecSet<T,
         self.elements.truncate(kept);
     }
 
-    /// Keeps what is not in the other set, and drops the rest. Takes no memory, and compares at
-    /// most as often as both sets have elements.
+    /// Keeps what is not in the other set, and drops the rest. Takes no memory, and makes at most
+    /// as many comparisons as both sets have elements.
     pub fn difference_with<S: AbstractVecSet<T>>(&mut self, that: &S)
         ensures { IsSetOf T.cmp (λ x y. x ≡ y) (λ x y. x ≡ y) and_not self.old (S.elements that.now)
             self.new }
@@ -212,9 +214,10 @@ impl<T: Ord + MadeWith<A> + Drop, const N: usize, A: Allocator + Copy> VecSet<T,
 impl<T: Ord + Clone + MadeWith<A> + Drop, const N: usize, A: Allocator + Copy> VecSet<T, N, A> {
     /// Adds what is in the other set, as clones. Of two equal elements the left one stays.
     ///
-    /// It grows at most once, and can't be refused where both sets fit together: then it grows
-    /// only if both are long and few places are left. It compares at most as often as both sets have
-    /// elements. Refused there or at a clone, it leaves the set as it was.
+    /// It allocates at most once, and can't be refused where both sets fit together: then it
+    /// allocates only if both are long and little room is left. It makes at most as many
+    /// comparisons as both sets have elements. Where memory or a clone is refused, the set is
+    /// unchanged.
     ///
     /// ```
     /// tags.union_with(&more)?;
@@ -232,9 +235,10 @@ impl<T: Ord + Clone + MadeWith<A> + Drop, const N: usize, A: Allocator + Copy> V
     /// Keeps what is in exactly one of the sets: drops what is in both, and adds clones of what is
     /// in the other set alone.
     ///
-    /// It grows at most once, and can't be refused where both sets fit together: then it grows
-    /// only if both are long and few places are left. It compares at most as often as both sets have
-    /// elements. Refused there or at a clone, it leaves the set as it was.
+    /// It allocates at most once, and can't be refused where both sets fit together: then it
+    /// allocates only if both are long and little room is left. It makes at most as many
+    /// comparisons as both sets have elements. Where memory or a clone is refused, the set is
+    /// unchanged.
     pub fn xor_with<S: AbstractVecSet<T>>(&mut self, that: &S) -> Result<(), AllocError>
         requires clones { ClonesAreEqual T.cmp T.is_clone }
         ensures symmetric_difference { OnOk result

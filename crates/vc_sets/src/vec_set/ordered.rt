@@ -1,4 +1,4 @@
-//! The least and the greatest element taken out of a set.
+//! The least and the greatest element removed from a set.
 ghost use Rattle.std.specs.Prelude.{◌≡◌, ◌-◌, drop, length, slice_get, take};
 
 use super::VecSet;
@@ -6,10 +6,10 @@ use std::alloc::Allocator;
 use std::default::MadeWith;
 
 impl<T: Ord + MadeWith<A> + Drop, const N: usize, A: Allocator + Copy> VecSet<T, N, A> {
-    /// Takes the least element out, and hands it over, or none where there is no element. The list
-    /// keeps its room.
+    /// Removes the least element and returns it, or none where there is no element. The list keeps
+    /// its capacity.
     ///
-    /// Compares none, moves all other elements, and takes no memory.
+    /// Makes no comparison, moves all other elements, and takes no memory.
     pub fn pop_first(&mut self) -> Option<T>
         ensures first { result ≡ slice_get self.old 0 }
         ensures rest { self.new ≡ drop 1 self.old }
@@ -20,10 +20,10 @@ impl<T: Ord + MadeWith<A> + Drop, const N: usize, A: Allocator + Copy> VecSet<T,
         Some(self.elements.remove(0))
     }
 
-    /// Takes the greatest element out, and hands it over, or none where there is no element. The
-    /// list keeps its room.
+    /// Removes the greatest element and returns it, or none where there is no element. The list
+    /// keeps its capacity.
     ///
-    /// Compares none, moves no other element, and takes no memory.
+    /// Makes no comparison, moves no other element, and takes no memory.
     ///
     /// ```
     /// assert!(rt; primes.pop_last() == Some(5));

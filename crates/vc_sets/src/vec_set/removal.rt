@@ -1,4 +1,4 @@
-//! Elements taken out of a set, and the list made smaller.
+//! Elements removed from a set, and memory given back.
 ghost use Rattle.std.specs.Prelude.{◌≡◌, ◌&&◌, [], not, cond, filter, Bool, None, IsOk, IsTrue};
 ghost use Rattle.std.specs.Fn.{CalledAt};
 ghost use Rattle.std.specs.Iterator.{CallableOnAllAt, YieldsFirst};
@@ -14,9 +14,9 @@ use vc_merge::lists::keep_in_front;
 use vc_merge::search::find;
 
 impl<T: Ord + MadeWith<A> + Drop, const N: usize, A: Allocator + Copy> VecSet<T, N, A> {
-    /// Takes out and drops the element that is equal to `that`, and answers whether there was one.
+    /// Removes and drops the element that is equal to `that`, and answers whether there was one.
     ///
-    /// Compares as often as `contains`, moves the elements behind it, and takes no memory.
+    /// Compares as often as `contains`, moves the elements after it, and takes no memory.
     pub fn remove(&mut self, that: &T) -> bool
         ensures answer { result ≡ member T.cmp self.old that.now }
         ensures members { (x : T) → member T.cmp self.new x
@@ -33,11 +33,11 @@ impl<T: Ord + MadeWith<A> + Drop, const N: usize, A: Allocator + Copy> VecSet<T,
         }
     }
 
-    /// Keeps the elements at which `f` answers true, and drops the others. `f` is asked once at
+    /// Keeps the elements for which `f` answers true, and drops the others. `f` is called once with
     /// each element, in ascending order.
     ///
-    /// Each element is asked at where it stands. Makes at most one swap for each, so that one that
-    /// stays moves at most once. Takes no memory.
+    /// Makes at most one swap for each element, so that one that stays moves at most once. Takes no
+    /// memory.
     pub fn retain<F: FnMut(&T) -> bool>(&mut self, f: F)
         requires { CallableOnAllAt (YieldsFirst (λ rest. rest)) F.FnMut self.old f }
         ensures filtered { IsFiltered (CalledAt F.FnMut) f self.old self.new }
@@ -46,8 +46,7 @@ impl<T: Ord + MadeWith<A> + Drop, const N: usize, A: Allocator + Copy> VecSet<T,
         ensures members { (x : T) → IsTrue (member T.cmp self.new x)
             → IsTrue (member T.cmp self.old x) }
 
-        // By a plain test, which answers as a function does, all that passes stays, and nothing
-        // else.
+        // With a pure test, exactly the elements that pass it stay.
         ensures plain { (test : T → Bool) → AnswersAs (CalledAt F.FnMut) f test
             → self.new ≡ filter test self.old }
     {
@@ -55,16 +54,16 @@ impl<T: Ord + MadeWith<A> + Drop, const N: usize, A: Allocator + Copy> VecSet<T,
         self.elements.truncate(kept);
     }
 
-    /// Drops all elements. The list keeps its room, so that as many can come again without memory;
-    /// `shrink_to_fit` gives it back. Takes no memory.
+    /// Drops all elements. The list keeps its capacity, so that as many can be inserted again
+    /// without memory; `shrink_to_fit` gives it back. Takes no memory.
     pub fn clear(&mut self)
         ensures { self.new ≡ [] }
     {
         self.elements.clear();
     }
 
-    /// Gives back memory that the elements do not need. A refusal leaves the list where it is, so
-    /// the call succeeds always.
+    /// Gives back memory that the elements do not need. Where the allocator refuses, the list stays
+    /// where it is, so the call always succeeds.
     pub fn shrink_to_fit(&mut self) -> Result<(), AllocError>
         ensures elements { self.new ≡ self.old }
         ensures succeeds { IsOk result }
