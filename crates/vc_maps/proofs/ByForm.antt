@@ -1,4 +1,4 @@
--- What a look-up of a key by a borrowed form finds. `side` says how a key stands to the form.
+-- What a look-up of a key by a borrowed form finds. `side` says how a key compares with the form.
 --     found-value_by, gap-value_by, place-has_value_by        what a place tells
 --     value-equal, pairs-ordered        by the laws of a form
 --     found-taken_by, gap-taken_by        a pair taken out

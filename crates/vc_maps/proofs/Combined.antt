@@ -1,4 +1,4 @@
--- Maps that take in another one whole: what each event adds, and what stands at each key in the end.
+-- Maps that take in all of another map: what each event adds, and what is at each key in the end.
 use Rattle.std.proofs.Common.{◌≡◌, IsOk, List, [], ◌∷◌, ◌++◌, Option, Some, Result, OnOk, refl}
 use Rattle.std.proofs.Common.{arith, ◌∙◌}
 use Rattle.std.specs.Cmp.{IsTotalOrder, tied_itself}

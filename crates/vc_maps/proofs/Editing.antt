@@ -1,4 +1,4 @@
--- What stands at a key of a list of pairs that was searched, and that list with a pair put in or taken out.
+-- What is at a key of a list of pairs that was searched, and that list with a pair inserted or removed.
 use Rattle.std.proofs.Common.{◌≡◌, ℕ, zero, suc, ◌<◌, Bool, true, false, cond, List, [], ◌∷◌, ◌++◌, length, take}
 use Rattle.std.proofs.Common.{drop, get_or, add-one, arith, Option, Some, None, Result, Ok, Err, is_ok, is_some}
 use Rattle.std.proofs.Common.{refl, sym, ap, ◌∙◌}

@@ -1,4 +1,4 @@
--- Joins in place: which questions a state may be asked, and what stands at a place of the parts of its list.
+-- Joins in place: which questions a state may be asked, and what is at a place of the parts of its list.
 use Rattle.std.proofs.Common.{append_assoc, ◌≡◌, ℕ, zero, suc, ◌<◌, ◌≤◌, ◌+◌, Bool, true, false, List, [], ◌∷◌, ◌++◌}
 use Rattle.std.proofs.Common.{length, take, drop, slice_range, ◌-◌, get_or, Option, Some, None, refl, sym, ap, subst}
 use Rattle.std.proofs.Common.{◌∙◌, arith}

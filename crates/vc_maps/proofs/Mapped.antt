@@ -1,4 +1,4 @@
--- Maps whose values are turned into others: one more pair, and what stands at each key.
+-- Maps whose values are turned into others: one more pair, and what is at each key.
 use Rattle.std.proofs.Common.{◌≡◌, ℕ, ◌+◌, ◌<◌, Bool, true, false, cond, List, [], ◌∷◌, ◌++◌, length, take}
 use Rattle.std.proofs.Common.{drop, get_or, Option, Some, refl, sym, ap, subst, add-one, drop-cons}
 use Rattle.std.specs.BTreeMap.{is_at}

@@ -1,4 +1,4 @@
--- A list of pairs in any order, sorted by its keys: what stands at a key is what stood there first.
+-- A list of pairs in any order, sorted by its keys: the first pair with a key is the one at that key.
 use Rattle.std.proofs.Common.{arith, ◌≡◌, Bool, cond, List, [], ◌∷◌, Some, refl, sym, ap, ◌∙◌}
 use Rattle.std.specs.Cmp.{IsTotalOrder}
 use Rattle.std.specs.List.{dedup, find}

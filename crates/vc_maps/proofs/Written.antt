@@ -1,6 +1,6 @@
 -- Values of a map that are written to in place.
 --     written-next        one more pair
---     written-keys, entries-written        the keys, and what stands at each key
+--     written-keys, entries-written        the keys, and what is at each key
 --     refilled        a list that was written through a slice of the whole
 use Rattle.std.proofs.Common.{◌≡◌, ℕ, ◌+◌, ◌<◌, Bool, true, false, cond, List, [], ◌∷◌, ◌++◌, length, take, drop, set}
 use Rattle.std.proofs.Common.{get_or, Option, Some, refl, sym, ap, subst, ◌∙◌}

@@ -18,26 +18,26 @@ AtHeads P [] ys = ⊥
 AtHeads P (x ∷ xs) [] = ⊥
 AtHeads P (x ∷ xs) (y ∷ ys) = P x y
 
--- the question at two first pairs whose keys compare so
+-- the question at two first pairs whose keys compare as given
 abbrev pub question_at : {K V W : Type 0} → Ordering → K × V → K × W → OuterJoinArg K V W
 question_at Less p q = Left p.0 p.1
 question_at Equal p q = Both p.0 p.1 q.1
 question_at Greater p q = Right q.0 q.1
 
--- whether a join asks at two first pairs whose keys compare so
+-- whether a join asks at two first pairs whose keys compare as given
 abbrev pub asks_at : JoinKind → Ordering → Bool
 asks_at kind Less = asks_left kind
 asks_at kind Equal = true
 asks_at kind Greater = asks_right kind
 
 module _ {M : Type 0} (asks_a asks_b : M → ℕ → Answer → M → Type 0) (asks_both : M → Answer → M → Type 0) where
-  -- one question is asked, at two first pairs whose keys compare so
+  -- one question is asked, at two first pairs whose keys compare as given
   abbrev pub AsksOne : Ordering → M → Answer → M → Type 0
   AsksOne Less s answer t = asks_a s 1 answer t
   AsksOne Equal s answer t = asks_both s answer t
   AsksOne Greater s answer t = asks_b s 1 answer t
 
--- the lesser one of two first pairs is passed by, where nothing is asked
+-- the lesser one of two first pairs is passed, where nothing is asked
 abbrev pub PassesOne : {M : Type 0} → (M → ℕ → Bool → Answer → M → Type 0) → (M → ℕ → Answer → M → Type 0) → Ordering
     → M → Answer → M → Type 0
 PassesOne advances_a skips_b Less s answer t = advances_a s 1 false answer t

@@ -18,7 +18,7 @@ module _ {K V A : Type 0} where
   abbrev pub right_pairs : CombineState K V A → List (K × V)
   right_pairs s = parts.right_at s.spans s.list.now
 
-  -- the list that both stand in, as it was lent
+  -- the list that both are in, as it was borrowed
   abbrev pub lent_list : CombineState K V A → MutBor (List (K × V))
   lent_list s = s.list
 

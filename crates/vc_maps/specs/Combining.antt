@@ -1,4 +1,4 @@
--- Maps that take in another one whole: what is made of the values of a key.
+-- Maps that take in all of another map: what the values at a key become.
 use Rattle.std.specs.Prelude.{◌≡◌, List, Option, Some, None, IsSomeAnd}
 use Rattle.std.specs.declared.cmp.Ordering.{Ordering}
 use Rattle.vc_joins.specs.declared.question.OuterJoinArg.{OuterJoinArg}
@@ -15,7 +15,7 @@ module _ {K V : Type 0} where
   CanCombine can (Right k w) = Unit {0}
   CanCombine can (Both k v w) = can v w
 
-  -- a value of one map alone stays, and of two values stands what the closure gives
+  -- a value of one map alone stays, and two values become what the closure gives
   abbrev pub Combines : (V → V → V → Type 0) → OuterJoinArg K V V → Option V → Type 0
   Combines gives (Left k v) r = r ≡ Some v
   Combines gives (Right k w) r = r ≡ Some w

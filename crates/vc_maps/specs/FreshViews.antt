@@ -6,7 +6,7 @@ use base.Fml.{GName}
 use Rattle.vc_maps.specs.declared.fresh.FreshState.{FreshState}
 
 module _ {K V W S : Type 0} where
-  -- the list that is appended to, as it was lent
+  -- the list that is appended to, as it was borrowed
   abbrev pub lent_list : FreshState K V W S → MutBor S
   lent_list s = s.built
 
@@ -22,6 +22,6 @@ module _ {K V W S : Type 0} where
   abbrev pub list_name : FreshState K V W S → GName
   list_name s = s.built.ghost_name
 
--- what the list holds by now
+-- what the list holds now
 abbrev pub appended_pairs : {K V W X : Type 0} → FreshState K V W (SmallVec (K × X)) → List (K × X)
 appended_pairs s = s.built.now.items

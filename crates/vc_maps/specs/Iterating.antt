@@ -9,7 +9,8 @@ use Rattle.vc_joins.specs.Entries.{AscendsByKey}
 use Rattle.vc_merge.specs.Showing.{ShowsBackwards, ShowsByKey}
 use Rattle.vc_merge.specs.Yielded.{AscendsAlong, by_first, gives_ascending}
 
--- it shows the pairs of xs, by reference and in order, and from behind in reverse, and their keys ascend
+-- it shows the pairs of xs, by reference and in order, and from the back in reverse, and their keys
+-- ascend
 abbrev pub ShowsPairs : {K V : Type 0} → (K → K → Ordering) → List (K × V) → Iter (K × V) → Type 0
 ShowsPairs {K} {V} cmp xs it =
     (iter_rest it ≡ xs) × (length (iter_rest it) < 2 ^ 64)

@@ -20,7 +20,8 @@ pub record ClonesKeys {K V W : Type 0} (is_clone : K → K → Type 0) (ps : Lis
   pub have : HaveKeys is_clone ps added
   pub items : new ≡ old ++ added
 
--- what may be asked of a state: if keys of the right may come in, any question, and else none at a key of the right alone
+-- what may be asked of a state: if keys of the right may be inserted, any question, and otherwise
+-- none at a key of the right alone
 abbrev pub MayAskWith : {K V W : Type 0} → Bool → OuterJoinArg K V W → Type 0
 MayAskWith true a = Unit {0}
 MayAskWith false a = asks kind.Left a ≡ true

@@ -24,7 +24,7 @@ module _ {K V W A : Type 0} {n : ℕ} where
   abbrev pub key_pairs : KeptState K V W A n → List (K × V)
   key_pairs s = parts.right_at s.spans s.list.now
 
-  -- the list that it builds in, as it was lent
+  -- the list that it builds in, as it was borrowed
   abbrev pub lent_list : KeptState K V W A n → MutBor (List (K × V))
   lent_list s = s.list
 
@@ -32,6 +32,7 @@ module _ {K V W A : Type 0} {n : ℕ} where
   abbrev pub list_name : KeptState K V W A n → GName
   list_name s = s.list.ghost_name
 
--- if keys of the right may come in, there is a clone of each that is left, in a pair of the right part
+-- if keys of the right may be inserted, there is a clone of each that is left, in a pair of the
+-- right part
 abbrev pub HasKeys : {K V W A : Type 0} {n : ℕ} (keys : ℕ) → (K → K → Type 0) → KeptState K V W A n → Type 0
 HasKeys keys is_clone s = MatchBool (has_keys keys) (HaveKeys is_clone (right_pairs s) (key_pairs s)) (Unit {0})

@@ -1,4 +1,4 @@
--- What a map ends as, where a `&mut` to one of its values is returned.
+-- What a map is in the end, where a `&mut` to one of its values is returned.
 use Rattle.std.specs.Prelude.{◌≡◌, List, cond, Option, Some, IsSome}
 use Rattle.std.specs.BTreeMap.{is_at}
 use Rattle.std.specs.BTreeMap.Lent.{OrdMembers}
@@ -10,7 +10,7 @@ use Rattle.std.specs.declared.cmp.Ordering.{Ordering}
 use Rattle.vc_joins.specs.Entries.{value_at}
 use Rattle.vc_maps.specs.contracts.vec_map.VecMap.{the_row}
 
--- new is old with w in the place of the value at the key, where there is one
+-- new is old with w instead of the value at the key, where there is one
 pub record IsWritten {K V : Type 0} (cmp : K → K → Ordering) (old : List (K × V)) (key : K) (w : V) (new : List (K × V)) : Type 0 where
   pub pairs : new ≡ set_value (is_at (cmp key)) old w
   pub keys : keys_of new ≡ keys_of old
@@ -21,6 +21,7 @@ module _ (K V N A : RattleType) (order : OrdMembers K.Denot) (heap : alloc.Ghost
   abbrev map_row : RattleType
   map_row = the_row K V N A (record { cmp = order.cmp }) (record { eq = order.eq }) (record { partial_cmp = order.partial_cmp }) heap
 
-  -- once the borrow r ends, the last value written through r stands at the key, and at `None` the map stays as it is
+  -- once the borrow r ends, the last value written through r is at the key, and at `None` the map
+  -- is unchanged
   abbrev pub lends_value : Option (MutBor V.Denot) → Fml
   lends_value r = LendsSo map_row V m r (λ new w. IsWritten order.cmp m.now key w new) (λ new. new ≡ m.now)

@@ -1,4 +1,4 @@
--- One key of a map: its value written to where it is bound, and put in where it is not.
+-- One key of a map: its value written to where it is bound, and inserted where it is not.
 use Rattle.std.specs.Prelude.{◌≡◌, List, cond, Option, Some, None, Result, IsSome, IsSomeAnd}
 use Rattle.std.specs.BTreeMap.Lent.{OrdMembers}
 use Rattle.std.specs.Borrow.{LendsSo, LendsSoOk, Fml, RattleType, MutBor}
@@ -21,7 +21,7 @@ abbrev pub UpsertsEntry : {K V : Type 0} → (V → V → Type 0) → K × V →
 UpsertsEntry writes p (Some old) found = IsSomeAnd found (λ new. (new.0 ≡ old.0) × writes old.1 new.1)
 UpsertsEntry writes p None found = found ≡ Some p
 
--- new is old with w in the place of the value whose key is equal to a borrowed form, where there is one
+-- new is old with w instead of the value whose key is equal to a borrowed form, where there is one
 pub record IsWrittenBy {K V : Type 0} (cmp : K → K → Ordering) (side : K → Ordering) (old : List (K × V)) (w : V) (new : List (K × V)) : Type 0 where
   pub keys : keys_of new ≡ keys_of old
   pub values : IsSome (value_by side old) → (k : K) → value_at cmp new k ≡ cond (is_eq (side k)) (Some w) (value_at cmp old k)
@@ -37,10 +37,12 @@ module _ (K V N A : RattleType) (order : OrdMembers K.Denot) (heap : alloc.Ghost
   abbrev row_of_map : RattleType
   row_of_map = the_row K V N A (record { cmp = order.cmp }) (record { eq = order.eq }) (record { partial_cmp = order.partial_cmp }) heap
 
-  -- once the borrow r ends, the last value written through r stands at the key that is equal to a form, and at `None` the map stays as it is
+  -- once the borrow r ends, the last value written through r is at the key that is equal to a form,
+  -- and at `None` the map is unchanged
   abbrev pub lends_value_by : (K.Denot → Ordering) → Option (MutBor V.Denot) → Fml
   lends_value_by side r = LendsSo row_of_map V m r (λ new w. IsWrittenBy order.cmp side m.now w new) (λ new. new ≡ m.now)
 
-  -- once the borrow r ends, the key is bound to the last value written through r, and at `Err` the map stays as it is
+  -- once the borrow r ends, the key is bound to the last value written through r, and at `Err` the
+  -- map is unchanged
   abbrev pub lends_bound : {E : Type 0} → K.Denot → Result (MutBor V.Denot) E → Fml
   lends_bound key r = LendsSoOk row_of_map V m r (λ new w. IsBound order.cmp m.now key w new) (λ new. new ≡ m.now)

@@ -33,8 +33,8 @@ module _ {F K V : Type 0} (writes : F → K → V → V → F → Type 0) where
   WritesInTurn f (p ∷ ps) [] last = ⊥
   WritesInTurn f (p ∷ ps) (q ∷ qs) last = (h : F) × writes f p.0 p.1 q.1 h × (q.0 ≡ p.0) × WritesInTurn h ps qs last
 
-  -- where a pair stood, the closure was called at it, and the value that it left stands under the same key; where none stood,
-  -- none stands
+  -- where a pair was, the closure was called at it, and the value that it left is under the same
+  -- key; where there was none, there is none
   abbrev pub WritesEntry : Option (K × V) → Option (K × V) → Type 0
   WritesEntry (Some p) found = (before : F) × (w : V) × (after : F) × writes before p.0 p.1 w after × (found ≡ Some (p.0, w))
   WritesEntry None found = found ≡ None

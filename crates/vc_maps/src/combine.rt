@@ -1,4 +1,4 @@
-//! Maps that take in another one whole: the pairs of both are moved, and nothing is cloned.
+//! Maps that take in all of another map: the pairs of both are moved, and nothing is cloned.
 ghost use Rattle.std.specs.Prelude.{◌≡◌, ◌+◌, ◌≤◌, [], ◌∷◌, ◌++◌, Some, IfOk, IsOk, OnOk, OnErr, length, take, drop};
 ghost use Rattle.vc_joins.specs.declared.question.OuterJoinArg.TheVariants as arg;
 ghost use Rattle.vc_joins.specs.Entries.{AscendsByKey};
@@ -21,12 +21,11 @@ use vc_merge::lists::append_moved;
 use vc_merge::merge::{MergeFromRight, MergeState, MergeStateMut, Uncounted, merge};
 use vc_merge::parts::{PartsState, Spans, open_gap};
 
-/// A closure that makes one value of the two that stand at a key of both maps. A value of one map
-/// alone stays.
+/// A closure that combines the two values at a key of both maps. A value of one map alone stays.
 #[derive(Drop)]
 pub struct AskShared<'f, F>(pub &'f F);
 
-/// Two maps in one list, which become one map in its places.
+/// Two maps in one list, which are merged in place.
 #[derive(Drop)]
 pub struct CombineState<'a, 'c, K, V, A> {
     list: &'a mut [(K, V)],
@@ -55,7 +54,7 @@ impl<'a, 'c, K, V, A> MergeState for CombineState<'a, 'c, K, V, A> {
     }
 }
 
-/// Pairs at which nothing is asked are passed by.
+/// Pairs for which the closure is not called are passed.
 impl<'a, 'c, K, V, A> MergeStateMut for CombineState<'a, 'c, K, V, A> {
     ghost use Rattle.vc_maps.specs.CombineViews.{built_pairs, list_name};
 
@@ -80,7 +79,7 @@ impl<'a, 'c, K, V, A> MergeStateMut for CombineState<'a, 'c, K, V, A> {
 impl<'a, 'c, K, V, A> CombineState<'a, 'c, K, V, A> {
     ghost use Rattle.vc_maps.specs.CombineViews.{built_pairs, left_pairs, right_pairs, lent_list};
 
-    /// The list, whose parts stand at `spans`.
+    /// The list, whose parts are at `spans`.
     fn new(list: &'a mut [(K, V)], spans: Spans, alloc: &'c A) -> Self
         requires { spans.next ≤ length list.old }
         ensures same_reference { lent_list result ≡ list.entry }
@@ -135,7 +134,7 @@ where
 }
 
 /// Moves the first `n` pairs that are left of the left part to the end of what is built, in a list
-/// whose parts stand at `spans`. Answers where they stand then.
+/// whose parts are at `spans`. Answers where the parts are after that.
 fn lefts_taken<T>(list: &mut [T], spans: Spans, n: usize) -> Spans
     requires places { spans.next ≤ length list.old }
     requires within { n ≤ length (left_at spans list.old) }
@@ -151,7 +150,7 @@ fn lefts_taken<T>(list: &mut [T], spans: Spans, n: usize) -> Spans
 }
 
 /// Moves the first `n` pairs that are left of the right part to the end of what is built, in a list
-/// whose parts stand at `spans`. Answers where they stand then.
+/// whose parts are at `spans`. Answers where the parts are after that.
 fn rights_taken<T>(list: &mut [T], spans: Spans, n: usize) -> Spans
     requires places { spans.next ≤ length list.old }
     requires within { n ≤ length (right_at spans list.old) }
@@ -167,7 +166,8 @@ fn rights_taken<T>(list: &mut [T], spans: Spans, n: usize) -> Spans
 }
 
 /// Makes one pair of the first one that is left of each part, which have equal keys, in a list
-/// whose parts stand at `spans`. Its key is that of the left part. Answers where they stand then.
+/// whose parts are at `spans`. Its key is that of the left part. Answers where the parts are after
+/// that.
 fn pair_combined<K: Drop, V: Drop, A: Allocator + Copy, F: Fn(V, V) -> V>(
     list: &mut [(K, V)],
     spans: Spans,
@@ -197,7 +197,7 @@ where
 }
 
 /// Moves the pairs of two parts of a list to its front, where two with equal keys become one. The
-/// parts are its first `end` pairs and those from `next` on. Answers how many pairs these are then.
+/// parts are its first `end` pairs and those from `next` on. Answers how many pairs remain.
 pub fn combine_parts<K: Ord + Drop, V: Drop, A: Allocator + Copy, F: Fn(V, V) -> V>(
     alloc: &A,
     list: &mut [(K, V)],
@@ -233,10 +233,11 @@ where
     state.spans.built
 }
 
-/// Moves the elements of `that` behind those of a list and a gap. Answers the place of the first of
-/// them.
+/// Moves the elements of `that` to the end of a list, after a gap. Answers the place of the first
+/// of them.
 ///
-/// The one growth comes before the first element is moved. Refused, the list has its elements.
+/// The only allocation comes before the first move. Where it is refused, the list keeps its
+/// elements.
 pub fn append_behind<T: MadeWith<A> + Drop, const N: usize, const M: usize, A: Allocator + Copy>(
     list: &mut SmallVec<T, N, A>,
     that: SmallVec<T, M, A>,

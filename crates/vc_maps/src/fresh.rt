@@ -1,5 +1,5 @@
-//! Joins that build a fresh list: the pairs of both maps are shown, and each answer stands under a
-//! clone of the key that was shown.
+//! Joins that build a new list: the question sees the pairs of both maps, and each answer is stored
+//! under a clone of the key that it saw.
 ghost use Rattle.std.specs.Prelude.{◌≡◌, ◌+◌, ◌<◌, ◌≤◌, [], ◌∷◌, ◌++◌, List, Ok, Some, take, drop, length, IfOk, OnOk};
 ghost use Rattle.std.specs.Int.{from_bool};
 ghost use Rattle.std.specs.List.{AllByRecursion};
@@ -37,7 +37,7 @@ pub trait PairList {
 
     ghost pairs: { Self → List (Self.Key × Self.Value) };
 
-    /// Puts a pair behind the others.
+    /// Appends a pair.
     fn append(&mut self, key: Self::Key, value: Self::Value) -> Result<(), AllocError>
         ensures { OnOk result (pairs self.new ≡ pairs self.old ++ (key, value) ∷ []) };
 }
@@ -58,10 +58,10 @@ where
     }
 }
 
-/// Two maps that are joined, with a place in each, and the list of the answers.
+/// Two maps that are joined, with a position in each, and the list of the answers.
 ///
-/// The maps stay whole, and the places alone move: an event then passes a pair by a choice, where a
-/// slice that shrinks would be a branch.
+/// The slices are kept whole, and only the positions move: so an event passes a pair without a
+/// branch, where a shrinking slice would need one.
 #[derive(Drop)]
 pub struct FreshState<'a, 'b, 's, K, V, W, S> {
     a: &'a [(K, V)],
@@ -92,8 +92,8 @@ impl<'a, 'b, 's, K, V, W, S> FreshState<'a, 'b, 's, K, V, W, S> {
         }
     }
 
-    /// Moves the places behind the lesser one of two first pairs whose keys compare so, or behind
-    /// both.
+    /// Moves the positions past the lesser one of the first pairs, whose keys compare as `heads`,
+    /// or past both.
     #[inline(always)]
     fn pass(&mut self, heads: Ordering)
         requires some_left { 0 < length (left_pairs self.old) }
@@ -138,7 +138,7 @@ impl<'a, 'b, 's, K, V, W, S> MergeState for FreshState<'a, 'b, 's, K, V, W, S> {
     }
 }
 
-/// Pairs at which nothing is asked are passed by.
+/// Pairs for which nothing is asked are passed.
 impl<'a, 'b, 's, K, V, W, S: PairList> MergeStateMut for FreshState<'a, 'b, 's, K, V, W, S> {
     ghost use Rattle.vc_maps.specs.FreshViews.{lent_list, list_name};
 
@@ -220,8 +220,8 @@ impl<
     }
 }
 
-/// Asks at each of `pairs`, which stand on the left alone. A walk asks at one pair at a time, for
-/// which this is no loop where it is part of it.
+/// Asks for each of `pairs`, which are in the left map alone. A walk asks for one pair at a time;
+/// where this is inlined there, no loop is left.
 #[inline(always)]
 fn ask_lefts<
     K: Clone + Drop,
@@ -243,7 +243,7 @@ fn ask_lefts<
     Ok(())
 }
 
-/// Asks at each of `pairs`, which stand on the right alone.
+/// Asks for each of `pairs`, which are in the right map alone.
 #[inline(always)]
 fn ask_rights<
     K: Clone + Drop,
@@ -265,7 +265,7 @@ fn ask_rights<
     Ok(())
 }
 
-/// Asks at a pair of each map, which have equal keys.
+/// Asks for a pair of each map, which have equal keys.
 #[inline(always)]
 fn ask_pair<
     K: Clone + Drop,
@@ -286,8 +286,8 @@ fn ask_pair<
     Ok(())
 }
 
-/// Asks at a pair that stands on the left alone. One lifetime serves for the right, which has none
-/// of its own.
+/// Asks for a pair that is in the left map alone. The right side has no reference here, so one
+/// lifetime is used for both.
 #[inline(always)]
 fn ask_left<'a, K, V, W: 'a, X, Q: Question<K, V, W, X>>(
     question: &Q,
@@ -300,8 +300,8 @@ fn ask_left<'a, K, V, W: 'a, X, Q: Question<K, V, W, X>>(
     question.ask(arg)
 }
 
-/// Asks at a pair that stands on the right alone. One lifetime serves for the left, which has none
-/// of its own.
+/// Asks for a pair that is in the right map alone. The left side has no reference here, so one
+/// lifetime is used for both.
 #[inline(always)]
 fn ask_right<'a, K, V: 'a, W, X, Q: Question<K, V, W, X>>(
     question: &Q,
@@ -314,7 +314,7 @@ fn ask_right<'a, K, V: 'a, W, X, Q: Question<K, V, W, X>>(
     question.ask(arg)
 }
 
-/// Puts an answer under a clone of the key, where there is one.
+/// Appends an answer, where there is one, under a clone of the key.
 #[inline(always)]
 fn append_answer<K: Clone + Drop, X: Drop, S: PairList<Key = K, Value = X>>(
     built: &mut S,
@@ -331,10 +331,10 @@ fn append_answer<K: Clone + Drop, X: Drop, S: PairList<Key = K, Value = X>>(
     Ok(())
 }
 
-/// The room that a fresh join of so many pairs makes at the start, in a list of `N` places: for all
-/// that can come.
+/// The room that a join of maps with `left` and `right` pairs makes at the start, in a list of `N`
+/// inline places: enough for all pairs that can come.
 ///
-/// Where each map fits in place, an outer join may, too: then it begins there, and grows if it has
+/// Where each map fits inline, the outer join may fit too: it begins inline, and grows if it has
 /// to. An inner join grows as answers come, since few keys may be in both.
 fn room_of<const N: usize>(kind: JoinKind, left: usize, right: usize) -> usize {
     match kind {
@@ -353,7 +353,7 @@ fn room_of<const N: usize>(kind: JoinKind, left: usize, right: usize) -> usize {
 
 /// The join of two lists of pairs that ascend by key.
 ///
-/// Asks at most once a key, in ascending order of the keys, and makes its room before.
+/// Asks at most once for each key, in ascending order, and reserves its room first.
 pub fn join<
     K: Ord + Clone + Drop,
     V,

@@ -1,5 +1,4 @@
-//! Joins in place: values of the left map are moved through the question and back, and its keys
-//! stay.
+//! Joins in place: values of the left map are moved into the question and back, and its keys stay.
 ghost use Rattle.std.specs.Prelude.{◌≡◌, ◌+◌, ◌<◌, ◌≤◌, true, false, [], ◌∷◌, ◌++◌, Some, IsOk, IfOk, OnOk, OnErr, length, take, drop};
 ghost use Rattle.smallvec.specs.SmallVec.{small_vec_len, HasRoomFor};
 ghost use Rattle.std.specs.List.{AllByRecursion};
@@ -26,11 +25,11 @@ use vc_joins::question::{JoinKind, OuterJoinArg};
 use vc_merge::merge::{Count, MergeState, MergeStateMut, merge};
 use vc_merge::parts::{PartsState, Spans, open_gap};
 
-/// A map that is built anew in its own places, and one that is only looked at.
+/// A map that is rebuilt in place, and one that is only read.
 ///
 /// `KEYS` is how many clones of its key each pair of the other map has in the list: none, or one if
-/// such keys may come in. These are there from the start, in pairs of the right part of the list,
-/// so no event is refused.
+/// such keys may be inserted. The clones are made at the start, in pairs of the right part of the
+/// list, so no event is refused.
 #[derive(Drop)]
 pub struct KeptState<'a, 'b, 'c, K, V, W, A, const KEYS: usize> {
     list: &'a mut [(K, V)],
@@ -61,7 +60,7 @@ impl<'a, 'b, 'c, K, V, W, A, const KEYS: usize> MergeState
     }
 }
 
-/// Pairs at which nothing is asked are left to the hole, or passed by.
+/// Pairs for which nothing is asked are added to the hole, or passed.
 impl<'a, 'b, 'c, K: Clone, V, W, A, const KEYS: usize> MergeStateMut
     for KeptState<'a, 'b, 'c, K, V, W, A, KEYS> {
     ghost use Rattle.vc_maps.specs.KeptViews.{HasKeys};
@@ -90,7 +89,7 @@ impl<'a, 'b, 'c, K: Clone, V, W, A, const KEYS: usize> KeptState<'a, 'b, 'c, K, 
     ghost use Rattle.vc_maps.specs.KeptViews.{left_pairs, right_pairs, key_pairs, HasKeys, lent_list};
     ghost use Rattle.vc_maps.specs.KeptViews as kept;
 
-    /// The list, whose parts stand at `spans`, and the pairs of the other map.
+    /// The list, whose parts are at `spans`, and the pairs of the other map.
     fn new(list: &'a mut [(K, V)], spans: Spans, right: &'b [(K, W)], alloc: &'c A) -> Self
         requires { spans.next ≤ length list.old }
         ensures same_reference { lent_list result ≡ list.entry }
@@ -189,8 +188,8 @@ where
     }
 }
 
-/// Puts an answer under its key in the place of the first pair that is left of the left part, where
-/// there is one, and passes that place.
+/// Puts an answer, where there is one, under its key instead of the first pair that is left of the
+/// left part, and passes that pair.
 pub fn keep_left<K: Drop, V: Drop>(parts: &mut PartsState<'_, (K, V)>, key: K, answer: Option<V>)
     requires { 0 < length (left_items parts.old) }
     ensures name { list_name parts.new ≡ list_name parts.old }
@@ -209,8 +208,8 @@ pub fn keep_left<K: Drop, V: Drop>(parts: &mut PartsState<'_, (K, V)>, key: K, a
     }
 }
 
-/// Puts an answer under its key in the place of the first pair that is left of the right part,
-/// where there is one, and takes or passes that.
+/// Puts an answer, where there is one, under its key instead of the first pair that is left of the
+/// right part, and takes that pair. Without an answer the pair is passed.
 fn keep_right<K: Drop, V: Drop>(parts: &mut PartsState<'_, (K, V)>, key: K, answer: Option<V>)
     requires { 0 < length (right_items parts.old) }
     ensures name { list_name parts.new ≡ list_name parts.old }
@@ -229,7 +228,8 @@ fn keep_right<K: Drop, V: Drop>(parts: &mut PartsState<'_, (K, V)>, key: K, answ
     }
 }
 
-/// Asks at the first `n` pairs that are left of the left part, which stand there alone.
+/// Asks for the first `n` pairs that are left of the left part, whose keys are in the left map
+/// alone.
 fn turn_lefts<K: Clone + Drop, V: Drop, W, Q: Turn<K, V, W>, A: Allocator + Copy>(
     parts: &mut PartsState<'_, (K, V)>,
     alloc: A,
@@ -255,8 +255,8 @@ where
     }
 }
 
-/// Asks at each of `pairs`, which stand on the right alone. The pairs of the right part have clones
-/// of their keys.
+/// Asks for each of `pairs`, which are in the right map alone. The pairs of the right part have
+/// clones of their keys.
 fn turn_rights<K: Clone + Drop, V: Drop, W, Q: Turn<K, V, W>, A: Allocator + Copy>(
     parts: &mut PartsState<'_, (K, V)>,
     alloc: A,
@@ -281,8 +281,8 @@ where
     }
 }
 
-/// Asks at a pair of the left and a value of the right, which stand at equal keys. The place of the
-/// pair is the first one of the left part.
+/// Asks for a pair of the left map and a value of the right one, whose keys are equal. The pair is
+/// the first of the left part.
 fn turn_pair<K: Clone + Drop, V: Drop, W, Q: Turn<K, V, W>>(
     parts: &mut PartsState<'_, (K, V)>,
     question: &Q,
@@ -302,8 +302,8 @@ fn turn_pair<K: Clone + Drop, V: Drop, W, Q: Turn<K, V, W>>(
     keep_left(parts, key, answer);
 }
 
-/// Asks at the first `n` pairs that are left of the left part, in a list whose parts stand at
-/// `spans`. Answers where they stand then.
+/// Asks for the first `n` pairs that are left of the left part, in a list whose parts are at
+/// `spans`. Answers where the parts are after that.
 fn lefts_turned<K: Clone + Drop, V: Drop, W, Q: Turn<K, V, W>, A: Allocator + Copy>(
     list: &mut [(K, V)],
     spans: Spans,
@@ -329,8 +329,8 @@ where
     parts.spans()
 }
 
-/// Asks at each of `pairs`, which stand on the right alone, in a list whose parts stand at `spans`.
-/// Answers where they stand then.
+/// Asks for each of `pairs`, which are in the right map alone, in a list whose parts are at
+/// `spans`. Answers where the parts are after that.
 fn rights_turned<K: Clone + Drop, V: Drop, W, Q: Turn<K, V, W>, A: Allocator + Copy>(
     list: &mut [(K, V)],
     spans: Spans,
@@ -355,8 +355,8 @@ where
     parts.spans()
 }
 
-/// Asks at the first pair that is left of the left part and the first one of `right`, which have
-/// equal keys, in a list whose parts stand at `spans`. Answers where they stand then.
+/// Asks for the first pair that is left of the left part and the first one of `right`, which have
+/// equal keys, in a list whose parts are at `spans`. Answers where the parts are after that.
 fn pair_turned<K: Clone + Drop, V: Drop, W, Q: Turn<K, V, W>, A: Allocator + Copy>(
     list: &mut [(K, V)],
     spans: Spans,
@@ -383,8 +383,8 @@ where
     parts.spans()
 }
 
-/// Asks at a pair that stands on the left alone. One lifetime serves for the right, which has none
-/// of its own.
+/// Asks for a pair that is in the left map alone. The right side has no reference here, so one
+/// lifetime is used for both.
 fn turn_left<'a, K, V, W: 'a, Q: Turn<K, V, W>>(question: &Q, key: &'a K, value: V) -> Option<V>
     requires { Q.takes question.now (arg.Left key.now value) }
     ensures { Q.may question.now (arg.Left key.now value) result }
@@ -393,7 +393,7 @@ fn turn_left<'a, K, V, W: 'a, Q: Turn<K, V, W>>(question: &Q, key: &'a K, value:
     question.turn(arg)
 }
 
-/// Asks at a pair that stands on the right alone.
+/// Asks for a pair that is in the right map alone.
 fn turn_right<K, V, W, Q: Turn<K, V, W>>(question: &Q, pair: &(K, W)) -> Option<V>
     requires { Q.takes question.now (arg.Right pair.now.0 pair.now.1) }
     ensures { Q.may question.now (arg.Right pair.now.0 pair.now.1) result }
@@ -402,8 +402,8 @@ fn turn_right<K, V, W, Q: Turn<K, V, W>>(question: &Q, pair: &(K, W)) -> Option<
 }
 
 /// Moves the join of a part of a list with another list to the front. The part is the first `end`
-/// pairs. If `KEYS` is not 0, the kind asks at the keys of the other list alone, and the pairs from
-/// `next` on have clones of these. Answers how many pairs the join has.
+/// pairs. If `KEYS` is not 0, the kind asks for keys that only the other list has, and the pairs
+/// from `next` on have clones of its keys. Answers how many pairs the join has.
 fn join_parts<
     const KEYS: usize,
     K: Ord + Clone + Drop,
@@ -450,10 +450,10 @@ where
     state.spans.built
 }
 
-/// Puts a pair with a clone of the key of each of `pairs` behind a list. Answers the place of the
+/// Appends to a list, for each of `pairs`, a pair with a clone of its key. Answers the place of the
 /// first of them.
 ///
-/// The one growth comes before the first clone. Refused, the list has its pairs.
+/// The only allocation comes before the first clone. On refusal the list has its old pairs.
 fn append_keys<K: Clone + Drop, V: Drop, W, const N: usize, A: Allocator + Copy>(
     list: &mut SmallVec<(K, V), N, A>,
     pairs: &[(K, W)],
@@ -477,8 +477,8 @@ where
     Ok(next)
 }
 
-/// Pushes a pair with a clone of the key of each of `pairs`, for which there is room. Refused, it
-/// leaves those that were made.
+/// Pushes, for each of `pairs`, a pair with a clone of its key; there is room for these. On refusal
+/// those that were made stay.
 fn push_keys<K: Clone + Drop, V: Drop, W, const N: usize, A: Allocator + Copy>(
     list: &mut SmallVec<(K, V), N, A>,
     pairs: &[(K, W)],
@@ -497,8 +497,8 @@ where
     Ok(())
 }
 
-/// The join of a list of pairs with another one, in its place, of a kind that asks at the keys of
-/// the left or of both. Takes no memory.
+/// The join of a list of pairs with another one, in place, of a kind that asks for the keys of the
+/// left map or of both. Takes no memory.
 fn join_known<
     K: Ord + Clone + Drop,
     V: Drop,
@@ -534,9 +534,9 @@ where
     list.truncate(kept);
 }
 
-/// The join of a list of pairs with another one, in its place, of a kind that asks at the keys of
-/// the right. The one growth and all clones come before the first question; refused there, the list
-/// has its pairs.
+/// The join of a list of pairs with another one, in place, of a kind that asks for the keys of the
+/// right map. The only allocation and all clones come before the first question. On refusal there
+/// the list has its old pairs.
 fn join_with_keys<
     K: Ord + Clone + Drop,
     V: Drop,
@@ -582,11 +582,11 @@ where
     Ok(())
 }
 
-/// The join of a list of pairs with another one, in its place, where both ascend by key. It takes
-/// memory only if the kind asks at the keys of the right.
+/// The join of a list of pairs with another one, in place, where both ascend by key. It takes
+/// memory only if the kind asks for the keys of the right map.
 ///
-/// Asks at most once a key, in ascending order of the keys. Refused before the first question, the
-/// list has its pairs.
+/// Asks at most once for each key, in ascending order. On refusal before the first question the
+/// list has its old pairs.
 pub fn join<
     K: Ord + Clone + Drop,
     V: Drop,

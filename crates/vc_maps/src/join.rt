@@ -1,5 +1,5 @@
-//! The one operation of joins: at each event it asks a question, where the kind of the join asks
-//! one.
+//! The merge operation of all joins: at each event it asks a question, if the kind of join asks one
+//! there.
 ghost use Rattle.std.specs.Prelude.{◌≡◌, ℕ, ◌<◌, ◌≤◌, true, false, take, drop, length, IfOk};
 ghost use Rattle.std.specs.Bool.{MatchBool};
 ghost use Rattle.std.specs.List.{AllByRecursion};
@@ -20,10 +20,10 @@ use std::cmp::Ordering;
 use vc_joins::question::JoinKind;
 use vc_merge::merge::{Count, MergeOperation, MergeStateMut};
 
-/// A state that asks a question `Q` at the pairs that are left of two maps, and builds a map of the
-/// answers.
+/// A state that asks a question `Q` for the pairs that are left of two maps, and builds a map of
+/// the answers.
 pub trait JoinState<K, V, W, Q>: MergeStateMut<A = (K, V), B = (K, W)> {
-    /// The question may be asked so.
+    /// Whether the question may be asked with this argument.
     ghost takes: { Q → OuterJoinArg K V W → Type 0 };
 
     ghost asks_a: { Q → Self → ℕ → Answer → Self → Type 0 };
@@ -32,8 +32,7 @@ pub trait JoinState<K, V, W, Q>: MergeStateMut<A = (K, V), B = (K, W)> {
 
     ghost asks_both: { Q → Self → Answer → Self → Type 0 };
 
-    /// Asks at the first `n` pairs of the left map, each of which stands there alone, and passes
-    /// them.
+    /// Asks for the first `n` pairs of the left map, whose keys are there alone, and passes them.
     fn ask_a(&mut self, question: &Q, n: usize) -> Result<bool, AllocError>
         requires ready { Self.ready self.old }
         requires within { n ≤ length (Self.left self.old) }
@@ -44,8 +43,7 @@ pub trait JoinState<K, V, W, Q>: MergeStateMut<A = (K, V), B = (K, W)> {
             → (Self.left self.new ≡ drop n (Self.left self.old))
             × (Self.right self.new ≡ Self.right self.old) × Self.ready self.new) };
 
-    /// Asks at the first `n` pairs of the right map, each of which stands there alone, and passes
-    /// them.
+    /// Asks for the first `n` pairs of the right map, whose keys are there alone, and passes them.
     fn ask_b(&mut self, question: &Q, n: usize) -> Result<bool, AllocError>
         requires ready { Self.ready self.old }
         requires within { n ≤ length (Self.right self.old) }
@@ -56,7 +54,7 @@ pub trait JoinState<K, V, W, Q>: MergeStateMut<A = (K, V), B = (K, W)> {
             → (Self.left self.new ≡ Self.left self.old)
             × (Self.right self.new ≡ drop n (Self.right self.old)) × Self.ready self.new) };
 
-    /// Asks at the first pair of each map, which have equal keys, and passes both.
+    /// Asks for the first pair of each map, which have equal keys, and passes both.
     fn ask_both(&mut self, question: &Q) -> Result<bool, AllocError>
         requires ready { Self.ready self.old }
         requires takes { AtHeads (λ p q. takes question.now (arg.Both p.0 p.1 q.1))
@@ -66,7 +64,7 @@ pub trait JoinState<K, V, W, Q>: MergeStateMut<A = (K, V), B = (K, W)> {
             → (Self.left self.new ≡ drop 1 (Self.left self.old))
             × (Self.right self.new ≡ drop 1 (Self.right self.old)) × Self.ready self.new) };
 
-    /// Asks at the first pairs, whose keys compare so, and passes the lesser one, or both.
+    /// Asks for the first pairs, whose keys compare as `heads`, and passes the lesser one, or both.
     #[inline(always)]
     fn ask_heads(&mut self, question: &Q, heads: Ordering) -> Result<bool, AllocError>
         requires ready { Self.ready self.old }
@@ -83,7 +81,7 @@ pub trait JoinState<K, V, W, Q>: MergeStateMut<A = (K, V), B = (K, W)> {
         }
     }
 
-    /// Passes the lesser one of the first pairs, at which nothing is asked.
+    /// Passes the lesser one of the first pairs, for which nothing is asked.
     #[inline(always)]
     fn pass_lesser(&mut self, heads: Ordering) -> Result<bool, AllocError>
         requires ready { Self.ready self.old }
@@ -101,7 +99,8 @@ pub trait JoinState<K, V, W, Q>: MergeStateMut<A = (K, V), B = (K, W)> {
     }
 }
 
-/// Asks a question at the keys that a kind of join names, in ascending order, and drops all others.
+/// Asks a question for the keys that a kind of join names, in ascending order, and drops all
+/// others.
 #[derive(Drop)]
 pub struct JoinOp<'f, Q> {
     pub kind: JoinKind,
@@ -171,8 +170,8 @@ impl<
         }
     }
 
-    /// An inner join passes a pair that stands alone by a choice. Joins that ask there branch on the
-    /// order all the same, and go by runs.
+    /// An inner join passes a pair that is in one map alone without a branch. Joins that ask there
+    /// have to branch on the order anyway, and go by runs.
     #[inline(always)]
     fn chooses(&self) -> bool {
         match self.kind {
@@ -182,7 +181,7 @@ impl<
     }
 }
 
-/// Whether a join asks at two first pairs whose keys compare so.
+/// Whether a join asks for two first pairs whose keys compare as `heads`.
 #[inline(always)]
 fn asks_at(kind: JoinKind, heads: Ordering) -> bool
     ensures { result ≡ asks_at kind heads }
@@ -195,7 +194,7 @@ fn asks_at(kind: JoinKind, heads: Ordering) -> bool
     }
 }
 
-/// Compares two keys, and counts that.
+/// Compares two keys, and counts the comparison.
 #[inline(always)]
 fn compare_keys<K: Ord, C: Count>(a: &K, b: &K, steps: &mut C) -> Ordering
     ensures value { result ≡ K.cmp a.now b.now }

@@ -42,8 +42,8 @@ use vc_merge::moving::insert_at;
 use vc_merge::search::{find_key, pairs_between};
 use vc_sets::borrowed::Borrowed;
 
-/// A map, as a list of its pairs in ascending order of their keys. Up to `N` of them stand in
-/// place, without an allocation, unless the list was once given room for more: then it keeps its
+/// A map, as a list of its pairs in ascending order of their keys. Up to `N` of them are held
+/// inline, without an allocation, unless the list was once given room for more: then it keeps its
 /// block until `shrink_to_fit`.
 ///
 /// Contracts see it as that list.
@@ -58,7 +58,7 @@ pub struct VecMap<K: Ord, V, const N: usize, A: Allocator = Global> {
     pairs: SmallVec<(K, V), N, A>,
 }
 
-/// A map with room for one pair in place.
+/// A map with room for one pair inline.
 pub type VecMap1<K, V> = VecMap<K, V, 1>;
 
 impl<K: Ord, V, const N: usize, A: Allocator> Model for VecMap<K, V, N, A> {
@@ -105,8 +105,8 @@ impl<K: Ord, V, const N: usize, A: Allocator> VecMap<K, V, N, A> {
         self.pairs.as_slice()
     }
 
-    /// The value at a key that is equal to `key`, to write through. What is written stands in its
-    /// place; the keys and all other values stay. Compares fewer than `1.5 * log2(n) + 4` times
+    /// The value at a key that is equal to `key`, to write through. The value written replaces the
+    /// old one; the keys and all other values stay. Compares fewer than `1.5 * log2(n) + 4` times
     /// among `n` pairs, and takes no memory.
     ///
     /// ```
@@ -141,12 +141,12 @@ where
         }
     }
 
-    /// Binds a key to a value. A known key is replaced together with its value, which is handed
-    /// back.
+    /// Binds a key to a value. A key that is held is replaced together with its value, which is
+    /// returned.
     ///
-    /// Compares fewer than `1.5 * log2(n) + 4` times among `n` pairs, and moves the pairs behind a
-    /// new one. It takes memory only for a new key, where `N` or more pairs are held; refused, it
-    /// leaves the map as it was and drops the key and the value.
+    /// Compares fewer than `1.5 * log2(n) + 4` times among `n` pairs, and moves the pairs after a
+    /// new one. It takes memory only for a new key, where `N` or more pairs are held; on refusal it
+    /// leaves the map unchanged and drops the key and the value.
     pub fn insert(&mut self, key: K, value: V) -> Result<Option<V>, AllocError>
         ensures old { IfOk result (λ old. old ≡ value_at K.cmp self.old key) }
         ensures values { IfOk result (λ _. (k : K)
@@ -156,7 +156,7 @@ where
             → entry_at K.cmp self.new k
             ≡ cond (eq_by_cmp K.cmp k key) (Some (key, value)) (entry_at K.cmp self.old k)) }
 
-        // It succeeds on a known key, and where fewer than `N` pairs are held.
+        // It succeeds where the key is held, and where fewer than `N` pairs are held.
         ensures known { IsSome (value_at K.cmp self.old key) → IsOk result }
         ensures room { length self.old < N → IsOk result }
         ensures err { OnErr result (self.new ≡ self.old) }
@@ -177,7 +177,7 @@ where
 
 /// A map whose pairs can be read as one list that ascends by key.
 ///
-/// An implementation writes `as_slice` alone, and the pairs that it shows.
+/// An implementation writes only `as_slice`, and the pairs that contracts see.
 pub trait AbstractVecMap<K: Ord, V> {
     ghost pairs: { Self → List (K × V) };
 
@@ -214,7 +214,7 @@ pub trait AbstractVecMap<K: Ord, V> {
         find_key(self.as_slice(), key).is_ok()
     }
 
-    /// The value at the key that is equal to a borrowed form, as an `Option<&str>` among
+    /// The value at the key that is equal to a borrowed form, such as an `Option<&str>` among
     /// `Option<String>`s. Compares as often as `get`, and takes no memory.
     ///
     /// ```
@@ -245,16 +245,16 @@ pub trait AbstractVecMap<K: Ord, V> {
         find_key_by(self.as_slice(), sought).is_ok()
     }
 
-    /// The pair with the least key, or none where there is no pair. Compares none, and takes no
-    /// memory.
+    /// The pair with the least key, or none where there is no pair. Makes no comparison, and takes
+    /// no memory.
     fn first(&self) -> Option<&(K, V)>
         ensures { option_copied result ≡ slice_get (pairs self.now) 0 }
     {
         self.as_slice().first()
     }
 
-    /// The pair with the greatest key, or none where there is no pair. Compares none, and takes no
-    /// memory.
+    /// The pair with the greatest key, or none where there is no pair. Makes no comparison, and
+    /// takes no memory.
     fn last(&self) -> Option<&(K, V)>
         ensures { option_copied result
             ≡ slice_get (pairs self.now) (length (pairs self.now) - 1) }

@@ -32,7 +32,7 @@ impl<K: Ord, V, Q: Borrowed<K>, C: Count> Sought<(K, V), C> for KeyForm<Q> {
 }
 
 /// The place of the pair whose key is equal to a form in a list that ascends by its keys, or the
-/// gap where it would stand.
+/// gap where it would be.
 pub fn find_key_by<K: Ord, V, Q: Borrowed<K>>(pairs: &[(K, V)], sought: Q) -> Result<usize, usize>
     requires { Ascends K.cmp (keys_of pairs.now) }
     ensures { IsPlace (λ p. Q.side sought p.0) pairs.now result }
@@ -43,8 +43,8 @@ pub fn find_key_by<K: Ord, V, Q: Borrowed<K>>(pairs: &[(K, V)], sought: Q) -> Re
 impl<K: Ord, V, const N: usize, A: Allocator> VecMap<K, V, N, A> {
     ghost use Rattle.vc_maps.specs.Updating.{lends_value_by};
 
-    /// The value at the key that is equal to a borrowed form, to write through. What is written
-    /// stands in its place; the keys and all other values stay. Compares as often as `get`, and
+    /// The value at the key that is equal to a borrowed form, to write through. The value written
+    /// replaces the old one; the keys and all other values stay. Compares as often as `get`, and
     /// takes no memory.
     ///
     /// ```
@@ -74,11 +74,11 @@ impl<K: Ord + Drop, V: Drop, const N: usize, A: Allocator + Copy> VecMap<K, V, N
 where
     (K, V): MadeWith<A>,
 {
-    /// Takes out the pair whose key is equal to a borrowed form, and hands back its value, or none
-    /// where no such pair is held. The key that was held is dropped; all other pairs stay, and so
-    /// does the room of the list.
+    /// Removes the pair whose key is equal to a borrowed form, and returns its value, or none where
+    /// no such pair is held. The key that was held is dropped; all other pairs stay, and the list
+    /// keeps its capacity.
     ///
-    /// Compares as often as `get`, moves the pairs behind that one, and takes no memory.
+    /// Compares as often as `get`, moves the pairs after that one, and takes no memory.
     ///
     /// ```
     /// assert!(rt; ages.remove_by(Some("ada")) == Some(36));

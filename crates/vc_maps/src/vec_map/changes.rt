@@ -1,4 +1,4 @@
-//! Pairs that go, and copies of a map.
+//! Pairs that a test removes, and copies of a map.
 ghost use Rattle.std.specs.Prelude.{◌≡◌, [], filter, Bool, IfOk};
 ghost use Rattle.std.specs.Fn.{CalledAt};
 ghost use Rattle.std.specs.Iterator.{CallableOnAllAt, YieldsFirst};
@@ -20,8 +20,8 @@ impl<K: Ord + Drop, V: Drop, const N: usize, A: Allocator + Copy> VecMap<K, V, N
 where
     (K, V): MadeWith<A>,
 {
-    /// Keeps the pairs at which `f` answers true, and drops the others. `f` is asked once at each
-    /// pair, in ascending order of the keys.
+    /// Keeps the pairs for which `f` answers true, and drops the others. `f` is called once with
+    /// each pair, in ascending order of the keys.
     ///
     /// Makes at most one swap for each pair, and takes no memory.
     pub fn retain<F: FnMut(&(K, V)) -> bool>(&mut self, f: F)
@@ -30,8 +30,7 @@ where
         ensures entries { (k : K) → IsRetained (CalledAt F.FnMut) (entry_at K.cmp self.old k)
             (entry_at K.cmp self.new k) }
 
-        // By a plain test, which answers as a function does, all that passes stays, and nothing
-        // else.
+        // With a pure test, exactly what passes it stays.
         ensures plain { (test : K × V → Bool) → AnswersAs (CalledAt F.FnMut) f test
             → self.new ≡ filter test self.old }
     {
@@ -46,8 +45,8 @@ where
 {
     /// A copy, pair by pair, with the allocator of this map.
     ///
-    /// Takes memory where there are more than `N`, for as many as a map has room for that grew to
-    /// hold them, and as the clones do; refused, it drops what was copied.
+    /// Where there are more than `N` pairs, it takes as much memory as a map that grew to hold
+    /// them. The clones may take memory too. On refusal it drops what was copied.
     pub fn clone(&self) -> Result<Self, AllocError>
         requires { ClonesAreEqual K.cmp K.is_clone }
         ensures { IfOk result

@@ -8,10 +8,10 @@ use smallvec::SmallVec;
 use std::alloc::{AllocError, Allocator};
 use std::default::MadeWith;
 
-/// Puts the pairs of a list in ascending order of their keys, and keeps the last of those with
-/// equal keys alone.
+/// Puts the pairs of a list in ascending order of their keys, and keeps only the last of those with
+/// equal keys.
 ///
-/// Takes memory where there are more than 20; refused, it leaves the pairs in any order.
+/// Takes memory where there are more than 20; on refusal it leaves the pairs in any order.
 fn put_in_order<K: Ord + Drop, V: Drop, const N: usize, A: Allocator + Copy>(
     alloc: A,
     list: &mut SmallVec<(K, V), N, A>,
@@ -24,7 +24,7 @@ where
 {
     let pairs = list.as_mut_slice();
     pairs.reverse();
-    // A stable sort leaves what was the last of equal keys in front of the others.
+    // A stable sort of the reversed list puts the last of equal keys before the others.
     pairs.sort_by(alloc, |left, right| left.0.cmp(&right.0))?;
     list.dedup_by(|later, kept| later.0 == kept.0);
     Ok(())
@@ -33,9 +33,9 @@ where
 /// The map of the pairs of an iterator that ends, in any order. Of pairs with equal keys the last
 /// one is kept, as if each were inserted in turn.
 ///
-/// The pairs come first, and are sorted then, with `O(n * log(n))` comparisons. Takes memory where
-/// more than `N` pairs come, and for the sort where more than 20 do; refused, it drops the pairs
-/// that came and the iterator.
+/// All pairs are taken first, and then sorted with `O(n * log(n))` comparisons. Takes memory where
+/// there are more than `N` pairs, and for the sort where there are more than 20. On refusal it
+/// drops the pairs that came and the iterator.
 ///
 /// ```
 /// let squares: VecMap<u32, u32, 4> = (0..4).rev().map(|n| (n, n * n)).collect(alloc)?;
@@ -57,12 +57,12 @@ where
     }
 }
 
-/// Puts the pairs of an iterator that ends in, in turn and in any order. A known key is replaced
-/// together with its value.
+/// Inserts the pairs of an iterator that ends, in turn and in any order. A key that is held is
+/// replaced together with its value.
 ///
-/// Each pair compares and moves as [`insert`](VecMap::insert) does. Where many pairs come, collect
-/// them into a map first, and take that one in. Refused at a pair, it drops that pair and the
-/// iterator; the pairs before it are in the map.
+/// Each pair compares and moves as [`insert`](VecMap::insert) does. Where there are many pairs,
+/// collect them into a map first, and call `merge_with`. On refusal at a pair it drops that pair
+/// and the iterator; the pairs before it are in the map.
 impl<K: Ord + Drop, V: Drop, const N: usize, A: Allocator + Copy> Extend<(K, V)>
     for VecMap<K, V, N, A>
 where

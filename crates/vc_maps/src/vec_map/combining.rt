@@ -1,4 +1,4 @@
-//! Maps that take in another one whole. The pairs of both are moved, and nothing is cloned.
+//! Maps that take in all of another map. The pairs of both are moved, and nothing is cloned.
 ghost use Rattle.std.specs.Prelude.{◌≡◌, ◌+◌, ◌≤◌, List, length, IsOk, OnErr, OnOk};
 ghost use Rattle.std.specs.Iterator.{Drains, IsFinite};
 ghost use Rattle.std.specs.Iterator.Runs.{WholeRun};
@@ -20,15 +20,15 @@ impl<K: Ord + Drop, V: Drop, const N: usize, A: Allocator + Copy> VecMap<K, V, N
 where
     (K, V): MadeWith<A>,
 {
-    /// Takes in the pairs of `that`. At a key of both maps stands what `f` makes of the value of
-    /// this map and that of `that`, under the key of this map.
+    /// Takes in the pairs of `that`. At a key of both maps, the value becomes the result of `f` on
+    /// the value of this map and that of `that`; the key of this map is kept.
     ///
-    /// All pairs are moved. `f` is asked at the keys of both maps alone, once at each, in ascending
+    /// All pairs are moved. `f` is called only at the keys of both maps, once at each, in ascending
     /// order.
     ///
-    /// It grows at most once, before the first question, and can't be refused where both maps fit
-    /// together: then it grows only if both are long and few places are left. Refused, it leaves
-    /// this map as it was and drops `that`, and has not asked `f`.
+    /// It allocates at most once, before the first question, and can't be refused where both maps
+    /// fit together: then it allocates only if both are long and little room is left. On refusal it
+    /// leaves this map unchanged and drops `that`, and has not called `f`.
     ///
     /// ```
     /// totals.combine_with(today, |held, more| held.max(more))?;
@@ -56,11 +56,11 @@ where
         Ok(())
     }
 
-    /// Takes in the pairs of `that`. At a key of both maps stands the value of `that`, under the
-    /// key of this map.
+    /// Takes in the pairs of `that`. At a key of both maps, the value of `that` and the key of this
+    /// map are kept.
     ///
-    /// All pairs are moved. It grows at most once, as [`combine_with`](VecMap::combine_with) does.
-    /// Refused, it leaves this map as it was and drops `that`.
+    /// All pairs are moved. It allocates at most once, as [`combine_with`](VecMap::combine_with)
+    /// does. On refusal it leaves this map unchanged and drops `that`.
     pub fn merge_with<const M: usize>(&mut self, that: VecMap<K, V, M, A>) -> Result<(), AllocError>
         ensures joins { OnOk result (IsJoin K.cmp JoinKind.Outer left_spelling self.old that
             (Combines (λ v w x. x ≡ w)) MovedKey self.new) }
@@ -77,10 +77,11 @@ where
     }
 
     /// Takes in the items of an iterator whose keys ascend strictly and which ends. At a key of
-    /// both stands the value of the item, under the key of this map.
+    /// both, the value of the item and the key of this map are kept.
     ///
-    /// The items become a map first, which grows as `from_iter` does; then this one grows at most
-    /// once. Refused, it leaves this map as it was, and drops the items that came and the iterator.
+    /// The items become a map first, which grows as `from_iter` does; then this one allocates at
+    /// most once. On refusal it leaves this map unchanged, and drops the items that came and the
+    /// iterator.
     pub fn extend<I: Iterator<Item = (K, V)> + SortedByKey<K, V>>(
         &mut self,
         iter: I,

@@ -29,8 +29,8 @@ impl<K: Ord, V: Eq, const N: usize, A: Allocator> Eq for VecMap<K, V, N, A> {
         (and_equiv (on_equiv (λ p. p.0) K.Eq.laws) (on_equiv (λ p. p.1) V.Eq.laws)) };
 }
 
-/// Maps are ordered as the lists of their pairs are: by the first place at which they differ, there
-/// by the key and then by the value, and a list that has ended comes first.
+/// Maps are ordered as the lists of their pairs: by the first place at which they differ, first by
+/// the key and then by the value. A list that has ended there comes first.
 impl<K: Ord, V: PartialOrd, const N: usize, A: Allocator> PartialOrd for VecMap<K, V, N, A> {
     ghost partial_cmp = { slice_partial_cmp
         (λ p q. partial_ordering_then (K.partial_cmp p.0 q.0) (V.partial_cmp p.1 q.1)) };

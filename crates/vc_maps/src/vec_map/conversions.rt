@@ -24,8 +24,8 @@ pub fn map_of_list<K: Ord, V, const N: usize, A: Allocator>(
     VecMap { pairs }
 }
 
-/// The pairs of a list in ascending order of their keys, and of those with equal keys the last
-/// alone.
+/// The pairs of a list in ascending order of their keys, and of those with equal keys only the
+/// last.
 fn in_order<K: Ord + Drop, V: Drop>(vec: Vec<(K, V)>) -> Result<Vec<(K, V)>, AllocError>
     ensures ascends { IfOk result (λ list. AscendsByKey K.cmp list.items) }
     ensures values { IfOk result
@@ -35,7 +35,7 @@ fn in_order<K: Ord + Drop, V: Drop>(vec: Vec<(K, V)>) -> Result<Vec<(K, V)>, All
 {
     let mut list = vec;
     list.reverse();
-    // A stable sort leaves what was the last of equal keys in front of the others.
+    // A stable sort of the reversed list puts the last of equal keys before the others.
     list.sort_by(|left, right| left.0.cmp(&right.0))?;
     list.dedup_by(|later, kept| later.0 == kept.0);
     Ok(list)
@@ -57,7 +57,7 @@ where
 {
     /// The pairs in ascending order of their keys, as a `Vec`.
     ///
-    /// Takes memory where they stand in place; refused, it drops them.
+    /// Takes memory where they are inline; on refusal it drops them.
     pub fn into_vec(self) -> Result<Vec<(K, V), A>, AllocError>
         ensures pairs { IfOk result (λ v. v.items ≡ self) }
         ensures ascends { AscendsByKey K.cmp self }
@@ -65,7 +65,7 @@ where
         Ok(self.pairs.into_vec()?)
     }
 
-    /// The map of one pair. Takes memory only where `N` is 0; refused, it drops the pair.
+    /// The map of one pair. Takes memory only where `N` is 0; on refusal it drops the pair.
     pub fn single(alloc: A, item: (K, V)) -> Result<Self, AllocError>
         ensures pair { IfOk result (λ m. m ≡ item ∷ []) }
         ensures room { 1 ≤ N → IsOk result }
@@ -76,9 +76,9 @@ where
     }
 
     /// The map of a list whose keys ascend strictly, as
-    /// [`ascends_by_key`](vc_merge::iterators::ascends_by_key) tells. The pairs are moved.
+    /// [`ascends_by_key`](vc_merge::iterators::ascends_by_key) checks. The pairs are moved.
     ///
-    /// Takes memory where there are more than `N`; refused, it drops the pairs.
+    /// Takes memory where there are more than `N`; on refusal it drops the pairs.
     pub fn from_vec(alloc: A, vec: Vec<(K, V)>) -> Result<Self, AllocError>
         requires { AscendsByKey K.cmp vec.items }
         ensures pairs { IfOk result (λ m. m ≡ vec.items) }
@@ -88,12 +88,12 @@ where
         Ok(VecMap { pairs })
     }
 
-    /// The map of the pairs of a list that may stand in any order. Of pairs with equal keys the
-    /// last one of the list is kept, as if each were inserted in turn. The pairs are moved.
+    /// The map of the pairs of a list that may be in any order. Of pairs with equal keys the last
+    /// one of the list is kept, as if each were inserted in turn. The pairs are moved.
     ///
-    /// Sorts in the place of the list, and compares `O(n * log(n))` times. Takes memory for the
-    /// sort where there are more than 20, from the allocator of the list, and where more than `N`
-    /// are left; refused, it drops the pairs.
+    /// Sorts the list in place, with `O(n * log(n))` comparisons. Takes memory for the sort where
+    /// there are more than 20, from the allocator of the list, and where more than `N` are left; on
+    /// refusal it drops the pairs.
     ///
     /// ```
     /// let pairs = vec![in alloc; (80, true), (22, true), (22, false)]?;
@@ -112,7 +112,7 @@ where
     /// The map of the items of an iterator whose keys ascend strictly and which ends. The items are
     /// moved.
     ///
-    /// Takes memory where there are more than `N`; refused, it drops the items that came and the
+    /// Takes memory where there are more than `N`; on refusal it drops the items that came and the
     /// iterator.
     pub fn from_iter<I: Iterator<Item = (K, V)> + SortedByKey<K, V>>(
         alloc: A,
@@ -133,7 +133,7 @@ where
 
     /// The map with the pairs of a `BTreeMap`, which are moved.
     ///
-    /// Takes memory where there are more than `N`; refused, it drops the pairs.
+    /// Takes memory where there are more than `N`; on refusal it drops the pairs.
     pub fn from_btree_map(alloc: A, map: BTreeMap<K, V>) -> Result<Self, AllocError>
         ensures pairs { IfOk result (λ m. m ≡ map.entries) }
         ensures room { length map.entries ≤ N → IsOk result }

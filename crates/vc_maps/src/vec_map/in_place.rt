@@ -1,5 +1,5 @@
-//! Joins that change a map in place. Its values are moved through the closure and back, and never
-//! cloned; its keys stay the old ones.
+//! Joins that change a map in place. Its values are moved into the closure and back, and never
+//! cloned; its old keys are kept.
 ghost use Rattle.std.specs.Prelude.{◌≡◌, ◌+◌, ◌≤◌, true, false, length, IsOk, OnErr, OnOk};
 ghost use Rattle.vc_joins.specs.InPlace.{handed, handed_left, handed_right, handed_inner, MayTurn, MayTurnLeft, MayTurnRight, MayTurnInner};
 ghost use Rattle.vc_joins.specs.Join.{IsAsked, IsJoin, IsJoinBy, OldKey};
@@ -20,14 +20,14 @@ impl<K: Ord + Clone + Drop, V: Drop, const N: usize, A: Allocator + Copy> VecMap
 where
     (K, V): MadeWith<A>,
 {
-    /// Asks `f` at each key of either map, and binds the key to the answer, where there is one.
+    /// Calls `f` at each key of either map, and binds the key to the answer, if there is one;
+    /// otherwise the key is removed.
     ///
-    /// Asks once a key, in ascending order. `f` is handed the value of this map itself, and shown
-    /// that of `that`. A key of this map is shown and stays as it is; a key of `that` alone comes
-    /// in as a clone.
+    /// Calls `f` once for each key, in ascending order. `f` takes the value of this map by value,
+    /// and that of `that` by reference. A key of this map is kept; a key of `that` alone is cloned.
     ///
-    /// It grows at most once, and clones each key of `that`, before the first question. Refused
-    /// there, it leaves the map as it was and has not asked `f`.
+    /// It allocates at most once, and clones each key of `that`, before the first call. On refusal
+    /// there it leaves the map unchanged and has not called `f`.
     ///
     /// ```
     /// stock.outer_join_with(&delivery, |at: OuterJoinArg<&u32, u32, &u32>| match at {
@@ -62,10 +62,11 @@ where
         )
     }
 
-    /// Asks `f` at each key of this map, and binds the key to the answer, where there is one. `f`
-    /// is handed the value of this map itself, and shown that of `that`, where it has the key.
+    /// Calls `f` at each key of this map, and binds the key to the answer, if there is one;
+    /// otherwise the key is removed. `f` takes the value of this map by value, and that of `that`
+    /// by reference, where it has the key.
     ///
-    /// Asks once a key, in ascending order. Keys stay as they are, and none is cloned. Takes no
+    /// Calls `f` once for each key, in ascending order. Keys are kept, and none is cloned. Takes no
     /// memory, so it always succeeds.
     pub fn left_join_with<W, M: AbstractVecMap<K, W>, F: Fn(&K, V, Option<&W>) -> Option<V> + Drop>(
         &mut self,
@@ -92,15 +93,15 @@ where
         )
     }
 
-    /// Asks `f` at each key of `that`, and binds the key to the answer, where there is one. All
-    /// other keys are dropped. `f` is handed the value of this map itself, where it has the key,
-    /// and shown that of `that`.
+    /// Calls `f` at each key of `that`, and binds the key to the answer, if there is one. All other
+    /// keys are dropped. `f` takes the value of this map by value, where it has the key, and that
+    /// of `that` by reference.
     ///
-    /// Asks once a key, in ascending order. A key of this map is shown and stays as it is; a key of
-    /// `that` alone comes in as a clone.
+    /// Calls `f` once for each key, in ascending order. A key of this map is kept; a key of `that`
+    /// alone is cloned.
     ///
-    /// It grows at most once, and clones each key of `that`, before the first question. Refused
-    /// there, it leaves the map as it was and has not asked `f`.
+    /// It allocates at most once, and clones each key of `that`, before the first call. On refusal
+    /// there it leaves the map unchanged and has not called `f`.
     pub fn right_join_with<
         W,
         M: AbstractVecMap<K, W>,
@@ -128,11 +129,11 @@ where
         )
     }
 
-    /// Asks `f` at each key of both maps, and binds the key to the answer, where there is one. All
-    /// other keys are dropped. `f` is handed the value of this map itself, and shown that of
-    /// `that`.
+    /// Calls `f` at each key of both maps, and binds the key to the answer, if there is one. All
+    /// other keys are dropped. `f` takes the value of this map by value, and that of `that` by
+    /// reference.
     ///
-    /// Asks once a key, in ascending order. Keys stay as they are, and none is cloned. Takes no
+    /// Calls `f` once for each key, in ascending order. Keys are kept, and none is cloned. Takes no
     /// memory, so it always succeeds.
     pub fn inner_join_with<W, M: AbstractVecMap<K, W>, F: Fn(&K, V, &W) -> Option<V> + Drop>(
         &mut self,
@@ -159,13 +160,13 @@ where
         )
     }
 
-    /// The join of this kind in place, as [`outer_join_with`](VecMap::outer_join_with) makes it,
-    /// and counts the comparisons: at most as many as both maps have pairs, and at most as many for
-    /// each pair of the shorter one as the length of the longer one has binary digits. `f` is asked
-    /// at the keys that the kind names alone. Makes one merge.
+    /// The join of this kind in place, as by [`outer_join_with`](VecMap::outer_join_with), with its
+    /// comparisons counted. `f` is called only at the keys that the kind names. Makes one merge,
+    /// with at most as many comparisons as both maps have pairs. For each pair of the shorter map
+    /// it makes at most as many as the length of the longer one has binary digits.
     ///
     /// A left or inner join takes no memory, so it always succeeds. An outer or right one that is
-    /// refused leaves the map as it was, and has not asked `f`.
+    /// refused leaves the map unchanged, and has not called `f`.
     ///
     /// ```
     /// let mut steps = Steps::new();

@@ -1,4 +1,4 @@
-//! Joins of two maps that build a fresh one.
+//! Joins of two maps that build a new one.
 ghost use Rattle.std.specs.Prelude.{◌+◌, ◌≤◌, Ok, length, IfOk};
 ghost use Rattle.vc_joins.specs.Answers.{seen, seen_left, seen_right, seen_inner, MayAnswer, MayAnswerLeft, MayAnswerRight, MayAnswerInner};
 ghost use Rattle.vc_joins.specs.Join.{ClonedKey, IsAsked, IsJoin, IsJoinBy};
@@ -15,14 +15,14 @@ use vc_joins::answers::AskOuter;
 use vc_joins::question::{JoinKind, OuterJoinArg};
 use vc_merge::merge::Steps;
 
-/// Asks `f` at each key of either map, and binds the key to the answer, where there is one.
+/// Calls `f` at each key of either map, and binds the key to the answer, if there is one.
 ///
-/// Asks once a key, in ascending order, and shows a key of both maps as the left one has it. A key
-/// comes in as a clone of the one that was shown. Refused where memory, a clone or an answer of `f`
-/// is.
+/// Calls `f` once for each key, in ascending order. Of a key of both maps, `f` sees the left one.
+/// The result holds clones of the keys that `f` saw. It is refused where memory, a clone or an
+/// answer of `f` is.
 ///
-/// Where a map has more than `N` pairs, it makes room for as many as both have, at the start; else
-/// it begins in place, and grows where the result has more than `N`.
+/// Where a map has more than `N` pairs, it makes room for as many as both have, at the start.
+/// Otherwise it begins inline, and grows where the result has more than `N`.
 ///
 /// ```
 /// let sums: VecMap<u32, u32, 4> =
@@ -59,12 +59,12 @@ where
     Ok(VecMap { pairs })
 }
 
-/// Asks `f` at each key of the left map, and binds the key to the answer, where there is one. `f`
-/// is shown the value of the right map, where that has the key.
+/// Calls `f` at each key of the left map, and binds the key to the answer, if there is one. `f`
+/// sees the value of the right map, where that has the key.
 ///
-/// Asks once a key, in ascending order, and shows a key of both maps as the left one has it. A key
-/// comes in as a clone of the one that was shown. Refused where memory, a clone or an answer of `f`
-/// is.
+/// Calls `f` once for each key, in ascending order. Of a key of both maps, `f` sees the left one.
+/// The result holds clones of the keys that `f` saw. It is refused where memory, a clone or an
+/// answer of `f` is.
 ///
 /// It makes room for as many pairs as the left map has, at the start.
 pub fn left_join<
@@ -96,12 +96,12 @@ where
     Ok(VecMap { pairs })
 }
 
-/// Asks `f` at each key of the right map, and binds the key to the answer, where there is one. `f`
-/// is shown the value of the left map, where that has the key.
+/// Calls `f` at each key of the right map, and binds the key to the answer, if there is one. `f`
+/// sees the value of the left map, where that has the key.
 ///
-/// Asks once a key, in ascending order, and shows a key of both maps as the left one has it. A key
-/// comes in as a clone of the one that was shown. Refused where memory, a clone or an answer of `f`
-/// is.
+/// Calls `f` once for each key, in ascending order. Of a key of both maps, `f` sees the left one.
+/// The result holds clones of the keys that `f` saw. It is refused where memory, a clone or an
+/// answer of `f` is.
 ///
 /// It makes room for as many pairs as the right map has, at the start.
 pub fn right_join<
@@ -133,11 +133,10 @@ where
     Ok(VecMap { pairs })
 }
 
-/// Asks `f` at each key of both maps, and binds the key to the answer, where there is one.
+/// Calls `f` at each key of both maps, and binds the key to the answer, if there is one.
 ///
-/// Asks once a key, in ascending order, and shows a key of both maps as the left one has it. A key
-/// comes in as a clone of the one that was shown. Refused where memory, a clone or an answer of `f`
-/// is.
+/// Calls `f` once for each key, in ascending order. `f` sees the key of the left map. The result
+/// holds clones of these keys. It is refused where memory, a clone or an answer of `f` is.
 ///
 /// It grows as answers come.
 pub fn inner_join<
@@ -170,10 +169,10 @@ where
 }
 
 impl<K: Ord + Clone + Drop, V, const N: usize, A: Allocator + Copy> VecMap<K, V, N, A> {
-    /// The join of this kind with another map, as [`outer_join`] makes it, and counts the
-    /// comparisons: at most as many as both maps have pairs, and at most as many for each pair of
-    /// the shorter one as the length of the longer one has binary digits. `f` is asked at the keys
-    /// that the kind names alone. Refused, it drops what it built.
+    /// The join of this kind with another map, as by [`outer_join`], with its comparisons counted.
+    /// `f` is called only at the keys that the kind names. It makes at most as many comparisons as
+    /// both maps have pairs. For each pair of the shorter map it makes at most as many as the
+    /// length of the longer one has binary digits. On refusal it drops what it built.
     ///
     /// ```
     /// let mut steps = Steps::new();
@@ -215,7 +214,7 @@ impl<K: Ord + Clone + Drop, V, const N: usize, A: Allocator + Copy> VecMap<K, V,
     }
 }
 
-/// The join of this kind by a closure that is asked as that of an outer join. Counts its
+/// The join of this kind by a closure that takes the argument of an outer join. Counts its
 /// comparisons.
 fn join_of_kind<
     K: Ord + Clone + Drop,

@@ -1,4 +1,4 @@
-//! Maps whose values are turned into others.
+//! Maps with each value mapped by a closure.
 ghost use Rattle.std.specs.Prelude.{◌≡◌, ◌≤◌, [], IfOk, IsOk, length};
 ghost use Rattle.smallvec.specs.SmallVec.{HasRoomFor};
 ghost use Rattle.std.specs.Iterator.{CallableOnAll, YieldsFirst};
@@ -16,11 +16,11 @@ impl<K: Ord + Drop, V: Drop, const N: usize, A: Allocator + Copy> VecMap<K, V, N
 where
     (K, V): MadeWith<A>,
 {
-    /// The map with what `f` makes of each value, under the same keys. `f` is handed each value
+    /// The map with the result of `f` on each value, under the same keys. `f` takes each value
     /// once, in ascending order of the keys.
     ///
     /// The pairs are moved. Takes memory only where there are more than `M`, and before the first
-    /// question; refused, it drops the map, and has not asked `f`.
+    /// call. On refusal it drops the map, and has not called `f`.
     ///
     /// ```
     /// let lengths: VecMap<u32, usize, 4> = names.map_values(|name| name.len())?;
@@ -47,8 +47,8 @@ where
     }
 }
 
-/// Appends to an empty list, which has room for all, what `f` makes of the value of each pair,
-/// under the same key. Leaves blanks in their places.
+/// Appends to an empty list, which has room for all, the result of `f` on the value of each pair,
+/// under the same key. Leaves blanks instead of the pairs.
 fn push_mapped<
     K: Drop,
     V: Drop,

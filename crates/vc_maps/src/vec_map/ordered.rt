@@ -1,4 +1,4 @@
-//! The pairs with the least and the greatest key taken out of a map.
+//! The pairs with the least and the greatest key removed from a map.
 ghost use Rattle.std.specs.Prelude.{◌≡◌, ◌-◌, drop, length, slice_get, take};
 
 use super::VecMap;
@@ -9,10 +9,10 @@ impl<K: Ord + Drop, V: Drop, const N: usize, A: Allocator + Copy> VecMap<K, V, N
 where
     (K, V): MadeWith<A>,
 {
-    /// Takes the pair with the least key out, and hands it over, or none where there is no pair.
-    /// The list keeps its room.
+    /// Removes the pair with the least key and returns it, or none where there is no pair. The list
+    /// keeps its capacity.
     ///
-    /// Compares none, moves all other pairs, and takes no memory.
+    /// Makes no comparison, moves all other pairs, and takes no memory.
     pub fn pop_first(&mut self) -> Option<(K, V)>
         ensures first { result ≡ slice_get self.old 0 }
         ensures rest { self.new ≡ drop 1 self.old }
@@ -23,10 +23,10 @@ where
         Some(self.pairs.remove(0))
     }
 
-    /// Takes the pair with the greatest key out, and hands it over, or none where there is no pair.
-    /// The list keeps its room.
+    /// Removes the pair with the greatest key and returns it, or none where there is no pair. The
+    /// list keeps its capacity.
     ///
-    /// Compares none, moves no other pair, and takes no memory.
+    /// Makes no comparison, moves no other pair, and takes no memory.
     pub fn pop_last(&mut self) -> Option<(K, V)>
         ensures last { result ≡ slice_get self.old (length self.old - 1) }
         ensures rest { self.new ≡ take (length self.old - 1) self.old }

@@ -1,4 +1,4 @@
-//! Pairs taken out of a map, one by its key or all, and its room given back.
+//! Pairs removed from a map, one by its key or all, and its memory given back.
 ghost use Rattle.std.specs.Prelude.{◌≡◌, [], cond, None, IsOk};
 ghost use Rattle.std.specs.Ordering.{eq_by_cmp};
 ghost use Rattle.vc_joins.specs.Entries.{entry_at, value_at};
@@ -12,11 +12,11 @@ impl<K: Ord + Drop, V: Drop, const N: usize, A: Allocator + Copy> VecMap<K, V, N
 where
     (K, V): MadeWith<A>,
 {
-    /// Takes out the pair whose key is equal to `key`, and hands back its value, or none where no
-    /// such pair is held. The key that was held is dropped; all other pairs stay, and so does the
-    /// room of the list.
+    /// Removes the pair whose key is equal to `key`, and returns its value, or none where no such
+    /// pair is held. The key that was held is dropped; all other pairs stay, and the list keeps its
+    /// capacity.
     ///
-    /// Compares fewer than `1.5 * log2(n) + 4` times among `n` pairs, moves the pairs behind that
+    /// Compares fewer than `1.5 * log2(n) + 4` times among `n` pairs, moves the pairs after that
     /// one, and takes no memory.
     ///
     /// ```
@@ -39,16 +39,16 @@ where
         }
     }
 
-    /// Drops all pairs. The list keeps its room, so that as many can come again without memory;
-    /// `shrink_to_fit` gives it back. Takes no memory.
+    /// Drops all pairs. The list keeps its capacity, so that as many can be inserted again without
+    /// memory; `shrink_to_fit` gives it back. Takes no memory.
     pub fn clear(&mut self)
         ensures { self.new ≡ [] }
     {
         self.pairs.clear();
     }
 
-    /// Gives back memory that the pairs do not need. A refusal leaves the list where it is, so the
-    /// call succeeds always.
+    /// Gives back memory that the pairs do not need. Where the allocator refuses, the list stays
+    /// where it is, so the call always succeeds.
     pub fn shrink_to_fit(&mut self) -> Result<(), AllocError>
         ensures pairs { self.new ≡ self.old }
         ensures succeeds { IsOk result }

@@ -1,4 +1,4 @@
-//! One key of a map: its value shown, written to, or put in.
+//! One key of a map: its value read, changed or inserted.
 ghost use Rattle.smallvec.specs.SmallVec.{HasRoomFor};
 ghost use Rattle.std.specs.Prelude.{◌≡◌, ◌<◌, cond, false, length, None, Some, IfOk, IsOk, IsSome, IsSomeAnd, OnErr, OnOk};
 ghost use Rattle.std.specs.Borrow.{sem};
@@ -45,8 +45,8 @@ fn make_room<T: MadeWith<A> + Drop, const N: usize, A: Allocator + Copy>(
     Ok(())
 }
 
-/// The place of the pair at a key. Where there is none, one is put in with what `make` gives, once
-/// there is room for it.
+/// The place of the pair at a key. Where there is none, room is made, and then a pair with the
+/// answer of `make` is inserted.
 fn place_of<K: Ord + Drop, V: Drop, const N: usize, A: Allocator + Copy, F: FnOnce() -> V + Drop>(
     pairs: &mut SmallVec<(K, V), N, A>,
     key: K,
@@ -82,12 +82,13 @@ where
 {
     ghost use Rattle.vc_maps.specs.Updating.{lends_bound};
 
-    /// Lets `f` write to the value at a key that is bound, and binds one that is not to `default`,
-    /// at which `f` is not called. A known key stays, and `key` and `default` are dropped then.
+    /// Lets `f` change the value at a key that is bound; binds a key that is not bound to
+    /// `default`, without a call of `f`. A key that is held is kept, and `key` and `default` are
+    /// dropped then.
     ///
     /// Looks the key up once: compares fewer than `1.5 * log2(n) + 4` times among `n` pairs, and
-    /// moves the pairs behind a new one. It takes memory only for a new key, where `N` or more
-    /// pairs are held; refused, it leaves the map as it was and drops the key, the value and `f`.
+    /// moves the pairs after a new one. It takes memory only for a new key, where `N` or more pairs
+    /// are held; on refusal it leaves the map unchanged and drops the key, the value and `f`.
     ///
     /// ```
     /// counts.upsert(word, 1, |count| *count += 1)?;
@@ -106,14 +107,14 @@ where
         ensures others { OnOk result ((k : K) → eq_by_cmp K.cmp k key ≡ false
             → entry_at K.cmp self.new k ≡ entry_at K.cmp self.old k) }
 
-        // By a closure that writes what a function gives.
+        // With a closure that writes the result of a function.
         ensures plain { OnOk result ((g : V → V)
             → ((v w : V) → MayWrite F.FnOnce f v w → w ≡ g v)
             → (k : K) → value_at K.cmp self.new k ≡ cond (eq_by_cmp K.cmp k key)
             (Some (unwrap_or (option_map g (value_at K.cmp self.old key)) default))
             (value_at K.cmp self.old k)) }
 
-        // It succeeds on a known key, and where fewer than `N` pairs are held.
+        // It succeeds where the key is held, and where fewer than `N` pairs are held.
         ensures known { IsSome (value_at K.cmp self.old key) → IsOk result }
         ensures room { length self.old < N → IsOk result }
         ensures err { OnErr result (self.new ≡ self.old) }
@@ -128,13 +129,14 @@ where
         Ok(())
     }
 
-    /// The value at a key, to write through. A key that is not bound is bound to what `make` gives
-    /// first; at a known key `make` is not called, that key stays, and `key` is dropped.
+    /// The value at a key, to write through. A key that is not bound is first bound to the answer
+    /// of `make`. Where the key is held, `make` is not called, the held key is kept, and `key` is
+    /// dropped.
     ///
-    /// What is written through the loan is what the key is bound to; all other pairs stay. Looks
-    /// the key up once, compares as often as [`upsert`](VecMap::upsert), and takes memory only for
-    /// a new key, where `N` or more pairs are held; refused, it leaves the map as it was, has not
-    /// called `make`, and drops it and the key.
+    /// The value written through the reference is what the key is bound to; all other pairs stay.
+    /// Looks the key up once, and compares as often as [`upsert`](VecMap::upsert). It takes memory
+    /// only for a new key, where `N` or more pairs are held; on refusal it leaves the map
+    /// unchanged, has not called `make`, and drops it and the key.
     ///
     /// ```
     /// let count = counts.get_or_insert_with(word, || 0)?;
@@ -150,7 +152,7 @@ where
         ensures value { IfOk result (λ lent.
             UnwrapsOrElse (value_at K.cmp self.old key) (F.post make) lent.now) }
 
-        // It succeeds on a known key, and where fewer than `N` pairs are held.
+        // It succeeds where the key is held, and where fewer than `N` pairs are held.
         ensures known { IsSome (value_at K.cmp self.old key) → IsOk result }
         ensures room { length self.old < N → IsOk result }
     {

@@ -1,4 +1,4 @@
-//! Values of a map that are written to in place.
+//! Values of a map that are changed in place.
 ghost use Rattle.std.specs.Prelude.{◌≡◌};
 ghost use Rattle.std.specs.Map.{keys_of};
 ghost use Rattle.vc_joins.specs.Entries.{entry_at};
@@ -8,10 +8,10 @@ use super::VecMap;
 use std::alloc::Allocator;
 
 impl<K: Ord, V, const N: usize, A: Allocator> VecMap<K, V, N, A> {
-    /// Hands each key and its value to `f`, which may write to the value, once and in ascending
-    /// order of the keys. What it leaves stands under the same key.
+    /// Calls `f` once with each key and its value, in ascending order of the keys. `f` may change
+    /// the value; the key is kept.
     ///
-    /// Compares none, moves no pair, and takes no memory.
+    /// Makes no comparison, moves no pair, and takes no memory.
     ///
     /// ```
     /// ports.for_each_value(|port, open| *open = *port < 1024);
@@ -27,7 +27,7 @@ impl<K: Ord, V, const N: usize, A: Allocator> VecMap<K, V, N, A> {
     }
 }
 
-/// Hands the key and the value of each pair to `f`, which may write to the value.
+/// Calls `f` with the key and the value of each pair; `f` may change the value.
 fn write_each<K, V, F: FnMut(&K, &mut V) + Drop>(pairs: &mut [(K, V)], mut f: F)
     requires { CanWriteEach F.FnMut f pairs.old }
     ensures { (last : F) × WritesInTurn (WritesAt F.FnMut) f pairs.old pairs.new last }
