@@ -1,4 +1,4 @@
--- Joins of closures that look at values alone, by the values at each key.
+-- Joins of closures that look only at values, by the values at each key.
 use Rattle.std.proofs.Common.{◌≡◌, List, Option, Result, Ok, ◌∙◌, arith}
 use Rattle.std.specs.Option.{option_map, option_and_then}
 use Rattle.std.specs.declared.cmp.Ordering.{Ordering}

@@ -1,4 +1,5 @@
--- What closures of joins may answer. `seen` of the references that a closure is shown is the question that they make.
+-- What closures of joins may answer. `seen` turns the references that a closure sees into the
+-- question that they stand for.
 use Rattle.std.specs.Prelude.{◌≡◌, Option, Some, None}
 use denote.Ref.{Bor}
 use denote.Param.Members.{Shared}
@@ -6,23 +7,23 @@ use Rattle.vc_joins.specs.declared.question.OuterJoinArg.{OuterJoinArg}
 use Rattle.vc_joins.specs.declared.question.OuterJoinArg.TheVariants.{Left, Right, Both}
 
 module _ {K V W : Type 0} where
-  -- what the closure of an outer join is shown
+  -- what the closure of an outer join sees
   abbrev pub seen : OuterJoinArg (Bor K) (Bor V) (Bor W) → OuterJoinArg K V W
   seen (Left k v) = Left k.now v.now
   seen (Right k w) = Right k.now w.now
   seen (Both k v w) = Both k.now v.now w.now
 
-  -- what the closure of a left join is shown
+  -- what the closure of a left join sees
   abbrev pub seen_left : Bor K → Bor V → Option (Bor W) → OuterJoinArg K V W
   seen_left k v None = Left k.now v.now
   seen_left k v (Some w) = Both k.now v.now w.now
 
-  -- what the closure of a right join is shown
+  -- what the closure of a right join sees
   abbrev pub seen_right : Bor K → Option (Bor V) → Bor W → OuterJoinArg K V W
   seen_right k None w = Right k.now w.now
   seen_right k (Some v) w = Both k.now v.now w.now
 
-  -- what the closure of an inner join is shown
+  -- what the closure of an inner join sees
   abbrev pub seen_inner : Bor K → Bor V → Bor W → OuterJoinArg K V W
   seen_inner k v w = Both k.now v.now w.now
 

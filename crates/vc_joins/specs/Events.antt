@@ -25,7 +25,7 @@ module _ {K V W : Type 0} where
   pub by_key-total : (cmp : K → K → Ordering) → IsTotalOrder cmp → IsTotalOrder (by_key cmp)
   by_key-total cmp total = on_total (λ u. key_of u) total
 
-  -- the key at which an event stands
+  -- the key at which an event is
   abbrev pub event_key : Event (K × V) (K × W) → K
   event_key e = key_of (place e)
 
@@ -41,6 +41,6 @@ module _ {K V W : Type 0} where
     AnswerAdds asked added = (found : Option (K × X)) × IsAnswered May Keeps asked found × (added ≡ option_to_list found)
 
   module _ {X : Type 0} (kind : JoinKind) (spelled : K → K → K) (May : OuterJoinArg K V W → Option X → Type 0) (Keeps : OuterJoinArg K V W → K → Type 0) where
-    -- an event adds what answers its question, where the join asks it, and else nothing
+    -- an event adds what answers its question, where the join asks it, and otherwise nothing
     abbrev pub AnswersEvent : Event (K × V) (K × W) → List (K × X) → Type 0
     AnswersEvent e added = AnswerAdds May Keeps (if_asked kind (question_of spelled e)) added

@@ -1,4 +1,5 @@
--- What closures of joins in place may answer: they are handed the value of the left map itself, and references to the rest.
+-- What closures of joins in place may answer: they take the value of the left map by value, and the
+-- rest by reference.
 use Rattle.std.specs.Prelude.{◌≡◌, Option, Some, None}
 use denote.Ref.{Bor}
 use denote.Param.Members.{Shared}
@@ -6,23 +7,23 @@ use Rattle.vc_joins.specs.declared.question.OuterJoinArg.{OuterJoinArg}
 use Rattle.vc_joins.specs.declared.question.OuterJoinArg.TheVariants.{Left, Right, Both}
 
 module _ {K V W : Type 0} where
-  -- what the closure of an outer join is handed
+  -- what the closure of an outer join takes
   abbrev pub handed : OuterJoinArg (Bor K) V (Bor W) → OuterJoinArg K V W
   handed (Left k v) = Left k.now v
   handed (Right k w) = Right k.now w.now
   handed (Both k v w) = Both k.now v w.now
 
-  -- what the closure of a left join is handed
+  -- what the closure of a left join takes
   abbrev pub handed_left : Bor K → V → Option (Bor W) → OuterJoinArg K V W
   handed_left k v None = Left k.now v
   handed_left k v (Some w) = Both k.now v w.now
 
-  -- what the closure of a right join is handed
+  -- what the closure of a right join takes
   abbrev pub handed_right : Bor K → Option V → Bor W → OuterJoinArg K V W
   handed_right k None w = Right k.now w.now
   handed_right k (Some v) w = Both k.now v w.now
 
-  -- what the closure of an inner join is handed
+  -- what the closure of an inner join takes
   abbrev pub handed_inner : Bor K → V → Bor W → OuterJoinArg K V W
   handed_inner k v w = Both k.now v w.now
 

@@ -8,9 +8,10 @@ use Rattle.vc_joins.specs.Entries.{AscendsByKey, entry_at, value_at}
 use Rattle.vc_joins.specs.declared.question.OuterJoinArg.TheVariants.{Left, Right, Both}
 use Rattle.vc_joins.specs.Question.{asked, shown_key}
 
--- `May a r`: the closure may answer r to the question a. `Keeps a k`: the answer to a may stand under the key k
+-- `May a r`: the closure may answer r to the question a. `Keeps a k`: the answer to a may be under
+-- the key k
 module _ {K V W X : Type 0} (May : OuterJoinArg K V W → Option X → Type 0) (Keeps : OuterJoinArg K V W → K → Type 0) where
-  -- what stands at a key: nothing where nothing is asked or the answer is none, and else the answer
+  -- what is at a key: the answer, or nothing where nothing is asked or the answer is none
   abbrev pub IsAnswered : Option (OuterJoinArg K V W) → Option (K × X) → Type 0
   IsAnswered None found = found ≡ None
   IsAnswered (Some a) None = May a None
@@ -27,7 +28,7 @@ module _ {K V W : Type 0} (cmp : K → K → Ordering) (kind : JoinKind) (spelle
     pub asks : asked_at key ≡ Some a
 
   module _ {X : Type 0} (May : OuterJoinArg K V W → Option X → Type 0) where
-    -- zs is the join of xs and ys: at each key stands a possible answer to what is asked there
+    -- zs is the join of xs and ys: each key has a possible answer to what is asked there
     pub record IsJoin (Keeps : OuterJoinArg K V W → K → Type 0) (zs : List (K × X)) : Type 0 where
       pub ascends : AscendsByKey cmp zs
       pub at : (k : K) → IsAnswered May Keeps (asked_at k) (entry_at cmp zs k)
@@ -41,16 +42,16 @@ module _ {K V W : Type 0} (cmp : K → K → Ordering) (kind : JoinKind) (spelle
 -- ---- the keys of a join
 
 module _ {K V W : Type 0} where
-  -- a key comes in as a clone of the one that was shown
+  -- a key of the result is a clone of the one that the closure saw
   abbrev pub ClonedKey : (K → K → Type 0) → OuterJoinArg K V W → K → Type 0
   ClonedKey is_clone a k = is_clone (shown_key a) k
 
-  -- a key of the left map stays, and one of the right map alone comes in as a clone
+  -- a key of the left map stays, and one of the right map alone is cloned
   abbrev pub OldKey : (K → K → Type 0) → OuterJoinArg K V W → K → Type 0
   OldKey is_clone (Left j v) k = k ≡ j
   OldKey is_clone (Right j w) k = is_clone j k
   OldKey is_clone (Both j v w) k = k ≡ j
 
-  -- a key is the one that was shown, itself
+  -- a key of the result is the one that the closure saw, itself
   abbrev pub MovedKey : OuterJoinArg K V W → K → Type 0
   MovedKey a k = k ≡ shown_key a

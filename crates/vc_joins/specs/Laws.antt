@@ -30,7 +30,8 @@ module _ (K V W : Type 0) (cmp : K → K → Ordering) where
         (kind : JoinKind) (spelled : K → K → K) (xs : List (K × V)) (ys : List (K × W)) (zs : List (K × X)) → IsJoin cmp kind spelled xs ys May Keeps zs
         → (h : OuterJoinArg K V W → Option X) → IsJoinBy cmp kind spelled xs ys May h zs
 
-    -- what is built by answers to the events of two maps is their join, where keys are shown and kept in equal spellings
+    -- what is built by answers to the events of two maps is their join, where the key that is shown
+    -- and the key that is kept are equal
     abbrev pub JoinsOfEvents : Type 0
     JoinsOfEvents =
         ((a : OuterJoinArg K V W) (k : K) → Keeps a k → cmp (shown_key a) k ≡ Equal)

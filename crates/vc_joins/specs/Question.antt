@@ -36,17 +36,18 @@ module _ {K V W : Type 0} where
   shown_key (Right k w) = k
   shown_key (Both k v w) = k
 
-  -- the question at a key, and none where no map has it or the kind does not ask; `spelled` says how a key of both maps is shown
+  -- the question at a key, and none where no map has it or the kind does not ask; `spelled` says
+  -- which of two equal keys is shown
   abbrev pub asked : JoinKind → (K → K → K) → Option (K × V) → Option (K × W) → Option (OuterJoinArg K V W)
   asked kind spelled (Some p) (Some q) = if_asked kind (Both (spelled p.0 q.0) p.1 q.1)
   asked kind spelled (Some p) None = if_asked kind (Left p.0 p.1)
   asked kind spelled None (Some q) = if_asked kind (Right q.0 q.1)
   asked kind spelled None None = None
 
--- a key of both maps is shown as the left one has it
+-- of a key of both maps, the left one is shown
 abbrev pub left_spelling : {K : Type 0} → K → K → K
 left_spelling j k = j
 
--- a key of both maps is shown as the right one has it
+-- of a key of both maps, the right one is shown
 abbrev pub right_spelling : {K : Type 0} → K → K → K
 right_spelling j k = k

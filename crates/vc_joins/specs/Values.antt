@@ -1,4 +1,5 @@
--- Joins in words of values, for closures that look at values alone: what stands at a key, by what the two maps have there.
+-- Joins by values, for closures that look only at values: what is at a key, by what the two maps
+-- have there.
 use Rattle.std.specs.Prelude.{◌≡◌, cond, List, Option, Some, None, Result, IfOk}
 use Rattle.std.specs.Option.{option_copied}
 use Rattle.std.specs.declared.cmp.Ordering.{Ordering}
@@ -13,7 +14,7 @@ use Rattle.vc_joins.specs.InPlace.{handed}
 use Rattle.vc_joins.specs.Question.{asks_left, asks_right}
 
 module _ {V W X : Type 0} where
-  -- at the keys of both maps what h makes of the two values, and nothing elsewhere
+  -- at the keys of both maps the result of h on the two values, and nothing elsewhere
   abbrev pub in_both : (V → W → Option X) → Option V → Option W → Option X
   in_both h (Some v) (Some w) = h v w
   in_both h (Some v) None = None

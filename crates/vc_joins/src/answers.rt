@@ -1,4 +1,4 @@
-//! Closures of joins, asked in one way.
+//! Closures of joins, through one trait.
 ghost use Rattle.std.specs.Prelude.{◌≡◌, true, Option, Result};
 ghost use Rattle.std.specs.declared.alloc.AllocError.{AllocError};
 ghost use Rattle.vc_joins.specs.declared.question.OuterJoinArg.{OuterJoinArg};
@@ -11,31 +11,31 @@ use std::alloc::AllocError;
 
 /// What a join asks about the references of two maps.
 pub trait Question<K, V, W, X> {
-    /// It may be asked so.
+    /// Whether it may be asked with this argument.
     ghost takes: { Self → OuterJoinArg K V W → Type 0 };
 
-    /// It may answer so.
+    /// Whether it may give this answer.
     ghost may: { Self → OuterJoinArg K V W → Result (Option X) AllocError → Type 0 };
 
-    /// The answer at a key: the value that stands there in the result, if any.
+    /// The answer at a key: the value that the result has there, if any.
     fn ask(&self, arg: OuterJoinArg<&K, &V, &W>) -> Result<Option<X>, AllocError>
         requires { takes self.now (seen arg) }
         ensures { may self.now (seen arg.entry) result };
 }
 
-/// A closure that is asked as that of an outer join.
+/// The closure of an outer join.
 #[derive(Drop)]
 pub struct AskOuter<'f, F>(pub &'f F);
 
-/// A closure that is asked as that of a left join.
+/// The closure of a left join.
 #[derive(Drop)]
 pub struct AskLeft<'f, F>(pub &'f F);
 
-/// A closure that is asked as that of a right join.
+/// The closure of a right join.
 #[derive(Drop)]
 pub struct AskRight<'f, F>(pub &'f F);
 
-/// A closure that is asked as that of an inner join.
+/// The closure of an inner join.
 #[derive(Drop)]
 pub struct AskInner<'f, F>(pub &'f F);
 
@@ -74,7 +74,8 @@ impl<'f, K, V, W, X, F: Fn(&K, &V, Option<&W>) -> Result<Option<X>, AllocError>>
     }
 }
 
-/// Asks with one lifetime for all references, of which a side that has no value has none.
+/// Asks with one lifetime for all references, since a side without a value has no reference to take
+/// it from.
 fn ask_left<'a, K, V, W, X, F: Fn(&K, &V, Option<&W>) -> X>(
     f: &F,
     key: &'a K,
@@ -107,7 +108,8 @@ impl<'f, K, V, W, X, F: Fn(&K, Option<&V>, &W) -> Result<Option<X>, AllocError>>
     }
 }
 
-/// Asks with one lifetime for all references, of which a side that has no value has none.
+/// Asks with one lifetime for all references, since a side without a value has no reference to take
+/// it from.
 fn ask_right<'a, K, V, W, X, F: Fn(&K, Option<&V>, &W) -> X>(
     f: &F,
     key: &'a K,

@@ -1,5 +1,5 @@
-//! Closures of joins in place, asked in one way: they are handed the value of the left map, and
-//! make of it the one that stays.
+//! Closures of joins in place, through one trait: they take the value of the left map and return the
+//! one that is kept.
 ghost use Rattle.std.specs.Prelude.{◌≡◌, true, Option};
 ghost use Rattle.vc_joins.specs.declared.question.OuterJoinArg.{OuterJoinArg};
 ghost use Rattle.vc_joins.specs.declared.question.JoinKind.TheVariants as kind;
@@ -9,15 +9,15 @@ ghost use Rattle.vc_joins.specs.Question.{asks};
 use crate::answers::{AskInner, AskLeft, AskOuter, AskRight};
 use crate::question::{JoinKind, OuterJoinArg};
 
-/// What a join in place asks about a value of the left map, and references to the rest.
+/// What a join in place asks, with the value of the left map and references to the rest.
 pub trait Turn<K, V, W> {
-    /// It may be asked so.
+    /// Whether it may be asked with this argument.
     ghost takes: { Self → OuterJoinArg K V W → Type 0 };
 
-    /// It may answer so.
+    /// Whether it may give this answer.
     ghost may: { Self → OuterJoinArg K V W → Option V → Type 0 };
 
-    /// The answer at a key: the value that stands there in the result, if any.
+    /// The answer at a key: the value that the result has there, if any.
     fn turn(&self, arg: OuterJoinArg<&K, V, &W>) -> Option<V>
         requires { takes self.now (handed arg) }
         ensures { may self.now (handed arg.entry) result };
@@ -56,7 +56,8 @@ impl<'f, K, V: Drop, W, F: Fn(&K, V, Option<&W>) -> Option<V>> Turn<K, V, W> for
     }
 }
 
-/// Asks with one lifetime for all references, of which a side that has no value has none.
+/// Asks with one lifetime for all references, since a side without a value has no reference to take
+/// it from.
 fn turn_left<'a, K, V, W, F: Fn(&K, V, Option<&W>) -> Option<V>>(
     f: &F,
     key: &'a K,

@@ -13,14 +13,14 @@ pub fn kinds_are_as_named<K: Ord, V, W>()
     ensures { KindsInWords K V W K.cmp }
 {}
 
-/// Where a closure gives one answer to each question that a join asks, the join is settled: it
-/// binds each key to the answer to what is asked there.
+/// Where a closure gives one answer to each question that a join asks, the join is determined: it
+/// binds each key to the answer to the question there.
 pub fn joins_of_functions<K: Ord + Clone, V, W, X, Q: Question<K, V, W, X>>()
     ensures { (q : Q) → JoinsOfFunctions K V W K.cmp (λ a r. Q.may q a (Ok r))
         (ClonedKey K.is_clone) }
 {}
 
-/// What a merge of two maps builds, each event by a possible answer to its question, is their join.
+/// A merge of two maps where each event adds a possible answer to its question builds their join.
 pub fn joins_of_events<K: Ord + Clone, V, W, X, Q: Question<K, V, W, X>>()
     ensures { (q : Q) → JoinsOfEvents K V W K.cmp (λ a r. Q.may q a (Ok r)) (ClonedKey K.is_clone) }
 {}

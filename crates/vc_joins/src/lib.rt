@@ -1,6 +1,6 @@
-//! Joins of finite maps: what a join asks its closure, and what it makes of the answers.
+//! Joins of finite maps: what a join asks its closure, and how the answers become its result.
 //!
-//! A finite map is seen as the list of its pairs, ascending by key. No word here names a type of
+//! A finite map is seen as the list of its pairs, ascending by key. Nothing here names a type of
 //! map.
 #![tactic(auto)]
 

@@ -2,8 +2,7 @@
 ghost use Rattle.std.specs.Prelude.{◌≡◌};
 ghost use Rattle.vc_joins.specs.Question.{asks_left, asks_right};
 
-/// What stands at a key of two maps that are joined: the key, and the value of each side that has
-/// it.
+/// What is at a key of two maps that are joined: the key, and the value of each side that has it.
 #[derive(Drop)]
 pub enum OuterJoinArg<K, A, B> {
     /// The left map alone has the key.
@@ -14,7 +13,7 @@ pub enum OuterJoinArg<K, A, B> {
     Both(K, A, B),
 }
 
-/// At which keys a join asks. All other keys are dropped.
+/// The keys at which a join asks. All other keys are dropped.
 #[derive(Clone, Copy)]
 pub enum JoinKind {
     /// At the keys of either map.
