@@ -1,4 +1,4 @@
--- What stands at each key of a list of pairs that ascends by key, and what a change at one key leaves there.
+-- What is at each key of a list of pairs that ascends by key, and what a change at one key leaves there.
 use Rattle.std.proofs.Common.{arith, ◌≡◌, Bool, true, false, cond, List, [], ◌∷◌, ◌++◌, Option, Some, None, is_some, MatchBool}
 use Rattle.std.proofs.Common.{refl, sym, ap, ◌∙◌}
 use Rattle.std.specs.Cmp.{IsTotalOrder, alike_right, tied_back, tied_itself, Equal-is}

@@ -1,4 +1,4 @@
--- Joins in place: what stands at each key when a value is decided, and after all of them.
+-- Joins in place: what is at each key when a value is decided, and after all of them.
 use Rattle.std.proofs.Common.{arith, ◌≡◌, Bool, true, false, List, [], ◌∷◌, ◌++◌, Option, Some, None, is_some}
 use Rattle.std.proofs.Common.{refl, sym, ap, ◌∙◌, cond, ℕ, ◌<◌, ◌+◌, length, get_or, drop, map, add-one, drop-cons}
 use Rattle.std.specs.Cmp.{IsTotalOrder}

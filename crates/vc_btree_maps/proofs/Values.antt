@@ -1,4 +1,4 @@
--- Joins of `BTreeMap` in words of values, for closures that look at values alone.
+-- Joins of `BTreeMap` by values, for closures that look only at values.
 use Rattle.std.proofs.Common.{arith, ◌≡◌, Bool, List, Option, Some, Result, IfOk, OnOk, refl, ◌∙◌}
 use Rattle.std.specs.declared.cmp.Ordering.{Ordering}
 use denote.Ref.{Bor, MutBor}

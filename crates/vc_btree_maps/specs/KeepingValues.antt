@@ -1,4 +1,4 @@
--- Closures that decide in place what stays, and look at values alone.
+-- Closures that decide in place what stays, and look only at values.
 use Rattle.std.specs.Prelude.{◌≡◌, Bool, Option, Some, None}
 use Rattle.std.specs.Option.{option_copied}
 use denote.Ref.{Bor, MutBor}
@@ -6,7 +6,8 @@ use denote.Param.Members.{Shared}
 use Rattle.vc_btree_maps.specs.Keeping.{if_kept}
 
 module _ {V W : Type 0} where
-  -- at a key of both maps what h makes of the two values; at a key of this map alone the value stays
+  -- at a key of both maps the result of h on the two values; at a key of this map alone the value
+  -- stays
   abbrev pub or_stays : (V → W → Option V) → V → Option W → Option V
   or_stays h v None = Some v
   or_stays h v (Some w) = h v w
@@ -27,7 +28,7 @@ module _ {K V W F : Type 0} where
       → g.post f (k, (v, (w, tt))) (kept, (left, tt))
       → if_kept kept left.now ≡ h v.now (option_copied w)
 
-  -- the same of a closure that is asked at keys of both maps alone
+  -- the same of a closure that is called only at keys of both maps
   abbrev pub LeavesSharedBy : Shared F (Bor K × (MutBor V × (Bor W × Unit {0}))) (Bool × (MutBor V × Unit {0}))
       → F → (V → W → Option V) → Type 0
   LeavesSharedBy g f h =

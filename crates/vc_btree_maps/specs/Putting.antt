@@ -13,7 +13,7 @@ abbrev pub right_kind : Bool → JoinKind
 right_kind true = Right
 right_kind false = Inner
 
--- what stands at a key where the answer is put: nothing, or the answer under a clone of the key
+-- what is at a key where the answer is put: nothing, or the answer under a clone of the key
 abbrev pub IsPutAt : {K X : Type 0} → (K → K → Type 0) → K → Option X → Option (K × X) → Type 0
 IsPutAt is_clone key None found = found ≡ None
 IsPutAt is_clone key (Some x) found = IsSomeAnd found (λ p. is_clone key p.0 × (p.1 ≡ x))

@@ -10,7 +10,8 @@ use Rattle.vc_joins.specs.Entries.{AscendsByKey, entry_at}
 
 module _ {K V W : Type 0} (cmp : K → K → Ordering) where
   module _ (May : OuterJoinArg K V W → Option V → Type 0) where
-    -- what stands at the key once its value was decided: what may stay of it, under the key that the map has
+    -- what is at the key once its value was decided: what may stay of it, under the key that the
+    -- map has
     abbrev pub IsKeptAt : K → W → Option (K × V) → Option (K × V) → Type 0
     IsKeptAt key w old new = MatchOption old (new ≡ None) (λ p. (r : Option V) × May (Both key p.1 w) r × (new ≡ option_map (λ v. (p.0, v)) r))
 

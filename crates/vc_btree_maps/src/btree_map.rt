@@ -37,7 +37,7 @@ impl<'a, K, V> Iterator for AbstractBTreeMapIter<'a, K, V> {
 
 /// A map whose pairs can be read in ascending order of keys, and looked up.
 ///
-/// An implementation writes `iter` and `get` alone, and the pairs that they show.
+/// An implementation writes only `iter` and `get`, and the pairs that contracts see.
 pub trait AbstractBTreeMap<K: Ord, V> {
     ghost use Rattle.vc_btree_maps.specs.Pairs.{pairs_left};
     ghost use Rattle.std.specs.Prelude.{◌≡◌, List, Ok, IfOk};
@@ -61,11 +61,11 @@ pub trait AbstractBTreeMap<K: Ord, V> {
     fn get(&self, key: &K) -> Option<&V>
         ensures { option_copied result ≡ value_at K.cmp (pairs self.now) key.now };
 
-    /// The map of the answers of `f`, which is asked at each key of either map. A key of both is
-    /// shown and kept as this map has it.
+    /// The map of the answers of `f`, which is called at each key of either map. Of a
+    /// key of both, `f` sees the one of this map, and the result has a clone of it.
     ///
-    /// It looks each key up that it asks at, and inserts each answer under a clone of the key.
-    /// Refused at a clone, at a request for memory or by the closure, it drops what it built.
+    /// It looks up each key at which `f` is called, and inserts each answer under a clone of the
+    /// key. Where a clone, memory or the closure is refused, what was built is dropped.
     final fn outer_join<
         W,
         X: Drop,
@@ -89,11 +89,11 @@ pub trait AbstractBTreeMap<K: Ord, V> {
         fresh::join_outer(alloc, self, that, &AskOuter(&f))
     }
 
-    /// The map of the answers of `f`, which is asked at each key of this map. Keys are shown and
-    /// kept as this map has them.
+    /// The map of the answers of `f`, which is called at each key of this map. `f` sees the keys of
+    /// this map, and the result has clones of these.
     ///
-    /// It looks each key up that it asks at, and inserts each answer under a clone of the key.
-    /// Refused at a clone, at a request for memory or by the closure, it drops what it built.
+    /// It looks up each key at which `f` is called, and inserts each answer under a clone of the
+    /// key. Where a clone, memory or the closure is refused, what was built is dropped.
     final fn left_join<
         W,
         X: Drop,
@@ -117,11 +117,11 @@ pub trait AbstractBTreeMap<K: Ord, V> {
         fresh::join_left(alloc, self, that, &AskLeft(&f))
     }
 
-    /// The map of the answers of `f`, which is asked at each key of the other map. Keys are shown
-    /// and kept as the other map has them.
+    /// The map of the answers of `f`, which is called at each key of the other map. `f` sees the
+    /// keys of the other map, and the result has clones of these.
     ///
-    /// It looks each key up that it asks at, and inserts each answer under a clone of the key.
-    /// Refused at a clone, at a request for memory or by the closure, it drops what it built.
+    /// It looks up each key at which `f` is called, and inserts each answer under a clone of the
+    /// key. Where a clone, memory or the closure is refused, what was built is dropped.
     final fn right_join<
         W,
         X: Drop,
@@ -145,11 +145,11 @@ pub trait AbstractBTreeMap<K: Ord, V> {
         fresh::join_right(alloc, self, that, &AskRight(&f))
     }
 
-    /// The map of the answers of `f`, which is asked at each key of both maps. Keys are shown and
-    /// kept as the other map has them.
+    /// The map of the answers of `f`, which is called at each key of both maps. `f` sees the keys of
+    /// the other map, and the result has clones of these.
     ///
-    /// It looks each key up that it asks at, and inserts each answer under a clone of the key.
-    /// Refused at a clone, at a request for memory or by the closure, it drops what it built.
+    /// It looks up each key at which `f` is called, and inserts each answer under a clone of the
+    /// key. Where a clone, memory or the closure is refused, what was built is dropped.
     final fn inner_join<
         W,
         X: Drop,
@@ -186,9 +186,9 @@ impl<K: Ord, V> AbstractBTreeMap<K, V> for BTreeMap<K, V> {
     }
 }
 
-/// Joins in place: what stays of the values of a map, beside another one that can be looked up.
+/// Joins in place: which values of a map stay, given another map that can be looked up.
 ///
-/// A pair that stays keeps its key, however the other map spells an equal one.
+/// A pair that stays keeps its key, not the equal one of the other map.
 pub trait InPlaceRelationalOps<K: Ord, V>: AbstractBTreeMap<K, V> {
     ghost use Rattle.std.specs.Prelude.{OnOk, OnErr};
     ghost use Rattle.vc_joins.specs.declared.question.OuterJoinArg.TheVariants as arg;
@@ -201,10 +201,10 @@ pub trait InPlaceRelationalOps<K: Ord, V>: AbstractBTreeMap<K, V> {
     ghost use Rattle.std.specs.Option.{option_copied};
     ghost use Rattle.vc_merge.specs.Clones.{ClonesAreEqual};
 
-    /// Asks `f` at each key of both maps, which may write to the value, and keeps the value where
-    /// it answers true. All others are dropped.
+    /// Calls `f` at each key of both maps; it may change the value. Keeps the value where `f`
+    /// answers true, and drops all others.
     ///
-    /// Asks once a key, in ascending order, and shows the key as this map has it. Looks each key of
+    /// Calls `f` once for each key, in ascending order, with the key of this map. Looks each key of
     /// this map up in the other one, and takes no memory.
     ///
     /// ```
@@ -228,10 +228,10 @@ pub trait InPlaceRelationalOps<K: Ord, V>: AbstractBTreeMap<K, V> {
         ensures values { (h : _) → LeavesSharedBy F.Fn f h → JoinsValues K.cmp (in_both h)
             (Self.pairs self.old) (M.pairs that.now) (Self.pairs self.new) };
 
-    /// Asks `f` at each key of this map, which may write to the value, and keeps the value where it
-    /// answers true.
+    /// Calls `f` at each key of this map; it may change the value. Keeps the value where `f`
+    /// answers true, and drops the others.
     ///
-    /// Asks once a key, in ascending order, and shows the key as this map has it. Looks each key up
+    /// Calls `f` once for each key, in ascending order, with the key of this map. Looks each key up
     /// in the other map, and takes no memory.
     fn left_join_with<W, M: AbstractBTreeMap<K, W>, F: Fn(&K, &mut V, Option<&W>) -> bool + Drop>(
         &mut self,
@@ -251,13 +251,13 @@ pub trait InPlaceRelationalOps<K: Ord, V>: AbstractBTreeMap<K, V> {
         ensures values { (h : _) → LeavesBy F.Fn f h → JoinsValues K.cmp (in_left h)
             (Self.pairs self.old) (M.pairs that.now) (Self.pairs self.new) };
 
-    /// Asks at each key of the other map, and shows the key as that one has it: `f` at a key of
-    /// both maps, which may write to the value and drops it where it answers false, and
-    /// `other_alone` at a key that this map lacks. Nothing is inserted there, and what this map has
-    /// at keys that the other one lacks stays as it is.
+    /// Calls a closure at each key of the other map. At a key of both maps it calls `f`, which may
+    /// change the value, and drops the value where `f` answers false. At a key that this map lacks
+    /// it calls `other_alone`, and inserts nothing there. What this map has at keys that the other
+    /// one lacks is unchanged.
     ///
-    /// Asks once a key, in ascending order. Looks each key of the other map up in this one, and
-    /// takes no memory.
+    /// Each closure is called once for each key, in ascending order, with the key of the other map.
+    /// Looks each key of the other map up in this one, and takes no memory.
     fn right_join_with<
         W,
         M: AbstractBTreeMap<K, W>,
@@ -282,18 +282,19 @@ pub trait InPlaceRelationalOps<K: Ord, V>: AbstractBTreeMap<K, V> {
             → JoinsValues K.cmp (in_left (or_stays h)) (Self.pairs self.old) (M.pairs that.now)
             (Self.pairs self.new) };
 
-    /// Asks at each key of either map. First `other_alone` at the keys that the other map alone
-    /// has, whose answers come in under clones of them, and then `f` at the keys that this map had
-    /// before, which may write to the value and drops it where it answers false.
+    /// Calls a closure at each key of either map. First it calls `other_alone` at the keys that
+    /// only the other map has, and inserts its answers under clones of these keys. Then it calls
+    /// `f` at the keys that this map had before; `f` may change the value, which is dropped where
+    /// `f` answers false.
     ///
-    /// Asks once a key, and shows a key of both maps as the other one has it. The pairs of the
-    /// other map at shared keys are kept in a list between the two passes, so that `f` is asked at
-    /// no key that came in; that costs two references a shared key, and each key of either map is
-    /// looked up in the other one at most twice.
+    /// Each key is asked once. Of a key of both maps, the closure sees the one of the other map.
+    /// Between the two passes a list holds the pairs of the other map at shared keys, so that `f`
+    /// is called at no inserted key. That costs two references for each shared key, and each key of
+    /// either map is looked up in the other one at most twice.
     ///
-    /// Refused at that list, at a clone or at an insertion, it leaves the pairs that it had as they
-    /// were, and beside them some that `other_alone` gave at keys of the other map alone; `f` was
-    /// not asked.
+    /// Where memory, a clone or an insertion is refused, the pairs that it had are unchanged, and
+    /// `f` was not called. Some pairs that `other_alone` gave at keys of the other map alone may be
+    /// inserted.
     fn outer_join_with<
         W,
         M: AbstractBTreeMap<K, W>,

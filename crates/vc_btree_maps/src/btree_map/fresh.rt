@@ -1,4 +1,4 @@
-//! Joins that build a fresh map: a look-up for each key that is asked at, and an insertion for each
+//! Joins that build a new map: a look-up for each key of a question, and an insertion for each
 //! answer.
 ghost use Rattle.std.specs.Prelude.{◌≡◌, None, Ok, IfOk, OnOk, OnErr};
 ghost use Rattle.vc_joins.specs.Answers.{seen_left, seen_right};
@@ -15,7 +15,7 @@ use std::collections::BTreeMap;
 use vc_joins::answers::Question;
 use vc_joins::question::OuterJoinArg;
 
-/// Puts the answer, if there is one, at a key that the map does not have, under a clone of the key.
+/// Inserts the answer, if there is one, under a clone of a key that the map does not have.
 pub fn put_answer<K: Ord + Clone + Drop, X: Drop>(
     joined: &mut BTreeMap<K, X>,
     key: &K,
@@ -37,8 +37,8 @@ pub fn put_answer<K: Ord + Clone + Drop, X: Drop>(
     }
 }
 
-/// Asks at a key of the left map, and puts the answer. One lifetime serves for a value that is not
-/// there.
+/// Asks at a key of the left map, and inserts the answer. A missing value has no reference, so one
+/// lifetime is used for both.
 fn put_left<'a, K: Ord + Clone + Drop, V, W: 'a, X: Drop, Q: Question<K, V, W, X>>(
     joined: &mut BTreeMap<K, X>,
     key: &'a K,
@@ -66,8 +66,8 @@ fn put_left<'a, K: Ord + Clone + Drop, V, W: 'a, X: Drop, Q: Question<K, V, W, X
     }
 }
 
-/// Asks at a key of the right map, and puts the answer. One lifetime serves for a value that is not
-/// there.
+/// Asks at a key of the right map, and inserts the answer. A missing value has no reference, so one
+/// lifetime is used for both.
 fn put_right<'a, K: Ord + Clone + Drop, V: 'a, W, X: Drop, Q: Question<K, V, W, X>>(
     joined: &mut BTreeMap<K, X>,
     key: &'a K,
@@ -95,7 +95,8 @@ fn put_right<'a, K: Ord + Clone + Drop, V: 'a, W, X: Drop, Q: Question<K, V, W, 
     }
 }
 
-/// The left join of two maps. Keys are shown and kept as the left one has them.
+/// The left join of two maps. The closure sees the keys of the left map, and the result has clones
+/// of these.
 pub fn join_left<
     K: Ord + Clone + Drop,
     V,
@@ -119,7 +120,8 @@ pub fn join_left<
     Ok(joined)
 }
 
-/// The right join of two maps. Keys are shown and kept as the right one has them.
+/// The right join of two maps. The closure sees the keys of the right map, and the result has
+/// clones of these.
 pub fn join_right<
     K: Ord + Clone + Drop,
     V,
@@ -143,7 +145,8 @@ pub fn join_right<
     Ok(joined)
 }
 
-/// The inner join of two maps. Keys are shown and kept as the right one has them.
+/// The inner join of two maps. The closure sees the keys of the right map, and the result has
+/// clones of these.
 pub fn join_inner<
     K: Ord + Clone + Drop,
     V,
@@ -170,7 +173,8 @@ pub fn join_inner<
     Ok(joined)
 }
 
-/// The outer join of two maps. Keys of both are shown and kept as the left one has them.
+/// The outer join of two maps. Of a key of both, the closure sees the left one, and the result has
+/// a clone of that.
 pub fn join_outer<
     K: Ord + Clone + Drop,
     V,

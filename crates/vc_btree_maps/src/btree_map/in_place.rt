@@ -1,4 +1,4 @@
-//! Joins in place: what stays of the values of a map, and which pairs come in beside them.
+//! Joins in place: which values of a map stay, and which pairs are added.
 ghost use Rattle.std.specs.Prelude.{◌≡◌, Some, map, is_some, IfOk, OnOk, OnErr};
 ghost use Rattle.std.specs.Map.Iter.{deref_pair};
 ghost use Rattle.vc_joins.specs.declared.question.OuterJoinArg.TheVariants as arg;
@@ -16,15 +16,15 @@ use super::keep::{Keep, KeepAlone};
 use std::alloc::{AllocError, Global};
 use std::collections::BTreeMap;
 
-/// The keys of a map ascend. Each call of a `BTreeMap` says so, and its type does not, so a walk
-/// along another map asks first.
+/// The keys of a map ascend. Each call of a `BTreeMap` states it, but its type does not, so a walk
+/// along another map calls this first.
 fn keys_ascend<K: Ord, V>(map: &BTreeMap<K, V>)
     ensures { AscendsByKey K.cmp map.now.entries }
 {
     let _len = map.len();
 }
 
-/// Decides at each key of the map whether its value stays. Keys are shown as the map has them.
+/// Decides at each key of the map whether its value stays. The closure sees the keys of this map.
 pub fn keep_each<K: Ord + Drop, V: Drop, W, M: AbstractBTreeMap<K, W>, J: Keep<K, V, W>>(
     this: &mut BTreeMap<K, V>,
     that: &M,
@@ -45,8 +45,8 @@ pub fn keep_each<K: Ord + Drop, V: Drop, W, M: AbstractBTreeMap<K, W>, J: Keep<K
     this.retain(stays);
 }
 
-/// Decides whether the value at a key stays, and answers whether there is one. The key is shown as
-/// it is handed in.
+/// Decides whether the value at a key stays, and answers whether there is one. The closure sees the
+/// key that is given here.
 pub fn keep_at<K: Ord + Drop, V: Drop, W, J: Keep<K, V, W>>(
     this: &mut BTreeMap<K, V>,
     key: &K,
@@ -68,8 +68,8 @@ pub fn keep_at<K: Ord + Drop, V: Drop, W, J: Keep<K, V, W>>(
     true
 }
 
-/// Asks at each key of the other map: `judge` where the map has it, whose value then stays or goes,
-/// and `other_alone` where it does not, which changes nothing.
+/// Asks at each key of the other map: `judge` where the map has it, whose value is then kept or
+/// removed, and `other_alone` where it does not, which changes nothing.
 pub fn keep_right<
     K: Ord + Drop,
     V: Drop,
@@ -93,10 +93,10 @@ pub fn keep_right<
     }
 }
 
-/// Puts what `given` answers at each key that the other map alone has, and answers the pairs of the
-/// other map at the keys of both.
+/// Inserts the answer of `given` at each key that only the other map has, and returns the pairs of
+/// the other map at the keys of both.
 ///
-/// Refused, it has put some of them.
+/// On refusal it has inserted some of them.
 pub fn give_new<
     'm,
     K: Ord + Clone + Drop,
@@ -151,7 +151,7 @@ pub fn keep_shared<K: Ord + Drop, V: Drop, W, J: Keep<K, V, W>>(
     }
 }
 
-/// The outer join in place. First `given` is asked at the keys that the other map alone has, and
+/// The outer join in place. First `given` is called at the keys that only the other map has, and
 /// then `judge` at those that the map had before.
 pub fn join_outer_with<
     K: Ord + Clone + Drop,

@@ -1,35 +1,35 @@
-//! Closures that decide in place which values of a map stay, asked in one way.
+//! Closures that decide in place which values of a map stay, through one trait.
 ghost use Rattle.std.specs.Prelude.{◌≡◌, Option};
 ghost use Rattle.std.specs.Option.{option_copied};
 ghost use Rattle.vc_joins.specs.declared.question.OuterJoinArg.{OuterJoinArg};
 ghost use Rattle.vc_joins.specs.declared.question.OuterJoinArg.TheVariants as arg;
 ghost use Rattle.vc_btree_maps.specs.Keeping.{at_pair, if_kept, MayLeave, MayLeaveShared, OrDropped, OrSharedStays, AtAlone};
 
-/// What decides whether a value stays, and may write to it before.
+/// Decides whether a value stays, and may change it first.
 pub trait Keep<K, V, W> {
-    /// It may be asked so.
+    /// Whether it may be asked with this argument.
     ghost takes: { Self → OuterJoinArg K V W → Type 0 };
 
-    /// This may stay.
+    /// What may stay.
     ghost may: { Self → OuterJoinArg K V W → Option V → Type 0 };
 
-    /// Whether the value stays at a key of the map, of which the other map has the value `other`,
-    /// if any.
+    /// Whether the value stays at a key of the map, where the other map has the value `other`, if
+    /// any.
     fn keep(&self, key: &K, value: &mut V, other: Option<&W>) -> bool
         requires { takes self.now (at_pair key.now value.old (option_copied other)) }
         ensures { may self.now (at_pair key.entry.now value.old (option_copied other.entry))
             (if_kept result value.new) };
 }
 
-/// A closure that is asked at each key of the map.
+/// A closure that is called at each key of the map.
 #[derive(Drop)]
 pub struct KeepLeft<'f, F>(pub &'f F);
 
-/// A closure that is asked at the keys of both maps. No other value stays.
+/// A closure that is called at the keys of both maps. No other value stays.
 #[derive(Drop)]
 pub struct KeepShared<'f, F>(pub &'f F);
 
-/// What is asked at the keys of this map alone. At the keys of both each value stays as it is.
+/// A decision for the keys of this map alone. At the keys of both, each value is unchanged.
 #[derive(Drop)]
 pub struct KeepAlone<'j, J>(pub &'j J);
 
