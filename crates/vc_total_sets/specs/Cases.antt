@@ -21,11 +21,11 @@ abbrev pub kept_by : ListOp → Bool → Bool → Bool
 kept_by (Of op) = made_by op
 kept_by ReversedDifference = λ a b. and_not b a
 
--- whether an operation keeps what stands in either list alone: only then the left list may grow
+-- whether an operation keeps what is in either list alone: only then the left list may grow
 abbrev pub keeps_either : (Bool → Bool → Bool) → Bool
 keeps_either f = f true false && f false true
 
--- the case is what f comes to on the lists of two sets with these flags
+-- the case is what f does to the lists of two sets with these flags
 pub record IsCase (f : Bool → Bool → Bool) (a_negated b_negated : Bool) (case : Case) : Type 0 where
   pub negated : case.negated ≡ f a_negated b_negated
   pub elements : (in_a in_b : Bool) → kept_by case.op in_a in_b ≡ listed_by f a_negated b_negated in_a in_b

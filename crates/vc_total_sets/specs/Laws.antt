@@ -40,7 +40,7 @@ module _ {X : Type 0} (cmp : X → X → Ordering) where
   abbrev pub MakesPointwise : (Bool → Bool → Bool) → Operation X → Type 0
   MakesPointwise f Makes = (a b c : TotalSet X) → Makes a b c → IsPointwise cmp f a b c
 
-  -- what is made of two sets is one set up to equality
+  -- the result of two sets is unique up to equality
   abbrev pub MakesOne : Operation X → Type 0
   MakesOne Makes = (a b c d : TotalSet X) → Makes a b c → Makes a b d → IsEqualTotal cmp c d
 
@@ -58,7 +58,7 @@ module _ {X : Type 0} (cmp : X → X → Ordering) where
       pub xor : MakesPointwise exactly_one made.xor
       pub minus : MakesPointwise and_not made.minus
 
-    -- each operation makes one set up to equality
+    -- the result of each operation is unique up to equality
     pub record OperationsMakeOne : Type 0 where
       pub and : MakesOne made.and
       pub or : MakesOne made.or

@@ -1,4 +1,5 @@
--- What a contract sees of a `TotalVecSet`: an ascending list, and whether the set is what stands in the list, or what does not.
+-- What a contract sees of a `TotalVecSet`: an ascending list, and whether the set is what is in the
+-- list, or what is not.
 use Rattle.std.specs.Prelude.{◌≡◌, Bool, not, List, refl}
 use Rattle.std.specs.Coded.{Coded, code_by, coded×, coded_bool, coded_list}
 use Rattle.std.specs.List.{AllZip}
@@ -29,7 +30,7 @@ module _ {X : Type 0} where
   abbrev pub has : (X → X → Ordering) → TotalSet X → X → Bool
   has cmp s x = exactly_one s.negated (member cmp s.elements x)
 
-  -- the two are equal: their lists place by place, and their flags
+  -- the two are equal: their lists element by element, and their flags
   pub record IsEqualTotal (cmp : X → X → Ordering) (s t : TotalSet X) : Type 0 where
     pub elements : AllZip (λ x y. cmp x y ≡ Equal) s.elements t.elements
     pub negated : s.negated ≡ t.negated

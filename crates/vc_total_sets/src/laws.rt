@@ -7,13 +7,14 @@ ghost use Rattle.vc_total_sets.specs.Laws.{fresh_of, moved_of, OperationsArePoin
 
 use vc_merge::laws::members_tell_the_list;
 
-/// What an operation makes is what its formula says of the two sets, at each value and at the flag.
+/// The result of an operation is what its formula says, at each value and at the flag.
 pub fn total_operations_are_pointwise<T: Ord + Clone>()
     ensures fresh { OperationsArePointwise T.cmp (fresh_of T.cmp T.is_clone) }
     ensures moved { OperationsArePointwise T.cmp (moved_of T.cmp) }
 {}
 
-/// What an operation makes of two sets is one list and flag, up to equality of the elements.
+/// The result of an operation on two sets is unique, as a list and a flag, up to equality of the
+/// elements.
 pub fn total_operations_make_one<T: Ord + Clone>()
     ensures fresh { OperationsMakeOne T.cmp (fresh_of T.cmp T.is_clone) }
     ensures moved { OperationsMakeOne T.cmp (moved_of T.cmp) }
@@ -21,7 +22,7 @@ pub fn total_operations_make_one<T: Ord + Clone>()
     members_tell_the_list::<T>();
 }
 
-/// `!(a & b)` equals `!a | !b`, and `!(a | b)` equals `!a & !b`, list and flag; `!!a` is `a`.
+/// `!(a & b)` equals `!a | !b`, and `!(a | b)` equals `!a & !b`, as lists and flags; `!!a` is `a`.
 pub fn complements_turn_operations<T: Ord + Clone>()
     ensures fresh { ComplementsTurnOperations T.cmp (fresh_of T.cmp T.is_clone) }
     ensures moved { ComplementsTurnOperations T.cmp (moved_of T.cmp) }

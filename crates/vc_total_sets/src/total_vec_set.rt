@@ -36,7 +36,7 @@ pub struct TotalVecSet<T: Ord, const N: usize, A: Allocator = Global> {
     negated: bool,
 }
 
-/// A total set with room for two elements in place.
+/// A total set with room for two elements inline.
 pub type TotalVecSet2<T> = TotalVecSet<T, 2>;
 
 impl<T: Ord, const N: usize, A: Allocator> Model for TotalVecSet<T, N, A> {
@@ -96,7 +96,7 @@ impl<T: Ord, const N: usize, A: Allocator> TotalVecSet<T, N, A> {
 }
 
 impl<T: Ord + MadeWith<A> + Drop, const N: usize, A: Allocator + Copy> TotalVecSet<T, N, A> {
-    /// The set of all values if `value`, and else that of none. Takes no memory.
+    /// The set of all values if `value`, and otherwise the empty set. Takes no memory.
     pub fn constant(alloc: A, value: bool) -> Self
         ensures { result ≡ total [] value }
     {
@@ -106,7 +106,7 @@ impl<T: Ord + MadeWith<A> + Drop, const N: usize, A: Allocator + Copy> TotalVecS
         }
     }
 
-    /// The set of no value. Takes no memory.
+    /// The empty set. Takes no memory.
     pub fn empty(alloc: A) -> Self
         ensures { result ≡ total [] false }
     {
@@ -120,12 +120,12 @@ impl<T: Ord + MadeWith<A> + Drop, const N: usize, A: Allocator + Copy> TotalVecS
         Self::constant(alloc, true)
     }
 
-    /// Puts a value in. Into a list that is not negated it goes in the place of an equal element if
-    /// there is one; from one that is negated an equal element is taken out.
+    /// Inserts a value. Into a list that is not negated it is put, and replaces an equal element;
+    /// from a negated one, an equal element is removed.
     ///
-    /// Searches the list, and moves the elements behind. It takes memory only for a new element of
-    /// a list that is not negated, where `N` or more are held; refused, it leaves the set as it was
-    /// and drops the value.
+    /// Searches the list, and moves the elements after it. It takes memory only for a new element
+    /// of a list that is not negated, where `N` or more are held; on refusal it leaves the set
+    /// unchanged and drops the value.
     pub fn insert(&mut self, that: T) -> Result<(), AllocError>
         ensures negated { self.new.negated ≡ self.old.negated }
         ensures has { OnOk result
@@ -148,10 +148,10 @@ impl<T: Ord + MadeWith<A> + Drop, const N: usize, A: Allocator + Copy> TotalVecS
         Ok(())
     }
 
-    /// What is in the set of the elements of a list: `list` without the others, which are dropped.
-    /// An element that stays is the old one.
+    /// Those elements of `list` that are in the set; the others are dropped. An element that stays
+    /// is the old one.
     ///
-    /// Takes no memory, and compares at most as often as both lists have elements.
+    /// Takes no memory, and makes at most as many comparisons as both lists have elements.
     ///
     /// ```
     /// let open = !TotalVecSet::from(closed);
@@ -172,8 +172,8 @@ impl<T: Ord + MadeWith<A> + Drop, const N: usize, A: Allocator + Copy> TotalVecS
         found
     }
 
-    /// Gives back memory that the list does not need. A refusal leaves the list where it is, so the
-    /// call succeeds always.
+    /// Gives back memory that the list does not need. Where the allocator refuses, the list stays
+    /// where it is, so the call always succeeds.
     pub fn shrink_to_fit(&mut self) -> Result<(), AllocError>
         ensures same { self.new ≡ self.old }
         ensures succeeds { IsOk result }
@@ -187,12 +187,12 @@ impl<T: Ord + Clone + MadeWith<A> + Drop, const N: usize, A: Allocator + Copy> T
     N,
     A,
 > {
-    /// Takes a value out. From a list that is not negated an equal element is taken; into one that
-    /// is negated a clone of the value goes, in the place of an equal element if there is one.
+    /// Removes a value. From a list that is not negated, an equal element is removed; into a
+    /// negated one a clone of the value is put, and replaces an equal element.
     ///
-    /// Searches the list, and moves the elements behind. It can be refused only where the list is
-    /// negated, at the clone or at the memory for a new element; refused, it leaves the set as it
-    /// was.
+    /// Searches the list, and moves the elements after it. It can be refused only where the list is
+    /// negated, at the clone or at the memory for a new element; on refusal it leaves the set
+    /// unchanged.
     pub fn remove(&mut self, that: &T) -> Result<(), AllocError>
         requires clones { ClonesAreEqual T.cmp T.is_clone }
         ensures negated { self.new.negated ≡ self.old.negated }
@@ -215,10 +215,10 @@ impl<T: Ord + Clone + MadeWith<A> + Drop, const N: usize, A: Allocator + Copy> T
 }
 
 impl<T: Ord + Clone + MadeWith<A>, const N: usize, A: Allocator + Copy> TotalVecSet<T, N, A> {
-    /// What is in the set of the elements of a list, as clones of the elements of the list.
+    /// Those elements of a list that are in the set, as clones of the elements of the list.
     ///
-    /// Compares at most as often as both lists have elements. Takes memory where more than `M` are
-    /// found, and as the clones do; refused, it drops what it built.
+    /// Makes at most as many comparisons as both lists have elements. Takes memory where more than
+    /// `M` are found, and as the clones do; on refusal it drops what it built.
     ///
     /// ```
     /// let open_today: VecSet<u16, 4> = open.within(alloc, &today)?;
@@ -243,7 +243,7 @@ impl<T: Ord + Clone + MadeWith<A>, const N: usize, A: Allocator + Copy> TotalVec
 
     /// A copy, element by element, with the allocator of this set.
     ///
-    /// Takes memory where there are more than `N` elements, and as their clones do; refused, it
+    /// Takes memory where there are more than `N` elements, and as their clones do; on refusal it
     /// drops what was copied.
     pub fn clone(&self) -> Result<Self, AllocError>
         requires clones { ClonesAreEqual T.cmp T.is_clone }
@@ -266,7 +266,7 @@ impl<T: ClonesEqual + MadeWith<A>, const N: usize, A: Allocator + Copy> Clone
     }
 }
 
-/// The set of no value. Takes no memory.
+/// The empty set. Takes no memory.
 impl<T: Ord + MadeWith<A> + Drop, const N: usize, A: Allocator + Copy> MadeWith<A>
     for TotalVecSet<T, N, A> {
     ghost is_made_with = { λ s. s ≡ total [] false };
@@ -304,7 +304,7 @@ impl<T: Ord, const N: usize, A: Allocator> Not for TotalVecSet<T, N, A> {
 
 /// `!&a` is all that is not in `a`: a clone of the list, and the other flag.
 ///
-/// It takes memory as [`clone`](TotalVecSet::clone) does; refused, it drops what was copied.
+/// It takes memory as [`clone`](TotalVecSet::clone) does; on refusal it drops what was copied.
 impl<'a, T: Ord + Clone + MadeWith<A>, const N: usize, A: Allocator + Copy> Not
     for &'a TotalVecSet<T, N, A> {
     type Output = Result<TotalVecSet<T, N, A>, AllocError>;

@@ -1,4 +1,4 @@
-//! The operations of total sets that build a fresh set, and the three tests of two sets.
+//! The operations of total sets that build a new set, and the three tests of two sets.
 ghost use Rattle.std.specs.Prelude.{◌||◌, ◌&&◌, ◌↔◌, IfOk, IsTrue};
 ghost use Rattle.vc_merge.specs.Clones.{ClonesAreEqual};
 ghost use Rattle.vc_sets.specs.SetOf.{IsSetOf, and_not, exactly_one};
@@ -13,7 +13,7 @@ use std::default::MadeWith;
 use std::ops::{BitAnd, BitOr, BitXor, Sub};
 use vc_sets::vec_set::{AbstractVecSet, VecSet};
 
-/// What `op` makes of two lists, as clones. Of two equal elements the left one is kept.
+/// The result of `op` on two lists, as clones. Of two equal elements the left one is kept.
 #[inline]
 fn combine_lists<T: Ord + Clone + MadeWith<A>, const N: usize, A: Allocator + Copy>(
     a: &VecSet<T, N, A>,
@@ -29,7 +29,7 @@ fn combine_lists<T: Ord + Clone + MadeWith<A>, const N: usize, A: Allocator + Co
     }
 }
 
-/// What `op` makes of two total sets, as clones. Of two equal elements the left one is kept.
+/// The result of `op` on two total sets, as clones. Of two equal elements the left one is kept.
 #[inline]
 fn combine<T: Ord + Clone + MadeWith<A>, const N: usize, A: Allocator + Copy>(
     a: &TotalVecSet<T, N, A>,
@@ -47,8 +47,8 @@ fn combine<T: Ord + Clone + MadeWith<A>, const N: usize, A: Allocator + Copy>(
     })
 }
 
-/// The same, but of two sets that are both negated the right one goes first: for an operation in
-/// which the sides may be swapped.
+/// The same, but where both sets are negated, the right one comes first. For an operation whose
+/// sides may be swapped.
 #[inline]
 fn combine_either<T: Ord + Clone + MadeWith<A>, const N: usize, A: Allocator + Copy>(
     a: &TotalVecSet<T, N, A>,
@@ -68,7 +68,7 @@ fn combine_either<T: Ord + Clone + MadeWith<A>, const N: usize, A: Allocator + C
 /// `&a & &b` is what is in both, as clones, with the allocator of `a` or `b`. Of two equal elements
 /// that both lists have, that of `a` is kept, and that of `b` where both sets are negated.
 ///
-/// Refused at a growth or a clone, it drops what it built.
+/// On refusal of memory or of a clone it drops what it built.
 impl<'a, 'b, T: Ord + Clone + MadeWith<A>, const N: usize, A: Allocator + Copy> BitAnd<
     &'b TotalVecSet<T, N, A>,
 > for &'a TotalVecSet<T, N, A> {
@@ -86,7 +86,7 @@ impl<'a, 'b, T: Ord + Clone + MadeWith<A>, const N: usize, A: Allocator + Copy> 
 /// `&a | &b` is what is in either, as clones. Of two equal elements that both lists have, that of
 /// `a` is kept, and that of `b` where both sets are negated.
 ///
-/// Refused at a growth or a clone, it drops what it built.
+/// On refusal of memory or of a clone it drops what it built.
 impl<'a, 'b, T: Ord + Clone + MadeWith<A>, const N: usize, A: Allocator + Copy> BitOr<
     &'b TotalVecSet<T, N, A>,
 > for &'a TotalVecSet<T, N, A> {
@@ -103,7 +103,7 @@ impl<'a, 'b, T: Ord + Clone + MadeWith<A>, const N: usize, A: Allocator + Copy> 
 
 /// `&a ^ &b` is what is in exactly one, as clones.
 ///
-/// Refused at a growth or a clone, it drops what it built.
+/// On refusal of memory or of a clone it drops what it built.
 impl<'a, 'b, T: Ord + Clone + MadeWith<A>, const N: usize, A: Allocator + Copy> BitXor<
     &'b TotalVecSet<T, N, A>,
 > for &'a TotalVecSet<T, N, A> {
@@ -121,7 +121,7 @@ impl<'a, 'b, T: Ord + Clone + MadeWith<A>, const N: usize, A: Allocator + Copy> 
 /// `&a - &b` is what is in `a` and not in `b`, as clones. Of two equal elements that both lists
 /// have, that of `a` is kept.
 ///
-/// Refused at a growth or a clone, it drops what it built.
+/// On refusal of memory or of a clone it drops what it built.
 impl<'a, 'b, T: Ord + Clone + MadeWith<A>, const N: usize, A: Allocator + Copy> Sub<
     &'b TotalVecSet<T, N, A>,
 > for &'a TotalVecSet<T, N, A> {

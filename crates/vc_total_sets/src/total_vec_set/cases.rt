@@ -1,4 +1,4 @@
-//! The table of cases: what an operation of two total sets comes to on their lists.
+//! The table of cases: what an operation on two total sets does to their lists.
 use ListOp::{Of, ReversedDifference};
 use SetOp::{Difference, Intersection, SymmetricDifference, Union};
 use TotalOp::{And, Minus, Or, Xor};
@@ -22,11 +22,11 @@ pub enum TotalOp {
 pub enum ListOp {
     /// An operation of sets, with the left list on the left.
     Of(SetOp),
-    /// What stands in the right one and not in the left one.
+    /// What is in the right one and not in the left one.
     ReversedDifference,
 }
 
-/// What an operation comes to: the operation of the lists, and whether the result is negated.
+/// One case of an operation: the operation on the lists, and whether the result is negated.
 #[derive(Clone, Copy)]
 pub struct Case {
     /// What is done to the lists.
@@ -38,7 +38,7 @@ pub struct Case {
 impl TotalOp {
     ghost use Rattle.vc_total_sets.specs.Cases.{said_by, IsCase};
 
-    /// What the operation comes to, by the flags of the left set and of the right one.
+    /// The case of the operation, by the flags of the left set and of the right one.
     #[inline]
     pub fn case(self, left_negated: bool, right_negated: bool) -> Case
         ensures { IsCase (said_by self) left_negated right_negated result }

@@ -11,7 +11,7 @@ use std::alloc::Allocator;
 use std::fmt;
 use std::hash::{Hash, Hasher};
 
-/// Two sets are equal where they have equal elements in their lists, and one flag.
+/// Two sets are equal where they have equal elements in their lists, and the same flag.
 impl<T: Ord, const N: usize, A: Allocator> PartialEq for TotalVecSet<T, N, A> {
     ghost eq = { λ s t. pointwise T.eq s.elements t.elements && beq s.negated t.negated };
 
@@ -42,7 +42,7 @@ impl<T: Ord + Hash, const N: usize, A: Allocator> Hash for TotalVecSet<T, N, A> 
     }
 }
 
-/// As the set of the list, behind a `!` where it is negated: `!{1, 2}`.
+/// As the set of the list, after a `!` where it is negated: `!{1, 2}`.
 impl<T: Ord + fmt::Debug, const N: usize, A: Allocator> fmt::Debug for TotalVecSet<T, N, A> {
     fn fmt<W: fmt::Write>(&self, f: &mut fmt::Formatter<W>) -> fmt::Result {
         if self.negated {

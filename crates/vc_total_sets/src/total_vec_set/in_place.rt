@@ -11,8 +11,8 @@ use std::alloc::{AllocError, Allocator};
 use std::default::MadeWith;
 use vc_sets::vec_set::VecSet;
 
-/// Puts what `op` makes of two lists in the place of the left one. It can be refused only where
-/// what stands in either list alone is kept.
+/// Replaces the left list by the result of `op` on two lists. It can be refused only where `op`
+/// keeps what is in either list alone.
 #[inline]
 fn assign_list<T: Ord + MadeWith<A> + Drop, const N: usize, A: Allocator + Copy>(
     list: &mut VecSet<T, N, A>,
@@ -35,7 +35,7 @@ fn assign_list<T: Ord + MadeWith<A> + Drop, const N: usize, A: Allocator + Copy>
     }
 }
 
-/// Puts what `op` makes of two sets in the place of the left one.
+/// Replaces the left set by the result of `op` on two sets.
 #[inline]
 fn assign<T: Ord + MadeWith<A> + Drop, const N: usize, A: Allocator + Copy>(
     set: &mut TotalVecSet<T, N, A>,
@@ -57,9 +57,9 @@ impl<T: Ord + MadeWith<A> + Drop, const N: usize, A: Allocator + Copy> TotalVecS
     /// Keeps what is in both sets. Elements that are kept are moved; of two equal ones the left one
     /// stays.
     ///
-    /// Where this set alone is negated, what is left of the other list takes the place of this one,
-    /// with its allocator and its room. It can be refused only where both sets are negated; then it
-    /// leaves this set as it was and drops the other one.
+    /// Where only this set is negated, what is left of the other list replaces this one, with its
+    /// allocator and its capacity. It can be refused only where both sets are negated; then this
+    /// set is unchanged, and the other one is dropped.
     pub fn bitand_assign(&mut self, that: Self) -> Result<(), AllocError>
         ensures and { OnOk result (IsTotalOf T.cmp (λ x y. x ≡ y) ◌&&◌ self.old that self.new) }
         ensures succeeds { IsFalse (self.old.negated && that.negated) → IsOk result }
@@ -71,9 +71,9 @@ impl<T: Ord + MadeWith<A> + Drop, const N: usize, A: Allocator + Copy> TotalVecS
     /// Adds what is in the other set. Elements that are kept are moved; of two equal ones the left
     /// one stays.
     ///
-    /// Where the other set alone is negated, what is left of its list takes the place of this one,
-    /// with its allocator and its room. It can be refused only where neither set is negated; then
-    /// it leaves this set as it was and drops the other one.
+    /// Where only the other set is negated, what is left of its list replaces this one, with its
+    /// allocator and its capacity. It can be refused only where neither set is negated; then this
+    /// set is unchanged, and the other one is dropped.
     pub fn bitor_assign(&mut self, that: Self) -> Result<(), AllocError>
         ensures or { OnOk result (IsTotalOf T.cmp (λ x y. x ≡ y) ◌||◌ self.old that self.new) }
         ensures succeeds { IsTrue (self.old.negated || that.negated) → IsOk result }
@@ -84,7 +84,7 @@ impl<T: Ord + MadeWith<A> + Drop, const N: usize, A: Allocator + Copy> TotalVecS
 
     /// Keeps what is in exactly one of the sets. Elements that are kept are moved.
     ///
-    /// Refused, it leaves this set as it was and drops the other one.
+    /// On refusal it leaves this set unchanged and drops the other one.
     pub fn bitxor_assign(&mut self, that: Self) -> Result<(), AllocError>
         ensures xor { OnOk result
             (IsTotalOf T.cmp (λ x y. x ≡ y) exactly_one self.old that self.new) }
@@ -93,12 +93,12 @@ impl<T: Ord + MadeWith<A> + Drop, const N: usize, A: Allocator + Copy> TotalVecS
         assign(self, that, TotalOp::Xor)
     }
 
-    /// Takes out what is in the other set. Elements that are kept are moved; of two equal ones the
+    /// Removes what is in the other set. Elements that are kept are moved; of two equal ones the
     /// left one stays.
     ///
-    /// Where both sets are negated, what is left of the other list takes the place of this one,
-    /// with its allocator and its room. It can be refused only where this set is negated and the
-    /// other one is not; then it leaves this set as it was and drops the other one.
+    /// Where both sets are negated, what is left of the other list replaces this one, with its
+    /// allocator and its capacity. It can be refused only where this set is negated and the other
+    /// one is not; then this set is unchanged, and the other one is dropped.
     pub fn sub_assign(&mut self, that: Self) -> Result<(), AllocError>
         ensures minus { OnOk result
             (IsTotalOf T.cmp (λ x y. x ≡ y) and_not self.old that self.new) }
