@@ -1,4 +1,4 @@
--- What stands at a key of a total map is the value there, up to `==`.
+-- What is at a key of a total map is the value there, up to `==`.
 use Rattle.std.proofs.Common.{◌≡◌, Bool, true, false, Option, Some, None, IfSome, refl, ◌∙◌}
 use Rattle.std.specs.Cmp.{IsEquivalence}
 use Rattle.std.specs.Option.{unwrap_or}

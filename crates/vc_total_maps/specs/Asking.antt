@@ -17,7 +17,8 @@ module _ {K V W : Type 0} where
   right_value default (Right k w) = w
   right_value default (Both k v w) = w
 
--- a possible answer is placed at a key, or left out as it equals the default; a refusal places nothing
+-- a possible answer is placed at a key, or left out because it equals the default; a refusal places
+-- nothing
 abbrev pub MayPlace : {X : Type 0} → (X → X → Bool) → (X → Type 0) → X → Result (Option X) AllocError → Type 0
 MayPlace {X} eq May default (Ok placed) = (v : X) × May v × Stands eq default v placed
 MayPlace eq May default (Err e) = Unit {0}

@@ -7,7 +7,8 @@ use Rattle.vc_total_maps.specs.MappedTotals.{IsMapped}
 use Rattle.vc_total_maps.specs.TotalMap.{TotalMap, at, NoneIsDefault}
 
 module _ (K X : Type 0) (cmp : K → K → Ordering) (eq : X → X → Bool) where
-  -- the value at a key equals what stands there, and it stands there itself where no key is mapped to the default
+  -- the value at a key equals what is there, and is that itself where no key is mapped to the
+  -- default
   pub record StandingIsAt : Type 0 where
     pub equal : (m : TotalMap K X) (k : K) (v : X) → Stands eq m.default v (value_at cmp m.mappings k) → IsTrue (eq (at cmp m k) v)
     pub stands : (m : TotalMap K X) → NoneIsDefault cmp eq m → (k : K) → Stands eq m.default (at cmp m k) (value_at cmp m.mappings k)

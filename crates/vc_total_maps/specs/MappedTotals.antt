@@ -10,8 +10,8 @@ pub record HoldsOfEach {K V : Type 0} (cmp : K → K → Ordering) (P : V → Ty
   pub default : P m.default
   pub listed : (k : K) → IfSome (value_at cmp m.mappings k) P
 
--- c is what answers that `May` allows make of m: one on the default, and one on the value at each key. A listed key is a clone of the
--- one that m lists there
+-- c is made of m by answers that `May` allows: one on the default, and one on the value at each
+-- key. A listed key is a clone of the one that m lists there
 pub record IsMapped {K V X : Type 0} (cmp : K → K → Ordering) (eq : X → X → Bool) (May : V → X → Type 0) (is_clone : K → K → Type 0) (m : TotalMap K V) (c : TotalMap K X) : Type 0 where
   pub default : May m.default c.default
   pub values : (k : K) → (v : X) × May (at cmp m k) v × Stands eq c.default v (value_at cmp c.mappings k)

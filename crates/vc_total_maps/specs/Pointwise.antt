@@ -1,4 +1,5 @@
--- Where `==` tells values that are the same, a combination has at every key what a function makes of the two values there.
+-- Where `==` holds only of identical values, a combination has at every key what a function makes
+-- of the two values there.
 use Rattle.std.specs.Prelude.{◌≡◌, Bool, Option, Some, None, Result, Ok, Err, IfOk, IsTrue}
 use Rattle.std.proofs.Common.{sym, ◌∙◌}
 use Rattle.std.specs.Option.{unwrap_or}
@@ -7,7 +8,7 @@ use Rattle.vc_joins.specs.Entries.{value_at}
 use Rattle.vc_total_maps.specs.CombinedTotals.{IsCombined, CombinesValues, Stands}
 use Rattle.vc_total_maps.specs.TotalMap.{TotalMap, at}
 
--- what stands at a key is the value there
+-- what is at a key is the value there
 stands-there : {X : Type 0} (eq : X → X → Bool) → ((x y : X) → IsTrue (eq x y) → x ≡ y) → (d v : X) (o : Option X)
     → Stands eq d v o → unwrap_or o d ≡ v
 stands-there eq exact d v (Some x) h = h.0
@@ -15,7 +16,7 @@ stands-there eq exact d v None h = sym (exact v d h)
 
 module _ {K V W X E : Type 0} (cmp : K → K → Ordering) (eq : X → X → Bool) (May : V → W → X → Type 0)
     (is_clone : K → K → Type 0) (a : TotalMap K V) (b : TotalMap K W) (h : V → W → X) where
-  -- where each answer is that of h, a combination that was made is h at every key
+  -- where each answer is that of h, a combination that succeeded is h at every key
   pub combined-values : (r : Result (TotalMap K X) E) → IfOk r (IsCombined cmp eq May is_clone a b)
       → ((x y : X) → IsTrue (eq x y) → x ≡ y) → ((x : V) (y : W) (v : X) → May x y v → v ≡ h x y)
       → IfOk r (CombinesValues cmp h a b)

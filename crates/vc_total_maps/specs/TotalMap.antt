@@ -1,4 +1,5 @@
--- What a contract sees of a `TotalVecMap`: pairs in ascending order of their keys, and the value that stands at each other key.
+-- What a contract sees of a `TotalVecMap`: pairs in ascending order of their keys, and the value
+-- that is at each other key.
 use Rattle.std.specs.Prelude.{Bool, cond, List, Option, Some, None, IfSome, IsFalse, refl}
 use Rattle.std.specs.Coded.{Coded, code_by, coded×, coded_list}
 use Rattle.std.specs.List.{AllZip}
@@ -20,11 +21,11 @@ module _ {K V : Type 0} where
   abbrev pub total_map_code : Coded K → Coded V → Coded (TotalMap K V)
   total_map_code k v = code_by (List (K × V) × V) (coded× (coded_list (coded× k v)) v) (λ m. (m.mappings, m.default)) (λ p. total_map p.0 p.1) (λ _. refl)
 
-  -- the value at a key: the one that is mapped, and else the default
+  -- the value at a key: the one that is mapped, and otherwise the default
   abbrev pub at : (K → K → Ordering) → TotalMap K V → K → V
   at cmp m k = unwrap_or (value_at cmp m.mappings k) m.default
 
-  -- the value that stands where v is put: v, or the default itself where v equals it
+  -- the value that is where v is put: v, or the default itself where v equals it
   abbrev pub put_value : (V → V → Bool) → TotalMap K V → V → V
   put_value eq m v = cond (eq v m.default) m.default v
 

@@ -8,14 +8,14 @@ ghost use Rattle.vc_total_maps.specs.Laws.{StandingIsAt, CombinedIsPointwise, Ma
 
 use std::alloc::AllocError;
 
-/// The value at a key equals what stands there. Where no key is mapped to the default, as in each
-/// `TotalVecMap`, the value at a key stands there.
+/// The value at a key equals each value that `Stands` there. Where no key is mapped to the default,
+/// as in each `TotalVecMap`, it itself `Stands` there.
 pub fn standing_is_at<K: Ord, V: Eq>()
     ensures { StandingIsAt K V K.cmp V.eq }
 {}
 
 /// Where a closure answers as a function of two values does, a combination by it has at every key
-/// what the function makes of the two values there, up to `==`.
+/// the result of the function on the two values there, up to `==`.
 pub fn combined_is_pointwise<K: Ord + Clone, V: Eq, F: Fn(&V, &V) -> Result<V, AllocError>>(
     closure: &F,
 )
@@ -24,7 +24,7 @@ pub fn combined_is_pointwise<K: Ord + Clone, V: Eq, F: Fn(&V, &V) -> Result<V, A
 {}
 
 /// Where a closure answers as a function of a value does, a map that it changed has at every key
-/// what the function makes of the value there, up to `==`.
+/// the result of the function on the value there, up to `==`.
 pub fn mapped_is_pointwise<K: Ord + Clone, V, W: Eq, F: Fn(&V) -> Result<W, AllocError>>(
     closure: &F,
 )

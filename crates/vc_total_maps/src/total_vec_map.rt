@@ -37,7 +37,7 @@ pub struct TotalVecMap<K: Ord, V: Eq, const N: usize, A: Allocator = Global> {
     default: V,
 }
 
-/// A total map with room for one pair in place.
+/// A total map with room for one pair inline.
 pub type TotalVecMap1<K, V> = TotalVecMap<K, V, 1>;
 
 impl<K: Ord, V: Eq, const N: usize, A: Allocator> Model for TotalVecMap<K, V, N, A> {
@@ -79,8 +79,8 @@ impl<K: Ord, V: Eq, const N: usize, A: Allocator> TotalVecMap<K, V, N, A> {
     }
 }
 
-/// The value at a key: the one of an equal key, and else the default. Searches the list, and takes
-/// no memory.
+/// The value at a key: the one of an equal key, and otherwise the default. Searches the list, and
+/// takes no memory.
 impl<'a, K: Ord, V: Eq, const N: usize, A: Allocator> Index<&'a K> for TotalVecMap<K, V, N, A> {
     type Output = V;
 
@@ -110,8 +110,8 @@ where
 
     /// The map with the values of `map`, and `default` at each key that it lacks.
     ///
-    /// Pairs with a value that equals the default are dropped: at such a key stands the default
-    /// itself. Takes no memory.
+    /// Pairs with a value that equals the default are dropped: such a key has the default itself.
+    /// Takes no memory.
     pub fn new(mut map: VecMap<K, V, N, A>, default: V) -> Self
         ensures { result ≡ total_map (filter (λ p. not (V.eq p.1 default)) map) default }
     {
@@ -126,13 +126,13 @@ where
         }
     }
 
-    /// Puts a value at one key. What stands at all other keys stays, and so does the default.
+    /// Sets the value at one key. All other keys and the default are unchanged.
     ///
-    /// A value that equals the default is dropped, and the key is not mapped then: the default
-    /// itself stands there. Else a known key is replaced together with its value. Compares fewer
-    /// than `1.5 * log2(n) + 4` times among `n` pairs. It takes memory only for a new key, where
-    /// `N` or more pairs are held; refused, it leaves the map as it was and drops the key and the
-    /// value.
+    /// A value that equals the default is dropped, and the key is not mapped then: it has the
+    /// default itself. Otherwise a key that is held is replaced together with its value. Compares
+    /// fewer than `1.5 * log2(n) + 4` times among `n` pairs. It takes memory only for a new key,
+    /// where `N` or more pairs are held; on refusal it leaves the map unchanged and drops the key
+    /// and the value.
     ///
     /// ```
     /// counts.set(80, 5)?;
@@ -161,12 +161,12 @@ where
         Ok(())
     }
 
-    /// Puts what `f` makes of the value at one key at that key. What stands at all other keys
-    /// stays, and so does the default.
+    /// Replaces the value at one key by the result of `f` on it. All other keys and the default are
+    /// unchanged.
     ///
     /// `f` is called once, with the value of the key or, where it is not mapped, the default. Its
-    /// answer goes in as [`set`](TotalVecMap::set) puts it, and takes memory so. Refused there or
-    /// by `f`, it leaves the map as it was and drops the key and the answer.
+    /// answer is set as by [`set`](TotalVecMap::set), and takes memory as that does. On refusal
+    /// there or by `f`, the map is unchanged, and the key and the answer are dropped.
     ///
     /// ```
     /// counts.update(80, |count| Ok(*count + 1))?;
@@ -181,7 +181,7 @@ where
             × FnOnceReturnsAt F.FnOnce f (at K.cmp self.old key) (Ok value)
             × IsPut K.cmp V.eq self.old key value self.new) }
 
-        // By a closure that answers as a function does.
+        // With a closure that answers as a function does.
         ensures plain { OnOk result ((g : V → V)
             → ((v w : V) → FnOnceReturnsAt F.FnOnce f v (Ok w) → w ≡ g v)
             → IsPut K.cmp V.eq self.old key (g (at K.cmp self.old key)) self.new) }
@@ -192,8 +192,8 @@ where
         self.set(key, value)
     }
 
-    /// Gives back memory that the list does not need. A refusal leaves the list where it is, so the
-    /// call succeeds always.
+    /// Gives back memory that the list does not need. Where the allocator refuses, the list stays
+    /// where it is, so the call always succeeds.
     pub fn shrink_to_fit(&mut self) -> Result<(), AllocError>
         ensures same { self.new ≡ self.old }
         ensures succeeds { IsOk result }
@@ -213,7 +213,7 @@ where
 {
     /// A copy, pair by pair, and of the default.
     ///
-    /// Takes memory where there are more than `N` pairs, and as the clones do; refused, it drops
+    /// Takes memory where there are more than `N` pairs, and as the clones do; on refusal it drops
     /// what was copied.
     pub fn clone(&self) -> Result<Self, AllocError>
         requires keys { ClonesAreEqual K.cmp K.is_clone }

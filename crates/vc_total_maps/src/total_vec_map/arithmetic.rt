@@ -68,8 +68,8 @@ impl<V: Clone + Div<V, Output = V>> Combine<V, V> for Quotient {
 
 /// `a + b` is at every key the sum of the values.
 ///
-/// The caller sees to it that the arithmetic of the values can be done for the two defaults and at
-/// each key that one of the maps lists. A value that equals the new default is not listed. Takes
+/// The caller must ensure that the operation does not fail for the two defaults, nor for the values
+/// at each key that one of the maps lists. A value that equals the new default is not listed. Takes
 /// memory as [`combine_ref`](TotalVecMap::combine_ref) does; both maps are dropped.
 impl<
     K: Ord + Clone + Drop,
@@ -95,8 +95,8 @@ where
 
 /// `a - b` is at every key the value of `a` less that of `b`.
 ///
-/// The caller sees to it that the arithmetic of the values can be done for the two defaults and at
-/// each key that one of the maps lists. A value that equals the new default is not listed. Takes
+/// The caller must ensure that the operation does not fail for the two defaults, nor for the values
+/// at each key that one of the maps lists. A value that equals the new default is not listed. Takes
 /// memory as [`combine_ref`](TotalVecMap::combine_ref) does; both maps are dropped.
 impl<
     K: Ord + Clone + Drop,
@@ -122,8 +122,8 @@ where
 
 /// `a * b` is at every key the product of the values.
 ///
-/// The caller sees to it that the arithmetic of the values can be done for the two defaults and at
-/// each key that one of the maps lists. A value that equals the new default is not listed. Takes
+/// The caller must ensure that the operation does not fail for the two defaults, nor for the values
+/// at each key that one of the maps lists. A value that equals the new default is not listed. Takes
 /// memory as [`combine_ref`](TotalVecMap::combine_ref) does; both maps are dropped.
 impl<
     K: Ord + Clone + Drop,
@@ -149,8 +149,8 @@ where
 
 /// `a / b` is at every key the value of `a` divided by that of `b`.
 ///
-/// The caller sees to it that the arithmetic of the values can be done for the two defaults and at
-/// each key that one of the maps lists. A value that equals the new default is not listed. Takes
+/// The caller must ensure that the operation does not fail for the two defaults, nor for the values
+/// at each key that one of the maps lists. A value that equals the new default is not listed. Takes
 /// memory as [`combine_ref`](TotalVecMap::combine_ref) does; both maps are dropped.
 impl<
     K: Ord + Clone + Drop,
@@ -174,7 +174,7 @@ where
     }
 }
 
-/// `&a + &b` is what `a + b` is, under the same condition; both maps stay as they are.
+/// `&a + &b` is what `a + b` is, under the same condition; both maps are unchanged.
 impl<
     'a,
     'b,
@@ -199,7 +199,7 @@ where
     }
 }
 
-/// `&a - &b` is what `a - b` is, under the same condition; both maps stay as they are.
+/// `&a - &b` is what `a - b` is, under the same condition; both maps are unchanged.
 impl<
     'a,
     'b,
@@ -224,7 +224,7 @@ where
     }
 }
 
-/// `&a * &b` is what `a * b` is, under the same condition; both maps stay as they are.
+/// `&a * &b` is what `a * b` is, under the same condition; both maps are unchanged.
 impl<
     'a,
     'b,
@@ -249,7 +249,7 @@ where
     }
 }
 
-/// `&a / &b` is what `a / b` is, under the same condition; both maps stay as they are.
+/// `&a / &b` is what `a / b` is, under the same condition; both maps are unchanged.
 impl<
     'a,
     'b,

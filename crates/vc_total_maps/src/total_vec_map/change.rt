@@ -1,4 +1,4 @@
-//! A total map with what is made of its value at every key.
+//! A total map with its value changed at every key.
 ghost use Rattle.std.specs.Prelude.{◌≡◌, Ok, IfOk};
 ghost use Rattle.std.specs.Fn.{FnReturnsAt};
 ghost use Rattle.vc_merge.specs.Clones.{ClonesAreEqual};
@@ -11,7 +11,7 @@ use std::default::MadeWith;
 use std::ops::Neg;
 use vc_maps::vec_map::conversions::map_of_list;
 
-/// A closure on the left value alone.
+/// A closure on only the left value.
 #[derive(Drop)]
 struct OfLeft<'f, F>(&'f F);
 
@@ -25,7 +25,7 @@ impl<'f, V, X, F: Fn(&V) -> Result<X, AllocError>> Combine<V, X> for OfLeft<'f, 
     }
 }
 
-/// The left value with the other sign, as a clone.
+/// The negated left value, as a clone.
 #[derive(Drop)]
 struct Opposite;
 
@@ -39,9 +39,9 @@ impl<V: Clone + Neg<Output = V>> Combine<V, V> for Opposite {
     }
 }
 
-/// What `change` makes of the left value at every key, and of the default.
+/// The result of `change` on the left value at every key, and on the default.
 ///
-/// It is asked for the new default first, and then once at each key that the map lists, in
+/// It is called for the new default first, and then once at each key that the map lists, in
 /// ascending order.
 fn change_by<
     K: Ord + Clone + Drop,
@@ -67,11 +67,11 @@ where
 }
 
 impl<K: Ord + Clone + Drop, V: Eq, const N: usize, A: Allocator + Copy> TotalVecMap<K, V, N, A> {
-    /// What `f` makes of the value at every key, and of the default.
+    /// The result of `f` on the value at every key, and on the default.
     ///
-    /// `f` is asked for the new default first, with the old one, and then once at each key that is
+    /// `f` is called for the new default first, with the old one, and then once at each key that is
     /// listed, in ascending order. An answer that equals the new default is dropped. A key is
-    /// listed as a clone. Refused where memory, a clone of a key or an answer of `f` is.
+    /// listed as a clone. It is refused where memory, a clone of a key or an answer of `f` is.
     ///
     /// ```
     /// let is_called: TotalVecMap<u16, bool, 4> = counts.map_values(|count: &u32| Ok(*count > 0))?;
@@ -91,10 +91,10 @@ impl<K: Ord + Clone + Drop, V: Eq, const N: usize, A: Allocator + Copy> TotalVec
     }
 }
 
-/// `-a` is at every key the value of `a` with the other sign.
+/// `-a` is at every key the negated value of `a`.
 ///
-/// The caller sees to it that the sign of the default can be turned, and of the value at each key
-/// that the map lists. A value that equals the new default is not listed. Takes memory as
+/// The caller must ensure that negation does not fail for the default, nor for the value at each
+/// key that the map lists. A value that equals the new default is not listed. Takes memory as
 /// [`map_values`](TotalVecMap::map_values) does; the map is dropped.
 impl<
     K: Ord + Clone + Drop,

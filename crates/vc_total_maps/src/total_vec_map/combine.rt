@@ -21,15 +21,15 @@ use vc_joins::question::{JoinKind, OuterJoinArg};
 use vc_maps::vec_map::conversions::map_of_list;
 use vc_maps::vec_map::join_asking;
 
-/// What is made of the values of two maps at one key.
+/// How the values of two maps at one key are combined.
 pub(super) trait Combine<V, X> {
-    /// It may be asked so.
+    /// Whether it may be called with these values.
     ghost can: { Self → V → V → Type 0 };
 
-    /// It may answer so.
+    /// Whether it may give this answer.
     ghost may: { Self → V → V → X → Type 0 };
 
-    /// The value that is made of the two.
+    /// The combined value.
     fn combine(&self, left: &V, right: &V) -> Result<X, AllocError>
         requires { can self.now left.now right.now }
         ensures { IfOk result (may self.now left.now right.now) };
@@ -48,7 +48,7 @@ pub(super) struct Combination<'q, K, V, X, C> {
 }
 
 impl<'q, K: Ord, V: Eq, X, C: Combine<V, X>> Combination<'q, K, V, X, C> {
-    /// Two maps, and the default of the result. It may be asked all that the outer join of their
+    /// Two maps, and the default of the result. It can answer all that the outer join of their
     /// pairs asks.
     fn of_two<const N: usize, A: Allocator>(
         this: &'q TotalVecMap<K, V, N, A>,
@@ -80,7 +80,7 @@ impl<'q, K: Ord, V: Eq, X, C: Combine<V, X>> Combination<'q, K, V, X, C> {
         }
     }
 
-    /// A map beside one that lists nothing and has the same default, and the default of the result.
+    /// A map, with one that lists nothing and has the same default, and the default of the result.
     pub(super) fn of_one<const N: usize, A: Allocator>(
         map: &'q TotalVecMap<K, V, N, A>,
         new_default: &'q X,
@@ -135,7 +135,7 @@ impl<'q, K, V, X: Eq + Drop, C: Combine<V, X>> Question<K, V, V, X>
     }
 }
 
-/// The pairs of what is made of the two maps.
+/// The pairs of the combination of the two maps.
 pub(super) fn combine_pairs<
     K: Ord + Clone + Drop,
     V,
@@ -164,9 +164,9 @@ where
     join_asking(alloc, maps.left, maps.right, maps)
 }
 
-/// What `combine` makes of two total maps.
+/// The result of `combine` on two total maps.
 ///
-/// It is asked for the new default first, on the two defaults, and then once at each key that one
+/// It is called for the new default first, on the two defaults, and then once at each key that one
 /// of the maps lists, in ascending order.
 pub(super) fn combine_by<
     K: Ord + Clone + Drop,
@@ -243,12 +243,13 @@ impl<K: Ord + Clone + Drop, V: Eq + Drop, const N: usize, A: Allocator + Copy> T
 where
     (K, V): MadeWith<A>,
 {
-    /// What `f` makes of the values of both maps at every key, and of the defaults.
+    /// The result of `f` on the values of both maps at every key, and on the defaults.
     ///
-    /// `f` is asked for the new default first, with the two defaults, and then once at each key
+    /// `f` is called for the new default first, with the two defaults, and then once at each key
     /// that one of the maps lists, in ascending order. An answer that equals the new default is
-    /// dropped. A key is listed as a clone of the one of this map, where it lists the key, and else
-    /// of the other's. Refused where memory, a clone of a key or an answer of `f` is.
+    /// dropped. A key is listed as a clone of the one of this map, where it lists the key, and
+    /// otherwise of the other's. It is refused where memory, a clone of a key or an answer of `f`
+    /// is.
     ///
     /// ```
     /// let sums = a.combine_ref(&b, |x: &u32, y: &u32| Ok(x.saturating_add(*y)))?;
@@ -280,8 +281,8 @@ where
     /// The greater of the two values at every key, and of the defaults, as a clone: that of `that`
     /// where the two are equal.
     ///
-    /// Keys are listed as by [`combine_ref`](TotalVecMap::combine_ref), and no closure is asked.
-    /// Refused where memory, or a clone of a key or of a value, is.
+    /// Keys are listed as by [`combine_ref`](TotalVecMap::combine_ref), and no closure is called.
+    /// It is refused where memory, or a clone of a key or of a value, is.
     pub fn supremum(&self, that: &Self) -> Result<Self, AllocError>
         requires clones { ClonesAreEqual K.cmp K.is_clone }
         ensures { IfOk result (IsCombined K.cmp V.eq
@@ -293,8 +294,8 @@ where
     /// The lesser of the two values at every key, and of the defaults, as a clone: that of this map
     /// where the two are equal.
     ///
-    /// Keys are listed as by [`combine_ref`](TotalVecMap::combine_ref), and no closure is asked.
-    /// Refused where memory, or a clone of a key or of a value, is.
+    /// Keys are listed as by [`combine_ref`](TotalVecMap::combine_ref), and no closure is called.
+    /// It is refused where memory, or a clone of a key or of a value, is.
     pub fn infimum(&self, that: &Self) -> Result<Self, AllocError>
         requires clones { ClonesAreEqual K.cmp K.is_clone }
         ensures { IfOk result (IsCombined K.cmp V.eq

@@ -76,7 +76,7 @@ impl<K: Ord, V: Ord, const N: usize, A: Allocator> Ord for TotalVecMap<K, V, N, 
     }
 }
 
-/// The hash of the mappings alone.
+/// The hash of only the mappings.
 impl<K: Ord + Hash, V: Eq + Hash, const N: usize, A: Allocator> Hash for TotalVecMap<K, V, N, A> {
     ghost hash_input = { λ m. fed.slice (λ p. K.hash_input p.0 ++ V.hash_input p.1) m.mappings };
 
