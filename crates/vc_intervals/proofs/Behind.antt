@@ -1,5 +1,5 @@
--- The intervals that are listed, from behind.
---     listed-append        those of more turns, behind some after which no interval has begun
+-- The intervals that are listed, from the back.
+--     listed-append        those of more turns, after some after which no interval has begun
 --     listed-length        how many there are
 --     unbounded-told        whether one has no end
 --     last-open, last-closed        the last one

@@ -1,4 +1,4 @@
--- A walk that seeks a place at which f is so tells whether there is one.
+-- A walk that searches for a place at which f is true tells whether there is one.
 use Rattle.std.proofs.Common.{◌≡◌, Bool, true, false, not, List, [], ◌∷◌, ◌++◌, map, length, Result, Ok}
 use Rattle.std.proofs.Common.{sym, ap, subst, ◌∙◌, append_assoc, MatchBool, ⊎_elim, arith}
 use mathlib.Core.Bool.{true≢false}

@@ -1,4 +1,4 @@
--- What a walk that seeks a place says of two sets: that the one is within the other, or that they share nothing.
+-- What a walk that searches for a place says of two sets: that one is within the other, or that they share nothing.
 use Rattle.std.proofs.Common.{◌≡◌, ◌↔◌, Bool, true, false, not, IsTrue, MatchBool, ◌⊎◌, ⊎_elim, arith}
 use mathlib.Core.Bool.{true≢false}
 use Rattle.std.specs.declared.cmp.Ordering.{Ordering}

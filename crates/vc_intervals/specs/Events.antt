@@ -10,25 +10,26 @@ abbrev pub odd : ℕ → Bool
 odd n = nat_eq (n % 2) 1
 
 module _ {X : Type 0} where
-  -- x in front of the others, where it is kept
+  -- x before the others, where it is kept
   abbrev pub put_if : Bool → X → List X → List X
   put_if true x xs = x ∷ xs
   put_if false x xs = xs
 
   module _ (f : Bool → Bool → Bool) where
-    -- the elements at which what f says turns, where the left answer is p and the right one q before the events. Of two equal ones
-    -- it is the left one
+    -- the elements at which what f says changes, where the left answer is p and the right one q
+    -- before the events. Of two equal ones it is the left one
     abbrev pub kept : Bool → Bool → List (Event X X) → List X
     kept p q [] = []
     kept p q (left_alone x ∷ es) = put_if (exactly_one (f p q) (f (not p) q)) x (kept (not p) q es)
     kept p q (right_alone y ∷ es) = put_if (exactly_one (f p q) (f p (not q))) y (kept p (not q) es)
     kept p q (collision x y ∷ es) = put_if (exactly_one (f p q) (f (not p) (not q))) x (kept (not p) (not q) es)
 
--- what a walk over the turns of two sets does at an event. `in_a` and `in_b` say whether the place that it has come to is in each set,
--- `built` has the turns that were kept, and `name` is that of the reference to their list
+-- what a walk over the turns of two sets does at an event. `in_a` and `in_b` say whether the place
+-- that it has reached is in each set, `built` has the turns that were kept, and `name` is that of
+-- the reference to their list
 module _ {X M N : Type 0} (from : X → X → Type 0) (f : Bool → Bool → Bool) (in_a in_b : M → Bool) (built : M → List X) (name : M → N) where
-  -- unless it was refused, n turns were passed of the left set if `left`, and of the right one if `right`: those of xs are appended
-  -- where f turns at each
+  -- unless it was refused, n turns were passed of the left set if `left`, and of the right one if
+  -- `right`: those of xs are appended where f changes at each
   abbrev pub Passes : Bool → Bool → List X → ℕ → M → Answer → M → Type 0
   Passes left right xs n s answer t =
       IfOk answer (λ go_on. (go_on ≡ true) × (name t ≡ name s)
@@ -43,7 +44,8 @@ module _ {X M N : Type 0} (from : X → X → Type 0) (f : Bool → Bool → Boo
     collision = λ s answer t. Passes true true (left s) 1 s answer t;
   }
 
--- what a walk does at an event that seeks a place at which f is so, and stops at the first one
+-- what a walk does at an event that searches for a place at which f is true, and stops at the first
+-- one
 module _ {M : Type 0} (f : Bool → Bool → Bool) (in_a in_b found : M → Bool) where
   -- n turns were passed of the left set if `left`, and of the right one if `right`: the first of them decides
   abbrev pub Seeks : Bool → Bool → ℕ → M → Answer → M → Type 0

@@ -1,10 +1,12 @@
--- What an operation makes of two interval sets. It is given by f, which says of "in the left one" and "in the right one" whether a place is in the result.
+-- What an operation makes of two interval sets. It is given by f, which says whether a place is in
+-- the result, from whether it is in the left set and in the right one.
 use Rattle.std.specs.Prelude.{◌≡◌, Bool, Option, Some, None, IsTrue}
 use Rattle.std.specs.declared.cmp.Ordering.{Ordering}
 use Rattle.vc_merge.specs.Ascending.{Ascends, element_at}
 use Rattle.vc_intervals.specs.Turns.{Intervals, holds}
 
--- a turn of the result, where it has one, comes by `from` from the left turn there, where that is one, and else from the right one
+-- a turn of the result, where it has one, comes by `from` from the left turn there, where that is
+-- one, and otherwise from the right one
 abbrev pub Comes : {X : Type 0} → (X → X → Type 0) → Option X → Option X → Option X → Type 0
 Comes from None left right = Unit {0}
 Comes from (Some z) (Some x) right = from x z
@@ -12,8 +14,8 @@ Comes from (Some z) None (Some y) = from y z
 Comes from (Some z) None None = ⊥
 
 module _ {X : Type 0} (cmp : X → X → Ordering) where
-  -- c is what f makes of a and b: at each place, and below all turns. A turn of it comes by `from` from one of a, where a has an equal
-  -- one, and else from one of b
+  -- c is what f makes of a and b: at each place, and below all turns. A turn of it comes by `from`
+  -- from one of a, where a has an equal one, and otherwise from one of b
   pub record IsIntervalsOf (from : X → X → Type 0) (f : Bool → Bool → Bool) (a b c : Intervals X) : Type 0 where
     pub ascends : Ascends cmp c.turns
     pub below : c.below ≡ f a.below b.below

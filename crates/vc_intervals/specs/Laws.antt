@@ -24,7 +24,7 @@ module _ {X : Type 0} (cmp : X → X → Ordering) where
       (a : Intervals X) → Ascends cmp a.turns → (x : X)
       → holds cmp a x ≡ list_any (λ ends. range_contains cmp ends.0 ends.1 x) (listed a)
 
-  -- what an operation makes of two sets is one set up to equality
+  -- the result of an operation on two sets is unique up to equality
   abbrev pub IntervalsOfAreOne : (X → X → Type 0) → Type 0
   IntervalsOfAreOne from =
       (f : Bool → Bool → Bool) (a b c d : Intervals X) → IsIntervalsOf cmp from f a b c → IsIntervalsOf cmp from f a b d

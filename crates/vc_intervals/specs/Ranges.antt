@@ -10,7 +10,7 @@ use Rattle.vc_merge.specs.Ascending.{Ascends}
 use Rattle.vc_intervals.specs.Events.{odd}
 
 module _ {X : Type 0} (cmp : X → X → Ordering) where
-  -- x lies in the range: at its start or behind, and before its end
+  -- x lies in the range: at its start or after, and before its end
   abbrev pub in_range : Range X → X → Bool
   in_range range x = range_contains cmp (Included range.start) (Excluded range.end) x
 
@@ -20,7 +20,7 @@ module _ {X : Type 0} (cmp : X → X → Ordering) where
 
   -- ---- how far a sweep has come. No public clause cites what follows.
 
-  -- each range starts at or before those behind it
+  -- each range starts at or before those after it
   abbrev pub StartsAscend : List (Range X) → Type 0
   StartsAscend [] = Unit {0}
   StartsAscend (r ∷ rs) = AllByRecursion (λ q. is_le (cmp r.start q.start) ≡ true) rs × StartsAscend rs

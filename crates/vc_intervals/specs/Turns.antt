@@ -1,5 +1,5 @@
--- What a contract sees of an `IntervalSet`: its turns, which are the places at which membership turns, in ascending order, and whether
--- it has what lies below all of them.
+-- What a contract sees of an `IntervalSet`: its turns, which are the places at which membership
+-- changes, in ascending order, and whether it has what lies below all of them.
 use Rattle.std.specs.Prelude.{◌≡◌, Bool, not, List, [], ◌∷◌, refl}
 use Rattle.std.specs.Coded.{Coded, code_by, coded×, coded_bool, coded_list}
 use Rattle.std.specs.List.{AllZip}
@@ -27,7 +27,7 @@ module _ {X : Type 0} where
   complement s = intervals s.turns (not s.below)
 
   module _ (cmp : X → X → Ordering) where
-    -- the answer below all turns, turned once by each turn at or below x
+    -- the answer below all turns, negated once for each turn at or below x
     abbrev pub turned : Bool → List X → X → Bool
     turned below [] x = below
     turned below (t ∷ ts) x = exactly_one (is_le (cmp t x)) (turned below ts x)
@@ -36,7 +36,7 @@ module _ {X : Type 0} where
     abbrev pub holds : Intervals X → X → Bool
     holds s x = turned s.below s.turns x
 
-    -- the two are equal: their turns place by place, and their answers below these
+    -- the two are equal: their turns element by element, and their answers below these
     pub record IsEqualIntervals (s t : Intervals X) : Type 0 where
       pub turns : AllZip (λ x y. cmp x y ≡ Equal) s.turns t.turns
       pub below : s.below ≡ t.below

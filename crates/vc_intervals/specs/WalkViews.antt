@@ -12,7 +12,7 @@ module _ {X A : Type 0} {n : ℕ} where
   abbrev pub right_turns : Walk X n A → List X
   right_turns s = drop s.right s.b.now
 
-  -- whether the place that it has come to is in the left set
+  -- whether the place that it has reached is in the left set
   abbrev pub is_in_a : Walk X n A → Bool
   is_in_a s = s.in_a
 
@@ -24,10 +24,10 @@ module _ {X A : Type 0} {n : ℕ} where
   abbrev pub built_turns : Walk X n A → List X
   built_turns s = s.built.now.items
 
-  -- which list they stand in
+  -- which list they are in
   abbrev pub list_name : Walk X n A → GName
   list_name s = s.built.ghost_name
 
-  -- its places are within the turns
+  -- its positions are within the turns
   abbrev pub HasPlaces : Walk X n A → Type 0
   HasPlaces s = (s.left ≤ length s.a.now) × (s.right ≤ length s.b.now)

@@ -1,4 +1,4 @@
-//! The walk over the turns of two sets that keeps the turns of a third one.
+//! The walk over the turns of two sets that builds the turns of the result.
 ghost use Rattle.std.specs.Prelude.{◌≡◌, ◌+◌, ◌<◌, ◌≤◌, true, false, length, take, drop, IfOk, OnOk, IsTrue};
 ghost use Rattle.smallvec.specs.Iter.{SmallVecFitsInMemory};
 ghost use Rattle.smallvec.specs.SmallVec.{HasRoomFor};
@@ -22,10 +22,10 @@ use vc_merge::choosing::{behind, lesser, part, passed};
 use vc_merge::merge::{Count, MergeOperation, MergeState, merge};
 use vc_merge::states::append_clones;
 
-/// The turns of two sets with the places of the next ones, whether the place that the walk has come
-/// to is in each of the sets, and the turns that were kept.
+/// The turns of two sets with the positions of the next ones, whether the place that the walk has
+/// reached is in each of the sets, and the turns that were kept.
 ///
-/// The slices stay whole: a place moves by a number, without a branch.
+/// The slices are kept whole: a position moves by a number, without a branch.
 #[derive(Drop)]
 struct Walk<'a, T, const N: usize, A: Allocator> {
     a: &'a [T],
@@ -68,7 +68,7 @@ impl<'a, T, const N: usize, A: Allocator> MergeState for Walk<'a, T, N, A> {
 impl<'a, T, const N: usize, A: Allocator> Walk<'a, T, N, A> {
     ghost use Rattle.vc_intervals.specs.WalkViews.{HasPlaces, left_turns, right_turns};
 
-    /// How many turns are left.
+    /// The number of turns that are left.
     #[inline(always)]
     fn most(&self) -> usize
         requires { HasPlaces self.now }
@@ -96,7 +96,7 @@ pub fn says<const LEFT: bool, const RIGHT: bool, const BOTH: bool>(in_a: bool, i
     }
 }
 
-/// Whether a count of turns turns an answer.
+/// Whether an answer changes over this number of turns.
 #[inline(always)]
 pub fn is_odd(n: usize) -> bool
     ensures { result ≡ odd n }
@@ -104,7 +104,8 @@ pub fn is_odd(n: usize) -> bool
     n % 2 == 1
 }
 
-/// Makes room for `n` more turns: where there is none, it grows once, for as many as may still come.
+/// Makes room for `n` more turns: where there is none, it allocates once, for as many as may still
+/// come.
 #[inline(always)]
 fn make_room<T: MadeWith<A> + Drop, const N: usize, A: Allocator + Copy>(
     built: &mut SmallVec<T, N, A>,
@@ -135,9 +136,9 @@ fn append<T: Clone + MadeWith<A>, const N: usize, A: Allocator + Copy>(
     append_clones(built, turns)
 }
 
-/// Passes the first turns of both sets, which compare so: the lesser one, or both. It keeps a clone
-/// of the lesser one, or of the left one of two equal ones, if the answer turns there. Only that is
-/// a branch.
+/// Passes the first turns of both sets, which compare as `heads`: the lesser one, or both. It keeps
+/// a clone of the lesser one, or of the left one of two equal ones, if the answer changes there.
+/// That is the only branch.
 #[inline(always)]
 fn pass_heads<
     'a,
@@ -240,7 +241,7 @@ impl<
 /// The turns of what is in the left set alone if `LEFT`, in the right one alone if `RIGHT`, and in
 /// both if `BOTH`, as clones. `in_a` and `in_b` say what lies below all turns.
 ///
-/// It asks for memory once at most, and not where the result fits in place.
+/// It allocates at most once, and not where the result fits inline.
 pub fn combine<
     const LEFT: bool,
     const RIGHT: bool,

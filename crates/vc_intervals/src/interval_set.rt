@@ -32,12 +32,13 @@ use vc_merge::search::find;
 use vc_merge::states::clones_of;
 use vc_sets::cloning::ClonesEqual;
 
-/// A set of half-open intervals of an ordered type, kept as the places at which membership turns.
+/// A set of half-open intervals of an ordered type, kept as the places at which membership changes,
+/// its turns.
 ///
-/// Contracts see it as the list of these turns, in ascending order, and whether it has what lies
-/// below all of them: a value is in the set where that answer, turned once by each turn at or below
-/// the value, is true. The interval from 3 on that ends before 7 has the turns 3 and 7. Up to `N`
-/// turns stand in place, without an allocation.
+/// Contracts see it as the list of these turns, in ascending order, and whether the set has what
+/// lies below all of them. A value is in the set where that answer, negated once for each turn at
+/// or below the value, is true. The interval from 3 on that ends before 7 has the turns 3 and 7. Up
+/// to `N` turns are held inline, without an allocation.
 ///
 /// ```
 /// let open: IntervalSet<u16, 4> = (&IntervalSet::between(alloc, 9, 17)? - &lunch)?;
@@ -63,7 +64,7 @@ impl<T: Ord, const N: usize, A: Allocator> Model for IntervalSet<T, N, A> {
 }
 
 impl<T: Ord, const N: usize, A: Allocator> IntervalSet<T, N, A> {
-    /// The places at which membership turns, in ascending order. Takes no memory.
+    /// The places at which membership changes, in ascending order. Takes no memory.
     pub fn turns(&self) -> &[T]
         ensures turns { result.now ≡ self.now.turns }
         ensures ascends { Ascends T.cmp self.now.turns }
@@ -89,14 +90,14 @@ impl<T: Ord, const N: usize, A: Allocator> IntervalSet<T, N, A> {
         self.has_behind(self.turns().len())
     }
 
-    /// Whether the set has no turn, and nothing below. Takes no memory.
+    /// Whether the set has no turn, and nothing below all turns. Takes no memory.
     pub fn is_empty(&self) -> bool
         ensures { IsTrue result ↔ (self.now ≡ intervals [] false) }
     {
         !self.below && self.turns.is_empty()
     }
 
-    /// Whether the set has no turn, and all below. Takes no memory.
+    /// Whether the set has no turn, and all values. Takes no memory.
     pub fn is_all(&self) -> bool
         ensures { IsTrue result ↔ (self.now ≡ intervals [] true) }
     {
@@ -113,7 +114,7 @@ impl<T: Ord, const N: usize, A: Allocator> IntervalSet<T, N, A> {
         }
     }
 
-    /// Whether the set has what lies behind so many of its turns, and before the next one.
+    /// Whether the set has what lies after the first `count` of its turns, and before the next one.
     fn has_behind(&self, count: usize) -> bool
         ensures { result ≡ exactly_one (odd count) self.now.below }
     {
@@ -130,7 +131,7 @@ impl<T: Ord, const N: usize, A: Allocator> IntervalSet<T, N, A> {
 }
 
 impl<T: Ord + MadeWith<A> + Drop, const N: usize, A: Allocator + Copy> IntervalSet<T, N, A> {
-    /// The set of all values if `value`, and else that of none. Takes no memory.
+    /// The set of all values if `value`, and otherwise the empty set. Takes no memory.
     pub fn constant(alloc: A, value: bool) -> Self
         ensures { result ≡ intervals [] value }
     {
@@ -140,7 +141,7 @@ impl<T: Ord + MadeWith<A> + Drop, const N: usize, A: Allocator + Copy> IntervalS
         }
     }
 
-    /// The set of no value. Takes no memory.
+    /// The empty set. Takes no memory.
     pub fn empty(alloc: A) -> Self
         ensures { result ≡ intervals [] false }
     {
@@ -154,8 +155,8 @@ impl<T: Ord + MadeWith<A> + Drop, const N: usize, A: Allocator + Copy> IntervalS
         Self::constant(alloc, true)
     }
 
-    /// Gives back memory that the turns do not need. A refusal leaves the list where it is, so the
-    /// call succeeds always.
+    /// Gives back memory that the turns do not need. Where the allocator refuses, the list stays
+    /// where it is, so the call always succeeds.
     pub fn shrink_to_fit(&mut self) -> Result<(), AllocError>
         ensures same { self.new ≡ self.old }
         ensures succeeds { IsOk result }
@@ -166,8 +167,8 @@ impl<T: Ord + MadeWith<A> + Drop, const N: usize, A: Allocator + Copy> IntervalS
 
     /// The values from `least` on that are less than `end`: none, where `end` is not greater.
     ///
-    /// The two values are moved. Compares them once, and takes memory only where `N` is less than
-    /// 2; refused, it drops them.
+    /// The two values are moved. They are compared once, and takes memory only where `N` is less
+    /// than 2; on refusal it drops them.
     pub fn between(alloc: A, least: T, end: T) -> Result<Self, AllocError>
         ensures turns { IfOk result (λ s. s ≡ cond (is_lt (T.cmp least end))
             (intervals (least ∷ end ∷ []) false) (intervals [] false)) }
@@ -187,7 +188,7 @@ impl<T: Ord + MadeWith<A> + Drop, const N: usize, A: Allocator + Copy> IntervalS
         })
     }
 
-    /// The values from `least` on, which is moved. Takes memory only where `N` is 0; refused, it
+    /// The values from `least` on, which is moved. Takes memory only where `N` is 0; on refusal it
     /// drops the value.
     pub fn at_least(alloc: A, least: T) -> Result<Self, AllocError>
         ensures turns { IfOk result (λ s. s ≡ intervals (least ∷ []) false) }
@@ -203,8 +204,8 @@ impl<T: Ord + MadeWith<A> + Drop, const N: usize, A: Allocator + Copy> IntervalS
         })
     }
 
-    /// The values that are less than `end`, which is moved. Takes memory only where `N` is 0;
-    /// refused, it drops the value.
+    /// The values that are less than `end`, which is moved. Takes memory only where `N` is 0; on
+    /// refusal it drops the value.
     pub fn below(alloc: A, end: T) -> Result<Self, AllocError>
         ensures turns { IfOk result (λ s. s ≡ intervals (end ∷ []) true) }
         ensures holds { IfOk result (λ s. (x : T)
@@ -215,11 +216,11 @@ impl<T: Ord + MadeWith<A> + Drop, const N: usize, A: Allocator + Copy> IntervalS
     }
 
     /// The values between two bounds, as [`iter`](IntervalSet::iter) lists them: from the start on,
-    /// and less than the end. None where the start is excluded or the end included, since no order
-    /// tells which value comes next.
+    /// and less than the end. `None` where the start is excluded or the end included, since an
+    /// order does not tell which value comes next.
     ///
-    /// Their values are moved, or dropped. Compares two of them once, and takes memory only where
-    /// there are more of them than `N`.
+    /// Their values are moved, or dropped. Two are compared once. Takes memory only where there are
+    /// more than `N` of them.
     ///
     /// ```
     /// let open = IntervalSet::<u16, 4>::from_bounds(alloc, Bound::Included(9), Bound::Unbounded)?;
@@ -252,8 +253,8 @@ impl<T: Ord + MadeWith<A> + Drop, const N: usize, A: Allocator + Copy> IntervalS
 impl<T: Ord + Clone + MadeWith<A>, const N: usize, A: Allocator + Copy> IntervalSet<T, N, A> {
     /// A copy, turn by turn, with the allocator of this set.
     ///
-    /// Takes memory where there are more than `N` turns, and as their clones do; refused, it drops
-    /// what was copied.
+    /// Takes memory where there are more than `N` turns, and as their clones do; on refusal it
+    /// drops what was copied.
     pub fn clone(&self) -> Result<Self, AllocError>
         requires clones { ClonesAreEqual T.cmp T.is_clone }
         ensures { IfOk result (IsClonedIntervals T.is_clone self.now) }
@@ -275,7 +276,7 @@ impl<T: ClonesEqual + MadeWith<A>, const N: usize, A: Allocator + Copy> Clone
     }
 }
 
-/// The set of no value. Takes no memory.
+/// The empty set. Takes no memory.
 impl<T: Ord + MadeWith<A> + Drop, const N: usize, A: Allocator + Copy> MadeWith<A>
     for IntervalSet<T, N, A> {
     ghost is_made_with = { λ s. s ≡ intervals [] false };
@@ -303,7 +304,7 @@ impl<T: Ord, const N: usize, A: Allocator> Not for IntervalSet<T, N, A> {
 
 /// `!&a` is all that is not in `a`: clones of the turns, and the other answer below them.
 ///
-/// It takes memory as [`clone`](IntervalSet::clone) does; refused, it drops what was copied.
+/// It takes memory as [`clone`](IntervalSet::clone) does; on refusal it drops what was copied.
 impl<'a, T: Ord + Clone + MadeWith<A>, const N: usize, A: Allocator + Copy> Not
     for &'a IntervalSet<T, N, A> {
     type Output = Result<IntervalSet<T, N, A>, AllocError>;

@@ -15,7 +15,7 @@ pub fn listed_intervals_hold<T: Ord>()
     ensures { ListedIntervalsHold T.cmp }
 {}
 
-/// What an operation makes of two interval sets is one set, up to equality of the turns.
+/// The result of an operation on two interval sets is unique, up to equality of the turns.
 pub fn intervals_of_are_one<T: Ord + Clone>()
     ensures { IntervalsOfAreOne T.cmp T.is_clone }
 {}

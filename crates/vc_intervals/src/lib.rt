@@ -1,4 +1,4 @@
-//! Sets of half-open intervals over an ordered type, as the places at which membership turns.
+//! Sets of half-open intervals over an ordered type, as the places at which membership changes.
 #![tactic(auto)]
 
 mod combine;

@@ -1,4 +1,4 @@
-//! The walk over the turns of two sets that seeks a place, and stops at the first one.
+//! The walk over the turns of two sets that searches for a place, and stops at the first one found.
 ghost use Rattle.std.specs.Prelude.{◌≡◌, ◌+◌, ◌≤◌, true, false, length, MatchBool, ◌⊎◌};
 ghost use Rattle.vc_merge.specs.Ascending.{Ascends};
 ghost use Rattle.vc_merge.specs.Count.{bound};
@@ -11,8 +11,8 @@ use std::alloc::AllocError;
 use std::cmp::Ordering;
 use vc_merge::merge::{Count, MergeOperation, MergeState, merge};
 
-/// What is left of the turns of two sets, whether the place that the walk has come to is in each of
-/// them, and whether the place that is sought was found.
+/// What is left of the turns of two sets, whether the place that the walk has reached is in each of
+/// them, and whether the sought place was found.
 #[derive(Drop)]
 struct Search<'a, T> {
     a: &'a [T],
@@ -68,8 +68,8 @@ impl<'a, const LEFT: bool, const RIGHT: bool, const BOTH: bool, T: Ord, C: Count
         a.cmp(b)
     }
 
-    // Behind the first turn of a run the answers are by turns what they were before it, where
-    // nothing was found, and behind that turn.
+    // After the first turn of a run, the answers alternate between what they were before it, where
+    // nothing was found, and after it.
     fn from_a(&self, state: &mut Search<'a, T>, n: usize) -> Result<bool, AllocError> {
         state.a = &state.a[n..];
         state.found = says::<LEFT, RIGHT, BOTH>(!state.in_a, state.in_b);
@@ -95,7 +95,7 @@ impl<'a, const LEFT: bool, const RIGHT: bool, const BOTH: bool, T: Ord, C: Count
 }
 
 /// Whether some place is in the left set alone if `LEFT`, in the right one alone if `RIGHT`, in
-/// both if `BOTH`: below all turns, which `in_a` and `in_b` tell of, or at one of them.
+/// both if `BOTH`: below all turns, as `in_a` and `in_b` say, or at one of them.
 pub fn has_witness<const LEFT: bool, const RIGHT: bool, const BOTH: bool, T: Ord, C: Count>(
     a: &[T],
     in_a: bool,

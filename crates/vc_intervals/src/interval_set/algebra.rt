@@ -1,4 +1,4 @@
-//! The operations of interval sets, which build a fresh set, and the tests of two sets.
+//! The operations of interval sets, which build a new set, and the tests of two sets.
 ghost use Rattle.std.specs.Prelude.{◌||◌, ◌&&◌, ◌↔◌, IfOk, IsTrue};
 ghost use Rattle.vc_merge.specs.Clones.{ClonesAreEqual};
 ghost use Rattle.vc_sets.specs.Select.{keeps};
@@ -48,9 +48,9 @@ impl<T: Ord + Clone + MadeWith<A>, const N: usize, A: Allocator + Copy> Interval
     /// What is in either set. Its turns are clones, with the allocator of this set; of two equal
     /// turns that of this set is taken.
     ///
-    /// Compares at most as often as both sets have turns. It asks for memory once at most, for as
-    /// many turns as may still come, and not where the result has `N` or fewer. Refused at that or
-    /// at a clone, it drops what it built.
+    /// Makes at most as many comparisons as both sets have turns. It allocates at most once, for as
+    /// many turns as may still come, and not where the result has `N` or fewer. On refusal of
+    /// memory or of a clone it drops what it built.
     pub fn union<const M: usize>(&self, that: &IntervalSet<T, M, A>) -> Result<Self, AllocError>
         requires clones { ClonesAreEqual T.cmp T.is_clone }
         ensures { IfOk result (IsIntervalsOf T.cmp T.is_clone ◌||◌ self.now that.now) }
@@ -58,7 +58,7 @@ impl<T: Ord + Clone + MadeWith<A>, const N: usize, A: Allocator + Copy> Interval
         combine_sets::<true, true, true, _, _, _, _>(self, that)
     }
 
-    /// What is in both sets. Its turns, what it compares and what it asks for are as those of
+    /// What is in both sets. Its turns, comparisons and memory are as those of
     /// [`union`](IntervalSet::union).
     pub fn intersection<const M: usize>(
         &self,
@@ -70,8 +70,8 @@ impl<T: Ord + Clone + MadeWith<A>, const N: usize, A: Allocator + Copy> Interval
         combine_sets::<false, false, true, _, _, _, _>(self, that)
     }
 
-    /// What is in exactly one of the sets. Its turns, what it compares and what it asks for are as
-    /// those of [`union`](IntervalSet::union).
+    /// What is in exactly one of the sets. Its turns, comparisons and memory are as those of
+    /// [`union`](IntervalSet::union).
     pub fn symmetric_difference<const M: usize>(
         &self,
         that: &IntervalSet<T, M, A>,
@@ -82,8 +82,8 @@ impl<T: Ord + Clone + MadeWith<A>, const N: usize, A: Allocator + Copy> Interval
         combine_sets::<true, true, false, _, _, _, _>(self, that)
     }
 
-    /// What is in this set and not in the other. Its turns, what it compares and what it asks for
-    /// are as those of [`union`](IntervalSet::union).
+    /// What is in this set and not in the other. Its turns, comparisons and memory are as those of
+    /// [`union`](IntervalSet::union).
     pub fn difference<const M: usize>(
         &self,
         that: &IntervalSet<T, M, A>,

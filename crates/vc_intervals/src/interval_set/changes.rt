@@ -1,4 +1,5 @@
-//! Changes of an interval set in its place: each makes the new set whole before the old one goes.
+//! Changes of an interval set in place: each builds the whole new set before the old one is
+//! dropped.
 ghost use Rattle.std.specs.Prelude.{◌≡◌, ◌||◌, ◌&&◌, not, OnErr, OnOk};
 ghost use Rattle.vc_merge.specs.Clones.{ClonesAreEqual};
 ghost use Rattle.vc_sets.specs.SetOf.{and_not, exactly_one};
@@ -12,11 +13,11 @@ use std::default::MadeWith;
 use std::ops::Range;
 
 impl<T: Ord + Clone + MadeWith<A>, const N: usize, A: Allocator + Copy> IntervalSet<T, N, A> {
-    /// Adds what lies in the range: nothing, where it is empty. Its ends are moved.
+    /// Adds the values in the range: none, where it is empty. Its ends are moved.
     ///
-    /// As a [`union`](IntervalSet::union) with the range, it compares at most twice more than the
-    /// set has turns, and asks for memory for a new list where that has more than `N` turns, and
-    /// for the range where `N` is less than 2. Refused, the set stays as it was.
+    /// It is a [`union`](IntervalSet::union) with the range, and makes at most two more comparisons
+    /// than the set has turns. It takes memory for a new list where that has more than `N` turns,
+    /// and for the range where `N` is less than 2. On refusal the set is unchanged.
     ///
     /// ```
     /// let mut open = IntervalSet::<u16, 4>::between(alloc, 9, 12)?;
@@ -36,8 +37,8 @@ impl<T: Ord + Clone + MadeWith<A>, const N: usize, A: Allocator + Copy> Interval
         self.union_with(&added)
     }
 
-    /// Takes out what lies in the range. Its ends are moved. Compares, and asks for memory, as
-    /// [`insert`](IntervalSet::insert) does; refused, the set stays as it was.
+    /// Removes the values in the range. Its ends are moved. Compares and takes memory as
+    /// [`insert`](IntervalSet::insert) does; on refusal the set is unchanged.
     pub fn remove(&mut self, range: Range<T>) -> Result<(), AllocError>
         requires clones { ClonesAreEqual T.cmp T.is_clone }
         ensures holds { OnOk result ((x : T)
@@ -50,8 +51,8 @@ impl<T: Ord + Clone + MadeWith<A>, const N: usize, A: Allocator + Copy> Interval
         self.difference_with(&gone)
     }
 
-    /// Adds what is in the other set, as by [`union`](IntervalSet::union), whose result takes the
-    /// place of this set. Refused, it stays as it was.
+    /// Adds what is in the other set, as by [`union`](IntervalSet::union), whose result replaces
+    /// this set. On refusal this set is unchanged.
     pub fn union_with<const M: usize>(
         &mut self,
         that: &IntervalSet<T, M, A>,
@@ -66,7 +67,7 @@ impl<T: Ord + Clone + MadeWith<A>, const N: usize, A: Allocator + Copy> Interval
     }
 
     /// Keeps what is in the other set too, as by [`intersection`](IntervalSet::intersection), whose
-    /// result takes the place of this set. Refused, it stays as it was.
+    /// result replaces this set. On refusal this set is unchanged.
     pub fn intersection_with<const M: usize>(
         &mut self,
         that: &IntervalSet<T, M, A>,
@@ -81,8 +82,8 @@ impl<T: Ord + Clone + MadeWith<A>, const N: usize, A: Allocator + Copy> Interval
     }
 
     /// Keeps what is in exactly one of the sets, as by
-    /// [`symmetric_difference`](IntervalSet::symmetric_difference), whose result takes the place of
-    /// this set. Refused, it stays as it was.
+    /// [`symmetric_difference`](IntervalSet::symmetric_difference), whose result replaces this set.
+    /// On refusal this set is unchanged.
     pub fn symmetric_difference_with<const M: usize>(
         &mut self,
         that: &IntervalSet<T, M, A>,
@@ -96,8 +97,8 @@ impl<T: Ord + Clone + MadeWith<A>, const N: usize, A: Allocator + Copy> Interval
         Ok(())
     }
 
-    /// Takes out what is in the other set, as by [`difference`](IntervalSet::difference), whose
-    /// result takes the place of this set. Refused, it stays as it was.
+    /// Removes what is in the other set, as by [`difference`](IntervalSet::difference), whose
+    /// result replaces this set. On refusal this set is unchanged.
     pub fn difference_with<const M: usize>(
         &mut self,
         that: &IntervalSet<T, M, A>,

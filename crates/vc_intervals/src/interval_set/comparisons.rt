@@ -11,7 +11,7 @@ use std::alloc::Allocator;
 use std::fmt;
 use std::hash::{Hash, Hasher};
 
-/// Two sets are equal where they have equal turns, and one answer below them.
+/// Two sets are equal where they have equal turns, and the same answer below them.
 impl<T: Ord, const N: usize, A: Allocator> PartialEq for IntervalSet<T, N, A> {
     ghost eq = { λ s t. pointwise T.eq s.turns t.turns && beq s.below t.below };
 
@@ -42,7 +42,7 @@ impl<T: Ord + Hash, const N: usize, A: Allocator> Hash for IntervalSet<T, N, A> 
     }
 }
 
-/// As the set of the turns, behind a `!` where what lies below them is in: `{3, 7}`, `!{3}`.
+/// As the set of the turns, after a `!` where what lies below them is in the set: `{3, 7}`, `!{3}`.
 impl<T: Ord + fmt::Debug, const N: usize, A: Allocator> fmt::Debug for IntervalSet<T, N, A> {
     fn fmt<W: fmt::Write>(&self, f: &mut fmt::Formatter<W>) -> fmt::Result {
         if self.below {

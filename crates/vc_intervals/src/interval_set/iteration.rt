@@ -14,8 +14,8 @@ use std::marker::Model;
 use std::mem;
 use std::ops::Bound;
 
-/// The intervals of a set in ascending order, each by its two ends, from the front and from behind.
-/// Contracts see the list of those that are left.
+/// The intervals of a set in ascending order, each by its two ends, from the front and from the
+/// back. Contracts see the list of the intervals that are left.
 ///
 /// A step takes no memory.
 #[derive(Drop)]

@@ -1,4 +1,4 @@
-//! What a set has at a value and around it, by one search each.
+//! What a set has at a value and around it, each by one search.
 ghost use Rattle.std.specs.Prelude.{◌≡◌, ◌↔◌, ◌++◌, true, false, not, IfSome, IsTrue, length};
 ghost use Rattle.std.specs.BTreeMap.Range.{range_contains};
 ghost use Rattle.std.specs.List.{AllByRecursion, find};
@@ -30,8 +30,8 @@ impl<T: Ord, const N: usize, A: Allocator> IntervalSet<T, N, A> {
     }
 
     /// The interval that has the value, as [`iter`](IntervalSet::iter) lists it, or none where the
-    /// set lacks the value. Compares as often as [`contains`](IntervalSet::contains), and takes no
-    /// memory.
+    /// value is not in the set. Compares as often as [`contains`](IntervalSet::contains), and takes
+    /// no memory.
     ///
     /// ```
     /// let open = IntervalSet::<u16, 4>::between(alloc, 9, 17)?;
@@ -58,9 +58,9 @@ impl<T: Ord, const N: usize, A: Allocator> IntervalSet<T, N, A> {
         Some((start, end))
     }
 
-    /// The least turn above the value, or none where there is none: until then the set has all that
-    /// is from the value on, or lacks it. Compares as often as [`contains`](IntervalSet::contains),
-    /// and takes no memory.
+    /// The least turn above the value, or none where there is none: up to it, the set has all
+    /// values from `value` on, or none of them. Compares as often as
+    /// [`contains`](IntervalSet::contains), and takes no memory.
     ///
     /// ```
     /// let open = IntervalSet::<u16, 4>::between(alloc, 9, 17)?;
@@ -81,8 +81,8 @@ impl<T: Ord, const N: usize, A: Allocator> IntervalSet<T, N, A> {
         ahead.first()
     }
 
-    /// Whether some value of the range is in the set. Searches the turns once, compares two more
-    /// times at most, and takes no memory.
+    /// Whether some value of the range is in the set. Searches the turns once, makes at most two
+    /// more comparisons, and takes no memory.
     ///
     /// ```
     /// let open = IntervalSet::<u16, 4>::between(alloc, 9, 17)?;

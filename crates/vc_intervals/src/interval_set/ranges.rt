@@ -1,4 +1,4 @@
-//! Sets of ranges that stand in any order.
+//! Sets from ranges in any order.
 ghost use Rattle.std.specs.Prelude.{◌≡◌, ◌+◌, ◌≤◌, ◌-◌, ◌++◌, ◌∷◌, [], ◌||◌, true, false, length, slice_get, Some, IfOk, IsOk, IfSome, IfNone};
 ghost use Rattle.std.specs.List.Sorted.{IsPermutation, IsSortedByKey};
 ghost use Rattle.std.specs.Ordering.{is_lt};
@@ -12,7 +12,7 @@ use std::alloc::{AllocError, Allocator};
 use std::default::MadeWith;
 use std::ops::Range;
 
-/// Sorts ranges by their starts, in their place.
+/// Sorts ranges by their starts, in place.
 fn sort_by_start<T: Ord>(ranges: &mut Vec<Range<T>>)
     ensures permutation { IsPermutation ranges.old.items ranges.new.items }
     ensures len { length ranges.new.items ≡ length ranges.old.items }
@@ -21,7 +21,7 @@ fn sort_by_start<T: Ord>(ranges: &mut Vec<Range<T>>)
     ranges.sort_unstable_by(|a, b| a.start.cmp(&b.start));
 }
 
-/// Takes the last turn out, unless it is less than `start`.
+/// Removes the last turn, unless it is less than `start`.
 fn pop_reached<T: Ord + MadeWith<A> + Drop, const N: usize, A: Allocator + Copy>(
     turns: &mut SmallVec<T, N, A>,
     start: &T,
@@ -40,8 +40,8 @@ fn pop_reached<T: Ord + MadeWith<A> + Drop, const N: usize, A: Allocator + Copy>
     if is_reached { turns.pop() } else { None }
 }
 
-/// Adds a range that starts no earlier than those before it: it lengthens the last interval where
-/// it meets that one, and else is a new one.
+/// Adds a range that starts no earlier than those before it: it extends the last interval where it
+/// meets that one, and otherwise is a new one.
 fn add_last<T: Ord + MadeWith<A> + Drop, const N: usize, A: Allocator + Copy>(
     turns: &mut SmallVec<T, N, A>,
     range: Range<T>,
@@ -68,12 +68,11 @@ fn add_last<T: Ord + MadeWith<A> + Drop, const N: usize, A: Allocator + Copy>(
 }
 
 impl<T: Ord + MadeWith<A> + Drop, const N: usize, A: Allocator + Copy> IntervalSet<T, N, A> {
-    /// The values that lie in one of the ranges, which may stand in any order, overlap, or be
-    /// empty. Their ends are moved.
+    /// The values that lie in one of the ranges, which may be in any order, overlap, or be empty.
+    /// Their ends are moved.
     ///
-    /// Sorts the ranges by their starts in their place, and compares `O(n * log(n))` times. Takes
-    /// memory once, for two turns a range, where that is more than `N`; refused, it drops the
-    /// ranges.
+    /// Sorts the ranges by their starts in place, with `O(n * log(n))` comparisons. Allocates once,
+    /// for two turns of each range, where that is more than `N`; on refusal it drops the ranges.
     ///
     /// ```
     /// let hours = vec![in alloc; 13..17, 9..12, 11..12]?;
