@@ -1,4 +1,4 @@
--- What an `InPlace` ends as, once a `&mut` into its rest has ended.
+-- What an `InPlace` is, once a `&mut` into its rest has ended.
 use Rattle.std.specs.Prelude.{List}
 use Rattle.std.specs.Borrow.{Lends, Fml, RattleType, MutBor, Array}
 use Rattle.std.specs.declared.alloc.Allocator.{Ghosts}

@@ -1,11 +1,11 @@
--- What the places end as, once a `&mut` into them has ended. No public clause cites these words.
+-- What the places are, once a `&mut` into them has ended. No public clause cites these words.
 use Rattle.std.specs.Prelude.{List}
 use Rattle.std.specs.Borrow.{Fml, RattleType, MutBor, Array, Lends}
 use Rattle.vc_builder.specs.Builder.{Builder, with_rest}
 use Rattle.vc_builder.specs.declared.inplace.places.Places.{Places}
 use Rattle.vc_builder.specs.contracts.inplace.places.Places.{the_row}
 
--- these parts in the place of p's
+-- p with these parts instead of its own
 abbrev pub with_parts : {X : Type 0} → Places X → Builder X → Places X
 with_parts p s = record { mark = p.mark; at = p.at; parts = s; tail = p.tail }
 

@@ -1,4 +1,4 @@
-//! `InPlace`: a list that is built in front of the list that is left.
+//! `InPlace`: a list that is built before the list that is left.
 ghost use Rattle.std.specs.Prelude.{◌≡◌, ◌+◌, ◌-◌, ◌^◌, ◌<◌, ◌≤◌, [], ◌∷◌, ◌++◌, length, take, drop, IfOk, IfNone, IfSome, OnErr, OnOk, OnSome};
 ghost use Rattle.std.specs.Borrow.{sem};
 ghost use Rattle.vc_builder.specs.Builder.{builder};
@@ -10,13 +10,13 @@ use std::marker::Model;
 mod block;
 mod places;
 
-/// A list that is built out of another one: its elements are taken over from the front, dropped or
-/// handed out, and new ones are put between.
+/// A list that is built out of another one: its elements are kept, dropped or taken out from the
+/// front, and new ones are inserted between.
 ///
-/// It is seen as two lists, `built` and `rest`, and a number `room`. What was built stands in
-/// front, what is left of the old list behind it, and between them there is room for `room` more
-/// elements. Each call moves, drops or adds exactly the elements that it names. All memory is taken
-/// when it is made; no later call takes any.
+/// Contracts see it as two lists, `built` and `rest`, and a number `room`. What was built comes
+/// first, then what is left of the old list; between them there is room for `room` more elements.
+/// Each call moves, drops or adds exactly the elements that it names. All memory is taken when it
+/// is made; no later call takes any.
 ///
 /// # Examples
 ///
@@ -59,7 +59,7 @@ impl<T, A: Allocator> InPlace<T, A> {
     /// # Errors
     ///
     /// Where memory is refused, or the elements with the extra places are more than any list can
-    /// hold; `list` is then as it was. All memory is asked for before the first element is moved.
+    /// hold; `list` is then unchanged. All memory is taken before the first element is moved.
     pub fn new(list: &mut Vec<T, A>, extra: usize) -> Result<Self, AllocError>
     where
         T: Drop,
@@ -101,16 +101,16 @@ impl<T, A: Allocator> InPlace<T, A> {
         self.block.places.slice_mut(base, start, count)
     }
 
-    /// How many more elements fit: the extra places, and one for each element that was handed out
-    /// or dropped, less one for each that was pushed.
+    /// How many more elements fit: the extra places, and one for each element that was removed or
+    /// dropped, less one for each that was pushed.
     pub fn room(&self) -> usize
         ensures { result ≡ self.now.room }
     {
         self.block.start - self.block.built
     }
 
-    /// Hands out the first element that is left, which makes room for one more. `None` where none
-    /// is left.
+    /// Removes and returns the first element that is left, which makes room for one more. `None`
+    /// where none is left.
     pub fn pop_front(&mut self) -> Option<T>
         ensures none { IfNone result ((self.old.rest ≡ []) × (self.new ≡ self.old)) }
         ensures some { IfSome result (λ x. self.old.rest ≡ x ∷ self.new.rest) }
@@ -146,7 +146,7 @@ impl<T, A: Allocator> InPlace<T, A> {
         self.block.drop_rest(n);
     }
 
-    /// Puts an element behind the built ones.
+    /// Appends an element to the built ones.
     pub fn push(&mut self, value: T)
         requires { 0 < self.old.room }
         ensures { self.new ≡ builder (self.old.built ++ value ∷ []) self.old.rest

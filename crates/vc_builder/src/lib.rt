@@ -1,4 +1,4 @@
-//! A list that is built in front of the list that is left, in one block of raw memory.
+//! A list that is built before the list that is left, in one block of raw memory.
 #![tactic(auto)]
 
 pub mod inplace;

@@ -8,8 +8,8 @@ use super::places::{Base, Deed, Places, allocate, deallocate};
 use std::alloc::{AllocError, Allocator};
 use std_alloc::room::may_hold;
 
-/// The built elements lie from place 0 on, and those that are left from the place `start` on to the
-/// end.
+/// The built elements are at the places from 0 on, and those that are left at the places from
+/// `start` to the end.
 pub struct Block<T, A: Allocator> {
     pub(super) base: Base<T>,
     pub(super) capacity: usize,
@@ -21,7 +21,7 @@ pub struct Block<T, A: Allocator> {
 }
 
 impl<T, A: Allocator> Block<T, A> {
-    /// A block that is all hole.
+    /// A block that is one hole.
     pub(super) fn with_capacity(alloc: A, capacity: usize) -> Result<Self, AllocError>
         ensures { IfOk result (λ b. IsBlock b × (b.places.parts ≡ builder [] [] capacity)
             × (b.places.tail ≡ 0)) }
@@ -41,7 +41,7 @@ impl<T, A: Allocator> Block<T, A> {
         })
     }
 
-    /// Gives an empty block back.
+    /// Deallocates an empty block.
     pub(super) fn destroy_empty(self)
         requires { IsBlock self × (self.places.parts ≡ builder [] [] self.places.parts.room) }
     {
@@ -57,7 +57,7 @@ impl<T, A: Allocator> Block<T, A> {
         deallocate(&alloc, base, capacity, places, deed);
     }
 
-    /// Puts a value in front of those that are left.
+    /// Puts a value before those that are left.
     #[tactic(auto, using(crate::proofs::PlacesLaid::laid_steps))]
     pub(super) fn put_rest(&mut self, value: T)
         requires { IsBlock self.old × (0 < self.old.places.parts.room) }
@@ -68,7 +68,7 @@ impl<T, A: Allocator> Block<T, A> {
         self.places.write(self.base, self.start, value);
     }
 
-    /// Puts a value behind the built ones.
+    /// Puts a value after the built ones.
     #[tactic(auto, using(crate::proofs::PlacesLaid::laid_steps))]
     pub(super) fn put_built(&mut self, value: T)
         requires { IsBlock self.old × (0 < self.old.places.parts.room) }
@@ -91,7 +91,7 @@ impl<T, A: Allocator> Block<T, A> {
         self.places.read(self.base, first)
     }
 
-    /// Counts the first `count` of those that are left as built. There is no hole, so none of them
+    /// Makes the first `count` of those that are left built ones. There is no hole, so no element
     /// moves.
     #[tactic(auto, using(crate::proofs::PlacesLaid::laid_steps))]
     pub(super) fn pass(&mut self, count: usize)
@@ -105,7 +105,7 @@ impl<T, A: Allocator> Block<T, A> {
         self.places.recount(count);
     }
 
-    /// Moves the first `count` of those that are left over the hole, behind the built ones.
+    /// Moves the first `count` of those that are left over the hole, after the built ones.
     #[tactic(auto, using(crate::proofs::PlacesLaid::loop_steps))]
     pub(super) fn move_down(&mut self, count: usize)
         requires { IsBlock self.old × (count ≤ length self.old.places.parts.rest) }
@@ -126,7 +126,7 @@ impl<T, A: Allocator> Block<T, A> {
             .slice(self.base, self.start, self.capacity - self.start)
     }
 
-    /// Moves the elements of `list` to those that are left.
+    /// Moves the elements of `list` to the end of the block, as those that are left.
     pub(super) fn fill(&mut self, list: &mut Vec<T, A>)
         requires { IsBlock self.old × (length list.old.items ≤ self.old.places.parts.room)
             × (self.old.places.parts ≡ builder [] [] self.old.places.parts.room) }
@@ -162,7 +162,7 @@ impl<T, A: Allocator> Block<T, A> {
             × (self.new.places.parts ≡ builder [] [] self.new.places.parts.room) }
         ensures items { list.new.items ≡ list.old.items ++ self.old.places.parts.built }
     {
-        // They count as those that are left, and are taken one by one.
+        // They become those that are left, and are taken one by one.
         let count = self.built;
         self.built = 0;
         self.start = 0;

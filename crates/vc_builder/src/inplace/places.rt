@@ -13,7 +13,7 @@ use std::marker::{Model, PhantomData};
 use std::mem::{align_of, size_of};
 use std::slice;
 
-/// Where a block begins. It owns nothing.
+/// The address at which a block begins. It owns nothing.
 pub struct Base<T> {
     ptr: *mut T,
 }
@@ -81,7 +81,7 @@ pub(crate) fn allocate<T, A: Allocator>(
     }
 }
 
-/// Gives a block back whose places are all empty.
+/// Deallocates a block whose places are all empty.
 pub(crate) fn deallocate<T, A: Allocator>(
     alloc: &A,
     base: Base<T>,
@@ -103,8 +103,8 @@ pub(crate) fn deallocate<T, A: Allocator>(
 impl<T> Places<T> {
     ghost use Rattle.vc_builder.specs.PlacesLend.{lends_left};
 
-    /// Counts the places as other parts, which lie in them alike. The number is for the caller to
-    /// say which.
+    /// Divides the places into other parts, which fill the same places. The number lets the caller
+    /// say which parts.
     pub(crate) fn recount(&mut self, _count: usize)
         ghost to: { Builder T × ℕ }
         requires { laid self.old.parts self.old.tail ≡ laid to.0 to.1 }
@@ -122,7 +122,7 @@ impl<T> Places<T> {
         unsafe { base.ptr.add(index).write(value) }
     }
 
-    /// Moves the first of those that are left out of its place.
+    /// Moves the first of those that are left out of the block.
     pub(crate) fn read(&mut self, base: Base<T>, index: usize) -> T
         requires { (base.ptr ≡ self.old.at) × (0 < length self.old.parts.rest)
             × (index ≡ length self.old.parts.built + self.old.parts.room) }
@@ -133,7 +133,7 @@ impl<T> Places<T> {
         unsafe { base.ptr.add(index).read() }
     }
 
-    /// Those that are left, which are `count` from the place `from` on.
+    /// Those that are left: `count` of them, from the place `from` on.
     pub(crate) fn slice(&self, base: Base<T>, from: usize, count: usize) -> &[T]
         requires { (base.ptr ≡ self.now.at) × (count ≡ length self.now.parts.rest)
             × (from ≡ length self.now.parts.built + self.now.parts.room) }
