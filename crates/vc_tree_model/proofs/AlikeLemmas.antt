@@ -1,4 +1,4 @@
--- Trees that are alike: the same nodes with the very same prefixes, and values that are kept.
+-- Trees that are alike: the same nodes with the same prefixes, and values that are kept.
 --     alike-trans, alike-push, alike-more        how trees are alike
 --     alike-solid, alike-children, alike-canonical, tree-alike_canonical        what two that are alike share
 --     alike-nodes, alike-lookup, tree-alike_lookup        how many nodes, and the map

@@ -1,6 +1,6 @@
 -- The cover of a key by the keys of a tree, from node to node along the key.
 --     cover-equal, cover-none        the cover by equal maps, and by a map that binds nothing
---     cover-node        of a node, what is below it covers what is left behind its prefix, or else its own value does
+--     cover-node        of a node, what is below it covers what is left behind its prefix, or otherwise its own value does
 --     cover-below        of children, the child covers that begins as the key does
 use Rattle.std.proofs.Common.{◌≡◌, [], ◌∷◌, List, Option, None, Some, refl, sym, ap, arith}
 use Rattle.std.specs.declared.cmp.Ordering.{Ordering}

@@ -1,6 +1,6 @@
 -- A node seen from a place in its prefix, a node that is joined with its only child, and the combine of two trees whose
 -- prefixes begin alike.
---     opened        a tree is read as the node that stands at a place in its prefix
+--     opened        a tree is read as the node that is at a place in its prefix
 --     opened-children        the children of that node are canonical
 --     joined-same, joined-child, joined-begins        the node of some parts, as a child
 --     value-asked, children-asked        what holds at each key of two trees, holds at the nodes there

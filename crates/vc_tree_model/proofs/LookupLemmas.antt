@@ -1,4 +1,4 @@
--- How a look-up goes on from node to node, where it ends, and which keys a canonical tree binds.
+-- How a look-up continues from node to node, where it ends, and which keys a canonical tree binds.
 --     lookup-equal, lookup-other, lookup-begins        one component of a key and of a prefix
 --     lookup_in-empty, lookup_in-above, lookup_in-skip        what a list of trees doesn't bind
 --     above-less, above-equal        components below those of a list of trees

@@ -1,5 +1,5 @@
--- A tree whose children are in order is mended into the canonical one of its map: a node that binds nothing is taken
--- out, and one without a value is joined to its only child.
+-- A tree whose children are in order is mended into the canonical one of its map: a node that binds nothing is removed, and one
+-- without a value is joined to its only child.
 --     mend, mend_root        one node over mended children, among siblings and as the whole tree
 --     mend-children, lookup_in-mend        what becomes of the nodes, the order and the map
 --     mend-root_nodes, mend-root_canonical, lookup-mend_root        the same of the whole tree

@@ -1,5 +1,5 @@
 -- A map has one walk: two lists of all its pairs, keys strictly ascending, are equal pair by pair.
---     one-walk        equal keys and the same values, place by place
+--     one-walk        equal keys and the same values, element by element
 --     walk-length        so every walk of a tree's map is as long as the tree has values
 use Rattle.std.proofs.Common.{◌≡◌, [], ◌∷◌, List, Option, length, refl, sym, ◌∙◌, true, inl, inr, arith}
 use Rattle.std.specs.declared.cmp.Ordering.{Ordering}

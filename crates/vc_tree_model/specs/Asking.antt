@@ -1,4 +1,5 @@
--- Calls of the closures that combines and tests of covers ask, as relations between values and answers.
+-- Calls of the closures of combines and of tests of covers, as relations between values and
+-- answers.
 use Rattle.std.specs.Prelude.{◌≡◌, Bool, Option, Some, None, ⊤}
 use Rattle.std.specs.Option.{option_copied}
 use denote.Ref.{Bor}
@@ -27,7 +28,7 @@ module _ {V W F R : Type 0} where
       pub shows : (left.now ≡ v) × (option_copied right ≡ w)
       pub answers : g.post f (left, (right, tt)) r
 
-    -- it may be called at what the left binds, with what the right one binds there
+    -- it may be called at what the left one binds, with what the right one binds there
     abbrev pub CanAskAt : Option V → Option W → Type 0
     CanAskAt (Some v) w = (p : Bor V) (q : Option (Bor W)) → p.now ≡ v → option_copied q ≡ w → g.pre f (p, (q, tt))
     CanAskAt None w = ⊤
@@ -38,7 +39,7 @@ module _ {W F : Type 0} (g : Shared F (Bor W × Unit {0}) Bool) (f : F) where
   CanJudge None = ⊤
   CanJudge (Some w) = (q : Bor W) → q.now ≡ w → g.pre f (q, tt)
 
-  -- a call at the value may answer so
+  -- a call at the value may give this answer
   pub record MayJudge (w : W) (covered : Bool) : Type 0 where
     pub shown : Bor W
     pub shows : shown.now ≡ w

@@ -1,4 +1,5 @@
--- A tree that is made to stand among children: none where it binds no key. No public clause cites these words.
+-- A tree that is made to be among children: none where it binds no key. No public clause cites
+-- these words.
 use Rattle.std.specs.Prelude.{◌≡◌, List, [], ◌∷◌, ◌++◌, Option, Some, None, ⊤}
 use Rattle.std.specs.Option.{option_map_or}
 use Rattle.std.specs.declared.cmp.Ordering.{Ordering}
@@ -20,7 +21,7 @@ module _ {K V : Type 0} where
   solid_child p None (grow q w more bare) = Some (node (p ++ q) w more)
   solid_child p None (grow q w more (grow r u most rest)) = Some (node p None (grow q w more (grow r u most rest)))
 
-  -- the value of the node that stands where `rest` is left of the prefix of t
+  -- the value of the node that is where `rest` is left of the prefix of t
   abbrev pub value_at : Tree K V → List K → Option V
   value_at t [] = t.value
   value_at t (x ∷ rest) = None

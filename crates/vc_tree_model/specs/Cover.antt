@@ -6,7 +6,8 @@ use Rattle.vc_tree_model.specs.Value.{IsKept}
 use Rattle.vc_tree_model.specs.Map.{or_else}
 
 module _ {K W : Type 0} where
-  -- the value of the longest key of q that is a prefix of a key: a key that begins as this one goes before the empty key
+  -- the value of the longest key of q that is a prefix of a key: a key that begins as this one is
+  -- preferred to the empty key
   abbrev pub cover : (List K → Option W) → List K → Option W
   cover q [] = q []
   cover q (x ∷ k) = or_else (cover (λ rest. q (x ∷ rest)) k) (q [])
@@ -18,18 +19,20 @@ module _ {K W : Type 0} where
     pub longest : (r : List K) (u : W) → Starts cmp k r → q r ≡ Some u → length r ≤ length p
 
 module _ {W : Type 0} (may : W → Bool → Type 0) where
-  -- a key without a cover is not covered, another one as its cover may be judged
+  -- a key without a cover is not covered; another key is covered as the test may answer for its
+  -- cover
   abbrev pub IsVerdict : Option W → Bool → Type 0
   IsVerdict None covered = covered ≡ false
   IsVerdict (Some w) covered = may w covered
 
--- a value is kept where it stays, and gone where not
+-- a value is kept where it stays, and removed where not
 abbrev pub StaysOrGoes : {V : Type 0} → (V → V → Type 0) → Bool → V → Option V → Type 0
 StaysOrGoes keeps true v z = IsKept keeps (Some v) z
 StaysOrGoes keeps false v z = z ≡ None
 
 module _ {V W : Type 0} (keeps : V → V → Type 0) (may : W → Bool → Type 0) where
-  -- at one key, of the cover c: no value comes, and a value stays or goes by a verdict on the cover
+  -- at one key with the cover c: no value is added, and a value is kept or removed by a verdict on
+  -- the cover
   abbrev pub IsSifted : (Bool → Bool) → Option W → Option V → Option V → Type 0
   IsSifted stays c None z = z ≡ None
   IsSifted stays c (Some v) z = (covered : Bool) × IsVerdict may c covered × StaysOrGoes keeps (stays covered) v z

@@ -23,7 +23,8 @@ pub record KeysAreOrdered {K : Type 0} (cmp : K → K → Ordering) : Type 0 whe
   pub less : (j k : List K) → (slice_cmp cmp j k ≡ Less) ↔ IsLess cmp j k
   pub components : (j k : List K) → IsTrue (same_key cmp j k) ↔ AllZip (λ x y. cmp x y ≡ Equal) j k
 
--- a key starts with a prefix exactly where something is left behind it, and what is left is the one rest up to equality
+-- a key starts with a prefix exactly where something is left after it, and what is left is unique
+-- up to equality
 pub record LeftBehindIsRest {K : Type 0} (cmp : K → K → Ordering) : Type 0 where
   pub starts : (k p : List K) → Starts cmp k p ↔ IsSome (behind cmp p k)
   pub joins : (k p rest : List K) → behind cmp p k ≡ Some rest → IsTrue (same_key cmp (p ++ rest) k)
@@ -36,7 +37,7 @@ module _ (K V : Type 0) (cmp : K → K → Ordering) where
   BindsIsLookup =
       (t : Tree K V) → IsOrdered cmp t → (k : List K) (a : V) → (Binds cmp t k a ↔ (lookup cmp t k ≡ Some a))
 
-  -- a tree has one value at equal keys
+  -- a tree has the same value at equal keys
   abbrev pub LookupIsMap : Type 0
   LookupIsMap = (t : Tree K V) (j k : List K) → IsTrue (same_key cmp j k) → lookup cmp t j ≡ lookup cmp t k
 

@@ -1,4 +1,5 @@
--- How trees are read at a key: the value that is bound there, or what else is said of it, as the value of its longest prefix.
+-- How trees are read at a key: the value that is bound there, or something else about the key, such
+-- as the value of its longest prefix.
 use Rattle.std.specs.Prelude.{◌≡◌, false, List, [], ◌∷◌, Option, Some, None, refl}
 use Rattle.std.specs.Ordering.{is_eq}
 use Rattle.std.specs.declared.cmp.Ordering.{Ordering}
@@ -8,7 +9,8 @@ use Rattle.vc_tree_model.specs.Key.{behind}
 use Rattle.vc_tree_model.specs.Tree.{Tree, Forest, bare, grow, node}
 use Rattle.vc_tree_model.specs.Map.{or_else, node_lookup, lookup, lookup_in, or_else-none}
 
--- what a node says of what is left of a key behind its prefix: nothing, what it says itself, or what is said below
+-- what a node says of what is left of a key after its prefix: nothing, what it says itself, or what
+-- is said below
 abbrev pub told : {K O : Type 0} → O → O → (List K → O) → Option (List K) → O
 told none here below None = none
 told none here below (Some []) = here
@@ -35,7 +37,7 @@ pub record Look {K : Type 0} (cmp : K → K → Ordering) (V O : Type 0) : Type 
   pub tree_is : (t : Tree K V) (k : List K)
       → of_tree t k ≡ told none (at t.value) (λ q. under t.value (of_forest t.children q)) (behind cmp t.prefix k)
 
--- the value of a key is told so
+-- the value of a key is read so
 pub told_values : {K V : Type 0} (v : Option V) (below : List K → Option V) (left : Option (List K))
     → node_lookup v below left ≡ told None v below left
 told_values v below None = refl

@@ -10,7 +10,7 @@ use Rattle.vc_tree_model.specs.Value.{Copies}
 use Rattle.vc_tree_model.specs.Under.{under, prefixed}
 use Rattle.vc_tree_model.specs.Cover.{cover}
 
--- a change of a map: by a key and its value, by a prefix, or by another tree
+-- a change of a map: with a key and its value, with a prefix, or with another tree
 pub data Command (K V : Type 0) : Type 0 where
   insert : List K → V → Command K V
   prepend : List K → Command K V
@@ -32,7 +32,8 @@ no_map k = None
 
 module _ {K V : Type 0} (matches : V → V → Type 0)
     (step : (List K → Option V) → Command K V → Bool → (List K → Option V) → Type 0) where
-  -- each command takes the map before it to the next by such a step, and the last one matches what is left
+  -- each command takes the map before it to the next by one step, and the last one matches what is
+  -- left
   abbrev pub RunBy : (List K → Option V) → List (Command K V) → List Bool → (List K → Option V) → Type 0
   RunBy m [] [] n = IsEqualMap matches m n
   RunBy m (c ∷ cs) (ok ∷ oks) n = (next : List K → Option V) × step m c ok next × RunBy next cs oks n

@@ -5,7 +5,7 @@ use Rattle.vc_tree_model.specs.Key.{same_key, behind}
 use Rattle.vc_tree_model.specs.Value.{IsKept}
 use Rattle.vc_tree_model.specs.Tree.{Tree, Forest, bare, grow}
 
--- the first value where there is one, else the second
+-- the first value where there is one, otherwise the second
 abbrev pub or_else : {V : Type 0} → Option V → Option V → Option V
 or_else None o = o
 or_else (Some v) o = Some v
@@ -15,7 +15,8 @@ pub or_else-none : {V : Type 0} (o : Option V) → or_else o None ≡ o
 or_else-none None = refl
 or_else-none (Some v) = refl
 
--- what a node has at what is left of a key behind its prefix: its own value where nothing is left, else what is below
+-- what a node has at what is left of a key after its prefix: its own value where nothing is left,
+-- otherwise what is below
 abbrev pub node_lookup : {K V : Type 0} → Option V → (List K → Option V) → Option (List K) → Option V
 node_lookup v below None = None
 node_lookup v below (Some []) = v

@@ -1,4 +1,4 @@
--- What is read of the trees at one place of two lists of children, and what a combine makes of both lists.
+-- What is read from the trees at one place of two lists of children, and the combine of both lists.
 use Rattle.std.specs.Prelude.{List, ◌∷◌, Option}
 use Rattle.std.specs.Option.{option_map_or}
 use Rattle.std.specs.declared.cmp.Ordering.{Ordering}
@@ -13,14 +13,14 @@ module _ {K : Type 0} (cmp : K → K → Ordering) where
   abbrev pub look : {V O : Type 0} → Look cmp V O → Option (Tree K V) → List K → O
   look l o k = option_map_or (λ t. l.of_tree t k) o l.none
 
-  -- a list of trees is what the combine says of two, at each key with a component: of what the left binds, of what is said of
-  -- the right, and of what is bound in the result
+  -- a list of trees is the combine of two lists: at each key with a component, R relates what the
+  -- left one binds, what is read from the right one, and what the result binds
   abbrev pub IsCombinedIn : {V W U O : Type 0} → Look cmp W O → (Option V → O → Option U → Type 0) → Forest K V → Forest K W
       → Forest K U → Type 0
   IsCombinedIn l R f g h =
       (x : K) (q : List K) → R (lookup_in cmp f (x ∷ q)) (l.of_forest g (x ∷ q)) (lookup_in cmp h (x ∷ q))
 
-  -- t, if there is one, begins as y, and stands before canonical children above y
+  -- t, if there is one, begins as y, and is before canonical children above y
   pub record IsBefore {V : Type 0} (y : K) (t : Option (Tree K V)) (ts : List (Tree K V)) : Type 0 where
     pub begins : BeginsWith cmp y t
     pub above : AllAbove cmp y (forest ts)

@@ -59,7 +59,7 @@ CoverIsLongest K W cmp =
     → ((cover (lookup cmp t) k ≡ Some w) ↔ ((p : List K) × IsLongestCover cmp (lookup cmp t) k p w))
 
 module _ {V : Type 0} (keeps : V → V → Type 0) where
-  -- one of two has the value, and the other none; both have none where there is none
+  -- one of the two has the value, and the other none; both have none where there is none
   abbrev pub IsInOne : Option V → Option V → Option V → Type 0
   IsInOne None y z = (y ≡ None) × (z ≡ None)
   IsInOne (Some v) y z = (IsKept keeps (Some v) y × (z ≡ None)) ⊎ ((y ≡ None) × IsKept keeps (Some v) z)

@@ -29,6 +29,6 @@ module _ {K V : Type 0} where
     IsAlikeIn (grow p v kids rest) (grow q w more others) =
         (p ≡ q) × IsKept keeps v w × IsAlikeIn kids more × IsAlikeIn rest others
 
-    -- one prefix, both without a value or with one that is kept, and children alike pairwise
+    -- the same prefix, both without a value or with one that is kept, and children alike pairwise
     abbrev pub IsAlike : Tree K V → Tree K V → Type 0
     IsAlike t u = (t.prefix ≡ u.prefix) × IsKept keeps t.value u.value × IsAlikeIn t.children u.children

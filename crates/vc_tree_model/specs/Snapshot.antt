@@ -6,7 +6,7 @@ use Rattle.vc_tree_model.specs.Value.{IsKept, Copies, itself, cloned}
 use Rattle.vc_tree_model.specs.Tree.{Tree, Forest, bare, grow, forest}
 use Rattle.vc_tree_model.specs.Same.{IsAlike, IsAlikeIn}
 
--- one prefix, a clone of the value, and the very same children
+-- the same prefix, a clone of the value, and the same children
 abbrev pub IsSnapshot : {K V : Type 0} → (V → V → Type 0) → Tree K V → Tree K V → Type 0
 IsSnapshot is_clone t c = (c.prefix ≡ t.prefix) × IsKept is_clone t.value c.value × (c.children ≡ t.children)
 

@@ -7,7 +7,7 @@ use denote.Param.Weighed.{most}
 use Rattle.vc_tree_model.specs.Tree.{Tree, Forest, bare, grow, forest, node, nodes, forest_nodes}
 
 module _ {K V : Type 0} where
-  -- a forest in postorder: each node behind what lies below it and beside it
+  -- a forest in postorder: each node after its children and its later siblings
   abbrev tokens : Forest K V → List (Option (List K × Option V))
   tokens bare = None ∷ []
   tokens (grow p v kids rest) = tokens kids ++ (tokens rest ++ Some (p, v) ∷ [])
@@ -39,7 +39,7 @@ module _ {K V : Type 0} where
       ∙ ap (λ l. build l (kids ∷ stack)) (append_assoc (tokens rest) (Some (p, v) ∷ []) ts)
       ∙ build-tokens rest (Some (p, v) ∷ ts) (kids ∷ stack)
 
-  -- the machine gives back the forest whose tokens it read
+  -- the machine returns the forest whose tokens it read
   pub top-build : (f : Forest K V) → top (build (tokens f) []) ≡ f
   top-build f = ap (λ l. top (build l [])) (sym (append-nil (tokens f))) ∙ ap top (build-tokens f [] [])
 

@@ -1,4 +1,4 @@
--- When a value that a tree holds stands for one that another tree holds.
+-- When a value of one tree counts as a value of another tree.
 use Rattle.std.specs.Prelude.{Option, Some, None, ⊤}
 
 -- both are absent, or the first is kept as the second

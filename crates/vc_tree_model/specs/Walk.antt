@@ -8,7 +8,7 @@ use Rattle.vc_tree_model.specs.Key.{same_key}
 use Rattle.vc_tree_model.specs.Tree.{Tree, Forest, bare, grow}
 
 module _ {K V : Type 0} where
-  -- a node's own value, where nothing is left of the key behind its prefix
+  -- a node's own value, where nothing is left of the key after its prefix
   abbrev pub own_pair : Option V → List (List K × V)
   own_pair None = []
   own_pair (Some v) = ([], v) ∷ []
@@ -32,7 +32,7 @@ module _ {K V : Type 0} where
     Lists [] k a = ⊥
     Lists (b ∷ l) k a = (IsTrue (same_key cmp b.0 k) × (b.1 ≡ a)) ⊎ Lists l k a
 
-    -- two pairs have equal keys and one value
+    -- two pairs have equal keys and the same value
     abbrev pub IsSamePair : List K × V → List K × V → Type 0
     IsSamePair b c = IsTrue (same_key cmp b.0 c.0) × (b.1 ≡ c.1)
 

@@ -12,7 +12,7 @@ ghost use Rattle.vc_tree_model.specs.Laws.{KeysAreOrdered, LeftBehindIsRest, Bin
 ghost use Rattle.vc_tree_model.specs.PrefixLaws.{WalkUnder, WalkPrefixed, WalkIsFiltered, CoverIsLongest, RemovalAndRetentionPart};
 ghost use Rattle.vc_tree_model.specs.PrefixLaws.{InsertsCommute, RunIsFunction};
 
-/// When a value of one tree stands for a value of another: any relation will do.
+/// When a value of one tree counts as a value of another: any relation is allowed.
 pub trait Matching<V> {
     ghost matches: { V → V → Type 0 };
 }
@@ -45,28 +45,28 @@ impl<V> Matching<V> for ByItself {
     ghost matches = { λ v w. v ≡ w };
 }
 
-/// Keys are totally ordered: two are equal where they have one length and equal components at every
-/// place, and else the first place at which they differ decides, where a key that has ended comes
-/// first.
+/// Keys are totally ordered. Two are equal where they have the same length and equal components at
+/// every place. Otherwise the first place at which they differ decides, and a key that has ended
+/// there comes first.
 pub fn keys_are_ordered<K: Ord>()
     ensures { KeysAreOrdered K.cmp }
 {}
 
-/// A key starts with a prefix exactly where something is left behind it, and only one rest makes up
-/// the key, up to equality.
+/// A key starts with a prefix exactly where something is left after it, and the rest is unique, up
+/// to equality.
 pub fn left_behind_is_rest<K: Ord>()
     ensures { LeftBehindIsRest K.cmp }
 {}
 
-/// A tree is canonical, as the types of trees keep it from node to children, exactly where the four
-/// conditions hold of all its nodes.
+/// A tree is canonical, in the form that the types of trees keep, from node to children, exactly
+/// where the four conditions hold of all its nodes.
 pub fn canonical_is_conditions<K: Ord, V>()
     ensures { CanonicalIsConditions K V K.cmp }
 {}
 
-/// A tree whose prefixes are in order, so each canonical tree, binds a key to a value, as said by
-/// cases, exactly where the look-up of the key gives the value. The look-up gives one value at
-/// equal keys, in any tree.
+/// A tree whose prefixes are in order, such as a canonical tree, binds a key to a value by the
+/// relation `Binds` exactly where the look-up of the key gives the value. The look-up gives the
+/// same value at equal keys, in any tree.
 pub fn binds_is_lookup<K: Ord, V>()
     ensures agree { BindsIsLookup K V K.cmp }
     ensures map { LookupIsMap K V K.cmp }
@@ -84,9 +84,9 @@ pub fn canonical_is_smallest<K: Ord, V, M: Matching<V>>()
     ensures { CanonicalIsSmallest K V K.cmp M.matches }
 {}
 
-/// A canonical tree has at most one level more than its longest key has components, no more levels
-/// than nodes, and, where it has a key, no more than keys. Calls that go down a tree by recursion
-/// go as deep as it has levels.
+/// A canonical tree has at most one level more than its longest key has components. It has no more
+/// levels than nodes and, where it has a key, no more than keys. Recursive calls on a tree go as
+/// deep as it has levels.
 pub fn canonical_is_shallow<K: Ord, V>()
     ensures { CanonicalIsShallow K V K.cmp }
 {}
@@ -100,8 +100,8 @@ pub fn walk_is_one<K: Ord, V>()
 {}
 
 /// The walk of the pairs under a prefix is the walk of all pairs, without the keys that do not
-/// start with the prefix. The walk of the pairs with a prefix before their keys is the walk of all,
-/// with the prefix before each key.
+/// start with the prefix. The walk of the pairs with a prefix before their keys is the walk of all
+/// pairs, with the prefix before each key.
 pub fn walks_by_prefix<K: Ord, V>()
     ensures under { WalkUnder K V K.cmp }
     ensures prefixed { WalkPrefixed K V K.cmp }
@@ -119,20 +119,20 @@ pub fn cover_is_longest<K: Ord, W>()
     ensures { CoverIsLongest K W K.cmp }
 {}
 
-/// With one tree of prefixes, and a test that gives one answer for each of its values, each pair of
-/// a map is removed or retained, and never both.
+/// Given a tree of prefixes, and a test that gives one answer for each of its values: each pair of
+/// a map is either removed or retained, never both.
 pub fn removal_and_retention_part<K, V, W, M: Matching<V>, F: Fn(&W) -> bool>(test: &F)
     ensures { RemovalAndRetentionPart K V W M.matches (MayJudge F.Fn test.now) }
 {}
 
-/// Two keys that differ may be bound in either order: the maps that are left bind the very same.
+/// Two keys that differ may be bound in either order: the resulting maps bind the same.
 pub fn inserts_commute<K: Ord, V>()
     ensures { InsertsCommute K V K.cmp }
 {}
 
-/// Runs of commands are functions of maps: from maps whose values have one source a list of
-/// commands, accepted alike, leads to maps whose values have one source. So two runs from one map
-/// bind the same keys, to copies of the same values.
+/// Runs of commands are functions of maps. Take two maps whose values have one source, and one list
+/// of commands, of which both accept the same ones: the results are maps whose values have one
+/// source. So two runs from one map bind the same keys, to copies of the same values.
 pub fn run_is_function<K: Ord, V: Clone>()
     ensures { RunIsFunction K V K.cmp V.is_clone }
 {}

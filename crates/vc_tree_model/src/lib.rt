@@ -1,5 +1,5 @@
-//! What contracts on radix trees speak of: trees, keys, the map of a tree, canonical trees, and the
-//! laws of these definitions.
+//! The model of radix trees that contracts use: trees, keys, the map of a tree, canonical trees,
+//! and the laws of these definitions.
 #![tactic(auto)]
 
 pub mod laws;
