@@ -1,4 +1,4 @@
--- The components with which trees go on at a place of their prefixes.
+-- The components with which trees continue at a place of their prefixes.
 --     get-drop        the component at a place is the first one of what is left there
 --     agree-first        two keys that begin alike agree for one component
 --     children-first        the first of canonical children

@@ -1,5 +1,5 @@
 -- Two lists of trees side by side: the next trees, and what is said of these and of the others.
---     left-first, right-first, both-first        the next trees, by the side on which they stand
+--     left-first, right-first, both-first        the next trees, by the side on which they are
 --     made-none, made-more        of no trees, and of trees before others
 --     said-apart, said-joined        what is said of both lists is said of the next trees and of the others
 use Rattle.std.proofs.Common.{◌≡◌, ℕ, [], ◌∷◌, List, Option, None, Some, refl, slice_get, inl, inr, map, option_map, arith}

@@ -1,5 +1,5 @@
--- The combine of two trees, once all events below the fronts of their prefixes are done.
---     below-children        what stands below is canonical children
+-- The combine of two trees, once all events below the common front of their prefixes are done.
+--     below-children        what is below is canonical children
 --     front-asked, made-front        what holds of two trees, holds where their prefixes agree, and what is made there
 --     combine-started        the state before the first event
 --     values-asked        what may be asked of the values at the fronts

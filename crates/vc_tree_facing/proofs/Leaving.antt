@@ -1,5 +1,5 @@
--- What is left of a tree into which nothing comes, by where its prefix and that of the other tree part.
---     value-may, below-may        what may be asked of the values at that place, and of what stands below
+-- What is left of a tree to which nothing is added, by where its prefix and that of the other tree diverge.
+--     value-may, below-may        what may be asked of the values at that place, and of what is below
 --     node-lessened, inside-lessened        what is left of the tree, where its prefix has ended, and where it goes on
 use Rattle.std.proofs.Common.{◌≡◌, ℕ, ◌+◌, ◌<◌, ◌≤◌, Bool, cond, List, [], ◌∷◌, ◌++◌, Option, None}
 use Rattle.std.proofs.Common.{sym, ap, ◌∙◌, length, length-drop, take, drop, arith, Result}

@@ -1,11 +1,11 @@
--- The next trees of two lists of which some are done.
+-- The next trees of two lists, where some are done.
 --     doing-start, asked, done, all-done        none is done yet, the next ones may be asked of and are done, and all are
 --     made-left, made-right        what is made of a tree that one side alone has
 --     left_within, right_within        they go on at the place
 --     left-head, right-head        what holds of all holds of them
---     left-next, right-next, both-next        the next ones, by the side on which they stand
+--     left-next, right-next, both-next        the next ones, by the side on which they are
 --     both-agree, both-ended, falls        two that meet agree for one component, below a prefix that ended, and have fewer nodes
---     MayMeet, meets        what a call needs that goes on with them
+--     MayMeet, meets        what a call needs that continues with them
 --     at-most, nil-by        what is below is not above, and a list without elements
 use Rattle.std.proofs.Common.{◌≡◌, ℕ, suc, ◌+◌, ◌<◌, ◌≤◌, [], ◌∷◌, ◌++◌, List, Option, None, Some, refl, sym, ap}
 use Rattle.std.proofs.Common.{subst, ◌∙◌, arith, length, drop, slice_get, append-nil, append_assoc, ◌⊎◌, option_map, true≢false}

@@ -1,5 +1,5 @@
--- What stands below a place in the prefix of a tree.
---     goes-on        a key that goes on with a component
+-- What is below a place in the prefix of a tree.
+--     goes-on        a key that continues with a component
 --     each-fewer, few-below        each tree of a list has no more nodes than the list, and weighs at least one
 --     opened-all        where the prefix ended, the children
 --     opened-rest        where it goes on, the tree itself

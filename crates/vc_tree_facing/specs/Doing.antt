@@ -1,4 +1,5 @@
--- Two lists of trees side by side, of which some are done and the others are left. No public clause cites these words.
+-- Two lists of trees side by side, where some trees are done and the others are left. No public
+-- clause cites these words.
 use Rattle.std.specs.Prelude.{◌≡◌, ℕ, List, ◌∷◌, ◌++◌, drop, map, Option, None, option_map}
 use Rattle.std.specs.Cmp.{IsTotalOrder}
 use Rattle.std.specs.List.{cons_option}
@@ -13,8 +14,8 @@ use Rattle.vc_tree_model.specs.Places.{look, IsCombinedIn, IsBefore}
 use Rattle.vc_tree_facing.specs.Facing.{shortened_in}
 
 module _ {K V W A B : Type 0} (cmp : K → K → Ordering) (ta : A → Tree K V) (tb : B → Tree K W) (i j : ℕ) where
-  -- before canonical children ls and rs stand a and b, of which one side may have none: they begin as `place` does, and all
-  -- others are above
+  -- before canonical children ls and rs are a and b, where one side may have none: they begin as
+  -- `place` does, and all others are above
   pub record AreFirst (a : Option A) (b : Option B) (ls : List A) (rs : List B) : Type 0 where
     pub place : K
     pub left : IsBefore cmp place (option_map (λ x. shortened i (ta x)) a) (map (λ x. shortened i (ta x)) ls)
@@ -43,7 +44,8 @@ module _ {K V W A B : Type 0} (cmp : K → K → Ordering) (ta : A → Tree K V)
             → AllAbove cmp y (forest made)
         pub combined : IsCombinedIn cmp l R (shortened_in ta i xs) (shortened_in tb j ys) (forest made)
 
-      -- of the trees xs and ys these were made by R up to the trees ls and rs, which are left, and of which it may be asked
+      -- of the trees xs and ys these were made by R up to the trees ls and rs, which are left, and
+      -- for which the question may be asked
       pub record IsDoing (asks : Option V → O → Type 0) (xs : List A) (ys : List B) (ls : List A) (rs : List B)
           (made : List (Tree K U)) : Type 0 where
         pub total : IsTotalOrder cmp
@@ -55,7 +57,7 @@ module _ {K V W A B : Type 0} (cmp : K → K → Ordering) (ta : A → Tree K V)
         pub asked : IsSaidIn asks ls rs
         pub ends : (others : List (Tree K U)) → AreMade ls rs others → AreMade xs ys (made ++ others)
 
-      -- the same, and the next trees are a and b, of which one side may have none
+      -- the same, and the next trees are a and b, where one side may have none
       pub record AreNext (asks : Option V → O → Type 0) (xs : List A) (ys : List B) (a : Option A) (b : Option B) (ls : List A)
           (rs : List B) (made : List (Tree K U)) : Type 0 where
         pub doing : IsDoing asks xs ys (cons_option a ls) (cons_option b rs) made

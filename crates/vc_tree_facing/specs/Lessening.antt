@@ -1,4 +1,4 @@
--- What a change into which nothing comes leaves of a tree. No public clause cites these words.
+-- What is left of a tree after a change that adds nothing. No public clause cites these words.
 use Rattle.std.specs.Prelude.{◌≡◌, Bool, true, cond, ℕ, List, ◌∷◌, Option, Some, None, take, drop}
 use Rattle.std.specs.declared.cmp.Ordering.{Ordering}
 use Rattle.vc_tree_model.specs.Canonical.{AreChildren}
@@ -17,7 +17,7 @@ module _ {K V : Type 0} where
   abbrev pub left_of : Bool → ℕ → Tree K V → Option (Tree K V)
   left_of stays n t = cond stays (Some (shortened n t)) None
 
-  -- n components behind the first i of its prefix, a tree has the value v and the children f
+  -- n components after the first i of its prefix, a tree has the value v and the children f
   pub record IsBehind (i n : ℕ) (t : Tree K V) (v : Option V) (f : Forest K V) : Type 0 where
     pub value : v ≡ value_at (shortened i t) (drop n (drop i t.prefix))
     pub children : f ≡ children_at (shortened i t) (drop n (drop i t.prefix))
@@ -27,7 +27,7 @@ module _ {K V : Type 0} where
   KeepsFront n old stays new = stays ≡ true → take n new.prefix ≡ take n old.prefix
 
 module _ {K V W O : Type 0} (cmp : K → K → Ordering) (l : Look cmp W O) (R : Option V → O → Option V → Type 0) where
-  -- at each key with a component, R of what f binds, of what is said of g, and of what h binds
+  -- at each key with a component, R of what f binds, of what is read from g, and of what h binds
   abbrev pub IsLessenedIn : Forest K V → Forest K W → Forest K V → Type 0
   IsLessenedIn f g h = (x : K) (q : List K) → R (lookup_in cmp f (x ∷ q)) (l.of_forest g (x ∷ q)) (lookup_in cmp h (x ∷ q))
 
@@ -36,12 +36,12 @@ module _ {K V W O : Type 0} (cmp : K → K → Ordering) (l : Look cmp W O) (R :
   IsLessenedUnder w f g h =
       (x : K) (q : List K) → R (lookup_in cmp f (x ∷ q)) (l.under w (l.of_forest g (x ∷ q))) (lookup_in cmp h (x ∷ q))
 
-  -- of t behind its first i components, what R says of it and of u is left
+  -- after its first i components, t is left as R says of it and of u
   pub record IsLessened (i : ℕ) (t : Tree K V) (u : Tree K W) (stays : Bool) (new : Tree K V) : Type 0 where
     pub made : IsBothMadeBy cmp l R (shortened i t) u (left_of stays i new)
     pub front : KeepsFront i t stays new
 
-  -- of a tree that goes on behind n components, beside a node with the value w and the children g
+  -- of a tree that continues after n components, beside a node with the value w and the children g
   pub record IsInside (n : ℕ) (t : Tree K V) (w : Option W) (g : Forest K W) (stays : Bool) (new : Tree K V) : Type 0 where
     pub said : R None (l.at w) None
     pub below : IsLessenedUnder w (alone n t) g (cond stays (alone n new) bare)

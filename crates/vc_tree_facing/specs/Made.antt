@@ -1,4 +1,5 @@
--- What is made of the trees of an event, where two trees stand side by side. No public clause cites these words.
+-- What is built from the trees of an event, where two trees are side by side. No public clause
+-- cites these words.
 use Rattle.std.specs.Prelude.{List, Option, Some}
 use Rattle.std.specs.declared.cmp.Ordering.{Ordering}
 use Rattle.vc_tree_model.specs.Tree.{Tree}
@@ -20,8 +21,9 @@ module _ {K : Type 0} (cmp : K → K → Ordering) where
   IsMade R t o = IsMadeBy (values cmp) R t o
 
   module _ {V W U O : Type 0} (l : Look cmp W O) (R : Option V → O → Option U → Type 0) where
-    -- of the trees of both sides, of which one may have none: a child that begins as both did if they began alike, and R of what
-    -- the first binds, of what is read of the second, and of what the child binds
+    -- of the trees of both sides, where one may have none: a child that begins as both did if they
+    -- began alike, and R of what the first binds, of what is read of the second, and of what the
+    -- child binds
     pub record IsMadeOf (t : Option (Tree K V)) (u : Option (Tree K W)) (o : Option (Tree K U)) : Type 0 where
       pub child : IsChild cmp o
       pub begins : (y : K) → BeginsWith cmp y t → BeginsWith cmp y u → BeginsWith cmp y o

@@ -24,7 +24,7 @@ module _ {K V W A B : Type 0} (ta : A → Tree K V) (tb : B → Tree K W) (i j :
   pub by_component_total : {cmp : K → K → Ordering} → IsTotalOrder cmp → IsTotalOrder (by_component cmp)
   by_component_total o = on_total component (options_total o)
 
--- the side of the lower of two trees, by how the right one stands to the left one
+-- the side of the lower of two trees, by how the right one compares with the left one
 abbrev pub lower_side : Ordering → Side
 lower_side Less = Right
 lower_side Equal = Both

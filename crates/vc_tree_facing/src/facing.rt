@@ -1,4 +1,4 @@
-//! Two trees side by side: where their prefixes part, and how they stand to each other there.
+//! Two trees side by side: where their prefixes diverge, and how the trees compare there.
 
 ghost use Rattle.std.specs.Prelude.{◌≡◌, ◌+◌, ◌≤◌, length, drop};
 ghost use Rattle.std.proofs.Common.{inl, inr};
@@ -13,7 +13,7 @@ use vc_merge::states::Uncounted;
 use vc_tree_nodes::parting::{Parting, find_parting};
 use vc_tree_nodes::reading::{RadixNode, TKey, TValue};
 
-/// For how many components two prefixes agree, of which the first `known` do.
+/// The number of components in which two prefixes agree. The first `known` are known to agree.
 #[tactic(auto, using(crate::proofs::Opening::parts_at))]
 fn common_front<K: Ord>(p: &[K], q: &[K], known: usize) -> usize
     requires { Agree K.cmp p.now q.now known }
@@ -26,8 +26,8 @@ fn common_front<K: Ord>(p: &[K], q: &[K], known: usize) -> usize
     }
 }
 
-/// For how many components the prefixes of two trees agree, without their first `i` and `j`. The
-/// first `known` of these are known to.
+/// The number of components in which the prefixes of two trees agree, without their first `i` and
+/// `j`. The first `known` of these are known to agree.
 pub fn split<K: TKey, V: TValue, W: TValue, T: RadixNode<K, V>, B: RadixNode<K, W>>(
     tree: &T,
     i: usize,
@@ -45,8 +45,8 @@ pub fn split<K: TKey, V: TValue, W: TValue, T: RadixNode<K, V>, B: RadixNode<K, 
     common_front(p, q, known)
 }
 
-/// For how many trees to make room that come of two lists of these lengths: those of the longer
-/// list, and half of the other one, whose trees may meet with them.
+/// The number of trees to make room for, that come from two lists of these lengths: those of the
+/// longer list and half of the other one, whose trees may meet them.
 pub fn expected(left: usize, right: usize) -> usize
     ensures { result ≤ left + right }
 {
@@ -54,7 +54,7 @@ pub fn expected(left: usize, right: usize) -> usize
     longer.saturating_add(shorter.div_ceil(2))
 }
 
-/// How a tree of the right side stands to one of the left, by the components at these places of
+/// How a tree of the right side compares with one of the left, by the components at these places of
 /// their prefixes. Ticks the counter once.
 pub fn compare_at<K: TKey, V: TValue, W: TValue, A: RadixNode<K, V>, B: RadixNode<K, W>, C: Count>(
     y: &B,

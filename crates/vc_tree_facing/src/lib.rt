@@ -1,6 +1,6 @@
-//! Two radix trees side by side: where their prefixes part, what stands below, the sides of its
-//! events, and the node that is made there. For the crates above; combines stand in
-//! `vc_tree_combines`, changes in place in `vc_tree_edits`.
+//! Two radix trees side by side: where their prefixes diverge, the events of the children below,
+//! and the node that is made there. For the crates above: `vc_tree_combines` has combines,
+//! `vc_tree_edits` changes in place.
 #![tactic(auto)]
 
 pub mod facing;

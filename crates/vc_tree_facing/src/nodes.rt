@@ -1,5 +1,5 @@
-//! The nodes where the prefixes of two trees part: the value there, and the node that is made of it
-//! and of what was made below.
+//! The nodes where the prefixes of two trees diverge: the value there, and the node that is made of
+//! it and of the children built below.
 
 ghost use Rattle.std.specs.Prelude.{◌≡◌, ◌≤◌, ◌++◌, [], IfOk, drop, length, map, option_map};
 ghost use Rattle.std.specs.List.{cons_option};
@@ -14,7 +14,8 @@ use vc_tree_nodes::building::Build;
 use vc_tree_nodes::making::{new_joined, new_node};
 use vc_tree_nodes::reading::{RadixNode, TKey, TValue};
 
-/// The value of the node that stands behind a front of what is left of a prefix.
+/// The value of the node that the prefix reaches `front` components after its first `from`, or none
+/// where the prefix is longer.
 pub fn value_at<K: TKey, V: TValue, T: RadixNode<K, V>>(
     tree: &T,
     from: usize,
@@ -32,7 +33,7 @@ pub fn value_at<K: TKey, V: TValue, T: RadixNode<K, V>>(
     }
 }
 
-/// The node of these parts as a child: `None` where it binds no key, and joined with its only child
+/// The node of these parts as a child: `None` where it binds no key, and merged with its only child
 /// where it has no value.
 pub fn finish<K: TKey, V: TValue, M: Build<K, V>>(
     alloc: Global,
@@ -53,7 +54,7 @@ pub fn finish<K: TKey, V: TValue, M: Build<K, V>>(
     Ok(Some(new_node(alloc, prefix, value, kids)?))
 }
 
-/// Adds a tree, if there is one.
+/// Appends a tree to the list, if there is one.
 #[inline(always)]
 pub fn keep<K: TKey, V: TValue, M: Build<K, V>>(
     kids: &mut Vec<M>,
