@@ -1,6 +1,6 @@
 -- What the way down a tree costs: at most one comparison and one search for each component of the key.
 --     IsWithin most d count left known        what was counted and what may come stay within the most that may be counted
---     down-behind        one more prefix was compared with the key, which goes on behind it
+--     down-behind        one more prefix was compared with the key, which continues after it
 --     behind-length, some-first, searched-within        how much of the key is left, and what a search of children costs
 --     down-searched, down-missed        the children were searched: for the next node, or in vain
 use Rattle.std.proofs.Common.{◌≡◌, ℕ, ◌+◌, ◌-◌, ◌*◌, ◌≤◌, [], ◌∷◌, List, Some}

@@ -1,6 +1,6 @@
 -- The first components of children, and the place of a component among them.
 --     above-at, rest-children, child_first-map        the first components of children
---     children-ordered        they stand in order to each component
+--     children-ordered        they are in order to each component
 --     place-found        a place in that order is one among them
 use Rattle.std.proofs.Common.{◌≡◌, ℕ, ◌<◌, ◌≤◌, [], ◌∷◌, List, Option, ◌⊎◌, Some, Result, refl}
 use Rattle.std.proofs.Common.{arith, zero, suc, get_or, map, length, take, drop}

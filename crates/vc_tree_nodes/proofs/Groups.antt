@@ -1,4 +1,4 @@
--- Trees of the groups of a run, one behind the other, and the node above them.
+-- Trees of the groups of a run, one after the other, and the node above them.
 use Rattle.std.proofs.Common.{◌≡◌, ℕ, suc, ◌+◌, ◌-◌, ◌<◌, ◌≤◌, [], ◌∷◌, ◌++◌, List, ◌⊎◌, Option, None}
 use Rattle.std.proofs.Common.{Some, refl, sym, ap, subst, ◌∙◌, arith, take, drop, length, map, true}
 use Rattle.std.proofs.Common.{cond, length-drop, length-append, get_or, Result}

@@ -1,4 +1,4 @@
--- The longest key of a tree on a path, from node to node along the path.
+-- The longest key of a tree on a path, node by node along the path.
 --     Decides        what is left to decide at a node on the way
 --     decided-above, decided-below        the way ends above a node, or goes on below it
 --     shown        what was found so far

@@ -1,9 +1,9 @@
--- What follows from where a key parts from a prefix.
+-- What follows from where a key diverges from a prefix.
 --     same-joined, same-behind_whole, same-ended        the prefix up to there and the rest of the key are the key
 --     known-within        what is known to agree lies before the place
 --     splits-lower, splits-higher, grown-from        how the node is split there, and how it has grown
 --     agree-one        a child that begins as a key agrees with it in one component
---     behind-shorter, behind-unlike, behind-whole        what is left of the key behind the prefix
+--     behind-shorter, behind-unlike, behind-whole        what is left of the key after the prefix
 use Rattle.std.proofs.Common.{◌≡◌, ℕ, suc, ◌-◌, ◌<◌, ◌≤◌, [], ◌∷◌, ◌++◌, List, None}
 use Rattle.std.proofs.Common.{Some, sym, ap, subst, ◌∙◌, arith, take, drop, length, length-drop, true}
 use Rattle.std.proofs.Common.{false, get_or}

@@ -1,4 +1,4 @@
--- Where a key parts from a prefix, component by component.
+-- Where a key diverges from a prefix, component by component.
 --     get-at        the element that an index reads
 --     agree-more, parts-here        one more component agrees, or doesn't
 --     ticked-one        a tick counts at most one

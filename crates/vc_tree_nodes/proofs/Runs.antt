@@ -1,7 +1,7 @@
 -- Runs of keys that ascend, in parts.
 --     below-within, equal-below, alike-below        which key begins below another
 --     pairs-parted, bound-parted        the pairs of two parts
---     group-run, group-within, group-rest, group-below        a group, and the keys behind it
+--     group-run, group-within, group-rest, group-below        a group, and the keys after it
 --     group-found, least-new, least-stays        how a group and the least number in common are found
 --     last-front, keep-grows, keep-binds, yielded-more        pairs that are kept
 --     gathered-whole, kept-exactly        what all pairs bind

@@ -1,5 +1,5 @@
 -- What an insertion changes of a map: the value of one key.
---     updated-behind        a change behind a prefix
+--     updated-behind        a change after a prefix
 --     updated-value, updated-children, updated-split        a change of a node's value, of its children, or of a split node
 --     updated-insert, updated-set        one more tree of a list, or one that is changed
 --     updated-alike, updated-respelled        a change of what is alike, and of an equal key

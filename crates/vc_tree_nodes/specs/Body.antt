@@ -1,4 +1,4 @@
--- What a node of a shared tree has beside its prefix. No public clause cites these words.
+-- The value and the children of a node of a shared tree. No public clause cites these words.
 use Rattle.std.specs.Prelude.{◌≡◌, ℕ, ◌+◌, ◌≤◌, List, Option, None, Some, max}
 use Rattle.std.proofs.Common.{arith}
 use denote.Param.Weighed.{most}

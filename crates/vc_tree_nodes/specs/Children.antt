@@ -1,4 +1,5 @@
--- A node's children as they are stored: what they are seen as, their list, and how they are lent.
+-- A node's children as they are stored: what contracts see of them, their list, and how they are
+-- borrowed.
 use Rattle.std.specs.Prelude.{◌≡◌, List, [], map, Result, Option, None, Some, Vec}
 use Rattle.std.specs.Borrow.{LendsSoOk, Fml, RattleType, MutBor}
 use Rattle.std.specs.declared.alloc.Allocator.{Ghosts}
@@ -7,7 +8,7 @@ use Rattle.std.specs.contracts.alloc.Global.{the_row as global_row}
 use Rattle.std.specs.contracts.vec.Vec.{the_row as vec_row}
 use Rattle.vc_tree_model.specs.Tree.{Tree, Forest, forest}
 
--- the forest that a list is seen as, by what each item is seen as
+-- the forest that contracts see of a list, by what they see of each item
 abbrev pub seen : {K V T : Type 0} → (T → Tree K V) → List T → Forest K V
 seen tree ts = forest (map tree ts)
 

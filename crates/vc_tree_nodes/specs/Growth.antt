@@ -14,7 +14,8 @@ module _ {K V : Type 0} where
     pub solid : IsSolid t.value t.children
     pub children : AreChildren cmp t.children
 
-  -- the first n components of the prefix stay, and the node has a value or at least two children, and canonical children
+  -- the first n components of the prefix are kept, and the node has a value or at least two
+  -- children, and canonical children
   pub record IsGrown (cmp : K → K → Ordering) (n : ℕ) (t u : Tree K V) : Type 0 where
     pub begins : take n u.prefix ≡ take n t.prefix
     pub solid : IsSolid u.value u.children
@@ -26,7 +27,7 @@ module _ {K V : Type 0} where
     pub updated : IsInserted cmp keeps key value t u
     pub branch : IsBranch cmp p u
 
-  -- the list is an old one's alike, with one more tree at place i
+  -- the list is alike to the old one, with one more tree at place i
   pub record Adds (keeps : V → V → Type 0) {T : Type 0} (tree : T → Tree K V)
       (old : List T) (i : ℕ) (item : T) (new : List T) : Type 0 where
     pub kept : List T

@@ -1,4 +1,4 @@
--- Where a key parts from a prefix. No public clause cites these words.
+-- Where a key diverges from a prefix. No public clause cites these words.
 use Rattle.std.specs.Prelude.{◌≡◌, ℕ, ◌<◌, ◌≤◌, IsTrue, List, length, Some, slice_get, take, drop}
 use Rattle.std.specs.declared.cmp.Ordering.{Ordering}
 use Rattle.std.specs.declared.cmp.Ordering.TheVariants.{Less, Greater}
@@ -16,7 +16,7 @@ module _ {K : Type 0} (cmp : K → K → Ordering) where
     pub within_key : n ≤ length key
     pub same : IsTrue (same_key cmp (take n prefix) (take n key))
 
-  -- they agree up to n, and there the prefix's component compares so with the key's
+  -- they agree up to n, and there the prefix's component compares as given with the key's
   pub record PartsAt (order : Ordering) (prefix key : List K) (n : ℕ) : Type 0 where
     pub agree : Agree prefix key n
     pub old : K
@@ -25,7 +25,7 @@ module _ {K : Type 0} (cmp : K → K → Ordering) where
     pub new_at : slice_get key n ≡ Some new
     pub ordered : cmp old new ≡ order
 
-  -- the key parts from the prefix so
+  -- the key diverges from the prefix as said
   abbrev pub IsParting : List K → List K → Parting → Type 0
   IsParting prefix key Behind = Agree prefix key (length prefix)
   IsParting prefix key (Inside n) = Agree prefix key n × (n ≡ length key) × (n < length prefix)
@@ -33,8 +33,8 @@ module _ {K : Type 0} (cmp : K → K → Ordering) where
   IsParting prefix key (Higher n) = PartsAt Greater prefix key n
 
 module _ {K V : Type 0} (cmp : K → K → Ordering) where
-  -- the prefix parts from a key behind n components, where the key goes on with rest: a tree of rest comes to place i beside
-  -- a tree of what is left of the prefix
+  -- the prefix diverges from a key after n components, where the key continues with rest: a tree of
+  -- rest is put at place i, next to a tree of what is left of the prefix
   pub record SplitsAt (t : Tree K V) (n : ℕ) (rest : List K) (i : ℕ) : Type 0 where
     pub within : n < length t.prefix
     pub place : i ≤ 1

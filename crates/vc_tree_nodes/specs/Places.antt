@@ -8,7 +8,7 @@ use Rattle.vc_tree_model.specs.Tree.{Tree, Forest, bare, grow, nodes, forest_nod
 use Rattle.vc_tree_model.specs.Map.{lookup, lookup_in}
 use Rattle.vc_tree_model.specs.Canonical.{AllAbove}
 
--- how a node stands to the component x by the first component of its prefix, if it has one
+-- how a node compares with the component x by the first component of its prefix, if it has one
 abbrev pub first_side : {K : Type 0} → (K → K → Ordering) → K → Option K → Ordering
 first_side cmp x None = Less
 first_side cmp x (Some y) = cmp y x
@@ -41,7 +41,7 @@ module _ {K V : Type 0} where
       pub key_is : key ≡ first ∷ others
       pub begins : BeginsAt f first i
 
-    -- a tree of the key would stand at place i
+    -- a tree of the key would be at place i
     pub record FitsAt (f : Forest K V) (key : List K) (i : ℕ) : Type 0 where
       pub first : K
       pub others : List K
@@ -52,7 +52,8 @@ module _ {K V : Type 0} where
     abbrev pub IsNoChild : Forest K V → K → Type 0
     IsNoChild f x = (rest : List K) → lookup_in cmp f (x ∷ rest) ≡ None
 
-    -- t begins with x, binds what f binds of the keys that begin with x, and has no more nodes, nor more children a node
+    -- t begins with x, binds what f binds of the keys that begin with x, and has no more nodes, and
+    -- no more children in a node
     pub record IsFoundChild (f : Forest K V) (x : K) (t : Tree K V) : Type 0 where
       pub begins : IsTrue (same_key cmp (take 1 t.prefix) (x ∷ []))
       pub same : (rest : List K) → lookup_in cmp f (x ∷ rest) ≡ lookup cmp t (x ∷ rest)

@@ -1,4 +1,4 @@
--- Where the components of a prefix lie. No public clause cites these words.
+-- Where the components of a prefix are stored. No public clause cites these words.
 use Rattle.std.specs.Prelude.{◌≡◌, ◌≤◌, List, [], Some, None, length, take}
 use Rattle.vc_tree_nodes.specs.declared.prefix.Cells.{Cells}
 use Rattle.vc_tree_nodes.specs.declared.prefix.Cells.TheVariants.{Short, Apart}

@@ -12,11 +12,11 @@ use Rattle.vc_tree_model.specs.Same.{IsSame, IsSameIn}
 use Rattle.vc_tree_model.specs.Equal.{same_tree, same_tree_in}
 use Rattle.vc_tree_model.proofs.KeyLemmas.{same-itself, same-flip, same-trans}
 
--- two tests that hold, hold together
+-- two tests that hold are both true
 and-true : (a b : Bool) → a ≡ true → b ≡ true → (a && b) ≡ true
 and-true a b h k = rw (h, k) refl
 
--- and what holds together, holds
+-- and where both are true, each holds
 and-both : (a b : Bool) → (a && b) ≡ true → (a ≡ true) × (b ≡ true)
 and-both true b h = (refl, h)
 and-both false b h = absurd (true≢false (sym h))

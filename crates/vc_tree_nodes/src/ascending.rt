@@ -1,4 +1,4 @@
-//! Trees of keys that ascend. Each node is made once, with as much room as its children take.
+//! Trees of keys that ascend. Each node is made once, with room for exactly its children.
 
 ghost use Rattle.std.specs.Prelude.{◌≡◌, ◌<◌, ◌≤◌, ◌∷◌, length, drop, IfOk, OnOk, IfSome};
 ghost use Rattle.std.specs.Vec.Iter.{into_iter_items};
@@ -21,11 +21,12 @@ use std::vec::IntoIter;
 #[derive(Drop)]
 pub struct Step<S> {
     pub key: S,
-    /// With how many components of the key before it this key begins.
+    /// The number of leading components that this key shares with the key before it.
     pub common: usize,
 }
 
-/// With how many components of the key before it the key begins, where it is the greater one.
+/// The number of leading components that the key shares with the one before it, or `None` where it
+/// is not greater.
 pub fn common_front<K: Ord>(before: &[K], key: &[K]) -> Option<usize>
     ensures { IfSome result (Follows K.cmp before.now key.now) }
 {
@@ -41,8 +42,8 @@ pub fn common_front<K: Ord>(before: &[K], key: &[K]) -> Option<usize>
     if n < key.len() { Some(n) } else { None }
 }
 
-/// The least number of components that a key has in common with the one before it, and of how many
-/// keys it is the number.
+/// The least number of components that a key of the run shares with the one before it, and the
+/// number of keys with that number.
 fn least_common<S>(run: &[Step<S>]) -> (usize, usize)
     requires { 0 < length run.now }
     ensures least { HaveCommon (λ s. s.common) result.0 run.now }
@@ -62,8 +63,8 @@ fn least_common<S>(run: &[Step<S>]) -> (usize, usize)
     (least, count)
 }
 
-/// How many keys there are before the second one that has no more than so many components in common
-/// with the one before it.
+/// The number of keys before the second one that shares at most `common` components with the one
+/// before it.
 fn group_len<S>(run: &[Step<S>], common: usize) -> usize
     requires { 0 < length run.now }
     ensures { IsGroupOf (λ s. s.common) common result run.now }
@@ -86,8 +87,8 @@ fn take_next<V: Drop>(values: &mut IntoIter<V, Global>) -> V
     }
 }
 
-/// The tree of what is left of the keys of a run behind `depth` components that all of them have in
-/// common. The values come in the order of the keys.
+/// The tree of what is left of the keys of a run after the `depth` components that they share. The
+/// values come in the order of the keys.
 #[cycle(ascending)]
 pub fn build_run<K: TKey, V: TValue, S: Spelled<K>, T: Build<K, V>>(
     alloc: Global,
@@ -115,7 +116,7 @@ pub fn build_run<K: TKey, V: TValue, S: Spelled<K>, T: Build<K, V>>(
     }
 }
 
-/// The same, where all keys begin with the first one, which has `common` components.
+/// Does the same where all keys begin with the first one, which has `common` components.
 #[cycle(ascending)]
 fn build_ended<K: TKey, V: TValue, S: Spelled<K>, T: Build<K, V>>(
     alloc: Global,
@@ -143,8 +144,8 @@ fn build_ended<K: TKey, V: TValue, S: Spelled<K>, T: Build<K, V>>(
     new_node(alloc, &key[depth..common], Some(value), children)
 }
 
-/// The same, where all keys go on behind `common` components that they have in common, and have no
-/// more in common.
+/// Does the same where all keys continue after the `common` components that they share, and share
+/// no more.
 #[cycle(ascending)]
 fn build_open<K: TKey, V: TValue, S: Spelled<K>, T: Build<K, V>>(
     alloc: Global,
@@ -173,8 +174,8 @@ fn build_open<K: TKey, V: TValue, S: Spelled<K>, T: Build<K, V>>(
     new_node(alloc, &key[depth..common], None, children)
 }
 
-/// Puts the trees of the groups of a run behind the children: the keys of a group have more than
-/// `depth` components in common.
+/// Appends the trees of the groups of a run to the children. The keys of a group share more than
+/// `depth` components.
 #[cycle(ascending)]
 fn build_groups<K: TKey, V: TValue, S: Spelled<K>, T: Build<K, V>>(
     alloc: Global,

@@ -1,10 +1,11 @@
-//! What a node of a shared tree has beside its prefix.
+//! The value and the children of a node of a shared tree.
 
 ghost use Rattle.std.specs.Prelude.{◌≡◌};
 ghost use Rattle.std.specs.Option.{option_copied};
 ghost use Rattle.vc_tree_nodes.specs.Body.{body_value, body_children};
 
-/// A value, children, both or neither. One word says which, where an `Option` of each takes two.
+/// A value, children, both or neither. The tag takes one word, where an `Option` of each would take
+/// two.
 #[derive(Drop)]
 pub enum Body<V, C> {
     Neither,
@@ -14,7 +15,7 @@ pub enum Body<V, C> {
 }
 
 impl<V: Drop, C: Drop> Body<V, C> {
-    /// Of these parts.
+    /// The body with these parts.
     pub fn of(value: Option<V>, children: Option<C>) -> Self
         ensures value { body_value result ≡ value }
         ensures children { body_children result ≡ children }

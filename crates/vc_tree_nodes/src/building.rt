@@ -1,4 +1,4 @@
-//! How a flavour takes nodes apart and makes them, for the crates of this workspace alone.
+//! How a flavour takes nodes apart and makes them, for only the crates of this workspace.
 
 ghost use Rattle.std.specs.Prelude.{◌≡◌, List, map, refl};
 ghost use Rattle.std.proofs.Common.{◌∙◌};
@@ -17,22 +17,22 @@ use crate::sealed::Sealed;
 use crate::shared::ArcRadixTree;
 use std::alloc::Global;
 
-/// What only the crates of this workspace hand over, so that nobody who holds a tree by a bound
-/// takes its nodes apart.
+/// A token that only the crates of this workspace pass, so that code that is generic in a flavour
+/// cannot take its nodes apart.
 #[derive(Clone, Copy, Drop)]
 pub struct Seal {
     inner: (),
 }
 
 impl Seal {
-    /// For the crates of this workspace alone.
+    /// A token, for only the crates of this workspace.
     pub fn new() -> Seal {
         Seal { inner: () }
     }
 }
 
 /// A flavour of tree: how its nodes are made and taken apart, and how a value that stays in place
-/// is kept. No other crate can implement it, since one of its supertraits is private to this one.
+/// is kept. No other crate can implement it, since one of its supertraits is private.
 pub trait Build<K: TKey, V: TValue>: RadixNode<K, V> + Sealed + Drop {
     type Prefix: Fragment<K>;
 

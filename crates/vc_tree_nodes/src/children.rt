@@ -16,12 +16,12 @@ pub trait Fragment<K>: Sized + Drop {
     fn as_slice(&self) -> &[K]
         ensures { result.now ≡ items self.now };
 
-    /// A copy of the components. Asks for memory where there are more than 16.
+    /// A copy of the components. Takes memory where there are more than 16.
     fn from_slice(alloc: Global, slice: &[K]) -> Result<Self, AllocError>
         ensures items { IfOk result (λ made. items made ≡ slice.now) }
         ensures short { length slice.now ≤ 16 → IsOk result };
 
-    /// A copy of both slices, one behind the other, by two requests for memory at most.
+    /// A copy of both slices, one after the other, by at most two allocations.
     fn joined(alloc: Global, front: &[K], back: &[K]) -> Result<Self, AllocError>
         ensures { IfOk result (λ made. items made ≡ front.now ++ back.now) };
 }
@@ -37,7 +37,7 @@ pub trait ChildList<T>: Sized + Drop {
         ensures ok { IfOk result (λ made. items made ≡ list.items) }
         ensures err { IfErr result (λ failed. failed.value.items ≡ list.items) };
 
-    /// The children, to be written. Shared ones are copied first, and that copy can be refused.
+    /// The children, for writing. Shared ones are copied first, and that copy can be refused.
     fn make_mut(&mut self) -> Result<&mut Vec<T>, AllocError>
         ensures* writes_back { sem 𝓛 (LendsChildren Self.row T.row ⟦<Global as Allocator>⟧ items
             kept self.entry result) }

@@ -18,7 +18,8 @@ use crate::shared::ArcRadixTree;
 use crate::spelling::Spelled;
 use std::alloc::{AllocError, Global};
 
-/// So many pairs are inserted one by one. It takes no more time, and asks for memory less often.
+/// Up to this number, pairs are inserted one by one. That takes no more time, and fewer
+/// allocations.
 const FEW: usize = 8;
 
 /// Whether more pairs may come than that.
@@ -29,7 +30,8 @@ fn may_be_many(most: Option<usize>) -> bool {
     }
 }
 
-/// The tree of the pairs: in one go as far as their keys ascend, and then one by one.
+/// The tree of the pairs: built at once from the pairs as long as their keys ascend, and then one
+/// by one.
 fn collect<K: TKey, V: TValue, S: Spelled<K>, I: Iterator<Item = (S, V)>, T: Build<K, V>>(
     alloc: Global,
     iter: I,
@@ -55,7 +57,7 @@ fn collect<K: TKey, V: TValue, S: Spelled<K>, I: Iterator<Item = (S, V)>, T: Bui
 
 impl<K: TKey, V: TValue> RadixTree<K, V> {
     /// The tree of the pairs, which may come in any order. Of pairs with equal keys the last one
-    /// counts. As far as keys ascend the tree is built in one go, which takes less time.
+    /// counts. As long as keys ascend, the tree is built at once, which takes less time.
     ///
     /// Fails where memory is refused. The pairs that came and the iterator are then dropped.
     pub fn from_iter<'a, I: Iterator<Item = (&'a [K], V)>>(
@@ -76,7 +78,7 @@ impl<K: TKey, V: TValue> RadixTree<K, V> {
     }
 
     /// The tree of the pairs, which may come in any order. Of pairs with equal keys the last one
-    /// counts. The keys are dropped. As far as they ascend the tree is built in one go, which takes
+    /// counts. The keys are dropped. As long as they ascend, the tree is built at once, which takes
     /// less time.
     ///
     /// Fails where memory is refused. The pairs that came and the iterator are then dropped.
@@ -98,8 +100,8 @@ impl<K: TKey, V: TValue> RadixTree<K, V> {
 
 impl<K: TKey, V: TValue> ArcRadixTree<K, V> {
     /// The tree of the pairs, which may come in any order. Of pairs with equal keys the last one
-    /// counts. As far as keys ascend the tree is built in one go, which takes less time. As of any
-    /// insert into a shared tree, the values are those that came, or clones of them.
+    /// counts. As long as keys ascend, the tree is built at once, which takes less time. As with
+    /// any insertion into a shared tree, the values are those that came, or clones of them.
     ///
     /// Fails where memory is refused. The pairs that came and the iterator are then dropped.
     pub fn from_iter<'a, I: Iterator<Item = (&'a [K], V)>>(
@@ -121,7 +123,7 @@ impl<K: TKey, V: TValue> ArcRadixTree<K, V> {
     }
 
     /// The tree of the pairs, which may come in any order. Of pairs with equal keys the last one
-    /// counts. The keys are dropped. As far as they ascend the tree is built in one go, which takes
+    /// counts. The keys are dropped. As long as they ascend, the tree is built at once, which takes
     /// less time. The values are those that came, or clones of them, as in `from_iter`.
     ///
     /// Fails where memory is refused. The pairs that came and the iterator are then dropped.

@@ -12,7 +12,7 @@ ghost use Rattle.vc_tree_nodes.specs.Children.{seen};
 use crate::plain::RadixTree;
 use crate::reading::{RadixNode, TKey, TValue, canonical};
 
-/// Whether the keys have one length, and equal components at every place.
+/// Whether the keys have the same length, and equal components at every place.
 fn is_same_key<K: Ord>(left: &[K], right: &[K]) -> bool
     ensures { result ≡ same_key K.cmp left.now right.now }
 {
@@ -40,7 +40,7 @@ fn is_same<K: TKey, V: TValue + PartialEq, T: RadixNode<K, V>>(left: &T, right: 
         && is_same_list(left.children(), right.children())
 }
 
-/// Whether the trees of two lists are the same, place by place.
+/// Whether the trees of two lists are the same, element by element.
 #[cycle(comparing)]
 fn is_same_list<K: TKey, V: TValue + PartialEq, T: RadixNode<K, V>>(left: &[T], right: &[T]) -> bool
     ensures { result ≡ same_tree_in K.cmp V.eq (seen T.tree left.now) (seen T.tree right.now) }

@@ -30,7 +30,7 @@ pub fn clone_value<V: Clone>(value: Option<&V>) -> Result<Option<V>, AllocError>
 }
 
 /// A copy of the tree without the first `from` components of its prefix, with a clone of each
-/// value. Asks for each list of children once.
+/// value. Allocates once for each list of children.
 #[cycle(copying)]
 pub fn copy_shortened<K: TKey, V: TValue, S: RadixNode<K, V>, T: Build<K, V>>(
     alloc: Global,
@@ -69,7 +69,7 @@ fn copy_list<K: TKey, V: TValue, S: RadixNode<K, V>, T: Build<K, V>>(
 }
 
 impl<K: TKey, V: TValue> RadixTree<K, V> {
-    /// A tree of its own with the same nodes and a clone of each value.
+    /// An independent tree with the same nodes and a clone of each value.
     ///
     /// Fails where memory is refused, or the clone of a value.
     pub fn clone(&self) -> Result<Self, AllocError>
@@ -90,8 +90,8 @@ impl<K: TKey, V: TValue> Clone for RadixTree<K, V> {
     }
 }
 
-/// A flavour of tree whose clone is alike to it: of the plain flavour each node is copied, of the
-/// shared one the root, with the very same children.
+/// A flavour of tree whose clone has the same nodes. The plain flavour copies each node; the shared
+/// one copies the root and shares its children.
 pub trait CloneTree<K: TKey, V: TValue>: Build<K, V> + Clone {
     ghost clones_alike: { (t c : Self) → Self.is_clone t c
         → IsAlike (Copies V.is_clone) (Self.tree t) (Self.tree c) };

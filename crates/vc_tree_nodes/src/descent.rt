@@ -14,11 +14,11 @@ use crate::places::child_at;
 use crate::reading::{RadixNode, TKey, TValue};
 use vc_merge::merge::{Count, Uncounted};
 
-/// What is left of the key behind the prefix, if the key starts with it. The first `known`
-/// components of both are known to agree.
+/// The rest of the key after the prefix, if the key starts with it. The first `known` components of
+/// both are known to agree.
 ///
-/// A key that is shorter than the prefix is not compared: so a turn of the loop asks for one end,
-/// and for `equal or not` alone.
+/// A key that is shorter than the prefix is not compared: so each round of the loop tests for one
+/// end, and only for equality.
 fn rest_behind<'k, K: Ord, C: Count>(
     prefix: &[K],
     key: &'k [K],
@@ -90,7 +90,7 @@ pub fn get_longest<'a, K: TKey, V: TValue, T: RadixNode<K, V>>(
     longest_on(tree, path)
 }
 
-/// `get_longest`, by the cover of the path by values that carry the lengths of their keys.
+/// The answer of `get_longest`, found with values that carry the lengths of their keys.
 fn longest_on<'a, K: TKey, V: TValue, T: RadixNode<K, V>>(
     tree: &'a T,
     path: &[K],
@@ -117,7 +117,7 @@ fn longest_on<'a, K: TKey, V: TValue, T: RadixNode<K, V>>(
     longest
 }
 
-/// The value of the node beside the length of its key, or what stands above where it has none.
+/// The value of the node with `length`, or `above` where the node has no value.
 fn own_or<'a, K: TKey, V: TValue, T: RadixNode<K, V>>(
     node: &'a T,
     length: usize,

@@ -1,5 +1,5 @@
-//! Pairs on the way to their tree. As long as keys ascend they are kept, and the tree is made in
-//! one go; from the first one on that does not, each is bound in the tree.
+//! Pairs that become a tree. As long as keys ascend, the pairs are kept, and the tree is built at
+//! once. From the first key on that does not ascend, each pair is inserted into the tree.
 
 ghost use Rattle.std.specs.Prelude.{◌≡◌, false, List, true, length, [], IfOk, IfSome, OnOk};
 ghost use Rattle.vc_tree_model.specs.Map.{lookup};
@@ -20,7 +20,7 @@ use std::mem;
 /// The pairs that came, as long as their keys ascend.
 #[derive(Drop)]
 pub struct Gathering<K, V, S> {
-    /// Whether pairs are kept: each key came behind the one before it.
+    /// Whether pairs are still kept: each key so far is greater than the one before it.
     ascends: bool,
     /// The keys, as long as they ascend.
     run: Vec<Step<S>>,
@@ -47,7 +47,8 @@ fn build<K: TKey, V: TValue, S: Spelled<K>, T: Build<K, V>>(
 }
 
 impl<K: TKey, V: TValue, S: Spelled<K>> Gathering<K, V, S> {
-    /// No pairs. Those that come are kept as long as their keys ascend, or are all inserted.
+    /// A gathering with no pair yet. If `ascends`, pairs are kept as long as their keys ascend;
+    /// otherwise each pair is inserted.
     pub fn new(alloc: Global, ascends: bool) -> Self
         ensures ascends { result.ascends ≡ ascends }
         ensures none { result.run.items ≡ [] }
@@ -61,7 +62,8 @@ impl<K: TKey, V: TValue, S: Spelled<K>> Gathering<K, V, S> {
         }
     }
 
-    /// One more pair, beside a tree of the pairs that are no longer kept.
+    /// Adds one more pair: to the kept ones, or to `tree`, which has the pairs that are no longer
+    /// kept.
     pub fn add<T: Build<K, V>>(
         &mut self,
         alloc: Global,
@@ -92,7 +94,8 @@ impl<K: TKey, V: TValue, S: Spelled<K>> Gathering<K, V, S> {
         }
     }
 
-    /// With how many components of the last key of the run the key begins, where it ascends.
+    /// The number of leading components that the key shares with the last key of the run, or `None`
+    /// where it is not greater.
     fn follows(&self, key: &[K]) -> Option<usize>
         ensures { IfSome result (FollowsLast K.cmp (λ s. S.components s.key) (λ s. s.common)
             self.now.run.items key.now) }
@@ -103,7 +106,7 @@ impl<K: TKey, V: TValue, S: Spelled<K>> Gathering<K, V, S> {
         }
     }
 
-    /// One more pair of the run.
+    /// Adds one more pair to the run.
     fn keep(&mut self, key: S, common: usize, value: V) -> Result<(), AllocError>
         requires ascends { self.old.ascends ≡ true }
         requires grows { MayGrow K.cmp (λ s. S.components s.key) (λ s. s.common) self.old.ascends
@@ -124,7 +127,7 @@ impl<K: TKey, V: TValue, S: Spelled<K>> Gathering<K, V, S> {
         Ok(())
     }
 
-    /// Makes the tree of the run.
+    /// Builds the tree of the run.
     fn end_run<T: Build<K, V>>(&mut self, alloc: Global, tree: &mut T) -> Result<(), AllocError>
         requires ascends { self.old.ascends ≡ true }
         requires grows { MayGrow K.cmp (λ s. S.components s.key) (λ s. s.common) self.old.ascends
@@ -140,7 +143,7 @@ impl<K: TKey, V: TValue, S: Spelled<K>> Gathering<K, V, S> {
         Ok(())
     }
 
-    /// Makes the tree of all pairs.
+    /// Builds the tree of all pairs.
     pub fn finish<T: Build<K, V>>(&mut self, alloc: Global, tree: &mut T) -> Result<(), AllocError>
         requires { MayGrow K.cmp (λ s. S.components s.key) (λ s. s.common) self.old.ascends
             self.old.run.items self.old.values.items }

@@ -21,7 +21,7 @@ use std::alloc::{AllocError, Global};
 use std::mem;
 use vc_merge::merge::Uncounted;
 
-/// The tree that binds the empty key alone.
+/// The tree that binds only the empty key.
 pub fn leaf<K: TKey, V: TValue, T: Build<K, V>>(alloc: Global, value: V) -> T
     ensures is { T.tree result ≡ made [] (Some value) [] }
     ensures canonical { IsCanonical K.cmp (T.tree result) }
@@ -34,7 +34,7 @@ pub fn leaf<K: TKey, V: TValue, T: Build<K, V>>(alloc: Global, value: V) -> T
     T::assemble(prefix, Some(value), None, Seal::new())
 }
 
-/// The tree that binds this key alone.
+/// The tree that binds only this key.
 pub fn single<K: TKey, V: TValue, T: Build<K, V>>(
     alloc: Global,
     key: &[K],
@@ -97,7 +97,7 @@ fn insert_from<K: TKey, V: TValue, T: Build<K, V>>(
     }
 }
 
-/// Binds the key that is the prefix and then `rest`.
+/// Binds the key that is the prefix followed by `rest`.
 #[cycle(insertion)]
 fn insert_behind<K: TKey, V: TValue, T: Build<K, V>>(
     alloc: Global,
@@ -121,7 +121,8 @@ fn insert_behind<K: TKey, V: TValue, T: Build<K, V>>(
     }
 }
 
-/// Binds the key that is the prefix and then `rest`, which begins as the child at place `i` does.
+/// Binds the key that is the prefix followed by `rest`, which begins as the child at place `i`
+/// does.
 #[cycle(insertion)]
 fn insert_below<K: TKey, V: TValue, T: Build<K, V>>(
     alloc: Global,
@@ -150,7 +151,7 @@ fn insert_below<K: TKey, V: TValue, T: Build<K, V>>(
     done
 }
 
-/// Binds the key `rest` in the children, of which the one at place `i` begins as the key does.
+/// Binds the key `rest` in the children. The child at place `i` begins as the key does.
 #[cycle(insertion)]
 fn insert_into<K: TKey, V: TValue, T: Build<K, V>>(
     alloc: Global,
@@ -189,7 +190,7 @@ fn set_value<K: TKey, V: TValue, T: Build<K, V>>(alloc: Global, tree: &mut T, va
     *tree = T::assemble(prefix, Some(value), children, Seal::new());
 }
 
-/// Binds the key that is the prefix and then `rest`, by a new child at place `i`.
+/// Binds the key that is the prefix followed by `rest`, by a new child at place `i`.
 fn add_child<K: TKey, V: TValue, T: Build<K, V>>(
     alloc: Global,
     tree: &mut T,
@@ -215,7 +216,7 @@ fn add_child<K: TKey, V: TValue, T: Build<K, V>>(
     done
 }
 
-/// Puts a tree at place `i` among the children.
+/// Inserts a tree at place `i` of the children.
 fn add_to<K: TKey, V: TValue, T: Build<K, V>>(
     alloc: Global,
     children: &mut Option<T::Children>,
@@ -240,7 +241,7 @@ fn add_to<K: TKey, V: TValue, T: Build<K, V>>(
     }
 }
 
-/// Puts a tree at place `i` among children that are stored.
+/// Inserts a tree at place `i` of a list of children.
 fn add_to_some<K: TKey, V: TValue, T: Build<K, V>>(
     children: &mut T::Children,
     i: usize,
@@ -259,7 +260,7 @@ fn add_to_some<K: TKey, V: TValue, T: Build<K, V>>(
 }
 
 /// Makes room for one more item. A full list grows by a quarter, where `push` would double it: most
-/// lists of children stay as short as they are.
+/// lists of children grow no further.
 fn make_room<T: Drop>(list: &mut Vec<T>) -> Result<(), AllocError>
     ensures items { list.new.items ≡ list.old.items }
     ensures len { vec_len list.new ≡ vec_len list.old }
@@ -296,8 +297,8 @@ fn split_above<K: TKey, V: TValue, T: Build<K, V>>(
     Ok(())
 }
 
-/// Binds the first `n` components of the prefix and then `rest`, by a new node above the rest of
-/// the prefix and a leaf of `rest`, which comes to place `i` of the two.
+/// Binds the first `n` components of the prefix followed by `rest`. A new node gets two children:
+/// the rest of the prefix, and a leaf of `rest` at place `i`.
 fn split_beside<K: TKey, V: TValue, T: Build<K, V>>(
     alloc: Global,
     tree: &mut T,
@@ -326,7 +327,7 @@ fn split_beside<K: TKey, V: TValue, T: Build<K, V>>(
     Ok(())
 }
 
-/// Takes the tree out, with this prefix in the place of its own, and leaves the empty one.
+/// Takes the tree out, with this prefix instead of its own, and leaves the empty tree.
 fn cut<K: TKey, V: TValue, T: Build<K, V>>(alloc: Global, tree: &mut T, prefix: T::Prefix) -> T
     requires { IsCanonical K.cmp
         (node (T.Prefix.items prefix) (T.tree tree.old).value (T.tree tree.old).children) }
@@ -342,7 +343,7 @@ fn cut<K: TKey, V: TValue, T: Build<K, V>>(alloc: Global, tree: &mut T, prefix: 
     T::assemble(prefix, value, children, Seal::new())
 }
 
-/// Puts the item at place `i` of a list that has room.
+/// Inserts the item at place `i` of a list that has room.
 fn put<T: Drop>(list: &mut Vec<T>, i: usize, item: T)
     requires within { i ≤ vec_len list.old }
     requires room { vec_len list.old < vec_capacity list.old }

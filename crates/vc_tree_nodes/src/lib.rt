@@ -1,5 +1,5 @@
 //! The nodes of radix trees: how they are read, the two flavours in which they are stored, how a
-//! key is looked up, and how it is bound. For the crates above; the traits that users name stand in
+//! key is looked up, and how it is bound. For the crates above; the traits that users name are in
 //! `vc_trees`.
 #![tactic(auto)]
 

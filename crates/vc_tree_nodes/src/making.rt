@@ -10,7 +10,7 @@ use crate::children::{ChildList, Fragment, Parts};
 use crate::reading::{TKey, TValue};
 use std::alloc::{AllocError, Global};
 
-/// The list as children. Asks for nothing where it is empty.
+/// The list as children. Takes no memory where it is empty.
 pub fn stored<K: TKey, V: TValue, T: Build<K, V>>(
     list: Vec<T>,
 ) -> Result<Option<T::Children>, AllocError>

@@ -1,4 +1,4 @@
-//! Where a key parts from the prefix of a node.
+//! Where a key diverges from the prefix of a node.
 
 ghost use Rattle.std.specs.Prelude.{◌+◌, ◌-◌, ◌≤◌, length, min};
 ghost use Rattle.vc_tree_nodes.specs.Parting.{Agree, IsParting};
@@ -6,20 +6,20 @@ ghost use Rattle.vc_tree_nodes.specs.Parting.{Agree, IsParting};
 use std::cmp::Ordering;
 use vc_merge::merge::Count;
 
-/// Where a key parts from a prefix.
+/// Where a key diverges from a prefix.
 #[derive(Clone, Copy)]
 pub enum Parting {
     /// The key starts with the whole prefix.
     Behind,
     /// The key ends inside the prefix, after that many components.
     Inside(usize),
-    /// After that many components the prefix goes on with a lesser component than the key.
+    /// After that many components the prefix continues with a lesser component than the key.
     Lower(usize),
-    /// After that many components the prefix goes on with a greater component than the key.
+    /// After that many components the prefix continues with a greater component than the key.
     Higher(usize),
 }
 
-/// Where the key parts from the prefix, of which the first `known` components are known to agree.
+/// Where the key diverges from the prefix. The first `known` components are known to agree.
 /// Compares each further component once.
 pub fn find_parting<K: Ord, C: Count>(
     prefix: &[K],

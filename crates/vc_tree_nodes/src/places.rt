@@ -33,8 +33,8 @@ impl<'a, K: TKey, V: TValue, T: RadixNode<K, V>, C: Count> Sought<T, C> for Firs
     }
 }
 
-/// Where the child stands that begins with the component, or where one that begins so would stand.
-/// Compares no more first components than the number of children has binary digits.
+/// The place of the child that begins with the component, or the place where it would be. Compares
+/// no more first components than the number of children has binary digits.
 pub fn child_place<K: TKey, V: TValue, T: RadixNode<K, V>, C: Count>(
     children: &[T],
     first: &K,

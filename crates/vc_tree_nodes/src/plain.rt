@@ -6,11 +6,11 @@ use crate::reading::{RadixNode, TKey, TValue};
 use std::alloc::Global;
 use std::marker::Model;
 
-/// A radix tree that owns all its nodes. It is seen as a tree of prefixes, values and children,
-/// always canonical.
+/// A radix tree that owns all its nodes. Contracts see it as a tree of prefixes, values and
+/// children, which is always canonical.
 ///
-/// Its drop and most calls take stack for each level. Levels are at most one more than the longest
-/// key has components, and no more than keys; a long key alone is one level.
+/// Its drop and most calls use stack for each level. There is at most one level more than the
+/// longest key has components, and no more levels than keys. A single long key is one level.
 #[derive(Drop)]
 pub struct RadixTree<K: TKey, V: TValue> {
     prefix: Prefix<K>,

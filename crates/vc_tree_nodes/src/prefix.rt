@@ -1,4 +1,4 @@
-//! A node's prefix, as both flavours store it.
+//! A node's prefix, as both flavours store them.
 
 ghost use Rattle.std.specs.Prelude.{◌≡◌, ◌++◌, ◌≤◌, [], IfOk, IsOk, length, take};
 
@@ -6,20 +6,20 @@ use crate::children::Fragment;
 use std::alloc::{AllocError, Global};
 use std::marker::Model;
 
-/// The components of a node's prefix: up to 16 in place, and more than that behind a pointer, so
-/// that a prefix of bytes takes three words. It is seen as the list of its components.
+/// The components of a node's prefix: up to 16 inline, and more on the heap, so that a prefix of
+/// bytes takes three words. Contracts see the list of its components.
 #[derive(Drop)]
 pub struct Prefix<K> {
     alloc: Global,
     cells: Cells<K>,
 }
 
-/// Where the components of a prefix lie.
+/// Where the components of a prefix are stored.
 #[derive(Drop)]
 pub(crate) enum Cells<K> {
-    /// The first `len` of these places. The others repeat one of the components.
+    /// The components in the first `len` of these places. The others repeat one of the components.
     Short { len: u8, places: [K; 16] },
-    /// A list of its own, or no component, of which no place could be filled.
+    /// A list on the heap, or no component, since no place could be filled then.
     Apart(Option<Box<Vec<K>>>),
 }
 
@@ -58,7 +58,7 @@ impl<K> Prefix<K> {
 }
 
 impl<K: Copy> Prefix<K> {
-    /// No component.
+    /// The prefix with no component.
     pub fn new(alloc: Global) -> Self
         ensures { result ≡ [] }
     {
@@ -68,7 +68,7 @@ impl<K: Copy> Prefix<K> {
         }
     }
 
-    /// The first `len` of the places.
+    /// The prefix of the first `len` places.
     #[inline]
     fn short(alloc: Global, len: usize, places: [K; 16]) -> Self
         requires { len ≤ 16 }
@@ -81,7 +81,7 @@ impl<K: Copy> Prefix<K> {
         }
     }
 
-    /// The components of a list.
+    /// The prefix with the components of a list.
     fn long(alloc: Global, list: Vec<K>) -> Result<Self, AllocError>
         ensures { IfOk result (λ made. made ≡ list.items) }
     {

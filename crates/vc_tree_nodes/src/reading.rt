@@ -19,9 +19,9 @@ pub trait TValue: Debug + Clone + Drop {}
 
 impl<V: Debug + Clone + Drop> TValue for V {}
 
-/// A node of a radix tree with all that lies below it. An implementation gives its prefix, value,
-/// children and allocator, and says by `tree` which tree that is; whoever writes these has all of
-/// the calls that read a tree.
+/// A node of a radix tree with all that is below it. An implementation gives its prefix, value,
+/// children and allocator, and says by `tree` which tree that is. It then has all calls that read a
+/// tree.
 ///
 /// The law: the tree is canonical.
 pub trait RadixNode<K: TKey, V: TValue>: Sized {
@@ -29,7 +29,7 @@ pub trait RadixNode<K: TKey, V: TValue>: Sized {
 
     ghost tree: { Self → Tree K V };
 
-    /// What all keys of this tree begin with, up to where the first ends or two part.
+    /// What all keys of this tree begin with, up to where a key ends or two keys diverge.
     fn prefix(&self) -> &[K]
         ensures value { result.now ≡ (tree self.now).prefix }
         ensures canonical { IsCanonical K.cmp (tree self.now) };
@@ -38,16 +38,16 @@ pub trait RadixNode<K: TKey, V: TValue>: Sized {
     fn value(&self) -> Option<&V>
         ensures { option_copied result ≡ (tree self.now).value };
 
-    /// The trees of what is left of the longer keys behind the prefix.
+    /// The trees of the rests of the longer keys, after the prefix.
     fn children(&self) -> &[Self]
         ensures { seen tree result.now ≡ (tree self.now).children };
 
-    /// The allocator that a tree made of this one takes.
+    /// The allocator for a tree that is made of this one.
     fn allocator(&self) -> Global;
 }
 
-/// Nothing but the law: the tree is canonical. A law of a type is a clause of a call, here of
-/// `prefix`; a proof that wants it and not the prefix has it from this call, by its name.
+/// Does nothing; its contract is the law that the tree is canonical. The law is a clause of
+/// `prefix`; a proof that needs the law and not the prefix calls this.
 pub fn canonical<K: TKey, V: TValue, T: RadixNode<K, V>>(tree: &T)
     ensures { IsCanonical K.cmp (T.tree tree.now) }
 {

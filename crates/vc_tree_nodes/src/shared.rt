@@ -1,4 +1,4 @@
-//! The shared flavour: several trees may hold the children of one node, and a write copies those
+//! The shared flavour: several trees may hold the children of one node, and a write copies children
 //! that are shared.
 
 ghost use Rattle.std.specs.Prelude.{◌≡◌, ◌↔◌, IfOk, IsTrue};
@@ -20,11 +20,11 @@ use std::alloc::{AllocError, Global};
 use std::marker::Model;
 use std::rc::Rc;
 
-/// A radix tree whose clone shares its children, so that a clone is a snapshot. It is seen as a
-/// tree of prefixes, values and children, always canonical.
+/// A radix tree whose clone shares its children, so that a clone is a snapshot. Contracts see it as
+/// a tree of prefixes, values and children, which is always canonical.
 ///
-/// Its drop and most calls take stack for each level. Levels are at most one more than the longest
-/// key has components, and no more than keys; a long key alone is one level.
+/// Its drop and most calls use stack for each level. There is at most one level more than the
+/// longest key has components, and no more levels than keys. A single long key is one level.
 #[derive(Drop)]
 pub struct ArcRadixTree<K: TKey, V: TValue> {
     prefix: Prefix<K>,
@@ -136,11 +136,11 @@ impl<K: TKey, V: TValue> ArcRadixTree<K, V> {
     ghost use Rattle.vc_tree_model.specs.Canonical.{IsCanonical};
     ghost use Rattle.vc_tree_model.specs.Snapshot.{IsSnapshot};
 
-    /// A snapshot: a tree of its own with the same prefix, a clone of the root's value, and the
-    /// very same children, which both trees hold. A later change of either tree copies what it
-    /// writes, and leaves the other as it is.
+    /// A snapshot: an independent tree with the same prefix, a clone of the root's value, and the
+    /// same children, which both trees share. A later change of either tree copies what it writes,
+    /// and the other tree is unchanged.
     ///
-    /// Clones no value but the root's. Fails where memory is refused, or the value's own clone.
+    /// Clones only the root's value. Fails where memory or that clone is refused.
     pub fn clone(&self) -> Result<Self, AllocError>
         ensures snapshot { IfOk result (IsSnapshot V.is_clone self.now) }
         ensures map { IfOk result (λ copy.
@@ -150,7 +150,7 @@ impl<K: TKey, V: TValue> ArcRadixTree<K, V> {
         self.snapshot()
     }
 
-    /// One more tree of the same children.
+    /// One more tree with the same children.
     fn snapshot(&self) -> Result<Self, AllocError>
         ensures snapshot { IfOk result (IsSnapshot V.is_clone self.now) }
         ensures canonical { IfOk result (IsCanonical K.cmp) }

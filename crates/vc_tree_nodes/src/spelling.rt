@@ -1,8 +1,8 @@
-//! Keys as they are handed in.
+//! Keys as callers give them.
 
 ghost use Rattle.std.specs.Prelude.{◌≡◌, List};
 
-/// A list of components that is handed in as a key.
+/// A list of components that a caller gives as a key.
 pub trait Spelled<K>: Drop {
     ghost components: { Self → List K };
 
