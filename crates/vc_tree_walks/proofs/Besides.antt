@@ -1,4 +1,4 @@
--- The pair beside a key, as the way down finds it.
+-- The pair next to a key, as the way down finds it.
 --     kept-pair, kept-joined        pairs of equal keys, with equal fronts before them
 --     first-more, last-more        the first or the last pair of two lists
 --     near-node, near-parts        what is found at a node, of what was found above it

@@ -1,6 +1,6 @@
 -- The first and the last pair of a tree, by its walk.
 --     walk-begun        the walk of a solid tree has a first pair
---     first-below, last-below        where the node has no such child, the pair is its own, and else below that child
+--     first-below, last-below        where the node has no such child, the pair is its own, and otherwise below that child
 --     least-is, greatest-is        by the walk of a map the first pair has the least key, and the last one the greatest
 --     reaches-itself, reaches-child, reaches-own, reaches-key        the way down to the pair
 --     longer, within, own-sized        how many components are counted on it

@@ -1,9 +1,9 @@
 -- The tree of the keys that start with a prefix, by the walk of these keys.
 --     nothing-listed, nothing-below, filtered-none, filtered-bare        no key starts so
---     bound-below        what the node binds that they stand below
+--     bound-below        what the node binds that they are below
 --     bare-walk, some-below, something-below        a node that is the empty tree has no pair, and any other has some
 --     told-below        so the one test tells whether some key starts so
---     filtered        a copy of the node that they stand below, with what stands before it
+--     filtered        a copy of the node that they are below, with what is before it
 --     copy-solid        such a copy is solid
 use Rattle.std.proofs.Common.{◌≡◌, [], ◌++◌, List, Option, None, Some, true, false, Result, IfOk, arith}
 use Rattle.std.proofs.Common.{ap, refl, sym, ◌∙◌, map, true≢false, Bool, not, is_some}

@@ -7,7 +7,7 @@
 --     stopped-front, stopped-back        what ends a walk over one of two lists ends it over both
 --     handed-on        an error of a walk over some pairs is answered for a walk over more
 --     walked, stopped-walk        a fold over a walk, or the end of one, is that of some walk
---     rest-pairs        the pairs of a tree of a list come before those of the trees behind it
+--     rest-pairs        the pairs of a tree of a list come before those of the trees after it
 use Rattle.std.proofs.Common.{◌≡◌, ℕ, suc, ◌+◌, ◌<◌, List, [], ◌∷◌, ◌++◌, ◌∙◌, ◌⊎◌, Ok, Err, IfOk}
 use Rattle.std.proofs.Common.{IfErr, IsErrAnd, ap, sym, subst, refl, map, length, drop}
 use Rattle.std.proofs.Common.{append_assoc, append-nil, arith, get_or}

@@ -1,7 +1,7 @@
--- The way down to where a key stands.
+-- The way down to the place of a key.
 --     IsAt        the walk of the root has that of a node in it, whose keys are still to be told apart
 --     at-root, at-child        it begins at the root, and goes down to a child
---     past-within, past-same        the key behind the prefix of the node
+--     past-within, past-same        the key after the prefix of the node
 --     cut-here        where the keys of the node are told apart, those of the root are
 use Rattle.std.proofs.Common.{◌≡◌, ℕ, ◌+◌, ◌-◌, ◌≤◌, [], ◌∷◌, ◌++◌, take, drop, take-add, drop-drop, List, length, length-append}
 use Rattle.std.proofs.Common.{length-drop, refl, sym, ap, ◌∙◌, true, map, arith, append_assoc, append-nil}

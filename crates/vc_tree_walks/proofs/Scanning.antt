@@ -1,7 +1,7 @@
 -- The part of a tree that a prefix leads to.
---     IsPart        a node below which all keys stand that start with the prefix
+--     IsPart        a node below which all keys are that start with the prefix
 --     part-next        the child that the rest of the prefix leads to is one
---     walk-ended, walk-inside        the pairs of such a node, where the prefix ends behind or in that of the node
+--     walk-ended, walk-inside        the pairs of such a node, where the prefix ends after or in that of the node
 --     behind-parts        what is left behind two parts
 --     child-agrees        the child agrees with what is left in one component
 --     walk-default, walk-childless        where the two part, and where no child is, there are none

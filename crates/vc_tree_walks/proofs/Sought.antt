@@ -1,4 +1,4 @@
--- The way down to the pair beside a key.
+-- The way down to the pair next to a key.
 --     IsSought        what is kept on the way
 --     sought-root, sought-into        it begins at the root, and goes down to a child
 --     beside-bare        the empty tree has no pair

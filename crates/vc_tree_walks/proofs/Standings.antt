@@ -1,6 +1,6 @@
--- Where a key stands among those of a node.
---     behind-stand        behind a prefix that agrees, the rest of the key decides
---     stand-append, stand-prepended, stand-whole        pairs that all stand so
+-- Where a key is among those of a node.
+--     behind-stand        after a prefix that agrees, the rest of the key decides
+--     stand-append, stand-prepended, stand-whole        pairs that all are so
 --     stands-before, stands-behind, stands-own, stands-between, stands-into        what the parting of the key and the prefix tells
 use Rattle.std.proofs.Common.{◌≡◌, ℕ, zero, suc, ◌<◌, ◌≤◌, [], ◌∷◌, ◌++◌, take, drop, List, length, Option, None, Some}
 use Rattle.std.proofs.Common.{refl, sym, ap, ◌∙◌, true, false, subst, map, arith, append_assoc, get_or}

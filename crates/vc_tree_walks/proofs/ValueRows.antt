@@ -1,7 +1,7 @@
 -- What a step to a tree does to the values that are left.
 --     first-value        the values of a row are those of its first tree, and then the others
 --     entered-values, entered-last        a step to a tree with children, with rows as the iterator stores them
---     before-start        what is left behind all rows stays behind them
+--     before-start        what is left behind all rows stays after them
 use Rattle.std.proofs.Common.{◌≡◌, List, [], ◌∷◌, ◌++◌, ◌∙◌, ap, map, sym, Option, refl, append_assoc, arith}
 use Rattle.std.proofs.lemmas.List.{map-append, reverse-append}
 use Rattle.std.specs.Prelude.{reverse}

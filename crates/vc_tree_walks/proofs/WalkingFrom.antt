@@ -1,4 +1,4 @@
--- The way of a walk down to where a key stands.
+-- The way of a walk down to the place of a key.
 --     IsSeeking        what is kept on the way
 --     seeking-root, seeking-into        it begins at the root, and goes down to a child
 --     from-before, from-own, from-behind, from-between        where it ends

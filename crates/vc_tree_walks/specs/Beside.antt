@@ -1,4 +1,4 @@
--- The pair beside a key. No public clause cites these words.
+-- The pair next to a key. No public clause cites these words.
 use Rattle.std.specs.Prelude.{◌≤◌, ◌++◌, List, Option, None, Some, length, take, ⊤}
 use Rattle.std.specs.Option.{option_map}
 use Rattle.std.specs.declared.cmp.Ordering.{Ordering}
@@ -14,7 +14,7 @@ use Rattle.vc_tree_walks.specs.declared.beside.Beside.TheVariants.{Own, Within}
 use Rattle.vc_tree_walks.specs.declared.ends.End.{End}
 use Rattle.vc_tree_walks.specs.declared.ends.End.TheVariants.{First, Last}
 
--- the part of a map on that side of a key at whose end the pair beside it stands
+-- the part of a map on one side of a key; the pair next to the key is at an end of it
 abbrev pub side_of : {K V : Type 0} → (K → K → Ordering) → End → (List K → Option V) → List K → List K → Option V
 side_of cmp First f key = above cmp f key
 side_of cmp Last f key = below cmp f key
@@ -30,7 +30,8 @@ module _ {K V T : Type 0} (tree : T → Tree K V) where
   near_pairs First t lower upper = walk_in (seen tree upper)
   near_pairs Last t lower upper = own_pair t.value ++ walk_in (seen tree lower)
 
-  -- the pair that was found, its key spelled as the given one up to where the two part
+  -- the pair that was found; its key has the components of the given one up to where the two
+  -- diverge
   abbrev pub spelled_pair : End → List K → Option (Beside V T) → Option (List K × V)
   spelled_pair end key None = None
   spelled_pair end key (Some (Own n v)) = Some (take n key, v.now)
@@ -42,7 +43,7 @@ module _ {K V T : Type 0} (tree : T → Tree K V) where
   Fits key (Some (Own n v)) = n ≤ length key
   Fits key (Some (Within n t)) = n ≤ length key
 
-  -- it is the pair at the end of those on that side of the key, up to how its key is spelled
+  -- it is the pair at the end of those on that side of the key, up to an equal key
   pub record IsBeside (cmp : K → K → Ordering) (t : Tree K V) (key : List K) (end : End) (found : Option (Beside V T))
       : Type 0 where
     pub pairs : List (List K × V)

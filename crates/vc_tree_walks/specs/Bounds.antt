@@ -1,4 +1,4 @@
--- The parts of a map by where its keys stand to a given one.
+-- The parts of a map, by how its keys compare with a given one.
 use Rattle.std.specs.Prelude.{List, Option, None, if◌then◌else◌}
 use Rattle.std.specs.Cmp.Lexicographic.{slice_cmp}
 use Rattle.std.specs.Ordering.{is_ge, is_gt, is_lt}

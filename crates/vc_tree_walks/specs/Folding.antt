@@ -1,4 +1,4 @@
--- Walks that hand a value from pair to pair.
+-- Walks that pass a value from pair to pair.
 use Rattle.std.specs.Prelude.{◌≡◌, List, [], ◌∷◌, ◌++◌, map, Ok, Err, IfOk}
 use Rattle.std.proofs.Common.{subst, sym}
 use Rattle.std.specs.List.{fold, FoldsTo}
@@ -15,26 +15,27 @@ module _ {K V T : Type 0} (tree : T → Tree K V) where
   pairs_in key list = map (prepended key) (walk_in (seen tree list))
 
 module _ {F B K V E : Type 0} (g : Shared F (B × (Bor (List K) × (Bor V × Unit {0}))) (Result B E)) (f : F) where
-  -- the closure may answer this value where it is handed that one and shown the pair
+  -- the closure may answer this value to that one and the pair
   pub record Turns (held : B) (pair : List K × V) (next : B) : Type 0 where
     pub key : Bor (List K)
     pub value : Bor V
     pub shows : (key.now, value.now) ≡ pair
     pub says : g.post f (held, (key, (value, tt))) (Ok next)
 
-  -- the closure may be asked at each pair of the list, handed what it made of the pairs before
+  -- the closure may be called at each pair of the list, with its answer at the pair before
   abbrev pub CanFold : B → List (List K × V) → Type 0
   CanFold init l = (before after : List (List K × V)) (held : B) (key : Bor (List K)) (value : Bor V)
       → l ≡ before ++ (key.now, value.now) ∷ after → FoldsTo Turns init before held → g.pre f (held, (key, (value, tt)))
 
-  -- the closure may answer this error where it is handed that value and shown the pair
+  -- the closure may answer this error to that value and the pair
   pub record TurnFails (held : B) (pair : List K × V) (error : E) : Type 0 where
     pub key : Bor (List K)
     pub value : Bor V
     pub shows : (key.now, value.now) ≡ pair
     pub says : g.post f (held, (key, (value, tt))) (Err error)
 
-  -- the closure answers this error at some pair of the list, handed what it made of the pairs before
+  -- the closure answers this error at some pair of the list, called with its answer at the pair
+  -- before
   pub record IsStopped (init : B) (l : List (List K × V)) (error : E) : Type 0 where
     pub before : List (List K × V)
     pub pair : List K × V
@@ -44,7 +45,8 @@ module _ {F B K V E : Type 0} (g : Shared F (B × (Bor (List K) × (Bor V × Uni
     pub folded : FoldsTo Turns init before held
     pub fails : TurnFails held pair error
 
-  -- where each answer is what a function makes of the value and the pair, the last is its fold over the list
+  -- where each answer is that of a function of the value and the pair, the last one is its fold
+  -- over the list
   pub folds-as : (h : B → List K × V → B) → ((held : B) (pair : List K × V) (next : B) → Turns held pair next → next ≡ h held pair)
       → (l : List (List K × V)) (init : B) (r : Result B E) → IfOk r (FoldsTo Turns init l) → IfOk r (λ last. last ≡ fold h init l)
   folds-as h each l init (Err e) s = tt
@@ -63,7 +65,8 @@ module _ {F B K V E : Type 0} (g : Shared F (B × (Bor (List K) × (Bor V × Uni
   folds-some-as h each W init (Err e) s = tt
   folds-some-as h each W init (Ok last) s = (s.0, s.1, folds-as h each s.0 init (Ok last) s.2)
 
-  -- where each answer is what a function makes of the value and the pair, the error ends its fold over the pairs before
+  -- where each answer is that of a function of the value and the pair, the error ends its fold over
+  -- the pairs before
   pub stops-as : (h : B → List K × V → B)
       → ((held : B) (pair : List K × V) (next : B) → Turns held pair next → next ≡ h held pair)
       → (l : List (List K × V)) (init : B) (error : E) → IsStopped init l error

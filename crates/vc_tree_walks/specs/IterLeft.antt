@@ -17,7 +17,7 @@ IsItem key v Moved = v ≡ None
 IsItem key v Done = ⊥
 
 module _ {K V T : Type 0} (tree : T → Tree K V) where
-  -- the pairs of a tree, with what stands before its keys, or no pair
+  -- the pairs of a tree, with what is before its keys, or no pair
   abbrev pub pairs_from : Option (Bor (List K) × Bor T) → List (List K × V)
   pairs_from None = []
   pairs_from (Some from) = map (prepended from.0.now) (walk (tree from.1.now))
@@ -26,7 +26,7 @@ module _ {K V T : Type 0} (tree : T → Tree K V) where
   abbrev pub row_of : Row T → Forest K V × ℕ
   row_of row = (seen tree row.trees.now, row.base)
 
-  -- the innermost row and those that it lies below
+  -- the innermost row and those above it
   abbrev pub rows_of : Row T → List (Row T) → List (Forest K V × ℕ)
   rows_of row above = row_of row ∷ map row_of (reverse above)
 
@@ -44,7 +44,7 @@ module _ {K V T : Type 0} (tree : T → Tree K V) where
         | Some from ↦ pairs_from (Some from)
       ]
 
-  -- the pairs of a whole tree, or those that are left with a row in the place of the innermost one
+  -- the pairs of a whole tree, or those that are left with a row instead of the innermost one
   abbrev pub pairs_with : Iter K V T → T → Option (Bor (List T)) → List (List K × V)
   pairs_with s t None = map (prepended []) (walk (tree t))
   pairs_with s t (Some row) = rows_left s.key ((seen tree row.now, s.row.base) ∷ map row_of (reverse s.above.items))

@@ -4,8 +4,9 @@ use Rattle.std.specs.Prelude.{MatchResult}
 use Rattle.vc_tree_model.specs.Tree.{Forest, forest_nodes}
 use Rattle.vc_tree_model.specs.Walk.{prepended, walk_in}
 
--- a step of an iterator that takes at most so many more: its first item, and the others are left; or an error, and nothing is
--- left, nor another step that finds something; or `None`, where nothing is left
+-- a step of an iterator that takes at most a number of further steps: it gives its first item, and
+-- the others are left; or an error, and nothing is left, and no later step finds something; or
+-- `None`, where nothing is left
 abbrev pub Walks : {S X A E : Type 0} → (X → A) → (S → List A) → (S → ℕ) → S → Option (Result X E) → S → Type 0
 Walks view rest work s r t =
     MatchOption r ((rest s ≡ []) × (rest t ≡ []))
@@ -17,7 +18,8 @@ module _ {K V : Type 0} where
   pair_at key None = []
   pair_at key (Some v) = (key, v) ∷ []
 
-  -- the pairs of rows of trees, the innermost first: of each its trees, and how many components of the key stand before theirs
+  -- the pairs of rows of trees, the innermost first: of each its trees, and how many components of
+  -- the key are before theirs
   abbrev pub rows_left : List K → List (Forest K V × ℕ) → List (List K × V)
   rows_left key [] = []
   rows_left key (row ∷ rows) = map (prepended (take row.1 key)) (walk_in row.0) ++ rows_left (take row.1 key) rows

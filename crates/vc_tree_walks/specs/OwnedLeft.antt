@@ -1,4 +1,4 @@
--- What is left of the pairs of a tree that the iterator holds.
+-- What is left of the pairs of a tree that the iterator owns.
 use Rattle.std.specs.Prelude.{◌≡◌, ℕ, zero, suc, ◌+◌, ◌*◌, ◌<◌, List, [], ◌∷◌, ◌++◌, length, take, slice_index_or, Option, Some}
 use Rattle.std.specs.Prelude.{None, if◌then◌else◌, Result, MatchOption, MatchResult}
 use Rattle.std.specs.Borrow.{Bor}
@@ -11,8 +11,9 @@ use Rattle.vc_tree_walks.specs.declared.owned.Way.{Way}
 use Rattle.vc_tree_walks.specs.declared.turn.Turn.{Turn}
 use Rattle.vc_tree_walks.specs.declared.turn.Turn.TheVariants.{Item, Moved, Done}
 
--- a step of an iterator that hands out clones, and takes at most so many more: that of its first item, and the others are
--- left; or an error, and nothing is left, nor another step that finds something; or `None`, where nothing is left
+-- a step of an iterator that gives clones, and takes at most a number of further steps: it gives
+-- that of its first item, and the others are left; or an error, and nothing is left, and no later
+-- step finds something; or `None`, where nothing is left
 abbrev pub WalksClones : {S K V E : Type 0} → (V → V → Type 0) → (S → List (K × V)) → (S → ℕ) → S → Option (Result (K × V) E)
     → S → Type 0
 WalksClones {V = V} is_clone rest work s r t =
@@ -44,8 +45,8 @@ module _ {K V : Type 0} where
   entered zero f = None
   entered (suc n) f = tree_at n f
 
-  -- the rows below the open nodes of a path that goes on from a node, the innermost first: of each the children that were not
-  -- entered yet, and how much of the key stands before theirs
+  -- the rows below the open nodes of a path that continues from a node, the innermost first: of
+  -- each the children that were not entered yet, and how much of the key is before theirs
   abbrev pub rows_at : Tree K V → List Place → List (Forest K V × ℕ)
   rows_at t [] = []
   rows_at t (place ∷ path) =
@@ -63,7 +64,7 @@ module _ {K V : Type 0} where
         | grow p v kids rest ↦ record { entered = 0; base = base } ∷ []
       ]
 
-  -- the pairs that are left of a tree, on the way to where a walk stands
+  -- the pairs that are left of a tree, on the way to where a walk is
   abbrev pub way_left : Tree K V → Way K → List (List K × V)
   way_left root way = rows_left (take way.front way.key) (rows_at root way.path.items)
 

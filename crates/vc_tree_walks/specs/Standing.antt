@@ -1,4 +1,4 @@
--- Where a key stands among those of a node. No public clause cites these words.
+-- Where a key is among those of a node. No public clause cites these words.
 use Rattle.std.specs.Prelude.{◌≡◌, ◌<◌, ◌≤◌, ◌++◌, IsTrue, List, [], ◌∷◌, drop, length, map, take}
 use Rattle.std.specs.Cmp.Lexicographic.{slice_cmp}
 use Rattle.std.specs.List.{AllByRecursion}
@@ -13,7 +13,7 @@ use Rattle.vc_tree_nodes.specs.Parting.{Agree}
 use Rattle.vc_tree_walks.specs.declared.seeking.Standing.{Standing}
 use Rattle.vc_tree_walks.specs.declared.seeking.Standing.TheVariants.{Before, Own, Between, Into, Behind}
 
--- the key of each pair of the list stands so to the key
+-- the key of each pair of the list compares so with the key
 abbrev pub AllStand : {K V : Type 0} → (K → K → Ordering) → Ordering → List (List K × V) → List K → Type 0
 AllStand cmp side l key = AllByRecursion (λ b. slice_cmp cmp b.0 key ≡ side) l
 
@@ -32,7 +32,8 @@ module _ {K V T : Type 0} (cmp : K → K → Ordering) (tree : T → Tree K V) (
       pub long : length t.prefix ≤ length key
       pub same : IsTrue (same_key cmp t.prefix (take (length t.prefix) key))
 
-    -- the pairs of the node and of its children `lower` come before the key, and those of the children `upper` behind it
+    -- the pairs of the node and of its children `lower` come before the key, and those of the
+    -- children `upper` after it
     pub record Parts (lower upper : List T) : Type 0 where
       pub less : AllStand cmp Less (first_pairs lower) key
       pub greater : AllStand cmp Greater (last_pairs upper) key
@@ -63,7 +64,7 @@ module _ {K V T : Type 0} (cmp : K → K → Ordering) (tree : T → Tree K V) (
       pub greater : AllStand cmp Greater (map (prepended t.prefix) (walk_in t.children)) key
       pub past : IsPast
 
-    -- the key stands so among those of the node
+    -- the key is at this place among those of the node
     abbrev pub StandsSo : Standing T → Type 0
     StandsSo Before = AllStand cmp Greater (walk t) key
     StandsSo Own = IsOwn

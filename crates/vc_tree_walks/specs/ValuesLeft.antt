@@ -18,11 +18,11 @@ rows_values [] = []
 rows_values (row ∷ rows) = map (λ b. b.1) (walk_in row.0) ++ rows_values rows
 
 module _ {K V T : Type 0} (tree : T → Tree K V) where
-  -- the innermost row and those that it lies below; no key stands before their trees
+  -- the innermost row and those above it; no key is before their trees
   abbrev pub rows_of : List T → List (Bor (List T)) → List (Forest K V × ℕ)
   rows_of row above = (seen tree row, 0) ∷ map (λ r. (seen tree r.now, 0)) (reverse above)
 
-  -- the values of the tree to start with, which comes behind all rows
+  -- the values of the tree to start with, which comes after all rows
   abbrev pub start_values : Option (Bor T) → List V
   start_values None = []
   start_values (Some t) = map (λ b. b.1) (walk (tree t.now))
@@ -40,7 +40,7 @@ module _ {K V T : Type 0} (tree : T → Tree K V) where
   abbrev pub values_work : Values K V T → ℕ
   values_work s = rows_work (rows_of s.row.now s.above.items) + start_work s.start
 
-  -- the innermost row with a tree before it, and those that it lies below
+  -- the innermost row with a tree before it, and those above it
   abbrev pub rows_before : T → Values K V T → List (Forest K V × ℕ)
   rows_before t s =
       (grow (tree t).prefix (tree t).value (tree t).children (seen tree s.row.now), 0)

@@ -1,4 +1,4 @@
-//! The pairs beside a key: the next one above it, and the last one below it.
+//! The pairs next to a key: the next one above it, and the last one below it.
 
 ghost use Rattle.std.specs.Prelude.{◌≡◌, ◌≤◌, IfOk, List, MatchOption, None, Ok, length, take};
 ghost use Rattle.std.specs.Option.{option_map};
@@ -46,16 +46,17 @@ pub fn last_before<'a, K: TKey, V: TValue, T: RadixNode<K, V>>(
     pair_of(tree, key, End::Last, found)
 }
 
-/// Where the pair beside a key is found.
+/// Where the pair next to a key is found.
 #[derive(Clone, Copy)]
 pub(crate) enum Beside<'a, V, T> {
-    /// It has this value, and its key is so many components of the given one.
+    /// The pair has this value, and its key is this many first components of the given key.
     Own(usize, &'a V),
-    /// It is that at an end of this tree, behind so many components of the given key.
+    /// The pair is at an end of this tree, after this many components of the given key.
     Within(usize, &'a T),
 }
 
-/// The pair that was found, its key spelled as the given one up to where the two part.
+/// The pair that was found. Its key has the components of the given key up to where the two
+/// diverge.
 fn pair_of<'a, K: TKey, V: TValue, T: RadixNode<K, V>>(
     tree: &T,
     key: &[K],
@@ -77,7 +78,7 @@ fn pair_of<'a, K: TKey, V: TValue, T: RadixNode<K, V>>(
     }
 }
 
-/// The pair beside a key, at the near end of those on one side of it.
+/// The pair next to a key: the nearest of those on one side of it.
 fn find_beside<'a, K: TKey, V: TValue, T: RadixNode<K, V>>(
     tree: &'a T,
     key: &[K],
@@ -128,8 +129,9 @@ fn find_beside<'a, K: TKey, V: TValue, T: RadixNode<K, V>>(
     }
 }
 
-/// The nearest pair at an end: of the last children behind a key its first pair; of a node and its
-/// first children before the key the last pair. What was found above where they have none.
+/// The nearest pair on one side of a key. After the key that is the first pair of the last
+/// children; before it, the last pair of the node and its first children. Where these have none, it
+/// is what was found above.
 fn nearest<'a, K: TKey, V: TValue, T: RadixNode<K, V>>(
     end: End,
     node: &'a T,

@@ -47,14 +47,14 @@ pub fn last_key_value<'a, K: TKey, V: TValue, T: RadixNode<K, V>>(
 /// An end of the keys of a tree.
 #[derive(Clone, Copy)]
 pub(crate) enum End {
-    /// Where the least key stands.
+    /// The end with the least key.
     First,
-    /// Where the greatest key stands.
+    /// The end with the greatest key.
     Last,
 }
 
-/// The pair at an end, with what stands before its key. Asks for the memory of its key once, and
-/// for none where the key is empty.
+/// The pair at an end, with `front` before its key. Allocates once for its key, and not where the
+/// key is empty.
 pub(crate) fn key_value_behind<'a, K: TKey, V: TValue, T: RadixNode<K, V>>(
     front: &[K],
     tree: &'a T,
@@ -79,7 +79,7 @@ pub(crate) fn key_value_behind<'a, K: TKey, V: TValue, T: RadixNode<K, V>>(
     Ok(Some((key, value)))
 }
 
-/// The child below which the pair at an end stands, or none where it is that of the node.
+/// The child that has the pair at an end, or none where it is the node's own pair.
 fn child_towards<'a, K: TKey, V: TValue, T: RadixNode<K, V>>(node: &'a T, end: End) -> Option<&'a T>
     ensures { let t = T.tree node.now in
         MatchOption result (end_of end (walk t) ≡ own_end t.prefix t.value)
@@ -116,7 +116,7 @@ fn value_at<'a, K: TKey, V: TValue, T: RadixNode<K, V>>(
     }
 }
 
-/// Puts the key of the pair at an end behind other components.
+/// Appends the key of the pair at an end to other components.
 fn push_key<K: TKey, V: TValue, T: RadixNode<K, V>>(
     tree: &T,
     end: End,

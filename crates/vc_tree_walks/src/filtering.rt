@@ -13,7 +13,7 @@ use vc_tree_nodes::copying::{CloneTree, copy_tree};
 use vc_tree_nodes::making::new_joined;
 use vc_tree_nodes::reading::{TKey, TValue, canonical, is_empty};
 
-/// The keys of a tree that start with the prefix, whole, with their values.
+/// The keys of a tree that start with the prefix, in full, with their values.
 pub fn filter_prefix<K: TKey, V: TValue, T: CloneTree<K, V>>(
     tree: &T,
     prefix: &[K],
@@ -29,8 +29,8 @@ pub fn filter_prefix<K: TKey, V: TValue, T: CloneTree<K, V>>(
     Ok(made)
 }
 
-/// A copy of the node below which the keys stand that start with the prefix, and what stands before
-/// it of the prefix.
+/// A copy of the node that has the keys that start with the prefix, with the part of the prefix
+/// that comes before it.
 fn copy_under<K: TKey, V: TValue, T: CloneTree<K, V>>(
     tree: &T,
     prefix: &[K],

@@ -1,4 +1,4 @@
-//! Walks that hand a value from pair to pair, and lend each key.
+//! Walks that pass a value from pair to pair, and each key by reference.
 
 ghost use Rattle.std.specs.Prelude.{◌≡◌, ◌⊎◌, alloc_error, map, true, IfErr, IfOk, List, None, Ok};
 ghost use Rattle.std.specs.Prelude.{OnOk};
@@ -14,7 +14,8 @@ use crate::scan::find_under;
 use std::alloc::AllocError;
 use vc_tree_nodes::reading::{RadixNode, TKey, TValue, canonical, is_empty};
 
-/// What the closure makes of a value and all pairs of the tree, by ascending keys.
+/// The result of the closure, called in turn with a value and each pair of the tree, by ascending
+/// keys.
 pub fn fold<
     K: TKey,
     V: TValue,
@@ -36,7 +37,7 @@ pub fn fold<
     fold_node(tree, &mut key, init, turn)
 }
 
-/// What the closure makes of a value and the pairs of the tree whose keys start with the prefix.
+/// The same over the pairs of the tree whose keys start with the prefix.
 pub fn fold_prefix<
     K: TKey,
     V: TValue,
@@ -69,7 +70,7 @@ pub fn fold_prefix<
     fold_node(node, &mut key, init, turn)
 }
 
-/// What the closure makes of a value and the pairs of a node, with `key` before their keys.
+/// The same over the pairs of a node, with `key` before their keys.
 #[cycle(folding)]
 fn fold_node<
     K: TKey,
@@ -95,7 +96,7 @@ fn fold_node<
     Ok(last)
 }
 
-/// What the closure makes of a value and the pair that a node has itself, if it has one.
+/// The same over the pair that a node has itself, if it has one.
 fn fold_own<
     K: TKey,
     V: TValue,
@@ -116,7 +117,7 @@ fn fold_own<
     }
 }
 
-/// What the closure makes of a value and the pairs of trees, with `key` before their keys.
+/// The same over the pairs of a list of trees, with `key` before their keys.
 #[cycle(folding)]
 fn fold_list<
     K: TKey,

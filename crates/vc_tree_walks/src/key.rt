@@ -7,13 +7,14 @@ use std::fmt;
 use std::marker::Model;
 use std::rc::Rc;
 
-/// The key of an item of a walk. It is seen as the list of its components.
+/// The key of an item of a walk. Contracts see the list of its components.
 ///
-/// The walk and the keys that it gave share their components: a walk that goes on copies them where
-/// an earlier key was kept, and writes over them where not. So a key that is kept stays as it was.
+/// The walk and the keys that it gave share their components: a walk that continues copies them
+/// where an earlier key is still held, and otherwise writes over them. So a key that is held does
+/// not change.
 #[derive(Drop)]
 pub struct IterKey<K> {
-    /// The components, of which the empty key has none.
+    /// The components; `None` for the empty key.
     shared: Option<Rc<Vec<K>>>,
 }
 
@@ -44,8 +45,8 @@ impl<K: Drop> IterKey<K> {
         }
     }
 
-    /// The same key once more, which shares the components. Fails where one more owner is refused;
-    /// the key stays as it was.
+    /// The same key, which shares the components. Fails where one more owner is refused; the key is
+    /// unchanged.
     pub fn clone(&self) -> Result<Self, AllocError>
         ensures { IfOk result (λ key. key ≡ self.now) }
     {
@@ -58,7 +59,7 @@ impl<K: Drop> IterKey<K> {
 }
 
 impl<K: Copy> IterKey<K> {
-    /// The key of two parts.
+    /// The key with the components of both parts.
     fn join(alloc: Global, front: &[K], back: &[K]) -> Result<Self, AllocError>
         ensures { IfOk result (λ key. key ≡ front.now ++ back.now) }
     {
@@ -70,8 +71,8 @@ impl<K: Copy> IterKey<K> {
         })
     }
 
-    /// Keeps the first `kept` components and puts others behind them: in the same list where no
-    /// other key shares it.
+    /// Keeps the first `kept` components and appends others: in the same list where no other key
+    /// shares it.
     pub(crate) fn turn_to(
         &mut self,
         alloc: Global,
@@ -91,7 +92,7 @@ impl<K: Copy> IterKey<K> {
         Ok(())
     }
 
-    /// Puts components behind the others.
+    /// Appends components.
     pub(crate) fn push(&mut self, alloc: Global, back: &[K]) -> Result<(), AllocError>
         ensures { OnOk result (self.new ≡ self.old ++ back.now) }
     {

@@ -1,6 +1,7 @@
-//! Walks over radix trees of any flavour: iterators of all pairs, of the pairs under a prefix, of
-//! the values, and of the pairs of a tree that the iterator holds; how many these are; and the tree
-//! of the keys under a prefix. For the crates above; the calls that users make stand in `vc_trees`.
+//! Walks over radix trees of any flavour: iterators over all pairs, over the pairs under a prefix,
+//! over the values, and over the pairs of a tree that the iterator owns; the number of pairs; and
+//! the tree of the keys under a prefix. For the crates above; the calls that users make are in
+//! `vc_trees`.
 #![tactic(auto)]
 
 pub mod beside;

@@ -1,4 +1,4 @@
-//! The pairs of a tree that the iterator holds.
+//! The pairs of a tree that the iterator owns.
 
 ghost use Rattle.std.specs.Prelude.{◌≡◌, ◌+◌, ◌*◌, ◌<◌, ◌++◌, [], length, None, Some, MatchOption};
 ghost use Rattle.std.specs.Prelude.{IfOk, OnOk, OnErr};
@@ -16,30 +16,30 @@ use std::marker::PhantomData;
 use vc_tree_nodes::reading::{RadixNode, TKey, TValue};
 
 /// An open node on the way: how many of its children were entered, and how many components of the
-/// key stand before theirs.
+/// key come before their keys.
 #[derive(Clone, Copy)]
 struct Place {
     entered: usize,
     base: usize,
 }
 
-/// The way from the root of a tree to where a walk stands.
+/// The way from the root of a tree to where a walk is.
 #[derive(Drop)]
 struct Way<K> {
-    /// The key of the last node, and how many of its components are still those of an open node.
+    /// The key of the last node, and how many of its components still belong to an open node.
     key: IterKey<K>,
     front: usize,
     /// The open nodes, the outermost first.
     path: Vec<Place>,
 }
 
-/// The pairs of a tree that it holds, by ascending keys, each as its key and a clone of its value.
+/// The pairs of a tree that it owns, by ascending keys, each as its key and a clone of its value.
 ///
-/// The tree is dropped with the iterator. The walk keeps its key and a stack of places; a step
-/// finds the node where it stands from the root, by one place a node, and spells no more of the key
-/// than the next node adds. It takes no memory where the last key was let go and the walk has been
-/// as deep before, with a key as long, but for what the clone of a value takes. After an `Err` the
-/// walk is at its end, and answers `None`.
+/// The tree is dropped with the iterator. The walk keeps its key and a stack of places. A step
+/// finds its node from the root, with one place for each node, and writes only the components that
+/// the next node adds. Apart from the clone of the value, it takes no memory where the last key was
+/// dropped, and the walk was as deep before, with a key as long. After an `Err` the walk is at its
+/// end, and answers `None`.
 #[derive(Drop)]
 pub struct ObjAndIter<K, V, T> {
     tree: T,
@@ -67,7 +67,8 @@ impl<K: TKey, V: TValue, T: RadixNode<K, V> + Drop> ObjAndIter<K, V, T> {
         }
     }
 
-    /// One step: to the root, to the next child of the innermost open node, or out of that node.
+    /// Makes one step: to the root, to the next child of the innermost open node, or out of that
+    /// node.
     fn turn(&mut self) -> Result<Turn<(IterKey<K>, V)>, AllocError>
         ensures ok { IfOk result (λ turn. IsTurn T.tree V.is_clone self.old turn self.new) }
         ensures err { OnErr result (0 < held_work T.tree self.old) }
@@ -87,7 +88,7 @@ impl<K: TKey, V: TValue, T: RadixNode<K, V> + Drop> ObjAndIter<K, V, T> {
         }
     }
 
-    /// Leaves nothing.
+    /// Ends the walk: nothing is left.
     fn stop(&mut self)
         ensures left { held_left T.tree self.new ≡ [] }
         ensures work { held_work T.tree self.new ≡ 0 }
@@ -115,7 +116,7 @@ impl<K: TKey> Way<K> {
         self.open(tree, self.front)
     }
 
-    /// Goes on from the innermost open node: to its next child, which it answers, or out of it.
+    /// Continues from the innermost open node: to its next child, which it answers, or out of it.
     fn advance<'t, V: TValue, T: RadixNode<K, V>>(
         &mut self,
         alloc: Global,
@@ -147,7 +148,7 @@ impl<K: TKey> Way<K> {
         Ok(Some(child))
     }
 
-    /// Opens a node, if it has children, before whose keys so many components of the key stand.
+    /// Opens a node, if it has children. `base` components of the key come before their keys.
     fn open<V: TValue, T: RadixNode<K, V>>(
         &mut self,
         node: &T,
@@ -166,7 +167,7 @@ impl<K: TKey> Way<K> {
     }
 }
 
-/// The item of a node that has this key and this value, if it has one.
+/// The item of a node with this key and this value, if it has a value.
 fn item<K: Drop, V: Clone>(
     key: &IterKey<K>,
     value: Option<&V>,
@@ -179,7 +180,7 @@ fn item<K: Drop, V: Clone>(
     }
 }
 
-/// The innermost open node of a path, and how many are open above it.
+/// The innermost open node of a path, and the number of open nodes above it.
 fn reach<'t, K: TKey, V: TValue, T: RadixNode<K, V>>(tree: &'t T, path: &[Place]) -> (&'t T, usize)
     requires { 0 < length path.now }
     ensures { IsReached (T.tree tree.now) path.now (T.tree result.0.now) result.1 }

@@ -1,4 +1,4 @@
-//! Where a key stands among those of a node.
+//! Where a key is among those of a node.
 
 ghost use Rattle.vc_tree_nodes.specs.Parting.{Agree};
 ghost use Rattle.vc_tree_walks.specs.Standing.{StandsSo};
@@ -8,24 +8,24 @@ use vc_tree_nodes::parting::{Parting, find_parting};
 use vc_tree_nodes::places::child_place;
 use vc_tree_nodes::reading::{RadixNode, TKey, TValue};
 
-/// Where a key stands among those of a node.
+/// The place of a key among those of a node.
 #[derive(Clone, Copy)]
 pub(crate) enum Standing<'a, T> {
     /// Before all of them.
     Before,
     /// At the node's own key, before those of its children.
     Own,
-    /// Behind the node's own key and those of the first children, and before those of the others.
+    /// After the node's own key and those of the first children, and before those of the others.
     Between(&'a [T], &'a [T]),
-    /// The same, but for the first of the others: the key leads into that one.
+    /// The same, except that the key may be among those of the first of the others.
     Into(&'a [T], &'a [T]),
-    /// Behind all of them.
+    /// After all of them.
     Behind,
 }
 
-/// Where the key stands among those of the node. The first `known` components of the key and of the
-/// prefix are known to agree. Compares each further one once, and then a child's first component by
-/// halves.
+/// The place of the key among those of the node. The first `known` components of the key and of the
+/// prefix are known to agree. Compares each further one once, and then searches the first
+/// components of the children by halves.
 pub(crate) fn stand<'a, K: TKey, V: TValue, T: RadixNode<K, V>>(
     node: &'a T,
     key: &[K],

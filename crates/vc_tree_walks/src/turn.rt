@@ -5,8 +5,8 @@
 pub(crate) enum Turn<I> {
     /// The next item.
     Item(I),
-    /// No item: the walk goes on.
+    /// No item: the walk continues.
     Moved,
-    /// That nothing is left.
+    /// Nothing is left.
     Done,
 }

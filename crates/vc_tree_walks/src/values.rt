@@ -15,11 +15,11 @@ use vc_tree_nodes::reading::{RadixNode, TKey, TValue};
 /// A step takes no memory where the walk has been as deep before. After an `Err` the walk is at its
 /// end, and answers `None`.
 pub struct Values<'a, K, V, T> {
-    /// The tree, until the first step, with which no row is left.
+    /// The tree, until the first step; no row is left then.
     start: Option<&'a T>,
-    /// The innermost row: trees beside each other that are still to be walked.
+    /// The innermost row: siblings that are still to be walked.
     row: &'a [T],
-    /// The rows that it lies below, the innermost last.
+    /// The rows above it, the innermost last.
     above: Vec<&'a [T]>,
     pairs: PhantomData<(K, V)>,
 }
@@ -50,8 +50,8 @@ impl<'a, K: TKey, V: TValue, T: RadixNode<K, V>> Values<'a, K, V, T> {
 }
 
 impl<'a, K: TKey, V: TValue + 'a, T: RadixNode<K, V>> Values<'a, K, V, T> {
-    /// The next tree: the first of the innermost row that has one, or else the one to start with.
-    /// What lies below it is left out.
+    /// The next tree: the first of the innermost row that has one, or otherwise the one to start
+    /// with. Its children are not entered.
     fn next_tree(&mut self) -> Option<&'a T>
         ensures left { MatchOption result ((values_left T.tree self.old ≡ [])
             × (values_left T.tree self.new ≡ []))
@@ -71,8 +71,8 @@ impl<'a, K: TKey, V: TValue + 'a, T: RadixNode<K, V>> Values<'a, K, V, T> {
         }
     }
 
-    /// Goes to the children of a tree that stands before the innermost row, if it has some. Where
-    /// no tree is left beside it, that row is not kept.
+    /// Goes to the children of a tree that was before the innermost row, if it has some. Where no
+    /// sibling is left, that row is not kept.
     fn enter(&mut self, tree: &'a T) -> Result<(), AllocError>
         ensures left { OnOk result (values_before T.tree tree.now self.old
             ≡ own_value (T.tree tree.now).value ++ values_left T.tree self.new) }
@@ -91,7 +91,7 @@ impl<'a, K: TKey, V: TValue + 'a, T: RadixNode<K, V>> Values<'a, K, V, T> {
         Ok(())
     }
 
-    /// Leaves nothing.
+    /// Ends the walk: nothing is left.
     fn stop(&mut self)
         ensures left { values_left T.tree self.new ≡ [] }
         ensures work { values_work T.tree self.new ≡ 0 }

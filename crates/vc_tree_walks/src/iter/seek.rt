@@ -46,8 +46,8 @@ impl<'a, K: TKey, V: TValue, T: RadixNode<K, V>> Iter<'a, K, V, T> {
         }
     }
 
-    /// The walk with a node before its innermost row, by that row with it, or by the whole tree
-    /// where it is the root.
+    /// The walk with a node added before its innermost row: `row` is that row with it, or none
+    /// where the node is the root.
     fn with_node(mut self, tree: &'a T, row: Option<&'a [T]>) -> Self
         requires { self.start ≡ None }
         ensures { pairs_left T.tree result ≡ pairs_with T.tree self.entry tree.now row.entry }
@@ -64,7 +64,8 @@ impl<'a, K: TKey, V: TValue, T: RadixNode<K, V>> Iter<'a, K, V, T> {
         }
     }
 
-    /// Puts components behind the key, and trees before what is left, which have it before theirs.
+    /// Appends components to the key, and puts trees before what is left. The key is before their
+    /// keys.
     fn go_below(&mut self, prefix: &[K], trees: &'a [T]) -> Result<(), AllocError>
         ensures key { OnOk result (self.new.key ≡ self.old.key ++ prefix.now) }
         ensures trees { OnOk result (self.new.row.trees.now ≡ trees.now) }
