@@ -1,4 +1,4 @@
--- Which keys go with one: those that equal it, or begin with it.
+-- Which keys are removed with one: those that equal it, or begin with it.
 --     refused        what a refusal leaves
 --     begins-tells, same-tells        what is left of a key tells it
 --     goes-begins        the first component

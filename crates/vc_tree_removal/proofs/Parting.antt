@@ -1,4 +1,4 @@
--- What goes of a map, and what stays.
+-- What is removed from a map, and what stays.
 --     if-ok        what follows from an outcome
 --     parted-below, parted-alone        at one key
 --     divides-without, divides-value, divides-joined        what stays, and what goes as one canonical tree

@@ -1,7 +1,7 @@
--- The way to keys that a tree binds: what is left of a key behind the prefix, and the child that it leads to.
+-- The way to keys that a tree binds: what is left of a key after the prefix, and the child that it leads to.
 --     met-solid, met-reaches, met-leads, met-value        where keys that go are bound
 --     alone-tells, below-tells        all keys of a tree go, or some below its children
---     found-under        the node below which all keys stand that begin with one
+--     found-under        the node below which all keys are that begin with one
 use Rattle.std.proofs.Common.{◌≡◌, ℕ, ◌<◌, ◌≤◌, [], ◌∷◌, ◌++◌, List, Option, None, Some, sym, ap}
 use Rattle.std.proofs.Common.{◌∙◌, arith, map, drop, length, true, false, Bool}
 use Rattle.std.proofs.Common.{is_some}

@@ -1,4 +1,4 @@
--- Where keys go below the children of a tree, some of its keys do not begin with the one that goes.
+-- Where keys below the children of a tree are removed, some of its keys do not begin with the removed one.
 --     deep-stays        so it binds a key that stays
 use Rattle.std.proofs.Common.{◌≡◌, [], ◌∷◌, ◌++◌, List, Option, None, Some, refl, ap, ◌∙◌, arith}
 use Rattle.std.specs.Cmp.{IsTotalOrder}

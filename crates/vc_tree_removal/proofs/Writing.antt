@@ -1,5 +1,5 @@
--- What a change of a bound value makes of a node and of its children.
---     bound-begins, bound-ends, bound-below        where the value of a key stands that is bound
+-- What a node and its children are after a change of a bound value.
+--     bound-begins, bound-ends, bound-below        where the value of a key is that is bound
 --     some-child, none-bound        a child that begins with a component is there, and a value that is bound
 --     gap-unbound        a key has no gap for its place
 --     kept-comes, kept-asked        what may come of a value that is kept

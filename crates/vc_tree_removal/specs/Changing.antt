@@ -1,4 +1,4 @@
--- What a change of the value of one key makes of a tree, and what its closure may do.
+-- What a tree is after a change of the value of one key, and what the closure may do.
 use Rattle.std.specs.Prelude.{◌≡◌, List, Option, Some, None, ⊤}
 use denote.Ref.{MutBor}
 use denote.Param.Members.{Shared}
@@ -28,13 +28,14 @@ module _ {V : Type 0} (keeps : V → V → Type 0) where
   CanChange takes (Some v) = (kept : V) → keeps v kept → takes kept
 
   module _ {R : Type 0} (may : V → V → R → Type 0) where
-    -- of a value that is kept from the one that was bound, z may come with the answer r
+    -- of a value that is kept from the one that was bound, z may result with the answer r
     abbrev pub ComesOf : Option V → V → R → Type 0
     ComesOf None z r = ⊥
     ComesOf (Some v) z r = (kept : V) × keeps v kept × may kept z r
 
     module _ {K : Type 0} (cmp : K → K → Ordering) (key : List K) (r : R) where
-      -- u binds the key to what may come of its value in t with the answer r, and keeps the other values
+      -- u binds the key to what may result from its value in t with the answer r, and keeps the
+      -- other values
       pub record IsChanged (t u : Tree K V) : Type 0 where
         pub new : V
         pub comes : ComesOf (lookup cmp t key) new r

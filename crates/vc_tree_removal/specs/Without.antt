@@ -1,4 +1,4 @@
--- What is left of a map without some of its keys.
+-- A map without some of its keys.
 use Rattle.std.specs.Prelude.{◌≡◌, Bool, List, Option, None, IsSome, IsTrue, IsFalse}
 use Rattle.std.specs.Option.{is_some}
 use Rattle.std.specs.declared.cmp.Ordering.{Ordering}

@@ -1,4 +1,4 @@
-//! How the value of one key is changed where it stands.
+//! How the value of one key is changed in place.
 
 ghost use Rattle.std.specs.Prelude.{◌≡◌, [], length, None, Ok, Some, IfOk, IsSome, MatchOption};
 ghost use Rattle.std.specs.Prelude.{OnErr, OnOk, ⊤};
@@ -23,21 +23,21 @@ use vc_tree_nodes::insertion::insert;
 use vc_tree_nodes::places::child_place;
 use vc_tree_nodes::reading::{RadixNode, TKey, TValue, canonical};
 
-/// What is made of a value.
+/// A change of a value.
 trait Write<V, R>: Drop {
-    /// It may be asked of this value.
+    /// Whether it may be applied to this value.
     ghost takes: { Self → V → Type 0 };
 
-    /// This value and this answer may come of it.
+    /// Whether it may leave this value and answer this.
     ghost may: { Self → V → V → R → Type 0 };
 
-    /// The value that stands then, and the answer.
+    /// The new value, and the answer.
     fn write(self, value: V) -> (V, R)
         requires { takes self value }
         ensures { may self value result.0 result.1 };
 }
 
-/// A closure writes to the value, and its answer is handed on.
+/// A closure changes the value, and its answer is passed on.
 #[derive(Drop)]
 struct ByClosure<'f, F> {
     f: &'f F,
@@ -55,7 +55,7 @@ impl<'f, V: Drop, R: Drop, F: Fn(&mut V) -> R> Write<V, R> for ByClosure<'f, F> 
     }
 }
 
-/// Another value takes the place, and the old one is the answer.
+/// Another value replaces it, and the old one is the answer.
 #[derive(Drop)]
 struct ByValue<V> {
     value: V,
@@ -71,9 +71,8 @@ impl<V: Drop> Write<V, V> for ByValue<V> {
     }
 }
 
-/// Changes the value of the key by the closure, which is lent the value where it stands, and
-/// answers what the closure does; none where the key is not bound. The other keys keep their
-/// values.
+/// Changes the value of the key by the closure, which gets a reference to it. Answers what the
+/// closure answers, or none where the key is not bound. The other keys keep their values.
 #[tactic(auto, using(crate::proofs::Going::refused))]
 pub fn update<K: TKey, V: TValue, T: Build<K, V>, R: Drop, F: Fn(&mut V) -> R>(
     tree: &mut T,
@@ -127,8 +126,8 @@ pub fn upsert<K: TKey, V: TValue, T: Build<K, V>, R: Drop, F: Fn(&mut V) -> R>(
     Ok(None)
 }
 
-/// Binds the key to the value, and answers the one that it had, or none where it was not bound.
-/// The other keys keep their values.
+/// Binds the key to the value, and answers the old one, or none where it was not bound. The other
+/// keys keep their values.
 #[tactic(auto, using(crate::proofs::Going::refused))]
 pub fn replace<K: TKey, V: TValue, T: Build<K, V>>(
     tree: &mut T,
@@ -170,7 +169,7 @@ fn write_met<K: TKey, V: TValue, T: Build<K, V>, R: Drop, W: Write<V, R>>(
     done
 }
 
-/// Writes the value of a key that the tree binds, which is the tree's prefix or goes on behind it.
+/// Writes the value of a key that the tree binds, which is the tree's prefix or continues after it.
 #[cycle(writing)]
 fn write_from<K: TKey, V: TValue, T: Build<K, V>, R: Drop, W: Write<V, R>>(
     alloc: Global,
@@ -198,8 +197,8 @@ fn write_from<K: TKey, V: TValue, T: Build<K, V>, R: Drop, W: Write<V, R>>(
     done
 }
 
-/// Writes the value of the key `rest` in the children, of which the one at place `i` begins as the
-/// key does.
+/// Writes the value of the key `rest` in the children. The child at place `i` begins as the key
+/// does.
 #[cycle(writing)]
 fn write_in<K: TKey, V: TValue, T: Build<K, V>, R: Drop, W: Write<V, R>>(
     alloc: Global,

@@ -1,4 +1,4 @@
-//! How a key is taken out of a tree, alone or with all keys that begin with it.
+//! How a key is removed from a tree, either only that key or all keys that begin with it.
 
 ghost use Rattle.std.specs.Prelude.{◌≡◌, ◌+◌, ◌++◌, ◌<◌, ◌≤◌, [], length, vec_len, None, Ok, Some};
 ghost use Rattle.std.specs.Prelude.{IfOk, IsOk, IsSome, MatchBool, OnOk, OnErr, option_map};
@@ -25,25 +25,25 @@ use vc_tree_nodes::insertion::leaf;
 use vc_tree_nodes::places::child_place;
 use vc_tree_nodes::reading::{RadixNode, TKey, TValue, canonical};
 
-/// Which keys go with one.
+/// The keys that are removed with a key.
 #[derive(Clone, Copy)]
 pub(crate) enum Extent {
-    /// The key alone.
+    /// Only the key.
     Alone,
     /// All keys that begin with it.
     Below,
 }
 
-/// Takes the key out, and answers the value that it had, or none where it was not bound. The other
-/// keys keep their values.
+/// Removes the key and answers its value, or none where it was not bound. The other keys keep their
+/// values.
 ///
-/// A key that is not bound costs the look-up alone: no memory is asked for, and nothing is copied.
-/// Fails only where memory is refused, for the joined prefix of a node that is left with one child
-/// or for the copy of shared children, or where the clone of a value of those is refused. The tree
-/// then has the nodes that it had, and binds what it bound.
+/// A key that is not bound costs only the look-up: it takes no memory, and nothing is copied. Fails
+/// only where memory is refused, for the merged prefix of a node that is left with one child or for
+/// the copy of shared children, or where the clone of a value in that copy is refused. The tree
+/// then has the same nodes, and binds what it bound.
 ///
-/// Compares each component of the key at most once, but for two halving searches among the children
-/// of each node on the way.
+/// Compares each component of the key at most once, except for two halving searches among the
+/// children of each node on the way.
 #[tactic(auto, using(crate::proofs::Going::refused))]
 pub fn remove<K: TKey, V: TValue, T: Build<K, V>>(
     tree: &mut T,
@@ -71,8 +71,8 @@ pub fn remove<K: TKey, V: TValue, T: Build<K, V>>(
     Ok(value)
 }
 
-/// Takes the keys out that go with a key, of which the tree binds some. Answers what goes: the node
-/// below which all keys stand that begin so, or a node with the value of a key that goes alone.
+/// Removes the keys that `extent` names, where the tree binds some. Answers what is removed: the
+/// node that has all keys that begin so, or a node with only the value of the key.
 pub(crate) fn remove_met<K: TKey, V: TValue, T: Build<K, V>>(
     tree: &mut T,
     key: &[K],
@@ -97,8 +97,8 @@ pub(crate) fn remove_met<K: TKey, V: TValue, T: Build<K, V>>(
     Ok(taken)
 }
 
-/// Whether all keys of a tree go with a key, of which it binds some. Where not, some of them stand
-/// below the tree's children.
+/// Whether all keys of a tree are removed with a key, where it binds some of these. If not, some of
+/// them are below the tree's children.
 pub(crate) fn goes_wholly<K: TKey, V: TValue, T: RadixNode<K, V>>(
     tree: &T,
     key: &[K],
@@ -114,7 +114,7 @@ pub(crate) fn goes_wholly<K: TKey, V: TValue, T: RadixNode<K, V>>(
     }
 }
 
-/// Leaves the empty tree, and answers the one that was there.
+/// Takes the tree out, and leaves the empty one.
 pub(crate) fn take_root<K: TKey, V: TValue, T: Build<K, V>>(alloc: Global, tree: &mut T) -> T
     ensures is { T.tree tree.new ≡ no_tree }
     ensures taken { T.tree result ≡ T.tree tree.old }
@@ -123,8 +123,8 @@ pub(crate) fn take_root<K: TKey, V: TValue, T: Build<K, V>>(alloc: Global, tree:
     mem::replace(tree, T::blank(alloc, Seal::new()))
 }
 
-/// Takes the keys out that go with a key, of which the tree binds some, and answers what goes. The
-/// key is the tree's prefix or goes on behind it.
+/// Removes the keys that `extent` names, where the tree binds some, and answers what is removed.
+/// The key is the tree's prefix or continues after it.
 #[cycle(removal)]
 pub(crate) fn remove_from<K: TKey, V: TValue, T: Build<K, V>>(
     alloc: Global,
@@ -160,7 +160,7 @@ pub(crate) fn remove_from<K: TKey, V: TValue, T: Build<K, V>>(
     }
 }
 
-/// What is left of a key behind the prefix of a tree.
+/// The rest of a key after the prefix of a tree.
 pub(crate) fn rest_of<'k, K: TKey, V: TValue, T: RadixNode<K, V>>(tree: &T, key: &'k [K]) -> &'k [K]
     requires { IsSome (behind K.cmp (T.tree tree.now).prefix key.now) }
     ensures { behind K.cmp (T.tree tree.now).prefix key.now ≡ Some result.now }
@@ -169,9 +169,9 @@ pub(crate) fn rest_of<'k, K: TKey, V: TValue, T: RadixNode<K, V>>(tree: &T, key:
     rest
 }
 
-/// Takes the keys out of the children of a node that go with `rest`. They stand below the child at
-/// place `i`. Answers what goes, and the only child that is left of a node without a value, joined
-/// with its prefix.
+/// Removes the keys that go with `rest` from the children of a node. They are below the child at
+/// place `i`. Answers what is removed. Where the node has no value and one child is left, it also
+/// answers that child, merged with the node's prefix.
 #[cycle(removal)]
 fn remove_in<K: TKey, V: TValue, T: Build<K, V>>(
     alloc: Global,
@@ -196,7 +196,7 @@ fn remove_in<K: TKey, V: TValue, T: Build<K, V>>(
     remove_at(alloc, front, own, list, i, rest, extent)
 }
 
-/// The same among children that may be written.
+/// Does the same in a list that may be written.
 #[cycle(removal)]
 fn remove_at<K: TKey, V: TValue, T: Build<K, V>>(
     alloc: Global,
@@ -224,8 +224,8 @@ fn remove_at<K: TKey, V: TValue, T: Build<K, V>>(
     Ok((taken, None))
 }
 
-/// Takes the tree at place `i` out of the children of a node. Answers it, and the only one that is
-/// left of a node without a value, joined with its prefix.
+/// Removes the tree at place `i` from the children of a node and answers it. Where the node has no
+/// value and one child is left, it also answers that child, merged with the node's prefix.
 fn part_out<K: TKey, V: TValue, T: Build<K, V>>(
     alloc: Global,
     front: &T::Prefix,
@@ -248,7 +248,7 @@ fn part_out<K: TKey, V: TValue, T: Build<K, V>>(
     Ok((list.remove(0), Some(whole)))
 }
 
-/// Takes the tree at place `i` out of a list, and puts the front before its prefix.
+/// Removes the tree at place `i` from a list, and puts the front before its prefix.
 fn lone<K: TKey, V: TValue, T: Build<K, V>>(
     alloc: Global,
     front: &T::Prefix,
@@ -266,7 +266,7 @@ fn lone<K: TKey, V: TValue, T: Build<K, V>>(
     Ok(with_prefix(joined, list.remove(i)))
 }
 
-/// Takes out the key that is the prefix of a node with children. A lone child is joined with it.
+/// Removes the key that is the prefix of a node with children. An only child is merged with it.
 fn take_value<K: TKey, V: TValue, T: Build<K, V>>(
     alloc: Global,
     tree: &mut T,
@@ -291,8 +291,8 @@ fn take_value<K: TKey, V: TValue, T: Build<K, V>>(
     }
 }
 
-/// Makes `many` children those of a node without a value. Answers the only one, which is joined
-/// with its prefix.
+/// Prepares `many` children for a node without a value: an only child is taken out and answered,
+/// merged with the node's prefix.
 fn bare_of<K: TKey, V: TValue, T: Build<K, V>>(
     alloc: Global,
     front: &T::Prefix,
@@ -338,7 +338,7 @@ pub(crate) fn opened<K: TKey, V: TValue, T: Build<K, V>>(
     (prefix, value, children)
 }
 
-/// The first tree, or that of these parts where there is none.
+/// The tree `whole` if there is one, otherwise the tree of the other parts.
 fn closed<K: TKey, V: TValue, T: Build<K, V>>(
     prefix: T::Prefix,
     value: Option<V>,
@@ -356,7 +356,7 @@ fn closed<K: TKey, V: TValue, T: Build<K, V>>(
     }
 }
 
-/// The tree with this prefix in the place of its own.
+/// The tree with this prefix instead of its own.
 pub(crate) fn with_prefix<K: TKey, V: TValue, T: Build<K, V>>(prefix: T::Prefix, tree: T) -> T
     requires { IsSolid (T.tree tree).value (T.tree tree).children }
     ensures { T.tree result

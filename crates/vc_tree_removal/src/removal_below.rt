@@ -1,4 +1,4 @@
-//! How all keys that begin with a prefix are taken out of a tree.
+//! How all keys that begin with a prefix are removed from a tree.
 
 ghost use Rattle.std.specs.Prelude.{◌≡◌, IfOk, IsOk, List, MatchOption, None, Ok, OnOk, OnErr};
 ghost use Rattle.vc_tree_model.specs.Map.{HaveEqualMaps, IsEqualMap, lookup};
@@ -16,15 +16,15 @@ use vc_tree_nodes::children::Fragment;
 use vc_tree_nodes::reading::{RadixNode, TKey, TValue, canonical, is_empty};
 use vc_tree_walks::scan::find_under;
 
-/// Takes out all keys that begin with `prefix`, with their values. The other keys keep theirs.
+/// Removes all keys that begin with `prefix`, with their values. The other keys keep theirs.
 ///
-/// Where no key begins with it, that is found by a walk down alone: no memory is asked for, and
-/// nothing is copied; nor is it where all keys begin with it. Fails only where memory is refused,
-/// for the joined prefix of a node that is left with one child or for the copy of shared children,
-/// or where the clone of a value of those is refused. The tree then has the nodes that it had, and
-/// binds what it bound.
+/// Where no key begins with it, it only walks down: it takes no memory, and nothing is copied. The
+/// same holds where all keys begin with it. Fails only where memory is refused, for the merged
+/// prefix of a node that is left with one child or for the copy of shared children, or where the
+/// clone of a value in that copy is refused. The tree then has the same nodes, and binds what it
+/// bound.
 ///
-/// Compares each component of the prefix at most once, but for two halving searches among the
+/// Compares each component of the prefix at most once, except for two halving searches among the
 /// children of each node on the way.
 #[tactic(auto, using(crate::proofs::Going::refused))]
 pub fn remove_below<K: TKey, V: TValue, T: Build<K, V>>(
@@ -49,21 +49,20 @@ pub fn remove_below<K: TKey, V: TValue, T: Build<K, V>>(
     Ok(())
 }
 
-/// Takes out all keys that begin with `prefix`, with their values, and answers them as a tree of
-/// their own, each key whole; the empty tree where none begins so. The other keys keep their
+/// Removes all keys that begin with `prefix`, with their values, and answers them as a separate
+/// tree, with their whole keys; the empty tree where no key begins so. The other keys keep their
 /// values.
 ///
-/// The keys stand below one node, which is moved as it is, with a longer prefix: nothing below it
-/// is touched. What stands before the node's own prefix is spelled as in `prefix`.
+/// The keys are below one node, which is moved with a longer prefix: nothing below it is touched.
+/// The components before the node's own prefix are those of `prefix`.
 ///
-/// Where no key begins with it, that is found by a walk down alone: no memory is asked for, and
-/// nothing is copied; nor is it where all keys begin with it. Fails only where memory is refused,
-/// for the prefix of the answer's root, where that has more than 16 components, for the joined
-/// prefix of a node that is left with one child or for the copy of shared children, or where the
-/// clone of a value of those is refused. The tree then has the nodes that it had, and binds what it
-/// bound.
+/// Where no key begins with it, it only walks down: it takes no memory, and nothing is copied. The
+/// same holds where all keys begin with it. Fails where memory is refused: for the prefix of the
+/// answer's root, where that has more than 16 components; for the merged prefix of a node that is
+/// left with one child; or for the copy of shared children. Otherwise it fails only where the clone
+/// of a value in that copy is refused. The tree then has the same nodes, and binds what it bound.
 ///
-/// Compares each component of the prefix at most once, but for two halving searches among the
+/// Compares each component of the prefix at most once, except for two halving searches among the
 /// children of each node on the way.
 #[tactic(auto, using(crate::proofs::Going::refused))]
 pub fn split_below<K: TKey, V: TValue, T: Build<K, V>>(
@@ -98,8 +97,8 @@ pub fn split_below<K: TKey, V: TValue, T: Build<K, V>>(
     Ok(with_prefix(joined, taken))
 }
 
-/// The node below which all keys of the tree stand that begin with the prefix, and the part of the
-/// prefix that stands before the node's own. None where no key begins so.
+/// The node that has all keys of the tree that begin with the prefix, and the part of the prefix
+/// before the node's own. `None` where no key begins so.
 fn found_under<'a, K: TKey, V: TValue, T: RadixNode<K, V>>(
     tree: &'a T,
     prefix: &'a [K],
