@@ -1,5 +1,5 @@
--- What is left of a tree that one side alone has, where that is nothing; values that are copied; and calls of the closures
--- that combines ask.
+-- What is left of a tree that one side alone has, where that is nothing; values that are copied; and calls of the closures of
+-- combines.
 --     inner-answer, outer-answer, left-answer        what a call answers
 --     made-none        the combine of whole trees, of which no key is left
 use Rattle.std.proofs.Common.{◌≡◌, ℕ, ◌++◌, List, Option, None, Some, Result, Ok, Err, IfOk, refl, sym, arith}

@@ -1,4 +1,4 @@
--- What a combine leaves of a tree of which the right side has no key, where each of its values is asked.
+-- What a combine leaves of a tree where the right side has none of its keys, and the closure is called at each of its values.
 --     value-alone, below-alone        what may be asked of its parts
 --     alone-next, alone-done        the children are next one after the other, and done
 --     node-alone, node-made        what is left of its node is left of it

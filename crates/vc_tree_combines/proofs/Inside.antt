@@ -1,4 +1,4 @@
--- A tree that goes on behind a place, beside the children of the other node.
+-- A tree that continues after a place, beside the children of the other node.
 --     beside-right ..        a left tree beside right ones
 --     beside-left ..        a right tree beside left ones
 --     Before        the trees before the one that begins as the tree goes on may be added

@@ -1,7 +1,7 @@
--- Tests of the keys of two trees, by what stands below the fronts of their prefixes that agree.
+-- Tests of the keys of two trees, by what is below the common front of their prefixes.
 --     tells-lifted        what is told of the trees without these fronts, is told of both
 --     alone-apart, alone-childless        a tree whose keys the other side has not
---     tells-child, tells-in_child        one prefix ends, and the other tree goes on in a child
+--     tells-child, tells-in_child        one prefix ends, and the other tree continues in a child
 --     bare-or_missed, childless-met        or in none
 --     tells-nodes        both prefixes end
 --     disjoint-told, subset-told        the public words

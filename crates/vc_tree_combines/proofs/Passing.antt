@@ -1,4 +1,4 @@
--- A merge that passes the trees of one list alone, and stops at two that begin alike or at one that is missed.
+-- A merge that passes the trees of only one list, and stops at two that begin alike or at one that is missed.
 --     passed        what the merge has passed, and where it stopped
 --     children-ascend        canonical children ascend by their first components
 --     told-missed, told-meeting, told-end        what comes next of two lists

@@ -1,4 +1,4 @@
--- Trees that one side alone has, one after the other, beside what is left of the other side.
+-- Trees that only one side has, one after the other, with what is left of the other side.
 --     on-ok        what holds where a call succeeds
 --     lefts-none, rights-none        nothing is left of any
 --     lefts-done, rights-done        they are done

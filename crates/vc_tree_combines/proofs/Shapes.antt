@@ -1,5 +1,5 @@
--- Two trees side by side, by the shape in which their prefixes part.
---     apart-faced, inside-faced, within-faced, both-faced        what stands below, in each shape
+-- Two trees side by side, by how their prefixes diverge.
+--     apart-faced, inside-faced, within-faced, both-faced        what is below, in each shape
 --     asked-below, made-below        what may be asked of that, and what is made of it
 --     apart-side        which of two trees that part is the first
 --     below-made        what was made below two fronts is made of both trees

@@ -1,4 +1,4 @@
--- A merge that makes what becomes of trees of one list alone, and stops at two that begin alike.
+-- A merge that builds the result of trees of only one list, and stops at two that begin alike.
 --     stopped        what holds of the state before, holds where it stops
 use Rattle.std.proofs.Common.{◌≡◌, ℕ, ◌≤◌, [], ◌∷◌, ◌++◌, List, Some, None, true, false, Result, Ok, Err, IfOk, ◌⊎◌}
 use Rattle.std.proofs.Common.{inl, inr, refl, sym, subst, ◌∙◌, length, slice_get, append-nil, append_assoc, ◌+◌, ◌*◌, min, arith}

@@ -2,7 +2,7 @@
 --     parted-told        the prefixes part
 --     inside-told, inside-none        the right one ends inside the left one
 --     behind-told        the left one ends
---     within-told, within-none, within-bare        the right one goes on behind it
+--     within-told, within-none, within-bare        the right one continues after it
 --     both-told        both end
 --     some-at, before-end        a place that is not the end
 --     found, found_in        a component that was read

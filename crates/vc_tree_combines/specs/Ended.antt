@@ -1,4 +1,4 @@
--- What a combine makes of a node. No public clause cites these words.
+-- The node that a combine builds. No public clause cites these words.
 use Rattle.std.specs.Prelude.{◌≡◌, List, Option}
 use Rattle.vc_tree_model.specs.Tree.{Tree, Forest}
 use Rattle.vc_tree_model.specs.Child.{solid_child}

@@ -1,4 +1,4 @@
--- What a combine makes of trees that stand below two fronts that agree. No public clause cites these words.
+-- What a combine builds of trees below two fronts that agree. No public clause cites these words.
 use Rattle.std.specs.Prelude.{◌≡◌, ℕ, ◌<◌, List, [], ◌∷◌, ◌++◌, Option, Some, None, drop, length}
 use Rattle.std.specs.List.{AllByRecursion, cons_option}
 use Rattle.std.specs.declared.cmp.Ordering.{Ordering}
@@ -15,7 +15,7 @@ use Rattle.vc_tree_facing.specs.Made.{IsMadeOf}
 use Rattle.vc_tree_facing.specs.Seeking.{side_at, Stops}
 
 module _ {K V W U : Type 0} (cmp : K → K → Ordering) (R : Option V → Option W → Option U → Type 0) where
-  -- what R says of the next trees, of which one side may have none, came to those that were made
+  -- what R says of the next trees, where one side may have none, was added to those that were built
   pub record IsAdded (t : Option (Tree K V)) (u : Option (Tree K W)) (old new : List (Tree K U)) : Type 0 where
     pub one : Option (Tree K U)
     pub made : IsMadeOf cmp (values cmp) R t u one
@@ -37,7 +37,8 @@ module _ {K V W U : Type 0} (cmp : K → K → Ordering) (R : Option V → Optio
   abbrev pub AreMadeOf : Forest K V → Forest K W → Forest K U → Type 0
   AreMadeOf f g h = AreChildren cmp h × IsCombinedIn cmp (values cmp) R f g h
 
-  -- the prefixes of t and u agree for n components and part there, and this was made of what stands below
+  -- the prefixes of t and u agree for n components and diverge there, and this was made of what is
+  -- below
   pub record IsMadeBelow (t : Tree K V) (u : Tree K W) (n : ℕ) (h : Forest K U) : Type 0 where
     pub left : IsCanonical cmp t
     pub right : IsCanonical cmp u
@@ -46,17 +47,18 @@ module _ {K V W U : Type 0} (cmp : K → K → Ordering) (R : Option V → Optio
     pub made : AreMadeOf (children_at t (drop n t.prefix)) (children_at u (drop n u.prefix)) h
 
 module _ {K V W T : Type 0} (cmp : K → K → Ordering) (asks : Option V → Option W → Type 0) where
-  -- each of these trees has a component, and may be asked of beside nothing of the right side
+  -- each of these trees has a component, and the question may be asked for it with nothing on the
+  -- right side
   abbrev pub MayAddLefts : (T → Tree K V) → List T → Type 0
   MayAddLefts tree ts =
       AllByRecursion (λ x. (0 < length (tree x).prefix) × ((k : List K) → asks (lookup cmp (tree x) k) None)) ts
 
-  -- beside nothing of the left side
+  -- with nothing on the left side
   abbrev pub MayAddRights : (T → Tree K W) → List T → Type 0
   MayAddRights tree ts =
       AllByRecursion (λ y. (0 < length (tree y).prefix) × ((k : List K) → asks None (lookup cmp (tree y) k))) ts
 
--- the trees before and after the one that goes on with x, if there is one
+-- the trees before and after the one that continues with x, if there is one
 pub record IsAround {K V T : Type 0} (cmp : K → K → Ordering) (tree : T → Tree K V) (x : K) (all before : List T)
     (found : Option T) (after : List T) : Type 0 where
   pub is : all ≡ before ++ cons_option found after

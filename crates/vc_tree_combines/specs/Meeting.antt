@@ -10,7 +10,7 @@ use Rattle.vc_tree_combines.specs.declared.keys.Next.{Next}
 use Rattle.vc_tree_combines.specs.declared.keys.Next.TheVariants.{Meeting, Missed, End}
 
 module _ {V W : Type 0} where
-  -- a key of the left is one of the right, if `shared`, and else it is not
+  -- a key of the left is one of the right, if `shared`, and otherwise it is not
   abbrev pub IsMet : Bool → Option V → Option W → Type 0
   IsMet shared None w = ⊤
   IsMet shared (Some v) w = is_some w ≡ shared
@@ -43,7 +43,8 @@ module _ {K V W A B : Type 0} (cmp : K → K → Ordering) (ta : A → Tree K V)
     pub tells : (answer : Bool) → TellsKeysIn cmp shared (seen ta ls) (seen tb rs) answer
         → TellsKeysIn cmp shared (seen ta xs) (seen tb ys) answer
 
-  -- the trees x and y of two lists begin alike. Those before them are met, and those behind them are ls and rs
+  -- the trees x and y of two lists begin alike. Those before them are met, and those after them are
+  -- ls and rs
   pub record IsMeeting (xs : List A) (ys : List B) (x : A) (ls : List A) (y : B) (rs : List B) : Type 0 where
     pub agree : Agree cmp (ta x).prefix (tb y).prefix 1
     pub left_nodes : nodes (ta x) + forest_nodes (seen ta ls) ≤ forest_nodes (seen ta xs)

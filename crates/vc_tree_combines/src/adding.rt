@@ -1,4 +1,4 @@
-//! What a combine makes of trees that one side alone has.
+//! How a combine treats trees that only one side has.
 
 ghost use Rattle.std.specs.Prelude.{◌≡◌, ◌+◌, ◌≤◌, ◌<◌, ◌∷◌, List, None, Some, OnOk, length, map};
 ghost use Rattle.std.specs.Prelude.{slice_get};
@@ -18,8 +18,8 @@ use vc_tree_facing::nodes::keep;
 use vc_tree_nodes::places::child_place;
 use vc_tree_nodes::reading::{RadixNode, TKey, TValue};
 
-/// Adds what is left of a tree that the left side alone has, without the first `from` components of
-/// its prefix.
+/// Appends what is left of a tree that only the left side has, without the first `from` components
+/// of its prefix.
 #[inline(always)]
 pub fn add_left<
     K: TKey,
@@ -39,7 +39,7 @@ pub fn add_left<
     keep(made, one)
 }
 
-/// Adds what is left of a tree that the right side alone has, without the first `from` components
+/// Appends what is left of a tree that only the right side has, without the first `from` components
 /// of its prefix.
 #[inline(always)]
 pub fn add_right<
@@ -61,8 +61,8 @@ pub fn add_right<
     keep(made, one)
 }
 
-/// Adds what is left of trees that the left side alone has. Looks at none where nothing is left of
-/// any.
+/// Appends what is left of trees that only the left side has. Visits none where the operation keeps
+/// nothing of them.
 #[inline(always)]
 pub fn add_lefts<
     K: TKey,
@@ -87,8 +87,8 @@ pub fn add_lefts<
     Ok(())
 }
 
-/// Adds what is left of trees that the right side alone has. Looks at none where nothing is left of
-/// any.
+/// Appends what is left of trees that only the right side has. Visits none where the operation
+/// keeps nothing of them.
 #[inline(always)]
 pub fn add_rights<
     K: TKey,
@@ -113,7 +113,7 @@ pub fn add_rights<
     Ok(())
 }
 
-/// A list of trees, by the component with which one of them may begin.
+/// A list of trees, split at a component with which one of them may begin.
 #[derive(Drop)]
 pub struct Around<'a, T> {
     /// The trees that begin with lesser components.

@@ -1,5 +1,5 @@
-//! The combines of two trees that build a new one: what each makes of values, and of trees that one
-//! side alone has.
+//! The combines of two trees that build a new one: how each treats values, and trees that only one
+//! side has.
 
 ghost use Rattle.std.specs.Prelude.{◌≡◌, ◌+◌, ◌*◌, ◌<◌, ◌≤◌, List, Option, Some, None, Ok, IfOk, false};
 ghost use Rattle.std.specs.Prelude.{length, option_map, refl};
@@ -25,7 +25,7 @@ use vc_tree_nodes::building::Build;
 use vc_tree_nodes::copying::{clone_value, copy_shortened};
 use vc_tree_nodes::reading::{RadixNode, TKey, TValue};
 
-/// Keeps the shared keys, with what a closure answers.
+/// Keeps the shared keys, with the answers of a closure.
 #[derive(Drop)]
 struct Inner<'f, F, M> {
     answer: &'f F,
@@ -81,7 +81,7 @@ impl<
     }
 }
 
-/// Keeps the keys of one side alone, and the shared ones with what a closure answers.
+/// Keeps the keys of only one side, and the shared ones with the answers of a closure.
 #[derive(Drop)]
 struct Outer<'f, F, M> {
     answer: &'f F,
@@ -137,7 +137,7 @@ impl<
     }
 }
 
-/// Keeps all keys, the shared ones with the value of the left.
+/// Keeps all keys, the shared ones with the left value.
 #[derive(Drop)]
 struct KeepAll<M> {
     made: PhantomData<M>,
@@ -186,7 +186,7 @@ impl<K: TKey, V: TValue, A: RadixNode<K, V>, B: RadixNode<K, V>, M: Build<K, V>>
     }
 }
 
-/// Keeps the shared keys, with the value of the left.
+/// Keeps the shared keys, with the left value.
 #[derive(Drop)]
 struct KeepShared<M> {
     made: PhantomData<M>,
@@ -235,7 +235,7 @@ impl<K: TKey, V: TValue, W: TValue, A: RadixNode<K, V>, B: RadixNode<K, W>, M: B
     }
 }
 
-/// Keeps the keys of the left alone.
+/// Keeps the keys that only the left tree has.
 #[derive(Drop)]
 struct KeepLeft<M> {
     made: PhantomData<M>,
@@ -284,7 +284,7 @@ impl<K: TKey, V: TValue, W: TValue, A: RadixNode<K, V>, B: RadixNode<K, W>, M: B
     }
 }
 
-/// The keys that both trees bind, with what the closure answers.
+/// The tree of the keys that both trees bind, with the answers of the closure.
 pub fn inner_combine<
     K: TKey,
     V: TValue,
@@ -308,7 +308,7 @@ pub fn inner_combine<
     combine_whole(this, that, &op, &mut Uncounted)
 }
 
-/// The keys of both trees, the shared ones with what the closure answers.
+/// The tree of the keys of either tree, the shared ones with the answers of the closure.
 pub fn outer_combine<
     K: TKey,
     V: TValue,
@@ -334,7 +334,7 @@ pub fn outer_combine<
     combine_whole(this, that, &op, steps)
 }
 
-/// The keys of both trees, the shared ones with the value of the left.
+/// The tree of the keys of either tree, the shared ones with the left value.
 pub fn union<K: TKey, V: TValue, A: Build<K, V>, B: RadixNode<K, V>>(
     this: &A,
     that: &B,
@@ -347,7 +347,7 @@ pub fn union<K: TKey, V: TValue, A: Build<K, V>, B: RadixNode<K, V>>(
     combine_whole(this, that, &op, &mut Uncounted)
 }
 
-/// The keys that both trees bind, with the values of the left.
+/// The tree of the keys that both trees bind, with the left values.
 pub fn intersection<K: TKey, V: TValue, W: TValue, A: Build<K, V>, B: RadixNode<K, W>>(
     this: &A,
     that: &B,
@@ -360,7 +360,7 @@ pub fn intersection<K: TKey, V: TValue, W: TValue, A: Build<K, V>, B: RadixNode<
     combine_whole(this, that, &op, &mut Uncounted)
 }
 
-/// The keys that the left tree alone binds.
+/// The tree of the keys that only the left tree binds.
 pub fn difference<K: TKey, V: TValue, W: TValue, A: Build<K, V>, B: RadixNode<K, W>>(
     this: &A,
     that: &B,
@@ -373,7 +373,7 @@ pub fn difference<K: TKey, V: TValue, W: TValue, A: Build<K, V>, B: RadixNode<K,
     combine_whole(this, that, &op, &mut Uncounted)
 }
 
-/// The tree with the first `n` components off every key.
+/// The tree without the first `n` components of every key.
 pub fn materialize_shortened<K: TKey, V: TValue, A: RadixNode<K, V>, M: Build<K, V>>(
     tree: &A,
     n: usize,

@@ -33,8 +33,7 @@ use vc_tree_nodes::building::{Build, Seal};
 use vc_tree_nodes::parting::{Parting, find_parting};
 use vc_tree_nodes::reading::{RadixNode, TKey, TValue, canonical};
 
-/// What the combine makes of the values of the nodes that stand behind equal fronts of two
-/// prefixes.
+/// The combine of the values of the two nodes that are after equal fronts of two prefixes.
 fn combine_values<
     K: TKey,
     V: TValue,
@@ -57,8 +56,8 @@ fn combine_values<
     op.at_values(value_at(a, i, front), value_at(b, j, front))
 }
 
-/// What the combine makes of two trees behind equal fronts of their prefixes, of the children that
-/// it has made.
+/// The result of the combine of two trees after equal fronts of their prefixes, from the children
+/// that it has built.
 fn end<
     K: TKey,
     V: TValue,
@@ -97,8 +96,8 @@ fn end<
     Ok(made)
 }
 
-/// What is left of two trees, each without the front of its prefix, where the left one goes on with
-/// a lesser component.
+/// What is left of two trees, each without the front of its prefix, where the left one continues
+/// with a lesser component.
 fn make_lower<
     K: TKey,
     V: TValue,
@@ -123,8 +122,8 @@ fn make_lower<
     Ok(made)
 }
 
-/// What is left of two trees, each without the front of its prefix, where the left one goes on with
-/// a greater component.
+/// What is left of two trees, each without the front of its prefix, where the left one continues
+/// with a greater component.
 fn make_higher<
     K: TKey,
     V: TValue,
@@ -149,20 +148,20 @@ fn make_higher<
     Ok(made)
 }
 
-/// A tree that goes on behind a place of its prefix, beside the children of the other node, of
-/// which the first are done.
+/// The state where one tree continues after a place of its prefix, and is combined with the
+/// children of the other node. The first of these are done.
 #[derive(Drop)]
 struct Beside<'a, T, M> {
-    /// The trees that were made.
+    /// The trees that were built.
     made: Vec<M>,
-    /// The child that begins as the tree goes on.
+    /// The child that begins as the tree continues.
     found: Option<&'a T>,
-    /// How many children are left.
+    /// The number of children that are left.
     left: usize,
 }
 
-/// Begins what the combine makes of a left tree that goes on behind a place of its prefix, beside
-/// the children of a right node: adds the trees before the one that begins alike.
+/// Begins the combine of a left tree that continues after a place of its prefix with the children
+/// of a right node: adds the trees before the one that begins alike.
 fn begin_inside<
     'b,
     K: TKey,
@@ -237,8 +236,8 @@ fn end_inside<
     Ok(made)
 }
 
-/// Begins what the combine makes of the children of a left node, beside a right tree that goes on
-/// behind a place of its prefix: adds the trees before the one that begins alike.
+/// Begins the combine of the children of a left node with a right tree that continues after a place
+/// of its prefix: adds the trees before the one that begins alike.
 fn begin_within<
     'a,
     K: TKey,
@@ -313,12 +312,12 @@ fn end_within<
     Ok(made)
 }
 
-/// What is made below the fronts of two prefixes.
+/// What was built below the common front of two prefixes.
 #[derive(Drop)]
 struct Opened<M> {
-    /// For how many components the prefixes agree.
+    /// The number of components in which the prefixes agree.
     front: usize,
-    /// The trees that are made of what stands below.
+    /// The trees that were built from what is below.
     kids: Vec<M>,
 }
 
@@ -359,7 +358,7 @@ pub fn combine_at<
     end(alloc, a, i, b, j, front, op, kids)
 }
 
-/// What the combine makes of the trees that stand below the place where their prefixes part.
+/// The combine of the trees below the place where two prefixes diverge.
 #[cycle(combining)]
 fn combine_below<
     K: TKey,
@@ -422,8 +421,8 @@ fn combine_below<
     }
 }
 
-/// What the combine makes of a left tree that goes on behind a place of its prefix, beside the
-/// children of a right node.
+/// The combine of a left tree that continues after a place of its prefix with the children of a
+/// right node.
 #[cycle(combining)]
 fn combine_inside<
     K: TKey,
@@ -460,8 +459,8 @@ fn combine_inside<
     end_inside(alloc, a, i, others, left, op, made)
 }
 
-/// What the combine makes of the children of a left node, beside a right tree that goes on behind a
-/// place of its prefix.
+/// The combine of the children of a left node with a right tree that continues after a place of its
+/// prefix.
 #[cycle(combining)]
 fn combine_within<
     K: TKey,
@@ -498,7 +497,7 @@ fn combine_within<
     end_within(alloc, trees, b, j, left, op, made)
 }
 
-/// Adds what the combine makes of the next trees, of which one side may have none.
+/// Appends the combine of the next trees, where one side may have none.
 #[cycle(combining)]
 fn combine_one<
     K: TKey,
@@ -545,8 +544,7 @@ fn combine_one<
     }
 }
 
-/// What the combine makes of the children of two nodes. All merges go by the plan of the two whole
-/// lists.
+/// The combine of the children of two nodes. All merges use the plan of the two whole lists.
 #[cycle(combining)]
 fn combine_kids<
     K: TKey,
@@ -597,7 +595,7 @@ fn combine_kids<
     Ok(state.made)
 }
 
-/// What a combine makes of two whole trees.
+/// The combine of two whole trees.
 pub fn combine_whole<
     K: TKey,
     V: TValue,

@@ -1,5 +1,5 @@
-//! Tests of the keys of two trees. They take no memory: where children of two nodes are merged, the
-//! merge stops at two that begin alike, these are tested, and what is behind them is merged on.
+//! Tests of the keys of two trees. They take no memory. Where children of two nodes are merged, the
+//! merge stops at two that begin alike. These are tested, and the merge continues after them.
 
 ghost use Rattle.std.specs.Prelude.{◌≡◌, ◌+◌, ◌≤◌, Bool, Ok, List, drop, length, not, true, false};
 ghost use Rattle.std.specs.Prelude.{MatchBool, IfSome};
@@ -21,8 +21,8 @@ use vc_tree_nodes::parting::{Parting, find_parting};
 use vc_tree_nodes::places::child_at;
 use vc_tree_nodes::reading::{RadixNode, TKey, TValue, canonical, is_empty};
 
-/// What is left of two lists of trees, and whether a tree was missed: one that the left list alone
-/// has, where its keys are to be shared.
+/// What is left of two lists of trees, and whether a tree was missed: one that only the left list
+/// has, where its keys have to be shared.
 #[derive(Drop)]
 struct Tails<'a, 'b, A, B> {
     left: &'a [A],
@@ -48,7 +48,7 @@ impl<'a, 'b, A, B> MergeState for Tails<'a, 'b, A, B> {
     }
 }
 
-/// Passes the trees that one list alone has, and stops at two that begin alike; and at one that is
+/// Passes the trees that only one list has, and stops at two that begin alike, or at one that is
 /// missed.
 #[derive(Drop)]
 struct PassAlone<K, V, W> {
@@ -104,9 +104,9 @@ impl<
 /// What comes next of two lists of trees.
 #[derive(Drop)]
 enum Next<'a, 'b, A, B> {
-    /// A tree of each list that begin alike, and those behind it.
+    /// A tree of each list that begin alike, and those after it.
     Meeting(&'a A, &'a [A], &'b B, &'b [B]),
-    /// A tree of the left list alone, whose keys are to be shared.
+    /// A tree of only the left list, whose keys have to be shared.
     Missed,
     /// No trees that meet.
     End,
@@ -130,8 +130,8 @@ fn meeting_at_front<'a, 'b, K: TKey, V: TValue, W: TValue, A: RadixNode<K, V>, B
     }
 }
 
-/// The first trees of two lists that begin alike. No merge is begun where they stand in front, or
-/// where the left list has ended.
+/// The first trees of two lists that begin alike. No merge is begun where these are at the front,
+/// or where the left list has ended.
 fn next_meeting<'a, 'b, K: TKey, V: TValue, W: TValue, A: RadixNode<K, V>, B: RadixNode<K, W>>(
     left: &'a [A],
     right: &'b [B],
@@ -150,7 +150,7 @@ fn next_meeting<'a, 'b, K: TKey, V: TValue, W: TValue, A: RadixNode<K, V>, B: Ra
     }
 }
 
-/// The same by a merge.
+/// Finds the same by a merge.
 fn merge_to_meeting<'a, 'b, K: TKey, V: TValue, W: TValue, A: RadixNode<K, V>, B: RadixNode<K, W>>(
     left: &'a [A],
     right: &'b [B],
@@ -184,9 +184,9 @@ fn merge_to_meeting<'a, 'b, K: TKey, V: TValue, W: TValue, A: RadixNode<K, V>, B
     Next::Meeting(x, lefts, y, rights)
 }
 
-/// Whether all keys of the left tree are keys of the right one, if `shared`, or else whether none
-/// is. Of each tree the front of the prefix is left out, and the first `known` components that are
-/// left are known to agree.
+/// Whether all keys of the left tree are keys of the right one, if `shared`; otherwise whether none
+/// is. The front of each prefix is left out, and the first `known` components after it are known to
+/// agree.
 #[cycle(meeting)]
 fn keys_meet<K: TKey, V: TValue, W: TValue, A: RadixNode<K, V>, B: RadixNode<K, W>>(
     a: &A,
@@ -215,7 +215,7 @@ fn keys_meet<K: TKey, V: TValue, W: TValue, A: RadixNode<K, V>, B: RadixNode<K, 
     }
 }
 
-/// The same of what stands behind the prefix of the left tree, and of the right tree without `n`
+/// The same of what is after the prefix of the left tree, and of the right tree without `n`
 /// components.
 #[cycle(meeting)]
 fn keys_meet_behind<K: TKey, V: TValue, W: TValue, A: RadixNode<K, V>, B: RadixNode<K, W>>(

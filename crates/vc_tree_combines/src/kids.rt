@@ -1,4 +1,4 @@
-//! The children of two nodes side by side, by merges that stop where two trees begin alike.
+//! Merges of the children of two nodes, which stop where two trees begin alike.
 
 ghost use Rattle.std.specs.Prelude.{◌≡◌, ◌+◌, ◌≤◌, true, false, Ok, map, drop, length, slice_get};
 ghost use Rattle.std.specs.Prelude.{Some, IfOk, OnOk, MatchOption, [], ◌∷◌, ◌++◌, ◌*◌, ◌⊎◌, List};
@@ -24,7 +24,7 @@ use vc_merge::merge::{Count, MergeOperation, MergeState, merge_as};
 use vc_merge::plan::Plan;
 use vc_tree_nodes::reading::{RadixNode, TKey, TValue};
 
-/// What is left of two lists of children, and the trees that were made of the others.
+/// What is left of two lists of children, and the trees that were built from the others.
 #[derive(Drop)]
 pub struct Kids<'a, 'b, A, B, M> {
     pub left: &'a [A],
@@ -50,7 +50,7 @@ impl<'a, 'b, A, B, M> MergeState for Kids<'a, 'b, A, B, M> {
     }
 }
 
-/// Makes what becomes of trees that one list alone has, and stops at two that begin alike.
+/// Builds the result of trees that only one list has, and stops at two that begin alike.
 #[derive(Drop)]
 pub struct MakeAlone<'o, 'a, 'b, K, V, W, A, B, O> {
     pub alloc: Global,
@@ -129,8 +129,8 @@ impl<
     }
 }
 
-/// Makes what becomes of the trees that one list alone has, until both lists are used up or stand
-/// at two trees that begin alike.
+/// Builds the result of the trees that only one list has, until both lists are used up, or both
+/// have a first tree that begins alike.
 pub fn merge_to_pair<
     'o,
     'a,

@@ -1,4 +1,4 @@
-//! The combine that asks a closure at each key of the left tree.
+//! The combine that calls a closure at each key of the left tree.
 
 ghost use Rattle.std.specs.Prelude.{◌<◌, ◌≡◌, List, Option, None, Ok, IfOk, false, length, option_map, refl};
 ghost use Rattle.std.specs.Option.{option_copied};
@@ -18,8 +18,8 @@ use vc_tree_facing::nodes::{finish, keep};
 use vc_tree_nodes::building::Build;
 use vc_tree_nodes::reading::{RadixNode, TKey, TValue};
 
-/// Keeps the keys of the left tree, with what a closure answers of the value and of what the right
-/// tree binds there.
+/// Keeps the keys of the left tree, with the answers of a closure to the value and to what the
+/// right tree binds there.
 #[derive(Drop)]
 struct Left<'f, F, M> {
     answer: &'f F,
@@ -72,8 +72,8 @@ impl<
     }
 }
 
-/// What a closure leaves of a tree of which the right tree has no key, without the first `from`
-/// components of its prefix. It is asked at each value.
+/// What a closure keeps of a tree where the right tree has none of its keys, without the first
+/// `from` components of its prefix. It is called at each value.
 #[cycle(asking)]
 fn ask_alone<
     K: TKey,
@@ -103,7 +103,7 @@ fn ask_alone<
     finish(alloc, &prefix[from..], value, kids)
 }
 
-/// What a closure answers of a value to whose key the right tree binds nothing.
+/// The answer of a closure to a value whose key the right tree does not bind.
 fn ask_value<'b, V, W, F: Fn(&V, Option<&W>) -> Result<Option<V>, AllocError>>(
     value: Option<&V>,
     answer: &F,
@@ -123,8 +123,8 @@ where
     }
 }
 
-/// The keys of the left tree, with what the closure answers of the value there and of what the
-/// right tree binds, if anything.
+/// The tree of the keys of the left tree, with the answers of the closure to the value there and to
+/// what the right tree binds, if anything.
 pub fn left_combine<
     K: TKey,
     V: TValue,

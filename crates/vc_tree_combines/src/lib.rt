@@ -1,5 +1,5 @@
 //! Combines of two radix trees that build a new one, tests of the keys of two trees, and trees
-//! without the front of their prefixes. For the crates above; the traits that users name stand in
+//! without the front of their prefixes. For the crates above; the traits that users name are in
 //! `vc_trees`.
 #![tactic(auto)]
 

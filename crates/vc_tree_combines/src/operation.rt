@@ -1,4 +1,4 @@
-//! What a combine that builds a tree makes of values, and of trees that one side alone has.
+//! How a combine that builds a tree treats values, and trees that only one side has.
 
 ghost use Rattle.std.specs.Prelude.{◌≡◌, ◌<◌, List, Option, None, IfOk, false, length, option_map};
 ghost use Rattle.std.specs.Option.{option_copied};
@@ -11,32 +11,32 @@ use vc_tree_facing::facing::expected;
 use vc_tree_nodes::building::Build;
 use vc_tree_nodes::reading::{RadixNode, TKey, TValue};
 
-/// What a combine makes of values, and of trees that one side alone has.
+/// How a combine treats values, and trees that only one side has.
 pub trait Combine<K: TKey, V: TValue, W: TValue, A: RadixNode<K, V>, B: RadixNode<K, W>> {
-    /// The flavour that is made.
+    /// The flavour that is built.
     type Made: Build<K, V>;
 
     /// What the combine says of the values that the left tree, the right tree and the result bind
     /// to a key.
     ghost says: { Self → Option V → Option W → Option V → Type 0 };
 
-    /// What it needs in order to be asked of the values that both trees bind to a key.
+    /// What it requires of the values that both trees bind to a key.
     ghost asks: { Self → Option V → Option W → Type 0 };
 
-    /// Whether anything may be left of a tree that the left side alone has.
+    /// Whether anything may be left of a tree that only the left side has.
     fn keeps_left(&self) -> bool
         ensures { result ≡ false → (v : Option V) → says self.now v None None };
 
-    /// Whether anything may be left of a tree that the right side alone has.
+    /// Whether anything may be left of a tree that only the right side has.
     fn keeps_right(&self) -> bool
         ensures { result ≡ false → (w : Option W) → says self.now None w None };
 
-    /// The value of a key to which the trees bind these.
+    /// The value in the result of a key to which the trees bind these.
     fn at_values(&self, v: Option<&V>, w: Option<&W>) -> Result<Option<V>, AllocError>
         requires { asks self.now (option_copied v) (option_copied w) }
         ensures { IfOk result (says self.now (option_copied v.entry) (option_copied w.entry)) };
 
-    /// What is left of a tree that the left side alone has, without the first `from` components of
+    /// What is left of a tree that only the left side has, without the first `from` components of
     /// its prefix.
     fn left_alone(
         &self,
@@ -50,7 +50,7 @@ pub trait Combine<K: TKey, V: TValue, W: TValue, A: RadixNode<K, V>, B: RadixNod
         ensures { IfOk result (λ made. IsMade K.cmp (λ v z. says self.now v None z)
             (shortened from (A.tree tree.now)) (option_map Self.Made.tree made)) };
 
-    /// What is left of a tree that the right side alone has, without the first `from` components of
+    /// What is left of a tree that only the right side has, without the first `from` components of
     /// its prefix.
     fn right_alone(
         &self,
@@ -69,7 +69,7 @@ pub trait Combine<K: TKey, V: TValue, W: TValue, A: RadixNode<K, V>, B: RadixNod
     ghost asks_none: { (op : Self) → asks op None None };
 }
 
-/// For how many trees to make room that come of two lists of these lengths.
+/// The number of trees to make room for, that come from two lists of these lengths.
 #[inline(always)]
 pub fn room_for<
     K: TKey,
