@@ -1,4 +1,4 @@
--- What combines in place make at one key.
+-- The results of combines in place at one key.
 --     union_from, inner_from, left_from, intersection_from, difference_from        what is said at each key, as each combine
 -- says it
 use Rattle.std.proofs.Common.{◌≡◌, Bool, true, false, Option, None, Some, arith}

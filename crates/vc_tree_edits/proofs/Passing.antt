@@ -1,4 +1,4 @@
--- Trees that one of two lists alone has, passed up to two that begin alike.
+-- Trees that only one of two lists has, passed up to two that begin alike.
 --     children-ascend        canonical children ascend by the components with which they go on
 --     merged-pair, merged-end, merged-behind        where a merge stops, and what may still be compared
 --     place-next, gap-next        where a search for the only tree of the right side stops

@@ -1,4 +1,4 @@
--- The trees of a list that is lessened in its places.
+-- The trees of a list that is changed in place without additions.
 --     first-at, set-at        the tree at a place, and the list with another one there
 --     alone-made        a tree that the left side alone has
 --     two-stored        a node without a value keeps two children, if any

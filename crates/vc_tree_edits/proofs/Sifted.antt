@@ -1,4 +1,4 @@
--- The trees of a list that is changed in its places, done run by run and pair by pair.
+-- The trees of a list that is changed in place, run by run and pair by pair.
 --     at-end        trees that one list alone has are done, and no others are left
 --     pair-within, pair-next        or the next two begin alike
 --     pair-done        they are done

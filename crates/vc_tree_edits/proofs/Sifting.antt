@@ -1,7 +1,7 @@
--- What removal and retention make at one place: values and trees that stay or go.
+-- Removal and retention at one place: values and trees that are kept or removed.
 --     stayed        a tree that stays is what is said of a tree whose values are kept
 --     value_stays, value_goes        a value stays or goes by the verdict on its cover
---     sifted_below, asked_below, asked-cover        the verdict is known to all that stands below
+--     sifted_below, asked_below, asked-cover        the verdict is known to all that is below
 use Rattle.std.proofs.Common.{◌≡◌, ℕ, ◌<◌, Bool, true, false, ◌∷◌, List, Option, None, Some, length, arith}
 use Rattle.std.specs.Cmp.{IsTotalOrder}
 use Rattle.std.specs.declared.cmp.Ordering.{Ordering}

@@ -3,7 +3,7 @@
 --     begun        the state before the first trees
 --     first-long        a next tree goes on at the place
 --     after-left, after-right        a next tree is done, which one side alone has
---     falls-below        two trees that meet have fewer nodes than those that they stand below
+--     falls-below        two trees that meet have fewer nodes than those that they are below
 --     finished-children, finished        what was made is canonical children, and the node of it is what the change says
 use Rattle.std.proofs.Common.{◌≡◌, ℕ, ◌+◌, ◌<◌, [], ◌∷◌, List, Option, None, Some, slice_get, ap, subst, ◌∙◌, drop}
 use Rattle.std.proofs.Common.{take, length, arith, ◌≤◌, refl, sym, Bool, true, false, cond}

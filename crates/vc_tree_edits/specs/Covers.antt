@@ -1,4 +1,5 @@
--- How the trees of another map are read where they cover keys: at each key, the value of the longest key that is a prefix of it.
+-- How the trees of another map are read as covers of keys: at each key, the value of the longest
+-- key that is a prefix of it.
 use Rattle.std.proofs.Common.{◌≡◌, [], ◌∷◌, List, Option, None, Some, refl, sym, ap, ◌∙◌, true, false, Bool, cond}
 use Rattle.std.specs.Ordering.{is_eq}
 use Rattle.std.specs.declared.cmp.Ordering.{Ordering}
@@ -27,12 +28,12 @@ module _ {K W : Type 0} where
       let here : or_else (f []) (g []) ≡ f [] = ap (or_else (f [])) (none_second _ _ e) ∙ or_else-none (f []) in
       λ i. or_else (below i) (here i)
 
-  -- the cover of a key by a map, of which the empty key is left out
+  -- the cover of a key by a map without the empty key
   abbrev pub long_cover : (List K → Option W) → List K → Option W
   long_cover f [] = None
   long_cover f (x ∷ k) = cover (λ r. f (x ∷ r)) k
 
-  -- what covers a key behind the prefix of a node: what is below, or else the node's own value
+  -- what covers a key after the prefix of a node: what is below, or otherwise the node's own value
   pub cover_told : (cmp : K → K → Ordering) (v : Option W) (f : List K → Option W) (p k : List K)
       → cover (λ r. node_lookup v f (behind cmp p r)) k ≡ told None v (λ q. or_else (long_cover f q) v) (behind cmp p k)
   cover_told cmp v f [] [] = refl

@@ -1,4 +1,4 @@
--- What a change of a tree in place says of values, and what its closures may do.
+-- How a change of a tree in place treats values, and what its closures may do.
 use Rattle.std.specs.Prelude.{◌≡◌, Bool, cond, not, Option, Some, None, ⊤}
 use denote.Ref.{Bor, MutBor}
 use denote.Param.Members.{Shared}
@@ -21,7 +21,7 @@ module _ {V W F : Type 0} (g : Shared F (MutBor V × (Bor W × Unit {0})) (Bool 
   CanLeave v w = (p : MutBor V) (q : Bor W) → p.now ≡ v → q.now ≡ w → g.pre f (p, (q, tt))
 
 module _ {V W : Type 0} (keeps : V → V → Type 0) where
-  -- of a value that is kept from v, z is what may come at w
+  -- z is what may result from a value that is kept from v, at w
   abbrev pub KeptThen : (V → W → Option V → Type 0) → V → W → Option V → Type 0
   KeptThen may v w z = (kept : V) × keeps v kept × may kept w z
 
@@ -31,23 +31,24 @@ module _ {V W : Type 0} (keeps : V → V → Type 0) where
   CanMeet takes (Some v) None = ⊤
   CanMeet takes None w = ⊤
 
-  -- what may come at a key of both, and a value of the left alone stays
+  -- what may result at a key of both; a value of only the left side stays
   abbrev pub OrStays : (V → W → Option V → Type 0) → V → Option W → Option V → Type 0
   OrStays may v (Some w) z = may v w z
   OrStays may v None z = IsKept keeps (Some v) z
 
-  -- of a shared key, what may come; a value of the left alone stays or goes, and no other key is there
+  -- at a shared key, what may result; a value of only the left side stays or is removed, and no
+  -- other key is bound
   abbrev pub IsMetAt : Bool → (V → W → Option V → Type 0) → Option V → Option W → Option V → Type 0
   IsMetAt stays may (Some v) (Some w) z = may v w z
   IsMetAt stays may (Some v) None z = StaysOrGoes keeps stays v z
   IsMetAt stays may None w z = z ≡ None
 
--- the verdict on a key of this cover: what may be said of it, or else what is known
+-- the verdict on a key of this cover: what may be said of it, or otherwise what is known
 abbrev pub IsJudged : {W : Type 0} → (W → Bool → Type 0) → Bool → Option W → Bool → Type 0
 IsJudged may known None covered = covered ≡ known
 IsJudged may known (Some w) covered = may w covered
 
--- no value comes, and a value stays or goes by such a verdict
+-- no value is added, and a value is kept or removed by such a verdict
 abbrev pub IsSiftedBy : {V W : Type 0} → (V → V → Type 0) → (W → Bool → Type 0) → Bool → (Bool → Bool) → Option V → Option W
     → Option V → Type 0
 IsSiftedBy keeps may known stays None c z = z ≡ None

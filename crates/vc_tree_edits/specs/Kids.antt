@@ -1,8 +1,8 @@
 -- What a change leaves of the children of a node. No public clause cites these words.
 use Rattle.std.specs.Prelude.{◌≡◌, ◌+◌, ◌≤◌, Bool, true, ℕ, List, [], ◌∷◌, Option, None, take, drop, length, IfSome}
 
--- a lone child of a node without a value stands apart; else as many are stored as were counted, and a node without a value has
--- not one alone
+-- an only child of a node without a value is apart; otherwise as many are stored as were counted,
+-- and a node without a value does not have just one
 pub record AreKids {T : Type 0} (is_bare : Bool) (lone : Option T) (stored : List T) (many : ℕ) : Type 0 where
   pub apart : IfSome lone (λ _. (is_bare ≡ true) × (stored ≡ []))
   pub counted : lone ≡ None → many ≡ length stored

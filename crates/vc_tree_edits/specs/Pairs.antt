@@ -1,4 +1,5 @@
--- Two lists of trees, of which those that one list alone has were passed. No public clause cites these words.
+-- Two lists of trees, where those that only one list has were passed. No public clause cites these
+-- words.
 use Rattle.std.specs.Prelude.{◌≡◌, ℕ, ◌≤◌, List, [], ◌∷◌, ◌++◌, drop, length, Option, Some, None, ◌⊎◌}
 use Rattle.std.specs.List.{cons_option}
 use Rattle.std.specs.declared.cmp.Ordering.{Ordering}

@@ -12,7 +12,7 @@ use Rattle.vc_tree_facing.specs.Facing.{IsOpened, Parts}
 use Rattle.vc_tree_facing.specs.Made.{IsMade, IsMadeBy}
 use Rattle.vc_tree_facing.specs.Doing.{IsDoing}
 
--- the prefixes of t and u agree for n components and part there; and what stands below in u
+-- the prefixes of t and u agree for n components and diverge there; and what is below in u
 pub record IsMet {K V W B : Type 0} (cmp : K → K → Ordering) (tb : B → Tree K W) (t : Tree K V) (u : Tree K W) (n : ℕ)
     (ys : List B) (j : ℕ) : Type 0 where
   pub agree : Agree cmp t.prefix u.prefix n
@@ -20,7 +20,8 @@ pub record IsMet {K V W B : Type 0} (cmp : K → K → Ordering) (tb : B → Tre
   pub right : IsOpened tb u (drop n u.prefix) ys j
 
 module _ {K V T : Type 0} (tree : T → Tree K V) where
-  -- the parts of a tree that is alike to t: the front of its prefix, the value there, and what stands below
+  -- the parts of a tree that is alike to t: the front of its prefix, the value there, and what is
+  -- below
   pub record IsTaken (keeps : V → V → Type 0) (t : Tree K V) (n : ℕ) (front : List K) (value : Option V) (list : List T)
       (from : ℕ) : Type 0 where
     pub taken : Tree K V
@@ -30,7 +31,7 @@ module _ {K V T : Type 0} (tree : T → Tree K V) where
     pub opened : IsOpened tree taken (drop n taken.prefix) list from
 
 module _ {K V W O T B : Type 0} (cmp : K → K → Ordering) (tree : T → Tree K V) (tb : B → Tree K W) (l : Look cmp W O) where
-  -- t, taken apart beside u: its values at the fronts have become `made`, and no event is done yet
+  -- t, taken apart next to u: its values at the fronts have become `made`, and no event is done yet
   pub record IsBegun (keeps : V → V → Type 0) (says below : Option V → O → Option V → Type 0) (asks : Option V → O → Type 0)
       (t : Tree K V) (u : Tree K W) (front : List K) (made : Option V) (xs : List T) (i : ℕ) (ended : Bool) (ys : List B) (j : ℕ)
       (kids : List (Tree K V)) : Type 0 where
@@ -47,7 +48,8 @@ module _ {K V W O T B : Type 0} (cmp : K → K → Ordering) (tree : T → Tree 
     pub doing : IsDoing cmp tree tb i j l below asks xs ys xs ys kids
 
 module _ {K V : Type 0} (cmp : K → K → Ordering) where
-  -- the first tree of the left list was taken out, and what the change leaves of it stands behind the others
+  -- the first tree of the left list was taken out, and what the change leaves of it is after the
+  -- others
   pub record IsStayed {W O T : Type 0} (tree : T → Tree K V) (l : Look cmp W O) (says : Option V → O → Option V → Type 0)
       (from : ℕ) (xs xs' : List T) (kids kids' : List (Tree K V)) : Type 0 where
     pub first : T
@@ -56,7 +58,8 @@ module _ {K V : Type 0} (cmp : K → K → Ordering) where
     pub made : IsMade cmp (λ v z. says v l.none z) (shortened from (tree first)) kid
     pub added : kids' ≡ kids ++ cons_option kid []
 
-  -- the first tree of the right list was passed, and what the change makes of it stands behind the others
+  -- the first tree of the right list was passed, and what the change makes of it is after the
+  -- others
   pub record IsCome {W O B : Type 0} (tb : B → Tree K W) (l : Look cmp W O) (says : Option V → O → Option V → Type 0) (from : ℕ)
       (ys ys' : List B) (kids kids' : List (Tree K V)) : Type 0 where
     pub first : B
@@ -65,7 +68,7 @@ module _ {K V : Type 0} (cmp : K → K → Ordering) where
     pub made : IsMadeBy cmp l (λ w z. says None w z) (shortened from (tb first)) kid
     pub added : kids' ≡ kids ++ cons_option kid []
 
--- the first tree of a list goes on behind some components
+-- the first tree of a list continues after some components
 abbrev pub IsFirstLong : {K V T : Type 0} → (T → Tree K V) → ℕ → List T → Type 0
 IsFirstLong tree n [] = ⊥
 IsFirstLong tree n (x ∷ xs) = n < length (tree x).prefix

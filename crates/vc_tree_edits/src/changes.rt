@@ -1,4 +1,4 @@
-//! What changes of a tree by another one make of values, and of trees that one side alone has.
+//! How changes of a tree by another one treat values, and trees that only one side has.
 
 ghost use Rattle.std.specs.Prelude.{◌≡◌, ◌<◌, Option, Some, None, IfOk, length, refl};
 ghost use Rattle.std.specs.Option.{option_copied};
@@ -56,14 +56,14 @@ pub struct Sift<'f, F> {
 }
 
 impl<'f, F> Sift<'f, F> {
-    /// Whether keys stay that no longer key covers.
+    /// Whether keys stay that no further key covers.
     fn stays(&self) -> bool
         ensures { result ≡ stays_by self.now.retains self.now.covered }
     {
         self.covered == self.retains
     }
 
-    /// The verdict on a key that is bound to the value, if it is bound, and on what it covers.
+    /// The verdict on a key with this value, if it is bound, and on what it covers.
     fn verdict<W>(&self, w: Option<&W>) -> bool
     where
         F: Fn(&W) -> bool,
@@ -123,12 +123,12 @@ impl<'f, K: TKey, V: TValue, W: TValue, T: Build<K, V>, F: Fn(&W) -> bool> Lesse
     }
 }
 
-/// What is made of a value of the left tree at a key of both.
+/// How a value of the left tree changes at a key of both.
 pub trait Meet<V, W> {
-    /// It may be asked of these values.
+    /// Whether it may be applied to these values.
     ghost takes: { Self → V → W → Type 0 };
 
-    /// This may be left of them.
+    /// What it may leave of them.
     ghost may: { Self → V → W → Option V → Type 0 };
 
     /// What is left of the value.
@@ -137,7 +137,7 @@ pub trait Meet<V, W> {
         ensures { may self.now v w.entry.now result };
 }
 
-/// A closure is asked, which may write to the value, and answers whether it stays.
+/// A closure may change the value, and answers whether it stays.
 #[derive(Drop)]
 pub struct Asked<'f, F>(pub &'f F);
 
@@ -152,7 +152,7 @@ impl<'f, V: Drop, W, F: Fn(&mut V, &W) -> bool> Meet<V, W> for Asked<'f, F> {
     }
 }
 
-/// A closure of values of one type is asked in the same way.
+/// The same with a closure whose two values have one type.
 #[derive(Drop)]
 pub struct AskedAlike<'f, F>(pub &'f F);
 
@@ -195,10 +195,10 @@ impl<V: Drop, W> Meet<V, W> for Goes {
     }
 }
 
-/// Keeps the keys of both sides.
+/// Keeps the keys of either side: a value of only one side is kept, or comes in as a clone.
 #[derive(Drop)]
 pub struct KeepAll<'m, M> {
-    /// What is made of the values of the shared keys.
+    /// How the values of the shared keys change.
     pub at: &'m M,
 }
 
@@ -259,12 +259,12 @@ impl<'m, K: TKey, V: TValue, B: RadixNode<K, V>, T: Build<K, V>, M: Meet<V, V>> 
     }
 }
 
-/// Keeps the keys of both sides, or those of the left.
+/// Keeps shared keys, and the keys of only the left side if `left_stays`.
 #[derive(Drop)]
 pub struct KeepLeft<'m, M> {
-    /// What is made of the values of the shared keys.
+    /// How the values of the shared keys change.
     pub at: &'m M,
-    /// Whether the keys of the left alone stay.
+    /// Whether the keys of only the left side stay.
     pub left_stays: bool,
 }
 

@@ -18,8 +18,8 @@ use std::mem;
 use vc_tree_nodes::building::{Build, Seal};
 use vc_tree_nodes::reading::{RadixNode, TKey, TValue, canonical};
 
-/// Changes a whole tree. It is taken out, and the empty one stands in its place until the change
-/// has ended.
+/// Changes a whole tree. It is taken out, and the empty tree replaces it until the change has
+/// ended.
 fn change<
     K: TKey,
     V: TValue,
@@ -45,8 +45,8 @@ fn change<
     Ok(())
 }
 
-/// Changes a whole tree into which nothing comes. It is taken out, and the empty one stands in its
-/// place until the change has ended.
+/// Changes a whole tree, without adding keys. It is taken out, and the empty tree replaces it until
+/// the change has ended.
 fn lessen<K: TKey, V: TValue, W: TValue, B: RadixNode<K, W>, T: Build<K, V>, O: Lessen<K, V, W, T>>(
     tree: &mut T,
     that: &B,
@@ -69,9 +69,9 @@ fn lessen<K: TKey, V: TValue, W: TValue, B: RadixNode<K, W>, T: Build<K, V>, O: 
     Ok(())
 }
 
-/// Keeps exactly the keys that the other tree covers where it retains, and else those that it does
-/// not cover: of its keys that are prefixes of a key the longest decides, by what the closure
-/// answers at its value. The closure is asked once at each key of the other tree that is met.
+/// Keeps exactly the keys that the other tree covers, if `retains`; otherwise those that it does
+/// not cover. Of its keys that are prefixes of a key, the longest decides, by the closure's answer
+/// for its value. The closure is called once for each key of the other tree that is met.
 pub fn sift_prefixes<
     K: TKey,
     V: TValue,
@@ -95,7 +95,7 @@ pub fn sift_prefixes<
     lessen(tree, that, &op)
 }
 
-/// Keeps the shared keys at which the closure, which may write to the value, answers true.
+/// Keeps the shared keys at which the closure, which may change the value, answers true.
 #[tactic(auto, using(crate::proofs::Meeting::inner_from))]
 pub fn inner_combine_with<
     K: TKey,
@@ -119,7 +119,7 @@ pub fn inner_combine_with<
     lessen(tree, that, &op)
 }
 
-/// Keeps the keys of the tree, but the shared ones at which the closure, which may write to the
+/// Keeps the keys of the tree, except the shared ones at which the closure, which may change the
 /// value, answers false.
 #[tactic(auto, using(crate::proofs::Meeting::left_from))]
 pub fn left_combine_with<
@@ -145,7 +145,7 @@ pub fn left_combine_with<
     lessen(tree, that, &op)
 }
 
-/// Adds the keys of the other tree that this one has not, with clones of their values.
+/// Adds the keys of the other tree that this one lacks, with clones of their values.
 #[tactic(auto, using(crate::proofs::Meeting::union_from))]
 pub fn union_with<K: TKey, V: TValue, B: RadixNode<K, V>, T: Build<K, V>>(
     tree: &mut T,
@@ -178,7 +178,7 @@ pub fn intersection_with<K: TKey, V: TValue, W: TValue, B: RadixNode<K, W>, T: B
     lessen(tree, that, &op)
 }
 
-/// Keeps the keys that the other tree has not.
+/// Keeps the keys that the other tree lacks.
 #[tactic(auto, using(crate::proofs::Meeting::difference_from))]
 pub fn difference_with<K: TKey, V: TValue, W: TValue, B: RadixNode<K, W>, T: Build<K, V>>(
     tree: &mut T,
@@ -196,8 +196,8 @@ pub fn difference_with<K: TKey, V: TValue, W: TValue, B: RadixNode<K, W>, T: Bui
     lessen(tree, that, &op)
 }
 
-/// Keeps the keys of both: a value of one side alone stays, or comes in as a clone, and at a shared
-/// key the closure writes to the value, which stays where it answers true.
+/// Keeps the keys of either tree: a value of only one side stays, or comes in as a clone. At a
+/// shared key the closure may change the value, which stays where it answers true.
 pub fn outer_combine_with<
     K: TKey,
     V: TValue,

@@ -1,4 +1,4 @@
-//! The recursion of the changes of a tree into which nothing comes, in place.
+//! The recursion of the changes in place that add no key.
 
 ghost use Rattle.std.specs.Prelude.{◌≡◌, ◌+◌, ◌<◌, ◌≤◌, ◌++◌, ◌∷◌, true, false, List, [], Option};
 ghost use Rattle.std.specs.Prelude.{Some, None, IfOk, MatchBool, cond, drop, take, length};
@@ -32,21 +32,21 @@ use vc_tree_nodes::children::{ChildList, Fragment, Parts};
 use vc_tree_nodes::making::new_joined;
 use vc_tree_nodes::reading::{RadixNode, TKey, TValue, canonical};
 
-/// What a change into which nothing comes makes of values, and of trees that the left side alone
-/// has. Values are handed over, and those that stay are handed back.
+/// How a change that adds no key treats values, and trees that only the left side has. Values are
+/// passed by value, and those that stay are returned.
 pub trait Lessen<K: TKey, V: TValue, W: TValue, T: Build<K, V>>: Sized + Drop {
     /// How the right tree is read at a key.
     ghost look: { (cmp : K → K → Ordering) → Look cmp W (Option W) };
 
-    /// What the change says of the values that the left tree has, of what is read of the right one,
-    /// and of the value that is left.
+    /// The relation between the value that the left tree has, what is read from the right one, and
+    /// the value that is left.
     ghost says: { Self → Option V → Option W → Option V → Type 0 };
 
-    /// What it needs in order to be asked there.
+    /// What it requires of these.
     ghost asks: { Self → Option V → Option W → Type 0 };
 
-    /// What is left of the value of a key of which the trees have these, and the change of all that
-    /// stands below.
+    /// What is left of the value at a key where the trees have these, and the change for all that
+    /// is below.
     fn at_values(&self, v: Option<V>, w: Option<&W>) -> (Option<V>, Self)
         requires { asks self.now v ((look K.cmp).at (option_copied w)) }
         ensures value { says self.now v ((look K.cmp).at (option_copied w.entry)) result.0 }
@@ -55,7 +55,7 @@ pub trait Lessen<K: TKey, V: TValue, W: TValue, T: Build<K, V>>: Sized + Drop {
         ensures asked { (u : Option V) (o : Option W)
             → asks self.now u ((look K.cmp).under (option_copied w.entry) o) → asks result.1 u o };
 
-    /// Whether keys stay of which the right tree says nothing.
+    /// Whether keys stay that only the left tree has.
     fn left_stays(&self) -> bool
         ensures { MatchBool result
             ((v z : Option V) → IsKept T.keeps v z → says self.now v (look K.cmp).none z)
@@ -72,7 +72,7 @@ pub trait Lessen<K: TKey, V: TValue, W: TValue, T: Build<K, V>>: Sized + Drop {
         → asks op u w → asks op v w };
 }
 
-/// What the change makes of the value of a node, beside that of the right node.
+/// Changes the value of a node by that of the right node.
 fn change_value<K: TKey, V: TValue, W: TValue, T: Build<K, V>, O: Lessen<K, V, W, T>>(
     value: Option<V>,
     that: Option<&W>,
@@ -89,7 +89,7 @@ fn change_value<K: TKey, V: TValue, W: TValue, T: Build<K, V>, O: Lessen<K, V, W
     op.at_values(value, that)
 }
 
-/// Whether what the left side alone has stays.
+/// Whether what only the left side has stays.
 fn stays_alone<K: TKey, V: TValue, W: TValue, T: Build<K, V>, O: Lessen<K, V, W, T>>(op: &O) -> bool
     ensures { MatchBool result
         ((v z : Option V) → IsKept T.keeps v z → O.says op.now v (O.look K.cmp).none z)
@@ -98,8 +98,8 @@ fn stays_alone<K: TKey, V: TValue, W: TValue, T: Build<K, V>, O: Lessen<K, V, W,
     op.left_stays()
 }
 
-/// Moves the `n` elements from the place `at` on down behind the first `kept`. Those that lay
-/// between end up behind them.
+/// Moves the `n` elements from the place `at` on down after the first `kept`. Those that were
+/// between end up after them.
 fn move_down<T>(list: &mut [T], kept: usize, at: usize, n: usize)
     requires order { kept < at }
     requires within { at + n ≤ length list.old }
@@ -110,8 +110,8 @@ fn move_down<T>(list: &mut [T], kept: usize, at: usize, n: usize)
     }
 }
 
-/// Passes the `n` trees from the place `at` on. Where they stay, they come behind the `kept` that
-/// stay before them: nothing is moved while nothing went. Answers how many stay by then.
+/// Passes the `n` trees from the place `at` on. If they stay, they are moved after the `kept` trees
+/// that stay before them; nothing is moved while none was removed. Answers how many stay so far.
 pub fn pass<T>(list: &mut Vec<T>, kept: usize, at: usize, n: usize, stay: bool) -> usize
     requires order { kept ≤ at }
     requires within { at + n ≤ length list.old.items }
@@ -133,15 +133,15 @@ pub fn pass<T>(list: &mut Vec<T>, kept: usize, at: usize, n: usize, stay: bool) 
 /// What is left of the children of a node.
 #[derive(Drop)]
 struct Kids<C, T> {
-    /// How many are stored.
+    /// The number of children that are stored.
     many: usize,
     /// The children that are stored.
     stored: Option<C>,
-    /// The only child, taken out where the node has no value.
+    /// The only child, which is taken out where the node has no value.
     lone: Option<T>,
 }
 
-/// The node of what is left as a child.
+/// Makes the node of what is left, as a child.
 fn remake<K: TKey, V: TValue, T: Build<K, V>>(
     alloc: Global,
     prefix: T::Prefix,
@@ -165,10 +165,9 @@ fn remake<K: TKey, V: TValue, T: Build<K, V>>(
     Ok(Some(T::assemble(prefix, value, stored, Seal::new())))
 }
 
-/// Changes a tree behind the first `i` components of its prefix, which stay, by another one behind
-/// the first `j` of its own, and answers whether a key is left. The first `known` components that
-/// are left of either prefix are known to agree. What is left where none is, or where memory is
-/// refused, is any tree.
+/// Changes a tree after the first `i` components of its prefix, which stay, by another one after
+/// the first `j` of its own. Answers whether a key is left. The next `known` components of both
+/// prefixes are known to agree. Where no key is left, or memory is refused, the tree may be any.
 #[cycle(lessening)]
 pub fn lessen_at<
     K: TKey,
@@ -209,7 +208,7 @@ pub fn lessen_at<
     lessen_node(alloc, tree, i, value_at(that, j, front), right, from, op)
 }
 
-/// The same where the right prefix has ended at a place in the left one.
+/// Does the same where the right prefix has ended at a place in the left one.
 #[cycle(lessening)]
 fn lessen_inside<
     K: TKey,
@@ -236,8 +235,8 @@ fn lessen_inside<
     }
 }
 
-/// The same where the left prefix has ended, beside the value of the right node and what stands
-/// below it.
+/// Does the same where the left prefix has ended, by the value of the right node and what is below
+/// it.
 #[cycle(lessening)]
 fn lessen_node<
     K: TKey,
@@ -292,7 +291,7 @@ fn lessen_node<
 }
 
 /// What is left of the `had` children of a node, which has no value where `is_bare`. Children that
-/// meet nothing stay where they are stored, or go all together.
+/// meet nothing stay where they are stored, or are all dropped.
 #[cycle(lessening)]
 fn lessen_kids<
     K: TKey,
@@ -355,8 +354,8 @@ fn lessen_kids<
     })
 }
 
-/// What is left of children that are stored: how many stay there, and the only one, which is taken
-/// out where it is not to stand alone.
+/// What is left of children that are stored: the number that stay there, and an only child, which
+/// is taken out where the node has no value.
 #[cycle(lessening)]
 fn lessen_in<
     K: TKey,
@@ -396,8 +395,8 @@ fn lessen_in<
     Ok((kept, None))
 }
 
-/// Changes the trees of a list where they are, and answers how many of them stay. These are moved
-/// to the front.
+/// Changes the trees of a list in place, moves those that stay to the front, and answers how many
+/// they are.
 #[cycle(lessening)]
 fn lessen_list<
     K: TKey,

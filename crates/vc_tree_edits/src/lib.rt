@@ -1,6 +1,6 @@
-//! Changes of a radix tree in place: components before all its keys, combines, and removal and
+//! Changes of a radix tree in place: components put before all its keys, combines, and removal and
 //! retention of the keys that another tree covers. For the crates above; the trait that users name
-//! stands in `vc_trees`.
+//! is in `vc_trees`.
 #![tactic(auto)]
 
 mod changes;

@@ -1,4 +1,4 @@
-//! Two lists of trees side by side: a merge passes those that one list alone has, and stops at two
+//! Two lists of trees side by side: a merge passes those that only one list has, and stops at two
 //! that begin alike.
 
 ghost use Rattle.std.specs.Prelude.{◌≡◌, ◌+◌, ◌-◌, ◌<◌, ◌≤◌, ◌∷◌, [], true, false, Ok, Some};
@@ -28,7 +28,7 @@ use vc_tree_nodes::reading::{RadixNode, TKey, TValue, canonical};
 /// Trees of the right side, each without some of its first components.
 #[derive(Drop)]
 pub enum Trees<'b, B> {
-    /// One, which goes on after them.
+    /// One, which continues after them.
     One(&'b B),
     /// The children of a node.
     Many(&'b [B]),
@@ -102,7 +102,7 @@ pub fn trees_at<'b, K: TKey, W: TValue, B: RadixNode<K, W>>(
     }
 }
 
-/// What is left of two lists of trees, which are only looked at.
+/// What is left of two lists of trees, which are only read.
 #[derive(Drop)]
 struct Lists<'a, 'b, A, B> {
     left: &'a [A],
@@ -127,10 +127,10 @@ impl<'a, 'b, A, B> MergeState for Lists<'a, 'b, A, B> {
     }
 }
 
-/// Passes the trees that one list alone has, and stops at two that begin alike.
+/// Passes the trees that only one list has, and stops at two that begin alike.
 #[derive(Drop)]
 struct PassAlone<K, V, W> {
-    /// How many components of the right trees are left out.
+    /// The number of components of the right trees that are left out.
     from: usize,
     key: PhantomData<K>,
     left_value: PhantomData<V>,
@@ -185,9 +185,9 @@ impl<
 /// Where a walk along two lists of trees stops: at the next two that begin alike, or at the end.
 #[derive(Drop)]
 pub struct Stop<'b, B> {
-    /// How many left trees were passed, which the right list does not have.
+    /// The number of left trees that were passed, which the right list does not have.
     pub passed: usize,
-    /// The right tree that begins as the next left one does. The end of both lists has none.
+    /// The right tree that begins as the next left one does, or none at the end of both lists.
     pub other: Option<&'b B>,
     /// The right trees after that one.
     pub others: Trees<'b, B>,
@@ -206,8 +206,9 @@ pub fn skips<B>(rights: &Trees<'_, B>, stop: &Stop<'_, B>) -> bool
     left < rights.len()
 }
 
-/// The next two trees that begin alike, found by a merge. Where each merge goes by the plan of the
-/// two whole lists, and on from the pair before, all of them compare no more than one merge does.
+/// The next two trees that begin alike, found by a merge. Where each merge uses the plan of the two
+/// whole lists, and continues from the pair before, all of them together compare no more than one
+/// merge.
 fn merge_to_pair<
     'b,
     K: TKey,
@@ -289,7 +290,7 @@ fn place_among<K: TKey, V: TValue, T: RadixNode<K, V>>(
     search(children, &sought, &mut Uncounted)
 }
 
-/// The child that begins as a tree goes on at a place of its prefix.
+/// The child that begins as a tree continues at a place of its prefix.
 pub fn child_alike<'b, K: TKey, V: TValue, W: TValue, T: RadixNode<K, V>, B: RadixNode<K, W>>(
     children: &'b [B],
     tree: &T,
@@ -308,7 +309,7 @@ pub fn child_alike<'b, K: TKey, V: TValue, W: TValue, T: RadixNode<K, V>, B: Rad
     }
 }
 
-/// The left tree that begins as the one of the right side goes on.
+/// The left tree that begins as the only one of the right side continues.
 fn search_pair<'b, K: TKey, V: TValue, W: TValue, A: RadixNode<K, V>, B: RadixNode<K, W>>(
     lefts: &[A],
     tree: &'b B,
@@ -333,8 +334,8 @@ fn search_pair<'b, K: TKey, V: TValue, W: TValue, A: RadixNode<K, V>, B: RadixNo
     }
 }
 
-/// The next two trees that begin alike, of the left ones from the place `at` on. A tree alone is
-/// searched for, the children of a node are merged by a plan, which is that of the two whole lists.
+/// The next two trees that begin alike, of the left ones from the place `at` on. A single tree is
+/// searched for; the children of a node are merged by `plan`, which is that of the two whole lists.
 pub fn next_pair<'b, K: TKey, V: TValue, W: TValue, A: RadixNode<K, V>, B: RadixNode<K, W>>(
     lefts: &[A],
     at: usize,

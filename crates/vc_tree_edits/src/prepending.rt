@@ -11,7 +11,7 @@ use vc_tree_nodes::building::{Build, Seal};
 use vc_tree_nodes::children::{Fragment, Parts};
 use vc_tree_nodes::reading::{TKey, TValue, canonical, is_empty};
 
-/// Puts these components before each key. The empty tree stays empty.
+/// Puts the components before each key. The empty tree stays empty.
 pub fn prepend<K: TKey, V: TValue, T: Build<K, V>>(
     tree: &mut T,
     prefix: &[K],
