@@ -1,5 +1,5 @@
 -- A chain of steps, as it grows by one command after another.
---     Leads matches step m cs oks n        what a run does from n on, it does from m on behind these commands
+--     Leads matches step m cs oks n        what a run does from n on, it does from m on after these commands
 --     leads-turn, leads-through        one command more, and all of them
 use Rattle.std.proofs.Common.{◌≡◌, ◌∙◌, ◌+◌, ◌<◌, ◌≤◌, ℕ, [], ◌∷◌, ◌++◌, List, Option, Bool, ap}
 use Rattle.std.proofs.Common.{subst, sym, length, map, take, set, refl}

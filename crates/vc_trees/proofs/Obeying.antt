@@ -1,4 +1,4 @@
--- Where kept values are copies, what a command keeps is what the machine makes by copies.
+-- Where kept values are copies, what a command keeps is what the machine gives, by copies.
 --     step-copied, run-copied        of one command, and of a run
 use Rattle.std.proofs.Common.{[], ◌∷◌, List, Option, Bool, true, false, arith}
 use Rattle.std.specs.declared.cmp.Ordering.{Ordering}

@@ -6,7 +6,8 @@ use Rattle.vc_trees.specs.declared.commands.TreeCommand.{TreeCommand}
 use Rattle.vc_trees.specs.declared.commands.TreeCommand.TheVariants.{Insert, Prepend, Filter, Union, Intersection, Difference}
 use Rattle.vc_trees.specs.declared.commands.TreeCommand.TheVariants.{RemovePrefix, RetainPrefix}
 
--- the machine's command, which has lists of components for keys and prefixes, and what the other tree is seen as
+-- the machine's command, which has lists of components for keys and prefixes, and what contracts
+-- see of the other tree
 abbrev pub command_of : {K V T : Type 0} → (T → Tree K V) → TreeCommand K V T → Command K V
 command_of tree (Insert key v) = insert key.items v
 command_of tree (Prepend p) = prepend p.items

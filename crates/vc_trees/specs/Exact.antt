@@ -11,7 +11,7 @@ use Rattle.vc_tree_model.specs.Snapshot.{IsSnapshot, same_copies}
 use Rattle.vc_tree_removal.specs.Without.{IsWithoutAll}
 
 module _ {K V : Type 0} (keeps : V → V → Type 0) (same : (v w : Option V) → IsKept keeps v w → w ≡ v) where
-  -- where what is kept is the same, trees that are alike are one
+  -- where what is kept is the same, trees that are alike are equal
   same_forest : (f g : Forest K V) → IsAlikeIn keeps f g → g ≡ f
   same_forest bare bare h = refl
   same_forest bare (grow q w more others) h = absurd h
@@ -31,7 +31,7 @@ module _ {V : Type 0} (is_clone : V → V → Type 0) (exact : (v w : V) → is_
   copies-exact itself = refl
   copies-exact (cloned {u} {v} {w} c p) = sym (exact u v c) ∙ copies-exact p
 
-  -- so are values of which one is a copy of the other
+  -- so are two values where one is a copy of the other
   pub are_copies-exact : {v w : V} → AreCopies is_clone v w → v ≡ w
   are_copies-exact (inl c) = copies-exact c
   are_copies-exact (inr c) = sym (copies-exact c)
@@ -40,14 +40,14 @@ module _ {V : Type 0} (is_clone : V → V → Type 0) (exact : (v w : V) → is_
   pub one_source-exact : {v w : V} → HaveOneSource is_clone v w → v ≡ w
   one_source-exact h = sym (copies-exact h.1) ∙ copies-exact h.2
 
-  -- what is kept as a copy is kept as it is
+  -- what is kept as a copy is kept itself
   pub kept-exact : (v w : Option V) → IsKept (Copies is_clone) v w → IsKept (λ x y. x ≡ y) v w
   kept-exact None None h = h
   kept-exact None (Some w) h = h
   kept-exact (Some v) None h = h
   kept-exact (Some v) (Some w) h = copies-exact h
 
-  -- so what is handed up is what was there
+  -- so what is returned is what was there
   pub handed-exact : (v w : Option V) → IsKept (Copies is_clone) v w → w ≡ v
   handed-exact None None h = refl
   handed-exact None (Some w) h = absurd h
@@ -55,7 +55,7 @@ module _ {V : Type 0} (is_clone : V → V → Type 0) (exact : (v w : V) → is_
   handed-exact (Some v) (Some w) h = ap (λ x. Some x) (sym (copies-exact h))
 
   module _ {K : Type 0} (cmp : K → K → Ordering) where
-    -- a key is bound, and the others keep their very values
+    -- a key is bound, and the others keep their values themselves
     pub inserted-exact : (key : List K) (value : V) (t u : Tree K V)
         → IsInserted cmp (Copies is_clone) key value t u → IsInserted cmp (λ x y. x ≡ y) key value t u
     inserted-exact key value t u h = record {
@@ -63,11 +63,11 @@ module _ {V : Type 0} (is_clone : V → V → Type 0) (exact : (v w : V) → is_
       others = λ k e. kept-exact (lookup cmp t k) (lookup cmp u k) (h.others k e);
     }
 
-    -- two trees have the very same map
+    -- two trees have the same map
     pub equal_maps-exact : (t u : Tree K V) → HaveEqualMaps cmp (Copies is_clone) t u → HaveEqualMaps cmp (λ x y. x ≡ y) t u
     equal_maps-exact t u h = λ k. kept-exact (lookup cmp t k) (lookup cmp u k) (h k)
 
-  -- a map without some keys has the very values of the others
+  -- a map without some keys has the values of the others themselves
   pub without-exact : {K : Type 0} (test : List K → Bool) (f g : List K → Option V)
       → IsWithoutAll (Copies is_clone) test f g → IsWithoutAll (λ x y. x ≡ y) test f g
   without-exact test f g h = record {
@@ -75,7 +75,7 @@ module _ {V : Type 0} (is_clone : V → V → Type 0) (exact : (v w : V) → is_
     others = λ k e. kept-exact (f k) (g k) (h.others k e);
   }
 
-  -- maps whose values have one source are one map
+  -- maps whose values have one source are the same map
   pub maps-exact : {K : Type 0} (f g : List K → Option V) → IsEqualMap (HaveOneSource is_clone) f g
       → IsEqualMap (λ x y. x ≡ y) f g
   maps-exact f g h k = by (f k) (g k) (h k)
@@ -108,7 +108,7 @@ module _ {V : Type 0} (is_clone : V → V → Type 0) (exact : (v w : V) → is_
       ∙ ap (λ f. node t.prefix t.value f) h.2
 
 module _ {V : Type 0} (is_clone : V → V → Type 0) where
-  -- what is kept as it is has one source
+  -- what is kept itself has one source
   kept-one_source : (v w : Option V) → IsKept (λ x y. x ≡ y) v w → IsKept (HaveOneSource is_clone) v w
   kept-one_source None None h = h
   kept-one_source None (Some w) h = h

@@ -13,7 +13,7 @@ ghost use Rattle.vc_tree_model.specs.Value.{Copies};
 use crate::radix_tree::{AbstractRadixTreeMut, RadixNode, TKey, TValue};
 use std::alloc::AllocError;
 
-/// A change of a tree, by a key and a value, by a prefix, or by another tree.
+/// A change of a tree: with a key and a value, with a prefix, or with another tree.
 #[derive(Drop)]
 pub enum TreeCommand<K, V, T> {
     /// Binds the key to the value.
@@ -22,20 +22,20 @@ pub enum TreeCommand<K, V, T> {
     Prepend(Vec<K>),
     /// Keeps the keys that start with the prefix.
     Filter(Vec<K>),
-    /// Adds the keys that the other tree alone binds.
+    /// Adds the keys that only the other tree binds.
     Union(T),
     /// Keeps the keys that both trees bind.
     Intersection(T),
     /// Keeps the keys that the other tree does not bind.
     Difference(T),
-    /// Removes the keys of which some key of the other tree is a prefix.
+    /// Removes the keys that have some key of the other tree as a prefix.
     RemovePrefix(T),
-    /// Keeps the keys of which some key of the other tree is a prefix.
+    /// Keeps the keys that have some key of the other tree as a prefix.
     RetainPrefix(T),
 }
 
-/// Puts the tree of the keys that start with the prefix in the tree's place. A refusal leaves the
-/// tree as it was.
+/// Replaces the tree by that of the keys that start with the prefix. On refusal the tree is
+/// unchanged.
 fn filter<K: TKey, V: TValue, T: AbstractRadixTreeMut<K, V>>(
     tree: &mut T,
     prefix: &[K],
@@ -49,7 +49,7 @@ fn filter<K: TKey, V: TValue, T: AbstractRadixTreeMut<K, V>>(
     Ok(())
 }
 
-/// Does one command on the tree. What the command brought is dropped.
+/// Runs one command on the tree. The arguments of the command are dropped.
 fn obey<K: TKey, V: TValue, T: AbstractRadixTreeMut<K, V>>(
     tree: &mut T,
     command: TreeCommand<K, V, T>,
@@ -72,13 +72,13 @@ fn obey<K: TKey, V: TValue, T: AbstractRadixTreeMut<K, V>>(
     }
 }
 
-/// Does the commands on the tree, one after another, and says of each whether it was accepted. One
+/// Runs the commands on the tree, one after another, and answers for each whether it succeeded. One
 /// that is refused does not stop the run.
 ///
-/// A value that stays is kept, as by the call of that name; a filter alone leaves copies. A command
-/// is refused only where memory is, or the clone of a value: by an insert, a prefix or a filter the
-/// tree then binds what it bound, and by another tree it is empty. What a command brought is dropped
-/// once it was done.
+/// A value that stays is kept, as by the call of that name; only a filter leaves copies. A command
+/// is refused only where memory or the clone of a value is. After a refused insert, prepend or
+/// filter, the tree binds what it bound; after a refused command with another tree, it is empty.
+/// The arguments of a command are dropped after it.
 pub fn run<K: TKey, V: TValue, T: AbstractRadixTreeMut<K, V>>(
     tree: &mut T,
     commands: Vec<TreeCommand<K, V, T>>,

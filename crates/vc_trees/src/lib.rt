@@ -1,5 +1,5 @@
 //! Radix trees that are always canonical, plain and with shared children: each map of keys to
-//! values has one tree. And commands on them, with runs of commands: the machine whose states are
+//! values has one tree. Also commands on trees, and runs of commands: a machine whose states are
 //! maps.
 #![tactic(auto)]
 

@@ -50,10 +50,10 @@ pub trait AbstractRadixTree<K: TKey, V: TValue>: RadixNode<K, V> {
         reading::is_empty(self)
     }
 
-    /// How many keys the tree has, and `usize::MAX` where it has more, as trees can whose nodes
-    /// share their children. Takes no memory.
+    /// The number of keys of the tree, or `usize::MAX` where it has more: trees whose nodes share
+    /// children can have more. Takes no memory.
     ///
-    /// Goes through all nodes.
+    /// Visits all nodes.
     final fn len(&self) -> usize
         ensures { result ≡ min (key_count (Self.tree self.now)) (2 ^ 64 - 1) }
     {
@@ -70,7 +70,7 @@ pub trait AbstractRadixTree<K: TKey, V: TValue>: RadixNode<K, V> {
     /// Whether some key of the tree starts with the prefix. A key starts with itself, and each key
     /// with the empty prefix. Takes no memory.
     ///
-    /// Compares each component of the prefix at most once, but for a halving search among the
+    /// Compares each component of the prefix at most once, except for a halving search among the
     /// children of each node on the way.
     ///
     /// ```
@@ -85,11 +85,11 @@ pub trait AbstractRadixTree<K: TKey, V: TValue>: RadixNode<K, V> {
         scan::contains_prefix(self, prefix)
     }
 
-    /// How many keys of the tree start with the prefix, and `usize::MAX` where more do. Takes no
-    /// memory.
+    /// The number of keys of the tree that start with the prefix, or `usize::MAX` where there are
+    /// more. Takes no memory.
     ///
-    /// Goes down to the node below which these keys stand, as `get` does, and through all nodes
-    /// below it.
+    /// Goes down to the node below which these keys are, as `get` does, and visits all nodes below
+    /// it.
     final fn len_below(&self, prefix: &[K]) -> usize
         ensures { (pairs : _)
             × IsWalk K.cmp (under K.cmp (lookup K.cmp (Self.tree self.now)) prefix.now) pairs
@@ -100,18 +100,19 @@ pub trait AbstractRadixTree<K: TKey, V: TValue>: RadixNode<K, V> {
 
     /// The value that the tree binds the key to. Takes no memory.
     ///
-    /// Compares each component of the key at most once, but for a halving search among the children
-    /// of each node on the way.
+    /// Compares each component of the key at most once, except for a halving search among the
+    /// children of each node on the way.
     final fn get(&self, key: &[K]) -> Option<&V>
         ensures { option_copied result ≡ lookup K.cmp (Self.tree self.now) key.now }
     {
         descent::get(self, key, &mut Uncounted)
     }
 
-    /// [`get`](AbstractRadixTree::get), where each comparison of two components counts one more.
+    /// The answer of [`get`](AbstractRadixTree::get), with each comparison of two components
+    /// counted.
     ///
-    /// Of a key of `l` components these are at most `l * (1 + d)`, where `d` is how many binary
-    /// digits the greatest number of children of a node has.
+    /// For a key of `l` components there are at most `l * (1 + d)`, where `d` is the number of
+    /// binary digits of the greatest number of children of a node.
     final fn get_counted(&self, key: &[K], steps: &mut Steps) -> Option<&V>
         ensures value { option_copied result ≡ lookup K.cmp (Self.tree self.now) key.now }
         ensures counted { steps.new
@@ -124,10 +125,10 @@ pub trait AbstractRadixTree<K: TKey, V: TValue>: RadixNode<K, V> {
         value
     }
 
-    /// The longest key of the tree that is a prefix of the path: how many components of the path it
-    /// is, and its value; `None` where no key is. A key is a prefix of itself. Takes no memory.
+    /// The longest key of the tree that is a prefix of the path: its number of components, and its
+    /// value; `None` where there is no such key. A key is a prefix of itself. Takes no memory.
     ///
-    /// Compares each component of the path at most once, but for a halving search among the
+    /// Compares each component of the path at most once, except for a halving search among the
     /// children of each node on the way.
     ///
     /// ```
@@ -147,9 +148,9 @@ pub trait AbstractRadixTree<K: TKey, V: TValue>: RadixNode<K, V> {
 
     /// The least key of the tree and its value, or none where the tree is empty.
     ///
-    /// The key is spelled in a list of its own: memory is asked for once, for as many components as
-    /// it has, and not at all where the empty key is bound. Fails only where that is refused.
-    /// Compares none, and goes down to the key twice.
+    /// The key is a new list: it allocates once, for as many components as the key has, and not at
+    /// all where the empty key is bound. Fails only where that is refused. Makes no comparison, and
+    /// goes down to the key twice.
     ///
     /// ```
     /// if let Some((name, port)) = ports.first_key_value()? {
@@ -170,9 +171,9 @@ pub trait AbstractRadixTree<K: TKey, V: TValue>: RadixNode<K, V> {
 
     /// The greatest key of the tree and its value, or none where the tree is empty.
     ///
-    /// The key is spelled in a list of its own: memory is asked for once, for as many components as
-    /// it has, and not at all where it has none. Fails only where that is refused. Compares none,
-    /// and goes down to the key twice.
+    /// The key is a new list: it allocates once, for as many components as the key has, and not at
+    /// all where it has none. Fails only where that is refused. Makes no comparison, and goes down
+    /// to the key twice.
     final fn last_key_value(&self) -> Result<Option<(Vec<K>, &V)>, AllocError>
         ensures pair { let pairs = walk (Self.tree self.now) in
             IfOk result (λ found. option_map (λ b. (b.0.items, b.1.now)) found
@@ -185,16 +186,17 @@ pub trait AbstractRadixTree<K: TKey, V: TValue>: RadixNode<K, V> {
         ends::last_key_value(self)
     }
 
-    /// The least key of the tree that is greater than `key`, and its value; none where no key is.
-    /// `key` itself may be bound or not.
+    /// The least key of the tree that is greater than `key`, and its value; none where there is no
+    /// such key. `key` itself may be bound or not.
     ///
     /// Keys are ordered as slices are: by the first component in which they differ, and a key
-    /// before each longer one that starts with it. The answer's key is spelled in a list of its
-    /// own, as in `key` up to where the two part: memory is asked for once, for as many components
-    /// as it has. Fails only where that is refused, and never where there is none.
+    /// before each longer one that starts with it. The answer's key is a new list, with the
+    /// components of `key` up to where the two diverge. It allocates once, for as many components
+    /// as that key has, and fails only where that is refused. It does not fail where there is no
+    /// such key.
     ///
-    /// Compares each component of `key` at most once, but for a halving search among the children
-    /// of each node on the way. Goes down to `key`, and from there to the answer twice.
+    /// Compares each component of `key` at most once, except for a halving search among the
+    /// children of each node on the way. Goes down to `key`, and from there to the answer twice.
     ///
     /// ```
     /// // The page behind the last key that was shown.
@@ -210,10 +212,11 @@ pub trait AbstractRadixTree<K: TKey, V: TValue>: RadixNode<K, V> {
         beside::next_after(self, key)
     }
 
-    /// The greatest key of the tree that is less than `key`, and its value; none where no key is.
-    /// `key` itself may be bound or not.
+    /// The greatest key of the tree that is less than `key`, and its value; none where there is no
+    /// such key. `key` itself may be bound or not.
     ///
-    /// Orders, spells and costs as [`next_after`](AbstractRadixTree::next_after).
+    /// The order, the answer's key and the cost are as in
+    /// [`next_after`](AbstractRadixTree::next_after).
     final fn last_before(&self, key: &[K]) -> Result<Option<(Vec<K>, &V)>, AllocError>
         ensures last { let f = below K.cmp (lookup K.cmp (Self.tree self.now)) key.now in
             IfOk result (λ found. MatchOption found ((k : List K) → f k ≡ None)
@@ -258,8 +261,8 @@ pub trait AbstractRadixTree<K: TKey, V: TValue>: RadixNode<K, V> {
 
     /// All pairs of the tree, by ascending keys. Takes no memory; a step may, for its key.
     ///
-    /// A key is kept for as long as the caller wants. A walk whose keys are let go writes each into
-    /// the place of the last.
+    /// A caller may keep a key for as long as it wants. Where keys are dropped, the walk writes
+    /// each one over the last.
     ///
     /// ```
     /// for item in tree.iter() {
@@ -276,10 +279,10 @@ pub trait AbstractRadixTree<K: TKey, V: TValue>: RadixNode<K, V> {
     }
 
     /// The pairs of the tree whose keys start with the prefix, by ascending keys, each with its
-    /// whole key. The part of each key before the node's own prefix is spelled as in `prefix`. Takes
-    /// no memory; a step may, for its key.
+    /// whole key. The part of each key before the node's own prefix has the components of `prefix`.
+    /// Takes no memory; a step may, for its key.
     ///
-    /// Goes down to the node below which these keys stand, as `get` does.
+    /// Goes down to the node below which these keys are, as `get` does.
     final fn scan_prefix<'a>(&'a self, prefix: &'a [K]) -> Iter<'a, K, V, Self>
         ensures { IsWalk K.cmp (under K.cmp (lookup K.cmp (Self.tree self.now)) prefix.now)
             (pairs_left Self.tree result) }
@@ -289,9 +292,9 @@ pub trait AbstractRadixTree<K: TKey, V: TValue>: RadixNode<K, V> {
 
     /// The pairs of the tree whose keys are not less than `key`, by ascending keys.
     ///
-    /// Goes down to where `key` stands, as `get` does, and takes memory on the way: for the key of
-    /// the node that it comes to, and for a place a level. Fails only where that is refused. A step
-    /// takes memory as one of `iter` does.
+    /// Goes down to where `key` is, as `get` does, and takes memory on the way: for the key of the
+    /// node that it reaches, and for one place in each level. Fails only where that is refused. A
+    /// step takes memory as a step of `iter` does.
     ///
     /// ```
     /// for item in tree.iter_from(b"m")? {
@@ -315,15 +318,15 @@ pub trait AbstractRadixTree<K: TKey, V: TValue>: RadixNode<K, V> {
         walks::values(self)
     }
 
-    /// What the closure makes of `init` and all pairs of the tree, by ascending keys: it is handed
-    /// `init` and shown the first pair, then handed what it answered and shown the next one. The
-    /// empty tree leaves `init` as it is. An error that the closure answers ends the walk, and is
-    /// answered.
+    /// Folds the closure over all pairs of the tree, by ascending keys. It is called with `init`
+    /// and the first pair, then with its answer and the next pair, and so on. For the empty tree
+    /// the answer is `init`. An error of the closure ends the walk, and is answered.
     ///
-    /// Keys are lent. They stand in one list, in which the walk spells each behind what it shares
-    /// with the last; a closure copies what it wants to keep. So this mostly takes less time than
-    /// `iter`, whose keys may be kept. It takes memory for the longest key, and stack for each
-    /// level. Fails where that memory is refused, or where the closure does.
+    /// The closure gets each key by reference. All keys are written to one list, where the walk
+    /// keeps what a key shares with the last one; a closure copies what it wants to keep. So this
+    /// mostly takes less time than `iter`, whose keys may be kept. It takes memory for the longest
+    /// key, and stack for each level. Fails where that memory is refused, or where the closure
+    /// fails.
     ///
     /// ```
     /// let letters: Result<usize, AllocError> =
@@ -343,10 +346,10 @@ pub trait AbstractRadixTree<K: TKey, V: TValue>: RadixNode<K, V> {
         folding::fold(self, init, &turn)
     }
 
-    /// The same with the pairs of the tree whose keys start with the prefix, each with its whole
-    /// key. Goes down to the node below which these keys stand, as `get` does. The part of each key
-    /// before the node's own prefix is spelled as in `prefix`. Where no key starts so, `init` is
-    /// answered, and no memory is asked for.
+    /// Folds the closure over the pairs of the tree whose keys start with the prefix, each with its
+    /// whole key. Goes down to the node below which these keys are, as `get` does. The part of each
+    /// key before the node's own prefix has the components of `prefix`. Where no key starts so, the
+    /// answer is `init`, and no memory is taken.
     final fn fold_prefix<B: Drop, E: From<AllocError>, F: Fn(B, &[K], &V) -> Result<B, E> + Drop>(
         &self,
         prefix: &[K],
@@ -368,7 +371,7 @@ pub trait AbstractRadixTree<K: TKey, V: TValue>: RadixNode<K, V> {
         folding::fold_prefix(self, prefix, init, &turn)
     }
 
-    /// All pairs of the tree, by ascending keys, each with a clone of its value. The iterator holds
+    /// All pairs of the tree, by ascending keys, each with a clone of its value. The iterator owns
     /// the tree, and drops it. Takes no memory; a step may, for its key and for the clone.
     final fn into_iter(self) -> ObjAndIter<K, V, Self>
     where
@@ -380,8 +383,8 @@ pub trait AbstractRadixTree<K: TKey, V: TValue>: RadixNode<K, V> {
         walks::into_iter(self)
     }
 
-    /// The tree with the first `n` components off every key: a fresh one, of any flavour, with
-    /// clones of the values.
+    /// A new tree without the first `n` components of every key, of any flavour, with clones of the
+    /// values.
     ///
     /// Fails only where memory is refused, or the clone of a value.
     final fn materialize_shortened<M: AbstractRadixTreeMut<K, V>>(
@@ -398,12 +401,13 @@ pub trait AbstractRadixTree<K: TKey, V: TValue>: RadixNode<K, V> {
         combines::materialize_shortened(self, n)
     }
 
-    /// A fresh tree of the keys of both: a key of one side alone has a clone of its value, and a
-    /// shared key what the closure answers, `None` for a key that is not to be there. Both trees
-    /// stay as they were.
+    /// A new tree of the keys of either tree. A key of only one side has a clone of its value. A
+    /// shared key has the closure's answer; where that is `None`, the key is left out. Both trees
+    /// are unchanged.
     ///
-    /// Fails only where memory is refused, the clone of a value, or a call of the closure. At most
-    /// three comparisons of components for each node and each component of a prefix of both trees.
+    /// Fails only where memory is refused, the clone of a value, or a call of the closure. It makes
+    /// at most three comparisons of components for each node and each component of a prefix of both
+    /// trees.
     final fn outer_combine<
         M: AbstractRadixTreeMut<K, V>,
         S: AbstractRadixTree<K, V>,
@@ -419,10 +423,10 @@ pub trait AbstractRadixTree<K: TKey, V: TValue>: RadixNode<K, V> {
         combines::outer_combine(self, that, &f, &mut Uncounted)
     }
 
-    /// [`outer_combine`](AbstractRadixTree::outer_combine), where each comparison of two components
-    /// counts one more.
+    /// The answer of [`outer_combine`](AbstractRadixTree::outer_combine), with each comparison of
+    /// two components counted.
     ///
-    /// These are at most three for each node and each component of a prefix of both trees.
+    /// There are at most three for each node and each component of a prefix of both trees.
     final fn outer_combine_counted<
         M: AbstractRadixTreeMut<K, V>,
         S: AbstractRadixTree<K, V>,
@@ -444,8 +448,8 @@ pub trait AbstractRadixTree<K: TKey, V: TValue>: RadixNode<K, V> {
         combined
     }
 
-    /// A fresh tree of the keys that both bind, with what the closure answers, `None` for a key
-    /// that is not to be there. Both trees stay as they were.
+    /// A new tree of the keys that both bind, with the closure's answers; where an answer is
+    /// `None`, the key is left out. Both trees are unchanged.
     ///
     /// Fails only where memory is refused, or a call of the closure.
     final fn inner_combine<
@@ -464,9 +468,9 @@ pub trait AbstractRadixTree<K: TKey, V: TValue>: RadixNode<K, V> {
         combines::inner_combine(self, that, &f)
     }
 
-    /// A fresh tree of keys of this tree: each has what the closure answers of its value and of
-    /// what that tree binds there, if anything, and `None` is for a key that is not to be there.
-    /// Both trees stay as they were.
+    /// A new tree of keys of this tree. Each has the closure's answer to its value and to what that
+    /// tree binds there, if anything; where the answer is `None`, the key is left out. Both trees
+    /// are unchanged.
     ///
     /// Fails only where memory is refused, or a call of the closure.
     ///

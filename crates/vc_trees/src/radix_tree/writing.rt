@@ -1,4 +1,4 @@
-//! The trait by which the two flavours are made and changed.
+//! The trait through which the two flavours are made and changed.
 
 ghost use Rattle.std.specs.Prelude.{◌≡◌, ◌≤◌, List, [], None, Ok, Some, length, IfOk, IsOk, OnOk};
 ghost use Rattle.std.specs.Prelude.{MatchOption, OnErr};
@@ -43,7 +43,7 @@ pub trait AbstractRadixTreeMut<K: TKey, V: TValue>: CloneTree<K, V> + AbstractRa
         Self::blank(alloc, Seal::new())
     }
 
-    /// The tree that binds the empty key alone. Takes no memory.
+    /// The tree that binds only the empty key. Takes no memory.
     final fn leaf(alloc: Global, value: V) -> Self
         ensures is { Self.tree result ≡ made [] (Some value) [] }
         ensures canonical { IsCanonical K.cmp (Self.tree result) }
@@ -51,7 +51,7 @@ pub trait AbstractRadixTreeMut<K: TKey, V: TValue>: CloneTree<K, V> + AbstractRa
         insertion::leaf(alloc, value)
     }
 
-    /// The tree that binds this key alone.
+    /// The tree that binds only this key.
     ///
     /// Takes no memory for a key of at most 16 components. Fails only where memory is refused for a
     /// longer one; the value is then dropped.
@@ -63,15 +63,14 @@ pub trait AbstractRadixTreeMut<K: TKey, V: TValue>: CloneTree<K, V> + AbstractRa
         insertion::single(alloc, key, value)
     }
 
-    /// Binds the key to the value, in the place of the value that it had. The other keys keep their
-    /// values.
+    /// Binds the key to the value, which replaces the old one. The other keys keep their values.
     ///
     /// Fails only where memory is refused, for a prefix, for children or for the copy of shared
-    /// children, or where the clone of a value of those is refused; the tree then has the nodes
-    /// that it had, and binds what it bound. The value that was handed in is dropped.
+    /// children, or where the clone of a value in that copy is refused. The tree then has the same
+    /// nodes, and binds what it bound, and the given value is dropped.
     ///
-    /// Compares each component of the key at most once, but for a halving search among the children
-    /// of each node on the way.
+    /// Compares each component of the key at most once, except for a halving search among the
+    /// children of each node on the way.
     final fn insert(&mut self, key: &[K], value: V) -> Result<(), AllocError>
         ensures ok { OnOk result
             (IsInserted K.cmp Self.keeps key.now value (Self.tree self.old) (Self.tree self.new)) }
@@ -85,11 +84,11 @@ pub trait AbstractRadixTreeMut<K: TKey, V: TValue>: CloneTree<K, V> + AbstractRa
         insertion::insert(self, key, value)
     }
 
-    /// Binds the key to the value, and answers the value that it had, or none where it was not
-    /// bound. The other keys keep their values.
+    /// Binds the key to the value, and answers the old one, or none where it was not bound. The
+    /// other keys keep their values.
     ///
-    /// Looks the key up, and then writes as `insert` does. Fails only where that does; the tree then
-    /// has the nodes that it had, and binds what it bound. The value that was handed in is dropped.
+    /// Looks the key up, and then writes as `insert` does. Fails only where that does; the tree
+    /// then has the same nodes, and binds what it bound, and the given value is dropped.
     ///
     /// ```
     /// let old = ports.replace(b"mail", 993)?;
@@ -108,17 +107,15 @@ pub trait AbstractRadixTreeMut<K: TKey, V: TValue>: CloneTree<K, V> + AbstractRa
         changing::replace(self, key, value)
     }
 
-    /// Changes the value of the key by the closure, which is lent the value where it stands, and
-    /// answers what the closure answers; none where the key is not bound. The other keys keep their
-    /// values.
+    /// Changes the value of the key by the closure, which gets a reference to it. Answers what the
+    /// closure answers, or none where the key is not bound. The other keys keep their values.
     ///
-    /// A key that is not bound costs the look-up alone: no memory is asked for, and nothing is
-    /// copied. In a [`RadixTree`] no memory is asked for at all. In an [`ArcRadixTree`] children on
-    /// the way that another tree holds too are copied first. Fails only where that memory is
-    /// refused, or the clone of a value of those; the closure is then not called, and the tree has
-    /// the nodes that it had, and binds what it bound.
+    /// A key that is not bound costs only the look-up: it takes no memory, and nothing is copied.
+    /// In a [`RadixTree`] it never takes memory. In an [`ArcRadixTree`] children on the way that
+    /// another tree shares are copied first. Fails only where memory for these is refused, or the
+    /// clone of a value in them. The closure is then not called, and the tree is unchanged.
     ///
-    /// Compares each component of the key at most once, but for two halving searches among the
+    /// Compares each component of the key at most once, except for two halving searches among the
     /// children of each node on the way.
     ///
     /// ```
@@ -148,11 +145,11 @@ pub trait AbstractRadixTreeMut<K: TKey, V: TValue>: CloneTree<K, V> + AbstractRa
     }
 
     /// Changes the value of the key by the closure, as `update` does, and answers what the closure
-    /// answers. Where the key is not bound, it binds it to `default`, as `insert` does, and answers
+    /// answers. Where the key is not bound, binds it to `default`, as `insert` does, and answers
     /// none.
     ///
-    /// Fails only where `update` or `insert` does; the tree then has the nodes that it had, and
-    /// binds what it bound. `default` is dropped where it is not bound.
+    /// Fails only where `update` or `insert` does; the tree then has the same nodes, and binds what
+    /// it bound. `default` is dropped where it is not used.
     ///
     /// ```
     /// counts.upsert(word, 1, |count| *count += 1)?;
@@ -180,15 +177,15 @@ pub trait AbstractRadixTreeMut<K: TKey, V: TValue>: CloneTree<K, V> + AbstractRa
         changing::upsert(self, key, default, &f)
     }
 
-    /// Takes the key out, and answers the value that it had, or none where it was not bound. The
-    /// other keys keep their values.
+    /// Removes the key and answers its value, or none where it was not bound. The other keys keep
+    /// their values.
     ///
-    /// A key that is not bound costs the look-up alone: no memory is asked for, and nothing is
-    /// copied. Fails only where memory is refused, for the joined prefix of a node that is left
-    /// with one child or for the copy of shared children, or where the clone of a value of those is
-    /// refused; the tree then has the nodes that it had, and binds what it bound.
+    /// A key that is not bound costs only the look-up: it takes no memory, and nothing is copied.
+    /// Fails only where memory is refused, for the merged prefix of a node that is left with one
+    /// child or for the copy of shared children, or where the clone of a value in that copy is
+    /// refused. The tree then has the same nodes, and binds what it bound.
     ///
-    /// Compares each component of the key at most once, but for two halving searches among the
+    /// Compares each component of the key at most once, except for two halving searches among the
     /// children of each node on the way.
     final fn remove(&mut self, key: &[K]) -> Result<Option<V>, AllocError>
         ensures old { IfOk result
@@ -206,10 +203,10 @@ pub trait AbstractRadixTreeMut<K: TKey, V: TValue>: CloneTree<K, V> + AbstractRa
         removal::remove(self, key)
     }
 
-    /// Takes out all keys, with their values, and leaves the empty tree. Takes no memory.
+    /// Removes all keys, with their values, and leaves the empty tree. Takes no memory.
     ///
-    /// What goes is dropped, node by node; in an [`ArcRadixTree`] what another tree holds too stays
-    /// there.
+    /// What is removed is dropped, node by node; in an [`ArcRadixTree`], what another tree shares
+    /// stays there.
     final fn clear(&mut self)
         ensures is { Self.tree self.new ≡ no_tree }
         ensures canonical { IsCanonical K.cmp (Self.tree self.new) }
@@ -218,16 +215,16 @@ pub trait AbstractRadixTreeMut<K: TKey, V: TValue>: CloneTree<K, V> + AbstractRa
         *self = Self::empty(alloc);
     }
 
-    /// Takes out all keys that begin with `prefix`, with their values. The other keys keep theirs.
+    /// Removes all keys that begin with `prefix`, with their values. The other keys keep theirs.
     ///
-    /// Where no key begins with it, that costs a walk down to where one would stand: no memory is
-    /// asked for, and nothing is copied; nor is it where all keys begin with it. Fails only where
-    /// memory is refused, for the joined prefix of a node that is left with one child or for the
-    /// copy of shared children, or where the clone of a value of those is refused; the tree then has
-    /// the nodes that it had, and binds what it bound.
+    /// Where no key begins with it, it only walks down to where one would be: it takes no memory,
+    /// and nothing is copied. The same holds where all keys begin with it. Fails only where memory
+    /// is refused, for the merged prefix of a node that is left with one child or for the copy of
+    /// shared children, or where the clone of a value in that copy is refused. The tree then has
+    /// the same nodes, and binds what it bound.
     ///
-    /// Compares each component of the prefix at most once, but for two halving searches among the
-    /// children of each node on the way. What goes is dropped, node by node.
+    /// Compares each component of the prefix at most once, except for two halving searches among
+    /// the children of each node on the way. What is removed is dropped, node by node.
     final fn remove_below(&mut self, prefix: &[K]) -> Result<(), AllocError>
         ensures ok { OnOk result (IsWithoutBelow K.cmp Self.keeps prefix.now
             (lookup K.cmp (Self.tree self.old)) (lookup K.cmp (Self.tree self.new))) }
@@ -244,22 +241,22 @@ pub trait AbstractRadixTreeMut<K: TKey, V: TValue>: CloneTree<K, V> + AbstractRa
         removal_below::remove_below(self, prefix)
     }
 
-    /// Takes out all keys that begin with `prefix`, with their values, and answers them as a tree
-    /// of their own, each key whole; the empty tree where none begins so. The other keys keep their
-    /// values. `union_with` of the answer puts the keys back.
+    /// Removes all keys that begin with `prefix`, with their values, and answers them as a separate
+    /// tree, with their whole keys; the empty tree where no key begins so. The other keys keep
+    /// their values. `union_with` of the answer puts the keys back.
     ///
-    /// The keys stand below one node, which is moved as it is, with a longer prefix: nothing below
-    /// it is touched. What stands before the node's own prefix is spelled as in `prefix`.
+    /// The keys are below one node, which is moved with a longer prefix: nothing below it is
+    /// touched. The components before the node's own prefix are those of `prefix`.
     ///
-    /// Where no key begins with it, that costs a walk down to where one would stand: no memory is
-    /// asked for, and nothing is copied; nor is it where all keys begin with it. Fails only where
-    /// memory is refused, for the prefix of the answer's root, where that has more than 16
-    /// components, for the joined prefix of a node that is left with one child or for the copy of
-    /// shared children, or where the clone of a value of those is refused; the tree then has the
-    /// nodes that it had, and binds what it bound.
+    /// Where no key begins with it, it only walks down to where one would be: it takes no memory,
+    /// and nothing is copied. The same holds where all keys begin with it. Fails where memory is
+    /// refused: for the prefix of the answer's root, where that has more than 16 components; for
+    /// the merged prefix of a node that is left with one child; or for the copy of shared children.
+    /// Otherwise it fails only where the clone of a value in that copy is refused. The tree then
+    /// has the same nodes, and binds what it bound.
     ///
-    /// Compares each component of the prefix at most once, but for two halving searches among the
-    /// children of each node on the way.
+    /// Compares each component of the prefix at most once, except for two halving searches among
+    /// the children of each node on the way.
     ///
     /// ```
     /// let moved = servers.split_below(b"eu/")?;
@@ -284,12 +281,12 @@ pub trait AbstractRadixTreeMut<K: TKey, V: TValue>: CloneTree<K, V> + AbstractRa
         removal_below::split_below(self, prefix)
     }
 
-    /// A fresh tree of the keys that start with the prefix, whole, with copies of their values; the
-    /// empty tree where no key does. This tree stays as it was.
+    /// A new tree of the keys that start with the prefix, in full, with copies of their values; the
+    /// empty tree where no key does. This tree is unchanged.
     ///
-    /// Goes down to the node below which these keys stand, as `get` does, and copies it: in an
-    /// [`ArcRadixTree`] what is below the node is shared. Where no key starts so, no memory is asked
-    /// for. Fails only where memory is refused, or the clone of a value.
+    /// Goes down to the node below which these keys are, as `get` does, and copies it: in an
+    /// [`ArcRadixTree`] what is below the node is shared. Where no key starts so, it takes no
+    /// memory. Fails only where memory is refused, or the clone of a value.
     final fn filter_prefix(&self, prefix: &[K]) -> Result<Self, AllocError>
         ensures made { IfOk result (λ made. IsEqualMap (Copies V.is_clone)
             (under K.cmp (lookup K.cmp (Self.tree self.now)) prefix.now)
@@ -301,11 +298,11 @@ pub trait AbstractRadixTreeMut<K: TKey, V: TValue>: CloneTree<K, V> + AbstractRa
         filtering::filter_prefix(self, prefix)
     }
 
-    /// A fresh tree of the keys of both, the shared ones with a copy of the left value. Both trees
-    /// stay as they were.
+    /// A new tree of the keys of either tree, the shared ones with a copy of the left value. Both
+    /// trees are unchanged.
     ///
-    /// Fails only where memory is refused, or the clone of a value. At most three comparisons of
-    /// components for each node and each component of a prefix of both trees.
+    /// Fails only where memory is refused, or the clone of a value. It makes at most three
+    /// comparisons of components for each node and each component of a prefix of both trees.
     final fn union<S: AbstractRadixTree<K, V>>(&self, that: &S) -> Result<Self, AllocError>
         ensures made { IfOk result (λ made.
             IsCombined K.cmp (IsUnionAt (Copies V.is_clone) V.is_clone)
@@ -315,8 +312,8 @@ pub trait AbstractRadixTreeMut<K: TKey, V: TValue>: CloneTree<K, V> + AbstractRa
         combines::union(self, that)
     }
 
-    /// A fresh tree of the keys that both bind, with copies of the left values. Both trees stay as
-    /// they were.
+    /// A new tree of the keys that both bind, with copies of the left values. Both trees are
+    /// unchanged.
     ///
     /// Fails only where memory is refused, or the clone of a value.
     final fn intersection<W: TValue, S: AbstractRadixTree<K, W>>(
@@ -331,8 +328,8 @@ pub trait AbstractRadixTreeMut<K: TKey, V: TValue>: CloneTree<K, V> + AbstractRa
         combines::intersection(self, that)
     }
 
-    /// A fresh tree of the keys that this tree alone binds, with copies of its values. Both trees
-    /// stay as they were.
+    /// A new tree of the keys that only this tree binds, with copies of its values. Both trees are
+    /// unchanged.
     ///
     /// Fails only where memory is refused, or the clone of a value.
     final fn difference<W: TValue, S: AbstractRadixTree<K, W>>(
@@ -347,11 +344,11 @@ pub trait AbstractRadixTreeMut<K: TKey, V: TValue>: CloneTree<K, V> + AbstractRa
         combines::difference(self, that)
     }
 
-    /// Puts these components before each key. The empty tree stays empty, and no value or child is
+    /// Puts the components before each key. The empty tree stays empty, and no value or child is
     /// touched.
     ///
     /// Fails only where memory is refused for a prefix of more than 16 components; the tree is then
-    /// as it was.
+    /// unchanged.
     final fn prepend(&mut self, prefix: &[K]) -> Result<(), AllocError>
         ensures ok { OnOk result ((k : List K)
             → lookup K.cmp (Self.tree self.new) k
@@ -362,12 +359,12 @@ pub trait AbstractRadixTreeMut<K: TKey, V: TValue>: CloneTree<K, V> + AbstractRa
         prepending::prepend(self, prefix)
     }
 
-    /// Adds the keys that the other tree alone binds, with clones of its values. The values of this
+    /// Adds the keys that only the other tree binds, with clones of its values. The values of this
     /// tree stay in place.
     ///
-    /// Fails only where memory is refused, for a prefix of more than 16 components, for lists of
-    /// children that are built anew, or for the copy of shared children, or the clone of a value;
-    /// the tree is then empty.
+    /// Fails only where the clone of a value is refused, or memory: for a prefix of more than 16
+    /// components, for new lists of children, or for the copy of shared children. The tree is then
+    /// empty.
     final fn union_with<S: AbstractRadixTree<K, V>>(&mut self, that: &S) -> Result<(), AllocError>
         ensures ok { OnOk result (IsCombined K.cmp (IsUnionAt Self.keeps V.is_clone)
             (Self.tree self.old) (S.tree that.now) (Self.tree self.new)) }
@@ -379,10 +376,10 @@ pub trait AbstractRadixTreeMut<K: TKey, V: TValue>: CloneTree<K, V> + AbstractRa
 
     /// Keeps the keys that both bind. Their values stay in place.
     ///
-    /// Children that stay do so in their own list. Memory is asked for only where the prefix of a
-    /// child that is left alone is joined to that of its parent and has more than 16 components
-    /// then, and for the copy of children that another tree holds too. Fails only where that, or
-    /// the clone of a value in such a copy, is refused; the tree is then empty.
+    /// Children that stay do so in their own list. It takes memory only where an only child is
+    /// merged with its parent and their prefix has more than 16 components, and for the copy of
+    /// children that another tree shares. Fails only where that memory, or the clone of a value in
+    /// such a copy, is refused. The tree is then empty.
     final fn intersection_with<W: TValue, S: AbstractRadixTree<K, W>>(
         &mut self,
         that: &S,
@@ -395,12 +392,12 @@ pub trait AbstractRadixTreeMut<K: TKey, V: TValue>: CloneTree<K, V> + AbstractRa
         combining::intersection_with(self, that)
     }
 
-    /// Keeps the keys that this tree alone binds. Their values stay in place.
+    /// Keeps the keys that only this tree binds. Their values stay in place.
     ///
-    /// Children that stay do so in their own list. Memory is asked for only where the prefix of a
-    /// child that is left alone is joined to that of its parent and has more than 16 components
-    /// then, and for the copy of children that another tree holds too. Fails only where that, or
-    /// the clone of a value in such a copy, is refused; the tree is then empty.
+    /// Children that stay do so in their own list. It takes memory only where an only child is
+    /// merged with its parent and their prefix has more than 16 components, and for the copy of
+    /// children that another tree shares. Fails only where that memory, or the clone of a value in
+    /// such a copy, is refused. The tree is then empty.
     final fn difference_with<W: TValue, S: AbstractRadixTree<K, W>>(
         &mut self,
         that: &S,
@@ -413,13 +410,13 @@ pub trait AbstractRadixTreeMut<K: TKey, V: TValue>: CloneTree<K, V> + AbstractRa
         combining::difference_with(self, that)
     }
 
-    /// Adds the keys that the other tree alone binds, with clones of its values; those of this tree
-    /// alone keep their values, and of the keys of both those stay at which the closure answers
-    /// true. It is handed this tree's value itself, which it may write to, and the other one's.
+    /// Adds the keys that only the other tree binds, with clones of its values. Keys of only this
+    /// tree keep their values, and keys of both stay where the closure answers true. The closure
+    /// gets this tree's value, which it may change, and the other one's.
     ///
-    /// Fails only where memory is refused, for a prefix of more than 16 components, for lists of
-    /// children that are built anew, or for the copy of shared children, or the clone of a value;
-    /// the tree is then empty.
+    /// Fails only where the clone of a value is refused, or memory: for a prefix of more than 16
+    /// components, for new lists of children, or for the copy of shared children. The tree is then
+    /// empty.
     final fn outer_combine_with<S: AbstractRadixTree<K, V>, F: Fn(&mut V, &V) -> bool>(
         &mut self,
         that: &S,
@@ -436,13 +433,13 @@ pub trait AbstractRadixTreeMut<K: TKey, V: TValue>: CloneTree<K, V> + AbstractRa
         combining::outer_combine_with(self, that, &f)
     }
 
-    /// Keeps the keys that both bind and at which the closure answers true. It is handed this
-    /// tree's value itself, which it may write to, and the other one's.
+    /// Keeps the keys that both bind and at which the closure answers true. The closure gets this
+    /// tree's value, which it may change, and the other one's.
     ///
-    /// Children that stay do so in their own list. Memory is asked for only where the prefix of a
-    /// child that is left alone is joined to that of its parent and has more than 16 components
-    /// then, and for the copy of children that another tree holds too. Fails only where that, or
-    /// the clone of a value in such a copy, is refused; the tree is then empty.
+    /// Children that stay do so in their own list. It takes memory only where an only child is
+    /// merged with its parent and their prefix has more than 16 components, and for the copy of
+    /// children that another tree shares. Fails only where that memory, or the clone of a value in
+    /// such a copy, is refused. The tree is then empty.
     final fn inner_combine_with<W: TValue, S: AbstractRadixTree<K, W>, F: Fn(&mut V, &W) -> bool>(
         &mut self,
         that: &S,
@@ -459,14 +456,14 @@ pub trait AbstractRadixTreeMut<K: TKey, V: TValue>: CloneTree<K, V> + AbstractRa
         combining::inner_combine_with(self, that, &f)
     }
 
-    /// Keeps the keys that this tree alone binds, with their values, and those of both at which the
-    /// closure answers true. It is handed this tree's value itself, which it may write to, and the
-    /// other one's.
+    /// Keeps the keys that only this tree binds, with their values, and those of both at which the
+    /// closure answers true. The closure gets this tree's value, which it may change, and the other
+    /// one's.
     ///
-    /// Children that stay do so in their own list. Memory is asked for only where the prefix of a
-    /// child that is left alone is joined to that of its parent and has more than 16 components
-    /// then, and for the copy of children that another tree holds too. Fails only where that, or
-    /// the clone of a value in such a copy, is refused; the tree is then empty.
+    /// Children that stay do so in their own list. It takes memory only where an only child is
+    /// merged with its parent and their prefix has more than 16 components, and for the copy of
+    /// children that another tree shares. Fails only where that memory, or the clone of a value in
+    /// such a copy, is refused. The tree is then empty.
     final fn left_combine_with<W: TValue, S: AbstractRadixTree<K, W>, F: Fn(&mut V, &W) -> bool>(
         &mut self,
         that: &S,
@@ -483,14 +480,14 @@ pub trait AbstractRadixTreeMut<K: TKey, V: TValue>: CloneTree<K, V> + AbstractRa
         combining::left_combine_with(self, that, &f)
     }
 
-    /// Removes the keys that the other tree covers: of its keys that are prefixes of a key the
-    /// longest decides, by what the closure answers of its value. A key is a prefix of itself. The
+    /// Removes the keys that the other tree covers. Of its keys that are prefixes of a key, the
+    /// longest decides, by the closure's answer for its value. A key is a prefix of itself. The
     /// other values stay in place.
     ///
-    /// Children that stay do so in their own list. Memory is asked for only where the prefix of a
-    /// child that is left alone is joined to that of its parent and has more than 16 components
-    /// then, and for the copy of children that another tree holds too. Fails only where that, or
-    /// the clone of a value in such a copy, is refused; the tree is then empty.
+    /// Children that stay do so in their own list. It takes memory only where an only child is
+    /// merged with its parent and their prefix has more than 16 components, and for the copy of
+    /// children that another tree shares. Fails only where that memory, or the clone of a value in
+    /// such a copy, is refused. The tree is then empty.
     final fn remove_prefix_with<W: TValue, S: AbstractRadixTree<K, W>, F: Fn(&W) -> bool>(
         &mut self,
         that: &S,
@@ -506,14 +503,14 @@ pub trait AbstractRadixTreeMut<K: TKey, V: TValue>: CloneTree<K, V> + AbstractRa
         combining::sift_prefixes(self, that, false, &f)
     }
 
-    /// Keeps exactly the keys that the other tree covers: of its keys that are prefixes of a key
-    /// the longest decides, by what the closure answers of its value. A key is a prefix of itself.
+    /// Keeps exactly the keys that the other tree covers. Of its keys that are prefixes of a key,
+    /// the longest decides, by the closure's answer for its value. A key is a prefix of itself.
     /// Values that stay do so in place.
     ///
-    /// Children that stay do so in their own list. Memory is asked for only where the prefix of a
-    /// child that is left alone is joined to that of its parent and has more than 16 components
-    /// then, and for the copy of children that another tree holds too. Fails only where that, or
-    /// the clone of a value in such a copy, is refused; the tree is then empty.
+    /// Children that stay do so in their own list. It takes memory only where an only child is
+    /// merged with its parent and their prefix has more than 16 components, and for the copy of
+    /// children that another tree shares. Fails only where that memory, or the clone of a value in
+    /// such a copy, is refused. The tree is then empty.
     final fn retain_prefix_with<W: TValue, S: AbstractRadixTree<K, W>, F: Fn(&W) -> bool>(
         &mut self,
         that: &S,
