@@ -1,4 +1,4 @@
--- The rule of a path decides on it.
+-- The rule of a path decides on that path.
 use Rattle.std.proofs.Common.{◌≡◌, ◌∷◌, [], List, Option, Some, Bool, false, ap}
 use Rattle.std.specs.Option.{unwrap_or}
 use Rattle.std.specs.declared.cmp.Ordering.{Ordering}

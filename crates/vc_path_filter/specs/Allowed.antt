@@ -1,4 +1,5 @@
--- What rules on paths allow. Rules are a tree of paths, which has true at those that are allowed, and false at those that are denied.
+-- What rules on paths allow. Rules are a tree of paths, with true at those that are allowed, and
+-- false at those that are denied.
 use Rattle.std.specs.Prelude.{◌≡◌, Bool, false, List, Option, Some, None}
 use Rattle.std.specs.Option.{unwrap_or}
 use Rattle.std.specs.declared.cmp.Ordering.{Ordering}
@@ -12,7 +13,7 @@ module _ {K : Type 0} (cmp : K → K → Ordering) (rules : Tree K Bool) where
   is_allowed path = unwrap_or (cover (lookup cmp rules) path) false
 
   module _ {V : Type 0} (keeps : V → V → Type 0) where
-    -- at one key: a value stays where it is allowed, and is gone where not; no value comes
+    -- at one key: a value stays where it is allowed, and is removed where not; no value is added
     abbrev pub IsPassed : Bool → Option V → Option V → Type 0
     IsPassed allowed None z = z ≡ None
     IsPassed allowed (Some v) z = StaysOrGoes keeps allowed v z

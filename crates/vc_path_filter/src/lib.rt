@@ -1,5 +1,5 @@
-//! Filters of paths by rules, of which the longest that is a prefix of a path decides. For the
-//! crate above, which exports it.
+//! Filters of paths by rules: of the rules that are prefixes of a path, the longest decides. For
+//! the crate above, which exports it.
 #![tactic(auto)]
 
 pub mod path_filter;

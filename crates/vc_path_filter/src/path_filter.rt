@@ -1,4 +1,4 @@
-//! Filters of paths: rules that allow a path or deny it, with all that lies below it.
+//! Filters of paths: rules that allow or deny a path with all that is below it.
 //!
 //! Of the rules whose paths are prefixes of a path the longest decides. A path is a prefix of
 //! itself. Where no rule is a prefix, the path is not allowed.
@@ -25,7 +25,7 @@ use vc_trees::radix_tree::{
     AbstractRadixTree, AbstractRadixTreeMut, ArcRadixTree, RadixNode, TKey, TValue,
 };
 
-/// Rules on paths. It is seen as the tree of its rules, which has true at the paths that were
+/// Rules on paths. Contracts see the tree of the rules, which has true at the paths that were
 /// allowed, and false at those that were denied.
 #[derive(Drop)]
 pub struct PathFilter<K: TKey> {
@@ -56,7 +56,7 @@ impl<K: TKey> PathFilter<K> {
         }
     }
 
-    /// Allows a path and what lies below it, but for what longer rules say. A rule that the path
+    /// Allows a path and what is below it, except where longer rules decide. A rule that the path
     /// had is replaced, and `check` answers true at the path itself.
     ///
     /// Compares as often as `insert` of a tree. Fails only where memory is refused; each path then
@@ -70,7 +70,7 @@ impl<K: TKey> PathFilter<K> {
         self.set(path, true)
     }
 
-    /// Denies a path and what lies below it, but for what longer rules say. A rule that the path
+    /// Denies a path and what is below it, except where longer rules decide. A rule that the path
     /// had is replaced, and `check` answers false at the path itself.
     ///
     /// Compares as often as `insert` of a tree. Fails only where memory is refused; each path then
@@ -85,11 +85,10 @@ impl<K: TKey> PathFilter<K> {
         self.set(path, false)
     }
 
-    /// Takes the rule of a path out, and answers what it said, or none where the path had no rule
-    /// of its own. The path and what lies below it are then decided by what longer and shorter
-    /// rules say.
+    /// Removes the rule of a path and answers what it said, or none where the path had no rule of
+    /// its own. Longer and shorter rules then decide on the path and on what is below it.
     ///
-    /// Compares as often as `remove` of a tree. A path without a rule costs the look-up alone, and
+    /// Compares as often as `remove` of a tree. A path without a rule costs only the look-up, and
     /// takes no memory. Fails only where memory is refused; each path then has the rule that it
     /// had.
     pub fn remove(&mut self, path: &[K]) -> Result<Option<bool>, AllocError>
@@ -130,8 +129,8 @@ impl<K: TKey> PathFilter<K> {
     /// Keeps the keys of a tree that the filter allows, with their values, and drops the others:
     /// those that it denies, and those that no rule covers.
     ///
-    /// Goes down both trees at once, and asks each rule that it meets once. Refused, it leaves the
-    /// empty tree.
+    /// Goes down both trees at once, and reads each rule that it meets once. On refusal it leaves
+    /// the empty tree.
     ///
     /// ```
     /// filter.restrict(&mut files)?;
