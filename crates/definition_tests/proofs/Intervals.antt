@@ -2,7 +2,7 @@
 use Rattle.std.specs.Prelude.{◌≡◌, true, false, ◌||◌, [], ◌∷◌, Some, None, refl}
 use Rattle.std.specs.List.Sorted.{IsStrictlySortedBy}
 use Rattle.std.specs.declared.ops.Bound.TheVariants.{Included, Excluded, Unbounded}
-use Rattle.vc_intervals.specs.Turns.{Intervals, intervals, complement, turned, holds, IsEqualIntervals, IsClonedIntervals}
+use Rattle.vc_intervals.specs.Boundaries.{Intervals, intervals, complement, toggled, holds, IsEqualIntervals, IsClonedIntervals}
 use Rattle.vc_intervals.specs.IntervalsOf.{Comes, IsIntervalsOf, IsIntervalSubset, IsIntervalDisjoint}
 use Rattle.vc_intervals.specs.Listed.{listed, listed_from, begun_start}
 use Rattle.vc_intervals.specs.Ranges.{in_range, in_some}
@@ -12,31 +12,31 @@ use Rattle.definition_tests.proofs.Digits.{Digit, one, two, three, four, five, o
 abbrev from_two : Intervals Digit
 from_two = intervals (two ∷ four ∷ []) false
 
--- the answer below 2 and 4, which is no, is turned by 2 at 3, and by both at 4
-turned_once : (turned order false (two ∷ four ∷ []) three ≡ true) × (turned order false (two ∷ four ∷ []) four ≡ false)
-turned_once = (refl, refl)
+-- the answer below 2 and 4, which is no, is toggled by 2 at 3, and by both at 4
+toggled_once : (toggled order false (two ∷ four ∷ []) three ≡ true) × (toggled order false (two ∷ four ∷ []) four ≡ false)
+toggled_once = (refl, refl)
 
 -- it has 2 and 3, and neither 1 nor 4
 holds_two : (holds order from_two one ≡ false) × (holds order from_two two ≡ true) × (holds order from_two three ≡ true)
     × (holds order from_two four ≡ false)
 holds_two = (refl, refl, refl, refl)
 
--- its complement has the same turns, and what lies below them
-complement_has_the_turns : complement from_two ≡ intervals (two ∷ four ∷ []) true
-complement_has_the_turns = refl
+-- its complement has the same boundaries, and what lies below them
+complement_has_the_boundaries : complement from_two ≡ intervals (two ∷ four ∷ []) true
+complement_has_the_boundaries = refl
 
 -- a set is equal to itself, and to its clone
 is_equal : IsEqualIntervals order from_two from_two
-is_equal = record { turns = (refl, (refl, tt)); below = refl }
+is_equal = record { boundaries = (refl, (refl, tt)); below = refl }
 
 is_cloned : IsClonedIntervals same from_two from_two
-is_cloned = record { turns = (refl, (refl, tt)); below = refl }
+is_cloned = record { boundaries = (refl, (refl, tt)); below = refl }
 
 -- a set is no clone of its complement
 no_clone : IsClonedIntervals same from_two (complement from_two) → ⊥
 no_clone h = not_true h.below
 
--- where both sets have a turn the left one is taken, and else the one that is there
+-- where both sets have a boundary the left one is taken, and else the one that is there
 comes_left : Comes same (Some two) (Some two) (Some three)
 comes_left = refl
 

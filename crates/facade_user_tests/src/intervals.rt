@@ -12,7 +12,7 @@ ghost use Rattle.vec_collections.specs.IntervalsOf.{IsIntervalSubset, IsInterval
 ghost use Rattle.vec_collections.specs.Listed.{listed, shown_ends};
 ghost use Rattle.vec_collections.specs.Ranges.{in_range, in_some};
 ghost use Rattle.vec_collections.specs.SetOf.{exactly_one};
-ghost use Rattle.vec_collections.specs.Turns.{Intervals, holds};
+ghost use Rattle.vec_collections.specs.Boundaries.{Intervals, holds};
 
 use std::alloc::{AllocError, Global};
 use std::default::MadeWith;
@@ -104,7 +104,7 @@ pub fn booked_until<'a, T: Ord>(booked: &'a Booked<T>, time: &T) -> (bool, Optio
         → holds T.cmp booked.now later ≡ result.0 }
     ensures then { IfSome result.1 (λ end. holds T.cmp booked.now end.now ≡ not result.0) }
 {
-    (booked.contains(time), booked.next_turn(time))
+    (booked.contains(time), booked.next_boundary(time))
 }
 
 /// Whether some time of the span is taken.

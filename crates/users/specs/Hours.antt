@@ -1,7 +1,7 @@
 -- Opening hours.
 use Rattle.std.specs.Prelude.{Bool, ℕ}
 use Rattle.std.specs.Ordering.{nat_cmp}
-use Rattle.vec_collections.specs.Turns.{holds}
+use Rattle.vec_collections.specs.Boundaries.{holds}
 use Rattle.users.specs.declared.hours.Hours.{Hours}
 
 -- the shop is open at the hour

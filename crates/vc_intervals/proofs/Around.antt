@@ -1,7 +1,7 @@
--- What a set has around a place, by the turns at or below it and those above it.
+-- What a set has around a place, by the boundaries at or below it and those above it.
 --     interval-around        the interval that is listed and has it
---     next-above        the first turn above it
---     same-until, turned-next        what is in the set up to that turn, and at it
+--     next-above        the first boundary above it
+--     same-until, toggled-next        what is in the set up to that boundary, and at it
 --     overlap-next, overlap-last        whether it has a value of a range whose start it lacks
 use Rattle.std.proofs.Common.{◌≡◌, ℕ, suc, ◌-◌, Bool, true, false, cond, not, List, [], ◌∷◌, ◌++◌, length, slice_get}
 use Rattle.std.proofs.Common.{◌↔◌, Option, Some, None, IfSome, IsTrue, refl, sym, ap, subst, ◌∙◌, arith}
@@ -22,10 +22,10 @@ use Rattle.vc_merge.specs.Ascending.{Ascends}
 use Rattle.vc_merge.proofs.ListLemmas.{each-weaker}
 use Rattle.vc_sets.specs.SetOf.{exactly_one}
 use Rattle.vc_intervals.specs.Events.{odd}
-use Rattle.vc_intervals.specs.Turns.{turned}
+use Rattle.vc_intervals.specs.Boundaries.{toggled}
 use Rattle.vc_intervals.specs.Listed.{listed_from, begun_start}
-use Rattle.vc_intervals.proofs.Turned.{turned-passed, turned-above}
-use Rattle.vc_intervals.proofs.OneList.{at-first, turns-above}
+use Rattle.vc_intervals.proofs.Toggled.{toggled-passed, toggled-above}
+use Rattle.vc_intervals.proofs.OneList.{at-first, boundaries-above}
 
 odd-next : (n : ℕ) (b : Bool) → exactly_one (odd n) (not b) ≡ exactly_one (odd (suc n)) b
 odd-next n b = grind arith
@@ -43,12 +43,12 @@ module _ {X : Type 0} (P : X → Type 0) where
 module _ {X : Type 0} where
   -- ---- the ends of an interval
 
-  -- the start of an interval that begins at the last of these turns, or where there is none, at s
+  -- the start of an interval that begins at the last of these boundaries, or where there is none, at s
   abbrev pub start_behind : Bound X → List X → Bound X
   start_behind s [] = s
   start_behind s (t ∷ ts) = start_behind (Included t) ts
 
-  -- the end of one that ends at the first of these turns, or where there is none, not at all
+  -- the end of one that ends at the first of these boundaries, or where there is none, not at all
   abbrev pub end_before : List X → Bound X
   end_before [] = Unbounded
   end_before (t ∷ ts) = Excluded t
@@ -58,7 +58,7 @@ module _ {X : Type 0} where
   begun true s = Some s
   begun false s = None
 
-  -- the ends of an interval behind turns of which this is the last, and before others of which this is the first
+  -- the ends of an interval behind boundaries of which this is the last, and before others of which this is the first
   abbrev pub start_at : Option X → Bound X
   start_at None = Unbounded
   start_at (Some t) = Included t
@@ -125,20 +125,20 @@ module _ {X : Type 0} (cmp : X → X → Ordering) where
   interval-around false ps qs x p q = interval-from false Unbounded ps qs x refl p q
 
   module _ (total : IsTotalOrder cmp) where
-    -- ---- the next turn
+    -- ---- the next boundary
 
     above-or : (t x : X) → is_lt (cmp x t) ≡ not (is_le (cmp t x))
     above-or t x = grind arith
 
-    -- the first turn above a place
+    -- the first boundary above a place
     pub next-above : (ps qs : List X) (x : X) → AllByRecursion (λ t. is_le (cmp t x) ≡ true) ps
         → AllByRecursion (λ t. is_le (cmp t x) ≡ false) qs → find (λ t. is_lt (cmp x t)) (ps ++ qs) ≡ slice_get qs 0
     next-above [] [] x p q = refl
     next-above [] (t ∷ qs) x p q = grind (arith, above-or)
     next-above (t ∷ ps) qs x p q = grind (arith, above-or, next-above ps qs x p.1 q)
 
-    turns : (p q b : Bool) → q ≡ not b → exactly_one p q ≡ not (exactly_one p b)
-    turns p q b e = grind arith
+    boundaries : (p q b : Bool) → q ≡ not b → exactly_one p q ≡ not (exactly_one p b)
+    boundaries p q b e = grind arith
 
     le-on : (t v x : X) → is_le (cmp v x) ≡ true → is_le (cmp t v) ≡ true → is_le (cmp t x) ≡ true
     le-on t v x e h = grind arith
@@ -154,38 +154,38 @@ module _ {X : Type 0} (cmp : X → X → Ordering) where
     less-gt : (t x : X) → is_le (cmp t x) ≡ false → cmp x t ≡ Less
     less-gt t x e = grind arith
 
-    -- turns of which the first is above x are
+    -- boundaries of which the first is above x are
     all-above : (qs : List X) (x : X) → Ascends cmp qs → IfSome (slice_get qs 0) (λ t. cmp x t ≡ Less)
         → AllByRecursion (λ t. is_le (cmp t x) ≡ false) qs
     unfolding IsStrictlySortedBy
     all-above [] x a h = tt
     all-above (t ∷ qs) x a h =
-        (gt-less t x h, turns-above cmp total t qs x (gt-less t x h) a.0)
+        (gt-less t x h, boundaries-above cmp total t qs x (gt-less t x h) a.0)
 
-    -- from a place on, nothing turns before the first turn above it
+    -- from a place on, nothing changes before the first boundary above it
     pub same-until : (b : Bool) (ps qs : List X) (v x : X) → Ascends cmp qs
         → AllByRecursion (λ t. is_le (cmp t v) ≡ true) ps → AllByRecursion (λ t. is_le (cmp t v) ≡ false) qs
         → is_le (cmp v x) ≡ true → IfSome (slice_get qs 0) (λ t. cmp x t ≡ Less)
-        → turned cmp b (ps ++ qs) x ≡ turned cmp b (ps ++ qs) v
+        → toggled cmp b (ps ++ qs) x ≡ toggled cmp b (ps ++ qs) v
     same-until b ps qs v x a p q e h =
-        turned-passed cmp b ps qs x (le-all ps v x e p)
-        ∙ ap (exactly_one (odd (length ps))) (turned-above cmp b qs x (all-above qs x a h) ∙ sym (turned-above cmp b qs v q))
-        ∙ sym (turned-passed cmp b ps qs v p)
+        toggled-passed cmp b ps qs x (le-all ps v x e p)
+        ∙ ap (exactly_one (odd (length ps))) (toggled-above cmp b qs x (all-above qs x a h) ∙ sym (toggled-above cmp b qs v q))
+        ∙ sym (toggled-passed cmp b ps qs v p)
 
-    -- there the answer turns
-    pub turned-next : (b : Bool) (ps qs : List X) (v t : X) → Ascends cmp qs
+    -- there the answer changes
+    pub toggled-next : (b : Bool) (ps qs : List X) (v t : X) → Ascends cmp qs
         → AllByRecursion (λ t. is_le (cmp t v) ≡ true) ps → AllByRecursion (λ t. is_le (cmp t v) ≡ false) qs
-        → slice_get qs 0 ≡ Some t → turned cmp b (ps ++ qs) t ≡ not (turned cmp b (ps ++ qs) v)
+        → slice_get qs 0 ≡ Some t → toggled cmp b (ps ++ qs) t ≡ not (toggled cmp b (ps ++ qs) v)
     unfolding IsStrictlySortedBy
-    turned-next b ps [] v t a p q e = grind arith
-    turned-next b ps (u ∷ qs) v t a p q e =
+    toggled-next b ps [] v t a p q e = grind arith
+    toggled-next b ps (u ∷ qs) v t a p q e =
         let is : u ≡ t = cc in
-        subst (λ w. turned cmp b (ps ++ u ∷ qs) w ≡ not (turned cmp b (ps ++ u ∷ qs) v)) is
-        (turned-passed cmp b ps (u ∷ qs) u
+        subst (λ w. toggled cmp b (ps ++ u ∷ qs) w ≡ not (toggled cmp b (ps ++ u ∷ qs) v)) is
+        (toggled-passed cmp b ps (u ∷ qs) u
         (le-all ps v u (ap is_le (less-gt u v q.0)) p)
-        ∙ turns (odd (length ps)) (turned cmp b (u ∷ qs) u) b (at-first cmp total b u qs a.0)
-        ∙ ap not (sym (turned-passed cmp b ps (u ∷ qs) v p
-        ∙ ap (exactly_one (odd (length ps))) (turned-above cmp b (u ∷ qs) v q))))
+        ∙ boundaries (odd (length ps)) (toggled cmp b (u ∷ qs) u) b (at-first cmp total b u qs a.0)
+        ∙ ap not (sym (toggled-passed cmp b ps (u ∷ qs) v p
+        ∙ ap (exactly_one (odd (length ps))) (toggled-above cmp b (u ∷ qs) v q))))
 
     -- ---- a range
 
@@ -205,7 +205,7 @@ module _ {X : Type 0} (cmp : X → X → Ordering) where
 
     -- a set has a value of it
     abbrev pub Overlap : Bool → List X → X → X → Type 0
-    Overlap b ts s e = (x : X) × IsTrue (range_contains cmp (Included s) (Excluded e) x) × IsTrue (turned cmp b ts x)
+    Overlap b ts s e = (x : X) × IsTrue (range_contains cmp (Included s) (Excluded e) x) × IsTrue (toggled cmp b ts x)
 
     first-ahead : (P : X → Type 0) (qs : List X) (t : X) → slice_get qs 0 ≡ Some t → AllByRecursion P qs → P t
     first-ahead P [] t e h = grind arith
@@ -213,10 +213,10 @@ module _ {X : Type 0} (cmp : X → X → Ordering) where
 
     module _ (b : Bool) (ps qs : List X) (s e : X) (ascends : Ascends cmp qs)
         (passed : AllByRecursion (λ t. is_le (cmp t s) ≡ true) ps)
-        (ahead : AllByRecursion (λ t. is_le (cmp t s) ≡ false) qs) (lacks : turned cmp b (ps ++ qs) s ≡ false) where
-      -- what comes before the next turn is not in the set, where the start is not
+        (ahead : AllByRecursion (λ t. is_le (cmp t s) ≡ false) qs) (lacks : toggled cmp b (ps ++ qs) s ≡ false) where
+      -- what comes before the next boundary is not in the set, where the start is not
       lacking : (x : X) → range_contains cmp (Included s) (Excluded e) x ≡ true → IfSome (slice_get qs 0) (λ t. cmp x t ≡ Less)
-          → turned cmp b (ps ++ qs) x ≡ true → ⊥
+          → toggled cmp b (ps ++ qs) x ≡ true → ⊥
       lacking x r h k =
           true≢false (sym k ∙ same-until b ps qs s x ascends passed ahead (from-start s e x r) h ∙ lacks)
 
@@ -232,7 +232,7 @@ module _ {X : Type 0} (cmp : X → X → Ordering) where
         λ _. (
           t,
           within s e t (first-ahead (λ q. is_le (cmp q s) ≡ false) qs t n ahead) (sym k),
-          turned-next b ps qs s t ascends passed ahead n ∙ ap not lacks,
+          toggled-next b ps qs s t ascends passed ahead n ∙ ap not lacks,
         ),
         λ _. refl,
       )

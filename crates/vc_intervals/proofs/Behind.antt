@@ -1,5 +1,5 @@
 -- The intervals that are listed, from the back.
---     listed-append        those of more turns, after some after which no interval has begun
+--     listed-append        those of more boundaries, after some after which no interval has begun
 --     listed-length        how many there are
 --     unbounded-told        whether one has no end
 --     last-open, last-closed        the last one
@@ -15,7 +15,7 @@ use Rattle.vc_sets.specs.SetOf.{exactly_one}
 use Rattle.vc_intervals.specs.Events.{odd}
 use Rattle.vc_intervals.specs.Listed.{listed_from, begun_start}
 
--- by how many turns come before the last interval, whether one goes on there
+-- by how many boundaries come before the last interval, whether one goes on there
 open-front : (b c : Bool) (m n : ℕ) → c ≡ odd n → not (beq b c) ≡ true → n ≡ m + 1 → exactly_one (odd m) b ≡ false
 open-front b c m n e h k = grind arith
 
@@ -23,7 +23,7 @@ closed-front : (b c : Bool) (m n : ℕ) → c ≡ odd n → not (beq b c) ≡ fa
 closed-front b c m n e h k = grind arith
 
 module _ {X : Type 0} where
-  -- whether an interval has begun, and has not ended, behind these turns
+  -- whether an interval has begun, and has not ended, behind these boundaries
   abbrev pub goes_on : Option (Bound X) → List X → Bool
   goes_on start ts = exactly_one (odd (length ts)) (is_some start)
 

@@ -1,4 +1,4 @@
--- What the events of two lists of turns keep: the turns of what f says of both.
+-- What the events of two lists of boundaries keep: the boundaries of what f says of both.
 use Rattle.std.proofs.Common.{◌≡◌, Bool, true, false, not, List, [], ◌∷◌, Option, Some, None, inl, inr}
 use Rattle.std.proofs.Common.{refl, sym, ap, ◌∙◌, arith}
 use mathlib.Core.Bool.{true≢false}
@@ -14,10 +14,10 @@ use Rattle.vc_merge.proofs.ListLemmas.{each-weaker}
 use Rattle.vc_merge.proofs.Members.{element_at-first, element_at-none}
 use Rattle.vc_sets.specs.SetOf.{exactly_one}
 use Rattle.vc_sets.specs.Select.{either, both_sides}
-use Rattle.vc_intervals.specs.Turns.{Intervals, intervals, turned}
+use Rattle.vc_intervals.specs.Boundaries.{Intervals, intervals, toggled}
 use Rattle.vc_intervals.specs.IntervalsOf.{Comes, IsIntervalsOf}
 use Rattle.vc_intervals.specs.Events.{put_if, kept}
-use Rattle.vc_intervals.proofs.Turned.{turned-not, turned-above}
+use Rattle.vc_intervals.proofs.Toggled.{toggled-not, toggled-above}
 
 -- what is not at or below is above
 pub greater : (o : Ordering) → is_le o ≡ false → o ≡ Greater
@@ -74,18 +74,18 @@ module _ {X : Type 0} (cmp : X → X → Ordering) (total : IsTotalOrder cmp) (f
 
   -- ---- where events stand above a place
 
-  -- what is above a turn above a place is above it
+  -- what is above a boundary above a place is above it
   pub above : (t z x : X) → is_le (cmp t x) ≡ false → cmp t z ≡ Less → is_le (cmp z x) ≡ false
   above t z x e h = grind arith
 
   at-above : (p q : Bool) (es : List (Event X X)) (x : X) → AllByRecursion (IsMatched (both_sides cmp)) es
       → AllByRecursion (λ e. is_le (cmp (either (place e)) x) ≡ false) es
-      → turned cmp (f p q) (kept f p q es) x ≡ f (turned cmp p (lefts es) x) (turned cmp q (rights es) x)
+      → toggled cmp (f p q) (kept f p q es) x ≡ f (toggled cmp p (lefts es) x) (toggled cmp q (rights es) x)
   at-above p q es x m h =
       let P : X → Type 0 = λ z. is_le (cmp z x) ≡ false in
-      turned-above cmp (f p q) (kept f p q es) x (each-kept P p q es h)
-      ∙ sym (ap (λ a. f a (turned cmp q (rights es) x)) (turned-above cmp p (lefts es) x (each-left P es h))
-      ∙ ap (f p) (turned-above cmp q (rights es) x
+      toggled-above cmp (f p q) (kept f p q es) x (each-kept P p q es h)
+      ∙ sym (ap (λ a. f a (toggled cmp q (rights es) x)) (toggled-above cmp p (lefts es) x (each-left P es h))
+      ∙ ap (f p) (toggled-above cmp q (rights es) x
       (each-right P (λ v w e k. ap is_le (sym (total.congr v w x e)) ∙ k) es m h)))
 
   -- the events behind one that is above a place
@@ -94,58 +94,58 @@ module _ {X : Type 0} (cmp : X → X → Ordering) (total : IsTotalOrder cmp) (f
       → AllByRecursion (λ d. is_le (cmp (either (place d)) x) ≡ false) es
   all-above e es x h a = grind (arith, each-weaker, above)
 
-  -- ---- a turn at or below a place
+  -- ---- a boundary at or below a place
 
-  -- what is kept of a turn at or below a place turns the answer there where f turns
+  -- what is kept of a boundary at or below a place toggles the answer there where f changes
   put-at : (g h : Bool) (t : X) (ks : List X) (x : X) → is_le (cmp t x) ≡ true
-      → turned cmp g (put_if (exactly_one g h) t ks) x ≡ turned cmp h ks x
-  put-at g h t ks x e = grind (arith, turned-not)
+      → toggled cmp g (put_if (exactly_one g h) t ks) x ≡ toggled cmp h ks x
+  put-at g h t ks x e = grind (arith, toggled-not)
 
-  -- a turn at or below a place turns the answer there
-  turn-at : (p : Bool) (t : X) (ts : List X) (x : X) → is_le (cmp t x) ≡ true
-      → turned cmp p (t ∷ ts) x ≡ turned cmp (not p) ts x
-  turn-at p t ts x e = grind (arith, turned-not)
+  -- a boundary at or below a place toggles the answer there
+  boundary-at : (p : Bool) (t : X) (ts : List X) (x : X) → is_le (cmp t x) ≡ true
+      → toggled cmp p (t ∷ ts) x ≡ toggled cmp (not p) ts x
+  boundary-at p t ts x e = grind (arith, toggled-not)
 
   at-left : (p q : Bool) (t : X) (es : List (Event X X)) (x : X) (c : Bool) → is_le (cmp t x) ≡ c
       → InOrder (left_alone t ∷ es)
-      → turned cmp (f (not p) q) (kept f (not p) q es) x ≡ f (turned cmp (not p) (lefts es) x) (turned cmp q (rights es) x)
-      → turned cmp (f p q) (kept f p q (left_alone t ∷ es)) x
-      ≡ f (turned cmp p (t ∷ lefts es) x) (turned cmp q (rights es) x)
+      → toggled cmp (f (not p) q) (kept f (not p) q es) x ≡ f (toggled cmp (not p) (lefts es) x) (toggled cmp q (rights es) x)
+      → toggled cmp (f p q) (kept f p q (left_alone t ∷ es)) x
+      ≡ f (toggled cmp p (t ∷ lefts es) x) (toggled cmp q (rights es) x)
   unfolding IsStrictlySortedBy
-  at-left p q t es x true e o rest = grind (arith, put-at, turn-at)
+  at-left p q t es x true e o rest = grind (arith, put-at, boundary-at)
   at-left p q t es x false e o rest = at-above p q (left_alone t ∷ es) x o.1 (e, all-above (left_alone t) es x e o.0.0)
 
   at-right : (p q : Bool) (t : X) (es : List (Event X X)) (x : X) (c : Bool) → is_le (cmp t x) ≡ c
       → InOrder (right_alone t ∷ es)
-      → turned cmp (f p (not q)) (kept f p (not q) es) x ≡ f (turned cmp p (lefts es) x) (turned cmp (not q) (rights es) x)
-      → turned cmp (f p q) (kept f p q (right_alone t ∷ es)) x
-      ≡ f (turned cmp p (lefts es) x) (turned cmp q (t ∷ rights es) x)
+      → toggled cmp (f p (not q)) (kept f p (not q) es) x ≡ f (toggled cmp p (lefts es) x) (toggled cmp (not q) (rights es) x)
+      → toggled cmp (f p q) (kept f p q (right_alone t ∷ es)) x
+      ≡ f (toggled cmp p (lefts es) x) (toggled cmp q (t ∷ rights es) x)
   unfolding IsStrictlySortedBy
-  at-right p q t es x true e o rest = grind (arith, put-at, turn-at)
+  at-right p q t es x true e o rest = grind (arith, put-at, boundary-at)
   at-right p q t es x false e o rest = at-above p q (right_alone t ∷ es) x o.1 (e, all-above (right_alone t) es x e o.0.0)
 
   at-both : (p q : Bool) (t u : X) (es : List (Event X X)) (x : X) (c : Bool) → is_le (cmp t x) ≡ c
       → InOrder (collision t u ∷ es)
-      → turned cmp (f (not p) (not q)) (kept f (not p) (not q) es) x
-      ≡ f (turned cmp (not p) (lefts es) x) (turned cmp (not q) (rights es) x)
-      → turned cmp (f p q) (kept f p q (collision t u ∷ es)) x
-      ≡ f (turned cmp p (t ∷ lefts es) x) (turned cmp q (u ∷ rights es) x)
+      → toggled cmp (f (not p) (not q)) (kept f (not p) (not q) es) x
+      ≡ f (toggled cmp (not p) (lefts es) x) (toggled cmp (not q) (rights es) x)
+      → toggled cmp (f p q) (kept f p q (collision t u ∷ es)) x
+      ≡ f (toggled cmp p (t ∷ lefts es) x) (toggled cmp q (u ∷ rights es) x)
   unfolding IsStrictlySortedBy
-  at-both p q t u es x true e o rest = grind (arith, put-at, turn-at)
+  at-both p q t u es x true e o rest = grind (arith, put-at, boundary-at)
   at-both p q t u es x false e o rest = at-above p q (collision t u ∷ es) x o.1 (e, all-above (collision t u) es x e o.0.0)
 
-  -- what is kept turns as f says of both
+  -- what is kept boundaries as f says of both
   at : (p q : Bool) (es : List (Event X X)) (x : X) → InOrder es
-      → turned cmp (f p q) (kept f p q es) x ≡ f (turned cmp p (lefts es) x) (turned cmp q (rights es) x)
+      → toggled cmp (f p q) (kept f p q es) x ≡ f (toggled cmp p (lefts es) x) (toggled cmp q (rights es) x)
   unfolding IsStrictlySortedBy
   at p q [] x o = refl
   at p q (left_alone t ∷ es) x o = grind (arith, at (not p) q es x (o.0.1, o.1.1), at-left)
   at p q (right_alone t ∷ es) x o = grind (arith, at p (not q) es x (o.0.1, o.1.1), at-right)
   at p q (collision t u ∷ es) x o = grind (arith, at (not p) (not q) es x (o.0.1, o.1.1), at-both)
 
-  -- ---- which turns are kept
+  -- ---- which boundaries are kept
 
-  -- of a turn at x, it is kept or nothing is
+  -- of a boundary at x, it is kept or nothing is
   comes-first : (c : Bool) (t : X) (ks : List X) (x : X) (r : Option X) → eq_by_cmp cmp t x ≡ true
       → AllByRecursion (λ z. cmp t z ≡ Less) ks
       → Comes (λ v w. v ≡ w) (element_at cmp (put_if c t ks) x) (Some t) r
@@ -195,7 +195,7 @@ module _ {X : Type 0} (cmp : X → X → Ordering) (total : IsTotalOrder cmp) (f
       e (each-kept (λ z. cmp t z ≡ Less) (not p) (not q) es a))
   comes-both p q t u es x false e m a rest = grind arith
 
-  -- a turn that is kept is the left one, where there is one, and else the right one
+  -- a boundary that is kept is the left one, where there is one, and else the right one
   comes : (p q : Bool) (es : List (Event X X)) (x : X) → InOrder es
       → Comes (λ v w. v ≡ w) (element_at cmp (kept f p q es) x) (element_at cmp (lefts es) x) (element_at cmp (rights es) x)
   unfolding IsStrictlySortedBy
@@ -205,6 +205,6 @@ module _ {X : Type 0} (cmp : X → X → Ordering) (total : IsTotalOrder cmp) (f
   comes p q (collision t u ∷ es) x o = grind (arith, comes (not p) (not q) es x (o.0.1, o.1.1), comes-both)
 
   -- what the events of two sets keep is what f makes of them
-  pub kept-intervals : (a b : Intervals X) (es : List (Event X X)) → IsScript (both_sides cmp) a.turns b.turns es
+  pub kept-intervals : (a b : Intervals X) (es : List (Event X X)) → IsScript (both_sides cmp) a.boundaries b.boundaries es
       → IsIntervalsOf cmp (λ v w. v ≡ w) f a b (intervals (kept f a.below b.below es) (f a.below b.below))
   kept-intervals a b es s = grind (arith, kept-ascends, at, comes-as, comes)

@@ -1,4 +1,4 @@
-mod Turned
+mod Toggled
 mod Kept
 mod Passed
 mod Walked

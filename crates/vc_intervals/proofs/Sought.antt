@@ -14,10 +14,10 @@ use Rattle.vc_merge.specs.Chain.{IsAllowed, Steps, Finishes, Stops, IsMerged}
 use Rattle.vc_merge.proofs.ListLemmas.{each-weaker}
 use Rattle.vc_sets.specs.SetOf.{exactly_one}
 use Rattle.vc_sets.specs.Select.{both_sides}
-use Rattle.vc_intervals.specs.Turns.{intervals, turned}
+use Rattle.vc_intervals.specs.Boundaries.{intervals, toggled}
 use Rattle.vc_intervals.specs.Events.{odd, put_if, kept, Seeks}
 use Rattle.vc_intervals.proofs.Kept.{kept-ascends, kept-intervals}
-use Rattle.vc_intervals.proofs.Turned.{turned-above}
+use Rattle.vc_intervals.proofs.Toggled.{toggled-above}
 use Rattle.vc_intervals.proofs.Walked.{all_if, kept-of_left, kept-of_right}
 
 -- ---- answers
@@ -25,7 +25,7 @@ use Rattle.vc_intervals.proofs.Walked.{all_if, kept-of_left, kept-of_right}
 goes-on : (g : Bool) → ◌≡◌ {A = Answer} (Ok true) (Ok (not g)) → g ≡ false
 goes-on g e = grind arith
 
--- where an answer is false on both sides of a turn it is so behind any number of turns
+-- where an answer is false on both sides of a boundary it is so behind any number of boundaries
 either-way : (g : Bool → Bool) (o p : Bool) → g p ≡ false → g (not p) ≡ false → g (exactly_one o p) ≡ false
 either-way g o p e h = grind arith
 
@@ -58,16 +58,16 @@ module _ {X : Type 0} (cmp : X → X → Ordering) (total : IsTotalOrder cmp) (f
       let u = w.0 in
       let k = w.1.allowed in
       let unfound = goes-on (found u) k.0 in
-      let turned_still = sym k.1 ∙ unfound in
+      let toggled_still = sym k.1 ∙ unfound in
       let still : f (in_a u) (in_b u) ≡ false =
       ap (λ q. f (in_a u) q) k.3 ∙ ap (λ p. f p (in_b s)) k.2
-      ∙ either-way (λ p. f p (in_b s)) (odd (length xs)) (in_a s) e turned_still in
+      ∙ either-way (λ p. f p (in_b s)) (odd (length xs)) (in_a s) e toggled_still in
       let q = quiet-steps u t runs still unfound w.2 in
       record {
         none = λ rest.
             ap (kept f (in_a s) (in_b s)) (append_assoc (map (λ x. left_alone x) xs) (events runs) rest)
             ∙ kept-of_left f (in_a s) (in_b s) xs (events runs ++ rest)
-            ∙ none-kept f (f (in_a s) (in_b s)) (f (not (in_a s)) (in_b s)) xs _ e turned_still
+            ∙ none-kept f (f (in_a s) (in_b s)) (f (not (in_a s)) (in_b s)) xs _ e toggled_still
             ∙ ap (λ p. kept f p (in_b s) (events runs ++ rest)) (sym k.2)
             ∙ ap (λ q. kept f (in_a u) q (events runs ++ rest)) (sym k.3)
             ∙ q.none rest;
@@ -78,16 +78,16 @@ module _ {X : Type 0} (cmp : X → X → Ordering) (total : IsTotalOrder cmp) (f
       let u = w.0 in
       let k = w.1.allowed in
       let unfound = goes-on (found u) k.0 in
-      let turned_still = sym k.1 ∙ unfound in
+      let toggled_still = sym k.1 ∙ unfound in
       let still : f (in_a u) (in_b u) ≡ false =
       ap (λ q. f (in_a u) q) k.3 ∙ ap (λ p. f p (exactly_one (odd (length ys)) (in_b s))) k.2
-      ∙ either-way (f (in_a s)) (odd (length ys)) (in_b s) e turned_still in
+      ∙ either-way (f (in_a s)) (odd (length ys)) (in_b s) e toggled_still in
       let q = quiet-steps u t runs still unfound w.2 in
       record {
         none = λ rest.
             ap (kept f (in_a s) (in_b s)) (append_assoc (map (λ y. right_alone y) ys) (events runs) rest)
             ∙ kept-of_right f (in_a s) (in_b s) ys (events runs ++ rest)
-            ∙ none-kept f (f (in_a s) (in_b s)) (f (in_a s) (not (in_b s))) ys _ e turned_still
+            ∙ none-kept f (f (in_a s) (in_b s)) (f (in_a s) (not (in_b s))) ys _ e toggled_still
             ∙ ap (λ q. kept f (in_a s) q (events runs ++ rest)) (sym k.3)
             ∙ ap (λ p. kept f p (in_b u) (events runs ++ rest)) (sym k.2)
             ∙ q.none rest;
@@ -98,13 +98,13 @@ module _ {X : Type 0} (cmp : X → X → Ordering) (total : IsTotalOrder cmp) (f
       let u = w.0 in
       let k = w.1.allowed in
       let unfound = goes-on (found u) k.0 in
-      let turned_still = sym k.1 ∙ unfound in
+      let toggled_still = sym k.1 ∙ unfound in
       let still : f (in_a u) (in_b u) ≡ false =
-      ap (λ q. f (in_a u) q) k.3 ∙ ap (λ p. f p (not (in_b s))) k.2 ∙ turned_still in
+      ap (λ q. f (in_a u) q) k.3 ∙ ap (λ p. f p (not (in_b s))) k.2 ∙ toggled_still in
       let q = quiet-steps u t runs still unfound w.2 in
       record {
         none = λ rest.
-            put-none f (f (in_a s) (in_b s)) (f (not (in_a s)) (not (in_b s))) x _ e turned_still
+            put-none f (f (in_a s) (in_b s)) (f (not (in_a s)) (not (in_b s))) x _ e toggled_still
             ∙ ap (λ q. kept f (not (in_a s)) q (events runs ++ rest)) (sym k.3)
             ∙ ap (λ p. kept f p (in_b u) (events runs ++ rest)) (sym k.2)
             ∙ q.none rest;
@@ -132,24 +132,24 @@ module _ {X : Type 0} (cmp : X → X → Ordering) (total : IsTotalOrder cmp) (f
 
   -- what f says of both sets at a place
   abbrev said : M → X → Bool
-  said s x = f (turned cmp (in_a s) (left s) x) (turned cmp (in_b s) (right s) x)
+  said s x = f (toggled cmp (in_a s) (left s) x) (toggled cmp (in_b s) (right s) x)
 
   none-said : (s : M) (es : List (Event X X)) → f (in_a s) (in_b s) ≡ false → IsScript (both_sides cmp) (left s) (right s) es
       → kept f (in_a s) (in_b s) es ≡ [] → (x : X) → said s x ≡ false
   none-said s es e w k x =
       sym ((kept-intervals cmp total f (intervals (left s) (in_a s)) (intervals (right s) (in_b s)) es w).at x)
-      ∙ ap (λ l. turned cmp (f (in_a s) (in_b s)) l x) k ∙ e
+      ∙ ap (λ l. toggled cmp (f (in_a s) (in_b s)) l x) k ∙ e
 
-  -- at the first of ascending turns an answer that is false below is true
-  first-said : (x : X) (ks : List X) → Ascends cmp (x ∷ ks) → turned cmp false (x ∷ ks) x ≡ true
+  -- at the first of ascending boundaries an answer that is false below is true
+  first-said : (x : X) (ks : List X) → Ascends cmp (x ∷ ks) → toggled cmp false (x ∷ ks) x ≡ true
   unfolding IsStrictlySortedBy
-  first-said x ks a = grind (arith, turned-above, each-weaker)
+  first-said x ks a = grind (arith, toggled-above, each-weaker)
 
   some-said : (s : M) (es : List (Event X X)) (x : X) (ks : List X) → f (in_a s) (in_b s) ≡ false
       → IsScript (both_sides cmp) (left s) (right s) es → kept f (in_a s) (in_b s) es ≡ x ∷ ks → said s x ≡ true
   some-said s es x ks e w k =
       sym ((kept-intervals cmp total f (intervals (left s) (in_a s)) (intervals (right s) (in_b s)) es w).at x)
-      ∙ ap (λ l. turned cmp (f (in_a s) (in_b s)) l x) k ∙ ap (λ b. turned cmp b (x ∷ ks) x) e
+      ∙ ap (λ l. toggled cmp (f (in_a s) (in_b s)) l x) k ∙ ap (λ b. toggled cmp b (x ∷ ks) x) e
       ∙ first-said x ks (subst (Ascends cmp) k (kept-ascends cmp total f (in_a s) (in_b s) es w.ascends))
 
   Tells : Bool → M → Type 0
@@ -181,7 +181,7 @@ module _ {X : Type 0} (cmp : X → X → Ordering) (total : IsTotalOrder cmp) (f
   pub walk-tells : (s t : M) (answer : Result (Unit {0}) AllocError) → f (in_a s) (in_b s) ≡ false → found s ≡ false
       → IsMerged search_walk (both_sides cmp) s answer t
       → MatchBool (found t)
-      ((x : X) × (f (turned cmp (in_a s) (left s) x) (turned cmp (in_b s) (right s) x) ≡ true))
-      ((x : X) → f (turned cmp (in_a s) (left s) x) (turned cmp (in_b s) (right s) x) ≡ false)
+      ((x : X) × (f (toggled cmp (in_a s) (left s) x) (toggled cmp (in_b s) (right s) x) ≡ true))
+      ((x : X) → f (toggled cmp (in_a s) (left s) x) (toggled cmp (in_b s) (right s) x) ≡ false)
   unfolding Tells
   walk-tells s t answer e h m = grind (arith, finished, stopped)

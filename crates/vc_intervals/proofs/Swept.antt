@@ -1,5 +1,5 @@
 -- Ranges that are added in the order of their starts.
---     swept-pushed, swept-met        the turns with one range more, which is apart from the last one or meets it
+--     swept-pushed, swept-met        the boundaries with one range more, which is apart from the last one or meets it
 --     pushed-holds, met-holds        what they have
 use Rattle.std.proofs.Common.{◌≡◌, ℕ, suc, ◌+◌, ◌-◌, Bool, true, false, not, ◌&&◌, ◌||◌, List, [], ◌∷◌, ◌++◌}
 use Rattle.std.proofs.Common.{length, take, Some, refl, sym, ap, subst, ◌∙◌, length-append, arith}
@@ -15,7 +15,7 @@ use Rattle.std.specs.declared.ops.Range.{Range}
 use Rattle.vc_merge.specs.Ascending.{Ascends}
 use Rattle.vc_merge.proofs.ListLemmas.{each-weaker}
 use Rattle.vc_sets.specs.SetOf.{exactly_one}
-use Rattle.vc_intervals.specs.Turns.{turned}
+use Rattle.vc_intervals.specs.Boundaries.{toggled}
 use Rattle.vc_intervals.specs.Events.{odd}
 use Rattle.vc_intervals.specs.Ranges.{IsSwept}
 use Rattle.vc_intervals.proofs.Ranged.{less-from_is_lt, pair-contains}
@@ -60,15 +60,15 @@ module _ {X : Type 0} where
       at-length (x ∷ xs) = at-length xs
 
 module _ {X : Type 0} (cmp : X → X → Ordering) (total : IsTotalOrder cmp) where
-  turned-append : (b : Bool) (xs ys : List X) (x : X) → turned cmp b (xs ++ ys) x ≡ turned cmp (turned cmp b ys x) xs x
-  turned-append b [] ys x = refl
-  turned-append b (t ∷ xs) ys x = grind (arith, turned-append b xs ys x)
+  toggled-append : (b : Bool) (xs ys : List X) (x : X) → toggled cmp b (xs ++ ys) x ≡ toggled cmp (toggled cmp b ys x) xs x
+  toggled-append b [] ys x = refl
+  toggled-append b (t ∷ xs) ys x = grind (arith, toggled-append b xs ys x)
 
-  -- as many turns at or below a place turn the answer there
-  turned-all : (b : Bool) (ts : List X) (x : X) → AllByRecursion (λ t. is_le (cmp t x) ≡ true) ts
-      → turned cmp b ts x ≡ exactly_one (odd (length ts)) b
-  turned-all b [] x p = refl
-  turned-all b (t ∷ ts) x p = grind (arith, turned-all b ts x p.1)
+  -- as many boundaries at or below a place toggle the answer there
+  toggled-all : (b : Bool) (ts : List X) (x : X) → AllByRecursion (λ t. is_le (cmp t x) ≡ true) ts
+      → toggled cmp b ts x ≡ exactly_one (odd (length ts)) b
+  toggled-all b [] x p = refl
+  toggled-all b (t ∷ ts) x p = grind (arith, toggled-all b ts x p.1)
 
   le-later : (t s x : X) → is_le (cmp t s) ≡ true → is_le (cmp s x) ≡ true → is_le (cmp t x) ≡ true
   le-later t s x e h = grind arith
@@ -95,7 +95,7 @@ module _ {X : Type 0} (cmp : X → X → Ordering) (total : IsTotalOrder cmp) wh
   ascends-front [] us p = tt
   ascends-front (t ∷ ts) us p = grind (arith, ascends-front ts us p.1, each-front)
 
-  -- all turns are less than a start, where the last one is
+  -- all boundaries are less than a start, where the last one is
   pub below-start : (ts : List X) (s : X) → Ascends cmp ts
       → ((last : X) → slice_get ts (length ts - 1) ≡ Some last → is_lt (cmp last s) ≡ true) → AllByRecursion (λ t. cmp t s ≡ Less) ts
   below-start ts s p q = by-end (ends ts)
@@ -132,17 +132,17 @@ module _ {X : Type 0} (cmp : X → X → Ordering) (total : IsTotalOrder cmp) wh
         (ap is_le (tied_itself total s), tt));
   })
 
-  added : (c : Bool) (ts : List X) (x : X) → (c ≡ true → turned cmp false ts x ≡ false)
-      → turned cmp c ts x ≡ (c || turned cmp false ts x)
+  added : (c : Bool) (ts : List X) (x : X) → (c ≡ true → toggled cmp false ts x ≡ false)
+      → toggled cmp c ts x ≡ (c || toggled cmp false ts x)
   added true ts x h = flip ts ∙ ap not (h refl)
     where
       flip-one : (p q r : Bool) → q ≡ not r → exactly_one p q ≡ not (exactly_one p r)
       flip-one true q r e = ap not e
       flip-one false q r e = e
 
-      flip : (ts : List X) → turned cmp true ts x ≡ not (turned cmp false ts x)
+      flip : (ts : List X) → toggled cmp true ts x ≡ not (toggled cmp false ts x)
       flip [] = refl
-      flip (t ∷ ts) = flip-one (is_le (cmp t x)) (turned cmp true ts x) (turned cmp false ts x) (flip ts)
+      flip (t ∷ ts) = flip-one (is_le (cmp t x)) (toggled cmp true ts x) (toggled cmp false ts x) (flip ts)
   added false ts x h = refl
 
   from-start : (p q : Bool) → (p && q) ≡ true → p ≡ true
@@ -150,9 +150,9 @@ module _ {X : Type 0} (cmp : X → X → Ordering) (total : IsTotalOrder cmp) wh
 
   pub pushed-holds : (ts us : List X) (s e x : X) → IsSwept cmp s ts → cmp s e ≡ Less → AllByRecursion (λ t. cmp t s ≡ Less) ts
       → us ≡ (ts ++ s ∷ []) ++ e ∷ []
-      → turned cmp false us x ≡ ((is_le (cmp s x) && not (is_le (cmp e x))) || turned cmp false ts x)
+      → toggled cmp false us x ≡ ((is_le (cmp s x) && not (is_le (cmp e x))) || toggled cmp false ts x)
   pushed-holds ts us s e x p l q is =
-      grind (arith, two-more, turned-append, pair-contains, added, turned-all, each-later, from-start, each-weaker)
+      grind (arith, two-more, toggled-append, pair-contains, added, toggled-all, each-later, from-start, each-weaker)
 
   -- ---- a range that meets the last interval
 
@@ -171,10 +171,10 @@ module _ {X : Type 0} (cmp : X → X → Ordering) (total : IsTotalOrder cmp) wh
   swept-met ts us l s e p is =
       grind (arith, ascends-pushed, ascends-front, each-weaker, less-max, before-last, length-append, but_last)
 
-  -- an odd number of turns at or below a place turn the answer there, and none above it
+  -- an odd number of boundaries at or below a place toggle the answer there, and none above it
   met : (p q u : Bool) (ts : List X) (x : X) → (q ≡ true → p ≡ true) → (u ≡ true → p ≡ true)
-      → (p ≡ true → (b : Bool) → turned cmp b ts x ≡ not b)
-      → turned cmp (u && q) ts x ≡ ((p && not q) || turned cmp u ts x)
+      → (p ≡ true → (b : Bool) → toggled cmp b ts x ≡ not b)
+      → toggled cmp (u && q) ts x ≡ ((p && not q) || toggled cmp u ts x)
   met p q u ts x h k t = grind arith
 
   one-le : (p : Bool) → exactly_one p false ≡ p
@@ -185,20 +185,20 @@ module _ {X : Type 0} (cmp : X → X → Ordering) (total : IsTotalOrder cmp) wh
 
   pub met-holds : (ts us : List X) (l s e x : X) → IsSwept cmp s (ts ++ l ∷ []) → is_lt (cmp l s) ≡ false → cmp s e ≡ Less
       → us ≡ ts ++ ord_max cmp l e ∷ []
-      → turned cmp false us x ≡ ((is_le (cmp s x) && not (is_le (cmp e x))) || turned cmp false (ts ++ l ∷ []) x)
+      → toggled cmp false us x ≡ ((is_le (cmp s x) && not (is_le (cmp e x))) || toggled cmp false (ts ++ l ∷ []) x)
   met-holds ts us l s e x p h k is =
       grind (
         arith,
         length-append,
         not-odd,
         but_last,
-        turned-append,
+        toggled-append,
         one-le,
         max-le,
         met,
         le-later,
         reverse-le,
-        turned-all,
+        toggled-all,
         each-later,
       )
 

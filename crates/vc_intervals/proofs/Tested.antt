@@ -3,10 +3,10 @@ use Rattle.std.proofs.Common.{◌≡◌, ◌↔◌, Bool, true, false, not, IsTr
 use mathlib.Core.Bool.{true≢false}
 use Rattle.std.specs.declared.cmp.Ordering.{Ordering}
 use Rattle.vc_sets.specs.Select.{keeps}
-use Rattle.vc_intervals.specs.Turns.{Intervals, holds}
+use Rattle.vc_intervals.specs.Boundaries.{Intervals, holds}
 use Rattle.vc_intervals.specs.IntervalsOf.{IsIntervalSubset, IsIntervalDisjoint}
 
--- what is known below all turns is added to what a walk tells
+-- what is known below all boundaries is added to what a walk tells
 pub tells-all : {X : Type 0} (p : Bool) (said : X → Bool) (c : Bool) → p ≡ false
     → MatchBool c ((x : X) × (said x ≡ true)) ((x : X) → said x ≡ false)
     → MatchBool c ((p ≡ true) ⊎ ((x : X) × (said x ≡ true))) ((p ≡ false) × ((x : X) → said x ≡ false))

@@ -1,6 +1,6 @@
--- A walk over the turns of two sets keeps what the events of their script keep, as clones.
+-- A walk over the boundaries of two sets keeps what the events of their script keep, as clones.
 --     kept-of_left, kept-of_right        of a run of one side
---     cloned-intervals        what is known of turns is known of their clones
+--     cloned-intervals        what is known of boundaries is known of their clones
 --     walked-intervals        a whole walk
 use Rattle.std.proofs.Common.{◌≡◌, Bool, true, false, not, List, [], ◌∷◌, ◌++◌, map, length, Option}
 use Rattle.std.proofs.Common.{Ok, ◌⊎◌, refl, sym, ap, subst, ◌∙◌, append_assoc, ⊎_elim, arith}
@@ -19,7 +19,7 @@ use Rattle.vc_merge.specs.Chain.{IsAllowed, Steps, Finishes, Stops}
 use Rattle.vc_merge.proofs.Clones.{clone-equal, clones-ascend}
 use Rattle.vc_sets.specs.SetOf.{exactly_one}
 use Rattle.vc_sets.specs.Select.{both_sides}
-use Rattle.vc_intervals.specs.Turns.{Intervals, intervals, turned}
+use Rattle.vc_intervals.specs.Boundaries.{Intervals, intervals, toggled}
 use Rattle.vc_intervals.specs.IntervalsOf.{Comes, IsIntervalsOf}
 use Rattle.vc_intervals.specs.Events.{odd, kept, passes}
 use Rattle.vc_intervals.proofs.Kept.{kept-intervals}
@@ -50,10 +50,10 @@ module _ {X : Type 0} (f : Bool → Bool → Bool) where
 
 module _ {X : Type 0} (cmp : X → X → Ordering) (total : IsTotalOrder cmp) (is_clone : X → X → Type 0)
     (alike : ClonesAreEqual cmp is_clone) where
-  turned-clones : (b : Bool) (xs zs : List X) (y : X) → AllZip is_clone xs zs → turned cmp b zs y ≡ turned cmp b xs y
-  turned-clones b [] [] y z = refl
-  turned-clones b (x ∷ xs) (w ∷ zs) y z = grind (arith, turned-clones b xs zs y z.1)
-  turned-clones b x u y z = absurd z
+  toggled-clones : (b : Bool) (xs zs : List X) (y : X) → AllZip is_clone xs zs → toggled cmp b zs y ≡ toggled cmp b xs y
+  toggled-clones b [] [] y z = refl
+  toggled-clones b (x ∷ xs) (w ∷ zs) y z = grind (arith, toggled-clones b xs zs y z.1)
+  toggled-clones b x u y z = absurd z
 
   comes-clones : (xs zs : List X) (y : X) (l r : Option X) → AllZip is_clone xs zs
       → Comes (λ u v. u ≡ v) (element_at cmp xs y) l r → Comes is_clone (element_at cmp zs y) l r
@@ -61,10 +61,10 @@ module _ {X : Type 0} (cmp : X → X → Ordering) (total : IsTotalOrder cmp) (i
   comes-clones (x ∷ xs) (w ∷ zs) y l r z h = grind (arith, comes-clones xs zs y l r z.1)
   comes-clones x u y l r z h = absurd z
 
-  -- clones of the turns of what f makes
+  -- clones of the boundaries of what f makes
   pub cloned-intervals : (f : Bool → Bool → Bool) (a b : Intervals X) (xs zs : List X) (below : Bool) → AllZip is_clone xs zs
       → IsIntervalsOf cmp (λ u v. u ≡ v) f a b (intervals xs below) → IsIntervalsOf cmp is_clone f a b (intervals zs below)
-  cloned-intervals f a b xs zs below z h = grind (arith, clones-ascend, clone-equal, turned-clones, comes-clones)
+  cloned-intervals f a b xs zs below z h = grind (arith, clones-ascend, clone-equal, toggled-clones, comes-clones)
 
   -- ---- the walk
 

@@ -5,23 +5,23 @@ use Rattle.std.specs.List.{AllByRecursion, list_any}
 use Rattle.std.specs.declared.cmp.Ordering.{Ordering}
 use Rattle.std.specs.declared.cmp.Ordering.TheVariants.{Less}
 use Rattle.vc_merge.specs.Ascending.{Ascends}
-use Rattle.vc_intervals.specs.Turns.{Intervals, holds, IsEqualIntervals}
+use Rattle.vc_intervals.specs.Boundaries.{Intervals, holds, IsEqualIntervals}
 use Rattle.vc_intervals.specs.IntervalsOf.{IsIntervalsOf}
 use Rattle.vc_intervals.specs.Listed.{listed}
 
 module _ {X : Type 0} (cmp : X → X → Ordering) where
-  -- two sets with the same members and the same answer below have equal turns, and equal sets have the same members. The answer below
-  -- is that at each value below all turns, where the type has one
-  pub record MembersTellTheTurns : Type 0 where
-    pub turns : (a b : Intervals X) → Ascends cmp a.turns → Ascends cmp b.turns → a.below ≡ b.below
+  -- two sets with the same members and the same answer below have equal boundaries, and equal sets have the same members. The answer below
+  -- is that at each value below all boundaries, where the type has one
+  pub record MembersTellTheBoundaries : Type 0 where
+    pub boundaries : (a b : Intervals X) → Ascends cmp a.boundaries → Ascends cmp b.boundaries → a.below ≡ b.below
         → ((x : X) → holds cmp a x ≡ holds cmp b x) → IsEqualIntervals cmp a b
     pub members : (a b : Intervals X) → IsEqualIntervals cmp a b → (x : X) → holds cmp a x ≡ holds cmp b x
-    pub below : (a : Intervals X) (x : X) → AllByRecursion (λ t. cmp x t ≡ Less) a.turns → holds cmp a x ≡ a.below
+    pub below : (a : Intervals X) (x : X) → AllByRecursion (λ t. cmp x t ≡ Less) a.boundaries → holds cmp a x ≡ a.below
 
   -- a value is in the set exactly where it lies in one of the intervals that are listed
   abbrev pub ListedIntervalsHold : Type 0
   ListedIntervalsHold =
-      (a : Intervals X) → Ascends cmp a.turns → (x : X)
+      (a : Intervals X) → Ascends cmp a.boundaries → (x : X)
       → holds cmp a x ≡ list_any (λ ends. range_contains cmp ends.0 ends.1 x) (listed a)
 
   -- the result of an operation on two sets is unique up to equality

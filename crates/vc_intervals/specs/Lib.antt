@@ -1,4 +1,4 @@
-pub mod Turns
+pub mod Boundaries
 pub mod IntervalsOf
 pub mod Listed
 pub mod Ranges

@@ -25,8 +25,8 @@ module _ {X : Type 0} (cmp : X → X → Ordering) where
   StartsAscend [] = Unit {0}
   StartsAscend (r ∷ rs) = AllByRecursion (λ q. is_le (cmp r.start q.start) ≡ true) rs × StartsAscend rs
 
-  -- the turns of ranges that start at `start` or before it
-  pub record IsSwept (start : X) (turns : List X) : Type 0 where
-    pub ascends : Ascends cmp turns
-    pub even : odd (length turns) ≡ false
-    pub before : AllByRecursion (λ t. is_le (cmp t start) ≡ true) (take (length turns - 1) turns)
+  -- the boundaries of ranges that start at `start` or before it
+  pub record IsSwept (start : X) (boundaries : List X) : Type 0 where
+    pub ascends : Ascends cmp boundaries
+    pub even : odd (length boundaries) ≡ false
+    pub before : AllByRecursion (λ t. is_le (cmp t start) ≡ true) (take (length boundaries - 1) boundaries)

@@ -1,4 +1,4 @@
-//! The walk over the turns of two sets that builds the turns of the result.
+//! The walk over the boundaries of two sets that builds the boundaries of the result.
 ghost use Rattle.std.specs.Prelude.{◌≡◌, ◌+◌, ◌<◌, ◌≤◌, true, false, length, take, drop, IfOk, OnOk, IsTrue};
 ghost use Rattle.smallvec.specs.Iter.{SmallVecFitsInMemory};
 ghost use Rattle.smallvec.specs.SmallVec.{HasRoomFor};
@@ -9,10 +9,10 @@ ghost use Rattle.vc_merge.specs.Clones.{ClonesAreEqual};
 ghost use Rattle.vc_merge.specs.Count.{bound, ticked};
 ghost use Rattle.vc_merge.specs.Takes.{TakesLesser};
 ghost use Rattle.vc_sets.specs.Select.{both_sides, both_sides-total, keeps};
-ghost use Rattle.vc_intervals.specs.Turns.{intervals};
+ghost use Rattle.vc_intervals.specs.Boundaries.{intervals};
 ghost use Rattle.vc_intervals.specs.IntervalsOf.{IsIntervalsOf};
 ghost use Rattle.vc_intervals.specs.Events.{odd, passes};
-ghost use Rattle.vc_intervals.specs.WalkViews.{HasPlaces, built_turns, is_in_a, is_in_b, left_turns, list_name, right_turns};
+ghost use Rattle.vc_intervals.specs.WalkViews.{HasPlaces, built_boundaries, is_in_a, is_in_b, left_boundaries, list_name, right_boundaries};
 
 use smallvec::SmallVec;
 use std::alloc::{AllocError, Allocator};
@@ -22,8 +22,8 @@ use vc_merge::choosing::{behind, lesser, part, passed};
 use vc_merge::merge::{Count, MergeOperation, MergeState, merge};
 use vc_merge::states::append_clones;
 
-/// The turns of two sets with the positions of the next ones, whether the place that the walk has
-/// reached is in each of the sets, and the turns that were kept.
+/// The boundaries of two sets with the positions of the next ones, whether the place that the walk
+/// has reached is in each of the sets, and the boundaries that were kept.
 ///
 /// The slices are kept whole: a position moves by a number, without a branch.
 #[derive(Drop)]
@@ -38,15 +38,15 @@ struct Walk<'a, T, const N: usize, A: Allocator> {
 }
 
 impl<'a, T, const N: usize, A: Allocator> MergeState for Walk<'a, T, N, A> {
-    ghost use Rattle.vc_intervals.specs.WalkViews.{left_turns, right_turns};
+    ghost use Rattle.vc_intervals.specs.WalkViews.{left_boundaries, right_boundaries};
 
     type A = T;
 
     type B = T;
 
-    ghost left = { left_turns };
+    ghost left = { left_boundaries };
 
-    ghost right = { right_turns };
+    ghost right = { right_boundaries };
 
     #[inline(always)]
     fn a_slice(&self) -> &[T] {
@@ -66,22 +66,22 @@ impl<'a, T, const N: usize, A: Allocator> MergeState for Walk<'a, T, N, A> {
 }
 
 impl<'a, T, const N: usize, A: Allocator> Walk<'a, T, N, A> {
-    ghost use Rattle.vc_intervals.specs.WalkViews.{HasPlaces, left_turns, right_turns};
+    ghost use Rattle.vc_intervals.specs.WalkViews.{HasPlaces, left_boundaries, right_boundaries};
 
-    /// The number of turns that are left.
+    /// The number of boundaries that are left.
     #[inline(always)]
     fn most(&self) -> usize
         requires { HasPlaces self.now }
-        ensures left { length (left_turns self.now) ≤ result }
-        ensures right { length (right_turns self.now) ≤ result }
+        ensures left { length (left_boundaries self.now) ≤ result }
+        ensures right { length (right_boundaries self.now) ≤ result }
     {
         (self.a.len() - self.left).saturating_add(self.b.len() - self.right)
     }
 }
 
-/// Keeps the turns of what is in the left set alone if `LEFT`, in the right one alone if `RIGHT`,
-/// and in both if `BOTH`.
-struct TurnsOf<const LEFT: bool, const RIGHT: bool, const BOTH: bool>;
+/// Keeps the boundaries of what is in the left set alone if `LEFT`, in the right one alone if
+/// `RIGHT`, and in both if `BOTH`.
+struct BoundariesOf<const LEFT: bool, const RIGHT: bool, const BOTH: bool>;
 
 /// Whether a place is in the result, by whether it is in each of the two sets.
 #[inline(always)]
@@ -96,7 +96,7 @@ pub fn says<const LEFT: bool, const RIGHT: bool, const BOTH: bool>(in_a: bool, i
     }
 }
 
-/// Whether an answer changes over this number of turns.
+/// Whether an answer changes over this number of boundaries.
 #[inline(always)]
 pub fn is_odd(n: usize) -> bool
     ensures { result ≡ odd n }
@@ -104,8 +104,8 @@ pub fn is_odd(n: usize) -> bool
     n % 2 == 1
 }
 
-/// Makes room for `n` more turns: where there is none, it allocates once, for as many as may still
-/// come.
+/// Makes room for `n` more boundaries: where there is none, it allocates once, for as many as may
+/// still come.
 #[inline(always)]
 fn make_room<T: MadeWith<A> + Drop, const N: usize, A: Allocator + Copy>(
     built: &mut SmallVec<T, N, A>,
@@ -122,23 +122,23 @@ fn make_room<T: MadeWith<A> + Drop, const N: usize, A: Allocator + Copy>(
     Ok(())
 }
 
-/// Appends clones of some turns.
+/// Appends clones of some boundaries.
 #[inline]
 fn append<T: Clone + MadeWith<A>, const N: usize, A: Allocator + Copy>(
     built: &mut SmallVec<T, N, A>,
-    turns: &[T],
+    boundaries: &[T],
     most: usize,
 ) -> Result<(), AllocError>
-    requires { length turns.now ≤ most }
-    ensures { OnOk result (Extends T.is_clone turns.now built.old.items built.new.items) }
+    requires { length boundaries.now ≤ most }
+    ensures { OnOk result (Extends T.is_clone boundaries.now built.old.items built.new.items) }
 {
-    make_room(built, turns.len(), most)?;
-    append_clones(built, turns)
+    make_room(built, boundaries.len(), most)?;
+    append_clones(built, boundaries)
 }
 
-/// Passes the first turns of both sets, which compare as `heads`: the lesser one, or both. It keeps
-/// a clone of the lesser one, or of the left one of two equal ones, if the answer changes there.
-/// That is the only branch.
+/// Passes the first boundaries of both sets, which compare as `heads`: the lesser one, or both. It
+/// keeps a clone of the lesser one, or of the left one of two equal ones, if the answer changes
+/// there. That is the only branch.
 #[inline(always)]
 fn pass_heads<
     'a,
@@ -150,21 +150,21 @@ fn pass_heads<
     A: Allocator + Copy,
 >(walk: &mut Walk<'a, T, N, A>, heads: Ordering) -> Result<bool, AllocError>
     requires ready { SmallVecFitsInMemory T.row N.row A.row A.Allocator × HasPlaces walk.old }
-    requires some_left { 0 < length (left_turns walk.old) }
-    requires some_right { 0 < length (right_turns walk.old) }
-    ensures gives { gives_at (passes T.is_clone (keeps LEFT RIGHT BOTH) is_in_a is_in_b built_turns
-        list_name left_turns right_turns) heads walk.old result walk.new }
-    ensures takes { TakesLesser left_turns right_turns
+    requires some_left { 0 < length (left_boundaries walk.old) }
+    requires some_right { 0 < length (right_boundaries walk.old) }
+    ensures gives { gives_at (passes T.is_clone (keeps LEFT RIGHT BOTH) is_in_a is_in_b
+        built_boundaries list_name left_boundaries right_boundaries) heads walk.old result walk.new }
+    ensures takes { TakesLesser left_boundaries right_boundaries
         (λ s. SmallVecFitsInMemory T.row N.row A.row A.Allocator × HasPlaces s)
         heads walk.old result walk.new }
 {
     let in_a = walk.in_a ^ heads.is_le();
     let in_b = walk.in_b ^ heads.is_ge();
     if says::<LEFT, RIGHT, BOTH>(walk.in_a, walk.in_b) != says::<LEFT, RIGHT, BOTH>(in_a, in_b) {
-        let turn = lesser(heads, &walk.a[walk.left], &walk.b[walk.right]).clone()?;
+        let boundary = lesser(heads, &walk.a[walk.left], &walk.b[walk.right]).clone()?;
         let most = walk.most();
         make_room(walk.built, 1, most)?;
-        walk.built.push_reserved(turn);
+        walk.built.push_reserved(boundary);
     }
     walk.in_a = in_a;
     walk.in_b = in_b;
@@ -182,13 +182,13 @@ impl<
     C: Count,
     const N: usize,
     A: Allocator + Copy,
-> MergeOperation<Walk<'a, T, N, A>, C> for TurnsOf<LEFT, RIGHT, BOTH> {
+> MergeOperation<Walk<'a, T, N, A>, C> for BoundariesOf<LEFT, RIGHT, BOTH> {
     ghost order = { λ _. both_sides T.cmp };
 
     ghost ready = { λ _ s. SmallVecFitsInMemory T.row N.row A.row A.Allocator × HasPlaces s };
 
-    ghost gives = { λ _. passes T.is_clone (keeps LEFT RIGHT BOTH) is_in_a is_in_b built_turns
-        list_name left_turns right_turns };
+    ghost gives = { λ _. passes T.is_clone (keeps LEFT RIGHT BOTH) is_in_a is_in_b built_boundaries
+        list_name left_boundaries right_boundaries };
 
     ghost total = { λ _. both_sides-total T.cmp T.total };
 
@@ -238,8 +238,8 @@ impl<
     }
 }
 
-/// The turns of what is in the left set alone if `LEFT`, in the right one alone if `RIGHT`, and in
-/// both if `BOTH`, as clones. `in_a` and `in_b` say what lies below all turns.
+/// The boundaries of what is in the left set alone if `LEFT`, in the right one alone if `RIGHT`,
+/// and in both if `BOTH`, as clones. `in_a` and `in_b` say what lies below all boundaries.
 ///
 /// It allocates at most once, and not where the result fits inline.
 pub fn combine<
@@ -277,6 +277,6 @@ pub fn combine<
         in_b,
         built: &mut built,
     };
-    merge(&mut walk, &TurnsOf::<LEFT, RIGHT, BOTH>, steps)?;
+    merge(&mut walk, &BoundariesOf::<LEFT, RIGHT, BOTH>, steps)?;
     Ok(built)
 }

@@ -12,7 +12,7 @@ ghost use Rattle.vc_merge.specs.Cuts.{IsCut};
 ghost use Rattle.vc_sets.specs.SetOf.{exactly_one};
 ghost use Rattle.vc_intervals.specs.Events.{odd};
 ghost use Rattle.vc_intervals.specs.Listed.{listed};
-ghost use Rattle.vc_intervals.specs.Turns.{intervals, holds, complement, IsClonedIntervals};
+ghost use Rattle.vc_intervals.specs.Boundaries.{intervals, holds, complement, IsClonedIntervals};
 
 mod algebra;
 mod changes;
@@ -33,12 +33,12 @@ use vc_merge::states::clones_of;
 use vc_sets::cloning::ClonesEqual;
 
 /// A set of half-open intervals of an ordered type, kept as the places at which membership changes,
-/// its turns.
+/// its boundaries.
 ///
-/// Contracts see it as the list of these turns, in ascending order, and whether the set has what
-/// lies below all of them. A value is in the set where that answer, negated once for each turn at
-/// or below the value, is true. The interval from 3 on that ends before 7 has the turns 3 and 7. Up
-/// to `N` turns are held inline, without an allocation.
+/// Contracts see it as the list of these boundaries, in ascending order, and whether the set has
+/// what lies below all of them. A value is in the set where that answer, negated once for each
+/// boundary at or below the value, is true. The interval from 3 on that ends before 7 has the
+/// boundaries 3 and 7. Up to `N` boundaries are held inline, without an allocation.
 ///
 /// ```
 /// let open: IntervalSet<u16, 4> = (&IntervalSet::between(alloc, 9, 17)? - &lunch)?;
@@ -46,83 +46,84 @@ use vc_sets::cloning::ClonesEqual;
 /// ```
 #[derive(Drop)]
 pub struct IntervalSet<T: Ord, const N: usize, A: Allocator = Global> {
-    turns: SmallVec<T, N, A>,
+    boundaries: SmallVec<T, N, A>,
     below: bool,
 }
 
 impl<T: Ord, const N: usize, A: Allocator> Model for IntervalSet<T, N, A> {
-    ghost use Rattle.vc_intervals.specs.Turns.{Intervals, intervals, intervals_code};
+    ghost use Rattle.vc_intervals.specs.Boundaries.{Intervals, intervals, intervals_code};
     ghost use Rattle.vc_merge.specs.Ascending.{Ascends};
 
     ghost Value = { Intervals T };
 
     ghost coded = { intervals_code T.code };
 
-    ghost view = { λ s. intervals s.turns.items s.below };
+    ghost view = { λ s. intervals s.boundaries.items s.below };
 
-    ghost invariant = { λ s. Ascends T.cmp s.turns.items };
+    ghost invariant = { λ s. Ascends T.cmp s.boundaries.items };
 }
 
 impl<T: Ord, const N: usize, A: Allocator> IntervalSet<T, N, A> {
     /// The places at which membership changes, in ascending order. Takes no memory.
-    pub fn turns(&self) -> &[T]
-        ensures turns { result.now ≡ self.now.turns }
-        ensures ascends { Ascends T.cmp self.now.turns }
+    pub fn boundaries(&self) -> &[T]
+        ensures boundaries { result.now ≡ self.now.boundaries }
+        ensures ascends { Ascends T.cmp self.now.boundaries }
     {
-        self.turns.as_slice()
+        self.boundaries.as_slice()
     }
 
-    /// Whether the set has what lies below all turns. Takes no memory.
+    /// Whether the set has what lies below all boundaries. Takes no memory.
     pub fn is_unbounded_below(&self) -> bool
         ensures { result ≡ self.now.below }
     {
         self.below
     }
 
-    /// Whether the set has what lies above all turns: then its last interval has no end. Takes no
-    /// memory.
+    /// Whether the set has what lies above all boundaries: then its last interval has no end. Takes
+    /// no memory.
     pub fn is_unbounded_above(&self) -> bool
-        ensures holds { (x : T) → AllByRecursion (λ t. is_le (T.cmp t x) ≡ true) self.now.turns
+        ensures holds { (x : T) → AllByRecursion (λ t. is_le (T.cmp t x) ≡ true) self.now.boundaries
             → result ≡ holds T.cmp self.now x }
         ensures listed { IsTrue result
             ↔ ((start : Bound T) × Contains (listed self.now) (start, Unbounded)) }
     {
-        self.has_behind(self.turns().len())
+        self.has_behind(self.boundaries().len())
     }
 
-    /// Whether the set has no turn, and nothing below all turns. Takes no memory.
+    /// Whether the set has no boundary, and nothing below all boundaries. Takes no memory.
     pub fn is_empty(&self) -> bool
         ensures { IsTrue result ↔ (self.now ≡ intervals [] false) }
     {
-        !self.below && self.turns.is_empty()
+        !self.below && self.boundaries.is_empty()
     }
 
-    /// Whether the set has no turn, and all values. Takes no memory.
+    /// Whether the set has no boundary, and all values. Takes no memory.
     pub fn is_all(&self) -> bool
         ensures { IsTrue result ↔ (self.now ≡ intervals [] true) }
     {
-        self.turns.is_empty() && self.below
+        self.boundaries.is_empty() && self.below
     }
 
-    /// How many turns are at or below a value.
+    /// How many boundaries are at or below a value.
     fn reached(&self, value: &T) -> usize
-        ensures { IsCut (λ t. is_le (T.cmp t value.now)) self.now.turns result }
+        ensures { IsCut (λ t. is_le (T.cmp t value.now)) self.now.boundaries result }
     {
-        match find(self.turns(), value) {
+        match find(self.boundaries(), value) {
             Ok(place) => place + 1,
             Err(place) => place,
         }
     }
 
-    /// Whether the set has what lies after the first `count` of its turns, and before the next one.
+    /// Whether the set has what lies after the first `count` of its boundaries, and before the next
+    /// one.
     fn has_behind(&self, count: usize) -> bool
         ensures { result ≡ exactly_one (odd count) self.now.below }
     {
         self.below ^ is_odd(count)
     }
 
-    /// Whether a value is in the set. Searches the turns once, with fewer than `1.5 * log2(n) + 4`
-    /// comparisons among `n` of them, and takes no memory.
+    /// Whether a value is in the set. Searches the boundaries once, with fewer than `1.5 * log2(n)
+    /// + 4` comparisons among `n` of them, and takes no memory.
     pub fn contains(&self, value: &T) -> bool
         ensures { result ≡ holds T.cmp self.now value.now }
     {
@@ -136,7 +137,7 @@ impl<T: Ord + MadeWith<A> + Drop, const N: usize, A: Allocator + Copy> IntervalS
         ensures { result ≡ intervals [] value }
     {
         IntervalSet {
-            turns: SmallVec::new(alloc),
+            boundaries: SmallVec::new(alloc),
             below: value,
         }
     }
@@ -155,13 +156,13 @@ impl<T: Ord + MadeWith<A> + Drop, const N: usize, A: Allocator + Copy> IntervalS
         Self::constant(alloc, true)
     }
 
-    /// Gives back memory that the turns do not need. Where the allocator refuses, the list stays
-    /// where it is, so the call always succeeds.
+    /// Gives back memory that the boundaries do not need. Where the allocator refuses, the list
+    /// stays where it is, so the call always succeeds.
     pub fn shrink_to_fit(&mut self) -> Result<(), AllocError>
         ensures same { self.new ≡ self.old }
         ensures succeeds { IsOk result }
     {
-        self.turns.shrink_to_fit();
+        self.boundaries.shrink_to_fit();
         Ok(())
     }
 
@@ -170,7 +171,7 @@ impl<T: Ord + MadeWith<A> + Drop, const N: usize, A: Allocator + Copy> IntervalS
     /// The two values are moved. They are compared once, and takes memory only where `N` is less
     /// than 2; on refusal it drops them.
     pub fn between(alloc: A, least: T, end: T) -> Result<Self, AllocError>
-        ensures turns { IfOk result (λ s. s ≡ cond (is_lt (T.cmp least end))
+        ensures boundaries { IfOk result (λ s. s ≡ cond (is_lt (T.cmp least end))
             (intervals (least ∷ end ∷ []) false) (intervals [] false)) }
         ensures holds { IfOk result (λ s. (x : T)
             → holds T.cmp s x ≡ range_contains T.cmp (Included least) (Excluded end) x) }
@@ -179,11 +180,11 @@ impl<T: Ord + MadeWith<A> + Drop, const N: usize, A: Allocator + Copy> IntervalS
         if !least.cmp(&end).is_lt() {
             return Ok(Self::empty(alloc));
         }
-        let mut turns = SmallVec::with_capacity(alloc, 2)?;
-        turns.push_reserved(least);
-        turns.push_reserved(end);
+        let mut boundaries = SmallVec::with_capacity(alloc, 2)?;
+        boundaries.push_reserved(least);
+        boundaries.push_reserved(end);
         Ok(IntervalSet {
-            turns,
+            boundaries,
             below: false,
         })
     }
@@ -191,7 +192,7 @@ impl<T: Ord + MadeWith<A> + Drop, const N: usize, A: Allocator + Copy> IntervalS
     /// The values from `least` on, which is moved. Takes memory only where `N` is 0; on refusal it
     /// drops the value.
     pub fn at_least(alloc: A, least: T) -> Result<Self, AllocError>
-        ensures turns { IfOk result (λ s. s ≡ intervals (least ∷ []) false) }
+        ensures boundaries { IfOk result (λ s. s ≡ intervals (least ∷ []) false) }
         ensures holds { IfOk result (λ s. (x : T)
             → holds T.cmp s x ≡ range_contains T.cmp (Included least) Unbounded x) }
         ensures room { 1 ≤ N → IsOk result }
@@ -199,7 +200,7 @@ impl<T: Ord + MadeWith<A> + Drop, const N: usize, A: Allocator + Copy> IntervalS
         let mut single = SmallVec::new(alloc);
         single.push(least)?;
         Ok(IntervalSet {
-            turns: single,
+            boundaries: single,
             below: false,
         })
     }
@@ -207,7 +208,7 @@ impl<T: Ord + MadeWith<A> + Drop, const N: usize, A: Allocator + Copy> IntervalS
     /// The values that are less than `end`, which is moved. Takes memory only where `N` is 0; on
     /// refusal it drops the value.
     pub fn below(alloc: A, end: T) -> Result<Self, AllocError>
-        ensures turns { IfOk result (λ s. s ≡ intervals (end ∷ []) true) }
+        ensures boundaries { IfOk result (λ s. s ≡ intervals (end ∷ []) true) }
         ensures holds { IfOk result (λ s. (x : T)
             → holds T.cmp s x ≡ range_contains T.cmp Unbounded (Excluded end) x) }
         ensures room { 1 ≤ N → IsOk result }
@@ -251,16 +252,16 @@ impl<T: Ord + MadeWith<A> + Drop, const N: usize, A: Allocator + Copy> IntervalS
 }
 
 impl<T: Ord + Clone + MadeWith<A>, const N: usize, A: Allocator + Copy> IntervalSet<T, N, A> {
-    /// A copy, turn by turn, with the allocator of this set.
+    /// A copy, boundary by boundary, with the allocator of this set.
     ///
-    /// Takes memory where there are more than `N` turns, and as their clones do; on refusal it
+    /// Takes memory where there are more than `N` boundaries, and as their clones do; on refusal it
     /// drops what was copied.
     pub fn clone(&self) -> Result<Self, AllocError>
         requires clones { ClonesAreEqual T.cmp T.is_clone }
         ensures { IfOk result (IsClonedIntervals T.is_clone self.now) }
     {
         Ok(IntervalSet {
-            turns: clones_of(*self.turns.allocator(), self.turns())?,
+            boundaries: clones_of(*self.boundaries.allocator(), self.boundaries())?,
             below: self.below,
         })
     }
@@ -286,8 +287,8 @@ impl<T: Ord + MadeWith<A> + Drop, const N: usize, A: Allocator + Copy> MadeWith<
     }
 }
 
-/// `!a` is all that is not in `a`: the same turns, moved, and the other answer below them. Takes no
-/// memory.
+/// `!a` is all that is not in `a`: the same boundaries, moved, and the other answer below them.
+/// Takes no memory.
 impl<T: Ord, const N: usize, A: Allocator> Not for IntervalSet<T, N, A> {
     type Output = IntervalSet<T, N, A>;
 
@@ -296,13 +297,13 @@ impl<T: Ord, const N: usize, A: Allocator> Not for IntervalSet<T, N, A> {
 
     fn not(self) -> IntervalSet<T, N, A> {
         IntervalSet {
-            turns: self.turns,
+            boundaries: self.boundaries,
             below: !self.below,
         }
     }
 }
 
-/// `!&a` is all that is not in `a`: clones of the turns, and the other answer below them.
+/// `!&a` is all that is not in `a`: clones of the boundaries, and the other answer below them.
 ///
 /// It takes memory as [`clone`](IntervalSet::clone) does; on refusal it drops what was copied.
 impl<'a, T: Ord + Clone + MadeWith<A>, const N: usize, A: Allocator + Copy> Not

@@ -1,9 +1,10 @@
-//! The walk over the turns of two sets that searches for a place, and stops at the first one found.
+//! The walk over the boundaries of two sets that searches for a place, and stops at the first one
+//! found.
 ghost use Rattle.std.specs.Prelude.{◌≡◌, ◌+◌, ◌≤◌, true, false, length, MatchBool, ◌⊎◌};
 ghost use Rattle.vc_merge.specs.Ascending.{Ascends};
 ghost use Rattle.vc_merge.specs.Count.{bound};
 ghost use Rattle.vc_sets.specs.Select.{both_sides, both_sides-total, keeps};
-ghost use Rattle.vc_intervals.specs.Turns.{turned};
+ghost use Rattle.vc_intervals.specs.Boundaries.{toggled};
 ghost use Rattle.vc_intervals.specs.Events.{Seeks};
 
 use crate::combine::{is_odd, says};
@@ -11,8 +12,8 @@ use std::alloc::AllocError;
 use std::cmp::Ordering;
 use vc_merge::merge::{Count, MergeOperation, MergeState, merge};
 
-/// What is left of the turns of two sets, whether the place that the walk has reached is in each of
-/// them, and whether the sought place was found.
+/// What is left of the boundaries of two sets, whether the place that the walk has reached is in
+/// each of them, and whether the sought place was found.
 #[derive(Drop)]
 struct Search<'a, T> {
     a: &'a [T],
@@ -68,8 +69,8 @@ impl<'a, const LEFT: bool, const RIGHT: bool, const BOTH: bool, T: Ord, C: Count
         a.cmp(b)
     }
 
-    // After the first turn of a run, the answers alternate between what they were before it, where
-    // nothing was found, and after it.
+    // After the first boundary of a run, the answers alternate between what they were before it,
+    // where nothing was found, and after it.
     fn from_a(&self, state: &mut Search<'a, T>, n: usize) -> Result<bool, AllocError> {
         state.a = &state.a[n..];
         state.found = says::<LEFT, RIGHT, BOTH>(!state.in_a, state.in_b);
@@ -95,7 +96,7 @@ impl<'a, const LEFT: bool, const RIGHT: bool, const BOTH: bool, T: Ord, C: Count
 }
 
 /// Whether some place is in the left set alone if `LEFT`, in the right one alone if `RIGHT`, in
-/// both if `BOTH`: below all turns, as `in_a` and `in_b` say, or at one of them.
+/// both if `BOTH`: below all boundaries, as `in_a` and `in_b` say, or at one of them.
 pub fn has_witness<const LEFT: bool, const RIGHT: bool, const BOTH: bool, T: Ord, C: Count>(
     a: &[T],
     in_a: bool,
@@ -106,10 +107,10 @@ pub fn has_witness<const LEFT: bool, const RIGHT: bool, const BOTH: bool, T: Ord
     requires a_ascends { Ascends T.cmp a.now }
     requires b_ascends { Ascends T.cmp b.now }
     ensures found { MatchBool result ((keeps LEFT RIGHT BOTH in_a in_b ≡ true)
-        ⊎ ((x : T) × (keeps LEFT RIGHT BOTH (turned T.cmp in_a a.now x) (turned T.cmp in_b b.now x)
-        ≡ true))) ((keeps LEFT RIGHT BOTH in_a in_b ≡ false)
-        × ((x : T) → keeps LEFT RIGHT BOTH (turned T.cmp in_a a.now x) (turned T.cmp in_b b.now x)
-        ≡ false)) }
+        ⊎ ((x : T) × (keeps LEFT RIGHT BOTH (toggled T.cmp in_a a.now x)
+        (toggled T.cmp in_b b.now x) ≡ true))) ((keeps LEFT RIGHT BOTH in_a in_b ≡ false)
+        × ((x : T) → keeps LEFT RIGHT BOTH (toggled T.cmp in_a a.now x)
+        (toggled T.cmp in_b b.now x) ≡ false)) }
     ensures counted { C.counted steps.new
         ≤ C.counted steps.old + bound (length a.now) (length b.now) }
 {

@@ -9,7 +9,7 @@ pub use Rattle.vc_intervals.specs.IntervalsOf
 pub use Rattle.vc_intervals.specs.Laws as IntervalLaws
 pub use Rattle.vc_intervals.specs.Listed
 pub use Rattle.vc_intervals.specs.Ranges
-pub use Rattle.vc_intervals.specs.Turns
+pub use Rattle.vc_intervals.specs.Boundaries
 pub use Rattle.vc_joins.specs.Answers
 pub use Rattle.vc_joins.specs.Entries
 pub use Rattle.vc_joins.specs.Events as JoinEvents

@@ -1,7 +1,7 @@
 //! Each law under its own name: one that is exported under another's leaves a clause here unproved.
 ghost use Rattle.vec_collections.specs.Asking.{MayJudge};
 ghost use Rattle.vec_collections.specs.Chain.{allows};
-ghost use Rattle.vec_collections.specs.IntervalLaws.{MembersTellTheTurns, ListedIntervalsHold, IntervalsOfAreOne};
+ghost use Rattle.vec_collections.specs.IntervalLaws.{MembersTellTheBoundaries, ListedIntervalsHold, IntervalsOfAreOne};
 ghost use Rattle.vec_collections.specs.Join.{ClonedKey};
 ghost use Rattle.vec_collections.specs.JoinLaws.{KindsInWords, JoinsOfEvents, JoinsOfFunctions};
 ghost use Rattle.vec_collections.specs.MergeLaws.{AscendingHaveOneScript, MembersAreElements, MembersTellTheList, TicksStay, DigitsAreLeast, RunsAreBeginnings};
@@ -22,7 +22,7 @@ use crate::laws::{
     complements_turn_operations, cover_is_longest, digits_are_least, inserts_commute,
     intervals_of_are_one, joins_of_events, joins_of_functions, keys_are_ordered,
     kinds_are_as_named, left_behind_is_rest, listed_intervals_hold, mapped_is_pointwise,
-    members_are_elements, members_tell_the_list, members_tell_the_turns, operations_are_as_named,
+    members_are_elements, members_tell_the_list, members_tell_the_boundaries, operations_are_as_named,
     removal_and_retention_part, run_is_function, runs_are_beginnings, script_is_one, set_of_is_one,
     standing_is_at, tests_are_of_operations, ticks_stay, total_operations_are_pointwise,
     total_operations_make_one, total_tests_are_of_operations, walk_is_filtered, walk_is_one,
@@ -87,11 +87,11 @@ pub fn of_total_sets<T: Ord + Clone>()
 
 /// The laws of interval sets.
 pub fn of_interval_sets<T: Ord + Clone>()
-    ensures turns { MembersTellTheTurns T.cmp }
+    ensures boundaries { MembersTellTheBoundaries T.cmp }
     ensures listed { ListedIntervalsHold T.cmp }
     ensures one { IntervalsOfAreOne T.cmp T.is_clone }
 {
-    members_tell_the_turns::<T>();
+    members_tell_the_boundaries::<T>();
     listed_intervals_hold::<T>();
     intervals_of_are_one::<T>();
 }

@@ -91,7 +91,7 @@ pub mod path_filter {
 /// its law in the proof.
 pub mod laws {
     pub use vc_intervals::laws::{
-        intervals_of_are_one, listed_intervals_hold, members_tell_the_turns,
+        intervals_of_are_one, listed_intervals_hold, members_tell_the_boundaries,
     };
     pub use vc_joins::answers::{AskInner, AskLeft, AskOuter, AskRight, Question};
     pub use vc_joins::laws::{joins_of_events, joins_of_functions, kinds_are_as_named};

@@ -28,9 +28,9 @@ fn combine_sets<
     requires clones { ClonesAreEqual T.cmp T.is_clone }
     ensures { IfOk result (IsIntervalsOf T.cmp T.is_clone (keeps LEFT RIGHT BOTH) a.now b.now) }
 {
-    let alloc = *a.turns.allocator();
-    let (left, right) = (a.turns.as_slice(), b.turns.as_slice());
-    let turns = combine::<LEFT, RIGHT, BOTH, _, _, _, _>(
+    let alloc = *a.boundaries.allocator();
+    let (left, right) = (a.boundaries.as_slice(), b.boundaries.as_slice());
+    let boundaries = combine::<LEFT, RIGHT, BOTH, _, _, _, _>(
         alloc,
         left,
         a.below,
@@ -39,18 +39,18 @@ fn combine_sets<
         &mut Uncounted,
     )?;
     Ok(IntervalSet {
-        turns,
+        boundaries,
         below: says::<LEFT, RIGHT, BOTH>(a.below, b.below),
     })
 }
 
 impl<T: Ord + Clone + MadeWith<A>, const N: usize, A: Allocator + Copy> IntervalSet<T, N, A> {
-    /// What is in either set. Its turns are clones, with the allocator of this set; of two equal
-    /// turns that of this set is taken.
+    /// What is in either set. Its boundaries are clones, with the allocator of this set; of two
+    /// equal boundaries that of this set is taken.
     ///
-    /// Makes at most as many comparisons as both sets have turns. It allocates at most once, for as
-    /// many turns as may still come, and not where the result has `N` or fewer. On refusal of
-    /// memory or of a clone it drops what it built.
+    /// Makes at most as many comparisons as both sets have boundaries. It allocates at most once,
+    /// for as many boundaries as may still come, and not where the result has `N` or fewer. On
+    /// refusal of memory or of a clone it drops what it built.
     pub fn union<const M: usize>(&self, that: &IntervalSet<T, M, A>) -> Result<Self, AllocError>
         requires clones { ClonesAreEqual T.cmp T.is_clone }
         ensures { IfOk result (IsIntervalsOf T.cmp T.is_clone ◌||◌ self.now that.now) }
@@ -58,7 +58,7 @@ impl<T: Ord + Clone + MadeWith<A>, const N: usize, A: Allocator + Copy> Interval
         combine_sets::<true, true, true, _, _, _, _>(self, that)
     }
 
-    /// What is in both sets. Its turns, comparisons and memory are as those of
+    /// What is in both sets. Its boundaries, comparisons and memory are as those of
     /// [`union`](IntervalSet::union).
     pub fn intersection<const M: usize>(
         &self,
@@ -70,7 +70,7 @@ impl<T: Ord + Clone + MadeWith<A>, const N: usize, A: Allocator + Copy> Interval
         combine_sets::<false, false, true, _, _, _, _>(self, that)
     }
 
-    /// What is in exactly one of the sets. Its turns, comparisons and memory are as those of
+    /// What is in exactly one of the sets. Its boundaries, comparisons and memory are as those of
     /// [`union`](IntervalSet::union).
     pub fn symmetric_difference<const M: usize>(
         &self,
@@ -82,8 +82,8 @@ impl<T: Ord + Clone + MadeWith<A>, const N: usize, A: Allocator + Copy> Interval
         combine_sets::<true, true, false, _, _, _, _>(self, that)
     }
 
-    /// What is in this set and not in the other. Its turns, comparisons and memory are as those of
-    /// [`union`](IntervalSet::union).
+    /// What is in this set and not in the other. Its boundaries, comparisons and memory are as
+    /// those of [`union`](IntervalSet::union).
     pub fn difference<const M: usize>(
         &self,
         that: &IntervalSet<T, M, A>,
@@ -96,12 +96,12 @@ impl<T: Ord + Clone + MadeWith<A>, const N: usize, A: Allocator + Copy> Interval
 }
 
 impl<T: Ord, const N: usize, A: Allocator> IntervalSet<T, N, A> {
-    /// Whether what is in this set is in the other, at each value and below all turns. It stops at
-    /// the first turn that decides, and takes no memory.
+    /// Whether what is in this set is in the other, at each value and below all boundaries. It
+    /// stops at the first boundary that decides, and takes no memory.
     pub fn is_subset<const M: usize>(&self, that: &IntervalSet<T, M, A>) -> bool
         ensures { IsTrue result ↔ IsIntervalSubset T.cmp self.now that.now }
     {
-        let (left, right) = (self.turns.as_slice(), that.turns.as_slice());
+        let (left, right) = (self.boundaries.as_slice(), that.boundaries.as_slice());
         !has_witness::<true, false, false, _, _>(
             left,
             self.below,
@@ -111,20 +111,20 @@ impl<T: Ord, const N: usize, A: Allocator> IntervalSet<T, N, A> {
         )
     }
 
-    /// Whether what is in the other set is in this one, at each value and below all turns. It stops
-    /// at the first turn that decides, and takes no memory.
+    /// Whether what is in the other set is in this one, at each value and below all boundaries. It
+    /// stops at the first boundary that decides, and takes no memory.
     pub fn is_superset<const M: usize>(&self, that: &IntervalSet<T, M, A>) -> bool
         ensures { IsTrue result ↔ IsIntervalSubset T.cmp that.now self.now }
     {
         that.is_subset(self)
     }
 
-    /// Whether nothing is in both sets, at each value and below all turns. It stops at the first
-    /// turn that decides, and takes no memory.
+    /// Whether nothing is in both sets, at each value and below all boundaries. It stops at the
+    /// first boundary that decides, and takes no memory.
     pub fn is_disjoint<const M: usize>(&self, that: &IntervalSet<T, M, A>) -> bool
         ensures { IsTrue result ↔ IsIntervalDisjoint T.cmp self.now that.now }
     {
-        let (left, right) = (self.turns.as_slice(), that.turns.as_slice());
+        let (left, right) = (self.boundaries.as_slice(), that.boundaries.as_slice());
         !has_witness::<false, false, true, _, _>(
             left,
             self.below,

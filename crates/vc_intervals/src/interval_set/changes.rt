@@ -5,7 +5,7 @@ ghost use Rattle.vc_merge.specs.Clones.{ClonesAreEqual};
 ghost use Rattle.vc_sets.specs.SetOf.{and_not, exactly_one};
 ghost use Rattle.vc_intervals.specs.IntervalsOf.{IsIntervalsOf};
 ghost use Rattle.vc_intervals.specs.Ranges.{in_range};
-ghost use Rattle.vc_intervals.specs.Turns.{holds};
+ghost use Rattle.vc_intervals.specs.Boundaries.{holds};
 
 use super::IntervalSet;
 use std::alloc::{AllocError, Allocator};
@@ -16,14 +16,14 @@ impl<T: Ord + Clone + MadeWith<A>, const N: usize, A: Allocator + Copy> Interval
     /// Adds the values in the range: none, where it is empty. Its ends are moved.
     ///
     /// It is a [`union`](IntervalSet::union) with the range, and makes at most two more comparisons
-    /// than the set has turns. It takes memory for a new list where that has more than `N` turns,
-    /// and for the range where `N` is less than 2. On refusal the set is unchanged.
+    /// than the set has boundaries. It takes memory for a new list where that has more than `N`
+    /// boundaries, and for the range where `N` is less than 2. On refusal the set is unchanged.
     ///
     /// ```
     /// let mut open = IntervalSet::<u16, 4>::between(alloc, 9, 12)?;
     /// open.insert(13..17)?;
     /// open.remove(10..11)?;
-    /// assert!(rt; open.turns() == [9, 10, 11, 12, 13, 17].as_slice());
+    /// assert!(rt; open.boundaries() == [9, 10, 11, 12, 13, 17].as_slice());
     /// ```
     pub fn insert(&mut self, range: Range<T>) -> Result<(), AllocError>
         requires clones { ClonesAreEqual T.cmp T.is_clone }
@@ -33,7 +33,7 @@ impl<T: Ord + Clone + MadeWith<A>, const N: usize, A: Allocator + Copy> Interval
         ensures err { OnErr result (self.new ≡ self.old) }
     {
         let Range { start, end } = range;
-        let added = Self::between(*self.turns.allocator(), start, end)?;
+        let added = Self::between(*self.boundaries.allocator(), start, end)?;
         self.union_with(&added)
     }
 
@@ -47,7 +47,7 @@ impl<T: Ord + Clone + MadeWith<A>, const N: usize, A: Allocator + Copy> Interval
         ensures err { OnErr result (self.new ≡ self.old) }
     {
         let Range { start, end } = range;
-        let gone = Self::between(*self.turns.allocator(), start, end)?;
+        let gone = Self::between(*self.boundaries.allocator(), start, end)?;
         self.difference_with(&gone)
     }
 

@@ -4,7 +4,7 @@ ghost use Rattle.std.specs.BTreeMap.Range.{range_contains};
 ghost use Rattle.std.specs.Iterator.{at_most};
 ghost use Rattle.std.specs.List.{list_any};
 ghost use Rattle.std.specs.Map.Iter.{ShowsInOrder, ShowsInReverse, TakesFirst, TakesLast};
-ghost use Rattle.vc_intervals.specs.Turns.{holds};
+ghost use Rattle.vc_intervals.specs.Boundaries.{holds};
 ghost use Rattle.vc_intervals.specs.Listed.{listed, shown_ends};
 
 use super::IntervalSet;
@@ -20,7 +20,7 @@ use std::ops::Bound;
 /// A step takes no memory.
 #[derive(Drop)]
 pub struct IntervalSetIter<'a, T> {
-    turns: &'a [T],
+    boundaries: &'a [T],
     has_begun: bool,
 }
 
@@ -31,7 +31,7 @@ impl<'a, T> Model for IntervalSetIter<'a, T> {
 
     ghost Value = { List (Bound T × Bound T) };
 
-    ghost view = { λ s. listed_from (begun_start s.has_begun) s.turns.now };
+    ghost view = { λ s. listed_from (begun_start s.has_begun) s.boundaries.now };
 }
 
 impl<'a, T> Iterator for IntervalSetIter<'a, T> {
@@ -45,14 +45,14 @@ impl<'a, T> Iterator for IntervalSetIter<'a, T> {
         let start = if mem::replace(&mut self.has_begun, false) {
             Bound::Unbounded
         } else {
-            let (first, rest) = self.turns.split_first()?;
-            self.turns = rest;
+            let (first, rest) = self.boundaries.split_first()?;
+            self.boundaries = rest;
             Bound::Included(first)
         };
-        let Some((end, rest)) = self.turns.split_first() else {
+        let Some((end, rest)) = self.boundaries.split_first() else {
             return Some((start, Bound::Unbounded));
         };
-        self.turns = rest;
+        self.boundaries = rest;
         Some((start, Bound::Excluded(end)))
     }
 
@@ -66,18 +66,18 @@ impl<'a, T> DoubleEndedIterator for IntervalSetIter<'a, T> {
     ghost next_back_gives = { TakesLast shown_ends };
 
     fn next_back(&mut self) -> Option<(Bound<&'a T>, Bound<&'a T>)> {
-        let end = if self.has_begun ^ is_odd(self.turns.len()) {
+        let end = if self.has_begun ^ is_odd(self.boundaries.len()) {
             Bound::Unbounded
         } else {
-            let (last, rest) = self.turns.split_last()?;
-            self.turns = rest;
+            let (last, rest) = self.boundaries.split_last()?;
+            self.boundaries = rest;
             Bound::Excluded(last)
         };
-        let Some((start, rest)) = self.turns.split_last() else {
+        let Some((start, rest)) = self.boundaries.split_last() else {
             self.has_begun = false;
             return Some((Bound::Unbounded, end));
         };
-        self.turns = rest;
+        self.boundaries = rest;
         Some((Bound::Included(start), end))
     }
 }
@@ -85,8 +85,8 @@ impl<'a, T> DoubleEndedIterator for IntervalSetIter<'a, T> {
 /// How many intervals are left. Takes no memory.
 impl<'a, T> ExactSizeIterator for IntervalSetIter<'a, T> {
     fn len(&self) -> usize {
-        let turns = self.turns.len();
-        turns / 2 + usize::from(self.has_begun | is_odd(turns))
+        let boundaries = self.boundaries.len();
+        boundaries / 2 + usize::from(self.has_begun | is_odd(boundaries))
     }
 }
 
@@ -105,7 +105,7 @@ impl<T: Ord, const N: usize, A: Allocator> IntervalSet<T, N, A> {
         ensures reverse { ShowsInReverse (shown_ends {X = T}) }
     {
         IntervalSetIter {
-            turns: self.turns.as_slice(),
+            boundaries: self.boundaries.as_slice(),
             has_begun: self.below,
         }
     }

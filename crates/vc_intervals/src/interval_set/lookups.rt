@@ -10,23 +10,23 @@ ghost use Rattle.vc_sets.specs.SetOf.{exactly_one};
 ghost use Rattle.vc_intervals.specs.Events.{odd};
 ghost use Rattle.vc_intervals.specs.Listed.{listed, shown_ends};
 ghost use Rattle.vc_intervals.specs.Ranges.{in_range};
-ghost use Rattle.vc_intervals.specs.Turns.{holds};
+ghost use Rattle.vc_intervals.specs.Boundaries.{holds};
 
 use super::IntervalSet;
 use std::alloc::Allocator;
 use std::ops::{Bound, Range};
 
 impl<T: Ord, const N: usize, A: Allocator> IntervalSet<T, N, A> {
-    /// The turns at or below a value, and those above it.
+    /// The boundaries at or below a value, and those above it.
     fn part(&self, value: &T) -> (&[T], &[T])
-        ensures whole { result.0.now ++ result.1.now ≡ self.now.turns }
+        ensures whole { result.0.now ++ result.1.now ≡ self.now.boundaries }
         ensures passed { AllByRecursion (λ t. is_le (T.cmp t value.now) ≡ true) result.0.now }
         ensures ahead { AllByRecursion (λ t. is_le (T.cmp t value.now) ≡ false) result.1.now }
         ensures ascends { Ascends T.cmp result.1.now }
         ensures holds { exactly_one (odd (length result.0.now)) self.now.below
             ≡ holds T.cmp self.now value.now }
     {
-        self.turns().split_at(self.reached(value))
+        self.boundaries().split_at(self.reached(value))
     }
 
     /// The interval that has the value, as [`iter`](IntervalSet::iter) lists it, or none where the
@@ -58,31 +58,31 @@ impl<T: Ord, const N: usize, A: Allocator> IntervalSet<T, N, A> {
         Some((start, end))
     }
 
-    /// The least turn above the value, or none where there is none: up to it, the set has all
+    /// The least boundary above the value, or none where there is none: up to it, the set has all
     /// values from `value` on, or none of them. Compares as often as
     /// [`contains`](IntervalSet::contains), and takes no memory.
     ///
     /// ```
     /// let open = IntervalSet::<u16, 4>::between(alloc, 9, 17)?;
-    /// assert!(rt; open.next_turn(&7) == Some(&9));
-    /// assert!(rt; open.next_turn(&9) == Some(&17));
-    /// assert!(rt; open.next_turn(&17) == None);
+    /// assert!(rt; open.next_boundary(&7) == Some(&9));
+    /// assert!(rt; open.next_boundary(&9) == Some(&17));
+    /// assert!(rt; open.next_boundary(&17) == None);
     /// ```
-    pub fn next_turn(&self, value: &T) -> Option<&T>
-        ensures turn { option_copied result
-            ≡ find (λ t. is_lt (T.cmp value.now t)) self.now.turns }
+    pub fn next_boundary(&self, value: &T) -> Option<&T>
+        ensures boundary { option_copied result
+            ≡ find (λ t. is_lt (T.cmp value.now t)) self.now.boundaries }
         ensures until { (x : T) → is_le (T.cmp value.now x) ≡ true
             → IfSome result (λ t. T.cmp x t.now ≡ Less)
             → holds T.cmp self.now x ≡ holds T.cmp self.now value.now }
-        ensures turns { IfSome result
+        ensures boundaries { IfSome result
             (λ t. holds T.cmp self.now t.now ≡ not (holds T.cmp self.now value.now)) }
     {
         let (_, ahead) = self.part(value);
         ahead.first()
     }
 
-    /// Whether some value of the range is in the set. Searches the turns once, makes at most two
-    /// more comparisons, and takes no memory.
+    /// Whether some value of the range is in the set. Searches the boundaries once, makes at most
+    /// two more comparisons, and takes no memory.
     ///
     /// ```
     /// let open = IntervalSet::<u16, 4>::between(alloc, 9, 17)?;

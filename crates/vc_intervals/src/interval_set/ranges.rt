@@ -3,7 +3,7 @@ ghost use Rattle.std.specs.Prelude.{◌≡◌, ◌+◌, ◌≤◌, ◌-◌, ◌+
 ghost use Rattle.std.specs.List.Sorted.{IsPermutation, IsSortedByKey};
 ghost use Rattle.std.specs.Ordering.{is_lt};
 ghost use Rattle.smallvec.specs.SmallVec.{HasRoomFor, small_vec_len};
-ghost use Rattle.vc_intervals.specs.Turns.{turned, holds};
+ghost use Rattle.vc_intervals.specs.Boundaries.{toggled, holds};
 ghost use Rattle.vc_intervals.specs.Ranges.{in_range, in_some, IsSwept};
 
 use super::IntervalSet;
@@ -21,48 +21,49 @@ fn sort_by_start<T: Ord>(ranges: &mut Vec<Range<T>>)
     ranges.sort_unstable_by(|a, b| a.start.cmp(&b.start));
 }
 
-/// Removes the last turn, unless it is less than `start`.
+/// Removes the last boundary, unless it is less than `start`.
 fn pop_reached<T: Ord + MadeWith<A> + Drop, const N: usize, A: Allocator + Copy>(
-    turns: &mut SmallVec<T, N, A>,
+    boundaries: &mut SmallVec<T, N, A>,
     start: &T,
 ) -> Option<T>
     ensures reached { IfSome result
-        (λ last. (turns.old.items ≡ turns.new.items ++ last ∷ [])
-        × (is_lt (T.cmp last start.now) ≡ false) × (turns.new.capacity ≡ turns.old.capacity)) }
-    ensures passed { IfNone result ((turns.new ≡ turns.old) × ((last : T)
-        → slice_get turns.old.items (length turns.old.items - 1) ≡ Some last
+        (λ last. (boundaries.old.items ≡ boundaries.new.items ++ last ∷ [])
+        × (is_lt (T.cmp last start.now) ≡ false)
+        × (boundaries.new.capacity ≡ boundaries.old.capacity)) }
+    ensures passed { IfNone result ((boundaries.new ≡ boundaries.old) × ((last : T)
+        → slice_get boundaries.old.items (length boundaries.old.items - 1) ≡ Some last
         → is_lt (T.cmp last start.now) ≡ true)) }
 {
-    let is_reached = match turns.as_slice().last() {
+    let is_reached = match boundaries.as_slice().last() {
         Some(last) => !last.cmp(start).is_lt(),
         None => false,
     };
-    if is_reached { turns.pop() } else { None }
+    if is_reached { boundaries.pop() } else { None }
 }
 
 /// Adds a range that starts no earlier than those before it: it extends the last interval where it
 /// meets that one, and otherwise is a new one.
 fn add_last<T: Ord + MadeWith<A> + Drop, const N: usize, A: Allocator + Copy>(
-    turns: &mut SmallVec<T, N, A>,
+    boundaries: &mut SmallVec<T, N, A>,
     range: Range<T>,
 )
-    requires room { HasRoomFor turns.old 2 }
-    requires swept { IsSwept T.cmp range.start turns.old.items }
-    ensures swept { IsSwept T.cmp range.start turns.new.items }
-    ensures added { (x : T) → turned T.cmp false turns.new.items x
-        ≡ (in_range T.cmp range x || turned T.cmp false turns.old.items x) }
-    ensures capacity { turns.new.capacity ≡ turns.old.capacity }
-    ensures len { length turns.new.items ≤ length turns.old.items + 2 }
+    requires room { HasRoomFor boundaries.old 2 }
+    requires swept { IsSwept T.cmp range.start boundaries.old.items }
+    ensures swept { IsSwept T.cmp range.start boundaries.new.items }
+    ensures added { (x : T) → toggled T.cmp false boundaries.new.items x
+        ≡ (in_range T.cmp range x || toggled T.cmp false boundaries.old.items x) }
+    ensures capacity { boundaries.new.capacity ≡ boundaries.old.capacity }
+    ensures len { length boundaries.new.items ≤ length boundaries.old.items + 2 }
 {
     if !range.start.cmp(&range.end).is_lt() {
         return;
     }
     let Range { start, end } = range;
-    match pop_reached(turns, &start) {
-        Some(last) => turns.push_reserved(last.max(end)),
+    match pop_reached(boundaries, &start) {
+        Some(last) => boundaries.push_reserved(last.max(end)),
         None => {
-            turns.push_reserved(start);
-            turns.push_reserved(end);
+            boundaries.push_reserved(start);
+            boundaries.push_reserved(end);
         }
     }
 }
@@ -72,12 +73,13 @@ impl<T: Ord + MadeWith<A> + Drop, const N: usize, A: Allocator + Copy> IntervalS
     /// Their ends are moved.
     ///
     /// Sorts the ranges by their starts in place, with `O(n * log(n))` comparisons. Allocates once,
-    /// for two turns of each range, where that is more than `N`; on refusal it drops the ranges.
+    /// for two boundaries of each range, where that is more than `N`; on refusal it drops the
+    /// ranges.
     ///
     /// ```
     /// let hours = vec![in alloc; 13..17, 9..12, 11..12]?;
     /// let open = IntervalSet::<u16, 4>::from_ranges(alloc, hours)?;
-    /// assert!(rt; open.turns() == [9, 12, 13, 17].as_slice());
+    /// assert!(rt; open.boundaries() == [9, 12, 13, 17].as_slice());
     /// ```
     pub fn from_ranges(alloc: A, ranges: Vec<Range<T>>) -> Result<Self, AllocError>
         ensures holds { IfOk result
@@ -88,12 +90,12 @@ impl<T: Ord + MadeWith<A> + Drop, const N: usize, A: Allocator + Copy> IntervalS
         let mut sorted = ranges;
         sort_by_start(&mut sorted);
         let room = sorted.len().checked_mul(2).ok_or(AllocError)?;
-        let mut turns = SmallVec::with_capacity(alloc, room)?;
+        let mut boundaries = SmallVec::with_capacity(alloc, room)?;
         for range in sorted {
-            add_last(&mut turns, range);
+            add_last(&mut boundaries, range);
         }
         Ok(IntervalSet {
-            turns,
+            boundaries,
             below: false,
         })
     }

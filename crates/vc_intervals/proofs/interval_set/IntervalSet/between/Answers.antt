@@ -9,11 +9,11 @@ unfolding IsStrictlySortedBy
 invariant_of-result g c =
     let less = less-from_is_lt (g.T.Ord.cmp c.args.least c.args.end)
     (sym (ap is_lt c.cmp.ensures) ∙ sym c.is_lt.ensures ∙ c.if-not-is_lt.false) in
-    rw (c.push_reserved-2.ensures.items, c.push_reserved.ensures.items, c.in_ok-turns.ensures.items) ((less, tt), (tt, tt))
+    rw (c.push_reserved-2.ensures.items, c.push_reserved.ensures.items, c.in_ok-boundaries.ensures.items) ((less, tt), (tt, tt))
 
 pub returns-clause-holds : goal.returns-clause-holds
 returns-clause-holds g c x =
     let less = less-from_is_lt (g.T.Ord.cmp c.args.least c.args.end)
     (sym (ap is_lt c.cmp.ensures) ∙ sym c.is_lt.ensures ∙ c.if-not-is_lt.false) in
-    rw (c.push_reserved-2.ensures.items, c.push_reserved.ensures.items, c.in_ok-turns.ensures.items)
+    rw (c.push_reserved-2.ensures.items, c.push_reserved.ensures.items, c.in_ok-boundaries.ensures.items)
     (pair-contains g.T.Ord.cmp g.met.T.Ord.total c.args.least c.args.end x less)

@@ -4,7 +4,7 @@ use Rattle.std.proofs.lemmas.List.Sorted.{list_any-IsPermutation}
 use Rattle.std.specs.List.{AllByRecursion}
 use Rattle.std.specs.List.Sorted.{IsStrictlySortedBy}
 use Rattle.vc_merge.proofs.ListLemmas.{nil-from_length}
-use Rattle.vc_intervals.specs.Turns.{turned}
+use Rattle.vc_intervals.specs.Boundaries.{toggled}
 use Rattle.vc_intervals.specs.Ranges.{in_range, in_some, IsSwept, StartsAscend}
 use Rattle.vc_intervals.proofs.Swept.{all-swept, none-swept, moved-over}
 use Rattle.vc_intervals.proofs.Sorted.{starts-sorted}
@@ -14,9 +14,9 @@ or-false : (p : Bool) → (p || false) ≡ p
 or-false true = refl
 or-false false = refl
 
-pub returns-in_err-turns-clause-room : goal.returns-in_err-turns-clause-room
-returns-in_err-turns-clause-room g c h =
-    let succeeds = c.in_err-turns.ensures.succeeds in
+pub returns-in_err-boundaries-clause-room : goal.returns-in_err-boundaries-clause-room
+returns-in_err-boundaries-clause-room g c h =
+    let succeeds = c.in_err-boundaries.ensures.succeeds in
     let product = rw c.in_ok-room.ensures.ok_part at c.checked_mul.ensures in
     let items = c.sort_by_start.new.ranges.ok in
     absurd (true≢false (sym (succeeds (omega (arith, product.1, items, c.len.ensures, c.sort_by_start.ensures.len)))))
@@ -26,18 +26,18 @@ unfolding IsStrictlySortedBy
 loop-range-init g c =
     let cmp = g.T.Ord.cmp in
     let items = c.into_iter-range-iterator.ensures.into_iter_gives.0 in
-    let none = c.in_ok-turns.ensures.items in
+    let none = c.in_ok-boundaries.ensures.items in
     record {
       can = tt;
       finite = tt;
       room = let product = rw c.in_ok-room.ensures.ok_part at c.checked_mul.ensures in
           let n = ap length items in let no = ap length none in
-          omega (arith, product.1, n, no, c.sort_by_start.new.ranges.ok, c.len.ensures, c.in_ok-turns.ensures.capacity);
+          omega (arith, product.1, n, no, c.sort_by_start.new.ranges.ok, c.len.ensures, c.in_ok-boundaries.ensures.capacity);
       ascends = rw none tt;
       starts = subst (StartsAscend cmp) (sym items) (starts-sorted cmp g.met.T.Ord.total _ c.sort_by_start.ensures.sorted);
-      swept = none-swept cmp g.met.T.Ord.total c.in_ok-turns.turns.items _ none;
-      at = λ x. ap (λ l. in_some cmp l x || turned cmp false c.in_ok-turns.turns.items x) items
-          ∙ ap (λ l. in_some cmp c.sort_by_start.new.ranges.items x || turned cmp false l x) none
+      swept = none-swept cmp g.met.T.Ord.total c.in_ok-boundaries.boundaries.items _ none;
+      at = λ x. ap (λ l. in_some cmp l x || toggled cmp false c.in_ok-boundaries.boundaries.items x) items
+          ∙ ap (λ l. in_some cmp c.sort_by_start.new.ranges.items x || toggled cmp false l x) none
           ∙ or-false (in_some cmp c.sort_by_start.new.ranges.items x)
           ∙ sym (list_any-IsPermutation (λ r. in_range cmp r x) _ _ c.sort_by_start.ensures.permutation);
     }
@@ -49,7 +49,7 @@ add_last-requires g c =
       search rules,
       (
         omega (arith, n, c.loop-range.invariant.room),
-        (subst (AllByRecursion (λ q. IsSwept g.T.Ord.cmp q.start c.loop-range.turns.items)) steps
+        (subst (AllByRecursion (λ q. IsSwept g.T.Ord.cmp q.start c.loop-range.boundaries.items)) steps
             c.loop-range.invariant.swept).0,
       ),
     )
@@ -67,9 +67,9 @@ loop-range-preserved g c =
       room = omega (arith, n, before.room, c.add_last.ensures.len, c.add_last.ensures.capacity);
       ascends = c.add_last.ensures.swept.ascends;
       starts = starts.1;
-      swept = all-swept cmp g.met.T.Ord.total c.in-Some.range.start c.add_last.new.turns.items _ c.add_last.ensures.swept starts.0;
+      swept = all-swept cmp g.met.T.Ord.total c.in-Some.range.start c.add_last.new.boundaries.items _ c.add_last.ensures.swept starts.0;
       at = λ x. moved-over (in_range cmp c.in-Some.range x) _ _ _ _ (c.add_last.ensures.added x)
-          (ap (λ l. in_some cmp l x || turned cmp false c.loop-range.turns.items x) (sym steps) ∙ before.at x);
+          (ap (λ l. in_some cmp l x || toggled cmp false c.loop-range.boundaries.items x) (sym steps) ∙ before.at x);
     }
 
 pub invariant_of-result : goal.invariant_of-result
@@ -79,5 +79,5 @@ pub returns-clause-holds : goal.returns-clause-holds
 returns-clause-holds g c x =
     let len = c.loop-range.range-iterator.rest.ok in
     let none = nil-from_length _ (omega (arith, len, c.in-None.ensures.steps.0)) in
-    ap (λ l. in_some g.T.Ord.cmp l x || turned g.T.Ord.cmp false c.loop-range.turns.items x) (sym none)
+    ap (λ l. in_some g.T.Ord.cmp l x || toggled g.T.Ord.cmp false c.loop-range.boundaries.items x) (sym none)
     ∙ c.loop-range.invariant.at x

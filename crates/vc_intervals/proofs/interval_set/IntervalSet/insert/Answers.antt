@@ -1,6 +1,6 @@
 use Rattle.std.proofs.Common.{◌||◌, ap, ◌∙◌}
 use Rattle.vc_merge.proofs.Parted.{on-ok}
-use Rattle.vc_intervals.specs.Turns.{holds}
+use Rattle.vc_intervals.specs.Boundaries.{holds}
 use Rattle.vc_intervals.proofs.interval_set.IntervalSet.insert.Goals as goal
 
 pub returns-clause-holds : goal.returns-clause-holds

@@ -1,5 +1,5 @@
 use Rattle.std.proofs.Common.{◌↔◌, not, IsTrue, ap, subst, ◌∙◌}
-use Rattle.vc_intervals.specs.Turns.{intervals}
+use Rattle.vc_intervals.specs.Boundaries.{intervals}
 use Rattle.vc_intervals.specs.IntervalsOf.{IsIntervalDisjoint}
 use Rattle.vc_intervals.proofs.Tested.{disjoint-told}
 use Rattle.vc_intervals.proofs.interval_set.IntervalSet.is_disjoint.Goals as goal

@@ -1,5 +1,5 @@
 use Rattle.std.proofs.Common.{◌↔◌, not, IsTrue, ap, subst, ◌∙◌}
-use Rattle.vc_intervals.specs.Turns.{intervals}
+use Rattle.vc_intervals.specs.Boundaries.{intervals}
 use Rattle.vc_intervals.specs.IntervalsOf.{IsIntervalSubset}
 use Rattle.vc_intervals.proofs.Tested.{subset-told}
 use Rattle.vc_intervals.proofs.interval_set.IntervalSet.is_subset.Goals as goal

@@ -2,7 +2,7 @@ use Rattle.core.proofs.iter.runs.Sources.{from_front, from_back}
 use Rattle.std.proofs.Common.{length, sym, ap, subst, ◌∙◌}
 use Rattle.std.specs.Map.Iter.{TakesFirst, TakesLast}
 use Rattle.vc_merge.specs.Ascending.{Ascends}
-use Rattle.vc_intervals.specs.Turns.{intervals, holds}
+use Rattle.vc_intervals.specs.Boundaries.{intervals, holds}
 use Rattle.vc_intervals.specs.Listed.{shown_ends}
 use Rattle.vc_intervals.proofs.OneList.{listed-holds}
 use Rattle.vc_intervals.proofs.interval_set.IntervalSet.iter.Goals as goal

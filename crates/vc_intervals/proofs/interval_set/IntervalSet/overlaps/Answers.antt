@@ -1,6 +1,6 @@
 use Rattle.std.proofs.Common.{◌↔◌, false, IsTrue, refl, sym, ap, subst, ◌∙◌}
 use Rattle.std.specs.Ordering.{is_lt}
-use Rattle.vc_intervals.specs.Turns.{turned}
+use Rattle.vc_intervals.specs.Boundaries.{toggled}
 use Rattle.vc_intervals.proofs.Ranged.{less-from_is_lt}
 use Rattle.vc_intervals.proofs.Around.{Overlap, overlap-next, overlap-last, range-start}
 use Rattle.vc_intervals.proofs.interval_set.IntervalSet.overlaps.Goals as goal
@@ -24,7 +24,7 @@ returns-in-Some g c =
     let cmp = g.T.Ord.cmp in
     let set = c.args.self.now in
     let range = c.args.range.now in
-    let lacks = ap (λ l. turned cmp set.below l range.start) c.part.ensures.whole
+    let lacks = ap (λ l. toggled cmp set.below l range.start) c.part.ensures.whole
     ∙ sym c.part.ensures.holds ∙ sym c.has_behind.ensures ∙ c.if-has_behind.false in
     subst (λ l. IsTrue c.is_lt-in-Some.result ↔ Overlap cmp g.met.T.Ord.total set.below l range.start range.end)
     c.part.ensures.whole
@@ -37,7 +37,7 @@ returns-in-None g c =
     let cmp = g.T.Ord.cmp in
     let set = c.args.self.now in
     let range = c.args.range.now in
-    let lacks = ap (λ l. turned cmp set.below l range.start) c.part.ensures.whole
+    let lacks = ap (λ l. toggled cmp set.below l range.start) c.part.ensures.whole
     ∙ sym c.part.ensures.holds ∙ sym c.has_behind.ensures ∙ c.if-has_behind.false in
     subst (λ l. IsTrue false ↔ Overlap cmp g.met.T.Ord.total set.below l range.start range.end) c.part.ensures.whole
     (overlap-last cmp g.met.T.Ord.total set.below _ _ range.start range.end c.part.ensures.ascends c.part.ensures.passed

@@ -8,12 +8,12 @@ pub returns-in-Ok : goal.returns-in-Ok
 returns-in-Ok g c =
     let x = c.args.value.now in
     let cmp = g.T.Ord.cmp in
-    subst (λ l. IsCut (λ t. is_le (cmp t x)) l (c.in-Ok.place + 1)) c.turns.ensures.turns
+    subst (λ l. IsCut (λ t. is_le (cmp t x)) l (c.in-Ok.place + 1)) c.boundaries.ensures.boundaries
     (cut-found (λ y. cmp y x) true _ _ c.in-Ok.ensures)
 
 pub returns-in-Err : goal.returns-in-Err
 returns-in-Err g c =
     let x = c.args.value.now in
     let cmp = g.T.Ord.cmp in
-    subst (λ l. IsCut (λ t. is_le (cmp t x)) l c.in-Err.place) c.turns.ensures.turns
+    subst (λ l. IsCut (λ t. is_le (cmp t x)) l c.in-Err.place) c.boundaries.ensures.boundaries
     (cut-gap (λ y. cmp y x) true _ _ c.in-Err.ensures)

@@ -8,7 +8,7 @@ use Rattle.vc_intervals.proofs.interval_set.iteration.IntervalSetIterDoubleEnded
 
 pub returns-clause-steps : goal.returns-clause-steps
 returns-clause-steps g c =
-    let ts = c.self.inside.turns.now in
+    let ts = c.self.inside.boundaries.now in
     let begun = c.self.inside.has_begun in
     let rest = c.in-Some.rest.now in
     let start = c.in-Some.start.now in
@@ -16,7 +16,7 @@ returns-clause-steps g c =
       | then-self-is_odd w ↦
           sym c.self.view_is
           ∙ last-open begun c.is_odd.result ts rest start c.is_odd.ensures w.if-self-is_odd.true
-          (sym (ap (λ s. s.turns.now) w.self-inside-is) ∙ c.in-Some.ensures.cases.0)
+          (sym (ap (λ s. s.boundaries.now) w.self-inside-is) ∙ c.in-Some.ensures.cases.0)
           ∙ ap (λ b. listed_from (begun_start b) rest ++ (Included start, Unbounded) ∷ [])
           (sym (ap (λ s. s.has_begun) w.self-inside-is))
           ∙ ap (λ e. listed_from (begun_start c.if-self-is_odd.self-inside.has_begun) rest
@@ -25,7 +25,7 @@ returns-clause-steps g c =
           sym c.self.view_is
           ∙ last-closed begun c.is_odd.result ts w.in_ok-last.rest.now rest start w.in_ok-last.last.now c.is_odd.ensures
           w.if-self-is_odd.false w.in_ok-last.ensures.cases.0
-          (sym (ap (λ s. s.turns.now) w.self-inside-is) ∙ c.in-Some.ensures.cases.0)
+          (sym (ap (λ s. s.boundaries.now) w.self-inside-is) ∙ c.in-Some.ensures.cases.0)
           ∙ ap (λ b. listed_from (begun_start b) rest ++ (Included start, Excluded w.in_ok-last.last.now) ∷ [])
           (sym (ap (λ s. s.has_begun) w.self-inside-is))
           ∙ ap (λ e. listed_from (begun_start c.if-self-is_odd.self-inside.has_begun) rest

@@ -6,6 +6,6 @@ use Rattle.vc_intervals.proofs.interval_set.iteration.IntervalSetIterExactSizeIt
 pub returns-clause-value : goal.returns-clause-value
 returns-clause-value g c =
     let begun = c.self.inside.has_begun in
-    listed-count begun c.self.inside.turns.now c.from.result
+    listed-count begun c.self.inside.boundaries.now c.from.result
     (c.from.ensures ∙ ap (λ b. from_bool (begun || b)) c.is_odd.ensures)
     ∙ ap length c.self.view_is
