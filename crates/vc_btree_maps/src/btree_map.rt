@@ -145,8 +145,8 @@ pub trait AbstractBTreeMap<K: Ord, V> {
         fresh::join_right(alloc, self, that, &AskRight(&f))
     }
 
-    /// The map of the answers of `f`, which is called at each key of both maps. `f` sees the keys of
-    /// the other map, and the result has clones of these.
+    /// The map of the answers of `f`, which is called at each key of both maps. `f` sees the keys
+    /// of the other map, and the result has clones of these.
     ///
     /// It looks up each key at which `f` is called, and inserts each answer under a clone of the
     /// key. Where a clone, memory or the closure is refused, what was built is dropped.

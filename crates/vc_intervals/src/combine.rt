@@ -153,7 +153,8 @@ fn pass_heads<
     requires some_left { 0 < length (left_boundaries walk.old) }
     requires some_right { 0 < length (right_boundaries walk.old) }
     ensures gives { gives_at (passes T.is_clone (keeps LEFT RIGHT BOTH) is_in_a is_in_b
-        built_boundaries list_name left_boundaries right_boundaries) heads walk.old result walk.new }
+        built_boundaries list_name left_boundaries right_boundaries)
+        heads walk.old result walk.new }
     ensures takes { TakesLesser left_boundaries right_boundaries
         (λ s. SmallVecFitsInMemory T.row N.row A.row A.Allocator × HasPlaces s)
         heads walk.old result walk.new }

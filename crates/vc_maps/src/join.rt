@@ -72,7 +72,8 @@ pub trait JoinState<K, V, W, Q>: MergeStateMut<A = (K, V), B = (K, W)> {
             (Self.left self.old) (Self.right self.old) }
         ensures gives { AsksOne (asks_a question.now) (asks_b question.now)
             (asks_both question.now) heads self.old result self.new }
-        ensures passes { TakesLesser Self.left Self.right Self.ready heads self.old result self.new }
+        ensures passes { TakesLesser Self.left Self.right Self.ready heads self.old result
+            self.new }
     {
         match heads {
             Ordering::Less => self.ask_a(question, 1),
@@ -89,7 +90,8 @@ pub trait JoinState<K, V, W, Q>: MergeStateMut<A = (K, V), B = (K, W)> {
         requires some_right { 0 < length (Self.right self.old) }
         requires differ { heads ≡ Equal → ⊥ }
         ensures gives { PassesOne Self.advances_a Self.skips_b heads self.old result self.new }
-        ensures passes { TakesLesser Self.left Self.right Self.ready heads self.old result self.new }
+        ensures passes { TakesLesser Self.left Self.right Self.ready heads self.old result
+            self.new }
     {
         if heads.is_le() {
             self.advance_a(1, false)

@@ -115,7 +115,8 @@ impl<K: Ord, V, const N: usize, A: Allocator> VecMap<K, V, N, A> {
     /// }
     /// ```
     pub fn get_mut(&mut self, key: &K) -> Option<&mut V>
-        ensures* writes_back { sem 𝓛 (lends_value K.row V.row N.row A.row K.Ord A.Allocator self.entry key.now result) }
+        ensures* writes_back { sem 𝓛 (lends_value K.row V.row N.row A.row K.Ord A.Allocator
+            self.entry key.now result) }
         ensures value { option_copied_mut result ≡ value_at K.cmp self.old key.now }
     {
         match find_key(self.pairs.as_slice(), key) {

@@ -227,9 +227,11 @@ fn end_inside<
 ) -> Result<Vec<O::Made>, AllocError>
     requires left { left ≤ length others.now }
     requires doing { IsDoing K.cmp A.tree B.tree i 0 (values K.cmp) (O.says op.now) (O.asks op.now)
-        (a.now ∷ []) others.now [] (drop (length others.now - left) others.now) (map O.Made.tree made.items) }
+        (a.now ∷ []) others.now [] (drop (length others.now - left) others.now)
+        (map O.Made.tree made.items) }
     ensures { IfOk result (λ all. AreMadeOf K.cmp (O.says op.now)
-        (shortened_in A.tree i (a.now ∷ [])) (seen B.tree others.now) (seen O.Made.tree all.items)) }
+        (shortened_in A.tree i (a.now ∷ [])) (seen B.tree others.now)
+        (seen O.Made.tree all.items)) }
 {
     let after = others.split_at(others.len() - left).1;
     add_rights::<K, V, W, A, B, O>(alloc, after, op, &mut made)?;
@@ -303,7 +305,8 @@ fn end_within<
 ) -> Result<Vec<O::Made>, AllocError>
     requires left { left ≤ length trees.now }
     requires doing { IsDoing K.cmp A.tree B.tree 0 j (values K.cmp) (O.says op.now) (O.asks op.now)
-        trees.now (b.now ∷ []) (drop (length trees.now - left) trees.now) [] (map O.Made.tree made.items) }
+        trees.now (b.now ∷ []) (drop (length trees.now - left) trees.now) []
+        (map O.Made.tree made.items) }
     ensures { IfOk result (λ all. AreMadeOf K.cmp (O.says op.now)
         (seen A.tree trees.now) (shortened_in B.tree j (b.now ∷ [])) (seen O.Made.tree all.items)) }
 {

@@ -209,7 +209,8 @@ fn write_in<K: TKey, V: TValue, T: Build<K, V>, R: Drop, W: Write<V, R>>(
 ) -> Result<R, AllocError>
     requires leads { LeadsTo K.cmp (seen T.tree (T.Children.items children.old)) rest.now i }
     requires canonical { AreChildren K.cmp (seen T.tree (T.Children.items children.old)) }
-    requires bound { IsSome (lookup_in K.cmp (seen T.tree (T.Children.items children.old)) rest.now) }
+    requires bound { IsSome (lookup_in K.cmp (seen T.tree (T.Children.items children.old))
+        rest.now) }
     requires takes { CanChange T.keeps (W.takes writer)
         (lookup_in K.cmp (seen T.tree (T.Children.items children.old)) rest.now) }
     ensures ok { IfOk result (λ r. WrittenIn T.keeps (W.may writer) K.cmp rest.now r

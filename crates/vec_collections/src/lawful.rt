@@ -22,11 +22,11 @@ use crate::laws::{
     complements_turn_operations, cover_is_longest, digits_are_least, inserts_commute,
     intervals_of_are_one, joins_of_events, joins_of_functions, keys_are_ordered,
     kinds_are_as_named, left_behind_is_rest, listed_intervals_hold, mapped_is_pointwise,
-    members_are_elements, members_tell_the_list, members_tell_the_boundaries, operations_are_as_named,
-    removal_and_retention_part, run_is_function, runs_are_beginnings, script_is_one, set_of_is_one,
-    standing_is_at, tests_are_of_operations, ticks_stay, total_operations_are_pointwise,
-    total_operations_make_one, total_tests_are_of_operations, walk_is_filtered, walk_is_one,
-    walks_by_prefix,
+    members_are_elements, members_tell_the_boundaries, members_tell_the_list,
+    operations_are_as_named, removal_and_retention_part, run_is_function, runs_are_beginnings,
+    script_is_one, set_of_is_one, standing_is_at, tests_are_of_operations, ticks_stay,
+    total_operations_are_pointwise, total_operations_make_one, total_tests_are_of_operations,
+    walk_is_filtered, walk_is_one, walks_by_prefix,
 };
 use crate::merge::{Count, MergeOperation, MergeState};
 use std::alloc::AllocError;

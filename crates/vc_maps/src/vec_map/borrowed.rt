@@ -53,7 +53,8 @@ impl<K: Ord, V, const N: usize, A: Allocator> VecMap<K, V, N, A> {
     /// }
     /// ```
     pub fn get_mut_by<Q: Borrowed<K>>(&mut self, sought: Q) -> Option<&mut V>
-        ensures* writes_back { sem 𝓛 (lends_value_by K.row V.row N.row A.row K.Ord A.Allocator self.entry (Q.side sought) result) }
+        ensures* writes_back { sem 𝓛 (lends_value_by K.row V.row N.row A.row K.Ord A.Allocator
+            self.entry (Q.side sought) result) }
         ensures value { option_copied_mut result ≡ value_by (Q.side sought) self.old }
 
         // It answers as `get_mut` does by any key that is equal to the form.

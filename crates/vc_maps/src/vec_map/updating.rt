@@ -148,7 +148,8 @@ where
         make: F,
     ) -> Result<&mut V, AllocError>
         requires callable { value_at K.cmp self.old key ≡ None → F.pre make }
-        ensures* writes_back { sem 𝓛 (lends_bound K.row V.row N.row A.row K.Ord A.Allocator self.entry key result) }
+        ensures* writes_back { sem 𝓛 (lends_bound K.row V.row N.row A.row K.Ord A.Allocator
+            self.entry key result) }
         ensures value { IfOk result (λ lent.
             UnwrapsOrElse (value_at K.cmp self.old key) (F.post make) lent.now) }
 
