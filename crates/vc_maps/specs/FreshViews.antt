@@ -1,7 +1,6 @@
 -- What a contract sees of a `FreshState`.
 use Rattle.std.specs.Prelude.{List, drop}
 use Rattle.std.specs.Borrow.{MutBor}
-use Rattle.smallvec.specs.SmallVec.{SmallVec}
 use base.Fml.{GName}
 use Rattle.vc_maps.specs.declared.fresh.FreshState.{FreshState}
 
@@ -21,7 +20,3 @@ module _ {K V W S : Type 0} where
   -- which list is appended to
   abbrev pub list_name : FreshState K V W S → GName
   list_name s = s.built.ghost_name
-
--- what the list holds now
-abbrev pub appended_pairs : {K V W X : Type 0} → FreshState K V W (SmallVec (K × X)) → List (K × X)
-appended_pairs s = s.built.now.items

@@ -58,6 +58,20 @@ where
     }
 }
 
+/// A list on the heap: a push asks whether it is full, and not where its pairs are.
+impl<K: Drop, X: Drop, A: Allocator + Copy> PairList for Vec<(K, X), A> {
+    type Key = K;
+
+    type Value = X;
+
+    ghost pairs = { λ list. list.items };
+
+    #[inline(always)]
+    fn append(&mut self, key: K, value: X) -> Result<(), AllocError> {
+        Ok(self.push((key, value))?)
+    }
+}
+
 /// Two maps that are joined, with a position in each, and the list of the answers.
 ///
 /// The slices are kept whole, and only the positions move: so an event passes a pair without a
@@ -351,6 +365,38 @@ fn room_of<const N: usize>(kind: JoinKind, left: usize, right: usize) -> usize {
     }
 }
 
+/// Appends the join of two lists of pairs that ascend by key to an empty list.
+fn join_onto<
+    K: Ord + Clone + Drop,
+    V,
+    W,
+    X: Drop,
+    S: PairList<Key = K, Value = X>,
+    Q: Question<K, V, W, X>,
+    C: Count,
+>(
+    built: &mut S,
+    this: &[(K, V)],
+    that: &[(K, W)],
+    kind: JoinKind,
+    question: &Q,
+    steps: &mut C,
+) -> Result<(), AllocError>
+    requires empty { S.pairs built.old ≡ [] }
+    requires this_ascends { AscendsByKey K.cmp this.now }
+    requires that_ascends { AscendsByKey K.cmp that.now }
+    requires clones { ClonesAreEqual K.cmp K.is_clone }
+    requires takes { TakesEach K.cmp kind (Q.takes question.now) this.now that.now }
+    ensures joins { OnOk result (IsJoin K.cmp kind left_spelling this.now that.now
+        (λ a r. Q.may question.now a (Ok r)) (ClonedKey K.is_clone) (S.pairs built.new)) }
+    ensures counted { C.counted steps.new
+        ≤ C.counted steps.old + bound (length this.now) (length that.now) }
+{
+    let mut state = FreshState::new(this, that, built);
+    merge(&mut state, &JoinOp { kind, question }, steps)?;
+    Ok(())
+}
+
 /// The join of two lists of pairs that ascend by key.
 ///
 /// Asks at most once for each key, in ascending order, and reserves its room first.
@@ -383,9 +429,13 @@ where
         ≤ C.counted steps.old + bound (length this.now) (length that.now) }
 {
     let room = room_of::<N>(kind, this.len(), that.len());
-    let mut built = SmallVec::with_capacity(alloc, room)?;
-    let mut state = FreshState::new(this, that, &mut built);
-    merge(&mut state, &JoinOp { kind, question }, steps)?;
+    if room > N {
+        let mut built = Vec::with_capacity(alloc, room)?;
+        join_onto(&mut built, this, that, kind, question, steps)?;
+        return Ok(SmallVec::from_vec(built));
+    }
+    let mut built = SmallVec::new(alloc);
+    join_onto(&mut built, this, that, kind, question, steps)?;
     Ok(built)
 }
 

@@ -1,11 +1,11 @@
 use Rattle.std.proofs.Common.{ap, arith, Ok}
 use Rattle.vc_joins.specs.Join.{ClonedKey}
 use Rattle.vc_merge.proofs.Clones.{clone-equal}
-use Rattle.vc_maps.specs.FreshViews.{appended_pairs, list_name}
+use Rattle.vc_maps.specs.FreshViews.{list_name}
 use Rattle.vc_maps.proofs.Asked.{both-ascend, can-ask}
 use Rattle.vc_maps.proofs.Asking.{asked-kind}
 use Rattle.vc_maps.proofs.Joined.{merged-join}
-use Rattle.vc_maps.proofs.fresh.join.Goals as goal
+use Rattle.vc_maps.proofs.fresh.join_onto.Goals as goal
 
 pub merge-requires-clause-ready : goal.merge-requires-clause-ready
 merge-requires-clause-ready g c =
@@ -24,10 +24,10 @@ merge-requires-clause-ascend g c =
 pub returns-clause-joins : goal.returns-clause-joins
 returns-clause-joins g c =
     merged-join (λ a r. g.Q.Question.may c.args.question.now a (Ok r)) (ClonedKey g.K.Clone.is_clone) c.args.kind
-    appended_pairs list_name _ g.met.K.Ord.total
+    (λ s. g.S.PairList.pairs s.built.now) list_name _ g.met.K.Ord.total
     (λ a k i h. clone-equal g.K.Ord.cmp g.met.K.Ord.total g.K.Clone.is_clone c.requires.clones _ _ h)
     (record { from_a = λ s t n r h. h; from_b = λ s t n r h. h; collision = λ s t r h. h }) _ _ _ _ _
     c.new-state.ensures.a c.new-state.ensures.b
-    (rw c.new-state.ensures.same_reference c.in_ok-built.ensures.items)
+    (rw c.new-state.ensures.same_reference c.requires.empty)
     (λ e. let k = c.new-state.ensures.same_reference in let n = ap (λ r. r.ghost_name) k in grind arith)
     c.in_ok-merge.ensures.merged
