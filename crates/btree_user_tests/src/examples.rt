@@ -1,5 +1,5 @@
-//! Worked examples of each join that builds a `BTreeMap`, with answers from outside and the
-//! questions counted.
+//! Worked examples of each join that builds a `BTreeMap`, with independent answers, and the calls
+//! of closures counted.
 
 use crate::outcomes::holds;
 use std::alloc::{AllocError, Global};
@@ -40,12 +40,12 @@ pub(crate) fn is_map(map: &Map, pairs: &[(u32, char, u32)]) -> bool {
         ) == *pair)
 }
 
-/// Counts a question.
+/// Counts a call of a closure.
 pub(crate) fn count(asked: &Cell<u32>) {
     asked.set(asked.get().saturating_add(1));
 }
 
-/// The left value, or else the right one.
+/// The left value, or otherwise the right one.
 fn outer(left: &Map, right: &Map, alloc: Global, asked: &Cell<u32>) -> Result<Map, AllocError> {
     left.outer_join(alloc, right, |arg: OuterJoinArg<&Marked, &u32, &u32>| {
         count(asked);
@@ -74,7 +74,7 @@ fn left_shared(
     )
 }
 
-/// The left value, or else the right one, at the keys of the right map.
+/// The left value, or otherwise the right one, at the keys of the right map.
 fn right_first(
     left: &Map,
     right: &Map,
@@ -99,12 +99,12 @@ fn inner(left: &Map, right: &Map, alloc: Global, asked: &Cell<u32>) -> Result<Ma
     })
 }
 
-/// Whether what was made has these pairs, and so many questions were asked.
+/// Whether the result has these pairs, and the closure was called this number of times.
 fn is_made(made: Map, pairs: &[(u32, char, u32)], asked: &Cell<u32>, questions: u32) -> bool {
     is_map(&made, pairs) && asked.replace(0) == questions
 }
 
-/// Whether the joins of the two maps are as worked out.
+/// Whether the joins of the two maps are as expected.
 fn joins_agree(left: &Map, right: &Map, alloc: Global) -> Result<bool, AllocError> {
     let asked = Cell::new(0);
     let all = outer(left, right, alloc, &asked)?;
@@ -117,7 +117,7 @@ fn joins_agree(left: &Map, right: &Map, alloc: Global) -> Result<bool, AllocErro
     Ok(are_outer && are_left && are_right && is_made(both, &[(2, 'b', 20)], &asked, 1))
 }
 
-/// Whether they are of `{1: 10, 2: 20}` and `{2: 5, 3: 7}`.
+/// Whether the joins of `{1: 10, 2: 20}` and `{2: 5, 3: 7}` are as expected.
 fn examples_agree(alloc: Global) -> Result<bool, AllocError> {
     let left = map_of(alloc, 'a', &[(1, 10), (2, 20)])?;
     let right = map_of(alloc, 'b', &[(2, 5), (3, 7)])?;

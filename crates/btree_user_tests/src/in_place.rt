@@ -1,5 +1,5 @@
-//! Worked examples of each join in place, with the questions counted and the spelling of the keys
-//! that were shown.
+//! Worked examples of each join in place, with the calls of closures counted, and which of two
+//! equal keys they got.
 
 use crate::examples::{Map, Marked, count, is_map, map_of};
 use crate::outcomes::holds;
@@ -7,20 +7,20 @@ use std::alloc::{AllocError, Global};
 use std::cell::Cell;
 use vc_btree_maps::btree_map::InPlaceRelationalOps;
 
-/// What the closures were asked.
+/// The calls that the closures got.
 #[derive(Drop)]
 struct Asked {
-    /// How often at keys of both maps.
+    /// The number of calls at keys of both maps.
     shared: Cell<u32>,
-    /// How often at keys of this map alone.
+    /// The number of calls at keys of only this map.
     alone: Cell<u32>,
-    /// How often at keys of the other map alone.
+    /// The number of calls at keys of only the other map.
     other_alone: Cell<u32>,
-    /// Whether a key of both was shown in another spelling than it should be.
+    /// Whether the wrong one of two equal keys was passed.
     misspelled: Cell<bool>,
-    /// Whether a value of this map was shown before the last key of the other map alone.
+    /// Whether a value of this map was passed before the last key of only the other map.
     early: Cell<bool>,
-    /// The digits of the keys that were shown, one question after another.
+    /// The digits of the keys that were passed, one call after another.
     keys: Cell<u64>,
 }
 
@@ -36,13 +36,13 @@ impl Asked {
         }
     }
 
-    /// Notes the key of a question.
+    /// Records the key of a call.
     fn note(&self, key: &Marked) {
         let digits = self.keys.get().saturating_mul(10);
         self.keys.set(digits.saturating_add(u64::from(key.number)));
     }
 
-    /// Notes a question at a key of this map, and adds the other value, where there is one. Answers
+    /// Records a call at a key of this map, and adds the other value, where there is one. Answers
     /// whether there is.
     fn add(&self, mark: char, key: &Marked, value: &mut u32, other: Option<&u32>) -> bool {
         self.note(key);
@@ -62,8 +62,8 @@ impl Asked {
         }
     }
 
-    /// Whether just these questions were asked: at shared keys, at keys of this map alone, at keys
-    /// of the other one alone; and at these keys, by their digits.
+    /// Whether exactly these calls were made: at shared keys, at keys of only this map, at keys of
+    /// only the other one; and at these keys, by their digits.
     fn is(&self, shared: u32, alone: u32, other_alone: u32, keys: u64) -> bool {
         !self.misspelled.get()
             && self.keys.get() == keys
@@ -79,7 +79,7 @@ fn left(alloc: Global) -> Result<Map, AllocError> {
     map_of(alloc, 'a', &[(1, 10), (2, 20)])
 }
 
-/// Keeps shared values as they are.
+/// Keeps shared values unchanged.
 fn inner(mut map: Map, right: &Map, asked: &Asked) -> Map {
     map.inner_join_with(right, |key: &Marked, value: &mut u32, other: &u32| {
         let before = *value;
@@ -118,8 +118,8 @@ fn right_sums(mut map: Map, right: &Map, keeps: bool, asked: &Asked) -> Map {
     map
 }
 
-/// Adds and keeps at shared keys, takes the other map's values, of which there are `others` alone,
-/// and drops this one's.
+/// Adds and keeps at shared keys, takes the other map's values, `others` of which have keys of only
+/// that map, and drops this one's.
 fn outer_sums(alloc: Global, right: &Map, others: u32, asked: &Asked) -> Result<Map, AllocError> {
     let mut map = left(alloc)?;
     map.outer_join_with(
@@ -140,7 +140,7 @@ fn outer_sums(alloc: Global, right: &Map, others: u32, asked: &Asked) -> Result<
     Ok(map)
 }
 
-/// Whether the inner join with a map of these pairs is as worked out.
+/// Whether the inner join with a map of these pairs is as expected.
 fn is_inner(alloc: Global, others: &[(u32, u32)]) -> Result<bool, AllocError> {
     let right = map_of(alloc, 'b', others)?;
     let asked = Asked::new();
@@ -148,14 +148,14 @@ fn is_inner(alloc: Global, others: &[(u32, u32)]) -> Result<bool, AllocError> {
     Ok(is_map(&map, &[(2, 'a', 20)]) && asked.is(1, 0, 0, 2))
 }
 
-/// Maps that share two keys, with a key of each alone between them: `{1: 10, 2: 20, 4: 40}` and
+/// Maps that share two keys, with a key of only one map between them: `{1: 10, 2: 20, 4: 40}` and
 /// `{1: 1, 3: 3, 4: 4}`.
 fn two_shared(alloc: Global) -> Result<(Map, Map), AllocError> {
     let left = map_of(alloc, 'a', &[(1, 10), (2, 20), (4, 40)])?;
     Ok((left, map_of(alloc, 'b', &[(1, 1), (3, 3), (4, 4)])?))
 }
 
-/// Whether inner and right joins of these ask at each key in ascending order.
+/// Whether inner and right joins of these call their closure for each key in ascending order.
 fn are_asked_in_order(alloc: Global) -> Result<bool, AllocError> {
     let (left, right) = two_shared(alloc)?;
     let asked = Asked::new();
@@ -192,8 +192,8 @@ fn joins_in_place_ask_in_ascending_order(rt: HostRuntime) {
     holds(&rt, &"the order", are_asked_in_order(rt.alloc()));
 }
 
-/// Whether the right join, which keeps sums or drops them, leaves these pairs and asks as worked
-/// out.
+/// Whether the right join, which keeps sums or drops them, leaves these pairs and makes the
+/// expected calls.
 fn is_right(alloc: Global, keeps: bool, pairs: &[(u32, char, u32)]) -> Result<bool, AllocError> {
     let right = map_of(alloc, 'b', &[(2, 5), (3, 7)])?;
     let asked = Asked::new();
@@ -209,8 +209,8 @@ fn right_joins_in_place_insert_nothing(rt: HostRuntime) {
     holds(&rt, &"sums that go", none);
 }
 
-/// Whether the outer join with a map of these pairs, of which so many keys are its alone, makes
-/// those pairs and asks as worked out, at these keys.
+/// Whether the outer join with a map of these pairs makes those pairs, and makes the expected calls
+/// at these keys. `alone` is the number of keys that only that map has.
 fn is_outer(
     alloc: Global,
     others: &[(u32, u32)],

@@ -1,4 +1,4 @@
-//! A crate that uses joins of maps from outside: worked examples, joins in place, and a refused
+//! A crate that uses joins of maps as a user does: worked examples, joins in place, and a refused
 //! one.
 #![tactic(auto)]
 

@@ -7,7 +7,7 @@ use std::cell::Cell;
 use std::collections::BTreeMap;
 use vc_btree_maps::btree_map::InPlaceRelationalOps;
 
-/// A number that may refuse to be cloned. The number alone counts in comparisons.
+/// A number that may refuse to be cloned. Only the number counts in comparisons.
 #[derive_where(Debug, PartialEq, Eq, PartialOrd, Ord)]
 #[derive(Drop)]
 struct Held {
@@ -30,7 +30,7 @@ impl Clone for Held {
     }
 }
 
-/// The map of the numbers to ten times themselves, of which one refuses to be cloned.
+/// The map of the numbers to ten times themselves, one of which refuses to be cloned.
 fn tens(alloc: Global, numbers: &[u32], refusing: u32) -> Result<BTreeMap<Held, u32>, AllocError> {
     let mut map = BTreeMap::new(alloc);
     for number in numbers {
@@ -52,8 +52,8 @@ fn is_tens(map: &BTreeMap<Held, u32>, numbers: &[u32]) -> bool {
 }
 
 /// Joins `{10, 20}` with `{5, 10, 15, 25}`, where the key `refusing` refuses. Answers whether that
-/// was refused and left the old pairs and `stays` beside them, and whether the closure for the
-/// map's own values was asked.
+/// was refused and left the old pairs and `stays`, and whether the closure for the map's own values
+/// was called.
 fn refused_at(alloc: Global, refusing: u32, stays: &[u32]) -> Result<(bool, bool), AllocError> {
     let mut map = tens(alloc, &[10, 20], refusing)?;
     let other = tens(alloc, &[5, 10, 15, 25], refusing)?;
@@ -71,8 +71,8 @@ fn refused_at(alloc: Global, refusing: u32, stays: &[u32]) -> Result<(bool, bool
     Ok((answer.is_err() && is_tens(&map, stays), asked.get()))
 }
 
-/// The key that refuses, the numbers that stand then where the join is refused, and what that
-/// answers. Keys of both maps and of the left one alone are not cloned.
+/// The key that refuses, the numbers that are left where the join is refused, and the answer. Keys
+/// of both maps and of only the left one are not cloned.
 const REFUSED: [(u32, &[u32], (bool, bool)); 6] = [
     (5, &[10, 20], (true, false)),
     (15, &[5, 10, 20], (true, false)),

@@ -1,4 +1,4 @@
--- The numbers from 1 to 5 as a type of their own, on which what holds of each is shown one by one.
+-- The numbers from 1 to 5 as a type, where a fact on all of them is shown one by one.
 use Rattle.std.proofs.Common.{◌≡◌, ℕ, true, false}
 use Rattle.std.specs.Ordering.{nat_cmp}
 use Rattle.std.specs.declared.cmp.Ordering.{Ordering}

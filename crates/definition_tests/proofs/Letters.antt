@@ -1,4 +1,4 @@
--- Keys of two letters, on which what holds of each is shown case by case, and small trees.
+-- Keys of two letters, where a fact on all of them is shown case by case, and small trees.
 use Rattle.std.specs.Prelude.{◌≡◌, List, [], ◌∷◌, Some, None}
 use Rattle.std.specs.declared.cmp.Ordering.{Ordering}
 use Rattle.std.specs.declared.cmp.Ordering.TheVariants.{Less, Equal, Greater}

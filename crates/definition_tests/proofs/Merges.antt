@@ -1,4 +1,4 @@
--- Worked rows of the definitions on merges, beside those that stand with them.
+-- Further worked rows of the definitions on merges; others are with the definitions.
 use Rattle.std.specs.Prelude.{◌≡◌, ℕ, ◌==◌, ◌||◌, true, false, List, [], ◌∷◌, ◌++◌, take, drop, Option, Some, None}
 use Rattle.std.specs.Prelude.{Ok, Err, ◌⊎◌, refl}
 use Rattle.std.proofs.Common.{inl, inr, ap, sym, ◌∙◌, arith}

@@ -1,4 +1,4 @@
--- Worked rows of the definitions on trees, beside those that stand with them.
+-- Further worked rows of the definitions on trees; others are with the definitions.
 use Rattle.std.specs.Prelude.{◌≡◌, ℕ, suc, ◌+◌, ◌==◌, true, false, List, [], ◌∷◌, ◌++◌}
 use Rattle.std.specs.Prelude.{Some, None, Result, Ok, Err, ⊤, codes, refl}
 use Rattle.std.proofs.Common.{inl, inr, sym, arith, nat_cmp}

@@ -51,11 +51,11 @@ first_of_both [] ys = []
 first_of_both (x ∷ xs) [] = []
 first_of_both (x ∷ xs) (y ∷ ys) = collision x y ∷ []
 
--- the answer is to go on, and these events are noted
+-- the answer is to continue, and these events are recorded
 abbrev pub Notes : List (Event ℕ ℕ) → Diff → Answer → Diff → Type 0
 Notes events s answer t = IfOk answer (λ go_on. (go_on ≡ true) × (noted t ≡ noted s ++ events))
 
--- what each event of a merge notes
+-- what each event of a merge records
 abbrev pub noting : Gives Diff
 noting = record {
   from_a = λ s n answer t. Notes (gone s n) s answer t;

@@ -13,7 +13,7 @@ module _ {V W : Type 0} where
   first_alone v None = v
 
 module _ {V : Type 0} where
-  -- of a key of both what h makes of its values, else the value that is there
+  -- at a key of both the result of h on its values, otherwise the value that is there
   abbrev pub merged_by : (V → V → V) → Option V → Option V → Option V
   merged_by h (Some v) (Some w) = Some (h v w)
   merged_by h (Some v) None = Some v

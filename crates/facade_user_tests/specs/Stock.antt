@@ -22,7 +22,7 @@ abbrev pub unless_held : ℕ → Option ℕ → Option ℕ
 unless_held held None = Some held
 unless_held held (Some hold) = None
 
--- what is held, or else what is listed
+-- what is held, or otherwise what is listed
 abbrev pub held_or : Option ℕ → ℕ → Option ℕ
 held_or (Some held) listed = Some held
 held_or None listed = Some listed

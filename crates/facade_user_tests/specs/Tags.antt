@@ -9,7 +9,8 @@ use Rattle.facade_user_tests.specs.declared.sets.Standing.{Standing}
 abbrev pub has : List ℕ → ℕ → Bool
 has tags tag = member nat_cmp tags tag
 
--- a list has what is in either of two others, in both, in exactly one of them, or in the first one alone
+-- a list has what is in either of two others, in both, in exactly one of them, or in only the first
+-- one
 abbrev pub IsEither : List ℕ → List ℕ → List ℕ → Type 0
 IsEither a b c = (tag : ℕ) → has c tag ≡ (has a tag || has b tag)
 

@@ -14,12 +14,12 @@ use vec_collections::merge::{
     Count, MergeFromRight, MergeOperation, MergeState, MergeStateMut, Steps, merge,
 };
 
-/// What became of a number.
+/// How a number changed.
 #[derive(Clone, Copy)]
 pub enum Change {
-    /// It is in the old list alone.
+    /// It is only in the old list.
     Gone(u32),
-    /// It is in the new list alone.
+    /// It is only in the new list.
     New(u32),
     /// It is in both, and so are all that are equal to it.
     Kept(u32, u32),
@@ -115,7 +115,7 @@ fn first_kept(old: &[u32], new: &[u32]) -> Change
     Change::Kept(old[0], new[0])
 }
 
-/// Notes what became of each number.
+/// Records how each number changed.
 pub struct Noting;
 
 impl<'a, C: Count> MergeOperation<Diff<'a>, C> for Noting {

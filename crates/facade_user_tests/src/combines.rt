@@ -1,5 +1,5 @@
-//! Trees of either flavour from outside: two made one with a counter, narrowed by the prefixes of
-//! another one, and with other fronts of their keys.
+//! Trees of either flavour, as a user combines them: with a counter, restricted by the prefixes of
+//! another tree, and with other fronts of their keys.
 ghost use Rattle.std.specs.Prelude.{◌≡◌, ◌+◌, ◌*◌, ◌<◌, ◌≤◌, List, ℕ, length, IfOk, OnOk};
 ghost use Rattle.std.specs.Ordering.{nat_cmp};
 ghost use Rattle.vec_collections.specs.Cover.{IsRemoved, IsRetained};
@@ -11,7 +11,7 @@ use std::alloc::AllocError;
 use vec_collections::merge::Steps;
 use vec_collections::radix_tree::{AbstractRadixTree, AbstractRadixTreeMut, RadixTree};
 
-/// The ports of either tree, of two the first, with the comparisons added to `steps`.
+/// The ports of either tree, the first of two, with the comparisons added to `steps`.
 pub fn first_counted<T: AbstractRadixTreeMut<u8, u32>>(
     a: &T,
     b: &T,
@@ -68,7 +68,7 @@ pub fn put_before<T: AbstractRadixTreeMut<u8, u32>>(
     ports.prepend(front)
 }
 
-/// The ports by names without the first `n` letters, which all have in common.
+/// The ports by names without the first `n` letters, which all share.
 pub fn without_front<T: AbstractRadixTreeMut<u8, u32>>(ports: &T, n: usize) -> Result<T, AllocError>
     requires { n < length (T.tree ports.now).prefix }
     ensures { IfOk result

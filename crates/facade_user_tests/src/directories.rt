@@ -1,4 +1,4 @@
-//! A small map by names: a set of entries that are ordered by their names alone.
+//! A small map by names: a set of entries that are ordered only by their names.
 ghost use Rattle.std.specs.Prelude.{◌≡◌, cond, false, refl, Some, OnErr, OnOk};
 ghost use Rattle.std.specs.Cmp.Lexicographic.{nat_list_cmp_total, slice_cmp};
 ghost use Rattle.std.specs.List.{list_any};
@@ -14,7 +14,7 @@ use std::default::MadeWith;
 use vec_collections::VecSet;
 use vec_collections::traits::*;
 
-/// A number under a name. Entries are ordered by their names alone.
+/// A number under a name. Entries are ordered only by their names.
 #[derive(Drop)]
 #[derive_where(Debug, PartialEq, Eq, PartialOrd, Ord)]
 pub struct Entry {
@@ -48,7 +48,7 @@ impl Borrowed<Entry> for &str {
     }
 }
 
-/// Numbers under names, of which four need no allocation.
+/// Numbers under names. Four of them need no allocation.
 pub type Directory = VecSet<Entry, 4>;
 
 /// The number under a name.
@@ -61,7 +61,7 @@ pub fn number_of(directory: &Directory, name: &str) -> Option<u32>
     }
 }
 
-/// Puts an entry in: a new one, or in place of the one of its name. Answers whether it is new.
+/// Inserts an entry, or replaces the one of its name. Answers whether it is new.
 pub fn put(directory: &mut Directory, entry: Entry) -> Result<bool, AllocError>
     ensures entries { OnOk result ((other : _) → element_at by_name directory.new other
         ≡ cond (eq_by_cmp by_name entry other) (Some entry)
@@ -71,7 +71,7 @@ pub fn put(directory: &mut Directory, entry: Entry) -> Result<bool, AllocError>
     directory.insert(entry)
 }
 
-/// Takes the entry of a name out, and answers whether there was one.
+/// Removes the entry of a name, and answers whether there was one.
 pub fn take_out(directory: &mut Directory, name: &str) -> bool
     ensures was_there { result ≡ list_any (λ e. has_letters name.now e.name) directory.old }
     ensures others { (other : _) → has_letters name.now other.name ≡ false

@@ -1,5 +1,5 @@
-//! Filters of paths from outside: rules, which paths they allow, what they leave of a tree, and
-//! snapshots of rules.
+//! Filters of paths, as a user writes them: rules, which paths they allow, what they leave of a
+//! tree, and snapshots of rules.
 ghost use Rattle.std.specs.Prelude.{◌≡◌, ◌&&◌, true, false, IfOk, OnOk};
 ghost use Rattle.std.specs.Ordering.{nat_cmp};
 ghost use Rattle.vec_collections.specs.Allowed.{is_allowed, IsRestricted};
@@ -11,7 +11,7 @@ use std::alloc::{AllocError, Global};
 use vec_collections::path_filter::PathFilter;
 use vec_collections::radix_tree::{AbstractRadixTree, AbstractRadixTreeMut};
 
-/// Which paths of a site may be read: those that begin with an opened one, but for closed ones.
+/// Which paths of a site may be read: those that begin with an opened one, except for closed ones.
 pub type Readable = PathFilter<u8>;
 
 /// A site without rules.
@@ -30,14 +30,14 @@ pub fn open(site: &mut Readable, path: &[u8]) -> Result<(), AllocError>
     site.allow(path)
 }
 
-/// The rule that a path has of its own.
+/// The path's own rule.
 pub fn rule_of(site: &Readable, path: &[u8]) -> Option<bool>
     ensures { result ≡ lookup nat_cmp site.now path.now }
 {
     site.rules().get(path).copied()
 }
 
-/// Takes the rule that a path has of its own back, and answers it.
+/// Removes the path's own rule, and answers it.
 pub fn take_back(site: &mut Readable, path: &[u8]) -> Result<Option<bool>, AllocError>
     ensures rule { IfOk result (λ rule. rule ≡ lookup nat_cmp site.old path.now) }
     ensures gone { OnOk result (IsWithout nat_cmp (λ v w. v ≡ w) path.now

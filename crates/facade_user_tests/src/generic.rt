@@ -1,4 +1,4 @@
-//! Code of a user that is generic in elements, keys and values: what it owes, and no more.
+//! Code of a user that is generic in elements, keys and values, with only the bounds that it needs.
 ghost use Rattle.std.specs.Prelude.{◌≡◌, ◌||◌, Some, IfOk, OnErr, OnOk};
 ghost use Rattle.vec_collections.specs.Ascending.{member};
 ghost use Rattle.vec_collections.specs.Clones.{ClonesAreEqual};

@@ -1,5 +1,5 @@
-//! Interval sets from outside: the bookings of a room, over any ordered time, and the calls beside
-//! them, with clauses of a user.
+//! Interval sets, as a user writes them: the bookings of a room, over any ordered time, and further
+//! calls, with a user's clauses.
 ghost use Rattle.std.specs.Prelude.{◌≡◌, ◌||◌, ◌&&◌, ◌↔◌, not, true, false, IfOk, IfSome, IsOk, IsTrue, List};
 ghost use Rattle.std.specs.BTreeMap.Range.{range_contains};
 ghost use Rattle.std.specs.declared.ops.Bound.TheVariants.{Included, Excluded, Unbounded};
@@ -61,7 +61,7 @@ pub fn before_and_after<T: Ord + MadeWith<Global> + Drop>(
     Ok((Booked::below(alloc, end)?, Booked::at_least(alloc, start)?))
 }
 
-/// No time, and all times.
+/// The set of no time, and that of all times.
 pub fn never_and_always<T: Ord + MadeWith<Global> + Drop>(alloc: Global) -> (Booked<T>, Booked<T>)
     ensures never { (time : T) → holds T.cmp result.0 time ≡ false }
     ensures always { (time : T) → holds T.cmp result.1 time ≡ true }
@@ -95,8 +95,8 @@ pub fn booking_at<'a, T: Ord>(
     booked.interval_at(time)
 }
 
-/// Whether the room is booked at the time, and until when that stays so: for good, where no time is
-/// named.
+/// Whether the room is booked at the time, and until when that stays so: for good, where there is
+/// no such time.
 pub fn booked_until<'a, T: Ord>(booked: &'a Booked<T>, time: &T) -> (bool, Option<&'a T>)
     ensures now { result.0 ≡ holds T.cmp booked.now time.now }
     ensures until { (later : T) → is_le (T.cmp time.now later) ≡ true
@@ -164,7 +164,7 @@ pub fn both_booked<T: ClonesEqual + MadeWith<Global>>(
     one & other
 }
 
-/// When the first room is booked and the second one is not.
+/// When only the first room is booked.
 pub fn first_alone<T: ClonesEqual + MadeWith<Global>>(
     one: &Booked<T>,
     other: &Booked<T>,
@@ -193,7 +193,7 @@ pub fn may_book<T: Ord>(booked: &Booked<T>, span: &Booked<T>) -> bool
     booked.is_disjoint(span)
 }
 
-/// Whether each time that is asked for is booked.
+/// Whether each time in `asked` is booked.
 pub fn is_all_booked<T: Ord>(asked: &Booked<T>, booked: &Booked<T>) -> bool
     ensures { IsTrue result ↔ IsIntervalSubset T.cmp asked.now booked.now }
 {
@@ -207,7 +207,7 @@ pub fn covers<T: Ord>(booked: &Booked<T>, asked: &Booked<T>) -> bool
     booked.is_superset(asked)
 }
 
-/// Gives back what the bookings do not need.
+/// Gives back the memory that the bookings do not need.
 pub fn pack<T: Ord + MadeWith<Global> + Drop>(booked: &mut Booked<T>)
     ensures { booked.new ≡ booked.old }
 {

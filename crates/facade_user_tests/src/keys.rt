@@ -1,5 +1,5 @@
-//! Trees from outside: look-ups by the longest key and with a counter, tests of keys, and whole
-//! trees made of others.
+//! Trees, as a user writes them: look-ups by the longest key and with a counter, tests of keys, and
+//! whole trees made of others.
 ghost use Rattle.std.specs.Prelude.{◌≡◌, ◌↔◌, ◌==◌, ◌+◌, ◌-◌, ◌*◌, ◌^◌, ◌≤◌, MatchBool, IfOk, IsTrue, Some, length, map, min};
 ghost use Rattle.std.specs.Option.{is_some, option_map};
 ghost use Rattle.std.specs.Ordering.{nat_cmp};
@@ -35,7 +35,7 @@ pub fn has_port<T: AbstractRadixTree<u8, u32>>(ports: &T, server: &[u8]) -> bool
 }
 
 /// The port of the domain with the longest name that this one begins with, and what is left of the
-/// name behind it.
+/// name after it.
 pub fn port_of_domain<'n, T: AbstractRadixTree<u8, u32>>(
     ports: &T,
     name: &'n [u8],
@@ -59,7 +59,7 @@ pub fn port_counted<T: AbstractRadixTree<u8, u32>>(
     ports.get_counted(server, steps).copied()
 }
 
-/// How the servers of two trees stand to each other.
+/// How the servers of two trees compare with each other.
 pub struct ServersCompared {
     pub intersects: bool,
     pub is_disjoint: bool,
@@ -131,7 +131,7 @@ pub fn of_entries(alloc: Global, entries: Vec<(Vec<u8>, u32)>) -> Result<Ports, 
     RadixTree::from_vecs(alloc, entries.into_iter())
 }
 
-/// The same of a list that lends the names.
+/// The same for a list that borrows the names.
 pub fn of_names<'a>(alloc: Global, entries: Vec<(&'a [u8], u32)>) -> Result<Ports, AllocError>
     ensures { IfOk result (IsCollected nat_cmp (map (λ b. (b.0.now, b.1)) entries.entry.items)) }
 {
@@ -150,7 +150,7 @@ pub fn of_entries_shared(
     ArcRadixTree::from_vecs(alloc, entries.into_iter())
 }
 
-/// The same of a list that lends the names. What a port is cloned to is not asked.
+/// The same for a list that borrows the names. Nothing is required of the clone of a port.
 pub fn of_names_shared<'a>(
     alloc: Global,
     entries: Vec<(&'a [u8], u32)>,
@@ -180,7 +180,7 @@ pub enum Turn {
 /// How long it is to a place, by the turns that lead there.
 pub type Ways = RadixTree<Turn, u32>;
 
-/// How long a way is that was noted down alone.
+/// How long a way is, in a tree of only that way.
 pub fn noted_way(alloc: Global, way: &[Turn], minutes: u32) -> Result<Option<u32>, AllocError>
     ensures { IfOk result (λ noted. noted ≡ Some minutes) }
 {

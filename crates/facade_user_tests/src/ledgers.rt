@@ -1,4 +1,4 @@
-//! Joins of `BTreeMap` from outside, with what a user says of the value at each key.
+//! Joins of `BTreeMap`, as a user writes them, with clauses on the value at each key.
 ghost use Rattle.std.specs.Prelude.{◌≡◌, min, Some, ℕ, IfOk, OnOk};
 ghost use Rattle.std.specs.Option.{option_or};
 ghost use Rattle.std.specs.Ordering.{nat_cmp};
@@ -11,10 +11,10 @@ use std::alloc::{AllocError, Global};
 use std::collections::BTreeMap;
 use vec_collections::btree_map::{AbstractBTreeMap, InPlaceRelationalOps, OuterJoinArg};
 
-/// What stands in each account.
+/// What is in each account.
 pub type Ledger = BTreeMap<u32, u32>;
 
-/// The accounts of a ledger, and those that another one has beside them.
+/// The accounts of a ledger, and further ones of another ledger.
 pub fn with_others(alloc: Global, ledger: &Ledger, others: &Ledger) -> Result<Ledger, AllocError>
     ensures { IfOk result (λ all. (k : ℕ) → value_at nat_cmp all.entries k
         ≡ in_either option_or (value_at nat_cmp ledger.now.entries k)
@@ -32,7 +32,7 @@ pub fn with_others(alloc: Global, ledger: &Ledger, others: &Ledger) -> Result<Le
     )
 }
 
-/// What each of some claims on accounts gets, which is no more than is there.
+/// What each claim on an account gets, which is no more than is there.
 pub fn served(alloc: Global, ledger: &Ledger, claims: &Ledger) -> Result<Ledger, AllocError>
     ensures { IfOk result (λ paid. (k : ℕ) → value_at nat_cmp paid.entries k
         ≡ in_both (λ held wanted. Some (min held wanted)) (value_at nat_cmp ledger.now.entries k)
@@ -65,7 +65,8 @@ pub fn free(alloc: Global, ledger: &Ledger, holds: &Ledger) -> Result<Ledger, Al
     )
 }
 
-/// The accounts that a list names, as they stand, or as the list says where there is none.
+/// The accounts that a list names, as they are in the ledger, or as the list says where the ledger
+/// has none.
 pub fn listed(alloc: Global, ledger: &Ledger, list: &Ledger) -> Result<Ledger, AllocError>
     ensures { IfOk result (λ full. (k : ℕ) → value_at nat_cmp full.entries k
         ≡ in_right held_or (value_at nat_cmp ledger.now.entries k)
@@ -83,7 +84,7 @@ pub fn listed(alloc: Global, ledger: &Ledger, list: &Ledger) -> Result<Ledger, A
     )
 }
 
-/// Writes over the accounts that a list names what it says. All others go.
+/// Sets the accounts that a list names to what it says. All others are dropped.
 pub fn replace_listed(ledger: &mut Ledger, list: &Ledger)
     ensures { (k : ℕ) → value_at nat_cmp ledger.new.entries k
         ≡ in_both (λ held listed. Some listed) (value_at nat_cmp ledger.old.entries k)
@@ -106,7 +107,7 @@ pub fn drop_held(ledger: &mut Ledger, holds: &Ledger)
     });
 }
 
-/// Writes over the accounts that a list names what it says. All others stay.
+/// Sets the accounts that a list names to what it says. All others stay.
 pub fn correct(ledger: &mut Ledger, list: &Ledger)
     ensures { (k : ℕ) → value_at nat_cmp ledger.new.entries k
         ≡ in_left (or_stays (λ held listed. Some listed)) (value_at nat_cmp ledger.old.entries k)
@@ -122,8 +123,7 @@ pub fn correct(ledger: &mut Ledger, list: &Ledger)
     );
 }
 
-/// Drops the accounts that have a hold on them, and opens those that stand on the list of holds
-/// alone.
+/// Drops the accounts that have a hold on them, and opens those that are only on the list of holds.
 pub fn trade(alloc: Global, ledger: &mut Ledger, holds: &Ledger) -> Result<(), AllocError>
     ensures { OnOk result ((k : ℕ) → value_at nat_cmp ledger.new.entries k
         ≡ or_given unless_held (λ hold. Some hold) (value_at nat_cmp ledger.old.entries k)

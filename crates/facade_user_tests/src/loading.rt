@@ -1,4 +1,4 @@
-//! A map of a list that came from outside, with an error of a user's own.
+//! A map of a list from outside, with an error type of a user's own.
 ghost use Rattle.std.specs.Prelude.{◌≡◌, Err, IfOk, IsOk};
 ghost use Rattle.std.specs.Ordering.{nat_cmp};
 ghost use Rattle.vec_collections.specs.Entries.{AscendsByKey};

@@ -1,4 +1,4 @@
-//! Maps from outside: look-ups, changes and joins, with what a user says of them.
+//! Maps, as a user writes them: look-ups, changes and joins, with a user's clauses.
 ghost use Rattle.std.specs.Prelude.{◌≡◌, ◌==◌, ◌-◌, ◌↔◌, [], cond, count_by, drop, length, min, reverse, slice_get, take, false, Some, None, ℕ, IsSome, IsTrue, IfOk, IfSome, IsOk, OnOk, OnErr};
 ghost use Rattle.std.specs.BTreeMap.Range.{entries_between};
 ghost use Rattle.std.specs.Map.{keys_of, lookup, values_of};
@@ -17,7 +17,7 @@ use vec_collections::vec_map::{
     AbstractVecMap, OuterJoinArg, VecMap, inner_join, left_join, outer_join, right_join,
 };
 
-/// How many pieces there are of each article, of which four need no allocation.
+/// The number of pieces of each article. Four articles need no allocation.
 pub type Stock = VecMap<u32, u32, 4>;
 
 /// How many pieces of an article there are.
@@ -38,7 +38,7 @@ pub fn of_list(alloc: Global, list: Vec<(u32, u32)>) -> Result<Option<Stock>, Al
     }
 }
 
-/// Notes how many pieces of an article there are, and answers how many there were.
+/// Records how many pieces of an article there are, and answers how many there were.
 pub fn recount(stock: &mut Stock, article: u32, pieces: u32) -> Result<Option<u32>, AllocError>
     ensures before { IfOk result (λ before. before ≡ value_at nat_cmp stock.old article) }
     ensures after { OnOk result (value_at nat_cmp stock.new article ≡ Some pieces) }
@@ -73,7 +73,7 @@ pub fn correct_by(stock: &mut Stock, article: &u32, pieces: u32)
     }
 }
 
-/// Counts a piece more of an article, or one where there was none. Refused, no article changes.
+/// Counts one more piece of an article, or one where there was none. On refusal no article changes.
 pub fn add_piece(stock: &mut Stock, article: u32) -> Result<(), AllocError>
     ensures others { OnOk result ((k : ℕ) → eq_by_cmp nat_cmp k article ≡ false
         → entry_at nat_cmp stock.new k ≡ entry_at nat_cmp stock.old k) }
@@ -86,7 +86,7 @@ pub fn add_piece(stock: &mut Stock, article: u32) -> Result<(), AllocError>
     )
 }
 
-/// The stock of deliveries that come in any order, of which the last of an article counts.
+/// The stock of deliveries in any order, where the last one of an article counts.
 pub fn of_deliveries(alloc: Global, list: Vec<(u32, u32)>) -> Result<Stock, AllocError> {
     list.into_iter().collect(alloc)
 }
@@ -121,7 +121,7 @@ pub fn count_sold_out(stock: &Stock) -> usize
     count
 }
 
-/// The desk of a user, in any map by names, or none where he has none.
+/// The desk of a user, in any map by names, or none where there is none.
 pub fn desk_of<'a, M: AbstractVecMap<String, u32>>(desks: &'a M, name: &str) -> Option<&'a u32>
     ensures { option_copied result ≡ lookup (has_letters name.now) (M.pairs desks.now) }
 {
@@ -135,10 +135,10 @@ pub fn has_desk<M: AbstractVecMap<String, u32>>(desks: &M, name: &str) -> bool
     desks.contains_key_by(name)
 }
 
-/// The desks of users by their names, of which four need no allocation. One may be nobody's.
+/// The desks of users by their names. Four of them need no allocation. One may be nobody's.
 pub type Desks = VecMap<Option<String>, u32, 4>;
 
-/// Takes the desk of a user away, and answers which one it was. All others keep theirs.
+/// Removes the desk of a user, and answers which one it was. All others keep theirs.
 pub fn clear_desk(desks: &mut Desks, name: &str) -> Option<u32>
     ensures was { (user : _) → IsSpelled name.now user
         → result ≡ value_at (option_cmp string_cmp) desks.old (Some user) }
@@ -185,7 +185,7 @@ pub fn count_shown(stock: &Stock) -> usize
     stock.iter().len()
 }
 
-/// The stock of a list in any order. Of an article that stands there twice the last entry counts.
+/// The stock of a list in any order. Of an article that is there twice the last entry counts.
 pub fn of_any_list(alloc: Global, list: Vec<(u32, u32)>) -> Result<Stock, AllocError>
     ensures { IfOk result (λ stock. (article : ℕ)
         → value_at nat_cmp stock article ≡ value_at nat_cmp (reverse list.items) article) }
@@ -216,14 +216,14 @@ pub fn sell_out(stock: &mut Stock)
     stock.clear();
 }
 
-/// Gives back what the stock does not need.
+/// Gives back the memory that the stock does not need.
 pub fn pack(stock: &mut Stock)
     ensures { stock.new ≡ stock.old }
 {
     let _always = stock.shrink_to_fit();
 }
 
-/// The price of each article: that of today where there is one, else that of the list.
+/// The price of each article: that of today where there is one, otherwise that of the list.
 pub fn of_today(alloc: Global, list: &Stock, today: &Stock) -> Result<Stock, AllocError>
     ensures { IfOk result (λ prices. (k : ℕ) → value_at nat_cmp prices k
         ≡ in_either (λ listed new. option_or new listed) (value_at nat_cmp list.now k)
@@ -242,7 +242,7 @@ pub fn of_today(alloc: Global, list: &Stock, today: &Stock) -> Result<Stock, All
     )
 }
 
-/// Lets the prices of today stand in the place of those of the list.
+/// Replaces the prices of the list by those of today.
 pub fn renew_prices(list: &mut Stock, today: Stock) -> Result<(), AllocError>
     ensures { OnOk result ((k : ℕ) → value_at nat_cmp list.new k
         ≡ option_or (value_at nat_cmp today k) (value_at nat_cmp list.old k)) }
@@ -250,7 +250,7 @@ pub fn renew_prices(list: &mut Stock, today: Stock) -> Result<(), AllocError>
     list.merge_with(today)
 }
 
-/// Takes a delivery in.
+/// Adds a delivery.
 pub fn deliver(stock: &mut Stock, delivery: &Stock) -> Result<(), AllocError>
     ensures pieces { OnOk result ((k : ℕ) → value_at nat_cmp stock.new k
         ≡ in_either together (value_at nat_cmp stock.old k) (value_at nat_cmp delivery.now k)) }
@@ -268,7 +268,7 @@ pub fn deliver(stock: &mut Stock, delivery: &Stock) -> Result<(), AllocError>
     )
 }
 
-/// Takes out of stock what was sold.
+/// Removes from stock what was sold.
 pub fn sell(stock: &mut Stock, sold: &Stock) -> Result<(), AllocError>
     ensures pieces { (k : ℕ) → value_at nat_cmp stock.new k
         ≡ in_left left_over (value_at nat_cmp stock.old k) (value_at nat_cmp sold.now k) }
@@ -297,7 +297,7 @@ pub fn keep_listed(stock: &mut Stock, list: &Stock) -> Result<(), AllocError>
     })
 }
 
-/// Makes the stock what a list says, and at least what is there.
+/// Raises the stock to what a list says, where that is more than is there.
 pub fn fill_up(stock: &mut Stock, list: &Stock) -> Result<(), AllocError>
     ensures pieces { OnOk result ((k : ℕ) → value_at nat_cmp stock.new k
         ≡ in_right filled (value_at nat_cmp stock.old k) (value_at nat_cmp list.now k)) }
@@ -314,7 +314,7 @@ pub fn fill_up(stock: &mut Stock, list: &Stock) -> Result<(), AllocError>
     )
 }
 
-/// What is left of a stock once these pieces are sold.
+/// What is left of a stock after these pieces are sold.
 pub fn after_sale(alloc: Global, stock: &Stock, sold: &Stock) -> Result<Stock, AllocError>
     ensures { IfOk result (λ rest. (k : ℕ) → value_at nat_cmp rest k
         ≡ in_left left_over (value_at nat_cmp stock.now k) (value_at nat_cmp sold.now k)) }
@@ -332,7 +332,7 @@ pub fn after_sale(alloc: Global, stock: &Stock, sold: &Stock) -> Result<Stock, A
     )
 }
 
-/// What is to be there by a list, and at least what is there.
+/// The stock raised to what a list says, where that is more than is there.
 pub fn filled_up(alloc: Global, stock: &Stock, list: &Stock) -> Result<Stock, AllocError>
     ensures { IfOk result (λ full. (k : ℕ) → value_at nat_cmp full k
         ≡ in_right filled (value_at nat_cmp stock.now k) (value_at nat_cmp list.now k)) }

@@ -19,14 +19,14 @@ use vec_collections::total_vec_map::TotalVecMap;
 use vec_collections::vec_map::{AbstractVecMap, VecMap};
 use vec_collections::vec_set::{AbstractVecSet, ClonesEqual, VecSet};
 
-/// Numbers of articles, of which four need no allocation.
+/// Numbers of articles. Four of them need no allocation.
 pub type Articles = VecSet<u32, 4>;
 
-/// The articles on each shelf. Unused places of a map's list hold made values, so a set stands
-/// there as an option.
+/// The articles on each shelf. Unused places of a map's list hold default values, so a set is there
+/// as an option.
 pub type Shelves = VecMap<u32, Option<Articles>, 4>;
 
-/// Puts articles on a shelf, in the place of those that stand there.
+/// Puts articles on a shelf, and replaces those that are there.
 pub fn fill(shelves: &mut Shelves, shelf: u32, articles: Articles) -> Result<(), AllocError>
     ensures { OnOk result (value_at nat_cmp shelves.new shelf ≡ Some (Some articles)) }
 {
@@ -55,7 +55,7 @@ pub fn copy_of_shelf(shelves: &Shelves, shelf: u32) -> Result<Articles, AllocErr
     }
 }
 
-/// Puts one more article on a shelf. Refused, it leaves all shelves as they were.
+/// Puts one more article on a shelf. On refusal all shelves are unchanged.
 pub fn put_on_shelf(shelves: &mut Shelves, shelf: u32, article: u32) -> Result<(), AllocError>
     ensures put { OnOk result ((other : ℕ)
         → member nat_cmp (unwrap_or (option_flatten (value_at nat_cmp shelves.new shelf)) []) other
@@ -80,7 +80,7 @@ pub fn copy_shelves(shelves: &Shelves) -> Result<Shelves, AllocError>
 /// The articles with each word.
 pub type Index = RadixTree<u8, Articles>;
 
-/// A copy of the articles with a word, of which there may be none.
+/// A copy of the articles with a word, or none.
 pub fn articles_with(index: &Index, word: &[u8]) -> Result<Articles, AllocError>
     ensures { IfOk result
         (λ articles. articles ≡ unwrap_or (lookup nat_cmp index.now word.now) []) }
@@ -106,10 +106,10 @@ pub fn index_article(index: &mut Index, word: &[u8], article: u32) -> Result<(),
     Ok(())
 }
 
-/// How often each word stands in each article.
+/// How often each word is in each article.
 pub type Counts = RadixTree<u8, VecMap<u32, u32, 4>>;
 
-/// How often a word stands in an article.
+/// How often a word is in an article.
 pub fn count_in(counts: &Counts, word: &[u8], article: u32) -> Option<u32>
     ensures { result
         ≡ value_at nat_cmp (unwrap_or (lookup nat_cmp counts.now word.now) []) article }
@@ -117,7 +117,7 @@ pub fn count_in(counts: &Counts, word: &[u8], article: u32) -> Option<u32>
     counts.get(word)?.get(&article).copied()
 }
 
-/// Says of a word how often it stands in each article.
+/// Sets how often a word is in each article.
 pub fn set_counts(
     counts: &mut Counts,
     word: &[u8],
@@ -187,8 +187,8 @@ pub fn copy_board(board: &Board) -> Result<Board, AllocError>
     board.clone()
 }
 
-/// What is in either of two sets, of any elements whose clones are equal to them: nothing is owed
-/// by hand.
+/// What is in either of two sets, of any elements whose clones are equal to them: nothing has to be
+/// proved by hand.
 pub fn either_of<T: ClonesEqual + MadeWith<Global>>(
     left: &VecSet<T, 4>,
     right: &VecSet<T, 4>,

@@ -1,4 +1,4 @@
-//! One tree for each map: trees that were made in different ways and bind alike are the same.
+//! One tree for each map: trees that were made in different ways and bind the same are equal.
 ghost use Rattle.std.specs.Prelude.{◌≡◌, ◌↔◌, ℕ, List, IfOk, IsFalse, IsTrue, OnErr, OnOk, length, map};
 ghost use Rattle.std.specs.Ordering.{nat_cmp};
 ghost use Rattle.vec_collections.specs.Commanded.{command_of};

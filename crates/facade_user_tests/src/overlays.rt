@@ -1,6 +1,6 @@
-//! Trees laid over one another, fresh and in place, in both flavours and behind a snapshot, said by
-//! the value at each key in words of this crate. The lemmas that a clone of a number is that number
-//! are named by `exactly`; no proof file but where a tree is held in a variable.
+//! Trees laid over one another, new and in place, in both flavours and after a snapshot, with
+//! clauses on the value at each key in words of this crate. `exactly` names the lemmas that a clone
+//! of a number is that number; a proof file is needed only where a tree is held in a variable.
 ghost use Rattle.std.specs.Prelude.{◌≡◌, Some, List, ℕ, min, max, IfOk, OnOk};
 ghost use Rattle.std.specs.Option.{unwrap_or};
 ghost use Rattle.std.specs.Ordering.{nat_cmp};
@@ -13,7 +13,7 @@ use crate::trees::{Ports, SharedPorts, snapshot_of};
 use std::alloc::AllocError;
 use vec_collections::radix_tree::{AbstractRadixTree, AbstractRadixTreeMut};
 
-/// The port of the override where there is one, else that of the base.
+/// The port of the override where there is one, otherwise that of the base.
 #[tactic(auto, using(vec_collections::specs::Exact::exactly))]
 pub fn overlaid<T: AbstractRadixTreeMut<u8, u32>>(overrides: &T, base: &T) -> Result<T, AllocError>
     ensures { IfOk result (λ all. (k : List ℕ) → lookup nat_cmp (T.tree all) k
@@ -31,7 +31,7 @@ pub fn common<T: AbstractRadixTreeMut<u8, u32>>(a: &T, b: &T) -> Result<T, Alloc
     a.intersection(b)
 }
 
-/// The ports of the servers that the first alone has.
+/// The ports of the servers that only the first tree has.
 #[tactic(auto, using(vec_collections::specs::Exact::exactly))]
 pub fn without<T: AbstractRadixTreeMut<u8, u32>>(a: &T, b: &T) -> Result<T, AllocError>
     ensures { IfOk result (λ made. (k : List ℕ) → lookup nat_cmp (T.tree made) k
@@ -76,7 +76,7 @@ pub fn renewed<T: AbstractRadixTreeMut<u8, u32>>(a: &T, b: &T) -> Result<T, Allo
     )
 }
 
-/// The ports of the servers whose names start so.
+/// The ports of the servers whose names start with the folder.
 #[tactic(auto, using(vec_collections::specs::Exact::exactly))]
 pub fn ports_of_folder<T: AbstractRadixTreeMut<u8, u32>>(
     ports: &T,
@@ -105,7 +105,7 @@ pub fn complete_shared(overrides: &mut SharedPorts, base: &SharedPorts) -> Resul
     overrides.union_with(base)
 }
 
-/// The overrides and what they lack of the base, behind a snapshot of the overrides.
+/// The overrides, completed by the base, after a snapshot of the overrides.
 pub fn completed(overrides: &SharedPorts, base: &SharedPorts) -> Result<SharedPorts, AllocError>
     ensures { IfOk result (λ all. (k : List ℕ) → lookup nat_cmp all k
         ≡ or_else (lookup nat_cmp overrides.now k) (lookup nat_cmp base.now k)) }
@@ -133,7 +133,7 @@ pub fn leave_out(ports: &mut SharedPorts, that: &SharedPorts) -> Result<(), Allo
     ports.difference_with(that)
 }
 
-/// Takes the ports of another tree over, with all of its servers.
+/// Takes over the ports of another tree, with all of its servers.
 #[tactic(auto, using(vec_collections::specs::Exact::exactly))]
 pub fn renew_all(ports: &mut SharedPorts, that: &SharedPorts) -> Result<(), AllocError>
     ensures { OnOk result ((k : List ℕ) → lookup nat_cmp ports.new k
@@ -145,7 +145,7 @@ pub fn renew_all(ports: &mut SharedPorts, that: &SharedPorts) -> Result<(), Allo
     })
 }
 
-/// Takes the ports of another tree over, and drops the servers that it lacks.
+/// Takes over the ports of another tree, and drops the servers that it lacks.
 #[tactic(auto, using(vec_collections::specs::Exact::exactly))]
 pub fn renew_common(ports: &mut SharedPorts, that: &SharedPorts) -> Result<(), AllocError>
     ensures { OnOk result ((k : List ℕ) → lookup nat_cmp ports.new k
@@ -157,7 +157,7 @@ pub fn renew_common(ports: &mut SharedPorts, that: &SharedPorts) -> Result<(), A
     })
 }
 
-/// Takes the ports of another tree over, for the servers that are there.
+/// Takes over the ports of another tree, for the servers that are there.
 #[tactic(auto, using(vec_collections::specs::Exact::exactly))]
 pub fn renew(ports: &mut SharedPorts, that: &SharedPorts) -> Result<(), AllocError>
     ensures { OnOk result ((k : List ℕ) → lookup nat_cmp ports.new k

@@ -43,7 +43,7 @@ pub fn size_of<'p>(sizes: &Sizes<'p>, file: &[&'p str]) -> Option<u64>
     sizes.get(file).copied()
 }
 
-/// Notes the size of a file.
+/// Records the size of a file.
 pub fn note_size<'p>(sizes: &mut Sizes<'p>, file: &[&'p str], size: u64) -> Result<(), AllocError>
     ensures { OnOk result (IsInserted by_letters (λ v w. v ≡ w) file.now size sizes.old sizes.new) }
 {

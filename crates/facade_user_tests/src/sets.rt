@@ -1,4 +1,4 @@
-//! Sets from outside: each call, operator and iteration, with what a user says of it.
+//! Sets, as a user writes them: each call, operator and iteration, with a user's clauses.
 ghost use Rattle.std.specs.Prelude.{◌≡◌, ◌==◌, ◌||◌, ◌&&◌, ◌↔◌, ◌≤◌, ◌-◌, ◌<◌, ◌^◌, ◌%◌, not, IfOk, IfSome, IsNone, OnOk, OnErr, IsOk, IsTrue, Some, [], ◌∷◌, ℕ, false, length, count_by, drop, filter, nat_le, reverse, slice_get, sum, take};
 ghost use Rattle.std.specs.BTreeMap.Range.{range_contains};
 ghost use Rattle.std.specs.Option.{option_copied};
@@ -26,10 +26,10 @@ use vec_collections::{
     symmetric_difference, union,
 };
 
-/// The tags of an article, of which four need no allocation.
+/// The tags of an article. Four of them need no allocation.
 pub type Tags = VecSet<u32, 4>;
 
-/// What the four operations make of the tags of two articles.
+/// The results of the four operations on the tags of two articles.
 #[derive(Drop)]
 pub struct Four {
     pub either: Tags,
@@ -50,7 +50,7 @@ pub fn four_by_operators(a: &Tags, b: &Tags) -> Result<Four, AllocError>
     })
 }
 
-/// By the operators, of names, whose clones a user owes nothing for.
+/// By the operators, of names; a user has to prove nothing about their clones.
 pub fn names_by_operators(
     a: &VecSet<String, 4>,
     b: &VecSet<String, 4>,
@@ -58,7 +58,7 @@ pub fn names_by_operators(
     Ok([(a | b)?, (a & b)?, (a ^ b)?, (a - b)?])
 }
 
-/// The names of users, of which four need no allocation.
+/// The names of users. Four of them need no allocation.
 pub type Names = VecSet<String, 4>;
 
 /// Whether a name is taken: whether one of the names that are held has its letters.
@@ -75,7 +75,7 @@ pub fn held_name<'a>(names: &'a Names, name: &str) -> Option<&'a String>
     names.get_by(name)
 }
 
-/// Gives a name free, and answers whether it was taken. Each other name stays.
+/// Frees a name, and answers whether it was taken. Each other name stays.
 pub fn give_free(names: &mut Names, name: &str) -> bool
     ensures was_taken { result ≡ list_any (λ held. has_letters name.now held) names.old }
     ensures others { (other : _) → has_letters name.now other ≡ false
@@ -152,7 +152,7 @@ pub fn keep_one(tags: &mut Tags, more: &Tags) -> Result<(), AllocError>
     tags.xor_with(more)
 }
 
-/// Adds the tags of an article that is gone afterwards.
+/// Adds the tags of an article that is moved.
 pub fn absorb(tags: &mut Tags, more: VecSet2<u32>) -> Result<(), AllocError>
     ensures added { OnOk result (IsEither tags.old more tags.new) }
     ensures err { OnErr result (tags.new ≡ tags.old) }
@@ -160,7 +160,7 @@ pub fn absorb(tags: &mut Tags, more: VecSet2<u32>) -> Result<(), AllocError>
     tags.bitor_assign(more)
 }
 
-/// Keeps the tags that it or an article that is gone afterwards has, but not both.
+/// Keeps the tags that either these or an article that is moved has, but not both.
 pub fn absorb_one(tags: &mut Tags, more: VecSet2<u32>) -> Result<(), AllocError>
     ensures kept { OnOk result (IsOne tags.old more tags.new) }
     ensures err { OnErr result (tags.new ≡ tags.old) }
@@ -168,7 +168,7 @@ pub fn absorb_one(tags: &mut Tags, more: VecSet2<u32>) -> Result<(), AllocError>
     tags.bitxor_assign(more)
 }
 
-/// Takes out the tags of an article that is gone afterwards.
+/// Removes the tags of an article that is moved.
 pub fn retire(tags: &mut Tags, old: VecSet2<u32>) -> Result<(), AllocError>
     ensures succeeds { IsOk result }
     ensures rest { (tag : ℕ) → has tags.new tag ≡ (has tags.old tag && not (has old tag)) }
@@ -176,7 +176,7 @@ pub fn retire(tags: &mut Tags, old: VecSet2<u32>) -> Result<(), AllocError>
     tags.combine_with(old, SetOp::Difference)
 }
 
-/// Adds the tags of an article that is gone afterwards, as an iterator gives them.
+/// Adds the tags of an article that is moved, as an iterator gives them.
 pub fn add_each(tags: &mut Tags, more: Tags) -> Result<(), AllocError>
     ensures added { OnOk result (IsEither tags.old more tags.new) }
     ensures err { OnErr result (tags.new ≡ tags.old) }
@@ -195,7 +195,7 @@ pub fn keep_both(tags: &mut Tags, b: &Tags, c: &VecSet2<u32>, d: VecSet2<u32>)
     *tags &= d;
 }
 
-/// Takes the tags of three other articles out.
+/// Removes the tags of three other articles.
 pub fn keep_rest(tags: &mut Tags, b: &Tags, c: &VecSet2<u32>, d: VecSet2<u32>)
     ensures { (tag : ℕ) → has tags.new tag
         ≡ (((has tags.old tag && not (has b.now tag)) && not (has c.now tag)) && not (has d tag)) }
@@ -205,7 +205,7 @@ pub fn keep_rest(tags: &mut Tags, b: &Tags, c: &VecSet2<u32>, d: VecSet2<u32>)
     *tags -= d;
 }
 
-/// How two articles stand to each other.
+/// How two articles compare with each other.
 #[derive(Drop)]
 pub struct Standing {
     pub is_disjoint: bool,
@@ -235,8 +235,8 @@ pub fn standing_counted(a: &Tags, b: &Tags, steps: &mut Steps) -> Standing
     }
 }
 
-/// Whether an article has all tags that are asked for, by what is left of them: a law ties the
-/// difference to the test.
+/// Whether an article has all tags in `asked`, by what is left of these: a law connects the
+/// difference with the test.
 pub fn has_all(tags: &Tags, asked: &Tags) -> Result<bool, AllocError>
     ensures { IfOk result (λ has_all. IsTrue has_all
         ↔ ((tag : ℕ) → IsTrue (has asked.now tag) → IsTrue (has tags.now tag))) }
@@ -245,7 +245,7 @@ pub fn has_all(tags: &Tags, asked: &Tags) -> Result<bool, AllocError>
     Ok(asked.difference(tags)?.is_empty())
 }
 
-/// Puts one tag in the place of another, and says whether the other one was there.
+/// Replaces one tag by another, and answers whether it was there.
 pub fn rename(tags: &mut Tags, from: u32, to: u32) -> Result<bool, AllocError>
     ensures found { IfOk result (λ found. found ≡ has tags.old from) }
     ensures renamed { OnOk result
@@ -286,7 +286,7 @@ pub fn count_shown(tags: &Tags) -> usize
     tags.iter().len()
 }
 
-/// The tags of a list in any order, in which some may stand twice.
+/// The tags of a list in any order, in which some may be twice.
 pub fn of_any_list(alloc: Global, list: Vec<u32>) -> Result<Tags, AllocError>
     ensures { IfOk result (λ tags. (tag : ℕ)
         → member nat_cmp tags tag ≡ member nat_cmp list.items tag) }
@@ -294,7 +294,7 @@ pub fn of_any_list(alloc: Global, list: Vec<u32>) -> Result<Tags, AllocError>
     Tags::from_unsorted(alloc, list)
 }
 
-/// Takes the least tag out, and answers it.
+/// Removes the least tag and answers it.
 pub fn take_least(tags: &mut Tags) -> Option<u32>
     ensures least { result ≡ slice_get tags.old 0 }
     ensures rest { tags.new ≡ drop 1 tags.old }
@@ -302,7 +302,7 @@ pub fn take_least(tags: &mut Tags) -> Option<u32>
     tags.pop_first()
 }
 
-/// Takes the greatest tag out, and answers it.
+/// Removes the greatest tag and answers it.
 pub fn take_greatest(tags: &mut Tags) -> Option<u32>
     ensures greatest { result ≡ slice_get tags.old (length tags.old - 1) }
     ensures rest { tags.new ≡ take (length tags.old - 1) tags.old }
@@ -390,7 +390,7 @@ pub fn of_unordered(alloc: Global, list: BTreeSet<u32>) -> Result<Tags, AllocErr
     Tags::from_btree_set(alloc, list)
 }
 
-/// The tags in a set with another number of places.
+/// The tags in a set with another inline size.
 pub fn moved(alloc: Global, tags: Tags) -> Result<VecSet2<u32>, AllocError>
     ensures { IfOk result (λ set. set ≡ tags) }
 {
@@ -430,10 +430,10 @@ pub fn feed<H: Hasher>(tags: &Tags, hasher: &mut H)
     tags.hash(hasher);
 }
 
-/// A list that may stand in place.
+/// A list that may be inline.
 type List = SmallVec<u32, 4>;
 
-/// The tags as lists: two that may stand in place, and a `Vec`.
+/// The tags as lists: two that may be inline, and a `Vec`.
 pub fn lists(a: Tags, b: Tags, c: Tags) -> Result<(List, Vec<u32>, List), AllocError>
     ensures { IfOk result (λ three. (three.0.items ≡ a) × (three.1.items ≡ b)
         × (three.2.items ≡ c)) }
@@ -466,7 +466,7 @@ pub fn least(tags: &Tags) -> Option<u32>
     tags.as_ref().first().copied()
 }
 
-/// Gives back what the tags do not need.
+/// Gives back the memory that the tags do not need.
 pub fn pack(tags: &mut Tags)
     ensures { tags.new ≡ tags.old }
 {

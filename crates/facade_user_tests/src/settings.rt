@@ -1,5 +1,5 @@
-//! Settings by their paths, in the shared flavour: what a change leaves at each path, said by the
-//! values there.
+//! Settings by their paths, in the shared flavour: what a change leaves at each path, by the values
+//! there.
 ghost use Rattle.std.specs.Prelude.{◌≡◌, ℕ, List, None, Some, is_some, IfOk, IsFalse, IsTrue, OnOk};
 ghost use Rattle.std.specs.Ordering.{nat_cmp};
 ghost use Rattle.vec_collections.specs.Key.{behind, same_key};
@@ -35,7 +35,7 @@ pub fn unset(settings: &mut Settings, path: &[u8]) -> Result<(), AllocError>
     Ok(())
 }
 
-/// Unsets what begins with the path of a folder, in the word of the call.
+/// Unsets what begins with the path of a folder, with the clause of the call.
 #[tactic(auto, using(vec_collections::specs::Exact::exactly))]
 fn clear(settings: &mut Settings, folder: &[u8]) -> Result<(), AllocError>
     ensures { OnOk result (IsWithoutBelow nat_cmp (λ x y. x ≡ y) folder.now

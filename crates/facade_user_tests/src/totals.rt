@@ -1,4 +1,4 @@
-//! Arithmetic of total maps from outside, by operators on references, with what a user says of the
+//! Arithmetic of total maps, as a user writes it, by operators on references, with clauses on the
 //! value at each key.
 ghost use Rattle.std.specs.Prelude.{◌≡◌, ◌==◌, ◌+◌, ◌-◌, ◌*◌, ◌/◌, ◌^◌, ◌<◌, ◌≤◌, ℕ, cond, min, Ok, IfOk, OnOk};
 ghost use Rattle.std.specs.Ordering.{nat_cmp};
@@ -9,7 +9,7 @@ use std::alloc::{AllocError, Global};
 use vec_collections::VecMap;
 use vec_collections::total_vec_map::TotalVecMap;
 
-/// A number for each article, most of which have the same one.
+/// A number for each article, where most have the same one.
 pub type Tally = TotalVecMap<u32, u32, 4>;
 
 /// The pieces of each article on two shelves together.
@@ -46,7 +46,7 @@ pub fn recount(tally: &mut Tally, article: u32, pieces: u32) -> Result<(), Alloc
     tally.set(article, pieces)
 }
 
-/// Gives back what the tally does not need.
+/// Gives back the memory that the tally does not need.
 pub fn pack(tally: &mut Tally)
     ensures { tally.new ≡ tally.old }
 {
@@ -67,7 +67,7 @@ pub fn together_up_to_most(here: &Tally, there: &Tally) -> Result<Tally, AllocEr
     )
 }
 
-/// The pieces of each article once some more of one came, or the greatest number.
+/// The pieces of each article after some more of one were added, or the greatest number.
 pub fn with_more(alloc: Global, held: &Tally, article: u32, more: u32) -> Result<Tally, AllocError>
     ensures { IfOk result (λ tally. (other : ℕ) → at nat_cmp tally other
         ≡ min (at nat_cmp held.now other + cond (other == article) more 0) (2 ^ 32 - 1)) }
@@ -76,7 +76,7 @@ pub fn with_more(alloc: Global, held: &Tally, article: u32, more: u32) -> Result
     together_up_to_most(held, &arrived)
 }
 
-/// The pieces of each article that are left once some were sold.
+/// The pieces of each article that are left after some were sold.
 #[tactic(auto, using(vec_collections::specs::Pointwise::pointwise))]
 pub fn left_over(held: &Tally, sold: &Tally) -> Result<Tally, AllocError>
     requires suffices { HoldsEverywhere nat_cmp (λ x y. y ≤ x) held.now sold.now }

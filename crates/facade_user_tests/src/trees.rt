@@ -1,5 +1,5 @@
-//! Radix trees from outside: each call at both flavours, generic code, and a tree of this crate's
-//! own with children.
+//! Radix trees, as a user writes them: each call at both flavours, generic code, and a tree of this
+//! crate's own with children.
 ghost use Rattle.std.specs.Prelude.{◌≡◌, ◌<◌, ℕ, List, [], ◌∷◌, Ok, Some, None, false, length, map, IfOk, OnOk, OnErr};
 ghost use Rattle.std.specs.Ordering.{nat_cmp};
 ghost use Rattle.std.specs.Option.{option_copied};
@@ -24,7 +24,7 @@ pub type Ports = RadixTree<u8, u32>;
 /// The ports of servers, of which snapshots are kept.
 pub type SharedPorts = ArcRadixTree<u8, u32>;
 
-/// Sets the port of a server, and answers the one that it had.
+/// Sets the port of a server, and answers the old one.
 #[tactic(auto, using(vec_collections::specs::Exact::exactly))]
 pub fn set_shared_port(
     ports: &mut SharedPorts,
@@ -52,7 +52,7 @@ pub fn move_to_next_port<T: AbstractRadixTreeMut<u8, u32>>(
     Ok(moved.is_some())
 }
 
-/// Takes the port of a server away where the ports are shared, and answers it.
+/// Removes the port of a server where the ports are shared, and answers it.
 #[tactic(auto, using(vec_collections::specs::Exact::exactly))]
 pub fn forget_shared_port(ports: &mut SharedPorts, server: &[u8]) -> Result<Option<u32>, AllocError>
     ensures had { IfOk result (λ had. had ≡ lookup nat_cmp ports.old server.now) }
@@ -62,7 +62,7 @@ pub fn forget_shared_port(ports: &mut SharedPorts, server: &[u8]) -> Result<Opti
     ports.remove(server)
 }
 
-/// Hands the servers over whose names begin with the zone, with their ports.
+/// Removes the servers whose names begin with the zone, and returns them with their ports.
 #[tactic(auto, using(vec_collections::specs::Exact::exactly))]
 pub fn split_zone(ports: &mut Ports, zone: &[u8]) -> Result<Ports, AllocError>
     ensures handed { IfOk result (λ handed. IsEqualMap (λ x y. x ≡ y)
@@ -74,7 +74,7 @@ pub fn split_zone(ports: &mut Ports, zone: &[u8]) -> Result<Ports, AllocError>
     ports.split_below(zone)
 }
 
-/// Changes the ports, one change after another, and says which changes were made.
+/// Changes the ports, one change after another, and answers which changes succeeded.
 pub fn change_ports(
     ports: &mut Ports,
     changes: Vec<TreeCommand<u8, u32, Ports>>,
@@ -96,7 +96,7 @@ pub fn snapshot_of(ports: &SharedPorts) -> Result<SharedPorts, AllocError>
     ports.clone()
 }
 
-/// No port.
+/// The tree with no port.
 pub fn no_ports(alloc: Global) -> Ports
     ensures { result ≡ no_tree }
 {

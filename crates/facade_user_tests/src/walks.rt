@@ -1,4 +1,4 @@
-//! Walks from outside: the walks of one tree beside each other, their steps, and the keys that they
+//! Walks, as a user writes them: several walks of one tree, their steps, and the keys that they
 //! give.
 ghost use Rattle.std.specs.Prelude.{◌≡◌, ◌≤◌, ◌⊎◌, ◌+◌, ◌-◌, ◌^◌, ℕ, List, None, IfErr, IfOk};
 ghost use Rattle.std.specs.Prelude.{Contains, IsSome, IsTrue, MatchOption, length, map, max, min};
@@ -41,7 +41,7 @@ pub fn pairs_below<'a, K: TKey, V: TValue + 'a, T: AbstractRadixTree<K, V>>(
     tree.scan_prefix(folder)
 }
 
-/// The pairs of a tree that the walk holds, each with a clone of its value.
+/// The pairs of a tree that the walk owns, each with a clone of its value.
 pub fn pairs_held<T: AbstractRadixTree<u8, u32> + Drop>(tree: T) -> ObjAndIter<u8, u32, T>
     ensures { IsWalk nat_cmp (lookup nat_cmp (T.tree tree)) (held_left T.tree result) }
 {
@@ -68,7 +68,7 @@ pub fn next_value<'a, T: AbstractRadixTree<u8, u32>>(
     walk.next()
 }
 
-/// The next pair of a walk that holds its tree.
+/// The next pair of a walk that owns its tree.
 pub fn next_held<T: AbstractRadixTree<u8, u32> + Drop>(
     walk: &mut ObjAndIter<u8, u32, T>,
 ) -> Option<Result<(IterKey<u8>, u32), AllocError>>

@@ -1,6 +1,6 @@
-//! Comparisons by lengths. Of joins: keys that count their own see no more than the bound, a
-//! counted join counts each of them, and one without a counter compares as often. Of calls that
-//! take another map in: keys see no more than a join may compare.
+//! Comparisons by lengths. For joins: keys that count their own comparisons stay within the bound,
+//! a counted join counts each of them, and one without a counter makes as many. For calls that take
+//! in another map: keys see no more comparisons than a join may make.
 
 use super::outcomes::holds;
 use set_user_tests::compared::Compared;
@@ -21,8 +21,8 @@ const KINDS: [JoinKind; 4] = [
     JoinKind::Inner,
 ];
 
-/// The map of so many numbers to 1, beside one of `many` numbers. Its keys count their comparisons
-/// on `count`.
+/// The map of `few` numbers to 1, for use with one of `many` numbers. Its keys count their
+/// comparisons on `count`.
 fn map_of<'a>(
     alloc: Global,
     place: Place,
@@ -81,7 +81,7 @@ fn fresh<'s, 'a>(
     }
 }
 
-/// Puts the join of the kind in the place of the left map, by the call without a counter.
+/// Replaces the left map by the join of the kind, by the call without a counter.
 fn change<'s, 'a>(kind: JoinKind, a: &'s mut Map<'a>, b: &'s Map<'a>) -> Result<(), AllocError> {
     match kind {
         JoinKind::Outer => a.outer_join_with(b, one_handed),
@@ -105,7 +105,7 @@ fn fresh_counted<'s, 'a>(
     a.join_counted(b, kind, one_shown, steps)
 }
 
-/// A clone of the left map in whose place the join was put, by the call without a counter.
+/// A clone of the left map, replaced by the join, by the call without a counter.
 fn in_place<'s, 'a>(kind: JoinKind, a: &'s Map<'a>, b: &'s Map<'a>) -> Result<Map<'a>, AllocError> {
     let mut left = a.clone()?;
     change(kind, &mut left, b)?;
@@ -131,8 +131,8 @@ enum Form {
     InPlace,
 }
 
-/// How often the join compares, where it counts that and it is at most so often, and what it made.
-/// Where both maps have keys it compares.
+/// The number of comparisons of the join, where it counts these and stays within the bound, and its
+/// result. Where both maps have keys it has to compare.
 fn counted_agrees<'s, 'a>(
     form: Form,
     kind: JoinKind,
@@ -152,8 +152,8 @@ fn counted_agrees<'s, 'a>(
     Ok((agrees.then_some(seen), made))
 }
 
-/// Whether the join compares as often as it counts, at most so often, and as often without a
-/// counter, and makes the same.
+/// Whether the join makes as many comparisons as it counts, stays within the bound, makes as many
+/// without a counter, and has the same result.
 fn agrees<'s, 'a>(
     alloc: Global,
     form: Form,
@@ -188,7 +188,7 @@ fn joins_agree<'s, 'a>(
     Ok(agree)
 }
 
-/// A call that takes another map in, and has no counter.
+/// A call that takes in another map, and has no counter.
 #[derive(Clone, Copy)]
 enum Taking {
     Combine,
@@ -210,7 +210,7 @@ fn taken_in<'s, 'a>(taking: Taking, a: &'s Map<'a>, b: &'s Map<'a>) -> Result<Ma
     Ok(left)
 }
 
-/// Whether each such call compares at most so often, and where both maps have keys it does.
+/// Whether each such call stays within the bound, and compares where both maps have keys.
 fn takings_agree<'s, 'a>(
     a: &'s Map<'a>,
     b: &'s Map<'a>,
@@ -234,7 +234,7 @@ enum Calls {
     Takings,
 }
 
-/// Whether comparisons of two maps are as they have to be.
+/// Whether the comparisons of two maps are as required.
 fn all_agree<'s, 'a>(
     alloc: Global,
     calls: Calls,

@@ -1,5 +1,5 @@
-//! What calls drop is dropped once, refused ones too, and nothing else is; they clone nothing of
-//! what they keep or move, and ask nothing before a refusal.
+//! What calls drop is dropped once, by refused calls too, and nothing else is dropped. They clone
+//! nothing that they keep or move, and call no closure before a refusal.
 
 use super::outcomes::{holds, same};
 use super::sides::{Map, Memory, Sides, memory_over, numbered};
@@ -20,7 +20,7 @@ type Numbers<'a> = VecMap<Held, u32, 1, &'a Memory>;
 /// Greater than the number of requests of each call.
 const LIMIT: u64 = 4;
 
-/// Counts a question.
+/// Counts a call of a closure.
 fn count(asked: &Cell<u64>) {
     asked.set(asked.get().wrapping_add(1));
 }
@@ -103,7 +103,7 @@ enum Change {
 }
 
 impl Change {
-    /// Whether keys of the right map come in, as clones.
+    /// Whether keys of the right map are added, as clones.
     fn clones(self) -> bool {
         match self {
             Change::Join(kind) => kind.asks_right(),
@@ -112,7 +112,7 @@ impl Change {
         }
     }
 
-    /// Makes the call, whose closure counts its questions. The right map is gone afterwards.
+    /// Makes the call, whose closure counts its calls. The right map is moved.
     fn make<'a>(
         self,
         left: &mut Map<'a>,
@@ -129,9 +129,9 @@ impl Change {
     }
 }
 
-/// A call, how many requests it makes and how many questions its closure counts, and how many hold
-/// the four shares once the right map is gone. The function that an outer join and a counted one
-/// ask counts none.
+/// A call, the number of its requests and of the calls of its closure, and the holders of the four
+/// shares after the right map was dropped. The function that an outer join and a counted one call
+/// counts none.
 type Row = (Change, u64, u64, [usize; 4]);
 
 const ROWS: [Row; 11] = [
@@ -155,7 +155,7 @@ const ALONE: [usize; 4] = [1, 1, 1, 1];
 const UNCHANGED: [usize; 4] = [3, 3, 1, 1];
 
 /// Makes the call with the request of that number and the next one refused: whether it succeeded,
-/// and how many questions were counted.
+/// and how many calls of the closure were counted.
 fn make_refused<'a>(
     memory: &Memory,
     change: Change,
@@ -171,7 +171,7 @@ fn make_refused<'a>(
 }
 
 /// Whether the call drops each key and value once and clones none that it keeps or moves, where the
-/// request of that number and the next one are refused. A refused call has asked nothing.
+/// request of that number and the next one are refused. A refused call has not called its closure.
 fn is_dropped_once(
     sides: &Sides,
     memory: &Memory,
@@ -192,7 +192,7 @@ fn is_dropped_once(
     Ok(outcome == expected && sides.holders() == holders)
 }
 
-/// Whether that holds where each request is refused, and all is dropped once the maps are gone.
+/// Whether that holds where each request is refused, and all is dropped after the maps are.
 fn is_always_dropped_once(
     sides: &Sides,
     memory: &Memory,
@@ -234,7 +234,7 @@ fn numbers(memory: &Memory, first: u32, refuses: bool) -> Result<Numbers<'_>, Al
 }
 
 /// Whether an outer join in place succeeds, with the request of that number and the next one
-/// refused, and how many questions it asked.
+/// refused, and how often it called its closure.
 fn outer_asks(
     memory: &Memory,
     right_refuses: bool,
@@ -252,8 +252,8 @@ fn outer_asks(
     Ok((outcome.is_ok(), asked.get()))
 }
 
-/// Whether keys of the right map refuse to be cloned, the request that is refused, and what that
-/// answers then.
+/// Whether keys of the right map refuse to be cloned, the request that is refused, and the answer
+/// then.
 const OUTCOMES: [(bool, u64, (bool, u64)); 3] = [
     (false, 0, (true, 3)),
     (false, 1, (false, 0)),
@@ -269,7 +269,7 @@ fn a_refused_outer_join_asks_nothing(rt: HostRuntime) {
     }
 }
 
-/// Whether the values of a map are turned into others, each shown once and no key cloned, with the
+/// Whether the values of a map are mapped, with one call for each and no key cloned, with the
 /// request of that number and the next one refused.
 fn is_turned_once(sides: &Sides, memory: &Memory, number: u64) -> Result<bool, AllocError> {
     let asked = Cell::new(0);
@@ -299,13 +299,13 @@ fn values_that_are_turned_are_dropped(rt: HostRuntime) -> Result<(), Fail> {
     Ok(())
 }
 
-/// The holders after a known key came again, from the right map.
+/// The holders after a held key was inserted again, from the right map.
 fn insert_again(sides: &Sides, map: &mut Map<'_>) -> Result<[usize; 4], AllocError> {
     sides.right.put(map, 2, true)?;
     Ok(sides.holders())
 }
 
-/// Whether an insert beside a pair that fills the place is refused, and what came is dropped.
+/// Whether an insert into a map that is full inline is refused, and drops the new pair.
 fn drops_what_is_refused(sides: &Sides, memory: &Memory) -> Result<bool, AllocError> {
     let mut map = Map::empty(memory);
     sides.left.put(&mut map, 1, true)?;
@@ -315,7 +315,7 @@ fn drops_what_is_refused(sides: &Sides, memory: &Memory) -> Result<bool, AllocEr
     Ok(is_refused && sides.holders() == [2, 2, 1, 1])
 }
 
-/// The holders after the value of the first pair was written over.
+/// The holders after the value of the first pair was replaced.
 fn write_first(sides: &Sides, map: &mut Map<'_>) -> [usize; 4] {
     let key = numbered(1);
     if let Some(value) = map.get_mut(&key) {
@@ -324,13 +324,13 @@ fn write_first(sides: &Sides, map: &mut Map<'_>) -> [usize; 4] {
     sides.holders()
 }
 
-/// The holders after a map kept its first pair alone.
+/// The holders after a map kept only its first pair.
 fn keep_first(sides: &Sides, map: &mut Map<'_>) -> [usize; 4] {
     map.retain(|pair| pair.0.number == 1);
     sides.holders()
 }
 
-/// The holders after a pair was removed, while its value is held and once that is let go.
+/// The holders after a pair was removed, while its value is held and after that is dropped.
 fn remove_second(sides: &Sides, map: &mut Map<'_>) -> [[usize; 4]; 2] {
     let value = map.remove(&numbered(2));
     let held = sides.holders();
@@ -338,7 +338,7 @@ fn remove_second(sides: &Sides, map: &mut Map<'_>) -> [[usize; 4]; 2] {
     [held, sides.holders()]
 }
 
-/// Those holders of a map of two pairs, and those once the map is gone.
+/// Those holders of a map of two pairs, and those after the map is dropped.
 fn removes(sides: &Sides, memory: &Memory) -> Result<[[usize; 4]; 3], AllocError> {
     let mut map = sides.left.map(memory, 1, true)?;
     let [held, let_go] = remove_second(sides, &mut map);
@@ -346,8 +346,8 @@ fn removes(sides: &Sides, memory: &Memory) -> Result<[[usize; 4]; 3], AllocError
     Ok([held, let_go, sides.holders()])
 }
 
-/// The holders while the first pair is held, which was taken out of a map of two, once it is let
-/// go, and once the map was cleared.
+/// The holders while the first pair, which was removed from a map of two, is held, after it is
+/// dropped, and after the map was cleared.
 fn pops(sides: &Sides, memory: &Memory) -> Result<[[usize; 4]; 3], AllocError> {
     let mut map = sides.left.map(memory, 1, true)?;
     let first = map.pop_first();
@@ -376,8 +376,8 @@ fn removed_values_are_handed_back(rt: HostRuntime) -> Result<(), Fail> {
     Ok(())
 }
 
-/// The holders after the first pair was taken out of a map, which is left in an iterator, and after
-/// the iterator is gone.
+/// The holders after the first pair was removed from a map, which is left in an iterator, and after
+/// the iterator is dropped.
 fn take_first(sides: &Sides, map: Map<'_>) -> ([usize; 4], [usize; 4]) {
     let mut pairs = map.into_iter();
     drop(pairs.next());
@@ -386,8 +386,8 @@ fn take_first(sides: &Sides, map: Map<'_>) -> ([usize; 4], [usize; 4]) {
     (left, sides.holders())
 }
 
-/// The holders after a known key came again, after the first value was written over, after the map
-/// kept its first pair, and after the key came again.
+/// The holders after a held key was inserted again, after the first value was replaced, after the
+/// map kept only its first pair, and after the key was inserted again.
 fn change_one(sides: &Sides, map: &mut Map<'_>) -> Result<[[usize; 4]; 4], AllocError> {
     let inserted = insert_again(sides, map)?;
     let written = write_first(sides, map);
@@ -403,7 +403,7 @@ fn let_go(sides: &Sides, memory: &Memory) -> Result<[[usize; 4]; 6], AllocError>
     Ok([inserted, written, kept, again, left, ended])
 }
 
-/// What they are to be.
+/// The expected holders.
 const LET_GO: [[usize; 4]; 6] = [
     [2, 2, 2, 2],
     [2, 1, 2, 2],

@@ -1,5 +1,5 @@
-//! Calls on one map on a worked example, and what no clause says of them: what is asked, printed
-//! text and hashes.
+//! Calls on one map on a worked example, and what no clause states: which calls closures get,
+//! printed text and hashes.
 
 use super::outcomes::holds;
 use std::alloc::{AllocError, Global};
@@ -15,7 +15,7 @@ type Map = VecMap<u32, u32, 2>;
 /// The pairs of a map that is made in two ways.
 const PAIRS: [(u32, u32); 3] = [(1, 2), (2, 4), (3, 6)];
 
-/// The map of pairs, which come in any order.
+/// The map of pairs, in any order.
 fn map_of(alloc: Global, pairs: &[(u32, u32)]) -> Result<Map, AllocError> {
     let mut map = Map::empty(alloc);
     for (key, value) in pairs {
@@ -35,19 +35,20 @@ fn write(map: &mut Map, key: u32) -> bool {
     }
 }
 
-/// Whether an insert at a known key answers its value, and leaves what was worked out.
+/// Whether an insert at a held key answers its value, and leaves the expected map.
 fn inserts(map: &mut Map) -> Result<bool, AllocError> {
     let old = map.insert(2, 9)?;
     Ok(old == Some(4) && map.as_ref() == [(1, 2), (2, 9), (3, 6)].as_slice())
 }
 
-/// Whether values are found and written over at a key of the map alone.
+/// Whether values are found and replaced only at a key of the map.
 fn finds(map: &mut Map) -> bool {
     let are_found = map.get(&3).copied() == Some(6) && map.get(&4).is_none();
     are_found && write(map, 3) && !write(map, 4)
 }
 
-/// Whether a retain leaves what was worked out, and asks once at each key, in ascending order.
+/// Whether a retain leaves the expected map, and calls its test once for each key, in ascending
+/// order.
 fn keeps(map: &mut Map) -> bool {
     let asked = Cell::new(0u32);
     map.retain(|pair| {
@@ -57,7 +58,8 @@ fn keeps(map: &mut Map) -> bool {
     asked.get() == 123 && map.as_ref() == [(1, 2), (3, 8)].as_slice()
 }
 
-/// Whether each value is lent once, in ascending order of the keys, and what is left there stands.
+/// Whether the closure gets each value once, in ascending order of the keys, and what it leaves is
+/// there.
 fn writes_each(map: &mut Map) -> bool {
     let mut sum = 0u32;
     map.for_each_value(|key, value| {

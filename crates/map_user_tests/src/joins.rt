@@ -1,5 +1,5 @@
-//! Each join, fresh and in place, with a counter and without: at which keys it asks, in which order
-//! and spelling, and what it makes.
+//! Each join, new and in place, with a counter and without: at which keys it calls its closure, in
+//! which order and with which of two equal keys, and its result.
 
 use super::outcomes::holds;
 use set_user_tests::marked::Marked;
@@ -11,7 +11,7 @@ use vc_merge::merge::Steps;
 
 type Map = VecMap<Marked, u32, 2>;
 
-/// What a closure answers: `None` where what it names is missing.
+/// What a closure answers: `None` where the named value is missing.
 #[derive(Clone, Copy)]
 enum Answer {
     /// The sum of what is there.
@@ -20,12 +20,12 @@ enum Answer {
     SumOfBoth,
     /// The left value.
     Left,
-    /// The right value, or else the left one.
+    /// The right value, or otherwise the left one.
     Right,
 }
 
-/// What a closure answers, and the keys that it was asked at, in their order: two digits for each,
-/// of which the second is 1 in the spelling of the right map.
+/// What a closure answers, and the keys of its calls, in their order: two digits for each, where
+/// the second is 1 for the key of the right map.
 #[derive(Drop)]
 struct Asked {
     answer: Answer,
@@ -69,7 +69,7 @@ fn ask(asked: &Asked, key: &Marked, left: Option<u32>, right: Option<u32>) -> Op
     }
 }
 
-/// Answers a fresh join.
+/// Answers a join that builds a new map.
 fn ask_shown(asked: &Asked, at: OuterJoinArg<&Marked, &u32, &u32>) -> Option<u32> {
     match at {
         OuterJoinArg::Left(key, value) => ask(asked, key, Some(*value), None),
@@ -250,7 +250,7 @@ fn join(
     left.clone()
 }
 
-/// The kind of a join, what is answered, what it makes, and at which keys it asks.
+/// The kind of a join, what is answered, its result, and the keys of the calls.
 type Row = (JoinKind, Answer, &'static [(u32, char, u32)], u64);
 
 /// Two maps, whose keys are marked `a` and `b`, and their joins.
@@ -337,7 +337,7 @@ const CASES: [Case; 6] = [
     },
 ];
 
-/// Whether the call makes the map of the row, and asks once at each key that it asks at, in
+/// Whether the call makes the map of the row, and calls its closure at most once for each key, in
 /// ascending order.
 fn agrees(alloc: Global, way: Way, case: Case, row: Row) -> Result<bool, AllocError> {
     let (kind, answer, pairs, keys) = row;
@@ -362,7 +362,7 @@ fn joins_ask_once_a_key_and_make_what_was_worked_out(rt: HostRuntime) {
     }
 }
 
-/// The outer join of `{1: 1, 2: 2}` and `{2: 5}` with the left and the right value by turns.
+/// The outer join of `{1: 1, 2: 2}` and `{2: 5}` with the left and the right value alternately.
 fn by_turns(alloc: Global, is_right: &Cell<bool>) -> Result<Map, AllocError> {
     let left: Map = map_of(alloc, 'a', &[(1, 1), (2, 2)])?;
     let right: Map = map_of(alloc, 'b', &[(2, 5)])?;

@@ -1,5 +1,5 @@
-//! A crate that uses maps and their joins from outside: worked examples, which keys are asked at
-//! and in which spelling, counted comparisons, drops, and clones and requests that are refused.
+//! A crate that uses maps and their joins as a user does: worked examples, the keys with which
+//! closures are called, counted comparisons, drops, and refused clones and requests.
 #![tactic(auto)]
 
 #[cfg(test)]

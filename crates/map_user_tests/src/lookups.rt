@@ -1,5 +1,5 @@
-//! Comparisons of look-ups: keys that count their own see no more than the bound of the map's
-//! length.
+//! Comparisons of look-ups: keys that count their own comparisons stay within the bound for the
+//! map's length.
 
 use super::outcomes::holds;
 use set_user_tests::compared::Compared;
@@ -36,7 +36,7 @@ fn evens<'a>(alloc: Global, length: u32, count: &'a Cell<u128>) -> Result<Map<'a
     Ok(map)
 }
 
-/// How often the call compares. The keys of the map stay as they are: those of new numbers are odd.
+/// The number of comparisons of the call. The keys of the map are unchanged: new numbers are odd.
 fn comparisons<'a>(
     map: &mut Map<'a>,
     call: Call,
@@ -59,7 +59,7 @@ fn comparisons<'a>(
     Ok(compared)
 }
 
-/// Whether the call compares no more often than the bound, at each key of the map and beside it.
+/// Whether the call compares no more often than the bound, at each key of the map and between them.
 fn stays_within<'a>(
     map: &mut Map<'a>,
     call: Call,

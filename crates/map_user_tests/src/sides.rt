@@ -7,7 +7,7 @@ use std::alloc::{AllocError, Global};
 use std::rc::Rc;
 use vc_maps::vec_map::VecMap;
 
-/// Memory of which two requests in a row can be refused.
+/// Memory where two requests in a row can be refused.
 pub(crate) type Memory = Nth<Nth<Global>>;
 
 /// A map of numbers that hold a share to another share.
@@ -72,7 +72,8 @@ impl Sides {
         Ok(Sides { left, right })
     }
 
-    /// How many hold each of the four shares, keys before values and the left ones first.
+    /// The number of holders of each of the four shares, keys before values and the left ones
+    /// first.
     pub(crate) fn holders(&self) -> [usize; 4] {
         [
             holders_of(&self.left.keys),

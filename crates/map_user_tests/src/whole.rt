@@ -1,6 +1,6 @@
-//! Calls that take another map in whole, and values that are turned into others: what they make,
-//! what they ask in which order, and which spelling of a key stays. Where both maps fit in the
-//! place of the left one, no request is made.
+//! Calls that take in all of another map, and mapped values: their results, the order of the calls
+//! of closures, and which of two equal keys stays. Where both maps fit inline in the left one, no
+//! request is made.
 
 use super::joins::{has, map_of};
 use super::outcomes::holds;
@@ -10,10 +10,10 @@ use std::alloc::{AllocError, Global};
 use std::cell::Cell;
 use vc_maps::vec_map::VecMap;
 
-/// A map in whose place six pairs fit, and whose memory refuses a request.
+/// A map where six pairs fit inline, and whose memory can refuse a request.
 type Map<'a> = VecMap<Marked, u32, 6, &'a Nth<Global>>;
 
-/// The values that were shown, one digit for each.
+/// The values that a closure got, one digit for each.
 type Asked = Cell<u64>;
 
 /// Notes two values, and adds them.
@@ -23,7 +23,7 @@ fn ask(asked: &Asked, held: u32, more: u32) -> u32 {
     held.wrapping_add(more)
 }
 
-/// A call that takes another map in.
+/// A call that takes in another map.
 #[derive(Clone, Copy, Debug)]
 enum Way {
     Combine,
@@ -48,8 +48,8 @@ fn take_in<'a>(
 /// Pairs of a map, whose keys have marks.
 type Marks = &'static [(u32, char, u32)];
 
-/// Two maps, whose keys are marked `a` and `b`, what a combine of them makes and what it is shown,
-/// and what a merge of them makes.
+/// Two maps, whose keys are marked `a` and `b`, the result of a combine of them and the values that
+/// its closure gets, and the result of a merge.
 #[derive(Clone, Copy)]
 struct Row {
     left: &'static [(u32, u32)],
@@ -105,7 +105,7 @@ const ROWS: [Row; 6] = [
 ];
 
 impl Row {
-    /// What the call makes, and what it is shown.
+    /// The result of the call, and the values that its closure gets.
     fn outcome(self, way: Way) -> (Marks, u64) {
         match way {
             Way::Combine => (self.combined, self.shown),
@@ -114,7 +114,8 @@ impl Row {
     }
 }
 
-/// Whether the call makes the map of the row and is shown its values, with no request.
+/// Whether the call makes the map of the row and its closure gets the values of the row, with no
+/// request.
 fn agrees(alloc: Global, way: Way, row: Row) -> Result<bool, AllocError> {
     let memory = Nth::new(alloc, 1);
     let asked = Cell::new(0);
@@ -133,7 +134,7 @@ fn maps_are_taken_in_as_worked_out(rt: HostRuntime) {
     }
 }
 
-/// The values of a map turned into the sums of those up to there.
+/// A map with each value replaced by the sum of the values so far.
 fn sums(map: Map<'_>) -> Result<Map<'_>, AllocError> {
     let mut sum = 0u32;
     map.map_values(|value: u32| {
@@ -142,7 +143,7 @@ fn sums(map: Map<'_>) -> Result<Map<'_>, AllocError> {
     })
 }
 
-/// Whether the sums of a map are what was worked out, with no request.
+/// Whether the sums of a map are as expected, with no request.
 fn adds_up(alloc: Global) -> Result<bool, AllocError> {
     let memory = Nth::new(alloc, 1);
     let made = sums(map_of(&memory, 'a', &[(4, 8), (1, 1), (2, 2)])?)?;

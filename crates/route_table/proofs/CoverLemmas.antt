@@ -1,4 +1,4 @@
--- Facts on keys of bits that are the first bits of others, and on the covers of keys.
+-- Facts on keys of bits that are prefixes of others, and on the covers of keys.
 use Rattle.std.proofs.Common.{◌≡◌, ◌≤◌, ℕ, zero, suc, Bool, true, false, List, [], ◌∷◌, ◌++◌, take, drop, length, Option, Some, None, IsTrue, refl, ap, sym, subst, ◌∙◌, get_or, rules}
 use Rattle.std.proofs.Math.Seq.{take-append_seam}
 use Rattle.std.proofs.lemmas.List.{take-append-drop}

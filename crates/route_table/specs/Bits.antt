@@ -2,7 +2,7 @@
 use Rattle.std.specs.Prelude.{ℕ, Bool, ◌==◌, List, [], ◌∷◌, zero, suc}
 use Rattle.std.specs.Int.{bit_at}
 
--- the lowest bits of a number, so many, the highest of them first
+-- this many of the lowest bits of a number, the highest of them first
 abbrev pub low_bits : ℕ → ℕ → List Bool
 low_bits zero number = []
 low_bits (suc place) number = (bit_at number place == 1) ∷ low_bits place number

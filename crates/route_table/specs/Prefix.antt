@@ -9,7 +9,7 @@ use Rattle.route_table.specs.declared.prefix.Prefix.{Prefix}
 abbrev pub prefix_bits : Prefix → List Bool
 prefix_bits prefix = take prefix.length prefix.bits
 
--- both are one prefix
+-- both are the same prefix
 abbrev pub same_prefix : List Bool → List Bool → Bool
 same_prefix prefix other = same_key bool_cmp prefix other
 

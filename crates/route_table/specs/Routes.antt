@@ -28,12 +28,12 @@ pub record IsLongestRoute (routes : Routes) (address : ℕ) (prefix : List Bool)
 abbrev pub NoneCovers : Routes → ℕ → Type 0
 NoneCovers routes address = (prefix : List Bool) → Covers prefix address → routes prefix ≡ None
 
--- this is decided about the address: the longest route that covers it, or none where none does
+-- this is the decision for the address: the longest route that covers it, or none where none does
 abbrev pub IsDecided : Routes → ℕ → Option Decision → Type 0
 IsDecided routes address None = NoneCovers routes address
 IsDecided routes address (Some d) = IsLongestRoute routes address (prefix_bits d.prefix) d.hop.now
 
--- the routes once a line is done
+-- the routes after a line is applied
 abbrev pub routes_with : Line → Routes → Routes
 routes_with Blank routes prefix = routes prefix
 routes_with (Add p hop) routes prefix = cond (same_prefix (prefix_bits p) prefix) (Some hop.now) (routes prefix)

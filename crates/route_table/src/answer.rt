@@ -1,4 +1,4 @@
-//! What lines do to a table, and what they are answered.
+//! What lines change in a table, and how they are answered.
 
 ghost use Rattle.std.specs.Prelude.{◌≡◌, cond, Bool, List, ◌∷◌, None, Some, OnErr, OnOk};
 ghost use Rattle.route_table.specs.Prefix.{prefix_bits, same_prefix};
@@ -13,8 +13,7 @@ use std::alloc::{AllocError, Global};
 use std::fmt::Write;
 use std::net::Ipv4Addr;
 
-/// Does what a line says to a table: a question is a fault here. A line with a fault changes
-/// nothing.
+/// Applies a line to a table: a question is a fault here. A line with a fault changes nothing.
 pub fn change(alloc: Global, table: &mut Table, line: Line<'_>) -> Result<(), Fault>
     ensures ok { (lines : List Line) → IsAfter lines table.old
         → OnOk result (IsAfter (line.entry ∷ lines) table.new) }
@@ -29,8 +28,8 @@ pub fn change(alloc: Global, table: &mut Table, line: Line<'_>) -> Result<(), Fa
     }
 }
 
-/// Does what a line says, and adds its answer to the text: a line for an address, and for a prefix
-/// a line for each route that is in it. A line with a fault changes no route.
+/// Applies a line, and appends its answer to the text: one line for an address, and for a prefix a
+/// line for each route within it. A line with a fault changes no route.
 pub fn answer(
     alloc: Global,
     table: &mut Table,
@@ -61,7 +60,7 @@ fn add(alloc: Global, table: &mut Table, prefix: &Prefix, hop: &str) -> Result<(
     Ok(())
 }
 
-/// Takes a route out. It is a fault where there is none.
+/// Removes a route. It is a fault where there is none.
 fn withdraw(table: &mut Table, prefix: &Prefix) -> Result<(), Fault>
     ensures ok { OnOk result ((other : List Bool)
         → hop_at table.new other ≡ cond (same_prefix (prefix_bits prefix.now) other)

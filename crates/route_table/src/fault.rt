@@ -9,13 +9,13 @@ use std::fmt;
 pub enum Fault {
     /// The line is not UTF-8.
     NotText,
-    /// A word in the place of an address is none.
+    /// A word where an address is expected is not one.
     NotAnAddress,
-    /// A word in the place of a prefix is none.
+    /// A word where a prefix is expected is not one.
     NotAPrefix,
     /// There are more words than a line of its kind has.
     TooManyWords,
-    /// No route has the prefix that is to be taken out.
+    /// No route has the prefix that is to be removed.
     NoSuchRoute,
     /// A question is in the file of the table.
     NotAChange,

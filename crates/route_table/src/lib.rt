@@ -1,4 +1,5 @@
-//! Routes by prefixes of IPv4 addresses. Of those that cover an address the longest decides.
+//! Routes by prefixes of IPv4 addresses. Of the prefixes that cover an address, the longest
+//! decides.
 #![tactic(auto)]
 
 pub mod answer;

@@ -9,9 +9,9 @@ use std::net::Ipv4Addr;
 pub enum Line<'a> {
     /// Nothing.
     Blank,
-    /// `10.0.0.0/8 east`: a route by this hop, in the place of the one that had this prefix.
+    /// `10.0.0.0/8 east`: a route by this hop, which replaces the one with this prefix.
     Add(Prefix, &'a str),
-    /// `- 10.0.0.0/8`: the route with this prefix is taken out.
+    /// `- 10.0.0.0/8`: the route with this prefix is removed.
     Withdraw(Prefix),
     /// `10.1.2.3`: which route decides about the address?
     Decide(Ipv4Addr),
@@ -42,7 +42,7 @@ fn read_address(text: &str) -> Result<Ipv4Addr, Fault> {
     Ipv4Addr::parse_ascii(text.as_bytes()).map_err(|_| Fault::NotAnAddress)
 }
 
-/// Reads an address, a `/`, and how many of its bits are meant. The bits after these are zero.
+/// Reads an address, a `/`, and the number of its bits that count. The bits after these are zero.
 fn read_prefix(text: &str) -> Result<Prefix, Fault> {
     let (address, length) = text.split_once('/').ok_or(Fault::NotAPrefix)?;
     let address = Ipv4Addr::parse_ascii(address.as_bytes()).map_err(|_| Fault::NotAPrefix)?;

@@ -7,7 +7,7 @@ ghost use Rattle.route_table.specs.Bits.{bits_of};
 use std::fmt;
 use std::net::Ipv4Addr;
 
-/// How many bits an address has.
+/// The number of bits of an address.
 pub const BITS: usize = 32;
 
 /// The bits of an address, the most significant one first.
@@ -22,7 +22,7 @@ pub fn address_bits(address: Ipv4Addr) -> [bool; BITS]
     bits
 }
 
-/// The first bits that the addresses of a network have in common.
+/// The first bits that the addresses of a network share.
 #[derive(Clone, Copy, Debug)]
 pub struct Prefix {
     bits: [bool; BITS],
@@ -33,7 +33,7 @@ pub struct Prefix {
 impl Prefix {
     ghost use Rattle.route_table.specs.Prefix.{prefix_bits};
 
-    /// The first `length` bits of an address, or all of them where it has no more.
+    /// The first `length` bits of an address, or all of them where it has fewer.
     pub fn new(address: Ipv4Addr, length: usize) -> Self
         ensures { prefix_bits result ≡ take length (bits_of (ipv4_bits address)) }
     {

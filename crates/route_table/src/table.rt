@@ -27,7 +27,7 @@ pub struct Table {
 /// Routes in the order of their bits, each with the name of its hop.
 pub type Walk<'a> = Iter<'a, bool, String, RadixTree<bool, String>>;
 
-/// The route that decides about an address.
+/// The route that decides for an address.
 #[derive(Clone, Copy, Debug)]
 pub struct Decision<'a> {
     pub prefix: Prefix,
@@ -35,7 +35,7 @@ pub struct Decision<'a> {
 }
 
 impl Table {
-    /// No route.
+    /// A table with no route.
     pub fn new(alloc: Global) -> Self
         ensures { IsAfter [] result }
     {
@@ -44,7 +44,7 @@ impl Table {
         }
     }
 
-    /// Adds a route, in the place of the one that had this prefix. Refused, all routes stay.
+    /// Adds a route, which replaces the one with this prefix. On refusal all routes stay.
     pub fn add(&mut self, prefix: &Prefix, hop: String) -> Result<(), AllocError>
         ensures ok { OnOk result ((other : List Bool)
             → hop_at self.new other ≡ cond (same_prefix (prefix_bits prefix.now) other)
@@ -55,7 +55,7 @@ impl Table {
         self.hops.insert(prefix.as_bits(), hop)
     }
 
-    /// Takes the route with this prefix out, and says whether there was one. Refused, all stay.
+    /// Removes the route with this prefix, and answers whether there was one. On refusal all stay.
     pub fn withdraw(&mut self, prefix: &Prefix) -> Result<bool, AllocError>
         ensures had { IfOk result
             (λ had. had ≡ is_some (hop_at self.old (prefix_bits prefix.now))) }
@@ -82,8 +82,8 @@ impl Table {
         })
     }
 
-    /// The routes whose addresses the prefix covers, by their bits and in the order of these: a
-    /// prefix comes before what it covers.
+    /// The routes whose prefixes begin with this one, in the order of their bits: a prefix comes
+    /// before what it covers.
     pub fn within<'a>(&'a self, prefix: &'a Prefix) -> Walk<'a>
         ensures { IsWalk bool_cmp
             (under bool_cmp (lookup bool_cmp self.now.hops) (prefix_bits prefix.now))

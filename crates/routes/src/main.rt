@@ -1,4 +1,4 @@
-//! Answers, for each address on standard input, by which route of a table it is reached.
+//! Answers, for each address on standard input, by which route of a table the address is reached.
 #![tactic(auto)]
 
 mod serve;
@@ -24,7 +24,7 @@ fn main(rt: HostRuntime) -> ExitCode {
     }
 }
 
-/// Reads the table and answers all lines. Says whether none of them had a fault.
+/// Reads the table and answers all lines. Answers whether none of them had a fault.
 fn run(rt: &HostRuntime) -> Result<bool> {
     let alloc = rt.alloc();
     let name = env::args(rt)?.nth(1).context("name a file of routes")?;

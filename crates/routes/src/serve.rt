@@ -1,4 +1,4 @@
-//! Lines from a reader, each done or answered.
+//! Lines from a reader, each applied or answered.
 
 use route_table::answer::{answer, change};
 use route_table::fault::Fault;
@@ -8,8 +8,8 @@ use std::alloc::Global;
 use std::io;
 use std::io::{BufRead, ErrorKind, Write};
 
-/// Does each line of a table. A line that has a fault changes nothing, and is named on `errors`;
-/// the others are done. Says whether no line had one.
+/// Applies each line of a table. A line that has a fault changes nothing, and is reported on
+/// `errors`; the others are applied. Answers whether no line had a fault.
 pub fn load<I: BufRead, E: Write>(
     alloc: Global,
     table: &mut Table,
@@ -19,7 +19,7 @@ pub fn load<I: BufRead, E: Write>(
 ) -> io::Result<bool> {
     let mut line = Vec::new(alloc);
     let mut is_faultless = true;
-    // Counted, so that the call returns whatever the input does. No input is so long.
+    // Counted, so that the call returns for any input. No input is that long.
     for number in 1..u64::MAX {
         let done = match read_line(input, &mut line)? {
             Reading::End => break,
@@ -35,7 +35,7 @@ pub fn load<I: BufRead, E: Write>(
 }
 
 /// Answers each line of the input on `output`, before the next one is read. A line that has a fault
-/// is named on `errors`, and has no answer. Says whether no line had one.
+/// is reported on `errors`, and has no answer. Answers whether no line had a fault.
 pub fn serve<I: BufRead, O: Write, E: Write>(
     alloc: Global,
     table: &mut Table,
@@ -46,7 +46,7 @@ pub fn serve<I: BufRead, O: Write, E: Write>(
     let mut line = Vec::new(alloc);
     let mut text = String::new(alloc);
     let mut is_faultless = true;
-    // Counted, so that the call returns whatever the input does. No input is so long.
+    // Counted, so that the call returns for any input. No input is that long.
     for number in 1..u64::MAX {
         text.clear();
         let done = match read_line(input, &mut line)? {
@@ -84,11 +84,11 @@ fn text_of(line: &[u8]) -> Result<&str, Fault> {
     str::from_utf8(line).map_err(|_| Fault::NotText)
 }
 
-/// What came of reading a line.
+/// The result of reading a line.
 #[derive(Clone, Copy, Debug, PartialEq, Eq)]
 enum Reading {
     Line,
-    /// There was no memory for the line. It was passed over.
+    /// There was no memory for the line. It was skipped.
     NoMemory,
     End,
 }

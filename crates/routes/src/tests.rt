@@ -1,4 +1,4 @@
-//! The table beside a plain list of routes, on routes and addresses that a simple generator makes.
+//! The table compared with a plain list of routes, on routes and addresses from a simple generator.
 use crate::serve::{load, serve};
 use route_table::prefix::Prefix;
 use route_table::table::Table;
@@ -68,7 +68,7 @@ fn hop_of_list(list: &[Plain], address: u32) -> Option<u32> {
     longest.map(|route| route.hop)
 }
 
-/// The same of the table, whose hops have numbers as their names.
+/// The same for the table, whose hops have numbers as their names.
 fn hop_of_table(table: &Table, address: u32) -> Option<u32> {
     let decision = table.decide(Ipv4Addr::from_bits(address))?;
     decision.hop.parse::<u32>().ok()
@@ -83,15 +83,15 @@ fn add(alloc: Global, table: &mut Table, list: &mut Vec<Plain>, route: Plain) ->
     Ok(())
 }
 
-/// Takes a route out of both. Says how often they differ in whether they had it.
+/// Removes a route from both. Answers how often they differ in whether they had it.
 fn withdraw(table: &mut Table, list: &mut Vec<Plain>, route: Plain) -> Result<u32, AllocError> {
     let had = list.iter().any(|other| other.is_at(&route));
     list.retain(|other| !other.is_at(&route));
     Ok(u32::from(table.withdraw(&route.prefix())? != had))
 }
 
-/// Fills a table and a list with so many random routes, and takes some out again on the way. Says
-/// how often the two differ: at a route that is taken out, or at so many addresses.
+/// Fills a table and a list with `count` random routes, and removes some again on the way. Answers
+/// how often the two differ: at a route that is removed, or at `count` addresses.
 fn count_differing(alloc: Global, numbers: &mut Numbers, count: u32) -> Result<u32, Fail> {
     let mut table = Table::new(alloc);
     let mut list = Vec::new(alloc);

@@ -1,4 +1,4 @@
--- Releases of programs, which are called by a name and a number.
+-- Releases of programs, which have a name and a number.
 use Rattle.std.specs.Prelude.{ℕ, List}
 use Rattle.std.specs.Cmp.{IsTotalOrder, nat_cmp_total, on_total, then_total}
 use Rattle.std.specs.Cmp.Lexicographic.{nat_list_cmp_total, slice_cmp}

@@ -1,4 +1,4 @@
-//! Sets that are asked by a borrowed form of a user's own.
+//! Sets that are searched by a borrowed form of a user's own type.
 ghost use Rattle.std.specs.Prelude.{refl};
 ghost use Rattle.std.specs.String.{string_bytes};
 ghost use Rattle.set_user_tests.specs.Releases.{release_cmp, release_total};
@@ -51,7 +51,7 @@ fn releases(alloc: Global, name: &str) -> Result<VecSet<Release, 2>, AllocError>
     Ok(set)
 }
 
-/// Whether a release is found by its name and its number, and taken out.
+/// Whether a release is found by its name and its number, and removed.
 fn is_found_by_name(alloc: Global) -> Result<bool, AllocError> {
     let mut set = releases(alloc, "a")?;
     let is_found = set.contains_by(("a", 2))

@@ -1,5 +1,5 @@
-//! A builder on its happy path, and each of its elements dropped once, also where it is dropped
-//! early.
+//! A builder that succeeds, and each of its elements dropped once, even where the builder is
+//! dropped early.
 
 use crate::nth::Nth;
 use crate::outcomes::{holds, same};
@@ -8,7 +8,8 @@ use std::rc::Rc;
 use std::test::*;
 use vc_builder::inplace::InPlace;
 
-/// Builds in front of what is left of a list: the room that is left on the way, and what was built.
+/// Builds a list from the front of another one: the room that is left on the way, and what was
+/// built.
 fn build(alloc: Global) -> Result<([usize; 2], Vec<u32>), AllocError> {
     let mut list = vec![in alloc; 1, 2, 3, 4, 5, 6, 7, 8]?;
     let mut both = InPlace::new(&mut list, 3)?;
@@ -26,7 +27,7 @@ fn build(alloc: Global) -> Result<([usize; 2], Vec<u32>), AllocError> {
     Ok(([none, one], both.finish()))
 }
 
-/// Whether that built what was worked out, with as much room on the way.
+/// Whether that built the expected list, with the expected room on the way.
 fn is_built(alloc: Global) -> Result<bool, AllocError> {
     let (rooms, built) = build(alloc)?;
     Ok(rooms == [0, 1] && built.as_slice() == [1, 2, 20, 21, 22, 3, 60].as_slice())
@@ -46,8 +47,8 @@ fn clones(alloc: Global, counted: &Rc<u32>, number: u32) -> Result<Vec<Rc<u32>>,
     Ok(list)
 }
 
-/// How many hold a count while a builder of a list of its clones drops one, before and after, and
-/// once it has finished, and how long the list is then.
+/// The number of holders of a count before and after a builder of a list of its clones drops one,
+/// and after it has finished, and the length of the list then.
 fn drop_in_builder(
     counted: &Rc<u32>,
     mut list: Vec<Rc<u32>>,
@@ -81,8 +82,8 @@ fn drops_each_element_once(rt: HostRuntime) {
     );
 }
 
-/// How many hold a count while a builder has one more of it, and once the builder was dropped
-/// early.
+/// The number of holders of a count while a builder has one more of it, and after the builder was
+/// dropped early.
 fn drop_early(counted: &Rc<u32>, mut list: Vec<Rc<u32>>) -> Result<[usize; 2], AllocError> {
     if list.is_empty() {
         return Ok([0; 2]);
@@ -112,8 +113,8 @@ fn drops_each_element_once_where_it_is_dropped_early(rt: HostRuntime) {
     );
 }
 
-/// Each request that is refused, whether the builder is made then, and whether the request had
-/// come: there are two.
+/// Each request that is refused, whether the builder is made then, and whether the request was
+/// made: there are two.
 const REFUSED: [(u64, (bool, bool)); 3] = [
     (1, (false, true)),
     (2, (false, true)),
@@ -121,8 +122,7 @@ const REFUSED: [(u64, (bool, bool)); 3] = [
 ];
 
 /// Builds in a list of eight numbers with three extra places, where the request of that number is
-/// refused. Says whether the builder was made, and whether that request had come once it was
-/// finished.
+/// refused. Answers whether the builder was made, and whether that request was made by the end.
 fn finish(memory: &Nth<Global>, number: u64) -> Result<(bool, bool), AllocError> {
     let mut list = vec![in memory; 1, 2, 3, 4, 5, 6, 7, 8]?;
     memory.refuse(number);

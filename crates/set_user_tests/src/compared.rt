@@ -9,12 +9,12 @@ use std::cell::Cell;
 use std::cmp::Ordering;
 use std::fmt;
 
-/// A number that counts, where it has a counter, how often it is compared.
+/// A number that counts how often it is compared, where it has a counter.
 #[derive(Clone, Copy)]
 pub struct Compared<'a> {
-    /// What is compared.
+    /// The number that is compared.
     pub number: u32,
-    /// How many comparisons there were.
+    /// The number of comparisons so far.
     pub count: Option<&'a Cell<u128>>,
 }
 

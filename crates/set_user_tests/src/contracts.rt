@@ -1,4 +1,4 @@
-//! Sets of words that are only lent: of their clones a user owes nothing.
+//! Sets of borrowed words: a user has to prove nothing about their clones.
 
 use std::alloc::AllocError;
 use vc_sets::vec_set::VecSet;

@@ -1,5 +1,5 @@
-//! Comparisons by lengths: elements that count their own see no more than the bound, a counted call
-//! counts each of them, and a call without a counter compares as often.
+//! Comparisons by lengths: elements that count their own comparisons stay within the bound, a
+//! counted call counts each of them, and a call without a counter makes as many.
 
 use crate::compared::Compared;
 use crate::lengths::{LENGTHS, PLACES, Place};
@@ -30,7 +30,7 @@ fn short_set<'a>(
     Ok(set)
 }
 
-/// What the operation makes of the two sets, by the call without a counter.
+/// The result of the operation on the two sets, by the call without a counter.
 fn fresh<'s, 'a>(
     a: &'s Compareds<'a>,
     b: &'s Compareds<'a>,
@@ -44,7 +44,7 @@ fn fresh<'s, 'a>(
     }
 }
 
-/// Puts what the operation makes in the place of the left set, from a right set that stays.
+/// Replaces the left set by the result of the operation, from a right set that is kept.
 fn change<'s, 'a>(
     a: &'s mut Compareds<'a>,
     b: &'s Compareds<'a>,
@@ -59,7 +59,7 @@ fn change<'s, 'a>(
     Ok(())
 }
 
-/// The same from a right set that is gone afterwards.
+/// The same from a right set that is moved.
 fn change_by_value<'s, 'a>(
     a: &'s mut Compareds<'a>,
     b: Compareds<'a>,
@@ -74,7 +74,7 @@ fn change_by_value<'s, 'a>(
     Ok(())
 }
 
-/// A clone of the left set that was changed by a right set that stays.
+/// A clone of the left set that was changed by a right set that is kept.
 fn in_place<'s, 'a>(
     a: &'s Compareds<'a>,
     b: &'s Compareds<'a>,
@@ -105,12 +105,12 @@ fn holds<'s, 'a>(a: &'s Compareds<'a>, b: &'s Compareds<'a>, test: SetTest) -> b
     }
 }
 
-/// How many comparisons there were since the last time.
+/// The number of comparisons since the last call.
 fn taken(count: &Cell<u128>) -> u128 {
     count.replace(0)
 }
 
-/// Whether these are equal, and were made with so many comparisons.
+/// Whether these are equal, and were made with this number of comparisons.
 fn is_made_by<'s, 'a>(
     made: Compareds<'a>,
     counted: &'s Compareds<'a>,
@@ -124,8 +124,8 @@ fn is_made_by<'s, 'a>(
     seen == comparisons && is_same
 }
 
-/// Whether the operation without a counter makes the same, fresh and in place, and compares as
-/// often as the one that counts.
+/// Whether the operation without a counter has the same result, new and in place, and makes as many
+/// comparisons as the one that counts.
 fn uncounted_agrees<'s, 'a>(
     a: &'s Compareds<'a>,
     b: &'s Compareds<'a>,
@@ -142,8 +142,8 @@ fn uncounted_agrees<'s, 'a>(
     )
 }
 
-/// Whether the operation compares as often as it counts, at most so often, and as often where it
-/// counts none, fresh and in place. Where both sets have elements it compares.
+/// Whether the operation makes as many comparisons as it counts, stays within the bound, and makes
+/// as many without a counter, new and in place. Where both sets have elements it has to compare.
 fn operation_agrees<'s, 'a>(
     a: &'s Compareds<'a>,
     b: &'s Compareds<'a>,
@@ -159,8 +159,8 @@ fn operation_agrees<'s, 'a>(
     Ok(is_counted && uncounted_agrees(a, b, op, &counted, seen, count)?)
 }
 
-/// Whether the test compares as often as it counts, at most so often, and as often where it counts
-/// none.
+/// Whether the test makes as many comparisons as it counts, stays within the bound, and makes as
+/// many without a counter.
 fn test_agrees<'s, 'a>(
     a: &'s Compareds<'a>,
     b: &'s Compareds<'a>,

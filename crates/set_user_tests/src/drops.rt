@@ -1,6 +1,6 @@
-//! What calls drop is dropped once, refused ones too, and nothing else is; and calls in place clone
-//! nothing of what they keep or move: elements that share a count with the test, and may refuse to
-//! be cloned.
+//! What calls drop is dropped once, by refused calls too, and nothing else is dropped. Calls in
+//! place clone nothing that they keep or move. The elements share a count with the test, and may
+//! refuse to be cloned.
 use crate::held::{Held, Shared, hold, holders_of};
 use crate::nth::Nth;
 use crate::outcomes::{holds, same};
@@ -9,7 +9,7 @@ use std::rc::Rc;
 use std::test::Fail;
 use vc_sets::vec_set::VecSet;
 
-/// Memory of which requests can be refused.
+/// Memory whose requests can be refused.
 type Memory = Nth<Nth<Global>>;
 
 /// A set of them.
@@ -35,7 +35,7 @@ impl Six {
         Ok(Six { left, right })
     }
 
-    /// How many hold each of them, the left ones first.
+    /// The number of holders of each, the left ones first.
     fn holders(&self) -> [usize; 6] {
         let [a, b, c] = &self.left;
         let [d, e, f] = &self.right;
@@ -93,7 +93,7 @@ impl Change {
         matches!(self, Change::UnionWith | Change::XorWith)
     }
 
-    /// Makes the call. The right set is gone afterwards.
+    /// Makes the call. The right set is moved.
     fn make<'a>(self, left: &mut Set<'a>, right: Set<'a>) -> Result<(), AllocError> {
         match self {
             Change::BitorAssign => left.bitor_assign(right),
@@ -130,7 +130,8 @@ impl Change {
     }
 }
 
-/// How many hold the six shares once a left set was changed and the right one is gone.
+/// The number of holders of the six shares after a left set was changed and the right one was
+/// dropped.
 const CHANGES: [(Change, [usize; 6]); 11] = [
     (Change::UnionWith, [2, 2, 2, 1, 1, 2]),
     (Change::XorWith, [2, 1, 1, 1, 1, 2]),
@@ -149,8 +150,8 @@ const CHANGES: [(Change, [usize; 6]); 11] = [
 const UNCHANGED: [usize; 6] = [2, 2, 2, 1, 1, 1];
 
 /// Makes the call on a left set that refuses all clones, with the request of that number and the
-/// next one refused. Says whether it succeeded, and how many held the six shares before the left
-/// set was dropped.
+/// next one refused. Answers whether it succeeded, and the number of holders of the six shares
+/// before the left set was dropped.
 fn try_change(
     six: &Six,
     memory: &Memory,
@@ -227,14 +228,14 @@ fn remove(six: &Six, set: &mut Set<'_>) -> Result<[usize; 6], AllocError> {
     Ok(six.holders())
 }
 
-/// The holders after a set kept its first element alone.
+/// The holders after a set kept only its first element.
 fn keep_first(six: &Six, set: &mut Set<'_>) -> [usize; 6] {
     set.retain(|element| element.number == 1);
     six.holders()
 }
 
-/// The holders while the least and the greatest element are held, which were taken out of a set,
-/// once they are let go, and once the set was cleared.
+/// The holders while the least and the greatest element, which were removed from a set, are held,
+/// after they are dropped, and after the set was cleared.
 fn pops(six: &Six, memory: &Memory) -> Result<[[usize; 6]; 3], AllocError> {
     let mut set: Set<'_> = set_of(memory, six.left.as_slice(), true)?;
     let ends = (set.pop_first(), set.pop_last());
@@ -254,8 +255,8 @@ fn elements_that_are_popped_are_handed_over(rt: HostRuntime) -> Result<(), Fail>
     Ok(())
 }
 
-/// The holders after the first element was taken out of a set, which is left in an iterator, and
-/// after the iterator is gone.
+/// The holders after the first element was removed from a set, which is left in an iterator, and
+/// after the iterator is dropped.
 fn take_first(six: &Six, set: Set<'_>) -> ([usize; 6], [usize; 6]) {
     let mut elements = set.into_iter();
     drop(elements.next());
@@ -281,7 +282,7 @@ fn let_go(six: &Six, memory: &Memory) -> Result<[[usize; 6]; 6], AllocError> {
     Ok([inserted, removed, kept, again, left, ended])
 }
 
-/// What they are to be.
+/// The expected holders.
 const LET_GO: [[usize; 6]; 6] = [
     [2, 1, 2, 2, 1, 1],
     [2, 1, 2, 1, 1, 1],

@@ -1,5 +1,5 @@
-//! Worked examples of sets, with answers from outside, and what no clause says of them: printed
-//! text and hashes.
+//! Worked examples of sets, with independent answers, and what no clause states: printed text and
+//! hashes.
 
 use crate::marked::Marked;
 use crate::outcomes::{holds, same};
@@ -22,7 +22,7 @@ fn numbers(alloc: Global, list: &[u32]) -> Result<Numbers, AllocError> {
     Ok(set)
 }
 
-/// Two lists of numbers, and what the four operations make of them.
+/// Two lists of numbers, and the results of the four operations.
 #[derive(Clone, Copy)]
 struct Row {
     left: &'static [u32],
@@ -92,12 +92,12 @@ const ROWS: [Row; 7] = [
     },
 ];
 
-/// Whether what was made has these numbers.
+/// Whether the result has these numbers.
 fn has(made: Numbers, list: &[u32]) -> bool {
     made.as_ref() == list
 }
 
-/// Whether the operations of the two sets make what the row says.
+/// Whether the operations of the two sets have the results of the row.
 fn operations_agree(left: &Numbers, right: &Numbers, row: &Row) -> Result<bool, AllocError> {
     Ok(
         has(left.union(right)?, row.union)
@@ -130,7 +130,7 @@ fn tests_agree(left: &Numbers, right: &Numbers, row: &Row) -> bool {
         && left.is_superset(right) == (row.union == left.as_ref())
 }
 
-/// Whether all of that is as the row says.
+/// Whether all of that agrees with the row.
 fn agrees(alloc: Global, row: &Row) -> Result<bool, AllocError> {
     let left = numbers(alloc, row.left)?;
     let right = numbers(alloc, row.right)?;
@@ -162,7 +162,7 @@ fn one(alloc: Global, mark: char) -> Result<VecSet<Marked, 2>, AllocError> {
 }
 
 /// Whether the element was new to an insert, and the marks after that, after a union with a set
-/// that stays and one with a set that is moved.
+/// that is kept and one with a set that is moved.
 fn marks(
     set: &mut VecSet<Marked, 2>,
     that: VecSet<Marked, 2>,
@@ -235,7 +235,7 @@ fn sets_are_shown_ordered_and_hashed_as_lists(rt: HostRuntime) -> Result<(), Fai
     Ok(())
 }
 
-/// Keeps the odd numbers, and answers the numbers that were asked about, as digits.
+/// Keeps the odd numbers, and answers the numbers with which the test was called, as digits.
 fn keep_odd(set: &mut Numbers) -> u32 {
     let asked = Cell::new(0u32);
     set.retain(|x| {

@@ -7,8 +7,7 @@ use std::rc::Rc;
 /// A count of holders.
 pub type Shared = Option<Rc<u32>>;
 
-/// A number that holds a share, and may refuse to be cloned. The number alone counts in
-/// comparisons.
+/// A number that holds a share, and may refuse to be cloned. Only the number counts in comparisons.
 #[derive_where(Debug, PartialEq, Eq, PartialOrd, Ord)]
 #[derive(Drop)]
 pub struct Held {
@@ -44,7 +43,7 @@ impl Clone for Held {
     }
 }
 
-/// How many hold a share.
+/// The number of holders of a share.
 pub fn holders_of(share: &Shared) -> usize {
     share.as_ref().map_or(0, |rc| Rc::strong_count(rc))
 }

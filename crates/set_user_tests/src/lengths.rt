@@ -2,9 +2,9 @@
 
 /// The lengths of a short list and a long one, and the most comparisons of an operation on them.
 ///
-/// With the places below they lead a merge each way that it can go: searches in the longer list, by
-/// strides of one element and more; single events, in one block and in several; runs, from the
-/// first element on and after blocks of one list alone.
+/// With the places below, a merge goes each way that it can. It searches in the longer list, by
+/// strides of one element and more. It makes single events, in one block and in several. It goes by
+/// runs, from the first element on and after blocks of only one list.
 pub const LENGTHS: [(u32, u32, u128); 17] = [
     (0, 5, 0),
     (1, 1, 1),
@@ -49,7 +49,8 @@ const FIRST: u32 = 2000;
 /// Greater than each number of the long list.
 const END: u32 = 8000;
 
-/// How the numbers of the short list stand to those of the long one, which are `Among` themselves.
+/// How the numbers of the short list compare with those of the long one, which are `Among`
+/// themselves.
 #[derive(Clone, Copy, Debug)]
 pub enum Place {
     /// All are less.
@@ -60,7 +61,7 @@ pub enum Place {
     Among,
     /// All are greater.
     Behind,
-    /// All are in its second half, by turns one of them and between two of them.
+    /// All are in its second half, alternately one of them and between two of them.
     Late,
 }
 
@@ -74,7 +75,7 @@ pub const PLACES: [Place; 5] = [
 ];
 
 impl Place {
-    /// The number at that index of a list of `few` numbers, beside one of `many`.
+    /// The number at that index of a list of `few` numbers, with one of `many`.
     pub fn number(self, index: u32, few: u32, many: u32) -> u32 {
         let step = (many / few.max(1)).saturating_mul(2);
         let even = index.saturating_mul(step).saturating_add(FIRST);
@@ -88,7 +89,7 @@ impl Place {
     }
 }
 
-/// The number at that index of a list that lies late in one of `many`.
+/// The number at that index of a list whose numbers are late in one of `many`.
 fn late(index: u32, few: u32, many: u32) -> u32 {
     let step = (many / 2 / few.max(1)).max(1).saturating_mul(2);
     let even = index.saturating_mul(step).saturating_add(FIRST);

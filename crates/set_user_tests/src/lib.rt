@@ -1,7 +1,6 @@
-//! A crate that uses sets from outside, and the builder of `vc_builder`: worked examples, drops,
-//! counted comparisons, elements that refuse to be cloned, and calls that take no memory. The
-//! allocator, three of its elements and the lengths by which comparisons are counted are there for
-//! tests of other crates.
+//! A crate that uses sets as a user does, and the builder of `vc_builder`: worked examples, drops,
+//! counted comparisons, elements that refuse to be cloned, and calls that take no memory. Tests of
+//! other crates use its allocator, three of its elements, and the lengths for counted comparisons.
 #![tactic(auto)]
 
 #[cfg(test)]

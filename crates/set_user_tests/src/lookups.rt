@@ -1,5 +1,5 @@
-//! Comparisons of look-ups: elements that count their own see no more than the bound of their
-//! length.
+//! Comparisons of look-ups: elements that count their own comparisons stay within the bound for
+//! their length.
 
 use crate::compared::Compared;
 use crate::lengths::LOOK_UPS;
@@ -40,7 +40,7 @@ fn evens<'a>(
     Ok(set)
 }
 
-/// How often the call compares. The set stays as it is.
+/// The number of comparisons of the call. The set is unchanged.
 fn comparisons<'a>(
     set: &mut Compareds<'a>,
     call: Call,
@@ -65,7 +65,8 @@ fn comparisons<'a>(
     Ok(seen)
 }
 
-/// Whether the call compares no more often than the bound, at each number of the set and beside it.
+/// Whether the call compares no more often than the bound, at each number of the set and between
+/// them.
 fn stays_within<'a>(
     set: &mut Compareds<'a>,
     call: Call,

@@ -1,4 +1,4 @@
-//! An element whose spelling does not count.
+//! An element with a part that does not count in comparisons.
 
 /// A number with a mark that does not count in comparisons.
 #[derive(Clone, Copy)]

@@ -3,7 +3,7 @@
 use std::alloc::{AllocError, Allocator};
 use std::cell::Cell;
 
-/// Passes each request on to another allocator, but for one, which it refuses.
+/// Passes each request on to another allocator, except for one, which it refuses.
 pub struct Nth<B: Allocator> {
     inner: B,
     left: Cell<u64>,
@@ -18,7 +18,7 @@ impl<B: Allocator> Nth<B> {
         }
     }
 
-    /// Whether the request that is to be refused has come, or there is none.
+    /// Whether the request that is to be refused was made, or there is none.
     pub fn is_done(&self) -> bool {
         self.left.get() == 0
     }

@@ -1,5 +1,5 @@
-//! The calls of sets that take no memory, each with every request refused, and those that take some
-//! only where it is needed.
+//! The calls of sets that take no memory, each with every request refused, and those that take
+//! memory only where it is needed.
 
 use crate::nth::Nth;
 use crate::outcomes::holds;
@@ -15,7 +15,7 @@ use vc_merge::merge::Steps;
 use vc_sets::borrowed::Borrowed;
 use vc_sets::vec_set::{AbstractVecSet, SetOp, SetTest, VecSet};
 
-/// A set of numbers, of which two stand in place.
+/// A set of numbers, up to two of them inline.
 type Numbers<'a> = VecSet<u32, 2, &'a Nth<Global>>;
 
 /// Calls that read sets, and take no memory.
@@ -43,7 +43,7 @@ enum Change {
     MinusAssignReference,
 }
 
-/// Calls that take a set over, and take no memory.
+/// Calls that take a set by value, and take no memory.
 #[derive(Clone, Copy, Debug)]
 enum Take {
     Hand,
@@ -96,7 +96,7 @@ const EMPTYINGS: [Call; 4] = [
     Call::Take(Take::IntoVec),
 ];
 
-/// Sets that stand in place, and sets that do not.
+/// Sets that are inline, and sets that are not.
 const LISTS: [(&[u32], &[u32]); 5] = [
     (&[1, 2], &[2]),
     (&[1, 2, 3, 4, 5], &[2, 4, 6]),
@@ -197,7 +197,7 @@ fn compare<'s, 'a>(left: &'s Numbers<'a>, right: &'s Numbers<'a>) {
     let _answers = (left == right, left.cmp(right), left.partial_cmp(right));
 }
 
-/// Puts what an operation makes of two sets in the place of the left one.
+/// Replaces the left of two sets by the result of an operation.
 fn combine_with<'a>(mut left: Numbers<'a>, right: Numbers<'a>, op: SetOp) {
     // quiet: VecSet::combine_with: where it can't be refused
     let _always = left.combine_with(right, op);
@@ -212,22 +212,22 @@ fn test_counted<'s, 'a>(left: &'s Numbers<'a>, right: &'s Numbers<'a>) {
     }
 }
 
-/// Takes the lists of two sets, by both calls.
+/// Takes the lists out of two sets, by both calls.
 fn into_lists<'a>(left: Numbers<'a>, right: Numbers<'a>) {
     // quiet: VecSet::into_inner
     drop(left.into_inner());
     let _list: SmallVec<u32, 2, &'a Nth<Global>> = right.into();
 }
 
-/// Takes the list of a set that does not stand in place.
+/// Takes the list of a set that is not inline.
 fn into_vec<'a>(set: Numbers<'a>) {
-    // quiet: VecSet::into_vec: where the set does not stand in place
+    // quiet: VecSet::into_vec: where the set is not in place
     if set.len() > 2 {
         drop(set.into_vec());
     }
 }
 
-/// Goes over a set by each iterator, and looks its elements up in the other one.
+/// Walks over a set with each iterator, and looks its elements up in the other one.
 fn walk<'s, 'a>(left: &'s Numbers<'a>, right: &'s Numbers<'a>) {
     // quiet: AbstractVecSet::iter
     // quiet: VecSet::iter
@@ -245,7 +245,7 @@ fn walk<'s, 'a>(left: &'s Numbers<'a>, right: &'s Numbers<'a>) {
     }
 }
 
-/// Puts numbers into an empty set, until it has so many elements as it had before.
+/// Inserts numbers into an empty set, until it has as many elements as before.
 fn fill<'s, 'a>(set: &'s mut Numbers<'a>, length: usize) {
     // quiet: VecSet::insert: where there is room
     for number in 0..9 {
@@ -255,7 +255,7 @@ fn fill<'s, 'a>(set: &'s mut Numbers<'a>, length: usize) {
     }
 }
 
-/// Takes out elements at both ends, until none is left, and puts as many in.
+/// Removes elements at both ends, until none is left, and inserts as many.
 fn pop<'s, 'a>(set: &'s mut Numbers<'a>) {
     // quiet: VecSet::pop_first, pop_last
     let length = set.len();
@@ -266,7 +266,7 @@ fn pop<'s, 'a>(set: &'s mut Numbers<'a>) {
     fill(set, length);
 }
 
-/// Clears a set, and puts in as many elements as it had.
+/// Clears a set, and inserts as many elements as it had.
 fn refill<'s, 'a>(set: &'s mut Numbers<'a>) {
     // quiet: VecSet::clear
     let length = set.len();
@@ -284,7 +284,7 @@ fn insert_known<'s, 'a>(left: &'s mut Numbers<'a>, right: &'s Numbers<'a>) {
     }
 }
 
-/// Makes sets that fit in place, of one element or of as many as stand there.
+/// Makes sets that fit inline, of one element or of as many as are given.
 fn make_in_place(memory: &Nth<Global>, list: Vec<u32>, tree: BTreeSet<u32>) {
     // quiet: VecSet::empty, into_iter, made_with
     // quiet: VecSet::single, clone, from_vec, from_iter, from_btree_set: where there is room
@@ -315,7 +315,7 @@ fn set_of<'a, const N: usize>(
     Ok(set)
 }
 
-/// Whether calls make no request.
+/// Whether calls make no request for memory.
 fn is_quiet(
     memory: &Nth<Global>,
     call: Call,
@@ -376,10 +376,10 @@ fn sets_that_fit_in_place_ask_for_no_memory(rt: HostRuntime) -> Result<(), Fail>
     Ok(())
 }
 
-/// A set of numbers, of which four stand in place.
+/// A set of numbers, up to four of them inline.
 type Four<'a> = VecSet<u32, 4, &'a Nth<Global>>;
 
-/// Calls that put what is in another set into a set.
+/// Calls that add the elements of another set.
 #[derive(Clone, Copy, Debug)]
 enum Join {
     UnionWith,
@@ -402,8 +402,8 @@ impl Join {
         }
     }
 
-    /// How many requests it may make, where one that takes a set may make so many: `extend` makes a
-    /// set of the items first.
+    /// The number of requests that it may make, where a call that takes a set may make `requests`:
+    /// `extend` makes a set of the items first.
     fn most(self, requests: u64) -> u64 {
         match self {
             Join::Extend => requests.saturating_mul(2),
@@ -431,7 +431,8 @@ const REQUESTS: [(&[u32], &[u32], u64); 7] = [
     (&[1, 2, 3, 4, 5, 6, 7, 8, 9], &[4], 1),
 ];
 
-/// Whether the join makes so many requests at most, and leaves a set in place where it makes none.
+/// Whether the join makes at most this number of requests, and leaves an inline set where it makes
+/// none.
 fn asks_at_most(
     memory: &Nth<Global>,
     join: Join,
@@ -459,7 +460,7 @@ fn sets_that_fit_together_ask_for_no_memory_and_others_once(rt: HostRuntime) {
     }
 }
 
-/// Two lists, and the most requests of a fresh union of their sets, or of what is in exactly one of
+/// Two lists, and the most requests of a new union of their sets, or of what is in exactly one of
 /// them.
 const FRESH: [(&[u32], &[u32], u64); 5] = [
     (&[1, 2, 3, 4], &[1, 2, 3, 4], 0),
@@ -482,7 +483,7 @@ fn fresh<'s, 'a>(
     }
 }
 
-/// Whether a fresh set makes so many requests at most, and stands in place where it makes none.
+/// Whether a new set makes at most this number of requests, and is inline where it makes none.
 fn fresh_asks_at_most(
     memory: &Nth<Global>,
     is_union: bool,

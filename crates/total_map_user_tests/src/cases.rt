@@ -1,4 +1,4 @@
-//! Worked cases of total maps, with answers from outside.
+//! Worked cases of total maps, with independent answers.
 
 use std::alloc::{AllocError, Global};
 use std::hash::{DefaultHasher, Hash, Hasher};
@@ -7,8 +7,8 @@ use std::test::Fail;
 use vec_collections::total_vec_map::{TotalVecMap, TotalVecMap1};
 use vec_collections::vec_map::VecMap1;
 
-/// A number whose arithmetic can always be done: it stays at the greatest or the least number, and
-/// what is divided by 0 is 0.
+/// A number whose arithmetic never fails: it saturates at the greatest or the least number, and a
+/// division by 0 is 0.
 #[derive(Clone, Copy, Debug, Default, PartialEq, Eq, PartialOrd, Ord, Hash)]
 struct Number(i32);
 
@@ -57,7 +57,7 @@ type Numbers = TotalVecMap1<u32, Number>;
 /// A default, and the keys with their values.
 type Listed = (i32, &'static [(u32, i32)]);
 
-/// Two maps, what the operations make of them, and the opposite and the signs of the left one.
+/// Two maps, the results of the operations, and the negation and the signs of the left one.
 #[derive(Clone, Copy)]
 struct Row {
     left: Listed,
@@ -130,7 +130,7 @@ fn has(map: &Numbers, listed: Listed) -> bool {
         })
 }
 
-/// Whether what was made has them.
+/// Whether the result has them.
 fn is(made: Numbers, listed: Listed) -> bool {
     has(&made, listed)
 }
@@ -144,7 +144,7 @@ enum Operator {
     Over,
 }
 
-/// What the operator makes of the maps.
+/// The result of the operator on the maps.
 fn of_values(left: Numbers, right: Numbers, operator: Operator) -> Result<Numbers, AllocError> {
     match operator {
         Operator::Plus => left + right,
@@ -154,7 +154,7 @@ fn of_values(left: Numbers, right: Numbers, operator: Operator) -> Result<Number
     }
 }
 
-/// What the operator makes of the maps, which stay.
+/// The result of the operator on the maps by reference.
 fn of_references(
     left: &Numbers,
     right: &Numbers,
@@ -168,7 +168,7 @@ fn of_references(
     }
 }
 
-/// Whether the operator makes that of the maps, and of clones of them by value.
+/// Whether the operator has that result for the maps, and for clones of them by value.
 fn is_computed(
     left: &Numbers,
     right: &Numbers,
@@ -184,7 +184,7 @@ fn is_computed(
     )
 }
 
-/// Whether arithmetic makes of the maps what the row says.
+/// Whether arithmetic on the maps has the results of the row.
 fn computes(left: &Numbers, right: &Numbers, row: &Row) -> Result<bool, AllocError> {
     Ok(
         is_computed(left, right, Operator::Plus, row.sum)?
@@ -204,17 +204,17 @@ fn signs(map: &Numbers) -> Result<Numbers, AllocError> {
     map.map_values(|value: &Number| Ok(Number(value.0.signum())))
 }
 
-/// Whether the opposite of the map and the signs of its values are what the row says.
+/// Whether the negation of the map and the signs of its values are what the row says.
 fn changes(map: &Numbers, row: &Row) -> Result<bool, AllocError> {
     Ok(is((-map.clone()?)?, row.opposite) && is(signs(map)?, row.signs))
 }
 
-/// Whether all of that is as the row says.
+/// Whether all of that agrees with the row.
 fn all_agree(left: &Numbers, right: &Numbers, row: &Row) -> Result<bool, AllocError> {
     Ok(computes(left, right, row)? && bounds(left, right, row)? && changes(left, row)?)
 }
 
-/// Whether all of that is as the row says of its maps.
+/// Whether all of that agrees with the row, for its maps.
 fn agrees(alloc: Global, row: &Row) -> Result<bool, AllocError> {
     let left = numbers(alloc, row.left)?;
     let right = numbers(alloc, row.right)?;
@@ -236,14 +236,14 @@ fn hash_of(map: &Numbers) -> u64 {
     hasher.finish()
 }
 
-/// Whether a map of 4 to 7, and of all else to 1, is read as that, and is equal to its clone.
+/// Whether a map of 4 to 7, and of all other keys to 1, is read as that, and is equal to its clone.
 fn is_read(map: &Numbers) -> Result<bool, AllocError> {
     let is_shown = has(map, (1, &[(4, 7)])) && map[&4].0 == 7 && map[&2].0 == 1;
     Ok(is_shown && map.clone()? == *map)
 }
 
-/// Whether what is put into a map of 4 to 7, and of all else to 1, stands there: a value of its
-/// own, and the default, which is not listed.
+/// Whether what is set in a map of 4 to 7, and of all other keys to 1, is there: another value, and
+/// the default, which is not listed.
 fn is_written(map: &Numbers) -> Result<bool, AllocError> {
     let mut map = map.clone()?;
     map.set(9, Number(3))?;
@@ -251,20 +251,20 @@ fn is_written(map: &Numbers) -> Result<bool, AllocError> {
     Ok(has(&map, (1, &[(9, 3)])))
 }
 
-/// Whether the maps of 1 and of 2 alone are ordered by their values, which are not hashed.
+/// Whether the constant maps of 1 and of 2 are ordered by their values, which are not hashed.
 fn constants_compare(alloc: Global) -> bool {
     let one = Numbers::constant(alloc, Number(1));
     let two = Numbers::constant(alloc, Number(2));
     one != two && one < two && hash_of(&one) == hash_of(&two)
 }
 
-/// Whether a map is printed so.
+/// Whether a map is printed as this text.
 fn is_printed(alloc: Global, map: &Numbers, text: &str) -> Result<bool, AllocError> {
     let printed = format!(in alloc; "{map:?}")?;
     Ok(printed.as_str() == text)
 }
 
-/// What a map of 4 to 7, and of all else to 1, is printed as.
+/// The printed text of a map of 4 to 7, and of all other keys to 1.
 const PRINTED: &str = "TotalVecMap { values: {(4, Number(7))}, default: Number(1) }";
 
 #[test]
@@ -279,7 +279,7 @@ fn maps_are_read_and_compared(rt: HostRuntime) -> Result<(), Fail> {
 
 type Counts = TotalVecMap1<u32, u8>;
 
-/// Whether the maps of 0 and of 1 say that they are, and show it.
+/// Whether the maps of 0 and of 1 answer that they are, and have these values.
 fn units_agree(alloc: Global) -> bool {
     let zero = Counts::zero(alloc);
     let one = Counts::one(alloc);

@@ -1,5 +1,5 @@
-//! A crate that uses total maps from outside, and maps that are written out: worked cases, counted
-//! questions, and what is printed.
+//! A crate that uses total maps as a user does, and maps that are written out: worked cases,
+//! counted calls of closures, and printed text.
 #![tactic(auto)]
 
 #[cfg(test)]

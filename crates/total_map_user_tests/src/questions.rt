@@ -1,4 +1,4 @@
-//! What closures are asked, and how often.
+//! With which values closures are called, and how often.
 
 use std::alloc::{AllocError, Global};
 use std::cell::Cell;
@@ -17,7 +17,7 @@ fn numbers(alloc: Global, default: u32, pairs: &[(u32, u32)]) -> Result<Numbers,
     Ok(TotalVecMap::new(map, default))
 }
 
-/// The digits of the values that were shown, one question after another.
+/// The digits of the values that were passed, one call after another.
 #[derive(Drop)]
 struct Asked(Cell<u64>);
 
@@ -32,7 +32,7 @@ impl Asked {
     }
 }
 
-/// The sums of values of the two maps, and what was shown.
+/// The sums of values of the two maps, and the values that were passed.
 fn sums(left: &Numbers, right: &Numbers) -> Result<(Numbers, u64), AllocError> {
     let asked = Asked(Cell::new(0));
     let sums = left.combine_ref(right, |x: &u32, y: &u32| {
@@ -50,7 +50,7 @@ fn sums_of_two(alloc: Global) -> Result<(Numbers, u64), AllocError> {
     sums(&left, &right)
 }
 
-/// Whether sums are what was worked out, and what was shown.
+/// Whether sums are as expected, and the values that were passed.
 fn adds(alloc: Global) -> Result<(bool, u64), AllocError> {
     let (sums, shown) = sums_of_two(alloc)?;
     let expected = numbers(alloc, 7, &[(2, 9), (5, 11), (8, 10)])?;
@@ -63,7 +63,8 @@ fn a_closure_is_asked_once_a_key(rt: HostRuntime) -> Result<(), Fail> {
     Ok(())
 }
 
-/// Whether the map is 0 everywhere once each value is turned to 0, and what was shown.
+/// Whether the map is 0 everywhere after each value is mapped to 0, and the values that were
+/// passed.
 fn zeros(map: &Numbers) -> Result<(bool, u64), AllocError> {
     let asked = Asked(Cell::new(0));
     let made: TotalVecMap<u32, u8, 3> = map.map_values(|x: &u32| {
@@ -85,7 +86,7 @@ fn a_closure_is_asked_once_a_value(rt: HostRuntime) -> Result<(), Fail> {
     Ok(())
 }
 
-/// Notes a value, and answers it, but refuses at one.
+/// Records a value, and answers it, except that it refuses one.
 fn answer(asked: &Asked, refused: u32, value: u32) -> Result<u32, AllocError> {
     asked.note(value);
     if value == refused {
@@ -95,8 +96,8 @@ fn answer(asked: &Asked, refused: u32, value: u32) -> Result<u32, AllocError> {
     }
 }
 
-/// Whether `map_values` is refused where its closure refuses at this value, and what was shown by
-/// then.
+/// Whether `map_values` is refused where its closure refuses at this value, and the values that
+/// were passed by then.
 fn change_refused(map: &Numbers, refused: u32) -> (bool, u64) {
     let asked = Asked(Cell::new(0));
     let made: Result<Numbers, AllocError> = map.map_values(|x: &u32| answer(&asked, refused, *x));
@@ -110,7 +111,7 @@ fn combination_refused(map: &Numbers, refused: u32) -> (bool, u64) {
     (made.is_err(), asked.0.get())
 }
 
-/// Whether both are refused, and had shown as much by then.
+/// Whether both are refused, after the same values were passed.
 fn both_refused(map: &Numbers, refused: u32, shown: u64) -> bool {
     change_refused(map, refused) == (true, shown)
         && combination_refused(map, refused) == (true, shown)

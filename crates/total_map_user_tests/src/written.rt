@@ -32,19 +32,19 @@ fn none_is_empty(alloc: Global) -> Result<bool, AllocError> {
     Ok(none.is_empty())
 }
 
-/// Whether a map that is written out is the map of doubles, and changes as that.
+/// Whether a map that is written out is the map of doubles, and changes as that does.
 fn is_doubles(mut map: Numbers, doubles: &Numbers) -> Result<bool, AllocError> {
     let is_same = map == *doubles;
     Ok(is_same && map.insert(2, 9)? == Some(4))
 }
 
-/// Whether the one that is written out is.
+/// Whether the map that is written out is.
 fn is_written(alloc: Global) -> Result<bool, AllocError> {
     let doubles = doubles(alloc)?;
     is_doubles(written(alloc)?, &doubles)
 }
 
-/// Whether of a key that is written out twice the last value stands.
+/// Whether a key that is written out twice has the last value.
 fn last_stands(alloc: Global) -> Result<bool, AllocError> {
     let map = written_twice(alloc)?;
     Ok(map.as_ref() == [(1, 3)].as_slice())

@@ -1,4 +1,4 @@
-//! Each case of the operations and tests of total sets, with answers from outside, and each call of
+//! Each case of the operations and tests of total sets, with independent answers, and each call of
 //! one set.
 
 use std::alloc::{AllocError, Global};
@@ -12,7 +12,7 @@ type Numbers = TotalVecSet2<u32>;
 /// A list, and whether it is negated.
 type Listed = (&'static [u32], bool);
 
-/// Two sets, and what the operations and tests make of them.
+/// Two sets, and the results of the operations and tests.
 #[derive(Clone, Copy)]
 struct Row {
     left: Listed,
@@ -163,7 +163,7 @@ fn has(set: &Numbers, listed: Listed) -> bool {
     set.elements().as_ref() == listed.0 && set.is_negated() == listed.1
 }
 
-/// Whether what was made has them.
+/// Whether the result has them.
 fn is(made: Numbers, listed: Listed) -> bool {
     has(&made, listed)
 }
@@ -180,7 +180,7 @@ enum Operator {
 const OPERATORS: [Operator; 4] = [Operator::And, Operator::Or, Operator::Xor, Operator::Minus];
 
 impl Row {
-    /// What the operator makes of the sets.
+    /// The result of the operator on the sets.
     fn made(&self, operator: Operator) -> Listed {
         match operator {
             Operator::And => self.and,
@@ -198,7 +198,7 @@ impl Row {
     }
 }
 
-/// What the operator makes of the sets.
+/// The result of the operator on the sets.
 fn operated(left: &Numbers, right: &Numbers, operator: Operator) -> Result<Numbers, AllocError> {
     match operator {
         Operator::And => left & right,
@@ -208,7 +208,7 @@ fn operated(left: &Numbers, right: &Numbers, operator: Operator) -> Result<Numbe
     }
 }
 
-/// Puts what the operator makes of the sets in the place of the left one.
+/// Replaces the left set by the result of the operator.
 fn assign(left: &mut Numbers, right: Numbers, operator: Operator) -> Result<(), AllocError> {
     match operator {
         Operator::And => left.bitand_assign(right),
@@ -218,14 +218,14 @@ fn assign(left: &mut Numbers, right: Numbers, operator: Operator) -> Result<(), 
     }
 }
 
-/// What the assigning method makes of clones of the sets.
+/// The result of the assigning method on clones of the sets.
 fn assigned(left: &Numbers, right: &Numbers, operator: Operator) -> Result<Numbers, AllocError> {
     let mut made = left.clone()?;
     assign(&mut made, right.clone()?, operator)?;
     Ok(made)
 }
 
-/// Whether the operators, and the assigning methods, make of the sets what the row says.
+/// Whether the operators, and the assigning methods, have the results of the row.
 fn operates(left: &Numbers, right: &Numbers, row: &Row) -> Result<bool, AllocError> {
     let mut agree = true;
     for operator in OPERATORS {
@@ -248,7 +248,7 @@ fn turns(
     Ok(is_same(&not_made, &made))
 }
 
-/// Whether all of that is so.
+/// Whether all of that holds.
 fn all_agree(left: &Numbers, right: &Numbers, row: &Row) -> Result<bool, AllocError> {
     Ok(
         row.is_tested(left, right)
@@ -258,7 +258,7 @@ fn all_agree(left: &Numbers, right: &Numbers, row: &Row) -> Result<bool, AllocEr
     )
 }
 
-/// Whether it is of the sets of the row.
+/// Whether it holds of the sets of the row.
 fn agrees(alloc: Global, row: &Row) -> Result<bool, AllocError> {
     let left = numbers(alloc, row.left)?;
     let right = numbers(alloc, row.right)?;
@@ -346,19 +346,19 @@ fn without_two(set: &Numbers) -> Result<Numbers, AllocError> {
     Ok(without_two)
 }
 
-/// Whether the set is what the row says once 3 is put in, or 2 is taken out.
+/// Whether the set is what the row says after 3 is inserted, or 2 is removed.
 fn is_changed(set: &Numbers, row: &Single) -> Result<bool, AllocError> {
     Ok(is(with_three(set)?, row.with_three) && is(without_two(set)?, row.without_two))
 }
 
-/// Whether the set is printed so, and is the complement of its complement.
+/// Whether the set is printed as this text, and is the complement of its complement.
 fn is_printed(alloc: Global, set: &Numbers, text: &str) -> Result<bool, AllocError> {
     let printed = format!(in alloc; "{set:?}")?;
     let twice = !(!set)?;
     Ok(printed.as_str() == text && twice == *set)
 }
 
-/// Whether all of that is so of the set of the row.
+/// Whether all of that holds of the set of the row.
 fn one_agrees(alloc: Global, row: &Single) -> Result<bool, AllocError> {
     let set = numbers(alloc, row.set)?;
     Ok(is_read(alloc, &set, row) && is_changed(&set, row)? && is_printed(alloc, &set, row.text)?)

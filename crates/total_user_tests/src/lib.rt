@@ -1,4 +1,4 @@
-//! A crate that uses total sets from outside, and sets that are written out: worked cases.
+//! A crate that uses total sets as a user does, and sets that are written out: worked cases.
 #![tactic(auto)]
 
 #[cfg(test)]

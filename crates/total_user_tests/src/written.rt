@@ -25,7 +25,7 @@ fn in_other_order(alloc: Global) -> Result<Numbers, AllocError> {
     vecset! {alloc; 3, 1, 2, 1,}
 }
 
-/// Whether what was made is the set.
+/// Whether the result is the set.
 fn is_same(made: Numbers, set: &Numbers) -> bool {
     made == *set
 }

@@ -22,7 +22,7 @@ fn main(rt: HostRuntime) -> io::Result<()> {
     show_paths(&rt, alloc)
 }
 
-/// The hours at which a bakery is open, or a bar.
+/// The hours at which a bakery or a bar is open.
 fn either_is_open(alloc: Global) -> Result<Hours, AllocError>
     ensures { IfOk result (λ hours. (hour : ℕ)
         → is_open hours hour ≡ ((leb 6 hour && ltb hour 14) || (leb 12 hour && ltb hour 20))) }
@@ -142,7 +142,7 @@ fn show_basket(rt: &impl Print, what: &str, counts: &Counters) -> io::Result<()>
     )
 }
 
-/// Files, of which the rules of a filter decide which remain.
+/// Files, where the rules of a filter decide which remain.
 fn show_paths(rt: &impl Print, alloc: Global) -> io::Result<()> {
     let mut files = Files::new(alloc);
     files.add(b"src/main", 120)?;

@@ -1,4 +1,4 @@
-//! How often the closure of each call of two trees is asked at each key, in both flavours.
+//! How often each call of two trees calls its closure at each key, in both flavours.
 
 use super::combines::tree_of;
 use super::outcomes::same;
@@ -9,12 +9,12 @@ use vc_merge::merge::Steps;
 use vc_trees::radix_tree::{AbstractRadixTree, AbstractRadixTreeMut, ArcRadixTree, RadixTree};
 
 /// The keys and values of two trees. Each value is a decimal digit of its own, so a digit of the
-/// sum of all values that a closure was handed says how often it was handed that value.
+/// sum of all values that a closure got says how often it got that value.
 const LEFT: [(&str, u32); 4] = [("a", 1), ("ab", 10), ("abc", 100), ("c", 1_000_000)];
 
 const RIGHT: [(&str, u32); 3] = [("ab", 1000), ("abc", 10_000), ("b", 100_000)];
 
-/// A call of two trees that asks a closure.
+/// A call of two trees that calls a closure.
 #[derive(Clone, Copy, Debug)]
 enum Call {
     Outer,
@@ -28,14 +28,15 @@ enum Call {
     RetainWith,
 }
 
-/// Fresh combines, and the sum of what each closure is handed: once at each key of both trees.
+/// Combines that build a tree, and the sum of what each closure gets: once at each key of both
+/// trees.
 const FRESH: [(Call, u32); 3] = [
     (Call::Outer, 11_110),
     (Call::Counted, 11_110),
     (Call::Inner, 11_110),
 ];
 
-/// A fresh combine that asks once at each key of the left.
+/// A combine that builds a tree and calls its closure once for each key of the left.
 const FRESH_LEFT: [(Call, u32); 1] = [(Call::Left, 1_011_111)];
 
 /// Combines in place, likewise.
@@ -45,15 +46,15 @@ const IN_PLACE: [(Call, u32); 3] = [
     (Call::LeftWith, 11_110),
 ];
 
-/// Changes by keys that may cover others, which are asked about once where they are met.
+/// Changes by keys that may cover others, with one call for each that is met.
 const BY_COVERS: [(Call, u32); 2] = [(Call::RemoveWith, 11_000), (Call::RetainWith, 11_000)];
 
-/// Adds what a closure was handed.
+/// Adds what a closure got.
 fn note(handed: &Cell<u32>, v: u32, w: u32) {
     handed.set(handed.get().saturating_add(v).saturating_add(w));
 }
 
-/// Makes a fresh combine.
+/// Makes a combine that builds a tree.
 fn combine<T: AbstractRadixTreeMut<u8, u32>>(
     call: Call,
     tree: &T,
@@ -75,7 +76,7 @@ fn combine<T: AbstractRadixTreeMut<u8, u32>>(
     }
 }
 
-/// Changes a tree in place, or makes a fresh one in its place.
+/// Changes a tree in place, or replaces it by a new one.
 fn change<T: AbstractRadixTreeMut<u8, u32>>(
     call: Call,
     tree: &mut T,
@@ -103,7 +104,7 @@ fn change<T: AbstractRadixTreeMut<u8, u32>>(
     }
 }
 
-/// The sum of what the closure of a call was handed.
+/// The sum of what the closure of a call got.
 fn handed_to<T: AbstractRadixTreeMut<u8, u32>>(
     alloc: Global,
     call: Call,
@@ -115,7 +116,7 @@ fn handed_to<T: AbstractRadixTreeMut<u8, u32>>(
     Ok(handed.get())
 }
 
-/// Ends the test where the closure of a call is handed another sum, in either flavour.
+/// Ends the test where the closure of a call gets another sum, in either flavour.
 fn are_handed(rt: &impl Abort, alloc: Global, calls: &[(Call, u32)]) {
     for (call, sum) in calls {
         let plain = handed_to::<RadixTree<u8, u32>>(alloc, *call);

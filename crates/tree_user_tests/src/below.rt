@@ -1,5 +1,6 @@
 //! Removals of all keys that begin with a prefix, in both flavours, where these are dropped and
-//! where they are handed over: how many values are dropped, and what is copied beside a snapshot.
+//! where they are returned: how many values are dropped, and what is copied while a snapshot is
+//! held.
 
 use super::in_place::tree_of;
 use super::outcomes::{holds, same};
@@ -8,7 +9,7 @@ use super::whole_trees::has_shape;
 use std::alloc::{AllocError, Global};
 use vc_trees::radix_tree::{AbstractRadixTreeMut, ArcRadixTree, RadixTree};
 
-/// Takes the keys below `aa` out of the tree of the eight keys, and splits those below `ee` off,
+/// Removes the keys below `aa` from the tree of the eight keys, and splits those below `ee` off,
 /// where no value may be cloned. Answers whether the two values of the first are dropped and no
 /// more, and what is left and what was split off have their shapes.
 fn is_cut_and_split<'a, T: AbstractRadixTreeMut<u8, Counted<'a>>>(
@@ -42,9 +43,9 @@ fn keys_below_a_prefix_go(rt: HostRuntime) {
     }
 }
 
-/// Splits keys off the tree of the eight keys beside a copy, where each clone of a value is
-/// refused, and where it is not. Whether the first was refused and left both as they were, and the
-/// second left the copy so.
+/// Splits keys off the tree of the eight keys while a copy is held, where each clone of a value is
+/// refused, and where it is not. Answers whether the first was refused and left both unchanged, and
+/// the second left the copy unchanged.
 fn is_split_beside_a_copy<'a, T: AbstractRadixTreeMut<u8, Counted<'a>> + Clone>(
     alloc: Global,
     tally: &'a Tally,
@@ -67,9 +68,9 @@ fn a_snapshot_stays_beside_a_split(rt: HostRuntime) {
     same(&rt, &"the drops", &tally.drops(), &tally.made_and_cloned());
 }
 
-/// Takes keys out of the tree of the eight keys beside a copy: below prefixes with which no key
-/// begins, and then, where each clone of a value is refused, below `ee`. Answers whether that alone
-/// was refused, and left both as they were.
+/// Removes keys from the tree of the eight keys while a copy is held: below prefixes with which no
+/// key begins, and then, where each clone of a value is refused, below `ee`. Answers whether only
+/// that was refused, and left both unchanged.
 fn is_kept_beside_a_copy<'a, T: AbstractRadixTreeMut<u8, Counted<'a>> + Clone>(
     tree: &mut T,
     tally: &'a Tally,
@@ -83,8 +84,8 @@ fn is_kept_beside_a_copy<'a, T: AbstractRadixTreeMut<u8, Counted<'a>> + Clone>(
     Ok(is_refused && has_eight(tree) && has_eight(&copy))
 }
 
-/// Does that, and takes the keys below `ee` out once the copy is gone. Answers whether that is
-/// granted, and only they are gone.
+/// Does that, and removes the keys below `ee` after the copy is dropped. Answers whether that
+/// succeeds, and only they are removed.
 fn is_cut_without_a_copy<'a, T: AbstractRadixTreeMut<u8, Counted<'a>> + Clone>(
     alloc: Global,
     tally: &'a Tally,

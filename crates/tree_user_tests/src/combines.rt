@@ -1,4 +1,5 @@
-//! Fresh combines with ample memory, in both flavours: pairs and shapes worked out by hand.
+//! Combines that build a tree, with ample memory, in both flavours: pairs and shapes worked out by
+//! hand.
 
 use super::outcomes::holds;
 use super::questions::{none, sum, sum_of_both};
@@ -22,7 +23,7 @@ pub(crate) fn tree_of<T: AbstractRadixTreeMut<u8, u32>>(
 /// The keys and values of a tree.
 type Pairs = &'static [(&'static str, u32)];
 
-/// A fresh combine. Closures add the values, or answer none at all.
+/// A combine that builds a tree. Closures add the values, or answer none at all.
 #[derive(Clone, Copy, Debug)]
 enum Call {
     Union,
@@ -35,8 +36,8 @@ enum Call {
     Left,
 }
 
-/// The pairs of a tree, a combine, the pairs of the other tree, and the pairs and the shape of what
-/// is made.
+/// The pairs of a tree, a combine, the pairs of the other tree, and the pairs and the shape of the
+/// result.
 const WORKED: [(Pairs, Call, Pairs, &str, &str); 9] = [
     (AB, Call::Union, BC, "1a 2ab 7b", "(a*(b*) b*)"),
     (AB, Call::Intersection, BC, "2ab", "ab*"),
@@ -119,8 +120,8 @@ fn both_flavours_are_combined(rt: HostRuntime) {
     }
 }
 
-/// Whether a tree of three keys has none of three others, and with two letters off its keys these
-/// pairs and this shape.
+/// Whether a tree of three keys has none of three others, and without the first two letters of its
+/// keys has these pairs and this shape.
 fn is_shortened<T: AbstractRadixTreeMut<u8, u32>>(alloc: Global) -> Result<bool, AllocError> {
     let three: T = tree_of(alloc, &[("aabbcc", 1), ("aabb", 2), ("aabbee", 3)])?;
     for key in ["xaabbcc", "aabbx", "aabbeex"] {
@@ -128,7 +129,7 @@ fn is_shortened<T: AbstractRadixTreeMut<u8, u32>>(alloc: Global) -> Result<bool,
             return Ok(false);
         }
     }
-    // (the check goes by this: a key can be shortened by a part of the prefix alone)
+    // (for the proof: keys can only be shortened by a part of the prefix)
     if three.prefix().len() != 4 {
         return Ok(false);
     }

@@ -1,5 +1,5 @@
-//! Runs of commands, in both flavours: worked rows with ample memory, and a run that goes on behind
-//! a refusal.
+//! Runs of commands, in both flavours: worked rows with ample memory, and a run that continues
+//! after a refusal.
 ghost use Rattle.std.specs.Prelude.{◌≡◌, length, IfOk};
 
 use super::outcomes::{holds, same};
@@ -111,7 +111,7 @@ const ROWS: [(&[&str], [Order; 2], &str); 12] = [
     ),
 ];
 
-/// Whether two orders on the tree of the keys are both accepted, and leave a tree of this shape.
+/// Whether two orders on the tree of the keys both succeed, and leave a tree of this shape.
 fn runs_as_worked_out<T: AbstractRadixTreeMut<u8, ()>>(
     alloc: Global,
     keys: &[&str],
@@ -128,7 +128,7 @@ fn runs_as_worked_out<T: AbstractRadixTreeMut<u8, ()>>(
     Ok(accepted == [true; 2] && has_shape(alloc, &tree, shape)?)
 }
 
-/// Whether a removal of what a tree binds alone is accepted, on a tree that was made at once.
+/// Whether a removal of the only key of a tree succeeds, on a tree that was made at once.
 fn removes_all<T: AbstractRadixTreeMut<u8, ()>>(alloc: Global) -> Result<bool, AllocError> {
     let mut tree = T::single(alloc, b"ab", ())?;
     let mut commands = Vec::new(alloc);
@@ -185,7 +185,7 @@ fn inserts_of<'a, T: AbstractRadixTreeMut<u8, Counted<'a>>>(
 }
 
 /// Inserts at `a`, adds a tree whose values may not be cloned, and inserts at `c`. Answers which
-/// were accepted, and the numbers at `a`, `b` and `c`.
+/// succeeded, and the numbers at `a`, `b` and `c`.
 fn run_with_refusal<'a, T: AbstractRadixTreeMut<u8, Counted<'a>>>(
     alloc: Global,
     tally: &'a Tally,
@@ -214,7 +214,7 @@ fn a_refused_command_does_not_stop_the_run(rt: HostRuntime) {
     same(&rt, &"the drops", &tally.drops(), &tally.made_and_cloned());
 }
 
-/// The tree that binds this key alone, to five.
+/// The tree that binds only this key, to five.
 fn five_at<'a, T: AbstractRadixTreeMut<u8, Counted<'a>>>(
     alloc: Global,
     key: &str,
@@ -223,7 +223,7 @@ fn five_at<'a, T: AbstractRadixTreeMut<u8, Counted<'a>>>(
     T::single(alloc, key.as_bytes(), Counted::new(5, tally))
 }
 
-/// Commands that are done in place, each by a tree of one key.
+/// Commands that change a tree in place, each by a tree of one key.
 fn commands_by<'a, T: AbstractRadixTreeMut<u8, Counted<'a>>>(
     alloc: Global,
     tally: &'a Tally,
@@ -239,8 +239,8 @@ fn commands_by<'a, T: AbstractRadixTreeMut<u8, Counted<'a>>>(
     Ok(commands)
 }
 
-/// Runs the commands by another tree that are done in place. No value of the tree may be cloned.
-/// Answers which were accepted, and the numbers at `a`, `ab` and `b`.
+/// Runs the commands with another tree that change a tree in place. No value of the tree may be
+/// cloned. Answers which succeeded, and the numbers at `a`, `ab` and `b`.
 fn run_in_place<'a, T: AbstractRadixTreeMut<u8, Counted<'a>>>(
     alloc: Global,
     left: &'a Tally,

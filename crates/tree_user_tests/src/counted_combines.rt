@@ -11,8 +11,8 @@ use std::cell::Cell;
 use vc_merge::merge::{Count, Steps};
 use vc_trees::radix_tree::{AbstractRadixTree, AbstractRadixTreeMut, ArcRadixTree, RadixTree};
 
-/// Whether combines of two trees, counted or not, and the tests of their keys compare components at
-/// most as often as this, and each comparison of the counted one counts.
+/// Whether combines of two trees, counted or not, and the tests of their keys make at most this
+/// number of comparisons of components, and the counted one counts each.
 fn combines_within<'a, T: AbstractRadixTreeMut<Compared<'a>, u32>>(
     left: &T,
     right: &T,
@@ -64,8 +64,8 @@ fn combines_stay_within_their_bound(rt: HostRuntime) {
 }
 
 /// Keys of two trees, and three comparisons for each node and each component of both. Their
-/// prefixes part, long ones too, or one ends where the other goes on, beside no children, at one of
-/// them or between them, or both end at one place.
+/// prefixes diverge, long ones too; or one ends where the other continues, with no children, at one
+/// of them or between them; or both end at one place.
 const ROWS: [(&[&str], &[&str], u128); 9] = [
     (&["abc"], &["abd"], 24),
     (&[FORTY], &[FORTY_ELSE], 246),
@@ -129,7 +129,7 @@ fn lookups_count<'a, T: AbstractRadixTree<Compared<'a>, u32>>(
     Ok(all)
 }
 
-/// Whether each comparison counts where two trees of all rows are combined, both ways round.
+/// Whether each comparison is counted where two trees of all rows are combined, both ways round.
 fn combines_are_counted<'a, T: AbstractRadixTreeMut<Compared<'a>, u32>>(
     alloc: Global,
     count: &'a Cell<u128>,
@@ -154,8 +154,8 @@ fn comparisons_of_trees_that_differ_are_counted(rt: HostRuntime) {
     holds(&rt, &"shared", shared);
 }
 
-/// Whether each comparison counts where the keys of one of two trees of all rows are looked up in
-/// the other, both ways round.
+/// Whether each comparison is counted where the keys of one of two trees of all rows are looked up
+/// in the other, both ways round.
 fn lookups_are_counted<'a, T: AbstractRadixTreeMut<Compared<'a>, u32>>(
     alloc: Global,
     count: &'a Cell<u128>,

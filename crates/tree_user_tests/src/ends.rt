@@ -1,5 +1,5 @@
 //! The first and the last pair of trees of both flavours, and of a tree of this crate's own: with
-//! keys worked out by hand, in lists that have room for their components and no more.
+//! keys worked out by hand, in lists with room for exactly their components.
 
 use super::Word;
 use super::outcomes::holds;
@@ -36,7 +36,7 @@ const ROWS: [(&[Pair], Option<Pair>, Option<Pair>); 6] = [
     ),
 ];
 
-/// Whether what was found is the pair, and its list has room for the key alone.
+/// Whether what was found is the pair, and its list has room for exactly the key.
 fn is_pair(found: Option<(Vec<u8>, &u32)>, pair: Option<Pair>) -> bool {
     match (found, pair) {
         (Some((key, number)), Some((word, wanted))) => {

@@ -1,5 +1,5 @@
-//! Filters of paths: the tables of rules, of what the longest one decides, and of what they leave
-//! of a tree; snapshots of rules; and trees whose values refuse to be cloned.
+//! Filters of paths: tables of rules, of what the longest rule decides, and of what rules leave of
+//! a tree; snapshots of rules; and trees whose values refuse to be cloned.
 use super::in_place::{Row, row_of, tree_of as counted_tree_of};
 use super::lookups::{LENGTHS, repeated};
 use super::outcomes::{reads, same};
@@ -11,8 +11,8 @@ use std::cell::Cell;
 use vc_path_filter::path_filter::PathFilter;
 use vc_trees::radix_tree::{AbstractRadixTree, AbstractRadixTreeMut, ArcRadixTree, RadixTree};
 
-/// Does what a word says: one that begins with `!` denies the rest of it, and one that begins with
-/// `-` takes the rule of the rest out.
+/// Applies a word: one that begins with `!` denies the rest of it, and one that begins with `-`
+/// removes the rule of the rest.
 fn obey(filter: &mut PathFilter<u8>, word: &str) -> Result<(), AllocError> {
     match word.as_bytes().split_first() {
         Some((b'!', path)) => filter.deny(path),
@@ -30,7 +30,7 @@ fn filter_of(alloc: Global, words: &[&str]) -> Result<PathFilter<u8>, AllocError
     Ok(filter)
 }
 
-/// Rules, and paths that they allow and that they do not.
+/// Rules, paths that they allow, and paths that they do not.
 type Rules = (
     &'static [&'static str],
     &'static [&'static str],
@@ -102,7 +102,7 @@ fn wide<'a>(alloc: Global, count: &'a Cell<u128>) -> Result<PathFilter<Compared<
     Ok(filter)
 }
 
-/// Whether the filter compares no more often than this to answer so at the path.
+/// Whether the filter makes at most this number of comparisons and answers so at the path.
 fn is_within<'a>(
     filter: &PathFilter<Compared<'a>>,
     path: &[Compared<'a>],
@@ -178,7 +178,7 @@ fn the_longest_rule_decides(rt: HostRuntime) {
     }
 }
 
-/// A path that is allowed, and then denied: whether a snapshot of before still allows it, and
+/// Allows a path, and then denies it. Answers whether a snapshot from before still allows it, and
 /// whether the filter does; whether the filter allows a path that a longer rule allows; and the
 /// rule of a path between them.
 fn deny_beside_snapshot(alloc: Global) -> Result<(bool, bool, bool, Option<bool>), AllocError> {
@@ -252,7 +252,7 @@ fn trees_of_both_flavours_are_restricted(rt: HostRuntime) {
     }
 }
 
-/// Restricts a tree of which no value may be cloned: whether that was refused, and the numbers that
+/// Restricts a tree whose values may not be cloned: whether that was refused, and the numbers that
 /// are left.
 fn restrict<'a, T: AbstractRadixTreeMut<u8, Counted<'a>>>(
     alloc: Global,
@@ -265,7 +265,7 @@ fn restrict<'a, T: AbstractRadixTreeMut<u8, Counted<'a>>>(
     Ok((is_refused, row_of(tree)))
 }
 
-/// The keys and numbers of the trees that are restricted.
+/// The keys and numbers of the restricted trees.
 const PAIRS: [(&str, u32); 4] = [("a", 1), ("ab", 2), ("abc", 3), ("b", 4)];
 
 /// Restricts a tree that has no clone: whether that was refused, and the numbers that are left.

@@ -16,7 +16,7 @@ const KEYS: [&str; 6] = ["", "a", "ab", "abc", "b", "ba"];
 /// The keys and numbers of the tree that is changed.
 const LEFT: [(&str, u32); 3] = [("a", 1), ("ab", 2), ("abc", 3)];
 
-/// The keys and numbers of the tree that it is changed by.
+/// The keys and numbers of the tree by which it is changed.
 const RIGHT: [(&str, u32); 3] = [("a", 6), ("abc", 5), ("b", 7)];
 
 /// The tree of these keys and numbers.
@@ -101,7 +101,7 @@ fn apply_change<'a, T: AbstractRadixTreeMut<u8, Counted<'a>>>(
     }
 }
 
-/// What each change makes of a tree, at each of the keys.
+/// The result of each change, at each of the keys.
 const CHANGES: [(Change, Row); 9] = [
     (Change::Union, [0, 1, 2, 3, 7, 0]),
     (Change::Intersection, [0, 1, 0, 3, 0, 0]),
@@ -148,9 +148,9 @@ fn changes_clone_no_value_of_the_left(rt: HostRuntime) {
 /// How many clones are granted to the changes that are refused.
 const GRANTED: u32 = 3;
 
-/// Changes a tree of which a clone is kept, where from then on all clones of values but the first
-/// few are refused. Answers whether the change was refused, and the numbers of the tree and of its
-/// clone.
+/// Changes a tree while a clone is held, where all clones of values except the first few are
+/// refused from then on. Answers whether the change was refused, and the numbers of the tree and of
+/// its clone.
 fn changed_beside_clone<'a, T: AbstractRadixTreeMut<u8, Counted<'a>> + Clone>(
     alloc: Global,
     change: Change,
@@ -166,16 +166,16 @@ fn changed_beside_clone<'a, T: AbstractRadixTreeMut<u8, Counted<'a>> + Clone>(
     Ok((is_refused, row_of(&tree), row_of(&kept)))
 }
 
-/// Whether that is the empty tree where the change was refused, and else the changed one, beside
-/// the clone.
+/// Whether that is the empty tree where the change was refused, and otherwise the changed one, with
+/// the clone unchanged.
 fn is_as_refused(outcome: (bool, Row, Row), row: Row) -> bool {
     let (is_refused, left, kept) = outcome;
     let expected = if is_refused { [0; KEYS.len()] } else { row };
     left == expected && kept == [0, 1, 2, 3, 0, 0]
 }
 
-/// Whether that holds of both flavours, all values are dropped, and a shared tree of which no value
-/// may be cloned refuses all changes but a prepend.
+/// Whether that holds of both flavours, all values are dropped, and a shared tree whose values may
+/// not be cloned refuses all changes except a prepend.
 fn are_as_refused(
     alloc: Global,
     (change, row): (Change, Row),

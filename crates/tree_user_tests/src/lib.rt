@@ -1,4 +1,4 @@
-//! A crate that uses radix trees from outside: a tree of its own, generic code, and each call at
+//! A crate that uses radix trees as a user does: a tree of its own, generic code, and each call at
 //! both flavours.
 #![tactic(auto)]
 
@@ -50,7 +50,7 @@ pub struct Word {
 }
 
 impl Word {
-    /// The tree that binds the letters alone.
+    /// The tree that binds only the letters.
     pub fn new(letters: Vec<u8>, weight: u32) -> Word {
         Word {
             letters,

@@ -1,5 +1,5 @@
-//! Components that count their own comparisons: a counted look-up counts each of them, and stays
-//! within its bound.
+//! Components that count their own comparisons: a counted look-up counts each, and stays within its
+//! bound.
 use super::outcomes::holds;
 use set_user_tests::compared::Compared;
 use std::alloc::{AllocError, Global};
@@ -65,8 +65,8 @@ pub(crate) fn wide<'a, T: AbstractRadixTreeMut<Compared<'a>, u32>>(
     Ok(tree)
 }
 
-/// Whether a look-up of the key, counted or not, compares components at most as often as this, each
-/// of which counts, and finds it or not.
+/// Whether a look-up of the key, counted or not, makes at most this number of comparisons of
+/// components, counts each, and finds it or not.
 fn is_within<'a, T: AbstractRadixTree<Compared<'a>, u32>>(
     tree: &T,
     key: &[Compared<'a>],

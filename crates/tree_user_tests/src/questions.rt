@@ -1,5 +1,5 @@
-//! What several tests answer the questions of combines, as functions: a closure is proved wherever
-//! it stands.
+//! The closures of combines that several tests use, as functions: a closure is proved at each place
+//! where it is written.
 
 use std::alloc::AllocError;
 

@@ -1,4 +1,4 @@
-//! What no clause says: that calls succeed with ample memory, shapes as worked out, comparisons,
+//! What no clause states: that calls succeed with ample memory, shapes as worked out, comparisons,
 //! clones and drops of values.
 use super::Word;
 use super::in_place::tree_of;
@@ -17,7 +17,7 @@ use vc_trees::radix_tree::{
 /// How deep the shapes of these tests are read.
 pub(crate) const DEPTH: u8 = 9;
 
-/// Prints the shape of a tree of letters: each prefix, `*` behind one that has a value, and the
+/// Prints the shape of a tree of letters: each prefix, `*` after one that has a value, and the
 /// children in parentheses.
 pub(crate) fn print_shape<V: TValue, T: AbstractRadixTree<u8, V>>(
     tree: &T,
@@ -90,7 +90,7 @@ const ROWS: [Row; 10] = [
     ),
 ];
 
-/// Keys of more components than stand in place.
+/// Keys of more components than fit inline.
 const LONG_ROWS: [Row; 3] = [
     (&[FORTY], "abcdefghijklmnopqrstuvwxyzabcdefghijklmn*"),
     (
@@ -103,7 +103,7 @@ const LONG_ROWS: [Row; 3] = [
     ),
 ];
 
-/// Keys that part in one place.
+/// Keys that diverge in one place.
 const WIDE_ROW: Row = (
     &["xh", "xd", "xb", "xf", "xa", "xc", "xe", "xg"],
     "x(a* b* c* d* e* f* g* h*)",
@@ -134,8 +134,8 @@ fn a_tree_of_many_children_is_as_worked_out(rt: HostRuntime) {
     rows_are_as_worked_out(&rt, rt.alloc(), &[WIDE_ROW]);
 }
 
-/// What a tree of another crate that binds `abc` to 7 binds to `abc`, `ab` and `abcd`, whether it
-/// is empty, and how often it was asked for its allocator.
+/// The values of `abc`, `ab` and `abcd` in a tree of another crate that binds `abc` to 7, whether
+/// it is empty, and how often it was asked for its allocator.
 fn read_word(alloc: Global) -> Result<([Option<u32>; 3], bool, u32), AllocError> {
     let word = Word::new(b"abc".to_vec(alloc)?, 7);
     let values = [
@@ -156,8 +156,8 @@ fn a_tree_of_another_crate_is_read_without_its_allocator(rt: HostRuntime) {
 const LOOKED_UP: [&str; 4] = ["abc", "ab", "abd", "abcd"];
 
 /// What a tree of another crate that binds `abc` answers: whether it contains the letters, binds
-/// them by a counted look-up, and has a key that is a prefix of them; and how often it was asked
-/// for its allocator.
+/// them by a counted look-up, and has a key that is a prefix of them. Answers also how often it was
+/// asked for its allocator.
 fn looked_up(alloc: Global, letters: &str) -> Result<([bool; 3], u32), AllocError> {
     let word = Word::new(b"abc".to_vec(alloc)?, 7);
     let letters = letters.as_bytes();
@@ -183,9 +183,9 @@ fn a_tree_of_another_crate_is_looked_up_in_without_its_allocator(rt: HostRuntime
     }
 }
 
-/// What a tree of another crate that binds `abc` answers beside one that binds the letters: whether
-/// it is a subset and a superset of that, and whether they intersect and are disjoint; how many
-/// keys it has, and how often both were asked for their allocators.
+/// What a tree of another crate that binds `abc` answers together with one that binds the letters:
+/// whether it is a subset and a superset of that, and whether they intersect and are disjoint.
+/// Answers also how many keys it has, and how often both were asked for their allocators.
 fn asked_of_words(
     alloc: Global,
     letters: &str,
@@ -215,7 +215,7 @@ fn trees_of_another_crate_are_tested_without_their_allocators(rt: HostRuntime) {
 const LETTERS: usize = 6;
 
 /// How often letters are compared where a key of six letters is looked up and bound in a tree that
-/// binds the keys of two and of four of these letters too, one below the other.
+/// also binds the keys of two and of four of these letters, one below the other.
 fn comparisons<'a, T: AbstractRadixTreeMut<Compared<'a>, u32>>(
     alloc: Global,
     count: &'a Cell<u128>,
@@ -348,11 +348,11 @@ pub(crate) const KEYS: [(&str, u32); 8] = [
     ("eeeef", 8),
 ];
 
-/// How many values an insert at `bcd` copies where a snapshot holds the eight keys too: those at
-/// `a`, `b` and `bc`.
+/// How many values an insert at `bcd` copies where a snapshot shares the eight keys: those at `a`,
+/// `b` and `bc`.
 const COPIED: u32 = 3;
 
-/// Inserts the eight keys, one of them twice, and says how many values were dropped by then.
+/// Inserts the eight keys, one of them twice, and answers how many values were dropped by then.
 fn drops_of_eight<'a, T: AbstractRadixTreeMut<u8, Counted<'a>>>(
     alloc: Global,
     tally: &'a Tally,
@@ -372,8 +372,8 @@ fn insert_clones_no_value_that_is_not_shared(rt: HostRuntime) {
     same(&rt, &"shared", &(shared, tally.drops()), &(Ok(10), 18));
 }
 
-/// Inserts a key into the tree of the eight keys, of which a copy is kept. Answers the numbers
-/// there in the tree and in the copy, and how many values the copy cloned.
+/// Inserts a key into the tree of the eight keys while a copy is held. Answers the numbers there in
+/// the tree and in the copy, and how many values the copy cloned.
 fn insert_beside_copy<'a, T: AbstractRadixTreeMut<u8, Counted<'a>> + Clone>(
     alloc: Global,
     tally: &'a Tally,
@@ -403,9 +403,9 @@ pub(crate) fn has_eight<'a, T: AbstractRadixTree<u8, Counted<'a>>>(tree: &T) -> 
     has_all
 }
 
-/// Inserts a key twice into the tree of the eight keys, where all clones of a value but the first
-/// few are refused: beside a copy, and when the copy is gone. Answers whether only the first was
-/// refused, and left both as they were.
+/// Inserts a key twice into the tree of the eight keys, where all clones of a value except the
+/// first few are refused: while a copy is held, and after the copy is dropped. Answers whether only
+/// the first was refused, and left both unchanged.
 fn is_refused_beside_a_copy_alone<'a, T: AbstractRadixTreeMut<u8, Counted<'a>> + Clone>(
     alloc: Global,
     granted: u32,
@@ -423,9 +423,9 @@ fn is_refused_beside_a_copy_alone<'a, T: AbstractRadixTreeMut<u8, Counted<'a>> +
     Ok(is_refused && is_unchanged && is_granted && is_bound)
 }
 
-/// Takes keys out of the tree of the eight keys beside a copy: such as are not bound, and then,
-/// where each clone of a value is refused, `eeeef`. Answers whether that alone was refused, and
-/// left both as they were.
+/// Removes keys from the tree of the eight keys while a copy is held: first keys that are not
+/// bound, and then, where each clone of a value is refused, `eeeef`. Answers whether only that was
+/// refused, and left both unchanged.
 fn is_kept_beside_a_copy<'a, T: AbstractRadixTreeMut<u8, Counted<'a>> + Clone>(
     tree: &mut T,
     tally: &'a Tally,
@@ -440,7 +440,7 @@ fn is_kept_beside_a_copy<'a, T: AbstractRadixTreeMut<u8, Counted<'a>> + Clone>(
     Ok(tree.remove(b"eeeef").is_err() && has_eight(tree) && has_eight(&copy))
 }
 
-/// Does that, and takes `eeeef` out once the copy is gone. Answers whether that is granted.
+/// Does that, and removes `eeeef` after the copy is dropped. Answers whether that succeeds.
 fn is_removed_without_a_copy<'a, T: AbstractRadixTreeMut<u8, Counted<'a>> + Clone>(
     alloc: Global,
     tally: &'a Tally,

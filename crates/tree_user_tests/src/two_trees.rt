@@ -1,5 +1,5 @@
 //! Two trees side by side, in both flavours and with a tree of another crate: tests of their keys,
-//! shapes of what combines make, and the keys under a prefix.
+//! shapes of the results of combines, and the keys under a prefix.
 
 use super::Word;
 use super::outcomes::holds;
@@ -54,7 +54,7 @@ const TESTS: [(&[&str], &[&str], [bool; 3]); 15] = [
     (&[FORTY], &[FORTY_ELSE], [true, false, false]),
 ];
 
-/// Whether the tests of two trees answer so, both ways round.
+/// Whether the tests of two trees have these answers, both ways round.
 fn tests_answer<T: AbstractRadixTree<u8, u32>, S: AbstractRadixTree<u8, u32>>(
     left: &T,
     right: &S,
@@ -69,7 +69,7 @@ fn tests_answer<T: AbstractRadixTree<u8, u32>, S: AbstractRadixTree<u8, u32>>(
         && right.is_subset(left) == superset
 }
 
-/// Whether all rows of tests are answered so, with the other flavour on the right.
+/// Whether all rows of tests have these answers, with the other flavour on the right.
 fn all_tests_answer<T: AbstractRadixTreeMut<u8, u32>, S: AbstractRadixTreeMut<u8, u32>>(
     alloc: Global,
 ) -> Result<bool, AllocError> {
@@ -120,8 +120,8 @@ const SHAPES: [(&[&str], &[&str], [&str; 3]); 10] = [
     ),
 ];
 
-/// Whether the union, the intersection and the difference of two trees have these shapes, and a
-/// combine that keeps the left value that of the union.
+/// Whether the union, the intersection and the difference of two trees have these shapes, and
+/// whether a combine that keeps the left value has that of the union.
 fn are_combined<T: AbstractRadixTreeMut<u8, u32>, S: AbstractRadixTree<u8, u32>>(
     alloc: Global,
     left: &T,
@@ -137,7 +137,7 @@ fn are_combined<T: AbstractRadixTreeMut<u8, u32>, S: AbstractRadixTree<u8, u32>>
     )
 }
 
-/// Whether all rows of shapes are so.
+/// Whether all rows have these shapes.
 fn have_shapes<T: AbstractRadixTreeMut<u8, u32>, S: AbstractRadixTreeMut<u8, u32>>(
     alloc: Global,
 ) -> Result<bool, AllocError> {
@@ -230,7 +230,7 @@ fn combines_a_word<T: AbstractRadixTreeMut<u8, u32>>(
     )
 }
 
-/// Whether both are so of a tree of one key, beside trees of a flavour.
+/// Whether both hold of a tree of one key, together with trees of a flavour.
 fn is_told_of_a_word<T: AbstractRadixTreeMut<u8, u32>>(alloc: Global) -> Result<bool, AllocError> {
     let word = Word::new(b"abc".to_vec(alloc)?, 7);
     let tree: T = tree_of(alloc, &["ab", "abc", "abd"])?;

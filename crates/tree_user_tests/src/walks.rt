@@ -11,7 +11,7 @@ use vc_trees::radix_tree::{
     Values,
 };
 
-/// Puts a digit behind the text, parted by a space from what stands there.
+/// Appends a digit to the text, separated by a space from what is there.
 fn put_digit(text: &mut String, digit: u32) -> Result<(), AllocError> {
     if !text.is_empty() {
         text.push(' ')?;
@@ -19,7 +19,7 @@ fn put_digit(text: &mut String, digit: u32) -> Result<(), AllocError> {
     text.push(char::from_digit(digit, 10).unwrap_or('?'))
 }
 
-/// Puts a digit and the letters of its key behind the text, as `1aabb`.
+/// Appends a digit and the letters of its key to the text, such as `1aabb`.
 pub(crate) fn put_pair(text: &mut String, key: &[u8], digit: u32) -> Result<(), AllocError> {
     put_digit(text, digit)?;
     for letter in key {
@@ -53,7 +53,7 @@ fn print_values<T: AbstractRadixTree<u8, u32>>(
     Ok(text)
 }
 
-/// The pairs that are left of a walk that holds its tree.
+/// The pairs that are left of a walk that owns its tree.
 fn print_held<T: AbstractRadixTree<u8, u32> + Drop>(
     alloc: Global,
     walk: ObjAndIter<u8, u32, T>,
@@ -114,7 +114,7 @@ const ROWS: [Row; 9] = [
     ),
 ];
 
-/// Whether what is left of a walk is printed so.
+/// Whether what is left of a walk is printed as this text.
 fn gives<T: AbstractRadixTree<u8, u32>>(
     alloc: Global,
     walk: Iter<'_, u8, u32, T>,
@@ -124,7 +124,7 @@ fn gives<T: AbstractRadixTree<u8, u32>>(
     Ok(text.as_str() == pairs)
 }
 
-/// Whether the values of a tree are printed so.
+/// Whether the values of a tree are printed as this text.
 fn gives_values<T: AbstractRadixTree<u8, u32>>(
     alloc: Global,
     tree: &T,
@@ -134,7 +134,7 @@ fn gives_values<T: AbstractRadixTree<u8, u32>>(
     Ok(text.as_str() == values)
 }
 
-/// Whether the walk that holds a tree is printed so.
+/// Whether the walk that owns a tree is printed as this text.
 fn gives_held<T: AbstractRadixTreeMut<u8, u32>>(
     alloc: Global,
     tree: T,
@@ -218,7 +218,7 @@ fn kept_keys_stay(rt: HostRuntime) {
 /// Three keys with numbers.
 const THREE: [(&str, u32); 3] = [("b", 4), ("a", 1), ("ab", 2)];
 
-/// Takes the first item of the walk that holds the tree of the three keys, and lets the walk go.
+/// Takes the first item of the walk that owns the tree of the three keys, and drops the walk.
 /// Answers the number that came.
 fn first_number<'a, T: AbstractRadixTreeMut<u8, Counted<'a>>>(
     alloc: Global,
@@ -251,9 +251,9 @@ fn a_walk_that_is_let_go_drops_what_is_left(rt: HostRuntime) {
     );
 }
 
-/// Walks a tree of three counted values, which the walk holds, until the clones that are granted
-/// are used up. Answers the sum of the numbers that came, and whether the walk was refused and is
-/// at its end.
+/// Walks a tree of three counted values, which the walk owns, until the clones that are granted are
+/// used up. Answers the sum of the numbers that came, and whether the walk was refused and is at
+/// its end.
 fn sum_of_granted<'a, T: AbstractRadixTreeMut<u8, Counted<'a>>>(
     alloc: Global,
     granted: u32,
@@ -292,7 +292,7 @@ fn a_held_tree_is_dropped_once(rt: HostRuntime) {
 /// How many nested keys the deep tree has.
 const DEPTH: u32 = 5000;
 
-/// The tree of nested keys of letters, up to one of so many.
+/// The tree of nested keys of letters, up to one of `depth` letters.
 fn nested<T: AbstractRadixTreeMut<u8, u32>>(alloc: Global, depth: u32) -> Result<T, AllocError> {
     let mut key = Vec::new(alloc);
     for _ in 0..depth {

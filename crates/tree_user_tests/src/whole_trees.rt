@@ -57,8 +57,8 @@ pub(crate) fn has_shape<V: TValue, T: AbstractRadixTree<u8, V>>(
     Ok(text.as_str() == shape)
 }
 
-/// Removes what starts with `aabbc` from a tree. Answers whether only that is gone, and a clone of
-/// before is as it was.
+/// Removes what starts with `aabbc` from a tree. Answers whether only that is removed, and a clone
+/// from before is unchanged.
 fn is_removed_beside_clone<T: AbstractRadixTreeMut<u8, u32> + Clone>(
     alloc: Global,
     tree: T,
@@ -81,8 +81,9 @@ fn is_removed_where_shared(alloc: Global) -> Result<bool, AllocError> {
     is_removed_beside_clone(alloc, shared_of(plain)?)
 }
 
-/// Inserts a third key into a tree of two, of which a clone is kept, where so many clones of values
-/// are granted. Answers whether the tree has the shape then, and the clone that of before.
+/// Inserts a third key into a tree of two while a clone is held, where this number of clones of
+/// values is granted. Answers whether the tree has the shape then, and the clone still has the old
+/// one.
 fn is_inserted_beside_clone<'a, T: AbstractRadixTreeMut<u8, Counted<'a>> + Clone>(
     alloc: Global,
     granted: u32,
@@ -115,7 +116,8 @@ fn a_kept_clone_stays(rt: HostRuntime) {
     }
 }
 
-/// Makes a tree of three values shared, and says how many values were cloned and dropped by then.
+/// Makes a tree of three values shared, and answers how many values were cloned and dropped by
+/// then.
 fn counts_of_sharing(alloc: Global, tally: &Tally) -> Result<(u32, u32), AllocError> {
     let tree: RadixTree<u8, Counted> = counted_tree_of(
         alloc,

@@ -7,6 +7,6 @@ use Rattle.vec_collections.specs.Key.{same_key}
 abbrev pub Path : Type 0
 Path = List ℕ
 
--- both are one path
+-- both are the same path
 abbrev pub same_path : Path → Path → Bool
 same_path path other = same_key nat_cmp path other

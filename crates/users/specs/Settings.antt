@@ -18,7 +18,7 @@ abbrev pub found_in : Option (Tree ℕ ℕ) → Path → Option ℕ
 found_in None path = None
 found_in (Some settings) path = set_in settings path
 
--- how many versions there are
+-- the number of versions
 abbrev pub count : History → ℕ
 count history = length history.versions.items
 
@@ -38,7 +38,7 @@ latest history path = setting history (count history - 1) path
 abbrev pub HaveSameVersions : History → History → Type 0
 HaveSameVersions h g = g.versions.items ≡ h.versions.items
 
--- the path begins with the one of the folder, by bytes: `net` has `network` below it, too
+-- the path begins with the one of the folder, by bytes: `network` is also below `net`
 abbrev pub is_below : Path → Path → Bool
 is_below folder path = is_some (behind nat_cmp folder path)
 

@@ -19,7 +19,7 @@ pub struct History {
 }
 
 impl History {
-    /// No version.
+    /// A history with no version.
     pub fn new(alloc: Global) -> Self
         ensures none { count result ≡ 0 }
         ensures unset { (path : Path) → latest result path ≡ None }
@@ -36,8 +36,8 @@ impl History {
         self.version(version)?.get(path).copied()
     }
 
-    /// Makes a version in which the path has this value. The versions before it stay as they are;
-    /// refused, no version is made.
+    /// Makes a version in which the path has this value. The versions before it are unchanged; on
+    /// refusal no version is made.
     pub fn set(&mut self, alloc: Global, path: &[u8], value: u64) -> Result<(), AllocError>
         ensures one { OnOk result (count self.new ≡ count self.old + 1) }
         ensures set { OnOk result ((other : Path)
@@ -52,8 +52,8 @@ impl History {
         self.publish(next)
     }
 
-    /// Makes a version in which nothing is set at a path that begins with `folder`, by bytes. Those
-    /// before it stay as they are; refused, none is made.
+    /// Makes a version in which nothing is set at a path that begins with `folder`, by bytes. The
+    /// versions before it are unchanged; on refusal no version is made.
     pub fn unset(&mut self, alloc: Global, folder: &[u8]) -> Result<(), AllocError>
         ensures one { OnOk result (count self.new ≡ count self.old + 1) }
         ensures unset { OnOk result ((path : Path)
@@ -67,7 +67,7 @@ impl History {
         self.publish(next)
     }
 
-    /// What changed between two versions. In a version that is not there nothing is set.
+    /// What changed between two versions. In a version that does not exist, nothing is set.
     pub fn changes(&self, alloc: Global, from: usize, to: usize) -> Result<Changes, AllocError>
         ensures { IfOk result (λ changes. (path : Path)
             → is_changed changes path
@@ -92,14 +92,14 @@ impl History {
         Ok(())
     }
 
-    /// The settings of a version, if it is there.
+    /// The settings of a version, if it exists.
     fn version(&self, number: usize) -> Option<&Settings>
         ensures { option_copied result ≡ version_of self.now number }
     {
         self.versions.get(number)
     }
 
-    /// A tree to be made the next version: what the last one has.
+    /// A tree for the next version, with the settings of the last one.
     fn draft(&self, alloc: Global) -> Result<Settings, AllocError>
         ensures { IfOk result (λ next. (path : Path) → set_in next path ≡ latest self.now path) }
     {
@@ -110,7 +110,7 @@ impl History {
     }
 }
 
-/// The paths at which two versions have other settings.
+/// The paths at which two versions have different settings.
 #[derive(Drop)]
 pub struct Changes {
     paths: RadixTree<u8, u64>,

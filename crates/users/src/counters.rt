@@ -1,4 +1,4 @@
-//! Counters by name, most of which have one count: each of the others takes room for itself.
+//! Counters by name, where most names have the same count. Only the others take memory.
 
 ghost use Rattle.std.specs.Prelude.{◌≡◌, ◌==◌, ◌+◌, ◌*◌, cond, max, Ok, ℕ, IfOk};
 ghost use Rattle.users.specs.Counts.{count_of, bounded};
@@ -15,7 +15,7 @@ pub struct Counters {
 }
 
 impl Counters {
-    /// One count at every name.
+    /// The same count at every name.
     pub fn all(alloc: Global, count: u64) -> Self
         ensures { (name : ℕ) → count_of result name ≡ count }
     {
@@ -63,7 +63,7 @@ impl Counters {
         Ok(Counters { counts })
     }
 
-    /// Each count so many times, or the greatest number where that does not fit.
+    /// Each count times `factor`, or the greatest number where that does not fit.
     pub fn scaled(&self, factor: u64) -> Result<Self, AllocError>
         ensures { IfOk result
             (λ made. (name : ℕ) → count_of made name ≡ bounded (count_of self.now name * factor)) }

@@ -14,7 +14,7 @@ pub struct Hours {
 }
 
 impl Hours {
-    /// Open from an hour on, until another one: never, where that is not later.
+    /// Open from one hour until another; never, where that is not later.
     pub fn between(alloc: Global, opens: u64, closes: u64) -> Result<Self, AllocError>
         ensures hours { IfOk result
             (λ made. (hour : ℕ) → is_open made hour ≡ (leb opens hour && ltb hour closes)) }

@@ -1,4 +1,4 @@
-//! Programs of users, each with an API of its own, whose contracts speak of its subject alone. All
+//! Programs of users. Each has its own API, whose contracts use only the words of its subject. All
 //! names come from `vec_collections`.
 #![tactic(auto)]
 

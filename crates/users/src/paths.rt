@@ -1,4 +1,4 @@
-//! Files by their paths, of which the rules of a filter decide which remain.
+//! Files by their paths. The rules of a filter decide which files remain.
 
 ghost use Rattle.std.specs.Prelude.{◌≡◌, cond, None, Some, OnOk, OnErr};
 ghost use Rattle.users.specs.Files.{allows, size_of};
@@ -15,7 +15,7 @@ pub struct Files {
 }
 
 impl Files {
-    /// No file.
+    /// A table with no file.
     pub fn new(alloc: Global) -> Self
         ensures { (path : Path) → size_of result path ≡ None }
     {
@@ -24,7 +24,7 @@ impl Files {
         }
     }
 
-    /// Notes the size of a file. Refused, each file has the size that it had.
+    /// Records the size of a file. On refusal each file has its old size.
     pub fn add(&mut self, path: &[u8], size: u64) -> Result<(), AllocError>
         ensures ok { OnOk result ((other : Path)
             → size_of self.new other
@@ -42,7 +42,7 @@ impl Files {
         self.sizes.get(path).copied()
     }
 
-    /// Keeps the files that the longest rule on their path allows. Refused, no file remains.
+    /// Keeps the files that the longest rule on their path allows. On refusal no file remains.
     pub fn keep(&mut self, filter: &PathFilter<u8>) -> Result<(), AllocError>
         ensures ok { OnOk result ((path : Path)
             → size_of self.new path ≡ cond (allows filter.now path) (size_of self.old path) None) }

@@ -20,7 +20,7 @@ pub struct Index {
 }
 
 impl Index {
-    /// No article has a tag.
+    /// An index where no article has a tag.
     pub fn new(alloc: Global) -> Self
         ensures { (tag : ℕ) (article : ℕ) → tagged result tag article ≡ false }
     {
@@ -29,7 +29,7 @@ impl Index {
         }
     }
 
-    /// Tags an article. Refused, each article has the tags that it had.
+    /// Tags an article. On refusal each article has its old tags.
     pub fn tag(&mut self, alloc: Global, article: u64, tag: u32) -> Result<(), AllocError>
         ensures ok { OnOk result ((t : ℕ) (a : ℕ)
             → tagged self.new t a ≡ (tagged self.old t a || (tag == t && article == a))) }
@@ -80,7 +80,7 @@ impl Index {
         Ok(found)
     }
 
-    /// The articles that have no tag among these: those with no tag at all, too.
+    /// The articles that have no tag among these: including those with no tag at all.
     pub fn none_of(&self, alloc: Global, tags: &[u32]) -> Result<Found, AllocError>
         ensures { IfOk result (λ found. (article : ℕ)
             → is_found found article ≡ not (has_any self.now tags.now article)) }
@@ -92,7 +92,7 @@ impl Index {
     }
 }
 
-/// What a query finds: the articles that it names, or all but those.
+/// What a query finds: the articles that it names, or all except those.
 #[derive(Drop)]
 pub struct Found {
     articles: TotalVecSet<u64, 4>,
@@ -116,7 +116,7 @@ impl Found {
         Ok(Found { articles })
     }
 
-    /// Keeps what is among the articles too.
+    /// Keeps only what is also among the articles.
     fn narrow(&mut self, articles: Articles) -> Result<(), AllocError>
         ensures { OnOk result ((article : ℕ) → is_found self.new article
             ≡ (is_found self.old article && is_among articles article)) }

@@ -41,7 +41,7 @@ module _ {K V W : Type 0} where
     pub says : g.post f (key, (value, (other, tt))) (kept, (left, tt))
     pub stays : r ≡ if_kept kept left.now
 
-  -- the closure for keys of the other map alone may answer r
+  -- the closure for keys of only the other map may answer r
   pub record MayGive {F : Type 0} (g : Shared F (Bor K × (Bor W × Unit {0})) (Option V)) (f : F) (k : K) (w : W) (r : Option V) : Type 0 where
     pub key : Bor K
     pub other : Bor W
@@ -49,13 +49,13 @@ module _ {K V W : Type 0} where
     pub says : g.post f (key, (other, tt)) r
 
   module _ (Of : OuterJoinArg K V W → Option V → Type 0) where
-    -- at a key of this map alone the value is unchanged
+    -- at a key of only this map the value is unchanged
     abbrev pub OrStays : OuterJoinArg K V W → Option V → Type 0
     OrStays (Left k v) r = r ≡ Some v
     OrStays (Right k w) r = Of (Right k w) r
     OrStays (Both k v w) r = Of (Both k v w) r
 
-    -- at a key of this map alone no value stays
+    -- at a key of only this map no value stays
     abbrev pub OrDropped : OuterJoinArg K V W → Option V → Type 0
     OrDropped (Left k v) r = r ≡ None
     OrDropped (Right k w) r = Of (Right k w) r
@@ -67,13 +67,13 @@ module _ {K V W : Type 0} where
     OrSharedStays (Right k w) r = Of (Right k w) r
     OrSharedStays (Both k v w) r = r ≡ Some v
 
-    -- at a key of the other map alone another closure is called
+    -- at a key of only the other map another closure is called
     abbrev pub OrGives : (K → W → Option V → Type 0) → OuterJoinArg K V W → Option V → Type 0
     OrGives Gives (Left k v) r = Of (Left k v) r
     OrGives Gives (Right k w) r = Gives k w r
     OrGives Gives (Both k v w) r = Of (Both k v w) r
 
-  -- P is required at a key of this map alone
+  -- P is required at a key of only this map
   abbrev pub AtAlone : (OuterJoinArg K V W → Type 0) → OuterJoinArg K V W → Type 0
   AtAlone P (Left k v) = P (Left k v)
   AtAlone P (Right k w) = Unit {0}
@@ -88,7 +88,7 @@ module _ {K V W : Type 0} where
     abbrev pub StayedOrCloned : (K → K → Type 0) → OuterJoinArg K V W → K → Type 0
     StayedOrCloned is_clone a k = MatchOption (entry_at cmp old (shown_key a)) (is_clone (shown_key a) k) (λ p. k ≡ p.0)
 
--- new is the old map, and some pairs at keys of the other map alone, each a clone of the key with a
+-- new is the old map, and some pairs at keys of only the other map, each a clone of the key with a
 -- value that may be given there
 pub record IsGrown {K V W : Type 0} (cmp : K → K → Ordering) (is_clone : K → K → Type 0) (Gives : K → W → Option V → Type 0) (others : List (K × W)) (old new : List (K × V)) : Type 0 where
   pub old_stay : (k : K) → is_some (entry_at cmp old k) ≡ true → entry_at cmp new k ≡ entry_at cmp old k

@@ -6,21 +6,21 @@ use denote.Param.Members.{Shared}
 use Rattle.vc_btree_maps.specs.Keeping.{if_kept}
 
 module _ {V W : Type 0} where
-  -- at a key of both maps the result of h on the two values; at a key of this map alone the value
+  -- at a key of both maps the result of h on the two values; at a key of only this map the value
   -- stays
   abbrev pub or_stays : (V → W → Option V) → V → Option W → Option V
   or_stays h v None = Some v
   or_stays h v (Some w) = h v w
 
-  -- at a key of this map what h makes of its value and of what the other map has there;
-  -- at a key of the other map alone what i makes of its value; and nothing elsewhere
+  -- at a key of this map the result of h on its value and on what the other map has there; at a key
+  -- of only the other map the result of i on its value; nothing elsewhere
   abbrev pub or_given : (V → Option W → Option V) → (W → Option V) → Option V → Option W → Option V
   or_given h i (Some v) w = h v w
   or_given h i None (Some w) = i w
   or_given h i None None = None
 
 module _ {K V W F : Type 0} where
-  -- the closure leaves of a value what h makes of it and of what the other map has there
+  -- the closure changes a value to the result of h on it and on what the other map has there
   abbrev pub LeavesBy : Shared F (Bor K × (MutBor V × (Option (Bor W) × Unit {0}))) (Bool × (MutBor V × Unit {0}))
       → F → (V → Option W → Option V) → Type 0
   LeavesBy g f h =
@@ -36,6 +36,6 @@ module _ {K V W F : Type 0} where
       → g.post f (k, (v, (w, tt))) (kept, (left, tt))
       → if_kept kept left.now ≡ h v.now w.now
 
-  -- the closure for keys of the other map alone answers what i makes of the value
+  -- the closure for keys of only the other map answers the result of i on the value
   abbrev pub GivesBy : Shared F (Bor K × (Bor W × Unit {0})) (Option V) → F → (W → Option V) → Type 0
   GivesBy g f i = (k : Bor K) (w : Bor W) (r : Option V) → g.post f (k, (w, tt)) r → r ≡ i w.now

@@ -89,7 +89,7 @@ pub trait AbstractBTreeMap<K: Ord, V> {
         fresh::join_outer(alloc, self, that, &AskOuter(&f))
     }
 
-    /// The map of the answers of `f`, which is called at each key of this map. `f` sees the keys of
+    /// The map of the answers of `f`, which is called at each key of this map and sees the keys of
     /// this map, and the result has clones of these.
     ///
     /// It looks up each key at which `f` is called, and inserts each answer under a clone of the
@@ -117,7 +117,7 @@ pub trait AbstractBTreeMap<K: Ord, V> {
         fresh::join_left(alloc, self, that, &AskLeft(&f))
     }
 
-    /// The map of the answers of `f`, which is called at each key of the other map. `f` sees the
+    /// The map of the answers of `f`, which is called at each key of the other map and sees the
     /// keys of the other map, and the result has clones of these.
     ///
     /// It looks up each key at which `f` is called, and inserts each answer under a clone of the
@@ -145,8 +145,8 @@ pub trait AbstractBTreeMap<K: Ord, V> {
         fresh::join_right(alloc, self, that, &AskRight(&f))
     }
 
-    /// The map of the answers of `f`, which is called at each key of both maps. `f` sees the keys
-    /// of the other map, and the result has clones of these.
+    /// The map of the answers of `f`, which is called at each key of both maps and sees the keys of
+    /// the other map, and the result has clones of these.
     ///
     /// It looks up each key at which `f` is called, and inserts each answer under a clone of the
     /// key. Where a clone, memory or the closure is refused, what was built is dropped.
@@ -293,7 +293,7 @@ pub trait InPlaceRelationalOps<K: Ord, V>: AbstractBTreeMap<K, V> {
     /// either map is looked up in the other one at most twice.
     ///
     /// Where memory, a clone or an insertion is refused, the pairs that it had are unchanged, and
-    /// `f` was not called. Some pairs that `other_alone` gave at keys of the other map alone may be
+    /// `f` was not called. Some pairs that `other_alone` gave at keys of only the other map may be
     /// inserted.
     fn outer_join_with<
         W,

@@ -1,4 +1,4 @@
--- How parts lie in a row of places, and what a write, a read or a run of the places makes of them.
+-- How parts lie in a row of places, and how a write, a read or a run of the places changes them.
 use Rattle.std.proofs.Common.{◌≡◌, ℕ, suc, ◌+◌, ◌-◌, ◌<◌, List, [], ◌∷◌, ◌++◌, map, length, take, drop, set, get_or}
 use Rattle.std.proofs.Common.{replicate, Option, Some, None, refl, sym, ap, ◌∙◌, arith, length-append, append_assoc, append-nil}
 use Rattle.std.proofs.Common.{take_at, drop_at, drop-drop, take-add}

@@ -1,9 +1,10 @@
 -- What the proofs by hand over the places share: the types that they speak of, and what is passed in and dropped.
---   base-tells       a base tells its machine value
---   base-goes, number-goes       nothing is had of a base or a number at the end
---   mark-told, title-told       owners of no bytes tell their machine value
---   begun       a walk begins with what the parameters own, the tokens and what is asked
---   opened, closed       the owner of the places is taken apart, and made of its parts
+--   base-tells       the machine value of a base is the one word of its pointer
+--   base-goes, number-goes       a base or a number that is dropped at the end owns nothing
+--   mark-told, title-told       the machine value of the mark of `Places` and of a `Deed`, which take no bytes
+--   begun       a walk begins with what the parameters own, the tokens and the precondition
+--   opened       the owner of the places is split into the slots of its block and its mark
+--   closed       the slots of its block and its mark make the owner of the places again
 use Rattle.vc_builder.proofs.WalkNames.{◌≡◌, refl, ap, sym, ◌∙◌, List, [], ◌∷◌, ◌++◌, ℕ, Val, vstruct, of_list, Ura, Logic}
 use Rattle.vc_builder.proofs.WalkNames.{yes, no, usize, ◌*◌, ◌<◌, ◌^◌, id⊢, never, sep, ent, sem, ‵, ◌$◌, ◌∵◌, !, qed, move}
 use Rattle.vc_builder.proofs.WalkNames.{RattleType, type_size, El, R, Is, plain, Goes, stay_dropped, Goes-dropped, word}

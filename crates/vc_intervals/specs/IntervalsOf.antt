@@ -1,5 +1,5 @@
--- What an operation makes of two interval sets. It is given by f, which says whether a place is in
--- the result, from whether it is in the left set and in the right one.
+-- The result of an operation on two interval sets. It is given by f, which says whether a place is
+-- in the result, from whether it is in the left set and in the right one.
 use Rattle.std.specs.Prelude.{◌≡◌, Bool, Option, Some, None, IsTrue}
 use Rattle.std.specs.declared.cmp.Ordering.{Ordering}
 use Rattle.vc_merge.specs.Ascending.{Ascends, element_at}

@@ -168,8 +168,8 @@ impl<T: Ord + MadeWith<A> + Drop, const N: usize, A: Allocator + Copy> IntervalS
 
     /// The values from `least` on that are less than `end`: none, where `end` is not greater.
     ///
-    /// The two values are moved. They are compared once, and takes memory only where `N` is less
-    /// than 2; on refusal it drops them.
+    /// The two values are moved. They are compared once. Takes memory only where `N` is less than
+    /// 2; on refusal it drops them.
     pub fn between(alloc: A, least: T, end: T) -> Result<Self, AllocError>
         ensures boundaries { IfOk result (λ s. s ≡ cond (is_lt (T.cmp least end))
             (intervals (least ∷ end ∷ []) false) (intervals [] false)) }

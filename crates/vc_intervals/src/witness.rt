@@ -41,8 +41,8 @@ impl<'a, T> MergeState for Search<'a, T> {
     }
 }
 
-/// Stops at a place in the left set alone if `LEFT`, in the right one alone if `RIGHT`, and at one
-/// in both if `BOTH`.
+/// Stops at a place only in the left set if `LEFT`, only in the right one if `RIGHT`, and at one in
+/// both if `BOTH`.
 struct Finds<const LEFT: bool, const RIGHT: bool, const BOTH: bool>;
 
 impl<'a, const LEFT: bool, const RIGHT: bool, const BOTH: bool, T: Ord, C: Count> MergeOperation<

@@ -1,4 +1,4 @@
--- What a join makes of two maps, key by key.
+-- The result of a join of two maps, key by key.
 use Rattle.std.specs.Prelude.{◌≡◌, List, Option, Some, None}
 use Rattle.std.specs.Option.{option_and_then}
 use Rattle.std.specs.declared.cmp.Ordering.{Ordering}
@@ -46,7 +46,7 @@ module _ {K V W : Type 0} where
   abbrev pub ClonedKey : (K → K → Type 0) → OuterJoinArg K V W → K → Type 0
   ClonedKey is_clone a k = is_clone (shown_key a) k
 
-  -- a key of the left map stays, and one of the right map alone is cloned
+  -- a key of the left map stays, and one of only the right map is cloned
   abbrev pub OldKey : (K → K → Type 0) → OuterJoinArg K V W → K → Type 0
   OldKey is_clone (Left j v) k = k ≡ j
   OldKey is_clone (Right j w) k = is_clone j k

@@ -5,14 +5,14 @@ use Rattle.vc_joins.specs.declared.question.OuterJoinArg.TheVariants.{Left, Righ
 use Rattle.vc_joins.specs.declared.question.JoinKind.{JoinKind}
 use Rattle.vc_joins.specs.declared.question.JoinKind.TheVariants as kind
 
--- whether a join asks at the keys of the left map alone
+-- whether a join asks at the keys of only the left map
 abbrev pub asks_left : JoinKind → Bool
 asks_left kind.Outer = true
 asks_left kind.Left = true
 asks_left kind.Right = false
 asks_left kind.Inner = false
 
--- whether a join asks at the keys of the right map alone
+-- whether a join asks at the keys of only the right map
 abbrev pub asks_right : JoinKind → Bool
 asks_right kind.Outer = true
 asks_right kind.Left = false

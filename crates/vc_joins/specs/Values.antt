@@ -20,17 +20,19 @@ module _ {V W X : Type 0} where
   in_both h (Some v) None = None
   in_both h None w = None
 
-  -- at the keys of the left map what h makes of its value and of what the right map has there, and nothing elsewhere
+  -- at the keys of the left map the result of h on its value and on what the right map has there,
+  -- and nothing elsewhere
   abbrev pub in_left : (V → Option W → Option X) → Option V → Option W → Option X
   in_left h (Some v) w = h v w
   in_left h None w = None
 
-  -- at the keys of the right map what h makes of what the left map has there and of its value, and nothing elsewhere
+  -- at the keys of the right map the result of h on what the left map has there and on its value,
+  -- and nothing elsewhere
   abbrev pub in_right : (Option V → W → Option X) → Option V → Option W → Option X
   in_right h v (Some w) = h v w
   in_right h v None = None
 
-  -- at the keys of either map what h makes of what both have there, and nothing elsewhere
+  -- at the keys of either map the result of h on what both have there, and nothing elsewhere
   abbrev pub in_either : (Option V → Option W → Option X) → Option V → Option W → Option X
   in_either h (Some v) w = h (Some v) w
   in_either h None (Some w) = h None (Some w)
@@ -43,18 +45,18 @@ module _ {V W X : Type 0} where
   in_kind kind h None (Some w) = cond (asks_right kind) (h None (Some w)) None
   in_kind kind h None None = None
 
-  -- what h makes of the values that a question shows
+  -- the result of h on the values that a question shows
   abbrev pub of_values : {K : Type 0} → (Option V → Option W → Option X) → OuterJoinArg K V W → Option X
   of_values h (Left k v) = h (Some v) None
   of_values h (Right k w) = h None (Some w)
   of_values h (Both k v w) = h (Some v) (Some w)
 
--- zs has at each key what `joined` makes of the values that xs and ys have there
+-- zs has at each key the result of `joined` on the values that xs and ys have there
 abbrev pub JoinsValues : {K V W X : Type 0} → (K → K → Ordering) → (Option V → Option W → Option X)
     → List (K × V) → List (K × W) → List (K × X) → Type 0
 JoinsValues {K} cmp joined xs ys zs = (k : K) → value_at cmp zs k ≡ joined (value_at cmp xs k) (value_at cmp ys k)
 
--- ---- closures that answer what h makes of the values, where they answer
+-- ---- closures that answer the result of h on the values, where they answer
 
 module _ {K V W X E F : Type 0} where
   -- the closure of an outer join

@@ -1,5 +1,5 @@
 //! Closures of joins in place, through one trait: they take the value of the left map and return
-//! the one that is kept.
+//! the one to keep.
 ghost use Rattle.std.specs.Prelude.{◌≡◌, true, Option};
 ghost use Rattle.vc_joins.specs.declared.question.OuterJoinArg.{OuterJoinArg};
 ghost use Rattle.vc_joins.specs.declared.question.JoinKind.TheVariants as kind;

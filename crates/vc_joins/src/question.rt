@@ -5,9 +5,9 @@ ghost use Rattle.vc_joins.specs.Question.{asks_left, asks_right};
 /// What is at a key of two maps that are joined: the key, and the value of each side that has it.
 #[derive(Drop)]
 pub enum OuterJoinArg<K, A, B> {
-    /// The left map alone has the key.
+    /// Only the left map has the key.
     Left(K, A),
-    /// The right map alone has the key.
+    /// Only the right map has the key.
     Right(K, B),
     /// Both maps have the key.
     Both(K, A, B),
@@ -27,7 +27,7 @@ pub enum JoinKind {
 }
 
 impl JoinKind {
-    /// Whether a join of this kind asks at the keys of the left map alone.
+    /// Whether a join of this kind asks at the keys of only the left map.
     pub fn asks_left(self) -> bool
         ensures { result ≡ asks_left self }
     {
@@ -37,7 +37,7 @@ impl JoinKind {
         }
     }
 
-    /// Whether a join of this kind asks at the keys of the right map alone.
+    /// Whether a join of this kind asks at the keys of only the right map.
     pub fn asks_right(self) -> bool
         ensures { result ≡ asks_right self }
     {

@@ -1,4 +1,4 @@
--- What is asked of two maps: each question is one that the kind of the join asks, and may be asked where its parts may.
+-- The questions of a join of two maps: each is one that the kind of join asks, and may be asked where its parts may.
 use Rattle.std.proofs.Common.{◌≡◌, true, List, Option, Some, Result, Ok, Err, IsOk, OnOk}
 use Rattle.std.proofs.Common.{OnErr, arith}
 use Rattle.std.specs.declared.cmp.Ordering.{Ordering}

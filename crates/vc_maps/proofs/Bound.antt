@@ -1,5 +1,5 @@
 -- What a map is once a key is bound to what was written through a reference.
---     IsPut, put-known, put-new        the pair at the key stays, or is put in
+--     IsPut, put-known, put-new        the pair at the key stays, or is inserted
 --     lent-value, bound        what the loan shows, and what is written through it
 use Rattle.std.proofs.Common.{◌≡◌, ℕ, Bool, true, false, cond, List, ◌++◌, ◌∷◌, take, drop, length, get_or, set}
 use Rattle.std.proofs.Common.{arith, Option, Some, None, refl, sym, ap, ◌∙◌, subst}

@@ -1,7 +1,7 @@
 -- What a look-up of a key by a borrowed form finds. `side` says how a key compares with the form.
 --     found-value_by, gap-value_by, place-has_value_by        what a place tells
 --     value-equal, pairs-ordered        by the laws of a form
---     found-taken_by, gap-taken_by        a pair taken out
+--     found-taken_by, gap-taken_by        a pair removed
 use Rattle.std.proofs.Common.{◌≡◌, ℕ, zero, suc, ◌<◌, Bool, true, false, cond, List, [], ◌∷◌, ◌++◌, length, take}
 use Rattle.std.proofs.Common.{drop, get_or, Some, None, is_some, Result, Ok, Err, is_ok, refl, sym, ap, subst}
 use Rattle.std.proofs.Common.{◌∙◌, arith}

@@ -1,5 +1,5 @@
--- Look-ups of keys by a borrowed form, of which `side` says how a key compares with it: `Less` before it,
--- `Equal` at it, `Greater` after it.
+-- Look-ups of keys by a borrowed form, where `side` says how a key compares with it: `Less` before
+-- it, `Equal` at it, `Greater` after it.
 use Rattle.std.specs.Prelude.{List, Option}
 use Rattle.std.specs.Map.{lookup}
 use Rattle.std.specs.Ordering.{is_eq}

@@ -21,7 +21,7 @@ pub record ClonesKeys {K V W : Type 0} (is_clone : K → K → Type 0) (ps : Lis
   pub items : new ≡ old ++ added
 
 -- what may be asked of a state: if keys of the right may be inserted, any question, and otherwise
--- none at a key of the right alone
+-- none at a key of only the right
 abbrev pub MayAskWith : {K V W : Type 0} → Bool → OuterJoinArg K V W → Type 0
 MayAskWith true a = Unit {0}
 MayAskWith false a = asks kind.Left a ≡ true

@@ -21,7 +21,7 @@ use vc_merge::lists::append_moved;
 use vc_merge::merge::{MergeFromRight, MergeState, MergeStateMut, Uncounted, merge};
 use vc_merge::parts::{PartsState, Spans, open_gap};
 
-/// A closure that combines the two values at a key of both maps. A value of one map alone stays.
+/// A closure that combines the two values at a key of both maps. A value of only one map stays.
 #[derive(Drop)]
 pub struct AskShared<'f, F>(pub &'f F);
 

@@ -234,7 +234,7 @@ impl<
     }
 }
 
-/// Asks for each of `pairs`, which are in the left map alone. A walk asks for one pair at a time;
+/// Asks for each of `pairs`, which are only in the left map. A walk asks for one pair at a time;
 /// where this is inlined there, no loop is left.
 #[inline(always)]
 fn ask_lefts<
@@ -257,7 +257,7 @@ fn ask_lefts<
     Ok(())
 }
 
-/// Asks for each of `pairs`, which are in the right map alone.
+/// Asks for each of `pairs`, which are only in the right map.
 #[inline(always)]
 fn ask_rights<
     K: Clone + Drop,
@@ -300,7 +300,7 @@ fn ask_pair<
     Ok(())
 }
 
-/// Asks for a pair that is in the left map alone. The right side has no reference here, so one
+/// Asks for a pair that is only in the left map. The right side has no reference here, so one
 /// lifetime is used for both.
 #[inline(always)]
 fn ask_left<'a, K, V, W: 'a, X, Q: Question<K, V, W, X>>(
@@ -314,7 +314,7 @@ fn ask_left<'a, K, V, W: 'a, X, Q: Question<K, V, W, X>>(
     question.ask(arg)
 }
 
-/// Asks for a pair that is in the right map alone. The left side has no reference here, so one
+/// Asks for a pair that is only in the right map. The left side has no reference here, so one
 /// lifetime is used for both.
 #[inline(always)]
 fn ask_right<'a, K, V: 'a, W, X, Q: Question<K, V, W, X>>(

@@ -228,8 +228,8 @@ fn keep_right<K: Drop, V: Drop>(parts: &mut PartsState<'_, (K, V)>, key: K, answ
     }
 }
 
-/// Asks for the first `n` pairs that are left of the left part, whose keys are in the left map
-/// alone.
+/// Asks for the first `n` pairs that are left of the left part, whose keys are only in the left
+/// map.
 fn turn_lefts<K: Clone + Drop, V: Drop, W, Q: Turn<K, V, W>, A: Allocator + Copy>(
     parts: &mut PartsState<'_, (K, V)>,
     alloc: A,
@@ -255,7 +255,7 @@ where
     }
 }
 
-/// Asks for each of `pairs`, which are in the right map alone. The pairs of the right part have
+/// Asks for each of `pairs`, which are only in the right map. The pairs of the right part have
 /// clones of their keys.
 fn turn_rights<K: Clone + Drop, V: Drop, W, Q: Turn<K, V, W>, A: Allocator + Copy>(
     parts: &mut PartsState<'_, (K, V)>,
@@ -329,8 +329,8 @@ where
     parts.spans()
 }
 
-/// Asks for each of `pairs`, which are in the right map alone, in a list whose parts are at
-/// `spans`. Answers where the parts are after that.
+/// Asks for each of `pairs`, which are only in the right map, in a list whose parts are at `spans`.
+/// Answers where the parts are after that.
 fn rights_turned<K: Clone + Drop, V: Drop, W, Q: Turn<K, V, W>, A: Allocator + Copy>(
     list: &mut [(K, V)],
     spans: Spans,
@@ -383,7 +383,7 @@ where
     parts.spans()
 }
 
-/// Asks for a pair that is in the left map alone. The right side has no reference here, so one
+/// Asks for a pair that is only in the left map. The right side has no reference here, so one
 /// lifetime is used for both.
 fn turn_left<'a, K, V, W: 'a, Q: Turn<K, V, W>>(question: &Q, key: &'a K, value: V) -> Option<V>
     requires { Q.takes question.now (arg.Left key.now value) }
@@ -393,7 +393,7 @@ fn turn_left<'a, K, V, W: 'a, Q: Turn<K, V, W>>(question: &Q, key: &'a K, value:
     question.turn(arg)
 }
 
-/// Asks for a pair that is in the right map alone.
+/// Asks for a pair that is only in the right map.
 fn turn_right<K, V, W, Q: Turn<K, V, W>>(question: &Q, pair: &(K, W)) -> Option<V>
     requires { Q.takes question.now (arg.Right pair.now.0 pair.now.1) }
     ensures { Q.may question.now (arg.Right pair.now.0 pair.now.1) result }

@@ -32,7 +32,7 @@ pub trait JoinState<K, V, W, Q>: MergeStateMut<A = (K, V), B = (K, W)> {
 
     ghost asks_both: { Q → Self → Answer → Self → Type 0 };
 
-    /// Asks for the first `n` pairs of the left map, whose keys are there alone, and passes them.
+    /// Asks for the first `n` pairs of the left map, whose keys only this map has, and passes them.
     fn ask_a(&mut self, question: &Q, n: usize) -> Result<bool, AllocError>
         requires ready { Self.ready self.old }
         requires within { n ≤ length (Self.left self.old) }
@@ -43,7 +43,8 @@ pub trait JoinState<K, V, W, Q>: MergeStateMut<A = (K, V), B = (K, W)> {
             → (Self.left self.new ≡ drop n (Self.left self.old))
             × (Self.right self.new ≡ Self.right self.old) × Self.ready self.new) };
 
-    /// Asks for the first `n` pairs of the right map, whose keys are there alone, and passes them.
+    /// Asks for the first `n` pairs of the right map, whose keys only this map has, and passes
+    /// them.
     fn ask_b(&mut self, question: &Q, n: usize) -> Result<bool, AllocError>
         requires ready { Self.ready self.old }
         requires within { n ≤ length (Self.right self.old) }
@@ -172,7 +173,7 @@ impl<
         }
     }
 
-    /// An inner join passes a pair that is in one map alone without a branch. Joins that ask there
+    /// An inner join passes a pair that is in only one map without a branch. Joins that ask there
     /// have to branch on the order anyway, and go by runs.
     #[inline(always)]
     fn chooses(&self) -> bool {

@@ -43,8 +43,8 @@ use vc_merge::search::{find_key, pairs_between};
 use vc_sets::borrowed::Borrowed;
 
 /// A map, as a list of its pairs in ascending order of their keys. Up to `N` of them are held
-/// inline, without an allocation, unless the list was once given room for more: then it keeps its
-/// block until `shrink_to_fit`.
+/// inline, without an allocation. A list that once spilled to the heap keeps its block until
+/// `shrink_to_fit`.
 ///
 /// Contracts see it as that list.
 ///

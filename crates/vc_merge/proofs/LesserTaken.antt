@@ -1,4 +1,4 @@
--- A state that takes the lesser one of two first elements by a choice.
+-- A state that takes the lesser one of two first elements without a branch.
 use Rattle.std.proofs.Common.{◌≡◌, ℕ, ◌+◌, ◌<◌, Bool, true, false, List, [], ◌∷◌, ◌++◌, take, drop, length, get_or, Ok, Err}
 use Rattle.std.proofs.Common.{refl, sym, ap, subst, ◌∙◌, arith, drop-drop, length-drop, length-append, ◌-◌, ◌≤◌}
 use Rattle.std.specs.Int.{from_bool}

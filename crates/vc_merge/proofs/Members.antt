@@ -1,4 +1,4 @@
--- Members of lists, and the elements that stand at them.
+-- Members of lists, and the elements that are found at them.
 use Rattle.std.proofs.Common.{◌≡◌, true, false, List, [], ◌∷◌, ◌++◌, Some, None, is_some}
 use Rattle.std.proofs.Common.{refl, arith}
 use Rattle.std.specs.List.{AllByRecursion}

@@ -1,5 +1,5 @@
--- A search in an ordered list: what one comparison tells of the others, and how a search comes to its end.
---     less-before, less-upto, greater-from, greater-behind        what stands beside an element
+-- A search in an ordered list: what one comparison tells of the others, and how a search ends.
+--     less-before, less-upto, greater-from, greater-behind        what is before and after an element
 --     narrowed-whole, narrowed-up, narrowed-past, narrowed-down        the part that is searched, at first and after a comparison
 --     ordered-rest, rest-part, rest-rest        the rest that is searched on
 --     half-rest, quarter-rest        after one comparison, and after three

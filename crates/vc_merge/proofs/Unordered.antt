@@ -2,7 +2,7 @@
 --     find-stable        a stable sort does not change what is found first
 --     find-dedup        nor does to drop what repeats
 --     found-unordered        both, of a list with keys
---     if-made        what holds of a list holds of what is made of it
+--     if-made        what holds of a list holds of the list that is made of it
 use Rattle.std.proofs.Common.{◌≡◌, Bool, true, List, [], ◌∷◌, Option, Some, None, Result}
 use Rattle.std.proofs.Common.{IfOk, refl, sym, ap, ◌∙◌, arith}
 use Rattle.std.specs.Cmp.{IsTotalOrder}

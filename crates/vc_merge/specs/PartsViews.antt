@@ -52,7 +52,7 @@ module _ {X : Type 0} where
     pub right : right_items s ≡ zs
 
   -- of the first elements of both parts, which compare as given, the lesser one was moved to the
-  -- end of what is built, or of two equal ones the left one, if `both`, and both were passed
+  -- end of what is built; of two equal ones the left one was, if `both`, and both were passed
   abbrev pub PassesLesser : Ordering → Bool → PartsState X → PartsState X → Type 0
   PassesLesser Less both s t = Shows (list_name s) (built_items s ++ take 1 (left_items s)) (drop 1 (left_items s)) (right_items s) t
   PassesLesser Greater both s t = Shows (list_name s) (built_items s ++ take 1 (right_items s)) (left_items s) (drop 1 (right_items s)) t

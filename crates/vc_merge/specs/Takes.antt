@@ -5,7 +5,7 @@ use Rattle.std.specs.declared.cmp.Ordering.TheVariants.{Less, Equal, Greater}
 use Rattle.vc_merge.specs.Chain.{Answer}
 
 module _ {M A B : Type 0} (left : M → List A) (right : M → List B) (ready : M → Type 0) where
-  -- n elements off the left list, and the state can go on
+  -- n elements off the left list, and the state can continue
   abbrev pub TakesLeft : ℕ → M → Answer → M → Type 0
   TakesLeft n s answer t = IfOk answer (λ go_on. go_on ≡ true → (left t ≡ drop n (left s)) × (right t ≡ right s) × ready t)
 

@@ -1,5 +1,4 @@
-//! A state that takes the lesser one of two first elements by a conditional move instead of a
-//! branch.
+//! A state that takes the lesser one of two first elements without a branch.
 ghost use Rattle.std.specs.Prelude.{◌≡◌, ◌+◌, ◌<◌, ◌≤◌, true, take, drop, length, IfOk, OnOk};
 ghost use Rattle.std.specs.declared.cmp.Ordering.TheVariants.{Less, Equal, Greater};
 ghost use Rattle.std.specs.Int.{from_bool};

@@ -1,7 +1,7 @@
 -- What a look-up by a borrowed form finds. `side` says how an element compares with the form.
 --     member-equal, element-equal        an element that is equal to the form is found as the form is
 --     ordered        an ascending list is ordered round a form
---     element_at-without_form, element_at-no_form        an element taken out
+--     element_at-without_form, element_at-no_form        an element removed
 use Rattle.std.proofs.Common.{◌≡◌, ℕ, zero, suc, ◌<◌, Bool, false, cond, List, [], ◌∷◌, ◌++◌, length}
 use Rattle.std.proofs.Common.{take, drop, get_or, ◌⊎◌, None, refl, sym, ap, ◌∙◌, arith}
 use Rattle.std.specs.List.{AllByRecursion}

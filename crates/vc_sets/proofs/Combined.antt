@@ -1,4 +1,4 @@
--- A merge whose operation keeps what a set operation keeps leaves what that makes of the two lists.
+-- A merge whose operation keeps what a set operation keeps leaves the result of that operation on the two lists.
 use Rattle.std.proofs.Common.{◌≡◌, ℕ, Bool, false, List, [], ◌∷◌, ◌++◌, take, Ok, ◌⊎◌, refl, sym, ap, subst, ◌∙◌, arith}
 use Rattle.std.specs.Cmp.{IsTotalOrder}
 use Rattle.std.specs.declared.cmp.Ordering.{Ordering}

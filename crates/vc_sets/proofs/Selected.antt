@@ -1,4 +1,4 @@
--- What is kept of the events of a script is what the set operation makes of the two lists.
+-- What is kept of the events of a script is the result of the set operation on the two lists.
 use Rattle.std.proofs.Common.{◌≡◌, Bool, true, false, List, [], ◌∷◌, ◌++◌, Option, None, is_some, IsSomeAnd}
 use Rattle.std.proofs.Common.{MatchBool, refl, sym, ap, ◌∙◌, arith}
 use Rattle.std.specs.List.{AllByRecursion}

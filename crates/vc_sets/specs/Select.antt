@@ -19,15 +19,15 @@ both_sides cmp u v = cmp (either u) (either v)
 pub both_sides-total : {X : Type 0} (cmp : X → X → Ordering) → IsTotalOrder cmp → IsTotalOrder (both_sides cmp)
 both_sides-total cmp total = on_total (λ u. either u) total
 
--- whether an element is kept that is on the left alone, on the right alone, and on both sides
+-- whether an element is kept that is only on the left, only on the right, and on both sides
 abbrev pub keeps : Bool → Bool → Bool → Bool → Bool → Bool
 keeps left right both true true = both
 keeps left right both true false = left
 keeps left right both false true = right
 keeps left right both false false = false
 
--- what an operation that builds a new set keeps: what is on the left alone too, unless it keeps
--- only common elements
+-- what an operation that builds a new set keeps: what is only on the left too, unless it keeps only
+-- common elements
 abbrev pub keeps_fresh : Bool → Bool → Bool → Bool → Bool
 keeps_fresh right both = keeps (right || not both) right both
 

@@ -1,5 +1,5 @@
--- What a set operation makes of two sets. It is given by f, which says whether an element is in the
--- result, from whether it is in the left set and in the right one.
+-- The result of a set operation on two sets. It is given by f, which says whether an element is in
+-- the result, from whether it is in the left set and in the right one.
 use Rattle.std.specs.Prelude.{◌≡◌, Bool, true, false, not, ◌&&◌, List, Option, Some, None, IsSomeAnd, MatchBool, is_some}
 use Rattle.std.specs.declared.cmp.Ordering.{Ordering}
 use Rattle.vc_merge.specs.Ascending.{Ascends, member, element_at}
@@ -11,8 +11,8 @@ Keeps f from_left from_right (Some x) right kept = MatchBool (f true (is_some ri
 Keeps f from_left from_right None (Some y) kept = MatchBool (f false true) (IsSomeAnd kept (from_right y)) (kept ≡ None)
 Keeps f from_left from_right None None kept = kept ≡ None
 
--- c is what f makes of a and b; an element of it comes from one of a by `from_left`, and otherwise
--- from one of b by `from_right`
+-- c is the result of f on a and b; an element of it comes from one of a by `from_left`, and
+-- otherwise from one of b by `from_right`
 pub record IsSetOf {X : Type 0} (cmp : X → X → Ordering) (from_left from_right : X → X → Type 0) (f : Bool → Bool → Bool) (a b c : List X) : Type 0 where
   pub ascends : Ascends cmp c
   pub members : (x : X) → member cmp c x ≡ f (member cmp a x) (member cmp b x)

@@ -15,7 +15,7 @@ use std::default::MadeWith;
 use vc_merge::choosing::ChoosingState;
 use vc_merge::merge::{Count, merge};
 
-/// The elements of either list alone and, if `BOTH`, the left one of each two equal ones.
+/// The elements that only one of the lists has and, if `BOTH`, the left one of each two equal ones.
 fn combine_either<
     const BOTH: bool,
     T: Ord + Clone + MadeWith<A>,
@@ -37,9 +37,9 @@ fn combine_either<
     Ok(built)
 }
 
-/// The elements of the left list alone or, if `BOTH`, the left one of each two equal ones. At least
-/// as many are alone as the left list has more than the right one: room for these is reserved at
-/// the start.
+/// The elements that only the left list has or, if `BOTH`, the left one of each two equal ones.
+/// There are at least as many as the left list has more than the right one: room for these is
+/// reserved at the start.
 fn combine_left<
     const BOTH: bool,
     T: Ord + Clone + MadeWith<A>,

@@ -8,11 +8,11 @@ use std::alloc::AllocError;
 use std::cmp::Ordering;
 use vc_merge::merge::{Count, MergeFromRight, MergeOperation, MergeStateMut};
 
-/// Keeps what is on either side alone, and what is on both if `BOTH`: the union, or the symmetric
+/// Keeps what is only on one side, and what is on both if `BOTH`: the union, or the symmetric
 /// difference.
 pub struct EitherOp<const BOTH: bool>;
 
-/// Keeps what is on the left alone or, if `BOTH`, what is on both: the difference, or the
+/// Keeps what is only on the left or, if `BOTH`, what is on both: the difference, or the
 /// intersection.
 pub struct LeftOp<const BOTH: bool>;
 

@@ -1,4 +1,4 @@
-//! A search for a witness: an element that is on the left alone, on the right alone, or on both
+//! A search for a witness: an element that is only on the left, only on the right, or on both
 //! sides. It stops at the first one.
 ghost use Rattle.std.specs.Prelude.{◌≡◌, ◌+◌, ◌≤◌, ◌||◌, ◌↔◌, Ok, true, false, not, length, IsTrue, MatchBool};
 ghost use Rattle.vc_merge.specs.Ascending.{Ascends, member};
@@ -37,8 +37,8 @@ impl<'a, T> MergeState for Witnesses<'a, T> {
     }
 }
 
-/// Stops at an element of the left alone if `LEFT`, of the right alone if `RIGHT`, and at one on
-/// both sides if `BOTH`.
+/// Stops at an element of only the left if `LEFT`, of only the right if `RIGHT`, and at one on both
+/// sides if `BOTH`.
 struct WitnessOp<const LEFT: bool, const RIGHT: bool, const BOTH: bool>;
 
 impl<'a, const LEFT: bool, const RIGHT: bool, const BOTH: bool, T: Ord, C: Count> MergeOperation<
@@ -81,8 +81,8 @@ impl<'a, const LEFT: bool, const RIGHT: bool, const BOTH: bool, T: Ord, C: Count
     }
 }
 
-/// Whether two ascending lists have a witness: an element of the left alone if `LEFT`, of the right
-/// alone if `RIGHT`, of both if `BOTH`.
+/// Whether two ascending lists have a witness: an element of only the left if `LEFT`, of only the
+/// right if `RIGHT`, of both if `BOTH`.
 pub fn has_witness<const LEFT: bool, const RIGHT: bool, const BOTH: bool, T: Ord, C: Count>(
     a: &[T],
     b: &[T],

@@ -1,4 +1,4 @@
--- What a join of the lists of two total maps asks, and what its answers make of them.
+-- What a join of the lists of two total maps asks, and the result of its answers.
 use Rattle.std.proofs.Common.{◌≡◌, Bool, true, false, List, Option, Some, None, Result, Ok, Err, IfOk, IsSome, IfSome}
 use Rattle.std.proofs.Common.{◌⊎◌, inl, inr, refl, subst}
 use Rattle.std.specs.Option.{option_map, unwrap_or}

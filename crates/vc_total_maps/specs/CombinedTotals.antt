@@ -1,4 +1,4 @@
--- What a combination makes of two total maps, at every key.
+-- The result of a combination of two total maps, at every key.
 use Rattle.std.specs.Prelude.{◌≡◌, Bool, List, Option, Some, None, IsSome, IfSome, IsTrue, IsFalse, ◌⊎◌}
 use Rattle.std.specs.declared.cmp.Ordering.{Ordering}
 use Rattle.vc_joins.specs.Entries.{entry_at, value_at}

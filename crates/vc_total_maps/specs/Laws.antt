@@ -14,14 +14,15 @@ module _ (K X : Type 0) (cmp : K → K → Ordering) (eq : X → X → Bool) whe
     pub stands : (m : TotalMap K X) → NoneIsDefault cmp eq m → (k : K) → Stands eq m.default (at cmp m k) (value_at cmp m.mappings k)
 
 module _ {K V X : Type 0} (cmp : K → K → Ordering) (eq : X → X → Bool) (is_clone : K → K → Type 0) where
-  -- where each answer is that of the function f, a combination has at every key what f makes of the two values there
+  -- where each answer is that of the function f, a combination has at every key the result of f on
+  -- the two values there
   abbrev pub CombinedIsPointwise : {W : Type 0} → (V → W → X → Type 0) → Type 0
   CombinedIsPointwise {W} May =
       (f : V → W → X) → ((x : V) (y : W) (v : X) → May x y v → v ≡ f x y)
       → (a : TotalMap K V) (b : TotalMap K W) (c : TotalMap K X) → IsCombined cmp eq May is_clone a b c
       → (k : K) → IsTrue (eq (at cmp c k) (f (at cmp a k) (at cmp b k)))
 
-  -- and a changed map what f makes of the value there
+  -- and a changed map the result of f on the value there
   abbrev pub MappedIsPointwise : (V → X → Type 0) → Type 0
   MappedIsPointwise May =
       (f : V → X) → ((x : V) (v : X) → May x v → v ≡ f x)

@@ -1,4 +1,4 @@
--- What a change of each value makes of a total map, at every key.
+-- The result of a change of each value of a total map, at every key.
 use Rattle.std.specs.Prelude.{Bool, IfSome, IsSomeAnd}
 use Rattle.std.specs.declared.cmp.Ordering.{Ordering}
 use Rattle.vc_joins.specs.Entries.{entry_at, value_at}

@@ -1,5 +1,5 @@
--- Where `==` holds only of identical values, a combination has at every key what a function makes
--- of the two values there.
+-- Where `==` holds only of identical values, a combination has at every key the result of a
+-- function on the two values there.
 use Rattle.std.specs.Prelude.{◌≡◌, Bool, Option, Some, None, Result, Ok, Err, IfOk, IsTrue}
 use Rattle.std.proofs.Common.{sym, ◌∙◌}
 use Rattle.std.specs.Option.{unwrap_or}

@@ -1,7 +1,7 @@
 //! The laws of the definitions that contracts on total maps cite.
 //!
 //! Each function does nothing: its contract is the law. Code that calls one has the law in its
-//! proof. A law of closures is handed the closure, by reference, since its type has no name.
+//! proof. A law on closures takes the closure by reference, since its type has no name.
 ghost use Rattle.std.specs.Prelude.{Ok};
 ghost use Rattle.std.specs.Fn.{FnReturnsAt, FnReturnsAtPair};
 ghost use Rattle.vc_total_maps.specs.Laws.{StandingIsAt, CombinedIsPointwise, MappedIsPointwise};

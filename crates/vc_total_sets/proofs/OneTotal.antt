@@ -1,4 +1,4 @@
--- The laws of what operations make of two total sets.
+-- The laws of the results of operations on two total sets.
 use Rattle.std.proofs.Common.{◌≡◌, Bool, true, false, not, ◌||◌, ◌&&◌, List, [], ◌∷◌, MatchBool, refl, sym, ap, subst, ◌∙◌}
 use Rattle.std.specs.Cmp.{IsTotalOrder, tied_itself}
 use Rattle.std.specs.List.{AllZip}

@@ -21,7 +21,7 @@ abbrev pub kept_by : ListOp → Bool → Bool → Bool
 kept_by (Of op) = made_by op
 kept_by ReversedDifference = λ a b. and_not b a
 
--- whether an operation keeps what is in either list alone: only then the left list may grow
+-- whether an operation keeps what is in only one of the lists: only then the left list may grow
 abbrev pub keeps_either : (Bool → Bool → Bool) → Bool
 keeps_either f = f true false && f false true
 

@@ -44,7 +44,7 @@ module _ {X : Type 0} (cmp : X → X → Ordering) where
   abbrev pub MakesOne : Operation X → Type 0
   MakesOne Makes = (a b c d : TotalSet X) → Makes a b c → Makes a b d → IsEqualTotal cmp c d
 
-  -- what the one makes is the complement of what the other makes of the complements
+  -- the result of the one is the complement of the result of the other on the complements
   abbrev pub IsTurned : Operation X → Operation X → Type 0
   IsTurned Makes MakesTurned =
       (a b not_a not_b c d : TotalSet X) → IsEqualTotal cmp not_a (complement a) → IsEqualTotal cmp not_b (complement b)

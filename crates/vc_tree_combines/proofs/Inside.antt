@@ -1,7 +1,7 @@
--- A tree that continues after a place, beside the children of the other node.
---     beside-right ..        a left tree beside right ones
---     beside-left ..        a right tree beside left ones
---     Before        the trees before the one that begins as the tree goes on may be added
+-- A tree that continues after a place, with the children of the other node.
+--     beside-right ..        a left tree with right ones
+--     beside-left ..        a right tree with left ones
+--     Before        the trees before the one that begins as the tree continues may be added
 --     Next        that one is next, then
 --     After        the others may be added
 --     Made        and all is made

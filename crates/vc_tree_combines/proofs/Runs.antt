@@ -5,7 +5,7 @@
 --     lefts-may, rights-may        and may be asked of
 --     below-next, above-next        those below the other list are next, each in turn
 --     first-lefts-may, first-lefts-done, ..        the same of the first trees of a list
---     rights-before, next-right        the trees before the one that goes on as a left tree does, and that one
+--     rights-before, next-right        the trees before the one that continues as a left tree does, and that one
 --     lefts-before, next-left        the same for a right tree
 use Rattle.std.proofs.Common.{◌≡◌, ℕ, [], ◌∷◌, ◌++◌, List, Option, None, Some, refl, sym, subst, append-nil}
 use Rattle.std.proofs.Common.{slice_get, arith, inl, inr, ◌⊎◌, take, drop}

@@ -1,4 +1,4 @@
--- What the steps of a test of keys tell of the trees whose prefixes they have compared.
+-- What the steps of a test of keys say of the trees whose prefixes they compared.
 --     parted-told        the prefixes part
 --     inside-told, inside-none        the right one ends inside the left one
 --     behind-told        the left one ends

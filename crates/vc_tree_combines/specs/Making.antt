@@ -21,13 +21,13 @@ module _ {K V W U : Type 0} (cmp : K → K → Ordering) (R : Option V → Optio
     pub made : IsMadeOf cmp (values cmp) R t u one
     pub is : new ≡ old ++ cons_option one []
 
-  -- the same of each of these trees, which the left side alone has
+  -- the same of each of these trees, which only the left side has
   abbrev pub AreLeftAdded : {T : Type 0} → (T → Tree K V) → List T → List (Tree K U) → List (Tree K U) → Type 0
   AreLeftAdded tree [] old new = new ≡ old
   AreLeftAdded tree (t ∷ ts) old new =
       (next : List (Tree K U)) × IsAdded (Some (tree t)) None old next × AreLeftAdded tree ts next new
 
-  -- which the right side alone has
+  -- which only the right side has
   abbrev pub AreRightAdded : {T : Type 0} → (T → Tree K W) → List T → List (Tree K U) → List (Tree K U) → Type 0
   AreRightAdded tree [] old new = new ≡ old
   AreRightAdded tree (t ∷ ts) old new =

@@ -1,4 +1,4 @@
--- Where a merge stops that passes what one list alone has. No public clause cites these words.
+-- Where a merge stops that passes what only one list has. No public clause cites these words.
 use Rattle.std.specs.Prelude.{◌≡◌, List, [], ◌∷◌, ◌⊎◌, ⊤}
 use Rattle.std.proofs.Common.{inl, inr}
 use Rattle.std.specs.declared.cmp.Ordering.{Ordering}

@@ -1,5 +1,5 @@
 -- A change of a tree that was taken apart.
---     faced-taken        the parts are beside the right tree as the tree did
+--     faced-taken        the parts face the right tree as the tree did
 --     asked-taken        what may be asked at each key of the tree, may be asked at each key of its parts
 --     taken-nodes        the parts have as many nodes
 --     made-taken        what is made of the parts is what the change says of the tree

@@ -1,5 +1,5 @@
 -- Trees that only one of two lists has, passed up to two that begin alike.
---     children-ascend        canonical children ascend by the components with which they go on
+--     children-ascend        canonical children ascend by the components with which they continue
 --     merged-pair, merged-end, merged-behind        where a merge stops, and what may still be compared
 --     place-next, gap-next        where a search for the only tree of the right side stops
 --     place-sought, gap-sought        the child that is found by a search

@@ -1,6 +1,6 @@
 -- Removal and retention at one place: values and trees that are kept or removed.
 --     stayed        a tree that stays is what is said of a tree whose values are kept
---     value_stays, value_goes        a value stays or goes by the verdict on its cover
+--     value_stays, value_goes        a value is kept or removed by the verdict on its cover
 --     sifted_below, asked_below, asked-cover        the verdict is known to all that is below
 use Rattle.std.proofs.Common.{◌≡◌, ℕ, ◌<◌, Bool, true, false, ◌∷◌, List, Option, None, Some, length, arith}
 use Rattle.std.specs.Cmp.{IsTotalOrder}

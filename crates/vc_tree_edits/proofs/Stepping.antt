@@ -1,7 +1,7 @@
 -- The trees of a change in place, on the parts of the tree and the list that is made of them.
 --     values-may        what may be asked of the values at the fronts
 --     begun        the state before the first trees
---     first-long        a next tree goes on at the place
+--     first-long        a next tree continues at the place
 --     after-left, after-right        a next tree is done, which one side alone has
 --     falls-below        two trees that meet have fewer nodes than those that they are below
 --     finished-children, finished        what was made is canonical children, and the node of it is what the change says

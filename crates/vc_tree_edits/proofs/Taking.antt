@@ -1,5 +1,5 @@
 -- A tree that is taken apart after the front of its prefix.
---     taken-rest        where the prefix goes on, the tree itself is below
+--     taken-rest        where the prefix continues, the tree itself is below
 --     taken-all        where it ended, the children
 --     cut-all        the components up to the end of a prefix
 use Rattle.std.proofs.Common.{◌≡◌, ℕ, ◌+◌, ◌-◌, ◌<◌, ◌≤◌, [], ◌∷◌, List, Option, None, refl, sym, ap, subst, map, take, drop}

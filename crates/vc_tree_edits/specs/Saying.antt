@@ -45,7 +45,7 @@ module _ {V : Type 0} (keeps : V → V → Type 0) (over : (u v w : V) → keeps
   outer_kept is_clone may (Some u) (Some v) None None k h = absurd h
   outer_kept is_clone may (Some u) (Some v) (Some w) z k h = (h.0, over u v h.0 k h.1, h.2)
 
--- a value of the left alone may stay
+-- a value of only the left may stay
 pub outer_left : {V : Type 0} (keeps is_clone : V → V → Type 0) (may : V → V → Option V → Type 0) (v z : Option V)
     → IsKept keeps v z → IsOuterAt keeps is_clone (KeptThen keeps may) v None z
 outer_left keeps is_clone may None None k = tt

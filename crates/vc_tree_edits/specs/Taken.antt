@@ -58,8 +58,7 @@ module _ {K V : Type 0} (cmp : K → K → Ordering) where
     pub made : IsMade cmp (λ v z. says v l.none z) (shortened from (tree first)) kid
     pub added : kids' ≡ kids ++ cons_option kid []
 
-  -- the first tree of the right list was passed, and what the change makes of it is after the
-  -- others
+  -- the first tree of the right list was passed, and its result by the change is after the others
   pub record IsCome {W O B : Type 0} (tb : B → Tree K W) (l : Look cmp W O) (says : Option V → O → Option V → Type 0) (from : ℕ)
       (ys ys' : List B) (kids kids' : List (Tree K V)) : Type 0 where
     pub first : B

@@ -1,4 +1,4 @@
--- The trees of a list, one after the other, beside the trees that are sought in another one.
+-- The trees of a list, one after the other, and the trees that are sought in another one.
 --     next-sought        the next trees are the first one and the one that was found
 --     list-done        all are done
 --     inside-next, inside        the only one of a list is next, and is done

@@ -1,5 +1,5 @@
 -- Two trees whose prefixes continue with different components: what may be asked of the left one, and what is left of it.
---     apart-next        by the lists of each tree alone: the left one is next, and no tree of the right side is beside it
+--     apart-next        by the lists of each tree alone: the left one is next, and no tree of the right side meets it
 --     apart-lessened        what is left of it
 use Rattle.std.proofs.Common.{◌≡◌, ℕ, ◌+◌, ◌<◌, [], ◌∷◌, List, Option, None, Some, refl, sym, ap, subst, length}
 use Rattle.std.proofs.Common.{inl, inr, Bool, arith}

@@ -1,6 +1,6 @@
 -- What is left of a tree to which nothing is added, by where its prefix and that of the other tree diverge.
 --     value-may, below-may        what may be asked of the values at that place, and of what is below
---     node-lessened, inside-lessened        what is left of the tree, where its prefix has ended, and where it goes on
+--     node-lessened, inside-lessened        what is left of the tree, where its prefix has ended, and where it continues
 use Rattle.std.proofs.Common.{◌≡◌, ℕ, ◌+◌, ◌<◌, ◌≤◌, Bool, cond, List, [], ◌∷◌, ◌++◌, Option, None}
 use Rattle.std.proofs.Common.{sym, ap, ◌∙◌, length, length-drop, take, drop, arith, Result}
 use Rattle.std.proofs.Math.ListN.{drop_of_length-le}

@@ -1,7 +1,7 @@
 -- The next trees of two lists, where some are done.
 --     doing-start, asked, done, all-done        none is done yet, the next ones may be asked of and are done, and all are
---     made-left, made-right        what is made of a tree that one side alone has
---     left_within, right_within        they go on at the place
+--     made-left, made-right        what is made of a tree that only one side has
+--     left_within, right_within        they continue at the place
 --     left-head, right-head        what holds of all holds of them
 --     left-next, right-next, both-next        the next ones, by the side on which they are
 --     both-agree, both-ended, falls        two that meet agree for one component, below a prefix that ended, and have fewer nodes

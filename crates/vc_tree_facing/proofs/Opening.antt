@@ -2,8 +2,8 @@
 --     goes-on        a key that continues with a component
 --     each-fewer, few-below        each tree of a list has no more nodes than the list, and weighs at least one
 --     opened-all        where the prefix ended, the children
---     opened-rest        where it goes on, the tree itself
---     parts_at        two prefixes part where both go on
+--     opened-rest        where it continues, the tree itself
+--     parts_at        two prefixes diverge where both continue
 --     whole-of        a node that stays as it is
 use Rattle.std.proofs.Common.{◌≡◌, ℕ, ◌+◌, ◌-◌, ◌<◌, ◌≤◌, [], ◌∷◌, List, Option, Some, None, is_none, refl}
 use Rattle.std.proofs.Common.{sym, ap, ◌∙◌, arith, map, true, take, drop, length-drop, length, slice_get, zero}

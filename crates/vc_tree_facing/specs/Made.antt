@@ -8,8 +8,8 @@ use Rattle.vc_tree_model.specs.Look.{Look, values}
 use Rattle.vc_tree_model.specs.Places.{look}
 
 module _ {K : Type 0} (cmp : K → K → Ordering) where
-  -- of a tree that one side alone has: a child that begins as the tree did, and R of what is read of the tree and of what the
-  -- child binds
+  -- of a tree that only one side has: a child that begins as the tree did, and R of what is read of
+  -- the tree and of what the child binds
   pub record IsMadeBy {V U O : Type 0} (l : Look cmp V O) (R : O → Option U → Type 0) (t : Tree K V) (o : Option (Tree K U))
       : Type 0 where
     pub child : IsChild cmp o

@@ -1,4 +1,4 @@
--- Keys: what is left behind a prefix, equal keys, and the order on keys.
+-- Keys: what is left after a prefix, equal keys, and the order on keys.
 --     behind-itself, behind-same, behind-of_same, behind-append        what is left behind a prefix
 --     same-slice_cmp, same-itself, same-flip, same-trans, same-append, same-prepended        equal keys
 --     same-behind, behind-joins, left-behind        equal keys and what is left of one

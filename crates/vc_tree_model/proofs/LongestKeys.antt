@@ -1,6 +1,6 @@
 -- The longest key of a map that is a prefix of a key, by its length: a cover by values that carry the lengths of their keys.
---     cover-value        the value beside the length is the cover
---     longest-at        so many components of the key are the longest key that is a prefix of it
+--     cover-value        the value with the length is the cover
+--     longest-at        this many components of the key are the longest key that is a prefix of it
 use Rattle.std.proofs.Common.{◌≡◌, ℕ, suc, ◌+◌, ◌≤◌, [], ◌∷◌, List, Option, None, Some, length, take, sym}
 use Rattle.std.proofs.Common.{ap, ◌∙◌, inl, inr, arith}
 use Rattle.std.specs.Cmp.{IsTotalOrder}

@@ -1,5 +1,5 @@
 -- The machine's steps and runs are functions of maps, up to copies of values.
---     run-is_function        two runs, accepted alike, from maps whose values have one source lead to such maps
+--     run-is_function        two runs, where the same ones succeed, from maps whose values have one source lead to such maps
 use Rattle.std.proofs.Common.{[], ◌∷◌, List, Option, None, Some, Bool, true, false, arith}
 use Rattle.std.specs.declared.cmp.Ordering.{Ordering}
 use Rattle.vc_tree_model.specs.Value.{IsKept, Copies, itself, copies_trans}

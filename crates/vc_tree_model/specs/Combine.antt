@@ -26,7 +26,7 @@ module _ {V W U : Type 0} where
   IsLeftAt answers None w made = made ≡ None
 
 module _ {V : Type 0} (from_left from_right : V → V → Type 0) where
-  -- a shared key has the answer, and a key of one side alone keeps its value
+  -- a shared key has the answer, and a key of only one side keeps its value
   abbrev pub IsOuterAt : (V → V → Option V → Type 0) → Option V → Option V → Option V → Type 0
   IsOuterAt answers (Some v) (Some w) made = answers v w made
   IsOuterAt answers (Some v) None made = IsKept from_left (Some v) made
@@ -43,7 +43,7 @@ module _ {V W : Type 0} (from_left : V → V → Type 0) where
   IsIntersectionAt v (Some w) made = IsKept from_left v made
   IsIntersectionAt v None made = made ≡ None
 
-  -- a key of the left alone keeps its value, and no other key is bound
+  -- a key of only the left keeps its value, and no other key is bound
   abbrev pub IsDifferenceAt : Option V → Option W → Option V → Type 0
   IsDifferenceAt v (Some w) made = made ≡ None
   IsDifferenceAt v None made = IsKept from_left v made

@@ -1,8 +1,8 @@
 //! The laws of the definitions that contracts on trees cite.
 //!
 //! Each function does nothing: its contract is the law, for keys of any `Ord` and for any values.
-//! Code that calls one has the law in its proof. A law of closures is handed the closure, by
-//! reference, since its type has no name.
+//! Code that calls one has the law in its proof. A law on closures takes the closure by reference,
+//! since its type has no name.
 
 ghost use Rattle.std.specs.Prelude.{◌≡◌, IsTrue};
 ghost use Rattle.vc_tree_model.specs.Asking.{MayJudge};

@@ -1,4 +1,4 @@
--- The events of an insertion: what each makes of a node.
+-- The events of an insertion: how each changes a node.
 --     on-ok, on-err, on-both        what follows from the outcome of a call
 --     value-set, child-added, child-grown, top-made, pair-made, leaf-made        the events
 --     parts-canonical        a node whose children stayed alike

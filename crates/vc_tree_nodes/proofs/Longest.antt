@@ -1,6 +1,6 @@
 -- The longest key of a tree on a path, node by node along the path.
 --     Decides        what is left to decide at a node on the way
---     decided-above, decided-below        the way ends above a node, or goes on below it
+--     decided-above, decided-below        the way ends above a node, or continues below it
 --     shown        what was found so far
 --     left-within        no more of the path is left below a node than at it
 --     found-value, found-longest        what was found is the cover, and the longest key by its length

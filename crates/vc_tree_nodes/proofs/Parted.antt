@@ -1,6 +1,6 @@
 -- What follows from where a key diverges from a prefix.
 --     same-joined, same-behind_whole, same-ended        the prefix up to there and the rest of the key are the key
---     known-within        what is known to agree lies before the place
+--     known-within        what is known to agree is before the place
 --     splits-lower, splits-higher, grown-from        how the node is split there, and how it has grown
 --     agree-one        a child that begins as a key agrees with it in one component
 --     behind-shorter, behind-unlike, behind-whole        what is left of the key after the prefix

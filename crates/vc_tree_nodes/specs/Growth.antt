@@ -1,4 +1,4 @@
--- What an insertion makes of a node and of its children. No public clause cites these words.
+-- A node and its children after an insertion. No public clause cites these words.
 use Rattle.std.specs.Prelude.{◌≡◌, ℕ, List, take, insert}
 use Rattle.std.specs.declared.cmp.Ordering.{Ordering}
 use Rattle.vc_tree_model.specs.Tree.{Tree}

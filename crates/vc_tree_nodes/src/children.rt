@@ -44,7 +44,7 @@ pub trait ChildList<T>: Sized + Drop {
         ensures value { IfOk result (λ list. kept (items self.old) list.now.items) };
 }
 
-/// Children that this node alone holds.
+/// Children that only this node holds.
 #[derive(Drop)]
 pub struct OwnedChildren<T> {
     pub list: Vec<T>,

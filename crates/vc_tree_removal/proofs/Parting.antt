@@ -1,7 +1,7 @@
 -- What is removed from a map, and what stays.
 --     if-ok        what follows from an outcome
 --     parted-below, parted-alone        at one key
---     divides-without, divides-value, divides-joined        what stays, and what goes as one canonical tree
+--     divides-without, divides-value, divides-joined        what stays, and what is removed as one canonical tree
 --     divides-wholly, divides-root        all keys of a tree go
 --     removed-left, removed-as, removed-value        a node of which keys go, as a child
 --     alike-asked        children that are alike

@@ -1,7 +1,7 @@
 -- One tree of a list, and the list with another one, or none, instead of it.
 --     at-got, put-remove, put-set        a list of items, without one or with another in its place
 --     solid-stays, some-solid, one-stands        a node, as a child
---     out-joins, out-stays        what is left of one of which a child is taken out
+--     out-joins, out-stays        what is left of a node after a child is removed
 --     at-child        canonical children can each are among children
 --     Replaced, replaced, node-parted        what a list becomes, and what it then binds
 use Rattle.std.proofs.Common.{◌≡◌, ℕ, zero, suc, ◌+◌, ◌<◌, [], ◌∷◌, List, Option, None, Some, refl}

@@ -38,9 +38,9 @@ pub(crate) enum Extent {
 /// values.
 ///
 /// A key that is not bound costs only the look-up: it takes no memory, and nothing is copied. Fails
-/// only where memory is refused, for the merged prefix of a node that is left with one child or for
-/// the copy of shared children, or where the clone of a value in that copy is refused. The tree
-/// then has the same nodes, and binds what it bound.
+/// only where memory is refused, or the clone of a value in copied children. Memory may be needed
+/// for the merged prefix of a node that is left with one child, and for the copy of shared
+/// children. On failure the tree has the same nodes, and binds what it bound.
 ///
 /// Compares each component of the key at most once, except for two halving searches among the
 /// children of each node on the way.

@@ -18,11 +18,11 @@ use vc_tree_walks::scan::find_under;
 
 /// Removes all keys that begin with `prefix`, with their values. The other keys keep theirs.
 ///
-/// Where no key begins with it, it only walks down: it takes no memory, and nothing is copied. The
-/// same holds where all keys begin with it. Fails only where memory is refused, for the merged
-/// prefix of a node that is left with one child or for the copy of shared children, or where the
-/// clone of a value in that copy is refused. The tree then has the same nodes, and binds what it
-/// bound.
+/// Where no key begins with it, the call only walks down: it takes no memory, and nothing is
+/// copied. The same holds where all keys begin with it. Fails only where memory is refused, or the
+/// clone of a value in copied children. Memory may be needed for the merged prefix of a node that
+/// is left with one child, and for the copy of shared children. On failure the tree has the same
+/// nodes, and binds what it bound.
 ///
 /// Compares each component of the prefix at most once, except for two halving searches among the
 /// children of each node on the way.
@@ -56,11 +56,12 @@ pub fn remove_below<K: TKey, V: TValue, T: Build<K, V>>(
 /// The keys are below one node, which is moved with a longer prefix: nothing below it is touched.
 /// The components before the node's own prefix are those of `prefix`.
 ///
-/// Where no key begins with it, it only walks down: it takes no memory, and nothing is copied. The
-/// same holds where all keys begin with it. Fails where memory is refused: for the prefix of the
-/// answer's root, where that has more than 16 components; for the merged prefix of a node that is
-/// left with one child; or for the copy of shared children. Otherwise it fails only where the clone
-/// of a value in that copy is refused. The tree then has the same nodes, and binds what it bound.
+/// Where no key begins with it, the call only walks down: it takes no memory, and nothing is
+/// copied. The same holds where all keys begin with it. Fails only where memory is refused, or the
+/// clone of a value in copied children. Memory may be needed for the prefix of the answer's root,
+/// where that has more than 16 components, for the merged prefix of a node that is left with one
+/// child, and for the copy of shared children. On failure the tree has the same nodes, and binds
+/// what it bound.
 ///
 /// Compares each component of the prefix at most once, except for two halving searches among the
 /// children of each node on the way.

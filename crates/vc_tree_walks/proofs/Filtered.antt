@@ -1,5 +1,5 @@
 -- The tree of the keys that start with a prefix, by the walk of these keys.
---     nothing-listed, nothing-below, filtered-none, filtered-bare        no key starts so
+--     nothing-listed, nothing-below, filtered-none, filtered-bare        no key starts with the prefix
 --     bound-below        what the node binds that they are below
 --     bare-walk, some-below, something-below        a node that is the empty tree has no pair, and any other has some
 --     told-below        so the one test tells whether some key starts so

@@ -1,6 +1,6 @@
 -- What a step does to the pairs that are left of rows of trees.
 --     first-tree        the pairs of a row are those of its first tree, and then the others
---     entered        a step to a tree finds its own pair, and leaves those of its children and of the trees beside it
+--     entered        a step to a tree finds its own pair, and leaves those of its children and of its siblings
 --     entered-rows        the same with rows as the iterator stores them
 use Rattle.std.proofs.Common.{◌≡◌, ℕ, ◌-◌, List, [], ◌∷◌, ◌++◌, length, take, map, Option}
 use Rattle.std.proofs.Common.{ap, ◌∙◌, append_assoc, append-nil, length-append, arith}

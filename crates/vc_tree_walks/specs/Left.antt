@@ -5,8 +5,8 @@ use Rattle.vc_tree_model.specs.Tree.{Forest, forest_nodes}
 use Rattle.vc_tree_model.specs.Walk.{prepended, walk_in}
 
 -- a step of an iterator that takes at most a number of further steps: it gives its first item, and
--- the others are left; or an error, and nothing is left, and no later step finds something; or
--- `None`, where nothing is left
+-- the others are left. Or it gives an error, nothing is left, and no later step finds something. Or
+-- it gives `None`, where nothing is left
 abbrev pub Walks : {S X A E : Type 0} → (X → A) → (S → List A) → (S → ℕ) → S → Option (Result X E) → S → Type 0
 Walks view rest work s r t =
     MatchOption r ((rest s ≡ []) × (rest t ≡ []))

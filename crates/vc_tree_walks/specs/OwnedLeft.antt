@@ -12,8 +12,8 @@ use Rattle.vc_tree_walks.specs.declared.turn.Turn.{Turn}
 use Rattle.vc_tree_walks.specs.declared.turn.Turn.TheVariants.{Item, Moved, Done}
 
 -- a step of an iterator that gives clones, and takes at most a number of further steps: it gives
--- that of its first item, and the others are left; or an error, and nothing is left, and no later
--- step finds something; or `None`, where nothing is left
+-- that of its first item, and the others are left. Or it gives an error, nothing is left, and no
+-- later step finds something. Or it gives `None`, where nothing is left
 abbrev pub WalksClones : {S K V E : Type 0} → (V → V → Type 0) → (S → List (K × V)) → (S → ℕ) → S → Option (Result (K × V) E)
     → S → Type 0
 WalksClones {V = V} is_clone rest work s r t =

@@ -1,7 +1,7 @@
-//! Walks over radix trees of any flavour: iterators over all pairs, over the pairs under a prefix,
-//! over the values, and over the pairs of a tree that the iterator owns; the number of pairs; and
-//! the tree of the keys under a prefix. For the crates above; the calls that users make are in
-//! `vc_trees`.
+//! Walks over radix trees of any flavour. There are iterators over all pairs, over the pairs under
+//! a prefix, over the values, and over the pairs of a tree that the iterator owns. There are also
+//! counts of pairs, and the tree of the keys under a prefix. For the crates above; the calls that
+//! users make are in `vc_trees`.
 #![tactic(auto)]
 
 pub mod beside;

@@ -1,4 +1,5 @@
--- What the public clauses of the exported items cite, and the words of the laws, so that a user has every name from this crate.
+-- What the public clauses of the exported items cite, and the definitions of the laws, so that a
+-- user has every name from this crate.
 pub mod Exact
 pub mod Pointwise
 pub mod Words

@@ -13,10 +13,10 @@ use crate::{
 };
 use std::alloc::{AllocError, Global};
 
-/// The tags of an article, of which four need no allocation.
+/// The tags of an article. Four of them need no allocation.
 pub type Tags = VecSet<u32, 4>;
 
-/// The tags that two articles have between them.
+/// The tags that either article has.
 pub fn all_tags(alloc: Global, a: &Tags, b: &Tags) -> Result<Tags, AllocError>
     ensures { IfOk result (λ all. (tag : ℕ)
         → member nat_cmp all tag ≡ (member nat_cmp a.now tag || member nat_cmp b.now tag)) }
@@ -49,7 +49,7 @@ pub fn differing_tags(alloc: Global, a: &Tags, b: &Tags) -> Result<Tags, AllocEr
     symmetric_difference(alloc, a, b)
 }
 
-/// Whether an article has all tags that are asked for.
+/// Whether an article has all tags in `asked`.
 pub fn has_tags(tags: &Tags, asked: &Tags) -> bool
     ensures { IsTrue result ↔ ((tag : ℕ) → IsTrue (member nat_cmp asked.now tag)
         → IsTrue (member nat_cmp tags.now tag)) }
@@ -57,7 +57,7 @@ pub fn has_tags(tags: &Tags, asked: &Tags) -> bool
     asked.is_subset(tags)
 }
 
-/// Sets the port of a server, and answers the one that it had.
+/// Sets the port of a server, and answers the old one.
 pub fn set_port(
     ports: &mut RadixTree<u8, u32>,
     server: &[u8],
@@ -72,10 +72,10 @@ pub fn set_port(
     Ok(had)
 }
 
-/// The stock of a shop: how many pieces it has of each article, of which four need no allocation.
+/// The stock of a shop: the number of pieces of each article. Four articles need no allocation.
 pub type Stock = VecMap<u32, u32, 4>;
 
-/// How many pieces of an article there are.
+/// The number of pieces of an article.
 pub fn pieces(stock: &Stock, article: u32) -> Option<&u32>
     ensures { option_copied result ≡ value_at nat_cmp stock.now article }
 {

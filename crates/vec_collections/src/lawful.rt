@@ -1,4 +1,5 @@
-//! Each law under its own name: one that is exported under another's leaves a clause here unproved.
+//! Each law under its own name: a law that is exported under the name of another leaves a clause
+//! here unproved.
 ghost use Rattle.vec_collections.specs.Asking.{MayJudge};
 ghost use Rattle.vec_collections.specs.Chain.{allows};
 ghost use Rattle.vec_collections.specs.IntervalLaws.{MembersTellTheBoundaries, ListedIntervalsHold, IntervalsOfAreOne};

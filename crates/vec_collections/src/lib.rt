@@ -30,8 +30,8 @@ pub mod iterators {
     };
 }
 
-/// Small sets as ascending lists, the law of elements by which sets have `Clone`, and forms that
-/// elements are looked up by.
+/// Small sets as ascending lists, the law of elements that gives sets `Clone`, and forms by which
+/// elements are looked up.
 pub mod vec_set {
     pub use vc_sets::borrowed::Borrowed;
     pub use vc_sets::cloning::ClonesEqual;
@@ -65,7 +65,7 @@ pub mod total_vec_map {
     pub use vc_total_maps::total_vec_map::{TotalVecMap, TotalVecMap1};
 }
 
-/// Joins of maps that build a `BTreeMap`, and joins of one in place.
+/// Joins of maps that build a `BTreeMap`, and joins that change one in place.
 pub mod btree_map {
     pub use vc_btree_maps::btree_map::{
         AbstractBTreeMap, AbstractBTreeMapIter, InPlaceRelationalOps,
@@ -82,7 +82,7 @@ pub mod radix_tree {
     };
 }
 
-/// Filters of paths by rules, of which the longest that is a prefix of a path decides.
+/// Filters of paths by rules: of the rules that are prefixes of a path, the longest decides.
 pub mod path_filter {
     pub use vc_path_filter::path_filter::PathFilter;
 }
@@ -113,8 +113,8 @@ pub mod laws {
     };
 }
 
-/// The traits that calls of collections, iterators and trees come from. `use
-/// vec_collections::traits::*` takes them all.
+/// The traits that have the calls of collections, iterators and trees. `use
+/// vec_collections::traits::*` imports them all.
 pub mod traits {
     pub use super::btree_map::{AbstractBTreeMap, AbstractBTreeMapIter, InPlaceRelationalOps};
     pub use super::iterators::{SortedByItem, SortedByKey};

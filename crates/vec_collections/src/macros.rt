@@ -1,17 +1,17 @@
 //! Sets and maps written out.
 //!
-//! The macros stand at the root of this crate: `vec_collections::vecset` and
-//! `vec_collections::vecmap`. They name nothing but items of this crate.
+//! The macros are at the root of this crate: `vec_collections::vecset` and
+//! `vec_collections::vecmap`. They name only items of this crate.
 
-/// What a set or a map that is written out may be refused by.
+/// The error of a set or a map that is written out.
 pub use std::alloc::AllocError;
 
-/// The set of the listed elements, with the allocator in front: a `Result` whose refusal is an
+/// The set of the listed elements, with the allocator first: a `Result` whose error is an
 /// `AllocError`.
 ///
-/// The elements are put in one after the other by [`insert`](crate::vec_set::VecSet::insert), so
-/// they may stand in any order, and of equal ones the last is kept. The type of the set, or its
-/// size in place, is named by the caller.
+/// The elements are inserted one after the other by [`insert`](crate::vec_set::VecSet::insert), so
+/// they may be in any order, and of equal ones the last is kept. The caller names the type of the
+/// set, or its inline size.
 ///
 /// ```
 /// let primes: VecSet<u32, 4> = vecset! {alloc; 2, 3, 5}?;
@@ -35,12 +35,12 @@ macro_rules! vecset {
     };
 }
 
-/// The map of the listed pairs, with the allocator in front: a `Result` whose refusal is an
+/// The map of the listed pairs, with the allocator first: a `Result` whose error is an
 /// `AllocError`.
 ///
-/// The pairs are put in one after the other by [`insert`](crate::vec_map::VecMap::insert), so their
-/// keys may stand in any order, and of pairs with equal keys the last is kept. The type of the map,
-/// or its size in place, is named by the caller.
+/// The pairs are inserted one after the other by [`insert`](crate::vec_map::VecMap::insert), so
+/// their keys may be in any order, and of pairs with equal keys the last is kept. The caller names
+/// the type of the map, or its inline size.
 ///
 /// ```
 /// let squares: VecMap<u32, u32, 4> = vecmap! {alloc; 2 => 4, 3 => 9}?;

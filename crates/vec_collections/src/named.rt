@@ -1,6 +1,6 @@
 //! Exported functions, traits and types that the example does not name, each under its own name:
-//! one that is exported under another's leaves a clause here unproved, or is none that could be
-//! named so.
+//! one that is exported under the name of another leaves a clause here unproved, or does not
+//! compile.
 ghost use Rattle.std.specs.Iterator.{Drains, IsFinite};
 ghost use Rattle.std.specs.Map.{keys_of, values_of};
 ghost use Rattle.std.specs.Option.{option_copied};
@@ -69,7 +69,7 @@ pub fn merge_lists<M: MergeState, C: Count, O: MergeOperation<M, C>>(
     merge(state, op, steps)
 }
 
-/// Does commands on a tree, and says which were accepted.
+/// Runs commands on a tree, and answers which succeeded.
 pub fn obey_all(
     tree: &mut RadixTree<u8, u32>,
     commands: Vec<TreeCommand<u8, u32, RadixTree<u8, u32>>>,
@@ -232,7 +232,7 @@ where
     rest.next()
 }
 
-/// Asks a closure as an outer join does.
+/// Calls a closure as an outer join does.
 pub fn ask_outer<F: Fn(OuterJoinArg<&u32, &u32, &u32>) -> Result<Option<u32>, AllocError>>(
     f: &F,
     at: OuterJoinArg<&u32, &u32, &u32>,
@@ -243,7 +243,7 @@ pub fn ask_outer<F: Fn(OuterJoinArg<&u32, &u32, &u32>) -> Result<Option<u32>, Al
     AskOuter(f).ask(at)
 }
 
-/// Asks a closure as a left join does at a key of both maps.
+/// Calls a closure as a left join does at a key of both maps.
 pub fn ask_left<F: Fn(&u32, &u32, Option<&u32>) -> Result<Option<u32>, AllocError>>(
     f: &F,
     key: &u32,
@@ -256,7 +256,7 @@ pub fn ask_left<F: Fn(&u32, &u32, Option<&u32>) -> Result<Option<u32>, AllocErro
     AskLeft(f).ask(OuterJoinArg::Both(key, value, other))
 }
 
-/// Asks a closure as a right join does.
+/// Calls a closure as a right join does.
 pub fn ask_right<F: Fn(&u32, Option<&u32>, &u32) -> Result<Option<u32>, AllocError>>(
     f: &F,
     key: &u32,
@@ -269,7 +269,7 @@ pub fn ask_right<F: Fn(&u32, Option<&u32>, &u32) -> Result<Option<u32>, AllocErr
     AskRight(f).ask(OuterJoinArg::Both(key, value, other))
 }
 
-/// Asks a closure as an inner join does.
+/// Calls a closure as an inner join does.
 pub fn ask_inner<F: Fn(&u32, &u32, &u32) -> Result<Option<u32>, AllocError>>(
     f: &F,
     key: &u32,
@@ -289,8 +289,8 @@ pub fn value_of<M: AbstractBTreeMap<u32, u32>>(map: &M, key: u32) -> Option<&u32
     map.get(&key)
 }
 
-/// Keeps the pairs of a map at whose keys the closure answers true, which is asked at the keys of
-/// both.
+/// Keeps the pairs of a map where the closure, which is called at the keys of both maps, answers
+/// true.
 pub fn keep_shared<M: InPlaceRelationalOps<u32, u32>, F: Fn(&u32, &mut u32, &u32) -> bool + Drop>(
     map: &mut M,
     that: &M,

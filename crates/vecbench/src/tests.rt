@@ -84,8 +84,8 @@ set union 3,1,x 2 => line 1: fault 3: not a number or key
 set union 2 3,1,18446744073709551616 => line 1: fault 3: not a number or key
 ";
 
-/// Inputs of no line, of several, or with other ends and gaps than most have. Each has what it is
-/// answered, and with which status.
+/// Inputs of no line, of several, or with other ends and gaps than most have. Each is listed with
+/// its answer and status.
 const INPUTS: [(&str, &str, u8); 10] = [
     ("", "", 0),
     ("\n", "", 0),
@@ -116,7 +116,7 @@ const INPUTS: [(&str, &str, u8); 10] = [
     ),
 ];
 
-/// Checks what an input is answered, and with which status.
+/// Checks the answer to an input, and the status.
 fn check(rt: &(impl Abort + AllocGlobal), input: &str, answers: &str, status: u8) {
     let mut output = Vec::new(rt.alloc());
     let ended = serve(rt.alloc(), &mut input.as_bytes(), &mut output);

@@ -1,4 +1,4 @@
--- Shapes of trees that are written one behind another.
+-- Shapes of trees that are written one after another.
 use Rattle.std.proofs.Common.{arith, ◌≡◌, ◌∙◌, ap, sym, refl, subst, ℕ, zero, suc, ◌-◌, ◌<◌, ◌≤◌, List, [], ◌∷◌, ◌++◌}
 use Rattle.std.proofs.Common.{length, take, drop, get_or, Result, OnOk}
 use Rattle.std.proofs.lemmas.List.{append_assoc}

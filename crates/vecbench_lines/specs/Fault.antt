@@ -19,7 +19,7 @@ text_of NotANumberOrKey = codes "not a number or key"
 text_of WrongCount = codes "wrong count of words"
 text_of NoMemory = codes "no memory"
 
--- what is written in the place of line `line`, which has the fault
+-- the answer to line `line`, which has the fault
 abbrev pub fault_line : ℕ → Fault → List ℕ
 fault_line line fault =
     codes "line " ++ decimal line ++ codes ": fault " ++ decimal (number_of fault) ++ codes ": " ++ text_of fault ++ codes "\n"

@@ -1,4 +1,4 @@
--- How lines are judged: which fault a line has, if any.
+-- How lines are checked: which fault a line has, if any.
 use Rattle.std.specs.Prelude.{◌≡◌, ℕ, ◌⊎◌, ◌&&◌, Bool, true, if◌then◌else◌, nat_lt, List, [], ◌∷◌, codes, Option, None, Some}
 use Rattle.std.specs.Option.{option_map_or}
 use Rattle.std.specs.Str.{bytes_eq}
@@ -64,13 +64,15 @@ prefix_operation_named name =
 abbrev pub fault_in_operation : {Operation : Type 0} → Option Operation → Option Fault
 fault_in_operation named = option_map_or (λ _. None) named (Some UnknownCommand)
 
--- the fault of the words behind `set`: first their count, then the operation, the left list and the right list
+-- the fault of the words after `set`: first their count, then the operation, the left list and the
+-- right list
 abbrev pub fault_in_set : List (List ℕ) → Option Fault
 fault_in_set (operation ∷ left ∷ right ∷ []) =
     first_fault (fault_in_operation (set_operation_named operation)) (first_fault (fault_in_list left) (fault_in_list right))
 fault_in_set _ = Some WrongCount
 
--- the fault of the words behind `total`: first their count, then the operation, the left set and the right set
+-- the fault of the words after `total`: first their count, then the operation, the left set and the
+-- right set
 abbrev pub fault_in_total : List (List ℕ) → Option Fault
 fault_in_total (operation ∷ left ∷ right ∷ []) =
     first_fault (fault_in_operation (total_operation_named operation)) (first_fault (fault_in_list (list_in left)) (fault_in_list (list_in right)))
@@ -80,7 +82,7 @@ fault_in_total _ = Some WrongCount
 abbrev pub fault_in_keys : List ℕ → Option Fault
 fault_in_keys word = option_map_or (λ _. None) (keys_in word) (Some NotANumberOrKey)
 
--- the fault of the words behind `shape`: first their count, then the list
+-- the fault of the words after `shape`: first their count, then the list
 abbrev pub fault_in_shape : List (List ℕ) → Option Fault
 fault_in_shape (keys ∷ []) = fault_in_keys keys
 fault_in_shape _ = Some WrongCount
@@ -89,12 +91,13 @@ fault_in_shape _ = Some WrongCount
 abbrev pub fault_in_rules : List ℕ → Option Fault
 fault_in_rules word = option_map_or (λ _. None) (rules_in word) (Some NotANumberOrKey)
 
--- the fault of the words behind `permit`: first their count, then the rules and the keys
+-- the fault of the words after `permit`: first their count, then the rules and the keys
 abbrev pub fault_in_permit : List (List ℕ) → Option Fault
 fault_in_permit (rules ∷ keys ∷ []) = first_fault (fault_in_rules rules) (fault_in_keys keys)
 fault_in_permit _ = Some WrongCount
 
--- the fault of the words behind `prefix`: first their count, then the operation, the keys and the rules
+-- the fault of the words after `prefix`: first their count, then the operation, the keys and the
+-- rules
 abbrev pub fault_in_prefix : List (List ℕ) → Option Fault
 fault_in_prefix (operation ∷ keys ∷ rules ∷ []) =
     first_fault (fault_in_operation (prefix_operation_named operation)) (first_fault (fault_in_keys keys) (fault_in_rules rules))
@@ -104,7 +107,7 @@ fault_in_prefix _ = Some WrongCount
 abbrev pub fault_in_key : List ℕ → Option Fault
 fault_in_key word = option_map_or (λ _. None) (key_in word) (Some NotANumberOrKey)
 
--- the fault of a command on a tree: first its name, then the key or the list of keys behind it
+-- the fault of a command on a tree: first its name, then the key or the list of keys after it
 abbrev pub fault_in_change : List ℕ → List ℕ → Option Fault
 fault_in_change name word =
     if bytes_eq name (codes "insert") then fault_in_key word else
@@ -116,18 +119,18 @@ fault_in_change name word =
     if bytes_eq name (codes "remove") then fault_in_keys word else
     if bytes_eq name (codes "retain") then fault_in_keys word else Some UnknownCommand
 
--- the first fault of commands, each a name and the word behind it
+-- the first fault of commands, each a name and the word after it
 abbrev pub fault_in_changes : List (List ℕ) → Option Fault
 fault_in_changes [] = None
 fault_in_changes (name ∷ []) = Some WrongCount
 fault_in_changes (name ∷ word ∷ words) = first_fault (fault_in_change name word) (fault_in_changes words)
 
--- the fault of the words behind `tree`: first their count, then the list of keys and the commands
+-- the fault of the words after `tree`: first their count, then the list of keys and the commands
 abbrev pub fault_in_tree : List (List ℕ) → Option Fault
 fault_in_tree [] = Some WrongCount
 fault_in_tree (keys ∷ words) = if are_pairs words then first_fault (fault_in_keys keys) (fault_in_changes words) else Some WrongCount
 
--- the fault of a line with these words: first its first word, then those behind it
+-- the fault of a line with these words: first its first word, then those after it
 abbrev pub fault_in_words : List (List ℕ) → Option Fault
 fault_in_words [] = None
 fault_in_words (name ∷ words) =
@@ -138,6 +141,6 @@ fault_in_words (name ∷ words) =
     if bytes_eq name (codes "prefix") then fault_in_prefix words else
     if bytes_eq name (codes "tree") then fault_in_tree words else Some UnknownCommand
 
--- the fault that was judged, unless a request for memory was refused before
+-- the fault that was found, unless a request for memory was refused before
 abbrev pub IsFault : Option Fault → Fault → Type 0
 IsFault judged fault = (judged ≡ Some fault) ⊎ (fault ≡ NoMemory)

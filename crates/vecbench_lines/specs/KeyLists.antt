@@ -7,11 +7,11 @@ use Rattle.std.specs.Ordering.{nat_cmp}
 use Rattle.vec_collections.specs.Key.{same_key}
 use Rattle.vecbench_lines.specs.Shapes.{key_text}
 
--- how the keys behind the first one are printed: each behind a comma
+-- how the keys after the first one are printed: each after a comma
 abbrev pub others_text : List (List ℕ) → List ℕ
 others_text keys = flat_map (λ key. codes "," ++ key_text key) keys
 
--- how a list of keys is printed: `-` where there is none, and else with commas between them
+-- how a list of keys is printed: `-` where there is none, and otherwise with commas between them
 abbrev pub keys_text : List (List ℕ) → List ℕ
 keys_text [] = codes "-"
 keys_text (key ∷ keys) = key_text key ++ others_text keys

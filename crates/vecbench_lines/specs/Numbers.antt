@@ -1,4 +1,4 @@
--- What a word says as a number or as a list of numbers, and how a list is printed.
+-- What a word means as a number or as a list of numbers, and how a list is printed.
 use Rattle.std.specs.Prelude.{ℕ, ◌^◌, ◌&&◌, Bool, true, false, if◌then◌else◌, nat_lt, List, [], ◌∷◌, map, codes, decimal, Option, None, Some}
 use Rattle.std.specs.List.{join_with_byte}
 use Rattle.std.specs.Str.{all_ascii_digits}
@@ -10,7 +10,7 @@ abbrev pub number_in : List ℕ → Option ℕ
 number_in word =
     if is_some_text word && all_ascii_digits word && nat_lt (digits_value 10 word) (2 ^ 64) then Some (digits_value 10 word) else None
 
--- the numbers of a list: none in `-`, and else those between the commas
+-- the numbers of a list: none in `-`, and otherwise those between the commas
 abbrev pub numbers_in : List ℕ → Option (List ℕ)
 numbers_in word = members_in number_in word
 

@@ -1,4 +1,4 @@
--- What a whole input is answered.
+-- How a whole input is answered.
 use Rattle.std.specs.Prelude.{◌≡◌, ℕ, ◌+◌, ◌-◌, ◌^◌, ◌<◌, ◌||◌, min, Bool, true, false, List, [], ◌∷◌, ◌++◌, length, Option, None, if◌then◌else◌}
 use Rattle.std.specs.Io.KnownBytes.{Appends}
 use Rattle.std.specs.Str.Lines.{lines, strip_carriage_return}
@@ -18,7 +18,8 @@ IsReply number line reply true = (fault : Fault) × IsFault (fault_in_words (wor
 abbrev pub counted : ℕ → ℕ
 counted n = min n (2 ^ 64 - 1)
 
--- the text is the replies to these lines, in order, behind n other lines, and tells whether one of them has a fault
+-- the text is the replies to these lines, in order, after n other lines, and tells whether one of
+-- them has a fault
 abbrev pub AreReplies : ℕ → List (List ℕ) → List ℕ → Bool → Type 0
 AreReplies n [] text faulty = (text ≡ []) × (faulty ≡ false)
 AreReplies n (line ∷ lines) text faulty =
@@ -37,7 +38,7 @@ pub record Progress (lines : List (List ℕ)) (old new : Option (List ℕ)) (s :
   pub count : s.lines ≡ counted (length lines)
   pub written : Appends old new text
 
--- what was taken of a line stands in the session, if there was memory for it
+-- what was taken of a line is in the session, if there was memory for it
 abbrev pub Holds : Session → List ℕ → Type 0
 Holds s taken = s.is_stored ≡ true → s.line.items ≡ taken
 
@@ -45,12 +46,12 @@ Holds s taken = s.is_stored ≡ true → s.line.items ≡ taken
 abbrev pub MissesSome : Session → List ℕ → Type 0
 MissesSome s taken = s.is_stored ≡ false → 0 < length taken
 
--- the lines that end between the parts, where `line` stands before the first
+-- the lines that end between the parts, where `line` is before the first
 abbrev pub ended_lines : List ℕ → List (List ℕ) → List (List ℕ)
 ended_lines line [] = []
 ended_lines line (part ∷ parts) = strip_carriage_return line ∷ ended_lines part parts
 
--- the last of a line and the parts behind it
+-- the last of a line and the parts after it
 abbrev pub last_part : List ℕ → List (List ℕ) → List ℕ
 last_part line [] = line
 last_part line (part ∷ parts) = last_part part parts

@@ -1,4 +1,4 @@
--- What a word says as a total set of numbers, how one is printed, and when its test holds.
+-- What a word means as a total set of numbers, how one is printed, and when its test holds.
 use Rattle.std.specs.Prelude.{ℕ, Bool, false, if◌then◌else◌, nat_eq, List, [], ◌∷◌, ◌++◌, codes, drop, Option}
 use Rattle.std.specs.Option.{option_map}
 use Rattle.std.specs.Ordering.{nat_cmp}
@@ -17,11 +17,11 @@ is_marked (c ∷ word) = nat_eq c 33
 abbrev pub list_in : List ℕ → List ℕ
 list_in word = if is_marked word then drop 1 word else word
 
--- the total set that a word says: the numbers of a list or, behind `!`, all but these
+-- the total set that a word means: the numbers of a list or, after `!`, all except these
 abbrev pub total_in : List ℕ → Option (TotalSet ℕ)
 total_in word = option_map (λ numbers. total numbers (is_marked word)) (numbers_in (list_in word))
 
--- how a total set is printed: its list, behind `!` where it is negated
+-- how a total set is printed: its list, after `!` where it is negated
 abbrev pub total_text : TotalSet ℕ → List ℕ
 total_text set = (if set.negated then codes "!" else []) ++ list_text set.elements
 

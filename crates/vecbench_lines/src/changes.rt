@@ -14,7 +14,7 @@ use vec_collections::radix_tree::TreeCommand;
 /// A command on a tree of keys.
 pub type KeyCommand = TreeCommand<u8, (), KeyTree>;
 
-/// The key that a word says, in a list of its own.
+/// The key that a word means, as a new list.
 fn read_own_key(alloc: Global, word: &[u8]) -> Result<Vec<u8>, Fault>
     ensures key { IfOk result (λ key. key_in word.now ≡ Some key.items) }
     ensures judged { MatchResult result (λ _. fault_in_key word.now ≡ None)
@@ -24,7 +24,7 @@ fn read_own_key(alloc: Global, word: &[u8]) -> Result<Vec<u8>, Fault>
     Ok(key.to_vec(alloc)?)
 }
 
-/// The command of this name, with the key or the list of keys that the word says.
+/// The command of this name, with the key or the list of keys that the word means.
 fn read_change(alloc: Global, name: &[u8], word: &[u8]) -> Result<KeyCommand, Fault>
     ensures says { IfOk result (SaysChange name.now word.now) }
     ensures judged { MatchResult result (λ _. fault_in_change name.now word.now ≡ None)
@@ -51,7 +51,7 @@ fn read_change(alloc: Global, name: &[u8], word: &[u8]) -> Result<KeyCommand, Fa
     }
 }
 
-/// The commands of the words, each a name and the word behind it. They are judged from the left.
+/// The commands of the words, each a name and the word after it. They are judged from the left.
 pub fn read_changes(alloc: Global, mut words: Words<'_>) -> Result<Vec<KeyCommand>, Fault>
     ensures says { IfOk result (λ changes. SaysChanges (words_left words.entry) changes.items) }
     ensures judged { MatchResult result (λ _. fault_in_changes (words_left words.entry) ≡ None)

@@ -1,4 +1,4 @@
-//! Lines, judged and answered.
+//! Lines, checked and answered.
 ghost use Rattle.std.specs.Prelude.{◌≡◌, ◌++◌, List, ℕ, None, MatchResult, OnOk};
 ghost use Rattle.std.specs.String.{string_bytes};
 ghost use Rattle.vecbench_lines.specs.Parts.{words_of};
@@ -15,7 +15,7 @@ use crate::total_line::TotalLine;
 use crate::tree_line::TreeLine;
 use std::alloc::{AllocError, Global};
 
-/// What a line asks for, once its words are judged.
+/// What a line asks for, after its words were checked.
 #[derive(Drop)]
 pub enum Command {
     /// `set OP A B`
@@ -39,7 +39,7 @@ impl Command {
     ghost use Rattle.vecbench_lines.specs.Judged.{fault_in_words, IsFault};
     ghost use Rattle.vecbench_lines.specs.Answers.{SaysCommand, Answers};
 
-    /// The command of the first word `name`, with the words behind it.
+    /// The command of the first word `name`, with the words after it.
     pub fn read(alloc: Global, name: &[u8], words: Words<'_>) -> Result<Command, Fault>
         ensures says { IfOk result
             (λ command. SaysCommand (name.now ∷ words_left words.entry) command) }
@@ -63,7 +63,7 @@ impl Command {
         }
     }
 
-    /// Puts the answer behind `text`.
+    /// Appends the answer to `text`.
     pub fn answer(self, text: &mut String) -> Result<(), AllocError>
         ensures { OnOk result ((answer : List ℕ) × Answers self answer
             × (string_bytes text.new ≡ string_bytes text.old ++ answer)) }
@@ -79,8 +79,8 @@ impl Command {
     }
 }
 
-/// Puts the answer to a line and an LF behind `text`, and nothing for a line without words. After a
-/// fault, `text` may have a part of an answer behind it.
+/// Appends the answer to a line and an LF to `text`, and nothing for a line without words. After a
+/// fault, `text` may end in a part of an answer.
 pub fn answer_line(alloc: Global, line: &[u8], text: &mut String) -> Result<(), Fault>
     ensures answers { OnOk result ((answer : List ℕ) × AnswersWords (words_of line.now) answer
         × (string_bytes text.new ≡ string_bytes text.old ++ answer)) }

@@ -10,7 +10,7 @@ pub enum Fault {
     UnknownCommand,
     /// The numbers of a list do not ascend strictly.
     NotAscending,
-    /// A word is not the number list or key list that its place asks for.
+    /// A word is not the number list or key list that is expected at its place.
     NotANumberOrKey,
     /// There are too few words, or too many.
     WrongCount,
@@ -23,7 +23,7 @@ impl Fault {
     ghost use Rattle.std.specs.Io.KnownBytes.{Appends};
     ghost use Rattle.vecbench_lines.specs.Fault.{number_of, text_of, fault_line};
 
-    /// The number by which the fault is answered.
+    /// The number with which the fault is answered.
     pub fn number(self) -> u8
         ensures { result ≡ number_of self }
     {
@@ -36,7 +36,7 @@ impl Fault {
         }
     }
 
-    /// The text by which the fault is answered.
+    /// The text with which the fault is answered.
     pub fn text(self) -> &'static str
         ensures { result.now ≡ text_of self }
     {
@@ -49,7 +49,7 @@ impl Fault {
         }
     }
 
-    /// Writes what stands in the place of line `line`, piece by piece: it takes no memory.
+    /// Writes the answer to line `line`, piece by piece: it takes no memory.
     pub fn write<W: Write>(self, line: u64, output: &mut W) -> io::Result<()>
         ensures { OnOk result
             (Appends (W.contents output.old) (W.contents output.new) (fault_line line self)) }

@@ -21,15 +21,15 @@ use vec_collections::radix_tree::{
 /// A tree of keys of letters, which binds `()` to each.
 pub type KeyTree = RadixTree<u8, ()>;
 
-/// Whether there are letters from a to z alone.
+/// Whether there are only letters from a to z.
 fn is_letters(word: &[u8]) -> bool
     ensures { result ≡ list_all is_ascii_lowercase word.now }
 {
     word.iter().all(|letter| letter.is_ascii_lowercase())
 }
 
-/// The key that a word says: `.` is the empty key, and else there are one or more letters from a to
-/// z and nothing else.
+/// The key that a word means: `.` is the empty key, and otherwise there are one or more letters
+/// from a to z and nothing else.
 pub fn read_key(word: &[u8]) -> Option<&[u8]>
     ensures { option_copied result ≡ key_in word.now }
 {
@@ -42,8 +42,8 @@ pub fn read_key(word: &[u8]) -> Option<&[u8]>
     Some(word)
 }
 
-/// The tree of the keys of a list, in any order and with repeats: `-` has none, and else commas
-/// part them.
+/// The tree of the keys of a list, in any order and with repeats: `-` has none, and otherwise
+/// commas separate them.
 pub fn read_tree(alloc: Global, word: &[u8]) -> Result<KeyTree, Fault>
     ensures keys { IfOk result
         (λ tree. (keys : List (List ℕ)) × (keys_in word.now ≡ Some keys) × HasKeys keys tree) }
@@ -63,8 +63,9 @@ pub fn read_tree(alloc: Global, word: &[u8]) -> Result<KeyTree, Fault>
     Ok(tree)
 }
 
-/// Puts a key of letters behind `text`, in the form in which keys are read: `.` for the empty key,
-/// and else its letters. Of any other key each component is put as the character of its number.
+/// Appends a key of letters to `text`, in the form in which keys are read: `.` for the empty key,
+/// and otherwise its letters. Of any other key, each component is appended as the character of its
+/// number.
 pub fn put_key(text: &mut String, key: &[u8]) -> Result<(), AllocError>
     ensures { OnOk result (string_bytes text.new ≡ string_bytes text.old ++ key_text key.now) }
 {
@@ -77,7 +78,7 @@ pub fn put_key(text: &mut String, key: &[u8]) -> Result<(), AllocError>
     Ok(())
 }
 
-/// Puts the keys of a tree behind `text`, ascending, in the form in which a list of keys is read.
+/// Appends the keys of a tree to `text`, ascending, in the form in which a list of keys is read.
 pub fn put_keys(text: &mut String, tree: &KeyTree) -> Result<(), AllocError>
     ensures { OnOk result ((answer : List ℕ)
         × ListsKeys (λ key. is_some (lookup nat_cmp tree.now key)) answer
@@ -97,7 +98,7 @@ pub fn put_keys(text: &mut String, tree: &KeyTree) -> Result<(), AllocError>
     Ok(())
 }
 
-/// Puts `*` behind `text` where there is a value.
+/// Appends `*` to `text` where there is a value.
 fn put_mark<V>(text: &mut String, value: Option<&V>) -> Result<(), AllocError>
     ensures { OnOk result
         (string_bytes text.new ≡ string_bytes text.old ++ value_mark (option_copied value.entry)) }
@@ -108,7 +109,7 @@ fn put_mark<V>(text: &mut String, value: Option<&V>) -> Result<(), AllocError>
     }
 }
 
-/// Puts the shape of a tree behind `text`: its prefix, `*` where it has a value, and the shapes of
+/// Appends the shape of a tree to `text`: its prefix, `*` where it has a value, and the shapes of
 /// its children in parentheses, if there are any.
 pub fn put_shape<V: TValue, T: AbstractRadixTree<u8, V>>(
     text: &mut String,

@@ -1,4 +1,4 @@
-//! The lines of the program `vecbench`: how they are read, judged and answered.
+//! The lines of the program `vecbench`: how they are read, checked and answered.
 #![tactic(auto)]
 
 pub mod changes;

@@ -14,7 +14,7 @@ use std::fmt::Write;
 use vec_collections::VecSet2;
 use vec_collections::iterators::ascends;
 
-/// A set of numbers, of which the first two stand in place.
+/// A set of numbers, up to two of them inline.
 pub type NumberSet = VecSet2<u64>;
 
 /// The number whose digits are those of `value` and one more, if that is a digit and the number
@@ -29,7 +29,7 @@ fn append_digit(value: u64, digit: u8) -> Option<u64>
     value.checked_mul(10)?.checked_add(u64::from(digit - b'0'))
 }
 
-/// The number that a word says: one digit or more and nothing else, and it fits.
+/// The number that a word means: one or more digits and nothing else, where it fits.
 pub fn read_number(word: &[u8]) -> Option<u64>
     ensures { result ≡ number_in word.now }
 {
@@ -45,8 +45,8 @@ pub fn read_number(word: &[u8]) -> Option<u64>
     Some(value)
 }
 
-/// The numbers of a list in the order in which they stand, with no regard to whether they ascend:
-/// `-` has none, and else commas part them.
+/// The numbers of a list in their order, whether or not they ascend: `-` has none, and otherwise
+/// commas separate them.
 pub fn read_numbers(alloc: Global, word: &[u8]) -> Result<Vec<u64>, Fault>
     ensures { MatchResult result (λ numbers. numbers_in word.now ≡ Some numbers.items)
         (λ fault. IsFault (option_map_or (λ _. None) (numbers_in word.now) (Some NotANumberOrKey))
@@ -66,7 +66,7 @@ pub fn read_numbers(alloc: Global, word: &[u8]) -> Result<Vec<u64>, Fault>
 }
 
 /// The set of the numbers of a list. A list with a member that is no number is `NotANumberOrKey`,
-/// also where its numbers do not ascend.
+/// even where its numbers do not ascend.
 pub fn read_set(alloc: Global, word: &[u8]) -> Result<NumberSet, Fault>
     ensures numbers { IfOk result (λ set. numbers_in word.now ≡ Some set) }
     ensures judged { MatchResult result (λ _. fault_in_list word.now ≡ None)
@@ -79,7 +79,7 @@ pub fn read_set(alloc: Global, word: &[u8]) -> Result<NumberSet, Fault>
     Ok(NumberSet::from_vec(alloc, numbers)?)
 }
 
-/// Puts the list of `numbers` behind `text`, in the form in which lists are read.
+/// Appends the list of `numbers` to `text`, in the form in which lists are read.
 pub fn put_numbers(text: &mut String, numbers: &[u64]) -> Result<(), AllocError>
     ensures { OnOk result (string_bytes text.new ≡ string_bytes text.old ++ list_text numbers.now) }
 {
@@ -93,7 +93,7 @@ pub fn put_numbers(text: &mut String, numbers: &[u64]) -> Result<(), AllocError>
     Ok(())
 }
 
-/// Puts `true` or `false` behind `text`.
+/// Appends `true` or `false` to `text`.
 pub fn put_truth(text: &mut String, holds: bool) -> Result<(), AllocError>
     ensures { OnOk result (string_bytes text.new ≡ string_bytes text.old ++ truth_text holds) }
 {

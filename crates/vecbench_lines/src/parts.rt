@@ -1,7 +1,7 @@
 //! The parts of a text, and the words of a line.
 use memchr::{memchr, memchr2};
 
-/// What stands between two parts of a text.
+/// What separates two parts of a text.
 #[derive(Clone, Copy, Debug, PartialEq, Eq)]
 pub enum Separator {
     /// An LF, between lines.
@@ -17,7 +17,7 @@ impl Separator {
     ghost use Rattle.std.specs.Prelude.{◌≡◌, ◌∷◌};
     ghost use Rattle.vecbench_lines.specs.Parts.{parts_at, parts_of, parts_of_rest};
 
-    /// Where the first separator stands in `text`.
+    /// The place of the first separator in `text`.
     fn find(self, text: &[u8]) -> Option<usize>
         ensures { IsFirstByte (parts_at self) text.now result }
     {
@@ -28,7 +28,7 @@ impl Separator {
         }
     }
 
-    /// The first part of `text`, and what stands behind its separator, if one ends it.
+    /// The first part of `text`, and what is after its separator, if one ends it.
     pub fn cut(self, text: &[u8]) -> (&[u8], Option<&[u8]>)
         ensures { parts_of self text.now ≡ result.0.now ∷ parts_of_rest self result.1 }
     {
@@ -101,7 +101,7 @@ impl<'a> Words<'a> {
         }
     }
 
-    /// Whether the words stand in pairs: whether they are an even number.
+    /// Whether the number of words is even.
     pub fn are_pairs(mut self) -> bool
         ensures { result ≡ are_pairs (words_left self.entry) }
     {
@@ -113,7 +113,7 @@ impl<'a> Words<'a> {
         true
     }
 
-    /// The word, if there is one alone.
+    /// The word, if there is exactly one.
     pub fn one(mut self) -> Option<&'a [u8]>
         ensures { MatchOption result (length (words_left self.entry) ≢ 1)
             (λ word. words_left self.entry ≡ word.now ∷ []) }
@@ -125,7 +125,7 @@ impl<'a> Words<'a> {
         Some(word)
     }
 
-    /// The words, if they are two.
+    /// The words, if there are exactly two.
     pub fn two(mut self) -> Option<(&'a [u8], &'a [u8])>
         ensures { MatchOption result (length (words_left self.entry) ≢ 2)
             (λ words. words_left self.entry ≡ words.0.now ∷ words.1.now ∷ []) }
@@ -138,7 +138,7 @@ impl<'a> Words<'a> {
         Some((first, second))
     }
 
-    /// The words, if they are three.
+    /// The words, if there are exactly three.
     pub fn three(mut self) -> Option<(&'a [u8], &'a [u8], &'a [u8])>
         ensures { MatchOption result (length (words_left self.entry) ≢ 3)
             (λ words. words_left self.entry ≡ words.0.now ∷ words.1.now ∷ words.2.now ∷ []) }

@@ -5,7 +5,7 @@ use crate::parts::Words;
 use crate::rules::{KeyFilter, read_filter};
 use std::alloc::{AllocError, Global};
 
-/// A line `permit R A`, once its words are judged.
+/// A line `permit R A`, after its words were checked.
 #[derive(Drop)]
 pub struct PermitLine {
     /// The filter of the rules `R`.
@@ -21,7 +21,7 @@ impl PermitLine {
     ghost use Rattle.vecbench_lines.specs.Judged.{fault_in_permit, IsFault};
     ghost use Rattle.vecbench_lines.specs.Answers.{SaysPermitLine, AnswersPermit};
 
-    /// The line whose words behind the first are `words`. Their count is judged first, then the
+    /// The line whose words after the first are `words`. Their count is checked first, then the
     /// rules and the keys.
     pub fn read(alloc: Global, words: Words<'_>) -> Result<PermitLine, Fault>
         ensures says { IfOk result (λ line. SaysPermitLine (words_left words.entry) line) }
@@ -34,7 +34,7 @@ impl PermitLine {
         Ok(PermitLine { filter, tree })
     }
 
-    /// Puts the answer behind `text`.
+    /// Appends the answer to `text`.
     pub fn answer(self, text: &mut String) -> Result<(), AllocError>
         ensures { OnOk result ((answer : List ℕ) × AnswersPermit self answer
             × (string_bytes text.new ≡ string_bytes text.old ++ answer)) }

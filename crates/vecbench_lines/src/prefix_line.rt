@@ -6,12 +6,12 @@ use crate::rules::{KeyFilter, read_filter};
 use std::alloc::{AllocError, Global};
 use vec_collections::radix_tree::AbstractRadixTreeMut;
 
-/// What is done with the keys that rules admit.
+/// What happens to the keys that rules admit.
 #[derive(Clone, Copy)]
 pub enum PrefixOperation {
-    /// They go, and the others stay.
+    /// They are removed, and the others stay.
     Remove,
-    /// They stay, and the others go.
+    /// They stay, and the others are removed.
     Retain,
 }
 
@@ -33,10 +33,10 @@ impl PrefixOperation {
     }
 }
 
-/// A line `prefix OP A R`, once its words are judged.
+/// A line `prefix OP A R`, after its words were checked.
 #[derive(Drop)]
 pub struct PrefixLine {
-    /// What is asked.
+    /// The operation.
     pub operation: PrefixOperation,
     /// The tree of the keys of `A`.
     pub tree: KeyTree,
@@ -54,7 +54,7 @@ impl PrefixLine {
     ghost use Rattle.vecbench_lines.specs.Judged.{fault_in_prefix, IsFault};
     ghost use Rattle.vecbench_lines.specs.Answers.{SaysPrefixLine, KeysStay, AnswersPrefix};
 
-    /// The line whose words behind the first are `words`. Their count is judged first, then the
+    /// The line whose words after the first are `words`. Their count is checked first, then the
     /// operation, the keys and the rules.
     pub fn read(alloc: Global, words: Words<'_>) -> Result<PrefixLine, Fault>
         ensures says { IfOk result (λ line. SaysPrefixLine (words_left words.entry) line) }
@@ -92,7 +92,7 @@ impl PrefixLine {
         Ok(tree)
     }
 
-    /// Puts the answer behind `text`.
+    /// Appends the answer to `text`.
     pub fn answer(self, text: &mut String) -> Result<(), AllocError>
         ensures { OnOk result ((answer : List ℕ) × AnswersPrefix self answer
             × (string_bytes text.new ≡ string_bytes text.old ++ answer)) }

@@ -16,7 +16,7 @@ use vec_collections::path_filter::PathFilter;
 /// A filter of keys of letters.
 pub type KeyFilter = PathFilter<u8>;
 
-/// The rule that a word says, a key and whether it is allowed: behind `!` it is denied.
+/// The rule that a word means, a key and whether it is allowed: after `!` it is denied.
 fn read_rule(word: &[u8]) -> Option<(&[u8], bool)>
     ensures { option_map (λ rule. (rule.0.now, rule.1)) result ≡ rule_in word.now }
 {
@@ -38,7 +38,8 @@ fn put_rule(filter: &mut KeyFilter, key: &[u8], allowed: bool) -> Result<(), All
     }
 }
 
-/// The filter of the rules of a list, done in their order: `-` has none, and else commas part them.
+/// The filter of the rules of a list, applied in their order: `-` has none, and otherwise commas
+/// separate them.
 pub fn read_filter(alloc: Global, word: &[u8]) -> Result<KeyFilter, Fault>
     ensures rules { IfOk result (λ filter. (rules : List (List ℕ × Bool))
         × (rules_in word.now ≡ Some rules) × IsCollected nat_cmp rules filter) }

@@ -17,19 +17,19 @@ pub const FAULTY: u8 = 1;
 /// Reading or writing failed, or there was no memory for a buffer.
 pub const FAILED: u8 = 2;
 
-/// How many bytes are read at once.
+/// The number of bytes that are read at once.
 const CHUNK: usize = 8192;
-/// How many bytes of a line, and of an answer, there is room for from the start.
+/// The number of bytes of a line, and of an answer, for which room is made at the start.
 const ROOM: usize = 256;
 
-/// What is known between two pieces of the input. The two buffers are used again from line to line.
+/// The state between two pieces of the input. The two buffers are used again from line to line.
 #[derive(Drop)]
 struct Session {
     alloc: Global,
     /// What was read of the line so far, if there was memory for it.
     line: Vec<u8>,
     is_stored: bool,
-    /// How many lines came before it.
+    /// The number of lines before it.
     lines: u64,
     answer: String,
     has_fault: bool,
@@ -89,7 +89,7 @@ impl Session {
         !self.is_stored || !self.line.is_empty()
     }
 
-    /// Makes the answer to the line that was taken, or says its fault.
+    /// Makes the answer to the line that was taken, or answers its fault.
     fn make_answer(&mut self) -> Result<(), Fault>
         ensures answers { (taken : List ℕ) → Holds self.old taken
             → OnOk result (AnswersWords (words_of taken) (string_bytes self.new.answer)) }
@@ -185,7 +185,7 @@ impl Session {
             → OnOk result (Progress (lines text) (O.contents output.old) (O.contents output.new)
             self.new) }
     {
-        // Counted, so that the call returns whatever the input does. No input is so long.
+        // Counted, so that the call returns for any input. No input is that long.
         for _ in 0..u64::MAX {
             output.flush()?;
             let count = read_some(input, chunk)?;
@@ -210,7 +210,7 @@ fn read_some<I: Read>(input: &mut I, chunk: &mut [u8]) -> io::Result<usize>
     ensures within { IfOk result (λ count. count ≤ length chunk.new) }
     ensures bytes { ReadConsumes (I.remaining input.old) (I.remaining input.new) result chunk.new }
 {
-    // Counted, so that the call returns whatever the input does. No input is interrupted so often.
+    // Counted, so that the call returns for any input. No input is interrupted that often.
     for _ in 0..u64::MAX {
         match input.read(chunk) {
             Err(error) if error.kind() == ErrorKind::Interrupted => {}
@@ -220,11 +220,11 @@ fn read_some<I: Read>(input: &mut I, chunk: &mut [u8]) -> io::Result<usize>
     Err(io::Error::from(ErrorKind::Other))
 }
 
-/// Answers each line of `input` on `output`, in the order of the lines, and says how it went:
+/// Answers each line of `input` on `output`, in the order of the lines, and returns the status:
 /// `ANSWERED`, `FAULTY` or `FAILED`.
 ///
-/// The buffers are made before the first read. Where reading or writing fails, what was answered
-/// before stands.
+/// The buffers are made before the first read. Where reading or writing fails, the answers before
+/// that were written.
 pub fn serve<I: Read, O: Write>(alloc: Global, input: &mut I, output: &mut O) -> u8
     ensures status { result ≤ 2 }
     ensures served { (text : List ℕ) → I.remaining input.old ≡ Some text → result < 2

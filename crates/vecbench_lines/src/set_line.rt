@@ -5,10 +5,10 @@ use crate::parts::Words;
 use std::alloc::{AllocError, Global};
 use vec_collections::{AbstractVecSet, SetOp, SetTest};
 
-/// What is asked of two sets.
+/// An operation on two sets.
 #[derive(Clone, Copy)]
 pub enum SetOperation {
-    /// The set that is made of them.
+    /// A set that is made of them.
     Combine(SetOp),
     /// Whether a test of them holds.
     Test(SetTest),
@@ -51,10 +51,10 @@ impl SetOperation {
     }
 }
 
-/// A line `set OP A B`, once its words are judged.
+/// A line `set OP A B`, after its words were checked.
 #[derive(Drop)]
 pub struct SetLine {
-    /// What is asked.
+    /// The operation.
     pub operation: SetOperation,
     /// The set `A`.
     pub left: NumberSet,
@@ -71,7 +71,7 @@ impl SetLine {
     ghost use Rattle.vec_collections.specs.Algebra.{made_by, IsTestedBy};
     ghost use Rattle.vecbench_lines.specs.Answers.{SaysSetLine, IsPicked, AnswersSets};
 
-    /// The line whose words behind the first are `words`. Their count is judged first, then the
+    /// The line whose words after the first are `words`. Their count is checked first, then the
     /// operation, the left list and the right list.
     pub fn read(alloc: Global, words: Words<'_>) -> Result<SetLine, Fault>
         ensures says { IfOk result (λ line. SaysSetLine (words_left words.entry) line) }
@@ -86,7 +86,7 @@ impl SetLine {
         })
     }
 
-    /// What `op` makes of the two sets.
+    /// The result of `op` on the two sets.
     fn combine(&self, op: SetOp) -> Result<NumberSet, AllocError>
         ensures { IfOk result (IsPicked (made_by op) self.now.left self.now.right) }
     {
@@ -104,7 +104,7 @@ impl SetLine {
         }
     }
 
-    /// Puts the answer behind `text`.
+    /// Appends the answer to `text`.
     pub fn answer(&self, text: &mut String) -> Result<(), AllocError>
         ensures { OnOk result ((answer : List ℕ)
             × AnswersSets self.now.operation self.now.left self.now.right answer

@@ -4,7 +4,7 @@ use crate::keys::{KeyTree, put_shape, read_tree};
 use crate::parts::Words;
 use std::alloc::{AllocError, Global};
 
-/// A line `shape A`, once its words are judged.
+/// A line `shape A`, after its words were checked.
 #[derive(Drop)]
 pub struct ShapeLine {
     /// The tree of the keys of `A`.
@@ -19,7 +19,7 @@ impl ShapeLine {
     ghost use Rattle.vecbench_lines.specs.Answers.{SaysShapeLine};
     ghost use Rattle.vecbench_lines.specs.Shapes.{shape_text};
 
-    /// The line whose words behind the first are `words`. Their count is judged first, then the
+    /// The line whose words after the first are `words`. Their count is checked first, then the
     /// list.
     pub fn read(alloc: Global, words: Words<'_>) -> Result<ShapeLine, Fault>
         ensures says { IfOk result (λ line. SaysShapeLine (words_left words.entry) line) }
@@ -31,7 +31,7 @@ impl ShapeLine {
         Ok(ShapeLine { tree })
     }
 
-    /// Puts the answer behind `text`.
+    /// Appends the answer to `text`.
     pub fn answer(&self, text: &mut String) -> Result<(), AllocError>
         ensures { OnOk result
             (string_bytes text.new ≡ string_bytes text.old ++ shape_text self.now.tree) }

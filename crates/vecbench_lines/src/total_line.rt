@@ -8,10 +8,10 @@ use std::alloc::{AllocError, Global};
 use vec_collections::laws::total_operations_are_pointwise;
 use vec_collections::{SetOp, SetTest};
 
-/// A line `total OP A B`, once its words are judged.
+/// A line `total OP A B`, after its words were checked.
 #[derive(Drop)]
 pub struct TotalLine {
-    /// What is asked.
+    /// The operation.
     pub operation: SetOperation,
     /// The set `A`.
     pub left: NumberTotal,
@@ -47,7 +47,7 @@ impl TotalLine {
         }
     }
 
-    /// The line whose words behind the first are `words`. Their count is judged first, then the
+    /// The line whose words after the first are `words`. Their count is checked first, then the
     /// operation, the left set and the right set.
     pub fn read(alloc: Global, words: Words<'_>) -> Result<TotalLine, Fault>
         ensures says { IfOk result (λ line. SaysTotalLine (words_left words.entry) line) }
@@ -62,7 +62,7 @@ impl TotalLine {
         })
     }
 
-    /// What `op` makes of the two sets.
+    /// The result of `op` on the two sets.
     fn combine(&self, op: SetOp) -> Result<NumberTotal, AllocError>
         ensures { IfOk result (IsPointwise nat_cmp (made_by op) self.now.left self.now.right) }
     {
@@ -86,7 +86,7 @@ impl TotalLine {
         }
     }
 
-    /// Puts the answer behind `text`.
+    /// Appends the answer to `text`.
     pub fn answer(&self, text: &mut String) -> Result<(), AllocError>
         ensures { OnOk result ((answer : List ℕ)
             × AnswersTotals self.now.operation self.now.left self.now.right answer

@@ -1,4 +1,4 @@
-//! Total sets of numbers: a list, or all numbers but those of a list.
+//! Total sets of numbers: a list, or all numbers except those of a list.
 ghost use Rattle.std.specs.Prelude.{◌≡◌, ◌++◌, Some, None, MatchResult, IfOk, OnOk};
 ghost use Rattle.std.specs.String.{string_bytes};
 ghost use Rattle.vecbench_lines.specs.Totals.{list_in, total_in, total_text};
@@ -9,11 +9,11 @@ use crate::numbers::{put_numbers, read_set};
 use std::alloc::{AllocError, Global};
 use vec_collections::total_vec_set::TotalVecSet2;
 
-/// A total set of numbers, of whose list the first two stand in place.
+/// A total set of numbers, up to two of its list inline.
 pub type NumberTotal = TotalVecSet2<u64>;
 
-/// The total set that a word says: a list of numbers or, behind `!`, all but these. Its list is
-/// judged as by [`read_set`].
+/// The total set that a word means: a list of numbers or, after `!`, all numbers except these. Its
+/// list is checked as by [`read_set`].
 pub fn read_total(alloc: Global, word: &[u8]) -> Result<NumberTotal, Fault>
     ensures set { IfOk result (λ set. total_in word.now ≡ Some set) }
     ensures judged { MatchResult result (λ _. fault_in_list (list_in word.now) ≡ None)
@@ -27,7 +27,7 @@ pub fn read_total(alloc: Global, word: &[u8]) -> Result<NumberTotal, Fault>
     }
 }
 
-/// Puts the total set behind `text`, in the form in which it is read.
+/// Appends the total set to `text`, in the form in which it is read.
 pub fn put_total(text: &mut String, set: &NumberTotal) -> Result<(), AllocError>
     ensures { OnOk result (string_bytes text.new ≡ string_bytes text.old ++ total_text set.now) }
 {

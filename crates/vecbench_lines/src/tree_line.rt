@@ -9,7 +9,7 @@ use crate::parts::Words;
 use std::alloc::{AllocError, Global};
 use vec_collections::radix_tree::run;
 
-/// A line `tree A OP B ..`, once its words are judged.
+/// A line `tree A OP B ..`, after its words were checked.
 #[derive(Drop)]
 pub struct TreeLine {
     /// The tree of the keys of `A`.
@@ -28,7 +28,7 @@ impl TreeLine {
     ghost use Rattle.vecbench_lines.specs.Answers.{SaysTreeLine, AnswersTree};
     ghost use Rattle.vecbench_lines.specs.Changes.{Leads};
 
-    /// The line whose words behind the first are `words`. Their count is judged first, then the
+    /// The line whose words after the first are `words`. Their count is checked first, then the
     /// list and the commands from the left.
     pub fn read(alloc: Global, mut words: Words<'_>) -> Result<TreeLine, Fault>
         ensures says { IfOk result (λ line. SaysTreeLine (words_left words.entry) line) }
@@ -44,7 +44,7 @@ impl TreeLine {
         Ok(TreeLine { tree, changes })
     }
 
-    /// The tree once all is done.
+    /// The tree after all commands.
     fn change(self) -> Result<KeyTree, AllocError>
         ensures { IfOk result (λ changed.
             Leads self.changes.items (lookup nat_cmp self.tree) (lookup nat_cmp changed)) }
@@ -60,7 +60,7 @@ impl TreeLine {
         }
     }
 
-    /// Puts the answer behind `text`. A command that is refused for memory has no answer.
+    /// Appends the answer to `text`. A command that is refused for memory has no answer.
     pub fn answer(self, text: &mut String) -> Result<(), AllocError>
         ensures { OnOk result ((answer : List ℕ) × AnswersTree self answer
             × (string_bytes text.new ≡ string_bytes text.old ++ answer)) }
@@ -70,7 +70,7 @@ impl TreeLine {
     }
 }
 
-/// So many flags, none of them set.
+/// `count` flags, none of them set.
 fn unset(alloc: Global, count: usize) -> Result<Vec<bool>, AllocError>
     ensures { IfOk result (λ flags. length flags.items ≡ count) }
 {

@@ -1,5 +1,5 @@
-//! The trees of settings, and the two steps that versions are made by. Their clauses are in the
-//! words of trees.
+//! The trees of settings, and the two steps that make versions. Their clauses use the words of
+//! trees.
 
 ghost use Rattle.std.specs.Prelude.{◌≡◌, ◌==◌, cond, None, Some, Ok, IfOk, OnOk};
 ghost use Rattle.std.specs.Option.{is_some};
@@ -25,8 +25,8 @@ pub fn bind(settings: &mut Settings, path: &[u8], value: u64) -> Result<(), Allo
     settings.insert(path, value)
 }
 
-/// The paths at which two trees have other settings. Each has the one of the new tree, or of the
-/// old one where the new tree has none.
+/// The paths at which two trees have different settings. Each has the one of the new tree, or of
+/// the old one where the new tree has none.
 pub fn differing<S: AbstractRadixTree<u8, u64>>(
     old: &S,
     new: &S,

@@ -29,7 +29,7 @@ pub struct KeepLeft<'f, F>(pub &'f F);
 #[derive(Drop)]
 pub struct KeepShared<'f, F>(pub &'f F);
 
-/// A decision for the keys of this map alone. At the keys of both, each value is unchanged.
+/// A decision for the keys of only this map. At the keys of both, each value is unchanged.
 #[derive(Drop)]
 pub struct KeepAlone<'j, J>(pub &'j J);
 

@@ -13,8 +13,7 @@ use std::default::MadeWith;
 use std::ops::{BitAnd, BitOr, BitXor, Sub};
 use vc_merge::merge::Uncounted;
 
-/// What is in the left set alone if `LEFT`, in the right one alone if `RIGHT`, and in both if
-/// `BOTH`.
+/// What is only in the left set if `LEFT`, only in the right one if `RIGHT`, and in both if `BOTH`.
 #[inline(always)]
 fn combine_sets<
     const LEFT: bool,

@@ -79,7 +79,7 @@ where
     /// no such pair is held. The key that was held is dropped; all other pairs stay, and the list
     /// keeps its capacity.
     ///
-    /// Compares as often as `get`, moves the pairs after that one, and takes no memory.
+    /// Compares as often as `get`, moves the pairs after the removed one, and takes no memory.
     ///
     /// ```
     /// assert!(rt; ages.remove_by(Some("ada")) == Some(36));

@@ -16,8 +16,8 @@ where
     /// pair is held. The key that was held is dropped; all other pairs stay, and the list keeps its
     /// capacity.
     ///
-    /// Compares fewer than `1.5 * log2(n) + 4` times among `n` pairs, moves the pairs after that
-    /// one, and takes no memory.
+    /// Compares fewer than `1.5 * log2(n) + 4` times among `n` pairs, moves the pairs after the
+    /// removed one, and takes no memory.
     ///
     /// ```
     /// assert!(rt; ports.remove(&80) == Some(true));

@@ -40,7 +40,8 @@ impl<T: Ord + MadeWith<A> + Drop, const N: usize, A: Allocator + Copy> VecSet<T,
     /// Removes and drops the element that is equal to a borrowed form, and answers whether there
     /// was one.
     ///
-    /// Compares as often as `contains`, moves the elements after it, and takes no memory.
+    /// Compares as often as `contains`, moves the elements after the removed one, and takes no
+    /// memory.
     ///
     /// ```
     /// assert!(rt; names.remove_by("ada"));

@@ -117,9 +117,9 @@ impl<T: Ord + MadeWith<A> + Drop, const N: usize, A: Allocator + Copy> VecSet<T,
     /// The set of the elements of a list that may be in any order. Of equal elements the last
     /// one of the list is kept, as if each were inserted in turn. The elements are moved.
     ///
-    /// Sorts in the place of the list, and compares `O(n * log(n))` times. Takes memory for the
-    /// sort where there are more than 20, from the allocator of the list, and where more than `N`
-    /// are left; on refusal it drops the elements.
+    /// Sorts the list in place, with `O(n * log(n))` comparisons. Takes memory for the sort where
+    /// there are more than 20, from the allocator of the list, and where more than `N` are left; on
+    /// refusal it drops the elements.
     ///
     /// ```
     /// let primes: VecSet<u32, 4> = VecSet::from_unsorted(alloc, vec![in alloc; 5, 2, 3, 2]?)?;

@@ -22,7 +22,7 @@ use vc_merge::moving::SiftState;
 use vc_merge::parts::{PartsState, open_gap};
 use vc_merge::states::append_clones;
 
-/// Moves to the front of the left list what is in it alone or, if `BOTH`, what is in both. Answers
+/// Moves to the front of the left list what is only in it or, if `BOTH`, what is in both. Answers
 /// how many they are.
 fn sift<const BOTH: bool, T: Ord>(list: &mut [T], that: &[T]) -> usize
     requires left_ascends { Ascends T.cmp list.old }
@@ -35,7 +35,7 @@ fn sift<const BOTH: bool, T: Ord>(list: &mut [T], that: &[T]) -> usize
     state.kept()
 }
 
-/// Moves to the front of a list what is in one of its two parts alone and, if `BOTH`, the left one
+/// Moves to the front of a list what is in only one of its two parts and, if `BOTH`, the left one
 /// of what is in both. The parts are its first `end` elements and those from `next` on. Answers how
 /// many they are.
 fn join<const BOTH: bool, T: Ord>(list: &mut [T], end: usize, next: usize) -> usize
@@ -51,8 +51,8 @@ fn join<const BOTH: bool, T: Ord>(list: &mut [T], end: usize, next: usize) -> us
     state.kept()
 }
 
-/// Replaces the left list by what is in either list alone and, if `BOTH`, the left one of what is
-/// in both. All elements are moved. The only allocation comes before the first move.
+/// Replaces the left list by what is in only one of the lists and, if `BOTH`, the left one of what
+/// is in both. All elements are moved. The only allocation comes before the first move.
 fn absorb<
     const BOTH: bool,
     T: Ord + MadeWith<A> + Drop,
@@ -121,8 +121,8 @@ impl<T: Ord + MadeWith<A> + Drop, const N: usize, A: Allocator + Copy> VecSet<T,
         absorb::<true, _, _, _, _>(&mut self.elements, that.into_inner())
     }
 
-    /// Keeps what is in exactly one of the sets: drops what is in both, and moves in what is in the
-    /// other set alone.
+    /// Keeps what is in exactly one of the sets: drops what is in both, and moves in what is only
+    /// in the other set.
     ///
     /// It allocates at most once, and can't be refused where both sets fit together: then it
     /// allocates only if both are long and little room is left. It makes at most as many
@@ -233,7 +233,7 @@ impl<T: Ord + Clone + MadeWith<A> + Drop, const N: usize, A: Allocator + Copy> V
     }
 
     /// Keeps what is in exactly one of the sets: drops what is in both, and adds clones of what is
-    /// in the other set alone.
+    /// only in the other set.
     ///
     /// It allocates at most once, and can't be refused where both sets fit together: then it
     /// allocates only if both are long and little room is left. It makes at most as many

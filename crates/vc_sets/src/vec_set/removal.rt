@@ -16,7 +16,8 @@ use vc_merge::search::find;
 impl<T: Ord + MadeWith<A> + Drop, const N: usize, A: Allocator + Copy> VecSet<T, N, A> {
     /// Removes and drops the element that is equal to `that`, and answers whether there was one.
     ///
-    /// Compares as often as `contains`, moves the elements after it, and takes no memory.
+    /// Compares as often as `contains`, moves the elements after the removed one, and takes no
+    /// memory.
     pub fn remove(&mut self, that: &T) -> bool
         ensures answer { result ≡ member T.cmp self.old that.now }
         ensures members { (x : T) → member T.cmp self.new x

@@ -35,8 +35,9 @@ pub(super) trait Combine<V, X> {
         ensures { IfOk result (may self.now left.now right.now) };
 }
 
-/// Two maps that are combined, as pairs and defaults, and what their join asks at a key: a map that
-/// lacks it has its default there, and an answer that equals the default of the result is left out.
+/// Two maps that are combined, as pairs and defaults, and what their join asks at a key. A map that
+/// lacks the key has its default there. An answer that equals the default of the result is left
+/// out.
 #[derive(Drop)]
 pub(super) struct Combination<'q, K, V, X, C> {
     left: &'q [(K, V)],

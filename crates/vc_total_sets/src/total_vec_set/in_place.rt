@@ -12,7 +12,7 @@ use std::default::MadeWith;
 use vc_sets::vec_set::VecSet;
 
 /// Replaces the left list by the result of `op` on two lists. It can be refused only where `op`
-/// keeps what is in either list alone.
+/// keeps what is in only one of the lists.
 #[inline]
 fn assign_list<T: Ord + MadeWith<A> + Drop, const N: usize, A: Allocator + Copy>(
     list: &mut VecSet<T, N, A>,

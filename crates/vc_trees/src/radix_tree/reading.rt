@@ -132,7 +132,7 @@ pub trait AbstractRadixTree<K: TKey, V: TValue>: RadixNode<K, V> {
     /// children of each node on the way.
     ///
     /// ```
-    /// // The handler of the longest route, and what is left of the path behind it.
+    /// // The handler of the longest route, and what is left of the path after it.
     /// let (length, handler) = routes.get_longest(path)?;
     /// handler.call(&path[length..])
     /// ```
@@ -199,7 +199,7 @@ pub trait AbstractRadixTree<K: TKey, V: TValue>: RadixNode<K, V> {
     /// children of each node on the way. Goes down to `key`, and from there to the answer twice.
     ///
     /// ```
-    /// // The page behind the last key that was shown.
+    /// // The page after the last key that was shown.
     /// let next = tree.next_after(shown)?;
     /// ```
     final fn next_after(&self, key: &[K]) -> Result<Option<(Vec<K>, &V)>, AllocError>

@@ -113,13 +113,14 @@ pub trait AbstractRadixTreeMut<K: TKey, V: TValue>: CloneTree<K, V> + AbstractRa
     /// A key that is not bound costs only the look-up: it takes no memory, and nothing is copied.
     /// In a [`RadixTree`] it never takes memory. In an [`ArcRadixTree`] children on the way that
     /// another tree shares are copied first. Fails only where memory for these is refused, or the
-    /// clone of a value in them. The closure is then not called, and the tree is unchanged.
+    /// clone of a value in them. The closure is then not called, and the tree has the same nodes,
+    /// and binds what it bound.
     ///
     /// Compares each component of the key at most once, except for two halving searches among the
     /// children of each node on the way.
     ///
     /// ```
-    /// // The article is added to the set that stands in the index.
+    /// // The article is added to the set in the index.
     /// let added = index.update(word, |articles| articles.insert(article))?;
     /// ```
     final fn update<R: Drop, F: Fn(&mut V) -> R>(
@@ -181,9 +182,9 @@ pub trait AbstractRadixTreeMut<K: TKey, V: TValue>: CloneTree<K, V> + AbstractRa
     /// their values.
     ///
     /// A key that is not bound costs only the look-up: it takes no memory, and nothing is copied.
-    /// Fails only where memory is refused, for the merged prefix of a node that is left with one
-    /// child or for the copy of shared children, or where the clone of a value in that copy is
-    /// refused. The tree then has the same nodes, and binds what it bound.
+    /// Fails only where memory is refused, or the clone of a value in copied children. Memory may
+    /// be needed for the merged prefix of a node that is left with one child, and for the copy of
+    /// shared children. On failure the tree has the same nodes, and binds what it bound.
     ///
     /// Compares each component of the key at most once, except for two halving searches among the
     /// children of each node on the way.
@@ -217,11 +218,11 @@ pub trait AbstractRadixTreeMut<K: TKey, V: TValue>: CloneTree<K, V> + AbstractRa
 
     /// Removes all keys that begin with `prefix`, with their values. The other keys keep theirs.
     ///
-    /// Where no key begins with it, it only walks down to where one would be: it takes no memory,
-    /// and nothing is copied. The same holds where all keys begin with it. Fails only where memory
-    /// is refused, for the merged prefix of a node that is left with one child or for the copy of
-    /// shared children, or where the clone of a value in that copy is refused. The tree then has
-    /// the same nodes, and binds what it bound.
+    /// Where no key begins with it, the call only walks down to where one would be: it takes no
+    /// memory, and nothing is copied. The same holds where all keys begin with it. Fails only where
+    /// memory is refused, or the clone of a value in copied children. Memory may be needed for the
+    /// merged prefix of a node that is left with one child, and for the copy of shared children. On
+    /// failure the tree has the same nodes, and binds what it bound.
     ///
     /// Compares each component of the prefix at most once, except for two halving searches among
     /// the children of each node on the way. What is removed is dropped, node by node.
@@ -248,12 +249,12 @@ pub trait AbstractRadixTreeMut<K: TKey, V: TValue>: CloneTree<K, V> + AbstractRa
     /// The keys are below one node, which is moved with a longer prefix: nothing below it is
     /// touched. The components before the node's own prefix are those of `prefix`.
     ///
-    /// Where no key begins with it, it only walks down to where one would be: it takes no memory,
-    /// and nothing is copied. The same holds where all keys begin with it. Fails where memory is
-    /// refused: for the prefix of the answer's root, where that has more than 16 components; for
-    /// the merged prefix of a node that is left with one child; or for the copy of shared children.
-    /// Otherwise it fails only where the clone of a value in that copy is refused. The tree then
-    /// has the same nodes, and binds what it bound.
+    /// Where no key begins with it, the call only walks down to where one would be: it takes no
+    /// memory, and nothing is copied. The same holds where all keys begin with it. Fails only where
+    /// memory is refused, or the clone of a value in copied children. Memory may be needed for the
+    /// prefix of the answer's root, where that has more than 16 components, for the merged prefix
+    /// of a node that is left with one child, and for the copy of shared children. On failure the
+    /// tree has the same nodes, and binds what it bound.
     ///
     /// Compares each component of the prefix at most once, except for two halving searches among
     /// the children of each node on the way.

@@ -19,7 +19,7 @@ permit !- a => line 1: fault 3: not a number or key
 permit a !a => line 1: fault 3: not a number or key
 ";
 
-/// Lines that begin with `prefix`. In the last two the count of words is judged before the
+/// Lines that begin with `prefix`. In the last two the count of words is checked before the
 /// operation, and the operation before the lists.
 const PREFIXES: &str = "\
 prefix remove a,ab,abc,b a,!ab => ab,abc,b

@@ -2,7 +2,7 @@
 use super::check_lines;
 use std::test::Fail;
 
-/// Operations on total sets, their tests, and faults, of which the last is that of a `set` line.
+/// Operations on total sets, their tests, and faults, the last of which is that of a `set` line.
 const TOTALS: &str = "\
 total minus !1 2 => !1,2
 total or !1 1 => !-

@@ -2,8 +2,8 @@
 use super::check_lines;
 use std::test::Fail;
 
-/// Commands on trees, and faults. In the last four the count of words is judged first, and then the
-/// words from the left.
+/// Commands on trees, and faults. In the last four the count of words is checked first, and then
+/// the words from the left.
 const TREES: &str = "\
 tree b,a,b => a,b
 tree - => -
