@@ -2,12 +2,14 @@
 --     listed-test, part-walk        the walk of the keys at which a test holds, where they are one part of all
 --     IsCut        a list of pairs that a key cuts
 --     walk-above, walk-below, walk-not_below        its parts are walks
+--     walk-until        so are the pairs up to the first whose key is not less
 use Rattle.std.proofs.Common.{◌≡◌, [], ◌∷◌, ◌++◌, List, Option, None, Some, Bool, true, false, ◌⊎◌, inl, inr, refl, sym, ap}
 use Rattle.std.proofs.Common.{◌∙◌, cond, subst, append_assoc, append-nil, arith, true≢false}
+use Rattle.std.proofs.lemmas.List.Sums.{take_while-cons}
 use Rattle.std.proofs.lemmas.Map.Keys.{sorted_tail}
 use Rattle.std.specs.Cmp.{IsTotalOrder}
 use Rattle.std.specs.Cmp.Lexicographic.{slice_cmp, lists_total}
-use Rattle.std.specs.List.{AllByRecursion}
+use Rattle.std.specs.List.{AllByRecursion, take_while}
 use Rattle.std.specs.List.Sorted.{IsStrictlySortedBy}
 use Rattle.std.specs.Map.{keys_of}
 use Rattle.std.specs.Ordering.{is_ge, is_gt, is_lt}
@@ -153,3 +155,63 @@ module _ {K V : Type 0} (cmp : K → K → Ordering) where
         (subst (IsWalk cmp f) is w) (stand-tested is_ge Less key lower c.less)
         (all-append (λ b. is_ge (slice_cmp cmp b.0 key) ≡ true) middle upper (stand-tested is_ge Equal key middle c.equal)
         (stand-tested is_ge Greater key upper c.greater)) tt
+
+  -- ---- the pairs up to the first whose key is not less
+
+  module _ (o : IsTotalOrder cmp) (key : List K) where
+    abbrev comes_before : List K × V → Bool
+    comes_before b = is_lt (slice_cmp cmp b.0 key)
+
+    -- what ascends after a key that is not less is not less
+    none-before : (j : List K) → is_lt (slice_cmp cmp j key) ≡ false → (l : List (List K × V))
+        → AllByRecursion (λ k. slice_cmp cmp j k ≡ Less) (keys_of l) → AllByRecursion (λ b. comes_before b ≡ false) l
+    none-before j h [] a = tt
+    none-before j h (b ∷ l) a = (by (slice_cmp cmp b.0 key) refl, none-before j h l a.1)
+      where
+        by : (s : Ordering) → slice_cmp cmp b.0 key ≡ s → is_lt s ≡ false
+        by Less e = absurd (true≢false (sym (ap is_lt ((lists_total o).trans j b.0 key a.0 e)) ∙ h))
+        by Equal e = refl
+        by Greater e = refl
+
+    -- an ascending list in two parts
+    record IsParted (l : List (List K × V)) : Type 0 where
+      others : List (List K × V)
+      parts : l ≡ take_while comes_before l ++ others
+      before : AllByRecursion (λ b. comes_before b ≡ true) (take_while comes_before l)
+      after : AllByRecursion (λ b. comes_before b ≡ false) others
+
+    -- one more before it
+    parted-more : (b : List K × V) (l : List (List K × V)) → IsParted l
+        → AllByRecursion (λ k. slice_cmp cmp b.0 k ≡ Less) (keys_of l) → IsParted (b ∷ l)
+    parted-more b l rest a = by (comes_before b) refl
+      where
+        cons : (t : Bool) → comes_before b ≡ t
+            → take_while comes_before (b ∷ l) ≡ cond t (b ∷ take_while comes_before l) []
+        cons t e =
+            take_while-cons comes_before b l ∙ ap (λ t. cond t (b ∷ take_while comes_before l) []) e
+
+        by : (t : Bool) → comes_before b ≡ t → IsParted (b ∷ l)
+        by true e = record {
+          others = rest.others;
+          parts = ap (λ m. b ∷ m) rest.parts ∙ ap (λ m. m ++ rest.others) (sym (cons true e));
+          before = subst (AllByRecursion (λ c. comes_before c ≡ true)) (sym (cons true e)) (e, rest.before);
+          after = rest.after;
+        }
+        by false e = record {
+          others = b ∷ l;
+          parts = ap (λ m. m ++ b ∷ l) (sym (cons false e));
+          before = subst (AllByRecursion (λ c. comes_before c ≡ true)) (sym (cons false e)) tt;
+          after = (e, none-before b.0 e l a);
+        }
+
+    parted : (l : List (List K × V)) → IsStrictlySortedBy (slice_cmp cmp) (keys_of l) → IsParted l
+    unfolding IsStrictlySortedBy
+    parted [] a = record { others = []; parts = refl; before = tt; after = tt }
+    parted (b ∷ l) a = parted-more b l (parted l a.1) a.0
+
+    pub walk-until : (f : List K → Option V) (l : List (List K × V)) → IsWalk cmp f l
+        → IsWalk cmp (below cmp f key) (take_while comes_before l)
+    walk-until f l w =
+        let p = parted l w.ascends in
+        part-walk (λ k. is_lt (slice_cmp cmp k key)) (λ j k h. ap is_lt ((lists_total o).congr j k key (tied cmp j k h))) f
+        [] (take_while comes_before l) p.others (subst (IsWalk cmp f) p.parts w) tt p.before p.after

@@ -13,3 +13,4 @@ pub mod Going
 pub mod Besides
 pub mod Sought
 pub mod WalkingFrom
+pub mod PathKeys

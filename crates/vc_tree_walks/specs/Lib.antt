@@ -1,10 +1,13 @@
 pub mod Left
 pub mod IterLeft
+pub mod RangeLeft
 pub mod ValuesLeft
 pub mod OwnedLeft
 pub mod Ends
 pub mod Towards
 pub mod Folding
 pub mod Bounds
+pub mod Prefixes
+pub mod PrefixesLeft
 pub mod Standing
 pub mod Beside

@@ -152,7 +152,7 @@ impl<'a, K: TKey, V: TValue + 'a, T: RadixNode<K, V>> Iter<'a, K, V, T> {
     }
 
     /// Leaves nothing.
-    fn stop(&mut self)
+    pub(crate) fn stop(&mut self)
         ensures left { pairs_left T.tree self.new ≡ [] }
         ensures work { work_left T.tree self.new ≡ 0 }
     {

@@ -12,6 +12,8 @@ pub mod folding;
 pub mod iter;
 pub mod key;
 pub mod owned;
+pub mod prefixes;
+pub mod range;
 pub mod scan;
 mod seeking;
 mod turn;
