@@ -23,5 +23,7 @@ pub use vc_tree_nodes::shared::ArcRadixTree;
 pub use vc_tree_walks::iter::Iter;
 pub use vc_tree_walks::key::IterKey;
 pub use vc_tree_walks::owned::ObjAndIter;
+pub use vc_tree_walks::prefixes::Prefixes;
+pub use vc_tree_walks::range::Range;
 pub use vc_tree_walks::values::Values;
 pub use writing::AbstractRadixTreeMut;

@@ -97,6 +97,9 @@ pub use Rattle.vc_tree_walks.specs.Folding
 pub use Rattle.vc_tree_walks.specs.IterLeft
 pub use Rattle.vc_tree_walks.specs.Left
 pub use Rattle.vc_tree_walks.specs.OwnedLeft
+pub use Rattle.vc_tree_walks.specs.Prefixes
+pub use Rattle.vc_tree_walks.specs.PrefixesLeft
+pub use Rattle.vc_tree_walks.specs.RangeLeft
 pub use Rattle.vc_tree_walks.specs.ValuesLeft
 pub use Rattle.vc_trees.specs.Commanded
 pub use Rattle.vc_trees.specs.declared.commands.TreeCommand

@@ -77,5 +77,8 @@ pub use Rattle.vc_tree_walks.specs.Folding.{CanFold, IsStopped, TurnFails, Turns
 pub use Rattle.vc_tree_walks.specs.IterLeft.{pairs_left as tree_pairs_left, work_left}
 pub use Rattle.vc_tree_walks.specs.Left.{Walks}
 pub use Rattle.vc_tree_walks.specs.OwnedLeft.{WalksClones, held_left, held_work}
+pub use Rattle.vc_tree_walks.specs.Prefixes.{bound_prefixes}
+pub use Rattle.vc_tree_walks.specs.PrefixesLeft.{prefixes_left, prefixes_work}
+pub use Rattle.vc_tree_walks.specs.RangeLeft.{range_left, range_work}
 pub use Rattle.vc_tree_walks.specs.ValuesLeft.{values_left, values_work}
 pub use Rattle.vc_trees.specs.Commanded.{command_of}

@@ -77,8 +77,8 @@ pub mod btree_map {
 pub mod radix_tree {
     pub use vc_trees::commands::{TreeCommand, run};
     pub use vc_trees::radix_tree::{
-        AbstractRadixTree, AbstractRadixTreeMut, ArcRadixTree, Iter, IterKey, ObjAndIter,
-        RadixNode, RadixTree, TKey, TValue, Values,
+        AbstractRadixTree, AbstractRadixTreeMut, ArcRadixTree, Iter, IterKey, ObjAndIter, Prefixes,
+        RadixNode, RadixTree, Range, TKey, TValue, Values,
     };
 }
 

@@ -23,6 +23,9 @@ ghost use Rattle.vc_tree_walks.specs.Ends.{IsGreatestPair, IsLeastPair};
 ghost use Rattle.vc_tree_walks.specs.Folding.{CanFold, IsStopped, Turns};
 ghost use Rattle.vc_tree_walks.specs.IterLeft.{pairs_left};
 ghost use Rattle.vc_tree_walks.specs.OwnedLeft.{held_left};
+ghost use Rattle.vc_tree_walks.specs.Prefixes.{bound_prefixes};
+ghost use Rattle.vc_tree_walks.specs.PrefixesLeft.{prefixes_left};
+ghost use Rattle.vc_tree_walks.specs.RangeLeft.{range_left};
 ghost use Rattle.vc_tree_walks.specs.ValuesLeft.{values_left};
 
 use crate::radix_tree::writing::AbstractRadixTreeMut;
@@ -33,6 +36,8 @@ use vc_tree_nodes::reading::{RadixNode, TKey, TValue};
 use vc_tree_nodes::{descent, reading};
 use vc_tree_walks::iter::Iter;
 use vc_tree_walks::owned::ObjAndIter;
+use vc_tree_walks::prefixes::Prefixes;
+use vc_tree_walks::range::Range;
 use vc_tree_walks::values::Values;
 use vc_tree_walks::{beside, counting, ends, folding, scan, walks};
 
@@ -144,6 +149,27 @@ pub trait AbstractRadixTree<K: TKey, V: TValue>: RadixNode<K, V> {
         ensures within { IfSome result (λ b. b.0 ≤ length path.now) }
     {
         descent::get_longest(self, path)
+    }
+
+    /// All keys of the tree that are prefixes of the path, the shortest first: of each how many
+    /// components of the path it is, and its value. A key is a prefix of itself. Takes no memory,
+    /// and neither does a step.
+    ///
+    /// The last one is what [`get_longest`](AbstractRadixTree::get_longest) answers. All steps
+    /// together compare each component of the path at most once, but for a halving search among the
+    /// children of each node on the way.
+    ///
+    /// ```
+    /// // The settings of each folder above a file, the outermost first.
+    /// for (length, settings) in folders.prefixes_of(path) {
+    ///     ..
+    /// }
+    /// ```
+    final fn prefixes_of<'a>(&'a self, path: &'a [K]) -> Prefixes<'a, K, V, Self>
+        ensures { prefixes_left K.cmp Self.tree result
+            ≡ bound_prefixes (lookup K.cmp (Self.tree self.now)) path.now }
+    {
+        walks::prefixes_of(self, path)
     }
 
     /// The least key of the tree and its value, or none where the tree is empty.
@@ -308,6 +334,33 @@ pub trait AbstractRadixTree<K: TKey, V: TValue>: RadixNode<K, V> {
             (pairs_left Self.tree walk)) }
     {
         walks::iter_from(self, key)
+    }
+
+    /// The pairs of the tree whose keys are not less than `from` and less than `to`, by ascending
+    /// keys. Where `to` is not greater than `from` there are none.
+    ///
+    /// Goes down to where `from` stands, takes memory on the way, and fails as
+    /// [`iter_from`](AbstractRadixTree::iter_from) does. A step takes memory as one of `iter` does,
+    /// and compares its key with `to`. What comes after the first key that is not less than `to` is
+    /// not walked.
+    ///
+    /// ```
+    /// // The names from `m` up to `n`, without `n`.
+    /// for item in tree.range(b"m", b"n")? {
+    ///     let (key, value) = item?;
+    ///     ..
+    /// }
+    /// ```
+    final fn range<'a>(
+        &'a self,
+        from: &[K],
+        to: &'a [K],
+    ) -> Result<Range<'a, K, V, Self>, AllocError>
+        ensures { let f = not_below K.cmp (lookup K.cmp (Self.tree self.now)) from.now in
+            IfOk result (λ walk. IsWalk K.cmp (below K.cmp f to.now)
+            (range_left K.cmp Self.tree walk)) }
+    {
+        walks::range(self, from, to)
     }
 
     /// The values of the tree, in the order of their keys, which is that of `iter`. Takes no
