@@ -36,6 +36,7 @@ use Rattle.vc_tree_removal.specs.Without.{AllBegin, IsWithout, IsWithoutBelow}
 use Rattle.vc_tree_walks.specs.Bounds.{above, below, not_below}
 use Rattle.vc_tree_walks.specs.Ends.{IsGreatestPair, IsLeastPair}
 use Rattle.vc_tree_walks.specs.Folding.{IsStopped, TurnFails}
+use Rattle.vc_tree_walks.specs.Prefixes.{bound_prefixes}
 
 -- ---- keys and values
 
@@ -256,6 +257,15 @@ below_ab = (refl, refl)
 not_below_a : (not_below {V = ℕ} by_letter (lookup by_letter (a_and_ab 1 2)) (a ∷ []) (a ∷ []) ≡ Some 1)
     × (not_below {V = ℕ} by_letter (lookup by_letter (a_and_ab 1 2)) (a ∷ []) (a ∷ b ∷ []) ≡ Some 2)
 not_below_a = (refl, refl)
+
+-- from a up to ab there is a alone
+from_a_up_to_ab : (below {V = ℕ} by_letter (not_below by_letter (lookup by_letter (a_and_ab 1 2)) (a ∷ [])) (a ∷ b ∷ []) (a ∷ []) ≡ Some 1)
+    × (below {V = ℕ} by_letter (not_below by_letter (lookup by_letter (a_and_ab 1 2)) (a ∷ [])) (a ∷ b ∷ []) (a ∷ b ∷ []) ≡ None)
+from_a_up_to_ab = (refl, refl)
+
+-- along abb there are a and ab
+prefixes_of_abb : bound_prefixes {V = ℕ} (lookup by_letter (a_and_ab 1 2)) (a ∷ b ∷ b ∷ []) ≡ (1, 1) ∷ (2, 2) ∷ []
+prefixes_of_abb = refl
 
 is_greatest_pair : IsGreatestPair {V = ℕ} by_letter (lookup by_letter (a_and_ab 1 2)) (a ∷ b ∷ [], 2)
 is_greatest_pair = record {

@@ -3,12 +3,17 @@
 ghost use Rattle.std.specs.Prelude.{◌≡◌, ◌≤◌, ◌⊎◌, ◌+◌, ◌-◌, ◌^◌, ℕ, List, None, IfErr, IfOk};
 ghost use Rattle.std.specs.Prelude.{Contains, IsSome, IsTrue, MatchOption, length, map, max, min};
 ghost use Rattle.std.specs.List.{fold};
+ghost use Rattle.std.specs.Map.Iter.{TakesFirst};
 ghost use Rattle.std.specs.Ordering.{nat_cmp};
+ghost use Rattle.vec_collections.specs.Bounds.{below, not_below};
 ghost use Rattle.vec_collections.specs.Ends.{IsGreatestPair, IsLeastPair};
 ghost use Rattle.vec_collections.specs.IterLeft.{pairs_left, work_left};
 ghost use Rattle.vec_collections.specs.Left.{Walks};
 ghost use Rattle.vec_collections.specs.Map.{lookup};
 ghost use Rattle.vec_collections.specs.OwnedLeft.{held_left, held_work, WalksClones};
+ghost use Rattle.vec_collections.specs.Prefixes.{bound_prefixes};
+ghost use Rattle.vec_collections.specs.PrefixesLeft.{prefixes_left};
+ghost use Rattle.vec_collections.specs.RangeLeft.{range_left, range_work};
 ghost use Rattle.vec_collections.specs.Under.{under};
 ghost use Rattle.vec_collections.specs.ValuesLeft.{values_left, values_work};
 ghost use Rattle.vec_collections.specs.Walk.{IsWalk, walk};
@@ -16,7 +21,7 @@ ghost use Rattle.facade_user_tests.specs.declared.walks.Uncounted.TheVariants.{N
 
 use std::alloc::AllocError;
 use vec_collections::radix_tree::{
-    AbstractRadixTree, Iter, IterKey, ObjAndIter, TKey, TValue, Values,
+    AbstractRadixTree, Iter, IterKey, ObjAndIter, Prefixes, Range, TKey, TValue, Values,
 };
 
 /// The pairs of a tree by ascending keys, and its values, which are those of the pairs in their
@@ -39,6 +44,50 @@ pub fn pairs_below<'a, K: TKey, V: TValue + 'a, T: AbstractRadixTree<K, V>>(
         (pairs_left T.tree result) }
 {
     tree.scan_prefix(folder)
+}
+
+/// The names from one on, up to another one, each with its port.
+pub fn names_between<'a, T: AbstractRadixTree<u8, u32>>(
+    ports: &'a T,
+    first: &[u8],
+    end: &'a [u8],
+) -> Result<Range<'a, u8, u32, T>, AllocError>
+    ensures { let port_of = not_below nat_cmp (lookup nat_cmp (T.tree ports.now)) first.now in
+        IfOk result (λ walk. IsWalk nat_cmp (below nat_cmp port_of end.now)
+        (range_left nat_cmp T.tree walk)) }
+{
+    ports.range(first, end)
+}
+
+/// The next of them.
+pub fn next_between<'a, T: AbstractRadixTree<u8, u32>>(
+    walk: &mut Range<'a, u8, u32, T>,
+) -> Option<Result<(IterKey<u8>, &'a u32), AllocError>>
+    ensures { Walks (λ item. (item.0, item.1.now)) (range_left nat_cmp T.tree)
+        (range_work T.tree) walk.old result walk.new }
+{
+    walk.next()
+}
+
+/// The settings of each folder that a path lies in, the outermost first.
+pub fn settings_above<'a, K: TKey, V: TValue + 'a, T: AbstractRadixTree<K, V>>(
+    folders: &'a T,
+    path: &'a [K],
+) -> Prefixes<'a, K, V, T>
+    ensures { prefixes_left K.cmp T.tree result
+        ≡ bound_prefixes (lookup K.cmp (T.tree folders.now)) path.now }
+{
+    folders.prefixes_of(path)
+}
+
+/// The next of them.
+pub fn next_above<'a, T: AbstractRadixTree<u8, u32>>(
+    walk: &mut Prefixes<'a, u8, u32, T>,
+) -> Option<(usize, &'a u32)>
+    ensures { TakesFirst (λ item. (item.0, item.1.now)) (prefixes_left nat_cmp T.tree walk.old)
+        result (prefixes_left nat_cmp T.tree walk.new) }
+{
+    walk.next()
 }
 
 /// The pairs of a tree that the walk owns, each with a clone of its value.

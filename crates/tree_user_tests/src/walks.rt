@@ -172,6 +172,89 @@ fn walks_ascend(rt: HostRuntime) {
     }
 }
 
+/// The keys of a tree, two keys, and what the walk from the one up to the other gives.
+type Span = (
+    &'static [&'static str],
+    &'static str,
+    &'static str,
+    &'static str,
+);
+
+const SPANS: [Span; 8] = [
+    (&[], "", "z", ""),
+    (&["", "a"], "", "a", "1"),
+    (&["", "a"], "", "", ""),
+    (&["b", "a", "ab"], "a", "b", "2a 3ab"),
+    (&["b", "a", "ab"], "aa", "ba", "3ab 1b"),
+    (&["b", "a", "ab"], "b", "a", ""),
+    (&["aabbcc", "aabb", "aabbee"], "aabbc", "aabbd", "1aabbcc"),
+    (&["abx", "aby", "b", "abz", "a"], "aby", "z", "2aby 4abz 3b"),
+];
+
+/// Whether the walk of the tree of the row from its first key up to its second gives what the row
+/// says.
+fn walks_between<T: AbstractRadixTreeMut<u8, u32>>(
+    alloc: Global,
+    (keys, from, to, pairs): Span,
+) -> Result<bool, AllocError> {
+    let tree = tree_of::<T>(alloc, keys)?;
+    let mut text = String::new(alloc);
+    for item in tree.range(from.as_bytes(), to.as_bytes())? {
+        let (key, value) = item?;
+        put_pair(&mut text, key.as_ref(), *value)?;
+    }
+    Ok(text.as_str() == pairs)
+}
+
+#[test]
+fn walks_end_before_a_key(rt: HostRuntime) {
+    for span in SPANS {
+        let (_, from, to, _) = span;
+        let plain = walks_between::<RadixTree<u8, u32>>(rt.alloc(), span);
+        holds(&rt, &(from, to), plain);
+        let shared = walks_between::<ArcRadixTree<u8, u32>>(rt.alloc(), span);
+        holds(&rt, &(from, to), shared);
+    }
+}
+
+/// The keys of a tree, a path, and the keys that are prefixes of it.
+type Climb = (&'static [&'static str], &'static str, &'static str);
+
+const CLIMBS: [Climb; 8] = [
+    (&[], "ab", ""),
+    (&[""], "", "1"),
+    (&["", "a", "ab", "b"], "abc", "1 2a 3ab"),
+    (&["", "a", "ab", "b"], "a", "1 2a"),
+    (&["aabbcc", "aabb", "aabbee"], "aabbccdd", "2aabb 1aabbcc"),
+    (&["aabbcc", "aabb", "aabbee"], "aabbe", "2aabb"),
+    (&["aabbcc", "aabbee"], "aabb", ""),
+    (&["abx", "aby", "b", "abz", "a"], "abyy", "5a 2aby"),
+];
+
+/// Whether the keys of the tree of the row that are prefixes of its path are those that it says.
+fn climbs<T: AbstractRadixTreeMut<u8, u32>>(
+    alloc: Global,
+    (keys, path, pairs): Climb,
+) -> Result<bool, AllocError> {
+    let tree = tree_of::<T>(alloc, keys)?;
+    let mut text = String::new(alloc);
+    for (length, value) in tree.prefixes_of(path.as_bytes()) {
+        let key = path.as_bytes().get(..length).unwrap_or(b"?");
+        put_pair(&mut text, key, *value)?;
+    }
+    Ok(text.as_str() == pairs)
+}
+
+#[test]
+fn prefixes_of_a_path_come_in_turn(rt: HostRuntime) {
+    for climb in CLIMBS {
+        let plain = climbs::<RadixTree<u8, u32>>(rt.alloc(), climb);
+        holds(&rt, &climb.1, plain);
+        let shared = climbs::<ArcRadixTree<u8, u32>>(rt.alloc(), climb);
+        holds(&rt, &climb.1, shared);
+    }
+}
+
 /// Whether the walks of a tree of another crate give its pair.
 fn walks_a_word(alloc: Global) -> Result<bool, AllocError> {
     let word = Word::new(b"abc".to_vec(alloc)?, 7);
