@@ -35,9 +35,11 @@ impl Index {
             → tagged self.new t a ≡ (tagged self.old t a || (tag == t && article == a))) }
         ensures err { OnErr result ((t : ℕ) (a : ℕ) → tagged self.new t a ≡ tagged self.old t a) }
     {
-        let mut articles = self.articles(alloc, tag)?;
-        articles.insert(article)?;
-        self.by_tag.insert(tag, articles)?;
+        if let Some(articles) = self.by_tag.get_mut(&tag) {
+            articles.insert(article)?;
+            return Ok(());
+        }
+        self.by_tag.insert(tag, Articles::single(alloc, article)?)?;
         Ok(())
     }
 
