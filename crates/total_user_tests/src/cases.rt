@@ -321,15 +321,6 @@ const SINGLES: [Single; 4] = [
     },
 ];
 
-/// Whether what is read of the set is as the row says.
-fn is_read(alloc: Global, set: &Numbers, row: &Single) -> bool {
-    let (list, is_negated) = row.set;
-    set.is_empty() == (*set == Numbers::empty(alloc))
-        && set.is_all() == (*set == Numbers::all(alloc))
-        && list.is_empty() == (*set == Numbers::constant(alloc, is_negated))
-        && set.contains(&2) == (list.contains(&2) != is_negated)
-}
-
 /// A clone of the set, with 3.
 fn with_three(set: &Numbers) -> Result<Numbers, AllocError> {
     let mut with_three = set.clone()?;
@@ -361,11 +352,11 @@ fn is_printed(alloc: Global, set: &Numbers, text: &str) -> Result<bool, AllocErr
 /// Whether all of that holds of the set of the row.
 fn one_agrees(alloc: Global, row: &Single) -> Result<bool, AllocError> {
     let set = numbers(alloc, row.set)?;
-    Ok(is_read(alloc, &set, row) && is_changed(&set, row)? && is_printed(alloc, &set, row.text)?)
+    Ok(is_changed(&set, row)? && is_printed(alloc, &set, row.text)?)
 }
 
 #[test]
-fn one_set_is_read_and_changed(rt: HostRuntime) -> Result<(), Fail> {
+fn one_set_is_changed_and_printed(rt: HostRuntime) -> Result<(), Fail> {
     for row in &SINGLES {
         assert!(rt; one_agrees(rt.alloc(), row)?, "{}", row.text);
     }
