@@ -101,17 +101,18 @@ fn apply_change<'a, T: AbstractRadixTreeMut<u8, Counted<'a>>>(
     }
 }
 
-/// The result of each change, at each of the keys.
-const CHANGES: [(Change, Row); 9] = [
-    (Change::Union, [0, 1, 2, 3, 7, 0]),
-    (Change::Intersection, [0, 1, 0, 3, 0, 0]),
-    (Change::Difference, [0, 0, 2, 0, 0, 0]),
-    (Change::Outer, [0, 7, 2, 0, 7, 0]),
-    (Change::Inner, [0, 7, 0, 0, 0, 0]),
-    (Change::Left, [0, 7, 2, 0, 0, 0]),
-    (Change::Remove, [0, 0, 0, 3, 0, 0]),
-    (Change::Retain, [0, 1, 2, 0, 0, 0]),
-    (Change::Prepend, [0, 0, 0, 0, 0, 1]),
+/// The result of each change, at each of the keys, and how many values it clones: of a plain
+/// tree, and of a shared one while a clone is held.
+const CHANGES: [(Change, Row, (u32, u32)); 9] = [
+    (Change::Union, [0, 1, 2, 3, 7, 0], (1, 3)),
+    (Change::Intersection, [0, 1, 0, 3, 0, 0], (0, 2)),
+    (Change::Difference, [0, 0, 2, 0, 0, 0], (0, 2)),
+    (Change::Outer, [0, 7, 2, 0, 7, 0], (1, 3)),
+    (Change::Inner, [0, 7, 0, 0, 0, 0], (0, 2)),
+    (Change::Left, [0, 7, 2, 0, 0, 0], (0, 2)),
+    (Change::Remove, [0, 0, 0, 3, 0, 0], (0, 2)),
+    (Change::Retain, [0, 1, 2, 0, 0, 0], (0, 2)),
+    (Change::Prepend, [0, 0, 0, 0, 0, 1], (0, 0)),
 ];
 
 /// The numbers of a changed tree, where no value of the left may be cloned.
@@ -135,7 +136,7 @@ fn are_dropped_once(left: &Tally, right: &Tally) -> bool {
 
 #[test]
 fn changes_clone_no_value_of_the_left(rt: HostRuntime) {
-    for (change, row) in CHANGES {
+    for (change, row, _) in CHANGES {
         let (left, right) = (Tally::new(), Tally::new());
         let plain = changed::<RadixTree<u8, Counted>>(rt.alloc(), change, &left, &right);
         same(&rt, &change, &plain, &Ok(row));
@@ -145,7 +146,7 @@ fn changes_clone_no_value_of_the_left(rt: HostRuntime) {
     }
 }
 
-/// How many clones are granted to the changes that are refused.
+/// The most clones that are granted to a change: as many as any of them takes.
 const GRANTED: u32 = 3;
 
 /// Changes a tree while a clone is held, where all clones of values except the first few are
@@ -166,26 +167,27 @@ fn changed_beside_clone<'a, T: AbstractRadixTreeMut<u8, Counted<'a>> + Clone>(
     Ok((is_refused, row_of(&tree), row_of(&kept)))
 }
 
-/// Whether that is the empty tree where the change was refused, and otherwise the changed one, with
-/// the clone unchanged.
-fn is_as_refused(outcome: (bool, Row, Row), row: Row) -> bool {
+/// Whether the change was refused exactly where too few clones are granted, and left the empty tree
+/// then and otherwise the changed one, with the clone unchanged.
+fn is_as_refused(outcome: (bool, Row, Row), row: Row, is_too_few: bool) -> bool {
     let (is_refused, left, kept) = outcome;
-    let expected = if is_refused { [0; KEYS.len()] } else { row };
-    left == expected && kept == [0, 1, 2, 3, 0, 0]
+    let expected = if is_too_few { [0; KEYS.len()] } else { row };
+    is_refused == is_too_few && left == expected && kept == [0, 1, 2, 3, 0, 0]
 }
 
-/// Whether that holds of both flavours, all values are dropped, and a shared tree whose values may
-/// not be cloned refuses all changes except a prepend.
+/// Whether that holds of both flavours.
 fn are_as_refused(
     alloc: Global,
-    (change, row): (Change, Row),
+    (change, row, clones): (Change, Row, (u32, u32)),
     granted: u32,
     tally: &Tally,
 ) -> Result<bool, AllocError> {
     let plain = changed_beside_clone::<RadixTree<u8, Counted>>(alloc, change, granted, tally)?;
     let shared = changed_beside_clone::<ArcRadixTree<u8, Counted>>(alloc, change, granted, tally)?;
-    let is_told = granted != 0 || shared.0 != matches!(change, Change::Prepend);
-    Ok(is_told && is_as_refused(plain, row) && is_as_refused(shared, row))
+    Ok(
+        is_as_refused(plain, row, granted < clones.0)
+            && is_as_refused(shared, row, granted < clones.1),
+    )
 }
 
 #[test]
