@@ -267,7 +267,9 @@ def tables_of(page, lines):
     if page == "docs/DEFINITIONS.md":
         return {"index of words": partial(index_of_words, lines)}
     if page == "docs/PERFORMANCE.md":
-        tables = {**tool("tables.py").tables(ROOT / "tools/bench/table.md"), **tables_in("tools/bench/rust.md")}
+        bench = tool("tables.py")
+        beside = {name: bench.beside_rust(lines) for name, lines in tables_in("tools/bench/rust.md").items()}
+        tables = {**bench.tables(ROOT / "tools/bench/table.md"), **beside}
         return {name: partial(iter, made) for name, made in tables.items()}
     return {}
 

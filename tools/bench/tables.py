@@ -1,7 +1,32 @@
-"""The tables of docs/PERFORMANCE.md, made of the table of the bench: tools/pages writes them."""
+"""The tables of docs/PERFORMANCE.md, made of the table of the bench: tools/pages writes them.
+
+The page shows the rows that decide which type to take; tools/bench/table.md has all.
+"""
 
 FRESH = ["union", "intersection", "difference", "symmetric difference"]
 SIZED = ["data", "sizes"]
+# Fresh sets are shown on these data, and all other rows of sets and maps at these sizes of random data.
+CASES = [
+    ("random", "8, 8"),
+    ("random", "64, 64"),
+    ("random", "1000, 1000"),
+    ("random", "100000, 100000"),
+    ("random", "1000, 100"),
+    ("random", "10, 100000"),
+    ("regular", "1000, 1000"),
+    ("runs of 64", "1000, 1000"),
+    ("disjoint", "1000, 1000"),
+    ("clustered", "1000, 100"),
+]
+SIZES = ["8, 8", "1000, 1000"]
+KEYS = "10000"
+
+
+def is_shown(row):
+    """Whether the page shows a row of sets or maps."""
+    if row["row"] in FRESH:
+        return (row["data"], row["sizes"]) in CASES
+    return row["data"] == "random" and row["sizes"] in SIZES
 
 
 def tables_of(path):
@@ -80,9 +105,18 @@ def rows_in_order(rows):
     return shown(list(rows[0]), (row.values() for row in together))
 
 
+def beside_rust(lines):
+    """The lines of a table beside the Rust crate: where its rows have cases, those of two sizes."""
+    if lines[0].split(" | ")[1] != "case":
+        return lines
+    return lines[:2] + [line for line in lines[2:] if line.split(" | ")[1] in SIZES]
+
+
 def tables(path):
     """The lines of each table of the page by its name, out of the tables of the bench."""
     sets, maps, trees, intervals, memory = tables_of(path)
+    sets, maps = ([row for row in rows if is_shown(row)] for rows in (sets, maps))
+    trees, memory = ([row for row in rows if row["keys"] == KEYS] for rows in (trees, memory))
     return {
         "union of numbers": list(union_of_numbers(sets)),
         "fresh operations": list(fresh_ratios(sets)),
