@@ -191,7 +191,7 @@ OTHER_NAMES = {
     ("Machine", "Run"): "TreeRun", ("Machine", "Step"): "TreeStep", ("Cover", "IsRetained"): "IsTreeRetained", ("Combine", "IsCombined"): "IsTreeCombined",
     ("IterLeft", "pairs_left"): "tree_pairs_left", ("Editing", "MayLeave"): "MayLeaveInTree", ("Editing", "OrStays"): "OrStaysInTree",
     ("MapCollecting", "IsCollected"): "IsMapCollected", ("MapCollecting", "IsExtended"): "IsMapExtended", ("TreePairs", "IsCollected"): "IsTreeCollected",
-    ("Children", "seen"): "seen_children", ("Asking", "MayAnswer"): "MayAnswerOfTree", ("Turns", "complement"): "complement_of_intervals",
+    ("Children", "seen"): "seen_children", ("Asking", "MayAnswer"): "MayAnswerOfTree", ("Boundaries", "complement"): "complement_of_intervals",
 }  # fmt: skip
 
 

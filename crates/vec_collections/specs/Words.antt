@@ -5,7 +5,7 @@ pub use Rattle.vc_btree_maps.specs.Pairs.{GivesFirst, pairs_left}
 pub use Rattle.vc_intervals.specs.IntervalsOf.{Comes, IsIntervalDisjoint, IsIntervalSubset, IsIntervalsOf}
 pub use Rattle.vc_intervals.specs.Listed.{begun_start, listed, listed_from, shown_ends}
 pub use Rattle.vc_intervals.specs.Ranges.{in_range, in_some}
-pub use Rattle.vc_intervals.specs.Boundaries.{Intervals, IsClonedIntervals, IsEqualIntervals, complement, holds, intervals, toggled}
+pub use Rattle.vc_intervals.specs.Boundaries.{Intervals, IsClonedIntervals, IsEqualIntervals, complement as complement_of_intervals, holds, intervals, toggled}
 pub use Rattle.vc_joins.specs.Answers.{MayAnswer, MayAnswerInner, MayAnswerLeft, MayAnswerRight, seen, seen_inner, seen_left, seen_right}
 pub use Rattle.vc_joins.specs.Entries.{AscendsByKey, entry_at, value_at}
 pub use Rattle.vc_joins.specs.InPlace.{MayTurn, MayTurnInner, MayTurnLeft, MayTurnRight, handed, handed_inner, handed_left, handed_right}
