@@ -4,7 +4,7 @@ mod fresh;
 mod in_place;
 mod keep;
 
-use keep::{KeepLeft, KeepShared};
+use keep::{KeepEach, KeepShared};
 use std::alloc::{AllocError, Global};
 use std::collections::{BTreeMap, btree_map};
 use vc_joins::answers::{AskInner, AskLeft, AskOuter, AskRight};
@@ -346,7 +346,7 @@ impl<K: Ord, V> InPlaceRelationalOps<K, V> for BTreeMap<K, V> {
         K: Drop,
         V: Drop,
     {
-        in_place::keep_each(self, that, &KeepLeft(&f));
+        in_place::keep_each(self, that, &KeepEach(&f));
     }
 
     fn right_join_with<
@@ -372,6 +372,6 @@ impl<K: Ord, V> InPlaceRelationalOps<K, V> for BTreeMap<K, V> {
         K: Clone + Drop,
         V: Drop,
     {
-        in_place::join_outer_with(alloc, self, that, &KeepLeft(&f), &other_alone)
+        in_place::join_outer_with(alloc, self, that, &KeepEach(&f), &other_alone)
     }
 }

@@ -26,7 +26,7 @@ use Rattle.vc_tree_model.proofs.LookupLemmas.{tree-bound}
 use Rattle.vc_tree_nodes.specs.Children.{seen}
 use Rattle.vc_tree_facing.specs.Doing.{AreFirst, IsSaidIn, IsSaidOf}
 use Rattle.vc_tree_facing.specs.Sides.{by_component, by_component_total, lower_side, side_next}
-use Rattle.vc_tree_facing.specs.declared.sides.Side.TheVariants.{Left, Right, Both}
+use Rattle.vc_tree_facing.specs.declared.sides.EventSide.TheVariants.{Left, Right, Both}
 use Rattle.vc_tree_facing.proofs.Components.{agree-first, children-first}
 use Rattle.vc_tree_facing.proofs.Doing.{left-first, right-first, both-first, said-apart, said-joined}
 use Rattle.vc_tree_combines.specs.Meeting.{IsMet, IsMissed, TellsKeysIn, AreTails, IsMeeting}

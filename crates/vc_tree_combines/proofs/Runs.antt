@@ -24,7 +24,7 @@ use Rattle.vc_tree_nodes.specs.Places.{first_side}
 use Rattle.vc_tree_facing.specs.Doing.{IsDoing, AreNext}
 use Rattle.vc_tree_facing.specs.Seeking.{side_at, Stops}
 use Rattle.vc_tree_facing.specs.Sides.{by_component, by_component_total, lower_side, side_next}
-use Rattle.vc_tree_facing.specs.declared.sides.Side.TheVariants.{Left, Right}
+use Rattle.vc_tree_facing.specs.declared.sides.EventSide.TheVariants.{Left, Right}
 use Rattle.vc_tree_facing.proofs.Next.{doing-start, asked, done, left_within, right_within, left-next, right-next, both-next}
 use Rattle.vc_tree_combines.specs.Making.{MayAddLefts, MayAddRights, AreLeftAdded, AreRightAdded}
 

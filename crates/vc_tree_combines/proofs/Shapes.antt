@@ -21,7 +21,7 @@ use Rattle.vc_tree_facing.specs.Doing.{IsSaidIn}
 use Rattle.vc_tree_facing.specs.Facing.{shortened_in, Parts, IsFaced}
 use Rattle.vc_tree_facing.specs.Made.{IsBothMade}
 use Rattle.vc_tree_facing.specs.Sides.{by_component, side_next}
-use Rattle.vc_tree_facing.specs.declared.sides.Side.TheVariants.{Left, Right}
+use Rattle.vc_tree_facing.specs.declared.sides.EventSide.TheVariants.{Left, Right}
 use Rattle.vc_tree_facing.proofs.Ending.{front-asked, made-front}
 use Rattle.vc_tree_facing.proofs.Opening.{opened-all, opened-rest, parts_at}
 use Rattle.vc_tree_combines.specs.Making.{AreMadeOf, IsMadeBelow}

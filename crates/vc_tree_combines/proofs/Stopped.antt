@@ -19,7 +19,7 @@ use Rattle.vc_merge.specs.Chain.{IsAtFront, IsAllowed, Step, Steps, IsMergedBefo
 use Rattle.vc_merge.specs.Fronts.{HeadsCompare}
 use Rattle.vc_merge.specs.Script.{lefts, rights}
 use Rattle.vc_tree_facing.specs.Sides.{side_next}
-use Rattle.vc_tree_facing.specs.declared.sides.Side.TheVariants.{Both}
+use Rattle.vc_tree_facing.specs.declared.sides.EventSide.TheVariants.{Both}
 use Rattle.vc_tree_combines.specs.Stopping.{IsAtPair}
 use Rattle.vc_tree_combines.proofs.Passing.{lefts-append, rights-append, run-lefts, run-rights}
 

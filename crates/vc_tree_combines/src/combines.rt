@@ -139,7 +139,7 @@ impl<
 
 /// Keeps all keys, the shared ones with the left value.
 #[derive(Drop)]
-struct KeepAll<M> {
+struct CopyAll<M> {
     made: PhantomData<M>,
 }
 
@@ -149,7 +149,7 @@ impl<K: TKey, V: TValue, A: RadixNode<K, V>, B: RadixNode<K, V>, M: Build<K, V>>
     V,
     A,
     B,
-> for KeepAll<M> {
+> for CopyAll<M> {
     type Made = M;
 
     ghost says = { λ _. IsUnionAt (Copies V.is_clone) V.is_clone };
@@ -188,7 +188,7 @@ impl<K: TKey, V: TValue, A: RadixNode<K, V>, B: RadixNode<K, V>, M: Build<K, V>>
 
 /// Keeps the shared keys, with the left value.
 #[derive(Drop)]
-struct KeepShared<M> {
+struct CopyShared<M> {
     made: PhantomData<M>,
 }
 
@@ -198,7 +198,7 @@ impl<K: TKey, V: TValue, W: TValue, A: RadixNode<K, V>, B: RadixNode<K, W>, M: B
     W,
     A,
     B,
-> for KeepShared<M> {
+> for CopyShared<M> {
     type Made = M;
 
     ghost says = { λ _. IsIntersectionAt (Copies V.is_clone) };
@@ -237,7 +237,7 @@ impl<K: TKey, V: TValue, W: TValue, A: RadixNode<K, V>, B: RadixNode<K, W>, M: B
 
 /// Keeps the keys that only the left tree has.
 #[derive(Drop)]
-struct KeepLeft<M> {
+struct CopyLeft<M> {
     made: PhantomData<M>,
 }
 
@@ -247,7 +247,7 @@ impl<K: TKey, V: TValue, W: TValue, A: RadixNode<K, V>, B: RadixNode<K, W>, M: B
     W,
     A,
     B,
-> for KeepLeft<M> {
+> for CopyLeft<M> {
     type Made = M;
 
     ghost says = { λ _. IsDifferenceAt (Copies V.is_clone) };
@@ -343,7 +343,7 @@ pub fn union<K: TKey, V: TValue, A: Build<K, V>, B: RadixNode<K, V>>(
         (A.tree this.now) (B.tree that.now) (A.tree made)) }
     ensures canonical { IfOk result (λ made. IsCanonical K.cmp (A.tree made)) }
 {
-    let op: KeepAll<A> = KeepAll { made: PhantomData };
+    let op: CopyAll<A> = CopyAll { made: PhantomData };
     combine_whole(this, that, &op, &mut Uncounted)
 }
 
@@ -356,7 +356,7 @@ pub fn intersection<K: TKey, V: TValue, W: TValue, A: Build<K, V>, B: RadixNode<
         (A.tree this.now) (B.tree that.now) (A.tree made)) }
     ensures canonical { IfOk result (λ made. IsCanonical K.cmp (A.tree made)) }
 {
-    let op: KeepShared<A> = KeepShared { made: PhantomData };
+    let op: CopyShared<A> = CopyShared { made: PhantomData };
     combine_whole(this, that, &op, &mut Uncounted)
 }
 
@@ -369,7 +369,7 @@ pub fn difference<K: TKey, V: TValue, W: TValue, A: Build<K, V>, B: RadixNode<K,
         (A.tree this.now) (B.tree that.now) (A.tree made)) }
     ensures canonical { IfOk result (λ made. IsCanonical K.cmp (A.tree made)) }
 {
-    let op: KeepLeft<A> = KeepLeft { made: PhantomData };
+    let op: CopyLeft<A> = CopyLeft { made: PhantomData };
     combine_whole(this, that, &op, &mut Uncounted)
 }
 

@@ -17,7 +17,7 @@ ghost use Rattle.vc_tree_facing.specs.Doing.{AreNext, IsDoing, IsSaidIn, IsSaidO
 ghost use Rattle.vc_tree_facing.specs.Facing.{shortened_in};
 ghost use Rattle.vc_tree_facing.specs.Made.{IsBothMade};
 ghost use Rattle.vc_tree_facing.specs.Sides.{by_component, side_next};
-ghost use Rattle.vc_tree_facing.specs.declared.sides.Side.TheVariants.{Left, Right};
+ghost use Rattle.vc_tree_facing.specs.declared.sides.EventSide.TheVariants.{Left, Right};
 ghost use Rattle.vc_tree_combines.specs.Ended.{IsEnded};
 ghost use Rattle.vc_tree_combines.specs.Making.{IsAdded, AreMadeOf, IsMadeBelow};
 
@@ -151,7 +151,7 @@ fn make_higher<
 /// The state where one tree continues after a place of its prefix, and is combined with the
 /// children of the other node. The first of these are done.
 #[derive(Drop)]
-struct Beside<'a, T, M> {
+struct BuiltBefore<'a, T, M> {
     /// The trees that were built.
     made: Vec<M>,
     /// The child that begins as the tree continues.
@@ -178,7 +178,7 @@ fn begin_inside<
     others: &'b [B],
     op: &O,
     steps: &mut C,
-) -> Result<Beside<'b, B, O::Made>, AllocError>
+) -> Result<BuiltBefore<'b, B, O::Made>, AllocError>
     requires within { i < length (A.tree a.now).prefix }
     requires right { AreChildren K.cmp (seen B.tree others.now) }
     requires asks { IsSaidIn K.cmp A.tree B.tree i 0 (values K.cmp) (O.asks op.now) (a.now ∷ [])
@@ -201,7 +201,7 @@ fn begin_inside<
     let mut made = Vec::with_capacity(alloc, room)?;
     let around = look_around(others, &a.prefix()[i], steps);
     add_rights::<K, V, W, A, B, O>(alloc, around.before, op, &mut made)?;
-    Ok(Beside {
+    Ok(BuiltBefore {
         made,
         found: around.found,
         left: around.after.len(),
@@ -256,7 +256,7 @@ fn begin_within<
     j: usize,
     op: &O,
     steps: &mut C,
-) -> Result<Beside<'a, A, O::Made>, AllocError>
+) -> Result<BuiltBefore<'a, A, O::Made>, AllocError>
     requires left { AreChildren K.cmp (seen A.tree trees.now) }
     requires within { j < length (B.tree b.now).prefix }
     requires asks { IsSaidIn K.cmp A.tree B.tree 0 j (values K.cmp) (O.asks op.now) trees.now
@@ -279,7 +279,7 @@ fn begin_within<
     let mut made = Vec::with_capacity(alloc, room)?;
     let around = look_around(trees, &b.prefix()[j], steps);
     add_lefts::<K, V, W, A, B, O>(alloc, around.before, op, &mut made)?;
-    Ok(Beside {
+    Ok(BuiltBefore {
         made,
         found: around.found,
         left: around.after.len(),
@@ -453,7 +453,7 @@ fn combine_inside<
     ensures counted { C.counted steps.new ≤ C.counted steps.old + 3
         * (weight (shortened i (A.tree a.now)) + forest_weight (seen B.tree others.now)) }
 {
-    let Beside {
+    let BuiltBefore {
         mut made,
         found,
         left,
@@ -491,7 +491,7 @@ fn combine_within<
     ensures counted { C.counted steps.new ≤ C.counted steps.old + 3
         * (forest_weight (seen A.tree trees.now) + weight (shortened j (B.tree b.now))) }
 {
-    let Beside {
+    let BuiltBefore {
         mut made,
         found,
         left,

@@ -51,7 +51,7 @@ impl<'a, 'b, A, B> MergeState for Tails<'a, 'b, A, B> {
 /// Passes the trees that only one list has, and stops at two that begin alike, or at one that is
 /// missed.
 #[derive(Drop)]
-struct PassAlone<K, V, W> {
+struct FindMissed<K, V, W> {
     shared: bool,
     key: PhantomData<K>,
     left_value: PhantomData<V>,
@@ -67,7 +67,7 @@ impl<
     A: RadixNode<K, V>,
     B: RadixNode<K, W>,
     C: Count,
-> MergeOperation<Tails<'a, 'b, A, B>, C> for PassAlone<K, V, W> {
+> MergeOperation<Tails<'a, 'b, A, B>, C> for FindMissed<K, V, W> {
     ghost order = { λ _. by_component A.tree B.tree 0 0 K.cmp };
 
     ghost ready = { λ _ _. Unit {0} };
@@ -160,7 +160,7 @@ fn merge_to_meeting<'a, 'b, K: TKey, V: TValue, W: TValue, A: RadixNode<K, V>, B
     requires right { AreChildren K.cmp (seen B.tree right.now) }
     ensures { IsNext K.cmp A.tree B.tree shared left.now right.now result }
 {
-    let op: PassAlone<K, V, W> = PassAlone {
+    let op: FindMissed<K, V, W> = FindMissed {
         shared,
         key: PhantomData,
         left_value: PhantomData,

@@ -12,7 +12,7 @@ ghost use Rattle.vc_merge.specs.Plan.{IsPlan, planned};
 ghost use Rattle.vc_tree_model.specs.Look.{values};
 ghost use Rattle.vc_tree_facing.specs.Doing.{IsDoing, IsSaidIn};
 ghost use Rattle.vc_tree_facing.specs.Sides.{by_component, by_component_total, side_next};
-ghost use Rattle.vc_tree_facing.specs.declared.sides.Side.TheVariants.{Left, Right};
+ghost use Rattle.vc_tree_facing.specs.declared.sides.EventSide.TheVariants.{Left, Right};
 ghost use Rattle.vc_tree_combines.specs.Stopping.{IsAtPair};
 
 use crate::adding::{add_lefts, add_rights};

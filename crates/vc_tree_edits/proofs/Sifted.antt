@@ -24,7 +24,7 @@ use Rattle.vc_tree_facing.specs.Facing.{shortened_in}
 use Rattle.vc_tree_facing.specs.Lessening.{left_of}
 use Rattle.vc_tree_facing.specs.Made.{IsMadeOf}
 use Rattle.vc_tree_facing.specs.Sides.{by_component, by_component_total, side_next}
-use Rattle.vc_tree_facing.specs.declared.sides.Side.TheVariants.{Left, Right, Both}
+use Rattle.vc_tree_facing.specs.declared.sides.EventSide.TheVariants.{Left, Right, Both}
 use Rattle.vc_merge.proofs.Runs.{heads-left}
 use Rattle.vc_tree_facing.proofs.Advancing.{passed, list-done}
 use Rattle.vc_tree_facing.proofs.Next.{done, left_within, left-next, both-next, made-left}

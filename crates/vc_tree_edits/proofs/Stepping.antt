@@ -21,7 +21,7 @@ use Rattle.vc_tree_model.specs.Look.{Look}
 use Rattle.vc_tree_facing.specs.Made.{IsBothMadeBy}
 use Rattle.vc_tree_facing.specs.Doing.{IsDoing, AreNext}
 use Rattle.vc_tree_facing.specs.Sides.{by_component, side_next}
-use Rattle.vc_tree_facing.specs.declared.sides.Side.TheVariants.{Left, Right}
+use Rattle.vc_tree_facing.specs.declared.sides.EventSide.TheVariants.{Left, Right}
 use Rattle.vc_tree_facing.proofs.Ending.{values-asked, combine-started, made-children, combined}
 use Rattle.vc_tree_facing.proofs.Next.{falls, left-next, right-next, done, made-left, made-right}
 use Rattle.vc_tree_edits.specs.Taken.{IsMet, IsTaken, IsBegun, IsFirstLong, IsStayed, IsCome}

@@ -32,7 +32,7 @@ use vc_merge::plan::plan_of;
 use vc_merge::states::Uncounted;
 use vc_tree_facing::facing::{compare_at, expected, split};
 use vc_tree_facing::nodes::{finish, keep, value_at};
-use vc_tree_facing::sides::Side;
+use vc_tree_facing::sides::EventSide;
 use vc_tree_nodes::building::{Build, Seal};
 use vc_tree_nodes::children::{ChildList, Fragment, Parts};
 use vc_tree_nodes::making::stored;
@@ -403,19 +403,19 @@ fn next_side<K: TKey, V: TValue, W: TValue, T: RadixNode<K, V>, B: RadixNode<K, 
     from: usize,
     right: &Trees<'_, B>,
     right_from: usize,
-) -> Option<Side>
+) -> Option<EventSide>
     ensures side { result ≡ side_next (by_component T.tree B.tree from right_from K.cmp)
         (slice_get left.now.items 0) (slice_get (trees_of right.now) 0) }
     ensures there { IfSome result (λ s. AreThere s left.now.items (trees_of right.now)) }
 {
     match (left.front(), right.first()) {
         (None, None) => None,
-        (None, Some(_)) => Some(Side::Right),
-        (Some(_), None) => Some(Side::Left),
+        (None, Some(_)) => Some(EventSide::Right),
+        (Some(_), None) => Some(EventSide::Left),
         (Some(x), Some(y)) => Some(match compare_at(y, right_from, x, from, &mut Uncounted) {
-            Ordering::Less => Side::Right,
-            Ordering::Equal => Side::Both,
-            Ordering::Greater => Side::Left,
+            Ordering::Less => EventSide::Right,
+            Ordering::Equal => EventSide::Both,
+            Ordering::Greater => EventSide::Left,
         }),
     }
 }
@@ -534,13 +534,13 @@ pub fn change_at<
     let (mut kids, mut left) = part(alloc, list, kept, at, right.len())?;
     while let Some(side) = next_side(&left, from, &right, right_from) {
         match side {
-            Side::Left => {
+            EventSide::Left => {
                 stay::<K, V, W, B, T, O>(alloc, &mut left, from, &below, &mut kids)?;
             }
-            Side::Right => {
+            EventSide::Right => {
                 come::<K, V, W, B, T, O>(alloc, &mut right, right_from, &below, &mut kids)?;
             }
-            Side::Both => {
+            EventSide::Both => {
                 let (x, y) = (pop(&mut left), right.next());
                 let kid = change_at(alloc, x, from, y, right_from, 1, &below)?;
                 keep(&mut kids, kid)?;

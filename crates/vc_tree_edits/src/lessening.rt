@@ -132,7 +132,7 @@ pub fn pass<T>(list: &mut Vec<T>, kept: usize, at: usize, n: usize, stay: bool) 
 
 /// What is left of the children of a node.
 #[derive(Drop)]
-struct Kids<C, T> {
+struct KidsLeft<C, T> {
     /// The number of children that are stored.
     many: usize,
     /// The children that are stored.
@@ -146,7 +146,7 @@ fn remake<K: TKey, V: TValue, T: Build<K, V>>(
     alloc: Global,
     prefix: T::Prefix,
     value: Option<V>,
-    kids: Kids<T::Children, T>,
+    kids: KidsLeft<T::Children, T>,
 ) -> Result<Option<T>, AllocError>
     requires kids { AreKids (is_none value) kids.lone (listed T.Children.items kids.stored)
         kids.many }
@@ -155,7 +155,7 @@ fn remake<K: TKey, V: TValue, T: Build<K, V>>(
     ensures { IfOk result (λ made. option_map T.tree made ≡ solid_child (T.Prefix.items prefix)
         value (seen T.tree (cons_option kids.lone (listed T.Children.items kids.stored)))) }
 {
-    let Kids { many, stored, lone } = kids;
+    let KidsLeft { many, stored, lone } = kids;
     if let Some(kid) = lone {
         return Ok(Some(new_joined(alloc, prefix.as_slice(), kid)?));
     }
@@ -308,7 +308,7 @@ fn lessen_kids<
     right: Trees<'_, B>,
     from: usize,
     op: &O,
-) -> Result<Kids<T::Children, T>, AllocError>
+) -> Result<KidsLeft<T::Children, T>, AllocError>
     requires had { had ≡ length (listed T.Children.items children) }
     requires left { AreChildren K.cmp (seen T.tree (listed T.Children.items children)) }
     requires right { AreChildren K.cmp (shortened_in B.tree from (trees_of right)) }
@@ -325,7 +325,7 @@ fn lessen_kids<
         (seen T.tree (cons_option kids.lone (listed T.Children.items kids.stored)))) }
 {
     let Some(mut children) = children else {
-        return Ok(Kids {
+        return Ok(KidsLeft {
             many: 0,
             stored: None,
             lone: None,
@@ -333,7 +333,7 @@ fn lessen_kids<
     };
     if right.len() == 0 && !(is_bare && had == 1) {
         let stays = stays_alone::<K, V, W, T, O>(op);
-        return Ok(Kids {
+        return Ok(KidsLeft {
             many: if stays { had } else { 0 },
             stored: if stays { Some(children) } else { None },
             lone: None,
@@ -347,7 +347,7 @@ fn lessen_kids<
         from,
         op,
     )?;
-    Ok(Kids {
+    Ok(KidsLeft {
         many,
         stored: Some(children),
         lone,

@@ -18,7 +18,7 @@ use Rattle.vc_tree_facing.specs.Lessening.{alone, left_of, KeepsFront, IsInside}
 use Rattle.vc_tree_facing.specs.Made.{IsMadeOf}
 use Rattle.vc_tree_facing.specs.Seeking.{side_at, Stops, IsSought}
 use Rattle.vc_tree_facing.specs.Sides.{by_component, lower_side, side_next}
-use Rattle.vc_tree_facing.specs.declared.sides.Side.TheVariants.{Left, Right}
+use Rattle.vc_tree_facing.specs.declared.sides.EventSide.TheVariants.{Left, Right}
 use Rattle.vc_tree_facing.proofs.Components.{Leads, children-first}
 use Rattle.vc_tree_facing.proofs.Leaving.{inner-list}
 use Rattle.vc_tree_facing.proofs.Next.{doing-start, done, all-done, left-next, right-next, both-next}

@@ -16,8 +16,8 @@ use Rattle.vc_tree_facing.specs.Doing.{AreFirst, AreMade, IsSaidIn, IsSaidOf}
 use Rattle.vc_tree_facing.specs.Facing.{shortened_in}
 use Rattle.vc_tree_facing.specs.Made.{IsMadeOf}
 use Rattle.vc_tree_facing.specs.Sides.{by_component, lower_side, side_next}
-use Rattle.vc_tree_facing.specs.declared.sides.Side.{Side}
-use Rattle.vc_tree_facing.specs.declared.sides.Side.TheVariants.{Left, Right, Both}
+use Rattle.vc_tree_facing.specs.declared.sides.EventSide.{EventSide}
+use Rattle.vc_tree_facing.specs.declared.sides.EventSide.TheVariants.{Left, Right, Both}
 use Rattle.vc_tree_facing.proofs.Components.{children-first}
 
 module _ {K V W A B : Type 0} {cmp : K → K → Ordering} (o : IsTotalOrder cmp) (ta : A → Tree K V) (tb : B → Tree K W)
@@ -25,12 +25,12 @@ module _ {K V W A B : Type 0} {cmp : K → K → Ordering} (o : IsTotalOrder cmp
   -- ---- the next trees
 
   -- how the components of two trees stand to each other
-  abbrev Stand : Side → K → K → Type 0
+  abbrev Stand : EventSide → K → K → Type 0
   Stand Left c d = cmp c d ≡ Less
   Stand Right c d = cmp d c ≡ Less
   Stand Both c d = cmp c d ≡ Equal
 
-  pub stand : (x : A) (y : B) {c d : K} {s : Side} → slice_get (ta x).prefix i ≡ Some c → slice_get (tb y).prefix j ≡ Some d
+  pub stand : (x : A) (y : B) {c d : K} {s : EventSide} → slice_get (ta x).prefix i ≡ Some c → slice_get (tb y).prefix j ≡ Some d
       → Some (lower_side (by_component ta tb i j cmp (inr y) (inl x))) ≡ Some s → Stand s c d
   stand x y e f h = grind arith
 

@@ -24,8 +24,8 @@ use Rattle.vc_tree_facing.specs.Doing.{AreMade, AreNext, IsSaidIn, IsSaidOf, IsD
 use Rattle.vc_tree_facing.specs.Facing.{shortened_in, ended, GoesOn, IsOpened, Parts}
 use Rattle.vc_tree_facing.specs.Made.{IsMade, IsMadeBy, IsMadeOf}
 use Rattle.vc_tree_facing.specs.Sides.{by_component, side_next}
-use Rattle.vc_tree_facing.specs.declared.sides.Side.{Side}
-use Rattle.vc_tree_facing.specs.declared.sides.Side.TheVariants.{Left, Right, Both}
+use Rattle.vc_tree_facing.specs.declared.sides.EventSide.{EventSide}
+use Rattle.vc_tree_facing.specs.declared.sides.EventSide.TheVariants.{Left, Right, Both}
 use Rattle.vc_tree_facing.proofs.Components.{children-first}
 use Rattle.vc_tree_facing.proofs.Opening.{each-fewer, goes-on}
 use Rattle.vc_tree_facing.proofs.Doing.{left-first, right-first, both-first, made-none, made-more, said-apart}
@@ -125,7 +125,7 @@ module _ {K V W U O A B : Type 0} {cmp : K → K → Ordering} {ta : A → Tree 
         let f = children-first cmp d.total j (tb y).prefix (rw e at d.right) in slice_get_within (tb y).prefix j f.place f.at
 
     -- the trees by which both sides stand
-    abbrev OnSide : Side → Type 0
+    abbrev OnSide : EventSide → Type 0
     OnSide s = side_next (by_component ta tb i j cmp) (slice_get ls 0) (slice_get rs 0) ≡ Some s
 
     -- the next trees, by the side on which they stand

@@ -8,8 +8,8 @@ use Rattle.std.specs.Option.{option_cmp}
 use Rattle.std.specs.declared.cmp.Ordering.{Ordering}
 use Rattle.std.specs.declared.cmp.Ordering.TheVariants.{Less, Equal, Greater}
 use Rattle.vc_tree_model.specs.Tree.{Tree}
-use Rattle.vc_tree_facing.specs.declared.sides.Side.{Side}
-use Rattle.vc_tree_facing.specs.declared.sides.Side.TheVariants.{Left, Right, Both}
+use Rattle.vc_tree_facing.specs.declared.sides.EventSide.{EventSide}
+use Rattle.vc_tree_facing.specs.declared.sides.EventSide.TheVariants.{Left, Right, Both}
 
 module _ {K V W A B : Type 0} (ta : A → Tree K V) (tb : B → Tree K W) (i j : ℕ) where
   -- the component at place i of a left tree's prefix, or at place j of a right one's
@@ -25,20 +25,20 @@ module _ {K V W A B : Type 0} (ta : A → Tree K V) (tb : B → Tree K W) (i j :
   by_component_total o = on_total component (options_total o)
 
 -- the side of the lower of two trees, by how the right one compares with the left one
-abbrev pub lower_side : Ordering → Side
+abbrev pub lower_side : Ordering → EventSide
 lower_side Less = Right
 lower_side Equal = Both
 lower_side Greater = Left
 
 -- the side of the next event of two lists, by the first tree of each
-abbrev pub side_next : {A B : Type 0} → (A ⊎ B → A ⊎ B → Ordering) → Option A → Option B → Option Side
+abbrev pub side_next : {A B : Type 0} → (A ⊎ B → A ⊎ B → Ordering) → Option A → Option B → Option EventSide
 side_next order None None = None
 side_next order None (Some y) = Some Right
 side_next order (Some x) None = Some Left
 side_next order (Some x) (Some y) = Some (lower_side (order (inr y) (inl x)))
 
 -- the trees of a side are there
-abbrev pub AreThere : {A B : Type 0} → Side → List A → List B → Type 0
+abbrev pub AreThere : {A B : Type 0} → EventSide → List A → List B → Type 0
 AreThere Left ls rs = 0 < length ls
 AreThere Right ls rs = 0 < length rs
 AreThere Both ls rs = (0 < length ls) × (0 < length rs)

@@ -2,7 +2,7 @@
 
 /// Where the trees of an event are.
 #[derive(Clone, Copy, Debug)]
-pub enum Side {
+pub enum EventSide {
     /// A tree of the left list continues with a component with which no tree of the right one does.
     Left,
     /// A tree of the right list continues with a component with which no tree of the left one does.

@@ -39,11 +39,11 @@ trait Write<V, R>: Drop {
 
 /// A closure changes the value, and its answer is passed on.
 #[derive(Drop)]
-struct ByClosure<'f, F> {
+struct WriteByClosure<'f, F> {
     f: &'f F,
 }
 
-impl<'f, V: Drop, R: Drop, F: Fn(&mut V) -> R> Write<V, R> for ByClosure<'f, F> {
+impl<'f, V: Drop, R: Drop, F: Fn(&mut V) -> R> Write<V, R> for WriteByClosure<'f, F> {
     ghost takes = { λ writer. CanWrite F.Fn writer.f.now };
 
     ghost may = { λ writer. MayWrite F.Fn writer.f.now };
@@ -94,7 +94,7 @@ pub fn update<K: TKey, V: TValue, T: Build<K, V>, R: Drop, F: Fn(&mut V) -> R>(
     if !contains_key(tree, key) {
         return Ok(None);
     }
-    let answer = write_met(tree, key, ByClosure { f })?;
+    let answer = write_met(tree, key, WriteByClosure { f })?;
     Ok(Some(answer))
 }
 
@@ -119,7 +119,7 @@ pub fn upsert<K: TKey, V: TValue, T: Build<K, V>, R: Drop, F: Fn(&mut V) -> R>(
 {
     canonical(tree);
     if contains_key(tree, key) {
-        let written = write_met(tree, key, ByClosure { f })?;
+        let written = write_met(tree, key, WriteByClosure { f })?;
         return Ok(Some(written));
     }
     insert(tree, key, default)?;

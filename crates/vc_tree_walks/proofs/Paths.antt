@@ -18,16 +18,16 @@ use Rattle.vc_tree_model.specs.Walk.{own_pair, prepended, walk, walk_in}
 use Rattle.vc_tree_nodes.specs.Children.{seen}
 use Rattle.vc_tree_walks.specs.Left.{pair_at, rows_left, outer_work}
 use Rattle.vc_tree_walks.specs.OwnedLeft.{skip, tree_at, entered, opened, rows_at, IsReached}
-use Rattle.vc_tree_walks.specs.declared.owned.Place.{Place}
+use Rattle.vc_tree_walks.specs.declared.owned.OpenNode.{OpenNode}
 use Rattle.vc_tree_walks.proofs.Rows.{own-first, entered as entered_row}
 
 -- what stands at a place is the same for each default
-same-at : (path : List Place) (d : ℕ) (x y : Place) → d < length path → x ≡ get_or path d x → x ≡ get_or path d y
+same-at : (path : List OpenNode) (d : ℕ) (x y : OpenNode) → d < length path → x ≡ get_or path d x → x ≡ get_or path d y
 same-at (z ∷ path) (suc d) x y h e = grind (arith, same-at path d x y)
 same-at path d x y h e = grind arith
 
 -- and is what is read there
-read-at : (path : List Place) (d : ℕ) (x : Place) → d < length path → get_or path d x ≡ get_or path d (get_or path d x)
+read-at : (path : List OpenNode) (d : ℕ) (x : OpenNode) → d < length path → get_or path d x ≡ get_or path d (get_or path d x)
 read-at (z ∷ path) (suc d) x h = grind (arith, read-at path d x)
 read-at path d x h = grind arith
 
@@ -40,45 +40,45 @@ take-taken (suc m) (suc n) (x ∷ l) =
     ap (λ k. x ∷ k) (take-taken m n l) ∙ sym (ap (λ k. take k (x ∷ l)) (suc-min-suc m n))
 
 -- one more place
-one-more : (path : List Place) (d : ℕ) (place : Place) (more : List Place) → d < length path → place ≡ get_or path d place
+one-more : (path : List OpenNode) (d : ℕ) (place : OpenNode) (more : List OpenNode) → d < length path → place ≡ get_or path d place
     → take (d + 1) path ++ more ≡ take d path ++ place ∷ more
 one-more path d place more h e =
     ap (λ xs. xs ++ more) (take_more path d place h) ∙ append_assoc (take d path) (get_or path d place ∷ []) more
     ∙ ap (λ x. take d path ++ x ∷ more) (sym e)
 
 -- a path up to a depth, its place there, and the rest
-parts : (path : List Place) (d : ℕ) (place : Place) → d < length path → place ≡ get_or path d place
+parts : (path : List OpenNode) (d : ℕ) (place : OpenNode) → d < length path → place ≡ get_or path d place
     → take d path ++ place ∷ drop (d + 1) path ≡ path
 parts path d place h e =
     sym (one-more path d place (drop (d + 1) path) h e) ∙ take-append-drop (d + 1) path
 
 module _ {K V : Type 0} where
   -- the row of a node, as a place has it
-  abbrev row_of_place : Tree K V → Place → Forest K V × ℕ
+  abbrev row_of_place : Tree K V → OpenNode → Forest K V × ℕ
   row_of_place t place = (skip place.entered t.children, place.base)
 
   -- the places before a depth lead from the root to a node; the rows above it are left elsewhere
-  pub record Leads (root : Tree K V) (path : List Place) (t : Tree K V) (depth : ℕ) : Type 0 where
+  pub record Leads (root : Tree K V) (path : List OpenNode) (t : Tree K V) (depth : ℕ) : Type 0 where
     pub above : List (Forest K V × ℕ)
     pub within : depth < length path
-    pub rows : (more : List Place) → rows_at root (take depth path ++ more) ≡ rows_at t more ++ above
+    pub rows : (more : List OpenNode) → rows_at root (take depth path ++ more) ≡ rows_at t more ++ above
 
   -- the rows below a node with an open child
-  rows-open : (t c : Tree K V) (place : Place) (path : List Place) → entered place.entered t.children ≡ Some c
+  rows-open : (t c : Tree K V) (place : OpenNode) (path : List OpenNode) → entered place.entered t.children ≡ Some c
       → rows_at t (place ∷ path) ≡ rows_at c path ++ row_of_place t place ∷ []
   rows-open t c place path e = rw (e, rows_at)
 
   -- below one without
-  rows-closed : (t : Tree K V) (place : Place) (path : List Place) → entered place.entered t.children ≡ None
+  rows-closed : (t : Tree K V) (place : OpenNode) (path : List OpenNode) → entered place.entered t.children ≡ None
       → rows_at t (place ∷ path) ≡ row_of_place t place ∷ []
   rows-closed t place path e = rw (e, rows_at)
 
   -- and below the last open one
-  rows-last : (t : Tree K V) (place : Place) → rows_at t (place ∷ []) ≡ row_of_place t place ∷ []
+  rows-last : (t : Tree K V) (place : OpenNode) → rows_at t (place ∷ []) ≡ row_of_place t place ∷ []
   rows-last t place = grind arith
 
   -- one node deeper
-  pub leads-on : (root : Tree K V) (path : List Place) (t c : Tree K V) (d : ℕ) (x : Place) → Leads root path t d
+  pub leads-on : (root : Tree K V) (path : List OpenNode) (t c : Tree K V) (d : ℕ) (x : OpenNode) → Leads root path t d
       → d + 1 < length path → entered (get_or path d x).entered t.children ≡ Some c → Leads root path c (d + 1)
   leads-on root path t c d x l h e = let place = get_or path d x in let en = read-at path d x l.within in record {
     above = row_of_place t place ∷ l.above;
@@ -90,14 +90,14 @@ module _ {K V : Type 0} where
   }
 
   -- the row of the place where a path leads, whatever reads it
-  here-at : (root : Tree K V) (path : List Place) (t : Tree K V) (d : ℕ) (place : Place) → d < length path
+  here-at : (root : Tree K V) (path : List OpenNode) (t : Tree K V) (d : ℕ) (place : OpenNode) → d < length path
       → place ≡ get_or path d place → (above : List (Forest K V × ℕ))
       → rows_at root path ≡ row_of_place t place ∷ above
-      → (x : Place) → x ≡ get_or path d x → rows_at root path ≡ row_of_place t x ∷ above
+      → (x : OpenNode) → x ≡ get_or path d x → rows_at root path ≡ row_of_place t x ∷ above
   here-at root path t d place h e above r x ex = grind (arith, same-at)
 
   -- where no child is open
-  pub stops : (root : Tree K V) (path : List Place) (t : Tree K V) (d : ℕ) (x : Place) → Leads root path t d
+  pub stops : (root : Tree K V) (path : List OpenNode) (t : Tree K V) (d : ℕ) (x : OpenNode) → Leads root path t d
       → entered (get_or path d x).entered t.children ≡ None → IsReached root path t d
   stops root path t d x l e = let place = get_or path d x in let en = read-at path d x l.within in record {
     above = l.above;
@@ -109,7 +109,7 @@ module _ {K V : Type 0} where
   }
 
   -- where the path ends
-  pub ends : (root : Tree K V) (path : List Place) (t : Tree K V) (d : ℕ) → Leads root path t d → length path ≤ d + 1
+  pub ends : (root : Tree K V) (path : List OpenNode) (t : Tree K V) (d : ℕ) → Leads root path t d → length path ≤ d + 1
       → IsReached root path t d
   ends root path t d l h = record {
     above = l.above;
@@ -137,7 +137,7 @@ module _ {K V : Type 0} where
   opened-work t base rows = grind arith
 
   -- the root was opened behind the empty path
-  pub started-left : (t : Tree K V) (key : List K) (front : ℕ) (path : List Place) → key ≡ t.prefix → front ≡ length key
+  pub started-left : (t : Tree K V) (key : List K) (front : ℕ) (path : List OpenNode) → key ≡ t.prefix → front ≡ length key
       → path ≡ opened t front
       → walk t ≡ pair_at key t.value ++ rows_left (take front key) (rows_at t path)
   started-left t key front path ek ef ep =
@@ -152,12 +152,12 @@ module _ {K V : Type 0} where
       ∙ own-first key t.value (walk_in t.children)
       ∙ ap (λ l. pair_at key t.value ++ l) (sym below)
 
-  pub started-work : (t : Tree K V) (front : ℕ) (path : List Place) → path ≡ opened t front
+  pub started-work : (t : Tree K V) (front : ℕ) (path : List OpenNode) → path ≡ opened t front
       → outer_work (rows_at t path) < 1 + 2 * nodes t
   started-work t front path ep = grind arith
 
   -- a step out of the node that a path leads to, of which nothing is left
-  pub left-node : (root : Tree K V) (path now : List Place) (t : Tree K V) (d : ℕ) (place : Place) (key : List K) (front next : ℕ)
+  pub left-node : (root : Tree K V) (path now : List OpenNode) (t : Tree K V) (d : ℕ) (place : OpenNode) (key : List K) (front next : ℕ)
       → IsReached root path t d → place ≡ get_or path d place → skip place.entered t.children ≡ bare → now ≡ take d path
       → next ≡ min place.base front
       → (rows_left (take front key) (rows_at root path) ≡ rows_left (take next key) (rows_at root now))
@@ -174,7 +174,7 @@ module _ {K V : Type 0} where
       )
 
   -- a step to a child of it
-  pub entered-node : (root : Tree K V) (path now : List Place) (t c : Tree K V) (d : ℕ) (place : Place)
+  pub entered-node : (root : Tree K V) (path now : List OpenNode) (t c : Tree K V) (d : ℕ) (place : OpenNode)
       (key spelled : List K) (front next base : ℕ)
       → IsReached root path t d → place ≡ get_or path d place → tree_at place.entered t.children ≡ Some c
       → skip place.entered t.children ≡ grow c.prefix c.value c.children (skip (suc place.entered) t.children)
@@ -186,7 +186,7 @@ module _ {K V : Type 0} where
   entered-node root path now t c d place key spelled front next base r e ec es ek ex eb en =
       let others = skip (suc place.entered) t.children in
       let k = take front key in
-      let beside : Place = record { entered = place.entered + 1; base = base } in
+      let beside : OpenNode = record { entered = place.entered + 1; base = base } in
       let back : rows_at root now ≡ rows_at c (opened c next) ++ (others, base) ∷ r.above =
       ap (rows_at root) (en ∙ append_assoc (take d path) (beside ∷ []) (opened c next)) ∙ r.rows (beside ∷ opened c next)
       ∙ ap (λ xs. xs ++ r.above) (rows-open t c beside (opened c next)
@@ -249,7 +249,7 @@ module _ {K V T : Type 0} (tree : T → Tree K V) where
   last-child kids f count i r e row same cases = grind (arith, no_tree-of_list, tree-of_list)
 
   -- a step out of the node, in the words of the program
-  pub left-step : (root : Tree K V) (path slice now : List Place) (t : T) (d : ℕ) (place : Place) (key : List K) (front next : ℕ)
+  pub left-step : (root : Tree K V) (path slice now : List OpenNode) (t : T) (d : ℕ) (place : OpenNode) (key : List K) (front next : ℕ)
       → (kids : List T) → IsReached root slice (tree t) d → slice ≡ path → place ≡ get_or path d place
       → seen tree kids ≡ (tree t).children → length kids ≤ place.entered → now ≡ take d path → next ≡ min place.base front
       → (rows_left (take front key) (rows_at root path) ≡ rows_left (take next key) (rows_at root now))
@@ -261,7 +261,7 @@ module _ {K V T : Type 0} (tree : T → Tree K V) where
       (skip-all place.entered (tree t).children none) en ex
 
   -- a step to a child, in the words of the program
-  pub entered-step : (root : Tree K V) (path slice path₁ path₂ now : List Place) (t child : T) (d : ℕ) (place : Place)
+  pub entered-step : (root : Tree K V) (path slice path₁ path₂ now : List OpenNode) (t child : T) (d : ℕ) (place : OpenNode)
       → (key spelled p shown : List K) (front least next base : ℕ) (kids : List T) → IsReached root slice (tree t) d
       → slice ≡ path → place ≡ get_or path d place → seen tree kids ≡ (tree t).children → place.entered < length kids
       → child ≡ get_or kids place.entered child → p ≡ (tree child).prefix → least ≡ min place.base front

@@ -7,11 +7,11 @@ use Rattle.vc_tree_nodes.specs.Children.{seen}
 use Rattle.vc_tree_walks.specs.Left.{rows_left, rows_work}
 use Rattle.vc_tree_walks.specs.declared.iter.Iter.{Iter}
 use Rattle.vc_tree_walks.specs.declared.iter.Row.{Row}
-use Rattle.vc_tree_walks.specs.declared.turn.Turn.{Turn}
-use Rattle.vc_tree_walks.specs.declared.turn.Turn.TheVariants.{Item, Moved, Done}
+use Rattle.vc_tree_walks.specs.declared.turn.WalkStep.{WalkStep}
+use Rattle.vc_tree_walks.specs.declared.turn.WalkStep.TheVariants.{Item, Moved, Done}
 
 -- a node of this key and this value: the item of the two, or none
-abbrev pub IsItem : {K V : Type 0} → List K → Option V → Turn (List K × Bor V) → Type 0
+abbrev pub IsItem : {K V : Type 0} → List K → Option V → WalkStep (List K × Bor V) → Type 0
 IsItem key v (Item x) = (x.0 ≡ key) × (v ≡ Some x.1.now)
 IsItem key v Moved = v ≡ None
 IsItem key v Done = ⊥
@@ -58,7 +58,7 @@ module _ {K V T : Type 0} (tree : T → Tree K V) where
       ]
 
   -- what one step found, and what is left after it
-  abbrev pub IsTurn : Iter K V T → Turn (List K × Bor V) → Iter K V T → Type 0
+  abbrev pub IsTurn : Iter K V T → WalkStep (List K × Bor V) → Iter K V T → Type 0
   IsTurn s (Item x) t = (pairs_left s ≡ (x.0, x.1.now) ∷ pairs_left t) × (work_left t < work_left s)
   IsTurn s Moved t = (pairs_left s ≡ pairs_left t) × (work_left t < work_left s)
   IsTurn s Done t = (pairs_left s ≡ []) × (pairs_left t ≡ [])

@@ -6,10 +6,10 @@ use Rattle.vc_tree_model.specs.Tree.{Tree, Forest, bare, grow, node, nodes}
 use Rattle.vc_tree_model.specs.Walk.{walk}
 use Rattle.vc_tree_walks.specs.Left.{pair_at, rows_left, outer_work}
 use Rattle.vc_tree_walks.specs.declared.owned.ObjAndIter.{ObjAndIter}
-use Rattle.vc_tree_walks.specs.declared.owned.Place.{Place}
+use Rattle.vc_tree_walks.specs.declared.owned.OpenNode.{OpenNode}
 use Rattle.vc_tree_walks.specs.declared.owned.Way.{Way}
-use Rattle.vc_tree_walks.specs.declared.turn.Turn.{Turn}
-use Rattle.vc_tree_walks.specs.declared.turn.Turn.TheVariants.{Item, Moved, Done}
+use Rattle.vc_tree_walks.specs.declared.turn.WalkStep.{WalkStep}
+use Rattle.vc_tree_walks.specs.declared.turn.WalkStep.TheVariants.{Item, Moved, Done}
 
 -- a step of an iterator that gives clones, and takes at most a number of further steps: it gives
 -- that of its first item, and the others are left. Or it gives an error, nothing is left, and no
@@ -22,7 +22,7 @@ WalksClones {V = V} is_clone rest work s r t =
     (λ _. (rest t ≡ []) × (work t ≡ 0)))
 
 -- a node of this key and this value: the key and a clone of the value, or none
-abbrev pub IsItem : {K V : Type 0} → (V → V → Type 0) → List K → Option V → Turn (List K × V) → Type 0
+abbrev pub IsItem : {K V : Type 0} → (V → V → Type 0) → List K → Option V → WalkStep (List K × V) → Type 0
 IsItem {V = V} is_clone key v (Item x) = (w : V) × is_clone w x.1 × (x.0 ≡ key) × (v ≡ Some w)
 IsItem is_clone key v Moved = v ≡ None
 IsItem is_clone key v Done = ⊥
@@ -47,7 +47,7 @@ module _ {K V : Type 0} where
 
   -- the rows below the open nodes of a path that continues from a node, the innermost first: of
   -- each the children that were not entered yet, and how much of the key is before theirs
-  abbrev pub rows_at : Tree K V → List Place → List (Forest K V × ℕ)
+  abbrev pub rows_at : Tree K V → List OpenNode → List (Forest K V × ℕ)
   rows_at t [] = []
   rows_at t (place ∷ path) =
       elim (entered place.entered t.children) [
@@ -57,7 +57,7 @@ module _ {K V : Type 0} where
       ++ (skip place.entered t.children, place.base) ∷ []
 
   -- the place of a node that is opened: none where it has no children
-  abbrev pub opened : Tree K V → ℕ → List Place
+  abbrev pub opened : Tree K V → ℕ → List OpenNode
   opened t base =
       elim t.children [
         | bare ↦ []
@@ -73,11 +73,11 @@ module _ {K V : Type 0} where
   way_work root way = outer_work (rows_at root way.path.items)
 
   -- the path leads to this node, at this depth, below which no child is open; the rows above it are left elsewhere
-  pub record IsReached (root : Tree K V) (path : List Place) (t : Tree K V) (depth : ℕ) : Type 0 where
+  pub record IsReached (root : Tree K V) (path : List OpenNode) (t : Tree K V) (depth : ℕ) : Type 0 where
     pub above : List (Forest K V × ℕ)
     pub within : depth < length path
-    pub rows : (more : List Place) → rows_at root (take depth path ++ more) ≡ rows_at t more ++ above
-    pub here : (place : Place) → place ≡ slice_index_or path depth place
+    pub rows : (more : List OpenNode) → rows_at root (take depth path ++ more) ≡ rows_at t more ++ above
+    pub here : (place : OpenNode) → place ≡ slice_index_or path depth place
         → rows_at root path ≡ (skip place.entered t.children, place.base) ∷ above
 
 module _ {K V T : Type 0} (tree : T → Tree K V) where
@@ -98,7 +98,7 @@ module _ {K V T : Type 0} (tree : T → Tree K V) where
   held_work s = if s.started then way_work (tree s.tree) s.way else (1 + 2 * nodes (tree s.tree))
 
   -- what one step found, and what is left after it
-  abbrev pub IsTurn : (V → V → Type 0) → ObjAndIter K V T → Turn (List K × V) → ObjAndIter K V T → Type 0
+  abbrev pub IsTurn : (V → V → Type 0) → ObjAndIter K V T → WalkStep (List K × V) → ObjAndIter K V T → Type 0
   IsTurn is_clone s (Item x) t =
       (v : V) × is_clone v x.1 × (held_left s ≡ (x.0, v) ∷ held_left t) × (held_work t < held_work s)
   IsTurn is_clone s Moved t = (held_left s ≡ held_left t) × (held_work t < held_work s)

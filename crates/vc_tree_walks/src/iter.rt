@@ -9,7 +9,7 @@ ghost use Rattle.vc_tree_walks.specs.IterLeft.{rows_before, IsItem, IsTurn};
 mod seek;
 
 use crate::key::IterKey;
-use crate::turn::Turn;
+use crate::turn::WalkStep;
 use std::alloc::{AllocError, Global};
 use std::marker::PhantomData;
 use std::mem;
@@ -57,12 +57,12 @@ impl<'a, K: Drop, V, T> Drop for Iter<'a, K, V, T> {
 fn item<'a, K: Drop, V>(
     key: &IterKey<K>,
     value: Option<&'a V>,
-) -> Result<Turn<(IterKey<K>, &'a V)>, AllocError>
+) -> Result<WalkStep<(IterKey<K>, &'a V)>, AllocError>
     ensures { IfOk result (IsItem key.now (option_copied value.entry)) }
 {
     match value {
-        Some(value) => Ok(Turn::Item((key.clone()?, value))),
-        None => Ok(Turn::Moved),
+        Some(value) => Ok(WalkStep::Item((key.clone()?, value))),
+        None => Ok(WalkStep::Moved),
     }
 }
 
@@ -91,7 +91,7 @@ impl<'a, K: TKey, V: TValue, T: RadixNode<K, V>> Iter<'a, K, V, T> {
 
 impl<'a, K: TKey, V: TValue + 'a, T: RadixNode<K, V>> Iter<'a, K, V, T> {
     /// One step: to the root, to the next tree of the innermost row, or out of that row.
-    fn turn(&mut self) -> Result<Turn<(IterKey<K>, &'a V)>, AllocError>
+    fn turn(&mut self) -> Result<WalkStep<(IterKey<K>, &'a V)>, AllocError>
         ensures ok { IfOk result (λ turn. IsTurn T.tree self.old turn self.new) }
         ensures err { OnErr result (0 < work_left T.tree self.old) }
     {
@@ -112,14 +112,14 @@ impl<'a, K: TKey, V: TValue + 'a, T: RadixNode<K, V>> Iter<'a, K, V, T> {
             return item(&self.key, tree.value());
         }
         let Some(row) = self.above.pop() else {
-            return Ok(Turn::Done);
+            return Ok(WalkStep::Done);
         };
         // No more of the key stands before the trees of an outer row.
         self.row = Row {
             base: row.base.min(self.row.base),
             trees: row.trees,
         };
-        Ok(Turn::Moved)
+        Ok(WalkStep::Moved)
     }
 
     /// Goes to a tree that stands before the innermost row: to its children, if it has some, and
@@ -178,9 +178,9 @@ impl<'a, K: TKey, V: TValue + 'a, T: RadixNode<K, V>> Iterator for Iter<'a, K, V
     fn next(&mut self) -> Option<Result<(IterKey<K>, &'a V), AllocError>> {
         loop {
             match self.turn() {
-                Ok(Turn::Item(item)) => return Some(Ok(item)),
-                Ok(Turn::Moved) => {}
-                Ok(Turn::Done) => return None,
+                Ok(WalkStep::Item(item)) => return Some(Ok(item)),
+                Ok(WalkStep::Moved) => {}
+                Ok(WalkStep::Done) => return None,
                 Err(fault) => {
                     self.stop();
                     return Some(Err(fault));

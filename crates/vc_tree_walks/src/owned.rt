@@ -10,7 +10,7 @@ ghost use Rattle.vc_tree_walks.specs.OwnedLeft.{entered, held_left, held_work, o
 ghost use Rattle.vc_tree_walks.specs.OwnedLeft.{way_left, way_work, IsItem, IsReached, IsTurn};
 
 use crate::key::IterKey;
-use crate::turn::Turn;
+use crate::turn::WalkStep;
 use std::alloc::{AllocError, Global};
 use std::marker::PhantomData;
 use vc_tree_nodes::reading::{RadixNode, TKey, TValue};
@@ -18,7 +18,7 @@ use vc_tree_nodes::reading::{RadixNode, TKey, TValue};
 /// An open node on the way: how many of its children were entered, and how many components of the
 /// key come before their keys.
 #[derive(Clone, Copy)]
-struct Place {
+struct OpenNode {
     entered: usize,
     base: usize,
 }
@@ -30,7 +30,7 @@ struct Way<K> {
     key: IterKey<K>,
     front: usize,
     /// The open nodes, the outermost first.
-    path: Vec<Place>,
+    path: Vec<OpenNode>,
 }
 
 /// The pairs of a tree that it owns, by ascending keys, each as its key and a clone of its value.
@@ -69,7 +69,7 @@ impl<K: TKey, V: TValue, T: RadixNode<K, V> + Drop> ObjAndIter<K, V, T> {
 
     /// Makes one step: to the root, to the next child of the innermost open node, or out of that
     /// node.
-    fn turn(&mut self) -> Result<Turn<(IterKey<K>, V)>, AllocError>
+    fn turn(&mut self) -> Result<WalkStep<(IterKey<K>, V)>, AllocError>
         ensures ok { IfOk result (λ turn. IsTurn T.tree V.is_clone self.old turn self.new) }
         ensures err { OnErr result (0 < held_work T.tree self.old) }
     {
@@ -80,11 +80,11 @@ impl<K: TKey, V: TValue, T: RadixNode<K, V> + Drop> ObjAndIter<K, V, T> {
             return item(&self.way.key, self.tree.value());
         }
         if self.way.path.is_empty() {
-            return Ok(Turn::Done);
+            return Ok(WalkStep::Done);
         }
         match self.way.advance(alloc, &self.tree)? {
             Some(node) => item(&self.way.key, node.value()),
-            None => Ok(Turn::Moved),
+            None => Ok(WalkStep::Moved),
         }
     }
 
@@ -140,7 +140,7 @@ impl<K: TKey> Way<K> {
         let prefix = child.prefix();
         self.key.turn_to(alloc, base, prefix)?;
         self.front = self.key.as_ref().len();
-        self.path.push(Place {
+        self.path.push(OpenNode {
             entered: place.entered + 1,
             base: self.front - prefix.len(),
         })?;
@@ -162,7 +162,7 @@ impl<K: TKey> Way<K> {
         if node.children().is_empty() {
             return Ok(());
         }
-        self.path.push(Place { entered: 0, base })?;
+        self.path.push(OpenNode { entered: 0, base })?;
         Ok(())
     }
 }
@@ -171,17 +171,20 @@ impl<K: TKey> Way<K> {
 fn item<K: Drop, V: Clone>(
     key: &IterKey<K>,
     value: Option<&V>,
-) -> Result<Turn<(IterKey<K>, V)>, AllocError>
+) -> Result<WalkStep<(IterKey<K>, V)>, AllocError>
     ensures { IfOk result (IsItem V.is_clone key.now (option_copied value.entry)) }
 {
     match value {
-        Some(value) => Ok(Turn::Item((key.clone()?, value.clone()?))),
-        None => Ok(Turn::Moved),
+        Some(value) => Ok(WalkStep::Item((key.clone()?, value.clone()?))),
+        None => Ok(WalkStep::Moved),
     }
 }
 
 /// The innermost open node of a path, and the number of open nodes above it.
-fn reach<'t, K: TKey, V: TValue, T: RadixNode<K, V>>(tree: &'t T, path: &[Place]) -> (&'t T, usize)
+fn reach<'t, K: TKey, V: TValue, T: RadixNode<K, V>>(
+    tree: &'t T,
+    path: &[OpenNode],
+) -> (&'t T, usize)
     requires { 0 < length path.now }
     ensures { IsReached (T.tree tree.now) path.now (T.tree result.0.now) result.1 }
 {
@@ -228,9 +231,9 @@ impl<K: TKey, V: TValue, T: RadixNode<K, V> + Drop> Iterator for ObjAndIter<K, V
     fn next(&mut self) -> Option<Result<(IterKey<K>, V), AllocError>> {
         loop {
             match self.turn() {
-                Ok(Turn::Item(item)) => return Some(Ok(item)),
-                Ok(Turn::Moved) => {}
-                Ok(Turn::Done) => return None,
+                Ok(WalkStep::Item(item)) => return Some(Ok(item)),
+                Ok(WalkStep::Moved) => {}
+                Ok(WalkStep::Done) => return None,
                 Err(fault) => {
                     self.stop();
                     return Some(Err(fault));

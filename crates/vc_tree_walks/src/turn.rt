@@ -2,7 +2,7 @@
 
 /// What one step of a walk found.
 #[derive(Drop)]
-pub(crate) enum Turn<I> {
+pub(crate) enum WalkStep<I> {
     /// The next item.
     Item(I),
     /// No item: the walk continues.

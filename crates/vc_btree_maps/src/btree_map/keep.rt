@@ -23,7 +23,7 @@ pub trait Keep<K, V, W> {
 
 /// A closure that is called at each key of the map.
 #[derive(Drop)]
-pub struct KeepLeft<'f, F>(pub &'f F);
+pub struct KeepEach<'f, F>(pub &'f F);
 
 /// A closure that is called at the keys of both maps. No other value stays.
 #[derive(Drop)]
@@ -33,7 +33,7 @@ pub struct KeepShared<'f, F>(pub &'f F);
 #[derive(Drop)]
 pub struct KeepAlone<'j, J>(pub &'j J);
 
-impl<'f, K, V, W, F: Fn(&K, &mut V, Option<&W>) -> bool> Keep<K, V, W> for KeepLeft<'f, F> {
+impl<'f, K, V, W, F: Fn(&K, &mut V, Option<&W>) -> bool> Keep<K, V, W> for KeepEach<'f, F> {
     ghost takes = { λ q a. (k : _) (v : _) (w : _) → at_pair k.now v.now (option_copied w) ≡ a
         → F.pre q.0.now k v w };
 

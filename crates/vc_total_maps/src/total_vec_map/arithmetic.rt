@@ -5,7 +5,7 @@ ghost use Rattle.vc_merge.specs.Clones.{ClonesAreEqual};
 ghost use Rattle.vc_total_maps.specs.CombinedTotals.{HoldsEverywhere, IsCombined, CanOnClones, GivesOnClones};
 
 use super::TotalVecMap;
-use super::combine::{Combine, combine_by};
+use super::combine::{CombineValues, combine_by};
 use std::alloc::{AllocError, Allocator};
 use std::default::MadeWith;
 use std::ops::{Add, Div, Mul, Sub};
@@ -14,7 +14,7 @@ use std::ops::{Add, Div, Mul, Sub};
 #[derive(Drop)]
 struct Sum;
 
-impl<V: Clone + Add<V, Output = V>> Combine<V, V> for Sum {
+impl<V: Clone + Add<V, Output = V>> CombineValues<V, V> for Sum {
     ghost can = { λ _. CanOnClones V.is_clone V.can_add };
 
     ghost may = { λ _. GivesOnClones V.is_clone V.add_gives };
@@ -28,7 +28,7 @@ impl<V: Clone + Add<V, Output = V>> Combine<V, V> for Sum {
 #[derive(Drop)]
 struct Difference;
 
-impl<V: Clone + Sub<V, Output = V>> Combine<V, V> for Difference {
+impl<V: Clone + Sub<V, Output = V>> CombineValues<V, V> for Difference {
     ghost can = { λ _. CanOnClones V.is_clone V.can_sub };
 
     ghost may = { λ _. GivesOnClones V.is_clone V.sub_gives };
@@ -42,7 +42,7 @@ impl<V: Clone + Sub<V, Output = V>> Combine<V, V> for Difference {
 #[derive(Drop)]
 struct Product;
 
-impl<V: Clone + Mul<V, Output = V>> Combine<V, V> for Product {
+impl<V: Clone + Mul<V, Output = V>> CombineValues<V, V> for Product {
     ghost can = { λ _. CanOnClones V.is_clone V.can_mul };
 
     ghost may = { λ _. GivesOnClones V.is_clone V.mul_gives };
@@ -56,7 +56,7 @@ impl<V: Clone + Mul<V, Output = V>> Combine<V, V> for Product {
 #[derive(Drop)]
 struct Quotient;
 
-impl<V: Clone + Div<V, Output = V>> Combine<V, V> for Quotient {
+impl<V: Clone + Div<V, Output = V>> CombineValues<V, V> for Quotient {
     ghost can = { λ _. CanOnClones V.is_clone V.can_div };
 
     ghost may = { λ _. GivesOnClones V.is_clone V.div_gives };

@@ -5,7 +5,7 @@ ghost use Rattle.vc_merge.specs.Clones.{ClonesAreEqual};
 ghost use Rattle.vc_total_maps.specs.MappedTotals.{HoldsOfEach, IsMapped, CanOnClone, GivesOnClone};
 
 use super::TotalVecMap;
-use super::combine::{Combination, Combine, combine_pairs};
+use super::combine::{Combination, CombineValues, combine_pairs};
 use std::alloc::{AllocError, Allocator};
 use std::default::MadeWith;
 use std::ops::Neg;
@@ -15,7 +15,7 @@ use vc_maps::vec_map::conversions::map_of_list;
 #[derive(Drop)]
 struct OfLeft<'f, F>(&'f F);
 
-impl<'f, V, X, F: Fn(&V) -> Result<X, AllocError>> Combine<V, X> for OfLeft<'f, F> {
+impl<'f, V, X, F: Fn(&V) -> Result<X, AllocError>> CombineValues<V, X> for OfLeft<'f, F> {
     ghost can = { λ c x _. (p : _) → p.now ≡ x → F.pre c.0.now p };
 
     ghost may = { λ c x _ v. FnReturnsAt F.Fn c.0.now x (Ok v) };
@@ -29,7 +29,7 @@ impl<'f, V, X, F: Fn(&V) -> Result<X, AllocError>> Combine<V, X> for OfLeft<'f, 
 #[derive(Drop)]
 struct Opposite;
 
-impl<V: Clone + Neg<Output = V>> Combine<V, V> for Opposite {
+impl<V: Clone + Neg<Output = V>> CombineValues<V, V> for Opposite {
     ghost can = { λ _ x _. CanOnClone V.is_clone V.can_neg x };
 
     ghost may = { λ _ x _. GivesOnClone V.is_clone V.neg_gives x };
@@ -47,7 +47,7 @@ fn change_by<
     K: Ord + Clone + Drop,
     V: Eq,
     X: Eq + Drop,
-    C: Combine<V, X>,
+    C: CombineValues<V, X>,
     const N: usize,
     const M: usize,
     A: Allocator + Copy,

@@ -22,7 +22,7 @@ use vc_maps::vec_map::conversions::map_of_list;
 use vc_maps::vec_map::join_asking;
 
 /// How the values of two maps at one key are combined.
-pub(super) trait Combine<V, X> {
+pub(super) trait CombineValues<V, X> {
     /// Whether it may be called with these values.
     ghost can: { Self → V → V → Type 0 };
 
@@ -48,7 +48,7 @@ pub(super) struct Combination<'q, K, V, X, C> {
     combine: &'q C,
 }
 
-impl<'q, K: Ord, V: Eq, X, C: Combine<V, X>> Combination<'q, K, V, X, C> {
+impl<'q, K: Ord, V: Eq, X, C: CombineValues<V, X>> Combination<'q, K, V, X, C> {
     /// Two maps, and the default of the result. It can answer all that the outer join of their
     /// pairs asks.
     fn of_two<const N: usize, A: Allocator>(
@@ -114,7 +114,7 @@ impl<'q, K: Ord, V: Eq, X, C: Combine<V, X>> Combination<'q, K, V, X, C> {
     }
 }
 
-impl<'q, K, V, X: Eq + Drop, C: Combine<V, X>> Question<K, V, V, X>
+impl<'q, K, V, X: Eq + Drop, C: CombineValues<V, X>> Question<K, V, V, X>
     for Combination<'q, K, V, X, C> {
     ghost takes = { λ q a.
         C.can q.combine.now (left_value q.left_default.now a) (right_value q.right_default.now a) };
@@ -141,7 +141,7 @@ pub(super) fn combine_pairs<
     K: Ord + Clone + Drop,
     V,
     X: Eq + Drop,
-    C: Combine<V, X>,
+    C: CombineValues<V, X>,
     const N: usize,
     A: Allocator + Copy,
 >(alloc: A, maps: &Combination<'_, K, V, X, C>) -> Result<SmallVec<(K, X), N, A>, AllocError>
@@ -172,7 +172,7 @@ where
 pub(super) fn combine_by<
     K: Ord + Clone + Drop,
     V: Eq + Drop,
-    C: Combine<V, V>,
+    C: CombineValues<V, V>,
     const N: usize,
     A: Allocator + Copy,
 >(
@@ -197,7 +197,7 @@ where
 #[derive(Drop)]
 struct ByClosure<'f, F>(&'f F);
 
-impl<'f, V, F: Fn(&V, &V) -> Result<V, AllocError>> Combine<V, V> for ByClosure<'f, F> {
+impl<'f, V, F: Fn(&V, &V) -> Result<V, AllocError>> CombineValues<V, V> for ByClosure<'f, F> {
     ghost can = { λ c x y. (p : _) (q : _) → p.now ≡ x → q.now ≡ y → F.pre c.0.now p q };
 
     ghost may = { λ c x y v. FnReturnsAtPair F.Fn c.0.now x y (Ok v) };
@@ -211,7 +211,7 @@ impl<'f, V, F: Fn(&V, &V) -> Result<V, AllocError>> Combine<V, V> for ByClosure<
 #[derive(Drop)]
 struct Greater;
 
-impl<V: Ord + Clone> Combine<V, V> for Greater {
+impl<V: Ord + Clone> CombineValues<V, V> for Greater {
     ghost can = { λ _ x y. ⊤ };
 
     ghost may = { λ _ x y. V.is_clone (max_by_ordering (V.cmp x y) x y) };
@@ -225,7 +225,7 @@ impl<V: Ord + Clone> Combine<V, V> for Greater {
 #[derive(Drop)]
 struct Lesser;
 
-impl<V: Ord + Clone> Combine<V, V> for Lesser {
+impl<V: Ord + Clone> CombineValues<V, V> for Lesser {
     ghost can = { λ _ x y. ⊤ };
 
     ghost may = { λ _ x y. V.is_clone (min_by_ordering (V.cmp x y) x y) };

@@ -10,7 +10,7 @@ returns-clause-right_ascends g c = none-ascends g.K.Ord.cmp
 
 pub returns-clause-takes : goal.returns-clause-takes
 returns-clause-takes g c =
-    let can = g.C.Combine.can c.args.combine.now in let map = c.args.map.now in
+    let can = g.C.CombineValues.can c.args.combine.now in let map = c.args.map.now in
     let left : total_map c.as_ref-pairs.result.now c.default_value.result.now ≡ map =
     (λ i. total_map ((c.as_ref-pairs.ensures.pairs ∙ c.non_default_mappings.ensures.pairs) i) (c.default_value.ensures i)) in
     takes-values _ _ can g.K.Ord.cmp _ _

@@ -6,7 +6,7 @@ use Rattle.vc_total_maps.proofs.total_vec_map.combine.Combination.of_two.Goals a
 
 pub returns-clause-takes : goal.returns-clause-takes
 returns-clause-takes g c =
-    let can = g.C.Combine.can c.args.combine.now in
+    let can = g.C.CombineValues.can c.args.combine.now in
     let left : total_map c.as_ref.result.now c.default_value.result.now ≡ c.args.this.now =
     (λ i. total_map ((c.as_ref.ensures.pairs ∙ c.non_default_mappings.ensures.pairs) i) (c.default_value.ensures i)) in
     let right : total_map c.as_ref-2.result.now c.default_value-2.result.now ≡ c.args.that.now =

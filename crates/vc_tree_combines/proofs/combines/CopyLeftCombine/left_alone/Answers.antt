@@ -1,7 +1,7 @@
 -- A copy of the whole tree.
 use Rattle.vc_tree_facing.proofs.Copied.{copied-by}
 use Rattle.vc_tree_combines.proofs.Alone.{difference-left}
-use Rattle.vc_tree_combines.proofs.combines.KeepLeftCombine.left_alone.Goals as goal
+use Rattle.vc_tree_combines.proofs.combines.CopyLeftCombine.left_alone.Goals as goal
 
 pub returns : goal.returns
 returns g c =

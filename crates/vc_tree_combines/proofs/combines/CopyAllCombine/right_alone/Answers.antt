@@ -1,6 +1,6 @@
 -- A copy of the whole tree.
 use Rattle.vc_tree_facing.proofs.Copied.{copied-by}
-use Rattle.vc_tree_combines.proofs.combines.KeepAllCombine.right_alone.Goals as goal
+use Rattle.vc_tree_combines.proofs.combines.CopyAllCombine.right_alone.Goals as goal
 
 pub returns : goal.returns
 returns g c =
