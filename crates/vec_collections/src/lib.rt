@@ -9,10 +9,8 @@
 //! listed.
 #![tactic(auto)]
 
-mod example;
-mod lawful;
+mod checks;
 pub mod macros;
-mod named;
 
 /// The engine of operations on sets, maps, intervals and the children of trees: a merge of two
 /// ascending lists.

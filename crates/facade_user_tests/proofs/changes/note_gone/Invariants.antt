@@ -1,7 +1,0 @@
--- The numbers so far are appended.
-use Rattle.std.proofs.Common.{◌≡◌, ◌++◌, map, take}
-use Rattle.facade_user_tests.specs.declared.changes.Change.TheVariants.{Gone}
-use Rattle.facade_user_tests.proofs.changes.note_gone.Given as goal
-
-abbrev pub invariant-loop-number : goal.invariant-loop-number
-invariant-loop-number l = l.changes.items ≡ l.initial.changes.items ++ map (λ x. Gone x) (take l.number-index l.numbers)

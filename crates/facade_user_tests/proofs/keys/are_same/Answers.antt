@@ -1,5 +1,0 @@
--- Equality of trees is equality of their maps, by its clause.
-use Rattle.facade_user_tests.proofs.keys.are_same.Goals as goal
-
-pub returns : goal.returns
-returns c = c.eq.ensures.maps

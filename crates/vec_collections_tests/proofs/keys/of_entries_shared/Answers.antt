@@ -1,0 +1,20 @@
+-- The iterator gives the list, and the clone of a number is that number.
+use Rattle.std.proofs.Common.{map, ◌≡◌}
+use Rattle.std.proofs.lemmas.Result.{IfOk-weaker}
+use Rattle.std.specs.Ordering.{nat_cmp}
+use Rattle.std.specs.Vec.Iter.{into_iter_items}
+use Rattle.vec_collections.specs.Exact.{kept-exact}
+use Rattle.vec_collections.specs.Map.{lookup, IsEqualMap}
+use Rattle.vec_collections.specs.TreePairs.{last_bound}
+use Rattle.vec_collections.specs.Value.{Copies}
+use Rattle.vec_collections_tests.proofs.Bound.{of-list}
+use Rattle.vec_collections_tests.proofs.keys.of_entries_shared.Goals as goal
+
+pub returns : goal.returns
+returns c =
+    IfOk-weaker c.from_vecs.result _ _
+    (λ t came k. kept-exact (λ x y. y ≡ x) (λ v w e. e) _ _
+    (of-list (λ s. into_iter_items s) c.into_iter.result _ c.into_iter.ensures.rest c.into_iter.ensures.runs
+    (λ pairs. IsEqualMap (Copies (λ x y. y ≡ x)) (last_bound nat_cmp (map (λ b. (b.0.items, b.1)) pairs)) (lookup nat_cmp t))
+    came k))
+    c.from_vecs.ensures.pairs

@@ -1,0 +1,15 @@
+-- The iterator gives the list, and the tree is that of what it gives.
+use Rattle.std.proofs.Common.{map}
+use Rattle.std.proofs.lemmas.Result.{IfOk-weaker}
+use Rattle.std.specs.Ordering.{nat_cmp}
+use Rattle.std.specs.Vec.Iter.{into_iter_items}
+use Rattle.vec_collections.specs.TreePairs.{IsCollected}
+use Rattle.vec_collections_tests.proofs.Bound.{of-list}
+use Rattle.vec_collections_tests.proofs.keys.of_names.Goals as goal
+
+pub returns : goal.returns
+returns c =
+    IfOk-weaker c.from_iter.result _ _
+    (λ t. of-list (λ s. into_iter_items s) c.into_iter.result _ c.into_iter.ensures.rest c.into_iter.ensures.runs
+    (λ pairs. IsCollected nat_cmp (map (λ b. (b.0.now, b.1)) pairs) t))
+    c.from_iter.ensures.pairs
