@@ -29,6 +29,9 @@ module _ {K V : Type 0} {cmp : K → K → Ordering} (total : IsTotalOrder cmp) 
     pub entry-others : (k : K) → eq_by_cmp cmp k key ≡ false → entry_at cmp new k ≡ entry_at cmp es k
     entry-others k e = h.entries k ∙ ap (λ b. cond b now (entry_at cmp es k)) e
 
+    value-others : (k : K) → eq_by_cmp cmp k key ≡ false → value_at cmp new k ≡ value_at cmp es k
+    value-others k e = h.values k ∙ ap (λ b. cond b (option_map (λ p. p.1) now) (value_at cmp es k)) e
+
   -- ---- what a place tells of the pair at a key
 
   pub found-entry : {es : List (K × V)} {key : K} {i : ℕ} → IsFound (λ p. cmp p.0 key) es i → AscendsByKey cmp es
@@ -61,6 +64,7 @@ module _ {K V : Type 0} {cmp : K → K → Ordering} (total : IsTotalOrder cmp) 
       pub value : UpsertsValue writes default (value_at cmp es key) (value_at cmp new key)
       pub entry : UpsertsEntry writes (key, default) (entry_at cmp es key) (entry_at cmp new key)
       pub others : (k : K) → eq_by_cmp cmp k key ≡ false → entry_at cmp new k ≡ entry_at cmp es k
+      pub other_values : (k : K) → eq_by_cmp cmp k key ≡ false → value_at cmp new k ≡ value_at cmp es k
       pub plain : (g : V → V) → ((v w : V) → writes v w → w ≡ g v) → (k : K)
           → value_at cmp new k ≡ cond (eq_by_cmp cmp k key) (Some (unwrap_or (option_map g (value_at cmp es key)) default)) (value_at cmp es k)
 
@@ -70,6 +74,7 @@ module _ {K V : Type 0} {cmp : K → K → Ordering} (total : IsTotalOrder cmp) 
       value = rw (value, value-now (Some (q.0, w)) h) did;
       entry = rw (entry, entry-now (Some (q.0, w)) h) (refl, did);
       others = entry-others (Some (q.0, w)) h;
+      other_values = value-others (Some (q.0, w)) h;
       plain = λ g does k. h.values k
           ∙ ap (λ x. cond (eq_by_cmp cmp k key) (Some x) (value_at cmp es k))
           (does q.1 w did ∙ ap (λ o. unwrap_or (option_map g o) default) (sym value));
@@ -81,6 +86,7 @@ module _ {K V : Type 0} {cmp : K → K → Ordering} (total : IsTotalOrder cmp) 
       value = rw (value, value-now (Some (key, default)) h) refl;
       entry = rw (entry, entry-now (Some (key, default)) h) refl;
       others = entry-others (Some (key, default)) h;
+      other_values = value-others (Some (key, default)) h;
       plain = λ g does k. h.values k
           ∙ ap (λ x. cond (eq_by_cmp cmp k key) (Some x) (value_at cmp es k))
           (ap (λ o. unwrap_or (option_map g o) default) (sym value));

@@ -106,6 +106,8 @@ where
             (entry_at K.cmp self.old key) (entry_at K.cmp self.new key)) }
         ensures others { OnOk result ((k : K) → eq_by_cmp K.cmp k key ≡ false
             → entry_at K.cmp self.new k ≡ entry_at K.cmp self.old k) }
+        ensures other_values { OnOk result ((k : K) → eq_by_cmp K.cmp k key ≡ false
+            → value_at K.cmp self.new k ≡ value_at K.cmp self.old k) }
 
         // With a closure that writes the result of a function.
         ensures plain { OnOk result ((g : V → V)

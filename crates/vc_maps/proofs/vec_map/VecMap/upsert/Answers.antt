@@ -78,6 +78,21 @@ returns-in-Ok-clause-others g c =
     rw (← c.self.view_is) (upserts-place g.met.K.Ord.total (MayWrite g.F.FnOnce c.args.f) c.args.default c.as_mut_slice.ensures.value found
     c.index-as_mut_slice-place.is c.self.invariant c.f.new.arg2 did).says.others
 
+pub returns-in-Ok-clause-other_values : goal.returns-in-Ok-clause-other_values
+returns-in-Ok-clause-other_values g c =
+    let found = rw c.as_slice.ensures at c.in-Ok.ensures in
+    let did : MayWrite g.F.FnOnce c.args.f c.index-as_mut_slice-place.result.1 c.f.new.arg2 =
+    record {
+      lent = _;
+      result = c.f.result;
+      left = _;
+      before = ap (λ q. q.1) (sym c.index-as_mut_slice-place.is);
+      met = c.f.ensures;
+      after = refl;
+    } in
+    rw (← c.self.view_is) (upserts-place g.met.K.Ord.total (MayWrite g.F.FnOnce c.args.f) c.args.default c.as_mut_slice.ensures.value found
+    c.index-as_mut_slice-place.is c.self.invariant c.f.new.arg2 did).says.other_values
+
 pub returns-in-Ok-clause-plain : goal.returns-in-Ok-clause-plain
 returns-in-Ok-clause-plain g c =
     let found = rw c.as_slice.ensures at c.in-Ok.ensures in
@@ -126,6 +141,15 @@ returns-in_ok-insert_at-in-Err-clause-others g c =
     (gap-value g.met.K.Ord.total gap) (gap-entry g.met.K.Ord.total gap c.self.invariant)
     (gap-changed g.met.K.Ord.total c.as_slice.ensures c.in-Err.ensures c.self.invariant (Some (c.args.key, c.args.default))
     (tied_itself g.met.K.Ord.total c.args.key) c.in_ok-insert_at-in-Err.ensures.ok)).others
+
+pub returns-in_ok-insert_at-in-Err-clause-other_values :
+    goal.returns-in_ok-insert_at-in-Err-clause-other_values
+returns-in_ok-insert_at-in-Err-clause-other_values g c =
+    let gap = rw c.as_slice.ensures at c.in-Err.ensures in
+    rw (← c.self.view_is) (upserts-new g.met.K.Ord.total (MayWrite g.F.FnOnce c.args.f) c.args.default
+    (gap-value g.met.K.Ord.total gap) (gap-entry g.met.K.Ord.total gap c.self.invariant)
+    (gap-changed g.met.K.Ord.total c.as_slice.ensures c.in-Err.ensures c.self.invariant (Some (c.args.key, c.args.default))
+    (tied_itself g.met.K.Ord.total c.args.key) c.in_ok-insert_at-in-Err.ensures.ok)).other_values
 
 pub returns-in_ok-insert_at-in-Err-clause-plain :
     goal.returns-in_ok-insert_at-in-Err-clause-plain
