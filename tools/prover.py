@@ -9,7 +9,7 @@ from pathlib import Path
 
 sys.dont_write_bytecode = True
 import kit  # noqa: E402
-from edits import Batch, Edit, Outcome, in_batches  # noqa: E402
+from edits import Batch, Outcome, in_batches  # noqa: E402
 
 # The lines of a check: an open goal, a refused answer of a proof file or lemma, an error of the compiler, and what became of a function.
 OPEN_GOAL = re.compile(r"note: (?:\./)?src/\S+: it is not proved that ")
@@ -127,6 +127,11 @@ class Prover:
     def __init__(self, repository, name, room, jobs):
         self.repository, self.name, self.room, self.jobs = repository, name, room, jobs
         self.folder = repository.room / "crates" / name
+        self.cycles = cycles_of(name, self.folder)
+
+    def clashes(self, one, other):
+        """Whether the prover can't tell two edits apart: also where they change functions of one cycle of calls, which have one proof."""
+        return one.clashes(other) or any(one.functions & it and other.functions & it for it in self.cycles.values())
 
     def begin(self, batches):
         """Proves the crate as it stands, which each of several batches begins with. Answers what that began with, and what is wrong with it."""
@@ -161,14 +166,14 @@ class Prover:
         status, said = self.check(batch.texts)
         wrong = {(f"crates/{self.name}/{file}", int(line)) for file, line in NOT_COMPILED.findall(said)}
         if not wrong and VERDICT.search(said):
-            return Verdicts(self.name, said, cycles_of(self.name, self.folder)).judged(batch.edits)
+            return Verdicts(self.name, said, self.cycles).judged(batch.edits)
         first = next((line for line in said.splitlines() if "error" in line or "no verdict" in line), f"status {status}")
         odd = [it for it in batch.edits if wrong & set(it.lines(batch.texts))] or batch.edits[: len(batch.edits) == 1]
         told = [f"{self.name}/wrong/{it.name}: it is not read, so no contract was tried: {first[:200]}" for it in odd]
         outcome, left = Outcome(failures=told), [it for it in batch.edits if it not in odd]
         middle = 0 if odd else len(left) // 2
         for part in filter(None, (left[:middle], left[middle:])):
-            for again in in_batches(part, self.repository.root, Edit.clashes):
+            for again in in_batches(part, self.repository.root, self.clashes):
                 outcome.add(self.try_batch(again))
         return outcome
 
@@ -177,9 +182,9 @@ def try_edits(repository, name, edits, jobs, deadline, refused):
     """What becomes of wrong bodies of a crate, in how many batches they were tried, and what that began with. Calls `refused` with those of each batch that
     is refused whole."""
     outcome, tried = Outcome(), 0
-    batches = in_batches(edits, repository.root, Edit.clashes)
     with tempfile.TemporaryDirectory(prefix="wrong-bodies-") as folder:
         prover = Prover(repository, name, Path(folder), jobs)
+        batches = in_batches(edits, repository.root, prover.clashes)
         start, why = prover.begin(len(batches))
         if why:
             return Outcome(failures=[why]), 0, start
