@@ -4,9 +4,9 @@
 //! Every name that a user writes comes from this crate: it exports the modules `merge`,
 //! `iterators`, `vec_set`, `vec_map`, `total_vec_set`, `total_vec_map`, `interval_set`,
 //! `btree_map`, `radix_tree`, `path_filter`, `macros` and `laws` of the crates below it, and the
-//! items of `vec_set` and `vec_map` also at its root. A user's line of `crates.txt` lists those
-//! crates too, since operators and loops on references to their types are found only where they are
-//! listed.
+//! items of `vec_set` and `vec_map` also at its root. `traits` has the traits of all calls. Where a
+//! user writes operators on references, or loops over them, the user's line of `crates.txt` lists
+//! those crates too: impls on references to a type are found only where its crate is listed.
 #![tactic(auto)]
 
 mod checks;
