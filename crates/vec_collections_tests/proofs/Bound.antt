@@ -3,19 +3,23 @@
 --     inserts-alike        two keys that are bound in either order, after maps that are equal
 --     runs-alike        one run of commands, from maps that are equal
 --     united-at        what a union makes at one key
+--     removed-clone        what is removed from a clone of a tree, by a test that gives one answer for each value
+--     parts-clones        the parts of a map, made of two clones of its tree
 --     on-refused        what follows of a refusal
 --     of-list        what holds of all that an iterator over a list gives, holds of the list
-use Rattle.std.proofs.Common.{◌≡◌, ◌==◌, ℕ, Bool, List, Option, None, Some, Result, Ok, Err, IsTrue, IsFalse, OnErr}
+use Rattle.std.proofs.Common.{◌≡◌, ◌==◌, ℕ, Bool, List, Option, None, Some, Result, Ok, Err, IsTrue, IsFalse, OnErr, not}
 use Rattle.std.proofs.Common.{refl, sym, ap, subst, ◌∙◌, rules}
 use Rattle.std.proofs.lemmas.Bool.{eqb-true}
 use Rattle.std.specs.Iterator.Runs.{EveryRun, ItemsAre, WholeRun}
 use Rattle.std.specs.declared.cmp.Ordering.{Ordering}
 use Rattle.vec_collections.specs.Combine.{IsUnionAt}
+use Rattle.vec_collections.specs.Cover.{IsRemoved, IsRetained, IsSifted}
 use Rattle.vec_collections.specs.Exact.{copies-exact, kept-exact, maps-exact, maps-one_source}
 use Rattle.vec_collections.specs.Key.{same_key}
 use Rattle.vec_collections.specs.Machine.{Command, Run}
-use Rattle.vec_collections.specs.Map.{or_else, IsEqualMap, IsUpdated}
-use Rattle.vec_collections.specs.PrefixLaws.{InsertsCommute, RunIsFunction}
+use Rattle.vec_collections.specs.Map.{lookup, or_else, IsEqualMap, IsUpdated}
+use Rattle.vec_collections.specs.PrefixLaws.{InsertsCommute, IsInOne, RemovalAndRetentionPart, RunIsFunction}
+use Rattle.vec_collections.specs.Tree.{Tree}
 use Rattle.vec_collections.specs.Value.{IsKept, Copies}
 
 -- numbers that the test finds equal are one
@@ -90,6 +94,31 @@ module _ {K V : Type 0} (cmp : K → K → Ordering) (is_clone : V → V → Typ
       (law m n cs oks left others (maps-one_source is_clone m n e) h
       (subst (λ xs. Run cmp (Copies is_clone) n xs oks others) same
       (subst (λ os. Run cmp (Copies is_clone) n ds os others) accepted k)))
+
+module _ {K V W : Type 0} (cmp : K → K → Ordering) {may : W → Bool → Type 0} (answer : W → Bool)
+    (one : (w : W) (b : Bool) → may w b → b ≡ answer w) (q : List K → Option W) (t : Tree K V) where
+  -- at one key a verdict of the test is its one answer
+  by-answer : (stays : Bool → Bool) (c : Option W) (v z : Option V) → IsSifted (λ x y. x ≡ y) may stays c v z
+      → IsSifted (λ x y. x ≡ y) (λ w b. b ≡ answer w) stays c v z
+  by-answer stays c None z h = h
+  by-answer stays None (Some v) z h = h
+  by-answer stays (Some w) (Some v) z h = (h.0, one w h.0 h.1, h.2)
+
+  -- what is removed from a clone of a tree, by a test that gives one answer for each value
+  pub removed-clone : (c left : Tree K V) → c ≡ t → IsRemoved (λ x y. x ≡ y) may q (lookup cmp c) (lookup cmp left)
+      → IsRemoved (λ x y. x ≡ y) (λ w b. b ≡ answer w) q (lookup cmp t) (lookup cmp left)
+  removed-clone c left same h k =
+      by-answer not _ _ _ (subst (λ s. IsRemoved (λ x y. x ≡ y) may q (lookup cmp s) (lookup cmp left)) same h k)
+
+  -- the parts of a map, made of two clones of its tree
+  pub parts-clones : (c d left kept : Tree K V) → RemovalAndRetentionPart K V W (λ x y. x ≡ y) may → c ≡ t → d ≡ t
+      → IsRemoved (λ x y. x ≡ y) may q (lookup cmp c) (lookup cmp left)
+      → IsRetained (λ x y. x ≡ y) may q (lookup cmp d) (lookup cmp kept)
+      → (k : List K) → IsInOne (λ x y. x ≡ y) (lookup cmp t k) (lookup cmp left k) (lookup cmp kept k)
+  parts-clones c d left kept law same alike removed retained =
+      law answer one q (lookup cmp t) (lookup cmp left) (lookup cmp kept)
+      (subst (λ s. IsRemoved (λ x y. x ≡ y) may q (lookup cmp s) (lookup cmp left)) same removed)
+      (subst (λ s. IsRetained (λ x y. x ≡ y) may q (lookup cmp s) (lookup cmp kept)) alike retained)
 
 -- what follows of a refusal
 pub on-refused : {T E A B : Type 0} (r : Result T E) → (A → B) → OnErr r A → OnErr r B

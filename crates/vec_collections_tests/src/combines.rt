@@ -4,10 +4,13 @@ ghost use Rattle.std.specs.Prelude.{◌≡◌, ◌+◌, ◌*◌, ◌<◌, ◌≤
 ghost use Rattle.std.specs.Ordering.{nat_cmp};
 ghost use Rattle.vec_collections.specs.Cover.{IsRemoved, IsRetained};
 ghost use Rattle.vec_collections.specs.Map.{lookup};
+ghost use Rattle.vec_collections.specs.PrefixLaws.{IsInOne};
 ghost use Rattle.vec_collections.specs.Shortened.{weight, IsShortened};
 ghost use Rattle.vec_collections.specs.Under.{prefixed};
 
+use crate::trees::Ports;
 use std::alloc::AllocError;
+use vec_collections::laws::{ByItself, removal_and_retention_part};
 use vec_collections::merge::Steps;
 use vec_collections::radix_tree::{AbstractRadixTree, AbstractRadixTreeMut, RadixTree};
 
@@ -55,6 +58,23 @@ pub fn keep_open<T: AbstractRadixTreeMut<u8, u32>>(
         (lookup nat_cmp (T.tree ports.new))) }
 {
     ports.retain_prefix_with(opened, is_marked)
+}
+
+/// Parts the ports into those that stay open and those that are closed: each is in one part, and in
+/// one alone.
+pub fn part(ports: &Ports, closed: &RadixTree<u8, bool>) -> Result<(Ports, Ports), AllocError>
+    ensures open { IfOk result (λ parts. IsRemoved (λ v w. v ≡ w)
+        (λ is_closed covered. covered ≡ is_closed) (lookup nat_cmp closed.now)
+        (lookup nat_cmp ports.now) (lookup nat_cmp parts.0)) }
+    ensures parts { IfOk result (λ parts. (k : List ℕ) → IsInOne (λ v w. v ≡ w)
+        (lookup nat_cmp ports.now k) (lookup nat_cmp parts.0 k) (lookup nat_cmp parts.1 k)) }
+{
+    removal_and_retention_part::<u8, u32, bool, ByItself, _>(&is_marked);
+    let mut left = ports.clone()?;
+    left.remove_prefix_with(closed, is_marked)?;
+    let mut kept = ports.clone()?;
+    kept.retain_prefix_with(closed, is_marked)?;
+    Ok((left, kept))
 }
 
 /// Puts a front before the names of all servers.
