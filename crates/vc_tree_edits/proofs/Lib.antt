@@ -7,3 +7,7 @@ pub mod Meeting
 pub mod Placed
 pub mod Passing
 pub mod Sifted
+pub mod Noting
+pub mod Weaving
+pub mod Coming
+pub mod Beside

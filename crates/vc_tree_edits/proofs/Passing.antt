@@ -1,20 +1,25 @@
 -- Trees that only one of two lists has, passed up to two that begin alike.
 --     children-ascend        canonical children ascend by the components with which they continue
---     merged-pair, merged-end, merged-behind        where a merge stops, and what may still be compared
+--     stopped        where a merge stops that passes what one list alone has
+--     stopped-next, stopped-fewer, stopped-behind        the next two that begin alike, and what may still be compared
+--     only_passes, passes, only-stopped        a merge that does nothing else
 --     place-next, gap-next        where a search for the only tree of the right side stops
 --     place-sought, gap-sought        the child that is found by a search
-use Rattle.std.proofs.Common.{◌≡◌, ℕ, ◌+◌, ◌-◌, ◌<◌, ◌≤◌, [], ◌∷◌, ◌++◌, List, Option, None, Some, true, false, Result, Ok, Err}
+--     all-within, one-within        trees that continue are longer than the place
+use Rattle.std.proofs.Common.{◌≡◌, ℕ, ◌+◌, ◌-◌, ◌<◌, ◌≤◌, [], ◌∷◌, ◌++◌, List, Option, None, Some, Bool, true, false, Result, Ok, Err}
 use Rattle.std.proofs.Common.{◌⊎◌, inl, inr, refl, sym, ap, subst, ◌∙◌, map, take, drop, length, slice_get, append_assoc}
-use Rattle.std.proofs.Common.{append-nil, length-append, arith}
+use Rattle.std.proofs.Common.{append-nil, length-append, length-drop, arith}
 use Rattle.std.proofs.Common.{zero, suc, get_or}
 use Rattle.std.proofs.Math.ListN.{drop_of_length-le}
 use Rattle.std.proofs.Math.Seq.{take-append_seam, drop-append_seam}
-use Rattle.std.proofs.lemmas.List.{append_cancel_left, take-append-drop}
+use Rattle.std.proofs.lemmas.List.{append_cancel_left, take-append-drop, take_all}
 use Rattle.std.proofs.lemmas.Option.{slice_get_within}
 use Rattle.std.specs.Cmp.{IsTotalOrder, tied_itself}
 use Rattle.std.specs.List.{AllByRecursion, HoldsAt, cons_option}
 use Rattle.std.specs.List.Sorted.{IsStrictlySortedBy}
-use Rattle.std.specs.Option.{option_cmp}
+use Rattle.std.specs.Option.{option_cmp, option_copied}
+use Rattle.std.specs.Prelude.{OnSome}
+use denote.Ref.{Bor}
 use Rattle.std.specs.declared.alloc.AllocError.{AllocError}
 use Rattle.std.specs.declared.cmp.Ordering.{Ordering}
 use Rattle.std.specs.declared.cmp.Ordering.TheVariants.{Less, Equal, Greater}
@@ -31,7 +36,6 @@ use Rattle.vc_tree_facing.specs.Facing.{shortened_in}
 use Rattle.vc_tree_facing.specs.Seeking.{side_at, IsSought, Stops as StopsSeeking}
 use Rattle.vc_tree_facing.specs.Sides.{by_component, by_component_total}
 use Rattle.vc_tree_facing.proofs.Components.{get-drop, children-first}
-use Rattle.vc_tree_facing.proofs.Next.{nil-by}
 use Rattle.vc_merge.proofs.Runs.{left_below-nil}
 use Rattle.vc_tree_edits.proofs.Placed.{first-at}
 use Rattle.vc_tree_edits.specs.Pairs.{ArePassed, StandsAt, IsNextPair}
@@ -104,26 +108,29 @@ module _ {A B : Type 0} (order : A ⊎ B → A ⊎ B → Ordering) where
       ∙ sym (ap (λ l. l ++ rs') (rights-run ys (events runs)) ∙ append_assoc ys (rights (events runs)) rs')
   passed-rights (of_both x y ∷ runs) ls rs ls' rs' p = absurd p
 
-  -- where as many right trees are left as there were, none was passed
-  pub none-skipped : {ls : List A} {rs : List B} {n : ℕ} {found : Option B} {rest : List B}
-      → (p : IsNextPair order ls rs n found rest) → length rs ≤ length (cons_option found rest) → rights (events p.runs) ≡ []
-  none-skipped {rs = rs} {found = found} {rest = rest} p h =
-      let e = ap length (passed-rights p.runs _ _ _ _ p.passed)
-      ∙ length-append (rights (events p.runs)) (cons_option found rest) in
-      nil-by (rights (events p.runs)) (omega (arith, e, h))
+-- where a walk stops at a pair
+pub on-some : {B Q : Type 0} (o : Option (Bor B)) {rs rest : List B} → rs ≡ cons_option (option_copied o) rest
+    → ((y : B) → rs ≡ y ∷ rest → Q) → OnSome o Q
+on-some None e f = tt
+on-some (Some y) e f = f y.now e
 
 -- ---- a merge that passes what one list alone has
 
-module _ {M A B : Type 0} (left : M → List A) (right : M → List B) (order : A ⊎ B → A ⊎ B → Ordering) where
-  abbrev pub passes : Allows M A B
-  passes = allows left right (record {
-    from_a = λ s n answer t. (answer ≡ Ok true) × LeftBelow order (take n (left s)) (right s);
-    from_b = λ s n answer t. (answer ≡ Ok true) × RightBelow order (take n (right s)) (left s);
-    collision = λ s answer t. (answer ≡ Ok false) × (t ≡ s) × HeadsCompare order (left s) (right s) Equal;
-  })
+pub true-false : ◌≡◌ {A = Answer} (Ok true) (Ok false) → ⊥
+true-false e = grind arith
 
-  true-false : ◌≡◌ {A = Answer} (Ok true) (Ok false) → ⊥
-  true-false e = grind arith
+module _ {M A B : Type 0} (order : A ⊎ B → A ⊎ B → Ordering) (op : Allows M A B) where
+  -- the run is below all of the other list
+  abbrev pub IsBelow : M → Run A B → Type 0
+  IsBelow s (of_left xs) = LeftBelow order (take (length xs) (op.left s)) (op.right s)
+  IsBelow s (of_right ys) = RightBelow order (take (length ys) (op.right s)) (op.left s)
+  IsBelow s (of_both x y) = ⊥
+
+  -- the state is left at two trees that are equal
+  abbrev pub IsLeft : M → Run A B → M → Type 0
+  IsLeft s (of_left xs) t = ⊥
+  IsLeft s (of_right ys) t = ⊥
+  IsLeft s (of_both x y) t = (t ≡ s) × HeadsCompare order (op.left s) (op.right s) Equal
 
   front-below : (xs ls : List A) (ks : List A) (rs : List B) → ks ≡ xs ++ ls → LeftBelow order (take (length xs) ks) rs
       → LeftBelow order xs rs
@@ -133,132 +140,159 @@ module _ {M A B : Type 0} (left : M → List A) (right : M → List B) (order : 
       → RightBelow order ys ls
   front-above ys rs ks ls e b = subst (λ l. RightBelow order l ls) (ap (take (length ys)) e ∙ take-append_seam ys rs) b
 
-  steps-passed : (s t : M) (runs : List (Run A B)) → Steps passes s runs t
-      → ArePassed order runs (left s) (right s) (left t) (right t)
-  steps-passed s t [] e = (ap left e, ap right e)
-  steps-passed s t (of_left xs ∷ runs) p =
-      let f = p.1.front in (
-        left p.0,
-        f.1,
-        front-below xs (left p.0) (left s) (right s) f.1 p.1.allowed.1,
-        subst (λ rs. ArePassed order runs (left p.0) rs (left t) (right t)) (sym f.2) (steps-passed p.0 t runs p.2),
-      )
-  steps-passed s t (of_right ys ∷ runs) p =
-      let f = p.1.front in (
-        right p.0,
-        f.2,
-        front-above ys (right p.0) (right s) (left s) f.2 p.1.allowed.1,
-        subst (λ ls. ArePassed order runs ls (right p.0) (left t) (right t)) (sym f.1) (steps-passed p.0 t runs p.2),
-      )
-  steps-passed s t (of_both x y ∷ runs) p = absurd (true-false p.1.allowed.0)
+  -- an operation that goes on behind runs of one list alone, and is stopped at a pair
+  pub record Passes : Type 0 where
+    pub goes_on : (s t : M) (run : Run A B) → IsAllowed op s run (Ok true) t → IsBelow s run
+    pub stops : (s t : M) (run : Run A B) → IsAllowed op s run (Ok false) t → IsLeft s run t
 
-  -- at the end of both lists, or at two that are equal, and P of what is behind these
-  abbrev StopsAt : (List A → List B → Type 0) → List A → List B → Type 0
-  StopsAt P [] [] = Unit {0}
-  StopsAt P [] (y ∷ rs) = ⊥
-  StopsAt P (x ∷ ls) [] = ⊥
-  StopsAt P (x ∷ ls) (y ∷ rs) = (order (inl x) (inr y) ≡ Equal) × P ls rs
+  module _ (passes : Passes) where
+    steps-passed : (s t : M) (runs : List (Run A B)) → Steps op s runs t
+        → ArePassed order runs (op.left s) (op.right s) (op.left t) (op.right t)
+    steps-passed s t [] e = (ap op.left e, ap op.right e)
+    steps-passed s t (of_left xs ∷ runs) p =
+        let f = p.1.front in (
+          op.left p.0,
+          f.1,
+          front-below xs (op.left p.0) (op.left s) (op.right s) f.1 (passes.goes_on s p.0 (of_left xs) p.1.allowed),
+          subst (λ rs. ArePassed order runs (op.left p.0) rs (op.left t) (op.right t)) (sym f.2) (steps-passed p.0 t runs p.2),
+        )
+    steps-passed s t (of_right ys ∷ runs) p =
+        let f = p.1.front in (
+          op.right p.0,
+          f.2,
+          front-above ys (op.right p.0) (op.right s) (op.left s) f.2 (passes.goes_on s p.0 (of_right ys) p.1.allowed),
+          subst (λ ls. ArePassed order runs ls (op.right p.0) (op.left t) (op.right t)) (sym f.1) (steps-passed p.0 t runs p.2),
+        )
+    steps-passed s t (of_both x y ∷ runs) p = absurd (passes.goes_on s p.0 (of_both x y) p.1.allowed)
 
-  record HasStopped (P : List A → List B → Type 0) (s t : M) : Type 0 where
-    runs : List (Run A B)
-    passed : ArePassed order runs (left s) (right s) (left t) (right t)
-    stops : StopsAt P (left t) (right t)
+    -- at the end of both lists, or at two that are equal, and P of what is behind these
+    abbrev pub StopsAt : (List A → List B → Type 0) → List A → List B → Type 0
+    StopsAt P [] [] = Unit {0}
+    StopsAt P [] (y ∷ rs) = ⊥
+    StopsAt P (x ∷ ls) [] = ⊥
+    StopsAt P (x ∷ ls) (y ∷ rs) = (order (inl x) (inr y) ≡ Equal) × P ls rs
 
-  at-pair : (P : List A → List B → Type 0) (ls ls' : List A) (rs rs' : List B) (x : A) (y : B) → ls ≡ x ∷ ls' → rs ≡ y ∷ rs'
-      → HeadsCompare order ls rs Equal → P ls' rs' → StopsAt P ls rs
-  at-pair P ls ls' rs rs' x y e f h p = rw (e, f) (rw (e, f) at h, p)
+    pub record HasStopped (P : List A → List B → Type 0) (s t : M) : Type 0 where
+      pub runs : List (Run A B)
+      pub steps : Steps op s runs t
+      pub passed : ArePassed order runs (op.left s) (op.right s) (op.left t) (op.right t)
+      pub stands : StopsAt P (op.left t) (op.right t)
 
-  stopped-by : (P : List A → List B → Type 0) (s t u : M) (answer : Answer) (runs : List (Run A B)) (run : Run A B) (ls : List A)
-      (rs : List B) → Steps passes s runs u → (answer ≡ Ok true → ⊥) → IsAtFront (left u) (right u) run ls rs
-      → IsAllowed passes u run answer t → BehindPair P run ls rs → HasStopped P s t
-  stopped-by P s t u answer runs (of_left xs) ls rs h n f a b = absurd (n a.0)
-  stopped-by P s t u answer runs (of_right ys) ls rs h n f a b = absurd (n a.0)
-  stopped-by P s t u answer runs (of_both x y) ls rs h n f a b =
-      subst (HasStopped P s) (sym a.1) (record {
-        runs = runs;
-        passed = steps-passed s u runs h;
-        stops = at-pair P (left u) ls (right u) rs x y f.0 f.1 a.2 b;
-      })
+    at-pair : (P : List A → List B → Type 0) (ls ls' : List A) (rs rs' : List B) (x : A) (y : B) → ls ≡ x ∷ ls' → rs ≡ y ∷ rs'
+        → HeadsCompare order ls rs Equal → P ls' rs' → StopsAt P ls rs
+    at-pair P ls ls' rs rs' x y e f h p = rw (e, f) (rw (e, f) at h, p)
 
-  none-behind : {X : Type 0} (xs ls : List X) → xs ≡ xs ++ ls → ls ≡ []
-  none-behind xs ls e = sym (append_cancel_left xs [] ls (append-nil xs ∙ e))
+    stopped-by : (P : List A → List B → Type 0) (s t u : M) (runs : List (Run A B)) (run : Run A B) (ls : List A)
+        (rs : List B) → Steps op s runs u → IsAtFront (op.left u) (op.right u) run ls rs → IsLeft u run t
+        → BehindPair P run ls rs → HasStopped P s t
+    stopped-by P s t u runs (of_left xs) ls rs h f a b = absurd a
+    stopped-by P s t u runs (of_right ys) ls rs h f a b = absurd a
+    stopped-by P s t u runs (of_both x y) ls rs h f a b =
+        subst (HasStopped P s) (sym a.0) (record {
+          runs = runs;
+          steps = h;
+          passed = steps-passed s u runs h;
+          stands = at-pair P (op.left u) ls (op.right u) rs x y f.0 f.1 a.1 b;
+        })
 
-  stopped : (P : List A → List B → Type 0) (s t : M) (r : Result (Unit {0}) AllocError) → IsMergedBefore passes order P s r t
-      → HasStopped P s t
-  stopped P s t (Ok u) (inl f) =
-      let p = steps-passed s t f.runs f.steps in
-      let l : left t ≡ [] =
-      none-behind (left s) (left t) (passed-lefts order f.runs _ _ _ _ p ∙ ap (λ l. l ++ left t) f.script.left) in
-      let r : right t ≡ [] =
-      none-behind (right s) (right t) (passed-rights order f.runs _ _ _ _ p ∙ ap (λ l. l ++ right t) f.script.right) in
-      record { runs = f.runs; passed = p; stops = rw (l, r) tt }
-  stopped P s t (Ok u) (inr w) =
-      let z = w.stops in
-      stopped-by P s t z.before (Ok false) z.runs z.last z.left_after z.right_after z.steps z.not_true z.front z.allowed w.behind
-  stopped P s t (Err e) w =
-      let z = w.stops in
-      stopped-by P s t z.before (Err e) z.runs z.last z.left_after z.right_after z.steps z.not_true z.front z.allowed w.behind
+    none-behind : {X : Type 0} (xs ls : List X) → xs ≡ xs ++ ls → ls ≡ []
+    none-behind xs ls e = sym (append_cancel_left xs [] ls (append-nil xs ∙ e))
 
-  front-long : (xs ls ks : List A) → ks ≡ xs ++ ls → (length ks - length ls ≤ length ks) × (drop (length ks - length ls) ks ≡ ls)
-  front-long xs ls ks e =
-      let n = ap length e ∙ length-append xs ls in
-      let m : length ks - length ls ≡ length xs = omega (arith, n) in
-      (omega (arith, n), ap (λ k. drop k ks) m ∙ ap (drop (length xs)) e ∙ drop-append_seam xs ls)
+    pub stopped : (P : List A → List B → Type 0) (s t : M) → IsMergedBefore op order P s (Ok tt) t → HasStopped P s t
+    stopped P s t (inl f) =
+        let p = steps-passed s t f.runs f.steps in
+        let l : op.left t ≡ [] =
+        none-behind (op.left s) (op.left t)
+        (passed-lefts order f.runs _ _ _ _ p ∙ ap (λ l. l ++ op.left t) f.script.left) in
+        let r : op.right t ≡ [] =
+        none-behind (op.right s) (op.right t)
+        (passed-rights order f.runs _ _ _ _ p ∙ ap (λ l. l ++ op.right t) f.script.right) in
+        record { runs = f.runs; steps = f.steps; passed = p; stands = rw (l, r) tt }
+    stopped P s t (inr w) =
+        let z = w.stops in
+        stopped-by P s t z.before z.runs z.last z.left_after z.right_after z.steps z.front
+        (passes.stops z.before t z.last z.allowed) w.behind
 
-  stands : (P : List A → List B → Type 0) (found : Option B) (ls : List A) (rs rest : List B) → rs ≡ cons_option found rest
-      → (found ≡ None → rest ≡ []) → StopsAt P ls rs → StandsAt order found ls rest
-  stands P None [] rs rest e n h = (refl, n refl)
-  stands P None (x ∷ ls) rs rest e n h = absurd (rw (e, n refl) at h)
-  stands P (Some y) [] rs rest e n h = absurd (rw e at h)
-  stands P (Some y) (x ∷ ls) rs rest e n h = (rw e at h).0
+    pub front-long : (xs ls ks : List A) → ks ≡ xs ++ ls
+        → (length ks - length ls ≤ length ks) × (drop (length ks - length ls) ks ≡ ls)
+    front-long xs ls ks e =
+        let n = ap length e ∙ length-append xs ls in
+        let m : length ks - length ls ≡ length xs = omega (arith, n) in
+        (omega (arith, n), ap (λ k. drop k ks) m ∙ ap (drop (length xs)) e ∙ drop-append_seam xs ls)
 
-  merged-next : (P : List A → List B → Type 0) (s t : M) (r : Result (Unit {0}) AllocError) → IsMergedBefore passes order P s r t
-      → (found : Option B) (rest : List B) → right t ≡ cons_option found rest → (found ≡ None → rest ≡ [])
-      → IsNextPair order (left s) (right s) (length (left s) - length (left t)) found rest
-  merged-next P s t r m found rest e n =
-      let h = stopped P s t r m in
-      let k = front-long (lefts (events h.runs)) (left t) (left s) (passed-lefts order h.runs _ _ _ _ h.passed) in
-      record {
-        within = k.0;
-        runs = h.runs;
-        passed = rw (k.1, ← e) h.passed;
-        stands = rw k.1 (stands P found (left t) (right t) rest e n h.stops);
-      }
+    pub stands-at : (P : List A → List B → Type 0) (found : Option B) (ls : List A) (rs rest : List B) → rs ≡ cons_option found rest
+        → (found ≡ None → rest ≡ []) → StopsAt P ls rs → StandsAt order found ls rest
+    stands-at P None [] rs rest e n h = (refl, n refl)
+    stands-at P None (x ∷ ls) rs rest e n h = absurd (rw (e, n refl) at h)
+    stands-at P (Some y) [] rs rest e n h = absurd (rw e at h)
+    stands-at P (Some y) (x ∷ ls) rs rest e n h = (rw e at h).0
 
-  -- where a merge stops
-  some-none : (y : B) → Some y ≡ None → ⊥
-  some-none y e = grind arith
+    -- the next two trees that begin alike, where it has stopped
+    abbrev pub stopped-next : (P : List A → List B → Type 0) (s t : M) (h : HasStopped P s t) (found : Option B)
+        (rest : List B) → op.right t ≡ cons_option found rest → (found ≡ None → rest ≡ [])
+        → IsNextPair order (op.left s) (op.right s) (length (op.left s) - length (op.left t)) found rest
+    stopped-next P s t h found rest e n =
+        let k = front-long (lefts (events h.runs)) (op.left t) (op.left s) (passed-lefts order h.runs _ _ _ _ h.passed) in
+        record {
+          within = k.0;
+          runs = h.runs;
+          passed = rw (k.1, ← e) h.passed;
+          stands = rw k.1 (stands-at P found (op.left t) (op.right t) rest e n h.stands);
+        }
 
-  pub merged-pair : (P : List A → List B → Type 0) (s t : M) (r : Result (Unit {0}) AllocError) → IsMergedBefore passes order P s r t
-      → (y : B) (rest : List B) → right t ≡ y ∷ rest
-      → IsNextPair order (left s) (right s) (length (left s) - length (left t)) (Some y) rest
-  merged-pair P s t r m y rest e = merged-next P s t r m (Some y) rest e (λ f. absurd (some-none y f))
+    pub stopped-fewer : (P : List A → List B → Type 0) (s t : M) → HasStopped P s t → length (op.left t) ≤ length (op.left s)
+    stopped-fewer P s t h =
+        let n = ap length (passed-lefts order h.runs _ _ _ _ h.passed) ∙ length-append (lefts (events h.runs)) (op.left t) in
+        omega (arith, n)
 
-  pub merged-end : (P : List A → List B → Type 0) (s t : M) (r : Result (Unit {0}) AllocError) → IsMergedBefore passes order P s r t
-      → right t ≡ [] → IsNextPair order (left s) (right s) (length (left s) - length (left t)) None []
-  merged-end P s t r m e = merged-next P s t r m None [] e (λ f. refl)
+    behind : (P : List A → List B → Type 0) (ls : List A) (rs rest : List B) (y : B) → rs ≡ y ∷ rest → StopsAt P ls rs
+        → (ls' : List A) × P ls' rest × (length ls ≡ length ls' + 1)
+    behind P [] rs rest y e h = absurd (rw e at h)
+    behind P (x ∷ ls) rs rest y e h = (ls, (rw e at h).1, omega arith)
 
-  pub merged-fewer : (P : List A → List B → Type 0) (s t : M) (r : Result (Unit {0}) AllocError) → IsMergedBefore passes order P s r t
-      → length (left t) ≤ length (left s)
-  merged-fewer P s t r m =
-      let h = stopped P s t r m in
-      let n = ap length (passed-lefts order h.runs _ _ _ _ h.passed) ∙ length-append (lefts (events h.runs)) (left t) in
-      omega (arith, n)
+    -- and P of what is behind the pair
+    pub stopped-behind : (P : List A → List B → Type 0) (s t : M) → HasStopped P s t → (y : B) (rest : List B)
+        → op.right t ≡ y ∷ rest
+        → (ls : List A) × P ls rest × (length (op.left s) - (length (op.left s) - length (op.left t)) - 1 ≡ length ls)
+    stopped-behind P s t h y rest e =
+        let b = behind P (op.left t) (op.right t) rest y e h.stands in
+        let n = ap length (passed-lefts order h.runs _ _ _ _ h.passed) ∙ length-append (lefts (events h.runs)) (op.left t) in
+        (b.0, b.1, omega (arith, n, b.2))
 
-  behind : (P : List A → List B → Type 0) (ls : List A) (rs rest : List B) (y : B) → rs ≡ y ∷ rest → StopsAt P ls rs
-      → (ls' : List A) × P ls' rest × (length ls ≡ length ls' + 1)
-  behind P [] rs rest y e h = absurd (rw e at h)
-  behind P (x ∷ ls) rs rest y e h = (ls, (rw e at h).1, omega arith)
+-- one that does nothing else, and is never refused
+module _ {M A B : Type 0} (left : M → List A) (right : M → List B) (order : A ⊎ B → A ⊎ B → Ordering) where
+  abbrev pub only_passes : Allows M A B
+  only_passes = allows left right (record {
+    from_a = λ s n answer t. (answer ≡ Ok true) × LeftBelow order (take n (left s)) (right s);
+    from_b = λ s n answer t. (answer ≡ Ok true) × RightBelow order (take n (right s)) (left s);
+    collision = λ s answer t. (answer ≡ Ok false) × (t ≡ s) × HeadsCompare order (left s) (right s) Equal;
+  })
 
-  -- and P of what is behind the pair
-  pub merged-behind : (P : List A → List B → Type 0) (s t : M) (r : Result (Unit {0}) AllocError)
-      → IsMergedBefore passes order P s r t → (y : B) (rest : List B) → right t ≡ y ∷ rest
-      → (ls : List A) × P ls rest × (length (left s) - (length (left s) - length (left t)) - 1 ≡ length ls)
-  merged-behind P s t r m y rest e =
-      let h = stopped P s t r m in
-      let b = behind P (left t) (right t) rest y e h.stops in
-      let n = ap length (passed-lefts order h.runs _ _ _ _ h.passed) ∙ length-append (lefts (events h.runs)) (left t) in
-      (b.0, b.1, omega (arith, n, b.2))
+  err-ok : {e : AllocError} {b : Bool} → ◌≡◌ {A = Answer} (Err e) (Ok b) → ⊥
+  err-ok e = grind arith
+
+  pub passes : Passes order only_passes
+  passes = record { goes_on = goes; stops = stops }
+    where
+      goes : (s t : M) (run : Run A B) → IsAllowed only_passes s run (Ok true) t → IsBelow order only_passes s run
+      goes s t (of_left xs) a = a.1
+      goes s t (of_right ys) a = a.1
+      goes s t (of_both x y) a = true-false a.0
+
+      stops : (s t : M) (run : Run A B) → IsAllowed only_passes s run (Ok false) t → IsLeft order only_passes s run t
+      stops s t (of_left xs) a = true-false (sym a.0)
+      stops s t (of_right ys) a = true-false (sym a.0)
+      stops s t (of_both x y) a = (a.1, a.2)
+
+  pub only-stopped : (P : List A → List B → Type 0) (s t : M) (r : Result (Unit {0}) AllocError)
+      → IsMergedBefore only_passes order P s r t → HasStopped order only_passes passes P s t
+  only-stopped P s t (Ok u) m = stopped order only_passes passes P s t m
+  only-stopped P s t (Err e) w = absurd (refused w.stops.last w.stops.allowed)
+    where
+      refused : (run : Run A B) → IsAllowed only_passes w.stops.before run (Err e) t → ⊥
+      refused (of_left xs) a = err-ok a.0
+      refused (of_right ys) a = err-ok a.0
+      refused (of_both x y) a = err-ok a.0
 
 -- ---- a search for the only tree of the right side
 
@@ -274,6 +308,24 @@ component-at {K = K} whole p i c e h r = by p i h (rw e at r)
     by [] i h r = absurd (omega (arith, h))
     by (x ∷ p) zero h r = ap Some (sym r)
     by (x ∷ p) (suc i) h r = by p i (omega (arith, h)) r
+
+-- what holds of all holds of the first ones, and of the others
+all-front : {X : Type 0} (P : X → Type 0) (xs ys : List X) → AllByRecursion P (xs ++ ys) → AllByRecursion P xs
+all-front P [] ys a = tt
+all-front P (x ∷ xs) ys a = (a.0, all-front P xs ys a.1)
+
+all-back : {X : Type 0} (P : X → Type 0) (xs ys : List X) → AllByRecursion P (xs ++ ys) → AllByRecursion P ys
+all-back P [] ys a = a
+all-back P (x ∷ xs) ys a = all-back P xs ys a.1
+
+-- trees that go on are longer than the place
+pub all-within : {K W B : Type 0} (cmp : K → K → Ordering) → IsTotalOrder cmp → (tb : B → Tree K W) (j : ℕ) (ys : List B)
+    → AreChildren cmp (shortened_in tb j ys) → AllByRecursion (λ y. j < length (tb y).prefix) ys
+all-within cmp o tb j [] a = tt
+all-within cmp o tb j (y ∷ ys) a =
+    let f = children-first cmp o j (tb y).prefix a in
+    let r = f.before f.place (tied_itself o f.place) in
+    (slice_get_within (tb y).prefix j f.place f.at, all-within cmp o tb j ys r.children)
 
 -- a tree that goes on is longer than the place
 pub one-within : {K W B : Type 0} (cmp : K → K → Ordering) → IsTotalOrder cmp → (tb : B → Tree K W) (j : ℕ) (y : B)
@@ -291,12 +343,12 @@ module _ {K V W A B : Type 0} (cmp : K → K → Ordering) (o : IsTotalOrder cmp
       by None = refl
       by (Some z) = refl
 
-  all-below : (xs : List A) → AllByRecursion (λ x. side_at cmp ta 0 c x ≡ Less) xs
+  pub all-below : (xs : List A) → AllByRecursion (λ x. side_at cmp ta 0 c x ≡ Less) xs
       → LeftBelow (by_component ta tb 0 j cmp) xs (y ∷ [])
   all-below [] a = tt
   all-below (x ∷ xs) a = ((by-side x ∙ a.0, tt), all-below xs a.1)
 
-  each-above : (xs : List A) → AllByRecursion (λ x. side_at cmp ta 0 c x ≡ Greater) xs
+  pub each-above : (xs : List A) → AllByRecursion (λ x. side_at cmp ta 0 c x ≡ Greater) xs
       → AllByRecursion (λ x. by_component ta tb 0 j cmp (inr y) (inl x) ≡ Less) xs
   each-above [] a = tt
   each-above (x ∷ xs) a = (
@@ -304,14 +356,14 @@ module _ {K V W A B : Type 0} (cmp : K → K → Ordering) (o : IsTotalOrder cmp
     each-above xs a.1,
   )
 
-  heads : (xs : List A) (i : ℕ) → i < length xs → HoldsAt (λ x. side_at cmp ta 0 c x ≡ Equal) xs i
+  pub heads : (xs : List A) (i : ℕ) → i < length xs → HoldsAt (λ x. side_at cmp ta 0 c x ≡ Equal) xs i
       → HeadsCompare (by_component ta tb 0 j cmp) (drop i xs) (y ∷ []) Equal
   heads [] i h s = absurd (omega (arith, h))
   heads (x ∷ xs) zero h s = by-side x ∙ s x
   heads (x ∷ xs) (suc i) h s = heads xs i (omega (arith, h)) s
 
   -- it is found
-  pub place-next : (xs : List A) (i : ℕ) → IsFound (side_at cmp ta 0 c) xs i
+  abbrev pub place-next : (xs : List A) (i : ℕ) → IsFound (side_at cmp ta 0 c) xs i
       → IsNextPair (by_component ta tb 0 j cmp) xs (y ∷ []) i (Some y) []
   place-next xs i f = record {
     within = let h = f.within in omega (arith, h);
@@ -321,7 +373,7 @@ module _ {K V W A B : Type 0} (cmp : K → K → Ordering) (o : IsTotalOrder cmp
   }
 
   -- or it is passed between two runs of the left list
-  pub gap-next : (xs : List A) (i : ℕ) → IsGap (side_at cmp ta 0 c) xs i
+  abbrev pub gap-next : (xs : List A) (i : ℕ) → IsGap (side_at cmp ta 0 c) xs i
       → IsNextPair (by_component ta tb 0 j cmp) xs (y ∷ []) (length xs) None []
   gap-next xs i f =
       let none : drop (length xs) xs ≡ [] = drop_of_length-le xs (omega arith) in
@@ -344,33 +396,45 @@ module _ {K V W A B : Type 0} (cmp : K → K → Ordering) (o : IsTotalOrder cmp
 
 -- ---- a child that is searched for
 
+-- the parts of a list around one element
+pub found-parts : {X : Type 0} (xs : List X) (i : ℕ) (x : X) → i < length xs → x ≡ get_or xs i x → (before after : List X)
+    → before ≡ take i xs → after ≡ drop (i + 1) xs → xs ≡ before ++ (x ∷ after)
+found-parts xs i x h e before after b a =
+    rw (b, a) (sym (ap (λ l. take i xs ++ l) (sym (first-at xs i x h e)) ∙ take-append-drop i xs))
+
+-- a slice to the end
+pub back-slice : {X : Type 0} (n : ℕ) (xs : List X) → take (length xs - n) (drop n xs) ≡ drop n xs
+back-slice n xs = take_all (length xs - n) (drop n xs) (let l = length-drop n xs in omega (arith, l))
+
+-- what holds of all holds of the first ones, and of a slice to the end
+pub all-take : {X : Type 0} (P : X → Type 0) (n : ℕ) (xs : List X) → AllByRecursion P xs → AllByRecursion P (take n xs)
+all-take P n xs a = all-front P (take n xs) (drop n xs) (rw (take-append-drop n xs) a)
+
+pub all-rest : {X : Type 0} (P : X → Type 0) (n : ℕ) (xs : List X) → AllByRecursion P xs
+    → AllByRecursion P (take (length xs - n) (drop n xs))
+all-rest P n xs a = rw (back-slice n xs) (all-back P (take n xs) (drop n xs) (rw (take-append-drop n xs) a))
+
 module _ {K V T : Type 0} (cmp : K → K → Ordering) (tree : T → Tree K V) (c : K) where
   -- it is found
   pub place-sought : (xs : List T) (i : ℕ) (x : T) → IsFound (side_at cmp tree 0 c) xs i → x ≡ get_or xs i x
-      → (rest : List T) × IsSought cmp tree 0 c xs (Some x) rest
-  place-sought xs i x f e = (
-    drop (i + 1) xs,
-    record {
-      passes = record {
-        passed = take i xs;
-        is = sym (ap (λ l. take i xs ++ l) (sym (first-at xs i x f.within e)) ∙ take-append-drop i xs);
-        lower = f.less;
-      };
-      stops = ap (side_at cmp tree 0 c) e ∙ f.equal x;
-    },
-  )
+      → (after : List T) → after ≡ drop (i + 1) xs → IsSought cmp tree 0 c xs (Some x) after
+  place-sought xs i x f e after h = record {
+    passes = record {
+      passed = take i xs;
+      is = found-parts xs i x f.within e (take i xs) after refl h;
+      lower = f.less;
+    };
+    stops = ap (side_at cmp tree 0 c) e ∙ f.equal x;
+  }
 
   greater-first : (xs : List T) → AllByRecursion (λ x. side_at cmp tree 0 c x ≡ Greater) xs → StopsSeeking cmp tree 0 c None xs
   greater-first [] a = tt
   greater-first (x ∷ xs) a = a.0
 
   -- or none begins so
-  pub gap-sought : (xs : List T) (i : ℕ) → IsGap (side_at cmp tree 0 c) xs i
-      → (rest : List T) × IsSought cmp tree 0 c xs None rest
-  gap-sought xs i f = (
-    drop i xs,
-    record {
-      passes = record { passed = take i xs; is = sym (take-append-drop i xs); lower = f.less };
-      stops = greater-first (drop i xs) f.greater;
-    },
-  )
+  pub gap-sought : (xs : List T) (i : ℕ) → IsGap (side_at cmp tree 0 c) xs i → (after : List T) → after ≡ drop i xs
+      → IsSought cmp tree 0 c xs None after
+  gap-sought xs i f after h = rw h (record {
+    passes = record { passed = take i xs; is = sym (take-append-drop i xs); lower = f.less };
+    stops = greater-first (drop i xs) f.greater;
+  })

@@ -1,10 +1,12 @@
 -- The trees of a list that is changed in place, run by run and pair by pair.
---     at-end        trees that one list alone has are done, and no others are left
+--     first-above        a right tree that is below the left list is the next one
+--     lefts-done, runs-done        trees that one list alone has are done
+--     pair-end        no others are left
 --     pair-within, pair-next        or the next two begin alike
 --     pair-done        they are done
 use Rattle.std.proofs.Common.{◌≡◌, ℕ, ◌+◌, ◌<◌, ◌≤◌, [], ◌∷◌, ◌++◌, List, Option, None, Some, Bool, true, false, cond, refl, sym}
 use Rattle.std.proofs.Common.{ap, subst, ◌∙◌, ◌⊎◌, inl, inr, map, take, drop, length, slice_get, append_assoc, append-nil}
-use Rattle.std.proofs.Common.{arith, get_or, length-drop}
+use Rattle.std.proofs.Common.{arith, get_or, length-drop, length-append}
 use Rattle.std.proofs.lemmas.List.{append_cancel_right, take-append-drop, drop-drop, map-append}
 use Rattle.std.specs.Cmp.{IsTotalOrder}
 use Rattle.std.specs.List.{AllByRecursion, cons_option}
@@ -13,7 +15,7 @@ use Rattle.std.specs.declared.cmp.Ordering.{Ordering}
 use Rattle.std.specs.declared.cmp.Ordering.TheVariants.{Less, Equal}
 use Rattle.vc_merge.specs.Chain.{Run, of_left, of_right, of_both, events}
 use Rattle.vc_merge.specs.Fronts.{LeftBelow, RightBelow, HeadsCompare}
-use Rattle.vc_merge.specs.Script.{left_alone, lefts, rights}
+use Rattle.vc_merge.specs.Script.{lefts}
 use Rattle.vc_tree_model.specs.Canonical.{AreChildren, IsWhole}
 use Rattle.vc_tree_model.specs.Look.{Look}
 use Rattle.vc_tree_model.specs.Places.{IsCombinedIn}
@@ -26,10 +28,13 @@ use Rattle.vc_tree_facing.specs.Made.{IsMadeOf}
 use Rattle.vc_tree_facing.specs.Sides.{by_component, by_component_total, side_next}
 use Rattle.vc_tree_facing.specs.declared.sides.EventSide.TheVariants.{Left, Right, Both}
 use Rattle.vc_merge.proofs.Runs.{heads-left}
-use Rattle.vc_tree_facing.proofs.Advancing.{passed, list-done}
-use Rattle.vc_tree_facing.proofs.Next.{done, left_within, left-next, both-next, made-left}
+use Rattle.vc_tree_facing.proofs.Advancing.{passed}
+use Rattle.vc_tree_facing.proofs.Next.{done, all-done as doing-done, left_within, left-next, both-next, made-left}
 use Rattle.vc_tree_edits.specs.Pairs.{ArePassed, IsNextPair}
-use Rattle.vc_tree_edits.proofs.Passing.{passed-lefts, lefts-run, lefts-skip, rights-run, rights-skip}
+use Rattle.vc_tree_edits.proofs.Passing.{passed-lefts, lefts-run, lefts-skip}
+use Rattle.vc_tree_edits.proofs.Weaving.{AreWithin, within-more, woven-run}
+use Rattle.vc_tree_edits.specs.declared.comers.Comer.{Comer}
+use Rattle.vc_tree_edits.specs.Woven.{woven}
 use Rattle.vc_tree_edits.specs.Kids.{IsSetAt}
 use Rattle.vc_tree_edits.proofs.Placed.{alone-made, first-at}
 
@@ -46,7 +51,7 @@ module _ {A B : Type 0} (order : A ⊎ B → A ⊎ B → Ordering) (total : IsTo
   first-below x [] h = refl
   first-below x (y ∷ rs) h = rw (total.antisymm (inr y) (inl x), h.0) refl
 
-  first-above : (y : B) (ls : List A) → AllByRecursion (λ x. order (inr y) (inl x) ≡ Less) ls
+  pub first-above : (y : B) (ls : List A) → AllByRecursion (λ x. order (inr y) (inl x) ≡ Less) ls
       → side_next order (slice_get ls 0) (Some y) ≡ Some Right
   first-above y [] h = refl
   first-above y (x ∷ ls) h = rw h.0 refl
@@ -54,15 +59,30 @@ module _ {A B : Type 0} (order : A ⊎ B → A ⊎ B → Ordering) (total : IsTo
   both-first : (x : A) (y : B) → order (inl x) (inr y) ≡ Equal → side_next order (Some x) (Some y) ≡ Some Both
   both-first x y e = rw (total.antisymm (inr y) (inl x), e) refl
 
+-- what was passed of a list is its front
+pub passed-front : {A B : Type 0} {order : A ⊎ B → A ⊎ B → Ordering} {ls : List A} {rs : List B} {n : ℕ} {found : Option B}
+    {rest : List B} (p : IsNextPair order ls rs n found rest) → lefts (events p.runs) ≡ take n ls
+passed-front {order = order} {ls} {n = n} p =
+    append_cancel_right _ _ (drop n ls) (sym (passed-lefts order p.runs _ _ _ _ p.passed) ∙ sym (take-append-drop n ls))
+
+-- where a walk along a list stops
+module _ {A B : Type 0} {order : A ⊎ B → A ⊎ B → Ordering} (ls : List A) (at : ℕ) {rs : List B} {n : ℕ} {found : Option B}
+    {rest : List B} (p : IsNextPair order (drop at ls) rs n found rest) (ls' : List A) (same : drop (at + n) ls' ≡ drop (at + n) ls)
+  where
+    rest-same : drop n (drop at ls) ≡ drop (at + n) ls'
+    rest-same = drop-drop n at ls ∙ sym same
+
+    -- at two trees that begin alike
+    pub pair-within : {y : B} → found ≡ Some y → at + n < length ls'
+    pair-within {y} e =
+        let h = rw (e, rest-same) at p.stands in
+        let long = heads-left order (drop (at + n) ls') (y ∷ []) Equal h in
+        omega (arith, long, length-drop (at + n) ls')
+
 -- what stays of some, before what stays of others
 stay-append : {X : Type 0} (b : Bool) (made xs ys : List X) → (made ++ cond b xs []) ++ cond b ys [] ≡ made ++ cond b (xs ++ ys) []
 stay-append true made xs ys = append_assoc made xs ys
 stay-append false made xs ys = append-nil (made ++ [])
-
--- two lists that are nothing together
-none-both : {X : Type 0} (xs ys : List X) → xs ++ ys ≡ [] → (xs ≡ []) × (ys ≡ [])
-none-both [] ys e = (refl, e)
-none-both (x ∷ xs) ys e = absurd (cc)
 
 one-stays : {K V : Type 0} (b : Bool) (t : Tree K V) → cons_option (left_of b 0 t) [] ≡ cond b (t ∷ []) []
 one-stays true t = refl
@@ -72,6 +92,15 @@ kept-map : {A K V : Type 0} (ta : A → Tree K V) (b : Bool) (xs zs : List A)
     → map ta (xs ++ cond b zs []) ≡ map ta xs ++ cond b (map ta zs) []
 kept-map ta true xs zs = map-append ta xs zs
 kept-map ta false xs zs = map-append ta xs []
+
+-- no comer stands behind what stays of a list that a pair was added to
+pub pair-places : {A : Type 0} {ls : List A} {at kept : ℕ} (cs : List (Comer A)) → AreWithin (length (take kept ls)) cs
+    → {new : A} (b : Bool) → kept ≤ at → (ls' : List A) → IsSetAt ls at new ls' → (ls'' : List A) (kept' : ℕ)
+    → take kept' ls'' ≡ take kept ls' ++ cond b (take 1 (drop at ls')) [] → AreWithin (length (take kept' ls'')) cs
+pair-places {ls = ls} {at} {kept} cs w b order ls' s ls'' kept' built =
+    let same = ap length (s.front kept order) in
+    let long = ap length built ∙ length-append (take kept ls') (cond b (take 1 (drop at ls')) []) in
+    within-more (length (take kept ls)) (length (take kept' ls'')) cs (omega (arith, same, long)) w
 
 module _ {K V W O A B : Type 0} {cmp : K → K → Ordering} {ta : A → Tree K V} {tb : B → Tree K W} {j : ℕ} {l : Look cmp W O}
     {R : Option V → O → Option V → Type 0} {asks : Option V → O → Type 0} {xs : List A} {ys : List B} where
@@ -94,7 +123,7 @@ module _ {K V W O A B : Type 0} {cmp : K → K → Ordering} {ta : A → Tree K 
         done (left-next d side refl) (ap (λ m. made ++ m) (sym (one-stays b (ta z))))
         (made-left (alone-made cmp d.total keeps itself R l.none (ta z) 0 c (left_within d refl) b alone))
 
-    lefts-done : (zs : List A) {ls : List A} {rs : List B} {made : List (Tree K V)} → IsDoing cmp ta tb 0 j l R asks xs ys (zs ++ ls) rs made
+    pub lefts-done : (zs : List A) {ls : List A} {rs : List B} {made : List (Tree K V)} → IsDoing cmp ta tb 0 j l R asks xs ys (zs ++ ls) rs made
         → LeftBelow (by_component ta tb 0 j cmp) zs rs → IsDoing cmp ta tb 0 j l R asks xs ys ls rs (made ++ cond b (map ta zs) [])
     lefts-done [] {ls} {rs} {made} d h = subst (IsDoing cmp ta tb 0 j l R asks xs ys ls rs) (none b) d
       where
@@ -104,50 +133,35 @@ module _ {K V W O A B : Type 0} {cmp : K → K → Ordering} {ta : A → Tree K 
     lefts-done (z ∷ zs) {ls} {rs} {made} d h =
         subst (IsDoing cmp ta tb 0 j l R asks xs ys ls rs) (stay-append b made (ta z ∷ []) (map ta zs)) (lefts-done zs (left-done d h.0) h.1)
 
-    all-done : (runs : List (Run A B)) → (rights (events runs) ≡ []) ⊎ ((o : O) → R None o None) → {ls ls' : List A}
-        {rs rs' : List B} {made : List (Tree K V)} → IsDoing cmp ta tb 0 j l R asks xs ys ls rs made
-        → ArePassed (by_component ta tb 0 j cmp) runs ls rs ls' rs'
+    all-done : ((o : O) → R None o None) → (runs : List (Run A B)) → {ls ls' : List A} {rs rs' : List B} {made : List (Tree K V)}
+        → IsDoing cmp ta tb 0 j l R asks xs ys ls rs made → ArePassed (by_component ta tb 0 j cmp) runs ls rs ls' rs'
         → IsDoing cmp ta tb 0 j l R asks xs ys ls' rs' (made ++ cond b (map ta (lefts (events runs))) [])
-    all-done [] n {ls} {ls'} {rs} {rs'} {made} d p = rw (← p.0, ← p.1) (lefts-done [] d tt)
-    all-done (of_left zs ∷ runs) n {ls} {ls'} {rs} {rs'} {made} d p =
+    all-done f [] {ls} {ls'} {rs} {rs'} {made} d p = rw (← p.0, ← p.1) (lefts-done [] d tt)
+    all-done f (of_left zs ∷ runs) {ls} {ls'} {rs} {rs'} {made} d p =
         subst (IsDoing cmp ta tb 0 j l R asks xs ys ls' rs')
         (stay-append b made (map ta zs) (map ta (lefts (events runs)))
         ∙ ap (λ m. made ++ cond b m []) (sym (map-append ta zs (lefts (events runs)))
         ∙ ap (map ta) (sym (lefts-run zs (events runs)))))
-        (all-done runs (skipped n) (lefts-done zs (subst (λ k. IsDoing cmp ta tb 0 j l R asks xs ys k rs made) p.1 d) p.2) p.3)
-      where
-        skipped : (rights (map (λ x. left_alone x) zs ++ events runs) ≡ []) ⊎ ((o : O) → R None o None)
-            → (rights (events runs) ≡ []) ⊎ ((o : O) → R None o None)
-        skipped (inl e) = inl (sym (rights-skip zs (events runs)) ∙ e)
-        skipped (inr f) = inr f
-    all-done (of_right zs ∷ runs) n {ls} {ls'} {rs} {rs'} {made} d p =
-        let more = subst (λ k. IsDoing cmp ta tb 0 j l R asks xs ys ls k made) p.1 d in
+        (all-done f runs (lefts-done zs (subst (λ k. IsDoing cmp ta tb 0 j l R asks xs ys k rs made) p.1 d) p.2) p.3)
+    all-done f (of_right zs ∷ runs) {ls} {ls'} {rs} {rs'} {made} d p =
         subst (IsDoing cmp ta tb 0 j l R asks xs ys ls' rs')
-        (ap (λ m. made ++ cond b (map ta m) []) (sym (lefts-skip zs (events runs)))) (elim n [
-          | inl e ↦
-              let n = none-both zs (rights (events runs)) (sym (rights-run zs (events runs)) ∙ e) in
-              all-done runs (inl n.1) (subst (λ k. IsDoing cmp ta tb 0 j l R asks xs ys ls (k ++ p.0) made) n.0 more) p.3
-          | inr f ↦ all-done runs (inr f) (rights-done f zs more p.2) p.3
-        ])
-    all-done (of_both x y ∷ runs) n d p = absurd p
+        (ap (λ m. made ++ cond b (map ta m) []) (sym (lefts-skip zs (events runs))))
+        (all-done f runs (rights-done f zs (subst (λ k. IsDoing cmp ta tb 0 j l R asks xs ys ls k made) p.1 d) p.2) p.3)
+    all-done f (of_both x y ∷ runs) d p = absurd p
 
     -- the trees before the next pair are done
-    pub runs-done : (ls : List A) (at kept : ℕ) {rs : List B}
+    pub runs-done : ((o : O) → R None o None) → (ls : List A) (at kept : ℕ) {rs : List B}
         → IsDoing cmp ta tb 0 j l R asks xs ys (drop at ls) rs (map ta (take kept ls)) → {n : ℕ} {found : Option B} {rest : List B}
-        → (p : IsNextPair (by_component ta tb 0 j cmp) (drop at ls) rs n found rest)
-        → (rights (events p.runs) ≡ []) ⊎ ((o : O) → R None o None) → (ls' : List A) (kept' : ℕ)
+        → (p : IsNextPair (by_component ta tb 0 j cmp) (drop at ls) rs n found rest) → (ls' : List A) (kept' : ℕ)
         → take kept' ls' ≡ take kept ls ++ cond b (take n (drop at ls)) [] → drop (at + n) ls' ≡ drop (at + n) ls
         → IsDoing cmp ta tb 0 j l R asks xs ys (drop (at + n) ls') (cons_option found rest) (map ta (take kept' ls'))
-    runs-done ls at kept d {n} {found} {rest} p nothing ls' kept' built same =
-        let front : lefts (events p.runs) ≡ take n (drop at ls) =
-        append_cancel_right _ _ (drop n (drop at ls))
-        (sym (passed-lefts (by_component ta tb 0 j cmp) p.runs _ _ _ _ p.passed) ∙ sym (take-append-drop n (drop at ls))) in
+    runs-done f ls at kept d {n} {found} {rest} p ls' kept' built same =
         let made : map ta (take kept ls) ++ cond b (map ta (lefts (events p.runs))) [] ≡ map ta (take kept' ls') =
-        ap (λ m. map ta (take kept ls) ++ cond b (map ta m) []) front
+        ap (λ m. map ta (take kept ls) ++ cond b (map ta m) []) (passed-front p)
         ∙ sym (ap (map ta) built ∙ kept-map ta b (take kept ls) (take n (drop at ls))) in
         let rest_is : drop n (drop at ls) ≡ drop (at + n) ls' = drop-drop n at ls ∙ sym same in
         subst (λ k. IsDoing cmp ta tb 0 j l R asks xs ys k (cons_option found rest) (map ta (take kept' ls'))) rest_is
-        (subst (IsDoing cmp ta tb 0 j l R asks xs ys (drop n (drop at ls)) (cons_option found rest)) made (all-done p.runs nothing d p.passed))
+        (subst (IsDoing cmp ta tb 0 j l R asks xs ys (drop n (drop at ls)) (cons_option found rest)) made (all-done f p.runs d p.passed))
 
   -- the next two trees begin alike
   meeting : {x : A} {ls : List A} {y : B} {rs : List B} {made : List (Tree K V)} → IsDoing cmp ta tb 0 j l R asks xs ys (x ∷ ls) (y ∷ rs) made
@@ -157,50 +171,45 @@ module _ {K V W O A B : Type 0} {cmp : K → K → Ordering} {ta : A → Tree K 
       both-next d (both-first (by_component ta tb 0 j cmp) (by_component_total ta tb 0 j d.total) x y h) refl refl
 
   -- they are done
-  pub pair-done : {ls : List A} {at kept : ℕ} {x : A} {y : B} {rs : List B}
-      → AreNext cmp ta tb 0 j l R asks xs ys (Some x) (Some y) (drop (at + 1) ls) rs (map ta (take kept ls)) → {new : A} (b : Bool)
+  pub pair-done : {ls : List A} {at kept : ℕ} {x : A} {y : B} {rs : List B} (cs : List (Comer A))
+      → AreNext cmp ta tb 0 j l R asks xs ys (Some x) (Some y) (drop (at + 1) ls) rs (map ta (woven 0 (take kept ls) cs))
+      → AreWithin (length (take kept ls)) cs → {new : A} (b : Bool)
       → IsMadeOf cmp l R (Some (shortened 0 (ta x))) (Some (shortened j (tb y))) (left_of b 0 (ta new)) → kept ≤ at
       → (ls' : List A) → IsSetAt ls at new ls' → (ls'' : List A) (kept' : ℕ)
       → take kept' ls'' ≡ take kept ls' ++ cond b (take 1 (drop at ls')) [] → drop (at + 1) ls'' ≡ drop (at + 1) ls'
-      → IsDoing cmp ta tb 0 j l R asks xs ys (drop (at + 1) ls'') rs (map ta (take kept' ls''))
-  pair-done {ls} {at} {kept} {rs = rs} n {new} b m order ls' s ls'' kept' built same =
-      let made : map ta (take kept' ls'') ≡ map ta (take kept ls) ++ cons_option (left_of b 0 (ta new)) [] =
-      ap (map ta) (built ∙ ap (λ k. k ++ cond b (take 1 (drop at ls')) []) (s.front kept order)
-      ∙ ap (λ k. take kept ls ++ cond b (take 1 k) []) s.here) ∙ map-append ta (take kept ls) (cond b (new ∷ []) [])
-      ∙ ap (λ k. map ta (take kept ls) ++ k) (by b) in
-      subst (λ k. IsDoing cmp ta tb 0 j l R asks xs ys k rs (map ta (take kept' ls''))) (sym (same ∙ s.rest)) (done n made m)
+      → IsDoing cmp ta tb 0 j l R asks xs ys (drop (at + 1) ls'') rs (map ta (woven 0 (take kept' ls'') cs))
+  pair-done {ls} {at} {kept} {rs = rs} cs n w {new} b m order ls' s ls'' kept' built same =
+      let kept_is : take kept' ls'' ≡ take kept ls ++ cond b (new ∷ []) [] =
+      built ∙ ap (λ k. k ++ cond b (take 1 (drop at ls')) []) (s.front kept order)
+      ∙ ap (λ k. take kept ls ++ cond b (take 1 k) []) s.here in
+      let made : map ta (woven 0 (take kept' ls'') cs) ≡ map ta (woven 0 (take kept ls) cs) ++ cons_option (left_of b 0 (ta new)) [] =
+      ap (λ k. map ta (woven 0 k cs)) kept_is
+      ∙ ap (map ta) (woven-run 0 (take kept ls) (cond b (new ∷ []) []) cs (length (take kept ls)) (omega arith) w)
+      ∙ map-append ta (woven 0 (take kept ls) cs) (cond b (new ∷ []) [])
+      ∙ ap (λ k. map ta (woven 0 (take kept ls) cs) ++ k) (by b) in
+      subst (λ k. IsDoing cmp ta tb 0 j l R asks xs ys k rs (map ta (woven 0 (take kept' ls'') cs))) (sym (same ∙ s.rest)) (done n made m)
     where
       by : (b : Bool) → map ta (cond b (new ∷ []) []) ≡ cons_option (left_of b 0 (ta new)) []
       by true = refl
       by false = refl
 
-  module _ (keeps : V → V → Type 0) (itself : (v : V) → keeps v v) (b : Bool)
-      (alone : MatchBool b ((v z : Option V) → IsKept keeps v z → R v l.none z) ((v : Option V) → R v l.none None))
-      (ls : List A) (at kept : ℕ) {rs : List B} (d : IsDoing cmp ta tb 0 j l R asks xs ys (drop at ls) rs (map ta (take kept ls))) {n : ℕ} {found : Option B}
-      {rest : List B} (p : IsNextPair (by_component ta tb 0 j cmp) (drop at ls) rs n found rest) (ls' : List A) (kept' : ℕ)
-      (built : take kept' ls' ≡ take kept ls ++ cond b (take n (drop at ls)) []) (same : drop (at + n) ls' ≡ drop (at + n) ls) where
-    rest-same : drop n (drop at ls) ≡ drop (at + n) ls'
-    rest-same = drop-drop n at ls ∙ sym same
-
+  -- where a walk along a list stops
+  module _ (ls : List A) (at : ℕ) {rs : List B} {n : ℕ} {found : Option B} {rest : List B}
+      (p : IsNextPair (by_component ta tb 0 j cmp) (drop at ls) rs n found rest) (ls' : List A)
+      (same : drop (at + n) ls' ≡ drop (at + n) ls) where
     -- all are done
-    pub at-end : ((o : O) → R None o None) → found ≡ None → AreChildren cmp (forest (map ta (take kept' ls')))
-        × IsCombinedIn cmp l R (shortened_in ta 0 xs) (shortened_in tb j ys) (forest (map ta (take kept' ls')))
-    at-end f e =
-        let done = runs-done keeps itself b alone ls at kept d p (inr f) ls' kept' built same in
+    pub pair-end : {made : List (Tree K V)} → found ≡ None → R None l.none None
+        → IsDoing cmp ta tb 0 j l R asks xs ys (drop (at + n) ls') (cons_option found rest) made
+        → AreChildren cmp (forest made) × IsCombinedIn cmp l R (shortened_in ta 0 xs) (shortened_in tb j ys) (forest made)
+    pair-end e none d =
         let stands = rw e at p.stands in
-        list-done f (cons_option found rest)
-        (subst (λ k. IsDoing cmp ta tb 0 j l R asks xs ys k (cons_option found rest) (map ta (take kept' ls'))) (sym rest-same ∙ stands.0) done)
+        let left = sym (rest-same ls at p ls' same) ∙ stands.0 in
+        doing-done (rw (e, left, stands.1) at d) refl none
 
     -- the next two trees begin alike
-    pub pair-within : {y : B} → found ≡ Some y → at + n < length ls'
-    pair-within {y} e =
-        let h = rw (e, rest-same) at p.stands in
-        let long = heads-left (by_component ta tb 0 j cmp) (drop (at + n) ls') (y ∷ []) Equal h in
-        omega (arith, long, length-drop (at + n) ls')
-
-    pub pair-next : (rights (events p.runs) ≡ []) ⊎ ((o : O) → R None o None) → {y : B} → found ≡ Some y → (x : A) → x ≡ get_or ls' (at + n) x
-        → AreNext cmp ta tb 0 j l R asks xs ys (Some x) (Some y) (drop (at + n + 1) ls') rest (map ta (take kept' ls'))
-    pair-next nothing {y} e x is =
-        let first = first-at ls' (at + n) x (pair-within e) is in
-        let done = runs-done keeps itself b alone ls at kept d p nothing ls' kept' built same in
-        meeting (rw (e, first) at done) (rw (e, rest-same, first) at p.stands)
+    pub pair-next : {made : List (Tree K V)} {y : B} → found ≡ Some y → IsDoing cmp ta tb 0 j l R asks xs ys (drop (at + n) ls') (cons_option found rest) made
+        → (x : A) → x ≡ get_or ls' (at + n) x
+        → AreNext cmp ta tb 0 j l R asks xs ys (Some x) (Some y) (drop (at + n + 1) ls') rest made
+    pair-next {y = y} e done x is =
+        let first = first-at ls' (at + n) x (pair-within ls at p ls' same e) is in
+        meeting (rw (e, first) at done) (rw (e, rest-same ls at p ls' same, first) at p.stands)

@@ -1,44 +1,38 @@
--- The trees of a change in place, on the parts of the tree and the list that is made of them.
+-- A change of a tree in place, on the parts of the tree.
 --     values-may        what may be asked of the values at the fronts
---     begun        the state before the first trees
---     first-long        a next tree continues at the place
---     after-left, after-right        a next tree is done, which one side alone has
---     falls-below        two trees that meet have fewer nodes than those that they are below
---     finished-children, finished        what was made is canonical children, and the node of it is what the change says
-use Rattle.std.proofs.Common.{◌≡◌, ℕ, ◌+◌, ◌<◌, [], ◌∷◌, List, Option, None, Some, slice_get, ap, subst, ◌∙◌, drop}
-use Rattle.std.proofs.Common.{take, length, arith, ◌≤◌, refl, sym, Bool, true, false, cond}
+--     begun        the state before anything below is changed
+--     stands-apart, stands-fewer        what is below both trees where they part, and its nodes
+--     finished        the node of what is made below is what the change says
+use Rattle.std.proofs.Common.{◌≡◌, ℕ, ◌+◌, ◌<◌, ◌≤◌, [], ◌∷◌, List, Option, None, slice_get, ap, subst, ◌∙◌, drop, take}
+use Rattle.std.proofs.Common.{length, length-drop, arith, sym, refl}
+use Rattle.std.proofs.Math.ListN.{drop_of_length-le}
+use Rattle.std.proofs.lemmas.List.{drop-drop}
 use Rattle.std.specs.Cmp.{IsTotalOrder}
+use Rattle.std.specs.Option.{option_cmp}
+use Rattle.std.specs.Ordering.{is_eq}
+use Rattle.std.specs.Prelude.{IsFalse}
 use Rattle.std.specs.declared.cmp.Ordering.{Ordering}
-use Rattle.vc_tree_model.specs.Canonical.{AreChildren, IsCanonical}
+use Rattle.std.specs.declared.cmp.Ordering.TheVariants.{Equal}
+use Rattle.vc_tree_model.specs.Canonical.{IsCanonical}
 use Rattle.vc_tree_model.specs.Child.{solid_child, value_at, children_at}
 use Rattle.vc_tree_model.specs.Map.{lookup}
-use Rattle.vc_tree_model.specs.Tree.{Tree, forest, nodes, forest_nodes}
-use Rattle.vc_tree_facing.specs.Facing.{shortened_in}
-use Rattle.vc_tree_facing.proofs.Leaving.{below-fewer}
+use Rattle.vc_tree_model.specs.Tree.{Tree, Forest, nodes, forest_nodes, shortened}
 use Rattle.vc_tree_model.specs.Value.{IsKept}
 use Rattle.vc_tree_model.proofs.AlikeLemmas.{tree-alike_canonical}
 use Rattle.vc_tree_model.specs.Look.{Look}
+use Rattle.vc_tree_facing.specs.Facing.{Parts, shortened_in}
 use Rattle.vc_tree_facing.specs.Made.{IsBothMadeBy}
-use Rattle.vc_tree_facing.specs.Doing.{IsDoing, AreNext}
-use Rattle.vc_tree_facing.specs.Sides.{by_component, side_next}
-use Rattle.vc_tree_facing.specs.declared.sides.EventSide.TheVariants.{Left, Right}
-use Rattle.vc_tree_facing.proofs.Ending.{values-asked, combine-started, made-children, combined}
-use Rattle.vc_tree_facing.proofs.Next.{falls, left-next, right-next, done, made-left, made-right}
-use Rattle.vc_tree_edits.specs.Taken.{IsMet, IsTaken, IsBegun, IsFirstLong, IsStayed, IsCome}
+use Rattle.vc_tree_facing.proofs.Components.{get-drop}
+use Rattle.vc_tree_facing.proofs.Ending.{values-asked, combine-started, made-front}
+use Rattle.vc_tree_facing.proofs.Leaving.{below-fewer}
+use Rattle.vc_tree_edits.specs.Pairs.{trees_of}
+use Rattle.vc_tree_edits.specs.Taken.{IsMet, IsTaken, IsBegun, IsCombinedBelow, AreApart, meeting_nodes, lefts_of, from_of}
+use Rattle.vc_tree_edits.specs.Taken.{LeftStands, RightStands}
+use Rattle.vc_tree_edits.specs.declared.engine.Below.{Below}
+use Rattle.vc_tree_edits.specs.declared.engine.Below.TheVariants.{Alone, Children}
+use Rattle.vc_tree_edits.specs.declared.pairs.Trees.{Trees}
+use Rattle.vc_tree_edits.specs.declared.pairs.Trees.TheVariants.{One, Many}
 use Rattle.vc_tree_edits.proofs.Changing.{faced-taken, asked-taken, taken-nodes, made-taken}
-
--- ---- the next trees are done
-
-module _ {K V W O T B : Type 0} {cmp : K → K → Ordering} {tree : T → Tree K V} {tb : B → Tree K W} {i j : ℕ} {l : Look cmp W O}
-    {R : Option V → O → Option V → Type 0} {asks : Option V → O → Type 0} {xs ls : List T} {ys rs : List B}
-    {kids kids' : List (Tree K V)} (d : IsDoing cmp tree tb i j l R asks xs ys ls rs kids) where
-  pub after-left : {ls' : List T} → side_next (by_component tree tb i j cmp) (slice_get ls 0) (slice_get rs 0) ≡ Some Left
-      → IsStayed cmp tree l R i ls ls' kids kids' → IsDoing cmp tree tb i j l R asks xs ys ls' rs kids'
-  after-left z w = done (left-next d z w.next) w.added (made-left w.made)
-
-  pub after-right : {rs' : List B} → side_next (by_component tree tb i j cmp) (slice_get ls 0) (slice_get rs 0) ≡ Some Right
-      → IsCome cmp tb l R j rs rs' kids kids' → IsDoing cmp tree tb i j l R asks xs ys ls rs' kids'
-  after-right z w = done (right-next d z w.next) w.added (made-right w.made)
 
 -- ---- the parts of a tree, beside another one
 
@@ -52,83 +46,101 @@ module _ {K V W O T B : Type 0} {cmp : K → K → Ordering} {tree : T → Tree 
   pub values-may : P value (l.at (value_at u (drop n u.prefix)))
   values-may = rw h.value_is (values-asked (faced-taken h m) o l P (asked-taken h m l P kept a))
 
-  -- the state before the first event
-  pub begun : {says R : Option V → O → Option V → Type 0} {asks : Option V → O → Type 0} {made : Option V}
-      → IsCanonical cmp t → IsCanonical cmp u → asks None l.none
-      → ((v : Option V) (z : O) → P v (l.under (value_at u (drop n u.prefix)) z) → asks v z)
-      → ((v : Option V) (z : O) (y : Option V) → R v z y → says v (l.under (value_at u (drop n u.prefix)) z) y)
-      → says value (l.at (value_at u (drop n u.prefix))) made → {ended : Bool}
-      → (ended ≡ true → (i ≡ 0) × (drop n t.prefix ≡ []))
-      → IsBegun cmp tree tb l keeps says R asks t u front made xs i ended ys j []
-  begun {R = R} {asks = asks} ct cu an lead down said start =
-      let c = tree-alike_canonical keeps cmp t h.taken h.alike ct in
-      record {
-        length_front = n;
-        value = value;
-        met = m;
-        taken = h;
-        from_start = start;
-        left_canonical = ct;
-        right_canonical = cu;
-        said = said;
-        said_below = down;
-        doing = combine-started (faced-taken h m) o l R asks an P lead (asked-taken h m l P kept a) c cu refl;
-      }
+-- the state before anything below is changed
+pub begun : {K V W O T B : Type 0} {cmp : K → K → Ordering} {tree : T → Tree K V} {tb : B → Tree K W} {keeps : V → V → Type 0}
+    {t : Tree K V} {u : Tree K W} {n : ℕ} (left : Below T) (right : Trees B) {j : ℕ} {front : List K} {value : Option V}
+    (h : IsTaken tree keeps t n front value (lefts_of left) (from_of left)) (m : IsMet cmp tb t u n (trees_of right) j)
+    → IsTotalOrder cmp → (l : Look cmp W O) (P : Option V → O → Type 0)
+    → ((v w : Option V) (z : O) → IsKept keeps v w → P v z → P w z)
+    → ((k : List K) → P (lookup cmp t k) (l.of_tree u k))
+    → {says R : Option V → O → Option V → Type 0} {asks : Option V → O → Type 0} {made : Option V}
+    → IsCanonical cmp t → IsCanonical cmp u → asks None l.none
+    → ((v : Option V) (z : O) → P v (l.under (value_at u (drop n u.prefix)) z) → asks v z)
+    → ((v : Option V) (z : O) (y : Option V) → R v z y → says v (l.under (value_at u (drop n u.prefix)) z) y)
+    → says value (l.at (value_at u (drop n u.prefix))) made → AreApart cmp tree tb left right j
+    → meeting_nodes cmp tree tb left right j ≤ nodes t + nodes u
+    → IsBegun cmp tree tb l keeps says R asks t u front made left right j
+begun {keeps = keeps} {t} {n = n} left right {value = value} h m o l P kept a {R = R} {asks = asks} ct cu an lead down said apart fewer =
+    let c = tree-alike_canonical keeps _ t h.taken h.alike ct in
+    record {
+      length_front = n;
+      value = value;
+      met = m;
+      taken = h;
+      apart = apart;
+      fewer = fewer;
+      said = said;
+      said_below = down;
+      doing = combine-started (faced-taken h m) o l R asks an P lead (asked-taken h m l P kept a) c cu refl;
+    }
 
--- what stands below, before anything is changed
-module _ {K V W O T B : Type 0} {cmp : K → K → Ordering} {tree : T → Tree K V} {tb : B → Tree K W} {keeps : V → V → Type 0}
-    {l : Look cmp W O} {says R : Option V → O → Option V → Type 0} {asks : Option V → O → Type 0} {t : Tree K V} {u : Tree K W}
-    {front : List K} {made : Option V} {xs : List T} {i : ℕ} {ended : Bool} {ys : List B} {j : ℕ}
-    (s : IsBegun cmp tree tb l keeps says R asks t u front made xs i ended ys j []) where
-  -- children have fewer nodes than the node that they stand below
-  pub list-fewer : ended ≡ true → forest_nodes (shortened_in tree i xs) + 1 ≤ nodes t
-  list-fewer e =
-      let rest = ap (drop s.length_front) (sym s.taken.alike.0) ∙ (s.from_start e).1 in
-      let kids = ap forest_nodes s.taken.opened.children ∙ ap (λ r. forest_nodes (children_at s.taken.taken r)) rest in
-      let same = taken-nodes s.taken s.met in
-      omega (arith, kids, same)
+-- ---- what is below
 
-  pub right-below : forest_nodes (shortened_in tb j ys) ≤ nodes u
-  right-below = below-fewer s.met.right
+not-equal : (r : Ordering) → r ≡ Equal → IsFalse (is_eq r) → ⊥
+not-equal r e w = grind arith
+
+-- prefixes that part, and both continue, do not continue alike
+parts-apart : {K : Type 0} (cmp : K → K → Ordering) (p q : List K) (i j : ℕ) → Parts cmp (drop i p) (drop j q) → i < length p
+    → j < length q → option_cmp cmp (slice_get p i) (slice_get q j) ≡ Equal → ⊥
+parts-apart {K} cmp p q i j w h k =
+    rw (← get-drop i p, ← get-drop j q) (by (drop i p) (drop j q) w (omega (arith, length-drop i p, h)) (omega (arith, length-drop j q, k)))
+  where
+    by : (p q : List K) → Parts cmp p q → 0 < length p → 0 < length q
+        → option_cmp cmp (slice_get p 0) (slice_get q 0) ≡ Equal → ⊥
+    by [] q w h k e = omega (arith, h)
+    by (x ∷ p) [] w h k e = omega (arith, k)
+    by (x ∷ p) (y ∷ q) w h k e = not-equal (cmp x y) e w
+
+ended-rest : {K : Type 0} (i n : ℕ) (p : List K) → length p ≤ i + n → drop n (drop i p) ≡ []
+ended-rest i n p h = drop-drop n i p ∙ drop_of_length-le p h
+
+module _ {K V W T B : Type 0} (cmp : K → K → Ordering) (tree : T → Tree K V) (tb : B → Tree K W) (x : T) (y : B) (i j n : ℕ) where
+  -- two trees that continue do not begin alike
+  pub stands-apart : (left : Below T) (right : Trees B) (m : ℕ) → LeftStands tree x (i + n) left
+      → RightStands tb y (j + n) right m → Parts cmp (drop n (drop i (tree x).prefix)) (drop n (drop j (tb y).prefix))
+      → AreApart cmp tree tb left right m
+  stands-apart (Alone z k) (One w) m s r p =
+      rw (s.0, s.1, r.0, r.1)
+      (parts-apart cmp (tree x).prefix (tb y).prefix (i + n) (j + n)
+      (rw (drop-drop n i (tree x).prefix, drop-drop n j (tb y).prefix) at p) s.2 r.2)
+  stands-apart (Alone z k) (Many ws) m s r p = r.0
+  stands-apart (Children zs) right m s r p = tt
+
+  -- children have fewer nodes than the node that they are below
+  pub stands-fewer : (left : Below T) (right : Trees B) (m : ℕ) {keeps : V → V → Type 0} {front : List K} {value : Option V}
+      → LeftStands tree x (i + n) left → RightStands tb y (j + n) right m
+      → IsTaken tree keeps (shortened i (tree x)) n front value (lefts_of left) (from_of left)
+      → IsMet cmp tb (shortened i (tree x)) (shortened j (tb y)) n (trees_of right) m
+      → meeting_nodes cmp tree tb left right m ≤ nodes (shortened i (tree x)) + nodes (shortened j (tb y))
+  stands-fewer (Alone z k) (One w) m s r h met = omega arith
+  stands-fewer (Alone z k) (Many ws) m s r h met =
+      let same = ap (λ t. nodes (tree t)) s.0 in
+      let kids = ap forest_nodes met.right.children
+      ∙ ap (λ q. forest_nodes (children_at (shortened j (tb y)) q)) (ended-rest j n (tb y).prefix r.1) in
+      omega (arith, same, kids)
+  stands-fewer (Children zs) right m s r h met =
+      let rest = ap (drop n) (sym h.alike.0) ∙ ended-rest i n (tree x).prefix s in
+      let kids = ap forest_nodes h.opened.children ∙ ap (λ q. forest_nodes (children_at h.taken q)) rest in
+      let same = taken-nodes h met in
+      let others = below-fewer met.right in
+      omega (arith, kids, same, others)
 
 -- ---- a change that has begun
 
 module _ {K V W O T B : Type 0} {cmp : K → K → Ordering} {tree : T → Tree K V} {tb : B → Tree K W} {keeps : V → V → Type 0}
     {l : Look cmp W O} {says R : Option V → O → Option V → Type 0} {asks : Option V → O → Type 0} {t : Tree K V} {u : Tree K W}
-    {front : List K} {made : Option V} {xs : List T} {i : ℕ} {ended : Bool} {ys : List B} {j : ℕ}
-    (s : IsBegun cmp tree tb l keeps says R asks t u front made xs i ended ys j []) {ls : List T} {rs : List B}
-    {kids : List (Tree K V)} where
-  -- two trees that meet have fewer nodes than those that they stand below
-  pub falls-below : {x : T} {y : B} → AreNext cmp tree tb i j l R asks xs ys (Some x) (Some y) ls rs kids
-      → nodes (tree x) + nodes (tb y) < nodes t + nodes u
-  falls-below n =
-      let faced = faced-taken s.taken s.met in
-      let same = taken-nodes s.taken s.met in
-      let down = falls n faced.left faced.right faced.parts in
-      omega (arith, same, down)
-
-  module _ (d : IsDoing cmp tree tb i j l R asks xs ys ls rs kids) (none : R None l.none None)
-      (stop : side_next (by_component tree tb i j cmp) (slice_get ls 0) (slice_get rs 0) ≡ None) where
-    -- what was made is canonical children
-    pub finished-children : AreChildren cmp (forest kids)
-    finished-children = made-children (faced-taken s.taken s.met) d stop none
-
-    -- the node of it is what the change says of the tree
-    pub finished : says None l.none None
-        → ((v w : Option V) (z : O) (y : Option V) → IsKept keeps v w → says w z y → says v z y)
-        → {out : Option (Tree K V)} → out ≡ solid_child front made (forest kids) → IsBothMadeBy cmp l says t u out
-    finished nothing kept g =
-        made-taken s.taken s.met l kept
-        (combined (faced-taken s.taken s.met) d stop none says nothing s.said_below made
-        (subst (λ v. says v (l.at (value_at u (drop s.length_front u.prefix))) made) s.taken.value_is s.said)
-        (s.taken.front_is ∙ ap (take s.length_front) s.taken.alike.0) g)
-
--- the first tree of a list that is left goes on
-pub first-long : {K V T : Type 0} (tree : T → Tree K V) (n : ℕ) (xs : List T) → 0 < length xs
-    → ((x : T) (rest : List T) → xs ≡ x ∷ rest → n < length (tree x).prefix) → IsFirstLong tree n xs
-first-long tree n xs h f = grind arith
-
--- a measure that is asked for in one case alone
-pub cond-below : (b : Bool) (n m : ℕ) → (b ≡ true → n < m) → 0 < m → cond b n 0 < m
-cond-below true n m f h = f refl
-cond-below false n m f h = h
+    {front : List K} {made : Option V} {left : Below T} {right : Trees B} {j : ℕ}
+    (s : IsBegun cmp tree tb l keeps says R asks t u front made left right j) where
+  -- the node of what is made below is what the change says of the tree
+  pub finished : says None l.none None
+      → ((v w : Option V) (z : O) (y : Option V) → IsKept keeps v w → says w z y → says v z y) → (h : Forest K V)
+      → IsCombinedBelow cmp l R (shortened_in tree (from_of left) (lefts_of left)) (shortened_in tb j (trees_of right)) h
+      → {out : Option (Tree K V)} → out ≡ solid_child front made h → IsBothMadeBy cmp l says t u out
+  finished nothing kept h k g =
+      let f = faced-taken s.taken s.met in
+      let below = rw (f.left.children, f.right.children) at k.1 in
+      let root = subst (λ v. says v (l.at (value_at u (drop s.length_front u.prefix))) made) s.taken.value_is s.said in
+      let front_is = s.taken.front_is ∙ ap (take s.length_front) s.taken.alike.0 in
+      made-taken s.taken s.met l kept
+      (rw (g, front_is) (made-front s.doing.total l s.taken.taken u s.length_front f.same says nothing f.parts made h k.0 root
+      (λ x q. s.said_below _ _ _ (below x q))))

@@ -4,3 +4,4 @@ pub mod Saying
 pub mod Taken
 pub mod Kids
 pub mod Pairs
+pub mod Woven

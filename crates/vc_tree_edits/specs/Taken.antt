@@ -1,16 +1,23 @@
--- Trees that a change in place takes apart. No public clause cites these words.
-use Rattle.std.specs.Prelude.{◌≡◌, Bool, true, ℕ, ◌<◌, List, [], ◌∷◌, ◌++◌, length, Option, None, drop, take}
-use Rattle.std.specs.List.{cons_option}
+-- Trees that a change in place takes apart, and what is below. No public clause cites these words.
+use Rattle.std.specs.Prelude.{◌≡◌, ℕ, ◌+◌, ◌<◌, ◌≤◌, List, [], ◌∷◌, length, Option, drop, take, ⊤}
+use Rattle.std.proofs.Common.{inl, inr}
 use Rattle.std.specs.declared.cmp.Ordering.{Ordering}
-use Rattle.vc_tree_model.specs.Canonical.{IsCanonical}
-use Rattle.vc_tree_model.specs.Tree.{Tree, shortened}
+use Rattle.std.specs.declared.cmp.Ordering.TheVariants.{Equal}
+use Rattle.vc_tree_model.specs.Canonical.{AreChildren}
+use Rattle.vc_tree_model.specs.Tree.{Tree, Forest, nodes, forest_nodes}
 use Rattle.vc_tree_model.specs.Look.{Look}
 use Rattle.vc_tree_model.specs.Same.{IsAlike}
 use Rattle.vc_tree_model.specs.Child.{value_at}
+use Rattle.vc_tree_model.specs.Places.{IsCombinedIn}
 use Rattle.vc_tree_nodes.specs.Parting.{Agree}
-use Rattle.vc_tree_facing.specs.Facing.{IsOpened, Parts}
-use Rattle.vc_tree_facing.specs.Made.{IsMade, IsMadeBy}
+use Rattle.vc_tree_facing.specs.Facing.{IsOpened, Parts, shortened_in}
 use Rattle.vc_tree_facing.specs.Doing.{IsDoing}
+use Rattle.vc_tree_facing.specs.Sides.{by_component}
+use Rattle.vc_tree_edits.specs.Pairs.{trees_of}
+use Rattle.vc_tree_edits.specs.declared.engine.Below.{Below}
+use Rattle.vc_tree_edits.specs.declared.engine.Below.TheVariants.{Alone, Children}
+use Rattle.vc_tree_edits.specs.declared.pairs.Trees.{Trees}
+use Rattle.vc_tree_edits.specs.declared.pairs.Trees.TheVariants.{One, Many}
 
 -- the prefixes of t and u agree for n components and diverge there; and what is below in u
 pub record IsMet {K V W B : Type 0} (cmp : K → K → Ordering) (tb : B → Tree K W) (t : Tree K V) (u : Tree K W) (n : ℕ)
@@ -30,44 +37,58 @@ module _ {K V T : Type 0} (tree : T → Tree K V) where
     pub value_is : value ≡ value_at taken (drop n taken.prefix)
     pub opened : IsOpened tree taken (drop n taken.prefix) list from
 
-module _ {K V W O T B : Type 0} (cmp : K → K → Ordering) (tree : T → Tree K V) (tb : B → Tree K W) (l : Look cmp W O) where
-  -- t, taken apart next to u: its values at the fronts have become `made`, and no event is done yet
-  pub record IsBegun (keeps : V → V → Type 0) (says below : Option V → O → Option V → Type 0) (asks : Option V → O → Type 0)
-      (t : Tree K V) (u : Tree K W) (front : List K) (made : Option V) (xs : List T) (i : ℕ) (ended : Bool) (ys : List B) (j : ℕ)
-      (kids : List (Tree K V)) : Type 0 where
-    pub length_front : ℕ
-    pub value : Option V
-    pub met : IsMet cmp tb t u length_front ys j
-    pub taken : IsTaken tree keeps t length_front front value xs i
-    pub from_start : ended ≡ true → (i ≡ 0) × (drop length_front t.prefix ≡ [])
-    pub left_canonical : IsCanonical cmp t
-    pub right_canonical : IsCanonical cmp u
-    pub said : says value (l.at (value_at u (drop length_front u.prefix))) made
-    pub said_below : (v : Option V) (w : O) (z : Option V) → below v w z
-        → says v (l.under (value_at u (drop length_front u.prefix)) w) z
-    pub doing : IsDoing cmp tree tb i j l below asks xs ys xs ys kids
+module _ {T : Type 0} where
+  -- the trees below a place, as a list
+  abbrev pub lefts_of : Below T → List T
+  lefts_of (Alone x n) = x ∷ []
+  lefts_of (Children xs) = xs.items
 
-module _ {K V : Type 0} (cmp : K → K → Ordering) where
-  -- the first tree of the left list was taken out, and what the change leaves of it is after the
-  -- others
-  pub record IsStayed {W O T : Type 0} (tree : T → Tree K V) (l : Look cmp W O) (says : Option V → O → Option V → Type 0)
-      (from : ℕ) (xs xs' : List T) (kids kids' : List (Tree K V)) : Type 0 where
-    pub first : T
-    pub kid : Option (Tree K V)
-    pub next : xs ≡ first ∷ xs'
-    pub made : IsMade cmp (λ v z. says v l.none z) (shortened from (tree first)) kid
-    pub added : kids' ≡ kids ++ cons_option kid []
+  -- how many components of their prefixes are before the place
+  abbrev pub from_of : Below T → ℕ
+  from_of (Alone x n) = n
+  from_of (Children xs) = 0
 
-  -- the first tree of the right list was passed, and its result by the change is after the others
-  pub record IsCome {W O B : Type 0} (tb : B → Tree K W) (l : Look cmp W O) (says : Option V → O → Option V → Type 0) (from : ℕ)
-      (ys ys' : List B) (kids kids' : List (Tree K V)) : Type 0 where
-    pub first : B
-    pub kid : Option (Tree K V)
-    pub next : ys ≡ first ∷ ys'
-    pub made : IsMadeBy cmp l (λ w z. says None w z) (shortened from (tb first)) kid
-    pub added : kids' ≡ kids ++ cons_option kid []
+  -- below the n-th component of x is x itself, which continues, or its prefix has ended
+  abbrev pub LeftStands : {K V : Type 0} → (T → Tree K V) → T → ℕ → Below T → Type 0
+  LeftStands tree x n (Alone y m) = (y ≡ x) × (m ≡ n) × (n < length (tree x).prefix)
+  LeftStands tree x n (Children ys) = length (tree x).prefix ≤ n
 
--- the first tree of a list continues after some components
-abbrev pub IsFirstLong : {K V T : Type 0} → (T → Tree K V) → ℕ → List T → Type 0
-IsFirstLong tree n [] = ⊥
-IsFirstLong tree n (x ∷ xs) = n < length (tree x).prefix
+-- the same of a tree of the right side
+abbrev pub RightStands : {K W B : Type 0} → (B → Tree K W) → B → ℕ → Trees B → ℕ → Type 0
+RightStands tree x n (One y) m = (y.now ≡ x) × (m ≡ n) × (n < length (tree x).prefix)
+RightStands tree x n (Many ys) m = (m ≡ 0) × (length (tree x).prefix ≤ n)
+
+-- of two lists of trees this one was made: canonical children, and what R says of both at each key
+abbrev pub IsCombinedBelow : {K V W O : Type 0} (cmp : K → K → Ordering) → Look cmp W O → (Option V → O → Option V → Type 0)
+    → Forest K V → Forest K W → Forest K V → Type 0
+IsCombinedBelow cmp l R f g h = AreChildren cmp h × IsCombinedIn cmp l R f g h
+
+module _ {K V W T B : Type 0} (cmp : K → K → Ordering) (tree : T → Tree K V) (tb : B → Tree K W) where
+  -- two trees that both continue do not begin alike
+  abbrev pub AreApart : Below T → Trees B → ℕ → Type 0
+  AreApart (Alone x i) (One y) j = by_component tree tb i j cmp (inl x) (inr y.now) ≡ Equal → ⊥
+  AreApart (Alone x i) (Many ys) j = j ≡ 0
+  AreApart (Children xs) right j = ⊤
+
+  -- one more than the nodes of which some may meet
+  abbrev pub meeting_nodes : Below T → Trees B → ℕ → ℕ
+  meeting_nodes (Alone x i) (One y) j = 0
+  meeting_nodes (Alone x i) (Many ys) j = nodes (tree x) + forest_nodes (shortened_in tb j ys.now) + 1
+  meeting_nodes (Children xs) right j =
+      forest_nodes (shortened_in tree 0 xs.items) + forest_nodes (shortened_in tb j (trees_of right)) + 1
+
+  module _ {O : Type 0} (l : Look cmp W O) where
+    -- t, taken apart next to u: its values at the fronts have become `made`, and nothing below is done
+    pub record IsBegun (keeps : V → V → Type 0) (says below : Option V → O → Option V → Type 0) (asks : Option V → O → Type 0)
+        (t : Tree K V) (u : Tree K W) (front : List K) (made : Option V) (left : Below T) (right : Trees B) (j : ℕ) : Type 0 where
+      pub length_front : ℕ
+      pub value : Option V
+      pub met : IsMet cmp tb t u length_front (trees_of right) j
+      pub taken : IsTaken tree keeps t length_front front value (lefts_of left) (from_of left)
+      pub apart : AreApart left right j
+      pub fewer : meeting_nodes left right j ≤ nodes t + nodes u
+      pub said : says value (l.at (value_at u (drop length_front u.prefix))) made
+      pub said_below : (v : Option V) (w : O) (z : Option V) → below v w z
+          → says v (l.under (value_at u (drop length_front u.prefix)) w) z
+      pub doing :
+          IsDoing cmp tree tb (from_of left) j l below asks (lefts_of left) (trees_of right) (lefts_of left) (trees_of right) []

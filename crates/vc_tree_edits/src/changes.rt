@@ -250,12 +250,12 @@ impl<'m, K: TKey, V: TValue, B: RadixNode<K, V>, T: Build<K, V>, M: Meet<V, V>> 
         Ok((kept, KeepAll { at: self.at }))
     }
 
-    fn left_alone(&self, alloc: Global, tree: T, from: usize) -> Result<Option<T>, AllocError> {
-        Ok(Some(shorten(alloc, tree, from)?))
+    fn left_alone(&self, alloc: Global, tree: T, from: usize) -> Result<T, AllocError> {
+        shorten(alloc, tree, from)
     }
 
-    fn right_alone(&self, alloc: Global, tree: &B, from: usize) -> Result<Option<T>, AllocError> {
-        Ok(Some(copy_shortened(alloc, tree, from)?))
+    fn right_alone(&self, alloc: Global, tree: &B, from: usize) -> Result<T, AllocError> {
+        copy_shortened(alloc, tree, from)
     }
 }
 

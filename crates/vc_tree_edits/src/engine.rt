@@ -1,38 +1,40 @@
 //! The recursion of the changes of a tree, in place, into which trees of another one come.
 
-ghost use Rattle.std.specs.Prelude.{◌≡◌, ◌+◌, ◌<◌, ◌≤◌, ◌∷◌, List, [], Option, None, IfOk};
-ghost use Rattle.std.specs.Prelude.{IfSome, OnOk, Some, true, cond, drop, take, length, map, get_or};
-ghost use Rattle.std.specs.Prelude.{option_map, slice_get};
+ghost use Rattle.std.specs.Prelude.{◌≡◌, ◌+◌, ◌<◌, ◌≤◌, ◌∷◌, List, [], Option, None, IfOk, IfSome};
+ghost use Rattle.std.specs.Prelude.{Some, cond, drop, length, get_or, option_map};
+ghost use Rattle.std.proofs.Common.{inl, inr};
 ghost use Rattle.std.specs.Option.{option_copied};
 ghost use Rattle.std.specs.declared.cmp.Ordering.{Ordering};
+ghost use Rattle.std.specs.declared.cmp.Ordering.TheVariants.{Equal};
 ghost use Rattle.vc_tree_model.specs.Tree.{shortened};
 ghost use Rattle.vc_tree_model.specs.Map.{lookup};
 ghost use Rattle.vc_tree_model.specs.Value.{IsKept};
 ghost use Rattle.vc_tree_model.specs.Same.{IsAlikeIn};
-ghost use Rattle.vc_tree_nodes.specs.Children.{listed, seen};
 ghost use Rattle.vc_tree_model.specs.Look.{Look};
-ghost use Rattle.vc_tree_nodes.specs.Parting.{Agree};
-ghost use Rattle.vc_tree_facing.specs.Facing.{shortened_in};
-ghost use Rattle.vc_tree_facing.specs.Doing.{IsDoing, IsSaidIn};
-ghost use Rattle.vc_tree_edits.specs.Kids.{IsSetAt};
-ghost use Rattle.vc_tree_edits.specs.Pairs.{trees_of};
-ghost use Rattle.vc_tree_facing.specs.Sides.{by_component, side_next, AreThere};
-ghost use Rattle.vc_tree_facing.specs.Made.{IsMade, IsMadeBy, IsBothMadeBy};
 ghost use Rattle.vc_tree_model.specs.Canonical.{AreChildren, IsCanonical};
 ghost use Rattle.vc_tree_model.specs.Child.{solid_child, value_at as node_value};
-ghost use Rattle.vc_tree_edits.specs.Taken.{IsMet, IsTaken, IsBegun, IsFirstLong, IsStayed, IsCome};
+ghost use Rattle.vc_tree_nodes.specs.Children.{listed, seen};
+ghost use Rattle.vc_tree_nodes.specs.Parting.{Agree};
+ghost use Rattle.vc_tree_facing.specs.Doing.{IsSaidIn, IsSaidOf};
+ghost use Rattle.vc_tree_facing.specs.Facing.{shortened_in};
+ghost use Rattle.vc_tree_facing.specs.Made.{IsMade, IsMadeOf, IsBothMadeBy};
+ghost use Rattle.vc_tree_facing.specs.Sides.{by_component};
+ghost use Rattle.vc_tree_edits.specs.Kids.{IsSetAt};
+ghost use Rattle.vc_tree_edits.specs.Pairs.{trees_of};
+ghost use Rattle.vc_tree_edits.specs.Taken.{lefts_of, from_of, LeftStands, RightStands, AreApart};
+ghost use Rattle.vc_tree_edits.specs.Taken.{IsMet, IsTaken, IsBegun, IsCombinedBelow};
+ghost use Rattle.vc_tree_edits.specs.Woven.{ComesAs};
 
+use crate::comers::{come, next_noted, weave};
 use crate::lessening::pass;
-use crate::pairs::{Stop, Trees, next_pair, skips, trees_at};
+use crate::pairs::{Around, Stop, Trees, look_around, trees_at};
 use std::alloc::{AllocError, Global};
 use std::cmp::Ordering;
-use std::collections::VecDeque;
 use std::mem;
 use vc_merge::plan::plan_of;
 use vc_merge::states::Uncounted;
 use vc_tree_facing::facing::{compare_at, expected, split};
 use vc_tree_facing::nodes::{finish, keep, value_at};
-use vc_tree_facing::sides::EventSide;
 use vc_tree_nodes::building::{Build, Seal};
 use vc_tree_nodes::children::{ChildList, Fragment, Parts};
 use vc_tree_nodes::making::stored;
@@ -63,18 +65,17 @@ pub trait Change<K: TKey, V: TValue, W: TValue, B: RadixNode<K, W>, T: Build<K, 
 
     /// What is left of a tree that the left side alone has, without the first `from` components of
     /// its prefix.
-    fn left_alone(&self, alloc: Global, tree: T, from: usize) -> Result<Option<T>, AllocError>
+    fn left_alone(&self, alloc: Global, tree: T, from: usize) -> Result<T, AllocError>
         requires within { from < length (T.tree tree).prefix }
         ensures { IfOk result (λ made. IsMade K.cmp (λ v z. says self.now v (look K.cmp).none z)
-            (shortened from (T.tree tree)) (option_map T.tree made)) };
+            (shortened from (T.tree tree)) (Some (T.tree made))) };
 
     /// What comes of a tree that the right side alone has, without the first `from` components of
     /// its prefix.
-    fn right_alone(&self, alloc: Global, tree: &B, from: usize) -> Result<Option<T>, AllocError>
+    fn right_alone(&self, alloc: Global, tree: &B, from: usize) -> Result<T, AllocError>
         requires within { from < length (B.tree tree.now).prefix }
-        ensures { IfOk result (λ made. IsMadeBy K.cmp (look K.cmp)
-            (λ w z. says self.now None w z) (shortened from (B.tree tree.now))
-            (option_map T.tree made)) };
+        ensures { IfOk result (λ made. ComesAs K.cmp (look K.cmp) (says self.now) T.tree B.tree from
+            tree.now made) };
 
     ghost says_none: { (op : Self) → says op None (look K.cmp).none None };
 
@@ -115,6 +116,8 @@ fn meet<'b, K: TKey, V: TValue, W: TValue, T: RadixNode<K, V>, B: RadixNode<K, W
         known }
     ensures met { let t = shortened i (T.tree tree.now) in let u = shortened j (B.tree that.now) in
         IsMet K.cmp B.tree t u result.front (trees_of result.right) result.right_from }
+    ensures stands { RightStands B.tree that.now (j + result.front) result.right
+        result.right_from }
     ensures left_canonical { IsCanonical K.cmp (T.tree tree.now) }
     ensures right_canonical { IsCanonical K.cmp (B.tree that.now) }
 {
@@ -129,6 +132,15 @@ fn meet<'b, K: TKey, V: TValue, W: TValue, T: RadixNode<K, V>, B: RadixNode<K, W
     }
 }
 
+/// What is below a place of the prefix of a tree.
+#[derive(Drop)]
+enum Below<T> {
+    /// The tree itself, which continues after so many components.
+    Alone(T, usize),
+    /// Its children.
+    Children(Vec<T>),
+}
+
 /// The parts of a tree without the front of its prefix, and of what stands below a place in what is
 /// left of it.
 #[derive(Drop)]
@@ -137,21 +149,8 @@ struct Taken<P, V, T> {
     prefix: P,
     /// The value of the key that ends there.
     value: Option<V>,
-    /// What stands below: the tree itself where the prefix goes on, and else the children.
-    list: Vec<T>,
-    /// How many components of their prefixes stand before the place.
-    from: usize,
-    /// Whether the prefix ends at the place.
-    ended: bool,
-}
-
-/// A list of the one tree.
-fn alone<T: Drop>(alloc: Global, tree: T) -> Result<Vec<T>, AllocError>
-    ensures { IfOk result (λ list. list.items ≡ tree ∷ []) }
-{
-    let mut list = Vec::with_capacity(alloc, 1)?;
-    list.push(tree)?;
-    Ok(list)
+    /// What stands below.
+    left: Below<T>,
 }
 
 /// Takes a tree apart behind the first `i` components of its prefix and `front` more.
@@ -164,18 +163,15 @@ fn take_apart<K: TKey, V: TValue, T: Build<K, V>>(
     requires within { i ≤ length (T.tree tree).prefix }
     requires front { front ≤ length (drop i (T.tree tree).prefix) }
     ensures taken { IfOk result (λ o. IsTaken T.tree T.keeps (shortened i (T.tree tree)) front
-        (T.Prefix.items o.prefix) o.value o.list.items o.from) }
-    ensures ended { IfOk result (λ o. o.ended ≡ true
-        → (o.from ≡ 0) × (drop front (drop i (T.tree tree).prefix) ≡ [])) }
+        (T.Prefix.items o.prefix) o.value (lefts_of o.left) (from_of o.left)) }
+    ensures stands { IfOk result (λ o. LeftStands T.tree tree (i + front) o.left) }
 {
     let whole = tree.prefix();
     if i + front < whole.len() {
         return Ok(Taken {
             prefix: T::Prefix::from_slice(alloc, &whole[i..i + front])?,
             value: None,
-            list: alone(alloc, tree)?,
-            from: i + front,
-            ended: false,
+            left: Below::Alone(tree, i + front),
         });
     }
     let Parts {
@@ -188,9 +184,7 @@ fn take_apart<K: TKey, V: TValue, T: Build<K, V>>(
     Ok(Taken {
         prefix,
         value,
-        list,
-        from: 0,
-        ended: true,
+        left: Below::Children(list),
     })
 }
 
@@ -261,11 +255,7 @@ struct Begun<'b, P, V, B, O, T> {
     /// The change of all that stands below.
     below: O,
     /// What stands below in the left tree.
-    list: Vec<T>,
-    /// How many components of their prefixes stand before the place.
-    from: usize,
-    /// Whether the left prefix ends at the place.
-    ended: bool,
+    left: Below<T>,
     /// What stands below in the right tree.
     right: Trees<'b, B>,
     /// How many components of their prefixes stand before the place.
@@ -299,8 +289,8 @@ fn begin<
         ((O.look K.cmp).of_tree (shortened j (B.tree that.now)) k) }
     ensures { IfOk result (λ s. IsBegun K.cmp T.tree B.tree (O.look K.cmp) T.keeps
         (O.says op.now) (O.says s.below) (O.asks s.below) (shortened i (T.tree tree))
-        (shortened j (B.tree that.now)) (T.Prefix.items s.prefix) s.value s.list.items s.from
-        s.ended (trees_of s.right) s.right_from []) }
+        (shortened j (B.tree that.now)) (T.Prefix.items s.prefix) s.value s.left s.right
+        s.right_from) }
 {
     let Meeting {
         front,
@@ -310,59 +300,17 @@ fn begin<
     let Taken {
         prefix,
         value,
-        list,
-        from,
-        ended,
+        left,
     } = take_apart(alloc, tree, i, front)?;
     let (value, below) = change_values(value, that, j, front, op)?;
     Ok(Begun {
         prefix,
         value,
         below,
-        list,
-        from,
-        ended,
+        left,
         right,
         right_from,
     })
-}
-
-/// How far a list of trees was changed where it is.
-#[derive(Drop)]
-struct Place<'b, B> {
-    /// The first so many trees are done, and stay.
-    kept: usize,
-    /// The trees from this place on are left.
-    at: usize,
-    /// The right trees that are left.
-    right: Trees<'b, B>,
-}
-
-/// Parts a list, of which the first `kept` trees stay and those from `at` on are left. For what
-/// comes there is room as in a fresh combine.
-fn part<T: Drop>(
-    alloc: Global,
-    list: Vec<T>,
-    kept: usize,
-    at: usize,
-    coming: usize,
-) -> Result<(Vec<T>, VecDeque<T>), AllocError>
-    requires order { kept ≤ at }
-    requires within { at ≤ length list.items }
-    ensures kids { IfOk result (λ r. r.0.items ≡ take kept list.items) }
-    ensures left { IfOk result (λ r. r.1.items ≡ drop at list.items) }
-{
-    if at == 0 {
-        let kids = Vec::with_capacity(alloc, expected(list.len(), coming))?;
-        return Ok((kids, VecDeque::from_vec(list)));
-    }
-    let mut kids = list;
-    let left = kids.split_off(at)?;
-    kids.truncate(kept);
-    if coming > 0 {
-        kids.reserve(expected(left.len(), coming))?;
-    }
-    Ok((kids, VecDeque::from_vec(left)))
 }
 
 /// Puts what was made of the tree at a place back there, and answers whether it stays.
@@ -389,84 +337,65 @@ fn take_at<K: TKey, V: TValue, T: Build<K, V>>(alloc: Global, list: &mut Vec<T>,
     mem::replace(&mut list[at], T::blank(alloc, Seal::new()))
 }
 
-/// Takes the first tree out of a list.
-fn pop<T>(trees: &mut VecDeque<T>) -> T
-    requires { 0 < length trees.old.items }
-    ensures { trees.old.items ≡ result ∷ trees.new.items }
+/// What is left of a tree that continues after a place, which the left side alone has.
+fn leave<
+    K: TKey,
+    V: TValue,
+    W: TValue,
+    B: RadixNode<K, W>,
+    T: Build<K, V>,
+    O: Change<K, V, W, B, T>,
+>(alloc: Global, tree: T, from: usize, op: &O) -> Result<T, AllocError>
+    requires { from < length (T.tree tree).prefix }
+    ensures { IfOk result (λ made. IsMade K.cmp (λ v z. O.says op.now v (O.look K.cmp).none z)
+        (shortened from (T.tree tree)) (Some (T.tree made))) }
 {
-    trees.pop_front().unwrap()
+    op.left_alone(alloc, tree, from)
 }
 
-/// On which side the next event is of the trees that are left. `None` where none is left.
-fn next_side<K: TKey, V: TValue, W: TValue, T: RadixNode<K, V>, B: RadixNode<K, W>>(
-    left: &VecDeque<T>,
-    from: usize,
-    right: &Trees<'_, B>,
-    right_from: usize,
-) -> Option<EventSide>
-    ensures side { result ≡ side_next (by_component T.tree B.tree from right_from K.cmp)
-        (slice_get left.now.items 0) (slice_get (trees_of right.now) 0) }
-    ensures there { IfSome result (λ s. AreThere s left.now.items (trees_of right.now)) }
+/// A list of two trees.
+fn two<T: Drop>(alloc: Global, first: T, second: T) -> Result<Vec<T>, AllocError>
+    ensures { IfOk result (λ list. list.items ≡ first ∷ second ∷ []) }
 {
-    match (left.front(), right.first()) {
-        (None, None) => None,
-        (None, Some(_)) => Some(EventSide::Right),
-        (Some(_), None) => Some(EventSide::Left),
-        (Some(x), Some(y)) => Some(match compare_at(y, right_from, x, from, &mut Uncounted) {
-            Ordering::Less => EventSide::Right,
-            Ordering::Equal => EventSide::Both,
-            Ordering::Greater => EventSide::Left,
-        }),
+    let mut list = Vec::with_capacity(alloc, 2)?;
+    list.push(first)?;
+    list.push(second)?;
+    Ok(list)
+}
+
+/// Two trees of which neither begins as the other one, in order.
+fn keep_both<
+    K: TKey,
+    V: TValue,
+    W: TValue,
+    B: RadixNode<K, W>,
+    T: Build<K, V>,
+    O: Change<K, V, W, B, T>,
+>(
+    alloc: Global,
+    tree: T,
+    from: usize,
+    that: &B,
+    right_from: usize,
+    op: &O,
+) -> Result<Vec<T>, AllocError>
+    requires left { AreChildren K.cmp (shortened_in T.tree from (tree ∷ [])) }
+    requires right { AreChildren K.cmp (shortened_in B.tree right_from (that.now ∷ [])) }
+    requires asks { IsSaidIn K.cmp T.tree B.tree from right_from (O.look K.cmp) (O.asks op.now)
+        (tree ∷ []) (that.now ∷ []) }
+    requires apart { by_component T.tree B.tree from right_from K.cmp (inl tree) (inr that.now)
+        ≡ Equal → ⊥ }
+    ensures { IfOk result (λ kids. IsCombinedBelow K.cmp (O.look K.cmp) (O.says op.now)
+        (shortened_in T.tree from (tree ∷ [])) (shortened_in B.tree right_from (that.now ∷ []))
+        (seen T.tree kids.items)) }
+{
+    let order = compare_at(that, right_from, &tree, from, &mut Uncounted);
+    let comer = op.right_alone(alloc, that, right_from)?;
+    let left = op.left_alone(alloc, tree, from)?;
+    match order {
+        Ordering::Less => two(alloc, comer, left),
+        _ => two(alloc, left, comer),
     }
-}
-
-/// Does the event of the first tree of the left side, which that side alone has.
-fn stay<
-    K: TKey,
-    V: TValue,
-    W: TValue,
-    B: RadixNode<K, W>,
-    T: Build<K, V>,
-    O: Change<K, V, W, B, T>,
->(
-    alloc: Global,
-    left: &mut VecDeque<T>,
-    from: usize,
-    op: &O,
-    kids: &mut Vec<T>,
-) -> Result<(), AllocError>
-    requires there { 0 < length left.old.items }
-    requires long { IsFirstLong T.tree from left.old.items }
-    ensures { OnOk result (IsStayed K.cmp T.tree (O.look K.cmp) (O.says op.now) from left.old.items
-        left.new.items (map T.tree kids.old.items) (map T.tree kids.new.items)) }
-{
-    let kid = op.left_alone(alloc, pop(left), from)?;
-    keep(kids, kid)
-}
-
-/// Does the event of the first tree of the right side, which that side alone has.
-fn come<
-    K: TKey,
-    V: TValue,
-    W: TValue,
-    B: RadixNode<K, W>,
-    T: Build<K, V>,
-    O: Change<K, V, W, B, T>,
->(
-    alloc: Global,
-    right: &mut Trees<'_, B>,
-    right_from: usize,
-    op: &O,
-    kids: &mut Vec<T>,
-) -> Result<(), AllocError>
-    requires there { 0 < length (trees_of right.old) }
-    requires long { IsFirstLong B.tree right_from (trees_of right.old) }
-    ensures { OnOk result (IsCome K.cmp B.tree (O.look K.cmp) (O.says op.now) right_from
-        (trees_of right.old) (trees_of right.new) (map T.tree kids.old.items)
-        (map T.tree kids.new.items)) }
-{
-    let kid = op.right_alone(alloc, right.next(), right_from)?;
-    keep(kids, kid)
 }
 
 /// The node of these parts as a child, once no event is left. A prefix that stays is moved.
@@ -520,42 +449,18 @@ pub fn change_at<
         prefix,
         value,
         below,
-        mut list,
-        from,
-        ended,
+        left,
         right,
         right_from,
     } = begin(alloc, tree, i, that, j, known, op)?;
-    let Place {
-        kept,
-        at,
-        mut right,
-    } = walk_list(alloc, &mut list, from, ended, right, right_from, &below)?;
-    let (mut kids, mut left) = part(alloc, list, kept, at, right.len())?;
-    while let Some(side) = next_side(&left, from, &right, right_from) {
-        match side {
-            EventSide::Left => {
-                stay::<K, V, W, B, T, O>(alloc, &mut left, from, &below, &mut kids)?;
-            }
-            EventSide::Right => {
-                come::<K, V, W, B, T, O>(alloc, &mut right, right_from, &below, &mut kids)?;
-            }
-            EventSide::Both => {
-                let (x, y) = (pop(&mut left), right.next());
-                let kid = change_at(alloc, x, from, y, right_from, 1, &below)?;
-                keep(&mut kids, kid)?;
-            }
-        }
-    }
+    let kids = change_below(alloc, left, right, right_from, &below)?;
     let made = finish_in::<K, V, T>(alloc, prefix, value, kids)?;
     Ok(made)
 }
 
-/// Changes the trees of a list where they are, pair by pair, until a tree of the right side comes
-/// in. A tree that goes on is left as it is.
+/// Changes what is below the place where two prefixes part, by what is below it in the right tree.
 #[cycle(changing)]
-fn walk_list<
-    'b,
+fn change_below<
     K: TKey,
     V: TValue,
     W: TValue,
@@ -564,52 +469,146 @@ fn walk_list<
     O: Change<K, V, W, B, T>,
 >(
     alloc: Global,
-    list: &mut Vec<T>,
-    from: usize,
-    ended: bool,
-    right: Trees<'b, B>,
+    left: Below<T>,
+    right: Trees<'_, B>,
     right_from: usize,
     op: &O,
-) -> Result<Place<'b, B>, AllocError>
-    requires ended { ended ≡ true → from ≡ 0 }
-    requires left { AreChildren K.cmp (shortened_in T.tree from list.old.items) }
+) -> Result<Vec<T>, AllocError>
+    requires left { AreChildren K.cmp (shortened_in T.tree (from_of left) (lefts_of left)) }
     requires right { AreChildren K.cmp (shortened_in B.tree right_from (trees_of right)) }
-    requires asks { IsSaidIn K.cmp T.tree B.tree from right_from (O.look K.cmp) (O.asks op.now)
-        list.old.items (trees_of right) }
-    ensures order { IfOk result (λ p. p.kept ≤ p.at) }
-    ensures within { IfOk result (λ p. p.at ≤ length list.new.items) }
-    ensures doing { IfOk result (λ p. IsDoing K.cmp T.tree B.tree from right_from (O.look K.cmp)
-        (O.says op.now) (O.asks op.now) list.old.items (trees_of right.entry)
-        (drop p.at list.new.items) (trees_of p.right) (map T.tree (take p.kept list.new.items))) }
+    requires asks { IsSaidIn K.cmp T.tree B.tree (from_of left) right_from (O.look K.cmp)
+        (O.asks op.now) (lefts_of left) (trees_of right) }
+    requires apart { AreApart K.cmp T.tree B.tree left right right_from }
+    ensures { IfOk result (λ kids. IsCombinedBelow K.cmp (O.look K.cmp) (O.says op.now)
+        (shortened_in T.tree (from_of left) (lefts_of left))
+        (shortened_in B.tree right_from (trees_of right.entry)) (seen T.tree kids.items)) }
 {
-    let mut right = right;
+    match left {
+        Below::Alone(tree, from) => match right {
+            Trees::One(that) => {
+                keep_both::<K, V, W, B, T, O>(alloc, tree, from, that, right_from, op)
+            }
+            Trees::Many(others) => change_one(alloc, tree, from, others, op),
+        },
+        Below::Children(list) => change_list(alloc, list, right, right_from, op),
+    }
+}
+
+/// Changes a tree that continues after a place by the children of the right node. All but the one
+/// that begins as it continues come in.
+#[cycle(changing)]
+fn change_one<
+    K: TKey,
+    V: TValue,
+    W: TValue,
+    B: RadixNode<K, W>,
+    T: Build<K, V>,
+    O: Change<K, V, W, B, T>,
+>(alloc: Global, tree: T, from: usize, others: &[B], op: &O) -> Result<Vec<T>, AllocError>
+    requires left { AreChildren K.cmp (shortened_in T.tree from (tree ∷ [])) }
+    requires right { AreChildren K.cmp (seen B.tree others.now) }
+    requires asks { IsSaidIn K.cmp T.tree B.tree from 0 (O.look K.cmp) (O.asks op.now) (tree ∷ [])
+        others.now }
+    ensures { IfOk result (λ kids. IsCombinedBelow K.cmp (O.look K.cmp) (O.says op.now)
+        (shortened_in T.tree from (tree ∷ [])) (seen B.tree others.now)
+        (seen T.tree kids.items)) }
+{
+    let Around {
+        before,
+        found,
+        after,
+    } = look_around(others, &tree, from);
+    let mut kids = Vec::with_capacity(alloc, expected(1, others.len()))?;
+    come::<K, V, W, B, T, O>(alloc, before, 0, op, &mut kids)?;
+    let kid = change_beside(alloc, tree, from, found, op)?;
+    keep(&mut kids, kid)?;
+    come::<K, V, W, B, T, O>(alloc, after, 0, op, &mut kids)?;
+    Ok(kids)
+}
+
+/// Changes a tree that continues after a place by the one that begins so, if there is one.
+#[cycle(changing)]
+fn change_beside<
+    K: TKey,
+    V: TValue,
+    W: TValue,
+    B: RadixNode<K, W>,
+    T: Build<K, V>,
+    O: Change<K, V, W, B, T>,
+>(alloc: Global, tree: T, from: usize, that: Option<&B>, op: &O) -> Result<Option<T>, AllocError>
+    requires within { from < length (T.tree tree).prefix }
+    requires known { IfSome that
+        (λ y. Agree K.cmp (drop from (T.tree tree).prefix) (B.tree y.now).prefix 1) }
+    requires asks { IsSaidOf K.cmp T.tree B.tree from 0 (O.look K.cmp) (O.asks op.now) (Some tree)
+        (option_copied that) }
+    ensures { IfOk result (λ made. IsMadeOf K.cmp (O.look K.cmp) (O.says op.now)
+        (Some (shortened from (T.tree tree)))
+        (option_map (λ y. shortened 0 (B.tree y)) (option_copied that.entry))
+        (option_map T.tree made)) }
+{
+    match that {
+        Some(that) => change_at(alloc, tree, from, that, 0, 1, op),
+        None => Ok(Some(leave::<K, V, W, B, T, O>(alloc, tree, from, op)?)),
+    }
+}
+
+/// Changes the trees of a list where they are, pair by pair, and puts the right trees that come in
+/// between them at the end.
+#[cycle(changing)]
+fn change_list<
+    K: TKey,
+    V: TValue,
+    W: TValue,
+    B: RadixNode<K, W>,
+    T: Build<K, V>,
+    O: Change<K, V, W, B, T>,
+>(
+    alloc: Global,
+    mut list: Vec<T>,
+    right: Trees<'_, B>,
+    right_from: usize,
+    op: &O,
+) -> Result<Vec<T>, AllocError>
+    requires left { AreChildren K.cmp (seen T.tree list.items) }
+    requires right { AreChildren K.cmp (shortened_in B.tree right_from (trees_of right)) }
+    requires asks { IsSaidIn K.cmp T.tree B.tree 0 right_from (O.look K.cmp) (O.asks op.now)
+        list.items (trees_of right) }
+    ensures { IfOk result (λ kids. IsCombinedBelow K.cmp (O.look K.cmp) (O.says op.now)
+        (seen T.tree list.items) (shortened_in B.tree right_from (trees_of right.entry))
+        (seen T.tree kids.items)) }
+{
+    let plan = plan_of(list.len(), right.len());
+    let mut rights = right;
+    let mut comers = Vec::new(alloc);
     let mut kept = 0;
     let mut at = 0;
-    if !ended {
-        return Ok(Place { kept, at, right });
-    }
-    let plan = plan_of(list.len(), right.len());
     'pairs: loop {
-        let stop = next_pair(list, at, right.again(), right_from, plan);
-        let comes = skips(&right, &stop);
-        if comes {
-            return Ok(Place { kept, at, right });
-        }
         let Stop {
             passed,
             other,
             others,
-        } = stop;
-        kept = pass(list, kept, at, passed, true);
+        } = next_noted::<K, V, W, B, T, O>(
+            alloc,
+            &list,
+            kept,
+            at,
+            rights,
+            right_from,
+            plan,
+            op,
+            &mut comers,
+        )?;
+        kept = pass(&mut list, kept, at, passed, true);
         at += passed;
-        right = others;
         let Some(other) = other else {
-            return Ok(Place { kept, at, right });
+            list.truncate(kept);
+            return weave(list, comers);
         };
-        let tree = take_at::<K, V, T>(alloc, list, at);
+        let tree = take_at::<K, V, T>(alloc, &mut list, at);
         let made = change_at(alloc, tree, 0, other, right_from, 1, op)?;
-        let stays = put_back(list, at, made);
-        kept = pass(list, kept, at, 1, stays);
+        let stays = put_back(&mut list, at, made);
+        kept = pass(&mut list, kept, at, 1, stays);
         at += 1;
+        rights = others;
     }
 }

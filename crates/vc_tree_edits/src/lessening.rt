@@ -21,7 +21,7 @@ ghost use Rattle.vc_merge.specs.MovesDown.{MovesDown};
 ghost use Rattle.vc_tree_edits.specs.Kids.{AreKids};
 ghost use Rattle.vc_tree_edits.specs.Pairs.{trees_of};
 
-use crate::pairs::{Stop, Trees, child_alike, next_pair, trees_at};
+use crate::pairs::{Stop, Trees, look_around, next_pair, trees_at};
 use std::alloc::{AllocError, Global};
 use std::mem;
 use vc_merge::plan::plan_of;
@@ -229,7 +229,7 @@ fn lessen_inside<
 {
     canonical(that);
     let (_, below) = change_value::<K, V, W, T, O>(None, that.value(), op);
-    match child_alike(that.children(), tree, place) {
+    match look_around(that.children(), tree, place).found {
         Some(other) => lessen_at(alloc, tree, place, other, 0, 1, &below),
         None => Ok(stays_alone::<K, V, W, T, O>(&below)),
     }

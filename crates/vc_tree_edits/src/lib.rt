@@ -5,6 +5,7 @@
 
 mod changes;
 pub mod combining;
+pub mod comers;
 pub mod engine;
 pub mod lessening;
 pub mod pairs;

@@ -1,9 +1,9 @@
 //! Two lists of trees side by side: a merge passes those that only one list has, and stops at two
 //! that begin alike.
 
-ghost use Rattle.std.specs.Prelude.{◌≡◌, ◌+◌, ◌-◌, ◌<◌, ◌≤◌, ◌∷◌, [], true, false, Ok, Some};
-ghost use Rattle.std.specs.Prelude.{List, drop, take, length, slice_get, OnSome};
-ghost use Rattle.std.specs.List.{cons_option};
+ghost use Rattle.std.specs.Prelude.{◌≡◌, ◌+◌, ◌-◌, ◌<◌, ◌≤◌, ◌∷◌, ◌++◌, [], true, false, Ok};
+ghost use Rattle.std.specs.Prelude.{None, Some, drop, take, length, slice_get, OnSome};
+ghost use Rattle.std.specs.List.{AllByRecursion, cons_option};
 ghost use Rattle.std.specs.Option.{option_copied};
 ghost use Rattle.std.specs.declared.cmp.Ordering.TheVariants.{Equal};
 ghost use Rattle.vc_merge.specs.Fronts.{LeftBelow, RightBelow, HeadsCompare};
@@ -15,6 +15,7 @@ ghost use Rattle.vc_tree_facing.specs.Seeking.{side_at, IsSought};
 ghost use Rattle.vc_tree_facing.specs.Sides.{by_component, by_component_total};
 ghost use Rattle.vc_merge.specs.Place.{IsPlace};
 ghost use Rattle.vc_tree_edits.specs.Pairs.{trees_of, IsNextPair};
+ghost use Rattle.vc_tree_edits.specs.Taken.{RightStands};
 
 use std::alloc::AllocError;
 use std::cmp::Ordering;
@@ -35,45 +36,6 @@ pub enum Trees<'b, B> {
 }
 
 impl<'b, B> Trees<'b, B> {
-    /// The same trees.
-    pub fn again(&self) -> Trees<'b, B>
-        ensures { trees_of result ≡ trees_of self.now }
-    {
-        match self {
-            Trees::One(tree) => Trees::One(tree),
-            Trees::Many(trees) => Trees::Many(trees),
-        }
-    }
-
-    /// The first of them.
-    pub fn first(&self) -> Option<&'b B>
-        ensures { option_copied result ≡ slice_get (trees_of self.now) 0 }
-    {
-        match self {
-            Trees::One(tree) => Some(tree),
-            Trees::Many(trees) => trees.first(),
-        }
-    }
-
-    /// Takes the first of them.
-    pub fn next(&mut self) -> &'b B
-        requires { 0 < length (trees_of self.old) }
-        ensures { trees_of self.old ≡ result.now ∷ trees_of self.new }
-    {
-        match self {
-            Trees::One(tree) => {
-                let first = *tree;
-                *self = Trees::Many(&[]);
-                first
-            }
-            Trees::Many(trees) => {
-                let first = &trees[0];
-                *trees = &trees[1..];
-                first
-            }
-        }
-    }
-
     /// How many there are.
     pub fn len(&self) -> usize
         ensures { result ≡ length (trees_of self.now) }
@@ -94,6 +56,7 @@ pub fn trees_at<'b, K: TKey, W: TValue, B: RadixNode<K, W>>(
     ensures opened { let t = B.tree tree.now in
         IsOpened B.tree t (drop place t.prefix) (trees_of result.0) result.1 }
     ensures children { AreChildren K.cmp (shortened_in B.tree result.1 (trees_of result.0)) }
+    ensures stands { RightStands B.tree tree.now place result.0 result.1 }
 {
     if place < tree.prefix().len() {
         (Trees::One(tree), place)
@@ -193,17 +156,24 @@ pub struct Stop<'b, B> {
     pub others: Trees<'b, B>,
 }
 
-/// Whether right trees were passed on the way to a stop.
-pub fn skips<B>(rights: &Trees<'_, B>, stop: &Stop<'_, B>) -> bool
-    ensures { result ≡ false → length (trees_of rights.now)
-        ≤ length (cons_option (option_copied stop.now.other) (trees_of stop.now.others)) }
+/// A stop behind so many left trees, at the first of these right trees.
+pub fn stop_at<'b, B>(passed: usize, rights: &'b [B]) -> Stop<'b, B>
+    ensures passed { result.passed ≡ passed }
+    ensures rights { rights.now ≡ cons_option (option_copied result.other) (trees_of result.others) }
+    ensures end { option_copied result.other ≡ None → trees_of result.others ≡ [] }
 {
-    let others = stop.others.len();
-    let left = match stop.other {
-        Some(_) => others.saturating_add(1),
-        None => others,
-    };
-    left < rights.len()
+    match rights.split_first() {
+        Some((other, others)) => Stop {
+            passed,
+            other: Some(other),
+            others: Trees::Many(others),
+        },
+        None => Stop {
+            passed,
+            other: None,
+            others: Trees::Many(&[]),
+        },
+    }
 }
 
 /// The next two trees that begin alike, found by a merge. Where each merge uses the plan of the two
@@ -240,19 +210,7 @@ fn merge_to_pair<
         right: rights,
     };
     let _never_refused = merge_as(&mut lists, &op, plan, steps);
-    let passed = lefts.len() - lists.left.len();
-    match lists.right.split_first() {
-        Some((other, others)) => Stop {
-            passed,
-            other: Some(other),
-            others: Trees::Many(others),
-        },
-        None => Stop {
-            passed,
-            other: None,
-            others: Trees::Many(&[]),
-        },
-    }
+    stop_at(lefts.len() - lists.left.len(), lists.right)
 }
 
 /// A component that is sought among those with which children begin.
@@ -276,7 +234,7 @@ impl<'a, K: TKey, V: TValue, T: RadixNode<K, V>, C: Count> Sought<T, C> for Begi
 
 /// The place of the child that begins with a component, or of the gap for one. Compares no more
 /// often than the number of children has binary digits.
-fn place_among<K: TKey, V: TValue, T: RadixNode<K, V>>(
+pub fn place_among<K: TKey, V: TValue, T: RadixNode<K, V>>(
     children: &[T],
     component: &K,
 ) -> Result<usize, usize>
@@ -290,22 +248,45 @@ fn place_among<K: TKey, V: TValue, T: RadixNode<K, V>>(
     search(children, &sought, &mut Uncounted)
 }
 
-/// The child that begins as a tree continues at a place of its prefix.
-pub fn child_alike<'b, K: TKey, V: TValue, W: TValue, T: RadixNode<K, V>, B: RadixNode<K, W>>(
+/// Children, split where one of them may begin as a tree continues.
+#[derive(Drop)]
+pub struct Around<'b, B> {
+    /// Those that begin with lesser components.
+    pub before: &'b [B],
+    /// The one that begins so.
+    pub found: Option<&'b B>,
+    /// Those that begin with greater components.
+    pub after: &'b [B],
+}
+
+/// The children around the one that begins as a tree continues at a place of its prefix.
+pub fn look_around<'b, K: TKey, V: TValue, W: TValue, T: RadixNode<K, V>, B: RadixNode<K, W>>(
     children: &'b [B],
     tree: &T,
     place: usize,
-) -> Option<&'b B>
+) -> Around<'b, B>
     requires children { AreChildren K.cmp (seen B.tree children.now) }
     requires place { place < length (T.tree tree.now).prefix }
-    ensures sought { (rest : List B) × ((x : K) → slice_get (T.tree tree.now).prefix place ≡ Some x
-        → IsSought K.cmp B.tree 0 x children.now (option_copied result) rest) }
+    ensures parts { children.now
+        ≡ result.before.now ++ cons_option (option_copied result.found) result.after.now }
+    ensures before { AllByRecursion (λ y. 0 < length (B.tree y).prefix) result.before.now }
+    ensures after { AllByRecursion (λ y. 0 < length (B.tree y).prefix) result.after.now }
+    ensures sought { (x : K) → slice_get (T.tree tree.now).prefix place ≡ Some x
+        → IsSought K.cmp B.tree 0 x children.now (option_copied result.found) result.after.now }
     ensures canonical { IsCanonical K.cmp (T.tree tree.now) }
 {
     let component = &tree.prefix()[place];
     match place_among(children, component) {
-        Ok(at) => Some(&children[at]),
-        Err(_) => None,
+        Ok(at) => Around {
+            before: &children[..at],
+            found: Some(&children[at]),
+            after: &children[at + 1..],
+        },
+        Err(at) => Around {
+            before: &children[..at],
+            found: None,
+            after: &children[at..],
+        },
     }
 }
 

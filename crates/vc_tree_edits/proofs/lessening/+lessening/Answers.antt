@@ -1,5 +1,5 @@
 -- What is left of two trees, by where their prefixes end, and of the children one after the other.
-use Rattle.std.proofs.Common.{inr, ◌≡◌, ◌∷◌, refl, sym, ap, subst, ◌∙◌, arith, rules, take}
+use Rattle.std.proofs.Common.{◌≡◌, [], ◌∷◌, refl, sym, ap, subst, ◌∙◌, arith, rules, take}
 use Rattle.std.proofs.Common.{length, length-drop, is_ok, List}
 use Rattle.std.specs.List.{cons_option}
 use Rattle.std.specs.Option.{option_copied}
@@ -14,7 +14,7 @@ use Rattle.vc_tree_facing.proofs.Leaving.{if-ok, node-lessened, inside-lessened,
 use Rattle.vc_tree_facing.proofs.Leaving.{ended-node, inner-node, opened-node}
 use Rattle.vc_tree_facing.proofs.Leaving.{below-fewer}
 use Rattle.vc_tree_edits.proofs.Placed.{set-at, alone-made, only-popped, first-long, same-many}
-use Rattle.vc_tree_edits.proofs.Sifted.{at-end, pair-within, pair-next, pair-done}
+use Rattle.vc_tree_edits.proofs.Sifted.{runs-done, pair-end, pair-within, pair-next, pair-done}
 use Rattle.vc_tree_edits.proofs.lessening.+lessening.Goals.{lessen_in-else-is_bare-via-then-is_bare+else-kept-eq1}
 use Rattle.vc_tree_edits.proofs.lessening.+lessening.Goals.{lessen_in-else-is_bare-via-else-is_bare}
 use Rattle.vc_tree_edits.proofs.lessening.+lessening.Goals as goal
@@ -97,9 +97,9 @@ lessen_inside-lessen_at-requires g t c κs inside =
     let right = subst (AreChildren g.K.Ord.cmp) (sym kids) c.canonical.ensures.1 in
     let n = inside-next g.T.RadixNode.tree g.B.RadixNode.tree c.args.tree.now c.args.place (g.O.Lessen.look g.K.Ord.cmp)
     (g.O.Lessen.says op) (g.O.Lessen.asks op) g.met.K.Ord.total (g.met.O.Lessen.says_nothing op) (g.met.O.Lessen.asks_none op)
-    c.child_alike.ensures.canonical c.requires.within right
+    c.look_around.ensures.canonical c.requires.within right
     (λ x q. c.change_value-below.ensures.asked _ _ (rw (c.value.ensures, kids) (c.requires.asks_below x q)))
-    c.child_alike.ensures.sought.1 (ap option_copied c.in-Some.is) in
+    c.look_around.ensures.sought (ap option_copied c.in-Some.is) in
     let may = meets n refl in
     let smaller = right-fewer n in
     let all = ap forest_nodes kids in
@@ -112,9 +112,9 @@ lessen_inside-returns-in-Some g t c =
     let right = subst (AreChildren g.K.Ord.cmp) (sym kids) c.canonical.ensures.1 in
     let n = inside-next g.T.RadixNode.tree g.B.RadixNode.tree c.args.tree.now c.args.place (g.O.Lessen.look g.K.Ord.cmp)
     (g.O.Lessen.says op) (g.O.Lessen.asks op) g.met.K.Ord.total (g.met.O.Lessen.says_nothing op) (g.met.O.Lessen.asks_none op)
-    c.child_alike.ensures.canonical c.requires.within right
+    c.look_around.ensures.canonical c.requires.within right
     (λ x q. c.change_value-below.ensures.asked _ _ (rw (c.value.ensures, kids) (c.requires.asks_below x q)))
-    c.child_alike.ensures.sought.1 (ap option_copied c.in-Some.is) in
+    c.look_around.ensures.sought (ap option_copied c.in-Some.is) in
     if-ok c.lessen_at.result
     (λ stays h. inside n (g.met.O.Lessen.says_nothing op) kids (rw c.value.ensures at c.change_value-below.ensures.below)
     (g.met.O.Lessen.says_nothing c.args.op.now _) h.front h.made) c.lessen_at.ensures
@@ -126,13 +126,13 @@ lessen_inside-returns g t c =
     let right = subst (AreChildren g.K.Ord.cmp) (sym kids) c.canonical.ensures.1 in
     let n = inside-next g.T.RadixNode.tree g.B.RadixNode.tree c.args.tree.now c.args.place (g.O.Lessen.look g.K.Ord.cmp)
     (g.O.Lessen.says op) (g.O.Lessen.asks op) g.met.K.Ord.total (g.met.O.Lessen.says_nothing op) (g.met.O.Lessen.asks_none op)
-    c.child_alike.ensures.canonical c.requires.within right
+    c.look_around.ensures.canonical c.requires.within right
     (λ x q. c.change_value-below.ensures.asked _ _ (rw (c.value.ensures, kids) (c.requires.asks_below x q)))
-    c.child_alike.ensures.sought.1 (ap option_copied c.in-None.is) in
+    c.look_around.ensures.sought (ap option_copied c.in-None.is) in
     inside n (g.met.O.Lessen.says_nothing op) kids (rw c.value.ensures at c.change_value-below.ensures.below)
     (g.met.O.Lessen.says_nothing c.args.op.now _) (λ e. refl)
     (made-left (alone-made g.K.Ord.cmp g.met.K.Ord.total g.T.Build.keeps g.met.T.Build.keeps_refl (g.O.Lessen.says op) _
-    (g.T.RadixNode.tree c.args.tree.now) c.args.place c.child_alike.ensures.canonical c.requires.within c.stays_alone.result
+    (g.T.RadixNode.tree c.args.tree.now) c.args.place c.look_around.ensures.canonical c.requires.within c.stays_alone.result
     c.stays_alone.ensures))
 
 -- ---- the children
@@ -210,29 +210,34 @@ pub lessen_list-returns-in_default-clause-children : goal.lessen_list-returns-in
 lessen_list-returns-in_default-clause-children g t c =
     let inv = c.pairs.invariant in
     let p = rw c.deref.ensures.value at c.next_pair-passed.ensures in
-    (at-end g.T.Build.keeps g.met.T.Build.keeps_refl c.stays_alone-stay.result
-    c.stays_alone-stay.ensures c.pairs.list.items c.pairs.at c.pairs.kept inv.going p c.pass-kept.new.list.items
-    c.pass-kept.result c.pass-kept.ensures.built c.pass-kept.ensures.rest
-    (g.met.O.Lessen.says_nothing c.args.op.now) (ap option_copied c.in_default.is)).0
+    let nothing = g.met.O.Lessen.says_nothing c.args.op.now in
+    (pair-end c.pairs.list.items c.pairs.at p c.pass-kept.new.list.items c.pass-kept.ensures.rest
+    (ap option_copied c.in_default.is) (nothing _)
+    (runs-done g.T.Build.keeps g.met.T.Build.keeps_refl c.stays_alone-stay.result c.stays_alone-stay.ensures nothing
+    c.pairs.list.items c.pairs.at c.pairs.kept inv.going p c.pass-kept.new.list.items c.pass-kept.result
+    c.pass-kept.ensures.built c.pass-kept.ensures.rest)).0
 
 pub lessen_list-returns-in_default-clause-below : goal.lessen_list-returns-in_default-clause-below
 lessen_list-returns-in_default-clause-below g t c =
     let inv = c.pairs.invariant in
     let p = rw c.deref.ensures.value at c.next_pair-passed.ensures in
-    (at-end g.T.Build.keeps g.met.T.Build.keeps_refl c.stays_alone-stay.result
-    c.stays_alone-stay.ensures c.pairs.list.items c.pairs.at c.pairs.kept inv.going p c.pass-kept.new.list.items
-    c.pass-kept.result c.pass-kept.ensures.built c.pass-kept.ensures.rest
-    (g.met.O.Lessen.says_nothing c.args.op.now) (ap option_copied c.in_default.is)).1
+    let nothing = g.met.O.Lessen.says_nothing c.args.op.now in
+    (pair-end c.pairs.list.items c.pairs.at p c.pass-kept.new.list.items c.pass-kept.ensures.rest
+    (ap option_copied c.in_default.is) (nothing _)
+    (runs-done g.T.Build.keeps g.met.T.Build.keeps_refl c.stays_alone-stay.result c.stays_alone-stay.ensures nothing
+    c.pairs.list.items c.pairs.at c.pairs.kept inv.going p c.pass-kept.new.list.items c.pass-kept.result
+    c.pass-kept.ensures.built c.pass-kept.ensures.rest)).1
 
 pub lessen_list-lessen_at-requires : goal.lessen_list-lessen_at-requires
 lessen_list-lessen_at-requires g t c κs inside =
     let inv = c.pairs.invariant in
     let p = rw c.deref.ensures.value at c.next_pair-passed.ensures in
     let n =
-    pair-next g.T.Build.keeps g.met.T.Build.keeps_refl c.stays_alone-stay.result
-    c.stays_alone-stay.ensures c.pairs.list.items c.pairs.at c.pairs.kept inv.going p c.pass-kept.new.list.items
-    c.pass-kept.result c.pass-kept.ensures.built c.pass-kept.ensures.rest
-    (inr (g.met.O.Lessen.says_nothing c.args.op.now)) (ap option_copied c.in-Some.is) c.index_mut.result.now c.index_mut.ensures.value in
+    pair-next c.pairs.list.items c.pairs.at p c.pass-kept.new.list.items c.pass-kept.ensures.rest (ap option_copied c.in-Some.is)
+    (runs-done g.T.Build.keeps g.met.T.Build.keeps_refl c.stays_alone-stay.result c.stays_alone-stay.ensures
+    (g.met.O.Lessen.says_nothing c.args.op.now) c.pairs.list.items c.pairs.at c.pairs.kept inv.going p
+    c.pass-kept.new.list.items c.pass-kept.result c.pass-kept.ensures.built c.pass-kept.ensures.rest)
+    c.index_mut.result.now c.index_mut.ensures.value in
     let may = meets n refl in
     let smaller = right-fewer n in
     let fewer = left-fewer n in
@@ -243,14 +248,13 @@ lessen_list-pairs-preserved g t c =
     let inv = c.pairs.invariant in
     let p = rw c.deref.ensures.value at c.next_pair-passed.ensures in
     let found = ap option_copied c.in-Some.is in
-    let within = pair-within g.T.Build.keeps g.met.T.Build.keeps_refl c.stays_alone-stay.result
-    c.stays_alone-stay.ensures c.pairs.list.items c.pairs.at c.pairs.kept inv.going p c.pass-kept.new.list.items
-    c.pass-kept.result c.pass-kept.ensures.built c.pass-kept.ensures.rest found in
+    let within = pair-within c.pairs.list.items c.pairs.at p c.pass-kept.new.list.items c.pass-kept.ensures.rest found in
     let n =
-    pair-next g.T.Build.keeps g.met.T.Build.keeps_refl c.stays_alone-stay.result
-    c.stays_alone-stay.ensures c.pairs.list.items c.pairs.at c.pairs.kept inv.going p c.pass-kept.new.list.items
-    c.pass-kept.result c.pass-kept.ensures.built c.pass-kept.ensures.rest
-    (inr (g.met.O.Lessen.says_nothing c.args.op.now)) found c.index_mut.result.now c.index_mut.ensures.value in
+    pair-next c.pairs.list.items c.pairs.at p c.pass-kept.new.list.items c.pass-kept.ensures.rest found
+    (runs-done g.T.Build.keeps g.met.T.Build.keeps_refl c.stays_alone-stay.result c.stays_alone-stay.ensures
+    (g.met.O.Lessen.says_nothing c.args.op.now) c.pairs.list.items c.pairs.at c.pairs.kept inv.going p
+    c.pass-kept.new.list.items c.pass-kept.result c.pass-kept.ensures.built c.pass-kept.ensures.rest)
+    c.index_mut.result.now c.index_mut.ensures.value in
     let s = set-at c.pass-kept.new.list.items _ _ c.lessen_at.new.tree within refl in
     let long = c.pass-kept-in-pairs.ensures.long in
     record {
@@ -258,7 +262,7 @@ lessen_list-pairs-preserved g t c =
       within = omega (arith, long, s.long, within);
       long = long ∙ s.long ∙ c.pass-kept.ensures.long ∙ inv.long;
       going =
-          pair-done n c.in_ok-stays.stays c.in_ok-stays.ensures.made c.pass-kept.ensures.order _ s c.pass-kept-in-pairs.new.list.items
+          pair-done [] n tt c.in_ok-stays.stays c.in_ok-stays.ensures.made c.pass-kept.ensures.order _ s c.pass-kept-in-pairs.new.list.items
           c.pass-kept-in-pairs.result c.pass-kept-in-pairs.ensures.built c.pass-kept-in-pairs.ensures.rest;
     }
 
