@@ -114,7 +114,7 @@ def beside_rust(lines):
 
 def tables(path):
     """The lines of each table of the page by its name, out of the tables of the bench."""
-    sets, maps, trees, intervals, memory = tables_of(path)
+    sets, maps, trees, intervals, routes, memory = tables_of(path)
     sets, maps = ([row for row in rows if is_shown(row)] for rows in (sets, maps))
     trees, memory = ([row for row in rows if row["keys"] == KEYS] for rows in (trees, memory))
     return {
@@ -124,5 +124,6 @@ def tables(path):
         "maps": list(rows_in_order(maps)),
         "trees": list(rows_in_order(trees)),
         "intervals": list(rows_in_order(intervals)),
+        "routes": list(rows_in_order(routes)),
         "memory of trees": list(rows_in_order(memory)),
     }

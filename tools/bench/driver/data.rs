@@ -1,4 +1,6 @@
-//! The numbers and keys that are timed, the same in every run.
+//! The numbers, keys and routes that are timed, the same in every run.
+
+use std::collections::HashSet;
 
 /// A generator of numbers that look random.
 struct Random(u64);
@@ -232,5 +234,57 @@ impl Keys {
 
     pub fn texts(&self) -> Vec<String> {
         self.list().map(|key| String::from_utf8_lossy(&key).into_owned()).collect()
+    }
+}
+
+/// How many of 100000 routes have a prefix of each length: most have 24 bits, as in the tables of
+/// routers, and few have eight.
+const LENGTHS: [(usize, usize); 10] = [
+    (24, 60_000),
+    (23, 9_000),
+    (22, 11_000),
+    (21, 5_500),
+    (20, 5_000),
+    (19, 3_500),
+    (18, 2_000),
+    (17, 1_200),
+    (16, 2_780),
+    (8, 20),
+];
+
+/// Routes with different prefixes in any order, and addresses of which about half are in a route.
+pub struct Routes {
+    pub addresses: Vec<u32>,
+    pub lengths: Vec<usize>,
+    pub hops: Keys,
+    pub asked: Vec<u32>,
+}
+
+impl Routes {
+    pub fn new(asked: usize) -> Routes {
+        let mut random = Random(asked as u64);
+        let mut routes = Vec::new();
+        for (length, count) in LENGTHS {
+            let mut starts = HashSet::new();
+            while starts.len() < count {
+                let start = (random.below(1 << length) as u32) << (32 - length);
+                if starts.insert(start) {
+                    routes.push((start, length));
+                }
+            }
+        }
+        for at in (1..routes.len()).rev() {
+            routes.swap(at, random.below(at + 1));
+        }
+        let mut ask = |_| {
+            let anywhere = random.below(1 << 32) as u32;
+            let (start, length) = routes[random.below(routes.len())];
+            // Some of those that lie anywhere are in a route, too.
+            if random.below(20) < 9 { start | anywhere >> length } else { anywhere }
+        };
+        let asked = (0..asked).map(&mut ask).collect();
+        let hops = Keys::of(routes.iter().map(|_| format!("hop{}", random.below(64))));
+        let (addresses, lengths) = routes.into_iter().unzip();
+        Routes { addresses, lengths, hops, asked }
     }
 }

@@ -1,5 +1,5 @@
-//! Times the sets, maps and trees of the static library `bench_loops` beside std's collections,
-//! loops written by hand over sorted lists, and boost's flat sets where they were there.
+//! Times the sets, maps, trees and tables of routes of the static library `bench_loops` beside std's
+//! collections, loops written by hand over sorted lists, and boost's flat sets where they were there.
 //!
 //! Each row prints the median of several runs, in nanoseconds an operation. Before a row is timed
 //! all sides must agree on a sum of lengths or finds.
@@ -11,6 +11,7 @@ mod lists;
 mod maps;
 #[cfg(counted)]
 mod memory;
+mod routes;
 mod rows;
 mod sets;
 mod trees;
@@ -31,4 +32,6 @@ fn main() {
     trees::print(&only);
     println!();
     intervals::print(&only);
+    println!();
+    routes::print(&only);
 }
