@@ -167,7 +167,7 @@ def anchor_of(heading):
 
 
 def index_of_words(lines):
-    """The table of each word of a page, its module, and the heading of the table that explains it."""
+    """The table of each word of a page, its module, its name in `Words` where that is another, and the heading of the table that explains it."""
     rows = {
         (word.lower(), word, module, heading)
         for _, words, cell, heading in word_rows(lines)
@@ -176,6 +176,8 @@ def index_of_words(lines):
     cells = []
     for _, word, module, heading in sorted(rows):
         where = module if module == "private" or word in OF_A_TRAIT else f"`{module}`"
+        if (module, word) in OTHER_NAMES:
+            where += f", in `Words` as `{OTHER_NAMES[module, word]}`"
         title = re.sub(r" \(.*\)$", "", heading)
         cells.append([f"`{word}`", where, f"[{title}](#{anchor_of(heading)})"])
     return table(["word", "module", "explained under"], cells)

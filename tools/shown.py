@@ -5,7 +5,7 @@ from pathlib import Path
 from typing import NamedTuple
 
 ROOT = Path(__file__).resolve().parent.parent
-IMPORT = re.compile(r"^(ghost use|use) ([\w.:]+?)(?:(?:\.|::)\{([^}]*)\}| as (\w+))?;$", re.MULTILINE)
+IMPORT = re.compile(r"^(ghost use|use) ([\w.:]+?(?:::\*)?)(?:(?:\.|::)\{([^}]*)\}| as (\w+))?;$", re.MULTILINE)
 DEFINED_BY = re.compile(r"^(use) ([\w.]+?)(?:\.\{([^}]*)\}| as (\w+))$", re.MULTILINE)
 ATTRIBUTES = re.compile(r"^ *(?://|#\[|#!\[).*\n?", re.MULTILINE)
 DECLARED = re.compile(r"(?:pub(?:\(crate\))? )?(?:(?:unsafe|const|final) )*(?:fn|type|struct|enum|trait|const|static) (\w+)")
@@ -117,9 +117,9 @@ def is_named(name, code, above):
 
 
 def is_used(it, code, above):
-    """Whether some code uses an import."""
+    """Whether some code uses an import. One of all names, `traits::*`, counts as used."""
     if it.keyword == "use":
-        return is_named(it.used, code, above)
+        return it.used == "*" or is_named(it.used, code, above)
     return is_said(it.used, "\n".join(clauses(code)) if it.keyword else re.sub(r"--.*", "", code))
 
 
