@@ -10,9 +10,11 @@
 //! assert!(rt; filter.check(b"ac") && !filter.check(b"abc"));
 //! ```
 
-ghost use Rattle.std.specs.Prelude.{◌≡◌, Ok, None, true, false, IfOk, OnOk, OnErr};
+ghost use Rattle.std.specs.Prelude.{◌≡◌, List, Ok, None, true, false, IfOk, OnOk, OnErr};
+ghost use Rattle.std.specs.Option.{is_some};
 ghost use Rattle.vc_path_filter.specs.Allowed.{is_allowed, IsRestricted};
 ghost use Rattle.vc_tree_model.specs.Canonical.{IsCanonical};
+ghost use Rattle.vc_tree_model.specs.Key.{behind};
 ghost use Rattle.vc_tree_model.specs.Map.{lookup, HaveEqualMaps, IsInserted};
 ghost use Rattle.vc_tree_model.specs.Tree.{no_tree};
 ghost use Rattle.vc_tree_removal.specs.Without.{IsWithout};
@@ -57,13 +59,16 @@ impl<K: TKey> PathFilter<K> {
     }
 
     /// Allows a path and what is below it, except where longer rules decide. A rule that the path
-    /// had is replaced, and `check` answers true at the path itself.
+    /// had is replaced, and `check` answers true at the path itself. No answer changes for a path
+    /// that does not start with this one.
     ///
     /// Compares as often as `insert` of a tree. Fails only where memory is refused; each path then
     /// has the rule that it had.
     pub fn allow(&mut self, path: &[K]) -> Result<(), AllocError>
         ensures ok { OnOk result (IsInserted K.cmp (λ v w. v ≡ w) path.now true self.old self.new) }
         ensures allowed { OnOk result (is_allowed K.cmp self.new path.now ≡ true) }
+        ensures outside { OnOk result ((q : List K) → is_some (behind K.cmp path.now q) ≡ false
+            → is_allowed K.cmp self.new q ≡ is_allowed K.cmp self.old q) }
         ensures err { OnErr result (HaveEqualMaps K.cmp (λ v w. v ≡ w) self.old self.new) }
         ensures canonical { IsCanonical K.cmp self.new }
     {
@@ -71,7 +76,8 @@ impl<K: TKey> PathFilter<K> {
     }
 
     /// Denies a path and what is below it, except where longer rules decide. A rule that the path
-    /// had is replaced, and `check` answers false at the path itself.
+    /// had is replaced, and `check` answers false at the path itself. No answer changes for a path
+    /// that does not start with this one.
     ///
     /// Compares as often as `insert` of a tree. Fails only where memory is refused; each path then
     /// has the rule that it had.
@@ -79,6 +85,8 @@ impl<K: TKey> PathFilter<K> {
         ensures ok { OnOk result
             (IsInserted K.cmp (λ v w. v ≡ w) path.now false self.old self.new) }
         ensures denied { OnOk result (is_allowed K.cmp self.new path.now ≡ false) }
+        ensures outside { OnOk result ((q : List K) → is_some (behind K.cmp path.now q) ≡ false
+            → is_allowed K.cmp self.new q ≡ is_allowed K.cmp self.old q) }
         ensures err { OnErr result (HaveEqualMaps K.cmp (λ v w. v ≡ w) self.old self.new) }
         ensures canonical { IsCanonical K.cmp self.new }
     {
@@ -86,7 +94,8 @@ impl<K: TKey> PathFilter<K> {
     }
 
     /// Removes the rule of a path and answers what it said, or none where the path had no rule of
-    /// its own. Longer and shorter rules then decide on the path and on what is below it.
+    /// its own. Longer and shorter rules then decide on the path and on what is below it; for every
+    /// other path the answer is as before.
     ///
     /// Compares as often as `remove` of a tree. A path without a rule costs only the look-up, and
     /// takes no memory. Fails only where memory is refused; each path then has the rule that it
@@ -95,6 +104,8 @@ impl<K: TKey> PathFilter<K> {
         ensures old { IfOk result (λ rule. rule ≡ lookup K.cmp self.old path.now) }
         ensures ok { OnOk result (IsWithout K.cmp (λ v w. v ≡ w) path.now (lookup K.cmp self.old)
             (lookup K.cmp self.new)) }
+        ensures outside { OnOk result ((q : List K) → is_some (behind K.cmp path.now q) ≡ false
+            → is_allowed K.cmp self.new q ≡ is_allowed K.cmp self.old q) }
         ensures absent { lookup K.cmp self.old path.now ≡ None
             → (result ≡ Ok None) × (self.new ≡ self.old) }
         ensures err { OnErr result (HaveEqualMaps K.cmp (λ v w. v ≡ w) self.old self.new) }
@@ -108,6 +119,8 @@ impl<K: TKey> PathFilter<K> {
         ensures ok { OnOk result
             (IsInserted K.cmp (λ v w. v ≡ w) path.now allowed self.old self.new) }
         ensures decides { OnOk result (is_allowed K.cmp self.new path.now ≡ allowed) }
+        ensures outside { OnOk result ((q : List K) → is_some (behind K.cmp path.now q) ≡ false
+            → is_allowed K.cmp self.new q ≡ is_allowed K.cmp self.old q) }
         ensures err { OnErr result (HaveEqualMaps K.cmp (λ v w. v ≡ w) self.old self.new) }
         ensures canonical { IsCanonical K.cmp self.new }
     {

@@ -1,8 +1,9 @@
 //! Filters of paths, as a user writes them: rules, which paths they allow, what they leave of a
 //! tree, and snapshots of rules.
-ghost use Rattle.std.specs.Prelude.{◌≡◌, ◌&&◌, true, false, IfOk, OnOk};
+ghost use Rattle.std.specs.Prelude.{◌≡◌, ◌&&◌, ℕ, List, true, false, is_some, IfOk, OnOk};
 ghost use Rattle.std.specs.Ordering.{nat_cmp};
 ghost use Rattle.vec_collections.specs.Allowed.{is_allowed, IsRestricted};
+ghost use Rattle.vec_collections.specs.Key.{behind};
 ghost use Rattle.vec_collections.specs.Map.{lookup, IsInserted};
 ghost use Rattle.vec_collections.specs.Tree.{no_tree};
 ghost use Rattle.vec_collections.specs.Without.{IsWithout};
@@ -21,11 +22,14 @@ pub fn new_site(alloc: Global) -> Readable
     PathFilter::new(alloc)
 }
 
-/// Opens a path to readers, and all that begins with it.
+/// Opens a path to readers, and all that begins with it. For every other path nothing changes.
 pub fn open(site: &mut Readable, path: &[u8]) -> Result<(), AllocError>
     ensures bound { OnOk result
         (IsInserted nat_cmp (λ v w. v ≡ w) path.now true site.old site.new) }
     ensures readable { OnOk result (is_allowed nat_cmp site.new path.now ≡ true) }
+    ensures elsewhere { OnOk result ((other : List ℕ)
+        → is_some (behind nat_cmp path.now other) ≡ false
+        → is_allowed nat_cmp site.new other ≡ is_allowed nat_cmp site.old other) }
 {
     site.allow(path)
 }
@@ -37,11 +41,15 @@ pub fn rule_of(site: &Readable, path: &[u8]) -> Option<bool>
     site.rules().get(path).copied()
 }
 
-/// Removes the path's own rule, and answers it.
+/// Removes the path's own rule, and answers it. Only what begins with the path may be read otherwise
+/// than before.
 pub fn take_back(site: &mut Readable, path: &[u8]) -> Result<Option<bool>, AllocError>
     ensures rule { IfOk result (λ rule. rule ≡ lookup nat_cmp site.old path.now) }
     ensures gone { OnOk result (IsWithout nat_cmp (λ v w. v ≡ w) path.now
         (lookup nat_cmp site.old) (lookup nat_cmp site.new)) }
+    ensures elsewhere { OnOk result ((other : List ℕ)
+        → is_some (behind nat_cmp path.now other) ≡ false
+        → is_allowed nat_cmp site.new other ≡ is_allowed nat_cmp site.old other) }
 {
     site.remove(path)
 }

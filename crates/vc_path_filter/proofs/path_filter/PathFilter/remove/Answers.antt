@@ -5,6 +5,7 @@ use Rattle.vc_tree_model.specs.Key.{same_key}
 use Rattle.vc_tree_model.specs.Map.{lookup, HaveEqualMaps}
 use Rattle.vc_tree_removal.specs.Without.{IsWithout}
 use Rattle.vc_trees.specs.Exact.{handed-exact, without-exact, equal_maps-exact}
+use Rattle.vc_path_filter.proofs.Outside.{outside}
 use Rattle.vc_path_filter.proofs.path_filter.PathFilter.remove.Goals as goal
 
 pub returns-clause-old : goal.returns-clause-old
@@ -22,6 +23,16 @@ returns-clause-ok g c =
     c.self.view_is
     (without-exact _ (λ v w e. e) (same_key g.K.Ord.cmp c.args.path.now) (lookup g.K.Ord.cmp c.self.inside.rules)
     (lookup g.K.Ord.cmp c.remove.new.self) h))
+    c.remove.ensures.ok
+
+pub returns-clause-outside : goal.returns-clause-outside
+returns-clause-outside g c =
+    on_ok_weaker c.remove.result
+    (λ h. outside g.K.Ord.cmp _ _ c.args.path.now
+    (subst (λ t. IsWithout g.K.Ord.cmp (λ v w. v ≡ w) c.args.path.now (lookup g.K.Ord.cmp t)
+    (lookup g.K.Ord.cmp c.remove.new.self)) c.self.view_is
+    (without-exact _ (λ v w e. e) (same_key g.K.Ord.cmp c.args.path.now) (lookup g.K.Ord.cmp c.self.inside.rules)
+    (lookup g.K.Ord.cmp c.remove.new.self) h)).others)
     c.remove.ensures.ok
 
 pub returns-clause-absent : goal.returns-clause-absent
